@@ -1,5 +1,4 @@
--- Events of small texts, by computing, and the premises of the promises on them.
-pub mod Events
+-- Small texts, with the premises of the promises on them.
 pub mod Taken
 pub mod TakenEvents
 pub mod ClosedYaml

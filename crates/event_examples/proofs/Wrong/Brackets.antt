@@ -21,12 +21,12 @@ use Rattle.saphyr_scanner.proofs.Taken.Places.{Reaches, reaches_reaches, token_r
 use Rattle.taken_laws.proofs.Wrong.Brackets.{comma_is_not_safe}
 use Rattle.taken_laws.proofs.Wrong.Standing.{at_index, has_character}
 use Rattle.saphyr_machine.specs.Events.{Happening, SequenceStart}
-use Rattle.event_laws.specs.EventsTaken.{SpansAll, AreContentTokens, IsOf, AreTaken}
+use Rattle.event_laws.specs.EventsTaken.{SpansAll, AreContentTokens, AreTaken}
 use Rattle.event_examples.specs.Examples.Forests.{plain_event}
 use Rattle.event_examples.specs.Examples.WrongAnswers as wrong
 use Rattle.event_examples.proofs.Wrong.Absent.{nowhere, without_text}
 use Rattle.event_examples.proofs.Wrong.OneBracket.{in_flow, behind_bracket}
-use Rattle.event_examples.proofs.Wrong.Stretches.{Stretch, AllStretch, stretches, alone}
+use Rattle.event_examples.proofs.Wrong.Stretches.{plain_content, Stretch, AllStretch, stretches, alone}
 
 nothing_open : (n : ℕ) → nat_lt 0 n ≡ false → nat_lt 0 (n - 1) ≡ false
 nothing_open n e = grind (arith, nat_tests)
@@ -142,14 +142,10 @@ literal_as_plain_is_not_taken keep t =
     by : {o : Collections} {from : Cursor}
         (st : Stretch literal_text o from (plain_event (codes "| a")) wrong.bar_and_a)
         → in_flow (open_all st.skipped o) ≡ false → ⊥
-    by {o = o} st out = by_tokens st.own st.is st.tokens
-      where
-        by_tokens : (own : List Piece) → IsOf (plain_event (codes "| a")) wrong.bar_and_a own st.others
-            → AreTokens (open_all st.skipped o) own st.start st.end → ⊥
-        by_tokens own (inl (content, spans)) h =
-            bar_refused (open_all st.skipped o) own st.start st.end wrong.bar_and_a st.reached out content h spans refl
-        by_tokens own (inr (inl n)) h = let k = n.0 in cc
-        by_tokens own (inr (inr n)) h = let k = n.0 in cc
+    by {o = o} st out =
+        let own = plain_content (codes "| a") wrong.bar_and_a st.own st.others (λ e. cc) st.is in
+        bar_refused (open_all st.skipped o) st.own st.start st.end wrong.bar_and_a st.reached out own.0 st.tokens own.1
+        refl
 
 -- ## `: [a, b]` with one entry
 
@@ -187,19 +183,8 @@ one_entry_is_not_taken keep t =
         (open_all st.skipped o) st.own st.others st.start st.end st.last st.reached st.is st.tokens st.rest in
         let opened = open_all st.own (open_all st.skipped o) in
         let later = tokens_later opened scalar.skipped st.end scalar.start scalar.before in
-        by_tokens scalar.own scalar.is scalar.tokens
+        let own = plain_content (codes "a, b") wrong.both_entries scalar.own scalar.others (λ e. cc) scalar.is in
+        comma_refused (open_all scalar.skipped opened) scalar.own scalar.start scalar.end scalar.reached
         (λ e. all_inside opened scalar.skipped st.end scalar.start scalar.before
         (omega (arith, e, inner.index)) inner.inside)
-        (omega (arith, later.index, inner.index))
-      where
-        by_tokens : (own : List Piece) → IsOf (plain_event (codes "a, b")) wrong.both_entries own scalar.others
-            → AreTokens (open_all scalar.skipped (open_all st.own (open_all st.skipped o))) own scalar.start scalar.end
-            → (scalar.start.mark.index ≡ 3
-            → in_flow (open_all scalar.skipped (open_all st.own (open_all st.skipped o))) ≡ true)
-            → 3 ≤ scalar.start.mark.index → ⊥
-        by_tokens own (inl (content, spans)) h inside from =
-            comma_refused (open_all scalar.skipped (open_all st.own (open_all st.skipped o)))
-            own scalar.start scalar.end
-            scalar.reached inside from content h spans
-        by_tokens own (inr (inl n)) h inside from = let k = n.0 in cc
-        by_tokens own (inr (inr n)) h inside from = let k = n.0 in cc
+        (omega (arith, later.index, inner.index)) own.0 scalar.tokens own.1

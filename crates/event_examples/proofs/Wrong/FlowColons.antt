@@ -27,7 +27,7 @@ use Rattle.event_examples.proofs.Wrong.Brackets.{stays_inside}
 use Rattle.event_examples.proofs.Wrong.FirstCharacters.{begins_token, stops_at, takes_nothing}
 use Rattle.event_examples.proofs.Wrong.OneBracket.{BehindBracket, behind_bracket}
 use Rattle.event_examples.proofs.Wrong.Owned.{content_end}
-use Rattle.event_examples.proofs.Wrong.Stretches.{Stretch, stretches, each_property, each_content, alone, word}
+use Rattle.event_examples.proofs.Wrong.Stretches.{Stretch, stretches, plain_content, each_property, each_content, alone, word}
 
 abbrev pair_text : List ℕ
 pair_text = codes "[:a]"
@@ -205,11 +205,5 @@ colon_in_flow_is_not_taken keep t =
         let empty = empty_no_scalars _ key.own key.others key.start key.end (omega (arith, first.index)) key.is
         key.tokens in
         let behind = before_event value (behind_event key begun empty) in
-        by_tokens value.own value.is value.tokens behind
-      where
-        by_tokens : {c : Collections} (own : List Piece)
-            → IsOf (plain_event (codes "a")) wrong.span_of_a own value.others → AreTokens c own value.start value.end
-            → Before c value.start → ⊥
-        by_tokens {c = c} own (inl (content, spans)) h b = scalar_refused c own value.start value.end b content h spans
-        by_tokens own (inr (inl n)) h b = let k = n.0 in cc
-        by_tokens own (inr (inr n)) h b = let k = n.0 in cc
+        let own = plain_content (codes "a") wrong.span_of_a value.own value.others (λ e. cc) value.is in
+        scalar_refused _ value.own value.start value.end behind own.0 value.tokens own.1

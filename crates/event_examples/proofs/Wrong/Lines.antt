@@ -27,7 +27,7 @@ use Rattle.event_examples.specs.Examples.WrongAnswers.{origin}
 use Rattle.event_examples.specs.Examples.WrongPlaces as wrong
 use Rattle.event_examples.proofs.Wrong.Brackets.{events_outside}
 use Rattle.event_examples.proofs.Wrong.OneBracket.{in_flow}
-use Rattle.event_examples.proofs.Wrong.Stretches.{Stretch, stretches, alone, no_property}
+use Rattle.event_examples.proofs.Wrong.Stretches.{plain_content, Stretch, stretches, alone, no_property}
 
 abbrev lines_text : List ℕ
 lines_text = codes "- a\n-"
@@ -174,11 +174,13 @@ later_line_is_not_taken keep t =
         let opened = open_all st.own (open_all st.skipped o) in
         let column = column_of (open_all st.skipped o) st.own st.others st.start st.end st.last st.reached st.is
         st.tokens st.rest in
-        by_tokens scalar.own scalar.is scalar.tokens
-        (λ l. columns_stay opened scalar.skipped st.end scalar.start
-        (reaches_reaches (start_cursor lines_text) st.start st.end st.reached
-        (tokens_reached (open_all st.skipped o) st.own st.start st.end st.tokens)) l scalar.are_skipped scalar.before
-        column)
+        let own = plain_content (codes "a -") wrong.both_lines scalar.own scalar.others (λ e. cc) scalar.is in
+        let behind = reaches_reaches (start_cursor lines_text) st.start st.end st.reached
+        (tokens_reached (open_all st.skipped o) st.own st.start st.end st.tokens) in
+        line_refused (open_all scalar.skipped opened) scalar.own scalar.start scalar.end scalar.reached outside
+        (columns_stay opened scalar.skipped st.end scalar.start behind
+        (starts (open_all scalar.skipped opened) scalar.own scalar.start scalar.end scalar.tokens own.0 scalar.reached
+        own.1) scalar.are_skipped scalar.before column) own.0 scalar.tokens own.1
       where
         starts : (opened : Collections) (own : List Piece) (s u : Cursor) → AreTokens opened own s u
             → AreContentTokens (tokens.Scalar style.Plain (codes "a -")) own → Reaches (start_cursor lines_text) s
@@ -189,15 +191,3 @@ later_line_is_not_taken keep t =
             let start = ap (λ (m : Marker). m.index) (a.starts ∙ a.taken.start) in
             let before = apart_later s.mark s.rest a.here.mark a.here.rest a.apart in
             omega (arith, start, before.index)
-
-        by_tokens : (own : List Piece) → IsOf (plain_event (codes "a -")) wrong.both_lines own scalar.others
-            → AreTokens (open_all scalar.skipped (open_all st.own (open_all st.skipped o))) own scalar.start scalar.end
-            → (scalar.start.mark.index ≤ 2
-            → first_column (open_all scalar.skipped (open_all st.own (open_all st.skipped o))) ≡ 1)
-            → ⊥
-        by_tokens own (inl (content, spans)) h column =
-            let opened = open_all scalar.skipped (open_all st.own (open_all st.skipped o)) in
-            line_refused opened own scalar.start scalar.end scalar.reached outside
-            (column (starts opened own scalar.start scalar.end h content scalar.reached spans)) content h spans
-        by_tokens own (inr (inl n)) h column = let k = n.0 in cc
-        by_tokens own (inr (inr n)) h column = let k = n.0 in cc

@@ -44,11 +44,13 @@ break_first_is_not_taken keep t = white_refused (codes "a:\n b") (codes "b") _
 -- ## Block scalars over a marker, or over a NUL
 
 -- all lines after `|` are the scalar's
-literal_lines : (before body value : List ℕ) (span : Span)
-    → OwnScalar (before ++ (vertical_bar ∷ line_feed ∷ body)) value Literal span → has_character 124 before ≡ false
+literal_lines : (before body value : List ℕ) (span : Span) → (value ≡ [] → ⊥)
+    → (value ≡ []) ⊎ OwnScalar (before ++ (vertical_bar ∷ line_feed ∷ body)) value Literal span
+    → has_character 124 before ≡ false
     → has_character 124 (line_feed ∷ body) ≡ false
     → span.end.index ≡ length (before ++ (vertical_bar ∷ line_feed ∷ body)) → AreInside true body []
-literal_lines before body value span o b a e =
+literal_lines before body value span some (inl none) b a e = absurd (some none)
+literal_lines before body value span some (inr o) b a e =
     let text = before ++ (124 ∷ 10 ∷ body) in
     let r = reached_behind (start_cursor text).mark text o.here.mark o.here.rest o.reached in
     let count = reached_counted (start_cursor text).mark text o.here.mark o.here.rest o.reached in
@@ -63,27 +65,15 @@ nul_refused : AreInside true (codes " a\0b\n") [] → ⊥
 nul_refused h = let k : false ≡ true = h.2.2.0 in cc
 
 pub marker_inside_is_not_taken : (keep : Bool) → AreTaken keep (codes "--- |\na\n---\nb\n") wrong.marker_inside → ⊥
-marker_inside_is_not_taken keep t = by (owned keep (codes "--- |\na\n---\nb\n") wrong.marker_inside t).1.1.0
-  where
-    by : (codes "a\n---\nb\n" ≡ [])
-        ⊎ OwnScalar (codes "--- |\na\n---\nb\n") (codes "a\n---\nb\n") Literal
-        (record { start = marker_at 6 2 0; end = marker_at 14 5 0 }) → ⊥
-    by (inl e) = cc
-    by (inr o) = marker_refused
-        (literal_lines (codes "--- ") (codes "a\n---\nb\n") (codes "a\n---\nb\n")
-        (record { start = marker_at 6 2 0; end = marker_at 14 5 0 }) o refl refl refl)
+marker_inside_is_not_taken keep t = marker_refused
+    (literal_lines (codes "--- ") (codes "a\n---\nb\n") (codes "a\n---\nb\n")
+    (record { start = marker_at 6 2 0; end = marker_at 14 5 0 }) (λ e. cc)
+    (owned keep (codes "--- |\na\n---\nb\n") wrong.marker_inside t).1.1.0 refl refl refl)
 
 pub nul_inside_is_not_taken : (keep : Bool) → AreTaken keep (codes "|\n a\0b\n") wrong.nul_inside → ⊥
-nul_inside_is_not_taken keep t = by (owned keep (codes "|\n a\0b\n") wrong.nul_inside t).1.1.0
-  where
-    by : (codes "a\0b\n" ≡ [])
-        ⊎ OwnScalar (codes "|\n a\0b\n") (codes "a\0b\n") Literal
-        (record { start = marker_at 3 2 1; end = marker_at 7 3 0 }) → ⊥
-    by (inl e) = cc
-    by (inr o) = nul_refused
-        (literal_lines [] (codes " a\0b\n") (codes "a\0b\n")
-        (record { start = marker_at 3 2 1; end = marker_at 7 3 0 }) o refl refl
-        refl)
+nul_inside_is_not_taken keep t = nul_refused
+    (literal_lines [] (codes " a\0b\n") (codes "a\0b\n") (record { start = marker_at 3 2 1; end = marker_at 7 3 0 })
+    (λ e. cc) (owned keep (codes "|\n a\0b\n") wrong.nul_inside t).1.1.0 refl refl refl)
 
 -- ## Faults after the end, and no end
 
@@ -122,25 +112,21 @@ wrong_line_is_no_place h = no_place (h 0 (events.StreamStart, record { start = m
 -- ## Block scalars that end inside a line
 
 -- the scalar's own token ends where its event does
-cut_scalar : (before : List ℕ) (span : Span) → OwnScalar (before ++ codes "|\n a#b\n") (codes "a") Literal span
+cut_scalar : (before : List ℕ) (span : Span)
+    → (codes "a" ≡ []) ⊎ OwnScalar (before ++ codes "|\n a#b\n") (codes "a") Literal span
     → has_character 124 before ≡ false → span.end.index ≡ length before + 4 → span.end.col ≡ 2 → ⊥
-cut_scalar before span o none index column =
+cut_scalar before span (inl e) none index column = cc
+cut_scalar before span (inr o) none index column =
     let at = ap (λ (m : Marker). m.index) o.end in
     let col = ap (λ (m : Marker). m.col) o.end in
     cut_refused before o.at.indent (codes "a") o.own o.here o.behind none o.reached o.is.1 (at ∙ index) (col ∙ column)
 
 pub cut_value_is_not_taken : (keep : Bool) → AreTaken keep (codes ": |\n a#b\n") wrong.cut_value_events → ⊥
-cut_value_is_not_taken keep t = by (owned keep (codes ": |\n a#b\n") wrong.cut_value_events t).1.1.1.1.0
-  where
-    by : (codes "a" ≡ []) ⊎ OwnScalar (codes ": |\n a#b\n") (codes "a") Literal
-        (record { start = marker_at 5 2 1; end = marker_at 6 2 2 }) → ⊥
-    by (inl e) = cc
-    by (inr o) = cut_scalar (codes ": ") (record { start = marker_at 5 2 1; end = marker_at 6 2 2 }) o refl refl refl
+cut_value_is_not_taken keep t =
+    cut_scalar (codes ": ") (record { start = marker_at 5 2 1; end = marker_at 6 2 2 })
+    (owned keep (codes ": |\n a#b\n") wrong.cut_value_events t).1.1.1.1.0 refl refl refl
 
 pub cut_line_is_not_taken : (keep : Bool) → AreTaken keep (codes "--- |\n a#b\n") wrong.cut_line_events → ⊥
-cut_line_is_not_taken keep t = by (owned keep (codes "--- |\n a#b\n") wrong.cut_line_events t).1.1.0
-  where
-    by : (codes "a" ≡ []) ⊎ OwnScalar (codes "--- |\n a#b\n") (codes "a") Literal
-        (record { start = marker_at 7 2 1; end = marker_at 8 2 2 }) → ⊥
-    by (inl e) = cc
-    by (inr o) = cut_scalar (codes "--- ") (record { start = marker_at 7 2 1; end = marker_at 8 2 2 }) o refl refl refl
+cut_line_is_not_taken keep t =
+    cut_scalar (codes "--- ") (record { start = marker_at 7 2 1; end = marker_at 8 2 2 })
+    (owned keep (codes "--- |\n a#b\n") wrong.cut_line_events t).1.1.0 refl refl refl

@@ -21,6 +21,7 @@ use Rattle.saphyr_machine.specs.Answer.{Answer}
 use Rattle.saphyr_machine.specs.Events.{Happening}
 use Rattle.event_laws.proofs.OwnTokens.{ArePassed}
 use Rattle.event_laws.specs.EventsTaken as taking
+use Rattle.event_examples.specs.Examples.Forests.{plain_event}
 use Rattle.event_examples.proofs.Wrong.Absent.{Each}
 use Rattle.event_laws.specs.EventsTaken.{SpansAll, ArePropertyTokens, AreContentTokens, BelongsToNone, IsAnchorKind, IsTagKind, IsOf, HaveTokens, AreTaken}
 
@@ -134,6 +135,14 @@ module _ (P : Kind → Type 0) (property : (k : Kind) → IsAnchorKind k ⊎ IsT
       by : (front ≡ []) ⊎ ArePropertyTokens front → Each (λ k span. P k) front
       by (inl e) = subst (Each (λ k span. P k)) (sym e) tt
       by (inr h) = each_property front h
+
+-- the own tokens of a plain scalar that has characters
+pub plain_content : (value : List ℕ) (span : Span) (own others : List Piece) → (value ≡ [] → ⊥)
+    → IsOf (plain_event value) span own others
+    → AreContentTokens (tokens.Scalar style.Plain value) own × SpansAll own span
+plain_content value span own others some (inl is) = is
+plain_content value span own others some (inr (inl n)) = absurd (some n.0)
+plain_content value span own others some (inr (inr n)) = absurd (some n.0)
 
 -- ## Properties and plain scalars
 

@@ -1,11 +1,15 @@
-use Rattle.event_examples.proofs.Examples.Events.{anchor_inside, latest_anchor, no_earlier_anchor}
+use Rattle.std.proofs.Common.{refl}
+use lib.Utf8.{encode}
 use Rattle.event_examples.proofs.forests.numbers_anchors.Goals as goal
 
 pub returns-clause-latest : goal.returns-clause-latest
-returns-clause-latest c = latest_anchor
+unfolding encode
+returns-clause-latest c = refl
 
 pub returns-clause-own : goal.returns-clause-own
-returns-clause-own c = anchor_inside
+unfolding encode
+returns-clause-own c = refl
 
 pub returns-clause-forgotten : goal.returns-clause-forgotten
-returns-clause-forgotten c = no_earlier_anchor
+unfolding encode
+returns-clause-forgotten c = refl

@@ -1,14 +1,19 @@
-use Rattle.event_examples.proofs.Examples.Events.{kept_prefix, later_prefix, local_prefix, no_earlier_prefix}
+use Rattle.std.proofs.Common.{refl}
+use lib.Utf8.{encode}
 use Rattle.event_examples.proofs.forests.resolves_tags.Goals as goal
 
 pub returns-clause-local : goal.returns-clause-local
-returns-clause-local c = local_prefix
+unfolding encode
+returns-clause-local c = refl
 
 pub returns-clause-forgotten : goal.returns-clause-forgotten
-returns-clause-forgotten c = no_earlier_prefix
+unfolding encode
+returns-clause-forgotten c = refl
 
 pub returns-clause-kept : goal.returns-clause-kept
-returns-clause-kept c = kept_prefix
+unfolding encode
+returns-clause-kept c = refl
 
 pub returns-clause-later : goal.returns-clause-later
-returns-clause-later c = later_prefix
+unfolding encode
+returns-clause-later c = refl

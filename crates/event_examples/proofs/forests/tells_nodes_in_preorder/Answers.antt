@@ -1,5 +1,7 @@
-use Rattle.event_examples.proofs.Examples.Events.{nodes_in_preorder}
+use Rattle.std.proofs.Common.{refl}
+use lib.Utf8.{encode}
 use Rattle.event_examples.proofs.forests.tells_nodes_in_preorder.Goals as goal
 
 pub returns : goal.returns
-returns c = nodes_in_preorder
+unfolding encode
+returns c = refl
