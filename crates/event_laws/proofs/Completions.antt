@@ -1,5 +1,5 @@
 -- Whatever is open can be closed: a shortest completion of each state, whose events depend on nothing before them.
-use Rattle.std.proofs.Common.{◌≡◌, ◌≢◌, ℕ, List, [], ◌∷◌, Option, Some, None, refl, sym, ap, ◌∙◌, subst, inl, inr}
+use Rattle.std.proofs.Common.{◌≡◌, ◌≢◌, List, [], ◌∷◌, Option, Some, refl, sym, ap, ◌∙◌, subst, inl, inr}
 use Rattle.saphyr_scalar.specs.declared.scalar.style.ScalarStyle.TheVariants.{Plain}
 use Rattle.saphyr_scanner.specs.Grammar.Forest as forest
 use Rattle.saphyr_scanner.specs.Grammar.Forest.{NoNode, NoPair}
@@ -7,8 +7,8 @@ use Rattle.saphyr_scanner.specs.Grammar.Tokens.{Kind, StreamStart, StreamEnd, Bl
 use Rattle.saphyr_scanner.specs.Grammar.TokenGrammar.{InFlow, InBlock, InBlockMapping}
 use Rattle.saphyr_machine.specs.declared.state.State.{State}
 use Rattle.saphyr_machine.specs.declared.state.State.TheVariants as state
-use Rattle.event_laws.specs.Anchors.{one_more_anchor, anchor_of, anchors}
-use Rattle.event_laws.specs.Preorder.{Part, OpenStream, CloseStream, CloseDocument, Leaf, CloseSequence, CloseMapping}
+use Rattle.event_laws.proofs.BareParts.{IsBarePart, AreBare}
+use Rattle.event_laws.specs.Preorder.{Part, OpenStream, CloseStream, CloseDocument, Reference, Leaf, OpenSequence, CloseSequence, OpenMapping, CloseMapping}
 use Rattle.saphyr_machine.specs.Events.{Happening}
 use Rattle.event_laws.specs.ForestEvents.{first_and_others}
 use Rattle.event_laws.proofs.Told.Telling.{Memory}
@@ -18,59 +18,32 @@ use Rattle.event_laws.proofs.Turned.Turning.{put}
 use Rattle.event_laws.proofs.Turned.Entries.{marked_value, any_value, collection_ends}
 use Rattle.event_laws.proofs.Turned.Block.{one_entry}
 
--- ## Parts that always have their events, and no anchor
+-- ## Parts that always have their events
 
-abbrev IsQuiet : Part → Type 0
-IsQuiet OpenStream = Unit {0}
-IsQuiet CloseStream = Unit {0}
-IsQuiet CloseDocument = Unit {0}
-IsQuiet CloseSequence = Unit {0}
-IsQuiet CloseMapping = Unit {0}
-IsQuiet (Leaf p style value) = p ≡ forest.no_properties
-IsQuiet _ = ⊥
+bare_event : (p : Part) (e : Memory) → IsBarePart p → (w : Happening) × (event_in e p ≡ Some w)
+bare_event (Reference name) e b = elim b [ ]
+bare_event (Leaf p style value) e b =
+    subst (λ (r : forest.Properties). (w : Happening) × (event_in e (Leaf r style value) ≡ Some w)) (sym b) (_, refl)
+bare_event (OpenSequence p) e b =
+    subst (λ (r : forest.Properties). (w : Happening) × (event_in e (OpenSequence r) ≡ Some w)) (sym b) (_, refl)
+bare_event (OpenMapping p) e b =
+    subst (λ (r : forest.Properties). (w : Happening) × (event_in e (OpenMapping r) ≡ Some w)) (sym b) (_, refl)
+bare_event _ e b = (_, refl)
 
-abbrev pub AreQuiet : List Part → Type 0
-AreQuiet [] = Unit {0}
-AreQuiet (p ∷ ps) = IsQuiet p × AreQuiet ps
-
-quiet_one : (p : Part) (e : Memory) → IsQuiet p → (w : Happening) × (event_in e p ≡ Some w)
-quiet_one OpenStream e q = (_, refl)
-quiet_one CloseStream e q = (_, refl)
-quiet_one CloseDocument e q = (_, refl)
-quiet_one CloseSequence e q = (_, refl)
-quiet_one CloseMapping e q = (_, refl)
-quiet_one (Leaf p style value) e q =
-    subst (λ (r : forest.Properties). (w : Happening) × (event_in e (Leaf r style value) ≡ Some w)) (sym q) (_, refl)
-quiet_one _ e q = elim q [ ]
-
-pub quiet_events : (ps : List Part) (e : Memory) → AreQuiet ps → (es : List Happening) × (events_in e ps ≡ Some es)
-quiet_events [] e q = ([], refl)
-quiet_events (p ∷ ps) e q =
-    let one : (w : Happening) × (event_in e p ≡ Some w) = quiet_one p e q.0 in
-    let others : (es : List Happening) × (events_in (after p e) ps ≡ Some es) = quiet_events ps (after p e) q.1 in (
+pub bare_events : (ps : List Part) (e : Memory) → AreBare ps → (es : List Happening) × (events_in e ps ≡ Some es)
+bare_events [] e b = ([], refl)
+bare_events (p ∷ ps) e b =
+    let one : (w : Happening) × (event_in e p ≡ Some w) = bare_event p e b.0 in
+    let others : (es : List Happening) × (events_in (after p e) ps ≡ Some es) = bare_events ps (after p e) b.1 in (
       one.0 ∷ others.0,
       ap (λ (o : Option Happening). first_and_others o (events_in (after p e) ps)) one.1
           ∙ ap (first_and_others (Some one.0)) others.1,
     )
 
-pub some_events : (ps : List Part) (e : Memory) (q : AreQuiet ps) → ps ≢ [] → (quiet_events ps e q).0 ≢ []
-unfolding quiet_events
-some_events [] e q h = absurd (h refl)
-some_events (p ∷ ps) e q h = λ k. cc
-
-no_anchor : (p : Part) → IsQuiet p → anchor_of p ≡ None
-no_anchor OpenStream q = refl
-no_anchor CloseStream q = refl
-no_anchor CloseDocument q = refl
-no_anchor CloseSequence q = refl
-no_anchor CloseMapping q = refl
-no_anchor (Leaf p style value) q = subst (λ (r : forest.Properties). anchor_of (Leaf r style value) ≡ None) (sym q) refl
-no_anchor _ q = elim q [ ]
-
-pub quiet_anchors : (ps : List Part) → AreQuiet ps → anchors ps ≡ 0
-quiet_anchors [] q = refl
-quiet_anchors (p ∷ ps) q =
-    ap (λ (o : Option (List ℕ)). one_more_anchor o (anchors ps)) (no_anchor p q.0) ∙ quiet_anchors ps q.1
+pub some_events : (ps : List Part) (e : Memory) (b : AreBare ps) → ps ≢ [] → (bare_events ps e b).0 ≢ []
+unfolding bare_events
+some_events [] e b h = absurd (h refl)
+some_events (p ∷ ps) e b h = λ k. cc
 
 -- ## Completions
 
@@ -79,18 +52,18 @@ pub record Completion (s : State) (ss : List State) : Type 0 where
   pub parts : List Part
   pub follows : FollowsStates s ss kinds parts
   pub starts : (ahead : List Kind) → Starts s ahead kinds
-  pub quiet : AreQuiet parts
+  pub bare : AreBare parts
   pub some : parts ≢ []
 
 complete : (s : State) (ss : List State) (kinds : List Kind) (first : Part) (parts : List Part)
     → FollowsStates s ss kinds (first ∷ parts) → ((ahead : List Kind) → Starts s ahead kinds)
-    → AreQuiet (first ∷ parts) → Completion s ss
-complete s ss kinds first parts follows starts quiet = record {
+    → AreBare (first ∷ parts) → Completion s ss
+complete s ss kinds first parts follows starts bare = record {
   kinds = kinds;
   parts = first ∷ parts;
   follows = follows;
   starts = starts;
-  quiet = quiet;
+  bare = bare;
   some = λ e. cc;
 }
 
@@ -144,26 +117,26 @@ inside : (s other : State) (ss : List State) → IsInsideDocument s → Completi
 inside state.DocumentContent o ss i c =
     complete _ _ c.kinds leaf c.parts
     (put (IsOptionalOf InBlock) (FollowsStates o ss) [] (leaf ∷ []) c.kinds c.parts
-    (forest.left_out, inl (refl, refl), refl) c.follows) (λ ahead. tt) (refl, c.quiet)
+    (forest.left_out, inl (refl, refl), refl) c.follows) (λ ahead. tt) (refl, c.bare)
 inside state.BlockNode o ss i c =
     complete _ _ (scalar_token Plain [] ∷ c.kinds) leaf c.parts
     (put (IsNodeOf InBlock) (FollowsStates o ss) (scalar_token Plain [] ∷ []) (leaf ∷ []) c.kinds c.parts
     (forest.left_out, ([], scalar_token Plain [] ∷ [], refl, inl refl, refl), refl) c.follows) (λ ahead. tt)
-    (refl, c.quiet)
+    (refl, c.bare)
 inside state.BlockSequenceEntry o ss i c =
     complete _ _ (BlockEnd ∷ c.kinds) CloseSequence c.parts
     (collection_ends BlockEntries (FollowsStates o ss) (BlockEnd ∷ []) CloseSequence c.kinds c.parts
-    (NoNode, refl, refl) c.follows) (λ ahead. tt) (tt, c.quiet)
+    (NoNode, refl, refl) c.follows) (λ ahead. tt) (tt, c.bare)
 inside state.IndentlessSequenceEntry o ss i c =
     complete _ _ (BlockEntry ∷ c.kinds) leaf (CloseSequence ∷ c.parts)
     (one_entry (Then (Exactly [] (CloseSequence ∷ [])) (FollowsStates o ss)) c.kinds (leaf ∷ CloseSequence ∷ c.parts)
     (put (IsOptionalOf InBlock) _ [] (leaf ∷ []) c.kinds (CloseSequence ∷ c.parts)
     (forest.left_out, inl (refl, refl), refl)
     (collection_ends BlockEntries (FollowsStates o ss) [] CloseSequence c.kinds c.parts (NoNode, refl, refl)
-    c.follows))) (λ ahead b. tt) (refl, (tt, c.quiet))
+    c.follows))) (λ ahead b. tt) (refl, (tt, c.bare))
 inside state.BlockMappingKey o ss i c =
     complete _ _ (BlockEnd ∷ c.kinds) CloseMapping c.parts
-    (block_pairs_end (FollowsStates o ss) c.kinds c.parts c.follows) (λ ahead b. absurd b) (tt, c.quiet)
+    (block_pairs_end (FollowsStates o ss) c.kinds c.parts c.follows) (λ ahead b. absurd b) (tt, c.bare)
 inside state.BlockMappingValue o ss i c =
     complete _ _ (Value ∷ BlockEnd ∷ c.kinds) leaf (CloseMapping ∷ c.parts)
     (inl
@@ -171,41 +144,41 @@ inside state.BlockMappingValue o ss i c =
     (leaf ∷ CloseMapping ∷ c.parts)
     (put (IsOptionalOf InBlockMapping) (InBlockPairs (FollowsStates o ss)) [] (leaf ∷ []) _ _
     (forest.left_out, inl (refl, refl), refl) (block_pairs_end (FollowsStates o ss) c.kinds c.parts c.follows))))
-    (λ ahead b. tt) (refl, (tt, c.quiet))
+    (λ ahead b. tt) (refl, (tt, c.bare))
 inside state.FlowSequenceFirstEntry o ss i c =
     complete _ _ (FlowSequenceEnd ∷ c.kinds) CloseSequence c.parts
     (collection_ends FirstEntries (FollowsStates o ss) (FlowSequenceEnd ∷ []) CloseSequence c.kinds c.parts
-    (NoNode, refl, refl) c.follows) (λ ahead. tt) (tt, c.quiet)
+    (NoNode, refl, refl) c.follows) (λ ahead. tt) (tt, c.bare)
 inside state.FlowSequenceEntry o ss i c =
     complete _ _ (FlowSequenceEnd ∷ c.kinds) CloseSequence c.parts
-    (entries_end (FollowsStates o ss) c.kinds c.parts c.follows) (λ ahead. tt) (tt, c.quiet)
+    (entries_end (FollowsStates o ss) c.kinds c.parts c.follows) (λ ahead. tt) (tt, c.bare)
 inside state.FlowSequenceEntryMappingKey o ss i c =
     complete _ _ (FlowSequenceEnd ∷ c.kinds) leaf (leaf ∷ CloseMapping ∷ CloseSequence ∷ c.parts)
     (maybe (AtPairValue (FollowsStates o ss)) _ _ (pair_value (FollowsStates o ss) c.kinds c.parts c.follows))
-    (λ ahead. tt) (refl, (refl, (tt, (tt, c.quiet))))
+    (λ ahead. tt) (refl, (refl, (tt, (tt, c.bare))))
 inside state.FlowSequenceEntryMappingValue o ss i c =
     complete _ _ (FlowSequenceEnd ∷ c.kinds) leaf (CloseMapping ∷ CloseSequence ∷ c.parts)
-    (pair_value (FollowsStates o ss) c.kinds c.parts c.follows) (λ ahead. tt) (refl, (tt, (tt, c.quiet)))
+    (pair_value (FollowsStates o ss) c.kinds c.parts c.follows) (λ ahead. tt) (refl, (tt, (tt, c.bare)))
 inside (state.FlowSequenceEntryMappingEnd place) o ss i c =
     complete _ _ (FlowSequenceEnd ∷ c.kinds) CloseMapping (CloseSequence ∷ c.parts)
-    (pair_ends (FollowsStates o ss) c.kinds c.parts c.follows) (λ ahead. tt) (tt, (tt, c.quiet))
+    (pair_ends (FollowsStates o ss) c.kinds c.parts c.follows) (λ ahead. tt) (tt, (tt, c.bare))
 inside state.FlowMappingFirstKey o ss i c =
     complete _ _ (FlowMappingEnd ∷ c.kinds) CloseMapping c.parts
     (collection_ends FirstPairs (FollowsStates o ss) (FlowMappingEnd ∷ []) CloseMapping c.kinds c.parts
-    (NoPair, refl, refl) c.follows) (λ ahead. tt) (tt, c.quiet)
+    (NoPair, refl, refl) c.follows) (λ ahead. tt) (tt, c.bare)
 inside state.FlowMappingKey o ss i c =
     complete _ _ (FlowMappingEnd ∷ c.kinds) CloseMapping c.parts
-    (pairs_end (FollowsStates o ss) c.kinds c.parts c.follows) (λ ahead. tt) (tt, c.quiet)
+    (pairs_end (FollowsStates o ss) c.kinds c.parts c.follows) (λ ahead. tt) (tt, c.bare)
 inside state.FlowMappingValue o ss i c =
     complete _ _ (Value ∷ FlowMappingEnd ∷ c.kinds) leaf (CloseMapping ∷ c.parts)
     (any_value InFlow (InMapping (FollowsStates o ss)) _ _
     (marked_value InFlow (InMapping (FollowsStates o ss)) (FlowMappingEnd ∷ c.kinds) (leaf ∷ CloseMapping ∷ c.parts)
     (maybe (InMapping (FollowsStates o ss)) _ _ (pairs_end (FollowsStates o ss) c.kinds c.parts c.follows))))
-    (λ ahead b. tt) (refl, (tt, c.quiet))
+    (λ ahead b. tt) (refl, (tt, c.bare))
 inside state.FlowMappingEmptyValue o ss i c =
     complete _ _ (FlowMappingEnd ∷ c.kinds) leaf (CloseMapping ∷ c.parts)
     (skip (InMapping (FollowsStates o ss)) _ _ (pairs_end (FollowsStates o ss) c.kinds c.parts c.follows))
-    (λ ahead. tt) (refl, (tt, c.quiet))
+    (λ ahead. tt) (refl, (tt, c.bare))
 inside _ o ss i c = elim i [ ]
 
 pub completed : (ss : List State) (s : State) → IsAlive s ss → Completion s ss

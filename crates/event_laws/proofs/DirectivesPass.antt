@@ -1,5 +1,5 @@
 -- Directives that go together are passed, and the tokens before and after documents.
-use Rattle.std.proofs.Common.{◌≡◌, Bool, true, false, List, [], ◌∷◌, ◌++◌, map, encode_utf8_all, Result, Ok, Err, refl, ap, ◌∙◌, inl, inr}
+use Rattle.std.proofs.Common.{◌≡◌, ◌↔◌, Bool, true, false, List, [], ◌∷◌, ◌++◌, map, encode_utf8_all, Result, Ok, Err, refl, ap, ◌∙◌, inl, inr}
 use Rattle.std.specs.Prelude.{if◌then◌else◌}
 use Rattle.saphyr_scalar.specs.declared.scalar.position.Marker.{Marker}
 use Rattle.saphyr_scalar.specs.declared.scalar.fault.Refusal.{Refusal}
@@ -12,7 +12,7 @@ use Rattle.saphyr_machine.specs.Steps.Machine.{◌>>=◌, Machine, with_meaning,
 use Rattle.saphyr_machine.specs.Steps.Documents.{is_mark, is_end_or_mark, unpassed_token_from, unpassed_token, Declared, none_declared, directives_from, directives}
 use Rattle.event_laws.proofs.Told.Telling.{SpansByKinds, Memory, dressed, at}
 use Rattle.event_laws.proofs.Remembering.{declaring}
-use Rattle.event_laws.proofs.NameLaws.{still_unlisted}
+use Rattle.event_laws.proofs.NameLaws.{still_unlisted, was_unlisted}
 
 -- ## Tokens that are passed
 
@@ -64,19 +64,24 @@ declared_by (Version _ _) d = record { version = true; handles = d.handles }
 declared_by (TagPrefix handle _) d = record { version = d.version; handles = with_name (handle_bytes handle) d.handles }
 declared_by (Reserved _) d = d
 
-still_free : (x y : Directive) (d : Declared) → GoesWith x y → IsFree d y → IsFree (declared_by x d) y
-still_free (Version _ _) (Version _ _) d g h = elim g [ ]
-still_free (Version _ _) (TagPrefix _ _) d g h = h
-still_free (TagPrefix a _) (TagPrefix b _) d g h = still_unlisted (handle_bytes b) (handle_bytes a) d.handles g h
-still_free (TagPrefix _ _) (Version _ _) d g h = h
-still_free (Reserved _) y d g h = h
-still_free (Version _ _) (Reserved _) d g h = tt
-still_free (TagPrefix _ _) (Reserved _) d g h = tt
+-- another may be declared after a directive where it might before, and both go together
+free_behind : (x y : Directive) (d : Declared) → IsFree (declared_by x d) y ↔ (GoesWith x y × IsFree d y)
+free_behind (Version _ _) (Version _ _) d = (λ h. absurd (cc), λ h. absurd h.0)
+free_behind (TagPrefix a _) (TagPrefix b _) d = (
+  was_unlisted (handle_bytes b) (handle_bytes a) d.handles,
+  λ h. still_unlisted (handle_bytes b) (handle_bytes a) d.handles h.0 h.1,
+)
+free_behind _ y d = (λ h. (tt, h), λ h. h.1)
 
-all_still_free : (x : Directive) (ys : List Directive) (d : Declared) → GoesWithAll x ys → AreFree d ys
-    → AreFree (declared_by x d) ys
-all_still_free x [] d g h = tt
-all_still_free x (y ∷ ys) d g h = (still_free x y d g.0 h.0, all_still_free x ys d g.1 h.1)
+pub all_free_behind : (x : Directive) (ys : List Directive) (d : Declared)
+    → AreFree (declared_by x d) ys ↔ (GoesWithAll x ys × AreFree d ys)
+all_free_behind x [] d = (λ h. (tt, tt), λ h. tt)
+all_free_behind x (y ∷ ys) d =
+    let one = free_behind x y d in
+    let others = all_free_behind x ys d in (
+      λ h. (let a = one.0 h.0 in let b = others.0 h.1 in ((a.0, b.0), (a.1, b.1))),
+      λ h. (one.1 (h.0.0, h.1.0), others.1 (h.0.1, h.1.1)),
+    )
 
 all_free : (xs : List Directive) → AreFree none_declared xs
 all_free [] = tt
@@ -97,8 +102,7 @@ version_passes b d place h =
     (record { version = true; handles = d.handles }) in r) h
 
 pub directives_pass : (ds : List Directive) (d : Declared) (f : SpansByKinds) (ks : List Kind) (x : State)
-    (ss : List State)
-    (e : Memory) → AreCompatible ds → AreFree d ds
+    (ss : List State) (e : Memory) → AreCompatible ds → AreFree d ds
     → directives_from (dressed f (map directive_token ds ++ DocumentStart ∷ ks)) d
     (at f (map directive_token ds ++ DocumentStart ∷ ks) x ss e)
     ≡ Ok (record { span = f ks; kind = DocumentStart }, at f ks x ss (declaring_in ds e))
@@ -109,7 +113,7 @@ directives_pass (Version major minor ∷ ds) d f ks x ss e c h =
     ap (λ (r : Result Declared Refusal). (r >>= (λ a. let y : Result (Declared × Machine) Refusal = Ok (a, m) in y))
     >>= (λ s. directives_from (dressed f rest) s.0 s.1)) (version_passes d.version d (f rest).start h.0)
     ∙ directives_pass ds (declared_by (Version major minor) d) f ks x ss e c.1
-    (all_still_free (Version major minor) ds d c.0 h.1)
+    ((all_free_behind (Version major minor) ds d).1 (c.0, h.1))
 directives_pass (TagPrefix handle prefix ∷ ds) d f ks x ss e c h =
     let rest : List Kind = map directive_token ds ++ DocumentStart ∷ ks in
     let e' : Memory = record {
@@ -124,7 +128,7 @@ directives_pass (TagPrefix handle prefix ∷ ds) d f ks x ss e c h =
     Ok (declared_by (TagPrefix handle prefix) d, at f rest x ss e') in
     ap (λ (b : Bool). (if b then refused else passed) >>= (λ s. directives_from (dressed f rest) s.0 s.1)) h.0
     ∙ directives_pass ds (declared_by (TagPrefix handle prefix) d) f ks x ss e' c.1
-    (all_still_free (TagPrefix handle prefix) ds d c.0 h.1)
+    ((all_free_behind (TagPrefix handle prefix) ds d).1 (c.0, h.1))
 directives_pass (Reserved name ∷ ds) d f ks x ss e c h = directives_pass ds d f ks x ss e c.1 h.1
 
 pub all_directives_pass : (ds : List Directive) (f : SpansByKinds) (ks : List Kind) (x : State) (ss : List State)

@@ -7,6 +7,7 @@ pub mod DirectivesPass
 pub mod MemoryFits
 pub mod AddsUp
 pub mod AnchorCount
+pub mod BareParts
 pub mod Happenings
 pub mod Latest
 pub mod Nesting

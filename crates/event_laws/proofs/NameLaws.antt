@@ -9,6 +9,7 @@ use Rattle.std.specs.Str.{bytes_eq}
 use Rattle.std.proofs.lemmas.Map.Text.{is_eq-slice_cmp}
 use Rattle.std.proofs.lemmas.Map.Lookups.{exact_bytes}
 use Rattle.std.proofs.lemmas.Slice.Eq.{bytes_eq-Decides}
+use Rattle.std.proofs.lemmas.Bool.{or_parts}
 use Rattle.saphyr_machine.specs.Steps.Machine.{Names, meaning, with_meaning, is_listed, with_name}
 
 -- a name that comes after another is another name
@@ -117,3 +118,15 @@ still_unlisted name other names h u =
     let test : is_at (slice_cmp nat_cmp name) other ≡ false = is_eq-slice_cmp name other
     ∙ different name other (λ e. h (sym e)) in
     listed_test name other names ∙ rw (test, u) refl
+
+pub was_unlisted : (name other : List ℕ) (names : List (List ℕ)) → is_listed name (with_name other names) ≡ false
+    → (other ≢ name) × (is_listed name names ≡ false)
+was_unlisted name other names h =
+    let both : (is_at (slice_cmp nat_cmp name) other ≡ false) × (is_listed name names ≡ false) =
+    or_parts (is_at (slice_cmp nat_cmp name) other) (is_listed name names)
+    (sym (listed_test name other names) ∙ h) in
+    let differ : bytes_eq name other ≡ false = sym (is_eq-slice_cmp name other) ∙ both.0 in (
+      (λ e. let same : bytes_eq name other ≡ true =
+          (bytes_eq-Decides name other).1 (sym e) in let no_way : true ≡ false = sym same ∙ differ in cc),
+      both.1,
+    )

@@ -162,15 +162,17 @@ pub record NodeSays (n : Node) (c : grammar.Context) (t : List Kind) : Type 0 wh
   pub by : (f : SpansByKinds) (k : Kind) (ks : List Kind) (m : Machine) (x s : State) (ss : List State) (e : Memory)
       (ps : List Part) → MayFollow c k → m.state ≢ End
       → event_step m ≡ next_node (context_of c) (at f (t ++ k ∷ ks) x (s ∷ ss) e)
-      → TellsParts f (k ∷ ks) s ss (after_node n e) ps
-      → SaysParts e m (node_parts n ++ ps)
+      → TellsParts f (k ∷ ks) s ss (after_node n e) ps → SaysParts e m (node_parts n ++ ps)
+
+-- so it is with any tokens that the node may yield
+abbrev pub EachSays : Node → grammar.Context → Type 0
+EachSays n c = (t : List Kind) → YieldsNode n c t → NodeSays n c t
 
 -- The state after the node may depend on the tokens that the node begins.
 pub enters : (n : Node) (c : grammar.Context) (t : List Kind) → YieldsNode n c t → NodeSays n c t
     → (f : SpansByKinds) (k : Kind) (ks : List Kind) (machine : List Kind → Machine) (x : State)
-    (behind : List Kind → State)
-    (ss : List State) (e : Memory) (ps : List Part) → MayFollow c k → ((l : List Kind) → (machine l).state ≢ End)
-    → ((j : Kind) (l : List Kind) → Starts c j
+    (behind : List Kind → State) (ss : List State) (e : Memory) (ps : List Part)
+    → MayFollow c k → ((l : List Kind) → (machine l).state ≢ End) → ((j : Kind) (l : List Kind) → Starts c j
     → event_step (machine (j ∷ l)) ≡ next_node (context_of c) (at f (j ∷ l) x (behind (j ∷ l) ∷ ss) e))
     → TellsParts f (k ∷ ks) (behind (t ++ k ∷ ks)) ss (after_node n e) ps
     → SaysParts e (machine (t ++ k ∷ ks)) (node_parts n ++ ps)
@@ -190,9 +192,8 @@ skipped e m n ps span more q l =
     plainly e m n (Leaf forest.no_properties forest.Plain []) ps empty_scalar span more refl q l
 
 left_out_says : (n : Node) (t : List Kind) (k : Kind) (ks : List Kind) (f : SpansByKinds)
-    (machine : List Kind → Machine)
-    (behind : List Kind → State) (ss : List State) (e : Memory) (ps : List Part) → n ≡ forest.left_out → t ≡ []
-    → (TellsParts f (k ∷ ks) (behind (k ∷ ks)) ss (after_node forest.left_out e) ps
+    (machine : List Kind → Machine) (behind : List Kind → State) (ss : List State) (e : Memory) (ps : List Part)
+    → n ≡ forest.left_out → t ≡ [] → (TellsParts f (k ∷ ks) (behind (k ∷ ks)) ss (after_node forest.left_out e) ps
     → SaysParts e (machine (k ∷ ks)) (node_parts forest.left_out ++ ps))
     → TellsParts f (k ∷ ks) (behind (t ++ k ∷ ks)) ss (after_node n e) ps
     → SaysParts e (machine (t ++ k ∷ ks)) (node_parts n ++ ps)
@@ -206,11 +207,10 @@ left_out_says n t k ks f machine behind ss e ps a b q =
 pub enters_or_skips : (n : Node) (c : grammar.Context) (t : List Kind) → YieldsOptional n (YieldsNode n c) t
     → (YieldsNode n c t → NodeSays n c t)
     → (f : SpansByKinds) (k : Kind) (ks : List Kind) (machine : List Kind → Machine) (x : State)
-    (behind : List Kind → State)
-    (ss : List State) (e : Memory) (ps : List Part) → MayFollow c k → ((l : List Kind) → (machine l).state ≢ End)
+    (behind : List Kind → State) (ss : List State) (e : Memory) (ps : List Part)
+    → MayFollow c k → ((l : List Kind) → (machine l).state ≢ End)
     → (span : Span) → event_step (machine (k ∷ ks)) ≡ told_event empty_scalar span
-    (at f (k ∷ ks) (behind (k ∷ ks)) ss e)
-    → ((j : Kind) (l : List Kind) → Starts c j
+    (at f (k ∷ ks) (behind (k ∷ ks)) ss e) → ((j : Kind) (l : List Kind) → Starts c j
     → event_step (machine (j ∷ l)) ≡ next_node (context_of c) (at f (j ∷ l) x (behind (j ∷ l) ∷ ss) e))
     → TellsParts f (k ∷ ks) (behind (t ++ k ∷ ks)) ss (after_node n e) ps
     → SaysParts e (machine (t ++ k ∷ ks)) (node_parts n ++ ps)

@@ -34,7 +34,8 @@ use Rattle.event_laws.proofs.Turned.Block as block
 use Rattle.event_laws.proofs.Turned.Documents.{Over, MovesOn, moves}
 use Rattle.event_laws.proofs.Turned.Documents as document
 use Rattle.event_laws.proofs.Turned.DocumentEnds as behind
-use Rattle.event_laws.proofs.Completions.{Completion, completed, quiet_events, some_events, quiet_anchors}
+use Rattle.event_laws.proofs.Completions.{Completion, completed, bare_events, some_events}
+use Rattle.event_laws.proofs.BareParts.{bare_anchors}
 use Rattle.event_laws.proofs.Happenings.{happenings_of}
 
 -- ## Each step
@@ -105,7 +106,7 @@ finishes_at_fault : (s : State) (ss : List State) (ts : List Piece) (e : Memory)
     → BeginsSomeParts s ss ts e (fault_alone (ending_of f))
 finishes_at_fault s ss ts e f a =
     let c : Completion s ss = completed ss s a in
-    let es : (es : List Happening) × (events_in e c.parts ≡ Some es) = quiet_events c.parts e c.quiet in
+    let es : (es : List Happening) × (events_in e c.parts ≡ Some es) = bare_events c.parts e c.bare in
     record {
       read = [];
       unread = ts;
@@ -115,11 +116,11 @@ finishes_at_fault s ss ts e f a =
       are_read = refl;
       wanted = (c.follows, c.starts (kinds ts));
       told = es.1;
-      few = (let n = quiet_anchors c.parts c.quiet in omega (arith, n));
+      few = (let n = bare_anchors c.parts c.bare in omega (arith, n));
       places = taking.nothing [];
       all_read = tt;
       all_expected = tt;
-      all_given = some_events c.parts e c.quiet c.some;
+      all_given = some_events c.parts e c.bare c.some;
     }
 
 events_joined : (part : Part) (ps : List Part) (e : Memory) (w : Happening) (es : List Happening)

@@ -3,22 +3,12 @@ use Rattle.std.proofs.Common.{◌≡◌, ℕ, Bool, List, [], ◌∷◌, ◌++�
 use Rattle.saphyr_scanner.specs.Grammar.Forest.{Plain, SingleQuoted, DoubleQuoted, Literal, Folded, Properties, no_properties, Node, Alias, Nodes, NoNode, MoreNodes, Pairs, NoPair, MorePairs, Forest}
 use Rattle.saphyr_scanner.specs.Grammar.Forest as forest
 use Rattle.json_laws.specs.Grammar.Json.{IsMemberName, IsValue, AreElements, AreOtherElements, AreMembers, AreOtherMembers, IsJson}
-use Rattle.event_laws.specs.Preorder.{Part, OpenStream, CloseStream, OpenDocument, CloseDocument, Reference, Leaf, OpenSequence, CloseSequence, OpenMapping, CloseMapping, node_parts, entry_parts, pair_parts, parts}
-use Rattle.saphyr_machine.specs.Events.{Happening, StreamStart, StreamEnd, DocumentStart, DocumentEnd, Scalar, SequenceStart, SequenceEnd, MappingStart, MappingEnd}
-use Rattle.event_laws.specs.Anchors.{anchor_of, one_more_anchor, anchors, own_id}
+use Rattle.event_laws.specs.Preorder.{Part, CloseStream, CloseDocument, Reference, Leaf, OpenSequence, CloseSequence, OpenMapping, CloseMapping, node_parts, entry_parts, pair_parts, parts}
+use Rattle.saphyr_machine.specs.Events.{Happening, Scalar, SequenceStart, MappingStart}
+use Rattle.event_laws.specs.Anchors.{anchors, own_id}
 use Rattle.event_laws.specs.TagResolution.{any_resolution}
+use Rattle.event_laws.proofs.BareParts.{IsBarePart, AreBare, bare_anchors}
 use Rattle.event_laws.specs.ForestEvents.{first_and_others, event_of_part, events_behind, events}
-
-abbrev IsBarePart : Part → Type 0
-IsBarePart (Reference _) = ⊥
-IsBarePart (Leaf p _ _) = p ≡ no_properties
-IsBarePart (OpenSequence p) = p ≡ no_properties
-IsBarePart (OpenMapping p) = p ≡ no_properties
-IsBarePart _ = Unit {0}
-
-abbrev AreBare : List Part → Type 0
-AreBare [] = Unit {0}
-AreBare (p ∷ ps) = IsBarePart p × AreBare ps
 
 abbrev Has : Option Happening → Type 0
 Has o = (e : Happening) × (o ≡ Some e)
@@ -41,12 +31,7 @@ bare_event keep front (OpenMapping p) h = (
   ap
       (λ (q : Properties). option_map (MappingStart (own_id front q.anchor)) (any_resolution keep q.tag front)) h,
 )
-bare_event keep front OpenStream h = (StreamStart, refl)
-bare_event keep front CloseStream h = (StreamEnd, refl)
-bare_event keep front (OpenDocument explicit ds) h = (DocumentStart explicit, refl)
-bare_event keep front CloseDocument h = (DocumentEnd, refl)
-bare_event keep front CloseSequence h = (SequenceEnd, refl)
-bare_event keep front CloseMapping h = (MappingEnd, refl)
+bare_event keep front _ h = (_, refl)
 
 bare_events : (keep : Bool) (front ps : List Part) → AreBare ps
     → (es : List Happening) × (events_behind keep front ps ≡ Some es)
@@ -115,16 +100,5 @@ pub json_has_events : (f : Forest) (text : List ℕ) (keep : Bool) → IsJson f 
     → (es : List Happening) × (events f keep ≡ Some es)
 json_has_events f text keep h = bare_events keep [] (parts f) (json_is_bare f text h)
 
-no_anchor : (p : Part) → IsBarePart p → anchor_of p ≡ None
-no_anchor (Leaf p s v) h = ap (λ (q : Properties). option_map encode_utf8_all q.anchor) h
-no_anchor (OpenSequence p) h = ap (λ (q : Properties). option_map encode_utf8_all q.anchor) h
-no_anchor (OpenMapping p) h = ap (λ (q : Properties). option_map encode_utf8_all q.anchor) h
-no_anchor _ h = refl
-
-bare_parts_without_anchors : (ps : List Part) → AreBare ps → anchors ps ≡ 0
-bare_parts_without_anchors [] h = refl
-bare_parts_without_anchors (p ∷ ps) h = ap (λ o. one_more_anchor o (anchors ps)) (no_anchor p h.0)
-    ∙ bare_parts_without_anchors ps h.1
-
 pub json_has_no_anchors : (f : Forest) (text : List ℕ) → IsJson f text → anchors (parts f) ≡ 0
-json_has_no_anchors f text h = bare_parts_without_anchors (parts f) (json_is_bare f text h)
+json_has_no_anchors f text h = bare_anchors (parts f) (json_is_bare f text h)

@@ -13,7 +13,7 @@ use Rattle.saphyr_machine.specs.Steps.Block.{block_sequence_entry, block_sequenc
 use Rattle.saphyr_machine.specs.Steps.Expected.{event_step}
 use Rattle.event_laws.proofs.Told.Telling.{SpansByKinds, Memory, at, span_of_token}
 use Rattle.event_laws.proofs.Remembering.{after_node, TellsParts}
-use Rattle.event_laws.proofs.NodeStarts.{MayFollow, NodeSays, skipped, BeginsBehind, LeftOutBehind, SaysBehind, says_behind, marked_tokens}
+use Rattle.event_laws.proofs.NodeStarts.{MayFollow, EachSays, skipped, BeginsBehind, LeftOutBehind, SaysBehind, says_behind, marked_tokens}
 
 -- ## Entries of sequences
 
@@ -117,8 +117,7 @@ value_is_left_out f BlockEnd ks ss e h = refl
 value_is_left_out f _ ks ss e h = elim h [ ]
 
 value_is_missing : (f : SpansByKinds) (k : Kind) (ks : List Kind) (ss : List State) (e : Memory)
-    → MayFollow InBlockMapping k
-    → ¬ (BeginsWithValue (k ∷ ks))
+    → MayFollow InBlockMapping k → ¬ (BeginsWithValue (k ∷ ks))
     → event_step (at f (k ∷ ks) state.BlockMappingValue ss e)
     ≡ told_event empty_scalar (f ks) (at f (k ∷ ks) state.BlockMappingKey ss e)
 unfolding event_step block_mapping_value
@@ -139,7 +138,7 @@ value_says = says_behind Value InBlockMapping (MayFollow InBlockMapping) (λ f. 
 
 -- a pair whose value is left out
 alone_says : (key : Node) (t : List Kind) → YieldsMarkedKey key (YieldsNode key InBlockMapping) t
-    → ((u : List Kind) → YieldsNode key InBlockMapping u → NodeSays key InBlockMapping u)
+    → EachSays key InBlockMapping
     → (f : SpansByKinds) (k : Kind) (ks : List Kind) (ss : List State) (e : Memory) (ps : List Part)
     → MayFollow InBlockMapping k → ¬ (BeginsWithValue (k ∷ ks))
     → TellsParts f (k ∷ ks) state.BlockMappingKey ss (after_node key e) ps
@@ -155,7 +154,7 @@ alone_says key t h g f k ks ss e ps z n l =
 
 -- a pair whose key is left out
 keyless_says : (value : Node) (t : List Kind) → YieldsMarkedValue value (YieldsNode value InBlockMapping) t
-    → ((u : List Kind) → YieldsNode value InBlockMapping u → NodeSays value InBlockMapping u)
+    → EachSays value InBlockMapping
     → (f : SpansByKinds) (k : Kind) (ks : List Kind) (ss : List State) (e : Memory) (ps : List Part)
     → MayFollow InBlockMapping k → TellsParts f (k ∷ ks) state.BlockMappingKey ss (after_node value e) ps
     → TellsParts f (t ++ k ∷ ks) state.BlockMappingKey ss e (node_parts forest.left_out ++ (node_parts value ++ ps))
@@ -171,8 +170,7 @@ keyless_says value t h g f k ks ss e ps z l =
 
 pub pair_says : (key value : Node) (others t : List Kind)
     → YieldsBlockPair key value (YieldsNode key InBlockMapping) (YieldsNode value InBlockMapping) others t
-    → ((u : List Kind) → YieldsNode key InBlockMapping u → NodeSays key InBlockMapping u)
-    → ((u : List Kind) → YieldsNode value InBlockMapping u → NodeSays value InBlockMapping u)
+    → EachSays key InBlockMapping → EachSays value InBlockMapping
     → (f : SpansByKinds) (k : Kind) (ks : List Kind) (ss : List State) (e : Memory) (ps : List Part)
     → MayFollow InBlockMapping k → (¬ (BeginsWithValue others) → ¬ (BeginsWithValue (k ∷ ks)))
     → TellsParts f (k ∷ ks) state.BlockMappingKey ss (after_node value (after_node key e)) ps

@@ -7,14 +7,13 @@ use Rattle.saphyr_machine.specs.declared.state.State.{State}
 use Rattle.saphyr_machine.specs.declared.state.State.TheVariants as state
 use Rattle.event_laws.specs.Preorder.{Part, OpenMapping, CloseSequence, CloseMapping, node_parts, entry_parts, pair_parts}
 use Rattle.saphyr_machine.specs.Events.{SequenceEnd, MappingEnd}
-use Rattle.saphyr_machine.specs.Steps.Machine.{Machine}
 use Rattle.saphyr_machine.specs.Steps.Flow.{flow_sequence_first_entry, flow_sequence_entry, flow_mapping_first_key, flow_mapping_pair_behind_comma, flow_mapping_key}
 use Rattle.saphyr_machine.specs.Steps.Block.{block_sequence_entry, indentless_sequence_entry, block_mapping_key}
 use Rattle.saphyr_machine.specs.Steps.Expected.{event_step}
 use Rattle.event_laws.proofs.Told.Telling.{SpansByKinds, Memory, at, span_of_token}
 use Rattle.event_laws.proofs.Remembering.{after_node, after_nodes, after_pairs, SaysParts, TellsParts, plainly}
-use Rattle.event_laws.proofs.NodeStarts.{MayFollow, NodeSays}
-use Rattle.event_laws.proofs.Told.SinglePairs.{EndsEntry, AtEntry, entry_says}
+use Rattle.event_laws.proofs.NodeStarts.{MayFollow, NodeSays, EachSays}
+use Rattle.event_laws.proofs.Told.SinglePairs.{EndsEntry, AtEntry, SaysEntry, entry_says}
 use Rattle.event_laws.proofs.Told.SinglePairs as single
 use Rattle.event_laws.proofs.Told.FlowPairs.{EndsPair, AtPair}
 use Rattle.event_laws.proofs.Told.FlowPairs as flow
@@ -155,16 +154,12 @@ pair_and_others Fits close x y key value qs front v t next w go others =
 -- ## Brackets
 
 pub record EntrySays (n : Node) (t : List Kind) : Type 0 where
-  pub by : (f : SpansByKinds) (k : Kind) (ks : List Kind) (machine : List Kind → Machine) (x : State) (ss : List State)
-      (e : Memory) (ps : List Part) → EndsEntry k → AtEntry f x ss e machine
-      → TellsParts f (k ∷ ks) state.FlowSequenceEntry ss (after_node n e) ps
-      → SaysParts e (machine (t ++ k ∷ ks)) (node_parts n ++ ps)
+  pub by : SaysEntry (λ ps. node_parts n ++ ps) (after_node n) t
 
 -- a node, or a pair
 pub either_says : (n : Node) (t : List Kind) → YieldsNode n InFlow t ⊎ YieldsPairEntry n t
     → (YieldsNode n InFlow t → NodeSays n InFlow t) → (YieldsPairEntry n t → EntrySays n t) → EntrySays n t
-either_says n t (inl h) g p =
-    record { by = λ f k ks machine x ss e ps z a l. entry_says n t h (g h) f k ks machine x ss e ps z a l }
+either_says n t (inl h) g p = record { by = entry_says n t h (g h) }
 either_says n t (inr h) g p = p h
 
 same_pair : (a b ps : List Part) (c : Part) → ((a ++ (b ++ [])) ++ c ∷ []) ++ ps ≡ a ++ (b ++ c ∷ ps)
@@ -172,10 +167,8 @@ same_pair a b ps c = simp append_assoc
 
 -- the mapping of one pair
 pub wrapped_pair : (p : Properties) (key value : Node) (t : List Kind) → p ≡ no_properties
-    → YieldsSinglePair key value (YieldsNode key InFlow) (YieldsNode value InFlow) t
-    → ((u : List Kind) → YieldsNode key InFlow u → NodeSays key InFlow u)
-    → ((u : List Kind) → YieldsNode value InFlow u → NodeSays value InFlow u)
-    → EntrySays (Map p (MorePairs key value NoPair)) t
+    → YieldsSinglePair key value (YieldsNode key InFlow) (YieldsNode value InFlow) t → EachSays key InFlow
+    → EachSays value InFlow → EntrySays (Map p (MorePairs key value NoPair)) t
 wrapped_pair p key value t bare h gk gv =
     let one : EntrySays (Map no_properties (MorePairs key value NoPair)) t = record {
       by = λ f k ks machine x ss e ps z a l. subst
@@ -206,10 +199,8 @@ other_entries n ns u v t h w first others =
 -- ## Braces
 
 pub first_pairs : (key value : Node) (qs : Pairs) (u v t : List Kind) → YieldOtherFlowPairs qs v → t ≡ u ++ v
-    → YieldsFlowPair key value (YieldsNode key InFlow) (YieldsNode value InFlow) u
-    → ((u : List Kind) → YieldsNode key InFlow u → NodeSays key InFlow u)
-    → ((u : List Kind) → YieldsNode value InFlow u → NodeSays value InFlow u) → OtherPairsSay qs v
-    → FlowPairsSay (MorePairs key value qs) t
+    → YieldsFlowPair key value (YieldsNode key InFlow) (YieldsNode value InFlow) u → EachSays key InFlow
+    → EachSays value InFlow → OtherPairsSay qs v → FlowPairsSay (MorePairs key value qs) t
 first_pairs key value qs u v t h w d gk gv others =
     pair_and_others EndsPair FlowMappingEnd state.FlowMappingFirstKey state.FlowMappingKey key value qs u v t
     (λ ks. flow_pairs_next EndsPair qs v FlowMappingEnd ks tt tt h) w
@@ -218,9 +209,7 @@ first_pairs key value qs u v t h w d gk gv others =
 
 pub other_pairs : (key value : Node) (qs : Pairs) (u v t : List Kind) → YieldOtherFlowPairs qs v
     → t ≡ FlowEntry ∷ (u ++ v) → YieldsFlowPair key value (YieldsNode key InFlow) (YieldsNode value InFlow) u
-    → ((u : List Kind) → YieldsNode key InFlow u → NodeSays key InFlow u)
-    → ((u : List Kind) → YieldsNode value InFlow u → NodeSays value InFlow u) → OtherPairsSay qs v
-    → OtherPairsSay (MorePairs key value qs) t
+    → EachSays key InFlow → EachSays value InFlow → OtherPairsSay qs v → OtherPairsSay (MorePairs key value qs) t
 other_pairs key value qs u v t h w d gk gv others =
     pair_and_others EndsPair FlowMappingEnd state.FlowMappingKey state.FlowMappingKey key value qs (FlowEntry ∷ u) v t
     (λ ks. flow_pairs_next EndsPair qs v FlowMappingEnd ks tt tt h) w
@@ -254,10 +243,8 @@ indentless_entries n ns u v t d h w g others = record {
 
 pub block_pairs : (key value : Node) (qs : Pairs) (u v t : List Kind)
     → YieldsBlockPair key value (YieldsNode key InBlockMapping) (YieldsNode value InBlockMapping) v u
-    → YieldBlockPairs qs v → t ≡ u ++ v
-    → ((u : List Kind) → YieldsNode key InBlockMapping u → NodeSays key InBlockMapping u)
-    → ((u : List Kind) → YieldsNode value InBlockMapping u → NodeSays value InBlockMapping u) → BlockPairsSay qs v
-    → BlockPairsSay (MorePairs key value qs) t
+    → YieldBlockPairs qs v → t ≡ u ++ v → EachSays key InBlockMapping
+    → EachSays value InBlockMapping → BlockPairsSay qs v → BlockPairsSay (MorePairs key value qs) t
 block_pairs key value qs u v t d h w gk gv others =
     pair_and_others (MayFollow InBlockMapping) BlockEnd state.BlockMappingKey state.BlockMappingKey key value qs u v t
     (λ ks. block_pairs_next qs v ks h) w

@@ -18,7 +18,7 @@ use Rattle.saphyr_machine.specs.Steps.Expected.{event_step}
 use Rattle.event_laws.proofs.Told.Telling.{SpansByKinds, Memory, at, span_of_token}
 use Rattle.event_laws.proofs.Remembering.{after_node, SaysParts, TellsParts}
 use Rattle.event_laws.proofs.Told.Nodes.{next_node}
-use Rattle.event_laws.proofs.NodeStarts.{Starts, MayFollow, NodeSays, enters, skipped, enters_or_skips, BeginsBehind, LeftOutBehind, SaysBehind, says_behind, marked_tokens}
+use Rattle.event_laws.proofs.NodeStarts.{Starts, MayFollow, NodeSays, EachSays, enters, skipped, enters_or_skips, BeginsBehind, LeftOutBehind, SaysBehind, says_behind, marked_tokens}
 
 -- what comes after an entry of braces
 abbrev pub EndsPair : Kind → Type 0
@@ -39,6 +39,16 @@ pub record AtPair (f : SpansByKinds) (x : State) (ss : List State) (e : Memory) 
     pub steps : (k : Kind) (l : List Kind)
         → event_step (machine (k ∷ l)) ≡ flow_mapping_pair_at k (span (k ∷ l)) (record { span = f l; kind = k })
         (at f l x ss e)
+
+-- Where an entry of braces begins its tokens tell these parts before others. What is remembered changes by `later`.
+abbrev pub SaysPair : (List Part → List Part) → (Memory → Memory) → List Kind → Type 0
+SaysPair parts later t = (f : SpansByKinds) (k : Kind) (ks : List Kind) (machine : List Kind → Machine) (x : State)
+    (ss : List State) (e : Memory) (ps : List Part) → EndsPair k → AtPair f x ss e machine
+    → TellsParts f (k ∷ ks) state.FlowMappingKey ss (later e) ps → SaysParts e (machine (t ++ k ∷ ks)) (parts ps)
+
+-- the parts of a pair, before others
+abbrev pub pair : Node → Node → List Part → List Part
+pair key value ps = node_parts key ++ (node_parts value ++ ps)
 
 -- ## Keys
 
@@ -105,8 +115,7 @@ missing_value_says f k ks ss e ps z l =
 key_says : (key : Node) (t : List Kind) → YieldsOptional key (YieldsNode key InFlow) t
     → (YieldsNode key InFlow t → NodeSays key InFlow t)
     → (f : SpansByKinds) (k : Kind) (ks : List Kind) (machine : List Kind → Machine) (x : State) (ss : List State)
-    (e : Memory)
-    (ps : List Part) → MayFollow InFlow k
+    (e : Memory) (ps : List Part) → MayFollow InFlow k
     → flow_key_node (at f (k ∷ ks) x ss e) ≡ told_event empty_scalar (f ks) (at f (k ∷ ks) state.FlowMappingValue ss e)
     → AtPair f x ss e machine → TellsParts f (k ∷ ks) state.FlowMappingValue ss (after_node key e) ps
     → SaysParts e (machine (Key ∷ (t ++ k ∷ ks))) (node_parts key ++ ps)
@@ -117,17 +126,11 @@ key_says key t h g f k ks machine x ss e ps z skip a l =
 
 -- a pair whose value is left out, by its key's tokens
 alone_says : (key : Node) (t : List Kind) → YieldsMarkedKey key (YieldsNode key InFlow) t ⊎ YieldsNode key InFlow t
-    → ((u : List Kind) → YieldsNode key InFlow u → NodeSays key InFlow u)
-    → (f : SpansByKinds) (k : Kind) (ks : List Kind) (machine : List Kind → Machine) (x : State) (ss : List State)
-    (e : Memory)
-    (ps : List Part) → EndsPair k → AtPair f x ss e machine
-    → TellsParts f (k ∷ ks) state.FlowMappingKey ss (after_node key e) ps
-    → SaysParts e (machine (t ++ k ∷ ks)) (node_parts key ++ (node_parts forest.left_out ++ ps))
+    → EachSays key InFlow → SaysPair (pair key forest.left_out) (after_node key) t
 unfolding event_step flow_mapping_empty_value
 alone_says key t (inl h) g f k ks machine x ss e ps z a l =
-    subst (λ (u : List Kind). SaysParts e (machine (u ++ k ∷ ks))
-    (node_parts key ++ (node_parts forest.left_out ++ ps)))
-    (sym h.2) (key_says key h.0 h.1 (g h.0) f k ks machine x ss e _ (pair_end_follows k z)
+    subst (λ (u : List Kind). SaysParts e (machine (u ++ k ∷ ks)) (pair key forest.left_out ps)) (sym h.2)
+    (key_says key h.0 h.1 (g h.0) f k ks machine x ss e _ (pair_end_follows k z)
     (key_is_left_out f k ks x ss e z) a (missing_value_says f k ks ss (after_node key e) ps z l))
 alone_says key t (inr h) g f k ks machine x ss e ps z a l =
     let e' : Memory = after_node key e in
@@ -140,31 +143,19 @@ alone_says key t (inr h) g f k ks machine x ss e ps z a l =
 
 -- a pair whose key is left out
 keyless_says : (value : Node) (t : List Kind) → YieldsMarkedValue value (YieldsNode value InFlow) t
-    → ((u : List Kind) → YieldsNode value InFlow u → NodeSays value InFlow u)
-    → (f : SpansByKinds) (k : Kind) (ks : List Kind) (machine : List Kind → Machine) (x : State) (ss : List State)
-    (e : Memory)
-    (ps : List Part) → EndsPair k → AtPair f x ss e machine
-    → TellsParts f (k ∷ ks) state.FlowMappingKey ss (after_node value e) ps
-    → SaysParts e (machine (t ++ k ∷ ks)) (node_parts forest.left_out ++ (node_parts value ++ ps))
+    → EachSays value InFlow → SaysPair (pair forest.left_out value) (after_node value) t
 keyless_says value t h g f k ks machine x ss e ps z a l =
     let rest : List Kind = h.0 ++ k ∷ ks in
     let second : TellsParts f (Value ∷ rest) state.FlowMappingValue ss e (node_parts value ++ ps) =
     value_says value h.0 h.1 (g h.0) f k ks ss e ps z l in
-    subst (λ (u : List Kind). SaysParts e (machine (u ++ k ∷ ks))
-    (node_parts forest.left_out ++ (node_parts value ++ ps)))
-    (sym h.2) (skipped e (machine (Value ∷ rest)) (at f (Value ∷ rest) state.FlowMappingValue ss e)
+    subst (λ (u : List Kind). SaysParts e (machine (u ++ k ∷ ks)) (pair forest.left_out value ps)) (sym h.2)
+    (skipped e (machine (Value ∷ rest)) (at f (Value ∷ rest) state.FlowMappingValue ss e)
     (node_parts value ++ ps) (f rest) (a.goes_on (Value ∷ rest)) (a.steps Value rest) second)
 
 -- the pair as an entry of braces
 pub pair_says : (key value : Node) (t : List Kind)
-    → YieldsFlowPair key value (YieldsNode key InFlow) (YieldsNode value InFlow) t
-    → ((u : List Kind) → YieldsNode key InFlow u → NodeSays key InFlow u)
-    → ((u : List Kind) → YieldsNode value InFlow u → NodeSays value InFlow u)
-    → (f : SpansByKinds) (k : Kind) (ks : List Kind) (machine : List Kind → Machine) (x : State) (ss : List State)
-    (e : Memory)
-    (ps : List Part) → EndsPair k → AtPair f x ss e machine
-    → TellsParts f (k ∷ ks) state.FlowMappingKey ss (after_node value (after_node key e)) ps
-    → SaysParts e (machine (t ++ k ∷ ks)) (node_parts key ++ (node_parts value ++ ps))
+    → YieldsFlowPair key value (YieldsNode key InFlow) (YieldsNode value InFlow) t → EachSays key InFlow
+    → EachSays value InFlow → SaysPair (pair key value) (λ e. after_node value (after_node key e)) t
 unfolding flow_key_node
 pair_says key value t (inl h) gk gv f k ks machine x ss e ps z a l =
     let kt : List Kind = h.2.0 in

@@ -18,7 +18,7 @@ use Rattle.saphyr_machine.specs.Steps.Expected.{event_step}
 use Rattle.event_laws.proofs.Told.Telling.{SpansByKinds, Memory, at, span_of_token}
 use Rattle.event_laws.proofs.Remembering.{after_node, SaysParts, TellsParts, plainly}
 use Rattle.event_laws.proofs.Told.Nodes.{next_node}
-use Rattle.event_laws.proofs.NodeStarts.{Starts, MayFollow, NodeSays, enters, skipped, enters_or_skips, LeftOutBehind, marked_tokens}
+use Rattle.event_laws.proofs.NodeStarts.{Starts, MayFollow, NodeSays, EachSays, enters, skipped, enters_or_skips, LeftOutBehind, marked_tokens}
 
 -- what comes after an entry of brackets
 abbrev pub EndsEntry : Kind → Type 0
@@ -45,13 +45,15 @@ pub record AtEntry (f : SpansByKinds) (x : State) (ss : List State) (e : Memory)
   pub steps : (k : Kind) (l : List Kind)
       → event_step (machine (k ∷ l)) ≡ flow_sequence_first_entry_at k (record { span = f l; kind = k }) (at f l x ss e)
 
+-- Where an entry of brackets begins its tokens tell these parts before others. What is remembered changes by `later`.
+abbrev pub SaysEntry : (List Part → List Part) → (Memory → Memory) → List Kind → Type 0
+SaysEntry parts later t = (f : SpansByKinds) (k : Kind) (ks : List Kind) (machine : List Kind → Machine) (x : State)
+    (ss : List State) (e : Memory) (ps : List Part) → EndsEntry k → AtEntry f x ss e machine
+    → TellsParts f (k ∷ ks) state.FlowSequenceEntry ss (later e) ps → SaysParts e (machine (t ++ k ∷ ks)) (parts ps)
+
 -- an entry that is a node
 pub entry_says : (n : Node) (t : List Kind) → YieldsNode n InFlow t → NodeSays n InFlow t
-    → (f : SpansByKinds) (k : Kind) (ks : List Kind) (machine : List Kind → Machine) (x : State) (ss : List State)
-    (e : Memory)
-    (ps : List Part) → EndsEntry k → AtEntry f x ss e machine
-    → TellsParts f (k ∷ ks) state.FlowSequenceEntry ss (after_node n e) ps
-    → SaysParts e (machine (t ++ k ∷ ks)) (node_parts n ++ ps)
+    → SaysEntry (λ ps. node_parts n ++ ps) (after_node n) t
 entry_says n t h g f k ks machine x ss e ps z a l =
     enters n InFlow t h g f k ks machine x (λ l. state.FlowSequenceEntry) ss e ps (entry_end_follows k z) a.goes_on
     (λ j l s. a.steps j l ∙ entry_begins j _ _ s) l
@@ -120,22 +122,19 @@ pair_ends f [] k ks ss e ps h = pair_ends_at f _ (k ∷ ks) ss e ps h
 pair_ends f (j ∷ t) k ks ss e ps h = pair_ends_at f _ (k ∷ ks) ss e ps h
 
 pair_opens : (f : SpansByKinds) (l : List Kind) (machine : List Kind → Machine) (x : State) (ss : List State)
-    (e : Memory)
-    (ps : List Part) → AtEntry f x ss e machine → TellsParts f l state.FlowSequenceEntryMappingKey ss e ps
+    (e : Memory) (ps : List Part) → AtEntry f x ss e machine → TellsParts f l state.FlowSequenceEntryMappingKey ss e ps
     → SaysParts e (machine (Key ∷ l)) (OpenMapping no_properties ∷ ps)
 pair_opens f l machine x ss e ps a h =
     plainly e (machine (Key ∷ l)) (at f l state.FlowSequenceEntryMappingKey ss e) (OpenMapping no_properties) ps
     (MappingStart 0 None) (f l) (a.goes_on (Key ∷ l)) refl (a.steps Key l) h
 
+-- the parts of a pair, before others
+abbrev pub single_pair : Node → Node → List Part → List Part
+single_pair key value ps = OpenMapping no_properties ∷ (node_parts key ++ (node_parts value ++ CloseMapping ∷ ps))
+
 -- a pair with no value
-key_alone_says : (key : Node) (t : List Kind) → YieldsMarkedKey key (YieldsNode key InFlow) t
-    → ((u : List Kind) → YieldsNode key InFlow u → NodeSays key InFlow u)
-    → (f : SpansByKinds) (k : Kind) (ks : List Kind) (machine : List Kind → Machine) (x : State) (ss : List State)
-    (e : Memory)
-    (ps : List Part) → EndsEntry k → AtEntry f x ss e machine
-    → TellsParts f (k ∷ ks) state.FlowSequenceEntry ss (after_node key e) ps
-    → SaysParts e (machine (t ++ k ∷ ks))
-    (OpenMapping no_properties ∷ (node_parts key ++ (node_parts forest.left_out ++ CloseMapping ∷ ps)))
+key_alone_says : (key : Node) (t : List Kind) → YieldsMarkedKey key (YieldsNode key InFlow) t → EachSays key InFlow
+    → SaysEntry (single_pair key forest.left_out) (after_node key) t
 key_alone_says key t h gk f k ks machine x ss e ps z a l =
     let e' : Memory = after_node key e in
     let last : TellsParts f (k ∷ ks) (behind_value f (k ∷ ks)) ss e' (CloseMapping ∷ ps) = pair_ends f [] k ks ss e' ps
@@ -151,22 +150,14 @@ key_alone_says key t h gk f k ks machine x ss e ps z a l =
     state.FlowSequenceEntryMappingKey (λ l. state.FlowSequenceEntryMappingValue) ss e
     (node_parts forest.left_out ++ CloseMapping ∷ ps) (entry_end_follows k z) (λ l q. cc) (span_of_token f (k ∷ ks))
     (key_is_left_out f k ks ss e z) (λ j l s. single_key_begins f j l ss e s) second in
-    subst (λ (u : List Kind). SaysParts e (machine (u ++ k ∷ ks))
-    (OpenMapping no_properties ∷ (node_parts key ++ (node_parts forest.left_out ++ CloseMapping ∷ ps)))) (sym h.2)
+    subst (λ (u : List Kind). SaysParts e (machine (u ++ k ∷ ks)) (single_pair key forest.left_out ps)) (sym h.2)
     (pair_opens f (h.0 ++ k ∷ ks) machine x ss e
     (node_parts key ++ (node_parts forest.left_out ++ CloseMapping ∷ ps)) a first)
 
 -- the pair as an entry of brackets
 pub pair_says : (key value : Node) (t : List Kind)
-    → YieldsSinglePair key value (YieldsNode key InFlow) (YieldsNode value InFlow) t
-    → ((u : List Kind) → YieldsNode key InFlow u → NodeSays key InFlow u)
-    → ((u : List Kind) → YieldsNode value InFlow u → NodeSays value InFlow u)
-    → (f : SpansByKinds) (k : Kind) (ks : List Kind) (machine : List Kind → Machine) (x : State) (ss : List State)
-    (e : Memory)
-    (ps : List Part) → EndsEntry k → AtEntry f x ss e machine
-    → TellsParts f (k ∷ ks) state.FlowSequenceEntry ss (after_node value (after_node key e)) ps
-    → SaysParts e (machine (t ++ k ∷ ks))
-    (OpenMapping no_properties ∷ (node_parts key ++ (node_parts value ++ CloseMapping ∷ ps)))
+    → YieldsSinglePair key value (YieldsNode key InFlow) (YieldsNode value InFlow) t → EachSays key InFlow
+    → EachSays value InFlow → SaysEntry (single_pair key value) (λ e. after_node value (after_node key e)) t
 unfolding event_step flow_sequence_entry_mapping_key
 pair_says key value t (inl h) gk gv f k ks machine x ss e ps z a l =
     let kt : List Kind = h.2.0 in
@@ -188,12 +179,10 @@ pair_says key value t (inl h) gk gv f k ks machine x ss e ps z a l =
     (λ l. at f l state.FlowSequenceEntryMappingKey ss e) state.FlowSequenceEntryMappingKey
     (λ l. state.FlowSequenceEntryMappingValue) ss e (node_parts value ++ CloseMapping ∷ ps) tt (λ l q. cc)
     (f (vt ++ k ∷ ks)) refl (λ j l s. single_key_begins f j l ss e s) second in
-    subst (λ (u : List Kind). SaysParts e (machine u)
-    (OpenMapping no_properties ∷ (node_parts key ++ (node_parts value ++ CloseMapping ∷ ps)))) (sym same)
+    subst (λ (u : List Kind). SaysParts e (machine u) (single_pair key value ps)) (sym same)
     (pair_opens f (kt ++ Value ∷ (vt ++ k ∷ ks)) machine x ss e
     (node_parts key ++ (node_parts value ++ CloseMapping ∷ ps)) a first)
 pair_says key value t (inr h) gk gv f k ks machine x ss e ps z a l =
     subst (λ (v : Node). TellsParts f (k ∷ ks) state.FlowSequenceEntry ss (after_node v (after_node key e)) ps
-    → SaysParts e (machine (t ++ k ∷ ks))
-    (OpenMapping no_properties ∷ (node_parts key ++ (node_parts v ++ CloseMapping ∷ ps)))) (sym h.0)
+    → SaysParts e (machine (t ++ k ∷ ks)) (single_pair key v ps)) (sym h.0)
     (key_alone_says key t h.1 gk f k ks machine x ss e ps z a) l

@@ -1,16 +1,10 @@
 -- Directives that were passed go together, and what they declare is remembered.
-use Rattle.std.proofs.Common.{◌≡◌, ◌≢◌, ℕ, Bool, true, false, List, [], ◌∷◌, ◌++◌, map, encode_utf8_all, Result, Ok, Err, refl, sym, ap, ◌∙◌, subst}
+use Rattle.std.proofs.Common.{◌≡◌, ℕ, Bool, true, false, List, [], ◌∷◌, ◌++◌, map, encode_utf8_all, Result, Ok, Err, refl, sym, ap, ◌∙◌, subst}
 use Rattle.std.specs.Prelude.{if◌then◌else◌}
-use Rattle.std.specs.BTreeMap.{is_at}
-use Rattle.std.specs.Cmp.Lexicographic.{slice_cmp}
-use Rattle.std.specs.Ordering.{nat_cmp}
-use Rattle.std.specs.Str.{bytes_eq}
-use Rattle.std.proofs.lemmas.Map.Text.{is_eq-slice_cmp}
-use Rattle.std.proofs.lemmas.Slice.Eq.{bytes_eq-Decides}
 use Rattle.saphyr_scalar.specs.declared.scalar.position.Span.{Span}
 use Rattle.saphyr_scalar.specs.declared.scalar.fault.Refusal.{Refusal}
 use Rattle.saphyr_scalar.specs.declared.scalar.fault.FaultText.TheVariants as fault
-use Rattle.saphyr_scanner.specs.Grammar.Forest.{Handle, handle_bytes, Directive, Version, TagPrefix, Reserved, GoesWith, GoesWithAll, AreCompatible}
+use Rattle.saphyr_scanner.specs.Grammar.Forest.{Handle, handle_bytes, Directive, Version, TagPrefix, Reserved, GoesWithAll, AreCompatible}
 use Rattle.saphyr_scanner.specs.Grammar.Tokens as tokens
 use Rattle.saphyr_scanner.specs.Grammar.Tokens.{Kind, directive_token}
 use Rattle.saphyr_scanner.specs.Views.Tokens.{Piece}
@@ -19,40 +13,7 @@ use Rattle.saphyr_machine.specs.Steps.Machine.{◌>>=◌, Machine, with_meaning,
 use Rattle.saphyr_machine.specs.Steps.Documents.{Declared, is_directive, with_handle, directive_at, directives_from}
 use Rattle.event_laws.specs.WellFormed.{IsWellFormed, AreWellFormed}
 use Rattle.event_laws.proofs.Remembering.{declaring}
-use Rattle.event_laws.proofs.NameLaws.{listed_test}
-use Rattle.event_laws.proofs.DirectivesPass.{IsFree, AreFree, declared_by}
-use Rattle.std.proofs.lemmas.Bool.{or_parts}
-
--- ## Directives that may be together
-
-was_unlisted : (name other : List ℕ) (names : List (List ℕ)) → is_listed name (with_name other names) ≡ false
-    → (other ≢ name) × (is_listed name names ≡ false)
-was_unlisted name other names h =
-    let both : (is_at (slice_cmp nat_cmp name) other ≡ false) × (is_listed name names ≡ false) =
-    or_parts (is_at (slice_cmp nat_cmp name) other) (is_listed name names)
-    (sym (listed_test name other names) ∙ h) in
-    let differ : bytes_eq name other ≡ false = sym (is_eq-slice_cmp name other) ∙ both.0 in (
-      (λ e. let same : bytes_eq name other ≡ true =
-          (bytes_eq-Decides name other).1 (sym e) in let no_way : true ≡ false = sym same ∙ differ in cc),
-      both.1,
-    )
-
-was_free : (x y : Directive) (d : Declared) → IsFree (declared_by x d) y → GoesWith x y × IsFree d y
-was_free (Version _ _) (Version _ _) d h = absurd (cc)
-was_free (Version _ _) (TagPrefix _ _) d h = (tt, h)
-was_free (TagPrefix a _) (TagPrefix b _) d h = was_unlisted (handle_bytes b) (handle_bytes a) d.handles h
-was_free (TagPrefix _ _) (Version _ _) d h = (tt, h)
-was_free (Reserved _) y d h = (tt, h)
-was_free (Version _ _) (Reserved _) d h = (tt, tt)
-was_free (TagPrefix _ _) (Reserved _) d h = (tt, tt)
-
-all_were_free : (x : Directive) (ys : List Directive) (d : Declared) → AreFree (declared_by x d) ys
-    → GoesWithAll x ys × AreFree d ys
-all_were_free x [] d h = (tt, tt)
-all_were_free x (y ∷ ys) d h =
-    let one : GoesWith x y × IsFree d y = was_free x y d h.0 in
-    let others : GoesWithAll x ys × AreFree d ys = all_were_free x ys d h.1 in
-    ((one.0, others.0), (one.1, others.1))
+use Rattle.event_laws.proofs.DirectivesPass.{IsFree, AreFree, declared_by, all_free_behind}
 
 -- ## What was passed
 
@@ -96,7 +57,7 @@ one_more_directive : (x : Directive) (t : Piece) (ts : List Piece) (d : Declared
     → PassedBy ts (declared_by x d) n r → PassedBy (t ∷ ts) d m r
 one_more_directive x t ts d m n (Err f) k free same h = tt
 one_more_directive x t ts d m n (Ok y) k free same h =
-    let others : GoesWithAll x h.directives × AreFree d h.directives = all_were_free x h.directives d h.free in
+    let others : GoesWithAll x h.directives × AreFree d h.directives = (all_free_behind x h.directives d).0 h.free in
     record {
       directives = x ∷ h.directives;
       used = t ∷ h.used;

@@ -1,0 +1,26 @@
+-- Parts without aliases, anchors and tags: whatever comes before them, they have events.
+use Rattle.std.proofs.Common.{◌≡◌, List, [], ◌∷◌, None, option_map, encode_utf8_all, refl, ap, ◌∙◌}
+use Rattle.saphyr_scanner.specs.Grammar.Forest.{Properties, no_properties}
+use Rattle.event_laws.specs.Anchors.{one_more_anchor, anchor_of, anchors}
+use Rattle.event_laws.specs.Preorder.{Part, Reference, Leaf, OpenSequence, OpenMapping}
+
+abbrev pub IsBarePart : Part → Type 0
+IsBarePart (Reference _) = ⊥
+IsBarePart (Leaf p _ _) = p ≡ no_properties
+IsBarePart (OpenSequence p) = p ≡ no_properties
+IsBarePart (OpenMapping p) = p ≡ no_properties
+IsBarePart _ = Unit {0}
+
+abbrev pub AreBare : List Part → Type 0
+AreBare [] = Unit {0}
+AreBare (p ∷ ps) = IsBarePart p × AreBare ps
+
+no_anchor : (p : Part) → IsBarePart p → anchor_of p ≡ None
+no_anchor (Leaf p s v) h = ap (λ (q : Properties). option_map encode_utf8_all q.anchor) h
+no_anchor (OpenSequence p) h = ap (λ (q : Properties). option_map encode_utf8_all q.anchor) h
+no_anchor (OpenMapping p) h = ap (λ (q : Properties). option_map encode_utf8_all q.anchor) h
+no_anchor _ h = refl
+
+pub bare_anchors : (ps : List Part) → AreBare ps → anchors ps ≡ 0
+bare_anchors [] h = refl
+bare_anchors (p ∷ ps) h = ap (λ o. one_more_anchor o (anchors ps)) (no_anchor p h.0) ∙ bare_anchors ps h.1
