@@ -2,7 +2,6 @@
 pub mod States
 pub mod Tabs
 pub mod Quotes
-pub mod ScalarsOnLine
 pub mod OnLine
 pub mod KeyLines
 pub mod KeyTokens

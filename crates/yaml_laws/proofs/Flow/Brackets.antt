@@ -23,7 +23,7 @@ use Rattle.saphyr_scanner.specs.Steps.Flow as flow
 use Rattle.saphyr_scanner.specs.Steps.Flow.{close_collection, behind_pair, next_flow_entry}
 use Rattle.saphyr_scanner.specs.Steps.Fetch.{step}
 use Rattle.saphyr_scanner.specs.Limits.{most_open}
-use Rattle.yaml_laws.proofs.InFlow.States.{Around, core_at, state_at, Calm, placed_right, opening_steps_open, open_collection_gives, close_collection_gives, deepened, bracket_deepens, as_before, FlowMoment, moment, moment_with, required_at, moment_in}
+use Rattle.yaml_laws.proofs.InFlow.States.{Around, core_at, state_at, Calm, placed_right, opening_steps_open, open_collection_gives, close_collection_gives, deepened, FlowMoment, moment, moment_with, required_at, moment_in}
 use Rattle.yaml_laws.proofs.Flow.States.{IsFresh, Since, moved, past, IsClear, IsInk, IsParted, Known, fresh_key, PassesPiece, FitsAround, StandsBefore, key_behind}
 use Rattle.yaml_laws.proofs.Flow.Places.{moved_index, right_one, clear_here}
 use Rattle.yaml_laws.proofs.Flow.GapSteps.{past_ink, past_low, less_on}
@@ -107,7 +107,7 @@ open_passes around y in_flow kind ch mark begins m o fits parted now low calm be
     let new = token_place m p.there.mark kind ∷ [] in
     let next = moment p.there y None (level_of now.context key ∷ now.outer) true now.adjacent now.places in
     let came = step_comes around now m (ch ∷ o) v (mark_begins m ch o mark fits.clear) None (moment_with new next)
-    (from_to m p.there.mark kind ∷ []) (deepened around now.context) (bracket_deepens around now.context)
+    (from_to m p.there.mark kind ∷ []) (deepened around now.context)
     stepped refl (within_index around.indent around.limit p.there (along m 1) o p.lands (omega (arith, below))) in (
       key,
       saved_so now.context now.allowed v.allowed (length now.places) m now.key v.key v.same,
@@ -217,7 +217,7 @@ close_passes around y flows ends kind ch mark begins m o fits found there is lan
     let next = moment there x j ls false (cond (is_block x) now.adjacent there.mark.index) now.places in
     let came = step_comes around inside m (ch ∷ o) v (mark_begins m ch o mark fits.clear) None (moment_with new next)
     (behind_pair ends m (from_to m there.mark kind)) (λ d. d)
-    (as_before around) stepped (mark_puts ends now.places m there.mark kind)
+    stepped (mark_puts ends now.places m there.mark kind)
     (within_index around.indent around.limit there (along m 1) o lands (omega (arith, below))) in
     let here = mark_moved m ch mark in
     step_passes next new (moved m (ch ∷ [])) o (pending ends ++ kind ∷ [])
@@ -305,7 +305,7 @@ comma_passes around y flows m o fits parted now before text =
     let next = moment p.there (behind_entry y) None now.outer true now.adjacent now.places in
     let came = step_comes around (moment_in y now) m (44 ∷ o) v (mark_begins m 44 o comma_is_mark fits.clear) None
     (moment_with new next) (behind_pair (ends_pair y) m
-    (from_to m p.there.mark tokens.FlowEntry)) (λ d. d) (as_before around) stepped
+    (from_to m p.there.mark tokens.FlowEntry)) (λ d. d) stepped
     (mark_puts (ends_pair y) now.places m p.there.mark tokens.FlowEntry)
     (within_index around.indent around.limit p.there (along m 1) o p.lands (omega (arith, below))) in
     step_passes next new (moved m (44 ∷ [])) o (pending (ends_pair y)

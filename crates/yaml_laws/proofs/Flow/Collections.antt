@@ -63,16 +63,16 @@ ends_inside indent x m o flow h right =
       fresh = fresh_in_flow x o false p.there flow;
     }
 
-pub ends_root : (indent : ℕ) (m e : Marker) (o : List ℕ) → IsBehindRoot indent e o → indent ≤ m.col
-    → EndsAt indent context.Block m o
-ends_root indent m e o h right =
+pub ends_root : (around : Around) (m e : Marker) (o : List ℕ) → IsBehindRoot around e o → around.indent ≤ m.col
+    → EndsAt around.indent context.Block m o
+ends_root around m e o h right =
     let p = separates_rest (cursor_at o (along m 1) false) h.rest h.more h.is h.line h.break in
     record {
       found = p.0;
       there = record { rest = h.more; mark = moved (along m 1) h.rest; blank_so_far = false };
       is = p.1;
-      lands = sym (ap (past indent (along m 1)) h.is
-          ∙ rest_past indent (along m 1) h.rest h.more h.line h.break (le_next indent m.col right));
+      lands = sym (ap (past around.indent (along m 1)) h.is
+          ∙ rest_past around.indent (along m 1) h.rest h.more h.line h.break (le_next around.indent m.col right));
       fresh = λ _ e. line_rest_crosses h.rest h.more h.line h.break (ap crosses (sym h.is) ∙ e);
     }
 

@@ -86,10 +86,10 @@ ClosesContent around style value t o m =
     (scalar_token style value ∷ [])
 
 quotes_close : ReaderPromises → (around : Around) (quote : Quote) (value t o : List ℕ) (m : Marker)
-    → IsQuoted quote around.indent value t → FitsAround around m t o → IsBehindRoot around.indent (moved m t) o
+    → IsQuoted quote around.indent value t → FitsAround around m t o → IsBehindRoot around (moved m t) o
     → ClosesContent around (style_of_quote quote) value t o m
 quotes_close reads around quote value t o m h fits behind now before text =
-    let apart = white_apart (slice_index o 0) (root_first around.indent (moved m t) o behind) in
+    let apart = white_apart (slice_index o 0) (root_first around (moved m t) o behind) in
     let q = quoted_passes reads around quote value t o m h fits apart (root_moment now)
     (root_ends_quotes around m (moved m t) o behind
     (quoted_right around.indent quote m value t o h fits.clear fits.right)) text in
@@ -110,7 +110,7 @@ plains_pass reads around p value t o m h fits behind now flow low text =
     ∙ past_ink around.indent (moved (moved m t) behind.separation) behind.first behind.others ink.0 in
     let inked = ap (λ (z : Marker × List ℕ). is_blank (slice_index z.1 0)) lands ∙ ink.0.blank in
     let q = plain_passes reads around t o m h.0 fits
-    (ends_in_flow around.indent node (moved m t) o (λ w. refl) behind right) inked now flow low text in
+    (ends_in_flow around node (moved m t) o (λ w. refl) behind right) inked now flow low text in
     subst (λ (v : List ℕ). PassesPiece around (state_at around now)
     (after_node around.indent now.context (key_behind now m) node (moved m t) o) now.context now.outer now.places
     (moved m t) o (scalar_token Plain v ∷ [])) (sym h.1)
@@ -134,7 +134,7 @@ key_content_passes reads around p value t r m stands h fits behind now flow low 
     let node = Scalar p Plain value in
     let right = key_right true around.indent m t r h fits.clear fits.right in
     let q = plain_key_passes reads around t r m h fits
-    (ends_in_flow around.indent node (moved m t) (58 ∷ r) (λ w. refl) behind right) now flow low text in
+    (ends_in_flow around node (moved m t) (58 ∷ r) (λ w. refl) behind right) now flow low text in
     subst (λ (v : List ℕ). PassesPiece around (state_at around now)
     (after_node around.indent now.context (key_behind now m) node (moved m t) (58 ∷ r)) now.context now.outer
     now.places (moved m t) (58 ∷ r) (scalar_token Plain v ∷ [])) (sym stands)
@@ -151,13 +151,13 @@ key_content_passes reads around p value t r m stands h fits behind now flow low 
 
 plains_close : ReaderPromises → (around : Around) (value t o : List ℕ) (m : Marker)
     → IsFlowScalar Plain value false around.indent t → FitsAround around m t o
-    → IsBehindRoot around.indent (moved m t) o
+    → IsBehindRoot around (moved m t) o
     → ClosesContent around Plain value t o m
 plains_close reads around value t o m h fits behind now before text =
     let right = plain_right false around.indent m t o h.0 fits.clear fits.right in
     let end = past around.indent (moved m t) o in
-    let q = plain_closes reads around t o m h.0 fits (ends_at_root around.indent (moved m t) o behind right)
-    (lands_on_ink around.indent end.0 end.1 (behind.lands right)) now before text in
+    let q = plain_closes reads around t o m h.0 fits (ends_at_root around (moved m t) o behind right)
+    (lands_on_ink around.column end.0 end.1 (behind.lands right)) now before text in
     subst (λ (v : List ℕ). Closes around (state_at around (root_moment now)) now.key m t now.places (moved m t) o
     (scalar_token Plain v ∷ [])) (sym h.1) q
 
@@ -178,7 +178,7 @@ content_passes reads around p Folded value t o m h fits behind = absurd h
 
 pub content_closes : ReaderPromises → (around : Around) (style : Style) (value t o : List ℕ) (m : Marker)
     → IsFlowScalar style value false around.indent t → FitsAround around m t o
-    → IsBehindRoot around.indent (moved m t) o → ClosesContent around style value t o m
+    → IsBehindRoot around (moved m t) o → ClosesContent around style value t o m
 content_closes reads around Plain value t o m h fits behind = plains_close reads around value t o m h fits behind
 content_closes reads around SingleQuoted value t o m h fits behind =
     quotes_close reads around Single value t o m h fits behind

@@ -10,6 +10,7 @@ use Rattle.saphyr_scalar.specs.Spelling.Tag.{AreIn, EndsTag}
 use Rattle.scalar_laws.specs.Spelling.Spaces.{joined_pieces, AreEach, IsCommentBehind, IsSeparationLine, IsSeparation, IsLineRest}
 use Rattle.saphyr_scanner.specs.Grammar.Forest.{Node}
 use Rattle.yaml_laws.specs.Grammar.FlowNodes.{needs_separation, IsBeforeColon}
+use Rattle.yaml_laws.proofs.InFlow.States.{Around}
 use Rattle.yaml_laws.proofs.Flow.States.{EndsNode, IsBehindNode, IsBehindRoot}
 use Rattle.std.proofs.lemmas.Bool.{or_left}
 
@@ -66,9 +67,9 @@ first_white [] h = refl
 first_white (c ∷ cs) h = white_breakz c h
 
 -- after a document's node: a blank, a break or the end
-pub root_first : (indent : ℕ) (m : Marker) (o : List ℕ) → IsBehindRoot indent m o
+pub root_first : (around : Around) (m : Marker) (o : List ℕ) → IsBehindRoot around m o
     → IsTrue (is_blank_or_breakz (slice_index o 0))
-root_first indent m o h =
+root_first around m o h =
     first_white o (subst BeginsWhite (sym h.is) (rest_white h.rest h.more h.line (ends h.more h.break)))
   where
     feed : (c : ℕ) → c ≡ line_feed → IsTrue (is_blank_or_break c)

@@ -22,7 +22,7 @@ use Rattle.saphyr_scanner.specs.Steps.Fetch.{step}
 use Rattle.saphyr_scanner.proofs.LineTexts.{name_no_break, tag_no_break}
 use Rattle.yaml_laws.specs.Grammar.TagSpelling.{IsTag}
 use Rattle.yaml_laws.specs.Grammar.FlowNodes.{IsAnchor, IsAlias}
-use Rattle.yaml_laws.proofs.InFlow.States.{Around, core_at, Placed, placed_right, saves_key, as_before, FlowMoment}
+use Rattle.yaml_laws.proofs.InFlow.States.{Around, core_at, Placed, placed_right, saves_key, FlowMoment}
 use Rattle.yaml_laws.proofs.Flow.States.{moved, ReaderPromises, FitsAround, StandsBefore}
 use Rattle.yaml_laws.proofs.Flow.Places.{moved_along, right_along}
 use Rattle.yaml_laws.proofs.Flow.Tokens.{token_passes, PassesToken}
@@ -137,7 +137,6 @@ name_passes reads around token_of indicator name t o m begins start break h is e
       allowed = false;
       adjacent = now.adjacent;
       to = λ d. d;
-      deepens = as_before around;
       is = λ d. begins (slice_index (name ++ o) 0) (length now.places)
           (core_at around d (cursor_at (indicator ∷ (name ++ o)) m b) now.context j now.outer e now.adjacent)
           ∙ name_step reads around d token_of (length now.places) m b indicator name o break h ends now.context j
@@ -214,7 +213,6 @@ tag_passes reads around tag t o m h fits now ends text =
       allowed = false;
       adjacent = now.adjacent;
       to = λ d. d;
-      deepens = as_before around;
       is = λ d. let c = core_at around d (cursor_at (t ++ o) m b) now.context j now.outer e now.adjacent in
           ap (λ (i : ℕ). step i second n c) at_first ∙ begins_tag second n c
           ∙ tag_step reads around d n m b t r.handle r.suffix o r.is now.context j now.outer e now.adjacent ends

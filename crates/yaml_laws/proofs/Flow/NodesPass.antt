@@ -57,14 +57,14 @@ all_room = omega arith
 collection_closes : {around : Around} {node : Node} {p : Properties} {b : Brackets} {Text : ℕ → List ℕ → Type 0}
     {Are : List Kind → Type 0} → ReaderPromises → ReadsCollection around node p b Text Are → around.required ≡ false
     → (m : Marker) (t o : List ℕ) → IsBracketText b Text p most_open around.indent t → FitsAround around m t o
-    → IsBehindRoot around.indent (moved m t) o → (now : FlowMoment)
+    → IsBehindRoot around (moved m t) o → (now : FlowMoment)
     → now.adjacent ≤ (past around.indent m (t ++ o)).0.index → StandsBefore around now m (t ++ o)
     → RootCloses around now node m t o
 collection_closes {around} {node} {b = b} reads collection none_required m t o h fits behind now before text =
     let low = start_low around.indent now.adjacent m t o
     (node_ink around.indent most_open node false t (collection.is_node most_open false t h)) before in
     let c = collection_run reads collection most_open m t o h fits (root_moment now)
-    (λ e right. ends_root around.indent e (moved m t) o behind right) all_room
+    (λ e right. ends_root around e (moved m t) o behind right) all_room
     (calm_at_root around fits.calm none_required) low text in
     record {
       tokens = c.properties ++ (b.opens ∷ (c.inside ++ b.closes ∷ []));

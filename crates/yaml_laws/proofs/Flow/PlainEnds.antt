@@ -14,7 +14,8 @@ use Rattle.saphyr_scanner.specs.Grammar.Forest.{Node}
 use Rattle.yaml_laws.specs.Grammar.FlowNodes.{allows_adjacent}
 use Rattle.yaml_laws.proofs.Flow.States.{past, moved, IsInk, EndsDocument, IsLeft, ends_colon, EndsNode, IsBehindNode, IsBehindRoot}
 use Rattle.yaml_laws.proofs.Flow.GapSteps.{past_ink, no_left}
-use Rattle.yaml_laws.proofs.InFlow.Tabs.{lands_on_ink, tabs_behind, broke_or_right}
+use Rattle.yaml_laws.proofs.InFlow.States.{Around, in_column}
+use Rattle.yaml_laws.proofs.InFlow.Tabs.{lands_on_ink, tabs_behind_low, broke_or_right}
 use Rattle.yaml_laws.proofs.Flow.Fillers.{white_past, separation_past}
 use Rattle.yaml_laws.proofs.Flow.Ends.{EndsHere, behind_node_first, root_first}
 use Rattle.yaml_laws.proofs.Flow.Quotes.{ends_node_ink}
@@ -128,27 +129,27 @@ ends_no_sign node c h e = absurd (by_end (subst (EndsHere node) e h))
     by_end (inr (inr (inr (inl k)))) = omega (arith, k)
     by_end (inr (inr (inr (inr k)))) = omega (arith, k.0)
 
-pub ends_in_flow : (column : ℕ) (node : Node) (m : Marker) (o : List ℕ) → ParsColon node → IsBehindNode column node o
-    → column ≤ m.col → EndsPlain true column m o
-ends_in_flow column node m o apart h right =
+pub ends_in_flow : (around : Around) (node : Node) (m : Marker) (o : List ℕ) → ParsColon node
+    → IsBehindNode around.indent node o → around.indent ≤ m.col → EndsPlain true around.column m o
+ends_in_flow around node m o apart h right =
     record {
-      stops = stops (reaches column m o inked);
-      apart = ends_no_sign node (slice_index o 0) (behind_node_first column node o h);
-      tabs = tabs_behind column m m false o inked;
+      stops = stops (reaches around.indent m o inked);
+      apart = ends_no_sign node (slice_index o 0) (behind_node_first around.indent node o h);
+      tabs = tabs_behind_low around.column around.indent around.low m m false o inked;
     }
   where
     ink : IsInk h.first
     ink = (ends_node_ink node h.separation h.others h.first h.ends).0
 
-    lands : past column m o ≡ (moved m h.separation, h.first ∷ h.others)
-    lands = ap (past column m) h.is ∙ separation_past column m h.separation (h.first ∷ h.others) h.parts right
-        ∙ past_ink column (moved m h.separation) h.first h.others ink
+    lands : past around.indent m o ≡ (moved m h.separation, h.first ∷ h.others)
+    lands = ap (past around.indent m) h.is ∙ separation_past around.indent m h.separation (h.first ∷ h.others) h.parts right
+        ∙ past_ink around.indent (moved m h.separation) h.first h.others ink
 
-    inked : is_blank (slice_index (past column m o).1 0) ≡ false
+    inked : is_blank (slice_index (past around.indent m o).1 0) ≡ false
     inked = ap (λ (z : Marker × List ℕ). is_blank (slice_index z.1 0)) lands ∙ ink.blank
 
-    stops : Reaches column m o (past_white m false o).mark (past_white m false o).rest
-        → StopsPlain true column (past_white m false o)
+    stops : Reaches around.indent m o (past_white m false o).mark (past_white m false o).rest
+        → StopsPlain true around.column (past_white m false o)
     stops (inl e) = inl (no_word true (past_white m false o).rest e)
     stops (inr (inl e)) = inr (inl e)
     stops (inr (inr e)) = inl (subst (λ (r : List ℕ). is_in_word true r ≡ false)
@@ -156,17 +157,17 @@ ends_in_flow column node m o apart h right =
         (word_stops node h.separation h.first h.others apart h.ends))
 
 -- outside flow
-pub ends_at_root : (column : ℕ) (m : Marker) (o : List ℕ) → IsBehindRoot column m o → column ≤ m.col
-    → EndsPlain false column m o
-ends_at_root column m o h right =
+pub ends_at_root : (around : Around) (m : Marker) (o : List ℕ) → IsBehindRoot around m o → around.indent ≤ m.col
+    → EndsPlain false around.column m o
+ends_at_root around m o h right =
     record {
-      stops = stops (reaches column m o inked) (h.lands right);
-      apart = other (slice_index o 0) (root_first column m o h);
-      tabs = tabs_behind column m m false o inked;
+      stops = stops (reaches around.indent m o inked) (h.lands right);
+      apart = other (slice_index o 0) (root_first around m o h);
+      tabs = tabs_behind_low around.column around.indent around.low m m false o inked;
     }
   where
-    inked : is_blank (slice_index (past column m o).1 0) ≡ false
-    inked = lands_on_ink column (past column m o).0 (past column m o).1 (h.lands right)
+    inked : is_blank (slice_index (past around.indent m o).1 0) ≡ false
+    inked = lands_on_ink around.column (past around.indent m o).0 (past around.indent m o).1 (h.lands right)
 
     other : (c : ℕ) → IsTrue (is_blank_or_breakz c) → c ≢ number_sign
     other c k e = absurd (false≢true (subst (λ (d : ℕ). IsTrue (is_blank_or_breakz d)) e k))
@@ -174,15 +175,15 @@ ends_at_root column m o h right =
     low : (a b c : ℕ) → a ≤ b → b < c → c ≤ a → ⊥
     low a b c h k g = absurd (omega (arith, h, k, g))
 
-    broke : (n : Marker) → n ≡ (past column m o).0 → (past column m o).0.col < column
+    broke : (n : Marker) → n ≡ (past around.indent m o).0 → (past around.indent m o).0.col < around.column
         → ((past_white m false o).blank_so_far ≡ true) ⊎ (m.col ≤ n.col) → IsTrue (past_white m false o).blank_so_far
     broke n e left (inl k) = k
     broke n e left (inr k) =
-        absurd (low m.col n.col column k (subst (λ (z : Marker). z.col < column) (sym e) left) right)
+        absurd (low m.col n.col around.column k (subst (λ (z : Marker). z.col < around.column) (sym e) left) (in_column around m.col right))
 
-    stops : Reaches column m o (past_white m false o).mark (past_white m false o).rest
-        → EndsDocument (past column m o).0 (past column m o).1 ⊎ IsLeft column (past column m o).0 (past column m o).1
-        → StopsPlain false column (past_white m false o)
+    stops : Reaches around.indent m o (past_white m false o).mark (past_white m false o).rest
+        → EndsDocument (past around.indent m o).0 (past around.indent m o).1 ⊎ IsLeft around.column (past around.indent m o).0 (past around.indent m o).1
+        → StopsPlain false around.column (past_white m false o)
     stops (inl e) k = inl (no_word false (past_white m false o).rest e)
     stops (inr (inl e)) k = inr (inl e)
     stops (inr (inr e)) (inl (inl k)) = inl (no_word false (past_white m false o).rest (e.1 ∙ k))
@@ -193,11 +194,11 @@ ends_at_root column m o h right =
           subst (λ (r : List ℕ). IsTrue (is_document_indicator r)) (sym e.1) k,
         )))
     stops (inr (inr e)) (inl (inr (col, inr k))) =
-        inl (subst (λ (r : List ℕ). is_in_word false r ≡ false) (sym e.1) (mark_no_word (past column m o).1 k))
+        inl (subst (λ (r : List ℕ). is_in_word false r ≡ false) (sym e.1) (mark_no_word (past around.indent m o).1 k))
     stops (inr (inr e)) (inr k) =
         inr (inr (inr (
           refl,
           broke (past_white m false o).mark e.0 k.left (broke_or_right m o),
           subst
-              (λ (z : Marker). z.col < column) (sym e.0) k.left,
+              (λ (z : Marker). z.col < around.column) (sym e.0) k.left,
         )))

@@ -21,7 +21,8 @@ use Rattle.saphyr_scanner.specs.Steps.Scalar as scalar
 use Rattle.saphyr_scanner.specs.Steps.Scalar.{read_plain, disallow_key, behind_plain}
 use Rattle.saphyr_scanner.specs.Steps.Fetch.{step, is_value_adjacent}
 use Rattle.yaml_laws.specs.Grammar.FlowScalars.{begins_plain, IsPlain, IsPlainKey}
-use Rattle.yaml_laws.proofs.InFlow.States.{Around, core_at, state_at, Placed, placed_right, plain_placed, saves_key, none_deeper, FlowMoment, moment, moment_with, root_moment}
+use Rattle.yaml_laws.proofs.InFlow.States.{Around, core_at, state_at, Placed, placed_right, plain_placed, saves_key, FlowMoment, moment, moment_with, root_moment}
+use Rattle.yaml_laws.proofs.InFlow.OnLine.{plain_lowers, plain_key_lowers}
 use Rattle.yaml_laws.proofs.Flow.States.{moved, past, IsClear, ReaderPromises, Closes, FitsAround, StandsBefore}
 use Rattle.yaml_laws.proofs.Flow.Joins.{step_passes}
 use Rattle.yaml_laws.proofs.Flow.Places.{moved_count}
@@ -215,13 +216,13 @@ found indent f o end v = Ok (
 )
 
 plain_read : ReaderPromises → (around : Around) (d : Bool) (n : ℕ) (m : Marker) (b : Bool) (t o : List ℕ) (x : Context)
-    → IsPlainText (not (is_block x)) around.indent m t o → IsClear m t o
+    → IsPlainText (not (is_block x)) around.column m t o → IsClear m t o
     → (k : Option Candidate) (ls : List Level) (a : Bool) (ad : ℕ) → Placed around x a m
     → let u = past_white (moved m t) false o in scalar.plain_steps n
     (core_at around d (cursor_at (t ++ o) m b) x k ls a ad)
     ≡ completed_step (from_to m (moved m t) (plain_token t) ∷ [])
     (record (core_at around false u x (saved a n m k) ls u.blank_so_far ad)
-    { comment = comment_of (not (is_block x)) (is_tabbed around.indent o) u })
+    { comment = comment_of (not (is_block x)) (is_tabbed around.column o) u })
 unfolding scalar.plain_steps read_plain
 plain_read reads around d n m b t o x h clear k ls a ad placed =
     let s = cursor_at (t ++ o) m b in
@@ -230,10 +231,10 @@ plain_read reads around d n m b t o x h clear k ls a ad placed =
     let token = λ (z : List ℕ × Marker × Option Marker × Cursor). completed_step
     (from_to m z.1 (tokens.Scalar Plain z.0) ∷ [])
     (behind_plain z.2 z.3 c) in
-    let refused : (f && nat_lt m.col around.indent) ≡ false = plain_placed around x a m placed in
-    let got = reads.plain f around.indent s t o refl h
-    ∙ ap (λ (end : Marker). found around.indent f o end (normalized t)) (passed_moved m t clear.no_return)
-    ∙ ap (found around.indent f o (moved m t)) (normalized_same t clear.no_return) in
+    let refused : (f && nat_lt m.col around.column) ≡ false = plain_placed around x a m placed in
+    let got = reads.plain f around.column s t o refl h
+    ∙ ap (λ (end : Marker). found around.column f o end (normalized t)) (passed_moved m t clear.no_return)
+    ∙ ap (found around.column f o (moved m t)) (normalized_same t clear.no_return) in
     ap (λ (q : Core). read_plain (record (disallow_key q) { deeper = false }))
     (saves_key n around d s x k ls a ad placed) ∙ rw refused (ap (λ q. q >>= token) got)
 
@@ -267,14 +268,14 @@ plain_dispatches around d s n t o x w k ls a ad low =
 -- The premises of a step over a plain scalar: outside flow, or where no colon may come at once.
 pub plain_step : ReaderPromises → (around : Around) (d : Bool) (n : ℕ) (m : Marker) (b : Bool) (t o : List ℕ)
     (x : Context)
-    → BeginsWord (not (is_block x)) t o → IsPlainText (not (is_block x)) around.indent m t o → IsClear m t o
+    → BeginsWord (not (is_block x)) t o → IsPlainText (not (is_block x)) around.column m t o → IsClear m t o
     → (k : Option Candidate) (ls : List Level) (a : Bool) (ad : ℕ) → (is_block x ≡ true) ⊎ (ad < m.index)
     → Placed around x a m
     → let u = past_white (moved m t) false o in
     step (slice_index (t ++ o) 0) (slice_index (t ++ o) 1) n (core_at around d (cursor_at (t ++ o) m b) x k ls a ad)
     ≡ completed_step (from_to m (moved m t) (plain_token t) ∷ [])
     (record (core_at around false u x (saved a n m k) ls u.blank_so_far ad)
-    { comment = comment_of (not (is_block x)) (is_tabbed around.indent o) u })
+    { comment = comment_of (not (is_block x)) (is_tabbed around.column o) u })
 plain_step reads around d n m b t o x begins text clear k ls a ad low placed =
     plain_dispatches around d (cursor_at (t ++ o) m b) n t o x begins k ls a ad low
     ∙ plain_read reads around d n m b t o x text clear k ls a ad placed
@@ -287,7 +288,7 @@ no_comment f t u e = rw e refl
 
 -- a text that is read as a plain scalar is passed
 pub text_passes : ReaderPromises → (around : Around) (t o : List ℕ) (m : Marker) → BeginsWord true t o
-    → IsPlainText true around.indent m t o → FitsAround around m t o → around.indent ≤ (moved m t).col
+    → IsPlainText true around.column m t o → FitsAround around m t o → around.indent ≤ (moved m t).col
     → is_blank (slice_index (past around.indent (moved m t) o).1 0) ≡ false
     → (now : FlowMoment) → is_block now.context ≡ false → now.adjacent < m.index → StandsBefore around now m (t ++ o)
     → PassesToken around (adjacent_at now.adjacent) now m t o (scalar_token Plain (plain_value t))
@@ -296,8 +297,8 @@ text_passes reads around t o m begins plain fits right inked now flow low text =
     let u = past_white (moved m t) false o in
     let word : BeginsWord (not (is_block now.context)) t o = subst (λ (f : Bool). BeginsWord f t o) (sym inside)
     begins in
-    let is_text : IsPlainText (not (is_block now.context)) around.indent m t o =
-    subst (λ (f : Bool). IsPlainText f around.indent m t o) (sym inside) plain in
+    let is_text : IsPlainText (not (is_block now.context)) around.column m t o =
+    subst (λ (f : Bool). IsPlainText f around.column m t o) (sym inside) plain in
     token_passes around (adjacent_at now.adjacent) (plain_token t) t o m (token_begins true t o begins) fits right now
     text (λ b j e. record {
       there = u;
@@ -305,37 +306,38 @@ text_passes reads around t o m begins plain fits right inked now flow low text =
       allowed = u.blank_so_far;
       adjacent = now.adjacent;
       to = λ d. false;
-      deepens = none_deeper around;
       is = λ d. plain_step reads around d (length now.places) m b t o now.context word is_text fits.clear j now.outer e
           now.adjacent (inr low) (placed_right now.context e fits.calm fits.right)
           ∙ ap (λ (q : Option Marker). completed_step (from_to m (moved m t) (plain_token t) ∷ [])
           (record (core_at around false u now.context (saved e (length now.places) m j) now.outer u.blank_so_far
           now.adjacent) { comment = q }))
-          (no_comment (not (is_block now.context)) (is_tabbed around.indent o) u inside);
+          (no_comment (not (is_block now.context)) (is_tabbed around.column o) u inside);
       fits = white_past around.indent (moved m t) false o inked;
       fresh = λ _ e. white_crosses (moved m t) false o e;
       tells = refl;
     })
 
 pub plain_passes : ReaderPromises → (around : Around) (t o : List ℕ) (m : Marker) → IsPlain true around.indent t
-    → FitsAround around m t o → EndsPlain true around.indent (moved m t) o
+    → FitsAround around m t o → EndsPlain true around.column (moved m t) o
     → is_blank (slice_index (past around.indent (moved m t) o).1 0) ≡ false
     → (now : FlowMoment) → is_block now.context ≡ false → now.adjacent < m.index → StandsBefore around now m (t ++ o)
     → PassesToken around (adjacent_at now.adjacent) now m t o (scalar_token Plain (plain_value t))
 plain_passes reads around t o m h fits ends inked =
     text_passes reads around t o m (word_begins true around.indent t o h)
-    (plain_text true around.indent m t o h fits.clear ends) fits
+    (plain_text true around.column m t o (plain_lowers around.indent around.column around.low true t h) fits.clear ends)
+    fits
     (plain_right true around.indent m t o h fits.clear fits.right) inked
 
 -- a key is passed, up to its colon
 pub plain_key_passes : ReaderPromises → (around : Around) (t r : List ℕ) (m : Marker) → IsPlainKey true around.indent t
-    → FitsAround around m t (58 ∷ r) → EndsPlain true around.indent (moved m t) (58 ∷ r)
+    → FitsAround around m t (58 ∷ r) → EndsPlain true around.column (moved m t) (58 ∷ r)
     → (now : FlowMoment) → is_block now.context ≡ false → now.adjacent < m.index → StandsBefore around now m
     (t ++ (58 ∷ r))
     → PassesToken around (adjacent_at now.adjacent) now m t (58 ∷ r) (scalar_token Plain (plain_value t))
 plain_key_passes reads around t r m h fits ends =
     text_passes reads around t (58 ∷ r) m (key_begins true around.indent t r h)
-    (key_text true around.indent m t r h fits.clear ends) fits
+    (key_text true around.column m t r (plain_key_lowers around.indent around.column around.low true t h) fits.clear
+    ends) fits
     (key_right true around.indent m t r h fits.clear fits.right)
     (ap (λ (z : Marker × List ℕ). is_blank (slice_index z.1 0))
     (past_ink around.indent (moved m t) 58 r (start_ink 58 refl)))
@@ -343,7 +345,7 @@ plain_key_passes reads around t r m h fits ends =
 -- ## A document's node
 
 pub plain_closes : ReaderPromises → (around : Around) (t o : List ℕ) (m : Marker) → IsPlain false around.indent t
-    → FitsAround around m t o → EndsPlain false around.indent (moved m t) o
+    → FitsAround around m t o → EndsPlain false around.column (moved m t) o
     → is_blank (slice_index (past around.indent (moved m t) o).1 0) ≡ false
     → (now : FlowMoment) → now.adjacent ≤ m.index → StandsBefore around now m (t ++ o)
     → Closes around (state_at around (root_moment now)) now.key m t now.places (moved m t) o
@@ -359,14 +361,15 @@ plain_closes reads around t o m h fits ends inked now before text =
     let below = fits.below in
     let low = within_index around.indent around.limit u (moved m t) o lands (omega (arith, count, below)) in
     let new = token_place m (moved m t) (plain_token t) ∷ [] in
-    let comment = comment_of false (is_tabbed around.indent o) u in
+    let comment = comment_of false (is_tabbed around.column o) u in
     let next = moment u context.Block (saved v.allowed (length now.places) m v.key) [] u.blank_so_far now.adjacent
     now.places in
     let stepped = λ (d : Bool). plain_step reads around d (length now.places) m v.blank t o context.Block w
-    (plain_text false around.indent m t o h fits.clear ends) fits.clear v.key [] v.allowed now.adjacent (inl refl)
+    (plain_text false around.column m t o (plain_lowers around.indent around.column around.low false t h) fits.clear
+    ends) fits.clear v.key [] v.allowed now.adjacent (inl refl)
     (placed_right context.Block v.allowed fits.calm fits.right) in
     let came = step_comes around (root_moment now) m (t ++ o) v (begins_token m t o f fits.clear) comment
-    (moment_with new next) (from_to m (moved m t) (plain_token t) ∷ []) (λ d. false) (none_deeper around) stepped refl
+    (moment_with new next) (from_to m (moved m t) (plain_token t) ∷ []) (λ d. false) stepped refl
     low in
     record {
       comment = comment;

@@ -282,13 +282,13 @@ alias_passes reads around room name m p o h fits behind now before flow small te
 
 pub alias_closes : ReaderPromises → (around : Around) (name : List ℕ) (m : Marker) (p o : List ℕ)
     → yaml.IsFlowNode most_open (Alias name) false around.indent p → FitsAround around m p o
-    → IsBehindRoot around.indent (moved m p) o
+    → IsBehindRoot around (moved m p) o
     → (now : FlowMoment) → now.adjacent ≤ (past around.indent m (p ++ o)).0.index → StandsBefore around now m (p ++ o)
     → RootCloses around now (Alias name) m p o
 alias_closes reads around name m p o h fits behind now before text =
     let first = start_low around.indent now.adjacent m p o (node_ink around.indent most_open (Alias name) false p h)
     before in
-    let ends = tag_ends_name true o (white_ends_tag true o (root_first around.indent (moved m p) o behind)) in
+    let ends = tag_ends_name true o (white_ends_tag true o (root_first around (moved m p) o behind)) in
     let q = alias_token_passes reads around name p o m h ends fits (root_moment now) text in
     record {
       tokens = alias_token name ∷ [];

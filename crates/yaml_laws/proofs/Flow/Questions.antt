@@ -18,7 +18,7 @@ use Rattle.saphyr_scanner.specs.Steps.Block.{behind_mark, pass_question, begin_k
 use Rattle.saphyr_scanner.specs.Steps.Passing.{with_cursor}
 use Rattle.saphyr_scanner.specs.Steps.Fetch.{step}
 use Rattle.yaml_laws.specs.Grammar.FlowNodes.{has_tab_outside}
-use Rattle.yaml_laws.proofs.InFlow.States.{Around, core_at, state_at, as_before, moment, FlowMoment, moment_in, moment_with}
+use Rattle.yaml_laws.proofs.InFlow.States.{Around, core_at, state_at, moment, FlowMoment, moment_in, moment_with}
 use Rattle.yaml_laws.proofs.Flow.Places.{right_one}
 use Rattle.yaml_laws.proofs.Flow.States.{moved, past, IsInk, IsParted, no_key, PassesPiece, FitsAround, StandsBefore}
 use Rattle.yaml_laws.proofs.Flow.GapSteps.{past_ink}
@@ -131,7 +131,7 @@ mark_passes around y flows m o fits parted some tabs now before text =
     let new = token_place m n tokens.Key ∷ [] in
     let next = moment there (behind_question y) None now.outer false now.adjacent now.places in
     let came = step_comes around (moment_in y now) m (63 ∷ o) v (mark_begins m 63 o question fits.clear) None
-    (moment_with new next) (from_to m n tokens.Key ∷ []) (λ d. d) (as_before around) stepped refl
+    (moment_with new next) (from_to m n tokens.Key ∷ []) (λ d. d) stepped refl
     (within_index around.indent around.limit there (along m 1) o lands (omega (arith, below))) in
     step_passes next new (moved m (63 ∷ [])) o (tokens.Key ∷ [])
     (no_key (moved m (63 ∷ []))) came (right_one around.indent m 63 refl fits.right)

@@ -22,7 +22,7 @@ use Rattle.saphyr_scanner.specs.Steps.Scalar as scalar
 use Rattle.saphyr_scanner.specs.Steps.Scalar.{read_single_quoted, read_double_quoted, disallow_key, behind_quotes, behind_quoted_line, goes_on_behind_quotes, adjacent_here}
 use Rattle.saphyr_scanner.specs.Steps.Fetch.{step}
 use Rattle.yaml_laws.specs.Grammar.FlowScalars.{IsQuoted}
-use Rattle.yaml_laws.proofs.InFlow.States.{Around, core_at, least, least_low, Placed, placed_right, saves_key, as_before, FlowMoment}
+use Rattle.yaml_laws.proofs.InFlow.States.{Around, core_at, reach, reach_low, Placed, placed_right, saves_key, FlowMoment}
 use Rattle.yaml_laws.proofs.InFlow.Tabs.{lands_on_ink}
 use Rattle.yaml_laws.proofs.Flow.States.{moved, past, crosses, IsClear, IsInk, EndsNode, IsBehindNode, IsBehindRoot, ReaderPromises, FitsAround, StandsBefore}
 use Rattle.yaml_laws.proofs.Flow.GapSteps.{past_again, past_ink}
@@ -104,7 +104,7 @@ flow_ends_quotes around node start m o x flow h right =
     first rest e (inl k) = break_entry (slice_index rest 0) k
     first rest e (inr k) = rw k e
 
-pub root_ends_quotes : (around : Around) (start m : Marker) (o : List ℕ) → IsBehindRoot around.indent m o
+pub root_ends_quotes : (around : Around) (start m : Marker) (o : List ℕ) → IsBehindRoot around m o
     → around.indent ≤ m.col → EndsQuotes around start (mid_line m o) context.Block
 root_ends_quotes around start m o h right =
     let p = separates_rest (mid_line m o) h.rest h.more h.is h.line h.break in
@@ -114,7 +114,7 @@ root_ends_quotes around start m o h right =
       there = there;
       is = p.1;
       lands = sym (ap (past around.indent m) h.is ∙ rest_past around.indent m h.rest h.more h.line h.break right);
-      inked = lands_on_ink around.indent (past around.indent m o).0 (past around.indent m o).1 (h.lands right);
+      inked = lands_on_ink around.column (past around.indent m o).0 (past around.indent m o).1 (h.lands right);
       stays = λ _ e. line_rest_crosses h.rest h.more h.line h.break (ap crosses (sym h.is) ∙ e);
       goes = λ d k ls a ad. goes_at_root around d start there k ls a ad (first h.more h.break);
     }
@@ -161,7 +161,7 @@ quoted_step reads around d Single n m b value t o h clear ends x k ls a ad c fir
     ap (λ (i : ℕ). step i (slice_index (t ++ o) 1) n (core_at around d s x k ls a ad)) first
     ∙ ap (λ (e : Core). read_single_quoted (disallow_key e)) (saves_key n around d s x k ls a ad placed)
     ∙ ap (λ q. q >>= λ (y : List ℕ × Cursor). behind_quotes m SingleQuoted y.0 (with_cursor y.1 inner))
-    (quoted_read reads (least around.indent d) around.indent (least_low around.indent d) Single s value t o refl h
+    (quoted_read reads (reach around d) around.indent (reach_low around d) Single s value t o refl h
     clear ends)
 quoted_step reads around d Double n m b value t o h clear ends x k ls a ad c first placed =
     let s = cursor_at (t ++ o) m b in
@@ -169,7 +169,7 @@ quoted_step reads around d Double n m b value t o h clear ends x k ls a ad c fir
     ap (λ (i : ℕ). step i (slice_index (t ++ o) 1) n (core_at around d s x k ls a ad)) first
     ∙ ap (λ (e : Core). read_double_quoted (disallow_key e)) (saves_key n around d s x k ls a ad placed)
     ∙ ap (λ q. q >>= λ (y : List ℕ × Cursor). behind_quotes m DoubleQuoted y.0 (with_cursor y.1 inner))
-    (quoted_read reads (least around.indent d) around.indent (least_low around.indent d) Double s value t o refl h
+    (quoted_read reads (reach around d) around.indent (reach_low around d) Double s value t o refl h
     clear ends)
 
 pub quote_first : (quote : Quote) (inside : List ℕ) → Begins (mark quote ∷ inside)
@@ -197,7 +197,6 @@ quoted_passes reads around quote value t o m h fits apart now p text =
       allowed = g.allowed;
       adjacent = behind.0.index;
       to = λ d. d;
-      deepens = as_before around;
       is = λ d. quoted_step reads around d quote place m b value t o h fits.clear apart now.context j now.outer e
           now.adjacent (slice_index (t ++ o) 0) at_first (placed_right now.context e fits.calm fits.right)
           ∙ behind_step around d m (style_of_quote quote) (encode_utf8_all value) (mid_line (moved m t) o) now.context

@@ -70,11 +70,11 @@ empty_passes reads around p m t o h fits behind now low flow text =
     }
 
 empty_closes : ReaderPromises → (around : Around) (p : Properties) (m : Marker) (t o : List ℕ)
-    → IsProperties p around.indent t → FitsAround around m t o → IsBehindRoot around.indent (moved m t) o
+    → IsProperties p around.indent t → FitsAround around m t o → IsBehindRoot around (moved m t) o
     → (now : FlowMoment) → now.adjacent ≤ m.index
     → StandsBefore around now m (t ++ o) → RootCloses around now (Scalar p Plain []) m t o
 empty_closes reads around p m t o h fits behind now before text =
-    let ends = white_ends_tag false o (root_first around.indent (moved m t) o behind) in
+    let ends = white_ends_tag false o (root_first around (moved m t) o behind) in
     let r = properties_read reads around p.anchor p.tag m t o h (root_moment now) ends fits text in
     record {
       tokens = r.tokens;
@@ -192,7 +192,7 @@ full_passes reads around p style value a w b o m h some parts g fits behind now 
 full_closes : ReaderPromises → (around : Around) (p : Properties) (style : Style) (value a w b o : List ℕ) (m : Marker)
     → IsProperties p around.indent a → w ≢ [] → IsSeparation around.indent w
     → IsFlowScalar style value false around.indent b
-    → FitsAround around m (a ++ (w ++ b)) o → IsBehindRoot around.indent (moved m (a ++ (w ++ b))) o
+    → FitsAround around m (a ++ (w ++ b)) o → IsBehindRoot around (moved m (a ++ (w ++ b))) o
     → (now : FlowMoment) → now.adjacent ≤ m.index → StandsBefore around now m ((a ++ (w ++ b)) ++ o)
     → RootCloses around now (Scalar p style value) m (a ++ (w ++ b)) o
 full_closes reads around p style value a w b o m h some parts g fits behind now before text =
@@ -208,7 +208,7 @@ full_closes reads around p style value a w b o m h some parts g fits behind now 
     let still = q.knows.still in
     let later = d.later in
     let lower : q.adjacent ≤ n.index = omega (arith, still, before, later) in
-    let ends : IsBehindRoot around.indent (moved n b) o = subst (λ (z : Marker). IsBehindRoot around.indent z o)
+    let ends : IsBehindRoot around (moved n b) o = subst (λ (z : Marker). IsBehindRoot around z o)
     (sym d.place) behind in
     let c = content_closes reads around style value b o n g (d.behind q.right) ends (after q) lower here in
     record {
@@ -275,7 +275,7 @@ scalar_passes reads around room p style value m t o h fits behind now low flow s
 
 abbrev ScalarCloses : Around → Properties → Style → List ℕ → List ℕ → List ℕ → Marker → Type 0
 ScalarCloses around p style value t o m =
-    FitsAround around m t o → IsBehindRoot around.indent (moved m t) o → (now : FlowMoment) → now.adjacent ≤ m.index
+    FitsAround around m t o → IsBehindRoot around (moved m t) o → (now : FlowMoment) → now.adjacent ≤ m.index
     → StandsBefore around now m (t ++ o) → RootCloses around now (Scalar p style value) m t o
 
 content_root : ReaderPromises → (around : Around) (p : Properties) (style : Style) (value front content o : List ℕ)
@@ -308,7 +308,7 @@ scalar_root reads around p style value t o m (inr (front, content, before, g, is
 pub scalar_closes : ReaderPromises
     → (around : Around) (p : Properties) (style : Style) (value : List ℕ) (m : Marker) (t o : List ℕ)
     → yaml.IsFlowNode most_open (Scalar p style value) false around.indent t → FitsAround around m t o
-    → IsBehindRoot around.indent (moved m t) o
+    → IsBehindRoot around (moved m t) o
     → (now : FlowMoment) → now.adjacent ≤ (past around.indent m (t ++ o)).0.index → StandsBefore around now m (t ++ o)
     → RootCloses around now (Scalar p style value) m t o
 scalar_closes reads around p style value m t o h fits behind now before text =

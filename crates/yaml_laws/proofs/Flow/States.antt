@@ -173,14 +173,15 @@ pub record IsLeft (column : ℕ) (m : Marker) (y : List ℕ) : Type 0 where
 
 -- What comes after a node at block level, from its end m on: the rest of its line, and after filler the text's end,
 -- a document marker at a line's start, or a token left of the node.
-pub record IsBehindRoot (indent : ℕ) (m : Marker) (o : List ℕ) : Type 0 where
+pub record IsBehindRoot (around : Around) (m : Marker) (o : List ℕ) : Type 0 where
   pub rest : List ℕ
   pub more : List ℕ
   pub is : o ≡ rest ++ more
   pub line : IsLineRest rest
   pub break : (more ≡ []) ⊎ (slice_index more 0 ≡ line_feed)
-  pub lands : indent ≤ m.col
-      → EndsDocument (past indent m o).0 (past indent m o).1 ⊎ IsLeft indent (past indent m o).0 (past indent m o).1
+  pub lands : around.indent ≤ m.col
+      → EndsDocument (past around.indent m o).0 (past around.indent m o).1
+      ⊎ IsLeft around.column (past around.indent m o).0 (past around.indent m o).1
 
 -- A piece that is clear, within the limit, and right of the block collection around it, where no key is required.
 pub record FitsAround (around : Around) (m : Marker) (p o : List ℕ) : Type 0 where
@@ -374,7 +375,7 @@ PassesNode around room node =
 abbrev pub ClosesNode : Around → Node → Type 0
 ClosesNode around node =
     (m : Marker) (p o : List ℕ) → IsFlowNode most_open node false around.indent p → FitsAround around m p o
-    → IsBehindRoot around.indent (moved m p) o
+    → IsBehindRoot around (moved m p) o
     → (now : FlowMoment) → now.adjacent ≤ (past around.indent m (p ++ o)).0.index → StandsBefore around now m (p ++ o)
     → RootCloses around now node m p o
 

@@ -12,7 +12,7 @@ use Rattle.saphyr_scanner.specs.Steps.Queue.{Place, bare_place, Queue}
 use Rattle.saphyr_scanner.specs.Steps.Core.{from_to, completed_step, Action, perform, drop_far_key}
 use Rattle.saphyr_scanner.specs.Steps.Level.{Candidate, Level, is_block}
 use Rattle.saphyr_scanner.specs.Steps.Fetch.{step, state_behind_content, fetch_here, arrive, fetch}
-use Rattle.yaml_laws.proofs.InFlow.States.{Around, core_at, state_at, Deepens, FlowMoment, moment, noted_core, noted, least, least_low, not_left, drops_far_key, key_left, left_in_flow, left_or_none, none_unrolls, ComesAround, comes}
+use Rattle.yaml_laws.proofs.InFlow.States.{Around, core_at, state_at, FlowMoment, moment, noted_core, noted, reach, reach_low, in_column, not_left, drops_far_key, key_left, left_in_flow, left_or_none, none_unrolls, ComesAround, comes}
 use Rattle.yaml_laws.proofs.Flow.States.{moved, past, IsClear, IsFresh, Since, KeptKey, keeping, Known, PassesPiece, FitsAround, StandsBefore, crosses, is_filler_rest}
 use Rattle.yaml_laws.proofs.Flow.Inks.{Begins}
 use Rattle.yaml_laws.proofs.Flow.Places.{moved_count, clear_here}
@@ -51,7 +51,7 @@ passes_gap around s x k ls a ad m y here inked =
     record {
       blank = g.still_blank;
       allowed = (g.now_broke && is_block x) || a;
-      is = λ d. let there = g.is stands (least around.indent d) (least_low around.indent d) false
+      is = λ d. let there = g.is stands (reach around d) (reach_low around d) false
           (no_tab_before (is_filler_rest s.rest))
           ∙ ap (λ (p : Marker × List ℕ). stop p.0 g.still_blank g.now_broke false p.1) here
           ∙ stop_here m g.still_blank g.now_broke y in
@@ -125,13 +125,12 @@ begins_here around d now h right =
       and_false (now.cursor.mark.col == 0),
       n.0,
       n.1,
-      not_left around.indent now.cursor.mark.col d right,
+      not_left around.column now.cursor.mark.col d (in_column around now.cursor.mark.col right),
     ) refl
 
 -- what the step at the next token's first characters gives
 pub step_comes : (around : Around) (now : FlowMoment) (m : Marker) (y : List ℕ) (v : Arrives around now m y)
     → BeginsToken m y → (comment : Option Marker) (next : FlowMoment) (actions : List Action) (to : Bool → Bool)
-    → Deepens around to
     → ((d : Bool) → step (slice_index y 0) (slice_index y 1) (length now.places)
     (core_at around d (cursor_at y m v.blank) now.context v.key now.outer v.allowed now.adjacent)
     ≡ completed_step actions (noted_core comment
@@ -139,9 +138,9 @@ pub step_comes : (around : Around) (now : FlowMoment) (m : Marker) (y : List ℕ
     → perform actions (queue_of now.places) ≡ queue_of next.places → next.cursor.mark.index ≤ around.limit
     → ComesAround around (state_at around now) comment next
 unfolding fetch state_behind_content
-step_comes around now m y v h comment next actions to deepens is done low =
+step_comes around now m y v h comment next actions to is done low =
     let seen = cursor_at y m v.blank in
-    comes around (state_at around now) comment next to deepens (λ d. refl)
+    comes around (state_at around now) comment next to (λ d. refl)
     (λ d. let c = core_at around d seen now.context v.key now.outer v.allowed now.adjacent in
     let there = ap (λ r. r >>= fetch_here) (v.is d) ∙ begins_here around d (record now {
       cursor = seen;
@@ -192,7 +191,6 @@ pub record TokenStep (around : Around) (says : Bool → ℕ → Type 0) (kind : 
   pub allowed : Bool
   pub adjacent : ℕ
   pub to : Bool → Bool
-  pub deepens : Deepens around to
   pub is : (d : Bool) → step (slice_index y 0) (slice_index y 1) place (core_at around d (cursor_at y m b) x j ls e ad)
       ≡ completed_step (from_to m end kind ∷ []) (core_at around (to d) there x (saved e place m j) ls allowed adjacent)
   pub fits : past around.indent there.mark there.rest ≡ past around.indent n o
@@ -250,7 +248,7 @@ token_passes around says kind p o m f fits right now text steps =
     let new = token_place m w.end kind ∷ [] in
     let came = step_comes around now m (p ++ o) v (begins_token m p o f fits.clear) None (moment w.there now.context
     (saved v.allowed (length now.places) m v.key) now.outer w.allowed w.adjacent
-    (now.places ++ new)) (from_to m w.end kind ∷ []) w.to w.deepens w.is refl low in
+    (now.places ++ new)) (from_to m w.end kind ∷ []) w.to w.is refl low in
     record {
       there = w.there;
       key = came.key;

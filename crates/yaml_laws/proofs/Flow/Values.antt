@@ -17,7 +17,7 @@ use Rattle.saphyr_scanner.specs.Steps.Value.{value_alone, opening_actions, check
 use Rattle.saphyr_scanner.specs.Steps.State.{State}
 use Rattle.saphyr_scanner.specs.Grammar.Forest.{Node}
 use Rattle.yaml_laws.specs.Grammar.FlowNodes.{allows_adjacent}
-use Rattle.yaml_laws.proofs.InFlow.States.{Around, core_at, state_at, chains, as_before, moment, FlowMoment, moment_in, moment_with, required_at}
+use Rattle.yaml_laws.proofs.InFlow.States.{Around, core_at, state_at, chains, moment, FlowMoment, moment_in, moment_with, required_at}
 use Rattle.yaml_laws.proofs.Flow.States.{moved, past, IsParted, ends_colon, no_key, after_node, PassesPiece, FitsAround, after, StandsBefore}
 use Rattle.yaml_laws.proofs.Flow.Places.{right_one}
 use Rattle.yaml_laws.proofs.Flow.GapSteps.{past_ink}
@@ -239,7 +239,7 @@ colon_passes around y flows first e node w o parts fits parted ends same_line st
     let new = pair_places op n.piece n.others (empty_piece m tokens.Value) in
     let came = step_comes around (after p) m (58 ∷ o) v (mark_begins m 58 o colon_is_mark fits.clear) None
     (moment t.there (behind_colon y) None ls false p.adjacent (ps ++ new)) (Open (length ps) op ∷ at_mark m tokens.Value
-    ∷ []) (λ d. d) (as_before around) stepped (performs ps n.others p.new op n.piece (empty_piece m tokens.Value) n.is)
+    ∷ []) (λ d. d) stepped (performs ps n.others p.new op n.piece (empty_piece m tokens.Value) n.is)
     (within_index around.indent around.limit t.there (along m 1) o t.lands (omega (arith, below))) in
     record {
       there = t.there;
@@ -323,7 +323,7 @@ value_passes around y flows m o fits parted now none ends before text =
     let new = alone_places (begins_pair y) m in
     let next = moment t.there (behind_colon y) None now.outer false now.adjacent now.places in
     let came = step_comes around (moment_in y now) m (58 ∷ o) v (mark_begins m 58 o colon_is_mark fits.clear) None
-    (moment_with new next) (alone_actions (begins_pair y) m) (λ d. d) (as_before around) stepped
+    (moment_with new next) (alone_actions (begins_pair y) m) (λ d. d) stepped
     (alone_puts (begins_pair y) now.places m)
     (within_index around.indent around.limit t.there (along m 1) o t.lands (omega (arith, below))) in
     step_passes next new (moved m (58 ∷ [])) o (alone_kinds (begins_pair y)

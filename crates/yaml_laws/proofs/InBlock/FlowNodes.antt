@@ -1,5 +1,5 @@
 -- Keys on one line are read at block level, and nodes in flow style, up to what is left of them (YAML 1.2.2, 8.2.3).
-use Rattle.std.proofs.Common.{◌≡◌, ℕ, ◌+◌, ◌^◌, ◌<◌, ◌≤◌, Bool, true, false, List, [], ◌∷◌, ◌++◌, length, slice_index, refl, sym, ap, ◌∙◌, arith, subst, append_assoc, ◌⊎◌, inl, inr}
+use Rattle.std.proofs.Common.{◌≡◌, ℕ, suc, ◌+◌, ◌^◌, ◌<◌, ◌≤◌, Bool, true, false, List, [], ◌∷◌, ◌++◌, length, slice_index, refl, sym, ap, ◌∙◌, arith, subst, append_assoc, ◌⊎◌, inl, inr}
 use Rattle.std.specs.Prelude.{◌-◌, ◌||◌, ◌&&◌, ◌==◌, not, nat_le, nat_lt, Option, Some, None, if◌then◌else◌}
 use Rattle.std.proofs.lemmas.Bool.Decides.{nat_tests}
 use Rattle.std.proofs.lemmas.List.{length-append}
@@ -19,7 +19,7 @@ use Rattle.saphyr_scanner.specs.Grammar.Tokens.{Kind}
 use Rattle.saphyr_scanner.specs.Limits.{most_open}
 use Rattle.yaml_laws.specs.Grammar.BlockNodes.{Position, IsFlowInBlock}
 use Rattle.yaml_laws.specs.Grammar.FlowNodes.{IsFlowNode, IsOnLine}
-use Rattle.yaml_laws.proofs.InFlow.States.{Around, moment, state_at, least_low, least}
+use Rattle.yaml_laws.proofs.InFlow.States.{Around, moment, state_at, not_more, least_low, least}
 use Rattle.yaml_laws.proofs.Flow.States as flow
 use Rattle.yaml_laws.proofs.Flow.States.{moved, past, crosses, EndsDocument, IsLeft, IsBehindRoot, Since, ReaderPromises}
 use Rattle.yaml_laws.proofs.Flow.Places.{moved_append, moved_count, moved_along}
@@ -50,7 +50,15 @@ use Rattle.yaml_laws.proofs.Documents.Stands.{none_of, document_ends_by_test}
 
 -- a frame without what is required
 abbrev pub around_of : ℕ → Frame → Around
-around_of limit f = record { limit = limit; indent = f.indent; outers = f.outers; pending = false; required = false }
+around_of limit f = record {
+  limit = limit;
+  column = f.indent;
+  indent = f.indent;
+  low = not_more f.indent;
+  outers = f.outers;
+  pending = false;
+  required = false;
+}
 
 -- after a text on a key's line
 line_near : (m : Marker) (place : ℕ) (t : List ℕ) → IsOnLine t → length t ≤ 1024
@@ -83,7 +91,7 @@ reads_key reads limit node f m t o n far h line apart short white fits start ts 
     subst (λ (b : Bool). GoesOnAs limit start (state_of f (moment_at m y v.blank v.key b v.adjacent v.deeper) v.places))
     allowed v.follows in
     let place : moved (moved m t) n.text ≡ moved m (t ++ n.text) = sym (moved_append m t n.text) in
-    let right = a.right in
+    let right = further f.indent m.col a.there.mark.col far a.right in
     record {
       moment = moment;
       places = v.places;
@@ -111,6 +119,9 @@ reads_key reads limit node f m t o n far h line apart short white fits start ts 
   where
     none_left : (n : ℕ) → 0 ≤ n
     none_left n = omega arith
+
+    further : (i n col : ℕ) → i ≤ n + 1 → suc n ≤ col → i ≤ col
+    further i n col h k = omega (arith, h, k)
 
 -- ## What comes after the end of its line
 
@@ -221,10 +232,10 @@ what_comes limit short m t at text end o place fits (inl (rest, h, is)) k none_b
 -- ## The node
 
 -- what comes after a node, as its runs ask for it
-behind_root : (f : Frame) (n : Marker) (end o : List ℕ) → IsEol end o → (q : Marker × List ℕ)
+behind_root : (limit : ℕ) (f : Frame) (n : Marker) (end o : List ℕ) → IsEol end o → (q : Marker × List ℕ)
     → (f.indent ≤ n.col → past f.indent n (end ++ o) ≡ q) → IsStop q.1 → IsLeftOf f.indent q.0 q.1
-    → IsBehindRoot f.indent n (end ++ o)
-behind_root f n end o h q is stop left =
+    → IsBehindRoot (around_of limit f) n (end ++ o)
+behind_root limit f n end o h q is stop left =
     let e = eol n end o h in
     record {
       rest = e.rest;
@@ -317,7 +328,7 @@ reads_flow reads limit short node place f same m t o (gap, text, end, gap_is, no
     let lands_at : f.indent ≤ n.col → past f.indent n rest ≡ q =
     λ right. eol_moved f.indent n end o end_is right ∙ ap (λ (k : Marker). past f.indent k o) (sym place_is)
     ∙ clean_past f.indent (moved m t) o behind.clean in
-    let root = behind_root f n end o end_is q lands_at (past_stops (moved m t) o) behind.left in
+    let root = behind_root limit f n end o end_is q lands_at (past_stops (moved m t) o) behind.left in
     let start_low = v.low in
     let on = past_low f.indent at (text ++ rest) in
     let now = moment (cursor_at (text ++ rest) at v.blank) context.Block v.key [] v.allowed v.adjacent v.places in

@@ -18,7 +18,7 @@ use Rattle.saphyr_scanner.specs.Steps.Fetch.{step, state_behind_content, fetch_h
 use Rattle.saphyr_scanner.specs.Limits.{most_open}
 use Rattle.saphyr_scanner.proofs.Leads.{LeadsTo, stay, onward, leads_on}
 use Rattle.yaml_laws.proofs.InFlow.States.{Around, core_at, state_at, drops_far_key, left_in_flow, behind_key, opening_steps_open, open_collection_gives, close_collection_gives, deepened, moment}
-use Rattle.yaml_laws.proofs.InFlow.ScalarsOnLine.{separation_of_blanks}
+use Rattle.yaml_laws.proofs.InFlow.OnLine.{separation_of_blanks}
 use Rattle.yaml_laws.proofs.InFlow.KeyLines.{Ready, keeps_near_key}
 use Rattle.yaml_laws.proofs.InFlow.KeyTokens.{InKey, in_near, in_back, in_right, in_limit, in_so, Along}
 use Rattle.yaml_laws.proofs.InFlow.KeyScalars.{Blanks, colon_ink, colon_text, colon_after}
@@ -40,7 +40,9 @@ use Rattle.saphyr_scanner.proofs.Levels.{level_of}
 abbrev pub calmed : Around → Around
 calmed around = record {
   limit = around.limit;
+  column = around.column;
   indent = around.indent;
+  low = around.low;
   outers = around.outers;
   pending = false;
   required = around.required;

@@ -20,7 +20,7 @@ use Rattle.yaml_laws.specs.Grammar.FlowNodes.{IsBeforeContent, IsScalarNode, IsP
 use Rattle.yaml_laws.specs.Grammar.FlowScalars.{IsFlowScalar}
 use Rattle.yaml_laws.specs.Grammar.TagSpelling.{IsTag}
 use Rattle.yaml_laws.proofs.InFlow.States.{Around, core_at}
-use Rattle.yaml_laws.proofs.InFlow.KeyLines.{Fresh, keyed}
+use Rattle.yaml_laws.proofs.InFlow.KeyLines.{Fresh, requiring}
 use Rattle.yaml_laws.proofs.Flow.Names.{begins_anchor, begins_alias, tag_read, tag_first}
 use Rattle.yaml_laws.proofs.Flow.Plains.{BeginsWord, word_begins, key_begins, plain_dispatches}
 use Rattle.yaml_laws.proofs.Flow.Collections.{Brackets, AreBrackets, square, curly, are_square, are_curly}
@@ -31,7 +31,7 @@ use Rattle.yaml_laws.proofs.Flow.Collections.Runs.{whole_text, IsBracketText}
 -- what a key keeps
 abbrev first_at : Around → Bool → Cursor → ℕ → ℕ → Core
 first_at around d s n ad =
-    core_at (keyed around d s.mark) d s context.Block (Some (record { mark = s.mark; place = n })) [] false ad
+    core_at (requiring around d s.mark) d s context.Block (Some (record { mark = s.mark; place = n })) [] false ad
 
 name_fresh : (token_of : List ℕ → Kind) (around : Around) (d : Bool) (s : Cursor) (k : Option Candidate) (ad n : ℕ)
     → property.name_steps token_of n (core_at around d s context.Block k [] true ad)
@@ -89,15 +89,15 @@ fresh_tag around tag t o h =
     fresh_so around (t ++ o) (33 ∷ (f.0 ++ o)) (ap (λ (x : List ℕ). x ++ o) f.1)
     (λ d s k ad n. tag_fresh around d s k ad n _)
 
-fresh_properties : (around : Around) (anchor : Option (List ℕ)) (tag : Option Tag) (t o : List ℕ)
-    → yaml.AreProperties anchor tag around.indent t → Fresh around (t ++ o)
-fresh_properties around None None t o h = absurd h
-fresh_properties around (Some name) None t o h = fresh_anchor around name t o h
-fresh_properties around None (Some tag) t o h = fresh_tag around tag t o h
-fresh_properties around (Some name) (Some tag) t o (a, s, c, h, g, spaced, inl is) =
+fresh_properties : (around : Around) (indent : ℕ) (anchor : Option (List ℕ)) (tag : Option Tag) (t o : List ℕ)
+    → yaml.AreProperties anchor tag indent t → Fresh around (t ++ o)
+fresh_properties around indent None None t o h = absurd h
+fresh_properties around indent (Some name) None t o h = fresh_anchor around name t o h
+fresh_properties around indent None (Some tag) t o h = fresh_tag around tag t o h
+fresh_properties around indent (Some name) (Some tag) t o (a, s, c, h, g, spaced, inl is) =
     fresh_so around (t ++ o) (a ++ ((s ++ c) ++ o)) (ap (λ (x : List ℕ). x ++ o) is ∙ append_assoc a (s ++ c) o)
     (fresh_anchor around name a ((s ++ c) ++ o) h)
-fresh_properties around (Some name) (Some tag) t o (c, s, a, h, g, spaced, inr is) =
+fresh_properties around indent (Some name) (Some tag) t o (c, s, a, h, g, spaced, inr is) =
     fresh_so around (t ++ o) (a ++ ((s ++ c) ++ o)) (ap (λ (x : List ℕ). x ++ o) is ∙ append_assoc a (s ++ c) o)
     (fresh_tag around tag a ((s ++ c) ++ o) g)
 
@@ -105,68 +105,68 @@ fresh_word : (around : Around) (t o : List ℕ) → BeginsWord false t o → Fre
 fresh_word around t o w =
     λ d s k ad n. plain_dispatches around d s n t o context.Block w k [] true ad (inl refl)
     ∙ plain_fresh around d s k ad n
-    ∙ sym (plain_dispatches (keyed around d s.mark) d s n t o context.Block w
+    ∙ sym (plain_dispatches (requiring around d s.mark) d s n t o context.Block w
     (Some (record { mark = s.mark; place = n })) [] false ad (inl refl))
 
-fresh_content : (around : Around) (style : Style) (value t o : List ℕ) → IsFlowScalar style value false around.indent t
+fresh_content : (around : Around) (indent : ℕ) (style : Style) (value t o : List ℕ) → IsFlowScalar style value false indent t
     → Fresh around (t ++ o)
-fresh_content around Plain value t o h = fresh_word around t o (word_begins false around.indent t o h.0)
-fresh_content around SingleQuoted value t o h =
+fresh_content around indent Plain value t o h = fresh_word around t o (word_begins false indent t o h.0)
+fresh_content around indent SingleQuoted value t o h =
     fresh_so around (t ++ o) (39 ∷ (h.0 ++ o)) (ap (λ (x : List ℕ). x ++ o) h.5)
     (λ d s k ad n. single_fresh around d s k ad n _)
-fresh_content around DoubleQuoted value t o h =
+fresh_content around indent DoubleQuoted value t o h =
     fresh_so around (t ++ o) (34 ∷ (h.0 ++ o)) (ap (λ (x : List ℕ). x ++ o) h.5)
     (λ d s k ad n. double_fresh around d s k ad n _)
-fresh_content around Literal value t o h = absurd h
-fresh_content around Folded value t o h = absurd h
+fresh_content around indent Literal value t o h = absurd h
+fresh_content around indent Folded value t o h = absurd h
 
 fresh_bracket : (around : Around) (b : Brackets) → AreBrackets b → (o : List ℕ) → Fresh around (b.opening ∷ o)
 fresh_bracket around b are o d s k ad n =
     are.begins _ n (core_at around d s context.Block k [] true ad) ∙ start_fresh b.context b.opens around d s k ad n
     ∙ sym (are.begins _ n (first_at around d s n ad))
 
-fresh_front : (around : Around) (p : Properties) (front t : List ℕ) → IsBeforeContent p around.indent front
+fresh_front : (around : Around) (indent : ℕ) (p : Properties) (front t : List ℕ) → IsBeforeContent p indent front
     → Fresh around t → Fresh around (front ++ t)
-fresh_front around p front t (inl (none, is)) h = fresh_so around (front ++ t) t (ap (λ (x : List ℕ). x ++ t) is) h
-fresh_front around p front t (inr (written, separation, g, some, parts, is)) h =
+fresh_front around indent p front t (inl (none, is)) h = fresh_so around (front ++ t) t (ap (λ (x : List ℕ). x ++ t) is) h
+fresh_front around indent p front t (inr (written, separation, g, some, parts, is)) h =
     fresh_so around (front ++ t) (written ++ (separation ++ t))
     (ap (λ (x : List ℕ). x ++ t) is ∙ append_assoc written separation t)
-    (fresh_properties around p.anchor p.tag written (separation ++ t) g)
+    (fresh_properties around indent p.anchor p.tag written (separation ++ t) g)
 
-scalar_fresh : (around : Around) (p : Properties) (style : Style) (value t o : List ℕ)
-    → IsScalarNode p style value false around.indent t → Fresh around (t ++ o)
-scalar_fresh around p style value t o (inl (plain, empty, h)) = fresh_properties around p.anchor p.tag t o h
-scalar_fresh around p style value t o (inr (front, content, before, g, e)) =
+scalar_fresh : (around : Around) (indent : ℕ) (p : Properties) (style : Style) (value t o : List ℕ)
+    → IsScalarNode p style value false indent t → Fresh around (t ++ o)
+scalar_fresh around indent p style value t o (inl (plain, empty, h)) = fresh_properties around indent p.anchor p.tag t o h
+scalar_fresh around indent p style value t o (inr (front, content, before, g, e)) =
     fresh_so around (t ++ o) (front ++ (content ++ o))
     (ap (λ (x : List ℕ). x ++ o) e ∙ append_assoc front content o)
-    (fresh_front around p front (content ++ o) before (fresh_content around style value content o g))
+    (fresh_front around indent p front (content ++ o) before (fresh_content around indent style value content o g))
 
-pub plain_key_fresh : (around : Around) (node : Node) (t r : List ℕ) → IsPlainKeyNode node false around.indent t
+pub plain_key_fresh : (around : Around) (indent : ℕ) (node : Node) (t r : List ℕ) → IsPlainKeyNode node false indent t
     → Fresh around (t ++ (colon ∷ r))
-plain_key_fresh around (Alias name) t r h = absurd h
-plain_key_fresh around (Seq p nodes) t r h = absurd h
-plain_key_fresh around (Map p pairs) t r h = absurd h
-plain_key_fresh around (Scalar p style value) t r (front, content, plain, before, g, is, e) =
+plain_key_fresh around indent (Alias name) t r h = absurd h
+plain_key_fresh around indent (Seq p nodes) t r h = absurd h
+plain_key_fresh around indent (Map p pairs) t r h = absurd h
+plain_key_fresh around indent (Scalar p style value) t r (front, content, plain, before, g, is, e) =
     let o = 58 ∷ r in
     fresh_so around (t ++ o) (front ++ (content ++ o))
     (ap (λ (x : List ℕ). x ++ o) e ∙ append_assoc front content o)
-    (fresh_front around p front (content ++ o) before
-    (fresh_word around content o (key_begins false around.indent content r g)))
+    (fresh_front around indent p front (content ++ o) before
+    (fresh_word around content o (key_begins false indent content r g)))
 
-brackets_fresh : (around : Around) (p : Properties) (b : Brackets) → AreBrackets b → (Text : ℕ → List ℕ → Type 0)
-    (room : ℕ) (t o : List ℕ) → IsBracketText b Text p room around.indent t → Fresh around (t ++ o)
-brackets_fresh around p b are Text room t o (left, opening, inside, r, (front, w, before, parts, e), h, is) =
+brackets_fresh : (around : Around) (indent : ℕ) (p : Properties) (b : Brackets) → AreBrackets b → (Text : ℕ → List ℕ → Type 0)
+    (room : ℕ) (t o : List ℕ) → IsBracketText b Text p room indent t → Fresh around (t ++ o)
+brackets_fresh around indent p b are Text room t o (left, opening, inside, r, (front, w, before, parts, e), h, is) =
     let rest = w ++ (inside ++ (b.closing ∷ [])) in
     fresh_so around (t ++ o) (front ++ (b.opening ∷ (rest ++ o)))
     (ap (λ (x : List ℕ). x ++ o) (whole_text t opening front w inside b.opening b.closing is e)
     ∙ append_assoc front (b.opening ∷ rest) o)
-    (fresh_front around p front (b.opening ∷ (rest ++ o)) before (fresh_bracket around b are (rest ++ o)))
+    (fresh_front around indent p front (b.opening ∷ (rest ++ o)) before (fresh_bracket around b are (rest ++ o)))
 
-pub key_node_fresh : (around : Around) (room : ℕ) (node : Node) (t o : List ℕ)
-    → IsFlowNode room node false around.indent t → Fresh around (t ++ o)
-key_node_fresh around room (Alias name) t o h = fresh_alias around name t o h
-key_node_fresh around room (Scalar p style value) t o h = scalar_fresh around p style value t o h
-key_node_fresh around room (Seq p nodes) t o h =
-    brackets_fresh around p square are_square (λ left. AreItems left nodes around.indent) room t o h
-key_node_fresh around room (Map p pairs) t o h =
-    brackets_fresh around p curly are_curly (λ left. AreFlowPairs left pairs around.indent) room t o h
+pub key_node_fresh : (around : Around) (indent : ℕ) (room : ℕ) (node : Node) (t o : List ℕ)
+    → IsFlowNode room node false indent t → Fresh around (t ++ o)
+key_node_fresh around indent room (Alias name) t o h = fresh_alias around name t o h
+key_node_fresh around indent room (Scalar p style value) t o h = scalar_fresh around indent p style value t o h
+key_node_fresh around indent room (Seq p nodes) t o h =
+    brackets_fresh around indent p square are_square (λ left. AreItems left nodes indent) room t o h
+key_node_fresh around indent room (Map p pairs) t o h =
+    brackets_fresh around indent p curly are_curly (λ left. AreFlowPairs left pairs indent) room t o h

@@ -1,5 +1,5 @@
 -- Tokens on the line of a key at block level: the scanner keeps the place where the key begins.
-use Rattle.std.proofs.Common.{◌≡◌, ℕ, ◌+◌, ◌≤◌, Bool, true, false, List, [], ◌∷◌, ◌++◌, length, slice_index, Ok, refl, ap, ◌∙◌, arith}
+use Rattle.std.proofs.Common.{◌≡◌, ℕ, suc, ◌+◌, ◌≤◌, Bool, true, false, List, [], ◌∷◌, ◌++◌, length, slice_index, Ok, refl, ap, ◌∙◌, arith}
 use Rattle.std.proofs.Math.Nat.{zero-add}
 use Rattle.std.specs.Prelude.{◌-◌, ◌&&◌, ◌==◌, not, nat_lt, nat_le, Option, Some, None}
 use Rattle.std.proofs.lemmas.Bool.Decides.{nat_tests}
@@ -19,7 +19,7 @@ use Rattle.saphyr_scanner.specs.Steps.State.{State, on_core, after_step}
 use Rattle.saphyr_scanner.specs.Steps.Unrolling.{unroll}
 use Rattle.saphyr_scanner.specs.Steps.Fetch.{step, state_behind_content, fetch_here, arrive, fetch, check_limit, fetch_within}
 use Rattle.saphyr_scanner.proofs.Leads.{LeadsTo, stay, onward}
-use Rattle.yaml_laws.proofs.InFlow.States.{Around, core_at, state_at, least, least_low, drops_far_key, key_left, no_ends, none_unrolls, moment}
+use Rattle.yaml_laws.proofs.InFlow.States.{Around, core_at, state_at, least, reach, reach_low, drops_far_key, key_left, no_ends, none_unrolls, moment}
 use Rattle.yaml_laws.proofs.Flow.States.{moved, IsInk}
 use Rattle.yaml_laws.proofs.Flow.Gaps.{right_tab as no_left_tab}
 use Rattle.yaml_laws.proofs.Flow.Fillers.{right_tab, no_feed, blanks_past}
@@ -85,8 +85,8 @@ line_arrives around d s k ad ps w c cs is are ink right near =
     let n = moved s.mark w in
     let there = cursor_at (c ∷ cs) n s.blank_so_far in
     let here = core_at around d s context.Block (Some k) [] false ad in
-    let gapped = ap (λ (t : List ℕ). end_of_gap (least around.indent d) s.mark s.blank_so_far false false t) is
-    ∙ blanks_gap (least around.indent d) around.indent (least_low around.indent d) w c cs are ink s.mark s.blank_so_far
+    let gapped = ap (λ (t : List ℕ). end_of_gap (reach around d) s.mark s.blank_so_far false false t) is
+    ∙ blanks_gap (reach around d) around.indent (reach_low around d) w c cs are ink s.mark s.blank_so_far
     right ∙ stop_here n s.blank_so_far false (c ∷ cs) in
     let passed = ap (λ r. r >>= λ (p : GapEnd). check_comment (behind_gap here p)) gapped in
     let reached = ap (λ r. r >>= drop_far_key) passed ∙ keeps_near_key around d there k [] false ad near in
@@ -109,7 +109,7 @@ pub record Ready (around : Around) (start : State) (k : Candidate) (t : List ℕ
 
 -- content is no further left than its collection's entries
 begins_low : (around : Around) (d : Bool) (s : Cursor) (k : Option Candidate) (a : Bool) (ad : ℕ) (ps : List Place)
-    → BeginsToken s.mark s.rest → nat_lt s.mark.col (least around.indent d) ≡ false
+    → BeginsToken s.mark s.rest → nat_lt s.mark.col (reach around d) ≡ false
     → fetch_here (state_at around (moment s context.Block k [] a ad ps) d)
     ≡ state_behind_content (slice_index s.rest 0) (slice_index s.rest 1)
     (state_at around (moment s context.Block k [] a ad ps) d)
@@ -119,9 +119,9 @@ begins_low around d s k a ad ps h right =
     rw (h.nul, h.byte_order_mark, h.directive, and_false (s.mark.col == 0), n.0, n.1, right) refl
 
 reaches_low : (around : Around) (d : Bool) (m : Marker) → around.indent ≤ m.col
-    → nat_lt m.col (least around.indent d) ≡ false
+    → nat_lt m.col (reach around d) ≡ false
 reaches_low around d m right =
-    let low = least_low around.indent d in le-ltb m.col (least around.indent d) (omega (arith, low, right))
+    let low = reach_low around d in le-ltb m.col (reach around d) (omega (arith, low, right))
 
 -- after another token of the key
 pub later_ready : (around : Around) (d : Bool) (s : Cursor) (k : Candidate) (ad : ℕ) (ps : List Place) (w : List ℕ)
@@ -146,13 +146,22 @@ later_ready around d s k ad ps w c cs is are ink right near token =
 
 -- whether a key has to be at a column
 abbrev pub is_required : Around → Bool → Marker → Bool
-is_required around d m = not d && (around.indent == m.col + 1)
+is_required around d m = not d && (around.column == m.col + 1)
 
--- the same where a key begins at m
-abbrev pub keyed : Around → Bool → Marker → Around
-keyed around d m = record {
+-- the same where that is told at m
+abbrev pub requiring : Around → Bool → Marker → Around
+requiring around d m = record around { pending = is_required around d m; required = is_required around d m }
+
+pub to_next : (a n : ℕ) → a ≤ n + 1 → a ≤ suc n
+to_next a n h = omega (arith, h)
+
+-- the same where a key begins at m, which is the column of its block mapping
+abbrev pub keyed : (around : Around) → Bool → (m : Marker) → around.column ≤ m.col + 1 → Around
+keyed around d m low = record {
   limit = around.limit;
-  indent = around.indent;
+  column = around.column;
+  indent = suc m.col;
+  low = to_next around.column m.col low;
   outers = around.outers;
   pending = is_required around d m;
   required = is_required around d m;
@@ -160,13 +169,13 @@ keyed around d m = record {
 
 -- whether content has to be further right at a key's line
 abbrev pub deeper_at : Around → Bool → Marker → Bool
-deeper_at around d m = d && nat_le around.indent m.col
+deeper_at around d m = d && nat_le around.column m.col
 
-still_least : (around : Around) (d : Bool) (m : Marker) → around.indent ≤ m.col + 1
-    → nat_lt m.col (least around.indent (deeper_at around d m)) ≡ false
+still_least : (around : Around) (d : Bool) (m : Marker) → around.column ≤ m.col + 1
+    → nat_lt m.col (least around.column (deeper_at around d m)) ≡ false
 still_least around d m h = by_deeper (deeper_at around d m) refl
   where
-    reached : (d : Bool) → (d && nat_le around.indent m.col) ≡ true → nat_le around.indent m.col ≡ true
+    reached : (d : Bool) → (d && nat_le around.column m.col) ≡ true → nat_le around.column m.col ≡ true
     reached true e = e
     reached false e = absurd (cc)
 
@@ -177,10 +186,10 @@ still_least around d m h = by_deeper (deeper_at around d m) refl
     one_less a b h = grind (arith, nat_tests)
 
     by_deeper : (b : Bool) → deeper_at around d m ≡ b
-        → nat_lt m.col (least around.indent (deeper_at around d m)) ≡ false
-    by_deeper true e = ap (λ (q : Bool). nat_lt m.col (least around.indent q)) e
-        ∙ is_reached around.indent m.col (reached d e)
-    by_deeper false e = ap (λ (q : Bool). nat_lt m.col (least around.indent q)) e ∙ one_less around.indent m.col h
+        → nat_lt m.col (least around.column (deeper_at around d m)) ≡ false
+    by_deeper true e = ap (λ (q : Bool). nat_lt m.col (least around.column q)) e
+        ∙ is_reached around.column m.col (reached d e)
+    by_deeper false e = ap (λ (q : Bool). nat_lt m.col (least around.column q)) e ∙ one_less around.column m.col h
 
 -- the step at the first token of a key keeps the key's place
 abbrev pub Fresh : Around → List ℕ → Type 0
@@ -188,14 +197,14 @@ Fresh around t =
     (d : Bool) (s : Cursor) (k : Option Candidate) (ad n : ℕ)
     → step (slice_index t 0) (slice_index t 1) n (core_at around d s context.Block k [] true ad)
     ≡ step (slice_index t 0) (slice_index t 1) n
-    (core_at (keyed around d s.mark) d s context.Block (Some (record { mark = s.mark; place = n })) [] false ad)
+    (core_at (requiring around d s.mark) d s context.Block (Some (record { mark = s.mark; place = n })) [] false ad)
 
 -- the first token of a key
 pub first_ready : (around : Around) → around.pending ≡ false
     → (d blank : Bool) (k : Option Candidate) (ad : ℕ) (ps : List Place) (m : Marker) (c : ℕ) (cs : List ℕ) → IsInk c
-    → around.indent ≤ m.col + 1
+    → (right : around.column ≤ m.col + 1)
     → BeginsToken m (c ∷ cs) → Fresh around (c ∷ cs)
-    → Ready (keyed around (deeper_at around d m) m)
+    → Ready (keyed around (deeper_at around d m) m right)
     (state_at around (moment (cursor_at (c ∷ cs) m blank) context.Block k [] true ad ps) d)
     (record { mark = m; place = length ps }) (c ∷ cs) m ad ps
 unfolding fetch arrive pass_gap check_comment unroll state_behind_content
@@ -204,14 +213,14 @@ first_ready around calm d blank k ad ps m c cs ink right token fresh =
     let here = core_at around d there context.Block k [] true ad in
     let left = key_left context.Block k m in
     let e = deeper_at around d m in
-    let gapped = ink_gap (least around.indent d) c cs ink m blank ∙ stop_here m blank false (c ∷ cs) in
+    let gapped = ink_gap (least around.column d) c cs ink m blank ∙ stop_here m blank false (c ∷ cs) in
     let passed = ap (λ r. r >>= λ (p : GapEnd). check_comment (behind_gap here p)) gapped in
     let reached = ap (λ r. r >>= drop_far_key) passed ∙ drops_far_key around None d there context.Block k [] true ad
     calm in
     let arrived = ap (λ r. on_core r (queue_of ps) >>= λ (t : State). Ok
     (unroll (Some t.core.cursor.mark.col) t.core.cursor.mark t)) reached
     ∙ ap Ok (no_ends m.col m around.outers (state_at around (moment there context.Block left [] true ad ps) e)
-    (one_less around.indent m.col right)) in
+    (one_less around.column m.col right)) in
     record {
       deeper = e;
       blank = blank;

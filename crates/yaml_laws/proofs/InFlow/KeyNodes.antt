@@ -16,7 +16,7 @@ use Rattle.saphyr_scanner.specs.Grammar.Forest.{Style, Plain, Properties, Node, 
 use Rattle.yaml_laws.specs.Grammar.FlowNodes as yaml
 use Rattle.yaml_laws.specs.Grammar.FlowNodes.{IsProperties, IsBeforeContent, IsScalarNode, IsPlainKeyNode, IsBeforeColon}
 use Rattle.yaml_laws.proofs.InFlow.States.{Around}
-use Rattle.yaml_laws.proofs.InFlow.ScalarsOnLine.{front_on_line, back_on_line, blanks_on_line}
+use Rattle.yaml_laws.proofs.InFlow.OnLine.{front_on_line, back_on_line, blanks_on_line}
 use Rattle.yaml_laws.proofs.InFlow.KeyLines.{Ready}
 use Rattle.yaml_laws.proofs.InFlow.KeyTokens.{InKey, in_back, in_so, Along, along_joins, along_ready, alias_along, properties_along}
 use Rattle.yaml_laws.proofs.InFlow.KeyScalars.{Blanks, no_blanks, colon_text, colon_after, ContentReads, scalar_reads, plain_key_reads}

@@ -25,9 +25,9 @@ use Rattle.saphyr_scanner.specs.Steps.Scalar.{goes_on_behind_quotes}
 use Rattle.saphyr_scanner.specs.Steps.State.{State}
 use Rattle.saphyr_scanner.specs.Grammar.Forest.{Style, Plain, SingleQuoted, DoubleQuoted, Literal, Folded}
 use Rattle.yaml_laws.specs.Grammar.FlowScalars.{IsPlain, IsPlainKey, IsQuoted, IsFlowScalar}
-use Rattle.yaml_laws.proofs.InFlow.States.{Around, core_at, least, behind_key}
+use Rattle.yaml_laws.proofs.InFlow.States.{Around, core_at, reach, in_column, behind_key}
 use Rattle.yaml_laws.proofs.InFlow.Tabs.{tabs_behind}
-use Rattle.yaml_laws.proofs.InFlow.ScalarsOnLine.{separation_of_blanks}
+use Rattle.yaml_laws.proofs.InFlow.OnLine.{separation_of_blanks, plain_lowers, plain_key_lowers}
 use Rattle.yaml_laws.proofs.InFlow.KeyLines.{Ready, token_led, ink_gap}
 use Rattle.yaml_laws.proofs.InFlow.KeyTokens.{InKey, in_near, in_back, in_right, in_limit, Along}
 use Rattle.yaml_laws.proofs.Flow.States.{moved, past, crosses, IsInk, ReaderPromises}
@@ -126,7 +126,7 @@ colon_after e t n = moved (moved e t) n.text
 text_along : ReaderPromises → (around : Around) (start : State) (k : Candidate) (qs : List Place) (c : ℕ) (cs : List ℕ)
     (n : Blanks)
     (r : List ℕ) (e : Marker) (ad : ℕ) → BeginsWord false (c ∷ cs) (colon_text n r)
-    → IsPlainText false around.indent e (c ∷ cs) (colon_text n r) → InKey around k e ((c ∷ cs) ++ n.text) (colon ∷ r)
+    → IsPlainText false around.column e (c ∷ cs) (colon_text n r) → InKey around k e ((c ∷ cs) ++ n.text) (colon ∷ r)
     → ad ≤ e.index → Ready around start k ((c ∷ cs) ++ colon_text n r) e ad qs
     → Along around start k qs (colon_after e (c ∷ cs) n) (colon ∷ r) (scalar_token Plain (plain_value (c ∷ cs)) ∷ [])
 text_along reads around start k qs c cs n r e ad begins plain text low ready =
@@ -143,10 +143,10 @@ text_along reads around start k qs c cs n r e ad begins plain text low ready =
     (Some k) [] false ad (inl refl) (behind_key refl refl)
     ∙ ap (λ (u : Cursor). completed_step (from_to e end kind ∷ [])
     (record (core_at around false u context.Block (Some k) [] u.blank_so_far ad)
-    { comment = comment_of false (is_tabbed around.indent o) u })) (white_blanks end n.text r n.are)
+    { comment = comment_of false (is_tabbed around.column o) u })) (white_blanks end n.text r n.are)
     ∙ ap (λ (q : Option Marker). completed_step (from_to e end kind ∷ [])
     (record (core_at around false there context.Block (Some k) [] false ad) { comment = q }))
-    (no_comment (is_tabbed around.indent o) (colon_after e t n) r) in
+    (no_comment (is_tabbed around.column o) (colon_after e t n) r) in
     let led = token_led around start k (t ++ o) e ad qs ready end kind there ad (λ d. false) stepped
     (in_near k (colon_after e t n) [] (58 ∷ r) last) (in_limit k (colon_after e t n) [] (58 ∷ r) last) in
     record {
@@ -174,8 +174,10 @@ pub plain_along : ReaderPromises → (around : Around) (start : State) (k : Cand
 plain_along reads around start k qs c cs n r e ad h white text low ready =
     let clear = clear_front e (c ∷ cs) n.text (58 ∷ r) text.clear in
     text_along reads around start k qs c cs n r e ad (word_begins false around.indent (c ∷ cs) (colon_text n r) h)
-    (plain_text false around.indent e (c ∷ cs) (colon_text n r) h clear
-    (key_ends_plain around.indent (moved e (c ∷ cs)) n r (in_right k e c cs n.text (58 ∷ r) text) white)) text low ready
+    (plain_text false around.column e (c ∷ cs) (colon_text n r)
+    (plain_lowers around.indent around.column around.low false (c ∷ cs) h) clear
+    (key_ends_plain around.column (moved e (c ∷ cs)) n r
+    (in_column around (moved e (c ∷ cs)).col (in_right k e c cs n.text (58 ∷ r) text)) white)) text low ready
 
 -- a plain scalar whose last word may end with a colon, right before the key's colon
 pub plain_key_along : ReaderPromises
@@ -187,9 +189,10 @@ pub plain_key_along : ReaderPromises
 plain_key_along reads around start k qs c cs r e ad h white text low ready =
     let clear = clear_front e (c ∷ cs) [] (58 ∷ r) text.clear in
     text_along reads around start k qs c cs no_blanks r e ad (key_begins false around.indent (c ∷ cs) r h)
-    (key_text false around.indent e (c ∷ cs) r h clear (key_ends_plain around.indent (moved e (c ∷ cs)) no_blanks r
-    (in_right k e c cs [] (58 ∷ r) text) white)) text
-    low ready
+    (key_text false around.column e (c ∷ cs) r
+    (plain_key_lowers around.indent around.column around.low false (c ∷ cs) h) clear
+    (key_ends_plain around.column (moved e (c ∷ cs)) no_blanks r
+    (in_column around (moved e (c ∷ cs)).col (in_right k e c cs [] (58 ∷ r) text)) white)) text low ready
 
 -- ## Quoted scalars
 
@@ -206,7 +209,7 @@ gap_to_colon : (around : Around) (d : Bool) (s : Cursor) (k : Candidate) (ad : �
     ≡ Ok (core_at around d (cursor_at (colon ∷ r) m s.blank_so_far) context.Block (Some k) [] false ad)
 unfolding pass_gap check_comment
 gap_to_colon around d s k ad m r is at_colon =
-    let low = least around.indent d in
+    let low = reach around d in
     let gapped = ap (λ (t : List ℕ). end_of_gap low s.mark s.blank_so_far false false t) is
     ∙ ap (λ (n : Marker). end_of_gap low n s.blank_so_far false false (58 ∷ r)) at_colon
     ∙ ink_gap low 58 r colon_ink m s.blank_so_far ∙ stop_here m s.blank_so_far false (58 ∷ r) in

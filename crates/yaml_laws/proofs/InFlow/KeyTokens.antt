@@ -27,7 +27,7 @@ use Rattle.yaml_laws.specs.Grammar.TagSpelling.{IsTag}
 use Rattle.yaml_laws.specs.Grammar.FlowNodes as yaml
 use Rattle.yaml_laws.specs.Grammar.FlowNodes.{IsOnLine, IsAnchor, IsAlias}
 use Rattle.yaml_laws.proofs.InFlow.States.{Around, core_at, state_at, behind_key, moment}
-use Rattle.yaml_laws.proofs.InFlow.ScalarsOnLine.{front_on_line, back_on_line, gap_of_blanks}
+use Rattle.yaml_laws.proofs.InFlow.OnLine.{front_on_line, back_on_line, gap_of_blanks}
 use Rattle.yaml_laws.proofs.InFlow.KeyLines.{IsNear, Ready, later_ready, token_led}
 use Rattle.yaml_laws.proofs.Flow.States.{moved, IsClear, ReaderPromises}
 use Rattle.yaml_laws.proofs.Flow.Places.{moved_append, moved_index, moved_along, clear_front, clear_back}

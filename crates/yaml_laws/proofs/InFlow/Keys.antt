@@ -14,7 +14,6 @@ use Rattle.saphyr_scanner.specs.Grammar.Forest.{Node, Alias, Scalar, Seq, Map, P
 use Rattle.saphyr_scanner.specs.Limits.{most_open}
 use Rattle.yaml_laws.specs.Grammar.FlowNodes.{IsOnLine, IsKeyText, IsBeforeColon, IsFlowNode, IsBeforeContent}
 use Rattle.yaml_laws.proofs.InFlow.States.{Around, state_at, moment}
-use Rattle.yaml_laws.proofs.InFlow.OnLine.{key_text_lowers}
 use Rattle.yaml_laws.proofs.InFlow.KeyLines.{Ready, Fresh, keyed, deeper_at, first_ready}
 use Rattle.yaml_laws.proofs.InFlow.KeyTokens.{InKey, in_back, in_right, in_so, Along, along_joins, along_ready}
 use Rattle.yaml_laws.proofs.InFlow.KeyScalars.{Blanks, colon_text, colon_after}
@@ -183,12 +182,12 @@ text_along reads around same start node k qs t n r e ad (inr (h, none)) apart wh
     → KeyAlong around start node k qs (moved (moved e t) w) (58 ∷ r)) (sym none)
     (λ i z. plain_key reads around start node k qs t r e ad h white i low z) text ready
 
-text_fresh : (around : Around) (node : Node) (t s r : List ℕ)
-    → IsKeyText (IsFlowNode most_open node false around.indent) node false around.indent t s
+text_fresh : (around : Around) (indent : ℕ) (node : Node) (t s r : List ℕ)
+    → IsKeyText (IsFlowNode most_open node false indent) node false indent t s
     → Fresh around (t ++ (s ++ (colon ∷ r)))
-text_fresh around node t s r (inl h) = key_node_fresh around most_open node t (s ++ (58 ∷ r)) h
-text_fresh around node t s r (inr (h, none)) =
-    subst (λ (x : List ℕ). Fresh around (t ++ (x ++ (58 ∷ r)))) (sym none) (plain_key_fresh around node t r h)
+text_fresh around indent node t s r (inl h) = key_node_fresh around indent most_open node t (s ++ (58 ∷ r)) h
+text_fresh around indent node t s r (inr (h, none)) =
+    subst (λ (x : List ℕ). Fresh around (t ++ (x ++ (58 ∷ r)))) (sym none) (plain_key_fresh around indent node t r h)
 
 pub blanks_are_on_line : (w : List ℕ) → AreIn is_blank w → IsOnLine w
 blanks_are_on_line [] are = tt
@@ -207,17 +206,16 @@ pub key_read : ReaderPromises → (around : Around) → around.pending ≡ false
     → (node : Node) (m : Marker) (p : List ℕ) (n : Blanks) (r : List ℕ)
     → IsKeyText (IsFlowNode most_open node false (suc m.col)) node false (suc m.col) p n.text → IsOnLine p
     → IsBeforeColon node n.text
-    → length (p ++ n.text) ≤ 1024 → is_blank_or_breakz (slice_index r 0) ≡ true → around.indent ≤ m.col + 1
+    → length (p ++ n.text) ≤ 1024 → is_blank_or_breakz (slice_index r 0) ≡ true → (right : around.column ≤ m.col + 1)
     → IsClear m (p ++ n.text) (colon ∷ r) → m.index + length ((p ++ n.text) ++ (colon ∷ r)) ≤ around.limit
     → (d blank : Bool) (k : Option Candidate) (ad : ℕ) (ps : List Place) → ad ≤ m.index
-    → KeyAlong (keyed around (deeper_at around d m) m)
+    → KeyAlong (keyed around (deeper_at around d m) m right)
     (state_at around (moment (cursor_at (p ++ colon_text n r) m blank) context.Block k [] true ad ps) d) node
     (record { mark = m; place = length ps }) ps (colon_after m p n) (colon ∷ r)
 key_read reads around calm node m p n r h line apart short white right clear below d blank k ad ps low =
-    let inner = keyed around (deeper_at around d m) m in
+    let inner = keyed around (deeper_at around d m) m right in
     let here : Candidate = record { mark = m; place = length ps } in
-    let lowered = key_text_lowers (suc m.col) around.indent (lower m.col right) most_open node p n.text line h in
-    let b = key_text_begins false around.indent most_open node p n.text lowered in
+    let b = key_text_begins false (suc m.col) most_open node p n.text h in
     let o = colon_text n r in
     let front : p ++ o ≡ b.first ∷ (b.others ++ o) = ap (λ (t : List ℕ). t ++ o) b.is in
     let token = begins_token m p o b (clear_front m p n.text (58 ∷ r) clear) in
@@ -226,7 +224,7 @@ key_read reads around calm node m p n r h line apart short white right clear bel
       line = refl;
       index = nearer m.index (length (p ++ n.text)) short;
       on_line = both_on_line p n.text line (blanks_are_on_line n.text n.are);
-      low = right;
+      low = next m.col;
       clear = clear;
       below = below;
     } in
@@ -234,11 +232,11 @@ key_read reads around calm node m p n r h line apart short white right clear bel
     let ready : Ready inner (start (p ++ o)) here (p ++ o) m ad ps =
     subst (λ (t : List ℕ). Ready inner (start t) here t m ad ps) (sym front)
     (first_ready around calm d blank k ad ps m b.first (b.others ++ o) b.ink right
-    (subst (BeginsToken m) front token) (subst (Fresh around) front (text_fresh around node p n.text r lowered))) in
-    text_along reads inner refl (start (p ++ o)) node here ps p n r m ad lowered apart white text low ready
+    (subst (BeginsToken m) front token) (subst (Fresh around) front (text_fresh around (suc m.col) node p n.text r h))) in
+    text_along reads inner refl (start (p ++ o)) node here ps p n r m ad h apart white text low ready
   where
-    lower : (n : ℕ) → around.indent ≤ n + 1 → around.indent ≤ suc n
-    lower n h = omega (arith, h)
+    next : (n : ℕ) → suc n ≤ n + 1
+    next n = omega arith
 
     nearer : (i l : ℕ) → l ≤ 1024 → i + l ≤ i + 1024
     nearer i l h = omega (arith, h)

@@ -29,18 +29,32 @@ use Rattle.saphyr_scanner.proofs.Queues.{queue_of}
 -- ## What stays as it is
 
 -- How long the text may be, which block collections are open around the nodes that are read, and whether a key is
--- required at block level, and inside the nodes. `indent` is the first column to the right of the innermost collection,
--- and 0 where there is none.
+-- required at block level, and inside the nodes. `column` is the first column to the right of the innermost collection,
+-- and 0 where there is none; `indent` is the indentation of the nodes, which is further right where they are in a key
+-- that begins a block mapping.
 pub record Around : Type 0 where
   pub limit : ℕ
+  pub column : ℕ
   pub indent : ℕ
+  pub low : column ≤ indent
   pub outers : List ℕ
   pub pending : Bool
   pub required : Bool
 
+pub not_more : (n : ℕ) → n ≤ n
+not_more n = omega arith
+
 -- no block collection is open
 abbrev pub alone : ℕ → Around
-alone limit = record { limit = limit; indent = 0; outers = []; pending = false; required = false }
+alone limit = record {
+  limit = limit;
+  column = 0;
+  indent = 0;
+  low = not_more 0;
+  outers = [];
+  pending = false;
+  required = false;
+}
 
 -- ## States
 
@@ -56,7 +70,7 @@ core_at around d s x k ls a ad =
       required = required_at around x;
       key_allowed = a;
       adjacent = ad;
-      indent = around.indent;
+      indent = around.column;
       deeper = d;
       outer_indents = around.outers;
       comment = None;
@@ -124,24 +138,33 @@ not_left indent col d h = let low = least_low indent d in further col (least ind
     further : (a b : ℕ) → b ≤ a → nat_lt a b ≡ false
     further a b h = grind (arith, nat_tests)
 
--- A state from which the scanner comes to another. Where no block collection is open nothing gets deeper.
-pub record Run (around : Around) (d : Bool) (to : Bool → State) (start : State) : Type 0 where
+-- the column that content has to reach around a node, which is not right of the node's indentation
+abbrev pub reach : Around → Bool → ℕ
+reach around d = least around.column d
+
+pub reach_low : (around : Around) (d : Bool) → reach around d ≤ around.indent
+reach_low around d =
+    let first = least_low around.column d in let second = around.low in omega (arith, first, second)
+
+pub in_column : (around : Around) (col : ℕ) → around.indent ≤ col → around.column ≤ col
+in_column around col h = let low = around.low in omega (arith, low, h)
+
+-- a state from which the scanner comes to another
+pub record Run (around : Around) (to : Bool → State) (start : State) : Type 0 where
   pub deeper : Bool
-  pub flat : around.indent ≡ 0 → d ≡ false → deeper ≡ false
   pub leads : LeadsTo around.limit (to deeper) start
 
 pub record RunsTo (around : Around) (to start : Bool → State) : Type 0 where
-  pub run : (d : Bool) → Run around d to (start d)
+  pub run : (d : Bool) → Run around to (start d)
 
 pub runs_to_itself : (around : Around) (s : Bool → State) → RunsTo around s s
-runs_to_itself around s = record { run = λ d. record { deeper = d; flat = λ _ e. e; leads = stay } }
+runs_to_itself around s = record { run = λ d. record { deeper = d; leads = stay } }
 
 pub chains : {around : Around} {c b a : Bool → State} → RunsTo around b a → RunsTo around c b → RunsTo around c a
 chains f g = record {
   run = λ d. let r = f.run d in let q =
       g.run r.deeper in record {
         deeper = q.deeper;
-        flat = λ e h. q.flat e (r.flat e h);
         leads = leads_on r.leads q.leads;
       };
 }
@@ -195,9 +218,11 @@ pub none_unrolls : (around : Around) (col : ℕ) (m : Marker) (s : Cursor) (x : 
     → unroll (Some col) m (state_at around (moment s x k ls a ad ps) d) ≡ state_at around (moment s x k ls a ad ps) d
 unfolding unroll
 none_unrolls around col m s context.Block k ls a ad ps d h =
-    let same : (d && nat_le around.indent col) ≡ d = still d (nat_le around.indent col) (reaches around.indent col h) in
+    let right = in_column around col h in
+    let same : (d && nat_le around.column col) ≡ d =
+    still d (nat_le around.column col) (reaches around.column col right) in
     rw same (no_ends col m around.outers (state_at around (moment s context.Block k ls a ad ps) d)
-    (no_right around.indent col h))
+    (no_right around.column col right))
   where
     reaches : (a b : ℕ) → a ≤ b → nat_le a b ≡ true
     reaches a b h = grind (arith, nat_tests)
@@ -213,26 +238,9 @@ none_unrolls around col m s context.MarkedFlowPair k ls a ad ps d h = refl
 
 -- ## Steps
 
--- whether content has to be further right after a step, by whether it had to before it
-pub record Deepens (around : Around) (to : Bool → Bool) : Type 0 where
-  pub flat : around.indent ≡ 0 → to false ≡ false
-
-pub as_before : (around : Around) → Deepens around (λ d. d)
-as_before around = record { flat = λ _. refl }
-
-pub none_deeper : (around : Around) → Deepens around (λ d. false)
-none_deeper around = record { flat = λ _. refl }
-
--- after a bracket
+-- whether content has to be further right after a bracket, by whether it had to before it
 abbrev pub deepened : Around → Context → Bool → Bool
-deepened around x d = (is_block x && nat_lt 0 around.indent) || d
-
-pub bracket_deepens : (around : Around) (x : Context) → Deepens around (deepened around x)
-bracket_deepens around x = record { flat = λ e. rw e (none_further (is_block x)) }
-  where
-    none_further : (b : Bool) → ((b && nat_lt 0 0) || false) ≡ false
-    none_further true = refl
-    none_further false = refl
+deepened around x d = (is_block x && nat_lt 0 around.column) || d
 
 -- from a state the scanner comes to another, with a comment noted or none, but for the key outside flow
 pub record ComesAround (around : Around) (start : Bool → State) (comment : Option Marker) (next : FlowMoment) : Type 0
@@ -244,11 +252,11 @@ pub record ComesAround (around : Around) (start : Bool → State) (comment : Opt
 
 -- where a step gives this, it leads there
 pub comes : (around : Around) (start : Bool → State) (comment : Option Marker) (next : FlowMoment) (to : Bool → Bool)
-    → Deepens around to → ((d : Bool) → (start d).core.ended ≡ false)
+    → ((d : Bool) → (start d).core.ended ≡ false)
     → ((d : Bool) → fetch (start d) ≡ Ok (noted comment (state_at around next (to d))))
     → next.cursor.mark.index ≤ around.limit → around.pending ≡ false → ComesAround around start comment next
 unfolding fetch_within
-comes around start comment next to deepens going is low calm =
+comes around start comment next to going is low calm =
     record {
       key = key_left next.context next.key next.cursor.mark;
       leads = record { run = λ d. one d };
@@ -256,21 +264,16 @@ comes around start comment next to deepens going is low calm =
       kept = left_or_none next.context next.key next.cursor.mark;
     }
   where
-    flatly : (d : Bool) → around.indent ≡ 0 → d ≡ false → to d ≡ false
-    flatly true e h = absurd (cc)
-    flatly false e h = deepens.flat e
-
     there : Bool → State
     there d = noted comment
         (state_at around (record next { key = key_left next.context next.key next.cursor.mark }) d)
 
-    one : (d : Bool) → Run around d there (start d)
+    one : (d : Bool) → Run around there (start d)
     one d =
         let st = noted comment (state_at around next (to d)) in
         let fits : check_limit around.limit st ≡ Ok st = rw (le-leb next.cursor.mark.index around.limit low) refl in
         record {
           deeper = to d;
-          flat = flatly d;
           leads = onward (start d) st (there (to d)) (going d)
               (ap (λ r. r >>= check_limit around.limit) (is d) ∙ fits) (ap (λ r. on_core r (queue_of next.places))
               (drops_far_key around comment (to d) next.cursor next.context next.key next.outer next.allowed
@@ -300,7 +303,7 @@ saves_open : (n : ℕ) (around : Around) (d : Bool) (s : Cursor) (x : Context) (
 saves_open n around d s x k ls false ad h = refl
 saves_open n around d s context.Block k ls true ad (inl e) = absurd (cc)
 saves_open n around d s context.Block k ls true ad (inr (e, h)) =
-    rw (off_column around.indent s.mark.col d h, e) refl
+    rw (off_column around.column s.mark.col d (in_column around s.mark.col h), e) refl
 saves_open n around d s context.FlowSequence k ls true ad h = refl
 saves_open n around d s context.FlowMapping k ls true ad h = refl
 saves_open n around d s context.FlowPair k ls true ad h = refl
@@ -318,11 +321,11 @@ saves_key n around d s x k ls a ad (behind_key b e) =
 
 -- a plain scalar inside flow is right of the block collections
 pub plain_placed : (around : Around) (x : Context) (a : Bool) (m : Marker) → Placed around x a m
-    → (not (is_block x) && nat_lt m.col around.indent) ≡ false
+    → (not (is_block x) && nat_lt m.col around.column) ≡ false
 plain_placed around x a m (inside e h) =
-    ap (λ (b : Bool). not (is_block x) && b) (not_left around.indent m.col true h) ∙ and_false (not (is_block x))
+    ap (λ (b : Bool). not (is_block x) && b) (not_left around.column m.col true (in_column around m.col h)) ∙ and_false (not (is_block x))
 plain_placed around x a m (right e h) =
-    ap (λ (b : Bool). not (is_block x) && b) (not_left around.indent m.col true h) ∙ and_false (not (is_block x))
+    ap (λ (b : Bool). not (is_block x) && b) (not_left around.column m.col true (in_column around m.col h)) ∙ and_false (not (is_block x))
 plain_placed around x a m (behind_key b e) = rw b refl
 
 pub opening_steps_open : (y : Context) (kind : Kind) (n : ℕ) (around : Around) (d : Bool) (s : Cursor) (x : Context)

@@ -10,7 +10,7 @@ use Rattle.saphyr_scalar.specs.declared.scalar.position.Marker.{Marker}
 use Rattle.saphyr_scalar.specs.Views.Cursor.{Cursor, along, next_line}
 use Rattle.saphyr_scalar.specs.Steps.Plain.{ends_line}
 use Rattle.saphyr_scalar.proofs.Given.{cursor_at}
-use Rattle.scalar_laws.specs.Spelling.Plain.{reaches_tabbed, is_tabbed, stands_behind_tab, past_white}
+use Rattle.scalar_laws.specs.Spelling.Plain.{behind_blanks, reaches_tabbed, is_tabbed, stands_behind_tab, past_white}
 use Rattle.scalar_laws.proofs.Plain.Texts.{blanks_on}
 use Rattle.scalar_laws.proofs.Plain.White.{flag_on, tabbed_on, tabbed_stop, past_on, past_stop}
 use Rattle.yaml_laws.proofs.Flow.States.{is_filler_rest, past, EndsDocument, IsLeft}
@@ -270,6 +270,50 @@ tabs_behind column m n b [] h = inr refl
 tabs_behind column m n b (c ∷ cs) h =
     behind_kind column m c cs (stops_tab column m c cs) (is_blank c) refl refl h n b
     (tabs_behind column (along m 1) (if ends_line c cs then next_line n 1 else along n 1) (b || is_break c) cs)
+
+neither : (p q : Bool) → (p ≡ true → q ≡ true) → q ≡ false → p ≡ false
+neither true q more e = absurd (let f : false ≡ true = sym e ∙ more refl in cc)
+neither false q more e = refl
+
+-- a column further left has no more tabs left of it
+fewer_tabbed : (low column : ℕ) → low ≤ column → (t : List ℕ) (col : ℕ) (p q : Bool) → (p ≡ true → q ≡ true)
+    → reaches_tabbed column col q t ≡ false → reaches_tabbed low col p t ≡ false
+fewer_tabbed low column under [] col p q more h = neither p q more h
+fewer_tabbed low column under (c ∷ cs) col p q more h =
+    by_white (is_blank_or_break c) refl
+    (fewer_tabbed low column under cs (if ends_line c cs then 0 else col + 1) (flag_on low col p c)
+    (flag_on column col q c) (flags (is_blank c) p q (c == 9) (nat_lt col low) (nat_lt col column) more
+    (further col low column under)))
+  where
+    further : (n a b : ℕ) → a ≤ b → nat_lt n a ≡ true → nat_lt n b ≡ true
+    further n a b h e = grind (arith, nat_tests)
+
+    flags : (b p q t x y : Bool) → (p ≡ true → q ≡ true) → (x ≡ true → y ≡ true) → (b && (p || (t && x))) ≡ true
+        → (b && (q || (t && y))) ≡ true
+    flags false p q t x y f g e = absurd (cc)
+    flags true true q t x y f g e = rw (f refl) refl
+    flags true false true t x y f g e = refl
+    flags true false false true true y f g e = g refl
+    flags true false false true false y f g e = absurd (cc)
+    flags true false false false x y f g e = absurd (cc)
+
+    by_white : (b : Bool) → is_blank_or_break c ≡ b
+        → (reaches_tabbed column (if ends_line c cs then 0 else col + 1) (flag_on column col q c) cs ≡ false
+        → reaches_tabbed low (if ends_line c cs then 0 else col + 1) (flag_on low col p c) cs ≡ false)
+        → reaches_tabbed low col p (c ∷ cs) ≡ false
+    by_white true e on = tabbed_on low col p c cs e ∙ on (sym (tabbed_on column col q c cs e) ∙ h)
+    by_white false e on =
+        tabbed_stop low col p (c ∷ cs) e ∙ neither p q more (sym (tabbed_stop column col q (c ∷ cs) e) ∙ h)
+
+pub tabs_behind_low : (low column : ℕ) → low ≤ column → (m n : Marker) (b : Bool) (t : List ℕ)
+    → is_blank (slice_index (past column m t).1 0) ≡ false
+    → (is_tabbed low t ≡ false) ⊎ (stands_behind_tab (past_white n b t).rest ≡ true)
+tabs_behind_low low column under m n b t h = by_tab (tabs_behind column m n b t h)
+  where
+    by_tab : (is_tabbed column t ≡ false) ⊎ (stands_behind_tab (past_white n b t).rest ≡ true)
+        → (is_tabbed low t ≡ false) ⊎ (stands_behind_tab (past_white n b t).rest ≡ true)
+    by_tab (inl e) = inl (fewer_tabbed low column under (behind_blanks t) 0 false false (λ f. f) e)
+    by_tab (inr e) = inr e
 
 -- ## A break was passed, or the place is not left of the first
 
