@@ -30,4 +30,5 @@ pub mod PlainEnds
 pub mod Plains
 pub mod NoDashes
 pub mod Contents
+pub mod Fronts
 pub mod ScalarNodes

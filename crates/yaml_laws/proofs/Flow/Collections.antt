@@ -1,9 +1,8 @@
 -- Collections in brackets and braces, given the run over what is inside them.
 pub mod Runs
-use Rattle.std.proofs.Common.{◌≡◌, ℕ, ◌<◌, ◌≤◌, Bool, true, false, List, [], ◌∷◌, ◌++◌, length, Ok, refl, sym, ap, ◌∙◌, subst, append_assoc, IsTrue, inl, inr}
+use Rattle.std.proofs.Common.{◌≡◌, ℕ, ◌<◌, ◌≤◌, Bool, true, false, List, [], ◌∷◌, ◌++◌, length, Ok, refl, sym, ap, ◌∙◌, subst, append_assoc, inl, inr}
 use Rattle.std.specs.Prelude.{Option, None}
 use Rattle.std.specs.List.{list_all}
-use Rattle.saphyr_input.specs.Indicators.{colon}
 use Rattle.saphyr_input.specs.Classes.{is_blank}
 use Rattle.saphyr_input.specs.declared.input.SkipTabs.{SkipTabs}
 use Rattle.saphyr_input.specs.declared.input.SkipTabs.TheVariants.{Yes}
@@ -25,7 +24,7 @@ use Rattle.saphyr_scanner.specs.Steps.State.{State}
 use Rattle.saphyr_scanner.specs.Steps.Fetch.{step}
 use Rattle.saphyr_scanner.specs.Limits.{most_open}
 use Rattle.yaml_laws.proofs.InFlow.States.{Around, core_at, state_at, Calm, FlowMoment}
-use Rattle.yaml_laws.proofs.Flow.States.{crosses, IsFresh, Since, KeptKey, keeping, moved, past, IsParted, IsBehindRoot, Known, PassesPiece, FitsAround, ended, StandsBefore, after}
+use Rattle.yaml_laws.proofs.Flow.States.{crosses, IsFresh, keeping, moved, past, IsParted, IsBehindRoot, Known, PassesPiece, FitsAround, ended, StandsBefore, after, IsAfterNode, after_node, TextPasses}
 use Rattle.yaml_laws.proofs.Flow.Places.{moved_append}
 use Rattle.yaml_laws.proofs.Flow.GapSteps.{past_ink, less_on}
 use Rattle.yaml_laws.proofs.Flow.Fillers.{rest_past}
@@ -176,21 +175,6 @@ are_curly = record {
   shuts = shuts_curly;
 }
 
--- After a collection: as after a node, of which blanks alone come before a colon that may come at once.
-pub record IsBracketed (indent : ℕ) (x : Context) (kept : KeptKey) (m : Marker) (o : List ℕ) (key : Option Candidate)
-    (adjacent : ℕ) (new : List Place) : Type 0 where
-  pub piece : Piece
-  pub others : List Place
-  pub is : new ≡ bare_place piece ∷ others
-  pub keeps : is_block x ≡ false → key ≡ kept.kept
-  pub since : Since kept.before kept.from kept.over key
-  pub near : is_block x ≡ false → (w more : List ℕ) → o ≡ w ++ (colon ∷ more) → IsSeparation indent w
-      → IsTrue (list_all is_blank w) → adjacent ≡ (moved m w).index
-  pub low : adjacent ≤ (past indent m o).0.index
-
-abbrev pub bracketed : ℕ → Context → KeptKey → Marker → List ℕ → Known
-bracketed indent x kept m o key allowed adjacent new = IsBracketed indent x kept m o key adjacent new
-
 -- the text from the opening bracket to the closing one
 abbrev pub bracket_text : Brackets → List ℕ → List ℕ → List ℕ
 bracket_text b w inside = (b.opening ∷ w) ++ (inside ++ (b.closing ∷ []))
@@ -204,14 +188,9 @@ RunsInside around Is b x ls m inside o =
     → InsidePasses around (state_at around (record now { context = b.context; outer = level_of x j ∷ ls })) b.context Is
     (level_of x j ∷ ls) now.places (moved m inside) (b.closing ∷ o)
 
--- the run over a collection whose text t is at m before o
-pub record BracketsPass (around : Around) (now : FlowMoment) (Is : List Kind → Type 0) (b : Brackets) (m : Marker)
-    (t o : List ℕ) : Type 0 where
-  pub inside : List Kind
-  pub are : Is inside
-  pub passes : PassesPiece around (state_at around now)
-      (bracketed around.indent now.context (keeping now m t) (moved m t) o) now.context now.outer now.places (moved m t)
-      o (b.opens ∷ (inside ++ b.closes ∷ []))
+-- the tokens of a collection, without its properties
+abbrev pub AreBracketed : Brackets → (List Kind → Type 0) → List Kind → Type 0
+AreBracketed b Is ts = (inside : List Kind) × Is inside × (ts ≡ b.opens ∷ (inside ++ b.closes ∷ []))
 
 -- a token of its own is the first, and no colon may come at once from n on
 abbrev starts_with : Piece → ℕ → Known
@@ -231,7 +210,7 @@ pub brackets_pass : (around : Around) (Is : List Kind → Type 0) (b : Brackets)
     → (around.indent ≤ (moved (moved m (b.opening ∷ w)) inside).col
     → EndsAt around.indent now.context (moved (moved m (b.opening ∷ w)) inside) o)
     → RunsInside around Is b now.context now.outer (moved m (b.opening ∷ w)) inside o
-    → BracketsPass around now Is b m (bracket_text b w inside) o
+    → TextPasses around now (AreBracketed b Is) (list_all is_blank) m (bracket_text b w inside) o
 brackets_pass around Is b are m w inside o fits parts parted now low calm before text ends run =
     let close = b.closing ∷ [] in
     let follow : (inside ++ close) ++ o ≡ inside ++ (b.closing ∷ o) = append_assoc inside close o in
@@ -264,7 +243,8 @@ brackets_pass around Is b are m w inside o fits parts parted now low calm before
     j now.context now.outer (after q) at_close.fresh calm q.knows.1 q.fits in
     let end = moved at_end close in
     let kept = keeping now m (bracket_text b w inside) in
-    let known : IsBracketed around.indent now.context kept end o c.key c.adjacent (q.new ++ c.new) = record {
+    let known : IsAfterNode around.indent now.context kept (list_all is_blank) end o c.key c.adjacent (q.new ++ c.new) =
+    record {
       piece = piece;
       others = q.knows.0.0 ++ c.new;
       is = ap (λ (z : List Place). z ++ c.new) q.knows.0.1;
@@ -273,18 +253,21 @@ brackets_pass around Is b are m w inside o fits parts parted now low calm before
       near = c.knows.near;
       low = c.knows.low;
     } in
-    let all = join q c (bracketed around.indent now.context kept end o) known in
+    let all = join q c (after_node around.indent now.context kept (list_all is_blank) end o) known in
     let start = state_at around now in
     let place : end ≡ moved m (bracket_text b w inside) =
     sym (moved_append m (b.opening ∷ w) (inside ++ close) ∙ moved_append here inside close) in
     let inner = r.tokens ++ pending (ends_pair r.inside) in
     record {
-      inside = inner;
-      are = r.are;
-      passes = subst (λ (e : Marker). PassesPiece around start (bracketed around.indent now.context kept e o)
-          now.context
+      tokens = b.opens ∷ (inner ++ b.closes ∷ []);
+      are = (inner, r.are, refl);
+      comment = None;
+      none = λ _. refl;
+      passes = subst (λ (e : Marker). PassesPiece around start
+          (after_node around.indent now.context kept (list_all is_blank) e o) now.context
           now.outer now.places e o (b.opens ∷ (inner ++ b.closes ∷ []))) place
-          (subst (λ (ts : List Kind). PassesPiece around start (bracketed around.indent now.context kept end o)
+          (subst (λ (ts : List Kind). PassesPiece around start
+          (after_node around.indent now.context kept (list_all is_blank) end o)
           now.context now.outer now.places end o ts)
           (all_told b.opens b.closes r.tokens (pending (ends_pair r.inside))) all);
     }

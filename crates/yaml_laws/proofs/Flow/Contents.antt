@@ -1,9 +1,8 @@
 -- The content of a scalar in flow style is passed, after its properties or without any.
-use Rattle.std.proofs.Common.{◌≡◌, ℕ, ◌<◌, ◌≤◌, true, false, List, [], ◌∷◌, ◌++◌, slice_index, refl, sym, ap, ◌∙◌, arith, subst, IsTrue, inl, inr}
-use Rattle.std.specs.Prelude.{◌==◌}
+use Rattle.std.proofs.Common.{◌≡◌, ℕ, ◌≤◌, Bool, false, List, [], ◌∷◌, ◌++◌, slice_index, refl, sym, ap, ◌∙◌, arith, subst, IsTrue, inl, inr}
+use Rattle.std.specs.Prelude.{◌==◌, not, None}
 use Rattle.std.proofs.lemmas.Bool.Decides.{nat_tests}
-use Rattle.saphyr_input.specs.Classes.{is_blank, is_blank_or_breakz}
-use Rattle.std.proofs.lemmas.Bool.{false≢true}
+use Rattle.saphyr_input.specs.Classes.{is_blank_or_breakz}
 use Rattle.saphyr_input.specs.Indicators.{apostrophe, colon}
 use Rattle.saphyr_scalar.specs.declared.scalar.position.Marker.{Marker}
 use Rattle.saphyr_values.specs.declared.flow.Quote.{Quote}
@@ -14,26 +13,21 @@ use Rattle.saphyr_scanner.specs.Steps.Level.{is_block}
 use Rattle.saphyr_scanner.specs.Grammar.Forest.{Style, Plain, SingleQuoted, DoubleQuoted, Literal, Folded, Properties, Node, Scalar}
 use Rattle.saphyr_values.specs.Flow.{plain_value}
 use Rattle.yaml_laws.specs.Grammar.FlowScalars.{IsPlainKey, IsQuoted, IsFlowScalar}
-use Rattle.yaml_laws.proofs.InFlow.States.{Around, state_at, FlowMoment, root_moment}
-use Rattle.yaml_laws.proofs.InFlow.Tabs.{lands_on_ink}
-use Rattle.yaml_laws.proofs.Flow.States.{moved, past, IsBehindNode, IsBehindRoot, ReaderPromises, PassesPiece, Closes, FitsAround, after_node, StandsBefore, key_behind}
-use Rattle.yaml_laws.proofs.Flow.GapSteps.{past_ink, less_behind}
+use Rattle.scalar_laws.specs.Spelling.Plain.{is_tabbed, past_white, EndsPlain}
+use Rattle.saphyr_scanner.specs.declared.engine.level.Context.{Context}
+use Rattle.yaml_laws.specs.Grammar.FlowNodes.{allows_adjacent}
+use Rattle.yaml_laws.proofs.InFlow.States.{Around, FlowMoment}
+use Rattle.yaml_laws.proofs.Flow.States.{moved, past, ReaderPromises, FitsAround, after_node, StandsBefore, keeping, Follows, follows_inside, follows_outside, IsLow, TextPasses}
+use Rattle.yaml_laws.proofs.Flow.GapSteps.{past_ink}
 use Rattle.yaml_laws.proofs.Flow.Fillers.{separation_past}
-use Rattle.yaml_laws.proofs.Flow.Joins.{closes_unnoted, knowing}
+use Rattle.yaml_laws.proofs.Flow.Joins.{knowing, token_node}
 use Rattle.yaml_laws.proofs.Flow.Ends.{EndsHere, behind_node_first, root_first}
-use Rattle.yaml_laws.proofs.Flow.Quotes.{ends_node_ink, flow_ends_quotes, root_ends_quotes, style_of_quote, quoted_passes}
-use Rattle.yaml_laws.proofs.Flow.PlainEnds.{ends_in_flow, ends_at_root}
-use Rattle.yaml_laws.proofs.Flow.Plains.{plain_passes, plain_key_passes, plain_closes}
+use Rattle.yaml_laws.proofs.Flow.Quotes.{EndsQuotes, flow_ends_quotes, root_ends_quotes, style_of_quote, quoted_passes}
+use Rattle.yaml_laws.proofs.Flow.PlainEnds.{ParsColon, ends_in_flow, ends_at_root}
+use Rattle.yaml_laws.proofs.Flow.Plains.{PassesPlain, plain_comment, no_comment, plain_passes, plain_key_passes}
+use Rattle.saphyr_scalar.specs.Steps.Quoted.{mid_line}
 use Rattle.yaml_laws.proofs.Flow.Words.{plain_right, key_right}
 use Rattle.yaml_laws.proofs.Flow.Quoted.{quoted_right}
-
--- what is shown of the content of a scalar inside flow
-abbrev pub PassesContent : Around → Node → Style → List ℕ → List ℕ → List ℕ → Marker → Type 0
-PassesContent around node style value t o m =
-    (now : FlowMoment) → is_block now.context ≡ false → now.adjacent < m.index → StandsBefore around now m (t ++ o)
-    → PassesPiece around (state_at around now)
-    (after_node around.indent now.context (key_behind now m) node (moved m t) o) now.context now.outer now.places
-    (moved m t) o (scalar_token style value ∷ [])
 
 -- ## Quotes
 
@@ -59,130 +53,101 @@ colon_place indent m o separation more is parts right =
 same_low : (a b : ℕ) → a ≡ b → a ≤ b
 same_low a b e = omega (arith, e)
 
+-- ## What comes after
+
+follows_apart : (around : Around) (x : Context) (node : Node) (m : Marker) (o : List ℕ) → Follows around x node m o
+    → (slice_index o 0 == apostrophe) ≡ false
+follows_apart around x node m o (follows_inside flow behind) =
+    node_apart node (slice_index o 0) (behind_node_first around.indent node o behind)
+follows_apart around x node m o (follows_outside is behind) = white_apart (slice_index o 0) (root_first around m o behind)
+
+follows_quotes : (around : Around) (start : Marker) (x : Context) (node : Node) (m : Marker) (o : List ℕ)
+    → Follows around x node m o → around.indent ≤ m.col → EndsQuotes around start (mid_line m o) x
+follows_quotes around start x node m o (follows_inside flow behind) right =
+    flow_ends_quotes around node start m o x flow behind right
+follows_quotes around start x node m o (follows_outside is behind) right =
+    subst (EndsQuotes around start (mid_line m o)) (sym is) (root_ends_quotes around start m o behind right)
+
+follows_plain : (around : Around) (x : Context) (node : Node) (m : Marker) (o : List ℕ) → ParsColon node
+    → Follows around x node m o → around.indent ≤ m.col → EndsPlain (not (is_block x)) around.column m o
+follows_plain around x node m o apart (follows_inside flow behind) right =
+    subst (λ (f : Bool). EndsPlain f around.column m o) (sym (ap not flow))
+    (ends_in_flow around node m o apart behind right)
+follows_plain around x node m o apart (follows_outside is behind) right =
+    subst (λ (y : Context). EndsPlain (not (is_block y)) around.column m o) (sym is)
+    (ends_at_root around m o behind right)
+
+-- ## Scalars
+
+-- what is shown of the content of a scalar, wherever it is
+abbrev pub PassesContent : Around → Node → Style → List ℕ → List ℕ → List ℕ → Marker → FlowMoment → Type 0
+PassesContent around node style value t o m now =
+    FitsAround around m t o → Follows around now.context node (moved m t) o → IsLow now.context now.adjacent m
+    → StandsBefore around now m (t ++ o)
+    → TextPasses around now (λ ts. ts ≡ scalar_token style value ∷ []) (allows_adjacent node) m t o
+
 quotes_pass : ReaderPromises → (around : Around) (node : Node) (quote : Quote) (value t o : List ℕ) (m : Marker)
-    → IsQuoted quote around.indent value t → FitsAround around m t o
-    → IsBehindNode around.indent node o → PassesContent around node (style_of_quote quote) value t o m
-quotes_pass reads around node quote value t o m h fits behind now flow low text =
+    (now : FlowMoment) → IsQuoted quote around.indent value t
+    → PassesContent around node (style_of_quote quote) value t o m now
+quotes_pass reads around node quote value t o m now h fits follows low text =
+    let end = moved m t in
     let right = quoted_right around.indent quote m value t o h fits.clear fits.right in
-    let q = quoted_passes reads around quote value t o m h fits
-    (node_apart node (slice_index o 0) (behind_node_first around.indent node o behind)) now
-    (flow_ends_quotes around node m (moved m t) o now.context flow behind right) text in
-    knowing q (after_node around.indent now.context (key_behind now m) node (moved m t) o)
-    (record {
-      piece = q.knows.piece;
-      others = [];
-      is = q.knows.is;
-      keeps = q.knows.keeps;
-      near = λ _ separation more is parts allows. q.knows.tells
-          ∙ colon_place around.indent (moved m t) o separation more is parts right;
-      low = λ _. same_low q.adjacent (past around.indent (moved m t) o).0.index q.knows.tells;
-    })
+    let q = quoted_passes reads around quote value t o m h fits (follows_apart around now.context node end o follows) now
+    (follows_quotes around m now.context node end o follows right) text in
+    record {
+      tokens = scalar_token (style_of_quote quote) value ∷ [];
+      are = refl;
+      comment = None;
+      none = λ _. refl;
+      passes = knowing q
+          (after_node around.indent now.context (keeping now m t) (allows_adjacent node) end o)
+          (record {
+            piece = q.knows.piece;
+            others = [];
+            is = q.knows.is;
+            keeps = q.knows.keeps;
+            since = q.knows.since;
+            near = λ _ separation more is parts allows. q.knows.tells
+                ∙ colon_place around.indent end o separation more is parts right;
+            low = same_low q.adjacent (past around.indent end o).0.index q.knows.tells;
+          });
+    }
 
--- what is shown of the content of a document's node
-abbrev pub ClosesContent : Around → Style → List ℕ → List ℕ → List ℕ → Marker → Type 0
-ClosesContent around style value t o m =
-    (now : FlowMoment) → now.adjacent ≤ m.index → StandsBefore around now m (t ++ o)
-    → Closes around (state_at around (root_moment now)) now.key m t now.places (moved m t) o
-    (scalar_token style value ∷ [])
-
-quotes_close : ReaderPromises → (around : Around) (quote : Quote) (value t o : List ℕ) (m : Marker)
-    → IsQuoted quote around.indent value t → FitsAround around m t o → IsBehindRoot around (moved m t) o
-    → ClosesContent around (style_of_quote quote) value t o m
-quotes_close reads around quote value t o m h fits behind now before text =
-    let apart = white_apart (slice_index o 0) (root_first around (moved m t) o behind) in
-    let q = quoted_passes reads around quote value t o m h fits apart (root_moment now)
-    (root_ends_quotes around m (moved m t) o behind
-    (quoted_right around.indent quote m value t o h fits.clear fits.right)) text in
-    closes_unnoted q (same_low q.adjacent (past around.indent (moved m t) o).0.index q.knows.tells) q.knows.since
-
--- ## Plain scalars
-
-plains_pass : ReaderPromises → (around : Around) (p : Properties) (value t o : List ℕ) (m : Marker)
-    → IsFlowScalar Plain value true around.indent t → FitsAround around m t o
-    → IsBehindNode around.indent (Scalar p Plain value) o
-    → PassesContent around (Scalar p Plain value) Plain value t o m
-plains_pass reads around p value t o m h fits behind now flow low text =
+-- a plain scalar, or a key before its colon
+plains_pass : {around : Around} {p : Properties} {value t o : List ℕ} {m : Marker} {now : FlowMoment}
+    → value ≡ plain_value t → PassesPlain around now m t o
+    → (FitsAround around m t o → around.indent ≤ (moved m t).col)
+    → PassesContent around (Scalar p Plain value) Plain value t o m now
+plains_pass {around} {p} {value} {t} {o} {m} {now} stands passes reaches fits follows low text =
     let node = Scalar p Plain value in
-    let right = plain_right true around.indent m t o h.0 fits.clear fits.right in
-    let ink = ends_node_ink node behind.separation behind.others behind.first behind.ends in
-    let lands = ap (past around.indent (moved m t)) behind.is
-    ∙ separation_past around.indent (moved m t) behind.separation (behind.first ∷ behind.others) behind.parts right
-    ∙ past_ink around.indent (moved (moved m t) behind.separation) behind.first behind.others ink.0 in
-    let inked = ap (λ (z : Marker × List ℕ). is_blank (slice_index z.1 0)) lands ∙ ink.0.blank in
-    let q = plain_passes reads around t o m h.0 fits
-    (ends_in_flow around node (moved m t) o (λ w. refl) behind right) inked now flow low text in
-    subst (λ (v : List ℕ). PassesPiece around (state_at around now)
-    (after_node around.indent now.context (key_behind now m) node (moved m t) o) now.context now.outer now.places
-    (moved m t) o (scalar_token Plain v ∷ [])) (sym h.1)
-    (knowing q (after_node around.indent now.context (key_behind now m) node (moved m t) o)
-    (record {
-      piece = q.knows.piece;
-      others = [];
-      is = q.knows.is;
-      keeps = q.knows.keeps;
-      near = λ _ separation more is parts allows. absurd (false≢true allows);
-      low = λ _. subst (λ (n : ℕ). n ≤ (past around.indent (moved m t) o).0.index) (sym q.knows.tells)
-          (less_behind around.indent now.adjacent m t o low);
-    }))
+    let end = moved m t in
+    let right = reaches fits in
+    let q = passes fits (follows_plain around now.context node end o (λ w. refl) follows right)
+    (follows_quotes around m now.context node end o follows right).inked low.1 text in
+    record {
+      tokens = scalar_token Plain (plain_value t) ∷ [];
+      are = ap (λ (v : List ℕ). scalar_token Plain v ∷ []) (sym stands);
+      comment = plain_comment around now m t o;
+      none = λ e. no_comment (not (is_block now.context)) (is_tabbed around.column o) (past_white end false o) (ap not e);
+      passes = token_node (allows_adjacent node) (λ w. refl) low.0 q q.knows.tells;
+    }
 
--- a key before its colon
 pub key_content_passes : ReaderPromises → (around : Around) (p : Properties) (value t r : List ℕ) (m : Marker)
-    → value ≡ plain_value t → IsPlainKey true around.indent t → FitsAround around m t (colon ∷ r)
-    → IsBehindNode around.indent (Scalar p Plain value) (colon ∷ r)
-    → PassesContent around (Scalar p Plain value) Plain value t (colon ∷ r) m
-key_content_passes reads around p value t r m stands h fits behind now flow low text =
-    let node = Scalar p Plain value in
-    let right = key_right true around.indent m t r h fits.clear fits.right in
-    let q = plain_key_passes reads around t r m h fits
-    (ends_in_flow around node (moved m t) (58 ∷ r) (λ w. refl) behind right) now flow low text in
-    subst (λ (v : List ℕ). PassesPiece around (state_at around now)
-    (after_node around.indent now.context (key_behind now m) node (moved m t) (58 ∷ r)) now.context now.outer
-    now.places (moved m t) (58 ∷ r) (scalar_token Plain v ∷ [])) (sym stands)
-    (knowing q (after_node around.indent now.context (key_behind now m) node (moved m t) (58 ∷ r))
-    (record {
-      piece = q.knows.piece;
-      others = [];
-      is = q.knows.is;
-      keeps = q.knows.keeps;
-      near = λ _ separation more is parts allows. absurd (false≢true allows);
-      low = λ _. subst (λ (n : ℕ). n ≤ (past around.indent (moved m t) (58 ∷ r)).0.index) (sym q.knows.tells)
-          (less_behind around.indent now.adjacent m t (58 ∷ r) low);
-    }))
-
-plains_close : ReaderPromises → (around : Around) (value t o : List ℕ) (m : Marker)
-    → IsFlowScalar Plain value false around.indent t → FitsAround around m t o
-    → IsBehindRoot around (moved m t) o
-    → ClosesContent around Plain value t o m
-plains_close reads around value t o m h fits behind now before text =
-    let right = plain_right false around.indent m t o h.0 fits.clear fits.right in
-    let end = past around.indent (moved m t) o in
-    let q = plain_closes reads around t o m h.0 fits (ends_at_root around (moved m t) o behind right)
-    (lands_on_ink around.column end.0 end.1 (behind.lands right)) now before text in
-    subst (λ (v : List ℕ). Closes around (state_at around (root_moment now)) now.key m t now.places (moved m t) o
-    (scalar_token Plain v ∷ [])) (sym h.1) q
-
--- ## The content
+    (now : FlowMoment) → value ≡ plain_value t → IsPlainKey (not (is_block now.context)) around.indent t
+    → PassesContent around (Scalar p Plain value) Plain value t (colon ∷ r) m now
+key_content_passes reads around p value t r m now stands h =
+    plains_pass stands (plain_key_passes reads around t r m now h)
+    (λ fits. key_right (not (is_block now.context)) around.indent m t r h fits.clear fits.right)
 
 pub content_passes : ReaderPromises → (around : Around) (p : Properties) (style : Style) (value t o : List ℕ)
-    (m : Marker)
-    → IsFlowScalar style value true around.indent t → FitsAround around m t o
-    → IsBehindNode around.indent (Scalar p style value) o
-    → PassesContent around (Scalar p style value) style value t o m
-content_passes reads around p Plain value t o m h fits behind = plains_pass reads around p value t o m h fits behind
-content_passes reads around p SingleQuoted value t o m h fits behind =
-    quotes_pass reads around (Scalar p SingleQuoted value) Single value t o m h fits behind
-content_passes reads around p DoubleQuoted value t o m h fits behind =
-    quotes_pass reads around (Scalar p DoubleQuoted value) Double value t o m h fits behind
-content_passes reads around p Literal value t o m h fits behind = absurd h
-content_passes reads around p Folded value t o m h fits behind = absurd h
-
-pub content_closes : ReaderPromises → (around : Around) (style : Style) (value t o : List ℕ) (m : Marker)
-    → IsFlowScalar style value false around.indent t → FitsAround around m t o
-    → IsBehindRoot around (moved m t) o → ClosesContent around style value t o m
-content_closes reads around Plain value t o m h fits behind = plains_close reads around value t o m h fits behind
-content_closes reads around SingleQuoted value t o m h fits behind =
-    quotes_close reads around Single value t o m h fits behind
-content_closes reads around DoubleQuoted value t o m h fits behind =
-    quotes_close reads around Double value t o m h fits behind
-content_closes reads around Literal value t o m h fits behind = absurd h
-content_closes reads around Folded value t o m h fits behind = absurd h
+    (m : Marker) (now : FlowMoment) → IsFlowScalar style value (not (is_block now.context)) around.indent t
+    → PassesContent around (Scalar p style value) style value t o m now
+content_passes reads around p Plain value t o m now h =
+    plains_pass h.1 (plain_passes reads around t o m now h.0)
+    (λ fits. plain_right (not (is_block now.context)) around.indent m t o h.0 fits.clear fits.right)
+content_passes reads around p SingleQuoted value t o m now h =
+    quotes_pass reads around (Scalar p SingleQuoted value) Single value t o m now h
+content_passes reads around p DoubleQuoted value t o m now h =
+    quotes_pass reads around (Scalar p DoubleQuoted value) Double value t o m now h
+content_passes reads around p Literal value t o m now h = absurd h
+content_passes reads around p Folded value t o m now h = absurd h

@@ -11,7 +11,9 @@ use Rattle.scalar_laws.specs.Spelling.Spaces.{joined_pieces, AreEach, IsCommentB
 use Rattle.saphyr_scanner.specs.Grammar.Forest.{Node}
 use Rattle.yaml_laws.specs.Grammar.FlowNodes.{needs_separation, IsBeforeColon}
 use Rattle.yaml_laws.proofs.InFlow.States.{Around}
-use Rattle.yaml_laws.proofs.Flow.States.{EndsNode, IsBehindNode, IsBehindRoot}
+use Rattle.yaml_laws.proofs.Flow.States.{EndsNode, IsBehindNode, IsBehindRoot, Follows, follows_inside, follows_outside}
+use Rattle.saphyr_scanner.specs.declared.engine.level.Context.{Context}
+use Rattle.saphyr_scanner.specs.Steps.Level.{is_block}
 use Rattle.std.proofs.lemmas.Bool.{or_left}
 
 -- ## White space first
@@ -149,3 +151,13 @@ node_ends_tag indent node o needs h = by_first (slice_index o 0) (behind_node_fi
     by_first c (inr (inr (inl e))) = rw e refl
     by_first c (inr (inr (inr (inl e)))) = rw e refl
     by_first c (inr (inr (inr (inr e)))) = absurd (never (needs_separation node) needs e.1)
+
+-- ## After a node, wherever it is
+
+-- where a colon needs separation before it, a tag ends
+pub follows_tag : (around : Around) (x : Context) (node : Node) (m : Marker) (o : List ℕ) → needs_separation node ≡ true
+    → Follows around x node m o → EndsTag (not (is_block x)) o
+follows_tag around x node m o apart (follows_inside flow behind) =
+    subst (λ (f : Bool). EndsTag f o) (sym (ap not flow)) (node_ends_tag around.indent node o apart behind)
+follows_tag around x node m o apart (follows_outside is behind) =
+    white_ends_tag (not (is_block x)) o (root_first around m o behind)

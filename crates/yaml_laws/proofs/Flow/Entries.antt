@@ -116,7 +116,7 @@ pair_text_passes {around} room key value K V m t o fits ends (inl (none, h)) now
     in_mapping (record {
       tokens = n.tokens;
       are = inr (inr (inr (none, n.are)));
-      passes = knowing n.passes (ended around.indent (moved m t) o) (n.passes.knows.low refl);
+      passes = knowing n.passes (ended around.indent (moved m t) o) n.passes.knows.low;
     })
 pair_text_passes room key value K V m t o fits ends (inr (inl h)) now no_candidate fresh low before text =
     in_mapping (told_so (λ ts (ks, vs, are, others, is).
@@ -166,7 +166,7 @@ node_item_passes {around} room node N =
       back = refl;
       tokens = n.tokens;
       are = inl (subst (grammar.YieldsNode node grammar.InFlow) (sym (append-nil n.tokens)) n.are);
-      passes = knowing n.passes (ended around.indent (moved m t) o) (n.passes.knows.low refl);
+      passes = knowing n.passes (ended around.indent (moved m t) o) n.passes.knows.low;
     })
 
 -- the mapping of one pair

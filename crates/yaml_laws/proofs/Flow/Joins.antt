@@ -1,5 +1,5 @@
 -- Runs over pieces of a text in flow style, one after the other.
-use Rattle.std.proofs.Common.{◌≡◌, inl, inr, sym, ℕ, ◌≤◌, Bool, List, [], ◌++◌, refl, ap, ◌∙◌, append_assoc, append-nil}
+use Rattle.std.proofs.Common.{◌≡◌, inl, inr, sym, subst, ℕ, ◌≤◌, Bool, false, IsTrue, List, [], ◌++◌, refl, ap, ◌∙◌, append_assoc, append-nil}
 use Rattle.std.specs.Prelude.{Option, Some, None}
 use Rattle.saphyr_scalar.specs.declared.scalar.position.Marker.{Marker}
 use Rattle.scalar_laws.specs.Spelling.Spaces.{IsSeparation}
@@ -11,7 +11,10 @@ use Rattle.saphyr_scanner.specs.Steps.Level.{Candidate, Level}
 use Rattle.saphyr_scanner.specs.Steps.State.{State}
 use Rattle.saphyr_scanner.proofs.Queues.{place_kinds, place_kinds_append}
 use Rattle.yaml_laws.proofs.InFlow.States.{Around, state_at, runs_to_itself, chains, ComesAround, FlowMoment, moment_with}
-use Rattle.yaml_laws.proofs.Flow.States.{moved, past, IsFresh, Since, Known, PassesNoting, PassesPiece, Closes, after, StandsBefore}
+use Rattle.yaml_laws.proofs.Flow.States.{moved, past, IsFresh, Since, Known, PassesNoting, PassesPiece, Closes, after, after_node, keeping, StandsBefore, TextPasses}
+use Rattle.yaml_laws.proofs.Flow.Inks.{behind_low}
+use Rattle.yaml_laws.proofs.Flow.Tokens.{after_token}
+use Rattle.std.proofs.lemmas.Bool.{false≢true}
 use Rattle.yaml_laws.proofs.Flow.Places.{moved_append}
 use Rattle.yaml_laws.proofs.Flow.Fillers.{separation_past, right_behind}
 use Rattle.yaml_laws.proofs.InBlock.Crossings.{separation_crosses}
@@ -67,14 +70,6 @@ since_join k m a w b j key f (inr (inr (front, back, place, is, g))) =
       g ∙ ap (λ (n : Marker). Some (let c : Candidate = record { mark = n; place = place } in c)) here,
     ))
 
--- a document's node, after a piece that comes before it
-pub join_root : {around : Around} {start : Bool → State} {known : Known} {ps : List Place} {m e : Marker} {o z : List ℕ}
-    {ts us : List Kind} → (p : PassesPiece around start known context.Block [] ps m o ts)
-    {j k : Option Candidate} {first next : Marker} {t u : List ℕ}
-    → (q : Closes around (state_at around (after p)) j next u (ps ++ p.new) e z us) → Since k first t q.run.key
-    → Closes around start k first t ps e z (ts ++ us)
-join_root p q late = record { comment = q.comment; run = join p q.run _ (q.run.knows.0, late) }
-
 -- the separation after a piece
 pub separation_joins : {around : Around} {start : Bool → State} {known : Known} {x : Context} {ls : List Level}
     {ps : List Place}
@@ -96,9 +91,10 @@ separation_joins {around = around} m w o h p =
     }
 
 -- what is known, told otherwise
-pub knowing : {around : Around} {start : Bool → State} {known : Known} {x : Context} {ls : List Level} {ps : List Place}
-    {m : Marker} {o : List ℕ} {ts : List Kind} → (p : PassesPiece around start known x ls ps m o ts) → (other : Known)
-    → other p.key p.allowed p.adjacent p.new → PassesPiece around start other x ls ps m o ts
+pub knowing : {comment : Option Marker} {around : Around} {start : Bool → State} {known : Known} {x : Context}
+    {ls : List Level} {ps : List Place} {m : Marker} {o : List ℕ} {ts : List Kind}
+    → (p : PassesNoting comment around start known x ls ps m o ts) → (other : Known)
+    → other p.key p.allowed p.adjacent p.new → PassesNoting comment around start other x ls ps m o ts
 knowing p other h =
     record {
       there = p.there;
@@ -113,6 +109,51 @@ knowing p other h =
       are = p.are;
       knows = h;
     }
+
+-- a text, told otherwise
+pub told : {around : Around} {now : FlowMoment} {Is Js : List Kind → Type 0} {allows others : List ℕ → Bool} {m : Marker}
+    {t o : List ℕ} → ((ts : List Kind) → Is ts → Js ts) → ((w : List ℕ) → IsTrue (others w) → IsTrue (allows w))
+    → TextPasses around now Is allows m t o → TextPasses around now Js others m t o
+told {around} {now} {others = others} {m} {t} {o} f g r =
+    let n = r.passes.knows in
+    record {
+      tokens = r.tokens;
+      are = f r.tokens r.are;
+      comment = r.comment;
+      none = r.none;
+      passes = knowing r.passes (after_node around.indent now.context (keeping now m t) others (moved m t) o)
+          (record {
+            piece = n.piece;
+            others = n.others;
+            is = n.is;
+            keeps = n.keeps;
+            since = n.since;
+            near = λ e w more is parts allows. n.near e w more is parts (g w allows);
+            low = n.low;
+          });
+    }
+
+-- A token after which no colon may come at once, and what is known of it as a node.
+pub token_node : {comment : Option Marker} {around : Around} {now : FlowMoment} {says : Bool → ℕ → Type 0} {m : Marker}
+    {t o : List ℕ} {ts : List Kind} (allows : List ℕ → Bool) → ((w : List ℕ) → allows w ≡ false)
+    → now.adjacent ≤ m.index
+    → (q : PassesNoting comment around (state_at around now) (after_token says now.context (keeping now m t)) now.context
+    now.outer now.places (moved m t) o ts) → q.adjacent ≡ now.adjacent
+    → PassesNoting comment around (state_at around now)
+    (after_node around.indent now.context (keeping now m t) allows (moved m t) o) now.context now.outer now.places
+    (moved m t) o ts
+token_node {around = around} {now} {m = m} {t} {o} allows never low q still =
+    knowing q (after_node around.indent now.context (keeping now m t) allows (moved m t) o)
+    (record {
+      piece = q.knows.piece;
+      others = [];
+      is = q.knows.is;
+      keeps = q.knows.keeps;
+      since = q.knows.since;
+      near = λ _ w more is parts may. absurd (false≢true (sym (never w) ∙ may));
+      low = subst (λ (n : ℕ). n ≤ (past around.indent (moved m t) o).0.index) (sym still)
+          (behind_low around.indent now.adjacent m t o low);
+    })
 
 -- a document's node after which no comment is noted
 abbrev pub closes_unnoted : {around : Around} {start : Bool → State} {known : Known} {ps : List Place} {m : Marker}

@@ -105,7 +105,7 @@ inside_passes {around} room key value K V y z c m t o fits ends (inl (none, h)) 
     record {
       tokens = n.tokens;
       are = inr (none, (n.tokens, inr n.are, refl));
-      passes = knowing n.passes (ended around.indent (moved m t) o) (n.passes.knows.low c.inside);
+      passes = knowing n.passes (ended around.indent (moved m t) o) n.passes.knows.low;
     }
 inside_passes {around} room key value K V y z c m t o fits ends (inr (inl h)) now no_candidate none_allowed
     low before text =

@@ -1,6 +1,6 @@
 -- The anchors, aliases and tags of a text in flow style are passed.
 use Rattle.std.proofs.Common.{◌≡◌, ℕ, ◌+◌, ◌≤◌, Bool, true, false, List, [], ◌∷◌, ◌++◌, length, slice_index, refl, sym, ap, ◌∙◌, arith, subst, encode_utf8_all, IsTrue, inl, inr}
-use Rattle.std.specs.Prelude.{◌==◌, not, Option}
+use Rattle.std.specs.Prelude.{◌==◌, not, Option, None}
 use Rattle.saphyr_input.specs.Indicators.{exclamation_mark}
 use Rattle.saphyr_input.specs.Classes.{is_break, is_anchor_char, line_feed, is_alpha}
 use Rattle.saphyr_scalar.specs.declared.scalar.position.Marker.{Marker}
@@ -128,7 +128,7 @@ name_passes reads around token_of indicator name t o m begins start break h is e
     let end = moved m (indicator ∷ name) in
     subst (λ (p : List ℕ). FitsAround around m p o → StandsBefore around now m (p ++ o)
     → PassesToken around (closes_key now.adjacent) now m p o kind) (sym is) (λ fits text.
-    token_passes around (closes_key now.adjacent) kind (indicator ∷ name) o m
+    token_passes around None (closes_key now.adjacent) kind (indicator ∷ name) o m
     (starts indicator name (indicator ∷ name) refl start) fits
     (unbroken_right around.indent m (indicator ∷ name) (break, name_no_break name h) fits.right) now text
     (λ b j e. record {
@@ -205,7 +205,7 @@ tag_passes reads around tag t o m h fits now ends text =
     let end = moved m t in
     let n = length now.places in
     let kind = tokens.Tag (encode_utf8_all r.handle) (encode_utf8_all r.suffix) in
-    subst (λ (q : Kind). PassesToken around (closes_key now.adjacent) now m t o q) r.token (token_passes around
+    subst (λ (q : Kind). PassesToken around (closes_key now.adjacent) now m t o q) r.token (token_passes around None
     (closes_key now.adjacent) kind t o m first fits
     (unbroken_right around.indent m t (tag_no_break t r.handle r.suffix r.is) fits.right) now text (λ b j e. record {
       there = mid_line end o;

@@ -1,6 +1,6 @@
 -- Pairs of a key and a value inside flow.
 use Rattle.std.proofs.Common.{◌≡◌, ◌≢◌, ℕ, ◌+◌, ◌<◌, ◌≤◌, Bool, true, false, List, [], ◌∷◌, ◌++◌, length, slice_index, refl, sym, ap, ◌∙◌, arith, subst, append_assoc, append-nil, IsTrue, ◌⊎◌, inl, inr}
-use Rattle.std.specs.Prelude.{Some, None}
+use Rattle.std.specs.Prelude.{None}
 use Rattle.saphyr_scalar.specs.declared.scalar.position.Marker.{Marker}
 use Rattle.scalar_laws.specs.Spelling.Spaces.{IsSeparation}
 use Rattle.saphyr_scanner.specs.declared.engine.level.Context.{Context}
@@ -15,12 +15,12 @@ use Rattle.saphyr_scanner.specs.Limits.{most_open}
 use Rattle.saphyr_scanner.proofs.Levels.{saved}
 use Rattle.yaml_laws.specs.Grammar.FlowNodes.{allows_adjacent, IsColonAndValue, IsBeforeColon, IsKeyAndValue, IsValueAlone, IsFlowNode, IsKeyText}
 use Rattle.yaml_laws.proofs.InFlow.States.{Around, state_at, FlowMoment, moment_in}
-use Rattle.yaml_laws.proofs.Flow.States.{moved, past, FitsAround, IsInk, IsParted, ends_colon, IsBehindNode, Known, PassesPiece, no_key, ended, after_node, IsAfterNode, IsNodeOrKey, PassesNode, after, StandsBefore, key_behind}
+use Rattle.yaml_laws.proofs.Flow.States.{moved, past, FitsAround, IsInk, IsParted, ends_colon, IsBehindNode, Known, PassesPiece, no_key, ended, keeping, IsNodeOrKey, PassesNode, after, StandsBefore, key_behind}
 use Rattle.yaml_laws.proofs.Flow.Places.{moved_append, right_one}
 use Rattle.yaml_laws.proofs.Flow.GapSteps.{past_ink, less_on, less_behind}
 use Rattle.yaml_laws.proofs.Flow.Fillers.{separation_past, right_behind}
 use Rattle.yaml_laws.proofs.Flow.Joins.{join, separation_joins, knowing}
-use Rattle.yaml_laws.proofs.Flow.Values.{key_kinds, colon_flows, key_at, colon_passes, alone_kinds, value_passes}
+use Rattle.yaml_laws.proofs.Flow.Values.{key_kinds, colon_flows, colon_passes, alone_kinds, value_passes}
 use Rattle.yaml_laws.proofs.Flow.Inks.{ink_front, node_ink}
 use Rattle.yaml_laws.proofs.Flow.Pieces.{fits_front, fits_back, fits_so, fits_before, IsBehindEntry, entry_behind, entry_parted, parted_by, white_ends_colon, entry_ends_colon}
 
@@ -85,7 +85,7 @@ value_behind {around} {start} {ls} {ps} {ts} room value V y flows m rest o fits 
     (record {
       tokens = ts ++ n.tokens;
       are = (n.tokens, inr n.are, refl);
-      passes = join q n.passes (ended around.indent (moved (moved m separation) node) o) (n.passes.knows.low flows);
+      passes = join q n.passes (ended around.indent (moved (moved m separation) node) o) n.passes.knows.low;
     })
 
 -- a colon and what comes after it
@@ -198,12 +198,9 @@ key_passes {around} room key value K V y flows m t o fits ends (node, separation
     (fits_back m node (separation ++ (58 ∷ rest)) o n.passes.right whole) in
     let mark_fits = fits_front here (58 ∷ []) rest o colon_fits in
     let behind_mark = right_one around.indent here 58 refl at_colon_right in
-    let q = n.passes in
-    let kept = subst (λ (b : Bool). IsAfterNode around.indent y (saved b (length now.places) m now.key) key at_end
-    (separation ++ (58 ∷ (rest ++ o))) q.key q.adjacent q.new) fresh q.knows in
-    let known = after_node around.indent y (Some (key_at m now.places)) key at_end (separation ++ (58 ∷ (rest ++ o))) in
     let p = colon_passes around y flows m at_end key separation (rest ++ o) parts mark_fits x.parted x.ends line start
-    now.outer now.places n.tokens (knowing q known kept) in
+    now.outer now.places n.tokens (keeping (moment_in y now) m node)
+    (ap (λ (b : Bool). saved b (length now.places) m now.key) fresh) n.passes in
     let v = value_behind room value V (behind_colon y) (colon_flows y flows) (moved here (58 ∷ [])) rest o
     (fits_back here (58 ∷ []) rest o behind_mark colon_fits) ends low x.value_text p in
     told_at (moved (moved here (58 ∷ [])) rest) (moved m t) (whole_moved m t node separation rest is)
@@ -303,7 +300,7 @@ marked_key_passes {around} room key value K V y flows no_pair m t o fits ends
       by_place separation second n.passes.adjacent here.index x.ends
           (known.near flows separation (rest ++ o) refl parts),
       subst
-          (λ (z : Marker × List ℕ). n.passes.adjacent ≤ z.0.index) lands (known.low flows),
+          (λ (z : Marker × List ℕ). n.passes.adjacent ≤ z.0.index) lands known.low,
     ) in
     let q = separation_joins at_end separation (58 ∷ (rest ++ o)) parts (knowing n.passes (at_colon here second)
     told) in

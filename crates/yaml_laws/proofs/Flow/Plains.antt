@@ -11,7 +11,6 @@ use Rattle.saphyr_scalar.specs.Steps.Plain.{PlainScalarRead, comment_of}
 use Rattle.saphyr_scalar.specs.Spelling.Tag.{AreIn}
 use Rattle.scalar_laws.specs.Spelling.Plain.{is_tabbed, past_white, EndsPlain, is_word_ink, AreWordInk, IsPlainText}
 use Rattle.saphyr_scanner.specs.declared.engine.level.Context.{Context}
-use Rattle.saphyr_scanner.specs.declared.engine.level.Context.TheVariants as context
 use Rattle.saphyr_scanner.specs.Grammar.Tokens as tokens
 use Rattle.saphyr_scanner.specs.Grammar.Tokens.{Kind, scalar_token}
 use Rattle.saphyr_scanner.specs.Grammar.Forest.{Plain}
@@ -21,15 +20,12 @@ use Rattle.saphyr_scanner.specs.Steps.Scalar as scalar
 use Rattle.saphyr_scanner.specs.Steps.Scalar.{read_plain, disallow_key, behind_plain}
 use Rattle.saphyr_scanner.specs.Steps.Fetch.{step, is_value_adjacent}
 use Rattle.yaml_laws.specs.Grammar.FlowScalars.{begins_plain, IsPlain, IsPlainKey}
-use Rattle.yaml_laws.proofs.InFlow.States.{Around, core_at, state_at, Placed, placed_right, plain_placed, saves_key, FlowMoment, moment, moment_with, root_moment}
+use Rattle.yaml_laws.proofs.InFlow.States.{Around, core_at, state_at, Placed, placed_right, plain_placed, saves_key, FlowMoment}
 use Rattle.yaml_laws.proofs.InFlow.OnLine.{plain_lowers, plain_key_lowers}
-use Rattle.yaml_laws.proofs.Flow.States.{moved, past, IsClear, ReaderPromises, Closes, FitsAround, StandsBefore}
-use Rattle.yaml_laws.proofs.Flow.Joins.{step_passes}
-use Rattle.yaml_laws.proofs.Flow.Places.{moved_count}
+use Rattle.yaml_laws.proofs.Flow.States.{moved, past, IsClear, ReaderPromises, FitsAround, StandsBefore, PassesNoting, keeping}
 use Rattle.yaml_laws.proofs.Flow.Fillers.{white_past}
-use Rattle.yaml_laws.proofs.Flow.GapSteps.{past_ink}
-use Rattle.yaml_laws.proofs.Flow.Tokens.{arrives, step_comes, within_index, saved_since, begins_past, begins_inked, begins_token, adjacent_at, token_passes, PassesToken}
-use Rattle.yaml_laws.proofs.Flow.Inks.{start_ink, behind_low, Begins}
+use Rattle.yaml_laws.proofs.Flow.Tokens.{adjacent_at, token_passes, after_token}
+use Rattle.yaml_laws.proofs.Flow.Inks.{Begins}
 use Rattle.yaml_laws.proofs.Flow.WordGaps.{passed_moved, normalized_same}
 use Rattle.yaml_laws.proofs.Flow.Words.{ink_other, ink_no_break, colon_is_ink, plain_text, key_text, plain_right, key_right}
 use Rattle.yaml_laws.proofs.InBlock.Crossings.{white_crosses}
@@ -37,7 +33,6 @@ use Rattle.saphyr_input.proofs.Basics.Booleans.{other_than, and_false}
 use Rattle.saphyr_scalar.proofs.Given.{cursor_at}
 use Rattle.std.proofs.lemmas.Bool.{ne_eqb, eqb-true}
 use Rattle.saphyr_input.specs.Indicators.{hyphen, question_mark, number_sign}
-use Rattle.saphyr_scanner.proofs.Queues.{token_place}
 use Rattle.saphyr_scanner.proofs.Levels.{saved}
 
 -- ## The first two characters
@@ -202,7 +197,7 @@ plain_begins first second n c h dash mark colon value =
 -- ## The scalar is read
 
 -- the value of a plain scalar as a token
-abbrev plain_token : List ℕ → Kind
+abbrev pub plain_token : List ℕ → Kind
 plain_token t = scalar_token Plain (plain_value t)
 
 -- what is read of a text that ends at a place
@@ -280,103 +275,65 @@ plain_step reads around d n m b t o x begins text clear k ls a ad low placed =
     plain_dispatches around d (cursor_at (t ++ o) m b) n t o x begins k ls a ad low
     ∙ plain_read reads around d n m b t o x text clear k ls a ad placed
 
--- ## Inside flow
+-- ## The scalar is passed
 
-no_comment : (f t : Bool) (u : Cursor) → f ≡ true → comment_of f t u ≡ None
+pub no_comment : (f t : Bool) (u : Cursor) → f ≡ true → comment_of f t u ≡ None
 unfolding comment_of
 no_comment f t u e = rw e refl
 
--- a text that is read as a plain scalar is passed
-pub text_passes : ReaderPromises → (around : Around) (t o : List ℕ) (m : Marker) → BeginsWord true t o
-    → IsPlainText true around.column m t o → FitsAround around m t o → around.indent ≤ (moved m t).col
+-- the comment that ends a plain scalar which is at m, outside flow
+abbrev pub plain_comment : Around → FlowMoment → Marker → List ℕ → List ℕ → Option Marker
+plain_comment around now m t o =
+    comment_of (not (is_block now.context)) (is_tabbed around.column o) (past_white (moved m t) false o)
+
+-- a text that is read as a plain scalar is passed, where that is a word's beginning
+abbrev pub PassesPlain : Around → FlowMoment → Marker → List ℕ → List ℕ → Type 0
+PassesPlain around now m t o =
+    FitsAround around m t o → EndsPlain (not (is_block now.context)) around.column (moved m t) o
     → is_blank (slice_index (past around.indent (moved m t) o).1 0) ≡ false
-    → (now : FlowMoment) → is_block now.context ≡ false → now.adjacent < m.index → StandsBefore around now m (t ++ o)
-    → PassesToken around (adjacent_at now.adjacent) now m t o (scalar_token Plain (plain_value t))
-text_passes reads around t o m begins plain fits right inked now flow low text =
-    let inside : not (is_block now.context) ≡ true = ap not flow in
+    → (is_block now.context ≡ true) ⊎ (now.adjacent < m.index) → StandsBefore around now m (t ++ o)
+    → PassesNoting (plain_comment around now m t o) around (state_at around now)
+    (after_token (adjacent_at now.adjacent) now.context (keeping now m t)) now.context now.outer now.places (moved m t) o
+    (plain_token t ∷ [])
+
+text_passes : ReaderPromises → (around : Around) (t o : List ℕ) (m : Marker) (now : FlowMoment)
+    → BeginsWord (not (is_block now.context)) t o
+    → (FitsAround around m t o → EndsPlain (not (is_block now.context)) around.column (moved m t) o
+    → IsPlainText (not (is_block now.context)) around.column m t o × (around.indent ≤ (moved m t).col))
+    → PassesPlain around now m t o
+text_passes reads around t o m now begins plain fits ends inked low text =
+    let f = not (is_block now.context) in
     let u = past_white (moved m t) false o in
-    let word : BeginsWord (not (is_block now.context)) t o = subst (λ (f : Bool). BeginsWord f t o) (sym inside)
-    begins in
-    let is_text : IsPlainText (not (is_block now.context)) around.column m t o =
-    subst (λ (f : Bool). IsPlainText f around.column m t o) (sym inside) plain in
-    token_passes around (adjacent_at now.adjacent) (plain_token t) t o m (token_begins true t o begins) fits right now
-    text (λ b j e. record {
+    let is = plain fits ends in
+    token_passes around (plain_comment around now m t o) (adjacent_at now.adjacent) (plain_token t) t o m
+    (token_begins f t o begins) fits is.1 now text (λ b j e. record {
       there = u;
       end = moved m t;
       allowed = u.blank_so_far;
       adjacent = now.adjacent;
       to = λ d. false;
-      is = λ d. plain_step reads around d (length now.places) m b t o now.context word is_text fits.clear j now.outer e
-          now.adjacent (inr low) (placed_right now.context e fits.calm fits.right)
-          ∙ ap (λ (q : Option Marker). completed_step (from_to m (moved m t) (plain_token t) ∷ [])
-          (record (core_at around false u now.context (saved e (length now.places) m j) now.outer u.blank_so_far
-          now.adjacent) { comment = q }))
-          (no_comment (not (is_block now.context)) (is_tabbed around.column o) u inside);
+      is = λ d. plain_step reads around d (length now.places) m b t o now.context begins is.0 fits.clear j now.outer e
+          now.adjacent low (placed_right now.context e fits.calm fits.right);
       fits = white_past around.indent (moved m t) false o inked;
       fresh = λ _ e. white_crosses (moved m t) false o e;
       tells = refl;
     })
 
-pub plain_passes : ReaderPromises → (around : Around) (t o : List ℕ) (m : Marker) → IsPlain true around.indent t
-    → FitsAround around m t o → EndsPlain true around.column (moved m t) o
-    → is_blank (slice_index (past around.indent (moved m t) o).1 0) ≡ false
-    → (now : FlowMoment) → is_block now.context ≡ false → now.adjacent < m.index → StandsBefore around now m (t ++ o)
-    → PassesToken around (adjacent_at now.adjacent) now m t o (scalar_token Plain (plain_value t))
-plain_passes reads around t o m h fits ends inked =
-    text_passes reads around t o m (word_begins true around.indent t o h)
-    (plain_text true around.column m t o (plain_lowers around.indent around.column around.low true t h) fits.clear ends)
-    fits
-    (plain_right true around.indent m t o h fits.clear fits.right) inked
+pub plain_passes : ReaderPromises → (around : Around) (t o : List ℕ) (m : Marker) (now : FlowMoment)
+    → IsPlain (not (is_block now.context)) around.indent t → PassesPlain around now m t o
+plain_passes reads around t o m now h =
+    let f = not (is_block now.context) in
+    text_passes reads around t o m now (word_begins f around.indent t o h) (λ fits ends. (
+      plain_text f around.column m t o (plain_lowers around.indent around.column around.low f t h) fits.clear ends,
+      plain_right f around.indent m t o h fits.clear fits.right,
+    ))
 
 -- a key is passed, up to its colon
-pub plain_key_passes : ReaderPromises → (around : Around) (t r : List ℕ) (m : Marker) → IsPlainKey true around.indent t
-    → FitsAround around m t (58 ∷ r) → EndsPlain true around.column (moved m t) (58 ∷ r)
-    → (now : FlowMoment) → is_block now.context ≡ false → now.adjacent < m.index → StandsBefore around now m
-    (t ++ (58 ∷ r))
-    → PassesToken around (adjacent_at now.adjacent) now m t (58 ∷ r) (scalar_token Plain (plain_value t))
-plain_key_passes reads around t r m h fits ends =
-    text_passes reads around t (58 ∷ r) m (key_begins true around.indent t r h)
-    (key_text true around.column m t r (plain_key_lowers around.indent around.column around.low true t h) fits.clear
-    ends) fits
-    (key_right true around.indent m t r h fits.clear fits.right)
-    (ap (λ (z : Marker × List ℕ). is_blank (slice_index z.1 0))
-    (past_ink around.indent (moved m t) 58 r (start_ink 58 refl)))
-
--- ## A document's node
-
-pub plain_closes : ReaderPromises → (around : Around) (t o : List ℕ) (m : Marker) → IsPlain false around.indent t
-    → FitsAround around m t o → EndsPlain false around.column (moved m t) o
-    → is_blank (slice_index (past around.indent (moved m t) o).1 0) ≡ false
-    → (now : FlowMoment) → now.adjacent ≤ m.index → StandsBefore around now m (t ++ o)
-    → Closes around (state_at around (root_moment now)) now.key m t now.places (moved m t) o
-    (scalar_token Plain (plain_value t) ∷ [])
-plain_closes reads around t o m h fits ends inked now before text =
-    let w = word_begins false around.indent t o h in
-    let f = token_begins false t o w in
-    let v = arrives around (root_moment now) m (t ++ o) (text ∙ begins_past around.indent m t o f)
-    (begins_inked t o f) fits.right fits.calm in
-    let u = past_white (moved m t) false o in
-    let lands = white_past around.indent (moved m t) false o inked in
-    let count = moved_count m t o in
-    let below = fits.below in
-    let low = within_index around.indent around.limit u (moved m t) o lands (omega (arith, count, below)) in
-    let new = token_place m (moved m t) (plain_token t) ∷ [] in
-    let comment = comment_of false (is_tabbed around.column o) u in
-    let next = moment u context.Block (saved v.allowed (length now.places) m v.key) [] u.blank_so_far now.adjacent
-    now.places in
-    let stepped = λ (d : Bool). plain_step reads around d (length now.places) m v.blank t o context.Block w
-    (plain_text false around.column m t o (plain_lowers around.indent around.column around.low false t h) fits.clear
-    ends) fits.clear v.key [] v.allowed now.adjacent (inl refl)
-    (placed_right context.Block v.allowed fits.calm fits.right) in
-    let came = step_comes around (root_moment now) m (t ++ o) v (begins_token m t o f fits.clear) comment
-    (moment_with new next) (from_to m (moved m t) (plain_token t) ∷ []) (λ d. false) stepped refl
-    low in
-    record {
-      comment = comment;
-      run = step_passes next new (moved m t) o (scalar_token Plain (plain_value t) ∷ []) _ came
-          (plain_right false around.indent m t o h fits.clear fits.right) lands
-          (λ _ e. white_crosses (moved m t) false o e) refl (
-            behind_low around.indent now.adjacent m t o before,
-            saved_since v.allowed (length now.places) m now.key v.key t came.key v.kept came.kept,
-          );
-    }
+pub plain_key_passes : ReaderPromises → (around : Around) (t r : List ℕ) (m : Marker) (now : FlowMoment)
+    → IsPlainKey (not (is_block now.context)) around.indent t → PassesPlain around now m t (58 ∷ r)
+plain_key_passes reads around t r m now h =
+    let f = not (is_block now.context) in
+    text_passes reads around t (58 ∷ r) m now (key_begins f around.indent t r h) (λ fits ends. (
+      key_text f around.column m t r (plain_key_lowers around.indent around.column around.low f t h) fits.clear ends,
+      key_right f around.indent m t r h fits.clear fits.right,
+    ))

@@ -1,8 +1,7 @@
 -- The properties of a node in flow style are passed, and an alias is.
-use Rattle.std.proofs.Common.{◌≡◌, ◌≢◌, ℕ, zero, suc, ◌+◌, ◌-◌, ◌≤◌, ◌<◌, Bool, true, false, List, [], ◌∷◌, ◌++◌, length, slice_index, refl, sym, ap, ◌∙◌, arith, subst, append_assoc, append-nil, IsTrue, inl, inr}
+use Rattle.std.proofs.Common.{◌≡◌, ◌≢◌, ℕ, zero, suc, ◌+◌, ◌-◌, ◌≤◌, Bool, true, false, List, [], ◌∷◌, ◌++◌, length, slice_index, refl, sym, ap, ◌∙◌, arith, subst, append_assoc, append-nil, IsTrue, inl, inr}
 use Rattle.std.specs.Prelude.{not, option_map, Option, Some, None}
 use Rattle.saphyr_input.specs.Classes.{is_blank, is_blank_or_breakz}
-use Rattle.std.proofs.lemmas.Bool.{false≢true}
 use Rattle.std.proofs.lemmas.Bool.Decides.{nat_tests}
 use Rattle.saphyr_scalar.specs.declared.scalar.position.Marker.{Marker}
 use Rattle.saphyr_scalar.specs.Spelling.Tag.{AreIn, EndsTag}
@@ -16,23 +15,20 @@ use Rattle.saphyr_scanner.specs.Steps.Queue.{Place}
 use Rattle.saphyr_scanner.specs.Steps.Level.{Candidate, Level, is_block}
 use Rattle.saphyr_scanner.specs.Steps.State.{State}
 use Rattle.saphyr_scanner.specs.Grammar.Forest.{Tag, Alias}
-use Rattle.saphyr_scanner.specs.Limits.{most_open}
 use Rattle.saphyr_scanner.proofs.Levels.{saved}
 use Rattle.yaml_laws.specs.Grammar.TagSpelling.{IsTag}
 use Rattle.yaml_laws.specs.Grammar.FlowNodes as yaml
-use Rattle.yaml_laws.specs.Grammar.FlowNodes.{IsAnchor}
-use Rattle.yaml_laws.proofs.InFlow.States.{Around, state_at, FlowMoment, root_moment}
-use Rattle.yaml_laws.proofs.Flow.States.{Since, KeptKey, keeping, moved, past, IsBehindNode, IsBehindRoot, ReaderPromises, Known, PassesPiece, FitsAround, IsAfterNode, IsAfterProperties, NodePasses, RootCloses, after, StandsBefore, key_behind}
+use Rattle.yaml_laws.specs.Grammar.FlowNodes.{IsAnchor, allows_adjacent}
+use Rattle.yaml_laws.proofs.InFlow.States.{Around, state_at, FlowMoment}
+use Rattle.yaml_laws.proofs.Flow.States.{Since, KeptKey, keeping, moved, past, ReaderPromises, Known, PassesPiece, FitsAround, IsAfterProperties, after, StandsBefore, key_behind, ReadsText}
 use Rattle.yaml_laws.proofs.Flow.Places.{moved_append}
 use Rattle.yaml_laws.proofs.Documents.Lines.{rest_first}
-use Rattle.yaml_laws.proofs.Flow.GapSteps.{less_behind}
 use Rattle.yaml_laws.proofs.Flow.Fillers.{spaces_are_blank, separation_past, right_behind}
 use Rattle.yaml_laws.proofs.Flow.Pieces.{fits_front, fits_back}
-use Rattle.yaml_laws.proofs.Flow.Joins.{since_join, join, closes_unnoted, knowing}
-use Rattle.yaml_laws.proofs.Flow.Inks.{node_ink, start_low, behind_low}
+use Rattle.yaml_laws.proofs.Flow.Joins.{since_join, join, knowing, token_node}
 use Rattle.yaml_laws.proofs.Flow.Tokens.{after_token}
 use Rattle.yaml_laws.proofs.Flow.Names.{closes_key, anchor_passes, alias_token_passes, tag_passes}
-use Rattle.yaml_laws.proofs.Flow.Ends.{tag_ends_name, white_ends_tag, node_ends_tag, root_first}
+use Rattle.yaml_laws.proofs.Flow.Ends.{tag_ends_name, white_ends_tag, follows_tag}
 
 -- ## What is known after properties
 
@@ -256,43 +252,16 @@ properties_read reads around (Some name) (Some tag) m t o (anchor, between, writ
 
 -- ## An alias
 
-pub alias_passes : ReaderPromises → (around : Around) (room : ℕ) (name : List ℕ) (m : Marker) (p o : List ℕ)
-    → yaml.IsFlowNode room (Alias name) true around.indent p → FitsAround around m p o
-    → IsBehindNode around.indent (Alias name) o
-    → (now : FlowMoment) → now.adjacent < m.index → is_block now.context ≡ false → room + length now.outer ≤ most_open
-    → StandsBefore around now m (p ++ o) → NodePasses around now (Alias name) m p o
-alias_passes reads around room name m p o h fits behind now before flow small text =
-    let ends = tag_ends_name true o (node_ends_tag around.indent (Alias name) o refl behind) in
-    let q = alias_token_passes reads around name p o m h ends fits now text in
+pub alias_passes : ReaderPromises → (around : Around) (name : List ℕ) (m : Marker) (t o : List ℕ) (now : FlowMoment)
+    → yaml.IsAlias name t → ReadsText around (Alias name) m t o now
+alias_passes reads around name m t o now h fits follows low text =
+    let ends = tag_ends_name (not (is_block now.context)) o
+    (follows_tag around now.context (Alias name) (moved m t) o refl follows) in
+    let q = alias_token_passes reads around name t o m h ends fits now text in
     record {
       tokens = alias_token name ∷ [];
-      are = refl;
-      passes = knowing q (λ key allowed adjacent new. IsAfterNode around.indent now.context (key_behind now m)
-          (Alias name) (moved m p) o key adjacent new)
-          (record {
-            piece = q.knows.piece;
-            others = [];
-            is = q.knows.is;
-            keeps = q.knows.keeps;
-            near = λ e separation more is parts allows. absurd (false≢true allows);
-            low = λ e. subst (λ (n : ℕ). n ≤ (past around.indent (moved m p) o).0.index) (sym q.knows.tells.1)
-                (less_behind around.indent now.adjacent m p o before);
-          });
-    }
-
-pub alias_closes : ReaderPromises → (around : Around) (name : List ℕ) (m : Marker) (p o : List ℕ)
-    → yaml.IsFlowNode most_open (Alias name) false around.indent p → FitsAround around m p o
-    → IsBehindRoot around (moved m p) o
-    → (now : FlowMoment) → now.adjacent ≤ (past around.indent m (p ++ o)).0.index → StandsBefore around now m (p ++ o)
-    → RootCloses around now (Alias name) m p o
-alias_closes reads around name m p o h fits behind now before text =
-    let first = start_low around.indent now.adjacent m p o (node_ink around.indent most_open (Alias name) false p h)
-    before in
-    let ends = tag_ends_name true o (white_ends_tag true o (root_first around (moved m p) o behind)) in
-    let q = alias_token_passes reads around name p o m h ends fits (root_moment now) text in
-    record {
-      tokens = alias_token name ∷ [];
-      are = refl;
-      closes = closes_unnoted q (subst (λ (n : ℕ). n ≤ (past around.indent (moved m p) o).0.index) (sym q.knows.tells.1)
-          (behind_low around.indent now.adjacent m p o first)) q.knows.since;
+      are = λ place. refl;
+      comment = None;
+      none = λ _. refl;
+      passes = token_node (allows_adjacent (Alias name)) (λ w. refl) low.0 q q.knows.tells.1;
     }

@@ -1,6 +1,6 @@
 -- The quoted scalars of a text in flow style are passed.
 use Rattle.std.proofs.Common.{◌≡◌, ℕ, ◌≤◌, Bool, true, false, List, [], ◌∷◌, ◌++◌, length, slice_index, Ok, refl, sym, ap, ◌∙◌, subst, encode_utf8_all, ◌⊎◌, inl, inr}
-use Rattle.std.specs.Prelude.{◌||◌, ◌==◌, Option}
+use Rattle.std.specs.Prelude.{◌||◌, ◌==◌, Option, None}
 use Rattle.saphyr_input.specs.Classes.{is_blank, is_break, is_breakz}
 use Rattle.saphyr_input.specs.declared.input.SkipTabs.{SkipTabs}
 use Rattle.saphyr_input.specs.declared.input.SkipTabs.TheVariants.{Yes}
@@ -187,7 +187,7 @@ quoted_passes reads around quote value t o m h fits apart now p text =
     let at_first : slice_index (t ++ o) 0 ≡ mark quote = ap (λ (y : List ℕ). slice_index (y ++ o) 0) h.5 in
     let behind = past around.indent (moved m t) o in
     let place = length now.places in
-    token_passes around (adjacent_at behind.0.index) (scalar_token (style_of_quote quote) value) t o m first fits
+    token_passes around None (adjacent_at behind.0.index) (scalar_token (style_of_quote quote) value) t o m first fits
     (quoted_right around.indent quote m value t o h fits.clear fits.right) now text
     (λ b j e. let g = passes_gap around p.there now.context (saved e place m j) now.outer false now.adjacent behind.0
     behind.1 p.lands p.inked in

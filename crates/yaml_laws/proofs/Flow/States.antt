@@ -307,21 +307,22 @@ no_key m key allowed adjacent new = (key ≡ None) × (allowed ≡ false) × (ad
 abbrev pub ended : ℕ → Marker → List ℕ → Known
 ended indent m o key allowed adjacent new = adjacent ≤ (past indent m o).0.index
 
--- After a node that ends at m before o: its first token has nothing before it, inside flow the key is as told,
--- and where a colon may come at once, the place of that is kept.
-pub record IsAfterNode (indent : ℕ) (x : Context) (kept : Option Candidate) (node : Node) (m : Marker) (o : List ℕ)
+-- After a node, or a text without its properties, that ends at m before o: its first token has nothing before it, and
+-- the key is as told. Where `allows` says that a colon may come at once, the place of that is kept.
+pub record IsAfterNode (indent : ℕ) (x : Context) (kept : KeptKey) (allows : List ℕ → Bool) (m : Marker) (o : List ℕ)
     (key : Option Candidate) (adjacent : ℕ) (new : List Place) : Type 0 where
   pub piece : Piece
   pub others : List Place
   pub is : new ≡ bare_place piece ∷ others
-  pub keeps : is_block x ≡ false → key ≡ kept
+  pub keeps : is_block x ≡ false → key ≡ kept.kept
+  pub since : Since kept.before kept.from kept.over key
   pub near : is_block x ≡ false → (separation more : List ℕ) → o ≡ separation ++ (colon ∷ more)
-      → IsSeparation indent separation → IsTrue (allows_adjacent node separation)
+      → IsSeparation indent separation → IsTrue (allows separation)
       → adjacent ≡ (moved m separation).index
-  pub low : is_block x ≡ false → adjacent ≤ (past indent m o).0.index
+  pub low : adjacent ≤ (past indent m o).0.index
 
-abbrev pub after_node : ℕ → Context → Option Candidate → Node → Marker → List ℕ → Known
-after_node indent x kept node m o key allowed adjacent new = IsAfterNode indent x kept node m o key adjacent new
+abbrev pub after_node : ℕ → Context → KeptKey → (List ℕ → Bool) → Marker → List ℕ → Known
+after_node indent x kept allows m o key allowed adjacent new = IsAfterNode indent x kept allows m o key adjacent new
 
 -- after a document's node: what may be a key since k, after the text t, which is at first
 abbrev pub closed : ℕ → Option Candidate → Marker → List ℕ → Marker → List ℕ → Known
@@ -349,14 +350,46 @@ pub record NodePasses (around : Around) (now : FlowMoment) (node : Node) (m : Ma
   pub tokens : List Kind
   pub are : grammar.YieldsNode node grammar.InFlow tokens
   pub passes : PassesPiece around (state_at around now)
-      (after_node around.indent now.context (key_behind now m) node (moved m t) o) now.context now.outer now.places
-      (moved m t) o tokens
+      (after_node around.indent now.context (keeping now m t) (allows_adjacent node) (moved m t) o) now.context now.outer
+      now.places (moved m t) o tokens
 
 -- the same of a document's node
 pub record RootCloses (around : Around) (now : FlowMoment) (node : Node) (m : Marker) (t o : List ℕ) : Type 0 where
   pub tokens : List Kind
   pub are : grammar.YieldsNode node grammar.InBlock tokens
   pub closes : Closes around (state_at around (root_moment now)) now.key m t now.places (moved m t) o tokens
+
+-- What comes after a node that ends at m, inside flow or at block level.
+pub data Follows (around : Around) (x : Context) (node : Node) (m : Marker) (o : List ℕ) : Type 0 where
+  follows_inside : is_block x ≡ false → IsBehindNode around.indent node o → Follows around x node m o
+  follows_outside : x ≡ context.Block → IsBehindRoot around m o → Follows around x node m o
+
+-- at m no colon may come at once; at block level it may right there
+abbrev pub IsLow : Context → ℕ → Marker → Type 0
+IsLow x adjacent m = (adjacent ≤ m.index) × ((is_block x ≡ true) ⊎ (adjacent < m.index))
+
+-- The tokens of a text t that is at m before o, wherever that is, and the run over it. At block level a comment may
+-- have ended it.
+pub record TextPasses (around : Around) (now : FlowMoment) (Is : List Kind → Type 0) (allows : List ℕ → Bool)
+    (m : Marker) (t o : List ℕ) : Type 0 where
+  pub tokens : List Kind
+  pub are : Is tokens
+  pub comment : Option Marker
+  pub none : is_block now.context ≡ false → comment ≡ None
+  pub passes : PassesNoting comment around (state_at around now)
+      (after_node around.indent now.context (keeping now m t) allows (moved m t) o) now.context now.outer now.places
+      (moved m t) o tokens
+
+-- the tokens of a node, wherever it is
+abbrev pub YieldsAnywhere : Node → List Kind → Type 0
+YieldsAnywhere node ts = (place : grammar.Context) → grammar.YieldsNode node place ts
+
+-- a node is passed where it follows a moment
+abbrev pub ReadsText : Around → Node → Marker → List ℕ → List ℕ → FlowMoment → Type 0
+ReadsText around node m t o now =
+    FitsAround around m t o → Follows around now.context node (moved m t) o → IsLow now.context now.adjacent m
+    → StandsBefore around now m (t ++ o)
+    → TextPasses around now (YieldsAnywhere node) (allows_adjacent node) m t o
 
 -- a node inside flow, or a plain scalar that is a key, with its colon right after it
 abbrev pub IsNodeOrKey : ℕ → Node → ℕ → List ℕ → List ℕ → Type 0

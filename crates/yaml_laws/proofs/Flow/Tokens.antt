@@ -13,7 +13,7 @@ use Rattle.saphyr_scanner.specs.Steps.Core.{from_to, completed_step, Action, per
 use Rattle.saphyr_scanner.specs.Steps.Level.{Candidate, Level, is_block}
 use Rattle.saphyr_scanner.specs.Steps.Fetch.{step, state_behind_content, fetch_here, arrive, fetch}
 use Rattle.yaml_laws.proofs.InFlow.States.{Around, core_at, state_at, FlowMoment, moment, noted_core, noted, reach, reach_low, in_column, not_left, drops_far_key, key_left, left_in_flow, left_or_none, none_unrolls, ComesAround, comes}
-use Rattle.yaml_laws.proofs.Flow.States.{moved, past, IsClear, IsFresh, Since, KeptKey, keeping, Known, PassesPiece, FitsAround, StandsBefore, crosses, is_filler_rest}
+use Rattle.yaml_laws.proofs.Flow.States.{moved, past, IsClear, IsFresh, Since, KeptKey, keeping, Known, PassesNoting, PassesPiece, FitsAround, StandsBefore, crosses, is_filler_rest}
 use Rattle.yaml_laws.proofs.Flow.Inks.{Begins}
 use Rattle.yaml_laws.proofs.Flow.Places.{moved_count, clear_here}
 use Rattle.yaml_laws.proofs.Flow.GapSteps.{past_ink, past_count}
@@ -181,9 +181,9 @@ begins_token m p o b clear =
     record { nul = b.nul; byte_order_mark = b.ink.byte_order_mark; directive = b.directive; marker = here } in
     subst (BeginsToken m) (sym front) token
 
--- A step over a token that is at m: y is what is there, and after the token o is at n. `says` tells
--- whether a key may begin after it, and where a colon may come at once.
-pub record TokenStep (around : Around) (says : Bool → ℕ → Type 0) (kind : Kind) (y : List ℕ) (m n : Marker) (o : List ℕ)
+-- A step over a token that is at m: y is what is there, and after the token o is at n. A comment may have ended it.
+-- `says` tells whether a key may begin after it, and where a colon may come at once.
+pub record TokenStep (around : Around) (comment : Option Marker) (says : Bool → ℕ → Type 0) (kind : Kind) (y : List ℕ) (m n : Marker) (o : List ℕ)
     (x : Context) (ls : List Level) (ad place : ℕ) (b : Bool) (j : Option Candidate)
     (e : Bool) : Type 0 where
   pub there : Cursor
@@ -192,7 +192,8 @@ pub record TokenStep (around : Around) (says : Bool → ℕ → Type 0) (kind : 
   pub adjacent : ℕ
   pub to : Bool → Bool
   pub is : (d : Bool) → step (slice_index y 0) (slice_index y 1) place (core_at around d (cursor_at y m b) x j ls e ad)
-      ≡ completed_step (from_to m end kind ∷ []) (core_at around (to d) there x (saved e place m j) ls allowed adjacent)
+      ≡ completed_step (from_to m end kind ∷ [])
+      (noted_core comment (core_at around (to d) there x (saved e place m j) ls allowed adjacent))
   pub fits : past around.indent there.mark there.rest ≡ past around.indent n o
   pub fresh : IsFresh x o allowed there
   pub tells : says allowed adjacent
@@ -232,13 +233,14 @@ saved_since true n m k j p key h (inr g) = inr (inr ([], p, n, refl, g))
 saved_since false n m k j p key (inl h) (inr g) = inl (g ∙ h)
 saved_since false n m k j p key (inr h) (inr g) = inr (inl (g ∙ h))
 
-pub token_passes : (around : Around) (says : Bool → ℕ → Type 0) (kind : Kind) (p o : List ℕ) (m : Marker) → Begins p
+pub token_passes : (around : Around) (comment : Option Marker) (says : Bool → ℕ → Type 0) (kind : Kind) (p o : List ℕ) (m : Marker) → Begins p
     → FitsAround around m p o → around.indent ≤ (moved m p).col → (now : FlowMoment)
     → StandsBefore around now m (p ++ o)
     → ((b : Bool) (j : Option Candidate) (e : Bool)
-    → TokenStep around says kind (p ++ o) m (moved m p) o now.context now.outer now.adjacent (length now.places) b j e)
-    → PassesToken around says now m p o kind
-token_passes around says kind p o m f fits right now text steps =
+    → TokenStep around comment says kind (p ++ o) m (moved m p) o now.context now.outer now.adjacent (length now.places) b j e)
+    → PassesNoting comment around (state_at around now) (after_token says now.context (keeping now m p)) now.context
+    now.outer now.places (moved m p) o (kind ∷ [])
+token_passes around comment says kind p o m f fits right now text steps =
     let v = arrives around now m (p ++ o) (text ∙ begins_past around.indent m p o f) (begins_inked p o f)
     fits.right fits.calm in
     let w = steps v.blank v.key v.allowed in
@@ -246,7 +248,7 @@ token_passes around says kind p o m f fits right now text steps =
     let below = fits.below in
     let low = within_index around.indent around.limit w.there (moved m p) o w.fits (omega (arith, count, below)) in
     let new = token_place m w.end kind ∷ [] in
-    let came = step_comes around now m (p ++ o) v (begins_token m p o f fits.clear) None (moment w.there now.context
+    let came = step_comes around now m (p ++ o) v (begins_token m p o f fits.clear) comment (moment w.there now.context
     (saved v.allowed (length now.places) m v.key) now.outer w.allowed w.adjacent
     (now.places ++ new)) (from_to m w.end kind ∷ []) w.to w.is refl low in
     record {

@@ -18,7 +18,7 @@ use Rattle.saphyr_scanner.specs.Steps.State.{State}
 use Rattle.saphyr_scanner.specs.Grammar.Forest.{Node}
 use Rattle.yaml_laws.specs.Grammar.FlowNodes.{allows_adjacent}
 use Rattle.yaml_laws.proofs.InFlow.States.{Around, core_at, state_at, chains, moment, FlowMoment, moment_in, moment_with, required_at}
-use Rattle.yaml_laws.proofs.Flow.States.{moved, past, IsParted, ends_colon, no_key, after_node, PassesPiece, FitsAround, after, StandsBefore}
+use Rattle.yaml_laws.proofs.Flow.States.{moved, past, IsParted, ends_colon, KeptKey, no_key, after_node, PassesPiece, FitsAround, after, StandsBefore}
 use Rattle.yaml_laws.proofs.Flow.Places.{right_one}
 use Rattle.yaml_laws.proofs.Flow.GapSteps.{past_ink}
 use Rattle.yaml_laws.proofs.Flow.Fillers.{separation_past}
@@ -209,28 +209,29 @@ pub colon_passes : (around : Around) (y : Context) → is_block y ≡ false
     → FitsAround around (moved e w) (colon ∷ []) o → IsParted around.indent o
     → IsTrue (allows_adjacent node w) ⊎ IsTrue (ends_colon (slice_index o 0))
     → (begins_pair y ≡ true → first.line ≡ (moved e w).line)
-    → (start : Bool → State) (ls : List Level) (ps : List Place) (ts : List Kind)
-    → PassesPiece around start (after_node around.indent y (Some (key_at first ps)) node e (w ++ (colon ∷ o))) y ls ps e
+    → (start : Bool → State) (ls : List Level) (ps : List Place) (ts : List Kind) (kept : KeptKey)
+    → kept.kept ≡ Some (key_at first ps)
+    → PassesPiece around start (after_node around.indent y kept (allows_adjacent node) e (w ++ (colon ∷ o))) y ls ps e
     (w ++ (colon ∷ o)) ts
     → PassesPiece around start (no_key (moved (moved e w) (colon ∷ []))) (behind_colon y) ls ps
     (moved (moved e w) (colon ∷ [])) o
     (key_kinds (begins_pair y) ++ (ts ++ tokens.Value ∷ []))
-colon_passes around y flows first e node w o parts fits parted ends same_line start ls ps ts p =
+colon_passes around y flows first e node w o parts fits parted ends same_line start ls ps ts kept first_kept p =
     let m = moved e w in
     let n = p.knows in
     let lands : past around.indent e (w ++ (58 ∷ o)) ≡ (m, 58 ∷ o) =
     separation_past around.indent e w (58 ∷ o) parts p.right ∙ past_ink around.indent m 58 o colon_is_mark.ink in
-    let before : p.adjacent ≤ m.index = subst (λ (q : Marker × List ℕ). p.adjacent ≤ q.0.index) lands (n.low flows) in
+    let before : p.adjacent ≤ m.index = subst (λ (q : Marker × List ℕ). p.adjacent ≤ q.0.index) lands n.low in
     let qs = ps ++ p.new in
     let v = arrives around (after p) m (58 ∷ o) (p.fits ∙ lands) refl fits.right fits.calm in
     let k = key_at first ps in
-    let kept : v.key ≡ Some k = (v.same flows).0 ∙ n.keeps flows in
+    let same_key : v.key ≡ Some k = (v.same flows).0 ∙ n.keeps flows ∙ first_kept in
     let seen = cursor_at (58 ∷ o) m v.blank in
     let t = tabbed around o (along m 1) (behind_colon y) (Some k) ls v.allowed p.adjacent (colon_flows y flows) parted
     (le_next around.indent m.col fits.right) in
     let stepped = λ (d : Bool). colon_reads_value around d (slice_index o 0) (length qs) seen y v.key ls v.allowed
     p.adjacent flows (by_place ends (n.near flows w o refl parts))
-    ∙ ap (λ (j : Option Candidate). value.value_steps (core_at around d seen y j ls v.allowed p.adjacent)) kept
+    ∙ ap (λ (j : Option Candidate). value.value_steps (core_at around d seen y j ls v.allowed p.adjacent)) same_key
     ∙ fetches around d o m v.blank y (Some k) ls v.allowed p.adjacent flows t
     ∙ behind_some k (begins_pair y) m (core_at around d t.there (behind_colon y) (Some k) ls v.allowed p.adjacent)
     ∙ opens_key around d k m t.there y ls v.allowed p.adjacent flows same_line in

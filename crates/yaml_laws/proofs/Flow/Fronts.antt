@@ -1,0 +1,109 @@
+-- A text in flow style after its properties, or without any.
+use Rattle.std.proofs.Common.{◌≡◌, ◌≢◌, ℕ, ◌≤◌, List, [], ◌++◌, length, refl, sym, ap, ◌∙◌, arith, subst, append_assoc, inl, inr, Bool}
+use Rattle.std.specs.Prelude.{not}
+use Rattle.saphyr_scalar.specs.declared.scalar.position.Marker.{Marker}
+use Rattle.scalar_laws.specs.Spelling.Spaces.{IsSeparation}
+use Rattle.saphyr_scanner.specs.Grammar.Tokens.{Kind}
+use Rattle.saphyr_scanner.specs.Grammar.TokenGrammar as grammar
+use Rattle.saphyr_scanner.specs.Steps.Queue.{Place}
+use Rattle.saphyr_scanner.specs.Steps.Level.{is_block}
+use Rattle.saphyr_scanner.specs.Grammar.Forest.{Properties}
+use Rattle.saphyr_scanner.proofs.Levels.{saved}
+use Rattle.yaml_laws.specs.Grammar.FlowNodes.{IsProperties, IsBeforeContent}
+use Rattle.yaml_laws.proofs.InFlow.States.{Around, state_at, FlowMoment, not_more}
+use Rattle.yaml_laws.proofs.Flow.States.{moved, past, FitsAround, ReaderPromises, StandsBefore, Since, keeping, PassesPiece, PassesNoting, IsAfterNode, after_node, after, TextPasses}
+use Rattle.yaml_laws.proofs.Flow.Places.{moved_append, moved_index}
+use Rattle.yaml_laws.proofs.Flow.Pieces.{fits_front, fits_back}
+use Rattle.yaml_laws.proofs.Flow.Joins.{since_join, join, separation_joins}
+use Rattle.yaml_laws.proofs.Flow.Ends.{white_ends_tag, ends_behind_separation}
+use Rattle.yaml_laws.proofs.Flow.Properties.{behind_properties, properties_read}
+
+-- the tokens of properties, and others after them
+abbrev pub AreFronted : Properties → (List Kind → Type 0) → List Kind → Type 0
+AreFronted p Is ts = (a b : List Kind) × grammar.YieldProperties p a × Is b × (ts ≡ a ++ b)
+
+-- the text c is passed where it comes after a front that was passed, or where that is empty
+abbrev pub PassesBehind : Around → FlowMoment → Marker → (List Kind → Type 0) → (List ℕ → Bool) → Marker → List ℕ
+    → List ℕ → Type 0
+PassesBehind around now m Is allows end c o =
+    (e : Marker) → moved e c ≡ end → m.index ≤ e.index → FitsAround around e c o → (next : FlowMoment)
+    → next.context ≡ now.context → next.outer ≡ now.outer → next.adjacent ≡ now.adjacent
+    → StandsBefore around next e (c ++ o) → TextPasses around next Is allows e c o
+
+no_less : (m : Marker) (t : List ℕ) → m.index ≤ (moved m t).index
+no_less m t = let i = moved_index m t in omega (arith, i)
+
+-- after properties t and separation v
+behind_properties_passes : ReaderPromises → (around : Around) (p : Properties) (Is : List Kind → Type 0)
+    (allows : List ℕ → Bool) (m : Marker) (t v c o : List ℕ) → IsProperties p around.indent t → v ≢ []
+    → IsSeparation around.indent v → FitsAround around m ((t ++ v) ++ c) o → (now : FlowMoment)
+    → StandsBefore around now m (((t ++ v) ++ c) ++ o)
+    → PassesBehind around now m Is allows (moved m ((t ++ v) ++ c)) c o
+    → TextPasses around now (AreFronted p Is) allows m ((t ++ v) ++ c) o
+behind_properties_passes reads around p Is allows m t v c o h some gap fits now text pass =
+    let texts : ((t ++ v) ++ c) ++ o ≡ t ++ (v ++ (c ++ o)) =
+    append_assoc (t ++ v) c o ∙ append_assoc t v (c ++ o) in
+    let pp = properties_read reads around p.anchor p.tag m t (v ++ (c ++ o)) h now
+    (white_ends_tag (not (is_block now.context)) (v ++ (c ++ o))
+    (ends_behind_separation around.indent v (c ++ o) gap some))
+    (fits_front m t v (c ++ o) (fits_front m (t ++ v) c o fits)) (text ∙ ap (past around.indent m) texts) in
+    let here = moved m (t ++ v) in
+    let start = state_at around now in
+    let kept = keeping now m ((t ++ v) ++ c) in
+    let q : PassesPiece around start (behind_properties now.context (keeping now m t) now.adjacent) now.context now.outer
+    now.places here (c ++ o) pp.tokens =
+    subst (λ (e : Marker). PassesPiece around start (behind_properties now.context (keeping now m t) now.adjacent)
+    now.context now.outer now.places e (c ++ o) pp.tokens) (sym (moved_append m t v))
+    (separation_joins (moved m t) v (c ++ o) gap pp.passes) in
+    let front = q.knows.properties in
+    let place = sym (moved_append m (t ++ v) c) in
+    let r = pass here place (no_less m (t ++ v)) (fits_back m (t ++ v) c o q.right fits) (after q) refl refl q.knows.still
+    q.fits in
+    let b = r.passes in
+    let still : saved q.allowed (length (now.places ++ q.new)) here q.key ≡ q.key =
+    ap (λ (z : Bool). saved z (length (now.places ++ q.new)) here q.key) front.closed in
+    let known : IsAfterNode around.indent now.context kept allows (moved here c) o b.key b.adjacent (q.new ++ b.new) =
+    record {
+      piece = front.piece;
+      others = front.others ++ b.new;
+      is = ap (λ (z : List Place). z ++ b.new) front.is;
+      keeps = λ e. b.knows.keeps e ∙ still ∙ front.keeps e;
+      since = subst (λ (z : List ℕ). Since now.key m z b.key) (sym (append_assoc t v c))
+          (since_join now.key m t v c q.key b.key q.knows.since
+          (subst (λ (z : Marker). Since q.key z c b.key) (moved_append m t v) b.knows.since));
+      near = b.knows.near;
+      low = b.knows.low;
+    } in
+    record {
+      tokens = pp.tokens ++ r.tokens;
+      are = (pp.tokens, r.tokens, pp.are, r.are, refl);
+      comment = r.comment;
+      none = r.none;
+      passes = subst (λ (e : Marker). PassesNoting r.comment around start
+          (after_node around.indent now.context kept allows e o) now.context now.outer now.places e o
+          (pp.tokens ++ r.tokens)) place
+          (join q b (after_node around.indent now.context kept allows (moved here c) o) known);
+    }
+
+pub behind_front : ReaderPromises → (around : Around) (p : Properties) (Is : List Kind → Type 0)
+    (allows : List ℕ → Bool) (m : Marker) (front c o : List ℕ) → IsBeforeContent p around.indent front
+    → FitsAround around m (front ++ c) o → (now : FlowMoment) → StandsBefore around now m ((front ++ c) ++ o)
+    → PassesBehind around now m Is allows (moved m (front ++ c)) c o
+    → TextPasses around now (AreFronted p Is) allows m (front ++ c) o
+behind_front reads around p Is allows m front c o (inl (none, is)) fits now text pass =
+    subst (λ (f : List ℕ). FitsAround around m (f ++ c) o → StandsBefore around now m ((f ++ c) ++ o)
+    → PassesBehind around now m Is allows (moved m (f ++ c)) c o
+    → TextPasses around now (AreFronted p Is) allows m (f ++ c) o) (sym is) (λ f z pass.
+    let r = pass m refl (not_more m.index) f now refl refl refl z in
+    record {
+      tokens = r.tokens;
+      are = ([], r.tokens, subst (λ (q : Properties). grammar.YieldProperties q []) (sym none) refl, r.are, refl);
+      comment = r.comment;
+      none = r.none;
+      passes = r.passes;
+    }) fits text pass
+behind_front reads around p Is allows m front c o (inr (t, v, h, some, gap, is)) fits now text pass =
+    subst (λ (f : List ℕ). FitsAround around m (f ++ c) o → StandsBefore around now m ((f ++ c) ++ o)
+    → PassesBehind around now m Is allows (moved m (f ++ c)) c o
+    → TextPasses around now (AreFronted p Is) allows m (f ++ c) o) (sym is)
+    (λ f z pass. behind_properties_passes reads around p Is allows m t v c o h some gap f now z pass) fits text pass
