@@ -10,7 +10,7 @@ use Rattle.saphyr_scanner.specs.declared.engine.level.Context.{Context}
 use Rattle.saphyr_scanner.specs.Grammar.Tokens.{Kind, scalar_token}
 use Rattle.saphyr_scanner.specs.Grammar.TokenGrammar as grammar
 use Rattle.saphyr_scanner.specs.Steps.Level.{is_block}
-use Rattle.saphyr_scanner.specs.Grammar.Forest.{Style, Plain, Tag, Properties, no_properties, HasOne, Node, Scalar}
+use Rattle.saphyr_scanner.specs.Grammar.Forest.{Style, Plain, Tag, Properties, HasOne, Node, Scalar}
 use Rattle.yaml_laws.specs.Grammar.FlowNodes as yaml
 use Rattle.yaml_laws.specs.Grammar.FlowNodes.{allows_adjacent, IsProperties, IsBeforeContent, IsScalarNode, IsPlainKeyNode}
 use Rattle.yaml_laws.specs.Grammar.FlowScalars.{IsFlowScalar, IsPlainKey}
@@ -37,27 +37,11 @@ pub empty_are : (p : Properties) (indent : ℕ) (t : List ℕ) (tokens : List Ki
 empty_are p indent t tokens place h are =
     (tokens, [], are, inr (some_property p.anchor p.tag indent t h, refl, refl, refl), sym (append-nil tokens))
 
-pub bare_are : (p : Properties) (style : Style) (value : List ℕ) (place : grammar.Context) → p ≡ no_properties
-    → grammar.YieldsNode (Scalar p style value) place (scalar_token style value ∷ [])
-bare_are p style value place e = (
-  [],
-  scalar_token style value
-      ∷ [],
-  subst (λ (q : Properties). grammar.YieldProperties q []) (sym e) refl,
-  inl refl,
-  refl,
-)
-
 pub separation_ends : (indent : ℕ) (in_flow : Bool) (w b o : List ℕ) → w ≢ [] → IsSeparation indent w
     → EndsTag in_flow ((w ++ b) ++ o)
 separation_ends indent in_flow w b o some h =
     subst (EndsTag in_flow) (sym (append_assoc w b o))
     (white_ends_tag in_flow (w ++ (b ++ o)) (ends_behind_separation indent w (b ++ o) h some))
-
-pub full_are : (p : Properties) (style : Style) (value : List ℕ) (tokens : List Kind) (place : grammar.Context)
-    → grammar.YieldProperties p tokens
-    → grammar.YieldsNode (Scalar p style value) place (tokens ++ scalar_token style value ∷ [])
-full_are p style value tokens place are = (tokens, scalar_token style value ∷ [], are, inl refl, refl)
 
 -- ## Properties alone, for an empty scalar
 

@@ -20,7 +20,7 @@ use Rattle.saphyr_scanner.proofs.Leads.{LeadsTo, stay, onward, leads_on}
 use Rattle.yaml_laws.proofs.InFlow.States.{Around, core_at, state_at, drops_far_key, left_in_flow, behind_key, opening_steps_open, open_collection_gives, close_collection_gives, deepened, moment}
 use Rattle.yaml_laws.proofs.InFlow.OnLine.{separation_of_blanks}
 use Rattle.yaml_laws.proofs.InFlow.KeyLines.{Ready, keeps_near_key}
-use Rattle.yaml_laws.proofs.InFlow.KeyTokens.{InKey, in_near, in_back, in_right, in_limit, in_so, Along}
+use Rattle.yaml_laws.proofs.InFlow.KeyTokens.{InKey, in_near, in_back, in_right, in_limit, in_so, TokensAlong}
 use Rattle.yaml_laws.proofs.InFlow.KeyScalars.{Blanks, colon_ink, colon_text, colon_after}
 use Rattle.yaml_laws.proofs.Flow.States.{moved, past, IsParted}
 use Rattle.yaml_laws.proofs.Flow.Places.{moved_append, moved_index, clear_front}
@@ -29,12 +29,13 @@ use Rattle.yaml_laws.proofs.Flow.Fillers.{separation_past, right_behind}
 use Rattle.yaml_laws.proofs.Flow.Tokens.{arrives, begins_here, within_index}
 use Rattle.yaml_laws.proofs.Flow.Separates.{separates}
 use Rattle.yaml_laws.proofs.Flow.Brackets.{mark_begins, mark_moved, mark_places, mark_puts, mark_kinds, pending, token_mark}
-use Rattle.yaml_laws.proofs.Flow.Collections.{Brackets, AreBrackets, bracket_text, RunsInside}
+use Rattle.yaml_laws.proofs.Flow.Collections.{Brackets, AreBrackets, bracket_text, RunsInside, AreBracketed}
 use Rattle.saphyr_input.proofs.Basics.Numbers.{le_next}
 use Rattle.std.proofs.lemmas.Bool.{le-leb}
 use Rattle.saphyr_input.specs.Indicators.{colon}
 use Rattle.saphyr_scanner.proofs.Queues.{token_place, place_kinds, place_kinds_append, queue_of}
 use Rattle.saphyr_scanner.proofs.Levels.{level_of}
+use Rattle.yaml_laws.proofs.Flow.Inks.{starts}
 
 -- inside a key's brackets nothing is required at block level
 abbrev pub calmed : Around → Around
@@ -175,13 +176,6 @@ bracket_closes around same b are inside flows back k j a ad qs s d e n r text ri
 
 -- ## The collection
 
--- the tokens of a collection, and the run over its text
-pub record CollectionAlong (around : Around) (start : State) (Is : List Kind → Type 0) (b : Brackets) (k : Candidate)
-    (qs : List Place) (m : Marker) (y : List ℕ) : Type 0 where
-  pub inside : List Kind
-  pub are : Is inside
-  pub along : Along around start k qs m y (b.opens ∷ (inside ++ b.closes ∷ []))
-
 all_told : (opens closes : Kind) (ts ends : List Kind)
     → (opens ∷ []) ++ (ts ++ (ends ++ closes ∷ [])) ≡ opens ∷ ((ts ++ ends) ++ closes ∷ [])
 all_told opens closes ts ends = ap (λ (x : List Kind). opens ∷ x) (sym (append_assoc ts ends (closes ∷ [])))
@@ -193,7 +187,7 @@ pub collection_along : (around : Around) → around.pending ≡ around.required
     → InKey around k e (bracket_text b w inside ++ n.text) (colon ∷ r) → ad ≤ e.index
     → Ready around start k (bracket_text b w inside ++ colon_text n r) e ad qs
     → RunsInside (calmed around) Is b context.Block [] (moved e (b.opening ∷ w)) inside (colon_text n r)
-    → CollectionAlong around start Is b k qs (colon_after e (bracket_text b w inside) n) (colon ∷ r)
+    → TokensAlong around start k qs (AreBracketed b Is) (colon_after e (bracket_text b w inside) n) (colon ∷ r)
 collection_along around same start Is b are k qs w inside n r e ad parts parted text low ready run =
     let o = colon_text n r in
     let close = b.closing ∷ [] in
@@ -209,7 +203,8 @@ collection_along around same start Is b are k qs w inside n r e ad parts parted 
     let text1 = in_so k e (body ++ n.text) ((b.opening ∷ w) ++ (inside ++ (close ++ n.text))) (58 ∷ r) whole text in
     let text2 = in_back k e (b.opening ∷ w) (inside ++ (close ++ n.text)) (58 ∷ r) text1 in
     let text3 = in_back k here inside (close ++ n.text) (58 ∷ r) text2 in
-    let right1 = in_right k e b.opening w (inside ++ (close ++ n.text)) (58 ∷ r) text1 in
+    let right1 = in_right k e (b.opening ∷ w) (inside ++ (close ++ n.text)) (58 ∷ r)
+    (starts b.opening w (b.opening ∷ w) refl are.start) text1 in
     let mark : moved e (b.opening ∷ []) ≡ along e 1 = sym (mark_moved e b.opening (token_mark b.opening are.start)) in
     let split : here ≡ moved (moved e (b.opening ∷ [])) w = moved_append e (b.opening ∷ []) w in
     let below1 = below_open e body n.text (58 ∷ r) o1 texts text.below in
@@ -252,9 +247,10 @@ collection_along around same start Is b are k qs w inside n r e ad parts parted 
     ∙ all_told b.opens b.closes in_front.tokens (pending (ends_pair in_front.inside)) in
     let i3 = moved_index e body in
     let at_colon = last.mark ∙ end in
+    let inner = in_front.tokens ++ pending (ends_pair in_front.inside) in
     record {
-      inside = in_front.tokens ++ pending (ends_pair in_front.inside);
-      are = in_front.are;
+      tokens = b.opens ∷ (inner ++ b.closes ∷ []);
+      are = (inner, in_front.are, refl);
       along = record {
         deeper = ran.deeper;
         there = last.there;

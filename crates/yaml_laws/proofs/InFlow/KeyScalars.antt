@@ -15,7 +15,7 @@ use Rattle.saphyr_scalar.specs.Spelling.Tag.{AreIn}
 use Rattle.saphyr_scalar.proofs.Given.{cursor_at}
 use Rattle.scalar_laws.specs.Spelling.Plain.{is_tabbed, past_white, EndsPlain, IsPlainText}
 use Rattle.saphyr_scanner.specs.declared.engine.level.Context.TheVariants as context
-use Rattle.saphyr_scanner.specs.Grammar.Tokens.{scalar_token}
+use Rattle.saphyr_scanner.specs.Grammar.Tokens.{scalar_token, Kind}
 use Rattle.saphyr_scanner.specs.Steps.Gap.{GapEnd, end_of_gap}
 use Rattle.saphyr_scanner.specs.Steps.Queue.{Place}
 use Rattle.saphyr_scanner.specs.Steps.Core.{from_to, completed_step}
@@ -24,27 +24,27 @@ use Rattle.saphyr_scanner.specs.Steps.Passing.{pass_gap, check_comment, behind_g
 use Rattle.saphyr_scanner.specs.Steps.Scalar.{goes_on_behind_quotes}
 use Rattle.saphyr_scanner.specs.Steps.State.{State}
 use Rattle.saphyr_scanner.specs.Grammar.Forest.{Style, Plain, SingleQuoted, DoubleQuoted, Literal, Folded}
-use Rattle.yaml_laws.specs.Grammar.FlowScalars.{IsPlain, IsPlainKey, IsQuoted, IsFlowScalar}
+use Rattle.yaml_laws.specs.Grammar.FlowScalars.{IsPlainKey, IsQuoted, IsFlowScalar}
 use Rattle.yaml_laws.proofs.InFlow.States.{Around, core_at, reach, in_column, behind_key}
 use Rattle.yaml_laws.proofs.InFlow.Tabs.{tabs_behind}
 use Rattle.yaml_laws.proofs.InFlow.OnLine.{separation_of_blanks, plain_lowers, plain_key_lowers}
 use Rattle.yaml_laws.proofs.InFlow.KeyLines.{Ready, token_led, ink_gap}
-use Rattle.yaml_laws.proofs.InFlow.KeyTokens.{InKey, in_near, in_back, in_right, in_limit, Along}
-use Rattle.yaml_laws.proofs.Flow.States.{moved, past, crosses, IsInk, ReaderPromises}
+use Rattle.yaml_laws.proofs.InFlow.KeyTokens.{InKey, in_near, in_back, in_right, in_limit, Along, TokensAlong}
+use Rattle.yaml_laws.proofs.Flow.States.{moved, past, crosses, IsInk, ReaderPromises, IsClear}
 use Rattle.yaml_laws.proofs.Flow.Places.{moved_index, clear_front}
 use Rattle.yaml_laws.proofs.Flow.GapSteps.{past_ink}
 use Rattle.yaml_laws.proofs.InBlock.Skips.{blanks_cross}
 use Rattle.yaml_laws.proofs.Flow.Fillers.{blanks_past}
 use Rattle.yaml_laws.proofs.Flow.Tokens.{PassesGap}
 use Rattle.yaml_laws.proofs.Flow.Separates.{separates}
-use Rattle.yaml_laws.proofs.Flow.Quotes.{EndsQuotes, style_of_quote, behind_step, quoted_step}
+use Rattle.yaml_laws.proofs.Flow.Quotes.{EndsQuotes, style_of_quote, behind_step, quoted_step, quote_first}
 use Rattle.yaml_laws.proofs.Flow.Plains.{BeginsWord, word_begins, key_begins, token_begins, plain_step}
 use Rattle.yaml_laws.proofs.Flow.Words.{plain_text, key_text}
 use Rattle.std.proofs.lemmas.Bool.{eq-eqb}
 use Rattle.saphyr_input.specs.Indicators.{apostrophe, colon, number_sign}
 use Rattle.saphyr_input.proofs.Basics.Booleans.{clash}
 use Rattle.saphyr_scanner.proofs.Gaps.{stop_here}
-use Rattle.yaml_laws.proofs.Flow.Inks.{Begins, scalar_begins}
+use Rattle.yaml_laws.proofs.Flow.Inks.{Begins}
 
 pub colon_ink : IsInk 58
 colon_ink = record { blank = refl; break = refl; comment = refl; byte_order_mark = refl }
@@ -123,23 +123,24 @@ abbrev pub colon_after : Marker → List ℕ → Blanks → Marker
 colon_after e t n = moved (moved e t) n.text
 
 -- a text that is read as a plain scalar
-text_along : ReaderPromises → (around : Around) (start : State) (k : Candidate) (qs : List Place) (c : ℕ) (cs : List ℕ)
-    (n : Blanks)
-    (r : List ℕ) (e : Marker) (ad : ℕ) → BeginsWord false (c ∷ cs) (colon_text n r)
-    → IsPlainText false around.column e (c ∷ cs) (colon_text n r) → InKey around k e ((c ∷ cs) ++ n.text) (colon ∷ r)
-    → ad ≤ e.index → Ready around start k ((c ∷ cs) ++ colon_text n r) e ad qs
-    → Along around start k qs (colon_after e (c ∷ cs) n) (colon ∷ r) (scalar_token Plain (plain_value (c ∷ cs)) ∷ [])
-text_along reads around start k qs c cs n r e ad begins plain text low ready =
-    let t = c ∷ cs in
+plain_along : ReaderPromises → (around : Around) (start : State) (k : Candidate) (qs : List Place) (t : List ℕ)
+    (n : Blanks) (r : List ℕ) (e : Marker) (ad : ℕ) → BeginsWord false t (colon_text n r)
+    → (IsClear e t (colon_text n r) → EndsPlain false around.column (moved e t) (colon_text n r)
+    → IsPlainText false around.column e t (colon_text n r)) → is_blank_or_breakz (slice_index r 0) ≡ true
+    → InKey around k e (t ++ n.text) (colon ∷ r) → ad ≤ e.index → Ready around start k (t ++ colon_text n r) e ad qs
+    → Along around start k qs (colon_after e t n) (colon ∷ r) (scalar_token Plain (plain_value t) ∷ [])
+plain_along reads around start k qs t n r e ad begins plain white text low ready =
     let o = colon_text n r in
     let clear = clear_front e t n.text (58 ∷ r) text.clear in
     let end = moved e t in
     let there = cursor_at (58 ∷ r) (colon_after e t n) false in
     let kind = scalar_token Plain (plain_value t) in
+    let right = in_right k e t n.text (58 ∷ r) (token_begins false t o begins) text in
+    let is_text = plain clear (key_ends_plain around.column end n r (in_column around end.col right) white) in
     let last = in_back k end n.text [] (58 ∷ r)
     (subst (λ (x : List ℕ). InKey around k end x (58 ∷ r)) (sym (append-nil n.text))
     (in_back k e t n.text (58 ∷ r) text)) in
-    let stepped = plain_step reads around ready.deeper (length qs) e ready.blank t o context.Block begins plain clear
+    let stepped = plain_step reads around ready.deeper (length qs) e ready.blank t o context.Block begins is_text clear
     (Some k) [] false ad (inl refl) (behind_key refl refl)
     ∙ ap (λ (u : Cursor). completed_step (from_to e end kind ∷ [])
     (record (core_at around false u context.Block (Some k) [] u.blank_so_far ad)
@@ -157,42 +158,13 @@ text_along reads around start k qs c cs n r e ad begins plain text low ready =
       are_white = tt;
       rest = refl;
       mark = refl;
-      right = right_behind_key around.indent end n (in_right k e c cs n.text (58 ∷ r) text);
+      right = right_behind_key around.indent end n right;
       piece = record { span = record { start = e; end = end }; kind = kind };
       others = [];
       leads = led;
       are = refl;
       low = index_behind e t n ad low;
     }
-
-pub plain_along : ReaderPromises → (around : Around) (start : State) (k : Candidate) (qs : List Place) (c : ℕ)
-    (cs : List ℕ)
-    (n : Blanks) (r : List ℕ) (e : Marker) (ad : ℕ) → IsPlain false around.indent (c ∷ cs)
-    → is_blank_or_breakz (slice_index r 0) ≡ true → InKey around k e ((c ∷ cs) ++ n.text) (colon ∷ r) → ad ≤ e.index
-    → Ready around start k ((c ∷ cs) ++ colon_text n r) e ad qs
-    → Along around start k qs (colon_after e (c ∷ cs) n) (colon ∷ r) (scalar_token Plain (plain_value (c ∷ cs)) ∷ [])
-plain_along reads around start k qs c cs n r e ad h white text low ready =
-    let clear = clear_front e (c ∷ cs) n.text (58 ∷ r) text.clear in
-    text_along reads around start k qs c cs n r e ad (word_begins false around.indent (c ∷ cs) (colon_text n r) h)
-    (plain_text false around.column e (c ∷ cs) (colon_text n r)
-    (plain_lowers around.indent around.column around.low false (c ∷ cs) h) clear
-    (key_ends_plain around.column (moved e (c ∷ cs)) n r
-    (in_column around (moved e (c ∷ cs)).col (in_right k e c cs n.text (58 ∷ r) text)) white)) text low ready
-
--- a plain scalar whose last word may end with a colon, right before the key's colon
-pub plain_key_along : ReaderPromises
-    → (around : Around) (start : State) (k : Candidate) (qs : List Place) (c : ℕ) (cs r : List ℕ) (e : Marker) (ad : ℕ)
-    → IsPlainKey false around.indent (c ∷ cs)
-    → is_blank_or_breakz (slice_index r 0) ≡ true → InKey around k e ((c ∷ cs) ++ []) (colon ∷ r) → ad ≤ e.index
-    → Ready around start k ((c ∷ cs) ++ (colon ∷ r)) e ad qs
-    → Along around start k qs (moved e (c ∷ cs)) (colon ∷ r) (scalar_token Plain (plain_value (c ∷ cs)) ∷ [])
-plain_key_along reads around start k qs c cs r e ad h white text low ready =
-    let clear = clear_front e (c ∷ cs) [] (58 ∷ r) text.clear in
-    text_along reads around start k qs c cs no_blanks r e ad (key_begins false around.indent (c ∷ cs) r h)
-    (key_text false around.column e (c ∷ cs) r
-    (plain_key_lowers around.indent around.column around.low false (c ∷ cs) h) clear
-    (key_ends_plain around.column (moved e (c ∷ cs)) no_blanks r
-    (in_column around (moved e (c ∷ cs)).col (in_right k e c cs [] (58 ∷ r) text)) white)) text low ready
 
 -- ## Quoted scalars
 
@@ -250,7 +222,7 @@ no_quote (c ∷ cs) r are = no_apostrophe c are.0
     no_apostrophe : (c : ℕ) → IsTrue (is_blank c) → (c == apostrophe) ≡ false
     no_apostrophe c h = grind (arith, nat_tests)
 
-pub quotes_along : ReaderPromises
+quotes_along : ReaderPromises
     → (around : Around) (start : State) (k : Candidate) (qs : List Place) (quote : Quote) (value t : List ℕ)
     (n : Blanks)
     (r : List ℕ) (e : Marker) (ad : ℕ) → IsQuoted quote around.indent value t
@@ -265,8 +237,7 @@ quotes_along reads around start k qs quote value t n r e ad h text ready =
     let whole = in_back k e t n.text (58 ∷ r) text in
     let last = in_back k end n.text [] (58 ∷ r)
     (subst (λ (x : List ℕ). InKey around k end x (58 ∷ r)) (sym (append-nil n.text)) whole) in
-    let right = subst (λ (x : List ℕ). InKey around k e (x ++ n.text) (58 ∷ r) → around.indent ≤ (moved e x).col)
-    (sym h.5) (λ i. in_right k e (mark quote) h.0 n.text (58 ∷ r) i) text in
+    let right = in_right k e t n.text (58 ∷ r) (subst Begins (sym h.5) (quote_first quote h.0)) text in
     let ends = key_quotes around e end n r right (text.line ∙ sym last.line) in
     let shut = ends.ends.there in
     let g : PassesGap around shut context.Block (Some k) [] false ad m (58 ∷ r) =
@@ -309,70 +280,63 @@ quotes_along reads around start k qs quote value t n r e ad h text ready =
 
 -- ## Both
 
-some_first : (in_flow : Bool) (indent : ℕ) (t : List ℕ) → IsPlain in_flow indent t
-    → (c : ℕ) × (cs : List ℕ) × (t ≡ c ∷ cs)
-some_first in_flow indent t h = let w = word_begins in_flow indent t [] h in (w.first, w.others, w.is)
-
-pub content_along : ReaderPromises
-    → (around : Around) (start : State) (k : Candidate) (qs : List Place) (style : Style) (value t : List ℕ)
-    (n : Blanks)
-    (r : List ℕ) (e : Marker) (ad : ℕ) → IsFlowScalar style value false around.indent t
-    → is_blank_or_breakz (slice_index r 0) ≡ true → InKey around k e (t ++ n.text) (colon ∷ r) → ad ≤ e.index
-    → Ready around start k (t ++ colon_text n r) e ad qs
-    → Along around start k qs (colon_after e t n) (colon ∷ r) (scalar_token style value ∷ [])
-content_along reads around start k qs Plain value t n r e ad h white text low ready =
-    let f = some_first false around.indent t h.0 in
-    subst (λ (v : List ℕ). Along around start k qs (colon_after e t n) (58 ∷ r) (scalar_token Plain v ∷ [])) (sym h.1)
-    (subst (λ (x : List ℕ). IsPlain false around.indent x → InKey around k e (x ++ n.text) (58 ∷ r)
-    → Ready around start k (x ++ colon_text n r) e ad qs
-    → Along around start k qs (colon_after e x n) (58 ∷ r) (scalar_token Plain (plain_value x) ∷ []))
-    (sym f.2) (λ p i z. plain_along reads around start k qs f.0 f.1 n r e ad p white i low z) h.0 text ready)
-content_along reads around start k qs SingleQuoted value t n r e ad h white text low ready =
-    quotes_along reads around start k qs Single value t n r e ad h text ready
-content_along reads around start k qs DoubleQuoted value t n r e ad h white text low ready =
-    quotes_along reads around start k qs Double value t n r e ad h text ready
-content_along reads around start k qs Literal value t n r e ad h white text low ready = absurd h
-content_along reads around start k qs Folded value t n r e ad h white text low ready = absurd h
-
 -- how the content of a key is read, before spaces and its colon
-pub record ContentReads (around : Around) (style : Style) (value content : List ℕ) (n : Blanks) (r : List ℕ) : Type 0
-  where
-    pub begins : Begins content
-    pub along : (start : State) (k : Candidate) (qs : List Place) (e : Marker) (ad : ℕ)
-        → InKey around k e (content ++ n.text) (colon ∷ r) → ad ≤ e.index
-        → Ready around start k (content ++ colon_text n r) e ad qs
-        → Along around start k qs (colon_after e content n) (colon ∷ r) (scalar_token style value ∷ [])
+pub record ContentReads (around : Around) (Is : List Kind → Type 0) (content : List ℕ) (n : Blanks) (r : List ℕ) : Type
+    0 where
+  pub begins : Begins content
+  pub along : (start : State) (k : Candidate) (qs : List Place) (e : Marker) (ad : ℕ)
+      → InKey around k e (content ++ n.text) (colon ∷ r) → ad ≤ e.index
+      → Ready around start k (content ++ colon_text n r) e ad qs
+      → TokensAlong around start k qs Is (colon_after e content n) (colon ∷ r)
+
+-- how a scalar is
+abbrev pub ScalarReads : Around → Style → List ℕ → List ℕ → Blanks → List ℕ → Type 0
+ScalarReads around style value content n r =
+    ContentReads around (λ ts. ts ≡ scalar_token style value ∷ []) content n r
+
+quotes_reads : ReaderPromises → (around : Around) (quote : Quote) (value t : List ℕ) (n : Blanks) (r : List ℕ)
+    → IsQuoted quote around.indent value t → ScalarReads around (style_of_quote quote) value t n r
+quotes_reads reads around quote value t n r h =
+    record {
+      begins = subst Begins (sym h.5) (quote_first quote h.0);
+      along = λ start k qs e ad text low ready. record {
+        tokens = scalar_token (style_of_quote quote) value ∷ [];
+        are = refl;
+        along = quotes_along reads around start k qs quote value t n r e ad h text ready;
+      };
+    }
+
+plains_read : ReaderPromises → (around : Around) (value t : List ℕ) (n : Blanks) (r : List ℕ) → value ≡ plain_value t
+    → BeginsWord false t (colon_text n r) → ((e : Marker) → IsClear e t (colon_text n r)
+    → EndsPlain false around.column (moved e t) (colon_text n r)
+    → IsPlainText false around.column e t (colon_text n r)) → is_blank_or_breakz (slice_index r 0) ≡ true
+    → ScalarReads around Plain value t n r
+plains_read reads around value t n r stands begins plain white =
+    record {
+      begins = token_begins false t (colon_text n r) begins;
+      along = λ start k qs e ad text low ready. record {
+        tokens = scalar_token Plain (plain_value t) ∷ [];
+        are = ap (λ (v : List ℕ). scalar_token Plain v ∷ []) (sym stands);
+        along = plain_along reads around start k qs t n r e ad begins (plain e) white text low ready;
+      };
+    }
 
 pub scalar_reads : ReaderPromises → (around : Around) (style : Style) (value content : List ℕ) (n : Blanks) (r : List ℕ)
     → IsFlowScalar style value false around.indent content → is_blank_or_breakz (slice_index r 0) ≡ true
-    → ContentReads around style value content n r
-scalar_reads reads around style value content n r h white =
-    record {
-      begins = scalar_begins around.indent style value false content h;
-      along =
-          λ start k qs e ad text low ready. content_along reads around start k qs style value content n r e ad h white
-          text low ready;
-    }
+    → ScalarReads around style value content n r
+scalar_reads reads around Plain value t n r h white =
+    plains_read reads around value t n r h.1 (word_begins false around.indent t (colon_text n r) h.0)
+    (λ e. plain_text false around.column e t (colon_text n r)
+    (plain_lowers around.indent around.column around.low false t h.0)) white
+scalar_reads reads around SingleQuoted value t n r h white = quotes_reads reads around Single value t n r h
+scalar_reads reads around DoubleQuoted value t n r h white = quotes_reads reads around Double value t n r h
+scalar_reads reads around Literal value t n r h white = absurd h
+scalar_reads reads around Folded value t n r h white = absurd h
 
-pub plain_key_reads : ReaderPromises → (around : Around) (style : Style) (value content r : List ℕ) → style ≡ Plain
-    → value ≡ plain_value content → IsPlainKey false around.indent content → is_blank_or_breakz (slice_index r 0) ≡ true
-    → ContentReads around style value content no_blanks r
-plain_key_reads reads around style value content r plain is h white =
-    subst (λ (q : Style). ContentReads around q value content no_blanks r) (sym plain)
-    (subst (λ (v : List ℕ). ContentReads around Plain v content no_blanks r) (sym is)
-    (record {
-      begins = token_begins false content (58 ∷ r) (key_begins false around.indent content r h);
-      along = λ start k qs e ad text low ready. key_along start k qs content e ad h text low ready;
-    }))
-  where
-    key_along : (start : State) (k : Candidate) (qs : List Place) (t : List ℕ) (e : Marker) (ad : ℕ)
-        → IsPlainKey false around.indent t → InKey around k e (t ++ []) (colon ∷ r) → ad ≤ e.index
-        → Ready around start k (t ++ (colon ∷ r)) e ad qs
-        → Along around start k qs (moved e t) (colon ∷ r) (scalar_token Plain (plain_value t) ∷ [])
-    key_along start k qs [] e ad h text low ready =
-        absurd (let b = key_begins false around.indent [] r h in none b.first b.others b.is)
-      where
-        none : (c : ℕ) (cs : List ℕ) → [] ≡ c ∷ cs → ⊥
-        none c cs e = cc
-    key_along start k qs (c ∷ cs) e ad h text low ready =
-        plain_key_along reads around start k qs c cs r e ad h white text low ready
+-- a plain scalar whose last word may end with a colon, right before the key's colon
+pub plain_key_reads : ReaderPromises → (around : Around) (value t r : List ℕ) → value ≡ plain_value t
+    → IsPlainKey false around.indent t → is_blank_or_breakz (slice_index r 0) ≡ true
+    → ScalarReads around Plain value t no_blanks r
+plain_key_reads reads around value t r stands h white =
+    plains_read reads around value t no_blanks r stands (key_begins false around.indent t r h)
+    (λ e. key_text false around.column e t r (plain_key_lowers around.indent around.column around.low false t h)) white

@@ -1,5 +1,5 @@
 -- The tokens of a key on one line at block level, one after the other.
-use Rattle.std.proofs.Common.{◌≡◌, ◌≢◌, ℕ, suc, ◌+◌, ◌≤◌, Bool, false, List, [], ◌∷◌, ◌++◌, length, slice_index, refl, sym, ap, ◌∙◌, arith, subst, append_assoc, inl, inr, encode_utf8_all}
+use Rattle.std.proofs.Common.{◌≡◌, ◌≢◌, ℕ, suc, ◌+◌, ◌≤◌, Bool, true, false, List, [], ◌∷◌, ◌++◌, length, slice_index, refl, sym, ap, ◌∙◌, arith, subst, append_assoc, inl, inr, encode_utf8_all}
 use Rattle.std.specs.Prelude.{option_map, Option, Some, None}
 use Rattle.std.proofs.lemmas.List.{length-append}
 use Rattle.saphyr_input.specs.Classes.{is_blank, is_break}
@@ -35,7 +35,7 @@ use Rattle.yaml_laws.proofs.Flow.Tokens.{BeginsToken, begins_token}
 use Rattle.yaml_laws.proofs.Flow.Names.{name_step, begins_anchor, begins_alias, tag_step, begins_tag, tag_read, tag_first}
 use Rattle.yaml_laws.proofs.Flow.Ends.{tag_ends_name, white_ends_tag}
 use Rattle.yaml_laws.proofs.Flow.Properties.{blank_first}
-use Rattle.yaml_laws.proofs.Flow.Inks.{Begins, tag_begins, anchor_begins}
+use Rattle.yaml_laws.proofs.Flow.Inks.{Begins, is_start, starts, tag_begins, anchor_begins}
 
 -- ## The rest of a key
 
@@ -86,13 +86,14 @@ in_back {around} k e a b behind h =
     within : (p q n : ℕ) → n ≡ p + q → e.index + n ≤ around.limit → e.index + p + q ≤ around.limit
     within p q n s h = omega (arith, s, h)
 
--- after a character of a key is nothing left of its collection
-pub in_right : {around : Around} (k : Candidate) (e : Marker) (c : ℕ) (cs b behind : List ℕ)
-    → InKey around k e ((c ∷ cs) ++ b) behind → around.indent ≤ (moved e (c ∷ cs)).col
-in_right {around} k e c cs b behind h =
-    let front = front_on_line (c ∷ cs) b ((c ∷ cs) ++ b) refl h.on_line in
+-- after a token of a key is nothing left of its collection
+pub in_right : {around : Around} (k : Candidate) (e : Marker) (p b behind : List ℕ) → Begins p
+    → InKey around k e (p ++ b) behind → around.indent ≤ (moved e p).col
+in_right {around} k e p b behind begins h =
+    let front = front_on_line p b (p ++ b) refl h.on_line in
     let low = h.low in
-    subst (λ (m : Marker). around.indent ≤ m.col) (sym (moved_along e (c ∷ cs) front)) (further (length cs) low)
+    subst (λ (m : Marker). around.indent ≤ m.col) (sym (moved_along e p front))
+    (subst (λ (t : List ℕ). around.indent ≤ e.col + length t) (sym begins.is) (further (length begins.others) low))
   where
     further : (n : ℕ) → around.indent ≤ e.col + 1 → around.indent ≤ e.col + suc n
     further n h = omega (arith, h)
@@ -180,28 +181,25 @@ along_ready {around} {start} {k} {qs} {m} {ts} p o b behind a begins h same =
 -- ## Names and tags
 
 -- a token that ends where its text does
-ends_there : {around : Around} {start : State} {k : Candidate} {qs : List Place} (e : Marker) (c : ℕ)
-    (cs b behind w y : List ℕ) (ad : ℕ) (kind : Kind) (deeper : Bool) → InKey around k e ((c ∷ cs) ++ b) behind
-    → b ++ behind ≡ w ++ y
+ends_there : {around : Around} {start : State} {k : Candidate} {qs : List Place} (e : Marker) (p b behind w y : List ℕ)
+    (ad : ℕ) (kind : Kind) (deeper : Bool) → Begins p → InKey around k e (p ++ b) behind → b ++ behind ≡ w ++ y
     → AreIn is_blank w → ad ≤ e.index
-    → LeadsTo around.limit (state_at around
-    (moment (mid_line (moved e (c ∷ cs)) (b ++ behind)) context.Block (Some k) []
-    false
-    ad (qs ++ token_place e (moved e (c ∷ cs)) kind ∷ [])) deeper) start
-    → Along around start k qs (moved (moved e (c ∷ cs)) w) y (kind ∷ [])
-ends_there {around} {start} {k} {qs} e c cs b behind w y ad kind deeper h is are low leads =
-    let one = moved_index e (c ∷ cs) in
-    let two = moved_index (moved e (c ∷ cs)) w in
+    → LeadsTo around.limit (state_at around (moment (mid_line (moved e p) (b ++ behind)) context.Block (Some k) [] false
+    ad (qs ++ token_place e (moved e p) kind ∷ [])) deeper) start
+    → Along around start k qs (moved (moved e p) w) y (kind ∷ [])
+ends_there {around} {start} {k} {qs} e p b behind w y ad kind deeper begins h is are low leads =
+    let one = moved_index e p in
+    let two = moved_index (moved e p) w in
     record {
       deeper = deeper;
-      there = mid_line (moved e (c ∷ cs)) (b ++ behind);
+      there = mid_line (moved e p) (b ++ behind);
       adjacent = ad;
       white = w;
       are_white = are;
       rest = is;
       mark = refl;
-      right = in_right k e c cs b behind h;
-      piece = record { span = record { start = e; end = moved e (c ∷ cs) }; kind = kind };
+      right = in_right k e p b behind begins h;
+      piece = record { span = record { start = e; end = moved e p }; kind = kind };
       others = [];
       leads = leads;
       are = refl;
@@ -218,9 +216,9 @@ ReadsInKey around k Is kind =
 
 name_along : ReaderPromises → (around : Around) (k : Candidate) (token_of : List ℕ → Kind) (indicator : ℕ)
     (name : List ℕ) → ((second n : ℕ) (c : Core) → step indicator second n c ≡ property.name_steps token_of n c)
-    → is_break indicator ≡ false
+    → is_break indicator ≡ false → is_start indicator ≡ true
     → ReadsInKey around k (λ t. IsAnchorName name × (t ≡ indicator ∷ name)) (token_of (encode_utf8_all name))
-name_along reads around k token_of indicator name begins break start qs t b behind w y e ad (h, e_is) ends_tag whole is
+name_along reads around k token_of indicator name begins break first start qs t b behind w y e ad (h, e_is) ends_tag whole is
     are low at =
     let o = b ++ behind in
     let end = moved e (indicator ∷ name) in
@@ -233,17 +231,18 @@ name_along reads around k token_of indicator name begins break start qs t b behi
     (core_at around r.deeper (cursor_at (indicator ∷ (name ++ o)) e r.blank) context.Block (Some k) [] false ad)
     ∙ name_step reads around r.deeper token_of (length qs) e r.blank indicator name o break h ends context.Block
     (Some k) [] false ad (behind_key refl refl) in
-    ends_there e indicator name b behind w y ad kind r.deeper text is are low
+    ends_there e (indicator ∷ name) b behind w y ad kind r.deeper (starts indicator name (indicator ∷ name) refl first)
+    text is are low
     (token_led around start k ((indicator ∷ name) ++ o) e ad qs r end kind (mid_line end o) ad (λ d. d) stepped
     (in_near k end b behind inside) (in_limit k end b behind inside))) whole at
 
 anchor_along : ReaderPromises → (around : Around) (k : Candidate) (name : List ℕ)
     → ReadsInKey around k (IsAnchor name) (anchor_token name)
-anchor_along reads around k name = name_along reads around k tokens.Anchor 38 name begins_anchor refl
+anchor_along reads around k name = name_along reads around k tokens.Anchor 38 name begins_anchor refl refl
 
 pub alias_along : ReaderPromises → (around : Around) (k : Candidate) (name : List ℕ)
     → ReadsInKey around k (IsAlias name) (alias_token name)
-alias_along reads around k name = name_along reads around k tokens.Alias 42 name begins_alias refl
+alias_along reads around k name = name_along reads around k tokens.Alias 42 name begins_alias refl refl
 
 tag_along : ReaderPromises → (around : Around) (k : Candidate) (tag : Tag)
     → ReadsInKey around k (IsTag tag) (tag_token tag)
@@ -263,19 +262,15 @@ tag_along reads around k tag start qs t b behind w y e ad h ends text is are low
     let led = token_led around start k (t ++ o) e ad qs r end kind (mid_line end o) ad (λ d. d) stepped
     (in_near k end b behind inside) (in_limit k end b behind inside) in
     subst (λ (q : Kind). Along around start k qs (moved (moved e t) w) y (q ∷ [])) g.token
-    (subst (λ (p : List ℕ). InKey around k e (p ++ b) behind
-    → LeadsTo around.limit (state_at around (moment (mid_line (moved e p) o) context.Block (Some k) [] false ad
-    (qs ++ token_place e (moved e p) kind ∷ [])) r.deeper) start
-    → Along around start k qs (moved (moved e p) w) y (kind ∷ [])) (sym f.1)
-    (λ i l. ends_there e 33 f.0 b behind w y ad kind r.deeper i is are low l) text led)
+    (ends_there e t b behind w y ad kind r.deeper (tag_begins tag t h) text is are low led)
 
 -- ## Properties
 
--- the tokens of properties, and what comes after them
-pub record PropertiesAlong (around : Around) (start : State) (k : Candidate) (qs : List Place)
-    (anchor : Option (List ℕ)) (tag : Option Tag) (m : Marker) (y : List ℕ) : Type 0 where
+-- the tokens of a part of a key, and what comes after it
+pub record TokensAlong (around : Around) (start : State) (k : Candidate) (qs : List Place) (Is : List Kind → Type 0)
+    (m : Marker) (y : List ℕ) : Type 0 where
   pub tokens : List Kind
-  pub are : grammar.AreBoth (option_map anchor_token anchor) (option_map tag_token tag) tokens
+  pub are : Is tokens
   pub along : Along around start k qs m y tokens
 
 blanks_end_tag : (w y : List ℕ) → (w ≢ []) × AreIn is_blank w → EndsTag false (w ++ y)
@@ -323,7 +318,8 @@ pub properties_along : ReaderPromises
     (t b behind w y : List ℕ) (e : Marker) (ad : ℕ) → yaml.AreProperties anchor tag around.indent t
     → EndsTag false (b ++ behind) → InKey around k e (t ++ b) behind → b ++ behind ≡ w ++ y → AreIn is_blank w
     → ad ≤ e.index → Ready around start k (t ++ (b ++ behind)) e ad qs
-    → PropertiesAlong around start k qs anchor tag (moved (moved e t) w) y
+    → TokensAlong around start k qs (grammar.AreBoth (option_map anchor_token anchor) (option_map tag_token tag))
+    (moved (moved e t) w) y
 properties_along reads around start k qs None None t b behind w y e ad h ends text is are low r = absurd h
 properties_along reads around start k qs (Some name) None t b behind w y e ad h ends text is are low r =
     record {

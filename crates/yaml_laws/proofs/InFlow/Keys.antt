@@ -12,97 +12,35 @@ use Rattle.saphyr_scanner.specs.Steps.Level.{Candidate}
 use Rattle.saphyr_scanner.specs.Steps.State.{State}
 use Rattle.saphyr_scanner.specs.Grammar.Forest.{Node, Alias, Scalar, Seq, Map, Properties}
 use Rattle.saphyr_scanner.specs.Limits.{most_open}
-use Rattle.yaml_laws.specs.Grammar.FlowNodes.{IsOnLine, IsKeyText, IsBeforeColon, IsFlowNode, IsBeforeContent}
+use Rattle.yaml_laws.specs.Grammar.FlowNodes.{IsOnLine, IsKeyText, IsBeforeColon, IsFlowNode}
 use Rattle.yaml_laws.proofs.InFlow.States.{Around, state_at, moment}
 use Rattle.yaml_laws.proofs.InFlow.KeyLines.{Ready, Fresh, keyed, deeper_at, first_ready}
-use Rattle.yaml_laws.proofs.InFlow.KeyTokens.{InKey, in_back, in_right, in_so, Along, along_joins, along_ready}
-use Rattle.yaml_laws.proofs.InFlow.KeyScalars.{Blanks, colon_text, colon_after}
-use Rattle.yaml_laws.proofs.Flow.States.{moved, IsClear, ReaderPromises, FitsAround, IsParted}
+use Rattle.yaml_laws.proofs.InFlow.KeyTokens.{InKey, in_back, in_right, in_so}
+use Rattle.yaml_laws.proofs.InFlow.KeyScalars.{Blanks, colon_text, colon_after, ContentReads}
+use Rattle.yaml_laws.proofs.Flow.States.{moved, IsClear, ReaderPromises, FitsAround}
 use Rattle.yaml_laws.proofs.Flow.Places.{clear_front}
 use Rattle.yaml_laws.proofs.Flow.Tokens.{BeginsToken, begins_token}
 use Rattle.saphyr_scalar.proofs.Given.{cursor_at}
 use Rattle.yaml_laws.proofs.InFlow.KeyFirsts.{plain_key_fresh, key_node_fresh}
-use Rattle.yaml_laws.proofs.InFlow.KeyNodes.{KeyAlong, alias_key, scalar_key, plain_key, fronted, front_parts, colon_after_parts}
+use Rattle.yaml_laws.proofs.InFlow.KeyNodes.{KeyAlong, alias_key, scalar_key, plain_key, front_along, told_along}
 use Rattle.yaml_laws.proofs.InFlow.KeyCollections.{calmed, collection_along}
 use Rattle.yaml_laws.proofs.Flow.NodesPass.{sequence_read, mapping_read}
-use Rattle.scalar_laws.specs.Spelling.Spaces.{IsSeparation}
 use Rattle.saphyr_scanner.specs.Grammar.Tokens.{Kind}
 use Rattle.saphyr_scanner.specs.Grammar.TokenGrammar as grammar
 use Rattle.saphyr_scanner.proofs.Levels.{level_of}
-use Rattle.yaml_laws.proofs.Flow.Collections.{Brackets, AreBrackets, bracket_text, RunsInside}
+use Rattle.yaml_laws.proofs.Flow.Collections.{Brackets, bracket_text, AreBracketed}
 use Rattle.yaml_laws.proofs.Flow.Collections.Runs.{whole_text, IsBracketText, ReadsCollection}
-use Rattle.yaml_laws.proofs.Flow.Inks.{key_text_begins, starts}
+use Rattle.yaml_laws.proofs.Flow.Inks.{key_text_begins, starts, is_start}
 use Rattle.yaml_laws.proofs.Flow.Pieces.{parted_by}
 
 -- ## Collections
 
-record FrontedBrackets (around : Around) (start : State) (Is : List Kind → Type 0) (b : Brackets) (p : Properties)
-    (k : Candidate) (qs : List Place) (m : Marker) (y : List ℕ) : Type 0 where
-  properties : List Kind
-  are_properties : grammar.YieldProperties p properties
-  inside : List Kind
-  are : Is inside
-  along : Along around start k qs m y (properties ++ (b.opens ∷ (inside ++ b.closes ∷ [])))
-
--- the run inside the brackets, wherever they are
-abbrev RunsAt : Around → (List Kind → Type 0) → Brackets → Candidate → List ℕ → List ℕ → Blanks → List ℕ → Type 0
-RunsAt around Is b k w inside n r =
-    (e : Marker) → InKey around k e (bracket_text b w inside ++ n.text) (58 ∷ r)
-    → RunsInside (calmed around) Is b context.Block [] (moved e (b.opening ∷ w)) inside (colon_text n r)
-
-brackets_key : ReaderPromises → (around : Around) → around.pending ≡ around.required
-    → (start : State) (Is : List Kind → Type 0) (b : Brackets) → AreBrackets b
-    → (p : Properties) (k : Candidate) (qs : List Place) (front w inside : List ℕ) (n : Blanks)
-    (r : List ℕ) (e : Marker) (ad : ℕ) → IsBeforeContent p around.indent front → IsSeparation around.indent w
-    → IsParted around.indent (w ++ (inside ++ (b.closing ∷ colon_text n r)))
-    → InKey around k e ((front ++ bracket_text b w inside) ++ n.text) (colon ∷ r) → ad ≤ e.index
-    → Ready around start k ((front ++ bracket_text b w inside) ++ colon_text n r) e ad qs
-    → RunsAt around Is b k w inside n r
-    → FrontedBrackets around start Is b p k qs (colon_after e (front ++ bracket_text b w inside) n) (colon ∷ r)
-brackets_key reads around same start Is b are p k qs front w inside n r e ad (inl (none, is)) parts parted text low
-    ready run =
-    let body = bracket_text b w inside in
-    subst (λ (f : List ℕ). InKey around k e ((f ++ body) ++ n.text) (58 ∷ r)
-    → Ready around start k ((f ++ body) ++ colon_text n r) e ad qs
-    → FrontedBrackets around start Is b p k qs (colon_after e (f ++ body) n) (58 ∷ r)) (sym is)
-    (λ i z. let c = collection_along around same start Is b are k qs w inside n r e ad parts parted i low z (run e i) in
-    record {
-      properties = [];
-      are_properties = subst (λ (q : Properties). grammar.YieldProperties q []) (sym none) refl;
-      inside = c.inside;
-      are = c.are;
-      along = c.along;
-    }) text ready
-brackets_key reads around same start Is b are p k qs front w inside n r e ad (inr (t, v, h, some, gap, is)) parts parted
-    text low ready run =
-    let body = bracket_text b w inside in
-    let whole = in_so k e ((front ++ body) ++ n.text) (t ++ (v ++ (body ++ n.text))) (58 ∷ r)
-    (front_parts front t v body n.text is) text in
-    let f = fronted reads around start p k qs t v body n.text (58 ∷ r) e ad h some gap whole low
-    (subst (λ (x : List ℕ). Ready around start k x e ad qs) (front_parts front t v body (colon_text n r) is) ready) in
-    let there = moved (moved e t) v in
-    let inner = in_back k (moved e t) v (body ++ n.text) (58 ∷ r)
-    (in_back k e t (v ++ (body ++ n.text)) (58 ∷ r) whole) in
-    let next = along_ready body (colon_text n r) n.text (58 ∷ r) f.along
-    (starts b.opening (w ++ (inside ++ (b.closing ∷ []))) (bracket_text b w inside) refl are.start) inner refl in
-    let c = collection_along around same _ Is b are k _ w inside n r there f.along.adjacent parts parted inner
-    f.along.low next (run there inner) in
-    subst (λ (m : Marker). FrontedBrackets around start Is b p k qs m (58 ∷ r)) (colon_after_parts e front t v body n
-    is)
-    (record {
-      properties = f.tokens;
-      are_properties = f.are;
-      inside = c.inside;
-      are = c.are;
-      along = along_joins f.along c.along;
-    })
-
 -- a piece inside a key's brackets
 inside_fits : (around : Around) (k : Candidate) (e : Marker) (c : ℕ) (w inside : List ℕ) (d : ℕ) (n : Blanks)
-    (r : List ℕ)
+    (r : List ℕ) → is_start c ≡ true
     → InKey around k e (((c ∷ w) ++ (inside ++ (d ∷ []))) ++ n.text) (colon ∷ r)
     → FitsAround (calmed around) (moved e (c ∷ w)) inside (d ∷ colon_text n r)
-inside_fits around k e c w inside d n r text =
+inside_fits around k e c w inside d n r first text =
     let tail = inside ++ ((d ∷ []) ++ n.text) in
     let same : ((c ∷ w) ++ (inside ++ (d ∷ []))) ++ n.text ≡ (c ∷ w) ++ tail =
     append_assoc (c ∷ w) (inside ++ (d ∷ [])) n.text
@@ -113,7 +51,7 @@ inside_fits around k e c w inside d n r text =
       clear = clear_front (moved e (c ∷ w)) inside ((d ∷ []) ++ n.text) (58 ∷ r) text2.clear;
       below = subst (λ (t : List ℕ). (moved e (c ∷ w)).index + length t ≤ around.limit)
           (append_assoc inside ((d ∷ []) ++ n.text) (58 ∷ r)) text2.below;
-      right = in_right k e c w tail (58 ∷ r) text1;
+      right = in_right k e (c ∷ w) tail (58 ∷ r) (starts c w (c ∷ w) refl first) text1;
       calm = refl;
     }
 
@@ -128,22 +66,29 @@ pub collection_key : {node : Node} {p : Properties} {b : Brackets} {Text : ℕ �
     → KeyAlong around start node k qs (colon_after e t n) (colon ∷ r)
 collection_key {node} {p} {b} {Are = Are} reads around same collection start k qs t n r e ad
     (left, opening, inside, room, (front, w, f, parts, o), h, is) text low ready =
-    let whole : t ≡ front ++ bracket_text b w inside = whole_text t opening front w inside b.opening b.closing is o in
+    let body = bracket_text b w inside in
+    let whole : t ≡ front ++ body = whole_text t opening front w inside b.opening b.closing is o in
     let entries = collection.entries left in
-    let run : RunsAt around Are b k w inside n r = λ m i j inner no_candidate fresh on right at.
-    entries.passes (moved m (b.opening ∷ w)) inside (colon_text n r) h
-    (inside_fits around k m b.opening w inside b.closing n r i) (record inner { outer = level_of context.Block j ∷ [] })
-    no_candidate fresh (room_inside left room) on at in
-    let c = brackets_key reads around same start Are b collection.are p k qs front w inside n r e ad f parts
-    (parted_by around.indent w (inside ++ (b.closing ∷ colon_text n r)) parts (entries.ink inside (colon_text n r) h))
+    let first = collection.are.start in
+    let content : ContentReads around (AreBracketed b Are) body n r =
+    record {
+      begins = starts b.opening (w ++ (inside ++ (b.closing ∷ []))) body refl first;
+      along = λ begun key places m near at_key before begin.
+          collection_along around same begun Are b collection.are key places w inside n r m near parts
+          (parted_by around.indent w (inside ++ (b.closing ∷ colon_text n r)) parts
+          (entries.ink inside (colon_text n r) h)) at_key before begin
+          (λ j inner no_candidate fresh on right at. entries.passes (moved m (b.opening ∷ w)) inside (colon_text n r) h
+          (inside_fits around key m b.opening w inside b.closing n r first at_key)
+          (record inner { outer = level_of context.Block j ∷ [] }) no_candidate fresh (room_inside left room) on at);
+    } in
+    let c = front_along reads around start p (AreBracketed b Are) k qs front body n r e ad f content
     (subst (λ (x : List ℕ). InKey around k e (x ++ n.text) (58 ∷ r)) whole text) low
-    (subst (λ (x : List ℕ). Ready around start k (x ++ colon_text n r) e ad qs) whole ready) run in
+    (subst (λ (x : List ℕ). Ready around start k (x ++ colon_text n r) e ad qs) whole ready) in
     subst (λ (x : List ℕ). KeyAlong around start node k qs (colon_after e x n) (58 ∷ r)) (sym whole)
-    (record {
-      tokens = c.properties ++ (b.opens ∷ (c.inside ++ b.closes ∷ []));
-      are = collection.yields grammar.InBlockMapping c.properties c.inside c.are_properties c.are;
-      along = c.along;
-    })
+    (told_along (λ ts (properties, brackets, are, (inner, are_inner, told), all).
+    subst (grammar.YieldsNode node grammar.InBlockMapping)
+    (sym (all ∙ ap (λ (x : List Kind). properties ++ x) told))
+    (collection.yields grammar.InBlockMapping properties inner are are_inner)) c)
 
 -- ## All keys
 
