@@ -14,7 +14,7 @@ use Rattle.saphyr_input.specs.Places.{can_be_plain}
 use Rattle.saphyr_input.proofs.Basics.Booleans.{other_than}
 use Rattle.saphyr_scalar.specs.declared.scalar.position.Marker.{Marker}
 use Rattle.yaml_laws.proofs.Flow.Places.{moved_index}
-use Rattle.yaml_laws.proofs.Flow.GapSteps.{past_ink, past_low}
+use Rattle.yaml_laws.proofs.Flow.GapSteps.{past_low}
 
 -- a text begins with a character that begins a token
 pub record BeginsInk (t : List ℕ) : Type 0 where
@@ -252,14 +252,6 @@ pub key_text_begins : (in_flow : Bool) (indent room : ℕ) (key : Node) (t separ
     → IsKeyText (IsFlowNode room key in_flow indent) key in_flow indent t separation → Begins t
 key_text_begins in_flow indent room key t separation (inl h) = node_begins indent room key in_flow t h
 key_text_begins in_flow indent room key t separation (inr (h, none)) = plain_key_node_begins in_flow indent key t h
-
-pub start_low : (column ad : ℕ) (m : Marker) (p o : List ℕ) → BeginsInk p → ad ≤ (past column m (p ++ o)).0.index
-    → ad ≤ m.index
-start_low column ad m p o b low =
-    let front : p ++ o ≡ b.first ∷ (b.others ++ o) = ap (λ (t : List ℕ). t ++ o) b.is in
-    let here : past column m (p ++ o) ≡ (m, p ++ o) = ap (past column m) front
-    ∙ past_ink column m b.first (b.others ++ o) b.ink ∙ ap (λ (t : List ℕ). (m, t)) (sym front) in
-    subst (λ (q : Marker × List ℕ). ad ≤ q.0.index) here low
 
 pub behind_low : (column ad : ℕ) (m : Marker) (p o : List ℕ) → ad ≤ m.index → ad ≤ (past column (moved m p) o).0.index
 behind_low column ad m p o low =

@@ -1,17 +1,16 @@
 -- Runs over pieces of a text in flow style, one after the other.
 use Rattle.std.proofs.Common.{◌≡◌, inl, inr, sym, subst, ℕ, ◌≤◌, Bool, false, IsTrue, List, [], ◌++◌, refl, ap, ◌∙◌, append_assoc, append-nil}
-use Rattle.std.specs.Prelude.{Option, Some, None}
+use Rattle.std.specs.Prelude.{Option, Some}
 use Rattle.saphyr_scalar.specs.declared.scalar.position.Marker.{Marker}
 use Rattle.scalar_laws.specs.Spelling.Spaces.{IsSeparation}
 use Rattle.saphyr_scanner.specs.declared.engine.level.Context.{Context}
-use Rattle.saphyr_scanner.specs.declared.engine.level.Context.TheVariants as context
 use Rattle.saphyr_scanner.specs.Grammar.Tokens.{Kind}
 use Rattle.saphyr_scanner.specs.Steps.Queue.{Place}
 use Rattle.saphyr_scanner.specs.Steps.Level.{Candidate, Level}
 use Rattle.saphyr_scanner.specs.Steps.State.{State}
 use Rattle.saphyr_scanner.proofs.Queues.{place_kinds, place_kinds_append}
 use Rattle.yaml_laws.proofs.InFlow.States.{Around, state_at, runs_to_itself, chains, ComesAround, FlowMoment, moment_with}
-use Rattle.yaml_laws.proofs.Flow.States.{moved, past, IsFresh, Since, Known, PassesNoting, PassesPiece, Closes, after, after_node, keeping, StandsBefore, TextPasses}
+use Rattle.yaml_laws.proofs.Flow.States.{moved, past, IsFresh, Since, Known, PassesNoting, PassesPiece, after, after_node, keeping, StandsBefore, TextPasses}
 use Rattle.yaml_laws.proofs.Flow.Inks.{behind_low}
 use Rattle.yaml_laws.proofs.Flow.Tokens.{after_token}
 use Rattle.std.proofs.lemmas.Bool.{false≢true}
@@ -154,14 +153,6 @@ token_node {around = around} {now} {m = m} {t} {o} allows never low q still =
       low = subst (λ (n : ℕ). n ≤ (past around.indent (moved m t) o).0.index) (sym still)
           (behind_low around.indent now.adjacent m t o low);
     })
-
--- a document's node after which no comment is noted
-abbrev pub closes_unnoted : {around : Around} {start : Bool → State} {known : Known} {ps : List Place} {m : Marker}
-    {o : List ℕ}
-    {ts : List Kind} → (p : PassesPiece around start known context.Block [] ps m o ts)
-    → p.adjacent ≤ (past around.indent m o).0.index → {k : Option Candidate} {first : Marker} {t : List ℕ}
-    → Since k first t p.key → Closes around start k first t ps m o ts
-closes_unnoted p low late = record { comment = None; run = knowing p _ (low, late) }
 
 -- one step
 pub step_passes : {comment : Option Marker} {around : Around} {start : Bool → State} (next : FlowMoment)

@@ -1,26 +1,23 @@
 -- The scanner takes a node in flow style and makes its tokens.
-use Rattle.std.proofs.Common.{◌≡◌, ℕ, ◌+◌, ◌<◌, ◌≤◌, Bool, false, List, [], ◌++◌, length, sym, arith, subst, inl, inr, refl, ap, ◌∙◌}
+use Rattle.std.proofs.Common.{◌≡◌, ℕ, ◌+◌, ◌<◌, ◌≤◌, Bool, false, List, [], ◌++◌, length, sym, arith, subst, inl, inr, ap, ◌∙◌}
 use Rattle.saphyr_scalar.specs.declared.scalar.position.Marker.{Marker}
-use Rattle.saphyr_scanner.specs.Grammar.Tokens.{Kind}
 use Rattle.saphyr_scanner.specs.Grammar.TokenGrammar as grammar
 use Rattle.saphyr_scanner.specs.Steps.Level.{is_block, Level}
 use Rattle.saphyr_scanner.specs.Grammar.Forest.{Properties, Node, Alias, Scalar, Seq, Map, Nodes, NoNode, MoreNodes, Pairs, NoPair, MorePairs}
 use Rattle.saphyr_scanner.specs.Limits.{most_open}
-use Rattle.yaml_laws.specs.Grammar.FlowNodes.{AreItems, AreOtherItems, AreFlowPairs, AreOtherFlowPairs, allows_adjacent, IsScalarNode, IsPlainKeyNode}
-use Rattle.yaml_laws.proofs.InFlow.States.{Around, FlowMoment, root_moment, state_at}
-use Rattle.yaml_laws.proofs.Flow.States.{moved, past, FitsAround, IsBehindNode, IsBehindRoot, ReaderPromises, after_node, NodePasses, PassesNode, ClosesNodes, RootCloses, StandsBefore, ReadsText, follows_inside, PassesNoting, keeping, follows_outside}
-use Rattle.yaml_laws.proofs.Flow.Joins.{knowing}
-use Rattle.yaml_laws.proofs.Flow.Inks.{node_ink, start_low, BeginsInk}
-use Rattle.yaml_laws.proofs.Flow.Collections.{Brackets, square, curly, are_square, are_curly}
+use Rattle.yaml_laws.specs.Grammar.FlowNodes.{AreItems, AreOtherItems, AreFlowPairs, AreOtherFlowPairs, allows_adjacent, IsScalarNode, IsPlainKeyNode, IsFlowNode}
+use Rattle.yaml_laws.proofs.InFlow.States.{Around, FlowMoment, state_at}
+use Rattle.yaml_laws.proofs.Flow.States.{moved, FitsAround, IsBehindNode, ReaderPromises, after_node, NodePasses, PassesNode, StandsBefore, ReadsText, follows_inside, PassesNoting, keeping}
+use Rattle.yaml_laws.proofs.Flow.Collections.{square, curly, are_square, are_curly}
 use Rattle.yaml_laws.proofs.Flow.Items.{PassesPairItem, pair_item_passes, reads_item, reads_pair, ReadsOthers, no_others, more_others, ReadsEntries, no_entries, more_entries}
 use Rattle.yaml_laws.proofs.Flow.Properties.{alias_passes}
 use Rattle.yaml_laws.proofs.Flow.ScalarNodes.{scalar_passes, key_node_passes}
-use Rattle.yaml_laws.proofs.Flow.Collections.Runs.{IsBracketText, ReadsCollection, reads_sequence, reads_mapping, calm_in_flow, collection_passes}
+use Rattle.yaml_laws.proofs.Flow.Collections.Runs.{ReadsCollection, reads_sequence, reads_mapping, calm_in_flow, collection_passes}
 use Rattle.std.specs.Prelude.{not, Option}
 use Rattle.saphyr_scanner.specs.declared.engine.level.Context.{Context}
 use Rattle.saphyr_scanner.specs.declared.engine.level.Context.TheVariants as context
 
--- ## A node inside flow, and at block level
+-- ## A node inside flow
 
 weaker : (a b : ℕ) → a < b → a ≤ b
 weaker a b h = omega (arith, h)
@@ -38,23 +35,6 @@ passes_inside {around} {node} {m} {t} {o} room passes fits behind now low flow s
       passes = subst (λ (c : Option Marker). PassesNoting c around (state_at around now)
           (after_node around.indent now.context (keeping now m t) (allows_adjacent node) (moved m t) o) now.context
           now.outer now.places (moved m t) o r.tokens) (r.none flow) r.passes;
-    }
-
-closes_outside : {around : Around} {node : Node} {m : Marker} {t o : List ℕ} → BeginsInk t → ((now : FlowMoment)
-    → now.context ≡ context.Block → now.outer ≡ [] → ReadsText around node m t o now)
-    → FitsAround around m t o → IsBehindRoot around (moved m t) o → (now : FlowMoment)
-    → now.adjacent ≤ (past around.indent m (t ++ o)).0.index → StandsBefore around now m (t ++ o)
-    → RootCloses around now node m t o
-closes_outside {around} {node} {m} {t} {o} ink passes fits behind now before text =
-    let r = passes (root_moment now) refl refl fits (follows_outside refl behind)
-    (start_low around.indent now.adjacent m t o ink before, inl refl) text in
-    record {
-      tokens = r.tokens;
-      are = r.are grammar.InBlock;
-      closes = record {
-        comment = r.comment;
-        run = knowing r.passes _ (r.passes.knows.low, r.passes.knows.since);
-      };
     }
 
 -- ## All nodes
@@ -133,28 +113,17 @@ mapping_read reads around p pairs = reads_mapping around p pairs (λ left. all_p
 all_room : (ls : List Level) → ls ≡ [] → most_open + length ls ≤ most_open
 all_room ls e = subst (λ (z : List Level). most_open + length z ≤ most_open) (sym e) (omega arith)
 
--- a collection at block level, where no key is required
-collection_closes : {around : Around} {node : Node} {p : Properties} {b : Brackets} {Text : ℕ → List ℕ → Type 0}
-    {Are : List Kind → Type 0} → ReaderPromises → ReadsCollection around node p b Text Are → around.required ≡ false
-    → (m : Marker) (t o : List ℕ) → IsBracketText b Text p most_open around.indent t → FitsAround around m t o
-    → IsBehindRoot around (moved m t) o → (now : FlowMoment)
-    → now.adjacent ≤ (past around.indent m (t ++ o)).0.index → StandsBefore around now m (t ++ o)
-    → RootCloses around now node m t o
-collection_closes {around} {node} reads collection none_required m t o h fits =
-    closes_outside (node_ink around.indent most_open node false t (collection.is_node most_open false t h))
-    (λ now is none. collection_passes reads collection most_open m t o now h (all_room now.outer none)
-    (λ _. fits.calm ∙ sym none_required)) fits
-
 -- at block level, where no key is required
-pub nodes_close : ReaderPromises → (around : Around) → ClosesNodes around
-nodes_close reads around none_required (Alias name) m t o h =
-    closes_outside (node_ink around.indent most_open (Alias name) false t h)
-    (λ now is none. alias_passes reads around name m t o now h)
-nodes_close reads around none_required (Scalar p style value) m t o h =
-    closes_outside (node_ink around.indent most_open (Scalar p style value) false t h)
-    (λ now is none. scalar_passes reads around p style value m t o now
-    (subst (λ (x : Context). IsScalarNode p style value (not (is_block x)) around.indent t) (sym is) h))
-nodes_close reads around none_required (Seq p nodes) m t o h =
-    collection_closes reads (sequence_read reads around p nodes) none_required m t o h
-nodes_close reads around none_required (Map p pairs) m t o h =
-    collection_closes reads (mapping_read reads around p pairs) none_required m t o h
+pub nodes_close : ReaderPromises → (around : Around) → around.required ≡ false → (node : Node) (m : Marker)
+    (t o : List ℕ) → IsFlowNode most_open node false around.indent t → (now : FlowMoment)
+    → now.context ≡ context.Block → now.outer ≡ [] → ReadsText around node m t o now
+nodes_close reads around none_required (Alias name) m t o h now is none = alias_passes reads around name m t o now h
+nodes_close reads around none_required (Scalar p style value) m t o h now is none =
+    scalar_passes reads around p style value m t o now
+    (subst (λ (x : Context). IsScalarNode p style value (not (is_block x)) around.indent t) (sym is) h)
+nodes_close reads around none_required (Seq p nodes) m t o h now is none =
+    λ fits. collection_passes reads (sequence_read reads around p nodes) most_open m t o now h (all_room now.outer none)
+    (λ _. fits.calm ∙ sym none_required) fits
+nodes_close reads around none_required (Map p pairs) m t o h now is none =
+    λ fits. collection_passes reads (mapping_read reads around p pairs) most_open m t o now h (all_room now.outer none)
+    (λ _. fits.calm ∙ sym none_required) fits

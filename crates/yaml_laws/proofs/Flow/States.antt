@@ -41,7 +41,7 @@ use Rattle.saphyr_scanner.specs.Limits.{most_open}
 use Rattle.saphyr_scanner.proofs.Queues.{place_kinds}
 use Rattle.saphyr_scanner.proofs.Levels.{saved}
 use Rattle.yaml_laws.specs.Grammar.FlowNodes.{IsPlainKeyNode, IsBeforeColon, allows_adjacent, IsFlowNode}
-use Rattle.yaml_laws.proofs.InFlow.States.{Around, FlowMoment, moment, state_at, noted, RunsTo, root_moment}
+use Rattle.yaml_laws.proofs.InFlow.States.{Around, FlowMoment, moment, state_at, noted, RunsTo}
 use Rattle.yaml_laws.specs.Grammar.BlockNodes.{EndsContent}
 
 -- ## Places in a text
@@ -324,16 +324,6 @@ pub record IsAfterNode (indent : ℕ) (x : Context) (kept : KeptKey) (allows : L
 abbrev pub after_node : ℕ → Context → KeptKey → (List ℕ → Bool) → Marker → List ℕ → Known
 after_node indent x kept allows m o key allowed adjacent new = IsAfterNode indent x kept allows m o key adjacent new
 
--- after a document's node: what may be a key since k, after the text t, which is at first
-abbrev pub closed : ℕ → Option Candidate → Marker → List ℕ → Marker → List ℕ → Known
-closed indent k first t m o key allowed adjacent new = (adjacent ≤ (past indent m o).0.index) × Since k first t key
-
--- a document's node is passed
-pub record Closes (around : Around) (start : Bool → State) (k : Option Candidate) (first : Marker) (t : List ℕ)
-    (ps : List Place) (m : Marker) (o : List ℕ) (ts : List Kind) : Type 0 where
-  pub comment : Option Marker
-  pub run : PassesNoting comment around start (closed around.indent k first t m o) context.Block [] ps m o ts
-
 -- after properties, which keep the key that begins with them
 pub record IsAfterProperties (x : Context) (kept key : Option Candidate) (allowed : Bool) (new : List Place) : Type
     0 where
@@ -352,12 +342,6 @@ pub record NodePasses (around : Around) (now : FlowMoment) (node : Node) (m : Ma
   pub passes : PassesPiece around (state_at around now)
       (after_node around.indent now.context (keeping now m t) (allows_adjacent node) (moved m t) o) now.context now.outer
       now.places (moved m t) o tokens
-
--- the same of a document's node
-pub record RootCloses (around : Around) (now : FlowMoment) (node : Node) (m : Marker) (t o : List ℕ) : Type 0 where
-  pub tokens : List Kind
-  pub are : grammar.YieldsNode node grammar.InBlock tokens
-  pub closes : Closes around (state_at around (root_moment now)) now.key m t now.places (moved m t) o tokens
 
 -- What comes after a node that ends at m, inside flow or at block level.
 pub data Follows (around : Around) (x : Context) (node : Node) (m : Marker) (o : List ℕ) : Type 0 where
@@ -403,15 +387,3 @@ PassesNode around room node =
     → IsBehindNode around.indent node o
     → (now : FlowMoment) → now.adjacent < m.index → is_block now.context ≡ false → room + length now.outer ≤ most_open
     → StandsBefore around now m (p ++ o) → NodePasses around now node m p o
-
--- A node at block level is passed.
-abbrev pub ClosesNode : Around → Node → Type 0
-ClosesNode around node =
-    (m : Marker) (p o : List ℕ) → IsFlowNode most_open node false around.indent p → FitsAround around m p o
-    → IsBehindRoot around (moved m p) o
-    → (now : FlowMoment) → now.adjacent ≤ (past around.indent m (p ++ o)).0.index → StandsBefore around now m (p ++ o)
-    → RootCloses around now node m p o
-
--- each is, where no key is required
-abbrev pub ClosesNodes : Around → Type 0
-ClosesNodes around = around.required ≡ false → (node : Node) → ClosesNode around node

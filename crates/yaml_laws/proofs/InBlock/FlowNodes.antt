@@ -12,18 +12,17 @@ use Rattle.saphyr_scanner.specs.Steps.Core.{least_column}
 use Rattle.saphyr_scanner.specs.Steps.Level.{Candidate}
 use Rattle.saphyr_scanner.specs.Steps.Queue.{Place}
 use Rattle.saphyr_scanner.specs.Steps.State.{State}
-use Rattle.saphyr_scanner.specs.Grammar.Forest.{Node, Alias, Scalar, Seq, Map}
+use Rattle.saphyr_scanner.specs.Grammar.Forest.{Node}
 use Rattle.saphyr_scanner.specs.Steps.Passing.{goes_on_behind}
-use Rattle.saphyr_scanner.specs.Grammar.TokenGrammar as grammar
 use Rattle.saphyr_scanner.specs.Grammar.Tokens.{Kind}
 use Rattle.saphyr_scanner.specs.Limits.{most_open}
-use Rattle.yaml_laws.specs.Grammar.BlockNodes.{Position, IsFlowInBlock}
+use Rattle.yaml_laws.specs.Grammar.BlockNodes.{IsFlowInBlock}
 use Rattle.yaml_laws.specs.Grammar.FlowNodes.{IsFlowNode, IsOnLine}
 use Rattle.yaml_laws.proofs.InFlow.States.{Around, moment, state_at, not_more, least_low, least}
 use Rattle.yaml_laws.proofs.Flow.States as flow
 use Rattle.yaml_laws.proofs.Flow.States.{moved, past, crosses, EndsDocument, IsLeft, IsBehindRoot, Since, ReaderPromises}
 use Rattle.yaml_laws.proofs.Flow.Places.{moved_append, moved_count, moved_along}
-use Rattle.yaml_laws.proofs.Flow.GapSteps.{past_low, past_ink}
+use Rattle.yaml_laws.proofs.Flow.GapSteps.{past_ink}
 use Rattle.yaml_laws.proofs.Flow.Fillers.{rest_past, blanks_past}
 use Rattle.yaml_laws.proofs.Flow.Inks.{node_ink}
 use Rattle.yaml_laws.proofs.Documents.Lines.{eol}
@@ -34,7 +33,7 @@ use Rattle.yaml_laws.proofs.InBlock.Follows.{goes_alike, goes_on, IsQuiet, lands
 use Rattle.yaml_laws.proofs.InBlock.Lines.{IsLined, FitsOnLines, fits_front, fits_back, fits_so, later_line, moved_lined, past_line}
 use Rattle.yaml_laws.proofs.InBlock.Scalars.{gap_reaches, lands_behind}
 use Rattle.yaml_laws.proofs.InBlock.Crossings.{content_crosses}
-use Rattle.yaml_laws.proofs.InBlock.Statements.{context_at, ReadsAt, place_allows_block, ReadsKey}
+use Rattle.yaml_laws.proofs.InBlock.Statements.{context_at, ReadsAt, ReadsKey}
 use Rattle.yaml_laws.proofs.InBlock.BehindIndicators.{further_ink}
 use Rattle.yaml_laws.proofs.InBlock.Untabbed.{clean_past, settles}
 use Rattle.saphyr_input.proofs.Basics.Booleans.{or_true_swap}
@@ -153,21 +152,6 @@ quiet_left f n m y h =
     by_end (inl ends) = inr (document_ends_by_test m y ends)
     by_end (inr left) = inl (left_of n.deeper f.indent m.col left)
 
--- ## Its tokens
-
--- they are so wherever the node is at block level
-in_context : (place : Position) (node : Node) (ts : List Kind) → grammar.YieldsNode node grammar.InBlock ts
-    → grammar.YieldsNode node (context_at place) ts
-in_context place (Alias name) ts h = h
-in_context place (Scalar p style value) ts h = h
-in_context place (Seq p nodes) ts (properties, content, are, inl h, is) = (properties, content, are, inl h, is)
-in_context place (Seq p nodes) ts (properties, content, are, inr (inl h), is) =
-    (properties, content, are, inr (inl (place_allows_block place, h.1)), is)
-in_context place (Seq p nodes) ts (properties, content, are, inr (inr h), is) = absurd h.0
-in_context place (Map p pairs) ts (properties, content, are, inl h, is) = (properties, content, are, inl h, is)
-in_context place (Map p pairs) ts (properties, content, are, inr h, is) =
-    (properties, content, are, inr (place_allows_block place, h.1), is)
-
 -- ## What may be a key after it
 
 far_left : (k : Candidate) (m : Marker) → k.mark.line < m.line → left_key (Some k) m ≡ None
@@ -252,47 +236,49 @@ behind_root limit f n end o h q is stop left =
     by_text m [] stop (inr k) = inl (inl refl)
     by_text m (c ∷ cs) stop (inr k) = inr (record { left = k; first = c; others = cs; is = refl; blank = stop.0 })
 
--- a moment after a piece that is closed
-abbrev behind_closed : {around : Around} {begun : Bool → State} {k : Option Candidate} {first n : Marker} {t o : List ℕ}
-    {ps : List Place} {us : List Kind} → flow.Closes around begun k first t ps n o us → Bool → Moment
-behind_closed c d = record {
-  cursor = c.run.there;
-  key = c.run.key;
-  allowed = c.run.allowed;
-  adjacent = c.run.adjacent;
+-- a moment after a piece
+abbrev behind_piece : {comment : Option Marker} {around : Around} {begun : Bool → State} {known : flow.Known} {n : Marker}
+    {o : List ℕ} {ps : List Place} {us : List Kind} → flow.PassesNoting comment around begun known context.Block [] ps n
+    o us → Bool → Moment
+behind_piece {comment} c d = record {
+  cursor = c.there;
+  key = c.key;
+  allowed = c.allowed;
+  adjacent = c.adjacent;
   deeper = d;
   required = false;
-  comment = c.comment;
+  comment = comment;
 }
 
 -- The scanner goes on after a piece in flow style as from the token at q.
 abbrev pub goes_behind : {limit : ℕ} {start : State} {f : Frame} {m : Marker} {y : List ℕ} {ts us : List Kind}
-    (v : At limit start f m y ts) {k : Option Candidate} {first n : Marker} {t o : List ℕ}
-    → (c : flow.Closes (around_of limit f) (state_at (around_of limit f)
-    (moment (cursor_at y m v.blank) context.Block v.key [] v.allowed v.adjacent v.places)) k first t v.places n o us)
-    → (q : Marker × List ℕ) → past f.indent n o ≡ q → IsStop q.1 → ((d : Bool) → IsQuiet f (behind_closed c d) q.0 q.1)
+    (v : At limit start f m y ts) {comment : Option Marker} {known : flow.Known} {n : Marker} {o : List ℕ}
+    → (c : flow.PassesNoting comment (around_of limit f) (state_at (around_of limit f)
+    (moment (cursor_at y m v.blank) context.Block v.key [] v.allowed v.adjacent v.places)) known context.Block []
+    v.places n o us) → c.adjacent ≤ (past f.indent n o).0.index
+    → (q : Marker × List ℕ) → past f.indent n o ≡ q → IsStop q.1 → ((d : Bool) → IsQuiet f (behind_piece c d) q.0 q.1)
     → At limit start f q.0 q.1 (ts ++ us)
-goes_behind {limit} {start} {f} {ts = ts} {us} v {n = n} {o} c q lands_at stop quiet =
-    let ran = c.run.leads.run v.deeper in
-    let there = behind_closed c ran.deeper in
-    let reached : past f.indent c.run.there.mark c.run.there.rest ≡ q = c.run.fits ∙ lands_at in
-    let s = settles f.indent c.run.there.mark c.run.there.rest
+goes_behind {limit} {start} {f} {ts = ts} {us} v {n = n} {o} c low q lands_at stop quiet =
+    let ran = c.leads.run v.deeper in
+    let there = behind_piece c ran.deeper in
+    let reached : past f.indent c.there.mark c.there.rest ≡ q = c.fits ∙ lands_at in
+    let s = settles f.indent c.there.mark c.there.rest
     (subst (λ (z : Marker × List ℕ). IsStop z.1) (sym reached) stop) in
-    let clean = s.1 (least_column (core_of f there)) (least_low f.indent ran.deeper) c.run.there.blank_so_far in
-    let land = lands f there (v.places ++ c.run.new) q.0 q.1 refl (s.0 ∙ reached) clean (quiet ran.deeper) in
+    let clean = s.1 (least_column (core_of f there)) (least_low f.indent ran.deeper) c.there.blank_so_far in
+    let land = lands f there (v.places ++ c.new) q.0 q.1 refl (s.0 ∙ reached) clean (quiet ran.deeper) in
     record {
       blank = land.0;
-      key = left_key c.run.key q.0;
-      allowed = crosses c.run.there.rest || c.run.allowed;
-      adjacent = c.run.adjacent;
+      key = left_key c.key q.0;
+      allowed = crosses c.there.rest || c.allowed;
+      adjacent = c.adjacent;
       deeper = ran.deeper;
-      places = v.places ++ c.run.new;
+      places = v.places ++ c.new;
       follows = goes_alike (goes_on v.follows ran.leads) land.1 refl;
       stop = stop;
-      near = left_again c.run.key q.0;
-      are = place_kinds_append v.places c.run.new ∙ ap (λ (x : List Kind). x ++ place_kinds c.run.new) v.are
-          ∙ ap (λ (x : List Kind). ts ++ x) c.run.are;
-      low = subst (λ (z : Marker × List ℕ). c.run.adjacent ≤ z.0.index) lands_at c.run.knows.0;
+      near = left_again c.key q.0;
+      are = place_kinds_append v.places c.new ∙ ap (λ (x : List Kind). x ++ place_kinds c.new) v.are
+          ∙ ap (λ (x : List Kind). ts ++ x) c.are;
+      low = subst (λ (z : Marker × List ℕ). c.adjacent ≤ z.0.index) lands_at low;
     }
 
 pub reads_flow : ReaderPromises → (limit : ℕ) → limit < 2 ^ 63 → (node : Node)
@@ -329,19 +315,18 @@ reads_flow reads limit short node place f same m t o (gap, text, end, gap_is, no
     λ right. eol_moved f.indent n end o end_is right ∙ ap (λ (k : Marker). past f.indent k o) (sym place_is)
     ∙ clean_past f.indent (moved m t) o behind.clean in
     let root = behind_root limit f n end o end_is q lands_at (past_stops (moved m t) o) behind.left in
-    let start_low = v.low in
-    let on = past_low f.indent at (text ++ rest) in
     let now = moment (cursor_at (text ++ rest) at v.blank) context.Block v.key [] v.allowed v.adjacent v.places in
-    let r = nodes_close reads around refl node at text rest is inside root now (omega (arith, start_low, on)) refl in
-    let c = r.closes in
-    let g = goes_behind v c q (lands_at c.run.right) (past_stops (moved m t) o)
-    (λ d. quiet_left f (behind_closed c d) q.0 q.1 behind.left) in
+    let r = nodes_close reads around refl node at text rest is now refl refl inside (flow.follows_outside refl root)
+    (v.low, inl refl) refl in
+    let c = r.passes in
+    let g = goes_behind v c c.knows.low q (lands_at c.right) (past_stops (moved m t) o)
+    (λ d. quiet_left f (behind_piece c d) q.0 q.1 behind.left) in
     record {
       tokens = r.tokens;
-      are = inr (in_context place node r.tokens r.are);
+      are = inr (r.are (context_at place));
       arrived = record {
         at = g;
-        next = what_comes limit short m t at text end o place_is fits_all end_is v.key l.1 c.run.key c.run.knows.1
-            c.run.allowed c.run.there.rest (λ e. c.run.fresh refl e);
+        next = what_comes limit short m t at text end o place_is fits_all end_is v.key l.1 c.key c.knows.since c.allowed
+            c.there.rest (λ e. c.fresh refl e);
       };
     }

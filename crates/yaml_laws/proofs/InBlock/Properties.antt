@@ -22,7 +22,6 @@ use Rattle.yaml_laws.proofs.Flow.States.{moved, past, Since, FitsAround, ReaderP
 use Rattle.yaml_laws.proofs.Flow.Inks.{BeginsInk, properties_ink, behind_low}
 use Rattle.yaml_laws.proofs.Flow.GapSteps.{past_ink}
 use Rattle.yaml_laws.proofs.Flow.Fillers.{separation_past}
-use Rattle.yaml_laws.proofs.Flow.Joins.{closes_unnoted}
 use Rattle.yaml_laws.proofs.Flow.Ends.{white_ends_tag}
 use Rattle.yaml_laws.proofs.Flow.Places.{moved_append}
 use Rattle.yaml_laws.proofs.InBlock.States.{Frame, crosses, At}
@@ -107,17 +106,16 @@ properties_passed reads {limit} short f p t h m o low white fits lands v late =
     record { clear = fits.clear; below = fits.below; right = low; calm = refl } in
     let now = moment (cursor_at (t ++ o) m v.blank) context.Block v.key [] v.allowed v.adjacent v.places in
     let r = properties_read reads around p.anchor p.tag m t o h now (white_ends_tag false o white) inside refl in
-    let known = r.passes.knows in
-    let c = closes_unnoted r.passes (subst (λ (i : ℕ). i ≤ (past f.indent n o).0.index) (sym known.still)
-    (behind_low f.indent v.adjacent m t o v.low)) known.since in
-    let g = goes_behind v c q (lands c.run.right) (past_stops n o) (λ d. inl refl) in
+    let c = r.passes in
+    let g = goes_behind v c (subst (λ (i : ℕ). i ≤ (past f.indent n o).0.index) (sym c.knows.still)
+    (behind_low f.indent v.adjacent m t o v.low)) q (lands c.right) (past_stops n o) (λ d. inl refl) in
     record {
       tokens = r.tokens;
       are = r.are;
       at = g;
-      late = late_left c.run.key q.0 n (late_since short v.key m t o c.run.key fits late c.run.knows.1);
-      allowed = λ e. or_true_swap c.run.allowed (crosses c.run.there.rest) (c.run.fresh refl e);
-      right = c.run.right;
+      late = late_left c.key q.0 n (late_since short v.key m t o c.key fits late c.knows.since);
+      allowed = λ e. or_true_swap c.allowed (crosses c.there.rest) (c.fresh refl e);
+      right = c.right;
     }
 
 -- ## Before a header

@@ -98,10 +98,6 @@ moment s x k ls a ad ps =
 abbrev pub moment_in : Context → FlowMoment → FlowMoment
 moment_in x now = record now { context = x }
 
--- the same outside flow
-abbrev pub root_moment : FlowMoment → FlowMoment
-root_moment now = record now { context = context.Block; outer = [] }
-
 -- the same with further places
 abbrev pub moment_with : List Place → FlowMoment → FlowMoment
 moment_with new now = record now { places = now.places ++ new }
