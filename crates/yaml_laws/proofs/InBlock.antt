@@ -21,6 +21,7 @@ pub mod ValuesAhead
 pub mod ScalarTexts
 pub mod HeaderScalars
 pub mod Scalars
+pub mod Parts
 pub mod Sequences
 pub mod Pairs
 pub mod Mappings

@@ -23,8 +23,9 @@ use Rattle.yaml_laws.proofs.InBlock.Statements.{context_at, EndsNodeAt, ArrivedA
 use Rattle.yaml_laws.proofs.InBlock.Texts.{behind_wider}
 use Rattle.yaml_laws.proofs.InBlock.BehindIndicators.{entries_ink, pairs_ink, further_ink}
 use Rattle.yaml_laws.proofs.InBlock.Leads.{reads_lead, lead_col, mapping_least, sequence_least}
-use Rattle.yaml_laws.proofs.InBlock.Sequences.{ReadsOthers, no_others, more_others, reads_entries}
-use Rattle.yaml_laws.proofs.InBlock.Mappings.{ReadsOtherPairs, no_other_pairs, more_pairs, reads_pairs}
+use Rattle.yaml_laws.proofs.InBlock.Parts.{reads_parts}
+use Rattle.yaml_laws.proofs.InBlock.Sequences.{ReadsOtherEntries, no_entries, more_entries, reads_entries}
+use Rattle.yaml_laws.proofs.InBlock.Mappings.{is_pair, ReadsOtherPairs, no_other_pairs, more_pairs}
 use Rattle.std.proofs.Math.Bool.{or-true}
 use Rattle.std.proofs.lemmas.Bool.{leb-true}
 
@@ -124,7 +125,7 @@ IsBlockSequence p nodes place t o =
     × AreEntries most_open nodes m entries o × (t ≡ lead ++ entries)
 
 reads_sequence : {limit : ℕ} → ReadsLeaves limit → (p : Properties) (node : Node) (nodes : Nodes)
-    → ReadsAt limit node (IsBlockNode most_open node) → ReadsOthers limit nodes
+    → ReadsAt limit node (IsBlockNode most_open node) → ReadsOtherEntries limit nodes
     → ReadsAt limit (Seq p (MoreNodes node nodes)) (IsBlockSequence p (MoreNodes node nodes))
 reads_sequence {limit} leaves p node nodes reads more place f same m t o (column, lead, entries, lead_is, h, e) fits
     behind start ts v = by_column (nat_le f.indent n.col) refl
@@ -172,7 +173,7 @@ reads_sequence {limit} leaves p node nodes reads more place f same m t o (column
         let r = reads_entries leaves node nodes reads more f n true k far entries o
         (subst (λ (c : ℕ). AreEntries most_open (MoreNodes node nodes) c entries o) (sym col) h)
         (fits_back m lead entries o whole)
-        (behind_wider f.indent (suc n.col) (moved n entries) o wide behind_o) start (ts ++ l.tokens) l.at l.allowed in
+        (behind_wider f.indent (suc n.col) (moved n entries) o wide behind_o) start (ts ++ l.tokens) l.at l.none l.allowed in
         let c = collection_closes f n.col (past 0 (moved n entries) o) (leb-true f.indent n.col k) behind_o.left
         r.arrived in
         record {
@@ -198,7 +199,7 @@ reads_sequence {limit} leaves p node nodes reads more place f same m t o (column
         let r = reads_entries leaves node nodes reads more f n false k far entries o
         (subst (λ (c : ℕ). AreEntries most_open (MoreNodes node nodes) c entries o) (sym col) h)
         (fits_back m lead entries o whole)
-        (behind_wider f.indent (suc n.col) (moved n entries) o wide behind_o) start (ts ++ l.tokens) l.at l.allowed in
+        (behind_wider f.indent (suc n.col) (moved n entries) o wide behind_o) start (ts ++ l.tokens) l.at l.none l.allowed in
         record {
           tokens = l.tokens ++ r.tokens;
           are = inr (
@@ -237,7 +238,7 @@ reads_mapping {limit} leaves p key value pairs K V more place f same m t o (colu
     (further_ink entries o (pairs_ink leaves (MorePairs key value pairs) column entries o h))
     (fits_front m lead entries o whole) start ts
     (subst (λ (x : List ℕ). Before limit start place f m x ts) text v) in
-    let r = reads_pairs leaves key value pairs K V more f n true (yes f.indent n.col low) (one f.indent n.col low)
+    let r = reads_parts (is_pair leaves key value K V) more f n true (yes f.indent n.col low) (one f.indent n.col low)
     entries o (subst (λ (c : ℕ). ArePairs most_open (MorePairs key value pairs) c entries o) (sym col) h)
     (fits_back m lead entries o whole)
     (behind_wider f.indent (suc n.col) (moved n entries) o (two f.indent n.col low) behind_o) start (ts ++ l.tokens)
@@ -308,10 +309,10 @@ mutual
       (reads_mapping leaves p key value pairs (reads_node leaves key) (reads_node leaves value)
       (reads_other_pairs leaves pairs))
 
-  reads_others : {limit : ℕ} → ReadsLeaves limit → (nodes : Nodes) → ReadsOthers limit nodes
-  reads_others leaves NoNode = no_others
+  reads_others : {limit : ℕ} → ReadsLeaves limit → (nodes : Nodes) → ReadsOtherEntries limit nodes
+  reads_others leaves NoNode = no_entries
   reads_others leaves (MoreNodes node nodes) =
-      more_others leaves node nodes (reads_node leaves node) (reads_others leaves nodes)
+      more_entries leaves node nodes (reads_node leaves node) (reads_others leaves nodes)
 
   reads_other_pairs : {limit : ℕ} → ReadsLeaves limit → (pairs : Pairs) → ReadsOtherPairs limit pairs
   reads_other_pairs leaves NoPair = no_other_pairs

@@ -30,19 +30,7 @@ use Rattle.yaml_laws.proofs.InBlock.BehindIndicators.{colon_ink, node_behind}
 use Rattle.yaml_laws.proofs.InBlock.TabsAhead.{no_tab_ahead}
 use Rattle.saphyr_input.proofs.Basics.Booleans.{clash}
 use Rattle.saphyr_input.proofs.Basics.Numbers.{next_not_within}
-use Rattle.yaml_laws.proofs.InBlock.Sequences.{starts_behind, not_empty, frame_indent, suc_is, goes_on}
-
--- A pair of a mapping at the column of n was read, inside its mapping's frame. It begins with a value only where its
--- `:` is ahead, and it may lack a value where no `:` is ahead after it.
-pub record PairRead (limit : ℕ) (start : State) (key value : Node) (g : Frame) (n : Marker) (t z : List ℕ)
-    (ts : List Kind) : Type 0 where
-  pub tokens : List Kind
-  pub are : (others : List Kind) → (grammar.BeginsWithValue others → is_value_ahead false n.col 0 z ≡ true)
-      → grammar.YieldsBlockPair key value (grammar.YieldsNode key grammar.InBlockMapping)
-      (grammar.YieldsNode value grammar.InBlockMapping) others tokens
-  pub begins : (others : List Kind) → grammar.BeginsWithValue (tokens ++ others)
-      → is_value_ahead false n.col n.col (t ++ z) ≡ true
-  pub arrived : Arrived limit start g (moved n t) z (ts ++ tokens)
+use Rattle.yaml_laws.proofs.InBlock.Parts.{starts_behind, not_empty, some_first, least, frame_indent, suc_is, goes_on, ReadsPart}
 
 -- the start of a mapping, where one begins
 abbrev pub mapping_start : Bool → List Kind
@@ -51,10 +39,8 @@ mapping_start further = if further then tokens.BlockMappingStart ∷ [] else []
 -- what is shown of a form of a pair
 abbrev pub ReadsPair : ℕ → Node → Node → (ℕ → List ℕ → List ℕ → Type 0) → Type 0
 ReadsPair limit key value Is =
-    (f : Frame) (n : Marker) (further : Bool) → nat_le f.indent n.col ≡ further → f.indent ≤ n.col + 1 → (t z : List ℕ)
-    → Is n.col t z → FitsOnLines limit n t z → EndsNodeAt (suc n.col) (moved n t) z
-    → (start : State) (ts : List Kind) (v : At limit start f n (t ++ z) ts) → v.key ≡ None → v.allowed ≡ true
-    → PairRead limit start key value (frame_behind further n.col f) n t z (ts ++ mapping_start further)
+    ReadsPart limit (grammar.YieldsBlockPair key value (grammar.YieldsNode key grammar.InBlockMapping)
+    (grammar.YieldsNode value grammar.InBlockMapping)) mapping_start Is
 
 frame_same : (further : Bool) (f : Frame) (col : ℕ) → nat_le f.indent col ≡ further → f.indent ≤ col + 1
     → (frame_behind further col f).indent ≡ suc col
@@ -225,13 +211,6 @@ no_colon_marker : (m : Marker) (o : List ℕ) → EndsDocument m (58 ∷ o) → 
 no_colon_marker m o (inl e) = cc
 no_colon_marker m o (inr (col, inl h)) = absurd (let k : false ≡ true = h in cc)
 no_colon_marker m o (inr (col, inr h)) = absurd (let k : false ≡ true = h in cc)
-
-pub some_first : (w rest : List ℕ) (d : ℕ) → (c : ℕ) × (cs : List ℕ) × (w ++ (d ∷ rest) ≡ c ∷ cs)
-some_first [] rest d = (d, rest, refl)
-some_first (c ∷ cs) rest d = (c, cs ++ (d ∷ rest), refl)
-
-pub least : (i col : ℕ) → i ≡ col + 1 → i ≤ col + 1
-least i col e = omega (arith, e)
 
 marked_list : (further : Bool) (ts us vs : List Kind)
     → (((ts ++ key_kinds further) ++ us) ++ tokens.Value ∷ []) ++ vs

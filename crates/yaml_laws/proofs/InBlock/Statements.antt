@@ -13,11 +13,11 @@ use Rattle.saphyr_scanner.specs.Views.Tokens.{Piece}
 use Rattle.saphyr_scanner.specs.Steps.State.{State}
 use Rattle.saphyr_scanner.specs.Grammar.Tokens.{Kind}
 use Rattle.saphyr_scanner.specs.Grammar.TokenGrammar as grammar
-use Rattle.saphyr_scanner.specs.Grammar.Forest.{Style, Properties, Node, Scalar, Nodes, Pairs, left_out}
+use Rattle.saphyr_scanner.specs.Grammar.Forest.{Style, Properties, Node, Scalar, left_out}
 use Rattle.saphyr_scanner.specs.Limits.{most_open}
 use Rattle.saphyr_scanner.proofs.Queues.{place_kinds}
 use Rattle.yaml_laws.specs.Grammar.FlowNodes.{IsFlowNode, IsOnLine, IsPlainKeyNode, IsKeyText, IsBeforeColon, IsProperties}
-use Rattle.yaml_laws.specs.Grammar.BlockNodes.{Position, BehindMark, BehindKey, is_start, indent_at, IsGapAt, IsFlowInBlock, IsStyled, IsScalarFront, IsScalarInBlock, BehindDash, BehindMarker, AtStart, is_value_ahead}
+use Rattle.yaml_laws.specs.Grammar.BlockNodes.{Position, BehindMark, BehindKey, is_start, indent_at, IsGapAt, IsFlowInBlock, IsStyled, IsScalarFront, IsScalarInBlock, BehindDash, BehindMarker, AtStart}
 use Rattle.yaml_laws.proofs.Flow.States.{moved, past}
 use Rattle.yaml_laws.proofs.Flow.Inks.{BeginsInk}
 use Rattle.yaml_laws.proofs.InBlock.Lines.{FitsOnLines}
@@ -151,21 +151,3 @@ pub record ReadsLeaves (limit : ℕ) : Type 0 where
       → IsScalarFront p indent front → IsStyled style value indent t o → BeginsInk (front ++ t)
   pub scalar_ends : (style : Style) (value : List ℕ) (indent : ℕ) (t o : List ℕ) → IsStyled style value indent t o
       → EndsWithLine t o
-
--- ## Collections
-
--- The entries of a sequence were read, inside its frame.
-pub record EntriesRead (limit : ℕ) (start : State) (nodes : Nodes) (g : Frame) (m : Marker) (o : List ℕ)
-    (ts : List Kind) : Type 0 where
-  pub tokens : List Kind
-  pub are : grammar.YieldBlockEntries nodes tokens
-  pub arrived : Arrived limit start g m o (ts ++ tokens)
-
--- The pairs of a mapping at a column were read, from m on, inside its frame. They begin with a value only where its `:`
--- is ahead.
-pub record PairsRead (limit : ℕ) (start : State) (pairs : Pairs) (column : ℕ) (g : Frame) (m : Marker) (t o : List ℕ)
-    (ts : List Kind) : Type 0 where
-  pub tokens : List Kind
-  pub are : grammar.YieldBlockPairs pairs tokens
-  pub begins : grammar.BeginsWithValue tokens → is_value_ahead false column m.col (t ++ o) ≡ true
-  pub arrived : Arrived limit start g (moved m t) o (ts ++ tokens)

@@ -28,7 +28,7 @@ use Rattle.yaml_laws.proofs.InBlock.Closing.{ended_alike, stream_ends}
 use Rattle.yaml_laws.proofs.InBlock.Lines.{FitsOnLines, moved_lined}
 use Rattle.yaml_laws.proofs.InBlock.Statements.{EndsNodeAt, EndsWithLine, AreRead, ReadsLeaves}
 use Rattle.yaml_laws.proofs.InBlock.Texts.{node_ends}
-use Rattle.yaml_laws.proofs.InBlock.Sequences.{StartsLine, starts_behind}
+use Rattle.yaml_laws.proofs.InBlock.Parts.{StartsLine, starts_behind}
 use Rattle.yaml_laws.proofs.InBlock.Nodes.{reads_node}
 use Rattle.saphyr_scalar.proofs.Given.{cursor_at}
 use Rattle.std.proofs.lemmas.Bool.{eq-eqb}

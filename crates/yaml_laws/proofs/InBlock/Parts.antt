@@ -1,0 +1,295 @@
+-- The parts of a block collection are read, the entries of a sequence or the pairs of a mapping (YAML 1.2.2, 8.2).
+use Rattle.std.proofs.Common.{◌≡◌, ℕ, suc, ◌+◌, ◌≤◌, Bool, true, false, List, [], ◌∷◌, ◌++◌, refl, sym, ap, ◌∙◌, arith, subst, append_assoc, append-nil, ◌⊎◌, inl, inr}
+use Rattle.std.specs.Prelude.{◌==◌, ◌&&◌, None, nat_le}
+use Rattle.std.proofs.lemmas.Bool.Decides.{nat_tests}
+use Rattle.saphyr_input.specs.Classes.{is_bom}
+use Rattle.saphyr_input.specs.Places.{is_document_indicator}
+use Rattle.saphyr_scalar.specs.declared.scalar.position.Marker.{Marker}
+use Rattle.saphyr_scanner.specs.Steps.State.{State}
+use Rattle.saphyr_scanner.specs.Grammar.Tokens.{Kind}
+use Rattle.saphyr_scanner.specs.Grammar.TokenGrammar as grammar
+use Rattle.yaml_laws.specs.Grammar.BlockNodes.{is_value_ahead, IsEntryIndentation}
+use Rattle.yaml_laws.proofs.Flow.States.{IsClear, moved, past, IsInk}
+use Rattle.yaml_laws.proofs.Flow.Inks.{BeginsInk}
+use Rattle.yaml_laws.proofs.Flow.Places.{moved_append, clear_here}
+use Rattle.yaml_laws.proofs.InBlock.Lines.{FitsOnLines, fits_front, fits_back, fits_so}
+use Rattle.yaml_laws.proofs.InBlock.States.{Frame, EndsDocument, At}
+use Rattle.yaml_laws.proofs.InBlock.Entries.{frame_behind}
+use Rattle.yaml_laws.proofs.InBlock.Statements.{EndsNodeAt, ArrivedAt, Arrived, EndsWithLine}
+use Rattle.yaml_laws.proofs.InBlock.Texts.{behind_indented, indentation_skipped, indentation_col, reaches}
+use Rattle.yaml_laws.proofs.InBlock.BehindIndicators.{further_ink}
+use Rattle.yaml_laws.proofs.InBlock.ValuesAhead.{skipped_ahead}
+use Rattle.saphyr_input.proofs.Basics.Numbers.{next_not_within}
+use Rattle.saphyr_input.proofs.Basics.Booleans.{clash}
+
+-- ## Places
+
+pub not_empty : (m : Marker) (t o : List ℕ) (c : ℕ) (cs : List ℕ) → (m.col ≡ 0) ⊎ (t ++ o ≡ []) → t ++ o ≡ c ∷ cs
+    → m.col ≡ 0
+not_empty m t o c cs (inl h) e = h
+not_empty m t o c cs (inr h) e = absurd (let k : [] ≡ c ∷ cs = sym h ∙ e in cc)
+
+pub some_first : (w rest : List ℕ) (d : ℕ) → (c : ℕ) × (cs : List ℕ) × (w ++ (d ∷ rest) ≡ c ∷ cs)
+some_first [] rest d = (d, rest, refl)
+some_first (c ∷ cs) rest d = (c, cs ++ (d ∷ rest), refl)
+
+-- at a line's start, or at the end of all
+abbrev pub StartsLine : Marker → List ℕ → Type 0
+StartsLine m o = (m.col ≡ 0) ⊎ (o ≡ [])
+
+pub starts_behind : (m : Marker) (t o : List ℕ) → EndsWithLine t o → StartsLine (moved m t) o
+starts_behind m t o (inl h) = inl (h m)
+starts_behind m t o (inr h) = inr h
+
+pub frame_indent : (further : Bool) (f : Frame) (col : ℕ) → nat_le f.indent col ≡ further → f.indent ≤ col + 1
+    → (frame_behind further col f).indent ≡ col + 1
+frame_indent true f col e h = refl
+frame_indent false f col e h = same f.indent col e h
+  where
+    same : (i col : ℕ) → nat_le i col ≡ false → i ≤ col + 1 → i ≡ col + 1
+    same i col e h = grind (arith, nat_tests)
+
+pub suc_is : (n : ℕ) → n + 1 ≡ suc n
+suc_is n = omega arith
+
+pub least : (i col : ℕ) → i ≡ col + 1 → i ≤ col + 1
+least i col e = omega (arith, e)
+
+-- a key may begin at a token that doesn't end the document
+pub goes_on : {limit : ℕ} {start : State} {f : Frame} {ts : List Kind} {n : Marker} {y : List ℕ}
+    → ((EndsDocument n y) → ⊥) → (v : ArrivedAt limit start f ts (n, y)) → (v.at.key ≡ None) × (v.at.allowed ≡ true)
+goes_on {n = n} {y = y} out v = by_next v.next
+  where
+    by_next : EndsDocument n y ⊎ ((v.at.key ≡ None) × (v.at.allowed ≡ true)) → (v.at.key ≡ None) × (v.at.allowed ≡ true)
+    by_next (inl h) = absurd (out h)
+    by_next (inr h) = h
+
+-- a token that is no document marker, where the text has none at its line's start
+not_marker : (m : Marker) (c : ℕ) (cs : List ℕ) → ((m.col == 0) && is_document_indicator (c ∷ cs)) ≡ false → IsInk c
+    → EndsDocument m (c ∷ cs) → ⊥
+not_marker m c cs h ink (inl e) = cc
+not_marker m c cs h ink (inr (col, inr k)) = clash (is_bom c) k ink.byte_order_mark
+not_marker m c cs h ink (inr (col, inl k)) =
+    absurd (let start : (m.col == 0) ≡ true =
+    zero_is m.col col in let both : ((m.col == 0) && is_document_indicator (c ∷ cs)) ≡ true =
+    rw (start, k) refl in let no : false ≡ true = sym h ∙ both in cc)
+  where
+    zero_is : (n : ℕ) → n ≡ 0 → (n == 0) ≡ true
+    zero_is n e = grind (arith, nat_tests)
+
+-- a `:` ahead, after a line's end
+ahead_of_line : (n : Marker) (z : List ℕ) (column : ℕ) → StartsLine n z → is_value_ahead false column n.col z ≡ true
+    → is_value_ahead false column 0 z ≡ true
+ahead_of_line n z column (inl e) h = subst (λ (c : ℕ). is_value_ahead false column c z ≡ true) e h
+ahead_of_line n z column (inr e) h =
+    absurd (let no : false ≡ true = subst (λ (x : List ℕ). is_value_ahead false column n.col x ≡ true) e h in cc)
+
+-- ## What is read
+
+-- A part of a collection at the column of n was read, inside its collection's frame. E tells of its tokens, before those
+-- of others. It begins with a value only where its `:` is ahead, and it may lack a value where no `:` is ahead after it.
+pub record PartRead (limit : ℕ) (start : State) (E : List Kind → List Kind → Type 0) (g : Frame) (n : Marker)
+    (t z : List ℕ) (ts : List Kind) : Type 0 where
+  pub tokens : List Kind
+  pub are : (others : List Kind) → (grammar.BeginsWithValue others → is_value_ahead false n.col 0 z ≡ true)
+      → E others tokens
+  pub begins : (others : List Kind) → grammar.BeginsWithValue (tokens ++ others)
+      → is_value_ahead false n.col n.col (t ++ z) ≡ true
+  pub arrived : Arrived limit start g (moved n t) z (ts ++ tokens)
+
+-- The parts of a collection at a column were read, from m on, inside its frame. They begin with a value only where its
+-- `:` is ahead.
+pub record PartsRead (limit : ℕ) (start : State) (As : List Kind → Type 0) (column : ℕ) (g : Frame) (m : Marker)
+    (t o : List ℕ) (ts : List Kind) : Type 0 where
+  pub tokens : List Kind
+  pub are : As tokens
+  pub begins : grammar.BeginsWithValue tokens → is_value_ahead false column m.col (t ++ o) ≡ true
+  pub arrived : Arrived limit start g (moved m t) o (ts ++ tokens)
+
+-- What is shown of a kind of part: `opens` are the tokens before the first, where its collection begins.
+abbrev pub ReadsPart : ℕ → (List Kind → List Kind → Type 0) → (Bool → List Kind) → (ℕ → List ℕ → List ℕ → Type 0)
+    → Type 0
+ReadsPart limit E opens Is =
+    (f : Frame) (n : Marker) (further : Bool) → nat_le f.indent n.col ≡ further → f.indent ≤ n.col + 1 → (t z : List ℕ)
+    → Is n.col t z → FitsOnLines limit n t z → EndsNodeAt (suc n.col) (moved n t) z
+    → (start : State) (ts : List Kind) (v : At limit start f n (t ++ z) ts) → v.key ≡ None → v.allowed ≡ true
+    → PartRead limit start E (frame_behind further n.col f) n t z (ts ++ opens further)
+
+pub record IsPart (limit : ℕ) (E : List Kind → List Kind → Type 0) (opens : Bool → List Kind)
+    (Is : ℕ → List ℕ → List ℕ → Type 0) : Type 0 where
+  pub ink : (column : ℕ) (t z : List ℕ) → Is column t z → BeginsInk t
+  pub ends : (column : ℕ) (t z : List ℕ) → Is column t z → EndsWithLine t z
+  pub reads : ReadsPart limit E opens Is
+  pub none : opens false ≡ []
+
+-- what is shown of the parts after the first
+pub record ReadsOtherParts (limit : ℕ) (Others : ℕ → List ℕ → List ℕ → Type 0) (As : List Kind → Type 0) : Type 0 where
+  pub behind : (column : ℕ) (m : Marker) (t o : List ℕ) → Others column t o → StartsLine m (t ++ o)
+      → EndsNodeAt (suc column) (moved m t) o → EndsNodeAt (suc column) m (t ++ o)
+  pub reads : (g : Frame) (column : ℕ) → g.indent ≡ column + 1 → (m : Marker) (t o : List ℕ) → Others column t o
+      → FitsOnLines limit m t o → EndsNodeAt (suc column) (moved m t) o → StartsLine m (t ++ o)
+      → (start : State) (ts : List Kind) → Arrived limit start g m (t ++ o) ts
+      → PartsRead limit start As column g m t o ts
+
+-- the text of a first part and others, and of others with their indentation
+abbrev pub IsFirst : (ℕ → List ℕ → List ℕ → Type 0) → (ℕ → List ℕ → List ℕ → Type 0) → ℕ → List ℕ → List ℕ → Type 0
+IsFirst Is Others column t o =
+    (part others : List ℕ) × Is column part (others ++ o) × Others column others o × (t ≡ part ++ others)
+
+abbrev pub AreOthers : (ℕ → List ℕ → List ℕ → Type 0) → (ℕ → List ℕ → List ℕ → Type 0) → ℕ → List ℕ → List ℕ
+    → Type 0
+AreOthers Is Others column t o =
+    (front part others : List ℕ) × IsEntryIndentation column front × Is column part (others ++ o)
+    × Others column others o × (t ≡ front ++ (part ++ others))
+
+abbrev pub AreParts : (List Kind → List Kind → Type 0) → (List Kind → Type 0) → List Kind → Type 0
+AreParts E As ts = (part others : List Kind) × E others part × As others × (ts ≡ part ++ others)
+
+-- ## Parts
+
+part_text : (front part others o : List ℕ) → (front ++ (part ++ others)) ++ o ≡ front ++ (part ++ (others ++ o))
+part_text front part others o = simp append_assoc
+
+pub no_other_parts : {limit : ℕ} → ReadsOtherParts limit (λ column t o. t ≡ []) (λ ts. ts ≡ [])
+no_other_parts {limit} = record {
+  behind = λ column m t o h starts behind.
+      subst (λ (x : List ℕ). EndsNodeAt (suc column) (moved m x) o → EndsNodeAt (suc column) m (x ++ o)) (sym h)
+      (λ k. k) behind;
+  reads = λ g column same m t o h fits behind starts start ts v. record {
+    tokens = [];
+    are = refl;
+    begins = λ no. absurd no;
+    arrived = subst (λ (us : List Kind). Arrived limit start g (moved m t) o us) (sym (append-nil ts))
+        (subst (λ (x : List ℕ). Arrived limit start g m (x ++ o) ts → Arrived limit start g (moved m x) o ts) (sym h)
+        (λ k. k) v);
+  };
+}
+
+pub told_parts : {limit : ℕ} {start : State} {As Bs : List Kind → Type 0} {column : ℕ} {g : Frame} {m : Marker}
+    {t o : List ℕ} {ts : List Kind} → ((us : List Kind) → As us → Bs us)
+    → PartsRead limit start As column g m t o ts → PartsRead limit start Bs column g m t o ts
+told_parts f r =
+    record { tokens = r.tokens; are = f r.tokens r.are; begins = r.begins; arrived = r.arrived }
+
+pub parts_so : {limit : ℕ} {Ps Qs : ℕ → List ℕ → List ℕ → Type 0} {As Bs : List Kind → Type 0}
+    → ((column : ℕ) (t o : List ℕ) → Qs column t o → Ps column t o) → ((ts : List Kind) → As ts → Bs ts)
+    → ReadsOtherParts limit Ps As → ReadsOtherParts limit Qs Bs
+parts_so f g r = record {
+  behind = λ column m t o h starts behind. r.behind column m t o (f column t o h) starts behind;
+  reads = λ k column same m t o h fits behind starts start ts v.
+      told_parts g (r.reads k column same m t o (f column t o h) fits behind starts start ts v);
+}
+
+others_behind : {limit : ℕ} {E : List Kind → List Kind → Type 0} {opens : Bool → List Kind}
+    {Is : ℕ → List ℕ → List ℕ → Type 0} → IsPart limit E opens Is → (Others : ℕ → List ℕ → List ℕ → Type 0) (column : ℕ) (m : Marker) (t o : List ℕ)
+    → AreOthers Is Others column t o → StartsLine m (t ++ o) → EndsNodeAt (suc column) m (t ++ o)
+others_behind is_part Others column m t o (front, part, others, front_is, h, k, e) starts =
+    let z = others ++ o in
+    let b = further_ink part z (is_part.ink column part z h) in
+    let text : t ++ o ≡ front ++ (b.first ∷ b.others) = ap (λ (x : List ℕ). x ++ o) e ∙ part_text front part others o
+    ∙ ap (λ (x : List ℕ). front ++ x) b.is in
+    let first = some_first front b.others b.first in
+    let col = not_empty m t o first.0 first.1 starts (text ∙ first.2) in
+    subst (EndsNodeAt (suc column) m) (sym text) (behind_indented column m front b.first b.others front_is b.ink col)
+
+list_end : (ts us vs opens : List Kind) → opens ≡ [] → ((ts ++ opens) ++ us) ++ vs ≡ ts ++ (us ++ vs)
+list_end ts us vs opens e = rw e (simp (append_assoc, append-nil))
+
+pub more_parts : {limit : ℕ} {E : List Kind → List Kind → Type 0} {opens : Bool → List Kind}
+    {Is Others : ℕ → List ℕ → List ℕ → Type 0} {As : List Kind → Type 0} → IsPart limit E opens Is
+    → ReadsOtherParts limit Others As → ReadsOtherParts limit (AreOthers Is Others) (AreParts E As)
+more_parts {limit} {opens = opens} {Is} {Others} {As} is_part more = record {
+  behind = λ column m t o h starts behind. others_behind is_part Others column m t o h starts;
+  reads = λ g column same m t o (front, part, others, front_is, h, k, e) fits behind starts start ts v.
+      let z = others ++ o in
+      let n = moved m front in
+      let b = is_part.ink column part z h in
+      let bz = further_ink part z b in
+      let text : t ++ o ≡ front ++ (part ++ z) = ap (λ (x : List ℕ). x ++ o) e ∙ part_text front part others o in
+      let inked : t ++ o ≡ front ++ (bz.first ∷ bz.others) = text ∙ ap (λ (x : List ℕ). front ++ x) bz.is in
+      let first = some_first front bz.others bz.first in
+      let line = not_empty m t o first.0 first.1 starts (inked ∙ first.2) in
+      let col : n.col ≡ column = indentation_col m column front front_is line in
+      let there : past 0 m (t ++ o) ≡ (n, part ++ z) = ap (past 0 m) inked
+      ∙ reaches m front bz.first bz.others (indentation_skipped column front front_is) bz.ink
+      ∙ ap (λ (x : List ℕ). let q : Marker × List ℕ = (n, x) in q) (sym bz.is) in
+      let at_part = subst (ArrivedAt limit start g ts) there v in
+      let is_it = subst (λ (c : ℕ). Is c part z) (sym col) h in
+      let whole = fits_so m t (front ++ (part ++ others)) o e fits in
+      let fits_parts = fits_back m front (part ++ others) o whole in
+      let fits_part = fits_front n part others o fits_parts in
+      let last = moved n part in
+      let end = ap (moved m) e ∙ moved_append m front (part ++ others) ∙ moved_append n part others in
+      let behind_o = subst (λ (x : Marker). EndsNodeAt (suc column) x o) end behind in
+      let starts_z = starts_behind n part z (is_part.ends n.col part z is_it) in
+      let behind_z = more.behind column last others o k starts_z behind_o in
+      let clear = clear_here n b.first b.others z (subst (λ (x : List ℕ). IsClear n x z) b.is fits_part.clear) in
+      let unmarked : EndsDocument n (part ++ z) → ⊥ = λ d. not_marker n b.first (b.others ++ z) clear b.ink
+      (subst (λ (x : List ℕ). EndsDocument n (x ++ z)) b.is d) in
+      let ready = goes_on unmarked at_part in
+      let width = same ∙ ap (λ (c : ℕ). c + 1) (sym col) in
+      let r = is_part.reads g n false (next_not_within g.indent n.col width)
+      (least g.indent n.col width) part z is_it fits_part
+      (subst (λ (c : ℕ). EndsNodeAt (suc c) last z) (sym col) behind_z) start ts at_part.at ready.0
+      ready.1 in
+      let s = more.reads g column same last others o k (fits_back n part others o fits_parts) behind_o starts_z start
+      ((ts ++ opens false) ++ r.tokens) r.arrived in
+      record {
+        tokens = r.tokens ++ s.tokens;
+        are = (
+          r.tokens,
+          s.tokens,
+          r.are s.tokens
+              (λ first. ahead_of_line last z n.col starts_z
+              (subst (λ (c : ℕ). is_value_ahead false c last.col z ≡ true) (sym col) (s.begins first))),
+          s.are,
+          refl,
+        );
+        begins = λ first. ap (is_value_ahead false column m.col) text
+            ∙ skipped_ahead column m front (part ++ z) (indentation_skipped column front front_is)
+            ∙ subst (λ (c : ℕ). is_value_ahead false c n.col (part ++ z) ≡ true) col (r.begins s.tokens first);
+        arrived = subst (λ (x : Marker). Arrived limit start g x o (ts ++ (r.tokens ++ s.tokens))) (sym end)
+            (subst (Arrived limit start g (moved last others) o) (list_end ts r.tokens s.tokens (opens false) is_part.none) s.arrived);
+      };
+}
+
+-- from the first part on
+pub reads_parts : {limit : ℕ} {E : List Kind → List Kind → Type 0} {opens : Bool → List Kind}
+    {Is Others : ℕ → List ℕ → List ℕ → Type 0} {As : List Kind → Type 0} → IsPart limit E opens Is
+    → ReadsOtherParts limit Others As → (f : Frame) (n : Marker) (further : Bool) → nat_le f.indent n.col ≡ further
+    → f.indent ≤ n.col + 1 → (t o : List ℕ) → IsFirst Is Others n.col t o → FitsOnLines limit n t o
+    → EndsNodeAt (suc n.col) (moved n t) o
+    → (start : State) (ts : List Kind) (v : At limit start f n (t ++ o) ts) → v.key ≡ None → v.allowed ≡ true
+    → PartsRead limit start (AreParts E As) n.col (frame_behind further n.col f) n t o (ts ++ opens further)
+reads_parts {limit} {opens = opens} is_part more f n further e far t o (part, others, h, k, is) fits behind start ts
+    v none allowed =
+    let z = others ++ o in
+    let g = frame_behind further n.col f in
+    let text : t ++ o ≡ part ++ z = ap (λ (x : List ℕ). x ++ o) is ∙ append_assoc part others o in
+    let whole = fits_so n t (part ++ others) o is fits in
+    let last = moved n part in
+    let end = ap (moved n) is ∙ moved_append n part others in
+    let behind_o = subst (λ (x : Marker). EndsNodeAt (suc n.col) x o) end behind in
+    let starts_z = starts_behind n part z (is_part.ends n.col part z h) in
+    let behind_z = more.behind n.col last others o k starts_z behind_o in
+    let p = subst (λ (y : List ℕ). (w : At limit start f n y ts) × (w.key ≡ None) × (w.allowed ≡ true)) text
+    (v, none, allowed) in
+    let r = is_part.reads f n further e far part z h (fits_front n part others o whole) behind_z start
+    ts p.0 p.1 p.2 in
+    let s = more.reads g n.col (frame_indent further f n.col e far) last others o k (fits_back n part others o whole) behind_o
+    starts_z start ((ts ++ opens further) ++ r.tokens) r.arrived in
+    record {
+      tokens = r.tokens ++ s.tokens;
+      are = (
+        r.tokens,
+        s.tokens,
+        r.are s.tokens (λ first. ahead_of_line last z n.col starts_z (s.begins first)),
+        s.are,
+        refl,
+      );
+      begins = λ first. ap (is_value_ahead false n.col n.col) text ∙ r.begins s.tokens first;
+      arrived = subst (λ (x : Marker). Arrived limit start g x o
+          ((ts ++ opens further) ++ (r.tokens ++ s.tokens))) (sym end)
+          (subst (Arrived limit start g (moved last others) o)
+          (append_assoc (ts ++ opens further) r.tokens s.tokens) s.arrived);
+    }
