@@ -6,7 +6,7 @@
 Runs over the cases of crates/test_cases/data: those of worked.txt, with --all those of each file, or those
 whose names are given. Two programs are run on each case, as `rt ci`, or `rt run` in their crates, left them
 in out/. The first request is refused, then the second, and so on up to the first run in which none is.
-`test_refused_memory` judges by itself what stands behind a refused request. `dump_events`, from standard input and
+`test_cases refused` judges by itself what stands behind a refused request. `dump_events`, from standard input and
 from a file, has to print a beginning of the lines, and to say why it stopped.
 """
 import concurrent.futures
@@ -21,6 +21,7 @@ import tempfile
 ROOT = os.path.dirname(os.path.dirname(os.path.abspath(__file__)))
 DATA = f"{ROOT}/crates/test_cases/data"
 SAID = b"a request was refused\n"
+WAYS = 12  # each has a line of `test_cases refused`
 ESCAPE = re.compile(r"\\(?:u\{([0-9a-f]+)\}|(.))")
 NAMED = {"n": "\n", "r": "\r", "t": "\t"}
 
@@ -82,9 +83,9 @@ class Run:
 
 
 def judge_ways(run):
-    """What is wrong with a run of `test_refused_memory`. It may find no memory itself, for the case or its comparison."""
+    """What is wrong with a run of `test_cases refused`. It may find no memory itself, for the case or its comparison."""
     refused = run.out.count(": refused\n")
-    if run.status == 0 and refused == run.was_refused:
+    if run.status == 0 and refused == run.was_refused and run.out.count("\n") == WAYS:
         return None
     if run.status == 2 and run.was_refused:
         return None
@@ -116,7 +117,7 @@ def sweep(library, words, text, judge):
 
 def check(library, folder, case):
     """How many requests of a case were refused, and what was wrong."""
-    ways = [program("test_refused_memory")]
+    ways = [program("test_cases"), "refused"]
     sweeps = [sweep(library, ways, case.block, judge_ways)]
     if not case.keeps_tags:
         dump, file = program("dump_events"), f"{folder}/{abs(hash(case.block))}"

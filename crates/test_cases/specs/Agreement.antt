@@ -38,4 +38,5 @@ abbrev pub AgreesOn : Subject → Case → Type 0
 AgreesOn subject.Events c = Agrees c
 AgreesOn subject.RefusedEvents c = RefusalsAgree c
 AgreesOn subject.FailedWrites c = DumpAgrees c
+AgreesOn subject.GrantedMemory c = Agrees c
 AgreesOn subject.Trees c = TreesAgree c

@@ -3,3 +3,4 @@ pub mod Dumped
 pub mod Handed
 pub mod Long
 pub mod Trees
+pub mod Want

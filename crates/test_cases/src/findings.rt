@@ -2,7 +2,7 @@
 ghost use Rattle.std.specs.Prelude.{◌≡◌, ◌<◌, ◌≤◌, All, IfOk, OnOk, length, vec_len};
 ghost use Rattle.test_cases.specs.Agreement.{AgreesOn};
 
-use crate::{refusing, trees, ways, writing};
+use crate::{refused_memory, refusing, trees, ways, writing};
 use std::alloc::{AllocError, Global};
 use test_case_files::{Case, Difference};
 
@@ -18,6 +18,8 @@ pub enum Subject {
     RefusedEvents,
     /// What is written where a write fails.
     FailedWrites,
+    /// What takes memory, while there is some.
+    GrantedMemory,
     /// The documents as trees, within limits.
     Trees,
 }
@@ -28,6 +30,7 @@ impl Subject {
             Subject::Events => "events",
             Subject::RefusedEvents => "refused events",
             Subject::FailedWrites => "failed writes",
+            Subject::GrantedMemory => "granted memory",
             Subject::Trees => "trees",
         }
     }
@@ -39,6 +42,7 @@ impl Subject {
             Subject::Events => ways::compare(alloc, case),
             Subject::RefusedEvents => refusing::compare(alloc, case),
             Subject::FailedWrites => writing::compare(alloc, case),
+            Subject::GrantedMemory => refused_memory::compare(alloc, case),
             Subject::Trees => trees::compare(alloc, case),
         }
     }

@@ -1,51 +1,109 @@
 //! Compares the events of many texts with lists of them.
 //!
 //!     test_cases
+//!     test_cases refused <CASE
 //!
 //! Reads the files `worked.txt`, `json.txt`, `layout.txt`, `hostile.txt`, `standard.txt` and `cuts.txt` where
 //! it runs: texts that show one thing each, random texts of JSON and of YAML's layout, broken and odd texts,
 //! texts where the parser departs from the standard, and the first of these cut at each place and with a
 //! character put in there. Their lists come from another program. Each text is read from a string, from an
 //! iterator and from a list of characters, and from each its events are taken in each way that there is. For
-//! the texts of `worked.txt` each event is then refused in turn, and each write. Last, the documents of each
-//! text are loaded as trees, within limits of several widths, and the events of the trees are compared with
-//! those of the parser. Where events, their places or a fault differ from the list, the first difference is
-//! printed, for at most 20 of the cases. The last line for a file counts the cases that agree.
+//! the texts of `worked.txt` each event is then refused in turn, and each write, and what takes memory is taken
+//! while there is some. Last, the documents of each text are loaded as trees, within limits of several widths,
+//! and the events of the trees are compared with those of the parser. Where events, their places or a fault
+//! differ from the list, the first difference is printed, for at most 20 of the cases. The last line for a file
+//! counts the cases that agree.
+//!
+//! With `refused` it reads cases from standard input and takes each in each way of `refused_memory`. A line for
+//! each way says whether all is as the case lists it, or so up to a request for memory that was refused.
+//!
+//! The status is 1 where such a case differs, and 2 where the arguments are wrong or cases can't be read or
+//! compared, as when out of memory.
 #![tactic(auto)]
 
 mod findings;
 mod inputs;
 mod limits;
 mod long;
+mod refused_memory;
 mod refusing;
 mod trees;
 mod ways;
 mod writing;
 
 use findings::{Subject, compare_all};
+use refused_memory::{WAYS, take};
 use std::alloc::AllocError;
+use std::env::{Env, FillError};
+use std::process::ExitCode;
 use std::{fs, io};
-use test_case_files::{Case, Difference, parse_cases};
+use test_case_files::{Case, Difference, parse_cases, printed};
 use thiserror::Error;
 
 /// The names of the files.
 const FILES: [&str; 6] = ["worked", "json", "layout", "hostile", "standard", "cuts"];
 
-/// Why the cases can't be compared.
+/// The argument with which requests for memory may be refused.
+const REFUSED: &[u8] = b"refused";
+
+/// Why the cases can't be compared, or what differs.
 #[derive(Debug, Drop, Error)]
 enum Failure {
     #[error("out of memory")]
     OutOfMemory(#[from] AllocError),
     #[error("the cases can't be read, or the lines can't be printed")]
     Io(#[from] io::Error),
+    #[error("usage: test_cases [refused]")]
+    Arguments,
+    #[error("{0}")]
+    Found(String),
 }
 
-fn main(rt: HostRuntime) -> Result<(), Failure> {
-    check_files(&rt, Subject::Events)?;
-    check_file(&rt, "worked", Subject::RefusedEvents)?;
-    check_file(&rt, "worked", Subject::FailedWrites)?;
-    check_files(&rt, Subject::Trees)?;
-    check_long_texts(&rt)
+impl From<Difference> for Failure {
+    fn from(difference: Difference) -> Self {
+        match difference {
+            Difference::OutOfMemory(error) => Failure::OutOfMemory(error),
+            Difference::Found(text) => Failure::Found(text),
+        }
+    }
+}
+
+impl Failure {
+    fn status(&self) -> u8 {
+        match self {
+            Failure::Found(_) => 1,
+            _ => 2,
+        }
+    }
+}
+
+fn main(rt: HostRuntime) -> ExitCode {
+    match run(&rt) {
+        Ok(()) => ExitCode::SUCCESS,
+        Err(failure) => {
+            let _ = eprintln!(rt; "test_cases: {failure}");
+            ExitCode::from(failure.status())
+        }
+    }
+}
+
+// The argument is read without a request for memory.
+fn run(rt: &HostRuntime) -> Result<(), Failure> {
+    let mut word = [0; REFUSED.len()];
+    match rt.arg(1, &mut word) {
+        Err(FillError::NotPresent) => compare_files(rt),
+        Ok(count) if &word[..count] == REFUSED => take_input(rt),
+        _ => Err(Failure::Arguments),
+    }
+}
+
+fn compare_files(rt: &HostRuntime) -> Result<(), Failure> {
+    check_files(rt, Subject::Events)?;
+    check_file(rt, "worked", Subject::RefusedEvents)?;
+    check_file(rt, "worked", Subject::FailedWrites)?;
+    check_file(rt, "worked", Subject::GrantedMemory)?;
+    check_files(rt, Subject::Trees)?;
+    check_long_texts(rt)
 }
 
 fn check_files(rt: &HostRuntime, subject: Subject) -> Result<(), Failure> {
@@ -95,6 +153,29 @@ fn check_long_texts(rt: &HostRuntime) -> Result<(), Failure> {
         Ok(()) => println!(rt; "long texts agree")?,
         Err(Difference::OutOfMemory(error)) => return Err(Failure::OutOfMemory(error)),
         Err(Difference::Found(difference)) => println!(rt; "long text, {difference}")?,
+    }
+    Ok(())
+}
+
+// Takes the cases of standard input in each way.
+fn take_input(rt: &HostRuntime) -> Result<(), Failure> {
+    let text = io::read_to_string(rt.alloc(), rt.stdin())?;
+    let cases = parse_cases(rt.alloc(), text.as_str())?;
+    take_cases(rt, cases.as_slice())
+}
+
+fn take_cases(rt: &HostRuntime, cases: &[Case]) -> Result<(), Failure> {
+    for case in cases {
+        let lines = printed(rt.alloc(), case.lines.as_slice())?;
+        take_case(rt, case, lines.as_str())?;
+    }
+    Ok(())
+}
+
+fn take_case(rt: &HostRuntime, case: &Case, lines: &str) -> Result<(), Failure> {
+    for (name, way) in WAYS {
+        let outcome = take(rt.alloc(), case, lines, way)?;
+        println!(rt; "{name}: {}", outcome.name())?;
     }
     Ok(())
 }

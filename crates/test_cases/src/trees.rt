@@ -155,7 +155,8 @@ fn begins_with_fault(lines: &[String]) -> bool {
     matches!(lines.first(), Some(line) if is_fault(line.as_str()))
 }
 
-fn ends_with_fault(lines: &[String]) -> bool {
+/// Whether the last of some lines is that of a fault.
+pub fn ends_with_fault(lines: &[String]) -> bool {
     matches!(lines.last(), Some(line) if is_fault(line.as_str()))
 }
 
@@ -287,7 +288,8 @@ fn is_given(
     Err(Difference::told(format!(in alloc; "{event:?} in place of another")))
 }
 
-fn has_event(item: &Option<Result<(Event<'_>, Span), Fault>>, event: &Event<'_>) -> bool {
+/// Whether this event was handed out.
+pub fn has_event(item: &Option<Result<(Event<'_>, Span), Fault>>, event: &Event<'_>) -> bool {
     matches!(item, Some(Ok((given, _))) if *given == *event)
 }
 

@@ -1,0 +1,43 @@
+-- Where nothing is left, and where lack of memory is, by what a parser shows and gives.
+use Rattle.std.proofs.Common.{◌≡◌, Bool, true, false, is_some, not, map, List, [], String, Global, string_bytes, sym, ap, ◌∙◌, Option, Some, None, Result, Ok, Err, Bor, inl, inr}
+use Rattle.std.specs.Result.{IfOk}
+use Rattle.saphyr_scalar.specs.declared.scalar.position.Span.{Span}
+use Rattle.saphyr_parser.specs.Types.Event.{Event}
+use Rattle.saphyr_parser.specs.Types.Fault.{Fault}
+use Rattle.saphyr_parser.specs.Types.Fault.TheVariants as fault
+use Rattle.saphyr_parser.specs.Answer.{Answer, OutOfMemory, empty_answer}
+use Rattle.saphyr_parser.specs.Cursor.{HandsOutNext, Shows, Stays}
+use Rattle.test_case_files.specs.Listings.{ListAll, lines_of_answer}
+use Rattle.test_case_files.specs.declared.difference.Difference.{Difference}
+use Rattle.test_cases.specs.declared.refused_memory.outcome.Outcome.{Outcome}
+use Rattle.test_cases.specs.declared.refused_memory.outcome.Outcome.TheVariants.{Refused, Whole}
+
+pub nothing_shown : (shown : Option (Result (Bor (Event × Span)) (Bor Fault))) (none : Bool) (old new : Answer)
+    → is_some shown ≡ not none → none ≡ true → Shows shown new → Stays old new → old ≡ empty_answer
+nothing_shown None none old new is so shows (inl same) = sym same ∙ shows
+nothing_shown None none old new is so shows (inr ran_out) =
+    let differ : Some OutOfMemory ≡ None = ap (λ (a : Answer). a.fault) (sym ran_out.1 ∙ shows) in absurd (cc)
+nothing_shown (Some x) true old new is so shows stays = absurd (cc)
+nothing_shown (Some x) false old new is so shows stays = absurd (cc)
+
+pub nothing_given : (given : Option (Result (Event × Span) Fault)) (old new : Answer) → given ≡ None
+    → HandsOutNext given old new → new ≡ empty_answer
+nothing_given None old new is hands = hands.1
+nothing_given (Some x) old new is hands = absurd (cc)
+
+-- After lack of memory nothing is left.
+pub want_ends : (given : Option (Result (Event × Span) Fault)) (old new : Answer) → given ≡ Some (Err fault.OutOfMemory)
+    → HandsOutNext given old new → new ≡ empty_answer
+want_ends None old new is hands = absurd (cc)
+want_ends (Some (Ok e)) old new is hands = absurd (cc)
+want_ends (Some (Err f)) old new is hands = hands.1
+
+-- Memory has run out, so not all is whole.
+pub not_whole : (r : Result Outcome Difference) → IfOk r (λ outcome. outcome ≡ Refused) → r ≡ Ok Whole → ⊥
+not_whole (Ok Whole) refused whole = absurd (cc)
+not_whole (Ok Refused) refused whole = absurd (cc)
+not_whole (Err d) refused whole = absurd (cc)
+
+-- Nothing is left, of lines and of what is to come.
+pub lists_over : (all : Answer) (lines : List (String Global)) → lines ≡ [] → all ≡ empty_answer → ListAll lines all
+lists_over all lines empty over = inl (ap (λ l. map string_bytes l) empty ∙ ap lines_of_answer (sym over))

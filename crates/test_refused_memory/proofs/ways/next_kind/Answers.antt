@@ -1,5 +1,0 @@
-use Rattle.test_refused_memory.proofs.Ends.{nothing_given}
-use Rattle.test_refused_memory.proofs.ways.next_kind.Goals as goal
-
-pub returns : goal.returns
-returns g c = λ nothing. nothing_given c.next_event.result _ _ (c.kind_of.ensures nothing) c.next_event.ensures.hands
