@@ -1,5 +1,5 @@
 //! What `dump` writes and answers, also where a writer fails, and the texts of its faults.
-use crate::helpers::{expect_that, is_text};
+use crate::helpers::{expect, is_text};
 use crate::writer::{Keeping, Manner, WHOLE};
 use saphyr_parser::{DumpFault, Fault, Input, Marker, Parser, ScanError, dump};
 use std::alloc::Global;
@@ -56,7 +56,7 @@ fn prints_through_a_writer_that_takes_little(rt: HostRuntime) {
     for at_a_time in 1..4usize {
         let manner = Manner { at_a_time, ..WHOLE };
         let holds = dumps(rt.alloc(), text, manner, &["", ""], "+STR\n-STR\n");
-        expect_that(&rt, holds, text);
+        expect(&rt, holds, text);
     }
 }
 
@@ -85,7 +85,7 @@ fn stops_where_the_writer_fails(rt: HostRuntime) {
 fn stops_at_a_fault(rt: HostRuntime) {
     let answers = &["found unprintable character at byte 0 line 1 column 1", ""];
     let holds = dumps(rt.alloc(), "\0", WHOLE, answers, "+STR\n");
-    expect_that(&rt, holds, "\0");
+    expect(&rt, holds, "\0");
 }
 
 // The fault of a text that is refused there prints this.

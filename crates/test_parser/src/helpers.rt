@@ -1,9 +1,18 @@
-//! What several tests share.
+//! What several tests share. A small function reads, compares and lets go, so that no test holds what owns memory.
+use saphyr_parser::Marker;
 use std::alloc::{AllocError, Global};
 use std::process::Abort;
 
+/// An index, a line and a column.
+pub type Place = (usize, usize, usize);
+
+/// The marker of a place.
+pub fn marker((index, line, col): Place) -> Marker {
+    Marker::new(index, line, col)
+}
+
 /// Stops the test unless this holds, and names the text that it holds of.
-pub fn expect_that(rt: &impl Abort, holds: bool, text: &str) {
+pub fn expect(rt: &impl Abort, holds: bool, text: &str) {
     assert!(rt; holds, "{text:?}");
 }
 

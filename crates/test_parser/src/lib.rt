@@ -1,7 +1,7 @@
 //! The tests of the parser, over its public names: of its events and faults, of its limit, of receivers, and of the
-//! lines that it prints.
+//! lines that it prints. And in `reader` the tests of the crates that read a text.
 //!
-//! They are in a crate of their own so that the parser is proved once and not a second time with its tests. A test
+//! They are in a crate of their own so that those crates are proved once and not a second time with their tests. A test
 //! states what is told as lines, and one helper compares them: so that few functions hold events and faults, which are
 //! dear to prove where they are dropped.
 #![tactic(auto)]
@@ -18,6 +18,8 @@ mod limits;
 mod loading;
 #[cfg(test)]
 mod parts;
+#[cfg(test)]
+mod reader;
 #[cfg(test)]
 mod running;
 #[cfg(test)]

@@ -1,5 +1,5 @@
 //! Texts with limits on their characters.
-use crate::helpers::{expect_that, repeated};
+use crate::helpers::{expect, repeated};
 use crate::telling::{Calls, told_by_iter, told_by_list, told_by_str};
 use std::alloc::Global;
 use std::process::Abort;
@@ -135,11 +135,11 @@ fn are_lines(told: String, lines: &str, is_too_long: bool) -> bool {
 // Three characters of a text may be read, and each input gives these lines.
 fn expect_by_each(rt: &impl Abort, alloc: Global, text: &str, lines: &str, is_too_long: bool) {
     let by_str = told_by_str(alloc, text, Some(3), NO_CALLS);
-    expect_that(rt, are_lines(by_str, lines, is_too_long), text);
+    expect(rt, are_lines(by_str, lines, is_too_long), text);
     let by_iter = told_by_iter(alloc, text, Some(3), NO_CALLS);
-    expect_that(rt, are_lines(by_iter, lines, is_too_long), text);
+    expect(rt, are_lines(by_iter, lines, is_too_long), text);
     let by_list = told_by_list(alloc, text, Some(3), NO_CALLS);
-    expect_that(rt, are_lines(by_list, lines, is_too_long), text);
+    expect(rt, are_lines(by_list, lines, is_too_long), text);
 }
 
 #[test]
@@ -180,7 +180,7 @@ fn gives_beginnings(alloc: Global, text: &str) -> bool {
 #[test]
 fn gives_a_beginning_up_to_each_limit(rt: HostRuntime) {
     for &text in TEXTS {
-        expect_that(&rt, gives_beginnings(rt.alloc(), text), text);
+        expect(&rt, gives_beginnings(rt.alloc(), text), text);
     }
 }
 
@@ -203,6 +203,6 @@ fn gives_a_beginning_of_a_long_text(rt: HostRuntime) {
         let text = repeated(rt.alloc(), pieces);
         let holds = gives_beginnings(rt.alloc(), text.as_str());
         drop(text);
-        expect_that(&rt, holds, shown);
+        expect(&rt, holds, shown);
     }
 }

@@ -1,5 +1,5 @@
 //! What an event tells of itself, its node's anchor and tag, and whether something begins or ends, and equal copies.
-use crate::helpers::expect_that;
+use crate::helpers::expect;
 use saphyr_parser::{Event, ScalarStyle, Tag};
 use std::alloc::{AllocError, Global};
 use std::borrow::CowStr;
@@ -57,7 +57,7 @@ const TOLD: &[(Kind, usize, Parts, &str)] = &[
 #[test]
 fn tells_of_each_event(rt: HostRuntime) {
     for &(kind, id, parts, line) in TOLD {
-        expect_that(&rt, is_told(rt.alloc(), kind, id, parts, line), line);
+        expect(&rt, is_told(rt.alloc(), kind, id, parts, line), line);
     }
 }
 

@@ -4,7 +4,7 @@ ghost use Rattle.std.specs.Prelude.{◌≡◌, [], codes};
 ghost use Rattle.saphyr_parser.specs.Events.{Alias, Nothing};
 ghost use Rattle.saphyr_parser.specs.Printed.{printed_line};
 
-use crate::helpers::{expect_that, repeated};
+use crate::helpers::{expect, repeated};
 use crate::writer::{Keeping, Manner, Source, WHOLE};
 use saphyr_parser::run_dump;
 use std::alloc::Global;
@@ -34,9 +34,9 @@ fn expect_run(rt: &impl Abort, alloc: Global, (source, (manner, lines), message)
     let has_lines = out.has_taken(lines);
     drop(out);
     let wanted = if message.1.is_empty() { 0 } else { 1 };
-    expect_that(rt, status == wanted, lines);
-    expect_that(rt, has_lines, lines);
-    expect_that(rt, has_message, message.1);
+    expect(rt, status == wanted, lines);
+    expect(rt, has_lines, lines);
+    expect(rt, has_message, message.1);
 }
 
 // The run over some bytes, where nothing fails but what the bytes are.

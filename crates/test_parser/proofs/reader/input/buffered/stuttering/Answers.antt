@@ -2,8 +2,8 @@ use Rattle.std.proofs.Common.{◌≡◌, ℕ, ◌+◌, ◌<◌, [], ◌∷◌, O
 use Rattle.std.specs.Prelude.{⊤, ◌==◌, if◌then◌else◌}
 use Rattle.std.proofs.Props.{props}
 use Rattle.saphyr_input.specs.Listed.{Lists, IsCallable}
-use Rattle.test_reader.specs.declared.input.buffered.Stutter.{Stutter}
-use Rattle.test_reader.proofs.input.buffered.stuttering.Goals as goal
+use Rattle.test_parser.specs.declared.reader.input.buffered.Stutter.{Stutter}
+use Rattle.test_parser.proofs.reader.input.buffered.stuttering.Goals as goal
 
 abbrev gives : Stutter → Option ℕ → Stutter → Type 0
 gives s r t = (r ≡ (if s.place == 0 then Some 97 else (if s.place == 2 then Some 98 else None)))

@@ -1,6 +1,6 @@
 //! Tags, anchors and aliases, their ends and their faults (YAML 1.2.2, 6.9 and 7.1).
 
-use crate::told::expect_told;
+use crate::reader::told::expect_told;
 
 const READ: &[&str] = &[
     // Tags.

@@ -3,7 +3,7 @@
 ghost use Rattle.std.specs.Prelude.{◌≡◌, ◌+◌, ◌<◌, ◌≤◌, ◌==◌, None, Some, if◌then◌else◌};
 
 use crate::helpers::expect;
-use crate::input::steps::{Step, iter_follows};
+use crate::reader::input::steps::{Step, iter_follows};
 use saphyr_input::BufferedInput;
 use saphyr_input::input::Input;
 use saphyr_input::law::lists_characters;

@@ -1,7 +1,7 @@
 //! Small texts: where the stream ends, which faults there are and where, and what comes before a key.
 
 use crate::helpers::expect;
-use crate::told::{push_place, push_stop};
+use crate::reader::told::{push_place, push_stop};
 use saphyr_input::StrInput;
 use saphyr_input::input::Input;
 use saphyr_scanner::{Scanner, TokenType};

@@ -1,6 +1,6 @@
 //! Block scalars: headers, breaks, ends and faults (YAML 1.2.2, 8.1).
 
-use crate::told::expect_told;
+use crate::reader::told::expect_told;
 
 const ROWS: &[&str] = &[
     // Headers, breaks and ends.

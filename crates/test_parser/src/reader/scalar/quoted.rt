@@ -1,6 +1,6 @@
 //! Quoted scalars, their ends and their faults (YAML 1.2.2, 7.3.1 and 7.3.2).
 
-use crate::told::expect_told;
+use crate::reader::told::expect_told;
 
 const READ: &[&str] = &[
     // In double quotes.

@@ -1,6 +1,6 @@
 //! Directives, the places after them, and their faults (YAML 1.2.2, 6.8).
 
-use crate::told::expect_told;
+use crate::reader::told::expect_told;
 
 const READ: &[&str] = &[
     // Versions.

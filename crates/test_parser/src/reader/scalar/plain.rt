@@ -1,6 +1,6 @@
 //! Plain scalars of one line and of several, the comments that end them, and their faults (YAML 1.2.2, 7.3.3).
 
-use crate::told::expect_told;
+use crate::reader::told::expect_told;
 
 const IN_BLOCK: &[&str] = &[
     // One line.
