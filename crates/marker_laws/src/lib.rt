@@ -18,7 +18,7 @@ ghost use Rattle.saphyr_values.specs.declared.block.BlockStyle.{BlockStyle};
 ghost use Rattle.saphyr_scanner.specs.Grammar.Tokens.{StreamStart, StreamEnd, DocumentStart, FlowSequenceStart};
 ghost use Rattle.saphyr_scanner.specs.Steps.Fetch.{fetch_within, needs_token};
 ghost use Rattle.saphyr_scanner.specs.Steps.Queue.{empty_piece};
-ghost use Rattle.saphyr_scanner.specs.Views.Tokens.{Piece, refusal_alone};
+ghost use Rattle.saphyr_scanner.specs.Views.Tokens.{Piece, Remaining, refusal_alone};
 ghost use Rattle.saphyr_scalar.specs.declared.scalar.fault.Refusal.{Refusal};
 ghost use Rattle.saphyr_scanner.specs.Steps.Remaining.{remaining, scan, Scans};
 ghost use Rattle.saphyr_scanner.specs.Steps.State.{State};
@@ -153,21 +153,18 @@ pub fn goes_on_behind_markers()
     spells_each_directive();
 }
 
-/// Let a scanner have handed out tokens of a text, and a machine have told events of these tokens. The
-/// events of the text begin with them, and go on with those that the machine tells of what it has left
-/// and what is still to be scanned. So it is for a longer text, by the clause `longer` of
-/// `goes_on_behind_markers`.
+/// Let a machine have told events of the tokens that came. Whatever comes after them, the events begin
+/// with these, and go on with those that the machine tells of what it has left and of the others. By
+/// `goes_on_behind_markers` these are the events of a text, and of each longer one.
 pub fn tells_events_as_tokens_come()
-    ensures first { (limit stop : ℕ) (keep : Bool) (text : List ℕ) (ts : List Piece) (s : State)
-        → ScansTo limit stop text ts s → (es : List (Happening × Span)) (m : Machine)
-        → TellsTo (with_tokens keep ts) es m → answer_of_all keep (scan limit text)
-        ≡ behind_events es (remaining_answer (before_others (remaining limit s) m)) }
+    ensures first { (keep : Bool) (ts : List Piece) (es : List (Happening × Span)) (m : Machine)
+        (others : Remaining) → TellsTo (with_tokens keep ts) es m
+        → answer_of_all keep (before_all ts others)
+        ≡ behind_events es (remaining_answer (before_others others m)) }
     ensures one_more { (keep : Bool) (ts us : List Piece) (es : List (Happening × Span))
         (m : Machine) → TellsTo (with_tokens keep ts) es m
         → TellsTo (with_tokens keep (ts ++ us)) es (with_more us None m) }
-{
-    goes_on_behind_markers();
-}
+{}
 
 /// Let the last token of a machine be a marker's. A step that tells an event leaves this token, or the
 /// event is the marker's own and no token is left. A step that is refused is refused whatever tokens
