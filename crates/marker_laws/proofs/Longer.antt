@@ -35,7 +35,7 @@ refusal_too : {R : State → State → Type 0} {a b : Result State Refusal} → 
 refusal_too (refused d) e i = i
 refusal_too (given h) e i = absurd (cc)
 
-same_marker : {r q : List ℕ} → Marked r q → Marked q q
+pub same_marker : {r q : List ℕ} → Marked r q → Marked q q
 same_marker (dashes d e) = dashes d e
 same_marker (dots line d x y white e) = dots line d y y white e
 
@@ -240,7 +240,7 @@ scans_alike ends limit v r q begins h ts s comes =
 -- ## More characters after those that are left
 
 -- behind a marker all may follow
-marker_goes_on : {r q : List ℕ} (more : List ℕ) → Marked r q → Marked r (r ++ more)
+pub marker_goes_on : {r q : List ℕ} (more : List ℕ) → Marked r q → Marked r (r ++ more)
 marker_goes_on more (dashes d e) = dashes d e
 marker_goes_on more (dots line d x y white e) =
     subst (Marked (46 ∷ 46 ∷ 46 ∷ (line ++ d ∷ x))) (ap (λ u. 46 ∷ 46 ∷ 46 ∷ u) (sym (append_assoc line (d ∷ x) more)))

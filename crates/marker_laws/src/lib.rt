@@ -182,8 +182,9 @@ pub fn waits_behind_markers()
 
 /// What begins with a marker, and what not: behind `---` a character is known, and behind `...` the
 /// rest of a line with its break, as a comment. A byte order mark ends no line, so the laws say
-/// nothing of a marker behind it.
+/// nothing of a marker behind it. A text that begins with a marker does so with more characters.
 pub fn tells_markers()
+    ensures goes_on { (r more : List ℕ) → Marked r r → Marked (r ++ more) (r ++ more) }
     ensures start { (x y : List ℕ) → Marked (codes "---\n" ++ x) (codes "---\n" ++ y) }
     ensures end { (x y : List ℕ) → Marked (codes "...\n" ++ x) (codes "...\n" ++ y) }
     ensures comment { (x y : List ℕ) → Marked (codes "... # c\n" ++ x) (codes "... # c\n" ++ y) }

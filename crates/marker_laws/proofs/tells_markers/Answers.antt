@@ -5,7 +5,11 @@ use Rattle.std.proofs.Math.Bool.{or-true}
 use Rattle.saphyr_input.specs.Classes.{is_break}
 use Rattle.marker_laws.specs.Beside.{Marked, dashes, dots}
 use Rattle.marker_laws.proofs.Ahead.{told}
+use Rattle.marker_laws.proofs.Longer.{marker_goes_on, same_marker}
 use Rattle.marker_laws.proofs.tells_markers.Goals as goal
+
+pub returns-clause-goes_on : goal.returns-clause-goes_on
+returns-clause-goes_on c r more h = same_marker (marker_goes_on more h)
 
 pub returns-clause-start : goal.returns-clause-start
 returns-clause-start c x y = dashes 10 refl
