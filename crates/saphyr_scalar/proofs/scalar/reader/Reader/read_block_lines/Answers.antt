@@ -6,74 +6,51 @@ use Rattle.saphyr_scalar.proofs.scalar.reader.Reader.read_block_lines.Goals as g
 
 pub returns-then-not-block_line_starts : goal.returns-then-not-block_line_starts
 returns-then-not-block_line_starts g c =
-    let s = cursor_of c.loop-style.self in
-    let t = cursor_of c.skip_empty_block_lines-lines.new.self in
-    let skip = skipped c.args.style c.args.indentation c.loop-style.above c.loop-style.lines
-    c.skip_empty_block_lines-lines.result s t c.skip_empty_block_lines-lines.ensures.taken in
     ap Ok (sym c.loop-style.invariant.same
-    ∙ last c.args.style c.args.indentation c.loop-style.above c.loop-style.lines c.skip_empty_block_lines-lines.result
-    (string_bytes c.loop-style.text) s t (cursor_of c.block_line_starts.new.self) _ skip
-    c.block_line_starts.ensures.same
+    ∙ last c.args.style c.args.indentation c.loop-style.above c.loop-style.lines _ (string_bytes c.loop-style.text)
+    (cursor_of c.loop-style.self) (cursor_of c.skip_empty_block_lines-lines.new.self)
+    (cursor_of c.block_line_starts.new.self) _
+    (skipped _ _ _ _ _ _ _ c.skip_empty_block_lines-lines.ensures.taken) c.block_line_starts.ensures.same
     (sym c.block_line_starts.ensures.value ∙ c.if-not-block_line_starts.true) c.is_some.ensures)
 
 pub returns-then-not-is_break : goal.returns-then-not-is_break
 returns-then-not-is_break g c =
-    let s = cursor_of c.loop-style.self in
-    let t = cursor_of c.skip_empty_block_lines-lines.new.self in
-    let here = cursor_of c.block_line_starts.new.self in
-    let end = cursor_of c.move_run.new.self in
-    let text = string_bytes c.loop-style.text in
-    let grown = string_bytes c.move_run.new.text in
-    let below = c.next_is_blank-below.result in
-    let skip = skipped c.args.style c.args.indentation c.loop-style.above c.loop-style.lines
-    c.skip_empty_block_lines-lines.result s t c.skip_empty_block_lines-lines.ensures.taken in
-    let one = turn c.args.style c.args.indentation c.loop-style.above c.loop-style.lines
-    c.skip_empty_block_lines-lines.result text (string_bytes c.push_break_before.new.text) grown s t here end below
-    skip c.block_line_starts.ensures.same
+    let one = turn c.args.style c.args.indentation c.loop-style.above c.loop-style.lines _
+    (string_bytes c.loop-style.text) _ (string_bytes c.move_run.new.text) (cursor_of c.loop-style.self)
+    (cursor_of c.skip_empty_block_lines-lines.new.self) (cursor_of c.block_line_starts.new.self)
+    (cursor_of c.move_run.new.self) _ (skipped _ _ _ _ _ _ _ c.skip_empty_block_lines-lines.ensures.taken)
+    c.block_line_starts.ensures.same
     (sym c.block_line_starts.ensures.value ∙ c.if-not-block_line_starts.false) c.next_is_blank-below.ensures
     c.in_ok-push_break_before.ensures c.in_ok-move_run.ensures in
     ap Ok (sym c.loop-style.invariant.same ∙ one.0
-    ∙ cut c.args.style c.args.indentation below grown end (cursor_of c.look.new.self) c.look.result c.look.ensures.same
-    c.look.ensures.value (sym c.is_break.ensures.test ∙ c.if-not-is_break.true) one.1)
+    ∙ cut c.args.style c.args.indentation _ (string_bytes c.move_run.new.text) (cursor_of c.move_run.new.self)
+    (cursor_of c.look.new.self) _ c.look.ensures.same c.look.ensures.value
+    (sym c.is_break.ensures.test ∙ c.if-not-is_break.true) one.1)
 
 pub loop-style-smaller : goal.loop-style-smaller
 loop-style-smaller g c =
-    let s = cursor_of c.loop-style.self in
-    let t = cursor_of c.skip_empty_block_lines-lines.new.self in
-    let here = cursor_of c.block_line_starts.new.self in
-    let end = cursor_of c.move_run.new.self in
-    let text = string_bytes c.loop-style.text in
-    let grown = string_bytes c.move_run.new.text in
-    let below = c.next_is_blank-below.result in
-    let skip = skipped c.args.style c.args.indentation c.loop-style.above c.loop-style.lines
-    c.skip_empty_block_lines-lines.result s t c.skip_empty_block_lines-lines.ensures.taken in
-    let one = turn c.args.style c.args.indentation c.loop-style.above c.loop-style.lines
-    c.skip_empty_block_lines-lines.result text (string_bytes c.push_break_before.new.text) grown s t here end below
-    skip c.block_line_starts.ensures.same
+    let one = turn c.args.style c.args.indentation c.loop-style.above c.loop-style.lines _
+    (string_bytes c.loop-style.text) _ (string_bytes c.move_run.new.text) (cursor_of c.loop-style.self)
+    (cursor_of c.skip_empty_block_lines-lines.new.self) (cursor_of c.block_line_starts.new.self)
+    (cursor_of c.move_run.new.self) _ (skipped _ _ _ _ _ _ _ c.skip_empty_block_lines-lines.ensures.taken)
+    c.block_line_starts.ensures.same
     (sym c.block_line_starts.ensures.value ∙ c.if-not-block_line_starts.false) c.next_is_blank-below.ensures
     c.in_ok-push_break_before.ensures c.in_ok-move_run.ensures in
-    let next = broken c.args.style c.args.indentation below grown end (cursor_of c.look.new.self)
-    (cursor_of c.skip_line_break.new.self) c.look.result c.look.ensures.same c.look.ensures.value
-    (sym c.is_break.ensures.test ∙ c.if-not-is_break.false) c.skip_line_break.ensures in
+    let next = broken c.args.style c.args.indentation c.next_is_blank-below.result (string_bytes c.move_run.new.text)
+    (cursor_of c.move_run.new.self) _ (cursor_of c.skip_line_break.new.self) _ c.look.ensures.same
+    c.look.ensures.value (sym c.is_break.ensures.test ∙ c.if-not-is_break.false) c.skip_line_break.ensures in
     at_most_below _ _ _ next.1 one.2
 
 pub loop-style-preserved : goal.loop-style-preserved
 loop-style-preserved g c =
-    let s = cursor_of c.loop-style.self in
-    let t = cursor_of c.skip_empty_block_lines-lines.new.self in
-    let here = cursor_of c.block_line_starts.new.self in
-    let end = cursor_of c.move_run.new.self in
-    let text = string_bytes c.loop-style.text in
-    let grown = string_bytes c.move_run.new.text in
-    let below = c.next_is_blank-below.result in
-    let skip = skipped c.args.style c.args.indentation c.loop-style.above c.loop-style.lines
-    c.skip_empty_block_lines-lines.result s t c.skip_empty_block_lines-lines.ensures.taken in
-    let one = turn c.args.style c.args.indentation c.loop-style.above c.loop-style.lines
-    c.skip_empty_block_lines-lines.result text (string_bytes c.push_break_before.new.text) grown s t here end below
-    skip c.block_line_starts.ensures.same
+    let one = turn c.args.style c.args.indentation c.loop-style.above c.loop-style.lines _
+    (string_bytes c.loop-style.text) _ (string_bytes c.move_run.new.text) (cursor_of c.loop-style.self)
+    (cursor_of c.skip_empty_block_lines-lines.new.self) (cursor_of c.block_line_starts.new.self)
+    (cursor_of c.move_run.new.self) _ (skipped _ _ _ _ _ _ _ c.skip_empty_block_lines-lines.ensures.taken)
+    c.block_line_starts.ensures.same
     (sym c.block_line_starts.ensures.value ∙ c.if-not-block_line_starts.false) c.next_is_blank-below.ensures
     c.in_ok-push_break_before.ensures c.in_ok-move_run.ensures in
-    let next = broken c.args.style c.args.indentation below grown end (cursor_of c.look.new.self)
-    (cursor_of c.skip_line_break.new.self) c.look.result c.look.ensures.same c.look.ensures.value
-    (sym c.is_break.ensures.test ∙ c.if-not-is_break.false) c.skip_line_break.ensures in
+    let next = broken c.args.style c.args.indentation c.next_is_blank-below.result (string_bytes c.move_run.new.text)
+    (cursor_of c.move_run.new.self) _ (cursor_of c.skip_line_break.new.self) _ c.look.ensures.same
+    c.look.ensures.value (sym c.is_break.ensures.test ∙ c.if-not-is_break.false) c.skip_line_break.ensures in
     record { same = next.0 ∙ sym one.0 ∙ c.loop-style.invariant.same; few = none_before _ }
