@@ -1,5 +1,5 @@
--- Two choices by tests that come out alike.
-use Rattle.std.proofs.Common.{◌≡◌, Bool, true, false, refl, cond}
+-- Tests: two choices by tests that come out alike, and what a test of a character says of the text that shows it.
+use Rattle.std.proofs.Common.{◌≡◌, ℕ, Bool, true, false, List, slice_index, refl, sym, ap, ◌∙◌, cond}
 
 -- a choice by a test that comes out alike on both sides
 pub both_by : {X Y : Type 0} (a b : Bool) (x y : X) (z w : Y) (P : X → Y → Type 0) → a ≡ b
@@ -8,3 +8,8 @@ both_by true true x y z w P e then else = then refl refl
 both_by true false x y z w P e then else = absurd (cc)
 both_by false true x y z w P e then else = absurd (cc)
 both_by false false x y z w P e then else = else refl refl
+
+-- what a test of the character that was looked at says of the text
+pub shows : (p : ℕ → Bool) (xs : List ℕ) (c : ℕ) (b d : Bool) → c ≡ slice_index xs 0 → b ≡ p c → b ≡ d
+    → p (slice_index xs 0) ≡ d
+shows p xs c b d read is e = ap p (sym read) ∙ sym is ∙ e
