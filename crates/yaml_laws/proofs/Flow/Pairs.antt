@@ -15,7 +15,7 @@ use Rattle.saphyr_scanner.specs.Limits.{most_open}
 use Rattle.saphyr_scanner.proofs.Levels.{saved}
 use Rattle.yaml_laws.specs.Grammar.FlowNodes.{allows_adjacent, IsColonAndValue, IsBeforeColon, IsKeyAndValue, IsValueAlone, IsFlowNode, IsKeyText}
 use Rattle.yaml_laws.proofs.InFlow.States.{Around, state_at, FlowMoment, moment_in}
-use Rattle.yaml_laws.proofs.Flow.States.{moved, past, FitsAround, IsInk, IsParted, ends_colon, IsBehindNode, Known, PassesPiece, no_key, ended, keeping, IsNodeOrKey, PassesNode, after, StandsBefore, key_behind}
+use Rattle.yaml_laws.proofs.Flow.States.{moved, past, FitsAround, IsInk, IsParted, ends_colon, IsBehindNode, Known, PassesPiece, no_key, ended, keeping, IsNodeOrKey, PassesNode, after, StandsBefore, key_behind, NodePasses}
 use Rattle.yaml_laws.proofs.Flow.Places.{moved_append, right_one}
 use Rattle.yaml_laws.proofs.Flow.GapSteps.{past_ink, less_on, less_behind}
 use Rattle.yaml_laws.proofs.Flow.Fillers.{separation_past, right_behind}
@@ -163,18 +163,23 @@ whole_moved m t node separation rest e =
     sym (ap (moved m) e ∙ moved_append m node (separation ++ (58 ∷ rest))
     ∙ moved_append (moved m node) separation (58 ∷ rest))
 
--- a key that may be one, without a mark before it
-pub key_passes : {around : Around} (room : ℕ) (key value : Node) → PassesNode around room key
-    → PassesNode around room value → (y : Context) → is_block y ≡ false → (m : Marker) (t o : List ℕ)
-    → FitsAround around m t o → IsBehindEntry around.indent o
+-- A key and a value, where the colon after the key is passed with these tokens before the key.
+key_and_value : {around : Around} (room : ℕ) (key value : Node) → PassesNode around room key
+    → PassesNode around room value → (front : List Kind) (y : Context) → is_block y ≡ false → (m : Marker)
+    (t o : List ℕ) → FitsAround around m t o → IsBehindEntry around.indent o
     → (h : IsKeyAndValue key value (IsFlowNode room key true around.indent) (IsFlowNode room value true around.indent)
-    around.indent t) → (begins_pair y ≡ true → m.line ≡ (moved (moved m h.0) h.1).line)
-    → (now : FlowMoment) → now.allowed ≡ true
-    → room + length now.outer ≤ most_open → now.adjacent < m.index → StandsBefore around now m (t ++ o)
-    → TellsPiece around (state_at around (moment_in y now)) (PairTokens (key_kinds (begins_pair y)) key value)
-    (behind_colon y) now.outer now.places (moved m t) o
-key_passes {around} room key value K V y flows m t o fits ends (node, separation, colon, h, parts, apart, c, e) line now
-    fresh low before text =
+    around.indent t) → (now : FlowMoment) → room + length now.outer ≤ most_open → now.adjacent < m.index
+    → StandsBefore around now m (t ++ o)
+    → ((more : List ℕ) → FitsAround around (moved (moved m h.0) h.1) (58 ∷ []) more → IsParted around.indent more
+    → IsTrue (allows_adjacent key h.1) ⊎ IsTrue (ends_colon (slice_index more 0))
+    → (n : NodePasses around (moment_in y now) key m h.0 (h.1 ++ (58 ∷ more)))
+    → PassesPiece around (state_at around (moment_in y now)) (no_key (moved (moved (moved m h.0) h.1) (58 ∷ [])))
+    (behind_colon y) now.outer now.places (moved (moved (moved m h.0) h.1) (58 ∷ [])) more
+    (front ++ (n.tokens ++ tokens.Value ∷ [])))
+    → TellsPiece around (state_at around (moment_in y now)) (PairTokens front key value) (behind_colon y) now.outer
+    now.places (moved m t) o
+key_and_value {around} room key value K V front y flows m t o fits ends (node, separation, colon, h, parts, apart, c, e)
+    now low before text pass =
     let x = is_colon_text around.indent room (allows_adjacent key separation) value colon o ends c in
     let rest = x.rest in
     let is : t ≡ node ++ (separation ++ (58 ∷ rest)) = e ∙ ap (λ (z : List ℕ). node ++ (separation ++ z)) x.is in
@@ -185,7 +190,6 @@ key_passes {around} room key value K V y flows m t o fits ends (node, separation
     (fits_front m node (separation ++ (58 ∷ rest)) o whole) in
     let at_end = moved m node in
     let here = moved at_end separation in
-    let start = state_at around (moment_in y now) in
     let texts : t ++ o ≡ node ++ (separation ++ (58 ∷ (rest ++ o))) =
     ap (λ (z : List ℕ). z ++ o) is ∙ append_assoc node (separation ++ (58 ∷ rest)) o
     ∙ ap (λ (z : List ℕ). node ++ z) follow in
@@ -196,19 +200,31 @@ key_passes {around} room key value K V y flows m t o fits ends (node, separation
     let at_colon_right = right_behind around.indent at_end separation parts n.passes.right in
     let colon_fits = fits_back at_end separation (58 ∷ rest) o at_colon_right
     (fits_back m node (separation ++ (58 ∷ rest)) o n.passes.right whole) in
-    let mark_fits = fits_front here (58 ∷ []) rest o colon_fits in
-    let behind_mark = right_one around.indent here 58 refl at_colon_right in
-    let p = colon_passes around y flows m at_end key separation (rest ++ o) parts mark_fits x.parted x.ends line start
-    now.outer now.places n.tokens (keeping (moment_in y now) m node)
-    (ap (λ (b : Bool). saved b (length now.places) m now.key) fresh) n.passes in
     let v = value_behind room value V (behind_colon y) (colon_flows y flows) (moved here (58 ∷ [])) rest o
-    (fits_back here (58 ∷ []) rest o behind_mark colon_fits) ends low x.value_text p in
+    (fits_back here (58 ∷ []) rest o (right_one around.indent here 58 refl at_colon_right) colon_fits) ends low
+    x.value_text (pass (rest ++ o) (fits_front here (58 ∷ []) rest o colon_fits) x.parted x.ends n) in
     told_at (moved (moved here (58 ∷ [])) rest) (moved m t) (whole_moved m t node separation rest is)
     (record {
       tokens = v.tokens;
-      are = (n.tokens, v.are.0, n.are, v.are.1, v.are.2 ∙ value_regrouped (key_kinds (begins_pair y)) n.tokens v.are.0);
+      are = (n.tokens, v.are.0, n.are, v.are.1, v.are.2 ∙ value_regrouped front n.tokens v.are.0);
       passes = v.passes;
     })
+
+-- a key that may be one, without a mark before it
+pub key_passes : {around : Around} (room : ℕ) (key value : Node) → PassesNode around room key
+    → PassesNode around room value → (y : Context) → is_block y ≡ false → (m : Marker) (t o : List ℕ)
+    → FitsAround around m t o → IsBehindEntry around.indent o
+    → (h : IsKeyAndValue key value (IsFlowNode room key true around.indent) (IsFlowNode room value true around.indent)
+    around.indent t) → (begins_pair y ≡ true → m.line ≡ (moved (moved m h.0) h.1).line)
+    → (now : FlowMoment) → now.allowed ≡ true
+    → room + length now.outer ≤ most_open → now.adjacent < m.index → StandsBefore around now m (t ++ o)
+    → TellsPiece around (state_at around (moment_in y now)) (PairTokens (key_kinds (begins_pair y)) key value)
+    (behind_colon y) now.outer now.places (moved m t) o
+key_passes {around} room key value K V y flows m t o fits ends h line now fresh low before text =
+    key_and_value room key value K V (key_kinds (begins_pair y)) y flows m t o fits ends h now low before text
+    (λ more colon_fits parted colon_ends n. colon_passes around y flows m (moved m h.0) key h.1 more h.4 colon_fits
+    parted colon_ends line (state_at around (moment_in y now)) now.outer now.places n.tokens
+    (keeping (moment_in y now) m h.0) (ap (λ (b : Bool). saved b (length now.places) m now.key) fresh) n.passes)
 
 -- ## A value without a key
 
@@ -245,11 +261,6 @@ alone_passes {around} room key value V y flows m t o fits ends (none, c) now no_
 
 -- ## A key and a value after a mark
 
-regrouped_alone : (begins : Bool) (ks vs : List Kind) → begins ≡ false
-    → (ks ++ (alone_kinds begins ++ tokens.Value ∷ [])) ++ vs ≡ ks ++ tokens.Value ∷ vs
-regrouped_alone begins ks vs e =
-    ap (λ (b : Bool). (ks ++ (alone_kinds b ++ tokens.Value ∷ [])) ++ vs) e ∙ append_assoc ks (tokens.Value ∷ []) vs
-
 -- before a colon: no key is kept, and the colon may come at once, or what comes after it ends it
 abbrev at_colon : Marker → ℕ → Known
 at_colon here second key allowed adjacent new =
@@ -265,59 +276,38 @@ pub marked_key_passes : {around : Around} (room : ℕ) (key value : Node) → Pa
     → TellsPiece around (state_at around (moment_in y now)) (PairTokens [] key value) (behind_colon y) now.outer
     now.places
     (moved m t) o
-marked_key_passes {around} room key value K V y flows no_pair m t o fits ends
-    (node, separation, colon, h, parts, apart, c, e) now no_candidate none_allowed low before text =
-    let x = is_colon_text around.indent room (allows_adjacent key separation) value colon o ends c in
-    let rest = x.rest in
-    let is : t ≡ node ++ (separation ++ (58 ∷ rest)) = e ∙ ap (λ (z : List ℕ). node ++ (separation ++ z)) x.is in
-    let follow : (separation ++ (58 ∷ rest)) ++ o ≡ separation ++ (58 ∷ (rest ++ o)) =
-    append_assoc separation (58 ∷ rest) o in
-    let whole = fits_so m t (node ++ (separation ++ (58 ∷ rest))) o is fits in
-    let node_fits = fits_before m node ((separation ++ (58 ∷ rest)) ++ o) (separation ++ (58 ∷ (rest ++ o))) follow
-    (fits_front m node (separation ++ (58 ∷ rest)) o whole) in
-    let at_end = moved m node in
-    let here = moved at_end separation in
-    let texts : t ++ o ≡ node ++ (separation ++ (58 ∷ (rest ++ o))) =
-    ap (λ (z : List ℕ). z ++ o) is ∙ append_assoc node (separation ++ (58 ∷ rest)) o
-    ∙ ap (λ (z : List ℕ). node ++ z) follow in
-    let n = K m node (separation ++ (58 ∷ (rest ++ o)))
-    (node_or_key around.indent room key node separation (rest ++ o) h) node_fits
-    (key_followed around.indent room key value separation rest o parts apart x.ends) (moment_in y now) before flows low
-    (text ∙ ap (past around.indent m) texts) in
-    let at_colon_right = right_behind around.indent at_end separation parts n.passes.right in
-    let colon_fits = fits_back at_end separation (58 ∷ rest) o at_colon_right
-    (fits_back m node (separation ++ (58 ∷ rest)) o n.passes.right whole) in
-    let mark_fits = fits_front here (58 ∷ []) rest o colon_fits in
-    let behind_mark = right_one around.indent here 58 refl at_colon_right in
-    let known = n.passes.knows in
-    let kept : key_behind now m ≡ None = rw (none_allowed, no_candidate) refl in
-    let second = slice_index (rest ++ o) 0 in
-    let ink : IsInk 58 = record { blank = refl; break = refl; comment = refl; byte_order_mark = refl } in
-    let lands = separation_past around.indent at_end separation (58 ∷ (rest ++ o)) parts n.passes.right
-    ∙ past_ink around.indent here 58 (rest ++ o) ink in
-    let told : at_colon here second n.passes.key n.passes.allowed n.passes.adjacent n.passes.new = (
-      known.keeps flows ∙ kept,
-      by_place separation second n.passes.adjacent here.index x.ends
-          (known.near flows separation (rest ++ o) refl parts),
-      subst
-          (λ (z : Marker × List ℕ). n.passes.adjacent ≤ z.0.index) lands known.low,
-    ) in
-    let q = separation_joins at_end separation (58 ∷ (rest ++ o)) parts (knowing n.passes (at_colon here second)
-    told) in
-    let p = value_passes around y flows here (rest ++ o) mark_fits x.parted (after q) q.knows.0 q.knows.1 q.knows.2
-    q.fits in
-    let v = value_behind room value V (behind_colon y) (colon_flows y flows) (moved here (58 ∷ [])) rest o
-    (fits_back here (58 ∷ []) rest o behind_mark colon_fits) ends low x.value_text
-    (join q p (no_key (moved here (58 ∷ []))) p.knows) in
-    told_at (moved (moved here (58 ∷ [])) rest) (moved m t) (whole_moved m t node separation rest is)
-    (record {
-      tokens = v.tokens;
-      are = (n.tokens, v.are.0, n.are, v.are.1, v.are.2 ∙ regrouped_alone (begins_pair y) n.tokens v.are.0 no_pair);
-      passes = v.passes;
-    })
+marked_key_passes {around} room key value K V y flows no_pair m t o fits ends h now no_candidate none_allowed low before
+    text = key_and_value room key value K V [] y flows m t o fits ends h now low before text colon
   where
     by_place : (w : List ℕ) (c adjacent index : ℕ) → IsTrue (allows_adjacent key w) ⊎ IsTrue (ends_colon c)
         → (IsTrue (allows_adjacent key w) → adjacent ≡ index)
         → (index ≡ adjacent) ⊎ IsTrue (ends_colon c)
     by_place w c adjacent index (inl h) near = inl (sym (near h))
     by_place w c adjacent index (inr h) near = inr h
+
+    colon : (more : List ℕ) → FitsAround around (moved (moved m h.0) h.1) (58 ∷ []) more → IsParted around.indent more
+        → IsTrue (allows_adjacent key h.1) ⊎ IsTrue (ends_colon (slice_index more 0))
+        → (n : NodePasses around (moment_in y now) key m h.0 (h.1 ++ (58 ∷ more)))
+        → PassesPiece around (state_at around (moment_in y now))
+        (no_key (moved (moved (moved m h.0) h.1) (58 ∷ []))) (behind_colon y) now.outer now.places
+        (moved (moved (moved m h.0) h.1) (58 ∷ [])) more (n.tokens ++ tokens.Value ∷ [])
+    colon more colon_fits parted colon_ends n =
+        let at_end = moved m h.0 in
+        let here = moved at_end h.1 in
+        let known = n.passes.knows in
+        let kept : key_behind now m ≡ None = rw (none_allowed, no_candidate) refl in
+        let second = slice_index more 0 in
+        let ink : IsInk 58 = record { blank = refl; break = refl; comment = refl; byte_order_mark = refl } in
+        let lands = separation_past around.indent at_end h.1 (58 ∷ more) h.4 n.passes.right
+        ∙ past_ink around.indent here 58 more ink in
+        let told : at_colon here second n.passes.key n.passes.allowed n.passes.adjacent n.passes.new = (
+          known.keeps flows ∙ kept,
+          by_place h.1 second n.passes.adjacent here.index colon_ends (known.near flows h.1 more refl h.4),
+          subst (λ (z : Marker × List ℕ). n.passes.adjacent ≤ z.0.index) lands known.low,
+        ) in
+        let q = separation_joins at_end h.1 (58 ∷ more) h.4 (knowing n.passes (at_colon here second) told) in
+        let p = value_passes around y flows here more colon_fits parted (after q) q.knows.0 q.knows.1 q.knows.2 q.fits
+        in
+        subst (λ (b : Bool). PassesPiece around (state_at around (moment_in y now)) (no_key (moved here (58 ∷ [])))
+        (behind_colon y) now.outer now.places (moved here (58 ∷ [])) more
+        (n.tokens ++ (alone_kinds b ++ tokens.Value ∷ []))) no_pair (join q p (no_key (moved here (58 ∷ []))) p.knows)

@@ -1,5 +1,5 @@
 -- The properties of a node in flow style are passed, and an alias is.
-use Rattle.std.proofs.Common.{◌≡◌, ◌≢◌, ℕ, zero, suc, ◌+◌, ◌-◌, ◌≤◌, Bool, true, false, List, [], ◌∷◌, ◌++◌, length, slice_index, refl, sym, ap, ◌∙◌, arith, subst, append_assoc, append-nil, IsTrue, inl, inr}
+use Rattle.std.proofs.Common.{◌≡◌, ◌≢◌, ℕ, zero, suc, ◌+◌, ◌-◌, ◌≤◌, Bool, false, List, [], ◌∷◌, ◌++◌, length, slice_index, refl, sym, ap, ◌∙◌, arith, subst, append_assoc, append-nil, IsTrue, inl, inr}
 use Rattle.std.specs.Prelude.{not, option_map, Option, Some, None}
 use Rattle.saphyr_input.specs.Classes.{is_blank, is_blank_or_breakz}
 use Rattle.std.proofs.lemmas.Bool.Decides.{nat_tests}
@@ -26,7 +26,7 @@ use Rattle.yaml_laws.proofs.Documents.Lines.{rest_first}
 use Rattle.yaml_laws.proofs.Flow.Fillers.{spaces_are_blank, separation_past, right_behind}
 use Rattle.yaml_laws.proofs.Flow.Pieces.{fits_front, fits_back}
 use Rattle.yaml_laws.proofs.Flow.Joins.{since_join, join, knowing, token_node}
-use Rattle.yaml_laws.proofs.Flow.Tokens.{after_token}
+use Rattle.yaml_laws.proofs.Flow.Tokens.{after_token, PassesToken}
 use Rattle.yaml_laws.proofs.Flow.Names.{closes_key, anchor_passes, alias_token_passes, tag_passes}
 use Rattle.yaml_laws.proofs.Flow.Ends.{tag_ends_name, white_ends_tag, follows_tag}
 
@@ -180,75 +180,71 @@ pub record PropertiesRead (around : Around) (now : FlowMoment) (anchor : Option 
   pub passes : PassesPiece around (state_at around now) (behind_properties now.context (keeping now m t) now.adjacent)
       now.context now.outer now.places (moved m t) o tokens
 
--- what is shown of a piece with properties
-abbrev ReadsProperties : Around → Option (List ℕ) → Option Tag → Marker → List ℕ → List ℕ → FlowMoment → Type 0
-ReadsProperties around anchor tag m t o now =
-    FitsAround around m t o → StandsBefore around now m (t ++ o) → PropertiesRead around now anchor tag m t o
+-- what is shown of one of the two
+abbrev ReadsOne : Around → (List ℕ → Type 0) → Kind → Type 0
+ReadsOne around Is kind =
+    (m : Marker) (t o : List ℕ) → Is t → (now : FlowMoment) → EndsTag (not (is_block now.context)) o
+    → FitsAround around m t o → StandsBefore around now m (t ++ o)
+    → PassesToken around (closes_key now.adjacent) now m t o kind
 
-anchor_and_tag : ReaderPromises → (around : Around) (name : List ℕ) (tag : Tag) (m : Marker) (a w b o : List ℕ)
-    → IsAnchor name a
-    → IsGap around.indent w → IsTag tag b → (now : FlowMoment) → EndsTag (not (is_block now.context)) o
-    → ReadsProperties around (Some name) (Some tag) m (a ++ (w ++ b)) o now
-anchor_and_tag reads around name tag m a w b o h spaced g now ends fits text =
-    let behind = (w ++ b) ++ o in
-    let p = anchor_passes reads around name a behind m h (tag_ends_name true behind (gap_ends_tag around.indent true w
-    b o spaced))
-    (fits_front m a (w ++ b) o fits) now (text ∙ ap (past around.indent m) (append_assoc a (w ++ b) o)) in
-    record {
-      tokens = anchor_token name ∷ tag_token tag ∷ [];
-      are = inl refl;
-      passes = two_properties around (state_at around now) now.context (key_behind now m) now.key now.outer now.places
-          now.adjacent m a w b o (anchor_token name) (tag_token tag) spaced p
-          (λ there right. tag_passes reads around tag b o (moved (moved m a) w) g
-          (fits_back (moved m a) w b o right (fits_back m a (w ++ b) o p.right fits)) (after p) ends there);
-    }
+anchor_one : ReaderPromises → (around : Around) (name : List ℕ) → ReadsOne around (IsAnchor name) (anchor_token name)
+anchor_one reads around name m t o h now ends fits text =
+    anchor_passes reads around name t o m h (tag_ends_name (not (is_block now.context)) o ends) fits now text
 
-tag_and_anchor : ReaderPromises → (around : Around) (name : List ℕ) (tag : Tag) (m : Marker) (a w b o : List ℕ)
-    → IsTag tag a
-    → IsGap around.indent w → IsAnchor name b → (now : FlowMoment) → EndsTag (not (is_block now.context)) o
-    → ReadsProperties around (Some name) (Some tag) m (a ++ (w ++ b)) o now
-tag_and_anchor reads around name tag m a w b o g spaced h now ends fits text =
-    let behind = (w ++ b) ++ o in
-    let p = tag_passes reads around tag a behind m g (fits_front m a (w ++ b) o fits) now
-    (gap_ends_tag around.indent (not (is_block now.context)) w b o spaced)
-    (text ∙ ap (past around.indent m) (append_assoc a (w ++ b) o)) in
-    record {
-      tokens = tag_token tag ∷ anchor_token name ∷ [];
-      are = inr refl;
-      passes = two_properties around (state_at around now) now.context (key_behind now m) now.key now.outer now.places
-          now.adjacent m a w b o (tag_token tag) (anchor_token name) spaced p
-          (λ there right. anchor_passes reads around name b o (moved (moved m a) w) h
-          (tag_ends_name (not (is_block now.context)) o ends)
-          (fits_back (moved m a) w b o right (fits_back m a (w ++ b) o p.right fits)) (after p) there);
-    }
+tag_one : ReaderPromises → (around : Around) (tag : Tag) → ReadsOne around (IsTag tag) (tag_token tag)
+tag_one reads around tag m t o h now ends fits text = tag_passes reads around tag t o m h fits now ends text
+
+-- both, with a gap between
+both_passed : {around : Around} {P Q : List ℕ → Type 0} {i j : Kind} → ReadsOne around P i → ReadsOne around Q j
+    → (m : Marker) (t a w b o : List ℕ) → P a → IsGap around.indent w → Q b → t ≡ a ++ (w ++ b) → (now : FlowMoment)
+    → EndsTag (not (is_block now.context)) o → FitsAround around m t o → StandsBefore around now m (t ++ o)
+    → PassesPiece around (state_at around now) (behind_properties now.context (keeping now m t) now.adjacent)
+    now.context now.outer now.places (moved m t) o (i ∷ j ∷ [])
+both_passed {around} {P} {Q} {i} {j} first second m t a w b o h spaced g is now ends fits text =
+    subst (λ (t : List ℕ). FitsAround around m t o → StandsBefore around now m (t ++ o)
+    → PassesPiece around (state_at around now) (behind_properties now.context (keeping now m t) now.adjacent)
+    now.context now.outer now.places (moved m t) o (i ∷ j ∷ [])) (sym is) (λ fits text.
+    let p = first m a ((w ++ b) ++ o) h now (gap_ends_tag around.indent (not (is_block now.context)) w b o spaced)
+    (fits_front m a (w ++ b) o fits) (text ∙ ap (past around.indent m) (append_assoc a (w ++ b) o)) in
+    two_properties around (state_at around now) now.context (key_behind now m) now.key now.outer now.places
+    now.adjacent m a w b o i j spaced p
+    (λ there right. second (moved (moved m a) w) b o g (after p) ends
+    (fits_back (moved m a) w b o right (fits_back m a (w ++ b) o p.right fits)) there)) fits text
 
 pub properties_read : ReaderPromises
     → (around : Around) (anchor : Option (List ℕ)) (tag : Option Tag) (m : Marker) (t o : List ℕ)
     → yaml.AreProperties anchor tag around.indent t
-    → (now : FlowMoment) → EndsTag (not (is_block now.context)) o → ReadsProperties around anchor tag m t o now
+    → (now : FlowMoment) → EndsTag (not (is_block now.context)) o → FitsAround around m t o
+    → StandsBefore around now m (t ++ o) → PropertiesRead around now anchor tag m t o
 properties_read reads around None None m t o h now ends fits text = absurd h
 properties_read reads around (Some name) None m t o h now ends fits text =
-    let p = anchor_passes reads around name t o m h (tag_ends_name (not (is_block now.context)) o ends) fits now text in
     record {
       tokens = anchor_token name ∷ [];
       are = refl;
-      passes = one_property now.context (keeping now m t) now.adjacent p;
+      passes = one_property now.context (keeping now m t) now.adjacent
+          (anchor_one reads around name m t o h now ends fits text);
     }
 properties_read reads around None (Some tag) m t o h now ends fits text =
-    let p = tag_passes reads around tag t o m h fits now ends text in
     record {
       tokens = tag_token tag ∷ [];
       are = refl;
-      passes = one_property now.context (keeping now m t) now.adjacent p;
+      passes = one_property now.context (keeping now m t) now.adjacent
+          (tag_one reads around tag m t o h now ends fits text);
     }
-properties_read reads around (Some name) (Some tag) m t o (anchor, between, written, h, g, spaced, inl is) now ends fits
-    text =
-    subst (λ (y : List ℕ). ReadsProperties around (Some name) (Some tag) m y o now) (sym is)
-    (anchor_and_tag reads around name tag m anchor between written o h spaced g now ends) fits text
-properties_read reads around (Some name) (Some tag) m t o (anchor, between, written, h, g, spaced, inr is) now ends fits
-    text =
-    subst (λ (y : List ℕ). ReadsProperties around (Some name) (Some tag) m y o now) (sym is)
-    (tag_and_anchor reads around name tag m written between anchor o g spaced h now ends) fits text
+properties_read reads around (Some name) (Some tag) m t o (a, w, b, h, g, spaced, inl is) now ends fits text =
+    record {
+      tokens = anchor_token name ∷ tag_token tag ∷ [];
+      are = inl refl;
+      passes = both_passed (anchor_one reads around name) (tag_one reads around tag) m t a w b o h spaced g is now ends
+          fits text;
+    }
+properties_read reads around (Some name) (Some tag) m t o (b, w, a, h, g, spaced, inr is) now ends fits text =
+    record {
+      tokens = tag_token tag ∷ anchor_token name ∷ [];
+      are = inr refl;
+      passes = both_passed (tag_one reads around tag) (anchor_one reads around name) m t a w b o g spaced h is now ends
+          fits text;
+    }
 
 -- ## An alias
 

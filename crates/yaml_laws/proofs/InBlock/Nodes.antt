@@ -24,7 +24,7 @@ use Rattle.yaml_laws.proofs.InBlock.Texts.{behind_wider}
 use Rattle.yaml_laws.proofs.InBlock.BehindIndicators.{entries_ink, pairs_ink, further_ink}
 use Rattle.yaml_laws.proofs.InBlock.Leads.{reads_lead, lead_col, mapping_least, sequence_least}
 use Rattle.yaml_laws.proofs.InBlock.Parts.{reads_parts}
-use Rattle.yaml_laws.proofs.InBlock.Sequences.{ReadsOtherEntries, no_entries, more_entries, reads_entries}
+use Rattle.yaml_laws.proofs.InBlock.Sequences.{ReadsOtherEntries, no_entries, more_entries, reads_entries, sequence_start}
 use Rattle.yaml_laws.proofs.InBlock.Mappings.{is_pair, ReadsOtherPairs, no_other_pairs, more_pairs}
 use Rattle.std.proofs.Math.Bool.{or-true}
 use Rattle.std.proofs.lemmas.Bool.{leb-true}
@@ -89,12 +89,9 @@ in_mapping AtStart i col same low e =
     enough : (i j col : ℕ) → i ≡ j → j ≤ col → nat_le i col ≡ true
     enough i j col e h = grind (arith, nat_tests)
 
-new_list : (ts ps us : List Kind) (k : Kind)
-    → (((ts ++ ps) ++ k ∷ []) ++ us) ++ tokens.BlockEnd ∷ [] ≡ ts ++ (ps ++ (k ∷ (us ++ tokens.BlockEnd ∷ [])))
-new_list ts ps us k = simp append_assoc
-
-old_list : (ts ps us : List Kind) → ((ts ++ ps) ++ []) ++ us ≡ ts ++ (ps ++ us)
-old_list ts ps us = simp (append_assoc, append-nil)
+new_list : (ts us : List Kind) (k : Kind)
+    → ((ts ++ k ∷ []) ++ us) ++ tokens.BlockEnd ∷ [] ≡ ts ++ (k ∷ (us ++ tokens.BlockEnd ∷ []))
+new_list ts us k = simp append_assoc
 
 -- a collection that began at a column ends
 collection_closes : {limit : ℕ} {start : State} {ts : List Kind} (f : Frame) (column : ℕ) (q : Marker × List ℕ)
@@ -163,54 +160,42 @@ reads_sequence {limit} leaves p node nodes reads more place f same m t o (column
     behind_o : EndsNodeAt f.indent (moved n entries) o
     behind_o = subst (λ (x : Marker). EndsNodeAt f.indent x o) end behind
 
+    ended : (further : Bool) → nat_le f.indent n.col ≡ further → (us vs : List Kind)
+        → grammar.YieldBlockEntries (MoreNodes node nodes) vs
+        → Arrived limit start (frame_behind further n.col f) (moved n entries) o ((us ++ sequence_start further) ++ vs)
+        → (content : List Kind) × grammar.YieldsSequence (MoreNodes node nodes) (context_at place)
+        (grammar.YieldFlowEntries (MoreNodes node nodes)) (grammar.YieldBlockEntries (MoreNodes node nodes)) content
+        × Arrived limit start f (moved n entries) o (us ++ content)
+    ended true k us vs are v = (
+      tokens.BlockSequenceStart ∷ (vs ++ tokens.BlockEnd ∷ []),
+      inr (inl (place_allows_block place, (vs, are, refl))),
+      subst (Arrived limit start f (moved n entries) o) (new_list us vs tokens.BlockSequenceStart)
+          (collection_closes f n.col (past 0 (moved n entries) o) (leb-true f.indent n.col k) behind_o.left v),
+    )
+    ended false k us vs are v = (
+      vs,
+      inr (inr (in_mapping place f.indent n.col same low k, tt, are)),
+      subst (λ (x : List Kind). Arrived limit start f (moved n entries) o (x ++ vs)) (append-nil us) v,
+    )
+
     by_column : (further : Bool) → nat_le f.indent n.col ≡ further
         → NodeRead limit start (Seq p (MoreNodes node nodes)) place f (moved m t) o ts
-    by_column true k =
+    by_column further k =
         let l = reads_lead leaves p place (sequence_indent_at place) column f same m lead (entries ++ o) lead_is
         (further_ink entries o (entries_ink (MoreNodes node nodes) column entries o h))
         (fits_front m lead entries o whole) start ts
         (subst (λ (x : List ℕ). Before limit start place f m x ts) text v) in
-        let r = reads_entries leaves node nodes reads more f n true k far entries o
+        let r = reads_entries leaves node nodes reads more f n further k far entries o
         (subst (λ (c : ℕ). AreEntries most_open (MoreNodes node nodes) c entries o) (sym col) h)
         (fits_back m lead entries o whole)
-        (behind_wider f.indent (suc n.col) (moved n entries) o wide behind_o) start (ts ++ l.tokens) l.at l.none l.allowed in
-        let c = collection_closes f n.col (past 0 (moved n entries) o) (leb-true f.indent n.col k) behind_o.left
-        r.arrived in
+        (behind_wider f.indent (suc n.col) (moved n entries) o wide behind_o) start (ts ++ l.tokens) l.at l.none l.allowed
+        in
+        let c = ended further k (ts ++ l.tokens) r.tokens r.are r.arrived in
         record {
-          tokens = l.tokens ++ (tokens.BlockSequenceStart ∷ (r.tokens ++ tokens.BlockEnd ∷ []));
-          are = inr (
-            l.tokens,
-            tokens.BlockSequenceStart
-                ∷ (r.tokens ++ tokens.BlockEnd ∷ []),
-            l.are,
-            inr (inl (place_allows_block place, (r.tokens, r.are, refl))),
-            refl,
-          );
-          arrived = subst (λ (x : Marker). Arrived limit start f x o
-              (ts ++ (l.tokens ++ (tokens.BlockSequenceStart ∷ (r.tokens ++ tokens.BlockEnd ∷ []))))) (sym end)
-              (subst (Arrived limit start f (moved n entries) o)
-              (new_list ts l.tokens r.tokens tokens.BlockSequenceStart) c);
-        }
-    by_column false k =
-        let l = reads_lead leaves p place (sequence_indent_at place) column f same m lead (entries ++ o) lead_is
-        (further_ink entries o (entries_ink (MoreNodes node nodes) column entries o h))
-        (fits_front m lead entries o whole) start ts
-        (subst (λ (x : List ℕ). Before limit start place f m x ts) text v) in
-        let r = reads_entries leaves node nodes reads more f n false k far entries o
-        (subst (λ (c : ℕ). AreEntries most_open (MoreNodes node nodes) c entries o) (sym col) h)
-        (fits_back m lead entries o whole)
-        (behind_wider f.indent (suc n.col) (moved n entries) o wide behind_o) start (ts ++ l.tokens) l.at l.none l.allowed in
-        record {
-          tokens = l.tokens ++ r.tokens;
-          are = inr (
-            l.tokens,
-            r.tokens,
-            l.are,
-            inr (inr (in_mapping place f.indent n.col same low k, tt, r.are)),
-            refl,
-          );
-          arrived = subst (λ (x : Marker). Arrived limit start f x o (ts ++ (l.tokens ++ r.tokens))) (sym end)
-              (subst (Arrived limit start f (moved n entries) o) (old_list ts l.tokens r.tokens) r.arrived);
+          tokens = l.tokens ++ c.0;
+          are = inr (l.tokens, c.0, l.are, c.1, refl);
+          arrived = subst (λ (x : Marker). Arrived limit start f x o (ts ++ (l.tokens ++ c.0))) (sym end)
+              (subst (Arrived limit start f (moved n entries) o) (append_assoc ts l.tokens c.0) c.2);
         }
 
 -- ## Block mappings
@@ -256,7 +241,8 @@ reads_mapping {limit} leaves p key value pairs K V more place f same m t o (colu
       );
       arrived = subst (λ (x : Marker). Arrived limit start f x o
           (ts ++ (l.tokens ++ (tokens.BlockMappingStart ∷ (r.tokens ++ tokens.BlockEnd ∷ []))))) (sym end)
-          (subst (Arrived limit start f (moved n entries) o) (new_list ts l.tokens r.tokens tokens.BlockMappingStart)
+          (subst (Arrived limit start f (moved n entries) o) (new_list (ts ++ l.tokens) r.tokens tokens.BlockMappingStart
+          ∙ append_assoc ts l.tokens (tokens.BlockMappingStart ∷ (r.tokens ++ tokens.BlockEnd ∷ [])))
           c);
     }
   where
