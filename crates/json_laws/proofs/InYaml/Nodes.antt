@@ -11,7 +11,7 @@ use Rattle.json_laws.proofs.InYaml.Calm.{IsCalm, is_no_break}
 use Rattle.json_laws.proofs.InYaml.Becomes.{Becomes, Both, become_both, becomes_so, stays, white_becomes}
 use Rattle.json_laws.proofs.InYaml.Words.{word_plain, word_no_break, word_calm}
 use Rattle.json_laws.proofs.InYaml.Quotes.{string_quoted, string_no_break, string_calm}
-use Rattle.yaml_laws.proofs.InBlock.Mappings.{pair_text}
+use Rattle.yaml_laws.proofs.InBlock.Parts.{part_text}
 use Rattle.json_laws.proofs.InYaml.Parts.{IsPadded, IsName, IsTail, AreItemAndOthers, item_and_others, first_items, other_items, ArePairAndOthers, pair_and_others, first_pairs, other_pairs, sequence_padded, mapping_padded}
 
 -- ## Room
@@ -102,7 +102,7 @@ mark_becomes : {P : List ℕ → Type 0} (c : ℕ) (structural t x : List ℕ) �
     → Becomes (Marked (c ∷ []) P) (structural ++ t) x
 mark_becomes {P} c structural t x no_break (w, v, wh, vh, is) p =
     let whole : structural ++ t ≡ w ++ ((c ∷ []) ++ (v ++ t)) = ap (λ (y : List ℕ). y ++ t) is
-    ∙ pair_text w (c ∷ []) v t in
+    ∙ part_text w (c ∷ []) v t in
     subst (λ (y : List ℕ). Becomes (Marked (c ∷ []) P) y x) (sym whole)
     (becomes_so (marked_so (c ∷ []) P)
     (become_both w ((c ∷ []) ++ (v ++ t)) x (white_becomes w (((c ∷ []) ++ (v ++ t)) ++ x) wh)
@@ -256,7 +256,7 @@ behind_two : (a b c : List ℕ) (t : List ℕ) → t ≡ a ++ b → t ++ c ≡ a
 behind_two a b c t e = ap (λ (y : List ℕ). y ++ c) e ∙ append_assoc a b c
 
 behind_three : (a b c d t : List ℕ) → t ≡ a ++ (b ++ c) → t ++ d ≡ a ++ (b ++ (c ++ d))
-behind_three a b c d t e = ap (λ (y : List ℕ). y ++ d) e ∙ pair_text a b c d
+behind_three a b c d t e = ap (λ (y : List ℕ). y ++ d) e ∙ part_text a b c d
 
 behind_four : (a b c d f t : List ℕ) → t ≡ a ++ (b ++ (c ++ d)) → t ++ f ≡ a ++ (b ++ (c ++ (d ++ f)))
 behind_four a b c d f t e = ap (λ (y : List ℕ). y ++ f) e ∙ regrouped a b c d f

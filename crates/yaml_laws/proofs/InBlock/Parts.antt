@@ -147,7 +147,7 @@ AreParts E As ts = (part others : List Kind) × E others part × As others × (t
 
 -- ## Parts
 
-part_text : (front part others o : List ℕ) → (front ++ (part ++ others)) ++ o ≡ front ++ (part ++ (others ++ o))
+pub part_text : (front part others o : List ℕ) → (front ++ (part ++ others)) ++ o ≡ front ++ (part ++ (others ++ o))
 part_text front part others o = simp append_assoc
 
 pub no_other_parts : {limit : ℕ} → ReadsOtherParts limit (λ column t o. t ≡ []) (λ ts. ts ≡ [])
