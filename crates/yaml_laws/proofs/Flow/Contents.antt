@@ -59,7 +59,8 @@ follows_apart : (around : Around) (x : Context) (node : Node) (m : Marker) (o : 
     → (slice_index o 0 == apostrophe) ≡ false
 follows_apart around x node m o (follows_inside flow behind) =
     node_apart node (slice_index o 0) (behind_node_first around.indent node o behind)
-follows_apart around x node m o (follows_outside is behind) = white_apart (slice_index o 0) (root_first around m o behind)
+follows_apart around x node m o (follows_outside is behind) =
+    white_apart (slice_index o 0) (root_first around m o behind)
 
 follows_quotes : (around : Around) (start : Marker) (x : Context) (node : Node) (m : Marker) (o : List ℕ)
     → Follows around x node m o → around.indent ≤ m.col → EndsQuotes around start (mid_line m o) x
@@ -92,7 +93,8 @@ quotes_pass : ReaderPromises → (around : Around) (node : Node) (quote : Quote)
 quotes_pass reads around node quote value t o m now h fits follows low text =
     let end = moved m t in
     let right = quoted_right around.indent quote m value t o h fits.clear fits.right in
-    let q = quoted_passes reads around quote value t o m h fits (follows_apart around now.context node end o follows) now
+    let q = quoted_passes reads around quote value t o m h fits
+    (follows_apart around now.context node end o follows) now
     (follows_quotes around m now.context node end o follows right) text in
     record {
       tokens = scalar_token (style_of_quote quote) value ∷ [];
@@ -128,7 +130,8 @@ plains_pass {around} {p} {value} {t} {o} {m} {now} stands passes reaches fits fo
       tokens = scalar_token Plain (plain_value t) ∷ [];
       are = ap (λ (v : List ℕ). scalar_token Plain v ∷ []) (sym stands);
       comment = plain_comment around now m t o;
-      none = λ e. no_comment (not (is_block now.context)) (is_tabbed around.column o) (past_white end false o) (ap not e);
+      none = λ e. no_comment (not (is_block now.context)) (is_tabbed around.column o) (past_white end false o)
+          (ap not e);
       passes = token_node (allows_adjacent node) (λ w. refl) low.0 q q.knows.tells;
     }
 

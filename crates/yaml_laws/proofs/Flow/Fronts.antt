@@ -50,15 +50,15 @@ behind_properties_passes reads around p Is allows m t v c o h some gap fits now 
     let here = moved m (t ++ v) in
     let start = state_at around now in
     let kept = keeping now m ((t ++ v) ++ c) in
-    let q : PassesPiece around start (behind_properties now.context (keeping now m t) now.adjacent) now.context now.outer
-    now.places here (c ++ o) pp.tokens =
+    let q : PassesPiece around start (behind_properties now.context (keeping now m t) now.adjacent) now.context
+    now.outer now.places here (c ++ o) pp.tokens =
     subst (λ (e : Marker). PassesPiece around start (behind_properties now.context (keeping now m t) now.adjacent)
     now.context now.outer now.places e (c ++ o) pp.tokens) (sym (moved_append m t v))
     (separation_joins (moved m t) v (c ++ o) gap pp.passes) in
     let front = q.knows.properties in
     let place = sym (moved_append m (t ++ v) c) in
-    let r = pass here place (no_less m (t ++ v)) (fits_back m (t ++ v) c o q.right fits) (after q) refl refl q.knows.still
-    q.fits in
+    let r = pass here place (no_less m (t ++ v)) (fits_back m (t ++ v) c o q.right fits) (after q) refl refl
+    q.knows.still q.fits in
     let b = r.passes in
     let still : saved q.allowed (length (now.places ++ q.new)) here q.key ≡ q.key =
     ap (λ (z : Bool). saved z (length (now.places ++ q.new)) here q.key) front.closed in

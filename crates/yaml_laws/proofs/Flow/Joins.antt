@@ -110,8 +110,9 @@ knowing p other h =
     }
 
 -- a text, told otherwise
-pub told : {around : Around} {now : FlowMoment} {Is Js : List Kind → Type 0} {allows others : List ℕ → Bool} {m : Marker}
-    {t o : List ℕ} → ((ts : List Kind) → Is ts → Js ts) → ((w : List ℕ) → IsTrue (others w) → IsTrue (allows w))
+pub told : {around : Around} {now : FlowMoment} {Is Js : List Kind → Type 0} {allows others : List ℕ → Bool}
+    {m : Marker} {t o : List ℕ} → ((ts : List Kind) → Is ts → Js ts)
+    → ((w : List ℕ) → IsTrue (others w) → IsTrue (allows w))
     → TextPasses around now Is allows m t o → TextPasses around now Js others m t o
 told {around} {now} {others = others} {m} {t} {o} f g r =
     let n = r.passes.knows in
@@ -136,8 +137,8 @@ told {around} {now} {others = others} {m} {t} {o} f g r =
 pub token_node : {comment : Option Marker} {around : Around} {now : FlowMoment} {says : Bool → ℕ → Type 0} {m : Marker}
     {t o : List ℕ} {ts : List Kind} (allows : List ℕ → Bool) → ((w : List ℕ) → allows w ≡ false)
     → now.adjacent ≤ m.index
-    → (q : PassesNoting comment around (state_at around now) (after_token says now.context (keeping now m t)) now.context
-    now.outer now.places (moved m t) o ts) → q.adjacent ≡ now.adjacent
+    → (q : PassesNoting comment around (state_at around now) (after_token says now.context (keeping now m t))
+    now.context now.outer now.places (moved m t) o ts) → q.adjacent ≡ now.adjacent
     → PassesNoting comment around (state_at around now)
     (after_node around.indent now.context (keeping now m t) allows (moved m t) o) now.context now.outer now.places
     (moved m t) o ts

@@ -48,8 +48,8 @@ mutual
       passes_inside room (λ now flow small. scalar_passes reads around p style value m t o now
       (subst (λ (f : Bool). IsScalarNode p style value f around.indent t) (sym (ap not flow)) h))
   nodes_pass reads around room (Scalar p style value) m t o (inr (h, (r, e))) =
-      passes_inside room (λ now flow small. subst (λ (y : List ℕ). ReadsText around (Scalar p style value) m t y now) (sym e)
-      (key_node_passes reads around p style value t r m now
+      passes_inside room (λ now flow small. subst (λ (y : List ℕ). ReadsText around (Scalar p style value) m t y now)
+      (sym e) (key_node_passes reads around p style value t r m now
       (subst (λ (f : Bool). IsPlainKeyNode (Scalar p style value) f around.indent t) (sym (ap not flow)) h)))
   nodes_pass reads around room (Seq p nodes) m t o (inl h) =
       passes_inside room (λ now flow small. collection_passes reads

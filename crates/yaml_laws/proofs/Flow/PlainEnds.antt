@@ -142,7 +142,8 @@ ends_in_flow around node m o apart h right =
     ink = (ends_node_ink node h.separation h.others h.first h.ends).0
 
     lands : past around.indent m o ≡ (moved m h.separation, h.first ∷ h.others)
-    lands = ap (past around.indent m) h.is ∙ separation_past around.indent m h.separation (h.first ∷ h.others) h.parts right
+    lands = ap (past around.indent m) h.is
+        ∙ separation_past around.indent m h.separation (h.first ∷ h.others) h.parts right
         ∙ past_ink around.indent (moved m h.separation) h.first h.others ink
 
     inked : is_blank (slice_index (past around.indent m o).1 0) ≡ false
@@ -179,10 +180,12 @@ ends_at_root around m o h right =
         → ((past_white m false o).blank_so_far ≡ true) ⊎ (m.col ≤ n.col) → IsTrue (past_white m false o).blank_so_far
     broke n e left (inl k) = k
     broke n e left (inr k) =
-        absurd (low m.col n.col around.column k (subst (λ (z : Marker). z.col < around.column) (sym e) left) (in_column around m.col right))
+        absurd (low m.col n.col around.column k (subst (λ (z : Marker). z.col < around.column) (sym e) left)
+        (in_column around m.col right))
 
     stops : Reaches around.indent m o (past_white m false o).mark (past_white m false o).rest
-        → EndsDocument (past around.indent m o).0 (past around.indent m o).1 ⊎ IsLeft around.column (past around.indent m o).0 (past around.indent m o).1
+        → EndsDocument (past around.indent m o).0 (past around.indent m o).1
+        ⊎ IsLeft around.column (past around.indent m o).0 (past around.indent m o).1
         → StopsPlain false around.column (past_white m false o)
     stops (inl e) k = inl (no_word false (past_white m false o).rest e)
     stops (inr (inl e)) k = inr (inl e)

@@ -293,8 +293,8 @@ PassesPlain around now m t o =
     → is_blank (slice_index (past around.indent (moved m t) o).1 0) ≡ false
     → (is_block now.context ≡ true) ⊎ (now.adjacent < m.index) → StandsBefore around now m (t ++ o)
     → PassesNoting (plain_comment around now m t o) around (state_at around now)
-    (after_token (adjacent_at now.adjacent) now.context (keeping now m t)) now.context now.outer now.places (moved m t) o
-    (plain_token t ∷ [])
+    (after_token (adjacent_at now.adjacent) now.context (keeping now m t)) now.context now.outer now.places (moved m t)
+    o (plain_token t ∷ [])
 
 text_passes : ReaderPromises → (around : Around) (t o : List ℕ) (m : Marker) (now : FlowMoment)
     → BeginsWord (not (is_block now.context)) t o

@@ -340,8 +340,8 @@ pub record NodePasses (around : Around) (now : FlowMoment) (node : Node) (m : Ma
   pub tokens : List Kind
   pub are : grammar.YieldsNode node grammar.InFlow tokens
   pub passes : PassesPiece around (state_at around now)
-      (after_node around.indent now.context (keeping now m t) (allows_adjacent node) (moved m t) o) now.context now.outer
-      now.places (moved m t) o tokens
+      (after_node around.indent now.context (keeping now m t) (allows_adjacent node) (moved m t) o) now.context
+      now.outer now.places (moved m t) o tokens
 
 -- What comes after a node that ends at m, inside flow or at block level.
 pub data Follows (around : Around) (x : Context) (node : Node) (m : Marker) (o : List ℕ) : Type 0 where

@@ -183,7 +183,8 @@ begins_token m p o b clear =
 
 -- A step over a token that is at m: y is what is there, and after the token o is at n. A comment may have ended it.
 -- `says` tells whether a key may begin after it, and where a colon may come at once.
-pub record TokenStep (around : Around) (comment : Option Marker) (says : Bool → ℕ → Type 0) (kind : Kind) (y : List ℕ) (m n : Marker) (o : List ℕ)
+pub record TokenStep (around : Around) (comment : Option Marker) (says : Bool → ℕ → Type 0) (kind : Kind) (y : List ℕ)
+    (m n : Marker) (o : List ℕ)
     (x : Context) (ls : List Level) (ad place : ℕ) (b : Bool) (j : Option Candidate)
     (e : Bool) : Type 0 where
   pub there : Cursor
@@ -233,11 +234,13 @@ saved_since true n m k j p key h (inr g) = inr (inr ([], p, n, refl, g))
 saved_since false n m k j p key (inl h) (inr g) = inl (g ∙ h)
 saved_since false n m k j p key (inr h) (inr g) = inr (inl (g ∙ h))
 
-pub token_passes : (around : Around) (comment : Option Marker) (says : Bool → ℕ → Type 0) (kind : Kind) (p o : List ℕ) (m : Marker) → Begins p
+pub token_passes : (around : Around) (comment : Option Marker) (says : Bool → ℕ → Type 0) (kind : Kind) (p o : List ℕ)
+    (m : Marker) → Begins p
     → FitsAround around m p o → around.indent ≤ (moved m p).col → (now : FlowMoment)
     → StandsBefore around now m (p ++ o)
     → ((b : Bool) (j : Option Candidate) (e : Bool)
-    → TokenStep around comment says kind (p ++ o) m (moved m p) o now.context now.outer now.adjacent (length now.places) b j e)
+    → TokenStep around comment says kind (p ++ o) m (moved m p) o now.context now.outer now.adjacent
+    (length now.places) b j e)
     → PassesNoting comment around (state_at around now) (after_token says now.context (keeping now m p)) now.context
     now.outer now.places (moved m p) o (kind ∷ [])
 token_passes around comment says kind p o m f fits right now text steps =

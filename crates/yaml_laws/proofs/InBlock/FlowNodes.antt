@@ -237,9 +237,9 @@ behind_root limit f n end o h q is stop left =
     by_text m (c ∷ cs) stop (inr k) = inr (record { left = k; first = c; others = cs; is = refl; blank = stop.0 })
 
 -- a moment after a piece
-abbrev behind_piece : {comment : Option Marker} {around : Around} {begun : Bool → State} {known : flow.Known} {n : Marker}
-    {o : List ℕ} {ps : List Place} {us : List Kind} → flow.PassesNoting comment around begun known context.Block [] ps n
-    o us → Bool → Moment
+abbrev behind_piece : {comment : Option Marker} {around : Around} {begun : Bool → State} {known : flow.Known}
+    {n : Marker} {o : List ℕ} {ps : List Place} {us : List Kind}
+    → flow.PassesNoting comment around begun known context.Block [] ps n o us → Bool → Moment
 behind_piece {comment} c d = record {
   cursor = c.there;
   key = c.key;

@@ -188,8 +188,8 @@ reads_sequence {limit} leaves p node nodes reads more place f same m t o (column
         let r = reads_entries leaves node nodes reads more f n further k far entries o
         (subst (λ (c : ℕ). AreEntries most_open (MoreNodes node nodes) c entries o) (sym col) h)
         (fits_back m lead entries o whole)
-        (behind_wider f.indent (suc n.col) (moved n entries) o wide behind_o) start (ts ++ l.tokens) l.at l.none l.allowed
-        in
+        (behind_wider f.indent (suc n.col) (moved n entries) o wide behind_o) start (ts ++ l.tokens) l.at l.none
+        l.allowed in
         let c = ended further k (ts ++ l.tokens) r.tokens r.are r.arrived in
         record {
           tokens = l.tokens ++ c.0;
@@ -241,7 +241,8 @@ reads_mapping {limit} leaves p key value pairs K V more place f same m t o (colu
       );
       arrived = subst (λ (x : Marker). Arrived limit start f x o
           (ts ++ (l.tokens ++ (tokens.BlockMappingStart ∷ (r.tokens ++ tokens.BlockEnd ∷ []))))) (sym end)
-          (subst (Arrived limit start f (moved n entries) o) (new_list (ts ++ l.tokens) r.tokens tokens.BlockMappingStart
+          (subst (Arrived limit start f (moved n entries) o)
+          (new_list (ts ++ l.tokens) r.tokens tokens.BlockMappingStart
           ∙ append_assoc ts l.tokens (tokens.BlockMappingStart ∷ (r.tokens ++ tokens.BlockEnd ∷ [])))
           c);
     }

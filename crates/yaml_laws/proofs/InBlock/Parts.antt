@@ -86,8 +86,9 @@ ahead_of_line n z column (inr e) h =
 
 -- ## What is read
 
--- A part of a collection at the column of n was read, inside its collection's frame. E tells of its tokens, before those
--- of others. It begins with a value only where its `:` is ahead, and it may lack a value where no `:` is ahead after it.
+-- A part of a collection at the column of n was read, inside its collection's frame. E tells of its tokens, before
+-- those of others. It begins with a value only where its `:` is ahead, and it may lack a value where no `:` is ahead
+-- after it.
 pub record PartRead (limit : ℕ) (start : State) (E : List Kind → List Kind → Type 0) (g : Frame) (n : Marker)
     (t z : List ℕ) (ts : List Kind) : Type 0 where
   pub tokens : List Kind
@@ -181,7 +182,8 @@ parts_so f g r = record {
 }
 
 others_behind : {limit : ℕ} {E : List Kind → List Kind → Type 0} {opens : Bool → List Kind}
-    {Is : ℕ → List ℕ → List ℕ → Type 0} → IsPart limit E opens Is → (Others : ℕ → List ℕ → List ℕ → Type 0) (column : ℕ) (m : Marker) (t o : List ℕ)
+    {Is : ℕ → List ℕ → List ℕ → Type 0} → IsPart limit E opens Is → (Others : ℕ → List ℕ → List ℕ → Type 0)
+    (column : ℕ) (m : Marker) (t o : List ℕ)
     → AreOthers Is Others column t o → StartsLine m (t ++ o) → EndsNodeAt (suc column) m (t ++ o)
 others_behind is_part Others column m t o (front, part, others, front_is, h, k, e) starts =
     let z = others ++ o in
@@ -249,7 +251,8 @@ more_parts {limit} {opens = opens} {Is} {Others} {As} is_part more = record {
             ∙ skipped_ahead column m front (part ++ z) (indentation_skipped column front front_is)
             ∙ subst (λ (c : ℕ). is_value_ahead false c n.col (part ++ z) ≡ true) col (r.begins s.tokens first);
         arrived = subst (λ (x : Marker). Arrived limit start g x o (ts ++ (r.tokens ++ s.tokens))) (sym end)
-            (subst (Arrived limit start g (moved last others) o) (list_end ts r.tokens s.tokens (opens false) is_part.none) s.arrived);
+            (subst (Arrived limit start g (moved last others) o)
+            (list_end ts r.tokens s.tokens (opens false) is_part.none) s.arrived);
       };
 }
 
@@ -276,8 +279,8 @@ reads_parts {limit} {opens = opens} is_part more f n further e far t o (part, ot
     (v, none, allowed) in
     let r = is_part.reads f n further e far part z h (fits_front n part others o whole) behind_z start
     ts p.0 p.1 p.2 in
-    let s = more.reads g n.col (frame_indent further f n.col e far) last others o k (fits_back n part others o whole) behind_o
-    starts_z start ((ts ++ opens further) ++ r.tokens) r.arrived in
+    let s = more.reads g n.col (frame_indent further f n.col e far) last others o k (fits_back n part others o whole)
+    behind_o starts_z start ((ts ++ opens further) ++ r.tokens) r.arrived in
     record {
       tokens = r.tokens ++ s.tokens;
       are = (

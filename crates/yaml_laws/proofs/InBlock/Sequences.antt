@@ -124,8 +124,8 @@ pub reads_entries : {limit : ℕ} → ReadsLeaves limit → (node : Node) (nodes
     → f.indent ≤ n.col + 1 → (t o : List ℕ) → AreEntries most_open (MoreNodes node nodes) n.col t o
     → FitsOnLines limit n t o → EndsNodeAt (suc n.col) (moved n t) o
     → (start : State) (ts : List Kind) (v : At limit start f n (t ++ o) ts) → v.key ≡ None → v.allowed ≡ true
-    → PartsRead limit start (grammar.YieldBlockEntries (MoreNodes node nodes)) n.col (frame_behind further n.col f) n t o
-    (ts ++ sequence_start further)
+    → PartsRead limit start (grammar.YieldBlockEntries (MoreNodes node nodes)) n.col (frame_behind further n.col f) n t
+    o (ts ++ sequence_start further)
 reads_entries leaves node nodes reads more f n further e far t o (entry, others, h, k, is) fits behind start ts v none
     allowed =
     told_parts (entries_are node nodes)

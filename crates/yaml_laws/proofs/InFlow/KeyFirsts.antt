@@ -108,8 +108,8 @@ fresh_word around t o w =
     ∙ sym (plain_dispatches (requiring around d s.mark) d s n t o context.Block w
     (Some (record { mark = s.mark; place = n })) [] false ad (inl refl))
 
-fresh_content : (around : Around) (indent : ℕ) (style : Style) (value t o : List ℕ) → IsFlowScalar style value false indent t
-    → Fresh around (t ++ o)
+fresh_content : (around : Around) (indent : ℕ) (style : Style) (value t o : List ℕ)
+    → IsFlowScalar style value false indent t → Fresh around (t ++ o)
 fresh_content around indent Plain value t o h = fresh_word around t o (word_begins false indent t o h.0)
 fresh_content around indent SingleQuoted value t o h =
     fresh_so around (t ++ o) (39 ∷ (h.0 ++ o)) (ap (λ (x : List ℕ). x ++ o) h.5)
@@ -127,7 +127,8 @@ fresh_bracket around b are o d s k ad n =
 
 fresh_front : (around : Around) (indent : ℕ) (p : Properties) (front t : List ℕ) → IsBeforeContent p indent front
     → Fresh around t → Fresh around (front ++ t)
-fresh_front around indent p front t (inl (none, is)) h = fresh_so around (front ++ t) t (ap (λ (x : List ℕ). x ++ t) is) h
+fresh_front around indent p front t (inl (none, is)) h =
+    fresh_so around (front ++ t) t (ap (λ (x : List ℕ). x ++ t) is) h
 fresh_front around indent p front t (inr (written, separation, g, some, parts, is)) h =
     fresh_so around (front ++ t) (written ++ (separation ++ t))
     (ap (λ (x : List ℕ). x ++ t) is ∙ append_assoc written separation t)
@@ -135,7 +136,8 @@ fresh_front around indent p front t (inr (written, separation, g, some, parts, i
 
 scalar_fresh : (around : Around) (indent : ℕ) (p : Properties) (style : Style) (value t o : List ℕ)
     → IsScalarNode p style value false indent t → Fresh around (t ++ o)
-scalar_fresh around indent p style value t o (inl (plain, empty, h)) = fresh_properties around indent p.anchor p.tag t o h
+scalar_fresh around indent p style value t o (inl (plain, empty, h)) =
+    fresh_properties around indent p.anchor p.tag t o h
 scalar_fresh around indent p style value t o (inr (front, content, before, g, e)) =
     fresh_so around (t ++ o) (front ++ (content ++ o))
     (ap (λ (x : List ℕ). x ++ o) e ∙ append_assoc front content o)
@@ -153,7 +155,8 @@ plain_key_fresh around indent (Scalar p style value) t r (front, content, plain,
     (fresh_front around indent p front (content ++ o) before
     (fresh_word around content o (key_begins false indent content r g)))
 
-brackets_fresh : (around : Around) (indent : ℕ) (p : Properties) (b : Brackets) → AreBrackets b → (Text : ℕ → List ℕ → Type 0)
+brackets_fresh : (around : Around) (indent : ℕ) (p : Properties) (b : Brackets) → AreBrackets b
+    → (Text : ℕ → List ℕ → Type 0)
     (room : ℕ) (t o : List ℕ) → IsBracketText b Text p room indent t → Fresh around (t ++ o)
 brackets_fresh around indent p b are Text room t o (left, opening, inside, r, (front, w, before, parts, e), h, is) =
     let rest = w ++ (inside ++ (b.closing ∷ [])) in

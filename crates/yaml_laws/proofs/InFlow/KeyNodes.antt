@@ -92,7 +92,8 @@ behind_properties_along reads around start p Is k qs front t v content n r e ad 
     let more = content ++ n.text in
     let whole = in_so k e ((front ++ content) ++ n.text) (t ++ (v ++ more)) (58 ∷ r)
     (front_parts front t v content n.text is) text in
-    let line = front_on_line v more (v ++ more) refl (back_on_line t (v ++ more) (t ++ (v ++ more)) refl whole.on_line) in
+    let line = front_on_line v more (v ++ more) refl (back_on_line t (v ++ more) (t ++ (v ++ more)) refl whole.on_line)
+    in
     let same : (v ++ more) ++ (58 ∷ r) ≡ v ++ (content ++ o) =
     append_assoc v more (58 ∷ r) ∙ ap (λ (x : List ℕ). v ++ x) (append_assoc content n.text (58 ∷ r)) in
     let f = properties_along reads around start k qs p.anchor p.tag t (v ++ more) (58 ∷ r) v (content ++ o) e ad h

@@ -218,8 +218,8 @@ name_along : ReaderPromises → (around : Around) (k : Candidate) (token_of : Li
     (name : List ℕ) → ((second n : ℕ) (c : Core) → step indicator second n c ≡ property.name_steps token_of n c)
     → is_break indicator ≡ false → is_start indicator ≡ true
     → ReadsInKey around k (λ t. IsAnchorName name × (t ≡ indicator ∷ name)) (token_of (encode_utf8_all name))
-name_along reads around k token_of indicator name begins break first start qs t b behind w y e ad (h, e_is) ends_tag whole is
-    are low at =
+name_along reads around k token_of indicator name begins break first start qs t b behind w y e ad (h, e_is) ends_tag
+    whole is are low at =
     let o = b ++ behind in
     let end = moved e (indicator ∷ name) in
     let kind = token_of (encode_utf8_all name) in

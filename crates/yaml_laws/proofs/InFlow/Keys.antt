@@ -177,7 +177,8 @@ key_read reads around calm node m p n r h line apart short white right clear bel
     let ready : Ready inner (start (p ++ o)) here (p ++ o) m ad ps =
     subst (λ (t : List ℕ). Ready inner (start t) here t m ad ps) (sym front)
     (first_ready around calm d blank k ad ps m b.first (b.others ++ o) b.ink right
-    (subst (BeginsToken m) front token) (subst (Fresh around) front (text_fresh around (suc m.col) node p n.text r h))) in
+    (subst (BeginsToken m) front token) (subst (Fresh around) front (text_fresh around (suc m.col) node p n.text r h)))
+    in
     text_along reads inner refl (start (p ++ o)) node here ps p n r m ad h apart white text low ready
   where
     next : (n : ℕ) → suc n ≤ n + 1

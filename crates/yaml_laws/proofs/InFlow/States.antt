@@ -319,9 +319,11 @@ saves_key n around d s x k ls a ad (behind_key b e) =
 pub plain_placed : (around : Around) (x : Context) (a : Bool) (m : Marker) → Placed around x a m
     → (not (is_block x) && nat_lt m.col around.column) ≡ false
 plain_placed around x a m (inside e h) =
-    ap (λ (b : Bool). not (is_block x) && b) (not_left around.column m.col true (in_column around m.col h)) ∙ and_false (not (is_block x))
+    ap (λ (b : Bool). not (is_block x) && b) (not_left around.column m.col true (in_column around m.col h))
+    ∙ and_false (not (is_block x))
 plain_placed around x a m (right e h) =
-    ap (λ (b : Bool). not (is_block x) && b) (not_left around.column m.col true (in_column around m.col h)) ∙ and_false (not (is_block x))
+    ap (λ (b : Bool). not (is_block x) && b) (not_left around.column m.col true (in_column around m.col h))
+    ∙ and_false (not (is_block x))
 plain_placed around x a m (behind_key b e) = rw b refl
 
 pub opening_steps_open : (y : Context) (kind : Kind) (n : ℕ) (around : Around) (d : Bool) (s : Cursor) (x : Context)
