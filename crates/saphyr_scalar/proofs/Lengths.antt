@@ -102,17 +102,6 @@ pub run_left : (p : ℕ → Bool) (start now : List ℕ) (n c loaded : ℕ) (m t
     → u.index + length now < 2 ^ 64
 run_left p start now n c loaded m t u r same moved fits = rw (moved, same) (omega (arith, r.ran.total, fits))
 
--- a run that is taken off in one piece, where the place stays
-
-pub fetched_fits : (p : ℕ → Bool) (xs : List ℕ) (n : ℕ) (m t : Marker) → m.index + length xs < 2 ^ 64
-    → n ≡ prefix_len p xs → t ≡ m → t.index + n < 2 ^ 64
-fetched_fits p xs n m t fits is same = rw same (place_fits xs m.index n fits (within_run p xs n is))
-
-pub fetched_left : (p : ℕ → Bool) (xs now : List ℕ) (n : ℕ) (m t u : Marker) → m.index + length xs < 2 ^ 64
-    → n ≡ prefix_len p xs → now ≡ drop n xs → t ≡ m → u ≡ along t n → u.index + length now < 2 ^ 64
-fetched_left p xs now n m t u fits is left same moved =
-    place_left xs now m u n fits (within_run p xs n is) left (moved ∙ ap (λ k. along k n) same)
-
 -- words that are taken off in one piece
 
 pub words_place_fits : (p q : ℕ → Bool) (xs : List ℕ) (n : ℕ) (m t : Marker) → m.index + length xs < 2 ^ 64

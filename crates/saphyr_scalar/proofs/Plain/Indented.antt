@@ -15,7 +15,7 @@ use Rattle.saphyr_scalar.proofs.Quoted.Gaps.{by_break_len}
 use Rattle.saphyr_scalar.proofs.PassedBreaks.{behind_one}
 use Rattle.saphyr_scalar.proofs.Plain.Gaps.{no_refusal, may_stand_same}
 use Rattle.saphyr_scalar.proofs.Plain.Pieces.{not_in_word}
-use Rattle.saphyr_scalar.proofs.Plain.Spelled.{goes_begins}
+use Rattle.saphyr_scalar.proofs.Plain.Spelled.{other_answer, goes_begins}
 use Rattle.saphyr_scalar.proofs.Plain.Runs.{Ink, AreInk}
 use Rattle.saphyr_input.proofs.Basics.Booleans.{by_test, either, and_true_left}
 use Rattle.saphyr_input.proofs.Basics.Characters.{blank_cases}
@@ -215,10 +215,6 @@ line_begins i a t feeds m c cs g ends e =
     (subst (λ n. there false n) ends (subst (λ b. there b (ends_line c cs)) no_blank e))
 
 -- after a gap a word begins
-no_answer : (s t : Cursor) → (let x : Result (Bool × Cursor) Refusal = Ok (false, s) in x ≡ Ok (true, t)) → ⊥
-no_answer s t e = let pair : ◌≡◌ {A = Bool × Cursor} (false, s) (true, t) =
-    cc in absurd (false≢true (ap (λ (x : Bool × Cursor). x.0) pair))
-
 not_left : (i col : ℕ) (x y : Bool) → (x && not y && nat_lt col i) ≡ false → y ≡ false → x ≡ true → i ≤ col
 not_left i col true false h g k = ltb-false col i h
 not_left i col true true h g k = absurd (cc)
@@ -229,7 +225,7 @@ goes_right : (f : Bool) (i : ℕ) (s t : Cursor) → next_word_starts f i s ≡ 
 unfolding next_word_starts
 goes_right f i s t = by_test (s.blank_so_far && not f && nat_lt s.mark.col i) _ _
     (λ (r : Result (Bool × Cursor) Refusal). r ≡ Ok (true, t) → f ≡ false → s.blank_so_far ≡ true → i ≤ s.mark.col)
-    (λ _ e _ _. absurd (no_answer s t e))
+    (λ _ e _ _. absurd (other_answer s t e))
     (λ h _ out line. not_left i s.mark.col s.blank_so_far f h out line)
 
 pub goes_on : (f : Bool) (i : ℕ) (s t : Cursor) → next_word_starts f i s ≡ Ok (true, t) → is_in_word f s.rest ≡ true

@@ -290,7 +290,7 @@ word_closes c (d ∷ ds) h =
     record { front = c ∷ more.front; last = more.last; is = ap (λ l. c ∷ l) more.is; ink = more.ink }
 
 -- where a word begins
-other_answer : (s t : Cursor) → (let x : Result (Bool × Cursor) Refusal = Ok (false, s) in x ≡ Ok (true, t)) → ⊥
+pub other_answer : (s t : Cursor) → (let x : Result (Bool × Cursor) Refusal = Ok (false, s) in x ≡ Ok (true, t)) → ⊥
 other_answer s t e = let pair : ◌≡◌ {A = Bool × Cursor} (false, s) (true, t) =
     cc in absurd (false≢true (ap (λ (x : Bool × Cursor). x.0) pair))
 

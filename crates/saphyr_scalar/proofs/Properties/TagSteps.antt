@@ -9,11 +9,12 @@ use Rattle.saphyr_input.specs.Indicators.{exclamation_mark}
 use Rattle.saphyr_scalar.specs.declared.scalar.fault.Refusal.{Refusal}
 use Rattle.saphyr_scalar.specs.declared.scalar.fault.Stop.{Stop}
 use Rattle.saphyr_scalar.specs.declared.scalar.tag.UriSet.TheVariants.{Suffix}
-use Rattle.saphyr_scalar.specs.Views.Cursor.{Cursor, ◌>>=◌, pass}
+use Rattle.saphyr_scalar.specs.Views.Cursor.{Cursor, pass}
 use Rattle.saphyr_scalar.specs.Views.Reader.{Moves, Fails}
 use Rattle.saphyr_scalar.specs.Steps.Quoted.{TextRead, with_run}
 use Rattle.saphyr_scalar.specs.Steps.Tag.{TagRead, decoded_onto, named_tail, primary_tag, tag_behind_word, shorthand_tag}
 use Rattle.saphyr_scalar.proofs.Plain.Pieces.{moves_failed}
+use Rattle.saphyr_scalar.proofs.Properties.TagsRead.{then_primary}
 
 -- a call that is never refused stopped since memory ran out
 pub moves_unrefused : {X Y Z : Type 0} (view : X → Y) (r : Result X Stop) (f : Result Y Refusal) (z : Z) (e : Stop)
@@ -58,12 +59,9 @@ named_from s look behind word c b is on =
     test : (x : ℕ) → x ≡ 33 → (x == 33) ≡ true
     test x h = grind (arith, nat_tests)
 
-abbrev primary : Result (List ℕ × Cursor) Refusal → Result TagRead Refusal
-primary r = r >>= λ x. Ok (primary_tag x)
-
 -- none does
 primary_from : (s look : Cursor) (word : List ℕ) (c : ℕ) → BehindWord s look word c → (c ≡ exclamation_mark → ⊥)
-    → shorthand_tag s ≡ primary (decoded_onto Suffix s.mark word look)
+    → shorthand_tag s ≡ then_primary (decoded_onto Suffix s.mark word look)
 unfolding shorthand_tag tag_behind_word
 primary_from s look word c b other =
     let bang : (slice_index look.rest 0 == 33) ≡ false = test _ (λ h. other (b.read ∙ h)) in
@@ -74,7 +72,7 @@ primary_from s look word c b other =
 
 pub primary_refused : (s look : Cursor) (word : List ℕ) (c : ℕ) (r : Refusal) → BehindWord s look word c
     → (c ≡ exclamation_mark → ⊥) → decoded_onto Suffix s.mark word look ≡ Err r → shorthand_tag s ≡ Err r
-primary_refused s look word c r b other h = primary_from s look word c b other ∙ ap primary h
+primary_refused s look word c r b other h = primary_from s look word c b other ∙ ap then_primary h
 
 no_suffix : (suffix : List ℕ) (t : Cursor) → (length suffix == 0) ≡ true
     → primary_tag (suffix, t) ≡ (suffix, codes "!", t)
@@ -94,7 +92,7 @@ pub alone_read : (s look t : Cursor) (word suffix mark : List ℕ) (c : ℕ) →
     → (c ≡ exclamation_mark → ⊥) → decoded_onto Suffix s.mark word look ≡ Ok (suffix, t)
     → (length suffix == 0) ≡ true → mark ≡ codes "!" → shorthand_tag s ≡ Ok (suffix, mark, t)
 alone_read s look t word suffix mark c b other h none is =
-    primary_from s look word c b other ∙ ap primary h
+    primary_from s look word c b other ∙ ap then_primary h
     ∙ ap (λ (x : TagRead). tag_read x.0 x.1 x.2) (no_suffix suffix t none)
     ∙ ap (λ m. tag_read suffix m t) (sym is)
 
@@ -102,6 +100,6 @@ pub primary_read : (s look t : Cursor) (word suffix mark : List ℕ) (c : ℕ) �
     → (c ≡ exclamation_mark → ⊥) → decoded_onto Suffix s.mark word look ≡ Ok (suffix, t)
     → (length suffix == 0) ≡ false → mark ≡ codes "!" → shorthand_tag s ≡ Ok (mark, suffix, t)
 primary_read s look t word suffix mark c b other h some is =
-    primary_from s look word c b other ∙ ap primary h
+    primary_from s look word c b other ∙ ap then_primary h
     ∙ ap (λ (x : TagRead). tag_read x.0 x.1 x.2) (some_suffix suffix t some)
     ∙ ap (λ m. tag_read m suffix t) (sym is)
