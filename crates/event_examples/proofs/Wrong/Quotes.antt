@@ -14,54 +14,17 @@ use Rattle.saphyr_scalar.specs.Spelling.QuotedMarkers.{HasNoMarker}
 use Rattle.saphyr_scalar.specs.Spelling.Quoted.{IsText, closed, itself, broken, two_quotes, stands_for_itself}
 use Rattle.scalar_laws.proofs.Beginnings.{heads, tails}
 use Rattle.taken_laws.specs.Examples.TakenTexts.{marker_at}
+use Rattle.taken_laws.proofs.Wrong.LaterLines.{before_line}
 use Rattle.taken_laws.proofs.Wrong.Standing.{reached_behind, one_place}
 use Rattle.event_laws.specs.EventsTaken.{AreTaken}
 use Rattle.event_examples.specs.Examples.WrongAnswers as wrong
 use Rattle.event_examples.proofs.Wrong.Owned.{OwnScalar, owned}
-
-mark_is : (q : Quote) (c : ℕ) → mark q ≡ c → (c ≡ apostrophe) ⊎ (c ≡ quotation_mark)
-mark_is Single c e = inl (sym e)
-mark_is Double c e = inr (sym e)
-
-neither_quote : (q : Quote) (c : ℕ) → mark q ≡ c → (c ≡ apostrophe → ⊥) → (c ≡ quotation_mark → ⊥) → ⊥
-neither_quote q c e a b = by (mark_is q c e)
-  where
-    by : (c ≡ apostrophe) ⊎ (c ≡ quotation_mark) → ⊥
-    by (inl k) = a k
-    by (inr k) = b k
 
 -- where there is nothing, there is no text
 no_text : (q : Quote) (t : List ℕ) (items : List Item) (x : List ℕ) → IsText q t items x → t ≡ [] → ⊥
 no_text _ _ _ _ (broken q t items x h r) e =
     let k : is_break 0 ≡ true = sym (ap (λ l. is_break (slice_index l 0)) e) ∙ h in cc
 no_text _ _ _ _ _ e = cc
-
--- before a line that begins with a marker
-at_marker : (q : Quote) (t : List ℕ) (items : List Item) (x : List ℕ) (is : IsText q t items x)
-    → HasNoMarker q t items x is → t ≡ codes "\n--- b\"" → ⊥
-at_marker _ _ _ _ (closed q x h) m e =
-    neither_quote q 10 (sym (heads (mark q) 10 x (codes "--- b\"") e)) (λ k. omega (arith, k)) (λ k. omega (arith, k))
-at_marker _ _ _ _ (itself q c t items x h r) m e =
-    let same : 10 ≡ c = heads c 10 t (codes "--- b\"") e in
-    let k : stands_for_itself q 10 ≡ true = ap (stands_for_itself q) same ∙ h in
-    let none : stands_for_itself q 10 ≡ false = refl in
-    cc
-at_marker _ _ _ _ (broken q t items x h r) m e =
-    let k : is_document_indicator (codes "--- b\"") ≡ false = sym
-    (ap (λ l. is_document_indicator (drop (break_len l) l)) e) ∙ m.0 in
-    cc
-at_marker _ _ _ _ (two_quotes t items x r) m e = let z : 10 ≡ 39 = heads 39 10 _ _ e in omega (arith, z)
-at_marker _ _ _ _ _ m e = let z : 10 ≡ 92 = heads 92 10 _ _ e in omega (arith, z)
-
-before_marker : (q : Quote) (t : List ℕ) (items : List Item) (x : List ℕ) (is : IsText q t items x)
-    → HasNoMarker q t items x is → t ≡ codes "a\n--- b\"" → ⊥
-before_marker _ _ _ _ (closed q x h) m e =
-    neither_quote q 97 (sym (heads (mark q) 97 x (codes "\n--- b\"") e)) (λ k. omega (arith, k)) (λ k. omega (arith, k))
-before_marker _ _ _ _ (itself q c t items x h r) m e = at_marker q t items x r m (tails c 97 t (codes "\n--- b\"") e)
-before_marker _ _ _ _ (broken q t items x h r) m e =
-    let k : is_break 97 ≡ true = sym (ap (λ l. is_break (slice_index l 0)) e) ∙ h in cc
-before_marker _ _ _ _ (two_quotes t items x r) m e = let z : 97 ≡ 39 = heads 39 97 _ _ e in omega (arith, z)
-before_marker _ _ _ _ _ m e = let z : 97 ≡ 92 = heads 92 97 _ _ e in omega (arith, z)
 
 -- the scalar begins at one of the two quotes
 either_quote : (front inside : List ℕ) → codes "\"a\n--- b\"" ≡ front ++ quotation_mark ∷ inside
@@ -88,5 +51,8 @@ marker_in_quotes_is_not_taken keep t = by (owned keep (codes "\"a\n--- b\"") wro
         at_quote (either_quote r.0 q.0 (r.1 ∙ ap (λ l. r.0 ++ l) q.1))
       where
         at_quote : (o.is.1.0 ≡ codes "a\n--- b\"") ⊎ (o.is.1.0 ≡ []) → ⊥
-        at_quote (inl e) = before_marker Double o.is.1.0 o.is.0 o.behind.rest o.is.1.2 o.is.6 e
+        at_quote (inl e) = before_line HasNoMarker (codes "--- b\"")
+            (λ q t items x h r m f. let k : is_document_indicator (codes "--- b\"") ≡ false =
+            sym (ap (λ l. is_document_indicator (drop (break_len l) l)) f) ∙ m.0 in cc)
+            (λ q c t items x h r m. m) Double o.is.1.0 o.is.0 o.behind.rest o.is.1.2 o.is.6 e
         at_quote (inr e) = no_text Double o.is.1.0 o.is.0 o.behind.rest o.is.1.2 e

@@ -1,11 +1,12 @@
 -- No scalar is taken of which a later line is left of its collection.
 use Rattle.std.proofs.Common.{◌≡◌, ℕ, ◌<◌, true, false, List, [], ◌∷◌, ◌++◌, length, drop, refl, sym, ap, ◌∙◌, arith, subst, codes}
-use Rattle.std.specs.Prelude.{slice_index}
+use Rattle.std.specs.Prelude.{IsTrue, slice_index}
 use Rattle.saphyr_input.specs.Classes.{is_break, line_feed}
 use Rattle.saphyr_values.specs.declared.folding.Item.{Item}
 use Rattle.saphyr_values.specs.declared.flow.Quote.{Quote}
 use Rattle.saphyr_values.specs.declared.flow.Quote.TheVariants.{Single, Double}
-use Rattle.saphyr_values.specs.Flow.{mark}
+use Rattle.saphyr_values.specs.Flow.{mark, raw_item}
+use Rattle.saphyr_values.specs.declared.folding.Item.TheVariants.{Break}
 use Rattle.saphyr_scalar.specs.declared.scalar.position.Marker.{Marker}
 use Rattle.saphyr_scalar.specs.Reading.Plain.{end_of_text}
 use Rattle.saphyr_scalar.specs.Spelling.IndentedQuotes.{HasIndentedLines}
@@ -55,27 +56,34 @@ mark_is_no_letter : (q : Quote) → mark q ≡ 97 → ⊥
 mark_is_no_letter Single e = omega (arith, e)
 mark_is_no_letter Double e = omega (arith, e)
 
-at_line : (q : Quote) (t : List ℕ) (items : List Item) (x : List ℕ) (is : IsText q t items x)
-    → HasIndentedLines 2 q t items x is → t ≡ codes "\nb\"" → ⊥
-at_line _ _ _ _ (closed q x h) m e = mark_is_no_feed q (sym (heads (mark q) 10 x (codes "b\"") e))
-at_line _ _ _ _ (itself q c t items x h r) m e =
-    let same : 10 ≡ c = heads c 10 t (codes "b\"") e in
-    let k : stands_for_itself q 10 ≡ true = ap (stands_for_itself q) same ∙ h in
-    let none : stands_for_itself q 10 ≡ false = refl in
-    cc
-at_line _ _ _ _ (broken q t items x h r) m e =
-    let k : false ≡ true = sym (ap (λ l. is_quoted_line 2 (drop (break_len l) l)) e) ∙ m.0 in cc
-at_line _ _ _ _ (two_quotes t items x r) m e = let z : 10 ≡ 39 = heads 39 10 _ _ e in omega (arith, z)
-at_line _ _ _ _ _ m e = let z : 10 ≡ 92 = heads 92 10 _ _ e in omega (arith, z)
+-- What is claimed of a quoted text, and of the text after each of its characters, is wrong where a line is after a line
+-- feed. So it is wrong where they come after a letter.
+module _ (M : (q : Quote) (t : List ℕ) (items : List Item) (x : List ℕ) → IsText q t items x → Type 0) (line : List ℕ)
+    (at_break : (q : Quote) (t : List ℕ) (items : List Item) (x : List ℕ) (h : IsTrue (is_break (slice_index t 0)))
+    (r : IsText q (drop (break_len t) t) items x) → M q t (Break ∷ items) x (broken q t items x h r)
+    → t ≡ line_feed ∷ line → ⊥)
+    (behind : (q : Quote) (c : ℕ) (t : List ℕ) (items : List Item) (x : List ℕ) (h : IsTrue (stands_for_itself q c))
+    (r : IsText q t items x) → M q (c ∷ t) (raw_item c ∷ items) x (itself q c t items x h r) → M q t items x r) where
+  at_line : (q : Quote) (t : List ℕ) (items : List Item) (x : List ℕ) (is : IsText q t items x) → M q t items x is
+      → t ≡ line_feed ∷ line → ⊥
+  at_line _ _ _ _ (closed q x h) m e = mark_is_no_feed q (sym (heads (mark q) 10 x line e))
+  at_line _ _ _ _ (itself q c t items x h r) m e =
+      let k : stands_for_itself q 10 ≡ true = ap (stands_for_itself q) (heads c 10 t line e) ∙ h in
+      let none : stands_for_itself q 10 ≡ false = refl in
+      cc
+  at_line _ _ _ _ (broken q t items x h r) m e = at_break q t items x h r m e
+  at_line _ _ _ _ (two_quotes t items x r) m e = let z : 10 ≡ 39 = heads 39 10 _ _ e in omega (arith, z)
+  at_line _ _ _ _ _ m e = let z : 10 ≡ 92 = heads 92 10 _ _ e in omega (arith, z)
 
-before_line : (q : Quote) (t : List ℕ) (items : List Item) (x : List ℕ) (is : IsText q t items x)
-    → HasIndentedLines 2 q t items x is → t ≡ codes "a\nb\"" → ⊥
-before_line _ _ _ _ (closed q x h) m e = mark_is_no_letter q (sym (heads (mark q) 97 x (codes "\nb\"") e))
-before_line _ _ _ _ (itself q c t items x h r) m e = at_line q t items x r m (tails c 97 t (codes "\nb\"") e)
-before_line _ _ _ _ (broken q t items x h r) m e =
-    let k : false ≡ true = sym (ap (λ l. is_break (slice_index l 0)) e) ∙ h in cc
-before_line _ _ _ _ (two_quotes t items x r) m e = let z : 97 ≡ 39 = heads 39 97 _ _ e in omega (arith, z)
-before_line _ _ _ _ _ m e = let z : 97 ≡ 92 = heads 92 97 _ _ e in omega (arith, z)
+  pub before_line : (q : Quote) (t : List ℕ) (items : List Item) (x : List ℕ) (is : IsText q t items x)
+      → M q t items x is → t ≡ codes "a\n" ++ line → ⊥
+  before_line _ _ _ _ (closed q x h) m e = mark_is_no_letter q (sym (heads (mark q) 97 x (10 ∷ line) e))
+  before_line _ _ _ _ (itself q c t items x h r) m e =
+      at_line q t items x r (behind q c t items x h r m) (tails c 97 t (10 ∷ line) e)
+  before_line _ _ _ _ (broken q t items x h r) m e =
+      let k : false ≡ true = sym (ap (λ l. is_break (slice_index l 0)) e) ∙ h in cc
+  before_line _ _ _ _ (two_quotes t items x r) m e = let z : 97 ≡ 39 = heads 39 97 _ _ e in omega (arith, z)
+  before_line _ _ _ _ _ m e = let z : 97 ≡ 92 = heads 92 97 _ _ e in omega (arith, z)
 
 pub quoted_line_refused : AreTakenFrom (codes "- - \"a\nb\"") lines.quoted_line → ⊥
 quoted_line_refused (end, tokens, place, fin) =
@@ -85,4 +93,6 @@ quoted_line_refused (end, tokens, place, fin) =
     let rest = at_index text scalar.here 4 scalar.reached (sym start) in
     let inside : scalar.is.1.0 ≡ codes "a\nb\"" =
     tails 34 34 scalar.is.1.0 (codes "a\nb\"") (sym scalar.is.1.1 ∙ rest) in
-    before_line Double scalar.is.1.0 scalar.is.0 scalar.behind.rest scalar.is.1.2 scalar.is.7 inside
+    before_line (HasIndentedLines 2) (codes "b\"")
+    (λ q t items x h r m e. let k : false ≡ true = sym (ap (λ l. is_quoted_line 2 (drop (break_len l) l)) e) ∙ m.0 in cc)
+    (λ q c t items x h r m. m) Double scalar.is.1.0 scalar.is.0 scalar.behind.rest scalar.is.1.2 scalar.is.7 inside
