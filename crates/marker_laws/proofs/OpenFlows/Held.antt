@@ -131,8 +131,7 @@ module _ (n : ℕ) where
   directive_quiet : (d : ReadDirective) (span : Span) (k : ℕ)
       → brackets_behind (record { span = span; kind = document.directive_kind d }) k ≡ k
   directive_quiet (version major minor) span k = refl
-  directive_quiet (tag_prefix handle prefix) span k = refl
-  directive_quiet (reserved name) span k = refl
+  directive_quiet _ span k = refl
 
   directive_balanced : (s : State) → IsBalanced n s → Given (IsBalanced n) (document.state_behind_directive s)
   unfolding document.state_behind_directive document.read_directive

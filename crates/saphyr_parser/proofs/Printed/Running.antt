@@ -79,17 +79,14 @@ finishes : (d : Result (Unit {0}) DumpFault) (r : Result (Unit {0}) RunFault) (a
     (old mid new : Option (List ℕ)) → Dumps d a left old mid → Becomes d r → Keeps mid new → PrintsText r a old new
 finishes (Ok u) (Ok v) a left old mid new p e q = (p.0, Appends-kept old mid new _ p.1 q)
 finishes (Err (dump.Parse f)) (Ok v) a left old mid new p e q = absurd e
-finishes (Err dump.Write) (Ok v) a left old mid new p e q = absurd e
 finishes (Ok u) (Err (run.Parse g)) a left old mid new p e q = absurd e
 finishes (Err (dump.Parse f)) (Err (run.Parse g)) a left old mid new p e q = rw e (up_to_fault f a left old mid new p q)
-finishes (Err dump.Write) (Err (run.Parse g)) a left old mid new p e q = absurd e
 finishes d (Err run.CantWrite) a left old mid new p e q = beginning d a left old mid new p q
 finishes (Ok u) (Err run.CantRead) a left old mid new p e q = absurd e
 finishes (Err (dump.Parse f)) (Err run.CantRead) a left old mid new p e q = absurd e
-finishes (Err dump.Write) (Err run.CantRead) a left old mid new p e q = absurd e
 finishes (Ok u) (Err run.NotUtf8) a left old mid new p e q = absurd e
 finishes (Err (dump.Parse f)) (Err run.NotUtf8) a left old mid new p e q = absurd e
-finishes (Err dump.Write) (Err run.NotUtf8) a left old mid new p e q = absurd e
+finishes (Err dump.Write) _ a left old mid new p e q = absurd e
 
 pub finished : (d : Result (Unit {0}) DumpFault) (r : Result (Unit {0}) RunFault) (a : Answer)
     (old mid new : Option (List ℕ)) → DumpsText d a old mid → Becomes d r → Keeps mid new → PrintsText r a old new

@@ -1,5 +1,3 @@
-use Rattle.saphyr_parser.specs.Printed.{printed_bytes}
-use Rattle.saphyr_parser.specs.Written.{TakesSome, TakesUpTo}
 use Rattle.saphyr_parser.proofs.Printed.Escapes.{plain_written, plain_lost, escape_written, escape_lost, escapes_written, escapes_lost}
 use Rattle.saphyr_parser.proofs.Printed.Written.{takes_before_error, takes_first}
 use Rattle.saphyr_parser.proofs.printing.writing.write_escaped.Goals as goal
@@ -9,64 +7,32 @@ loop-rest-init g c = takes_first _ _
 
 pub returns-in_err-write_all : goal.returns-in_err-write_all
 returns-in_err-write_all g c =
-    let lost : TakesSome (g.W.Write.contents c.args.out.now) (g.W.Write.contents c.write_all.new.out)
-    (printed_bytes c.args.text.now) =
-    plain_lost (g.W.Write.contents c.args.out.now) (g.W.Write.contents c.loop-rest.out)
-    (g.W.Write.contents c.write_all.new.out) c.args.text.now c.loop-rest.rest.now c.split_plain.result.0.now
-    c.split_plain.result.1.now c.split_plain.ensures.text c.split_plain.ensures.plain c.loop-rest.invariant
-    c.in_err-write_all.ensures in
-    takes_before_error _ _ _ _ c.from_residual.ensures.0 lost
+    takes_before_error _ _ _ _ c.from_residual.ensures.0
+    (plain_lost _ _ _ c.args.text.now _ _ _ c.split_plain.ensures.text c.split_plain.ensures.plain c.loop-rest.invariant
+    c.in_err-write_all.ensures)
 
 pub returns-in_err-write_escape : goal.returns-in_err-write_escape
 returns-in_err-write_escape g c =
-    let written : TakesUpTo (g.W.Write.contents c.args.out.now) (g.W.Write.contents c.write_all.new.out)
-    (printed_bytes c.args.text.now) (printed_bytes c.split_plain.result.1.now) =
-    plain_written (g.W.Write.contents c.args.out.now) (g.W.Write.contents c.loop-rest.out)
-    (g.W.Write.contents c.write_all.new.out) c.args.text.now c.loop-rest.rest.now c.split_plain.result.0.now
-    c.split_plain.result.1.now c.split_plain.ensures.text c.split_plain.ensures.plain c.loop-rest.invariant
-    c.in_ok-write_all.ensures in
-    let lost : TakesSome (g.W.Write.contents c.args.out.now) (g.W.Write.contents c.write_escape.new.out)
-    (printed_bytes c.args.text.now) =
-    escape_lost (g.W.Write.contents c.args.out.now) (g.W.Write.contents c.write_all.new.out)
-    (g.W.Write.contents c.write_escape.new.out) c.args.text.now c.split_plain.result.1.now c.in-Some.behind.now
-    c.in-Some.byte.now c.in-Some.ensures.cases.0 written c.in_err-write_escape.ensures in
-    takes_before_error _ _ _ _ c.from_residual-in_err-write_escape.ensures.0 lost
+    let written = plain_written _ _ _ c.args.text.now _ _ _ c.split_plain.ensures.text c.split_plain.ensures.plain
+    c.loop-rest.invariant c.in_ok-write_all.ensures in
+    takes_before_error _ _ _ _ c.from_residual-in_err-write_escape.ensures.0
+    (escape_lost _ _ _ c.args.text.now _ _ _ c.in-Some.ensures.cases.0 written c.in_err-write_escape.ensures)
 
 pub returns-in_err-read : goal.returns-in_err-read
 returns-in_err-read g c =
-    let written : TakesUpTo (g.W.Write.contents c.args.out.now) (g.W.Write.contents c.write_all.new.out)
-    (printed_bytes c.args.text.now) (printed_bytes c.split_plain.result.1.now) =
-    plain_written (g.W.Write.contents c.args.out.now) (g.W.Write.contents c.loop-rest.out)
-    (g.W.Write.contents c.write_all.new.out) c.args.text.now c.loop-rest.rest.now c.split_plain.result.0.now
-    c.split_plain.result.1.now c.split_plain.ensures.text c.split_plain.ensures.plain c.loop-rest.invariant
-    c.in_ok-write_all.ensures in
-    let lost : TakesSome (g.W.Write.contents c.args.out.now) (g.W.Write.contents c.write_gathered.new.out)
-    (printed_bytes c.args.text.now) =
-    escapes_lost (g.W.Write.contents c.args.out.now) (g.W.Write.contents c.write_all.new.out)
-    (g.W.Write.contents c.write_gathered.new.out) c.args.text.now c.split_plain.result.1.now
-    written c.in_err-read.ensures.lost in
-    takes_before_error _ _ _ _ c.from_residual-in_err-read.ensures.0 lost
+    let written = plain_written _ _ _ c.args.text.now _ _ _ c.split_plain.ensures.text c.split_plain.ensures.plain
+    c.loop-rest.invariant c.in_ok-write_all.ensures in
+    takes_before_error _ _ _ _ c.from_residual-in_err-read.ensures.0
+    (escapes_lost _ _ _ c.args.text.now c.split_plain.result.1.now written c.in_err-read.ensures.lost)
 
 pub loop-rest-preserved-then-not-is_escaped : goal.loop-rest-preserved-then-not-is_escaped
 loop-rest-preserved-then-not-is_escaped g c =
-    let written : TakesUpTo (g.W.Write.contents c.args.out.now) (g.W.Write.contents c.write_all.new.out)
-    (printed_bytes c.args.text.now) (printed_bytes c.split_plain.result.1.now) =
-    plain_written (g.W.Write.contents c.args.out.now) (g.W.Write.contents c.loop-rest.out)
-    (g.W.Write.contents c.write_all.new.out) c.args.text.now c.loop-rest.rest.now c.split_plain.result.0.now
-    c.split_plain.result.1.now c.split_plain.ensures.text c.split_plain.ensures.plain c.loop-rest.invariant
-    c.in_ok-write_all.ensures in
-    escape_written (g.W.Write.contents c.args.out.now) (g.W.Write.contents c.write_all.new.out)
-    (g.W.Write.contents c.write_escape.new.out) c.args.text.now c.split_plain.result.1.now c.in-Some.behind.now
-    c.in-Some.byte.now c.in-Some.ensures.cases.0 written c.in_ok-write_escape.ensures
+    let written = plain_written _ _ _ c.args.text.now _ _ _ c.split_plain.ensures.text c.split_plain.ensures.plain
+    c.loop-rest.invariant c.in_ok-write_all.ensures in
+    escape_written _ _ _ c.args.text.now _ _ _ c.in-Some.ensures.cases.0 written c.in_ok-write_escape.ensures
 
 pub loop-rest-preserved : goal.loop-rest-preserved
 loop-rest-preserved g c =
-    let written : TakesUpTo (g.W.Write.contents c.args.out.now) (g.W.Write.contents c.write_all.new.out)
-    (printed_bytes c.args.text.now) (printed_bytes c.split_plain.result.1.now) =
-    plain_written (g.W.Write.contents c.args.out.now) (g.W.Write.contents c.loop-rest.out)
-    (g.W.Write.contents c.write_all.new.out) c.args.text.now c.loop-rest.rest.now c.split_plain.result.0.now
-    c.split_plain.result.1.now c.split_plain.ensures.text c.split_plain.ensures.plain c.loop-rest.invariant
-    c.in_ok-write_all.ensures in
-    escapes_written (g.W.Write.contents c.args.out.now) (g.W.Write.contents c.write_all.new.out)
-    (g.W.Write.contents c.write_gathered.new.out) c.args.text.now c.split_plain.result.1.now
-    c.in_ok-read.read written c.in_ok-read.ensures.written
+    let written = plain_written _ _ _ c.args.text.now _ _ _ c.split_plain.ensures.text c.split_plain.ensures.plain
+    c.loop-rest.invariant c.in_ok-write_all.ensures in
+    escapes_written _ _ _ c.args.text.now _ c.in_ok-read.read written c.in_ok-read.ensures.written
