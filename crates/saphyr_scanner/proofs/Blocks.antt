@@ -1,5 +1,7 @@
--- No block collection ends where the innermost does not.
-use Rattle.std.proofs.Common.{◌≡◌, ℕ, false, List, [], ◌∷◌, Option, Some, None, refl, ◌∙◌}
+-- No block collection ends where the innermost does not, and where it does the others end as before.
+use Rattle.std.proofs.Common.{◌≡◌, ℕ, true, false, List, [], ◌∷◌, Option, Some, None, Result, Ok, refl, ◌∙◌, subst, arith, nat_lt}
+use Rattle.std.proofs.lemmas.Bool.Decides.{nat_tests}
+use Rattle.saphyr_scalar.specs.declared.scalar.fault.Refusal.{Refusal}
 use Rattle.saphyr_scalar.specs.declared.scalar.position.Marker.{Marker}
 use Rattle.saphyr_scanner.specs.Steps.State.{State}
 use Rattle.saphyr_scanner.specs.Steps.Core.{Core, in_block}
@@ -10,6 +12,27 @@ pub none_ends : (column : Option ℕ) (m : Marker) (is : List ℕ) (s : State) �
     → end_blocks column m is s ≡ s
 none_ends column m [] s e = rw e refl
 none_ends column m (i ∷ is) s e = rw e refl
+
+one_less : (column : Option ℕ) (m : Marker) (is : List ℕ) (s : State) → is_right_of column s.core.indent ≡ true
+    → s.core.outer_indents ≡ is
+    → end_blocks column m (end_block m s).core.outer_indents (end_block m s) ≡ end_blocks column m is s
+one_less None m [] s right outer = rw (right, outer) refl
+one_less (Some k) m [] s right outer =
+    let none : nat_lt k 0 ≡ false = grind (arith, nat_tests) in rw (right, outer, none) refl
+one_less column m (i ∷ is) s right outer = rw (right, outer) refl
+
+-- what a call gives that leaves this
+abbrev left : State → Result State Refusal
+left s = Ok s
+
+-- the innermost block collection has ended, and the others end as before
+pub others_end : (column : Option ℕ) (m : Marker) (s t all : State) → is_right_of column s.core.indent ≡ true
+    → left (end_block m s) ≡ Ok t → end_blocks column m s.core.outer_indents s ≡ all
+    → end_blocks column m t.core.outer_indents t ≡ all
+others_end column m s t all right ended known =
+    let same : end_block m s ≡ t = cc in
+    subst (λ (u : State). end_blocks column m u.core.outer_indents u ≡ all) same
+    (one_less column m s.core.outer_indents s right refl ∙ known)
 
 -- The text stays as it is.
 outer_indent_cursor : (is : List ℕ) (c : Core) → (with_outer_indent is c).cursor ≡ c.cursor

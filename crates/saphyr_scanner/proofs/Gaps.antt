@@ -2,18 +2,19 @@
 use Rattle.std.proofs.Common.{◌≡◌, ℕ, ◌+◌, ◌≤◌, Bool, true, false, List, [], ◌∷◌, drop, get_or, slice_index, refl, sym, ap, ◌∙◌, arith, nat_eq, zero, suc, Result, Ok}
 use Rattle.std.specs.Prelude.{◌==◌, ◌||◌, nat_lt}
 use Rattle.std.specs.List.{prefix_len}
+use Rattle.std.proofs.lemmas.Bool.{eqb-true}
 use Rattle.std.proofs.lemmas.Bool.Decides.{nat_tests}
 use Rattle.saphyr_input.specs.Indicators.{number_sign}
 use Rattle.saphyr_input.specs.Classes.{is_blank, is_break, is_bom, is_yaml_non_break}
 use Rattle.saphyr_input.specs.Separation.{blank_len, found_blanks}
 use Rattle.saphyr_input.specs.declared.input.SkipTabs.TheVariants.{Yes}
 use Rattle.saphyr_scalar.specs.declared.scalar.position.Marker.{Marker}
-use Rattle.saphyr_scalar.specs.Views.Cursor.{Cursor, along, pass_comment, pass_spaces, behind_separation}
+use Rattle.saphyr_scalar.specs.Views.Cursor.{Cursor, along, pass_blanks, pass_break, pass_comment, pass_spaces, behind_separation}
 use Rattle.saphyr_scalar.specs.declared.scalar.fault.Refusal.{Refusal}
 use Rattle.saphyr_scanner.specs.Steps.Gap.{GapEnd, stop, end_of_gap, end_of_gap_in_comment, gap_at, whole_gap, is_tab_indentation, SpacesEnd, end_of_spaces, end_of_spaces_in_comment, spaces_at}
 use Rattle.saphyr_input.specs.Places.{spaces_within}
 use Rattle.saphyr_scalar.proofs.Moving.{along_none, along_more}
-use Rattle.saphyr_input.proofs.Basics.Booleans.{or_false_left, or_false_right, and_false}
+use Rattle.saphyr_input.proofs.Basics.Booleans.{either, or_false_left, or_false_right, and_false}
 
 along-along : (m : Marker) (a b : ℕ) → along (along m a) b ≡ along m (a + b)
 along-along m a b =
@@ -115,7 +116,97 @@ spaces_passed l most broke tabbed before read after all same passed known =
     (over_spaces l before.blank_so_far broke tabbed before.mark (spaces_within most before.rest) before.rest
     (omega arith) ∙ known)
 
+-- ## Breaks and tabs that are passed
+
+over_tab : (l : ℕ) (blank broke tabbed : Bool) (m : Marker) (t : List ℕ) → slice_index t 0 ≡ 9
+    → end_of_gap l (along m 1) blank broke (is_tab_indentation l m blank 9 || tabbed) (drop 1 t)
+    ≡ end_of_gap l m blank broke tabbed t
+over_tab l blank broke tabbed m [] e = absurd (cc)
+over_tab l blank broke tabbed m (c ∷ cs) e = rw e refl
+
+-- the tab that is taken off is passed
+pub tab_passed : (l : ℕ) (broke tabbed now : Bool) (before read after : Cursor) (all : Result GapEnd Refusal) (c : ℕ)
+    → c ≡ slice_index before.rest 0 → read ≡ before
+    → now ≡ (is_tab_indentation l read.mark read.blank_so_far c || tabbed) → after ≡ pass_blanks 1 read → c ≡ 9
+    → gap_at l broke tabbed before ≡ all → gap_at l broke now after ≡ all
+tab_passed l broke tabbed now before read after all c first same told passed tab known =
+    rw (passed, told, same, tab)
+    (over_tab l before.blank_so_far broke tabbed before.mark before.rest (sym first ∙ tab) ∙ known)
+
+over_break : (l : ℕ) (blank broke tabbed : Bool) (m : Marker) (t : List ℕ) → is_break (slice_index t 0) ≡ true
+    → gap_at l true false (pass_break (record { rest = t; mark = m; blank_so_far = blank }))
+    ≡ end_of_gap l m blank broke tabbed t
+over_break l blank broke tabbed m [] e = absurd (cc)
+over_break l blank broke tabbed m (c ∷ cs) e =
+    either (c == 10) (c == 13) _ e (λ f. feed c (eqb-true c 10 f)) (λ r. return c (eqb-true c 13 r))
+  where
+    feed : (d : ℕ) → d ≡ 10
+        → gap_at l true false (pass_break (record { rest = d ∷ cs; mark = m; blank_so_far = blank }))
+        ≡ end_of_gap l m blank broke tabbed (d ∷ cs)
+    feed d f = rw f refl
+
+    alone : (xs : List ℕ) (b : Bool) → (slice_index xs 0 == 10) ≡ b
+        → gap_at l true false (pass_break (record { rest = 13 ∷ xs; mark = m; blank_so_far = blank }))
+        ≡ end_of_gap l m blank broke tabbed (13 ∷ xs)
+    alone xs false n = rw n refl
+    alone [] true n = absurd (cc)
+    alone (x ∷ xs) true n = let two : m.index + 2 ≡ m.index + 1 + 1 = omega arith in rw (eqb-true x 10 n, two) refl
+
+    return : (d : ℕ) → d ≡ 13
+        → gap_at l true false (pass_break (record { rest = d ∷ cs; mark = m; blank_so_far = blank }))
+        ≡ end_of_gap l m blank broke tabbed (d ∷ cs)
+    return d r = rw r (alone cs (slice_index cs 0 == 10) refl)
+
+-- the break that is taken off is passed
+pub break_passed : (l : ℕ) (broke tabbed : Bool) (before read after : Cursor) (all : Result GapEnd Refusal) (c : ℕ)
+    → c ≡ slice_index before.rest 0 → read ≡ before → after ≡ pass_break read → is_break c ≡ true
+    → gap_at l broke tabbed before ≡ all → gap_at l true false after ≡ all
+break_passed l broke tabbed before read after all c first same passed breaks known =
+    rw (passed, same)
+    (over_break l before.blank_so_far broke tabbed before.mark before.rest (ap is_break (sym first) ∙ breaks) ∙ known)
+
 -- ## The same after `?`
+
+over_line_space : (m : Marker) (blank space : Bool) (t : List ℕ) → slice_index t 0 ≡ 32
+    → end_of_spaces (along m 1) blank true (drop 1 t) ≡ end_of_spaces m blank space t
+over_line_space m blank space [] e = absurd (cc)
+over_line_space m blank space (c ∷ cs) e = rw e refl
+
+pub line_space_passed : (space : Bool) (before read after : Cursor) (all : SpacesEnd) (c : ℕ)
+    → c ≡ slice_index before.rest 0 → read ≡ before → after ≡ pass_blanks 1 read → c ≡ 32
+    → spaces_at space before ≡ all → spaces_at true after ≡ all
+line_space_passed space before read after all c first same passed blank known =
+    rw (passed, same) (over_line_space before.mark before.blank_so_far space before.rest (sym first ∙ blank) ∙ known)
+
+over_line_break : (blank space : Bool) (m : Marker) (t : List ℕ) → is_break (slice_index t 0) ≡ true
+    → spaces_at true (pass_break (record { rest = t; mark = m; blank_so_far = blank })) ≡ end_of_spaces m blank space t
+over_line_break blank space m [] e = absurd (cc)
+over_line_break blank space m (c ∷ cs) e =
+    either (c == 10) (c == 13) _ e (λ f. feed c (eqb-true c 10 f)) (λ r. return c (eqb-true c 13 r))
+  where
+    feed : (d : ℕ) → d ≡ 10
+        → spaces_at true (pass_break (record { rest = d ∷ cs; mark = m; blank_so_far = blank }))
+        ≡ end_of_spaces m blank space (d ∷ cs)
+    feed d f = rw f refl
+
+    alone : (xs : List ℕ) (b : Bool) → (slice_index xs 0 == 10) ≡ b
+        → spaces_at true (pass_break (record { rest = 13 ∷ xs; mark = m; blank_so_far = blank }))
+        ≡ end_of_spaces m blank space (13 ∷ xs)
+    alone xs false n = rw n refl
+    alone [] true n = absurd (cc)
+    alone (x ∷ xs) true n = let two : m.index + 2 ≡ m.index + 1 + 1 = omega arith in rw (eqb-true x 10 n, two) refl
+
+    return : (d : ℕ) → d ≡ 13
+        → spaces_at true (pass_break (record { rest = d ∷ cs; mark = m; blank_so_far = blank }))
+        ≡ end_of_spaces m blank space (d ∷ cs)
+    return d r = rw r (alone cs (slice_index cs 0 == 10) refl)
+
+pub line_break_passed : (space : Bool) (before read after : Cursor) (all : SpacesEnd) (c : ℕ)
+    → c ≡ slice_index before.rest 0 → read ≡ before → after ≡ pass_break read → is_break c ≡ true
+    → spaces_at space before ≡ all → spaces_at true after ≡ all
+line_break_passed space before read after all c first same passed breaks known =
+    rw (passed, same)
+    (over_line_break before.blank_so_far space before.mark before.rest (ap is_break (sym first) ∙ breaks) ∙ known)
 
 spaces_further : (m : Marker) (blank space : Bool) (n c : ℕ) (cs : List ℕ)
     → end_of_spaces (along (along m 1) n) blank space (drop n cs)

@@ -2,13 +2,23 @@ use Rattle.std.proofs.Common.{◌≡◌, true, slice_index, sym, ap, ◌∙◌}
 use Rattle.saphyr_input.specs.Classes.{is_break}
 use Rattle.saphyr_scalar.specs.Views.Reader.{cursor_of}
 use Rattle.saphyr_scalar.proofs.Quoted.Lines.{break_on_shorter}
-use Rattle.saphyr_scanner.proofs.Gaps.{comment_passed, spaces_passed}
+use Rattle.saphyr_scanner.proofs.Gaps.{break_passed, comment_passed, spaces_passed, tab_passed}
 use Rattle.saphyr_scanner.proofs.gap.skip_gap_characters.Goals as goal
 
 pub loop-c-preserved-then-c-eq32 : goal.loop-c-preserved-then-c-eq32
 loop-c-preserved-then-c-eq32 g c =
     spaces_passed c.args.least _ c.loop-c.broke c.loop-c.tabbed _ _ _ _ c.look-c.ensures.same c.skip_spaces.ensures
     c.loop-c.invariant
+
+pub loop-c-preserved-then-c-eq9 : goal.loop-c-preserved-then-c-eq9
+loop-c-preserved-then-c-eq9 g c =
+    tab_passed c.args.least c.loop-c.broke c.loop-c.tabbed _ _ _ _ _ _ c.look-c.ensures.value c.look-c.ensures.same
+    c.stands_behind_tab-tabbed.ensures c.skip_blank.ensures c.if-c-eq9.true c.loop-c.invariant
+
+pub loop-c-preserved-then-is_break : goal.loop-c-preserved-then-is_break
+loop-c-preserved-then-is_break g c =
+    break_passed c.args.least c.loop-c.broke c.loop-c.tabbed _ _ _ _ _ c.look-c.ensures.value c.look-c.ensures.same
+    c.skip_line_break.ensures (sym c.is_break.ensures.test ∙ c.if-is_break.true) c.loop-c.invariant
 
 pub loop-c-smaller-then-is_break : goal.loop-c-smaller-then-is_break
 loop-c-smaller-then-is_break g c =
