@@ -61,11 +61,17 @@ impl<T: Input> Scanner<T> {
         ensures { Hands result self.old self.new }
     {
         let mut token = Token::at_start();
-        Ok(if self.next_token_into(&mut token)? {
-            Some(token)
-        } else {
-            None
-        })
+        match self.next_token_into(&mut token) {
+            Ok(true) => Ok(Some(token)),
+            Ok(false) => {
+                drop(token);
+                Ok(None)
+            }
+            Err(stop) => {
+                drop(token);
+                Err(stop)
+            }
+        }
     }
 
     /// The same, with a place for the token, since a token is large to move: `true` says that the next token
