@@ -3,6 +3,9 @@
 
 mod cloning;
 
+ghost use Rattle.std.specs.Prelude.{◌≡◌};
+ghost use Rattle.saphyr_scanner.specs.Views.Tokens.{kind_of, piece};
+
 use saphyr_scalar::scalar::TagParts;
 use saphyr_scalar::{Marker, ScalarStyle, Span};
 
@@ -68,5 +71,14 @@ impl Token {
             span: Span::empty(start),
             kind: TokenType::StreamStart,
         }
+    }
+
+    // Writes another token over this one.
+    #[inline(always)]
+    pub(crate) fn set(&mut self, span: Span, kind: TokenType)
+        ensures { piece self.new ≡ record { span = span; kind = kind_of kind } }
+    {
+        self.span = span;
+        self.kind = kind;
     }
 }

@@ -152,8 +152,7 @@ impl Held {
             Opening::BlockMappingAndKey => (TokenType::BlockMappingStart, Opening::Key),
             Opening::FlowMappingAndKey => (TokenType::FlowMappingStart, Opening::Key),
         };
-        token.span = Span::empty(place.start());
-        token.kind = kind;
+        token.set(Span::empty(place.start()), kind);
         self.open(0, left);
         Ok(true)
     }

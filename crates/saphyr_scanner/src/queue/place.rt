@@ -241,23 +241,19 @@ impl Place {
     {
         match self {
             Place::Bare(_, indicator, length, start) => {
-                token.span = start.span(length);
-                token.kind = indicator.kind();
+                token.set(start.span(length), indicator.kind());
             }
             Place::Text(_, what, length, start, place) => {
                 let mut text = spare.begin(alloc)?;
                 text.push_str(texts.get(place))?;
-                token.span = start.span(length);
-                token.kind = what.kind(text);
+                token.set(start.span(length), what.kind(text));
             }
             Place::Tagged(_, length, start, tag) => {
-                token.span = start.span(length);
-                token.kind = TokenType::Tag(tag);
+                token.set(start.span(length), TokenType::Tag(tag));
             }
             Place::Whole(_, whole) => {
                 let Token { span, kind } = Box::into_inner(whole);
-                token.span = span;
-                token.kind = kind;
+                token.set(span, kind);
             }
         }
         Ok(())

@@ -61,8 +61,8 @@ impl Slot {
     {
         let (kind, left) = match self.opening {
             Opening::Nothing => {
-                token.span = self.token.span;
-                token.kind = replace(&mut self.token.kind, TokenType::StreamStart);
+                let kind = replace(&mut self.token.kind, TokenType::StreamStart);
+                token.set(self.token.span, kind);
                 self.is_full = false;
                 *handed += 1;
                 return;
@@ -71,8 +71,7 @@ impl Slot {
             Opening::BlockMappingAndKey => (TokenType::BlockMappingStart, Opening::Key),
             Opening::FlowMappingAndKey => (TokenType::FlowMappingStart, Opening::Key),
         };
-        token.span = Span::empty(self.token.span.start);
-        token.kind = kind;
+        token.set(Span::empty(self.token.span.start), kind);
         self.opening = left;
     }
 
