@@ -85,14 +85,27 @@ fn tell_fault(
         (string_bytes out.new)) }
 {
     match fault {
-        Some(error) => {
-            let line = line_of_error(alloc, error.info.as_str())?;
-            let told = tell(out, name, text, error.mark, line.as_str());
-            drop(line);
-            told
-        }
+        Some(error) => tell_error(alloc, out, name, text, error.mark, error.info.as_str()),
         None => Ok(()),
     }
+}
+
+/// Tells an error with this message.
+fn tell_error(
+    alloc: Global,
+    out: &mut String,
+    name: &str,
+    text: &[char],
+    place: Marker,
+    message: &str,
+) -> Result<(), AllocError>
+    ensures { OnOk result (AddsReport name.now text.now place (error_line message.now)
+        (string_bytes out.old) (string_bytes out.new)) }
+{
+    let line = line_of_error(alloc, message)?;
+    let told = tell(out, name, text, place, line.as_str());
+    drop(line);
+    told
 }
 
 /// The message of a warning.
@@ -139,11 +152,24 @@ pub(crate) fn report_not_utf8(
     name: &str,
     front: &str,
 ) -> Result<String, AllocError> {
-    let line = line_of_error(alloc, "the text is not UTF-8 from here on")?;
     let text = characters(alloc, front)?;
     let mut out = String::new(alloc);
-    tell(&mut out, name, &text, place_behind(&text), line.as_str())?;
-    Ok(out)
+    let told = tell_error(
+        alloc,
+        &mut out,
+        name,
+        &text,
+        place_behind(&text),
+        "the text is not UTF-8 from here on",
+    );
+    drop(text);
+    match told {
+        Ok(()) => Ok(out),
+        Err(fault) => {
+            drop(out);
+            Err(fault)
+        }
+    }
 }
 
 /// The place after a text. CR LF, CR and LF are one break each.
