@@ -60,10 +60,10 @@ fn refuse(rt: &HostRuntime, text: &str) -> ExitCode
 }
 
 // Checks each file. If one is not checked, says why.
-fn check_files(rt: &HostRuntime, options: Options, files: &[String]) -> ExitCode {
+fn check_files(rt: &HostRuntime, options: Options, files: &[&str]) -> ExitCode {
     let mut answers = Vec::new(rt.alloc());
     for name in files {
-        let answer = check_file(rt, options, name.as_str());
+        let answer = check_file(rt, options, name);
         if let Err(fault) = answer {
             let _ = eprintln!(rt; "check_yaml: {name}: {fault}");
         }

@@ -1,6 +1,6 @@
 //! The words of a call.
 use crate::checking::Limits;
-use std::alloc::{AllocError, AllocFailed, Global};
+use std::alloc::Global;
 use thiserror::Error;
 
 /// What `--help` prints.
@@ -19,10 +19,11 @@ for a wrong call, or where a file can't be read or something can't be written.";
 
 /// What a call asks for.
 #[derive(Drop)]
-pub enum Call {
+pub enum Call<'a> {
     Help,
     Version,
-    Check(Options, Vec<String>),
+    /// To check these files.
+    Check(Options, Vec<&'a str>),
 }
 
 /// How files are checked.
@@ -36,30 +37,18 @@ pub struct Options {
 }
 
 /// Why a call is refused.
-#[derive(Debug, Drop, Error)]
-pub enum WrongCall {
+#[derive(Clone, Copy, Debug, Error)]
+pub enum WrongCall<'a> {
     #[error("there is no option {0}")]
-    NoSuchOption(String),
+    NoSuchOption(&'a str),
     #[error("{0} asks for a number")]
-    NoNumber(String),
+    NoNumber(&'a str),
     #[error("out of memory")]
     OutOfMemory,
 }
 
-impl From<AllocError> for WrongCall {
-    fn from(_e: AllocError) -> WrongCall {
-        WrongCall::OutOfMemory
-    }
-}
-
-impl<X: Drop> From<AllocFailed<X>> for WrongCall {
-    fn from(_e: AllocFailed<X>) -> WrongCall {
-        WrongCall::OutOfMemory
-    }
-}
-
 /// What the words after the program's name ask for. If no file is named, they ask to check standard input.
-pub fn parse_arguments(alloc: Global, words: &[String]) -> Result<Call, WrongCall> {
+pub fn parse_arguments<'a>(alloc: Global, words: &'a [String]) -> Result<Call<'a>, WrongCall<'a>> {
     let mut options = Options {
         events: false,
         quiet: false,
@@ -69,10 +58,20 @@ pub fn parse_arguments(alloc: Global, words: &[String]) -> Result<Call, WrongCal
         },
     };
     let mut files = Vec::new(alloc);
-    match take_words(alloc, words, &mut options, &mut files)? {
-        Asked::Help => Ok(Call::Help),
-        Asked::Version => Ok(Call::Version),
-        Asked::Check => Ok(Call::Check(options, files)),
+    match take_words(words, &mut options, &mut files) {
+        Ok(Asked::Check) => Ok(Call::Check(options, files)),
+        Ok(Asked::Help) => {
+            drop(files);
+            Ok(Call::Help)
+        }
+        Ok(Asked::Version) => {
+            drop(files);
+            Ok(Call::Version)
+        }
+        Err(wrong) => {
+            drop(files);
+            Err(wrong)
+        }
     }
 }
 
@@ -112,12 +111,11 @@ fn kind_of(word: &str) -> Word {
 }
 
 /// Takes the words in turn, into options and the names of files.
-fn take_words(
-    alloc: Global,
-    words: &[String],
+fn take_words<'a>(
+    words: &'a [String],
     options: &mut Options,
-    files: &mut Vec<String>,
-) -> Result<Asked, WrongCall> {
+    files: &mut Vec<&'a str>,
+) -> Result<Asked, WrongCall<'a>> {
     let mut at = 0;
     while at < words.len() {
         let word = words[at].as_str();
@@ -128,43 +126,39 @@ fn take_words(
             Word::Events => options.events = true,
             Word::Quiet => options.quiet = true,
             Word::MaxDepth => {
-                options.limits.depth = number(alloc, word, words.get(at))?;
+                let Some(most) = number(words.get(at)) else {
+                    return Err(WrongCall::NoNumber(word));
+                };
+                options.limits.depth = most;
                 at += 1;
             }
             Word::MaxNodes => {
-                options.limits.nodes = number(alloc, word, words.get(at))?;
+                let Some(most) = number(words.get(at)) else {
+                    return Err(WrongCall::NoNumber(word));
+                };
+                options.limits.nodes = most;
                 at += 1;
             }
-            Word::NoOption => return Err(no_option(alloc, word)),
-            Word::File => add_file(alloc, word, files)?,
+            Word::NoOption => return Err(WrongCall::NoSuchOption(word)),
+            Word::File => {
+                if files.push(word).is_err() {
+                    return Err(WrongCall::OutOfMemory);
+                }
+            }
         }
     }
     if files.is_empty() {
-        add_file(alloc, "-", files)?;
+        if files.push("-").is_err() {
+            return Err(WrongCall::OutOfMemory);
+        }
     }
     Ok(Asked::Check)
 }
 
-/// The fault of a word that is no option.
-fn no_option(alloc: Global, word: &str) -> WrongCall {
-    match String::from_str(alloc, word) {
-        Ok(word) => WrongCall::NoSuchOption(word),
-        Err(_) => WrongCall::OutOfMemory,
-    }
-}
-
-/// Adds the name of a file.
-fn add_file(alloc: Global, name: &str, files: &mut Vec<String>) -> Result<(), WrongCall> {
-    files.push(String::from_str(alloc, name)?)?;
-    Ok(())
-}
-
 /// The number that an option asks for.
-fn number(alloc: Global, option: &str, word: Option<&String>) -> Result<usize, WrongCall> {
-    if let Some(word) = word {
-        if let Ok(number) = word.as_str().parse::<usize>() {
-            return Ok(number);
-        }
+fn number(word: Option<&String>) -> Option<usize> {
+    match word?.as_str().parse::<usize>() {
+        Ok(number) => Some(number),
+        Err(_) => None,
     }
-    Err(WrongCall::NoNumber(String::from_str(alloc, option)?))
 }
