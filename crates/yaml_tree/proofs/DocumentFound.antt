@@ -58,13 +58,7 @@ shares before hs others (inr e) is =
     let same : StreamStart ∷ hs ≡ StreamStart ∷ others = ap (λ (es : List Happening). es ++ hs) (sym e) ∙ is in
     record { start = []; first = inl refl; own = cc }
 
--- ## A document that ended
-
-ends_once : (limits : Limits) (before : List Happening) (all left : Answer) (l : Loader)
-    (t : TakesToEnd limits before all left l) → AtMost StreamStart before → ends (before ++ happenings t.taken) ≡ 1
-ends_once limits before all left l t at =
-    let taken = ap ends t.ended ∙ ends-append t.inner (DocumentEnd ∷ []) in
-    omega (arith, ends-append before (happenings t.taken), none_ends before at, ends_none t.inner t.inside, taken)
+-- ## Counts and places
 
 one_document : (ds : List Document) (d : Document) (hs : List Happening) → ends hs ≡ 1
     → hs ≡ (StreamStart ∷ flat_map document_events ds) ++ document_events d → hs ≡ StreamStart ∷ document_events d
@@ -73,64 +67,6 @@ one_document ds d hs one is =
     let none = no_document ds (omega (arith, one, all, document_ends d)) in
     is ∙ ap (λ (es : List Document). (StreamStart ∷ flat_map document_events es) ++ document_events d) none
 
-finds : (limits : Limits) (before : List Happening) (all left : Answer) (l : Loader) (d : Document)
-    → AtMost StreamStart before → TakesToEnd limits before all left l → HoldsLast (Ok (Some d)) l.builder
-    → PassesDocument limits d all left
-finds limits before all left l d at t (nest, ds, is) =
-    let shared = shares before (happenings t.taken) (document_events d) at
-    (one_document ds d (before ++ happenings t.taken) (ends_once limits before all left l t at)
-    (sym t.loader.written ∙ is)) in record {
-      start = shared.start;
-      passed = t.taken;
-      first = shared.first;
-      own = shared.own;
-      split = t.split;
-      fault = t.fault;
-      within = own_counts limits before (happenings t.taken) at t.loader.within;
-    }
-
--- after its end only the stream is open
-stands_in_stream : (limits : Limits) (before : List Happening) (all left : Answer) (l : Loader)
-    → TakesToEnd limits before all left l → nest_of l.builder ≡ nest_in_stream
-stands_in_stream limits before all left l t =
-    let split : before ++ happenings t.taken ≡ (before ++ t.inner) ++ DocumentEnd ∷ [] =
-    ap (λ (hs : List Happening). before ++ hs) t.ended ∙ sym (append_assoc before t.inner (DocumentEnd ∷ [])) in
-    leaves_stream (before ++ t.inner) nest_before_stream (nest_of l.builder) tt
-    (ap (λ (hs : List Happening). nest_behind_all hs nest_before_stream) (sym split) ∙ t.loader.nested)
-
-two_places : InStream ≡ BehindStream → ⊥
-two_places e = absurd (cc)
-
-pub two_nests : (n : Nest) → n ≡ nest_in_stream → n ≡ nest_behind_stream → ⊥
-two_nests n e f = two_places (ap (λ (k : Nest). k.innermost) (sym e ∙ f))
-
-finds_some : (limits : Limits) (before : List Happening) (all left : Answer) (l : Loader)
-    → AtMost StreamStart before → TakesToEnd limits before all left l → HoldsLast (Ok None) l.builder → ⊥
-finds_some limits before all left l at t (inl (nest, is)) =
-    let none = ap ends (sym t.loader.written ∙ is) in
-    omega (arith, ends_once limits before all left l t at, none)
-finds_some limits before all left l at t (inr (nest, ds, is)) =
-    two_nests (nest_of l.builder) (stands_in_stream limits before all left l t) nest
-
--- ## The stream's end
-
-ends_never : (limits : Limits) (before : List Happening) (all left : Answer) (l : Loader)
-    (t : TakesRest EndNoDocument limits before all left l) → AtMost StreamStart before
-    → ends (before ++ happenings all.events) ≡ 0
-ends_never limits before all left l t at = omega (
-  arith,
-  ends-append before (happenings all.events),
-  none_ends before at,
-  ends_none (happenings all.events) t.inside,
-)
-
-finds_none : (limits : Limits) (before : List Happening) (all left : Answer) (l : Loader) (d : Document)
-    → AtMost StreamStart before → TakesRest EndNoDocument limits before all left l → HoldsLast (Ok (Some d)) l.builder → ⊥
-finds_none limits before all left l d at t (nest, ds, is) =
-    let all_ends = ap ends (sym t.loader.written ∙ is)
-    ∙ ends-append (StreamStart ∷ flat_map document_events ds) (document_events d) in
-    omega (arith, ends_never limits before all left l t at, all_ends, document_ends d)
-
 no_documents : (ds : List Document) (hs : List Happening) → ends hs ≡ 0 → hs ≡ unload ds
     → hs ≡ StreamStart ∷ StreamEnd ∷ []
 no_documents ds hs none is =
@@ -138,29 +74,84 @@ no_documents ds hs none is =
     let split = ends-append (flat_map document_events ds) (StreamEnd ∷ []) in
     is ∙ ap unload (no_document ds (omega (arith, none, all, split)))
 
-passes_none : (limits : Limits) (before : List Happening) (all left : Answer) (l : Loader)
-    (end : List Happening) → AtMost StreamStart before → TakesRest EndNoDocument limits before all left l → AtMost StreamEnd end
-    → before ++ happenings all.events ≡ StreamStart ∷ end → PassesNoDocument all left
-passes_none limits before all left l end at t last is =
-    let shared = shares before (happenings all.events) end at is in record {
-      start = shared.start;
-      end = end;
-      first = shared.first;
-      last = last;
-      events = shared.own;
-      fault = t.fault;
-      nothing = t.nothing;
-    }
+two_places : InStream ≡ BehindStream → ⊥
+two_places e = absurd (cc)
 
-passes_stream : (limits : Limits) (before : List Happening) (all left : Answer) (l : Loader)
-    → AtMost StreamStart before → TakesRest EndNoDocument limits before all left l → HoldsLast (Ok None) l.builder
-    → PassesNoDocument all left
-passes_stream limits before all left l at t (inl (nest, is)) =
-    passes_none limits before all left l [] at t (inl refl) (sym t.loader.written ∙ is)
-passes_stream limits before all left l at t (inr (nest, ds, is)) =
-    passes_none limits before all left l (StreamEnd ∷ []) at t (inr refl)
-    (no_documents ds (before ++ happenings all.events) (ends_never limits before all left l t at)
-    (sym t.loader.written ∙ is))
+pub two_nests : (n : Nest) → n ≡ nest_in_stream → n ≡ nest_behind_stream → ⊥
+two_nests n e f = two_places (ap (λ (k : Nest). k.innermost) (sym e ∙ f))
+
+module _ (limits : Limits) (before : List Happening) (at : AtMost StreamStart before) (all left : Answer)
+    (l : Loader) where
+  -- ## A document that ended
+
+  ends_once : (t : TakesToEnd limits before all left l) → ends (before ++ happenings t.taken) ≡ 1
+  ends_once t =
+      let taken = ap ends t.ended ∙ ends-append t.inner (DocumentEnd ∷ []) in
+      omega (arith, ends-append before (happenings t.taken), none_ends before at, ends_none t.inner t.inside, taken)
+
+  finds : (d : Document) → TakesToEnd limits before all left l → HoldsLast (Ok (Some d)) l.builder
+      → PassesDocument limits d all left
+  finds d t (nest, ds, is) =
+      let shared = shares before (happenings t.taken) (document_events d) at
+      (one_document ds d (before ++ happenings t.taken) (ends_once t) (sym t.loader.written ∙ is)) in record {
+        start = shared.start;
+        passed = t.taken;
+        first = shared.first;
+        own = shared.own;
+        split = t.split;
+        fault = t.fault;
+        within = own_counts limits before (happenings t.taken) at t.loader.within;
+      }
+
+  -- after its end only the stream is open
+  stands_in_stream : TakesToEnd limits before all left l → nest_of l.builder ≡ nest_in_stream
+  stands_in_stream t =
+      let split : before ++ happenings t.taken ≡ (before ++ t.inner) ++ DocumentEnd ∷ [] =
+      ap (λ (hs : List Happening). before ++ hs) t.ended ∙ sym (append_assoc before t.inner (DocumentEnd ∷ [])) in
+      leaves_stream (before ++ t.inner) nest_before_stream (nest_of l.builder) tt
+      (ap (λ (hs : List Happening). nest_behind_all hs nest_before_stream) (sym split) ∙ t.loader.nested)
+
+  finds_some : TakesToEnd limits before all left l → HoldsLast (Ok None) l.builder → ⊥
+  finds_some t (inl (nest, is)) =
+      let none = ap ends (sym t.loader.written ∙ is) in omega (arith, ends_once t, none)
+  finds_some t (inr (nest, ds, is)) = two_nests (nest_of l.builder) (stands_in_stream t) nest
+
+  -- ## The stream's end
+
+  ends_never : TakesRest EndNoDocument limits before all left l → ends (before ++ happenings all.events) ≡ 0
+  ends_never t = omega (
+    arith,
+    ends-append before (happenings all.events),
+    none_ends before at,
+    ends_none (happenings all.events) t.inside,
+  )
+
+  finds_none : (d : Document) → TakesRest EndNoDocument limits before all left l
+      → HoldsLast (Ok (Some d)) l.builder → ⊥
+  finds_none d t (nest, ds, is) =
+      let all_ends = ap ends (sym t.loader.written ∙ is)
+      ∙ ends-append (StreamStart ∷ flat_map document_events ds) (document_events d) in
+      omega (arith, ends_never t, all_ends, document_ends d)
+
+  passes_none : (end : List Happening) → TakesRest EndNoDocument limits before all left l → AtMost StreamEnd end
+      → before ++ happenings all.events ≡ StreamStart ∷ end → PassesNoDocument all left
+  passes_none end t last is =
+      let shared = shares before (happenings all.events) end at is in record {
+        start = shared.start;
+        end = end;
+        first = shared.first;
+        last = last;
+        events = shared.own;
+        fault = t.fault;
+        nothing = t.nothing;
+      }
+
+  passes_stream : TakesRest EndNoDocument limits before all left l → HoldsLast (Ok None) l.builder
+      → PassesNoDocument all left
+  passes_stream t (inl (nest, is)) = passes_none [] t (inl refl) (sym t.loader.written ∙ is)
+  passes_stream t (inr (nest, ds, is)) =
+      passes_none (StreamEnd ∷ []) t (inr refl)
+      (no_documents ds (before ++ happenings all.events) (ends_never t) (sym t.loader.written ∙ is))
 
 -- ## Events that don't nest
 
@@ -188,13 +179,13 @@ not_nested before (h ∷ hs) f is none w =
 pub loads_last : (limits : Limits) (before : List Happening) (b : Bool) (all left : Answer) (l : Loader)
     (r : Result (Option Document) TreeFault) → AtMost StreamStart before → GoesOnBehind before all
     → TakesPart limits before (Ok b) all left l → HoldsLast r l.builder → LoadsDocument limits r all left
-loads_last limits before true all left l (Ok (Some d)) at on t h = finds limits before all left l d at t h
-loads_last limits before true all left l (Ok None) at on t h = absurd (finds_some limits before all left l at t h)
+loads_last limits before true all left l (Ok (Some d)) at on t h = finds limits before at all left l d t h
+loads_last limits before true all left l (Ok None) at on t h = absurd (finds_some limits before at all left l t h)
 loads_last limits before true all left l (Err fault.NotFresh) at on t h =
-    absurd (h.0 (stands_in_stream limits before all left l t))
+    absurd (h.0 (stands_in_stream limits before at all left l t))
 loads_last limits before false all left l (Ok (Some d)) at on t h =
-    absurd (finds_none limits before all left l d at t h)
-loads_last limits before false all left l (Ok None) at on t h = passes_stream limits before all left l at t h
+    absurd (finds_none limits before at all left l d t h)
+loads_last limits before false all left l (Ok None) at on t h = passes_stream limits before at all left l t h
 loads_last limits before false all left l (Err fault.NotFresh) at on t h =
     inr (on.0, not_whole before (happenings all.events) all.fault _ on.1 t.fault t.loader.nested h.0 h.1)
 loads_last limits before b all left l (Err _) at on t h = absurd h
@@ -316,10 +307,10 @@ pub leaves_last : (limits : Limits) (before : List Happening) (b : Bool) (old ne
     → LeavesPart (Ok b) old new → LeavesBehindLook r old new
 leaves_last limits before true old new l (Ok (Some d)) at on t h k = k
 leaves_last limits before true old new l (Ok None) at on t h k =
-    absurd (finds_some limits before (to_come old) (to_come new) l at t h)
+    absurd (finds_some limits before at (to_come old) (to_come new) l t h)
 leaves_last limits before true old new l (Err fault.NotFresh) at on t h k = inr (on.0, k)
 leaves_last limits before false old new l (Ok (Some d)) at on t h k =
-    absurd (finds_none limits before (to_come old) (to_come new) l d at t h)
+    absurd (finds_none limits before at (to_come old) (to_come new) l d t h)
 leaves_last limits before false old new l (Ok None) at on t h k = k
 leaves_last limits before false old new l (Err fault.NotFresh) at on t h k =
     inr (on.0, record { handed = (to_come old).events; over = k.0 })

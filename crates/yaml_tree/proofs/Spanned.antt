@@ -3,7 +3,7 @@ use Rattle.std.proofs.Common.{◌≡◌, Bool, List, [], ◌∷◌, ◌++◌, re
 use Rattle.std.specs.List.{flat_map}
 use Rattle.std.proofs.lemmas.List.{map-append}
 use Rattle.saphyr_scalar.specs.declared.scalar.position.Span.{Span}
-use Rattle.saphyr_parser.specs.Events.{Happening, Nothing, StreamStart, StreamEnd, DocumentStart, DocumentEnd, Alias, Scalar, SequenceStart, SequenceEnd, MappingStart, MappingEnd}
+use Rattle.saphyr_parser.specs.Events.{Happening, Nothing, StreamStart, StreamEnd, DocumentStart, DocumentEnd}
 use Rattle.saphyr_parser.specs.Nesting.{happenings}
 use Rattle.yaml_tree.specs.declared.document.Document.{Document}
 use Rattle.yaml_tree.specs.Unloading.{node_events, document_events, unload}
