@@ -1,18 +1,17 @@
 -- A quoted scalar that goes on over a document marker is not taken.
 use Rattle.std.proofs.Common.{◌≡◌, ◌⊎◌, ℕ, Bool, true, false, List, [], ◌∷◌, ◌++◌, drop, slice_index, refl, sym, ap, ◌∙◌, arith, inl, inr, codes}
-use Rattle.saphyr_input.specs.Indicators.{apostrophe, quotation_mark}
+use Rattle.saphyr_input.specs.Indicators.{quotation_mark}
 use Rattle.saphyr_input.specs.Classes.{is_break}
 use Rattle.saphyr_input.specs.Places.{is_document_indicator}
 use Rattle.saphyr_values.specs.declared.folding.Item.{Item}
 use Rattle.saphyr_values.specs.declared.flow.Quote.{Quote}
-use Rattle.saphyr_values.specs.declared.flow.Quote.TheVariants.{Single, Double}
+use Rattle.saphyr_values.specs.declared.flow.Quote.TheVariants.{Double}
 use Rattle.saphyr_scalar.specs.declared.scalar.style.ScalarStyle.TheVariants.{DoubleQuoted}
 use Rattle.saphyr_scalar.specs.Views.Cursor.{start_cursor}
-use Rattle.saphyr_values.specs.Flow.{mark}
 use Rattle.saphyr_scalar.specs.Steps.Quoted.{break_len}
 use Rattle.saphyr_scalar.specs.Spelling.QuotedMarkers.{HasNoMarker}
-use Rattle.saphyr_scalar.specs.Spelling.Quoted.{IsText, closed, itself, broken, two_quotes, stands_for_itself}
-use Rattle.scalar_laws.proofs.Beginnings.{heads, tails}
+use Rattle.saphyr_scalar.specs.Spelling.Quoted.{IsText, broken}
+use Rattle.scalar_laws.proofs.Beginnings.{tails}
 use Rattle.taken_laws.specs.Examples.TakenTexts.{marker_at}
 use Rattle.taken_laws.proofs.Wrong.LaterLines.{before_line}
 use Rattle.taken_laws.proofs.Wrong.Standing.{reached_behind, one_place}

@@ -12,7 +12,7 @@ use Rattle.saphyr_scalar.specs.Reading.Plain.{end_of_text}
 use Rattle.saphyr_scalar.specs.Spelling.IndentedQuotes.{HasIndentedLines}
 use Rattle.saphyr_scalar.specs.Spelling.LaterLines.{AreLaterLines, IsPlainLine, is_quoted_line}
 use Rattle.saphyr_scalar.specs.Spelling.LineBreaks.{break_len, ends_line}
-use Rattle.saphyr_scalar.specs.Spelling.Quoted.{IsText, closed, itself, broken, two_quotes, escaped, numbered, escaped_break, stands_for_itself}
+use Rattle.saphyr_scalar.specs.Spelling.Quoted.{IsText, closed, itself, broken, two_quotes, stands_for_itself}
 use Rattle.saphyr_scalar.proofs.Plain.Runs.{passed_index}
 use Rattle.scalar_laws.proofs.Beginnings.{heads, tails}
 use Rattle.saphyr_scanner.specs.TokensTaken.{AreTakenFrom}
