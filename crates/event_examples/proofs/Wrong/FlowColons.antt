@@ -131,8 +131,10 @@ property_no_scalar _ h = tt
 
 mapping_no_scalars : (span : Span) (own others : List Piece) → IsOf (MappingStart 0 None) span own others
     → AreNoScalars own
-mapping_no_scalars span own others (inl c, spans) = each_content IsNoScalar property_no_scalar tokens.FlowMappingStart own tt c
-mapping_no_scalars span own others (inr (inl c), spans) = each_content IsNoScalar property_no_scalar tokens.BlockMappingStart own tt c
+mapping_no_scalars span own others (inl c, spans) =
+    each_content IsNoScalar property_no_scalar tokens.FlowMappingStart own tt c
+mapping_no_scalars span own others (inr (inl c), spans) =
+    each_content IsNoScalar property_no_scalar tokens.BlockMappingStart own tt c
 mapping_no_scalars span own others (inr (inr (mark, e, is)), spans) =
     subst AreNoScalars (sym is) (subst IsNoScalar (sym e) tt, tt)
 

@@ -183,5 +183,6 @@ tag_before_comment_is_not_taken keep t =
             → AreTokens (open_all st.skipped o) own st.start st.end → ⊥
         by_tokens own (inl (content, spans)) h =
             refused own (each_content IsWord property_word (tokens.Scalar style.Plain []) own tt content) h spans
-        by_tokens own (inr (inl (_, _, are, spans))) h = refused own (each_property IsWord property_word own are) h spans
+        by_tokens own (inr (inl (_, _, are, spans))) h =
+            refused own (each_property IsWord property_word own are) h spans
         by_tokens own (inr (inr (_, _, _, none, _))) h = cc

@@ -278,7 +278,8 @@ pub steps_alike : (w : Beside) → ((r q : Remaining) → w.Over Ends r q → �
     → TellsAlike w (event_step_at s m) (event_step_at r n)
 steps_alike w never s r m n e on keeps near = by (steps_beside w s r m n e on keeps near)
   where
-    by : TellsAlike w (event_step_at s m) (event_step_at r n) ⊎ (IsBetweenDocuments s × PassedAll w m n (event_step_at s))
+    by : TellsAlike w (event_step_at s m) (event_step_at r n)
+        ⊎ (IsBetweenDocuments s × PassedAll w m n (event_step_at s))
         → TellsAlike w (event_step_at s m) (event_step_at r n)
     by (inl h) = h
     by (inr (i, p)) = absurd (never _ _ p.2.tokens)

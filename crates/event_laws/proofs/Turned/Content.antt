@@ -129,7 +129,8 @@ module _ (p : forest.Properties) (q : NodeProperties) (front : List Piece) (r : 
           }) else Err
           (record { text = fault.NodeContentExpected; mark = t.span.start }))
       by true y = leaf_goes [] Plain [] (record { start = q.start; end = q.behind }) (place_of c) (t ∷ ts)
-          (inr (has_one p.anchor p.tag e q h.has y, refl, refl, refl)) (whole (front ++ []) _ _ (alone_is front q h.shape))
+          (inr (has_one p.anchor p.tag e q h.has y, refl, refl, refl))
+          (whole (front ++ []) _ _ (alone_is front q h.shape))
       by false y = tt
 
   -- A collection begins with a token, and goes up to another, with the tokens of `A` between them.

@@ -31,7 +31,8 @@ use Rattle.event_laws.proofs.Turned.Entries.{Turns, TurnsBehind, TurnsAt, by_tok
 
 pub block_node_turned : Turns (λ _. Then (IsNodeOf InBlock)) block_node
 unfolding block_node
-block_node_turned = by_token (λ _. Then (IsNodeOf InBlock)) (λ k. node Block) (λ k sp ts r x s ss e w a. node_turned Block r x s ss e tt a (piece_of k sp) ts w)
+block_node_turned = by_token (λ _. Then (IsNodeOf InBlock)) (λ k. node Block)
+    (λ k sp ts r x s ss e w a. node_turned Block r x s ss e tt a (piece_of k sp) ts w)
 
 left_out : (k : Kind) → TurnsBehind (λ _. Then (IsOptionalOf InBlock)) k no_content
 left_out k sp ts r x s ss e w a = skip_optional InBlock (record { span = sp; kind = k }) sp ts r x s ss e a

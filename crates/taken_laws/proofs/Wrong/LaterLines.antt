@@ -94,5 +94,6 @@ quoted_line_refused (end, tokens, place, fin) =
     let inside : scalar.is.1.0 ≡ codes "a\nb\"" =
     tails 34 34 scalar.is.1.0 (codes "a\nb\"") (sym scalar.is.1.1 ∙ rest) in
     before_line (HasIndentedLines 2) (codes "b\"")
-    (λ q t items x h r m e. let k : false ≡ true = sym (ap (λ l. is_quoted_line 2 (drop (break_len l) l)) e) ∙ m.0 in cc)
+    (λ q t items x h r m e.
+    let k : false ≡ true = sym (ap (λ l. is_quoted_line 2 (drop (break_len l) l)) e) ∙ m.0 in cc)
     (λ q c t items x h r m. m) Double scalar.is.1.0 scalar.is.0 scalar.behind.rest scalar.is.1.2 scalar.is.7 inside
