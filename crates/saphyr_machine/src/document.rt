@@ -130,23 +130,22 @@ impl<T: Input> Machine<T> {
     #[tactic(auto, using(crate::proofs::Names::given_names))]
     fn tag_directive(
         &mut self,
-        handle: String,
-        prefix: String,
+        tag: &TagPrefix,
         place: Marker,
         declared: &mut Declared,
     ) -> Result<(), Stop>
         ensures { Moves {Y = spec.Declared × machine.Machine}
             (λ _. (seen declared.new self.new.prefixes, machine_of self.new)) result
-            (spec.with_handle (string_bytes handle) (string_bytes prefix) place
+            (spec.with_handle (string_bytes tag.now.handle) (string_bytes tag.now.prefix) place
             (seen declared.old self.old.prefixes) (machine_of self.old)) }
     {
-        if declared.has(handle.as_str(), &self.prefixes) {
+        if declared.has(tag.handle.as_str(), &self.prefixes) {
             return Err(refuse(FaultText::DuplicateTagDirective, place));
         }
         if declared.apart {
-            declared.handles.insert(handle.clone()?)?;
+            declared.handles.insert(tag.handle.clone()?)?;
         }
-        self.prefixes.declare(handle, prefix)
+        self.prefixes.declare(tag)
     }
 
     // What a directive declares. Reserved directives are ignored.
@@ -163,8 +162,10 @@ impl<T: Input> Machine<T> {
                 declared.add_version(span.start)
             }
             TokenType::TagDirective(tag) => {
-                let TagPrefix { handle, prefix } = Box::into_inner(tag);
-                self.tag_directive(handle, prefix, span.start, declared)
+                let tag = Box::into_inner(tag);
+                let told = self.tag_directive(&tag, span.start, declared);
+                drop(tag);
+                told
             }
             kind => {
                 drop(kind);

@@ -144,7 +144,7 @@ impl<'input> Event<'input> {
     fn clear(&mut self)
         ensures { self.new ≡ Nothing }
     {
-        *self = Event::Nothing;
+        drop(replace(self, Event::Nothing));
     }
 
     // Writes an event into this place, whose text was taken out before. For speed it only checks for a tag.

@@ -16,6 +16,7 @@ use saphyr_scalar::{FaultText, Marker, Refusal, ScalarStyle, Span, Stop};
 use saphyr_scanner::{Scanner, Token};
 use std::alloc::Global;
 use std::borrow::CowStr;
+use std::mem::forget;
 
 /// What turns tokens into events.
 ///
@@ -102,32 +103,22 @@ impl<T: Input> Machine<T> {
         self.token.take()
     }
 
-    // Takes the next token, and writes it into `token`.
-    #[inline(always)]
-    fn take_into(&mut self, token: &mut Token) -> Result<(), Stop>
-        ensures taken { Moves (λ _. (piece token.new, machine_of self.new)) result
-            (spec.taken_token (machine_of self.old)) }
-        ensures room { IfOk result (λ _. self.new.token ≡ None) }
-    {
-        if let Some(next) = self.take_back() {
-            *token = next;
-            return Ok(());
-        }
-        if self.scanner.next_token_into(token)? {
-            return Ok(());
-        }
-        Err(refuse(FaultText::DocumentStartExpected, Marker::new(0, 0, 0)))
-    }
-
     // Takes the next token.
     #[inline(always)]
     pub(super) fn take(&mut self) -> Result<Token, Stop>
         ensures taken { TakesBy spec.taken_token self.old result self.new }
         ensures room { IfOk result (λ t. self.new.token ≡ None) }
     {
+        if let Some(token) = self.take_back() {
+            return Ok(token);
+        }
         let mut token = Token::at_start();
-        match self.take_into(&mut token) {
-            Ok(()) => Ok(token),
+        match self.scanner.next_token_into(&mut token) {
+            Ok(true) => Ok(token),
+            Ok(false) => {
+                drop(token);
+                Err(refuse(FaultText::DocumentStartExpected, Marker::new(0, 0, 0)))
+            }
             Err(stop) => {
                 drop(token);
                 Err(stop)
@@ -141,7 +132,8 @@ impl<T: Input> Machine<T> {
         requires { self.old.token ≡ None }
         ensures { machine_of self.new ≡ spec.put_back (piece token) (machine_of self.old) }
     {
-        self.token = Some(token);
+        // There was none, so nothing is left behind.
+        forget(self.token.replace(token));
     }
 
     // Goes back to what is expected after the node that has ended.

@@ -4,6 +4,7 @@ ghost use Rattle.std.specs.Prelude.{◌≡◌, [], Ok, string_bytes, option_map}
 ghost use Rattle.saphyr_machine.specs.Steps.Machine as spec;
 
 use saphyr_scalar::Stop;
+use saphyr_scanner::TagPrefix;
 use std::alloc::{AllocError, Global};
 use std::collections::BTreeMap;
 use std::marker::Model;
@@ -58,12 +59,14 @@ impl Prefixes {
 
     #[tactic(auto, using(crate::proofs::Names::texts_given))]
     /// Declares the prefix for the handle. It replaces an earlier one.
-    pub fn declare(&mut self, handle: String, prefix: String) -> Result<(), Stop>
+    pub fn declare(&mut self, tag: &TagPrefix) -> Result<(), Stop>
         ensures { Moves (λ _. self.new) result
-            (Ok (spec.with_meaning (string_bytes handle) (string_bytes prefix) self.old)) }
+            (Ok (spec.with_meaning (string_bytes tag.now.handle) (string_bytes tag.now.prefix)
+            self.old)) }
     {
         // Copies are kept: the texts that were read have more room than they need, and a text may declare a million of
         // them.
+        let TagPrefix { handle, prefix } = tag;
         self.declared.insert(handle.clone()?, prefix.clone()?)?;
         Ok(())
     }

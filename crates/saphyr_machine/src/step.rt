@@ -31,7 +31,7 @@ impl<T: Input> Machine<T> {
     fn fail(&self, stop: Stop, fault: &mut Fault)
         ensures { IsFaultOf stop fault.new }
     {
-        *fault = Fault::new(self.alloc, stop);
+        drop(replace(fault, Fault::new(self.alloc, stop)));
     }
 
     // Gives back the text of the event that is overwritten, so the next one uses its memory.

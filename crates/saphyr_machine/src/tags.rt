@@ -41,6 +41,7 @@ impl<T: Input> Machine<T> {
         ensures { Moves string_bytes result (spec.undeclared_prefix (string_bytes handle) place) }
     {
         if handle.as_str() == "!!" {
+            drop(handle);
             return Ok(String::from_str(self.alloc, "tag:yaml.org,2002:")?);
         }
         if is_named(handle.as_str()) {
