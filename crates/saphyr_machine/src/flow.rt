@@ -75,16 +75,16 @@ impl<T: Input> Machine<T> {
         match token.kind {
             TokenType::Value | TokenType::FlowEntry | TokenType::FlowSequenceEnd => {
                 let span = token.span;
-                self.left_out(token, State::FlowSequenceEntryMappingValue, span, next)
+                self.left_out(token, State::FlowSequenceEntryMappingValue, span, next);
+                Ok(())
             }
             _ => self.inside(
                 State::FlowSequenceEntryMappingValue,
                 NodeContext::Flow,
                 token,
                 next,
-            )?,
+            ),
         }
-        Ok(())
     }
 
     // The value of a pair of a flow sequence.
@@ -99,7 +99,7 @@ impl<T: Input> Machine<T> {
         match token.kind {
             TokenType::Value => {
                 let _ = place_of(token);
-                self.flow_sequence_entry_mapping_node(next)?
+                self.flow_sequence_entry_mapping_node(next)
             }
             _ => {
                 let span = token.span;
@@ -108,10 +108,10 @@ impl<T: Input> Machine<T> {
                     State::FlowSequenceEntryMappingEnd(span.end),
                     span,
                     next,
-                )
+                );
+                Ok(())
             }
         }
-        Ok(())
     }
 
     // The node after the colon of a pair of a flow sequence. The pair's end has its place after the node's
@@ -127,12 +127,12 @@ impl<T: Input> Machine<T> {
         let span = token.span;
         let state = State::FlowSequenceEntryMappingEnd(span.end);
         match token.kind {
-            TokenType::FlowEntry | TokenType::FlowSequenceEnd => self.left_out(
-                token, state, span, next,
-            ),
-            _ => self.inside(state, NodeContext::Flow, token, next)?,
+            TokenType::FlowEntry | TokenType::FlowSequenceEnd => {
+                self.left_out(token, state, span, next);
+                Ok(())
+            }
+            _ => self.inside(state, NodeContext::Flow, token, next),
         }
-        Ok(())
     }
 
     // The end of a pair of a flow sequence.
