@@ -183,7 +183,7 @@ fn write_unless_quiet<W: Write>(out: &mut W, told: &str, options: Options) -> Re
 }
 
 /// Writes all bytes, however few the writer takes at a time.
-#[tactic(auto, using(saphyr_parser::proofs::Printed::Written::takes_first, saphyr_parser::proofs::Printed::Written::takes_next, saphyr_parser::proofs::Printed::Written::takes_all, crate::proofs::Judging::takes_none_more))]
+#[tactic(auto, using(saphyr_parser::proofs::Printed::Written::takes_all, crate::proofs::Judging::takes_none_more))]
 fn write_bytes<W: Write>(out: &mut W, bytes: &[u8]) -> Result<(), CheckFault>
     ensures { WritesTold result bytes.now (W.contents out.old) (W.contents out.new) }
 {

@@ -1,0 +1,31 @@
+-- What was told of the events so far and is told of those to come stays the same.
+use Rattle.std.proofs.Common.{◌≡◌, ◌∙◌, List, ◌++◌, Result, Ok, Some, sym, ap, subst, append_assoc}
+use Rattle.saphyr_parser.specs.Types.Event.{Event}
+use Rattle.saphyr_parser.specs.Types.Fault.{Fault}
+use Rattle.saphyr_parser.specs.Words.Span.{Span}
+use Rattle.saphyr_parser.specs.Answer.{Answer, with_first_event}
+use Rattle.saphyr_parser.specs.Cursor.{HandsOutNext, event_of}
+use Rattle.yaml_check.specs.declared.finding.Finding.{Finding}
+use Rattle.yaml_check.specs.Warned.{Seen, seen_behind, warnings_at, warnings_on}
+use Rattle.yaml_check.proofs.checking.Checker.take_all.Goals as goal
+
+first_of : (r : Result (Event × Span) Fault) (e : Event × Span) (old new : Answer) → r ≡ Ok e
+    → HandsOutNext (Some r) old new → old ≡ with_first_event (event_of e) new
+first_of r e old new is handed =
+    subst (λ (q : Result (Event × Span) Fault). HandsOutNext (Some q) old new) is handed
+
+keeps_told : (e : Event × Span) (old new : Answer) (before after all : List Finding) (s t : Seen)
+    → old ≡ with_first_event (event_of e) new → before ++ warnings_on old.events s ≡ all
+    → t ≡ seen_behind (event_of e).0 e.1.start s → after ≡ before ++ warnings_at (event_of e).0 e.1.start s
+    → after ++ warnings_on new.events t ≡ all
+keeps_told e old new before after all s t first told behind more =
+    rw (more, behind) (append_assoc before _ _ ∙ (ap (λ a. before ++ warnings_on a.events s) (sym first) ∙ told))
+
+pub loop-item-preserved : goal.loop-item-preserved
+loop-item-preserved g c =
+    let first = first_of _ _ _ _ c.in_ok-event.was c.in-Some.ensures.steps.0 in
+    record {
+      fault = ap (λ a. a.fault) (sym first) ∙ c.loop-item.invariant.fault;
+      warned = keeps_told _ _ _ _ _ _ _ _ first c.loop-item.invariant.warned c.in_ok-taken.ensures.behind
+          c.in_ok-taken.ensures.told;
+    }
