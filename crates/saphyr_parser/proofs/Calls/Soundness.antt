@@ -11,10 +11,10 @@ use Rattle.saphyr_machine.specs.Events.{Happening, StreamEnd}
 use Rattle.saphyr_machine.specs.Steps.Machine.{Machine}
 use Rattle.saphyr_machine.specs.Answer as answer
 use Rattle.saphyr_machine.specs.Answer.{Answer, Ending, empty_answer, remaining_answer}
-use Rattle.saphyr_machine.specs.Cursor.{EventCursor, Kept, Refuses, event_of, finished_behind}
+use Rattle.saphyr_machine.specs.Cursor.{EventCursor, IsUnmoved, Kept, Refuses, Remembers, event_of, finished_behind}
 use Rattle.saphyr_machine.specs.Calls.{Advances, AdvancesOver, EndsTheStream, Ends, FailsWith, GivesNext, HasFinished, IsShown, IsSound, LeavesEnd, Looks, Peeks, ReadsAhead, given_fault}
 use Rattle.saphyr_machine.proofs.Unroll.{over}
-use Rattle.saphyr_machine.proofs.Calls.Handing.{goes_on}
+use Rattle.saphyr_machine.proofs.Calls.Handing.{goes_on, remembers}
 use Rattle.saphyr_machine.proofs.Calls.Looking.{looks_stays, shows_head}
 use Rattle.event_laws.proofs.Placeless.{closes}
 
@@ -124,6 +124,22 @@ pub sound_gives : (r : Option (Result (Event × Span) Fault)) (old new : EventCu
 sound_gives None old new (done, same) s = subst IsSound (sym same) s
 sound_gives (Some (Ok e)) old new h s = sound_advances (event_of e) old new h s
 sound_gives (Some (Err f)) old new h s = sound_fails f old new h s
+
+failing_unmoved : (c : Option (Happening × Span)) (k : Option Kept) (m : Machine) (i : Bool) (s : Option Span)
+    (f : Fault) (new : EventCursor) → FailsWith f (cursor_of_parts c k m i s) new → IsUnmoved (cursor_of_parts c k m i s) new
+failing_unmoved (Some next) k m i s f new h = absurd h
+failing_unmoved None (Some kept) m i s f new (fresh, same, left) =
+    (ap (λ (c : EventCursor). c.inside) left, ap (λ (c : EventCursor). c.finished) left)
+failing_unmoved None None m i s f new (refuses, left) =
+    (ap (λ (c : EventCursor). c.inside) left, ap (λ (c : EventCursor). c.finished) left)
+
+pub gives_remembers : (r : Option (Result (Event × Span) Fault)) (old new : EventCursor) → GivesNext r old new
+    → Remembers r old new
+gives_remembers None old new (done, same) =
+    (ap (λ (c : EventCursor). c.inside) same, ap (λ (c : EventCursor). c.finished) same)
+gives_remembers (Some (Ok e)) old new h = remembers (event_of e) old new h
+gives_remembers (Some (Err f)) old new h =
+    failing_unmoved old.current old.kept old.machine old.inside old.finished f new h
 
 -- ## After a look
 

@@ -1,9 +1,9 @@
-use Rattle.std.proofs.Common.{◌≡◌, Some, None, subst}
+use Rattle.std.proofs.Common.{◌≡◌, Some, None, false, subst}
 use Rattle.saphyr_scalar.specs.declared.scalar.position.Span.{Span}
 use Rattle.saphyr_machine.specs.Events.{StreamEnd}
 use Rattle.saphyr_machine.specs.Cursor.{EventCursor}
 use Rattle.saphyr_machine.specs.Views.Readers.{cursor}
-use Rattle.saphyr_machine.specs.Loading.{SendsOne}
+use Rattle.saphyr_machine.specs.Loading.{Loads, SendsOne, portion_to_send}
 use Rattle.saphyr_parser.proofs.Calls.Loaded.{sound_loads}
 use Rattle.saphyr_parser.proofs.Calls.Soundness.{ends_stream}
 use Rattle.saphyr_parser.proofs.cursor.Parser.load.Goals as goal
@@ -25,3 +25,11 @@ invariant_of-self g c =
 
 pub returns-clause-over : goal.returns-clause-over
 returns-clause-over g c = ends_stream (cursor c.load.new.self) (invariant_of-self g c)
+
+pub returns-clause-between : goal.returns-clause-between
+returns-clause-between g c =
+    let P : EventCursor → Type 0 =
+    λ (s : EventCursor). s.kept ≡ None → s.finished ≡ None → s.inside ≡ false → Loads
+    g.R.SpannedEventReceiver.receives c.load.result (portion_to_send c.args.multi s) s c.args.recv.now
+    c.load.new.recv (cursor c.load.new.self) in
+    subst P c.self.view_is c.load.ensures.between

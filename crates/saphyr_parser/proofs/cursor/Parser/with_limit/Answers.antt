@@ -1,4 +1,5 @@
-use Rattle.std.proofs.Common.{ap, ◌∙◌, arith, List, ℕ, subst}
+use Rattle.std.proofs.Common.{ap, ◌≡◌, ◌∙◌, arith, List, ℕ, subst}
+use Rattle.saphyr_scanner.specs.Steps.Remaining.{scan}
 use Rattle.saphyr_machine.specs.Cursor.{at_start}
 use Rattle.saphyr_machine.specs.Views.Readers.{cursor}
 use Rattle.event_laws.specs.Promises.{KeepsSpans, ReadsClosedYaml, ReadsJson, ReadsYaml, TakesEvents}
@@ -40,3 +41,8 @@ returns-clause-closed g c = λ few.
     (λ marker forest text others yaml ends apart short. c.hands_out_markers.ensures _ marker forest text others
     yaml ends apart short (omega (arith, few))) _ _
     (c.new-2.ensures ∙ ap at_start c.new.ensures.tokens))
+
+pub returns-clause-decided : goal.returns-clause-decided
+returns-clause-decided g c =
+    subst (λ (cs : List ℕ). cursor c.new-2.result ≡ at_start (scan c.args.limit cs)) c.counted-src.ensures.same
+    (c.new-2.ensures ∙ ap at_start c.new.ensures.tokens)

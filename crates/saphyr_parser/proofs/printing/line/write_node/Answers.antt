@@ -1,4 +1,4 @@
-use Rattle.std.proofs.Common.{refl, ap, Option, Some}
+use Rattle.std.proofs.Common.{refl, ap, Option}
 use Rattle.std.specs.Prelude.{option_map}
 use Rattle.saphyr_machine.specs.Views.Events.{resolved_tag}
 use Rattle.saphyr_parser.specs.Types.Tag.{Tag}
