@@ -1,6 +1,8 @@
--- A key is looked up pair after pair.
-use Rattle.std.proofs.Common.{◌≡◌, ℕ, ◌+◌, ◌<◌, Bool, true, false, cond, List, ◌∷◌, length, get_or, drop, Some, sym, ap, ◌∙◌}
+-- A key is looked up pair after pair, and an id is compared with that of an anchor.
+use Rattle.std.proofs.Common.{◌≡◌, ◌↔◌, ◌==◌, ℕ, ◌+◌, ◌<◌, Bool, true, false, IsTrue, cond, List, ◌∷◌, length, get_or, drop, Option, Some, sym, ap, ◌∙◌}
+use Rattle.std.proofs.lemmas.Bool.{eqb-true, eq-eqb}
 use Rattle.std.proofs.lemmas.List.{at_drop_more}
+use Rattle.std.proofs.lemmas.Option.{same_Some}
 use Rattle.yaml_tree.specs.declared.node.Node.{Node}
 use Rattle.yaml_tree.specs.Accessing.{first_value, is_this_text, text_of_node}
 
@@ -20,3 +22,8 @@ pub finds_later : (key : List ℕ) (pairs : List (Node × Node)) (i : ℕ) (pair
     → pair ≡ get_or pairs i pair → false ≡ is_this_text key (text_of_node pair.0)
     → first_value key (drop i pairs) ≡ first_value key (drop (i + 1) pairs)
 finds_later key pairs i pair h is test = at_pair key pairs i pair false h is test
+
+-- an id is a node's anchor where they are equal
+pub tests_anchor : (a : Option ℕ) (own id : ℕ) → Some own ≡ a → IsTrue (own == id) ↔ a ≡ Some id
+tests_anchor a own id e =
+    (λ t. sym e ∙ ap Some (eqb-true own id t), λ h. eq-eqb own id (same_Some own id (e ∙ h)))
