@@ -1,5 +1,6 @@
 pub mod Places
 pub mod Queues
+pub mod Given
 pub mod Turns
 pub mod Unroll
 pub mod Filling

@@ -2,4 +2,5 @@
 pub mod Tokens
 pub mod Places
 pub mod Queue
+pub mod Stepping
 pub mod Engine

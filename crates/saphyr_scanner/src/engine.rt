@@ -14,7 +14,7 @@ mod property;
 mod scalar;
 mod value;
 
-ghost use Rattle.std.specs.Prelude.{◌≡◌, ◌<◌, ◌≤◌, ◌^◌, length, string_bytes, Ok, OnOk};
+ghost use Rattle.std.specs.Prelude.{◌≡◌, ◌+◌, ◌<◌, ◌≤◌, ◌^◌, length, string_bytes, Ok, OnOk};
 ghost use Rattle.saphyr_scanner.specs.Grammar.Tokens as tokens;
 ghost use Rattle.saphyr_scanner.specs.Steps.Core as spec;
 ghost use Rattle.saphyr_scanner.specs.Steps.Passing as passing;
@@ -105,6 +105,46 @@ impl<T: Input> Engine<T> {
             stop: Stop::OutOfMemory,
             alloc,
         }
+    }
+
+    /// The same state, before the characters of another input.
+    pub(crate) fn over<U: Input>(self, input: U) -> Engine<U>
+    where
+        T: Drop,
+        requires { (state self).core.cursor.mark.index + length (U.rest input) < 2 ^ 64 }
+        ensures { state result ≡ spec_state.with_rest (U.rest input) (state self) }
+    {
+        Engine {
+            reader: self.reader.over(input),
+            queue: self.queue,
+            level: self.level,
+            outer: self.outer,
+            required: self.required,
+            key_allowed: self.key_allowed,
+            adjacent: self.adjacent,
+            indent: self.indent,
+            deeper: self.deeper,
+            outer_indents: self.outer_indents,
+            comment: self.comment,
+            started: self.started,
+            ended: self.ended,
+            stop: self.stop,
+            alloc: self.alloc,
+        }
+    }
+
+    /// The input, from the place that is reached.
+    pub(crate) fn input(&self) -> &T
+        ensures { T.rest result.now ≡ (state self.now).core.cursor.rest }
+    {
+        self.reader.input()
+    }
+
+    /// How many characters are before the place that is reached.
+    pub(crate) fn index(&self) -> usize
+        ensures { result ≡ (state self.now).core.cursor.mark.index }
+    {
+        self.reader.mark().index
     }
 
     // Whether no flow collection is open.

@@ -6,7 +6,9 @@ mod gap;
 pub mod law;
 mod queue;
 mod scanner;
+mod stepping;
 mod token;
 
 pub use scanner::Scanner;
+pub use stepping::StepScanner;
 pub use token::{TagPrefix, Token, TokenType};

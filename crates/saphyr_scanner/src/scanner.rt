@@ -1,8 +1,8 @@
 //! The scanner as its callers see it. It reads as far into the text as the next token needs.
 
-ghost use Rattle.std.specs.Prelude.{◌≡◌, length};
+ghost use Rattle.std.specs.Prelude.{◌≡◌, IfOk, length};
 ghost use Rattle.saphyr_scanner.specs.Steps.Remaining.{scan};
-ghost use Rattle.saphyr_scanner.specs.Views.Tokens.{Hands, handed_token};
+ghost use Rattle.saphyr_scanner.specs.Views.Tokens.{GivesLast, Hands, handed_token, piece};
 ghost use Rattle.saphyr_scanner.specs.SpansInOrder.{AreInOrder};
 ghost use Rattle.saphyr_scanner.specs.TokensTaken.{AreTakenFrom};
 
@@ -84,6 +84,14 @@ impl<T: Input> Scanner<T> {
         takes_characters_off();
         self.engine.fill(self.limit)?;
         self.engine.take_into(token)
+    }
+
+    /// Puts a token after all that come, where all tokens of the text were read. So a scanner of an empty text, once its
+    /// two tokens were handed out, is a queue of tokens. `false`: there are others, and the token is dropped.
+    pub fn give(&mut self, token: Token) -> Result<bool, AllocError>
+        ensures { IfOk result (λ given. GivesLast given (piece token) self.old self.new) }
+    {
+        self.engine.give(token)
     }
 
     /// Takes a text that is no longer needed. The next one may use its memory.

@@ -42,6 +42,14 @@ impl<'a> StrInput<'a> {
         }
     }
 
+    /// The characters that remain, as a text.
+    #[inline]
+    pub fn as_str(&self) -> &'a str
+        ensures { chars result.now ≡ ⟦<StrInput<'a> as Input>⟧.rest self.now }
+    {
+        self.rest
+    }
+
     // Moves the first `count` characters to the end of `out`, in one piece. `rest` is what follows them.
     #[inline]
     fn fetch(&mut self, count: usize, rest: &'a str, out: &mut String) -> Result<usize, AllocError>

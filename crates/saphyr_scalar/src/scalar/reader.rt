@@ -57,6 +57,22 @@ impl<T: Input> Reader<T> {
         }
     }
 
+    /// The same place, before the characters of another input.
+    pub fn over<U: Input>(self, mut input: U) -> Reader<U>
+    where
+        T: Drop,
+        requires { (cursor_of self).mark.index + length (U.rest input) < 2 ^ 64 }
+        ensures { cursor_of result ≡ record (cursor_of self) { rest = U.rest input } }
+    {
+        input.lookahead(1);
+        Reader {
+            input,
+            mark: self.mark,
+            blank_so_far: self.blank_so_far,
+            spare: self.spare,
+        }
+    }
+
     /// The input, for its tests of what comes next.
     #[inline]
     pub fn input(&self) -> &T

@@ -116,6 +116,10 @@ is_ready s = not (in_block s.core && is_too_far s.core.level.key s.core.cursor.m
 abbrev pub without_far_key : State → Result State Refusal
 without_far_key s = on_core (drop_far_key s.core) s.queue
 
+-- the scanner with one token more, and without a candidate that is too far
+abbrev pub state_behind_token : ℕ → State → Result State Refusal
+state_behind_token limit s = fetch_within limit s >>= without_far_key
+
 abbrev pub fill_by : (State → Result State Refusal) → State → Result State Refusal
 fill_by go s = if needs_token s then go s else Ok s
 

@@ -80,3 +80,19 @@ take_from (p ∷ ps) q = take_of p.opening p ps q
 
 abbrev pub take : Queue → Option Piece × Queue
 take q = take_from q.places q
+
+-- ## The tokens of places
+
+-- the tokens of a place
+abbrev pub place_pieces : Opening → Piece → List Piece
+place_pieces opening.Nothing t = t ∷ []
+place_pieces opening.Key t = empty_piece t.span.start tokens.Key ∷ t ∷ []
+place_pieces opening.BlockMappingAndKey t =
+    empty_piece t.span.start tokens.BlockMappingStart ∷ empty_piece t.span.start tokens.Key ∷ t ∷ []
+place_pieces opening.FlowMappingAndKey t =
+    empty_piece t.span.start tokens.FlowMappingStart ∷ empty_piece t.span.start tokens.Key ∷ t ∷ []
+
+-- the tokens of places, in order
+abbrev pub flat : List Place → List Piece
+flat [] = []
+flat (p ∷ ps) = place_pieces p.opening p.piece ++ flat ps

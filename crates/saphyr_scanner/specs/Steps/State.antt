@@ -17,6 +17,10 @@ start text = record { core = core.core_at_start text; queue = queue.empty }
 abbrev pub with_core : Core → State → State
 with_core c s = record { core = c; queue = s.queue }
 
+-- the same scanner, with these characters to come
+abbrev pub with_rest : List ℕ → State → State
+with_rest r s = with_core (record s.core { cursor = record s.core.cursor { rest = r } }) s
+
 abbrev pub with_action : Action → State → State
 with_action a s = record { core = s.core; queue = act a s.queue }
 

@@ -1,5 +1,5 @@
 -- What contracts see of tokens, and the tokens that a scanner still has to give.
-use Rattle.std.specs.Prelude.{◌≡◌, Bool, true, false, List, [], ◌∷◌, Option, Some, None, Result, Ok, Err, string_bytes}
+use Rattle.std.specs.Prelude.{◌≡◌, Bool, true, false, List, [], ◌∷◌, ◌++◌, Option, Some, None, Result, Ok, Err, string_bytes}
 use Rattle.saphyr_scalar.specs.declared.scalar.position.Span.{Span}
 use Rattle.saphyr_scalar.specs.declared.scalar.fault.Refusal.{Refusal}
 use Rattle.saphyr_scalar.specs.declared.scalar.fault.Stop.{Stop}
@@ -56,6 +56,15 @@ refusal_alone e = record { pieces = []; refusal = Some e }
 
 abbrev pub before : Piece → Remaining → Remaining
 before t r = record { pieces = t ∷ r.pieces; refusal = r.refusal }
+
+-- one more token, before the refusal
+abbrev pub with_last : Piece → Remaining → Remaining
+with_last t r = record { pieces = r.pieces ++ t ∷ []; refusal = r.refusal }
+
+-- The token is put after all that come, or, where the answer is `false`, it is dropped.
+abbrev pub GivesLast : Bool → Piece → Remaining → Remaining → Type 0
+GivesLast true t old new = new ≡ with_last t old
+GivesLast false t old new = new ≡ old
 
 -- the token in a place, if one was written there
 abbrev pub written_token : Bool → Token → Option Token

@@ -1,7 +1,7 @@
 //! Which token comes next, by its first characters (YAML 1.2.2, 5.3), and how many tokens are read before the first
 //! of them is handed out.
 
-ghost use Rattle.std.specs.Prelude.{◌≡◌, ◌<◌, ◌==◌, false, Ok, OnOk, length, slice_index, option_map};
+ghost use Rattle.std.specs.Prelude.{◌≡◌, ◌<◌, ◌==◌, ℕ, true, false, IfOk, IsTrue, Ok, OnOk, length, slice_index, option_map};
 ghost use Rattle.saphyr_input.specs.Indicators.{
   colon,
   comma,
@@ -14,6 +14,7 @@ ghost use Rattle.saphyr_input.specs.Indicators.{
 };
 ghost use Rattle.saphyr_scanner.specs.Steps.Fetch as fetch;
 ghost use Rattle.saphyr_scanner.specs.Steps.Queue as spec_queue;
+ghost use Rattle.saphyr_scanner.specs.Steps.Remaining.{remaining};
 ghost use Rattle.saphyr_scanner.specs.Steps.Scalar as scalar;
 
 use crate::engine::{Context, Engine};
@@ -29,7 +30,7 @@ use std::alloc::AllocError;
 impl<T: Input> Engine<T> {
     ghost use Rattle.saphyr_scalar.specs.Views.Reader.{Moves};
     ghost use Rattle.saphyr_scanner.specs.Views.Engine.{state, MovesBy, ActsBy, answer_of};
-    ghost use Rattle.saphyr_scanner.specs.Views.Tokens.{piece, written_token};
+    ghost use Rattle.saphyr_scanner.specs.Views.Tokens.{GivesLast, piece, written_token};
 
     // Goes on to where the next token begins.
     #[tactic(auto, unfolding(crate::specs::Steps::Fetch::arrive))]
@@ -221,9 +222,9 @@ impl<T: Input> Engine<T> {
         false
     }
 
-    // Whether the next token must be read.
+    /// Whether the next token must be read.
     #[inline(always)]
-    fn needs_token(&self) -> bool
+    pub(crate) fn needs_token(&self) -> bool
         ensures { result ≡ fetch.needs_token (state self.now) }
     {
         !self.ended && (self.queue.is_empty() || self.is_held())
@@ -238,6 +239,16 @@ impl<T: Input> Engine<T> {
         if self.reader.mark().index > limit {
             return Err(self.refuse_here(FaultText::TextTooLong));
         }
+        Ok(())
+    }
+
+    /// Puts the next token into the queue, and drops a candidate that is too far. To be called where the next token
+    /// must be read.
+    pub(crate) fn read_token(&mut self, limit: usize) -> Result<(), Stop>
+        ensures { MovesBy (fetch.state_behind_token limit) self.old result self.new }
+    {
+        self.fetch_within(limit)?;
+        self.drop_far_key()?;
         Ok(())
     }
 
@@ -299,6 +310,28 @@ impl<T: Input> Engine<T> {
     {
         self.queue
             .take_into(self.alloc, token, &mut self.reader.spare)
+    }
+
+    // Whether all tokens of the text were read, and none is held.
+    fn is_over(&self) -> bool
+        ensures { IsTrue result → ((state self.now).core.ended ≡ true)
+            × (fetch.is_ready (state self.now) ≡ true) }
+    {
+        self.ended && self.is_ready()
+    }
+
+    /// Puts a token after all that come, where all tokens of the text were read. `false`: there are others, and the token
+    /// is dropped.
+    pub(crate) fn give(&mut self, token: Token) -> Result<bool, AllocError>
+        ensures { (limit : ℕ) → IfOk result (λ given. GivesLast given (piece token)
+            (remaining limit (state self.old)) (remaining limit (state self.new))) }
+    {
+        if !self.is_over() {
+            drop(token);
+            return Ok(false);
+        }
+        self.queue.put(self.alloc, token, &mut self.reader.spare)?;
+        Ok(true)
     }
 
     /// Keeps the memory of a text that is no longer needed for the next one.
