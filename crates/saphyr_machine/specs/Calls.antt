@@ -13,7 +13,8 @@ use Rattle.saphyr_machine.specs.Events as events
 use Rattle.saphyr_machine.specs.Events.{Happening}
 use Rattle.saphyr_machine.specs.Faults.{is_own}
 use Rattle.saphyr_machine.specs.Views.Machines.{happening}
-use Rattle.saphyr_machine.specs.Steps.Machine.{Machine, told_event}
+use Rattle.saphyr_scanner.specs.Views.Tokens.{Piece}
+use Rattle.saphyr_machine.specs.Steps.Machine.{Machine, told_event, with_last_token}
 use Rattle.saphyr_machine.specs.Steps.Expected.{event_step}
 use Rattle.saphyr_machine.specs.Answer.{Answer, Ending, Refused, OutOfMemory, fault_alone, empty_answer, remaining_answer}
 use Rattle.saphyr_machine.specs.Cursor.{EventCursor, Kept, IsUnmoved, Refuses, Shows, Stays, count, ending_of_fault, event_of, keeping_tags, with_event_handed, to_come}
@@ -37,6 +38,13 @@ Reads (Some (Err f)) old new = Refuses f (remaining_answer old)
 abbrev pub Ends : Ending → Answer → Type 0
 Ends (Refused mark text) a = a ≡ fault_alone (Refused mark text)
 Ends OutOfMemory a = 0 < count a
+
+-- ## Tokens that are given
+
+-- The token is put after all that are still to be read, or, where the answer is `false`, it is dropped.
+abbrev pub IsGivenLast : Bool → Piece → EventCursor → EventCursor → Type 0
+IsGivenLast true t old new = new ≡ record old { machine = with_last_token t old.machine }
+IsGivenLast false t old new = new ≡ old
 
 -- ## Events that are handed out
 

@@ -65,6 +65,7 @@ impl<T: CloneInput> Machine<T> {
             Ok(scanner) => Ok(Machine {
                 scanner,
                 token,
+                end: self.end,
                 state: self.state,
                 states,
                 anchors,

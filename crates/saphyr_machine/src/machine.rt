@@ -28,6 +28,8 @@ pub struct Machine<T: Input> {
     pub(super) scanner: Scanner<T>,
     // A token that was taken and put back. It comes before those of the scanner.
     pub(super) token: Option<Token>,
+    // What ends the tokens of the scanner, where its caller says so.
+    pub(super) end: Option<Refusal>,
     // What is expected next.
     pub(super) state: State,
     // What is expected after each node that is open, the innermost last. For example after `[a, {`: the document's end,
@@ -79,6 +81,7 @@ impl<T: Input> Machine<T> {
         Machine {
             scanner,
             token: None,
+            end: None,
             state: State::StreamStart,
             states: Vec::new(alloc),
             anchors: Anchors::new(alloc),
@@ -117,7 +120,10 @@ impl<T: Input> Machine<T> {
             Ok(true) => Ok(token),
             Ok(false) => {
                 drop(token);
-                Err(refuse(FaultText::DocumentStartExpected, Marker::new(0, 0, 0)))
+                match self.end {
+                    Some(refusal) => Err(Stop::Refused(refusal)),
+                    None => Err(refuse(FaultText::DocumentStartExpected, Marker::new(0, 0, 0))),
+                }
             }
             Err(stop) => {
                 drop(token);

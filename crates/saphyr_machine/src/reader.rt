@@ -1,17 +1,22 @@
 //! A machine with at most one event read ahead, so that an event can be shown before it is handed out.
 
-ghost use Rattle.std.specs.Prelude.{◌≡◌, None, Some, true, false, IfNone};
+ghost use Rattle.std.specs.Prelude.{◌≡◌, None, Some, true, false, IfNone, IfOk};
+ghost use Rattle.saphyr_scanner.specs.Views.Tokens.{piece};
+ghost use Rattle.saphyr_machine.specs.Answer.{OutOfMemory};
 ghost use Rattle.saphyr_machine.specs.Faults.{is_own};
+ghost use Rattle.saphyr_machine.specs.Steps.Documents as documents;
+ghost use Rattle.saphyr_machine.specs.Steps.Machine as steps;
 
 use crate::event::Event;
 use crate::fault::Fault;
 use crate::kept::Kept;
 use crate::machine::Machine;
 use crate::progress::Progress;
+use crate::state::State;
 use saphyr_input::input::Input;
-use saphyr_scalar::{Marker, Span};
-use saphyr_scanner::Scanner;
-use std::alloc::Global;
+use saphyr_scalar::{Marker, Refusal, Span};
+use saphyr_scanner::{Scanner, Token};
+use std::alloc::{AllocError, Global};
 use std::mem::replace;
 
 /// A place for an event.
@@ -51,6 +56,53 @@ impl<'input, T: Input> EventReader<'input, T> {
             inside: false,
             finished: None,
         }
+    }
+
+    /// Puts a token after all that are still to be read, where the scanner has read its text. `false`: it has not, and
+    /// the token is dropped.
+    #[tactic(auto, using(crate::proofs::Given::given_last))]
+    pub fn give(&mut self, token: Token) -> Result<bool, AllocError>
+        ensures given { IfOk result (λ given. calls.IsGivenLast given (piece token) (cursor self.old)
+            (cursor self.new)) }
+        ensures others { cursor self.new
+            ≡ record (cursor self.old) { machine = (cursor self.new).machine } }
+    {
+        Ok(self.machine.scanner.give(token)?)
+    }
+
+    /// Sets the refusal after all tokens that are still to be read, unless one ends these.
+    #[tactic(auto, using(crate::proofs::Given::given_end))]
+    pub fn end_with(&mut self, refusal: Refusal)
+        ensures { (cursor self.old).machine.tokens.refusal ≡ None
+            → cursor self.new ≡ record (cursor self.old)
+            { machine = steps.ended_with refusal (cursor self.old).machine } }
+    {
+        self.machine.end = Some(refusal);
+    }
+
+    /// Keeps the lack of memory as a fault that was handed out.
+    pub fn run_out_of_memory(&mut self)
+        ensures { cursor self.new ≡ record (cursor self.old)
+            { kept = Some (record { fault = OutOfMemory; given = true }) } }
+    {
+        self.keep(Fault::OutOfMemory, true);
+    }
+
+    /// Whether no document is open, so that the next event is a document's start or the stream's end.
+    pub fn is_outside(&self) -> bool
+        ensures { result ≡ documents.is_outside (cursor self.now).machine.state }
+    {
+        matches!(
+            self.machine.state,
+            State::ImplicitDocumentStart | State::DocumentStart
+        )
+    }
+
+    /// Whether the end of the stream was read, so that no token is read any more.
+    pub fn is_over(&self) -> bool
+        ensures { result ≡ documents.is_over (cursor self.now).machine.state }
+    {
+        matches!(self.machine.state, State::End)
     }
 
     /// Sets whether prefixes of tags hold for later documents too. The setting takes effect from the next end of a

@@ -7,6 +7,7 @@ use Rattle.saphyr_scanner.specs.Grammar.Tokens as tokens
 use Rattle.saphyr_scanner.specs.Grammar.Tokens.{Kind}
 use Rattle.saphyr_scanner.specs.Views.Tokens.{Piece}
 use Rattle.saphyr_machine.specs.declared.context.NodeContext.TheVariants.{Block}
+use Rattle.saphyr_machine.specs.declared.state.State.{State}
 use Rattle.saphyr_machine.specs.declared.state.State.TheVariants as state
 use Rattle.saphyr_machine.specs.Events as events
 use Rattle.saphyr_machine.specs.Steps.Machine.{◌>>=◌, Machine, Told, told_event, refusal_at, ending_refusal, taken_token, with_pieces, put_back, pop, with_state, push, without_ids, with_meaning, is_listed, with_name}
@@ -82,6 +83,17 @@ unfoldable pub directives : Declared → Machine → Result (Piece × Machine) R
 directives d m = directives_from m.tokens.pieces d m
 
 -- ## The beginning of the stream and of documents
+
+-- whether no document is open, so that one may start or the stream may end
+abbrev pub is_outside : State → Bool
+is_outside state.ImplicitDocumentStart = true
+is_outside state.DocumentStart = true
+is_outside _ = false
+
+-- whether the stream is over, so that no token is read any more
+abbrev pub is_over : State → Bool
+is_over state.End = true
+is_over _ = false
 
 abbrev pub stream_start_at : Kind → Piece → Machine → Result Told Refusal
 stream_start_at tokens.StreamStart t m = told_event events.StreamStart t.span (with_state state.ImplicitDocumentStart m)

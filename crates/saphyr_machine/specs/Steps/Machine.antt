@@ -10,7 +10,7 @@ use Rattle.saphyr_scalar.specs.declared.scalar.position.Span.{Span}
 use Rattle.saphyr_scalar.specs.declared.scalar.fault.Refusal.{Refusal}
 use Rattle.saphyr_scalar.specs.declared.scalar.fault.FaultText.{FaultText}
 use Rattle.saphyr_scalar.specs.declared.scalar.fault.FaultText.TheVariants as fault
-use Rattle.saphyr_scanner.specs.Views.Tokens.{Piece, Remaining, before}
+use Rattle.saphyr_scanner.specs.Views.Tokens.{Piece, Remaining, before, with_last}
 use Rattle.saphyr_machine.specs.declared.state.State.{State}
 use Rattle.saphyr_machine.specs.declared.state.State.TheVariants as state
 use Rattle.saphyr_machine.specs.Events.{Happening, empty_scalar}
@@ -102,6 +102,14 @@ taken_token m = taken_token_from m.tokens.pieces m
 -- a token that is still to be read
 abbrev pub put_back : Piece → Machine → Machine
 put_back t m = record m { tokens = before t m.tokens }
+
+-- one more token, after those that are still to be read
+abbrev pub with_last_token : Piece → Machine → Machine
+with_last_token t m = record m { tokens = with_last t m.tokens }
+
+-- this refusal, after the tokens that are still to be read
+abbrev pub ended_with : Refusal → Machine → Machine
+ended_with e m = record m { tokens = record m.tokens { refusal = Some e } }
 
 abbrev pub pop_from : List State → Machine → Machine
 pop_from [] m = record m { state = state.End; states = [] }

@@ -16,9 +16,18 @@ abbrev pub with_token_ahead : Option Token → Remaining → Remaining
 with_token_ahead None r = r
 with_token_ahead (Some t) r = before (piece t) r
 
+-- the first refusal, if there is one, or else the second
+abbrev pub own_or : Option Refusal → Option Refusal → Option Refusal
+own_or None end = end
+own_or (Some e) end = Some e
+
+-- the tokens of a scanner, and what ends them where it doesn't
+abbrev pub with_end : Option Refusal → Remaining → Remaining
+with_end end r = record { pieces = r.pieces; refusal = own_or r.refusal end }
+
 abbrev pub machine_of : {T : Type 0} → declared.Machine T → Machine
 machine_of m = record {
-  tokens = with_token_ahead m.token m.scanner;
+  tokens = with_token_ahead m.token (with_end m.end m.scanner);
   state = m.state;
   states = reverse m.states.items;
   anchors = m.anchors;

@@ -1,13 +1,15 @@
 use Rattle.std.proofs.Common.{◌∙◌, ap}
 use Rattle.std.specs.Prelude.{List, reverse}
 use Rattle.saphyr_machine.specs.declared.state.State.{State}
+use Rattle.saphyr_machine.specs.Views.Machines.{with_end}
 use Rattle.saphyr_machine.proofs.Copies.{ahead_copied}
 use Rattle.saphyr_machine.proofs.machine.Machine.try_clone.Goals as goal
 
 pub returns-in-Ok : goal.returns-in-Ok
 returns-in-Ok g c =
-    let tokens = ahead_copied c.in_ok-token.token c.args.self.now.token c.in-Ok.scanner
-    c.args.self.now.scanner c.in_ok-token.ensures c.in-Ok.ensures in
+    let end = c.args.self.now.end in
+    let tokens = ahead_copied c.in_ok-token.token c.args.self.now.token (with_end end c.in-Ok.scanner)
+    (with_end end c.args.self.now.scanner) c.in_ok-token.ensures (ap (with_end end) c.in-Ok.ensures) in
     let states = ap (λ (states : List State). reverse states)
     (c.in_ok-states.ensures.items ∙ c.deref.ensures.value) in
     λ i. record {
