@@ -1,24 +1,14 @@
 -- A scanner of a text that came up to a document marker at the start of a line at least, where more of the text comes.
-use Rattle.std.specs.Prelude.{◌≡◌, ◌<◌, ◌≤◌, ℕ, true, false, List, [], ◌∷◌, ◌++◌, drop, length, Some, None, Result, Ok}
-use Rattle.saphyr_scalar.specs.declared.scalar.fault.Refusal.{Refusal}
-use Rattle.saphyr_scalar.specs.Views.Cursor.{◌>>=◌}
+use Rattle.std.specs.Prelude.{◌≡◌, ◌<◌, ◌≤◌, ℕ, true, false, List, [], ◌∷◌, ◌++◌, drop, length, Some, None, Ok}
 use Rattle.saphyr_scanner.specs.Views.Tokens.{Piece}
-use Rattle.saphyr_scanner.specs.Steps.Passing.{with_cursor}
-use Rattle.saphyr_scanner.specs.Steps.Fetch.{fetch_within, needs_token, take_token, without_far_key}
-use Rattle.saphyr_scanner.specs.Steps.State.{State, start, with_core}
-use Rattle.marker_laws.specs.Beside.{reading}
-
--- the same scanner, with these characters to come
-abbrev pub with_rest : List ℕ → State → State
-with_rest r s = with_core (with_cursor (reading r s.core.cursor) s.core) s
+pub use Rattle.saphyr_scanner.specs.Steps.Fetch.{state_behind_token}
+use Rattle.saphyr_scanner.specs.Steps.Fetch.{needs_token, take_token}
+pub use Rattle.saphyr_scanner.specs.Steps.State.{with_rest}
+use Rattle.saphyr_scanner.specs.Steps.State.{State, start}
 
 -- the same scanner, with more characters after those that are left
 abbrev pub extended_by : List ℕ → State → State
 extended_by more s = with_rest (s.core.cursor.rest ++ more) s
-
--- the scanner with one token more, and without a candidate that is too far
-abbrev pub state_behind_token : ℕ → State → Result State Refusal
-state_behind_token limit s = fetch_within limit s >>= without_far_key
 
 -- A scanner of the text has handed out these tokens, and is this. It takes the first token off where it holds one that
 -- can't be a key any more. Else it reads one, if at most `stop` characters are before its place.

@@ -1,0 +1,229 @@
+-- What a reader that is ready hands out is what one of the whole text does.
+use Rattle.std.proofs.Common.{◌≡◌, ◌≢◌, ◌⊎◌, inl, inr, ℕ, Bool, true, false, List, Option, None, Some, Result, Ok, Err, refl, sym, ap, ◌∙◌, subst}
+use Rattle.std.specs.Prelude.{◌||◌}
+use Rattle.saphyr_scalar.specs.declared.scalar.fault.Stop.TheVariants as stop
+use Rattle.saphyr_scalar.specs.declared.scalar.position.Span.{Span}
+use Rattle.saphyr_input.specs.declared.input.str.StrInput.{StrInput}
+use Rattle.saphyr_machine.specs.declared.event.Event.{Event}
+use Rattle.saphyr_machine.specs.declared.fault.Fault.{Fault}
+use Rattle.saphyr_machine.specs.declared.fault.Fault.TheVariants as fault
+use Rattle.saphyr_machine.specs.declared.reader.EventReader.{EventReader}
+use Rattle.saphyr_machine.specs.declared.state.State.{State}
+use Rattle.saphyr_machine.specs.declared.state.State.TheVariants as state
+use Rattle.saphyr_machine.specs.Events.{Happening}
+use Rattle.saphyr_machine.specs.Answer.{OutOfMemory}
+use Rattle.saphyr_machine.specs.Calls.{AdvancesFrom, FailsFrom, FailsWith, GivesNext, IsGivenOrNone}
+use Rattle.saphyr_machine.specs.Cursor.{EventCursor, Kept, event_of}
+use Rattle.saphyr_machine.specs.Steps.Documents.{is_outside, is_over}
+use Rattle.saphyr_machine.specs.Steps.Expected.{event_step}
+use Rattle.saphyr_machine.specs.Steps.Machine.{Machine, told_event}
+use Rattle.saphyr_machine.specs.Views.Machines.{happening}
+use Rattle.saphyr_machine.specs.Views.Readers.{cursor}
+use Rattle.saphyr_machine.proofs.Turns as turns
+use Rattle.event_laws.specs.Premises.{Ends}
+use Rattle.marker_laws.proofs.Waiting.{told_waits}
+use Rattle.saphyr_pieces.specs.declared.pieces.PieceReader.{PieceReader}
+use Rattle.saphyr_pieces.specs.declared.pieces.Source.{Source}
+use Rattle.saphyr_pieces.specs.declared.pieces.Source.TheVariants as source
+use Rattle.saphyr_pieces.specs.declared.readiness.Marker as code
+use Rattle.saphyr_pieces.specs.declared.readiness.Marker.TheVariants as marker
+use Rattle.saphyr_pieces.specs.declared.readiness.Readiness.{Readiness}
+use Rattle.saphyr_pieces.specs.declared.readiness.Readiness.TheVariants as readiness
+use Rattle.saphyr_pieces.specs.Pieces.{at, cursor_from}
+use Rattle.saphyr_pieces.specs.Readiness.{Holds, behind_event, is_ready, marker_of}
+use Rattle.saphyr_pieces.specs.Views.{GivesTokens, HasTokens, IsSound, IsSoundFrom, LosesTokens, is_ready_from, is_ready_now, pieces_of}
+use Rattle.saphyr_pieces.proofs.Known.{holds_behind, true_is_not_false}
+use Rattle.saphyr_pieces.proofs.Stepping.{Decided, decided_at_start, decided_behind, decided_over, event_so, fault_so, over_so}
+
+-- ## The next event is decided
+
+over_is_end : (s : State) → is_over s ≡ true → s ≡ state.End
+over_is_end state.End e = refl
+over_is_end _ e = absurd (true_is_not_false (sym e))
+
+either : (a b : Bool) → a || b ≡ true → (a ≡ true) ⊎ (b ≡ true)
+either true b e = inl refl
+either false b e = inr e
+
+its_marker : (w : code.Marker) → marker_of w ≡ Ends → w ≡ marker.Ends
+its_marker marker.Ends e = refl
+its_marker marker.Starts e = absurd (cc)
+
+decided_ready : (r : Readiness) (m : Machine) → is_ready r ≡ true → Holds r m → Decided m
+decided_ready readiness.Starting m e (s, (t, only, k)) = decided_at_start m t s only k
+decided_ready (readiness.Ready w) m e h = decided_behind (marker_of w) m h.0 (λ i. h.1 (its_marker w i))
+decided_ready _ m e h = absurd (true_is_not_false (sym e))
+
+decided : (r : Readiness) (m : Machine) → (is_over m.state ≡ true) ⊎ (is_ready r ≡ true) → Holds r m → Decided m
+decided r m (inl e) h = decided_over m (over_is_end m.state e)
+decided r m (inr e) h = decided_ready r m e h
+
+-- ## An event
+
+same_behind : (a : Option (Happening × Span)) (k : Option Kept) (e : Happening × Span) (c d : EventCursor) → a ≡ None
+    → AdvancesFrom a k e c d
+    → (d.kept ≡ c.kept) × (d.current ≡ c.current) × (event_step c.machine ≡ told_event e.0 e.1 d.machine)
+same_behind (Some x) k e c d none h = absurd (cc)
+same_behind None (Some k) e c d none h = absurd h
+same_behind None None e c d none h =
+    (ap (λ (v : EventCursor). v.kept) h.1, ap (λ (v : EventCursor). v.current) h.1, h.0)
+
+holds_after : (r : Readiness) (m n : Machine) (what : Happening) (span : Span) (outside : Bool)
+    → (is_over m.state ≡ true) ⊎ (is_ready r ≡ true) → is_outside n.state ≡ outside
+    → event_step m ≡ told_event what span n → Holds r m → Holds (behind_event what outside r) n
+holds_after readiness.Starting m n what span outside e o is h = tt
+holds_after readiness.Waiting m n what span outside e o is h = tt
+holds_after readiness.Holding m n what span outside e o is h = tt
+holds_after (readiness.Ready w) m n what span outside e o is h =
+    holds_behind w what outside n o (told_waits (marker_of w) m _ h.0 is)
+
+module _ (p : PieceReader) (e : EventReader StrInput) where
+  abbrev from : EventCursor
+  from = cursor p.reader
+
+  abbrev to : EventCursor
+  to = cursor e
+
+  -- ### The parser of the whole text
+
+  module _ (i : IsSound p) where
+    event_from : (s : Source) (next : Event × Span) (later : List ℕ) (r : Readiness)
+        → is_ready_from s p.readiness from.machine.state ≡ true → HasTokens s p → GivesNext (Some (Ok next)) from to
+        → GivesNext (Some (Ok next)) (cursor_from s (pieces_of p) later)
+        (cursor_from s (pieces_of (record p { reader = e; readiness = r })) later)
+    event_from source.Given next later r w t h = h
+    event_from (source.Text st) next later r w t h =
+        event_so from.current from.kept (event_of next) from to _ i.current
+        (decided p.readiness from.machine (either _ _ w) t.2) h
+    event_from (source.Read o) next later r w t h =
+        event_so from.current from.kept (event_of next) from to _ i.current
+        (decided p.readiness from.machine (either _ _ w) t.2) h
+
+    fault_from : (s : Source) (f : Fault) (later : List ℕ) → is_ready_from s p.readiness from.machine.state ≡ true
+        → HasTokens s p → GivesNext (Some (Err f)) from to → FailsWith f (cursor_from s (pieces_of p) later) to
+    fault_from source.Given f later w t h = h
+    fault_from (source.Text st) f later w t h =
+        fault_so from.current from.kept f from to _ t.0 (decided p.readiness from.machine (either _ _ w) t.2) h
+    fault_from (source.Read o) f later w t h =
+        fault_so from.current from.kept f from to _ t.0 (decided p.readiness from.machine (either _ _ w) t.2) h
+
+    over_from : (s : Source) (later : List ℕ) → GivesNext None from to
+        → GivesNext None (cursor_from s (pieces_of p) later) (cursor_from s (pieces_of (record p { reader = e })) later)
+    over_from source.Given later h = h
+    over_from (source.Text st) later h = over_so from to _ h
+    over_from (source.Read o) later h = over_so from to _ h
+
+  -- ### What holds of the reader
+
+  sound_from : (s : Source) (r : Readiness) → IsSoundFrom s p → IsSoundFrom s (record p { reader = e; readiness = r })
+  sound_from (source.Text st) r h = h
+  sound_from (source.Read o) r h = h
+  sound_from source.Given r h = tt
+
+  has_from : (s : Source) (what : Happening) (span : Span) (outside : Bool)
+      → is_ready_from s p.readiness from.machine.state ≡ true → HasTokens s p → is_outside to.machine.state ≡ outside
+      → (to.kept ≡ from.kept) × (to.current ≡ from.current) × (event_step from.machine ≡ told_event what span to.machine)
+      → HasTokens s (record p { reader = e; readiness = behind_event what outside p.readiness })
+  has_from source.Given what span outside w t o same = subst IsGivenOrNone (sym same.0) t
+  has_from _ what span outside w t o same =
+      let ready : (is_over from.machine.state ≡ true) ⊎ (is_ready p.readiness ≡ true) = either _ _ w in (
+        same.0 ∙ t.0,
+        (decided p.readiness from.machine ready t.2).refusal _ same.2 ∙ t.1,
+        holds_after p.readiness from.machine to.machine what span outside ready o same.2 t.2,
+      )
+
+  pub sound_behind_event : (next : Event × Span) (outside : Bool) (r : Readiness) → IsSound p → is_ready_now p ≡ true
+      → is_outside to.machine.state ≡ outside → r ≡ behind_event (happening next.0) outside p.readiness
+      → GivesNext (Some (Ok next)) from to → IsSound (record p { reader = e; readiness = r })
+  sound_behind_event next outside r i w o is h =
+      let same : (to.kept ≡ from.kept) × (to.current ≡ from.current)
+      × (event_step from.machine ≡ told_event (happening next.0) next.1 to.machine) =
+      same_behind from.current from.kept (event_of next) from to i.current h in
+      record {
+        source = sound_from p.source r i.source;
+        tokens = subst (λ (v : Readiness). HasTokens p.source (record p { reader = e; readiness = v })) (sym is)
+            (has_from p.source (happening next.0) next.1 outside w i.tokens o same);
+        current = same.1 ∙ i.current;
+      }
+
+  given_behind : (a : Option (Happening × Span)) (k : Option Kept) (f : Fault) (c d : EventCursor) → a ≡ None
+      → FailsFrom a k f c d → IsGivenOrNone d.kept × (d.current ≡ c.current)
+  given_behind (Some x) k f c d none h = absurd h
+  given_behind None (Some k) f c d none h =
+      (subst IsGivenOrNone (sym (ap (λ (v : EventCursor). v.kept) h.2)) refl, ap (λ (v : EventCursor). v.current) h.2)
+  given_behind None None f c d none h =
+      (subst IsGivenOrNone (sym (ap (λ (v : EventCursor). v.kept) h.1)) refl, ap (λ (v : EventCursor). v.current) h.1)
+
+  pub sound_behind_fault : (f : Fault) → IsSound p → GivesNext (Some (Err f)) from to
+      → IsSound (record p { source = source.Given; reader = e })
+  sound_behind_fault f i h =
+      let b : IsGivenOrNone to.kept × (to.current ≡ from.current) =
+      given_behind from.current from.kept f from to i.current h in
+      record { source = tt; tokens = b.0; current = b.1 ∙ i.current }
+
+  has_so : (s : Source) → to ≡ from → HasTokens s p → HasTokens s (record p { reader = e })
+  has_so source.Given same t = subst (λ (v : EventCursor). IsGivenOrNone v.kept) (sym same) t
+  has_so _ same t =
+      subst (λ (v : EventCursor). (v.kept ≡ None) × (v.machine.tokens.refusal ≡ None) × Holds p.readiness v.machine)
+      (sym same) t
+
+  pub sound_over : IsSound p → GivesNext None from to → IsSound (record p { reader = e })
+  sound_over i h = record {
+    source = sound_from p.source p.readiness i.source;
+    tokens = has_so p.source h.1 i.tokens;
+    current = ap (λ (v : EventCursor). v.current) h.1 ∙ i.current;
+  }
+
+  pub hands_event : (next : Event × Span) (r : Readiness) → IsSound p → is_ready_now p ≡ true
+      → GivesNext (Some (Ok next)) from to
+      → (later : List ℕ) → GivesNext (Some (Ok next)) (at (pieces_of p) later)
+      (at (pieces_of (record p { reader = e; readiness = r })) later)
+  hands_event next r i w h later = event_from i p.source next later r w i.tokens h
+
+  pub hands_fault : (f : Fault) → IsSound p → is_ready_now p ≡ true → GivesNext (Some (Err f)) from to
+      → (later : List ℕ) → GivesNext (Some (Err f)) (at (pieces_of p) later)
+      (at (pieces_of (record p { source = source.Given; reader = e })) later)
+  hands_fault f i w h later = fault_from i p.source f later w i.tokens h
+
+  pub hands_nothing : IsSound p → GivesNext None from to
+      → (later : List ℕ) → GivesNext None (at (pieces_of p) later) (at (pieces_of (record p { reader = e })) later)
+  hands_nothing i h later = over_from i p.source later h
+
+-- ## Behind tokens that were given
+
+pub hands_behind : (item : Option (Result (Event × Span) Fault)) (p q r : PieceReader) → GivesTokens p q
+    → ((later : List ℕ) → GivesNext item (at (pieces_of q) later) (at (pieces_of r) later))
+    → (later : List ℕ) → GivesNext item (at (pieces_of p) later) (at (pieces_of r) later)
+hands_behind item p q r g h later =
+    subst (λ (c : EventCursor). GivesNext item c (at (pieces_of r) later)) (g.at later) (h later)
+
+-- ## Out of memory
+
+abbrev failed : EventCursor → EventCursor
+failed c = record c { kept = Some (record { fault = OutOfMemory; given = true }) }
+
+fails_from : (a : Option (Happening × Span)) (k : Option Kept) (c d : EventCursor) → a ≡ None → k ≡ None
+    → c.machine.state ≢ state.End → d ≡ failed (record c { machine = d.machine }) → FailsFrom a k fault.OutOfMemory c d
+fails_from (Some x) k c d none kept on is = absurd (cc)
+fails_from None (Some k) c d none kept on is = absurd (cc)
+fails_from None None c d none kept on is =
+    (turns.refused c.machine stop.OutOfMemory fault.OutOfMemory on tt tt, is)
+
+lost_from : (s : Source) (p : PieceReader) (d : EventCursor) (later : List ℕ) → (cursor p.reader).current ≡ None
+    → (cursor p.reader).kept ≡ None → (cursor p.reader).machine.state ≢ state.End
+    → d ≡ failed (record (cursor p.reader) { machine = d.machine })
+    → FailsWith fault.OutOfMemory (cursor_from s (pieces_of p) later) d
+lost_from source.Given p d later none kept on is =
+    fails_from (cursor p.reader).current (cursor p.reader).kept (cursor p.reader) d none kept on is
+lost_from (source.Text st) p d later none kept on is =
+    fails_from (cursor p.reader).current (cursor p.reader).kept _ d none kept on is
+lost_from (source.Read o) p d later none kept on is =
+    fails_from (cursor p.reader).current (cursor p.reader).kept _ d none kept on is
+
+pub hands_lack : (p q r : PieceReader) → IsSound p → LosesTokens p q
+    → ((later : List ℕ) → at (pieces_of r) later ≡ failed (cursor q.reader))
+    → (later : List ℕ) → GivesNext (Some (Err fault.OutOfMemory)) (at (pieces_of p) later) (at (pieces_of r) later)
+hands_lack p q r i l h later =
+    lost_from p.source p (at (pieces_of r) later) later i.current l.kept l.goes_on
+    (h later ∙ ap failed l.machine
+    ∙ ap (λ (d : EventCursor). failed (record (cursor p.reader) { machine = d.machine })) (sym (h later)))

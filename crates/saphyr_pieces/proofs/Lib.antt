@@ -1,0 +1,10 @@
+pub mod LastLine
+pub mod Comes
+pub mod ReadPieces
+pub mod TokensRead
+pub mod Stepping
+pub mod Known
+pub mod Giving
+pub mod Advancing
+pub mod Keeping
+pub mod Copied

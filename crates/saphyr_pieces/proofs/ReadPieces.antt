@@ -1,0 +1,395 @@
+-- What a reader of pieces keeps where characters come, and where tokens are read.
+use Rattle.std.proofs.Common.{◌≡◌, ◌≤◌, ◌<◌, ℕ, ◌+◌, ◌^◌, Bool, true, false, List, [], ◌∷◌, ◌++◌, length, Option, Some, None, Result, Ok, refl, sym, ap, ◌∙◌, subst, arith}
+use Rattle.std.specs.Prelude.{IsUtf8, option_map, string_bytes}
+use Rattle.std.specs.Str.{chars}
+use Rattle.std.proofs.lemmas.List.{append_assoc}
+use Rattle.std.proofs.lemmas.Str.{chars-append}
+use Rattle.saphyr_scalar.specs.declared.scalar.fault.Refusal.{Refusal}
+use Rattle.saphyr_scanner.specs.declared.token.Token.{Token}
+use Rattle.saphyr_scanner.specs.Steps.Fetch.{state_behind_token, take_token}
+use Rattle.saphyr_scanner.specs.Steps.Remaining.{scan, remaining}
+use Rattle.saphyr_scanner.specs.Steps.State.{State, start, with_rest}
+use Rattle.saphyr_scanner.specs.Views.Stepping.{Stepping}
+use Rattle.saphyr_scanner.specs.Views.Tokens.{Hands, Piece, Remaining, none, piece, written_token}
+use Rattle.saphyr_machine.specs.Calls.{IsGivenLast}
+use Rattle.saphyr_machine.specs.Cursor.{EventCursor, at_start}
+use Rattle.saphyr_machine.specs.Steps.Machine.{with_last_token}
+use Rattle.saphyr_machine.specs.Views.Readers.{cursor}
+use Rattle.event_laws.specs.Limits.{most_characters}
+use Rattle.marker_laws.specs.EventsUpTo.{before_all}
+use Rattle.saphyr_pieces.specs.declared.pieces.PieceReader.{PieceReader}
+use Rattle.saphyr_pieces.specs.declared.pieces.Source.{Source}
+use Rattle.saphyr_pieces.specs.declared.pieces.Source.TheVariants as source
+use Rattle.saphyr_pieces.specs.declared.readiness.Readiness.{Readiness}
+use Rattle.saphyr_pieces.specs.declared.readiness.Readiness.TheVariants as readiness
+use Rattle.saphyr_pieces.specs.declared.scanning.Reading.{Reading}
+use Rattle.saphyr_pieces.specs.declared.scanning.Reading.TheVariants as reading
+use Rattle.saphyr_pieces.specs.Comes as comes
+use Rattle.saphyr_pieces.specs.Comes.{Comes, Laws, begun, first_token, until_ended}
+use Rattle.saphyr_pieces.specs.Lines.{Follows}
+use Rattle.saphyr_pieces.specs.Pieces.{Pieces, at, resumed, wants_more_from, with_others}
+use Rattle.saphyr_pieces.specs.Readiness.{Holds}
+use Rattle.saphyr_pieces.specs.Scanning.{ReadsTokens, all_tokens, ended_by}
+use Rattle.saphyr_pieces.specs.Views.{HasTokens, IsSound, IsSoundFrom, pieces_of}
+use Rattle.saphyr_pieces.proofs.Comes.{came_all, came_more, first_read, first_token_comes, near, started}
+
+-- a token that is taken off is one less
+pub fewer : (written : Bool) (t : Token) (old new : Remaining) → written ≡ true
+    → Hands (Ok (written_token written t)) old new → length new.pieces < length old.pieces
+fewer true t old new e h =
+    let one : length old.pieces ≡ length (piece t ∷ new.pieces) = ap (λ (r : Remaining). length r.pieces) h in
+    omega (arith, one)
+fewer false t old new e h = absurd (cc)
+
+-- ## The first token
+
+takes_started : (limit : ℕ) (s t : State) → s ≡ start [] → state_behind_token limit s ≡ Ok t → t ≡ started []
+takes_started limit s t p q =
+    let e : state_behind_token limit s ≡ Ok (started []) = ap (state_behind_token limit) p ∙ first_read limit [] in
+    cc
+
+abbrev taken_off : Option Piece × State → Result (Option Piece × State) Refusal
+taken_off x = Ok x
+
+-- what is taken off once the first token was read
+pub takes_first : (limit : ℕ) (s t u : State) (x : Option Piece) → s ≡ start [] → state_behind_token limit s ≡ Ok t
+    → taken_off (take_token t) ≡ Ok (x, u) → (x ≡ Some first_token) × (u ≡ begun [])
+takes_first limit s t u x p q r =
+    parts (x, u) (Some first_token, begun [])
+    (sym (same_taken (take_token t) (x, u) r) ∙ first_taken_from t (takes_started limit s t p q))
+  where
+    parts : (a b : Option Piece × State) → a ≡ b → (a.0 ≡ b.0) × (a.1 ≡ b.1)
+    parts a b e = (ap (λ (y : Option Piece × State). y.0) e, ap (λ (y : Option Piece × State). y.1) e)
+
+    same_taken : (a b : Option Piece × State) → taken_off a ≡ Ok b → a ≡ b
+    same_taken a b e = cc
+
+    first_taken_from : (v : State) → v ≡ started [] → take_token v ≡ (Some first_token, begun [])
+    first_taken_from v e = ap take_token e
+
+pub written_first : (written : Bool) (t : Token) (x : Piece) → option_map piece (written_token written t) ≡ Some x
+    → piece t ≡ x
+written_first true t x e = cc
+written_first false t x e = absurd (cc)
+
+-- a reader of pieces whose tokens come from a scanner
+abbrev pub of_text : Stepping → List ℕ → Remaining → EventCursor → Pieces
+of_text s rest tokens reader = record { source = source.Text s; rest = rest; tokens = tokens; reader = reader }
+
+-- a reader of events that has the first token
+abbrev pub with_first_token : EventCursor
+with_first_token = at_start (record { pieces = first_token ∷ []; refusal = None })
+
+pub gives_first : (given : Bool) (x : Piece) (tokens : Remaining) (old new : EventCursor) → given ≡ true
+    → tokens ≡ none → old ≡ at_start tokens → x ≡ first_token → IsGivenLast given x old new → new ≡ with_first_token
+gives_first true x tokens old new is p q e h =
+    h ∙ ap (λ (c : EventCursor). record c { machine = with_last_token x c.machine }) (q ∙ ap at_start p)
+    ∙ ap (λ (y : Piece). at_start (record { pieces = y ∷ []; refusal = None })) e
+gives_first false x tokens old new is p q e h = absurd (cc)
+
+-- ## At the start
+
+begins_so : Laws → (text : List ℕ)
+    → at (of_text (record { state = begun []; limit = most_characters }) [] none with_first_token) text
+    ≡ at_start (scan most_characters text)
+begins_so laws text = ap at_start (sym (first_token_comes laws most_characters text))
+
+same_stepping : (s t : Stepping) → s.state ≡ t.state → s.limit ≡ t.limit → s ≡ t
+same_stepping s t p q =
+    ap (λ x. let v : Stepping = record { state = x; limit = s.limit } in v) p
+    ∙ ap (λ n. let v : Stepping = record { state = t.state; limit = n } in v) q
+
+pub begins : Laws → (s : Stepping) (rest : List ℕ) (tokens : Remaining) (reader : EventCursor)
+    → s.state ≡ begun [] → s.limit ≡ most_characters → rest ≡ [] → tokens ≡ none → reader ≡ with_first_token
+    → (text : List ℕ) → at (of_text s rest tokens reader) text ≡ at_start (scan most_characters text)
+begins laws s rest tokens reader p q a b c text =
+    let first : Stepping = record { state = begun []; limit = most_characters } in
+    let e : s ≡ first = same_stepping s first p q in
+    ap (λ x. at (of_text x rest tokens reader) text) e
+    ∙ ap (λ x. at (of_text first x tokens reader) text) a
+    ∙ ap (λ x. at (of_text first [] x reader) text) b
+    ∙ ap (λ x. at (of_text first [] none x) text) c
+    ∙ begins_so laws text
+
+pub begins_there : (s : State) (rest : List ℕ) → s ≡ begun [] → rest ≡ []
+    → Comes most_characters false None [] (with_rest rest s)
+begins_there s rest p q =
+    subst (Comes most_characters false None []) (sym (ap (with_rest rest) p ∙ ap (λ r. with_rest r (begun [])) q))
+    (comes.at_start [])
+
+-- what holds of a reader of events of which this is known
+abbrev HoldsOf : EventCursor → Readiness → Type 0
+HoldsOf c r = (c.kept ≡ None) × (c.machine.tokens.refusal ≡ None) × Holds r c.machine
+
+pub holds_first : (c : EventCursor) → c ≡ with_first_token → HoldsOf c readiness.Starting
+holds_first c e =
+    subst (λ x. HoldsOf x readiness.Starting) (sym e) (refl, refl, (refl, (first_token, refl, refl)))
+
+-- ## More characters come
+
+pub takes_in : (x : Source) (rest more new : List ℕ) (tokens : Remaining) (reader : EventCursor)
+    → wants_more_from x ≡ true → new ≡ rest ++ more → (later : List ℕ)
+    → at (record { source = x; rest = new; tokens = tokens; reader = reader }) later
+    ≡ at (record { source = x; rest = rest; tokens = tokens; reader = reader }) (more ++ later)
+takes_in (source.Text s) rest more new tokens reader w e later =
+    ap (λ x. with_others (before_all tokens.pieces (remaining s.limit (with_rest x s.state))) reader)
+    (ap (λ x. x ++ later) e ∙ append_assoc rest more later)
+takes_in (source.Read r) rest more new tokens reader w e later = absurd (cc)
+takes_in source.Given rest more new tokens reader w e later = absurd (cc)
+
+-- what is known of the tokens that a reader has, where only others of its parts change
+tokens_stay : (x : Source) (p q : PieceReader) → cursor q.reader ≡ cursor p.reader → q.readiness ≡ p.readiness
+    → wants_more_from x ≡ true → HasTokens x p → HasTokens x q
+tokens_stay (source.Text s) p q e r w h =
+    subst (λ c. HoldsOf c q.readiness) (sym e) (subst (HoldsOf (cursor p.reader)) (sym r) h)
+tokens_stay (source.Read n) p q e r w h = absurd (cc)
+tokens_stay source.Given p q e r w h = absurd (cc)
+
+-- the marker that is remembered is one that came
+abbrev pub Remembers : PieceReader → PieceReader → List ℕ → Type 0
+Remembers p q more = (text : List ℕ) → Follows p.lines text → (s : State)
+    → Comes most_characters false p.marker (text ++ more) s → Comes most_characters false q.marker (text ++ more) s
+
+source_stays : Laws → (x : Source) (p q : PieceReader) (more : List ℕ) → wants_more_from x ≡ true
+    → q.tokens ≡ p.tokens → chars (string_bytes q.text) ≡ chars (string_bytes p.text) ++ more
+    → ((text : List ℕ) → Follows p.lines text → Follows q.lines (text ++ more)) → Remembers p q more
+    → IsSoundFrom x p → IsSoundFrom x q
+source_stays laws (source.Text s) p q more w t e follows remembers h =
+    let text = h.2.0 in
+    let rest = chars (string_bytes p.text) in
+    let came = came_more laws most_characters p.marker text more (with_rest rest s.state) h.2.1.0 in
+    let there = subst (λ r. Comes most_characters false p.marker (text ++ more) (with_rest r s.state)) (sym e) came in (
+      h.0,
+      ap (λ (r : Remaining). r.refusal) t ∙ h.1,
+      (
+        text ++ more,
+        (remembers text h.2.1.1 (with_rest (chars (string_bytes q.text)) s.state) there, follows text h.2.1.1),
+      ),
+    )
+source_stays laws (source.Read n) p q more w t e follows remembers h = absurd (cc)
+source_stays laws source.Given p q more w t e follows remembers h = absurd (cc)
+
+pub stays_sound : Laws → (p q : PieceReader) (more : List ℕ) → wants_more_from p.source ≡ true → IsSound p
+    → q.source ≡ p.source → q.tokens ≡ p.tokens → cursor q.reader ≡ cursor p.reader → q.readiness ≡ p.readiness
+    → chars (string_bytes q.text) ≡ chars (string_bytes p.text) ++ more
+    → ((text : List ℕ) → Follows p.lines text → Follows q.lines (text ++ more)) → Remembers p q more → IsSound q
+stays_sound laws p q more w h x t c r e follows remembers = record {
+  source = subst (λ y. IsSoundFrom y q) (sym x)
+      (source_stays laws p.source p q more w t e follows remembers h.source);
+  tokens = subst (λ y. HasTokens y q) (sym x) (tokens_stay p.source p q c r w h.tokens);
+  current = ap (λ (e : EventCursor). e.current) c ∙ h.current;
+}
+
+-- the characters of a text that grows
+pub grown : (old more new : List ℕ) → IsUtf8 old → new ≡ old ++ more → chars new ≡ chars old ++ chars more
+grown old more new h e = ap chars e ∙ chars-append old more h
+
+-- ## Tokens are read
+
+pub resumes : (s t : Stepping) (rest : List ℕ) → t.state ≡ with_rest rest s.state → t.limit ≡ s.limit
+    → t ≡ resumed rest s
+resumes s t rest p q = same_stepping t (resumed rest s) p q
+
+-- before the rest of its own text
+pub rested : (t u : Stepping) (rest : List ℕ) → rest ≡ t.state.core.cursor.rest → u.state ≡ with_rest [] t.state
+    → u.limit ≡ t.limit → resumed rest u ≡ t
+rested t u rest p q r =
+    same_stepping (resumed rest u) t (ap (with_rest rest) q ∙ ap (λ x. with_rest x t.state) p) r
+
+pub stops : (ended : Bool) (s t u v : Stepping) (rest left later : List ℕ) (tokens read : Remaining)
+    (reader : EventCursor) → ended ≡ false → t ≡ resumed rest s → resumed left v ≡ u
+    → all_tokens ended later t tokens ≡ all_tokens ended later u read
+    → at (of_text v left read reader) later ≡ at (of_text s rest tokens reader) (until_ended ended later)
+stops true s t u v rest left later tokens read reader over e f h = absurd (cc)
+stops false s t u v rest left later tokens read reader over e f h =
+    ap (λ x. with_others (all_tokens false later x read) reader) f
+    ∙ ap (λ x. with_others x reader) (sym h)
+    ∙ ap (λ x. with_others (all_tokens false later x tokens) reader) e
+
+pub ends : (ended : Bool) (s t : Stepping) (rest later : List ℕ) (tokens : Remaining) (all : Remaining)
+    (reader : EventCursor) → t ≡ resumed rest s → all_tokens ended later t tokens ≡ all
+    → with_others all reader ≡ at (of_text s rest tokens reader) (until_ended ended later)
+ends ended s t rest later tokens all reader e h =
+    ap (λ x. with_others x reader) (sym h)
+    ∙ ap (λ x. with_others (all_tokens ended later x tokens) reader) e
+
+-- where the scanner goes on
+pub comes_on : Laws → (ended : Bool) (marker : Option ℕ) (text : List ℕ) (s t : Stepping) (rest : List ℕ)
+    → s.limit ≡ most_characters → t ≡ resumed rest s
+    → Comes most_characters false marker text (with_rest rest s.state) → Comes t.limit ended marker text t.state
+comes_on laws ended marker text s t rest p e h =
+    subst (λ (x : Stepping). Comes x.limit ended marker text x.state) (sym e)
+    (subst (λ n. Comes n ended marker text (with_rest rest s.state)) (sym p) (by ended))
+  where
+    by : (b : Bool) → Comes most_characters b marker text (with_rest rest s.state)
+    by true = came_all laws most_characters marker text (with_rest rest s.state) h
+    by false = h
+
+-- ## Reading on
+
+-- what holds of a reader whose tokens come from there
+sound_from : (p : PieceReader) (x : Source) → p.source ≡ x → IsSound p → IsSoundFrom x p × HasTokens x p
+sound_from p x e h = subst (λ y. IsSoundFrom y p × HasTokens y p) e (h.source, h.tokens)
+
+-- what came and was not passed
+abbrev pub rest_of : PieceReader → List ℕ
+rest_of p = chars (string_bytes p.text)
+
+-- the reader's scanner is the first, and the second goes on over what came
+pub record Scans (p : PieceReader) (s t : Stepping) : Type 0 where
+  pub is : p.source ≡ source.Text s
+  pub sound : IsSound p
+  pub over : t ≡ resumed (rest_of p) s
+
+pub scans : (p : PieceReader) (s t : Stepping) (rest : List ℕ) → p.source ≡ source.Text s → IsSound p
+    → rest ≡ rest_of p → t.state ≡ with_rest rest s.state → t.limit ≡ s.limit → Scans p s t
+scans p s t rest e h q state limit = record {
+  is = e;
+  sound = h;
+  over = resumes s t (rest_of p) (state ∙ ap (λ r. with_rest r s.state) q) limit;
+}
+
+-- the reader's place is not far in the text
+pub is_near : (p : PieceReader) (s : Stepping) (rest : List ℕ) → p.source ≡ source.Text s → IsSound p
+    → rest ≡ rest_of p → length (rest_of p) < 2 ^ 63 → s.state.core.cursor.mark.index + length rest < 2 ^ 64
+is_near p s rest e h q fits =
+    let at = sound_from p (source.Text s) e h in
+    let low : s.state.core.cursor.mark.index ≤ most_characters =
+    near most_characters false p.marker at.0.2.0 (with_rest (rest_of p) s.state) at.0.2.1.0 in
+    let same : length rest ≡ length (rest_of p) = ap length q in
+    omega (arith, low, same, fits)
+
+pub comes_so : Laws → (ended : Bool) (p : PieceReader) (s t : Stepping) → Scans p s t
+    → (text : List ℕ) × Comes t.limit ended p.marker text t.state
+comes_so laws ended p s t w =
+    let at = sound_from p (source.Text s) w.is w.sound in
+    (at.0.2.0, comes_on laws ended p.marker at.0.2.0 s t (rest_of p) at.0.0 w.over at.0.2.1.0)
+
+-- what the reading gives of the text that came
+abbrev pub ReadsAll : Bool → PieceReader → Stepping → Reading → Stepping → Remaining → Type 0
+ReadsAll ended p t r u read = (text : List ℕ) → Comes t.limit ended p.marker text t.state
+    → ReadsTokens ended p.marker text t p.tokens r u read
+
+of_source : (p : PieceReader) (s : Stepping) (later : List ℕ) → p.source ≡ source.Text s
+    → at (of_text s (rest_of p) p.tokens (cursor p.reader)) later ≡ at (pieces_of p) later
+of_source p s later e =
+    ap (λ x. at (record { source = x; rest = rest_of p; tokens = p.tokens; reader = cursor p.reader }) later) (sym e)
+
+-- ## The scanner stopped
+
+-- the scanner stopped before the next token may be read
+pub record StopsAt (ended : Bool) (p : PieceReader) (t u : Stepping) (read : Remaining) : Type 0 where
+  pub text : List ℕ
+  pub goes_on : ended ≡ false
+  pub limit : u.limit ≡ most_characters
+  pub comes : Comes u.limit false p.marker text u.state
+  pub follows : Follows p.lines text
+  pub none : read.refusal ≡ None
+  pub same : (later : List ℕ) → all_tokens ended later t p.tokens ≡ all_tokens ended later u read
+
+pub stops_at : Laws → (ended : Bool) (p : PieceReader) (s t u : Stepping) (read : Remaining) (r : Reading) → Scans p s t
+    → r ≡ reading.Stopped → ReadsAll ended p t r u read → StopsAt ended p t u read
+stops_at laws ended p s t u read r w e h =
+    let at = sound_from p (source.Text s) w.is w.sound in
+    let text = at.0.2.0 in
+    let comes = comes_on laws ended p.marker text s t (rest_of p) at.0.0 w.over at.0.2.1.0 in
+    let x = subst (λ y. ReadsTokens ended p.marker text t p.tokens y u read) e (h text comes) in
+    let limit : t.limit ≡ most_characters = ap (λ (y : Stepping). y.limit) w.over ∙ at.0.0 in
+    record {
+      text = text;
+      goes_on = x.0;
+      limit = x.2 ∙ limit;
+      comes = x.1;
+      follows = at.0.2.1.1;
+      none = x.3;
+      same = x.4;
+    }
+
+pub stop_is_near : (ended : Bool) (p : PieceReader) (t u : Stepping) (read : Remaining) (rest : List ℕ)
+    → StopsAt ended p t u read → rest ≡ [] → u.state.core.cursor.mark.index + length rest < 2 ^ 64
+stop_is_near ended p t u read rest w e =
+    let low : u.state.core.cursor.mark.index ≤ u.limit = near u.limit false p.marker w.text u.state w.comes in
+    let same : length rest ≡ 0 = ap length e in
+    let limit : u.limit ≡ 4294967295 = w.limit in
+    omega (arith, low, same, limit)
+
+pub at_stop : (ended : Bool) (p : PieceReader) (s t u v : Stepping) (read : Remaining) (left : List ℕ) → Scans p s t
+    → StopsAt ended p t u read → left ≡ u.state.core.cursor.rest → v.state ≡ with_rest [] u.state → v.limit ≡ u.limit
+    → (later : List ℕ)
+    → at (of_text v left read (cursor p.reader)) later ≡ at (pieces_of p) (until_ended ended later)
+at_stop ended p s t u v read left w x e state limit later =
+    stops ended s t u v (rest_of p) left later p.tokens read (cursor p.reader) x.goes_on w.over
+    (rested u v left e state limit) (x.same later)
+    ∙ of_source p s (until_ended ended later) w.is
+
+pub sound_at_stop : (ended : Bool) (p q : PieceReader) (s t u v : Stepping) (read : Remaining) → Scans p s t
+    → StopsAt ended p t u read → rest_of q ≡ u.state.core.cursor.rest → v.state ≡ with_rest [] u.state
+    → v.limit ≡ u.limit → q.source ≡ source.Text v → q.tokens ≡ read → q.marker ≡ p.marker → q.lines ≡ p.lines
+    → cursor q.reader ≡ cursor p.reader → q.readiness ≡ p.readiness → IsSound q
+sound_at_stop ended p q s t u v read w x e state limit is tokens marker lines reader ready =
+    let back : resumed (rest_of q) v ≡ u = rested u v (rest_of q) e state limit in
+    let there : Comes most_characters false p.marker x.text (with_rest (rest_of q) v.state) =
+    subst (λ (y : State). Comes most_characters false p.marker x.text y)
+    (sym (ap (λ (y : Stepping). y.state) back))
+    (subst (λ n. Comes n false p.marker x.text u.state) x.limit x.comes) in
+    let known = (sound_from p (source.Text s) w.is w.sound).1 in
+    record {
+      source = subst (λ y. IsSoundFrom y q) (sym is) (
+        limit ∙ x.limit,
+        ap (λ (r : Remaining). r.refusal) tokens ∙ x.none,
+        (
+          x.text,
+          (
+            subst (λ m. Comes most_characters false m x.text (with_rest (rest_of q) v.state)) (sym marker) there,
+            subst (λ l. Follows l x.text) (sym lines) x.follows,
+          ),
+        ),
+      );
+      tokens = subst (λ y. HasTokens y q) (sym is)
+          (subst (λ c. HoldsOf c q.readiness) (sym reader) (subst (HoldsOf (cursor p.reader)) (sym ready) known));
+      current = ap (λ (c : EventCursor). c.current) reader ∙ w.sound.current;
+    }
+
+-- ## All tokens were read
+
+-- all tokens were read, and this ends them
+pub record EndsWith (n : Option Refusal) (ended : Bool) (p : PieceReader) (t : Stepping) (read : Remaining) : Type 0
+  where
+    pub none : read.refusal ≡ None
+    pub same : (later : List ℕ) → all_tokens ended later t p.tokens ≡ ended_by n read
+
+pub ends_over : Laws → (ended : Bool) (p : PieceReader) (s t u : Stepping) (read : Remaining) (r : Reading)
+    → Scans p s t → r ≡ reading.Over → ReadsAll ended p t r u read → EndsWith None ended p t read
+ends_over laws ended p s t u read r w e h =
+    let there = comes_so laws ended p s t w in
+    let x = subst (λ y. ReadsTokens ended p.marker there.0 t p.tokens y u read) e (h there.0 there.1) in
+    record { none = x.0; same = x.1 }
+
+pub ends_refused : Laws → (ended : Bool) (p : PieceReader) (s t u : Stepping) (read : Remaining) (r : Reading)
+    (n : Refusal) → Scans p s t → r ≡ reading.Refused n → ReadsAll ended p t r u read
+    → EndsWith (Some n) ended p t read
+ends_refused laws ended p s t u read r n w e h =
+    let there = comes_so laws ended p s t w in
+    let x = subst (λ y. ReadsTokens ended p.marker there.0 t p.tokens y u read) e (h there.0 there.1) in
+    record { none = x.0; same = x.1 }
+
+pub at_end : (n : Option Refusal) (ended : Bool) (p : PieceReader) (s t : Stepping) (read : Remaining) (x : Source)
+    (rest : List ℕ) → Scans p s t → EndsWith n ended p t read → x ≡ source.Read n → (later : List ℕ)
+    → at (record { source = x; rest = rest; tokens = read; reader = cursor p.reader }) later
+    ≡ at (pieces_of p) (until_ended ended later)
+at_end n ended p s t read x rest w ends_so is later =
+    ap (λ y. at (record { source = y; rest = rest; tokens = read; reader = cursor p.reader }) later) is
+    ∙ ends ended s t (rest_of p) later p.tokens (ended_by n read) (cursor p.reader) w.over (ends_so.same later)
+    ∙ of_source p s (until_ended ended later) w.is
+
+pub sound_at_end : (n : Option Refusal) (ended : Bool) (p q : PieceReader) (s t : Stepping) (read : Remaining)
+    → Scans p s t → EndsWith n ended p t read → q.source ≡ source.Read n → q.tokens ≡ read
+    → cursor q.reader ≡ cursor p.reader → q.readiness ≡ p.readiness → IsSound q
+sound_at_end n ended p q s t read w x is tokens reader ready =
+    let known = (sound_from p (source.Text s) w.is w.sound).1 in
+    record {
+      source = subst (λ y. IsSoundFrom y q) (sym is) (ap (λ (r : Remaining). r.refusal) tokens ∙ x.none);
+      tokens = subst (λ y. HasTokens y q) (sym is)
+          (subst (λ c. HoldsOf c q.readiness) (sym reader) (subst (HoldsOf (cursor p.reader)) (sym ready) known));
+      current = ap (λ (c : EventCursor). c.current) reader ∙ w.sound.current;
+    }

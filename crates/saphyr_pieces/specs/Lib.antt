@@ -1,0 +1,6 @@
+pub mod Lines
+pub mod Comes
+pub mod Scanning
+pub mod Readiness
+pub mod Pieces
+pub mod Views

@@ -1,0 +1,11 @@
+//! A parser of a text that comes in pieces: events come as soon as the document markers that came decide them.
+#![tactic(auto)]
+
+mod cloning;
+mod lines;
+mod parser;
+mod pieces;
+mod readiness;
+mod scanning;
+
+pub use parser::PieceParser;

@@ -1,0 +1,113 @@
+//! The parser of a text that comes in pieces, as its callers see it.
+
+ghost use Rattle.std.specs.Prelude.{◌≡◌, ◌++◌, ℕ, List, [], IfOk, true, false};
+ghost use Rattle.std.specs.Str.{chars};
+ghost use Rattle.saphyr_scanner.specs.Steps.Remaining.{scan};
+ghost use Rattle.saphyr_machine.specs.Cursor.{at_start, keeping_tags};
+ghost use Rattle.event_laws.specs.Limits.{most_characters};
+ghost use Rattle.saphyr_pieces.specs.Pieces.{HandsOut, at, wants_more};
+
+use crate::pieces::PieceReader;
+use saphyr_machine::{Event, Fault, Progress};
+use saphyr_scalar::Span;
+use std::alloc::{AllocError, Global};
+use std::marker::Model;
+
+/// A parser of a text that comes in pieces: its caller adds the next characters, and reads the events that they decide.
+///
+/// Wherever the text is cut, the events are those of all pieces, one behind the other: contracts see the parser of the
+/// whole text, for all characters that may still come. A document's events come once a line of `---` or `...` behind it
+/// has come; what an open bracket leaves undecided comes later.
+pub struct PieceParser {
+    reader: PieceReader,
+}
+
+// Written out, so that crates that drop a parser call it.
+impl Drop for PieceParser {
+    fn drop(self) {
+        let PieceParser { reader: _reader } = self;
+    }
+}
+
+impl Model for PieceParser {
+    ghost use Rattle.saphyr_pieces.specs.Pieces.{Pieces};
+    ghost use Rattle.saphyr_pieces.specs.Views.{IsSound, pieces_of};
+
+    ghost Value = { Pieces };
+
+    ghost view = { λ p. pieces_of p.reader };
+
+    ghost invariant = { λ p. IsSound p.reader };
+}
+
+impl PieceParser {
+    /// A parser of a text of which nothing came. The text is refused past 4,294,967,295 characters.
+    pub fn new(alloc: Global) -> Result<Self, AllocError>
+        ensures decided { IfOk result (λ p. (text : List ℕ)
+            → at p text ≡ at_start (scan most_characters text)) }
+        ensures wants { IfOk result (λ p. wants_more p ≡ true) }
+    {
+        Ok(PieceParser {
+            reader: PieceReader::new(alloc)?,
+        })
+    }
+
+    /// Adds the next characters of the text. Once `wants_more` is false they are not read.
+    ///
+    /// If memory runs out, no event comes any more.
+    pub fn add(&mut self, more: &str) -> Result<(), AllocError>
+        ensures { IfOk result (λ _. (later : List ℕ)
+            → at self.new later ≡ at self.old (chars more.now ++ later)) }
+    {
+        self.reader.add(more)
+    }
+
+    /// Says that no more of the text comes. After it `next_event_into` gives all that is left.
+    ///
+    /// If memory runs out, no event comes any more.
+    pub fn end(&mut self) -> Result<(), AllocError>
+        ensures at { IfOk result (λ _. (later : List ℕ) → at self.new later ≡ at self.old []) }
+        ensures all { wants_more self.new ≡ false }
+    {
+        self.reader.end()
+    }
+
+    /// Whether more of the text is wanted: its end did not come, and nothing that came is refused.
+    #[must_use]
+    pub fn wants_more(&self) -> bool
+        ensures { result ≡ wants_more self.now }
+    {
+        self.reader.wants_more()
+    }
+
+    /// Hands out the next event, or the fault that ends the events, and writes it into its place. `None` says that it
+    /// depends on characters that did not come.
+    pub fn next_event_into(
+        &mut self,
+        next: &mut (Event<'static>, Span),
+        fault: &mut Fault,
+    ) -> Option<Progress>
+        ensures { HandsOut result next.new fault.new self.old self.new }
+    {
+        self.reader.next_event_into(next, fault)
+    }
+
+    /// Sets whether prefixes of tags hold for later documents too. In YAML they don't.
+    ///
+    /// The setting takes effect from the next end of a document that is read.
+    pub fn keep_tags(&mut self, value: bool)
+        ensures at { (later : List ℕ) → at self.new later ≡ keeping_tags value (at self.old later) }
+        ensures wants { wants_more self.new ≡ wants_more self.old }
+    {
+        self.reader.keep_tags(value);
+    }
+
+    /// An independent parser at the same place, unless memory runs out. Adding to one adds nothing to the other.
+    pub fn try_clone(&self) -> Result<Self, AllocError>
+        ensures { IfOk result (λ copy. copy ≡ self.now) }
+    {
+        Ok(PieceParser {
+            reader: self.reader.try_clone()?,
+        })
+    }
+}

@@ -1,0 +1,63 @@
+//! Whether a reader of events has all tokens that its next event depends on.
+
+ghost use Rattle.std.specs.Prelude.{◌≡◌};
+ghost use Rattle.saphyr_scanner.specs.Views.Tokens.{kind_of};
+ghost use Rattle.saphyr_machine.specs.Views.Machines.{happening};
+ghost use Rattle.saphyr_pieces.specs.Readiness as spec;
+
+use saphyr_machine::Event;
+use saphyr_scanner::TokenType;
+
+/// A document marker: `---` or `...`.
+#[derive(Clone, Copy, PartialEq, Eq)]
+pub(crate) enum Marker {
+    Starts,
+    Ends,
+}
+
+/// What is known of the tokens that a reader has.
+#[derive(Clone, Copy)]
+pub(crate) enum Readiness {
+    /// There is the token of the stream's start, and nothing was read.
+    Starting,
+    /// Nothing is known.
+    Waiting,
+    /// One of them isn't passed outside documents, as `...` and byte order marks are.
+    Holding,
+    /// The last is a marker's, and the next event depends on none after it.
+    Ready(Marker),
+}
+
+impl Readiness {
+    /// Whether the next event can be read.
+    pub(crate) fn is_ready(self) -> bool
+        ensures { result ≡ spec.is_ready self }
+    {
+        matches!(self, Readiness::Starting | Readiness::Ready(_))
+    }
+
+    /// With one more token.
+    pub(crate) fn with_token(self, kind: &TokenType) -> Readiness
+        ensures { result ≡ spec.with_kind (kind_of kind.now) self }
+    {
+        match (self, kind) {
+            (_, TokenType::DocumentStart) => Readiness::Ready(Marker::Starts),
+            (Readiness::Holding, TokenType::DocumentEnd) => Readiness::Ready(Marker::Ends),
+            (_, TokenType::DocumentEnd | TokenType::ByteOrderMark) => self,
+            _ => Readiness::Holding,
+        }
+    }
+
+    /// After an event. `is_outside` says whether no document is open.
+    pub(crate) fn behind_event(self, event: &Event<'_>, is_outside: bool) -> Readiness
+        ensures { result ≡ spec.behind_event (happening event.now) is_outside self }
+    {
+        match (self, event) {
+            (Readiness::Ready(Marker::Starts), Event::DocumentStart(true)) => Readiness::Waiting,
+            (Readiness::Ready(Marker::Ends), Event::DocumentEnd) => Readiness::Waiting,
+            (Readiness::Ready(Marker::Ends), _) if is_outside => Readiness::Waiting,
+            (Readiness::Ready(marker), _) => Readiness::Ready(marker),
+            _ => Readiness::Waiting,
+        }
+    }
+}
