@@ -87,7 +87,7 @@ lay_out() {
     else
         echo "release.sh: without dump_events, since $program is not built" >&2
     fi
-    install -Dm644 -t "$share" LICENSE-MIT LICENSE-APACHE CHANGELOG.md tests/faces/pieces.h
+    install -Dm644 -t "$share" LICENSE-MIT LICENSE-APACHE CHANGELOG.md
     install -Dm644 -t "$share/docs" docs/{COMING_FROM,DIFFERENCES,FACES,SPANS,YAML}.md
     install -Dm644 -t "$share/rust" rust/{Cargo.toml,build.rs,README.md,LICENSE-MIT,LICENSE-APACHE}
     find rust/src rust/examples -type f -exec install -Dm644 {} "$share/{}" \;

@@ -71,8 +71,7 @@ def library_words(kit):
 
 def built(folder, compiler):
     """The C programs and the Rust example, by their names."""
-    for header in (f"{CRATE}/saphyr_parser.h", f"{ROOT}/tests/faces/pieces.h"):
-        call([compiler, "-std=c99", "-pedantic-errors", "-fsyntax-only", f"-I{CRATE}", header], ROOT)
+    call([compiler, "-std=c99", "-pedantic-errors", "-fsyntax-only", f"{CRATE}/saphyr_parser.h"], ROOT)
     made, to_link = {}, libraries()
     for name in PROGRAMS:
         made[name] = f"{folder}/{name}"
@@ -117,7 +116,7 @@ def check_lists(made, cases):
 
 def check_pieces(made, count, cases):
     """Each case through C in one process, in pieces of so many bytes."""
-    texts = b"".join(framed(case).split(b" ", 1)[1] for case in cases)
+    texts = b"".join(map(framed, cases))
     answers = subprocess.run([made["pieces"], str(count)], input=texts, capture_output=True).stdout.split(b"\xff")[:-1]
     if len(answers) != len(cases):
         fail(f"C in pieces of {count} stopped behind {len(answers)} of {len(cases)} cases")
@@ -163,8 +162,7 @@ def refuse_each(made, library, case):
 def look_for_leaks(made, cases):
     """Runs the programs under valgrind."""
     texts = [case for case in cases if case.name in ("worked 001", "worked 004", "worked 043")]
-    runs = [("misuse", b""), ("cases", b"".join(map(framed, cases)))]
-    runs.append(("pieces", b"".join(framed(case).split(b" ", 1)[1] for case in cases if not case.keeps_tags)))
+    runs = [("misuse", b""), *((name, b"".join(map(framed, cases))) for name in ("cases", "pieces"))]
     runs += [(name, case.text.encode()) for name in ("dump_events", "rust") for case in texts]
     for name, text in runs:
         ran = subprocess.run([*VALGRIND, made[name]], input=text, capture_output=True)
@@ -185,8 +183,7 @@ def main():
     with tempfile.TemporaryDirectory() as folder, concurrent.futures.ThreadPoolExecutor(os.cpu_count()) as pool:
         made = built(folder, compiler)
         check_lists(made, cases)
-        cut = [case for case in cases if not case.keeps_tags]
-        list(pool.map(lambda count: check_pieces(made, count, cut), PIECES))
+        list(pool.map(lambda count: check_pieces(made, count, cases), PIECES))
         list(pool.map(check_lines, (case for case in cases if not case.name.startswith("cut "))))
         cargo("test")
         said = subprocess.run([made["misuse"]], capture_output=True).stdout.decode()

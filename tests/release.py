@@ -5,7 +5,7 @@
 
 The programs of tests/release print the events of a small text: in C99 and C++17 with the archive, in C through
 `pkg-config` and through CMake with the shared library, in Python through ctypes; and the crate's example in a cargo
-project with a `[patch]`. Their lines are to be those of `dump_events`. The shared library exports the eight calls
+project with a `[patch]`. Their lines are to be those of `dump_events`. The shared library exports the ten calls
 alone, and the version is the same wherever it stands. Where there is no compiler of C, the script says so, and tests
 nothing; what else is missing it says, and tests the rest.
 """
@@ -22,7 +22,7 @@ from refused_memory import ROOT, program
 
 PROGRAMS = f"{ROOT}/tests/release"
 TEXT = b"name: &it !!str 'parser'\nports: [80, \"443\", *it]\n"
-CALLS = ["clone", "free", "keep_tags", "new", "next", "peek", "valid_up_to", "version"]
+CALLS = ["add", "clone", "free", "keep_tags", "new", "new_pieces", "next", "peek", "valid_up_to", "version"]
 STRICT = ["-Wall", "-Wextra", "-pedantic", "-Werror"]
 PATCHED = """[package]
 name = "events"

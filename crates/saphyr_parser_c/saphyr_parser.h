@@ -13,6 +13,15 @@
  *     }
  *     saphyr_free(&parser);
  *
+ * A text that comes in pieces, from a pipe for example:
+ *
+ *     int32_t status = saphyr_new_pieces(false, &parser);
+ *     while (status >= 0 && (status = saphyr_next(&parser, &event)) > 0)
+ *         if (status == SAPHYR_MORE)
+ *             status = saphyr_add(&parser, bytes, fread(bytes, 1, sizeof bytes, file));
+ *         else
+ *             ... event.kind ...
+ *
  * What the caller must do. Nothing checks these rules, and all that the library promises depends on them:
  *
  *  - Zero a saphyr_parser and a saphyr_event, as by {0}, before you first pass them to a call.
@@ -22,7 +31,7 @@
  *  - Use a saphyr_parser in one call at a time, and a saphyr_event too. Between calls a parser may go from one
  *    thread to another, if a lock or the thread's start or end orders the calls.
  *  - Keep the text where it is, unchanged, until every parser over it is freed: that of saphyr_new, and its
- *    clones.
+ *    clones. The bytes that saphyr_add was given are copied.
  *  - malloc, realloc and free belong to one allocator. Make no call from a signal handler, or from the forked
  *    child of a process with threads.
  *
@@ -50,23 +59,30 @@ extern "C" {
 
 /* What a call returns. Below 0, the call failed. */
 enum saphyr_status {
-    /* saphyr_new, saphyr_clone, saphyr_keep_tags: done. */
+    /* saphyr_new, saphyr_new_pieces, saphyr_add, saphyr_clone, saphyr_keep_tags: done. */
     SAPHYR_OK = 0,
     /* saphyr_next, saphyr_peek: no event is left. The end of the stream or a fault was handed out before. */
     SAPHYR_END = 0,
     /* saphyr_next, saphyr_peek: the event is written. */
     SAPHYR_EVENT = 1,
+    /* saphyr_next, saphyr_peek: the next event depends on bytes that did not come. No event is written. */
+    SAPHYR_MORE = 2,
     /* saphyr_next, saphyr_peek: the text is refused. `value` says why, and `start` where. No event follows. */
     SAPHYR_REFUSED = -1,
-    /* Out of memory. From saphyr_next and saphyr_peek: no event follows. */
+    /* Out of memory. From saphyr_next and saphyr_peek: no event follows. From saphyr_add: only saphyr_free helps. */
     SAPHYR_NO_MEMORY = -2,
-    /* saphyr_new: the text is not UTF-8. saphyr_valid_up_to returns the index of the first wrong byte. */
+    /* saphyr_new: the text is not UTF-8. saphyr_valid_up_to returns the index of the first wrong byte. saphyr_add: the
+       bytes, behind those that came before, are not, or the text ends inside a character. Nothing is added. */
     SAPHYR_NOT_UTF8 = -3,
     /* The handle is empty: no parser was made in it, or it was freed. */
     SAPHYR_NO_PARSER = -4,
     /* saphyr_new: the text is not UTF-8, and begins with the byte order mark of UTF-16: FE FF, or FF FE without
-       two bytes of 0 after it. With these it is that of UTF-32. */
-    SAPHYR_UTF16 = -5
+       two bytes of 0 after it. With these it is that of UTF-32. saphyr_add: the text's first bytes, all in this call,
+       begin so. Nothing is added. */
+    SAPHYR_UTF16 = -5,
+    /* saphyr_add: all of the text is there already, since saphyr_new was given it or its end was told. Nothing is
+       added. */
+    SAPHYR_WHOLE = -6
 };
 
 /* What happens in the text. */
@@ -162,12 +178,31 @@ typedef struct saphyr_event {
 /*
  * Makes a parser of the `len` bytes at `text`, and puts it into `parser`. Frees what `parser` held, whatever it
  * returns. With `keep_tags` the prefixes of tags that a document declares hold for later documents too; in YAML they
- * do not. A text of more than 4,294,967,295 characters is refused after these. docs/FACES.md of the repository says how
- * to parse a text that comes in pieces.
+ * do not. A text of more than 4,294,967,295 characters is refused after these.
  *
  * Returns SAPHYR_OK; or SAPHYR_NOT_UTF8, SAPHYR_UTF16 or SAPHYR_NO_MEMORY, and then `parser` is empty.
  */
 int32_t saphyr_new(const uint8_t *text, size_t len, bool keep_tags, saphyr_parser *parser);
+
+/*
+ * Makes a parser of a text that comes in pieces, of which nothing came yet, and puts it into `parser`. Frees what
+ * `parser` held, whatever it returns. saphyr_add takes the next bytes. `keep_tags` and the limit are as for saphyr_new.
+ *
+ * Returns SAPHYR_OK; or SAPHYR_NO_MEMORY, and then `parser` is empty.
+ */
+int32_t saphyr_new_pieces(bool keep_tags, saphyr_parser *parser);
+
+/*
+ * Adds the next `len` bytes of a text that comes in pieces. They may be cut anywhere, even inside a character. A `len`
+ * of 0 says that no more come. The events are those of all bytes, one behind the other, wherever they are cut: those of
+ * a document come once a line of `---` or `...` behind it has come, or the end, but what follows a bracket that such a
+ * line leaves open may come later. Bytes that are not needed any more, since the text is refused, are not read.
+ *
+ * Returns SAPHYR_OK; SAPHYR_NOT_UTF8, SAPHYR_UTF16, SAPHYR_WHOLE or SAPHYR_NO_PARSER, and then nothing is added, and
+ * the parser stays as it was; or SAPHYR_NO_MEMORY, and then saphyr_next hands out that fault too, once.
+ * What it gives after that is not told.
+ */
+int32_t saphyr_add(saphyr_parser *parser, const uint8_t *bytes, size_t len);
 
 /*
  * Returns how many of the `len` bytes at `text` are UTF-8, from the front: `len` if all are, otherwise the index of
@@ -179,7 +214,8 @@ size_t saphyr_valid_up_to(const uint8_t *text, size_t len);
  * Hands out the next event. If a fault ends the events, hands out that fault, once. After the end of the stream
  * or a fault nothing is left.
  *
- * Returns SAPHYR_EVENT, SAPHYR_END, SAPHYR_REFUSED, SAPHYR_NO_MEMORY or SAPHYR_NO_PARSER.
+ * Returns SAPHYR_EVENT, SAPHYR_END, SAPHYR_REFUSED, SAPHYR_NO_MEMORY or SAPHYR_NO_PARSER. If the text comes in pieces
+ * and the next event depends on bytes that did not come, returns SAPHYR_MORE, and the parser stays where it was.
  */
 int32_t saphyr_next(saphyr_parser *parser, saphyr_event *event);
 
@@ -192,8 +228,8 @@ int32_t saphyr_peek(saphyr_parser *parser, saphyr_event *event);
 
 /*
  * Makes an independent parser at the same place of the events, and puts it into `copy`. Frees what `copy` held,
- * whatever it returns. Advancing one does not move the other. The texts of the event that `parser` gave last must
- * not be read any more, and the copy has given none.
+ * whatever it returns. Advancing one does not move the other, and what saphyr_add gives one comes to no other. The
+ * texts of the event that `parser` gave last must not be read any more, and the copy has given none.
  *
  * Returns SAPHYR_OK; or SAPHYR_NO_PARSER or SAPHYR_NO_MEMORY, and then `copy` is empty. `parser` stays as it was.
  */

@@ -33,6 +33,8 @@ static void expect_empty(saphyr_parser *parser, const char *what) {
     expect((int32_t)event.anchor, 0, what);
     expect(saphyr_peek(parser, &event), SAPHYR_NO_PARSER, what);
     expect(saphyr_keep_tags(parser, true), SAPHYR_NO_PARSER, what);
+    expect(saphyr_add(parser, (const uint8_t *)"a", 1), SAPHYR_NO_PARSER, what);
+    expect(saphyr_add(parser, (const uint8_t *)"", 0), SAPHYR_NO_PARSER, what);
     expect(saphyr_clone(parser, &copy), SAPHYR_NO_PARSER, what);
     expect(copy.at == NULL, true, what);
 }
@@ -202,6 +204,103 @@ static void keeps_tags(void) {
     }
 }
 
+static int32_t add(saphyr_parser *parser, const char *bytes) {
+    return saphyr_add(parser, (const uint8_t *)bytes, strlen(bytes));
+}
+
+/* Takes all events that are there. How many documents ended, and the status behind them. */
+static int documents(saphyr_parser *parser, int32_t *status) {
+    saphyr_event event = {0};
+    int ended = 0;
+    while ((*status = saphyr_next(parser, &event)) == SAPHYR_EVENT) {
+        ended += event.kind == SAPHYR_DOCUMENT_END;
+    }
+    expect(event.kind == SAPHYR_NOTHING && is_bare(&event), *status != SAPHYR_REFUSED, "no event without old fields");
+    return ended;
+}
+
+/* A document's events come once the line of a marker behind it has come. */
+static void comes_at_once(void) {
+    static const struct {
+        const char *piece;
+        int ended;
+    } pieces[] = {{"--- a\n", 0},       {"b: [c]\n", 0}, {"---", 0},          {" ", 1},       {"d\n...\n", 1},
+                  {"e\n", 0},          {"...", 0},      {"\n", 1},           {"--- |\n f", 0}, {"\n--- 'g'\n", 1},
+                  {"--- {h: i}\n", 1}, {"---\n", 1},    {"%TAG ! !j\n", 0}, {"", 1}};
+    saphyr_parser parser = {0};
+    int32_t status;
+    expect(saphyr_new_pieces(false, &parser), SAPHYR_OK, "a text in pieces");
+    for (size_t at = 0; at < sizeof pieces / sizeof *pieces; at++) {
+        bool is_last = at + 1 == sizeof pieces / sizeof *pieces;
+        expect(add(&parser, pieces[at].piece), SAPHYR_OK, pieces[at].piece);
+        expect(documents(&parser, &status), pieces[at].ended, pieces[at].piece);
+        expect(status, is_last ? SAPHYR_END : SAPHYR_MORE, pieces[at].piece);
+    }
+    saphyr_free(&parser);
+}
+
+/* Bytes that are not UTF-8 add nothing, also behind the beginning of a character. */
+static void refuses_pieces(void) {
+    static const struct {
+        const char *piece;
+        int32_t status;
+    } pieces[] = {{"\xff\xfe" "a", SAPHYR_UTF16},
+                  {"\xfe", SAPHYR_NOT_UTF8},
+                  {"--- \xe2", SAPHYR_OK},
+                  {"\xfe\xff", SAPHYR_NOT_UTF8},
+                  {"a", SAPHYR_NOT_UTF8},
+                  {"", SAPHYR_NOT_UTF8},
+                  {"\x82", SAPHYR_OK},
+                  {"\xe2", SAPHYR_NOT_UTF8},
+                  {"\xac\n", SAPHYR_OK},
+                  {"\xff\xfe", SAPHYR_NOT_UTF8},
+                  {"\xf0\x9f\x98", SAPHYR_OK},
+                  {"", SAPHYR_NOT_UTF8},
+                  {"\x80", SAPHYR_OK},
+                  {"", SAPHYR_OK},
+                  {"a", SAPHYR_WHOLE},
+                  {"\xff", SAPHYR_WHOLE},
+                  {"", SAPHYR_WHOLE}};
+    saphyr_parser parser = {0};
+    saphyr_event event = {0};
+    int32_t status;
+    expect(saphyr_new_pieces(false, &parser), SAPHYR_OK, "a text in pieces");
+    for (size_t at = 0; at < sizeof pieces / sizeof *pieces; at++) {
+        expect(add(&parser, pieces[at].piece), pieces[at].status, pieces[at].piece);
+    }
+    while ((status = saphyr_next(&parser, &event)) == SAPHYR_EVENT) {
+        bool is_scalar = event.kind == SAPHYR_SCALAR;
+        expect(is_scalar && memcmp(event.value.at, "\xe2\x82\xac \xf0\x9f\x98\x80", 8), 0, "the characters that came");
+        expect((int32_t)event.value.len, is_scalar ? 8 : 0, "how many bytes came");
+    }
+    expect(status, SAPHYR_END, "behind the characters that came");
+    saphyr_free(&parser);
+}
+
+/* Nothing can be added to a whole text. Nothing is needed of a text that is refused. */
+static void adds_where_it_may(void) {
+    saphyr_parser parser = {0};
+    saphyr_event event = {0};
+    int32_t status;
+    expect(make("a", &parser), SAPHYR_OK, "a text");
+    expect(add(&parser, "b"), SAPHYR_WHOLE, "more of a whole text");
+    expect(add(&parser, ""), SAPHYR_WHOLE, "the end of a whole text");
+    expect(documents(&parser, &status), 1, "documents of a whole text");
+    expect(saphyr_new_pieces(false, &parser), SAPHYR_OK, "a text in pieces over a live parser");
+    expect(saphyr_peek(&parser, &event), SAPHYR_EVENT, "the start of a text of which nothing came");
+    expect(add(&parser, "@\n--- b\n"), SAPHYR_OK, "a text that is refused");
+    expect(saphyr_next(&parser, &event), SAPHYR_EVENT, "what was shown");
+    expect(event.kind, SAPHYR_STREAM_START, "what was shown");
+    expect(documents(&parser, &status), 0, "documents of a text that is refused");
+    expect(status, SAPHYR_REFUSED, "a text that is refused");
+    expect(add(&parser, "c"), SAPHYR_OK, "more of a text that is refused");
+    expect(saphyr_next(&parser, &event), SAPHYR_END, "behind a fault");
+    expect(add(&parser, ""), SAPHYR_OK, "the end of a text that is refused");
+    expect(saphyr_next(&parser, &event), SAPHYR_END, "behind a fault");
+    saphyr_free(&parser);
+    expect_empty(&parser, "a handle of a text in pieces that was freed");
+}
+
 int main(void) {
     expect((int32_t)saphyr_version(), (int32_t)SAPHYR_VERSION, "the version");
     frees_twice();
@@ -213,5 +312,8 @@ int main(void) {
     refuses_once();
     reads_in_place();
     keeps_tags();
+    comes_at_once();
+    refuses_pieces();
+    adds_where_it_may();
     return failed;
 }

@@ -1,58 +1,98 @@
 /*
  * Reads texts from standard input, and prints the events of each with their places, as the cases of
- * crates/test_cases have them. Each comes in pieces of as many bytes as the argument says.
+ * crates/test_cases have them. Each comes in pieces of as many bytes as the argument says. Now and then the next event
+ * is peeked before it is taken, and clones have to give it too.
  *
  *     pieces COUNT
  *
- * A text comes behind a line with how many bytes it has. Its lines end in the byte FF.
+ * A text comes behind a line with `1` or `0`, for `keep_tags`, and how many bytes it has. Its lines end in the byte FF.
  */
-#include "pieces.h"
 #include "printing.h"
 
 static struct printer line;
 
-static void print_case(const uint8_t *text, size_t len, size_t count) {
-    struct pieces pieces = {0};
-    saphyr_event event = {0};
-    size_t added = 0;
-    int32_t status;
-    line.file = stdout;
-    while ((status = pieces_next(&pieces, &event)) > 0) {
-        if (status == PIECES_MORE) {
-            size_t piece = len - added < count ? len - added : count;
-            uint8_t *bytes = malloc(piece + 1);
-            memcpy(bytes, text + added, piece);
-            pieces_add(&pieces, bytes, piece);
-            free(bytes);
-            added += piece;
-            continue;
-        }
+static void print_answer(int32_t status, const saphyr_event *event) {
+    const saphyr_marker *start = &event->start, *end = &event->end;
+    if (status == SAPHYR_EVENT) {
         print_bytes(&line, "> ", 2);
-        print_event(&line, &event);
+        print_event(&line, event);
         flush(&line);
-        const saphyr_marker *start = &event.start, *end = &event.end;
-        printf("%s @ %zu,%zu,%zu", event.is_explicit ? " ---" : "", start->index, start->line, start->col);
+        printf("%s @ %zu,%zu,%zu", event->is_explicit ? " ---" : "", start->index, start->line, start->col);
         printf(" %zu,%zu,%zu\n", end->index, end->line, end->col);
-    }
-    if (status == SAPHYR_REFUSED) {
+    } else if (status == SAPHYR_REFUSED) {
         fputs("! ", stdout);
-        print_fault(stdout, &event);
+        print_fault(stdout, event);
         putchar('\n');
     } else if (status != SAPHYR_END) {
         printf("status %d\n", (int)status);
     }
-    pieces_free(&pieces);
+}
+
+/* Whether two events have the same numbers, and texts of the same length. */
+static bool is_same(const saphyr_event *one, const saphyr_event *other) {
+    return one->kind == other->kind && one->style == other->style && one->is_explicit == other->is_explicit &&
+           one->has_tag == other->has_tag && one->anchor == other->anchor &&
+           !memcmp(&one->start, &other->start, sizeof one->start) && !memcmp(&one->end, &other->end, sizeof one->end) &&
+           one->value.len == other->value.len && one->tag_handle.len == other->tag_handle.len &&
+           one->tag_suffix.len == other->tag_suffix.len;
+}
+
+/* The next event, which a peek and clones before and behind it have to give too. */
+static int32_t next_in_each_way(saphyr_parser *parser, saphyr_event *event) {
+    saphyr_parser before = {0}, behind = {0};
+    saphyr_event peeked = {0}, first = {0}, second = {0};
+    int32_t cloned = saphyr_clone(parser, &before), status = saphyr_peek(parser, &peeked);
+    cloned += saphyr_clone(parser, &behind);
+    if (cloned != SAPHYR_OK || saphyr_next(&before, &first) != status || saphyr_next(&behind, &second) != status ||
+        saphyr_next(parser, event) != status || !is_same(&peeked, event) || !is_same(&first, event) ||
+        !is_same(&second, event)) {
+        printf("a peek or a clone gives something else\n");
+    }
+    saphyr_free(&before);
+    saphyr_free(&behind);
+    return status;
+}
+
+static void print_case(const uint8_t *text, size_t len, bool keep_tags, size_t count) {
+    saphyr_parser parser = {0};
+    saphyr_event event = {0};
+    size_t added = 0, calls = 0;
+    int32_t status = saphyr_new_pieces(keep_tags, &parser);
+    while (status >= 0) {
+        bool is_plain = len > 500 || calls++ % 4 > 0;
+        status = is_plain ? saphyr_next(&parser, &event) : next_in_each_way(&parser, &event);
+        if (status != SAPHYR_MORE) {
+            print_answer(status, &event);
+            if (status != SAPHYR_EVENT) {
+                break;
+            }
+            continue;
+        }
+        /* A copy, so that valgrind sees a read past the piece, or after the call. */
+        size_t piece = len - added < count ? len - added : count;
+        uint8_t *bytes = malloc(piece + 1);
+        memcpy(bytes, text + added, piece);
+        status = saphyr_add(&parser, bytes, piece);
+        free(bytes);
+        added += piece;
+        if (status != SAPHYR_OK) {
+            print_answer(status, &event);
+        }
+    }
+    saphyr_free(&parser);
     putchar(0xff);
 }
 
 int main(int argc, char **argv) {
     size_t len, count = argc == 2 ? strtoul(argv[1], NULL, 10) : 1;
-    while (scanf("%zu", &len) == 1 && getchar() == '\n') {
+    int keep_tags;
+    line.file = stdout;
+    while (scanf("%d %zu", &keep_tags, &len) == 2 && getchar() == '\n') {
         uint8_t *text = malloc(len + 1);
         if (!text || fread(text, 1, len, stdin) != len) {
             return 2;
         }
-        print_case(text, len, count);
+        print_case(text, len, keep_tags == 1, count);
         free(text);
     }
     return 0;

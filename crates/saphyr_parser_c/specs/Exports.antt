@@ -1,15 +1,15 @@
 -- What C's calls do to the parser that a handle holds, or to a handle that holds none.
-use Rattle.std.specs.Prelude.{◌≡◌, ℕ, ℤ, pos, negsuc, ◌⊎◌, Bool, List, Some, None}
+use Rattle.std.specs.Prelude.{◌≡◌, ℕ, ℤ, pos, ◌⊎◌, Bool, List, Some, None}
 use Rattle.std.specs.Prelude as std
 use mathlib.Core.Option.{Option, none, some}
 use Rattle.std.specs.declared.boxed.Box.{Box}
 use Rattle.std.specs.Global.{Global}
-use Rattle.saphyr_parser.specs.Cursor.{keeping_tags}
 use Rattle.saphyr_parser_c.specs.declared.inner.Inner.{Inner}
 use Rattle.saphyr_parser_c.specs.declared.shown.CEvent.{CEvent}
 use Rattle.saphyr_parser_c.specs.declared.status.Status.{Status}
 use Rattle.saphyr_parser_c.specs.declared.status.Status.TheVariants as status
-use Rattle.saphyr_parser_c.specs.Inner.{IsOverText, ShowsToC, HandsToC, handed}
+use Rattle.saphyr_parser_c.specs.Inner as spec
+use Rattle.saphyr_parser_c.specs.Inner.{IsOverText, IsOfPieces, AddsToC, ShowsToC, HandsToC}
 use Rattle.saphyr_parser_c.specs.Shown.{Holds, no_fields, nowhere}
 use Rattle.saphyr_parser_c.specs.Status.{code_of}
 
@@ -35,6 +35,19 @@ abbrev pub MakesOrNot : ℤ → Type 0
 MakesOrNot code = (code ≡ pos 0) ⊎ ((code ≡ code_of status.NotUtf8)
     ⊎ ((code ≡ code_of status.Utf16) ⊎ (code ≡ code_of status.NoMemory)))
 
+-- a parser of a text of which nothing came was made
+abbrev pub IsMadeOfPieces : Bool → Option Inner → Type 0
+IsMadeOfPieces keep none = ⊥
+IsMadeOfPieces keep (some inner) = IsOfPieces keep inner
+
+abbrev pub HasMemoryOrNot : ℤ → Type 0
+HasMemoryOrNot code = (code ≡ pos 0) ⊎ (code ≡ code_of status.NoMemory)
+
+abbrev pub AddsTo : List ℕ → Option Inner → ℤ → Option Inner → Type 0
+AddsTo bytes none code new = (code ≡ code_of status.NoParser) × (new ≡ none)
+AddsTo bytes (some old) code new =
+    (inner : Inner) × (s : Status) × (new ≡ some inner) × (code ≡ code_of s) × AddsToC bytes old s inner
+
 abbrev pub Nexts : Option Inner → ℤ → CEvent → Option Inner → Type 0
 Nexts none code c new = TellsNone code c new
 Nexts (some old) code c new =
@@ -48,7 +61,7 @@ PeeksAt (some old) code c new =
 -- a copy, if one is made, is at the parser's place
 abbrev pub Copies : Inner → ℤ → Option Inner → Type 0
 Copies old code none = code ≡ code_of status.NoMemory
-Copies old code (some copy) = (code ≡ pos 0) × (copy.parser ≡ old.parser) × (handed copy ≡ None)
+Copies old code (some copy) = (code ≡ pos 0) × spec.IsCopy old copy
 
 abbrev pub Clones : Option Inner → ℤ → Option Inner → Type 0
 Clones none code copy = (code ≡ code_of status.NoParser) × (copy ≡ none)
@@ -57,4 +70,4 @@ Clones (some old) code copy = Copies old code copy
 abbrev pub KeepsTags : Bool → Option Inner → ℤ → Option Inner → Type 0
 KeepsTags keep none code new = (code ≡ code_of status.NoParser) × (new ≡ none)
 KeepsTags keep (some old) code new =
-    (code ≡ pos 0) × (new ≡ some (record old { parser = keeping_tags keep old.parser }))
+    (inner : Inner) × (new ≡ some inner) × (code ≡ pos 0) × spec.KeepsTags keep old inner

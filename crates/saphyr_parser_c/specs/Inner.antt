@@ -1,21 +1,31 @@
 -- What the calls on a parser with its event do.
-use Rattle.std.specs.Prelude.{◌≡◌, ℕ, Bool, List, Option, None, Result, IsUtf8}
+use Rattle.std.specs.Prelude.{◌≡◌, ℕ, Bool, true, false, List, Option, Some, None, Result, Ok, Err, IsUtf8}
 use Rattle.std.specs.Borrow.{Bor}
 use Rattle.std.specs.Str.{chars}
+use Rattle.std.specs.declared.alloc.AllocError.{AllocError}
 use Rattle.saphyr_scalar.specs.declared.scalar.position.Span.{Span}
 use Rattle.saphyr_parser.specs.Limits.{most_characters}
 use Rattle.saphyr_parser.specs.Types.Event.{Event}
 use Rattle.saphyr_parser.specs.Types.Fault.{Fault}
+use Rattle.saphyr_parser.specs.Types.Fault.TheVariants as fault
 use Rattle.saphyr_scanner.specs.Steps.Remaining.{scan}
+use Rattle.saphyr_machine.specs.declared.progress.Progress.TheVariants as progress
 use Rattle.saphyr_parser.specs.Calls.{EndsTheStream, GivesNext, Peeks, item_at}
-use Rattle.saphyr_parser.specs.Cursor.{EventCursor, HandsOutNext, at_start, keeping_tags, to_come}
+use Rattle.saphyr_parser.specs.Cursor.{EventCursor, HandsOutNext, at_start, event_of, keeping_tags, to_come}
 use Rattle.saphyr_parser.specs.Promises.{KeepsSpans, ReadsClosedYaml, ReadsJson, ReadsYaml, TakesEvents}
+use Rattle.saphyr_pieces.specs.Pieces.{wants_more}
+use Rattle.saphyr_parser_c.specs.declared.coming.Coming.{Coming}
 use Rattle.saphyr_parser_c.specs.declared.inner.Inner.{Inner}
 use Rattle.saphyr_parser_c.specs.declared.shown.CEvent.{CEvent}
+use Rattle.saphyr_parser_c.specs.declared.source.Source.{Source}
+use Rattle.saphyr_parser_c.specs.declared.source.Source.TheVariants as source
 use Rattle.saphyr_parser_c.specs.declared.status.Status.{Status}
 use Rattle.saphyr_parser_c.specs.declared.status.Status.TheVariants as status
+use Rattle.saphyr_parser_c.specs.Coming.{Adds, IsOfNothing, place}
+use Rattle.saphyr_parser_c.specs.Coming.{IsCopy as IsCopyOfPieces}
 use Rattle.saphyr_parser_c.specs.Encoding.{BeginsAsUtf16}
-use Rattle.saphyr_parser_c.specs.Shown.{TellsC, TellsLent}
+use Rattle.saphyr_parser_c.specs.Same.{IsSameFault}
+use Rattle.saphyr_parser_c.specs.Shown.{Holds, TellsC, TellsLent, no_fields, nowhere}
 
 -- what was handed out last, which is in the places for an event and for a fault
 abbrev pub handed : Inner → Option (Result (Event × Span) Fault)
@@ -30,13 +40,24 @@ pub record Promises (text : List ℕ) (parser : EventCursor) : Type 0 where
   pub spans : KeepsSpans text parser
   pub taken : TakesEvents text parser
 
+-- nothing was handed out or shown here
+abbrev pub IsFresh : Inner → Type 0
+IsFresh inner = (handed inner ≡ None) × (inner.shown ≡ false)
+
 -- a parser at the start of a text in UTF-8, which keeps the prefixes of tags or not, and no event yet
 pub record IsOverText (text : List ℕ) (keep : Bool) (inner : Inner) : Type 0 where
   pub utf8 : IsUtf8 text
   pub fresh : EventCursor
   pub promises : Promises (chars text) fresh
-  pub parser : inner.parser ≡ keeping_tags keep fresh
-  pub event : handed inner ≡ None
+  pub parser : inner.source ≡ source.Whole (keeping_tags keep fresh)
+  pub event : IsFresh inner
+
+-- a parser of a text that comes in pieces, of which nothing came
+pub record IsOfPieces (keep : Bool) (inner : Inner) : Type 0 where
+  pub coming : Coming
+  pub nothing : IsOfNothing keep coming
+  pub source : inner.source ≡ source.Pieces coming
+  pub event : IsFresh inner
 
 -- why there is none
 abbrev pub RefusesText : List ℕ → Status → Type 0
@@ -45,16 +66,150 @@ RefusesText text status.Utf16 = (IsUtf8 text → ⊥) × BeginsAsUtf16 text
 RefusesText text status.NoMemory = IsUtf8 text
 RefusesText text _ = ⊥
 
+-- ## The parser of a whole text
+
 -- What is handed out is the head of the events to come, and is told; it is kept until the next call.
-pub record HandsToC (old : Inner) (s : Status) (c : CEvent) (new : Inner) : Type 0 where
-  pub hands : HandsOutNext (handed new) (to_come old.parser) (to_come new.parser)
-  pub gives : GivesNext (handed new) old.parser new.parser
-  pub over : EndsTheStream new.parser
-  pub tells : TellsC (handed new) s c
+pub record HandsOfWhole (old new : EventCursor) (inner : Inner) (s : Status) (c : CEvent) : Type 0 where
+  pub hands : HandsOutNext (handed inner) (to_come old) (to_come new)
+  pub gives : GivesNext (handed inner) old new
+  pub over : EndsTheStream new
+  pub tells : TellsC (handed inner) s c
 
 -- What is told is what the parser shows.
-pub record ShowsToC (old : Inner) (s : Status) (c : CEvent) (new : Inner) : Type 0 where
+pub record ShowsOfWhole (old new : EventCursor) (s : Status) (c : CEvent) : Type 0 where
   pub shown : Option (Result (Bor (Event × Span)) (Bor Fault))
-  pub peeks : Peeks old.parser shown new.parser
+  pub peeks : Peeks old shown new
   pub tells : TellsLent shown s c
-  pub event : handed new ≡ handed old
+
+-- ## A text that comes in pieces
+
+-- Where the parser of a text in pieces is in the events of the whole text, if these bytes come later: at this place, or
+-- behind what is there, which was only shown.
+abbrev pub IsAtFrom : Bool → Coming → Inner → List ℕ → EventCursor → Type 0
+IsAtFrom false coming inner later c = place coming later ≡ c
+IsAtFrom true coming inner later c = GivesNext (handed inner) c (place coming later)
+
+abbrev pub IsAt : Coming → Inner → List ℕ → EventCursor → Type 0
+IsAt coming inner later c = IsAtFrom inner.shown coming inner later c
+
+-- It depends on bytes that did not come. No event is told, and the place stays.
+pub record WaitsForMore (old : Coming) (before : Inner) (s : Status) (c : CEvent) (new : Coming) (after : Inner)
+    : Type 0 where
+  pub status : s ≡ status.More
+  pub blank : Holds no_fields nowhere nowhere c
+  pub event : IsFresh after
+  pub wants : wants_more new.parser ≡ true
+  pub place : (later : List ℕ) (at : EventCursor) → IsAt old before later at → IsAt new after later at
+
+-- Whatever comes later, what is handed out comes next in the whole text, and is told; it is kept until the next call.
+pub record HandsOfPieces (old : Coming) (before : Inner) (s : Status) (c : CEvent) (new : Coming) (after : Inner)
+    : Type 0 where
+  pub gives : (later : List ℕ) (at : EventCursor) → IsAt old before later at
+      → GivesNext (handed after) at (place new later)
+  pub shown : after.shown ≡ false
+  pub tells : TellsC (handed after) s c
+
+-- The same is shown, and stays to be handed out.
+pub record ShowsOfPieces (old : Coming) (before : Inner) (s : Status) (c : CEvent) (new : Coming) (after : Inner)
+    : Type 0 where
+  pub place : (later : List ℕ) (at : EventCursor) → IsAt old before later at → IsAt new after later at
+  pub shown : after.shown ≡ true
+  pub tells : TellsC (handed after) s c
+
+abbrev pub HandsOfComing : Status → CEvent → Coming → Inner → Coming → Inner → Type 0
+HandsOfComing status.More c old before new after = WaitsForMore old before status.More c new after
+HandsOfComing s c old before new after = HandsOfPieces old before s c new after
+
+abbrev pub ShowsOfComing : Status → CEvent → Coming → Inner → Coming → Inner → Type 0
+ShowsOfComing status.More c old before new after = WaitsForMore old before status.More c new after
+ShowsOfComing s c old before new after = ShowsOfPieces old before s c new after
+
+-- the bytes that wait, and how much came, stay
+abbrev pub HasSameBytes : Coming → Coming → Type 0
+HasSameBytes old new = new ≡ record old { parser = new.parser }
+
+-- ## Each call
+
+abbrev pub HandsFrom : Source → Inner → Status → CEvent → Inner → Type 0
+HandsFrom (source.Whole old) before s c after =
+    (new : EventCursor) × (after.source ≡ source.Whole new) × (after.shown ≡ before.shown)
+    × HandsOfWhole old new after s c
+HandsFrom (source.Pieces old) before s c after =
+    (new : Coming) × (after.source ≡ source.Pieces new) × HasSameBytes old new
+    × HandsOfComing s c old before new after
+
+-- what comes next is handed out, or it waits for more of the text
+abbrev pub HandsToC : Inner → Status → CEvent → Inner → Type 0
+HandsToC before s c after = HandsFrom before.source before s c after
+
+abbrev pub ShowsFrom : Source → Inner → Status → CEvent → Inner → Type 0
+ShowsFrom (source.Whole old) before s c after =
+    (new : EventCursor) × (after.source ≡ source.Whole new) × (after.shown ≡ before.shown) × ShowsOfWhole old new s c
+    × (handed after ≡ handed before)
+ShowsFrom (source.Pieces old) before s c after =
+    (new : Coming) × (after.source ≡ source.Pieces new) × HasSameBytes old new
+    × ShowsOfComing s c old before new after
+
+-- what comes next is shown, or it waits for more of the text
+abbrev pub ShowsToC : Inner → Status → CEvent → Inner → Type 0
+ShowsToC before s c after = ShowsFrom before.source before s c after
+
+-- After a want of memory the next call says so.
+abbrev pub StaysBut : Status → Inner → Inner → Type 0
+StaysBut status.NoMemory before after = (handed after ≡ Some (Err fault.OutOfMemory)) × (after.shown ≡ true)
+StaysBut s before after = after ≡ record before { source = after.source }
+
+abbrev pub AddsFrom : Source → List ℕ → Inner → Status → Inner → Type 0
+AddsFrom (source.Whole old) bytes before s after = (s ≡ status.Whole) × (after ≡ before)
+AddsFrom (source.Pieces old) bytes before s after =
+    (new : Coming) × (after.source ≡ source.Pieces new) × Adds bytes old s new × StaysBut s before after
+
+-- the next bytes of a text in pieces are added
+abbrev pub AddsToC : List ℕ → Inner → Status → Inner → Type 0
+AddsToC bytes before s after = AddsFrom before.source bytes before s after
+
+abbrev pub IsSourceCopy : Source → Source → Type 0
+IsSourceCopy (source.Whole old) copy = copy ≡ source.Whole old
+IsSourceCopy (source.Pieces old) copy = (new : Coming) × (copy ≡ source.Pieces new) × IsCopyOfPieces old new
+
+-- the same item, wherever its texts are
+abbrev pub IsSameItem : Option (Result (Event × Span) Fault) → Option (Result (Event × Span) Fault) → Type 0
+IsSameItem None copy = copy ≡ None
+IsSameItem (Some (Ok e)) copy = (f : Event × Span) × (copy ≡ Some (Ok f)) × (event_of f ≡ event_of e)
+IsSameItem (Some (Err f)) copy = (g : Fault) × (copy ≡ Some (Err g)) × IsSameFault f g
+
+abbrev pub IsShownCopy : Bool → Inner → Inner → Type 0
+IsShownCopy false inner copy = IsFresh copy
+IsShownCopy true inner copy = (copy.shown ≡ true) × IsSameItem (handed inner) (handed copy)
+
+-- a parser at the same place, which handed out nothing
+abbrev pub IsCopy : Inner → Inner → Type 0
+IsCopy inner copy = IsSourceCopy inner.source copy.source × IsShownCopy inner.shown inner copy
+
+abbrev pub KeepsFrom : Source → Bool → Source → Type 0
+KeepsFrom (source.Whole old) keep new = new ≡ source.Whole (keeping_tags keep old)
+KeepsFrom (source.Pieces old) keep new =
+    (coming : Coming) × (new ≡ source.Pieces coming) × HasSameBytes old coming
+    × ((later : List ℕ) → place coming later ≡ keeping_tags keep (place old later))
+
+-- it has that setting, and nothing else changes
+abbrev pub KeepsTags : Bool → Inner → Inner → Type 0
+KeepsTags keep before after =
+    KeepsFrom before.source keep after.source × (after ≡ record before { source = after.source })
+
+-- ## Inner steps
+
+abbrev pub Waits : Inner → Status → CEvent → Inner → Type 0
+Waits before s c after =
+    (s ≡ status.More) × Holds no_fields nowhere nowhere c × (after ≡ record before { progress = progress.Over })
+
+-- what is kept is told; its texts may move
+pub record TellsKept (before : Inner) (s : Status) (c : CEvent) (after : Inner) : Type 0 where
+  pub same : IsSameItem (handed before) (handed after)
+  pub others : (after.source ≡ before.source) × (after.shown ≡ before.shown)
+  pub tells : TellsC (handed after) s c
+
+abbrev pub CopiesShown : Inner → Inner → Result Unit AllocError → Inner → Type 0
+CopiesShown inner before (Ok done) after =
+    (after.source ≡ before.source) × (IsFresh before → IsShownCopy inner.shown inner after)
+CopiesShown inner before (Err e) after = Unit {0}

@@ -1,3 +1,4 @@
+pub mod Coming
 pub mod Encoding
 pub mod Exports
 pub mod Held

@@ -1,6 +1,6 @@
 //! The encoding of a text: how many bytes at its front are UTF-8, and whether it begins as UTF-16 (YAML 1.2.2, 5.2).
 
-ghost use Rattle.std.specs.Prelude.{◌↔◌, IsTrue};
+ghost use Rattle.std.specs.Prelude.{◌≡◌, ◌≤◌, ◌↔◌, IfSome, IsTrue, IsUtf8, None, drop, length, take};
 ghost use Rattle.saphyr_parser_c.specs.Encoding.{BeginsAsUtf16, IsUtf8Front};
 
 /// How many bytes at the front are UTF-8. If not all are, this is the place of the first that is not.
@@ -10,6 +10,20 @@ pub fn utf8_front(text: &[u8]) -> usize
     match str::from_utf8(text) {
         Ok(_) => text.len(),
         Err(error) => error.valid_up_to(),
+    }
+}
+
+/// How many bytes at the front are UTF-8, if a character that is cut off is all that comes after them. `None`: the
+/// bytes are not UTF-8, whatever follows.
+pub fn whole_front(bytes: &[u8]) -> Option<usize>
+    ensures front { IfSome result (λ n. (n ≤ length bytes.now) × IsUtf8 (take n bytes.now)) }
+    ensures cut { IfSome result (λ n. length (drop n bytes.now) ≤ 3) }
+    ensures refused { result ≡ None → IsUtf8 bytes.now → ⊥ }
+{
+    match str::from_utf8(bytes) {
+        Ok(_) => Some(bytes.len()),
+        Err(error) if error.error_len().is_none() => Some(error.valid_up_to()),
+        Err(_) => None,
     }
 }
 

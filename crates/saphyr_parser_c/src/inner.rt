@@ -1,13 +1,15 @@
 //! A parser with the event that it gave last. C may read the texts of that event until the next call.
 
-ghost use Rattle.std.specs.Prelude.{◌≡◌, IfOk, IsUtf8, MatchResult, None};
+ghost use Rattle.std.specs.Prelude.{◌≡◌, IfOk, IsUtf8, MatchResult};
 ghost use Rattle.saphyr_parser_c.specs.Inner.{RefusesText};
 
 use crate::answer::{tell_event, tell_fault, tell_lent};
+use crate::coming::Coming;
 use crate::encoding::begins_as_utf16;
 use crate::shown::{CEvent, blank};
+use crate::source::Source;
 use crate::status::Status;
-use saphyr_parser::{Event, Fault, Parser, Progress, Span, StrInput, no_event};
+use saphyr_parser::{Event, Fault, Parser, Progress, Span, no_event};
 use std::alloc::{AllocError, Global};
 use std::mem;
 
@@ -26,11 +28,13 @@ fn unreadable(text: &[u8]) -> Status
 /// A parser, and what it handed out last.
 #[derive(Drop)]
 pub struct Inner {
-    pub(super) parser: Parser<'static, StrInput<'static>>,
+    pub(super) source: Source,
     // What was handed out last: places for an event and for a fault, and which of them it was.
     pub(super) next: (Event<'static>, Span),
     pub(super) fault: Fault,
     pub(super) progress: Progress,
+    // Of a text that comes in pieces: whether that was only shown, and is still to be handed out.
+    pub(super) shown: bool,
 }
 
 impl Inner {
@@ -39,18 +43,15 @@ impl Inner {
     ghost use Rattle.saphyr_parser_c.specs.Inner as spec;
 
     // A parser that has handed out nothing here, on the heap.
-    fn fresh(
-        alloc: Global,
-        parser: Parser<'static, StrInput<'static>>,
-    ) -> Result<Box<Inner, Global>, AllocError>
-        ensures { IfOk result
-            (λ b. (b.value.parser ≡ parser.entry) × (spec.handed b.value ≡ None)) }
+    fn fresh(alloc: Global, source: Source) -> Result<Box<Inner, Global>, AllocError>
+        ensures { IfOk result (λ b. (b.value.source ≡ source) × spec.IsFresh b.value) }
     {
         let inner = Inner {
-            parser,
+            source,
             next: no_event(),
             fault: Fault::OutOfMemory,
             progress: Progress::Over,
+            shown: false,
         };
         match Box::new(alloc, inner) {
             Ok(inner) => Ok(inner),
@@ -71,17 +72,70 @@ impl Inner {
             return Err(unreadable(text));
         };
         let parser = Parser::new_from_str(alloc, text).keep_tags(keep_tags);
-        match Inner::fresh(alloc, parser) {
+        match Inner::fresh(alloc, Source::Whole(parser)) {
             Ok(inner) => Ok(inner),
             Err(_) => Err(Status::NoMemory),
         }
+    }
+
+    /// A parser of a text that comes in pieces, of which nothing came, on the heap.
+    pub fn of_pieces(alloc: Global, keep_tags: bool) -> Result<Box<Inner, Global>, AllocError>
+        ensures { IfOk result (λ b. spec.IsOfPieces keep_tags b.value) }
+    {
+        let coming = Coming::new(alloc, keep_tags)?;
+        let inner = Inner::fresh(alloc, Source::Pieces(coming))?;
+        Ok(inner)
+    }
+
+    /// Adds the next bytes of a text that comes in pieces. No bytes say that no more come.
+    pub fn add(&mut self, alloc: Global, bytes: &[u8]) -> Status
+        ensures { spec.AddsToC bytes.now self.old result self.new }
+    {
+        let Source::Pieces(coming) = &mut self.source else {
+            return Status::Whole;
+        };
+        let status = coming.add(alloc, bytes);
+        if matches!(status, Status::NoMemory) {
+            // The next call says so, in place of an event.
+            self.fault = Fault::OutOfMemory;
+            self.progress = Progress::Fault;
+            self.shown = true;
+        }
+        status
     }
 
     /// Hands out what comes next, and keeps it here until the next call.
     pub fn step(&mut self, alloc: Global, out: &mut CEvent) -> Status
         ensures { spec.HandsToC self.old result out.new self.new }
     {
-        self.progress = self.parser.next_event_into(&mut self.next, &mut self.fault);
+        match &mut self.source {
+            Source::Whole(parser) => {
+                self.progress = parser.next_event_into(&mut self.next, &mut self.fault);
+            }
+            Source::Pieces(_) if self.shown => self.shown = false,
+            Source::Pieces(coming) => {
+                let Some(progress) = coming.next_into(&mut self.next, &mut self.fault) else {
+                    return self.wait(out);
+                };
+                self.progress = progress;
+            }
+        }
+        self.tell(alloc, out)
+    }
+
+    // Says that it waits for more of the text.
+    fn wait(&mut self, out: &mut CEvent) -> Status
+        ensures { spec.Waits self.old result out.new self.new }
+    {
+        self.progress = Progress::Over;
+        *out = blank();
+        Status::More
+    }
+
+    // Tells what is kept.
+    fn tell(&mut self, alloc: Global, out: &mut CEvent) -> Status
+        ensures { spec.TellsKept self.old result out.new self.new }
+    {
         match self.progress {
             Progress::Event => {
                 tell_event(alloc, &mut self.next, out);
@@ -96,27 +150,57 @@ impl Inner {
     }
 
     /// Shows what comes next.
-    pub fn look(&mut self, out: &mut CEvent) -> Status
+    pub fn look(&mut self, alloc: Global, out: &mut CEvent) -> Status
         ensures { spec.ShowsToC self.old result out.new self.new }
     {
-        tell_lent(self.parser.peek(), out)
+        match &mut self.source {
+            Source::Whole(parser) => tell_lent(parser.peek(), out),
+            Source::Pieces(_) if self.shown => self.tell(alloc, out),
+            Source::Pieces(coming) => {
+                let Some(progress) = coming.next_into(&mut self.next, &mut self.fault) else {
+                    return self.wait(out);
+                };
+                self.progress = progress;
+                self.shown = true;
+                self.tell(alloc, out)
+            }
+        }
+    }
+
+    // What was shown and is still to be handed out, if anything was.
+    fn copy_shown(&self, copy: &mut Inner) -> Result<(), AllocError>
+        ensures { spec.CopiesShown self.now copy.old result copy.new }
+    {
+        if self.shown {
+            copy.next = (self.next.0.try_clone()?, self.next.1);
+            copy.fault = self.fault.try_clone()?;
+            copy.progress = self.progress;
+            copy.shown = true;
+        }
+        Ok(())
     }
 
     /// An independent parser at the same place, on the heap.
+    #[tactic(auto, using(crate::proofs::OfPieces::copied))]
     pub fn copy(&self, alloc: Global) -> Result<Box<Inner, Global>, AllocError>
-        ensures { IfOk result
-            (λ b. (b.value.parser ≡ self.now.parser) × (spec.handed b.value ≡ None)) }
+        ensures { IfOk result (λ b. spec.IsCopy self.now b.value) }
     {
-        let parser = self.parser.try_clone()?;
-        Inner::fresh(alloc, parser)
+        let source = self.source.copy(alloc)?;
+        let mut copy = Inner::fresh(alloc, source)?;
+        self.copy_shown(&mut copy)?;
+        Ok(copy)
     }
 
     /// Sets whether the prefixes of tags hold for later documents too.
     pub fn keep_tags(&mut self, alloc: Global, value: bool)
-        ensures { self.new
-            ≡ record self.old { parser = cursor.keeping_tags value self.old.parser } }
+        ensures { spec.KeepsTags value self.old self.new }
     {
-        let parser = mem::replace(&mut self.parser, Parser::new_from_str(alloc, ""));
-        self.parser = parser.keep_tags(value);
+        match &mut self.source {
+            Source::Whole(place) => {
+                let parser = mem::replace(place, Parser::new_from_str(alloc, ""));
+                *place = parser.keep_tags(value);
+            }
+            Source::Pieces(coming) => coming.keep_tags(value),
+        }
     }
 }

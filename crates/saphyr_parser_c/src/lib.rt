@@ -8,11 +8,13 @@ ghost use Rattle.saphyr_parser_c.specs.Encoding.{BeginsAsUtf16, IsUtf8Front};
 ghost use Rattle.saphyr_parser_c.specs.Exports as spec;
 
 mod answer;
+mod coming;
 mod encoding;
 mod handle;
 mod inner;
 mod parts;
 mod shown;
+mod source;
 mod status;
 mod texts;
 
@@ -73,6 +75,38 @@ pub extern "C" fn saphyr_new(
     }
 }
 
+/// Makes a parser of a text that comes in pieces, of which nothing came. What `out` held is freed.
+#[unsafe(no_mangle)]
+pub extern "C" fn saphyr_new_pieces(alloc: Global, keep_tags: bool, out: &mut Handle) -> i32
+    ensures made { result ≡ pos 0 → spec.IsMadeOfPieces keep_tags out.new.value }
+    ensures empty { (result ≡ pos 0 → ⊥) → out.new.value ≡ none }
+    ensures others { spec.HasMemoryOrNot result }
+{
+    match Inner::of_pieces(alloc, keep_tags) {
+        Ok(inner) => {
+            put(out, Handle::of_parts(Parts::of(inner)));
+            Status::Done.code()
+        }
+        Err(_) => {
+            put(out, Handle::none(alloc));
+            Status::NoMemory.code()
+        }
+    }
+}
+
+/// Adds the next bytes of a text that comes in pieces, cut anywhere. No bytes say that no more come.
+#[unsafe(no_mangle)]
+pub extern "C" fn saphyr_add(alloc: Global, parser: &mut Handle, bytes: &[u8]) -> i32
+    ensures { spec.AddsTo bytes.now parser.old.value result parser.new.value }
+{
+    let Some(mut inner) = take(alloc, parser) else {
+        return Status::NoParser.code();
+    };
+    let status = inner.add(alloc, bytes);
+    put(parser, Handle::of_parts(Parts::of(inner)));
+    status.code()
+}
+
 /// How many bytes at the front of a text are UTF-8. If not all are, this is the place of the first that is not.
 #[unsafe(no_mangle)]
 pub extern "C" fn saphyr_valid_up_to(text: &'static [u8]) -> usize
@@ -106,7 +140,7 @@ pub extern "C" fn saphyr_peek(alloc: Global, parser: &mut Handle, event: &mut CE
 {
     match take(alloc, parser) {
         Some(mut inner) => {
-            let status = inner.look(event);
+            let status = inner.look(alloc, event);
             put(parser, Handle::of_parts(Parts::of(inner)));
             status.code()
         }

@@ -22,6 +22,10 @@ pub enum Status {
     NoParser,
     /// The text begins as UTF-16.
     Utf16,
+    /// More of the text is needed.
+    More,
+    /// All of the text is there, so nothing can be added.
+    Whole,
 }
 
 impl Status {
@@ -38,6 +42,8 @@ impl Status {
             Status::NotUtf8 => -3,
             Status::NoParser => -4,
             Status::Utf16 => -5,
+            Status::More => 2,
+            Status::Whole => -6,
         }
     }
 }

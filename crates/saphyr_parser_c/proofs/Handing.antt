@@ -1,0 +1,276 @@
+-- What is handed out or shown of what is kept, wherever its texts are.
+use Rattle.std.proofs.Common.{◌≡◌, ◌∙◌, ℕ, Bool, true, false, List, Option, None, Some, Result, Ok, Err, ◌++◌, ap, sym, subst, refl}
+use Rattle.std.specs.Prelude.{string_bytes}
+use Rattle.std.specs.Str.{chars}
+use Rattle.saphyr_scalar.specs.declared.scalar.position.Marker.{Marker}
+use Rattle.saphyr_scalar.specs.declared.scalar.position.Span.{Span}
+use Rattle.saphyr_parser.specs.Types.Event.{Event}
+use Rattle.saphyr_parser.specs.Types.Fault.{Fault}
+use Rattle.saphyr_parser.specs.Types.Fault.TheVariants as fault
+use Rattle.saphyr_machine.specs.declared.progress.Progress.{Progress}
+use Rattle.saphyr_machine.specs.declared.progress.Progress.TheVariants as progress
+use Rattle.saphyr_parser.specs.Answer.{Answer, Ending, Refused, fault_alone, remaining_answer, with_first_event}
+use Rattle.saphyr_parser.specs.Events.{Happening}
+use Rattle.saphyr_parser.specs.Calls.{Advances, EndsTheStream, FailsFrom, GivesNext, IsToldAs, given_fault, item_at}
+use Rattle.saphyr_parser.specs.Cursor.{EventCursor, HandsOutNext, Kept, Refuses, ending_of_fault, to_come}
+use Rattle.saphyr_pieces.specs.Pieces.{HandsOut, at}
+use Rattle.saphyr_parser_c.specs.declared.coming.Coming.{Coming}
+use Rattle.saphyr_parser_c.specs.declared.inner.Inner.{Inner}
+use Rattle.saphyr_parser_c.specs.declared.shown.CEvent.{CEvent}
+use Rattle.saphyr_parser_c.specs.declared.source.Source.{Source}
+use Rattle.saphyr_parser_c.specs.declared.source.Source.TheVariants as source
+use Rattle.saphyr_parser_c.specs.declared.status.Status.{Status}
+use Rattle.saphyr_parser_c.specs.declared.status.Status.TheVariants as status
+use Rattle.saphyr_parser_c.specs.Coming.{place}
+use Rattle.saphyr_parser_c.specs.Inner.{HandsFrom, HandsOfComing, HandsOfPieces, HandsToC, HasSameBytes, IsAt, IsAtFrom, IsSameItem, ShowsFrom, ShowsOfComing, ShowsOfPieces, ShowsToC, TellsKept, Waits, WaitsForMore, handed}
+use Rattle.saphyr_parser_c.specs.Same.{IsSameFault}
+use Rattle.saphyr_parser_c.specs.Shown.{TellsC}
+
+abbrev Item : Type 0
+Item = Option (Result (Event × Span) Fault)
+
+-- ## The same fault
+
+ending_same : (f g : Fault) → IsSameFault f g → ending_of_fault f ≡ ending_of_fault g
+ending_same (fault.Scan e) (fault.Scan h) (mark, info) =
+    ap (λ (m : Marker). Refused m (string_bytes e.info)) (sym mark)
+    ∙ ap (λ (bytes : List ℕ). Refused h.mark bytes) (sym info)
+ending_same (fault.Scan e) fault.OutOfMemory same = absurd same
+ending_same (fault.Scan e) fault.Receiver same = absurd same
+ending_same (fault.Scan e) fault.InsideDocument same = absurd same
+ending_same fault.OutOfMemory g same = ap ending_of_fault (sym same)
+ending_same fault.Receiver g same = ap ending_of_fault (sym same)
+ending_same fault.InsideDocument g same = ap ending_of_fault (sym same)
+
+refuses_same : (f g : Fault) (a : Answer) → IsSameFault f g → Refuses f a → Refuses g a
+refuses_same (fault.Scan e) (fault.Scan h) a same refuses =
+    refuses ∙ ap fault_alone (ending_same (fault.Scan e) (fault.Scan h) same)
+refuses_same (fault.Scan e) fault.OutOfMemory a same refuses = absurd same
+refuses_same (fault.Scan e) fault.Receiver a same refuses = absurd same
+refuses_same (fault.Scan e) fault.InsideDocument a same refuses = absurd same
+refuses_same fault.OutOfMemory g a same refuses = subst (λ (h : Fault). Refuses h a) (sym same) refuses
+refuses_same fault.Receiver g a same refuses = absurd refuses
+refuses_same fault.InsideDocument g a same refuses = absurd refuses
+
+told_same : (kept : Ending) (f g : Fault) → IsSameFault f g → IsToldAs kept f → IsToldAs kept g
+told_same kept (fault.Scan e) (fault.Scan h) same told =
+    told ∙ ending_same (fault.Scan e) (fault.Scan h) same
+told_same kept (fault.Scan e) fault.OutOfMemory same told = absurd same
+told_same kept (fault.Scan e) fault.Receiver same told = absurd same
+told_same kept (fault.Scan e) fault.InsideDocument same told = absurd same
+told_same kept fault.OutOfMemory g same told = subst (IsToldAs kept) (sym same) told
+told_same kept fault.Receiver g same told = absurd told
+told_same kept fault.InsideDocument g same told = absurd told
+
+given_same : (f g : Fault) → IsSameFault f g → given_fault f ≡ given_fault g
+given_same f g same = ap (λ (e : Ending). Some (record { fault = e; given = true })) (ending_same f g same)
+
+fails_same : (current : Option (Happening × Span)) (kept : Option Kept) (f g : Fault) (old new : EventCursor)
+    → IsSameFault f g → FailsFrom current kept f old new → FailsFrom current kept g old new
+fails_same (Some next) kept f g old new same fails = absurd fails
+fails_same None (Some k) f g old new same (given, told, is) = (
+  given,
+  told_same k.fault f g same told,
+  is ∙ ap (λ (kept : Option Kept). record old { kept = kept }) (given_same f g same),
+)
+fails_same None None f g old new same (refuses, is) = (
+  refuses_same f g (remaining_answer old.machine) same refuses,
+  is ∙ ap (λ (kept : Option Kept). record old { kept = kept; machine = new.machine }) (given_same f g same),
+)
+
+-- ## The same item
+
+pub gives_same : (x y : Item) (old new : EventCursor) → IsSameItem x y → GivesNext x old new → GivesNext y old new
+gives_same None y old new same gives = subst (λ (z : Item). GivesNext z old new) (sym same) gives
+gives_same (Some (Ok e)) y old new (f, is, same) gives =
+    subst (λ (z : Item). GivesNext z old new) (sym is)
+    (subst (λ (z : Happening × Span). Advances z old new) (sym same) gives)
+gives_same (Some (Err f)) y old new (g, is, same) gives =
+    subst (λ (z : Item). GivesNext z old new) (sym is) (fails_same old.current old.kept f g old new same gives)
+
+pub hands_same : (x y : Item) (old new : Answer) → IsSameItem x y → HandsOutNext x old new → HandsOutNext y old new
+hands_same None y old new same hands = subst (λ (z : Item). HandsOutNext z old new) (sym same) hands
+hands_same (Some (Ok e)) y old new (f, is, same) hands =
+    subst (λ (z : Item). HandsOutNext z old new) (sym is)
+    (subst (λ (z : Happening × Span). old ≡ with_first_event z new) (sym same) hands)
+hands_same (Some (Err f)) y old new (g, is, same) hands =
+    subst (λ (z : Item). HandsOutNext z old new) (sym is) (refuses_same f g old same hands.0, hands.1)
+
+-- what is told of an item is no want of more
+told_so : (Q : Status → Type 0) → Q status.End → Q status.Event → Q status.Refused → Q status.NoMemory
+    → (item : Item) (s : Status) (c : CEvent) → TellsC item s c → Q s
+told_so Q end event refused memory None s c told = subst Q (sym told.0) end
+told_so Q end event refused memory (Some (Ok e)) s c told = subst Q (sym told.0) event
+told_so Q end event refused memory (Some (Err (fault.Scan e))) s c told = subst Q (sym told.0) refused
+told_so Q end event refused memory (Some (Err fault.OutOfMemory)) s c told = subst Q (sym told.0) memory
+told_so Q end event refused memory (Some (Err fault.Receiver)) s c told = subst Q (sym told.0) memory
+told_so Q end event refused memory (Some (Err fault.InsideDocument)) s c told = subst Q (sym told.0) memory
+
+-- ## A whole text
+
+pub hands_whole : (before after : Inner) (s : Status) (c : CEvent) (old new : EventCursor) (next : Event × Span)
+    (f : Fault) (p : Progress) → before.source ≡ source.Whole old
+    → HandsOutNext (item_at next f p) (to_come old) (to_come new) → GivesNext (item_at next f p) old new
+    → EndsTheStream new
+    → TellsKept (record before { source = source.Whole new; next = next; fault = f; progress = p }) s c after
+    → HandsToC before s c after
+hands_whole before after s c old new next f p from hands gives over told =
+    subst (λ (x : Source). HandsFrom x before s c after) (sym from) (
+      new,
+      told.others.0,
+      told.others.1,
+      record {
+        hands = hands_same (item_at next f p) (handed after) (to_come old) (to_come new) told.same hands;
+        gives = gives_same (item_at next f p) (handed after) old new told.same gives;
+        over = over;
+        tells = told.tells;
+      },
+    )
+
+-- ## A text that comes in pieces
+
+same_place : (old new : Coming) → HasSameBytes old new → (later : List ℕ)
+    → place new later ≡ at new.parser (chars (old.waiting.items ++ later))
+same_place old new same later = ap (λ (n : Coming). place n later) same
+
+gives_place : (item : Item) (old new : Coming) → HasSameBytes old new
+    → ((later : List ℕ) → GivesNext item (at old.parser later) (at new.parser later))
+    → (later : List ℕ) → GivesNext item (place old later) (place new later)
+gives_place item old new same gives later =
+    subst (GivesNext item (place old later)) (sym (same_place old new same later))
+    (gives (chars (old.waiting.items ++ later)))
+
+as_hands : (before after : Inner) (s : Status) (c : CEvent) (old new : Coming) → TellsC (handed after) s c
+    → HandsOfPieces old before s c new after → HandsOfComing s c old before new after
+as_hands before after s c old new told =
+    told_so (λ (s : Status). HandsOfPieces old before s c new after → HandsOfComing s c old before new after)
+    (λ h. h) (λ h. h) (λ h. h) (λ h. h) (handed after) s c told
+
+as_shows : (before after : Inner) (s : Status) (c : CEvent) (old new : Coming) → TellsC (handed after) s c
+    → ShowsOfPieces old before s c new after → ShowsOfComing s c old before new after
+as_shows before after s c old new told =
+    told_so (λ (s : Status). ShowsOfPieces old before s c new after → ShowsOfComing s c old before new after)
+    (λ h. h) (λ h. h) (λ h. h) (λ h. h) (handed after) s c told
+
+-- what was shown is handed out
+pub hands_shown : (before after : Inner) (s : Status) (c : CEvent) (old : Coming)
+    → before.source ≡ source.Pieces old → before.shown ≡ true
+    → TellsKept (record before { source = source.Pieces old; shown = false }) s c after → HandsToC before s c after
+hands_shown before after s c old from shown told =
+    subst (λ (x : Source). HandsFrom x before s c after) (sym from) (
+      old,
+      told.others.0,
+      refl,
+      as_hands before after s c old old told.tells (record {
+        gives = λ later here is. gives_same (handed before) (handed after) here (place old later) told.same
+            (subst (λ (b : Bool). IsAtFrom b old before later here) shown is);
+        shown = told.others.1;
+        tells = told.tells;
+      }),
+    )
+
+-- what was shown is shown again
+pub shows_shown : (before after : Inner) (s : Status) (c : CEvent) (old : Coming)
+    → before.source ≡ source.Pieces old → before.shown ≡ true
+    → TellsKept (record before { source = source.Pieces old }) s c after → ShowsToC before s c after
+shows_shown before after s c old from shown told =
+    subst (λ (x : Source). ShowsFrom x before s c after) (sym from) (
+      old,
+      told.others.0,
+      refl,
+      as_shows before after s c old old told.tells (record {
+        place = λ later here is. subst (λ (b : Bool). IsAtFrom b old after later here) (sym (told.others.1 ∙ shown))
+            (gives_same (handed before) (handed after) here (place old later) told.same
+            (subst (λ (b : Bool). IsAtFrom b old before later here) shown is));
+        shown = told.others.1 ∙ shown;
+        tells = told.tells;
+      }),
+    )
+
+module _ (before : Inner) (s : Status) (c : CEvent) (old new : Coming) (next : Event × Span) (f : Fault)
+    (from : before.source ≡ source.Pieces old) (shown : before.shown ≡ false) (same : HasSameBytes old new) where
+  abbrev read : Progress → Bool → Inner
+  read p b = record before { source = source.Pieces new; next = next; fault = f; progress = p; shown = b }
+
+  behind : (p : Progress) (b : Bool) (after : Inner) → HandsOut (Some p) next f old.parser new.parser
+      → TellsKept (read p b) s c after → (later : List ℕ) (here : EventCursor) → IsAt old before later here
+      → GivesNext (handed after) here (place new later)
+  behind p b after hands told later here is =
+      gives_same (item_at next f p) (handed after) here (place new later) told.same
+      (subst (λ (x : EventCursor). GivesNext (item_at next f p) x (place new later))
+      (subst (λ (b : Bool). IsAtFrom b old before later here) shown is)
+      (gives_place (item_at next f p) old new same hands later))
+
+  -- what is read is handed out
+  pub hands_next : (p : Progress) (after : Inner) → HandsOut (Some p) next f old.parser new.parser
+      → TellsKept (read p before.shown) s c after → HandsToC before s c after
+  hands_next p after hands kept =
+      let told = subst (λ (b : Bool). TellsKept (read p b) s c after) shown kept in
+      subst (λ (x : Source). HandsFrom x before s c after) (sym from) (
+        new,
+        told.others.0,
+        same,
+        as_hands before after s c old new told.tells (record {
+          gives = behind p false after hands told;
+          shown = told.others.1;
+          tells = told.tells;
+        }),
+      )
+
+  -- what is read is shown
+  pub shows_next : (p : Progress) (after : Inner) → HandsOut (Some p) next f old.parser new.parser
+      → TellsKept (read p true) s c after → ShowsToC before s c after
+  shows_next p after hands told =
+      subst (λ (x : Source). ShowsFrom x before s c after) (sym from) (
+        new,
+        told.others.0,
+        same,
+        as_shows before after s c old new told.tells (record {
+          place = λ later here is. subst (λ (b : Bool). IsAtFrom b new after later here) (sym told.others.1)
+              (behind p true after hands told later here is);
+          shown = told.others.1;
+          tells = told.tells;
+        }),
+      )
+
+  waiting : (after : Inner) → HandsOut None next f old.parser new.parser
+      → Waits (read before.progress before.shown) s c after
+      → WaitsForMore old before status.More c new (read progress.Over before.shown)
+  waiting after hands waits = record {
+    status = refl;
+    blank = waits.1;
+    event = (refl, shown);
+    wants = hands.0;
+    place = λ later here is. subst
+        (λ (b : Bool). IsAtFrom b new (read progress.Over before.shown) later here) (sym shown)
+        (same_place old new same later ∙ hands.1 (chars (old.waiting.items ++ later))
+        ∙ subst (λ (b : Bool). IsAtFrom b old before later here) shown is);
+  }
+
+  -- it waits in place of handing out
+  pub hands_none : (after : Inner) → HandsOut None next f old.parser new.parser
+      → Waits (read before.progress before.shown) s c after → HandsToC before s c after
+  hands_none after hands waits =
+      subst (λ (x : Source). HandsFrom x before s c after) (sym from)
+      (subst (HandsFrom (source.Pieces old) before s c) (sym waits.2) (
+        new,
+        refl,
+        same,
+        subst
+            (λ (s : Status). HandsOfComing s c old before new (read progress.Over before.shown)) (sym waits.0)
+            (waiting after hands waits),
+      ))
+
+  -- it waits in place of showing
+  pub shows_none : (after : Inner) → HandsOut None next f old.parser new.parser
+      → Waits (read before.progress before.shown) s c after → ShowsToC before s c after
+  shows_none after hands waits =
+      subst (λ (x : Source). ShowsFrom x before s c after) (sym from)
+      (subst (ShowsFrom (source.Pieces old) before s c) (sym waits.2) (
+        new,
+        refl,
+        same,
+        subst
+            (λ (s : Status). ShowsOfComing s c old before new (read progress.Over before.shown)) (sym waits.0)
+            (waiting after hands waits),
+      ))

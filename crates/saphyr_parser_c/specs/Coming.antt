@@ -1,0 +1,71 @@
+-- A parser of a text in UTF-8 that comes in pieces, and what the calls that add to it do.
+use Rattle.std.specs.Prelude.{◌≡◌, ◌≤◌, ℕ, Bool, false, List, [], ◌++◌, length, IsUtf8}
+use Rattle.std.specs.Str.{chars}
+use Rattle.saphyr_scanner.specs.Steps.Remaining.{scan}
+use Rattle.saphyr_parser.specs.Cursor.{EventCursor, at_start, keeping_tags}
+use Rattle.saphyr_parser.specs.Limits.{most_characters}
+use Rattle.saphyr_pieces.specs.Pieces.{at, wants_more}
+use Rattle.saphyr_parser_c.specs.declared.coming.Coming.{Coming}
+use Rattle.saphyr_parser_c.specs.declared.coming.Extent.{Extent}
+use Rattle.saphyr_parser_c.specs.declared.coming.Extent.TheVariants as extent
+use Rattle.saphyr_parser_c.specs.declared.status.Status.{Status}
+use Rattle.saphyr_parser_c.specs.declared.status.Status.TheVariants as status
+use Rattle.saphyr_parser_c.specs.Encoding.{BeginsAsUtf16}
+
+-- Where the parser is in the events of the whole text, if these bytes come after those that came.
+abbrev pub place : Coming → List ℕ → EventCursor
+place c later = at c.parser (chars (c.waiting.items ++ later))
+
+-- nothing came: whatever comes, it is the parser of that
+abbrev pub IsOfNothing : Bool → Coming → Type 0
+IsOfNothing keep c =
+    ((later : List ℕ) → place c later ≡ keeping_tags keep (at_start (scan most_characters (chars later))))
+    × (c.waiting.items ≡ []) × (c.extent ≡ extent.Nothing)
+
+-- Why bytes are refused that come after those that came. The first of a text may be a mark of UTF-16.
+abbrev pub IsRefusalFrom : Extent → List ℕ → Status → Type 0
+IsRefusalFrom extent.Nothing bytes status.Utf16 = BeginsAsUtf16 bytes
+IsRefusalFrom extent.Nothing bytes status.NotUtf8 = BeginsAsUtf16 bytes → ⊥
+IsRefusalFrom _ bytes s = s ≡ status.NotUtf8
+
+abbrev pub IsRefusal : List ℕ → Coming → Status → Type 0
+IsRefusal bytes c s = IsRefusalFrom c.extent bytes s
+
+-- These bytes came in place of those that waited: whole characters of them are the parser's, and at most three wait.
+-- If they are no UTF-8, nothing changes. After a want of memory nothing is known of the parser.
+abbrev pub TakesIn : List ℕ → Coming → Status → Coming → Type 0
+TakesIn bytes old status.Done new =
+    ((later : List ℕ) → place new later ≡ at old.parser (chars (bytes ++ later)))
+    × (length new.waiting.items ≤ 3) × (new.extent ≡ extent.Part)
+TakesIn bytes old status.NoMemory new = Unit {0}
+TakesIn bytes old s new = (IsUtf8 bytes → ⊥) × IsRefusal bytes old s × (new ≡ old)
+
+-- No more comes. If a character is cut off, nothing changes.
+abbrev pub Ends : Coming → Status → Coming → Type 0
+Ends old status.Done new =
+    (old.waiting.items ≡ []) × ((later : List ℕ) → at new.parser later ≡ at old.parser [])
+    × (wants_more new.parser ≡ false) × (new.extent ≡ extent.All)
+Ends old status.NoMemory new = wants_more new.parser ≡ false
+Ends old s new = (s ≡ status.NotUtf8) × ((old.waiting.items ≡ []) → ⊥) × (new ≡ old)
+
+-- These bytes come next: the parser is that of all that came, one behind the other, whatever comes after them.
+abbrev pub AddsSome : List ℕ → Coming → Status → Coming → Type 0
+AddsSome bytes old status.Done new =
+    ((later : List ℕ) → place new later ≡ place old (bytes ++ later))
+    × (length new.waiting.items ≤ 3) × (new.extent ≡ extent.Part)
+AddsSome bytes old status.NoMemory new = Unit {0}
+AddsSome bytes old s new =
+    (IsUtf8 (old.waiting.items ++ bytes) → ⊥) × IsRefusal (old.waiting.items ++ bytes) old s × (new ≡ old)
+
+-- No bytes say that no more come. After that nothing is added.
+abbrev pub AddsTo : Extent → List ℕ → Coming → Status → Coming → Type 0
+AddsTo extent.All bytes old s new = (s ≡ status.Whole) × (new ≡ old)
+AddsTo _ [] old s new = Ends old s new
+AddsTo _ bytes old s new = AddsSome bytes old s new
+
+abbrev pub Adds : List ℕ → Coming → Status → Coming → Type 0
+Adds bytes old s new = AddsTo old.extent bytes old s new
+
+abbrev pub IsCopy : Coming → Coming → Type 0
+IsCopy old copy =
+    (copy.parser ≡ old.parser) × (copy.waiting.items ≡ old.waiting.items) × (copy.extent ≡ old.extent)

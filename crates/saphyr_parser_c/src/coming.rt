@@ -1,0 +1,149 @@
+//! A parser of a text in UTF-8 that comes in pieces, which may be cut inside a character.
+
+ghost use Rattle.std.specs.Prelude.{◌≡◌, ◌++◌, List, ℕ, IfOk};
+ghost use Rattle.saphyr_parser.specs.Cursor.{keeping_tags};
+ghost use Rattle.saphyr_pieces.specs.Pieces.{HandsOut, at};
+ghost use Rattle.saphyr_parser_c.specs.Coming as spec;
+
+use crate::encoding::{begins_as_utf16, whole_front};
+use crate::status::Status;
+use saphyr_parser::{Event, Fault, Progress, Span};
+use saphyr_pieces::PieceParser;
+use std::alloc::{AllocError, Global};
+
+/// How much of a text came.
+#[derive(Clone, Copy, PartialEq, Eq)]
+pub enum Extent {
+    Nothing,
+    Part,
+    All,
+}
+
+/// A parser of a text that comes in pieces, and the bytes that it can't have yet.
+#[derive(Drop)]
+pub struct Coming {
+    pub(super) parser: PieceParser,
+    // The bytes at the end of those that came that are no whole character.
+    pub(super) waiting: Vec<u8>,
+    pub(super) extent: Extent,
+}
+
+impl Coming {
+    /// A parser of a text of which nothing came.
+    pub fn new(alloc: Global, keep_tags: bool) -> Result<Coming, AllocError>
+        ensures { IfOk result (spec.IsOfNothing keep_tags) }
+    {
+        let mut parser = PieceParser::new(alloc)?;
+        parser.keep_tags(keep_tags);
+        Ok(Coming {
+            parser,
+            waiting: Vec::new(alloc),
+            extent: Extent::Nothing,
+        })
+    }
+
+    /// Adds the next bytes. No bytes say that no more come.
+    pub fn add(&mut self, alloc: Global, bytes: &[u8]) -> Status
+        ensures { spec.Adds bytes.now self.old result self.new }
+    {
+        if self.extent == Extent::All {
+            Status::Whole
+        } else if bytes.is_empty() {
+            self.end()
+        } else if self.waiting.is_empty() {
+            self.take_in(alloc, bytes)
+        } else {
+            match self.with_waiting(alloc, bytes) {
+                Ok(bytes) => self.take_in(alloc, &bytes),
+                Err(_) => Status::NoMemory,
+            }
+        }
+    }
+
+    // The bytes that wait, and these behind them.
+    fn with_waiting(&self, alloc: Global, bytes: &[u8]) -> Result<Vec<u8>, AllocError>
+        ensures { IfOk result (λ all. all.items ≡ self.now.waiting.items ++ bytes.now) }
+    {
+        let mut all = Vec::from_slice(alloc, &self.waiting)?;
+        all.extend_from_slice(bytes)?;
+        Ok(all)
+    }
+
+    // Adds the bytes in place of those that wait. They are some.
+    fn take_in(&mut self, alloc: Global, bytes: &[u8]) -> Status
+        ensures { spec.TakesIn bytes.now self.old result self.new }
+    {
+        let Some(count) = whole_front(bytes) else {
+            return self.refusal_of(bytes);
+        };
+        let (front, rest) = bytes.split_at(count);
+        let Ok(waiting) = Vec::from_slice(alloc, rest) else {
+            return Status::NoMemory;
+        };
+        let front = unsafe { str::from_utf8_unchecked(front) };
+        let Ok(()) = self.parser.add(front) else {
+            return Status::NoMemory;
+        };
+        self.waiting = waiting;
+        self.extent = Extent::Part;
+        Status::Done
+    }
+
+    // Why bytes are refused that aren't UTF-8.
+    fn refusal_of(&self, bytes: &[u8]) -> Status
+        ensures { spec.IsRefusal bytes.now self.now result }
+    {
+        if self.extent == Extent::Nothing && begins_as_utf16(bytes) {
+            Status::Utf16
+        } else {
+            Status::NotUtf8
+        }
+    }
+
+    // Says that no more comes.
+    fn end(&mut self) -> Status
+        ensures { spec.Ends self.old result self.new }
+    {
+        if !self.waiting.is_empty() {
+            return Status::NotUtf8;
+        }
+        self.extent = Extent::All;
+        match self.parser.end() {
+            Ok(()) => Status::Done,
+            Err(_) => Status::NoMemory,
+        }
+    }
+
+    /// Hands out what comes next, which is written into its place. `None`: it waits for more of the text.
+    pub fn next_into(
+        &mut self,
+        next: &mut (Event<'static>, Span),
+        fault: &mut Fault,
+    ) -> Option<Progress>
+        ensures next { HandsOut result next.new fault.new self.old.parser self.new.parser }
+        ensures same { self.new ≡ record self.old { parser = self.new.parser } }
+    {
+        self.parser.next_event_into(next, fault)
+    }
+
+    /// An independent parser at the same place.
+    pub fn copy(&self, alloc: Global) -> Result<Coming, AllocError>
+        ensures { IfOk result (spec.IsCopy self.now) }
+    {
+        let waiting = Vec::from_slice(alloc, &self.waiting)?;
+        Ok(Coming {
+            parser: self.parser.try_clone()?,
+            waiting,
+            extent: self.extent,
+        })
+    }
+
+    /// Sets whether the prefixes of tags hold for later documents too.
+    pub fn keep_tags(&mut self, value: bool)
+        ensures at { (later : List ℕ)
+            → at self.new.parser later ≡ keeping_tags value (at self.old.parser later) }
+        ensures same { self.new ≡ record self.old { parser = self.new.parser } }
+    {
+        self.parser.keep_tags(value);
+    }
+}
