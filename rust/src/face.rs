@@ -2,10 +2,10 @@
 //!
 //! This is the crate's only file with `unsafe` in it. `saphyr_parser.h`, next to the library's sources, says what a
 //! caller must do: zero a parser and an event first, pass no null pointer, use a parser in one call at a time, and keep
-//! the text unchanged where it is until the parser over it is freed. In return, the texts of an event are UTF-8, and
-//! may be read until the next call with the same parser. This file copies them right after the call that wrote them, so
-//! none is left when the next call comes. If the parser's own text contains such a text as it is, it is borrowed from
-//! there instead.
+//! the text unchanged where it is until the parser over it is freed. Of a text that comes in pieces the library has a
+//! copy. In return, the texts of an event are UTF-8, and may be read until the next call with the same parser. They are
+//! copied here right after the call that wrote them, so none is left when the next call comes. If the caller's text
+//! contains such a text as it is, it is borrowed from there instead.
 
 use crate::encoding::NotUtf8;
 use crate::event::{Event, Tag};
@@ -15,7 +15,6 @@ use std::alloc::{handle_alloc_error, Layout};
 use std::borrow::Cow;
 use std::cell::Cell;
 use std::ptr::{null, null_mut};
-use std::sync::Arc;
 use std::{slice, str};
 
 /// The version of the header that the declarations below follow.
@@ -25,6 +24,7 @@ const VERSION: u32 = 2000;
 const OK: i32 = 0;
 const END: i32 = 0;
 const EVENT: i32 = 1;
+const MORE: i32 = 2;
 const REFUSED: i32 = -1;
 const NO_MEMORY: i32 = -2;
 const UTF16: i32 = -5;
@@ -72,6 +72,8 @@ struct Record {
 
 extern "C" {
     fn saphyr_new(text: *const u8, len: usize, keep_tags: bool, parser: *mut Handle) -> i32;
+    fn saphyr_new_pieces(keep_tags: bool, parser: *mut Handle) -> i32;
+    fn saphyr_add(parser: *mut Handle, bytes: *const u8, len: usize) -> i32;
     fn saphyr_valid_up_to(text: *const u8, len: usize) -> usize;
     fn saphyr_next(parser: *mut Handle, event: *mut Record) -> i32;
     fn saphyr_keep_tags(parser: *mut Handle, keep_tags: bool) -> i32;
@@ -94,33 +96,17 @@ pub fn checked(bytes: &[u8]) -> Result<&str, NotUtf8> {
     Err(NotUtf8::new(index, status == UTF16))
 }
 
-/// A text that stays where it is when its owner moves: borrowed, or shared by a parser and its clones.
-#[derive(Clone)]
-pub enum Text<'input> {
-    Borrowed(&'input str),
-    Shared(Arc<String>),
-}
-
-impl Text<'_> {
-    fn as_bytes(&self) -> &[u8] {
-        match self {
-            Text::Borrowed(text) => text.as_bytes(),
-            Text::Shared(text) => text.as_bytes(),
-        }
-    }
-}
-
 /// What a parser gives: an event, the fault that ends the events, or `None` after them.
 pub type Item<'input> = Option<Result<(Event<'input>, Span), ScanError>>;
 
-/// A parser of the library, and the text that it reads.
+/// A parser of the library.
 pub struct Face<'input> {
     /// Always has a parser, except during the call that clones it: that empties it and puts the parser back.
     handle: Cell<Handle>,
     /// What the library wrote last. Its texts are read only right after the call.
     record: Record,
-    /// Dropped after the parser is freed.
-    text: Text<'input>,
+    /// The text that it reads. One that comes in pieces is the library's.
+    text: Option<&'input str>,
     reached: Reached,
 }
 
@@ -156,18 +142,28 @@ unsafe impl Send for Face<'_> {}
 
 impl<'input> Face<'input> {
     /// A parser of a text.
-    pub fn new(text: Text<'input>, keep_tags: bool) -> Self {
-        // SAFETY: the call asks for nothing.
-        let version = unsafe { saphyr_version() };
-        assert_eq!(
-            version, VERSION,
-            "the library is of another version than this crate"
-        );
+    pub fn new(text: &'input str, keep_tags: bool) -> Self {
+        check_version();
         let (mut handle, bytes) = (EMPTY, text.as_bytes());
         // SAFETY: the bytes may be read for their length. They stay where they are, unchanged, until `drop` frees the
-        // parser, since the text is borrowed or shared, and dropped after that. The handle is zeroed.
+        // parser, since the text is borrowed for longer. The handle is zeroed.
         let status = unsafe { saphyr_new(bytes.as_ptr(), bytes.len(), keep_tags, &mut handle) };
         expect(status, OK);
+        Face::with(handle, Some(text))
+    }
+
+    /// A parser of a text that comes in pieces, of which nothing came.
+    pub fn of_pieces() -> Self {
+        check_version();
+        let mut handle = EMPTY;
+        // SAFETY: the handle is zeroed.
+        let status = unsafe { saphyr_new_pieces(false, &mut handle) };
+        expect(status, OK);
+        Face::with(handle, None)
+    }
+
+    /// With a parser that has handed out nothing here.
+    fn with(handle: Handle, text: Option<&'input str>) -> Self {
         Face {
             handle: Cell::new(handle),
             record: Record::zeroed(),
@@ -176,14 +172,44 @@ impl<'input> Face<'input> {
         }
     }
 
+    /// Adds the next characters of a text that comes in pieces. An empty piece says that no more come.
+    pub fn add(&mut self, piece: &str) {
+        // SAFETY: the handle has a parser, which no other call uses. The bytes may be read for their length.
+        let status = unsafe { saphyr_add(self.handle.get_mut(), piece.as_ptr(), piece.len()) };
+        expect(status, OK);
+    }
+
     /// Hands out the next item, and says where it leaves the parser.
     #[inline]
     pub fn next(&mut self, progress: &mut Progress) -> Item<'input> {
+        let status = self.step();
+        // SAFETY: this was the last call with the parser.
+        unsafe { self.item(status, progress) }
+    }
+
+    /// The same of a text that comes in pieces. `None`: the item depends on what did not come.
+    pub fn next_or_more(&mut self, progress: &mut Progress) -> Option<Item<'input>> {
+        let status = self.step();
+        // SAFETY: this was the last call with the parser.
+        (status != MORE).then(|| unsafe { self.item(status, progress) })
+    }
+
+    /// Calls the library for the next item, and returns the status.
+    #[inline]
+    fn step(&mut self) -> i32 {
         // SAFETY: the handle has a parser, which no other call uses. The record was zeroed, and nothing but this call
         // has changed it.
-        let status = unsafe { saphyr_next(self.handle.get_mut(), &mut self.record) };
+        unsafe { saphyr_next(self.handle.get_mut(), &mut self.record) }
+    }
+
+    /// The item that a call wrote.
+    ///
+    /// # Safety
+    /// A call returned this status and wrote the record, and no other call with the parser came since.
+    #[inline]
+    unsafe fn item(&mut self, status: i32, progress: &mut Progress) -> Item<'input> {
         if status != EVENT {
-            // SAFETY: the call was the last one with the parser, and wrote the record.
+            // SAFETY: the caller ensures what this function requires.
             let fault = unsafe { self.ending(status) }?;
             return progress.end(fault);
         }
@@ -195,7 +221,7 @@ impl<'input> Face<'input> {
     /// The fault in place of an event, if there is one.
     ///
     /// # Safety
-    /// A call returned this status and wrote the record, and no other call with the parser came since.
+    /// The same as of `item`.
     #[cold]
     unsafe fn ending(&self, status: i32) -> Option<ScanError> {
         if status != REFUSED {
@@ -245,7 +271,7 @@ impl<'input> Face<'input> {
         }
     }
 
-    /// The text of the scalar that a call wrote. It is borrowed if the parser's text has it as it is at the scalar's
+    /// The text of the scalar that a call wrote. It is borrowed if the caller's text has it as it is at the scalar's
     /// place.
     ///
     /// # Safety
@@ -254,7 +280,7 @@ impl<'input> Face<'input> {
     unsafe fn value(&mut self, style: ScalarStyle) -> Cow<'input, str> {
         // SAFETY: the caller ensures what this function requires.
         let value = unsafe { self.record.value.text() };
-        let Text::Borrowed(text) = self.text else {
+        let Some(text) = self.text else {
             return Cow::Owned(value.to_owned());
         };
         let quotes = match style {
@@ -286,13 +312,13 @@ impl Clone for Face<'_> {
     fn clone(&self) -> Self {
         let mut handle = EMPTY;
         // SAFETY: the first handle has a parser, which no other call uses, since a `Face` is no `Sync`. The second is
-        // zeroed, and its parser reads the same text, which is kept in the clone too.
+        // zeroed. If its parser reads the caller's text, that is borrowed for the clone too.
         let status = unsafe { saphyr_clone(self.handle.as_ptr(), &mut handle) };
         expect(status, OK);
         Face {
             handle: Cell::new(handle),
             record: Record::zeroed(),
-            text: self.text.clone(),
+            text: self.text,
             reached: self.reached,
         }
     }
@@ -380,6 +406,16 @@ fn style(number: i32) -> ScalarStyle {
 
 fn marker(place: &Place) -> Marker {
     Marker::new(place.index, place.line, place.col)
+}
+
+/// Goes on if the library is of this crate's version.
+fn check_version() {
+    // SAFETY: the call asks for nothing.
+    let version = unsafe { saphyr_version() };
+    assert_eq!(
+        version, VERSION,
+        "the library is of another version than this crate"
+    );
 }
 
 /// Goes on if the status is this one. If memory ran out the process ends, as it does if a `Vec` can't grow.

@@ -2,7 +2,7 @@
 
 use crate::encoding::NotUtf8;
 use crate::event::{Event, SpannedEventReceiver};
-use crate::face::{checked, Face, Item, Text};
+use crate::face::{checked, Face, Item};
 use crate::input::{buffered::BufferedInput, str::StrInput, Input};
 use crate::parts::Parts;
 use crate::progress::{Progress, Stand};
@@ -26,7 +26,7 @@ enum Source<'input, T> {
 /// A parser of a text. It gives the events one after the other.
 ///
 /// `T` is the kind of input that the characters come from. A text in memory is read as far as each event needs. Before
-/// the first event of a document is given, an input is read up to the line of `---` or `...` that ends the document.
+/// the events inside a document are given, an input is read up to the line of `---` or `...` that ends the document.
 pub struct Parser<'input, T: Input> {
     source: Source<'input, T>,
     keep_tags: bool,
@@ -84,8 +84,10 @@ impl<'input, T: Input> Parser<'input, T> {
     #[must_use]
     pub fn keep_tags(mut self, value: bool) -> Self {
         self.keep_tags = value;
-        if let Source::Whole(face) = &mut self.source {
-            face.keep_tags(value);
+        match &mut self.source {
+            Source::Text(_) => {}
+            Source::Whole(face) => face.keep_tags(value),
+            Source::Parts(parts) => parts.keep_tags(value),
         }
         self
     }
@@ -191,11 +193,11 @@ impl<'input, T: Input> Parser<'input, T> {
     /// The same at the start of a text, and of an input.
     fn read_part(&mut self) -> Item<'input> {
         if let Source::Text(text) = self.source {
-            self.source = Source::Whole(Face::new(Text::Borrowed(text), self.keep_tags));
+            self.source = Source::Whole(Face::new(text, self.keep_tags));
         }
         match &mut self.source {
             Source::Whole(face) => face.next(&mut self.progress),
-            Source::Parts(parts) => parts.next(self.keep_tags, &mut self.progress),
+            Source::Parts(parts) => parts.next(&mut self.progress),
             Source::Text(_) => unreachable!("its parser was made"),
         }
     }
@@ -211,7 +213,7 @@ impl<'input, T: Input> Iterator for Parser<'input, T> {
 }
 
 impl<T: Input + Clone> Clone for Parser<'_, T> {
-    /// An independent parser at the same place. Before the first event, the input is cloned.
+    /// An independent parser at the same place. Its input is cloned.
     fn clone(&self) -> Self {
         Parser {
             source: self.source.clone(),

@@ -4,6 +4,7 @@ use saphyr_parser::{Event, EventReceiver, Input, Parser, ScanError, Span};
 use std::cell::Cell;
 use std::io::{BufReader, Read, Write};
 use std::os::unix::net::UnixStream;
+use std::panic::{catch_unwind, AssertUnwindSafe};
 use std::time::Duration;
 
 /// The scalars that it receives.
@@ -21,13 +22,18 @@ impl<'input> EventReceiver<'input> for Scalars {
 /// Each document is written once the one before it was handed out.
 #[test]
 fn gives_documents_on_a_pipe_one_by_one() {
-    for (first, between) in [("", "\n...\n"), ("---\n", "\n---\n")] {
+    for (first, between, keeps_tags) in [
+        ("", "\n...\n", false),
+        ("---\n", "\n---\n", false),
+        ("%TAG ! t:\n---\n", "\n---\n", true),
+    ] {
         let (mut writer, reader) = UnixStream::pair().unwrap();
         reader
             .set_read_timeout(Some(Duration::from_secs(60)))
             .unwrap();
         let bytes = BufReader::new(reader).bytes();
-        let mut parser = Parser::new_from_iter(bytes.map(|byte| char::from(byte.unwrap())));
+        let mut parser = Parser::new_from_iter(bytes.map(|byte| char::from(byte.unwrap())))
+            .keep_tags(keeps_tags);
         let mut scalars = Scalars::default();
         writer.write_all(first.as_bytes()).unwrap();
         for document in ["a", "[b]", "c: d", "|\n e", "f"] {
@@ -73,6 +79,8 @@ fn reads_no_further_than_a_document() {
         read_at_ends("%YAML 1.2\n--- |\n ---\n ...\n---\n---a\n"),
         [30, 35]
     );
+    // LF belongs to the end of its line. A marker is one without it.
+    assert_eq!(read_at_ends("a\r...\r\nb\r---\rc"), [7, 13, 14]);
 }
 
 #[test]
@@ -81,6 +89,35 @@ fn reads_nothing_for_the_start_of_the_stream() {
         Parser::new_from_iter(std::iter::repeat_with(|| -> char { panic!("was read") }));
     assert_eq!(parser.peek().unwrap().unwrap().0, Event::StreamStart);
     assert_eq!(parser.next_event().unwrap().unwrap().0, Event::StreamStart);
+}
+
+/// What it read of a line is lost.
+#[test]
+fn reads_no_further_after_an_input_panicked() {
+    let read = Cell::new(0);
+    let mut parser = Parser::new_from_iter(std::iter::from_fn(|| {
+        read.set(read.get() + 1);
+        assert!(read.get() < 3, "can't be read");
+        Some('a')
+    }));
+    assert_eq!(parser.next_event().unwrap().unwrap().0, Event::StreamStart);
+    for _ in 0..2 {
+        assert!(catch_unwind(AssertUnwindSafe(|| parser.next_event())).is_err());
+    }
+    assert_eq!(read.get(), 3);
+}
+
+/// A line may be longer than what is read at a time.
+#[test]
+fn reads_long_lines() {
+    for len in 4000..4200 {
+        let word = "é".repeat(len / 2) + &"a".repeat(len % 2);
+        let text = format!("{word}--- x\r\n---\n- |\n {word}--- \r\n...\n\"{word}\\\n --- \"\n");
+        let whole: Vec<_> = Parser::new_from_str(&text).collect();
+        let parts: Vec<_> = Parser::new_from_iter(text.chars()).collect();
+        assert_eq!(parts, whole, "{len}");
+        assert!(whole.iter().all(Result::is_ok));
+    }
 }
 
 #[test]
