@@ -4,10 +4,11 @@
     tests/promises.py [--quiet] [--mark] [NAME..]
 
 A promise is a clause of one of `FUNCTIONS`: of `Parser::new` (or of `with_limit` and `new_from_iter`, where they say
-more), of the calls of a parser, of `load_documents`, of `load_document`, of `dump` or of `run_dump`. Each of its names is followed through
-the `use` lines of its file to the definition in a crate's `specs`, and so is each name in there. What is reached is
-printed, by clause: the file, the section of the standard that its head names, and the definitions. A `NAME` of a clause
-or a function, as `taken`, prints this alone, and `--quiet` counts only.
+more), of the calls of a parser, of those of a `PieceParser`, of `load_documents`, of `load_document`, of `dump` or of
+`run_dump`. Each of its names is followed through the `use` lines of its file to the definition in a crate's `specs`,
+and so is each name in there. What is reached is printed, by clause: the file, the section of the standard that its
+head names, and the definitions. A `NAME` of a clause or a function, as `taken`, prints this alone, and `--quiet`
+counts only.
 
 An entry of the page begins with its names, their file and section, and which promises rest on them: those of its names,
 or where it has none, of its files. The script fails where an entry says something else, and `--mark` writes it into the
@@ -35,6 +36,7 @@ TOP = os.path.dirname(os.path.dirname(os.path.abspath(__file__)))
 PAGE = os.path.join(TOP, "docs", "DEFINITIONS.md")
 PARSER, LOADER = "crates/saphyr_parser/src/cursor.rt", "crates/yaml_tree/src/loading.rt"
 ONE_LOADER = "crates/yaml_tree/src/document_loading.rt"
+PIECES = "crates/saphyr_pieces/src/parser.rt"
 PRINTING, RUNNING = "crates/saphyr_parser/src/printing.rt", "crates/saphyr_parser/src/printing/run.rt"
 # each with its mark in the page, where that isn't the clause's own name
 FUNCTIONS = {
@@ -42,17 +44,20 @@ FUNCTIONS = {
     (PARSER, "next_event"): "calls", (PARSER, "next_event_into"): "calls", (PARSER, "peek"): "calls",
     (PARSER, "load"): "calls",
     (PARSER, "keep_tags"): "calls", (LOADER, "load_documents"): "trees", (ONE_LOADER, "load_document"): "trees",
-    (PRINTING, "dump"): "lines", (RUNNING, "run_dump"): "lines",
+    (PIECES, "new"): "pieces", (PIECES, "add"): "pieces", (PIECES, "end"): "pieces", (PIECES, "keep_tags"): "pieces",
+    (PIECES, "next_event_into"): "pieces", (PRINTING, "dump"): "lines", (RUNNING, "run_dump"): "lines",
 }
 SAME_AS_NEW = {"with_limit", "new_from_iter"}
 # `decided` has no mark: it says that the events are computed, and stops there
-MARKS = ["json", "yaml", "closed", "taken", "spans", "calls", "trees", "lines"]
+MARKS = ["json", "yaml", "closed", "taken", "spans", "calls", "pieces", "trees", "lines"]
 # files of definitions are named by their crate and their path below its `specs`
 COMPUTED = {
     (("saphyr_scanner", "Steps.Remaining"), "scan"),
     (("saphyr_machine", "Answer"), "remaining_answer"),
     (("saphyr_machine", "Cursor"), "to_come"),
     (("saphyr_machine", "Cursor"), "EventCursor"),
+    (("saphyr_pieces", "Pieces"), "at"),
+    (("saphyr_pieces", "Pieces"), "wants_more"),
 }
 CURSOR = {("saphyr_machine", "Cursor"), ("saphyr_machine", "Calls")}
 
