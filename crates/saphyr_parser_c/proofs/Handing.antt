@@ -13,7 +13,7 @@ use Rattle.saphyr_parser.specs.Answer.{Answer, Ending, Refused, fault_alone, rem
 use Rattle.saphyr_parser.specs.Events.{Happening}
 use Rattle.saphyr_parser.specs.Calls.{Advances, EndsTheStream, FailsFrom, GivesNext, IsToldAs, given_fault, item_at}
 use Rattle.saphyr_parser.specs.Cursor.{EventCursor, HandsOutNext, Kept, Refuses, ending_of_fault, to_come}
-use Rattle.saphyr_pieces.specs.Pieces.{HandsOut, at}
+use Rattle.saphyr_pieces.specs.Pieces.{HandsOutOrWaits, at}
 use Rattle.saphyr_parser_c.specs.declared.coming.Coming.{Coming}
 use Rattle.saphyr_parser_c.specs.declared.inner.Inner.{Inner}
 use Rattle.saphyr_parser_c.specs.declared.shown.CEvent.{CEvent}
@@ -192,7 +192,7 @@ module _ (before : Inner) (s : Status) (c : CEvent) (old new : Coming) (next : E
   abbrev read : Progress → Bool → Inner
   read p b = record before { source = source.Pieces new; next = next; fault = f; progress = p; shown = b }
 
-  behind : (p : Progress) (b : Bool) (after : Inner) → HandsOut (Some p) next f old.parser new.parser
+  behind : (p : Progress) (b : Bool) (after : Inner) → HandsOutOrWaits (Some p) next f old.parser new.parser
       → TellsKept (read p b) s c after → (later : List ℕ) (here : EventCursor) → IsAt old before later here
       → GivesNext (handed after) here (place new later)
   behind p b after hands told later here is =
@@ -202,7 +202,7 @@ module _ (before : Inner) (s : Status) (c : CEvent) (old new : Coming) (next : E
       (gives_place (item_at next f p) old new same hands later))
 
   -- what is read is handed out
-  pub hands_next : (p : Progress) (after : Inner) → HandsOut (Some p) next f old.parser new.parser
+  pub hands_next : (p : Progress) (after : Inner) → HandsOutOrWaits (Some p) next f old.parser new.parser
       → TellsKept (read p before.shown) s c after → HandsToC before s c after
   hands_next p after hands kept =
       let told = subst (λ (b : Bool). TellsKept (read p b) s c after) shown kept in
@@ -218,7 +218,7 @@ module _ (before : Inner) (s : Status) (c : CEvent) (old new : Coming) (next : E
       )
 
   -- what is read is shown
-  pub shows_next : (p : Progress) (after : Inner) → HandsOut (Some p) next f old.parser new.parser
+  pub shows_next : (p : Progress) (after : Inner) → HandsOutOrWaits (Some p) next f old.parser new.parser
       → TellsKept (read p true) s c after → ShowsToC before s c after
   shows_next p after hands told =
       subst (λ (x : Source). ShowsFrom x before s c after) (sym from) (
@@ -233,7 +233,7 @@ module _ (before : Inner) (s : Status) (c : CEvent) (old new : Coming) (next : E
         }),
       )
 
-  waiting : (after : Inner) → HandsOut None next f old.parser new.parser
+  waiting : (after : Inner) → HandsOutOrWaits None next f old.parser new.parser
       → Waits (read before.progress before.shown) s c after
       → WaitsForMore old before status.More c new (read progress.Over before.shown)
   waiting after hands waits = record {
@@ -248,7 +248,7 @@ module _ (before : Inner) (s : Status) (c : CEvent) (old new : Coming) (next : E
   }
 
   -- it waits in place of handing out
-  pub hands_none : (after : Inner) → HandsOut None next f old.parser new.parser
+  pub hands_none : (after : Inner) → HandsOutOrWaits None next f old.parser new.parser
       → Waits (read before.progress before.shown) s c after → HandsToC before s c after
   hands_none after hands waits =
       subst (λ (x : Source). HandsFrom x before s c after) (sym from)
@@ -262,7 +262,7 @@ module _ (before : Inner) (s : Status) (c : CEvent) (old new : Coming) (next : E
       ))
 
   -- it waits in place of showing
-  pub shows_none : (after : Inner) → HandsOut None next f old.parser new.parser
+  pub shows_none : (after : Inner) → HandsOutOrWaits None next f old.parser new.parser
       → Waits (read before.progress before.shown) s c after → ShowsToC before s c after
   shows_none after hands waits =
       subst (λ (x : Source). ShowsFrom x before s c after) (sym from)

@@ -8,8 +8,8 @@ use Rattle.saphyr_parser_c.specs.declared.inner.Inner.{Inner}
 use Rattle.saphyr_parser_c.specs.declared.source.Source.{Source}
 use Rattle.saphyr_parser_c.specs.declared.source.Source.TheVariants as source
 use Rattle.saphyr_parser_c.specs.Coming.{IsOfNothing, place}
-use Rattle.saphyr_parser_c.specs.Coming.{IsCopy as IsCopyOfPieces}
-use Rattle.saphyr_parser_c.specs.Inner.{HasSameBytes, IsCopy, IsFresh, IsOfPieces, IsShownCopy, IsSourceCopy, KeepsFrom}
+use Rattle.saphyr_parser_c.specs.Coming.{IsCopyOfPieces}
+use Rattle.saphyr_parser_c.specs.Inner.{HasSameBytes, IsCopyOfParser, IsFresh, IsOfPieces, IsShownCopy, IsSourceCopy, KeepsFrom}
 
 pub made_of_pieces : (keep : Bool) (coming : Coming) (inner : Inner) → IsOfNothing keep coming
     → inner.source ≡ source.Pieces coming → IsFresh inner → IsOfPieces keep inner
@@ -37,6 +37,6 @@ source_copied s old new is same =
 
 pub copied : (inner before after : Inner) (s : Source) → before.source ≡ s → IsFresh before
     → IsSourceCopy inner.source s → after.source ≡ before.source
-    → (IsFresh before → IsShownCopy inner.shown inner after) → IsCopy inner after
+    → (IsFresh before → IsShownCopy inner.shown inner after) → IsCopyOfParser inner after
 copied inner before after s is fresh same stays shown =
     (subst (IsSourceCopy inner.source) (sym (stays ∙ is)) same, shown fresh)

@@ -41,12 +41,12 @@ TakesIn bytes old status.NoMemory new = Unit {0}
 TakesIn bytes old s new = (IsUtf8 bytes → ⊥) × IsRefusal bytes old s × (new ≡ old)
 
 -- No more comes. If a character is cut off, nothing changes.
-abbrev pub Ends : Coming → Status → Coming → Type 0
-Ends old status.Done new =
+abbrev pub EndsPieces : Coming → Status → Coming → Type 0
+EndsPieces old status.Done new =
     (old.waiting.items ≡ []) × ((later : List ℕ) → at new.parser later ≡ at old.parser [])
     × (wants_more new.parser ≡ false) × (new.extent ≡ extent.All)
-Ends old status.NoMemory new = wants_more new.parser ≡ false
-Ends old s new = (s ≡ status.NotUtf8) × ((old.waiting.items ≡ []) → ⊥) × (new ≡ old)
+EndsPieces old status.NoMemory new = wants_more new.parser ≡ false
+EndsPieces old s new = (s ≡ status.NotUtf8) × ((old.waiting.items ≡ []) → ⊥) × (new ≡ old)
 
 -- These bytes come next: the parser is that of all that came, one behind the other, whatever comes after them.
 abbrev pub AddsSome : List ℕ → Coming → Status → Coming → Type 0
@@ -58,14 +58,14 @@ AddsSome bytes old s new =
     (IsUtf8 (old.waiting.items ++ bytes) → ⊥) × IsRefusal (old.waiting.items ++ bytes) old s × (new ≡ old)
 
 -- No bytes say that no more come. After that nothing is added.
-abbrev pub AddsTo : Extent → List ℕ → Coming → Status → Coming → Type 0
-AddsTo extent.All bytes old s new = (s ≡ status.Whole) × (new ≡ old)
-AddsTo _ [] old s new = Ends old s new
-AddsTo _ bytes old s new = AddsSome bytes old s new
+abbrev pub AddsBytes : Extent → List ℕ → Coming → Status → Coming → Type 0
+AddsBytes extent.All bytes old s new = (s ≡ status.Whole) × (new ≡ old)
+AddsBytes _ [] old s new = EndsPieces old s new
+AddsBytes _ bytes old s new = AddsSome bytes old s new
 
 abbrev pub Adds : List ℕ → Coming → Status → Coming → Type 0
-Adds bytes old s new = AddsTo old.extent bytes old s new
+Adds bytes old s new = AddsBytes old.extent bytes old s new
 
-abbrev pub IsCopy : Coming → Coming → Type 0
-IsCopy old copy =
+abbrev pub IsCopyOfPieces : Coming → Coming → Type 0
+IsCopyOfPieces old copy =
     (copy.parser ≡ old.parser) × (copy.waiting.items ≡ old.waiting.items) × (copy.extent ≡ old.extent)

@@ -61,7 +61,7 @@ PeeksAt (some old) code c new =
 -- a copy, if one is made, is at the parser's place
 abbrev pub Copies : Inner → ℤ → Option Inner → Type 0
 Copies old code none = code ≡ code_of status.NoMemory
-Copies old code (some copy) = (code ≡ pos 0) × spec.IsCopy old copy
+Copies old code (some copy) = (code ≡ pos 0) × spec.IsCopyOfParser old copy
 
 abbrev pub Clones : Option Inner → ℤ → Option Inner → Type 0
 Clones none code copy = (code ≡ code_of status.NoParser) × (copy ≡ none)
@@ -70,4 +70,4 @@ Clones (some old) code copy = Copies old code copy
 abbrev pub KeepsTags : Bool → Option Inner → ℤ → Option Inner → Type 0
 KeepsTags keep none code new = (code ≡ code_of status.NoParser) × (new ≡ none)
 KeepsTags keep (some old) code new =
-    (inner : Inner) × (new ≡ some inner) × (code ≡ pos 0) × spec.KeepsTags keep old inner
+    (inner : Inner) × (new ≡ some inner) × (code ≡ pos 0) × spec.SetsKeepTags keep old inner

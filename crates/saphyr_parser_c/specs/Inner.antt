@@ -22,7 +22,7 @@ use Rattle.saphyr_parser_c.specs.declared.source.Source.TheVariants as source
 use Rattle.saphyr_parser_c.specs.declared.status.Status.{Status}
 use Rattle.saphyr_parser_c.specs.declared.status.Status.TheVariants as status
 use Rattle.saphyr_parser_c.specs.Coming.{Adds, IsOfNothing, place}
-use Rattle.saphyr_parser_c.specs.Coming.{IsCopy as IsCopyOfPieces}
+use Rattle.saphyr_parser_c.specs.Coming.{IsCopyOfPieces}
 use Rattle.saphyr_parser_c.specs.Encoding.{BeginsAsUtf16}
 use Rattle.saphyr_parser_c.specs.Same.{IsSameFault}
 use Rattle.saphyr_parser_c.specs.Shown.{Holds, TellsC, TellsLent, no_fields, nowhere}
@@ -183,8 +183,8 @@ IsShownCopy false inner copy = IsFresh copy
 IsShownCopy true inner copy = (copy.shown ≡ true) × IsSameItem (handed inner) (handed copy)
 
 -- a parser at the same place, which handed out nothing
-abbrev pub IsCopy : Inner → Inner → Type 0
-IsCopy inner copy = IsSourceCopy inner.source copy.source × IsShownCopy inner.shown inner copy
+abbrev pub IsCopyOfParser : Inner → Inner → Type 0
+IsCopyOfParser inner copy = IsSourceCopy inner.source copy.source × IsShownCopy inner.shown inner copy
 
 abbrev pub KeepsFrom : Source → Bool → Source → Type 0
 KeepsFrom (source.Whole old) keep new = new ≡ source.Whole (keeping_tags keep old)
@@ -193,8 +193,8 @@ KeepsFrom (source.Pieces old) keep new =
     × ((later : List ℕ) → place coming later ≡ keeping_tags keep (place old later))
 
 -- it has that setting, and nothing else changes
-abbrev pub KeepsTags : Bool → Inner → Inner → Type 0
-KeepsTags keep before after =
+abbrev pub SetsKeepTags : Bool → Inner → Inner → Type 0
+SetsKeepTags keep before after =
     KeepsFrom before.source keep after.source × (after ≡ record before { source = after.source })
 
 -- ## Inner steps

@@ -2,7 +2,7 @@
 
 ghost use Rattle.std.specs.Prelude.{◌≡◌, ◌++◌, List, ℕ, IfOk};
 ghost use Rattle.saphyr_parser.specs.Cursor.{keeping_tags};
-ghost use Rattle.saphyr_pieces.specs.Pieces.{HandsOut, at};
+ghost use Rattle.saphyr_pieces.specs.Pieces.{HandsOutOrWaits, at};
 ghost use Rattle.saphyr_parser_c.specs.Coming as spec;
 
 use crate::encoding::{begins_as_utf16, whole_front};
@@ -102,7 +102,7 @@ impl Coming {
 
     // Says that no more comes.
     fn end(&mut self) -> Status
-        ensures { spec.Ends self.old result self.new }
+        ensures { spec.EndsPieces self.old result self.new }
     {
         if !self.waiting.is_empty() {
             return Status::NotUtf8;
@@ -120,7 +120,7 @@ impl Coming {
         next: &mut (Event<'static>, Span),
         fault: &mut Fault,
     ) -> Option<Progress>
-        ensures next { HandsOut result next.new fault.new self.old.parser self.new.parser }
+        ensures next { HandsOutOrWaits result next.new fault.new self.old.parser self.new.parser }
         ensures same { self.new ≡ record self.old { parser = self.new.parser } }
     {
         self.parser.next_event_into(next, fault)
@@ -128,7 +128,7 @@ impl Coming {
 
     /// An independent parser at the same place.
     pub fn copy(&self, alloc: Global) -> Result<Coming, AllocError>
-        ensures { IfOk result (spec.IsCopy self.now) }
+        ensures { IfOk result (spec.IsCopyOfPieces self.now) }
     {
         let waiting = Vec::from_slice(alloc, &self.waiting)?;
         Ok(Coming {

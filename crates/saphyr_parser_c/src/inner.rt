@@ -183,7 +183,7 @@ impl Inner {
     /// An independent parser at the same place, on the heap.
     #[tactic(auto, using(crate::proofs::OfPieces::copied))]
     pub fn copy(&self, alloc: Global) -> Result<Box<Inner, Global>, AllocError>
-        ensures { IfOk result (λ b. spec.IsCopy self.now b.value) }
+        ensures { IfOk result (λ b. spec.IsCopyOfParser self.now b.value) }
     {
         let source = self.source.copy(alloc)?;
         let mut copy = Inner::fresh(alloc, source)?;
@@ -193,7 +193,7 @@ impl Inner {
 
     /// Sets whether the prefixes of tags hold for later documents too.
     pub fn keep_tags(&mut self, alloc: Global, value: bool)
-        ensures { spec.KeepsTags value self.old self.new }
+        ensures { spec.SetsKeepTags value self.old self.new }
     {
         match &mut self.source {
             Source::Whole(place) => {

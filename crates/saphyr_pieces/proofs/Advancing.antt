@@ -30,8 +30,8 @@ use Rattle.saphyr_pieces.specs.declared.readiness.Marker.TheVariants as marker
 use Rattle.saphyr_pieces.specs.declared.readiness.Readiness.{Readiness}
 use Rattle.saphyr_pieces.specs.declared.readiness.Readiness.TheVariants as readiness
 use Rattle.saphyr_pieces.specs.Pieces.{at, cursor_from}
-use Rattle.saphyr_pieces.specs.Readiness.{Holds, behind_event, is_ready, marker_of}
-use Rattle.saphyr_pieces.specs.Views.{GivesTokens, HasTokens, IsSound, IsSoundFrom, LosesTokens, is_ready_from, is_ready_now, pieces_of}
+use Rattle.saphyr_pieces.specs.Readiness.{IsKnown, behind_event, is_ready, marker_of}
+use Rattle.saphyr_pieces.specs.Views.{GivesTokens, HasTokens, IsSoundReader, IsSoundFrom, LosesTokens, is_ready_from, is_ready_now, pieces_of}
 use Rattle.saphyr_pieces.proofs.Known.{holds_behind, true_is_not_false}
 use Rattle.saphyr_pieces.proofs.Stepping.{Decided, decided_at_start, decided_behind, decided_over, event_so, fault_so, over_so}
 
@@ -49,12 +49,12 @@ its_marker : (w : code.Marker) → marker_of w ≡ Ends → w ≡ marker.Ends
 its_marker marker.Ends e = refl
 its_marker marker.Starts e = absurd (cc)
 
-decided_ready : (r : Readiness) (m : Machine) → is_ready r ≡ true → Holds r m → Decided m
+decided_ready : (r : Readiness) (m : Machine) → is_ready r ≡ true → IsKnown r m → Decided m
 decided_ready readiness.Starting m e (s, (t, only, k)) = decided_at_start m t s only k
 decided_ready (readiness.Ready w) m e h = decided_behind (marker_of w) m h.0 (λ i. h.1 (its_marker w i))
 decided_ready _ m e h = absurd (true_is_not_false (sym e))
 
-decided : (r : Readiness) (m : Machine) → (is_over m.state ≡ true) ⊎ (is_ready r ≡ true) → Holds r m → Decided m
+decided : (r : Readiness) (m : Machine) → (is_over m.state ≡ true) ⊎ (is_ready r ≡ true) → IsKnown r m → Decided m
 decided r m (inl e) h = decided_over m (over_is_end m.state e)
 decided r m (inr e) h = decided_ready r m e h
 
@@ -70,7 +70,7 @@ same_behind None None e c d none h =
 
 holds_after : (r : Readiness) (m n : Machine) (what : Happening) (span : Span) (outside : Bool)
     → (is_over m.state ≡ true) ⊎ (is_ready r ≡ true) → is_outside n.state ≡ outside
-    → event_step m ≡ told_event what span n → Holds r m → Holds (behind_event what outside r) n
+    → event_step m ≡ told_event what span n → IsKnown r m → IsKnown (behind_event what outside r) n
 holds_after readiness.Starting m n what span outside e o is h = tt
 holds_after readiness.Waiting m n what span outside e o is h = tt
 holds_after readiness.Holding m n what span outside e o is h = tt
@@ -86,7 +86,7 @@ module _ (p : PieceReader) (e : EventReader StrInput) where
 
   -- ### The parser of the whole text
 
-  module _ (i : IsSound p) where
+  module _ (i : IsSoundReader p) where
     event_from : (s : Source) (next : Event × Span) (later : List ℕ) (r : Readiness)
         → is_ready_from s p.readiness from.machine.state ≡ true → HasTokens s p → GivesNext (Some (Ok next)) from to
         → GivesNext (Some (Ok next)) (cursor_from s (pieces_of p) later)
@@ -132,9 +132,9 @@ module _ (p : PieceReader) (e : EventReader StrInput) where
         holds_after p.readiness from.machine to.machine what span outside ready o same.2 t.2,
       )
 
-  pub sound_behind_event : (next : Event × Span) (outside : Bool) (r : Readiness) → IsSound p → is_ready_now p ≡ true
+  pub sound_behind_event : (next : Event × Span) (outside : Bool) (r : Readiness) → IsSoundReader p → is_ready_now p ≡ true
       → is_outside to.machine.state ≡ outside → r ≡ behind_event (happening next.0) outside p.readiness
-      → GivesNext (Some (Ok next)) from to → IsSound (record p { reader = e; readiness = r })
+      → GivesNext (Some (Ok next)) from to → IsSoundReader (record p { reader = e; readiness = r })
   sound_behind_event next outside r i w o is h =
       let same : (to.kept ≡ from.kept) × (to.current ≡ from.current)
       × (event_step from.machine ≡ told_event (happening next.0) next.1 to.machine) =
@@ -154,8 +154,8 @@ module _ (p : PieceReader) (e : EventReader StrInput) where
   given_behind None None f c d none h =
       (subst IsGivenOrNone (sym (ap (λ (v : EventCursor). v.kept) h.1)) refl, ap (λ (v : EventCursor). v.current) h.1)
 
-  pub sound_behind_fault : (f : Fault) → IsSound p → GivesNext (Some (Err f)) from to
-      → IsSound (record p { source = source.Given; reader = e })
+  pub sound_behind_fault : (f : Fault) → IsSoundReader p → GivesNext (Some (Err f)) from to
+      → IsSoundReader (record p { source = source.Given; reader = e })
   sound_behind_fault f i h =
       let b : IsGivenOrNone to.kept × (to.current ≡ from.current) =
       given_behind from.current from.kept f from to i.current h in
@@ -164,28 +164,28 @@ module _ (p : PieceReader) (e : EventReader StrInput) where
   has_so : (s : Source) → to ≡ from → HasTokens s p → HasTokens s (record p { reader = e })
   has_so source.Given same t = subst (λ (v : EventCursor). IsGivenOrNone v.kept) (sym same) t
   has_so _ same t =
-      subst (λ (v : EventCursor). (v.kept ≡ None) × (v.machine.tokens.refusal ≡ None) × Holds p.readiness v.machine)
+      subst (λ (v : EventCursor). (v.kept ≡ None) × (v.machine.tokens.refusal ≡ None) × IsKnown p.readiness v.machine)
       (sym same) t
 
-  pub sound_over : IsSound p → GivesNext None from to → IsSound (record p { reader = e })
+  pub sound_over : IsSoundReader p → GivesNext None from to → IsSoundReader (record p { reader = e })
   sound_over i h = record {
     source = sound_from p.source p.readiness i.source;
     tokens = has_so p.source h.1 i.tokens;
     current = ap (λ (v : EventCursor). v.current) h.1 ∙ i.current;
   }
 
-  pub hands_event : (next : Event × Span) (r : Readiness) → IsSound p → is_ready_now p ≡ true
+  pub hands_event : (next : Event × Span) (r : Readiness) → IsSoundReader p → is_ready_now p ≡ true
       → GivesNext (Some (Ok next)) from to
       → (later : List ℕ) → GivesNext (Some (Ok next)) (at (pieces_of p) later)
       (at (pieces_of (record p { reader = e; readiness = r })) later)
   hands_event next r i w h later = event_from i p.source next later r w i.tokens h
 
-  pub hands_fault : (f : Fault) → IsSound p → is_ready_now p ≡ true → GivesNext (Some (Err f)) from to
+  pub hands_fault : (f : Fault) → IsSoundReader p → is_ready_now p ≡ true → GivesNext (Some (Err f)) from to
       → (later : List ℕ) → GivesNext (Some (Err f)) (at (pieces_of p) later)
       (at (pieces_of (record p { source = source.Given; reader = e })) later)
   hands_fault f i w h later = fault_from i p.source f later w i.tokens h
 
-  pub hands_nothing : IsSound p → GivesNext None from to
+  pub hands_nothing : IsSoundReader p → GivesNext None from to
       → (later : List ℕ) → GivesNext None (at (pieces_of p) later) (at (pieces_of (record p { reader = e })) later)
   hands_nothing i h later = over_from i p.source later h
 
@@ -220,7 +220,7 @@ lost_from (source.Text st) p d later none kept on is =
 lost_from (source.Read o) p d later none kept on is =
     fails_from (cursor p.reader).current (cursor p.reader).kept _ d none kept on is
 
-pub hands_lack : (p q r : PieceReader) → IsSound p → LosesTokens p q
+pub hands_lack : (p q r : PieceReader) → IsSoundReader p → LosesTokens p q
     → ((later : List ℕ) → at (pieces_of r) later ≡ failed (cursor q.reader))
     → (later : List ℕ) → GivesNext (Some (Err fault.OutOfMemory)) (at (pieces_of p) later) (at (pieces_of r) later)
 hands_lack p q r i l h later =

@@ -23,7 +23,7 @@ use Rattle.marker_laws.specs.Beside.{Marked, begins_line}
 use Rattle.marker_laws.specs.EventsUpTo.{before_all}
 use Rattle.marker_laws.specs.GoesOn.{ScansTo, extended_by, reads, starts, takes}
 use Rattle.marker_laws.proofs.HandedTokens.{refusal_ends, regrouped}
-use Rattle.saphyr_pieces.specs.Comes.{Comes, Laws, at_end, at_marker, at_start, begun, first_token, may_read, until_ended}
+use Rattle.saphyr_pieces.specs.Comes.{HasCome, Laws, at_end, at_marker, at_start, begun_state, first_token, may_read, until_ended}
 use Rattle.saphyr_pieces.specs.Lines.{HasMarkerAt}
 
 -- ## The token of the stream's start
@@ -42,48 +42,48 @@ first_read limit text = rw (leb-zero limit) refl
 pub first_ready : (text : List ℕ) → needs_token (started text) ≡ false
 first_ready text = refl
 
-pub first_taken : (text : List ℕ) → take_token (started text) ≡ (Some first_token, begun text)
+pub first_taken : (text : List ℕ) → take_token (started text) ≡ (Some first_token, begun_state text)
 first_taken text = refl
 
-begins : (limit stop : ℕ) (text : List ℕ) → ScansTo limit stop text (first_token ∷ []) (begun text)
+begins : (limit stop : ℕ) (text : List ℕ) → ScansTo limit stop text (first_token ∷ []) (begun_state text)
 begins limit stop text =
-    takes [] (started text) (begun text) first_token
+    takes [] (started text) (begun_state text) first_token
     (reads [] (start text) (started text) starts refl (omega arith) (first_read limit text)) refl refl
 
 pub first_token_comes : Laws → (limit : ℕ) (later : List ℕ)
-    → remaining limit (start later) ≡ before first_token (remaining limit (begun later))
+    → remaining limit (start later) ≡ before first_token (remaining limit (begun_state later))
 first_token_comes laws limit later =
-    laws.tokens limit 0 later (first_token ∷ []) (begun later) (begins limit 0 later)
+    laws.tokens limit 0 later (first_token ∷ []) (begun_state later) (begins limit 0 later)
 
 -- ## More comes
 
-pub came_more : Laws → (limit : ℕ) (stop : Option ℕ) (text more : List ℕ) (s : State) → Comes limit false stop text s
-    → Comes limit false stop (text ++ more) (extended_by more s)
+pub came_more : Laws → (limit : ℕ) (stop : Option ℕ) (text more : List ℕ) (s : State) → HasCome limit false stop text s
+    → HasCome limit false stop (text ++ more) (extended_by more s)
 came_more laws limit _ _ more _ (at_start text) = at_start (text ++ more)
 came_more laws limit _ _ more _ (at_marker v r ts s line h comes) =
     let same : v ++ r ++ more ≡ v ++ (r ++ more) = append_assoc v r more in
-    subst (λ text. Comes limit false (Some (length v)) text (extended_by more s)) (sym same)
+    subst (λ text. HasCome limit false (Some (length v)) text (extended_by more s)) (sym same)
     (at_marker v (r ++ more) ts (extended_by more s) line (laws.goes_on r more h)
     (subst (λ text. ScansTo limit (length v) text ts (extended_by more s)) same
     (laws.longer limit v r more line h ts s comes)))
 
 pub came_marker : Laws → (limit : ℕ) (stop : Option ℕ) (text : List ℕ) (s : State) (n : ℕ)
-    → Comes limit false stop text s → HasMarkerAt n text → IfSome stop (λ k. k ≤ n) → Comes limit false (Some n) text s
+    → HasCome limit false stop text s → HasMarkerAt n text → IfSome stop (λ k. k ≤ n) → HasCome limit false (Some n) text s
 came_marker laws limit _ _ _ n (at_start text) (v, r, is, at, line, h) low =
-    let comes = subst (λ x. ScansTo limit (length v) x (first_token ∷ []) (begun text)) is
+    let comes = subst (λ x. ScansTo limit (length v) x (first_token ∷ []) (begun_state text)) is
     (begins limit (length v) text) in
-    let there = at_marker v r (first_token ∷ []) (begun text) line h comes in
-    subst (λ k. Comes limit false (Some k) text (begun text)) (sym at)
-    (subst (λ x. Comes limit false (Some (length v)) x (begun text)) (sym is) there)
+    let there = at_marker v r (first_token ∷ []) (begun_state text) line h comes in
+    subst (λ k. HasCome limit false (Some k) text (begun_state text)) (sym at)
+    (subst (λ x. HasCome limit false (Some (length v)) x (begun_state text)) (sym is) there)
 came_marker laws limit _ _ _ n (at_marker u q ts s begins_too mark comes) (v, r, is, at, line, h) low =
     let further = laws.further limit (length u) (length v) (u ++ q) (omega (arith, low, at)) ts s comes in
     let there = at_marker v r ts s line h (subst (λ x. ScansTo limit (length v) x ts s) is further) in
-    subst (λ k. Comes limit false (Some k) (u ++ q) s) (sym at)
-    (subst (λ x. Comes limit false (Some (length v)) x s) (sym is) there)
+    subst (λ k. HasCome limit false (Some k) (u ++ q) s) (sym at)
+    (subst (λ x. HasCome limit false (Some (length v)) x s) (sym is) there)
 
-pub came_all : Laws → (limit : ℕ) (stop : Option ℕ) (text : List ℕ) (s : State) → Comes limit false stop text s
-    → Comes limit true stop text s
-came_all laws limit _ _ _ (at_start text) = at_end 0 None text (first_token ∷ []) (begun text) (begins limit 0 text)
+pub came_all : Laws → (limit : ℕ) (stop : Option ℕ) (text : List ℕ) (s : State) → HasCome limit false stop text s
+    → HasCome limit true stop text s
+came_all laws limit _ _ _ (at_start text) = at_end 0 None text (first_token ∷ []) (begun_state text) (begins limit 0 text)
 came_all laws limit _ _ _ (at_marker v r ts s line h comes) =
     at_end (length v) (Some (length v)) (v ++ r) ts s comes
 
@@ -120,9 +120,9 @@ all_ended laws limit n text ts s comes =
     laws.tokens limit n text ts s comes ∙ ap (λ x. before_all ts (remaining limit x)) (sym (extended_by_nothing s))
 
 pub reads_on : Laws → (limit : ℕ) (ended : Bool) (stop : Option ℕ) (text : List ℕ) (s t : State)
-    → Comes limit ended stop text s → needs_token s ≡ true → may_read ended stop s.core.cursor.mark.index ≡ true
+    → HasCome limit ended stop text s → needs_token s ≡ true → may_read ended stop s.core.cursor.mark.index ≡ true
     → state_behind_token limit s ≡ Ok t
-    → Comes limit ended stop text t × ((later : List ℕ)
+    → HasCome limit ended stop text t × ((later : List ℕ)
     → remaining limit (extended_by (until_ended ended later) s)
     ≡ remaining limit (extended_by (until_ended ended later) t))
 reads_on laws limit _ _ _ _ t (at_start text) needs may e = absurd (cc)
@@ -143,8 +143,8 @@ reads_on laws limit _ _ _ _ t (at_end n stop text ts s comes) needs may e =
     )
 
 pub takes_off : Laws → (limit : ℕ) (ended : Bool) (stop : Option ℕ) (text : List ℕ) (s t : State) (x : Piece)
-    → Comes limit ended stop text s → needs_token s ≡ false → take_token s ≡ (Some x, t)
-    → Comes limit ended stop text t × ((later : List ℕ)
+    → HasCome limit ended stop text s → needs_token s ≡ false → take_token s ≡ (Some x, t)
+    → HasCome limit ended stop text t × ((later : List ℕ)
     → remaining limit (extended_by (until_ended ended later) s)
     ≡ before x (remaining limit (extended_by (until_ended ended later) t)))
 takes_off laws limit _ _ _ _ t x (at_start text) ready e = absurd (cc)
@@ -165,7 +165,7 @@ takes_off laws limit _ _ _ _ t x (at_end n stop text ts s comes) ready e =
     )
 
 pub refuses : Laws → (limit : ℕ) (ended : Bool) (stop : Option ℕ) (text : List ℕ) (s : State) (e : Refusal)
-    → Comes limit ended stop text s → needs_token s ≡ true → may_read ended stop s.core.cursor.mark.index ≡ true
+    → HasCome limit ended stop text s → needs_token s ≡ true → may_read ended stop s.core.cursor.mark.index ≡ true
     → state_behind_token limit s ≡ Err e
     → (later : List ℕ) → remaining limit (extended_by (until_ended ended later) s) ≡ refusal_alone e
 refuses laws limit _ _ _ _ e (at_start text) needs may is later = absurd (cc)
@@ -213,7 +213,7 @@ nothing_left limit s h ready e =
     remaining_is limit s s (settled_is s h) ∙ nothing_after limit s.core s.queue.places s.queue.handed ready e
 
 pub none_left : Laws → (limit : ℕ) (ended : Bool) (stop : Option ℕ) (text : List ℕ) (s t : State)
-    → Comes limit ended stop text s → needs_token s ≡ false → take_token s ≡ (None, t)
+    → HasCome limit ended stop text s → needs_token s ≡ false → take_token s ≡ (None, t)
     → (later : List ℕ) → remaining limit (extended_by (until_ended ended later) s) ≡ none
 none_left laws limit _ _ _ _ t (at_start text) ready e later = absurd (cc)
 none_left laws limit _ _ _ _ t (at_marker v r ts s line h comes) ready e later =
@@ -263,7 +263,7 @@ scans_within limit stop text _ _ (takes ts s t x h ready e) =
     let same : s.core ≡ t.core = ap (λ (y : Option Piece × State). y.1.core) e in
     subst (λ (c : Core). c.cursor.mark.index ≤ limit) same (scans_within limit stop text ts s h)
 
-pub near : (limit : ℕ) (ended : Bool) (stop : Option ℕ) (text : List ℕ) (s : State) → Comes limit ended stop text s
+pub near : (limit : ℕ) (ended : Bool) (stop : Option ℕ) (text : List ℕ) (s : State) → HasCome limit ended stop text s
     → s.core.cursor.mark.index ≤ limit
 near limit _ _ _ _ (at_start text) = omega arith
 near limit _ _ _ _ (at_marker v r ts s line h comes) = scans_within limit (length v) (v ++ r) ts s comes

@@ -10,23 +10,23 @@ use Rattle.saphyr_pieces.specs.declared.pieces.PieceReader.{PieceReader}
 use Rattle.saphyr_pieces.specs.declared.pieces.Source.{Source}
 use Rattle.saphyr_pieces.specs.declared.pieces.Source.TheVariants as source
 use Rattle.saphyr_pieces.specs.declared.readiness.Readiness.{Readiness}
-use Rattle.saphyr_pieces.specs.Comes.{Comes}
-use Rattle.saphyr_pieces.specs.Lines.{Follows}
+use Rattle.saphyr_pieces.specs.Comes.{HasCome}
+use Rattle.saphyr_pieces.specs.Lines.{IsLastLineOf}
 use Rattle.saphyr_pieces.specs.Pieces.{Pieces}
-use Rattle.saphyr_pieces.specs.Readiness.{Holds}
-use Rattle.saphyr_pieces.specs.Views.{HasTokens, IsSound, IsSoundFrom, pieces_of}
+use Rattle.saphyr_pieces.specs.Readiness.{IsKnown}
+use Rattle.saphyr_pieces.specs.Views.{HasTokens, IsSoundReader, IsSoundFrom, pieces_of}
 
 -- the same statements, of what contracts see
 abbrev SoundFrom : Source → Option ℕ → Lines → Pieces → Type 0
 SoundFrom (source.Text s) marker lines x =
     (s.limit ≡ most_characters) × (x.tokens.refusal ≡ None)
-    × ((text : List ℕ) × (Comes most_characters false marker text (with_rest x.rest s.state) × Follows lines text))
+    × ((text : List ℕ) × (HasCome most_characters false marker text (with_rest x.rest s.state) × IsLastLineOf lines text))
 SoundFrom (source.Read e) marker lines x = x.tokens.refusal ≡ None
 SoundFrom source.Given marker lines x = Unit {0}
 
 abbrev TokensFrom : Source → Readiness → EventCursor → Type 0
 TokensFrom source.Given readiness c = IsGivenOrNone c.kept
-TokensFrom _ readiness c = (c.kept ≡ None) × (c.machine.tokens.refusal ≡ None) × Holds readiness c.machine
+TokensFrom _ readiness c = (c.kept ≡ None) × (c.machine.tokens.refusal ≡ None) × IsKnown readiness c.machine
 
 seen : (s : Source) (p : PieceReader) → IsSoundFrom s p → SoundFrom s p.marker p.lines (pieces_of p)
 seen (source.Text s) p h = h
@@ -49,7 +49,7 @@ tokens_unseen (source.Read e) p h = h
 tokens_unseen source.Given p h = h
 
 pub sound_copied : (p q : PieceReader) → pieces_of q ≡ pieces_of p → q.marker ≡ p.marker → q.lines ≡ p.lines
-    → q.readiness ≡ p.readiness → IsSound p → IsSound q
+    → q.readiness ≡ p.readiness → IsSoundReader p → IsSoundReader q
 sound_copied p q same marker lines readiness h = record {
   source = unseen q.source q
       (subst (λ (x : Pieces). SoundFrom x.source q.marker q.lines x) (sym same)

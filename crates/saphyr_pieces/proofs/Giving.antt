@@ -19,9 +19,9 @@ use Rattle.saphyr_pieces.specs.declared.pieces.Source.{Source}
 use Rattle.saphyr_pieces.specs.declared.pieces.Source.TheVariants as source
 use Rattle.saphyr_pieces.specs.declared.readiness.Readiness.{Readiness}
 use Rattle.saphyr_pieces.specs.Pieces.{cursor_from, resumed, with_others}
-use Rattle.saphyr_pieces.specs.Readiness.{Holds, is_ready, with_kind}
+use Rattle.saphyr_pieces.specs.Readiness.{IsKnown, is_ready, with_kind}
 use Rattle.saphyr_pieces.specs.Scanning.{ended_by, tokens_with}
-use Rattle.saphyr_pieces.specs.Views.{GivesTokens, HasTokens, IsSound, IsSoundFrom, is_ready_from, is_ready_now, pieces_of}
+use Rattle.saphyr_pieces.specs.Views.{GivesTokens, HasTokens, IsSoundReader, IsSoundFrom, is_ready_from, is_ready_now, pieces_of}
 use Rattle.saphyr_pieces.proofs.Known.{holds_with_token, true_is_not_false}
 
 -- ## Cursors
@@ -73,11 +73,11 @@ module _ (p : PieceReader) (ts : Remaining) (e : EventReader StrInput) (r : Read
   has_from source.Given w h = absurd (true_is_not_false w)
   has_from _ w h =
       let c : EventCursor = cursor p.reader in
-      subst (λ (d : EventCursor). (d.kept ≡ None) × (d.machine.tokens.refusal ≡ None) × Holds r d.machine)
+      subst (λ (d : EventCursor). (d.kept ≡ None) × (d.machine.tokens.refusal ≡ None) × IsKnown r d.machine)
       (sym given) (
         h.0,
         h.1,
-        subst (λ (v : Readiness). Holds v (with_last_token t c.machine)) (sym more)
+        subst (λ (v : Readiness). IsKnown v (with_last_token t c.machine)) (sym more)
             (holds_with_token p.readiness c.machine t (neither (is_over c.machine.state) (is_ready p.readiness) w).1 h.2),
       )
 
@@ -93,7 +93,7 @@ module _ (p : PieceReader) (ts : Remaining) (e : EventReader StrInput) (r : Read
       ap (with_others (ended_by o ts)) given ∙ given_one (ended_by o ts) t (cursor p.reader)
       ∙ ap (λ (v : Remaining). with_others (ended_by o v) (cursor p.reader)) (sym first)
 
-  pub gives_one : IsSound p → is_ready_now p ≡ false → GivesTokens p fed
+  pub gives_one : IsSoundReader p → is_ready_now p ≡ false → GivesTokens p fed
   gives_one i w = record {
     at = λ later. at_from p.source later w;
     sound = record {
@@ -107,7 +107,7 @@ module _ (p : PieceReader) (ts : Remaining) (e : EventReader StrInput) (r : Read
 
 -- ## All of it
 
-pub gives_same : (p : PieceReader) → IsSound p → GivesTokens p p
+pub gives_same : (p : PieceReader) → IsSoundReader p → GivesTokens p p
 gives_same p i = record { at = λ later. refl; sound = i; machine = refl; state = refl }
 
 pub gives_then : (p q r : PieceReader) → GivesTokens p q → GivesTokens q r → GivesTokens p r

@@ -12,10 +12,10 @@ use Rattle.saphyr_pieces.specs.declared.pieces.Source.TheVariants as source
 use Rattle.saphyr_pieces.specs.declared.readiness.Readiness.{Readiness}
 use Rattle.saphyr_pieces.specs.declared.readiness.Readiness.TheVariants as readiness
 use Rattle.saphyr_pieces.specs.Pieces.{at, cursor_from, with_others}
-use Rattle.saphyr_pieces.specs.Readiness.{Holds}
-use Rattle.saphyr_pieces.specs.Views.{HasTokens, IsSound, IsSoundFrom, pieces_of}
+use Rattle.saphyr_pieces.specs.Readiness.{IsKnown}
+use Rattle.saphyr_pieces.specs.Views.{HasTokens, IsSoundReader, IsSoundFrom, pieces_of}
 
-holds_still : (r : Readiness) (m : Machine) (v : Bool) → Holds r m → Holds r (record m { keep_tags = v })
+holds_still : (r : Readiness) (m : Machine) (v : Bool) → IsKnown r m → IsKnown r (record m { keep_tags = v })
 holds_still readiness.Starting m v h = h
 holds_still readiness.Waiting m v h = h
 holds_still readiness.Holding m v h = h
@@ -40,10 +40,10 @@ module _ (p : PieceReader) (e : EventReader StrInput) (v : Bool) (is : cursor e 
   has_from : (s : Source) → HasTokens s p → HasTokens s (record p { reader = e })
   has_from source.Given t = subst (λ (d : EventCursor). IsGivenOrNone d.kept) (sym is) t
   has_from _ t =
-      subst (λ (d : EventCursor). (d.kept ≡ None) × (d.machine.tokens.refusal ≡ None) × Holds p.readiness d.machine)
+      subst (λ (d : EventCursor). (d.kept ≡ None) × (d.machine.tokens.refusal ≡ None) × IsKnown p.readiness d.machine)
       (sym is) (t.0, t.1, holds_still p.readiness (cursor p.reader).machine v t.2)
 
-  pub keeps_sound : IsSound p → IsSound (record p { reader = e })
+  pub keeps_sound : IsSoundReader p → IsSoundReader (record p { reader = e })
   keeps_sound i = record {
     source = sound_from p.source i.source;
     tokens = has_from p.source i.tokens;

@@ -14,7 +14,7 @@ use Rattle.saphyr_pieces.specs.declared.readiness.Marker as code
 use Rattle.saphyr_pieces.specs.declared.readiness.Marker.TheVariants as marker
 use Rattle.saphyr_pieces.specs.declared.readiness.Readiness.{Readiness}
 use Rattle.saphyr_pieces.specs.declared.readiness.Readiness.TheVariants as readiness
-use Rattle.saphyr_pieces.specs.Readiness.{Holds, behind_last, is_ready, marker_of, with_kind}
+use Rattle.saphyr_pieces.specs.Readiness.{IsKnown, behind_last, is_ready, marker_of, with_kind}
 
 false_is_not_true : false ≡ true → ⊥
 false_is_not_true e = cc
@@ -32,8 +32,8 @@ passed_last : (ts : List Piece) (t : Piece) → ArePassed (ts ++ t ∷ []) → i
 passed_last [] t p = p.0
 passed_last (u ∷ ts) t p = passed_last ts t p.1
 
-holds_with_kind : (k : Kind) (r : Readiness) (m : Machine) (t : Piece) → t.kind ≡ k → is_ready r ≡ false → Holds r m
-    → Holds (with_kind k r) (with_last_token t m)
+holds_with_kind : (k : Kind) (r : Readiness) (m : Machine) (t : Piece) → t.kind ≡ k → is_ready r ≡ false → IsKnown r m
+    → IsKnown (with_kind k r) (with_last_token t m)
 holds_with_kind tokens.DocumentStart r m t is w h = ((m.tokens.pieces, t, refl, is), λ e. absurd (cc))
 holds_with_kind tokens.DocumentEnd readiness.Holding m t is w h =
     ((m.tokens.pieces, t, refl, is), λ e o p. h (passed_front m.tokens.pieces (t ∷ []) p))
@@ -46,8 +46,8 @@ holds_with_kind tokens.ByteOrderMark _ m t is w h = absurd (true_is_not_false w)
 holds_with_kind _ r m t is w h =
     λ p. false_is_not_true (ap is_end_or_mark (sym is) ∙ passed_last m.tokens.pieces t p)
 
-pub holds_with_token : (r : Readiness) (m : Machine) (t : Piece) → is_ready r ≡ false → Holds r m
-    → Holds (with_kind t.kind r) (with_last_token t m)
+pub holds_with_token : (r : Readiness) (m : Machine) (t : Piece) → is_ready r ≡ false → IsKnown r m
+    → IsKnown (with_kind t.kind r) (with_last_token t m)
 holds_with_token r m t w h = holds_with_kind t.kind r m t refl w h
 
 -- ## Behind an event
@@ -64,13 +64,13 @@ IsMarkerLeft w what m =
 
 ends_inside : (what : Happening) (outside : Bool) (m : Machine) → is_outside m.state ≡ outside
     → (what ≡ events.DocumentEnd → ⊥) → IsMarkerLeft marker.Ends what m
-    → Holds (if outside then readiness.Waiting else readiness.Ready marker.Ends) m
+    → IsKnown (if outside then readiness.Waiting else readiness.Ready marker.Ends) m
 ends_inside what true m is other h = tt
 ends_inside what false m is other (inl e) = (e, λ w o. absurd (not_outside m is o))
 ends_inside what false m is other (inr e) = absurd (other e.1)
 
 pub holds_behind : (w : code.Marker) (what : Happening) (outside : Bool) (m : Machine) → is_outside m.state ≡ outside
-    → IsMarkerLeft w what m → Holds (behind_last what outside w) m
+    → IsMarkerLeft w what m → IsKnown (behind_last what outside w) m
 holds_behind marker.Starts (events.DocumentStart true) outside m is h = tt
 holds_behind marker.Starts _ outside m is (inl e) = (e, λ w. absurd (cc))
 holds_behind marker.Starts _ outside m is (inr e) = absurd (let own = e.1 in cc)

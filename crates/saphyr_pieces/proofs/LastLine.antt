@@ -11,7 +11,7 @@ use Rattle.marker_laws.specs.Beside.{begins_line, Marked, dashes, dots}
 use Rattle.marker_laws.proofs.Longer.{same_marker, marker_goes_on}
 use Rattle.saphyr_pieces.specs.declared.lines.Front.{Front}
 use Rattle.saphyr_pieces.specs.declared.lines.Front.TheVariants as front
-use Rattle.saphyr_pieces.specs.Lines.{HasMarkerAt, IsLastMarker, HasLine, IsKnown, front_with, front_with_all, front_behind, ends_marker, most_counted}
+use Rattle.saphyr_pieces.specs.Lines.{HasMarkerAt, IsLastMarker, HasLine, HasLineOrIsLong, front_with, front_with_all, front_behind, ends_marker, most_counted}
 
 -- ## The last line, with one more character
 
@@ -57,16 +57,16 @@ abbrev Counts : ℕ → Type 0
 Counts index = index + 1 < 18446744073709551616
 
 known_on_break : (c index n : ℕ) (f : Front) (text : List ℕ) → is_break c ≡ true → Counts index
-    → IsKnown index n f text → IsKnown (index + 1) (index + 1) (front_behind c f) (text ++ c ∷ [])
+    → HasLineOrIsLong index n f text → HasLineOrIsLong (index + 1) (index + 1) (front_behind c f) (text ++ c ∷ [])
 known_on_break c index n f text e few (inl h) =
-    subst (λ b. IsKnown (index + 1) (index + 1) (if b then front.Nothing else front_with c f) (text ++ c ∷ [])) (sym e)
+    subst (λ b. HasLineOrIsLong (index + 1) (index + 1) (if b then front.Nothing else front_with c f) (text ++ c ∷ [])) (sym e)
     (inl (line_begins c index n f text e h))
 known_on_break c index n f text e few (inr (many, h)) = absurd (omega arith)
 
 known_on_other : (c index n : ℕ) (f : Front) (text : List ℕ) → is_break c ≡ false → Counts index
-    → IsKnown index n f text → IsKnown (index + 1) n (front_behind c f) (text ++ c ∷ [])
+    → HasLineOrIsLong index n f text → HasLineOrIsLong (index + 1) n (front_behind c f) (text ++ c ∷ [])
 known_on_other c index n f text e few (inl h) =
-    subst (λ b. IsKnown (index + 1) n (if b then front.Nothing else front_with c f) (text ++ c ∷ [])) (sym e)
+    subst (λ b. HasLineOrIsLong (index + 1) n (if b then front.Nothing else front_with c f) (text ++ c ∷ [])) (sym e)
     (inl (line_goes_on c index n f text e h))
 known_on_other c index n f text e few (inr (many, h)) = absurd (omega arith)
 
@@ -320,25 +320,25 @@ at_most index n m f text h (w, r, is, counted, begins, marked) =
 
 -- ## As the code has it
 
-pub known_behind_break : (c index next n : ℕ) (f g : Front) (text : List ℕ) → IsKnown index n f text
+pub known_behind_break : (c index next n : ℕ) (f g : Front) (text : List ℕ) → HasLineOrIsLong index n f text
     → Counts index → next ≡ index + 1 → g ≡ front_behind c f → is_break c ≡ true
-    → IsKnown next next g (text ++ c ∷ [])
+    → HasLineOrIsLong next next g (text ++ c ∷ [])
 known_behind_break c index next n f g text h few one behind e =
     rw (behind, one) (known_on_break c index n f text e few h)
 
-pub known_behind_other : (c index next n : ℕ) (f g : Front) (text : List ℕ) → IsKnown index n f text
+pub known_behind_other : (c index next n : ℕ) (f g : Front) (text : List ℕ) → HasLineOrIsLong index n f text
     → Counts index → next ≡ index + 1 → g ≡ front_behind c f → is_break c ≡ false
-    → IsKnown next n g (text ++ c ∷ [])
+    → HasLineOrIsLong next n g (text ++ c ∷ [])
 known_behind_other c index next n f g text h few one behind e =
     rw (behind, one) (known_on_other c index n f text e few h)
 
-pub found_by : (c index n : ℕ) (f : Front) (text : List ℕ) (b : Bool) (o : Option ℕ) → IsKnown index n f text
+pub found_by : (c index n : ℕ) (f : Front) (text : List ℕ) (b : Bool) (o : Option ℕ) → HasLineOrIsLong index n f text
     → Counts index → b ≡ ends_marker c f → o ≡ then_some b n → IfSome o (λ m. HasMarkerAt m (text ++ c ∷ []))
 found_by c index n f text true o (inl h) few e is = rw is (found c index n f text h (sym e))
 found_by c index n f text false o (inl h) few e is = rw is tt
 found_by c index n f text b o (inr (many, h)) few e is = absurd (omega arith)
 
-pub last_by : (c index n : ℕ) (f : Front) (text : List ℕ) (b : Bool) (o : Option ℕ) → IsKnown index n f text
+pub last_by : (c index n : ℕ) (f : Front) (text : List ℕ) (b : Bool) (o : Option ℕ) → HasLineOrIsLong index n f text
     → Counts index → b ≡ ends_marker c f → o ≡ then_some b n → IsLastMarker o text (text ++ c ∷ [])
 last_by c index n f text true o (inl h) few e is =
     rw is (λ m there. of m (was_or_found c index n m f text h there)) where
@@ -354,13 +354,13 @@ last_by c index n f text b o (inr (many, h)) few e is = absurd (omega arith)
 
 -- a text that is too long is so with more characters
 pub too_long : (c index n : ℕ) (f : Front) (text : List ℕ) → (Counts index → ⊥)
-    → IsKnown index n f text → most_counted < length (text ++ c ∷ [])
+    → HasLineOrIsLong index n f text → most_counted < length (text ++ c ∷ [])
 too_long c index n f text many (inl h) =
     let more = length_push text c in let all = h.counted in omega (arith, many)
 too_long c index n f text many (inr (still, h)) = let more = length_push text c in omega arith
 
 pub known_too_long : (c index n : ℕ) (f : Front) (text : List ℕ) → (Counts index → ⊥)
-    → IsKnown index n f text → IsKnown index n f (text ++ c ∷ [])
+    → HasLineOrIsLong index n f text → HasLineOrIsLong index n f (text ++ c ∷ [])
 known_too_long c index n f text many h =
     let long = too_long c index n f text many h in inr (omega (arith, many), omega arith)
 

@@ -25,12 +25,12 @@ use Rattle.saphyr_pieces.specs.declared.readiness.Readiness.TheVariants as readi
 use Rattle.saphyr_pieces.specs.declared.scanning.Reading.{Reading}
 use Rattle.saphyr_pieces.specs.declared.scanning.Reading.TheVariants as reading
 use Rattle.saphyr_pieces.specs.Comes as comes
-use Rattle.saphyr_pieces.specs.Comes.{Comes, Laws, begun, first_token, until_ended}
-use Rattle.saphyr_pieces.specs.Lines.{Follows}
+use Rattle.saphyr_pieces.specs.Comes.{HasCome, Laws, begun_state, first_token, until_ended}
+use Rattle.saphyr_pieces.specs.Lines.{IsLastLineOf}
 use Rattle.saphyr_pieces.specs.Pieces.{Pieces, at, resumed, wants_more_from, with_others}
-use Rattle.saphyr_pieces.specs.Readiness.{Holds}
+use Rattle.saphyr_pieces.specs.Readiness.{IsKnown}
 use Rattle.saphyr_pieces.specs.Scanning.{ReadsTokens, all_tokens, ended_by}
-use Rattle.saphyr_pieces.specs.Views.{HasTokens, IsSound, IsSoundFrom, pieces_of}
+use Rattle.saphyr_pieces.specs.Views.{HasTokens, IsSoundReader, IsSoundFrom, pieces_of}
 use Rattle.saphyr_pieces.proofs.Comes.{came_all, came_more, first_read, first_token_comes, near, started}
 
 -- a token that is taken off is one less
@@ -53,9 +53,9 @@ taken_off x = Ok x
 
 -- what is taken off once the first token was read
 pub takes_first : (limit : ℕ) (s t u : State) (x : Option Piece) → s ≡ start [] → state_behind_token limit s ≡ Ok t
-    → taken_off (take_token t) ≡ Ok (x, u) → (x ≡ Some first_token) × (u ≡ begun [])
+    → taken_off (take_token t) ≡ Ok (x, u) → (x ≡ Some first_token) × (u ≡ begun_state [])
 takes_first limit s t u x p q r =
-    parts (x, u) (Some first_token, begun [])
+    parts (x, u) (Some first_token, begun_state [])
     (sym (same_taken (take_token t) (x, u) r) ∙ first_taken_from t (takes_started limit s t p q))
   where
     parts : (a b : Option Piece × State) → a ≡ b → (a.0 ≡ b.0) × (a.1 ≡ b.1)
@@ -64,7 +64,7 @@ takes_first limit s t u x p q r =
     same_taken : (a b : Option Piece × State) → taken_off a ≡ Ok b → a ≡ b
     same_taken a b e = cc
 
-    first_taken_from : (v : State) → v ≡ started [] → take_token v ≡ (Some first_token, begun [])
+    first_taken_from : (v : State) → v ≡ started [] → take_token v ≡ (Some first_token, begun_state [])
     first_taken_from v e = ap take_token e
 
 pub written_first : (written : Bool) (t : Token) (x : Piece) → option_map piece (written_token written t) ≡ Some x
@@ -90,7 +90,7 @@ gives_first false x tokens old new is p q e h = absurd (cc)
 -- ## At the start
 
 begins_so : Laws → (text : List ℕ)
-    → at (of_text (record { state = begun []; limit = most_characters }) [] none with_first_token) text
+    → at (of_text (record { state = begun_state []; limit = most_characters }) [] none with_first_token) text
     ≡ at_start (scan most_characters text)
 begins_so laws text = ap at_start (sym (first_token_comes laws most_characters text))
 
@@ -100,10 +100,10 @@ same_stepping s t p q =
     ∙ ap (λ n. let v : Stepping = record { state = t.state; limit = n } in v) q
 
 pub begins : Laws → (s : Stepping) (rest : List ℕ) (tokens : Remaining) (reader : EventCursor)
-    → s.state ≡ begun [] → s.limit ≡ most_characters → rest ≡ [] → tokens ≡ none → reader ≡ with_first_token
+    → s.state ≡ begun_state [] → s.limit ≡ most_characters → rest ≡ [] → tokens ≡ none → reader ≡ with_first_token
     → (text : List ℕ) → at (of_text s rest tokens reader) text ≡ at_start (scan most_characters text)
 begins laws s rest tokens reader p q a b c text =
-    let first : Stepping = record { state = begun []; limit = most_characters } in
+    let first : Stepping = record { state = begun_state []; limit = most_characters } in
     let e : s ≡ first = same_stepping s first p q in
     ap (λ x. at (of_text x rest tokens reader) text) e
     ∙ ap (λ x. at (of_text first x tokens reader) text) a
@@ -111,15 +111,15 @@ begins laws s rest tokens reader p q a b c text =
     ∙ ap (λ x. at (of_text first [] none x) text) c
     ∙ begins_so laws text
 
-pub begins_there : (s : State) (rest : List ℕ) → s ≡ begun [] → rest ≡ []
-    → Comes most_characters false None [] (with_rest rest s)
+pub begins_there : (s : State) (rest : List ℕ) → s ≡ begun_state [] → rest ≡ []
+    → HasCome most_characters false None [] (with_rest rest s)
 begins_there s rest p q =
-    subst (Comes most_characters false None []) (sym (ap (with_rest rest) p ∙ ap (λ r. with_rest r (begun [])) q))
+    subst (HasCome most_characters false None []) (sym (ap (with_rest rest) p ∙ ap (λ r. with_rest r (begun_state [])) q))
     (comes.at_start [])
 
 -- what holds of a reader of events of which this is known
 abbrev HoldsOf : EventCursor → Readiness → Type 0
-HoldsOf c r = (c.kept ≡ None) × (c.machine.tokens.refusal ≡ None) × Holds r c.machine
+HoldsOf c r = (c.kept ≡ None) × (c.machine.tokens.refusal ≡ None) × IsKnown r c.machine
 
 pub holds_first : (c : EventCursor) → c ≡ with_first_token → HoldsOf c readiness.Starting
 holds_first c e =
@@ -147,18 +147,18 @@ tokens_stay source.Given p q e r w h = absurd (cc)
 
 -- the marker that is remembered is one that came
 abbrev pub Remembers : PieceReader → PieceReader → List ℕ → Type 0
-Remembers p q more = (text : List ℕ) → Follows p.lines text → (s : State)
-    → Comes most_characters false p.marker (text ++ more) s → Comes most_characters false q.marker (text ++ more) s
+Remembers p q more = (text : List ℕ) → IsLastLineOf p.lines text → (s : State)
+    → HasCome most_characters false p.marker (text ++ more) s → HasCome most_characters false q.marker (text ++ more) s
 
 source_stays : Laws → (x : Source) (p q : PieceReader) (more : List ℕ) → wants_more_from x ≡ true
     → q.tokens ≡ p.tokens → chars (string_bytes q.text) ≡ chars (string_bytes p.text) ++ more
-    → ((text : List ℕ) → Follows p.lines text → Follows q.lines (text ++ more)) → Remembers p q more
+    → ((text : List ℕ) → IsLastLineOf p.lines text → IsLastLineOf q.lines (text ++ more)) → Remembers p q more
     → IsSoundFrom x p → IsSoundFrom x q
 source_stays laws (source.Text s) p q more w t e follows remembers h =
     let text = h.2.0 in
     let rest = chars (string_bytes p.text) in
     let came = came_more laws most_characters p.marker text more (with_rest rest s.state) h.2.1.0 in
-    let there = subst (λ r. Comes most_characters false p.marker (text ++ more) (with_rest r s.state)) (sym e) came in (
+    let there = subst (λ r. HasCome most_characters false p.marker (text ++ more) (with_rest r s.state)) (sym e) came in (
       h.0,
       ap (λ (r : Remaining). r.refusal) t ∙ h.1,
       (
@@ -169,10 +169,10 @@ source_stays laws (source.Text s) p q more w t e follows remembers h =
 source_stays laws (source.Read n) p q more w t e follows remembers h = absurd (cc)
 source_stays laws source.Given p q more w t e follows remembers h = absurd (cc)
 
-pub stays_sound : Laws → (p q : PieceReader) (more : List ℕ) → wants_more_from p.source ≡ true → IsSound p
+pub stays_sound : Laws → (p q : PieceReader) (more : List ℕ) → wants_more_from p.source ≡ true → IsSoundReader p
     → q.source ≡ p.source → q.tokens ≡ p.tokens → cursor q.reader ≡ cursor p.reader → q.readiness ≡ p.readiness
     → chars (string_bytes q.text) ≡ chars (string_bytes p.text) ++ more
-    → ((text : List ℕ) → Follows p.lines text → Follows q.lines (text ++ more)) → Remembers p q more → IsSound q
+    → ((text : List ℕ) → IsLastLineOf p.lines text → IsLastLineOf q.lines (text ++ more)) → Remembers p q more → IsSoundReader q
 stays_sound laws p q more w h x t c r e follows remembers = record {
   source = subst (λ y. IsSoundFrom y q) (sym x)
       (source_stays laws p.source p q more w t e follows remembers h.source);
@@ -216,19 +216,19 @@ ends ended s t rest later tokens all reader e h =
 -- where the scanner goes on
 pub comes_on : Laws → (ended : Bool) (marker : Option ℕ) (text : List ℕ) (s t : Stepping) (rest : List ℕ)
     → s.limit ≡ most_characters → t ≡ resumed rest s
-    → Comes most_characters false marker text (with_rest rest s.state) → Comes t.limit ended marker text t.state
+    → HasCome most_characters false marker text (with_rest rest s.state) → HasCome t.limit ended marker text t.state
 comes_on laws ended marker text s t rest p e h =
-    subst (λ (x : Stepping). Comes x.limit ended marker text x.state) (sym e)
-    (subst (λ n. Comes n ended marker text (with_rest rest s.state)) (sym p) (by ended))
+    subst (λ (x : Stepping). HasCome x.limit ended marker text x.state) (sym e)
+    (subst (λ n. HasCome n ended marker text (with_rest rest s.state)) (sym p) (by ended))
   where
-    by : (b : Bool) → Comes most_characters b marker text (with_rest rest s.state)
+    by : (b : Bool) → HasCome most_characters b marker text (with_rest rest s.state)
     by true = came_all laws most_characters marker text (with_rest rest s.state) h
     by false = h
 
 -- ## Reading on
 
 -- what holds of a reader whose tokens come from there
-sound_from : (p : PieceReader) (x : Source) → p.source ≡ x → IsSound p → IsSoundFrom x p × HasTokens x p
+sound_from : (p : PieceReader) (x : Source) → p.source ≡ x → IsSoundReader p → IsSoundFrom x p × HasTokens x p
 sound_from p x e h = subst (λ y. IsSoundFrom y p × HasTokens y p) e (h.source, h.tokens)
 
 -- what came and was not passed
@@ -238,10 +238,10 @@ rest_of p = chars (string_bytes p.text)
 -- the reader's scanner is the first, and the second goes on over what came
 pub record Scans (p : PieceReader) (s t : Stepping) : Type 0 where
   pub is : p.source ≡ source.Text s
-  pub sound : IsSound p
+  pub sound : IsSoundReader p
   pub over : t ≡ resumed (rest_of p) s
 
-pub scans : (p : PieceReader) (s t : Stepping) (rest : List ℕ) → p.source ≡ source.Text s → IsSound p
+pub scans : (p : PieceReader) (s t : Stepping) (rest : List ℕ) → p.source ≡ source.Text s → IsSoundReader p
     → rest ≡ rest_of p → t.state ≡ with_rest rest s.state → t.limit ≡ s.limit → Scans p s t
 scans p s t rest e h q state limit = record {
   is = e;
@@ -250,7 +250,7 @@ scans p s t rest e h q state limit = record {
 }
 
 -- the reader's place is not far in the text
-pub is_near : (p : PieceReader) (s : Stepping) (rest : List ℕ) → p.source ≡ source.Text s → IsSound p
+pub is_near : (p : PieceReader) (s : Stepping) (rest : List ℕ) → p.source ≡ source.Text s → IsSoundReader p
     → rest ≡ rest_of p → length (rest_of p) < 2 ^ 63 → s.state.core.cursor.mark.index + length rest < 2 ^ 64
 is_near p s rest e h q fits =
     let at = sound_from p (source.Text s) e h in
@@ -260,14 +260,14 @@ is_near p s rest e h q fits =
     omega (arith, low, same, fits)
 
 pub comes_so : Laws → (ended : Bool) (p : PieceReader) (s t : Stepping) → Scans p s t
-    → (text : List ℕ) × Comes t.limit ended p.marker text t.state
+    → (text : List ℕ) × HasCome t.limit ended p.marker text t.state
 comes_so laws ended p s t w =
     let at = sound_from p (source.Text s) w.is w.sound in
     (at.0.2.0, comes_on laws ended p.marker at.0.2.0 s t (rest_of p) at.0.0 w.over at.0.2.1.0)
 
 -- what the reading gives of the text that came
 abbrev pub ReadsAll : Bool → PieceReader → Stepping → Reading → Stepping → Remaining → Type 0
-ReadsAll ended p t r u read = (text : List ℕ) → Comes t.limit ended p.marker text t.state
+ReadsAll ended p t r u read = (text : List ℕ) → HasCome t.limit ended p.marker text t.state
     → ReadsTokens ended p.marker text t p.tokens r u read
 
 of_source : (p : PieceReader) (s : Stepping) (later : List ℕ) → p.source ≡ source.Text s
@@ -282,8 +282,8 @@ pub record StopsAt (ended : Bool) (p : PieceReader) (t u : Stepping) (read : Rem
   pub text : List ℕ
   pub goes_on : ended ≡ false
   pub limit : u.limit ≡ most_characters
-  pub comes : Comes u.limit false p.marker text u.state
-  pub follows : Follows p.lines text
+  pub comes : HasCome u.limit false p.marker text u.state
+  pub follows : IsLastLineOf p.lines text
   pub none : read.refusal ≡ None
   pub same : (later : List ℕ) → all_tokens ended later t p.tokens ≡ all_tokens ended later u read
 
@@ -325,13 +325,13 @@ at_stop ended p s t u v read left w x e state limit later =
 pub sound_at_stop : (ended : Bool) (p q : PieceReader) (s t u v : Stepping) (read : Remaining) → Scans p s t
     → StopsAt ended p t u read → rest_of q ≡ u.state.core.cursor.rest → v.state ≡ with_rest [] u.state
     → v.limit ≡ u.limit → q.source ≡ source.Text v → q.tokens ≡ read → q.marker ≡ p.marker → q.lines ≡ p.lines
-    → cursor q.reader ≡ cursor p.reader → q.readiness ≡ p.readiness → IsSound q
+    → cursor q.reader ≡ cursor p.reader → q.readiness ≡ p.readiness → IsSoundReader q
 sound_at_stop ended p q s t u v read w x e state limit is tokens marker lines reader ready =
     let back : resumed (rest_of q) v ≡ u = rested u v (rest_of q) e state limit in
-    let there : Comes most_characters false p.marker x.text (with_rest (rest_of q) v.state) =
-    subst (λ (y : State). Comes most_characters false p.marker x.text y)
+    let there : HasCome most_characters false p.marker x.text (with_rest (rest_of q) v.state) =
+    subst (λ (y : State). HasCome most_characters false p.marker x.text y)
     (sym (ap (λ (y : Stepping). y.state) back))
-    (subst (λ n. Comes n false p.marker x.text u.state) x.limit x.comes) in
+    (subst (λ n. HasCome n false p.marker x.text u.state) x.limit x.comes) in
     let known = (sound_from p (source.Text s) w.is w.sound).1 in
     record {
       source = subst (λ y. IsSoundFrom y q) (sym is) (
@@ -340,8 +340,8 @@ sound_at_stop ended p q s t u v read w x e state limit is tokens marker lines re
         (
           x.text,
           (
-            subst (λ m. Comes most_characters false m x.text (with_rest (rest_of q) v.state)) (sym marker) there,
-            subst (λ l. Follows l x.text) (sym lines) x.follows,
+            subst (λ m. HasCome most_characters false m x.text (with_rest (rest_of q) v.state)) (sym marker) there,
+            subst (λ l. IsLastLineOf l x.text) (sym lines) x.follows,
           ),
         ),
       );
@@ -384,7 +384,7 @@ at_end n ended p s t read x rest w ends_so is later =
 
 pub sound_at_end : (n : Option Refusal) (ended : Bool) (p q : PieceReader) (s t : Stepping) (read : Remaining)
     → Scans p s t → EndsWith n ended p t read → q.source ≡ source.Read n → q.tokens ≡ read
-    → cursor q.reader ≡ cursor p.reader → q.readiness ≡ p.readiness → IsSound q
+    → cursor q.reader ≡ cursor p.reader → q.readiness ≡ p.readiness → IsSoundReader q
 sound_at_end n ended p q s t read w x is tokens reader ready =
     let known = (sound_from p (source.Text s) w.is w.sound).1 in
     record {

@@ -13,7 +13,7 @@ use Rattle.saphyr_scanner.specs.Views.Tokens.{Piece, Remaining, before, with_las
 use Rattle.marker_laws.specs.EventsUpTo.{before_all}
 use Rattle.marker_laws.specs.GoesOn.{extended_by}
 use Rattle.marker_laws.proofs.HandedTokens.{regrouped}
-use Rattle.saphyr_pieces.specs.Comes.{Comes, Laws, may_read, until_ended}
+use Rattle.saphyr_pieces.specs.Comes.{HasCome, Laws, may_read, until_ended}
 use Rattle.saphyr_pieces.specs.Scanning.{RefusesAll, StaysAt, all_tokens, ended_by, tokens_with}
 use Rattle.saphyr_pieces.proofs.Comes.{none_left, reads_on, refuses, takes_off}
 
@@ -31,7 +31,7 @@ module _ (laws : Laws) (ended : Bool) (stop : Option ℕ) (text : List ℕ) (old
         → StaysAt ended stop text old t
     read_stays t limit e =
         let on = reads_on laws s.limit ended stop text s.state t.state stays.0 needs may e in
-        subst (λ n. Comes n ended stop text t.state × ((later : List ℕ) → tokens_with ended later old
+        subst (λ n. HasCome n ended stop text t.state × ((later : List ℕ) → tokens_with ended later old
         ≡ remaining n (extended_by (until_ended ended later) t.state))) (sym limit)
         (on.0, λ later. stays.1 later ∙ on.1 later)
 
@@ -46,7 +46,7 @@ module _ (laws : Laws) (ended : Bool) (stop : Option ℕ) (text : List ℕ) (old
 -- the scanner goes on over the text, and what was read comes before what it still has to hand out
 abbrev pub ReadsSoFar : Bool → Option ℕ → List ℕ → Stepping → Remaining → Stepping → Remaining → Type 0
 ReadsSoFar ended stop text s tokens t read =
-    Comes t.limit ended stop text t.state
+    HasCome t.limit ended stop text t.state
     × ((later : List ℕ) → all_tokens ended later s tokens ≡ all_tokens ended later t read)
 
 -- this is taken off
@@ -77,8 +77,8 @@ module _ (laws : Laws) (ended : Bool) (stop : Option ℕ) (text : List ℕ) (s t
     pub filled_so : ReadsSoFar ended stop text s tokens u read
     filled_so = (stays.0, λ later. so_far.1 later ∙ ap (before_all read.pieces) (stays.1 later))
 
-    pub stopped_so : ended ≡ false → Comes u.limit false stop text u.state
-    stopped_so e = subst (λ b. Comes u.limit b stop text u.state) e stays.0
+    pub stopped_so : ended ≡ false → HasCome u.limit false stop text u.state
+    stopped_so e = subst (λ b. HasCome u.limit b stop text u.state) e stays.0
 
     pub over_so : (v : Stepping) → needs_token u.state ≡ false → TakesOff u None v
         → (later : List ℕ) → all_tokens ended later s tokens ≡ ended_by None read
@@ -91,11 +91,11 @@ module _ (laws : Laws) (ended : Bool) (stop : Option ℕ) (text : List ℕ) (s t
     module _ (v : Stepping) (x : Piece) (limit : v.limit ≡ u.limit) (ready : needs_token u.state ≡ false)
         (e : TakesOff u (Some x) v)
       where
-        taken : Comes v.limit ended stop text v.state
+        taken : HasCome v.limit ended stop text v.state
             × ((later : List ℕ) → tokens_with ended later u ≡ before x (tokens_with ended later v))
         taken =
             let is : take_token u.state ≡ (Some x, v.state) = cc in
-            subst (λ n. Comes n ended stop text v.state × ((later : List ℕ)
+            subst (λ n. HasCome n ended stop text v.state × ((later : List ℕ)
             → tokens_with ended later u ≡ before x (remaining n (extended_by (until_ended ended later) v.state))))
             (sym limit) (takes_off laws u.limit ended stop text u.state v.state x stays.0 ready is)
 

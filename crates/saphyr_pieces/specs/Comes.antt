@@ -19,18 +19,18 @@ abbrev pub first_token : Piece
 first_token = empty_piece (start_cursor []).mark StreamStart
 
 -- a scanner that has handed out this token of the text, and nothing else
-abbrev pub begun : List ℕ → State
-begun text =
+abbrev pub begun_state : List ℕ → State
+begun_state text =
     record { core = record (core_at_start text) { started = true }; queue = record { places = []; handed = 1 } }
 
 -- The scanner of a text of which this came has come to the state. No marker came yet; or it has read no token from
 -- behind the marker at the index; or nothing more comes, and it may have read from anywhere.
-pub data Comes (limit : ℕ) : Bool → Option ℕ → List ℕ → State → Type 0 where
-  at_start : (text : List ℕ) → Comes limit false None text (begun text)
+pub data HasCome (limit : ℕ) : Bool → Option ℕ → List ℕ → State → Type 0 where
+  at_start : (text : List ℕ) → HasCome limit false None text (begun_state text)
   at_marker : (v r : List ℕ) (ts : List Piece) (s : State) → begins_line true v ≡ true → Marked r r
-      → ScansTo limit (length v) (v ++ r) ts s → Comes limit false (Some (length v)) (v ++ r) s
+      → ScansTo limit (length v) (v ++ r) ts s → HasCome limit false (Some (length v)) (v ++ r) s
   at_end : (n : ℕ) (stop : Option ℕ) (text : List ℕ) (ts : List Piece) (s : State) → ScansTo limit n text ts s
-      → Comes limit true stop text s
+      → HasCome limit true stop text s
 
 -- whether the next token may be read, with so many characters before the place
 abbrev pub may_read : Bool → Option ℕ → ℕ → Bool

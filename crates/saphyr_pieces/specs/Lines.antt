@@ -63,8 +63,8 @@ abbrev pub most_counted : ℕ
 most_counted = 18446744073709551615
 
 -- This is known of the text's last line. Of a text that is too long to be counted nothing more is known.
-abbrev pub IsKnown : ℕ → ℕ → Front → List ℕ → Type 0
-IsKnown index start f text = HasLine index start f text ⊎ ((most_counted ≤ index) × (most_counted ≤ length text))
+abbrev pub HasLineOrIsLong : ℕ → ℕ → Front → List ℕ → Type 0
+HasLineOrIsLong index start f text = HasLine index start f text ⊎ ((most_counted ≤ index) × (most_counted ≤ length text))
 
-abbrev pub Follows : Lines → List ℕ → Type 0
-Follows l text = IsKnown l.index l.line l.front text
+abbrev pub IsLastLineOf : Lines → List ℕ → Type 0
+IsLastLineOf l text = HasLineOrIsLong l.index l.line l.front text

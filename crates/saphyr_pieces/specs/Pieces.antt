@@ -50,8 +50,8 @@ wants_more p = wants_more_from p.source
 
 -- What a call for the next event gives, for all that may come later: it waits for more of the text, and nothing
 -- changes; or it hands out what a parser of the whole text does.
-abbrev pub HandsOut : Option Progress → Event × Span → Fault → Pieces → Pieces → Type 0
-HandsOut None next fault old new =
+abbrev pub HandsOutOrWaits : Option Progress → Event × Span → Fault → Pieces → Pieces → Type 0
+HandsOutOrWaits None next fault old new =
     (wants_more new ≡ true) × ((later : List ℕ) → at new later ≡ at old later)
-HandsOut (Some progress) next fault old new =
+HandsOutOrWaits (Some progress) next fault old new =
     (later : List ℕ) → GivesNext (item_at next fault progress) (at old later) (at new later)

@@ -26,13 +26,13 @@ is_ready readiness.Holding = false
 is_ready (readiness.Ready m) = true
 
 -- with one more token
-abbrev pub with_end : Readiness → Readiness
-with_end readiness.Holding = readiness.Ready marker.Ends
-with_end r = r
+abbrev pub with_document_end : Readiness → Readiness
+with_document_end readiness.Holding = readiness.Ready marker.Ends
+with_document_end r = r
 
 abbrev pub with_kind : Kind → Readiness → Readiness
 with_kind tokens.DocumentStart r = readiness.Ready marker.Starts
-with_kind tokens.DocumentEnd r = with_end r
+with_kind tokens.DocumentEnd r = with_document_end r
 with_kind tokens.ByteOrderMark r = r
 with_kind _ r = readiness.Holding
 
@@ -48,12 +48,12 @@ behind_event what outside (readiness.Ready m) = behind_last what outside m
 behind_event what outside _ = readiness.Waiting
 
 -- this is known of a machine
-abbrev pub Holds : Readiness → Machine → Type 0
-Holds readiness.Starting m =
+abbrev pub IsKnown : Readiness → Machine → Type 0
+IsKnown readiness.Starting m =
     (m.state ≡ state.StreamStart)
     × ((t : Piece) × (m.tokens.pieces ≡ t ∷ []) × (t.kind ≡ tokens.StreamStart))
-Holds readiness.Waiting m = Unit {0}
-Holds readiness.Holding m = ArePassed m.tokens.pieces → ⊥
-Holds (readiness.Ready w) m =
+IsKnown readiness.Waiting m = Unit {0}
+IsKnown readiness.Holding m = ArePassed m.tokens.pieces → ⊥
+IsKnown (readiness.Ready w) m =
     EndWithMarker (marker_of w) m.tokens.pieces
     × (w ≡ marker.Ends → IsOutside m → ArePassed m.tokens.pieces → ⊥)

@@ -10,7 +10,7 @@ use Rattle.marker_laws.specs.EventsUpTo.{before_all}
 use Rattle.marker_laws.specs.GoesOn.{extended_by}
 use Rattle.saphyr_pieces.specs.declared.scanning.Reading.{Reading}
 use Rattle.saphyr_pieces.specs.declared.scanning.Reading.TheVariants as reading
-use Rattle.saphyr_pieces.specs.Comes.{Comes, until_ended}
+use Rattle.saphyr_pieces.specs.Comes.{HasCome, until_ended}
 
 -- the tokens that a scanner still has to hand out, if these characters come later
 abbrev pub tokens_with : Bool → List ℕ → Stepping → Remaining
@@ -19,7 +19,7 @@ tokens_with ended later s = remaining s.limit (extended_by (until_ended ended la
 -- the scanner goes on over the text, with the same tokens to hand out
 abbrev pub StaysAt : Bool → Option ℕ → List ℕ → Stepping → Stepping → Type 0
 StaysAt ended marker text old new =
-    Comes new.limit ended marker text new.state
+    HasCome new.limit ended marker text new.state
     × ((later : List ℕ) → tokens_with ended later old ≡ tokens_with ended later new)
 
 -- whatever comes later, the text is refused at its next token
@@ -39,7 +39,7 @@ ended_by e read = record { pieces = read.pieces; refusal = e }
 -- What was read, and what the scanner still has to hand out, are all tokens, whatever comes later.
 abbrev pub ReadsTokens : Bool → Option ℕ → List ℕ → Stepping → Remaining → Reading → Stepping → Remaining → Type 0
 ReadsTokens ended marker text s tokens reading.Stopped t read =
-    (ended ≡ false) × Comes t.limit false marker text t.state × (t.limit ≡ s.limit) × (read.refusal ≡ None)
+    (ended ≡ false) × HasCome t.limit false marker text t.state × (t.limit ≡ s.limit) × (read.refusal ≡ None)
     × ((later : List ℕ) → all_tokens ended later s tokens ≡ all_tokens ended later t read)
 ReadsTokens ended marker text s tokens reading.Over t read =
     (read.refusal ≡ None) × ((later : List ℕ) → all_tokens ended later s tokens ≡ ended_by None read)

@@ -15,10 +15,10 @@ use Rattle.saphyr_pieces.specs.declared.pieces.PieceReader.{PieceReader}
 use Rattle.saphyr_pieces.specs.declared.pieces.Source.{Source}
 use Rattle.saphyr_pieces.specs.declared.pieces.Source.TheVariants as source
 use Rattle.saphyr_pieces.specs.declared.readiness.Readiness.{Readiness}
-use Rattle.saphyr_pieces.specs.Comes.{Comes}
-use Rattle.saphyr_pieces.specs.Lines.{Follows}
+use Rattle.saphyr_pieces.specs.Comes.{HasCome}
+use Rattle.saphyr_pieces.specs.Lines.{IsLastLineOf}
 use Rattle.saphyr_pieces.specs.Pieces.{Pieces, at, wants_more}
-use Rattle.saphyr_pieces.specs.Readiness.{Holds, is_ready}
+use Rattle.saphyr_pieces.specs.Readiness.{IsKnown, is_ready}
 
 abbrev pub pieces_of : PieceReader → Pieces
 pieces_of p = record {
@@ -43,7 +43,8 @@ IsReadyOrWaits false p = wants_more (pieces_of p) ≡ true
 -- this came of the text, and the scanner is there
 abbrev pub IsOfText : PieceReader → Stepping → List ℕ → Type 0
 IsOfText p s text =
-    Comes most_characters false p.marker text (with_rest (chars (string_bytes p.text)) s.state) × Follows p.lines text
+    HasCome most_characters false p.marker text (with_rest (chars (string_bytes p.text)) s.state)
+    × IsLastLineOf p.lines text
 
 abbrev pub IsSoundFrom : Source → PieceReader → Type 0
 IsSoundFrom (source.Text s) p =
@@ -56,10 +57,10 @@ abbrev pub HasTokens : Source → PieceReader → Type 0
 HasTokens source.Given p = IsGivenOrNone (cursor p.reader).kept
 HasTokens _ p =
     ((cursor p.reader).kept ≡ None) × ((cursor p.reader).machine.tokens.refusal ≡ None)
-    × Holds p.readiness (cursor p.reader).machine
+    × IsKnown p.readiness (cursor p.reader).machine
 
 -- what holds of each reader
-pub record IsSound (p : PieceReader) : Type 0 where
+pub record IsSoundReader (p : PieceReader) : Type 0 where
   pub source : IsSoundFrom p.source p
   pub tokens : HasTokens p.source p
   pub current : (cursor p.reader).current ≡ None
@@ -71,7 +72,7 @@ ChangesMachine old new = new ≡ record old { machine = new.machine }
 -- tokens were given to the reader, and nothing was read
 pub record GivesTokens (old new : PieceReader) : Type 0 where
   pub at : (later : List ℕ) → at (pieces_of new) later ≡ at (pieces_of old) later
-  pub sound : IsSound new
+  pub sound : IsSoundReader new
   pub machine : ChangesMachine (cursor old.reader) (cursor new.reader)
   pub state : (cursor new.reader).machine.state ≡ (cursor old.reader).machine.state
 

@@ -22,9 +22,9 @@ impl Source {
 impl PieceReader {
     /// An independent reader at the same place, unless memory runs out.
     pub(crate) fn try_clone(&self) -> Result<PieceReader, AllocError>
-        requires { spec.IsSound self.now }
+        requires { spec.IsSoundReader self.now }
         ensures same { IfOk result (λ copy. spec.pieces_of copy ≡ spec.pieces_of self.now) }
-        ensures sound { IfOk result (λ copy. spec.IsSound copy) }
+        ensures sound { IfOk result (λ copy. spec.IsSoundReader copy) }
     {
         let text = String::from_str(self.alloc, &self.text)?;
         let tokens = self.tokens.try_clone()?;

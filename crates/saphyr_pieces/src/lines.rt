@@ -2,7 +2,7 @@
 
 ghost use Rattle.std.specs.Prelude.{◌≡◌, ◌∷◌, ◌++◌, ℕ, [], List, IfSome, ◌≤◌, length};
 ghost use Rattle.std.specs.Str.{chars};
-ghost use Rattle.saphyr_pieces.specs.Lines.{Follows, HasMarkerAt, IsLastMarker, most_counted};
+ghost use Rattle.saphyr_pieces.specs.Lines.{IsLastLineOf, HasMarkerAt, IsLastMarker, most_counted};
 ghost use Rattle.saphyr_pieces.specs.Lines as spec;
 
 use saphyr_input::char_traits::{is_blank_or_breakz, is_break};
@@ -39,7 +39,7 @@ pub(crate) struct Lines {
 impl Lines {
     /// Those of an empty text.
     pub(crate) fn new() -> Lines
-        ensures { Follows result [] }
+        ensures { IsLastLineOf result [] }
     {
         Lines {
             index: 0,
@@ -79,11 +79,11 @@ impl Lines {
 
     /// Passes one more character. Returns the index of the marker that it ends, if it ends one.
     pub(crate) fn pass(&mut self, c: char) -> Option<usize>
-        ensures follows { (text : List ℕ) → Follows self.old text
-            → Follows self.new (text ++ c ∷ []) }
-        ensures found { (text : List ℕ) → Follows self.old text
+        ensures follows { (text : List ℕ) → IsLastLineOf self.old text
+            → IsLastLineOf self.new (text ++ c ∷ []) }
+        ensures found { (text : List ℕ) → IsLastLineOf self.old text
             → IfSome result (λ n. HasMarkerAt n (text ++ c ∷ [])) }
-        ensures last { (text : List ℕ) → Follows self.old text
+        ensures last { (text : List ℕ) → IsLastLineOf self.old text
             → length (text ++ c ∷ []) ≤ most_counted → IsLastMarker result text (text ++ c ∷ []) }
     {
         // No marker is found any more where the text is too long to be counted.
@@ -99,11 +99,11 @@ impl Lines {
 
     /// Passes the characters of a piece. Returns the index of the last marker that they end, if they end one.
     pub(crate) fn pass_all(&mut self, piece: &str) -> Option<usize>
-        ensures follows { (text : List ℕ) → Follows self.old text
-            → Follows self.new (text ++ chars piece.now) }
-        ensures found { (text : List ℕ) → Follows self.old text
+        ensures follows { (text : List ℕ) → IsLastLineOf self.old text
+            → IsLastLineOf self.new (text ++ chars piece.now) }
+        ensures found { (text : List ℕ) → IsLastLineOf self.old text
             → IfSome result (λ n. HasMarkerAt n (text ++ chars piece.now)) }
-        ensures last { (text : List ℕ) → Follows self.old text
+        ensures last { (text : List ℕ) → IsLastLineOf self.old text
             → length (text ++ chars piece.now) ≤ most_counted
             → IsLastMarker result text (text ++ chars piece.now) }
     {

@@ -5,7 +5,7 @@ ghost use Rattle.std.specs.Str.{chars};
 ghost use Rattle.saphyr_scanner.specs.Steps.Remaining.{scan};
 ghost use Rattle.saphyr_machine.specs.Cursor.{at_start, keeping_tags};
 ghost use Rattle.event_laws.specs.Limits.{most_characters};
-ghost use Rattle.saphyr_pieces.specs.Pieces.{HandsOut, at, wants_more};
+ghost use Rattle.saphyr_pieces.specs.Pieces.{HandsOutOrWaits, at, wants_more};
 
 use crate::pieces::PieceReader;
 use saphyr_machine::{Event, Fault, Progress};
@@ -31,13 +31,13 @@ impl Drop for PieceParser {
 
 impl Model for PieceParser {
     ghost use Rattle.saphyr_pieces.specs.Pieces.{Pieces};
-    ghost use Rattle.saphyr_pieces.specs.Views.{IsSound, pieces_of};
+    ghost use Rattle.saphyr_pieces.specs.Views.{IsSoundReader, pieces_of};
 
     ghost Value = { Pieces };
 
     ghost view = { λ p. pieces_of p.reader };
 
-    ghost invariant = { λ p. IsSound p.reader };
+    ghost invariant = { λ p. IsSoundReader p.reader };
 }
 
 impl PieceParser {
@@ -87,7 +87,7 @@ impl PieceParser {
         next: &mut (Event<'static>, Span),
         fault: &mut Fault,
     ) -> Option<Progress>
-        ensures { HandsOut result next.new fault.new self.old self.new }
+        ensures { HandsOutOrWaits result next.new fault.new self.old self.new }
     {
         self.reader.next_event_into(next, fault)
     }

@@ -9,8 +9,8 @@ ghost use Rattle.saphyr_scanner.specs.Views.Tokens.{none, piece};
 ghost use Rattle.saphyr_machine.specs.Answer.{OutOfMemory};
 ghost use Rattle.saphyr_machine.specs.Cursor.{at_start, keeping_tags};
 ghost use Rattle.event_laws.specs.Limits.{most_characters};
-ghost use Rattle.saphyr_pieces.specs.Comes.{begun, first_token, until_ended};
-ghost use Rattle.saphyr_pieces.specs.Pieces.{HandsOut, at, wants_more};
+ghost use Rattle.saphyr_pieces.specs.Comes.{begun_state, first_token, until_ended};
+ghost use Rattle.saphyr_pieces.specs.Pieces.{HandsOutOrWaits, at, wants_more};
 ghost use Rattle.saphyr_pieces.specs.Views as spec;
 
 use crate::lines::Lines;
@@ -89,7 +89,7 @@ fn take_first_token(
     token: &mut Token,
 ) -> Result<(), AllocError>
     requires { scanner.old.state ≡ state.start [] }
-    ensures begun { IfOk result (λ _. scanner.new.state ≡ begun []) }
+    ensures begun { IfOk result (λ _. scanner.new.state ≡ begun_state []) }
     ensures token { IfOk result (λ _. piece token.new ≡ first_token) }
     ensures limit { scanner.new.limit ≡ scanner.old.limit }
 {
@@ -118,7 +118,7 @@ impl PieceReader {
         ensures start { IfOk result (λ p. (text : List ℕ)
             → at (spec.pieces_of p) text ≡ at_start (scan most_characters text)) }
         ensures wants { IfOk result (λ p. wants_more (spec.pieces_of p) ≡ true) }
-        ensures sound { IfOk result (λ p. spec.IsSound p) }
+        ensures sound { IfOk result (λ p. spec.IsSoundReader p) }
     {
         // A law. It does nothing when it runs.
         goes_on_over_pieces();
@@ -143,14 +143,15 @@ impl PieceReader {
 
     // Reads the tokens up to the last marker that came, or to the end of the text.
     fn read_on(&mut self, ended: bool) -> Result<(), AllocError>
-        requires sound { spec.IsSound self.old }
+        requires sound { spec.IsSoundReader self.old }
         requires wants { wants_more (spec.pieces_of self.old) ≡ true }
         ensures at { IfOk result (λ _. (later : List ℕ)
             → at (spec.pieces_of self.new) later
             ≡ at (spec.pieces_of self.old) (until_ended ended later)) }
         ensures all { ended ≡ true → wants_more (spec.pieces_of self.new) ≡ false }
-        ensures sound { IfOk result (λ _. spec.IsSound self.new) }
-        ensures current { (spec.pieces_of self.new).reader.current ≡ (spec.pieces_of self.old).reader.current }
+        ensures sound { IfOk result (λ _. spec.IsSoundReader self.new) }
+        ensures current { (spec.pieces_of self.new).reader.current
+            ≡ (spec.pieces_of self.old).reader.current }
     {
         // Laws. They do nothing when they run.
         goes_on_over_pieces();
@@ -181,7 +182,7 @@ impl PieceReader {
         ensures at { (later : List ℕ)
             → at (spec.pieces_of self.new) later ≡ record (spec.pieces_of self.old).reader
             { kept = Some (record { fault = OutOfMemory; given = true }) } }
-        ensures sound { spec.IsSound self.new }
+        ensures sound { spec.IsSoundReader self.new }
         ensures all { wants_more (spec.pieces_of self.new) ≡ false }
     {
         self.source = Source::Given;
@@ -192,10 +193,10 @@ impl PieceReader {
     ///
     /// If memory runs out, the next call for an event gives nothing but the end.
     pub(crate) fn add(&mut self, more: &str) -> Result<(), AllocError>
-        requires { spec.IsSound self.old }
+        requires { spec.IsSoundReader self.old }
         ensures at { IfOk result (λ _. (later : List ℕ)
             → at (spec.pieces_of self.new) later ≡ at (spec.pieces_of self.old) (chars more.now ++ later)) }
-        ensures sound { spec.IsSound self.new }
+        ensures sound { spec.IsSoundReader self.new }
     {
         if !self.wants_more() {
             return Ok(());
@@ -209,12 +210,13 @@ impl PieceReader {
 
     // The same, where the reader is left as it is if memory runs out.
     fn try_add(&mut self, more: &str) -> Result<(), AllocError>
-        requires sound { spec.IsSound self.old }
+        requires sound { spec.IsSoundReader self.old }
         requires wants { wants_more (spec.pieces_of self.old) ≡ true }
         ensures at { IfOk result (λ _. (later : List ℕ)
             → at (spec.pieces_of self.new) later ≡ at (spec.pieces_of self.old) (chars more.now ++ later)) }
-        ensures sound { IfOk result (λ _. spec.IsSound self.new) }
-        ensures current { (spec.pieces_of self.new).reader.current ≡ (spec.pieces_of self.old).reader.current }
+        ensures sound { IfOk result (λ _. spec.IsSoundReader self.new) }
+        ensures current { (spec.pieces_of self.new).reader.current
+            ≡ (spec.pieces_of self.old).reader.current }
     {
         if self.take_in(more)? {
             self.read_on(false)?;
@@ -224,13 +226,14 @@ impl PieceReader {
 
     // Puts the next characters after those that came. `true`: there is a marker that was not there before.
     fn take_in(&mut self, more: &str) -> Result<bool, AllocError>
-        requires sound { spec.IsSound self.old }
+        requires sound { spec.IsSoundReader self.old }
         requires wants { wants_more (spec.pieces_of self.old) ≡ true }
         ensures at { IfOk result (λ _. (later : List ℕ)
             → at (spec.pieces_of self.new) later ≡ at (spec.pieces_of self.old) (chars more.now ++ later)) }
         ensures wants { wants_more (spec.pieces_of self.new) ≡ true }
-        ensures sound { IfOk result (λ _. spec.IsSound self.new) }
-        ensures current { (spec.pieces_of self.new).reader.current ≡ (spec.pieces_of self.old).reader.current }
+        ensures sound { IfOk result (λ _. spec.IsSoundReader self.new) }
+        ensures current { (spec.pieces_of self.new).reader.current
+            ≡ (spec.pieces_of self.old).reader.current }
     {
         // A law. It does nothing when it runs.
         goes_on_over_pieces();
@@ -252,11 +255,11 @@ impl PieceReader {
     ///
     /// If memory runs out, the next call for an event gives nothing but the end.
     pub(crate) fn end(&mut self) -> Result<(), AllocError>
-        requires { spec.IsSound self.old }
+        requires { spec.IsSoundReader self.old }
         ensures at { IfOk result (λ _. (later : List ℕ)
             → at (spec.pieces_of self.new) later ≡ at (spec.pieces_of self.old) []) }
         ensures all { wants_more (spec.pieces_of self.new) ≡ false }
-        ensures sound { spec.IsSound self.new }
+        ensures sound { spec.IsSoundReader self.new }
     {
         if !self.wants_more() {
             return Ok(());
@@ -284,7 +287,7 @@ impl PieceReader {
 
     // Gives the next token to the reader, or what ends them all. `false`: it waits for more of the text.
     fn give_token(&mut self) -> Result<bool, AllocError>
-        requires sound { spec.IsSound self.old }
+        requires sound { spec.IsSoundReader self.old }
         requires waits { spec.is_ready_now self.old ≡ false }
         ensures gives { IfOk result (λ _. spec.GivesTokens self.old self.new) }
         ensures waits { IfOk result (λ given. given ≡ false
@@ -321,7 +324,7 @@ impl PieceReader {
 
     // Gives tokens to the reader until it is ready. `false`: it waits for more of the text.
     fn give_tokens(&mut self) -> Result<bool, AllocError>
-        requires { spec.IsSound self.old }
+        requires { spec.IsSoundReader self.old }
         ensures gives { IfOk result (λ _. spec.GivesTokens self.old self.new) }
         ensures ready { IfOk result (λ is_ready. spec.IsReadyOrWaits is_ready self.new) }
         ensures loses { OnErr result (spec.LosesTokens self.old self.new) }
@@ -336,11 +339,11 @@ impl PieceReader {
 
     // Hands out the next event of a reader that is ready.
     fn advance(&mut self, next: &mut (Event<'static>, Span), fault: &mut Fault) -> Progress
-        requires sound { spec.IsSound self.old }
+        requires sound { spec.IsSoundReader self.old }
         requires ready { spec.is_ready_now self.old ≡ true }
-        ensures next { HandsOut (Some result) next.new fault.new (spec.pieces_of self.old)
+        ensures next { HandsOutOrWaits (Some result) next.new fault.new (spec.pieces_of self.old)
             (spec.pieces_of self.new) }
-        ensures sound { spec.IsSound self.new }
+        ensures sound { spec.IsSoundReader self.new }
     {
         match self.reader.advance(next, fault) {
             Progress::Event => {
@@ -362,10 +365,10 @@ impl PieceReader {
         next: &mut (Event<'static>, Span),
         fault: &mut Fault,
     ) -> Option<Progress>
-        requires { spec.IsSound self.old }
-        ensures next { HandsOut result next.new fault.new (spec.pieces_of self.old)
+        requires { spec.IsSoundReader self.old }
+        ensures next { HandsOutOrWaits result next.new fault.new (spec.pieces_of self.old)
             (spec.pieces_of self.new) }
-        ensures sound { spec.IsSound self.new }
+        ensures sound { spec.IsSoundReader self.new }
     {
         match self.give_tokens() {
             Ok(true) => Some(self.advance(next, fault)),
@@ -380,11 +383,12 @@ impl PieceReader {
 
     /// Sets whether prefixes of tags hold for later documents too.
     pub(crate) fn keep_tags(&mut self, value: bool)
-        requires { spec.IsSound self.old }
+        requires { spec.IsSoundReader self.old }
         ensures at { (later : List ℕ)
             → at (spec.pieces_of self.new) later ≡ keeping_tags value (at (spec.pieces_of self.old) later) }
-        ensures wants { wants_more (spec.pieces_of self.new) ≡ wants_more (spec.pieces_of self.old) }
-        ensures sound { spec.IsSound self.new }
+        ensures wants { wants_more (spec.pieces_of self.new)
+            ≡ wants_more (spec.pieces_of self.old) }
+        ensures sound { spec.IsSoundReader self.new }
     {
         self.reader.keep_tags(value);
     }

@@ -2,7 +2,7 @@
 
 ghost use Rattle.std.specs.Prelude.{◌≡◌, ℕ, List, true, false, None, IfOk};
 ghost use Rattle.saphyr_scanner.specs.Steps.Fetch.{needs_token};
-ghost use Rattle.saphyr_pieces.specs.Comes.{Comes, Laws, may_read};
+ghost use Rattle.saphyr_pieces.specs.Comes.{HasCome, Laws, may_read};
 ghost use Rattle.saphyr_pieces.specs.Scanning as spec;
 
 use marker_laws::{goes_on_behind_markers, tells_markers};
@@ -55,9 +55,11 @@ fn fill(scanner: &mut StepScanner<StrInput<'_>>, gate: Gate) -> Result<bool, Sto
     ensures limit { scanner.new.limit ≡ scanner.old.limit }
     ensures ready { IfOk result (λ ready. ready ≡ true → needs_token scanner.new.state ≡ false) }
     ensures stopped { IfOk result (λ ready. ready ≡ false → gate.ended ≡ false) }
-    ensures comes { (text : List ℕ) → Comes scanner.old.limit gate.ended gate.marker text scanner.old.state
+    ensures comes { (text : List ℕ)
+        → HasCome scanner.old.limit gate.ended gate.marker text scanner.old.state
         → IfOk result (λ _. spec.StaysAt gate.ended gate.marker text scanner.old scanner.new) }
-    ensures refused { (text : List ℕ) → Comes scanner.old.limit gate.ended gate.marker text scanner.old.state
+    ensures refused { (text : List ℕ)
+        → HasCome scanner.old.limit gate.ended gate.marker text scanner.old.state
         → spec.RefusesAll gate.ended scanner.old result }
 {
     // A law. It does nothing when it runs.
@@ -79,10 +81,11 @@ pub(crate) fn read_tokens(
 ) -> Result<Reading, AllocError>
     requires none_refused { tokens.old.refusal ≡ None }
     requires comes { (text : List ℕ)
-        × Comes scanner.old.limit gate.ended gate.marker text scanner.old.state }
-    ensures { (text : List ℕ) → Comes scanner.old.limit gate.ended gate.marker text scanner.old.state
-        → IfOk result (λ reading. spec.ReadsTokens gate.ended gate.marker text scanner.old tokens.old reading
-        scanner.new tokens.new) }
+        × HasCome scanner.old.limit gate.ended gate.marker text scanner.old.state }
+    ensures { (text : List ℕ)
+        → HasCome scanner.old.limit gate.ended gate.marker text scanner.old.state
+        → IfOk result (λ reading. spec.ReadsTokens gate.ended gate.marker text scanner.old
+        tokens.old reading scanner.new tokens.new) }
 {
     // A law. It does nothing when it runs.
     goes_on_over_pieces();

@@ -3,20 +3,20 @@ use Rattle.std.specs.Str.{chars}
 use Rattle.std.proofs.lemmas.Iterator.{YieldsList-from_chars}
 use Rattle.std.proofs.lemmas.Iterator.Consumers.{YieldsList-end}
 use Rattle.std.proofs.lemmas.List.{append_assoc, append-nil, map-id}
-use Rattle.saphyr_pieces.specs.Lines.{Follows, HasMarkerAt, IsLastMarker, most_counted}
+use Rattle.saphyr_pieces.specs.Lines.{IsLastLineOf, HasMarkerAt, IsLastMarker, most_counted}
 use Rattle.saphyr_pieces.proofs.LastLine.{last_stays, still_last, fewer}
 use Rattle.saphyr_pieces.proofs.lines.Lines.pass_all.Goals as goal
 
 pub loop-c-init : goal.loop-c-init
 loop-c-init c text follows =
-    subst (λ u. Follows c.args.self.now u × Unit {0} × (length u ≤ most_counted → IsLastMarker None text u))
+    subst (λ u. IsLastLineOf c.args.self.now u × Unit {0} × (length u ≤ most_counted → IsLastMarker None text u))
     (sym (append-nil text)) (follows, tt, λ few n there. there)
 
 pub loop-c-preserved-in-Some-pass : goal.loop-c-preserved-in-Some-pass
 loop-c-preserved-in-Some-pass c text follows =
     let passed = text ++ c.loop-c.yielded in
     let before = c.loop-c.invariant text follows in
-    subst (λ u. Follows c.pass.new.self u × HasMarkerAt c.in-Some-pass.index u
+    subst (λ u. IsLastLineOf c.pass.new.self u × HasMarkerAt c.in-Some-pass.index u
     × (length u ≤ most_counted → IsLastMarker (Some c.in-Some-pass.index) text u))
     (append_assoc text c.loop-c.yielded (c.in-Some.c ∷ [])) (
       c.pass.ensures.follows passed before.0,
@@ -28,7 +28,7 @@ pub loop-c-preserved : goal.loop-c-preserved
 loop-c-preserved c text follows =
     let passed = text ++ c.loop-c.yielded in
     let before = c.loop-c.invariant text follows in
-    subst (λ u. Follows c.pass.new.self u × IfSome c.loop-c.last (λ n. HasMarkerAt n u)
+    subst (λ u. IsLastLineOf c.pass.new.self u × IfSome c.loop-c.last (λ n. HasMarkerAt n u)
     × (length u ≤ most_counted → IsLastMarker c.loop-c.last text u))
     (append_assoc text c.loop-c.yielded (c.in-Some.c ∷ [])) (
       c.pass.ensures.follows passed before.0,
@@ -47,7 +47,7 @@ all_passed c =
 
 pub returns-clause-follows : goal.returns-clause-follows
 returns-clause-follows c text follows =
-    subst (λ u. Follows c.loop-c.self (text ++ u)) (all_passed c) (c.loop-c.invariant text follows).0
+    subst (λ u. IsLastLineOf c.loop-c.self (text ++ u)) (all_passed c) (c.loop-c.invariant text follows).0
 
 pub returns-clause-found : goal.returns-clause-found
 returns-clause-found c text follows =
