@@ -121,6 +121,11 @@ def run(program, texts, keeps=False):
     return lists
 
 
+def words_for(text, theirs, ours):
+    """Returns the words of the page that tell of two lists of a text which differ, or None."""
+    return next((words for words, fits in KNOWN if fits(text, theirs, ours)), None)
+
+
 def compare(program):
     """Counts the lists that differ by the words that tell of them, and returns those of which none do."""
     counts, untold, number = collections.Counter(), [], 0
@@ -131,7 +136,7 @@ def compare(program):
                 number += 1
                 if ours == theirs:
                     continue
-                told = next((words for words, fits in KNOWN if fits(text, theirs, ours)), None)
+                told = words_for(text, theirs, ours)
                 if told:
                     counts[told] += 1
                 else:
@@ -160,4 +165,5 @@ def main(words):
     sys.exit(__doc__)
 
 
-main(sys.argv[1:])
+if __name__ == "__main__":
+    main(sys.argv[1:])

@@ -14,7 +14,7 @@ use Rattle.yaml_check.specs.declared.finding.Warning.TheVariants as warning
 use Rattle.yaml_check.specs.Contents.{begun_behind, content_warning, is_left_out}
 use Rattle.yaml_check.specs.declared.sizes.Size.{Size}
 use Rattle.yaml_check.specs.Counting.{is_collection, is_node, node_warning, one_less}
-use Rattle.yaml_check.specs.Meant.{IsCollectionInside, IsEmptyDocument, IsNodeBehind, collections_behind, collections_behind_all}
+use Rattle.yaml_check.specs.Meant.{IsCollectionInside, IsEmptyDocument, IsNodeBehind, collections_after, collections_after_all}
 use Rattle.yaml_check.specs.Sizes.{SizesOpen, sizes_behind, sizes_ended_in}
 use Rattle.yaml_check.specs.Warned.{Seen, depth_warning, nothing_seen, seen_behind, warnings_on}
 use Rattle.yaml_check.proofs.Told.{seen_behind_all}
@@ -245,7 +245,7 @@ ended_length [] s is = ap length is
 ended_length (size ∷ outer) s is = omega arith
 
 open_step : (what : Happening) (s : SizesOpen)
-    → length (sizes_behind what s).outer ≡ collections_behind what (length s.outer)
+    → length (sizes_behind what s).outer ≡ collections_after what (length s.outer)
 open_step (SequenceStart id tag) s = omega arith
 open_step (MappingStart id tag) s = omega arith
 open_step SequenceEnd s = ended_length s.outer s refl
@@ -253,10 +253,10 @@ open_step MappingEnd s = ended_length s.outer s refl
 open_step _ s = refl
 
 open_all : (front : Events) (s : Seen)
-    → length (seen_behind_all front s).sizes.outer ≡ collections_behind_all front (length s.sizes.outer)
+    → length (seen_behind_all front s).sizes.outer ≡ collections_after_all front (length s.sizes.outer)
 open_all [] s = refl
 open_all (e ∷ front) s = open_all front (seen_behind e.0 e.1.start s)
-    ∙ ap (λ n. collections_behind_all front n) (open_step e.0 s.sizes)
+    ∙ ap (λ n. collections_after_all front n) (open_step e.0 s.sizes)
 
 both_hold : (a b : Bool) → (a && b) ≡ true → (a ≡ true) × (b ≡ true)
 both_hold true true h = (refl, refl)

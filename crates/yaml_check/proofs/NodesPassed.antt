@@ -7,7 +7,7 @@ use Rattle.yaml_check.specs.declared.keys.Next.{Next}
 use Rattle.yaml_check.specs.declared.keys.Next.TheVariants as next
 use Rattle.yaml_check.specs.Counting.{is_collection}
 use Rattle.yaml_check.specs.Keys.{KeyLevel, KeysOpen, behind_node, keys_behind, keys_ended_in, key_of, keys_inside, with_here, with_key_if}
-use Rattle.yaml_check.specs.Nodes.{Events, IsNode, AreNodes, OneEvent, Collection, NoNode, OneMore, Beside, begins_with_scalar, ends_collection, is_leaf, is_outside}
+use Rattle.yaml_check.specs.Nodes.{Events, IsNode, AreNodes, OneEvent, Collection, NoNode, OneMore, Beside, begins_with_scalar, ends_collection, is_leaf, is_no_part}
 use Rattle.yaml_check.specs.Warned.{Seen, seen_behind}
 use Rattle.yaml_check.proofs.Told.{seen_behind_all}
 
@@ -34,7 +34,7 @@ begins_level (SequenceStart id tag) at k begins = refl
 begins_level (MappingStart id tag) at k begins = refl
 begins_level _ at k begins = absurd cc
 
-pub stays_outside : (what : Happening) (at : Span) (k : KeysOpen) → is_outside what ≡ true
+pub stays_outside : (what : Happening) (at : Span) (k : KeysOpen) → is_no_part what ≡ true
     → keys_behind what at.start k ≡ k
 stays_outside (Alias id) at k outside = absurd cc
 stays_outside (Scalar text style id tag) at k outside = absurd cc

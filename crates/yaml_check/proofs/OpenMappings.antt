@@ -8,7 +8,7 @@ use Rattle.yaml_check.specs.declared.keys.Next.{Next}
 use Rattle.yaml_check.specs.declared.keys.Next.TheVariants as next
 use Rattle.yaml_check.specs.Counting.{is_collection}
 use Rattle.yaml_check.specs.Keys.{Key, KeyLevel, KeysOpen, behind_node, behind_scalar, first_place, keep_first, key_of, keys_behind, keys_ended_in, next_behind, no_keys, with_key_if}
-use Rattle.yaml_check.specs.Nodes.{Events, IsNode, AreNodes, OneEvent, Collection, NoNode, OneMore, Beside, begins_mapping, begins_with_scalar, ends_collection, is_leaf, is_outside, is_scalar}
+use Rattle.yaml_check.specs.Nodes.{Events, IsNode, AreNodes, OneEvent, Collection, NoNode, OneMore, Beside, begins_mapping, begins_with_scalar, ends_collection, is_leaf, is_no_part, is_scalar}
 use Rattle.yaml_check.specs.EqualKeys.{IsScalarAt, Due, KeyDue, ValueDue, HaveKeys, NoEntry, ScalarKey, OtherKey, ItsValue, Between}
 use Rattle.yaml_check.proofs.EqualKeys.{AreFirst, Places, first_kept}
 use Rattle.yaml_check.proofs.NodesPassed.{keys_all}
@@ -53,7 +53,7 @@ level_nodes next.Key start ps inside is = have_nodes KeyDue is.keys inside is.ha
 level_nodes next.Value start ps inside is = have_nodes ValueDue is.keys inside is.have
 
 level_outside : (n : Next) (start : Happening) (ps : Places) (inside : Events) (e : Happening × Span)
-    → is_outside e.0 ≡ true → IsLevel n start ps inside → IsLevel n start ps (inside ++ e ∷ [])
+    → is_no_part e.0 ≡ true → IsLevel n start ps inside → IsLevel n start ps (inside ++ e ∷ [])
 level_outside next.Entry start ps inside e outside is = Beside inside e is outside
 level_outside next.Key start ps inside e outside is = record {
   is_mapping = is.is_mapping;
@@ -163,7 +163,7 @@ closes (l ∷ ls) here events e ends (front, start, inside, split, begins, is, o
     level first before is =
         level_node l.next first l.places before (start ∷ (inside ++ e ∷ [])) node (no_scalar start.0 begins) is
 
-passes : (k : KeysOpen) (events : Events) (e : Happening × Span) → is_outside e.0 ≡ true
+passes : (k : KeysOpen) (events : Events) (e : Happening × Span) → is_no_part e.0 ≡ true
     → StandsIn k.outer k.here events → StandsIn k.outer k.here (events ++ e ∷ [])
 passes k events e outside stands = inside_more k.outer k.here k.here events (e ∷ []) (λ is. is)
     (λ start inside is. level_outside k.here.next start k.here.places inside e outside is) stands

@@ -11,10 +11,10 @@ use Rattle.saphyr_parser.specs.EventParts.{anchor_numbered, node_anchor}
 use Rattle.saphyr_parser.specs.Events.{Happening, Alias, Scalar}
 use Rattle.yaml_check.specs.declared.sizes.Size.{Size}
 use Rattle.yaml_check.specs.Counting.{is_collection}
-use Rattle.yaml_check.specs.Nodes.{Events, IsNode, AreNodes, OneEvent, Collection, NoNode, ends_collection, is_leaf, is_outside}
+use Rattle.yaml_check.specs.Nodes.{Events, IsNode, AreNodes, OneEvent, Collection, NoNode, ends_collection, is_leaf, is_no_part}
 use Rattle.yaml_check.specs.Nodes as nodes
 use Rattle.yaml_check.specs.Sizes.{add, more_nodes, no_end, with_known}
-use Rattle.yaml_check.specs.WideAliases.{NodeCount, EndsNodeOf, ExpandsTo, OneScalar, OneAlias, OneCollection, ExpandTo, NoneYet, OneMore, Beside, Repeats, EndsHere, EndedBefore, anchor_of_node, sum_of}
+use Rattle.yaml_check.specs.WideAliases.{NodeCount, EndsNodeOf, ExpandsTo, OneScalar, OneAlias, OneCollection, ExpandTo, NoneYet, OneMore, Beside, Repeats, EndsHere, EndedBefore, anchor_of_events, sum_of}
 use Rattle.yaml_check.proofs.Lookups.{same_at, value_at_inserted}
 use Rattle.yaml_check.proofs.Sums.{add_kept, kept}
 
@@ -76,7 +76,7 @@ node_in (size ∷ sizes) here events node n stands (front, start, inside, split,
   outer,
 )
 
-pub outside_in : (sizes : List Size) (here : Size) (events : Events) (e : Happening × Span) → is_outside e.0 ≡ true
+pub outside_in : (sizes : List Size) (here : Size) (events : Events) (e : Happening × Span) → is_no_part e.0 ≡ true
     → SizesIn sizes here events → SizesIn sizes here (events ++ e ∷ [])
 outside_in [] here events e outside is = is
 outside_in (size ∷ sizes) here events e outside (front, start, inside, split, begins, anchor, keeps, outer) = (
@@ -106,7 +106,7 @@ none_ended events e known none are id = let k = are id in
 
 pub one_ended : (events : Events) (e : Happening × Span) (front node : Events) (n : NodeCount)
     (known : List (ℕ × ℕ)) (number : ℕ)
-    → events ++ e ∷ [] ≡ front ++ node → ExpandsTo front node n → anchor_of_node node ≡ anchor_numbered number
+    → events ++ e ∷ [] ≡ front ++ node → ExpandsTo front node n → anchor_of_events node ≡ anchor_numbered number
     → ((id : ℕ) → EndsNodeOf id (events ++ e ∷ []) → anchor_numbered number ≡ Some id)
     → AreKnown events known → AreKnown (events ++ e ∷ []) (with_known number (kept n) known)
 one_ended events e front node n known number split stands anchored only are = by (nat_eq number 0) refl

@@ -6,9 +6,9 @@ use Rattle.saphyr_parser.specs.EventParts.{anchor_numbered, node_anchor}
 use Rattle.saphyr_parser.specs.Events.{Happening, Alias, Scalar, SequenceStart, SequenceEnd, MappingStart, MappingEnd}
 use Rattle.yaml_check.specs.declared.sizes.Size.{Size}
 use Rattle.yaml_check.specs.Counting.{is_collection}
-use Rattle.yaml_check.specs.Nodes.{Events, IsNode, AreNodes, OneEvent, Collection, NoNode, OneMore, Beside, ends_collection, is_leaf, is_outside}
-use Rattle.yaml_check.specs.Sizes.{SizesOpen, no_sizes, sizes_behind, sizes_ended_in, sizes_inside}
-use Rattle.yaml_check.specs.WideAliases.{EndsNodeOf, anchor_of_node}
+use Rattle.yaml_check.specs.Nodes.{Events, IsNode, AreNodes, OneEvent, Collection, NoNode, OneMore, Beside, ends_collection, is_leaf, is_no_part}
+use Rattle.yaml_check.specs.Sizes.{SizesOpen, no_open_sizes, sizes_behind, sizes_ended_in, sizes_inside}
+use Rattle.yaml_check.specs.WideAliases.{EndsNodeOf, anchor_of_events}
 use Rattle.yaml_check.specs.Warned.{Seen, seen_behind}
 use Rattle.yaml_check.proofs.Told.{seen_behind_all}
 
@@ -40,7 +40,7 @@ number_is (SequenceStart id tag) begins = refl
 number_is (MappingStart id tag) begins = refl
 number_is _ begins = absurd cc
 
-pub stays_so : (what : Happening) (s : SizesOpen) → is_outside what ≡ true → sizes_behind what s ≡ s
+pub stays_so : (what : Happening) (s : SizesOpen) → is_no_part what ≡ true → sizes_behind what s ≡ s
 stays_so (Alias id) s outside = absurd cc
 stays_so (Scalar text style id tag) s outside = absurd cc
 stays_so (SequenceStart id tag) s outside = absurd cc
@@ -129,28 +129,28 @@ same_last (z ∷ xs) (w ∷ ys) x y same =
     (cc, (same_last xs ys x y inner).1)
 
 pub ends_by : (events : Events) (e : Happening × Span) (id : ℕ) → EndsNodeOf id (events ++ e ∷ [])
-    → Ends e (sizes_all events no_sizes) id
+    → Ends e (sizes_all events no_open_sizes) id
 ends_by events e id n = by n.node n.split n.is_node n.anchored
   where
     outermost : SizesOpen
-    outermost = sizes_all n.before no_sizes
+    outermost = sizes_all n.before no_open_sizes
 
     innermost : (start end : Happening × Span) (inside : Events) → is_collection start.0 ≡ true → AreNodes inside
         → ends_collection end.0 ≡ true → node_anchor start.0 ≡ Some id
         → (events ≡ n.before ++ start ∷ inside) × (e ≡ end)
-        → Ends e (sizes_all events no_sizes) id
+        → Ends e (sizes_all events no_open_sizes) id
     innermost start end inside begins nodes ends anchored (front, last) =
         let same = nodes_same inside nodes (sizes_inside (number_of start.0) outermost) in
-        let is : sizes_all events no_sizes ≡ sizes_all inside (sizes_inside (number_of start.0) outermost) =
-        ap (λ es. sizes_all es no_sizes) front ∙ sizes_all_append n.before (start ∷ inside) no_sizes
+        let is : sizes_all events no_open_sizes ≡ sizes_all inside (sizes_inside (number_of start.0) outermost) =
+        ap (λ es. sizes_all es no_open_sizes) front ∙ sizes_all_append n.before (start ∷ inside) no_open_sizes
         ∙ ap (λ (s : SizesOpen). sizes_all inside s) (begins_size start.0 outermost begins) in
         Innermost outermost.here outermost.outer (ap (λ (f : Happening × Span). ends_collection f.0) last ∙ ends)
         (ap (λ (s : SizesOpen). s.outer) is ∙ same.outer)
         (ap anchor_numbered (ap (λ (s : SizesOpen). s.here.anchor) is ∙ same.anchor) ∙ sym (number_is start.0 begins)
         ∙ anchored)
 
-    by : (node : Events) → events ++ e ∷ [] ≡ n.before ++ node → IsNode node → anchor_of_node node ≡ Some id
-        → Ends e (sizes_all events no_sizes) id
+    by : (node : Events) → events ++ e ∷ [] ≡ n.before ++ node → IsNode node → anchor_of_events node ≡ Some id
+        → Ends e (sizes_all events no_open_sizes) id
     by _ split (OneEvent f leaf) anchored = let last = (same_last events n.before e f split).1 in
         Itself (ap (λ (g : Happening × Span). is_leaf g.0) last ∙ leaf)
         (ap (λ (g : Happening × Span). node_anchor g.0) last ∙ anchored)

@@ -5,8 +5,8 @@ use Rattle.saphyr_parser.specs.Words.Span.{Span}
 use Rattle.saphyr_parser.specs.EventParts.{anchor_numbered, node_anchor}
 use Rattle.saphyr_parser.specs.Events.{Happening, Nothing, StreamStart, StreamEnd, DocumentStart, DocumentEnd, Alias, Scalar, SequenceStart, SequenceEnd, MappingStart, MappingEnd}
 use Rattle.yaml_check.specs.declared.sizes.Size.{Size}
-use Rattle.yaml_check.specs.Nodes.{Events, ends_collection, is_leaf, is_outside}
-use Rattle.yaml_check.specs.Sizes.{SizesOpen, add, more_nodes, no_sizes, sizes_behind, sizes_ended_in, with_known}
+use Rattle.yaml_check.specs.Nodes.{Events, ends_collection, is_leaf, is_no_part}
+use Rattle.yaml_check.specs.Sizes.{SizesOpen, add, more_nodes, no_open_sizes, sizes_behind, sizes_ended_in, with_known}
 use Rattle.yaml_check.specs.WideAliases.{NodeCount, EndsNodeOf, ExpandsTo, OneScalar, OneAlias, OneCollection, NoneYet, NotEnded, sum_of}
 use Rattle.yaml_check.proofs.Sums.{kept, no_end_kept, none_kept, one_kept, one_more_kept}
 use Rattle.yaml_check.proofs.SizesPassed.{Ends, Itself, Innermost, ends_by, sizes_all, sizes_all_append}
@@ -27,7 +27,7 @@ no_end_of e s id no_leaf no_end (Innermost size sizes ends is anchored) =
 ends_nothing : (events : Events) (e : Happening × Span) → is_leaf e.0 ≡ false → ends_collection e.0 ≡ false
     → (id : ℕ) → ¬ EndsNodeOf id (events ++ e ∷ [])
 ends_nothing events e no_leaf no_end id ends =
-    no_end_of e (sizes_all events no_sizes) id no_leaf no_end (ends_by events e id ends)
+    no_end_of e (sizes_all events no_open_sizes) id no_leaf no_end (ends_by events e id ends)
 
 of_alias : (id q : ℕ) (at : Span) (s : SizesOpen) → ¬ Ends (Alias id, at) s q
 of_alias id q at s (Itself leaf anchored) = absurd cc
@@ -48,7 +48,7 @@ of_end e q s no_leaf (Innermost size sizes ends is anchored) = (size, sizes, is,
 
 closes : (outer : List Size) (here : Size) (known : List (ℕ × ℕ)) (events : Events) (e : Happening × Span)
     → ends_collection e.0 ≡ true → is_leaf e.0 ≡ false
-    → record { here = here; outer = outer; known = known } ≡ sizes_all events no_sizes
+    → record { here = here; outer = outer; known = known } ≡ sizes_all events no_open_sizes
     → SizesIn outer here events → AreKnown events known
     → AreKept (events ++ e ∷ []) (sizes_ended_in outer (record { here = here; outer = outer; known = known }))
 closes [] here known events e ends no_leaf is open_in are = record {
@@ -57,7 +57,7 @@ closes [] here known events e ends no_leaf is open_in are = record {
 }
   where
     none : (id : ℕ) → ¬ EndsNodeOf id (events ++ e ∷ [])
-    none id ended = let o = of_end e id (sizes_all events no_sizes) no_leaf (ends_by events e id ended) in
+    none id ended = let o = of_end e id (sizes_all events no_open_sizes) no_leaf (ends_by events e id ended) in
         contradicts o.0 o.1 (ap (λ (s : SizesOpen). s.outer) is ∙ o.2)
       where
         contradicts : (size : Size) (sizes : List Size) → [] ≡ size ∷ sizes → ⊥
@@ -73,7 +73,7 @@ closes (size ∷ sizes) here known events e ends no_leaf is (front, start, insid
           (node_in sizes size front (start ∷ (inside ++ e ∷ [])) count stands outer);
       known = one_ended events e front (start ∷ (inside ++ e ∷ [])) count known here.anchor longer stands anchor
           (λ id ended. ap anchor_numbered (ap (λ (s : SizesOpen). s.here.anchor) is)
-          ∙ (of_end e id (sizes_all events no_sizes) no_leaf (ends_by events e id ended)).3) are;
+          ∙ (of_end e id (sizes_all events no_open_sizes) no_leaf (ends_by events e id ended)).3) are;
     })
   where
     count : NodeCount
@@ -90,20 +90,20 @@ begins : (what : Happening) (at : Span) (s : SizesOpen) (events : Events) → is
 begins what at s events no_leaf no_end are =
     none_ended events (what, at) s.known (ends_nothing events (what, at) no_leaf no_end) are.known
 
-passes : (what : Happening) (at : Span) (s : SizesOpen) (events : Events) → is_outside what ≡ true
+passes : (what : Happening) (at : Span) (s : SizesOpen) (events : Events) → is_no_part what ≡ true
     → is_leaf what ≡ false → ends_collection what ≡ false → AreKept events s → AreKept (events ++ (what, at) ∷ []) s
 passes what at s events outside no_leaf no_end are = record {
   open_in = outside_in s.outer s.here events (what, at) outside are.open_in;
   known = none_ended events (what, at) s.known (ends_nothing events (what, at) no_leaf no_end) are.known;
 }
 
-kept_behind : (what : Happening) (at : Span) (s : SizesOpen) (events : Events) → s ≡ sizes_all events no_sizes
+kept_behind : (what : Happening) (at : Span) (s : SizesOpen) (events : Events) → s ≡ sizes_all events no_open_sizes
     → AreKept events s → AreKept (events ++ (what, at) ∷ []) (sizes_behind what s)
 kept_behind (Alias id) at s events is are = let k = are.known id in record {
   open_in = subst (λ v. SizesIn s.outer (more_nodes v s.here) (events ++ (Alias id, at) ∷ [])) (sym k.2)
       (node_in s.outer s.here events ((Alias id, at) ∷ []) k.0 (OneAlias events id at k.0 k.1) are.open_in);
   known = none_ended events (Alias id, at) s.known
-      (λ q ended. of_alias id q at (sizes_all events no_sizes) (ends_by events (Alias id, at) q ended)) are.known;
+      (λ q ended. of_alias id q at (sizes_all events no_open_sizes) (ends_by events (Alias id, at) q ended)) are.known;
 }
 kept_behind (Scalar text style id tag) at s events is are =
     let stands = OneScalar events text style id tag at in record {
@@ -113,7 +113,7 @@ kept_behind (Scalar text style id tag) at s events is are =
       known = subst (λ v. AreKnown (events ++ (Scalar text style id tag, at) ∷ []) (with_known id v s.known)) one_kept
           (one_ended events (Scalar text style id tag, at) events ((Scalar text style id tag, at) ∷ []) (Some 1) s.known
           id
-          refl stands refl (λ q ended. of_scalar (Scalar text style id tag) q at (sizes_all events no_sizes) refl
+          refl stands refl (λ q ended. of_scalar (Scalar text style id tag) q at (sizes_all events no_open_sizes) refl
           (ends_by events (Scalar text style id tag, at) q ended)) are.known);
     }
 kept_behind (SequenceStart id tag) at s events is are = record {
@@ -160,17 +160,17 @@ kept_behind StreamEnd at s events is are = passes StreamEnd at s events refl ref
 kept_behind (DocumentStart explicit) at s events is are = passes (DocumentStart explicit) at s events refl refl refl are
 kept_behind DocumentEnd at s events is are = passes DocumentEnd at s events refl refl refl are
 
-kept_behind_all : (events more : Events) (s : SizesOpen) → s ≡ sizes_all events no_sizes → AreKept events s
+kept_behind_all : (events more : Events) (s : SizesOpen) → s ≡ sizes_all events no_open_sizes → AreKept events s
     → AreKept (events ++ more) (sizes_all more s)
 kept_behind_all events [] s is are = subst (λ (es : Events). AreKept es s) (sym (append-nil events)) are
 kept_behind_all events (e ∷ more) s is are =
     subst (λ (es : Events). AreKept es (sizes_all (e ∷ more) s)) (append_assoc events (e ∷ []) more)
     (kept_behind_all (events ++ e ∷ []) more (sizes_behind e.0 s)
-    (ap (λ (t : SizesOpen). sizes_behind e.0 t) is ∙ sym (sizes_all_append events (e ∷ []) no_sizes))
+    (ap (λ (t : SizesOpen). sizes_behind e.0 t) is ∙ sym (sizes_all_append events (e ∷ []) no_open_sizes))
     (kept_behind e.0 e.1 s events is are))
 
-pub sizes_stand : (events : Events) → AreKept events (sizes_all events no_sizes)
-sizes_stand events = kept_behind_all [] events no_sizes refl (record {
+pub sizes_stand : (events : Events) → AreKept events (sizes_all events no_open_sizes)
+sizes_stand events = kept_behind_all [] events no_open_sizes refl (record {
   open_in = (Some 0, sym none_kept);
   known = λ id. (None, NotEnded id, sym no_end_kept);
 })

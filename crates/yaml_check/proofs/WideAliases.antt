@@ -16,8 +16,8 @@ use Rattle.yaml_check.specs.declared.finding.Warning.TheVariants as warning
 use Rattle.yaml_check.specs.declared.sizes.Size.{Size}
 use Rattle.yaml_check.specs.Counting.{is_collection}
 use Rattle.yaml_check.specs.Nodes.{Events, AreNodes, OneEvent, Collection, ends_collection, is_leaf}
-use Rattle.yaml_check.specs.Sizes.{SizesOpen, add, alias_warning, no_end, no_sizes, size_at, sizes_behind, sizes_ended_in, sizes_inside, wide, with_ended_node, with_known}
-use Rattle.yaml_check.specs.WideAliases.{NodeCount, EndsNodeOf, IsMoreThan, IsWideAlias, ExpandsTo, OneScalar, OneAlias, OneCollection, ExpandTo, NoneYet, OneMore, Beside, Repeats, NotEnded, EndsHere, EndedBefore, anchor_of_node, sum_of}
+use Rattle.yaml_check.specs.Sizes.{SizesOpen, add, alias_warning, no_end, no_open_sizes, size_at, sizes_behind, sizes_ended_in, sizes_inside, wide, with_ended_node, with_known}
+use Rattle.yaml_check.specs.WideAliases.{NodeCount, EndsNodeOf, IsMoreThan, IsWideAlias, ExpandsTo, OneScalar, OneAlias, OneCollection, ExpandTo, NoneYet, OneMore, Beside, Repeats, NotEnded, EndsHere, EndedBefore, anchor_of_events, sum_of}
 use Rattle.yaml_check.specs.Warned.{Seen, nothing_seen, warnings_on}
 use Rattle.yaml_check.proofs.Told.{seen_behind_all}
 use Rattle.yaml_check.proofs.Rules.{IsToldByRule, OfAlias, alias_rule, alias_tells, found, rule_is_told, told_by_rule}
@@ -29,7 +29,7 @@ use Rattle.yaml_check.proofs.SizesStand.{sizes_stand}
 
 -- the events from the text's start
 abbrev after : Events → SizesOpen
-after es = sizes_all es no_sizes
+after es = sizes_all es no_open_sizes
 
 -- ## What is known of an anchor
 
@@ -106,7 +106,7 @@ unchanged events (what, at) id none = by what refl
 -- ## What stands for a number is kept as that number
 
 after_append : (front es : Events) → after (front ++ es) ≡ sizes_all es (after front)
-after_append front es = sizes_all_append front es no_sizes
+after_append front es = sizes_all_append front es no_open_sizes
 
 begun : (front : Events) (start : Happening × Span) → is_collection start.0 ≡ true
     → after (front ++ start ∷ []) ≡ sizes_inside (number_of start.0) (after front)
@@ -156,7 +156,7 @@ mutual
       ap (λ (s : SizesOpen). size_at id s) (after_append front (e ∷ [])) ∙ unchanged front e id none
       ∙ repeats_kept front id n repeats
 
-  node_known : (front node : Events) (n : NodeCount) → ExpandsTo front node n → (id : ℕ) → anchor_of_node node ≡ Some id
+  node_known : (front node : Events) (n : NodeCount) → ExpandsTo front node n → (id : ℕ) → anchor_of_events node ≡ Some id
       → size_at id (sizes_all node (after front)) ≡ kept n
   node_known _ _ _ (OneScalar front text style number tag at) id anchored =
       now_known number id 1 (after front).known anchored ∙ sym one_kept

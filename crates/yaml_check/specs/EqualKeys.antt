@@ -5,7 +5,7 @@ use Rattle.saphyr_parser.specs.Words.Span.{Span}
 use Rattle.saphyr_parser.specs.Words.Forest.{Style}
 use Rattle.saphyr_parser.specs.Events.{ResolvedTag, Happening, Scalar}
 use Rattle.yaml_check.specs.Keys.{Key, key_of}
-use Rattle.yaml_check.specs.Nodes.{Events, IsNode, begins_mapping, begins_with_scalar, is_outside}
+use Rattle.yaml_check.specs.Nodes.{Events, IsNode, begins_mapping, begins_with_scalar, is_no_part}
 
 -- A scalar with this text and this tag begins here.
 pub record IsScalarAt (key : Key) (place : Marker) (e : Happening × Span) : Type 0 where
@@ -34,7 +34,7 @@ pub data HaveKeys : Due → List (Key × Marker) → Events → Type 0 where
   ItsValue : (keys : List (Key × Marker)) (es node : Events) → HaveKeys ValueDue keys es → IsNode node
       → HaveKeys KeyDue keys (es ++ node)
   Between : (due : Due) (keys : List (Key × Marker)) (es : Events) (e : Happening × Span) → HaveKeys due keys es
-      → is_outside e.0 ≡ true → HaveKeys due keys (es ++ e ∷ [])
+      → is_no_part e.0 ≡ true → HaveKeys due keys (es ++ e ∷ [])
 
 -- none of these keys is equal to this one
 abbrev pub IsNoneOf : Key → List (Key × Marker) → Type 0

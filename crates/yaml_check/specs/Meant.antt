@@ -37,12 +37,12 @@ pub record IsNodeBehind (events : List (Happening × Span)) (count : ℕ) (place
   pub begins : node.1.start ≡ place
 
 -- how many collections are open after an event, and after events
-abbrev pub collections_behind : Happening → ℕ → ℕ
-collections_behind what n = if ends_collection what then n - 1 else (if is_collection what then n + 1 else n)
+abbrev pub collections_after : Happening → ℕ → ℕ
+collections_after what n = if ends_collection what then n - 1 else (if is_collection what then n + 1 else n)
 
-abbrev pub collections_behind_all : List (Happening × Span) → ℕ → ℕ
-collections_behind_all [] n = n
-collections_behind_all (e ∷ es) n = collections_behind_all es (collections_behind e.0 n)
+abbrev pub collections_after_all : List (Happening × Span) → ℕ → ℕ
+collections_after_all [] n = n
+collections_after_all (e ∷ es) n = collections_after_all es (collections_after e.0 n)
 
 -- A collection begins here, inside so many others.
 pub record IsCollectionInside (events : List (Happening × Span)) (count : ℕ) (place : Marker) : Type 0 where
@@ -51,7 +51,7 @@ pub record IsCollectionInside (events : List (Happening × Span)) (count : ℕ) 
   pub back : List (Happening × Span)
   pub split : events ≡ front ++ node ∷ back
   pub is_one : is_collection node.0 ≡ true
-  pub around : collections_behind_all front 0 ≡ count
+  pub around : collections_after_all front 0 ≡ count
   pub begins : node.1.start ≡ place
 
 -- ## How often it is told

@@ -27,13 +27,13 @@ ends_collection MappingEnd = true
 ends_collection _ = false
 
 -- no part of a node: what the stream and documents begin and end with, which is inside no collection
-abbrev pub is_outside : Happening → Bool
-is_outside Nothing = true
-is_outside StreamStart = true
-is_outside StreamEnd = true
-is_outside (DocumentStart explicit) = true
-is_outside DocumentEnd = true
-is_outside _ = false
+abbrev pub is_no_part : Happening → Bool
+is_no_part Nothing = true
+is_no_part StreamStart = true
+is_no_part StreamEnd = true
+is_no_part (DocumentStart explicit) = true
+is_no_part DocumentEnd = true
+is_no_part _ = false
 
 mutual
   -- These events are a node.
@@ -46,7 +46,7 @@ mutual
   pub data AreNodes : Events → Type 0 where
     NoNode : AreNodes []
     OneMore : (es node : Events) → AreNodes es → IsNode node → AreNodes (es ++ node)
-    Beside : (es : Events) (e : Happening × Span) → AreNodes es → is_outside e.0 ≡ true → AreNodes (es ++ e ∷ [])
+    Beside : (es : Events) (e : Happening × Span) → AreNodes es → is_no_part e.0 ≡ true → AreNodes (es ++ e ∷ [])
 
 -- the node is no scalar
 abbrev pub begins_with_scalar : Events → Bool

@@ -18,16 +18,16 @@ columns_of c = if is_hidden c then length (escape_default c) else unwrap_or (cha
 abbrev pub shown_columns : List ℕ → ℕ
 shown_columns cs = sum_by columns_of cs
 
-abbrev pub ends_line : ℕ → Bool
-ends_line c = (c == 10) || (c == 13)
+abbrev pub is_end_of_line : ℕ → Bool
+is_end_of_line c = (c == 10) || (c == 13)
 
 abbrev pub StaysOnLine : List ℕ → Type 0
-StaysOnLine cs = All (λ c. ends_line c ≡ false) cs
+StaysOnLine cs = All (λ c. is_end_of_line c ≡ false) cs
 
 -- whether a line goes on
 abbrev pub line_goes_on : List ℕ → Bool
 line_goes_on [] = false
-line_goes_on (c ∷ cs) = not (ends_line c)
+line_goes_on (c ∷ cs) = not (is_end_of_line c)
 
 -- the escape of a character, in UTF-8
 unfoldable pub escaped : ℕ → List ℕ

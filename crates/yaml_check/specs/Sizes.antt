@@ -34,8 +34,8 @@ open_collections s = length s.outer
 abbrev pub new_size : ℕ → Size
 new_size id = record { anchor = id; nodes = 0 }
 
-abbrev pub no_sizes : SizesOpen
-no_sizes = record { here = new_size 0; outer = []; known = [] }
+abbrev pub no_open_sizes : SizesOpen
+no_open_sizes = record { here = new_size 0; outer = []; known = [] }
 
 -- how many nodes an alias stands for; one inside its own node has no end
 abbrev pub size_at : ℕ → SizesOpen → ℕ
@@ -45,8 +45,8 @@ size_at id s = unwrap_or (lookup (is_at (nat_cmp id)) s.known) no_end
 abbrev pub more_nodes : ℕ → Size → Size
 more_nodes n size = record { anchor = size.anchor; nodes = add size.nodes n }
 
-abbrev pub with_nodes : ℕ → SizesOpen → SizesOpen
-with_nodes n s = record { here = more_nodes n s.here; outer = s.outer; known = s.known }
+abbrev pub with_more_nodes : ℕ → SizesOpen → SizesOpen
+with_more_nodes n s = record { here = more_nodes n s.here; outer = s.outer; known = s.known }
 
 -- a node with this anchor, 0 for none, and so many nodes ends
 abbrev pub with_known : ℕ → ℕ → List (ℕ × ℕ) → List (ℕ × ℕ)
@@ -67,7 +67,7 @@ abbrev pub sizes_outside : SizesOpen → SizesOpen
 sizes_outside s = sizes_ended_in s.outer s
 
 abbrev pub sizes_behind : Happening → SizesOpen → SizesOpen
-sizes_behind (Alias id) s = with_nodes (size_at id s) s
+sizes_behind (Alias id) s = with_more_nodes (size_at id s) s
 sizes_behind (Scalar text style id tag) s = with_ended_node id 1 s
 sizes_behind (SequenceStart id tag) s = sizes_inside id s
 sizes_behind SequenceEnd s = sizes_outside s

@@ -9,7 +9,7 @@ use Rattle.yaml_check.specs.declared.finding.Warning.TheVariants as warning
 use Rattle.yaml_check.specs.Contents.{begun_behind, content_warning, no_document}
 use Rattle.yaml_check.specs.Counting.{all_left, is_collection, left_behind, node_warning}
 use Rattle.yaml_check.specs.Keys.{KeysOpen, keys_behind, no_keys, key_warning}
-use Rattle.yaml_check.specs.Sizes.{SizesOpen, open_collections, no_sizes, sizes_behind, alias_warning}
+use Rattle.yaml_check.specs.Sizes.{SizesOpen, open_collections, no_open_sizes, sizes_behind, alias_warning}
 
 -- what was seen of the events so far
 pub record Seen : Type 0 where
@@ -21,7 +21,7 @@ pub record Seen : Type 0 where
 
 abbrev pub nothing_seen : Limits → Seen
 nothing_seen limits =
-    record { limits = limits; begun = no_document; left = all_left limits.nodes; keys = no_keys; sizes = no_sizes }
+    record { limits = limits; begun = no_document; left = all_left limits.nodes; keys = no_keys; sizes = no_open_sizes }
 
 abbrev pub seen_behind : Happening → Marker → Seen → Seen
 seen_behind what place s = record {

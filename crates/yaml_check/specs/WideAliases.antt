@@ -6,7 +6,7 @@ use Rattle.saphyr_parser.specs.Words.Forest.{Style}
 use Rattle.saphyr_parser.specs.EventParts.{node_anchor}
 use Rattle.saphyr_parser.specs.Events.{ResolvedTag, Happening, Alias, Scalar}
 use Rattle.yaml_check.specs.Counting.{is_collection}
-use Rattle.yaml_check.specs.Nodes.{Events, IsNode, ends_collection, is_outside}
+use Rattle.yaml_check.specs.Nodes.{Events, IsNode, ends_collection, is_no_part}
 
 -- a number of nodes, or no end of them
 abbrev pub NodeCount : Type 0
@@ -22,9 +22,9 @@ IsMoreThan most (Some n) = most < n
 IsMoreThan most None = Unit {0}
 
 -- the id of the anchor of a node, which its first event tells
-abbrev pub anchor_of_node : Events → Option ℕ
-anchor_of_node [] = None
-anchor_of_node (e ∷ es) = node_anchor e.0
+abbrev pub anchor_of_events : Events → Option ℕ
+anchor_of_events [] = None
+anchor_of_events (e ∷ es) = node_anchor e.0
 
 -- The last of these events is the last one of a node with this anchor.
 pub record EndsNodeOf (id : ℕ) (events : Events) : Type 0 where
@@ -32,7 +32,7 @@ pub record EndsNodeOf (id : ℕ) (events : Events) : Type 0 where
   pub node : Events
   pub split : events ≡ before ++ node
   pub is_node : IsNode node
-  pub anchored : anchor_of_node node ≡ Some id
+  pub anchored : anchor_of_events node ≡ Some id
 
 mutual
   -- After the first events, the second ones are a node, and it stands for so many: a scalar for one, a collection for
@@ -52,14 +52,14 @@ mutual
     NoneYet : (front : Events) → ExpandTo front [] (Some 0)
     OneMore : (front es node : Events) (m n : NodeCount) → ExpandTo front es m → ExpandsTo (front ++ es) node n
         → ExpandTo front (es ++ node) (sum_of m n)
-    Beside : (front es : Events) (e : Happening × Span) (n : NodeCount) → ExpandTo front es n → is_outside e.0 ≡ true
+    Beside : (front es : Events) (e : Happening × Span) (n : NodeCount) → ExpandTo front es n → is_no_part e.0 ≡ true
         → ExpandTo front (es ++ e ∷ []) n
 
   -- Of the nodes with this anchor among these events the one that ended last stands for so many. Where none has ended,
   -- as where the alias is in its own node, there is no end.
   pub data Repeats : Events → ℕ → NodeCount → Type 0 where
     NotEnded : (id : ℕ) → Repeats [] id None
-    EndsHere : (front node : Events) (id : ℕ) (n : NodeCount) → ExpandsTo front node n → anchor_of_node node ≡ Some id
+    EndsHere : (front node : Events) (id : ℕ) (n : NodeCount) → ExpandsTo front node n → anchor_of_events node ≡ Some id
         → Repeats (front ++ node) id n
     EndedBefore : (front : Events) (e : Happening × Span) (id : ℕ) (n : NodeCount) → Repeats front id n
         → ¬ EndsNodeOf id (front ++ e ∷ []) → Repeats (front ++ e ∷ []) id n

@@ -35,7 +35,7 @@ impl Sizes {
     ghost use Rattle.yaml_check.specs.SizesSeen as seen;
 
     pub(crate) fn new(alloc: Global) -> Sizes
-        ensures { seen.sizes_of result ≡ spec.no_sizes }
+        ensures { seen.sizes_of result ≡ spec.no_open_sizes }
     {
         Sizes {
             here: Size {
@@ -77,7 +77,7 @@ impl Sizes {
     /// Passes an alias. An alias inside the node that it stands for is infinite.
     fn take_alias(&mut self, id: usize, place: Marker) -> Option<Finding>
         ensures told { result ≡ spec.wide_if (spec.size_at id (seen.sizes_of self.old)) place }
-        ensures behind { seen.sizes_of self.new ≡ spec.with_nodes
+        ensures behind { seen.sizes_of self.new ≡ spec.with_more_nodes
             (spec.size_at id (seen.sizes_of self.old)) (seen.sizes_of self.old) }
     {
         let nodes = self.known.get(&id).copied().unwrap_or(usize::MAX);

@@ -61,8 +61,8 @@ fn columns_of(c: char) -> usize
 }
 
 /// Whether a character breaks a line.
-fn ends_line(c: char) -> bool
-    ensures { result ≡ shown.ends_line c }
+fn is_end_of_line(c: char) -> bool
+    ensures { result ≡ shown.is_end_of_line c }
 {
     c == '\n' || c == '\r'
 }
@@ -105,7 +105,7 @@ fn line_goes_on(rest: &[char]) -> bool
     ensures { result ≡ shown.line_goes_on rest.now }
 {
     match rest.first() {
-        Some(c) => !ends_line(*c),
+        Some(c) => !is_end_of_line(*c),
         None => false,
     }
 }
@@ -121,7 +121,7 @@ fn count_that_fit(characters: &[char], most: usize) -> usize
     while count < characters.len() {
         let c = characters[count];
         let wide = columns_of(c);
-        if wide > left || ends_line(c) {
+        if wide > left || is_end_of_line(c) {
             break;
         }
         left -= wide;

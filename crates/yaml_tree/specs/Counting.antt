@@ -17,17 +17,17 @@ with_node c = record { nodes = c.nodes + 1; depth = c.depth }
 abbrev pub with_collection : Counts → Counts
 with_collection c = record { nodes = c.nodes + 1; depth = c.depth + 1 }
 
-abbrev pub with_end : Counts → Counts
-with_end c = record { nodes = c.nodes; depth = c.depth - 1 }
+abbrev pub with_collection_end : Counts → Counts
+with_collection_end c = record { nodes = c.nodes; depth = c.depth - 1 }
 
 -- after an event; an alias is a node too
 abbrev pub counts_behind : Happening → Counts → Counts
 counts_behind (Alias id) c = with_node c
 counts_behind (Scalar text style id tag) c = with_node c
 counts_behind (SequenceStart id tag) c = with_collection c
-counts_behind SequenceEnd c = with_end c
+counts_behind SequenceEnd c = with_collection_end c
 counts_behind (MappingStart id tag) c = with_collection c
-counts_behind MappingEnd c = with_end c
+counts_behind MappingEnd c = with_collection_end c
 counts_behind _ c = c
 
 abbrev pub counts_behind_all : List Happening → Counts → Counts

@@ -19,19 +19,19 @@ use Rattle.yaml_tree.specs.Leaving.{HasHandedOut, LeavesFrom}
 -- ## Where a document may come next
 
 -- an event that is around documents, or begins one
-abbrev pub StandsBetween : Happening → Type 0
-StandsBetween StreamStart = Unit {0}
-StandsBetween (DocumentStart explicit) = Unit {0}
-StandsBetween StreamEnd = Unit {0}
-StandsBetween _ = ⊥
+abbrev pub IsAroundDocuments : Happening → Type 0
+IsAroundDocuments StreamStart = Unit {0}
+IsAroundDocuments (DocumentStart explicit) = Unit {0}
+IsAroundDocuments StreamEnd = Unit {0}
+IsAroundDocuments _ = ⊥
 
 abbrev pub GoOnBetween : List (Happening × Span) → Type 0
 GoOnBetween [] = Unit {0}
-GoOnBetween (e ∷ es) = StandsBetween e.0
+GoOnBetween (e ∷ es) = IsAroundDocuments e.0
 
 -- the next event isn't one of a document that has begun
-abbrev pub IsBetween : Answer → Type 0
-IsBetween a = GoOnBetween a.events
+abbrev pub ComesBetweenDocuments : Answer → Type 0
+ComesBetweenDocuments a = GoOnBetween a.events
 
 -- the stream's start in front, where it was handed out before
 abbrev pub with_stream_start : List Happening → List Happening
@@ -90,7 +90,7 @@ abbrev pub LoadsDocument : Limits → Result (Option Document) TreeFault → Ans
 LoadsDocument limits (Ok (Some document)) all left = PassesDocument limits document all left
 LoadsDocument limits (Ok None) all left = PassesNoDocument all left
 LoadsDocument limits (Err fault.NotFresh) all left =
-    ((IsBetween all → ⊥) × (left ≡ all)) ⊎ (IsBetween all × FailsInDocument limits fault.NotFresh all left)
+    ((ComesBetweenDocuments all → ⊥) × (left ≡ all)) ⊎ (ComesBetweenDocuments all × FailsInDocument limits fault.NotFresh all left)
 LoadsDocument limits (Err f) all left = FailsInDocument limits f all left
 
 -- Less is left after a document, so that a loop over documents ends.
@@ -112,7 +112,7 @@ abbrev pub LeavesBehindLook : Result (Option Document) TreeFault → EventCursor
 LeavesBehindLook (Ok (Some document)) looked new = HasHandedOut looked new
 LeavesBehindLook (Ok None) looked new = AdvancesOver (to_come looked).events looked new × IsOver new
 LeavesBehindLook (Err fault.NotFresh) looked new =
-    (new ≡ looked) ⊎ (IsBetween (to_come looked) × HasHandedOut looked new)
+    (new ≡ looked) ⊎ (ComesBetweenDocuments (to_come looked) × HasHandedOut looked new)
 LeavesBehindLook (Err f) looked new = LeavesFrom {X = Option Document} (Err f) looked new
 
 -- The parser that a call leaves.

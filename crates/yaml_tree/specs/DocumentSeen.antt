@@ -22,19 +22,19 @@ use Rattle.yaml_tree.specs.OpenSeen.{open_events, place_of}
 use Rattle.yaml_tree.specs.BuilderSeen.{builder_events, nest_of}
 use Rattle.yaml_tree.specs.LoaderSeen.{HasTaken, Forbids}
 use Rattle.yaml_tree.specs.Leaving.{HasHandedOut, LeavesFrom}
-use Rattle.yaml_tree.specs.DocumentLoading.{IsBetween, with_stream_start, EndNoDocument}
+use Rattle.yaml_tree.specs.DocumentLoading.{ComesBetweenDocuments, with_stream_start, EndNoDocument}
 
 -- ## Where a parser is
 
 -- Documents go on here after these events, of which the next ones aren't.
 abbrev pub GoesOnBehind : List Happening → Answer → Type 0
-GoesOnBehind before a = IsBetween a × (with_stream_start (happenings a.events) ≡ before ++ happenings a.events)
+GoesOnBehind before a = ComesBetweenDocuments a × (with_stream_start (happenings a.events) ≡ before ++ happenings a.events)
 
 -- What a look finds, where only lack of memory changes what is to come.
 abbrev pub StandsAt : Place → Answer → Answer → Type 0
 StandsAt BeforeStream all mid = Stays all mid × GoesOnBehind [] mid
 StandsAt Between all mid = Stays all mid × GoesOnBehind (StreamStart ∷ []) mid
-StandsAt Inside all mid = (IsBetween all → ⊥) × (mid ≡ all)
+StandsAt Inside all mid = (ComesBetweenDocuments all → ⊥) × (mid ≡ all)
 
 -- ## Events up to the end of a document
 
