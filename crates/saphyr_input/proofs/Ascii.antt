@@ -1,15 +1,17 @@
 -- A text whose first bytes are ASCII begins with these bytes as characters.
-use Rattle.std.proofs.Common.{◌≡◌, ℕ, ◌+◌, ◌<◌, ◌≤◌, Bool, true, false, List, [], ◌∷◌, ◌++◌, length, take, drop, get_or, IsUtf8, refl, sym, ap, ◌∙◌, subst, arith, add-one, inl, inr, ◌&&◌, ◌==◌, encode_utf8_all, zero, suc, lit<, add-zero, rules, length-append}
+use Rattle.std.proofs.Common.{◌≡◌, ℕ, ◌+◌, ◌<◌, ◌≤◌, Bool, true, false, List, [], ◌∷◌, ◌++◌, length, take, drop, get_or, IsUtf8, refl, sym, ap, ◌∙◌, subst, arith, add-one, inl, inr, ◌&&◌, ◌==◌, encode_utf8, encode_utf8_all, zero, suc, lit<, add-zero, rules, length-append}
 use Rattle.std.specs.List.{prefix_len}
 use Rattle.std.specs.Str.{chars, IsAscii, IsCharBoundary}
 use Rattle.std.proofs.lemmas.Bool.{cases_lt, eqb-true}
 use Rattle.std.proofs.lemmas.Bool.Decides.{nat_tests}
-use Rattle.std.proofs.lemmas.List.{take-append-drop, drop_at, take_at, length-take-le, get_or-take, get_or-drop, drop_all, get_or_past}
+use Rattle.std.proofs.lemmas.List.{append-nil, get_or_append_left, take-append-drop, drop_at, take_at, length-take-le, get_or-take, get_or-drop, drop_all, get_or_past}
 use Rattle.std.proofs.lemmas.List.Sums.{prefix_len-le-length, prefix_len_passes, prefix_len_stops}
 use Rattle.std.proofs.lemmas.Str.{chars-nil, chars-append, chars-IsAscii, IsUtf8-from_ascii, IsUtf8-drop, IsCharBoundary-start, IsCharBoundary-after_ascii, byte_from_char, char_from_byte, chars_from_encodes, length-encode, len_utf8_bounds}
 use Rattle.std.proofs.lemmas.Str.Ascii.{IsAscii-from_reads}
-use Rattle.saphyr_input.specs.Fronts.{ascii_in, IsAsciiClass, StandsFor, is_marker}
-use Rattle.saphyr_input.specs.Classes.{is_blank_or_breakz}
+use Rattle.std.specs.Prelude.{nat_lt, not}
+use Rattle.std.proofs.lemmas.Bool.{false≢true}
+use Rattle.saphyr_input.specs.Fronts.{ascii_in, IsAsciiClass, StandsFor, IsFirstByte, is_marker}
+use Rattle.saphyr_input.specs.Classes.{is_blank_or_breakz, is_yaml_non_break, is_yaml_non_space}
 use Rattle.saphyr_input.proofs.Basics.Booleans.{and_true_left, and_true_right}
 
 -- n ASCII bytes come first
@@ -229,3 +231,67 @@ pub ascii_class_run : (p q : ℕ → Bool) (bs : List ℕ) (n : ℕ) → IsUtf8 
     → n ≡ prefix_len q bs → AsciiRun p bs n
 ascii_class_run p q bs n u h e m =
     ascii_run_is p bs n u (m ∙ prefix_same q (ascii_in p) bs (λ c. e c ∙ ascii_same p h c))
+
+second : (a b : Bool) → (a && b) ≡ false → a ≡ true → b ≡ false
+second true b h e = h
+second false b h e = absurd (cc)
+
+not_in : (p : ℕ → Bool) (b c : ℕ) → StandsFor b c → ascii_in p b ≡ false → b < 128 → p c ≡ false
+not_in p b c (inl same) h less =
+    let ascii : nat_lt b 128 ≡ true = grind (arith, nat_tests) in ap p (sym same) ∙ second (nat_lt b 128) (p b) h ascii
+not_in p b c (inr wide) h less = absurd (omega (arith, wide.0, less))
+
+-- no run begins with an ASCII character that is not of the class
+pub no_ascii_run : (p : ℕ → Bool) (bs : List ℕ) → IsUtf8 bs → ascii_in p (get_or bs 0 0) ≡ false → get_or bs 0 0 < 128
+    → prefix_len p (chars bs) ≡ 0
+no_ascii_run p bs u h less =
+    run_stops p (chars bs) (λ _. not_in p (get_or bs 0 0) (get_or (chars bs) 0 0) (first_stands bs u) h less)
+
+-- the first byte is the first of the first character
+first_byte_of : (cs bs : List ℕ) → encode_utf8_all cs ≡ bs → 0 < length bs → IsFirstByte (get_or bs 0 0) (get_or cs 0 0)
+first_byte_of [] bs e some = let none : bs ≡ [] = sym e in absurd (omega (arith, some, ap length none))
+first_byte_of (c ∷ cs) bs e some =
+    let long : 0 < length (encode_utf8 c) = omega (arith, length-encode c, len_utf8_bounds c) in
+    sym (ap (λ (xs : List ℕ). get_or xs 0 0) (sym e) ∙ get_or_append_left (encode_utf8 c) (encode_utf8_all cs) 0 0 long)
+
+pub first_byte_is : (bs : List ℕ) → IsUtf8 bs → 0 < length bs → IsFirstByte (get_or bs 0 0) (get_or (chars bs) 0 0)
+first_byte_is bs u some =
+    let same : u.0 ≡ chars bs = chars_from_encodes u.0 bs u u.1.1 in
+    subst (λ (cs : List ℕ). IsFirstByte (get_or bs 0 0) (get_or cs 0 0)) same (first_byte_of u.0 bs u.1.1 some)
+
+-- a character that does not begin with an ASCII byte is not ASCII
+pub wide_first : (b c : ℕ) → 128 ≤ b → IsFirstByte b c → 128 ≤ c
+wide_first b c wide first = elim (cases_lt c 128) [
+  | inl lt ↦ (let same = byte_from_char (encode_utf8 c) [] c (sym (append-nil (encode_utf8 c))) lt in
+      absurd (omega (arith, wide, lt, first, same)))
+  | inr ge ↦ ge
+]
+
+-- one that begins with another byte than a byte order mark does is none
+no_mark_first : (b c : ℕ) → (b ≡ 239 → ⊥) → IsFirstByte b c → c ≡ 65279 → ⊥
+unfolding lib.Utf8.encode
+no_mark_first b c other first mark = other (sym first ∙ ap (λ x. get_or (encode_utf8 x) 0 0) mark)
+
+-- a run goes on with a character of the class
+pub first_of_run : (p : ℕ → Bool) (xs ys : List ℕ) → p 0 ≡ false → p (get_or xs 0 0) ≡ true → ys ≡ drop 1 xs
+    → prefix_len p xs ≡ 1 + prefix_len p ys
+first_of_run p [] ys nul is e = absurd (false≢true (sym nul ∙ is))
+first_of_run p (x ∷ xs) ys nul is e = rw (e, is) (omega arith)
+
+other_byte : (b : ℕ) → not (b == 239) ≡ true → b ≡ 239 → ⊥
+other_byte b t e = let same : (b == 239) ≡ true = grind (arith, nat_tests) in false≢true (sym (ap not same) ∙ t)
+
+not_same : (a b : ℕ) → (a ≡ b → ⊥) → (a == b) ≡ false
+not_same a b h = grind (arith, nat_tests)
+
+pub no_mark : (b c : ℕ) → not (b == 239) ≡ true → IsFirstByte b c → (c == 65279) ≡ false
+no_mark b c other first = not_same c 65279 (no_mark_first b c (other_byte b other) first)
+
+-- such a character is no break, and no blank
+pub wide_non_break : (b c : ℕ) → 128 ≤ b → not (b == 239) ≡ true → IsFirstByte b c → is_yaml_non_break c ≡ true
+wide_non_break b c wide other first =
+    let high : 128 ≤ c = wide_first b c wide first in rw (no_mark b c other first) (grind (arith, nat_tests))
+
+pub wide_non_space : (b c : ℕ) → 128 ≤ b → not (b == 239) ≡ true → IsFirstByte b c → is_yaml_non_space c ≡ true
+wide_non_space b c wide other first =
+    let high : 128 ≤ c = wide_first b c wide first in rw (no_mark b c other first) (grind (arith, nat_tests))

@@ -1,5 +1,5 @@
 -- What is at the front of a text, told by its first bytes.
-use Rattle.std.specs.Prelude.{◌≡◌, ℕ, ◌≤◌, Bool, true, false, ◌&&◌, ◌==◌, nat_lt, List, slice_index, ◌⊎◌}
+use Rattle.std.specs.Prelude.{◌≡◌, ℕ, ◌≤◌, Bool, true, false, ◌&&◌, ◌==◌, nat_lt, List, slice_index, encode_utf8, ◌⊎◌}
 use Rattle.saphyr_input.specs.Classes.{is_blank, is_blank_or_breakz, space}
 use Rattle.saphyr_input.specs.Places.{next_3_are}
 
@@ -23,3 +23,7 @@ is_marker mark xs = next_3_are xs mark mark mark && is_blank_or_breakz (slice_in
 abbrev pub is_passed_blank : Bool → ℕ → Bool
 is_passed_blank true c = is_blank c
 is_passed_blank false c = c == space
+
+-- the UTF-8 of the character c begins with the byte b
+abbrev pub IsFirstByte : ℕ → ℕ → Type 0
+IsFirstByte b c = slice_index (encode_utf8 c) 0 ≡ b

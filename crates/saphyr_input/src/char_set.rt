@@ -1,5 +1,5 @@
 //! Sets of characters. An input takes off a run of such characters in one piece.
-ghost use Rattle.std.specs.Prelude.{◌≡◌, ℕ, Bool, false, IsTrue, refl};
+ghost use Rattle.std.specs.Prelude.{◌≡◌, ℕ, ◌≤◌, Bool, false, IsTrue, refl};
 ghost use Rattle.saphyr_input.specs.Classes as class;
 ghost use Rattle.saphyr_input.specs.Fronts as spec;
 
@@ -17,6 +17,15 @@ pub trait CharSet {
     /// Whether the byte is an ASCII character of the set.
     fn has_ascii(byte: u8) -> bool
         ensures { result ≡ spec.ascii_in test byte };
+
+    /// Whether each character whose UTF-8 begins with the byte is in the set, as far as that is known. The
+    /// byte is not ASCII.
+    fn has_wide(_byte: u8) -> bool
+        requires { 128 ≤ _byte }
+        ensures { IsTrue result → (c : ℕ) → spec.IsFirstByte _byte c → IsTrue (test c) }
+    {
+        false
+    }
 
     /// NUL is not in the set, since each place past the end of an input reads as NUL.
     ghost without_nul: { test 0 ≡ false };
@@ -84,6 +93,11 @@ impl CharSet for NonBreak {
         is_yaml_non_break(c)
     }
 
+    #[inline(always)]
+    fn has_wide(byte: u8) -> bool {
+        byte != 0xEF
+    }
+
     #[inline]
     fn has_ascii(byte: u8) -> bool {
         if byte > b'\r' {
@@ -105,6 +119,11 @@ impl CharSet for NonSpace {
     #[inline]
     fn has(c: char) -> bool {
         is_yaml_non_space(c)
+    }
+
+    #[inline(always)]
+    fn has_wide(byte: u8) -> bool {
+        byte != 0xEF
     }
 
     #[inline]

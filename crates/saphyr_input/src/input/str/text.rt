@@ -1,5 +1,5 @@
 //! Reads the front of a text, by bytes as far as these are ASCII.
-ghost use Rattle.std.specs.Prelude.{◌≡◌, ℕ, ◌+◌, ◌<◌, ◌≤◌, Bool, false, ◌==◌, IfNone, IfSome, refl, take, drop, slice_index};
+ghost use Rattle.std.specs.Prelude.{◌≡◌, ℕ, ◌+◌, ◌<◌, ◌≤◌, Bool, false, ◌==◌, ◌↔◌, IsTrue, IfNone, IfSome, refl, take, drop, slice_index};
 ghost use Rattle.std.specs.List.{prefix_len, list_any};
 ghost use Rattle.std.specs.Str.{chars};
 ghost use Rattle.saphyr_input.specs.Classes as class;
@@ -141,23 +141,44 @@ pub(super) fn ascii_run<C: CharSet>(text: &str) -> (usize, &str)
 // What follows the first character, if this is in the class and not ASCII.
 #[inline]
 fn strip_char<C: CharSet>(text: &str) -> Option<&str>
-    requires { spec.ascii_in C.test (slice_index text.now 0) ≡ false }
-    ensures none { IfNone result (prefix_len C.test (chars text.now) ≡ 0) }
+    ensures none { IfNone result (spec.ascii_in C.test (slice_index text.now 0) ≡ false
+        → prefix_len C.test (chars text.now) ≡ 0) }
     ensures some { IfSome result (λ rest. prefix_len C.test (chars text.now)
         ≡ 1 + prefix_len C.test (chars rest.now)) }
     ensures rest { IfSome result (λ rest. chars rest.now ≡ drop 1 (chars text.now)) }
 {
-    // An ASCII character would already be in the run.
     let byte = text.as_bytes().first().copied().unwrap_or(0);
     if byte < 0x80 {
         return None;
+    }
+    // For speed: most characters need not be put together from their bytes.
+    if C::has_wide(byte) {
+        return Some(split_first(text).1);
     }
     let (first, rest) = split_first(text);
     if C::has(first) { Some(rest) } else { None }
 }
 
-// The longest run of the class: how many characters it has, and what follows it.
+// The characters of the class that come first and are not ASCII: how many, and what follows them.
 #[inline]
+fn wide_run<C: CharSet>(text: &str) -> (usize, &str)
+    ensures part { result.0 + prefix_len C.test (chars result.1.now)
+        ≡ prefix_len C.test (chars text.now) }
+    ensures rest { chars result.1.now ≡ drop result.0 (chars text.now) }
+{
+    // There are fewer than 2^64 bytes, and no more characters than bytes.
+    let _ = text.as_bytes();
+    let mut count = 0;
+    let mut rest = text;
+    while let Some(after) = strip_char::<C>(rest) {
+        count += 1;
+        rest = after;
+    }
+    (count, rest)
+}
+
+// The longest run of the class: how many characters it has, and what follows it.
+#[inline(never)]
 pub(super) fn run<C: CharSet>(text: &str) -> (usize, &str)
     ensures count { result.0 ≡ prefix_len C.test (chars text.now) }
     ensures rest { chars result.1.now ≡ drop result.0 (chars text.now) }
@@ -166,11 +187,36 @@ pub(super) fn run<C: CharSet>(text: &str) -> (usize, &str)
     let _ = text.as_bytes();
     let (mut count, mut rest) = ascii_run::<C>(text);
     while let Some(after) = strip_char::<C>(rest) {
-        let (ascii, behind) = ascii_run::<C>(after);
-        count += 1 + ascii;
+        let (wide, beyond) = wide_run::<C>(after);
+        let (ascii, behind) = ascii_run::<C>(beyond);
+        count += 1 + wide + ascii;
         rest = behind;
     }
     (count, rest)
+}
+
+// Whether the first character is not ASCII.
+#[inline(always)]
+fn begins_wide(text: &str) -> bool
+    ensures { IsTrue result ↔ (128 ≤ slice_index text.now 0) }
+{
+    text.as_bytes().first().copied().unwrap_or(0) >= 0x80
+}
+
+// The same, for speed without a call if all characters are ASCII.
+#[inline(always)]
+fn run_here<C: CharSet>(text: &str) -> (usize, &str)
+    ensures count { result.0 ≡ prefix_len C.test (chars text.now) }
+    ensures rest { chars result.1.now ≡ drop result.0 (chars text.now) }
+{
+    // There are fewer than 2^64 bytes, and no more characters than bytes.
+    let _ = text.as_bytes();
+    let (ascii, rest) = ascii_run::<C>(text);
+    if !begins_wide(rest) {
+        return (ascii, rest);
+    }
+    let (more, behind) = run::<C>(rest);
+    (ascii + more, behind)
 }
 
 // What follows a leading space, if that is a character of the set for which a test is known.
@@ -197,9 +243,9 @@ pub(super) fn words<C: SpacedSet>(text: &str) -> (usize, &str)
 {
     // There are fewer than 2^64 bytes, and no more characters than bytes.
     let _ = text.as_bytes();
-    let (mut count, mut rest) = run::<C>(text);
+    let (mut count, mut rest) = run_here::<C>(text);
     while let Some(after) = strip_space::<C>(rest) {
-        let (word, behind) = run::<C>(after);
+        let (word, behind) = run_here::<C>(after);
         count += 1 + word;
         rest = behind;
     }

@@ -1,29 +1,28 @@
-use Rattle.std.proofs.Common.{◌≡◌, ℕ, ◌<◌, Bool, false, true, List, [], ◌∷◌, get_or, inl, inr, refl, sym, ap, ◌∙◌, arith, rules}
-use Rattle.std.specs.Prelude.{◌&&◌, nat_lt}
-use Rattle.std.specs.List.{prefix_len}
+use Rattle.std.proofs.Common.{◌≡◌, ◌<◌, ◌≤◌, length, List, ℕ, get_or, arith, rules, inl, inr}
 use Rattle.std.specs.Str.{chars}
-use Rattle.std.proofs.lemmas.Bool.Decides.{nat_tests}
-use Rattle.saphyr_input.specs.Fronts.{ascii_in, StandsFor}
-use Rattle.saphyr_input.proofs.Ascii.{first_stands}
+use Rattle.std.proofs.lemmas.List.{get_or_past}
+use Rattle.std.proofs.lemmas.Bool.{cases_lt}
+use Rattle.saphyr_input.proofs.Ascii.{no_ascii_run, first_byte_is, first_of_run}
 use Rattle.saphyr_input.proofs.input.str.text.strip_char.Goals as goal
 
-no_run : (p : ℕ → Bool) (xs : List ℕ) → p (get_or xs 0 0) ≡ false → prefix_len p xs ≡ 0
-no_run p [] h = refl
-no_run p (c ∷ cs) h = rw h refl
-
-second : (a b : Bool) → (a && b) ≡ false → a ≡ true → b ≡ false
-second true b h e = h
-second false b h e = absurd (cc)
-
-not_in : (p : ℕ → Bool) (b c : ℕ) → StandsFor b c → ascii_in p b ≡ false → b < 128 → p c ≡ false
-not_in p b c (inl same) h less =
-    let ascii : nat_lt b 128 ≡ true = grind (arith, nat_tests) in ap p (sym same) ∙ second (nat_lt b 128) (p b) h ascii
-not_in p b c (inr wide) h less = absurd (omega (arith, wide.0, less))
+some_byte : (bs : List ℕ) → 128 ≤ get_or bs 0 0 → 0 < length bs
+some_byte bs wide = elim (cases_lt 0 (length bs)) [
+  | inl lt ↦ lt
+  | inr ge ↦ absurd (omega (arith, wide, get_or_past bs 0 0 ge))
+]
 
 pub returns-then-byte-lt128-clause-none : goal.returns-then-byte-lt128-clause-none
 returns-then-byte-lt128-clause-none g c =
     let bs = c.args.text.now in
     let byte : c.unwrap_or-byte.result ≡ get_or bs 0 0 = search rules in
     let less : get_or bs 0 0 < 128 = omega (arith, byte, c.if-byte-lt128.true) in
-    no_run g.C.CharSet.test (chars bs)
-    (not_in g.C.CharSet.test (get_or bs 0 0) (get_or (chars bs) 0 0) (first_stands bs c.utf8.text) c.requires less)
+    λ h. no_ascii_run g.C.CharSet.test bs c.utf8.text h less
+
+pub returns-then-has_wide-clause-some : goal.returns-then-has_wide-clause-some
+returns-then-has_wide-clause-some g c =
+    let bs = c.args.text.now in
+    let byte : c.unwrap_or-byte.result ≡ get_or bs 0 0 = search rules in
+    let wide : 128 ≤ get_or bs 0 0 = omega (arith, byte, c.if-byte-lt128.false) in
+    let first = first_byte_is bs c.utf8.text (some_byte bs wide) in
+    first_of_run g.C.CharSet.test (chars bs) _ g.met.C.CharSet.without_nul
+    (c.has_wide.ensures c.if-has_wide.true (get_or (chars bs) 0 0) (rw byte first)) c.split_first.ensures.rest
