@@ -1,6 +1,7 @@
 pub mod Properties
 pub mod Directives
 pub mod ByteSets
+pub mod WideSets
 pub mod Block
 pub mod Quoted
 pub mod EscapeEnds

@@ -1,5 +1,5 @@
 -- Where a word of a plain scalar ends its line, and what is left after that.
-use Rattle.std.proofs.Common.{◌≡◌, ℕ, Bool, true, false, List, [], ◌∷◌, ◌++◌, slice_index, Result, Ok, refl, sym, ap, ◌∙◌}
+use Rattle.std.proofs.Common.{◌≡◌, ℕ, Bool, true, false, List, [], ◌∷◌, ◌++◌, slice_index, Result, Ok, refl, sym, ap, ◌∙◌, subst}
 use Rattle.std.specs.Prelude.{◌&&◌, ◌==◌, not, nat_lt, None, if◌then◌else◌}
 use Rattle.std.specs.List.{prefix_len}
 use Rattle.std.proofs.lemmas.List.{append-nil}
@@ -9,8 +9,11 @@ use Rattle.saphyr_input.specs.Places.{is_blank_or_break}
 use Rattle.saphyr_input.proofs.Basics.Booleans.{and_false, by_test}
 use Rattle.saphyr_scalar.specs.declared.scalar.position.Marker.{Marker}
 use Rattle.saphyr_scalar.specs.declared.scalar.fault.Refusal.{Refusal}
+use Rattle.saphyr_scalar.specs.declared.scalar.fault.Stop.{Stop}
+use Rattle.saphyr_scalar.specs.Views.Reader.{Moves}
+use Rattle.saphyr_scalar.proofs.Plain.Gaps.{lines_read}
 use Rattle.saphyr_scalar.specs.Views.Cursor.{Cursor, ◌>>=◌, pass_break, pass_spaces}
-use Rattle.saphyr_scalar.specs.Steps.Plain.{is_in_word, PlainGap, seen_gap, line_front, lines, folded_gap, next_lines, gap_from, gap, next_word_starts, comment_of, with_text, scalar_end, word, content_behind_tab}
+use Rattle.saphyr_scalar.specs.Steps.Plain.{is_in_word, PlainGap, seen_gap, reached_gap, gap_text, line_front, lines, folded_gap, next_lines, gap_from, gap, next_word_starts, comment_of, with_text, scalar_end, word, content_behind_tab}
 use Rattle.saphyr_scalar.specs.Steps.Quoted.{with_run}
 use Rattle.saphyr_scalar.specs.Steps.PlainLines.{scalar_behind_line, is_left_of_scalar}
 use Rattle.saphyr_scalar.proofs.NoSeparation.{no_run}
@@ -116,3 +119,20 @@ left_ends f i a end text u blank left =
     ((r >>= λ g. Ok (folded_gap g)) >>= plain_behind_gap f i a end)) reach
     ∙ gap_no_turn f i a end text g u (not_on f i u blank all.0 all.1)
     ∙ ap (λ x. Ok (text, end, x, u)) (no_comment f u blank)
+
+-- what the call that reads such a gap leaves
+pub break_gap_read : (i : ℕ) (a : Marker) (cleared feeds : List ℕ) (s u v w : Cursor) (r : Result Bool Stop)
+    → s.blank_so_far ≡ false → u ≡ s → is_break (slice_index s.rest 0) ≡ true → v ≡ pass_break u → cleared ≡ []
+    → Moves (λ t. seen_gap t feeds w) r (lines i a false cleared v.mark v.rest)
+    → Moves (λ t. seen_gap t (gap_text w.blank_so_far feeds) w) r (gap i a s)
+break_gap_read i a cleared feeds s u v w r line same breaks on empty h =
+    let from : gap i a s ≡ next_lines i a v = break_gap i a s line breaks
+    ∙ ap (next_lines i a) (sym (on ∙ ap pass_break same)) in
+    subst (λ (x : Result PlainGap Refusal). Moves (λ t. seen_gap t (gap_text w.blank_so_far feeds) w) r x) (sym from)
+    (lines_read i a v.mark v.rest feeds w r
+    (subst (λ (x : List ℕ). Moves (λ t. seen_gap t feeds w) r (lines i a false x v.mark v.rest)) empty h))
+
+-- where no tab is in the indentation, nothing is refused
+pub reached_without_tab : (a : Marker) (f : List ℕ) (s : Cursor) → reached_gap a false f s ≡ Ok (seen_gap false f s)
+unfolding content_behind_tab
+reached_without_tab a f s = refl

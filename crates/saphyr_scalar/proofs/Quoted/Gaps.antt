@@ -141,6 +141,20 @@ pub ok_shorter : {X E : Type 0} (r : Result X E) (n m k : ℕ) → m < k → OnO
 ok_shorter (Ok x) n m k less no_longer = omega (arith, less, no_longer)
 ok_shorter (Err e) n m k less no_longer = tt
 
+pub ok_no_longer : {X E : Type 0} (r : Result X E) (n m k : ℕ) → m ≤ k → OnOk r (n ≤ m) → OnOk r (n ≤ k)
+ok_no_longer (Ok x) n m k less no_longer = omega (arith, less, no_longer)
+ok_no_longer (Err e) n m k less no_longer = tt
+
+-- a break right after a word
+pub straight_to_break : (q : Quote) (indent : ℕ) (start : Marker) (text : List ℕ) (s u v : Cursor) → u ≡ s
+    → is_break (slice_index s.rest 0) ≡ true → v ≡ pass_break u
+    → with_front text (inner_text_at q indent start (over_lines false 0) v)
+    ≡ with_front text (inner_text_at q indent start no_gap s)
+straight_to_break q indent start text s u v same h on =
+    ap (with_front text)
+    (ap (inner_text_at q indent start (over_lines false 0)) (on ∙ ap pass_break same)
+    ∙ sym (at_break q indent start no_gap s h))
+
 -- blanks, and what comes after them
 pub blanks_to_break : (q : Quote) (indent : ℕ) (start : Marker) (text grown : List ℕ) (s t u v : Cursor)
     → Moved is_blank [] grown s t → u ≡ t → is_break (slice_index t.rest 0) ≡ true → v ≡ pass_break u

@@ -177,3 +177,16 @@ pub begins_refused : (q : Quote) (indent : ℕ) (start : Marker) (escaped : Bool
 begins_refused q indent start escaped n text s refusal blank break e =
     ap (with_front text) (subst (Begins q indent start escaped n s) e (begins_with_ink q indent start escaped n s blank
     break))
+
+-- a character that begins no document marker, at a column that later lines may begin at
+pub later_word : (indent : ℕ) (start : Marker) (s u : Cursor) (c : ℕ) → u ≡ s → c ≡ slice_index s.rest 0 → 46 < c
+    → indent ≤ u.mark.col → quoted_line indent start s ≡ Ok u
+unfolding quoted_line
+later_word indent start s u c same read ink right =
+    let high : 46 < slice_index s.rest 0 = subst (λ x. 46 < x) read ink in
+    let at : indent ≤ s.mark.col = subst (λ (x : Cursor). indent ≤ x.mark.col) same right in
+    let dash : (slice_index s.rest 0 == 45) ≡ false = grind (arith, nat_tests) in
+    let stop : (slice_index s.rest 0 == 46) ≡ false = grind (arith, nat_tests) in
+    let nul : (slice_index s.rest 0 == 0) ≡ false = grind (arith, nat_tests) in
+    let left : nat_lt s.mark.col indent ≡ false = grind (arith, nat_tests) in
+    rw (dash, stop, nul, left, and_false (s.mark.col == 0)) (ap Ok (sym same))

@@ -16,6 +16,7 @@ pub(crate) struct BlockEnd {
 }
 
 // Appends this many line feeds.
+#[inline(never)]
 pub(crate) fn push_line_feeds(text: &mut String, count: usize) -> Result<(), AllocError>
     ensures { OnOk result (string_bytes text.new
         ≡ string_bytes text.old ++ encode_utf8_all (line_feeds count)) }
@@ -28,6 +29,7 @@ pub(crate) fn push_line_feeds(text: &mut String, count: usize) -> Result<(), All
 
 // Appends the breaks before a content line, by whether it and the content line above, if there is
 // one, begin with a blank.
+#[inline(always)]
 #[tactic(auto, using(crate::proofs::Block::Lines::feed_first))]
 pub(crate) fn push_break_before(
     text: &mut String,

@@ -34,6 +34,7 @@ impl<T: Input> Reader<T> {
     ghost use Rattle.saphyr_scalar.specs.Views.Reader.{cursor_of, loaded, WritesBy};
 
     // Takes off empty lines and the indentation after them, which may have a limit.
+    #[inline(always)]
     pub(crate) fn skip_empty_block_lines(
         &mut self,
         limit: Option<usize>,
@@ -48,12 +49,13 @@ impl<T: Input> Reader<T> {
         loop {
             let left = indentation_left(limit, self.mark.col);
             self.skip_spaces(left);
-            if !is_break(self.look()) {
+            let c = self.look();
+            if !is_break(c) {
                 break;
             }
             lines.count += 1;
             lines.widest = lines.widest.max(self.mark.col);
-            self.skip_line_break();
+            self.skip_seen_break(c);
         }
         lines.widest = lines.widest.max(self.mark.col);
         lines
@@ -102,13 +104,14 @@ impl<T: Input> Reader<T> {
             let below = self.input.next_is_blank();
             push_break_before(text, style, above, lines.count, below)?;
             self.move_run::<NonBreak>(text)?;
-            if !is_break(self.look()) {
+            let c = self.look();
+            if !is_break(c) {
                 return Ok(BlockEnd {
                     broken: false,
                     empty_lines: 0,
                 });
             }
-            self.skip_line_break();
+            self.skip_seen_break(c);
             above = Some(below);
             lines = EmptyLines {
                 count: 0,

@@ -1,7 +1,7 @@
 //! What is between two words of a plain scalar: blanks, or line breaks and empty lines, which are folded (YAML
 //! 1.2.2, 7.3.3 and 6.5).
 
-ghost use Rattle.std.specs.Prelude.{◌≡◌, ◌≤◌, ◌++◌, slice_index, string_bytes, OnOk, true};
+ghost use Rattle.std.specs.Prelude.{◌≡◌, ◌≤◌, ◌++◌, slice_index, string_bytes, OnOk, false, true};
 ghost use Rattle.saphyr_input.specs.Places as place;
 ghost use Rattle.saphyr_scalar.specs.Steps.Plain as spec;
 
@@ -90,6 +90,7 @@ impl<T: Input> Reader<T> {
     // Takes off blanks and breaks from the start of a line on, and appends a line feed for each such
     // line to a text. Returns whether a tab is in the indentation of the line that is reached. Then
     // that line is a comment or empty.
+    #[inline(never)]
     pub(super) fn skip_empty_lines(
         &mut self,
         indent: usize,
@@ -113,11 +114,25 @@ impl<T: Input> Reader<T> {
         Ok(tabbed)
     }
 
+    // The same. Mostly there is no such line: then spaces are all that is taken off.
+    #[inline(always)]
+    fn skip_lines(&mut self, indent: usize, start: Marker, feeds: &mut String) -> Result<bool, Stop>
+        requires { (cursor_of self.old).blank_so_far ≡ true }
+        ensures { WritesBy spec.seen_gap (spec.feeds_onto indent start) feeds.old self.old result
+            feeds.new self.new }
+    {
+        self.skip_spaces(usize::MAX);
+        if !is_blank_or_break(self.look()) {
+            return Ok(false);
+        }
+        self.skip_empty_lines(indent, start, feeds)
+    }
+
     // Takes off what follows a word, and replaces a text by it: by the blanks, or a line feed for each
     // empty line. Returns whether a tab is in the indentation of the line that is reached.
-    #[inline]
+    #[inline(always)]
     #[tactic(auto, unfolding(crate::specs::Steps::Plain::gap, crate::specs::Steps::Plain::gap_from))]
-    pub(super) fn read_plain_gap(
+    fn read_spaced_gap(
         &mut self,
         indent: usize,
         start: Marker,
@@ -134,5 +149,26 @@ impl<T: Input> Reader<T> {
         gap.clear();
         self.skip_line_break();
         self.skip_empty_lines(indent, start, gap)
+    }
+
+    // The same. Mostly the word ends its line.
+    #[inline(always)]
+    pub(super) fn read_plain_gap(
+        &mut self,
+        indent: usize,
+        start: Marker,
+        gap: &mut String,
+    ) -> Result<bool, Stop>
+        requires { (cursor_of self.old).blank_so_far ≡ false }
+        ensures { WritesBy spec.seen_word_gap (λ _. spec.gap indent start) gap.old self.old result
+            gap.new self.new }
+    {
+        let c = self.look();
+        if is_break(c) {
+            gap.clear();
+            self.skip_seen_break(c);
+            return self.skip_lines(indent, start, gap);
+        }
+        self.read_spaced_gap(indent, start, gap)
     }
 }

@@ -26,6 +26,11 @@ impl CharSet for PlainOutside {
     }
 
     #[inline(always)]
+    fn has_wide(byte: u8) -> bool {
+        byte != 0xEF
+    }
+
+    #[inline(always)]
     fn has_ascii(byte: u8) -> bool {
         is_in_plain_outside(byte)
     }
@@ -49,6 +54,11 @@ impl CharSet for PlainInFlow {
 
     fn has(c: char) -> bool {
         c != ':' && !is_blank_or_breakz(c) && !is_bom(c) && !is_flow(c)
+    }
+
+    #[inline(always)]
+    fn has_wide(byte: u8) -> bool {
+        byte != 0xEF
     }
 
     #[inline(always)]

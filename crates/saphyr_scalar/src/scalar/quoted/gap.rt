@@ -1,8 +1,9 @@
 //! What is between two words of a quoted scalar: blanks, or a line break, escaped or not, and the empty lines after it
 //! (YAML 1.2.2, 7.3.1, 7.3.2 and 6.5).
 
-ghost use Rattle.std.specs.Prelude.{◌≡◌, ℕ, Bool, false, ◌==◌, ◌++◌, slice_index, string_bytes, encode_utf8_all, OnOk, IsTrue};
+ghost use Rattle.std.specs.Prelude.{◌≡◌, ℕ, Bool, false, ◌==◌, ◌<◌, ◌≤◌, ◌++◌, slice_index, string_bytes, encode_utf8_all, OnOk, IsTrue};
 ghost use Rattle.saphyr_input.specs.Classes as class;
+ghost use Rattle.saphyr_input.specs.Indicators.{backslash, full_stop};
 ghost use Rattle.saphyr_scalar.specs.Steps.Quoted as spec;
 ghost use Rattle.saphyr_values.specs.Flow as flow;
 
@@ -10,12 +11,13 @@ use crate::scalar::block::push_line_feeds;
 use crate::scalar::fault::{FaultText, Refusal, Stop};
 use crate::scalar::position::Marker;
 use crate::scalar::reader::Reader;
-use saphyr_input::char_traits::{is_blank, is_break, is_z};
+use saphyr_input::char_traits::{is_blank, is_blank_or_breakz, is_break, is_z};
 use saphyr_input::input::Input;
 use saphyr_values::Quote;
 use std::alloc::AllocError;
 
 // Appends what a line break and the empty lines after it read as to a text.
+#[inline(always)]
 fn push_folded_break(text: &mut String, escaped: bool, empty_lines: usize) -> Result<(), AllocError>
     ensures { OnOk result (string_bytes text.new
         ≡ string_bytes text.old ++ encode_utf8_all (spec.folded_break escaped empty_lines)) }
@@ -24,6 +26,15 @@ fn push_folded_break(text: &mut String, escaped: bool, empty_lines: usize) -> Re
         return text.push(' ');
     }
     push_line_feeds(text, empty_lines)
+}
+
+// If this is true, a word or the closing quote may be at a column of a later line: the character, which is
+// neither a blank nor a break, is not NUL and begins no document marker.
+#[inline(always)]
+fn is_later_word(c: char, col: usize, indent: usize) -> bool
+    ensures { IsTrue result → (full_stop < c) × (indent ≤ col) }
+{
+    c > '.' && col >= indent
 }
 
 impl<T: Input> Reader<T> {
@@ -49,6 +60,7 @@ impl<T: Input> Reader<T> {
     }
 
     // Takes off the empty lines, and the blanks before what follows them. Returns how many lines.
+    #[inline(never)]
     fn skip_quoted_lines(&mut self, indent: usize) -> Result<usize, Refusal>
         ensures same { (quote : Quote) → (start : Marker) → (escaped : Bool)
             → spec.ReadsFurther result
@@ -82,7 +94,29 @@ impl<T: Input> Reader<T> {
         }
     }
 
+    // The same. Mostly there is no empty line: then spaces are all that is taken off.
+    #[inline(always)]
+    fn skip_later_lines(&mut self, indent: usize) -> Result<usize, Refusal>
+        ensures same { (quote : Quote) → (start : Marker) → (escaped : Bool)
+            → spec.ReadsFurther result
+            (λ n. spec.inner_text_at quote indent start (spec.over_lines escaped n)
+            (cursor_of self.new)) (spec.inner_text_at quote indent start (spec.over_lines escaped 0)
+            (cursor_of self.old)) }
+        ensures no_blank { OnOk result (class.is_blank (slice_index (cursor_of self.new).rest 0)
+            ≡ false) }
+        ensures no_break { OnOk result (class.is_break (slice_index (cursor_of self.new).rest 0)
+            ≡ false) }
+        ensures shorter { OnOk result (IsNoLonger self.old self.new) }
+    {
+        self.skip_spaces(usize::MAX);
+        if !is_blank_or_breakz(self.look()) {
+            return Ok(0);
+        }
+        self.skip_quoted_lines(indent)
+    }
+
     // Whether a word or the closing quote may be here on a later line.
+    #[inline(never)]
     #[tactic(auto, unfolding(crate::specs::Steps::Quoted::quoted_line))]
     fn check_quoted_line(&mut self, indent: usize, start: Marker) -> Result<(), Refusal>
         ensures { PassesBy (spec.quoted_line indent start) self.old result self.new }
@@ -100,8 +134,22 @@ impl<T: Input> Reader<T> {
         Err(Refusal { text, mark: start })
     }
 
+    // The same. Mostly only a look at one character is needed.
+    #[inline(always)]
+    #[tactic(auto, unfolding(crate::specs::Steps::Quoted::quoted_line))]
+    fn check_later_line(&mut self, indent: usize, start: Marker) -> Result<(), Refusal>
+        ensures { PassesBy (spec.quoted_line indent start) self.old result self.new }
+    {
+        let c = self.look();
+        if is_later_word(c, self.mark.col, indent) {
+            return Ok(());
+        }
+        self.check_quoted_line(indent, start)
+    }
+
     // Takes off the empty lines after a break, and the blanks before what follows them. Appends what the
     // break and these lines read as to a text.
+    #[inline(always)]
     fn read_quoted_lines(
         &mut self,
         escaped: bool,
@@ -117,8 +165,8 @@ impl<T: Input> Reader<T> {
             (spec.inner_text_at quote indent start spec.no_gap (cursor_of self.new))) }
         ensures shorter { OnOk result (IsNoLonger self.old self.new) }
     {
-        let empty_lines = self.skip_quoted_lines(indent)?;
-        self.check_quoted_line(indent, start)?;
+        let empty_lines = self.skip_later_lines(indent)?;
+        self.check_later_line(indent, start)?;
         push_folded_break(text, escaped, empty_lines)?;
         Ok(())
     }
@@ -147,6 +195,42 @@ impl<T: Input> Reader<T> {
         self.read_quoted_lines(true, indent, start, text)
     }
 
+    // The same of what begins with neither a break nor a backslash.
+    #[inline(always)]
+    fn read_blank_gap(
+        &mut self,
+        quote: Quote,
+        indent: usize,
+        start: Marker,
+        blanks: &mut String,
+        text: &mut String,
+    ) -> Result<(), Stop>
+        requires ended { IsTrue (spec.ends_word quote (cursor_of self.old).rest) }
+        requires open { (slice_index (cursor_of self.old).rest 0 == flow.mark quote) ≡ false }
+        requires plain { (slice_index (cursor_of self.old).rest 0 == backslash) ≡ false }
+        ensures same { ReadsOn result (spec.with_front (string_bytes text.old)
+            (spec.inner_text_at quote indent start spec.no_gap (cursor_of self.old)))
+            (spec.with_front (string_bytes text.new)
+            (spec.inner_text_at quote indent start spec.no_gap (cursor_of self.new))) }
+        ensures shorter { OnOk result (IsShorter self.old self.new) }
+    {
+        blanks.clear();
+        self.read_blanks(blanks)?;
+        let c = self.look();
+        if is_break(c) {
+            self.skip_line_break();
+            return self.read_quoted_lines(false, indent, start, text);
+        }
+        if is_z(c) {
+            return Err(Stop::Refused(Refusal {
+                text: FaultText::EndInsideQuotes,
+                mark: start,
+            }));
+        }
+        text.push_str(blanks.as_str())?;
+        Ok(())
+    }
+
     // Takes off what is between two words, up to the next word or the closing quote. Appends what it
     // reads as to a text.
     pub(super) fn read_quoted_gap(
@@ -165,23 +249,15 @@ impl<T: Input> Reader<T> {
             (spec.inner_text_at quote indent start spec.no_gap (cursor_of self.new))) }
         ensures shorter { OnOk result (IsShorter self.old self.new) }
     {
-        if self.look() == '\\' {
-            return self.read_escaped_break(quote, indent, start, text);
-        }
-        blanks.clear();
-        self.read_blanks(blanks)?;
         let c = self.look();
         if is_break(c) {
-            self.skip_line_break();
-            return self.read_quoted_lines(false, indent, start, text);
+            self.skip_seen_break(c);
+            let escaped = false;
+            return self.read_quoted_lines(escaped, indent, start, text);
         }
-        if is_z(c) {
-            return Err(Stop::Refused(Refusal {
-                text: FaultText::EndInsideQuotes,
-                mark: start,
-            }));
+        if c == '\\' {
+            return self.read_escaped_break(quote, indent, start, text);
         }
-        text.push_str(blanks.as_str())?;
-        Ok(())
+        self.read_blank_gap(quote, indent, start, blanks, text)
     }
 }

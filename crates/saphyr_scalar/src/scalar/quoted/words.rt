@@ -42,6 +42,11 @@ impl CharSet for InSingle {
     }
 
     #[inline(always)]
+    fn has_wide(_byte: u8) -> bool {
+        true
+    }
+
+    #[inline(always)]
     fn has_ascii(byte: u8) -> bool {
         is_in_single(byte)
     }
@@ -65,6 +70,11 @@ impl CharSet for InDouble {
 
     fn has(c: char) -> bool {
         is_literal(Quote::Double, c)
+    }
+
+    #[inline(always)]
+    fn has_wide(_byte: u8) -> bool {
+        true
     }
 
     #[inline(always)]

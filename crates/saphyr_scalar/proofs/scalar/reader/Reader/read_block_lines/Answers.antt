@@ -24,7 +24,7 @@ returns-then-not-is_break g c =
     c.in_ok-push_break_before.ensures c.in_ok-move_run.ensures in
     ap Ok (sym c.loop-style.invariant.same ∙ one.0
     ∙ cut c.args.style c.args.indentation _ (string_bytes c.move_run.new.text) (cursor_of c.move_run.new.self)
-    (cursor_of c.look.new.self) _ c.look.ensures.same c.look.ensures.value
+    (cursor_of c.look-c.new.self) _ c.look-c.ensures.same c.look-c.ensures.value
     (sym c.is_break.ensures.test ∙ c.if-not-is_break.true) one.1)
 
 pub loop-style-smaller : goal.loop-style-smaller
@@ -37,8 +37,8 @@ loop-style-smaller g c =
     (sym c.block_line_starts.ensures.value ∙ c.if-not-block_line_starts.false) c.next_is_blank-below.ensures
     c.in_ok-push_break_before.ensures c.in_ok-move_run.ensures in
     let next = broken c.args.style c.args.indentation c.next_is_blank-below.result (string_bytes c.move_run.new.text)
-    (cursor_of c.move_run.new.self) _ (cursor_of c.skip_line_break.new.self) _ c.look.ensures.same
-    c.look.ensures.value (sym c.is_break.ensures.test ∙ c.if-not-is_break.false) c.skip_line_break.ensures in
+    (cursor_of c.move_run.new.self) _ (cursor_of c.skip_seen_break.new.self) _ c.look-c.ensures.same
+    c.look-c.ensures.value (sym c.is_break.ensures.test ∙ c.if-not-is_break.false) c.skip_seen_break.ensures in
     at_most_below _ _ _ next.1 one.2
 
 pub loop-style-preserved : goal.loop-style-preserved
@@ -51,6 +51,6 @@ loop-style-preserved g c =
     (sym c.block_line_starts.ensures.value ∙ c.if-not-block_line_starts.false) c.next_is_blank-below.ensures
     c.in_ok-push_break_before.ensures c.in_ok-move_run.ensures in
     let next = broken c.args.style c.args.indentation c.next_is_blank-below.result (string_bytes c.move_run.new.text)
-    (cursor_of c.move_run.new.self) _ (cursor_of c.skip_line_break.new.self) _ c.look.ensures.same
-    c.look.ensures.value (sym c.is_break.ensures.test ∙ c.if-not-is_break.false) c.skip_line_break.ensures in
+    (cursor_of c.move_run.new.self) _ (cursor_of c.skip_seen_break.new.self) _ c.look-c.ensures.same
+    c.look-c.ensures.value (sym c.is_break.ensures.test ∙ c.if-not-is_break.false) c.skip_seen_break.ensures in
     record { same = next.0 ∙ sym one.0 ∙ c.loop-style.invariant.same; few = none_before _ }

@@ -1,0 +1,7 @@
+use Rattle.saphyr_values.specs.declared.flow.Quote.TheVariants.{Double}
+use Rattle.saphyr_input.proofs.Ascii.{wide_first}
+use Rattle.saphyr_scalar.proofs.WideSets.{wide_is_literal}
+use Rattle.saphyr_scalar.proofs.scalar.quoted.words.InDoubleCharSet.has_wide.Goals as goal
+
+pub returns : goal.returns
+returns c = λ other x first. wide_is_literal Double x (wide_first c.args._byte x c.requires first)
