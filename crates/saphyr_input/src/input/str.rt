@@ -6,8 +6,8 @@ ghost use Rattle.saphyr_input.specs.Places as spec;
 mod text;
 
 use self::text::{
-    ascii_run, begins_with_2, behind, first_byte, is_marker, nth_char, run, second_char, spaces,
-    split_blanks, split_first, words,
+    ascii_run, begins_with_2, behind, first_byte, is_marker, nth_char, run, run_here, second_char,
+    spaces, split_blanks, split_first, words,
 };
 use crate::char_set::{Alpha, Blank, CharSet, NonBreak, NonSpace, SpacedSet};
 use crate::char_traits::{
@@ -302,7 +302,7 @@ impl Input for StrInput<'_> {
 
     fn fetch_while<C: CharSet>(&mut self, out: &mut String) -> Result<usize, AllocError> {
         self.loaded = self.loaded.max(1);
-        let (count, rest) = run::<C>(self.rest);
+        let (count, rest) = run_here::<C>(self.rest);
         self.fetch(count, rest, out)
     }
 

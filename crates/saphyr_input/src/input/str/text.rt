@@ -205,7 +205,7 @@ fn begins_wide(text: &str) -> bool
 
 // The same, for speed without a call if all characters are ASCII.
 #[inline(always)]
-fn run_here<C: CharSet>(text: &str) -> (usize, &str)
+pub(super) fn run_here<C: CharSet>(text: &str) -> (usize, &str)
     ensures count { result.0 ≡ prefix_len C.test (chars text.now) }
     ensures rest { chars result.1.now ≡ drop result.0 (chars text.now) }
 {
