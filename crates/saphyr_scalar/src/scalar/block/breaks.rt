@@ -16,7 +16,6 @@ pub(crate) struct BlockEnd {
 }
 
 // Appends this many line feeds.
-#[inline(never)]
 pub(crate) fn push_line_feeds(text: &mut String, count: usize) -> Result<(), AllocError>
     ensures { OnOk result (string_bytes text.new
         ≡ string_bytes text.old ++ encode_utf8_all (line_feeds count)) }
