@@ -306,6 +306,7 @@ impl Input for StrInput<'_> {
         self.fetch(count, rest, out)
     }
 
+    #[inline(always)]
     fn fetch_words<C: SpacedSet>(&mut self, out: &mut String) -> Result<usize, AllocError> {
         self.loaded = self.loaded.max(1);
         let (count, rest) = words::<C>(self.rest);
