@@ -1,16 +1,18 @@
 -- Maps from texts, as lists of names.
-use Rattle.std.proofs.Common.{◌≡◌, arith, ℕ, length, List, [], ◌∷◌, Option, Some, None, refl, sym, ap, ◌∙◌, cond, Bool, true, false, ◌||◌}
+use Rattle.std.proofs.Common.{◌≡◌, arith, ℕ, length, List, [], ◌∷◌, Option, Some, None, refl, sym, ap, ◌∙◌, cond, Bool, true, false, true≢false, ◌||◌, nat_eq}
 use Rattle.std.specs.Prelude.{map, String, string_bytes, string_cmp, option_map, is_some}
 use Rattle.std.specs.BTreeMap.{BTreeMap, get_by, insert_entry, is_at}
 use Rattle.std.specs.BTreeSet.{BTreeSet, contains_by, insert_key}
-use Rattle.std.specs.List.{list_any}
-use Rattle.std.specs.Cmp.Lexicographic.{slice_cmp}
+use Rattle.std.specs.List.{AllZip, fold, list_any}
+use Rattle.std.specs.Cmp.Lexicographic.{slice_cmp, pointwise}
+use Rattle.std.proofs.lemmas.Map.Lookups.{exact_bytes}
+use Rattle.std.proofs.lemmas.Map.Text.{is_eq-slice_cmp}
 use Rattle.std.specs.Map.{lookup, keys_of}
-use Rattle.std.specs.Ordering.{nat_cmp, match_ordering}
+use Rattle.std.specs.Ordering.{nat_cmp, match_ordering, is_eq}
 use Rattle.std.specs.declared.cmp.Ordering.{Ordering}
 use Rattle.std.specs.declared.cmp.Ordering.TheVariants.{Less, Equal, Greater}
 use Rattle.saphyr_machine.specs.Steps.Machine.{Names, meaning, with_meaning, is_listed, with_name}
-use Rattle.saphyr_machine.specs.Names.{ids_of, texts_of, names_of}
+use Rattle.saphyr_machine.specs.Names.{ids_of, with_recent, texts_of, names_of}
 
 abbrev pub seen : {A X Z : Type 0} → (X → Z) → List (String A × X) → Names Z
 seen {A} {X} {Z} f es = map (λ (e : String A × X). (string_bytes e.0, f e.1)) es
@@ -55,6 +57,74 @@ ids_given m n name id e = rw e (inserted (λ (x : ℕ). x) m.entries name id)
 pub ids_meaning : {A : Type 0} (m : BTreeMap (String A) ℕ) (name : List ℕ)
     → get_by (λ (k : String A). slice_cmp nat_cmp name (string_bytes k)) m ≡ meaning name (ids_of m)
 ids_meaning m name = sym (kept _) ∙ found_by_bytes (λ (x : ℕ). x) name m.entries
+
+-- ## Names that wait for an alias
+
+-- what a name means after a name was given a meaning
+meaning_with : {Z : Type 0} (name given : List ℕ) (z : Z) (names : Names Z) → meaning name (with_meaning given z names)
+    ≡ cond (is_at (slice_cmp nat_cmp name) given) (Some z) (meaning name names)
+meaning_with name given z [] = refl
+meaning_with {Z} name given z (e ∷ es) = by (slice_cmp nat_cmp given e.0) refl (meaning_with name given z es)
+  where
+    twice : (b : Bool) (m : Option Z) → cond b (Some z) m ≡ cond b (Some z) (cond b (Some e.1) m)
+    twice true m = refl
+    twice false m = refl
+
+    swapped : (o r : Ordering) → slice_cmp nat_cmp name given ≡ o → slice_cmp nat_cmp name e.0 ≡ r
+        → slice_cmp nat_cmp given e.0 ≡ Greater → (m : Option Z)
+        → cond (is_eq r) (Some e.1) (cond (is_eq o) (Some z) m) ≡ cond (is_eq o) (Some z) (cond (is_eq r) (Some e.1) m)
+    swapped Less r f g h m = refl
+    swapped Greater r f g h m = refl
+    swapped Equal Less f g h m = refl
+    swapped Equal Greater f g h m = refl
+    swapped Equal Equal f g h m = absurd (true≢false
+        (ap is_eq (sym g ∙ ap (λ (n : List ℕ). slice_cmp nat_cmp n e.0) (exact_bytes name given f) ∙ h)))
+
+    by : (r : Ordering) → slice_cmp nat_cmp given e.0 ≡ r
+        → meaning name (with_meaning given z es)
+        ≡ cond (is_at (slice_cmp nat_cmp name) given) (Some z) (meaning name es)
+        → meaning name (match_ordering r ((given, z) ∷ e ∷ es) ((e.0, z) ∷ es) (e ∷ with_meaning given z es))
+        ≡ cond (is_at (slice_cmp nat_cmp name) given) (Some z) (meaning name (e ∷ es))
+    by Less p later = refl
+    by Equal p later =
+        twice (is_at (slice_cmp nat_cmp name) e.0) (meaning name es)
+        ∙ ap (λ (n : List ℕ). cond (is_at (slice_cmp nat_cmp name) n) (Some z) (meaning name (e ∷ es)))
+        (sym (exact_bytes given e.0 p))
+    by Greater p later =
+        ap (λ (m : Option Z). cond (is_at (slice_cmp nat_cmp name) e.0) (Some e.1) m) later
+        ∙ swapped (slice_cmp nat_cmp name given) (slice_cmp nat_cmp name e.0) refl refl p (meaning name es)
+
+-- the id of a name after the recent names, where it is `id` before them
+abbrev pub latest : {A : Type 0} → List ℕ → Option ℕ → List (String A × ℕ) → Option ℕ
+latest {A} name id recent = fold
+    (λ (found : Option ℕ) (e : String A × ℕ). cond (is_at (slice_cmp nat_cmp name) (string_bytes e.0)) (Some e.1) found)
+    id recent
+
+pub recent_meaning : {A : Type 0} (name : List ℕ) (names : Names ℕ) (recent : List (String A × ℕ))
+    → meaning name (with_recent recent names) ≡ latest name (meaning name names) recent
+recent_meaning name names [] = refl
+recent_meaning {A} name names (e ∷ es) =
+    recent_meaning name (with_meaning (string_bytes e.0) e.1 names) es
+    ∙ ap (λ (id : Option ℕ). latest name id es) (meaning_with name (string_bytes e.0) e.1 names)
+
+-- one more recent name, which is compared by its bytes
+pub one_more : {A : Type 0} (name : List ℕ) (e : String A × ℕ) (b : Bool) (before after : Option ℕ)
+    → b ≡ pointwise nat_eq name (string_bytes e.0) → cond b (Some e.1) before ≡ after
+    → after ≡ cond (is_at (slice_cmp nat_cmp name) (string_bytes e.0)) (Some e.1) before
+one_more name e b before after c d =
+    sym d ∙ ap (λ (is : Bool). cond is (Some e.1) before) (c ∙ sym (is_eq-slice_cmp name (string_bytes e.0)))
+
+pub recent_copied : {A : Type 0} (names : Names ℕ) (es fs : List (String A × ℕ))
+    → AllZip (λ (p q : String A × ℕ). (string_bytes q.0 ≡ string_bytes p.0) × (q.1 ≡ p.1)) es fs
+    → with_recent fs names ≡ with_recent es names
+recent_copied names [] [] e = refl
+recent_copied names [] (y ∷ ys) e = absurd e
+recent_copied names (x ∷ xs) [] e = absurd e
+recent_copied names (x ∷ xs) (y ∷ ys) e =
+    recent_copied (with_meaning (string_bytes y.0) y.1 names) xs ys e.1
+    ∙ λ i. with_recent xs (with_meaning (e.0.0 i) (e.0.1 i) names)
+
+-- ## Maps to texts
 
 pub texts_given : {A : Type 0} (m n : BTreeMap (String A) (String A)) (handle prefix : String A)
     → n.entries ≡ insert_entry string_cmp m.entries handle prefix

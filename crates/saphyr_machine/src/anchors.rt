@@ -1,29 +1,49 @@
 //! The ids of anchors, and which of them an alias means (YAML 1.2.2, 3.2.2.2, 6.9.2 and 7.1).
 
 ghost use Rattle.std.specs.Prelude.{◌≡◌, ℕ, Ok, string_bytes};
+ghost use Rattle.saphyr_scalar.specs.Views.Reader.{Moves};
+ghost use Rattle.saphyr_machine.specs.Names.{ids_of, with_recent};
 ghost use Rattle.saphyr_machine.specs.Steps.Machine as spec;
 
 use saphyr_scalar::Stop;
 use std::alloc::{AllocError, Global};
 use std::collections::BTreeMap;
 use std::marker::Model;
+use std::mem::replace;
+
+/// How many recent anchors an alias may look through one by one. The map is faster for more.
+const MOST_RECENT: usize = 8;
 
 /// The anchors of a document by their names, and the id that was given last.
 ///
 /// Ids go on counting over all documents.
 #[derive(Drop)]
 pub struct Anchors {
+    // The ids by the names, without those that were given since.
     ids: BTreeMap<String, usize>,
+    // The names that were given ids since, with these, the latest last. Most anchors have no alias, and to put a name
+    // into the map costs most of what it costs to read an anchor. So that waits for an alias.
+    recent: Vec<(String, usize)>,
     last: usize,
 }
 
 impl Model for Anchors {
     ghost use Rattle.saphyr_machine.specs.Steps.Machine.{Anchors as Seen};
-    ghost use Rattle.saphyr_machine.specs.Names.{ids_of};
+    ghost use Rattle.saphyr_machine.specs.Names.{ids_of, with_recent};
 
     ghost Value = { Seen };
 
-    ghost view = { λ a. record { ids = ids_of a.ids; last = a.last } };
+    ghost view = { λ a. record { ids = with_recent a.recent.items (ids_of a.ids); last = a.last } };
+}
+
+// Gives the ids to the names, in their order.
+fn put_all(ids: &mut BTreeMap<String, usize>, recent: Vec<(String, usize)>) -> Result<(), Stop>
+    ensures { Moves (λ _. ids_of ids.new) result (Ok (with_recent recent.items (ids_of ids.old))) }
+{
+    for (name, id) in recent {
+        ids.insert(name, id)?;
+    }
+    Ok(())
 }
 
 impl Anchors {
@@ -35,6 +55,7 @@ impl Anchors {
     {
         Anchors {
             ids: BTreeMap::new(alloc),
+            recent: Vec::new(alloc),
             last: 0,
         }
     }
@@ -44,35 +65,52 @@ impl Anchors {
         ensures { self.new ≡ spec.without_ids self.old }
     {
         self.ids.clear();
+        self.recent.clear();
     }
 
-    #[tactic(auto, using(crate::proofs::Names::ids_given))]
     /// Gives the next id to the name, which may already have one.
     pub fn register(&mut self, name: String) -> Result<usize, Stop>
         ensures { Moves {Y = ℕ × spec.Anchors} (λ id. (id, self.new)) result
             (Ok (spec.next_id self.old, spec.with_anchor (string_bytes name) self.old)) }
     {
         let id = self.last.saturating_add(1);
-        self.ids.insert(name, id)?;
+        self.recent.push((name, id))?;
         self.last = id;
         Ok(id)
     }
 
-    #[tactic(auto, using(crate::proofs::Names::ids_meaning))]
+    /// Puts the recent names into the map, if they are many. To be called before an alias looks for its name.
+    pub fn settle(&mut self) -> Result<(), Stop>
+        ensures { Moves (λ _. self.new) result (Ok self.old) }
+    {
+        if self.recent.len() <= MOST_RECENT {
+            return Ok(());
+        }
+        let none = Vec::new(*self.recent.allocator());
+        let recent = replace(&mut self.recent, none);
+        put_all(&mut self.ids, recent)
+    }
+
     /// The id that the name has.
     pub fn id_of(&self, name: &str) -> Option<usize>
         ensures { result ≡ spec.meaning name.now self.now.ids }
     {
-        self.ids.get(name).copied()
+        let mut id = self.ids.get(name).copied();
+        for (recent, its_id) in &self.recent {
+            if name == recent.as_str() {
+                id = Some(*its_id);
+            }
+        }
+        id
     }
 
-    #[tactic(auto, using(crate::proofs::Copies::ids_copied))]
     /// The same names with the same ids.
     pub fn try_clone(&self) -> Result<Anchors, AllocError>
         ensures { IfOk result (λ copy. copy ≡ self.now) }
     {
         Ok(Anchors {
             ids: self.ids.clone()?,
+            recent: self.recent.clone()?,
             last: self.last,
         })
     }

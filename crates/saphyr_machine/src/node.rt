@@ -195,6 +195,7 @@ impl<T: Input> Machine<T> {
     ) -> Result<(), Stop>
         ensures { TellsBy (spec.alias_node name.now span) self.old result next.new self.new }
     {
+        self.anchors.settle()?;
         match self.anchors.id_of(name) {
             Some(id) => {
                 self.pop();
