@@ -1,10 +1,12 @@
 -- Maps from texts, as lists of names.
-use Rattle.std.proofs.Common.{◌≡◌, arith, ℕ, length, List, [], ◌∷◌, Option, Some, None, refl, sym, ap, ◌∙◌, cond, Bool, true, false, true≢false, ◌||◌, nat_eq}
+use Rattle.std.proofs.Common.{◌≡◌, arith, ℕ, length, List, [], ◌∷◌, Option, Some, None, refl, sym, ap, ◌∙◌, cond, Bool, true, false, true≢false, ◌||◌, nat_eq, ◌+◌, ◌<◌, ◌++◌, take, get_or}
 use Rattle.std.specs.Prelude.{map, String, string_bytes, string_cmp, option_map, is_some}
 use Rattle.std.specs.BTreeMap.{BTreeMap, get_by, insert_entry, is_at}
 use Rattle.std.specs.BTreeSet.{BTreeSet, contains_by, insert_key}
-use Rattle.std.specs.List.{AllZip, fold, list_any}
+use Rattle.std.specs.List.{AllZip, list_any}
 use Rattle.std.specs.Cmp.Lexicographic.{slice_cmp, pointwise}
+use Rattle.std.proofs.lemmas.List.{take_more}
+use Rattle.std.proofs.lemmas.List.Sums.{fold-append}
 use Rattle.std.proofs.lemmas.Map.Lookups.{exact_bytes}
 use Rattle.std.proofs.lemmas.Map.Text.{is_eq-slice_cmp}
 use Rattle.std.specs.Map.{lookup, keys_of}
@@ -94,25 +96,18 @@ meaning_with {Z} name given z (e ∷ es) = by (slice_cmp nat_cmp given e.0) refl
         ap (λ (m : Option Z). cond (is_at (slice_cmp nat_cmp name) e.0) (Some e.1) m) later
         ∙ swapped (slice_cmp nat_cmp name given) (slice_cmp nat_cmp name e.0) refl refl p (meaning name es)
 
--- the id of a name after the recent names, where it is `id` before them
-abbrev pub latest : {A : Type 0} → List ℕ → Option ℕ → List (String A × ℕ) → Option ℕ
-latest {A} name id recent = fold
-    (λ (found : Option ℕ) (e : String A × ℕ). cond (is_at (slice_cmp nat_cmp name) (string_bytes e.0)) (Some e.1) found)
-    id recent
-
-pub recent_meaning : {A : Type 0} (name : List ℕ) (names : Names ℕ) (recent : List (String A × ℕ))
-    → meaning name (with_recent recent names) ≡ latest name (meaning name names) recent
-recent_meaning name names [] = refl
-recent_meaning {A} name names (e ∷ es) =
-    recent_meaning name (with_meaning (string_bytes e.0) e.1 names) es
-    ∙ ap (λ (id : Option ℕ). latest name id es) (meaning_with name (string_bytes e.0) e.1 names)
-
--- one more recent name, which is compared by its bytes
-pub one_more : {A : Type 0} (name : List ℕ) (e : String A × ℕ) (b : Bool) (before after : Option ℕ)
-    → b ≡ pointwise nat_eq name (string_bytes e.0) → cond b (Some e.1) before ≡ after
-    → after ≡ cond (is_at (slice_cmp nat_cmp name) (string_bytes e.0)) (Some e.1) before
-one_more name e b before after c d =
-    sym d ∙ ap (λ (is : Bool). cond is (Some e.1) before) (c ∙ sym (is_eq-slice_cmp name (string_bytes e.0)))
+-- what a name means after one more recent name, which is compared by its bytes
+pub one_more : {A : Type 0} (name : List ℕ) (names : Names ℕ) (recent : List (String A × ℕ)) (n : ℕ)
+    (e : String A × ℕ) (same : Bool) → n < length recent → e ≡ get_or recent n e
+    → same ≡ pointwise nat_eq name (string_bytes e.0) → meaning name (with_recent (take (n + 1) recent) names)
+    ≡ cond same (Some e.1) (meaning name (with_recent (take n recent) names))
+one_more {A} name names recent n e same h is c =
+    ap (λ (es : List (String A × ℕ)). meaning name (with_recent es names))
+    (take_more recent n e h ∙ ap (λ (x : String A × ℕ). take n recent ++ x ∷ []) (sym is))
+    ∙ ap (λ (ns : Names ℕ). meaning name ns) (fold-append _ names (take n recent) (e ∷ []))
+    ∙ meaning_with name (string_bytes e.0) e.1 (with_recent (take n recent) names)
+    ∙ ap (λ (b : Bool). cond b (Some e.1) (meaning name (with_recent (take n recent) names)))
+    (is_eq-slice_cmp name (string_bytes e.0) ∙ sym c)
 
 pub recent_copied : {A : Type 0} (names : Names ℕ) (es fs : List (String A × ℕ))
     → AllZip (λ (p q : String A × ℕ). (string_bytes q.0 ≡ string_bytes p.0) × (q.1 ≡ p.1)) es fs

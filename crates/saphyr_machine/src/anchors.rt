@@ -1,6 +1,7 @@
 //! The ids of anchors, and which of them an alias means (YAML 1.2.2, 3.2.2.2, 6.9.2 and 7.1).
 
 ghost use Rattle.std.specs.Prelude.{◌≡◌, ℕ, Ok, string_bytes};
+ghost use Rattle.std.specs.Option.{option_or};
 ghost use Rattle.saphyr_scalar.specs.Views.Reader.{Moves};
 ghost use Rattle.saphyr_machine.specs.Names.{ids_of, with_recent};
 ghost use Rattle.saphyr_machine.specs.Steps.Machine as spec;
@@ -44,6 +45,22 @@ fn put_all(ids: &mut BTreeMap<String, usize>, recent: Vec<(String, usize)>) -> R
         ids.insert(name, id)?;
     }
     Ok(())
+}
+
+// The id that the name was given last, if it is among these names. An alias often means the anchor right before it.
+fn latest_id(recent: &[(String, usize)], name: &str) -> Option<usize>
+    ensures { (names : spec.Names ℕ) → spec.meaning name.now (with_recent recent.now names)
+        ≡ option_or result (spec.meaning name.now names) }
+{
+    let mut left = recent.len();
+    while left > 0 {
+        left -= 1;
+        let (other, id) = &recent[left];
+        if name == other.as_str() {
+            return Some(*id);
+        }
+    }
+    None
 }
 
 impl Anchors {
@@ -95,13 +112,10 @@ impl Anchors {
     pub fn id_of(&self, name: &str) -> Option<usize>
         ensures { result ≡ spec.meaning name.now self.now.ids }
     {
-        let mut id = self.ids.get(name).copied();
-        for (recent, its_id) in &self.recent {
-            if name == recent.as_str() {
-                id = Some(*its_id);
-            }
+        match latest_id(&self.recent, name) {
+            Some(id) => Some(id),
+            None => self.ids.get(name).copied(),
         }
-        id
     }
 
     /// The same names with the same ids.
