@@ -1,6 +1,6 @@
 //! The names of anchors and aliases, taken off a text (YAML 1.2.2, 6.9.2 and 7.1).
 
-ghost use Rattle.std.specs.Prelude.{◌≡◌, ℕ, ◌<◌, List, length, refl};
+ghost use Rattle.std.specs.Prelude.{◌≡◌, ℕ, ◌<◌, List, [], IfOk, length, refl, string_bytes};
 ghost use Rattle.saphyr_input.specs.Classes as class;
 ghost use Rattle.saphyr_scalar.specs.Steps.Anchor as spec;
 
@@ -9,7 +9,7 @@ use crate::scalar::reader::Reader;
 use saphyr_input::char_set::CharSet;
 use saphyr_input::char_traits::is_anchor_char;
 use saphyr_input::input::Input;
-use std::alloc::Global;
+use std::alloc::{AllocError, Global};
 
 // The characters of an anchor's name.
 pub(crate) struct AnchorSet;
@@ -31,6 +31,18 @@ impl CharSet for AnchorSet {
 impl<T: Input> Reader<T> {
     ghost use Rattle.saphyr_scalar.specs.Views.Reader.{cursor_of, ReadsTextBy};
 
+    // An empty text for the name that begins here. An anchor's name is kept, so it begins in memory of its own, of
+    // which it needs less.
+    fn begin_name(&mut self, alloc: Global) -> Result<String, AllocError>
+        ensures same { cursor_of self.new ≡ cursor_of self.old }
+        ensures empty { IfOk result (λ name. string_bytes name ≡ []) }
+    {
+        if self.look() == '*' {
+            return self.spare.begin(alloc);
+        }
+        Ok(String::new(alloc))
+    }
+
     /// Takes off an anchor or an alias (YAML 1.2.2, 6.9.2 and 7.1), from its `&` or `*` on, and
     /// returns its name.
     ///
@@ -41,8 +53,8 @@ impl<T: Input> Reader<T> {
         ensures { ReadsTextBy spec.anchor self.old result self.new }
     {
         let start = self.mark;
+        let mut name = self.begin_name(alloc)?;
         self.skip_non_blank();
-        let mut name = String::new(alloc);
         self.read_run::<AnchorSet>(&mut name)?;
         if name.is_empty() {
             return Err(Stop::Refused(Refusal {

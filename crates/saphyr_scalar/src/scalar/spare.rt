@@ -2,6 +2,7 @@
 
 ghost use Rattle.std.specs.Prelude.{◌≡◌, [], IfOk, string_bytes};
 
+use crate::scalar::tag::TagParts;
 use std::alloc::{AllocError, Global};
 
 /// How many bytes a scalar's text has room for at first. Most scalars need no more, and a smaller
@@ -12,27 +13,64 @@ pub(super) const FIRST_ROOM: usize = 24;
 /// short ones up to the end of the input.
 const MOST_ROOM: usize = 4096;
 
-/// The memory of a text that is no longer needed, if there is one.
+/// The memory of texts that are no longer needed, if there are any.
 ///
 /// To take memory and give it back costs more than to read a short text. What is kept here has no influence on the
 /// texts that are read.
 #[derive(Drop)]
 pub struct Spare {
+    // For a scalar or the name of an alias.
     text: Option<String>,
+    // For the two texts of a tag.
+    handle: Option<String>,
+    suffix: Option<String>,
+}
+
+// Whether the memory of a text is kept: it has not little room, and not very much.
+#[inline(always)]
+fn is_kept(text: &String) -> bool {
+    let room = text.capacity();
+    FIRST_ROOM <= room && room <= MOST_ROOM
+}
+
+// An empty text, in the memory that is kept or in new memory with this much room.
+#[inline(always)]
+fn begin_in(kept: &mut Option<String>, alloc: Global, room: usize) -> Result<String, AllocError>
+    ensures { IfOk result (λ text. string_bytes text ≡ []) }
+{
+    if let Some(mut text) = kept.take() {
+        text.clear();
+        return Ok(text);
+    }
+    String::with_capacity(alloc, room)
 }
 
 impl Spare {
     /// No memory.
     pub fn new() -> Self {
-        Spare { text: None }
+        Spare {
+            text: None,
+            handle: None,
+            suffix: None,
+        }
     }
 
     /// Keeps the memory of a text for the next one, unless that has little room or very much.
     #[inline(always)]
     pub fn keep(&mut self, text: String) {
-        let room = text.capacity();
-        if FIRST_ROOM <= room && room <= MOST_ROOM {
+        if is_kept(&text) {
             self.text = Some(text);
+        }
+    }
+
+    /// Keeps the memory of the texts of a tag for the next one in the same way.
+    pub fn keep_tag(&mut self, tag: TagParts) {
+        let TagParts { handle, suffix } = tag;
+        if is_kept(&handle) {
+            self.handle = Some(handle);
+        }
+        if is_kept(&suffix) {
+            self.suffix = Some(suffix);
         }
     }
 
@@ -49,10 +87,20 @@ impl Spare {
     pub(super) fn begin_with(&mut self, alloc: Global, room: usize) -> Result<String, AllocError>
         ensures { IfOk result (λ text. string_bytes text ≡ []) }
     {
-        if let Some(mut text) = self.text.take() {
-            text.clear();
-            return Ok(text);
-        }
-        String::with_capacity(alloc, room)
+        begin_in(&mut self.text, alloc, room)
+    }
+
+    // The same for a tag's handle.
+    pub(super) fn begin_handle(&mut self, alloc: Global) -> Result<String, AllocError>
+        ensures { IfOk result (λ text. string_bytes text ≡ []) }
+    {
+        begin_in(&mut self.handle, alloc, FIRST_ROOM)
+    }
+
+    // The same for a tag's suffix.
+    pub(super) fn begin_suffix(&mut self, alloc: Global) -> Result<String, AllocError>
+        ensures { IfOk result (λ text. string_bytes text ≡ []) }
+    {
+        begin_in(&mut self.suffix, alloc, FIRST_ROOM)
     }
 }

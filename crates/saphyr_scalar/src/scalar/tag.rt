@@ -1,6 +1,6 @@
 //! Tags, taken off a text, with their percent escapes decoded (YAML 1.2.2, 6.9.1 and 5.6).
 
-ghost use Rattle.std.specs.Prelude.{◌≡◌, ℕ, ◌+◌, ◌*◌, ◌<◌, ◌≤◌, ◌^◌, List, [], length, slice_index, string_bytes, Ok, IfOk, refl};
+ghost use Rattle.std.specs.Prelude.{◌≡◌, ℕ, ◌+◌, ◌*◌, ◌<◌, ◌≤◌, ◌^◌, List, [], length, slice_index, string_bytes, Ok, IfOk, codes, refl};
 ghost use Rattle.saphyr_input.specs.Indicators.{exclamation_mark};
 ghost use Rattle.saphyr_input.specs.Classes as class;
 ghost use Rattle.saphyr_scalar.specs.Steps.Quoted as run;
@@ -111,11 +111,31 @@ fn leading_bits(byte: u32) -> u32
     }
 }
 
-// The handle `!word!`, or `!!` if the word is empty.
+// The handle `!`, in the memory of an empty text.
+fn primary_handle(mut text: String) -> Result<String, AllocError>
+    requires { string_bytes text ≡ [] }
+    ensures ok { IfOk result (λ handle. string_bytes handle ≡ codes "!") }
+{
+    text.push('!')?;
+    Ok(text)
+}
+
+// The handle `!word!`, or `!!` if the word is empty, in the memory of an empty text.
+fn handle_in(mut text: String, word: &str) -> Result<String, AllocError>
+    requires { string_bytes text ≡ [] }
+    ensures { IfOk result (λ handle. string_bytes handle ≡ spec.handle_of word.now) }
+{
+    text.push('!')?;
+    text.push_str(word)?;
+    text.push('!')?;
+    Ok(text)
+}
+
+// The same in new memory.
 pub(crate) fn named_handle(alloc: Global, word: &str) -> Result<String, AllocError>
     ensures { IfOk result (λ handle. string_bytes handle ≡ spec.handle_of word.now) }
 {
-    format!(in alloc; "!{word}!")
+    handle_in(String::new(alloc), word)
 }
 
 impl<T: Input> Reader<T> {
@@ -255,7 +275,7 @@ impl<T: Input> Reader<T> {
     {
         let start = self.mark;
         self.skip_n_non_blank(2);
-        let mut uri = String::new(alloc);
+        let mut uri = self.spare.begin_suffix(alloc)?;
         self.read_uri_characters(UriSet::Uri, start, &mut uri)?;
         if self.look() != '>' {
             return Err(Stop::Refused(Refusal {
@@ -270,17 +290,19 @@ impl<T: Input> Reader<T> {
         })
     }
 
-    // Takes off the suffix of a tag after `!!` or `!word!`.
+    // Takes off the suffix of a tag after `!!` or `!word!`. It begins in the memory of the word.
     #[tactic(auto, unfolding(crate::specs::Steps::Tag::named_tail, crate::specs::Steps::Tag::named_tag))]
     fn read_named_suffix(
         &mut self,
         alloc: Global,
-        word: &str,
+        word: String,
         start: Marker,
     ) -> Result<TagParts, Stop>
-        ensures { ReadsBy spec.seen_tag (spec.named_tail start word.now) self.old result self.new }
+        ensures { ReadsBy spec.seen_tag (spec.named_tail start (string_bytes word)) self.old result self.new }
     {
-        let mut suffix = String::new(alloc);
+        let handle = handle_in(self.spare.begin_handle(alloc)?, word.as_str())?;
+        let mut suffix = word;
+        suffix.clear();
         self.read_uri_characters(UriSet::Suffix, start, &mut suffix)?;
         if suffix.is_empty() {
             return Err(Stop::Refused(Refusal {
@@ -288,7 +310,6 @@ impl<T: Input> Reader<T> {
                 mark: start,
             }));
         }
-        let handle = named_handle(alloc, word)?;
         Ok(TagParts { handle, suffix })
     }
 
@@ -300,15 +321,15 @@ impl<T: Input> Reader<T> {
     {
         let start = self.mark;
         self.skip_non_blank();
-        let mut word = String::new(alloc);
+        let mut word = self.spare.begin_suffix(alloc)?;
         self.read_run::<Alpha>(&mut word)?;
         if self.look() == '!' {
             self.skip_non_blank();
-            return self.read_named_suffix(alloc, word.as_str(), start);
+            return self.read_named_suffix(alloc, word, start);
         }
         let mut suffix = word;
         self.read_uri_characters(UriSet::Suffix, start, &mut suffix)?;
-        let mark = String::from_str(alloc, "!")?;
+        let mark = primary_handle(self.spare.begin_handle(alloc)?)?;
         if suffix.is_empty() {
             return Ok(TagParts {
                 handle: suffix,

@@ -1,19 +1,19 @@
 use Rattle.std.proofs.Common.{string_bytes, sym, ap, ◌∙◌, subst}
 use Rattle.std.specs.Prelude.{◌==◌}
-use Rattle.saphyr_scalar.specs.Steps.Tag.{seen_tag, named_tail}
+use Rattle.saphyr_scalar.specs.Steps.Tag.{seen_tag}
 use Rattle.saphyr_scalar.specs.Views.Reader.{cursor_of, Moves}
 use Rattle.saphyr_scalar.proofs.Plain.Pieces.{moves_failed}
 use Rattle.saphyr_scalar.proofs.Properties.TagSteps.{moves_unrefused, behind_word, mark_left, named_from, primary_refused, alone_read, primary_read}
 use Rattle.saphyr_scalar.proofs.scalar.reader.Reader.read_shorthand_tag.Goals as goal
 
 pub returns-in_err-read_run : goal.returns-in_err-read_run
-returns-in_err-read_run g c = moves_unrefused _ _ _ _ _ c.from_residual.ensures.1 c.in_err-read_run.ensures
+returns-in_err-read_run g c = moves_unrefused _ _ _ _ _ c.from_residual-in_err-read_run.ensures.1 c.in_err-read_run.ensures
 
 pub skip_non_blank-requires-then-look-eq33 : goal.skip_non_blank-requires-then-look-eq33
 skip_non_blank-requires-then-look-eq33 g c =
     let behind = behind_word (cursor_of c.args.self.now) (cursor_of c.skip_non_blank.new.self)
     (cursor_of c.read_run.new.self) (cursor_of c.look.new.self) _ (string_bytes c.read_run.new.text)
-    c.look.result c.skip_non_blank.ensures c.new-word.ensures.bytes c.in_ok-read_run.ensures c.look.ensures.value
+    c.look.result c.skip_non_blank.ensures c.in_ok-word.ensures c.in_ok-read_run.ensures c.look.ensures.value
     c.look.ensures.same in
     mark_left _ _ _ _ behind c.if-look-eq33.true
 
@@ -21,19 +21,17 @@ pub returns-then-look-eq33 : goal.returns-then-look-eq33
 returns-then-look-eq33 g c =
     let behind = behind_word (cursor_of c.args.self.now) (cursor_of c.skip_non_blank.new.self)
     (cursor_of c.read_run.new.self) (cursor_of c.look.new.self) _ (string_bytes c.read_run.new.text)
-    c.look.result c.skip_non_blank.ensures c.new-word.ensures.bytes c.in_ok-read_run.ensures c.look.ensures.value
+    c.look.result c.skip_non_blank.ensures c.in_ok-word.ensures c.in_ok-read_run.ensures c.look.ensures.value
     c.look.ensures.same in
     subst (Moves (λ x. seen_tag x (cursor_of c.read_named_suffix.new.self)) c.read_named_suffix.result)
-    (ap (λ w. named_tail c.args.self.now.mark w (cursor_of c.skip_non_blank-then-look-eq33.new.self))
-    c.as_str.ensures.value
-    ∙ named_from _ _ _ _ _ behind c.if-look-eq33.true c.skip_non_blank-then-look-eq33.ensures)
+    (named_from _ _ _ _ _ behind c.if-look-eq33.true c.skip_non_blank-then-look-eq33.ensures)
     c.read_named_suffix.ensures
 
 pub returns-in_err-read_uri_characters : goal.returns-in_err-read_uri_characters
 returns-in_err-read_uri_characters g c =
     let behind = behind_word (cursor_of c.args.self.now) (cursor_of c.skip_non_blank.new.self)
     (cursor_of c.read_run.new.self) (cursor_of c.look.new.self) _ (string_bytes c.read_run.new.text)
-    c.look.result c.skip_non_blank.ensures c.new-word.ensures.bytes c.in_ok-read_run.ensures c.look.ensures.value
+    c.look.result c.skip_non_blank.ensures c.in_ok-word.ensures c.in_ok-read_run.ensures c.look.ensures.value
     c.look.ensures.same in
     moves_failed _ _ _ _ _ c.from_residual-in_err-read_uri_characters.ensures.1 c.in_err-read_uri_characters.ensures
     (λ r h. primary_refused _ _ _ _ r behind c.if-look-eq33.false h)
@@ -42,7 +40,7 @@ pub returns-then-is_empty : goal.returns-then-is_empty
 returns-then-is_empty g c =
     let behind = behind_word (cursor_of c.args.self.now) (cursor_of c.skip_non_blank.new.self)
     (cursor_of c.read_run.new.self) (cursor_of c.look.new.self) _ (string_bytes c.read_run.new.text)
-    c.look.result c.skip_non_blank.ensures c.new-word.ensures.bytes c.in_ok-read_run.ensures c.look.ensures.value
+    c.look.result c.skip_non_blank.ensures c.in_ok-word.ensures c.in_ok-read_run.ensures c.look.ensures.value
     c.look.ensures.same in
     alone_read _ _ _ _ _ _ _ behind c.if-look-eq33.false c.in_ok-read_uri_characters.ensures
     (ap (λ n. n == 0) (sym c.read_uri_characters.new.text.bytes.ok.0) ∙ sym c.is_empty.ensures ∙ c.if-is_empty.true)
@@ -52,7 +50,7 @@ pub returns : goal.returns
 returns g c =
     let behind = behind_word (cursor_of c.args.self.now) (cursor_of c.skip_non_blank.new.self)
     (cursor_of c.read_run.new.self) (cursor_of c.look.new.self) _ (string_bytes c.read_run.new.text)
-    c.look.result c.skip_non_blank.ensures c.new-word.ensures.bytes c.in_ok-read_run.ensures c.look.ensures.value
+    c.look.result c.skip_non_blank.ensures c.in_ok-word.ensures c.in_ok-read_run.ensures c.look.ensures.value
     c.look.ensures.same in
     primary_read _ _ _ _ _ _ _ behind c.if-look-eq33.false c.in_ok-read_uri_characters.ensures
     (ap (λ n. n == 0) (sym c.read_uri_characters.new.text.bytes.ok.0) ∙ sym c.is_empty.ensures ∙ c.if-is_empty.false)
