@@ -10,7 +10,7 @@ use crate::engine::Engine;
 use crate::law::{orders_spans, takes_all_tokens, takes_characters_off};
 use crate::token::Token;
 use saphyr_input::input::{CloneInput, Input};
-use saphyr_scalar::Stop;
+use saphyr_scalar::{Stop, TagParts};
 use std::alloc::{AllocError, Global};
 use std::marker::Model;
 
@@ -100,6 +100,13 @@ impl<T: Input> Scanner<T> {
         ensures { self.new ≡ self.old }
     {
         self.engine.give_back(text);
+    }
+
+    /// Takes the texts of a tag that is no longer needed. The next one may use their memory.
+    pub fn give_back_tag(&mut self, tag: TagParts)
+        ensures { self.new ≡ self.old }
+    {
+        self.engine.give_back_tag(tag);
     }
 }
 

@@ -23,7 +23,7 @@ use crate::queue::Indicator;
 use crate::token::{Token, TokenType};
 use saphyr_input::char_traits::{is_blank_or_breakz, is_bom, is_flow, is_z};
 use saphyr_input::input::Input;
-use saphyr_scalar::{FaultText, Stop};
+use saphyr_scalar::{FaultText, Stop, TagParts};
 use saphyr_values::BlockStyle;
 use std::alloc::AllocError;
 
@@ -340,5 +340,12 @@ impl<T: Input> Engine<T> {
         ensures { state self.new ≡ state self.old }
     {
         self.reader.spare.keep(text);
+    }
+
+    /// Keeps the memory of the texts of a tag for the next one.
+    pub(crate) fn give_back_tag(&mut self, tag: TagParts)
+        ensures { state self.new ≡ state self.old }
+    {
+        self.reader.spare.keep_tag(tag);
     }
 }
