@@ -189,15 +189,17 @@ impl<T: Input> Machine<T> {
     #[tactic(auto, unfolding(crate::specs::Steps::Nodes::alias_node))]
     fn alias<'input>(
         &mut self,
-        name: &str,
+        name: String,
         span: Span,
         next: &mut (Event<'input>, Span),
     ) -> Result<(), Stop>
-        ensures { TellsBy (spec.alias_node name.now span) self.old result next.new self.new }
+        ensures { TellsBy (spec.alias_node (string_bytes name) span)
+            self.old result next.new self.new }
     {
         self.anchors.settle()?;
-        match self.anchors.id_of(name) {
+        match self.anchors.id_of(name.as_str()) {
             Some(id) => {
+                self.scanner.give_back(name);
                 self.pop();
                 tell(next, Event::Alias(id), span);
                 Ok(())
@@ -307,7 +309,7 @@ impl<T: Input> Machine<T> {
     {
         let Token { span, kind } = token;
         match kind {
-            TokenType::Alias(name) => self.alias(name.as_str(), span, next),
+            TokenType::Alias(name) => self.alias(name, span, next),
             TokenType::Anchor(name) => self.behind_anchor(name, span, context, next),
             TokenType::Tag(tag) => self.behind_tag(Box::into_inner(tag), span, context, next),
             kind => {

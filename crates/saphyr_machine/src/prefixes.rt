@@ -71,15 +71,13 @@ impl Prefixes {
         Ok(())
     }
 
-    #[tactic(auto, using(crate::proofs::Names::texts_meaning))]
-    /// A copy of the prefix that is declared for the handle.
-    pub fn prefix_of(&self, handle: &str) -> Result<Option<String>, AllocError>
-        ensures { IfOk result (λ prefix. option_map string_bytes prefix
-            ≡ spec.meaning handle.now self.now) }
+    /// The prefix that is declared for the handle.
+    pub fn prefix_of(&self, handle: &str) -> Option<&str>
+        ensures { option_map (λ prefix. prefix.now) result ≡ spec.meaning handle.now self.now }
     {
         match self.declared.get(handle) {
-            Some(prefix) => Ok(Some(prefix.clone()?)),
-            None => Ok(None),
+            Some(prefix) => Some(prefix.as_str()),
+            None => None,
         }
     }
 

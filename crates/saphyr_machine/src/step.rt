@@ -8,7 +8,9 @@ use crate::fault::Fault;
 use crate::machine::Machine;
 use crate::progress::Progress;
 use crate::state::State;
+use crate::tag::Tag;
 use saphyr_input::input::Input;
+use saphyr_scalar::scalar::TagParts;
 use saphyr_scalar::{Span, Stop};
 use std::borrow::CowStr;
 use std::mem::replace;
@@ -34,7 +36,7 @@ impl<T: Input> Machine<T> {
         drop(replace(fault, Fault::new(self.alloc, stop)));
     }
 
-    // Gives back the text of the event that is overwritten, so the next one uses its memory.
+    // Gives back the text and the tag of the event that is overwritten, so the next one uses their memory.
     #[inline(always)]
     fn give_back<'input>(&mut self, place: &mut Event<'input>)
         ensures { machine_of self.new ≡ machine_of self.old }
@@ -42,6 +44,22 @@ impl<T: Input> Machine<T> {
         if let Event::Scalar(CowStr::Owned(text), _, _, _) = place {
             self.scanner
                 .give_back(replace(text, String::new(self.alloc)));
+        }
+        if let Event::Scalar(_, _, _, tag) = place {
+            // Mostly there is none, and a test costs less than a move.
+            if tag.is_some() {
+                self.give_back_tag(tag);
+            }
+        }
+    }
+
+    // The same for the tag. It is separate for speed, since few scalars have one.
+    #[inline(never)]
+    fn give_back_tag(&mut self, tag: &mut Option<Tag>)
+        ensures { machine_of self.new ≡ machine_of self.old }
+    {
+        if let Some(Tag { handle, suffix }) = tag.take() {
+            self.scanner.give_back_tag(TagParts { handle, suffix });
         }
     }
 

@@ -1,6 +1,6 @@
 //! Tags with prefixes in place of their handles (YAML 1.2.2, 6.8.2 and 6.9.1).
 
-ghost use Rattle.std.specs.Prelude.{◌≡◌, string_bytes};
+ghost use Rattle.std.specs.Prelude.{◌≡◌, IfOk, string_bytes};
 ghost use Rattle.saphyr_machine.specs.Steps.Tags as spec;
 
 use crate::machine::{Machine, refuse};
@@ -8,6 +8,7 @@ use crate::tag::Tag;
 use saphyr_input::input::Input;
 use saphyr_scalar::scalar::TagParts;
 use saphyr_scalar::{FaultText, Marker, Stop};
+use std::alloc::AllocError;
 
 // Whether the handle has a word, and so must be declared.
 fn is_named(handle: &str) -> bool
@@ -15,6 +16,15 @@ fn is_named(handle: &str) -> bool
 {
     let bytes = handle.as_bytes();
     bytes.len() >= 2 && bytes[0] == b'!' && bytes[bytes.len() - 1] == b'!'
+}
+
+// A text in the memory of another one, which has room for most prefixes.
+fn in_place_of(mut memory: String, text: &str) -> Result<String, AllocError>
+    ensures { IfOk result (λ copy. string_bytes copy ≡ text.now) }
+{
+    memory.clear();
+    memory.push_str(text)?;
+    Ok(memory)
 }
 
 impl<T: Input> Machine<T> {
@@ -30,8 +40,8 @@ impl<T: Input> Machine<T> {
         if handle.is_empty() {
             return Ok(handle);
         }
-        match self.prefixes.prefix_of(handle.as_str())? {
-            Some(prefix) => Ok(prefix),
+        match self.prefixes.prefix_of(handle.as_str()) {
+            Some(prefix) => Ok(in_place_of(handle, prefix)?),
             None => self.undeclared_prefix(handle, place),
         }
     }
@@ -41,8 +51,7 @@ impl<T: Input> Machine<T> {
         ensures { Moves string_bytes result (spec.undeclared_prefix (string_bytes handle) place) }
     {
         if handle.as_str() == "!!" {
-            drop(handle);
-            return Ok(String::from_str(self.alloc, "tag:yaml.org,2002:")?);
+            return Ok(in_place_of(handle, "tag:yaml.org,2002:")?);
         }
         if is_named(handle.as_str()) {
             return Err(refuse(FaultText::UndeclaredHandle, place));

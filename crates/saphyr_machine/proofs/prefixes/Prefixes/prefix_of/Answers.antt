@@ -4,9 +4,9 @@ use Rattle.saphyr_machine.specs.Steps.Machine.{Names, meaning}
 use Rattle.saphyr_machine.proofs.Names.{texts_meaning}
 use Rattle.saphyr_machine.proofs.prefixes.Prefixes.prefix_of.Goals as goal
 
-pub returns-in_ok-clone-in-Some : goal.returns-in_ok-clone-in-Some
-returns-in_ok-clone-in-Some c =
-    ap (λ (x : List ℕ). Some x) c.in_ok-clone-in-Some.ensures.cases
+pub returns-in-Some : goal.returns-in-Some
+returns-in-Some c =
+    ap (λ (x : List ℕ). Some x) c.as_str.ensures.value
     ∙ ap (option_map string_bytes) c.in-Some.ensures.value
     ∙ texts_meaning c.self.inside.declared c.args.handle.now
     ∙ ap (λ (p : Names (List ℕ)). meaning c.args.handle.now p) c.self.view_is
