@@ -1,5 +1,5 @@
 -- A token that is put after all tokens of a text.
-use Rattle.std.proofs.Common.{◌≡◌, ℕ, ◌+◌, suc, Bool, true, false, List, [], ◌∷◌, ◌++◌, Ok, refl, sym, ap, ◌∙◌}
+use Rattle.std.proofs.Common.{◌≡◌, ℕ, ◌+◌, Bool, true, false, List, [], ◌∷◌, ◌++◌, Ok, refl, sym, ap, ◌∙◌}
 use Rattle.std.specs.Prelude.{◌&&◌, None}
 use Rattle.std.proofs.lemmas.Bool.{cond-true}
 use Rattle.saphyr_input.proofs.Basics.Booleans.{neither_parts}
@@ -12,7 +12,7 @@ use Rattle.saphyr_scanner.specs.Steps.State.{State}
 use Rattle.saphyr_scanner.specs.Steps.Fetch.{is_ready, needs_token, without_far_key}
 use Rattle.saphyr_scanner.specs.Steps.Remaining.{before_place, hand_out, remaining}
 use Rattle.saphyr_scanner.proofs.Queues.{flat_append, holding}
-use Rattle.saphyr_scanner.proofs.Unroll.{rest, remaining_is}
+use Rattle.saphyr_scanner.proofs.Unroll.{remaining_is}
 
 -- these tokens come, and no refusal ends them
 abbrev these : List Piece → Remaining

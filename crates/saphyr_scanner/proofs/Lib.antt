@@ -25,6 +25,7 @@ pub mod Reached
 pub mod LessIndented
 pub mod PlainBehind
 pub mod QuotedEnds
+pub mod RightHere
 pub mod GapPlaces
 pub mod Told
 pub mod Steps

@@ -4,3 +4,4 @@ pub mod Places
 pub mod Queue
 pub mod Stepping
 pub mod Engine
+pub mod Ahead

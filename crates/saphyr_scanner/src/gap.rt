@@ -40,6 +40,7 @@ fn end_gap<T: Input>(
 }
 
 // Passes blanks, breaks and comments one after the other, with spaces and comments in one piece, as `skip_gap` says.
+#[inline(always)]
 fn skip_gap_characters<T: Input>(reader: &mut Reader<T>, least: usize) -> Result<bool, Refusal>
     ensures { GivesAs spec.seen_gap_end (spec.whole_gap least) reader.old result reader.new }
 {

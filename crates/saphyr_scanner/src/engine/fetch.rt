@@ -1,7 +1,7 @@
 //! Which token comes next, by its first characters (YAML 1.2.2, 5.3), and how many tokens are read before the first
 //! of them is handed out.
 
-ghost use Rattle.std.specs.Prelude.{◌≡◌, ◌<◌, ◌==◌, ℕ, true, false, IfOk, IsTrue, Ok, OnOk, length, slice_index, option_map};
+ghost use Rattle.std.specs.Prelude.{◌≡◌, ◌<◌, ◌≤◌, ◌==◌, ℕ, true, false, IfOk, IsTrue, Ok, OnOk, length, slice_index, option_map};
 ghost use Rattle.saphyr_input.specs.Indicators.{
   colon,
   comma,
@@ -16,6 +16,7 @@ ghost use Rattle.saphyr_scanner.specs.Steps.Fetch as fetch;
 ghost use Rattle.saphyr_scanner.specs.Steps.Queue as spec_queue;
 ghost use Rattle.saphyr_scanner.specs.Steps.Remaining.{remaining};
 ghost use Rattle.saphyr_scanner.specs.Steps.Scalar as scalar;
+ghost use Rattle.saphyr_scanner.specs.Views.Ahead.{may_begin, may_begin_mark};
 
 use crate::engine::{Context, Engine};
 use crate::law::takes_characters_off;
@@ -27,8 +28,35 @@ use saphyr_scalar::{FaultText, Stop, TagParts};
 use saphyr_values::BlockStyle;
 use std::alloc::AllocError;
 
+/// What is left to do where the next token begins.
+pub(crate) enum Ahead {
+    /// The token is told by its first character, and is to be put into the queue.
+    Content,
+    /// The token was put there.
+    Nothing,
+    /// There is none: the engine keeps what ended the reading.
+    Stop,
+}
+
+// Whether the character is one that most tokens begin with, and no blank, break or `#`.
+#[inline(always)]
+fn may_begin(c: char) -> bool
+    ensures { result ≡ may_begin c }
+{
+    c == '"' || c > '#'
+}
+
+// Whether a directive or the marker of a document may begin with these characters, at the start of a line.
+#[inline(always)]
+fn may_begin_mark(c: char, next: char) -> bool
+    ensures { result ≡ may_begin_mark c next }
+{
+    c == '%' || c == '.' || c == '-' && next == '-'
+}
+
 impl<T: Input> Engine<T> {
-    ghost use Rattle.saphyr_scalar.specs.Views.Reader.{Moves};
+    ghost use Rattle.saphyr_scalar.specs.Views.Reader.{Moves, loaded};
+    ghost use Rattle.saphyr_scanner.specs.Views.Ahead.{Leads, LeadsOn, fetched};
     ghost use Rattle.saphyr_scanner.specs.Views.Engine.{state, MovesBy, ActsBy, answer_of};
     ghost use Rattle.saphyr_scanner.specs.Views.Tokens.{GivesLast, piece, written_token};
 
@@ -63,40 +91,116 @@ impl<T: Input> Engine<T> {
             self.start()?;
             return Ok(());
         }
-        self.arrive()?;
-        self.fetch_here()?;
-        Ok(())
-    }
-
-    // Puts the token that begins here into the queue.
-    #[tactic(auto, unfolding(crate::specs::Steps::Fetch::fetch_here))]
-    fn fetch_here(&mut self) -> Result<(), Stop>
-        ensures { MovesBy fetch.fetch_here self.old result self.new }
-    {
-        self.reader.load(4);
-        let c = self.reader.input().peek();
-        if is_z(c) {
-            return self.fetch_end();
-        }
-        if is_bom(c) {
-            return self.fetch_byte_order_mark();
-        }
-        let column = self.reader.mark().col;
-        if column == 0 && c == '%' {
-            return self.fetch_directive();
-        }
-        if column == 0 && self.reader.input().next_is_document_start() {
-            return self.fetch_document_start();
-        }
-        if column == 0 && self.reader.input().next_is_document_end() {
-            return self.fetch_document_end();
-        }
-        if column < self.least_column() {
-            return Err(self.refuse_here(FaultText::InvalidIndentation));
+        self.reader.load(2);
+        let mut c = self.reader.input().peek();
+        if !(self.has_arrived(c) && self.is_content(c)) {
+            match self.arrives() {
+                Ahead::Content => {}
+                Ahead::Nothing => return Ok(()),
+                Ahead::Stop => return Err(self.stop),
+            }
+            self.reader.load(2);
+            c = self.reader.input().peek();
         }
         let next = self.reader.input().peek_nth(1);
         self.fetch_content(c, next)?;
         Ok(())
+    }
+
+    // Whether nothing is to be passed, dropped or ended before the next token. So it is before most tokens.
+    #[inline(always)]
+    fn has_arrived(&self, c: char) -> bool
+        requires { c ≡ slice_index (state self.now).core.cursor.rest 0 }
+        ensures { IsTrue result → fetch.arrive (state self.now) ≡ Ok (state self.now) }
+    {
+        if !may_begin(c) || self.comment.is_some() || self.has_far_key() {
+            return false;
+        }
+        self.reader.mark().col >= self.least_column()
+    }
+
+    // Whether the token that begins here is told by its first character.
+    #[inline(always)]
+    fn is_content(&self, c: char) -> bool
+        requires first { c ≡ slice_index (state self.now).core.cursor.rest 0 }
+        requires loaded { 2 ≤ loaded self.now.reader }
+        ensures { IsTrue result → LeadsOn (Ok true) (fetch.fetch_here (state self.now)) self.now }
+    {
+        let column = self.reader.mark().col;
+        if is_z(c) || is_bom(c) || column < self.least_column() {
+            return false;
+        }
+        column > 0 || !may_begin_mark(c, self.reader.input().peek_nth(1))
+    }
+
+    // Goes on to where the next token begins, and puts it into the queue if its first character alone does not tell it. It
+    // is separate for speed.
+    #[inline(never)]
+    fn arrives(&mut self) -> Ahead
+        ensures { Leads result (fetched (state self.old)) self.new }
+    {
+        let ended = self.arrive();
+        if !self.keep(ended) {
+            return Ahead::Stop;
+        }
+        self.reader.load(2);
+        let c = self.reader.input().peek();
+        if self.is_content(c) {
+            return Ahead::Content;
+        }
+        self.fetches_mark()
+    }
+
+    // Puts the token that begins here into the queue, if its first character alone does not tell it. It is separate, as
+    // `fetch_rare` is.
+    #[inline(never)]
+    fn fetches_mark(&mut self) -> Ahead
+        ensures { Leads result (fetch.fetch_here (state self.old)) self.new }
+    {
+        match self.fetch_mark() {
+            Ok(true) => Ahead::Content,
+            Ok(false) => Ahead::Nothing,
+            Err(stop) => {
+                self.stop = stop;
+                Ahead::Stop
+            }
+        }
+    }
+
+    // Puts the token that begins here into the queue, if it is the end's, or one that is told by the start of its line.
+    // `true`: it is another, which its first character tells.
+    #[inline(always)]
+    #[tactic(auto, unfolding(crate::specs::Steps::Fetch::fetch_here))]
+    fn fetch_mark(&mut self) -> Result<bool, Stop>
+        ensures { LeadsOn result (fetch.fetch_here (state self.old)) self.new }
+    {
+        self.reader.load(4);
+        let c = self.reader.input().peek();
+        if is_z(c) {
+            self.fetch_end()?;
+            return Ok(false);
+        }
+        if is_bom(c) {
+            self.fetch_byte_order_mark()?;
+            return Ok(false);
+        }
+        let column = self.reader.mark().col;
+        if column == 0 && c == '%' {
+            self.fetch_directive()?;
+            return Ok(false);
+        }
+        if column == 0 && self.reader.input().next_is_document_start() {
+            self.fetch_document_start()?;
+            return Ok(false);
+        }
+        if column == 0 && self.reader.input().next_is_document_end() {
+            self.fetch_document_end()?;
+            return Ok(false);
+        }
+        if column < self.least_column() {
+            return Err(self.refuse_here(FaultText::InvalidIndentation));
+        }
+        Ok(true)
     }
 
     // Puts the token that the first character begins into the queue.
@@ -257,7 +361,7 @@ impl<T: Input> Engine<T> {
     fn is_ready(&self) -> bool
         ensures { result ≡ fetch.is_ready (state self.now) }
     {
-        !(self.in_block() && self.is_key_too_far()) && !self.needs_token()
+        !self.has_far_key() && !self.needs_token()
     }
 
     // Reads tokens until the head of the queue can be handed out, unless all were.

@@ -1,7 +1,7 @@
 //! Tokens that may become keys: a key without `?` is known by the colon after it (YAML 1.2.2, 7.4.2 and
 //! 8.2.2).
 
-ghost use Rattle.std.specs.Prelude.{◌≡◌, Ok, ◌<◌, length};
+ghost use Rattle.std.specs.Prelude.{◌≡◌, ◌&&◌, Ok, ◌<◌, length};
 ghost use Rattle.saphyr_scanner.specs.Steps.Core as spec;
 ghost use Rattle.saphyr_scanner.specs.Steps.State as spec_state;
 
@@ -74,13 +74,21 @@ impl<T: Input> Engine<T> {
         }
     }
 
+    // The same of a candidate outside flow, which then is none any more.
+    pub(super) fn has_far_key(&self) -> bool
+        ensures { result ≡ (spec.in_block (state self.now).core
+            && spec.is_too_far (state self.now).core.level.key (state self.now).core.cursor.mark) }
+    {
+        self.in_block() && self.is_key_too_far()
+    }
+
     // A candidate outside flow is dropped on the next line, and once its colon would be too far away.
     #[inline(always)]
     #[tactic(auto, unfolding(crate::specs::Steps::Core::drop_far_key))]
     pub(super) fn drop_far_key(&mut self) -> Result<(), Stop>
         ensures { CarriesBy spec.drop_far_key self.old result self.new }
     {
-        if !(self.in_block() && self.is_key_too_far()) {
+        if !self.has_far_key() {
             return Ok(());
         }
         if self.required {

@@ -10,6 +10,7 @@ ghost use Rattle.saphyr_input.specs.Indicators.{
   right_bracket,
 };
 ghost use Rattle.saphyr_scanner.specs.Steps.Core as spec;
+ghost use Rattle.saphyr_scanner.specs.Steps.Passing as passing;
 ghost use Rattle.saphyr_scanner.specs.Steps.Scalar as scalar;
 
 use crate::engine::Engine;
@@ -20,7 +21,7 @@ use saphyr_scalar::{FaultText, Marker, ScalarStyle, Stop};
 use saphyr_values::BlockStyle;
 
 impl<T: Input> Engine<T> {
-    ghost use Rattle.saphyr_scanner.specs.Views.Engine.{state, ActsBy};
+    ghost use Rattle.saphyr_scanner.specs.Views.Engine.{state, ActsBy, CarriesBy, answer_of};
     ghost use Rattle.saphyr_scanner.specs.Steps.Queue.{next};
 
     // Whether the characters here may follow a quoted scalar that began at a place.
@@ -50,6 +51,15 @@ impl<T: Input> Engine<T> {
         !self.in_block() && (c == ':' || c == ',' || c == ']' || c == '}')
     }
 
+    // Passes what is between a quoted scalar and the next token, with the stop kept, as `reads_on` does.
+    #[inline(never)]
+    fn passes_gap(&mut self) -> bool
+        ensures { CarriesBy passing.pass_gap self.old (answer_of result self.new.stop) self.new }
+    {
+        let ended = self.pass_gap();
+        self.keep(ended)
+    }
+
     // What follows a quoted scalar.
     #[inline(always)]
     #[tactic(auto, unfolding(crate::specs::Steps::Scalar::behind_quotes))]
@@ -75,7 +85,9 @@ impl<T: Input> Engine<T> {
             return Err(self.refuse_here(FaultText::ContentAfterQuotes));
         }
         let end = self.reader.mark();
-        self.pass_gap()?;
+        if !self.passes_gap() {
+            return Err(self.stop);
+        }
         self.adjacent = self.reader.mark().index;
         self.put_scalar(start, end, style, text)?;
         Ok(())

@@ -1,0 +1,104 @@
+-- Where the next token begins right here, nothing is passed and nothing ends before it.
+use Rattle.std.proofs.Common.{◌≡◌, ◌<◌, ℕ, Bool, true, false, List, [], ◌∷◌, length, Some, None, Ok, refl, ap, arith, nat_lt, slice_index}
+use Rattle.std.specs.Prelude.{◌-◌, ◌&&◌, ◌||◌, ◌==◌, nat_le, if◌then◌else◌}
+use Rattle.std.proofs.lemmas.Bool.Decides.{nat_tests}
+use Rattle.saphyr_input.proofs.Basics.Booleans.{by_test}
+use Rattle.saphyr_input.specs.Classes.{is_blank, is_bom, is_break, is_z}
+use Rattle.saphyr_input.specs.Indicators.{full_stop, hyphen, number_sign, percent_sign}
+use Rattle.saphyr_input.specs.Places.{is_document_end, is_document_start}
+use Rattle.saphyr_scanner.specs.Steps.Core.{Core, in_block, is_too_far, least_column, drop_far_key}
+use Rattle.saphyr_scanner.specs.Steps.Fetch.{arrive, fetch_here}
+use Rattle.saphyr_scanner.specs.Steps.Passing.{check_comment, pass_gap}
+use Rattle.saphyr_scanner.specs.Steps.State.{State, with_core}
+use Rattle.saphyr_scanner.specs.Steps.Unrolling.{go_less_deep, unroll}
+use Rattle.saphyr_scanner.specs.Views.Ahead.{may_begin, may_begin_mark, with_content}
+use Rattle.saphyr_scanner.proofs.Blocks.{none_ends}
+use Rattle.saphyr_scanner.proofs.Gaps.{nothing_passed}
+
+is_no_blank : (x : ℕ) → may_begin x ≡ true → is_blank x ≡ false
+is_no_blank x e = grind (arith, nat_tests)
+
+is_no_break : (x : ℕ) → may_begin x ≡ true → is_break x ≡ false
+is_no_break x e = grind (arith, nat_tests)
+
+is_no_sign : (x : ℕ) → may_begin x ≡ true → (x == number_sign) ≡ false
+is_no_sign x e = grind (arith, nat_tests)
+
+no_gap : (c : Core) → may_begin (slice_index c.cursor.rest 0) ≡ true → c.comment ≡ None → pass_gap c ≡ Ok c
+unfolding pass_gap check_comment
+no_gap c begins none =
+    let x = slice_index c.cursor.rest 0 in
+    let gap = nothing_passed (least_column c) c.cursor c.cursor x refl refl (is_no_blank x begins) (is_no_break x begins)
+    (is_no_sign x begins) in
+    rw (gap, none) refl
+
+kept_key : (c : Core) → (in_block c && is_too_far c.level.key c.cursor.mark) ≡ false → drop_far_key c ≡ Ok c
+unfolding drop_far_key
+kept_key c near = rw near refl
+
+kept_deeper : (deeper : Bool) (i k : ℕ) → nat_lt k (if deeper then i else i - 1) ≡ false → (deeper && nat_le i k) ≡ deeper
+kept_deeper true i k e = grind (arith, nat_tests)
+kept_deeper false i k e = refl
+
+not_right : (deeper : Bool) (i k : ℕ) → nat_lt k (if deeper then i else i - 1) ≡ false → nat_lt k (i - 1) ≡ false
+not_right true i k e = grind (arith, nat_tests)
+not_right false i k e = e
+
+-- no block collection is right of the column
+none_unrolled : (s : State) → nat_lt s.core.cursor.mark.col (least_column s.core) ≡ false
+    → unroll (Some s.core.cursor.mark.col) s.core.cursor.mark s ≡ s
+unfolding unroll
+none_unrolled s e =
+    let c = s.core in let m = c.cursor.mark in
+    let deep : with_core (go_less_deep (Some m.col) c) s ≡ s =
+    ap (λ (b : Bool). with_core (record c { deeper = b }) s) (kept_deeper c.deeper c.indent m.col e) in
+    by_test (in_block c) _ s (λ (t : State). t ≡ s)
+    (λ _. rw deep (none_ends (Some m.col) m c.outer_indents s (not_right c.deeper c.indent m.col e))) (λ _. refl)
+
+-- nothing is passed, dropped or ended before the next token
+pub arrived : (s : State) → may_begin (slice_index s.core.cursor.rest 0) ≡ true → s.core.comment ≡ None
+    → nat_lt s.core.cursor.mark.col (least_column s.core) ≡ false
+    → (in_block s.core && is_too_far s.core.level.key s.core.cursor.mark) ≡ false → arrive s ≡ Ok s
+unfolding arrive
+arrived s begins none right near =
+    rw (no_gap s.core begins none, kept_key s.core near, none_unrolled s right) refl
+
+pub neither : (a b : Bool) → b ≡ false → (a && b) ≡ false
+neither true b e = e
+neither false b e = refl
+
+pub not_over : (t : List ℕ) → is_z (slice_index t 0) ≡ false → 0 < length t
+not_over [] e = absurd (cc)
+not_over (c ∷ cs) e = omega arith
+
+-- no directive and no marker is at the start of a line
+no_mark : (start : Bool) (t : List ℕ) → (start && may_begin_mark (slice_index t 0) (slice_index t 1)) ≡ false
+    → ((start && (slice_index t 0 == percent_sign)) ≡ false) × ((start && is_document_start t) ≡ false)
+    × ((start && is_document_end t) ≡ false)
+no_mark false t e = (refl, refl, refl)
+no_mark true t e =
+    let none = none_of (slice_index t 0 == percent_sign) (slice_index t 0 == full_stop) (slice_index t 0 == hyphen)
+    (slice_index t 1 == hyphen) e in
+    (none.0, no_dashes (slice_index t 0 == hyphen) (slice_index t 1 == hyphen) _ _ none.2, rw none.1 refl)
+  where
+    none_of : (a b c d : Bool) → (a || b || (c && d)) ≡ false → (a ≡ false) × (b ≡ false) × ((c && d) ≡ false)
+    none_of true b c d e = absurd (cc)
+    none_of false true c d e = absurd (cc)
+    none_of false false c d e = (refl, refl, e)
+
+    no_dashes : (a b c d : Bool) → (a && b) ≡ false → ((a && b && c) && d) ≡ false
+    no_dashes true true c d e = absurd (cc)
+    no_dashes true false c d e = refl
+    no_dashes false b c d e = refl
+
+-- the next token is what the first character begins
+pub told_here : (s : State) → is_z (slice_index s.core.cursor.rest 0) ≡ false
+    → is_bom (slice_index s.core.cursor.rest 0) ≡ false
+    → nat_lt s.core.cursor.mark.col (least_column s.core) ≡ false
+    → ((s.core.cursor.mark.col == 0)
+    && may_begin_mark (slice_index s.core.cursor.rest 0) (slice_index s.core.cursor.rest 1)) ≡ false
+    → fetch_here s ≡ with_content s
+unfolding fetch_here
+told_here s some text right inner =
+    let no = no_mark (s.core.cursor.mark.col == 0) s.core.cursor.rest inner in
+    rw (some, text, no.0, no.1, no.2, right) refl

@@ -1,0 +1,43 @@
+-- What contracts see of the way to the next token.
+use Rattle.std.specs.Prelude.{ℕ, ◌≡◌, ◌<◌, ◌==◌, ◌&&◌, ◌||◌, Bool, true, false, nat_lt, length, slice_index, Result, Ok, Err}
+use Rattle.saphyr_input.specs.declared.input.Input.{Ghosts}
+use Rattle.saphyr_input.specs.Indicators.{full_stop, hyphen, number_sign, percent_sign, quotation_mark}
+use Rattle.saphyr_scalar.specs.declared.scalar.fault.Refusal.{Refusal}
+use Rattle.saphyr_scalar.specs.declared.scalar.fault.Stop.{Stop}
+use Rattle.saphyr_scalar.specs.Views.Cursor.{◌>>=◌}
+use Rattle.saphyr_scalar.specs.Views.Reader.{Fails}
+use Rattle.saphyr_scanner.specs.declared.engine.Engine.{Engine}
+use Rattle.saphyr_scanner.specs.declared.engine.fetch.Ahead.{Ahead}
+use Rattle.saphyr_scanner.specs.declared.engine.fetch.Ahead.TheVariants as ahead
+use Rattle.saphyr_scanner.specs.Steps.State.{State}
+use Rattle.saphyr_scanner.specs.Steps.Fetch.{arrive, fetch_here, state_behind_content}
+use Rattle.saphyr_scanner.specs.Views.Engine.{state}
+
+-- what the first character of the rest begins, with the second at hand
+abbrev pub with_content : State → Result State Refusal
+with_content s = state_behind_content (slice_index s.core.cursor.rest 0) (slice_index s.core.cursor.rest 1) s
+
+-- What was to be reached is reached, or it is what the first character begins, unless memory ran out.
+abbrev pub LeadsOn : {T : Type 0} {g : Ghosts T} → Result Bool Stop → Result State Refusal → Engine T g → Type 0
+LeadsOn (Ok true) whole e = (whole ≡ with_content (state e)) × (0 < length (state e).core.cursor.rest)
+LeadsOn (Ok false) whole e = whole ≡ Ok (state e)
+LeadsOn (Err stop) whole e = Fails stop whole
+
+-- the same, with the stop that the engine keeps
+abbrev pub Leads : {T : Type 0} {g : Ghosts T} → Ahead → Result State Refusal → Engine T g → Type 0
+Leads ahead.Content whole e = LeadsOn (Ok true) whole e
+Leads ahead.Nothing whole e = LeadsOn (Ok false) whole e
+Leads ahead.Stop whole e = LeadsOn (Err e.stop) whole e
+
+-- the next token, once the stream has begun
+abbrev pub fetched : State → Result State Refusal
+fetched s = arrive s >>= fetch_here
+
+-- a character that most tokens begin with, and no blank, break or `#`
+abbrev pub may_begin : ℕ → Bool
+may_begin c = (c == quotation_mark) || nat_lt number_sign c
+
+-- whether a directive or the marker of a document may begin with these characters, at the start of a line
+abbrev pub may_begin_mark : ℕ → ℕ → Bool
+may_begin_mark first second =
+    (first == percent_sign) || (first == full_stop) || ((first == hyphen) && (second == hyphen))
