@@ -144,8 +144,7 @@ impl<T: Input> Engine<T> {
         let scalar = self.reader.read_plain(self.alloc, in_flow, self.indent)?;
         self.key_allowed = self.reader.blank_so_far();
         self.comment = scalar.comment;
-        let kind = TokenType::Scalar(ScalarStyle::Plain, scalar.text);
-        self.put(start, scalar.end, kind)?;
+        self.put_scalar(start, scalar.end, ScalarStyle::Plain, scalar.text)?;
         Ok(())
     }
 
