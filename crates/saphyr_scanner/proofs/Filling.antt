@@ -5,10 +5,10 @@ use Rattle.saphyr_scalar.specs.declared.scalar.fault.Refusal.{Refusal}
 use Rattle.saphyr_scalar.specs.Views.Cursor.{◌>>=◌}
 use Rattle.saphyr_scanner.specs.Steps.Core.{Core, in_block, is_too_far, drop_far_key, forget_key}
 use Rattle.saphyr_scanner.specs.Steps.State.{State, on_core}
-use Rattle.saphyr_scanner.specs.Steps.Fetch.{size, fetch_within, without_far_key, needs_token, is_ready, fill_in, fill}
+use Rattle.saphyr_scanner.specs.Steps.Fetch.{size, fetch_within, without_far_key, needs_token, fill_in, fill}
 use Rattle.saphyr_scanner.proofs.Effects.Readers.{Readers}
 use Rattle.saphyr_scanner.proofs.Effects.Fetch.{Fetched, read_fetched}
-use Rattle.saphyr_input.proofs.Basics.Booleans.{by_test, neither_parts}
+use Rattle.saphyr_input.proofs.Basics.Booleans.{by_test}
 use Rattle.saphyr_scalar.proofs.Given.{given_of, bind_ok}
 
 pub going : (ended b : Bool) → (not ended && b) ≡ true → ended ≡ false
@@ -89,13 +89,24 @@ pub less_read : Readers → (limit : ℕ) (s u : State) → s.core.ended ≡ fal
 less_read laws limit s u over e =
     (given_of (Fetched s) (read limit s) u (read_fetched limit s over) e).smaller laws
 
-ready : (limit : ℕ) (s : State) → (in_block s.core && is_too_far s.core.level.key s.core.cursor.mark) ≡ false
-    → needs_token s ≡ false → fill limit s ≡ Ok s
-unfolding fill drop_far_key
-ready limit s a b = rw (a, b) refl
+pub still_settled : (s t : State) → without_far_key s ≡ Ok t → without_far_key t ≡ Ok t
+still_settled s t e = rw (settled_once s t e) refl
+
+-- tokens are read as before once a candidate that is too far was dropped
+pub filled_from : (limit : ℕ) (s t : State) → without_far_key s ≡ Ok t → fill limit t ≡ fill limit s
+unfolding fill
+filled_from limit s t e = rw (e, still_settled s t e) refl
 
 -- nothing is read where the head of the queue can be handed out
-pub ready_as_is : (limit : ℕ) (s : State) → is_ready s ≡ true → fill limit s ≡ Ok s
-ready_as_is limit s e = let x =
-    neither_parts (in_block s.core && is_too_far s.core.level.key s.core.cursor.mark) (needs_token s) e in
-    ready limit s x.0 x.1
+pub filled_at_once : (limit : ℕ) (s t : State) → without_far_key s ≡ Ok t → needs_token t ≡ false → fill limit s ≡ Ok t
+unfolding fill
+filled_at_once limit s t e none = rw (e, none) refl
+
+-- where no candidate is too far
+pub settled_fill : (limit : ℕ) (s : State) → without_far_key s ≡ Ok s
+    → fill_in (suc (size s.core)) limit s ≡ fill limit s
+unfolding fill
+settled_fill limit s e = rw e refl
+
+pub filled_in_at_once : (limit : ℕ) (s : State) → needs_token s ≡ false → fill_in (suc (size s.core)) limit s ≡ Ok s
+filled_in_at_once limit s none = rw none refl

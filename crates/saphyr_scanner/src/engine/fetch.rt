@@ -151,9 +151,9 @@ impl<T: Input> Engine<T> {
         self.fetches_mark()
     }
 
-    // Puts the token that begins here into the queue, if its first character alone does not tell it. It is separate, as
-    // `fetch_rare` is.
-    #[inline(never)]
+    // Puts the token that begins here into the queue, if its first character alone does not tell it, with the stop kept, as
+    // `reads_on` does.
+    #[inline(always)]
     fn fetches_mark(&mut self) -> Ahead
         ensures { Leads result (fetch.fetch_here (state self.old)) self.new }
     {
@@ -364,45 +364,71 @@ impl<T: Input> Engine<T> {
         !self.has_far_key() && !self.needs_token()
     }
 
-    // Reads tokens until the head of the queue can be handed out, unless all were.
+    // Reads tokens until the head of the queue can be handed out, unless all were. To be called where the next token must
+    // be read.
     #[inline(always)]
-    #[tactic(auto, unfolding(crate::specs::Steps::Fetch::fill))]
     fn read_on(&mut self, limit: usize) -> Result<(), Stop>
+        requires needed { fetch.needs_token (state self.old) ≡ true }
+        requires settled { fetch.without_far_key (state self.old) ≡ Ok (state self.old) }
         ensures { MovesBy (fetch.fill limit) self.old result self.new }
     {
         // A law. It does nothing when it runs.
         takes_characters_off();
-        self.drop_far_key()?;
-        while self.needs_token() {
+        loop {
             self.fetch_within(limit)?;
             self.drop_far_key()?;
+            if !self.needs_token() {
+                return Ok(());
+            }
         }
-        Ok(())
     }
 
     // The same, with the stop kept, as a call of its own. The place of a result is cleared before such a call and
     // copied after it, but a result of one byte isn't.
     #[inline(never)]
     fn reads_on(&mut self, limit: usize) -> bool
+        requires needed { fetch.needs_token (state self.old) ≡ true }
+        requires settled { fetch.without_far_key (state self.old) ≡ Ok (state self.old) }
         ensures { MovesBy (fetch.fill limit) self.old (answer_of result self.new.stop) self.new }
     {
         let ended = self.read_on(limit);
         self.keep(ended)
     }
 
+    // Drops a candidate that is too far, with the stop kept, as `reads_on` does.
+    #[inline(never)]
+    fn drops_far_key(&mut self) -> bool
+        ensures { MovesBy fetch.without_far_key self.old (answer_of result self.new.stop) self.new }
+    {
+        let ended = self.drop_far_key();
+        self.keep(ended)
+    }
+
+    // The same, for speed inlined where there is none.
+    #[inline(always)]
+    #[tactic(auto, unfolding(crate::specs::Steps::Core::drop_far_key))]
+    fn lets_far_key_go(&mut self) -> bool
+        ensures { MovesBy fetch.without_far_key self.old (answer_of result self.new.stop) self.new }
+    {
+        if !self.has_far_key() {
+            return true;
+        }
+        self.drops_far_key()
+    }
+
     /// Reads until a token at the head of the queue can be handed out, unless all were.
     #[inline(always)]
-    #[tactic(auto, using(crate::proofs::Filling::ready_as_is))]
+    #[tactic(auto, unfolding(crate::specs::Steps::Fetch::fill))]
     pub(crate) fn fill(&mut self, limit: usize) -> Result<(), Stop>
         ensures { MovesBy (fetch.fill limit) self.old result self.new }
     {
-        if self.is_ready() {
-            return Ok(());
+        if !self.lets_far_key_go() {
+            return Err(self.stop);
         }
-        if self.reads_on(limit) {
-            return Ok(());
+        if self.needs_token() && !self.reads_on(limit) {
+            return Err(self.stop);
         }
-        Err(self.stop)
+        Ok(())
     }
 
     /// Takes the first token off the queue, if there is one, and writes it into `token`.
