@@ -143,21 +143,23 @@ impl<T: Input> Engine<T> {
         if !self.keep(ended) {
             return Ahead::Stop;
         }
-        self.reader.load(2);
+        self.reader.load(4);
         let c = self.reader.input().peek();
         if self.is_content(c) {
             return Ahead::Content;
         }
-        self.fetches_mark()
+        self.fetches_mark(c)
     }
 
     // Puts the token that begins here into the queue, if its first character alone does not tell it, with the stop kept, as
     // `reads_on` does.
     #[inline(always)]
-    fn fetches_mark(&mut self) -> Ahead
+    fn fetches_mark(&mut self, c: char) -> Ahead
+        requires first { c ≡ slice_index (state self.old).core.cursor.rest 0 }
+        requires loaded { 4 ≤ loaded self.old.reader }
         ensures { Leads result (fetch.fetch_here (state self.old)) self.new }
     {
-        match self.fetch_mark() {
+        match self.fetch_mark(c) {
             Ok(true) => Ahead::Content,
             Ok(false) => Ahead::Nothing,
             Err(stop) => {
@@ -171,11 +173,11 @@ impl<T: Input> Engine<T> {
     // `true`: it is another, which its first character tells.
     #[inline(always)]
     #[tactic(auto, unfolding(crate::specs::Steps::Fetch::fetch_here))]
-    fn fetch_mark(&mut self) -> Result<bool, Stop>
+    fn fetch_mark(&mut self, c: char) -> Result<bool, Stop>
+        requires first { c ≡ slice_index (state self.old).core.cursor.rest 0 }
+        requires loaded { 4 ≤ loaded self.old.reader }
         ensures { LeadsOn result (fetch.fetch_here (state self.old)) self.new }
     {
-        self.reader.load(4);
-        let c = self.reader.input().peek();
         if is_z(c) {
             self.fetch_end()?;
             return Ok(false);
