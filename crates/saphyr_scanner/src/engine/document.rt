@@ -66,8 +66,8 @@ impl<T: Input> Engine<T> {
         Ok(())
     }
 
-    // `---`. It is separate for speed: a kind that is passed as an argument has a place that is cleared for each token.
-    #[inline(never)]
+    // `---`.
+    #[inline(always)]
     pub(super) fn fetch_document_start(&mut self) -> Result<(), Stop>
         requires { 3 ≤ length (state self.old).core.cursor.rest }
         ensures { MovesBy (document.state_behind_marker tokens.DocumentStart) self.old result
