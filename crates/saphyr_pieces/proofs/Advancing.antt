@@ -122,7 +122,8 @@ module _ (p : PieceReader) (e : EventReader StrInput) where
 
   has_from : (s : Source) (what : Happening) (span : Span) (outside : Bool)
       → is_ready_from s p.readiness from.machine.state ≡ true → HasTokens s p → is_outside to.machine.state ≡ outside
-      → (to.kept ≡ from.kept) × (to.current ≡ from.current) × (event_step from.machine ≡ told_event what span to.machine)
+      → (to.kept ≡ from.kept) × (to.current ≡ from.current)
+      × (event_step from.machine ≡ told_event what span to.machine)
       → HasTokens s (record p { reader = e; readiness = behind_event what outside p.readiness })
   has_from source.Given what span outside w t o same = subst IsGivenOrNone (sym same.0) t
   has_from _ what span outside w t o same =
@@ -132,8 +133,9 @@ module _ (p : PieceReader) (e : EventReader StrInput) where
         holds_after p.readiness from.machine to.machine what span outside ready o same.2 t.2,
       )
 
-  pub sound_behind_event : (next : Event × Span) (outside : Bool) (r : Readiness) → IsSoundReader p → is_ready_now p ≡ true
-      → is_outside to.machine.state ≡ outside → r ≡ behind_event (happening next.0) outside p.readiness
+  pub sound_behind_event : (next : Event × Span) (outside : Bool) (r : Readiness) → IsSoundReader p
+      → is_ready_now p ≡ true → is_outside to.machine.state ≡ outside
+      → r ≡ behind_event (happening next.0) outside p.readiness
       → GivesNext (Some (Ok next)) from to → IsSoundReader (record p { reader = e; readiness = r })
   sound_behind_event next outside r i w o is h =
       let same : (to.kept ≡ from.kept) × (to.current ≡ from.current)

@@ -68,7 +68,8 @@ came_more laws limit _ _ more _ (at_marker v r ts s line h comes) =
     (laws.longer limit v r more line h ts s comes)))
 
 pub came_marker : Laws → (limit : ℕ) (stop : Option ℕ) (text : List ℕ) (s : State) (n : ℕ)
-    → HasCome limit false stop text s → HasMarkerAt n text → IfSome stop (λ k. k ≤ n) → HasCome limit false (Some n) text s
+    → HasCome limit false stop text s → HasMarkerAt n text → IfSome stop (λ k. k ≤ n)
+    → HasCome limit false (Some n) text s
 came_marker laws limit _ _ _ n (at_start text) (v, r, is, at, line, h) low =
     let comes = subst (λ x. ScansTo limit (length v) x (first_token ∷ []) (begun_state text)) is
     (begins limit (length v) text) in
@@ -83,7 +84,8 @@ came_marker laws limit _ _ _ n (at_marker u q ts s begins_too mark comes) (v, r,
 
 pub came_all : Laws → (limit : ℕ) (stop : Option ℕ) (text : List ℕ) (s : State) → HasCome limit false stop text s
     → HasCome limit true stop text s
-came_all laws limit _ _ _ (at_start text) = at_end 0 None text (first_token ∷ []) (begun_state text) (begins limit 0 text)
+came_all laws limit _ _ _ (at_start text) =
+    at_end 0 None text (first_token ∷ []) (begun_state text) (begins limit 0 text)
 came_all laws limit _ _ _ (at_marker v r ts s line h comes) =
     at_end (length v) (Some (length v)) (v ++ r) ts s comes
 

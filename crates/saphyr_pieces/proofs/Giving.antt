@@ -26,15 +26,15 @@ use Rattle.saphyr_pieces.proofs.Known.{holds_with_token, true_is_not_false}
 
 -- ## Cursors
 
-with_pieces_of : (m : Machine) (r : Option Refusal) (ts us : List Piece) → ts ≡ us
-    → record m { tokens = record { pieces = ts; refusal = r } } ≡ record m { tokens = record { pieces = us; refusal = r } }
-with_pieces_of m r ts us e = ap (λ (v : List Piece). record m { tokens = record { pieces = v; refusal = r } }) e
+-- the machine, with these tokens, which this ends
+abbrev with_tokens_of : Machine → Option Refusal → List Piece → Machine
+with_tokens_of m r ts = record m { tokens = record { pieces = ts; refusal = r } }
 
 given_one : (r : Remaining) (x : Piece) (c : EventCursor)
     → with_others r (record c { machine = with_last_token x c.machine }) ≡ with_others (before x r) c
 given_one r x c =
-    ap (λ (m : Machine). record c { machine = m })
-    (with_pieces_of c.machine r.refusal _ _ (append_assoc c.machine.tokens.pieces (x ∷ []) r.pieces))
+    ap (λ (ts : List Piece). record c { machine = with_tokens_of c.machine r.refusal ts })
+    (append_assoc c.machine.tokens.pieces (x ∷ []) r.pieces)
 
 -- ## Readers that wait
 
@@ -73,12 +73,13 @@ module _ (p : PieceReader) (ts : Remaining) (e : EventReader StrInput) (r : Read
   has_from source.Given w h = absurd (true_is_not_false w)
   has_from _ w h =
       let c : EventCursor = cursor p.reader in
+      let waits = (neither (is_over c.machine.state) (is_ready p.readiness) w).1 in
       subst (λ (d : EventCursor). (d.kept ≡ None) × (d.machine.tokens.refusal ≡ None) × IsKnown r d.machine)
       (sym given) (
         h.0,
         h.1,
         subst (λ (v : Readiness). IsKnown v (with_last_token t c.machine)) (sym more)
-            (holds_with_token p.readiness c.machine t (neither (is_over c.machine.state) (is_ready p.readiness) w).1 h.2),
+            (holds_with_token p.readiness c.machine t waits h.2),
       )
 
   at_from : (s : Source) (later : List ℕ) → is_ready_from s p.readiness (cursor p.reader).machine.state ≡ false

@@ -21,31 +21,32 @@ holds_still readiness.Waiting m v h = h
 holds_still readiness.Holding m v h = h
 holds_still (readiness.Ready w) m v h = h
 
-module _ (p : PieceReader) (e : EventReader StrInput) (v : Bool) (is : cursor e ≡ keeping_tags v (cursor p.reader)) where
-  at_from : (s : Source) (later : List ℕ)
-      → cursor_from s (pieces_of (record p { reader = e })) later ≡ keeping_tags v (cursor_from s (pieces_of p) later)
-  at_from (source.Text st) later = ap (with_others _) is
-  at_from (source.Read o) later = ap (with_others _) is
-  at_from source.Given later = is
+module _ (p : PieceReader) (e : EventReader StrInput) (v : Bool) (is : cursor e ≡ keeping_tags v (cursor p.reader))
+  where
+    at_from : (s : Source) (later : List ℕ)
+        → cursor_from s (pieces_of (record p { reader = e })) later ≡ keeping_tags v (cursor_from s (pieces_of p) later)
+    at_from (source.Text st) later = ap (with_others _) is
+    at_from (source.Read o) later = ap (with_others _) is
+    at_from source.Given later = is
 
-  pub keeps_at : (later : List ℕ)
-      → at (pieces_of (record p { reader = e })) later ≡ keeping_tags v (at (pieces_of p) later)
-  keeps_at later = at_from p.source later
+    pub keeps_at : (later : List ℕ)
+        → at (pieces_of (record p { reader = e })) later ≡ keeping_tags v (at (pieces_of p) later)
+    keeps_at later = at_from p.source later
 
-  sound_from : (s : Source) → IsSoundFrom s p → IsSoundFrom s (record p { reader = e })
-  sound_from (source.Text st) h = h
-  sound_from (source.Read o) h = h
-  sound_from source.Given h = tt
+    sound_from : (s : Source) → IsSoundFrom s p → IsSoundFrom s (record p { reader = e })
+    sound_from (source.Text st) h = h
+    sound_from (source.Read o) h = h
+    sound_from source.Given h = tt
 
-  has_from : (s : Source) → HasTokens s p → HasTokens s (record p { reader = e })
-  has_from source.Given t = subst (λ (d : EventCursor). IsGivenOrNone d.kept) (sym is) t
-  has_from _ t =
-      subst (λ (d : EventCursor). (d.kept ≡ None) × (d.machine.tokens.refusal ≡ None) × IsKnown p.readiness d.machine)
-      (sym is) (t.0, t.1, holds_still p.readiness (cursor p.reader).machine v t.2)
+    has_from : (s : Source) → HasTokens s p → HasTokens s (record p { reader = e })
+    has_from source.Given t = subst (λ (d : EventCursor). IsGivenOrNone d.kept) (sym is) t
+    has_from _ t =
+        subst (λ (d : EventCursor). (d.kept ≡ None) × (d.machine.tokens.refusal ≡ None) × IsKnown p.readiness d.machine)
+        (sym is) (t.0, t.1, holds_still p.readiness (cursor p.reader).machine v t.2)
 
-  pub keeps_sound : IsSoundReader p → IsSoundReader (record p { reader = e })
-  keeps_sound i = record {
-    source = sound_from p.source i.source;
-    tokens = has_from p.source i.tokens;
-    current = ap (λ (d : EventCursor). d.current) is ∙ i.current;
-  }
+    pub keeps_sound : IsSoundReader p → IsSoundReader (record p { reader = e })
+    keeps_sound i = record {
+      source = sound_from p.source i.source;
+      tokens = has_from p.source i.tokens;
+      current = ap (λ (d : EventCursor). d.current) is ∙ i.current;
+    }

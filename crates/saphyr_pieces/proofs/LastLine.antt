@@ -59,15 +59,15 @@ Counts index = index + 1 < 18446744073709551616
 known_on_break : (c index n : ℕ) (f : Front) (text : List ℕ) → is_break c ≡ true → Counts index
     → HasLineOrIsLong index n f text → HasLineOrIsLong (index + 1) (index + 1) (front_behind c f) (text ++ c ∷ [])
 known_on_break c index n f text e few (inl h) =
-    subst (λ b. HasLineOrIsLong (index + 1) (index + 1) (if b then front.Nothing else front_with c f) (text ++ c ∷ [])) (sym e)
-    (inl (line_begins c index n f text e h))
+    let Known : Front → Type 0 = λ g. HasLineOrIsLong (index + 1) (index + 1) g (text ++ c ∷ []) in
+    subst (λ b. Known (if b then front.Nothing else front_with c f)) (sym e) (inl (line_begins c index n f text e h))
 known_on_break c index n f text e few (inr (many, h)) = absurd (omega arith)
 
 known_on_other : (c index n : ℕ) (f : Front) (text : List ℕ) → is_break c ≡ false → Counts index
     → HasLineOrIsLong index n f text → HasLineOrIsLong (index + 1) n (front_behind c f) (text ++ c ∷ [])
 known_on_other c index n f text e few (inl h) =
-    subst (λ b. HasLineOrIsLong (index + 1) n (if b then front.Nothing else front_with c f) (text ++ c ∷ [])) (sym e)
-    (inl (line_goes_on c index n f text e h))
+    let Known : Front → Type 0 = λ g. HasLineOrIsLong (index + 1) n g (text ++ c ∷ []) in
+    subst (λ b. Known (if b then front.Nothing else front_with c f)) (sym e) (inl (line_goes_on c index n f text e h))
 known_on_other c index n f text e few (inr (many, h)) = absurd (omega arith)
 
 -- ## What a front tells of its line

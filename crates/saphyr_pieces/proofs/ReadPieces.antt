@@ -1,6 +1,6 @@
 -- What a reader of pieces keeps where characters come, and where tokens are read.
-use Rattle.std.proofs.Common.{◌≡◌, ◌≤◌, ◌<◌, ℕ, ◌+◌, ◌^◌, Bool, true, false, List, [], ◌∷◌, ◌++◌, length, Option, Some, None, Result, Ok, refl, sym, ap, ◌∙◌, subst, arith}
-use Rattle.std.specs.Prelude.{IsUtf8, option_map, string_bytes}
+use Rattle.std.proofs.Common.{◌≡◌, ◌≤◌, ◌<◌, ℕ, ◌+◌, ◌^◌, Bool, true, false, List, [], ◌∷◌, ◌++◌, length, Option, Some, None, Result, Ok, Err, refl, sym, ap, ◌∙◌, subst, arith}
+use Rattle.std.specs.Prelude.{IfOk, IsUtf8, is_err, option_map, string_bytes}
 use Rattle.std.specs.Str.{chars}
 use Rattle.std.proofs.lemmas.List.{append_assoc}
 use Rattle.std.proofs.lemmas.Str.{chars-append}
@@ -114,8 +114,8 @@ begins laws s rest tokens reader p q a b c text =
 pub begins_there : (s : State) (rest : List ℕ) → s ≡ begun_state [] → rest ≡ []
     → HasCome most_characters false None [] (with_rest rest s)
 begins_there s rest p q =
-    subst (HasCome most_characters false None []) (sym (ap (with_rest rest) p ∙ ap (λ r. with_rest r (begun_state [])) q))
-    (comes.at_start [])
+    let there = ap (with_rest rest) p ∙ ap (λ r. with_rest r (begun_state [])) q in
+    subst (HasCome most_characters false None []) (sym there) (comes.at_start [])
 
 -- what holds of a reader of events of which this is known
 abbrev HoldsOf : EventCursor → Readiness → Type 0
@@ -158,7 +158,8 @@ source_stays laws (source.Text s) p q more w t e follows remembers h =
     let text = h.2.0 in
     let rest = chars (string_bytes p.text) in
     let came = came_more laws most_characters p.marker text more (with_rest rest s.state) h.2.1.0 in
-    let there = subst (λ r. HasCome most_characters false p.marker (text ++ more) (with_rest r s.state)) (sym e) came in (
+    let Came : List ℕ → Type 0 = λ r. HasCome most_characters false p.marker (text ++ more) (with_rest r s.state) in
+    let there = subst Came (sym e) came in (
       h.0,
       ap (λ (r : Remaining). r.refusal) t ∙ h.1,
       (
@@ -172,7 +173,8 @@ source_stays laws source.Given p q more w t e follows remembers h = absurd (cc)
 pub stays_sound : Laws → (p q : PieceReader) (more : List ℕ) → wants_more_from p.source ≡ true → IsSoundReader p
     → q.source ≡ p.source → q.tokens ≡ p.tokens → cursor q.reader ≡ cursor p.reader → q.readiness ≡ p.readiness
     → chars (string_bytes q.text) ≡ chars (string_bytes p.text) ++ more
-    → ((text : List ℕ) → IsLastLineOf p.lines text → IsLastLineOf q.lines (text ++ more)) → Remembers p q more → IsSoundReader q
+    → ((text : List ℕ) → IsLastLineOf p.lines text → IsLastLineOf q.lines (text ++ more)) → Remembers p q more
+    → IsSoundReader q
 stays_sound laws p q more w h x t c r e follows remembers = record {
   source = subst (λ y. IsSoundFrom y q) (sym x)
       (source_stays laws p.source p q more w t e follows remembers h.source);
@@ -186,17 +188,17 @@ grown old more new h e = ap chars e ∙ chars-append old more h
 
 -- ## Tokens are read
 
-pub resumes : (s t : Stepping) (rest : List ℕ) → t.state ≡ with_rest rest s.state → t.limit ≡ s.limit
+resumes : (s t : Stepping) (rest : List ℕ) → t.state ≡ with_rest rest s.state → t.limit ≡ s.limit
     → t ≡ resumed rest s
 resumes s t rest p q = same_stepping t (resumed rest s) p q
 
 -- before the rest of its own text
-pub rested : (t u : Stepping) (rest : List ℕ) → rest ≡ t.state.core.cursor.rest → u.state ≡ with_rest [] t.state
+rested : (t u : Stepping) (rest : List ℕ) → rest ≡ t.state.core.cursor.rest → u.state ≡ with_rest [] t.state
     → u.limit ≡ t.limit → resumed rest u ≡ t
 rested t u rest p q r =
     same_stepping (resumed rest u) t (ap (with_rest rest) q ∙ ap (λ x. with_rest x t.state) p) r
 
-pub stops : (ended : Bool) (s t u v : Stepping) (rest left later : List ℕ) (tokens read : Remaining)
+stops : (ended : Bool) (s t u v : Stepping) (rest left later : List ℕ) (tokens read : Remaining)
     (reader : EventCursor) → ended ≡ false → t ≡ resumed rest s → resumed left v ≡ u
     → all_tokens ended later t tokens ≡ all_tokens ended later u read
     → at (of_text v left read reader) later ≡ at (of_text s rest tokens reader) (until_ended ended later)
@@ -206,7 +208,7 @@ stops false s t u v rest left later tokens read reader over e f h =
     ∙ ap (λ x. with_others x reader) (sym h)
     ∙ ap (λ x. with_others (all_tokens false later x tokens) reader) e
 
-pub ends : (ended : Bool) (s t : Stepping) (rest later : List ℕ) (tokens : Remaining) (all : Remaining)
+ends : (ended : Bool) (s t : Stepping) (rest later : List ℕ) (tokens : Remaining) (all : Remaining)
     (reader : EventCursor) → t ≡ resumed rest s → all_tokens ended later t tokens ≡ all
     → with_others all reader ≡ at (of_text s rest tokens reader) (until_ended ended later)
 ends ended s t rest later tokens all reader e h =
@@ -287,7 +289,7 @@ pub record StopsAt (ended : Bool) (p : PieceReader) (t u : Stepping) (read : Rem
   pub none : read.refusal ≡ None
   pub same : (later : List ℕ) → all_tokens ended later t p.tokens ≡ all_tokens ended later u read
 
-pub stops_at : Laws → (ended : Bool) (p : PieceReader) (s t u : Stepping) (read : Remaining) (r : Reading) → Scans p s t
+stops_at : Laws → (ended : Bool) (p : PieceReader) (s t u : Stepping) (read : Remaining) (r : Reading) → Scans p s t
     → r ≡ reading.Stopped → ReadsAll ended p t r u read → StopsAt ended p t u read
 stops_at laws ended p s t u read r w e h =
     let at = sound_from p (source.Text s) w.is w.sound in
@@ -305,7 +307,7 @@ stops_at laws ended p s t u read r w e h =
       same = x.4;
     }
 
-pub stop_is_near : (ended : Bool) (p : PieceReader) (t u : Stepping) (read : Remaining) (rest : List ℕ)
+stop_is_near : (ended : Bool) (p : PieceReader) (t u : Stepping) (read : Remaining) (rest : List ℕ)
     → StopsAt ended p t u read → rest ≡ [] → u.state.core.cursor.mark.index + length rest < 2 ^ 64
 stop_is_near ended p t u read rest w e =
     let low : u.state.core.cursor.mark.index ≤ u.limit = near u.limit false p.marker w.text u.state w.comes in
@@ -313,7 +315,7 @@ stop_is_near ended p t u read rest w e =
     let limit : u.limit ≡ 4294967295 = w.limit in
     omega (arith, low, same, limit)
 
-pub at_stop : (ended : Bool) (p : PieceReader) (s t u v : Stepping) (read : Remaining) (left : List ℕ) → Scans p s t
+at_stop : (ended : Bool) (p : PieceReader) (s t u v : Stepping) (read : Remaining) (left : List ℕ) → Scans p s t
     → StopsAt ended p t u read → left ≡ u.state.core.cursor.rest → v.state ≡ with_rest [] u.state → v.limit ≡ u.limit
     → (later : List ℕ)
     → at (of_text v left read (cursor p.reader)) later ≡ at (pieces_of p) (until_ended ended later)
@@ -322,7 +324,7 @@ at_stop ended p s t u v read left w x e state limit later =
     (rested u v left e state limit) (x.same later)
     ∙ of_source p s (until_ended ended later) w.is
 
-pub sound_at_stop : (ended : Bool) (p q : PieceReader) (s t u v : Stepping) (read : Remaining) → Scans p s t
+sound_at_stop : (ended : Bool) (p q : PieceReader) (s t u v : Stepping) (read : Remaining) → Scans p s t
     → StopsAt ended p t u read → rest_of q ≡ u.state.core.cursor.rest → v.state ≡ with_rest [] u.state
     → v.limit ≡ u.limit → q.source ≡ source.Text v → q.tokens ≡ read → q.marker ≡ p.marker → q.lines ≡ p.lines
     → cursor q.reader ≡ cursor p.reader → q.readiness ≡ p.readiness → IsSoundReader q
@@ -358,14 +360,14 @@ pub record EndsWith (n : Option Refusal) (ended : Bool) (p : PieceReader) (t : S
     pub none : read.refusal ≡ None
     pub same : (later : List ℕ) → all_tokens ended later t p.tokens ≡ ended_by n read
 
-pub ends_over : Laws → (ended : Bool) (p : PieceReader) (s t u : Stepping) (read : Remaining) (r : Reading)
+ends_over : Laws → (ended : Bool) (p : PieceReader) (s t u : Stepping) (read : Remaining) (r : Reading)
     → Scans p s t → r ≡ reading.Over → ReadsAll ended p t r u read → EndsWith None ended p t read
 ends_over laws ended p s t u read r w e h =
     let there = comes_so laws ended p s t w in
     let x = subst (λ y. ReadsTokens ended p.marker there.0 t p.tokens y u read) e (h there.0 there.1) in
     record { none = x.0; same = x.1 }
 
-pub ends_refused : Laws → (ended : Bool) (p : PieceReader) (s t u : Stepping) (read : Remaining) (r : Reading)
+ends_refused : Laws → (ended : Bool) (p : PieceReader) (s t u : Stepping) (read : Remaining) (r : Reading)
     (n : Refusal) → Scans p s t → r ≡ reading.Refused n → ReadsAll ended p t r u read
     → EndsWith (Some n) ended p t read
 ends_refused laws ended p s t u read r n w e h =
@@ -373,7 +375,7 @@ ends_refused laws ended p s t u read r n w e h =
     let x = subst (λ y. ReadsTokens ended p.marker there.0 t p.tokens y u read) e (h there.0 there.1) in
     record { none = x.0; same = x.1 }
 
-pub at_end : (n : Option Refusal) (ended : Bool) (p : PieceReader) (s t : Stepping) (read : Remaining) (x : Source)
+at_end : (n : Option Refusal) (ended : Bool) (p : PieceReader) (s t : Stepping) (read : Remaining) (x : Source)
     (rest : List ℕ) → Scans p s t → EndsWith n ended p t read → x ≡ source.Read n → (later : List ℕ)
     → at (record { source = x; rest = rest; tokens = read; reader = cursor p.reader }) later
     ≡ at (pieces_of p) (until_ended ended later)
@@ -382,7 +384,7 @@ at_end n ended p s t read x rest w ends_so is later =
     ∙ ends ended s t (rest_of p) later p.tokens (ended_by n read) (cursor p.reader) w.over (ends_so.same later)
     ∙ of_source p s (until_ended ended later) w.is
 
-pub sound_at_end : (n : Option Refusal) (ended : Bool) (p q : PieceReader) (s t : Stepping) (read : Remaining)
+sound_at_end : (n : Option Refusal) (ended : Bool) (p q : PieceReader) (s t : Stepping) (read : Remaining)
     → Scans p s t → EndsWith n ended p t read → q.source ≡ source.Read n → q.tokens ≡ read
     → cursor q.reader ≡ cursor p.reader → q.readiness ≡ p.readiness → IsSoundReader q
 sound_at_end n ended p q s t read w x is tokens reader ready =
@@ -393,3 +395,63 @@ sound_at_end n ended p q s t read w x is tokens reader ready =
           (subst (λ c. HoldsOf c q.readiness) (sym reader) (subst (HoldsOf (cursor p.reader)) (sym ready) known));
       current = ap (λ (c : EventCursor). c.current) reader ∙ w.sound.current;
     }
+
+-- ## As the code has it
+
+-- the tokens of the reader's text were read, and this ended the reading
+module _ (laws : Laws) (ended : Bool) (p : PieceReader) (s t u : Stepping) (read : Remaining) (r : Reading)
+    (w : Scans p s t) (h : ReadsAll ended p t r u read)
+  where
+    -- ### The scanner stopped
+
+    module _ (e : r ≡ reading.Stopped) where
+      stop : StopsAt ended p t u read
+      stop = stops_at laws ended p s t u read r w e h
+
+      pub stopped_early : ended ≡ false
+      stopped_early = stop.goes_on
+
+      pub stopped_near : (rest : List ℕ) → rest ≡ [] → u.state.core.cursor.mark.index + length rest < 2 ^ 64
+      stopped_near rest none = stop_is_near ended p t u read rest stop none
+
+      -- its input is over, and what it did not pass is kept
+      module _ (v : Stepping) (over : List ℕ) (none : over ≡ []) (state : v.state ≡ with_rest over u.state)
+          (limit : v.limit ≡ u.limit)
+        where
+          left_over : v.state ≡ with_rest [] u.state
+          left_over = state ∙ ap (λ (x : List ℕ). with_rest x u.state) none
+
+          pub stopped_at : (left : List ℕ) → left ≡ u.state.core.cursor.rest → (later : List ℕ)
+              → at (of_text v left read (cursor p.reader)) later ≡ at (pieces_of p) (until_ended ended later)
+          stopped_at left is = at_stop ended p s t u v read left w stop is left_over limit
+
+          pub stopped_sound : (q : PieceReader) → rest_of q ≡ u.state.core.cursor.rest → q.source ≡ source.Text v
+              → q.tokens ≡ read → q.marker ≡ p.marker → q.lines ≡ p.lines → cursor q.reader ≡ cursor p.reader
+              → q.readiness ≡ p.readiness → IsSoundReader q
+          stopped_sound q is = sound_at_stop ended p q s t u v read w stop is left_over limit
+
+    -- ### All tokens were read
+
+    pub over_at : r ≡ reading.Over → (x : Source) (rest : List ℕ) → x ≡ source.Read None → (later : List ℕ)
+        → at (record { source = x; rest = rest; tokens = read; reader = cursor p.reader }) later
+        ≡ at (pieces_of p) (until_ended ended later)
+    over_at e x rest = at_end None ended p s t read x rest w (ends_over laws ended p s t u read r w e h)
+
+    pub over_sound : r ≡ reading.Over → (q : PieceReader) → q.source ≡ source.Read None → q.tokens ≡ read
+        → cursor q.reader ≡ cursor p.reader → q.readiness ≡ p.readiness → IsSoundReader q
+    over_sound e q = sound_at_end None ended p q s t read w (ends_over laws ended p s t u read r w e h)
+
+    pub refused_at : (n : Refusal) → r ≡ reading.Refused n → (x : Source) (rest : List ℕ) → x ≡ source.Read (Some n)
+        → (later : List ℕ)
+        → at (record { source = x; rest = rest; tokens = read; reader = cursor p.reader }) later
+        ≡ at (pieces_of p) (until_ended ended later)
+    refused_at n e x rest = at_end (Some n) ended p s t read x rest w (ends_refused laws ended p s t u read r n w e h)
+
+    pub refused_sound : (n : Refusal) → r ≡ reading.Refused n → (q : PieceReader) → q.source ≡ source.Read (Some n)
+        → q.tokens ≡ read → cursor q.reader ≡ cursor p.reader → q.readiness ≡ p.readiness → IsSoundReader q
+    refused_sound n e q = sound_at_end (Some n) ended p q s t read w (ends_refused laws ended p s t u read r n w e h)
+
+-- what holds unless memory ran out
+pub unless_failed : {T E : Type 0} (r : Result T E) (P : Type 0) → is_err r ≡ false → IfOk r (λ _. P) → P
+unless_failed (Ok x) P e h = h
+unless_failed (Err f) P e h = absurd (cc)

@@ -1,3 +1,4 @@
+-- The next characters come after those that came.
 use Rattle.std.proofs.Common.{IsUtf8, refl, subst}
 use Rattle.std.specs.Prelude.{string_bytes}
 use Rattle.std.specs.Str.{chars}
@@ -9,38 +10,38 @@ use Rattle.saphyr_pieces.proofs.pieces.PieceReader.take_in.Goals as goal
 
 pub returns-in_default-clause-at : goal.returns-in_default-clause-at
 returns-in_default-clause-at c =
+    let grows = grown _ _ _ (subst IsUtf8 c.as_str.ensures.value c.as_str.utf8) c.in_ok-push_str.ensures.bytes in
     takes_in c.args.self.now.source (chars (string_bytes c.args.self.now.text)) (chars c.args.more.now) _
-    c.args.self.now.tokens (cursor c.args.self.now.reader) c.requires.wants
-    (grown _ _ _ (subst IsUtf8 c.as_str.ensures.value c.as_str.utf8) c.in_ok-push_str.ensures.bytes)
+    c.args.self.now.tokens (cursor c.args.self.now.reader) c.requires.wants grows
 
 pub returns-in_default-clause-sound : goal.returns-in_default-clause-sound
 returns-in_default-clause-sound c =
-    stays_sound c.goes_on_over_pieces.ensures c.args.self.now _ (chars c.args.more.now) c.requires.wants c.requires.sound
-    refl refl refl refl (grown _ _ _ (subst IsUtf8 c.as_str.ensures.value c.as_str.utf8) c.in_ok-push_str.ensures.bytes)
-    c.pass_all.ensures.follows (λ text follows s h. h)
+    let grows = grown _ _ _ (subst IsUtf8 c.as_str.ensures.value c.as_str.utf8) c.in_ok-push_str.ensures.bytes in
+    stays_sound c.goes_on_over_pieces.ensures c.args.self.now _ (chars c.args.more.now) c.requires.wants
+    c.requires.sound refl refl refl refl grows c.pass_all.ensures.follows (λ text follows s h. h)
 
 pub returns-then-not-is_last-clause-at : goal.returns-then-not-is_last-clause-at
 returns-then-not-is_last-clause-at c =
+    let grows = grown _ _ _ (subst IsUtf8 c.as_str.ensures.value c.as_str.utf8) c.in_ok-push_str.ensures.bytes in
     takes_in c.args.self.now.source (chars (string_bytes c.args.self.now.text)) (chars c.args.more.now) _
-    c.args.self.now.tokens (cursor c.args.self.now.reader) c.requires.wants
-    (grown _ _ _ (subst IsUtf8 c.as_str.ensures.value c.as_str.utf8) c.in_ok-push_str.ensures.bytes)
+    c.args.self.now.tokens (cursor c.args.self.now.reader) c.requires.wants grows
 
 pub returns-then-not-is_last-clause-sound : goal.returns-then-not-is_last-clause-sound
 returns-then-not-is_last-clause-sound c =
-    stays_sound c.goes_on_over_pieces.ensures c.args.self.now _ (chars c.args.more.now) c.requires.wants c.requires.sound
-    refl refl refl refl (grown _ _ _ (subst IsUtf8 c.as_str.ensures.value c.as_str.utf8) c.in_ok-push_str.ensures.bytes)
-    c.pass_all.ensures.follows (λ text follows s h. h)
+    let grows = grown _ _ _ (subst IsUtf8 c.as_str.ensures.value c.as_str.utf8) c.in_ok-push_str.ensures.bytes in
+    stays_sound c.goes_on_over_pieces.ensures c.args.self.now _ (chars c.args.more.now) c.requires.wants
+    c.requires.sound refl refl refl refl grows c.pass_all.ensures.follows (λ text follows s h. h)
 
 pub returns-clause-at : goal.returns-clause-at
 returns-clause-at c =
+    let grows = grown _ _ _ (subst IsUtf8 c.as_str.ensures.value c.as_str.utf8) c.in_ok-push_str.ensures.bytes in
     takes_in c.args.self.now.source (chars (string_bytes c.args.self.now.text)) (chars c.args.more.now) _
-    c.args.self.now.tokens (cursor c.args.self.now.reader) c.requires.wants
-    (grown _ _ _ (subst IsUtf8 c.as_str.ensures.value c.as_str.utf8) c.in_ok-push_str.ensures.bytes)
+    c.args.self.now.tokens (cursor c.args.self.now.reader) c.requires.wants grows
 
 pub returns-clause-sound : goal.returns-clause-sound
 returns-clause-sound c =
-    stays_sound c.goes_on_over_pieces.ensures c.args.self.now _ (chars c.args.more.now) c.requires.wants c.requires.sound
-    refl refl refl refl (grown _ _ _ (subst IsUtf8 c.as_str.ensures.value c.as_str.utf8) c.in_ok-push_str.ensures.bytes)
-    c.pass_all.ensures.follows
+    let grows = grown _ _ _ (subst IsUtf8 c.as_str.ensures.value c.as_str.utf8) c.in_ok-push_str.ensures.bytes in
+    stays_sound c.goes_on_over_pieces.ensures c.args.self.now _ (chars c.args.more.now) c.requires.wants
+    c.requires.sound refl refl refl refl grows c.pass_all.ensures.follows
     (λ text follows s h. came_marker c.goes_on_over_pieces.ensures most_characters c.args.self.now.marker _ s _ h
     (c.in-Some.ensures.found text follows) (c.is_last.ensures c.if-not-is_last.false))
