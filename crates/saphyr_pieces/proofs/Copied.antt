@@ -20,7 +20,8 @@ use Rattle.saphyr_pieces.specs.Views.{HasTokens, IsSoundReader, IsSoundFrom, pie
 abbrev SoundFrom : Source → Option ℕ → Lines → Pieces → Type 0
 SoundFrom (source.Text s) marker lines x =
     (s.limit ≡ most_characters) × (x.tokens.refusal ≡ None)
-    × ((text : List ℕ) × (HasCome most_characters false marker text (with_rest x.rest s.state) × IsLastLineOf lines text))
+    × ((text : List ℕ)
+    × (HasCome most_characters false marker text (with_rest x.rest s.state) × IsLastLineOf lines text))
 SoundFrom (source.Read e) marker lines x = x.tokens.refusal ≡ None
 SoundFrom source.Given marker lines x = Unit {0}
 
@@ -47,6 +48,10 @@ tokens_unseen : (s : Source) (p : PieceReader) → TokensFrom s p.readiness (pie
 tokens_unseen (source.Text s) p h = h
 tokens_unseen (source.Read e) p h = h
 tokens_unseen source.Given p h = h
+
+pub same_pieces : (x y : Pieces) → x.source ≡ y.source → x.rest ≡ y.rest → x.tokens ≡ y.tokens → x.reader ≡ y.reader
+    → x ≡ y
+same_pieces x y s r t c = λ i. record { source = s i; rest = r i; tokens = t i; reader = c i }
 
 pub sound_copied : (p q : PieceReader) → pieces_of q ≡ pieces_of p → q.marker ≡ p.marker → q.lines ≡ p.lines
     → q.readiness ≡ p.readiness → IsSoundReader p → IsSoundReader q
