@@ -36,15 +36,15 @@ holds_with_kind : (k : Kind) (r : Readiness) (m : Machine) (t : Piece) → t.kin
     → IsKnown (with_kind k r) (with_last_token t m)
 holds_with_kind tokens.DocumentStart r m t is w h = ((m.tokens.pieces, t, refl, is), λ e. absurd (cc))
 holds_with_kind tokens.DocumentEnd readiness.Holding m t is w h =
-    ((m.tokens.pieces, t, refl, is), λ e o p. h (passed_front m.tokens.pieces (t ∷ []) p))
+    ((m.tokens.pieces, t, refl, is), λ e o p. h o (passed_front m.tokens.pieces (t ∷ []) p))
 holds_with_kind tokens.DocumentEnd readiness.Waiting m t is w h = tt
 holds_with_kind tokens.DocumentEnd _ m t is w h = absurd (true_is_not_false w)
 holds_with_kind tokens.ByteOrderMark readiness.Holding m t is w h =
-    λ p. h (passed_front m.tokens.pieces (t ∷ []) p)
+    λ o p. h o (passed_front m.tokens.pieces (t ∷ []) p)
 holds_with_kind tokens.ByteOrderMark readiness.Waiting m t is w h = tt
 holds_with_kind tokens.ByteOrderMark _ m t is w h = absurd (true_is_not_false w)
 holds_with_kind _ r m t is w h =
-    λ p. false_is_not_true (ap is_end_or_mark (sym is) ∙ passed_last m.tokens.pieces t p)
+    λ o p. false_is_not_true (ap is_end_or_mark (sym is) ∙ passed_last m.tokens.pieces t p)
 
 pub holds_with_token : (r : Readiness) (m : Machine) (t : Piece) → is_ready r ≡ false → IsKnown r m
     → IsKnown (with_kind t.kind r) (with_last_token t m)
@@ -71,7 +71,8 @@ ends_inside what false m is other (inr e) = absurd (other e.1)
 
 pub holds_behind : (w : code.Marker) (what : Happening) (outside : Bool) (m : Machine) → is_outside m.state ≡ outside
     → IsMarkerLeft w what m → IsKnown (behind_last what outside w) m
-holds_behind marker.Starts (events.DocumentStart true) outside m is h = tt
+holds_behind marker.Starts (events.DocumentStart true) true m is h = tt
+holds_behind marker.Starts (events.DocumentStart true) false m is h = λ o p. not_outside m is o
 holds_behind marker.Starts _ outside m is (inl e) = (e, λ w. absurd (cc))
 holds_behind marker.Starts _ outside m is (inr e) = absurd (let own = e.1 in cc)
 holds_behind marker.Ends events.DocumentEnd outside m is h = tt

@@ -64,7 +64,8 @@ most_counted = 18446744073709551615
 
 -- This is known of the text's last line. Of a text that is too long to be counted nothing more is known.
 abbrev pub HasLineOrIsLong : ℕ → ℕ → Front → List ℕ → Type 0
-HasLineOrIsLong index start f text = HasLine index start f text ⊎ ((most_counted ≤ index) × (most_counted ≤ length text))
+HasLineOrIsLong index start f text =
+    HasLine index start f text ⊎ ((most_counted ≤ index) × (most_counted ≤ length text))
 
 abbrev pub IsLastLineOf : Lines → List ℕ → Type 0
 IsLastLineOf l text = HasLineOrIsLong l.index l.line l.front text

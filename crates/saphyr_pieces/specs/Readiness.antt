@@ -38,7 +38,8 @@ with_kind _ r = readiness.Holding
 
 -- after an event; the flag tells whether no document is open
 abbrev pub behind_last : Happening → Bool → code.Marker → Readiness
-behind_last (events.DocumentStart true) outside marker.Starts = readiness.Waiting
+behind_last (events.DocumentStart true) outside marker.Starts =
+    if outside then readiness.Waiting else readiness.Holding
 behind_last _ outside marker.Starts = readiness.Ready marker.Starts
 behind_last events.DocumentEnd outside marker.Ends = readiness.Waiting
 behind_last _ outside marker.Ends = if outside then readiness.Waiting else readiness.Ready marker.Ends
@@ -53,7 +54,7 @@ IsKnown readiness.Starting m =
     (m.state ≡ state.StreamStart)
     × ((t : Piece) × (m.tokens.pieces ≡ t ∷ []) × (t.kind ≡ tokens.StreamStart))
 IsKnown readiness.Waiting m = Unit {0}
-IsKnown readiness.Holding m = ArePassed m.tokens.pieces → ⊥
+IsKnown readiness.Holding m = IsOutside m → ArePassed m.tokens.pieces → ⊥
 IsKnown (readiness.Ready w) m =
     EndWithMarker (marker_of w) m.tokens.pieces
     × (w ≡ marker.Ends → IsOutside m → ArePassed m.tokens.pieces → ⊥)

@@ -22,7 +22,7 @@ pub(crate) enum Readiness {
     Starting,
     /// Nothing is known.
     Waiting,
-    /// One of them isn't passed outside documents, as `...` and byte order marks are.
+    /// A document is open, or one of them isn't passed outside documents, as `...` and byte order marks are.
     Holding,
     /// The last is a marker's, and the next event depends on none after it.
     Ready(Marker),
@@ -53,7 +53,9 @@ impl Readiness {
         ensures { result ≡ spec.behind_event (happening event.now) is_outside self }
     {
         match (self, event) {
-            (Readiness::Ready(Marker::Starts), Event::DocumentStart(true)) => Readiness::Waiting,
+            (Readiness::Ready(Marker::Starts), Event::DocumentStart(true)) if is_outside =>
+                Readiness::Waiting,
+            (Readiness::Ready(Marker::Starts), Event::DocumentStart(true)) => Readiness::Holding,
             (Readiness::Ready(Marker::Ends), Event::DocumentEnd) => Readiness::Waiting,
             (Readiness::Ready(Marker::Ends), _) if is_outside => Readiness::Waiting,
             (Readiness::Ready(marker), _) => Readiness::Ready(marker),
