@@ -23,7 +23,7 @@ use Rattle.marker_laws.specs.Beside.{Marked, begins_line}
 use Rattle.marker_laws.specs.EventsUpTo.{before_all}
 use Rattle.marker_laws.specs.GoesOn.{ScansTo, extended_by, reads, starts, takes}
 use Rattle.marker_laws.proofs.HandedTokens.{refusal_ends, regrouped}
-use Rattle.saphyr_pieces.specs.Comes.{HasCome, Laws, at_end, at_marker, at_start, begun_state, first_token, may_read, until_ended}
+use Rattle.saphyr_pieces.specs.Comes.{HasCome, Laws, at_end, at_marker, at_start, begun_state, first_token, is_latest, may_read, until_ended}
 use Rattle.saphyr_pieces.specs.Lines.{HasMarkerAt}
 
 -- ## The token of the stream's start
@@ -81,6 +81,10 @@ came_marker laws limit _ _ _ n (at_marker u q ts s begins_too mark comes) (v, r,
     let there = at_marker v r ts s line h (subst (λ x. ScansTo limit (length v) x ts s) is further) in
     subst (λ k. HasCome limit false (Some k) (u ++ q) s) (sym at)
     (subst (λ x. HasCome limit false (Some (length v)) x s) (sym is) there)
+
+pub is_low : (n : ℕ) (last : Option ℕ) → is_latest n last ≡ true → IfSome last (λ k. k ≤ n)
+is_low n None e = tt
+is_low n (Some k) e = leb-true _ _ e
 
 pub came_all : Laws → (limit : ℕ) (stop : Option ℕ) (text : List ℕ) (s : State) → HasCome limit false stop text s
     → HasCome limit true stop text s

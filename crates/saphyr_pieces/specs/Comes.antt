@@ -38,6 +38,11 @@ may_read true stop index = true
 may_read false None index = false
 may_read false (Some n) index = nat_le index n
 
+-- whether the index is not before that of the last marker that came
+abbrev pub is_latest : ℕ → Option ℕ → Bool
+is_latest index None = true
+is_latest index (Some n) = nat_le n index
+
 -- what may come later
 abbrev pub until_ended : Bool → List ℕ → List ℕ
 until_ended true later = []

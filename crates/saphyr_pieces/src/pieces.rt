@@ -1,7 +1,7 @@
 //! A reader of events over a text that comes in pieces. Its scanner reads no token from behind the last document marker
 //! that came, so the tokens are those of the whole text. Its reader gets them up to one marker at a time.
 
-ghost use Rattle.std.specs.Prelude.{◌≡◌, ◌<◌, ◌≤◌, ◌^◌, length, ℕ, List, ◌++◌, [], IfOk, IfSome, OnErr, None, Some, true, false};
+ghost use Rattle.std.specs.Prelude.{◌≡◌, ◌<◌, ◌^◌, length, ℕ, List, ◌++◌, [], IfOk, OnErr, None, Some, true, false};
 ghost use Rattle.std.specs.Str.{chars};
 ghost use Rattle.saphyr_scanner.specs.Steps.Remaining.{scan};
 ghost use Rattle.saphyr_scanner.specs.Steps.State as state;
@@ -9,7 +9,7 @@ ghost use Rattle.saphyr_scanner.specs.Views.Tokens.{none, piece};
 ghost use Rattle.saphyr_machine.specs.Answer.{OutOfMemory};
 ghost use Rattle.saphyr_machine.specs.Cursor.{at_start, keeping_tags};
 ghost use Rattle.event_laws.specs.Limits.{most_characters};
-ghost use Rattle.saphyr_pieces.specs.Comes.{begun_state, first_token, until_ended};
+ghost use Rattle.saphyr_pieces.specs.Comes.{begun_state, first_token, is_latest, until_ended};
 ghost use Rattle.saphyr_pieces.specs.Pieces.{HandsOutOrWaits, at, wants_more};
 ghost use Rattle.saphyr_pieces.specs.Views as spec;
 
@@ -104,7 +104,7 @@ fn take_first_token(
 
 // Whether no marker came behind this index.
 fn is_last(marker: usize, last: Option<usize>) -> bool
-    ensures { result ≡ true → IfSome last (λ k. k ≤ marker) }
+    ensures { result ≡ is_latest marker last }
 {
     match last {
         Some(index) => index <= marker,

@@ -1,10 +1,10 @@
 -- The next characters come after those that came.
-use Rattle.std.proofs.Common.{IsUtf8, refl, subst}
+use Rattle.std.proofs.Common.{IsUtf8, refl, subst, sym, ◌∙◌}
 use Rattle.std.specs.Prelude.{string_bytes}
 use Rattle.std.specs.Str.{chars}
 use Rattle.saphyr_machine.specs.Views.Readers.{cursor}
 use Rattle.event_laws.specs.Limits.{most_characters}
-use Rattle.saphyr_pieces.proofs.Comes.{came_marker}
+use Rattle.saphyr_pieces.proofs.Comes.{came_marker, is_low}
 use Rattle.saphyr_pieces.proofs.ReadPieces.{grown, stays_sound, takes_in}
 use Rattle.saphyr_pieces.proofs.pieces.PieceReader.take_in.Goals as goal
 
@@ -44,4 +44,5 @@ returns-clause-sound c =
     stays_sound c.goes_on_over_pieces.ensures c.args.self.now _ (chars c.args.more.now) c.requires.wants
     c.requires.sound refl refl refl refl grows c.pass_all.ensures.follows
     (λ text follows s h. came_marker c.goes_on_over_pieces.ensures most_characters c.args.self.now.marker _ s _ h
-    (c.in-Some.ensures.found text follows) (c.is_last.ensures c.if-not-is_last.false))
+    (c.in-Some.ensures.found text follows)
+    (is_low c.in-Some.marker c.args.self.now.marker (sym c.is_last.ensures ∙ c.if-not-is_last.false)))
