@@ -2,7 +2,6 @@
 pub mod BlockLines
 pub mod Brackets
 pub mod CutLines
-pub mod OutOfPlace
 pub mod Parted
 pub mod PlainValues
 pub mod Places

@@ -174,8 +174,7 @@ pub comma_taken : {at : Surroundings} {n : ℕ} {m : Marker} {t : List ℕ} → 
 comma_taken {n = n} {m} {t} h = record { holds = indicator_taken 44 n m t h }
 
 -- a `-` and a blank
-pub dash_taken : {at : Surroundings} {m : Marker} {t : List ℕ} → IsAtColumn at.indent m
-    → TokenText at tokens.BlockEntry
+pub dash_taken : {at : Surroundings} {m : Marker} {t : List ℕ} → IsAtColumn at.indent m → TokenText at tokens.BlockEntry
     (span_from_to (along (along m 1) 1) (along (along m 1) 1)) m (hyphen ∷ space ∷ t) (along m 1) (space ∷ t)
 dash_taken {m = m} c = record { holds = ((refl, refl), refl, lies (along m 1) blank, refl, c) }
 

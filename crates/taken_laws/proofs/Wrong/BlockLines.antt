@@ -66,17 +66,14 @@ bare_header n chomping behind body first (mark, indicators, tail, end, are, line
         → tail ++ end ≡ line_feed ∷ []
     by_tail [] line e = by_end end ends e
     by_tail (x ∷ xs) line e =
-        absurd (let same : x ≡ 10 =
-        heads 10 x body ((xs ++ end) ++ behind) e in let P : ℕ → Type 0 =
-        λ y. IsLineTail (y ∷ xs) in feed_is_no_tail xs (subst P same line))
+        absurd (let same : x ≡ 10 = heads 10 x body ((xs ++ end) ++ behind) e in feed_is_no_tail xs (rw same at line))
 
     by_indicators : (indicators : List ℕ) → AreIndicators n chomping indicators
         → line_feed ∷ body ≡ (indicators ++ (tail ++ end)) ++ behind → indicators ++ (tail ++ end) ≡ line_feed ∷ []
     by_indicators [] are e = by_tail tail line e
     by_indicators (x ∷ xs) are e =
-        absurd (let same : x ≡ 10 =
-        heads 10 x body ((xs ++ (tail ++ end)) ++ behind) e in let P : ℕ → Type 0 =
-        λ y. AreIndicators n chomping (y ∷ xs) in no_indicator n chomping xs (subst P same are))
+        absurd (let same : x ≡ 10 = heads 10 x body ((xs ++ (tail ++ end)) ++ behind) e in
+        no_indicator n chomping xs (rw same at are))
 
 -- ## The lines
 
@@ -98,6 +95,4 @@ all_inside style i value span s t c body h e end =
     sym e ∙ r.is ∙ ap (λ l. l ++ (r.lines ++ t.rest)) first ∙ ap (λ l. c ∷ 10 ∷ (r.lines ++ l)) over
     ∙ ap (λ l. c ∷ 10 ∷ l) (append-nil r.lines) in
     let same : body ≡ r.lines = append_cancel_left (c ∷ 10 ∷ []) body r.lines whole in
-    let P : List ℕ → Type 0 = λ l. AreInside true r.lines l in
-    let Q : List ℕ → Type 0 = λ l. AreInside true l [] in
-    subst Q (sym same) (subst P over r.inside)
+    rw same (rw over at r.inside)

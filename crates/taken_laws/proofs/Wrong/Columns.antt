@@ -19,8 +19,7 @@ use Rattle.taken_laws.proofs.Wrong.Standing.{tokens_stand, at_index}
 
 -- at the column of the collection on the line of the span is the `-`
 dash_stands : (text : List ℕ) (indent : ℕ) (span : Span) (s t : Cursor) (n : ℕ) → Reaches (start_cursor text) s
-    → span.start.index + indent ≡ span.start.col + 1 + n → IsDash indent span s t
-    → slice_index (drop n text) 0 ≡ hyphen
+    → span.start.index + indent ≡ span.start.col + 1 + n → IsDash indent span s t → slice_index (drop n text) 0 ≡ hyphen
 dash_stands text indent span s t n r e h =
     let index : span.start.index ≡ s.mark.index + 1 + length h.2.0 =
     ap (λ (m : Marker). m.index) h.2.4 ∙ ap (λ (m : Marker). m.index + length h.2.0) h.0.1 in
@@ -54,8 +53,7 @@ further_key_refused (end, tokens, place, fin) =
     let key = (tokens_stand (codes "? a\n ? b") texts.further_key.pieces end tokens).1.1.1.1.0 in
     by key.here key.behind key.is
   where
-    by : (s t : Cursor)
-        → IsToken (record { in_flow = false; indent = 1; ends_json = false }) Key
+    by : (s t : Cursor) → IsToken (record { in_flow = false; indent = 1; ends_json = false }) Key
         (record { start = marker_at 5 2 1; end = marker_at 7 2 3 }) s t → ⊥
     by s t (inl h) =
         let col : 1 ≡ s.mark.col = ap (λ (m : Marker). m.col) h.2 in
@@ -71,8 +69,7 @@ key_right_refused (end, tokens, place, fin) =
     off : (s : Cursor) → marker_at 6 2 1 ≡ s.mark → 1 ≡ s.mark.col + 1 → ⊥
     off s e column = let col : 1 ≡ s.mark.col = ap (λ (m : Marker). m.col) e in omega (arith, col, column)
 
-    by : (s t : Cursor)
-        → IsToken (record { in_flow = false; indent = 1; ends_json = false }) Key
+    by : (s t : Cursor) → IsToken (record { in_flow = false; indent = 1; ends_json = false }) Key
         (record { start = marker_at 6 2 1; end = marker_at 6 2 1 }) s t → ⊥
     by s t (inl h) = off s h.2 (h.4 refl)
     by s t (inr h) = off s h.1 (h.4 refl)

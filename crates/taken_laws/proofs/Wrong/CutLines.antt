@@ -70,7 +70,7 @@ cut_refused before indent value span s t none reached h index column =
     sym rest ∙ r.is ∙ ap (λ l. l ++ (r.lines ++ t.rest)) first in
     let same = append_cancel_left (codes "|\n") (codes " a#b\n") (r.lines ++ t.rest) whole in
     let parts = parted r.lines t.rest (sym same) left in
-    let shaped = subst (λ l. HasLines r.indentation (normalized l)) parts.0 r.shaped in
+    let shaped = rw parts.0 at r.shaped in
     let narrow : r.indentation ≤ 1 = one_space r.indentation shaped.last in
     let right : r.indentation < t.mark.col =
     let end = ap (λ (m : Marker). m.col) h.end in omega (arith, narrow, column, end) in

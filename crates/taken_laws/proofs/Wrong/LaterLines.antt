@@ -28,7 +28,7 @@ line_at P [] behind front line e l h = absurd (omega (arith, l))
 line_at P (c ∷ cs) behind [] line e l h =
     let feed : 10 ≡ c = heads c 10 (cs ++ behind) line e in
     let ends : ends_line c (cs ++ behind) ≡ true = ap (λ x. ends_line x (cs ++ behind)) (sym feed) in
-    subst P (tails c 10 (cs ++ behind) line e) (h.0 ends)
+    rw (tails c 10 (cs ++ behind) line e) at (h.0 ends)
 line_at P (c ∷ cs) behind (d ∷ front) line e l h =
     line_at P cs behind front line (tails c d (cs ++ behind) (front ++ 10 ∷ line) e) (omega (arith, l)) h.1
 

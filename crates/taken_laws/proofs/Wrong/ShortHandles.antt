@@ -55,7 +55,7 @@ prefix_begins : (value written : List ℕ) → wanted ≡ encode_utf8_all value 
 prefix_begins [] written e h = absurd h
 prefix_begins (c ∷ cs) written e h =
     let same = begins c 101 (encode_utf8_all cs) (codes "!t:x") (sym e) (omega arith) in
-    written_begins cs written (subst (λ k. IsPrefix (k ∷ cs) written) same.0 h)
+    written_begins cs written (rw same.0 at h)
 
 -- neither `!` nor `!e!` is the handle
 no_handle : (handle second written behind : List ℕ) → IsHandleText handle
