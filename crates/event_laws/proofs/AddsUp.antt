@@ -151,7 +151,7 @@ module _ (W : List Kind → List Part → Type 0) (a : AddsUp W) where
   Holds N ps = (u : List Kind) → N u → W u ps
 
   is_left_out : (n : Node) → n ≡ left_out → W [] (node_parts n)
-  is_left_out n e = subst (λ (m : Node). W [] (node_parts m)) (sym e) (one_part (Leaf no_properties Plain []) refl)
+  is_left_out n e = rw e (one_part (Leaf no_properties Plain []) refl)
 
   optional : (n : Node) (N : List Kind → Type 0) (t : List Kind) → Holds N (node_parts n) → YieldsOptional n N t
       → W t (node_parts n)
@@ -196,8 +196,8 @@ module _ (W : List Kind → List Part → Type 0) (a : AddsUp W) where
   pair_and_others : (m n : Node) (qs : Pairs) (s u t : List Kind) → t ≡ s ++ u → W s (node_parts m ++ node_parts n)
       → W u (pair_parts qs) → W t (pair_parts (MorePairs m n qs))
   pair_and_others m n qs s u t e x y =
-      put t (s ++ u) (pair_parts (MorePairs m n qs)) e (subst (λ (ps : List Part). W (s ++ u) ps)
-      (append_assoc (node_parts m) (node_parts n) (pair_parts qs))
+      put t (s ++ u) (pair_parts (MorePairs m n qs)) e (rw (append_assoc (node_parts m) (node_parts n)
+      (pair_parts qs)) at
       (a.both s u (node_parts m ++ node_parts n) (pair_parts qs) x y))
 
   list_end : (t : List Kind) → IsListEnd t → W t []
@@ -262,8 +262,7 @@ module _ (W : List Kind → List Part → Type 0) (a : AddsUp W) where
 
     pair_entry : (n : Node) (t : List Kind) → YieldsPairEntry n t → W t (node_parts n)
     pair_entry (Map p (MorePairs m n NoPair)) t h =
-        inside_parts (OpenMapping p) CloseMapping p [] t (pair_parts (MorePairs m n NoPair)) refl refl
-        (subst (λ (q : Properties). YieldProperties q []) (sym h.0) refl)
+        inside_parts (OpenMapping p) CloseMapping p [] t (pair_parts (MorePairs m n NoPair)) refl refl (rw h.0 refl)
         (pair_and_others m n NoPair t [] t (sym (append-nil t))
         (single_pair m n (YieldsNode m InFlow) (YieldsNode n InFlow) t (λ u g. node m InFlow u g)
         (λ u g. node n InFlow u g) h.1) a.nothing)

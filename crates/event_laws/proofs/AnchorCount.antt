@@ -1,5 +1,5 @@
 -- A forest has no more anchors than tokens.
-use Rattle.std.proofs.Common.{◌≡◌, ℕ, ◌+◌, ◌≤◌, List, [], ◌∷◌, ◌++◌, length, Option, Some, None, option_map, encode_utf8_all, refl, sym, ap, ◌∙◌, subst, inl, inr, arith, length-append}
+use Rattle.std.proofs.Common.{◌≡◌, ℕ, ◌+◌, ◌≤◌, List, [], ◌∷◌, ◌++◌, length, Option, Some, None, option_map, encode_utf8_all, refl, ap, inl, inr, arith, length-append}
 use Rattle.saphyr_scanner.specs.Grammar.Forest.{Tag, Properties, Forest}
 use Rattle.saphyr_scanner.specs.Grammar.Tokens.{Kind, anchor_token, tag_token}
 use Rattle.saphyr_scanner.specs.Grammar.TokenGrammar.{AreBoth, Yields}
@@ -13,7 +13,7 @@ one_more_sum (Some name) a b = omega arith
 
 sum : (ps qs : List Part) → anchors (ps ++ qs) ≡ anchors ps + anchors qs
 sum [] qs = omega arith
-sum (p ∷ ps) qs = ap (one_more_anchor (anchor_of p)) (sum ps qs) ∙ one_more_sum (anchor_of p) (anchors ps) (anchors qs)
+sum (p ∷ ps) qs = cc (sum ps qs, one_more_sum (anchor_of p) (anchors ps) (anchors qs))
 
 property_count : (a : Option (List ℕ)) (g : Option Tag) (t : List Kind)
     → AreBoth (option_map anchor_token a) (option_map tag_token g) t
@@ -24,12 +24,9 @@ property_count (Some name) (Some tag) t (inl h) = let l = ap length h in omega (
 property_count (Some name) (Some tag) t (inr h) = let l = ap length h in omega (arith, l)
 
 -- a collection has its properties' anchor, and those inside
-around : (c : Collection) (p : Properties) (ps : List Part)
-    → anchors (opening_part c p ∷ (ps ++ closing_part c ∷ []))
+around : (c : Collection) (p : Properties) (ps : List Part) → anchors (opening_part c p ∷ (ps ++ closing_part c ∷ []))
     ≡ one_more_anchor (option_map encode_utf8_all p.anchor) 0 + anchors ps
-around c p ps =
-    sum (opening_part c p ∷ []) (ps ++ closing_part c ∷ []) ∙ ap (λ n. anchors (opening_part c p ∷ []) + n)
-    (sum ps (closing_part c ∷ [])) ∙ by c
+around c p ps = cc (sum (opening_part c p ∷ []) (ps ++ closing_part c ∷ []), sum ps (closing_part c ∷ []), by c)
   where
     by : (c : Collection) → anchors (opening_part c p ∷ []) + (anchors ps + anchors (closing_part c ∷ []))
         ≡ one_more_anchor (option_map encode_utf8_all p.anchor) 0 + anchors ps
@@ -41,8 +38,7 @@ forest_count = of_forest (λ t ps. anchors ps ≤ length t) (record {
   nothing = omega arith;
   both = λ s t ps qs x y. let l = length-append s t in let c = sum ps qs in omega (arith, l, c, x, y);
   single = λ k i. omega arith;
-  part = λ part p t e y x. subst (λ (o : Option (List ℕ)). one_more_anchor o 0 ≤ length t) (sym e)
-      (property_count p.anchor p.tag t y);
+  part = λ part p t e y x. rw e (property_count p.anchor p.tag t y);
   collection = λ c p front inside ps y f x.
       let own = property_count p.anchor p.tag front y in
       let all = around c p ps in

@@ -1,7 +1,7 @@
 -- Parts without aliases, anchors and tags: whatever comes before them, they have events.
-use Rattle.std.proofs.Common.{◌≡◌, List, [], ◌∷◌, None, option_map, encode_utf8_all, refl, ap, ◌∙◌}
-use Rattle.saphyr_scanner.specs.Grammar.Forest.{Properties, no_properties}
-use Rattle.event_laws.specs.Anchors.{one_more_anchor, anchor_of, anchors}
+use Rattle.std.proofs.Common.{◌≡◌, List, [], ◌∷◌, None, refl}
+use Rattle.saphyr_scanner.specs.Grammar.Forest.{no_properties}
+use Rattle.event_laws.specs.Anchors.{anchor_of, anchors}
 use Rattle.event_laws.specs.Preorder.{Part, Reference, Leaf, OpenSequence, OpenMapping}
 
 abbrev pub IsBarePart : Part → Type 0
@@ -16,11 +16,11 @@ AreBare [] = Unit {0}
 AreBare (p ∷ ps) = IsBarePart p × AreBare ps
 
 no_anchor : (p : Part) → IsBarePart p → anchor_of p ≡ None
-no_anchor (Leaf p s v) h = ap (λ (q : Properties). option_map encode_utf8_all q.anchor) h
-no_anchor (OpenSequence p) h = ap (λ (q : Properties). option_map encode_utf8_all q.anchor) h
-no_anchor (OpenMapping p) h = ap (λ (q : Properties). option_map encode_utf8_all q.anchor) h
+no_anchor (Leaf p s v) h = cc
+no_anchor (OpenSequence p) h = cc
+no_anchor (OpenMapping p) h = cc
 no_anchor _ h = refl
 
 pub bare_anchors : (ps : List Part) → AreBare ps → anchors ps ≡ 0
 bare_anchors [] h = refl
-bare_anchors (p ∷ ps) h = ap (λ o. one_more_anchor o (anchors ps)) (no_anchor p h.0) ∙ bare_anchors ps h.1
+bare_anchors (p ∷ ps) h = cc (no_anchor p h.0, bare_anchors ps h.1)

@@ -45,10 +45,7 @@ delivers_alike (Err f) q e h = rw e.1 (record { told = refl; fault = refl })
 
 as_before : (a c b d : Answer) → a ≡ c → b ≡ d → Alike c d → Alike a b
 as_before a c b d e f h =
-    record {
-      told = ap happenings_of f ∙ h.told ∙ sym (ap happenings_of e);
-      fault = ap (λ (v : Answer). is_some v.fault) f ∙ h.fault ∙ sym (ap (λ (v : Answer). is_some v.fault) e);
-    }
+    record { told = ap happenings_of f ∙ h.told ∙ sym (ap happenings_of e); fault = cc }
 
 first_step : (m : Machine)
     → ((x : Told) → event_step m ≡ Ok x → Alike (remaining_answer x.machine) (remaining_answer (placeless x.machine)))
@@ -76,8 +73,7 @@ same_pieces (t ∷ ts) [] e = absurd (cc)
 same_pieces (t ∷ ts) (u ∷ us) e =
     let first : t.kind ≡ u.kind = cc in
     let others : kinds ts ≡ kinds us = cc in
-    ap (λ k. record { span = no_span; kind = k } ∷ map placeless_piece ts) first
-    ∙ ap (λ vs. placeless_piece u ∷ vs) (same_pieces ts us others)
+    cc (same_pieces ts us others)
 
 -- the machine of a parser at the start of tokens
 abbrev start : Bool → Remaining → Machine
@@ -88,12 +84,8 @@ alike : (keep : Bool) (a b : Remaining) → kinds a.pieces ≡ kinds b.pieces
 alike keep a b e =
     let x = runs (suc (machine_size (start keep a))) (start keep a) (omega arith) in
     let y = runs (suc (machine_size (start keep b))) (start keep b) (omega arith) in
-    let same : placeless (start keep a) ≡ placeless (start keep b) =
-    ap (λ ts. start keep (record { pieces = ts; refusal = None })) (same_pieces a.pieces b.pieces e) in
-    record {
-      told = sym y.told ∙ ap (λ m. happenings_of (remaining_answer m)) (sym same) ∙ x.told;
-      fault = sym y.fault ∙ ap (λ (m : Machine). is_some (remaining_answer m).fault) (sym same) ∙ x.fault;
-    }
+    let same : placeless (start keep a) ≡ placeless (start keep b) = cc (same_pieces a.pieces b.pieces e) in
+    record { told = cc; fault = cc }
 
 pub tells_too : (keep : Bool) (a b : Remaining) → kinds a.pieces ≡ kinds b.pieces
     → TellTheSame (to_come (keeping_tags keep (at_start a))) (to_come (keeping_tags keep (at_start b)))

@@ -1,5 +1,5 @@
 -- Whatever is open can be closed: a shortest completion of each state, whose events depend on nothing before them.
-use Rattle.std.proofs.Common.{◌≡◌, ◌≢◌, List, [], ◌∷◌, Option, Some, refl, sym, ap, ◌∙◌, subst, inl, inr}
+use Rattle.std.proofs.Common.{◌≡◌, ◌≢◌, List, [], ◌∷◌, Some, refl, inl, inr}
 use Rattle.saphyr_scalar.specs.declared.scalar.style.ScalarStyle.TheVariants.{Plain}
 use Rattle.saphyr_scanner.specs.Grammar.Forest as forest
 use Rattle.saphyr_scanner.specs.Grammar.Forest.{NoNode, NoPair}
@@ -10,7 +10,6 @@ use Rattle.saphyr_machine.specs.declared.state.State.TheVariants as state
 use Rattle.event_laws.proofs.BareParts.{IsBarePart, AreBare}
 use Rattle.event_laws.specs.Preorder.{Part, OpenStream, CloseStream, CloseDocument, Reference, Leaf, OpenSequence, CloseSequence, OpenMapping, CloseMapping}
 use Rattle.saphyr_machine.specs.Events.{Happening}
-use Rattle.event_laws.specs.ForestEvents.{first_and_others}
 use Rattle.event_laws.proofs.Told.Telling.{Memory}
 use Rattle.event_laws.proofs.Remembering.{after, event_in, events_in}
 use Rattle.event_laws.proofs.Turned.Following.{Claim, Then, Exactly, IsNodeOf, IsOptionalOf, IsSkipped, IsAnyValueOf, FirstEntries, OtherEntries, FirstPairs, OtherPairs, BlockEntries, BlockPairs, InSequence, AtPairEnd, AtPairValue, InMapping, InBlockPairs, FollowsStates, IsOutside, IsInsideDocument, IsAlive, Starts}
@@ -22,12 +21,9 @@ use Rattle.event_laws.proofs.Turned.Block.{one_entry}
 
 bare_event : (p : Part) (e : Memory) → IsBarePart p → (w : Happening) × (event_in e p ≡ Some w)
 bare_event (Reference name) e b = elim b [ ]
-bare_event (Leaf p style value) e b =
-    subst (λ (r : forest.Properties). (w : Happening) × (event_in e (Leaf r style value) ≡ Some w)) (sym b) (_, refl)
-bare_event (OpenSequence p) e b =
-    subst (λ (r : forest.Properties). (w : Happening) × (event_in e (OpenSequence r) ≡ Some w)) (sym b) (_, refl)
-bare_event (OpenMapping p) e b =
-    subst (λ (r : forest.Properties). (w : Happening) × (event_in e (OpenMapping r) ≡ Some w)) (sym b) (_, refl)
+bare_event (Leaf p style value) e b = rw b (_, refl)
+bare_event (OpenSequence p) e b = rw b (_, refl)
+bare_event (OpenMapping p) e b = rw b (_, refl)
 bare_event _ e b = (_, refl)
 
 pub bare_events : (ps : List Part) (e : Memory) → AreBare ps → (es : List Happening) × (events_in e ps ≡ Some es)
@@ -36,8 +32,7 @@ bare_events (p ∷ ps) e b =
     let one : (w : Happening) × (event_in e p ≡ Some w) = bare_event p e b.0 in
     let others : (es : List Happening) × (events_in (after p e) ps ≡ Some es) = bare_events ps (after p e) b.1 in (
       one.0 ∷ others.0,
-      ap (λ (o : Option Happening). first_and_others o (events_in (after p e) ps)) one.1
-          ∙ ap (first_and_others (Some one.0)) others.1,
+      cc,
     )
 
 pub some_events : (ps : List Part) (e : Memory) (b : AreBare ps) → ps ≢ [] → (bare_events ps e b).0 ≢ []

@@ -1,5 +1,5 @@
 -- Directives that go together are passed, and the tokens before and after documents.
-use Rattle.std.proofs.Common.{◌≡◌, ◌↔◌, Bool, true, false, List, [], ◌∷◌, ◌++◌, map, encode_utf8_all, Result, Ok, Err, refl, ap, ◌∙◌, inl, inr}
+use Rattle.std.proofs.Common.{◌≡◌, ◌↔◌, Bool, true, false, List, [], ◌∷◌, ◌++◌, map, encode_utf8_all, Result, Ok, Err, refl, ap, inl, inr}
 use Rattle.std.specs.Prelude.{if◌then◌else◌}
 use Rattle.saphyr_scalar.specs.declared.scalar.position.Marker.{Marker}
 use Rattle.saphyr_scalar.specs.declared.scalar.fault.Refusal.{Refusal}
@@ -8,7 +8,7 @@ use Rattle.saphyr_scanner.specs.Grammar.Forest.{handle_bytes, Directive, Version
 use Rattle.saphyr_scanner.specs.Grammar.Tokens.{Kind, DocumentStart, directive_token}
 use Rattle.saphyr_scanner.specs.Grammar.TokenGrammar.{AreMarks, AreEndsAndMarks}
 use Rattle.saphyr_machine.specs.declared.state.State.{State}
-use Rattle.saphyr_machine.specs.Steps.Machine.{◌>>=◌, Machine, with_meaning, is_listed, with_name}
+use Rattle.saphyr_machine.specs.Steps.Machine.{Machine, with_meaning, is_listed, with_name}
 use Rattle.saphyr_machine.specs.Steps.Documents.{is_mark, is_end_or_mark, unpassed_token_from, unpassed_token, Declared, none_declared, directives_from, directives}
 use Rattle.event_laws.proofs.Told.Telling.{SpansByKinds, Memory, dressed, at}
 use Rattle.event_laws.proofs.Remembering.{declaring}
@@ -24,13 +24,8 @@ passes_from : (passed : Kind → Bool) (front : List Kind) (f : SpansByKinds) (k
     (ss : List State) (e : Memory) → AllPass passed front → passed k ≡ false
     → unpassed_token_from passed (dressed f (front ++ k ∷ ks)) (at f (front ++ k ∷ ks) x ss e)
     ≡ Ok (record { span = f ks; kind = k }, at f ks x ss e)
-passes_from passed [] f k ks x ss e h n =
-    ap (λ b. if b then unpassed_token_from passed (dressed f ks) (at f ks x ss e) else Ok
-    (record { span = f ks; kind = k }, at f ks x ss e)) n
-passes_from passed (j ∷ js) f k ks x ss e h n =
-    ap (λ b. if b then unpassed_token_from passed (dressed f (js ++ k ∷ ks)) (at f (js ++ k ∷ ks) x ss e) else Ok
-    (record { span = f (js ++ k ∷ ks); kind = j }, at f (js ++ k ∷ ks) x ss e)) h.0
-    ∙ passes_from passed js f k ks x ss e h.1 n
+passes_from passed [] f k ks x ss e h n = cc
+passes_from passed (j ∷ js) f k ks x ss e h n = cc (passes_from passed js f k ks x ss e h.1 n)
 
 pub passes : (passed : Kind → Bool) (front : List Kind) (f : SpansByKinds) (k : Kind) (ks : List Kind) (x : State)
     (ss : List State) (e : Memory) → AllPass passed front → passed k ≡ false
@@ -92,14 +87,10 @@ all_free (Reserved _ ∷ xs) = (tt, all_free xs)
 abbrev pub declaring_in : List Directive → Memory → Memory
 declaring_in ds e = record { anchors = e.anchors; prefixes = declaring ds e.prefixes; keep = e.keep }
 
-version_passes : (b : Bool) (d : Declared) (place : Marker) → b ≡ false
-    → (let r : Result Declared Refusal =
+version_passes : (b : Bool) (d : Declared) (place : Marker) → b ≡ false → (let r : Result Declared Refusal =
     if b then Err (record { text = fault.DuplicateVersionDirective; mark = place }) else Ok
     (record { version = true; handles = d.handles }) in r) ≡ Ok (record { version = true; handles = d.handles })
-version_passes b d place h =
-    ap (λ (c : Bool). let r : Result Declared Refusal =
-    if c then Err (record { text = fault.DuplicateVersionDirective; mark = place }) else Ok
-    (record { version = true; handles = d.handles }) in r) h
+version_passes b d place h = cc
 
 pub directives_pass : (ds : List Directive) (d : Declared) (f : SpansByKinds) (ks : List Kind) (x : State)
     (ss : List State) (e : Memory) → AreCompatible ds → AreFree d ds
@@ -110,10 +101,11 @@ directives_pass [] d f ks x ss e c h = refl
 directives_pass (Version major minor ∷ ds) d f ks x ss e c h =
     let rest : List Kind = map directive_token ds ++ DocumentStart ∷ ks in
     let m : Machine = at f rest x ss e in
-    ap (λ (r : Result Declared Refusal). (r >>= (λ a. let y : Result (Declared × Machine) Refusal = Ok (a, m) in y))
-    >>= (λ s. directives_from (dressed f rest) s.0 s.1)) (version_passes d.version d (f rest).start h.0)
-    ∙ directives_pass ds (declared_by (Version major minor) d) f ks x ss e c.1
-    ((all_free_behind (Version major minor) ds d).1 (c.0, h.1))
+    cc (
+      version_passes d.version d (f rest).start h.0,
+      directives_pass ds (declared_by (Version major minor) d) f ks x ss e c.1
+          ((all_free_behind (Version major minor) ds d).1 (c.0, h.1)),
+    )
 directives_pass (TagPrefix handle prefix ∷ ds) d f ks x ss e c h =
     let rest : List Kind = map directive_token ds ++ DocumentStart ∷ ks in
     let e' : Memory = record {
@@ -126,9 +118,8 @@ directives_pass (TagPrefix handle prefix ∷ ds) d f ks x ss e c h =
     Err (record { text = fault.DuplicateTagDirective; mark = (f rest).start }) in
     let passed : Result (Declared × Machine) Refusal =
     Ok (declared_by (TagPrefix handle prefix) d, at f rest x ss e') in
-    ap (λ (b : Bool). (if b then refused else passed) >>= (λ s. directives_from (dressed f rest) s.0 s.1)) h.0
-    ∙ directives_pass ds (declared_by (TagPrefix handle prefix) d) f ks x ss e' c.1
-    ((all_free_behind (TagPrefix handle prefix) ds d).1 (c.0, h.1))
+    cc (directives_pass ds (declared_by (TagPrefix handle prefix) d) f ks x ss e' c.1
+    ((all_free_behind (TagPrefix handle prefix) ds d).1 (c.0, h.1)))
 directives_pass (Reserved name ∷ ds) d f ks x ss e c h = directives_pass ds d f ks x ss e c.1 h.1
 
 pub all_directives_pass : (ds : List Directive) (f : SpansByKinds) (ks : List Kind) (x : State) (ss : List State)

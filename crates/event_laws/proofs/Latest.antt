@@ -1,5 +1,5 @@
 -- The step by step search for an anchor finds the latest one.
-use Rattle.std.proofs.Common.{◌≡◌, ◌≢◌, ℕ, suc, Bool, true, false, List, [], ◌∷◌, ◌++◌, Option, Some, None, if◌then◌else◌, refl, sym, ◌∙◌, ap}
+use Rattle.std.proofs.Common.{◌≡◌, ◌≢◌, ℕ, suc, Bool, true, false, List, [], ◌∷◌, ◌++◌, Option, Some, None, if◌then◌else◌, refl, sym, ap}
 use Rattle.std.proofs.lemmas.Slice.Eq.{bytes_eq-Decides}
 use Rattle.event_laws.specs.Preorder.{Part, opens_document, OpenDocument}
 use Rattle.event_laws.specs.Anchors.{anchor_of, anchors, is_named, latest_id, AreWithout, IsLatest}
@@ -14,7 +14,7 @@ named name = (bytes_eq-Decides name name).1 refl
 
 pub named_only : (name : List ℕ) (other : Option (List ℕ)) → is_named name other ≡ true → other ≡ Some name
 named_only name None h = cc
-named_only name (Some other) h = ap (λ t. Some t) (sym ((bytes_eq-Decides name other).0 h))
+named_only name (Some other) h = cc ((bytes_eq-Decides name other).0 h)
 
 -- no anchor of the name is none that is found
 pub not_named : (name : List ℕ) (other : Option (List ℕ)) → other ≢ Some name → is_named name other ≡ false
@@ -29,23 +29,20 @@ pub each : (name : List ℕ) (later : List Part) (part : Part) (earlier : List P
 each name [] part earlier h e =
     let other : Option ℕ = latest_id name earlier in
     let here : Option ℕ = Some (suc (anchors earlier)) in
-    ap (λ b. if b then None else (if is_named name (anchor_of part) then here else other)) (opens_none part name e)
-    ∙ ap (λ b. if b then here else other) (ap (is_named name) e ∙ named name)
+    cc (opens_none part name e, named name)
 each name (p ∷ ps) part earlier h e =
     let other : Option ℕ = latest_id name (ps ++ part ∷ earlier) in
     let here : Option ℕ = Some (suc (anchors (ps ++ part ∷ earlier))) in
-    ap (λ b. if b then None else (if is_named name (anchor_of p) then here else other)) h.0
-    ∙ ap (λ b. if b then here else other) (not_named name (anchor_of p) h.1) ∙ each name ps part earlier h.2 e
+    cc (not_named name (anchor_of p) h.1, each name ps part earlier h.2 e)
 
 pub all : (name : List ℕ) (front : List Part) (id : ℕ) → IsLatest name front id → latest_id name front ≡ Some id
-all name front id h = ap (latest_id name) h.6 ∙ each name h.0 h.1 h.2 h.3 h.4 ∙ ap (λ t. Some t) (sym h.5)
+all name front id h = cc (each name h.0 h.1 h.2 h.3 h.4)
 
 -- where a part opens no document and has no anchor of the name, the latest one comes before it
 latest_stays : (name : List ℕ) (p : Part) (ps : List Part) (id : ℕ) → opens_document p ≡ false
     → is_named name (anchor_of p) ≡ false → IsLatest name ps id → IsLatest name (p ∷ ps) id
 latest_stays name p ps id e f h =
-    let other : anchor_of p ≢ Some name = λ g. let k : true ≡ false = sym (named name) ∙ ap (is_named name) (sym g)
-    ∙ f in cc in
+    let other : anchor_of p ≢ Some name = λ g. let k : true ≡ false = cc (named name) in cc in
     (p ∷ h.0, h.1, h.2, (e, other, h.3), h.4, h.5, ap (λ t. p ∷ t) h.6)
 
 -- the answer at a part, by the two tests on it

@@ -1,5 +1,5 @@
 -- More tokens after those of a machine change nothing of what a step gives.
-use Rattle.std.proofs.Common.{◌≡◌, ◌≢◌, List, [], ◌∷◌, ◌++◌, Option, Result, Ok, Err, refl, sym, ap, subst, ◌∙◌, ◌⊎◌, inl, inr}
+use Rattle.std.proofs.Common.{◌≡◌, ◌≢◌, List, [], ◌∷◌, ◌++◌, Option, Result, Ok, Err, refl, ap, ◌∙◌, ◌⊎◌, inl, inr}
 use Rattle.saphyr_scalar.specs.declared.scalar.fault.Refusal.{Refusal}
 use Rattle.saphyr_scanner.specs.Grammar.Tokens as tokens
 use Rattle.saphyr_scanner.specs.Grammar.Tokens.{Kind}
@@ -118,11 +118,7 @@ longer_left : (z : More) (o : Option Refusal) (what : Happening) (m n : Machine)
 longer_left z o what m n (inl near) =
     (inl near.tokens.0, near.tokens.1, becomes_longer z o _ m n near near.tokens.2)
 longer_left z o what m n (inr (d, over, a, own)) = (
-  inr (
-    over.tokens.0.1,
-    subst (λ d. Awaits d m) (sym over.tokens.0.0) a,
-    subst (λ d. what ≡ marker_event d) (sym over.tokens.0.0) own,
-  ),
+  inr (over.tokens.0.1, rw over.tokens.0.0 a, rw over.tokens.0.0 own),
   over.tokens.1,
   becomes_longer z o _ m n over over.tokens.2,
 )
@@ -135,7 +131,7 @@ agrees z o (Ok x) (Ok y) h =
 agrees z o (Ok x) (Err g) h = absurd h
 agrees z o (Err f) q (inl e) = inl e
 agrees z o (Err f) (Ok y) (inr e) = absurd e
-agrees z o (Err f) (Err g) (inr e) = inr (ap (λ v. let y : Result Told Refusal = Err v in y) e)
+agrees z o (Err f) (Err g) (inr e) = inr (simp e)
 
 -- All tokens were passed, of which the last was `...`: the step is the one of the machine with the others alone.
 abbrev pub PassesAll : More → Machine → (Machine → Result Told Refusal) → Type 0
@@ -155,8 +151,8 @@ all_passed z o s m i (ts, us, over, e, y) =
     let none = over.tokens.0.1 in
     let others : us ≡ z.pieces = ap (λ (r : Remaining). r.pieces) over.tokens.2 ∙ ap (λ ts. ts ++ z.pieces) none in (
       over.tokens.0.0,
-      e ∙ ap (λ ts. event_step_at s (with_pieces ts m)) none ∙ none_start s m i,
-      y ∙ ap (λ us. event_step_at s (with_pieces us (longer z m))) others,
+      cc (none_start s m i),
+      simp (y, others),
     )
 
 pub steps_agree :

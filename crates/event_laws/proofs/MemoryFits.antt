@@ -5,13 +5,13 @@ use Rattle.std.specs.Option.{option_or}
 use Rattle.std.specs.Str.{bytes_eq}
 use Rattle.std.proofs.lemmas.Slice.Eq.{bytes_eq-Decides}
 use Rattle.saphyr_scanner.specs.Grammar.Forest.{Handle, handle_bytes, Tag, NonSpecific, Verbatim, Shorthand, Properties, Directive, Version, TagPrefix, Reserved, GoesWithAll, AreCompatible}
-use Rattle.event_laws.specs.Preorder.{Part, OpenStream, CloseStream, OpenDocument, CloseDocument, Reference, Leaf, OpenSequence, CloseSequence, OpenMapping, CloseMapping, opens_document, directives_of}
-use Rattle.saphyr_machine.specs.Events.{Happening, ResolvedTag, Alias, Scalar, SequenceStart, MappingStart}
+use Rattle.event_laws.specs.Preorder.{Part, OpenStream, CloseStream, OpenDocument, CloseDocument, Reference, Leaf, OpenSequence, CloseSequence, OpenMapping, CloseMapping, opens_document}
+use Rattle.saphyr_machine.specs.Events.{Happening, ResolvedTag, Scalar, SequenceStart, MappingStart}
 use Rattle.event_laws.specs.Anchors.{anchor_of, one_more_anchor, anchors, is_named, latest_id}
 use Rattle.event_laws.specs.Anchors as part
 use Rattle.event_laws.specs.TagResolution.{prefix_in, prefix_declared_for, default_prefix}
 use Rattle.event_laws.specs.TagResolution as tag
-use Rattle.event_laws.specs.ForestEvents.{first_and_others, event_of_part, events_behind}
+use Rattle.event_laws.specs.ForestEvents.{event_of_part, events_behind}
 use Rattle.saphyr_machine.specs.Steps.Machine.{Names, meaning, with_meaning, next_id}
 use Rattle.event_laws.proofs.Told.Telling.{Memory}
 use Rattle.event_laws.proofs.Remembering.{noted, declaring, after, own_id_in, resolve, resolve_any, with_properties, event_in, events_in}
@@ -75,31 +75,26 @@ resolve_same : (keep : Bool) (front : List Part) (names : Names (List ℕ)) (g :
     → resolve names g ≡ tag.resolution keep g front
 resolve_same keep front names NonSpecific h = refl
 resolve_same keep front names (Verbatim uri) h = refl
-resolve_same keep front names (Shorthand handle suffix) h =
-    ap (λ (o : Option (List ℕ)). option_map
-    (λ prefix. let t : ResolvedTag = record { handle = prefix; suffix = encode_utf8_all suffix } in t)
-    (option_or o (default_prefix handle))) (h handle)
+resolve_same keep front names (Shorthand handle suffix) h = cc (h handle)
 
 resolve_any_same : (keep : Bool) (front : List Part) (names : Names (List ℕ)) (g : Option Tag)
     → ((handle : Handle) → meaning (handle_bytes handle) names ≡ prefix_declared_for keep handle front)
     → resolve_any names g ≡ tag.any_resolution keep g front
 resolve_any_same keep front names None h = refl
-resolve_any_same keep front names (Some g) h =
-    ap (option_map (λ v. let o : Option ResolvedTag = Some v in o)) (resolve_same keep front names g h)
+resolve_any_same keep front names (Some g) h = cc (resolve_same keep front names g h)
 
 properties_same : (make : ℕ → Option ResolvedTag → Happening) (keep : Bool) (front : List Part) (e : Memory)
     (p : Properties) (more : ℕ) → FitsInside keep front e
     → anchors front + one_more_anchor (option_map encode_utf8_all p.anchor) more < 2 ^ 64
     → with_properties make e p ≡ option_map (make (part.own_id front p.anchor)) (tag.any_resolution keep p.tag front)
 properties_same make keep front e p more h l =
-    ap (λ (id : ℕ). option_map (make id) (resolve_any e.prefixes p.tag)) (own_same e front p.anchor more h.count l)
-    ∙ ap (option_map (make (part.own_id front p.anchor))) (resolve_any_same keep front e.prefixes p.tag h.prefixes)
+    cc (own_same e front p.anchor more h.count l, resolve_any_same keep front e.prefixes p.tag h.prefixes)
 
 -- ## The event of a part
 
 event_same : (b keep : Bool) (front : List Part) (e : Memory) (p : Part) (more : ℕ) → May b p → FitsParts b keep front e
     → anchors front + one_more_anchor (anchor_of p) more < 2 ^ 64 → event_in e p ≡ event_of_part keep front p
-event_same true keep front e (Reference name) more m h l = ap (option_map Alias) (h.ids (encode_utf8_all name))
+event_same true keep front e (Reference name) more m h l = cc (h.ids (encode_utf8_all name))
 event_same true keep front e (Leaf p style value) more m h l =
     properties_same (Scalar (encode_utf8_all value) style) keep front e p more h l
 event_same true keep front e (OpenSequence p) more m h l = properties_same SequenceStart keep front e p more h l
@@ -115,16 +110,11 @@ event_same b keep front e _ more m h l = refl
 latest_behind : (name : List ℕ) (p : Part) (front : List Part) (anchor : Option (List ℕ)) → opens_document p ≡ false
     → anchor_of p ≡ anchor → latest_id name (p ∷ front)
     ≡ (if is_named name anchor then Some (suc (anchors front)) else latest_id name front)
-latest_behind name p front anchor o a =
-    ap (λ (b : Bool). if b then None else
-    (if is_named name (anchor_of p) then Some (suc (anchors front)) else latest_id name front)) o
-    ∙ ap (λ (x : Option (List ℕ)). if is_named name x then Some (suc (anchors front)) else latest_id name front) a
+latest_behind name p front anchor o a = cc
 
 declared_behind : (keep : Bool) (handle : Handle) (p : Part) (front : List Part) → opens_document p ≡ false
     → prefix_declared_for keep handle (p ∷ front) ≡ prefix_declared_for keep handle front
-declared_behind keep handle p front o =
-    ap (λ (b : Bool). if b then option_or (prefix_in handle (directives_of p))
-    (if keep then prefix_declared_for keep handle front else None) else prefix_declared_for keep handle front) o
+declared_behind keep handle p front o = cc
 
 -- after a part of a document with this anchor
 fits_noted : (keep : Bool) (front : List Part) (e : Memory) (p : Part) (anchor : Option (List ℕ)) (more : ℕ)
@@ -133,7 +123,7 @@ fits_noted : (keep : Bool) (front : List Part) (e : Memory) (p : Part) (anchor :
     → FitsInside keep (p ∷ front) (noted anchor e)
 fits_noted keep front e p None more o a h l = record {
   keeps = h.keeps;
-  count = h.count ∙ sym (ap (λ (x : Option (List ℕ)). one_more_anchor x (anchors front)) a);
+  count = h.count ∙ sym (cc);
   ids = λ name. h.ids name ∙ sym (latest_behind name p front None o a);
   prefixes = λ handle. h.prefixes handle ∙ sym (declared_behind keep handle p front o);
 }
@@ -141,7 +131,7 @@ fits_noted keep front e p (Some own) more o a h l =
     let id : next_id e.anchors ≡ suc (anchors front) = id_is e (anchors front) more h.count l in
     record {
       keeps = h.keeps;
-      count = id ∙ sym (ap (λ (x : Option (List ℕ)). one_more_anchor x (anchors front)) a);
+      count = id ∙ sym (cc);
       ids = λ name.
           given_meaning name (encode_utf8_all own) (next_id e.anchors) e.anchors.ids
           ∙ ap (λ (n : ℕ). if bytes_eq name (encode_utf8_all own) then Some n else meaning name e.anchors.ids) id
@@ -159,14 +149,15 @@ none_else handle other prefix [] g e = refl
 none_else handle other prefix (Version _ _ ∷ ds) g e = none_else handle other prefix ds g.1 e
 none_else handle other prefix (Reserved _ ∷ ds) g e = none_else handle other prefix ds g.1 e
 none_else handle other prefix (TagPrefix third text ∷ ds) g e =
-    ap (λ (b : Bool). if b then Some (encode_utf8_all text) else prefix_in handle ds)
-    (different (handle_bytes handle) (handle_bytes third) (λ q. g.0 (sym e ∙ q)))
-    ∙ none_else handle other prefix ds g.1 e
+    cc (
+      different (handle_bytes handle) (handle_bytes third) (λ q. g.0 (sym e ∙ q)),
+      none_else handle other prefix ds g.1 e,
+    )
 
 -- a directive alone, and the ones after it
 one_prefix : (b : Bool) (x : List ℕ) (rest later : Option (List ℕ)) → (b ≡ true → rest ≡ None)
     → option_or rest (if b then Some x else later) ≡ option_or (if b then Some x else rest) later
-one_prefix true x rest later h = ap (λ (o : Option (List ℕ)). option_or o (Some x)) (h refl)
+one_prefix true x rest later h = cc (h refl)
 one_prefix false x rest later h = refl
 
 declaring_meaning : (handle : Handle) (ds : List Directive) (names : Names (List ℕ)) → AreCompatible ds
@@ -177,11 +168,12 @@ declaring_meaning handle (Version _ _ ∷ ds) names c = declaring_meaning handle
 declaring_meaning handle (Reserved _ ∷ ds) names c = declaring_meaning handle ds names c.1
 declaring_meaning handle (TagPrefix other prefix ∷ ds) names c =
     let test : Bool = bytes_eq (handle_bytes handle) (handle_bytes other) in
-    declaring_meaning handle ds (with_meaning (handle_bytes other) (encode_utf8_all prefix) names) c.1
-    ∙ ap (option_or (prefix_in handle ds))
-    (given_meaning (handle_bytes handle) (handle_bytes other) (encode_utf8_all prefix) names)
-    ∙ one_prefix test (encode_utf8_all prefix) (prefix_in handle ds) (meaning (handle_bytes handle) names)
-    (λ q. none_else handle other prefix ds c.0 ((bytes_eq-Decides (handle_bytes handle) (handle_bytes other)).0 q))
+    cc (
+      declaring_meaning handle ds (with_meaning (handle_bytes other) (encode_utf8_all prefix) names) c.1,
+      given_meaning (handle_bytes handle) (handle_bytes other) (encode_utf8_all prefix) names,
+      one_prefix test (encode_utf8_all prefix) (prefix_in handle ds) (meaning (handle_bytes handle) names)
+          (λ q. none_else handle other prefix ds c.0 ((bytes_eq-Decides (handle_bytes handle) (handle_bytes other)).0 q)),
+    )
 
 kept_meaning : (keep kept : Bool) (handle : Handle) (front : List Part) (names : Names (List ℕ)) → kept ≡ keep
     → meaning (handle_bytes handle) names ≡ prefix_declared_for keep handle front
@@ -204,8 +196,7 @@ fits_after false keep front e (OpenDocument x ds) more m h l = record {
   keeps = h.keeps;
   count = h.count;
   ids = λ name. refl;
-  prefixes = λ handle. declaring_meaning handle ds e.prefixes m
-      ∙ ap (option_or (prefix_in handle ds)) (h.prefixes handle);
+  prefixes = λ handle. cc (declaring_meaning handle ds e.prefixes m, h.prefixes handle);
 }
 fits_after true keep front e CloseDocument more m h l =
     record {
@@ -234,8 +225,8 @@ pub same_events : (ps : List Part) (b keep : Bool) (front : List Part) (e : Memo
     → FitsParts b keep front e → anchors front + anchors ps < 2 ^ 64 → events_in e ps ≡ events_behind keep front ps
 same_events [] b keep front e w h l = refl
 same_events (p ∷ ps) b keep front e w h l =
-    ap (λ (o : Option Happening). first_and_others o (events_in (after p e) ps))
-    (event_same b keep front e p (anchors ps) w.0 h l)
-    ∙ ap (first_and_others (event_of_part keep front p))
-    (same_events ps (is_inside_behind p b) keep (p ∷ front) (after p e) w.1
-    (fits_after b keep front e p (anchors ps) w.0 h l) (room_moves (anchor_of p) (anchors front) (anchors ps) l))
+    cc (
+      event_same b keep front e p (anchors ps) w.0 h l,
+      same_events ps (is_inside_behind p b) keep (p ∷ front) (after p e) w.1 (fits_after b keep front e p (anchors ps) w.0
+          h l) (room_moves (anchor_of p) (anchors front) (anchors ps) l),
+    )

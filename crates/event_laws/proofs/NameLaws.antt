@@ -36,9 +36,7 @@ meaning_found name es = lookup (λ (k : List ℕ). bytes_eq name k) es
 found_meaning : {X : Type 0} (name : List ℕ) (es : Names X) → meaning name es ≡ meaning_found name es
 unfolding meaning_found
 found_meaning name [] = refl
-found_meaning {X} name (e ∷ es) =
-    ap (λ (b : Bool). cond b (Some e.1) (meaning name es)) (is_eq-slice_cmp name e.0)
-    ∙ ap (λ (o : Option X). cond (bytes_eq name e.0) (Some e.1) o) (found_meaning name es)
+found_meaning {X} name (e ∷ es) = cc (is_eq-slice_cmp name e.0, found_meaning name es)
 
 not_both : (name other key : List ℕ) → bytes_eq other key ≡ false → bytes_eq name key ≡ true
     → bytes_eq name other ≡ true → ⊥
@@ -66,15 +64,14 @@ given_found {X} name other x (e ∷ es) = by (slice_cmp nat_cmp other e.0) refl 
         ∙ ap (λ (k : List ℕ). cond (bytes_eq name k) (Some x)
         (cond (bytes_eq name e.0) (Some e.1) (lookup (λ (k : List ℕ). bytes_eq name k) es)))
         (sym (exact_bytes other e.0 h))
-    by Greater h ih = ap (λ (o : Option X). cond (bytes_eq name e.0) (Some e.1) o) ih
-        ∙ order (bytes_eq name e.0) (bytes_eq name other) e.1 x _
-        (not_both name other e.0 (behind_is_other other e.0 h))
+    by Greater h ih =
+        cc (order (bytes_eq name e.0) (bytes_eq name other) e.1 x _ (not_both name other e.0
+        (behind_is_other other e.0 h)))
 
 pub given_meaning : {X : Type 0} (name other : List ℕ) (x : X) (es : Names X)
     → meaning name (with_meaning other x es) ≡ (if bytes_eq name other then Some x else meaning name es)
 given_meaning {X} name other x es =
-    found_meaning name (with_meaning other x es) ∙ given_found name other x es
-    ∙ ap (λ (o : Option X). cond (bytes_eq name other) (Some x) o) (sym (found_meaning name es))
+    cc (found_meaning name (with_meaning other x es), given_found name other x es, found_meaning name es)
 
 -- ## Lists of names
 
@@ -101,8 +98,8 @@ listed_test name other (k ∷ ks) = by (slice_cmp nat_cmp other k) refl (listed_
     by Equal h ih = once (is_at (slice_cmp nat_cmp name) k) (is_listed name ks)
         ∙ ap (λ (x : List ℕ). is_at (slice_cmp nat_cmp name) x
         || (is_at (slice_cmp nat_cmp name) k || is_listed name ks)) (sym (exact_bytes other k h))
-    by Greater h ih = ap (λ b. is_at (slice_cmp nat_cmp name) k || b) ih
-        ∙ or_swapped (is_at (slice_cmp nat_cmp name) k) (is_at (slice_cmp nat_cmp name) other) (is_listed name ks)
+    by Greater h ih =
+        cc (or_swapped (is_at (slice_cmp nat_cmp name) k) (is_at (slice_cmp nat_cmp name) other) (is_listed name ks))
 
 pub different : (a b : List ℕ) → a ≢ b → bytes_eq a b ≡ false
 different a b h = by (bytes_eq a b) refl

@@ -1,5 +1,5 @@
 -- The events of a forest nest, and so do those that are taken from a text.
-use Rattle.std.proofs.Common.{◌≡◌, Bool, List, [], ◌∷◌, ◌++◌, Option, Some, None, option_map, option_and_then, refl, sym, ap, subst, ◌∙◌, append_assoc, ℕ}
+use Rattle.std.proofs.Common.{◌≡◌, Bool, List, [], ◌∷◌, ◌++◌, Option, Some, None, option_map, option_and_then, refl, sym, ap, ◌∙◌, append_assoc, ℕ}
 use Rattle.saphyr_scanner.specs.Grammar.Forest.{Node, Alias, Scalar, Seq, Map, Nodes, NoNode, MoreNodes, Pairs, NoPair, MorePairs, Forest}
 use Rattle.saphyr_scalar.specs.declared.scalar.position.Span.{Span}
 use Rattle.event_laws.specs.Preorder as parts
@@ -10,7 +10,7 @@ use Rattle.event_laws.specs.ForestEvents.{event_of_part, first_and_others, event
 use Rattle.event_laws.specs.ForestEvents as forests
 use Rattle.saphyr_machine.specs.Answer.{Ending, Answer}
 use Rattle.event_laws.specs.EventsTaken.{IsCut, AreTaken}
-use Rattle.event_laws.specs.Nesting.{NestPlace, InStream, BeforeRoot, BehindRoot, InSequence, BeforeKey, BeforeValue, Nest, nest_before_stream, nest_behind_stream, place_behind_node, with_next_place, nest_inside, nest_behind_event, nest_behind_all, happenings, IsWhole, IsNested, IsStreamStart, BeginsStream, IsAtStart}
+use Rattle.event_laws.specs.Nesting.{NestPlace, InStream, BeforeRoot, BehindRoot, InSequence, BeforeKey, BeforeValue, Nest, nest_before_stream, nest_behind_stream, place_behind_node, with_next_place, nest_inside, nest_behind_event, nest_behind_all, happenings, IsWhole, IsNested, BeginsStream, IsAtStart}
 
 -- ## Longer lists
 
@@ -59,18 +59,11 @@ one_part : (keep : Bool) (front : List Part) (part : Part) (rest : List Part) (e
     → PassesParts keep rest es n m
 one_part keep front part rest es n m p step =
     let b = first_and_others_begins (event_of_part keep front part) (events_behind keep (part ∷ front) rest) es p in
-    record {
-      front = part ∷ front;
-      more = b.others;
-      are = b.are;
-      same = ap (λ (hs : List Happening). nest_behind_all hs n) b.joined
-          ∙ ap (option_and_then (nest_behind_all b.others)) (step b.first b.is);
-    }
+    record { front = part ∷ front; more = b.others; are = b.are; same = simp (b.joined, step b.first b.is) }
 
 and_then : (keep : Bool) (rest more : List Part) (es : List Happening) (n m k : Nest) → PassesParts keep rest es n m
     → ((front : List Part) (hs : List Happening) → events_behind keep front rest ≡ Some hs
-    → PassesParts keep more hs m k)
-    → PassesParts keep more es n k
+    → PassesParts keep more hs m k) → PassesParts keep more es n k
 and_then keep rest more es n m k a next =
     let b = next a.front a.more a.are in
     record { front = b.front; more = b.more; are = b.are; same = a.same ∙ b.same }
@@ -82,8 +75,7 @@ no_part keep front rest es n p = record { front = front; more = es; are = p; sam
 mapped : {A : Type 0} (f : A → Happening) (o : Option A) (h : Happening) (n : Nest) (m : Option Nest)
     → ((x : A) → nest_behind_event (f x) n ≡ m) → option_map f o ≡ Some h → nest_behind_event h n ≡ m
 mapped f None h n m each p = absurd (cc)
-mapped f (Some x) h n m each p = let same : f x ≡ h = cc in ap (λ (g : Happening). nest_behind_event g n) (sym same)
-    ∙ each x
+mapped f (Some x) h n m each p = let same : f x ≡ h = cc in cc (each x)
 
 given : (e h : Happening) (n : Nest) (m : Option Nest) → nest_behind_event e n ≡ m → Some e ≡ Some h
     → nest_behind_event h n ≡ m
@@ -95,7 +87,7 @@ at n place = record { innermost = place; outer = n.outer }
 
 behind_moved : (n : Nest) (place : NestPlace) → place_behind_node n.innermost ≡ Some place
     → with_next_place place_behind_node n ≡ Some (at n place)
-behind_moved n place h = ap (option_map (λ (p : NestPlace). record n { innermost = p })) h
+behind_moved n place h = simp h
 
 -- ## Nodes
 
@@ -195,7 +187,7 @@ pub whole_at_end : (ending : Option Ending) (o : Option Nest) (missing : List Ha
 whole_at_end ending None missing h e = absurd (cc)
 whole_at_end (Some f) (Some n) missing h e = tt
 whole_at_end None (Some n) missing h e =
-    let same : nest_behind_all missing n ≡ Some n = ap (λ (hs : List Happening). nest_behind_all hs n) h in
+    let same : nest_behind_all missing n ≡ Some n = simp h in
     let found : Some n ≡ Some nest_behind_stream = sym same ∙ e in
     cc
 
@@ -212,7 +204,7 @@ begins_stream : (es : List (Happening × Span)) (ending : Option Ending) (missin
     (others : List Happening) → IsCut ending missing
     → happenings es ++ missing ≡ h ∷ others → events.StreamStart ≡ h → BeginsStream es ending
 begins_stream (e ∷ es) ending missing h others k p q = let same : events.StreamStart ≡ e.0 = cc in
-    subst IsStreamStart same tt
+    rw (← same) tt
 begins_stream [] (Some f) missing h others k p q = tt
 begins_stream [] None missing h others k p q = let none : [] ≡ h ∷ others = sym k ∙ p in absurd (cc)
 

@@ -1,5 +1,5 @@
 -- Which token a node begins with, and which may come after it.
-use Rattle.std.proofs.Common.{◌≡◌, ◌≢◌, ℕ, List, [], ◌∷◌, ◌++◌, Option, Some, None, option_map, refl, subst, sym, ap, ◌∙◌, ◌⊎◌, inl, inr, append_assoc}
+use Rattle.std.proofs.Common.{◌≡◌, ◌≢◌, ℕ, List, [], ◌∷◌, ◌++◌, Option, Some, None, option_map, refl, ap, ◌∙◌, ◌⊎◌, inl, inr, append_assoc}
 use lib.Utf8.{encode}
 use Rattle.saphyr_scalar.specs.declared.scalar.position.Span.{Span}
 use Rattle.saphyr_scanner.specs.Grammar.Forest.{Tag, NonSpecific, Verbatim, Shorthand, HasOne, HasProperty, Properties, Node, Nodes, NoNode, MoreNodes}
@@ -179,9 +179,7 @@ pub enters : (n : Node) (c : grammar.Context) (t : List Kind) → YieldsNode n c
 enters n c t h g f k ks machine x behind ss e ps z more go l =
     let d : Head c t = node_head n c t h in
     g.by f k ks (machine (t ++ k ∷ ks)) x (behind (t ++ k ∷ ks)) ss e ps z (more (t ++ k ∷ ks))
-    (subst (λ (u : List Kind). event_step (machine (u ++ k ∷ ks))
-    ≡ next_node (context_of c) (at f (u ++ k ∷ ks) x (behind (u ++ k ∷ ks) ∷ ss) e)) (sym d.is)
-    (go d.first (d.others ++ k ∷ ks) d.starts)) l
+    (rw d.is (go d.first (d.others ++ k ∷ ks) d.starts)) l
 
 -- one step tells a node that is left out
 pub skipped : (e : Memory) (m n : Machine) (ps : List Part) (span : Span) → m.state ≢ End
@@ -197,11 +195,7 @@ left_out_says : (n : Node) (t : List Kind) (k : Kind) (ks : List Kind) (f : Span
     → SaysParts e (machine (k ∷ ks)) (node_parts forest.left_out ++ ps))
     → TellsParts f (k ∷ ks) (behind (t ++ k ∷ ks)) ss (after_node n e) ps
     → SaysParts e (machine (t ++ k ∷ ks)) (node_parts n ++ ps)
-left_out_says n t k ks f machine behind ss e ps a b q =
-    subst (λ (v : Node). TellsParts f (k ∷ ks) (behind (t ++ k ∷ ks)) ss (after_node v e) ps
-    → SaysParts e (machine (t ++ k ∷ ks)) (node_parts v ++ ps)) (sym a)
-    (subst (λ (u : List Kind). TellsParts f (k ∷ ks) (behind (u ++ k ∷ ks)) ss (after_node forest.left_out e) ps
-    → SaysParts e (machine (u ++ k ∷ ks)) (node_parts forest.left_out ++ ps)) (sym b) q)
+left_out_says n t k ks f machine behind ss e ps a b q = rw (a, b) q
 
 -- the same of a node that may be left out
 pub enters_or_skips : (n : Node) (c : grammar.Context) (t : List Kind) → YieldsOptional n (YieldsNode n c) t
@@ -254,5 +248,4 @@ says_behind mark c Ends span x y more follows begins skips n t h g f k ks ss e p
 -- the tokens of a pair with both marks, and what comes after it
 pub marked_tokens : (t front back key value others : List Kind) → front ≡ tokens.Key ∷ key → back ≡ tokens.Value ∷ value
     → t ≡ front ++ back → t ++ others ≡ tokens.Key ∷ (key ++ tokens.Value ∷ (value ++ others))
-marked_tokens t front back key value others a b c =
-    rw (c, a, b) (ap (λ l. tokens.Key ∷ l) (append_assoc key (tokens.Value ∷ value) others))
+marked_tokens t front back key value others a b c = rw (c, a, b) (cc (append_assoc key (tokens.Value ∷ value) others))

@@ -1,5 +1,5 @@
 -- The tokens that a step uses: some are passed, and the others are its event's own.
-use Rattle.std.proofs.Common.{◌≡◌, List, [], ◌∷◌, ◌++◌, None, refl, sym, ap, ◌∙◌, subst, ◌⊎◌, inl, inr}
+use Rattle.std.proofs.Common.{◌≡◌, List, [], ◌∷◌, ◌++◌, None, refl, ap, ◌⊎◌, inl, inr}
 use Rattle.saphyr_scalar.specs.declared.scalar.position.Marker.{Marker}
 use Rattle.saphyr_scalar.specs.declared.scalar.position.Span.{Span}
 use Rattle.saphyr_scalar.specs.declared.scalar.style.ScalarStyle.TheVariants.{Plain}
@@ -53,9 +53,7 @@ from_front (t ∷ front) own ts unread what span es p i h =
 pub own_more : (used ts unread : List Piece) (what : Happening) (span : Span) (es : List (Happening × Span))
     → HasOwn used what span (ts ++ unread) → HaveTokens unread es ts
     → HaveTokens unread ((what, span) ∷ es) (used ++ ts)
-own_more used ts unread what span es o h =
-    subst (λ (l : List Piece). HaveTokens unread ((what, span) ∷ es) (l ++ ts)) (sym o.are)
-    (from_front o.front o.own ts unread what span es o.passed o.is_of h)
+own_more used ts unread what span es o h = rw o.are (from_front o.front o.own ts unread what span es o.passed o.is_of h)
 
 -- ## Properties
 
@@ -72,11 +70,10 @@ StartsAt [] m q = q.start ≡ m
 StartsAt _ m q = Unit {0}
 
 pub content_spans : (front : List Piece) (q : NodeProperties) (t : Piece) → Shape front q → StartsAt front t.span.start
-    q
-    → SpansAll (front ++ t ∷ []) (record { start = q.start; end = t.span.end })
-content_spans [] q t h s = ap (λ (m : Marker). let x : Span = record { start = m; end = t.span.end } in x) s
-content_spans (p ∷ []) q t h s = ap (λ (m : Marker). let x : Span = record { start = m; end = t.span.end } in x) h.1
-content_spans (p ∷ r ∷ []) q t h s = ap (λ (m : Marker). let x : Span = record { start = m; end = t.span.end } in x) h.1
+    q → SpansAll (front ++ t ∷ []) (record { start = q.start; end = t.span.end })
+content_spans [] q t h s = cc
+content_spans (p ∷ []) q t h s = cc
+content_spans (p ∷ r ∷ []) q t h s = cc
 content_spans (p ∷ r ∷ z ∷ l) q t h s = absurd h
 
 properties_are : (front : List Piece) (q : NodeProperties) → Shape front q → (front ≡ []) ⊎ ArePropertyTokens front
@@ -91,9 +88,7 @@ content_is kind front q t k h = (front, t, properties_are front q h, k, refl)
 
 both_places : (a b c d : Marker) → a ≡ c → b ≡ d
     → (let x : Span = record { start = a; end = b } in x) ≡ record { start = c; end = d }
-both_places a b c d h k =
-    ap (λ (m : Marker). let x : Span = record { start = m; end = b } in x) h
-    ∙ ap (λ (m : Marker). let x : Span = record { start = c; end = m } in x) k
+both_places a b c d h k = cc
 
 -- properties alone
 pub alone_is : (front : List Piece) (q : NodeProperties) → Shape front q

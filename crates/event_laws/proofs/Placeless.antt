@@ -1,5 +1,5 @@
 -- Where tokens are changes nothing of the events but their spans.
-use Rattle.std.proofs.Common.{◌≡◌, ◌≢◌, map, None, Result, Ok, Err, refl, ap, subst, inl, inr}
+use Rattle.std.proofs.Common.{◌≡◌, ◌≢◌, map, None, Result, Ok, Err, refl, ap, inl, inr}
 use Rattle.saphyr_scalar.specs.declared.scalar.position.Marker.{Marker}
 use Rattle.saphyr_scalar.specs.declared.scalar.position.Span.{Span}
 use Rattle.saphyr_scalar.specs.declared.scalar.fault.Refusal.{Refusal}
@@ -107,10 +107,7 @@ steps_same s m = told_same _ _ (beside_placeless s m (λ e. absurd (cc)))
 -- a step that tells the end of the stream ends the machine
 pub closes : (m : Machine) (x : Told) → event_step m ≡ Ok x → LeavesEnd x.what x.machine.state
 unfolding event_step
-closes m x e =
-    let P : Result Told Refusal → Type 0 = λ p. TellsAlike without_places p
-    (event_step_at (placeless_state m.state) (placeless m)) in
-    by _ (subst P e (beside_placeless m.state m (goes_on m x e)))
+closes m x e = by _ (rw e at (beside_placeless m.state m (goes_on m x e)))
   where
     by : (q : Result Told Refusal) → TellsAlike without_places (Ok x) q → LeavesEnd x.what x.machine.state
     by (Ok y) h = h.closes

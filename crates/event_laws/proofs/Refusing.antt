@@ -1,5 +1,5 @@
 -- A refusal has the place of a token, or is the one that ends the tokens.
-use Rattle.std.proofs.Common.{◌≡◌, ℕ, suc, Bool, false, List, [], ◌∷◌, Option, Some, None, refl, sym, subst, arith, ◌⊎◌, inl, inr}
+use Rattle.std.proofs.Common.{◌≡◌, ℕ, suc, Bool, false, List, [], ◌∷◌, Option, Some, None, refl, arith, ◌⊎◌, inl, inr}
 use Rattle.saphyr_scalar.specs.declared.scalar.position.Marker.{Marker}
 use Rattle.saphyr_scalar.specs.declared.scalar.fault.Refusal.{Refusal}
 use Rattle.saphyr_scalar.specs.Views.Cursor as scalar
@@ -69,7 +69,7 @@ resumes text s c d r ts n (inr h) =
 
 failed : (text : List ℕ) (o : Option Ending) → IsFailed (placed text) o → HasPlaceIn text o
 failed text None h = tt
-failed text (Some e) h = subst (λ (x : Ending). HasPlaceIn text (Some x)) (sym h.1) (h.2, (h.0.text, refl))
+failed text (Some e) h = rw h.1 (h.2, (h.0.text, refl))
 
 pub refused_at : (text : List ℕ) (tokens : Remaining) (keep : Bool) → AreAtPlaces text tokens.pieces
     → AreEnded (IsPlaceOf text) tokens.refusal tokens.pieces

@@ -1,5 +1,5 @@
 -- The events of parts as a machine tells them that remembers anchors and prefixes.
-use Rattle.std.proofs.Common.{◌≡◌, ◌≢◌, ℕ, List, [], ◌∷◌, Option, Some, None, option_map, encode_utf8_all, codes, refl, subst, sym, ap, ◌∙◌}
+use Rattle.std.proofs.Common.{◌≡◌, ◌≢◌, ℕ, List, [], ◌∷◌, Option, Some, None, option_map, encode_utf8_all, codes, refl, sym, ap, ◌∙◌}
 use Rattle.std.specs.Prelude.{if◌then◌else◌}
 use Rattle.std.specs.Option.{option_or}
 use Rattle.saphyr_scalar.specs.declared.scalar.position.Span.{Span}
@@ -133,8 +133,7 @@ says e m n part ps more go h es q =
     × (events_in (after part e) ps ≡ Some ws) × (w ∷ ws ≡ es) =
     first_and_others_parts (event_in e part) (events_in (after part e) ps) es q in
     let s : (span : Span) × (event_step m ≡ told_event r.0 span n) = go r.0 r.2 in
-    subst (λ l. GivesExactly l (remaining_answer m)) r.4
-    (tells m (record { what = r.0; span = s.0; machine = n }) r.1 more s.1 (h r.1 r.3))
+    rw r.4 at (tells m (record { what = r.0; span = s.0; machine = n }) r.1 more s.1 (h r.1 r.3))
 
 -- the same of a part that always has its event
 pub plainly : (e : Memory) (m n : Machine) (part : Part) (ps : List Part) (w : Happening) (span : Span) → m.state ≢ End

@@ -101,7 +101,7 @@ unfolding event_step document.document_end
 other_state m x is other at_end =
     let told_so : event_step_at state.DocumentEnd m ≡ Ok x =
     subst (λ (s : State). event_step_at s m ≡ Ok x) at_end is in
-    other (subst EndsDocument told_so (ends_document (document.token_behind_document m)))
+    other (rw told_so at (ends_document (document.token_behind_document m)))
 
 setting : (b : Bool) (c : Option (Happening × Span)) (k : Option Kept) (m : Machine) (i : Bool) (f : Option Span)
     (e : Happening × Span) (new : EventCursor) → e.0 ≢ events.DocumentEnd
@@ -111,7 +111,7 @@ setting : (b : Bool) (c : Option (Happening × Span)) (k : Option Kept) (m : Mac
 setting b (Some next) k m i f e new other (same, left) = (same, ap (keeping_tags b) left)
 setting b None (Some k) m i f e new other h = h
 setting b None None m i f e new other (moved, left) =
-    (sets b m (other_state m _ moved other) ∙ ap (with_setting b) moved, ap (keeping_tags b) left)
+    (cc (sets b m (other_state m _ moved other)), ap (keeping_tags b) left)
 
 -- any other event is handed out whatever the setting, which may be made before it or after it
 pub sets_behind : (e : Happening × Span) (old new : EventCursor) (b : Bool) → e.0 ≢ events.DocumentEnd

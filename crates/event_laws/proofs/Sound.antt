@@ -1,8 +1,8 @@
 -- The events of any tokens are a beginning of some forest's.
 use Rattle.event_laws.specs.EventsTaken.{BeginsSomeForest, HaveTokens, IsAllUnless, IsCut}
 use Rattle.event_laws.specs.EventsTaken as taking
-use Rattle.event_laws.proofs.OwnTokens.{HasOwn, own_more}
-use Rattle.std.proofs.Common.{◌≡◌, ◌≢◌, ℕ, zero, suc, ◌+◌, ◌<◌, ◌≤◌, ◌^◌, Bool, true, false, List, [], ◌∷◌, ◌++◌, length, Option, Some, None, Result, Ok, Err, refl, sym, ap, ◌∙◌, subst, inl, inr, append_assoc, append-nil, arith, length-append}
+use Rattle.event_laws.proofs.OwnTokens.{own_more}
+use Rattle.std.proofs.Common.{◌≡◌, ◌≢◌, ℕ, zero, suc, ◌+◌, ◌<◌, ◌≤◌, ◌^◌, Bool, true, false, List, [], ◌∷◌, ◌++◌, length, Option, Some, None, Result, Ok, Err, refl, sym, ap, ◌∙◌, inl, inr, append_assoc, append-nil, arith, length-append}
 use Rattle.saphyr_scalar.specs.declared.scalar.fault.Refusal.{Refusal}
 use Rattle.saphyr_scanner.specs.Grammar.Forest.{Forest}
 use Rattle.saphyr_scanner.specs.Grammar.Tokens.{Kind}
@@ -13,7 +13,7 @@ use Rattle.saphyr_machine.specs.declared.state.State.TheVariants as state
 use Rattle.event_laws.specs.Anchors.{one_more_anchor, anchor_of, anchors}
 use Rattle.event_laws.specs.Preorder.{Part, parts}
 use Rattle.saphyr_machine.specs.Events.{Happening}
-use Rattle.event_laws.specs.ForestEvents.{first_and_others, events}
+use Rattle.event_laws.specs.ForestEvents.{events}
 use Rattle.event_laws.specs.Exactly.{kinds}
 use Rattle.saphyr_machine.specs.Steps.Machine.{Machine, Told}
 use Rattle.saphyr_machine.specs.Steps.Expected.{event_step, event_step_at}
@@ -125,8 +125,7 @@ finishes_at_fault s ss ts e f a =
 
 events_joined : (part : Part) (ps : List Part) (e : Memory) (w : Happening) (es : List Happening)
     → event_in e part ≡ Some w → events_in (after part e) ps ≡ Some es → events_in e (part ∷ ps) ≡ Some (w ∷ es)
-events_joined part ps e w es h k =
-    ap (λ (o : Option Happening). first_and_others o (events_in (after part e) ps)) h ∙ ap (first_and_others (Some w)) k
+events_joined part ps e w es h k = cc
 
 more_anchors : (o : Option (List ℕ)) (n a b : ℕ) → one_more_anchor o 0 ≤ a → n ≤ b → one_more_anchor o n ≤ a + b
 more_anchors None n a b h k = omega (arith, h, k)
@@ -142,18 +141,16 @@ finishes_behind_event s ss ts e x a g h = record {
   expected = h.expected;
   parts = g.part ∷ h.parts;
   missing = h.missing;
-  are_read = g.taken ∙ ap (λ (l : List Piece). g.used ++ l) h.are_read ∙ sym (append_assoc g.used h.read h.unread);
-  wanted = subst (λ (l : List Kind). Wanted s ss (kinds ts) l (g.part ∷ h.parts))
-      (sym (ap (λ (l : List Kind). l ++ h.expected) (kinds_append g.used h.read)
-      ∙ append_assoc (kinds g.used) (kinds h.read) h.expected))
+  are_read = cc (append_assoc g.used h.read h.unread);
+  wanted =
+      rw (ap (λ (l : List Kind). l ++ h.expected) (kinds_append g.used h.read) ∙ append_assoc (kinds g.used)
+      (kinds h.read) h.expected)
       (g.makes (kinds h.read ++ h.expected) h.parts h.wanted.0 h.wanted.1);
-  told = events_joined g.part h.parts e x.what (happenings_of a ++ h.missing) g.tells
-      (subst (λ (m : Memory). events_in m h.parts ≡ Some (happenings_of a ++ h.missing)) g.remembers h.told);
+  told = events_joined g.part h.parts e x.what (happenings_of a ++ h.missing) g.tells (rw g.remembers at h.told);
   few = (let l = length-append g.used h.read in let m =
       more_anchors (anchor_of g.part) (anchors h.parts) (length g.used) (length h.read) g.few h.few in
       omega (arith, l, m));
-  places = own_more g.used h.read h.unread x.what x.span a.events
-      (subst (HasOwn g.used x.what x.span) h.are_read g.places) h.places;
+  places = own_more g.used h.read h.unread x.what x.span a.events (rw h.are_read at g.places) h.places;
   all_read = h.all_read;
   all_expected = h.all_expected;
   all_given = h.all_given;
@@ -168,31 +165,29 @@ is_over s ss ts e x o = record {
   parts = o.part ∷ [];
   missing = [];
   are_read = sym (append-nil ts);
-  wanted = subst (λ (l : List Kind). Wanted s ss (kinds ts) l (o.part ∷ [])) (sym (append-nil (kinds ts))) o.makes;
+  wanted = rw (append-nil (kinds ts)) o.makes;
   told = events_joined o.part [] e x.what [] o.tells refl;
   few = o.few;
-  places = subst (λ (l : List Piece). HaveTokens [] ((x.what, x.span) ∷ []) l) (append-nil ts)
-      (own_more ts [] [] x.what x.span [] o.places (taking.nothing []));
+  places = rw (append-nil ts) at (own_more ts [] [] x.what x.span [] o.places (taking.nothing []));
   all_read = refl;
   all_expected = refl;
   all_given = refl;
 }
 
 behind_used : (used ts us : List Piece) → ts ≡ used ++ us → AreWellFormed ts → AreWellFormed us
-behind_used [] ts us e w = subst AreWellFormed e w
-behind_used (t ∷ used) ts us e w = behind_used used (used ++ us) us refl ((subst AreWellFormed e w).2)
+behind_used [] ts us e w = rw e at w
+behind_used (t ∷ used) ts us e w = behind_used used (used ++ us) us refl ((rw e at w).2)
 
 alive_is_no_end : (s : State) (ss : List State) → IsAlive s ss → s ≢ state.End
-alive_is_no_end s [] a e = subst IsOutside e a
-alive_is_no_end s (o ∷ ss) a e = subst IsInsideDocument e a.0
+alive_is_no_end s [] a e = rw e at a
+alive_is_no_end s (o ∷ ss) a e = rw e at a.0
 
 finishes : (n : ℕ) (m : Machine) → machine_size m < n → AreWellFormed m.tokens.pieces → IsAlive m.state m.states
     → BeginsSomeParts m.state m.states m.tokens.pieces (memory m) (remaining_answer m)
 unfolding event_step
 finishes zero m l w a = absurd (omega (arith, l))
 finishes (suc n) m l w a =
-    subst (λ (b : Answer). BeginsSomeParts m.state m.states m.tokens.pieces (memory m) b)
-    (sym (unroll m (alive_is_no_end m.state m.states a)))
+    rw (unroll m (alive_is_no_end m.state m.states a))
     (by (event_step m) refl (step_moves m.state m.state m.states m.tokens.pieces m.tokens.refusal (memory m) w a)
     (λ k. finishes n k))
   where
@@ -206,10 +201,7 @@ finishes (suc n) m l w a =
         finishes_behind_event m.state m.states m.tokens.pieces (memory m) x (remaining_answer x.machine) g
         (go x.machine (let s = shrinks_at (machine_size m) m x (omega arith) e in omega (arith, l, s))
         (behind_used g.used m.tokens.pieces x.machine.tokens.pieces g.taken w) g.alive)
-    by (Ok x) e (inr o) go =
-        subst (λ (b : Answer). BeginsSomeParts m.state m.states m.tokens.pieces (memory m)
-        (with_first_event (x.what, x.span) b))
-        (sym (over x.machine o.is_over)) (is_over m.state m.states m.tokens.pieces (memory m) x o)
+    by (Ok x) e (inr o) go = rw (over x.machine o.is_over) (is_over m.state m.states m.tokens.pieces (memory m) x o)
 
 -- ## From the start
 
@@ -220,7 +212,7 @@ from_start tokens keep a l h =
     let yielded : Yields f (kinds h.read ++ h.expected) = h.wanted.0.1 in
     let are : h.parts ≡ parts f = h.wanted.0.2 in
     let within : Within false (parts f) = (tt, documents_within f (all_compatible f true yielded.1 yielded.3)) in
-    let count : anchors (parts f) ≤ length h.read = subst (λ (ps : List Part). anchors ps ≤ length h.read) are h.few in
+    let count : anchors (parts f) ≤ length h.read = rw are at h.few in
     let few : anchors (parts f) < 2 ^ 64 =
     (let b = ap length h.are_read in let c = length-append h.read h.unread in omega (arith, l, b, c, count)) in
     let same : events_in (at_first keep) (parts f) ≡ events f keep =
@@ -233,8 +225,7 @@ from_start tokens keep a l h =
         expected = h.expected;
         yielded = yielded;
         missing = h.missing;
-        are_events = sym same
-            ∙ subst (λ (ps : List Part). events_in (at_first keep) ps ≡ Some (happenings_of a ++ h.missing)) are h.told;
+        are_events = sym same ∙ rw are at h.told;
         places = h.places;
         all_read = h.all_read;
         all_expected = h.all_expected;

@@ -32,7 +32,7 @@ with_bytes text bytes e i =
 
 as_token : (front back handle suffix : List ℕ) → front ≡ handle → back ≡ suffix
     → tokens.Tag front back ≡ tokens.Tag handle suffix
-as_token front back handle suffix e f = ap (λ (x : List ℕ). tokens.Tag x back) e ∙ ap (tokens.Tag handle) f
+as_token front back handle suffix e f = cc
 
 tag_of : (text handle suffix front back : List ℕ) → IsTagText text handle suffix → front ≡ encode_utf8_all handle
     → back ≡ encode_utf8_all suffix → (tag : Tag) × (tokens.Tag front back ≡ tag_token tag)

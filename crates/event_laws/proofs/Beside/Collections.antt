@@ -34,8 +34,7 @@ module _ (w : Beside) where
 
   -- the token before one has these spans
   take_at : (go : Kind → Span → Piece → Machine → Result Told Refusal) → TokenBesideAt go → (s r : Span)
-      → SpansAlike w s r
-      → Both w (Alike w) (λ m. taken_token m >>= (λ t. go t.0.kind s t.0 t.1))
+      → SpansAlike w s r → Both w (Alike w) (λ m. taken_token m >>= (λ t. go t.0.kind s t.0 t.1))
       (λ m. taken_token m >>= (λ t. go t.0.kind r t.0 t.1))
   take_at go h s r e m n near = taken w (Alike w) (λ k. go k s) (λ k. go k r) m n near (h s r e)
 

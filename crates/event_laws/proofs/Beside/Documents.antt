@@ -27,8 +27,7 @@ use Rattle.event_laws.proofs.Beside.Passing.{Has, PassesAlike, passes, has, goes
 
 -- anchors are forgotten, and something is expected after the document
 opened_beside : (w : Beside) (T : Remaining → Remaining → Type 0) (s : State) (m n : Machine) → Expected w s s
-    → With w T m n
-    → With w T (with_state s (push state.DocumentEnd (without_anchors m)))
+    → With w T m n → With w T (with_state s (push state.DocumentEnd (without_anchors m)))
     (with_state s (push state.DocumentEnd (without_anchors n)))
 opened_beside w T s m n e near =
     record {
@@ -42,8 +41,7 @@ opened_beside w T s m n e near =
 
 -- after a document's marker
 left_behind_marker : (w : Beside) (d : DocumentMarker) (m n : Machine) → With w (λ r q. w.Rest r q ⊎ w.Over d r q) m n
-    → Awaits d m
-    → Left w (marker_event d) m n
+    → Awaits d m → Left w (marker_event d) m n
 left_behind_marker w d m n near awaits = by near.tokens
   where
     by : w.Rest m.tokens n.tokens ⊎ w.Over d m.tokens n.tokens → Left w (marker_event d) m n
@@ -98,8 +96,7 @@ abbrev Starting : Beside → Machine → Machine → (Machine → Result Told Re
 Starting w m n go = TellsAlike w (go m) (go n) ⊎ PassedAll w m n go
 
 starts_beside : (w : Beside) (m n : Machine) (go : Kind → Piece → Machine → Result Told Refusal)
-    → AtBoth w (Alike w) go go
-    → Near w m n
+    → AtBoth w (Alike w) go go → Near w m n
     → Starting w m n (λ m. unpassed_token_from is_end_or_mark m.tokens.pieces m >>= (λ t. go t.0.kind t.0 t.1))
 starts_beside w m n go f near = by _ _ (passes w _ is_end_or_mark (goes_by_ends w) _ _ m n (ahead w m n near))
   where
@@ -183,7 +180,7 @@ forgets w T m n keeps near =
     }
   where
     kept : {X : Type 0} (b c : Bool) (p q : List X) → c ≡ b → q ≡ p → (if c then q else []) ≡ (if b then p else [])
-    kept b c p q e y = rw e (rw y refl)
+    kept b c p q e y = rw (e, y) refl
 
 end_at : (w : Beside) → AtBoth w (Alike w) document.document_end_at document.document_end_at
 end_at w tokens.DocumentEnd t u m n h =
@@ -229,8 +226,7 @@ start_passed (inr b) = inr (tt, b)
 -- A step of both, but that at the end of a document where the settings differ.
 pub steps_beside :
     (w : Beside) (s r : State) (m n : Machine) → Expected w s r → s ≢ state.End
-    → (s ≡ state.DocumentEnd → KeepsSetting w)
-    → Near w m n → TellsAlike w (event_step_at s m) (event_step_at r n)
+    → (s ≡ state.DocumentEnd → KeepsSetting w) → Near w m n → TellsAlike w (event_step_at s m) (event_step_at r n)
     ⊎ (IsBetweenDocuments s × PassedAll w m n (event_step_at s))
 unfolding block_node document.stream_start document.document_content block.block_sequence_entry
     block.indentless_sequence_entry block.block_mapping_key block.block_mapping_value

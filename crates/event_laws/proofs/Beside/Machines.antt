@@ -1,5 +1,5 @@
 -- Two machines side by side, and what is done to both.
-use Rattle.std.proofs.Common.{◌≡◌, ℕ, Bool, true, false, List, [], ◌∷◌, Option, Result, Ok, Err, refl, subst, ◌⊎◌, inl, inr}
+use Rattle.std.proofs.Common.{◌≡◌, ℕ, Bool, true, false, List, [], ◌∷◌, Option, Result, Ok, Err, refl, ◌⊎◌, inl, inr}
 use Rattle.std.specs.Prelude.{if◌then◌else◌}
 use Rattle.saphyr_scalar.specs.declared.scalar.position.Marker.{Marker}
 use Rattle.saphyr_scalar.specs.declared.scalar.position.Span.{Span}
@@ -166,7 +166,7 @@ pub of_kind :
 of_kind w R go ho f k t u m n h = by t.kind u.kind h.kind h.same
   where
     by : (i j : Kind) → i ≡ k → j ≡ k → GivesAlike w R (go i t m) (ho j u n)
-    by i j e y = rw e (rw y (f k t u m n h))
+    by i j e y = rw (e, y) (f k t u m n h)
 
 -- with these tokens ahead
 abbrev pub Ahead : Beside → List Piece → List Piece → Machine → Machine → Type 0
@@ -187,13 +187,12 @@ over w R us m n go near is = by (w.none us m.tokens.refusal n.tokens.refusal nea
         ⊎ ((us ≡ []) × w.Refused (ending_refusal m.tokens.refusal) (ending_refusal n.tokens.refusal))
         → GivesAlike w R (Err (ending_refusal m.tokens.refusal)) (go us)
     by (inl e) = inl e
-    by (inr e) = rw e.0 (rw is (inr e.1))
+    by (inr e) = rw (e.0, is) (inr e.1)
 
 abbrev pub Head : Beside → Piece → List Piece → List Piece → Machine → Machine → Type 0
 Head w t ts us m n = Next w.Place (Behind w.Rest w.Over t.kind) t ts us m.tokens.refusal n.tokens.refusal
 
-pub head : (w : Beside) (t : Piece) (ts us : List Piece) (m n : Machine) → Ahead w (t ∷ ts) us m n
-    → Head w t ts us m n
+pub head : (w : Beside) (t : Piece) (ts us : List Piece) (m n : Machine) → Ahead w (t ∷ ts) us m n → Head w t ts us m n
 head w t ts us m n near = w.next t ts us m.tokens.refusal n.tokens.refusal near.tokens
 
 pub holds_head :
@@ -204,10 +203,7 @@ holds_head w t ts us m n near x =
       kind = refl;
       same = refl;
       span = (x.start, x.end);
-      back =
-          changed w _ _ m n _ _ _ _ _ _
-          (subst (λ us. w.Rest (record { pieces = t ∷ ts; refusal = m.tokens.refusal })
-          (record { pieces = us; refusal = n.tokens.refusal })) x.is near.tokens) near.state near.states near;
+      back = changed w _ _ m n _ _ _ _ _ _ (rw x.is at near.tokens) near.state near.states near;
       behind = changed w _ _ m n _ _ _ _ _ _ x.behind near.state near.states near;
     }
 

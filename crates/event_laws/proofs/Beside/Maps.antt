@@ -1,5 +1,5 @@
 -- Two machines side by side, of which the second is made from the first by putting its places somewhere else.
-use Rattle.std.proofs.Common.{◌≡◌, Bool, List, [], ◌∷◌, map, ℕ, refl, ap, subst, ◌∙◌}
+use Rattle.std.proofs.Common.{◌≡◌, Bool, List, [], ◌∷◌, map, ℕ, refl, ap, ◌∙◌}
 use Rattle.saphyr_scalar.specs.declared.scalar.position.Marker.{Marker}
 use Rattle.saphyr_scanner.specs.Views.Tokens.{Remaining}
 use Rattle.saphyr_machine.specs.declared.state.State.{State}
@@ -49,7 +49,7 @@ all_only : (w : Beside) (f : Marker → Marker) → ((p q : Marker) → w.Place 
     → AllExpected w ss rs → rs ≡ map (placed f) ss
 all_only w f h [] rs e = e
 all_only w f h (s ∷ ss) [] e = absurd e
-all_only w f h (s ∷ ss) (r ∷ rs) e = rw (only w f h s r e.0) (ap (λ v. placed f s ∷ v) (all_only w f h ss rs e.1))
+all_only w f h (s ∷ ss) (r ∷ rs) e = rw (only w f h s r e.0) (cc (all_only w f h ss rs e.1))
 
 -- the second machine, if its tokens are these
 pub becomes : (w : Beside) (T : Remaining → Remaining → Type 0) (f : Marker → Marker) (r : Remaining) (b : Bool)
@@ -62,7 +62,7 @@ becomes w T f r b m n h near t k =
     by : (q : Remaining) (s : State) (ss : List State) (a : Anchors) (x : Names (List ℕ)) (c : Bool) → q ≡ r
         → s ≡ placed f m.state → ss ≡ map (placed f) m.states → a ≡ m.anchors → x ≡ m.prefixes → c ≡ b
         → record { tokens = q; state = s; states = ss; anchors = a; prefixes = x; keep_tags = c } ≡ moved f r b m
-    by q s ss a x c e0 e1 e2 e3 e4 e5 = rw e0 (rw e1 (rw e2 (rw e3 (rw e4 (rw e5 refl)))))
+    by q s ss a x c e0 e1 e2 e3 e4 e5 = rw (e0, e1, e2, e3, e4, e5) refl
 
 -- the same event, with the second machine
 pub tells_so : (w : Beside) (f : Marker → Marker) (x y : Told) (n : Machine)
@@ -71,11 +71,10 @@ pub tells_so : (w : Beside) (f : Marker → Marker) (x y : Told) (n : Machine)
 tells_so w f x y n h a is =
     by y.what y.span.start y.span.end y.machine a.what (h _ _ a.span.0) (h _ _ a.span.1) is
   where
-    by : (what : Happening) (p q : Marker) (m : Machine) → what ≡ x.what → p ≡ f x.span.start → q ≡ f x.span.end
-        → m ≡ n
+    by : (what : Happening) (p q : Marker) (m : Machine) → what ≡ x.what → p ≡ f x.span.start → q ≡ f x.span.end → m ≡ n
         → ◌≡◌ {A = Told} (record { what = what; span = record { start = p; end = q }; machine = m })
         (record { what = x.what; span = record { start = f x.span.start; end = f x.span.end }; machine = n })
-    by what p q m e0 e1 e2 e3 = rw e0 (rw e1 (rw e2 (rw e3 refl)))
+    by what p q m e0 e1 e2 e3 = rw (e0, e1, e2, e3) refl
 
 -- ## Where places stay
 
@@ -92,7 +91,7 @@ stay r b m = by _ _ (stays m.state) (all_stay m.states)
   where
     by : (s : State) (ss : List State) → s ≡ m.state → ss ≡ m.states
         → record m { tokens = r; state = s; states = ss; keep_tags = b } ≡ record m { tokens = r; keep_tags = b }
-    by s ss e i = rw e (rw i refl)
+    by s ss e i = rw (e, i) refl
 
 pub still_expected : (w : Beside) → ((p : Marker) → w.Place p p) → (s : State) → Expected w s s
 still_expected w h (state.FlowSequenceEntryMappingEnd p) = (p, h p, refl)
@@ -101,4 +100,4 @@ still_expected w h s = refl
 pub leaves : (w : Beside) (T : Remaining → Remaining → Type 0) (r : Remaining) (b : Bool) (m : Machine)
     → ((p : Marker) → w.Place p p) → T m.tokens r → w.Setting m.keep_tags b
     → With w T m (record m { tokens = r; keep_tags = b })
-leaves w T r b m h t k = subst (λ n. With w T m n) (stay r b m) (puts w T (λ p. p) r b m h t k)
+leaves w T r b m h t k = rw (stay r b m) at (puts w T (λ p. p) r b m h t k)

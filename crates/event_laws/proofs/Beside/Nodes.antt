@@ -1,5 +1,5 @@
 -- Two machines side by side give the same of nodes.
-use Rattle.std.proofs.Common.{◌≡◌, ℕ, List, length, Option, Some, None, Result, Ok, Err, refl, ap, inl, inr}
+use Rattle.std.proofs.Common.{◌≡◌, ℕ, List, length, Option, Some, None, Result, Ok, Err, refl, inl, inr}
 use Rattle.std.specs.Prelude.{codes, nat_eq}
 use Rattle.std.specs.Str.{bytes_eq}
 use Rattle.saphyr_scalar.specs.declared.scalar.position.Marker.{Marker}
@@ -11,7 +11,7 @@ use Rattle.saphyr_scanner.specs.Grammar.Tokens.{Kind}
 use Rattle.saphyr_scanner.specs.Views.Tokens.{Piece}
 use Rattle.saphyr_machine.specs.declared.context.NodeContext.{NodeContext}
 use Rattle.saphyr_machine.specs.Events.{ResolvedTag}
-use Rattle.saphyr_machine.specs.Steps.Machine.{◌>>=◌, Anchors, Names, meaning, Machine, Told, put_back, with_anchor, next_id}
+use Rattle.saphyr_machine.specs.Steps.Machine.{◌>>=◌, Names, meaning, Machine, Told, put_back, with_anchor, next_id}
 use Rattle.saphyr_machine.specs.Steps.Tags.{undeclared_prefix, declared_prefix_or, declared_prefix, resolved_tag_at, is_named_handle}
 use Rattle.saphyr_machine.specs.Steps.Contexts.{allows_block, allows_indentless}
 use Rattle.saphyr_machine.specs.Steps.Nodes.{NodeProperties, register, has_property, node_without_content, node_content_at, node_content, next_content, alias_of, alias_node, node_behind_anchor_at, node_behind_anchor, node_behind_tag_at, node_behind_tag, node_at, node}
@@ -153,8 +153,7 @@ behind_tag_beside w tag s r c e k t u m n h =
 node_at_beside : (w : Beside) (c : NodeContext) → AtBoth w (Alike w) (λ k. node_at k c) (λ k. node_at k c)
 unfolding alias_node node_behind_tag
 node_at_beside w c (tokens.Alias name) t u m n h =
-    alias_beside w (meaning name m.anchors.ids) (meaning name n.anchors.ids) t.span u.span
-    (ap (λ (a : Anchors). meaning name a.ids) h.behind.anchors) h.span m n h.behind
+    alias_beside w (meaning name m.anchors.ids) (meaning name n.anchors.ids) t.span u.span (cc) h.span m n h.behind
 node_at_beside w c (tokens.Anchor name) t u m n h = anchor_beside w name t.span u.span c h.span m n h.behind
 node_at_beside w c (tokens.Tag handle suffix) t u m n h =
     resolves w handle suffix t.span.start u.span.start m n _ _ h.span.0 h.behind

@@ -65,9 +65,7 @@ passes w S p go (t ∷ ts) us m n a =
       refl,
     )
 
-    by :
-        (b : Bool) → p t.kind ≡ b
-        → (Ahead w ts x.tail (with_pieces ts m) (with_pieces x.tail n)
+    by : (b : Bool) → p t.kind ≡ b → (Ahead w ts x.tail (with_pieces ts m) (with_pieces x.tail n)
         → PassesAlike w S p m n (unpassed_token_from p ts (with_pieces ts m))
         (unpassed_token_from p x.tail (with_pieces x.tail n)))
         → PassesAlike w S p m n (if b then unpassed_token_from p ts (with_pieces ts m) else Ok (t, with_pieces ts m))
@@ -103,9 +101,7 @@ directive_beside : (w : Beside) (k : Kind) (t u : Piece) (ts us : List Piece) (d
     → GivesAlike w (Declares w ts us) (directive_at k t d m) (directive_at k u d n)
 directive_beside w (tokens.VersionDirective major minor) t u ts us d m n e a = by d.version
   where
-    by :
-        (b : Bool)
-        → GivesAlike w (Declares w ts us)
+    by : (b : Bool) → GivesAlike w (Declares w ts us)
         ((if b then Err (record { text = fault.DuplicateVersionDirective; mark = t.span.start }) else
         (let v : Result Declared Refusal = Ok (record { version = true; handles = d.handles }) in v))
         >>= (λ e. let v : Result (Declared × Machine) Refusal = Ok (e, m) in v))
@@ -151,9 +147,7 @@ directives_beside w (t ∷ ts) us d m n a =
     Next = (e : Declared) (k l : Machine) → Ahead w ts x.tail k l
         → GivesAlike w (Has w) (directives_from ts e k) (directives_from x.tail e l)
 
-    by :
-        (b : Bool) → is_directive t.kind ≡ b → Next
-        → GivesAlike w (Has w)
+    by : (b : Bool) → is_directive t.kind ≡ b → Next → GivesAlike w (Has w)
         (if b then directive_at t.kind t d (with_pieces ts m) >>= (λ s. directives_from ts s.0 s.1) else Ok
         (t, with_pieces ts m))
         (if b then directive_at t.kind u d (with_pieces x.tail n) >>= (λ s. directives_from x.tail s.0 s.1) else Ok

@@ -1,5 +1,5 @@
 -- Tokens up to a document marker's give the events up to and including its own, whatever follows.
-use Rattle.std.proofs.Common.{◌≡◌, ◌≢◌, Bool, List, [], ◌∷◌, ◌++◌, Option, None, refl, sym, ap, ◌∙◌, subst, ◌⊎◌, inl, inr}
+use Rattle.std.proofs.Common.{◌≡◌, ◌≢◌, Bool, List, [], ◌∷◌, ◌++◌, Option, None, refl, sym, ap, ◌∙◌, ◌⊎◌, inl, inr}
 use Rattle.std.proofs.lemmas.List.{append_assoc, append_cancel_right, append-nil, map-append}
 use Rattle.saphyr_scalar.specs.declared.scalar.position.Span.{Span}
 use Rattle.saphyr_scalar.specs.declared.scalar.fault.Refusal.{Refusal}
@@ -13,7 +13,7 @@ use Rattle.event_laws.specs.Premises.{DocumentMarker, Starts, Ends, events_behin
 use Rattle.saphyr_machine.specs.Steps.Machine.{Machine, fresh_machine, told_event, with_state, with_pieces}
 use Rattle.saphyr_machine.specs.Steps.Documents.{unpassed_token, implicit_start, explicit_start, document_content, document_end, token_behind_document, without_prefixes}
 use Rattle.saphyr_machine.specs.Steps.Expected.{event_step, event_step_at}
-use Rattle.saphyr_machine.specs.Answer.{Answer, with_first_event, answer_of_step, remaining_answer}
+use Rattle.saphyr_machine.specs.Answer.{Answer, remaining_answer}
 use Rattle.saphyr_machine.specs.Cursor.{at_start, keeping_tags, to_come}
 use Rattle.event_laws.specs.Exactly.{GivesExactly, answer_of_tokens}
 use Rattle.event_laws.specs.More.{marker_token}
@@ -46,23 +46,24 @@ start_is_told : (s : Span) (k : Machine) → IsBetweenDocuments k.state
     → remaining_answer (alone s k) ≡ record { events = (events.StreamEnd, s) ∷ []; fault = None }
 unfolding event_step
 start_is_told s k i =
-    unroll (alone s k) (not_over k.state i) ∙ ap (λ q. answer_of_step q remaining_answer) (start_step s k.state k i)
-    ∙ ap (with_first_event (events.StreamEnd, s)) (over (with_state state.End (with_pieces [] (alone s k))) refl)
+    cc (
+      unroll (alone s k) (not_over k.state i),
+      start_step s k.state k i,
+      over (with_state state.End (with_pieces [] (alone s k))) refl,
+    )
 
 abbrev in_document : List State → Machine → Machine
 in_document ss k = record k { state = state.DocumentContent; states = state.DocumentEnd ∷ ss }
 
-content_told :
-    (s : Span) (ss : List State) (k : Machine)
-    → remaining_answer (alone s (in_document ss k))
+content_told : (s : Span) (ss : List State) (k : Machine) → remaining_answer (alone s (in_document ss k))
     ≡ record { events = (empty_scalar, s) ∷ (events.DocumentEnd, s) ∷ (events.StreamEnd, s) ∷ []; fault = None }
 unfolding event_step document_content document_end token_behind_document
 content_told s ss k =
-    unroll (alone s (in_document ss k)) (λ e. absurd (cc))
-    ∙ ap (with_first_event (empty_scalar, s))
-    (unroll (alone s (record k { state = state.DocumentEnd; states = ss })) (λ e. absurd (cc))
-    ∙ ap (with_first_event (events.DocumentEnd, s))
-    (start_is_told s (without_prefixes (record k { state = state.DocumentStart; states = ss })) tt))
+    simp (
+      unroll (alone s (in_document ss k)) (λ e. absurd (cc)),
+      unroll (alone s (record k { state = state.DocumentEnd; states = ss })) (λ e. absurd (cc)),
+      start_is_told s (without_prefixes (record k { state = state.DocumentStart; states = ss })) tt,
+    )
 
 -- ## The marker
 
@@ -71,7 +72,7 @@ ended_by w us e = record { Early = ⊥; marker = w; pieces = us; refusal = e }
 
 told_behind : (w : DocumentMarker) (s : Span) (k : Machine) → Awaits w k ⊎ ((w ≡ Ends) × IsBetweenDocuments k.state)
     → happenings_of (remaining_answer (alone s k)) ≡ events_behind_marker w
-told_behind Ends s k (inl a) = ap happenings_of (start_is_told s k (subst IsBetweenDocuments (sym a) tt))
+told_behind Ends s k (inl a) = ap happenings_of (start_is_told s k (rw a tt))
 told_behind Starts s k (inl a) =
     let ss : List State = a.1.0 in
     let same : k ≡ in_document ss k = ap (λ v. record k { state = v }) a.0
@@ -85,11 +86,7 @@ told_stopped :
     → happenings_of (remaining_answer (longer (ended_by w (record { span = s; kind = tokens.StreamEnd } ∷ []) None) k))
     ≡ events_behind_marker w
 told_stopped w s k (inl h) = absurd h
-told_stopped w s k (inr a) =
-    ap (λ ts. happenings_of (remaining_answer
-    (record k {
-      tokens = record { pieces = ts ++ record { span = s; kind = tokens.StreamEnd } ∷ []; refusal = None };
-    }))) a.0 ∙ told_behind w s k a.1
+told_stopped w s k (inr a) = cc (told_behind w s k a.1)
 
 its_own : (w : DocumentMarker) (x : Piece) → x.kind ≡ marker_token w → IsLastOr w ⊥ [] x.kind
 its_own Starts x e = rw e (inl (refl, refl))
@@ -114,7 +111,7 @@ first_told w s first m a b (inr g) t =
     let all : happenings_of b ≡ happenings_of a ++ happenings_of behind = ap happenings_of g.1.2
     ∙ map-append (λ (e : Happening × Span). e.0) a.events behind.events in
     let these : happenings_of a ++ events_behind_marker w ≡ first ++ events_behind_marker w =
-    ap (λ xs. happenings_of a ++ xs) (sym (told_stopped w s g.1.0 g.1.1)) ∙ sym all ∙ t in
+    cc (told_stopped w s g.1.0 g.1.1) in
     ([], append_cancel_right (happenings_of a) first (events_behind_marker w) these ∙ sym (append-nil first))
 
 also_first : (z : More) (r : Option Refusal) (first : List Happening) (m : Machine) (a b : Answer) → GoesOn z r m a b
@@ -123,8 +120,10 @@ also_first z r first m a b (inl e) f = (f.0, ap happenings_of e ∙ f.1)
 also_first z r first m a b (inr g) f =
     let behind : Answer = remaining_answer (longer z g.1.0) in (
       f.0 ++ happenings_of behind,
-      ap happenings_of g.1.2 ∙ map-append (λ (e : Happening × Span). e.0) a.events behind.events
-          ∙ ap (λ xs. xs ++ happenings_of behind) f.1 ∙ append_assoc first f.0 (happenings_of behind),
+      cc (
+        map-append (λ (e : Happening × Span). e.0) a.events behind.events,
+        append_assoc first f.0 (happenings_of behind),
+      ),
     )
 
 -- a machine at the start of tokens
@@ -157,8 +156,5 @@ closed_tokens keep w ts us x y e first is ends g =
     ap (λ k. record { span = y.span; kind = k }) ends in
     let given : happenings_of (remaining_answer
     (start keep ((ts ++ x ∷ []) ++ record { span = y.span; kind = tokens.StreamEnd } ∷ []) None))
-    ≡ first ++ events_behind_marker w =
-    ap (λ vs. happenings_of (remaining_answer (start keep vs None))) (same _ ∙ ap (λ v. ts ++ x ∷ v ∷ []) (sym the_end))
-    ∙ g.1 in
-    subst (λ vs. GivesFirst first (remaining_answer (start keep vs e))) (same us)
-    (tokens_close keep w ts us x y.span e first is given)
+    ≡ first ++ events_behind_marker w = cc (same _) in
+    rw (same us) at (tokens_close keep w ts us x y.span e first is given)

@@ -1,5 +1,5 @@
 -- Tokens with a common beginning give the same events, as long as no step looks past it.
-use Rattle.std.proofs.Common.{◌≡◌, ◌≢◌, ℕ, zero, suc, ◌<◌, List, [], ◌∷◌, ◌++◌, Option, Some, Result, Ok, Err, refl, sym, ap, ◌∙◌, subst, arith, ◌⊎◌, inl, inr}
+use Rattle.std.proofs.Common.{◌≡◌, ◌≢◌, ℕ, zero, suc, ◌<◌, List, [], ◌∷◌, ◌++◌, Option, Some, Result, Ok, Err, refl, sym, ap, ◌∙◌, arith, ◌⊎◌, inl, inr}
 use Rattle.saphyr_scalar.specs.declared.scalar.position.Span.{Span}
 use Rattle.saphyr_scalar.specs.declared.scalar.fault.Refusal.{Refusal}
 use Rattle.saphyr_scanner.specs.Grammar.Tokens as tokens
@@ -37,10 +37,9 @@ ended state.End = inl refl
 ended _ = inr (λ e. absurd (cc))
 
 same_result : (z : More) (r : Option Refusal) (p q : Result Told Refusal) (x : Told) → AgreesOrEndsEarly z r p q
-    → p ≡ Ok x
-    → q ≡ Ok (record x { machine = longer z x.machine })
+    → p ≡ Ok x → q ≡ Ok (record x { machine = longer z x.machine })
 same_result z r (Ok y) q x a e =
-    let same : y ≡ x = cc in subst (λ (v : Told). q ≡ Ok (record v { machine = longer z v.machine })) same a.2
+    let same : y ≡ x = cc in rw same at a.2
 same_result z r (Err f) q x a e = absurd (cc)
 
 step_given : (z : More) (m : Machine) (x : Told) → End z m.tokens.pieces → event_step m ≡ Ok x
@@ -98,10 +97,9 @@ GoesOn z r m a b = (b ≡ a)
     × IsLastToldBy z m k a.events))
 
 last_behind_event : (z : More) (x : Told) (m k : Machine) (es : List (Happening × Span))
-    → IsLeftBehind z x.what x.machine → IsLastToldBy z x.machine k es
-    → IsLastToldBy z m k ((x.what, x.span) ∷ es)
+    → IsLeftBehind z x.what x.machine → IsLastToldBy z x.machine k es → IsLastToldBy z m k ((x.what, x.span) ∷ es)
 last_behind_event z x m k es l (inl h) = inl h
-last_behind_event z x m k es (inl l) (inr (inl h)) = inl (inl (subst (End z) h.0 l))
+last_behind_event z x m k es (inl l) (inr (inl h)) = inl (inl (rw h.0 at l))
 last_behind_event z x m k es (inr l) (inr (inl h)) =
     inr (inr ([], x.span, rw h.1 (ap (λ v. (v, x.span) ∷ []) l.2)))
 last_behind_event z x m k es l (inr (inr h)) =
@@ -114,28 +112,20 @@ goes_on_behind_event z r x m a b l (inl y) = inl (ap (with_first_event (x.what, 
 goes_on_behind_event z r x m a b l (inr y) =
     inr (
       y.0,
-      (
-        y.1.0,
-        y.1.1,
-        ap (with_first_event (x.what, x.span)) y.1.2,
-        last_behind_event z x m y.1.0 a.events l y.1.3,
-      ),
+      (y.1.0, y.1.1, ap (with_first_event (x.what, x.span)) y.1.2, last_behind_event z x m y.1.0 a.events l y.1.3),
     )
 
 as_before : (z : More) (r : Option Refusal) (m : Machine) (a c b d : Answer) → a ≡ c → b ≡ d → GoesOn z r m c d
     → GoesOn z r m a b
-as_before z r m a c b d x y g = subst (λ v. GoesOn z r m v b) (sym x) (subst (λ v. GoesOn z r m c v) (sym y) g)
+as_before z r m a c b d x y g = rw (x, y) g
 
 delivers_longer :
     (z : More) (r : Option Refusal) (m : Machine) (p q : Result Told Refusal) → AgreesOrEndsEarly z r p q
-    → answer_of_step q remaining_answer ≡ remaining_answer (longer z m)
-    → ((x : Told) → p ≡ Ok x → IsLeft z x.machine
+    → answer_of_step q remaining_answer ≡ remaining_answer (longer z m) → ((x : Told) → p ≡ Ok x → IsLeft z x.machine
     → GoesOn z x.machine.tokens.refusal x.machine (remaining_answer x.machine) (remaining_answer (longer z x.machine)))
     → GoesOn z r m (answer_of_step p remaining_answer) (answer_of_step q remaining_answer)
 delivers_longer z r m (Ok x) q a s h =
-    rw a.2 (goes_on_behind_event z r x m _ _ a.0
-    (subst (λ o. GoesOn z o x.machine (remaining_answer x.machine) (remaining_answer (longer z x.machine))) a.1
-    (h x refl (left_behind z x.what x.machine a.0))))
+    rw a.2 (goes_on_behind_event z r x m _ _ a.0 (rw (← a.1) (h x refl (left_behind z x.what x.machine a.0))))
 delivers_longer z r m (Err f) q (inl e) s h = inr (rw e.1 refl, (m, inl e.0, s, inl (inl e.0)))
 delivers_longer z r m (Err f) q (inr e) s h = inl (rw e refl)
 
@@ -151,14 +141,11 @@ none_taken ts m go e = rw e refl
 none_awaited : (w : DocumentMarker) (m : Machine) → m.tokens.pieces ≡ [] → Awaits w m
     → event_step_at m.state m ≡ Err (ending_refusal m.tokens.refusal)
 unfolding implicit_start unpassed_token document_content
-none_awaited Starts m e a =
-    ap (λ s. event_step_at s m) a.0 ∙ none_taken m.tokens.pieces m _ e
-none_awaited Ends m e a = ap (λ s. event_step_at s m) a ∙ passed_from m.tokens.pieces m _ e
+none_awaited Starts m e a = cc (none_taken m.tokens.pieces m _ e)
+none_awaited Ends m e a = cc (passed_from m.tokens.pieces m _ e)
 
 -- a step, and what comes after it
-first_step :
-    (z : More) (m : Machine)
-    → ((x : Told) → event_step m ≡ Ok x → IsLeft z x.machine
+first_step : (z : More) (m : Machine) → ((x : Told) → event_step m ≡ Ok x → IsLeft z x.machine
     → GoesOn z x.machine.tokens.refusal x.machine (remaining_answer x.machine) (remaining_answer (longer z x.machine)))
     → IsLeft z m → GoesOn z m.tokens.refusal m (remaining_answer m) (remaining_answer (longer z m))
 unfolding event_step
@@ -182,8 +169,7 @@ first_step z m next i = by (ended m.state) i
           (
             with_pieces [] m,
             inr (refl, inr (p.1.0, p.0)),
-            ap (λ q. answer_of_step q remaining_answer) p.1.2
-                ∙ sym (unroll (longer z (with_pieces [] m)) h),
+            cc (unroll (longer z (with_pieces [] m)) h),
             inl (inr (p.1.0, p.0)),
           ),
         ))
@@ -195,7 +181,7 @@ first_step z m next i = by (ended m.state) i
         (agreed h (steps_agree z m.state m h e))
     by (inr h) (inr k) =
         as_before z r m _ (fault_alone (ending_of (ending_refusal r))) _ _
-        (unroll m h ∙ ap (λ q. answer_of_step q remaining_answer) (none_awaited z.marker m k.0 k.1)) refl
+        (cc (unroll m h, none_awaited z.marker m k.0 k.1)) refl
         (inr (refl, (m, inr (k.0, inl k.1), refl, inr (inl (k.0, refl)))))
 
 runs : (n : ℕ) (z : More) (m : Machine) → machine_size m < n → IsLeft z m

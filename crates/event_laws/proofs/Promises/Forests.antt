@@ -1,9 +1,8 @@
 -- The tokens of a forest give its events.
-use Rattle.std.proofs.Common.{◌≡◌, ◌<◌, ◌^◌, ℕ, Bool, true, false, List, [], ◌∷◌, ◌++◌, Some, None, refl, sym, ◌∙◌, subst, ◌⊎◌, inl, inr, append_assoc, arith}
+use Rattle.std.proofs.Common.{◌≡◌, ◌<◌, ◌^◌, ℕ, Bool, true, false, List, [], ◌∷◌, ◌++◌, Some, None, refl, ◌∙◌, ◌⊎◌, inl, inr, append_assoc, arith}
 use Rattle.std.specs.Prelude.{if◌then◌else◌, Option}
 use Rattle.saphyr_scalar.specs.declared.scalar.position.Span.{Span}
-use Rattle.saphyr_scalar.specs.declared.scalar.fault.Refusal.{Refusal}
-use Rattle.saphyr_scanner.specs.Grammar.Forest.{Node, Directive, Document, AreCompatible, Forest}
+use Rattle.saphyr_scanner.specs.Grammar.Forest.{Node, Document, AreCompatible, Forest}
 use Rattle.saphyr_scanner.specs.Grammar.Tokens.{Kind, DocumentEnd}
 use Rattle.saphyr_scanner.specs.Grammar.TokenGrammar.{YieldsDocument, AreEndsAndMarks, YieldDocuments, Yields}
 use Rattle.saphyr_scanner.specs.Views.Tokens.{Piece, Remaining}
@@ -45,7 +44,7 @@ documents_within (d ∷ ds) h =
 
 document_compatible : (d : Document) (free : Bool) (t : List Kind) → YieldsDocument d free t
     → AreCompatible d.directives
-document_compatible d free t (inl h) = subst (λ (ds : List Directive). AreCompatible ds) (sym h.1.1) tt
+document_compatible d free t (inl h) = rw h.1.1 tt
 document_compatible d free t (inr h) = h.1.2
 
 pub all_compatible : (ds : Forest) (free : Bool) (t : List Kind) → YieldDocuments ds free t → AreAllCompatible ds
@@ -82,13 +81,10 @@ each_gives f keep ts es y l e =
     same_events (parts f) false keep [] (at_first keep) within (fits_start keep) (omega (arith, l)) in
     let told : GivesExactly es (answer_of_tokens keep (dressed any.0 (kinds ts))) =
     stream_says f (kinds ts) y any.0 (at_first keep) es (same ∙ e) in
-    subst (λ (us : List Piece). GivesExactly es (answer_of_tokens keep us)) (sym any.1) told
+    rw any.1 told
 
 -- the same of a parser before these tokens
 pub each_parsed : (f : Forest) (keep : Bool) (ts : Remaining) (es : List Happening) → Yields f (kinds ts.pieces)
     → ts.refusal ≡ None → anchors (parts f) < 2 ^ 64 → events f keep ≡ Some es
     → GivesExactly es (to_come (keeping_tags keep (at_start ts)))
-each_parsed f keep ts es y n l e =
-    subst (λ (r : Option Refusal). GivesExactly es
-    (to_come (keeping_tags keep (at_start (record { pieces = ts.pieces; refusal = r }))))) (sym n)
-    (each_gives f keep ts.pieces es y l e)
+each_parsed f keep ts es y n l e = rw n (each_gives f keep ts.pieces es y l e)

@@ -1,5 +1,5 @@
 -- A text of JSON has events, since its forest has no aliases, anchors and tags.
-use Rattle.std.proofs.Common.{◌≡◌, ℕ, Bool, List, [], ◌∷◌, ◌++◌, Option, Some, None, option_map, encode_utf8_all, refl, ◌∙◌, ap}
+use Rattle.std.proofs.Common.{◌≡◌, ℕ, Bool, List, [], ◌∷◌, ◌++◌, Option, Some, None, option_map, encode_utf8_all, refl, ap}
 use Rattle.saphyr_scanner.specs.Grammar.Forest.{Plain, SingleQuoted, DoubleQuoted, Literal, Folded, Properties, no_properties, Node, Alias, Nodes, NoNode, MoreNodes, Pairs, NoPair, MorePairs, Forest}
 use Rattle.saphyr_scanner.specs.Grammar.Forest as forest
 use Rattle.json_laws.specs.Grammar.Json.{IsMemberName, IsValue, AreElements, AreOtherElements, AreMembers, AreOtherMembers, IsJson}
@@ -8,7 +8,7 @@ use Rattle.saphyr_machine.specs.Events.{Happening, Scalar, SequenceStart, Mappin
 use Rattle.event_laws.specs.Anchors.{anchors, own_id}
 use Rattle.event_laws.specs.TagResolution.{any_resolution}
 use Rattle.event_laws.proofs.BareParts.{IsBarePart, AreBare, bare_anchors}
-use Rattle.event_laws.specs.ForestEvents.{first_and_others, event_of_part, events_behind, events}
+use Rattle.event_laws.specs.ForestEvents.{event_of_part, events_behind, events}
 
 abbrev Has : Option Happening → Type 0
 Has o = (e : Happening) × (o ≡ Some e)
@@ -39,11 +39,7 @@ bare_events keep front [] h = ([], refl)
 bare_events keep front (p ∷ ps) h =
     let first : Has (event_of_part keep front p) = bare_event keep front p h.0 in
     let others : (es : List Happening) × (events_behind keep (p ∷ front) ps ≡ Some es) =
-    bare_events keep (p ∷ front) ps h.1 in (
-      first.0 ∷ others.0,
-      ap (λ o. first_and_others o (events_behind keep (p ∷ front) ps)) first.1
-          ∙ ap (first_and_others (Some first.0)) others.1,
-    )
+    bare_events keep (p ∷ front) ps h.1 in (first.0 ∷ others.0, cc)
 
 joined_are_bare : (ps qs : List Part) → AreBare ps → AreBare qs → AreBare (ps ++ qs)
 joined_are_bare [] qs h k = k

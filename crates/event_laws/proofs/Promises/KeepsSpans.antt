@@ -1,5 +1,5 @@
 -- The promise on spans: those of all events are at places of the text, if those of the tokens are, in order.
-use Rattle.std.proofs.Common.{◌≡◌, ℕ, suc, ◌≤◌, Bool, true, false, List, [], ◌∷◌, length, Option, Some, None, inl, refl, sym, subst, arith}
+use Rattle.std.proofs.Common.{◌≡◌, ℕ, suc, ◌≤◌, Bool, true, false, List, [], ◌∷◌, length, Option, Some, None, inl, refl, arith}
 use Rattle.std.specs.Prelude.{if◌then◌else◌}
 use Rattle.std.proofs.lemmas.List.Elements.{All-nil, All-cons}
 use Rattle.saphyr_scalar.specs.declared.scalar.position.Marker.{Marker}
@@ -19,7 +19,7 @@ use Rattle.saphyr_machine.specs.Cursor.{EventCursor, Kept, at_start, answer_behi
 use Rattle.saphyr_machine.specs.Calls.{AdvancesFrom, FailsFrom, LooksFrom, ReadsAhead}
 use Rattle.event_laws.specs.Promises.{KeepsSpans}
 use Rattle.event_laws.specs.SpansWithin.{IsIn, HasSpansIn, IsLater, itself, advanced, failed, looked, set}
-use Rattle.saphyr_machine.proofs.Walk.Steps.{Walk, HoldsBetween, StepGives}
+use Rattle.saphyr_machine.proofs.Walk.Steps.{Walk, HoldsBetween}
 use Rattle.saphyr_machine.proofs.Walk.All.{Resumes, runs, steps_at}
 use Rattle.saphyr_machine.proofs.Calls.Handing.{goes_on}
 
@@ -67,44 +67,39 @@ unfolding event_step
 stepped text m n e is h =
     let alive = goes_on m _ is in
     let a = resumes text m.state 0 0 m.tokens.refusal m.tokens.pieces alive h.rests in
-    subst (StepGives (ordered text)) is
-    (steps_at (ordered text) m.state m alive h.place (record { pieces = a.1; places = h.places }))
+    rw is at (steps_at (ordered text) m.state m alive h.place (record { pieces = a.1; places = h.places }))
 
 advances : (text : List ℕ) (e : Happening × Span) (a : Option (Happening × Span)) (k : Option Kept) (c d : EventCursor)
     → c.current ≡ a → c.kept ≡ k → AdvancesFrom a k e c d → Stands text c → Stands text d
 advances text e (Some next) k c d is kept (same, left) h =
-    subst (Stands text) (sym left) (record { ahead = λ f g. absurd (cc); between = h.between })
+    rw left (record { ahead = λ f g. absurd (cc); between = h.between })
 advances text e None (Some k) c d is kept moved h = absurd moved
 advances text e None None c d is kept (moved, left) h =
     let step = stepped text c.machine d.machine e moved (h.between kept) in
-    subst (Stands text) (sym left) (record { ahead = λ f g. h.ahead f g; between = λ g. step.1 })
+    rw left (record { ahead = λ f g. h.ahead f g; between = λ g. step.1 })
 
 fails : (text : List ℕ) (f : Fault) (a : Option (Happening × Span)) (k : Option Kept) (c d : EventCursor)
     → c.current ≡ a → c.kept ≡ k → FailsFrom a k f c d → Stands text c → Stands text d
 fails text f (Some next) k c d is kept none h = absurd none
 fails text f None (Some k) c d is kept (untold, told, left) h =
-    subst (Stands text) (sym left) (record { ahead = λ e g. h.ahead e g; between = λ g. absurd (cc) })
+    rw left (record { ahead = λ e g. h.ahead e g; between = λ g. absurd (cc) })
 fails text f None None c d is kept (refuses, left) h =
-    subst (Stands text) (sym left) (record { ahead = λ e g. h.ahead e g; between = λ g. absurd (cc) })
+    rw left (record { ahead = λ e g. h.ahead e g; between = λ g. absurd (cc) })
 
 reads : (text : List ℕ) (a : Option (Happening × Span)) (k : Option Kept) (c d : EventCursor)
     → c.kept ≡ None → ReadsAhead a k c d → Stands text c → Stands text d
 reads text (Some e) (Some k) c d kept read h = absurd read
 reads text (Some e) None c d kept (moved, left) h =
     let step = stepped text c.machine d.machine e moved (h.between kept) in
-    subst (Stands text) (sym left)
-    (record {
-      ahead = λ f g. (let same : e ≡ f = cc in subst (λ (x : Happening × Span). IsIn text x.1) same step.0);
-      between = λ g. step.1;
-    })
+    rw left (record { ahead = λ f g. (let same : e ≡ f = cc in rw same at step.0); between = λ g. step.1 })
 reads text None (Some k) c d kept (untold, ends, left) h =
-    subst (Stands text) (sym left) (record { ahead = λ e g. h.ahead e g; between = λ g. absurd (cc) })
-reads text None None c d kept (over, left) h = subst (Stands text) (sym left) h
+    rw left (record { ahead = λ e g. h.ahead e g; between = λ g. absurd (cc) })
+reads text None None c d kept (over, left) h = rw left h
 
 looks : (text : List ℕ) (a : Option (Happening × Span)) (k : Option Kept) (c d : EventCursor)
     → c.kept ≡ k → LooksFrom a k c d → Stands text c → Stands text d
-looks text (Some next) k c d kept same h = subst (Stands text) (sym same) h
-looks text None (Some k) c d kept same h = subst (Stands text) (sym same) h
+looks text (Some next) k c d kept same h = rw same h
+looks text None (Some k) c d kept same h = rw same h
 looks text None None c d kept read h = reads text d.current d.kept c d kept read h
 
 later_stands : (text : List ℕ) (start c : EventCursor) → IsLater start c → Stands text start → Stands text c
@@ -157,4 +152,4 @@ keeps_spans text tokens h a later is =
 -- a parser that is at the start of such tokens
 pub parser_keeps_spans : (text : List ℕ) (tokens : Remaining) (c : EventCursor) → c ≡ at_start tokens
     → AreInOrder (length text) 0 tokens.pieces → AreAtPlaces text tokens.pieces → KeepsSpans text c
-parser_keeps_spans text tokens c is h a = subst (KeepsSpans text) (sym is) (keeps_spans text tokens h a)
+parser_keeps_spans text tokens c is h a = rw is (keeps_spans text tokens h a)

@@ -1,6 +1,6 @@
 -- The promise on closed beginnings, since the scanner's tokens begin with those of a closed beginning.
 use Rattle.std.specs.Prelude.{◌==◌, slice_index}
-use Rattle.std.proofs.Common.{◌≡◌, ℕ, ◌+◌, ◌*◌, ◌^◌, ◌<◌, ◌≤◌, Bool, true, false, List, [], ◌∷◌, ◌++◌, map, length, Some, None, refl, sym, ap, ◌∙◌, subst, arith}
+use Rattle.std.proofs.Common.{◌≡◌, ℕ, ◌+◌, ◌*◌, ◌^◌, ◌<◌, ◌≤◌, Bool, true, false, List, [], ◌∷◌, ◌++◌, map, length, Some, None, refl, sym, ap, ◌∙◌, arith}
 use Rattle.std.proofs.lemmas.List.{length-append, length-map}
 use Rattle.saphyr_input.specs.Classes.{carriage_return, line_feed}
 use Rattle.saphyr_input.specs.Breaks.{normalized}
@@ -9,11 +9,10 @@ use Rattle.saphyr_scanner.specs.Grammar.Forest.{Forest}
 use Rattle.saphyr_scanner.specs.Limits.{most_open}
 use Rattle.saphyr_scanner.specs.Steps.Remaining.{scan}
 use Rattle.saphyr_scanner.specs.Views.Tokens.{Piece}
-use Rattle.saphyr_scanner.specs.Grammar.TokenGrammar.{Yields}
 use Rattle.saphyr_scanner.specs.Grammar.Tokens as tokens
 use Rattle.saphyr_scanner.specs.Grammar.Tokens.{Kind}
 use Rattle.yaml_laws.specs.Grammar.ClosedTexts.{HandsOut}
-use Rattle.yaml_laws.specs.Grammar.Yaml.{IsYaml, IsYamlText}
+use Rattle.yaml_laws.specs.Grammar.Yaml.{IsYamlText}
 use Rattle.event_laws.specs.Anchors.{anchors}
 use Rattle.event_laws.specs.Preorder.{parts}
 use Rattle.saphyr_machine.specs.Events.{Happening}
@@ -50,12 +49,12 @@ lone_return c cs e f = rw (e, f) refl
 feed_first : (x : ℕ) (xs front behind cs : List ℕ) → cs ≡ front ++ behind → normalized front ≡ x ∷ xs
     → (slice_index cs 0 == line_feed) ≡ true → (slice_index front 0 == line_feed) ≡ true
 feed_first x xs [] behind cs e n f = absurd (cc)
-feed_first x xs (d ∷ ds) behind cs e n f = subst (λ (vs : List ℕ). (slice_index vs 0 == 10) ≡ true) e f
+feed_first x xs (d ∷ ds) behind cs e n f = rw e at f
 
 front_begins_no_feed : (front behind cs : List ℕ) → cs ≡ front ++ behind → (slice_index cs 0 == line_feed) ≡ false
     → (slice_index front 0 == line_feed) ≡ false
 front_begins_no_feed [] behind cs e f = refl
-front_begins_no_feed (d ∷ ds) behind cs e f = subst (λ (vs : List ℕ). (slice_index vs 0 == 10) ≡ false) e f
+front_begins_no_feed (d ∷ ds) behind cs e f = rw e at f
 
 with_first : (c : ℕ) (cs : List ℕ) (x : ℕ) (xs others : List ℕ) (return feed : Bool) → (c == carriage_return) ≡ return
     → (slice_index cs 0 == line_feed) ≡ feed → (normalized cs ≡ xs ++ others → WholeParts cs xs others)
@@ -136,13 +135,11 @@ gives_first limit keep marker forest text first most bounds h told =
     let all = h.earlier ++ marker_token marker ∷ tokens.StreamEnd ∷ [] in
     let alone = map piece_of all in
     let bound : length (kinds (scan limit text).pieces) ≤ 5 * limit + 10 =
-    subst (λ (n : ℕ). n ≤ 5 * limit + 10) (sym (length-map (scan limit text).pieces (λ (t : Piece). t.kind)))
-    (bounds text) in
+    rw (length-map (scan limit text).pieces (λ (t : Piece). t.kind)) (bounds text) in
     let few = few_anchors forest limit (kinds (scan limit text).pieces) h.earlier h.more (marker_token marker)
     tokens.StreamEnd h.begins bound most (forest_count forest all h.yields) in
     let given = each_parsed forest keep (record { pieces = alone; refusal = None })
-    (first ++ events_behind_marker marker)
-    (subst (Yields forest) (sym (kinds_of all)) h.yields) refl few told in
+    (first ++ events_behind_marker marker) (rw (kinds_of all) h.yields) refl few told in
     closed_kinds keep marker h.earlier h.more alone (scan limit text) first (kinds_of all) h.begins given
 
 pub reads_closed : (G : Grammar) (IsTail : List ℕ → Type 0) (limit : ℕ) → limit ≤ 4294967295 → SeesNormalized G
@@ -154,13 +151,9 @@ reads_closed G IsTail limit most sees bounds hands text keep first c =
     let within = c.within in
     let all_within : length (p.front ++ p.behind) ≤ limit = omega (arith, whole, within) in
     let yaml = sees c.forest c.front p.front (sym p.is_front) c.promised.stands_for in
-    let apart : normalized (p.front ++ p.behind) ≡ normalized p.front ++ normalized p.behind =
-    ap normalized (sym p.are_all) ∙ c.begins ∙ ap (λ xs. xs ++ c.others) (sym p.is_front)
-    ∙ ap (λ ys. normalized p.front ++ ys) (sym p.is_behind) in
-    let hands_out = hands c.marker c.forest p.front p.behind yaml
-    (subst (λ xs. EndsWithMarker IsTail c.marker xs) (sym p.is_front) c.ends) apart all_within in
-    subst (λ xs. GivesFirst first (to_come (keeping_tags keep (at_start (scan limit xs))))) (sym p.are_all)
-    (gives_first limit keep c.marker c.forest (p.front ++ p.behind) first most bounds hands_out
+    let apart : normalized (p.front ++ p.behind) ≡ normalized p.front ++ normalized p.behind = cc in
+    let hands_out = hands c.marker c.forest p.front p.behind yaml (rw p.is_front c.ends) apart all_within in
+    rw p.are_all (gives_first limit keep c.marker c.forest (p.front ++ p.behind) first most bounds hands_out
     (c.promised.has_events ∙ ap Some c.are_told))
 
 -- the same of YAML's grammar
@@ -168,6 +161,4 @@ pub reads_closed_yaml : (limit : ℕ) → limit ≤ 4294967295 → BoundsTokens 
     → HandsOutMarkers (IsYamlText most_open) IsLineRest limit → (text : List ℕ) (parser : EventCursor)
     → parser ≡ at_start (scan limit text) → ReadsClosedYaml limit text parser
 reads_closed_yaml limit most bounds hands text parser is =
-    subst (ReadsClosedYaml limit text) (sym is)
-    (reads_closed (IsYamlText most_open) IsLineRest limit most
-    (λ forest xs ys e g. subst (IsYaml most_open forest) e g) bounds hands text)
+    rw is (reads_closed (IsYamlText most_open) IsLineRest limit most (λ forest xs ys e g. rw e at g) bounds hands text)

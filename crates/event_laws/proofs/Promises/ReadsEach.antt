@@ -8,8 +8,8 @@ use Rattle.saphyr_scanner.specs.Grammar.TokenGrammar.{Yields}
 use Rattle.saphyr_scanner.specs.Grammar.Tokens.{Kind}
 use Rattle.event_laws.specs.Anchors.{anchors}
 use Rattle.event_laws.specs.Preorder.{parts}
-use Rattle.saphyr_machine.specs.Cursor.{EventCursor, at_start, keeping_tags, to_come}
-use Rattle.event_laws.specs.Exactly.{GivesExactly, kinds}
+use Rattle.saphyr_machine.specs.Cursor.{EventCursor, at_start}
+use Rattle.event_laws.specs.Exactly.{kinds}
 use Rattle.event_laws.specs.Premises.{Grammar, ReadsEach}
 use Rattle.event_laws.proofs.AnchorCount.{forest_count}
 use Rattle.event_laws.proofs.Promises.Forests.{each_parsed}
@@ -33,6 +33,6 @@ pub reads_each : (G : Grammar) (limit : ℕ) (text : List ℕ) → limit ≤ 429
 reads_each G limit text most bound scans c is forest keep told promised =
     let scanned = scans forest promised.stands_for promised.within in
     let yields = subst (Yields forest) (sym scanned.2.1) scanned.1 in
-    subst (λ (x : EventCursor). GivesExactly told (to_come (keeping_tags keep x))) (sym is)
+    rw is
     (each_parsed forest keep (scan limit text) told yields scanned.2.0 (few_anchors forest limit text yields bound most)
     promised.has_events)

@@ -7,9 +7,8 @@ use Rattle.saphyr_scanner.specs.Limits.{most_open}
 use Rattle.saphyr_scanner.specs.Steps.Remaining.{scan}
 use Rattle.json_laws.specs.Grammar.Json.{IsJson}
 use Rattle.yaml_laws.specs.Grammar.Yaml.{IsYamlText}
-use Rattle.saphyr_machine.specs.Cursor.{EventCursor, at_start, keeping_tags, to_come}
+use Rattle.saphyr_machine.specs.Cursor.{EventCursor, at_start}
 use Rattle.event_laws.specs.Anchors.{anchors}
-use Rattle.event_laws.specs.Exactly.{GivesExactly}
 use Rattle.event_laws.specs.Preorder.{parts}
 use Rattle.event_laws.specs.Promises.{ReadsJson}
 use Rattle.event_laws.proofs.Promises.Forests.{each_parsed}
@@ -31,5 +30,5 @@ reads_each_json stands scans limit text small parser is forest keep told p =
     let yaml = stands most_open forest text json p.stands_for.1 in
     let scanned = scans limit forest text yaml p.within small in
     let yields = subst (Yields forest) (sym scanned.2.1) scanned.1 in
-    subst (λ (x : EventCursor). GivesExactly told (to_come (keeping_tags keep x))) (sym is)
+    rw is
     (each_parsed forest keep (scan limit text) told yields scanned.2.0 (few_anchors forest text json) p.has_events)

@@ -1,5 +1,5 @@
 -- The promise on every text: the events of tokens that are taken from a text are taken from it.
-use Rattle.std.proofs.Common.{◌≡◌, ℕ, ◌+◌, ◌*◌, ◌<◌, ◌≤◌, ◌^◌, List, [], ◌∷◌, ◌++◌, length, Option, Some, refl, sym, subst, inl, inr, arith}
+use Rattle.std.proofs.Common.{◌≡◌, ℕ, ◌+◌, ◌*◌, ◌<◌, ◌≤◌, ◌^◌, List, [], ◌∷◌, ◌++◌, length, Option, Some, refl, inl, inr, arith}
 use Rattle.saphyr_scalar.specs.declared.scalar.position.Marker.{Marker}
 use Rattle.saphyr_scalar.specs.declared.scalar.fault.Refusal.{Refusal}
 use Rattle.saphyr_scalar.specs.Views.Cursor as scalar
@@ -8,7 +8,7 @@ use Rattle.saphyr_scanner.specs.Grammar.Tokens.{Kind}
 use Rattle.saphyr_scanner.specs.Views.Tokens.{Piece, Remaining}
 use Rattle.saphyr_scanner.specs.Steps.Remaining.{scan}
 use Rattle.saphyr_scanner.specs.Ends.{HasNoEnd, EndsWithStream}
-use Rattle.saphyr_scanner.specs.TokensTaken.{IsPlaceOf, IsEndOf, AreTakenFrom, no_collections}
+use Rattle.saphyr_scanner.specs.TokensTaken.{IsPlaceOf, AreTakenFrom, no_collections}
 use Rattle.saphyr_scanner.specs.AtPlaces.{AreAtPlaces}
 use Rattle.saphyr_machine.specs.Cursor.{EventCursor, at_start}
 use Rattle.event_laws.specs.Promises.{TakesEvents}
@@ -29,23 +29,22 @@ ended_by_refusal P r (t ∷ ts) h e = no_last (AreEnded P r ts) t.kind ts h.0 (e
 
 complete : (P : Marker → Type 0) (r : Option Refusal) (front : List Piece) (end : Piece) → HasNoEnd front
     → end.kind ≡ tokens.StreamEnd → AreEnded P r (front ++ end ∷ [])
-complete P r [] end h e = subst (IsLastOr (IsRefusedAt P r) []) (sym e) refl
+complete P r [] end h e = rw e refl
 complete P r (t ∷ front) end h e =
     no_last (AreEnded P r (front ++ end ∷ [])) t.kind (front ++ end ∷ []) h.0 (complete P r front end h.1 e)
 
 -- where a refusal has such a place
 pub ended : (P : Marker → Type 0) (r : Remaining) → EndsWithStream r → ((e : Refusal) → r.refusal ≡ Some e → P e.mark)
     → AreEnded P r.refusal r.pieces
-ended P r (inl h) at = ended_by_refusal P r.refusal r.pieces h.2 (subst (IsRefusedAt P) (sym h.1) (at h.0 h.1))
-ended P r (inr h) at = subst (AreEnded P r.refusal) (sym h.4) (complete P r.refusal h.0 h.1 h.2 h.3)
+ended P r (inl h) at = ended_by_refusal P r.refusal r.pieces h.2 (rw h.1 (at h.0 h.1))
+ended P r (inr h) at = rw h.4 (complete P r.refusal h.0 h.1 h.2 h.3)
 
 -- ## The events
 
 pub takes : (text : List ℕ) (r : Remaining) → AreTakenFrom text r → AreAtPlaces text r.pieces → EndsWithStream r
     → length r.pieces < 2 ^ 64 → TakesEvents text (at_start r)
 takes text r t a e l keep =
-    let ends : AreEnded (IsPlaceOf text) r.refusal r.pieces = ended (IsPlaceOf text) r e
-    (λ f is. subst (λ (o : Option Refusal). IsEndOf text o t.0) is t.3) in
+    let ends : AreEnded (IsPlaceOf text) r.refusal r.pieces = ended (IsPlaceOf text) r e (λ f is. rw is at t.3) in
     let formed = tokens_form (IsPlaceOf text) r.refusal no_collections r.pieces (scalar.start_cursor text) t.0 t.1
     (inr ends) in
     let begun = begins r keep formed l in
@@ -62,9 +61,7 @@ pub parser_takes : TakesAllEvents → (limit : ℕ) (text : List ℕ) (r : Remai
     → r ≡ scan limit text → AreTakenFrom text r → EndsWithStream (scan limit text)
     → length (scan limit text).pieces ≤ 5 * limit + 10 → limit ≤ 4294967295 → TakesEvents text c
 parser_takes all limit text r c is same t e b l =
-    subst (TakesEvents text) (sym is)
-    (all text r t (subst EndsWithStream (sym same) e)
-    (few limit (length r.pieces) (subst (λ (x : Remaining). length x.pieces ≤ 5 * limit + 10) (sym same) b) l))
+    rw is (all text r t (rw same e) (few limit (length r.pieces) (rw same b) l))
   where
     few : (limit n : ℕ) → n ≤ 5 * limit + 10 → limit ≤ 4294967295 → n < 2 ^ 64
     few limit n b l = omega (arith, b, l)

@@ -148,9 +148,7 @@ alone_says key t h g f k ks ss e ps z n l =
     let second : TellsParts f (k ∷ ks) state.BlockMappingValue ss e' (node_parts forest.left_out ++ ps) =
     skipped e' (at f (k ∷ ks) state.BlockMappingValue ss e') (at f (k ∷ ks) state.BlockMappingKey ss e') ps (f ks)
     (λ q. cc) (value_is_missing f k ks ss e' z n) l in
-    subst (λ (u : List Kind). TellsParts f (u ++ k ∷ ks) state.BlockMappingKey ss e
-    (node_parts key ++ (node_parts forest.left_out ++ ps))) (sym h.2)
-    (key_says key h.0 h.1 (g h.0) f k ks ss e (node_parts forest.left_out ++ ps) z second)
+    rw h.2 (key_says key h.0 h.1 (g h.0) f k ks ss e (node_parts forest.left_out ++ ps) z second)
 
 -- a pair whose key is left out
 keyless_says : (value : Node) (t : List Kind) → YieldsMarkedValue value (YieldsNode value InBlockMapping) t
@@ -163,8 +161,7 @@ keyless_says value t h g f k ks ss e ps z l =
     let rest : List Kind = h.0 ++ k ∷ ks in
     let second : TellsParts f (Value ∷ rest) state.BlockMappingValue ss e (node_parts value ++ ps) =
     value_says value h.0 h.1 (g h.0) f k ks ss e ps z l in
-    subst (λ (u : List Kind). TellsParts f (u ++ k ∷ ks) state.BlockMappingKey ss e
-    (node_parts forest.left_out ++ (node_parts value ++ ps))) (sym h.2)
+    rw h.2
     (skipped e (at f (Value ∷ rest) state.BlockMappingKey ss e) (at f (Value ∷ rest) state.BlockMappingValue ss e)
     (node_parts value ++ ps) (f rest) (λ q. cc) refl second)
 
@@ -182,8 +179,7 @@ pair_says key value others t (inl h) gk gv f k ks ss e ps z n l =
     marked_tokens t h.0 h.1 kt vt (k ∷ ks) h.2.2 h.3.2 h.4 in
     let second : TellsParts f (Value ∷ (vt ++ k ∷ ks)) state.BlockMappingValue ss (after_node key e)
     (node_parts value ++ ps) = value_says value vt h.3.1 (gv vt) f k ks ss (after_node key e) ps z l in
-    subst (λ (u : List Kind). TellsParts f u state.BlockMappingKey ss e (node_parts key ++ (node_parts value ++ ps)))
-    (sym same) (key_says key kt h.2.1 (gk kt) f Value (vt ++ k ∷ ks) ss e (node_parts value ++ ps) tt second)
+    rw same (key_says key kt h.2.1 (gk kt) f Value (vt ++ k ∷ ks) ss e (node_parts value ++ ps) tt second)
 pair_says key value others t (inr (inl h)) gk gv f k ks ss e ps z n l =
     subst (λ (v : Node). TellsParts f (k ∷ ks) state.BlockMappingKey ss (after_node v (after_node key e)) ps
     → TellsParts f (t ++ k ∷ ks) state.BlockMappingKey ss e (node_parts key ++ (node_parts v ++ ps))) (sym h.0)

@@ -1,5 +1,5 @@
 -- Collections are told, where their entries are.
-use Rattle.std.proofs.Common.{◌≡◌, ◌≢◌, ℕ, Option, List, [], ◌∷◌, ◌++◌, refl, subst, ap, ◌∙◌, inl, inr, append_assoc}
+use Rattle.std.proofs.Common.{◌≡◌, ◌≢◌, ℕ, Option, List, [], ◌∷◌, ◌++◌, refl, ap, ◌∙◌, inl, inr, append_assoc}
 use Rattle.saphyr_scanner.specs.Grammar.Forest.{Node, Nodes, NoNode, MoreNodes, Pairs, NoPair, MorePairs}
 use Rattle.saphyr_scanner.specs.Grammar.Forest as forest
 use Rattle.saphyr_scanner.specs.Grammar.Tokens.{Kind, BlockSequenceStart, BlockMappingStart, BlockEnd, FlowSequenceStart, FlowSequenceEnd, FlowMappingStart, FlowMappingEnd, BlockEntry, FlowEntry, Key, Value}
@@ -25,8 +25,7 @@ use Rattle.event_laws.proofs.NodeStarts.{context_of, MayFollow, NodeSays}
 pub record SayUpTo (close : Kind) (x : State) (closing : Part) (inside : List Part) (after : Memory → Memory)
     (t : List Kind) : Type 0 where
   pub by : (f : SpansByKinds) (ks : List Kind) (s : State) (ss : List State) (e : Memory) (ps : List Part)
-      → TellsParts f ks s ss (after e) ps
-      → TellsParts f (t ++ close ∷ ks) x (s ∷ ss) e (inside ++ closing ∷ ps)
+      → TellsParts f ks s ss (after e) ps → TellsParts f (t ++ close ∷ ks) x (s ∷ ss) e (inside ++ closing ∷ ps)
 
 abbrev pub EntriesSay : Kind → State → Nodes → List Kind → Type 0
 EntriesSay close x ns = SayUpTo close x CloseSequence (entry_parts ns) (after_nodes ns)
@@ -64,8 +63,10 @@ between : (front inside content t : List Kind) (opening closing : Kind) (rest : 
     → content ≡ opening ∷ (inside ++ closing ∷ []) → t ≡ front ++ content
     → t ++ rest ≡ front ++ opening ∷ (inside ++ closing ∷ rest)
 between front inside content t opening closing rest a b =
-    rw (b, a) (append_assoc front (opening ∷ (inside ++ closing ∷ [])) rest
-    ∙ ap (λ l. front ++ opening ∷ l) (append_assoc inside (closing ∷ []) rest))
+    rw (b, a) (cc (
+      append_assoc front (opening ∷ (inside ++ closing ∷ [])) rest,
+      append_assoc inside (closing ∷ []) rest,
+    ))
 
 -- A collection between two tokens is told, after its properties, where what is inside is.
 opens : (opening close : Kind) (y : State) (first closing : Part) (make : ℕ → Option ResolvedTag → Happening)
@@ -73,8 +74,7 @@ opens : (opening close : Kind) (y : State) (first closing : Part) (make : ℕ �
     (front u content t : List Kind) (f : SpansByKinds) (rest : List Kind) (m : Machine) (x s : State) (ss : List State)
     (e : Memory) (ps : List Part) → grammar.YieldProperties p front → IsContentKind opening
     → content ≡ opening ∷ (u ++ close ∷ []) → t ≡ front ++ content → event_in e first ≡ with_properties make e p
-    → noted p.anchor e ≡ after first e
-    → ((q : NodeProperties) (l : List Kind)
+    → noted p.anchor e ≡ after first e → ((q : NodeProperties) (l : List Kind)
     → node_content_at opening q d (record { span = f l; kind = opening }) (at f l x (s ∷ ss) (noted p.anchor e))
     ≡ told_event (make q.anchor q.tag) (span_up_to q (f l).end) (at f l y (s ∷ ss) (noted p.anchor e)))
     → m.state ≢ state.End → event_step m ≡ next_node d (at f (t ++ rest) x (s ∷ ss) e)
@@ -86,11 +86,8 @@ opens opening close y first closing make inside later p d front u content t f re
     let told : TellsParts f all y (s ∷ ss) (noted p.anchor e) ((inside ++ closing ∷ []) ++ ps) =
     rw (append_assoc inside (closing ∷ []) ps) (g.by f rest s ss (noted p.anchor e) ps l) in
     node_opens f d x (s ∷ ss) e m (at f all y (s ∷ ss) (noted p.anchor e)) p front opening all first
-    ((inside ++ closing ∷ []) ++ ps) make h c more
-    (q ∙ ap (λ l. next_node d (at f l x (s ∷ ss) e)) (between front u content t opening close rest k w)) v
-    (λ r has. (span_up_to r (f all).end, step r all))
-    (subst (λ (b : Memory). SaysParts b (at f all y (s ∷ ss) (noted p.anchor e)) ((inside ++ closing ∷ []) ++ ps)) same
-    told)
+    ((inside ++ closing ∷ []) ++ ps) make h c more (cc (between front u content t opening close rest k w)) v
+    (λ r has. (span_up_to r (f all).end, step r all)) (rw (← same) told)
 
 flow_sequence : (p : forest.Properties) (ns : Nodes) (c : grammar.Context) (front content t : List Kind)
     → grammar.YieldProperties p front
@@ -146,16 +143,13 @@ indentless_sequence p ns InBlockMapping front content others t h b d a g = recor
       let same : t ++ k ∷ ks ≡ front ++ BlockEntry ∷ rest = rw (a, d)
       (append_assoc front (BlockEntry ∷ others) (k ∷ ks)) in
       let told : TellsParts f (BlockEntry ∷ rest) state.IndentlessSequenceEntry (s ∷ ss) (noted p.anchor e)
-      (entry_parts ns ++ CloseSequence ∷ ps) =
-      subst (λ (u : List Kind). TellsParts f (u ++ k ∷ ks) state.IndentlessSequenceEntry (s ∷ ss) (noted p.anchor e)
-      (entry_parts ns ++ CloseSequence ∷ ps)) d (g.by f k ks s ss (noted p.anchor e) ps z l) in
+      (entry_parts ns ++ CloseSequence ∷ ps) = rw d at (g.by f k ks s ss (noted p.anchor e) ps z l) in
       let inside : TellsParts f (BlockEntry ∷ rest) state.IndentlessSequenceEntry (s ∷ ss) (noted p.anchor e)
       ((entry_parts ns ++ CloseSequence ∷ []) ++ ps) =
       rw (append_assoc (entry_parts ns) (CloseSequence ∷ []) ps) told in
       node_opens f (context_of InBlockMapping) x (s ∷ ss) e m
       (at f (BlockEntry ∷ rest) state.IndentlessSequenceEntry (s ∷ ss) (noted p.anchor e)) p front BlockEntry rest
-      (OpenSequence p) ((entry_parts ns ++ CloseSequence ∷ []) ++ ps) SequenceStart h tt more
-      (q ∙ ap (λ u. next_node (context_of InBlockMapping) (at f u x (s ∷ ss) e)) same) refl
+      (OpenSequence p) ((entry_parts ns ++ CloseSequence ∷ []) ++ ps) SequenceStart h tt more (cc) refl
       (λ r has. (span_up_to r (f rest).end, refl)) inside;
 }
 

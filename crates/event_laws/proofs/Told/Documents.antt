@@ -1,5 +1,5 @@
 -- Documents and streams are told.
-use Rattle.std.proofs.Common.{◌≡◌, ◌≢◌, true, false, List, [], ◌∷◌, ◌++◌, map, Some, Result, refl, subst, sym, ap, ◌∙◌, ◌⊎◌, inl, inr}
+use Rattle.std.proofs.Common.{◌≡◌, ◌≢◌, true, false, List, [], ◌∷◌, ◌++◌, map, Some, Result, refl, ap, ◌∙◌, ◌⊎◌, inl, inr}
 use Rattle.std.specs.Prelude.{IsTrue}
 use Rattle.saphyr_scalar.specs.declared.scalar.fault.Refusal.{Refusal}
 use Rattle.saphyr_scanner.specs.Grammar.Forest.{Node, Directive, Version, TagPrefix, Reserved, Document, Forest, AreCompatible}
@@ -12,8 +12,6 @@ use Rattle.saphyr_machine.specs.declared.state.State.TheVariants as state
 use Rattle.event_laws.specs.Preorder.{Part, CloseStream, OpenDocument, node_parts}
 use Rattle.saphyr_machine.specs.Events as events
 use Rattle.saphyr_machine.specs.Events.{Happening, empty_scalar}
-use Rattle.saphyr_machine.specs.Answer.{remaining_answer}
-use Rattle.event_laws.specs.Exactly.{GivesExactly}
 use Rattle.saphyr_machine.specs.Steps.Machine.{◌>>=◌, Machine, Told, told_event}
 use Rattle.saphyr_machine.specs.Steps.Documents.{is_end_or_mark, directives, none_declared, explicit_document_at, explicit_document, bare_document, implicit_start_at, implicit_start, explicit_start_at, explicit_start, document_content}
 use Rattle.saphyr_machine.specs.Steps.Block.{block_node}
@@ -29,28 +27,24 @@ use Rattle.event_laws.proofs.DirectivesPass.{passes, ends_pass, all_directives_p
 -- ## The first token of a document, after what is passed
 
 pub implicitly : (front : List Kind) (f : SpansByKinds) (k : Kind) (ks : List Kind) (e : Memory) → AreEndsAndMarks front
-    → is_end_or_mark k ≡ false
-    → event_step (at f (front ++ k ∷ ks) state.ImplicitDocumentStart [] e)
+    → is_end_or_mark k ≡ false → event_step (at f (front ++ k ∷ ks) state.ImplicitDocumentStart [] e)
     ≡ implicit_start_at k (record { span = f ks; kind = k }) (at f ks state.ImplicitDocumentStart [] e)
 unfolding event_step implicit_start
 implicitly front f k ks e h n =
-    ap (λ (r : Result (Piece × Machine) Refusal). r >>= (λ t. implicit_start_at t.0.kind t.0 t.1))
-    (passes is_end_or_mark front f k ks state.ImplicitDocumentStart [] e (ends_pass front h) n)
+    cc (passes is_end_or_mark front f k ks state.ImplicitDocumentStart [] e (ends_pass front h) n)
 
 explicitly : (f : SpansByKinds) (k : Kind) (ks : List Kind) (e : Memory) → is_end_or_mark k ≡ false
     → event_step (at f (k ∷ ks) state.DocumentStart [] e)
     ≡ explicit_start_at k (record { span = f ks; kind = k }) (at f ks state.DocumentStart [] e)
 unfolding event_step explicit_start
-explicitly f k ks e n = ap (λ (r : Result (Piece × Machine) Refusal). r >>= (λ t. explicit_start_at t.0.kind t.0 t.1))
-    (passes is_end_or_mark [] f k ks state.DocumentStart [] e tt n)
+explicitly f k ks e n = cc (passes is_end_or_mark [] f k ks state.DocumentStart [] e tt n)
 
 -- ## The end of the stream
 
 over : (f : SpansByKinds) (e : Memory) → TellsParts f [] state.End [] e []
 over f e es q = let none : [] ≡ es =
     (let o : Some [] ≡ Some es = q in cc) in
-    subst (λ (l : List Happening). GivesExactly l (remaining_answer (at f [] state.End [] e))) none
-    (ends (at f [] state.End [] e) refl)
+    rw none at (ends (at f [] state.End [] e) refl)
 
 pub stream_ends : (f : SpansByKinds) (front : List Kind) (e : Memory) → AreEndsAndMarks front
     → TellsParts f (front ++ StreamEnd ∷ []) state.ImplicitDocumentStart [] e (CloseStream ∷ [])
@@ -94,13 +88,7 @@ next_ends _ h = elim h [ ]
 explicit_head : (d : Document) (t rest : List Kind) → d.directives ≡ [] → YieldsExplicitDocument d t
     → Next MayStandBehindDocument (t ++ rest)
 explicit_head d t rest e h =
-    record {
-      first = DocumentStart;
-      others = h.0 ++ rest;
-      is = ap (λ l. l ++ rest)
-          (h.4 ∙ ap (λ (ds : List Directive). map directive_token ds ++ DocumentStart ∷ h.0) e);
-      fits = tt;
-    }
+    record { first = DocumentStart; others = h.0 ++ rest; is = cc; fits = tt }
 
 pub not_free : IsTrue false → ⊥
 not_free h = cc
@@ -120,8 +108,7 @@ next_start (d ∷ ds) t h = next_is t (h.0 ++ h.1) h.4 (next_document d h.0 h.1 
 pub behind_head : (ds : Forest) (t : List Kind) → YieldsBehindDocument (YieldDocuments ds) t → Next EndsDocument t
 behind_head ds t h = by h.0 h.3 h.4 h.5
   where
-    by : (marks : List Kind) → AreMarks marks
-        → ((h.1 ≡ []) × YieldDocuments ds false h.2)
+    by : (marks : List Kind) → AreMarks marks → ((h.1 ≡ []) × YieldDocuments ds false h.2)
         ⊎ ((more : List Kind) × AreEndsAndMarks more × (h.1 ≡ DocumentEnd ∷ more) × YieldDocuments ds true h.2)
         → t ≡ marks ++ (h.1 ++ h.2) → Next EndsDocument t
     by [] m (inl g) e = let n : Next MayStandBehindDocument h.2 =
@@ -180,11 +167,7 @@ bare_says n t h f front k ks e ps a z l =
     state.DocumentEnd [] e' ps (document_end_follows k z) (λ q. cc) refl l in
     let d : Head InBlock t = node_head n InBlock t h in
     let same : t ++ k ∷ ks ≡ d.first ∷ (d.others ++ k ∷ ks) = ap (λ u. u ++ k ∷ ks) d.is in
-    subst (λ (u : List Kind). TellsParts f (front ++ u) state.ImplicitDocumentStart [] e
-    (OpenDocument false [] ∷ (node_parts n ++ ps))) (sym same)
-    (bare_opens f front d.first (d.others ++ k ∷ ks) e (node_parts n ++ ps) a d.starts
-    (subst (λ (u : List Kind). TellsParts f u state.BlockNode (state.DocumentEnd ∷ []) e' (node_parts n ++ ps)) same
-    inside))
+    rw same (bare_opens f front d.first (d.others ++ k ∷ ks) e (node_parts n ++ ps) a d.starts (rw same at inside))
 
 -- ## Explicit documents
 
@@ -249,8 +232,6 @@ explicit_says n ds t c h f k ks m x e ps z more q l =
     [] e' ps (document_end_follows k z) (λ l q. cc) (f ks) (content_is_left_out f k ks e' z)
     (λ j l s. content_begins f j l e' s) l in
     let goes : event_step m ≡ told_event (events.DocumentStart true) (f rest)
-    (at f rest state.DocumentContent (state.DocumentEnd ∷ []) e') =
-    q ∙ ap (λ (r : Result (Piece × Machine) Refusal). r >>= (λ u. explicit_document_at u.0.kind u.0 u.1))
-    (all_directives_pass ds f rest x [] e c) in
+    (at f rest state.DocumentContent (state.DocumentEnd ∷ []) e') = cc (all_directives_pass ds f rest x [] e c) in
     plainly e m (at f rest state.DocumentContent (state.DocumentEnd ∷ []) e') (OpenDocument true ds)
     (node_parts n ++ ps) (events.DocumentStart true) (f rest) more refl goes inside

@@ -1,8 +1,8 @@
 -- Collections' entries are told, one after the other.
-use Rattle.std.proofs.Common.{◌≡◌, List, [], ◌∷◌, ◌++◌, refl, subst, sym, ap, ◌∙◌, ◌⊎◌, inl, inr, append_assoc}
+use Rattle.std.proofs.Common.{◌≡◌, List, [], ◌∷◌, ◌++◌, refl, subst, sym, ◌⊎◌, inl, inr, append_assoc}
 use Rattle.saphyr_scanner.specs.Grammar.Forest.{no_properties, Properties, Node, Map, Nodes, NoNode, MoreNodes, Pairs, NoPair, MorePairs}
 use Rattle.saphyr_scanner.specs.Grammar.Tokens.{Kind, BlockEnd, FlowSequenceEnd, FlowMappingEnd, BlockEntry, FlowEntry, Key, Value}
-use Rattle.saphyr_scanner.specs.Grammar.TokenGrammar.{InFlow, InBlock, InBlockMapping, BeginsWithValue, YieldsOptional, IsListEnd, YieldsSinglePair, YieldsFlowPair, YieldsBlockPair, YieldsNode, YieldsPairEntry, YieldOtherFlowEntries, YieldOtherFlowPairs, YieldBlockEntries, YieldBlockPairs}
+use Rattle.saphyr_scanner.specs.Grammar.TokenGrammar.{InFlow, InBlock, InBlockMapping, YieldsOptional, IsListEnd, YieldsSinglePair, YieldsFlowPair, YieldsBlockPair, YieldsNode, YieldsPairEntry, YieldOtherFlowEntries, YieldOtherFlowPairs, YieldBlockEntries, YieldBlockPairs}
 use Rattle.saphyr_machine.specs.declared.state.State.{State}
 use Rattle.saphyr_machine.specs.declared.state.State.TheVariants as state
 use Rattle.event_laws.specs.Preorder.{Part, OpenMapping, CloseSequence, CloseMapping, node_parts, entry_parts, pair_parts}
@@ -31,10 +31,10 @@ no_entries = record {
 
 pub no_other_entries : (t : List Kind) → IsListEnd t → OtherEntriesSay NoNode t
 unfolding event_step flow_sequence_entry flow_sequence_first_entry
-no_other_entries t (inl h) = subst (OtherEntriesSay NoNode) (sym h) (record {
+no_other_entries t (inl h) = rw h (record {
   by = λ f ks s ss e ps l. plainly e _ (at f ks s ss e) CloseSequence ps SequenceEnd (f ks) (λ q. cc) refl refl l;
 })
-no_other_entries t (inr h) = subst (OtherEntriesSay NoNode) (sym h) (record {
+no_other_entries t (inr h) = rw h (record {
   by = λ f ks s ss e ps l. plainly e _ (at f ks s ss e) CloseSequence ps SequenceEnd (f ks) (λ q. cc) refl refl l;
 })
 
@@ -46,10 +46,10 @@ no_pairs = record {
 
 pub no_other_pairs : (t : List Kind) → IsListEnd t → OtherPairsSay NoPair t
 unfolding event_step flow_mapping_key flow_mapping_pair_behind_comma
-no_other_pairs t (inl h) = subst (OtherPairsSay NoPair) (sym h) (record {
+no_other_pairs t (inl h) = rw h (record {
   by = λ f ks s ss e ps l. plainly e _ (at f ks s ss e) CloseMapping ps MappingEnd (f ks) (λ q. cc) refl refl l;
 })
-no_other_pairs t (inr h) = subst (OtherPairsSay NoPair) (sym h) (record {
+no_other_pairs t (inr h) = rw h (record {
   by = λ f ks s ss e ps l. plainly e _ (at f ks s ss e) CloseMapping ps MappingEnd (f (FlowMappingEnd ∷ ks)) (λ q. cc)
       refl refl l;
 })
@@ -115,10 +115,8 @@ entry_told : (Fits : Kind → Type 0) (f : SpansByKinds) (front v t rest : List 
     → TellsParts f (front ++ k ∷ ks) x ss e (entry ++ ps)) → TellsParts f (v ++ rest) y ss e' ps
     → TellsParts f (t ++ rest) x ss e (entry ++ ps)
 entry_told Fits f front v t rest x y ss e e' entry ps n w go l =
-    let same : t ++ rest ≡ front ++ n.first ∷ n.others =
-    ap (λ l. l ++ rest) w ∙ append_assoc front v rest ∙ ap (λ l. front ++ l) n.is in
-    subst (λ (l : List Kind). TellsParts f l x ss e (entry ++ ps)) (sym same)
-    (go n.first n.others n.is n.fits (subst (λ (l : List Kind). TellsParts f l y ss e' ps) n.is l))
+    let same : t ++ rest ≡ front ++ n.first ∷ n.others = cc (append_assoc front v rest) in
+    rw same (go n.first n.others n.is n.fits (rw n.is at l))
 
 -- an entry told with the token after it shown, and the others told in the state `y`
 first_and_others : (Fits : Kind → Type 0) (close : Kind) (x y : State) (closing : Part) (entry inside : List Part)
@@ -144,8 +142,7 @@ pair_and_others : (Fits : Kind → Type 0) (close : Kind) (x y : State) (key val
     → TellsParts f (front ++ k ∷ ls) x ss e (node_parts key ++ (node_parts value ++ ps))) → PairsSay close y qs v
     → PairsSay close x (MorePairs key value qs) t
 pair_and_others Fits close x y key value qs front v t next w go others =
-    subst (λ (l : List Part). SayUpTo close x CloseMapping l (after_pairs (MorePairs key value qs)) t)
-    (append_assoc (node_parts key) (node_parts value) (pair_parts qs))
+    rw (append_assoc (node_parts key) (node_parts value) (pair_parts qs)) at
     (first_and_others Fits close x y CloseMapping (node_parts key ++ node_parts value) (pair_parts qs)
     (λ e. after_node value (after_node key e)) (after_pairs qs) front v t next w
     (λ f k ls ks ss e ps same z r. rw (append_assoc (node_parts key) (node_parts value) ps)
@@ -176,7 +173,7 @@ wrapped_pair p key value t bare h gk gv =
           (sym (same_pair (node_parts key) (node_parts value) ps CloseMapping))
           (single.pair_says key value t h gk gv f k ks machine x ss e ps z a l);
     } in
-    subst (λ (q : Properties). EntrySays (Map q (MorePairs key value NoPair)) t) (sym bare) one
+    rw bare one
 
 pub first_entries : (n : Node) (ns : Nodes) (u v t : List Kind) → YieldOtherFlowEntries ns v → t ≡ u ++ v
     → EntrySays n u → OtherEntriesSay ns v → FlowEntriesSay (MoreNodes n ns) t
@@ -249,4 +246,4 @@ block_pairs key value qs u v t d h w gk gv others =
     pair_and_others (MayFollow InBlockMapping) BlockEnd state.BlockMappingKey state.BlockMappingKey key value qs u v t
     (λ ks. block_pairs_next qs v ks h) w
     (λ f k ls ks ss e ps same z r. block.pair_says key value v u d gk gv f k ls ss e ps z
-    (λ no. subst (λ (x : List Kind). ¬ (BeginsWithValue x)) same (no_value v ks no)) r) others
+    (λ no. rw same at (no_value v ks no)) r) others

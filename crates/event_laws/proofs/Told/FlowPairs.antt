@@ -129,8 +129,7 @@ alone_says : (key : Node) (t : List Kind) → YieldsMarkedKey key (YieldsNode ke
     → EachSays key InFlow → SaysPair (pair key forest.left_out) (after_node key) t
 unfolding event_step flow_mapping_empty_value
 alone_says key t (inl h) g f k ks machine x ss e ps z a l =
-    subst (λ (u : List Kind). SaysParts e (machine (u ++ k ∷ ks)) (pair key forest.left_out ps)) (sym h.2)
-    (key_says key h.0 h.1 (g h.0) f k ks machine x ss e _ (pair_end_follows k z)
+    rw h.2 (key_says key h.0 h.1 (g h.0) f k ks machine x ss e _ (pair_end_follows k z)
     (key_is_left_out f k ks x ss e z) a (missing_value_says f k ks ss (after_node key e) ps z l))
 alone_says key t (inr h) g f k ks machine x ss e ps z a l =
     let e' : Memory = after_node key e in
@@ -148,8 +147,7 @@ keyless_says value t h g f k ks machine x ss e ps z a l =
     let rest : List Kind = h.0 ++ k ∷ ks in
     let second : TellsParts f (Value ∷ rest) state.FlowMappingValue ss e (node_parts value ++ ps) =
     value_says value h.0 h.1 (g h.0) f k ks ss e ps z l in
-    subst (λ (u : List Kind). SaysParts e (machine (u ++ k ∷ ks)) (pair forest.left_out value ps)) (sym h.2)
-    (skipped e (machine (Value ∷ rest)) (at f (Value ∷ rest) state.FlowMappingValue ss e)
+    rw h.2 (skipped e (machine (Value ∷ rest)) (at f (Value ∷ rest) state.FlowMappingValue ss e)
     (node_parts value ++ ps) (f rest) (a.goes_on (Value ∷ rest)) (a.steps Value rest) second)
 
 -- the pair as an entry of braces
@@ -164,8 +162,7 @@ pair_says key value t (inl h) gk gv f k ks machine x ss e ps z a l =
     marked_tokens t h.0 h.1 kt vt (k ∷ ks) h.2.2 h.3.2 h.4 in
     let second : TellsParts f (Value ∷ (vt ++ k ∷ ks)) state.FlowMappingValue ss (after_node key e)
     (node_parts value ++ ps) = value_says value vt h.3.1 (gv vt) f k ks ss (after_node key e) ps z l in
-    subst (λ (u : List Kind). SaysParts e (machine u) (node_parts key ++ (node_parts value ++ ps))) (sym same)
-    (key_says key kt h.2.1 (gk kt) f Value (vt ++ k ∷ ks) machine x ss e _ tt refl a second)
+    rw same (key_says key kt h.2.1 (gk kt) f Value (vt ++ k ∷ ks) machine x ss e _ tt refl a second)
 pair_says key value t (inr (inl h)) gk gv f k ks machine x ss e ps z a l =
     subst (λ (v : Node). TellsParts f (k ∷ ks) state.FlowMappingKey ss (after_node v (after_node key e)) ps
     → SaysParts e (machine (t ++ k ∷ ks)) (node_parts key ++ (node_parts v ++ ps))) (sym h.0)

@@ -75,13 +75,13 @@ shorthand_stands : (handle : Handle) (suffix : List ℕ) (names : Names (List �
     → resolved_tag_at names (handle_bytes handle) (encode_utf8_all suffix) place ≡ Ok r
 unfolding resolved_tag_at
 shorthand_stands handle suffix names place r h =
-    ap (λ p. p >>= (λ prefix. let x : Result ResolvedTag Refusal =
-    Ok (record { handle = prefix; suffix = encode_utf8_all suffix }) in x))
-    (has_handle (handle_bytes handle) names place (handle_is_some handle))
-    ∙ of_shorthand (option_or (meaning (handle_bytes handle) names) (default_prefix handle))
-    (declared_prefix_or (meaning (handle_bytes handle) names) (undeclared_prefix (handle_bytes handle) place))
-    (encode_utf8_all suffix) r
-    (λ prefix. handle_stands handle names place prefix (meaning (handle_bytes handle) names)) h
+    cc (
+      has_handle (handle_bytes handle) names place (handle_is_some handle),
+      of_shorthand (option_or (meaning (handle_bytes handle) names) (default_prefix handle))
+          (declared_prefix_or (meaning (handle_bytes handle) names) (undeclared_prefix (handle_bytes handle) place))
+          (encode_utf8_all suffix) r (λ prefix. handle_stands handle names place prefix (meaning (handle_bytes handle) names))
+          h,
+    )
 
 some_inside : (a b : ResolvedTag) → (let o : Option ResolvedTag = Some a in o) ≡ Some b
     → (let r : Result ResolvedTag Refusal = Ok a in r) ≡ Ok b
@@ -124,8 +124,7 @@ content_behind_anchor (tokens.Tag _ _) id s d t m h = elim h [ ]
 content_behind_anchor _ id s d t m h = refl
 
 content_behind_tag : (k : Kind) (tag : ResolvedTag) (s : Span) (d : NodeContext) (t : Piece) (m : Machine)
-    → IsContentKind k
-    → node_behind_tag_at k tag s d t m
+    → IsContentKind k → node_behind_tag_at k tag s d t m
     ≡ node_content (record { start = s.start; behind = s.end; anchor = 0; tag = Some tag }) d t m
 content_behind_tag (tokens.Anchor _) tag s d t m h = elim h [ ]
 content_behind_tag _ tag s d t m h = refl
@@ -162,7 +161,7 @@ node_comes f d x ss e None None front k ks found h c r =
     record {
       properties = no_node_properties (f ks).start;
       has = record { anchor_is = refl; tag_is = refl };
-      goes = ap (λ l. next_node d (at f (l ++ k ∷ ks) x ss e)) h ∙ content_alone k d _ _ c;
+      goes = cc (content_alone k d _ _ c);
     }
 node_comes f d x ss e (Some name) None front k ks found h c r =
     record {
@@ -173,9 +172,7 @@ node_comes f d x ss e (Some name) None front k ks found h c r =
         tag = None;
       };
       has = record { anchor_is = refl; tag_is = refl };
-      goes =
-          ap (λ l. next_node d (at f (l ++ k ∷ ks) x ss e)) h
-          ∙ content_behind_anchor k (next_id e.anchors) (f (k ∷ ks)) d _ _ c;
+      goes = cc (content_behind_anchor k (next_id e.anchors) (f (k ∷ ks)) d _ _ c);
     }
 node_comes f d x ss e None (Some tag) front k ks found h c r =
     let t : TagToken tag = tag_is_token tag in
@@ -183,12 +180,8 @@ node_comes f d x ss e None (Some tag) front k ks found h c r =
     let s : Span = f (k ∷ ks) in
     record {
       properties = record { start = s.start; behind = s.end; anchor = 0; tag = Some g.0 };
-      has = record { anchor_is = refl; tag_is = ap (option_map (λ v. let o : Option ResolvedTag = Some v in o)) g.1 };
-      goes = ap (λ l. next_node d (at f (l ++ k ∷ ks) x ss e)) (h ∙ ap (λ a. a ∷ []) t.token)
-          ∙ ap (λ (q : Result ResolvedTag Refusal). q
-          >>= (λ v. node_behind_tag_at k v s d (record { span = f ks; kind = k }) (at f ks x ss e)))
-          (t.stands e.prefixes s.start g.0 g.1)
-          ∙ content_behind_tag k g.0 s d _ _ c;
+      has = record { anchor_is = refl; tag_is = cc };
+      goes = cc (t.stands e.prefixes s.start g.0 g.1, content_behind_tag k g.0 s d _ _ c);
     }
 node_comes f d x ss e (Some name) (Some tag) front k ks found (inl h) c r =
     let t : TagToken tag = tag_is_token tag in
@@ -197,12 +190,8 @@ node_comes f d x ss e (Some name) (Some tag) front k ks found (inl h) c r =
     let end : Marker = (f (k ∷ ks)).end in
     record {
       properties = record { start = s.start; behind = end; anchor = next_id e.anchors; tag = Some g.0 };
-      has = record { anchor_is = refl; tag_is = ap (option_map (λ v. let o : Option ResolvedTag = Some v in o)) g.1 };
-      goes = ap (λ l. next_node d (at f (l ++ k ∷ ks) x ss e)) (h ∙ ap (λ a. anchor_token name ∷ a ∷ []) t.token)
-          ∙ ap (λ (q : Result ResolvedTag Refusal). q
-          >>= (λ v. next_content (record
-          { start = s.start; behind = end; anchor = next_id e.anchors; tag = Some v }) d
-          (at f (k ∷ ks) x ss (noted (Some name) e)))) (t.stands e.prefixes s.start g.0 g.1);
+      has = record { anchor_is = refl; tag_is = cc };
+      goes = cc (t.stands e.prefixes s.start g.0 g.1);
     }
 node_comes f d x ss e (Some name) (Some tag) front k ks found (inr h) c r =
     let t : TagToken tag = tag_is_token tag in
@@ -211,12 +200,8 @@ node_comes f d x ss e (Some name) (Some tag) front k ks found (inr h) c r =
     let end : Marker = (f (k ∷ ks)).end in
     record {
       properties = record { start = s.start; behind = end; anchor = next_id e.anchors; tag = Some g.0 };
-      has = record { anchor_is = refl; tag_is = ap (option_map (λ v. let o : Option ResolvedTag = Some v in o)) g.1 };
-      goes = ap (λ l. next_node d (at f (l ++ k ∷ ks) x ss e)) (h ∙ ap (λ a. a ∷ anchor_token name ∷ []) t.token)
-          ∙ ap (λ (q : Result ResolvedTag Refusal). q
-          >>= (λ v. next_content (record
-          { start = s.start; behind = end; anchor = next_id e.anchors; tag = Some v }) d
-          (at f (k ∷ ks) x ss (noted (Some name) e)))) (t.stands e.prefixes s.start g.0 g.1);
+      has = record { anchor_is = refl; tag_is = cc };
+      goes = cc (t.stands e.prefixes s.start g.0 g.1);
     }
 
 -- ## The first token of a node
@@ -228,7 +213,7 @@ found_any make id None w h = absurd (cc)
 
 tells_so : {a b c : Result Told Refusal} (u w : Happening) (span : Span) (n : Machine) → a ≡ b → b ≡ c
     → c ≡ told_event u span n → u ≡ w → a ≡ told_event w span n
-tells_so u w span n p q r s = p ∙ q ∙ r ∙ ap (λ (x : Happening). told_event x span n) s
+tells_so u w span n p q r s = cc
 
 -- A node with properties is told, where its content is told of what the machine has read.
 pub node_opens : (f : SpansByKinds) (d : NodeContext) (x : State) (ss : List State) (e : Memory) (m n : Machine)

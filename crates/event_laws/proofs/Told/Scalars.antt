@@ -1,6 +1,6 @@
 -- Scalars are told.
-use Rattle.std.proofs.Common.{◌≡◌, ℕ, true, List, [], ◌∷◌, ◌++◌, Option, Some, None, option_map, encode_utf8_all, refl, subst, sym, ap, ◌∙◌, inl, inr, arith, append_assoc}
-use Rattle.std.specs.Prelude.{nat_lt, ◌||◌, is_some}
+use Rattle.std.proofs.Common.{◌≡◌, ℕ, true, List, [], ◌∷◌, ◌++◌, Option, Some, None, option_map, encode_utf8_all, refl, sym, ap, ◌∙◌, inl, inr, arith, append_assoc}
+use Rattle.std.specs.Prelude.{nat_lt, is_some}
 use Rattle.std.proofs.Math.Bool.{or-true}
 use Rattle.std.proofs.lemmas.Bool.{lt-ltb}
 use Rattle.saphyr_scalar.specs.declared.scalar.position.Span.{Span}
@@ -16,7 +16,7 @@ use Rattle.saphyr_machine.specs.Steps.Machine.{Machine, told_event, pop, put_bac
 use Rattle.saphyr_machine.specs.Steps.Nodes.{NodeProperties, has_property, span_up_to, node_without_content, alias_of, alias_node, node}
 use Rattle.event_laws.proofs.Told.Telling.{Memory, at}
 use Rattle.event_laws.proofs.Remembering.{noted, resolve, says}
-use Rattle.event_laws.proofs.Told.Nodes.{next_node, Has, node_opens}
+use Rattle.event_laws.proofs.Told.Nodes.{Has, node_opens}
 use Rattle.event_laws.proofs.NodeStarts.{context_of, follow_is_content, follow_ends, NodeSays}
 
 -- ## A node that has properties
@@ -32,9 +32,9 @@ is_tagged None found h = absurd (cc)
 has_one : (e : Memory) (anchor : Option (List ℕ)) (tag : Option Tag) (q : NodeProperties) → HasOne anchor tag
     → Has e anchor tag q → has_property q ≡ true
 has_one e None None q h has = elim h [ ]
-has_one e (Some name) tag q h has = ap (λ b. b || is_some q.tag) (id_is_positive e q.anchor has.anchor_is)
+has_one e (Some name) tag q h has = cc (id_is_positive e q.anchor has.anchor_is)
 has_one e None (Some tag) q h has =
-    ap (λ b. nat_lt 0 q.anchor || b) (is_tagged (resolve e.prefixes tag) q.tag has.tag_is) ∙ or-true (nat_lt 0 q.anchor)
+    cc (is_tagged (resolve e.prefixes tag) q.tag has.tag_is, or-true (nat_lt 0 q.anchor))
 
 empty_is_told : (q : NodeProperties) (t : Piece) (m : Machine) → has_property q ≡ true
     → node_without_content q t m ≡ told_event (Scalar [] forest.Plain q.anchor q.tag) (span_up_to q q.behind)
@@ -52,8 +52,7 @@ with_token p style value c front content t h a b = record {
       rw (b, a) (append_assoc front (scalar_token style value ∷ []) (k ∷ ks)) in
       node_opens f (context_of c) x (s ∷ ss) e m (at f (k ∷ ks) s ss (noted p.anchor e)) p front
       (scalar_token style value) (k ∷ ks) (Leaf p style value) ps (Scalar (encode_utf8_all value) style) h tt more
-      (q ∙ ap (λ u. next_node (context_of c) (at f u x (s ∷ ss) e)) same) refl
-      (λ r has. (span_up_to r (f (k ∷ ks)).end, refl)) l;
+      (cc) refl (λ r has. (span_up_to r (f (k ∷ ks)).end, refl)) l;
 }
 
 -- properties alone
@@ -66,8 +65,7 @@ without_token p c front content t h some a b = record {
       let n : Machine = at f (k ∷ ks) s ss (noted p.anchor e) in
       let piece : Piece = record { span = f ks; kind = k } in
       node_opens f (context_of c) x (s ∷ ss) e m n p front k ks (Leaf p forest.Plain []) ps (Scalar [] forest.Plain) h
-      (follow_is_content c k z) more (q ∙ ap (λ u. next_node (context_of c) (at f u x (s ∷ ss) e)) same) refl
-      (λ r has. (
+      (follow_is_content c k z) more (cc) refl (λ r has. (
         span_up_to r r.behind,
         follow_ends c k r piece (at f ks x (s ∷ ss) (noted p.anchor e)) z
             ∙ empty_is_told r piece (at f ks x (s ∷ ss) (noted p.anchor e)) (has_one e p.anchor p.tag r some has),
@@ -80,9 +78,7 @@ scalar_says p style value c t h = by_content h.3
   where
     by_content : grammar.YieldsScalar p style value h.1 → NodeSays (forest.Scalar p style value) c t
     by_content (inl e) = with_token p style value c h.0 h.1 t h.2 e h.4
-    by_content (inr g) = subst (λ (y : Style). NodeSays (forest.Scalar p y value) c t) (sym g.1)
-        (subst (λ (v : List ℕ). NodeSays (forest.Scalar p forest.Plain v) c t) (sym g.2)
-        (without_token p c h.0 h.1 t h.2 g.0 g.3 h.4))
+    by_content (inr g) = rw (g.1, g.2) (without_token p c h.0 h.1 t h.2 g.0 g.3 h.4)
 
 -- ## Aliases
 
@@ -99,9 +95,7 @@ alias_says name c t h = record {
       says e m (at f (k ∷ ks) s ss e) (Reference name) ps more
       (λ w v. (
         f (k ∷ ks),
-        q ∙ ap (λ u. next_node (context_of c) (at f (u ++ k ∷ ks) x (s ∷ ss) e)) h
-            ∙ alias_is_told (meaning (encode_utf8_all name) e.anchors.ids) w (f (k ∷ ks)) (at f (k ∷ ks) x (s ∷ ss) e)
-            v,
+        cc (alias_is_told (meaning (encode_utf8_all name) e.anchors.ids) w (f (k ∷ ks)) (at f (k ∷ ks) x (s ∷ ss) e) v),
       ))
       l;
 }

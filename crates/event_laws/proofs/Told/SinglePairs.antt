@@ -150,8 +150,7 @@ key_alone_says key t h gk f k ks machine x ss e ps z a l =
     state.FlowSequenceEntryMappingKey (λ l. state.FlowSequenceEntryMappingValue) ss e
     (node_parts forest.left_out ++ CloseMapping ∷ ps) (entry_end_follows k z) (λ l q. cc) (span_of_token f (k ∷ ks))
     (key_is_left_out f k ks ss e z) (λ j l s. single_key_begins f j l ss e s) second in
-    subst (λ (u : List Kind). SaysParts e (machine (u ++ k ∷ ks)) (single_pair key forest.left_out ps)) (sym h.2)
-    (pair_opens f (h.0 ++ k ∷ ks) machine x ss e
+    rw h.2 (pair_opens f (h.0 ++ k ∷ ks) machine x ss e
     (node_parts key ++ (node_parts forest.left_out ++ CloseMapping ∷ ps)) a first)
 
 -- the pair as an entry of brackets
@@ -179,8 +178,7 @@ pair_says key value t (inl h) gk gv f k ks machine x ss e ps z a l =
     (λ l. at f l state.FlowSequenceEntryMappingKey ss e) state.FlowSequenceEntryMappingKey
     (λ l. state.FlowSequenceEntryMappingValue) ss e (node_parts value ++ CloseMapping ∷ ps) tt (λ l q. cc)
     (f (vt ++ k ∷ ks)) refl (λ j l s. single_key_begins f j l ss e s) second in
-    subst (λ (u : List Kind). SaysParts e (machine u) (single_pair key value ps)) (sym same)
-    (pair_opens f (kt ++ Value ∷ (vt ++ k ∷ ks)) machine x ss e
+    rw same (pair_opens f (kt ++ Value ∷ (vt ++ k ∷ ks)) machine x ss e
     (node_parts key ++ (node_parts value ++ CloseMapping ∷ ps)) a first)
 pair_says key value t (inr h) gk gv f k ks machine x ss e ps z a l =
     subst (λ (v : Node). TellsParts f (k ∷ ks) state.FlowSequenceEntry ss (after_node v (after_node key e)) ps

@@ -1,16 +1,13 @@
 -- Streams of documents are told.
-use Rattle.std.proofs.Common.{◌≡◌, Bool, true, false, List, [], ◌∷◌, ◌++◌, map, Result, Ok, refl, subst, sym, ap, ◌∙◌, ◌⊎◌, inl, inr, append_assoc}
+use Rattle.std.proofs.Common.{◌≡◌, Bool, true, false, List, [], ◌∷◌, ◌++◌, map, Ok, refl, subst, sym, ap, ◌∙◌, ◌⊎◌, inl, inr, append_assoc}
 use Rattle.saphyr_scalar.specs.declared.scalar.position.Span.{Span}
-use Rattle.saphyr_scalar.specs.declared.scalar.fault.Refusal.{Refusal}
 use Rattle.saphyr_scanner.specs.Grammar.Forest.{Directive, Document, Forest}
 use Rattle.saphyr_scanner.specs.Grammar.Tokens.{Kind, StreamStart, StreamEnd, DocumentStart, DocumentEnd, ByteOrderMark, directive_token}
 use Rattle.saphyr_scanner.specs.Grammar.TokenGrammar.{YieldsBareDocument, YieldsExplicitDocument, YieldsDocument, AreMarks, AreEndsAndMarks, YieldsBehindDocument, YieldDocuments, Yields}
-use Rattle.saphyr_scanner.specs.Views.Tokens.{Piece}
 use Rattle.saphyr_machine.specs.declared.state.State.TheVariants as state
-use Rattle.event_laws.specs.Preorder.{Part, OpenStream, CloseStream, OpenDocument, CloseDocument, node_parts, document_parts, parts}
+use Rattle.event_laws.specs.Preorder.{Part, OpenStream, OpenDocument, CloseDocument, node_parts, document_parts, parts}
 use Rattle.saphyr_machine.specs.Events as events
-use Rattle.saphyr_machine.specs.Steps.Machine.{◌>>=◌, Machine}
-use Rattle.saphyr_machine.specs.Steps.Documents.{is_mark, stream_start, token_behind_marks_at, token_behind_marks, token_behind_document, document_end_at, document_end, without_prefixes}
+use Rattle.saphyr_machine.specs.Steps.Documents.{is_mark, stream_start, token_behind_marks_at, token_behind_marks, token_behind_document, document_end_at, document_end}
 use Rattle.saphyr_machine.specs.Steps.Expected.{event_step}
 use Rattle.event_laws.proofs.Told.Telling.{SpansByKinds, Memory, at}
 use Rattle.event_laws.proofs.Remembering.{closing, TellsParts, plainly}
@@ -52,27 +49,21 @@ marks_behind f place DocumentEnd l e h = refl
 marks_behind f place _ l e h = elim h [ ]
 
 ended_behind : (f : SpansByKinds) (marks : List Kind) (j : Kind) (l : List Kind) (e : Memory) → AreMarks marks
-    → MayStandBehindMarks j
-    → event_step (at f (ByteOrderMark ∷ (marks ++ j ∷ l)) state.DocumentEnd [] e)
+    → MayStandBehindMarks j → event_step (at f (ByteOrderMark ∷ (marks ++ j ∷ l)) state.DocumentEnd [] e)
     ≡ document_end_at j (record { span = f l; kind = j }) (at f l state.DocumentEnd [] (closing e))
 unfolding event_step document_end token_behind_document token_behind_marks
 ended_behind f marks j l e a h =
     let s : Span = f (marks ++ j ∷ l) in
-    ap (λ (r : Result (Piece × Machine) Refusal). (r >>= (λ t. token_behind_marks_at t.0.kind s.start t.0 t.1))
-    >>= (λ t. document_end_at t.0.kind t.0 (without_prefixes t.1)))
-    (passes is_mark marks f j l state.DocumentEnd [] e (marks_pass marks a) (behind_is_no_mark j h))
-    ∙ ap (λ (r : Result (Piece × Machine) Refusal). r >>= (λ t. document_end_at t.0.kind t.0 (without_prefixes t.1)))
-    (marks_behind f s j l e h)
+    cc (
+      passes is_mark marks f j l state.DocumentEnd [] e (marks_pass marks a) (behind_is_no_mark j h),
+      marks_behind f s j l e h,
+    )
 
 ended_all : (f : SpansByKinds) (marks : List Kind) (j : Kind) (l : List Kind) (e : Memory) → AreMarks marks
-    → MayStandBehindMarks j
-    → event_step (at f (marks ++ j ∷ l) state.DocumentEnd [] e)
+    → MayStandBehindMarks j → event_step (at f (marks ++ j ∷ l) state.DocumentEnd [] e)
     ≡ document_end_at j (record { span = f l; kind = j }) (at f l state.DocumentEnd [] (closing e))
 ended_all f [] j l e a h = document_end_told f j l e h
-ended_all f (k ∷ ks) j l e a h =
-    subst (λ (k : Kind). event_step (at f (k ∷ (ks ++ j ∷ l)) state.DocumentEnd [] e)
-    ≡ document_end_at j (record { span = f l; kind = j }) (at f l state.DocumentEnd [] (closing e))) (sym a.0)
-    (ended_behind f ks j l e a.1 h)
+ended_all f (k ∷ ks) j l e a h = rw a.0 (ended_behind f ks j l e a.1 h)
 
 -- with `...`
 ends_openly : (f : SpansByKinds) (marks l : List Kind) (e : Memory) (ps : List Part) → AreMarks marks
@@ -116,16 +107,14 @@ behind_says ds t h g f e = by h.4
         → TellsParts f t state.DocumentEnd [] e (CloseDocument ∷ document_parts ds)
     by (inl z) =
         let n : Next MayStandBehindDocument h.2 = next_start ds h.2 z.1 in
-        let same : t ≡ h.0 ++ n.first ∷ n.others = h.5 ∙ ap (λ l. h.0 ++ l) (ap (λ l. l ++ h.2) z.0 ∙ n.is) in
+        let same : t ≡ h.0 ++ n.first ∷ n.others = cc in
         let told : TellsParts f h.2 state.DocumentStart [] (closing e) (document_parts ds) = g false h.2 z.1 f
         (closing e) in
         subst (λ (u : List Kind). TellsParts f u state.DocumentEnd [] e (CloseDocument ∷ document_parts ds)) (sym same)
-        (ends_silently f h.0 n.first n.others e (document_parts ds) h.3 n.fits
-        (subst (λ (u : List Kind). TellsParts f u state.DocumentStart [] (closing e) (document_parts ds)) n.is told))
+        (ends_silently f h.0 n.first n.others e (document_parts ds) h.3 n.fits (rw n.is at told))
     by (inr z) =
         let same : t ≡ h.0 ++ DocumentEnd ∷ (z.0 ++ h.2) = h.5 ∙ ap (λ l. h.0 ++ (l ++ h.2)) z.2 in
-        subst (λ (u : List Kind). TellsParts f u state.DocumentEnd [] e (CloseDocument ∷ document_parts ds)) (sym same)
-        (ends_openly f h.0 (z.0 ++ h.2) e (document_parts ds) h.3 (g true h.2 z.3 f z.0 (closing e) z.1))
+        rw same (ends_openly f h.0 (z.0 ++ h.2) e (document_parts ds) h.3 (g true h.2 z.3 f z.0 (closing e) z.1))
 
 -- a document is told, with the token after it: one that may be bare, and one that may not
 abbrev FreeSays : Document → List Kind → Type 0
@@ -141,18 +130,12 @@ NextSays d t = (f : SpansByKinds) (k : Kind) (ks : List Kind) (e : Memory) (ps :
     (OpenDocument d.explicit d.directives ∷ (node_parts d.node ++ ps))
 
 bare_document_says : (d : Document) (t : List Kind) → YieldsBareDocument d t → FreeSays d t
-bare_document_says d t h f front k ks e ps a z l =
-    subst (λ (b : Bool). TellsParts f (front ++ (t ++ k ∷ ks)) state.ImplicitDocumentStart [] e
-    (OpenDocument b d.directives ∷ (node_parts d.node ++ ps))) (sym h.0)
-    (subst (λ (ds : List Directive). TellsParts f (front ++ (t ++ k ∷ ks)) state.ImplicitDocumentStart [] e
-    (OpenDocument false ds ∷ (node_parts d.node ++ ps))) (sym h.1)
-    (bare_says d.node t h.2 f front k ks e ps a z (l _)))
+bare_document_says d t h f front k ks e ps a z l = rw (h.0, h.1) (bare_says d.node t h.2 f front k ks e ps a z (l _))
 
 explicit_tokens : (ds : List Directive) (node t : List Kind) (k : Kind) (ks : List Kind)
     → t ≡ map directive_token ds ++ DocumentStart ∷ node
     → t ++ k ∷ ks ≡ map directive_token ds ++ DocumentStart ∷ (node ++ k ∷ ks)
-explicit_tokens ds node t k ks e =
-    ap (λ l. l ++ k ∷ ks) e ∙ append_assoc (map directive_token ds) (DocumentStart ∷ node) (k ∷ ks)
+explicit_tokens ds node t k ks e = cc (append_assoc (map directive_token ds) (DocumentStart ∷ node) (k ∷ ks))
 
 explicit_document_says : (d : Document) (t : List Kind) → YieldsExplicitDocument d t → FreeSays d t
 explicit_document_says d t h f front k ks e ps a z l =
@@ -162,27 +145,17 @@ explicit_document_says d t h f front k ks e ps a z l =
     (OpenDocument true d.directives ∷ (node_parts d.node ++ ps)) =
     explicit_says d.node d.directives h.0 h.2 h.3 f k ks (at f (front ++ rest) state.ImplicitDocumentStart [] e)
     state.ImplicitDocumentStart e ps z (λ q. cc) (implicit_opens d.directives f front (h.0 ++ k ∷ ks) e a) (l _) in
-    subst (λ (b : Bool). TellsParts f (front ++ (t ++ k ∷ ks)) state.ImplicitDocumentStart [] e
-    (OpenDocument b d.directives ∷ (node_parts d.node ++ ps))) (sym h.1)
-    (subst (λ (u : List Kind). TellsParts f (front ++ u) state.ImplicitDocumentStart [] e
-    (OpenDocument true d.directives ∷ (node_parts d.node ++ ps))) (sym same) told)
+    rw (h.1, same) told
 
 -- after another document without `...` between
 next_document_says : (d : Document) (t : List Kind) → d.directives ≡ [] → YieldsExplicitDocument d t → NextSays d t
 next_document_says d t none h f k ks e ps z l =
     let rest : List Kind = DocumentStart ∷ (h.0 ++ k ∷ ks) in
-    let same : t ++ k ∷ ks ≡ rest = explicit_tokens d.directives h.0 t k ks h.4
-    ∙ ap (λ (ds : List Directive). map directive_token ds ++ rest) none in
+    let same : t ++ k ∷ ks ≡ rest = cc (explicit_tokens d.directives h.0 t k ks h.4) in
     let told : TellsParts f rest state.DocumentStart [] e (OpenDocument true [] ∷ (node_parts d.node ++ ps)) =
     explicit_says d.node [] h.0 tt h.3 f k ks (at f rest state.DocumentStart [] e) state.DocumentStart e ps z
     (λ q. cc) (explicit_opens f (h.0 ++ k ∷ ks) e) (l _) in
-    subst (λ (b : Bool). TellsParts f (t ++ k ∷ ks) state.DocumentStart [] e
-    (OpenDocument b d.directives ∷ (node_parts d.node ++ ps))) (sym h.1)
-    (subst (λ (ds : List Directive). TellsParts f (t ++ k ∷ ks) state.DocumentStart [] e
-    (OpenDocument true ds ∷ (node_parts d.node ++ ps))) (sym none)
-    (subst (λ (u : List Kind). TellsParts f u state.DocumentStart [] e
-    (OpenDocument true [] ∷ (node_parts d.node ++ ps)))
-    (sym same) told))
+    rw (h.1, none, same) told
 
 free_document_says : (d : Document) (t : List Kind) → YieldsDocument d true t → FreeSays d t
 free_document_says d t (inl h) = bare_document_says d t h.1
@@ -198,29 +171,20 @@ rest_says : (ds : Forest) (t : List Kind) → YieldsBehindDocument (YieldDocumen
     → ((free : Bool) (u : List Kind) → YieldDocuments ds free u → DocumentsSay ds free u) → (n : Next EndsDocument t)
     → (f : SpansByKinds) (c : Memory)
     → TellsParts f (n.first ∷ n.others) state.DocumentEnd [] c (CloseDocument ∷ document_parts ds)
-rest_says ds t h g n f c =
-    subst (λ (u : List Kind). TellsParts f u state.DocumentEnd [] c (CloseDocument ∷ document_parts ds)) n.is
-    (behind_says ds t h g f c)
+rest_says ds t h g n f c = rw n.is at (behind_says ds t h g f c)
 
 documents_say : (ds : Forest) (free : Bool) (t : List Kind) → YieldDocuments ds free t → DocumentsSay ds free t
-documents_say [] true t h =
-    λ f front e a. subst (λ (u : List Kind). TellsParts f (front ++ u) state.ImplicitDocumentStart [] e
-    (CloseStream ∷ []))
-    (sym h) (stream_ends f front e a)
-documents_say [] false t h =
-    λ f e. subst (λ (u : List Kind). TellsParts f u state.DocumentStart [] e (CloseStream ∷ [])) (sym h)
-    (stream_ends_at_once f e)
+documents_say [] true t h = λ f front e a. rw h (stream_ends f front e a)
+documents_say [] false t h = λ f e. rw h (stream_ends_at_once f e)
 documents_say (d ∷ ds) true t h = λ f front e a.
     let n : Next EndsDocument h.1 = behind_head ds h.1 h.3 in
     let same : t ≡ h.0 ++ n.first ∷ n.others = h.4 ∙ ap (λ l. h.0 ++ l) n.is in
-    subst (λ (u : List Kind). TellsParts f (front ++ u) state.ImplicitDocumentStart [] e (document_parts (d ∷ ds)))
-    (sym same) (free_document_says d h.0 h.2 f front n.first n.others e (CloseDocument ∷ document_parts ds) a n.fits
+    rw same (free_document_says d h.0 h.2 f front n.first n.others e (CloseDocument ∷ document_parts ds) a n.fits
     (rest_says ds h.1 h.3 (λ b u g. documents_say ds b u g) n f))
 documents_say (d ∷ ds) false t h = λ f e.
     let n : Next EndsDocument h.1 = behind_head ds h.1 h.3 in
     let same : t ≡ h.0 ++ n.first ∷ n.others = h.4 ∙ ap (λ l. h.0 ++ l) n.is in
-    subst (λ (u : List Kind). TellsParts f u state.DocumentStart [] e (document_parts (d ∷ ds))) (sym same)
-    (other_document_says d h.0 h.2 f n.first n.others e (CloseDocument ∷ document_parts ds) n.fits
+    rw same (other_document_says d h.0 h.2 f n.first n.others e (CloseDocument ∷ document_parts ds) n.fits
     (rest_says ds h.1 h.3 (λ b u g. documents_say ds b u g) n f))
 
 pub stream_says : (forest : Forest) (t : List Kind) → Yields forest t → (f : SpansByKinds) (e : Memory)
@@ -228,7 +192,6 @@ pub stream_says : (forest : Forest) (t : List Kind) → Yields forest t → (f :
 unfolding event_step stream_start
 stream_says forest t h f e =
     let rest : List Kind = h.0 ++ h.1 in
-    subst (λ (u : List Kind). TellsParts f u state.StreamStart [] e (parts forest)) (sym h.4)
-    (plainly e (at f (StreamStart ∷ rest) state.StreamStart [] e) (at f rest state.ImplicitDocumentStart [] e)
+    rw h.4 (plainly e (at f (StreamStart ∷ rest) state.StreamStart [] e) (at f rest state.ImplicitDocumentStart [] e)
     OpenStream (document_parts forest) events.StreamStart (f rest) (λ q. cc) refl refl
     (documents_say forest true h.1 h.3 f h.0 e h.2))

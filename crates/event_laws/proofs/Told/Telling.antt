@@ -1,10 +1,9 @@
 -- Machines before tokens whose spans are told by the tokens after them, and the events that they give.
-use Rattle.std.proofs.Common.{◌≡◌, ◌≢◌, ℕ, ◌<◌, ◌≤◌, Bool, false, List, [], ◌∷◌, length, None, Result, Ok, refl, sym, ap, ◌∙◌, subst, arith}
+use Rattle.std.proofs.Common.{◌≡◌, ◌≢◌, ℕ, ◌<◌, ◌≤◌, Bool, false, List, [], ◌∷◌, length, None, Ok, refl, sym, ap, ◌∙◌, arith}
 use Rattle.std.specs.Prelude.{if◌then◌else◌}
 use Rattle.std.proofs.Math.Dec.{eqb}
 use Rattle.std.proofs.lemmas.Bool.{eq-eqb, ne_eqb}
 use Rattle.saphyr_scalar.specs.declared.scalar.position.Span.{Span}
-use Rattle.saphyr_scalar.specs.declared.scalar.fault.Refusal.{Refusal}
 use Rattle.saphyr_scanner.specs.Grammar.Tokens.{Kind}
 use Rattle.saphyr_scanner.specs.Views.Tokens.{Piece}
 use Rattle.saphyr_machine.specs.declared.state.State.{State}
@@ -12,7 +11,7 @@ use Rattle.saphyr_machine.specs.declared.state.State.TheVariants.{End}
 use Rattle.saphyr_machine.specs.Events.{Happening}
 use Rattle.saphyr_machine.specs.Steps.Machine.{Names, Anchors, Machine, Told}
 use Rattle.saphyr_machine.specs.Steps.Expected.{event_step}
-use Rattle.saphyr_machine.specs.Answer.{with_first_event, answer_of_step, remaining_answer}
+use Rattle.saphyr_machine.specs.Answer.{with_first_event, remaining_answer}
 use Rattle.event_laws.specs.Exactly.{GivesExactly, kinds}
 use Rattle.saphyr_machine.proofs.Unroll.{unroll, over}
 
@@ -62,9 +61,7 @@ same_dress : (s : Span) (n : ℕ) (f : SpansByKinds) (ks : List Kind) → length
     → dressed (with_span s n f) ks ≡ dressed f ks
 same_dress s n f [] l = refl
 same_dress s n f (k ∷ ks) l =
-    ap (λ (x : Span). record { span = x; kind = k } ∷ dressed (with_span s n f) ks)
-    (same_before s (f ks) n (length ks) (omega (arith, l)))
-    ∙ ap (λ (ts : List Piece). record { span = f ks; kind = k } ∷ ts) (same_dress s n f ks (omega (arith, l)))
+    cc (same_before s (f ks) n (length ks) (omega (arith, l)), same_dress s n f ks (omega (arith, l)))
 
 -- any span will do for the tokens that there are not
 pub dress : (any : Span) (ts : List Piece) → (f : SpansByKinds) × (ts ≡ dressed f (kinds ts))
@@ -85,8 +82,8 @@ pub tells : (m : Machine) (x : Told) (es : List Happening) → m.state ≢ End �
     → GivesExactly es (remaining_answer x.machine) → GivesExactly (x.what ∷ es) (remaining_answer m)
 tells m x es more e h =
     let all : remaining_answer m ≡ with_first_event (x.what, x.span) (remaining_answer x.machine) =
-    unroll m more ∙ ap (λ (r : Result Told Refusal). answer_of_step r remaining_answer) e in
-    subst (λ a. GivesExactly (x.what ∷ es) a) (sym all) (h.0, ap (λ l. x.what ∷ l) h.1)
+    cc (unroll m more) in
+    rw all (h.0, ap (λ l. x.what ∷ l) h.1)
 
 pub ends : (m : Machine) → m.state ≡ End → GivesExactly [] (remaining_answer m)
-ends m e = subst (λ a. GivesExactly [] a) (sym (over m e)) (refl, refl)
+ends m e = rw (over m e) (refl, refl)

@@ -1,6 +1,6 @@
 -- The steps inside block collections are turned.
 use Rattle.event_laws.proofs.OwnTokens.{whole}
-use Rattle.std.proofs.Common.{◌≡◌, List, [], ◌∷◌, ◌++◌, refl, sym, ap, ◌∙◌, subst, inl, inr, append_assoc, arith}
+use Rattle.std.proofs.Common.{◌≡◌, List, [], ◌∷◌, ◌++◌, refl, ◌∙◌, inl, inr, append_assoc, arith}
 use Rattle.saphyr_scalar.specs.declared.scalar.position.Span.{Span}
 use Rattle.saphyr_scalar.specs.declared.scalar.style.ScalarStyle.TheVariants.{Plain}
 use Rattle.saphyr_scanner.specs.Grammar.Forest.{Node, NoNode, MoreNodes, NoPair, MorePairs}
@@ -134,9 +134,8 @@ without_value : (R : Claim) (front back ks : List Kind) (first second ps : List 
     → ks ≡ front ++ back → ps ≡ first ++ second → InBlockPairs R (Key ∷ ks) ps
 without_value R front back ks first second ps x none h e q =
     let g : InBlockPairs R h.back h.second = h.goes_on in
-    let rest : back ≡ g.front ++ g.back = h.kinds_are ∙ ap (λ (l : List Kind). l ++ h.back) h.begins.0 ∙ g.kinds_are in
-    let others : BeginsWithValue g.front → ⊥ =
-    λ b. none (subst BeginsWithValue (sym rest) (value_more g.front g.back b)) in
+    let rest : back ≡ g.front ++ g.back = cc in
+    let others : BeginsWithValue g.front → ⊥ = λ b. none (rw rest (value_more g.front g.back b)) in
     record {
       front = Key ∷ (front ++ g.front);
       back = g.back;
@@ -148,14 +147,8 @@ without_value R front back ks first second ps x none h e q =
         refl,
       );
       goes_on = g.goes_on;
-      kinds_are = ap (λ (l : List Kind). Key ∷ l)
-          (e ∙ ap (λ (l : List Kind). front ++ l) rest ∙ sym (append_assoc front g.front g.back));
-      parts_are = q ∙ ap (λ (l : List Part). l ++ second) x.2
-          ∙ ap (λ (l : List Part). node_parts x.0 ++ l)
-          (h.parts_are ∙ ap (λ (l : List Part). l ++ h.second) h.begins.1
-          ∙ ap (λ (l : List Part). Leaf forest.no_properties Plain [] ∷ l)
-          (g.parts_are ∙ ap (λ (l : List Part). l ++ g.second) g.begins.2))
-          ∙ sym (append_assoc (node_parts x.0) (node_parts forest.left_out ++ pair_parts g.begins.0) g.second);
+      kinds_are = cc (append_assoc front g.front g.back);
+      parts_are = cc (append_assoc (node_parts x.0) (node_parts forest.left_out ++ pair_parts g.begins.0) g.second);
     }
 
 keyed : (R : Claim) (ks : List Kind) (ps : List Part)
@@ -182,7 +175,7 @@ keyless_join : (a b : List Kind) (p q : List Part) → IsValueOf InBlockMapping 
 keyless_join a b p q x y = (
   MorePairs forest.left_out x.0 y.0,
   (a, b, inr (inr (refl, x.1)), y.1, refl),
-  ap (λ (l : List Part). Leaf forest.no_properties Plain [] ∷ l) (both_parts x.2 y.2),
+  cc (both_parts x.2 y.2),
 )
 
 keyless : (R : Claim) (ks : List Kind) (ps : List Part) → AtBlockValue R ks ps

@@ -1,7 +1,7 @@
 -- The content of a node is turned, after its properties.
 use Rattle.event_laws.proofs.OwnTokens.{HasOwn, whole, Shape, StartsAt, content_spans, content_is, alone_is}
 use Rattle.event_laws.specs.EventsTaken.{AreContentTokens, SpansAll, IsOf}
-use Rattle.std.proofs.Common.{◌≡◌, ◌≤◌, ℕ, Bool, true, false, List, [], ◌∷◌, ◌++◌, length, Option, Some, None, option_map, encode_utf8_all, is_some, Ok, Err, refl, sym, ap, ◌∙◌, subst, inl, inr, append_assoc, arith, length-append}
+use Rattle.std.proofs.Common.{◌≡◌, ◌≤◌, ℕ, Bool, true, false, List, [], ◌∷◌, ◌++◌, length, Option, Some, None, option_map, encode_utf8_all, is_some, Ok, Err, refl, sym, ap, ◌∙◌, inl, inr, append_assoc, arith, length-append}
 use Rattle.std.specs.Prelude.{if◌then◌else◌, nat_lt, ◌||◌}
 use Rattle.saphyr_scalar.specs.declared.scalar.position.Span.{Span}
 use Rattle.saphyr_scalar.specs.declared.scalar.style.ScalarStyle.{ScalarStyle}
@@ -84,8 +84,7 @@ has_one None (Some g) e q h t = tt
 has_one (Some a) (Some g) e q h t = tt
 
 pub split : (front : List Piece) (t : Piece) (u : List Kind) → kinds (front ++ t ∷ []) ++ u ≡ kinds front ++ t.kind ∷ u
-split front t u = ap (λ (l : List Kind). l ++ u) (kinds_append front (t ∷ []))
-    ∙ append_assoc (kinds front) (t.kind ∷ []) u
+split front t u = cc (kinds_append front (t ∷ []), append_assoc (kinds front) (t.kind ∷ []) u)
 
 pub taken_one : (front : List Piece) (t : Piece) (ts : List Piece) → front ++ t ∷ ts ≡ (front ++ t ∷ []) ++ ts
 taken_one front t ts = sym (append_assoc front (t ∷ []) ts)
@@ -120,8 +119,7 @@ module _ (p : forest.Properties) (q : NodeProperties) (front : List Piece) (r : 
       (node_without_content q t (machine ts r x (s ∷ ss) (noted p.anchor e)))
   alone_turned t c ts x = by (has_property q) refl
     where
-      by : (b : Bool) → has_property q ≡ b
-          → Turned (NodeThen c s ss) e (front ++ t ∷ ts)
+      by : (b : Bool) → has_property q ≡ b → Turned (NodeThen c s ss) e (front ++ t ∷ ts)
           (if b then Ok (record {
             what = Scalar [] Plain q.anchor q.tag;
             span = record { start = q.start; end = q.behind };
@@ -139,13 +137,11 @@ module _ (p : forest.Properties) (q : NodeProperties) (front : List Piece) (r : 
       → event_in e part ≡ with_properties make e p → noted p.anchor e ≡ after part e
       → anchors (part ∷ []) ≡ one_more_anchor (option_map encode_utf8_all p.anchor) 0 → IsInsideDocument o
       → ((used : List Piece) (span : Span) → AreContentTokens opening used → SpansAll used span
-      → IsOf (make q.anchor q.tag) span used ts)
-      → ((R : Claim) (ks : List Kind) (ps : List Part) → Behind o R ks ps
+      → IsOf (make q.anchor q.tag) span used ts) → ((R : Claim) (ks : List Kind) (ps : List Part) → Behind o R ks ps
       → Then A (Then (Exactly (closing ∷ []) (last ∷ [])) R) ks ps)
       → ((u f : List Kind) (w : List Part) → A u w → YieldProperties p f
       → IsNodeOf (place_of c) (f ++ opening ∷ (u ++ closing ∷ [])) (part ∷ (w ++ last ∷ [])))
-      → StartsAt front sp.start q
-      → Goes (NodeThen c s ss) e (front ++ piece_of opening sp ∷ ts)
+      → StartsAt front sp.start q → Goes (NodeThen c s ss) e (front ++ piece_of opening sp ∷ ts)
       (record {
         what = make q.anchor q.tag;
         span = span_up_to q sp.end;
@@ -164,8 +160,7 @@ module _ (p : forest.Properties) (q : NodeProperties) (front : List Piece) (r : 
         alive = (i, a);
         makes = λ ks ps f st. around A (FollowsStates s ss) (IsNodeOf (place_of c)) (kinds (front ++ t ∷ []))
             (closing ∷ []) part last ks ps
-            (λ u w g. subst (λ (l : List Kind). IsNodeOf (place_of c) l (part ∷ (w ++ last ∷ [])))
-            (sym (split front t (u ++ closing ∷ []))) (node u (kinds front) w g h.are))
+            (λ u w g. rw (split front t (u ++ closing ∷ [])) (node u (kinds front) w g h.are))
             (inside (FollowsStates s ss) ks ps f);
       }
 
@@ -173,36 +168,26 @@ module _ (p : forest.Properties) (q : NodeProperties) (front : List Piece) (r : 
 
 pair_begins : (key value : Node) (K V : List Kind → Type 0) (others t u : List Kind)
     → YieldsBlockPair key value K V others t → BeginsWithEntry (t ++ u) → ⊥
-pair_begins key value K V others t u (inl h) =
-    subst (λ (l : List Kind). BeginsWithEntry (l ++ u) → ⊥) (sym (h.4 ∙ ap (λ (l : List Kind). l ++ h.1) h.2.2))
-    (λ z. z)
-pair_begins key value K V others t u (inr (inl h)) =
-    subst (λ (l : List Kind). BeginsWithEntry (l ++ u) → ⊥) (sym h.2.2) (λ z. z)
-pair_begins key value K V others t u (inr (inr h)) =
-    subst (λ (l : List Kind). BeginsWithEntry (l ++ u) → ⊥) (sym h.1.2) (λ z. z)
+pair_begins key value K V others t u (inl h) = rw (h.4 ∙ ap (λ (l : List Kind). l ++ h.1) h.2.2) (λ z. z)
+pair_begins key value K V others t u (inr (inl h)) = rw h.2.2 (λ z. z)
+pair_begins key value K V others t u (inr (inr h)) = rw h.1.2 (λ z. z)
 
 pairs_begin : (qs : Pairs) (t u : List Kind) → YieldBlockPairs qs t → (BeginsWithEntry u → ⊥) → BeginsWithEntry (t ++ u)
     → ⊥
-pairs_begin NoPair t u h n = subst (λ (l : List Kind). BeginsWithEntry (l ++ u) → ⊥) (sym h) n
+pairs_begin NoPair t u h n = rw h n
 pairs_begin (MorePairs key value qs) t u h n =
-    subst (λ (l : List Kind). BeginsWithEntry l → ⊥) (sym (ap (λ (l : List Kind). l ++ u) h.4 ∙ append_assoc h.0 h.1 u))
-    (pair_begins key value _ _ h.1 h.0 (h.1 ++ u) h.2)
+    rw (ap (λ (l : List Kind). l ++ u) h.4 ∙ append_assoc h.0 h.1 u) (pair_begins key value _ _ h.1 h.0 (h.1 ++ u) h.2)
 
 in_pairs_begin : (R : Claim) (ks : List Kind) (ps : List Part) → InBlockPairs R ks ps → BeginsWithEntry ks → ⊥
 in_pairs_begin R ks ps h =
     let g : Then (Exactly (tokens.BlockEnd ∷ []) (CloseMapping ∷ [])) R h.back h.second = h.goes_on in
-    subst (λ (l : List Kind). BeginsWithEntry l → ⊥) (sym h.kinds_are)
-    (pairs_begin h.begins.0 h.front h.back h.begins.1
-    (subst (λ (l : List Kind). BeginsWithEntry l → ⊥)
-    (sym (g.kinds_are ∙ ap (λ (l : List Kind). l ++ g.back) g.begins.0)) (λ z. z)))
+    rw h.kinds_are (pairs_begin h.begins.0 h.front h.back h.begins.1
+    (rw (g.kinds_are ∙ ap (λ (l : List Kind). l ++ g.back) g.begins.0) (λ z. z)))
 
 at_value_begins : (R : Claim) (ks : List Kind) (ps : List Part) → AtBlockValue R ks ps → BeginsWithEntry ks → ⊥
-at_value_begins R ks ps (inl h) =
-    subst (λ (l : List Kind). BeginsWithEntry l → ⊥)
-    (sym (h.kinds_are ∙ ap (λ (l : List Kind). l ++ h.back) h.begins.1.2)) (λ z. z)
+at_value_begins R ks ps (inl h) = rw (h.kinds_are ∙ ap (λ (l : List Kind). l ++ h.back) h.begins.1.2) (λ z. z)
 at_value_begins R ks ps (inr h) =
-    subst (λ (l : List Kind). BeginsWithEntry l → ⊥)
-    (sym (h.1.kinds_are ∙ ap (λ (l : List Kind). l ++ h.1.back) h.1.begins.0))
+    rw (h.1.kinds_are ∙ ap (λ (l : List Kind). l ++ h.1.back) h.1.begins.0)
     (in_pairs_begin R h.1.back h.1.second h.1.goes_on)
 
 pub no_entry : (s : State) (ss : List State) (ks : List Kind) (ps : List Part) → IsPairState s

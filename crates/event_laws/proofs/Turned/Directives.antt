@@ -1,5 +1,5 @@
 -- Directives that were passed go together, and what they declare is remembered.
-use Rattle.std.proofs.Common.{◌≡◌, ℕ, Bool, true, false, List, [], ◌∷◌, ◌++◌, map, encode_utf8_all, Result, Ok, Err, refl, sym, ap, ◌∙◌, subst}
+use Rattle.std.proofs.Common.{◌≡◌, ℕ, Bool, true, false, List, [], ◌∷◌, ◌++◌, map, encode_utf8_all, Result, Ok, Err, refl, ap, ◌∙◌}
 use Rattle.std.specs.Prelude.{if◌then◌else◌}
 use Rattle.saphyr_scalar.specs.declared.scalar.position.Span.{Span}
 use Rattle.saphyr_scalar.specs.declared.scalar.fault.Refusal.{Refusal}
@@ -10,7 +10,7 @@ use Rattle.saphyr_scanner.specs.Grammar.Tokens.{Kind, directive_token}
 use Rattle.saphyr_scanner.specs.Views.Tokens.{Piece}
 use Rattle.event_laws.specs.Exactly.{kinds}
 use Rattle.saphyr_machine.specs.Steps.Machine.{◌>>=◌, Machine, with_meaning, is_listed, with_name, with_pieces}
-use Rattle.saphyr_machine.specs.Steps.Documents.{Declared, is_directive, with_handle, directive_at, directives_from}
+use Rattle.saphyr_machine.specs.Steps.Documents.{Declared, is_directive, directive_at, directives_from}
 use Rattle.event_laws.specs.WellFormed.{IsWellFormed, AreWellFormed}
 use Rattle.event_laws.proofs.Remembering.{declaring}
 use Rattle.event_laws.proofs.DirectivesPass.{IsFree, AreFree, declared_by, all_free_behind}
@@ -63,7 +63,7 @@ one_more_directive x t ts d m n (Ok y) k free same h =
       used = t ∷ h.used;
       rest = h.rest;
       are = ap (λ (l : List Piece). t ∷ l) h.are;
-      kinds_are = ap (λ (l : Kind). l ∷ kinds h.used) k ∙ ap (λ (l : List Kind). directive_token x ∷ l) h.kinds_are;
+      kinds_are = cc;
       compatible = (others.0, h.compatible);
       free = (free, others.1);
       leaves = h.leaves ∙ same h.directives h.rest;
@@ -109,14 +109,8 @@ passed_at (tokens.VersionDirective major minor) sp ts d m w go =
     version_passed d.version major minor (record { span = sp; kind = tokens.VersionDirective major minor }) ts d m refl
     refl go
 passed_at (tokens.TagDirective handle prefix) sp ts d m w go =
-    subst (λ (h : List ℕ). PassedBy (record { span = sp; kind = tokens.TagDirective h prefix } ∷ ts) d m
-    (with_handle h prefix sp.start d (with_pieces ts m) >>= (λ s. directives_from ts s.0 s.1))) (sym w.1)
-    (subst (λ (p : List ℕ). PassedBy (record { span = sp; kind = tokens.TagDirective (handle_bytes w.0) p } ∷ ts) d m
-    (with_handle (handle_bytes w.0) p sp.start d (with_pieces ts m) >>= (λ s. directives_from ts s.0 s.1)))
-    (sym w.2.1)
-    (tag_passed (is_listed (handle_bytes w.0) d.handles) w.0 w.2.0
-    (record { span = sp; kind = tokens.TagDirective (handle_bytes w.0) (encode_utf8_all w.2.0) }) ts d m refl refl
-    go))
+    rw (w.1, w.2.1) (tag_passed (is_listed (handle_bytes w.0) d.handles) w.0 w.2.0
+    (record { span = sp; kind = tokens.TagDirective (handle_bytes w.0) (encode_utf8_all w.2.0) }) ts d m refl refl go)
 passed_at (tokens.ReservedDirective name) sp ts d m w go =
     one_more_directive (Reserved w.0) (record { span = sp; kind = tokens.ReservedDirective name }) ts d m
     (with_pieces ts m) _

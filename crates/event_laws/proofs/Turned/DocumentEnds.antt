@@ -1,7 +1,7 @@
 -- The steps at the content and the end of documents are turned.
 use Rattle.event_laws.proofs.OwnTokens.{ArePassed}
 use Rattle.event_laws.specs.EventsTaken.{BelongsToNone}
-use Rattle.std.proofs.Common.{◌≡◌, Bool, true, false, List, [], ◌∷◌, ◌++◌, map, Option, Result, Ok, Err, refl, sym, ap, ◌∙◌, subst, ◌⊎◌, inl, inr, append_assoc, append-nil, arith}
+use Rattle.std.proofs.Common.{◌≡◌, Bool, true, false, List, [], ◌∷◌, ◌++◌, map, Option, Result, Ok, Err, refl, sym, ap, ◌∙◌, ◌⊎◌, inl, inr, append_assoc, append-nil, arith}
 use Rattle.std.specs.Prelude.{if◌then◌else◌}
 use Rattle.saphyr_scalar.specs.declared.scalar.position.Marker.{Marker}
 use Rattle.saphyr_scalar.specs.declared.scalar.position.Span.{Span}
@@ -114,8 +114,7 @@ behind_all : (place : Marker) (ts : List Piece) (m : Machine)
 unfolding token_behind_marks unpassed_token
 behind_all place ts m = behind_some _ place ts (with_pieces ts m) (marks_passed ts (with_pieces ts m))
 
-document_at : (k : Kind) (sp : Span) (ts : List Piece) (m : Machine)
-    → MarkedBy (record { span = sp; kind = k } ∷ ts) m
+document_at : (k : Kind) (sp : Span) (ts : List Piece) (m : Machine) → MarkedBy (record { span = sp; kind = k } ∷ ts) m
     (token_behind_document_at k (record { span = sp; kind = k }) (with_pieces ts m))
 document_at tokens.ByteOrderMark sp ts m =
     one_more_mark (record { span = sp; kind = tokens.ByteOrderMark }) ts m _ refl (behind_all sp.start ts m)
@@ -129,12 +128,12 @@ behind_turned (t ∷ ts) r x e = document_at t.kind t.span ts (machine (t ∷ ts
 
 are_passed : (marks : List Piece) → AreMarks (kinds marks) → ArePassed marks
 are_passed [] a = tt
-are_passed (t ∷ marks) a = (subst BelongsToNone (sym a.0) tt, are_passed marks a.1)
+are_passed (t ∷ marks) a = (rw a.0 tt, are_passed marks a.1)
 
 passed_with : (marks : List Piece) (u : Piece) → AreMarks (kinds marks) → BelongsToNone u.kind
     → ArePassed (marks ++ u ∷ [])
 passed_with [] u a b = (b, tt)
-passed_with (t ∷ marks) u a b = (subst BelongsToNone (sym a.0) tt, passed_with marks u a.1 b)
+passed_with (t ∷ marks) u a b = (rw a.0 tt, passed_with marks u a.1 b)
 
 -- ## The end of a document
 
@@ -149,37 +148,33 @@ with_end marks u ks ps k a f = (
     f.2,
     a,
     inr (f.1, f.3, refl, f.4),
-    split marks u ks
-        ∙ ap (λ (l : Kind). kinds marks ++ l ∷ ks) k
-        ∙ ap (λ (l : List Kind). kinds marks ++ tokens.DocumentEnd ∷ l) f.5,
+    cc (split marks u ks),
   ),
-  ap (λ (l : List Part). CloseDocument ∷ l)
-      f.6,
+  cc,
 )
 
 no_directives : (xs : List Directive) (rest ks : List Kind) → ks ≡ map directive_token xs ++ rest → BeginsFreely ks
     → xs ≡ []
 no_directives [] rest ks e b = refl
-no_directives (Version _ _ ∷ xs) rest ks e b = absurd (subst BeginsFreely e b)
-no_directives (TagPrefix _ _ ∷ xs) rest ks e b = absurd (subst BeginsFreely e b)
-no_directives (Reserved _ ∷ xs) rest ks e b = absurd (subst BeginsFreely e b)
+no_directives (Version _ _ ∷ xs) rest ks e b = absurd (rw e at b)
+no_directives (TagPrefix _ _ ∷ xs) rest ks e b = absurd (rw e at b)
+no_directives (Reserved _ ∷ xs) rest ks e b = absurd (rw e at b)
 
 not_free : (k : Kind) → (k ≡ tokens.DocumentEnd) ⊎ (k ≡ tokens.ByteOrderMark) → IsFree k → ⊥
-not_free k (inl e) h = subst IsFree e h
-not_free k (inr e) h = subst IsFree e h
+not_free k (inl e) h = rw e at h
+not_free k (inr e) h = rw e at h
 
 no_front : (front documents ks : List Kind) → AreEndsAndMarks front → ks ≡ front ++ documents → BeginsFreely ks
     → ks ≡ documents
 no_front [] documents ks a e b = e
-no_front (k ∷ front) documents ks a e b = absurd (not_free k a.0 (subst BeginsFreely e b))
+no_front (k ∷ front) documents ks a e b = absurd (not_free k a.0 (rw e at b))
 
 next_documents : (f : Forest) (t : List Kind) → AreExplicit f t → BeginsFreely t → YieldDocuments f false t
 next_documents [] t h b = h
 next_documents (d ∷ ds) t h b =
     let node : List Kind = h.2.0 in
     let all : t ≡ map directive_token d.directives ++ (tokens.DocumentStart ∷ (node ++ h.1)) =
-    h.4 ∙ ap (λ (l : List Kind). l ++ h.1) h.2.4
-    ∙ append_assoc (map directive_token d.directives) (tokens.DocumentStart ∷ node) h.1 in
+    cc (append_assoc (map directive_token d.directives) (tokens.DocumentStart ∷ node) h.1) in
     (h.0, h.1, inr (inr (no_directives d.directives (tokens.DocumentStart ∷ (node ++ h.1)) t all b), h.2), h.3, h.4)
 
 without_end : (marks : List Piece) (ks : List Kind) (ps : List Part) → AreMarks (kinds marks)
@@ -187,59 +182,52 @@ without_end : (marks : List Piece) (ks : List Kind) (ps : List Part) → AreMark
     → Outside state.DocumentEnd (kinds marks ++ ks) (CloseDocument ∷ ps)
 without_end marks ks ps a f b =
     let same : ks ≡ f.2 = no_front f.1 f.2 ks f.3 f.5 b in
-    let documents : YieldDocuments f.0 false ks = next_documents f.0 ks (subst (AreExplicit f.0) (sym same) f.4) b in
-    (f.0, (kinds marks, [], ks, a, inl (refl, documents), refl), ap (λ (l : List Part). CloseDocument ∷ l) f.6)
+    let documents : YieldDocuments f.0 false ks = next_documents f.0 ks (rw same f.4) b in
+    (f.0, (kinds marks, [], ks, a, inl (refl, documents), refl), cc)
 
 end_at_turned : (k : Kind) (sp : Span) (n : Machine) (ts : List Piece) (r : Option Refusal) (x : State) (e : Memory)
     → Marked ts (machine ts r x [] e) (record { span = sp; kind = k }) n
     → Turned (Outside state.DocumentEnd) e ts (document_end_at k (record { span = sp; kind = k }) (without_prefixes n))
-end_at_turned tokens.DocumentEnd sp n ts r x e h =
-    subst (λ (m : Machine). Turned (Outside state.DocumentEnd) e ts
-    (document_end_at tokens.DocumentEnd (record { span = sp; kind = tokens.DocumentEnd }) (without_prefixes m)))
-    (sym h.leaves)
-    (record {
-      used = h.marks ++ record { span = sp; kind = tokens.DocumentEnd } ∷ [];
-      part = CloseDocument;
-      taken = h.are
-          ∙ taken_one h.marks (record { span = sp; kind = tokens.DocumentEnd }) h.rest;
-      tells = refl;
-      remembers = refl;
-      few = omega arith;
-      places = record {
-        front = h.marks ++ record { span = sp; kind = tokens.DocumentEnd } ∷ [];
-        own = [];
-        are = sym (append-nil (h.marks ++ record { span = sp; kind = tokens.DocumentEnd } ∷ []));
-        passed = passed_with h.marks (record { span = sp; kind = tokens.DocumentEnd }) h.are_marks tt;
-        is_of = refl;
-      };
-      alive = tt;
-      makes = λ ks ps f b. with_end h.marks (record { span = sp; kind = tokens.DocumentEnd }) ks ps refl
-          h.are_marks f;
-    })
+end_at_turned tokens.DocumentEnd sp n ts r x e h = rw h.leaves (record {
+  used = h.marks ++ record { span = sp; kind = tokens.DocumentEnd } ∷ [];
+  part = CloseDocument;
+  taken = h.are
+      ∙ taken_one h.marks (record { span = sp; kind = tokens.DocumentEnd }) h.rest;
+  tells = refl;
+  remembers = refl;
+  few = omega arith;
+  places = record {
+    front = h.marks ++ record { span = sp; kind = tokens.DocumentEnd } ∷ [];
+    own = [];
+    are = sym (append-nil (h.marks ++ record { span = sp; kind = tokens.DocumentEnd } ∷ []));
+    passed = passed_with h.marks (record { span = sp; kind = tokens.DocumentEnd }) h.are_marks tt;
+    is_of = refl;
+  };
+  alive = tt;
+  makes = λ ks ps f b. with_end h.marks (record { span = sp; kind = tokens.DocumentEnd }) ks ps refl
+      h.are_marks f;
+})
 end_at_turned (tokens.VersionDirective major minor) sp n ts r x e h = tt
 end_at_turned (tokens.TagDirective handle prefix) sp n ts r x e h = tt
 end_at_turned (tokens.ReservedDirective name) sp n ts r x e h = tt
 end_at_turned tokens.ByteOrderMark sp n ts r x e h = absurd (let no_way : true ≡ false = h.no_mark in cc)
-end_at_turned k sp n ts r x e h =
-    subst (λ (m : Machine). Turned (Outside state.DocumentEnd) e ts
-    (document_end_at k (record { span = sp; kind = k }) (without_prefixes m))) (sym h.leaves)
-    (record {
-      used = h.marks;
-      part = CloseDocument;
-      taken = h.are;
-      tells = refl;
-      remembers = refl;
-      few = omega arith;
-      places = record {
-        front = h.marks;
-        own = [];
-        are = sym (append-nil h.marks);
-        passed = are_passed h.marks h.are_marks;
-        is_of = refl;
-      };
-      alive = tt;
-      makes = λ ks ps f b. without_end h.marks ks ps h.are_marks f (b tt);
-    })
+end_at_turned k sp n ts r x e h = rw h.leaves (record {
+  used = h.marks;
+  part = CloseDocument;
+  taken = h.are;
+  tells = refl;
+  remembers = refl;
+  few = omega arith;
+  places = record {
+    front = h.marks;
+    own = [];
+    are = sym (append-nil h.marks);
+    passed = are_passed h.marks h.are_marks;
+    is_of = refl;
+  };
+  alive = tt;
+  makes = λ ks ps f b. without_end h.marks ks ps h.are_marks f (b tt);
+})
 
 end_behind : (res : Result (Piece × Machine) Refusal) (ts : List Piece) (r : Option Refusal) (x : State) (e : Memory)
     → MarkedBy ts (machine ts r x [] e) res

@@ -1,8 +1,8 @@
 -- The steps at the beginnings of the stream and of documents are turned.
 use Rattle.saphyr_scanner.specs.Grammar.Forest as forest
 use Rattle.event_laws.proofs.OwnTokens.{ArePassed, HasOwn, whole, passed_one, behind_own}
-use Rattle.event_laws.specs.EventsTaken.{BelongsToNone, IsOf}
-use Rattle.std.proofs.Common.{◌≡◌, ◌≤◌, Bool, true, false, List, [], ◌∷◌, ◌++◌, length, map, Option, Some, Result, Ok, Err, refl, sym, ap, ◌∙◌, subst, ◌⊎◌, inl, inr, append_assoc, arith}
+use Rattle.event_laws.specs.EventsTaken.{BelongsToNone}
+use Rattle.std.proofs.Common.{◌≡◌, ◌≤◌, Bool, true, false, List, [], ◌∷◌, ◌++◌, length, map, Option, Some, Result, Ok, Err, refl, ap, ◌∙◌, ◌⊎◌, inl, inr, append_assoc, arith}
 use Rattle.std.specs.Prelude.{if◌then◌else◌}
 use Rattle.saphyr_scalar.specs.declared.scalar.position.Span.{Span}
 use Rattle.saphyr_scalar.specs.declared.scalar.fault.Refusal.{Refusal}
@@ -14,7 +14,7 @@ use Rattle.saphyr_scanner.specs.Grammar.TokenGrammar.{InBlock, YieldDocuments}
 use Rattle.saphyr_machine.specs.declared.state.State.{State}
 use Rattle.saphyr_machine.specs.declared.state.State.TheVariants as state
 use Rattle.event_laws.specs.Anchors.{anchors}
-use Rattle.event_laws.specs.Preorder.{Part, OpenStream, CloseStream, OpenDocument, node_parts, document_parts}
+use Rattle.event_laws.specs.Preorder.{Part, OpenStream, CloseStream, OpenDocument, document_parts}
 use Rattle.saphyr_machine.specs.Events as events
 use Rattle.event_laws.specs.Exactly.{kinds}
 use Rattle.saphyr_machine.specs.Steps.Machine.{◌>>=◌, Machine, Told, with_pieces}
@@ -106,7 +106,7 @@ are_passed (t ∷ used) [] e = absurd (cc)
 are_passed (t ∷ used) (d ∷ ds) e =
     let both : (t.kind ≡ directive_token d) × (kinds used ≡ map directive_token ds) =
     first_of_all t.kind (directive_token d) (kinds used) (map directive_token ds) e in
-    (subst BelongsToNone (sym both.0) (directive_is_passed d), are_passed used ds both.1)
+    (rw both.0 (directive_is_passed d), are_passed used ds both.1)
 
 -- ## Documents that begin with `---` or directives
 
@@ -116,16 +116,14 @@ Explicit ahead ks ps = (f : Forest) × AreExplicit f ks × (ps ≡ document_part
 
 begins_as : (used rest : List Piece) (u : Piece) (ts : List Piece) (ks : List Kind) → ts ≡ used ++ u ∷ rest
     → BeginsFreely (kinds ts) → BeginsFreely (kinds (used ++ u ∷ []) ++ ks)
-begins_as [] rest u ts ks e b = subst (λ (l : List Piece). BeginsFreely (kinds l)) e b
-begins_as (v ∷ used) rest u ts ks e b = subst (λ (l : List Piece). BeginsFreely (kinds l)) e b
+begins_as [] rest u ts ks e b = rw e at b
+begins_as (v ∷ used) rest u ts ks e b = rw e at b
 
 explicit_tokens : (ds : List Directive) (used : List Piece) (u : Piece) (front back ks : List Kind)
     → kinds used ≡ map directive_token ds → u.kind ≡ tokens.DocumentStart → ks ≡ front ++ back
     → kinds (used ++ u ∷ []) ++ ks ≡ (map directive_token ds ++ tokens.DocumentStart ∷ front) ++ back
 explicit_tokens ds used u front back ks e k q =
-    split used u ks ∙ ap (λ (l : List Kind). l ++ u.kind ∷ ks) e ∙ ap (λ (l : Kind). map directive_token ds ++ l ∷ ks) k
-    ∙ ap (λ (l : List Kind). map directive_token ds ++ tokens.DocumentStart ∷ l) q
-    ∙ sym (append_assoc (map directive_token ds) (tokens.DocumentStart ∷ front) back)
+    cc (split used u ks, append_assoc (map directive_token ds) (tokens.DocumentStart ∷ front) back)
 
 explicit_makes : (ts : List Piece) (ds : List Directive) (used rest : List Piece) (u : Piece) (ks : List Kind)
     (ps : List Part) → ts ≡ used ++ u ∷ rest → kinds used ≡ map directive_token ds → u.kind ≡ tokens.DocumentStart
@@ -143,36 +141,31 @@ explicit_makes ts ds used rest u ks ps e q k c h =
         explicit_tokens ds used u h.front h.back
             ks q k h.kinds_are,
       ),
-      ap (λ (l : List Part). OpenDocument true ds ∷ l)
-          (h.parts_are ∙ ap (λ (l : List Part). l ++ h.second) h.begins.2
-          ∙ ap (λ (l : List Part). node_parts h.begins.0 ++ l) h.goes_on.2),
+      simp (h.parts_are, h.begins.2, h.goes_on.2),
       begins_as used rest u ts ks e,
     )
 
 explicit_at_turned : (k : Kind) (sp : Span) (n : Machine) (ts : List Piece) (r : Option Refusal) (x : State)
     (e : Memory) → PassesDirectives ts none_declared (machine ts r x [] e) (record { span = sp; kind = k }) n
     → Turned (Explicit (kinds ts)) e ts (explicit_document_at k (record { span = sp; kind = k }) n)
-explicit_at_turned tokens.DocumentStart sp n ts r x e h =
-    subst (λ (m : Machine). Turned (Explicit (kinds ts)) e ts
-    (explicit_document_at tokens.DocumentStart (record { span = sp; kind = tokens.DocumentStart }) m)) (sym h.leaves)
-    (record {
-      used = h.used ++ record { span = sp; kind = tokens.DocumentStart } ∷ [];
-      part = OpenDocument true h.directives;
-      taken = h.are ∙ taken_one h.used (record { span = sp; kind = tokens.DocumentStart }) h.rest;
-      tells = refl;
-      remembers = refl;
-      few = omega arith;
-      places = record {
-        front = h.used;
-        own = record { span = sp; kind = tokens.DocumentStart } ∷ [];
-        are = refl;
-        passed = are_passed h.used h.directives h.kinds_are;
-        is_of = (record { span = sp; kind = tokens.DocumentStart }, refl, refl, refl);
-      };
-      alive = (tt, tt);
-      makes = λ ks ps f b. explicit_makes ts h.directives h.used h.rest
-          (record { span = sp; kind = tokens.DocumentStart }) ks ps h.are h.kinds_are refl h.compatible f;
-    })
+explicit_at_turned tokens.DocumentStart sp n ts r x e h = rw h.leaves (record {
+  used = h.used ++ record { span = sp; kind = tokens.DocumentStart } ∷ [];
+  part = OpenDocument true h.directives;
+  taken = h.are ∙ taken_one h.used (record { span = sp; kind = tokens.DocumentStart }) h.rest;
+  tells = refl;
+  remembers = refl;
+  few = omega arith;
+  places = record {
+    front = h.used;
+    own = record { span = sp; kind = tokens.DocumentStart } ∷ [];
+    are = refl;
+    passed = are_passed h.used h.directives h.kinds_are;
+    is_of = (record { span = sp; kind = tokens.DocumentStart }, refl, refl, refl);
+  };
+  alive = (tt, tt);
+  makes = λ ks ps f b. explicit_makes ts h.directives h.used h.rest
+      (record { span = sp; kind = tokens.DocumentStart }) ks ps h.are h.kinds_are refl h.compatible f;
+})
 explicit_at_turned _ sp n ts r x e h = tt
 
 explicit_behind : (res : Result (Piece × Machine) Refusal) (ts : List Piece) (r : Option Refusal) (x : State)
@@ -193,7 +186,7 @@ stream_makes : (ks : List Kind) (ps : List Part) → Outside state.ImplicitDocum
     → Outside state.StreamStart (tokens.StreamStart ∷ ks) (OpenStream ∷ ps)
 stream_makes ks ps f = (
   f.0,
-  (f.1, f.2, f.3, f.4, ap (λ (l : List Kind). tokens.StreamStart ∷ l) f.5),
+  (f.1, f.2, f.3, f.4, simp f.5),
   ap
       (λ (l : List Part). OpenStream ∷ l) f.6,
 )
@@ -241,9 +234,7 @@ bare_makes ks ps h =
       tt,
       (h.front, h.back, inl (refl, (refl, refl, h.begins.1)), h.goes_on.1, h.kinds_are),
       refl,
-      ap (λ (l : List Part). OpenDocument false [] ∷ l)
-          (h.parts_are ∙ ap (λ (l : List Part). l ++ h.second) h.begins.2
-          ∙ ap (λ (l : List Part). node_parts h.begins.0 ++ l) h.goes_on.2),
+      simp (h.parts_are, h.begins.2, h.goes_on.2),
     )
 
 bare_turned : (t : Piece) (us : List Piece) (r : Option Refusal) (x : State) (e : Memory)
@@ -268,17 +259,16 @@ stream_over : (F : Claim) (t : Piece) (us : List Piece) (x : Told) (e : Memory) 
 stream_over F t us x e n k w o f = record {
   part = CloseStream;
   is_over = o;
-  tells = ap (λ v. let y : Option events.Happening = Some v in y) (sym w);
+  tells = simp w;
   few = omega arith;
   places = record {
     front = t ∷ [];
     own = [];
     are = ap (λ (l : List Piece). t ∷ l) n;
-    passed = (subst BelongsToNone (sym k) tt, tt);
-    is_of = subst (λ (v : events.Happening). IsOf v x.span [] []) (sym w) refl;
+    passed = (rw k tt, tt);
+    is_of = rw w refl;
   };
-  makes = subst (λ (l : List Kind). F l (CloseStream ∷ []))
-      (sym (ap (λ (l : List Piece). t.kind ∷ kinds l) n ∙ ap (λ (l : Kind). l ∷ []) k)) f;
+  makes = rw (ap (λ (l : List Piece). t.kind ∷ kinds l) n ∙ ap (λ (l : Kind). l ∷ []) k) f;
 }
 
 explicit_there : (k : Kind) (sp : Span) (us : List Piece) (r : Option Refusal) (x : State) (e : Memory)

@@ -1,5 +1,5 @@
 -- The steps inside flow mappings are turned.
-use Rattle.std.proofs.Common.{◌≡◌, List, [], ◌∷◌, ◌++◌, refl, sym, ap, ◌∙◌, subst, inl, inr, append_assoc, append-nil}
+use Rattle.std.proofs.Common.{◌≡◌, List, [], ◌∷◌, ◌++◌, refl, ap, ◌∙◌, inl, inr, append_assoc, append-nil}
 use Rattle.saphyr_scalar.specs.declared.scalar.position.Span.{Span}
 use Rattle.saphyr_scalar.specs.declared.scalar.style.ScalarStyle.TheVariants.{Plain}
 use Rattle.saphyr_scanner.specs.Grammar.Forest.{Node, Pairs, NoPair, MorePairs}
@@ -44,8 +44,7 @@ marked_join a b p q x (inl y) = (x.0, y.0, inl (Key ∷ a, b, (a, x.1, refl), y.
 marked_join a b p q x (inr y) = (
   x.0,
   forest.left_out,
-  inr (inl
-      (refl, (a, x.1, ap (λ (l : List Kind). Key ∷ (a ++ l)) y.0 ∙ ap (λ (l : List Kind). Key ∷ l) (append-nil a)))),
+  inr (inl (refl, (a, x.1, cc (append-nil a)))),
   both_parts x.2 y.1,
 )
 
@@ -58,8 +57,8 @@ marked_first R ks ps h =
 -- a key alone
 alone_join : (a b : List Kind) (p q : List Part) → IsNodeOf InFlow a p → IsSkipped b q → IsPairOf (a ++ b) (p ++ q)
 alone_join a b p q x y =
-    let tokens : a ++ b ≡ a = ap (λ (l : List Kind). a ++ l) y.0 ∙ append-nil a in
-    (x.0, forest.left_out, inr (inr (inr (refl, subst (YieldsNode x.0 InFlow) (sym tokens) x.1))), both_parts x.2 y.1)
+    let tokens : a ++ b ≡ a = cc (append-nil a) in
+    (x.0, forest.left_out, inr (inr (inr (refl, rw tokens x.1))), both_parts x.2 y.1)
 
 alone_first : (R : Claim) (ks : List Kind) (ps : List Part)
     → Then (IsNodeOf InFlow) (Then IsSkipped (InMapping R)) ks ps → AtFirst R ks ps
@@ -68,19 +67,15 @@ alone_first R ks ps h = pair_first R ks ps
 
 -- a value alone
 others_begin : (qs : Pairs) (t u : List Kind) → YieldOtherFlowPairs qs t → BeginsWithValue (t ++ FlowMappingEnd ∷ u) → ⊥
-others_begin NoPair t u (inl h) =
-    subst (λ (l : List Kind). BeginsWithValue (l ++ FlowMappingEnd ∷ u) → ⊥) (sym h) (λ z. z)
-others_begin NoPair t u (inr h) =
-    subst (λ (l : List Kind). BeginsWithValue (l ++ FlowMappingEnd ∷ u) → ⊥) (sym h) (λ z. z)
-others_begin (MorePairs key value qs) t u h =
-    subst (λ (l : List Kind). BeginsWithValue (l ++ FlowMappingEnd ∷ u) → ⊥) (sym h.4) (λ z. z)
+others_begin NoPair t u (inl h) = rw h (λ z. z)
+others_begin NoPair t u (inr h) = rw h (λ z. z)
+others_begin (MorePairs key value qs) t u h = rw h.4 (λ z. z)
 
 no_value : (R : Claim) (ks : List Kind) (ps : List Part) → InMapping R ks ps → BeginsWithValue ks → ⊥
 no_value R ks ps h =
     let g : Then (Exactly (FlowMappingEnd ∷ []) (CloseMapping ∷ [])) R h.back h.second = h.goes_on in
-    subst (λ (l : List Kind). BeginsWithValue l → ⊥)
-    (sym (h.kinds_are ∙ ap (λ (l : List Kind). h.front ++ l)
-    (g.kinds_are ∙ ap (λ (l : List Kind). l ++ g.back) g.begins.0)))
+    rw (h.kinds_are ∙ ap (λ (l : List Kind). h.front ++ l) (g.kinds_are ∙ ap (λ (l : List Kind). l ++ g.back)
+    g.begins.0))
     (others_begin h.begins.0 h.front g.back h.begins.1)
 
 keyless : (R : Claim) (front back ks : List Kind) (first second ps : List Part)
@@ -100,10 +95,10 @@ keyless R front back ks first second ps (inl v) h e q b = record {
   );
   goes_on = h;
   kinds_are = e;
-  parts_are = ap (λ (l : List Part). Leaf forest.no_properties Plain [] ∷ l) q;
+  parts_are = simp q;
 }
 keyless R front back ks first second ps (inr v) h e q b =
-    absurd (no_value R back second h (subst BeginsWithValue (e ∙ ap (λ (l : List Kind). l ++ back) v.0) b))
+    absurd (no_value R back second h (rw (e ∙ ap (λ (l : List Kind). l ++ back) v.0) at b))
 
 keyless_first : (R : Claim) (ks : List Kind) (ps : List Part) → Then (IsAnyValueOf InFlow) (InMapping R) ks ps
     → BeginsWithValue ks → AtFirst R ks (Leaf forest.no_properties Plain [] ∷ ps)

@@ -1,6 +1,6 @@
 -- A node is turned, with its properties.
 use Rattle.event_laws.proofs.OwnTokens.{HasOwn, whole, StartsAt, content_spans, content_is, no_opening}
-use Rattle.event_laws.specs.EventsTaken.{IsAnchorKind, IsTagKind}
+use Rattle.event_laws.specs.EventsTaken.{IsTagKind}
 use Rattle.std.proofs.Common.{◌≡◌, ℕ, List, [], ◌∷◌, ◌++◌, Option, Some, None, option_map, encode_utf8_all, Result, Ok, Err, refl, sym, ap, ◌∙◌, subst, ◌⊎◌, inl, inr, append_assoc, arith}
 use Rattle.saphyr_scalar.specs.declared.scalar.position.Marker.{Marker}
 use Rattle.saphyr_scalar.specs.declared.scalar.position.Span.{Span}
@@ -38,7 +38,7 @@ use Rattle.event_laws.proofs.Turned.Content.{place_of, IsPairState, Suits, NodeT
 has_node : (ns : Nodes) (t u ks : List Kind) → YieldBlockEntries ns t → ks ≡ t ++ u → (BeginsWithEntry u → ⊥)
     → BeginsWithEntry ks → HasNode ns
 has_node NoNode t u ks h e n b =
-    n (subst (λ (l : List Kind). BeginsWithEntry l) (e ∙ ap (λ (l : List Kind). l ++ u) h) b)
+    n (rw (e ∙ ap (λ (l : List Kind). l ++ u) h) at b)
 has_node (MoreNodes node nodes) t u ks h e n b = tt
 
 indentless_makes : (p : forest.Properties) (front : List Kind) (s : State) (ss : List State) (ks : List Kind)
@@ -47,9 +47,9 @@ indentless_makes : (p : forest.Properties) (front : List Kind) (s : State) (ss :
     → Then (IsNodeOf InBlockMapping) (FollowsStates s ss) (front ++ ks) (OpenSequence p ∷ ps)
 indentless_makes p front s ss ks ps h i g b =
     let g2 : Then (Exactly [] (CloseSequence ∷ [])) (FollowsStates s ss) g.back g.second = g.goes_on in
-    let rest : g.back ≡ g2.back = g2.kinds_are ∙ ap (λ (l : List Kind). l ++ g2.back) g2.begins.0 in
+    let rest : g.back ≡ g2.back = cc in
     let some : HasNode g.begins.0 = has_node g.begins.0 g.front g2.back ks g.begins.1
-    (g.kinds_are ∙ ap (λ (l : List Kind). g.front ++ l) rest) (no_entry s ss g2.back g2.second i g2.goes_on) b in
+    (cc) (no_entry s ss g2.back g2.second i g2.goes_on) b in
     record {
       front = front ++ g.front;
       back = g2.back;
@@ -57,13 +57,8 @@ indentless_makes p front s ss ks ps h i g b =
       second = g2.second;
       begins = (forest.Seq p g.begins.0, (front, g.front, h, inr (inr (tt, some, g.begins.1)), refl), refl);
       goes_on = g2.goes_on;
-      kinds_are = ap (λ (l : List Kind). front ++ l) (g.kinds_are ∙ ap (λ (l : List Kind). g.front ++ l) rest)
-          ∙ sym (append_assoc front g.front g2.back);
-      parts_are = ap (λ (l : List Part). OpenSequence p ∷ l)
-          (g.parts_are ∙ ap (λ (l : List Part). g.first ++ l)
-          (g2.parts_are ∙ ap (λ (l : List Part). l ++ g2.second) g2.begins.1)
-          ∙ ap (λ (l : List Part). l ++ (CloseSequence ∷ g2.second)) g.begins.2
-          ∙ sym (append_assoc (entry_parts g.begins.0) (CloseSequence ∷ []) g2.second));
+      kinds_are = cc (append_assoc front g.front g2.back);
+      parts_are = cc (append_assoc (entry_parts g.begins.0) (CloseSequence ∷ []) g2.second);
     }
 
 indentless_goes : (t : Piece) (p : forest.Properties) (q : NodeProperties) (front : List Piece) (span : Span)
@@ -84,8 +79,7 @@ indentless_goes t p q front span ts r s ss e k i h a o = record {
   few = h.enough;
   places = o;
   alive = (tt, a);
-  makes = λ ks ps f st. indentless_makes p (kinds front) s ss ks ps h.are i f
-      (st (subst (λ (l : Kind). BeginsWithEntry (l ∷ kinds ts)) (sym k) tt));
+  makes = λ ks ps f st. indentless_makes p (kinds front) s ss ks ps h.are i f (st (rw k tt));
 }
 
 -- a collection that block style alone allows
@@ -105,7 +99,7 @@ anchor_front text t e k =
       are = ap (λ (l : Kind). l ∷ []) k;
       has = record { anchor_is = refl; tag_is = refl };
       enough = omega arith;
-      shape = (inl (subst IsAnchorKind (sym k) tt), refl, refl);
+      shape = (inl (rw k tt), refl, refl);
     }
 
 tag_token_is : (g : Tag) → IsTagKind (tag_token g)
@@ -117,9 +111,9 @@ tag_is : (e : Memory) (g : Tag) (v : ResolvedTag) (t : Piece) → t.kind ≡ tag
     (record { start = t.span.start; behind = t.span.end; anchor = 0; tag = Some v }) (t ∷ [])
 tag_is e g v t k h = record {
   are = ap (λ (l : Kind). l ∷ []) k;
-  has = record { anchor_is = refl; tag_is = ap (option_map (λ v. let o : Option ResolvedTag = Some v in o)) h };
+  has = record { anchor_is = refl; tag_is = cc };
   enough = omega arith;
-  shape = (inr (subst IsTagKind (sym k) (tag_token_is g)), refl, refl);
+  shape = (inr (rw k (tag_token_is g)), refl, refl);
 }
 
 both_front : (text : List ℕ) (g : Tag) (v : ResolvedTag) (t u : Piece) (e : Memory)
@@ -129,18 +123,17 @@ both_front : (text : List ℕ) (g : Tag) (v : ResolvedTag) (t u : Piece) (e : Me
     (record { start = t.span.start; behind = u.span.end; anchor = next_id e.anchors; tag = Some v }) (t ∷ u ∷ [])
 both_front text g v t u e (inl k) h =
     record {
-      are = inl (ap (λ (l : Kind). l ∷ u.kind ∷ []) k.0
-          ∙ ap (λ (l : Kind). tokens.Anchor (encode_utf8_all text) ∷ l ∷ []) k.1);
-      has = record { anchor_is = refl; tag_is = ap (option_map (λ v. let o : Option ResolvedTag = Some v in o)) h };
+      are = inl (cc);
+      has = record { anchor_is = refl; tag_is = cc };
       enough = omega arith;
-      shape = (inl (subst IsAnchorKind (sym k.0) tt, subst IsTagKind (sym k.1) (tag_token_is g)), refl, refl);
+      shape = (inl (rw k.0 tt, rw k.1 (tag_token_is g)), refl, refl);
     }
 both_front text g v t u e (inr k) h =
     record {
-      are = inr (ap (λ (l : Kind). l ∷ u.kind ∷ []) k.0 ∙ ap (λ (l : Kind). tag_token g ∷ l ∷ []) k.1);
-      has = record { anchor_is = refl; tag_is = ap (option_map (λ v. let o : Option ResolvedTag = Some v in o)) h };
+      are = inr (cc);
+      has = record { anchor_is = refl; tag_is = cc };
       enough = omega arith;
-      shape = (inr (subst IsTagKind (sym k.0) (tag_token_is g), subst IsAnchorKind (sym k.1) tt), refl, refl);
+      shape = (inr (rw k.0 (tag_token_is g), rw k.1 tt), refl, refl);
     }
 
 -- ## Nodes
@@ -162,9 +155,7 @@ module _ (c : NodeContext) (r : Option Refusal) (x s : State) (ss : List State) 
       (before ts (noted p.anchor e)))
   scalar_turned style text value sp front p q ts v h b =
       let t : Piece = piece_of (tokens.Scalar style (encode_utf8_all value)) sp in
-      subst (λ (w : List ℕ). TurnedNode (front ++ piece_of (tokens.Scalar style w) sp ∷ ts)
-      (node_content_at (tokens.Scalar style w) q c (piece_of (tokens.Scalar style w) sp)
-      (before ts (noted p.anchor e)))) (sym v)
+      rw v
       (leaf_goes p q front r s ss e h a (t ∷ []) style value (record { start = q.start; end = sp.end }) (place_of c) ts
       (inl refl)
       (whole _ _ _ (inl (content_is t.kind front q t refl h.shape, content_spans front q t h.shape b))))
@@ -181,7 +172,7 @@ module _ (c : NodeContext) (r : Option Refusal) (x s : State) (ss : List State) 
       (λ u f v g i. (
         forest.Seq p g.0,
         (f, tokens.FlowSequenceStart ∷ (u ++ tokens.FlowSequenceEnd ∷ []), i, inl (u, g.1, refl), refl),
-        ap (λ (l : List Part). OpenSequence p ∷ (l ++ CloseSequence ∷ [])) g.2,
+        cc,
       )) b
   content_turned tokens.FlowMappingStart sp front p q ts w h b =
       collection_goes p q front r s ss e h a FirstPairs tokens.FlowMappingStart tokens.FlowMappingEnd
@@ -190,7 +181,7 @@ module _ (c : NodeContext) (r : Option Refusal) (x s : State) (ss : List State) 
       (λ u f v g i. (
         forest.Map p g.0,
         (f, tokens.FlowMappingStart ∷ (u ++ tokens.FlowMappingEnd ∷ []), i, inl (u, g.1, refl), refl),
-        ap (λ (l : List Part). OpenMapping p ∷ (l ++ CloseMapping ∷ [])) g.2,
+        cc,
       )) b
   content_turned tokens.BlockSequenceStart sp front p q ts w h b =
       where_block c (NodeThen c s ss) e _ _ _ (λ allowed. collection_goes p q front r s ss e h a BlockEntries
@@ -199,7 +190,7 @@ module _ (c : NodeContext) (r : Option Refusal) (x s : State) (ss : List State) 
       (λ u f v g i. (
         forest.Seq p g.0,
         (f, tokens.BlockSequenceStart ∷ (u ++ tokens.BlockEnd ∷ []), i, inr (inl (allowed, (u, g.1, refl))), refl),
-        ap (λ (l : List Part). OpenSequence p ∷ (l ++ CloseSequence ∷ [])) g.2,
+        cc,
       )) b) (alone_turned p q front r s ss e h a _ c ts x)
   content_turned tokens.BlockMappingStart sp front p q ts w h b =
       where_block c (NodeThen c s ss) e _ _ _ (λ allowed. collection_goes p q front r s ss e h a BlockPairs
@@ -208,7 +199,7 @@ module _ (c : NodeContext) (r : Option Refusal) (x s : State) (ss : List State) 
       (λ u f v g i. (
         forest.Map p g.0,
         (f, tokens.BlockMappingStart ∷ (u ++ tokens.BlockEnd ∷ []), i, inr (allowed, (u, g.1, refl)), refl),
-        ap (λ (l : List Part). OpenMapping p ∷ (l ++ CloseMapping ∷ [])) g.2,
+        cc,
       )) b) (alone_turned p q front r s ss e h a _ c ts x)
   content_turned tokens.BlockEntry sp front p q ts w h b = by c z
     where
@@ -272,8 +263,7 @@ module _ (c : NodeContext) (r : Option Refusal) (x s : State) (ss : List State) 
       content_turned k sp (t ∷ []) (record { anchor = Some text; tag = None }) _ us wk (anchor_front text t e h) tt
 
   anchored_turned : (ts : List Piece) (text : List ℕ) (t : Piece) → t.kind ≡ tokens.Anchor (encode_utf8_all text)
-      → AreWellFormed ts
-      → TurnedNode (t ∷ ts) (node_behind_anchor (encode_utf8_all text) t.span c (before ts e))
+      → AreWellFormed ts → TurnedNode (t ∷ ts) (node_behind_anchor (encode_utf8_all text) t.span c (before ts e))
   unfolding node_behind_anchor
   anchored_turned [] text t h w = tt
   anchored_turned (u ∷ us) text t h w = behind_anchor_turned u.kind u.span text t us h w.0 w.2
@@ -294,8 +284,7 @@ module _ (c : NodeContext) (r : Option Refusal) (x s : State) (ss : List State) 
       content_turned k sp (t ∷ []) (record { anchor = None; tag = Some g }) _ us wk (tag_is e g v t h found) tt
 
   tagged_from : (ts : List Piece) (g : Tag) (v : ResolvedTag) (t : Piece) → t.kind ≡ tag_token g
-      → resolve e.prefixes g ≡ Some v → AreWellFormed ts
-      → TurnedNode (t ∷ ts)
+      → resolve e.prefixes g ≡ Some v → AreWellFormed ts → TurnedNode (t ∷ ts)
       (taken_token (before ts e) >>= (λ u. node_behind_tag_at u.0.kind v t.span c u.0 u.1))
   tagged_from [] g v t h found w = tt
   tagged_from (u ∷ us) g v t h found w = behind_tag_turned u.kind u.span g v t us h found w.0 w.2

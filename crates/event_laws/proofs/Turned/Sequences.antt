@@ -1,6 +1,6 @@
 -- The steps inside flow sequences are turned.
 use Rattle.event_laws.proofs.OwnTokens.{whole}
-use Rattle.std.proofs.Common.{◌≡◌, List, [], ◌∷◌, ◌++◌, refl, sym, ap, ◌∙◌, subst, ◌⊎◌, inl, inr, append-nil, arith}
+use Rattle.std.proofs.Common.{◌≡◌, List, [], ◌∷◌, ◌++◌, refl, ap, ◌∙◌, ◌⊎◌, inl, inr, append-nil, arith}
 use Rattle.saphyr_scalar.specs.declared.scalar.position.Marker.{Marker}
 use Rattle.saphyr_scanner.specs.Grammar.Forest.{Node, Map, Nodes, NoNode, MoreNodes, NoPair, MorePairs}
 use Rattle.saphyr_scanner.specs.Grammar.Forest as forest
@@ -57,27 +57,21 @@ pair_join a b p q x (inl y) = (x.0, y.0, inl (Key ∷ a, b, (a, x.1, refl), y.1,
 pair_join a b p q x (inr y) = (
   x.0,
   forest.left_out,
-  inr (
-    refl,
-    (a, x.1, ap (λ (l : List Kind). Key ∷ (a ++ l)) y.0 ∙ ap (λ (l : List Kind). Key ∷ l) (append-nil a)),
-  ),
+  inr (refl, (a, x.1, cc (append-nil a))),
   both_parts x.2 y.1,
 )
 
 single_parts : (key value : Node) (p : List Part) → p ≡ node_parts key ++ node_parts value
     → (let l : List Part = OpenMapping forest.no_properties ∷ (p ++ CloseMapping ∷ []) in l)
     ≡ node_parts (Map forest.no_properties (MorePairs key value NoPair))
-single_parts key value p e =
-    ap (λ (l : List Part). OpenMapping forest.no_properties ∷ (l ++ CloseMapping ∷ []))
-    (e ∙ ap (λ (l : List Part). node_parts key ++ l) (sym (append-nil (node_parts value))))
+single_parts key value p e = cc (append-nil (node_parts value))
 
 single_join : (a b : List Kind) (p q : List Part) → IsPairInside a p → Exactly [] (CloseMapping ∷ []) b q
     → IsEntryOf (Key ∷ (a ++ b)) (OpenMapping forest.no_properties ∷ (p ++ q))
 single_join a b p q x y =
-    let tokens : a ++ b ≡ a = ap (λ (l : List Kind). a ++ l) y.0 ∙ append-nil a in
+    let tokens : a ++ b ≡ a = cc (append-nil a) in
     let whole : YieldsSinglePair x.0 x.1 (YieldsNode x.0 InFlow) (YieldsNode x.1 InFlow) (Key ∷ (a ++ b)) =
-    subst (λ (l : List Kind). YieldsSinglePair x.0 x.1 (YieldsNode x.0 InFlow) (YieldsNode x.1 InFlow) (Key ∷ l))
-    (sym tokens) x.2 in (
+    rw tokens x.2 in (
       Map forest.no_properties (MorePairs x.0 x.1 NoPair),
       inr (refl, whole),
       ap

@@ -37,8 +37,7 @@ named_test b =
     let l : length h - 1 ≡ length (33 ∷ b) = let a = length-append b (33 ∷ []) in omega (arith, a) in
     let long : nat_le 2 (length h) ≡ true =
     le-leb 2 (length h) (let a = length-append b (33 ∷ []) in omega (arith, a)) in
-    let last : slice_index h (length h - 1) ≡ 33 = ap (λ (n : ℕ). slice_index h n) l
-    ∙ get_or-append_seam (33 ∷ b) 33 [] 0 in
+    let last : slice_index h (length h - 1) ≡ 33 = cc (get_or-append_seam (33 ∷ b) 33 [] 0) in
     rw long (eq-eqb (slice_index h (length h - 1)) 33 last)
 
 named_handle : (word : List ℕ) → is_named_handle (handle_bytes (Named word)) ≡ true
@@ -47,8 +46,7 @@ named_handle word = ap is_named_handle (sym (scalar.bytes_of_handle word)) ∙ n
 -- ## What a handle stands for
 
 prefix_found : (o : Option (List ℕ)) (u : Result (List ℕ) Refusal) (d : Option (List ℕ)) (suffix : List ℕ)
-    (v : ResolvedTag)
-    → ((prefix : List ℕ) → u ≡ Ok prefix → d ≡ Some prefix)
+    (v : ResolvedTag) → ((prefix : List ℕ) → u ≡ Ok prefix → d ≡ Some prefix)
     → (declared_prefix_or o u >>= (λ prefix. let x : Result ResolvedTag Refusal =
     Ok (record { handle = prefix; suffix = suffix }) in x)) ≡ Ok v
     → option_map (λ prefix. let t : ResolvedTag = record { handle = prefix; suffix = suffix } in t) (option_or o d)
@@ -71,10 +69,7 @@ shorthand handle suffix names place v h e = record {
   token = refl;
   resolves = prefix_found (meaning (handle_bytes handle) names) (undeclared_prefix (handle_bytes handle) place)
       (default_prefix handle) (encode_utf8_all suffix) v h
-      (ap (λ (p : Result (List ℕ) Refusal). p
-      >>= (λ prefix. let x : Result ResolvedTag Refusal =
-      Ok (record { handle = prefix; suffix = encode_utf8_all suffix }) in x))
-      (sym (has_handle (handle_bytes handle) names place (handle_is_some handle))) ∙ e);
+      (cc (has_handle (handle_bytes handle) names place (handle_is_some handle)));
 }
 
 primary_default : (place : Marker) (prefix : List ℕ) → undeclared_prefix (handle_bytes Primary) place ≡ Ok prefix
@@ -153,6 +148,4 @@ stands names handle suffix place v h e =
     let parts : (handle ≡ front h.0) × (suffix ≡ back h.0) = tag_parts handle suffix (front h.0) (back h.0)
     (h.1 ∙ sym (token_is h.0)) in
     subst (λ (x : List ℕ). resolved_tag_at names x suffix place ≡ Ok v → ResolvesTo names x suffix v) (sym parts.0)
-    (subst (λ (y : List ℕ). resolved_tag_at names (front h.0) y place ≡ Ok v → ResolvesTo names (front h.0) y v)
-    (sym parts.1)
-    (tag_stands h.0 names place v)) e
+    (rw parts.1 (tag_stands h.0 names place v)) e

@@ -1,7 +1,7 @@
 -- What a step of the machine makes of what may follow.
 use Rattle.event_laws.proofs.OwnTokens.{HasOwn, behind_own}
 use Rattle.event_laws.specs.EventsTaken.{BelongsToNone}
-use Rattle.std.proofs.Common.{◌≡◌, ◌≤◌, List, [], ◌∷◌, ◌++◌, length, Option, Some, Result, Ok, Err, refl, sym, ap, ◌∙◌, subst, append_assoc, arith}
+use Rattle.std.proofs.Common.{◌≡◌, ◌≤◌, List, [], ◌∷◌, ◌++◌, length, Option, Some, Result, Ok, Err, refl, ap, append_assoc, arith}
 use Rattle.saphyr_scalar.specs.declared.scalar.position.Span.{Span}
 use Rattle.saphyr_scalar.specs.declared.scalar.fault.Refusal.{Refusal}
 use Rattle.saphyr_scanner.specs.Grammar.Tokens.{Kind}
@@ -84,7 +84,7 @@ behind t F G e k (Err f) b i h = tt
 
 pub kinds_append : (a b : List Piece) → kinds (a ++ b) ≡ kinds a ++ kinds b
 kinds_append [] b = refl
-kinds_append (t ∷ a) b = ap (λ (l : List Kind). t.kind ∷ l) (kinds_append a b)
+kinds_append (t ∷ a) b = cc (kinds_append a b)
 
 -- ## Lists with their parts
 
@@ -101,10 +101,8 @@ regroup A B C D ks ps join h =
       second = g.second;
       begins = join h.front g.front h.first g.first h.begins g.begins;
       goes_on = g.goes_on;
-      kinds_are = h.kinds_are ∙ ap (λ (l : List Kind). h.front ++ l) g.kinds_are
-          ∙ sym (append_assoc h.front g.front g.back);
-      parts_are = h.parts_are ∙ ap (λ (l : List Part). h.first ++ l) g.parts_are
-          ∙ sym (append_assoc h.first g.first g.second);
+      kinds_are = cc (append_assoc h.front g.front g.back);
+      parts_are = cc (append_assoc h.first g.first g.second);
     }
 
 -- other lists in front
@@ -117,8 +115,8 @@ replace A B D u w ks ps join h = record {
   second = h.second;
   begins = join h.front h.first h.begins;
   goes_on = h.goes_on;
-  kinds_are = ap (λ (l : List Kind). u ++ l) h.kinds_are ∙ sym (append_assoc u h.front h.back);
-  parts_are = ap (λ (l : List Part). w ++ l) h.parts_are ∙ sym (append_assoc w h.first h.second);
+  kinds_are = cc (append_assoc u h.front h.back);
+  parts_are = cc (append_assoc w h.first h.second);
 }
 
 -- these lists before all
@@ -144,7 +142,7 @@ join_behind A B C D u w ks ps join h =
     (regroup A B C (λ a p. D (u ++ a) (w ++ p)) ks ps join h)
 
 pub both_parts : {a b p q : List Part} → p ≡ a → q ≡ b → p ++ q ≡ a ++ b
-both_parts {a = a} {q = q} e f = ap (λ (l : List Part). l ++ q) e ∙ ap (λ (l : List Part). a ++ l) f
+both_parts {a = a} {q = q} e f = cc
 
 -- between an opening and a closing
 pub around : (A R D : Claim) (u close : List Kind) (opening closing : Part) (ks : List Kind)
@@ -152,5 +150,4 @@ pub around : (A R D : Claim) (u close : List Kind) (opening closing : Part) (ks 
     → Then A (Then (Exactly close (closing ∷ [])) R) ks ps → Then D R (u ++ ks) (opening ∷ ps)
 around A R D u close opening closing ks ps join h =
     join_behind A (Exactly close (closing ∷ [])) R D u (opening ∷ []) ks ps
-    (λ a b p q x y. subst (λ (l : List Kind). D (u ++ (a ++ l)) (opening ∷ (p ++ q))) (sym y.0)
-    (subst (λ (l : List Part). D (u ++ (a ++ close)) (opening ∷ (p ++ l))) (sym y.1) (join a p x))) h
+    (λ a b p q x y. rw (y.0, y.1) (join a p x)) h

@@ -3,12 +3,10 @@ use Rattle.saphyr_machine.proofs.Calls.Handing.{advances}
 use Rattle.event_laws.proofs.Settings.{sets, sets_behind}
 use Rattle.event_laws.proofs.sets_at_document_ends.Goals as goal
 
-pub returns-clause-step : goal.returns-clause-step
-returns-clause-step c = λ m keep other. sets keep m other
-
-pub returns-clause-event : goal.returns-clause-event
-returns-clause-event c = λ e old new keep other h. sets_behind e old new keep other h
-
-pub returns-clause-list : goal.returns-clause-list
-returns-clause-list c = λ e old new keep other h. advances e (keeping_tags keep old) (keeping_tags keep new)
-    (sets_behind e old new keep other h)
+pub returns : goal.returns
+returns c = record {
+  step = λ m keep other. sets keep m other;
+  event = λ e old new keep other h. sets_behind e old new keep other h;
+  list = λ e old new keep other h. advances e (keeping_tags keep old) (keeping_tags keep new)
+      (sets_behind e old new keep other h);
+}
