@@ -1,5 +1,5 @@
 -- How texts begin, and sets that all characters of a text are in.
-use Rattle.std.proofs.Common.{◌≡◌, ◌≢◌, ℕ, ◌⊎◌, Bool, true, false, List, [], ◌∷◌, ◌++◌, inl, inr, refl, sym, ◌∙◌, codes, ap, subst, slice_index, IsTrue, append_assoc}
+use Rattle.std.proofs.Common.{◌≡◌, ◌≢◌, ℕ, ◌⊎◌, Bool, true, false, List, [], ◌∷◌, ◌++◌, inl, inr, refl, sym, ◌∙◌, codes, ap, slice_index, IsTrue, append_assoc}
 use Rattle.std.specs.Prelude.{◌==◌, not}
 use Rattle.saphyr_input.specs.Indicators.{number_sign, percent_sign}
 use Rattle.saphyr_input.specs.Classes.{is_blank, line_feed}
@@ -39,10 +39,10 @@ both_in set [] b h k = k
 both_in set (c ∷ cs) b h k = (h.0, both_in set cs b h.1 k)
 
 pub behind_in : (set : ℕ → Bool) (t a b : List ℕ) → t ≡ a ++ b → AreIn set t → AreIn set b
-behind_in set t a b e h = back_in set a b (subst (λ (u : List ℕ). AreIn set u) e h)
+behind_in set t a b e h = back_in set a b (rw e at h)
 
 pub before_in : (set : ℕ → Bool) (t a b : List ℕ) → t ≡ a ++ b → AreIn set t → AreIn set a
-before_in set t a b e h = front_in set a b (subst (λ (u : List ℕ). AreIn set u) e h)
+before_in set t a b e h = front_in set a b (rw e at h)
 
 -- a character outside the set is nowhere
 pub lacks : (set : ℕ → Bool) (c : ℕ) (t a b : List ℕ) → set c ≡ false → t ≡ a ++ (c ∷ b) → AreIn set t → ⊥
@@ -58,8 +58,7 @@ abbrev pub IsFirst : ℕ → Type 0
 IsFirst c = IsTrue (is_blank c) ⊎ ((c ≡ 35) ⊎ (c ≡ 10))
 
 pub no_first : (d c : ℕ) (rest cs : List ℕ) → is_blank d ≡ false → d ≢ number_sign → d ≢ line_feed → IsFirst c
-    → d ∷ rest ≡ c ∷ cs
-    → ⊥
+    → d ∷ rest ≡ c ∷ cs → ⊥
 no_first d c rest cs x y z (inl e) f = absurd (clash (is_blank d) (ap is_blank (sym (heads d c rest cs f)) ∙ e) x)
 no_first d c rest cs x y z (inr (inl e)) f = y (sym (heads d c rest cs f) ∙ e)
 no_first d c rest cs x y z (inr (inr e)) f = z (sym (heads d c rest cs f) ∙ e)
@@ -101,5 +100,4 @@ pub no_feed_no_filler : (t : List ℕ) → AreIn (λ c. not (c == line_feed)) t 
 no_feed_no_filler t h ([], each, e) = e
 no_feed_no_filler t h (piece ∷ pieces, (line, each), e) =
     absurd (lacks (λ c. not (c == 10)) 10 t line.0 (joined_pieces pieces) refl
-    (e ∙ ap (λ (x : List ℕ). x ++ joined_pieces pieces) line.2 ∙ append_assoc line.0 (10 ∷ [])
-    (joined_pieces pieces)) h)
+    (cc (append_assoc line.0 (10 ∷ []) (joined_pieces pieces))) h)

@@ -1,5 +1,5 @@
 -- Where a block scalar is spelled, it is read.
-use Rattle.std.proofs.Common.{◌≡◌, ◌≢◌, ℕ, zero, suc, ◌+◌, ◌-◌, ◌^◌, ◌<◌, ◌≤◌, Bool, true, false, List, [], ◌∷◌, ◌++◌, length, slice_index, min, max, Result, Ok, refl, sym, ap, inl, inr, ◌∙◌, arith, subst, nat_eq, nat_lt, nat_le, encode_utf8_all}
+use Rattle.std.proofs.Common.{◌≡◌, ◌≢◌, ℕ, zero, suc, ◌+◌, ◌-◌, ◌^◌, ◌<◌, ◌≤◌, Bool, true, false, List, [], ◌∷◌, ◌++◌, length, slice_index, min, max, Ok, refl, sym, ap, inl, inr, ◌∙◌, arith, subst, nat_eq, nat_lt, nat_le, encode_utf8_all}
 use Rattle.std.specs.Prelude.{◌||◌, ◌&&◌, ◌==◌, not, Option, Some, None, unwrap_or, ◌⊎◌}
 use Rattle.std.proofs.lemmas.Bool.Decides.{nat_tests}
 use Rattle.saphyr_input.specs.Classes.{is_break, is_z, is_yaml_non_break}
@@ -9,9 +9,8 @@ use Rattle.saphyr_values.specs.declared.block.Chomping.{Chomping}
 use Rattle.saphyr_values.specs.declared.block.Chomping.TheVariants.{Strip, Clip, Keep}
 use Rattle.saphyr_scalar.specs.declared.scalar.position.Marker.{Marker}
 use Rattle.saphyr_scalar.specs.declared.scalar.position.Span.{Span}
-use Rattle.saphyr_scalar.specs.declared.scalar.fault.Refusal.{Refusal}
-use Rattle.saphyr_scalar.specs.Steps.Block.{BlockHeaderRead, EmptyLinesRead, pass_empty_lines, pass_empty_lines_at, between_at, tail, tail_alone, is_unfinished, is_indentation, line_starts, line_cursor, with_column, lines_ended, LinesRead, chomped_lines, content, behind_leading_lines, behind_header, block_scalar, header, no_lines, given_indentation, BlockScalarRead}
-use Rattle.saphyr_scalar.specs.Views.Cursor.{Cursor, along, ◌>>=◌}
+use Rattle.saphyr_scalar.specs.Steps.Block.{BlockHeaderRead, EmptyLinesRead, pass_empty_lines, pass_empty_lines_at, between_at, tail, tail_alone, is_unfinished, is_indentation, line_starts, line_cursor, with_column, lines_ended, chomped_lines, content, behind_leading_lines, behind_header, block_scalar, header, no_lines, given_indentation, BlockScalarRead}
+use Rattle.saphyr_scalar.specs.Views.Cursor.{Cursor, along}
 use Rattle.saphyr_scalar.specs.Reading.BlockLines.{spaces}
 use Rattle.scalar_laws.specs.Spelling.Block.{IsIndentation, found, given, IsBehind, IsBody, leading, first, first_and_last, AreEmptyLines, no_empty_lines, empty_line, empty_line_and_spaces, IsEmptyBody, empty_lines, spaces_alone, IsBlockScalar, IsTaken}
 use Rattle.saphyr_values.specs.Block.{Line, Empty, has_content, chomped_alone, lines_value}
@@ -85,8 +84,7 @@ content_read st c indent i n others start limit ls r l same =
     ∙ ap (λ k. line_feeds k ++ l.later) count ∙ sym all in
     let within : nat_lt r.1.mark.col j ≡ false = let at : j ≤ r.1.mark.col = omega (arith, same, l.column) in grind
     (arith, nat_tests) in
-    let no : (nat_lt r.1.mark.col j && nat_le indent r.1.mark.col) ≡ false =
-    ap (λ b. b && nat_le indent r.1.mark.col) within in
+    let no : (nat_lt r.1.mark.col j && nat_le indent r.1.mark.col) ≡ false = cc in
     let Goal : BlockScalarRead → Type 0 = λ x. x ≡ Ok (text, span, z.2) in
     let told =
     by_test (is_z (slice_index r.1.rest 0)) _ _ Goal (λ h. clash _ h (no_z (slice_index r.1.rest 0) l.starts))
@@ -108,8 +106,7 @@ content_read st c indent i n others start limit ls r l same =
 -- up to the text's end
 end_read : (st : BlockStyle) (c : Chomping) (indent i n : ℕ) (others : List ℕ) (start : Marker) (limit : Option ℕ)
     (ls : List Line) (r : EmptyLinesRead × Cursor) → has_content ls ≡ false → is_z (slice_index r.1.rest 0) ≡ true
-    → r.1.rest ≡ others → (r.1.mark.col ≡ n) ⊎ (others ≡ [])
-    → tail_alone c r.0.count r.1 ≡ chomped_alone c (length ls)
+    → r.1.rest ≡ others → (r.1.mark.col ≡ n) ⊎ (others ≡ []) → tail_alone c r.0.count r.1 ≡ chomped_alone c (length ls)
     → ScalarRead st c indent i n others start limit ls r
 unfolding behind_leading_lines
 end_read st c indent i n others start limit ls r no_content z rest column stays =
@@ -146,8 +143,7 @@ spaced_tail Strip s blank some = refl
 spaced_tail Clip s blank some = refl
 spaced_tail Keep s blank some = let far : nat_lt 0 s.mark.col ≡ true = grind (arith, nat_tests) in rw (blank, far) refl
 
-no_breaks_tail : (c : Chomping) (k : ℕ)
-    → tail c false (record { broken = false; empty_lines = k }) ≡ chomped_alone c k
+no_breaks_tail : (c : Chomping) (k : ℕ) → tail c false (record { broken = false; empty_lines = k }) ≡ chomped_alone c k
 no_breaks_tail Strip k = refl
 no_breaks_tail Clip k = refl
 no_breaks_tail Keep k = refl
@@ -172,23 +168,16 @@ left_read : (st : BlockStyle) (c : Chomping) (indent i n : ℕ) (x others : List
 unfolding behind_leading_lines content chomped_lines is_unfinished
 left_read st c indent i n x others start limit ls r no_content h p col others_no_z low high cond =
     let j = unwrap_or limit (max r.0.widest indent) in
-    let no_z : is_z (slice_index r.1.rest 0) ≡ false = ap (λ (xs : List ℕ). is_z (slice_index xs 0)) p.rest
-    ∙ others_no_z in
+    let no_z : is_z (slice_index r.1.rest 0) ≡ false = cc in
     let no_space : is_indentation (Some j) r.1.mark.col (slice_index r.1.rest 0) ≡ false =
-    ap (λ (xs : List ℕ). is_indentation (Some j) r.1.mark.col (slice_index xs 0)) p.rest
-    ∙ no_indentation (Some j) r.1.mark.col (slice_index others 0) (no_space_behind i n x others h) in
-    let no_break : is_break (slice_index r.1.rest 0) ≡ false = ap (λ (xs : List ℕ). is_break (slice_index xs 0)) p.rest
-    ∙ no_break_at (slice_index others 0) h.no_break h.no_return in
-    let no_start : line_starts j r.1.mark.col r.1.rest ≡ false =
-    ap (λ (xs : List ℕ). line_starts j r.1.mark.col xs) p.rest ∙ ap (λ k. line_starts j k others) col
-    ∙ none_starts j n others (λ e. not_here cond e) in
+    cc (no_indentation (Some j) r.1.mark.col (slice_index others 0) (no_space_behind i n x others h)) in
+    let no_break : is_break (slice_index r.1.rest 0) ≡ false = cc (no_break_at (slice_index others 0) h.no_break
+    h.no_return) in
+    let no_start : line_starts j r.1.mark.col r.1.rest ≡ false = cc (none_starts j n others (λ e. not_here cond e)) in
     let z = between_at st j None r.0.count r.1 in
     let ended : z ≡ lines_ended false r.0.count (line_cursor r.1.blank_so_far r.1.mark r.1.rest) =
     no_line_at st j None r.0.count r.1.blank_so_far r.1.mark r.1.rest no_space no_break no_start in
-    let value : z.0 ++ tail c (is_unfinished j z.2) z.1 ≡ chomped_alone c r.0.count =
-    ap (λ (y : LinesRead). y.0 ++ tail c (is_unfinished j y.2) y.1) ended
-    ∙ ap (λ b. tail c (b && nat_le (max j 1) r.1.mark.col) (record { broken = false; empty_lines = r.0.count })) no_z
-    ∙ no_breaks_tail c r.0.count in
+    let value : z.0 ++ tail c (is_unfinished j z.2) z.1 ≡ chomped_alone c r.0.count = cc (no_breaks_tail c r.0.count) in
     let no : (nat_lt r.1.mark.col j && nat_le indent r.1.mark.col) ≡ false = not_between cond in
     let Goal : BlockScalarRead → Type 0 = λ y. y
     ≡ Ok (encode_utf8_all (z.0 ++ tail c (is_unfinished j z.2) z.1), record { start = r.1.mark; end = z.2.mark }, z.2)
@@ -201,11 +190,11 @@ left_read st c indent i n x others start limit ls r no_content h p col others_no
       span = record { start = r.1.mark; end = z.2.mark };
       left = z.2;
       read = told;
-      rest = ap (λ (y : LinesRead). y.2.rest) ended ∙ p.rest;
-      column = inl (ap (λ (y : LinesRead). y.2.mark.col) ended ∙ col);
+      rest = cc;
+      column = inl (cc);
       begins = λ some. clash _ some no_content;
       end = refl;
-      value = ap encode_utf8_all (value ∙ ap (chomped_alone c) count ∙ none_value ls no_content);
+      value = ap encode_utf8_all (cc (none_value ls no_content));
     }
   where
     none_value : (ls : List Line) → has_content ls ≡ false → chomped_alone c (length ls) ≡ lines_value st c true ls
@@ -218,8 +207,7 @@ left_read st c indent i n x others start limit ls r no_content h p col others_no
     not_here (inr zero_is) e = at_start (h.no_content (omega (arith, zero_is, e, high)))
       where
         at_start : (is_yaml_non_break (slice_index others 0) ≡ false)
-            ⊎ ((i ≡ 0) × (is_document_indicator others ≡ true))
-            → (is_yaml_non_break (slice_index others 0) ≡ false)
+            ⊎ ((i ≡ 0) × (is_document_indicator others ≡ true)) → (is_yaml_non_break (slice_index others 0) ≡ false)
             ⊎ ((unwrap_or limit (max r.0.widest indent) ≡ 0) × (is_document_indicator others ≡ true))
         at_start (inl k) = inl k
         at_start (inr (_, k)) = inr (omega (arith, zero_is, high), k)
@@ -247,13 +235,12 @@ empty_read st c indent i n d is_given x others start ls r no_content ind h p con
     at_n : (r.1.mark.col ≡ n) ⊎ ((others ≡ []) × (1 ≤ length ls)) → is_z (slice_index others 0) ≡ false
         → r.1.mark.col ≡ n
     at_n (inl e) k = e
-    at_n (inr (e, _)) k = clash _ (ap (λ (xs : List ℕ). is_z (slice_index xs 0)) e) k
+    at_n (inr (e, _)) k = clash _ (cc) k
 
     left : (n < indent) ⊎ ((i ≡ 0) ⊎ (x ≡ [])) → is_z (slice_index others 0) ≡ false → (n < indent) ⊎ (i ≡ 0)
     left (inl e) k = inl e
     left (inr (inl e)) k = inr e
-    left (inr (inr e)) k =
-        clash _ (ap (λ (xs : List ℕ). is_z (slice_index xs 0)) (nothing_behind i n x others e h)) k
+    left (inr (inr e)) k = clash _ (cc (nothing_behind i n x others e h)) k
 
     count : r.0.count ≡ length ls
     count = omega (arith, p.count)
@@ -277,8 +264,7 @@ empty_read st c indent i n d is_given x others start ls r no_content ind h p con
     by_end : (z : Bool) → is_z (slice_index others 0) ≡ z
         → ScalarRead st c indent i n others start (given_indentation indent d) ls r
     by_end true k =
-        end_read st c indent i n others start (given_indentation indent d) ls r no_content
-        (ap (λ (xs : List ℕ). is_z (slice_index xs 0)) p.rest ∙ k) p.rest (column p.column)
+        end_read st c indent i n others start (given_indentation indent d) ls r no_content (cc) p.rest (column p.column)
         (plain_tail c r.0.count r.1 (no_space_alone p.column k) ∙ ap (chomped_alone c) count)
     by_end false k =
         let between = low_of indent i d r.0.widest is_given ind p.widest in
@@ -288,8 +274,7 @@ empty_read st c indent i n d is_given x others start ls r no_content ind h p con
 header_then : (st : BlockStyle) (indent : ℕ) (s : Cursor) (x : BlockHeaderRead × Cursor) (y : List ℕ × Span × Cursor)
     → header s ≡ Ok x → behind_header st indent s.mark x ≡ Ok y → block_scalar st indent s ≡ Ok y
 unfolding block_scalar
-header_then st indent s x y e f =
-    ap (λ (r : Result (BlockHeaderRead × Cursor) Refusal). r >>= behind_header st indent s.mark) e ∙ f
+header_then st indent s x y e f = cc
 
 behind_as : (st : BlockStyle) (indent : ℕ) (start : Marker) (h : BlockHeaderRead) (u : Cursor)
     → behind_header st indent start (h, u)
@@ -350,8 +335,7 @@ lines_read st c indent i n d is_given _ start b m x _ others ind h (inr (empty_l
     nothing_read no_empty_lines e =
         let r = pass_empty_lines (given_indentation indent d) no_lines b m x in
         let same : r ≡ (with_column no_lines m.col, line_cursor b m []) =
-        ap (pass_empty_lines (given_indentation indent d) no_lines b m) e
-        ∙ nothing_passed (given_indentation indent d) b m in
+        cc (nothing_passed (given_indentation indent d) b m) in
         let nothing = nothing_behind i n x others e h in
         subst (ScalarRead st c indent i n others start (given_indentation indent d) []) (sym same)
         (end_read st c indent i n others start (given_indentation indent d) [] (
@@ -406,6 +390,6 @@ each_read st c indent i n ls s body others is =
       column = w.column;
       start = w.begins;
       end = w.end;
-      taken = sym h.left ∙ told ∙ ap (λ xs. sound.lines ++ xs) w.rest;
+      taken = cc;
       value = w.value;
     }

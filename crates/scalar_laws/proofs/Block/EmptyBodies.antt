@@ -49,8 +49,7 @@ no_indentation (Some limit) col c h = rw (ne_eqb c 32 h) refl
 -- spaces, and after them what is no more of the indentation
 stopped : (i n : ℕ) (given : Bool) (limit : Option ℕ) (others : List ℕ) (before : EmptyLinesRead) (b : Bool)
     (m : Marker) → IsLimit i given limit → m.col + n ≤ i → slice_index others 0 ≢ 32
-    → is_break (slice_index others 0) ≡ false
-    → pass_empty_lines limit before b m (spaces n ++ others)
+    → is_break (slice_index others 0) ≡ false → pass_empty_lines limit before b m (spaces n ++ others)
     ≡ (with_column before (m.col + n), line_cursor b (along m n) others)
 stopped i n given limit others before b m l within no_space no_break =
     e_spaces i given limit before b n m others l within
@@ -76,12 +75,10 @@ none_passed i n given limit x others before b m l col wide h =
 
 -- spaces up to the text's end
 pub spaces_passed : (i : ℕ) (given : Bool) (limit : Option ℕ) (before : EmptyLinesRead) (b : Bool) (k : ℕ) (m : Marker)
-    → IsLimit i given limit → m.col ≡ 0 → k ≤ i
-    → pass_empty_lines limit before b m (spaces k)
+    → IsLimit i given limit → m.col ≡ 0 → k ≤ i → pass_empty_lines limit before b m (spaces k)
     ≡ (with_column before (m.col + k), line_cursor b (along m k) [])
 spaces_passed i given limit before b k m l col within =
-    ap (pass_empty_lines limit before b m) (sym (append-nil (spaces k)))
-    ∙ stopped i k given limit [] before b m l (omega arith) (λ e. cc) refl
+    cc (append-nil (spaces k), stopped i k given limit [] before b m l (omega arith) (λ e. cc) refl)
 
 one_more : (i n : ℕ) (others : List ℕ) (before : EmptyLinesRead) (w : ℕ) (ls : List Line)
     (r : EmptyLinesRead × Cursor) → Passed i n others (with_empty_line before w) ls r
@@ -101,8 +98,7 @@ one_more i n others before w ls r p = record {
 
 pub empty_passed : (i n : ℕ) (given : Bool) (limit : Option ℕ) (x others : List ℕ) (before : EmptyLinesRead) (b : Bool)
     (m : Marker) (ls : List Line) (t : List ℕ) → IsLimit i given limit → m.col ≡ 0 → before.widest ≤ i
-    → IsBehind i n x others → AreEmptyLines i x ls t
-    → Passed i n others before ls (pass_empty_lines limit before b m t)
+    → IsBehind i n x others → AreEmptyLines i x ls t → Passed i n others before ls (pass_empty_lines limit before b m t)
 empty_passed i n given limit x others before b m _ _ l col wide h no_empty_lines =
     none_passed i n given limit x others before b m l col wide h
 empty_passed i n given limit x others before b m _ _ l col wide h (empty_line j ls t within more) =

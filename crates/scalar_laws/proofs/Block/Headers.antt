@@ -15,7 +15,7 @@ use Rattle.saphyr_values.specs.declared.block.Chomping.TheVariants.{Strip, Clip,
 use Rattle.saphyr_scalar.specs.Spelling.Tag.{AreIn}
 use Rattle.saphyr_scalar.specs.declared.scalar.position.Marker.{Marker}
 use Rattle.saphyr_scalar.specs.declared.scalar.fault.Refusal.{Refusal}
-use Rattle.saphyr_scalar.specs.Views.Cursor.{Cursor, ◌>>=◌, pass, pass_blanks, pass_line, pass_break, separation, behind_separation}
+use Rattle.saphyr_scalar.specs.Views.Cursor.{Cursor, pass, pass_blanks, pass_line, pass_break, separation, behind_separation}
 use Rattle.saphyr_scalar.specs.Steps.Block.{chomping, indicator, header_break, header_end, last_chomping, header_behind, header}
 use Rattle.scalar_laws.specs.Spelling.Block.{IsIndicator, no_digit, digit, IsChomping, strip, clip, keep, IsHeaderEnd, no_comment, comment, no_comment_at_end, comment_at_end, IsHeader, digit_first, chomping_first}
 use Rattle.saphyr_input.proofs.Basics.Booleans.{and_false, clash, by_test, either}
@@ -26,8 +26,7 @@ behind_read : (text : List ℕ) (v : Cursor) → is_bom (slice_index v.rest 0) �
     → behind_separation Yes text v ≡ Ok (found_blanks Yes text, v)
 unfolding behind_separation
 behind_read text v e bare =
-    let no : (nat_lt 0 v.mark.col && is_bom (slice_index v.rest 0)) ≡ false =
-    ap (λ b. nat_lt 0 v.mark.col && b) e ∙ and_false (nat_lt 0 v.mark.col) in
+    let no : (nat_lt 0 v.mark.col && is_bom (slice_index v.rest 0)) ≡ false = cc (and_false (nat_lt 0 v.mark.col)) in
     let Goal : Result (SkipTabs × Cursor) Refusal → Type 0 = λ r. r ≡ Ok (found_blanks Yes text, v) in
     by_test (nat_lt 0 v.mark.col && is_bom (slice_index v.rest 0)) _ _ Goal (λ h. clash _ h no)
     (λ _. by_test (is_bare_comment Yes text) _ _ Goal (λ h. clash _ h bare) (λ _. refl))
@@ -35,7 +34,7 @@ behind_read text v e bare =
 feed_passed : (v : Cursor) (x : List ℕ) → v.rest ≡ line_feed ∷ x → pass_break v ≡ pass_line 1 v
 feed_passed v x e =
     let no : next_2_are v.rest 13 10 ≡ false = ap (λ (xs : List ℕ). next_2_are xs 13 10) e in
-    let yes : is_break (slice_index v.rest 0) ≡ true = ap (λ (xs : List ℕ). is_break (slice_index xs 0)) e in
+    let yes : is_break (slice_index v.rest 0) ≡ true = cc in
     let Goal : Cursor → Type 0 = λ s. s ≡ pass_line 1 v in
     by_test (next_2_are v.rest 13 10) _ _ Goal (λ h. clash _ h no)
     (λ _. by_test (is_break (slice_index v.rest 0)) _ _ Goal (λ _. refl) (λ h. clash _ yes h))
@@ -44,13 +43,11 @@ break_read : (start : Marker) (v : Cursor) (x : List ℕ) → v.rest ≡ line_fe
     → header_break start v ≡ Ok (pass_line 1 v)
 unfolding header_break
 break_read start v x e tab =
-    let yes : not (is_breakz (slice_index v.rest 0)) ≡ false = ap (λ (xs : List ℕ). not (is_breakz (slice_index xs 0)))
-    e in
+    let yes : not (is_breakz (slice_index v.rest 0)) ≡ false = cc in
     let passed = feed_passed v x e in
-    let left : (pass_break v).rest ≡ x = ap (λ (s : Cursor). s.rest) passed ∙ ap (drop 1) e in
+    let left : (pass_break v).rest ≡ x = cc in
     let none : nat_eq (slice_index x 0) 9 ≡ false = grind (arith, nat_tests) in
-    let no : nat_eq (slice_index (pass_break v).rest 0) 9 ≡ false =
-    ap (λ (xs : List ℕ). nat_eq (slice_index xs 0) 9) left ∙ none in
+    let no : nat_eq (slice_index (pass_break v).rest 0) 9 ≡ false = cc in
     let Goal : Result Cursor Refusal → Type 0 = λ r. r ≡ Ok (pass_line 1 v) in
     by_test (not (is_breakz (slice_index v.rest 0))) _ _ Goal (λ h. clash _ h yes)
     (λ _. by_test (nat_eq (slice_index (pass_break v).rest 0) 9) _ _ Goal (λ h. clash _ h no) (λ _. ap Ok passed))
@@ -58,7 +55,7 @@ break_read start v x e tab =
 none_passed : (v : Cursor) → v.rest ≡ [] → pass_break v ≡ v
 none_passed v e =
     let no : next_2_are v.rest 13 10 ≡ false = ap (λ (xs : List ℕ). next_2_are xs 13 10) e in
-    let nor : is_break (slice_index v.rest 0) ≡ false = ap (λ (xs : List ℕ). is_break (slice_index xs 0)) e in
+    let nor : is_break (slice_index v.rest 0) ≡ false = cc in
     let Goal : Cursor → Type 0 = λ s. s ≡ v in
     by_test (next_2_are v.rest 13 10) _ _ Goal (λ h. clash _ h no)
     (λ _. by_test (is_break (slice_index v.rest 0)) _ _ Goal (λ h. clash _ h nor) (λ _. refl))
@@ -66,12 +63,10 @@ none_passed v e =
 end_passed : (start : Marker) (v : Cursor) → v.rest ≡ [] → header_break start v ≡ Ok v
 unfolding header_break
 end_passed start v e =
-    let yes : not (is_breakz (slice_index v.rest 0)) ≡ false = ap (λ (xs : List ℕ). not (is_breakz (slice_index xs 0)))
-    e in
+    let yes : not (is_breakz (slice_index v.rest 0)) ≡ false = cc in
     let passed = none_passed v e in
     let left : (pass_break v).rest ≡ [] = ap (λ (s : Cursor). s.rest) passed ∙ e in
-    let no : nat_eq (slice_index (pass_break v).rest 0) 9 ≡ false = ap (λ (xs : List ℕ). nat_eq (slice_index xs 0) 9)
-    left in
+    let no : nat_eq (slice_index (pass_break v).rest 0) 9 ≡ false = cc in
     let Goal : Result Cursor Refusal → Type 0 = λ r. r ≡ Ok v in
     by_test (not (is_breakz (slice_index v.rest 0))) _ _ Goal (λ h. clash _ h yes)
     (λ _. by_test (nat_eq (slice_index (pass_break v).rest 0) 9) _ _ Goal (λ h. clash _ h no) (λ _. ap Ok passed))
@@ -94,8 +89,10 @@ header_end_at start s x e bare tab =
     let v = pass_blanks (separation_len Yes s.rest) s in
     record {
       end = pass_line 1 v;
-      read = ap (λ (r : Result (SkipTabs × Cursor) Refusal). r >>= λ y. header_break start y.1)
-          (behind_read s.rest v (ap (λ (xs : List ℕ). is_bom (slice_index xs 0)) e) bare) ∙ break_read start v x e tab;
+      read = cc (
+        behind_read s.rest v (ap (λ (xs : List ℕ). is_bom (slice_index xs 0)) e) bare,
+        break_read start v x e tab,
+      );
       rest = ap (drop 1) e;
       place = inl (refl, refl);
     }
@@ -107,8 +104,7 @@ text_end_at start s e bare dark =
     let v = pass_blanks (separation_len Yes s.rest) s in
     record {
       end = v;
-      read = ap (λ (r : Result (SkipTabs × Cursor) Refusal). r >>= λ y. header_break start y.1)
-          (behind_read s.rest v (ap (λ (xs : List ℕ). is_bom (slice_index xs 0)) e) bare) ∙ end_passed start v e;
+      read = cc (behind_read s.rest v (ap (λ (xs : List ℕ). is_bom (slice_index xs 0)) e) bare, end_passed start v e);
       rest = e;
       place = inr (refl, dark);
     }
@@ -145,17 +141,15 @@ all_dropped (x ∷ xs) = all_dropped xs
 
 pub end_read : (start : Marker) (s : Cursor) (d x : List ℕ) → s.rest ≡ d → IsHeaderEnd d x → slice_index x 0 ≢ 9
     → s.blank_so_far ≡ false → Ended start s x
-end_read start s _ x e (no_comment [] y h) tab dark =
-    header_end_at start s y (ap (λ (xs : List ℕ). drop (separation_len Yes xs) xs) e) (ap (is_bare_comment Yes) e) tab
+end_read start s _ x e (no_comment [] y h) tab dark = header_end_at start s y (cc) (ap (is_bare_comment Yes) e) tab
 end_read start s _ x e (no_comment (b ∷ bs) y h) tab dark =
     let d = (b ∷ bs) ++ (10 ∷ y) in
     let n = length (b ∷ bs) in
     let len : blank_len Yes d ≡ n = blanks_len (b ∷ bs) (10 ∷ y) h refl in
     let some : nat_eq n 0 ≡ false = grind (arith, nat_tests) in
     let behind : drop n d ≡ 10 ∷ y = drop-append_seam (b ∷ bs) (10 ∷ y) in
-    let sep : separation_len Yes d ≡ n = told_sep d n len some ∙ ap (λ xs. n + comment_len xs) behind ∙ add-zero n in
-    header_end_at start s y (ap (λ (xs : List ℕ). drop (separation_len Yes xs) xs) e ∙ ap (λ k. drop k d) sep ∙ behind)
-    (ap (is_bare_comment Yes) e ∙ no_bare d n len some) tab
+    let sep : separation_len Yes d ≡ n = cc (told_sep d n len some, add-zero n) in
+    header_end_at start s y (cc) (cc (no_bare d n len some)) tab
 end_read start s _ x e (comment b bs text y h k) tab dark =
     let t = 35 ∷ (text ++ (10 ∷ y)) in
     let d = (b ∷ bs) ++ t in
@@ -163,23 +157,19 @@ end_read start s _ x e (comment b bs text y h k) tab dark =
     let len : blank_len Yes d ≡ n = blanks_len (b ∷ bs) t h refl in
     let some : nat_eq n 0 ≡ false = grind (arith, nat_tests) in
     let behind : drop n d ≡ t = drop-append_seam (b ∷ bs) t in
-    let own : comment_len t ≡ suc (length text) = ap (λ i. 1 + i) (text_len text y k) ∙ one_and (length text) in
-    let sep : separation_len Yes d ≡ n + suc (length text) = told_sep d n len some
-    ∙ ap (λ xs. n + comment_len xs) behind ∙ ap (λ i. n + i) own in
-    header_end_at start s y (ap (λ (xs : List ℕ). drop (separation_len Yes xs) xs) e ∙ ap (λ i. drop i d) sep
-    ∙ drop-append-add (b ∷ bs) t (suc (length text)) ∙ drop-append_seam text (10 ∷ y))
-    (ap (is_bare_comment Yes) e ∙ no_bare d n len some) tab
-end_read start s _ _ e (no_comment_at_end [] h) tab dark =
-    text_end_at start s (ap (λ (xs : List ℕ). drop (separation_len Yes xs) xs) e) (ap (is_bare_comment Yes) e) dark
+    let own : comment_len t ≡ suc (length text) = cc (text_len text y k, one_and (length text)) in
+    let sep : separation_len Yes d ≡ n + suc (length text) = cc (told_sep d n len some) in
+    header_end_at start s y (cc (drop-append-add (b ∷ bs) t (suc (length text)), drop-append_seam text (10 ∷ y)))
+    (cc (no_bare d n len some)) tab
+end_read start s _ _ e (no_comment_at_end [] h) tab dark = text_end_at start s (cc) (ap (is_bare_comment Yes) e) dark
 end_read start s _ _ e (no_comment_at_end (b ∷ bs) h) tab dark =
     let d = b ∷ bs in
     let n = length (b ∷ bs) in
     let len : blank_len Yes d ≡ n = all_blank (b ∷ bs) h in
     let some : nat_eq n 0 ≡ false = grind (arith, nat_tests) in
     let behind : drop n d ≡ [] = all_dropped (b ∷ bs) in
-    let sep : separation_len Yes d ≡ n = told_sep d n len some ∙ ap (λ xs. n + comment_len xs) behind ∙ add-zero n in
-    text_end_at start s (ap (λ (xs : List ℕ). drop (separation_len Yes xs) xs) e ∙ ap (λ k. drop k d) sep ∙ behind)
-    (ap (is_bare_comment Yes) e ∙ no_bare d n len some) dark
+    let sep : separation_len Yes d ≡ n = cc (told_sep d n len some, add-zero n) in
+    text_end_at start s (cc) (cc (no_bare d n len some)) dark
 end_read start s _ _ e (comment_at_end b bs text h k) tab dark =
     let t = 35 ∷ text in
     let d = (b ∷ bs) ++ t in
@@ -187,12 +177,10 @@ end_read start s _ _ e (comment_at_end b bs text h k) tab dark =
     let len : blank_len Yes d ≡ n = blanks_len (b ∷ bs) t h refl in
     let some : nat_eq n 0 ≡ false = grind (arith, nat_tests) in
     let behind : drop n d ≡ t = drop-append_seam (b ∷ bs) t in
-    let own : comment_len t ≡ suc (length text) = ap (λ i. 1 + i) (all_text text k) ∙ one_and (length text) in
-    let sep : separation_len Yes d ≡ n + suc (length text) = told_sep d n len some
-    ∙ ap (λ xs. n + comment_len xs) behind ∙ ap (λ i. n + i) own in
-    text_end_at start s (ap (λ (xs : List ℕ). drop (separation_len Yes xs) xs) e ∙ ap (λ i. drop i d) sep
-    ∙ drop-append-add (b ∷ bs) t (suc (length text)) ∙ all_dropped text)
-    (ap (is_bare_comment Yes) e ∙ no_bare d n len some) dark
+    let own : comment_len t ≡ suc (length text) = cc (all_text text k, one_and (length text)) in
+    let sep : separation_len Yes d ≡ n + suc (length text) = cc (told_sep d n len some) in
+    text_end_at start s (cc (drop-append-add (b ∷ bs) t (suc (length text)), all_dropped text))
+    (cc (no_bare d n len some)) dark
 
 -- the indicators
 pub chomping_none : (s : Cursor) (x : ℕ) → slice_index s.rest 0 ≡ x → nat_eq x 43 ≡ false → nat_eq x 45 ≡ false
@@ -277,15 +265,13 @@ pub record HeaderRead (n : ℕ) (c : Chomping) (x : List ℕ) (s : Cursor) : Typ
 
 header_on : (s : Cursor) (first : Option Chomping × Cursor) (k : ℕ × Cursor) (l : Chomping × Cursor) (u : Cursor)
     → chomping (pass 1 s) ≡ first → indicator s.mark first.1 ≡ Ok k → last_chomping first.0 k.1 ≡ l
-    → header_end s.mark l.1 ≡ Ok u
-    → header s ≡ Ok (record { chomping = l.0; indicator = k.0 }, u)
+    → header_end s.mark l.1 ≡ Ok u → header s ≡ Ok (record { chomping = l.0; indicator = k.0 }, u)
 unfolding header header_behind
 header_on s first k l u e1 e2 e3 e4 = rw (e1, e2, e3, e4) refl
 
 header_of : (n : ℕ) (c : Chomping) (d x : List ℕ) (s : Cursor) (first : Option Chomping × Cursor) (t v : Cursor)
     → chomping (pass 1 s) ≡ first → indicator s.mark first.1 ≡ Ok (n, t) → last_chomping first.0 t ≡ (c, v) → v.rest ≡ d
-    → IsHeaderEnd d x → slice_index x 0 ≢ 9 → v.blank_so_far ≡ false
-    → HeaderRead n c x s
+    → IsHeaderEnd d x → slice_index x 0 ≢ 9 → v.blank_so_far ≡ false → HeaderRead n c x s
 header_of n c d x s first t v e1 e2 e3 rest l tab dark =
     let e = end_read s.mark v d x rest l tab dark in
     record {
@@ -301,7 +287,7 @@ last_chosen c s = refl
 
 last_looked : (s t : Cursor) (o : Option Chomping) → chomping s ≡ (o, t) → last_chomping None s ≡ (unwrap_or o Clip, t)
 unfolding last_chomping
-last_looked s t o e = ap (λ (y : Option Chomping × Cursor). (unwrap_or y.0 Clip, y.1)) e
+last_looked s t o e = cc
 
 front : (s : Cursor) (c : ℕ) (cs : List ℕ) → s.rest ≡ c ∷ cs → slice_index s.rest 0 ≡ c
 front s c cs e = ap (λ (xs : List ℕ). slice_index xs 0) e

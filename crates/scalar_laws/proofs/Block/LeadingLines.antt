@@ -39,14 +39,15 @@ limit_space i given None col h less = refl
 limit_space i given (Some limit) col h less = space_left limit col (omega arith)
 
 pub e_spaces : (i : ℕ) (given : Bool) (limit : Option ℕ) (lines : EmptyLinesRead) (b : Bool) (j : ℕ) (m : Marker)
-    (t : List ℕ)
-    → IsLimit i given limit → m.col + j ≤ i
+    (t : List ℕ) → IsLimit i given limit → m.col + j ≤ i
     → pass_empty_lines limit lines b m (spaces j ++ t) ≡ pass_empty_lines limit lines b (along m j) t
-e_spaces i given limit lines b zero m t l h = ap (λ x. pass_empty_lines limit lines b x t) (sym (along_none m))
+e_spaces i given limit lines b zero m t l h = cc (along_none m)
 e_spaces i given limit lines b (suc j) m t l h =
-    e_space limit lines b m (spaces j ++ t) (limit_space i given limit m.col l (omega arith))
-    ∙ e_spaces i given limit lines b j (along m 1) t l (omega arith)
-    ∙ ap (λ x. pass_empty_lines limit lines b x t) (along_more m 1 j (suc j) (omega arith))
+    cc (
+      e_space limit lines b m (spaces j ++ t) (limit_space i given limit m.col l (omega arith)),
+      e_spaces i given limit lines b j (along m 1) t l (omega arith),
+      along_more m 1 j (suc j) (omega arith),
+    )
 
 pub e_feed : (limit : Option ℕ) (lines : EmptyLinesRead) (b : Bool) (m : Marker) (t : List ℕ)
     → pass_empty_lines limit lines b m (line_feed ∷ t) ≡ pass_empty_lines limit (with_empty_line lines m.col) true
@@ -56,8 +57,7 @@ e_feed None lines b m t = refl
 e_feed (Some limit) lines b m t = refl
 
 limit_stops : (i : ℕ) (given : Bool) (limit : Option ℕ) (col c : ℕ) → IsLimit i given limit
-    → (given ≡ false → c ≢ space)
-    → col ≡ i → is_indentation limit col c ≡ false
+    → (given ≡ false → c ≢ space) → col ≡ i → is_indentation limit col c ≡ false
 limit_stops i given None col c l h e = ne_eqb c 32 (h l)
 limit_stops i given (Some limit) col c l h e =
     let right : nat_lt col limit ≡ false = grind (arith, nat_tests) in rw right (and_false (nat_eq c 32))

@@ -33,10 +33,13 @@ one_space st i ab k b m t h = rw (space_left i m.col h) refl
 
 pub spaces_on : (st : BlockStyle) (i : ℕ) (ab : Option Bool) (k : ℕ) (b : Bool) (j : ℕ) (m : Marker) (t : List ℕ)
     → m.col + j ≤ i → between st i ab k b m (spaces j ++ t) ≡ between st i ab k b (along m j) t
-spaces_on st i ab k b zero m t h = ap (λ x. between st i ab k b x t) (sym (along_none m))
+spaces_on st i ab k b zero m t h = cc (along_none m)
 spaces_on st i ab k b (suc j) m t h =
-    one_space st i ab k b m (spaces j ++ t) (omega arith) ∙ spaces_on st i ab k b j (along m 1) t (omega arith)
-    ∙ ap (λ x. between st i ab k b x t) (along_more m 1 j (suc j) (omega arith))
+    cc (
+      one_space st i ab k b m (spaces j ++ t) (omega arith),
+      spaces_on st i ab k b j (along m 1) t (omega arith),
+      along_more m 1 j (suc j) (omega arith),
+    )
 
 pub feed_on : (st : BlockStyle) (i : ℕ) (ab : Option Bool) (k : ℕ) (b : Bool) (m : Marker) (t : List ℕ)
     → between st i ab k b m (line_feed ∷ t) ≡ between st i ab (k + 1) true (next_line m 1) t
@@ -46,12 +49,13 @@ feed_on st i ab k b m t = refl
 -- a line's content
 content_on : (st : BlockStyle) (i : ℕ) (more b : Bool) (m : Marker) (cs t : List ℕ) → AreIn is_yaml_non_break cs
     → line st i more b m (cs ++ t) ≡ lines_behind_text cs (line st i more b (along m (length cs)) t)
-content_on st i more b m [] t h = ap (λ x. line st i more b x t) (sym (along_none m))
+content_on st i more b m [] t h = cc (along_none m)
 content_on st i more b m (c ∷ cs) t h =
-    line_on st i more b m c (cs ++ t) h.0
-    ∙ ap (lines_behind_text (c ∷ [])) (content_on st i more b (along m 1) cs t h.1)
-    ∙ ap (λ x. lines_behind_text (c ∷ cs) (line st i more b x t))
-    (along_more m 1 (length cs) (length (c ∷ cs)) (omega arith))
+    cc (
+      line_on st i more b m c (cs ++ t) h.0,
+      content_on st i more b (along m 1) cs t h.1,
+      along_more m 1 (length cs) (length (c ∷ cs)) (omega arith),
+    )
 
 pub line_feed_on : (st : BlockStyle) (i : ℕ) (more b : Bool) (m : Marker) (t : List ℕ)
     → line st i more b m (line_feed ∷ t) ≡ between st i (Some more) 0 true (next_line m 1) t
@@ -107,19 +111,18 @@ pub no_break_at : (x : ℕ) → x ≢ line_feed → x ≢ carriage_return → is
 no_break_at x a d = rw (ne_eqb x 10 a, ne_eqb x 13 d) refl
 
 pub behind_same : (st : BlockStyle) (i : ℕ) (ab : Option Bool) (k : ℕ) (b : Bool) (m : Marker) (n : ℕ)
-    (x others : List ℕ)
-    → m.col ≡ 0 → IsBehind i n x others → between st i ab k b m x
+    (x others : List ℕ) → m.col ≡ 0 → IsBehind i n x others → between st i ab k b m x
     ≡ lines_ended (is_some ab) k (line_cursor b (along m n) others)
 behind_same st i ab k b m n x others col h =
     let at : m.col + n ≡ n = omega arith in
     let within : m.col + n ≤ i = omega (arith, h.within) in
     let space : is_indentation (Some i) (m.col + n) (slice_index others 0) ≡ false =
-    ap (λ j. is_indentation (Some i) j (slice_index others 0)) at
-    ∙ space_off i n (slice_index others 0) h.no_space in
-    let starts : line_starts i (m.col + n) others ≡ false = ap (λ j. line_starts i j others) at
-    ∙ none_starts i n others h.no_content in
-    ap (between st i ab k b m) h.is ∙ spaces_on st i ab k b n m others within
-    ∙ no_line_at st i ab k b (along m n) others space (no_break_at (slice_index others 0) h.no_break h.no_return) starts
+    cc (space_off i n (slice_index others 0) h.no_space) in
+    let starts : line_starts i (m.col + n) others ≡ false = cc (none_starts i n others h.no_content) in
+    cc (
+      spaces_on st i ab k b n m others within,
+      no_line_at st i ab k b (along m n) others space (no_break_at (slice_index others 0) h.no_break h.no_return) starts,
+    )
 
 behind_left : (st : BlockStyle) (i : ℕ) (ab : Option Bool) (k : ℕ) (b : Bool) (m : Marker) (n : ℕ) (x others : List ℕ)
     → m.col ≡ 0 → IsBehind i n x others → Left n others (between st i ab k b m x)
@@ -132,13 +135,14 @@ nothing_behind i (suc n) x others e h = let no : 32 ∷ (spaces n ++ others) ≡
 
 -- a content line, from its first character on
 pub begun_on : (st : BlockStyle) (i : ℕ) (ab : Option Bool) (k : ℕ) (b : Bool) (m : Marker) (c : ℕ) (cs t : List ℕ)
-    → m.col ≡ i → IsContent i c cs t
-    → between st i ab k b m (c ∷ (cs ++ t))
+    → m.col ≡ i → IsContent i c cs t → between st i ab k b m (c ∷ (cs ++ t))
     ≡ lines_behind_text (break_before st ab k (is_blank c))
     (lines_behind_text (c ∷ cs) (line st i (is_blank c) b (along m (length (c ∷ cs))) t))
 begun_on st i ab k b m c cs t col h =
-    line_begins st i ab k b m (c ∷ (cs ++ t)) (starts_here i m.col c (cs ++ t) col h.all.0 h.no_marker)
-    ∙ ap (lines_behind_text (break_before st ab k (is_blank c))) (content_on st i (is_blank c) b m (c ∷ cs) t h.all)
+    cc (
+      line_begins st i ab k b m (c ∷ (cs ++ t)) (starts_here i m.col c (cs ++ t) col h.all.0 h.no_marker),
+      content_on st i (is_blank c) b m (c ∷ cs) t h.all,
+    )
 
 pub content_left : (st : BlockStyle) (i n : ℕ) (ab : Option Bool) (k : ℕ) (b : Bool) (m : Marker) (c : ℕ)
     (cs t others : List ℕ) → m.col ≡ i → IsContent i c cs (line_feed ∷ t)
@@ -152,8 +156,7 @@ content_left st i n ab k b m c cs t others col h after =
     subst (Left n others) (sym same) (after (is_blank c) (next_line p 1) refl)
 
 pub last_left : (st : BlockStyle) (i n : ℕ) (ab : Option Bool) (k : ℕ) (b : Bool) (m : Marker) (c : ℕ)
-    (cs others : List ℕ)
-    → m.col ≡ i → IsContent i c cs [] → others ≡ []
+    (cs others : List ℕ) → m.col ≡ i → IsContent i c cs [] → others ≡ []
     → Left n others (between st i ab k b m (c ∷ cs))
 last_left st i n ab k b m c cs others col h none =
     let p = along m (length (c ∷ cs)) in
@@ -167,8 +170,7 @@ last_left st i n ab k b m c cs others col h none =
 pub spaces_end : (st : BlockStyle) (i : ℕ) (ab : Option Bool) (k : ℕ) (b : Bool) (j : ℕ) (m : Marker) → m.col + j ≤ i
     → between st i ab k b m (spaces j) ≡ lines_ended (is_some ab) k (line_cursor b (along m j) [])
 unfolding between
-spaces_end st i ab k b j m at =
-    ap (between st i ab k b m) (sym (append-nil (spaces j))) ∙ spaces_on st i ab k b j m [] at
+spaces_end st i ab k b j m at = cc (append-nil (spaces j), spaces_on st i ab k b j m [] at)
 
 spaces_left : (st : BlockStyle) (i n : ℕ) (ab : Option Bool) (k : ℕ) (b : Bool) (j : ℕ) (m : Marker) (others : List ℕ)
     → m.col + j ≤ i → others ≡ [] → Left n others (between st i ab k b m (spaces j))
@@ -236,25 +238,25 @@ full_spaces : (st : BlockStyle) (c : Chomping) (i : ℕ) (more : Bool) (k : ℕ)
 unfolding is_unfinished
 full_spaces st c i more k b m col some =
     let far : nat_le (max i 1) (m.col + i) ≡ true = grind (arith, nat_tests) in
-    ap (Value c i) (spaces_end st i (Some more) k b i m (omega arith))
-    ∙ ap (λ u. tail c u (record { broken = true; empty_lines = k })) far ∙ keeps_more c k
+    cc (spaces_end st i (Some more) k b i m (omega arith), keeps_more c k)
 
 few_spaces : (st : BlockStyle) (c : Chomping) (i : ℕ) (more : Bool) (k : ℕ) (b : Bool) (j : ℕ) (m : Marker)
     → m.col ≡ 0 → j < i → Value c i (between st i (Some more) k b m (spaces j)) ≡ reading.chomped c true k
 unfolding is_unfinished
 few_spaces st c i more k b j m col less =
     let near : nat_le (max i 1) (m.col + j) ≡ false = grind (arith, nat_tests) in
-    ap (Value c i) (spaces_end st i (Some more) k b j m (omega arith))
-    ∙ ap (λ u. tail c u (record { broken = true; empty_lines = k })) near ∙ ended_tail c k
+    cc (spaces_end st i (Some more) k b j m (omega arith), ended_tail c k)
 
 behind_value : (st : BlockStyle) (c : Chomping) (i : ℕ) (more : Bool) (k : ℕ) (b : Bool) (m : Marker) (n : ℕ)
     (x others : List ℕ) → m.col ≡ 0 → IsBehind i n x others
     → Value c i (between st i (Some more) k b m x) ≡ reading.chomped c true k
 behind_value st c i more k b m n x others col h =
     let at : m.col + n ≡ n = omega arith in
-    ap (Value c i) (behind_same st i (Some more) k b m n x others col h)
-    ∙ ap (λ u. tail c u (record { broken = true; empty_lines = k }))
-    (not_unfinished i n (line_cursor b (along m n) others) at h.finished) ∙ ended_tail c k
+    cc (
+      behind_same st i (Some more) k b m n x others col h,
+      not_unfinished i n (line_cursor b (along m n) others) at h.finished,
+      ended_tail c k,
+    )
 
 pub content_value : (st : BlockStyle) (c : Chomping) (i : ℕ) (ab : Option Bool) (k : ℕ) (b : Bool) (m : Marker) (x : ℕ)
     (cs t later : List ℕ) → m.col ≡ i → IsContent i x cs (line_feed ∷ t)
@@ -267,14 +269,14 @@ content_value st c i ab k b m x cs t later col h after =
     let r = between st i (Some (is_blank x)) 0 true (next_line p 1) t in
     let same = begun_on st i ab k b m x cs (10 ∷ t) col h
     ∙ ap (λ y. lines_behind_text bb (lines_behind_text (x ∷ cs) y)) (line_feed_on st i (is_blank x) b p t) in
-    ap (Value c i) same
-    ∙ append_assoc bb ((x ∷ cs) ++ r.0) (tail c (is_unfinished i r.2) r.1)
-    ∙ ap (λ y. bb ++ y) (append_assoc (x ∷ cs) r.0 (tail c (is_unfinished i r.2) r.1))
-    ∙ ap (λ y. bb ++ ((x ∷ cs) ++ y)) (after (next_line p 1) refl)
+    cc (
+      append_assoc bb ((x ∷ cs) ++ r.0) (tail c (is_unfinished i r.2) r.1),
+      append_assoc (x ∷ cs) r.0 (tail c (is_unfinished i r.2) r.1),
+      after (next_line p 1) refl,
+    )
 
 pub last_value : (st : BlockStyle) (c : Chomping) (i : ℕ) (ab : Option Bool) (k : ℕ) (b : Bool) (m : Marker) (x : ℕ)
-    (cs : List ℕ) → m.col ≡ i → IsContent i x cs []
-    → Value c i (between st i ab k b m (x ∷ cs))
+    (cs : List ℕ) → m.col ≡ i → IsContent i x cs [] → Value c i (between st i ab k b m (x ∷ cs))
     ≡ break_before st ab k (is_blank x) ++ ((x ∷ cs) ++ reading.chomped c true 0)
 last_value st c i ab k b m x cs col h =
     let p = along m (length (x ∷ cs)) in
@@ -283,15 +285,11 @@ last_value st c i ab k b m x cs col h =
     let same = ap (λ ys. between st i ab k b m (x ∷ ys)) (sym whole) ∙ begun_on st i ab k b m x cs [] col h
     ∙ ap (λ r. lines_behind_text bb (lines_behind_text (x ∷ cs) r)) (line_end_on st i (is_blank x) b p) in
     let far : i < p.col = omega arith in
-    ap (Value c i) same
-    ∙ append_assoc bb ((x ∷ cs) ++ []) _ ∙ ap (λ y. bb ++ y) (append_assoc (x ∷ cs) [] _)
-    ∙ ap (λ u. bb ++ ((x ∷ cs) ++ tail c u (record { broken = false; empty_lines = 0 })))
-    (unfinished i (line_cursor b p []) far refl) ∙ ap (λ y. bb ++ ((x ∷ cs) ++ y)) (cut_tail c true)
+    simp (same, append_assoc, unfinished i (line_cursor b p []) far refl, cut_tail c true)
 
 pub lines_value_left : (st : BlockStyle) (c : Chomping) (i n : ℕ) (x others : List ℕ) (above : List ℕ) (more : Bool)
     (k : ℕ) (b : Bool) (m : Marker) (ls : List Line) (t : List ℕ) → is_more_indented above ≡ more → m.col ≡ 0
-    → AreLines i x ls t → IsBehind i n x others
-    → Value c i (between st i (Some more) k b m t)
+    → AreLines i x ls t → IsBehind i n x others → Value c i (between st i (Some more) k b m t)
     ≡ contents_behind st above k ls ++ reading.chomped c true (empty_at_end k ls)
 lines_value_left st c i n x others above more k b m _ _ e col no_lines h =
     behind_value st c i more k b m n x others col h
@@ -305,19 +303,25 @@ lines_value_left st c i n x others above more k b m _ _ e col (content y cs ls t
     let bb = break_before st (Some more) k (is_blank y) in
     let own = contents_behind st (y ∷ cs) 0 ls in
     let end = reading.chomped c true (empty_at_end 0 ls) in
-    ap (Value c i) (spaces_on st i (Some more) k b i m (y ∷ (cs ++ (10 ∷ t))) at)
-    ∙ content_value st c i (Some more) k b (along m i) y cs t (own ++ end) (omega arith) ic
-    (λ p q. lines_value_left st c i n x others (y ∷ cs) (is_blank y) 0 true p ls t refl q l h)
-    ∙ ap (λ z. bb ++ z) (sym (append_assoc (y ∷ cs) own end)) ∙ sym (append_assoc bb ((y ∷ cs) ++ own) end)
-    ∙ ap (λ z. (z ++ ((y ∷ cs) ++ own)) ++ end) (sym (same_break st above (y ∷ cs) more (is_blank y) k e refl))
+    cc (
+      spaces_on st i (Some more) k b i m (y ∷ (cs ++ (10 ∷ t))) at,
+      content_value st c i (Some more) k b (along m i) y cs t (own ++ end) (omega arith) ic
+          (λ p q. lines_value_left st c i n x others (y ∷ cs) (is_blank y) 0 true p ls t refl q l h),
+      append_assoc (y ∷ cs) own end,
+      append_assoc bb ((y ∷ cs) ++ own) end,
+      same_break st above (y ∷ cs) more (is_blank y) k e refl,
+    )
 lines_value_left st c i n x others above more k b m _ _ e col (last y cs ic none) h =
     let at : m.col + i ≤ i = omega arith in
     let bb = break_before st (Some more) k (is_blank y) in
     let end = reading.chomped c true 0 in
-    ap (Value c i) (spaces_on st i (Some more) k b i m (y ∷ cs) at)
-    ∙ last_value st c i (Some more) k b (along m i) y cs (omega arith) ic
-    ∙ ap (λ z. bb ++ (z ++ end)) (sym (append-nil (y ∷ cs))) ∙ sym (append_assoc bb ((y ∷ cs) ++ []) end)
-    ∙ ap (λ z. (z ++ ((y ∷ cs) ++ [])) ++ end) (sym (same_break st above (y ∷ cs) more (is_blank y) k e refl))
+    cc (
+      spaces_on st i (Some more) k b i m (y ∷ cs) at,
+      last_value st c i (Some more) k b (along m i) y cs (omega arith) ic,
+      append-nil (y ∷ cs),
+      append_assoc bb ((y ∷ cs) ++ []) end,
+      same_break st above (y ∷ cs) more (is_blank y) k e refl,
+    )
 lines_value_left st c i n x others above more k b m _ _ e col (last_empty some none) h =
     full_spaces st c i more k b m col some
 lines_value_left st c i n x others above more k b m _ _ e col (left_of j less none) h =

@@ -1,5 +1,5 @@
 -- Block scalars are read alike.
-use Rattle.std.proofs.Common.{◌≡◌, ℕ, ◌+◌, ◌-◌, Bool, true, false, List, [], ◌∷◌, ◌++◌, max, slice_index, refl, ap, nat_le}
+use Rattle.std.proofs.Common.{◌≡◌, ℕ, ◌+◌, Bool, true, false, List, [], ◌∷◌, ◌++◌, max, slice_index, refl, ap, nat_le}
 use Rattle.std.specs.Prelude.{◌&&◌, ◌==◌, nat_lt, not, Option, Some, None, unwrap_or}
 use Rattle.saphyr_input.specs.Classes.{is_breakz, is_blank, is_z, is_digit, is_yaml_non_break, tab, space}
 use Rattle.saphyr_input.specs.declared.input.SkipTabs.TheVariants as skip
@@ -37,7 +37,7 @@ indicator_read text m n s t e =
     (λ h.
     let digit = no_break_in is_digit refl refl s.rest (not-false _ h) in
     by_first (λ c. c == 48) refl e (GiveAlike (AreSame text))
-    (λ _. refl) (λ _. (ap (λ c. c - 48) (first_same digit (normal_of e)), one_passed digit e)))
+    (λ _. refl) (λ _. (cc (first_same digit (normal_of e)), one_passed digit e)))
 
 header_break_alike : (text : List ℕ) (m n : Marker) (s t : Cursor) → AreAlike text s t
     → GiveAlike (AreAlike text) (header_break m s) (header_break n t)
@@ -60,7 +60,7 @@ last_alike : (text : List ℕ) (a b : Option Chomping) (s t : Cursor) → a ≡ 
     → AreSame text (last_chomping a s) (last_chomping b t)
 unfolding last_chomping
 last_alike text (Some x) (Some y) s t same e = ((cc), e)
-last_alike text None None s t same e = (ap (λ x. unwrap_or x Clip) (chomping_alike e).0, (chomping_alike e).1)
+last_alike text None None s t same e = (cc ((chomping_alike e).0), (chomping_alike e).1)
 last_alike text (Some x) None s t same e = absurd (cc)
 last_alike text None (Some y) s t same e = absurd (cc)
 
@@ -86,8 +86,7 @@ no_indentation None col c h = h
 no_indentation (Some l) col c h = rw h refl
 
 empty_alike : (text : List ℕ) (limit : Option ℕ) (l k : EmptyLinesRead) (a b : Bool) (m n : Marker) {r q : List ℕ}
-    → l ≡ k
-    → a ≡ b → Normal r q → Places text r q m n
+    → l ≡ k → a ≡ b → Normal r q → Places text r q m n
     → AreSame text (pass_empty_lines limit l a m r) (pass_empty_lines limit k b n q)
 unfolding pass_empty_lines
 empty_alike text limit l k a b m n same e nothing p = (rw (same, p.col) refl, alike a b e nothing p)
@@ -153,8 +152,7 @@ mutual
       (over_pair m n (inside_break m) refl refl p)
 
   line_alike : (text : List ℕ) (style : BlockStyle) (i : ℕ) (more : Bool) (a b : Bool) (m n : Marker) {r q : List ℕ}
-      → a ≡ b → Normal r q → Places text r q m n
-      → AreRead text (line style i more a m r) (line style i more b n q)
+      → a ≡ b → Normal r q → Places text r q m n → AreRead text (line style i more a m r) (line style i more b n q)
   line_alike text style i more a b m n e nothing p = (refl, refl, alike a b e nothing p)
   line_alike text style i more a b m n e (character c h x) p =
       both_by (is_yaml_non_break c) (is_yaml_non_break c) _ _ _ _ (AreRead text) refl

@@ -1,5 +1,5 @@
 -- Plain scalars are read alike.
-use Rattle.std.proofs.Common.{◌≡◌, ℕ, zero, suc, ◌<◌, Bool, true, false, List, [], ◌∷◌, ◌++◌, length, drop, slice_index, refl, sym, ap, ◌∙◌, arith, subst, cond, encode_utf8}
+use Rattle.std.proofs.Common.{◌≡◌, ℕ, zero, suc, ◌<◌, Bool, true, false, List, [], ◌∷◌, ◌++◌, length, drop, slice_index, refl, sym, ap, ◌∙◌, arith, encode_utf8}
 use Rattle.std.specs.Prelude.{◌&&◌, ◌||◌, ◌==◌, not, nat_lt}
 use Rattle.saphyr_input.specs.Indicators.{hyphen}
 use Rattle.saphyr_input.specs.Classes.{is_break, is_blank, is_blank_or_breakz, is_z, is_bom, is_flow, tab}
@@ -24,23 +24,21 @@ use Rattle.saphyr_input.proofs.Basics.Characters.{no_return}
 in_word_alike : (f : Bool) {r q : List ℕ} → Normal r q → is_in_word f r ≡ is_in_word f q
 unfolding is_in_word
 in_word_alike f nothing = refl
-in_word_alike f (character c h n) =
-    ap (λ t. not (is_blank_or_breakz c) && cond (c == 58) (not t) (not (is_bom c || (f && is_flow c))))
-    (first_in (λ d. is_blank_or_breakz d || (f && is_flow d)) refl n)
+in_word_alike f (character c h n) = cc (first_in (λ d. is_blank_or_breakz d || (f && is_flow d)) refl n)
 in_word_alike f (feed n) = refl
 in_word_alike f (return h n) = refl
 in_word_alike f (pair n) = refl
 
-dash_alike : (f : Bool) {r q : List ℕ} → Normal r q
-    → (f && (slice_index r 0 == hyphen) && is_flow (slice_index r 1)) ≡
+dash_alike : (f : Bool) {r q : List ℕ} → Normal r q → (f && (slice_index r 0 == hyphen) && is_flow (slice_index r 1)) ≡
     (f && (slice_index q 0 == hyphen) && is_flow (slice_index q 1))
 dash_alike f {r = r} {q = q} n =
-    all_three f (slice_index r 0 == 45) (is_flow (slice_index r 1))
-    ∙ ap (λ c. f && ((slice_index r 0 == 45) && is_flow c)) (sym (second_is r))
-    ∙ ap (λ t. f && t) (behind_first (λ c. c == 45) refl refl (λ r. is_flow (slice_index r 0))
-    (λ r q n. first_in is_flow refl n) n)
-    ∙ ap (λ c. f && ((slice_index q 0 == 45) && is_flow c)) (second_is q)
-    ∙ sym (all_three f (slice_index q 0 == 45) (is_flow (slice_index q 1)))
+    cc (
+      all_three f (slice_index r 0 == 45) (is_flow (slice_index r 1)),
+      second_is r,
+      behind_first (λ c. c == 45) refl refl (λ r. is_flow (slice_index r 0)) (λ r q n. first_in is_flow refl n) n,
+      second_is q,
+      all_three f (slice_index q 0 == 45) (is_flow (slice_index q 1)),
+    )
 
 starts_alike : (text : List ℕ) (f : Bool) (s t : Cursor) → AreAlike text s t
     → GiveAlike (AreSame text) (word_starts f s) (word_starts f t)
@@ -77,21 +75,19 @@ stand_alike : (text : List ℕ) (a b : Marker) (t : Bool) (x y : Cursor) → Are
 unfolding content_behind_tab
 stand_alike text a b t x y e =
     both_by (t && is_bom (slice_index x.rest 0)) (t && is_bom (slice_index y.rest 0)) _ _ _ _
-    (GiveAlike (AreAlike text)) (ap (λ c. t && c) (first_in is_bom refl (normal_of e))) (λ _ _. refl)
+    (GiveAlike (AreAlike text)) (cc (first_in is_bom refl (normal_of e))) (λ _ _. refl)
     (λ _ _. both_by (t && not ((slice_index x.rest 0 == 35) || is_z (slice_index x.rest 0)))
     (t && not ((slice_index y.rest 0 == 35) || is_z (slice_index y.rest 0))) _ _ _ _ (GiveAlike (AreAlike text))
-    (ap (λ c. t && c) (first_in (λ c. not ((c == 35) || is_z c)) refl (normal_of e))) (λ _ _. refl) (λ _ _. e))
+    (cc (first_in (λ c. not ((c == 35) || is_z c)) refl (normal_of e))) (λ _ _. refl) (λ _ _. e))
 
 reached_alike : (text : List ℕ) (a b : Marker) (t u : Bool) (feeds : List ℕ) (x y : Cursor) → t ≡ u → AreAlike text x y
     → GiveAlike (AreGapsAlike text) (reached_gap a t feeds x) (reached_gap b u feeds y)
 reached_alike text a b t u feeds x y same e =
-    subst (λ v. GiveAlike (AreGapsAlike text) (reached_gap a t feeds x) (reached_gap b v feeds y)) same
-    (both_then (AreAlike text) (AreGapsAlike text) _ _ _ _ (stand_alike text a b t x y e)
+    rw (← same) (both_then (AreAlike text) (AreGapsAlike text) _ _ _ _ (stand_alike text a b t x y e)
     (λ s k _ _ is. record { same = refl; tabbed = refl; behind = is }))
 
 lines_alike : (text : List ℕ) (i : ℕ) (a b : Marker) (t u : Bool) (feeds : List ℕ) (m n : Marker) {r q : List ℕ} → t ≡ u
-    → Normal r q → Places text r q m n
-    → GiveAlike (AreGapsAlike text) (lines i a t feeds m r) (lines i b u feeds n q)
+    → Normal r q → Places text r q m n → GiveAlike (AreGapsAlike text) (lines i a t feeds m r) (lines i b u feeds n q)
 unfolding lines
 lines_alike text i a b t u feeds m n same nothing p =
     reached_alike text a b t u feeds (line_front m []) (line_front n []) same (alike true true refl nothing p)
@@ -140,8 +136,7 @@ noted_alike text f a b s t same e =
     (λ _ _. marks_alike e) (λ _ _. tt)
 
 ended_alike : (text : List ℕ) (f : Bool) (m n : Marker) (g k : PlainGap) → AreMarksAlike text m n
-    → AreGapsAlike text g k
-    → GiveAlike (ArePlainAlike text) (scalar_end f m g) (scalar_end f n k)
+    → AreGapsAlike text g k → GiveAlike (ArePlainAlike text) (scalar_end f m g) (scalar_end f n k)
 ended_alike text f m n g k marks is =
     (refl, marks, noted_alike text f g.tabbed k.tabbed g.behind k.behind is.tabbed is.behind, is.behind)
 
@@ -180,8 +175,7 @@ module _ (text : List ℕ) (f : Bool) (i : ℕ) (a b : Marker) where
       let says = goes_says f i x.0 g.behind x.1 first in
       both_by x.0 y.0 _ _ _ _ (GiveAlike (ArePlainAlike text)) are.0
       (λ goes _.
-      let less : length x.1.rest < len =
-      subst (λ (c : Cursor). length c.rest < len) (sym says.same) (shorter (says.goes goes)) in
+      let less : length x.1.rest < len = rw says.same (shorter (says.goes goes)) in
       front_alike text g.text k.text _ _ is.same (others x.1 y.1 less are.1))
       (λ _ _. ended_alike text f m n g k marks is))
 
@@ -198,8 +192,7 @@ module _ (text : List ℕ) (f : Bool) (i : ℕ) (a b : Marker) where
       behind_alike s.mark t.mark g k (length s.rest) (marks_alike e) is shorter others))
 
   on_alike : (m n : Marker) {r q : List ℕ} → is_in_word f r ≡ true → Normal r q → Places text r q m n
-      → Others (length r)
-      → GiveAlike (ArePlainAlike text) (word f i a m r) (word f i b n q)
+      → Others (length r) → GiveAlike (ArePlainAlike text) (word f i a m r) (word f i b n q)
   unfolding is_in_word
   on_alike m n goes nothing p others = absurd (cc)
   on_alike m n goes (character c {r = r} {q = q} h x) p others =

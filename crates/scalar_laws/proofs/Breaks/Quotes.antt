@@ -1,5 +1,5 @@
 -- Quoted scalars are read alike.
-use Rattle.std.proofs.Common.{◌≡◌, ℕ, zero, suc, ◌+◌, ◌*◌, ◌<◌, Bool, true, false, List, ◌∷◌, length, drop, slice_index, refl, sym, ap, ◌∙◌, arith, subst, cond, Result, Ok, Err, encode_utf8}
+use Rattle.std.proofs.Common.{◌≡◌, ℕ, zero, suc, ◌+◌, ◌*◌, ◌<◌, Bool, true, false, List, ◌∷◌, length, drop, slice_index, refl, sym, ap, ◌∙◌, arith, subst, Result, Ok, Err, encode_utf8}
 use Rattle.std.specs.Prelude.{◌&&◌, ◌==◌, not, Option, Some, None}
 use Rattle.saphyr_input.specs.Classes.{is_break, is_blank, is_z, is_hex, hex_value}
 use Rattle.saphyr_input.specs.Places.{next_2_are, is_document_indicator}
@@ -79,24 +79,27 @@ unfolding escaped_character
 escape_alike text a b s t first second e =
     let letter : slice_index s.rest 1 ≡ slice_index t.rest 1 = sym (second_is s.rest) ∙ first_same second
     (past_first first (normal_of e)) ∙ second_is t.rest in
-    subst (λ c. GiveAlike (AreSame text) (escape_of a (short_escape (slice_index s.rest 1)) (slice_index s.rest 1) s)
-    (escape_of b (short_escape c) c t)) letter
+    rw (← letter)
     (letter_alike text a b (short_escape (slice_index s.rest 1)) (slice_index s.rest 1) s t first second e)
 
 two_quotes_alike : {r q : List ℕ} → Normal r q → next_2_are r 39 39 ≡ next_2_are q 39 39
 two_quotes_alike {r = r} {q = q} n =
-    ap (λ c. (slice_index r 0 == 39) && (c == 39)) (sym (second_is r))
-    ∙ behind_first (λ c. c == 39) refl refl (λ r. slice_index r 0 == 39) (λ r q n. first_in (λ c. c == 39) refl n) n
-    ∙ ap (λ c. (slice_index q 0 == 39) && (c == 39)) (second_is q)
+    cc (
+      second_is r,
+      behind_first (λ c. c == 39) refl refl (λ r. slice_index r 0 == 39)
+          (λ r q n. first_in (λ c. c == 39) refl n) n,
+      second_is q,
+    )
 
-slash_alike : {r q : List ℕ} → Normal r q
-    → ((slice_index r 0 == backslash) && not (is_break (slice_index r 1))) ≡
+slash_alike : {r q : List ℕ} → Normal r q → ((slice_index r 0 == backslash) && not (is_break (slice_index r 1))) ≡
     ((slice_index q 0 == backslash) && not (is_break (slice_index q 1)))
 slash_alike {r = r} {q = q} n =
-    ap (λ c. (slice_index r 0 == 92) && not (is_break c)) (sym (second_is r))
-    ∙ behind_first (λ c. c == 92) refl refl (λ r. not (is_break (slice_index r 0)))
-    (λ r q n. first_in (λ c. not (is_break c)) refl n) n
-    ∙ ap (λ c. (slice_index q 0 == 92) && not (is_break c)) (second_is q)
+    cc (
+      second_is r,
+      behind_first (λ c. c == 92) refl refl (λ r. not (is_break (slice_index r 0)))
+          (λ r q n. first_in (λ c. not (is_break c)) refl n) n,
+      second_is q,
+    )
 
 special_alike : (text : List ℕ) (quote : Quote) (a b : Marker) (s t : Cursor) → AreAlike text s t
     → GiveAlike (AreSame text) (special quote a s) (special quote b t)
@@ -106,8 +109,8 @@ special_alike text Single a b s t e =
     (two_quotes_alike (normal_of e))
     (λ h _.
     let first = no_break_in (λ c. c == 39) refl refl s.rest (and_true_left _ _ h) in
-    let second = no_break_in (λ c. c == 39) refl refl (drop 1 s.rest) (ap (λ c. c == 39) (second_is s.rest)
-    ∙ and_true_right (slice_index s.rest 0 == 39) _ h) in
+    let second = no_break_in (λ c. c == 39) refl refl (drop 1 s.rest) (cc
+    (second_is s.rest, and_true_right (slice_index s.rest 0 == 39) _ h)) in
     (refl, passed_alike 2 2 (two_part first second (normal_of e)) e))
     (λ _ _. (refl, e))
 special_alike text Double a b s t e =
@@ -138,7 +141,7 @@ leaves_some r d s e x other read some = subst (λ (k : Result (Option ℕ × Cur
 escape_left : (a m : Marker) (c : ℕ) (cs : List ℕ) (r : Result (ℕ × Cursor) Refusal)
     → escaped_character a (mid_line m (c ∷ cs)) ≡ r
     → LeavesRest (drop (2 + hex_digit_count (slice_index cs 0)) (c ∷ cs)) (r >>= λ e. Ok (Some e.0, e.1))
-escape_left a m c cs (Ok e) is = leaves_some _ e.0 e.1 (ap (λ (t : Cursor). t.rest) (escape_place a m (c ∷ cs) e is))
+escape_left a m c cs (Ok e) is = leaves_some _ e.0 e.1 (cc (escape_place a m (c ∷ cs) e is))
 escape_left a m c cs (Err e) is = λ x d read some. absurd (cc)
 
 pub special_left : (quote : Quote) (a m : Marker) (c : ℕ) (cs : List ℕ)
@@ -152,10 +155,7 @@ special_left Double a m c cs =
     let k = hex_digit_count (slice_index cs 0) in
     let two : 2 + k ≡ suc (suc k) = omega arith in
     by_test ((c == 92) && not (is_break (slice_index cs 0))) _ _ (LeavesRest (drop (suc k) cs))
-    (λ _. subst (λ n. LeavesRest (drop n (c ∷ cs))
-    (escaped_character a (mid_line m (c ∷ cs)) >>= λ e. Ok (Some e.0, e.1))) two
-    (escape_left a m c cs (escaped_character a (mid_line m (c ∷ cs))) refl))
-    (λ _. leaves_none _ _)
+    (λ _. rw two at (escape_left a m c cs (escaped_character a (mid_line m (c ∷ cs))) refl)) (λ _. leaves_none _ _)
 
 -- ## Gaps
 
@@ -210,7 +210,7 @@ if_alike : (R : List ℕ × Cursor → List ℕ × Cursor → Type 0) (o p : Opt
     → o ≡ p → ((d : ℕ) → o ≡ Some d → GiveAlike R (f d) (g d)) → (o ≡ None → GiveAlike R u v)
     → GiveAlike R (if_some o f u) (if_some p g v)
 if_alike R (Some c) (Some d) f g u v e some none =
-    let same : c ≡ d = cc in subst (λ x. GiveAlike R (f c) (g x)) same (some c refl)
+    let same : c ≡ d = cc in rw (← same) (some c refl)
 if_alike R None None f g u v e some none = none refl
 if_alike R (Some c) None f g u v e some none = absurd (cc)
 if_alike R None (Some d) f g u v e some none = absurd (cc)
@@ -233,12 +233,8 @@ module _ (text : List ℕ) (quote : Quote) (i : ℕ) (a b : Marker) where
   behind_special r q u v rest other is others =
       let len = length-drop (special_len quote (slice_index r 0)) r in
       let less : length u.rest < suc (length r) = omega (arith, ap length rest, len) in
-      both_are (AreSame text) _ _ _ _
-      (passed_over quote i a no_gap (special_len quote (slice_index r 0)) u.mark r
-      ∙ ap (inner_text quote i a no_gap 0 u.mark) (sym rest))
-      (passed_over quote i b no_gap (special_len quote (slice_index q 0)) v.mark q
-      ∙ ap (inner_text quote i b no_gap 0 v.mark) (sym other))
-      (others u v less no_gap is)
+      both_are (AreSame text) _ _ _ _ (cc (passed_over quote i a no_gap (special_len quote (slice_index r 0)) u.mark r))
+      (cc (passed_over quote i b no_gap (special_len quote (slice_index q 0)) v.mark q)) (others u v less no_gap is)
 
   -- after an escaped break
   behind_escaped : (m n : Marker) {r q : List ℕ} → Normal r q → Places text r q m n → Others (suc (length r))
@@ -252,18 +248,15 @@ module _ (text : List ℕ) (quote : Quote) (i : ℕ) (a b : Marker) where
       let less : length (drop k r) < suc (length r) = omega (arith, len) in
       let gap = escaped_gap quote (slice_index (drop k r) 0) in
       let same : gap ≡ escaped_gap quote (slice_index (drop l q) 0) =
-      ap (λ t. cond t no_gap (over_lines true 0))
-      (first_in (λ c. c == flow.mark quote) (mark_in quote) (break_left x)) in
+      cc (first_in (λ c. c == flow.mark quote) (mark_in quote) (break_left x)) in
       both_are (AreSame text) _ _ _ _ (passed_over quote i a gap k (next_line m k) r)
-      (passed_over quote i b (escaped_gap quote (slice_index (drop l q) 0)) l (next_line n l) q
-      ∙ ap (λ g. inner_text quote i b g 0 (next_line n l) (drop l q)) (sym same))
+      (cc (passed_over quote i b (escaped_gap quote (slice_index (drop l q) 0)) l (next_line n l) q))
       (others (mid_line (next_line m k) (drop k r)) (mid_line (next_line n l) (drop l q)) less gap
       (alike false false refl (break_left x) (moved_down k l p)))
 
   -- a word or the closing quote
   from_word : (m n : Marker) (c : ℕ) {r q : List ℕ} → is_break c ≡ false → Normal r q → Places text (c ∷ r) (c ∷ q) m n
-      → Others (suc (length r))
-      → GiveAlike (AreSame text) (word_from quote i a m c r) (word_from quote i b n c q)
+      → Others (suc (length r)) → GiveAlike (AreSame text) (word_from quote i a m c r) (word_from quote i b n c q)
   from_word m n c {r = r} {q = q} h x p others =
       let one = moved_along 1 1 refl p in
       let here : AreAlike text (mid_line m (c ∷ r)) (mid_line n (c ∷ q)) = alike false false refl (character c h x) p in
@@ -292,9 +285,7 @@ module _ (text : List ℕ) (quote : Quote) (i : ℕ) (a b : Marker) where
           → GiveAlike (AreSame text) (inner_text quote i a gap 0 m (c ∷ r)) (inner_text quote i b gap 0 n (c ∷ q))
       by true e =
           rw e (both_then AreGaps (AreSame text) _ _ _ _ (blank_alike i gap m n c p.col) (λ g k _ _ is.
-          subst (λ z. GiveAlike (AreSame text) (inner_text quote i a g 0 (along m 1) r)
-          (inner_text quote i b z 0 (along n 1) q)) is
-          (others (mid_line (along m 1) r) (mid_line (along n 1) q) (omega arith) g
+          rw (← is) (others (mid_line (along m 1) r) (mid_line (along n 1) q) (omega arith) g
           (alike false false refl x (moved_along 1 1 refl p)))))
       by false e =
           both_are (AreSame text) _ _ _ _ (quoted_behind_gap quote i a gap m c r e h)

@@ -1,9 +1,9 @@
 -- White space, comments, breaks and byte order marks are passed alike.
 use Rattle.std.proofs.Common.{◌≡◌, ℕ, ◌+◌, Bool, true, false, List, drop, slice_index, refl, sym, ap, ◌∙◌, arith, cond}
 use Rattle.std.specs.Prelude.{◌&&◌, ◌==◌, nat_lt}
-use Rattle.std.specs.List.{prefix_len, list_any}
+use Rattle.std.specs.List.{prefix_len}
 use Rattle.std.proofs.lemmas.List.{drop-drop}
-use Rattle.saphyr_input.specs.Classes.{is_break, is_bom, is_blank_or_breakz, is_blank, is_yaml_non_break, space, tab}
+use Rattle.saphyr_input.specs.Classes.{is_break, is_bom, is_blank_or_breakz, is_blank, is_yaml_non_break, space}
 use Rattle.saphyr_input.specs.Places.{next_3_are, is_document_indicator}
 use Rattle.saphyr_input.specs.Separation.{is_skipped, blank_len, comment_len, is_bare_comment, separation_len, found_blanks}
 use Rattle.saphyr_input.specs.declared.input.SkipTabs.{SkipTabs}
@@ -39,8 +39,7 @@ ends_marker r = is_blank_or_breakz (slice_index r 0)
 abbrev mark_first : ℕ → (List ℕ → Bool) → List ℕ → Bool
 mark_first c others r = (slice_index r 0 == c) && others (drop 1 r)
 
-marker_is : (c : ℕ) (r : List ℕ)
-    → (next_3_are r c c c && is_blank_or_breakz (slice_index r 3)) ≡ mark_first c
+marker_is : (c : ℕ) (r : List ℕ) → (next_3_are r c c c && is_blank_or_breakz (slice_index r 3)) ≡ mark_first c
     (mark_first c (mark_first c ends_marker)) r
 marker_is c r =
     all_four (slice_index r 0 == c) (slice_index r 1 == c) (slice_index r 2 == c) (is_blank_or_breakz (slice_index r 3))
@@ -141,7 +140,7 @@ separation_part tabs {r = r} {q = q} n =
 found_alike : (tabs : SkipTabs) {r q : List ℕ} → Normal r q → found_blanks tabs r ≡ found_blanks tabs q
 found_alike tabs n =
     let x = blanks_run tabs n in
-    ap (λ t. skip.Result (list_any (λ c. c == tab) t) (list_any (λ c. c == space) t)) x.text
+    cc
 
 bare_alike : (tabs : SkipTabs) {r q : List ℕ} → Normal r q → is_bare_comment tabs r ≡ is_bare_comment tabs q
 bare_alike tabs n =

@@ -47,29 +47,24 @@ reserved_line : (m : Marker) (name t x : List ℕ) → IsReservedDirective name 
 reserved_line m name t x (more, some, no_yaml, no_tag, are, in_line, begins, e) ends =
     let d = reserved (encode_utf8_all name) in
     let parts = more ++ x in
-    let whole : t ++ x ≡ 37 ∷ (name ++ parts) = ap (λ u. u ++ x) e ∙ ap (λ u. 37 ∷ u) (append_assoc name more x) in
+    let whole : t ++ x ≡ 37 ∷ (name ++ parts) = cc (append_assoc name more x) in
     let len : length t ≡ 1 + length name + length more = rw e (omega (arith, length-append name more)) in
     let a = along (along m 1) (length name) in
     let b = along a (length more) in
     let none : length t + 0 ≡ length t = omega arith in
-    ap (λ u. directive (mid_line m u)) whole
-    ∙ whole_line (mid_line m (37 ∷ (name ++ parts))) (pass_break (mid_line (along b 0) x)) d (encode_utf8_all name)
-    (mid_line a parts)
-    (mid_line b x)
-    (name_read (along m 1) name parts some are (more_begins more x begins ends))
-    (reserved_value m name (mid_line a parts) no_yaml no_tag ∙ ap (λ s. said d s)
-    (comment_passed a more x in_line ends))
-    (line_read m b [] x no_tail ends)
-    ∙ line_place d m b (length t) [] x (along_three m 1 (length name) (length more) (length t) len)
-    ∙ ap (λ n. tail_given d (along m (length t)) (along m n) x) none
+    cc (
+      whole_line (mid_line m (37 ∷ (name ++ parts))) (pass_break (mid_line (along b 0) x)) d (encode_utf8_all name)
+          (mid_line a parts) (mid_line b x) (name_read (along m 1) name parts some are (more_begins more x begins ends))
+          (reserved_value m name (mid_line a parts) no_yaml no_tag ∙ ap (λ s. said d s)
+          (comment_passed a more x in_line ends)) (line_read m b [] x no_tail ends),
+      line_place d m b (length t) [] x (along_three m 1 (length name) (length more) (length t) len),
+    )
 
 pub reads_reserved : (s : Cursor) (name t x : List ℕ) → s.rest ≡ t ++ x → IsReservedDirective name t
-    → is_breakz (slice_index x 0) ≡ true
-    → directive s ≡ Ok (
+    → is_breakz (slice_index x 0) ≡ true → directive s ≡ Ok (
       reserved (encode_utf8_all name),
       along s.mark (length t),
       pass_break
           (mid_line (along s.mark (length t)) x),
     )
-reads_reserved s name t x e is ends =
-    directive_same s ∙ ap (λ u. directive (mid_line s.mark u)) e ∙ reserved_line s.mark name t x is ends
+reads_reserved s name t x e is ends = cc (directive_same s, reserved_line s.mark name t x is ends)

@@ -1,6 +1,6 @@
 -- A plain scalar of one word is read, without a fault.
 use Rattle.std.proofs.Common.{◌≡◌, ◌≢◌, ℕ, suc, ◌<◌, Bool, true, false, List, [], ◌∷◌, ◌++◌, length, slice_index, Ok, refl, sym, ap, ◌∙◌, arith, subst, encode_utf8_all, IsTrue, ⊎_elim, drop, inl}
-use Rattle.std.specs.Prelude.{◌||◌, ◌&&◌, ◌==◌, not, nat_lt, encode_utf8, if◌then◌else◌}
+use Rattle.std.specs.Prelude.{◌||◌, ◌&&◌, ◌==◌, not, nat_lt, encode_utf8}
 use Rattle.std.specs.List.{prefix_len}
 use Rattle.std.proofs.lemmas.Bool.Decides.{nat_tests}
 use Rattle.std.proofs.lemmas.List.{append-nil}
@@ -8,11 +8,11 @@ use Rattle.saphyr_input.specs.Classes.{is_blank, is_break, is_blank_or_breakz, i
 use Rattle.saphyr_input.specs.Places.{is_blank_or_break, is_document_indicator, can_be_plain}
 use Rattle.saphyr_scalar.specs.Spelling.Tag.{AreIn}
 use Rattle.saphyr_scalar.specs.declared.scalar.position.Marker.{Marker}
-use Rattle.saphyr_scalar.specs.Views.Cursor.{Cursor, ◌>>=◌, along}
+use Rattle.saphyr_scalar.specs.Views.Cursor.{Cursor, along}
 use Rattle.saphyr_scalar.specs.Steps.Quoted.{mid_line}
-use Rattle.saphyr_scalar.specs.Steps.Plain.{is_in_word, word_starts, next_word_starts, comment_of, with_text, scalar_end, word, plain}
+use Rattle.saphyr_scalar.specs.Steps.Plain.{is_in_word, word_starts, next_word_starts, comment_of, with_text, word, plain}
 use Rattle.saphyr_scalar.proofs.Moving.{along_none, along_more}
-use Rattle.saphyr_scalar.proofs.Plain.Pieces.{no_text, text_twice, word_on, word_over, plain_behind_gap, goes_not, plain_starts}
+use Rattle.saphyr_scalar.proofs.Plain.Pieces.{no_text, text_twice, word_on, word_over, goes_not, plain_starts}
 use Rattle.scalar_laws.specs.Spelling.Plain.{is_plain_safe, IsPlainWord, past_white, is_tabbed, StopsPlain, EndsPlain}
 use Rattle.scalar_laws.proofs.Plain.White.{past_stop, past_rest, gap_past, untabbed_root}
 use Rattle.std.proofs.lemmas.Bool.{ne_eqb, false≢true}
@@ -50,14 +50,15 @@ white_stops f xs h = by_white (is_blank (slice_index xs 0)) (is_break (slice_ind
 -- a word's characters are read
 word_read : (f : Bool) (i : ℕ) (a m : Marker) (w x : List ℕ) → AreIn is_plain_safe w
     → word f i a m (w ++ x) ≡ with_text (encode_utf8_all w) (word f i a (along m (length w)) x)
-word_read f i a m [] x h = sym (no_text _) ∙ ap (λ y. with_text [] (word f i a y x)) (sym (along_none m))
+word_read f i a m [] x h = cc (no_text _, along_none m)
 word_read f i a m (c ∷ w) x h =
     let goes = safe_in_word f c (w ++ x) h.0 in
-    word_on f i a m c (w ++ x) goes
-    ∙ ap (with_text (encode_utf8 c)) (word_read f i a (along m 1) w x h.1)
-    ∙ text_twice (encode_utf8 c) (encode_utf8_all w) _
-    ∙ ap (λ y. with_text (encode_utf8_all (c ∷ w)) (word f i a y x))
-    (along_more m 1 (length w) (suc (length w)) (omega arith))
+    cc (
+      word_on f i a m c (w ++ x) goes,
+      word_read f i a (along m 1) w x h.1,
+      text_twice (encode_utf8 c) (encode_utf8_all w) _,
+      along_more m 1 (length w) (suc (length w)) (omega arith),
+    )
 
 comment_starts_not : (f : Bool) (s : Cursor) → slice_index s.rest 0 ≡ number_sign → word_starts f s ≡ Ok (false, s)
 unfolding word_starts
@@ -90,8 +91,7 @@ safe_no_flow : (c : ℕ) → IsTrue (is_plain_safe c) → is_flow c ≡ false
 safe_no_flow c h = (by_four (is_blank_or_breakz c) (c == 58) (is_bom c) (is_flow c) h).3
 
 first_starts : (f : Bool) (m : Marker) (b : Bool) (c : ℕ) (cs x : List ℕ) → AreIn is_plain_safe (c ∷ cs)
-    → (c ≢ number_sign)
-    → (c ≢ full_stop)
+    → (c ≢ number_sign) → (c ≢ full_stop)
     → (c ≡ hyphen → (second : ℕ) × (more : List ℕ) × (cs ≡ second ∷ more) × (second ≢ hyphen))
     → word_starts f (cursor_at (c ∷ (cs ++ x)) m b) ≡ Ok (true, cursor_at (c ∷ (cs ++ x)) m b)
 first_starts f m b c cs x safe hash dot dash = test (c == 45) (λ is. dashed (is_dash c is)) (λ other. plain_one other)
@@ -119,7 +119,7 @@ first_starts f m b c cs x safe hash dot dash = test (c == 45) (λ is. dashed (is
         let one : Goal 45 (d.0 ∷ d.1) =
         starts_at f (cursor_at (45 ∷ (d.0 ∷ (d.1 ++ x))) m b) refl (not_dashes d.0 (d.1 ++ x) (ne_eqb d.0 45 d.3)) lone
         (safe_in_word f 45 (d.0 ∷ (d.1 ++ x)) refl) in
-        subst (λ y. Goal y cs) is (subst (λ ys. Goal 45 ys) (sym d.2) one)
+        rw (← is) (simp d.2 one)
 
 -- after the word
 
@@ -175,10 +175,7 @@ pub word_ends : (f : Bool) (i : ℕ) (a e : Marker) (x : List ℕ) → 0 < e.col
 word_ends f i a e x some ends =
     let behind = past_white e false x in
     let gap_is = gap_past i a e x ends.tabs in
-    word_over f i a e x (word_stops f i e x some ends)
-    ∙ ap (λ r. r >>= plain_behind_gap f i a e) gap_is.is
-    ∙ ap (λ r. r >>= λ b. if b.0 then with_text gap_is.text (word f i a b.1.mark b.1.rest) else scalar_end f e
-    (record { text = gap_is.text; tabbed = is_tabbed i x; behind = behind })) (stops_plain f i behind ends.stops)
+    cc (word_over f i a e x (word_stops f i e x some ends), stops_plain f i behind ends.stops)
 
 -- A plain scalar of one word, where blanks and breaks and what ends it come after it, is read.
 pub plain_word_read : (f : Bool) (i : ℕ) (s : Cursor) (w x : List ℕ) → s.rest ≡ w ++ x → IsPlainWord w
@@ -194,21 +191,21 @@ plain_word_read f i s w x is h ends =
     let safe : AreIn is_plain_safe (c ∷ cs) = subst (AreIn is_plain_safe) h.is h.safe in
     let here : s.rest ≡ c ∷ (cs ++ x) = is ∙ ap (λ y. y ++ x) h.is in
     let starts : word_starts f s ≡ Ok (true, s) =
-    subst (λ y. word_starts f (cursor_at y m s.blank_so_far) ≡ Ok (true, cursor_at y m s.blank_so_far)) (sym here)
-    (first_starts f m s.blank_so_far c cs x safe h.no_comment h.no_dot h.dash) in
-    let some : 0 < length w = subst (λ y. 0 < length y) (sym h.is) (omega arith) in
-    plain_starts f i s s starts
-    ∙ ap (word f i m m) is
-    ∙ word_read f i m m w x h.safe
-    ∙ ap (with_text (encode_utf8_all w)) (word_ends f i m e x (omega (arith, some)) ends)
-    ∙ ap (λ y. Ok (y, e, comment_of f (is_tabbed i x) behind, behind)) (append-nil (encode_utf8_all w))
+    rw here (first_starts f m s.blank_so_far c cs x safe h.no_comment h.no_dot h.dash) in
+    let some : 0 < length w = rw h.is (omega arith) in
+    cc (
+      plain_starts f i s s starts,
+      word_read f i m m w x h.safe,
+      word_ends f i m e x (omega (arith, some)) ends,
+      append-nil (encode_utf8_all w),
+    )
 
 -- what a scalar that nothing encloses may end before
 pub ends_at_root : (f : Bool) (end : Marker) (xs : List ℕ) → slice_index xs 0 ≢ number_sign
     → is_in_word f (drop (prefix_len is_blank_or_break xs) xs) ≡ false → EndsPlain f 0 end xs
 ends_at_root f end xs apart stops =
     record {
-      stops = inl (ap (is_in_word f) (past_rest end false xs) ∙ stops);
+      stops = inl (cc (past_rest end false xs));
       apart = apart;
       tabs = inl (untabbed_root xs);
     }

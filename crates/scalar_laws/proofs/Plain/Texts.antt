@@ -1,5 +1,5 @@
 -- A plain scalar of several words and lines is read, without a fault.
-use Rattle.std.proofs.Common.{◌≡◌, ◌≢◌, ℕ, suc, ◌+◌, ◌<◌, ◌≤◌, Bool, true, false, List, [], ◌∷◌, ◌++◌, length, drop, take, slice_index, Ok, refl, sym, ap, ◌∙◌, arith, subst, encode_utf8_all, append_assoc, IsTrue, ⊎_elim, inl}
+use Rattle.std.proofs.Common.{◌≡◌, ◌≢◌, ℕ, suc, ◌+◌, ◌<◌, ◌≤◌, Bool, true, false, List, [], ◌∷◌, ◌++◌, length, drop, slice_index, Ok, refl, sym, ap, ◌∙◌, arith, subst, encode_utf8_all, append_assoc, IsTrue, ⊎_elim, inl}
 use Rattle.std.specs.Prelude.{◌||◌, ◌&&◌, ◌==◌, not, nat_lt, encode_utf8, if◌then◌else◌}
 use Rattle.std.specs.List.{prefix_len}
 use Rattle.std.proofs.lemmas.Bool.Decides.{nat_tests}
@@ -9,13 +9,13 @@ use Rattle.saphyr_input.specs.Classes.{is_blank, is_break, is_blank_or_breakz, i
 use Rattle.saphyr_input.specs.Places.{is_blank_or_break, is_document_indicator}
 use Rattle.saphyr_scalar.specs.Spelling.Tag.{AreIn}
 use Rattle.saphyr_scalar.specs.declared.scalar.position.Marker.{Marker}
-use Rattle.saphyr_scalar.specs.Views.Cursor.{Cursor, ◌>>=◌, along, next_line}
+use Rattle.saphyr_scalar.specs.Views.Cursor.{Cursor, along, next_line}
 use Rattle.saphyr_values.specs.Flow.{plain_value}
-use Rattle.saphyr_scalar.specs.Steps.Plain.{is_in_word, word_starts, next_word_starts, comment_of, ends_line, with_text, PlainScalarRead, scalar_end, word, plain}
+use Rattle.saphyr_scalar.specs.Steps.Plain.{is_in_word, word_starts, next_word_starts, comment_of, ends_line, with_text, PlainScalarRead, word, plain}
 use Rattle.saphyr_scalar.specs.Reading.Plain.{end_of_text}
 use Rattle.saphyr_scalar.proofs.Moving.{along_none, along_more}
 use Rattle.saphyr_scalar.proofs.Plain.Runs.{AreInk, NoFeed, same_ends, passed_append, passed_word, passed_index}
-use Rattle.saphyr_scalar.proofs.Plain.Pieces.{no_text, text_twice, word_on, word_over, plain_behind_gap, plain_starts}
+use Rattle.saphyr_scalar.proofs.Plain.Pieces.{no_text, text_twice, word_on, word_over, plain_starts}
 use Rattle.saphyr_scalar.proofs.Plain.Sound.{plain_reads}
 use Rattle.scalar_laws.specs.Spelling.Plain.{behind_blanks, past_white, reaches_tabbed, is_tabbed, EndsPlain, is_word_ink, AreInkBefore, IsWordBefore, has_line_end, IsPlainGap, words_text, IsNoMarker, AreFurtherWords, IsPlainText}
 use Rattle.scalar_laws.proofs.Plain.White.{flag_on, tabbed_on, tabbed_stop, past_on, past_stop, gap_past}
@@ -39,37 +39,29 @@ one_in_word f c cs h next = test (c == 58) refl
     parts : (is_blank_or_breakz c ≡ false) × (is_bom c ≡ false) × ((f && is_flow c) ≡ false)
     parts = none_of_three (is_blank_or_breakz c) (is_bom c) (f && is_flow c) h
 
-    test : (b : Bool) → (c == colon) ≡ b
-        → (not (is_blank_or_breakz c)
+    test : (b : Bool) → (c == colon) ≡ b → (not (is_blank_or_breakz c)
         && (if c == colon then not (is_blank_or_breakz d || (f && is_flow d)) else not (is_bom c || (f && is_flow c))))
         ≡ true
     test true e =
         let is : c ≡ 58 = grind (arith, nat_tests) in
         let n = none_of_three (is_blank_or_breakz d) (is_bom d) (f && is_flow d) (next is) in
         subst (λ b. (not b && (if c == 58 then not (is_blank_or_breakz d || (f && is_flow d)) else
-        not (is_bom c || (f && is_flow c)))) ≡ true) (sym parts.0)
-        (subst (λ b. (if b then not (is_blank_or_breakz d || (f && is_flow d)) else not (is_bom c || (f && is_flow c)))
-        ≡ true) (sym e)
-        (subst (λ b. not (b || (f && is_flow d)) ≡ true) (sym n.0) (ap not n.2)))
-    test false e =
-        subst (λ b. (not b && (if c == 58 then not (is_blank_or_breakz d || (f && is_flow d)) else
-        not (is_bom c || (f && is_flow c)))) ≡ true) (sym parts.0)
-        (subst (λ b. (if b then not (is_blank_or_breakz d || (f && is_flow d)) else not (is_bom c || (f && is_flow c)))
-        ≡ true) (sym e)
-        (subst (λ b. not (b || (f && is_flow c)) ≡ true) (sym parts.1) (ap not parts.2)))
+        not (is_bom c || (f && is_flow c)))) ≡ true) (sym parts.0) (rw (e, n.0) (ap not n.2))
+    test false e = rw (parts.0, e, parts.1) (ap not parts.2)
 
 ink_in_word : (f : Bool) (c : ℕ) (cs y : List ℕ) → AreInkBefore f (c ∷ cs) y → is_in_word f (c ∷ (cs ++ y)) ≡ true
 ink_in_word f c cs y h = one_in_word f c (cs ++ y) h.0 h.1
 
 read_word : (f : Bool) (i : ℕ) (a m : Marker) (w y : List ℕ) → AreInkBefore f w y
     → word f i a m (w ++ y) ≡ with_text (encode_utf8_all w) (word f i a (along m (length w)) y)
-read_word f i a m [] y h = sym (no_text _) ∙ ap (λ x. with_text [] (word f i a x y)) (sym (along_none m))
+read_word f i a m [] y h = cc (no_text _, along_none m)
 read_word f i a m (c ∷ w) y h =
-    word_on f i a m c (w ++ y) (ink_in_word f c w y h)
-    ∙ ap (with_text (encode_utf8 c)) (read_word f i a (along m 1) w y h.2)
-    ∙ text_twice (encode_utf8 c) (encode_utf8_all w) _
-    ∙ ap (λ x. with_text (encode_utf8_all (c ∷ w)) (word f i a x y))
-    (along_more m 1 (length w) (suc (length w)) (omega arith))
+    cc (
+      word_on f i a m c (w ++ y) (ink_in_word f c w y h),
+      read_word f i a (along m 1) w y h.2,
+      text_twice (encode_utf8 c) (encode_utf8_all w) _,
+      along_more m 1 (length w) (suc (length w)) (omega arith),
+    )
 
 -- where a word starts
 
@@ -87,9 +79,8 @@ no_marker_by_test : (m : Marker) (xs : List ℕ) → IsNoMarker m xs → ((m.col
 no_marker_by_test m xs h = test (m.col == 0) refl
   where
     test : (b : Bool) → (m.col == 0) ≡ b → ((m.col == 0) && is_document_indicator xs) ≡ false
-    test true e = let is : m.col ≡ 0 =
-        grind (arith, nat_tests) in subst (λ b. (b && is_document_indicator xs) ≡ false) (sym e) (h is)
-    test false e = subst (λ b. (b && is_document_indicator xs) ≡ false) (sym e) refl
+    test true e = let is : m.col ≡ 0 = grind (arith, nat_tests) in rw e (h is)
+    test false e = rw e refl
 
 first_in : (f : Bool) (w y : List ℕ) → IsWordBefore f w y → is_in_word f (w ++ y) ≡ true
 first_in f [] y h = absurd (h.some refl)
@@ -146,23 +137,25 @@ dark_no_blank xs h = by_parts (is_blank (slice_index xs 0)) (is_break (slice_ind
 
 past_gap : (m : Marker) (b : Bool) (v y : List ℕ) → AreIn is_blank_or_break v → Dark y
     → past_white m b (v ++ y) ≡ cursor_at y (end_of_text m v) (b || has_line_end v)
-past_gap m b [] y are dark = past_stop m b y dark ∙ ap (cursor_at y m) (sym (or-false b))
+past_gap m b [] y are dark = cc (past_stop m b y dark, or-false b)
 past_gap m b (c ∷ v) y are dark =
-    past_on m b c (v ++ y) are.0
-    ∙ ap (λ (t : Bool). past_white (if t then next_line m 1 else along m 1) (b || is_break c) (v ++ y))
-    (same_ends c v y (dark_no_feed y dark))
-    ∙ past_gap (if ends_line c v then next_line m 1 else along m 1) (b || is_break c) v y are.1 dark
-    ∙ ap (cursor_at y (end_of_text m (c ∷ v))) (or_assoc b (is_break c) (has_line_end v))
+    cc (
+      past_on m b c (v ++ y) are.0,
+      same_ends c v y (dark_no_feed y dark),
+      past_gap (if ends_line c v then next_line m 1 else along m 1) (b || is_break c) v y are.1 dark,
+      or_assoc b (is_break c) (has_line_end v),
+    )
 
 tabbed_more : (i k : ℕ) (t : Bool) (v y : List ℕ) → Dark y → AreIn is_blank_or_break v
     → reaches_tabbed i k t (v ++ y) ≡ reaches_tabbed i k t v
 tabbed_more i k t [] y dark are = tabbed_stop i k t y dark
 tabbed_more i k t (c ∷ v) y dark are =
-    tabbed_on i k t c (v ++ y) are.0
-    ∙ ap (λ (e : Bool). reaches_tabbed i (if e then 0 else k + 1) (flag_on i k t c) (v ++ y))
-    (same_ends c v y (dark_no_feed y dark))
-    ∙ tabbed_more i (if ends_line c v then 0 else k + 1) (flag_on i k t c) v y dark are.1
-    ∙ sym (tabbed_on i k t c v are.0)
+    cc (
+      tabbed_on i k t c (v ++ y) are.0,
+      same_ends c v y (dark_no_feed y dark),
+      tabbed_more i (if ends_line c v then 0 else k + 1) (flag_on i k t c) v y dark are.1,
+      tabbed_on i k t c v are.0,
+    )
 
 pub blanks_on : (c : ℕ) (cs : List ℕ) → is_blank c ≡ true → behind_blanks (c ∷ cs) ≡ behind_blanks cs
 blanks_on c cs h =
@@ -176,18 +169,14 @@ blanks_stop (c ∷ cs) h =
     ap (λ n. drop n (c ∷ cs)) none
 
 is_tabbed_more : (i : ℕ) (v y : List ℕ) → Dark y → AreIn is_blank_or_break v → is_tabbed i (v ++ y) ≡ is_tabbed i v
-is_tabbed_more i [] y dark are =
-    ap (reaches_tabbed i 0 false) (blanks_stop y (dark_no_blank y dark)) ∙ tabbed_stop i 0 false y dark
+is_tabbed_more i [] y dark are = cc (blanks_stop y (dark_no_blank y dark), tabbed_stop i 0 false y dark)
 is_tabbed_more i (c ∷ v) y dark are = test (is_blank c) refl (is_tabbed_more i v y dark are.1)
   where
     test : (b : Bool) → is_blank c ≡ b → is_tabbed i (v ++ y) ≡ is_tabbed i v
         → is_tabbed i (c ∷ (v ++ y)) ≡ is_tabbed i (c ∷ v)
-    test true e more =
-        ap (reaches_tabbed i 0 false) (blanks_on c (v ++ y) e) ∙ more
-        ∙ sym (ap (reaches_tabbed i 0 false) (blanks_on c v e))
+    test true e more = ap (reaches_tabbed i 0 false) (blanks_on c (v ++ y) e) ∙ more ∙ sym (cc (blanks_on c v e))
     test false e more =
-        ap (reaches_tabbed i 0 false) (blanks_stop (c ∷ (v ++ y)) e) ∙ tabbed_more i 0 false (c ∷ v) y dark are
-        ∙ sym (ap (reaches_tabbed i 0 false) (blanks_stop (c ∷ v) e))
+        cc (blanks_stop (c ∷ (v ++ y)) e, tabbed_more i 0 false (c ∷ v) y dark are, blanks_stop (c ∷ v) e)
 
 gap_first : (v y : List ℕ) → v ≢ [] → AreIn is_blank_or_break v → is_blank_or_break (slice_index (v ++ y) 0) ≡ true
 gap_first [] y some are = absurd (some refl)
@@ -208,7 +197,7 @@ not_left f i m v h =
     in_flow false e = absurd (cc)
 
     on_line : has_line_end v ≡ false → (has_line_end v && not f && nat_lt (end_of_text m v).col i) ≡ false
-    on_line e = subst (λ b. (b && not f && nat_lt (end_of_text m v).col i) ≡ false) (sym e) refl
+    on_line e = rw e refl
 
     last_of : (a b : Bool) → (a && b && false) ≡ false
     last_of true true = refl
@@ -218,7 +207,7 @@ not_left f i m v h =
     indented : i ≤ (end_of_text m v).col → (has_line_end v && not f && nat_lt (end_of_text m v).col i) ≡ false
     indented le =
         let more : nat_lt (end_of_text m v).col i ≡ false = grind (arith, nat_tests) in
-        subst (λ b. (has_line_end v && not f && b) ≡ false) (sym more) (last_of (has_line_end v) (not f))
+        rw more (last_of (has_line_end v) (not f))
 
 goes_here : (f : Bool) (i : ℕ) (s : Cursor) → (s.blank_so_far && not f && nat_lt s.mark.col i) ≡ false
     → word_starts f s ≡ Ok (true, s) → next_word_starts f i s ≡ Ok (true, s)
@@ -243,17 +232,13 @@ gap_passes f i a m v w z h hw marker =
     (word_begins f (end_of_text m v) (has_line_end v) w z hw marker) in
     record {
       text = gap_is.text;
-      is = word_over f i a m (v ++ y) (white_stops f (v ++ y) (gap_first v y h.some h.white))
-          ∙ ap (λ r. r >>= plain_behind_gap f i a m) gap_is.is
-          ∙ ap (λ (t : Bool). plain_behind_gap f i a m (record {
-            text = gap_is.text;
-            tabbed = t;
-            behind = past_white m false (v ++ y);
-          })) clean
-          ∙ ap (λ (s : Cursor). plain_behind_gap f i a m
-          (record { text = gap_is.text; tabbed = false; behind = s })) behind
-          ∙ ap (λ r. r >>= λ b. if b.0 then with_text gap_is.text (word f i a b.1.mark b.1.rest) else scalar_end f m
-          (record { text = gap_is.text; tabbed = false; behind = there })) goes;
+      is = simp (
+        word_over f i a m (v ++ y) (white_stops f (v ++ y) (gap_first v y h.some h.white)),
+        gap_is.is,
+        clean,
+        behind,
+        goes,
+      );
     }
 
 -- The whole of a scalar.
@@ -268,8 +253,7 @@ record EndsAt (f t : Bool) (r : PlainScalarRead) (end : Marker) (behind : Cursor
   is : r ≡ Ok (text, end, comment_of f t behind, behind)
 
 more_text : (f t : Bool) (front : List ℕ) (q r : PlainScalarRead) (end : Marker) (behind : Cursor) → q
-    ≡ with_text front r
-    → EndsAt f t r end behind → EndsAt f t q end behind
+    ≡ with_text front r → EndsAt f t r end behind → EndsAt f t q end behind
 more_text f t front q r end behind is e = record { text = front ++ e.text; is = is ∙ ap (with_text front) e.is }
 
 words_read : (f : Bool) (i : ℕ) (a : Marker) (ps : List (List ℕ × List ℕ)) (m : Marker) (x : List ℕ) → 0 < m.col
@@ -283,7 +267,7 @@ words_read f i a (p ∷ ps) m x some h ends =
     let there = end_of_text m v in
     let passes = gap_passes f i a m v w z h.0 h.1 h.2 in
     let same : (v ++ (w ++ words_text ps)) ++ x ≡ v ++ (w ++ z) =
-    append_assoc v (w ++ words_text ps) x ∙ ap (λ (l : List ℕ). v ++ l) (append_assoc w (words_text ps) x) in
+    cc (append_assoc v (w ++ words_text ps) x, append_assoc w (words_text ps) x) in
     let long = some_length w h.1.some in
     let first : 0 < (along there (length w)).col = omega (arith, long) in
     more_text f (is_tabbed i x) passes.text _ _ _ _ (ap (word f i a m) same ∙ passes.is)
@@ -302,8 +286,7 @@ passed_words f i (p ∷ ps) m x h =
 
 -- two beginnings of one length are the same
 same_piece : (xs ys us vs : List ℕ) → xs ++ us ≡ ys ++ vs → length xs ≡ length ys → xs ≡ ys
-same_piece xs ys us vs e n =
-    sym (take-append_seam xs us) ∙ ap (take (length xs)) e ∙ ap (λ k. take k (ys ++ vs)) n ∙ take-append_seam ys vs
+same_piece xs ys us vs e n = cc (take-append_seam xs us, take-append_seam ys vs)
 
 text_ends : (f : Bool) (i : ℕ) (s : Cursor) (text x : List ℕ) → s.rest ≡ text ++ x → IsPlainText f i s.mark text x
     → EndsAt f (is_tabbed i x) (plain f i s) (end_of_text s.mark text) (past_white (end_of_text s.mark text) false x)
@@ -312,24 +295,19 @@ text_ends f i s text x is h =
     let w = h.first in
     let z = words_text h.others ++ x in
     let there = along m (length w) in
-    let here : s.rest ≡ w ++ z = is ∙ ap (λ (l : List ℕ). l ++ x) h.is ∙ append_assoc w (words_text h.others) x in
+    let here : s.rest ≡ w ++ z = cc (append_assoc w (words_text h.others) x) in
     let place : end_of_text m text ≡ end_of there h.others =
-    ap (end_of_text m) h.is ∙ passed_word m w (words_text h.others) (ink_of f w z h.word.ink)
-    ∙ passed_words f i h.others there x h.further in
+    cc (passed_word m w (words_text h.others) (ink_of f w z h.word.ink), passed_words f i h.others there x h.further) in
     let marker : IsNoMarker m (w ++ z) = subst (λ (l : List ℕ). IsNoMarker m l) (sym is ∙ here) h.marker in
-    let starts : word_starts f s ≡ Ok (true, s) =
-    subst (λ (l : List ℕ). word_starts f (cursor_at l m s.blank_so_far) ≡ Ok (true, cursor_at l m s.blank_so_far))
-    (sym here) (word_begins f m s.blank_so_far w z h.word marker) in
+    let starts : word_starts f s ≡ Ok (true, s) = rw here (word_begins f m s.blank_so_far w z h.word marker) in
     let long = some_length w h.word.some in
-    let ends = subst (λ (e : Marker). EndsPlain f i e x) place h.ends in
+    let ends = rw place at h.ends in
     let read = words_read f i m h.others there x (omega (arith, long)) h.further ends in
-    subst (λ (e : Marker). EndsAt f (is_tabbed i x) (plain f i s) e (past_white e false x)) (sym place)
-    (more_text f (is_tabbed i x) (encode_utf8_all w) _ _ _ _
-    (plain_starts f i s s starts ∙ ap (word f i m m) here ∙ read_word f i m m w z h.word.ink) read)
+    rw place (more_text f (is_tabbed i x) (encode_utf8_all w) _ _ _ _
+    (cc (plain_starts f i s s starts, read_word f i m m w z h.word.ink)) read)
 
 pub plain_text_read : (f : Bool) (i : ℕ) (s : Cursor) (text x : List ℕ) → s.rest ≡ text ++ x
-    → IsPlainText f i s.mark text x
-    → let end = end_of_text s.mark text in let behind =
+    → IsPlainText f i s.mark text x → let end = end_of_text s.mark text in let behind =
     past_white end false x in plain f i s
     ≡ Ok (encode_utf8_all (plain_value (normalized text)), end, comment_of f (is_tabbed i x) behind, behind)
 plain_text_read f i s text x is h =
@@ -339,8 +317,7 @@ plain_text_read f i s text x is h =
     let read = text_ends f i s text x is h in
     let reading = plain_reads f i s behind read.text end (comment_of f (is_tabbed i x) behind) read.is in
     let index : m.index + length reading.piece ≡ m.index + length text =
-    sym (passed_index m reading.piece) ∙ ap (λ (p : Marker). p.index) reading.ends ∙ passed_index m text in
+    cc (passed_index m reading.piece, passed_index m text) in
     let same : reading.piece ≡ text = same_piece reading.piece text (reading.white ++ behind.rest) x
     (sym reading.is ∙ is) (omega (arith, index)) in
-    read.is ∙ ap (λ t. Ok (t, end, comment_of f (is_tabbed i x) behind, behind))
-    (sym reading.value ∙ ap (λ (l : List ℕ). encode_utf8_all (plain_value (normalized l))) same)
+    read.is ∙ ap (λ t. Ok (t, end, comment_of f (is_tabbed i x) behind, behind)) (cc)

@@ -63,11 +63,12 @@ off false b = refl
 root_kind : (k c : ℕ) (cs : List ℕ) (white : Bool) → is_blank_or_break c ≡ white
     → ((n : ℕ) → reaches_tabbed 0 n false cs ≡ false) → reaches_tabbed 0 k false (c ∷ cs) ≡ false
 root_kind k c cs true e on =
-    tabbed_on 0 k false c cs e
-    ∙ ap (λ (b : Bool). reaches_tabbed 0 (if ends_line c cs then 0 else k + 1)
-    (is_blank c && (false || ((c == tab) && b))) cs) (none_below_zero k)
-    ∙ ap (λ (b : Bool). reaches_tabbed 0 (if ends_line c cs then 0 else k + 1) b cs) (off (is_blank c) (c == tab))
-    ∙ on (if ends_line c cs then 0 else k + 1)
+    cc (
+      tabbed_on 0 k false c cs e,
+      none_below_zero k,
+      off (is_blank c) (c == tab),
+      on (if ends_line c cs then 0 else k + 1),
+    )
 root_kind k c cs false e on = tabbed_stop 0 k false (c ∷ cs) e
 
 root_untabbed : (k : ℕ) (xs : List ℕ) → reaches_tabbed 0 k false xs ≡ false
@@ -82,8 +83,7 @@ step_col : (b : Bool) (m : Marker) → (cond b 0 (m.col + 1)) ≡ (cond b (next_
 step_col true m = refl
 step_col false m = refl
 
-line_past : (i : ℕ) (a : Marker) (t : Bool) (f : List ℕ) (m : Marker) (c : ℕ) (cs : List ℕ)
-    → is_blank_or_break c ≡ true
+line_past : (i : ℕ) (a : Marker) (t : Bool) (f : List ℕ) (m : Marker) (c : ℕ) (cs : List ℕ) → is_blank_or_break c ≡ true
     → lines i a t f m (c ∷ cs)
     ≡ lines i a (flag_on i m.col t c) (if ends_line c cs then f ++ line_feed ∷ [] else f)
     (if ends_line c cs then next_line m 1 else along m 1) cs
@@ -115,7 +115,7 @@ leaves_on : (r q : Result PlainGap Refusal) (p t : Bool) (s u : Cursor) → r �
 leaves_on r q p t s u e same place l =
     record {
       text = l.text;
-      is = e ∙ l.is ∙ ap (λ x. Ok (seen_gap t l.text x)) (sym place) ∙ ap (λ x. Ok (seen_gap x l.text s)) (sym same);
+      is = simp (e, l.is, place, same);
     }
 
 pub lines_past : (i : ℕ) (a : Marker) (t : Bool) (f : List ℕ) (m : Marker) (xs : List ℕ)
@@ -139,26 +139,21 @@ lines_past i a t f m (c ∷ cs) h = by_case (is_blank_or_break c) refl
     by_case : (b : Bool) → is_blank_or_break c ≡ b → Rest → Goal
     by_case true white rest =
         let flag : reaches_tabbed i m.col t (c ∷ cs) ≡ reaches_tabbed i on.col (flag_on i m.col t c) cs =
-        tabbed_on i m.col t c cs white
-        ∙ ap (λ (k : ℕ). reaches_tabbed i k (flag_on i m.col t c) cs) (step_col (ends_line c cs) m) in
+        cc (tabbed_on i m.col t c cs white, step_col (ends_line c cs) m) in
         let place = past_on m true c cs white in
-        leaves_on _ _ _ _ _ _ (line_past i a t f m c cs white) flag place
-        (rest (subst (λ (b : Bool). MayStand b (past_white on true cs).rest) flag
-        (subst (λ (s : Cursor). MayStand (reaches_tabbed i m.col t (c ∷ cs)) s.rest) place h)))
+        leaves_on _ _ _ _ _ _ (line_past i a t f m c cs white) flag place (rest (rw (place, flag) at h))
     by_case false other rest =
         let flag = tabbed_stop i m.col t (c ∷ cs) other in
         let place = past_stop m true (c ∷ cs) other in
         leaves_on _ _ _ _ _ _ refl flag place (record {
           text = f;
-          is = line_ends_with_ink i a t f m c cs other
-              (subst (λ (b : Bool). MayStand b (c ∷ cs)) flag
-              (subst (λ (s : Cursor). MayStand (reaches_tabbed i m.col t (c ∷ cs)) s.rest) place h));
+          is = line_ends_with_ink i a t f m c cs other (rw (place, flag) at h);
         })
 
 -- blanks are passed
 pub past_blanks : (m : Marker) (b : Bool) (xs : List ℕ)
     → past_white m b xs ≡ past_white (along m (prefix_len is_blank xs)) b (behind_blanks xs)
-past_blanks m b [] = ap (λ x. past_white x b []) (sym (along_none m))
+past_blanks m b [] = cc (along_none m)
 past_blanks m b (c ∷ cs) = by_case (is_blank c) refl (past_blanks (along m 1) b cs)
   where
     n : ℕ
@@ -175,18 +170,17 @@ past_blanks m b (c ∷ cs) = by_case (is_blank c) refl (past_blanks (along m 1) 
     blank_on h =
         let no = blank_no_break c h in
         let white : is_blank_or_break c ≡ true = rw h refl in
-        past_on m b c cs white ∙ rw no (ap (λ x. past_white (along m 1) x cs) (or_false b))
+        past_on m b c cs white ∙ rw no (cc (or_false b))
 
     by_case : (t : Bool) → is_blank c ≡ t → past_white (along m 1) b cs ≡ past_white (along (along m 1) n) b (drop n cs)
         → Goal
     by_case true h rest =
         let one : prefix_len is_blank (c ∷ cs) ≡ suc n = rw h (omega arith) in
         subst (λ k. past_white m b (c ∷ cs) ≡ past_white (along m k) b (drop k (c ∷ cs))) (sym one)
-        (blank_on h ∙ rest ∙ ap (λ x. past_white x b (drop n cs)) (along_more m 1 n (suc n) (omega arith)))
+        (cc (blank_on h, along_more m 1 n (suc n) (omega arith)))
     by_case false h rest =
         let none : prefix_len is_blank (c ∷ cs) ≡ 0 = rw h refl in
-        subst (λ k. past_white m b (c ∷ cs) ≡ past_white (along m k) b (drop k (c ∷ cs))) (sym none)
-        (ap (λ x. past_white x b (c ∷ cs)) (sym (along_none m)))
+        rw none (cc (along_none m))
 
 abbrev AtBreak : List ℕ → Marker → Bool → Type 0
 AtBreak xs m b =
@@ -195,17 +189,16 @@ AtBreak xs m b =
     × ((i k : ℕ) → reaches_tabbed i k false xs ≡ reaches_tabbed i t.mark.col false t.rest)
 
 feed_at : (cs : List ℕ) (m : Marker) (b : Bool) → AtBreak (line_feed ∷ cs) m b
-feed_at cs m b = (ap (λ x. past_white (next_line m 1) x cs) (or-true b), λ i k. refl)
+feed_at cs m b = (cc (or-true b), λ i k. refl)
 
 return_at : (cs : List ℕ) (m : Marker) (b : Bool) → (slice_index cs 0 == line_feed) ≡ false
     → AtBreak (carriage_return ∷ cs) m b
-return_at cs m b h = rw h (ap (λ x. past_white (next_line m 1) x cs) (or-true b), λ i k. refl)
+return_at cs m b h = rw h (cc (or-true b), λ i k. refl)
 
 two_at : (cs : List ℕ) (m : Marker) (b : Bool) → AtBreak (carriage_return ∷ line_feed ∷ cs) m b
 two_at cs m b =
     let two : m.index + 1 + 1 ≡ m.index + 2 = omega arith in (
-      ap (λ x. past_white (next_line (along m 1) 1) (x || true) cs) (or-true b)
-          ∙ ap (λ n. past_white (record (next_line m 2) { index = n }) true cs) two,
+      cc (or-true b),
       λ i k. refl,
     )
 
@@ -214,8 +207,7 @@ return_or_two [] m b = return_at [] m b refl
 return_or_two (d ∷ ds) m b = test (d == 10) refl
   where
     test : (e : Bool) → (d == line_feed) ≡ e → AtBreak (carriage_return ∷ d ∷ ds) m b
-    test true h = let is : 10 ≡ d =
-        grind (arith, nat_tests) in subst (λ x. AtBreak (13 ∷ x ∷ ds) m b) is (two_at ds m b)
+    test true h = let is : 10 ≡ d = grind (arith, nat_tests) in rw (← is) (two_at ds m b)
     test false h = return_at (d ∷ ds) m b h
 
 at_break : (xs : List ℕ) (m : Marker) (b : Bool) → is_break (slice_index xs 0) ≡ true → AtBreak xs m b
@@ -239,21 +231,18 @@ from_past i a blanks m xs clean h =
     let t = pass_break (mid_line m xs) in
     let here = at_break xs m false e in
     leaves_on _ _ _ _ _ _ refl (here.1 i 0) here.0 (same_fold _ _ _ (lines_past i a false [] t.mark t.rest
-    (subst (λ (b : Bool). MayStand b (past_white t.mark true t.rest).rest) (here.1 i 0)
-    (subst (λ (s : Cursor). MayStand (reaches_tabbed i 0 false xs) s.rest) here.0 h)))))
-    (λ e.
+    (rw (here.0, here.1 i 0) at h)))) (λ e.
     let other = or_from (is_blank (slice_index xs 0)) (is_break (slice_index xs 0)) clean e in
     leaves_on _ _ _ _ _ _ refl (tabbed_stop i 0 false xs other) (past_stop m false xs other)
     (record { text = blanks; is = refl }))
 
-pub gap_past : (i : ℕ) (a : Marker) (m : Marker) (xs : List ℕ)
-    → MayStand (is_tabbed i xs) (past_white m false xs).rest
+pub gap_past : (i : ℕ) (a : Marker) (m : Marker) (xs : List ℕ) → MayStand (is_tabbed i xs) (past_white m false xs).rest
     → LeavesGap (gap i a (mid_line m xs)) (is_tabbed i xs) (past_white m false xs)
 unfolding gap
 gap_past i a m xs h =
     leaves_on _ _ _ _ _ _ refl refl (past_blanks m false xs)
     (from_past i a _ (along m (prefix_len is_blank xs)) (behind_blanks xs) (run_ends is_blank xs refl)
-    (subst (λ (s : Cursor). MayStand (is_tabbed i xs) s.rest) (past_blanks m false xs) h))
+    (rw (past_blanks m false xs) at h))
 
 -- how much is passed
 pub past_rest : (m : Marker) (b : Bool) (xs : List ℕ)
@@ -275,7 +264,7 @@ past_rest m b (c ∷ cs) =
         ap (λ (s : Cursor). s.rest) (past_on m b c cs white) ∙ rest ∙ ap (λ n. drop n (c ∷ cs)) (sym one)
     by_case false other rest =
         let none : prefix_len is_blank_or_break (c ∷ cs) ≡ 0 = rw other refl in
-        ap (λ (s : Cursor). s.rest) (past_stop m b (c ∷ cs) other) ∙ ap (λ n. drop n (c ∷ cs)) (sym none)
+        simp (past_stop m b (c ∷ cs) other, none)
 
 one_further : (e : Bool) (m : Marker) → (cond e (next_line m 1) (along m 1)).index ≡ m.index + 1
 one_further true m = refl

@@ -1,5 +1,5 @@
 -- What is read as a quoted scalar is counted: the index moves on by as many characters as are taken.
-use Rattle.std.proofs.Common.{◌≡◌, ℕ, zero, suc, pred, ◌+◌, List, [], ◌∷◌, length, drop, slice_index, Result, Ok, Err, refl, ap, arith, subst}
+use Rattle.std.proofs.Common.{◌≡◌, ℕ, zero, suc, pred, ◌+◌, List, [], ◌∷◌, length, drop, slice_index, Result, Ok, Err, refl, arith, subst}
 use Rattle.std.specs.Prelude.{◌&&◌, ◌==◌, not, Option, Some, None, encode_utf8}
 use Rattle.saphyr_input.specs.Classes.{is_break, is_blank}
 use Rattle.saphyr_input.specs.Places.{next_2_are}
@@ -49,8 +49,7 @@ some_behind n d s e x d2 read some = subst (λ (r : Result (Option ℕ × Cursor
 escape_behind : (start m : Marker) (c : ℕ) (cs : List ℕ) (r : Result (ℕ × Cursor) Refusal)
     → escaped_character start (mid_line m (c ∷ cs)) ≡ r
     → IsBehindSpelling (m.index + (2 + hex_digit_count (slice_index cs 0))) (r >>= λ e. Ok (Some e.0, e.1))
-escape_behind start m c cs (Ok e) is =
-    some_behind _ e.0 e.1 (ap (λ (t : Cursor). t.mark.index) (escape_place start m (c ∷ cs) e is))
+escape_behind start m c cs (Ok e) is = some_behind _ e.0 e.1 (simp (escape_place start m (c ∷ cs) e is))
 escape_behind start m c cs (Err e) is = λ x d read some. absurd (cc)
 
 special_behind : (quote : Quote) (start m : Marker) (c : ℕ) (cs : List ℕ)
@@ -63,9 +62,7 @@ special_behind Single start m c cs =
 special_behind Double start m c cs =
     by_test ((c == 92) && not (is_break (slice_index cs 0))) _ _
     (IsBehindSpelling (m.index + suc (suc (hex_digit_count (slice_index cs 0)))))
-    (λ _. subst (λ n. IsBehindSpelling (m.index + n)
-    (escaped_character start (mid_line m (c ∷ cs)) >>= λ e. Ok (Some e.0, e.1)))
-    (two_more (hex_digit_count (slice_index cs 0)))
+    (λ _. rw (two_more (hex_digit_count (slice_index cs 0))) at
     (escape_behind start m c cs (escaped_character start (mid_line m (c ∷ cs))) refl))
     (λ _. none_behind _ _)
   where
@@ -76,8 +73,7 @@ some_break : (xs : List ℕ) → pred (break_len xs) + 1 ≡ break_len xs
 some_break xs = by_test (next_2_are xs 13 10) 2 1 (λ n. pred n + 1 ≡ n) (λ _. refl) (λ _. refl)
 
 inside_counts : (quote : Quote) (indent : ℕ) (start : Marker) (gap : QuotedGap) (k : ℕ) (m : Marker) (cs : List ℕ)
-    (n : ℕ)
-    → n + k ≡ m.index + length cs → CountsText n (inner_text quote indent start gap k m cs)
+    (n : ℕ) → n + k ≡ m.index + length cs → CountsText n (inner_text quote indent start gap k m cs)
 unfolding inner_text
 inside_counts quote indent start gap k m [] n e = by_count k
   where

@@ -1,5 +1,5 @@
 -- A quoted scalar on one line: where it ends.
-use Rattle.std.proofs.Common.{◌≡◌, ℕ, ◌+◌, Bool, true, false, List, ◌∷◌, ◌++◌, length, length-append, Ok, refl, sym, ap, ◌∙◌, arith, subst, encode_utf8_all, IsTrue}
+use Rattle.std.proofs.Common.{◌≡◌, ℕ, ◌+◌, Bool, true, false, List, ◌∷◌, ◌++◌, length, length-append, Ok, refl, ap, ◌∙◌, arith, encode_utf8_all, IsTrue}
 use Rattle.std.specs.Prelude.{◌||◌, ◌&&◌, ◌==◌, not}
 use Rattle.saphyr_input.specs.Classes.{is_break}
 use Rattle.saphyr_scalar.specs.declared.scalar.position.Marker.{Marker}
@@ -16,7 +16,6 @@ use Rattle.saphyr_scalar.proofs.Moving.{along_more}
 use Rattle.saphyr_scalar.proofs.Passings.{digits_passed, one_place}
 use Rattle.saphyr_scalar.proofs.Quoted.Spellings.{no_break_simple, no_break_digits}
 use Rattle.saphyr_scalar.proofs.NoBreaks.{mark_no_break}
-use Rattle.saphyr_scalar.proofs.Given.{text_given_at}
 use Rattle.scalar_laws.specs.Spelling.QuotedLines.{AreOnLine}
 use Rattle.scalar_laws.proofs.Quoted.Reads.{quoted_read, line_fits, on_line_behind}
 
@@ -31,8 +30,7 @@ character_on_line c t x h r = record {
   count = 1 + r.count;
   total = omega (arith, r.total);
   passed = λ m. character m c t (along m (1 + r.count)) x h
-      (subst (λ (k : Marker). IsPassed (along m 1) t k x) (along_more m 1 r.count (1 + r.count) refl)
-      (r.passed (along m 1)));
+      (rw (along_more m 1 r.count (1 + r.count) refl) at (r.passed (along m 1)));
 }
 
 no_break_itself : (q : Quote) (c : ℕ) → IsTrue (quotes.stands_for_itself q c) → is_break c ≡ false
@@ -65,15 +63,13 @@ text_on_line _ _ _ _ (quotes.numbered e c ds t items x h r) on =
       count = length ds + b.count;
       total = length-append ds t ∙ omega (arith, b.total);
       passed = λ m. digits_passed m ds t (along m (length ds + b.count)) x h.hex
-          (subst (λ (k : Marker). IsPassed (along m (length ds)) t k x)
-          (along_more m (length ds) b.count (length ds + b.count) refl) (b.passed (along m (length ds))));
+          (rw (along_more m (length ds) b.count (length ds + b.count) refl) at (b.passed (along m (length ds))));
     }))
 text_on_line _ _ _ _ (quotes.escaped_break t items x h r) on = absurd on
 
 -- a scalar on one line is read whatever the indentation, and ends so many characters further on the line
 pub quoted_on_line : (q : Quote) (indent : ℕ) (s : Cursor) (items : List Item) (x : List ℕ)
-    → quotes.IsQuotedText q s.rest items x → AreOnLine items
-    → (n : ℕ) × (length s.rest ≡ n + length x)
+    → quotes.IsQuotedText q s.rest items x → AreOnLine items → (n : ℕ) × (length s.rest ≡ n + length x)
     × (quoted q indent s ≡ Ok (encode_utf8_all (folded items), mid_line (along s.mark n) x))
 quoted_on_line q indent s items x is on =
     let (inside_text, cut, text) = is in
@@ -82,13 +78,10 @@ quoted_on_line q indent s items x is on =
     let (m, passed, read) = quoted_read q indent s items x (inside_text, cut, text)
     (line_fits indent q inside_text items x text on) in
     let far : IsPassed s.mark s.rest (along s.mark n) x =
-    subst (λ (t : List ℕ). IsPassed s.mark t (along s.mark n) x) (sym cut)
-    (character s.mark (flow.mark q) inside_text (along s.mark n) x (mark_no_break q)
-    (subst (λ (k : Marker). IsPassed (along s.mark 1) inside_text k x) (along_more s.mark 1 line.count n refl)
-    (line.passed (along s.mark 1)))) in
+    rw cut (character s.mark (flow.mark q) inside_text (along s.mark n) x (mark_no_break q)
+    (rw (along_more s.mark 1 line.count n refl) at (line.passed (along s.mark 1)))) in
     let place : m ≡ along s.mark n = one_place s.mark s.rest (along s.mark n) x far m passed in (
       n,
       ap (λ (t : List ℕ). length t) cut ∙ omega (arith, line.total),
-      read
-          ∙ ap (λ k. text_given_at (encode_utf8_all (folded items)) k x) place,
+      cc,
     )

@@ -1,6 +1,6 @@
 -- A quoted scalar whose lines are indented as they should be is read, without a fault, and gives the reading of its
 -- items.
-use Rattle.std.proofs.Common.{◌≡◌, ℕ, ◌+◌, true, List, [], ◌∷◌, ◌++◌, length, drop, Ok, refl, sym, ap, ◌∙◌, subst, encode_utf8_all}
+use Rattle.std.proofs.Common.{◌≡◌, ℕ, ◌+◌, true, List, [], ◌∷◌, ◌++◌, length, drop, Ok, refl, ◌∙◌, encode_utf8_all}
 use Rattle.saphyr_scalar.specs.declared.scalar.position.Marker.{Marker}
 use Rattle.saphyr_values.specs.declared.folding.Item.{Item}
 use Rattle.saphyr_values.specs.declared.folding.Item.TheVariants.{Blank, Raw, Escaped, Break, EscapedBreak}
@@ -10,13 +10,12 @@ use Rattle.saphyr_scalar.specs.Views.Cursor.{Cursor, along, next_line}
 use Rattle.saphyr_values.specs.Flow as flow
 use Rattle.saphyr_values.specs.Folding.{folded}
 use Rattle.saphyr_scalar.specs.Passing.{IsPassed, character}
-use Rattle.saphyr_scalar.specs.Steps.Quoted.{mid_line, over_lines, no_gap, break_len, escaped_character, inner_text, quoted}
+use Rattle.saphyr_scalar.specs.Steps.Quoted.{mid_line, over_lines, no_gap, break_len, escaped_character, quoted}
 use Rattle.saphyr_scalar.specs.Spelling.Quoted as quotes
 use Rattle.saphyr_scalar.proofs.Moving.{along_more}
 use Rattle.saphyr_scalar.proofs.Passings.{letter_passed, digits_passed}
 use Rattle.saphyr_scalar.proofs.Quoted.Spellings.{letter_read, number_read, no_break_simple, no_break_digits}
 use Rattle.saphyr_scalar.proofs.Quoted.GapBytes.{no_gap_bytes}
-use Rattle.saphyr_scalar.proofs.Given.{text_given_at}
 use Rattle.scalar_laws.specs.Spelling.QuotedLines.{AreOnLine, LinesFit}
 use Rattle.scalar_laws.proofs.Quoted.IndentedLines.{line_indented}
 use Rattle.scalar_laws.proofs.Quoted.WordsRead.{with_gap, mark_content, closed_read, two_quotes_read, escape_read, escaped_break_read, same_at_quote, ReadsBehindBlank, itself_read, broken_read}
@@ -45,11 +44,10 @@ inside_read indent start _ _ _ _ (quotes.numbered e c ds t items x h r) fit m = 
     let k = 2 + length ds in
     let b = inside_read indent start Double t items x r fit (along m k) no_gap tt in
     let place : escaped_character start (mid_line m (92 ∷ e ∷ (ds ++ t))) ≡ Ok (c, mid_line (along m k) t) =
-    number_read start m e c ds t h ∙ ap (λ y. Ok (c, mid_line y t)) (along_more m 2 (length ds) k refl) in
+    cc (number_read start m e c ds t h, along_more m 2 (length ds) k refl) in
     let passed : IsPassed m (92 ∷ e ∷ (ds ++ t)) b.mark x =
     letter_passed m e (ds ++ t) b.mark x (no_break_digits e (length ds) h.count)
-    (digits_passed (along m 2) ds t b.mark x h.hex
-    (subst (λ (n : Marker). IsPassed n t b.mark x) (sym (along_more m 2 (length ds) k refl)) b.passed)) in
+    (digits_passed (along m 2) ds t b.mark x h.hex (rw (along_more m 2 (length ds) k refl) b.passed)) in
     with_gap Double indent start gap m (92 ∷ e ∷ (ds ++ t)) (Escaped c ∷ items) x fits
     (escape_read indent start m e c (ds ++ t) items x t k (no_break_digits e (length ds) h.count) place b passed)
 inside_read indent start _ _ _ _ (quotes.escaped_break t items x h r) fit m = λ gap fits.
@@ -70,10 +68,8 @@ quoted_read q indent s items x is fit =
     let (inside_text, cut, text) = is in
     let b = inside_read indent s.mark q inside_text items x text fit (along s.mark 1) no_gap tt in (
       b.mark,
-      subst (λ (t : List ℕ). IsPassed s.mark t b.mark x) (sym cut)
-          (character s.mark (flow.mark q) inside_text b.mark x (mark_content q).break b.passed),
-      ap (λ t. inner_text q indent s.mark no_gap 0 (along s.mark 1) (drop 1 t)) cut ∙ b.is
-          ∙ ap (λ y. text_given_at y b.mark x) (no_gap_bytes items),
+      rw cut (character s.mark (flow.mark q) inside_text b.mark x (mark_content q).break b.passed),
+      cc (no_gap_bytes items),
     )
 
 pub on_line_behind : (i : Item) (items : List Item) → AreOnLine (i ∷ items) → AreOnLine items

@@ -1,5 +1,5 @@
 -- Blanks, breaks and words of a quoted scalar are read, after each gap that fits, and so is its closing quote.
-use Rattle.std.proofs.Common.{◌≡◌, ℕ, ◌≤◌, Bool, true, false, List, [], ◌∷◌, ◌++◌, drop, slice_index, Ok, refl, sym, ap, ◌∙◌, arith, subst, nat_eq, nat_lt, IsTrue, cond}
+use Rattle.std.proofs.Common.{◌≡◌, ℕ, ◌≤◌, Bool, true, false, List, [], ◌∷◌, ◌++◌, drop, slice_index, Ok, refl, sym, ◌∙◌, arith, subst, nat_eq, nat_lt, IsTrue, cond}
 use Rattle.std.specs.Prelude.{◌||◌, ◌&&◌, ◌==◌, not, encode_utf8}
 use Rattle.std.proofs.lemmas.Bool.Decides.{nat_tests}
 use Rattle.saphyr_input.specs.Indicators.{apostrophe, backslash, quotation_mark}
@@ -10,13 +10,13 @@ use Rattle.saphyr_values.specs.declared.folding.Item.{Item}
 use Rattle.saphyr_values.specs.declared.folding.Item.TheVariants.{Raw, Escaped, EscapedBreak, Blank, Break}
 use Rattle.saphyr_values.specs.declared.flow.Quote.{Quote}
 use Rattle.saphyr_values.specs.declared.flow.Quote.TheVariants.{Single, Double}
-use Rattle.saphyr_scalar.specs.Views.Cursor.{◌>>=◌, along, next_line}
+use Rattle.saphyr_scalar.specs.Views.Cursor.{along, next_line}
 use Rattle.saphyr_values.specs.Flow as flow
 use Rattle.saphyr_scalar.specs.Passing.{IsPassed, nothing, character, line_break}
-use Rattle.saphyr_scalar.specs.Steps.Quoted.{is_literal, with_front, mid_line, QuotedGap, on_line, over_lines, no_gap, is_left, quoted_line, end_gap, escaped_gap, break_len, is_closing, escaped_character, inner_text, inner_text_at, blank_in, break_in}
+use Rattle.saphyr_scalar.specs.Steps.Quoted.{is_literal, mid_line, QuotedGap, on_line, over_lines, no_gap, is_left, quoted_line, end_gap, escaped_gap, break_len, is_closing, escaped_character, inner_text, blank_in, break_in}
 use Rattle.saphyr_scalar.specs.Spelling.Quoted as quotes
 use Rattle.saphyr_scalar.proofs.Moving.{along_more}
-use Rattle.saphyr_scalar.proofs.Quoted.Inside.{quoted_behind_gap, behind_no_gap, word_from, IsQuotedInk, content_of, stands, one_blank, at_break}
+use Rattle.saphyr_scalar.proofs.Quoted.Inside.{quoted_behind_gap, behind_no_gap, IsQuotedInk, content_of, stands, one_blank, at_break}
 use Rattle.saphyr_scalar.proofs.Quoted.Parts.{at_escape, at_two_quotes}
 use Rattle.saphyr_scalar.proofs.Quoted.Gaps.{at_escaped_break, at_closing, by_break_len}
 use Rattle.saphyr_scalar.proofs.Quoted.Spellings.{escape_content}
@@ -74,19 +74,17 @@ pub with_gap : (q : Quote) (indent : ℕ) (start : Marker) (gap : QuotedGap) (m 
 with_gap q indent start gap m t items x fits w =
     let c = w.first in
     let cs = w.others in
-    let fits_here : GapFits indent gap m (c ∷ cs) = subst (λ (l : List ℕ). GapFits indent gap m l) w.cut fits in
-    let word : inner_text q indent start no_gap 0 m (c ∷ cs) ≡ text_given_at w.text w.mark x =
-    ap (inner_text q indent start no_gap 0 m) (sym w.cut) ∙ w.is in
+    let fits_here : GapFits indent gap m (c ∷ cs) = rw w.cut at fits in
+    let word : inner_text q indent start no_gap 0 m (c ∷ cs) ≡ text_given_at w.text w.mark x = cc in
     record {
       mark = w.mark;
       passed = w.passed;
-      is = ap (inner_text q indent start gap 0 m) w.cut
-          ∙ quoted_behind_gap q indent start gap m c cs w.content.blank w.content.break
-          ∙ ap (λ r. r >>= λ text. with_front text (word_from q indent start m c cs))
-          (ends_gap indent start gap m c cs w.content fits_here)
-          ∙ ap (with_front (gap_front gap))
-          (sym (behind_no_gap q indent start m c cs w.content.blank w.content.break w.content.nul) ∙ word)
-          ∙ ap (λ b. text_given_at b w.mark x) (w.bytes gap);
+      is = cc (
+        quoted_behind_gap q indent start gap m c cs w.content.blank w.content.break,
+        ends_gap indent start gap m c cs w.content fits_here,
+        behind_no_gap q indent start m c cs w.content.blank w.content.break w.content.nul,
+        w.bytes gap,
+      );
     }
 
 pub mark_content : (q : Quote) → IsQuotedInk (flow.mark q)
@@ -136,7 +134,7 @@ literal_read q indent start m c t items x content h r = record {
   text = encode_utf8 c ++ gap_bytes no_gap items;
   mark = r.mark;
   passed = character m c t r.mark x content.break r.passed;
-  is = stands q indent start m c t h ∙ ap (with_front (encode_utf8 c)) r.is;
+  is = cc (stands q indent start m c t h);
   bytes = λ gap. raw_bytes gap c items;
 }
 
@@ -151,9 +149,8 @@ two_quotes_read indent start m t items x r = record {
   text = encode_utf8 39 ++ gap_bytes no_gap items;
   mark = r.mark;
   passed = character m 39 (39 ∷ t) r.mark x refl
-      (character (along m 1) 39 t r.mark x refl
-      (subst (λ (k : Marker). IsPassed k t r.mark x) (sym (along_more m 1 1 2 refl)) r.passed));
-  is = at_two_quotes indent start m t ∙ ap (with_front (encode_utf8 39)) r.is;
+      (character (along m 1) 39 t r.mark x refl (rw (along_more m 1 1 2 refl) r.passed));
+  is = cc (at_two_quotes indent start m t);
   bytes = λ gap. raw_bytes gap 39 items;
 }
 
@@ -170,17 +167,14 @@ escape_read indent start m e c t items x rest k no_break h r passed = record {
   text = encode_utf8 c ++ gap_bytes no_gap items;
   mark = r.mark;
   passed = passed;
-  is = at_escape indent start m (e ∷ t) no_break
-      ∙ ap (λ y. y >>= λ z. with_front (encode_utf8 z.0) (inner_text_at Double indent start no_gap z.1)) h
-      ∙ ap (with_front (encode_utf8 c)) r.is;
+  is = cc (at_escape indent start m (e ∷ t) no_break);
   bytes = λ gap. escaped_bytes gap c items;
 }
 
 pub escaped_break_read : (indent : ℕ) (start m : Marker) (t : List ℕ) (items : List Item) (x : List ℕ)
     → is_break (slice_index t 0) ≡ true
     → (r : Read Double indent start (over_lines true 0) (next_line (along m 1) (break_len t)) (drop (break_len t) t)
-    items x)
-    → inner_text Double indent start (escaped_gap Double (slice_index (drop (break_len t) t) 0)) 0
+    items x) → inner_text Double indent start (escaped_gap Double (slice_index (drop (break_len t) t) 0)) 0
     (next_line (along m 1) (break_len t)) (drop (break_len t) t)
     ≡ Ok (gap_bytes (over_lines true 0) items, mid_line r.mark x)
     → WordRead Double indent start m (backslash ∷ t) (EscapedBreak ∷ items) x
@@ -206,17 +200,17 @@ same_at_quote indent start m (c ∷ cs) fits = by_test (c == 34) refl
     number : (c : ℕ) → nat_eq c 34 ≡ true → 34 ≡ c
     number c h = grind (arith, nat_tests)
 
-    quote : Indented indent m (quotation_mark ∷ cs)
-        → inner_text Double indent start no_gap 0 m (quotation_mark ∷ cs)
+    quote : Indented indent m (quotation_mark ∷ cs) → inner_text Double indent start no_gap 0 m (quotation_mark ∷ cs)
         ≡ inner_text Double indent start (over_lines true 0) 0 m
         (quotation_mark ∷ cs)
     quote fits =
         at_closing Double indent start m cs refl
-        ∙ sym (quoted_behind_gap Double indent start (over_lines true 0) m 34 cs refl refl
-        ∙ ap (λ r. r >>= λ text. with_front text (word_from Double indent start m 34 cs))
-        (ends_gap indent start (over_lines true 0) m 34 cs (mark_content Double) fits)
-        ∙ ap (with_front []) (sym (behind_no_gap Double indent start m 34 cs refl refl refl)
-        ∙ at_closing Double indent start m cs refl))
+        ∙ sym (cc (
+          quoted_behind_gap Double indent start (over_lines true 0) m 34 cs refl refl,
+          ends_gap indent start (over_lines true 0) m 34 cs (mark_content Double) fits,
+          behind_no_gap Double indent start m 34 cs refl refl refl,
+          at_closing Double indent start m cs refl,
+        ))
 
     by_test : (b : Bool) → (c == quotation_mark) ≡ b
         → inner_text Double indent start (cond b no_gap (over_lines true 0)) 0 m (c ∷ cs)
@@ -254,15 +248,13 @@ ReadsBehindBlank q indent start m t items x = (gap : QuotedGap) → GapFits inde
 blank_read : (q : Quote) (indent : ℕ) (start : Marker) (gap : QuotedGap) (m : Marker) (c : ℕ) (t : List ℕ)
     (items : List Item)
     (x : List ℕ) → is_blank c ≡ true → GapFits indent gap m (c ∷ t) → ReadsBehindBlank q indent start
-    (along m 1) t items x
-    → Read q indent start gap m (c ∷ t) (Blank c ∷ items) x
+    (along m 1) t items x → Read q indent start gap m (c ∷ t) (Blank c ∷ items) x
 blank_read q indent start (on_line bytes) m c t items x h fits r =
     let b = r (on_line (bytes ++ encode_utf8 c)) tt in
     record {
       mark = b.mark;
       passed = character m c t b.mark x (blank_no_break c h) b.passed;
-      is = one_blank q indent start bytes m c t h ∙ b.is ∙ ap (λ y. text_given_at y b.mark x)
-          (blank_bytes bytes c items);
+      is = cc (one_blank q indent start bytes m c t h, blank_bytes bytes c items);
     }
 blank_read q indent start (over_lines escaped n) m c t items x h fits r =
     let f = blank_fits indent m c t h fits in
@@ -287,26 +279,23 @@ itself_read q indent start gap m c t items x h fits r = by_blank (is_blank c) re
         (blank_read q indent start gap m c t items x b fits r)
     by_blank false b =
         let is = itself_of q c h in
-        subst (λ (i : Item). Read q indent start gap m (c ∷ t) (i ∷ items) x) (sym (content_item c (is.content b)))
-        (with_gap q indent start gap m (c ∷ t) (Raw c ∷ items) x fits
+        rw (content_item c (is.content b)) (with_gap q indent start gap m (c ∷ t) (Raw c ∷ items) x fits
         (literal_read q indent start m c t items x (is.content b) (is.literal b) (r no_gap tt)))
 
 pub broken_read : (q : Quote) (indent : ℕ) (start : Marker) (gap : QuotedGap) (m : Marker) (t : List ℕ)
-    (items : List Item)
-    (x : List ℕ) → is_break (slice_index t 0) ≡ true
-    → IsLine indent (drop (break_len t) t)
+    (items : List Item) (x : List ℕ) → is_break (slice_index t 0) ≡ true → IsLine indent (drop (break_len t) t)
     → ReadsBehindBlank q indent start (next_line m (break_len t)) (drop (break_len t) t) items x
     → Read q indent start gap m t (Break ∷ items) x
 broken_read q indent start gap m t items x h line r =
     let here = mid_line m t in
     let on : inner_text q indent start gap 0 m t
     ≡ inner_text q indent start (break_in gap) 0 (next_line m (break_len t)) (drop (break_len t) t) =
-    at_break q indent start gap here h ∙ ap (inner_text_at q indent start (break_in gap)) (by_break_len here h) in
+    cc (at_break q indent start gap here h, by_break_len here h) in
     let b = r (break_in gap) (fits_line gap) in
     record {
       mark = b.mark;
       passed = line_break m t b.mark x h b.passed;
-      is = on ∙ b.is ∙ ap (λ y. text_given_at y b.mark x) (break_bytes gap items);
+      is = cc (break_bytes gap items);
     }
   where
     fits_line : (gap : QuotedGap) → GapFits indent (break_in gap) (next_line m (break_len t)) (drop (break_len t) t)
