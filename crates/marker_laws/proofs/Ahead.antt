@@ -1,5 +1,5 @@
 -- What two texts show that are the same up to a document marker, and what is left of them after a run.
-use Rattle.std.proofs.Common.{◌≡◌, ℕ, suc, ◌+◌, Bool, true, false, List, [], ◌∷◌, ◌++◌, take, drop, slice_index, refl, sym, ap, ◌∙◌, arith, subst}
+use Rattle.std.proofs.Common.{◌≡◌, ℕ, suc, ◌+◌, Bool, true, false, List, [], ◌∷◌, ◌++◌, take, drop, slice_index, refl, ap, ◌∙◌, arith}
 use Rattle.std.specs.Prelude.{◌&&◌, ◌==◌}
 use Rattle.std.specs.List.{prefix_len}
 use Rattle.std.proofs.lemmas.List.{drop-drop}
@@ -14,7 +14,7 @@ use Rattle.marker_laws.specs.Beside.{begins_line, Marked, Ahead, here, dashes, d
 
 pub text_ahead : {from : List ℕ} (b : Bool) (v : List ℕ) {r q : List ℕ} → Ahead from true r q → begins_line b v ≡ true
     → Ahead from b (v ++ r) (v ++ q)
-text_ahead {from = from} b [] {r = r} {q = q} h e = subst (λ z. Ahead from z r q) (sym e) h
+text_ahead {from = from} b [] {r = r} {q = q} h e = rw e h
 text_ahead b (c ∷ cs) h e = character c (text_ahead (is_break c) cs h e)
 
 -- ## Characters
@@ -67,8 +67,7 @@ pub dots_told : (t : List ℕ) (d : ℕ) (x : List ℕ) → is_blank_or_breakz (
     → is_blank_or_breakz (slice_index (t ++ d ∷ x) 0) ≡ true
 dots_told t d x k = ap is_blank_or_breakz (line_first d t x []) ∙ k
 
-indicated : (r : List ℕ) → is_blank_or_breakz (slice_index r 0) ≡ true
-    → is_document_indicator (46 ∷ 46 ∷ 46 ∷ r) ≡ true
+indicated : (r : List ℕ) → is_blank_or_breakz (slice_index r 0) ≡ true → is_document_indicator (46 ∷ 46 ∷ 46 ∷ r) ≡ true
 indicated r k = rw k refl
 
 pub told : {r q : List ℕ} → Marked r q → is_document_indicator r ≡ true
@@ -87,16 +86,14 @@ unmarked k (character c h) f = character c h
 
 -- where a character of a class is that has none of a marker's
 pub other_first : {from : List ℕ} {b : Bool} (k : Bool) (p : ℕ → Bool) → p 45 ≡ false → p 46 ≡ false → {r q : List ℕ}
-    → Ahead from b r q
-    → p (slice_index r 0) ≡ true → Ahead from k r q
+    → Ahead from b r q → p (slice_index r 0) ≡ true → Ahead from k r q
 other_first k p x y (here (dashes d e)) f = absurd (cc)
 other_first k p x y (here (dots tail d _ _ white e)) f = absurd (cc)
 other_first k p x y (character c h) f = character c h
 
 -- after the first character, which is no break
 pub past_first : {from : List ℕ} {b : Bool} (k : Bool) {r q : List ℕ} → Ahead from b r q → b ≡ false
-    → is_break (slice_index r 0) ≡ false
-    → Ahead from k (drop 1 r) (drop 1 q)
+    → is_break (slice_index r 0) ≡ false → Ahead from k (drop 1 r) (drop 1 q)
 past_first k (here h) f g = absurd (cc)
 past_first k (character c h) f g = inside k h g
 
@@ -130,8 +127,7 @@ unmarked_by m (here h) f g = let t = told h in let z = f refl t in absurd (grind
 unmarked_by m (character c h) f g = character c h
 
 pub unmarked_here : {from : List ℕ} (m : Marker) {r q : List ℕ} → Stands from m r q
-    → ((m.col == 0) && is_document_indicator r) ≡ false
-    → Ahead from false r q
+    → ((m.col == 0) && is_document_indicator r) ≡ false → Ahead from false r q
 unmarked_here m h g = unmarked_by m h.ahead h.fits g
 
 -- ## Runs
@@ -153,8 +149,7 @@ no_part h = record { len = refl; text = refl; left = h }
 
 -- a class without breaks
 run_by : {from : List ℕ} (p : ℕ → Bool) → ((c : ℕ) → p c ≡ true → is_break c ≡ false) → {b : Bool} {r q : List ℕ}
-    → Ahead from b r q
-    → b ≡ false → Part from (prefix_len p r) (prefix_len p q) r q
+    → Ahead from b r q → b ≡ false → Part from (prefix_len p r) (prefix_len p q) r q
 run_by p free (here h) f = absurd (cc)
 run_by {from = from} p free (character c {r = r} {q = q} h) f = by (p c) refl (λ e. run_by p free h (free c e))
   where

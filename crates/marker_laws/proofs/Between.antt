@@ -1,5 +1,5 @@
 -- What a machine tells next where no document is open.
-use Rattle.std.proofs.Common.{Result, Ok, Err, sym, subst}
+use Rattle.std.proofs.Common.{Result, Ok, Err, subst}
 use Rattle.saphyr_scalar.specs.declared.scalar.fault.Refusal.{Refusal}
 use Rattle.saphyr_scanner.specs.Grammar.Tokens as tokens
 use Rattle.saphyr_scanner.specs.Grammar.Tokens.{Kind}
@@ -9,7 +9,7 @@ use Rattle.saphyr_machine.specs.declared.state.State.TheVariants as state
 use Rattle.saphyr_machine.specs.Steps.Machine.{◌>>=◌, Machine, Told}
 use Rattle.saphyr_machine.specs.Steps.Documents as document
 use Rattle.saphyr_machine.specs.Steps.Expected.{event_step, event_step_at}
-use Rattle.saphyr_machine.specs.Answer.{Answer, answer_of_step, remaining_answer}
+use Rattle.saphyr_machine.specs.Answer.{answer_of_step, remaining_answer}
 use Rattle.saphyr_machine.proofs.Unroll.{unroll}
 use Rattle.event_laws.proofs.Beside.Documents.{IsBetweenDocuments}
 use Rattle.marker_laws.specs.EventsUpTo.{IsOutsideDocuments, BeginOutsideDocuments}
@@ -20,8 +20,7 @@ TellsBetween (Ok x) = IsOutsideDocuments x.what
 TellsBetween (Err e) = Unit {0}
 
 behind_token : (r : Result (Piece × Machine) Refusal) (go : Kind → Piece → Machine → Result Told Refusal)
-    → ((k : Kind) (t : Piece) (m : Machine) → TellsBetween (go k t m))
-    → TellsBetween (r >>= (λ t. go t.0.kind t.0 t.1))
+    → ((k : Kind) (t : Piece) (m : Machine) → TellsBetween (go k t m)) → TellsBetween (r >>= (λ t. go t.0.kind t.0 t.1))
 behind_token (Ok t) go h = h t.0.kind t.0 t.1
 behind_token (Err e) go h = tt
 
@@ -61,5 +60,5 @@ begins_between (Err e) h = tt
 pub next_between : (m : Machine) → IsBetweenDocuments m.state → BeginOutsideDocuments (remaining_answer m).events
 unfolding event_step
 next_between m i =
-    subst (λ (a : Answer). BeginOutsideDocuments a.events) (sym (unroll m (λ e. subst IsBetweenDocuments e i)))
+    rw (unroll m (λ e. subst IsBetweenDocuments e i))
     (begins_between (event_step_at m.state m) (step_between m.state m i))

@@ -1,5 +1,5 @@
 -- Block scalars are read alike: a marker at the start of a line ends them.
-use Rattle.std.proofs.Common.{◌≡◌, ℕ, ◌+◌, ◌-◌, Bool, true, false, List, [], ◌∷◌, ◌++◌, max, slice_index, refl, sym, ap, ◌∙◌, nat_le, Ok, cond, subst}
+use Rattle.std.proofs.Common.{◌≡◌, ℕ, ◌+◌, Bool, true, false, List, [], ◌∷◌, ◌++◌, max, slice_index, refl, sym, ap, ◌∙◌, nat_le, Ok, cond}
 use Rattle.std.specs.Prelude.{◌&&◌, ◌==◌, nat_lt, not, Option, Some, None, unwrap_or}
 use Rattle.std.proofs.lemmas.Bool.{not-false, eqb-true, and_parts}
 use Rattle.saphyr_input.specs.Classes.{is_break, is_breakz, is_blank, is_z, is_digit, is_yaml_non_break, tab, space}
@@ -12,7 +12,7 @@ use Rattle.saphyr_values.specs.declared.block.Chomping.TheVariants.{Strip, Clip,
 use Rattle.saphyr_scalar.specs.declared.scalar.position.Marker.{Marker}
 use Rattle.saphyr_scalar.specs.declared.scalar.fault.FaultText.TheVariants as fault
 use Rattle.saphyr_scalar.specs.Steps.Block.{BlockHeaderRead, EmptyLinesRead, chomping, indicator, header_break, header_end, last_chomping, header_behind, header, is_indentation, is_cr_lf, inside_break, line_cursor, with_empty_line, pass_empty_lines, line_starts, break_before, LinesRead, lines_behind_text, between, line, is_unfinished, tail_alone, given_indentation, chomped_lines, content, behind_leading_lines, no_lines, behind_header, block_scalar}
-use Rattle.saphyr_scalar.specs.Views.Cursor.{Cursor, ◌>>=◌, refuse, along, next_line, pass, pass_break}
+use Rattle.saphyr_scalar.specs.Views.Cursor.{Cursor, ◌>>=◌, refuse, along, next_line, pass_break}
 use Rattle.saphyr_scalar.proofs.Choices.{both_by}
 use Rattle.saphyr_scalar.proofs.NoBreaks.{class_no_break}
 use Rattle.scalar_laws.proofs.Breaks.Blocks.{no_indentation}
@@ -41,9 +41,7 @@ unfolding indicator
 indicator_read {from = from} m _ _ (before s {q = q} e) =
     by_first (Pairs (Before from)) (λ c. not (is_digit c)) e _ _ _ _ (λ _. given (pairs 0 (before s e)))
     (λ h. by_first (Pairs (Before from)) (λ c. c == 48) e _ _ _ _ (λ _. refused _)
-    (λ _. subst (λ c. Gives (Pairs (Before from)) (Ok (slice_index s.rest 0 - 48, pass 1 s))
-    (Ok (c - 48, pass 1 (reading q s)))) (first_same e)
-    (given (pairs _ (one_passed s is_digit refl refl e (not-false _ h))))))
+    (λ _. rw (← (first_same e)) (given (pairs _ (one_passed s is_digit refl refl e (not-false _ h))))))
 
 header_break_same : {from : List ℕ} (m : Marker) (s t : Cursor) → Beside from s t
     → Gives (Beside from) (header_break m s) (header_break m t)
@@ -102,8 +100,7 @@ behind_chomping {from = from} m _ _ (pairs a {s = s} {t = t} h) =
     both_then (Pairs (Before from)) (Pairs (Beside from)) (indicator_read m s t h) (behind_indicator m a)
 
 header_same : {from : List ℕ} (s : Cursor) {q : List ℕ} → Ahead from false s.rest q
-    → is_break (slice_index s.rest 0) ≡ false
-    → Gives (Pairs (Beside from)) (header s) (header (reading q s))
+    → is_break (slice_index s.rest 0) ≡ false → Gives (Pairs (Beside from)) (header s) (header (reading q s))
 unfolding header
 header_same s h k = behind_chomping s.mark _ _ (chomping_same _ _ (one_before s h k))
 
@@ -128,8 +125,7 @@ empty_same limit l k m (here (dots tail d _ _ white e)) f =
 empty_same {from = from} limit l k m {b = b} (character c {r = r} {q = q} h) f =
     both_by (is_indentation limit m.col c) (is_indentation limit m.col c) _ _ _ _ (Pairs (Beside from)) refl
     (λ g _. empty_same limit l k (along m 1) h (fits_on r (along m 1) (indentation_free limit m.col c g)))
-    (λ _ _. both_by (is_cr_lf c r) (is_cr_lf c q) _ _ _ _ (Pairs (Beside from))
-    (ap (λ x. (c == 13) && (x == 10)) (first_same h))
+    (λ _ _. both_by (is_cr_lf c r) (is_cr_lf c q) _ _ _ _ (Pairs (Beside from)) (cc (first_same h))
     (λ g _. empty_same limit l k (inside_break m) h (fits_feed _ r (inside_break m) (and_parts (c == 13) _ g).1))
     (λ _ _. both_by (is_break c) (is_break c) _ _ _ _ (Pairs (Beside from)) refl
     (λ _ _. empty_same limit (with_empty_line l m.col) true (next_line m 1) h (λ _ _. refl))
@@ -189,8 +185,7 @@ mutual
       both_by (is_indentation (Some i) m.col c) (is_indentation (Some i) m.col c) _ _ _ _ (Triples (Beside from)) refl
       (λ g _. between_same style i above n k (along m 1) h
       (fits_on r (along m 1) (indentation_free (Some i) m.col c g)))
-      (λ _ _. both_by (is_cr_lf c r) (is_cr_lf c q) _ _ _ _ (Triples (Beside from))
-      (ap (λ x. (c == 13) && (x == 10)) (first_same h))
+      (λ _ _. both_by (is_cr_lf c r) (is_cr_lf c q) _ _ _ _ (Triples (Beside from)) (cc (first_same h))
       (λ g _. between_same style i above n k (inside_break m) h
       (fits_feed _ r (inside_break m) (and_parts (c == 13) _ g).1))
       (λ _ _. both_by (is_break c) (is_break c) _ _ _ _ (Triples (Beside from)) refl
@@ -209,8 +204,7 @@ mutual
       both_by (is_yaml_non_break c) (is_yaml_non_break c) _ _ _ _ (Triples (Beside from)) refl
       (λ g _. front_of (c ∷ []) _ _ (line_same style i more k (along m 1) h
       (off_on r (class_no_break is_yaml_non_break refl refl c g))))
-      (λ _ _. both_by (is_cr_lf c r) (is_cr_lf c q) _ _ _ _ (Triples (Beside from))
-      (ap (λ x. (c == 13) && (x == 10)) (first_same h))
+      (λ _ _. both_by (is_cr_lf c r) (is_cr_lf c q) _ _ _ _ (Triples (Beside from)) (cc (first_same h))
       (λ g _. line_same style i more k (inside_break m) h (off_feed _ r (and_parts (c == 13) _ g).1))
       (λ _ _. both_by (is_break c) (is_break c) _ _ _ _ (Triples (Beside from)) refl
       (λ _ _. between_same style i (Some more) 0 true (next_line m 1) h (λ _ _. refl))
@@ -227,12 +221,11 @@ tail_same Keep k s q = refl
 unfinished_same : {from : List ℕ} (i : ℕ) (s : Cursor) {b : Bool} {q : List ℕ} → Ahead from b s.rest q
     → is_unfinished i s ≡ is_unfinished i (reading q s)
 unfolding is_unfinished
-unfinished_same i s h = ap (λ c. is_z c && nat_le (max i 1) s.mark.col) (first_same h)
+unfinished_same i s h = cc (first_same h)
 
 triples_by : {from : List ℕ} {X Y : Type 0} (x z : X) (y : Y) {s t : Cursor} → x ≡ z → Beside from s t
     → Triples (Beside from) (x, y, s) (z, y, t)
-triples_by {from = from} x z y {s = s} {t = t} e h =
-    subst (λ w. Triples (Beside from) (x, y, s) (w, y, t)) e (triples x y h)
+triples_by {from = from} x z y {s = s} {t = t} e h = rw (← e) (triples x y h)
 
 chomped_same : {from : List ℕ} (c : Chomping) (i : ℕ) (m : Marker) (x y : LinesRead) → Triples (Beside from) x y
     → Gives (Triples (Beside from)) (chomped_lines c i m x) (chomped_lines c i m y)

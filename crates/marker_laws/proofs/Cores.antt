@@ -77,9 +77,7 @@ roll_cores {from = from} column _ _ (cores c h) =
 -- ## What is passed
 
 pub pass_twins : {from : List ℕ} (s : Cursor) (q : List ℕ) → Ahead from false s.rest q
-    → is_break (slice_index s.rest 0) ≡ false
-    → (c d : Core)
-    → Twins s q c d → Cores from (pass_on 1 c) (pass_on 1 d)
+    → is_break (slice_index s.rest 0) ≡ false → (c d : Core) → Twins s q c d → Cores from (pass_on 1 c) (pass_on 1 d)
 pass_twins s q h k _ _ (twins c) =
     cores (pass_on 1 (with_cursor s c)) (stands_before (pass 1 s).mark (past_first false h refl k))
 

@@ -180,8 +180,7 @@ behind_name {from = from} m x y h =
     both_then (Pairs (Before from)) (Triples (Beside from)) (value_same m x y h) (behind_value m)
 
 pub directive_same : {from : List ℕ} (s : Cursor) {q : List ℕ} → Ahead from false s.rest q
-    → is_break (slice_index s.rest 0) ≡ false
-    → Gives (Triples (Beside from)) (directive s) (directive (reading q s))
+    → is_break (slice_index s.rest 0) ≡ false → Gives (Triples (Beside from)) (directive s) (directive (reading q s))
 unfolding directive
 directive_same {from = from} s h k =
     both_then (Pairs (Before from)) (Triples (Beside from)) (name_same _ _ (one_before s h k)) (behind_name s.mark)

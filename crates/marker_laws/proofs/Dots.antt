@@ -1,5 +1,5 @@
 -- What comes after `...` on its line is passed alike, or refused: it is the same up to a break.
-use Rattle.std.proofs.Common.{◌≡◌, ℕ, suc, ◌+◌, ◌≤◌, Bool, true, false, List, [], ◌∷◌, ◌++◌, length, drop, slice_index, refl, sym, ap, ◌∙◌, arith, subst}
+use Rattle.std.proofs.Common.{◌≡◌, ℕ, suc, ◌+◌, ◌≤◌, Bool, true, false, List, [], ◌∷◌, ◌++◌, length, drop, slice_index, refl, ap, arith}
 use Rattle.std.specs.Prelude.{◌&&◌, ◌==◌, nat_lt}
 use Rattle.std.specs.List.{prefix_len}
 use Rattle.std.proofs.lemmas.List.{drop-drop}
@@ -77,10 +77,8 @@ module _ (d : ℕ) (x y : List ℕ) (break : is_break d ≡ true) where
       (λ _ _. rw (h.first, h.second) (record {
         len = omega (arith, h.len, k.len);
         left = k.left;
-        first = sym (drop-drop (comment_len (h.left ++ d ∷ x)) n (t ++ d ∷ x))
-            ∙ ap (drop (comment_len (h.left ++ d ∷ x))) h.first ∙ k.first;
-        second = sym (drop-drop (comment_len (h.left ++ d ∷ y)) m (t ++ d ∷ y))
-            ∙ ap (drop (comment_len (h.left ++ d ∷ y))) h.second ∙ k.second;
+        first = cc (drop-drop (comment_len (h.left ++ d ∷ x)) n (t ++ d ∷ x));
+        second = cc (drop-drop (comment_len (h.left ++ d ∷ y)) m (t ++ d ∷ y));
       }))
 
 -- two readers inside the line, after the same
@@ -90,13 +88,11 @@ pub data Leaves (m : Marker) (d : ℕ) (x y r q : List ℕ) : SkipTabs × Cursor
 
 pub left_first : (d n : ℕ) (x y r q left : List ℕ) → drop n r ≡ left ++ d ∷ x → drop n q ≡ left ++ d ∷ y
     → slice_index (drop n r) 0 ≡ slice_index (drop n q) 0
-left_first d n x y r q left first second =
-    ap (λ u. slice_index u 0) first ∙ line_first d left x y ∙ sym (ap (λ u. slice_index u 0) second)
+left_first d n x y r q left first second = cc (line_first d left x y)
 
 module _ (d : ℕ) (x y : List ℕ) (break : is_break d ≡ true) (m : Marker) (t : List ℕ) where
   behind_alike : (n : ℕ) (left : List ℕ) → n ≤ length (t ++ d ∷ x) → drop n (t ++ d ∷ x) ≡ left ++ d ∷ x
-      → drop n (t ++ d ∷ y) ≡ left ++ d ∷ y
-      → Gives (Leaves m d x y (t ++ d ∷ x) (t ++ d ∷ y))
+      → drop n (t ++ d ∷ y) ≡ left ++ d ∷ y → Gives (Leaves m d x y (t ++ d ∷ x) (t ++ d ∷ y))
       (behind_separation skip.Yes (t ++ d ∷ x) (pass_blanks n (mid_line m (t ++ d ∷ x))))
       (behind_separation skip.Yes (t ++ d ∷ y) (pass_blanks n (mid_line m (t ++ d ∷ y))))
   unfolding behind_separation
@@ -106,7 +102,7 @@ module _ (d : ℕ) (x y : List ℕ) (break : is_break d ≡ true) (m : Marker) (
       let len = (blanks_pass d x y break t).len in let f = line_first d t x y in rw (len, f) refl in
       choose R (nat_lt 0 (along m n).col && is_bom (slice_index (drop n (t ++ d ∷ x)) 0))
       (nat_lt 0 (along m n).col && is_bom (slice_index (drop n (t ++ d ∷ y)) 0)) _ _ _ _
-      (ap (λ c. nat_lt 0 (along m n).col && is_bom c) (left_first d n x y _ _ left first second)) (λ _. refused _)
+      (cc (left_first d n x y _ _ left first second)) (λ _. refused _)
       (λ _. choose R (is_bare_comment skip.Yes (t ++ d ∷ x)) (is_bare_comment skip.Yes (t ++ d ∷ y)) _ _ _ _ bare
       (λ _. refused _) (λ _. given (leaves _ _ n left within first second)))
 
@@ -116,8 +112,4 @@ module _ (d : ℕ) (x y : List ℕ) (break : is_break d ≡ true) (m : Marker) (
   separation_alike =
       let h = separation_passes d x y break t in
       let n = separation_len skip.Yes (t ++ d ∷ x) in
-      subst (λ k. Gives (Leaves m d x y (t ++ d ∷ x) (t ++ d ∷ y))
-      (behind_separation skip.Yes (t ++ d ∷ x) (pass_blanks n (mid_line m (t ++ d ∷ x))))
-      (behind_separation skip.Yes (t ++ d ∷ y) (pass_blanks k (mid_line m (t ++ d ∷ y))))) h.len
-      (behind_alike n h.left (separation_within skip.Yes (t ++ d ∷ x)) h.first
-      (subst (λ k. drop k (t ++ d ∷ y) ≡ h.left ++ d ∷ y) (sym h.len) h.second))
+      rw (← h.len) (behind_alike n h.left (separation_within skip.Yes (t ++ d ∷ x)) h.first (simp h.len h.second))

@@ -1,5 +1,5 @@
 -- The events of two texts that are the same up to a document marker.
-use Rattle.std.proofs.Common.{◌≡◌, ◌<◌, ℕ, Bool, true, false, List, [], ◌∷◌, ◌++◌, Option, Some, None, refl, sym, ap, ◌∙◌, subst, ◌⊎◌, inl, inr, length, slice_index, cond}
+use Rattle.std.proofs.Common.{◌≡◌, ℕ, Bool, true, false, List, [], ◌∷◌, ◌++◌, Option, Some, None, refl, sym, ap, ◌∙◌, subst, ◌⊎◌, inl, inr, length, slice_index, cond}
 use Rattle.std.specs.Prelude.{◌==◌}
 use Rattle.std.proofs.lemmas.List.{append-nil}
 use Rattle.saphyr_input.specs.Indicators.{full_stop}
@@ -43,8 +43,7 @@ GoesOnFrom kind a b = (b ≡ a) ⊎ ((a.fault ≡ Some (ending_of (ending_refusa
 
 -- an answer comes first in itself, where it does in another
 itself : (kind : Kind) (a b c : Answer) → b ≡ a → ComeFirst kind a c → ComeFirst kind a b
-itself kind a b c e h =
-    ([], ap (λ (v : Answer). v.events) e ∙ sym (append-nil a.events), alone h.2)
+itself kind a b c e h = ([], cc (append-nil a.events), alone h.2)
   where
     alone : EndWith (own_event kind) a.events ⊎ ((kind ≡ tokens.DocumentEnd) × BeginOutsideDocuments h.0)
         → EndWith (own_event kind) a.events ⊎ ((kind ≡ tokens.DocumentEnd) × BeginOutsideDocuments [])
@@ -70,8 +69,7 @@ module _ (keep : Bool) (w : DocumentMarker) (ts us : List Piece) (x : Piece) (e 
     abbrev m : Machine
     m = start keep (ts ++ x ∷ []) None
 
-    ends_so : (k : Machine) (es : List (Happening × Span)) → IsLastToldBy z m k es
-        → EndWith (own_event x.kind) es
+    ends_so : (k : Machine) (es : List (Happening × Span)) → IsLastToldBy z m k es → EndWith (own_event x.kind) es
         ⊎ ((x.kind ≡ tokens.DocumentEnd) × BeginOutsideDocuments (remaining_answer (longer z k)).events)
     ends_so k es (inl (inl h)) = absurd h
     ends_so k es (inl (inr h)) = inr (is ∙ ap more_tokens.marker_token h.0, next_between (longer z k) h.1)
@@ -105,9 +103,7 @@ module _ (limit : ℕ) (v from : List ℕ) (keep : Bool) where
       GoesOnFrom kind (answer_of_tokens keep (front ++ x ∷ [])) (answer_of_all keep (before_all front (before x r)))
   behind front line r =
       let x = marker_piece (length v) line from in
-      subst (λ v. GoesOnFrom kind (answer_of_tokens keep (front ++ x ∷ [])) (answer_of_all keep v))
-      (regrouped front x r)
-      (goes_behind keep w.0 front r.pieces x r.refusal w.1)
+      rw (regrouped front x r) at (goes_behind keep w.0 front r.pieces x r.refusal w.1)
 
   -- what two lists give that begin with the same tokens, of which the last is the marker's
   both_begin : (front : List Piece) (line : ℕ) (r q : Remaining)
@@ -128,11 +124,9 @@ module _ (limit : ℕ) (v from : List ℕ) (keep : Bool) where
   answers_alike front n _ _ is (up_to.alike r) = events_up_to.same refl
   answers_alike front n _ _ is (up_to.next t {r = r} {w = q} h) =
       subst (λ u. AnswersAlike limit v from keep u (before_all front (before t q))) (regrouped front t r)
-      (subst (λ u. AnswersAlike limit v from keep (before_all (front ++ t ∷ []) r) u) (regrouped front t q)
-      (answers_alike (front ++ t ∷ []) (brackets_behind t n) r q
-      (ap (brackets_behind t) is ∙ sym (one_more front t 0)) h))
+      (rw (regrouped front t q) at (answers_alike (front ++ t ∷ []) (brackets_behind t n) r q
+      (cc (one_more front t 0)) h))
   answers_alike front n _ _ is (up_to.through line r q) =
       both_begin front line _ _ (behind front line r) (behind front line q) r.pieces q.pieces refl refl
   answers_alike front n _ _ is (up_to.held i j line s t h p o e) =
-      events_up_to.undecided front i j line s t h p
-      (subst (λ k. 0 < brackets_behind_held s.queue.places k) is o) e refl refl
+      events_up_to.undecided front i j line s t h p (rw is at o) e refl refl

@@ -1,16 +1,13 @@
 -- The events that were told come first, whatever tokens come after those that came.
-use Rattle.std.proofs.Common.{◌≡◌, ◌≢◌, Bool, List, [], ◌∷◌, Option, Ok, refl, sym, ap, ◌∙◌}
+use Rattle.std.proofs.Common.{◌≡◌, Bool, List, [], ◌∷◌, Option, refl}
 use Rattle.std.proofs.lemmas.List.{append_assoc}
 use Rattle.saphyr_scalar.specs.declared.scalar.position.Span.{Span}
 use Rattle.saphyr_scalar.specs.declared.scalar.fault.Refusal.{Refusal}
 use Rattle.saphyr_scanner.specs.Views.Tokens.{Piece, Remaining}
-use Rattle.saphyr_machine.specs.declared.state.State as states
-use Rattle.saphyr_machine.specs.declared.state.State.TheVariants as state
 use Rattle.saphyr_machine.specs.Events.{Happening}
-use Rattle.saphyr_machine.specs.Steps.Machine.{Machine, Told}
-use Rattle.saphyr_machine.specs.Steps.Expected.{event_step, event_step_at}
-use Rattle.saphyr_machine.specs.Answer.{Answer, answer_of_step, remaining_answer}
-use Rattle.saphyr_machine.proofs.Unroll.{unroll}
+use Rattle.saphyr_machine.specs.Steps.Machine.{Machine}
+use Rattle.saphyr_machine.specs.Answer.{remaining_answer}
+use Rattle.saphyr_machine.proofs.Calls.Handing.{moves}
 use Rattle.event_laws.specs.More.{with_more}
 use Rattle.event_laws.proofs.Promises.CommonBeginnings.{same_step}
 use Rattle.marker_laws.specs.EventsUpTo.{answer_of_all, before_all}
@@ -26,22 +23,15 @@ tells_more us e m _ _ (event es k x h is) =
 
 -- ## What is still to come
 
-not_ended : (s : states.State) (m : Machine) (x : Told) → event_step_at s m ≡ Ok x → s ≢ state.End
-not_ended state.End m x e = absurd (cc)
-not_ended _ m x e = λ i. cc
-
-told_first : (m : Machine) (x : Told) → event_step m ≡ Ok x
-    → remaining_answer m ≡ behind_events ((x.what, x.span) ∷ []) (remaining_answer x.machine)
-unfolding event_step
-told_first m x e = unroll m (not_ended m.state m x e) ∙ ap (λ r. answer_of_step r remaining_answer) e
-
 all_told : (m k : Machine) (es : List (Happening × Span)) → TellsTo m es k
     → remaining_answer m ≡ behind_events es (remaining_answer k)
 all_told m _ _ nothing = refl
 all_told m _ _ (event es k x h is) =
-    all_told m k es h ∙ ap (behind_events es) (told_first k x is)
-    ∙ ap (λ os. let a : Answer = record { events = os; fault = (remaining_answer x.machine).fault } in a)
-    (sym (append_assoc es ((x.what, x.span) ∷ []) (remaining_answer x.machine).events))
+    cc (
+      all_told m k es h,
+      moves k x.machine (x.what, x.span) is,
+      append_assoc es ((x.what, x.span) ∷ []) (remaining_answer x.machine).events,
+    )
 
 pub tells_first : (keep : Bool) (ts : List Piece) (es : List (Happening × Span)) (m : Machine) (r : Remaining)
     → TellsTo (with_tokens keep ts) es m

@@ -1,5 +1,5 @@
 -- The next token is fetched alike, up to a marker.
-use Rattle.std.proofs.Common.{◌≡◌, ℕ, Bool, true, false, List, [], ◌∷◌, length, drop, Option, Some, None, Result, Ok, slice_index, refl, ap, ◌∙◌, subst, arith, cond}
+use Rattle.std.proofs.Common.{◌≡◌, ℕ, Bool, true, false, List, [], ◌∷◌, length, drop, Option, Some, None, Result, Ok, slice_index, refl, ap, ◌∙◌, arith, cond}
 use Rattle.std.specs.Prelude.{◌&&◌, ◌||◌, ◌==◌, not, nat_lt, nat_le}
 use Rattle.std.proofs.lemmas.Bool.{and_parts, eqb-true}
 use Rattle.std.proofs.lemmas.Bool.Decides.{nat_tests}
@@ -81,11 +81,8 @@ unfolding state_behind_content
 content_same {from = from} c queue {q = q} h =
     let d = with_cursor (reading q c.cursor) c in
     let s = c.cursor.rest in
-    let P : ℕ → ℕ → Type 0 = λ a b. Gives (States from)
-    (after_step (step (slice_index s 0) (slice_index s 1) (next queue) c) queue)
-    (after_step (step a b (next queue) d) queue) in
-    subst (λ a. P a (slice_index q 1)) (first_same h) (subst (λ b. P (slice_index s 0) b) (second_same h)
-    (after_same _ _ queue (step_same (slice_index s 0) (slice_index s 1) (next queue) c h refl)))
+    rw (← (first_same h), ← (second_same h)) (after_same _ _ queue (step_same (slice_index s 0) (slice_index s 1)
+    (next queue) c h refl))
 
 -- ## Block collections end
 
@@ -133,8 +130,7 @@ module _ (s : Cursor) (q : List ℕ) where
   forgotten queue c true = refused _
   forgotten queue c false = given (ended queue (forget_key c) refl)
 
-  removed : (x y : State) → StateTwins s q x y
-      → Gives (Ended s q) (document.remove_key_of x) (document.remove_key_of y)
+  removed : (x y : State) → StateTwins s q x y → Gives (Ended s q) (document.remove_key_of x) (document.remove_key_of y)
   unfolding remove_key
   removed _ _ (state_twins queue (twins c)) = forgotten queue c (in_block c && c.required)
 
@@ -155,8 +151,7 @@ module _ (s : Cursor) (q : List ℕ) where
       (stands_before (pass_byte_order_mark s).mark (past_first false h refl k))))
 
   directive_put : {from : List ℕ} → Ahead from false s.rest q → is_break (slice_index s.rest 0) ≡ false
-      → (x y : State) → Ended s q x y
-      → Gives (States from) (after_step (document.read_directive x.core) x.queue)
+      → (x y : State) → Ended s q x y → Gives (States from) (after_step (document.read_directive x.core) x.queue)
       (after_step (document.read_directive y.core) y.queue)
   directive_put h k _ _ (ended queue c gone) = after_same _ _ queue (directive_steps_same s q h k _ _ (twins c))
 
@@ -226,8 +221,7 @@ lined {from = from} queue _ _ (pairs k (cores c h)) =
     by_first (States from) is_breakz h.ahead _ _ _ _ (λ _. given (states queue (cores c h))) (λ _. refused _)
 
 end_lined : {from : List ℕ} (queue : Queue) (c d : Core) (r w : Result (SkipTabs × Core) Refusal)
-    → Gives (Pairs (Cores from)) r w
-    → Gives (States from)
+    → Gives (Pairs (Cores from)) r w → Gives (States from)
     (on_core_with r (holding c queue) >>= document.end_line) (on_core_with w (holding d queue) >>= document.end_line)
 end_lined queue c d _ _ (refused e) = refused e
 end_lined queue c d _ _ (given {x = x} {y = y} h) = lined queue x y h
@@ -237,8 +231,7 @@ line_passed : {from : List ℕ} (x y : State) → States from x y → Gives (Sta
 line_passed _ _ (states queue {c = c} {d = d} h) = end_lined queue c d _ _ (separate_same c d h)
 
 other_end : {from : List ℕ} (s : Cursor) (q : List ℕ) → Ahead from false (drop 3 s.rest) (drop 3 q)
-    → (queue : Queue) (c : Core)
-    → Gives (States from)
+    → (queue : Queue) (c : Core) → Gives (States from)
     (document.state_behind_document_end (holding (with_cursor s c) queue))
     (document.state_behind_document_end (holding (with_cursor (reading q s) c) queue))
 unfolding document.state_behind_document_end

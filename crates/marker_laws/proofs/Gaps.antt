@@ -1,5 +1,5 @@
 -- What is between two tokens is passed alike: no marker is passed.
-use Rattle.std.proofs.Common.{◌≡◌, ℕ, Bool, true, false, List, ◌∷◌, slice_index, refl, ap}
+use Rattle.std.proofs.Common.{◌≡◌, ℕ, Bool, true, false, List, ◌∷◌, slice_index, refl}
 use Rattle.std.specs.Prelude.{◌&&◌, ◌||◌, ◌==◌, not}
 use Rattle.std.proofs.lemmas.Bool.{and_parts}
 use Rattle.saphyr_input.specs.Classes.{is_break, is_blank, is_bom, is_z, is_yaml_non_break, space}
@@ -25,10 +25,9 @@ stop_same : {from : List ℕ} (m : Marker) (blank broke tabbed : Bool) {r q : Li
 unfolding stop
 stop_same {from = from} m blank broke tabbed {r = r} {q = q} h =
     choose (Gaps from) (tabbed && is_bom (slice_index r 0)) (tabbed && is_bom (slice_index q 0)) _ _ _ _
-    (ap (λ c. tabbed && is_bom c) (first_same h.ahead)) (λ _. refused _)
+    (cc (first_same h.ahead)) (λ _. refused _)
     (λ _. choose (Gaps from) (tabbed && not (is_z (slice_index r 0))) (tabbed && not (is_z (slice_index q 0))) _ _ _ _
-    (ap (λ c. tabbed && not (is_z c)) (first_same h.ahead)) (λ _. refused _)
-    (λ _. given (gaps broke (beside (line_cursor blank m r) h))))
+    (cc (first_same h.ahead)) (λ _. refused _) (λ _. given (gaps broke (beside (line_cursor blank m r) h))))
 
 -- a blank, or a CR before an LF
 abbrev goes_along : (ℕ → Bool) → ℕ → List ℕ → Bool
@@ -44,16 +43,14 @@ fits_along p x y c r m e = by (p c) refl e
 
 mutual
   between_same : {from : List ℕ} (least : ℕ) (m : Marker) (blank broke tabbed : Bool) {b : Bool} {r q : List ℕ}
-      → Ahead from b r q
-      → Fits b r m
+      → Ahead from b r q → Fits b r m
       → Gives (Gaps from) (end_of_gap least m blank broke tabbed r) (end_of_gap least m blank broke tabbed q)
   between_same least m blank broke tabbed (here (dashes d e)) f =
       stop_same m blank broke tabbed (stands_here m (dashes d e) f)
   between_same least m blank broke tabbed (here (dots tail d _ _ white e)) f =
       stop_same m blank broke tabbed (stands_here m (dots tail d _ _ white e) f)
   between_same {from = from} least m blank broke tabbed {b = b} (character c {r = r} {q = q} h) f =
-      choose (Gaps from) (goes_along is_blank c r) (goes_along is_blank c q) _ _ _ _
-      (ap (λ x. is_blank c || ((c == 13) && (x == 10))) (first_same h))
+      choose (Gaps from) (goes_along is_blank c r) (goes_along is_blank c q) _ _ _ _ (cc (first_same h))
       (λ g. between_same least (along m 1) blank broke (is_tab_indentation least m blank c || tabbed) h
       (fits_along is_blank refl refl c r (along m 1) g))
       (λ _. choose (Gaps from) (is_break c) (is_break c) _ _ _ _ refl
@@ -63,8 +60,7 @@ mutual
       (λ _. stop_same m blank broke tabbed (record { flag = b; ahead = character c h; fits = f }))))
 
   comment_same : {from : List ℕ} (least : ℕ) (m : Marker) (blank broke tabbed : Bool) {b : Bool} {r q : List ℕ}
-      → Ahead from b r q
-      → Off b r → Gives (Gaps from) (end_of_gap_in_comment least m blank broke tabbed r)
+      → Ahead from b r q → Off b r → Gives (Gaps from) (end_of_gap_in_comment least m blank broke tabbed r)
       (end_of_gap_in_comment least m blank broke tabbed q)
   comment_same least m blank broke tabbed (here h) f = absurd (f refl (told h))
   comment_same {from = from} least m blank broke tabbed {b = b} (character c {r = r} {q = q} h) f =
@@ -72,8 +68,7 @@ mutual
       (λ g. comment_same least (along m 1) blank broke tabbed h
       (off_on r (class_no_break is_yaml_non_break refl refl c g)))
       (λ _. choose (Gaps from) ((c == 13) && (slice_index r 0 == 10)) ((c == 13) && (slice_index q 0 == 10)) _ _ _ _
-      (ap (λ x. (c == 13) && (x == 10)) (first_same h))
-      (λ g. between_same least (along m 1) blank broke tabbed h
+      (cc (first_same h)) (λ g. between_same least (along m 1) blank broke tabbed h
       (fits_feed (is_break c) r (along m 1) (and_parts (c == 13) _ g).1))
       (λ _. choose (Gaps from) (is_break c) (is_break c) _ _ _ _ refl
       (λ _. between_same least (next_line m 1) true true false h (λ _ _. refl))
@@ -94,15 +89,13 @@ is_space c = c == space
 
 mutual
   spaces_same : {from : List ℕ} (m : Marker) (blank found : Bool) {b : Bool} {r q : List ℕ} → Ahead from b r q
-      → Fits b r m
-      → Spaces from (end_of_spaces m blank found r) (end_of_spaces m blank found q)
+      → Fits b r m → Spaces from (end_of_spaces m blank found r) (end_of_spaces m blank found q)
   spaces_same m blank found (here (dashes d e)) f =
       spaces found (beside (line_cursor blank m _) (stands_here m (dashes d e) f))
   spaces_same m blank found (here (dots tail d _ _ white e)) f =
       spaces found (beside (line_cursor blank m _) (stands_here m (dots tail d _ _ white e) f))
   spaces_same {from = from} m blank found {b = b} (character c {r = r} {q = q} h) f =
-      both_by (goes_along is_space c r) (goes_along is_space c q) _ _ _ _ (Spaces from)
-      (ap (λ x. is_space c || ((c == 13) && (x == 10))) (first_same h))
+      both_by (goes_along is_space c r) (goes_along is_space c q) _ _ _ _ (Spaces from) (cc (first_same h))
       (λ g _. spaces_same (along m 1) blank true h (fits_along is_space refl refl c r (along m 1) g))
       (λ _ _. both_by (is_break c) (is_break c) _ _ _ _ (Spaces from) refl
       (λ _ _. spaces_same (next_line m 1) true true h (λ _ _. refl))
@@ -112,17 +105,14 @@ mutual
       (record { flag = b; ahead = character c h; fits = f })))))
 
   spaces_comment : {from : List ℕ} (m : Marker) (blank found : Bool) {b : Bool} {r q : List ℕ} → Ahead from b r q
-      → Off b r
-      → Spaces from (end_of_spaces_in_comment m blank found r) (end_of_spaces_in_comment m blank found q)
+      → Off b r → Spaces from (end_of_spaces_in_comment m blank found r) (end_of_spaces_in_comment m blank found q)
   spaces_comment m blank found (here h) f = absurd (f refl (told h))
   spaces_comment {from = from} m blank found {b = b} (character c {r = r} {q = q} h) f =
       both_by (is_yaml_non_break c) (is_yaml_non_break c) _ _ _ _ (Spaces from) refl
       (λ g _. spaces_comment (along m 1) blank found h
       (off_on r (class_no_break is_yaml_non_break refl refl c g)))
       (λ _ _. both_by ((c == 13) && (slice_index r 0 == 10)) ((c == 13) && (slice_index q 0 == 10)) _ _ _ _
-      (Spaces from)
-      (ap (λ x. (c == 13) && (x == 10)) (first_same h))
-      (λ g _. spaces_same (along m 1) blank true h
+      (Spaces from) (cc (first_same h)) (λ g _. spaces_same (along m 1) blank true h
       (fits_feed (is_break c) r (along m 1) (and_parts (c == 13) _ g).1))
       (λ _ _. both_by (is_break c) (is_break c) _ _ _ _ (Spaces from) refl
       (λ _ _. spaces_same (next_line m 1) true true h (λ _ _. refl))

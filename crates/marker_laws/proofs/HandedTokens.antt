@@ -1,5 +1,5 @@
 -- What a scanner has handed out, with the tokens still to come, is all tokens of its text.
-use Rattle.std.proofs.Common.{◌≡◌, ℕ, suc, ◌+◌, true, false, List, [], ◌∷◌, ◌++◌, Option, Some, None, Ok, Err, refl, sym, ap, ◌∙◌, subst, arith}
+use Rattle.std.proofs.Common.{◌≡◌, ℕ, suc, ◌+◌, true, false, List, [], ◌∷◌, ◌++◌, Option, Some, None, Ok, Err, refl, ap, arith}
 use Rattle.std.proofs.lemmas.Bool.{cond-true, cond-false}
 use Rattle.std.proofs.lemmas.List.{append_assoc}
 use Rattle.saphyr_scanner.specs.declared.queue.Opening.TheVariants as opening
@@ -10,7 +10,7 @@ use Rattle.saphyr_scanner.specs.Steps.Queue.{Place}
 use Rattle.saphyr_scanner.specs.Steps.Core.{Core, drop_far_key}
 use Rattle.saphyr_scanner.specs.Steps.State.{State, start}
 use Rattle.saphyr_scanner.specs.Steps.Fetch.{size, needs_token, take_token}
-use Rattle.saphyr_scanner.specs.Steps.Remaining.{before_place, hand_out, remaining_after, remaining, run, scan}
+use Rattle.saphyr_scanner.specs.Steps.Remaining.{before_place, hand_out, remaining, scan}
 use Rattle.saphyr_scanner.proofs.Effects.Readers.{Readers}
 use Rattle.saphyr_scanner.proofs.Queues.{holding, place_with_front}
 use Rattle.saphyr_scanner.proofs.Filling.{read, going, smaller_read, IsSettled, read_settles}
@@ -21,8 +21,7 @@ use Rattle.marker_laws.specs.GoesOn.{ScansTo, starts, reads, takes}
 -- one token more before others
 pub regrouped : (front : List Piece) (x : Piece) (r : Remaining)
     → before_all (front ++ x ∷ []) r ≡ before_all front (before x r)
-regrouped front x r = ap (λ ts. let v : Remaining = record { pieces = ts; refusal = r.refusal } in v)
-    (append_assoc front (x ∷ []) r.pieces)
+regrouped front x r = cc (append_assoc front (x ∷ []) r.pieces)
 
 -- ## A token is read, or taken off
 
@@ -33,10 +32,11 @@ none_first (p ∷ ps) go s needs = cond-true (needs_token s) _ _ needs
 read_first : Readers → (limit : ℕ) (s u : State) → needs_token s ≡ true → read limit s ≡ Ok u
     → rest limit s ≡ rest limit u
 read_first laws limit s u needs e =
-    none_first s.queue.places (behind (size s.core) limit) s needs
-    ∙ cond-false s.core.ended _ _ (going s.core.ended _ needs)
-    ∙ ap (λ r. remaining_after r (run (size s.core) limit)) e
-    ∙ enough laws limit (size s.core) (suc (size u.core)) u (smaller_read laws limit s u needs e) (omega arith)
+    cc (
+      none_first s.queue.places (behind (size s.core) limit) s needs,
+      cond-false s.core.ended _ _ (going s.core.ended _ needs),
+      enough laws limit (size s.core) (suc (size u.core)) u (smaller_read laws limit s u needs e) (omega arith),
+    )
 
 -- the token that is taken off comes first
 abbrev Precedes : ℕ → State → Option Piece × State → Type 0
@@ -56,14 +56,20 @@ module _ (limit : ℕ) (c : Core) where
       (take_token (holding c (place_with_front o t ∷ ps) n))
   opened_first opening.Nothing t ps n ready = place_first (place_with_front opening.Nothing t) ps n ready
   opened_first opening.Key t ps n ready =
-      place_first (place_with_front opening.Key t) ps n ready
-      ∙ ap (before _) (sym (place_first (place_with_front opening.Nothing t) ps n ready))
+      cc (
+        place_first (place_with_front opening.Key t) ps n ready,
+        place_first (place_with_front opening.Nothing t) ps n ready,
+      )
   opened_first opening.BlockMappingAndKey t ps n ready =
-      place_first (place_with_front opening.BlockMappingAndKey t) ps n ready
-      ∙ ap (before _) (sym (place_first (place_with_front opening.Key t) ps n ready))
+      cc (
+        place_first (place_with_front opening.BlockMappingAndKey t) ps n ready,
+        place_first (place_with_front opening.Key t) ps n ready,
+      )
   opened_first opening.FlowMappingAndKey t ps n ready =
-      place_first (place_with_front opening.FlowMappingAndKey t) ps n ready
-      ∙ ap (before _) (sym (place_first (place_with_front opening.Key t) ps n ready))
+      cc (
+        place_first (place_with_front opening.FlowMappingAndKey t) ps n ready,
+        place_first (place_with_front opening.Key t) ps n ready,
+      )
 
   taken_first : (ps : List Place) (n : ℕ) → needs_token (holding c ps n) ≡ false
       → Precedes limit (holding c ps n) (take_token (holding c ps n))
@@ -78,13 +84,12 @@ start_settled text = refl
 
 first : (limit : ℕ) (s u : State) (x : Piece) → needs_token s ≡ false → take_token s ≡ (Some x, u)
     → rest limit s ≡ before x (rest limit u)
-first limit s u x ready e =
-    subst (Precedes limit s) e (taken_first limit s.core s.queue.places s.queue.handed ready)
+first limit s u x ready e = rw e at (taken_first limit s.core s.queue.places s.queue.handed ready)
 
 settled_taken : (s u : State) (x : Piece) → take_token s ≡ (Some x, u) → IsSettled s → IsSettled u
 settled_taken s u x e h =
     let same : s.core ≡ u.core = ap (λ (y : Option Piece × State). y.1.core) e in
-    subst (λ d. drop_far_key d ≡ Ok d) same h
+    rw same at h
 
 handed : Readers → (limit stop : ℕ) (text : List ℕ) (ts : List Piece) (s : State) → ScansTo limit stop text ts s
     → IsSettled s × (scan limit text ≡ before_all ts (rest limit s))
@@ -92,26 +97,26 @@ handed laws limit stop text _ _ starts =
     let h = start_settled text in (h, remaining_is limit (start text) (start text) (settled_is (start text) h))
 handed laws limit stop text _ _ (reads ts s u h needs low e) = (
   read_settles limit s u e,
-  (handed laws limit stop text ts s h).1 ∙ ap (before_all ts) (read_first laws limit s u needs e),
+  cc ((handed laws limit stop text ts s h).1, read_first laws limit s u needs e),
 )
 handed laws limit stop text _ _ (takes ts s u x h ready e) =
     let w = handed laws limit stop text ts s h in (
       settled_taken s u x e w.0,
-      w.1 ∙ ap (before_all ts) (first limit s u x ready e)
-          ∙ sym (regrouped ts x (rest limit u)),
+      cc (first limit s u x ready e, regrouped ts x (rest limit u)),
     )
 
 pub all_tokens : Readers → (limit stop : ℕ) (text : List ℕ) (ts : List Piece) (s : State)
     → ScansTo limit stop text ts s → scan limit text ≡ before_all ts (remaining limit s)
 all_tokens laws limit stop text ts s h =
     let w = handed laws limit stop text ts s h in
-    w.1 ∙ ap (before_all ts) (sym (remaining_is limit s s (settled_is s w.0)))
+    cc (remaining_is limit s s (settled_is s w.0))
 
 pub refusal_ends : Readers → (limit stop : ℕ) (text : List ℕ) (ts : List Piece) (s : State) (e : Refusal)
     → ScansTo limit stop text ts s → needs_token s ≡ true → read limit s ≡ Err e
     → scan limit text ≡ before_all ts (refusal_alone e)
 refusal_ends laws limit stop text ts s e h needs is =
-    (handed laws limit stop text ts s h).1
-    ∙ ap (before_all ts) (none_first s.queue.places (behind (size s.core) limit) s needs
-    ∙ cond-false s.core.ended _ _ (going s.core.ended _ needs)
-    ∙ ap (λ r. remaining_after r (run (size s.core) limit)) is)
+    cc (
+      (handed laws limit stop text ts s h).1,
+      none_first s.queue.places (behind (size s.core) limit) s needs,
+      cond-false s.core.ended _ _ (going s.core.ended _ needs),
+    )

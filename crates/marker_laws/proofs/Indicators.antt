@@ -1,5 +1,5 @@
 -- The indicators of collections leave both scanners at the same place.
-use Rattle.std.proofs.Common.{◌≡◌, ℕ, Bool, true, false, List, [], ◌∷◌, length, Option, Some, None, slice_index, refl, ap}
+use Rattle.std.proofs.Common.{◌≡◌, ℕ, Bool, true, false, List, [], ◌∷◌, length, Option, Some, None, slice_index, refl}
 use Rattle.std.specs.Prelude.{◌&&◌, ◌||◌, ◌==◌, not, nat_lt, nat_le}
 use Rattle.saphyr_input.specs.Classes.{is_alpha, is_blank_or_breakz, is_break, is_flow}
 use Rattle.saphyr_input.specs.Indicators.{left_brace, left_bracket}
@@ -100,7 +100,7 @@ deepened : {from : List ℕ} (c d : Core) → Cores from c d → Cores from (blo
 deepened {from = from} _ _ (cores c {q = q} h) =
     both_by (is_break (slice_index c.cursor.rest 0) || is_flow (slice_index c.cursor.rest 0))
     (is_break (slice_index q 0) || is_flow (slice_index q 0)) _ _ _ _ (Cores from)
-    (ap (λ x. is_break x || is_flow x) (first_same h.ahead)) (λ _ _. cores (go_deeper c) h) (λ _ _. cores c h)
+    (cc (first_same h.ahead)) (λ _ _. cores (go_deeper c) h) (λ _ _. cores c h)
 
 refuse_tab_same : {from : List ℕ} (x y : SkipTabs × Core) → Pairs (Cores from) x y
     → Gives (Cores from) (block.refuse_tab x) (block.refuse_tab y)

@@ -28,7 +28,7 @@ given_too : {R : State → State → Type 0} {a b : Result State Refusal} → Gi
     → (t : State) × (b ≡ Ok t) × R s t
 given_too (refused e) s i = absurd (cc)
 given_too {R = R} (given {x = x} {y = y} h) s i =
-    let same : x ≡ s = cc in (y, refl, subst (λ u. R u y) same h)
+    let same : x ≡ s = cc in (y, refl, rw same at h)
 
 refusal_too : {R : State → State → Type 0} {a b : Result State Refusal} → Gives R a b → (e : Refusal) → a ≡ Err e
     → b ≡ Err e
@@ -130,7 +130,7 @@ module _ (ends : ReaderEnds) (limit : ℕ) (v r q : List ℕ) (begins : begins_l
       let first : (queues.take queue).0 ≡ Some x = ap (λ (y : Option Piece × State). y.0) e in
       let second : holding c (queues.take queue).1 ≡ u = ap (λ (y : Option Piece × State). y.1) e in
       let t = holding d (queues.take queue).1 in
-      subst (Twin (ts ++ x ∷ [])) second (record {
+      rw (← second) (record {
         other = t;
         beside = i;
         comes = takes ts (holding d queue) t x comes ready (ap (λ y. (y, t)) first);
@@ -188,7 +188,7 @@ module _ (limit : ℕ) (v r q : List ℕ) (ts : List Piece) (s t : State) (same 
     index_same = ap (λ (x : State). x.core.cursor.mark.index) same
 
     to_rest : (z : List ℕ) → t.core.cursor.rest ≡ z → ScansTo limit (length v) (v ++ q) ts (with_rest z s)
-    to_rest z e = subst (ScansTo limit (length v) (v ++ q) ts) (same ∙ ap (λ u. with_rest u s) e) comes
+    to_rest z e = rw (same ∙ ap (λ u. with_rest u s) e) at comes
 
     followed : At (length v) r s t.core.cursor.rest ⊎ Behind (length v) r s
         → ((z : List ℕ) × At (length v) q t z) ⊎ Behind (length v) q t → ScansAlike limit v r q ts s
@@ -199,8 +199,7 @@ module _ (limit : ℕ) (v r q : List ℕ) (ts : List Piece) (s t : State) (same 
         let two = length-append other q in
         let i = index_same in
         before left e (to_rest (left ++ q)
-        (f ∙ ap (λ u. left ++ u)
-        (ends_same left other end q (sym f ∙ g) (omega (arith, len, len_too, one, two, i, all, all_too)))))
+        (cc (ends_same left other end q (sym f ∙ g) (omega (arith, len, len_too, one, two, i, all, all_too)))))
     followed (inl (left, end, e, f)) (inr b) =
         let len = ap length e in
         let one = length-append left r in
@@ -243,24 +242,20 @@ scans_alike ends limit v r q begins h ts s comes =
 pub marker_goes_on : {r q : List ℕ} (more : List ℕ) → Marked r q → Marked r (r ++ more)
 marker_goes_on more (dashes d e) = dashes d e
 marker_goes_on more (dots line d x y white e) =
-    subst (Marked (46 ∷ 46 ∷ 46 ∷ (line ++ d ∷ x))) (ap (λ u. 46 ∷ 46 ∷ 46 ∷ u) (sym (append_assoc line (d ∷ x) more)))
-    (dots line d x (x ++ more) white e)
+    rw (ap (λ u. 46 ∷ 46 ∷ 46 ∷ u) (sym (append_assoc line (d ∷ x) more))) at (dots line d x (x ++ more) white e)
 
 extended : (limit : ℕ) (v r more : List ℕ) (ts : List Piece) (s : State)
     → ScansAlike limit v r (r ++ more) ts s → ScansTo limit (length v) (v ++ (r ++ more)) ts (extended_by more s)
 extended limit v r more ts s (before left e comes) =
-    subst (λ z. ScansTo limit (length v) (v ++ (r ++ more)) ts (with_rest z s))
-    (sym (append_assoc left r more) ∙ ap (λ u. u ++ more) (sym e)) comes
+    subst (λ z. ScansTo limit (length v) (v ++ (r ++ more)) ts (with_rest z s)) (cc (append_assoc left r more)) comes
 extended limit v r more ts s (behind k some within e gone comes) =
-    subst (λ z. ScansTo limit (length v) (v ++ (r ++ more)) ts (with_rest z s))
-    (drop-append-le k r more within ∙ ap (λ u. u ++ more) (sym e)) comes
+    rw (drop-append-le k r more within ∙ ap (λ u. u ++ more) (sym e)) at comes
 
 pub scans_longer : ReaderEnds → (limit : ℕ) (v r more : List ℕ) → begins_line true v ≡ true → Marked r r
     → (ts : List Piece) (s : State) → ScansTo limit (length v) (v ++ r) ts s
     → ScansTo limit (length v) (v ++ r ++ more) ts (extended_by more s)
 scans_longer ends limit v r more begins h ts s comes =
-    subst (λ text. ScansTo limit (length v) text ts (extended_by more s)) (sym (append_assoc v r more))
-    (extended limit v r more ts s
+    rw (append_assoc v r more) (extended limit v r more ts s
     (scans_alike ends limit v r (r ++ more) begins (marker_goes_on more h) ts s comes))
 
 -- and what it refuses is refused there
@@ -272,8 +267,7 @@ refuses_longer laws ends limit v r more begins h ts s e comes needs low is =
     let q = r ++ more in
     let w = twin ends limit v r q begins (marker_goes_on more h) ts s comes in
     let no = refused_too ends limit v r q begins (marker_goes_on more h) s w.other e w.beside low needs is in
-    subst (λ text. scan limit text ≡ before_all ts (refusal_alone e)) (sym (append_assoc v r more))
-    (refusal_ends laws limit (length v) (v ++ q) ts w.other e w.comes no.0 no.1)
+    rw (append_assoc v r more) (refusal_ends laws limit (length v) (v ++ q) ts w.other e w.comes no.0 no.1)
 
 -- it may also read from further on
 pub scans_further : (limit stop later : ℕ) (text : List ℕ) → stop ≤ later → (ts : List Piece) (s : State)

@@ -1,5 +1,5 @@
 -- The marker is fetched alike, with the break after `...`, and so is all that comes before it.
-use Rattle.std.proofs.Common.{◌≡◌, ◌<◌, ◌≤◌, ℕ, suc, ◌+◌, Bool, true, false, List, [], ◌∷◌, ◌++◌, drop, length, slice_index, None, Result, Ok, refl, sym, ap, subst, arith}
+use Rattle.std.proofs.Common.{◌≡◌, ◌<◌, ◌≤◌, ℕ, suc, ◌+◌, Bool, true, false, List, [], ◌∷◌, ◌++◌, drop, length, slice_index, None, Result, Ok, refl, ap, arith}
 use Rattle.std.specs.Prelude.{◌==◌, nat_le}
 use Rattle.std.proofs.lemmas.Bool.{eqb-true}
 use Rattle.std.proofs.lemmas.List.{length-drop}
@@ -162,12 +162,7 @@ here_by : (c : Core) (queue : Queue) (k : Bool) (m : Marker) {from : List ℕ} {
     (fetch_here (holding (with_cursor (line_cursor k m r) c) queue))
     (fetch_here (holding (with_cursor (line_cursor k m q) c) queue))
 here_by c queue k m {from = from} (here {q = q} h) f =
-    subst (λ col. Gives (FetchedAt from)
-    (fetch_here
-    (holding (with_cursor (line_cursor k (record { index = m.index; line = m.line; col = col }) from) c) queue))
-    (fetch_here
-    (holding (with_cursor (line_cursor k (record { index = m.index; line = m.line; col = col }) q) c) queue)))
-    (sym (eqb-true m.col 0 (f refl (told h)))) (at_marker c queue k m.index m.line h)
+    rw (eqb-true m.col 0 (f refl (told h))) (at_marker c queue k m.index m.line h)
 here_by c queue k m (character a {r = r} h) f =
     so_on _ _ (here_same (with_cursor (line_cursor k m (a ∷ r)) c) queue (character a h))
 

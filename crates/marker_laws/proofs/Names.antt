@@ -1,5 +1,5 @@
 -- Anchors and tags are read alike, as names on a line.
-use Rattle.std.proofs.Common.{◌≡◌, ℕ, zero, suc, ◌-◌, ◌*◌, ◌+◌, ◌<◌, Bool, true, false, List, [], ◌∷◌, ◌++◌, length, drop, slice_index, refl, sym, ap, ◌∙◌, subst, Result, Ok, cond, encode_utf8, encode_utf8_all}
+use Rattle.std.proofs.Common.{◌≡◌, ℕ, zero, suc, ◌-◌, ◌*◌, ◌+◌, ◌<◌, Bool, true, false, List, [], ◌∷◌, ◌++◌, length, drop, slice_index, refl, sym, ap, ◌∙◌, Result, Ok, cond, encode_utf8, encode_utf8_all}
 use Rattle.std.specs.Prelude.{◌&&◌, ◌||◌, ◌==◌}
 use Rattle.std.specs.List.{prefix_len}
 use Rattle.saphyr_input.specs.Indicators.{less_than}
@@ -23,14 +23,12 @@ use Rattle.marker_laws.proofs.Results.{both_then, both_then_known, both_are, cho
 
 -- one character that is no break is passed
 pub one_before : {from : List ℕ} (s : Cursor) {q : List ℕ} → Ahead from false s.rest q
-    → is_break (slice_index s.rest 0) ≡ false
-    → Before from (pass 1 s) (pass 1 (reading q s))
+    → is_break (slice_index s.rest 0) ≡ false → Before from (pass 1 s) (pass 1 (reading q s))
 one_before s {q = q} h k = passed_before s q 1 1 refl (past_first false h refl k)
 
 -- one of a class without breaks
 pub one_passed : {from : List ℕ} (s : Cursor) {q : List ℕ} (p : ℕ → Bool) → p 10 ≡ false → p 13 ≡ false
-    → Ahead from false s.rest q
-    → p (slice_index s.rest 0) ≡ true → Before from (pass 1 s) (pass 1 (reading q s))
+    → Ahead from false s.rest q → p (slice_index s.rest 0) ≡ true → Before from (pass 1 s) (pass 1 (reading q s))
 one_passed s p a b h f =
     one_before s h (class_no_break p a b (slice_index s.rest 0) f)
 
@@ -54,8 +52,7 @@ name_same {from = from} m _ _ (pairs a {s = s} {t = t} h) =
     choose (Pairs (Before from)) (length a == 0) (length a == 0) _ _ _ _ refl (λ _. refused _) (λ _. given (pairs a h))
 
 pub anchor_same : {from : List ℕ} (s : Cursor) {q : List ℕ} → Ahead from false s.rest q
-    → is_break (slice_index s.rest 0) ≡ false
-    → Gives (Pairs (Before from)) (anchor s) (anchor (reading q s))
+    → is_break (slice_index s.rest 0) ≡ false → Gives (Pairs (Before from)) (anchor s) (anchor (reading q s))
 unfolding anchor
 anchor_same s {q = q} h k =
     name_same s.mark _ _ (run_of is_anchor_char refl refl [] (pass 1 s) (pass 1 (reading q s))
@@ -88,8 +85,7 @@ three_before {from = from} {r = r} {q = q} h one two three =
     let a = past_first false h refl one in
     let b = past_first false a refl (ap is_break (second_is r) ∙ two) in
     let c = past_first false b refl (ap is_break (third_is r) ∙ three) in
-    subst (λ u. Ahead from false u (drop 3 q)) (drop_three r)
-    (subst (λ u. Ahead from false (drop 1 (drop 1 (drop 1 r))) u) (drop_three q) c)
+    rw (drop_three q, drop_three r) at c
 
 -- three characters that show a byte
 three_passed : {from : List ℕ} {r q : List ℕ} → Ahead from false r q → shows_byte r ≡ true
@@ -226,12 +222,10 @@ pub two_passed : {from : List ℕ} (s : Cursor) {q : List ℕ} → Ahead from fa
 two_passed {from = from} s {q = q} h k l =
     let a = past_first false h refl k in
     let b = past_first false a refl (ap is_break (second_is s.rest) ∙ l) in
-    passed_before s q 2 2 refl (subst (λ u. Ahead from false u (drop 2 q)) (drop_two s.rest)
-    (subst (λ u. Ahead from false (drop 1 (drop 1 s.rest)) u) (drop_two q) b))
+    passed_before s q 2 2 refl (rw (drop_two q, drop_two s.rest) at b)
 
 verbatim_same : {from : List ℕ} (s : Cursor) {q : List ℕ} → Ahead from false s.rest q
-    → is_break (slice_index s.rest 0) ≡ false
-    → (slice_index s.rest 1 == less_than) ≡ true
+    → is_break (slice_index s.rest 0) ≡ false → (slice_index s.rest 1 == less_than) ≡ true
     → Gives (Triples (Before from)) (verbatim_tag s) (verbatim_tag (reading q s))
 unfolding verbatim_tag
 verbatim_same {from = from} s h k second =

@@ -1,5 +1,5 @@
 -- Outside documents a step that is refused is so whatever follows, unless it passes all tokens.
-use Rattle.std.proofs.Common.{◌≡◌, ◌⊎◌, inl, inr, ℕ, Bool, true, false, List, [], ◌∷◌, ◌++◌, drop, Option, Result, Ok, Err, refl, sym, ap, ◌∙◌, subst}
+use Rattle.std.proofs.Common.{◌≡◌, ◌⊎◌, inl, inr, ℕ, Bool, true, false, List, [], ◌∷◌, ◌++◌, drop, Option, Result, Ok, Err, refl, sym, ap, ◌∙◌}
 use Rattle.std.specs.Prelude.{if◌then◌else◌}
 use Rattle.std.proofs.lemmas.Bool.{cond-true, cond-false}
 use Rattle.std.proofs.lemmas.List.{append_assoc}
@@ -171,18 +171,16 @@ module _ (us : List Piece) (e : Option Refusal) where
   begins_with : (go : Go) (m : Machine) (front others : List Piece) (t : Piece)
       → m.tokens.pieces ≡ front ++ t ∷ others → ArePassed front → is_end_or_mark t.kind ≡ false
       → begin go m ≡ go t.kind t (with_pieces others m)
-  begins_with go m front others t is h fails =
-      ap (λ r. r >>= (λ t. go t.0.kind t.0 t.1))
-      (ap (λ ts. unpassed_token_from is_end_or_mark ts m) is ∙ passes_to front others t m h fails)
+  begins_with go m front others t is h fails = cc (passes_to front others t m h fails)
 
   begins_more : (w : DocumentMarker) (go : Go) → Keeps w go → (m : Machine) (f : Refusal) → First m.tokens.pieces
       → EndWithMarker w m.tokens.pieces → begin go m ≡ Err f → begin go (with_more us e m) ≡ Err f
   begins_more w go keeps m f h ends fails =
       let one = begins_with go m h.front h.others h.token h.is h.passed h.kept in
       let two = begins_with go (with_more us e m) h.front (h.others ++ us) h.token
-      (ap (λ ts. ts ++ us) h.is ∙ append_assoc h.front (h.token ∷ h.others) us) h.passed h.kept in
+      (cc (append_assoc h.front (h.token ∷ h.others) us)) h.passed h.kept in
       two ∙ keeps h.token.kind h.token (with_pieces h.others m) f
-      (ends_behind w h.front h.others h.token (subst (EndWithMarker w) h.is ends)) (sym one ∙ fails)
+      (ends_behind w h.front h.others h.token (rw h.is at ends)) (sym one ∙ fails)
 
   pub refused_outside : (w : DocumentMarker) (s : State) (m : Machine) (f : Refusal) → IsBetweenDocuments s
       → First m.tokens.pieces → EndWithMarker w m.tokens.pieces → event_step_at s m ≡ Err f

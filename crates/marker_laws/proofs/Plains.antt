@@ -1,5 +1,5 @@
 -- Plain scalars are read alike: none goes on at a marker.
-use Rattle.std.proofs.Common.{◌≡◌, ℕ, ◌<◌, Bool, true, false, List, [], ◌∷◌, ◌++◌, length, slice_index, refl, sym, ap, ◌∙◌, arith, subst, cond, encode_utf8, Ok}
+use Rattle.std.proofs.Common.{◌≡◌, ℕ, ◌<◌, Bool, true, false, List, [], ◌∷◌, ◌++◌, length, slice_index, refl, sym, ◌∙◌, arith, cond, encode_utf8, Ok}
 use Rattle.std.specs.Prelude.{◌&&◌, ◌||◌, ◌==◌, not, nat_lt, Option}
 use Rattle.std.proofs.lemmas.Bool.{and_parts, not-false}
 use Rattle.saphyr_input.specs.Classes.{is_break, is_blank, is_blank_or_breakz, is_z, is_bom, is_flow, tab, line_feed}
@@ -47,8 +47,7 @@ starts_same {from = from} f _ _ (beside s {q = q} h) =
     (rw (first, second) refl) (λ _. refused _)
     (λ _.
     let e = unmarked_here s.mark h (or_false_right (slice_index s.rest 0 == 35) _ no) in
-    subst (λ b. Gives (Starts from) (Ok (is_in_word f s.rest, s)) (Ok (b, reading q s))) (in_word_same f h.ahead)
-    (given (begins (is_in_word f s.rest) (before s e)))))
+    rw (← (in_word_same f h.ahead)) (given (begins (is_in_word f s.rest) (before s e)))))
   where
     or_false_right : (x y : Bool) → (x || y) ≡ false → y ≡ false
     or_false_right true y e = absurd (cc)
@@ -94,13 +93,11 @@ along_fits c r m white along = by (is_break c) refl
     by : (b : Bool) → is_break c ≡ b → Fits b r m
     by false e = fits_on r m refl
     by true e =
-        let cut : ((c == 13) && (slice_index r 0 == 10)) ≡ true =
-        not-false _ (sym (ap (λ x. x && not ((c == 13) && (slice_index r 0 == 10))) e) ∙ along) in
+        let cut : ((c == 13) && (slice_index r 0 == 10)) ≡ true = not-false _ (sym (cc) ∙ along) in
         fits_feed true r m (and_parts (c == 13) _ cut).1
 
 lines_same : {from : List ℕ} (i : ℕ) (a : Marker) (u : Bool) (feeds : List ℕ) (m : Marker) {b : Bool} {r q : List ℕ}
-    → Ahead from b r q
-    → Fits b r m → Gives (PlainGaps from) (lines i a u feeds m r) (lines i a u feeds m q)
+    → Ahead from b r q → Fits b r m → Gives (PlainGaps from) (lines i a u feeds m r) (lines i a u feeds m q)
 unfolding lines
 lines_same i a u feeds m (here (dashes d e)) f =
     reached_same a u feeds _ _ (beside (line_front m _) (stands_here m (dashes d e) f))
@@ -109,20 +106,15 @@ lines_same i a u feeds m (here (dots tail d _ _ white e)) f =
 lines_same {from = from} i a u feeds m {b = b} (character c {r = r} {q = q} h) f =
     choose (PlainGaps from) (is_blank_or_break c) (is_blank_or_break c) _ _ _ _ refl
     (λ white.
-    let ends : ends_line c r ≡ ends_line c q =
-    ap (λ x. is_break c && not ((c == 13) && (x == 10))) (first_same h) in
+    let ends : ends_line c r ≡ ends_line c q = cc (first_same h) in
     let t : Bool = is_blank c && (u || ((c == tab) && nat_lt m.col i)) in
-    subst (λ z. Gives (PlainGaps from) (lines i a t (cond (ends_line c r) (feeds ++ line_feed ∷ []) feeds)
-    (cond (ends_line c r) (next_line m 1) (along m 1)) r)
-    (lines i a t (cond z (feeds ++ line_feed ∷ []) feeds) (cond z (next_line m 1) (along m 1)) q)) ends
-    (by t white (ends_line c r) refl (λ g k w. lines_same i a t g k h w)))
+    rw (← ends) (by t white (ends_line c r) refl (λ g k w. lines_same i a t g k h w)))
     (λ _. reached_same a u feeds _ _ (beside (line_front m (c ∷ r))
     (record { flag = b; ahead = character c h; fits = f })))
   where
     by : (t : Bool) → is_blank_or_break c ≡ true → (z : Bool) → ends_line c r ≡ z
         → ((g : List ℕ) (k : Marker) → Fits (is_break c) r k → Gives (PlainGaps from) (lines i a t g k r)
-        (lines i a t g k q))
-        → Gives (PlainGaps from)
+        (lines i a t g k q)) → Gives (PlainGaps from)
         (lines i a t (cond z (feeds ++ line_feed ∷ []) feeds) (cond z (next_line m 1) (along m 1)) r)
         (lines i a t (cond z (feeds ++ line_feed ∷ []) feeds) (cond z (next_line m 1) (along m 1)) q)
     by t white true e more = more (feeds ++ line_feed ∷ []) (next_line m 1) (λ _ _. refl)
@@ -159,9 +151,7 @@ noted_same f u s h = let first = first_same h in rw first refl
 ended_same : {from : List ℕ} (f : Bool) (m : Marker) (g k : PlainGap) → PlainGaps from g k
     → Gives (PlainReads from) (scalar_end f m g) (scalar_end f m k)
 ended_same {from = from} f m _ _ (plain_gaps text u (beside s {q = q} h)) =
-    subst (λ o. Gives (PlainReads from) (Ok ([], m, comment_of f u s, s)) (Ok ([], m, o, reading q s)))
-    (noted_same f u s h.ahead)
-    (given (plain_reads [] m _ (beside s h)))
+    rw (← (noted_same f u s h.ahead)) (given (plain_reads [] m _ (beside s h)))
 
 front_same : {from : List ℕ} (u : List ℕ) (r q : PlainScalarRead) → Gives (PlainReads from) r q
     → Gives (PlainReads from) (with_text u r) (with_text u q)
@@ -195,16 +185,14 @@ module _ (from : List ℕ) (f : Bool) (i : ℕ) (a : Marker) where
       both_then_known (Starts from) (PlainReads from) _ _ _ _ (goes_of g k is)
       (λ x y first _ are.
       let says = goes_says f i x.0 g.behind x.1 first in
-      word_or_end m g k len is others x y
-      (λ goes. subst (λ (c : Cursor). length c.rest < len) (sym says.same) (shorter (says.goes goes))) are)
+      word_or_end m g k len is others x y (λ goes. rw says.same (shorter (says.goes goes))) are)
     where
       goes_of : (g k : PlainGap) → PlainGaps from g k
           → Gives (Starts from) (next_word_starts f i g.behind) (next_word_starts f i k.behind)
       goes_of _ _ (plain_gaps text u {s = s} {t = t} h) = goes_same f i s t h
 
   over_same : (s : Cursor) {q : List ℕ} → is_in_word f s.rest ≡ false → Ahead from false s.rest q
-      → Others (length s.rest)
-      → Gives (PlainReads from) (word f i a s.mark s.rest) (word f i a s.mark q)
+      → Others (length s.rest) → Gives (PlainReads from) (word f i a s.mark s.rest) (word f i a s.mark q)
   over_same s {q = q} stops e others =
       both_are (PlainReads from) _ _ _ _ (word_over f i a s.mark s.rest stops)
       (word_over f i a s.mark q (sym (in_word_same f e) ∙ stops))

@@ -1,5 +1,5 @@
 -- Quoted scalars are read alike: a marker at the start of a line is refused.
-use Rattle.std.proofs.Common.{◌≡◌, ℕ, zero, suc, ◌+◌, ◌*◌, ◌<◌, Bool, true, false, List, [], ◌∷◌, ◌++◌, length, drop, slice_index, refl, sym, ap, ◌∙◌, arith, subst, cond, Result, Ok, Err, encode_utf8}
+use Rattle.std.proofs.Common.{◌≡◌, ℕ, zero, suc, ◌+◌, ◌*◌, ◌<◌, Bool, true, false, List, [], ◌∷◌, ◌++◌, length, drop, slice_index, refl, ap, arith, cond, Result, Ok, Err, encode_utf8}
 use Rattle.std.specs.Prelude.{◌&&◌, ◌==◌, not, pred, Option, Some, None}
 use Rattle.std.proofs.lemmas.Bool.{and_parts, not-true, eqb-true}
 use Rattle.std.proofs.lemmas.List.{length-drop}
@@ -13,7 +13,7 @@ use Rattle.saphyr_values.specs.Flow as flow
 use Rattle.saphyr_scalar.specs.declared.scalar.position.Marker.{Marker}
 use Rattle.saphyr_scalar.specs.declared.scalar.fault.Refusal.{Refusal}
 use Rattle.saphyr_scalar.specs.declared.scalar.fault.FaultText.TheVariants as fault
-use Rattle.saphyr_scalar.specs.Views.Cursor.{Cursor, ◌>>=◌, refuse, along, next_line, pass}
+use Rattle.saphyr_scalar.specs.Views.Cursor.{Cursor, refuse, along, next_line, pass}
 use Rattle.saphyr_scalar.specs.Steps.Quoted.{is_literal, hex_digit_count, digits, escape_by_number, escape_of, escaped_character, TextRead, mid_line, with_front, special, special_len, QuotedGap, on_line, over_lines, no_gap, is_left, blank_in, break_in, quoted_line, end_gap, escaped_gap, break_len, if_some, inner_text, inner_text_at, quoted}
 use Rattle.saphyr_scalar.specs.Steps.Quoted as quotes
 use Rattle.saphyr_scalar.proofs.Quoted.Inside.{passed_over, word_from, quoted_behind_gap}
@@ -33,9 +33,7 @@ digits_same : {from : List ℕ} (a : Marker) (k v : ℕ) (s t : Cursor) → Befo
 unfolding digits
 digits_same a zero v s t h = given (pairs v h)
 digits_same {from = from} a (suc k) v _ _ (before s {q = q} e) =
-    by_first (Pairs (Before from)) is_hex e _ _ _ _
-    (λ h. subst (λ c. Gives (Pairs (Before from)) (digits a k (v * 16 + hex_value (slice_index s.rest 0)) (pass 1 s))
-    (digits a k (v * 16 + hex_value c) (pass 1 (reading q s)))) (first_same e)
+    by_first (Pairs (Before from)) is_hex e _ _ _ _ (λ h. rw (← (first_same e))
     (digits_same a k (v * 16 + hex_value (slice_index s.rest 0)) _ _ (one_passed s is_hex refl refl e h)))
     (λ _. refused _)
 
@@ -47,8 +45,7 @@ number_same {from = from} a _ _ (pairs v h) =
     (λ _. refused _)
 
 letter_same : {from : List ℕ} (a : Marker) (o : Option ℕ) (letter : ℕ) (s : Cursor) {q : List ℕ}
-    → Ahead from false s.rest q
-    → is_break (slice_index s.rest 0) ≡ false → is_break (slice_index s.rest 1) ≡ false
+    → Ahead from false s.rest q → is_break (slice_index s.rest 0) ≡ false → is_break (slice_index s.rest 1) ≡ false
     → Gives (Pairs (Before from)) (escape_of a o letter s) (escape_of a o letter (reading q s))
 unfolding escape_of escape_by_number
 letter_same a (Some c) letter s e k l = given (pairs c (two_passed s e k l))
@@ -65,9 +62,7 @@ escape_same : {from : List ℕ} (a : Marker) (s : Cursor) {q : List ℕ} → Ahe
     → Gives (Pairs (Before from)) (escaped_character a s) (escaped_character a (reading q s))
 unfolding escaped_character
 escape_same {from = from} a s {q = q} e k l =
-    subst (λ c. Gives (Pairs (Before from)) (escape_of a (short_escape (slice_index s.rest 1)) (slice_index s.rest 1) s)
-    (escape_of a (short_escape c) c (reading q s))) (second_same e)
-    (letter_same a (short_escape (slice_index s.rest 1)) (slice_index s.rest 1) s e k l)
+    rw (← (second_same e)) (letter_same a (short_escape (slice_index s.rest 1)) (slice_index s.rest 1) s e k l)
 
 some_of : {from : List ℕ} (x y : ℕ × Cursor) → Pairs (Before from) x y
     → Gives (Pairs (Before from)) (Ok (Some x.0, x.1)) (Ok (Some y.0, y.1))
@@ -138,8 +133,7 @@ marker_refused : (quote : Quote) (i : ℕ) (a m : Marker) (gap : QuotedGap) (c :
     → is_break c ≡ false → (m.col == 0) ≡ true → is_document_indicator (c ∷ cs) ≡ true → is_over gap ≡ true
     → inner_text quote i a gap 0 m (c ∷ cs) ≡ refuse fault.DocumentIndicatorInsideQuotes a
 marker_refused quote i a m gap c cs blank break z t over =
-    quoted_behind_gap quote i a gap m c cs blank break
-    ∙ ap (λ r. r >>= λ text. with_front text (word_from quote i a m c cs)) (refuses_marker i a m gap (c ∷ cs) z t over)
+    cc (quoted_behind_gap quote i a gap m c cs blank break, refuses_marker i a m gap (c ∷ cs) z t over)
 
 refused_here : (quote : Quote) (i : ℕ) (a m : Marker) (gap : QuotedGap) {from r q : List ℕ} → Marked r q
     → (m.col == 0) ≡ true → is_over gap ≡ true
@@ -169,16 +163,14 @@ data Any {X : Type 0} : X → X → Type 0 where
   any : (x y : X) → Any x y
 
 gap_same : {from : List ℕ} (i : ℕ) (a : Marker) (gap : QuotedGap) (s : Cursor) {b : Bool} {q : List ℕ}
-    → Ahead from b s.rest q
-    → Gives Same (end_gap i a gap s) (end_gap i a gap (reading q s))
+    → Ahead from b s.rest q → Gives Same (end_gap i a gap s) (end_gap i a gap (reading q s))
 unfolding end_gap quoted_line
 gap_same i a (on_line bytes) s h =
     by_first Same is_z h _ _ _ _ (λ _. refused _) (λ _. given (same bytes))
 gap_same i a (over_lines escaped n) s {q = q} h =
     both_then Any Same
     (choose Any ((s.mark.col == 0) && is_document_indicator s.rest) ((s.mark.col == 0) && is_document_indicator q)
-    _ _ _ _ (ap (λ x. (s.mark.col == 0) && x) (indicator_same h)) (λ _. refused _)
-    (λ _. by_first Any is_z h _ _ _ _ (λ _. refused _)
+    _ _ _ _ (cc (indicator_same h)) (λ _. refused _) (λ _. by_first Any is_z h _ _ _ _ (λ _. refused _)
     (λ _. choose Any (is_left i s.mark) (is_left i s.mark) _ _ _ _ refl (λ _. refused _) (λ _. given (any _ _)))))
     (λ x y h. given (same _))
 
@@ -214,10 +206,8 @@ module _ (from : List ℕ) (quote : Quote) (i : ℕ) (a : Marker) where
       let len = length-drop (special_len quote (slice_index r 0)) r in
       let less : length u.rest < suc (length r) = omega (arith, ap length rest, len) in
       both_are (Pairs (Before from)) _ _ _ _
-      (passed_over quote i a no_gap (special_len quote (slice_index r 0)) u.mark r
-      ∙ ap (inner_text quote i a no_gap 0 u.mark) (sym rest))
-      (passed_over quote i a no_gap (special_len quote (slice_index q 0)) u.mark q
-      ∙ ap (inner_text quote i a no_gap 0 u.mark) (sym other))
+      (cc (passed_over quote i a no_gap (special_len quote (slice_index r 0)) u.mark r))
+      (cc (passed_over quote i a no_gap (special_len quote (slice_index q 0)) u.mark q))
       (on_from no_gap u.mark (suc (length r)) less e (looked_on u.rest u.mark no_gap refl) others)
 
   -- after a break or one character, at the start of a line
@@ -238,9 +228,8 @@ module _ (from : List ℕ) (quote : Quote) (i : ℕ) (a : Marker) where
       (next_line m (break_len q)) q)
   behind_escaped m (here h) z others = absurd (cc)
   behind_escaped m (character c {r = r} {q = q} h) z others =
-      let len : break_len (c ∷ r) ≡ break_len (c ∷ q) =
-      ap (λ x. cond ((c == 13) && (x == 10)) 2 1) (first_same h) in
-      subst (λ k. At (break_len (c ∷ r)) k) len (by ((c == 13) && (slice_index r 0 == 10)) refl)
+      let len : break_len (c ∷ r) ≡ break_len (c ∷ q) = cc (first_same h) in
+      rw (← len) (by ((c == 13) && (slice_index r 0 == 10)) refl)
     where
       At : ℕ → ℕ → Type 0
       At k l = Gives (Pairs (Before from))
@@ -249,10 +238,7 @@ module _ (from : List ℕ) (quote : Quote) (i : ℕ) (a : Marker) where
 
       there : (k : ℕ) (b : Bool) → Ahead from b (drop k (c ∷ r)) (drop k (c ∷ q)) → At k k
       there k b x =
-          subst (λ d. Gives (Pairs (Before from))
-          (inner_text quote i a (escaped_gap quote (slice_index (drop k (c ∷ r)) 0)) k (next_line m k) (c ∷ r))
-          (inner_text quote i a (escaped_gap quote d) k (next_line m k) (c ∷ q))) (first_same x)
-          (behind_break (next_line m k) (escaped_gap quote (slice_index (drop k (c ∷ r)) 0)) k
+          rw (← (first_same x)) (behind_break (next_line m k) (escaped_gap quote (slice_index (drop k (c ∷ r)) 0)) k
           (suc (length (c ∷ r))) (c ∷ r) (c ∷ q) x
           (looked_escaped quote b (drop k (c ∷ r)) (next_line m k) refl) (omega arith) others)
 
@@ -285,8 +271,7 @@ module _ (from : List ℕ) (quote : Quote) (i : ℕ) (a : Marker) where
 
   -- a word or the closing quote
   from_word : (m : Marker) (c : ℕ) {r q : List ℕ} → is_break c ≡ false → Ahead from (is_break c) r q
-      → Others (suc (length r))
-      → Gives (Pairs (Before from)) (word_from quote i a m c r) (word_from quote i a m c q)
+      → Others (suc (length r)) → Gives (Pairs (Before from)) (word_from quote i a m c r) (word_from quote i a m c q)
   from_word m c {r = r} {q = q} ink h others =
       choose (Pairs (Before from)) (is_literal quote c) (is_literal quote c) _ _ _ _ refl
       (λ _. front_same (encode_utf8 c) _ _ (on_from no_gap (along m 1) (suc (length r)) (omega arith) h
@@ -329,12 +314,8 @@ module _ (from : List ℕ) (quote : Quote) (i : ℕ) (a : Marker) where
           rw e (both_then Same (Pairs (Before from)) (same_result (blank_in i gap m c))
           (behind_blank (class_no_break is_blank refl refl c e)))
       by false true e k =
-          let len : break_len (c ∷ r) ≡ break_len (c ∷ q) =
-          ap (λ x. cond ((c == 13) && (x == 10)) 2 1) (first_same h) in
-          rw (e, k) (subst (λ n. Gives (Pairs (Before from))
-          (inner_text quote i a (break_in gap) (pred (break_len (c ∷ r))) (next_line m (break_len (c ∷ r))) r)
-          (inner_text quote i a (break_in gap) (pred n) (next_line m n) q)) len
-          (over ((c == 13) && (slice_index r 0 == 10)) refl))
+          let len : break_len (c ∷ r) ≡ break_len (c ∷ q) = cc (first_same h) in
+          rw (e, k, ← len) (over ((c == 13) && (slice_index r 0 == 10)) refl)
       by false false e k =
           both_are (Pairs (Before from)) _ _ _ _ (quoted_behind_gap quote i a gap m c r e k)
           (quoted_behind_gap quote i a gap m c q e k)

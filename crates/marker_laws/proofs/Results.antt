@@ -26,7 +26,7 @@ both_then_known {X} {Y} R Q r q f g h next = by h next
 -- what is given is the same as something else
 pub both_are : {X : Type 0} (R : X → X → Type 0) (r q u v : Result X Refusal) → r ≡ u → q ≡ v → Gives R u v
     → Gives R r q
-both_are R r q u v e f h = subst (λ x. Gives R x q) (sym e) (subst (Gives R u) (sym f) h)
+both_are R r q u v e f h = subst (λ x. Gives R x q) (sym e) (rw f h)
 
 -- a choice by tests that come out alike
 pub choose : {X : Type 0} (R : X → X → Type 0) (a b : Bool) (x y z w : Result X Refusal) → a ≡ b
@@ -37,8 +37,7 @@ choose R a b x y z w e then else = both_by a b x y z w (Gives R) e (λ h _. then
 pub by_first : {from : List ℕ} {X : Type 0} (R : X → X → Type 0) (p : ℕ → Bool) {b : Bool} {r q : List ℕ}
     → Ahead from b r q
     → (x y z w : Result X Refusal) → (p (slice_index r 0) ≡ true → Gives R x z) → (p (slice_index r 0) ≡ false
-    → Gives R y w)
-    → Gives R (cond (p (slice_index r 0)) x y) (cond (p (slice_index q 0)) z w)
+    → Gives R y w) → Gives R (cond (p (slice_index r 0)) x y) (cond (p (slice_index q 0)) z w)
 by_first R p {r = r} {q = q} h x y z w then else =
     choose R (p (slice_index r 0)) (p (slice_index q 0)) x y z w (ap p (first_same h)) then else
 
@@ -60,15 +59,13 @@ blanks_passed {from = from} s q a b e =
     e (λ h. beside (pass_blanks a s) h)
 
 pub passed_before : {from : List ℕ} (s : Cursor) (q : List ℕ) (a b : ℕ) → a ≡ b
-    → Ahead from false (drop a s.rest) (drop b q)
-    → Before from (pass a s) (pass b (reading q s))
+    → Ahead from false (drop a s.rest) (drop b q) → Before from (pass a s) (pass b (reading q s))
 passed_before {from = from} s q a b e =
     subst (λ k. Ahead from false (drop a s.rest) (drop k q) → Before from (pass a s) (pass k (reading q s))) e
     (λ h. before (pass a s) h)
 
 pub blanks_before : {from : List ℕ} (s : Cursor) (q : List ℕ) (a b : ℕ) → a ≡ b
-    → Ahead from false (drop a s.rest) (drop b q)
-    → Before from (pass_blanks a s) (pass_blanks b (reading q s))
+    → Ahead from false (drop a s.rest) (drop b q) → Before from (pass_blanks a s) (pass_blanks b (reading q s))
 blanks_before {from = from} s q a b e =
     subst (λ k. Ahead from false (drop a s.rest) (drop k q) → Before from (pass_blanks a s)
     (pass_blanks k (reading q s))) e

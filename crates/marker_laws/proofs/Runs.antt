@@ -1,5 +1,5 @@
 -- The tokens of two texts are the same up to the marker.
-use Rattle.std.proofs.Common.{◌≡◌, ℕ, zero, suc, ◌+◌, ◌<◌, true, false, List, [], ◌∷◌, ◌++◌, length, Result, Ok, refl, sym, ◌∙◌, subst, arith, cond}
+use Rattle.std.proofs.Common.{◌≡◌, ℕ, zero, suc, ◌+◌, ◌<◌, true, false, List, [], ◌∷◌, ◌++◌, length, Result, Ok, refl, ◌∙◌, arith, cond}
 use Rattle.std.proofs.lemmas.List.{length-append}
 use Rattle.saphyr_scalar.specs.declared.scalar.fault.Refusal.{Refusal}
 use Rattle.saphyr_scalar.specs.Views.Cursor.{◌>>=◌}
@@ -7,7 +7,7 @@ use Rattle.saphyr_scalar.proofs.Choices.{both_by}
 use Rattle.saphyr_scanner.specs.declared.queue.Opening.{Opening}
 use Rattle.saphyr_scanner.specs.declared.queue.Opening.TheVariants as opening
 use Rattle.saphyr_scanner.specs.Grammar.Tokens as tokens
-use Rattle.saphyr_scanner.specs.Views.Tokens.{Piece, Remaining, before, none, refusal_alone}
+use Rattle.saphyr_scanner.specs.Views.Tokens.{Piece, Remaining, none, refusal_alone}
 use Rattle.saphyr_scanner.specs.Steps.Queue.{Place, Queue, empty_piece}
 use Rattle.saphyr_scanner.specs.Steps.Core.{Core, drop_far_key}
 use Rattle.saphyr_scanner.specs.Steps.Core as core
@@ -35,9 +35,7 @@ module _ (limit : ℕ) (v from : List ℕ) where
   before_same k opening.BlockMappingAndKey t r w h = token _ (token _ (token t h))
   before_same k opening.FlowMappingAndKey t r w h =
       let key = empty_piece t.span.start tokens.Key in
-      token (empty_piece t.span.start tokens.FlowMappingStart)
-      (subst (λ m. AlikeUpTo limit v from m (before key (before t r)) (before key (before t w)))
-      (sym (start_same k t.span.start)) (token key (token t h)))
+      token (empty_piece t.span.start tokens.FlowMappingStart) (rw (start_same k t.span.start) (token key (token t h)))
 
   hands_same : (ps : List Place) (k n : ℕ) (c d : Core) (go ho : State → Remaining) → Cores from c d
       → Reaches limit (v ++ from) (holding c (record { places = ps; handed = n }))
@@ -99,12 +97,10 @@ module _ (readers : Readers) (ends : ReaderEnds) (limit : ℕ) (v from : List �
       next k s t more less less_too here (on h) = more k s t less less_too here h
       next k s t more less less_too here (marked place line h left) =
           let is : place ≡ length v = omega (arith, here.0, left) in
-          marks limit v from n m k line s t less less_too here.1 here.2
-          (subst (λ i. Past (marker_piece i line from) s t) is h)
+          marks limit v from n m k line s t less less_too here.1 here.2 (rw is at h)
 
       going : (c d : Core) → Cores from c d → More → (k : ℕ) → size c < suc n → size d < suc m → (held : Queue)
-          → Text k (holding c held) → (c.ended ≡ false → needs_token (holding c held) ≡ true)
-          → AlikeUpTo limit v from k
+          → Text k (holding c held) → (c.ended ≡ false → needs_token (holding c held) ≡ true) → AlikeUpTo limit v from k
           (cond c.ended none (remaining_after (fetch_within limit (holding c held) >>= without_far_key) (run n limit)))
           (cond d.ended none (remaining_after (fetch_within limit (holding d held) >>= without_far_key) (run m limit)))
       going _ _ (cores c {q = q} h) more k a b held here needs =

@@ -1,8 +1,7 @@
 -- White space, comments, breaks and byte order marks are passed alike.
-use Rattle.std.proofs.Common.{◌≡◌, ℕ, Bool, true, false, List, ◌∷◌, drop, slice_index, refl, ap, subst}
+use Rattle.std.proofs.Common.{◌≡◌, ℕ, Bool, true, false, List, ◌∷◌, drop, slice_index, refl, ap}
 use Rattle.std.specs.Prelude.{◌&&◌, ◌==◌, nat_lt}
-use Rattle.std.specs.List.{list_any}
-use Rattle.saphyr_input.specs.Classes.{is_break, is_blank, is_bom, is_yaml_non_break, tab, space}
+use Rattle.saphyr_input.specs.Classes.{is_break, is_blank, is_bom, is_yaml_non_break, space}
 use Rattle.saphyr_input.specs.Separation.{blank_len, comment_len, is_bare_comment, separation_len, found_blanks}
 use Rattle.saphyr_input.specs.declared.input.SkipTabs.{SkipTabs}
 use Rattle.saphyr_input.specs.declared.input.SkipTabs.TheVariants as skip
@@ -22,7 +21,7 @@ pub past_feed : {from : List ℕ} {b : Bool} {r q : List ℕ} → Ahead from b r
 past_feed (here (dashes d e)) f = absurd (cc)
 past_feed (here (dots tail d _ _ white e)) f = absurd (cc)
 past_feed {from = from} (character c {r = r} {q = q} h) f =
-    let e : is_break c ≡ true = rw f refl in subst (λ z. Ahead from z r q) e h
+    let e : is_break c ≡ true = rw f refl in rw e at h
 
 -- after CR LF or a break
 break_at : {from : List ℕ} (m : Marker) (k : Bool) {b : Bool} {r q : List ℕ} → Ahead from b r q → Stands from m r q
@@ -31,8 +30,7 @@ break_at m k (here (dashes d e)) h = beside (line_cursor k m _) h
 break_at m k (here (dots tail d _ _ white e)) h = beside (line_cursor k m _) h
 break_at {from = from} m k (character c {r = r} {q = q} x) h =
     both_by ((c == 13) && (slice_index r 0 == 10)) ((c == 13) && (slice_index q 0 == 10)) _ _ _ _ (Beside from)
-    (ap (λ d. (c == 13) && (d == 10)) (first_same x))
-    (λ f _. beside (pass_line 2 (line_cursor k m (c ∷ r)))
+    (cc (first_same x)) (λ f _. beside (pass_line 2 (line_cursor k m (c ∷ r)))
     (stands_at_line (next_line m 2) refl (past_feed x (and_true_right _ _ f))))
     (λ _ _. both_by (is_break c) (is_break c) _ _ _ _ (Beside from) refl
     (λ _ _. beside (pass_line 1 (line_cursor k m (c ∷ r))) (stands_at_line (next_line m 1) refl x))
@@ -81,7 +79,7 @@ found_same : {from : List ℕ} (tabs : SkipTabs) (m : Marker) {r q : List ℕ} �
     → found_blanks tabs r ≡ found_blanks tabs q
 found_same tabs m h =
     let x = skipped_run tabs m h in
-    ap (λ t. skip.Result (list_any (λ c. c == tab) t) (list_any (λ c. c == space) t)) x.text
+    cc
 
 bare_same : {from : List ℕ} (tabs : SkipTabs) (m : Marker) {r q : List ℕ} → Stands from m r q
     → is_bare_comment tabs r ≡ is_bare_comment tabs q
@@ -91,13 +89,11 @@ bare_same tabs m h =
     rw (len, first) refl
 
 behind_beside : {from : List ℕ} (tabs : SkipTabs) (m : Marker) {r q : List ℕ} (s t : Cursor) → Stands from m r q
-    → Beside from s t
-    → Gives (Pairs (Beside from)) (behind_separation tabs r s) (behind_separation tabs q t)
+    → Beside from s t → Gives (Pairs (Beside from)) (behind_separation tabs r s) (behind_separation tabs q t)
 unfolding behind_separation
 behind_beside {from = from} tabs m {r = r} {q = q} _ _ h (beside s {q = w} k) =
     choose (Pairs (Beside from)) (nat_lt 0 s.mark.col && is_bom (slice_index s.rest 0))
-    (nat_lt 0 s.mark.col && is_bom (slice_index w 0)) _ _ _ _
-    (ap (λ c. nat_lt 0 s.mark.col && is_bom c) (first_same k.ahead)) (λ _. refused _)
+    (nat_lt 0 s.mark.col && is_bom (slice_index w 0)) _ _ _ _ (cc (first_same k.ahead)) (λ _. refused _)
     (λ _. choose (Pairs (Beside from)) (is_bare_comment tabs r) (is_bare_comment tabs q) _ _ _ _ (bare_same tabs m h)
     (λ _. refused _)
     (λ _. given

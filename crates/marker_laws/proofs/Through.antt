@@ -1,11 +1,11 @@
 -- The marker's token comes in both lists, unless the first that is held may yet turn out to be a key.
-use Rattle.std.proofs.Common.{◌≡◌, ℕ, suc, ◌+◌, Bool, true, false, List, [], ◌∷◌, ◌++◌, ◌<◌, length, Option, Some, None, refl, sym, arith, subst, cond}
+use Rattle.std.proofs.Common.{◌≡◌, ℕ, suc, ◌+◌, Bool, true, false, List, [], ◌∷◌, ◌++◌, ◌<◌, length, Option, Some, None, refl, arith, cond}
 use Rattle.std.specs.Prelude.{◌||◌, not}
 use Rattle.std.proofs.lemmas.Bool.{and_parts}
 use Rattle.saphyr_scanner.specs.declared.queue.Opening.{Opening}
 use Rattle.saphyr_scanner.specs.declared.queue.Opening.TheVariants as opening
 use Rattle.saphyr_scanner.specs.Grammar.Tokens as tokens
-use Rattle.saphyr_scanner.specs.Views.Tokens.{Piece, Remaining, before}
+use Rattle.saphyr_scanner.specs.Views.Tokens.{Piece, Remaining}
 use Rattle.saphyr_scanner.specs.Steps.Queue.{Place, Queue, with_piece, empty_piece}
 use Rattle.saphyr_scanner.specs.Steps.Core.{Core}
 use Rattle.saphyr_scanner.specs.Steps.Passing.{with_cursor}
@@ -41,8 +41,7 @@ module _ (limit : ℕ) (v from : List ℕ) where
   before_through k opening.FlowMappingAndKey t r w h =
       let key = empty_piece t.span.start tokens.Key in
       up_to.next (empty_piece t.span.start tokens.FlowMappingStart)
-      (subst (λ m. AlikeThrough limit v from m (before key (before t r)) (before key (before t w)))
-      (sym (start_same k t.span.start)) (up_to.next key (up_to.next t h)))
+      (rw (start_same k t.span.start) (up_to.next key (up_to.next t h)))
 
   module _ (i j line : ℕ) (c : Core) (follows : List ℕ) (gone : c.level.key ≡ None) where
     abbrev behind : Queue → Queue

@@ -1,8 +1,7 @@
 -- Scalars, names, tags and directives leave both scanners at the same place.
-use Rattle.std.proofs.Common.{◌≡◌, ℕ, Bool, true, false, List, [], ◌∷◌, Option, slice_index, refl, ap, cond}
-use Rattle.std.specs.Prelude.{◌&&◌, ◌||◌, ◌==◌, not, nat_lt}
-use Rattle.saphyr_input.specs.Classes.{is_break, is_breakz}
-use Rattle.saphyr_input.specs.Indicators.{colon, comma, right_bracket, right_brace}
+use Rattle.std.proofs.Common.{◌≡◌, ℕ, Bool, true, false, List, [], ◌∷◌, Option, slice_index, refl}
+use Rattle.std.specs.Prelude.{◌&&◌, not, nat_lt}
+use Rattle.saphyr_input.specs.Classes.{is_break}
 use Rattle.saphyr_input.specs.declared.input.SkipTabs.{SkipTabs}
 use Rattle.saphyr_values.specs.declared.flow.Quote.TheVariants.{Single, Double}
 use Rattle.saphyr_values.specs.declared.block.BlockStyle.{BlockStyle}
@@ -75,9 +74,7 @@ adjacent_put actions _ _ (cores c h) = given (steps actions (cores (scalar.adjac
 goes_same : {from : List ℕ} (start : Marker) (c : Core) {b : Bool} {q : List ℕ} → Ahead from b c.cursor.rest q
     → scalar.goes_on_behind_quotes start c ≡ scalar.goes_on_behind_quotes start (with_cursor (reading q c.cursor) c)
 unfolding scalar.goes_on_behind_quotes
-goes_same start c h =
-    ap (λ x. cond (in_block c) (is_breakz x || ((x == colon) && (start.line == c.cursor.mark.line)))
-    (is_breakz x || (x == colon) || (x == comma) || (x == right_bracket) || (x == right_brace))) (first_same h)
+goes_same start c h = cc (first_same h)
 
 line_same : {from : List ℕ} (start : Marker) (style : ScalarStyle) (text : List ℕ) (c d : Core) → Cores from c d
     → Gives (Steps from) (scalar.behind_quoted_line start style text c) (scalar.behind_quoted_line start style text d)

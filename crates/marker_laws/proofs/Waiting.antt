@@ -1,5 +1,5 @@
 -- A machine whose tokens end with a marker's wants no token after it, until it has told the marker's own event.
-use Rattle.std.proofs.Common.{◌≡◌, ◌≢◌, ◌⊎◌, inl, inr, List, [], ◌∷◌, Option, None, Result, Ok, Err, refl, sym, ap, ◌∙◌, subst}
+use Rattle.std.proofs.Common.{◌≡◌, ◌≢◌, ◌⊎◌, inl, inr, List, [], ◌∷◌, Option, None, Result, Ok, Err, refl, sym, ap, ◌∙◌}
 use Rattle.saphyr_scalar.specs.declared.scalar.fault.Refusal.{Refusal}
 use Rattle.saphyr_scanner.specs.Grammar.Tokens as tokens
 use Rattle.saphyr_scanner.specs.Grammar.Tokens.{Kind}
@@ -8,6 +8,7 @@ use Rattle.saphyr_machine.specs.declared.state.State.{State}
 use Rattle.saphyr_machine.specs.declared.state.State.TheVariants as state
 use Rattle.saphyr_machine.specs.Steps.Machine.{Machine, Told}
 use Rattle.saphyr_machine.specs.Steps.Expected.{event_step, event_step_at}
+use Rattle.saphyr_machine.proofs.Calls.Handing.{goes_on}
 use Rattle.event_laws.specs.Premises.{DocumentMarker, Starts, Ends, marker_event}
 use Rattle.event_laws.specs.More.{marker_token, with_more}
 use Rattle.event_laws.proofs.Beside.Documents.{IsBetweenDocuments}
@@ -41,17 +42,12 @@ last_is w us e (t ∷ ts) h = last_or w _ t ts t.kind refl (last_is w us e ts) h
 
 last_too : (w : DocumentMarker) (us : List Piece) (e : Option Refusal) (ts : List Piece) → EndWithMarker w ts
     → End (ended_by w us e) ts
-last_too w us e ts (front, x, same, is) =
-    subst (End (ended_by w us e)) (sym same) (marker_ends w us e front x is)
+last_too w us e ts (front, x, same, is) = simp same (marker_ends w us e front x is)
 
 outside : (s : State) → IsBetweenDocuments s → (s ≡ state.ImplicitDocumentStart) ⊎ (s ≡ state.DocumentStart)
 outside state.ImplicitDocumentStart i = inl refl
 outside state.DocumentStart i = inr refl
 outside _ i = absurd i
-
-not_ended : (s : State) (m : Machine) (x : Told) → event_step_at s m ≡ Ok x → s ≢ state.End
-not_ended state.End m x e = absurd (cc)
-not_ended _ m x e = λ i. cc
 
 module _ (w : DocumentMarker) (us : List Piece) (e : Option Refusal) (m : Machine) where
   abbrev Agree : Type 0
@@ -62,19 +58,15 @@ module _ (w : DocumentMarker) (us : List Piece) (e : Option Refusal) (m : Machin
   agree : m.state ≢ state.End → EndWithMarker w m.tokens.pieces → Agree
   agree on h = steps_agree (ended_by w us e) m.state m on (last_too w us e m.tokens.pieces h)
 
-  left_of : (x : Told) (p q : Result Told Refusal) → p ≡ Ok x
-      → AgreesOrEndsEarly (ended_by w us e) m.tokens.refusal p q
+  left_of : (x : Told) (p q : Result Told Refusal) → p ≡ Ok x → AgreesOrEndsEarly (ended_by w us e) m.tokens.refusal p q
       → EndWithMarker w x.machine.tokens.pieces
       ⊎ ((x.machine.tokens.pieces ≡ []) × (x.what ≡ marker_event w))
   left_of x (Ok y) q is a =
       let same : y ≡ x = cc in
-      let P : Told → Type 0 = λ v. EndWithMarker w v.machine.tokens.pieces
-      ⊎ ((v.machine.tokens.pieces ≡ []) × (v.what ≡ marker_event w)) in
-      subst P same (elim a.0 [ inl h ↦ inl (last_is w us e y.machine.tokens.pieces h) | inr h ↦ inr (h.0, h.2) ])
+      rw (← same) (elim a.0 [ inl h ↦ inl (last_is w us e y.machine.tokens.pieces h) | inr h ↦ inr (h.0, h.2) ])
   left_of x (Err f) q is a = absurd (cc)
 
-  left_behind : (x : Told) → event_step_at m.state m ≡ Ok x → Agree
-      → EndWithMarker w x.machine.tokens.pieces
+  left_behind : (x : Told) → event_step_at m.state m ≡ Ok x → Agree → EndWithMarker w x.machine.tokens.pieces
       ⊎ ((x.machine.tokens.pieces ≡ []) × (x.what ≡ marker_event w))
   left_behind x is (inl a) = left_of x _ _ is a
   left_behind x is (inr p) = absurd (let no = p.1.1 in cc)
@@ -88,7 +80,7 @@ module _ (w : DocumentMarker) (us : List Piece) (e : Option Refusal) (m : Machin
 pub told_waits : (w : DocumentMarker) (m : Machine) (x : Told) → EndWithMarker w m.tokens.pieces → event_step m ≡ Ok x
     → EndWithMarker w x.machine.tokens.pieces ⊎ ((x.machine.tokens.pieces ≡ []) × (x.what ≡ marker_event w))
 unfolding event_step
-told_waits w m x h is = left_behind w [] None m x is (agree w [] None m (not_ended m.state m x is) h)
+told_waits w m x h is = left_behind w [] None m x is (agree w [] None m (goes_on m x is) h)
 
 refused_behind : (w : DocumentMarker) (m : Machine) (f : Refusal) (us : List Piece) (e : Option Refusal)
     → event_step_at m.state m ≡ Err f → EndWithMarker w m.tokens.pieces → Agree w us e m

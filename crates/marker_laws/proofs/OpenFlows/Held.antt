@@ -1,5 +1,5 @@
 -- The same of a scanner with the tokens that it holds, until it has read the next one.
-use Rattle.std.proofs.Common.{◌≡◌, ℕ, zero, suc, ◌-◌, true, false, List, [], ◌∷◌, ◌++◌, length, Option, Some, None, Result, Ok, Err, slice_index, refl, sym, ap, ◌∙◌}
+use Rattle.std.proofs.Common.{◌≡◌, ℕ, zero, suc, ◌-◌, true, false, List, [], ◌∷◌, ◌++◌, length, Option, Some, None, Result, Ok, Err, slice_index, refl, sym, ◌∙◌}
 use Rattle.std.specs.Prelude.{◌&&◌, ◌||◌, ◌==◌, not, nat_lt, nat_le}
 use Rattle.saphyr_input.proofs.Basics.Booleans.{by_test}
 use Rattle.saphyr_input.specs.Classes.{is_bom, is_breakz, is_z}
@@ -43,15 +43,12 @@ opened_held k o [] n = refl
 opened_held zero o (p ∷ ps) n = refl
 opened_held (suc k) o (p ∷ ps) n = opened_held k o ps (brackets_behind p.piece n)
 
-performed_held : (actions : List Action) (q : Queue) (n : ℕ)
-    → brackets_behind_held (perform actions q).places n
+performed_held : (actions : List Action) (q : Queue) (n : ℕ) → brackets_behind_held (perform actions q).places n
     ≡ counted (brackets_behind_held q.places n) actions
 performed_held [] q n = refl
-performed_held (Put t ∷ others) q n =
-    performed_held others (act (Put t) q) n ∙ ap (λ k. counted k others) (put_held q.places t n)
+performed_held (Put t ∷ others) q n = cc (performed_held others (act (Put t) q) n, put_held q.places t n)
 performed_held (Open k o ∷ others) q n =
-    performed_held others (act (Open k o) q) n
-    ∙ ap (λ m. counted m others) (opened_held (k - q.handed) o q.places n)
+    cc (performed_held others (act (Open k o) q) n, opened_held (k - q.handed) o q.places n)
 
 module _ (n : ℕ) where
   stepped : (r : StepResult) (q : Queue) → Counted (brackets_behind_held q.places n) r
@@ -159,8 +156,7 @@ module _ (n : ℕ) where
       by_test (is_breakz (slice_index x.1.cursor.rest 0)) _ _ (Given (IsBalanced n)) (λ _. h) (λ _. tt)
   line_balanced s (Err e) h = tt
 
-  document_end_balanced : (s : State) → IsBalanced n s
-      → Given (IsBalanced n) (document.state_behind_document_end s)
+  document_end_balanced : (s : State) → IsBalanced n s → Given (IsBalanced n) (document.state_behind_document_end s)
   unfolding document.state_behind_document_end
   document_end_balanced s h =
       given_then (IsBalanced n) (IsBalanced n) (document.state_behind_marker tokens.DocumentEnd s) _

@@ -162,8 +162,7 @@ module _ (n : ℕ) where
 
   -- ## Flow
 
-  opening_counted : (x : Context) (kind : Kind)
-      → ((a b : Marker) → a.index < b.index
+  opening_counted : (x : Context) (kind : Kind) → ((a b : Marker) → a.index < b.index
       → brackets_behind (record { span = record { start = a; end = b }; kind = kind }) n ≡ n + 1)
       → (k : ℕ) (c : Core) → Opens n c → Counted n (flow.opening_steps x kind k c)
   unfolding flow.opening_steps flow.open_collection
@@ -190,8 +189,7 @@ module _ (n : ℕ) where
   pair_counted true m a = ap (λ k. counted k (a ∷ [])) (end_same m)
   pair_counted false m a = refl
 
-  closing_counted : (ends : Bool) (kind : Kind)
-      → ((a b : Marker) → a.index < b.index
+  closing_counted : (ends : Bool) (kind : Kind) → ((a b : Marker) → a.index < b.index
       → brackets_behind (record { span = record { start = a; end = b }; kind = kind }) n ≡ n - 1)
       → (c : Core) → Opens n c → Counted n (flow.closing_steps ends kind c)
   unfolding flow.closing_steps flow.close_collection
@@ -202,9 +200,7 @@ module _ (n : ℕ) where
       λ y. Opens (n - 1) y.1 × (c.cursor.mark.index + 1 ≤ y.1.cursor.mark.index) in
       let less : length d.outer ≡ n - 1 = left_opens c.outer c ∙ ap (λ k. k - 1) e in
       by_test (in_block c) _ _ (Counted n) (λ _. tt)
-      (λ _. given_then P (IsCounted n) (separate (pass_on 1 d)) _
-      (subst (λ (z : Cursor). Given P (separation tabs.Yes (pass 1 z) >>= λ y. Ok (y.0, record d { cursor = y.1 })))
-      (sym (left_cursor c.outer))
+      (λ _. given_then P (IsCounted n) (separate (pass_on 1 d)) _ (rw (left_cursor c.outer)
       (given_then (λ (y : SkipTabs × Cursor). Ahead s y.1) P (separation tabs.Yes s) _ (separation_counted tabs.Yes s)
       (λ y a. (less, a.later))))
       (λ y h. adjacent_opens _ y.1 (h.0 ∙ sym (pair_counted ends c.cursor.mark _

@@ -17,8 +17,8 @@ scanned c limit v r q begins h =
     c.spells_each_anchor.ensures c.spells_each_tag.ensures c.spells_each_directive.ensures) limit v r
     (text_ahead true v (here h) begins)
 
-pub returns-clause-up_to : goal.returns-clause-up_to
-returns-clause-up_to c limit v r q begins h = scanned c limit v r q begins h
-
-pub returns-clause-through : goal.returns-clause-through
-returns-clause-through c limit v r q begins h = through_marker limit v r 0 _ _ (scanned c limit v r q begins h)
+pub returns : goal.returns
+returns c = record {
+  up_to = λ limit v r q begins h. scanned c limit v r q begins h;
+  through = λ limit v r q begins h. through_marker limit v r 0 _ _ (scanned c limit v r q begins h);
+}

@@ -10,14 +10,8 @@ use Rattle.saphyr_scanner.specs.Steps.Remaining.{remaining}
 use Rattle.saphyr_scanner.specs.Steps.Unrolling.{unroll}
 use Rattle.marker_laws.proofs.waits_behind_brackets.Goals as goal
 
-pub returns-clause-comes : goal.returns-clause-comes
+pub returns : goal.returns
 unfolding remaining drop_far_key fetch_within fetch arrive pass_gap stop check_comment unroll fetch_here
     state_behind_marker end_content remove_key state_behind_content step opening_steps open_collection separation
     behind_separation state_behind_end end_at
-returns-clause-comes c = (refl, refl)
-
-pub returns-clause-waits : goal.returns-clause-waits
-unfolding remaining drop_far_key fetch_within fetch arrive pass_gap stop check_comment unroll fetch_here
-    state_behind_marker end_content remove_key state_behind_content step opening_steps open_collection separation
-    behind_separation
-returns-clause-waits c = refl
+returns c = record { comes = (refl, refl); waits = refl }
