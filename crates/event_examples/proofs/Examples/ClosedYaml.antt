@@ -25,11 +25,7 @@ has_events false = refl
 pub promised : (keep : Bool)
     → IsPromised (IsYamlText most_open) 100 keep examples.start_forest (codes "---\n") examples.start_told
 promised keep =
-    record {
-      stands_for = stands_for_one most_open;
-      within = omega arith;
-      has_events = has_events keep;
-    }
+    record { stands_for = stands_for_one most_open; within = omega arith; has_events = has_events keep }
 
 -- nothing comes after the marker
 empty_line_rest : IsLineRest []
@@ -163,8 +159,7 @@ behind_events : (keep : Bool) → events examples.two_starts keep ≡ Some examp
 behind_events true = refl
 behind_events false = refl
 
-pub behind : (keep : Bool)
-    → IsClosed (IsYamlText most_open) IsLineRest 100 keep (codes "---\n...\n\u{feff}---\n[")
+pub behind : (keep : Bool) → IsClosed (IsYamlText most_open) IsLineRest 100 keep (codes "---\n...\n\u{feff}---\n[")
     examples.two_starts_events
 behind keep =
     record {

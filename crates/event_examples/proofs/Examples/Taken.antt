@@ -71,11 +71,7 @@ start_has_events = refl
 
 promised : IsPromised examples.IsStart 100 false examples.start_forest line told
 promised =
-    record {
-      stands_for = (refl, refl);
-      within = omega arith;
-      has_events = start_has_events;
-    }
+    record { stands_for = (refl, refl); within = omega arith; has_events = start_has_events }
 
 pub closes_start : IsClosed examples.IsStart examples.IsNothing 100 false (codes "---\n[") examples.start_events
 closes_start =

@@ -2,7 +2,6 @@
 use Rattle.std.proofs.Common.{◌≡◌, ℕ, true, false, List, [], ◌∷◌, sym, ap, ◌∙◌, arith, inl, inr}
 use Rattle.std.specs.Prelude.{◌≢◌, nat_lt, slice_index, IsFalse}
 use Rattle.std.proofs.lemmas.Bool.Decides.{nat_tests}
-use Rattle.saphyr_scalar.specs.declared.scalar.position.Marker.{Marker}
 use Rattle.saphyr_scalar.specs.declared.scalar.position.Span.{Span}
 use Rattle.saphyr_scalar.specs.Views.Cursor.{Cursor, start_cursor}
 use Rattle.saphyr_scanner.specs.Grammar.Tokens as tokens
@@ -23,7 +22,7 @@ nowhere text c s xs r e n none =
     let k : false ≡ true = sym none ∙ there in cc
 
 pub without_text : (span : Span) → span.end ≡ span.start → has_text span ≡ false
-without_text span e = ap (λ (m : Marker). nat_lt span.start.index m.index) e ∙ none span.start.index
+without_text span e = cc (none span.start.index)
   where
     none : (n : ℕ) → nat_lt n n ≡ false
     none n = grind (arith, nat_tests)

@@ -1,5 +1,5 @@
 -- In the tokens of a forest each flow collection that begins ends (YAML 1.2.2, 7.4), and the stream's end is the last.
-use Rattle.std.proofs.Common.{◌≡◌, ◌⊎◌, ℕ, ◌+◌, ◌≤◌, Bool, true, false, List, [], ◌∷◌, ◌++◌, refl, sym, arith, subst, inl, inr}
+use Rattle.std.proofs.Common.{◌≡◌, ◌⊎◌, ℕ, ◌+◌, ◌≤◌, Bool, true, false, List, [], ◌∷◌, ◌++◌, refl, arith, inl, inr}
 use Rattle.saphyr_scanner.specs.Grammar.Forest.{Forest}
 use Rattle.saphyr_scanner.specs.Grammar.Tokens as tokens
 use Rattle.saphyr_scanner.specs.Grammar.Tokens.{Kind}
@@ -50,8 +50,7 @@ module _ (a b : ℕ) where
       let c = total_append (closes a b) s t in
       let front = x.0 in
       let back = y.0 in
-      subst (AreBalanced a b) (sym e)
-      (omega (arith, o, c, front, back), closed_append s t x.1 (omega (arith, back)) y.1)
+      rw e (omega (arith, o, c, front, back), closed_append s t x.1 (omega (arith, back)) y.1)
 
   between : (opening closing : Kind) (inside : List Kind)
       → opens a b opening + opens a b closing ≡ closes a b opening + closes a b closing
@@ -103,10 +102,9 @@ ends_behind last (k ∷ []) (l ∷ ls) h = h
 ends_behind last (k ∷ x ∷ ks) ls h = ends_behind last (x ∷ ks) ls h
 
 documents_end : (f : Forest) (free : Bool) (t : List Kind) → YieldDocuments f free t → EndsWith tokens.StreamEnd t
-documents_end [] free t h = subst (EndsWith tokens.StreamEnd) (sym h) refl
+documents_end [] free t h = rw h refl
 documents_end (d ∷ ds) free t (document, rest, own, (marks, end, others, are, either, is), e) =
-    subst (EndsWith tokens.StreamEnd) (sym e) (ends_behind tokens.StreamEnd document rest
-    (subst (EndsWith tokens.StreamEnd) (sym is) (ends_behind tokens.StreamEnd marks (end ++ others)
+    rw e (ends_behind tokens.StreamEnd document rest (rw is (ends_behind tokens.StreamEnd marks (end ++ others)
     (ends_behind tokens.StreamEnd end others (by either (λ free o. documents_end ds free others o))))))
   where
     by : ((end ≡ []) × YieldDocuments ds false others)
@@ -119,5 +117,4 @@ documents_end (d ∷ ds) free t (document, rest, own, (marks, end, others, are, 
 
 pub forest_ends : (f : Forest) (t : List Kind) → Yields f t → EndsWith tokens.StreamEnd t
 forest_ends f t (front, documents, marks, docs, e) =
-    subst (EndsWith tokens.StreamEnd) (sym e) (ends_behind tokens.StreamEnd (tokens.StreamStart ∷ front) documents
-    (documents_end f true documents docs))
+    rw e (ends_behind tokens.StreamEnd (tokens.StreamStart ∷ front) documents (documents_end f true documents docs))

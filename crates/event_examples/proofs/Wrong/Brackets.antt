@@ -1,5 +1,5 @@
 -- Inside brackets no plain scalar with a comma is taken, and outside none that begins with `|`.
-use Rattle.std.proofs.Common.{◌≡◌, ℕ, ◌+◌, ◌≤◌, Bool, true, false, List, [], ◌∷◌, ◌++◌, None, refl, sym, ap, ◌∙◌, arith, subst, inl, inr, codes}
+use Rattle.std.proofs.Common.{◌≡◌, ℕ, ◌+◌, ◌≤◌, Bool, true, false, List, [], ◌∷◌, ◌++◌, None, refl, sym, ap, ◌∙◌, arith, inl, inr, codes}
 use Rattle.std.specs.Prelude.{◌-◌, nat_lt, if◌then◌else◌, slice_index}
 use Rattle.std.proofs.lemmas.Bool.Decides.{nat_tests}
 use Rattle.saphyr_input.proofs.Basics.Numbers.{zero_below_next}
@@ -42,9 +42,7 @@ module _ (text : List ℕ) (no_bracket : has_character 91 text ≡ false) (no_br
   stays_outside opened tokens.FlowSequenceEnd span s t r h out = nothing_open opened.brackets out
   stays_outside opened tokens.FlowMappingStart span s t r (inl h) out =
       absurd (nowhere text 123 s t.rest r h.0.0 (λ z. omega (arith, z)) no_brace)
-  stays_outside opened tokens.FlowMappingStart span s t r (inr h) out =
-      let P : Bool → Type 0 = λ b. in_flow (if b then with_brackets (opened.brackets + 1) opened else opened) ≡ false in
-      subst P (sym (without_text span h.0)) out
+  stays_outside opened tokens.FlowMappingStart span s t r (inr h) out = rw (without_text span h.0) out
   stays_outside opened tokens.FlowMappingEnd span s t r h out = by (nat_lt span.start.index span.end.index)
     where
       by : (b : Bool) → in_flow (if b then with_brackets (opened.brackets - 1) opened else opened) ≡ false
@@ -78,9 +76,7 @@ stays_inside opened tokens.FlowMappingStart span s t h e inside = by (nat_lt spa
     by false = inside
 stays_inside opened tokens.FlowMappingEnd span s t (inl h) e inside =
     absurd (let k = ap (λ (m : Marker). m.index) h.0.1 in omega (arith, e, k))
-stays_inside opened tokens.FlowMappingEnd span s t (inr h) e inside =
-    let P : Bool → Type 0 = λ b. in_flow (if b then with_brackets (opened.brackets - 1) opened else opened) ≡ true in
-    subst P (sym (without_text span h.0)) inside
+stays_inside opened tokens.FlowMappingEnd span s t (inr h) e inside = rw (without_text span h.0) inside
 stays_inside opened _ span s t h e inside = inside
 
 pub all_inside : (opened : Collections) (ps : List Piece) (s u : Cursor) → AreTokens opened ps s u
@@ -176,8 +172,7 @@ one_entry_is_not_taken keep t =
   where
     by : {o : Collections} {from : Cursor} (st : Stretch list_text o from (SequenceStart 0 None) wrong.bracket)
         → Stretch list_text (open_all st.own (open_all st.skipped o)) st.end
-        (plain_event (codes "a, b")) wrong.both_entries
-        → ⊥
+        (plain_event (codes "a, b")) wrong.both_entries → ⊥
     by {o = o} st scalar =
         let inner = behind_bracket list_text 2 (codes "a, b]\n") refl wrong.bracket refl refl 0 None
         (open_all st.skipped o) st.own st.others st.start st.end st.last st.reached st.is st.tokens st.rest in

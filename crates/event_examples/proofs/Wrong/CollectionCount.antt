@@ -40,8 +40,7 @@ single _ i = omega arith
 abbrev sum_of : List Part → ℕ
 sum_of ps = total part_starts ps
 
-around : (c : Collection) (p : Properties) (inside : List Kind) (ps : List Part)
-    → total token_starts inside ≤ sum_of ps
+around : (c : Collection) (p : Properties) (inside : List Kind) (ps : List Part) → total token_starts inside ≤ sum_of ps
     → total token_starts (opening c ∷ (inside ++ closing c ∷ []))
     ≤ sum_of (opening_part c p ∷ (ps ++ closing_part c ∷ []))
 around c p inside ps x =
@@ -49,8 +48,7 @@ around c p inside ps x =
     let l = total_append part_starts ps (closing_part c ∷ []) in
     by c t l
   where
-    by : (c : Collection)
-        → total token_starts (inside ++ closing c ∷ [])
+    by : (c : Collection) → total token_starts (inside ++ closing c ∷ [])
         ≡ total token_starts inside + total token_starts (closing c ∷ [])
         → sum_of (ps ++ closing_part c ∷ []) ≡ sum_of ps + sum_of (closing_part c ∷ [])
         → total token_starts (opening c ∷ (inside ++ closing c ∷ []))

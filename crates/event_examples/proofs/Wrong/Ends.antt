@@ -1,6 +1,6 @@
 -- The end of the stream is the last event of a forest, and so of an answer without a fault; with a fault it is none.
 use Rattle.std.specs.List.{AllByRecursion}
-use Rattle.std.proofs.Common.{◌≡◌, ◌≢◌, ℕ, Bool, List, [], ◌∷◌, ◌++◌, map, Option, Some, None, option_map, refl, sym, ap, ◌∙◌, subst, append_assoc}
+use Rattle.std.proofs.Common.{◌≡◌, ◌≢◌, ℕ, Bool, List, [], ◌∷◌, ◌++◌, map, Option, Some, None, option_map, refl, ap, ◌∙◌, append_assoc}
 use Rattle.saphyr_scalar.specs.declared.scalar.position.Span.{Span}
 use Rattle.saphyr_scanner.specs.Grammar.Forest.{Node, Forest}
 use Rattle.saphyr_machine.specs.Answer.{Answer, Ending}
@@ -40,10 +40,7 @@ documents_inner (d ∷ ds) =
       OpenDocument d.explicit d.directives
           ∷ (own ++ CloseDocument ∷ r.0),
       (tt, inner_append own (CloseDocument ∷ r.0) (node_inner d.node) (tt, r.1)),
-      ap
-          (λ l. OpenDocument d.explicit d.directives ∷ (own ++ CloseDocument ∷ l)) r.2
-          ∙ ap (λ l. OpenDocument d.explicit d.directives ∷ l)
-          (sym (append_assoc own (CloseDocument ∷ r.0) (CloseStream ∷ []))),
+      cc (append_assoc own (CloseDocument ∷ r.0) (CloseStream ∷ [])),
     )
 
 -- ## Events
@@ -52,11 +49,11 @@ documents_inner (d ∷ ds) =
 pub mapped : (P : Happening → Type 0) {X : Type 0} (o : Option X) (make : X → Happening) (w : Happening)
     → ((x : X) → P (make x)) → option_map make o ≡ Some w → P w
 mapped P None make w h e = absurd (cc)
-mapped P (Some x) make w h e = let same : make x ≡ w = cc in subst P same (h x)
+mapped P (Some x) make w h e = let same : make x ≡ w = cc in rw same at (h x)
 
 pub is_event : (P : Happening → Type 0) (v w : Happening) → P v
     → (let o : Option Happening = Some v in o ≡ Some w) → P w
-is_event P v w h e = let same : v ≡ w = cc in subst P same h
+is_event P v w h e = let same : v ≡ w = cc in rw same at h
 
 event_no_end : (keep : Bool) (front : List Part) (p : Part) (w : Happening) → IsInner p
     → event_of_part keep front p ≡ Some w → IsNoStreamEnd w
@@ -98,8 +95,7 @@ parts_close keep front (p ∷ ps) es i e =
 forest_closes : (keep : Bool) (f : Forest) (es : List Happening) → telling.events f keep ≡ Some es → Closes es
 forest_closes keep f es e =
     let d = documents_inner f in
-    let same : events_behind keep [] (OpenStream ∷ (d.0 ++ CloseStream ∷ [])) ≡ Some es =
-    ap (λ l. events_behind keep [] (OpenStream ∷ l)) (sym d.2) ∙ e in
+    let same : events_behind keep [] (OpenStream ∷ (d.0 ++ CloseStream ∷ [])) ≡ Some es = cc in
     parts_close keep [] (OpenStream ∷ d.0) es (tt, d.1) same
 
 -- ## Answers
@@ -113,15 +109,13 @@ whole_ends [] [] e n = absurd (cc)
 whole_ends [] (w ∷ front) e n = absurd (cc)
 whole_ends (x ∷ []) [] e n =
     let first : x.0 ≡ events.StreamEnd = cc in
-    let P : Happening → Type 0 = λ w. (front : List (Happening × Span)) × (span : Span)
-    × ((w, x.1) ∷ [] ≡ front ++ (events.StreamEnd, span) ∷ []) × HasNoStreamEnd front in
-    subst P (sym first) ([], x.1, refl, tt)
+    rw first ([], x.1, refl, tt)
 whole_ends (x ∷ y ∷ es) [] e n = absurd (cc)
 whole_ends (x ∷ es) (w ∷ front) e n =
     let first : x.0 ≡ w = cc in
     let more : events_alone es ≡ front ++ events.StreamEnd ∷ [] = cc in
     let r = whole_ends es front more n.1 in
-    (x ∷ r.0, r.1, ap (λ l. x ∷ l) r.2, (subst IsNoStreamEnd (sym first) n.0, r.3))
+    (x ∷ r.0, r.1, ap (λ l. x ∷ l) r.2, (rw first n.0, r.3))
 
 cut_ends : (es : List (Happening × Span)) (missing front : List Happening)
     → events_alone es ++ missing ≡ front ++ events.StreamEnd ∷ [] → missing ≢ []
@@ -135,13 +129,11 @@ cut_ends (x ∷ es) missing [] e m n = absurd (let over : events_alone es ++ mis
 cut_ends (x ∷ es) missing (w ∷ front) e m n =
     let first : x.0 ≡ w = cc in
     let more : events_alone es ++ missing ≡ front ++ events.StreamEnd ∷ [] = cc in
-    (subst IsNoStreamEnd (sym first) n.0, cut_ends es missing front more m n.1)
+    (rw first n.0, cut_ends es missing front more m n.1)
 
 ends_so : (fault : Option Ending) (es : List (Happening × Span)) (missing : List Happening)
     → Closes (events_alone es ++ missing) → IsCut fault missing → EndsSo fault es
-ends_so None es missing c cut =
-    whole_ends es c.front (sym (nothing_behind (events_alone es)) ∙ ap (λ l. events_alone es ++ l) (sym cut) ∙ c.are)
-    c.none
+ends_so None es missing c cut = whole_ends es c.front (cc (nothing_behind (events_alone es))) c.none
   where
     nothing_behind : (l : List Happening) → l ++ [] ≡ l
     nothing_behind [] = refl

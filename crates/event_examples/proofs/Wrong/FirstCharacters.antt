@@ -23,7 +23,7 @@ stops_at _ _ _ _ c more (taken.blank m d t n u is p) e blank feed comment =
     let same : c ≡ d = heads d c t more e in
     absurd (let k : true ≡ false = sym is ∙ sym (ap is_blank same) ∙ blank in cc)
 stops_at _ _ _ _ c more (taken.line_break m t n u is p) e blank feed comment =
-    absurd (let k : true ≡ false = sym is ∙ ap (λ l. is_break (slice_index l 0)) e ∙ feed in cc)
+    absurd (let k : true ≡ false = cc in cc)
 stops_at _ _ _ _ c more (taken.comment m words t n u are behind p) e blank feed comment =
     let same : c ≡ 35 = heads 35 c (words ++ t) more e in
     absurd (let k : true ≡ false = sym (ap (λ x. x == 35) same) ∙ comment in cc)

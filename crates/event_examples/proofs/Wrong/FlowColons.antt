@@ -1,5 +1,5 @@
 -- Inside brackets no colon is taken that a character of a scalar follows (YAML 1.2.2, 7.4.2): `[:a]` is no pair.
-use Rattle.std.proofs.Common.{◌≡◌, ◌⊎◌, ℕ, ◌≤◌, ◌<◌, Bool, true, false, List, [], ◌∷◌, ◌++◌, None, refl, sym, ap, ◌∙◌, arith, subst, inl, inr, codes}
+use Rattle.std.proofs.Common.{◌≡◌, ◌⊎◌, ℕ, ◌≤◌, ◌<◌, Bool, true, false, List, [], ◌∷◌, ◌++◌, None, refl, sym, ap, ◌∙◌, arith, inl, inr, codes}
 use Rattle.std.specs.Prelude.{if◌then◌else◌, slice_index, IsTrue}
 use Rattle.saphyr_scalar.specs.declared.scalar.position.Marker.{Marker}
 use Rattle.saphyr_scalar.specs.declared.scalar.position.Span.{Span}
@@ -100,16 +100,14 @@ stays_token opened k span s t b n h =
         let z : 58 ≡ 93 = ap (λ l. slice_index l 0) (sym (before_rest opened s b) ∙ h.0.0) in absurd (omega (arith, z))
     by tokens.FlowMappingEnd n (inl h) =
         let z : 58 ≡ 125 = ap (λ l. slice_index l 0) (sym (before_rest opened s b) ∙ h.0.0) in absurd (omega (arith, z))
-    by tokens.FlowMappingEnd n (inr h) =
-        let P : Bool → Type 0 = λ c. (if c then true else opened.ends_json) ≡ false in
-        subst P (sym (without_text span h.0)) b.ends_json
+    by tokens.FlowMappingEnd n (inr h) = rw (without_text span h.0) b.ends_json
     by tokens.BlockEntry n h = refl
     by tokens.Value n h = refl
     by _ n h = no_text (has_text span)
 
 stays : (opened : Collections) (ps : List Piece) (s u : Cursor) → Before opened s → AreNoScalars ps
     → AreTokens opened ps s u → Before (open_all ps opened) u
-stays opened [] s u b n h = let P : Cursor → Type 0 = λ c. Before opened c in subst P (sym h) b
+stays opened [] s u b n h = rw h b
 stays opened (p ∷ ps) s u b n h =
     let here = stays_apart opened s h.0 b h.2 in
     stays (open_behind p.kind p.span opened) ps h.1 u (stays_token opened p.kind p.span h.0 h.1 here n.0 h.3) n.1 h.4
@@ -135,16 +133,14 @@ mapping_no_scalars span own others (inl c, spans) =
     each_content IsNoScalar property_no_scalar tokens.FlowMappingStart own tt c
 mapping_no_scalars span own others (inr (inl c), spans) =
     each_content IsNoScalar property_no_scalar tokens.BlockMappingStart own tt c
-mapping_no_scalars span own others (inr (inr (mark, e, is)), spans) =
-    subst AreNoScalars (sym is) (subst IsNoScalar (sym e) tt, tt)
+mapping_no_scalars span own others (inr (inr (mark, e, is)), spans) = rw is (rw e tt, tt)
 
 -- a scalar at the colon's place ends after it
 last_long : (opened : Collections) (front : List Piece) (p : Piece) (s u : Cursor) (value : List ℕ)
     → p.kind ≡ tokens.Scalar style.Plain value → AreTokens opened (front ++ p ∷ []) s u
     → s.mark.index < p.span.end.index
 last_long opened [] p s u value e (here, behind, apart, is, end) =
-    let K : Kind → Type 0 = λ k. IsToken (surroundings_in opened) k p.span here behind in
-    let w = word (surroundings_in opened) (tokens.Scalar style.Plain value) p.span here behind tt (subst K e is) in
+    let w = word (surroundings_in opened) (tokens.Scalar style.Plain value) p.span here behind tt (rw e at is) in
     let a = apart_later s.mark s.rest here.mark here.rest apart in
     omega (arith, a.index, w.long)
 last_long opened (q ∷ front) p s u value e (here, behind, apart, is, more) =
@@ -156,13 +152,11 @@ last_long opened (q ∷ front) p s u value e (here, behind, apart, is, more) =
 empty_no_scalars : (opened : Collections) (own others : List Piece) (s u : Cursor) → 1 ≤ s.mark.index
     → IsOf (plain_event []) wrong.at_colon own others → AreTokens opened own s u → AreNoScalars own
 empty_no_scalars opened own others s u from (inl ((front, p, either, e, is), spans)) h =
-    let P : List Piece → Type 0 = λ l. AreTokens opened l s u in
-    let Q : List Piece → Type 0 = λ l. SpansAll l wrong.at_colon in
-    let long = last_long opened front p s u [] e (subst P is h) in
-    let end = ap (λ (m : Marker). m.index) (content_end front p wrong.at_colon (subst Q is spans)) in
+    let long = last_long opened front p s u [] e (rw is at h) in
+    let end = ap (λ (m : Marker). m.index) (content_end front p wrong.at_colon (rw is at spans)) in
     absurd (omega (arith, from, long, end))
 empty_no_scalars opened own others s u from (inr (inl h)) k = each_property IsNoScalar property_no_scalar own h.2
-empty_no_scalars opened own others s u from (inr (inr h)) k = subst AreNoScalars (sym h.4) tt
+empty_no_scalars opened own others s u from (inr (inr h)) k = rw h.4 tt
 
 -- ## `[:a]` with a pair
 

@@ -1,12 +1,11 @@
 -- A tag directive's handle goes on as far as it can (YAML 1.2.2, 6.8.2): no tag has the prefix `e!t:x` where the one
 -- directive of the text is `%TAG !e!t:x`.
-use Rattle.std.proofs.Common.{◌⊎◌, Bool, List, [], ◌∷◌, ◌++◌, refl, subst, inl, inr}
+use Rattle.std.proofs.Common.{◌⊎◌, Bool, [], ◌∷◌, ◌++◌, refl, inl, inr}
 use Rattle.saphyr_scanner.specs.Grammar.Tokens as tokens
 use Rattle.saphyr_scanner.specs.Grammar.Tokens.{Kind, directive_token}
-use Rattle.saphyr_scanner.specs.Views.Tokens.{Piece}
 use Rattle.saphyr_scanner.specs.TokensTaken.{no_collections, surroundings_in, IsToken}
 use Rattle.taken_laws.proofs.Wrong.ShortHandles.{handle_text, refused}
-use Rattle.taken_laws.proofs.Wrong.Standing.{AllStand, front_stands, tokens_stand}
+use Rattle.taken_laws.proofs.Wrong.Standing.{front_stands, tokens_stand}
 use Rattle.event_laws.specs.EventsTaken.{AreTaken}
 use Rattle.event_laws.specs.Exactly.{kinds}
 use Rattle.event_laws.specs.Preorder.{OpenStream, document_parts}
@@ -27,12 +26,11 @@ short_handle_is_not_taken keep t =
     let r = t.1 in
     let b = r.begins in
     let stand = tokens_stand handle_text r.tokens.pieces r.taken.0 r.taken.1 in
-    let P : List Piece → Type 0 = λ l. AllStand handle_text no_collections l in
     let told = events_somewhere keep [] (OpenStream ∷ document_parts t.0) _ b.are_events (inr (inr (inl refl))) in
     let kinds_read = kind_in_front (kinds b.read) b.expected b.all_expected
     (forest_kinds t.0 (kinds b.read ++ b.expected) b.yielded (by told)) in
     token_refused (kind_stands handle_text no_collections b.read
-    (front_stands handle_text no_collections b.read b.unread (subst P b.are_read stand)) kinds_read)
+    (front_stands handle_text no_collections b.read b.unread (rw b.are_read at stand)) kinds_read)
   where
     by : Somewhere [] ⊎ Somewhere (OpenStream ∷ document_parts t.0) → InForest t.0
     by (inl h) = absurd h

@@ -1,8 +1,8 @@
 -- Where nothing but `-`, `?` and `:` is in a text, each of them is at the column of a collection (YAML 1.2.2,
 -- 8.2).
 use Rattle.std.specs.List.{AllByRecursion}
-use Rattle.std.proofs.Common.{◌≡◌, ℕ, ◌+◌, ◌≤◌, Bool, true, false, List, [], ◌∷◌, length, drop, Option, None, refl, sym, ap, ◌∙◌, arith, subst, inl, inr, codes}
-use Rattle.std.specs.Prelude.{◌||◌, ◌==◌, if◌then◌else◌, nat_lt, slice_index, IsTrue}
+use Rattle.std.proofs.Common.{◌≡◌, ℕ, ◌+◌, ◌≤◌, Bool, true, false, List, [], ◌∷◌, length, drop, None, refl, sym, ap, ◌∙◌, arith, subst, inl, inr, codes}
+use Rattle.std.specs.Prelude.{◌||◌, ◌==◌, nat_lt, slice_index, IsTrue}
 use Rattle.std.proofs.lemmas.Bool.{eq-eqb, eqb-true}
 use Rattle.saphyr_input.proofs.Basics.Booleans.{and_true_right, either}
 use Rattle.saphyr_input.specs.Classes.{is_blank, is_break, is_one_of}
@@ -108,12 +108,10 @@ record Passed (columns : List ℕ) (m : Marker) (t : List ℕ) (n : Marker) (u :
 
 blank_is : (c : ℕ) (P : ℕ → Type 0) → is_blank c ≡ true → P 32 → P 9 → P c
 blank_is c P h space tab =
-    either (c == 32) (c == 9) (P c) h (λ e. subst P (sym (eqb-true c 32 e)) space)
-    (λ e. subst P (sym (eqb-true c 9 e)) tab)
+    either (c == 32) (c == 9) (P c) h (λ e. rw (eqb-true c 32 e) space) (λ e. rw (eqb-true c 9 e) tab)
 
 -- a break is a line feed
-feeds : (t : List ℕ) → is_break (slice_index t 0) ≡ true → has_only_indicators t ≡ true
-    → (cs : List ℕ) × (t ≡ 10 ∷ cs)
+feeds : (t : List ℕ) → is_break (slice_index t 0) ≡ true → has_only_indicators t ≡ true → (cs : List ℕ) × (t ≡ 10 ∷ cs)
 feeds [] is h = absurd (cc)
 feeds (c ∷ cs) is h =
     either (c == 10) (c == 13) ((more : List ℕ) × (c ∷ cs ≡ 10 ∷ more)) is
@@ -157,17 +155,15 @@ record Along (columns : List ℕ) (all : Enclosures) (opened : Collections) : Ty
 
 takes_none : (columns : List ℕ) (s t : Cursor) → has_only_indicators s.rest ≡ true → t ≡ s
     → Passed columns s.mark s.rest t.mark t.rest
-takes_none columns s t only e =
-    subst (λ (u : Cursor). Passed columns s.mark s.rest u.mark u.rest) (sym e) (record { only = only; back = λ k. k })
+takes_none columns s t only e = rw e (record { only = only; back = λ k. k })
 
 takes_one : (columns : List ℕ) (c : ℕ) (s t : Cursor) → has_only_indicators s.rest ≡ true → TakesCharacter c s t
     → ((n : ℕ) → next_column c n ≡ n + 1) → IsIn columns s.mark.col → Passed columns s.mark s.rest t.mark t.rest
 takes_one columns c s t only (is, goes_on) next there = record {
-  only = and_true_right (stands_alone c t.rest) _ (subst (λ l. has_only_indicators l ≡ true) is only);
+  only = and_true_right (stands_alone c t.rest) _ (rw is at only);
   back = λ k.
-      let col : t.mark.col ≡ next_column c s.mark.col = ap (λ (m : Marker). m.col) goes_on ∙ sym (next s.mark.col) in
-      subst (λ l. StandIn columns s.mark.col l) (sym is)
-      ((λ z. there), subst (λ n. StandIn columns n t.rest) col k);
+      let col : t.mark.col ≡ next_column c s.mark.col = cc (next s.mark.col) in
+      rw is ((λ z. there), rw col at k);
 }
 
 module _ (columns : List ℕ) (all : Enclosures) (opened : Collections) (a : Along columns all opened) where
@@ -177,14 +173,14 @@ module _ (columns : List ℕ) (all : Enclosures) (opened : Collections) (a : Alo
     where
       by : (outer : List ℕ) → AllByRecursion (IsIn columns) outer → least_column_in outer ≡ n + 1 → IsIn columns n
       by [] are e = absurd (omega (arith, e))
-      by (c ∷ cs) are e = let same : c ≡ n = omega (arith, e) in subst (IsIn columns) same are.0
+      by (c ∷ cs) are e = let same : c ≡ n = omega (arith, e) in rw same at are.0
 
   at_colon : (n : ℕ) → is_at_column n all.columns ≡ true → IsIn columns n
   at_colon n e = by all.columns a.are e
     where
       by : (outer : List ℕ) → AllByRecursion (IsIn columns) outer → is_at_column n outer ≡ true → IsIn columns n
       by [] are e = absurd (cc)
-      by (c ∷ cs) are e = subst (IsIn columns) (sym (eqb-true n c e)) are.0
+      by (c ∷ cs) are e = rw (eqb-true n c e) are.0
 
   without_first : AllByRecursion (IsIn columns) (without_innermost all.columns)
   without_first = by all.columns a.are
@@ -224,16 +220,13 @@ module _ (columns : List ℕ) (all : Enclosures) (opened : Collections) (a : Alo
   turned tokens.FlowMappingEnd span l m i f =
       absurd (no_brace_ends all.inner.key all.columns span
       (fits_there all tokens.FlowMappingEnd span f place.Block a.block))
-  turned tokens.Key span l m i f =
-      let P : Bool → Type 0 = λ b. Along columns (if b then turned_to (place.behind_question all.inner.enclosure) all
-      else awaiting_colon span.start all) (open_behind tokens.Key span opened) in
-      subst P (sym m) (record {
-        same = a.same;
-        are = a.are;
-        outside = a.outside;
-        block = ap place.behind_question a.block;
-        no_key = refl;
-      })
+  turned tokens.Key span l m i f = rw m (record {
+    same = a.same;
+    are = a.are;
+    outside = a.outside;
+    block = ap place.behind_question a.block;
+    no_key = refl;
+  })
   turned tokens.Value span l m i f = record {
     same = a.same;
     are = a.are;
@@ -270,11 +263,10 @@ module _ (columns : List ℕ) (all : Enclosures) (opened : Collections) (a : Alo
       takes_one columns 63 s t only h.0 (λ n. refl) (at_innermost s.mark.col (h.4 (ap (nat_lt 0) a.outside)))
   takes tokens.Key span s t l f only (inr h) = takes_none columns s t only h.2
   takes tokens.Value span s t l f only h =
-      let P : Option Marker → Type 0 = λ key. IsTrue (fits_at place.Block key all.columns tokens.Value span) in
       let there : is_at_column span.start.col all.columns ≡ true =
-      subst P a.no_key (fits_there all tokens.Value span f place.Block a.block) in
+      rw a.no_key at (fits_there all tokens.Value span f place.Block a.block) in
       let start : IsIn columns span.start.col = at_colon span.start.col there in
-      takes_one columns 58 s t only h.0 (λ n. refl) (subst (λ (m : Marker). IsIn columns m.col) h.2 start)
+      takes_one columns 58 s t only h.0 (λ n. refl) (rw h.2 at start)
   takes _ span s t l f only h = absurd l
 
 -- ## The whole text
@@ -284,8 +276,8 @@ nothing_left : (opened : Collections) (ps : List Piece) (s u : Cursor) → AreTo
     → EndsWith tokens.StreamEnd (kinds ps) → u.rest ≡ []
 nothing_left opened [] s u h e = absurd e
 nothing_left opened (p ∷ []) s u (here, behind, apart, is, end) e =
-    let last = subst (λ k. IsToken (surroundings_in opened) k p.span here behind) e is in
-    ap (λ (c : Cursor). c.rest) (end ∙ last.1.2) ∙ last.0
+    let last = rw e at is in
+    cc
 nothing_left opened (p ∷ q ∷ ps) s u (here, behind, apart, is, more) e =
     nothing_left (open_behind p.kind p.span opened) (q ∷ ps) behind u more e
 
@@ -293,8 +285,7 @@ all_stand : (columns : List ℕ) (all : Enclosures) (opened : Collections) (ps :
     → Along columns all opened → has_only_indicators s.rest ≡ true → Each IsLone ps → Each IsMarked ps
     → Each (StartsIn columns) ps → AreTokens opened ps s u → AreInPlace all ps → u.rest ≡ []
     → StandIn columns s.mark.col s.rest
-all_stand columns all opened [] s u a only l m n h i e =
-    subst (StandIn columns s.mark.col) (sym (ap (λ (c : Cursor). c.rest) (sym h) ∙ e)) tt
+all_stand columns all opened [] s u a only l m n h i e = rw (ap (λ (c : Cursor). c.rest) (sym h) ∙ e) tt
 all_stand columns all opened (p ∷ ps) s u a only l m n (here, behind, apart, is, more) i e =
     let before = passed columns s.mark s.rest here.mark here.rest apart only in
     let own = takes columns all opened a p.kind p.span here behind l.0 i.0 before.only is in

@@ -1,10 +1,10 @@
 -- No scalar goes on with what is at the column of the sequence in which it is an entry (YAML 1.2.2, 6.1, 8.2.1).
-use Rattle.std.proofs.Common.{◌≡◌, ◌⊎◌, ℕ, zero, suc, ◌+◌, ◌≤◌, ◌<◌, Bool, true, false, List, [], ◌∷◌, ◌++◌, length, drop, None, refl, sym, ap, ◌∙◌, arith, subst, inl, inr, codes}
+use Rattle.std.proofs.Common.{◌≡◌, ◌⊎◌, ℕ, zero, suc, ◌+◌, ◌≤◌, ◌<◌, Bool, true, false, List, [], ◌∷◌, ◌++◌, length, drop, None, refl, sym, ap, ◌∙◌, arith, inl, inr, codes}
 use Rattle.std.specs.Prelude.{◌-◌, if◌then◌else◌, slice_index}
 use Rattle.saphyr_scalar.specs.declared.scalar.position.Marker.{Marker}
 use Rattle.saphyr_scalar.specs.declared.scalar.position.Span.{Span}
 use Rattle.saphyr_scalar.specs.declared.scalar.style.ScalarStyle.TheVariants as style
-use Rattle.saphyr_scalar.specs.Spelling.LaterLines.{ArePlainLines, IsPlainLine}
+use Rattle.saphyr_scalar.specs.Spelling.LaterLines.{IsPlainLine}
 use Rattle.saphyr_scalar.specs.Views.Cursor.{Cursor, start_cursor}
 use Rattle.saphyr_scalar.proofs.Plain.Runs.{passed_index}
 use Rattle.saphyr_scanner.specs.Grammar.Tokens as tokens
@@ -45,8 +45,7 @@ sequence_column opened own s u r content h spans =
     let a = alone lines_text 0 45 (codes " a\n-") refl (λ z. omega (arith, z)) (λ z. omega (arith, z)) _ opened own s u
     origin r content h spans refl in
     let col = ap (λ (s : Span). s.start.col) a.spans in
-    subst (λ l. first_column (open_all l opened) ≡ 1) (sym a.is)
-    (subst (λ k. first_column (open_behind k a.token.span opened) ≡ 1) (sym a.kind) (omega (arith, col)))
+    rw (a.is, a.kind) (omega (arith, col))
 
 no_bracket : (opened : Collections) (own : List Piece) (s u : Cursor) → Reaches (start_cursor lines_text) s
     → AreContentTokens tokens.FlowSequenceStart own → AreTokens opened own s u → SpansAll own origin → ⊥
@@ -62,10 +61,8 @@ no_entries : (opened : Collections) (own others : List Piece) (s u last : Cursor
     → AreTokens opened own s u → AreTokens (open_all own opened) others u last → BeginsEntries own origin others → ⊥
 no_entries opened own [] s u last r h k none = none
 no_entries opened own (entry ∷ others) s u last r h (here, behind, apart, is, more) (kind, inl e, spans) =
-    let K : Kind → Type 0 = λ k. IsToken (surroundings_in (open_all own opened)) k entry.span here behind in
-    let Q : List Piece → Type 0 = λ l. SpansAll (l ++ entry ∷ []) origin in
-    let own_span = subst Q e spans in
-    let dash = subst K kind is in
+    let own_span = rw e at spans in
+    let dash = rw kind at is in
     let start = ap (λ (s : Span). s.start.index) own_span in
     let on = ap (λ (m : Marker). m.index) dash.0.1 in
     let stands = ap (λ (m : Marker). m.index) dash.2.4 in
@@ -107,7 +104,7 @@ no_end indent s r l e (inr (some, inl none)) =
     let zero = ap (λ (l : List ℕ). length l) none in
     omega (arith, count, zero, l)
 no_end indent s r l e (inr (some, inr (column, begins))) =
-    no_content_end s.mark.index l (subst BeginsNoContent (at_index lines_text s s.mark.index r refl) begins)
+    no_content_end s.mark.index l (rw (at_index lines_text s s.mark.index r refl) at begins)
 
 column_stays : (opened : Collections) (k : Kind) (span : Span) (s t : Cursor) → Reaches (start_cursor lines_text) s
     → s.mark.index ≤ 2 → BelongsToNone k → IsToken (surroundings_in opened) k span s t → first_column opened ≡ 1
@@ -152,11 +149,9 @@ line_refused opened own s u r outside column content h spans =
     let ends = ap (λ (m : Marker). m.index) reading.ends in
     let stop : 5 ≡ a.token.span.end.index = ap (λ (s : Span). s.end.index) a.spans in
     let back = reading.white ++ a.behind.rest in
-    let R : Bool → Type 0 = λ f. ArePlainLines f (first_column opened) reading.piece back in
-    let S : ℕ → Type 0 = λ n. ArePlainLines false n reading.piece back in
     let left : false ≡ true =
     line_at (IsPlainLine false 1) reading.piece back (codes "a") (codes "-") (sym reading.is ∙ rest)
-    (omega (arith, start, stop, count, ends)) (subst S column (subst R outside a.taken.lines)) in
+    (omega (arith, start, stop, count, ends)) (rw (outside, column) at a.taken.lines) in
     cc
 
 pub later_line_is_not_taken : (keep : Bool) → AreTaken keep lines_text wrong.later_line → ⊥
@@ -168,8 +163,7 @@ later_line_is_not_taken keep t =
   where
     by : {o : Collections} {from : Cursor} (st : Stretch lines_text o from (SequenceStart 0 None) origin)
         (scalar : Stretch lines_text (open_all st.own (open_all st.skipped o)) st.end (plain_event (codes "a -"))
-        wrong.both_lines)
-        → in_flow (open_all scalar.skipped (open_all st.own (open_all st.skipped o))) ≡ false → ⊥
+        wrong.both_lines) → in_flow (open_all scalar.skipped (open_all st.own (open_all st.skipped o))) ≡ false → ⊥
     by {o = o} st scalar outside =
         let opened = open_all st.own (open_all st.skipped o) in
         let column = column_of (open_all st.skipped o) st.own st.others st.start st.end st.last st.reached st.is

@@ -1,6 +1,6 @@
 -- Texts of nothing but `-`, `?` and `:` that are alone: no token of a node begins there, and so each key has its `?`
 -- (YAML 1.2.2, 7.4 and 8.2).
-use Rattle.std.proofs.Common.{◌≡◌, ◌⊎◌, ℕ, Bool, true, false, List, [], ◌∷◌, ◌++◌, refl, sym, ap, ◌∙◌, subst, inl, inr}
+use Rattle.std.proofs.Common.{◌≡◌, ◌⊎◌, ℕ, Bool, true, false, List, [], ◌∷◌, ◌++◌, refl, sym, ap, ◌∙◌, inl, inr}
 use Rattle.std.specs.Prelude.{◌&&◌, ◌||◌, ◌==◌, if◌then◌else◌, slice_index, IsTrue, IsFalse}
 use Rattle.saphyr_input.proofs.Basics.Booleans.{and_true_left, and_true_right, clash}
 use Rattle.saphyr_input.specs.Classes.{is_blank, is_blank_or_breakz, byte_order_mark}
@@ -57,7 +57,7 @@ pub only_reached : (text : List ℕ) (s : Cursor) → has_only_indicators text �
     → has_only_indicators s.rest ≡ true
 only_reached text s h r =
     let front = reached_behind (start_cursor text).mark text s.mark s.rest r in
-    only_behind front.0 s.rest (subst (λ t. has_only_indicators t ≡ true) front.1 h)
+    only_behind front.0 s.rest (rw front.1 at h)
 
 -- no plain scalar begins there
 no_word : (t : List ℕ) → has_only_indicators t ≡ true → (t ≡ [] → ⊥) → is_blank_or_break (slice_index t 0) ≡ false
@@ -96,9 +96,7 @@ module _ (at : Surroundings) (span : Span) (s t : Cursor) (only : has_only_indic
   lone_scalar : (how : ScalarStyle) (value : List ℕ) → IsToken at (tokens.Scalar how value) span s t → ⊥
   lone_scalar style.Plain value h =
       let r = h.reading in
-      no_word s.rest only
-      (no_piece r.front (r.white ++ t.rest) s.rest r.last (r.is ∙ ap (λ l. l ++ (r.white ++ t.rest)) r.closes)) h.is_ink
-      h.no_indicator
+      no_word s.rest only (no_piece r.front (r.white ++ t.rest) s.rest r.last (cc)) h.is_ink h.no_indicator
   lone_scalar style.SingleQuoted value h = not_first 39 h.1.0 h.1.1 refl
   lone_scalar style.DoubleQuoted value h = not_first 34 h.1.0 h.1.1 refl
   lone_scalar style.Literal value h = begins_with_none s.rest 124 only h.1.begins refl
@@ -125,7 +123,7 @@ module _ (at : Surroundings) (span : Span) (s t : Cursor) (only : has_only_indic
       by (inr e) = begins_with_none s.rest 33 only e refl
   lone (tokens.Scalar how value) h = lone_scalar how value h
   lone tokens.DocumentStart h =
-      let z : false ≡ true = subst (λ l. has_only_indicators l ≡ true) h.2.is only in cc
+      let z : false ≡ true = rw h.2.is at only in cc
   lone tokens.DocumentEnd h = not_first 46 _ h.2.is refl
   lone tokens.ByteOrderMark h = not_first byte_order_mark t.rest h.is refl
   lone (tokens.VersionDirective major minor) h = lone_directive (version major minor) h
@@ -153,8 +151,7 @@ key_marked : (all : Enclosures) (span : Span) (p : Piece) (ps : List Piece) → 
     → AreInPlace (enclosures_behind tokens.Key span all) (p ∷ ps) → IsTrue (has_text span)
 key_marked all span p ps l h = by (has_text span) h
   where
-    by : (b : Bool)
-        → AreInPlace (if b then turned_to (place.behind_question all.inner.enclosure) all
+    by : (b : Bool) → AreInPlace (if b then turned_to (place.behind_question all.inner.enclosure) all
         else awaiting_colon span.start all) (p ∷ ps) → b ≡ true
     by true h = refl
     by false h = absurd (nothing_follows all span.start p.kind p.span l h.0)
@@ -162,7 +159,7 @@ key_marked all span p ps l h = by (has_text span) h
 pub keys_marked : (all : Enclosures) (ps : List Piece) → Each IsLone ps → AreInPlace all ps
     → EndsWith tokens.StreamEnd (kinds ps) → Each IsMarked ps
 keys_marked all [] l h e = tt
-keys_marked all (p ∷ []) l h e = (subst (λ k. IsMarked k p.span) (sym e) tt, tt)
+keys_marked all (p ∷ []) l h e = (rw e tt, tt)
 keys_marked all (p ∷ q ∷ ps) l h e =
     (by p.kind h.1, keys_marked (enclosures_behind p.kind p.span all) (q ∷ ps) l.1 h.1 e)
   where

@@ -1,5 +1,5 @@
 -- No mapping is told of a text without `:`, `?` and `}`, and none at the end of a text, where no fault ends the events.
-use Rattle.std.proofs.Common.{◌≡◌, ◌⊎◌, ℕ, ◌<◌, Bool, false, List, [], ◌∷◌, ◌++◌, length, None, refl, sym, ap, ◌∙◌, arith, subst, inl, inr, codes}
+use Rattle.std.proofs.Common.{◌≡◌, ◌⊎◌, ℕ, ◌<◌, Bool, false, List, [], ◌∷◌, ◌++◌, length, None, refl, sym, ap, ◌∙◌, arith, inl, inr, codes}
 use Rattle.std.specs.Prelude.{◌||◌, ◌==◌, IsFalse}
 use Rattle.std.specs.List.{All, list_any}
 use Rattle.saphyr_input.proofs.Basics.Booleans.{or_false_left, or_false_right}
@@ -34,8 +34,7 @@ event_without (MappingStart id tag) span own others (inl c, spans) h k =
     no_content BeginsNoMapping tokens.FlowMappingStart own (λ _ z. z) c h
 event_without (MappingStart id tag) span own others (inr (inl c), spans) h k =
     no_content BeginsNoMapping tokens.BlockMappingStart own (λ _ z. z) c h
-event_without (MappingStart id tag) span own others (inr (inr (mark, e, is)), spans) h k =
-    subst (λ k. BeginsNoMapping k mark.span) e (subst (Each BeginsNoMapping) is h).0
+event_without (MappingStart id tag) span own others (inr (inr (mark, e, is)), spans) h k = rw e at (rw is at h).0
 event_without _ span own others i h k = tt
 
 none_of : (p q : ℕ → Bool) (text : List ℕ) → ((c : ℕ) → p c ≡ false → q c ≡ false) → list_any p text ≡ false
@@ -92,10 +91,10 @@ content_first kind own f (front, p, either, e, is) x xs k = by front either (sym
   where
     by : (front : List Piece) → (front ≡ []) ⊎ ArePropertyTokens front → x ∷ xs ≡ front ++ p ∷ [] → IsFirst x.kind
     by [] either k = let same : x ≡ p = cc in
-        subst IsFirst (sym (ap (λ (p : Piece). p.kind) same ∙ e)) f
+        rw (ap (λ (p : Piece). p.kind) same ∙ e) f
     by (y ∷ ys) (inl none) k = absurd (cc)
     by (y ∷ ys) (inr are) k = let same : x ≡ y = cc in
-        subst IsFirst (sym (ap (λ (p : Piece). p.kind) same)) (property_first y.kind (first_property y ys are))
+        rw (ap (λ (p : Piece). p.kind) same) (property_first y.kind (first_property y ys are))
 
 event_before : (n : ℕ) (what : Happening) (span : Span) (own others : List Piece) → IsOf what span own others
     → Each (BeginsBefore n) own → Each (BeginsBefore n) others → BeginsMappingBefore n what span
@@ -105,7 +104,7 @@ event_before n (MappingStart id tag) span own others (inr (inl c), spans) h k =
     starts_with n own span h spans (content_first tokens.BlockMappingStart own tt c)
 event_before n (MappingStart id tag) span own others (inr (inr (mark, e, is)), spans) h k =
     starts_with n own span h spans (λ p ps first. let same : p ≡ mark = cc in
-    subst IsFirst (sym (ap (λ (p : Piece). p.kind) same ∙ e)) tt)
+    rw (ap (λ (p : Piece). p.kind) same ∙ e) tt)
 event_before n _ span own others i h k = tt
 
 each_before : (keep : Bool) (text : List ℕ) (a : Answer) → AreTaken keep text a → a.fault ≡ None

@@ -1,7 +1,6 @@
 -- Where a `[` is at the start of a sequence's span, it is the one token of the sequence's start, and brackets are
 -- open after it.
-use Rattle.std.proofs.Common.{◌≡◌, ℕ, ◌+◌, ◌<◌, Bool, true, false, List, [], ◌∷◌, ◌++◌, Option, drop, refl, sym, ap, ◌∙◌, arith, subst, inl, inr}
-use Rattle.std.specs.Prelude.{if◌then◌else◌}
+use Rattle.std.proofs.Common.{◌≡◌, ℕ, ◌+◌, ◌<◌, Bool, true, false, List, [], ◌∷◌, Option, drop, refl, sym, ap, ◌∙◌, arith, inl, inr}
 use Rattle.std.proofs.lemmas.Bool.{ltb-true}
 use Rattle.saphyr_input.proofs.Basics.Numbers.{zero_below_next}
 use Rattle.saphyr_scalar.specs.declared.scalar.position.Marker.{Marker}
@@ -10,7 +9,7 @@ use Rattle.saphyr_scalar.specs.Views.Cursor.{Cursor, start_cursor}
 use Rattle.saphyr_scanner.specs.Grammar.Tokens as tokens
 use Rattle.saphyr_scanner.specs.Grammar.Tokens.{Kind}
 use Rattle.saphyr_scanner.specs.TokensInPlace.{has_text}
-use Rattle.saphyr_scanner.specs.TokensTaken.{Collections, surroundings_in, open_behind, IsToken, AreTokens}
+use Rattle.saphyr_scanner.specs.TokensTaken.{Collections, surroundings_in, AreTokens}
 use Rattle.saphyr_scanner.specs.Views.Tokens.{Piece}
 use Rattle.saphyr_scanner.proofs.Taken.Parts.{open_all, tokens_append}
 use Rattle.saphyr_scanner.proofs.Taken.Places.{Reaches, reaches_reaches, tokens_reached}
@@ -48,15 +47,12 @@ module _ (text : List ℕ) (n : ℕ) (more : List ℕ) (bracket_there : drop n t
       let index = ap (λ (m : Marker). m.index) (a.starts ∙ a.taken.1) in
       let further = ap (λ (m : Marker). m.index) a.taken.0.1 in
       let end = ap (λ (c : Cursor). c.mark.index) a.end in
-      let F : Bool → Type 0 = λ b. (if b then false else opened.ends_json) ≡ false in
       let its_text : true ≡ has_text a.token.span = sym some ∙ ap has_text a.spans in
-      let C : Kind → Type 0 = λ k. (open_behind k a.token.span opened).ends_json ≡ false in
-      let I : Kind → Type 0 = λ k. in_flow (open_behind k a.token.span opened) ≡ true in
-      subst (λ l. BehindBracket text n (open_all l opened) u) (sym a.is) (record {
+      rw a.is (record {
         reached = reaches_reaches (start_cursor text) s u r (tokens_reached opened (a.token ∷ []) s u a.tokens);
         index = omega (arith, first, index, further, end);
-        inside = subst I (sym a.kind) (zero_below_next opened.brackets);
-        ends_json = subst C (sym a.kind) (subst F its_text refl);
+        inside = rw a.kind (zero_below_next opened.brackets);
+        ends_json = rw (a.kind, ← its_text) refl;
       })
 
   -- a start in block style has no text
@@ -75,10 +71,8 @@ module _ (text : List ℕ) (n : ℕ) (more : List ℕ) (bracket_there : drop n t
       → AreTokens opened own s u → AreTokens (open_all own opened) others u last → BeginsEntries own span others → ⊥
   no_entries opened own [] s u last r h k none = none
   no_entries opened own (entry ∷ others) s u last r h (here, behind, apart, is, rest) (kind, inl e, spans) =
-      let K : Kind → Type 0 = λ k. IsToken (surroundings_in (open_all own opened)) k entry.span here behind in
-      let Q : List Piece → Type 0 = λ l. SpansAll (l ++ entry ∷ []) span in
-      let own_span = subst Q e spans in
-      let empty = ap (λ (m : Marker). m.index) (subst K kind is).3 in
+      let own_span = rw e at spans in
+      let empty = ap (λ (m : Marker). m.index) (rw kind at is).3 in
       let start = ap (λ (s : Span). s.start.index) own_span in
       let stop = ap (λ (s : Span). s.end.index) own_span in
       let some = long in

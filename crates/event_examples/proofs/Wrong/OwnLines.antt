@@ -1,7 +1,7 @@
 -- The properties of a block mapping are on a line before its first key (YAML 1.2.2, 8.2.3): where there are no other
 -- mappings, none has its anchor on the line where it begins.
-use Rattle.std.proofs.Common.{◌≡◌, ◌⊎◌, ℕ, ◌<◌, Bool, true, false, List, [], ◌∷◌, ◌++◌, Option, Some, None, refl, sym, ap, ◌∙◌, arith, subst, inl, inr, codes}
-use Rattle.std.specs.Prelude.{◌||◌, if◌then◌else◌, nat_lt, IsTrue, IsFalse}
+use Rattle.std.proofs.Common.{◌≡◌, ◌⊎◌, ℕ, ◌<◌, Bool, true, false, List, [], ◌∷◌, ◌++◌, Option, Some, None, refl, sym, ap, ◌∙◌, arith, inl, inr, codes}
+use Rattle.std.specs.Prelude.{if◌then◌else◌, nat_lt, IsTrue, IsFalse}
 use Rattle.std.proofs.lemmas.Bool.Decides.{nat_tests}
 use Rattle.saphyr_input.proofs.Basics.Booleans.{and_true_left}
 use Rattle.saphyr_scalar.specs.declared.scalar.position.Marker.{Marker}
@@ -63,8 +63,7 @@ simple text tag question bracket brace at _ span s t r h = tt
 pub no_pair : (key : Option Marker) (columns : List ℕ) (span : Span) → has_text span ≡ false
     → IsTrue (fits_at place.Block key columns tokens.FlowMappingStart span) → ⊥
 no_pair None columns span t h =
-    let P : Bool → Type 0 = λ b. IsTrue (b || place.may_begin_pair place.Block) in
-    let z : false ≡ true = subst P t h in cc
+    let z : false ≡ true = rw t at h in cc
 no_pair (Some m) columns span t h = let z : false ≡ true = sym t ∙ h in cc
 
 pub no_brace_ends : (key : Option Marker) (columns : List ℕ) (span : Span)
@@ -94,9 +93,7 @@ goes all tokens.FlowMappingEnd span n h e =
 goes all tokens.FlowEntry span n h e = record { none = tt; block = ap place.behind_comma e }
 goes all tokens.Value span n h e = record { none = tt; block = ap place.behind_pair_colon e }
 goes all tokens.Key span n h e =
-    let P : Bool → Type 0 = λ b. (if b then place.turned_to (place.behind_question all.inner.enclosure) all
-    else place.awaiting_colon span.start all).inner.enclosure ≡ place.Block in
-    record { none = tt; block = subst P (sym n) e }
+    record { none = tt; block = rw n e }
 goes all _ span n h e = record { none = tt; block = e }
 
 no_flow_mappings : (all : Enclosures) (ps : List Piece) → Each IsSimple ps → AreInPlace all ps
@@ -157,18 +154,17 @@ own_over_lines : (front : List Piece) (p : Piece) (span : Span) → (front ≡ [
     → p.kind ≡ tokens.BlockMappingStart → Each IsSimple (front ++ p ∷ []) → AreBeside (front ++ p ∷ [])
     → SpansAll (front ++ p ∷ []) span → span.start.index < span.end.index → span.start.line ≡ span.end.line → ⊥
 own_over_lines [] p span either e n b spans long line =
-    let empty = ap (λ (m : Marker). m.index) (subst (λ k. IsSimple k p.span) e n.0) in
+    let empty = ap (λ (m : Marker). m.index) (rw e at n.0) in
     let start = ap (λ (s : Span). s.start.index) spans in
     let end = ap (λ (s : Span). s.end.index) spans in
     omega (arith, empty, start, end, long)
 own_over_lines (x ∷ []) p span (inl none) e n b spans long line = absurd (cc)
-own_over_lines (x ∷ []) p span (inr are) e n b spans long line =
-    by x.kind are n.0 (subst (λ k. Beside x.kind x.span k p.span) e b.0)
+own_over_lines (x ∷ []) p span (inr are) e n b spans long line = by x.kind are n.0 (rw e at b.0)
   where
     by : (k : Kind) → IsAnchorKind k ⊎ IsTagKind k → IsSimple k x.span
         → Beside k x.span tokens.BlockMappingStart p.span → ⊥
     by (tokens.Anchor name) are one below =
-        let empty = ap (λ (m : Marker). m.line) (subst (λ k. IsSimple k p.span) e n.1.0) in
+        let empty = ap (λ (m : Marker). m.line) (rw e at n.1.0) in
         let start = ap (λ (s : Span). s.start.line) spans in
         let end = ap (λ (s : Span). s.end.line) spans in
         omega (arith, one, below, empty, start, end, line)
@@ -192,19 +188,14 @@ own_over_lines (x ∷ y ∷ z ∷ front) p span (inr are) e n b spans long line 
 event_over_lines : (what : Happening) (span : Span) (own others : List Piece) → IsOf what span own others
     → Each IsSimple own → Each IsNoFlowMapping own → AreBeside own → GoesOverLines what span
 event_over_lines (MappingStart id tag) span own others (inl (front, p, either, e, is), spans) n f b = λ long line.
-    subst (λ k. IsNoFlowMapping k p.span) e
-    (each_parts IsNoFlowMapping front (p ∷ []) (subst (Each IsNoFlowMapping) is f)).1.0
+    rw e at (each_parts IsNoFlowMapping front (p ∷ []) (rw is at f)).1.0
 event_over_lines (MappingStart id tag) span own others (inr (inl (front, p, either, e, is)), spans) n f b = λ long line.
-    let Q : List Piece → Type 0 = λ l. SpansAll l span in
-    own_over_lines front p span either e (subst (Each IsSimple) is n) (subst AreBeside is b) (subst Q is spans) long
-    line
+    own_over_lines front p span either e (rw is at n) (rw is at b) (rw is at spans) long line
 event_over_lines (MappingStart id tag) span own others (inr (inr (mark, e, is)), spans) n f b = λ long line.
-    let Q : List Piece → Type 0 = λ l. SpansAll l span in
-    let one = subst Q is spans in
+    let one = rw is at spans in
     let start = ap (λ (s : Span). s.start.index) one in
     let end = ap (λ (s : Span). s.end.index) one in
-    let empty : nat_lt mark.span.start.index mark.span.end.index ≡ false =
-    subst (λ k. IsSimple k mark.span) e (subst (Each IsSimple) is n).0 in
+    let empty : nat_lt mark.span.start.index mark.span.end.index ≡ false = rw e at (rw is at n).0 in
     no_more mark.span.start.index mark.span.end.index empty (omega (arith, start, end, long))
   where
     no_more : (m n : ℕ) → nat_lt m n ≡ false → m < n → ⊥

@@ -1,8 +1,7 @@
 -- A scalar that is told has its token, which is taken from the text.
-use Rattle.std.proofs.Common.{◌≡◌, ◌⊎◌, ℕ, Bool, List, [], ◌∷◌, ◌++◌, sym, ap, subst, inl, inr, slice_index}
+use Rattle.std.proofs.Common.{◌≡◌, ◌⊎◌, ℕ, Bool, List, [], ◌∷◌, ◌++◌, sym, ap, subst, inl, inr}
 use Rattle.std.specs.List.{All}
 use Rattle.std.proofs.lemmas.List.Elements.{All-nil, All-cons}
-use Rattle.saphyr_input.specs.Places.{is_blank_or_break}
 use Rattle.saphyr_scalar.specs.declared.scalar.position.Span.{Span}
 use Rattle.saphyr_scalar.specs.declared.scalar.style.ScalarStyle.{ScalarStyle}
 use Rattle.saphyr_scalar.specs.declared.scalar.style.ScalarStyle.TheVariants as style
@@ -60,9 +59,7 @@ scalar_owned : (text value : List ℕ) (how : ScalarStyle) (span : Span) (opened
     → AreContentTokens (tokens.Scalar how value) own → SpansAll own span → AllStand text opened own
     → OwnScalar text value how span
 scalar_owned text value how span opened own c s h =
-    let P : List Piece → Type 0 = λ l. AllStand text opened l in
-    let Q : List Piece → Type 0 = λ l. SpansAll l span in
-    let last = last_stands text opened c.0 c.1 (subst P c.4 h) in
+    let last = last_stands text opened c.0 c.1 (rw c.4 at h) in
     let st = last.1 in
     let R : Kind → Type 0 = λ k. IsToken (surroundings_in last.0) k c.1.span st.here st.behind in
     record {
@@ -72,7 +69,7 @@ scalar_owned text value how span opened own c s h =
       behind = st.behind;
       reached = st.reached;
       is = subst R c.3 st.is;
-      end = sym (content_end c.0 c.1 span (subst Q c.4 s));
+      end = sym (content_end c.0 c.1 span (rw c.4 at s));
     }
 
 event_owned : (text : List ℕ) (what : Happening) (span : Span) (opened : Collections) (own others : List Piece)
@@ -97,15 +94,14 @@ pub owned : (keep : Bool) (text : List ℕ) (a : Answer) → AreTaken keep text 
 owned keep text a t =
     let r = t.1 in
     let stand = tokens_stand text r.tokens.pieces r.taken.0 r.taken.1 in
-    let P : List Piece → Type 0 = λ l. AllStand text no_collections l in
     let b = r.begins in
     all_owned text b.unread a.events no_collections b.read b.places
-    (front_stands text no_collections b.read b.unread (subst P b.are_read stand))
+    (front_stands text no_collections b.read b.unread (rw b.are_read at stand))
 
 -- ## Plain scalars
 
 event_ink : (text : List ℕ) (what : Happening) (span : Span) → Owned text what span → BeginsWithInk what
-event_ink text (Scalar value style.Plain id tag) span (inl e) = ap (λ v. is_blank_or_break (slice_index v 0)) e
+event_ink text (Scalar value style.Plain id tag) span (inl e) = cc
 event_ink text (Scalar value style.Plain id tag) span (inr o) =
     plain_value_ink o.at.in_flow o.at.indent value o.own o.here o.behind o.is
 event_ink text _ span o = tt

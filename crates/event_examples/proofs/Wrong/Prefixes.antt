@@ -1,6 +1,6 @@
 -- A tag that is told with a prefix other than the defaults has it from a directive, whose token is taken from the text
 -- (YAML 1.2.2, 6.8.2).
-use Rattle.std.proofs.Common.{◌≡◌, ◌⊎◌, ℕ, Bool, true, false, List, [], ◌∷◌, ◌++◌, map, Option, Some, None, option_map, refl, sym, ap, ◌∙◌, subst, inl, inr, encode_utf8_all}
+use Rattle.std.proofs.Common.{◌≡◌, ◌⊎◌, ℕ, Bool, true, false, List, [], ◌∷◌, ◌++◌, map, Option, Some, None, option_map, refl, ap, ◌∙◌, inl, inr, encode_utf8_all}
 use Rattle.std.specs.Prelude.{if◌then◌else◌}
 use Rattle.std.specs.Option.{option_or}
 use Rattle.std.specs.Str.{bytes_eq}
@@ -117,7 +117,7 @@ AnyTells [] = ⊥
 AnyTells (w ∷ ws) = Tells w ⊎ AnyTells ws
 
 untold : (v w : Happening) → (let o : Option Happening = Some v in o ≡ Some w) → Tells w → Tells v
-untold v w e t = let same : w ≡ v = cc in subst Tells same t
+untold v w e t = let same : w ≡ v = cc in rw same at t
 
 unmapped : {X : Type 0} (o : Option X) (make : X → Happening) (w : Happening) → ((x : X) → Tells (make x) → ⊥)
     → option_map make o ≡ Some w → Tells w → ⊥
@@ -126,12 +126,12 @@ unmapped (Some x) make w none e t = none x (untold (make x) w e t)
 
 leaf_somewhere : (keep : Bool) (tag : Option Tag) (front : List Part) (t : Option ResolvedTag)
     → any_resolution keep tag front ≡ Some t → HasHandle t → Somewhere front
-leaf_somewhere keep None front t e h = absurd (let same : t ≡ None = cc in subst HasHandle same h)
+leaf_somewhere keep None front t e h = absurd (let same : t ≡ None = cc in rw same at h)
 leaf_somewhere keep (Some tag) front t e h = by (resolution keep tag front) refl e
   where
     by : (o : Option ResolvedTag) → resolution keep tag front ≡ o → option_map Some o ≡ Some t → Somewhere front
     by None is e = absurd (cc)
-    by (Some r) is e = let same : t ≡ Some r = cc in resolved_somewhere keep tag front r is (subst HasHandle same h)
+    by (Some r) is e = let same : t ≡ Some r = cc in resolved_somewhere keep tag front r is (rw same at h)
 
 event_somewhere : (keep : Bool) (front : List Part) (part : Part) (w : Happening)
     → event_of_part keep front part ≡ Some w → Tells w → Somewhere front
@@ -156,10 +156,10 @@ event_somewhere keep front CloseMapping w e t = absurd (untold events.MappingEnd
 
 pub events_somewhere : (keep : Bool) (front ps : List Part) (es : List Happening)
     → events_behind keep front ps ≡ Some es → AnyTells es → Somewhere front ⊎ Somewhere ps
-events_somewhere keep front [] es e t = absurd (let same : es ≡ [] = cc in subst AnyTells same t)
+events_somewhere keep front [] es e t = absurd (let same : es ≡ [] = cc in rw same at t)
 events_somewhere keep front (part ∷ ps) es e t =
     let w = before_some (event_of_part keep front part) (events_behind keep (part ∷ front) ps) es e in
-    by w.0 w.1 w.2 (λ k. events_somewhere keep (part ∷ front) ps w.1 w.3 k) (subst AnyTells w.4 t)
+    by w.0 w.1 w.2 (λ k. events_somewhere keep (part ∷ front) ps w.1 w.3 k) (rw w.4 at t)
   where
     joined : Somewhere (part ∷ front) ⊎ Somewhere ps → Somewhere front ⊎ Somewhere (part ∷ ps)
     joined (inl (inl d)) = inr (inl d)
@@ -237,7 +237,7 @@ kind_behind [] ls h = h
 kind_behind (k ∷ ks) ls h = inr (kind_behind ks ls h)
 
 pub kind_in_front : (ks ls : List Kind) → ls ≡ [] → AnyKind (ks ++ ls) → AnyKind ks
-kind_in_front [] ls e h = subst AnyKind e h
+kind_in_front [] ls e h = rw e at h
 kind_in_front (k ∷ ks) ls e (inl h) = inl h
 kind_in_front (k ∷ ks) ls e (inr h) = inr (kind_in_front ks ls e h)
 
@@ -250,13 +250,12 @@ directive_kinds (d ∷ ds) (inr h) = inr (directive_kinds ds h)
 
 document_kinds : (f : Forest) (free : Bool) (t : List Kind) → YieldDocuments f free t → InForest f → AnyKind t
 document_kinds [] free t y h = absurd h
-document_kinds (d ∷ ds) free t (document, behind, inl bare, more, e) (inl h) =
-    absurd (subst AnyDeclares bare.1.1 h)
+document_kinds (d ∷ ds) free t (document, behind, inl bare, more, e) (inl h) = absurd (rw bare.1.1 at h)
 document_kinds (d ∷ ds) free t (document, behind, inr explicit, more, e) (inl h) =
-    subst AnyKind (sym e) (kind_before document behind (subst AnyKind (sym explicit.1.4)
+    rw e (kind_before document behind (rw explicit.1.4
     (kind_before (map directive_token d.directives) _ (directive_kinds d.directives h))))
 document_kinds (d ∷ ds) free t (document, behind, own, (marks, end, others, are, either, is), e) (inr h) =
-    subst AnyKind (sym e) (kind_behind document behind (subst AnyKind (sym is) (kind_behind marks (end ++ others)
+    rw e (kind_behind document behind (rw is (kind_behind marks (end ++ others)
     (kind_behind end others (by either (λ o. document_kinds ds false others o h)
     (λ o. document_kinds ds true others o h))))))
   where
@@ -270,7 +269,7 @@ document_kinds (d ∷ ds) free t (document, behind, own, (marks, end, others, ar
 
 pub forest_kinds : (f : Forest) (t : List Kind) → Yields f t → InForest f → AnyKind t
 forest_kinds f t (front, documents, marks, docs, e) h =
-    subst AnyKind (sym e) (inr (kind_behind front documents (document_kinds f true documents docs h)))
+    rw e (inr (kind_behind front documents (document_kinds f true documents docs h)))
 
 pub record DeclaringToken (text : List ℕ) : Type 0 where
   pub there : Collections

@@ -1,5 +1,5 @@
 -- A quoted scalar that goes on over a document marker is not taken.
-use Rattle.std.proofs.Common.{◌≡◌, ◌⊎◌, ℕ, Bool, true, false, List, [], ◌∷◌, ◌++◌, drop, slice_index, refl, sym, ap, ◌∙◌, arith, inl, inr, codes}
+use Rattle.std.proofs.Common.{◌≡◌, ◌⊎◌, ℕ, Bool, true, false, List, [], ◌∷◌, ◌++◌, slice_index, refl, sym, ap, ◌∙◌, arith, inl, inr, codes}
 use Rattle.saphyr_input.specs.Indicators.{quotation_mark}
 use Rattle.saphyr_input.specs.Classes.{is_break}
 use Rattle.saphyr_input.specs.Places.{is_document_indicator}
@@ -8,7 +8,6 @@ use Rattle.saphyr_values.specs.declared.flow.Quote.{Quote}
 use Rattle.saphyr_values.specs.declared.flow.Quote.TheVariants.{Double}
 use Rattle.saphyr_scalar.specs.declared.scalar.style.ScalarStyle.TheVariants.{DoubleQuoted}
 use Rattle.saphyr_scalar.specs.Views.Cursor.{start_cursor}
-use Rattle.saphyr_scalar.specs.Steps.Quoted.{break_len}
 use Rattle.saphyr_scalar.specs.Spelling.QuotedMarkers.{HasNoMarker}
 use Rattle.saphyr_scalar.specs.Spelling.Quoted.{IsText, broken}
 use Rattle.scalar_laws.proofs.Beginnings.{tails}
@@ -52,6 +51,5 @@ marker_in_quotes_is_not_taken keep t = by (owned keep (codes "\"a\n--- b\"") wro
         at_quote : (o.is.1.0 ≡ codes "a\n--- b\"") ⊎ (o.is.1.0 ≡ []) → ⊥
         at_quote (inl e) = before_line HasNoMarker (codes "--- b\"")
             (λ q t items x h r m f. let k : is_document_indicator (codes "--- b\"") ≡ false =
-            sym (ap (λ l. is_document_indicator (drop (break_len l) l)) f) ∙ m.0 in cc)
-            (λ q c t items x h r m. m) Double o.is.1.0 o.is.0 o.behind.rest o.is.1.2 o.is.6 e
+            sym (cc) ∙ m.0 in cc) (λ q c t items x h r m. m) Double o.is.1.0 o.is.0 o.behind.rest o.is.1.2 o.is.6 e
         at_quote (inr e) = no_text Double o.is.1.0 o.is.0 o.behind.rest o.is.1.2 e

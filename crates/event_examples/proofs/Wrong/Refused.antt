@@ -46,8 +46,7 @@ break_first_is_not_taken keep t = white_refused (codes "a:\n b") (codes "b") _
 -- all lines after `|` are the scalar's
 literal_lines : (before body value : List ℕ) (span : Span) → (value ≡ [] → ⊥)
     → (value ≡ []) ⊎ OwnScalar (before ++ (vertical_bar ∷ line_feed ∷ body)) value Literal span
-    → has_character 124 before ≡ false
-    → has_character 124 (line_feed ∷ body) ≡ false
+    → has_character 124 before ≡ false → has_character 124 (line_feed ∷ body) ≡ false
     → span.end.index ≡ length (before ++ (vertical_bar ∷ line_feed ∷ body)) → AreInside true body []
 literal_lines before body value span some (inl none) b a e = absurd (some none)
 literal_lines before body value span some (inr o) b a e =

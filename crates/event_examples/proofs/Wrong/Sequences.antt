@@ -1,5 +1,5 @@
 -- No sequence is told of a text that has neither a `[` nor a `-` before a blank, where no fault ends the events.
-use Rattle.std.proofs.Common.{◌≡◌, ℕ, Bool, true, false, List, [], ◌∷◌, ◌++◌, None, refl, sym, ap, ◌∙◌, subst, inl, inr, codes}
+use Rattle.std.proofs.Common.{◌≡◌, ℕ, Bool, true, false, List, [], ◌∷◌, ◌++◌, None, refl, ap, ◌∙◌, inl, inr, codes}
 use Rattle.std.specs.Prelude.{◌||◌, IsTrue, IsFalse}
 use Rattle.std.specs.List.{All}
 use Rattle.saphyr_input.proofs.Basics.Booleans.{clash}
@@ -70,7 +70,7 @@ nothing_follows all start _ span n h = let z : false ≡ true = h in cc
 no_sequence : (all : Enclosures) (ps : List Piece) → Each BeginsNoEntry ps → AreInPlace all ps
     → EndsWith tokens.StreamEnd (kinds ps) → Each BeginsNoSequence ps
 no_sequence all [] n h e = tt
-no_sequence all (p ∷ []) n h e = (subst (λ k. BeginsNoSequence k p.span) (sym e) tt, tt)
+no_sequence all (p ∷ []) n h e = (rw e tt, tt)
 no_sequence all (p ∷ q ∷ ps) n h e =
     (by p.kind n.0 h.1, no_sequence (enclosures_behind p.kind p.span all) (q ∷ ps) n.1 h.1 e)
   where
@@ -90,8 +90,7 @@ event_without (SequenceStart id tag) span own others (inl (inl content, spans)) 
 event_without (SequenceStart id tag) span own others (inl (inr content, spans)) h k =
     no_content BeginsNoSequence tokens.BlockSequenceStart own (λ _ z. z) content h
 event_without (SequenceStart id tag) span own [] (inr begins) h k = begins
-event_without (SequenceStart id tag) span own (entry ∷ others) (inr (kind, either, spans)) h k =
-    subst (λ k. BeginsNoSequence k entry.span) kind k.0
+event_without (SequenceStart id tag) span own (entry ∷ others) (inr (kind, either, spans)) h k = rw kind at k.0
 event_without _ span own others i h k = tt
 
 each_unmarked : (keep : Bool) (text : List ℕ) (a : Answer) → AreTaken keep text a → a.fault ≡ None

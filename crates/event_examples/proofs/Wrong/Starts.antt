@@ -36,17 +36,12 @@ ends_last span front own o s = ends_further span front (own ∷ []) (inl (o, con
 
 content_ends : (kind : Kind) (span : Span) (own : List Piece) → IsSequenceOpening kind → AreContentTokens kind own
     → SpansAll own span → EndsAt span own
-content_ends kind span own o c s =
-    let P : List Piece → Type 0 = λ l. EndsAt span l in
-    let Q : List Piece → Type 0 = λ l. SpansAll l span in
-    subst P (sym c.4) (ends_last span c.0 c.1 (subst IsSequenceOpening (sym c.3) o) (subst Q c.4 s))
+content_ends kind span own o c s = rw c.4 (ends_last span c.0 c.1 (rw c.3 o) (rw c.4 at s))
 
 entries_end : (span : Span) (own others : List Piece) → BeginsEntries own span others → EndsAt span (own ++ others)
 entries_end span own [] h = absurd h
 entries_end span own (t ∷ ts) h =
-    let P : List Piece → Type 0 = λ l. EndsAt span l in
-    subst P (append_assoc own (t ∷ []) ts)
-    (ends_before span (own ++ t ∷ []) ts (ends_last span own t (subst IsSequenceOpening (sym h.0) tt) h.2))
+    rw (append_assoc own (t ∷ []) ts) at (ends_before span (own ++ t ∷ []) ts (ends_last span own t (rw h.0 tt) h.2))
 
 abbrev Started : List Piece → Happening → Span → Type 0
 Started all (SequenceStart id tag) span = EndsAt span all

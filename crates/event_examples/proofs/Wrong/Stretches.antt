@@ -1,5 +1,5 @@
 -- The own tokens of each event are one after the other in the text.
-use Rattle.std.proofs.Common.{◌≡◌, ◌⊎◌, ℕ, ◌<◌, Bool, List, [], ◌∷◌, ◌++◌, length, drop, refl, sym, ap, ◌∙◌, arith, append_assoc, subst, inl, inr}
+use Rattle.std.proofs.Common.{◌≡◌, ◌⊎◌, ℕ, ◌<◌, Bool, List, [], ◌∷◌, ◌++◌, length, drop, refl, sym, ap, ◌∙◌, arith, append_assoc, inl, inr}
 use Rattle.std.specs.Prelude.{◌≢◌, slice_index}
 use Rattle.std.proofs.lemmas.List.{length-append}
 use Rattle.saphyr_scalar.specs.declared.scalar.position.Marker.{Marker}
@@ -82,8 +82,7 @@ all_stretch text unread _ opened _ s u (taking.passed es t ts b k) r h =
     skipping text opened t s h.0 h.1 es b h.2 h.3
     (all_stretch text unread es (open_behind t.kind t.span opened) ts h.1 u k on h.4)
 all_stretch text unread _ opened _ s u (taking.event what span es own ts i k) r h =
-    let P : List Piece → Type 0 = λ l. AreTokens opened l s u in
-    let parts = tokens_part opened own (ts ++ unread) s u (subst P (append_assoc own ts unread) h) in
+    let parts = tokens_part opened own (ts ++ unread) s u (rw (append_assoc own ts unread) at h) in
     let on = reaches_reaches (start_cursor text) s parts.between r
     (tokens_reached opened own s parts.between parts.front) in (
       record {
@@ -108,9 +107,8 @@ pub stretches : (keep : Bool) (text : List ℕ) (a : Answer) → AreTaken keep t
 stretches keep text a t =
     let r = t.1 in
     let b = r.begins in
-    let P : List Piece → Type 0 = λ l. AreTokens no_collections l (start_cursor text) r.taken.0 in
     all_stretch text b.unread a.events no_collections b.read (start_cursor text) r.taken.0 b.places
-    (taken.nothing (start_cursor text).mark text) (subst P b.are_read r.taken.1)
+    (taken.nothing (start_cursor text).mark text) (rw b.are_read at r.taken.1)
 
 -- ## Claims on the tokens of content
 
@@ -129,11 +127,10 @@ module _ (P : Kind → Type 0) (property : (k : Kind) → IsAnchorKind k ⊎ IsT
 
   pub each_content : (k : Kind) (ts : List Piece) → P k → AreContentTokens k ts → Each (λ k span. P k) ts
   each_content k ts w (front, own, either, kind, is) =
-      subst (Each (λ k span. P k)) (sym is)
-      (each_append (λ k span. P k) front (own ∷ []) (by either) (subst P (sym kind) w, tt))
+      rw is (each_append (λ k span. P k) front (own ∷ []) (by either) (rw kind w, tt))
     where
       by : (front ≡ []) ⊎ ArePropertyTokens front → Each (λ k span. P k) front
-      by (inl e) = subst (Each (λ k span. P k)) (sym e) tt
+      by (inl e) = rw e tt
       by (inr h) = each_property front h
 
 -- the own tokens of a plain scalar that has characters
@@ -200,8 +197,7 @@ word at _ span s t w h = absurd w
 pub property_begins : (at : Surroundings) (k : Kind) (span : Span) (s t : Cursor) → IsAnchorKind k ⊎ IsTagKind k
     → IsToken at k span s t → (slice_index s.rest 0 ≡ 38) ⊎ (slice_index s.rest 0 ≡ 33)
 property_begins at (tokens.Anchor name) span s t w h = inl (ap (λ l. slice_index l 0) h.3.is)
-property_begins at (tokens.Tag handle suffix) span s t w h =
-    inr (ap (λ l. slice_index l 0) (h.6.is ∙ ap (λ l. l ++ t.rest) (tag_begins h.0 h.1 h.2 h.3).1))
+property_begins at (tokens.Tag handle suffix) span s t w h = inr (simp (h.6.is, (tag_begins h.0 h.1 h.2 h.3).1))
 property_begins at _ span s t (inl w) h = absurd w
 property_begins at _ span s t (inr w) h = absurd w
 
@@ -237,10 +233,7 @@ one_token : (text : List ℕ) (k : Kind) (opened : Collections) (own : List Piec
     (p : Piece) → p.kind ≡ k → own ≡ p ∷ [] → Reaches (start_cursor text) s → AreTokens opened own s u
     → SpansAll own span → Alone text k opened own s u span
 one_token text k opened own s u span p kind is r h spans =
-    let P : List Piece → Type 0 = λ l. AreTokens opened l s u in
-    let Q : List Piece → Type 0 = λ l. SpansAll l span in
-    let one = subst P is h in
-    let K : Kind → Type 0 = λ k. IsToken (surroundings_in opened) k p.span one.0 one.1 in
+    let one = rw is at h in
     record {
       token = p;
       is = is;
@@ -249,11 +242,11 @@ one_token text k opened own s u span p kind is r h spans =
       behind = one.1;
       on = reaches_reaches (start_cursor text) s one.0 r (apart_reached s.mark s.rest one.0.mark one.0.rest one.2);
       apart = one.2;
-      taken = subst K kind one.3;
+      taken = rw kind at one.3;
       end = one.4;
       tokens = one;
-      spans = subst Q is spans;
-      starts = span_starts p [] span (subst Q is spans);
+      spans = rw is at spans;
+      starts = span_starts p [] span (rw is at spans);
     }
 
 module _ (text : List ℕ) (n c : ℕ) (more : List ℕ) (there : drop n text ≡ c ∷ more) (no_anchor : c ≢ 38)
@@ -283,6 +276,4 @@ module _ (text : List ℕ) (n c : ℕ) (more : List ℕ) (there : drop n text �
   alone k opened own s u span r (front, p, inl e, kind, is) h spans first =
       one_token text k opened own s u span p kind (is ∙ ap (λ l. l ++ p ∷ []) e) r h spans
   alone k opened own s u span r (front, p, inr are, kind, is) h spans first =
-      let P : List Piece → Type 0 = λ l. AreTokens opened l s u in
-      let Q : List Piece → Type 0 = λ l. SpansAll l span in
-      absurd (no_property opened front (p ∷ []) s u span r are (subst P is h) (subst Q is spans) first)
+      absurd (no_property opened front (p ∷ []) s u span r are (rw is at h) (rw is at spans) first)

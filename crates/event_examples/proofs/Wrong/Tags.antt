@@ -1,5 +1,5 @@
 -- A tag goes on as far as it can: neither `!a` as `!` before `a` nor `!a#b` as `!a` before a comment is taken.
-use Rattle.std.proofs.Common.{◌≡◌, ◌⊎◌, ℕ, ◌+◌, ◌≤◌, ◌<◌, Bool, true, false, List, [], ◌∷◌, ◌++◌, length, drop, refl, sym, ap, ◌∙◌, arith, subst, inl, inr, codes}
+use Rattle.std.proofs.Common.{◌≡◌, ◌⊎◌, ℕ, ◌+◌, ◌≤◌, ◌<◌, Bool, true, false, List, [], ◌∷◌, ◌++◌, length, drop, refl, sym, ap, ◌∙◌, arith, inl, inr, codes}
 use Rattle.std.specs.Prelude.{◌||◌, ◌&&◌, not, slice_index}
 use Rattle.saphyr_input.specs.Classes.{is_blank_or_breakz, is_flow}
 use Rattle.saphyr_scalar.specs.declared.scalar.position.Marker.{Marker}
@@ -11,7 +11,7 @@ use Rattle.scalar_laws.proofs.Beginnings.{heads, tails}
 use Rattle.saphyr_scanner.specs.Grammar.Tokens as tokens
 use Rattle.saphyr_scanner.specs.Grammar.Tokens.{Kind}
 use Rattle.saphyr_scanner.specs.Views.Tokens.{Piece}
-use Rattle.saphyr_scanner.specs.TokensTaken.{Collections, Surroundings, surroundings_in, open_behind, IsToken, AreTokens, may_begin_plain}
+use Rattle.saphyr_scanner.specs.TokensTaken.{Collections, Surroundings, surroundings_in, open_behind, IsToken, AreTokens}
 use Rattle.saphyr_scanner.proofs.Reached.{apart_reached}
 use Rattle.saphyr_scanner.proofs.Taken.Later.{apart_later, token_later}
 use Rattle.saphyr_scanner.proofs.Taken.Parts.{open_all}
@@ -72,7 +72,7 @@ tag_at text n inks more there are at k span s t reached w h first = by k w h
         let on = reaches_over at.in_flow 33 inks more h.0 t.rest (sym rest ∙ h.6.is) long are h.7 in
         record { is = tt; end = h.6.end; reaches = omega (arith, on, place, start, first) }
     by (tokens.Scalar style.Plain value) w h =
-        absurd (let no : false ≡ true = sym (ap (λ l. may_begin_plain (slice_index l 0)) rest) ∙ h.begins in cc)
+        absurd (let no : false ≡ true = sym (simp rest) ∙ h.begins in cc)
     by _ w h = absurd w
 
 -- one token, which is a tag
@@ -136,7 +136,7 @@ goes_over text n inks more there are opened (p ∷ ps) s u span reached w h k fi
 
 scalar_is_no_tag : (value : List ℕ) (front : List Piece) (own : Piece) → own.kind ≡ tokens.Scalar style.Plain value
     → IsLoneTag (front ++ own ∷ []) → ⊥
-scalar_is_no_tag value [] own e h = subst IsTagKind e h
+scalar_is_no_tag value [] own e h = rw e at h
 scalar_is_no_tag value (p ∷ []) own e h = h
 scalar_is_no_tag value (p ∷ q ∷ ps) own e h = h
 
@@ -158,8 +158,7 @@ short_tag_is_not_taken keep t = by (stretches keep (codes ": !a\n") wrong.short_
             by_further over.further
           where
             by_further : IsLoneTag own ⊎ (4 < 4) → ⊥
-            by_further (inl lone) =
-                scalar_is_no_tag (codes "a") content.0 content.1 content.3 (subst IsLoneTag content.4 lone)
+            by_further (inl lone) = scalar_is_no_tag (codes "a") content.0 content.1 content.3 (rw content.4 at lone)
             by_further (inr k) = omega (arith, k)
         by_tokens own (inr (inl n)) h = let k = n.0 in cc
         by_tokens own (inr (inr n)) h = let k = n.0 in cc

@@ -1,6 +1,6 @@
 -- No mapping begins at the end of the text: after its start is its first key or a colon (YAML 1.2.2, 7.4, 8.2.2).
-use Rattle.std.proofs.Common.{◌≡◌, ◌⊎◌, ℕ, ◌<◌, Bool, true, false, List, [], ◌∷◌, ◌++◌, length, Option, Some, None, refl, sym, ap, ◌∙◌, arith, subst, inl, inr}
-use Rattle.std.specs.Prelude.{◌||◌, if◌then◌else◌, slice_index, IsTrue, IsFalse}
+use Rattle.std.proofs.Common.{◌≡◌, ◌⊎◌, ℕ, ◌<◌, true, false, List, [], ◌∷◌, ◌++◌, length, Option, Some, None, refl, sym, ap, ◌∙◌, arith, inl, inr}
+use Rattle.std.specs.Prelude.{slice_index, IsTrue, IsFalse}
 use Rattle.std.proofs.lemmas.List.{nil_from_length}
 use Rattle.saphyr_input.proofs.Basics.Booleans.{and_true_right}
 use Rattle.saphyr_scalar.specs.declared.scalar.position.Marker.{Marker}
@@ -75,7 +75,7 @@ spent at (tokens.Tag handle suffix) span s t e h =
     by (inr f) e = omega (arith, e, f)
 spent at (tokens.Scalar style.Plain value) span s t e h =
     let r = h.reading in
-    no_piece r.front (r.white ++ t.rest) s.rest r.last (r.is ∙ ap (λ l. l ++ (r.white ++ t.rest)) r.closes) e
+    no_piece r.front (r.white ++ t.rest) s.rest r.last (cc) e
 spent at (tokens.Scalar style.SingleQuoted value) span s t e h = no_text 39 h.1.0 s.rest h.1.1 e
 spent at (tokens.Scalar style.DoubleQuoted value) span s t e h = no_text 34 h.1.0 s.rest h.1.1 e
 spent at (tokens.Scalar style.Literal value) span s t e h =
@@ -95,10 +95,7 @@ spent at _ span s t e h = tt
 fits_there : (all : Enclosures) (k : Kind) (span : Span) (e : Enclosure) (key : Option Marker)
     → all.inner.enclosure ≡ e → all.inner.key ≡ key → IsTrue (may_stand all k span)
     → IsTrue (fits_at e key all.columns k span)
-fits_there all k span e key is waits h =
-    let P : Enclosure → Type 0 = λ e. IsTrue (fits_at e all.inner.key all.columns k span) in
-    let Q : Option Marker → Type 0 = λ key. IsTrue (fits_at e key all.columns k span) in
-    subst Q waits (subst P is (and_true_right _ _ h))
+fits_there all k span e key is waits h = rw (← waits, ← is) (and_true_right _ _ h)
 
 no_node : (e : Enclosure) (m : Marker) (columns : List ℕ) (k : Kind) (span : Span) → IsSpent k span
     → IsTrue (fits_at e (Some m) columns k span) → ⊥
@@ -126,9 +123,7 @@ no_key : (opened : Collections) (all : Enclosures) (span : Span) (ps : List Piec
     → has_text span ≡ false → s.rest ≡ [] → AreTokens opened ps s u
     → AreInPlace (enclosures_behind tokens.Key span all) ps → EndsWith tokens.StreamEnd (kinds ps) → ⊥
 no_key opened all span ps s u t none h i e =
-    let P : Bool → Type 0 = λ b. AreInPlace (if b then turned_to (place.behind_question all.inner.enclosure) all
-    else awaiting_colon span.start all) ps in
-    no_key_waits opened (awaiting_colon span.start all) ps s u span.start refl none h (subst P t i) e
+    no_key_waits opened (awaiting_colon span.start all) ps s u span.start refl none h (rw t at i) e
 
 -- ## There no mapping begins
 
@@ -138,8 +133,7 @@ no_block_mapping : (opened : Collections) (all : Enclosures) (start : Span) (ps 
     → EndsWith tokens.StreamEnd (kinds ps) → ⊥
 no_block_mapping opened all start [] s u none h i e = e
 no_block_mapping opened all start (p ∷ []) s u none h i e =
-    let P : Kind → Type 0 = λ k. IsTrue (may_stand (enclosures_behind tokens.BlockMappingStart start all) k p.span) in
-    let z : false ≡ true = subst P e i.0 in cc
+    let z : false ≡ true = rw e at i.0 in cc
 no_block_mapping opened all start (p ∷ q ∷ ps) s u none (here, behind, apart, is, more) i e =
     by p.kind is more i.0 i.1
   where
@@ -171,12 +165,10 @@ pair_goes : (all : Enclosures) (k : Kind) (span : Span) → IsPairKey all → Is
 pair_goes all tokens.Key span w n h key = absurd key
 pair_goes all tokens.FlowMappingStart span w n h key =
     let f = fits_there all tokens.FlowMappingStart span place.PairKey None w.0 w.1 h in
-    let P : Bool → Type 0 = λ b. IsTrue (b || place.may_begin_pair place.PairKey) in
-    let z : false ≡ true = subst P n f in absurd (cc)
+    let z : false ≡ true = rw n at f in absurd (cc)
 pair_goes all tokens.FlowMappingEnd span w n h key =
     let f = fits_there all tokens.FlowMappingEnd span place.PairKey None w.0 w.1 h in
-    let P : Bool → Type 0 = λ b. IsTrue (if b then true else place.may_end_pair place.PairKey) in
-    let z : false ≡ true = subst P n f in absurd (cc)
+    let z : false ≡ true = rw n at f in absurd (cc)
 pair_goes all tokens.Value span w n h key = absurd n
 pair_goes all tokens.FlowSequenceStart span w n h key = absurd n
 pair_goes all tokens.FlowSequenceEnd span w n h key = absurd n
@@ -186,7 +178,7 @@ pair_goes all _ span w n h key = record { no_end = tt; pair = w }
 no_pair_ends : (opened : Collections) (all : Enclosures) (ps : List Piece) (s u : Cursor) → IsPairKey all → s.rest ≡ []
     → AreTokens opened ps s u → AreInPlace all ps → EndsWith tokens.StreamEnd (kinds ps) → Each IsNoMappingEnd ps
 no_pair_ends opened all [] s u w none h i e = tt
-no_pair_ends opened all (p ∷ []) s u w none h i e = (subst (λ k. IsNoMappingEnd k p.span) (sym e) tt, tt)
+no_pair_ends opened all (p ∷ []) s u w none h i e = (rw e tt, tt)
 no_pair_ends opened all (p ∷ q ∷ ps) s u w none (here, behind, apart, is, more) i e =
     by p.kind is more i.0 i.1 (λ t a b c. no_pair_ends (open_behind p.kind p.span opened)
     (enclosures_behind p.kind p.span all) (q ∷ ps) behind u t a b c e)
@@ -245,10 +237,8 @@ none_first opened all (tokens.Tag handle suffix) span ps s t u f none h more i e
 none_first opened all tokens.FlowMappingStart span ps s t u f none h more i e c =
     let at = surroundings_in opened in
     let n = spent at tokens.FlowMappingStart span s t none h in
-    let P : Bool → Type 0 = λ b. AreInPlace (if b then place.entered place.Mapping all else turned_to place.PairKey all)
-    ps in
     let each = no_pair_ends (open_behind tokens.FlowMappingStart span opened) (turned_to place.PairKey all) ps t u
-    (refl, refl) (token_at_end at tokens.FlowMappingStart span s t h none) more (subst P n i) e in
+    (refl, refl) (token_at_end at tokens.FlowMappingStart span s t h none) more (rw n at i) e in
     let closed = none_closed ps each in
     let here = c.0 in
     omega (arith, here, closed)
@@ -269,7 +259,7 @@ pub begins_before : (text : List ℕ) (opened : Collections) (all : Enclosures) 
     → Reaches (start_cursor text) s → AreTokens opened ps s u → AreInPlace all ps
     → EndsWith tokens.StreamEnd (kinds ps) → AreClosed 0 1 (kinds ps) → Each (BeginsBefore (length text)) ps
 begins_before text opened all [] s u r h i e c = tt
-begins_before text opened all (p ∷ []) s u r h i e c = (λ f. absurd (subst IsFirst e f), tt)
+begins_before text opened all (p ∷ []) s u r h i e c = (λ f. absurd (rw e at f), tt)
 begins_before text opened all (p ∷ q ∷ ps) s u r (here, behind, apart, is, more) i e c = (
   λ f. by here.rest refl f,
   begins_before text (open_behind p.kind p.span opened) (enclosures_behind p.kind p.span all) (q ∷ ps) behind u

@@ -1,8 +1,8 @@
 -- A mapping has a `:`, a `?` or a `}` in its text (YAML 1.2.2, 7.4, 8.2.2): without these no mapping is taken where no
 -- fault ends the events.
 use Rattle.std.specs.List.{AllByRecursion}
-use Rattle.std.proofs.Common.{◌≡◌, ℕ, zero, suc, ◌+◌, Bool, true, false, List, [], ◌∷◌, Option, Some, None, refl, sym, ap, ◌∙◌, arith, subst}
-use Rattle.std.specs.Prelude.{◌||◌, if◌then◌else◌, is_some, IsTrue, IsFalse}
+use Rattle.std.proofs.Common.{◌≡◌, ℕ, zero, suc, ◌+◌, Bool, true, false, List, [], ◌∷◌, Option, Some, None, refl, sym, ap, ◌∙◌, arith}
+use Rattle.std.specs.Prelude.{if◌then◌else◌, is_some, IsTrue, IsFalse}
 use Rattle.saphyr_input.proofs.Basics.Booleans.{and_true_right}
 use Rattle.saphyr_scalar.specs.declared.scalar.position.Marker.{Marker}
 use Rattle.saphyr_scalar.specs.declared.scalar.position.Span.{Span}
@@ -34,8 +34,7 @@ IsNoMappingEnd _ span = Unit {0}
 no_pair_end : (e : Enclosure) (key : Option Marker) (columns : List ℕ) (span : Span) → IsNoPairValue e
     → has_text span ≡ false → IsTrue (fits_at e key columns tokens.FlowMappingEnd span) → ⊥
 no_pair_end e (Some key) columns span n t h = let k : false ≡ true = h in cc
-no_pair_end e None columns span n t h =
-    let P : Bool → Type 0 = λ b. IsTrue (if b then is_in_brackets e else may_end_pair e) in by e n (subst P t h)
+no_pair_end e None columns span n t h = by e n (rw t at h)
   where
     by : (e : Enclosure) → IsNoPairValue e → IsTrue (may_end_pair e) → ⊥
     by place.PairValue n h = n
@@ -52,8 +51,7 @@ behind_no_colon all tokens.FlowSequenceEnd span u h n = (tt, left all.outer all.
     left (e ∷ es) columns n = n
 behind_no_colon all tokens.FlowMappingStart span u h n = (tt, by (has_text span))
   where
-    by : (b : Bool)
-        → IsBehindNoColon (if b then place.entered place.Mapping all else place.turned_to place.PairKey all)
+    by : (b : Bool) → IsBehindNoColon (if b then place.entered place.Mapping all else place.turned_to place.PairKey all)
     by true = (tt, n)
     by false = (tt, n.1)
 behind_no_colon all tokens.FlowMappingEnd span u h n =
@@ -63,9 +61,7 @@ behind_no_colon all tokens.FlowEntry span u h n = (tt, (by all.inner.enclosure n
     by : (e : Enclosure) → IsNoPairValue e → IsNoPairValue (behind_comma e)
     by place.PairValue n = absurd n
     by _ n = tt
-behind_no_colon all tokens.Key span u h n =
-    let P : Bool → Type 0 = λ b. IsBehindNoColon (if b then place.turned_to (place.behind_question all.inner.enclosure)
-    all else awaiting_colon span.start all) in (tt, subst P (sym u) n)
+behind_no_colon all tokens.Key span u h n = (tt, rw u n)
 behind_no_colon all tokens.Value span u h n = absurd u
 behind_no_colon all _ span u h n = (tt, n)
 
@@ -137,9 +133,7 @@ record Moves (waits : Bool) (n : ℕ) (k : Kind) (all : Enclosures) : Type 0 whe
 
 pub fits_there : (all : Enclosures) (k : Kind) (span : Span) → IsTrue (may_stand all k span) → (e : Enclosure)
     → all.inner.enclosure ≡ e → IsTrue (fits_at e all.inner.key all.columns k span)
-fits_there all k span h e is =
-    let P : Enclosure → Type 0 = λ e. IsTrue (fits_at e all.inner.key all.columns k span) in
-    subst P is (and_true_right _ _ h)
+fits_there all k span h e is = rw (← is) (and_true_right _ _ h)
 
 pub no_bracket_ends : (key : Option Marker) (columns : List ℕ) (span : Span)
     → IsTrue (fits_at place.Block key columns tokens.FlowSequenceEnd span) → ⊥
@@ -170,8 +164,7 @@ moves waits zero all tokens.FlowSequenceEnd span b x h s =
     absurd (no_bracket_ends all.inner.key all.columns span
     (fits_there all tokens.FlowSequenceEnd span h place.Block s.0))
 moves waits (suc n) all tokens.FlowSequenceEnd span b x h (_, _, (f, fs, e, s)) =
-    let P : List Enclosed → Type 0 = λ l. HasStack waits n (place.left_for l all.columns) in
-    record { depth = n; stack = subst P (sym e) s; counts = omega arith }
+    record { depth = n; stack = rw e s; counts = omega arith }
 moves false zero all tokens.FlowEntry span b x h (e, key, none) =
     record { depth = zero; stack = (ap behind_comma e, refl, none); counts = refl }
 moves true zero all tokens.FlowEntry span b x h (e, key, none) =
@@ -195,9 +188,7 @@ key_outside waits zero all span t h s = (refl, by all.inner.key s.1 (fits_there 
     by None w h = sym w
     by (Some m) w h = let z : false ≡ true = h in absurd (cc)
 key_outside waits (suc n) all span t h s =
-    let P : Option Marker → Type 0 = λ key. IsTrue (fits_at place.Sequence key all.columns tokens.Key span) in
-    let Q : Bool → Type 0 = λ b. IsTrue (b || place.may_begin_key place.Sequence) in
-    let z : false ≡ true = subst Q t (subst P s.1 (fits_there all tokens.Key span h place.Sequence s.0)) in
+    let z : false ≡ true = rw (s.1, t) at (fits_there all tokens.Key span h place.Sequence s.0) in
     absurd (cc)
 
 -- where a key waits the stream does not end in no brackets
@@ -208,9 +199,8 @@ stuck n all (p ∷ []) s b h e c = by n s c
   where
     by : (n : ℕ) → HasStack true n all → n + total (opens 1 0) (p.kind ∷ []) ≡ total (closes 1 0) (p.kind ∷ []) → ⊥
     by zero s c =
-        let P : Kind → Type 0 = λ k. IsTrue (may_stand all k p.span) in
         no_node all.inner.key all.columns tokens.StreamEnd p.span s.1 tt
-        (fits_there all tokens.StreamEnd p.span (subst P e h.0) place.Block s.0)
+        (fits_there all tokens.StreamEnd p.span (rw e at h.0) place.Block s.0)
     by (suc n) s c =
         let o = ap (λ k. opens 1 0 k) e in let l = ap (λ k. closes 1 0 k) e in omega (arith, c, o, l)
 stuck n all (p ∷ q ∷ ps) s b h e c =
@@ -219,8 +209,7 @@ stuck n all (p ∷ q ∷ ps) s b h e c =
     by : (k : Kind) → IsBare k p.span → IsTrue (may_stand all k p.span)
         → n + (opens 1 0 k + total (opens 1 0) (kinds (q ∷ ps))) ≡ closes 1 0 k + total (closes 1 0) (kinds (q ∷ ps))
         → ((m : ℕ) → HasStack true m (enclosures_behind k p.span all)
-        → m + total (opens 1 0) (kinds (q ∷ ps)) ≡ total (closes 1 0) (kinds (q ∷ ps)) → ⊥)
-        → ⊥
+        → m + total (opens 1 0) (kinds (q ∷ ps)) ≡ total (closes 1 0) (kinds (q ∷ ps)) → ⊥) → ⊥
     by tokens.Key b h c more =
         let out = key_outside true n all p.span b h s in let z : true ≡ false = out.1 in cc
     by k b h c more =
@@ -233,7 +222,7 @@ no_keys : (n : ℕ) (all : Enclosures) (ps : List Piece) → HasStack false n al
     → EndsWith tokens.StreamEnd (kinds ps) → n + total (opens 1 0) (kinds ps) ≡ total (closes 1 0) (kinds ps)
     → Each IsNoKey ps
 no_keys n all [] s b h e c = tt
-no_keys n all (p ∷ []) s b h e c = (subst (λ k. IsNoKey k p.span) (sym e) tt, tt)
+no_keys n all (p ∷ []) s b h e c = (rw e tt, tt)
 no_keys n all (p ∷ q ∷ ps) s b h e c =
     by p.kind b.0 h.0 h.1 c (λ m t d i. no_keys m (enclosures_behind p.kind p.span all) (q ∷ ps) t b.1 i e d)
   where
@@ -242,11 +231,8 @@ no_keys n all (p ∷ q ∷ ps) s b h e c =
         → n + total (opens 1 0) (kinds (q ∷ ps)) ≡ total (closes 1 0) (kinds (q ∷ ps)) → ⊥
     waiting span t h i c =
         let out = key_outside false n all span t h s in
-        let P : Bool → Type 0 = λ b. AreInPlace (if b then place.turned_to (place.behind_question
-        all.inner.enclosure) all else awaiting_colon span.start all) (q ∷ ps) in
-        let Q : ℕ → Type 0 = λ n. HasStack false n all in
-        let at_root = subst Q out.0 s in
-        stuck 0 (awaiting_colon span.start all) (q ∷ ps) (at_root.0, refl, at_root.2) b.1 (subst P t i) e
+        let at_root = rw out.0 at s in
+        stuck 0 (awaiting_colon span.start all) (q ∷ ps) (at_root.0, refl, at_root.2) b.1 (rw t at i) e
         (omega (arith, c, out.0))
 
     by : (k : Kind) → IsBare k p.span → IsTrue (may_stand all k p.span)
@@ -280,7 +266,7 @@ nothing_follows all start _ span b n h = let z : false ≡ true = h in cc
 no_mapping : (all : Enclosures) (ps : List Piece) → Each IsBare ps → Each IsNoKey ps → AreInPlace all ps
     → EndsWith tokens.StreamEnd (kinds ps) → Each BeginsNoMapping ps
 no_mapping all [] b n h e = tt
-no_mapping all (p ∷ []) b n h e = (subst (λ k. BeginsNoMapping k p.span) (sym e) tt, tt)
+no_mapping all (p ∷ []) b n h e = (rw e tt, tt)
 no_mapping all (p ∷ q ∷ ps) b n h e =
     (by p.kind b.0 n.0 b.1.0 n.1.0 h.1, no_mapping (enclosures_behind p.kind p.span all) (q ∷ ps) b.1 n.1 h.1 e)
   where

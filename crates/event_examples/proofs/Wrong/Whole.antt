@@ -29,8 +29,7 @@ pub record Whole (keep : Bool) (text : List ℕ) (es : List (Happening × Span))
   pub places : HaveTokens [] es pieces
   pub told : events forest keep ≡ Some (map (λ (e : Happening × Span). e.0) es)
 
-nothing_more : (fault : Option Ending) {X : Type 0} (more : List X) → fault ≡ None → IsAllUnless fault more
-    → more ≡ []
+nothing_more : (fault : Option Ending) {X : Type 0} (more : List X) → fault ≡ None → IsAllUnless fault more → more ≡ []
 nothing_more None more e h = h
 nothing_more (Some f) more e h = absurd (cc)
 
@@ -44,23 +43,17 @@ whole keep text a t fault =
     let r = t.1 in
     let b = r.begins in
     let happenings : List Happening = map (λ (e : Happening × Span). e.0) a.events in
-    let P : List Kind → Type 0 = λ l. Yields t.0 (kinds b.read ++ l) in
-    let Q : List Piece → Type 0 = λ l. AreTokens no_collections l (start_cursor text) r.taken.0 in
-    let R : List Piece → Type 0 = λ l. AreInPlace not_enclosed l in
-    let all_read : r.tokens.pieces ≡ b.read = b.are_read
-    ∙ ap (λ l. b.read ++ l) (nothing_more a.fault b.unread fault b.all_read) ∙ append-nil b.read in
+    let all_read : r.tokens.pieces ≡ b.read = cc (nothing_more a.fault b.unread fault b.all_read, append-nil b.read) in
     record {
       forest = t.0;
       pieces = b.read;
       end = r.taken.0;
-      taken = subst Q all_read r.taken.1;
-      in_place = subst R all_read r.taken.2;
-      yielded = subst (Yields t.0) (append-nil (kinds b.read))
-          (subst P (nothing_more a.fault b.expected fault b.all_expected) b.yielded);
-      places = subst (λ l. HaveTokens l a.events b.read) (nothing_more a.fault b.unread fault b.all_read) b.places;
-      told = b.are_events
-          ∙ ap Some (ap (λ l. happenings ++ l) (none_missing a.fault b.missing fault b.all_given)
-          ∙ append-nil happenings);
+      taken = rw all_read at r.taken.1;
+      in_place = rw all_read at r.taken.2;
+      yielded = rw (append-nil (kinds b.read)) at
+          (rw (nothing_more a.fault b.expected fault b.all_expected) at b.yielded);
+      places = rw (nothing_more a.fault b.unread fault b.all_read) at b.places;
+      told = b.are_events ∙ ap Some (cc (none_missing a.fault b.missing fault b.all_given, append-nil happenings));
     }
 
 -- ## From tokens to events
@@ -89,8 +82,8 @@ each_event P Q _ _ f (taking.event what span es own ts i k) h =
 pub no_content : (P : Kind → Span → Type 0) (kind : Kind) (own : List Piece) → ((span : Span) → P kind span → ⊥)
     → AreContentTokens kind own → Each P own → ⊥
 no_content P kind own none (front, p, either, e, is) h =
-    let last = (each_parts P front (p ∷ []) (subst (Each P) is h)).1 in
-    none p.span (subst (λ k. P k p.span) e last.0)
+    let last = (each_parts P front (p ∷ []) (rw is at h)).1 in
+    none p.span (rw e at last.0)
 
 pub all_events : (Q : Happening → Span → Type 0) (es : List (Happening × Span)) → EachEvent Q es
     → All (λ (e : Happening × Span). Q e.0 e.1) es

@@ -2,20 +2,12 @@ use Rattle.event_examples.proofs.Examples.ClosedYaml.{line_closes, marked, twice
 use Rattle.event_examples.proofs.Examples.ClosedYaml.{gives_first}
 use Rattle.event_examples.proofs.forests.closes_yaml.Goals as goal
 
-pub returns-clause-closed : goal.returns-clause-closed
-returns-clause-closed c = line_closes
-
-pub returns-clause-marked : goal.returns-clause-marked
-returns-clause-marked c = marked
-
-pub returns-clause-twice : goal.returns-clause-twice
-returns-clause-twice c = twice
-
-pub returns-clause-behind : goal.returns-clause-behind
-returns-clause-behind c = behind
-
-pub returns-clause-alone : goal.returns-clause-alone
-returns-clause-alone c = gives_start
-
-pub returns-clause-followed : goal.returns-clause-followed
-returns-clause-followed c = gives_first
+pub returns : goal.returns
+returns c = record {
+  closed = line_closes;
+  marked = marked;
+  twice = twice;
+  behind = behind;
+  alone = gives_start;
+  followed = gives_first;
+}

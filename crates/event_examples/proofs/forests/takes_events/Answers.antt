@@ -3,11 +3,5 @@ use Rattle.event_examples.proofs.Examples.TakenEvents.{takes_block_alias_events}
 use Rattle.std.proofs.Common.{false}
 use Rattle.event_examples.proofs.forests.takes_events.Goals as goal
 
-pub returns-clause-nothing : goal.returns-clause-nothing
-returns-clause-nothing c = takes_none
-
-pub returns-clause-alias : goal.returns-clause-alias
-returns-clause-alias c = takes_block_alias_events
-
-pub returns-clause-promised : goal.returns-clause-promised
-returns-clause-promised c text parser t = t false
+pub returns : goal.returns
+returns c = record { nothing = takes_none; alias = takes_block_alias_events; promised = λ text parser t. t false }
