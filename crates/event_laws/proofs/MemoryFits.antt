@@ -172,7 +172,8 @@ declaring_meaning handle (TagPrefix other prefix ∷ ds) names c =
       declaring_meaning handle ds (with_meaning (handle_bytes other) (encode_utf8_all prefix) names) c.1,
       given_meaning (handle_bytes handle) (handle_bytes other) (encode_utf8_all prefix) names,
       one_prefix test (encode_utf8_all prefix) (prefix_in handle ds) (meaning (handle_bytes handle) names)
-          (λ q. none_else handle other prefix ds c.0 ((bytes_eq-Decides (handle_bytes handle) (handle_bytes other)).0 q)),
+          (λ q. none_else handle other prefix ds c.0
+          ((bytes_eq-Decides (handle_bytes handle) (handle_bytes other)).0 q)),
     )
 
 kept_meaning : (keep kept : Bool) (handle : Handle) (front : List Part) (names : Names (List ℕ)) → kept ≡ keep
@@ -227,6 +228,6 @@ same_events [] b keep front e w h l = refl
 same_events (p ∷ ps) b keep front e w h l =
     cc (
       event_same b keep front e p (anchors ps) w.0 h l,
-      same_events ps (is_inside_behind p b) keep (p ∷ front) (after p e) w.1 (fits_after b keep front e p (anchors ps) w.0
-          h l) (room_moves (anchor_of p) (anchors front) (anchors ps) l),
+      same_events ps (is_inside_behind p b) keep (p ∷ front) (after p e) w.1
+          (fits_after b keep front e p (anchors ps) w.0 h l) (room_moves (anchor_of p) (anchors front) (anchors ps) l),
     )

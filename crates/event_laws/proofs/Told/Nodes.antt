@@ -79,8 +79,8 @@ shorthand_stands handle suffix names place r h =
       has_handle (handle_bytes handle) names place (handle_is_some handle),
       of_shorthand (option_or (meaning (handle_bytes handle) names) (default_prefix handle))
           (declared_prefix_or (meaning (handle_bytes handle) names) (undeclared_prefix (handle_bytes handle) place))
-          (encode_utf8_all suffix) r (λ prefix. handle_stands handle names place prefix (meaning (handle_bytes handle) names))
-          h,
+          (encode_utf8_all suffix) r
+          (λ prefix. handle_stands handle names place prefix (meaning (handle_bytes handle) names)) h,
     )
 
 some_inside : (a b : ResolvedTag) → (let o : Option ResolvedTag = Some a in o) ≡ Some b

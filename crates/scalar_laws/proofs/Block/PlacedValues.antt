@@ -121,7 +121,8 @@ behind_same st i ab k b m n x others col h =
     let starts : line_starts i (m.col + n) others ≡ false = cc (none_starts i n others h.no_content) in
     cc (
       spaces_on st i ab k b n m others within,
-      no_line_at st i ab k b (along m n) others space (no_break_at (slice_index others 0) h.no_break h.no_return) starts,
+      no_line_at st i ab k b (along m n) others space
+          (no_break_at (slice_index others 0) h.no_break h.no_return) starts,
     )
 
 behind_left : (st : BlockStyle) (i : ℕ) (ab : Option Bool) (k : ℕ) (b : Bool) (m : Marker) (n : ℕ) (x others : List ℕ)

@@ -84,8 +84,8 @@ pub data AreEmptyLines (i : ℕ) (x : List ℕ) : List Line → List ℕ → Typ
       → AreEmptyLines i x (Empty ∷ []) (spaces j ++ (line_feed ∷ spaces k))
 
 -- 8.1.1.1, 8.1.1.2 [166] to [169]: a text without content: empty lines or none, or at the text's end spaces alone,
--- which are one. A line after it begins left of `indent`, after n spaces, or the indentation is 0, where a document marker is
--- no content.
+-- which are one. A line after it begins left of `indent`, after n spaces, or the indentation is 0, where a document
+-- marker is no content.
 pub data IsEmptyBody (indent i n : ℕ) (x : List ℕ) : List Line → List ℕ → Type 0 where
   empty_lines : (ls : List Line) (t : List ℕ) → AreEmptyLines i x ls t → (n < indent) ⊎ ((i ≡ 0) ⊎ (x ≡ []))
       → IsEmptyBody indent i n x ls t
