@@ -2,6 +2,7 @@
 pub mod States
 pub mod Places
 pub mod Gaps
+pub mod GapWalks
 pub mod GapSteps
 pub mod Fillers
 pub mod Separates

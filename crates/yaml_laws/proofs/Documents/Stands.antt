@@ -21,9 +21,10 @@ use Rattle.yaml_laws.proofs.InFlow.States.{alone, noted}
 use Rattle.yaml_laws.proofs.InBlock.States.{crosses, GoesOnAs}
 use Rattle.yaml_laws.proofs.InBlock.Follows.{goes_on}
 use Rattle.yaml_laws.proofs.InBlock.Lines.{IsLined}
-use Rattle.yaml_laws.proofs.Flow.States.{past, EndsDocument, is_filler_rest}
-use Rattle.yaml_laws.proofs.Flow.Gaps.{gap_past, no_tab_before}
-use Rattle.yaml_laws.proofs.Flow.GapSteps.{past_low, past_inked}
+use Rattle.yaml_laws.proofs.Flow.States.{past, EndsDocument}
+use Rattle.yaml_laws.proofs.InBlock.Untabbed.{gap_past}
+use Rattle.yaml_laws.proofs.InBlock.Gaps.{past_inked}
+use Rattle.yaml_laws.proofs.Flow.GapSteps.{past_low}
 use Rattle.yaml_laws.proofs.Flow.Tokens.{passes_gap, within_index}
 use Rattle.saphyr_scalar.proofs.Given.{cursor_at}
 use Rattle.std.proofs.lemmas.Bool.{eq-eqb}
@@ -83,11 +84,11 @@ passes_noted None s k a ad m y here h =
     record { blank = g.blank; allowed = g.allowed; is = g.is false }
 passes_noted (Some comment) s k a ad m y here (inl e) = absurd (cc)
 passes_noted (Some comment) s k a ad m y here (inr h) =
-    let g = gap_past 0 s.mark s.blank_so_far false s.rest in
+    let g = gap_past 0 s.mark s.blank_so_far s.rest in
     let c : Core = record (core_at false s context.Block k [] a ad) { comment = Some comment } in
-    let there = g.is (past_inked s.mark s.rest) 0 none_less false (no_tab_before (is_filler_rest s.rest))
-    ∙ ap (λ (p : Marker × List ℕ). stop p.0 g.still_blank g.now_broke false p.1) here in
-    let b = (g.now_broke && true) || a in
+    let there = g.is (past_inked s.mark s.rest) 0 none_less
+    ∙ ap (λ (p : Marker × List ℕ). stop p.0 g.still_blank (crosses s.rest) false p.1) here in
+    let b = (crosses s.rest && true) || a in
     let goes : check_comment
     (record (core_at false (cursor_at y m g.still_blank) context.Block k [] b ad) { comment = Some comment })
     ≡ Ok (core_at false (cursor_at y m g.still_blank) context.Block k [] b ad) =

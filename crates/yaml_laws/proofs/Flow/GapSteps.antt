@@ -1,15 +1,15 @@
 -- What is passed between two tokens of a text in flow style, character by character.
-use Rattle.std.proofs.Common.{◌≡◌, ℕ, suc, ◌+◌, ◌<◌, ◌≤◌, Bool, true, false, List, [], ◌∷◌, length, slice_index, refl, sym, ap, ◌∙◌, arith, subst}
-use Rattle.std.specs.Prelude.{◌||◌, ◌&&◌, ◌==◌, nat_lt}
+use Rattle.std.proofs.Common.{◌≡◌, ℕ, suc, ◌+◌, ◌<◌, ◌≤◌, Bool, false, List, [], ◌∷◌, length, refl, sym, ap, arith, subst}
+use Rattle.std.specs.Prelude.{◌&&◌, ◌==◌, nat_lt}
 use Rattle.std.proofs.lemmas.Bool.Decides.{nat_tests}
 use Rattle.saphyr_input.specs.Indicators.{number_sign}
-use Rattle.saphyr_input.specs.Classes.{is_blank, is_break, is_yaml_non_break, carriage_return, line_feed, tab}
+use Rattle.saphyr_input.specs.Classes.{is_blank, is_break, is_yaml_non_break, carriage_return, tab}
 use Rattle.saphyr_scalar.specs.declared.scalar.position.Marker.{Marker}
 use Rattle.saphyr_scalar.specs.Views.Cursor.{along, next_line}
 use Rattle.yaml_laws.proofs.Flow.States.{moved, is_left_tab, past, past_comment, IsInk}
 use Rattle.yaml_laws.proofs.Flow.Places.{moved_index}
 use Rattle.saphyr_input.proofs.Basics.Characters.{no_return}
-use Rattle.yaml_laws.proofs.Flow.Gaps.{stops_tab}
+use Rattle.yaml_laws.proofs.Flow.GapWalks.{OverGap, over_gap, over_comment}
 
 -- ## By the characters that are passed
 
@@ -18,25 +18,6 @@ pub record GapCases (column : ℕ) (P : Marker → List ℕ → Marker × List �
   pub stays : (m : Marker) (t : List ℕ) → past column m t ≡ (m, t) → P m t (m, t)
   pub onward : (m : Marker) (c : ℕ) (cs : List ℕ) (r : Marker × List ℕ) → P (along m 1) cs r → P m (c ∷ cs) r
   pub line : (m : Marker) (c : ℕ) (cs : List ℕ) (r : Marker × List ℕ) → P (next_line m 1) cs r → P m (c ∷ cs) r
-
-step_kind : (column : ℕ) (P : Marker → List ℕ → Marker × List ℕ → Type 0) → GapCases column P
-    → (m : Marker) (c : ℕ) (cs : List ℕ) (is_tab is_white is_line is_sign : Bool) → stops_tab column m c cs ≡ is_tab
-    → (is_blank c || ((c == carriage_return) && (slice_index cs 0 == line_feed))) ≡ is_white → is_break c ≡ is_line
-    → (c == number_sign) ≡ is_sign
-    → P (along m 1) cs (past column (along m 1) cs) → P (next_line m 1) cs (past column (next_line m 1) cs)
-    → P (along m 1) cs (past_comment column (along m 1) cs) → P m (c ∷ cs) (past column m (c ∷ cs))
-step_kind column P steps m c cs true p q r t e f g on line sign =
-    let still : past column m (c ∷ cs) ≡ (m, c ∷ cs) = rw t refl in subst (P m (c ∷ cs)) (sym still)
-    (steps.stays m (c ∷ cs) still)
-step_kind column P steps m c cs false true q r t e f g on line sign =
-    rw (t, e) (steps.onward m c cs (past column (along m 1) cs) on)
-step_kind column P steps m c cs false false true r t e f g on line sign =
-    rw (t, e, f) (steps.line m c cs (past column (next_line m 1) cs) line)
-step_kind column P steps m c cs false false false true t e f g on line sign =
-    rw (t, e, f, g) (steps.onward m c cs (past_comment column (along m 1) cs) sign)
-step_kind column P steps m c cs false false false false t e f g on line sign =
-    let still : past column m (c ∷ cs) ≡ (m, c ∷ cs) = rw (t, e, f, g) refl in subst (P m (c ∷ cs)) (sym still)
-    (steps.stays m (c ∷ cs) still)
 
 pub no_left : (column : ℕ) (m : Marker) (c : ℕ) → is_blank c ≡ false → is_left_tab column m c ≡ false
 no_left column m c h = ap (λ (b : Bool). b && nat_lt m.col column) (no_tab c h)
@@ -59,40 +40,30 @@ ends_comment column m c cs e f =
     no_sign : (c : ℕ) → is_yaml_non_break c ≡ false → (c == number_sign) ≡ false
     no_sign c e = grind (arith, nat_tests)
 
-comment_step : (column : ℕ) (P : Marker → List ℕ → Marker × List ℕ → Type 0) → GapCases column P
-    → (m : Marker) (c : ℕ) (cs : List ℕ) (is_word is_return is_line : Bool)
-    → is_yaml_non_break c ≡ is_word → ((c == carriage_return) && (slice_index cs 0 == line_feed)) ≡ is_return
-    → is_break c ≡ is_line
-    → P (along m 1) cs (past_comment column (along m 1) cs) → P (along m 1) cs (past column (along m 1) cs)
-    → P (next_line m 1) cs (past column (next_line m 1) cs)
-    → P m (c ∷ cs) (past_comment column m (c ∷ cs))
-comment_step column P steps m c cs true q r e f g word on line =
-    rw e (steps.onward m c cs (past_comment column (along m 1) cs) word)
-comment_step column P steps m c cs false true r e f g word on line =
-    rw (e, f) (steps.onward m c cs (past column (along m 1) cs) on)
-comment_step column P steps m c cs false false true e f g word on line =
-    rw (e, f, g) (steps.line m c cs (past column (next_line m 1) cs) line)
-comment_step column P steps m c cs false false false e f g word on line =
-    rw (e, f, g) (steps.stays m (c ∷ cs) (ends_comment column m c cs e g))
+over_steps : (column : ℕ) (P : Marker → List ℕ → Marker × List ℕ → Type 0) → GapCases column P
+    → OverGap column (λ m t. P m t (past column m t)) (λ m t. P m t (past_comment column m t))
+over_steps column P steps =
+    record {
+      ends = λ m. steps.stays m [] refl;
+      tab = λ m c cs t. stays m c cs (rw t refl);
+      white = λ m c cs t e on. rw (t, e) (steps.onward m c cs (past column (along m 1) cs) on);
+      break = λ m c cs t e f on. rw (t, e, f) (steps.line m c cs (past column (next_line m 1) cs) on);
+      sign = λ m c cs t e f g on. rw (t, e, f, g) (steps.onward m c cs (past_comment column (along m 1) cs) on);
+      token = λ m c cs t e f g. stays m c cs (rw (t, e, f, g) refl);
+      comment_ends = λ m. steps.stays m [] refl;
+      word = λ m c cs e on. rw e (steps.onward m c cs (past_comment column (along m 1) cs) on);
+      return = λ m c cs e f on. rw (e, f) (steps.onward m c cs (past column (along m 1) cs) on);
+      line = λ m c cs e f g on. rw (e, f, g) (steps.line m c cs (past column (next_line m 1) cs) on);
+      other = λ m c cs e f g. rw (e, f, g) (steps.stays m (c ∷ cs) (ends_comment column m c cs e g));
+    }
+  where
+    stays : (m : Marker) (c : ℕ) (cs : List ℕ) → past column m (c ∷ cs) ≡ (m, c ∷ cs)
+        → P m (c ∷ cs) (past column m (c ∷ cs))
+    stays m c cs still = subst (P m (c ∷ cs)) (sym still) (steps.stays m (c ∷ cs) still)
 
-mutual
-  pub by_steps : (column : ℕ) (P : Marker → List ℕ → Marker × List ℕ → Type 0) → GapCases column P
-      → (m : Marker) (t : List ℕ) → P m t (past column m t)
-  by_steps column P steps m [] = steps.stays m [] refl
-  by_steps column P steps m (c ∷ cs) =
-      step_kind column P steps m c cs (stops_tab column m c cs) (is_blank c || ((c == 13) && (slice_index cs 0 == 10)))
-      (is_break c) (c == 35) refl refl refl refl
-      (by_steps column P steps (along m 1) cs) (by_steps column P steps (next_line m 1) cs)
-      (comment_by_steps column P steps (along m 1) cs)
-
-  comment_by_steps : (column : ℕ) (P : Marker → List ℕ → Marker × List ℕ → Type 0) → GapCases column P
-      → (m : Marker) (t : List ℕ) → P m t (past_comment column m t)
-  comment_by_steps column P steps m [] = steps.stays m [] refl
-  comment_by_steps column P steps m (c ∷ cs) =
-      comment_step column P steps m c cs (is_yaml_non_break c) ((c == 13) && (slice_index cs 0 == 10)) (is_break c) refl
-      refl refl
-      (comment_by_steps column P steps (along m 1) cs) (by_steps column P steps (along m 1) cs)
-      (by_steps column P steps (next_line m 1) cs)
+pub by_steps : (column : ℕ) (P : Marker → List ℕ → Marker × List ℕ → Type 0) → GapCases column P
+    → (m : Marker) (t : List ℕ) → P m t (past column m t)
+by_steps column P steps = over_gap (over_steps column P steps)
 
 -- nothing more is passed after what is passed
 pub past_again : (column : ℕ) (m : Marker) (t : List ℕ)
@@ -144,37 +115,8 @@ less_behind column ad m p o low =
     omega (arith, i, on, low)
 
 pub comment_shorter : (column : ℕ) (m : Marker) (t : List ℕ) → length (past_comment column m t).1 ≤ length t
-comment_shorter column m t = comment_by_steps column (λ m t r. length r.1 ≤ length t) (no_longer column) m t
+comment_shorter column = over_comment (over_steps column (λ m t r. length r.1 ≤ length t) (no_longer column))
 
 -- a token stops it
 pub past_ink : (column : ℕ) (m : Marker) (c : ℕ) (cs : List ℕ) → IsInk c → past column m (c ∷ cs) ≡ (m, c ∷ cs)
 past_ink column m c cs h = rw (no_left column m c h.blank, h.blank, h.break, h.comment, no_return c h.break) refl
-
--- no column is left of the first: blanks and tabs are passed
-pub past_inked : (m : Marker) (t : List ℕ) → is_blank (slice_index (past 0 m t).1 0) ≡ false
-past_inked m t = by_steps 0 (λ m t r. is_blank (slice_index r.1 0) ≡ false)
-    (record { stays = stays; onward = λ m c cs r p. p; line = λ m c cs r p. p }) m t
-  where
-    no_left_tab : (m : Marker) (c : ℕ) → is_left_tab 0 m c ≡ false
-    no_left_tab m c = none (c == 9) (nat_lt m.col 0) (no_less m.col)
-      where
-        no_less : (n : ℕ) → nat_lt n 0 ≡ false
-        no_less n = grind (arith, nat_tests)
-
-        none : (a b : Bool) → b ≡ false → (a && b) ≡ false
-        none true b e = e
-        none false b e = refl
-
-    by_blank : (m : Marker) (c : ℕ) (cs : List ℕ) (b : Bool) → is_blank c ≡ b → past 0 m (c ∷ cs) ≡ (m, c ∷ cs)
-        → is_blank c ≡ false
-    by_blank m c cs true e h =
-        let there : past 0 m (c ∷ cs) ≡ past 0 (along m 1) cs = rw (no_left_tab m c, e) refl in
-        let short = past_shorter 0 (along m 1) cs in
-        let same : length (past 0 (along m 1) cs).1 ≡ suc (length cs) =
-        ap (λ (z : Marker × List ℕ). length z.1) (sym there ∙ h) in
-        absurd (omega (arith, short, same))
-    by_blank m c cs false e h = e
-
-    stays : (m : Marker) (t : List ℕ) → past 0 m t ≡ (m, t) → is_blank (slice_index t 0) ≡ false
-    stays m [] e = refl
-    stays m (c ∷ cs) e = by_blank m c cs (is_blank c) refl e

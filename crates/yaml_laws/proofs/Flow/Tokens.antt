@@ -13,7 +13,7 @@ use Rattle.saphyr_scanner.specs.Steps.Core.{from_to, completed_step, Action, per
 use Rattle.saphyr_scanner.specs.Steps.Level.{Candidate, Level, is_block}
 use Rattle.saphyr_scanner.specs.Steps.Fetch.{step, state_behind_content, fetch_here, arrive, fetch}
 use Rattle.yaml_laws.proofs.InFlow.States.{Around, core_at, state_at, FlowMoment, moment, noted_core, noted, reach, reach_low, in_column, not_left, drops_far_key, key_left, left_in_flow, left_or_none, none_unrolls, ComesAround, comes}
-use Rattle.yaml_laws.proofs.Flow.States.{moved, past, IsClear, IsFresh, Since, KeptKey, keeping, Known, PassesNoting, PassesPiece, FitsAround, StandsBefore, crosses, is_filler_rest}
+use Rattle.yaml_laws.proofs.Flow.States.{moved, past, IsClear, IsFresh, Since, KeptKey, keeping, Known, PassesNoting, PassesPiece, FitsAround, StandsBefore, crosses}
 use Rattle.yaml_laws.proofs.Flow.Inks.{Begins}
 use Rattle.yaml_laws.proofs.Flow.Places.{moved_count, clear_here}
 use Rattle.yaml_laws.proofs.Flow.GapSteps.{past_ink, past_count}
@@ -26,8 +26,7 @@ use Rattle.saphyr_scanner.specs.Steps.Gap.{GapEnd, stop}
 use Rattle.saphyr_scanner.specs.Steps.Passing.{pass_gap, check_comment, behind_gap}
 use Rattle.saphyr_scanner.specs.Steps.State.{State, on_core, after_step}
 use Rattle.saphyr_scanner.specs.Steps.Unrolling.{unroll}
-use Rattle.yaml_laws.proofs.Flow.Gaps.{gap_past, no_tab_before}
-use Rattle.yaml_laws.proofs.InBlock.Gaps.{gap_broke}
+use Rattle.yaml_laws.proofs.InBlock.Untabbed.{gap_past}
 use Rattle.saphyr_input.proofs.Basics.Booleans.{and_false, and_or_false}
 use Rattle.saphyr_scanner.proofs.Gaps.{stop_here}
 
@@ -46,26 +45,18 @@ pub passes_gap : (around : Around) (s : Cursor) (x : Context) (k : Option Candid
     → is_blank (slice_index y 0) ≡ false → PassesGap around s x k ls a ad m y
 unfolding pass_gap check_comment
 passes_gap around s x k ls a ad m y here inked =
-    let g = gap_past around.indent s.mark s.blank_so_far false s.rest in
+    let g = gap_past around.indent s.mark s.blank_so_far s.rest in
     let stands = ap (λ (p : Marker × List ℕ). is_blank (slice_index p.1 0)) here ∙ inked in
     record {
       blank = g.still_blank;
-      allowed = (g.now_broke && is_block x) || a;
-      is = λ d. let there = g.is stands (reach around d) (reach_low around d) false
-          (no_tab_before (is_filler_rest s.rest))
-          ∙ ap (λ (p : Marker × List ℕ). stop p.0 g.still_blank g.now_broke false p.1) here
-          ∙ stop_here m g.still_blank g.now_broke y in
+      allowed = (crosses s.rest && is_block x) || a;
+      is = λ d. let there = g.is stands (reach around d) (reach_low around d)
+          ∙ ap (λ (p : Marker × List ℕ). stop p.0 g.still_blank (crosses s.rest) false p.1) here
+          ∙ stop_here m g.still_blank (crosses s.rest) y in
           ap (λ r. r >>= λ (p : GapEnd). check_comment (behind_gap (core_at around d s x k ls a ad) p)) there;
-      same = λ e. rw e (ap (λ (b : Bool). b || a) (and_false g.now_broke));
-      fresh = λ e h. let passed =
-          g.is stands 0 (none_less around.indent) false (no_tab_before (is_filler_rest s.rest))
-          ∙ stop_here (past around.indent s.mark s.rest).0 g.still_blank g.now_broke
-          (past around.indent s.mark s.rest).1 in
-          rw (gap_broke 0 s.mark s.blank_so_far s.rest _ passed ∙ h, e) refl;
+      same = λ e. rw e (ap (λ (b : Bool). b || a) (and_false (crosses s.rest)));
+      fresh = λ e h. rw (h, e) refl;
     }
-  where
-    none_less : (n : ℕ) → 0 ≤ n
-    none_less n = omega arith
 
 -- the text y begins with the next token, which is at m
 pub record Arrives (around : Around) (now : FlowMoment) (m : Marker) (y : List ℕ) : Type 0 where

@@ -16,7 +16,7 @@ use Rattle.yaml_laws.proofs.Flow.States.{moved, past, past_comment}
 use Rattle.yaml_laws.proofs.Flow.Places.{moved_append}
 use Rattle.yaml_laws.proofs.Flow.Gaps.{right_tab as no_left_tab}
 use Rattle.yaml_laws.proofs.Flow.Fillers.{right_tab, blanks_past, front_past, behind_is, spaces_are_blank}
-use Rattle.yaml_laws.proofs.InBlock.Gaps.{no_left}
+use Rattle.yaml_laws.proofs.Flow.GapWalks.{none_left}
 use Rattle.yaml_laws.proofs.InBlock.States.{tabbed, tabbed_comment, crosses, crosses_comment}
 use Rattle.std.proofs.lemmas.Bool.{or_parts}
 use Rattle.saphyr_input.specs.Indicators.{number_sign}
@@ -288,7 +288,7 @@ on_white : (m : Marker) (blank space : Bool) (c : ℕ) (cs : List ℕ)
     → ((c == 32) || ((c == carriage_return) && (slice_index cs 0 == line_feed))) ≡ true
     → Spaces (along m 1) blank true cs → Spaces m blank space (c ∷ cs)
 on_white m blank space c cs e white p =
-    record { still_blank = p.still_blank; some = p.some; is = rw (no_left m c, e, white) p.is; has = λ _. p.has refl }
+    record { still_blank = p.still_blank; some = p.some; is = rw (none_left m c, e, white) p.is; has = λ _. p.has refl }
 
 spaces_over_break : (m : Marker) (blank space : Bool) (c : ℕ) (cs : List ℕ)
     → (is_blank c || ((c == carriage_return) && (slice_index cs 0 == line_feed))) ≡ false → is_break c ≡ true
@@ -299,7 +299,7 @@ spaces_over_break m blank space c cs e f white p =
     record {
       still_blank = p.still_blank;
       some = p.some;
-      is = rw (no_left m c, e, f, white) p.is;
+      is = rw (none_left m c, e, f, white) p.is;
       has = λ _. p.has refl;
     }
 
@@ -310,7 +310,7 @@ on_sign : (m : Marker) (blank space : Bool) (c : ℕ) (cs : List ℕ)
     → SpacesBehind (along m 1) blank space cs
     → Spaces m blank space (c ∷ cs)
 on_sign m blank space c cs e f g white p =
-    record { still_blank = p.still_blank; some = p.some; is = rw (no_left m c, e, f, g, white) p.is; has = p.has }
+    record { still_blank = p.still_blank; some = p.some; is = rw (none_left m c, e, f, g, white) p.is; has = p.has }
 
 no_white : (c : ℕ) (r : Bool) → (is_blank c || r) ≡ false → ((c == 32) || r) ≡ false
 no_white c r e = sym (white_is c r (ink_no_tab c (or_parts (is_blank c) r e).0)) ∙ e
@@ -335,7 +335,7 @@ spaces_kind m blank space c cs false false true e f g clean on line sign =
     on_sign m blank space c cs e f g (no_white c ((c == 13) && (slice_index cs 0 == 10)) e) (sign (sym same ∙ clean))
 spaces_kind m blank space c cs false false false e f g clean on line sign =
     let white = no_white c ((c == 13) && (slice_index cs 0 == 10)) e in
-    record { still_blank = blank; some = space; is = rw (no_left m c, e, f, g, white) refl; has = λ h. h }
+    record { still_blank = blank; some = space; is = rw (none_left m c, e, f, g, white) refl; has = λ h. h }
 
 skips_in_word : (m : Marker) (blank space : Bool) (c : ℕ) (cs : List ℕ) → is_yaml_non_break c ≡ true
     → SpacesBehind (along m 1) blank space cs → SpacesBehind m blank space (c ∷ cs)

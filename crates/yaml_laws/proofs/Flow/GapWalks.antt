@@ -1,0 +1,81 @@
+-- A walk over what is between two tokens, character by character.
+use Rattle.std.proofs.Common.{◌≡◌, ℕ, Bool, true, false, List, [], ◌∷◌, refl, ap, ◌∙◌, arith}
+use Rattle.std.specs.Prelude.{◌&&◌, ◌==◌, not, nat_lt}
+use Rattle.std.proofs.lemmas.Bool.Decides.{nat_tests}
+use Rattle.saphyr_input.specs.Indicators.{number_sign}
+use Rattle.saphyr_input.specs.Classes.{is_break, is_yaml_non_break}
+use Rattle.saphyr_scalar.specs.declared.scalar.position.Marker.{Marker}
+use Rattle.saphyr_scalar.specs.Views.Cursor.{along, next_line}
+use Rattle.yaml_laws.proofs.Flow.Gaps.{stops_tab, is_return_at, is_white_at}
+use Rattle.yaml_laws.proofs.Flow.States.{is_left_tab, is_filler_rest}
+use Rattle.saphyr_input.proofs.Basics.Booleans.{clash, and_true_left}
+
+-- What holds of a text before a token, at a place (P), and of a text in a comment (Q), character by character. A tab
+-- left of the column ends the walk where a token is on its line.
+pub record OverGap (column : ℕ) (P Q : Marker → List ℕ → Type 0) : Type 0 where
+  pub ends : (m : Marker) → P m []
+  pub tab : (m : Marker) (c : ℕ) (cs : List ℕ) → stops_tab column m c cs ≡ true → P m (c ∷ cs)
+  pub white : (m : Marker) (c : ℕ) (cs : List ℕ) → stops_tab column m c cs ≡ false → is_white_at c cs ≡ true
+      → P (along m 1) cs → P m (c ∷ cs)
+  pub break : (m : Marker) (c : ℕ) (cs : List ℕ) → stops_tab column m c cs ≡ false → is_white_at c cs ≡ false
+      → is_break c ≡ true → P (next_line m 1) cs → P m (c ∷ cs)
+  pub sign : (m : Marker) (c : ℕ) (cs : List ℕ) → stops_tab column m c cs ≡ false → is_white_at c cs ≡ false
+      → is_break c ≡ false → (c == number_sign) ≡ true → Q (along m 1) cs → P m (c ∷ cs)
+  pub token : (m : Marker) (c : ℕ) (cs : List ℕ) → stops_tab column m c cs ≡ false → is_white_at c cs ≡ false
+      → is_break c ≡ false → (c == number_sign) ≡ false → P m (c ∷ cs)
+  pub comment_ends : (m : Marker) → Q m []
+  pub word : (m : Marker) (c : ℕ) (cs : List ℕ) → is_yaml_non_break c ≡ true → Q (along m 1) cs → Q m (c ∷ cs)
+  pub return : (m : Marker) (c : ℕ) (cs : List ℕ) → is_yaml_non_break c ≡ false → is_return_at c cs ≡ true
+      → P (along m 1) cs → Q m (c ∷ cs)
+  pub line : (m : Marker) (c : ℕ) (cs : List ℕ) → is_yaml_non_break c ≡ false → is_return_at c cs ≡ false
+      → is_break c ≡ true → P (next_line m 1) cs → Q m (c ∷ cs)
+  pub other : (m : Marker) (c : ℕ) (cs : List ℕ) → is_yaml_non_break c ≡ false → is_return_at c cs ≡ false
+      → is_break c ≡ false → Q m (c ∷ cs)
+
+by_kind : {column : ℕ} {P Q : Marker → List ℕ → Type 0} → OverGap column P Q → (m : Marker) (c : ℕ) (cs : List ℕ)
+    (is_tab is_white is_line is_sign : Bool) → stops_tab column m c cs ≡ is_tab → is_white_at c cs ≡ is_white
+    → is_break c ≡ is_line → (c == number_sign) ≡ is_sign → P (along m 1) cs → P (next_line m 1) cs
+    → Q (along m 1) cs → P m (c ∷ cs)
+by_kind over m c cs true p q r t e f g on line sign = over.tab m c cs t
+by_kind over m c cs false true q r t e f g on line sign = over.white m c cs t e on
+by_kind over m c cs false false true r t e f g on line sign = over.break m c cs t e f line
+by_kind over m c cs false false false true t e f g on line sign = over.sign m c cs t e f g sign
+by_kind over m c cs false false false false t e f g on line sign = over.token m c cs t e f g
+
+by_comment_kind : {column : ℕ} {P Q : Marker → List ℕ → Type 0} → OverGap column P Q → (m : Marker) (c : ℕ)
+    (cs : List ℕ) (is_word is_return is_line : Bool) → is_yaml_non_break c ≡ is_word → is_return_at c cs ≡ is_return
+    → is_break c ≡ is_line → Q (along m 1) cs → P (along m 1) cs → P (next_line m 1) cs → Q m (c ∷ cs)
+by_comment_kind over m c cs true q r e f g word on line = over.word m c cs e word
+by_comment_kind over m c cs false true r e f g word on line = over.return m c cs e f on
+by_comment_kind over m c cs false false true e f g word on line = over.line m c cs e f g line
+by_comment_kind over m c cs false false false e f g word on line = over.other m c cs e f g
+
+mutual
+  pub over_gap : {column : ℕ} {P Q : Marker → List ℕ → Type 0} → OverGap column P Q → (m : Marker) (t : List ℕ) → P m t
+  over_gap over m [] = over.ends m
+  over_gap {column} over m (c ∷ cs) =
+      by_kind over m c cs (stops_tab column m c cs) (is_white_at c cs) (is_break c) (c == 35) refl refl refl refl
+      (over_gap over (along m 1) cs) (over_gap over (next_line m 1) cs) (over_comment over (along m 1) cs)
+
+  pub over_comment : {column : ℕ} {P Q : Marker → List ℕ → Type 0} → OverGap column P Q → (m : Marker) (t : List ℕ)
+      → Q m t
+  over_comment over m [] = over.comment_ends m
+  over_comment over m (c ∷ cs) =
+      by_comment_kind over m c cs (is_yaml_non_break c) (is_return_at c cs) (is_break c) refl refl refl
+      (over_comment over (along m 1) cs) (over_gap over (along m 1) cs) (over_gap over (next_line m 1) cs)
+
+-- ## No column is left of the first
+
+pub none_left : (m : Marker) (c : ℕ) → is_left_tab 0 m c ≡ false
+none_left m c = ap (λ (b : Bool). (c == 9) && b) (no_less m.col) ∙ none (c == 9)
+  where
+    no_less : (n : ℕ) → nat_lt n 0 ≡ false
+    no_less n = grind (arith, nat_tests)
+
+    none : (b : Bool) → (b && false) ≡ false
+    none true = refl
+    none false = refl
+
+pub no_stop : (m : Marker) (c : ℕ) (cs : List ℕ) → stops_tab 0 m c cs ≡ true → ⊥
+no_stop m c cs h = clash (is_left_tab 0 m c) (and_true_left (is_left_tab 0 m c) (not (is_filler_rest cs)) h)
+    (none_left m c)
