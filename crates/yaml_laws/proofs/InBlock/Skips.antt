@@ -2,7 +2,7 @@
 use Rattle.std.proofs.Common.{◌≡◌, ℕ, zero, suc, ◌+◌, ◌≤◌, Bool, true, false, List, [], ◌∷◌, ◌++◌, slice_index, refl, sym, ap, ◌∙◌, arith, subst, append_assoc, append-nil, ◌⊎◌, inl, inr}
 use Rattle.std.specs.Prelude.{◌||◌, ◌&&◌, ◌==◌, if◌then◌else◌}
 use Rattle.std.proofs.lemmas.Bool.Decides.{nat_tests}
-use Rattle.saphyr_input.specs.Classes.{is_blank, is_break, is_yaml_non_break, carriage_return, line_feed}
+use Rattle.saphyr_input.specs.Classes.{is_blank, is_break, is_yaml_non_break, line_feed}
 use Rattle.saphyr_scalar.specs.declared.scalar.position.Marker.{Marker}
 use Rattle.saphyr_scalar.specs.Reading.BlockLines.{spaces}
 use Rattle.saphyr_scalar.specs.Views.Cursor.{along, next_line}
@@ -14,12 +14,11 @@ use Rattle.saphyr_scanner.specs.Steps.Gap.{is_tab_indentation}
 use Rattle.yaml_laws.specs.Grammar.BlockNodes.{Position, indent_at, IsGapAt}
 use Rattle.yaml_laws.proofs.Flow.States.{moved, past, past_comment}
 use Rattle.yaml_laws.proofs.Flow.Places.{moved_append}
-use Rattle.yaml_laws.proofs.Flow.Gaps.{right_tab as no_left_tab}
+use Rattle.yaml_laws.proofs.Flow.Gaps.{is_return_at, right_tab as no_left_tab}
 use Rattle.yaml_laws.proofs.Flow.Fillers.{right_tab, blanks_past, front_past, behind_is, spaces_are_blank}
-use Rattle.yaml_laws.proofs.Flow.GapWalks.{none_left}
+use Rattle.yaml_laws.proofs.Flow.GapWalks.{OverGap, over_gap, no_stop}
 use Rattle.yaml_laws.proofs.InBlock.States.{tabbed, tabbed_comment, crosses, crosses_comment}
 use Rattle.std.proofs.lemmas.Bool.{or_parts}
-use Rattle.saphyr_input.specs.Indicators.{number_sign}
 use Rattle.saphyr_input.proofs.Basics.Characters.{ink_no_tab}
 use Rattle.saphyr_input.proofs.Basics.Numbers.{le_next}
 use Rattle.saphyr_input.proofs.Basics.Booleans.{and_false}
@@ -263,18 +262,18 @@ rest_ends_clean (b ∷ bs) comment are k least m blank tab =
 
 -- ## After `?`
 
-record Spaces (m : Marker) (blank space : Bool) (t : List ℕ) : Type 0 where
+-- spaces end where what is passed does; some were found, if there were any before
+record SpacesTo (found : Bool) (end : gap.SpacesEnd) (r : Marker × List ℕ) : Type 0 where
   still_blank : Bool
   some : Bool
-  is : gap.end_of_spaces m blank space t ≡ gap.spaces_end (past 0 m t).0 still_blank some (past 0 m t).1
-  has : space ≡ true → some ≡ true
+  is : end ≡ gap.spaces_end r.0 still_blank some r.1
+  has : found ≡ true → some ≡ true
 
-record SpacesBehind (m : Marker) (blank space : Bool) (t : List ℕ) : Type 0 where
-  still_blank : Bool
-  some : Bool
-  is : gap.end_of_spaces_in_comment m blank space t ≡ gap.spaces_end (past_comment 0 m t).0 still_blank some
-      (past_comment 0 m t).1
-  has : space ≡ true → some ≡ true
+found_here : (found : Bool) {end : gap.SpacesEnd} {r : Marker × List ℕ} → SpacesTo true end r → SpacesTo found end r
+found_here found p = record { still_blank = p.still_blank; some = p.some; is = p.is; has = λ _. p.has refl }
+
+none_found : (m : Marker) (blank found : Bool) (t : List ℕ) → SpacesTo found (gap.spaces_end m blank found t) (m, t)
+none_found m blank found t = record { still_blank = blank; some = found; is = refl; has = λ h. h }
 
 space_alone : (c : ℕ) → (c == 9) ≡ false → is_blank c ≡ (c == 32)
 space_alone c h = grind (arith, nat_tests)
@@ -282,117 +281,33 @@ space_alone c h = grind (arith, nat_tests)
 white_is : (c : ℕ) (r : Bool) → (c == 9) ≡ false → (is_blank c || r) ≡ ((c == 32) || r)
 white_is c r h = ap (λ (b : Bool). b || r) (space_alone c h)
 
--- the same, where a character is known
-on_white : (m : Marker) (blank space : Bool) (c : ℕ) (cs : List ℕ)
-    → (is_blank c || ((c == carriage_return) && (slice_index cs 0 == line_feed))) ≡ true
-    → ((c == 32) || ((c == carriage_return) && (slice_index cs 0 == line_feed))) ≡ true
-    → Spaces (along m 1) blank true cs → Spaces m blank space (c ∷ cs)
-on_white m blank space c cs e white p =
-    record { still_blank = p.still_blank; some = p.some; is = rw (none_left m c, e, white) p.is; has = λ _. p.has refl }
-
-spaces_over_break : (m : Marker) (blank space : Bool) (c : ℕ) (cs : List ℕ)
-    → (is_blank c || ((c == carriage_return) && (slice_index cs 0 == line_feed))) ≡ false → is_break c ≡ true
-    → ((c == 32) || ((c == carriage_return) && (slice_index cs 0 == line_feed))) ≡ false
-    → Spaces (next_line m 1) true true cs
-    → Spaces m blank space (c ∷ cs)
-spaces_over_break m blank space c cs e f white p =
-    record {
-      still_blank = p.still_blank;
-      some = p.some;
-      is = rw (none_left m c, e, f, white) p.is;
-      has = λ _. p.has refl;
-    }
-
-on_sign : (m : Marker) (blank space : Bool) (c : ℕ) (cs : List ℕ)
-    → (is_blank c || ((c == carriage_return) && (slice_index cs 0 == line_feed))) ≡ false → is_break c ≡ false
-    → (c == number_sign) ≡ true
-    → ((c == 32) || ((c == carriage_return) && (slice_index cs 0 == line_feed))) ≡ false
-    → SpacesBehind (along m 1) blank space cs
-    → Spaces m blank space (c ∷ cs)
-on_sign m blank space c cs e f g white p =
-    record { still_blank = p.still_blank; some = p.some; is = rw (none_left m c, e, f, g, white) p.is; has = p.has }
-
 no_white : (c : ℕ) (r : Bool) → (is_blank c || r) ≡ false → ((c == 32) || r) ≡ false
 no_white c r e = sym (white_is c r (ink_no_tab c (or_parts (is_blank c) r e).0)) ∙ e
 
-spaces_kind : (m : Marker) (blank space : Bool) (c : ℕ) (cs : List ℕ) (is_white is_line is_sign : Bool)
-    → (is_blank c || ((c == carriage_return) && (slice_index cs 0 == line_feed))) ≡ is_white → is_break c ≡ is_line
-    → (c == number_sign) ≡ is_sign
-    → has_tab (c ∷ cs) ≡ false
-    → (has_tab cs ≡ false → Spaces (along m 1) blank true cs)
-    → (has_tab cs ≡ false → Spaces (next_line m 1) true true cs)
-    → (comment_has_tab cs ≡ false → SpacesBehind (along m 1) blank space cs) → Spaces m blank space (c ∷ cs)
-spaces_kind m blank space c cs true q r e f g clean on line sign =
-    let whole : has_tab (c ∷ cs) ≡ ((c == 9) || has_tab cs) = rw e refl in
-    let n = or_parts (c == 9) (has_tab cs) (sym whole ∙ clean) in
-    on_white m blank space c cs e (sym (white_is c ((c == 13) && (slice_index cs 0 == 10)) n.0) ∙ e) (on n.1)
-spaces_kind m blank space c cs false true r e f g clean on line sign =
-    let same : has_tab (c ∷ cs) ≡ has_tab cs = rw (e, f) refl in
-    spaces_over_break m blank space c cs e f (no_white c ((c == 13) && (slice_index cs 0 == 10)) e)
-    (line (sym same ∙ clean))
-spaces_kind m blank space c cs false false true e f g clean on line sign =
-    let same : has_tab (c ∷ cs) ≡ comment_has_tab cs = rw (e, f, g) refl in
-    on_sign m blank space c cs e f g (no_white c ((c == 13) && (slice_index cs 0 == 10)) e) (sign (sym same ∙ clean))
-spaces_kind m blank space c cs false false false e f g clean on line sign =
-    let white = no_white c ((c == 13) && (slice_index cs 0 == 10)) e in
-    record { still_blank = blank; some = space; is = rw (none_left m c, e, f, g, white) refl; has = λ h. h }
-
-skips_in_word : (m : Marker) (blank space : Bool) (c : ℕ) (cs : List ℕ) → is_yaml_non_break c ≡ true
-    → SpacesBehind (along m 1) blank space cs → SpacesBehind m blank space (c ∷ cs)
-skips_in_word m blank space c cs e p = record {
-  still_blank = p.still_blank;
-  some = p.some;
-  is = rw e p.is;
-  has = p.has;
-}
-
-behind_return : (m : Marker) (blank space : Bool) (c : ℕ) (cs : List ℕ) → is_yaml_non_break c ≡ false
-    → ((c == carriage_return) && (slice_index cs 0 == line_feed)) ≡ true → Spaces (along m 1) blank true cs
-    → SpacesBehind m blank space (c ∷ cs)
-behind_return m blank space c cs e f p =
-    record { still_blank = p.still_blank; some = p.some; is = rw (e, f) p.is; has = λ _. p.has refl }
-
-skips_behind_line : (m : Marker) (blank space : Bool) (c : ℕ) (cs : List ℕ) → is_yaml_non_break c ≡ false
-    → ((c == carriage_return) && (slice_index cs 0 == line_feed)) ≡ false → is_break c ≡ true
-    → Spaces (next_line m 1) true true cs → SpacesBehind m blank space (c ∷ cs)
-skips_behind_line m blank space c cs e f g p =
-    record { still_blank = p.still_blank; some = p.some; is = rw (e, f, g) p.is; has = λ _. p.has refl }
-
-behind_kind : (m : Marker) (blank space : Bool) (c : ℕ) (cs : List ℕ) (is_word is_return is_line : Bool)
-    → is_yaml_non_break c ≡ is_word → ((c == carriage_return) && (slice_index cs 0 == line_feed)) ≡ is_return
-    → is_break c ≡ is_line
-    → comment_has_tab (c ∷ cs) ≡ false
-    → (comment_has_tab cs ≡ false → SpacesBehind (along m 1) blank space cs)
-    → (has_tab cs ≡ false → Spaces (along m 1) blank true cs)
-    → (has_tab cs ≡ false → Spaces (next_line m 1) true true cs) → SpacesBehind m blank space (c ∷ cs)
-behind_kind m blank space c cs true q r e f g clean word on line =
-    let same : comment_has_tab (c ∷ cs) ≡ comment_has_tab cs = rw e refl in
-    skips_in_word m blank space c cs e (word (sym same ∙ clean))
-behind_kind m blank space c cs false true r e f g clean word on line =
-    let same : comment_has_tab (c ∷ cs) ≡ has_tab cs = rw (e, f) refl in
-    behind_return m blank space c cs e f (on (sym same ∙ clean))
-behind_kind m blank space c cs false false true e f g clean word on line =
-    let same : comment_has_tab (c ∷ cs) ≡ has_tab cs = rw (e, f, g) refl in
-    skips_behind_line m blank space c cs e f g (line (sym same ∙ clean))
-behind_kind m blank space c cs false false false e f g clean word on line =
-    record { still_blank = blank; some = space; is = rw (e, f, g) refl; has = λ h. h }
-
-mutual
-  spaces_are : (m : Marker) (blank space : Bool) (t : List ℕ) → has_tab t ≡ false → Spaces m blank space t
-  spaces_are m blank space [] clean = record { still_blank = blank; some = space; is = refl; has = λ h. h }
-  spaces_are m blank space (c ∷ cs) clean =
-      spaces_kind m blank space c cs (is_blank c || ((c == 13) && (slice_index cs 0 == 10))) (is_break c) (c == 35) refl
-      refl refl clean
-      (λ k. spaces_are (along m 1) blank true cs k) (λ k. spaces_are (next_line m 1) true true cs k)
-      (λ k. behind_are (along m 1) blank space cs k)
-
-  behind_are : (m : Marker) (blank space : Bool) (t : List ℕ) → comment_has_tab t ≡ false → SpacesBehind m blank space t
-  behind_are m blank space [] clean = record { still_blank = blank; some = space; is = refl; has = λ h. h }
-  behind_are m blank space (c ∷ cs) clean =
-      behind_kind m blank space c cs (is_yaml_non_break c) ((c == 13) && (slice_index cs 0 == 10)) (is_break c) refl
-      refl refl clean
-      (λ k. behind_are (along m 1) blank space cs k) (λ k. spaces_are (along m 1) blank true cs k)
-      (λ k. spaces_are (next_line m 1) true true cs k)
+over_spaces : OverGap 0
+    (λ m t. (blank found : Bool) → has_tab t ≡ false
+    → SpacesTo found (gap.end_of_spaces m blank found t) (past 0 m t))
+    (λ m t. (blank found : Bool) → comment_has_tab t ≡ false
+    → SpacesTo found (gap.end_of_spaces_in_comment m blank found t) (past_comment 0 m t))
+over_spaces =
+    record {
+      ends = λ m blank found clean. none_found m blank found [];
+      tab = λ m c cs t. absurd (no_stop m c cs t);
+      white = λ m c cs t e on blank found clean. let n = or_parts (c == 9) (has_tab cs) (rw e at clean) in
+          rw (t, e, sym (white_is c (is_return_at c cs) n.0) ∙ e) (found_here found (on blank true n.1));
+      break = λ m c cs t e f on blank found clean. rw (t, e, f, no_white c (is_return_at c cs) e)
+          (found_here found (on true true (rw (e, f) at clean)));
+      sign = λ m c cs t e f g on blank found clean. rw (t, e, f, g, no_white c (is_return_at c cs) e)
+          (on blank found (rw (e, f, g) at clean));
+      token = λ m c cs t e f g blank found clean. rw (t, e, f, g, no_white c (is_return_at c cs) e)
+          (none_found m blank found (c ∷ cs));
+      comment_ends = λ m blank found clean. none_found m blank found [];
+      word = λ m c cs e on blank found clean. rw e (on blank found (rw e at clean));
+      return = λ m c cs e f on blank found clean. rw (e, f) (found_here found (on blank true (rw (e, f) at clean)));
+      line = λ m c cs e f g on blank found clean. rw (e, f, g)
+          (found_here found (on true true (rw (e, f, g) at clean)));
+      other = λ m c cs e f g blank found clean. rw (e, f, g) (none_found m blank found (c ∷ cs));
+    }
 
 -- what a `?` passes: something, up to the next token
 pub spaces_reach : (m : Marker) (blank : Bool) (c : ℕ) (t : List ℕ) → (c ≡ 32) ⊎ (c ≡ line_feed)
@@ -404,7 +319,7 @@ spaces_reach m blank c t first clean = by_first first
     from : (n : Marker) (b : Bool) → has_tab t ≡ false
         → (some : Bool) × (gap.end_of_spaces n b true t ≡ gap.spaces_end (past 0 n t).0 some true (past 0 n t).1)
     from n b none =
-        let p = spaces_are n b true t none in (
+        let p = over_gap over_spaces n t b true none in (
           p.still_blank,
           p.is ∙ ap (λ (s : Bool). gap.spaces_end (past 0 n t).0 p.still_blank s (past 0 n t).1)
               (p.has refl),

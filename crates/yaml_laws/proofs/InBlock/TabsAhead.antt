@@ -15,8 +15,13 @@ use Rattle.saphyr_input.specs.Indicators.{number_sign}
 use Rattle.saphyr_scalar.specs.Spelling.Tag.{AreIn}
 use Rattle.scalar_laws.specs.Spelling.Spaces.{IsFiller, AreEach, joined_pieces, IsComment, IsFillerLine, IsLastFiller}
 use Rattle.yaml_laws.proofs.Flow.Spaces.{white_no_sign, break_no_sign}
+use Rattle.yaml_laws.proofs.Flow.GapWalks.{OverGap, over_gap, no_stop}
+use Rattle.saphyr_input.proofs.Basics.Characters.{non_break_no_break, return_breaks}
 use Rattle.yaml_laws.proofs.Documents.Lines.{filler_line}
 use Rattle.saphyr_input.proofs.Basics.Booleans.{by_test}
+
+abbrev text_start : Marker
+text_start = record { index = 0; line = 1; col = 0 }
 
 -- whether a character leads on to the next token
 abbrev leads_on : ℕ → Bool
@@ -37,62 +42,41 @@ break_leads c e = grind (arith, nat_tests)
 sign_leads : (c : ℕ) → (c == number_sign) ≡ true → leads_on c ≡ true
 sign_leads c e = grind (arith, nat_tests)
 
-ahead_kind : (c : ℕ) (cs : List ℕ) (is_white is_line is_sign : Bool)
-    → (is_blank c || ((c == carriage_return) && (slice_index cs 0 == line_feed))) ≡ is_white → is_break c ≡ is_line
-    → (c == number_sign) ≡ is_sign
-    → has_tab_ahead false (c ∷ cs) ≡ false → (has_tab_ahead false cs ≡ false → has_tab cs ≡ false)
-    → (has_tab_ahead true cs ≡ false → comment_has_tab cs ≡ false)
-    → has_tab (c ∷ cs) ≡ false
-ahead_kind c cs true q r e f g h on sign =
-    let n = or_parts (c == 9) (leads_on c && has_tab_ahead (c == 35) cs) h in
-    let left = and_then (leads_on c) (has_tab_ahead (c == 35) cs) (white_leads c (slice_index cs 0 == 10) e n.0) n.1 in
-    let here = ap (λ (b : Bool). has_tab_ahead b cs) (sym (white_no_sign c (slice_index cs 0 == 10) e)) in
-    rw (e, n.0) (on (here ∙ left))
-ahead_kind c cs false true r e f g h on sign =
-    let n = or_parts (c == 9) (leads_on c && has_tab_ahead (c == 35) cs) h in
-    let left = and_then (leads_on c) (has_tab_ahead (c == 35) cs) (break_leads c f) n.1 in
-    let here = ap (λ (b : Bool). has_tab_ahead b cs) (sym (break_no_sign c f)) in
-    rw (e, f) (on (here ∙ left))
-ahead_kind c cs false false true e f g h on sign =
-    let n = or_parts (c == 9) (leads_on c && has_tab_ahead (c == 35) cs) h in
-    let left = and_then (leads_on c) (has_tab_ahead (c == 35) cs) (sign_leads c g) n.1 in
-    rw (e, f, g) (sign (ap (λ (b : Bool). has_tab_ahead b cs) (sym g) ∙ left))
-ahead_kind c cs false false false e f g h on sign = rw (e, f, g) refl
+-- the rest after a character that leads on
+ahead : (c : ℕ) (cs : List ℕ) (sign : Bool) → (c == number_sign) ≡ sign → leads_on c ≡ true
+    → (leads_on c && has_tab_ahead (c == number_sign) cs) ≡ false → has_tab_ahead sign cs ≡ false
+ahead c cs sign e f h = ap (λ (b : Bool). has_tab_ahead b cs) (sym e)
+    ∙ and_then (leads_on c) (has_tab_ahead (c == 35) cs) f h
 
-tabs_ahead_of_comment : (c : ℕ) (cs : List ℕ) (is_word is_return is_line : Bool) → is_yaml_non_break c ≡ is_word
-    → ((c == carriage_return) && (slice_index cs 0 == line_feed)) ≡ is_return → is_break c ≡ is_line
-    → has_tab_ahead true (c ∷ cs) ≡ false
-    → (has_tab_ahead true cs ≡ false → comment_has_tab cs ≡ false)
-    → (has_tab_ahead false cs ≡ false → has_tab cs ≡ false)
-    → comment_has_tab (c ∷ cs) ≡ false
-tabs_ahead_of_comment c cs true q r e f g h word on =
-    rw e (word (ap (λ (b : Bool). has_tab_ahead (not b) cs) (sym (no_break c e)) ∙ h))
-  where
-    no_break : (c : ℕ) → is_yaml_non_break c ≡ true → is_break c ≡ false
-    no_break c e = grind (arith, nat_tests)
-tabs_ahead_of_comment c cs false true r e f g h word on =
-    rw (e, f) (on (ap (λ (b : Bool). has_tab_ahead (not b) cs) (sym (returns c (slice_index cs 0 == 10) f)) ∙ h))
-  where
-    returns : (c : ℕ) (b : Bool) → ((c == carriage_return) && b) ≡ true → is_break c ≡ true
-    returns c true e = grind (arith, nat_tests)
-    returns c false e = grind (arith, nat_tests)
-tabs_ahead_of_comment c cs false false true e f g h word on =
-    rw (e, f, g) (on (ap (λ (b : Bool). has_tab_ahead (not b) cs) (sym g) ∙ h))
-tabs_ahead_of_comment c cs false false false e f g h word on = rw (e, f, g) refl
+-- the rest after a character of a comment
+ahead_of_comment : (c : ℕ) (cs : List ℕ) (ends : Bool) → is_break c ≡ ends → has_tab_ahead true (c ∷ cs) ≡ false
+    → has_tab_ahead (not ends) cs ≡ false
+ahead_of_comment c cs ends e h = ap (λ (b : Bool). has_tab_ahead (not b) cs) (sym e) ∙ h
 
-mutual
-  pub no_tab_ahead : (t : List ℕ) → has_tab_ahead false t ≡ false → has_tab t ≡ false
-  no_tab_ahead [] h = refl
-  no_tab_ahead (c ∷ cs) h =
-      ahead_kind c cs (is_blank c || ((c == 13) && (slice_index cs 0 == 10))) (is_break c) (c == 35) refl refl refl h
-      (λ k. no_tab_ahead cs k) (λ k. none_in_comment cs k)
+over_ahead : OverGap 0 (λ m t. has_tab_ahead false t ≡ false → has_tab t ≡ false)
+    (λ m t. has_tab_ahead true t ≡ false → comment_has_tab t ≡ false)
+over_ahead =
+    record {
+      ends = λ m h. refl;
+      tab = λ m c cs t. absurd (no_stop m c cs t);
+      white = λ m c cs t e on h. let n = or_parts (c == 9) (leads_on c && has_tab_ahead (c == 35) cs) h in
+          rw (e, n.0) (on (ahead c cs false (white_no_sign c (slice_index cs 0 == 10) e)
+          (white_leads c (slice_index cs 0 == 10) e n.0) n.1));
+      break = λ m c cs t e f on h. let n = or_parts (c == 9) (leads_on c && has_tab_ahead (c == 35) cs) h in
+          rw (e, f) (on (ahead c cs false (break_no_sign c f) (break_leads c f) n.1));
+      sign = λ m c cs t e f g on h. let n = or_parts (c == 9) (leads_on c && has_tab_ahead (c == 35) cs) h in
+          rw (e, f, g) (on (ahead c cs true g (sign_leads c g) n.1));
+      token = λ m c cs t e f g h. rw (e, f, g) refl;
+      comment_ends = λ m h. refl;
+      word = λ m c cs e on h. rw e (on (ahead_of_comment c cs false (non_break_no_break c e) h));
+      return = λ m c cs e f on h. rw (e, f)
+          (on (ahead_of_comment c cs true (return_breaks c (slice_index cs 0 == 10) f) h));
+      line = λ m c cs e f g on h. rw (e, f, g) (on (ahead_of_comment c cs true g h));
+      other = λ m c cs e f g h. rw (e, f, g) refl;
+    }
 
-  none_in_comment : (t : List ℕ) → has_tab_ahead true t ≡ false → comment_has_tab t ≡ false
-  none_in_comment [] h = refl
-  none_in_comment (c ∷ cs) h =
-      tabs_ahead_of_comment c cs (is_yaml_non_break c) ((c == 13) && (slice_index cs 0 == 10)) (is_break c) refl refl
-      refl h
-      (λ k. none_in_comment cs k) (λ k. no_tab_ahead cs k)
+pub no_tab_ahead : (t : List ℕ) → has_tab_ahead false t ≡ false → has_tab t ≡ false
+no_tab_ahead = over_gap over_ahead text_start
 
 -- ## Where more text follows
 
@@ -132,9 +116,6 @@ same_ahead true m (c ∷ cs) o more some e h =
 same_ahead false m (c ∷ cs) o more some e h =
     ap (λ (b : Bool). (c == 9) || (leads_on c && b))
     (same_ahead (c == 35) (behind_character m c) cs o more (λ k. column_behind_character m c (sign_no_feed c k)) e h)
-
-abbrev text_start : Marker
-text_start = record { index = 0; line = 1; col = 0 }
 
 pub tells_behind : (t o more : List ℕ) → ((m : Marker) → (moved m t).col ≡ 0) → TellsTabs more o
     → TellsTabs more (t ++ o)

@@ -1,10 +1,10 @@
 -- The node of a document is read (YAML 1.2.2, chapter 9).
-use Rattle.std.proofs.Common.{◌≡◌, ℕ, ◌+◌, ◌≤◌, Bool, true, false, List, [], ◌∷◌, ◌++◌, length, slice_index, refl, sym, ap, ◌∙◌, arith, subst, inl, inr}
+use Rattle.std.proofs.Common.{◌≡◌, ℕ, ◌+◌, ◌≤◌, Bool, true, false, List, [], ◌∷◌, ◌++◌, length, refl, sym, ap, ◌∙◌, arith, subst, inl, inr}
 use Rattle.std.specs.Prelude.{◌||◌, ◌&&◌, ◌==◌, nat_le, Option, None}
 use Rattle.std.proofs.lemmas.Bool.Decides.{nat_tests}
-use Rattle.saphyr_input.specs.Classes.{is_blank, is_break, is_yaml_non_break, line_feed, carriage_return}
+use Rattle.saphyr_input.specs.Classes.{line_feed}
 use Rattle.saphyr_scalar.specs.declared.scalar.position.Marker.{Marker}
-use Rattle.saphyr_scalar.specs.Views.Cursor.{◌>>=◌, along, next_line}
+use Rattle.saphyr_scalar.specs.Views.Cursor.{◌>>=◌, along}
 use Rattle.saphyr_scanner.specs.Steps.Core.{is_too_far}
 use Rattle.saphyr_scanner.specs.Steps.Level.{Candidate}
 use Rattle.saphyr_scanner.specs.Steps.Queue.{Place}
@@ -21,8 +21,9 @@ use Rattle.yaml_laws.proofs.Flow.Places.{behind_character, moved_count}
 use Rattle.yaml_laws.proofs.Flow.GapSteps.{past_again}
 use Rattle.yaml_laws.proofs.InBlock.LineStarts.{fed_marks, last_marks}
 use Rattle.yaml_laws.proofs.Documents.Stands.{AtLine, Lined, OffLine, StandsInStream}
-use Rattle.yaml_laws.proofs.InBlock.States.{Moment, root, moment_at, state_of, tabbed, tabbed_comment, crosses, IsStop, is_compact, IsPlaced, Before}
+use Rattle.yaml_laws.proofs.InBlock.States.{Moment, root, moment_at, state_of, tabbed, crosses, IsStop, is_compact, IsPlaced, Before}
 use Rattle.yaml_laws.proofs.InBlock.Gaps.{past_stops}
+use Rattle.yaml_laws.proofs.InBlock.Untabbed.{settles}
 use Rattle.yaml_laws.proofs.InBlock.Follows.{goes_alike, left_key, left_again, lands as land, arrives_at, stays_open}
 use Rattle.yaml_laws.proofs.InBlock.Closing.{ended_alike, stream_ends}
 use Rattle.yaml_laws.proofs.InBlock.Lines.{FitsOnLines, moved_lined}
@@ -32,8 +33,6 @@ use Rattle.yaml_laws.proofs.InBlock.Parts.{StartsLine, starts_behind}
 use Rattle.yaml_laws.proofs.InBlock.Nodes.{reads_node}
 use Rattle.saphyr_scalar.proofs.Given.{cursor_at}
 use Rattle.std.proofs.lemmas.Bool.{eq-eqb}
-use Rattle.saphyr_input.specs.Indicators.{number_sign}
-use Rattle.saphyr_scanner.proofs.Gaps.{no_tab_indentation}
 use Rattle.yaml_laws.proofs.InBlock.Documents.Ends.{HasNoReturn, Lands, IsPlainBehind}
 
 -- ## The text of a node is clear
@@ -128,42 +127,9 @@ flat m y blank key a ad deeper ps stop near ends =
     ∙ ap fetch_here (stays_open root false m y blank key a ad d ps (omega arith)) in
     arrived deeper ∙ flat_here m y blank key a ad (deeper && nat_le 0 m.col) ps ends ∙ sym (arrived false)
 
-untabbed_kind : (m : Marker) (blank : Bool) (c : ℕ) (cs : List ℕ) (is_white is_line is_sign : Bool)
-    → (is_blank c || ((c == carriage_return) && (slice_index cs 0 == line_feed))) ≡ is_white → is_break c ≡ is_line
-    → (c == number_sign) ≡ is_sign
-    → tabbed 0 (along m 1) blank false cs ≡ false → tabbed 0 (next_line m 1) true false cs ≡ false
-    → tabbed_comment 0 (along m 1) blank false cs ≡ false → tabbed 0 m blank false (c ∷ cs) ≡ false
-untabbed_kind m blank c cs true q r e f g on line sign =
-    rw e (ap (λ (b : Bool). tabbed 0 (along m 1) blank b cs) (no_tab_indentation m blank c) ∙ on)
-untabbed_kind m blank c cs false true r e f g on line sign = rw (e, f) line
-untabbed_kind m blank c cs false false true e f g on line sign = rw (e, f, g) sign
-untabbed_kind m blank c cs false false false e f g on line sign = rw (e, f, g) refl
-
-tabbed_over_comment : (m : Marker) (blank : Bool) (c : ℕ) (cs : List ℕ) (is_word is_return is_line : Bool)
-    → is_yaml_non_break c ≡ is_word → ((c == carriage_return) && (slice_index cs 0 == line_feed)) ≡ is_return
-    → is_break c ≡ is_line
-    → tabbed_comment 0 (along m 1) blank false cs ≡ false → tabbed 0 (along m 1) blank false cs ≡ false
-    → tabbed 0 (next_line m 1) true false cs ≡ false → tabbed_comment 0 m blank false (c ∷ cs) ≡ false
-tabbed_over_comment m blank c cs true q r e f g word on line = rw e word
-tabbed_over_comment m blank c cs false true r e f g word on line = rw (e, f) on
-tabbed_over_comment m blank c cs false false true e f g word on line = rw (e, f, g) line
-tabbed_over_comment m blank c cs false false false e f g word on line = rw (e, f, g) refl
-
 -- at the root no tab is left of what is enclosed
-mutual
-  untabbed : (m : Marker) (blank : Bool) (t : List ℕ) → tabbed 0 m blank false t ≡ false
-  untabbed m blank [] = refl
-  untabbed m blank (c ∷ cs) =
-      untabbed_kind m blank c cs (is_blank c || ((c == 13) && (slice_index cs 0 == 10))) (is_break c) (c == 35) refl
-      refl refl (untabbed (along m 1) blank cs) (untabbed (next_line m 1) true cs)
-      (comment_untabbed (along m 1) blank cs)
-
-  comment_untabbed : (m : Marker) (blank : Bool) (t : List ℕ) → tabbed_comment 0 m blank false t ≡ false
-  comment_untabbed m blank [] = refl
-  comment_untabbed m blank (c ∷ cs) =
-      tabbed_over_comment m blank c cs (is_yaml_non_break c) ((c == 13) && (slice_index cs 0 == 10)) (is_break c) refl
-      refl
-      refl (comment_untabbed (along m 1) blank cs) (untabbed (along m 1) blank cs) (untabbed (next_line m 1) true cs)
+untabbed : (m : Marker) (blank : Bool) (t : List ℕ) → tabbed 0 m blank false t ≡ false
+untabbed m blank t = (settles 0 m t (past_stops m t)).1 0 (omega arith) blank
 
 sum_within : (i l j k limit : ℕ) → i + l ≡ j + k → j + k ≤ limit → i + l ≤ limit
 sum_within i l j k limit e h = omega (arith, e, h)
