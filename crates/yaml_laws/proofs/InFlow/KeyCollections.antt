@@ -20,8 +20,8 @@ use Rattle.saphyr_scanner.proofs.Leads.{LeadsTo, stay, onward, leads_on}
 use Rattle.yaml_laws.proofs.InFlow.States.{Around, core_at, state_at, drops_far_key, left_in_flow, behind_key, opening_steps_open, open_collection_gives, close_collection_gives, deepened, moment}
 use Rattle.yaml_laws.proofs.InFlow.OnLine.{separation_of_blanks}
 use Rattle.yaml_laws.proofs.InFlow.KeyLines.{Ready, keeps_near_key}
-use Rattle.yaml_laws.proofs.InFlow.KeyTokens.{InKey, in_near, in_back, in_right, in_limit, in_so, TokensAlong}
-use Rattle.yaml_laws.proofs.InFlow.KeyScalars.{Blanks, colon_ink, colon_text, colon_after}
+use Rattle.yaml_laws.proofs.InFlow.KeyTokens.{InKey, in_near, in_back, in_right, in_limit, in_so}
+use Rattle.yaml_laws.proofs.InFlow.KeyScalars.{Blanks, colon_ink, colon_text, colon_after, ReadsKey}
 use Rattle.yaml_laws.proofs.Flow.States.{moved, past, IsParted}
 use Rattle.yaml_laws.proofs.Flow.Places.{moved_append, moved_index, clear_front}
 use Rattle.yaml_laws.proofs.Flow.GapSteps.{past_ink}
@@ -180,15 +180,13 @@ all_told : (opens closes : Kind) (ts ends : List Kind)
     → (opens ∷ []) ++ (ts ++ (ends ++ closes ∷ [])) ≡ opens ∷ ((ts ++ ends) ++ closes ∷ [])
 all_told opens closes ts ends = ap (λ (x : List Kind). opens ∷ x) (sym (append_assoc ts ends (closes ∷ [])))
 
-pub collection_along : (around : Around) → around.pending ≡ around.required
-    → (start : State) (Is : List Kind → Type 0) (b : Brackets) → AreBrackets b
-    → (k : Candidate) (qs : List Place) (w inside : List ℕ) (n : Blanks) (r : List ℕ) (e : Marker)
-    (ad : ℕ) → IsSeparation around.indent w → IsParted around.indent (w ++ (inside ++ (b.closing ∷ colon_text n r)))
-    → InKey around k e (bracket_text b w inside ++ n.text) (colon ∷ r) → ad ≤ e.index
-    → Ready around start k (bracket_text b w inside ++ colon_text n r) e ad qs
-    → RunsInside (calmed around) Is b context.Block [] (moved e (b.opening ∷ w)) inside (colon_text n r)
-    → TokensAlong around start k qs (AreBracketed b Is) (colon_after e (bracket_text b w inside) n) (colon ∷ r)
-collection_along around same start Is b are k qs w inside n r e ad parts parted text low ready run =
+pub collection_along : (around : Around) → around.pending ≡ around.required → (Is : List Kind → Type 0) (b : Brackets)
+    → AreBrackets b → (w inside : List ℕ) (n : Blanks) (r : List ℕ) → IsSeparation around.indent w
+    → IsParted around.indent (w ++ (inside ++ (b.closing ∷ colon_text n r)))
+    → ((k : Candidate) (e : Marker) → InKey around k e (bracket_text b w inside ++ n.text) (colon ∷ r)
+    → RunsInside (calmed around) Is b context.Block [] (moved e (b.opening ∷ w)) inside (colon_text n r))
+    → ReadsKey around (AreBracketed b Is) (bracket_text b w inside) n.text r
+collection_along around same Is b are w inside n r parts parted runs start k qs e ad text low ready =
     let o = colon_text n r in
     let close = b.closing ∷ [] in
     let o1 = w ++ (inside ++ (b.closing ∷ o)) in
@@ -219,7 +217,7 @@ collection_along around same start Is b are k qs w inside n r e ad parts parted 
     let new1 = token_place e first.there.mark b.opens ∷ [] in
     let i1 = moved_index e (b.opening ∷ w) in
     let i2 = moved_index here inside in
-    let in_front = run (Some k) (moment first.there b.context None [] true ad (qs ++ new1)) refl refl
+    let in_front = runs k e text (Some k) (moment first.there b.context None [] true ad (qs ++ new1)) refl refl
     (lower ad (length w) here.index i1 low) right1 lands in
     let q = in_front.passes in
     let ran = q.leads.run first.deeper in

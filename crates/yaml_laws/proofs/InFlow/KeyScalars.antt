@@ -29,7 +29,7 @@ use Rattle.yaml_laws.proofs.InFlow.States.{Around, core_at, reach, in_column, be
 use Rattle.yaml_laws.proofs.InFlow.Tabs.{tabs_behind}
 use Rattle.yaml_laws.proofs.InFlow.OnLine.{separation_of_blanks, plain_lowers, plain_key_lowers}
 use Rattle.yaml_laws.proofs.InFlow.KeyLines.{Ready, token_led, ink_gap}
-use Rattle.yaml_laws.proofs.InFlow.KeyTokens.{InKey, in_near, in_back, in_right, in_limit, Along, TokensAlong}
+use Rattle.yaml_laws.proofs.InFlow.KeyTokens.{InKey, in_near, in_back, in_right, in_limit, in_so, TokensAlong}
 use Rattle.yaml_laws.proofs.Flow.States.{moved, past, crosses, IsInk, ReaderPromises, IsClear}
 use Rattle.yaml_laws.proofs.Flow.Places.{moved_index, clear_front}
 use Rattle.yaml_laws.proofs.Flow.GapSteps.{past_ink}
@@ -118,28 +118,43 @@ index_behind e t n ad low =
     let two = moved_index (moved e t) n.text in
     omega (arith, one, two, low)
 
--- where a scalar ends before its colon
+-- where a part of a key ends before its colon
 abbrev pub colon_after : Marker → List ℕ → Blanks → Marker
 colon_after e t n = moved (moved e t) n.text
 
+-- How the last part of a key is read, before blanks and the key's colon: its tokens are of Is.
+abbrev pub ReadsKey : Around → (List Kind → Type 0) → List ℕ → List ℕ → List ℕ → Type 0
+ReadsKey around Is t w r =
+    (start : State) (k : Candidate) (qs : List Place) (e : Marker) (ad : ℕ) → InKey around k e (t ++ w) (colon ∷ r)
+    → ad ≤ e.index → Ready around start k (t ++ (w ++ (colon ∷ r))) e ad qs
+    → TokensAlong around start k qs Is (moved (moved e t) w) (colon ∷ r)
+
+-- how a scalar is
+abbrev pub ReadsScalar : Around → Style → List ℕ → List ℕ → Blanks → List ℕ → Type 0
+ReadsScalar around style value t n r = ReadsKey around (λ ts. ts ≡ scalar_token style value ∷ []) t n.text r
+
+-- at the colon
+in_last : {around : Around} (k : Candidate) (e : Marker) (t : List ℕ) (n : Blanks) (r : List ℕ)
+    → InKey around k e (t ++ n.text) (colon ∷ r) → InKey around k (colon_after e t n) [] (colon ∷ r)
+in_last k e t n r text =
+    in_back k (moved e t) n.text [] (58 ∷ r)
+    (in_so k (moved e t) n.text (n.text ++ []) (58 ∷ r) (sym (append-nil n.text)) (in_back k e t n.text (58 ∷ r) text))
+
 -- a text that is read as a plain scalar
-plain_along : ReaderPromises → (around : Around) (start : State) (k : Candidate) (qs : List Place) (t : List ℕ)
-    (n : Blanks) (r : List ℕ) (e : Marker) (ad : ℕ) → BeginsWord false t (colon_text n r)
-    → (IsClear e t (colon_text n r) → EndsPlain false around.column (moved e t) (colon_text n r)
+plain_along : ReaderPromises → (around : Around) (value t : List ℕ) (n : Blanks) (r : List ℕ) → value ≡ plain_value t
+    → BeginsWord false t (colon_text n r)
+    → ((e : Marker) → IsClear e t (colon_text n r) → EndsPlain false around.column (moved e t) (colon_text n r)
     → IsPlainText false around.column e t (colon_text n r)) → is_blank_or_breakz (slice_index r 0) ≡ true
-    → InKey around k e (t ++ n.text) (colon ∷ r) → ad ≤ e.index → Ready around start k (t ++ colon_text n r) e ad qs
-    → Along around start k qs (colon_after e t n) (colon ∷ r) (scalar_token Plain (plain_value t) ∷ [])
-plain_along reads around start k qs t n r e ad begins plain white text low ready =
+    → ReadsScalar around Plain value t n r
+plain_along reads around value t n r stands begins plain white start k qs e ad text low ready =
     let o = colon_text n r in
     let clear = clear_front e t n.text (58 ∷ r) text.clear in
     let end = moved e t in
     let there = cursor_at (58 ∷ r) (colon_after e t n) false in
     let kind = scalar_token Plain (plain_value t) in
     let right = in_right k e t n.text (58 ∷ r) (token_begins false t o begins) text in
-    let is_text = plain clear (key_ends_plain around.column end n r (in_column around end.col right) white) in
-    let last = in_back k end n.text [] (58 ∷ r)
-    (subst (λ (x : List ℕ). InKey around k end x (58 ∷ r)) (sym (append-nil n.text))
-    (in_back k e t n.text (58 ∷ r) text)) in
+    let is_text = plain e clear (key_ends_plain around.column end n r (in_column around end.col right) white) in
+    let last = in_last k e t n r text in
     let stepped = plain_step reads around ready.deeper (length qs) e ready.blank t o context.Block begins is_text clear
     (Some k) [] false ad (inl refl) (behind_key refl refl)
     ∙ ap (λ (u : Cursor). completed_step (from_to e end kind ∷ [])
@@ -151,19 +166,23 @@ plain_along reads around start k qs t n r e ad begins plain white text low ready
     let led = token_led around start k (t ++ o) e ad qs ready end kind there ad (λ d. false) stepped
     (in_near k (colon_after e t n) [] (58 ∷ r) last) (in_limit k (colon_after e t n) [] (58 ∷ r) last) in
     record {
-      deeper = false;
-      there = there;
-      adjacent = ad;
-      white = [];
-      are_white = tt;
-      rest = refl;
-      mark = refl;
-      right = right_behind_key around.indent end n right;
-      piece = record { span = record { start = e; end = end }; kind = kind };
-      others = [];
-      leads = led;
-      are = refl;
-      low = index_behind e t n ad low;
+      tokens = kind ∷ [];
+      are = ap (λ (v : List ℕ). scalar_token Plain v ∷ []) (sym stands);
+      along = record {
+        deeper = false;
+        there = there;
+        adjacent = ad;
+        white = [];
+        are_white = tt;
+        rest = refl;
+        mark = refl;
+        right = right_behind_key around.indent end n right;
+        piece = record { span = record { start = e; end = end }; kind = kind };
+        others = [];
+        leads = led;
+        are = refl;
+        low = index_behind e t n ad low;
+      };
     }
 
 -- ## Quoted scalars
@@ -222,21 +241,15 @@ no_quote (c ∷ cs) r are = no_apostrophe c are.0
     no_apostrophe : (c : ℕ) → IsTrue (is_blank c) → (c == apostrophe) ≡ false
     no_apostrophe c h = grind (arith, nat_tests)
 
-quotes_along : ReaderPromises
-    → (around : Around) (start : State) (k : Candidate) (qs : List Place) (quote : Quote) (value t : List ℕ)
-    (n : Blanks)
-    (r : List ℕ) (e : Marker) (ad : ℕ) → IsQuoted quote around.indent value t
-    → InKey around k e (t ++ n.text) (colon ∷ r) → Ready around start k (t ++ colon_text n r) e ad qs
-    → Along around start k qs (colon_after e t n) (colon ∷ r) (scalar_token (style_of_quote quote) value ∷ [])
-quotes_along reads around start k qs quote value t n r e ad h text ready =
+quotes_along : ReaderPromises → (around : Around) (quote : Quote) (value t : List ℕ) (n : Blanks) (r : List ℕ)
+    → IsQuoted quote around.indent value t → ReadsScalar around (style_of_quote quote) value t n r
+quotes_along reads around quote value t n r h start k qs e ad text low ready =
     let o = colon_text n r in
     let clear = clear_front e t n.text (58 ∷ r) text.clear in
     let end = moved e t in
     let m = colon_after e t n in
     let kind = scalar_token (style_of_quote quote) value in
-    let whole = in_back k e t n.text (58 ∷ r) text in
-    let last = in_back k end n.text [] (58 ∷ r)
-    (subst (λ (x : List ℕ). InKey around k end x (58 ∷ r)) (sym (append-nil n.text)) whole) in
+    let last = in_last k e t n r text in
     let right = in_right k e t n.text (58 ∷ r) (subst Begins (sym h.5) (quote_first quote h.0)) text in
     let ends = key_quotes around e end n r right (text.line ∙ sym last.line) in
     let shut = ends.ends.there in
@@ -249,30 +262,31 @@ quotes_along reads around start k qs quote value t n r e ad h text ready =
       fresh = λ _ e. absurd (clash (crosses (58 ∷ r)) (ap crosses (sym ends.rest) ∙ e) refl);
     } in
     let first : slice_index (t ++ o) 0 ≡ mark quote = ap (λ (y : List ℕ). slice_index (y ++ o) 0) h.5 in
-    let there = cursor_at (58 ∷ r) m shut.blank_so_far in
     let stepped = quoted_step reads around ready.deeper quote (length qs) e ready.blank value t o h clear
     (no_quote n.text r n.are)
     context.Block (Some k) [] false ad (slice_index (t ++ o) 0) first (behind_key refl refl)
     ∙ behind_step around ready.deeper e (style_of_quote quote) (encode_utf8_all value)
-    (mid_line end o) context.Block (Some k)
-    [] ad
-    m (58 ∷ r) ends.ends g in
-    let led = token_led around start k (t ++ o) e ad qs ready ends.ends.there.mark kind there m.index (λ d. d) stepped
-    (in_near k m [] (58 ∷ r) last) (in_limit k m [] (58 ∷ r) last) in
+    (mid_line end o) context.Block (Some k) [] ad m (58 ∷ r) ends.ends g in
+    let led = token_led around start k (t ++ o) e ad qs ready shut.mark kind (cursor_at (58 ∷ r) m shut.blank_so_far)
+    m.index (λ d. d) stepped (in_near k m [] (58 ∷ r) last) (in_limit k m [] (58 ∷ r) last) in
     record {
-      deeper = ready.deeper;
-      there = there;
-      adjacent = m.index;
-      white = [];
-      are_white = tt;
-      rest = refl;
-      mark = refl;
-      right = right_behind_key around.indent end n right;
-      piece = record { span = record { start = e; end = ends.ends.there.mark }; kind = kind };
-      others = [];
-      leads = led;
+      tokens = kind ∷ [];
       are = refl;
-      low = no_more m.index;
+      along = record {
+        deeper = ready.deeper;
+        there = cursor_at (58 ∷ r) m shut.blank_so_far;
+        adjacent = m.index;
+        white = [];
+        are_white = tt;
+        rest = refl;
+        mark = refl;
+        right = right_behind_key around.indent end n right;
+        piece = record { span = record { start = e; end = shut.mark }; kind = kind };
+        others = [];
+        leads = led;
+        are = refl;
+        low = no_more m.index;
+      };
     }
   where
     no_more : (n : ℕ) → n ≤ n
@@ -280,14 +294,11 @@ quotes_along reads around start k qs quote value t n r e ad h text ready =
 
 -- ## Both
 
--- how the content of a key is read, before spaces and its colon
+-- how the content of a key is read
 pub record ContentReads (around : Around) (Is : List Kind → Type 0) (content : List ℕ) (n : Blanks) (r : List ℕ) : Type
     0 where
   pub begins : Begins content
-  pub along : (start : State) (k : Candidate) (qs : List Place) (e : Marker) (ad : ℕ)
-      → InKey around k e (content ++ n.text) (colon ∷ r) → ad ≤ e.index
-      → Ready around start k (content ++ colon_text n r) e ad qs
-      → TokensAlong around start k qs Is (colon_after e content n) (colon ∷ r)
+  pub along : ReadsKey around Is content n.text r
 
 -- how a scalar is
 abbrev pub ScalarReads : Around → Style → List ℕ → List ℕ → Blanks → List ℕ → Type 0
@@ -299,35 +310,19 @@ quotes_reads : ReaderPromises → (around : Around) (quote : Quote) (value t : L
 quotes_reads reads around quote value t n r h =
     record {
       begins = subst Begins (sym h.5) (quote_first quote h.0);
-      along = λ start k qs e ad text low ready. record {
-        tokens = scalar_token (style_of_quote quote) value ∷ [];
-        are = refl;
-        along = quotes_along reads around start k qs quote value t n r e ad h text ready;
-      };
-    }
-
-plains_read : ReaderPromises → (around : Around) (value t : List ℕ) (n : Blanks) (r : List ℕ) → value ≡ plain_value t
-    → BeginsWord false t (colon_text n r) → ((e : Marker) → IsClear e t (colon_text n r)
-    → EndsPlain false around.column (moved e t) (colon_text n r)
-    → IsPlainText false around.column e t (colon_text n r)) → is_blank_or_breakz (slice_index r 0) ≡ true
-    → ScalarReads around Plain value t n r
-plains_read reads around value t n r stands begins plain white =
-    record {
-      begins = token_begins false t (colon_text n r) begins;
-      along = λ start k qs e ad text low ready. record {
-        tokens = scalar_token Plain (plain_value t) ∷ [];
-        are = ap (λ (v : List ℕ). scalar_token Plain v ∷ []) (sym stands);
-        along = plain_along reads around start k qs t n r e ad begins (plain e) white text low ready;
-      };
+      along = quotes_along reads around quote value t n r h;
     }
 
 pub scalar_reads : ReaderPromises → (around : Around) (style : Style) (value content : List ℕ) (n : Blanks) (r : List ℕ)
     → IsFlowScalar style value false around.indent content → is_blank_or_breakz (slice_index r 0) ≡ true
     → ScalarReads around style value content n r
 scalar_reads reads around Plain value t n r h white =
-    plains_read reads around value t n r h.1 (word_begins false around.indent t (colon_text n r) h.0)
-    (λ e. plain_text false around.column e t (colon_text n r)
-    (plain_lowers around.indent around.column around.low false t h.0)) white
+    let begins = word_begins false around.indent t (colon_text n r) h.0 in
+    record {
+      begins = token_begins false t (colon_text n r) begins;
+      along = plain_along reads around value t n r h.1 begins (λ e. plain_text false around.column e t (colon_text n r)
+          (plain_lowers around.indent around.column around.low false t h.0)) white;
+    }
 scalar_reads reads around SingleQuoted value t n r h white = quotes_reads reads around Single value t n r h
 scalar_reads reads around DoubleQuoted value t n r h white = quotes_reads reads around Double value t n r h
 scalar_reads reads around Literal value t n r h white = absurd h
@@ -338,5 +333,9 @@ pub plain_key_reads : ReaderPromises → (around : Around) (value t r : List ℕ
     → IsPlainKey false around.indent t → is_blank_or_breakz (slice_index r 0) ≡ true
     → ScalarReads around Plain value t no_blanks r
 plain_key_reads reads around value t r stands h white =
-    plains_read reads around value t no_blanks r stands (key_begins false around.indent t r h)
-    (λ e. key_text false around.column e t r (plain_key_lowers around.indent around.column around.low false t h)) white
+    let begins = key_begins false around.indent t r h in
+    record {
+      begins = token_begins false t (58 ∷ r) begins;
+      along = plain_along reads around value t no_blanks r stands begins (λ e. key_text false around.column e t r
+          (plain_key_lowers around.indent around.column around.low false t h)) white;
+    }

@@ -15,14 +15,14 @@ use Rattle.saphyr_scanner.specs.Grammar.Tokens.{Kind, alias_token, anchor_token,
 use Rattle.saphyr_scanner.specs.Grammar.TokenGrammar as grammar
 use Rattle.saphyr_scanner.specs.Views.Tokens.{Piece}
 use Rattle.saphyr_scanner.specs.Steps.Queue.{Place, bare_place}
-use Rattle.saphyr_scanner.specs.Steps.Core.{Core}
+use Rattle.saphyr_scanner.specs.Steps.Core.{Core, from_to, completed_step}
 use Rattle.saphyr_scanner.specs.Steps.Level.{Candidate}
 use Rattle.saphyr_scanner.specs.Steps.Property as property
 use Rattle.saphyr_scanner.specs.Steps.State.{State}
 use Rattle.saphyr_scanner.specs.Steps.Fetch.{step}
 use Rattle.saphyr_scanner.specs.Grammar.Forest.{Tag}
 use Rattle.saphyr_scanner.proofs.Leads.{LeadsTo, leads_on}
-use Rattle.saphyr_scanner.proofs.Queues.{token_place, place_kinds, place_kinds_append}
+use Rattle.saphyr_scanner.proofs.Queues.{place_kinds, place_kinds_append}
 use Rattle.yaml_laws.specs.Grammar.TagSpelling.{IsTag}
 use Rattle.yaml_laws.specs.Grammar.FlowNodes as yaml
 use Rattle.yaml_laws.specs.Grammar.FlowNodes.{IsOnLine, IsAnchor, IsAlias}
@@ -130,11 +130,20 @@ pub record Along (around : Around) (start : State) (k : Candidate) (qs : List Pl
   pub are : place_kinds (bare_place piece ∷ others) ≡ ts
   pub low : adjacent ≤ m.index
 
-pub along_joins : {around : Around} {start : State} {k : Candidate} {qs : List Place} {m n : Marker} {y z : List ℕ}
+-- the state behind it
+abbrev pub places_along : {around : Around} {start : State} {k : Candidate} {qs : List Place} {m : Marker} {y : List ℕ}
+    {ts : List Kind} → Along around start k qs m y ts → List Place
+places_along {qs = qs} a = qs ++ bare_place a.piece ∷ a.others
+
+abbrev pub state_along : {around : Around} {start : State} {k : Candidate} {qs : List Place} {m : Marker} {y : List ℕ}
+    {ts : List Kind} → Along around start k qs m y ts → State
+state_along {around} {k = k} a =
+    state_at around (moment a.there context.Block (Some k) [] false a.adjacent (places_along a)) a.deeper
+
+along_joins : {around : Around} {start : State} {k : Candidate} {qs : List Place} {m n : Marker} {y z : List ℕ}
     {ts us : List Kind} → (a : Along around start k qs m y ts)
-    → Along around (state_at around (moment a.there context.Block (Some k) [] false a.adjacent (qs ++ bare_place a.piece
-    ∷ a.others)) a.deeper) k (qs ++ bare_place a.piece ∷ a.others) n z us → Along around start k qs n z (ts ++ us)
-along_joins {around} {start} {k} {qs} {m} {n} {y} {z} {ts} {us} a b =
+    → Along around (state_along a) k (places_along a) n z us → Along around start k qs n z (ts ++ us)
+along_joins {around} {start} {k} {qs} {ts = ts} {us} a b =
     let front = bare_place a.piece ∷ a.others in
     let back = bare_place b.piece ∷ b.others in
     record {
@@ -159,112 +168,20 @@ along_joins {around} {start} {k} {qs} {m} {n} {y} {z} {ts} {us} a b =
 -- the next token of the key is about to be read
 pub along_ready : {around : Around} {start : State} {k : Candidate} {qs : List Place} {m : Marker} {ts : List Kind}
     (p o b behind : List ℕ) → (a : Along around start k qs m (p ++ o) ts) → Begins p → InKey around k m (p ++ b) behind
-    → o ≡ b ++ behind
-    → Ready around (state_at around (moment a.there context.Block (Some k) [] false a.adjacent (qs ++ bare_place a.piece
-    ∷ a.others)) a.deeper) k (p ++ o) m a.adjacent (qs ++ bare_place a.piece ∷ a.others)
-along_ready {around} {start} {k} {qs} {m} {ts} p o b behind a begins h same =
+    → o ≡ b ++ behind → Ready around (state_along a) k (p ++ o) m a.adjacent (places_along a)
+along_ready {around} {k = k} {m = m} p o b behind a begins h same =
     let front : p ++ o ≡ begins.first ∷ (begins.others ++ o) = ap (λ (t : List ℕ). t ++ o) begins.is in
     let clear : IsClear m p o = subst (IsClear m p) (sym same) (clear_front m p b behind h.clear) in
     let token = begins_token m p o begins clear in
-    let st = state_at around (moment a.there context.Block (Some k) [] false a.adjacent (qs ++ bare_place a.piece
-    ∷ a.others)) a.deeper in
     let near = in_near k m (p ++ b) behind h in
-    subst (λ (t : List ℕ). Ready around st k t m a.adjacent (qs ++ bare_place a.piece ∷ a.others)) (sym front)
-    (subst (λ (n : Marker). Ready around st k (begins.first ∷ (begins.others ++ o)) n a.adjacent
-    (qs ++ bare_place a.piece ∷ a.others)) a.mark
-    (later_ready around a.deeper a.there k a.adjacent (qs ++ bare_place a.piece ∷ a.others) a.white begins.first
-    (begins.others ++ o) (a.rest ∙ ap (λ (t : List ℕ). a.white ++ t) front) a.are_white begins.ink a.right
+    subst (λ (t : List ℕ). Ready around (state_along a) k t m a.adjacent (places_along a)) (sym front)
+    (subst (λ (n : Marker). Ready around (state_along a) k (begins.first ∷ (begins.others ++ o)) n a.adjacent
+    (places_along a)) a.mark
+    (later_ready around a.deeper a.there k a.adjacent (places_along a) a.white begins.first (begins.others ++ o)
+    (a.rest ∙ ap (λ (t : List ℕ). a.white ++ t) front) a.are_white begins.ink a.right
     (subst (IsNear k) (sym a.mark) near)
     (subst (λ (n : Marker). BeginsToken n (begins.first ∷ (begins.others ++ o))) (sym a.mark)
     (subst (BeginsToken m) front token))))
-
--- ## Names and tags
-
--- a token that ends where its text does
-ends_there : {around : Around} {start : State} {k : Candidate} {qs : List Place} (e : Marker) (p b behind w y : List ℕ)
-    (ad : ℕ) (kind : Kind) (deeper : Bool) → Begins p → InKey around k e (p ++ b) behind → b ++ behind ≡ w ++ y
-    → AreIn is_blank w → ad ≤ e.index
-    → LeadsTo around.limit (state_at around (moment (mid_line (moved e p) (b ++ behind)) context.Block (Some k) [] false
-    ad (qs ++ token_place e (moved e p) kind ∷ [])) deeper) start
-    → Along around start k qs (moved (moved e p) w) y (kind ∷ [])
-ends_there {around} {start} {k} {qs} e p b behind w y ad kind deeper begins h is are low leads =
-    let one = moved_index e p in
-    let two = moved_index (moved e p) w in
-    record {
-      deeper = deeper;
-      there = mid_line (moved e p) (b ++ behind);
-      adjacent = ad;
-      white = w;
-      are_white = are;
-      rest = is;
-      mark = refl;
-      right = in_right k e p b behind begins h;
-      piece = record { span = record { start = e; end = moved e p }; kind = kind };
-      others = [];
-      leads = leads;
-      are = refl;
-      low = omega (arith, one, two, low);
-    }
-
--- a text of Is before what ends a tag is read as a token of this kind
-abbrev pub ReadsInKey : Around → Candidate → (List ℕ → Type 0) → Kind → Type 0
-ReadsInKey around k Is kind =
-    (start : State) (qs : List Place) (t b behind w y : List ℕ) (e : Marker) (ad : ℕ) → Is t
-    → EndsTag false (b ++ behind) → InKey around k e (t ++ b) behind → b ++ behind ≡ w ++ y → AreIn is_blank w
-    → ad ≤ e.index → Ready around start k (t ++ (b ++ behind)) e ad qs
-    → Along around start k qs (moved (moved e t) w) y (kind ∷ [])
-
-name_along : ReaderPromises → (around : Around) (k : Candidate) (token_of : List ℕ → Kind) (indicator : ℕ)
-    (name : List ℕ) → ((second n : ℕ) (c : Core) → step indicator second n c ≡ property.name_steps token_of n c)
-    → is_break indicator ≡ false → is_start indicator ≡ true
-    → ReadsInKey around k (λ t. IsAnchorName name × (t ≡ indicator ∷ name)) (token_of (encode_utf8_all name))
-name_along reads around k token_of indicator name begins break first start qs t b behind w y e ad (h, e_is) ends_tag
-    whole is are low at =
-    let o = b ++ behind in
-    let end = moved e (indicator ∷ name) in
-    let kind = token_of (encode_utf8_all name) in
-    let ends = tag_ends_name false o ends_tag in
-    subst (λ (p : List ℕ). InKey around k e (p ++ b) behind → Ready around start k (p ++ o) e ad qs
-    → Along around start k qs (moved (moved e p) w) y (kind ∷ [])) (sym e_is) (λ text r.
-    let inside = in_back k e (indicator ∷ name) b behind text in
-    let stepped = begins (slice_index (name ++ o) 0) (length qs)
-    (core_at around r.deeper (cursor_at (indicator ∷ (name ++ o)) e r.blank) context.Block (Some k) [] false ad)
-    ∙ name_step reads around r.deeper token_of (length qs) e r.blank indicator name o break h ends context.Block
-    (Some k) [] false ad (behind_key refl refl) in
-    ends_there e (indicator ∷ name) b behind w y ad kind r.deeper (starts indicator name (indicator ∷ name) refl first)
-    text is are low
-    (token_led around start k ((indicator ∷ name) ++ o) e ad qs r end kind (mid_line end o) ad (λ d. d) stepped
-    (in_near k end b behind inside) (in_limit k end b behind inside))) whole at
-
-anchor_along : ReaderPromises → (around : Around) (k : Candidate) (name : List ℕ)
-    → ReadsInKey around k (IsAnchor name) (anchor_token name)
-anchor_along reads around k name = name_along reads around k tokens.Anchor 38 name begins_anchor refl refl
-
-pub alias_along : ReaderPromises → (around : Around) (k : Candidate) (name : List ℕ)
-    → ReadsInKey around k (IsAlias name) (alias_token name)
-alias_along reads around k name = name_along reads around k tokens.Alias 42 name begins_alias refl refl
-
-tag_along : ReaderPromises → (around : Around) (k : Candidate) (tag : Tag)
-    → ReadsInKey around k (IsTag tag) (tag_token tag)
-tag_along reads around k tag start qs t b behind w y e ad h ends text is are low r =
-    let o = b ++ behind in
-    let g = tag_read tag t h in
-    let f = tag_first t g.handle g.suffix g.is in
-    let end = moved e t in
-    let kind = tokens.Tag (encode_utf8_all g.handle) (encode_utf8_all g.suffix) in
-    let core = core_at around r.deeper (cursor_at (t ++ o) e r.blank) context.Block (Some k) [] false ad in
-    let at_first : slice_index (t ++ o) 0 ≡ 33 = ap (λ (p : List ℕ). slice_index (p ++ o) 0) f.1 in
-    let second = slice_index (t ++ o) 1 in
-    let stepped = ap (λ (i : ℕ). step i second (length qs) core) at_first ∙ begins_tag second (length qs) core
-    ∙ tag_step reads around r.deeper (length qs) e r.blank t g.handle g.suffix o g.is context.Block (Some k) [] false ad
-    ends (behind_key refl refl) in
-    let inside = in_back k e t b behind text in
-    let led = token_led around start k (t ++ o) e ad qs r end kind (mid_line end o) ad (λ d. d) stepped
-    (in_near k end b behind inside) (in_limit k end b behind inside) in
-    subst (λ (q : Kind). Along around start k qs (moved (moved e t) w) y (q ∷ [])) g.token
-    (ends_there e t b behind w y ad kind r.deeper (tag_begins tag t h) text is are low led)
-
--- ## Properties
 
 -- the tokens of a part of a key, and what comes after it
 pub record TokensAlong (around : Around) (start : State) (k : Candidate) (qs : List Place) (Is : List Kind → Type 0)
@@ -272,6 +189,115 @@ pub record TokensAlong (around : Around) (start : State) (k : Candidate) (qs : L
   pub tokens : List Kind
   pub are : Is tokens
   pub along : Along around start k qs m y tokens
+
+pub told_along : {around : Around} {start : State} {k : Candidate} {qs : List Place} {Is Js : List Kind → Type 0}
+    {m : Marker} {y : List ℕ} → ((ts : List Kind) → Is ts → Js ts) → TokensAlong around start k qs Is m y
+    → TokensAlong around start k qs Js m y
+told_along f a = record { tokens = a.tokens; are = f a.tokens a.are; along = a.along }
+
+pub tokens_join : {around : Around} {start : State} {k : Candidate} {qs : List Place} {Is Js Ks : List Kind → Type 0}
+    {m n : Marker} {y z : List ℕ} → ((ts us : List Kind) → Is ts → Js us → Ks (ts ++ us))
+    → (a : TokensAlong around start k qs Is m y)
+    → TokensAlong around (state_along a.along) k (places_along a.along) Js n z → TokensAlong around start k qs Ks n z
+tokens_join f a b =
+    record {
+      tokens = a.tokens ++ b.tokens;
+      are = f a.tokens b.tokens a.are b.are;
+      along = along_joins a.along b.along;
+    }
+
+-- How a text of Is is read in a key, before what ends a tag: its tokens are of Are. After it come blanks w.
+abbrev pub ReadsPart : Around → Candidate → (List ℕ → Type 0) → (List Kind → Type 0) → Type 0
+ReadsPart around k Is Are =
+    (start : State) (qs : List Place) (t b behind w y : List ℕ) (e : Marker) (ad : ℕ) → Is t
+    → EndsTag false (b ++ behind) → InKey around k e (t ++ b) behind → b ++ behind ≡ w ++ y → AreIn is_blank w
+    → ad ≤ e.index → Ready around start k (t ++ (b ++ behind)) e ad qs
+    → TokensAlong around start k qs Are (moved (moved e t) w) y
+
+-- the same of one token
+abbrev pub ReadsToken : Around → Candidate → (List ℕ → Type 0) → Kind → Type 0
+ReadsToken around k Is kind = ReadsPart around k Is (λ ts. ts ≡ kind ∷ [])
+
+-- ## Names and tags
+
+-- a token that ends where its text does
+ends_there : {around : Around} {start : State} {k : Candidate} {qs : List Place} (e : Marker) (p b behind w y : List ℕ)
+    (ad : ℕ) (kind : Kind) → Begins p → InKey around k e (p ++ b) behind → b ++ behind ≡ w ++ y
+    → AreIn is_blank w → ad ≤ e.index → (r : Ready around start k (p ++ (b ++ behind)) e ad qs)
+    → step (slice_index (p ++ (b ++ behind)) 0) (slice_index (p ++ (b ++ behind)) 1) (length qs)
+    (core_at around r.deeper (cursor_at (p ++ (b ++ behind)) e r.blank) context.Block (Some k) [] false ad)
+    ≡ completed_step (from_to e (moved e p) kind ∷ [])
+    (core_at around r.deeper (mid_line (moved e p) (b ++ behind)) context.Block (Some k) [] false ad)
+    → TokensAlong around start k qs (λ ts. ts ≡ kind ∷ []) (moved (moved e p) w) y
+ends_there {around} {start} {k} {qs} e p b behind w y ad kind begins h is are low r stepped =
+    let end = moved e p in
+    let inside = in_back k e p b behind h in
+    let one = moved_index e p in
+    let two = moved_index end w in
+    record {
+      tokens = kind ∷ [];
+      are = refl;
+      along = record {
+        deeper = r.deeper;
+        there = mid_line end (b ++ behind);
+        adjacent = ad;
+        white = w;
+        are_white = are;
+        rest = is;
+        mark = refl;
+        right = in_right k e p b behind begins h;
+        piece = record { span = record { start = e; end = end }; kind = kind };
+        others = [];
+        leads = token_led around start k (p ++ (b ++ behind)) e ad qs r end kind (mid_line end (b ++ behind)) ad
+            (λ d. d) stepped (in_near k end b behind inside) (in_limit k end b behind inside);
+        are = refl;
+        low = omega (arith, one, two, low);
+      };
+    }
+
+name_along : ReaderPromises → (around : Around) (k : Candidate) (token_of : List ℕ → Kind) (indicator : ℕ)
+    (name : List ℕ) → ((second n : ℕ) (c : Core) → step indicator second n c ≡ property.name_steps token_of n c)
+    → is_break indicator ≡ false → is_start indicator ≡ true
+    → ReadsToken around k (λ t. IsAnchorName name × (t ≡ indicator ∷ name)) (token_of (encode_utf8_all name))
+name_along reads around k token_of indicator name begins break first start qs t b behind w y e ad (h, e_is) ends_tag
+    whole is are low at =
+    let o = b ++ behind in
+    let ends = tag_ends_name false o ends_tag in
+    subst (λ (p : List ℕ). InKey around k e (p ++ b) behind → Ready around start k (p ++ o) e ad qs
+    → TokensAlong around start k qs (λ ts. ts ≡ token_of (encode_utf8_all name) ∷ []) (moved (moved e p) w) y)
+    (sym e_is) (λ text r.
+    ends_there e (indicator ∷ name) b behind w y ad (token_of (encode_utf8_all name))
+    (starts indicator name (indicator ∷ name) refl first) text is are low r
+    (begins (slice_index (name ++ o) 0) (length qs)
+    (core_at around r.deeper (cursor_at (indicator ∷ (name ++ o)) e r.blank) context.Block (Some k) [] false ad)
+    ∙ name_step reads around r.deeper token_of (length qs) e r.blank indicator name o break h ends context.Block
+    (Some k) [] false ad (behind_key refl refl))) whole at
+
+anchor_along : ReaderPromises → (around : Around) (k : Candidate) (name : List ℕ)
+    → ReadsToken around k (IsAnchor name) (anchor_token name)
+anchor_along reads around k name = name_along reads around k tokens.Anchor 38 name begins_anchor refl refl
+
+pub alias_along : ReaderPromises → (around : Around) (k : Candidate) (name : List ℕ)
+    → ReadsToken around k (IsAlias name) (alias_token name)
+alias_along reads around k name = name_along reads around k tokens.Alias 42 name begins_alias refl refl
+
+tag_along : ReaderPromises → (around : Around) (k : Candidate) (tag : Tag)
+    → ReadsToken around k (IsTag tag) (tag_token tag)
+tag_along reads around k tag start qs t b behind w y e ad h ends text is are low r =
+    let o = b ++ behind in
+    let g = tag_read tag t h in
+    let f = tag_first t g.handle g.suffix g.is in
+    let core = core_at around r.deeper (cursor_at (t ++ o) e r.blank) context.Block (Some k) [] false ad in
+    let at_first : slice_index (t ++ o) 0 ≡ 33 = ap (λ (p : List ℕ). slice_index (p ++ o) 0) f.1 in
+    let second = slice_index (t ++ o) 1 in
+    subst (λ (q : Kind). TokensAlong around start k qs (λ ts. ts ≡ q ∷ []) (moved (moved e t) w) y) g.token
+    (ends_there e t b behind w y ad (tokens.Tag (encode_utf8_all g.handle) (encode_utf8_all g.suffix))
+    (tag_begins tag t h) text is are low r
+    (ap (λ (i : ℕ). step i second (length qs) core) at_first ∙ begins_tag second (length qs) core
+    ∙ tag_step reads around r.deeper (length qs) e r.blank t g.handle g.suffix o g.is context.Block (Some k) [] false ad
+    ends (behind_key refl refl)))
+
+-- ## Properties
 
 blanks_end_tag : (w y : List ℕ) → (w ≢ []) × AreIn is_blank w → EndsTag false (w ++ y)
 blanks_end_tag w y h = white_ends_tag false (w ++ y) (blank_first w y h)
@@ -288,14 +314,11 @@ blanks_between a s c t indent h e line =
     gap_of_blanks indent s h (front_on_line s c (s ++ c) refl (back_on_line a (s ++ c) t e line))
 
 -- two properties with a gap between
-both_along : {around : Around} {k : Candidate} {P Q : List ℕ → Type 0} {i j : Kind} → ReadsInKey around k P i
-    → ReadsInKey around k Q j → ((t : List ℕ) → Q t → Begins t) → (start : State) (qs : List Place)
-    (t a s c b behind w y : List ℕ) (e : Marker) (ad : ℕ) → P a → IsGap around.indent s → Q c → t ≡ a ++ (s ++ c)
-    → EndsTag false (b ++ behind) → InKey around k e (t ++ b) behind → b ++ behind ≡ w ++ y → AreIn is_blank w
-    → ad ≤ e.index → Ready around start k (t ++ (b ++ behind)) e ad qs
-    → Along around start k qs (moved (moved e t) w) y (i ∷ j ∷ [])
-both_along {around} {k} {i = i} {j} p q begins start qs t a s c b behind w y e ad h gapped g t_is ends text is are low
-    r =
+both_along : {around : Around} {k : Candidate} {P Q : List ℕ → Type 0} {i j : Kind} → ReadsToken around k P i
+    → ReadsToken around k Q j → ((t : List ℕ) → Q t → Begins t)
+    → ReadsPart around k
+    (λ t. (a s c : List ℕ) × P a × IsGap around.indent s × Q c × (t ≡ a ++ (s ++ c))) (λ ts. ts ≡ i ∷ j ∷ [])
+both_along {around} {k} {i = i} {j} p q begins start qs t b behind w y e ad (a, s, c, h, gapped, g, t_is) ends text is are low r =
     let o = b ++ behind in
     let rest = s ++ (c ++ b) in
     let spaced = blanks_between a s c t around.indent gapped t_is (front_on_line t b (t ++ b) refl text.on_line) in
@@ -307,47 +330,35 @@ both_along {around} {k} {i = i} {j} p q begins start qs t a s c b behind w y e a
     let first = p start qs a rest behind s (c ++ o) e ad h
     (subst (EndsTag false) (sym behind_is) (blanks_end_tag s (c ++ o) spaced)) whole behind_is spaced.1 low there in
     let inside = in_back k (moved e a) s (c ++ b) behind (in_back k e a rest behind whole) in
-    let next = along_ready c o b behind first (begins c g) inside refl in
-    let second = q _ _ c b behind w y (moved (moved e a) s) first.adjacent g ends inside is are first.low next in
+    let next = along_ready c o b behind first.along (begins c g) inside refl in
+    let second = q _ _ c b behind w y (moved (moved e a) s) first.along.adjacent g ends inside is are first.along.low
+    next in
     let place : moved (moved (moved e a) s) c ≡ moved e t =
     sym (ap (moved e) t_is ∙ moved_append e a (s ++ c) ∙ moved_append (moved e a) s c) in
-    subst (λ (m : Marker). Along around start k qs (moved m w) y (i ∷ j ∷ [])) place (along_joins first second)
+    subst (λ (m : Marker). TokensAlong around start k qs (λ ts. ts ≡ i ∷ j ∷ []) (moved m w) y) place
+    (tokens_join (two i j) first second)
+  where
+    two : (i j : Kind) (ts us : List Kind) → ts ≡ i ∷ [] → us ≡ j ∷ [] → ts ++ us ≡ i ∷ j ∷ []
+    two i j ts us e f = ap (λ (x : List Kind). x ++ us) e ∙ ap (λ (x : List Kind). i ∷ x) f
 
-pub properties_along : ReaderPromises
-    → (around : Around) (start : State) (k : Candidate) (qs : List Place) (anchor : Option (List ℕ)) (tag : Option Tag)
-    (t b behind w y : List ℕ) (e : Marker) (ad : ℕ) → yaml.AreProperties anchor tag around.indent t
-    → EndsTag false (b ++ behind) → InKey around k e (t ++ b) behind → b ++ behind ≡ w ++ y → AreIn is_blank w
-    → ad ≤ e.index → Ready around start k (t ++ (b ++ behind)) e ad qs
-    → TokensAlong around start k qs (grammar.AreBoth (option_map anchor_token anchor) (option_map tag_token tag))
-    (moved (moved e t) w) y
-properties_along reads around start k qs None None t b behind w y e ad h ends text is are low r = absurd h
-properties_along reads around start k qs (Some name) None t b behind w y e ad h ends text is are low r =
-    record {
-      tokens = anchor_token name ∷ [];
-      are = refl;
-      along = anchor_along reads around k name start qs t b behind w y e ad h ends text is are low r;
-    }
-properties_along reads around start k qs None (Some tag) t b behind w y e ad h ends text is are low r =
-    record {
-      tokens = tag_token tag ∷ [];
-      are = refl;
-      along = tag_along reads around k tag start qs t b behind w y e ad h ends text is are low r;
-    }
-properties_along reads around start k qs (Some name) (Some tag) t b behind w y e ad (a, s, c, h, g, gapped, inl t_is)
-    ends text is are low r =
-    record {
-      tokens = anchor_token name ∷ tag_token tag ∷ [];
-      are = inl refl;
-      along = both_along (anchor_along reads around k name) (tag_along reads around k tag) (tag_begins tag) start qs t
-          a s
-          c b behind w y e ad h gapped g t_is ends text is are low r;
-    }
-properties_along reads around start k qs (Some name) (Some tag) t b behind w y e ad (c, s, a, h, g, gapped, inr t_is)
-    ends text is are low r =
-    record {
-      tokens = tag_token tag ∷ anchor_token name ∷ [];
-      are = inr refl;
-      along = both_along (tag_along reads around k tag) (anchor_along reads around k name) (anchor_begins name) start
-          qs t
-          a s c b behind w y e ad g gapped h t_is ends text is are low r;
-    }
+two_along : ReaderPromises → (around : Around) (k : Candidate) (name : List ℕ) (tag : Tag)
+    → ReadsPart around k (yaml.AreProperties (Some name) (Some tag) around.indent)
+    (grammar.AreBoth (Some (anchor_token name)) (Some (tag_token tag)))
+two_along reads around k name tag start qs t b behind w y e ad (a, s, c, h, g, gapped, inl t_is) ends text is are low
+    r =
+    told_along (λ ts e. inl e)
+    (both_along (anchor_along reads around k name) (tag_along reads around k tag) (tag_begins tag) start qs t b behind w
+    y e ad (a, s, c, h, gapped, g, t_is) ends text is are low r)
+two_along reads around k name tag start qs t b behind w y e ad (c, s, a, h, g, gapped, inr t_is) ends text is are low
+    r =
+    told_along (λ ts e. inr e)
+    (both_along (tag_along reads around k tag) (anchor_along reads around k name) (anchor_begins name) start qs t b
+    behind w y e ad (a, s, c, g, gapped, h, t_is) ends text is are low r)
+
+pub properties_along : ReaderPromises → (around : Around) (k : Candidate) (anchor : Option (List ℕ)) (tag : Option Tag)
+    → ReadsPart around k (yaml.AreProperties anchor tag around.indent)
+    (grammar.AreBoth (option_map anchor_token anchor) (option_map tag_token tag))
+properties_along reads around k None None = λ start qs t b behind w y e ad h. absurd h
+properties_along reads around k (Some name) None = anchor_along reads around k name
+properties_along reads around k None (Some tag) = tag_along reads around k tag
+properties_along reads around k (Some name) (Some tag) = two_along reads around k name tag

@@ -9,20 +9,19 @@ use Rattle.saphyr_scalar.specs.declared.scalar.position.Marker.{Marker}
 use Rattle.saphyr_scanner.specs.declared.engine.level.Context.TheVariants as context
 use Rattle.saphyr_scanner.specs.Steps.Queue.{Place}
 use Rattle.saphyr_scanner.specs.Steps.Level.{Candidate}
-use Rattle.saphyr_scanner.specs.Steps.State.{State}
 use Rattle.saphyr_scanner.specs.Grammar.Forest.{Node, Alias, Scalar, Seq, Map, Properties}
 use Rattle.saphyr_scanner.specs.Limits.{most_open}
 use Rattle.yaml_laws.specs.Grammar.FlowNodes.{IsOnLine, IsKeyText, IsBeforeColon, IsFlowNode}
 use Rattle.yaml_laws.proofs.InFlow.States.{Around, state_at, moment}
 use Rattle.yaml_laws.proofs.InFlow.KeyLines.{Ready, Fresh, keyed, deeper_at, first_ready}
-use Rattle.yaml_laws.proofs.InFlow.KeyTokens.{InKey, in_back, in_right, in_so}
+use Rattle.yaml_laws.proofs.InFlow.KeyTokens.{InKey, in_back, in_right, in_so, TokensAlong, told_along}
 use Rattle.yaml_laws.proofs.InFlow.KeyScalars.{Blanks, colon_text, colon_after, ContentReads}
 use Rattle.yaml_laws.proofs.Flow.States.{moved, IsClear, ReaderPromises, FitsAround}
 use Rattle.yaml_laws.proofs.Flow.Places.{clear_front}
 use Rattle.yaml_laws.proofs.Flow.Tokens.{BeginsToken, begins_token}
 use Rattle.saphyr_scalar.proofs.Given.{cursor_at}
 use Rattle.yaml_laws.proofs.InFlow.KeyFirsts.{plain_key_fresh, key_node_fresh}
-use Rattle.yaml_laws.proofs.InFlow.KeyNodes.{KeyAlong, alias_key, scalar_key, plain_key, front_along, told_along}
+use Rattle.yaml_laws.proofs.InFlow.KeyNodes.{KeyReads, alias_key, scalar_key, plain_key, front_along}
 use Rattle.yaml_laws.proofs.InFlow.KeyCollections.{calmed, collection_along}
 use Rattle.yaml_laws.proofs.Flow.NodesPass.{sequence_read, mapping_read}
 use Rattle.saphyr_scanner.specs.Grammar.Tokens.{Kind}
@@ -58,74 +57,55 @@ inside_fits around k e c w inside d n r first text =
 room_inside : (left : ℕ) → most_open ≡ suc left → left + 1 ≤ most_open
 room_inside left e = omega (arith, e)
 
-pub collection_key : {node : Node} {p : Properties} {b : Brackets} {Text : ℕ → List ℕ → Type 0}
-    {Are : List Kind → Type 0} → ReaderPromises → (around : Around) → around.pending ≡ around.required
-    → ReadsCollection (calmed around) node p b Text Are → (start : State) (k : Candidate) (qs : List Place) (t : List ℕ)
-    (n : Blanks) (r : List ℕ) (e : Marker) (ad : ℕ) → IsBracketText b Text p most_open around.indent t
-    → InKey around k e (t ++ n.text) (colon ∷ r) → ad ≤ e.index → Ready around start k (t ++ colon_text n r) e ad qs
-    → KeyAlong around start node k qs (colon_after e t n) (colon ∷ r)
-collection_key {node} {p} {b} {Are = Are} reads around same collection start k qs t n r e ad
-    (left, opening, inside, room, (front, w, f, parts, o), h, is) text low ready =
+collection_key : {node : Node} {p : Properties} {b : Brackets} {Text : ℕ → List ℕ → Type 0} {Are : List Kind → Type 0}
+    → ReaderPromises → (around : Around) → around.pending ≡ around.required
+    → ReadsCollection (calmed around) node p b Text Are → (t : List ℕ) (n : Blanks) (r : List ℕ)
+    → IsBracketText b Text p most_open around.indent t → KeyReads around node t n.text r
+collection_key {node} {p} {b} {Are = Are} reads around same collection t n r
+    (left, opening, inside, room, (front, w, f, parts, o), h, is) =
     let body = bracket_text b w inside in
-    let whole : t ≡ front ++ body = whole_text t opening front w inside b.opening b.closing is o in
     let entries = collection.entries left in
     let first = collection.are.start in
     let content : ContentReads around (AreBracketed b Are) body n r =
     record {
       begins = starts b.opening (w ++ (inside ++ (b.closing ∷ []))) body refl first;
-      along = λ begun key places m near at_key before begin.
-          collection_along around same begun Are b collection.are key places w inside n r m near parts
+      along = collection_along around same Are b collection.are w inside n r parts
           (parted_by around.indent w (inside ++ (b.closing ∷ colon_text n r)) parts
-          (entries.ink inside (colon_text n r) h)) at_key before begin
-          (λ j inner no_candidate fresh on right at. entries.passes (moved m (b.opening ∷ w)) inside (colon_text n r) h
-          (inside_fits around key m b.opening w inside b.closing n r first at_key)
+          (entries.ink inside (colon_text n r) h))
+          (λ k m at_key j inner no_candidate fresh on right at. entries.passes (moved m (b.opening ∷ w)) inside
+          (colon_text n r) h (inside_fits around k m b.opening w inside b.closing n r first at_key)
           (record inner { outer = level_of context.Block j ∷ [] }) no_candidate fresh (room_inside left room) on at);
     } in
-    let c = front_along reads around start p (AreBracketed b Are) k qs front body n r e ad f content
-    (subst (λ (x : List ℕ). InKey around k e (x ++ n.text) (58 ∷ r)) whole text) low
-    (subst (λ (x : List ℕ). Ready around start k (x ++ colon_text n r) e ad qs) whole ready) in
-    subst (λ (x : List ℕ). KeyAlong around start node k qs (colon_after e x n) (58 ∷ r)) (sym whole)
-    (told_along (λ ts (properties, brackets, are, (inner, are_inner, told), all).
+    subst (λ (x : List ℕ). KeyReads around node x n.text r)
+    (sym (whole_text t opening front w inside b.opening b.closing is o))
+    (λ start k qs e ad text low ready. told_along
+    (λ ts (properties, brackets, are, (inner, are_inner, told), all).
     subst (grammar.YieldsNode node grammar.InBlockMapping)
     (sym (all ∙ ap (λ (x : List Kind). properties ++ x) told))
-    (collection.yields grammar.InBlockMapping properties inner are are_inner)) c)
+    (collection.yields grammar.InBlockMapping properties inner are are_inner))
+    (front_along reads around p (AreBracketed b Are) front body n r f content start k qs e ad text low ready))
 
 -- ## All keys
 
-key_along : ReaderPromises → (around : Around) → around.pending ≡ around.required
-    → (start : State) (node : Node) (k : Candidate) (qs : List Place) (t : List ℕ) (n : Blanks) (r : List ℕ)
-    (e : Marker)
-    (ad : ℕ)
-    → IsFlowNode most_open node false around.indent t → IsBeforeColon node n.text
-    → is_blank_or_breakz (slice_index r 0) ≡ true → InKey around k e (t ++ n.text) (colon ∷ r) → ad ≤ e.index
-    → Ready around start k (t ++ colon_text n r) e ad qs
-    → KeyAlong around start node k qs (colon_after e t n) (colon ∷ r)
-key_along reads around same start (Alias name) k qs t n r e ad h apart white text low ready =
-    alias_key reads around start name k qs t n r e ad h apart text low ready
-key_along reads around same start (Scalar p style value) k qs t n r e ad h apart white text low ready =
-    scalar_key reads around start p style value k qs t n r e ad h apart white text low ready
-key_along reads around same start (Seq p nodes) k qs t n r e ad h apart white text low ready =
-    collection_key reads around same (sequence_read reads (calmed around) p nodes) start k qs t n r e ad h text low
-    ready
-key_along reads around same start (Map p pairs) k qs t n r e ad h apart white text low ready =
-    collection_key reads around same (mapping_read reads (calmed around) p pairs) start k qs t n r e ad h text low ready
+key_along : ReaderPromises → (around : Around) → around.pending ≡ around.required → (node : Node) (t : List ℕ)
+    (n : Blanks) (r : List ℕ) → IsFlowNode most_open node false around.indent t → IsBeforeColon node n.text
+    → is_blank_or_breakz (slice_index r 0) ≡ true → KeyReads around node t n.text r
+key_along reads around same (Alias name) t n r h apart white = alias_key reads around name t n r h apart
+key_along reads around same (Scalar p style value) t n r h apart white =
+    scalar_key reads around p style value t n r h apart white
+key_along reads around same (Seq p nodes) t n r h apart white =
+    collection_key reads around same (sequence_read reads (calmed around) p nodes) t n r h
+key_along reads around same (Map p pairs) t n r h apart white =
+    collection_key reads around same (mapping_read reads (calmed around) p pairs) t n r h
 
 -- the text of a key, whatever its form
-text_along : ReaderPromises → (around : Around) → around.pending ≡ around.required
-    → (start : State) (node : Node) (k : Candidate) (qs : List Place) (t : List ℕ) (n : Blanks) (r : List ℕ)
-    (e : Marker)
-    (ad : ℕ)
+text_along : ReaderPromises → (around : Around) → around.pending ≡ around.required → (node : Node) (t : List ℕ)
+    (n : Blanks) (r : List ℕ)
     → IsKeyText (IsFlowNode most_open node false around.indent) node false around.indent t n.text
-    → IsBeforeColon node n.text → is_blank_or_breakz (slice_index r 0) ≡ true
-    → InKey around k e (t ++ n.text) (colon ∷ r) → ad ≤ e.index
-    → Ready around start k (t ++ colon_text n r) e ad qs
-    → KeyAlong around start node k qs (colon_after e t n) (colon ∷ r)
-text_along reads around same start node k qs t n r e ad (inl h) apart white text low ready =
-    key_along reads around same start node k qs t n r e ad h apart white text low ready
-text_along reads around same start node k qs t n r e ad (inr (h, none)) apart white text low ready =
-    subst (λ (w : List ℕ). InKey around k e (t ++ w) (58 ∷ r) → Ready around start k (t ++ (w ++ (58 ∷ r))) e ad qs
-    → KeyAlong around start node k qs (moved (moved e t) w) (58 ∷ r)) (sym none)
-    (λ i z. plain_key reads around start node k qs t r e ad h white i low z) text ready
+    → IsBeforeColon node n.text → is_blank_or_breakz (slice_index r 0) ≡ true → KeyReads around node t n.text r
+text_along reads around same node t n r (inl h) apart white = key_along reads around same node t n r h apart white
+text_along reads around same node t n r (inr (h, none)) apart white =
+    subst (λ (w : List ℕ). KeyReads around node t w r) (sym none) (plain_key reads around node t r h white)
 
 text_fresh : (around : Around) (indent : ℕ) (node : Node) (t s r : List ℕ)
     → IsKeyText (IsFlowNode most_open node false indent) node false indent t s
@@ -154,9 +134,10 @@ pub key_read : ReaderPromises → (around : Around) → around.pending ≡ false
     → length (p ++ n.text) ≤ 1024 → is_blank_or_breakz (slice_index r 0) ≡ true → (right : around.column ≤ m.col + 1)
     → IsClear m (p ++ n.text) (colon ∷ r) → m.index + length ((p ++ n.text) ++ (colon ∷ r)) ≤ around.limit
     → (d blank : Bool) (k : Option Candidate) (ad : ℕ) (ps : List Place) → ad ≤ m.index
-    → KeyAlong (keyed around (deeper_at around d m) m right)
-    (state_at around (moment (cursor_at (p ++ colon_text n r) m blank) context.Block k [] true ad ps) d) node
-    (record { mark = m; place = length ps }) ps (colon_after m p n) (colon ∷ r)
+    → TokensAlong (keyed around (deeper_at around d m) m right)
+    (state_at around (moment (cursor_at (p ++ colon_text n r) m blank) context.Block k [] true ad ps) d)
+    (record { mark = m; place = length ps }) ps (grammar.YieldsNode node grammar.InBlockMapping) (colon_after m p n)
+    (colon ∷ r)
 key_read reads around calm node m p n r h line apart short white right clear below d blank k ad ps low =
     let inner = keyed around (deeper_at around d m) m right in
     let here : Candidate = record { mark = m; place = length ps } in
@@ -179,7 +160,7 @@ key_read reads around calm node m p n r h line apart short white right clear bel
     (first_ready around calm d blank k ad ps m b.first (b.others ++ o) b.ink right
     (subst (BeginsToken m) front token) (subst (Fresh around) front (text_fresh around (suc m.col) node p n.text r h)))
     in
-    text_along reads inner refl (start (p ++ o)) node here ps p n r m ad h apart white text low ready
+    text_along reads inner refl node p n r h apart white (start (p ++ o)) here ps m ad text low ready
   where
     next : (n : ℕ) → suc n ≤ n + 1
     next n = omega arith
