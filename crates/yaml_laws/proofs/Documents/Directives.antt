@@ -22,7 +22,7 @@ use Rattle.yaml_laws.specs.Grammar.TagSpelling.{IsHandle}
 use Rattle.yaml_laws.specs.Grammar.Yaml.{IsDirective, AreDirectives}
 use Rattle.yaml_laws.proofs.Flow.States.{past, ReaderPromises}
 use Rattle.yaml_laws.proofs.Documents.Lines.{passes_filler}
-use Rattle.yaml_laws.proofs.Documents.Stands.{Lined, StandsInStream, reads_token}
+use Rattle.yaml_laws.proofs.Documents.Stands.{StandsLined, lined_so, Lined, reads_token}
 use Rattle.yaml_laws.proofs.InBlock.Lines.{one_lined}
 use Rattle.yaml_laws.proofs.Documents.Markers.{piece_of, at_line}
 use Rattle.saphyr_scalar.proofs.Given.{cursor_at}
@@ -114,8 +114,8 @@ index_behind_next : (i n : ℕ) → i ≤ i + n + 1
 index_behind_next i n = omega arith
 
 reads_directive : {limit : ℕ} {start : State} {ts : List Kind} (d : forest.Directive) (t o : List ℕ) → ReadsAs d t
-    → StandsInStream limit start true (Lined false (t ++ (line_feed ∷ o))) (t ++ (line_feed ∷ o)) ts
-    → StandsInStream limit start true (Lined false o) o (ts ++ directive_token d ∷ [])
+    → StandsLined limit start true false (t ++ (line_feed ∷ o)) ts
+    → StandsLined limit start true false o (ts ++ directive_token d ∷ [])
 reads_directive {limit = limit} {start = start} {ts = ts} d t o h v =
     let col = at_line (t ++ (10 ∷ o)) v.mark v.line.0 (not_none t o h.first) in
     let b = percent_sign_begins t h.first in
@@ -127,7 +127,7 @@ reads_directive {limit = limit} {start = start} {ts = ts} d t o h v =
     ap (λ (x : List ℕ). fetch_here (state_at false (cursor_at x v.mark blank) context.Block key [] allowed ad ps)) text
     ∙ directive_here v.mark (h.end v.mark) blank (b.0 ++ (10 ∷ o)) h.said (cursor_at o n true) key allowed ad ps col
     (ap (λ (x : List ℕ). directives.directive (cursor_at x v.mark blank)) (sym text) ∙ h.reads v.mark blank o) in
-    subst (λ (k : Kind). StandsInStream limit start true (Lined false o) o (ts ++ k ∷ [])) h.kind
+    subst (λ (k : Kind). StandsLined limit start true false o (ts ++ k ∷ [])) h.kind
     (reads_token v here (inl refl) (λ _. cursor_at o n true) false
     (piece_of v.mark (h.end v.mark) (directive_kind h.said)) fetched (Lined false o) n o (λ _. refl)
     (line_count v.mark t o limit v.count) (λ _. (inl refl, λ e. absurd (false≢true e)))
@@ -141,17 +141,17 @@ lines_text directive filler more y = simp append_assoc
 -- directive lines, and what comes after them
 pub reads_directives : {limit : ℕ} {start : State} → ReaderPromises
     → (ds : List forest.Directive) (t y : List ℕ) (ts : List Kind) → AreDirectives ds t
-    → StandsInStream limit start true (Lined false (t ++ y)) (t ++ y) ts
-    → StandsInStream limit start true (Lined false y) y (ts ++ map directive_token ds)
+    → StandsLined limit start true false (t ++ y) ts
+    → StandsLined limit start true false y (ts ++ map directive_token ds)
 reads_directives {limit = limit} {start = start} readers [] t y ts h v =
-    rw (append-nil ts) (subst (λ (x : List ℕ). StandsInStream limit start true (Lined false (x ++ y)) (x ++ y) ts) h v)
+    rw (append-nil ts) (subst (λ (x : List ℕ). StandsLined limit start true false (x ++ y) ts) h v)
 reads_directives {limit = limit} {start = start} readers (d ∷ ds) t y ts
     (directive, filler, more, is, filler_is, others, e) v =
     let text : t ++ y ≡ directive ++ (10 ∷ (filler ++ (more ++ y))) =
     ap (λ (x : List ℕ). x ++ y) e ∙ lines_text directive filler more y in
     let first = reads_directive d directive (filler ++ (more ++ y)) (reads_as readers d directive is)
-    (subst (λ (x : List ℕ). StandsInStream limit start true (Lined false x) x ts) text v) in
+    (lined_so text v) in
     let last = reads_directives readers ds more y (ts ++ directive_token d ∷ []) others
     (passes_filler filler (more ++ y) filler_is first) in
-    subst (λ (x : List Kind). StandsInStream limit start true (Lined false y) y x)
+    subst (λ (x : List Kind). StandsLined limit start true false y x)
     (append_assoc ts (directive_token d ∷ []) (map directive_token ds)) last

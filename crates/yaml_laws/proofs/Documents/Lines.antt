@@ -11,7 +11,7 @@ use Rattle.saphyr_scanner.specs.Grammar.Tokens.{Kind}
 use Rattle.yaml_laws.proofs.Flow.States.{moved, past}
 use Rattle.yaml_laws.proofs.Flow.Places.{moved_append, moved_count}
 use Rattle.yaml_laws.proofs.Flow.Fillers.{EndsLine, filler_past}
-use Rattle.yaml_laws.proofs.Documents.Stands.{AtLine, Lined, StandsInStream, passes_over}
+use Rattle.yaml_laws.proofs.Documents.Stands.{StandsLined, AtLine, Lined, passes_over}
 use Rattle.yaml_laws.proofs.InBlock.States.{crosses}
 use Rattle.yaml_laws.proofs.InBlock.Lines.{IsLined, one_lined, moved_lined}
 
@@ -121,8 +121,8 @@ filler_at_line m w y h (inl e) = inl (filler_line m w h e)
 filler_at_line m w y h (inr e) = inr (none_behind w y e)
 
 pub passes_filler : {limit : ℕ} {start : State} {free opened : Bool} {ts : List Kind} (w y : List ℕ) → IsFiller w
-    → StandsInStream limit start free (Lined opened (w ++ y)) (w ++ y) ts
-    → StandsInStream limit start free (Lined opened y) y ts
+    → StandsLined limit start free opened (w ++ y) ts
+    → StandsLined limit start free opened y ts
 passes_filler {limit = limit} {opened = opened} w y h v =
     passes_over v (Lined opened y) (moved v.mark w) y (filler_past 0 v.mark w y h)
     (subst (λ (n : ℕ). n ≤ limit) (sym (moved_count v.mark w y)) v.count)

@@ -28,7 +28,7 @@ use Rattle.yaml_laws.proofs.Flow.States.{moved, past}
 use Rattle.yaml_laws.proofs.Flow.GapSteps.{past_count}
 use Rattle.yaml_laws.proofs.Flow.Separates.{separates_rest}
 use Rattle.yaml_laws.proofs.Documents.Lines.{eol, eol_first, break_ends}
-use Rattle.yaml_laws.proofs.Documents.Stands.{reads_here, AtLine, Lined, BehindStart, StandsInStream, reads_token}
+use Rattle.yaml_laws.proofs.Documents.Stands.{StandsLined, reads_here, AtLine, Lined, BehindStart, StandsInStream, reads_token}
 use Rattle.yaml_laws.proofs.InBlock.States.{crosses}
 use Rattle.yaml_laws.proofs.InBlock.Follows.{comes_to_end}
 use Rattle.std.proofs.Math.Bool.{or-false, or-true}
@@ -79,7 +79,7 @@ pub start_ends : (r : List ℕ) → is_blank_or_breakz (slice_index r 0) ≡ tru
 start_ends r h = rw h refl
 
 pub reads_start : {limit : ℕ} {start : State} {free opened : Bool} {ts : List Kind} (r : List ℕ)
-    → StandsInStream limit start free (Lined opened (hyphen ∷ hyphen ∷ hyphen ∷ r)) (hyphen ∷ hyphen ∷ hyphen ∷ r) ts
+    → StandsLined limit start free opened (hyphen ∷ hyphen ∷ hyphen ∷ r) ts
     → is_blank_or_breakz (slice_index r 0) ≡ true
     → StandsInStream limit start true (BehindStart r) r (ts ++ tokens.DocumentStart ∷ [])
 reads_start {limit = limit} r v h =
@@ -109,8 +109,8 @@ mark_count : (m : Marker) (r : List ℕ) (limit : ℕ) → m.index + length (652
 mark_count m r limit h = omega (arith, h)
 
 pub reads_mark : {limit : ℕ} {start : State} {free opened : Bool} {ts : List Kind} (r : List ℕ)
-    → StandsInStream limit start free (Lined opened (65279 ∷ r)) (65279 ∷ r) ts
-    → StandsInStream limit start true (Lined true r) r (ts ++ tokens.ByteOrderMark ∷ [])
+    → StandsLined limit start free opened (65279 ∷ r) ts
+    → StandsLined limit start true true r (ts ++ tokens.ByteOrderMark ∷ [])
 reads_mark {limit = limit} r v =
     let col = at_line (65279 ∷ r) v.mark v.line.0 (cons_not_empty 65279 r) in
     reads_token v refl (inr (inr (col, inr refl))) (λ blank. cursor_at r (beyond_byte_order_mark v.mark) blank) true
@@ -153,10 +153,9 @@ end_further : (m n : Marker) (end o : List ℕ) → n.index + length o ≡ m.ind
 end_further m n end o e = let all = length-append end o in omega (arith, e, all)
 
 pub reads_end : {limit : ℕ} {start : State} {free opened : Bool} {ts : List Kind} (end o : List ℕ)
-    → StandsInStream limit start free (Lined opened (full_stop ∷ full_stop ∷ full_stop ∷ (end ++ o)))
-    (full_stop ∷ full_stop ∷ full_stop ∷ (end ++ o)) ts
+    → StandsLined limit start free opened (full_stop ∷ full_stop ∷ full_stop ∷ (end ++ o)) ts
     → IsEol end o
-    → StandsInStream limit start true (Lined true o) o (ts ++ tokens.DocumentEnd ∷ [])
+    → StandsLined limit start true true o (ts ++ tokens.DocumentEnd ∷ [])
 reads_end {limit = limit} end o v h =
     let r = end ++ o in
     let col = at_line (46 ∷ 46 ∷ 46 ∷ r) v.mark v.line.0 (cons_not_empty 46 (46 ∷ 46 ∷ r)) in

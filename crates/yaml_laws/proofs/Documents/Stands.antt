@@ -185,6 +185,15 @@ pub record StandsInStream (limit : ℕ) (start : State) (free : Bool) (P : Marke
   pub low : adjacent ≤ (past 0 mark o).0.index
   pub lined : IsLined mark
 
+-- the same at a line's start
+abbrev pub StandsLined : ℕ → State → Bool → Bool → List ℕ → List Kind → Type 0
+StandsLined limit start free opened o ts = StandsInStream limit start free (Lined opened o) o ts
+
+pub lined_so : {limit : ℕ} {start : State} {free opened : Bool} {o y : List ℕ} {ts : List Kind} → o ≡ y
+    → StandsLined limit start free opened o ts → StandsLined limit start free opened y ts
+lined_so {limit} {start} {free} {opened} {ts = ts} e v =
+    subst (λ (x : List ℕ). StandsLined limit start free opened x ts) e v
+
 -- what a place knows of its comment, before what may end a document
 pub passable : (free : Bool) (co : Option Marker) (m : Marker) (y : List ℕ) → (free ≡ true → co ≡ None)
     → (free ≡ true) ⊎ EndsDocument m y → (co ≡ None) ⊎ EndsDocument m y
@@ -264,6 +273,6 @@ passes_over {free = free} v Q n y fits count line lined = goes_over v free (λ e
 
 -- where a document is free one may be that needn't be
 pub unfree : {limit : ℕ} {start : State} {o : List ℕ} {ts : List Kind}
-    → StandsInStream limit start true (Lined true o) o ts → StandsInStream limit start false (Lined false o) o ts
+    → StandsLined limit start true true o ts → StandsLined limit start false false o ts
 unfree {o = o} v =
     goes_over v false (λ _. refl) (Lined false o) v.mark o refl v.count (v.line.0, λ _. v.line.1 refl) v.lined

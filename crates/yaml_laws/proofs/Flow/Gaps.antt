@@ -66,24 +66,21 @@ pub rest_on : (c : ℕ) (cs : List ℕ) → is_white_at c cs ≡ true
     → is_filler_rest (c ∷ cs) ≡ true → is_filler_rest cs ≡ true
 rest_on c cs e h = by_blank (is_blank c) refl e
   where
-    by_blank : (b : Bool) → is_blank c ≡ b → (b || is_return_at c cs) ≡ true
-        → is_filler_rest cs ≡ true
+    by_blank : (b : Bool) → is_blank c ≡ b → (b || is_return_at c cs) ≡ true → is_filler_rest cs ≡ true
     by_blank true f k = let same : is_filler_rest (c ∷ cs) ≡ is_filler_rest cs = rw f refl in sym same ∙ h
     by_blank false f k = feed_rest cs (and_true_right (c == 13) (slice_index cs 0 == 10) k)
 
 -- after the sign of a comment
-pub rest_sign : (c : ℕ) (cs : List ℕ)
-    → is_white_at c cs ≡ false
-    → is_break c ≡ false → (c == number_sign) ≡ true → is_filler_rest (c ∷ cs) ≡ true → is_comment_rest cs ≡ true
+pub rest_sign : (c : ℕ) (cs : List ℕ) → is_white_at c cs ≡ false → is_break c ≡ false → (c == number_sign) ≡ true
+    → is_filler_rest (c ∷ cs) ≡ true → is_comment_rest cs ≡ true
 rest_sign c cs e f g h =
     let same : is_filler_rest (c ∷ cs) ≡ is_comment_rest cs =
     rw ((or_parts (is_blank c) ((c == 13) && (slice_index cs 0 == 10)) e).0, f, g) refl in
     sym same ∙ h
 
 -- none is the rest that begins with a token
-pub no_rest : (c : ℕ) (cs : List ℕ)
-    → is_white_at c cs ≡ false
-    → is_break c ≡ false → (c == number_sign) ≡ false → is_filler_rest (c ∷ cs) ≡ false
+pub no_rest : (c : ℕ) (cs : List ℕ) → is_white_at c cs ≡ false → is_break c ≡ false → (c == number_sign) ≡ false
+    → is_filler_rest (c ∷ cs) ≡ false
 no_rest c cs e f g = rw ((or_parts (is_blank c) ((c == 13) && (slice_index cs 0 == 10)) e).0, f, g) refl
 
 -- after a character of a comment, and where one ends
@@ -91,8 +88,7 @@ pub word_rest : (c : ℕ) (cs : List ℕ) → is_yaml_non_break c ≡ true → i
     → is_comment_rest cs ≡ true
 word_rest c cs e h = let same : is_comment_rest (c ∷ cs) ≡ is_comment_rest cs = rw e refl in sym same ∙ h
 
-pub return_rest : (c : ℕ) (cs : List ℕ) → is_return_at c cs ≡ true
-    → is_filler_rest cs ≡ true
+pub return_rest : (c : ℕ) (cs : List ℕ) → is_return_at c cs ≡ true → is_filler_rest cs ≡ true
 return_rest c cs e = feed_rest cs (and_true_right (c == 13) (slice_index cs 0 == 10) e)
 
 pub no_comment_rest : (c : ℕ) (cs : List ℕ) → is_yaml_non_break c ≡ false → is_break c ≡ false
@@ -105,10 +101,9 @@ no_tab_before b e = absurd (cc)
 
 -- a tab that ends nothing is on such a rest, or right of a lower column
 pub tab_rest : (column low : ℕ) (m : Marker) (blank : Bool) (c : ℕ) (cs : List ℕ) (tab : Bool)
-    → stops_tab column m c cs ≡ false → low ≤ column
-    → is_white_at c cs ≡ true
-    → (tab ≡ true → is_filler_rest (c ∷ cs) ≡ true)
-    → (is_tab_indentation low m blank c || tab) ≡ true → is_filler_rest cs ≡ true
+    → stops_tab column m c cs ≡ false → low ≤ column → is_white_at c cs ≡ true
+    → (tab ≡ true → is_filler_rest (c ∷ cs) ≡ true) → (is_tab_indentation low m blank c || tab) ≡ true
+    → is_filler_rest cs ≡ true
 tab_rest column low m blank c cs true t under e h k = rest_on c cs e (h refl)
 tab_rest column low m blank c cs false t under e h k = by_left (is_left_tab column m c) refl t
   where

@@ -26,7 +26,7 @@ use Rattle.yaml_laws.specs.Grammar.Yaml.{IsDocumentPrefix, IsMarkBehindFiller, n
 use Rattle.yaml_laws.specs.SameKinds.{HaveSameKinds}
 use Rattle.yaml_laws.proofs.Flow.States.{ReaderPromises}
 use Rattle.yaml_laws.proofs.Documents.Lines.{rest_first}
-use Rattle.yaml_laws.proofs.Documents.Stands.{Lined, StandsInStream}
+use Rattle.yaml_laws.proofs.Documents.Stands.{StandsLined, lined_so}
 use Rattle.yaml_laws.proofs.InBlock.Skips.{filler_skipped}
 use Rattle.yaml_laws.proofs.InBlock.LineStarts.{opens_line, feed_opens}
 use Rattle.yaml_laws.proofs.InBlock.FurtherScalars.{EndsFed, fed_front}
@@ -200,7 +200,7 @@ closes_marks : {limit : ℕ} {start : State} → ReaderPromises → ReadsLeaves 
     → IsLineRest tail
     → (ds : Forest) (prefix others : List ℕ) (ts : List Kind) → IsDocumentPrefix prefix others
     → AreBlockDocuments ds true others → HasNoReturn others
-    → StandsInStream limit start true (Lined true ((prefix ++ others) ++ more)) ((prefix ++ others) ++ more) ts
+    → StandsLined limit start true true ((prefix ++ others) ++ more) ts
     → prefix ++ others ≡ marked_line marker marks tail
     → Closes limit start marker (YieldsAhead ds) ts
 closes_marks {start = start} readers leaves marker [] tail more are tail_is ds prefix others ts prefix_is h clean v e =
@@ -215,8 +215,7 @@ closes_marks {limit = limit} {start = start} readers leaves marker (piece ∷ ma
     (λ at stops. one_stop (prefix ++ others) (filler ++ (65279 ∷ line)) at (65279 ∷ line) text stops
     (mark_stops filler line (filler_skipped filler filler_is))) in
     passes_mark ds k.filler ((k.next ++ others) ++ more) ts k.filler_is
-    (subst (λ (x : List ℕ). StandsInStream limit start true (Lined true x) x ts)
-    (ap (λ (x : List ℕ). x ++ more) k.is ∙ append_assoc k.filler (65279 ∷ (k.next ++ others)) more) v)
+    (lined_so (ap (λ (x : List ℕ). x ++ more) k.is ∙ append_assoc k.filler (65279 ∷ (k.next ++ others)) more) v)
     (λ us s. closes_marks readers leaves marker marks tail more are tail_is ds k.next others us k.next_is h clean s
     k.left)
 
@@ -272,12 +271,11 @@ mark_end {limit} {start} readers leaves marker before filler marks tail more bef
     let whole : mark_rest before filler line ++ more ≡ end ++ ((prefix ++ others) ++ more) =
     ap (λ (x : List ℕ). x ++ more) (sym text) ∙ append_assoc end (prefix ++ others) more in
     passes_end ds end (prefix ++ others) more ts end_is fed
-    (subst (λ (x : List ℕ). StandsInStream limit start free (Lined opened (46 ∷ 46 ∷ 46 ∷ x)) (46 ∷ 46 ∷ 46 ∷ x) ts)
+    (subst (λ (x : List ℕ). StandsLined limit start free opened (46 ∷ 46 ∷ 46 ∷ x) ts)
     whole
     v)
     (λ us s. passes_mark ds k.filler ((k.next ++ others) ++ more) us k.filler_is
-    (subst (λ (x : List ℕ). StandsInStream limit start true (Lined true x) x us)
-    (ap (λ (x : List ℕ). x ++ more) k.is ∙ append_assoc k.filler (65279 ∷ (k.next ++ others)) more) s)
+    (lined_so (ap (λ (x : List ℕ). x ++ more) k.is ∙ append_assoc k.filler (65279 ∷ (k.next ++ others)) more) s)
     (λ us s. closes_marks readers leaves marker marks tail more are tail_is ds k.next others us k.next_is h clean s
     k.left))
 
@@ -304,7 +302,7 @@ closes_behind_end : {limit : ℕ} {start : State} → ReaderPromises → ReadsLe
     → IsBeforeLine earlier → IsLineRest rest → AreEach IsMarkBehindFiller marks → IsLineRest tail
     → (ds : Forest) (prefix others : List ℕ) (ts : List Kind) → IsDocumentPrefix prefix others
     → AreBlockDocuments ds true others → HasNoReturn others
-    → StandsInStream limit start true (Lined true ((prefix ++ others) ++ more)) ((prefix ++ others) ++ more) ts
+    → StandsLined limit start true true ((prefix ++ others) ++ more) ts
     → prefix ++ others
     ≡ earlier ++ (full_stop ∷ full_stop ∷ full_stop ∷ ((rest ++ line_feed ∷ []) ++ marked_line marker marks tail))
     → Closes limit start marker (YieldsAhead ds) ts
@@ -339,7 +337,7 @@ closes_last : {limit : ℕ} {start : State} → ReaderPromises → ReadsLeaves l
     → (marker : DocumentMarker) (front tail more : List ℕ)
     → IsLineRest tail → (ds : Forest) (prefix others : List ℕ) (ts : List Kind) → IsDocumentPrefix prefix others
     → AreBlockDocuments ds true others → HasNoReturn others
-    → StandsInStream limit start true (Lined true ((prefix ++ others) ++ more)) ((prefix ++ others) ++ more) ts
+    → StandsLined limit start true true ((prefix ++ others) ++ more) ts
     → IsBeforeMarker front → prefix ++ others ≡ front ++ marker_line marker tail
     → Closes limit start marker (YieldsAhead ds) ts
 closes_last {start = start} readers leaves marker front tail more tail_is ds prefix others ts prefix_is h clean v
@@ -371,9 +369,7 @@ closed_leads : ReaderPromises → (limit : ℕ) → ReadsLeaves limit
     → Closes limit (start (text ++ more)) marker (Yields forest) []
 closed_leads readers limit leaves marker forest text more clean (front, tail, tail_is, before, at)
     (prefix, others, prefix_is, documents, e) short =
-    let first = subst (λ (x : List ℕ). StandsInStream limit (start (text ++ more)) true (Lined true (x ++ more))
-    (x ++ more)
-    (tokens.StreamStart ∷ [])) e (begins limit (text ++ more) short) in
+    let first = lined_so (ap (λ (x : List ℕ). x ++ more) e) (begins limit (text ++ more) short) in
     closes_on [] (tokens.StreamStart ∷ []) (in_stream forest)
     (closes_last readers leaves marker front tail more tail_is forest prefix others (tokens.StreamStart ∷ []) prefix_is
     documents (back_in _ prefix others (subst HasNoReturn e clean)) first before (sym e ∙ at))

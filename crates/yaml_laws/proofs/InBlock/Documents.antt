@@ -20,7 +20,7 @@ use Rattle.yaml_laws.proofs.Flow.States.{ReaderPromises}
 use Rattle.yaml_laws.proofs.Flow.Inks.{BeginsInk}
 use Rattle.yaml_laws.proofs.Documents.Markers.{reads_start}
 use Rattle.yaml_laws.proofs.Documents.Directives.{reads_directives}
-use Rattle.yaml_laws.proofs.Documents.Stands.{AtLine, Lined, BehindStart, StandsInStream, passes_over}
+use Rattle.yaml_laws.proofs.Documents.Stands.{StandsLined, lined_so, AtLine, Lined, BehindStart, StandsInStream, passes_over}
 use Rattle.yaml_laws.proofs.InBlock.States.{crosses}
 use Rattle.yaml_laws.proofs.InBlock.Statements.{AreRead, as_optional, ReadsLeaves}
 use Rattle.yaml_laws.proofs.InBlock.Texts.{node_ends}
@@ -35,7 +35,7 @@ pub record DocumentStands (limit : ℕ) (start : State) (d : Document) (free : B
     Type 0 where
   pub tokens : List Kind
   pub are : grammar.YieldsDocument d free tokens
-  pub stands : StandsInStream limit start false (Lined false others) others (ts ++ tokens)
+  pub stands : StandsLined limit start false false others (ts ++ tokens)
 
 none_inside : (a b c : List ℕ) → BeginsInk b → a ++ (b ++ c) ≡ [] → ⊥
 none_inside [] b c k e =
@@ -68,7 +68,7 @@ node_some leaves (Map p pairs) t o (inr (m, lead, entries, lead_is, h, e)) none 
 bare_node : {limit : ℕ} {start : State} → ReadsLeaves limit → (node : Node) (t others : List ℕ) (ts : List Kind)
     → has_marker true t ≡ false → IsBlockNode most_open node AtStart t others
     → ((m : Marker) → AtLine others m → Lands m others) → IsPlainBehind others → HasNoReturn t
-    → (v : StandsInStream limit start true (Lined true (t ++ others)) (t ++ others) ts)
+    → (v : StandsLined limit start true true (t ++ others) ts)
     → NodeStands limit start node AtStart others ts
 bare_node {limit} {start} leaves node t others ts unmarked h lands plain clean v =
     let some : (t ++ others ≡ []) → ⊥ = λ e. node_some leaves node t others h (none_here t others e) in
@@ -107,8 +107,7 @@ reads_explicit : {limit : ℕ} {start : State} {now opened : Bool} → ReadsLeav
     → d.explicit ≡ true → AreCompatible d.directives
     → has_marker false t ≡ false → IsBlockNode most_open d.node BehindMarker t others
     → ((m : Marker) → AtLine others m → Lands m others) → IsPlainBehind others → HasNoReturn t
-    → StandsInStream limit start now (Lined opened (hyphen ∷ hyphen ∷ hyphen ∷ (t ++ others)))
-    (hyphen ∷ hyphen ∷ hyphen ∷ (t ++ others))
+    → StandsLined limit start now opened (hyphen ∷ hyphen ∷ hyphen ∷ (t ++ others))
     (ts ++ map directive_token d.directives) → DocumentStands limit start d free others ts
 reads_explicit {limit = limit} {start = start} leaves d free t others ts may explicit compatible unmarked is lands plain
     clean v =
@@ -117,7 +116,7 @@ reads_explicit {limit = limit} {start = start} leaves d free t others ts may exp
     record {
       tokens = map directive_token d.directives ++ tokens.DocumentStart ∷ n.tokens;
       are = inr (may, (n.tokens, explicit, compatible, as_optional d.node BehindMarker n.tokens n.are, refl));
-      stands = subst (StandsInStream limit start false (Lined false others) others)
+      stands = subst (StandsLined limit start false false others)
           (token_list ts (map directive_token d.directives) n.tokens tokens.DocumentStart) n.stands;
     }
 
@@ -132,22 +131,20 @@ clean_node directives node h = back_in _ (45 ∷ 45 ∷ 45 ∷ []) node (back_in
 
 -- where directives may be, no key is asked for
 unopened : {limit : ℕ} {start : State} {free opened : Bool} {o : List ℕ} {ts : List Kind}
-    → StandsInStream limit start free (Lined opened o) o ts → StandsInStream limit start free (Lined false o) o ts
+    → StandsLined limit start free opened o ts → StandsLined limit start free false o ts
 unopened {o = o} v = passes_over v (Lined false o) v.mark o refl v.count (v.line.0, λ e. absurd (cc)) v.lined
 
 -- The scanner has read a document's directives, and comes before its `---`.
 pub record MarkerStands (limit : ℕ) (start : State) (d : Document) (y : List ℕ) (ts : List Kind) : Type 0 where
   pub free : Bool
   pub opened : Bool
-  pub stands : StandsInStream limit start free (Lined opened (hyphen ∷ hyphen ∷ hyphen ∷ y))
-      (hyphen ∷ hyphen ∷ hyphen ∷ y)
+  pub stands : StandsLined limit start free opened (hyphen ∷ hyphen ∷ hyphen ∷ y)
       (ts ++ map directive_token d.directives)
 
 pub reads_front : {limit : ℕ} {start : State} → ReaderPromises
     → (d : Document) (free : Bool) (directives y : List ℕ) (ts : List Kind) → IsTrue free ⊎ (d.directives ≡ [])
     → AreDirectives d.directives directives
-    → StandsInStream limit start free (Lined free (directives ++ (hyphen ∷ hyphen ∷ hyphen ∷ y)))
-    (directives ++ (hyphen ∷ hyphen ∷ hyphen ∷ y))
+    → StandsLined limit start free free (directives ++ (hyphen ∷ hyphen ∷ hyphen ∷ y))
     ts
     → MarkerStands limit start d y ts
 reads_front {limit = limit} {start = start} readers d free directives y ts (inl is_free) are v =
@@ -156,17 +153,15 @@ reads_front {limit = limit} {start = start} readers d free directives y ts (inl 
       free = true;
       opened = false;
       stands = reads_directives readers d.directives directives (45 ∷ 45 ∷ 45 ∷ y) ts are
-          (unopened (subst (λ (b : Bool). StandsInStream limit start b (Lined b t) t ts) is_free v));
+          (unopened (subst (λ (b : Bool). StandsLined limit start b b t ts) is_free v));
     }
 reads_front {limit = limit} {start = start} readers d free directives y ts (inr none) are v =
     let empty = no_directives d directives none are in
-    let first = subst (λ (x : List ℕ). StandsInStream limit start free (Lined free (x ++ (45 ∷ 45 ∷ 45 ∷ y)))
-    (x ++ (45 ∷ 45 ∷ 45 ∷ y)) ts) empty v in
+    let first = subst (λ (x : List ℕ). StandsLined limit start free free (x ++ (45 ∷ 45 ∷ 45 ∷ y)) ts) empty v in
     record {
       free = free;
       opened = free;
-      stands = subst (λ (x : List Kind). StandsInStream limit start free (Lined free (45 ∷ 45 ∷ 45 ∷ y)) (45 ∷ 45 ∷ 45
-          ∷ y) x)
+      stands = subst (λ (x : List Kind). StandsLined limit start free free (45 ∷ 45 ∷ 45 ∷ y) x)
           (sym (ap (λ ds. ts ++ map directive_token ds) none ∙ append-nil ts)) first;
     }
 
@@ -179,12 +174,12 @@ pub reads_document : {limit : ℕ} {start : State} → ReaderPromises → ReadsL
     → (d : Document) (free : Bool) (t others : List ℕ) (ts : List Kind)
     → yaml.IsDocument (IsBlockNode most_open) d free t others
     → ((m : Marker) → AtLine others m → Lands m others) → IsPlainBehind others → HasNoReturn t
-    → StandsInStream limit start free (Lined free (t ++ others)) (t ++ others) ts
+    → StandsLined limit start free free (t ++ others) ts
     → DocumentStands limit start d free others ts
 reads_document {limit = limit} {start = start} readers leaves d free t others ts (inl (is_free, (same, unmarked, is)))
     lands plain clean v =
     let n = bare_node leaves d.node t others ts unmarked is lands plain clean
-    (subst (λ (b : Bool). StandsInStream limit start b (Lined b (t ++ others)) (t ++ others) ts) is_free v) in
+    (subst (λ (b : Bool). StandsLined limit start b b (t ++ others) ts) is_free v) in
     record {
       tokens = n.tokens;
       are =
@@ -203,6 +198,6 @@ reads_document {limit = limit} {start = start} readers leaves d free t others ts
     (inr (may, (directives, node, explicit, compatible, are, unmarked, is, e))) lands plain clean v =
     let text = ap (λ (x : List ℕ). x ++ others) e ∙ text_of_document directives node others in
     let f = reads_front readers d free directives (node ++ others) ts may are
-    (subst (λ (x : List ℕ). StandsInStream limit start free (Lined free x) x ts) text v) in
+    (lined_so text v) in
     reads_explicit leaves d free node others ts may explicit compatible unmarked is lands plain
     (clean_node directives node (subst HasNoReturn e clean)) f.stands

@@ -17,7 +17,7 @@ use Rattle.yaml_laws.specs.Grammar.Yaml.{IsDocumentPrefix, no_prefix, mark_prefi
 use Rattle.yaml_laws.proofs.Flow.States.{moved, ReaderPromises}
 use Rattle.yaml_laws.proofs.Flow.Fillers.{last_filler_past}
 use Rattle.yaml_laws.proofs.Documents.Lines.{passes_filler}
-use Rattle.yaml_laws.proofs.Documents.Stands.{Lined, StandsInStream, unfree}
+use Rattle.yaml_laws.proofs.Documents.Stands.{StandsLined, lined_so, unfree}
 use Rattle.yaml_laws.proofs.Documents.Markers.{reads_mark, reads_end, FinishesStream, reads_stream_end}
 use Rattle.yaml_laws.proofs.InBlock.States.{crosses}
 use Rattle.yaml_laws.proofs.InBlock.Follows.{follows_itself}
@@ -36,7 +36,7 @@ use Rattle.scalar_laws.specs.Spelling.Spaces.{AreEach, joined_pieces}
 pub record PrefixStands (limit : ℕ) (start : State) (others : List ℕ) (ts : List Kind) : Type 0 where
   pub marks : List Kind
   pub are : AreEndsAndMarks marks
-  pub stands : StandsInStream limit start true (Lined true others) others (ts ++ marks)
+  pub stands : StandsLined limit start true true others (ts ++ marks)
 
 with_mark : {limit : ℕ} {start : State} {others : List ℕ} (ts : List Kind) (k : Kind)
     → (k ≡ tokens.DocumentEnd) ⊎ (k ≡ tokens.ByteOrderMark) → PrefixStands limit start others (ts ++ k ∷ [])
@@ -44,28 +44,26 @@ with_mark : {limit : ℕ} {start : State} {others : List ℕ} (ts : List Kind) (
 with_mark {limit = limit} {start = start} {others = others} ts k is p = record {
   marks = k ∷ p.marks;
   are = (is, p.are);
-  stands = subst (StandsInStream limit start true (Lined true others) others) (append_assoc ts (k ∷ []) p.marks)
+  stands = subst (StandsLined limit start true true others) (append_assoc ts (k ∷ []) p.marks)
       p.stands;
 }
 
 pub reads_prefix : {limit : ℕ} {start : State} (prefix others : List ℕ) (ts : List Kind)
     → IsDocumentPrefix prefix others
-    → StandsInStream limit start true (Lined true (prefix ++ others)) (prefix ++ others) ts
+    → StandsLined limit start true true (prefix ++ others) ts
     → PrefixStands limit start others ts
 reads_prefix {limit = limit} {start = start} _ _ ts (no_prefix others) v =
     record {
       marks = [];
       are = tt;
-      stands = subst (StandsInStream limit start true (Lined true others) others) (sym (append-nil ts)) v;
+      stands = subst (StandsLined limit start true true others) (sym (append-nil ts)) v;
     }
 reads_prefix {limit = limit} {start = start} _ _ ts (mark_prefix filler more others is h) v =
-    let first = subst (λ (x : List ℕ). StandsInStream limit start true (Lined true x) x ts)
-    (append_assoc filler (65279 ∷ more) others) v in
+    let first = lined_so (append_assoc filler (65279 ∷ more) others) v in
     with_mark ts tokens.ByteOrderMark (inr refl) (reads_prefix more others (ts ++ tokens.ByteOrderMark ∷ []) h
     (reads_mark (more ++ others) (passes_filler filler (65279 ∷ (more ++ others)) is first)))
 reads_prefix {limit = limit} {start = start} _ _ ts (end_prefix filler end more others is end_is h) v =
-    let first = subst (λ (x : List ℕ). StandsInStream limit start true (Lined true x) x ts)
-    (suffix_text filler end more others) v in
+    let first = lined_so (suffix_text filler end more others) v in
     with_mark ts tokens.DocumentEnd (inl refl) (reads_prefix more others (ts ++ tokens.DocumentEnd ∷ []) h
     (reads_end end (more ++ others)
     (passes_filler filler (46 ∷ 46 ∷ 46 ∷ (end ++ (more ++ others))) is first) end_is))
@@ -74,14 +72,14 @@ reads_prefix {limit = limit} {start = start} _ _ ts (end_prefix filler end more 
 abbrev ReadsDocuments : ℕ → State → Forest → Type 0
 ReadsDocuments limit start ds =
     (free : Bool) (t : List ℕ) (ts : List Kind) → AreBlockDocuments ds free t → HasNoReturn t
-    → StandsInStream limit start free (Lined free t) t ts
+    → StandsLined limit start free free t ts
     → FinishesStream limit start (grammar.YieldDocuments ds free) ts
 
 -- what comes after a document and its byte order marks is read, where documents are
 reads_unmarked : {limit : ℕ} {start : State} (ds : Forest)
     → ReadsDocuments limit start ds
     → (o : List ℕ) (ts : List Kind) → yaml.IsBehindMarks (AreBlockDocuments ds) o → HasNoReturn o
-    → StandsInStream limit start false (Lined false o) o ts
+    → StandsLined limit start false false o ts
     → FinishesStream limit start (grammar.YieldsBehindDocument (grammar.YieldDocuments ds)) ts
 reads_unmarked ds go o ts (inl h) clean v =
     let f = go false o ts h clean v in
@@ -98,7 +96,7 @@ reads_unmarked {limit = limit} {start = start} ds go o ts
     let text : o ≡ filler ++ (46 ∷ 46 ∷ 46 ∷ (end ++ (prefix ++ others))) =
     is ∙ ap (λ (x : List ℕ). x ++ others) e ∙ suffix_text filler end prefix others in
     let first = passes_filler filler (46 ∷ 46 ∷ 46 ∷ (end ++ (prefix ++ others))) filler_is
-    (subst (λ (x : List ℕ). StandsInStream limit start false (Lined false x) x ts) text v) in
+    (lined_so text v) in
     let p = reads_prefix prefix others (ts ++ tokens.DocumentEnd ∷ []) prefix_is
     (reads_end end (prefix ++ others) first end_is) in
     let f = go true others ((ts ++ tokens.DocumentEnd ∷ []) ++ p.marks) h
@@ -126,14 +124,13 @@ reads_marked : {limit : ℕ} {start : State} (ds : Forest)
     → ReadsDocuments limit start ds
     → (pieces : List (List ℕ)) (o : List ℕ) (ts : List Kind) → AreEach yaml.IsMarkBehindFiller pieces
     → yaml.IsBehindMarks (AreBlockDocuments ds) o → HasNoReturn o
-    → StandsInStream limit start false (Lined false (joined_pieces pieces ++ o)) (joined_pieces pieces ++ o) ts
+    → StandsLined limit start false false (joined_pieces pieces ++ o) ts
     → FinishesStream limit start (grammar.YieldsBehindDocument (grammar.YieldDocuments ds)) ts
 reads_marked ds go [] o ts each h clean v = reads_unmarked ds go o ts h clean v
 reads_marked {limit = limit} {start = start} ds go (piece ∷ pieces) o ts ((filler, filler_is, is), each) h clean v =
     let rest = joined_pieces pieces ++ o in
     let first = passes_filler filler (65279 ∷ rest) filler_is
-    (subst (λ (x : List ℕ). StandsInStream limit start false (Lined false x) x ts)
-    (marks_text piece filler (joined_pieces pieces) o is) v) in
+    (lined_so (marks_text piece filler (joined_pieces pieces) o is) v) in
     let f = reads_marked ds go pieces o (ts ++ tokens.ByteOrderMark ∷ []) each h clean
     (unfree (reads_mark rest first)) in
     record {
@@ -149,18 +146,17 @@ reads_marked {limit = limit} {start = start} ds go (piece ∷ pieces) o ts ((fil
 reads_behind : {limit : ℕ} {start : State} (ds : Forest)
     → ReadsDocuments limit start ds
     → (o : List ℕ) (ts : List Kind) → yaml.IsBehindDocument (AreBlockDocuments ds) o → HasNoReturn o
-    → StandsInStream limit start false (Lined false o) o ts
+    → StandsLined limit start false false o ts
     → FinishesStream limit start (grammar.YieldsBehindDocument (grammar.YieldDocuments ds)) ts
 reads_behind {limit = limit} {start = start} ds go o ts (marks, others, (pieces, each, joins), h, e) clean v =
     reads_marked ds go pieces others ts each h (back_in _ marks others (subst HasNoReturn e clean))
-    (subst (λ (x : List ℕ). StandsInStream limit start false (Lined false x) x ts)
-    (e ∙ ap (λ (x : List ℕ). x ++ others) joins) v)
+    (lined_so (e ∙ ap (λ (x : List ℕ). x ++ others) joins) v)
 
 -- ## Documents
 
 reads_documents : {limit : ℕ} {start : State} → ReaderPromises → ReadsLeaves limit
     → (forest : Forest) (free : Bool) (t : List ℕ) (ts : List Kind) → AreBlockDocuments forest free t → HasNoReturn t
-    → StandsInStream limit start free (Lined free t) t ts
+    → StandsLined limit start free free t ts
     → FinishesStream limit start (grammar.YieldDocuments forest free) ts
 reads_documents readers leaves [] free t ts h clean v =
     let f = reads_stream_end v (moved v.mark t) (last_filler_past 0 v.mark t h) in
@@ -168,7 +164,7 @@ reads_documents readers leaves [] free t ts h clean v =
 reads_documents {limit = limit} {start = start} readers leaves (d ∷ ds) free t ts
     (filler, document, others, filler_is, is, behind, e) clean v =
     let first = passes_filler filler (document ++ others) filler_is
-    (subst (λ (x : List ℕ). StandsInStream limit start free (Lined free x) x ts) e v) in
+    (lined_so e v) in
     let left = back_in _ filler (document ++ others) (subst HasNoReturn e clean) in
     let n = reads_document readers leaves d free document others ts is (lands_behind leaves ds others behind)
     (plain_behind ds others behind) (front_in _ document others left) first in
@@ -184,7 +180,7 @@ reads_documents {limit = limit} {start = start} readers leaves (d ∷ ds) free t
     }
 
 pub begins : (limit : ℕ) (text : List ℕ) → length text ≤ limit
-    → StandsInStream limit (start text) true (Lined true text) text (tokens.StreamStart ∷ [])
+    → StandsLined limit (start text) true true text (tokens.StreamStart ∷ [])
 begins limit text h =
     let first = fetches_stream_start limit text in
     record {
@@ -213,7 +209,7 @@ pub yaml_leads : ReaderPromises → (limit : ℕ) → ReadsLeaves limit → (for
     × ((tokens : List Kind) × Yields forest tokens × (place_kinds d.queue.places ≡ tokens))
 yaml_leads readers limit leaves forest text clean (prefix, others, prefix_is, documents, e) short =
     let p = reads_prefix prefix others (tokens.StreamStart ∷ []) prefix_is
-    (subst (λ (x : List ℕ). StandsInStream limit (start text) true (Lined true x) x (tokens.StreamStart ∷ [])) e
+    (lined_so e
     (begins limit text short)) in
     let f = reads_documents readers leaves forest true others (tokens.StreamStart ∷ p.marks) documents
     (back_in _ prefix others (subst HasNoReturn e clean)) p.stands in (

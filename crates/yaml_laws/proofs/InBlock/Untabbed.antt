@@ -75,7 +75,8 @@ over_untabbed : (column : ℕ) → OverGap column
 over_untabbed column =
     record {
       ends = λ m tab none. refl;
-      tab = λ m c cs t tab none. absurd (clash (tabbed column m true tab (c ∷ cs)) (left_told column m tab c cs t) none);
+      tab = λ m c cs t tab none. absurd
+          (clash (tabbed column m true tab (c ∷ cs)) (left_told column m tab c cs t) none);
       white = λ m c cs t e on tab none. rw (t, none_left m c, e)
           (on (is_tab_indentation column m true c || tab) (rw e at none));
       break = λ m c cs t e f on tab none. rw (t, none_left m c, e, f) (on false (rw (e, f) at none));
@@ -163,7 +164,8 @@ settles i m t h =
 pub record GapPast (column : ℕ) (m : Marker) (blank : Bool) (t : List ℕ) : Type 0 where
   pub still_blank : Bool
   pub is : is_blank (slice_index (past column m t).1 0) ≡ false → (low : ℕ) → low ≤ column
-      → end_of_gap low m blank false false t ≡ stop (past column m t).0 still_blank (crosses t) false (past column m t).1
+      → end_of_gap low m blank false false t ≡ stop (past column m t).0 still_blank (crosses t) false
+      (past column m t).1
 
 pub gap_past : (column : ℕ) (m : Marker) (blank : Bool) (t : List ℕ) → GapPast column m blank t
 gap_past column m blank t =

@@ -318,7 +318,8 @@ both_along : {around : Around} {k : Candidate} {P Q : List ℕ → Type 0} {i j 
     → ReadsToken around k Q j → ((t : List ℕ) → Q t → Begins t)
     → ReadsPart around k
     (λ t. (a s c : List ℕ) × P a × IsGap around.indent s × Q c × (t ≡ a ++ (s ++ c))) (λ ts. ts ≡ i ∷ j ∷ [])
-both_along {around} {k} {i = i} {j} p q begins start qs t b behind w y e ad (a, s, c, h, gapped, g, t_is) ends text is are low r =
+both_along {around} {k} {i = i} {j} p q begins start qs t b behind w y e ad (a, s, c, h, gapped, g, t_is) ends text is
+    are low r =
     let o = b ++ behind in
     let rest = s ++ (c ++ b) in
     let spaced = blanks_between a s c t around.indent gapped t_is (front_on_line t b (t ++ b) refl text.on_line) in

@@ -20,7 +20,7 @@ use Rattle.yaml_laws.proofs.Flow.States.{IsClear, EndsDocument, marks_line, move
 use Rattle.yaml_laws.proofs.Flow.Places.{behind_character, moved_count}
 use Rattle.yaml_laws.proofs.Flow.GapSteps.{past_again}
 use Rattle.yaml_laws.proofs.InBlock.LineStarts.{fed_marks, last_marks}
-use Rattle.yaml_laws.proofs.Documents.Stands.{AtLine, Lined, OffLine, StandsInStream}
+use Rattle.yaml_laws.proofs.Documents.Stands.{StandsLined, AtLine, OffLine, StandsInStream}
 use Rattle.yaml_laws.proofs.InBlock.States.{Moment, root, moment_at, state_of, tabbed, crosses, IsStop, is_compact, IsPlaced, Before}
 use Rattle.yaml_laws.proofs.InBlock.Gaps.{past_stops}
 use Rattle.yaml_laws.proofs.InBlock.Untabbed.{settles}
@@ -96,7 +96,7 @@ pub record NodeStands (limit : ℕ) (start : State) (node : Node) (place : Posit
     Type 0 where
   pub tokens : List Kind
   pub are : AreRead node place tokens
-  pub stands : StandsInStream limit start false (Lined false others) others (ts ++ tokens)
+  pub stands : StandsLined limit start false false others (ts ++ tokens)
 
 -- at the end of a document it doesn't matter where content would have to be
 flat_here : (m : Marker) (y : List ℕ) (blank : Bool) (key : Option Candidate) (a : Bool) (ad : ℕ) (deeper : Bool)

@@ -18,7 +18,7 @@ use Rattle.yaml_laws.specs.Grammar.Yaml as yaml
 use Rattle.yaml_laws.specs.Grammar.Yaml.{IsDocumentPrefix}
 use Rattle.yaml_laws.proofs.Documents.Lines.{passes_filler}
 use Rattle.yaml_laws.proofs.Documents.Markers.{start_ends, end_ends, reads_end, reads_mark}
-use Rattle.yaml_laws.proofs.Documents.Stands.{Lined, StandsInStream}
+use Rattle.yaml_laws.proofs.Documents.Stands.{StandsLined}
 use Rattle.yaml_laws.proofs.InBlock.LineStarts.{HasLine}
 use Rattle.yaml_laws.proofs.InBlock.FurtherScalars.{EndsFed, fed_front}
 use Rattle.yaml_laws.proofs.InBlock.Further.{end_further}
@@ -113,7 +113,7 @@ StartsHere limit start marker more r =
     → IsTrue free ⊎ (d.directives ≡ []) → d.explicit ≡ true → AreCompatible d.directives
     → IsBlockNode most_open d.node BehindMarker node others → yaml.IsBehindDocument (AreBlockDocuments ds) others
     → node ++ others ≡ r
-    → StandsInStream limit start now (Lined opened (45 ∷ 45 ∷ 45 ∷ (r ++ more))) (45 ∷ 45 ∷ 45 ∷ (r ++ more))
+    → StandsLined limit start now opened (45 ∷ 45 ∷ 45 ∷ (r ++ more))
     (ts ++ map directive_token d.directives)
     → Closes limit start marker (grammar.YieldDocuments (d ∷ ds) free) ts
 
@@ -122,7 +122,7 @@ EndsHere limit start marker more r =
     (ds : Forest) (free opened : Bool) (end prefix others : List ℕ) (ts : List Kind) → IsEol end (prefix ++ others)
     → IsDocumentPrefix prefix others → AreBlockDocuments ds true others → HasNoReturn others
     → end ++ (prefix ++ others) ≡ r
-    → StandsInStream limit start free (Lined opened (46 ∷ 46 ∷ 46 ∷ (r ++ more))) (46 ∷ 46 ∷ 46 ∷ (r ++ more)) ts
+    → StandsLined limit start free opened (46 ∷ 46 ∷ 46 ∷ (r ++ more)) ts
     → Closes limit start marker (YieldsEnd ds) ts
 
 abbrev pub Found : ℕ → State → DocumentMarker → List ℕ → DocumentMarker → List ℕ → Type 0
@@ -142,10 +142,8 @@ marked_fed w r t h l = subst EndsFed (sym l.is)
 -- After a `...` line the scanner goes on with what may come before documents.
 pub passes_end : {limit : ℕ} {start : State} {marker : DocumentMarker} {free opened : Bool} (ds : Forest)
     (end o more : List ℕ) (ts : List Kind) → IsEol end o → EndsFed o
-    → StandsInStream limit start free
-    (Lined opened (full_stop ∷ full_stop ∷ full_stop ∷ (end ++ (o ++ more))))
-    (full_stop ∷ full_stop ∷ full_stop ∷ (end ++ (o ++ more))) ts
-    → ((us : List Kind) → StandsInStream limit start true (Lined true (o ++ more)) (o ++ more) us
+    → StandsLined limit start free opened (full_stop ∷ full_stop ∷ full_stop ∷ (end ++ (o ++ more))) ts
+    → ((us : List Kind) → StandsLined limit start true true (o ++ more) us
     → Closes limit start marker (YieldsAhead ds) us)
     → Closes limit start marker (YieldsEnd ds) ts
 passes_end ds end o more ts end_is fed v go =
@@ -155,9 +153,9 @@ passes_end ds end o more ts end_is fed v go =
 -- after filler and a byte order mark
 pub passes_mark : {limit : ℕ} {start : State} {marker : DocumentMarker} (ds : Forest) (filler o : List ℕ)
     (ts : List Kind) → IsFiller filler
-    → StandsInStream limit start true (Lined true (filler ++ (byte_order_mark ∷ o))) (filler ++ (byte_order_mark ∷ o))
+    → StandsLined limit start true true (filler ++ (byte_order_mark ∷ o))
     ts
-    → ((us : List Kind) → StandsInStream limit start true (Lined true o) o us
+    → ((us : List Kind) → StandsLined limit start true true o us
     → Closes limit start marker (YieldsAhead ds) us)
     → Closes limit start marker (YieldsAhead ds) ts
 passes_mark ds filler o ts is v go =

@@ -21,7 +21,7 @@ use Rattle.yaml_laws.proofs.Flow.States.{EndsDocument, moved, past}
 use Rattle.yaml_laws.proofs.Flow.Tokens.{within_index}
 use Rattle.yaml_laws.proofs.Flow.Separates.{separates_rest}
 use Rattle.yaml_laws.proofs.Documents.Lines.{eol, eol_first, break_ends}
-use Rattle.yaml_laws.proofs.Documents.Stands.{reads_here, Lined, StandsInStream}
+use Rattle.yaml_laws.proofs.Documents.Stands.{StandsLined, reads_here, StandsInStream}
 use Rattle.yaml_laws.proofs.Documents.Markers.{piece_of, at_line, start_here, start_ends, start_count, end_here, end_ends, end_count}
 use Rattle.yaml_laws.proofs.InBlock.States.{GoesOnAs}
 use Rattle.yaml_laws.proofs.InBlock.Follows.{first_step}
@@ -70,7 +70,7 @@ front_low : (i l limit : ℕ) → i + l ≤ limit → i ≤ limit
 front_low i l limit h = omega (arith, h)
 
 pub hands_start : {limit : ℕ} {start : State} {free opened : Bool} {ts : List Kind} (r : List ℕ)
-    → StandsInStream limit start free (Lined opened (hyphen ∷ hyphen ∷ hyphen ∷ r)) (hyphen ∷ hyphen ∷ hyphen ∷ r) ts
+    → StandsLined limit start free opened (hyphen ∷ hyphen ∷ hyphen ∷ r) ts
     → is_blank_or_breakz (slice_index r 0) ≡ true
     → Handed limit start (ts ++ tokens.DocumentStart ∷ [])
 hands_start {limit = limit} r v h =
@@ -81,8 +81,7 @@ hands_start {limit = limit} r v h =
     (front_low (v.mark.index + 3) (length r) limit (start_count v.mark r limit v.count))
 
 pub hands_end : {limit : ℕ} {start : State} {free opened : Bool} {ts : List Kind} (end o : List ℕ)
-    → StandsInStream limit start free (Lined opened (full_stop ∷ full_stop ∷ full_stop ∷ (end ++ o)))
-    (full_stop ∷ full_stop ∷ full_stop ∷ (end ++ o)) ts
+    → StandsLined limit start free opened (full_stop ∷ full_stop ∷ full_stop ∷ (end ++ o)) ts
     → IsEol end o
     → Handed limit start (ts ++ tokens.DocumentEnd ∷ [])
 hands_end {limit = limit} end o v h =

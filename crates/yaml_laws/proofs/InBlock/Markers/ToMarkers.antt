@@ -18,7 +18,7 @@ use Rattle.yaml_laws.specs.Grammar.Yaml.{IsDocumentPrefix, no_prefix, mark_prefi
 use Rattle.yaml_laws.proofs.Flow.States.{marks_line, ReaderPromises}
 use Rattle.yaml_laws.proofs.Documents.Lines.{passes_filler}
 use Rattle.yaml_laws.proofs.Documents.Markers.{reads_mark}
-use Rattle.yaml_laws.proofs.Documents.Stands.{Lined, StandsInStream, unfree}
+use Rattle.yaml_laws.proofs.Documents.Stands.{StandsLined, lined_so, unfree}
 use Rattle.yaml_laws.proofs.InBlock.Skips.{filler_skipped}
 use Rattle.yaml_laws.proofs.InBlock.LineStarts.{opens_line, HasLine, behind_piece, no_line, skipped_unmarked, last_unmarked, end_unmarked, mark_unmarked}
 use Rattle.yaml_laws.proofs.InBlock.FurtherScalars.{EndsFed, fed_behind, content_ends_further}
@@ -64,9 +64,9 @@ closes_beyond : {limit : ℕ} {start : State} {marker : DocumentMarker} → Read
     → (d : Document) (ds : Forest) (free : Bool) (document others : List ℕ) (ts : List Kind)
     → yaml.IsDocument (IsBlockNode most_open) d free document others
     → yaml.IsBehindDocument (AreBlockDocuments ds) others → HasNoReturn document
-    → StandsInStream limit start free (Lined free (document ++ (others ++ more))) (document ++ (others ++ more)) ts
+    → StandsLined limit start free free (document ++ (others ++ more)) ts
     → Marked w r others
-    → ((us : List Kind) → StandsInStream limit start false (Lined false (others ++ more)) (others ++ more) us
+    → ((us : List Kind) → StandsLined limit start false false (others ++ more) us
     → Closes limit start marker (grammar.YieldsBehindDocument (grammar.YieldDocuments ds)) us)
     → Closes limit start marker (grammar.YieldDocuments (d ∷ ds) free) ts
 closes_beyond readers leaves w r more rest d ds free document others ts is behind clean v line go =
@@ -98,10 +98,10 @@ closes_document : {limit : ℕ} {start : State} {marker : DocumentMarker} → Re
     → (d : Document) (ds : Forest) (free : Bool) (document others : List ℕ) (ts : List Kind)
     → yaml.IsDocument (IsBlockNode most_open) d free document others
     → yaml.IsBehindDocument (AreBlockDocuments ds) others → HasNoReturn document
-    → StandsInStream limit start free (Lined free (document ++ (others ++ more))) (document ++ (others ++ more)) ts
+    → StandsLined limit start free free (document ++ (others ++ more)) ts
     → Marked w r (document ++ others)
     → (Marked w r others → (us : List Kind)
-    → StandsInStream limit start false (Lined false (others ++ more)) (others ++ more) us
+    → StandsLined limit start false false (others ++ more) us
     → Closes limit start marker (grammar.YieldsBehindDocument (grammar.YieldDocuments ds)) us)
     → Closes limit start marker (grammar.YieldDocuments (d ∷ ds) free) ts
 closes_document readers leaves w r more rest found d ds free document others ts (inl (is_free, (same, unmarked, is)))
@@ -131,7 +131,7 @@ closes_document {limit = limit} {start = start} {marker = marker} readers leaves
         ∙ ap (λ (x : List ℕ). directives ++ (45 ∷ 45 ∷ 45 ∷ x))
         (sym (append_assoc node others more) ∙ ap (λ (x : List ℕ). x ++ more) left) in
         let f = reads_front readers d free directives (r ++ more) ts may are
-        (subst (λ (x : List ℕ). StandsInStream limit start free (Lined free x) x ts) text v) in
+        (lined_so text v) in
         found d ds free f.free f.opened node others ts may explicit compatible is behind left f.stands
 
     by_front : (front : List ℕ) → hyphen ∷ hyphen ∷ hyphen ∷ (node ++ others) ≡ front ++ (marker_text w ++ r)
@@ -151,49 +151,36 @@ closes_document {limit = limit} {start = start} {marker = marker} readers leaves
 
 -- the marker is that of a `...` line, or comes after it
 closes_end : {limit : ℕ} {start : State} {marker : DocumentMarker} {free opened : Bool} (w : DocumentMarker)
-    (r more : List ℕ) → IsMarkerRest r → Found limit start marker more w r
-    → (ds : Forest) (filler end prefix others : List ℕ) (ts : List Kind) → IsFiller filler
-    → IsEol end (prefix ++ others) → IsDocumentPrefix prefix others → AreBlockDocuments ds true others
-    → HasNoReturn others
-    → StandsInStream limit start free
-    (Lined opened ((filler ++ (full_stop ∷ full_stop ∷ full_stop ∷ (end ++ (prefix ++ others)))) ++ more))
-    ((filler ++ (full_stop ∷ full_stop ∷ full_stop ∷ (end ++ (prefix ++ others)))) ++ more) ts
-    → Marked w r (filler ++ (full_stop ∷ full_stop ∷ full_stop ∷ (end ++ (prefix ++ others))))
-    → (Marked w r (prefix ++ others) → (us : List Kind)
-    → StandsInStream limit start true (Lined true ((prefix ++ others) ++ more)) ((prefix ++ others) ++ more) us
-    → Closes limit start marker (YieldsAhead ds) us)
-    → Closes limit start marker (YieldsEnd ds) ts
+    (r more : List ℕ) → IsMarkerRest r → Found limit start marker more w r → (ds : Forest)
+    (filler end prefix others : List ℕ) (ts : List Kind) → IsFiller filler → IsEol end (prefix ++ others)
+    → IsDocumentPrefix prefix others → AreBlockDocuments ds true others → HasNoReturn others
+    → StandsLined limit start free opened ((filler ++ (full_stop ∷ full_stop ∷ full_stop ∷ (end ++ (prefix ++ others))))
+    ++ more) ts → Marked w r (filler ++ (full_stop ∷ full_stop ∷ full_stop ∷ (end ++ (prefix ++ others))))
+    → (Marked w r (prefix ++ others) → (us : List Kind) → StandsLined limit start true true ((prefix ++ others) ++ more)
+    us → Closes limit start marker (YieldsAhead ds) us) → Closes limit start marker (YieldsEnd ds) ts
 closes_end {limit = limit} {start = start} {marker = marker} {free = free} {opened = opened} w r more rest found ds
     filler end prefix others ts filler_is end_is prefix_is h clean v line go =
     let l = behind_piece true filler (46 ∷ 46 ∷ 46 ∷ (end ++ (prefix ++ others))) line.front (marker_text w ++ r)
     line.is (skipped_unmarked filler (filler_skipped filler filler_is) true _) line.line
     (marker_is_indicator w r rest) in
     let first = passes_filler filler (46 ∷ 46 ∷ 46 ∷ ((end ++ (prefix ++ others)) ++ more)) filler_is
-    (subst (λ (x : List ℕ). StandsInStream limit start free (Lined opened x) x ts)
-    (append_assoc filler (46 ∷ 46 ∷ 46 ∷ (end ++ (prefix ++ others))) more) v) in
+    (lined_so (append_assoc filler (46 ∷ 46 ∷ 46 ∷ (end ++ (prefix ++ others))) more) v) in
     by_front first l.front l.is l.line
   where
     at_marker : (w : DocumentMarker) → Found limit start marker more w r
-        → StandsInStream limit start free
-        (Lined opened (full_stop ∷ full_stop ∷ full_stop ∷ ((end ++ (prefix ++ others)) ++ more)))
-        (full_stop ∷ full_stop ∷ full_stop ∷ ((end ++ (prefix ++ others)) ++ more)) ts
-        → full_stop ∷ full_stop ∷ full_stop ∷ (end ++ (prefix ++ others)) ≡ marker_text w ++ r
+        → StandsLined limit start free opened (full_stop ∷ full_stop ∷ full_stop ∷ ((end ++ (prefix ++ others))
+        ++ more)) ts → full_stop ∷ full_stop ∷ full_stop ∷ (end ++ (prefix ++ others)) ≡ marker_text w ++ r
         → Closes limit start marker (YieldsEnd ds) ts
     at_marker Starts found first same =
         absurd (dash_or_dot (45 ∷ 45 ∷ r) (46 ∷ 46 ∷ (end ++ (prefix ++ others))) (sym same))
     at_marker Ends found first same =
         let text : end ++ (prefix ++ others) ≡ r = cc in
         found ds free opened end prefix others ts end_is prefix_is h clean text
-        (subst (λ (x : List ℕ). StandsInStream limit start free (Lined opened (46 ∷ 46 ∷ 46 ∷ (x ++ more)))
-        (46 ∷ 46 ∷ 46 ∷ (x ++ more)) ts) text first)
+        (subst (λ (x : List ℕ). StandsLined limit start free opened (46 ∷ 46 ∷ 46 ∷ (x ++ more)) ts) text first)
 
-    by_front : StandsInStream limit start free
-        (Lined opened (full_stop ∷ full_stop ∷ full_stop ∷ ((end ++ (prefix ++ others)) ++ more)))
-        (full_stop ∷ full_stop ∷ full_stop ∷ ((end ++ (prefix ++ others)) ++ more)) ts
-        → (front : List ℕ) → full_stop ∷ full_stop ∷ full_stop ∷ (end ++ (prefix ++ others))
-        ≡ front ++ (marker_text w ++ r)
-        → opens_line true front ≡ true
-        → Closes limit start marker (YieldsEnd ds) ts
+    by_front : StandsLined limit start free opened (full_stop ∷ full_stop ∷ full_stop ∷ ((end ++ (prefix ++ others))
+        ++ more)) ts → (front : List ℕ) → full_stop ∷ full_stop ∷ full_stop ∷ (end ++ (prefix ++ others)) ≡ front
+        ++ (marker_text w ++ r) → opens_line true front ≡ true → Closes limit start marker (YieldsEnd ds) ts
     by_front first [] same opens = at_marker w found first same
     by_front first (c ∷ cs) same opens =
         let dot : c ≡ 46 = cc in
@@ -202,7 +189,7 @@ closes_end {limit = limit} {start = start} {marker = marker} {free = free} {open
         (end_unmarked end (prefix ++ others) end_is false (prefix ++ others))
         (subst (λ (x : ℕ). opens_line (x == line_feed) cs ≡ true) dot opens) (marker_is_indicator w r rest) in
         passes_end ds end (prefix ++ others) more ts end_is (marked_fed w r (prefix ++ others) rest k)
-        (subst (λ (x : List ℕ). StandsInStream limit start free (Lined opened (46 ∷ 46 ∷ 46 ∷ x)) (46 ∷ 46 ∷ 46 ∷ x) ts)
+        (subst (λ (x : List ℕ). StandsLined limit start free opened (46 ∷ 46 ∷ 46 ∷ x) ts)
         (append_assoc end (prefix ++ others) more)
         first)
         (go k)
@@ -211,11 +198,11 @@ closes_end {limit = limit} {start = start} {marker = marker} {free = free} {open
 closes_prefix : {limit : ℕ} {start : State} {marker : DocumentMarker} (w : DocumentMarker) (r more : List ℕ)
     → IsMarkerRest r → Found limit start marker more w r → (ds : Forest)
     → ((t : List ℕ) (ts : List Kind) → AreBlockDocuments ds true t → HasNoReturn t
-    → StandsInStream limit start true (Lined true (t ++ more)) (t ++ more) ts → Marked w r t
+    → StandsLined limit start true true (t ++ more) ts → Marked w r t
     → Closes limit start marker (grammar.YieldDocuments ds true) ts)
     → (prefix others : List ℕ) (ts : List Kind) → IsDocumentPrefix prefix others → AreBlockDocuments ds true others
     → HasNoReturn others
-    → StandsInStream limit start true (Lined true ((prefix ++ others) ++ more)) ((prefix ++ others) ++ more) ts
+    → StandsLined limit start true true ((prefix ++ others) ++ more) ts
     → Marked w r (prefix ++ others)
     → Closes limit start marker (YieldsAhead ds) ts
 closes_prefix w r more rest found ds go _ _ ts (no_prefix others) h clean v line =
@@ -227,14 +214,13 @@ closes_prefix {limit = limit} {start = start} w r more rest found ds go _ _ ts (
     (append_assoc filler (65279 ∷ []) (next ++ others) ∙ sym text ∙ line.is)
     (mark_unmarked filler is true (next ++ others)) line.line (marker_is_indicator w r rest) in
     passes_mark ds filler ((next ++ others) ++ more) ts is
-    (subst (λ (x : List ℕ). StandsInStream limit start true (Lined true x) x ts)
-    (ap (λ (x : List ℕ). x ++ more) text ∙ append_assoc filler (65279 ∷ (next ++ others)) more) v)
+    (lined_so (ap (λ (x : List ℕ). x ++ more) text ∙ append_assoc filler (65279 ∷ (next ++ others)) more) v)
     (λ us s. closes_prefix w r more rest found ds go next others us p h clean s l)
 closes_prefix {limit = limit} {start = start} w r more rest found ds go _ _ ts
     (end_prefix filler end next others is end_is p) h clean v line =
     let text = suffix_text filler end next others in
     closes_as (end_ahead ds) (closes_end w r more rest found ds filler end next others ts is end_is p h clean
-    (subst (λ (x : List ℕ). StandsInStream limit start true (Lined true (x ++ more)) (x ++ more) ts) text v)
+    (lined_so (ap (λ (x : List ℕ). x ++ more) text) v)
     (subst (Marked w r) text line)
     (λ l us s. closes_prefix w r more rest found ds go next others us p h clean s l))
 
@@ -244,14 +230,14 @@ closes_prefix {limit = limit} {start = start} w r more rest found ds go _ _ ts
 abbrev ClosesDocuments : ℕ → State → DocumentMarker → DocumentMarker → List ℕ → List ℕ → Forest → Type 0
 ClosesDocuments limit start marker w r more ds =
     (free : Bool) (t : List ℕ) (ts : List Kind) → AreBlockDocuments ds free t → HasNoReturn t
-    → StandsInStream limit start free (Lined free (t ++ more)) (t ++ more) ts → Marked w r t
+    → StandsLined limit start free free (t ++ more) ts → Marked w r t
     → Closes limit start marker (grammar.YieldDocuments ds free) ts
 
 closes_unmarked : {limit : ℕ} {start : State} {marker : DocumentMarker} (w : DocumentMarker) (r more : List ℕ)
     → IsMarkerRest r → Found limit start marker more w r → (ds : Forest)
     → ClosesDocuments limit start marker w r more ds
     → (o : List ℕ) (ts : List Kind) → yaml.IsBehindMarks (AreBlockDocuments ds) o → HasNoReturn o
-    → StandsInStream limit start false (Lined false (o ++ more)) (o ++ more) ts → Marked w r o
+    → StandsLined limit start false false (o ++ more) ts → Marked w r o
     → Closes limit start marker (grammar.YieldsBehindDocument (grammar.YieldDocuments ds)) ts
 closes_unmarked w r more rest found ds go o ts (inl h) clean v line =
     closes_as (λ all told. ([], [], all, tt, inl (refl, told), refl)) (go false o ts h clean v line)
@@ -262,7 +248,7 @@ closes_unmarked {limit = limit} {start = start} {marker = marker} w r more rest 
     let left = back_in _ suffix others (subst HasNoReturn is clean) in
     closes_as (end_behind ds) (closes_end w r more rest found ds filler end prefix others ts filler_is end_is prefix_is
     h left
-    (subst (λ (x : List ℕ). StandsInStream limit start false (Lined false (x ++ more)) (x ++ more) ts) text v)
+    (lined_so (ap (λ (x : List ℕ). x ++ more) text) v)
     (subst (Marked w r) text line)
     (λ l us s. closes_prefix w r more rest found ds (go true) prefix others us prefix_is h left s l))
 
@@ -272,8 +258,7 @@ closes_marked : {limit : ℕ} {start : State} {marker : DocumentMarker} (w : Doc
     → ClosesDocuments limit start marker w r more ds
     → (pieces : List (List ℕ)) (o : List ℕ) (ts : List Kind) → AreEach yaml.IsMarkBehindFiller pieces
     → yaml.IsBehindMarks (AreBlockDocuments ds) o → HasNoReturn o
-    → StandsInStream limit start false (Lined false ((joined_pieces pieces ++ o) ++ more))
-    ((joined_pieces pieces ++ o) ++ more) ts
+    → StandsLined limit start false false ((joined_pieces pieces ++ o) ++ more) ts
     → Marked w r (joined_pieces pieces ++ o)
     → Closes limit start marker (grammar.YieldsBehindDocument (grammar.YieldDocuments ds)) ts
 closes_marked w r more rest found ds go [] o ts each h clean v line =
@@ -286,8 +271,7 @@ closes_marked {limit = limit} {start = start} w r more rest found ds go (piece �
     (append_assoc filler (65279 ∷ []) left ∙ sym text ∙ line.is) (mark_unmarked filler filler_is true left) line.line
     (marker_is_indicator w r rest) in
     let first = passes_filler filler (65279 ∷ (left ++ more)) filler_is
-    (subst (λ (x : List ℕ). StandsInStream limit start false (Lined false x) x ts)
-    (ap (λ (x : List ℕ). x ++ more) text ∙ append_assoc filler (65279 ∷ left) more) v) in
+    (lined_so (ap (λ (x : List ℕ). x ++ more) text ∙ append_assoc filler (65279 ∷ left) more) v) in
     closes_on ts (tokens.ByteOrderMark ∷ []) (mark_told (grammar.YieldDocuments ds))
     (closes_marked w r more rest found ds go pieces o (ts ++ tokens.ByteOrderMark ∷ []) each h clean
     (unfree (reads_mark (left ++ more) first)) l)
@@ -296,20 +280,20 @@ closes_behind : {limit : ℕ} {start : State} {marker : DocumentMarker} (w : Doc
     → IsMarkerRest r → Found limit start marker more w r → (ds : Forest)
     → ClosesDocuments limit start marker w r more ds
     → (o : List ℕ) (ts : List Kind) → yaml.IsBehindDocument (AreBlockDocuments ds) o → HasNoReturn o
-    → StandsInStream limit start false (Lined false (o ++ more)) (o ++ more) ts → Marked w r o
+    → StandsLined limit start false false (o ++ more) ts → Marked w r o
     → Closes limit start marker (grammar.YieldsBehindDocument (grammar.YieldDocuments ds)) ts
 closes_behind {limit = limit} {start = start} w r more rest found ds go o ts
     (marks, others, (pieces, each, joins), h, e) clean v line =
     let text = e ∙ ap (λ (x : List ℕ). x ++ others) joins in
     closes_marked w r more rest found ds go pieces others ts each h (back_in _ marks others (subst HasNoReturn e clean))
-    (subst (λ (x : List ℕ). StandsInStream limit start false (Lined false (x ++ more)) (x ++ more) ts) text v)
+    (lined_so (ap (λ (x : List ℕ). x ++ more) text) v)
     (subst (Marked w r) text line)
 
 -- The marker is at a line's start of the documents' text: up to it they are read, and there what is to be shown is.
 closes_documents : {limit : ℕ} {start : State} {marker : DocumentMarker} → ReaderPromises → ReadsLeaves limit
     → (w : DocumentMarker) (r more : List ℕ) → IsMarkerRest r → Found limit start marker more w r
     → (forest : Forest) (free : Bool) (t : List ℕ) (ts : List Kind) → AreBlockDocuments forest free t → HasNoReturn t
-    → StandsInStream limit start free (Lined free (t ++ more)) (t ++ more) ts → HasLine t (marker_text w ++ r)
+    → StandsLined limit start free free (t ++ more) ts → HasLine t (marker_text w ++ r)
     → Closes limit start marker (grammar.YieldDocuments forest free) ts
 closes_documents readers leaves w r more rest found [] free t ts h clean v line =
     absurd (no_line t (marker_text w ++ r) (last_unmarked t h) line (marker_is_indicator w r rest))
@@ -322,7 +306,7 @@ closes_documents {limit = limit} {start = start} readers leaves w r more rest fo
     ap (λ (x : List ℕ). x ++ more) e ∙ append_assoc filler (document ++ others) more
     ∙ ap (λ (x : List ℕ). filler ++ x) (append_assoc document others more) in
     let first = passes_filler filler (document ++ (others ++ more)) filler_is
-    (subst (λ (x : List ℕ). StandsInStream limit start free (Lined free x) x ts) text v) in
+    (lined_so text v) in
     let left = back_in _ filler (document ++ others) (subst HasNoReturn e clean) in
     closes_document readers leaves w r more rest found d ds free document others ts is behind
     (front_in _ document others left) first l
@@ -334,7 +318,7 @@ pub closes_stream : {limit : ℕ} {start : State} {marker : DocumentMarker} → 
     → (w : DocumentMarker) (r more : List ℕ) → IsMarkerRest r → Found limit start marker more w r
     → (forest : Forest) (prefix others : List ℕ) (ts : List Kind) → IsDocumentPrefix prefix others
     → AreBlockDocuments forest true others → HasNoReturn others
-    → StandsInStream limit start true (Lined true ((prefix ++ others) ++ more)) ((prefix ++ others) ++ more) ts
+    → StandsLined limit start true true ((prefix ++ others) ++ more) ts
     → HasLine (prefix ++ others) (marker_text w ++ r)
     → Closes limit start marker (YieldsAhead forest) ts
 closes_stream readers leaves w r more rest found forest prefix others ts prefix_is h clean v line =
