@@ -4,6 +4,7 @@ pub mod Derived
 pub mod YamlRefused
 pub mod MarksRefused
 pub mod NearMisses
+pub mod NearMissesInBlock
 pub mod NoValueBehindEnd
 pub mod OnLiterals
 pub mod OneForest

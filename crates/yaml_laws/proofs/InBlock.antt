@@ -15,6 +15,7 @@ pub mod FurtherScalars
 pub mod Further
 pub mod Statements
 pub mod Texts
+pub mod IndicatorLines
 pub mod BehindIndicators
 pub mod TabsAhead
 pub mod ValuesAhead

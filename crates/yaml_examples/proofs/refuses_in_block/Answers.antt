@@ -1,4 +1,4 @@
-use Rattle.yaml_examples.proofs.NearMisses.{lone_tab, tab_before_value, tab_in_indentation, tab_behind_question, tab_behind_left_out, tab_behind_block_scalar, entry_left, key_over_lines, sequence_behind_key, value_of_its_own, sequence_behind_colon}
+use Rattle.yaml_examples.proofs.NearMissesInBlock.{lone_tab, tab_before_value, tab_in_indentation, tab_behind_question, tab_behind_left_out, tab_behind_block_scalar, entry_left, key_over_lines, sequence_behind_key, value_of_its_own, sequence_behind_colon}
 use Rattle.yaml_examples.proofs.MarksRefused.{mark_behind_space}
 use Rattle.yaml_examples.proofs.refuses_in_block.Goals as goal
 

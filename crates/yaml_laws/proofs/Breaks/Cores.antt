@@ -234,6 +234,16 @@ still_then text R s r q f g h go =
     both_then (Still text s) R r q f g h
     (λ c d e i k. of_still text (λ a b. GiveAlike R (f a) (g b)) s c d k (λ x t m. go c x t m))
 
+-- what a step does once it has kept a key, where P holds of the cursor
+pub saved_then : {Y : Type 0}
+    → (text : List ℕ) (R : Y → Y → Type 0) (f : Core → Result Y Refusal) (P : Cursor → Type 0) (n : ℕ) (c : Core)
+    (x : Indexes) → Twin text c x → P c.cursor
+    → ((d : Core) (y : Indexes) → Twin text d y → P d.cursor → GiveAlike R (f d) (f (near_core y d)))
+    → GiveAlike R (f (save_key n c)) (f (save_key n (near_core x c)))
+saved_then text R f P n c x t h go =
+    of_still text (λ a b. GiveAlike R (f a) (f b)) c.cursor (save_key n c) (save_key n (near_core x c))
+    (save_still text n c x t) (λ y u e. go (save_key n c) y u (subst P (sym e) h))
+
 -- ## A character
 
 -- a text begins with a character that is no break

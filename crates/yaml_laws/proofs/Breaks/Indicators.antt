@@ -12,7 +12,7 @@ use Rattle.saphyr_scanner.specs.declared.engine.level.Context.{Context}
 use Rattle.saphyr_scanner.specs.Grammar.Tokens as tokens
 use Rattle.saphyr_scanner.specs.Grammar.Tokens.{Kind}
 use Rattle.saphyr_scanner.specs.Steps.Block as block
-use Rattle.saphyr_scanner.specs.Steps.Core.{Core, Put, in_block, save_key, remove_key, go_deeper, roll, is_further, forget_key, with_context}
+use Rattle.saphyr_scanner.specs.Steps.Core.{Core, Put, in_block, remove_key, go_deeper, roll, is_further, forget_key, with_context}
 use Rattle.saphyr_scanner.specs.Steps.Level.{Candidate, Level, ends_pair, behind_entry, behind_question, begins_pair, behind_colon}
 use Rattle.saphyr_scanner.specs.Steps.Fetch.{flow_value_steps}
 use Rattle.saphyr_scanner.specs.Steps.Flow as flow
@@ -20,7 +20,7 @@ use Rattle.saphyr_scanner.specs.Steps.Gap as gaps
 use Rattle.saphyr_scanner.specs.Steps.Passing.{pass_on, with_cursor}
 use Rattle.saphyr_scanner.specs.Steps.Value as value
 use Rattle.saphyr_scanner.specs.Limits.{most_open}
-use Rattle.yaml_laws.proofs.Breaks.Cores.{Indexes, near_core, near_key, near_levels, first, others, LevelsEven, Cores, Twin, Laws, Still, Inked, of_cores, of_still, core_then, still_then, same_length, save_still, remove_still, roll_still, forgotten, separate_then, pass_then, still_pass_then, still_inked, pass_twin, pass_near, pass_ahead, twin_low, twin_stands, twin_moves, going_to, here_adjacent}
+use Rattle.yaml_laws.proofs.Breaks.Cores.{Indexes, near_core, near_key, near_levels, first, others, LevelsEven, Cores, Twin, Laws, Still, Inked, of_cores, of_still, core_then, still_then, same_length, remove_still, roll_still, forgotten, separate_then, pass_then, still_pass_then, still_inked, pass_twin, pass_near, pass_ahead, twin_low, twin_stands, twin_moves, going_to, here_adjacent, saved_then}
 use Rattle.yaml_laws.proofs.Breaks.Gaps.{spaces_alike}
 use Rattle.yaml_laws.proofs.Breaks.Normal.{first_is, second_is}
 use Rattle.yaml_laws.proofs.Breaks.Places.{reindexed, near, even_index, ahead_ahead, ahead_stands, low_ahead, choose, both_choose, both_so}
@@ -48,10 +48,8 @@ pub start_same : (text : List ℕ) (k : Context) (kind : Kind) (n : ℕ) (c : Co
     (flow.opening_steps k kind n (near_core x c))
 unfolding flow.opening_steps
 start_same text k kind n c x laws t ink =
-    of_still text (λ a b. GiveAlike (SameSteps text) (flow.open_collection k kind (go_deeper a))
-    (flow.open_collection k kind (go_deeper b))) c.cursor (save_key n c) (save_key n (near_core x c))
-    (save_still text n c x t) (λ y u e. open_same text k kind (go_deeper (save_key n c)) y laws u
-    (still_inked c.cursor (save_key n c).cursor e ink))
+    saved_then text (SameSteps text) (λ a. flow.open_collection k kind (go_deeper a)) (λ s. Inked s.rest) n c x t ink
+    (λ d y u i. open_same text k kind (go_deeper d) y laws u i)
 
 leave_still : (text : List ℕ) (ls : List Level) (c : Core) (x : Indexes) → Twin text c x
     → LevelsEven c.cursor.mark x.at x.outer ls

@@ -21,12 +21,12 @@ use Rattle.scalar_laws.specs.Alike.{AreSame, AreMarksAlike, AreNoted, ArePlainAl
 use Rattle.scalar_laws.proofs.Breaks.Results.{both_then}
 use Rattle.saphyr_scanner.specs.Grammar.Tokens as tokens
 use Rattle.saphyr_scanner.specs.Grammar.Tokens.{Kind}
-use Rattle.saphyr_scanner.specs.Steps.Core.{Core, in_block, least_column, save_key}
+use Rattle.saphyr_scanner.specs.Steps.Core.{Core, in_block, least_column}
 use Rattle.saphyr_scanner.specs.Steps.Passing.{pass_gap, with_cursor}
 use Rattle.saphyr_scanner.specs.Steps.Property as property
 use Rattle.saphyr_scanner.specs.Steps.Scalar as scalar
 use Rattle.saphyr_scanner.specs.TokensTaken.{block_indicator}
-use Rattle.yaml_laws.proofs.Breaks.Cores.{Indexes, near_core, near_comment, Cores, Twin, Laws, Inked, here_adjacent, of_cores, of_still, save_still, separate_then, still_inked, twin_reads, read_twin, going_to}
+use Rattle.yaml_laws.proofs.Breaks.Cores.{Indexes, near_core, near_comment, Cores, Twin, Laws, Inked, here_adjacent, of_cores, separate_then, twin_reads, read_twin, going_to, saved_then}
 use Rattle.yaml_laws.proofs.Breaks.Normal.{first_is}
 use Rattle.yaml_laws.proofs.Breaks.Gaps.{Rested, gap_rests}
 use Rattle.yaml_laws.proofs.Breaks.Places.{reindexed, near, both_choose}
@@ -108,19 +108,15 @@ pub double_same : (text : List ℕ) (n : ℕ) (c : Core) (x : Indexes) → Laws 
     → GiveAlike (SameSteps text) (scalar.double_quoted_steps n c) (scalar.double_quoted_steps n (near_core x c))
 unfolding scalar.double_quoted_steps scalar.read_double_quoted
 double_same text n c x laws t begins =
-    of_still text (λ a b. GiveAlike (SameSteps text) (scalar.read_double_quoted (scalar.disallow_key a))
-    (scalar.read_double_quoted (scalar.disallow_key b))) c.cursor (save_key n c) (save_key n (near_core x c))
-    (save_still text n c x t) (λ y u e. quotes_same text Double DoubleQuoted
-    (scalar.disallow_key (save_key n c)) y refl laws u (begins_still 34 c.cursor (save_key n c).cursor e begins))
+    saved_then text (SameSteps text) (λ a. scalar.read_double_quoted (scalar.disallow_key a)) (Begins 34) n c x t begins
+    (λ d y u b. quotes_same text Double DoubleQuoted (scalar.disallow_key d) y refl laws u b)
 
 pub single_same : (text : List ℕ) (n : ℕ) (c : Core) (x : Indexes) → Laws text → Twin text c x → Begins 39 c.cursor
     → GiveAlike (SameSteps text) (scalar.single_quoted_steps n c) (scalar.single_quoted_steps n (near_core x c))
 unfolding scalar.single_quoted_steps scalar.read_single_quoted
 single_same text n c x laws t begins =
-    of_still text (λ a b. GiveAlike (SameSteps text) (scalar.read_single_quoted (scalar.disallow_key a))
-    (scalar.read_single_quoted (scalar.disallow_key b))) c.cursor (save_key n c) (save_key n (near_core x c))
-    (save_still text n c x t) (λ y u e. quotes_same text Single SingleQuoted
-    (scalar.disallow_key (save_key n c)) y refl laws u (begins_still 39 c.cursor (save_key n c).cursor e begins))
+    saved_then text (SameSteps text) (λ a. scalar.read_single_quoted (scalar.disallow_key a)) (Begins 39) n c x t begins
+    (λ d y u b. quotes_same text Single SingleQuoted (scalar.disallow_key d) y refl laws u b)
 
 -- ## Plain scalars
 
@@ -169,11 +165,9 @@ pub plain_same : (text : List ℕ) (n : ℕ) (c : Core) (x : Indexes) → Laws t
     → GiveAlike (SameSteps text) (scalar.plain_steps n c) (scalar.plain_steps n (near_core x c))
 unfolding scalar.plain_steps
 plain_same text n c x laws t =
-    of_still text (λ a b. GiveAlike (SameSteps text)
-    (scalar.read_plain (record (scalar.disallow_key a) { deeper = false }))
-    (scalar.read_plain (record (scalar.disallow_key b) { deeper = false }))) c.cursor
-    (save_key n c) (save_key n (near_core x c)) (save_still text n c x t)
-    (λ y u e. read_same text (record (scalar.disallow_key (save_key n c)) { deeper = false }) y laws u)
+    let bare : Core → Core = λ a. record (scalar.disallow_key a) { deeper = false } in
+    saved_then text (SameSteps text) (λ a. scalar.read_plain (bare a)) (λ s. Unit {0}) n c x t tt
+    (λ d y u _. read_same text (bare d) y laws u)
 
 -- ## Block scalars
 
@@ -205,12 +199,9 @@ pub block_same : (text : List ℕ) (style : BlockStyle) (n : ℕ) (c : Core) (x 
     (scalar.block_scalar_steps style n (near_core x c))
 unfolding scalar.block_scalar_steps
 block_same text style n c x laws t begins =
-    of_still text (λ a b. GiveAlike (SameSteps text)
-    (scalar.read_block style (record a { key_allowed = true; deeper = false }))
-    (scalar.read_block style (record b { key_allowed = true; deeper = false }))) c.cursor
-    (save_key n c) (save_key n (near_core x c)) (save_still text n c x t)
-    (λ y u e. read_block_same text style (record (save_key n c) { key_allowed = true; deeper = false }) y laws u
-    (begins_still (block_indicator style) c.cursor (save_key n c).cursor e begins))
+    let bare : Core → Core = λ a. record a { key_allowed = true; deeper = false } in
+    saved_then text (SameSteps text) (λ a. scalar.read_block style (bare a)) (Begins (block_indicator style)) n c x t
+    begins (λ d y u b. read_block_same text style (bare d) y laws u b)
 
 -- ## Anchors, aliases and tags
 
@@ -249,10 +240,8 @@ pub name_same : (text : List ℕ) (token_of : List ℕ → Kind) (n : ℕ) (c : 
     → GiveAlike (SameSteps text) (property.name_steps token_of n c) (property.name_steps token_of n (near_core x c))
 unfolding property.name_steps
 name_same text token_of n c x laws t ink =
-    of_still text (λ a b. GiveAlike (SameSteps text) (property.read_name token_of (scalar.disallow_key a))
-    (property.read_name token_of (scalar.disallow_key b))) c.cursor (save_key n c) (save_key n (near_core x c))
-    (save_still text n c x t) (λ y u e. read_name_same text token_of (scalar.disallow_key (save_key n c)) y laws u
-    (still_inked c.cursor (save_key n c).cursor e ink))
+    saved_then text (SameSteps text) (λ a. property.read_name token_of (scalar.disallow_key a)) (λ s. Inked s.rest) n c x
+    t ink (λ d y u i. read_name_same text token_of (scalar.disallow_key d) y laws u i)
 
 read_tag_same : (text : List ℕ) (c : Core) (x : Indexes) → Laws text → Twin text c x → Begins 33 c.cursor
     → GiveAlike (SameSteps text) (property.read_tag c) (property.read_tag (near_core x c))
@@ -273,7 +262,5 @@ pub tag_same : (text : List ℕ) (n : ℕ) (c : Core) (x : Indexes) → Laws tex
     → GiveAlike (SameSteps text) (property.tag_steps n c) (property.tag_steps n (near_core x c))
 unfolding property.tag_steps
 tag_same text n c x laws t begins =
-    of_still text (λ a b. GiveAlike (SameSteps text) (property.read_tag (scalar.disallow_key a))
-    (property.read_tag (scalar.disallow_key b))) c.cursor (save_key n c) (save_key n (near_core x c))
-    (save_still text n c x t) (λ y u e. read_tag_same text (scalar.disallow_key (save_key n c)) y laws u
-    (begins_still 33 c.cursor (save_key n c).cursor e begins))
+    saved_then text (SameSteps text) (λ a. property.read_tag (scalar.disallow_key a)) (Begins 33) n c x t begins
+    (λ d y u b. read_tag_same text (scalar.disallow_key d) y laws u b)

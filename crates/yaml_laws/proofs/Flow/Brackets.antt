@@ -40,7 +40,7 @@ use Rattle.std.proofs.lemmas.Bool.{true≢false}
 use Rattle.saphyr_scanner.proofs.Steps.Choice.{comma_begins}
 use Rattle.yaml_laws.specs.Grammar.FlowNodes.{IsComma}
 use Rattle.scalar_laws.proofs.Breaks.Sides.{no_feed}
-use Rattle.yaml_laws.proofs.Flow.Inks.{BeginsInk, is_start, start_ink, start_nul, start_directive}
+use Rattle.yaml_laws.proofs.Flow.Inks.{BeginsInk, is_start, start_ink, start_nul, start_directive, colon_ink}
 use Rattle.yaml_laws.proofs.Flow.Pieces.{fits_front, fits_so, end_ink, parted_by}
 
 -- a character that is a token
@@ -176,8 +176,7 @@ one_place : (indent : ℕ) (s : Cursor) (found : SkipTabs) (there : Cursor) → 
     → (w more : List ℕ) → s.rest ≡ w ++ (58 ∷ more) → IsSeparation indent w → indent ≤ s.mark.col
     → IsTrue (list_all is_blank w) → there.mark ≡ moved s.mark w
 one_place indent s found there is w more text parts right blank =
-    let colon : IsInk 58 = record { blank = refl; break = refl; comment = refl; byte_order_mark = refl } in
-    let p = separates indent s w 58 more text parts right colon in
+    let p = separates indent s w 58 more text parts right colon_ink in
     ap (reached s.mark) (sym is ∙ p.is) ∙ (p.near (all_blank w blank)).1
 
 either : (b : Bool) (n k bound : ℕ) → n ≤ bound → k ≤ bound → cond b n k ≤ bound

@@ -23,6 +23,21 @@ pub record BeginsInk (t : List ℕ) : Type 0 where
   pub is : t ≡ first ∷ others
   pub ink : IsInk first
 
+pub percent_ink : IsInk 37
+percent_ink = record { blank = refl; break = refl; comment = refl; byte_order_mark = refl }
+
+pub dash_ink : IsInk 45
+dash_ink = record { blank = refl; break = refl; comment = refl; byte_order_mark = refl }
+
+pub dot_ink : IsInk 46
+dot_ink = record { blank = refl; break = refl; comment = refl; byte_order_mark = refl }
+
+pub colon_ink : IsInk 58
+colon_ink = record { blank = refl; break = refl; comment = refl; byte_order_mark = refl }
+
+pub question_ink : IsInk 63
+question_ink = record { blank = refl; break = refl; comment = refl; byte_order_mark = refl }
+
 pub begins_with : (c : ℕ) (cs t : List ℕ) → t ≡ c ∷ cs → IsInk c → BeginsInk t
 begins_with c cs t e h = record { first = c; others = cs; is = e; ink = h }
 

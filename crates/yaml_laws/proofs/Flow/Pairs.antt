@@ -15,13 +15,13 @@ use Rattle.saphyr_scanner.specs.Limits.{most_open}
 use Rattle.saphyr_scanner.proofs.Levels.{saved}
 use Rattle.yaml_laws.specs.Grammar.FlowNodes.{allows_adjacent, IsColonAndValue, IsBeforeColon, IsKeyAndValue, IsValueAlone, IsFlowNode, IsKeyText}
 use Rattle.yaml_laws.proofs.InFlow.States.{Around, state_at, FlowMoment, moment_in}
-use Rattle.yaml_laws.proofs.Flow.States.{moved, past, FitsAround, IsInk, IsParted, ends_colon, IsBehindNode, Known, PassesPiece, no_key, ended, keeping, IsNodeOrKey, PassesNode, after, StandsBefore, key_behind, NodePasses}
+use Rattle.yaml_laws.proofs.Flow.States.{moved, past, FitsAround, IsParted, ends_colon, IsBehindNode, Known, PassesPiece, no_key, ended, keeping, IsNodeOrKey, PassesNode, after, StandsBefore, key_behind, NodePasses}
 use Rattle.yaml_laws.proofs.Flow.Places.{moved_append, right_one}
 use Rattle.yaml_laws.proofs.Flow.GapSteps.{past_ink, less_on, less_behind}
 use Rattle.yaml_laws.proofs.Flow.Fillers.{separation_past, right_behind}
 use Rattle.yaml_laws.proofs.Flow.Joins.{join, separation_joins, knowing}
 use Rattle.yaml_laws.proofs.Flow.Values.{key_kinds, colon_flows, colon_passes, alone_kinds, value_passes}
-use Rattle.yaml_laws.proofs.Flow.Inks.{ink_front, node_ink}
+use Rattle.yaml_laws.proofs.Flow.Inks.{ink_front, node_ink, colon_ink}
 use Rattle.yaml_laws.proofs.Flow.Pieces.{fits_front, fits_back, fits_so, fits_before, IsBehindEntry, entry_behind, entry_parted, parted_by, white_ends_colon, entry_ends_colon}
 
 -- The tokens of a piece, of which something is told, and the run over its text.
@@ -297,9 +297,8 @@ marked_key_passes {around} room key value K V y flows no_pair m t o fits ends h 
         let known = n.passes.knows in
         let kept : key_behind now m ≡ None = rw (none_allowed, no_candidate) refl in
         let second = slice_index more 0 in
-        let ink : IsInk 58 = record { blank = refl; break = refl; comment = refl; byte_order_mark = refl } in
         let lands = separation_past around.indent at_end h.1 (58 ∷ more) h.4 n.passes.right
-        ∙ past_ink around.indent here 58 more ink in
+        ∙ past_ink around.indent here 58 more colon_ink in
         let told : at_colon here second n.passes.key n.passes.allowed n.passes.adjacent n.passes.new = (
           known.keeps flows ∙ kept,
           by_place h.1 second n.passes.adjacent here.index colon_ends (known.near flows h.1 more refl h.4),

@@ -24,7 +24,7 @@ use Rattle.yaml_laws.proofs.Flow.States.{moved, past, crosses, EndsDocument, IsL
 use Rattle.yaml_laws.proofs.Flow.Places.{moved_append, moved_count, moved_along}
 use Rattle.yaml_laws.proofs.Flow.GapSteps.{past_ink}
 use Rattle.yaml_laws.proofs.Flow.Fillers.{rest_past, blanks_past}
-use Rattle.yaml_laws.proofs.Flow.Inks.{node_ink}
+use Rattle.yaml_laws.proofs.Flow.Inks.{node_ink, colon_ink}
 use Rattle.yaml_laws.proofs.Documents.Lines.{eol}
 use Rattle.yaml_laws.proofs.Flow.NodesPass.{nodes_close}
 use Rattle.yaml_laws.proofs.InBlock.States.{Frame, Moment, core_of, IsStop, IsLeftOf, At, Before, moment_at, state_of, tabbed, GoesOnAs}
@@ -41,7 +41,6 @@ use Rattle.saphyr_scalar.proofs.Given.{cursor_at}
 use Rattle.saphyr_scanner.proofs.Taken.States.{too_far}
 use Rattle.saphyr_scanner.proofs.Queues.{place_kinds, place_kinds_append}
 use Rattle.yaml_laws.proofs.InFlow.KeyLines.{IsNear, not_far, deeper_at, is_required}
-use Rattle.yaml_laws.proofs.InFlow.KeyScalars.{colon_ink}
 use Rattle.yaml_laws.proofs.InFlow.Keys.{key_read, blanks_are_on_line, both_on_line}
 use Rattle.yaml_laws.proofs.InBlock.Skips.{right_untabbed}
 use Rattle.yaml_laws.proofs.InBlock.Texts.{ink_clean}

@@ -2,3 +2,4 @@
 pub mod HandedMarkers
 pub mod AtMarkers
 pub mod ToMarkers
+pub mod LastMarkers

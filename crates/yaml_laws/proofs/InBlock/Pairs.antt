@@ -26,11 +26,12 @@ use Rattle.yaml_laws.proofs.InBlock.Colons.{value_kinds, reads_value, reads_colo
 use Rattle.yaml_laws.proofs.InBlock.ValuesAhead.{value_here}
 use Rattle.yaml_laws.proofs.InBlock.Statements.{EndsNodeAt, ArrivedAt, Arrived, as_optional, ReadsAt, ReadsLeaves}
 use Rattle.yaml_laws.proofs.InBlock.Texts.{node_ends, behind_indented, indentation_skipped, indentation_col, reaches}
-use Rattle.yaml_laws.proofs.InBlock.BehindIndicators.{colon_ink, node_behind}
+use Rattle.yaml_laws.proofs.InBlock.BehindIndicators.{node_behind}
 use Rattle.yaml_laws.proofs.InBlock.TabsAhead.{no_tab_ahead}
 use Rattle.saphyr_input.proofs.Basics.Booleans.{clash}
 use Rattle.saphyr_input.proofs.Basics.Numbers.{next_not_within}
 use Rattle.yaml_laws.proofs.InBlock.Parts.{starts_behind, not_empty, some_first, least, frame_indent, suc_is, goes_on, ReadsPart}
+use Rattle.yaml_laws.proofs.Flow.Inks.{colon_ink}
 
 -- the start of a mapping, where one begins
 abbrev pub mapping_start : Bool → List Kind

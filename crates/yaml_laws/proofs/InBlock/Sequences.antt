@@ -17,8 +17,9 @@ use Rattle.yaml_laws.proofs.InBlock.States.{Frame, At}
 use Rattle.yaml_laws.proofs.InBlock.Entries.{frame_behind, dash_kinds, reads_dash}
 use Rattle.yaml_laws.proofs.InBlock.Statements.{EndsNodeAt, Arrived, EndsWithLine, as_optional, NodeRead, ReadsAt, ReadsLeaves}
 use Rattle.yaml_laws.proofs.InBlock.Texts.{node_ends}
-use Rattle.yaml_laws.proofs.InBlock.BehindIndicators.{dash_ink, node_behind}
+use Rattle.yaml_laws.proofs.InBlock.BehindIndicators.{node_behind}
 use Rattle.yaml_laws.proofs.InBlock.Parts.{frame_indent, suc_is, IsPart, PartRead, ReadsOtherParts, parts_so, no_other_parts, AreParts, more_parts, PartsRead, told_parts, reads_parts}
+use Rattle.yaml_laws.proofs.Flow.Inks.{dash_ink}
 
 -- ## An entry
 

@@ -12,14 +12,14 @@ use Rattle.yaml_laws.proofs.InBlock.States.{IsStop}
 use Rattle.yaml_laws.proofs.InBlock.Gaps.{ink_stop, stop_past}
 use Rattle.yaml_laws.proofs.InBlock.Skips.{IsSkipped, Passes, filler_skipped, skipped_passes, gap_passes, both_pass, skipped_append, spaces_skipped, line_end_skipped}
 use Rattle.yaml_laws.proofs.InBlock.Statements.{ReadsLeaves}
-use Rattle.yaml_laws.proofs.InBlock.Documents.Ends.{AreBlockDocuments, OpensMarker, dot_ink, suffix_text}
+use Rattle.yaml_laws.proofs.InBlock.Documents.Ends.{AreBlockDocuments, OpensMarker, suffix_text}
 use Rattle.saphyr_scalar.specs.Reading.BlockLines.{spaces}
 use Rattle.saphyr_scanner.specs.Limits.{most_open}
 use Rattle.yaml_laws.specs.Grammar.BlockNodes.{Position, BehindDash, BehindMark, BehindKey, BehindMarker, AtStart, indent_at, sequence_indent_at, IsLead, IsLeftOut, IsFlowInBlock, IsBlockNode}
 use Rattle.yaml_laws.specs.Grammar.Yaml as yaml
 use Rattle.yaml_laws.specs.Grammar.Yaml.{AreDirectives}
-use Rattle.yaml_laws.proofs.Flow.Inks.{BeginsInk, properties_ink}
-use Rattle.yaml_laws.proofs.InBlock.BehindIndicators.{dash_ink, further_ink, entries_ink, pairs_ink}
+use Rattle.yaml_laws.proofs.Flow.Inks.{BeginsInk, properties_ink, dash_ink, dot_ink, percent_ink}
+use Rattle.yaml_laws.proofs.InBlock.BehindIndicators.{further_ink, entries_ink, pairs_ink}
 use Rattle.yaml_laws.proofs.InBlock.Documents.DirectiveLines.{directive_line}
 
 -- ## A token after what is skipped
@@ -113,9 +113,6 @@ node_token leaves (Map p pairs) place t o (inr (m, lead, entries, lead_is, h, e)
     inr (lead_token p place (indent_at place) m lead entries t lead_is (pairs_ink leaves pairs m entries o h) e)
 
 -- ## Documents
-
-percent_ink : IsInk 37
-percent_ink = record { blank = refl; break = refl; comment = refl; byte_order_mark = refl }
 
 ink_is_token : (c : ℕ) (cs t : List ℕ) → IsInk c → t ≡ c ∷ cs → HasToken t
 ink_is_token c cs t ink e = record { white = []; passes = λ m y. refl; first = c; others = cs; ink = ink; is = e }

@@ -21,7 +21,7 @@ use Rattle.yaml_laws.proofs.InFlow.States.{Around, core_at, state_at, drops_far_
 use Rattle.yaml_laws.proofs.InFlow.OnLine.{separation_of_blanks}
 use Rattle.yaml_laws.proofs.InFlow.KeyLines.{Ready, keeps_near_key}
 use Rattle.yaml_laws.proofs.InFlow.KeyTokens.{InKey, in_near, in_back, in_right, in_limit, in_so}
-use Rattle.yaml_laws.proofs.InFlow.KeyScalars.{Blanks, colon_ink, colon_text, colon_after, ReadsKey}
+use Rattle.yaml_laws.proofs.InFlow.KeyScalars.{Blanks, colon_text, colon_after, ReadsKey}
 use Rattle.yaml_laws.proofs.Flow.States.{moved, past, IsParted}
 use Rattle.yaml_laws.proofs.Flow.Places.{moved_append, moved_index, clear_front}
 use Rattle.yaml_laws.proofs.Flow.GapSteps.{past_ink}
@@ -35,7 +35,7 @@ use Rattle.std.proofs.lemmas.Bool.{le-leb}
 use Rattle.saphyr_input.specs.Indicators.{colon}
 use Rattle.saphyr_scanner.proofs.Queues.{token_place, place_kinds, place_kinds_append, queue_of}
 use Rattle.saphyr_scanner.proofs.Levels.{level_of}
-use Rattle.yaml_laws.proofs.Flow.Inks.{starts}
+use Rattle.yaml_laws.proofs.Flow.Inks.{starts, colon_ink}
 
 -- inside a key's brackets nothing is required at block level
 abbrev pub calmed : Around → Around

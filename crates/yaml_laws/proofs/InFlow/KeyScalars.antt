@@ -30,7 +30,7 @@ use Rattle.yaml_laws.proofs.InFlow.Tabs.{tabs_behind}
 use Rattle.yaml_laws.proofs.InFlow.OnLine.{separation_of_blanks, plain_lowers, plain_key_lowers}
 use Rattle.yaml_laws.proofs.InFlow.KeyLines.{Ready, token_led, ink_gap}
 use Rattle.yaml_laws.proofs.InFlow.KeyTokens.{InKey, in_near, in_back, in_right, in_limit, in_so, TokensAlong}
-use Rattle.yaml_laws.proofs.Flow.States.{moved, past, crosses, IsInk, ReaderPromises, IsClear}
+use Rattle.yaml_laws.proofs.Flow.States.{moved, past, crosses, ReaderPromises, IsClear}
 use Rattle.yaml_laws.proofs.Flow.Places.{moved_index, clear_front}
 use Rattle.yaml_laws.proofs.Flow.GapSteps.{past_ink}
 use Rattle.yaml_laws.proofs.InBlock.Skips.{blanks_cross}
@@ -44,10 +44,7 @@ use Rattle.std.proofs.lemmas.Bool.{eq-eqb}
 use Rattle.saphyr_input.specs.Indicators.{apostrophe, colon, number_sign}
 use Rattle.saphyr_input.proofs.Basics.Booleans.{clash}
 use Rattle.saphyr_scanner.proofs.Gaps.{stop_here}
-use Rattle.yaml_laws.proofs.Flow.Inks.{Begins}
-
-pub colon_ink : IsInk 58
-colon_ink = record { blank = refl; break = refl; comment = refl; byte_order_mark = refl }
+use Rattle.yaml_laws.proofs.Flow.Inks.{Begins, colon_ink}
 
 -- the blanks between a key and its colon
 pub record Blanks : Type 0 where

@@ -10,7 +10,7 @@ use Rattle.saphyr_scanner.specs.Limits.{most_open}
 use Rattle.yaml_laws.specs.Grammar.BlockNodes.{BehindMarker, IsBlockNode, EndsContent}
 use Rattle.yaml_laws.specs.Grammar.Yaml as yaml
 use Rattle.yaml_laws.specs.Grammar.Yaml.{AreDirectives, AreDocuments}
-use Rattle.yaml_laws.proofs.Flow.States.{IsInk, EndsDocument, moved, past}
+use Rattle.yaml_laws.proofs.Flow.States.{EndsDocument, moved, past}
 use Rattle.yaml_laws.proofs.Flow.Fillers.{last_filler_past}
 use Rattle.yaml_laws.proofs.Documents.Lines.{eol, eol_first, filler_at_line}
 use Rattle.yaml_laws.proofs.Documents.Markers.{start_ends, end_ends}
@@ -66,9 +66,6 @@ last_plain o (filler, text, filler_is, (front, comment, are, k, text_is), is) =
       clean = skipped_clean filler (front ++ comment) (filler_skipped filler filler_is)
           (λ least m blank. rest_ends_clean front comment are k least m blank false);
     })
-
-pub dot_ink : IsInk 46
-dot_ink = record { blank = refl; break = refl; comment = refl; byte_order_mark = refl }
 
 -- a `...` line before what comes after it
 pub suffix_text : (filler end prefix others : List ℕ)

@@ -1,0 +1,206 @@
+-- What comes after an indicator: blanks and a token, or the end of a line.
+use Rattle.std.proofs.Common.{◌≡◌, ◌≢◌, ℕ, zero, suc, ◌+◌, ◌≤◌, Bool, true, false, List, [], ◌∷◌, ◌++◌, length, slice_index, refl, sym, ap, ◌∙◌, arith, subst, append_assoc, append-nil, ◌⊎◌, inl, inr, IsTrue}
+use Rattle.std.specs.Prelude.{◌||◌, ◌&&◌, ◌==◌, not, take}
+use Rattle.std.specs.List.{list_all, list_any, prefix_len}
+use Rattle.std.proofs.lemmas.Bool.Decides.{nat_tests}
+use Rattle.std.proofs.lemmas.Bool.{eqb-true}
+use Rattle.saphyr_input.specs.Classes.{is_alpha, is_blank, is_blank_or_breakz, line_feed, space, tab}
+use Rattle.saphyr_input.specs.Indicators.{hyphen}
+use Rattle.saphyr_input.specs.Separation.{found_blanks, found_tabs, has_valid_yaml_ws}
+use Rattle.saphyr_input.specs.declared.input.SkipTabs.TheVariants.{Yes}
+use Rattle.saphyr_scalar.specs.declared.scalar.position.Marker.{Marker}
+use Rattle.saphyr_scalar.specs.Reading.BlockLines.{spaces}
+use Rattle.saphyr_scalar.specs.Views.Cursor.{along, next_line}
+use Rattle.saphyr_scalar.specs.Spelling.Tag.{AreIn}
+use Rattle.scalar_laws.specs.Spelling.Spaces.{IsComment, IsCommentBehind, IsLineRest, IsLineEnd, IsEol}
+use Rattle.yaml_laws.proofs.Flow.States.{IsInk, moved, past}
+use Rattle.yaml_laws.proofs.Documents.Lines.{rest_first}
+use Rattle.yaml_laws.proofs.Flow.Fillers.{spaces_are_blank, blanks_past, behind_is, front_past}
+use Rattle.yaml_laws.proofs.Flow.Separates.{line_stops, ink_stops, front_moved}
+use Rattle.yaml_laws.proofs.InBlock.States.{tabbed, crosses}
+use Rattle.yaml_laws.proofs.InBlock.Skips.{blanks_cross, rest_crosses, last_crosses, IsCleanIn, blanks_pass, skipped_untabbed, blanks_untabbed, line_end_skipped, rest_ends_clean}
+use Rattle.yaml_laws.proofs.InBlock.Entries.{BeginsWhite, IsBehindIndicator}
+use Rattle.saphyr_input.proofs.Basics.Booleans.{and_false}
+use Rattle.yaml_laws.proofs.InBlock.Texts.{ink_clean}
+
+-- ## After an indicator
+
+along_front : (m : Marker) (blanks comment : List ℕ) → AreIn is_blank blanks → (comment ≡ []) ⊎ IsComment comment
+    → along m (length (blanks ++ comment)) ≡ moved m (blanks ++ comment)
+along_front m blanks comment are k = sym (front_moved m blanks comment are k)
+
+white_line : (blanks comment o : List ℕ) → AreIn is_blank blanks → IsCommentBehind blanks comment
+    → BeginsWhite (blanks ++ (comment ++ (line_feed ∷ o)))
+white_line (b ∷ bs) comment o are k = inl are.0
+white_line [] comment o are (inr k) = absurd (k.0 refl)
+white_line [] comment o are (inl e) = subst (λ (x : List ℕ). BeginsWhite (x ++ (10 ∷ o))) (sym e) (inr refl)
+
+white_last : (blanks comment : List ℕ) → AreIn is_blank blanks → IsCommentBehind blanks comment
+    → (blanks ++ (comment ++ []) ≡ []) ⊎ BeginsWhite (blanks ++ (comment ++ []))
+white_last (b ∷ bs) comment are k = inr (inl are.0)
+white_last [] comment are (inr k) = absurd (k.0 refl)
+white_last [] comment are (inl e) = inl (ap (λ (x : List ℕ). x ++ []) e)
+
+last_clean : (least : ℕ) (blanks comment : List ℕ) → AreIn is_blank blanks → (comment ≡ []) ⊎ IsComment comment
+    → (m : Marker) → tabbed least m false false (blanks ++ (comment ++ [])) ≡ false
+last_clean least blanks comment are k m =
+    ap (λ (x : List ℕ). tabbed least m false false (blanks ++ x)) (append-nil comment)
+    ∙ rest_ends_clean blanks comment are k least m false false
+
+-- which blanks are found before a token
+blanks_found : (p : ℕ → Bool) (w : List ℕ) (c : ℕ) (cs : List ℕ) → AreIn is_blank w → is_blank c ≡ false
+    → list_any p (take (prefix_len is_blank (w ++ (c ∷ cs))) (w ++ (c ∷ cs))) ≡ list_any p w
+blanks_found p [] c cs are h = rw h refl
+blanks_found p (b ∷ bs) c cs are h =
+    let n = prefix_len is_blank (bs ++ (c ∷ cs)) in
+    let one : 1 + n ≡ suc n = omega arith in
+    rw (are.0, one) (ap (λ (q : Bool). p b || q) (blanks_found p bs c cs are.1 h))
+
+-- among blanks that are not tabs alone is a space
+tabs_or_space : (w : List ℕ) (a : Bool) → AreIn is_blank w → (list_all (λ c. c == tab) w && a) ≡ false
+    → (not (list_any (λ c. c == space) w) && a) ≡ false
+tabs_or_space [] a are h = h
+tabs_or_space (b ∷ bs) a are h = by_space (b == space) refl (λ k. tabs_or_space bs a are.1 k)
+  where
+    is_tab : (b : ℕ) → IsTrue (is_blank b) → (b == space) ≡ false → (b == tab) ≡ true
+    is_tab b h e = grind (arith, nat_tests)
+
+    by_space : (q : Bool) → (b == space) ≡ q
+        → ((list_all (λ c. c == tab) bs && a) ≡ false → (not (list_any (λ c. c == space) bs) && a) ≡ false)
+        → (not ((b == space) || list_any (λ c. c == space) bs) && a) ≡ false
+    by_space true e further = rw e refl
+    by_space false e further =
+        let t = is_tab b are.0 e in
+        rw e (further (ap (λ (q : Bool). (q && list_all (λ c. c == tab) bs) && a) (sym t) ∙ h))
+
+dash_is_alpha : (c : ℕ) → ((c == hyphen) || is_alpha c) ≡ is_alpha c
+dash_is_alpha c = by_dash (c == hyphen) refl
+  where
+    by_dash : (q : Bool) → (c == hyphen) ≡ q → ((c == hyphen) || is_alpha c) ≡ is_alpha c
+    by_dash true e =
+        subst (λ (d : ℕ). ((d == 45) || is_alpha d) ≡ is_alpha d) (sym (eqb-true c 45 e)) refl
+    by_dash false e = rw e refl
+
+blank_apart : (c : ℕ) → IsTrue (is_blank c) → is_blank_or_breakz c ≡ true
+blank_apart c h = grind (arith, nat_tests)
+
+-- Blanks and a token. After a tab it is no `-` of a compact sequence and, after a colon and tabs alone, no word.
+pub blanks_behind : {colon : Bool} {indent : ℕ} (w : List ℕ) (c : ℕ) (cs : List ℕ) → AreIn is_blank w → w ≢ [] → IsInk c
+    → (list_any (λ b. b == tab) w && ((c == hyphen) && is_blank_or_breakz (slice_index cs 0))) ≡ false
+    → (colon ≡ true → (list_all (λ b. b == tab) w && is_alpha c) ≡ false)
+    → IsBehindIndicator colon indent (w ++ (c ∷ cs))
+blanks_behind [] c cs are some ink dash word = absurd (some refl)
+blanks_behind (b ∷ bs) c cs are some ink dash word =
+    let w = b ∷ bs in
+    record {
+      blanks = w;
+      comment = [];
+      more = c ∷ cs;
+      is = refl;
+      are = are;
+      parts = inl refl;
+      stops = ink_stops c cs ink;
+      dash = ap (λ (q : Bool). q && ((c == 45) && is_blank_or_breakz (slice_index cs 0)))
+          (blanks_found (λ d. d == 9) w c cs are ink.blank) ∙ dash;
+      word = λ e. ap (λ (q : Bool). not q && ((c == 45) || is_alpha c))
+          (blanks_found (λ d. d == 32) w c cs are ink.blank)
+          ∙ ap (λ (q : Bool). not (list_any (λ d. d == 32) w) && q) (dash_is_alpha c)
+          ∙ tabs_or_space w (is_alpha c) are (word e);
+      lands = λ m. ap (λ (k : Marker). past 0 k (c ∷ cs))
+          (along_front m w [] are (inl refl) ∙ ap (moved m) (append-nil w)) ∙ sym (blanks_pass w are m (c ∷ cs));
+      crosses_same = sym (blanks_cross w (c ∷ cs) are);
+      clean = λ least low m. ink_clean c cs ink least m false;
+      clean_all = λ least low m. blanks_untabbed least w (c ∷ cs) are (ink_clean c cs ink) m;
+      white = inr (inl are.0);
+      first = blank_apart b are.0;
+    }
+
+-- spaces and a token
+pub token_behind : {colon : Bool} {indent : ℕ} (n : ℕ) (c : ℕ) (cs : List ℕ) → 1 ≤ n → IsInk c
+    → IsBehindIndicator colon indent (spaces n ++ (c ∷ cs))
+token_behind n c cs some ink =
+    blanks_behind (spaces n) c cs (spaces_are_blank n) (some_spaces n some) ink (rw (no_tab n) refl)
+    (λ _. rw (some_space n some) refl)
+  where
+    some_spaces : (n : ℕ) → 1 ≤ n → spaces n ≢ []
+    some_spaces zero h = absurd (omega (arith, h))
+    some_spaces (suc n) h = λ e. cc
+
+    no_tab : (n : ℕ) → list_any (λ b. b == tab) (spaces n) ≡ false
+    no_tab zero = refl
+    no_tab (suc n) = no_tab n
+
+    some_space : (n : ℕ) → 1 ≤ n → list_all (λ b. b == tab) (spaces n) ≡ false
+    some_space zero h = absurd (omega (arith, h))
+    some_space (suc n) h = refl
+
+-- the rest of a line, and its break
+pub line_behind : {colon : Bool} {indent : ℕ} (rest o : List ℕ) → IsLineRest rest → IsCleanIn indent o
+    → IsBehindIndicator colon indent (rest ++ (line_feed ∷ o))
+line_behind rest o (blanks, comment, are, k, e) clean =
+    let c = behind_is blanks comment k in
+    let text : rest ++ (10 ∷ o) ≡ blanks ++ (comment ++ (10 ∷ o)) =
+    ap (λ (x : List ℕ). x ++ (10 ∷ o)) e ∙ append_assoc blanks comment (10 ∷ o) in
+    let skipped = line_end_skipped (rest ++ (10 ∷ [])) (rest, (blanks, comment, are, k, e), refl) in
+    let whole : rest ++ (10 ∷ o) ≡ (rest ++ (10 ∷ [])) ++ o = sym (append_assoc rest (10 ∷ []) o) in
+    record {
+      blanks = blanks;
+      comment = comment;
+      more = 10 ∷ o;
+      is = text;
+      are = are;
+      parts = k;
+      stops = line_stops comment (10 ∷ o) (inr refl);
+      dash = and_false (found_tabs (found_blanks Yes (rest ++ (10 ∷ o))));
+      word = λ _. and_false (not (has_valid_yaml_ws (found_blanks Yes (rest ++ (10 ∷ o)))));
+      lands = λ m. ap (λ (n : Marker). past 0 n (10 ∷ o)) (along_front m blanks comment are c)
+          ∙ sym (ap (past 0 m) (text ∙ sym (append_assoc blanks comment (10 ∷ o)))
+          ∙ front_past 0 m (blanks ++ comment) blanks comment (10 ∷ o)
+          (λ y. (blanks_past 0 blanks are m (omega arith)).is y) c refl (inr refl));
+      crosses_same = sym (ap crosses text ∙ rest_crosses blanks comment o are c);
+      clean = λ least low m. clean least low (next_line m 1) true;
+      clean_all = λ least low m. ap (tabbed least m false false) whole
+          ∙ skipped_untabbed least (rest ++ (10 ∷ [])) o skipped (clean least low) m false;
+      white = inr (subst BeginsWhite (sym text) (white_line blanks comment o are k));
+      first = rest_first rest (10 ∷ o) (blanks, comment, are, k, e) (inr refl);
+    }
+
+-- the same at the text's end
+pub last_behind : {colon : Bool} {indent : ℕ} (rest : List ℕ) → IsLineRest rest → IsBehindIndicator colon indent rest
+last_behind rest (blanks, comment, are, k, e) =
+    let c = behind_is blanks comment k in
+    let text : rest ≡ blanks ++ (comment ++ []) = e ∙ ap (λ (x : List ℕ). blanks ++ x) (sym (append-nil comment)) in
+    record {
+      blanks = blanks;
+      comment = comment;
+      more = [];
+      is = text;
+      are = are;
+      parts = k;
+      stops = line_stops comment [] (inl refl);
+      dash = and_false (found_tabs (found_blanks Yes rest));
+      word = λ _. and_false (not (has_valid_yaml_ws (found_blanks Yes rest)));
+      lands = λ m. ap (λ (n : Marker). past 0 n []) (along_front m blanks comment are c)
+          ∙ sym (ap (past 0 m) (text ∙ sym (append_assoc blanks comment []))
+          ∙ front_past 0 m (blanks ++ comment) blanks comment []
+          (λ y. (blanks_past 0 blanks are m (omega arith)).is y) c refl (inl refl));
+      crosses_same = sym (ap crosses text ∙ last_crosses blanks comment are c);
+      clean = λ least low m. refl;
+      clean_all = λ least low m. ap (tabbed least m false false) text ∙ last_clean least blanks comment are c m;
+      white = subst (λ (x : List ℕ). (x ≡ []) ⊎ BeginsWhite x) (sym text) (white_last blanks comment are k);
+      first = ap (λ (x : List ℕ). is_blank_or_breakz (slice_index x 0)) (sym (append-nil rest))
+          ∙ rest_first rest [] (blanks, comment, are, k, e) (inl refl);
+    }
+
+pub eol_behind : {colon : Bool} {indent : ℕ} (t o : List ℕ) → IsEol t o → IsCleanIn indent o
+    → IsBehindIndicator colon indent (t ++ o)
+eol_behind {colon} {indent} t o (inl (rest, h, is)) clean =
+    subst (IsBehindIndicator colon indent) (sym (ap (λ (x : List ℕ). x ++ o) is ∙ append_assoc rest (10 ∷ []) o))
+    (line_behind rest o h clean)
+eol_behind {colon} {indent} t o (inr (h, e)) clean =
+    subst (IsBehindIndicator colon indent) (sym (ap (λ (x : List ℕ). t ++ x) e ∙ append-nil t)) (last_behind t h)
+
+-- after the end of a line
+pub line_end_behind : {colon : Bool} {indent : ℕ} (t o : List ℕ) → IsLineEnd t → IsCleanIn indent o
+    → IsBehindIndicator colon indent (t ++ o)
+line_end_behind t o h clean = eol_behind t o (inl h) clean
