@@ -10,8 +10,9 @@ use Rattle.saphyr_scanner.specs.Grammar.Forest.{Style, Plain, SingleQuoted, Doub
 use Rattle.saphyr_scanner.specs.Limits.{most_open}
 use Rattle.yaml_laws.specs.Grammar.TagSpelling.{IsTag}
 use Rattle.yaml_laws.specs.Grammar.FlowNodes.{IsAnchor, AreProperties, IsProperties, IsKeyText, IsFlowNode}
-use Rattle.yaml_laws.specs.Grammar.BlockNodes.{Position, BehindDash, BehindMark, BehindKey, BehindMarker, AtStart, is_start, is_behind_colon, indent_at, sequence_indent_at, IsGapAt, IsCollectionFront, IsStyled, IsScalarFront, IsLead, IsFlowInBlock, IsBlockPair, IsBlockNode, AreEntries, ArePairs}
+use Rattle.yaml_laws.specs.Grammar.BlockNodes.{Position, is_start, is_behind_colon, indent_at, sequence_indent_at, IsGapAt, IsCollectionFront, IsStyled, IsScalarFront, IsLead, IsFlowInBlock, IsBlockPair, IsBlockNode, AreEntries, ArePairs}
 use Rattle.yaml_laws.proofs.Flow.States.{IsInk}
+use Rattle.yaml_laws.proofs.InBlock.States.{compact_spaced}
 use Rattle.yaml_laws.proofs.Flow.Inks.{BeginsInk, ink_front, dash_ink, question_ink, colon_ink}
 use Rattle.yaml_laws.proofs.Flow.Names.{tag_read, tag_first}
 use Rattle.yaml_laws.proofs.InBlock.Skips.{IsSkipped, IsClean, skipped_clean, lines_clean, skipped_append, spaces_skipped, filler_skipped}
@@ -164,15 +165,10 @@ lead_behind {colon} p place least m lead t out (inl (front, end, filler, low, fr
         (sym (ap (λ (x : List ℕ). x ++ rest) is ∙ append_assoc gap properties rest))
         (apart_so place gap (properties ++ rest) out gap_is
         (further_apart properties rest (properties_apart p (indent_at place) properties h)))
-lead_behind {colon} p (BehindDash column) least m lead t out (inr (none, (n, some, col, is))) b =
-    subst (λ (x : List ℕ). IsBehindIndicator colon (suc column) (x ++ t)) (sym is)
-    (ink_so (spaces n) t b (λ c cs ink. token_behind n c cs some ink))
-lead_behind {colon} p (BehindMark column) least m lead t out (inr (none, (n, some, col, is))) b =
-    subst (λ (x : List ℕ). IsBehindIndicator colon (suc column) (x ++ t)) (sym is)
-    (ink_so (spaces n) t b (λ c cs ink. token_behind n c cs some ink))
-lead_behind p (BehindKey column) least m lead t out (inr (none, h)) b = absurd h
-lead_behind p BehindMarker least m lead t out (inr (none, h)) b = absurd h
-lead_behind p AtStart least m lead t out (inr h) b = absurd (clash true refl out)
+lead_behind {colon} p place least m lead t out (inr (none, h)) b =
+    let s = compact_spaced place m lead h in
+    subst (λ (x : List ℕ). IsBehindIndicator colon (indent_at place) (x ++ t)) (sym s.is)
+    (ink_so (spaces s.count) t b (λ c cs ink. token_behind s.count c cs (s.some out) ink))
 
 flow_behind : {limit : ℕ} → ReadsLeaves limit → (node : Node) (place : Position) (t o : List ℕ)
     → IsFalse (is_start place)

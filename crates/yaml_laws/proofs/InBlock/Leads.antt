@@ -1,5 +1,5 @@
 -- What comes before a block collection is passed: its properties, or nothing, and the way to its first entry.
-use Rattle.std.proofs.Common.{◌≡◌, ℕ, ◌+◌, ◌≤◌, true, List, [], ◌∷◌, ◌++◌, refl, sym, ap, ◌∙◌, arith, subst, append_assoc, append-nil, inl, inr}
+use Rattle.std.proofs.Common.{◌≡◌, ℕ, ◌≤◌, true, List, [], ◌∷◌, ◌++◌, refl, sym, ap, ◌∙◌, subst, append_assoc, append-nil, inl, inr}
 use Rattle.std.specs.Prelude.{◌||◌, None}
 use Rattle.saphyr_scalar.specs.declared.scalar.position.Marker.{Marker}
 use Rattle.saphyr_scalar.specs.Reading.BlockLines.{spaces}
@@ -8,12 +8,12 @@ use Rattle.saphyr_scanner.specs.Steps.State.{State}
 use Rattle.saphyr_scanner.specs.Grammar.Tokens.{Kind}
 use Rattle.saphyr_scanner.specs.Grammar.TokenGrammar as grammar
 use Rattle.saphyr_scanner.specs.Grammar.Forest.{Properties, no_properties}
-use Rattle.yaml_laws.specs.Grammar.BlockNodes.{Position, BehindDash, BehindMark, BehindKey, BehindMarker, AtStart, indent_at, sequence_indent_at, IsLead}
+use Rattle.yaml_laws.specs.Grammar.BlockNodes.{Position, indent_at, sequence_indent_at, IsLead}
 use Rattle.yaml_laws.proofs.Flow.States.{moved, past}
 use Rattle.yaml_laws.proofs.Flow.Places.{moved_append}
 use Rattle.yaml_laws.proofs.InBlock.Lines.{FitsOnLines, fits_so}
 use Rattle.yaml_laws.proofs.Flow.Inks.{BeginsInk}
-use Rattle.yaml_laws.proofs.InBlock.States.{Frame, crosses, is_compact, IsPlaced, At, Before}
+use Rattle.yaml_laws.proofs.InBlock.States.{Frame, crosses, is_compact, IsPlaced, At, Before, compact_spaced}
 use Rattle.yaml_laws.proofs.InBlock.Skips.{IsSkipped, skipped_append, filler_skipped, spaces_skipped, line_end_skipped, line_end_crosses}
 use Rattle.yaml_laws.proofs.InBlock.Statements.{ReadsLeaves, IsNextLineText}
 use Rattle.yaml_laws.proofs.InBlock.Texts.{reaches, spaces_moved, indentation_col}
@@ -81,22 +81,11 @@ reads_lead {limit} leaves p place least column f same m lead y
     (subst (λ (x : List ℕ). Before limit start place f m x ts) text v) in
     subst (λ (x : List ℕ). LeadRead limit start p f (moved m x) y ts) (sym is)
     (record { tokens = r.tokens; are = r.are; at = r.at; none = r.none; allowed = r.allowed })
-reads_lead {limit} leaves p (BehindDash c) least column f same m lead y (inr (none, (n, some, col, e))) b fits start ts
-    v =
-    subst (λ (x : List ℕ). LeadRead limit start p f (moved m x) y ts) (sym e)
-    (plain_lead p (BehindDash c) f m (spaces n) y none (spaces_skipped n) b refl
-    (subst (λ (x : List ℕ). Before limit start (BehindDash c) f m (x ++ y) ts) e v))
-reads_lead {limit} leaves p (BehindMark c) least column f same m lead y (inr (none, (n, some, col, e))) b fits start ts
-    v =
-    subst (λ (x : List ℕ). LeadRead limit start p f (moved m x) y ts) (sym e)
-    (plain_lead p (BehindMark c) f m (spaces n) y none (spaces_skipped n) b refl
-    (subst (λ (x : List ℕ). Before limit start (BehindMark c) f m (x ++ y) ts) e v))
-reads_lead leaves p (BehindKey c) least column f same m lead y (inr (none, h)) b fits start ts v = absurd h
-reads_lead leaves p BehindMarker least column f same m lead y (inr (none, h)) b fits start ts v = absurd h
-reads_lead {limit} leaves p AtStart least column f same m lead y (inr (none, e)) b fits start ts v =
-    subst (λ (x : List ℕ). LeadRead limit start p f (moved m x) y ts) (sym e)
-    (plain_lead p AtStart f m (spaces column) y none (spaces_skipped column) b refl
-    (subst (λ (x : List ℕ). Before limit start AtStart f m (x ++ y) ts) e v))
+reads_lead {limit} leaves p place least column f same m lead y (inr (none, h)) b fits start ts v =
+    let s = compact_spaced place column lead h in
+    subst (λ (x : List ℕ). LeadRead limit start p f (moved m x) y ts) (sym s.is)
+    (plain_lead p place f m (spaces s.count) y none (spaces_skipped s.count) b (rw s.compact refl)
+    (subst (λ (x : List ℕ). Before limit start place f m (x ++ y) ts) s.is v))
 
 -- ## Columns
 
@@ -113,41 +102,22 @@ next_col m front end filler column end_is filler_is =
     at_line m end (rest, h, is) =
         ap (λ (x : List ℕ). (moved m x).col) is ∙ ap (λ (n : Marker). n.col) (moved_append m rest (10 ∷ []))
 
-spaced_col : (m : Marker) (n c : ℕ) → m.col ≡ c → (moved m (spaces n)).col ≡ c + n
-spaced_col m n c e = ap (λ (x : Marker). x.col) (spaces_moved m n) ∙ ap (λ (i : ℕ). i + n) e
-
 -- the first token of a collection is at its column
 pub lead_col : (p : Properties) (place : Position) (least column : ℕ) (m : Marker) (lead : List ℕ) → IsPlaced place m
     → IsLead p place least column lead → (moved m lead).col ≡ column
 lead_col p place least column m lead at (inl (front, end, filler, low, front_is, end_is, filler_is, e)) =
     ap (λ (x : List ℕ). (moved m x).col) e ∙ next_col m front end filler column end_is filler_is
-lead_col p (BehindDash c) least column m lead at (inr (none, (n, some, col, e))) =
-    ap (λ (x : List ℕ). (moved m x).col) e ∙ spaced_col m n (c + 1) at ∙ sym col
-lead_col p (BehindMark c) least column m lead at (inr (none, (n, some, col, e))) =
-    ap (λ (x : List ℕ). (moved m x).col) e ∙ spaced_col m n (c + 1) at ∙ sym col
-lead_col p (BehindKey c) least column m lead at (inr (none, h)) = absurd h
-lead_col p BehindMarker least column m lead at (inr (none, h)) = absurd h
-lead_col p AtStart least column m lead at (inr (none, e)) =
-    ap (λ (x : List ℕ). (moved m x).col) e ∙ spaced_col m column 0 at ∙ zero_plus column
-  where
-    zero_plus : (n : ℕ) → 0 + n ≡ n
-    zero_plus n = omega arith
+lead_col p place least column m lead at (inr (none, h)) =
+    let s = compact_spaced place column lead h in
+    ap (λ (x : List ℕ). (moved m x).col) s.is ∙ ap (λ (x : Marker). x.col) (spaces_moved m s.count) ∙ s.col m at
 
 -- a mapping is to the right of what encloses it
 pub mapping_least : (p : Properties) (place : Position) (column : ℕ) (lead : List ℕ)
     → IsLead p place (indent_at place) column lead → indent_at place ≤ column
 mapping_least p place column lead (inl h) = h.3
-mapping_least p (BehindDash c) column lead (inr (none, (n, some, col, e))) = omega (arith, some, col)
-mapping_least p (BehindMark c) column lead (inr (none, (n, some, col, e))) = omega (arith, some, col)
-mapping_least p (BehindKey c) column lead (inr (none, h)) = absurd h
-mapping_least p BehindMarker column lead (inr (none, h)) = absurd h
-mapping_least p AtStart column lead (inr (none, e)) = omega arith
+mapping_least p place column lead (inr (none, h)) = (compact_spaced place column lead h).low
 
 pub sequence_least : (p : Properties) (place : Position) (column : ℕ) (lead : List ℕ)
     → IsLead p place (sequence_indent_at place) column lead → sequence_indent_at place ≤ column
 sequence_least p place column lead (inl h) = h.3
-sequence_least p (BehindDash c) column lead (inr (none, (n, some, col, e))) = omega (arith, some, col)
-sequence_least p (BehindMark c) column lead (inr (none, (n, some, col, e))) = omega (arith, some, col)
-sequence_least p (BehindKey c) column lead (inr (none, h)) = absurd h
-sequence_least p BehindMarker column lead (inr (none, h)) = absurd h
-sequence_least p AtStart column lead (inr (none, e)) = omega arith
+sequence_least p place column lead (inr (none, h)) = (compact_spaced place column lead h).sequence_low

@@ -28,6 +28,7 @@ use Rattle.yaml_laws.proofs.InBlock.Sequences.{ReadsOtherEntries, no_entries, mo
 use Rattle.yaml_laws.proofs.InBlock.Mappings.{is_pair, ReadsOtherPairs, no_other_pairs, more_pairs}
 use Rattle.std.proofs.Math.Bool.{or-true}
 use Rattle.std.proofs.lemmas.Bool.{leb-true}
+use Rattle.saphyr_input.proofs.Basics.Booleans.{clash}
 
 -- ## A node that is left out
 
@@ -68,26 +69,17 @@ indent_near (BehindKey c) = omega arith
 indent_near BehindMarker = omega arith
 indent_near AtStart = omega arith
 
+enough : (i j col : ℕ) → i ≡ j → j ≤ col → nat_le i col ≡ true
+enough i j col e h = grind (arith, nat_tests)
+
 -- a sequence at the column of what encloses it is in a mapping
 in_mapping : (place : Position) (i col : ℕ) → i ≡ indent_at place → sequence_indent_at place ≤ col
     → nat_le i col ≡ false → grammar.IsInBlockMapping (context_at place)
 in_mapping (BehindMark c) i col same low e = tt
 in_mapping (BehindKey c) i col same low e = tt
-in_mapping (BehindDash c) i col same low e =
-    absurd (let k = enough i (suc c) col same low in let no : true ≡ false = sym k ∙ e in cc)
-  where
-    enough : (i j col : ℕ) → i ≡ j → j ≤ col → nat_le i col ≡ true
-    enough i j col e h = grind (arith, nat_tests)
-in_mapping BehindMarker i col same low e =
-    absurd (let k = enough i 0 col same low in let no : true ≡ false = sym k ∙ e in cc)
-  where
-    enough : (i j col : ℕ) → i ≡ j → j ≤ col → nat_le i col ≡ true
-    enough i j col e h = grind (arith, nat_tests)
-in_mapping AtStart i col same low e =
-    absurd (let k = enough i 0 col same low in let no : true ≡ false = sym k ∙ e in cc)
-  where
-    enough : (i j col : ℕ) → i ≡ j → j ≤ col → nat_le i col ≡ true
-    enough i j col e h = grind (arith, nat_tests)
+in_mapping (BehindDash c) i col same low e = absurd (clash (nat_le i col) (enough i (suc c) col same low) e)
+in_mapping BehindMarker i col same low e = absurd (clash (nat_le i col) (enough i 0 col same low) e)
+in_mapping AtStart i col same low e = absurd (clash (nat_le i col) (enough i 0 col same low) e)
 
 new_list : (ts us : List Kind) (k : Kind)
     → ((ts ++ k ∷ []) ++ us) ++ tokens.BlockEnd ∷ [] ≡ ts ++ (k ∷ (us ++ tokens.BlockEnd ∷ []))

@@ -1,6 +1,9 @@
 -- What is said of a piece of a text at block level, and of the states before it and after it. Block collections may be
 -- open.
-use Rattle.std.proofs.Common.{◌≡◌, ℕ, ◌+◌, ◌<◌, ◌≤◌, Bool, true, false, List, [], ◌∷◌, slice_index, ◌⊎◌}
+use Rattle.std.proofs.Common.{◌≡◌, ℕ, ◌+◌, ◌<◌, ◌≤◌, Bool, true, false, List, [], ◌∷◌, slice_index, ◌⊎◌, IsFalse, refl, sym, ap, ◌∙◌, arith}
+use Rattle.std.proofs.Math.Nat.{zero-add}
+use Rattle.saphyr_scalar.specs.Reading.BlockLines.{spaces}
+use Rattle.saphyr_input.proofs.Basics.Booleans.{clash}
 use Rattle.std.specs.Prelude.{◌||◌, ◌&&◌, ◌==◌, Option, None, if◌then◌else◌}
 use Rattle.saphyr_input.specs.Classes.{is_blank, is_break, is_yaml_non_break}
 use Rattle.saphyr_scalar.specs.declared.scalar.position.Marker.{Marker}
@@ -170,3 +173,50 @@ pub record Before (limit : ℕ) (start : State) (place : Position) (f : Frame) (
   pub none : at.key ≡ None
   pub allows : (is_compact place || crosses o) ≡ true → at.allowed ≡ true
   pub placed : IsPlaced place m
+
+-- ## Before a compact collection
+
+-- spaces before its first entry, which is at a column
+pub record IsSpaced (place : Position) (column : ℕ) (lead : List ℕ) : Type 0 where
+  pub count : ℕ
+  pub is : lead ≡ spaces count
+  pub compact : is_compact place ≡ true
+  pub some : IsFalse (yaml.is_start place) → 1 ≤ count
+  pub low : yaml.indent_at place ≤ column
+  pub sequence_low : yaml.sequence_indent_at place ≤ column
+  pub col : (m : Marker) → IsPlaced place m → m.col + count ≡ column
+
+pub compact_spaced : (place : Position) (column : ℕ) (lead : List ℕ) → yaml.IsCompactLead place column lead
+    → IsSpaced place column lead
+compact_spaced (yaml.BehindDash c) column lead (n, some, col, e) =
+    record {
+      count = n;
+      is = e;
+      compact = refl;
+      some = λ _. some;
+      low = omega (arith, some, col);
+      sequence_low = omega (arith, some, col);
+      col = λ m at. ap (λ (i : ℕ). i + n) at ∙ sym col;
+    }
+compact_spaced (yaml.BehindMark c) column lead (n, some, col, e) =
+    record {
+      count = n;
+      is = e;
+      compact = refl;
+      some = λ _. some;
+      low = omega (arith, some, col);
+      sequence_low = omega (arith, some, col);
+      col = λ m at. ap (λ (i : ℕ). i + n) at ∙ sym col;
+    }
+compact_spaced (yaml.BehindKey c) column lead h = absurd h
+compact_spaced yaml.BehindMarker column lead h = absurd h
+compact_spaced yaml.AtStart column lead e =
+    record {
+      count = column;
+      is = e;
+      compact = refl;
+      some = λ out. absurd (clash true refl out);
+      low = omega arith;
+      sequence_low = omega arith;
+      col = λ m at. ap (λ (i : ℕ). i + column) at ∙ zero-add column;
+    }

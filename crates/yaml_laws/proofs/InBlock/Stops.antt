@@ -8,14 +8,14 @@ use Rattle.saphyr_scanner.specs.Grammar.Forest.{Forest, Properties, Directive, N
 use Rattle.yaml_laws.proofs.Flow.States.{IsInk, moved, past}
 use Rattle.yaml_laws.proofs.Flow.Fillers.{last_filler_past, rest_past}
 use Rattle.yaml_laws.proofs.Documents.Lines.{eol}
-use Rattle.yaml_laws.proofs.InBlock.States.{IsStop}
+use Rattle.yaml_laws.proofs.InBlock.States.{IsStop, compact_spaced}
 use Rattle.yaml_laws.proofs.InBlock.Gaps.{ink_stop, stop_past}
 use Rattle.yaml_laws.proofs.InBlock.Skips.{IsSkipped, Passes, filler_skipped, skipped_passes, gap_passes, both_pass, skipped_append, spaces_skipped, line_end_skipped}
 use Rattle.yaml_laws.proofs.InBlock.Statements.{ReadsLeaves}
 use Rattle.yaml_laws.proofs.InBlock.Documents.Ends.{AreBlockDocuments, OpensMarker, suffix_text}
 use Rattle.saphyr_scalar.specs.Reading.BlockLines.{spaces}
 use Rattle.saphyr_scanner.specs.Limits.{most_open}
-use Rattle.yaml_laws.specs.Grammar.BlockNodes.{Position, BehindDash, BehindMark, BehindKey, BehindMarker, AtStart, indent_at, sequence_indent_at, IsLead, IsLeftOut, IsFlowInBlock, IsBlockNode}
+use Rattle.yaml_laws.specs.Grammar.BlockNodes.{Position, AtStart, indent_at, sequence_indent_at, IsLead, IsLeftOut, IsFlowInBlock, IsBlockNode}
 use Rattle.yaml_laws.specs.Grammar.Yaml as yaml
 use Rattle.yaml_laws.specs.Grammar.Yaml.{AreDirectives}
 use Rattle.yaml_laws.proofs.Flow.Inks.{BeginsInk, properties_ink, dash_ink, dot_ink, percent_ink}
@@ -80,14 +80,10 @@ lead_token p place least m lead t u
     (further_ink properties (w ++ t) (properties_ink p (indent_at place) properties h))
     (is ∙ ap (λ (x : List ℕ). x ++ t) (e ∙ ap (λ (x : List ℕ). x ++ w) front_is)
     ∙ append_assoc (gap ++ properties) w t ∙ append_assoc gap properties (w ++ t))
-lead_token p (BehindDash column) least m lead t u (inr (none, (n, some, col, e))) b is =
-    ink_token (spaces n) t u (skipped_passes (spaces n) (spaces_skipped n)) b (is ∙ ap (λ (x : List ℕ). x ++ t) e)
-lead_token p (BehindMark column) least m lead t u (inr (none, (n, some, col, e))) b is =
-    ink_token (spaces n) t u (skipped_passes (spaces n) (spaces_skipped n)) b (is ∙ ap (λ (x : List ℕ). x ++ t) e)
-lead_token p (BehindKey column) least m lead t u (inr (none, h)) b is = absurd h
-lead_token p BehindMarker least m lead t u (inr (none, h)) b is = absurd h
-lead_token p AtStart least m lead t u (inr (none, e)) b is =
-    ink_token (spaces m) t u (skipped_passes (spaces m) (spaces_skipped m)) b (is ∙ ap (λ (x : List ℕ). x ++ t) e)
+lead_token p place least m lead t u (inr (none, h)) b is =
+    let s = compact_spaced place m lead h in
+    ink_token (spaces s.count) t u (skipped_passes (spaces s.count) (spaces_skipped s.count)) b
+    (is ∙ ap (λ (x : List ℕ). x ++ t) s.is)
 
 flow_token : {limit : ℕ} → ReadsLeaves limit → (node : Node) (place : Position) (t o : List ℕ)
     → IsFlowInBlock most_open node place t o → HasToken t
