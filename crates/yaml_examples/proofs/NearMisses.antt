@@ -1,26 +1,19 @@
 -- Near misses of YAML's grammar in scalars: what is where another character must be.
-use Rattle.std.proofs.Common.{◌≡◌, ◌≢◌, ℕ, zero, suc, ◌≤◌, ◌⊎◌, Bool, true, false, ◌==◌, not, List, [], ◌∷◌, ◌++◌, IsTrue, IsFalse, inl, inr, refl, sym, ◌∙◌, arith, codes, ap, subst, slice_index, append_assoc}
-use Rattle.std.proofs.lemmas.Bool.{false≢true}
-use Rattle.saphyr_input.specs.Classes.{is_alpha, is_blank, is_bom, line_feed, tab}
+use Rattle.std.proofs.Common.{◌≡◌, ◌≢◌, ℕ, zero, suc, ◌≤◌, ◌⊎◌, Bool, true, false, List, [], ◌∷◌, ◌++◌, IsTrue, inl, inr, refl, sym, ◌∙◌, arith, codes, ap}
+use Rattle.saphyr_input.specs.Classes.{is_blank, line_feed}
 use Rattle.saphyr_values.specs.declared.block.Chomping.{Chomping}
 use Rattle.saphyr_scalar.specs.Reading.BlockLines.{spaces}
-use Rattle.saphyr_scalar.specs.Spelling.Tag.{AreIn}
 use Rattle.saphyr_values.specs.Block.{Line}
 use Rattle.scalar_laws.specs.Spelling.Block.{IsIndicator, no_digit, digit, IsChomping, strip, clip, keep, no_comment, comment, no_comment_at_end, comment_at_end, IsHeader, digit_first, chomping_first, IsBlockScalar}
 use Rattle.scalar_laws.specs.Spelling.Block as block
 use Rattle.scalar_laws.specs.Spelling.Plain.{is_word_ink, IsWordIn}
-use Rattle.scalar_laws.specs.Spelling.Spaces.{joined_pieces, AreEach, IsLineRest, IsLineEnd, IsEol, IsFiller}
-use Rattle.scalar_laws.proofs.Beginnings.{no_feed_no_filler, heads, tails, Begins, behind_in, before_in, lacks, IsFirst, no_first, behind_filler}
-use Rattle.saphyr_scanner.specs.Grammar.Forest.{Properties, Node, Seq, Nodes, NoNode, MoreNodes}
+use Rattle.scalar_laws.specs.Spelling.Spaces.{joined_pieces, AreEach, IsLineRest, IsEol}
+use Rattle.scalar_laws.proofs.Beginnings.{heads, tails, Begins, IsFirst, behind_filler}
+use Rattle.saphyr_scanner.specs.Grammar.Forest.{Properties, Seq, Nodes}
 use Rattle.yaml_laws.specs.Grammar.FlowScalars.{begins_plain, IsFirstWord, IsWordGap, IsFurtherWord, IsPlain}
-use Rattle.yaml_laws.specs.Grammar.FlowNodes.{IsOnLine, IsFlowNode}
-use Rattle.yaml_laws.specs.Grammar.BlockNodes.{BehindKey, IsGapAt, is_lone_tab, IsFlowInBlock, EndsContent, IsBehindScalar, IsLead, IsEntryIndentation, has_tab_ahead, IsImplicitPair, IsKeylessPair, IsKeyAlone, IsBlockNode, AreOtherEntries}
-use Rattle.yaml_laws.proofs.Flow.Inks.{BeginsInk, node_ink}
-use Rattle.saphyr_input.specs.Places.{is_document_indicator}
-use Rattle.std.proofs.Math.Bool.{or-true}
-use Rattle.std.specs.Prelude.{◌||◌, ◌&&◌}
-use Rattle.saphyr_input.specs.Indicators.{colon, hyphen, number_sign, vertical_bar, plus_sign}
-use Rattle.yaml_laws.proofs.InBlock.TabsAhead.{last_none}
+use Rattle.yaml_laws.specs.Grammar.FlowNodes.{IsFlowNode}
+use Rattle.yaml_laws.specs.Grammar.BlockNodes.{IsEntryIndentation}
+use Rattle.saphyr_input.specs.Indicators.{hyphen, number_sign, vertical_bar, plus_sign}
 
 -- ## Plain scalars
 
@@ -187,6 +180,36 @@ spaced_body i n x _ _ (block.spaces_alone j some low over) e f = let h : codes "
 pub spaces_before_marker : (i n : ℕ) (ls : List Line)
     → block.IsEmptyBody 0 i n (codes "---") ls (codes " \n---") → ⊥
 spaces_before_marker i n ls h = spaced_body i n (codes "---") ls (codes " \n---") h refl refl
+
+-- ## Ends of lines and indentation
+
+pub line_rest : (t : List ℕ) → IsLineRest t → (t ≡ []) ⊎ Begins (λ c. IsTrue (is_blank c)) t
+line_rest t ([], words, are, inl e, d) = inl (rw (d, e) refl)
+line_rest t ([], words, are, inr (n, h), d) = absurd (n refl)
+line_rest t (b ∷ bs, words, are, h, d) = inr (b, bs ++ words, are.0, rw d refl)
+
+no_blank_sign : (c : ℕ) → IsTrue (is_blank c) → c ≡ number_sign → ⊥
+no_blank_sign c b g = absurd (let e : is_blank 35 ≡ true = ap is_blank (sym g) ∙ b in cc)
+
+no_hash : (rest behind : List ℕ) → (rest ≡ []) ⊎ Begins (λ c. IsTrue (is_blank c)) rest → codes "#x\n" ≡ rest ++ behind
+    → behind ≢ codes "#x\n" → ⊥
+no_hash rest behind (inl e) d n = n (sym (rw e at d))
+no_hash rest behind (inr (c, cs, b, e)) d n =
+    let f : codes "#x\n" ≡ c ∷ (cs ++ behind) = rw e at d in
+    no_blank_sign c b (heads 35 c (codes "x\n") (cs ++ behind) f)
+
+pub comment_without_blank : (behind : List ℕ) → IsEol (codes "#x\n") behind → ⊥
+comment_without_blank behind (inl (rest, h, e)) =
+    no_hash rest (codes "\n") (line_rest rest h) e
+    (λ d. let f : 35 ≡ 10 = heads 10 35 [] (codes "x\n") d in omega (arith, f))
+comment_without_blank behind (inr (h, e)) = begins_so (line_rest (codes "#x\n") h)
+  where
+    begins_so : (codes "#x\n" ≡ []) ⊎ Begins (λ c. IsTrue (is_blank c)) (codes "#x\n") → ⊥
+    begins_so (inl d) = cc
+    begins_so (inr (c, cs, b, d)) = no_blank_sign c b (heads 35 c (codes "x\n") cs d)
+
+pub indentation : (m : ℕ) (t : List ℕ) → IsEntryIndentation m t → (t ≡ spaces m) ⊎ Begins IsFirst t
+indentation m t (front, h, e) = behind_filler t front (spaces m) h e
 
 -- ## Room
 
