@@ -240,8 +240,8 @@ pub name_same : (text : List ℕ) (token_of : List ℕ → Kind) (n : ℕ) (c : 
     → GiveAlike (SameSteps text) (property.name_steps token_of n c) (property.name_steps token_of n (near_core x c))
 unfolding property.name_steps
 name_same text token_of n c x laws t ink =
-    saved_then text (SameSteps text) (λ a. property.read_name token_of (scalar.disallow_key a)) (λ s. Inked s.rest) n c x
-    t ink (λ d y u i. read_name_same text token_of (scalar.disallow_key d) y laws u i)
+    saved_then text (SameSteps text) (λ a. property.read_name token_of (scalar.disallow_key a)) (λ s. Inked s.rest) n c
+    x t ink (λ d y u i. read_name_same text token_of (scalar.disallow_key d) y laws u i)
 
 read_tag_same : (text : List ℕ) (c : Core) (x : Indexes) → Laws text → Twin text c x → Begins 33 c.cursor
     → GiveAlike (SameSteps text) (property.read_tag c) (property.read_tag (near_core x c))

@@ -99,6 +99,10 @@ no_comment_rest c cs e f = rw (e, f) refl
 pub no_tab_before : (b : Bool) → false ≡ true → b ≡ true
 no_tab_before b e = absurd (cc)
 
+pub no_tab_here : (tab rest : Bool) → rest ≡ false → (tab ≡ true → rest ≡ true) → tab ≡ false
+no_tab_here true rest e h = absurd (clash rest (h refl) e)
+no_tab_here false rest e h = refl
+
 -- a tab that ends nothing is on such a rest, or right of a lower column
 pub tab_rest : (column low : ℕ) (m : Marker) (blank : Bool) (c : ℕ) (cs : List ℕ) (tab : Bool)
     → stops_tab column m c cs ≡ false → low ≤ column → is_white_at c cs ≡ true

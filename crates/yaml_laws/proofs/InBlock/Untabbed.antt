@@ -6,7 +6,7 @@ use Rattle.saphyr_input.specs.Classes.{is_blank}
 use Rattle.saphyr_scalar.specs.declared.scalar.position.Marker.{Marker}
 use Rattle.saphyr_scalar.specs.Views.Cursor.{along}
 use Rattle.yaml_laws.proofs.Flow.States.{is_left_tab, is_filler_rest, is_comment_rest, past, past_comment}
-use Rattle.yaml_laws.proofs.Flow.Gaps.{is_return_at, is_white_at, stops_tab, stop_blank, tab_blank, tab_rest, rest_sign, no_rest, word_rest, return_rest, no_comment_rest, no_tab_before}
+use Rattle.yaml_laws.proofs.Flow.Gaps.{is_return_at, is_white_at, stops_tab, stop_blank, tab_blank, tab_rest, rest_sign, no_rest, word_rest, return_rest, no_comment_rest, no_tab_before, no_tab_here}
 use Rattle.yaml_laws.proofs.Flow.GapWalks.{OverGap, over_gap, none_left, no_stop}
 use Rattle.yaml_laws.proofs.InBlock.Gaps.{stop_inked, gap_stops}
 use Rattle.yaml_laws.proofs.InBlock.Skips.{IsClean}
@@ -109,10 +109,6 @@ CommentSettles i m t =
     → (past_comment 0 m t ≡ past_comment i m t)
     × ((low : ℕ) → low ≤ i → (blank tab : Bool) → (tab ≡ true → is_comment_rest t ≡ true)
     → tabbed_comment low m blank tab t ≡ false)
-
-no_tab_here : (tab rest : Bool) → rest ≡ false → (tab ≡ true → rest ≡ true) → tab ≡ false
-no_tab_here true rest e h = absurd (clash rest (h refl) e)
-no_tab_here false rest e h = refl
 
 over_settled : (i : ℕ) → OverGap i (Settles i) (CommentSettles i)
 over_settled i =

@@ -3,8 +3,8 @@ use Rattle.std.proofs.Common.{◌≡◌, ℕ, ◌+◌, ◌≤◌, Bool, true, fa
 use Rattle.std.specs.Prelude.{◌||◌, ◌&&◌, ◌==◌, not, nat_lt, if◌then◌else◌}
 use Rattle.std.specs.List.{prefix_len}
 use Rattle.std.proofs.lemmas.Bool.Decides.{nat_tests}
-use Rattle.saphyr_input.specs.Indicators.{full_stop, hyphen, number_sign}
-use Rattle.saphyr_input.specs.Classes.{is_blank, is_break, carriage_return, line_feed}
+use Rattle.saphyr_input.specs.Indicators.{full_stop, hyphen}
+use Rattle.saphyr_input.specs.Classes.{is_blank, is_break, line_feed}
 use Rattle.saphyr_input.specs.Places.{is_blank_or_break, is_document_indicator}
 use Rattle.saphyr_scalar.specs.declared.scalar.position.Marker.{Marker}
 use Rattle.saphyr_scalar.specs.Views.Cursor.{Cursor, along, next_line}
@@ -14,7 +14,8 @@ use Rattle.scalar_laws.specs.Spelling.Plain.{behind_blanks, reaches_tabbed, is_t
 use Rattle.scalar_laws.proofs.Plain.Texts.{blanks_on}
 use Rattle.scalar_laws.proofs.Plain.White.{flag_on, tabbed_on, tabbed_stop, past_on, past_stop}
 use Rattle.yaml_laws.proofs.Flow.States.{is_filler_rest, past, EndsDocument, IsLeft}
-use Rattle.yaml_laws.proofs.Flow.Gaps.{stops_tab, stop_blank, tab_rest, no_rest, no_tab_before}
+use Rattle.yaml_laws.proofs.Flow.Gaps.{is_return_at, is_white_at, stops_tab, stop_blank, tab_rest, no_rest, no_tab_before, no_tab_here}
+use Rattle.yaml_laws.proofs.Flow.GapWalks.{OverGap, over_gap}
 use Rattle.saphyr_input.proofs.Basics.Characters.{blank_no_break, return_breaks}
 use Rattle.saphyr_input.proofs.Basics.Booleans.{and_true_right, clash}
 use Rattle.yaml_laws.proofs.Flow.Inks.{bom_is}
@@ -61,46 +62,36 @@ record White (c : ℕ) (cs : List ℕ) : Type 0 where
   white : is_blank_or_break c ≡ true
   line : ends_line c cs ≡ false
 
-white_passes : (c : ℕ) (cs : List ℕ)
-    → (is_blank c || ((c == carriage_return) && (slice_index cs 0 == line_feed))) ≡ true → White c cs
+white_passes : (c : ℕ) (cs : List ℕ) → is_white_at c cs ≡ true → White c cs
 white_passes c cs h = by_blank (is_blank c) ((c == 13) && (slice_index cs 0 == 10)) refl refl h
   where
-    by_blank : (p q : Bool) → is_blank c ≡ p → ((c == carriage_return) && (slice_index cs 0 == line_feed)) ≡ q
-        → (p || q) ≡ true
-        → White c cs
+    by_blank : (p q : Bool) → is_blank c ≡ p → is_return_at c cs ≡ q → (p || q) ≡ true → White c cs
     by_blank true q e f k = record { white = rw e refl; line = rw (blank_no_break c e) refl }
     by_blank false true e f k =
         let b = return_breaks c (slice_index cs 0 == 10) f in record { white = rw (e, b) refl; line = rw (b, f) refl }
     by_blank false false e f k = absurd (cc)
 
-line_break_white : (c : ℕ) (cs : List ℕ)
-    → (is_blank c || ((c == carriage_return) && (slice_index cs 0 == line_feed))) ≡ false → is_break c
-    ≡ true
-    → (is_blank_or_break c ≡ true) × (ends_line c cs ≡ true)
+line_break_white : (c : ℕ) (cs : List ℕ) → is_white_at c cs ≡ false → is_break c ≡ true → (is_blank_or_break c ≡ true)
+    × (ends_line c cs ≡ true)
 line_break_white c cs h e = by_return (is_blank c) ((c == 13) && (slice_index cs 0 == 10)) refl refl h
   where
-    by_return : (p q : Bool) → is_blank c ≡ p → ((c == carriage_return) && (slice_index cs 0 == line_feed)) ≡ q
-        → (p || q) ≡ false
-        → (is_blank_or_break c ≡ true) × (ends_line c cs ≡ true)
+    by_return : (p q : Bool) → is_blank c ≡ p → is_return_at c cs ≡ q → (p || q) ≡ false → (is_blank_or_break c ≡ true)
+        × (ends_line c cs ≡ true)
     by_return true q f g k = absurd (cc)
     by_return false true f g k = absurd (cc)
     by_return false false f g k = (rw (f, e) refl, rw (e, g) refl)
 
-other_white : (c : ℕ) (cs : List ℕ)
-    → (is_blank c || ((c == carriage_return) && (slice_index cs 0 == line_feed))) ≡ false
-    → is_break c ≡ false → is_blank_or_break c ≡ false
+other_white : (c : ℕ) (cs : List ℕ) → is_white_at c cs ≡ false → is_break c ≡ false → is_blank_or_break c ≡ false
 other_white c cs h e = by_blank (is_blank c) refl h
   where
-    by_blank : (p : Bool) → is_blank c ≡ p → (p || ((c == carriage_return) && (slice_index cs 0 == line_feed))) ≡ false
-        → is_blank_or_break c ≡ false
+    by_blank : (p : Bool) → is_blank c ≡ p → (p || is_return_at c cs) ≡ false → is_blank_or_break c ≡ false
     by_blank true f k = absurd (cc)
     by_blank false f k = rw (f, e) refl
 
 -- the flag after a blank or a break stands for a tab that ends nothing
 flag_rest : (column : ℕ) (m : Marker) (c : ℕ) (cs : List ℕ) (tab : Bool) → stops_tab column m c cs ≡ false
-    → (is_blank c || ((c == carriage_return) && (slice_index cs 0 == line_feed))) ≡ true
-    → (tab ≡ true → is_filler_rest (c ∷ cs) ≡ true)
-    → flag_on column m.col tab c ≡ true → is_filler_rest cs ≡ true
+    → is_white_at c cs ≡ true → (tab ≡ true → is_filler_rest (c ∷ cs) ≡ true) → flag_on column m.col tab c ≡ true
+    → is_filler_rest cs ≡ true
 flag_rest column m c cs tab t e h k =
     tab_rest column column m true c cs tab t (omega arith) e h
     (either (c == 9) (nat_lt m.col column) tab
@@ -120,63 +111,48 @@ no_flag column m c tab e = rw (no_blank c e) refl
     no_blank : (c : ℕ) → is_break c ≡ true → is_blank c ≡ false
     no_blank c e = grind (arith, nat_tests)
 
-tab_kind : (column : ℕ) (m : Marker) (tab : Bool) (c : ℕ) (cs : List ℕ) (is_tab is_white is_line is_sign : Bool)
-    → stops_tab column m c cs ≡ is_tab
-    → (is_blank c || ((c == carriage_return) && (slice_index cs 0 == line_feed))) ≡ is_white
-    → is_break c ≡ is_line → (c == number_sign) ≡ is_sign → Tabs column (along m 1) (flag_on column m.col tab c) cs
-    → Tabs column (next_line m 1) false cs → Tabs column m tab (c ∷ cs)
-tab_kind column m tab c cs true q r s t e f g on line h bare n b =
-    let still : past column m (c ∷ cs) ≡ (m, c ∷ cs) = rw t refl in
-    absurd (clash (is_blank c) (stop_blank column m c cs t)
-    (ap (λ (z : Marker × List ℕ). is_blank (slice_index z.1 0)) (sym still) ∙ h))
-tab_kind column m tab c cs false true r s t e f g on line h bare n b =
-    let there : past column m (c ∷ cs) ≡ past column (along m 1) cs = rw (t, e) refl in
-    let w = white_passes c cs e in
-    let step : reaches_tabbed column m.col tab (c ∷ cs)
-    ≡ reaches_tabbed column (m.col + 1) (flag_on column m.col tab c) cs =
-    tabbed_on column m.col tab c cs w.white
-    ∙ ap (λ (p : Bool). reaches_tabbed column (if p then 0 else m.col + 1) (flag_on column m.col tab c) cs) w.line in
-    let over = past_on n b c cs w.white in
-    behind (m.col + 1) (flag_on column m.col tab c) _ _ step over
-    (on (ap (λ (z : Marker × List ℕ). is_blank (slice_index z.1 0)) (sym there) ∙ h)
-    (flag_rest column m c cs tab t e bare) (if ends_line c cs then next_line n 1 else along n 1) (b || is_break c))
-  where
-    behind : (k : ℕ) (p : Bool) (u v : Cursor) → reaches_tabbed column m.col tab (c ∷ cs) ≡ reaches_tabbed column k p cs
-        → u ≡ v → (reaches_tabbed column k p cs ≡ false) ⊎ (stands_behind_tab v.rest ≡ true)
-        → (reaches_tabbed column m.col tab (c ∷ cs) ≡ false) ⊎ (stands_behind_tab u.rest ≡ true)
-    behind k p u v step over (inl x) = inl (step ∙ x)
-    behind k p u v step over (inr x) = inr (ap (λ (u : Cursor). stands_behind_tab u.rest) over ∙ x)
-tab_kind column m tab c cs false false true s t e f g on line h bare n b =
-    let there : past column m (c ∷ cs) ≡ past column (next_line m 1) cs = rw (t, e, f) refl in
-    let w = line_break_white c cs e f in
-    let step : reaches_tabbed column m.col tab (c ∷ cs) ≡ reaches_tabbed column 0 false cs =
-    tabbed_on column m.col tab c cs w.0
-    ∙ ap (λ (p : Bool). reaches_tabbed column (if p then 0 else m.col + 1) (flag_on column m.col tab c) cs) w.1
-    ∙ ap (λ (p : Bool). reaches_tabbed column 0 p cs) (no_flag column m c tab f) in
-    let over = past_on n b c cs w.0 in
-    behind _ _ step over (line (ap (λ (z : Marker × List ℕ). is_blank (slice_index z.1 0)) (sym there) ∙ h)
-    (no_tab_before (is_filler_rest cs)) (if ends_line c cs then next_line n 1 else along n 1) (b || is_break c))
-  where
-    behind : (u v : Cursor) → reaches_tabbed column m.col tab (c ∷ cs) ≡ reaches_tabbed column 0 false cs
-        → u ≡ v → (reaches_tabbed column 0 false cs ≡ false) ⊎ (stands_behind_tab v.rest ≡ true)
-        → (reaches_tabbed column m.col tab (c ∷ cs) ≡ false) ⊎ (stands_behind_tab u.rest ≡ true)
-    behind u v step over (inl x) = inl (step ∙ x)
-    behind u v step over (inr x) = inr (ap (λ (u : Cursor). stands_behind_tab u.rest) over ∙ x)
-tab_kind column m tab c cs false false false true t e f g on line h bare n b =
-    let still : past_white n b (c ∷ cs) ≡ cursor_at (c ∷ cs) n b = past_stop n b (c ∷ cs) (other_white c cs e f) in
-    inr (ap (λ (u : Cursor). stands_behind_tab u.rest) still ∙ rw g refl)
-tab_kind column m false c cs false false false false t e f g on line h bare n b =
-    inl (tabbed_stop column m.col false (c ∷ cs) (other_white c cs e f))
-tab_kind column m true c cs false false false false t e f g on line h bare n b =
-    absurd (clash (is_filler_rest (c ∷ cs)) (bare refl) (no_rest c cs e f g))
+-- what is known further on is known here
+from_on : {a b : Bool} {u v : Cursor} → a ≡ b → u ≡ v → (b ≡ false) ⊎ (stands_behind_tab v.rest ≡ true)
+    → (a ≡ false) ⊎ (stands_behind_tab u.rest ≡ true)
+from_on step over (inl x) = inl (step ∙ x)
+from_on step over (inr x) = inr (ap (λ (u : Cursor). stands_behind_tab u.rest) over ∙ x)
 
-tabs_right : (column : ℕ) (m : Marker) (tab : Bool) (t : List ℕ) → Tabs column m tab t
-tabs_right column m tab [] h bare n b = inr refl
-tabs_right column m tab (c ∷ cs) h bare n b =
-    tab_kind column m tab c cs (stops_tab column m c cs) (is_blank c || ((c == 13) && (slice_index cs 0 == 10)))
-    (is_break c) (c == 35) refl refl refl refl
-    (tabs_right column (along m 1) (flag_on column m.col tab c) cs) (tabs_right column (next_line m 1) false cs) h bare
-    n b
+over_tabs : (column : ℕ) → OverGap column (λ m t. (tab : Bool) → Tabs column m tab t) (λ m t. Unit {0})
+over_tabs column =
+    record {
+      ends = λ m tab h bare n b. inr refl;
+      tab = λ m c cs t tab h bare n b. absurd (clash (is_blank c) (stop_blank column m c cs t) (rw t at h));
+      white = λ m c cs t e on tab h bare n b.
+          let w = white_passes c cs e in
+          let step : reaches_tabbed column m.col tab (c ∷ cs)
+          ≡ reaches_tabbed column (m.col + 1) (flag_on column m.col tab c) cs =
+          tabbed_on column m.col tab c cs w.white
+          ∙ ap (λ (p : Bool). reaches_tabbed column (if p then 0 else m.col + 1) (flag_on column m.col tab c) cs) w.line
+          in
+          from_on step (past_on n b c cs w.white)
+          (on (flag_on column m.col tab c) (rw (t, e) at h) (flag_rest column m c cs tab t e bare)
+          (if ends_line c cs then next_line n 1 else along n 1) (b || is_break c));
+      break = λ m c cs t e f on tab h bare n b.
+          let w = line_break_white c cs e f in
+          let step : reaches_tabbed column m.col tab (c ∷ cs) ≡ reaches_tabbed column 0 false cs =
+          tabbed_on column m.col tab c cs w.0
+          ∙ ap (λ (p : Bool). reaches_tabbed column (if p then 0 else m.col + 1) (flag_on column m.col tab c) cs) w.1
+          ∙ ap (λ (p : Bool). reaches_tabbed column 0 p cs) (no_flag column m c tab f) in
+          from_on step (past_on n b c cs w.0)
+          (on false (rw (t, e, f) at h) (no_tab_before (is_filler_rest cs))
+          (if ends_line c cs then next_line n 1 else along n 1) (b || is_break c));
+      sign = λ m c cs t e f g on tab h bare n b.
+          let still : past_white n b (c ∷ cs) ≡ cursor_at (c ∷ cs) n b =
+          past_stop n b (c ∷ cs) (other_white c cs e f) in
+          inr (ap (λ (u : Cursor). stands_behind_tab u.rest) still ∙ rw g refl);
+      token = λ m c cs t e f g tab h bare n b. inl (tabbed_stop column m.col tab (c ∷ cs) (other_white c cs e f)
+          ∙ no_tab_here tab (is_filler_rest (c ∷ cs)) (no_rest c cs e f g) bare);
+      comment_ends = λ m. tt;
+      word = λ m c cs e on. tt;
+      return = λ m c cs e f on. tt;
+      line = λ m c cs e f g on. tt;
+      other = λ m c cs e f g. tt;
+    }
 
 -- ## After the blanks of a line
 
@@ -227,45 +203,31 @@ any_column column a b (c ∷ cs) h = by_white (is_blank_or_break c) refl
 
 behind_kind : (column : ℕ) (m : Marker) (c : ℕ) (cs : List ℕ) (is_tab blank : Bool) → stops_tab column m c cs ≡ is_tab
     → is_blank c ≡ blank → is_blank (slice_index (past column m (c ∷ cs)).1 0) ≡ false → (n : Marker) (b : Bool)
-    → (is_blank (slice_index (past column (along m 1) cs).1 0) ≡ false
-    → (is_tabbed column cs ≡ false)
+    → (is_blank (slice_index (past column (along m 1) cs).1 0) ≡ false → (is_tabbed column cs ≡ false)
     ⊎ (stands_behind_tab (past_white (if ends_line c cs then next_line n 1 else along n 1) (b || is_break c) cs).rest
-    ≡ true))
-    → (is_tabbed column (c ∷ cs) ≡ false) ⊎ (stands_behind_tab (past_white n b (c ∷ cs)).rest ≡ true)
+    ≡ true)) → (is_tabbed column (c ∷ cs) ≡ false) ⊎ (stands_behind_tab (past_white n b (c ∷ cs)).rest ≡ true)
 behind_kind column m c cs true p t e h n b on =
     let still : past column m (c ∷ cs) ≡ (m, c ∷ cs) = rw t refl in
     absurd (clash (is_blank c) (stop_blank column m c cs t)
     (ap (λ (z : Marker × List ℕ). is_blank (slice_index z.1 0)) (sym still) ∙ h))
 behind_kind column m c cs false true t e h n b on =
     let there : past column m (c ∷ cs) ≡ past column (along m 1) cs = rw (t, e) refl in
-    by_rest (on (ap (λ (z : Marker × List ℕ). is_blank (slice_index z.1 0)) (sym there) ∙ h))
+    from_on (ap (reaches_tabbed column 0 false) (blanks_on c cs e)) (past_on n b c cs white)
+    (on (ap (λ (z : Marker × List ℕ). is_blank (slice_index z.1 0)) (sym there) ∙ h))
   where
     white : is_blank_or_break c ≡ true
     white = rw e refl
-
-    by_rest : (is_tabbed column cs ≡ false)
-        ⊎ (stands_behind_tab
-        (past_white (if ends_line c cs then next_line n 1 else along n 1) (b || is_break c) cs).rest ≡ true)
-        → (is_tabbed column (c ∷ cs) ≡ false) ⊎ (stands_behind_tab (past_white n b (c ∷ cs)).rest ≡ true)
-    by_rest (inl x) = inl (ap (reaches_tabbed column 0 false) (blanks_on c cs e) ∙ x)
-    by_rest (inr x) = inr (ap (λ (u : Cursor). stands_behind_tab u.rest) (past_on n b c cs white) ∙ x)
 behind_kind column m c cs false false t e h n b on =
-    by_rest (tabs_right column m false (c ∷ cs) h (no_tab_before (is_filler_rest (c ∷ cs))) n b)
+    from_on {u = past_white n b (c ∷ cs)} {v = past_white n b (c ∷ cs)}
+    (ap (λ (k : ℕ). reaches_tabbed column 0 false (drop k (c ∷ cs))) none ∙ any_column column 0 m.col (c ∷ cs) e) refl
+    (over_gap (over_tabs column) m (c ∷ cs) false h (no_tab_before (is_filler_rest (c ∷ cs))) n b)
   where
     none : prefix_len is_blank (c ∷ cs) ≡ 0
     none = rw e refl
 
-    by_rest : (reaches_tabbed column m.col false (c ∷ cs) ≡ false)
-        ⊎ (stands_behind_tab (past_white n b (c ∷ cs)).rest ≡ true)
-        → (is_tabbed column (c ∷ cs) ≡ false) ⊎ (stands_behind_tab (past_white n b (c ∷ cs)).rest ≡ true)
-    by_rest (inl x) = inl (ap (λ (k : ℕ). reaches_tabbed column 0 false (drop k (c ∷ cs))) none
-        ∙ any_column column 0 m.col (c ∷ cs) e ∙ x)
-    by_rest (inr x) = inr x
-
 -- where a token or the text's end is reached
-pub tabs_behind : (column : ℕ) (m n : Marker) (b : Bool) (t : List ℕ)
-    → is_blank (slice_index (past column m t).1 0) ≡ false
-    → (is_tabbed column t ≡ false) ⊎ (stands_behind_tab (past_white n b t).rest ≡ true)
+pub tabs_behind : (column : ℕ) (m n : Marker) (b : Bool) (t : List ℕ) → is_blank (slice_index (past column m t).1 0)
+    ≡ false → (is_tabbed column t ≡ false) ⊎ (stands_behind_tab (past_white n b t).rest ≡ true)
 tabs_behind column m n b [] h = inr refl
 tabs_behind column m n b (c ∷ cs) h =
     behind_kind column m c cs (stops_tab column m c cs) (is_blank c) refl refl h n b
