@@ -72,7 +72,8 @@ enum saphyr_status {
     /* Out of memory. From saphyr_next and saphyr_peek: no event follows. From saphyr_add: only saphyr_free helps. */
     SAPHYR_NO_MEMORY = -2,
     /* saphyr_new: the text is not UTF-8. saphyr_valid_up_to returns the index of the first wrong byte. saphyr_add: the
-       bytes, behind those that came before, are not, or the text ends inside a character. Nothing is added. */
+       bytes, behind those that came before, are not, whatever follows; or the text ends inside a character. Nothing is
+       added. */
     SAPHYR_NOT_UTF8 = -3,
     /* The handle is empty: no parser was made in it, or it was freed. */
     SAPHYR_NO_PARSER = -4,
@@ -196,7 +197,7 @@ int32_t saphyr_new_pieces(bool keep_tags, saphyr_parser *parser);
  * Adds the next `len` bytes of a text that comes in pieces. They may be cut anywhere, even inside a character. A `len`
  * of 0 says that no more come. The events are those of all bytes, one behind the other, wherever they are cut: those of
  * a document come once a line of `---` or `...` behind it has come, or the end, but what follows a bracket that such a
- * line leaves open may come later. Bytes that are not needed any more, since the text is refused, are not read.
+ * line leaves open may come later. Bytes that are not needed any more, since the text is refused, are not parsed.
  *
  * Returns SAPHYR_OK; SAPHYR_NOT_UTF8, SAPHYR_UTF16, SAPHYR_WHOLE or SAPHYR_NO_PARSER, and then nothing is added, and
  * the parser stays as it was; or SAPHYR_NO_MEMORY, and then saphyr_next hands out that fault too, once.

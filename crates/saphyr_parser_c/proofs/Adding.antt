@@ -1,13 +1,17 @@
--- What a parser with its event is after bytes were added to the text that comes in pieces.
-use Rattle.std.proofs.Common.{◌≡◌, ℕ, List, true, Some, Err, refl, subst, sym}
+-- What a parser is after bytes were added to the text that comes in pieces, and what it is with its event.
+use Rattle.std.proofs.Common.{◌≡◌, ◌∙◌, ◌<◌, ℕ, List, [], ◌∷◌, ◌++◌, length, true, Some, Err, ap, append_assoc, arith, refl, subst, sym}
+use Rattle.std.specs.Str.{chars}
 use Rattle.saphyr_parser.specs.Types.Fault.TheVariants as fault
+use Rattle.saphyr_pieces.specs.Pieces.{at}
 use Rattle.saphyr_parser_c.specs.declared.coming.Coming.{Coming}
+use Rattle.saphyr_parser_c.specs.declared.coming.Extent.{Extent}
+use Rattle.saphyr_parser_c.specs.declared.coming.Extent.TheVariants as extent
 use Rattle.saphyr_parser_c.specs.declared.inner.Inner.{Inner}
 use Rattle.saphyr_parser_c.specs.declared.source.Source.{Source}
 use Rattle.saphyr_parser_c.specs.declared.source.Source.TheVariants as source
 use Rattle.saphyr_parser_c.specs.declared.status.Status.{Status}
 use Rattle.saphyr_parser_c.specs.declared.status.Status.TheVariants as status
-use Rattle.saphyr_parser_c.specs.Coming.{Adds}
+use Rattle.saphyr_parser_c.specs.Coming.{Adds, AddsBytes, AddsSome, TakesIn}
 use Rattle.saphyr_parser_c.specs.Inner.{AddsFrom, AddsToC, StaysBut, handed}
 
 -- nothing else changes, unless memory ran out
@@ -36,3 +40,36 @@ pub adds_to_pieces : (bytes : List ℕ) (before after : Inner) (old new : Coming
     → StaysBut s before after → AddsToC bytes before s after
 adds_to_pieces bytes before after old new s is_old is_new adds stays =
     subst (λ (from : Source). AddsFrom from bytes before s after) (sym is_old) (new, is_new, adds, stays)
+
+-- bytes that are taken in behind those that wait are added
+taken_are_added : (bytes : List ℕ) (old new : Coming) (s : Status) → TakesIn (old.waiting.items ++ bytes) old s new
+    → AddsSome bytes old s new
+taken_are_added bytes old new status.Done (places, so_far, waits, part) = (
+  λ later. places later ∙ ap (λ (bs : List ℕ). at old.parser (chars bs)) (append_assoc old.waiting.items bytes later),
+  so_far,
+  waits,
+  part,
+)
+taken_are_added bytes old new status.End taken = taken
+taken_are_added bytes old new status.Event taken = taken
+taken_are_added bytes old new status.Refused taken = taken
+taken_are_added bytes old new status.NoMemory taken = taken
+taken_are_added bytes old new status.NotUtf8 taken = taken
+taken_are_added bytes old new status.NoParser taken = taken
+taken_are_added bytes old new status.Utf16 taken = taken
+taken_are_added bytes old new status.More taken = taken
+taken_are_added bytes old new status.Whole taken = taken
+
+not_all : (e : Extent) (bytes : List ℕ) (old new : Coming) (s : Status) → (e ≡ extent.All → ⊥) → 0 < length bytes
+    → AddsSome bytes old s new → AddsBytes e bytes old s new
+not_all e [] old new s goes_on some added = absurd (omega arith)
+not_all extent.Nothing (b ∷ bs) old new s goes_on some added = added
+not_all extent.Part (b ∷ bs) old new s goes_on some added = added
+not_all extent.All (b ∷ bs) old new s goes_on some added = absurd (goes_on refl)
+
+-- where none wait, the bytes are taken in alone
+pub first_are_added : (bytes : List ℕ) (old new : Coming) (s : Status) → (old.extent ≡ extent.All → ⊥)
+    → 0 < length bytes → old.waiting.items ≡ [] → TakesIn bytes old s new → Adds bytes old s new
+first_are_added bytes old new s goes_on some none taken =
+    not_all old.extent bytes old new s goes_on some
+    (taken_are_added bytes old new s (subst (λ (bs : List ℕ). TakesIn (bs ++ bytes) old s new) (sym none) taken))

@@ -2,9 +2,10 @@
 use Rattle.std.proofs.Common.{◌≡◌, ◌∙◌, ◌≤◌, ℕ, List, ◌++◌, ap, length, subst, sym}
 use Rattle.std.specs.Prelude.{IsUtf8, drop, take}
 use Rattle.std.specs.Str.{chars}
-use Rattle.std.proofs.lemmas.Str.{chars-append}
+use Rattle.std.proofs.lemmas.Str.{IsUtf8-append, IsUtf8-encode, chars-append}
 use Rattle.std.proofs.lemmas.List.{append_assoc, take-append-drop}
 use Rattle.saphyr_pieces.specs.Pieces.{Pieces, at}
+use Rattle.saphyr_parser_c.specs.Encoding.{IsCutCharacter, IsUtf8SoFar}
 
 -- what comes after the front comes after all of the bytes, where the rest waits
 rest_waits : {A : Type 0} (old new : List ℕ → A) (front rest bytes : List ℕ) → front ++ rest ≡ bytes
@@ -28,8 +29,20 @@ front_taken old new n front back rest bytes is_front is_back is_rest utf8 added 
     ∙ take-append-drop n bytes)
     (subst IsUtf8 (sym is_front) utf8) added
 
--- at most so many bytes wait as come after the front
-pub rest_is_short : (n : ℕ) (back rest bytes : List ℕ) → back ≡ drop n bytes → rest ≡ back
-    → length (drop n bytes) ≤ 3 → length rest ≤ 3
-rest_is_short n back rest bytes is_back is_rest short =
-    subst (λ (bs : List ℕ). length bs ≤ 3) (sym (is_rest ∙ is_back)) short
+-- what comes after the front waits
+pub rest_is_cut : (n : ℕ) (back rest bytes : List ℕ) → back ≡ drop n bytes → rest ≡ back
+    → length (drop n bytes) ≤ 3 → IsCutCharacter (drop n bytes) → (length rest ≤ 3) × IsCutCharacter rest
+rest_is_cut n back rest bytes is_back is_rest short cut =
+    subst (λ (bs : List ℕ). (length bs ≤ 3) × IsCutCharacter bs) (sym (is_rest ∙ is_back)) (short, cut)
+
+-- with the rest of a cut character, all bytes are UTF-8
+pub is_utf8_so_far : (n : ℕ) (bytes : List ℕ) → IsUtf8 (take n bytes) → IsCutCharacter (drop n bytes)
+    → IsUtf8SoFar bytes
+is_utf8_so_far n bytes front (c, rest, scalar, some, is) =
+    let same : take n bytes ++ (drop n bytes ++ rest) ≡ bytes ++ rest =
+    sym (append_assoc (take n bytes) (drop n bytes) rest)
+    ∙ ap (λ (bs : List ℕ). bs ++ rest) (take-append-drop n bytes) in (
+      rest,
+      subst IsUtf8 same
+          (IsUtf8-append (take n bytes) (drop n bytes ++ rest) front (subst IsUtf8 (sym is) (IsUtf8-encode c scalar))),
+    )

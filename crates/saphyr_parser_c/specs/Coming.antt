@@ -1,5 +1,5 @@
 -- A parser of a text in UTF-8 that comes in pieces, and what the calls that add to it do.
-use Rattle.std.specs.Prelude.{◌≡◌, ◌≤◌, ℕ, Bool, false, List, [], ◌++◌, length, IsUtf8}
+use Rattle.std.specs.Prelude.{◌≡◌, ◌≤◌, ℕ, Bool, false, List, [], ◌++◌, length}
 use Rattle.std.specs.Str.{chars}
 use Rattle.saphyr_scanner.specs.Steps.Remaining.{scan}
 use Rattle.saphyr_parser.specs.Cursor.{EventCursor, at_start, keeping_tags}
@@ -10,7 +10,7 @@ use Rattle.saphyr_parser_c.specs.declared.coming.Extent.{Extent}
 use Rattle.saphyr_parser_c.specs.declared.coming.Extent.TheVariants as extent
 use Rattle.saphyr_parser_c.specs.declared.status.Status.{Status}
 use Rattle.saphyr_parser_c.specs.declared.status.Status.TheVariants as status
-use Rattle.saphyr_parser_c.specs.Encoding.{BeginsAsUtf16}
+use Rattle.saphyr_parser_c.specs.Encoding.{BeginsAsUtf16, IsCutCharacter, IsUtf8SoFar}
 
 -- Where the parser is in the events of the whole text, if these bytes come after those that came.
 abbrev pub place : Coming → List ℕ → EventCursor
@@ -31,14 +31,19 @@ IsRefusalFrom _ bytes s = s ≡ status.NotUtf8
 abbrev pub IsRefusal : List ℕ → Coming → Status → Type 0
 IsRefusal bytes c s = IsRefusalFrom c.extent bytes s
 
--- These bytes came in place of those that waited: whole characters of them are the parser's, and at most three wait.
--- If they are no UTF-8, nothing changes. After a want of memory nothing is known of the parser.
+-- What waits: the first bytes of a character that is cut, which are at most three, or none.
+abbrev pub WaitsForRest : Coming → Type 0
+WaitsForRest c = (length c.waiting.items ≤ 3) × IsCutCharacter c.waiting.items
+
+-- These bytes came in place of those that waited: whole characters of them are the parser's, and a cut one waits. They
+-- are refused only if no bytes that may come later make them UTF-8, and taken in only if some do. If they are refused,
+-- nothing changes. After a want of memory nothing is known of the parser.
 abbrev pub TakesIn : List ℕ → Coming → Status → Coming → Type 0
 TakesIn bytes old status.Done new =
     ((later : List ℕ) → place new later ≡ at old.parser (chars (bytes ++ later)))
-    × (length new.waiting.items ≤ 3) × (new.extent ≡ extent.Part)
+    × IsUtf8SoFar bytes × WaitsForRest new × (new.extent ≡ extent.Part)
 TakesIn bytes old status.NoMemory new = Unit {0}
-TakesIn bytes old s new = (IsUtf8 bytes → ⊥) × IsRefusal bytes old s × (new ≡ old)
+TakesIn bytes old s new = (IsUtf8SoFar bytes → ⊥) × IsRefusal bytes old s × (new ≡ old)
 
 -- No more comes. If a character is cut off, nothing changes.
 abbrev pub EndsPieces : Coming → Status → Coming → Type 0
@@ -48,14 +53,15 @@ EndsPieces old status.Done new =
 EndsPieces old status.NoMemory new = wants_more new.parser ≡ false
 EndsPieces old s new = (s ≡ status.NotUtf8) × ((old.waiting.items ≡ []) → ⊥) × (new ≡ old)
 
--- These bytes come next: the parser is that of all that came, one behind the other, whatever comes after them.
+-- These bytes come next: the parser is that of all that came, one behind the other, whatever comes after them. They are
+-- refused only if no bytes that may come later make those that wait and these UTF-8, and added only if some do.
 abbrev pub AddsSome : List ℕ → Coming → Status → Coming → Type 0
 AddsSome bytes old status.Done new =
     ((later : List ℕ) → place new later ≡ place old (bytes ++ later))
-    × (length new.waiting.items ≤ 3) × (new.extent ≡ extent.Part)
+    × IsUtf8SoFar (old.waiting.items ++ bytes) × WaitsForRest new × (new.extent ≡ extent.Part)
 AddsSome bytes old status.NoMemory new = Unit {0}
 AddsSome bytes old s new =
-    (IsUtf8 (old.waiting.items ++ bytes) → ⊥) × IsRefusal (old.waiting.items ++ bytes) old s × (new ≡ old)
+    (IsUtf8SoFar (old.waiting.items ++ bytes) → ⊥) × IsRefusal (old.waiting.items ++ bytes) old s × (new ≡ old)
 
 -- No bytes say that no more come. After that nothing is added.
 abbrev pub AddsBytes : Extent → List ℕ → Coming → Status → Coming → Type 0

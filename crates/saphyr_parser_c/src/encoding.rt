@@ -1,7 +1,7 @@
 //! The encoding of a text: how many bytes at its front are UTF-8, and whether it begins as UTF-16 (YAML 1.2.2, 5.2).
 
 ghost use Rattle.std.specs.Prelude.{◌≡◌, ◌≤◌, ◌↔◌, IfSome, IsTrue, IsUtf8, None, drop, length, take};
-ghost use Rattle.saphyr_parser_c.specs.Encoding.{BeginsAsUtf16, IsUtf8Front};
+ghost use Rattle.saphyr_parser_c.specs.Encoding.{BeginsAsUtf16, IsCutCharacter, IsUtf8Front, IsUtf8SoFar};
 
 /// How many bytes at the front are UTF-8. If not all are, this is the place of the first that is not.
 pub fn utf8_front(text: &[u8]) -> usize
@@ -18,7 +18,8 @@ pub fn utf8_front(text: &[u8]) -> usize
 pub fn whole_front(bytes: &[u8]) -> Option<usize>
     ensures front { IfSome result (λ n. (n ≤ length bytes.now) × IsUtf8 (take n bytes.now)) }
     ensures cut { IfSome result (λ n. length (drop n bytes.now) ≤ 3) }
-    ensures refused { result ≡ None → IsUtf8 bytes.now → ⊥ }
+    ensures waits { IfSome result (λ n. IsCutCharacter (drop n bytes.now)) }
+    ensures refused { result ≡ None → IsUtf8SoFar bytes.now → ⊥ }
 {
     match str::from_utf8(bytes) {
         Ok(_) => Some(bytes.len()),

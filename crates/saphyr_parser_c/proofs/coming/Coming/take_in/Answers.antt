@@ -1,6 +1,6 @@
 -- The whole characters of the bytes are the parser's, and the rest waits.
 use Rattle.std.proofs.Common.{◌∙◌, refl}
-use Rattle.saphyr_parser_c.proofs.Bytes.{front_taken, rest_is_short}
+use Rattle.saphyr_parser_c.proofs.Bytes.{front_taken, is_utf8_so_far, rest_is_cut}
 use Rattle.saphyr_parser_c.proofs.coming.Coming.take_in.Goals as goal
 
 pub returns : goal.returns
@@ -14,6 +14,7 @@ returns c =
     let rest = c.in-Ok.waiting.items in (
       front_taken old c.add.new.self n front back rest bytes (c.from_utf8_unchecked-front.ensures ∙ halves.front)
           halves.back c.in-Ok.ensures.items c.in-Some.ensures.front.1 c.in-Ok-add.ensures,
-      rest_is_short n back rest bytes halves.back c.in-Ok.ensures.items c.in-Some.ensures.cut,
+      is_utf8_so_far n bytes c.in-Some.ensures.front.1 c.in-Some.ensures.waits,
+      rest_is_cut n back rest bytes halves.back c.in-Ok.ensures.items c.in-Some.ensures.cut c.in-Some.ensures.waits,
       refl,
     )

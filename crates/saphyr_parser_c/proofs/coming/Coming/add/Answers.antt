@@ -1,0 +1,22 @@
+-- Where none wait, the bytes alone are taken in.
+use Rattle.std.proofs.Common.{◌≡◌, ◌∙◌, ℕ, List, [], ◌∷◌, arith, length, refl, sym}
+use Rattle.std.proofs.lemmas.Bool.{eqb-false, eqb-true}
+use denote.Enum.Bare.{same_false}
+use Rattle.saphyr_parser_c.specs.contracts.coming.Extent.{the_type}
+use Rattle.saphyr_parser_c.specs.declared.coming.Extent.TheVariants as extent
+use Rattle.saphyr_parser_c.proofs.Adding.{first_are_added}
+use Rattle.saphyr_parser_c.proofs.coming.Coming.add.Goals as goal
+
+none_wait : (waiting : List ℕ) → length waiting ≡ 0 → waiting ≡ []
+none_wait [] none = refl
+none_wait (b ∷ bs) none = absurd (omega (arith, none))
+
+pub returns-then-is_empty-2 : goal.returns-then-is_empty-2
+returns-then-is_empty-2 c =
+    let old = c.args.self.now in
+    let bytes = c.args.bytes.now in
+    let none = eqb-true old.waiting.len 0 (sym c.if-is_empty-2.ensures) in
+    first_are_added bytes old c.take_in.new.self c.take_in.result
+    (same_false the_type old.extent extent.All (sym c.eq.ensures ∙ c.if-eq.false))
+    (omega (arith, eqb-false (length bytes) 0 (sym c.if-is_empty.ensures)))
+    (none_wait old.waiting.items (omega (arith, none))) c.take_in.ensures
