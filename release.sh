@@ -6,7 +6,9 @@
 #     PREFIX=/usr/local ./release.sh install    # the same files under a prefix, with DESTDIR before it
 #
 # SAPHYR_PARSER_LIB may name another folder with libsaphyr_parser_c.a and liblibc_c.a. If `rt ci`, or
-# `rt run` in its crate, left the program dump_events, the release has it too.
+# `rt run` in its crate, left the program dump_events, the release has it too. REPOSITORY is the address at which this
+# repository is published, as https://HOST/NAME: the crate's manifest, the file for pkg-config and the pages for man say
+# it. Without it they name none.
 set -euo pipefail
 top=$(realpath "$(dirname "$0")")
 built=$(realpath -m "${SAPHYR_PARSER_LIB:-$top/crates/saphyr_parser_c/out}")
@@ -20,6 +22,13 @@ header=crates/saphyr_parser_c/saphyr_parser.h
 version=$(<VERSION)
 interface=$(sed -n 's/^#define SAPHYR_VERSION \([0-9]*\)u$/\1/p' "$header")
 shared=libsaphyr_parser.so.$interface
+repository=${REPOSITORY:-}
+if [ -z "$repository" ]; then
+    echo "release.sh: the package names no repository: REPOSITORY=https://HOST/NAME gives its address" >&2
+elif [[ ! $repository =~ ^https?://[A-Za-z0-9][A-Za-z0-9._~:/?=@+%-]*$ ]]; then
+    echo "release.sh: REPOSITORY is not an address that begins with http:// or https://: $repository" >&2
+    exit 1
+fi
 work=$(mktemp -d)
 trap 'rm -rf "$work"' EXIT
 
@@ -53,9 +62,15 @@ make_libraries() {
     cd "$top"
 }
 
-# Puts FILE of release/ into a folder, and fills in what differs from release to release.
+# Puts FILE of release/ into a folder, and fills in what differs from release to release. A line that would name the
+# repository is left out where its address isn't given.
 fill_in() {
-    sed "s/@VERSION@/$version/g; s/@INTERFACE@/$interface/g; s/@SHARED@/$shared/g" "release/$1.in" >"$work/$1"
+    local address=$repository named=d
+    # a page for man would print a bare - as another character
+    case $1 in *.[0-9]) address=${repository//-/\\\\-} ;; esac
+    [ -z "$repository" ] || named="s|@REPOSITORY@|$address|"
+    sed "s/@VERSION@/$version/g; s/@INTERFACE@/$interface/g; s/@SHARED@/$shared/g; /@REPOSITORY@/$named" \
+        "release/$1.in" >"$work/$1"
     install -Dm644 -t "$2" "$work/$1"
 }
 
@@ -90,6 +105,7 @@ lay_out() {
     install -Dm644 -t "$share" LICENSE-MIT LICENSE-APACHE CHANGELOG.md
     install -Dm644 -t "$share/docs" docs/{COMING_FROM,DIFFERENCES,FACES,SPANS,YAML}.md
     install -Dm644 -t "$share/rust" rust/{Cargo.toml,build.rs,README.md,LICENSE-MIT,LICENSE-APACHE}
+    [ -z "$repository" ] || sed -i "/^license = /a repository = \"$repository\"" "$share/rust/Cargo.toml"
     find rust/src rust/examples -type f -exec install -Dm644 {} "$share/{}" \;
     cut_links "$share/CHANGELOG.md" "$share/rust/README.md" "$share"/docs/*.md
 }

@@ -6,9 +6,10 @@
 The programs of tests/release print the events of a small text: in C99 and C++17 with the archive, in C through
 `pkg-config` and through CMake with the shared library, in Python through ctypes; and the crate's example in a cargo
 project with a `[patch]`. Their lines are to be those of `dump_events`. The shared library exports the ten calls
-alone, and the version is the same wherever it stands. Where there is no compiler of C, the script says so, and tests
-nothing; what else is missing it says, and tests the rest.
+alone. The version is the same wherever it stands, and so is the address of the repository, if one is given. Where
+there is no compiler of C, the script says so, and tests nothing; what else is missing it says, and tests the rest.
 """
+import json
 import os
 import re
 import shutil
@@ -41,6 +42,14 @@ foreach(kind IN ITEMS saphyr_parser static)
     target_link_libraries(${kind} saphyr_parser::${kind})
 endforeach()
 """
+ADDRESS = "https://example.com/saphyr-parser"
+# Where the address of the repository stands: a file of the release, and what is around it there.
+ADDRESSES = {
+    "lib/pkgconfig/saphyr_parser.pc": r"^URL: (.*)",
+    "share/man/man1/dump_events.1": r"^and (http.*)",
+    "share/man/man3/saphyr_parser.3": r"^and (http.*)",
+    "share/saphyr_parser/rust/Cargo.toml": r'^repository = "(.*)"',
+}
 # Where the version stands: a file of the release, and what is around it there.
 VERSIONS = {
     "include/saphyr_parser.h": r'^#define SAPHYR_PARSER_VERSION "(.*)"',
@@ -81,7 +90,7 @@ class Release:
     """A release, unpacked in a folder of its own, and what programs that use it are to print."""
 
     def __init__(self, folder):
-        call([f"{ROOT}/release.sh", f"{folder}/made"], ROOT)
+        call(["env", f"REPOSITORY={ADDRESS}", f"{ROOT}/release.sh", f"{folder}/made"], ROOT)
         (name,) = (it for it in os.listdir(f"{folder}/made") if not it.endswith(".gz"))
         with tarfile.open(f"{folder}/made/{name}.tar.gz") as it:
             it.extractall(folder)
@@ -147,6 +156,7 @@ def check_cargo(release, tools):
     by a relative path; and no library, where a check passes, and a build says what is missing."""
     alone = shutil.copytree(release.rust, f"{release.folder}/alone/crate/rust")
     os.environ["CARGO_HOME"] = f"{release.folder}/cargo"
+    check_manifest(release, tools)
     for name, crate in (("cargo", release.rust), ("a relative path", alone)):
         project = f"{release.folder}/{name.replace(' ', '_')}_project"
         write(f"{project}/Cargo.toml", PATCHED.format(crate))
@@ -203,12 +213,42 @@ def check_links(release):
                     fail(f"{page} has a link to {target}, which the release hasn't")
 
 
+def check_addresses(folder, wanted):
+    """The address of the repository, or that there is none."""
+    for file, pattern in ADDRESSES.items():
+        said = found(pattern, f"{folder}/{file}")
+        if (said and said.replace("\\-", "-")) != wanted:
+            fail(f"{file} has the address {said}, and not {wanted}")
+
+
+def check_manifest(release, tools):
+    """What cargo reads in the crate's manifest."""
+    words = [tools["cargo"], "metadata", "--offline", "--no-deps", "--format-version", "1"]
+    ran = subprocess.run(words, cwd=release.rust, capture_output=True, text=True)
+    (package,) = json.loads(ran.stdout)["packages"]
+    if package["repository"] != ADDRESS:
+        fail(f"cargo metadata names the repository {package['repository']}")
+
+
+def install(prefix, **variables):
+    """Runs `release.sh install`. No address is given, unless the variables do."""
+    env = {**os.environ, "PREFIX": prefix, "REPOSITORY": "", **variables}
+    return subprocess.run([f"{ROOT}/release.sh", "install"], env=env, capture_output=True, text=True)
+
+
 def check_install(release):
-    """A prefix has the same files."""
+    """A prefix has the same files. Without an address they name no repository, and a wrong one is refused."""
     prefix = f"{release.folder}/prefix"
-    ran = subprocess.run([f"{ROOT}/release.sh", "install"], env={**os.environ, "PREFIX": prefix}, capture_output=True)
+    ran = install(prefix)
     if ran.returncode or files_below(prefix) != files_below(release.at):
-        fail(f"release.sh install: {ran.stderr.decode()}")
+        fail(f"release.sh install: {ran.stderr}")
+    if "names no repository" not in ran.stderr:
+        fail(f"release.sh without an address says: {ran.stderr}")
+    check_addresses(prefix, None)
+    for address in ("example.com/saphyr-parser", "ftp://example.com/it", "https://", 'https://example.com/"'):
+        ran = install(f"{release.folder}/refused", REPOSITORY=address)
+        if not ran.returncode or "REPOSITORY is not an address" not in ran.stderr:
+            fail(f"release.sh takes the address {address}: {ran.stderr}")
 
 
 def main():
@@ -221,6 +261,7 @@ def main():
     with tempfile.TemporaryDirectory() as folder:
         release = Release(folder)
         check_versions(release)
+        check_addresses(release.at, ADDRESS)
         check_names(release)
         check_links(release)
         check_install(release)
