@@ -8,7 +8,7 @@ use crate::escape::unescaped;
 use std::alloc::{AllocError, Global};
 
 /// A text and the list of its events, as lines.
-#[derive(Debug, Drop)]
+#[derive(Drop)]
 pub struct Case {
     pub name: String,
     pub keeps_tags: bool,

@@ -23,7 +23,7 @@ pub fn unescaped(alloc: Global, line: &str) -> Result<String, AllocError>
 }
 
 // How much of an escape has been read.
-#[derive(Clone, Copy, Debug)]
+#[derive(Clone, Copy)]
 pub enum Escape {
     None,
     Begun,

@@ -32,7 +32,7 @@ fn shown(event: &str) -> &str
 }
 
 /// How a writer takes bytes.
-#[derive(Clone, Copy, Debug)]
+#[derive(Clone, Copy)]
 pub struct Manner {
     /// How many bytes it takes at most at a time.
     pub at_a_time: usize,
