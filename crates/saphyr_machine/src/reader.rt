@@ -62,8 +62,8 @@ impl<'input, T: Input> EventReader<'input, T> {
     /// the token is dropped.
     #[tactic(auto, using(crate::proofs::Given::given_last))]
     pub fn give(&mut self, token: Token) -> Result<bool, AllocError>
-        ensures given { IfOk result (λ given. calls.IsGivenLast given (piece token) (cursor self.old)
-            (cursor self.new)) }
+        ensures given { IfOk result (λ given. calls.IsGivenLast given (piece token)
+            (cursor self.old) (cursor self.new)) }
         ensures others { cursor self.new
             ≡ record (cursor self.old) { machine = (cursor self.new).machine } }
     {

@@ -137,8 +137,9 @@ impl<'a> Walk<'a> {
 
     // A node begins.
     fn enter(&mut self, node: &'a Node) -> Result<Turn<'a>, AllocError>
-        ensures turns { IfOk result (λ turn. Enters turn node.now (frames_events self.old.levels.items)
-            (frames_events self.new.levels.items) (length self.old.levels.items)) }
+        ensures turns { IfOk result (λ turn. Enters turn node.now
+            (frames_events self.old.levels.items) (frames_events self.new.levels.items)
+            (length self.old.levels.items)) }
         ensures below { OnOk result ((root : Node) → LeadDown node.now self.old.levels.items root
             → StandBelow self.new.levels.items root) }
         ensures path { OnOk result (path_of self.new ≡ path_of self.old) }
