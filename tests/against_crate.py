@@ -78,7 +78,7 @@ def escaped(text):
 
 
 def without_places(lines):
-    return [line.partition(" @ ")[0] for line in lines]
+    return [re.sub(r" (@ [\d, ]+|at byte \d+ line \d+ column \d+)$", "", line) for line in lines]
 
 
 def cases(path):
