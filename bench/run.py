@@ -1,16 +1,20 @@
 #!/usr/bin/env python3
 """Measures `dump_events` beside other programs that print the same lines, or faces and parsers without printing.
 
-    bench/run.py [--size MEGABYTES] [--crate SOURCES] [--instructions] [--parse-only] [KIND ..]
-    bench/run.py --small [--crate SOURCES]
+    bench/run.py [--size MEGABYTES] [--instructions | --memory] [--parse-only] [--shapes] [PEERS] [KIND ..]
+    bench/run.py --small [PEERS]
 
 A table of processor time, in the ratio to the first program: above 1 the other takes so many times as long. The least
 of nine runs counts, which take turns. With --instructions it is the instructions for each byte, by callgrind, on
-smaller files, beyond those of an empty text. The peers are the faces for C and Rust of this repository, libyaml where
-its header is there, and with --crate the Rust crate `saphyr-parser`, whose sources are in that folder, and whose
-dependencies cargo fetches. With --parse-only the programs count the events, and print nothing of them. --small takes
-the instructions for a text of 48 bytes, whose parser is made, read to its end and freed. A `-` says that the peer
-refuses the file.
+smaller files, beyond those of an empty text, and the last lines have the least ratio of each peer. With --memory it is
+the most memory at a time, in bytes for each byte of the text, beyond that of an empty text. The files are of
+`inputs.py`, or with --shapes those of `shapes.py`, which are small and stress one thing each. With --parse-only the
+programs count the events, and print nothing of them. --small takes the instructions for a text of 48 bytes, whose
+parser is made, read to its end and freed. A `-` says that the peer refuses the file.
+
+The peers are the faces for C and Rust of this repository, libyaml where its header is there, with --crate SOURCES the
+Rust crate `saphyr-parser`, whose sources are in that folder, and whose dependencies cargo fetches, and with --peer
+PROGRAM any program that prints the same lines of a file.
 """
 import argparse
 import os
@@ -21,6 +25,7 @@ import sys
 import tempfile
 
 from inputs import KINDS
+from shapes import SHAPES
 
 ROOT = os.path.dirname(os.path.dirname(os.path.abspath(__file__)))
 sys.path.insert(0, f"{ROOT}/tests")
@@ -63,7 +68,7 @@ def over_crate(folder, name, sources):
     return f"{target}/release"
 
 
-def peers(folder, sources, prints):
+def peers(folder, sources, others, prints):
     """The programs by their names, the repository's own first: those that print events, or those that count them."""
     made = {"dump_events": program("dump_events")} if prints else {}
     c_face, libyaml = ("tests/faces/dump_events", "libyaml_dump") if prints else ("bench/count_events", "libyaml_count")
@@ -72,6 +77,7 @@ def peers(folder, sources, prints):
     made["Rust face"] = f"{over_crate(folder, 'rust', f'{ROOT}/rust')}/{rust}"
     made["libyaml"] = compiled(folder, "libyaml", [f"{ROOT}/bench/{libyaml}.c", "-lyaml"])
     made["crate"] = f"{over_crate(folder, 'crate', sources)}/{rust}" if sources else None
+    made.update((os.path.basename(path)[:11], os.path.abspath(path)) for path in others)
     return {name: path for name, path in made.items() if path}
 
 
@@ -96,6 +102,19 @@ def count_instructions(command):
     return int(found[1]) if found and ran.returncode == 0 else None
 
 
+def memory(command):
+    """The most memory of a run at a time, in bytes, beyond that for an empty text, or None where it fails."""
+    found, started = (count_memory([command[0], file]) for file in (command[1], os.devnull))
+    return None if found is None else found - started
+
+
+def count_memory(command):
+    child = subprocess.Popen(command, stdout=subprocess.DEVNULL, stderr=subprocess.DEVNULL)
+    _, status, used = os.wait4(child.pid, 0)
+    child.returncode = os.waitstatus_to_exitcode(status)
+    return 1024 * used.ru_maxrss if child.returncode == 0 else None
+
+
 def least(programs, file, measure, runs):
     """The least of the runs of each program, which take turns."""
     taken = {name: [] for name in programs}
@@ -109,17 +128,23 @@ def shown(number):
     return f"{number:12.2f}" if number is not None else f"{'-':>12}"
 
 
-def report(programs, file, kind, by_instructions):
-    """The line of a file."""
+def report(programs, file, kind, measure):
+    """The line of a file. Returns how many times as much each peer takes, where that is measured."""
     size = os.path.getsize(file)
-    if by_instructions:
-        found = least(programs, file, instructions, 1)
-        numbers = [it and it / size for it in found.values()]
-    else:
-        found = least(programs, file, seconds, RUNS)
-        own, *others = found.values()
-        numbers = [own, *(it and own and it / own for it in others)]
-    print(f"{kind:14}{size / 1e6:8.2f} MB" + "".join(map(shown, numbers)), flush=True)
+    found = least(programs, file, measure, RUNS if measure is seconds else 1)
+    own, *others = found.values()
+    ratios = [it and own and it / own for it in others]
+    numbers = [own, *ratios] if measure is seconds else [it if it is None else it / size for it in found.values()]
+    print(f"{kind:26}{size / 1e6:8.2f} MB" + "".join(map(shown, numbers)), flush=True)
+    return dict(zip(list(programs)[1:], ratios))
+
+
+def report_least(rows):
+    """The least ratio of each peer over all files."""
+    for peer in next(iter(rows.values())):
+        known = [(ratios[peer], kind) for kind, ratios in rows.items() if ratios[peer]]
+        for ratio, kind in sorted(known)[:5]:
+            print(f"{peer:12} {ratio:6.2f} times as many as the first on {kind}")
 
 
 def report_small(programs, file):
@@ -135,24 +160,34 @@ def main():
     words = argparse.ArgumentParser(description=__doc__, formatter_class=argparse.RawDescriptionHelpFormatter)
     words.add_argument("--size", type=float, metavar="MEGABYTES")
     words.add_argument("--crate", metavar="SOURCES")
+    words.add_argument("--peer", metavar="PROGRAM", action="append", default=[])
     words.add_argument("--instructions", action="store_true")
+    words.add_argument("--memory", action="store_true")
+    words.add_argument("--shapes", action="store_true")
     words.add_argument("--parse-only", action="store_true")
     words.add_argument("--small", action="store_true")
-    words.add_argument("kinds", nargs="*", metavar="KIND", choices=[[], *KINDS])
+    words.add_argument("kinds", nargs="*", metavar="KIND", choices=[[], *KINDS, *SHAPES])
     asked = words.parse_args()
+    texts = SHAPES if asked.shapes else KINDS
     if (asked.instructions or asked.small) and not shutil.which("valgrind"):
         sys.exit("there is no valgrind")
-    size = int(1e6 * (asked.size or (0.1 if asked.instructions else 4)))
+    few = 0.06 if asked.shapes else 0.1 if asked.instructions else 4
+    size = int(1e6 * (asked.size or few))
+    measure = instructions if asked.instructions else memory if asked.memory else seconds
+    units = {instructions: "instructions for each byte", memory: "bytes for each byte"}
     with tempfile.TemporaryDirectory() as folder:
-        programs = peers(folder, asked.crate, not (asked.parse_only or asked.small))
+        programs = peers(folder, asked.crate, asked.peer, not (asked.parse_only or asked.small))
         if asked.small:
             return report_small(programs, f"{folder}/small")
-        unit = "instructions for each byte" if asked.instructions else "seconds, and how many times as long"
-        print(f"{unit:25}" + "".join(f"{name:>12}" for name in programs))
-        for kind in asked.kinds or KINDS:
+        unit = units.get(measure, "seconds, and how many times as long")
+        print(f"{unit:37}" + "".join(f"{name:>12}" for name in programs))
+        rows = {}
+        for kind in asked.kinds or texts:
             with open(f"{folder}/{kind}", "w", encoding="utf-8", newline="") as it:
-                it.write(KINDS[kind](size))
-            report(programs, f"{folder}/{kind}", kind, asked.instructions)
+                it.write(texts[kind](size))
+            rows[kind] = report(programs, f"{folder}/{kind}", kind, measure)
+        if asked.instructions:
+            report_least(rows)
 
 
 if __name__ == "__main__":
