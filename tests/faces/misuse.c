@@ -227,7 +227,7 @@ static void comes_at_once(void) {
     } pieces[] = {{"--- a\n", 0}, {"b\n", 0},   {"---", 0},          {" ", 1},
                   {"d\n...\n", 1}, {"e\n", 0},   {"...", 0},          {"\n", 1},
                   {"--- |\n f", 0}, {"\n--- 'g'\n", 1}, {"--- {h: i}\n", 1}, {"---\n", 1},
-                  {"k\n", 0},      {"", 1}};
+                  {"...\n", 1},    {"k\n", 0},   {"", 1}};
     saphyr_parser parser = {0};
     int32_t status;
     expect(saphyr_new_pieces(false, &parser), SAPHYR_OK, "a text in pieces");
