@@ -16,6 +16,14 @@ pub fn expect(rt: &impl Abort, holds: bool, text: &str) {
     assert!(rt; holds, "{text:?}");
 }
 
+/// An owned text, or an empty one where memory is lacking.
+pub fn owned(alloc: Global, text: &str) -> String {
+    match String::from_str(alloc, text) {
+        Ok(text) => text,
+        Err(_) => String::new(alloc),
+    }
+}
+
 /// Whether a text was made, and is this one.
 pub fn is_text(made: Result<String, AllocError>, text: &str) -> bool {
     match made {

@@ -1,12 +1,12 @@
 //! What is asked of a document. One function loads a text, asks and lets go, since functions that hold trees are dear
 //! to prove: a test is a table of texts and questions.
 
-use crate::accessors::{has_nodes, has_server, is_mapping_behind, is_sequence_at};
-use crate::documents::has_copy;
-use crate::expanding::is_small_once_expanded;
-use crate::helpers::{WIDE, limits, load_with_spans};
-use crate::paths::{count_visits, is_path_to};
-use crate::places::{Place, last_depth, makes_visits};
+use crate::trees::accessors::{has_nodes, has_server, is_mapping_behind, is_sequence_at};
+use crate::trees::documents::has_copy;
+use crate::trees::expanding::is_small_once_expanded;
+use crate::trees::loaded::{WIDE, limits, load_with_spans};
+use crate::trees::paths::{count_visits, is_path_to};
+use crate::trees::places::{Place, last_depth, makes_visits};
 use saphyr_parser::Span;
 use std::alloc::Global;
 use std::process::Abort;

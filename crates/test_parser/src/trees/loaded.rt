@@ -1,26 +1,10 @@
-//! What the tests share. A small function makes, compares and lets go, so that no test holds what owns memory.
+//! The documents of a text, within limits.
 
 use saphyr_parser::Parser;
-use std::alloc::{AllocError, Global};
+use std::alloc::Global;
 use yaml_tree::{
     Document, Limits, SpannedDocuments, TreeFault, load_documents, load_documents_with_spans,
 };
-
-/// An owned text, or an empty one where memory is lacking.
-pub(crate) fn owned(alloc: Global, text: &str) -> String {
-    match String::from_str(alloc, text) {
-        Ok(text) => text,
-        Err(_) => String::new(alloc),
-    }
-}
-
-/// Whether a text was made, and is this one.
-pub(crate) fn is_text(made: Result<String, AllocError>, text: &str) -> bool {
-    match made {
-        Ok(made) => made.as_str() == text,
-        Err(_) => false,
-    }
-}
 
 /// Limits that no small text reaches.
 pub(crate) const WIDE: Limits = Limits {

@@ -1,7 +1,7 @@
 //! Where nodes are in their text.
 
-use crate::helpers::{WIDE, load_with_spans};
-use crate::questions::{Asked, Question, expect_answers};
+use crate::trees::loaded::{WIDE, load_with_spans};
+use crate::trees::questions::{Asked, Question, expect_answers};
 use saphyr_parser::{Marker, Span};
 use std::alloc::{AllocError, Global};
 use yaml_tree::{Node, TreeFault, Visit, Walk};

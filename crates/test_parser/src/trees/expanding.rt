@@ -1,7 +1,7 @@
 //! How many nodes documents have once their aliases are expanded.
 
-use crate::helpers::WIDE;
-use crate::questions::{Asked, Question, ask, expect_answers};
+use crate::trees::loaded::WIDE;
+use crate::trees::questions::{Asked, Question, ask, expect_answers};
 use std::alloc::{AllocError, Global};
 use yaml_tree::Document;
 

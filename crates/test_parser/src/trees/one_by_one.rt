@@ -1,6 +1,7 @@
 //! What call after call on one parser answers, above all of one document at a time.
 
-use crate::helpers::{is_text, limits};
+use crate::helpers::is_text;
+use crate::trees::loaded::limits;
 use saphyr_parser::{Parser, StrInput};
 use std::alloc::{AllocError, Global};
 use yaml_tree::{Limits, TreeFault, load_document, load_documents};

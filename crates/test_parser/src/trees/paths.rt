@@ -1,6 +1,6 @@
 //! Paths to nodes: where a wrong value is.
 
-use crate::questions::{Asked, Question, expect_answers};
+use crate::trees::questions::{Asked, Question, expect_answers};
 use saphyr_parser::Span;
 use std::alloc::{AllocError, Global};
 use yaml_tree::{Node, Step, Visit, Walk};

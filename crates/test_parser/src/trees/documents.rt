@@ -1,9 +1,9 @@
 //! What no clause says: that calls succeed while there is memory, which fault a text gets, the printed texts,
 //! that a deep tree is dropped on a small stack, and how much memory a node takes.
 
-use crate::helpers::{limits, load};
-use crate::one_by_one::{Call, LATE, are_answers};
-use crate::questions::{Asked, Question, expect_answers};
+use crate::trees::loaded::{limits, load};
+use crate::trees::one_by_one::{Call, LATE, are_answers};
+use crate::trees::questions::{Asked, Question, expect_answers};
 use std::alloc::Global;
 use std::mem::size_of;
 use yaml_tree::{Document, Limits, Node};

@@ -1,6 +1,6 @@
 //! What nodes tell of themselves, and how a loader of one's own takes events by `?`.
 
-use crate::questions::{Asked, Question, expect_answers};
+use crate::trees::questions::{Asked, Question, expect_answers};
 use saphyr_parser::{Event, Fault, Parser, ScalarStyle, Span};
 use std::alloc::{AllocError, Global};
 use yaml_tree::{Document, Node, TreeFault};
