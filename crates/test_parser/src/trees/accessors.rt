@@ -1,7 +1,7 @@
 //! What nodes tell of themselves, and how a loader of one's own takes events by `?`.
 
 use crate::trees::questions::{Asked, Question, expect_answers};
-use saphyr_parser::{Event, Fault, Parser, ScalarStyle, Span};
+use saphyr_parser::{Event, Fault, Input, Parser, ScalarStyle, Span};
 use std::alloc::{AllocError, Global};
 use yaml_tree::{Document, Node, TreeFault};
 
@@ -141,9 +141,8 @@ fn scalars_of(item: Result<(Event<'_>, Span), Fault>) -> Result<usize, TreeFault
     Ok(usize::from(is_scalar))
 }
 
-// How many scalars are among so many events of a text.
-fn count_scalars(alloc: Global, text: &str, events: usize) -> Result<usize, TreeFault> {
-    let mut parser = Parser::new_from_str(alloc, text);
+// How many scalars are among so many events of a parser.
+fn count_scalars<T: Input>(parser: &mut Parser<'_, T>, events: usize) -> Result<usize, TreeFault> {
     let mut count = 0usize;
     for _ in 0..events {
         if let Some(item) = parser.next_event() {
@@ -153,9 +152,11 @@ fn count_scalars(alloc: Global, text: &str, events: usize) -> Result<usize, Tree
     Ok(count)
 }
 
-// Whether a text has so many scalars, or, where none is given, the parser's fault comes through.
-fn counts(alloc: Global, text: &str, scalars: Option<usize>) -> bool {
-    match count_scalars(alloc, text, 9) {
+// Whether a parser gives so many scalars, or, where none is given, its fault comes through.
+fn has_scalars<T: Input + Drop>(mut parser: Parser<'_, T>, scalars: Option<usize>) -> bool {
+    let counted = count_scalars(&mut parser, 9);
+    drop(parser);
+    match counted {
         Ok(count) => scalars == Some(count),
         Err(fault) => {
             let is_parsers = matches!(&fault, TreeFault::Parse(_));
@@ -163,6 +164,11 @@ fn counts(alloc: Global, text: &str, scalars: Option<usize>) -> bool {
             is_parsers && scalars.is_none()
         }
     }
+}
+
+// The same of a text.
+fn counts(alloc: Global, text: &str, scalars: Option<usize>) -> bool {
+    has_scalars(Parser::new_from_str(alloc, text), scalars)
 }
 
 #[test]

@@ -1,8 +1,11 @@
 //! What call after call on one parser answers, above all of one document at a time.
+//!
+//! What calls a parser is generic over its input, and is called for a text in one place, since each call at a type is
+//! dear to prove.
 
 use crate::helpers::is_text;
 use crate::trees::loaded::limits;
-use saphyr_parser::{Parser, StrInput};
+use saphyr_parser::{Input, Parser};
 use std::alloc::{AllocError, Global};
 use yaml_tree::{Limits, TreeFault, load_document, load_documents};
 
@@ -14,9 +17,9 @@ pub(crate) enum Call {
 }
 
 // All documents, as they print, or the fault.
-fn all_documents(
+fn all_documents<T: Input>(
     alloc: Global,
-    parser: &mut Parser<'_, StrInput<'_>>,
+    parser: &mut Parser<'_, T>,
     limits: Limits,
 ) -> Result<String, AllocError> {
     match load_documents(alloc, parser, limits) {
@@ -34,9 +37,9 @@ fn all_documents(
 }
 
 // The same of the next document.
-fn next_document(
+fn next_document<T: Input>(
     alloc: Global,
-    parser: &mut Parser<'_, StrInput<'_>>,
+    parser: &mut Parser<'_, T>,
     limits: Limits,
 ) -> Result<String, AllocError> {
     match load_document(alloc, parser, limits) {
@@ -54,9 +57,9 @@ fn next_document(
 }
 
 // Whether a call answers what is printed so.
-fn is_answer(
+fn is_answer<T: Input>(
     alloc: Global,
-    parser: &mut Parser<'_, StrInput<'_>>,
+    parser: &mut Parser<'_, T>,
     call: Call,
     limits: Limits,
     wanted: &str,
@@ -69,9 +72,9 @@ fn is_answer(
 }
 
 // Whether the next calls answer what is printed so.
-fn are_next_answers(
+fn are_next_answers<T: Input>(
     alloc: Global,
-    parser: &mut Parser<'_, StrInput<'_>>,
+    parser: &mut Parser<'_, T>,
     call: Call,
     limits: Limits,
     wanted: &[&str],
@@ -84,7 +87,29 @@ fn are_next_answers(
     true
 }
 
-/// The same after so many events of a text.
+// Takes so many events.
+fn pass<T: Input>(parser: &mut Parser<'_, T>, events: usize) {
+    for _ in 0..events {
+        drop(parser.next_event());
+    }
+}
+
+// Whether the calls after so many events answer what is printed so.
+fn are_later_answers<T: Input + Drop>(
+    alloc: Global,
+    mut parser: Parser<'_, T>,
+    events: usize,
+    call: Call,
+    limits: Limits,
+    wanted: &[&str],
+) -> bool {
+    pass(&mut parser, events);
+    let holds = are_next_answers(alloc, &mut parser, call, limits, wanted);
+    drop(parser);
+    holds
+}
+
+/// The same of a text.
 pub(crate) fn are_answers(
     alloc: Global,
     (text, events): (&str, usize),
@@ -92,16 +117,8 @@ pub(crate) fn are_answers(
     limits: Limits,
     wanted: &[&str],
 ) -> bool {
-    let mut parser = Parser::new_from_str(alloc, text);
-    pass(&mut parser, events);
-    are_next_answers(alloc, &mut parser, call, limits, wanted)
-}
-
-// Takes so many events.
-fn pass(parser: &mut Parser<'_, StrInput<'_>>, events: usize) {
-    for _ in 0..events {
-        drop(parser.next_event());
-    }
+    let parser = Parser::new_from_str(alloc, text);
+    are_later_answers(alloc, parser, events, call, limits, wanted)
 }
 
 const A: &str = "Some(Document { explicit: false, root: Scalar(\"a\", Plain, 0, None) })";

@@ -127,87 +127,79 @@ fn items_are_folded(rt: HostRuntime) {
     expect(&rt, is_text(folded(rt.alloc(), ITEMS), text), text);
 }
 
-// The style of a block scalar, what happens to its last breaks, and where its text ends.
-type Manner = (BlockStyle, Chomping, Ending);
-
-const FOLDED: Manner = (BlockStyle::Folded, Chomping::Clip, Ending::AtEnd);
-
-const STRIPPED: Manner = (BlockStyle::Literal, Chomping::Strip, Ending::AtEnd);
-
-const CLIPPED: Manner = (BlockStyle::Literal, Chomping::Clip, Ending::AtEnd);
-
-const KEPT: Manner = (BlockStyle::Literal, Chomping::Keep, Ending::AtEnd);
-
-const STRIPPED_AT_A_MARK: Manner = (BlockStyle::Literal, Chomping::Strip, Ending::AtMark);
-
-const CLIPPED_AT_A_MARK: Manner = (BlockStyle::Literal, Chomping::Clip, Ending::AtMark);
-
-const KEPT_AT_A_MARK: Manner = (BlockStyle::Literal, Chomping::Keep, Ending::AtMark);
-
-// A manner, how far lines are indented, the lines, and their value.
-const BLOCKS: &[(Manner, usize, &str, &str)] = &[
-    (FOLDED, 1, " a\n b\n\n  c\n d\n", "a b\n\n c\nd\n"),
-    (FOLDED, 1, " a\n  b\n c\n", "a\n b\nc\n"),
-    (FOLDED, 1, "\n a\n\n\n b", "\na\n\nb\n"),
-    (FOLDED, 1, " a\n\n \tb\n\n c\n", "a\n\n\tb\n\nc\n"),
-    (STRIPPED, 1, " a\n ", "a"),
-    (CLIPPED, 1, " a\n ", "a\n"),
-    (KEPT, 1, " a\n ", "a\n\n"),
-    (STRIPPED, 1, " a\n\n", "a"),
-    (CLIPPED, 1, " a\n\n", "a\n"),
-    (KEPT, 1, " a\n\n", "a\n\n"),
-    (STRIPPED, 1, "\n a\r\n\r b\r", "\na\n\nb"),
-    (CLIPPED, 1, "\n a\r\n\r b\r", "\na\n\nb\n"),
-    (KEPT, 1, "\n a\r\n\r b\r", "\na\n\nb\n"),
-    (STRIPPED, 2, "   a\n", " a"),
-    (CLIPPED, 2, "   a\n", " a\n"),
-    (KEPT, 2, "   a\n", " a\n"),
-    (STRIPPED, 2, "   a", " a"),
-    (CLIPPED, 2, "   a", " a\n"),
-    (KEPT, 2, "   a", " a\n"),
-    (STRIPPED, 2, "  a\n ", "a"),
-    (CLIPPED, 2, "  a\n ", "a\n"),
-    (KEPT, 2, "  a\n ", "a\n"),
-    (STRIPPED, 2, "  a\n  ", "a"),
-    (CLIPPED, 2, "  a\n  ", "a\n"),
-    (KEPT, 2, "  a\n  ", "a\n\n"),
-    (STRIPPED, 2, "  a\n   ", "a\n "),
-    (CLIPPED, 2, "  a\n   ", "a\n \n"),
-    (KEPT, 2, "  a\n   ", "a\n \n"),
-    (STRIPPED, 0, "", ""),
-    (CLIPPED, 0, "", ""),
-    (KEPT, 0, "", ""),
-    (STRIPPED, 0, "\n", ""),
-    (CLIPPED, 0, "\n", ""),
-    (KEPT, 0, "\n", "\n"),
-    (STRIPPED, 1, " ", ""),
-    (CLIPPED, 1, " ", ""),
-    (KEPT, 1, " ", "\n"),
-    (STRIPPED, 1, "\n ", ""),
-    (CLIPPED, 1, "\n ", ""),
-    (KEPT, 1, "\n ", "\n"),
-    (STRIPPED_AT_A_MARK, 1, " a", "a"),
-    (CLIPPED_AT_A_MARK, 1, " a", "a"),
-    (KEPT_AT_A_MARK, 1, " a", "a"),
-    (KEPT_AT_A_MARK, 1, " a\n ", "a\n"),
-    (KEPT_AT_A_MARK, 1, " ", ""),
+// The lines of folded block scalars, with one space before each, and their values.
+const FOLDED: &[(&str, &str)] = &[
+    (" a\n b\n\n  c\n d\n", "a b\n\n c\nd\n"),
+    (" a\n  b\n c\n", "a\n b\nc\n"),
+    ("\n a\n\n\n b", "\na\n\nb\n"),
+    (" a\n\n \tb\n\n c\n", "a\n\n\tb\n\nc\n"),
 ];
 
-fn is_block(
+// How far the lines of a literal block scalar are indented, the lines, and their values where the last breaks are
+// stripped, clipped and kept.
+type Row<'a> = (usize, &'a str, &'a str, &'a str, &'a str);
+
+const LITERAL: &[Row] = &[
+    (1, " a\n ", "a", "a\n", "a\n\n"),
+    (1, " a\n\n", "a", "a\n", "a\n\n"),
+    (1, "\n a\r\n\r b\r", "\na\n\nb", "\na\n\nb\n", "\na\n\nb\n"),
+    (2, "   a\n", " a", " a\n", " a\n"),
+    (2, "   a", " a", " a\n", " a\n"),
+    (2, "  a\n ", "a", "a\n", "a\n"),
+    (2, "  a\n  ", "a", "a\n", "a\n\n"),
+    (2, "  a\n   ", "a\n ", "a\n \n", "a\n \n"),
+    (0, "", "", "", ""),
+    (0, "\n", "", "", "\n"),
+    (1, " ", "", "", "\n"),
+    (1, "\n ", "", "", "\n"),
+];
+
+// The same where the text ends at a mark.
+const LITERAL_AT_A_MARK: &[Row] = &[
+    (1, " a", "a", "a", "a"),
+    (1, " a\n ", "a", "a\n", "a\n"),
+    (1, " ", "", "", ""),
+];
+
+fn is_folded(alloc: Global, lines: &str, value: &str) -> bool {
+    let (style, chomping) = (BlockStyle::Folded, Chomping::Clip);
+    is_text(
+        block_value(alloc, style, chomping, 1, lines, Ending::AtEnd),
+        value,
+    )
+}
+
+fn is_literal(
     alloc: Global,
-    (style, chomping, ending): Manner,
-    indentation: usize,
-    lines: &str,
+    ending: Ending,
+    (indentation, lines): (usize, &str),
+    chomping: Chomping,
     value: &str,
 ) -> bool {
-    let read = block_value(alloc, style, chomping, indentation, lines, ending);
-    is_text(read, value)
+    let style = BlockStyle::Literal;
+    is_text(
+        block_value(alloc, style, chomping, indentation, lines, ending),
+        value,
+    )
+}
+
+fn has_values(alloc: Global, ending: Ending, row: Row<'_>) -> bool {
+    let (indentation, lines, stripped, clipped, kept) = row;
+    let block = (indentation, lines);
+    is_literal(alloc, ending, block, Chomping::Strip, stripped)
+        && is_literal(alloc, ending, block, Chomping::Clip, clipped)
+        && is_literal(alloc, ending, block, Chomping::Keep, kept)
 }
 
 #[test]
 fn reads_block_scalars(rt: HostRuntime) {
-    for &(manner, indentation, lines, value) in BLOCKS {
-        let holds = is_block(rt.alloc(), manner, indentation, lines, value);
-        expect(&rt, holds, lines);
+    for &(lines, value) in FOLDED {
+        expect(&rt, is_folded(rt.alloc(), lines, value), lines);
+    }
+    for &row in LITERAL {
+        expect(&rt, has_values(rt.alloc(), Ending::AtEnd, row), row.1);
+    }
+    for &row in LITERAL_AT_A_MARK {
+        expect(&rt, has_values(rt.alloc(), Ending::AtMark, row), row.1);
     }
 }
