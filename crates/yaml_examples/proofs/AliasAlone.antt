@@ -41,8 +41,7 @@ no_separation_line indent t (blanks, comment, filler, b, c, f, e) h =
     (behind_in is_here t blanks (comment ++ (codes "\n" ++ (filler ++ spaces indent))) e h))
 
 no_lines : (indent : ℕ) (pieces : List (List ℕ)) → AreEach (IsSeparationLine indent) pieces
-    → AreHere (joined_pieces pieces)
-    → joined_pieces pieces ≡ []
+    → AreHere (joined_pieces pieces) → joined_pieces pieces ≡ []
 no_lines indent [] h i = refl
 no_lines indent (line ∷ lines) (h, hs) i =
     absurd (no_separation_line indent line h
@@ -51,19 +50,17 @@ no_lines indent (line ∷ lines) (h, hs) i =
 -- so separation is of blanks
 blanks_alone : (indent : ℕ) (t : List ℕ) → IsSeparation indent t → AreHere t → AreIn is_blank t
 blanks_alone indent t (lines, blanks, (pieces, h, f), b, e) i =
-    let none : lines ≡ [] = f
-    ∙ no_lines indent pieces h (subst (λ (u : List ℕ). AreHere u) f (before_in is_here t lines blanks e i)) in
+    let none : lines ≡ [] = f ∙ no_lines indent pieces h (rw f at (before_in is_here t lines blanks e i)) in
     let same : blanks ≡ t = sym (rw none at e) in
-    subst (λ (u : List ℕ). AreIn is_blank u) same b
+    rw same at b
 
 -- ## The anchor goes on to the blank, and after it no content begins
 
 word_begins_plain : (in_flow : Bool) (c : ℕ) (rest first others : List ℕ) → begins_plain c ≡ false
-    → IsFirstWord in_flow first
-    → c ∷ rest ≡ first ++ others → ⊥
+    → IsFirstWord in_flow first → c ∷ rest ≡ first ++ others → ⊥
 word_begins_plain in_flow c rest [] others n (h, b, x, y, z) e = h.some refl
 word_begins_plain in_flow c rest (d ∷ ds) others n (h, b, x, y, z) e =
-    let f : begins_plain d ≡ begins_plain c = ap (λ v. begins_plain v) (heads c d rest (ds ++ others) e) in cc
+    let f : begins_plain d ≡ begins_plain c = cc (heads c d rest (ds ++ others) e) in cc
 
 no_content : (style : Style) (value : List ℕ) (in_flow : Bool) (indent c : ℕ) (rest t : List ℕ)
     → IsFlowScalar style value in_flow indent t → AreHere t → begins_plain c ≡ false → c ∷ rest ≡ t → ⊥
@@ -96,8 +93,7 @@ no_blanks (c ∷ d ∷ ds) content (h, (i, j)) n e =
 
 -- the text that after properties alone is the rest of the name or blanks and content
 behind_anchor : (indent : ℕ) (anchor : Option (List ℕ)) (x : Option Tag) (t others : List ℕ)
-    → AreProperties anchor x indent t
-    → codes "&a *b" ≡ t ++ others → codes " *b" ≡ others
+    → AreProperties anchor x indent t → codes "&a *b" ≡ t ++ others → codes " *b" ≡ others
 behind_anchor indent None None t others h e = absurd h
 behind_anchor indent (Some name) None t others ((n, h), f) e =
     no_anchor name others h n (tails 38 38 (codes "a *b") (name ++ others) (rw f at e))

@@ -13,7 +13,7 @@ abbrev is_dash : ℕ → Bool
 is_dash c = c == 45
 
 dashes : (t : List ℕ) → codes "-" ≡ t → AreIn is_dash t
-dashes t is = subst (AreIn is_dash) is (refl, tt)
+dashes t is = rw (← is) (refl, tt)
 
 dash_is_no_mark : (t : List ℕ) → codes "-" ≡ t → Begins IsPropertyMark t → ⊥
 dash_is_no_mark t is (c, cs, m, e) = other c m (heads 45 c [] cs (is ∙ e))
@@ -34,8 +34,7 @@ flow_scalar Literal v in_flow indent t is h = absurd h
 flow_scalar Folded v in_flow indent t is h = absurd h
 
 dash_is_no_scalar : (p : Properties) (style : Style) (v : List ℕ) (in_flow : Bool) (indent : ℕ) (t : List ℕ)
-    → codes "-" ≡ t
-    → IsScalarNode p style v in_flow indent t → ⊥
+    → codes "-" ≡ t → IsScalarNode p style v in_flow indent t → ⊥
 dash_is_no_scalar p style v in_flow indent t is (inl (e, f, h)) = dash_is_no_mark t is (properties indent p.anchor
     p.tag t h)
 dash_is_no_scalar p style v in_flow indent t is (inr (front, content, b, h, e)) = by_front (before p indent front b)

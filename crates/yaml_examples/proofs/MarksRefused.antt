@@ -41,21 +41,20 @@ marks_are (piece ∷ pieces) ((filler, filler_is, e), each) h =
     let clean = before_in is_mark_or_b (piece ++ others) piece others refl h in
     let none = no_feed_no_filler filler (no_feed filler (before_in is_mark_or_b piece filler (65279 ∷ []) e clean))
     filler_is in
-    let alone : piece ≡ 65279 ∷ [] = e ∙ ap (λ (x : List ℕ). x ++ 65279 ∷ []) none in
-    both_in is_mark_or_blank piece others (subst (λ (x : List ℕ). AreIn is_mark_or_blank x) (sym alone) (refl, tt))
+    let alone : piece ≡ 65279 ∷ [] = cc in
+    both_in is_mark_or_blank piece others (rw alone (refl, tt))
     (marks_are pieces each (behind_in is_mark_or_b (piece ++ others) piece others refl h))
 
 filler_is_blank : (t : List ℕ) → IsLastFiller t → AreIn is_mark_or_b t → AreIn is_mark_or_blank t
 filler_is_blank t (filler, text, filler_is, (front, comment, are, k, text_is), e) h =
     let none = no_feed_no_filler filler (no_feed filler (before_in is_mark_or_b t filler text e h)) filler_is in
-    let whole : t ≡ front ++ comment = e ∙ ap (λ (x : List ℕ). x ++ text) none ∙ text_is in
+    let whole : t ≡ front ++ comment = cc in
     by_comment k whole
   where
     by_comment : (comment ≡ []) ⊎ IsComment comment → t ≡ front ++ comment → AreIn is_mark_or_blank t
     by_comment (inl empty) f =
         subst (λ (x : List ℕ). AreIn is_mark_or_blank x) (sym f)
-        (both_in is_mark_or_blank front comment (blanks_are front are)
-        (subst (λ (x : List ℕ). AreIn is_mark_or_blank x) (sym empty) tt))
+        (both_in is_mark_or_blank front comment (blanks_are front are) (rw empty tt))
     by_comment (inr (words, inside, begins)) f =
         absurd (lacks is_mark_or_b 35 comment [] words refl begins (behind_in is_mark_or_b t front comment f h))
 
@@ -93,7 +92,6 @@ mark_behind_space i (inr (inl (inl h))) = absurd (let e : false ≡ true = h in 
 mark_behind_space i (inr (inl (inr h))) = absurd (let e : false ≡ true = h in cc)
 mark_behind_space i (inr (inr (inl (n, c, more, ink, feed, inl left, e)))) = absurd (omega (arith, left))
 mark_behind_space i (inr (inr (inl (n, c, more, ink, feed, inr (sign, left), e)))) =
-    lacks is_mark_or_blank 35 (codes " \u{feff}") (spaces n) more refl
-    (e ∙ ap (λ (d : ℕ). spaces n ++ (d ∷ more)) sign) (refl, (refl, tt))
+    lacks is_mark_or_blank 35 (codes " \u{feff}") (spaces n) more refl (cc) (refl, (refl, tt))
 mark_behind_space i (inr (inr (inr (n, others, left, e, to_end)))) =
     lacks (λ c. not (c == 9)) 9 (codes " \u{feff}") (spaces n) others refl e (refl, (refl, tt))

@@ -19,7 +19,7 @@ use Rattle.saphyr_input.specs.Indicators.{hyphen, number_sign, vertical_bar, plu
 
 no_dash : (in_flow : Bool) (first others : List ℕ) → IsFirstWord in_flow first → codes "- a" ≡ first ++ others → ⊥
 no_dash in_flow [] others (h, b, x, y, z) e = h.some refl
-no_dash in_flow (c ∷ []) others (h, b, x, y, z) e = x (ap (λ v. v ∷ []) (heads 45 c (codes " a") others e))
+no_dash in_flow (c ∷ []) others (h, b, x, y, z) e = x (cc (heads 45 c (codes " a") others e))
 no_dash in_flow (c ∷ d ∷ cs) others (h, b, x, y, z) e =
     let f : d ≡ 32 = heads 32 d (codes "a") (cs ++ others) (tails 45 c (codes " a") (d ∷ (cs ++ others)) e) in
     let g : is_word_ink in_flow d ≡ false = ap (λ v. is_word_ink in_flow v) f in
@@ -47,8 +47,7 @@ dash_is_word : (dashes gap word more : List ℕ) → gap ≢ [] → word ≢ []
     → codes " -" ≡ (dashes ++ (gap ++ word)) ++ more → word ≡ codes "-"
 dash_is_word [] [] word more some any e = absurd (some refl)
 dash_is_word [] (g ∷ []) [] more some any e = absurd (any refl)
-dash_is_word [] (g ∷ []) (w ∷ []) more some any e =
-    ap (λ v. v ∷ []) (heads 45 w [] more (tails 32 g (codes "-") (w ∷ more) e))
+dash_is_word [] (g ∷ []) (w ∷ []) more some any e = cc (heads 45 w [] more (tails 32 g (codes "-") (w ∷ more) e))
 dash_is_word [] (g ∷ []) (w ∷ x ∷ ws) more some any e = absurd (cc)
 dash_is_word [] (g ∷ h ∷ hs) word more some any e =
     absurd (no_third hs word any (tails 45 h [] ((hs ++ word) ++ more) (tails 32 g (codes "-") _ e)))
@@ -102,7 +101,7 @@ last_dash indent (first, others, (h, b, x, y, z), (pieces, each, joins), e) = by
 no_indicator : (in_flow : Bool) (first others : List ℕ) → IsFirstWord in_flow first → codes "@a" ≡ first ++ others → ⊥
 no_indicator in_flow [] others (h, b, x, y, z) e = h.some refl
 no_indicator in_flow (c ∷ cs) others (h, b, x, y, z) e =
-    let f : begins_plain c ≡ false = ap (λ v. begins_plain v) (heads 64 c (codes "a") (cs ++ others) e) in cc
+    let f : begins_plain c ≡ false = cc (heads 64 c (codes "a") (cs ++ others) e) in cc
 
 pub indicator_first : (in_flow : Bool) (indent : ℕ) → IsPlain in_flow indent (codes "@a") → ⊥
 indicator_first in_flow indent (first, others, h, m, e) = no_indicator in_flow first others h e
@@ -113,18 +112,17 @@ header_ends_with_break : (c : ℕ) (rest d x : List ℕ) → is_blank c ≡ fals
     → d ≡ c ∷ rest → ⊥
 header_ends_with_break c rest _ x b n (no_comment [] _ h) e = n (sym (heads c 10 rest x (sym e)))
 header_ends_with_break c rest _ x b n (no_comment (blank ∷ blanks) _ (h, hs)) e =
-    let f : is_blank blank ≡ is_blank c = ap (λ v. is_blank v) (heads c blank rest _ (sym e)) in cc
+    let f : is_blank blank ≡ is_blank c = cc (heads c blank rest _ (sym e)) in cc
 header_ends_with_break c rest _ x b n (comment blank blanks text _ (h, hs) g) e =
-    let f : is_blank blank ≡ is_blank c = ap (λ v. is_blank v) (heads c blank rest _ (sym e)) in cc
+    let f : is_blank blank ≡ is_blank c = cc (heads c blank rest _ (sym e)) in cc
 header_ends_with_break c rest _ _ b n (no_comment_at_end [] h) e = cc
 header_ends_with_break c rest _ _ b n (no_comment_at_end (blank ∷ blanks) (h, hs)) e =
-    let f : is_blank blank ≡ is_blank c = ap (λ v. is_blank v) (heads c blank rest _ (sym e)) in cc
+    let f : is_blank blank ≡ is_blank c = cc (heads c blank rest _ (sym e)) in cc
 header_ends_with_break c rest _ _ b n (comment_at_end blank blanks text (h, hs) g) e =
-    let f : is_blank blank ≡ is_blank c = ap (λ v. is_blank v) (heads c blank rest _ (sym e)) in cc
+    let f : is_blank blank ≡ is_blank c = cc (heads c blank rest _ (sym e)) in cc
 
 chomped_end : (c : ℕ) (rest b d x : List ℕ) (k : Chomping) → is_blank c ≡ false → c ≢ line_feed → c ≢ hyphen
-    → c ≢ plus_sign
-    → IsChomping k b d → block.IsHeaderEnd d x → b ≡ c ∷ rest → ⊥
+    → c ≢ plus_sign → IsChomping k b d → block.IsHeaderEnd d x → b ≡ c ∷ rest → ⊥
 chomped_end c rest _ d x _ l n p q (strip _) h e = p (sym (heads c 45 rest d (sym e)))
 chomped_end c rest _ d x _ l n p q (clip _) h e = header_ends_with_break c rest d x l n h e
 chomped_end c rest _ d x _ l n p q (keep _) h e = q (sym (heads c 43 rest d (sym e)))
@@ -177,8 +175,7 @@ spaced_body i n x _ _ (block.empty_lines ls t are (inr (inl g))) e f = spaced_li
 spaced_body i n x _ _ (block.empty_lines ls t are (inr (inr over))) e f = let h : codes "---" ≡ [] = sym f ∙ over in cc
 spaced_body i n x _ _ (block.spaces_alone j some low over) e f = let h : codes "---" ≡ [] = sym f ∙ over in cc
 
-pub spaces_before_marker : (i n : ℕ) (ls : List Line)
-    → block.IsEmptyBody 0 i n (codes "---") ls (codes " \n---") → ⊥
+pub spaces_before_marker : (i n : ℕ) (ls : List Line) → block.IsEmptyBody 0 i n (codes "---") ls (codes " \n---") → ⊥
 spaces_before_marker i n ls h = spaced_body i n (codes "---") ls (codes " \n---") h refl refl
 
 -- ## Ends of lines and indentation

@@ -47,15 +47,13 @@ pub tab_behind_question : (room : ℕ) (key value : Node) (m : ℕ) (behind : Li
     → IsKeyAlone value (IsBlockNode room key) m (codes "?\t\n") behind → ⊥
 tab_behind_question room key value m behind (node, out, (some, clear), k, u, e) =
     let f : codes "\t\n" ≡ node = tails 63 63 (codes "\t\n") node e in
-    let g : has_tab_ahead false (codes "\t\n" ++ behind) ≡ false =
-    ap (λ (x : List ℕ). has_tab_ahead false (x ++ behind)) f ∙ clear in cc
+    let g : has_tab_ahead false (codes "\t\n" ++ behind) ≡ false = cc in cc
 
 pub tab_behind_left_out : (room : ℕ) (key value : Node) (m : ℕ) (others : List ℕ)
     → IsKeyAlone value (IsBlockNode room key) m (codes "?\n") (codes "\t\n" ++ others) → ⊥
 tab_behind_left_out room key value m others (node, out, (some, clear), k, u, e) =
     let f : codes "\n" ≡ node = tails 63 63 (codes "\n") node e in
-    let g : has_tab_ahead false (codes "\n\t\n" ++ others) ≡ false =
-    ap (λ (x : List ℕ). has_tab_ahead false (x ++ (codes "\t\n" ++ others))) f ∙ clear in cc
+    let g : has_tab_ahead false (codes "\n\t\n" ++ others) ≡ false = cc in cc
 
 pub value_of_its_own : (room : ℕ) (key value : Node) (others : List ℕ)
     → IsKeyAlone value (IsBlockNode room key) 0 (codes "? a\n") (codes ": b" ++ others) → ⊥
@@ -87,8 +85,7 @@ pub sequence_behind_colon : (room : ℕ) (key : Node) (p : Properties) (nodes : 
 unfolding is_no_bracket_and_no_feed
 sequence_behind_colon room key p nodes m behind (value, out, h, e) =
     no_sequence_here room p nodes m behind value h
-    (subst (λ (x : List ℕ). AreIn is_no_bracket_and_no_feed x) (tails 58 58 (codes " - a") value e)
-    (refl, (refl, (refl, (refl, tt)))))
+    (rw (← (tails 58 58 (codes " - a") value e)) (refl, (refl, (refl, (refl, tt)))))
 
 -- whether a document marker or a byte order mark is here, or anywhere
 abbrev ends_content : List ℕ → Bool
@@ -118,7 +115,7 @@ lone_tab room m node behind (gap, text, end, gap_is, is, apart, end_is, e) = by_
       where
         none : BeginsInk [] → ⊥
         none b = let f : [] ≡ b.first ∷ b.others = b.is in cc
-    text_is (c ∷ cs) k f = ap (λ (d : ℕ). is_alpha d) (heads 97 c [] (cs ++ end) f)
+    text_is (c ∷ cs) k f = cc (heads 97 c [] (cs ++ end) f)
 
     no_feed : (end : List ℕ) → IsLineEnd end → (more : List ℕ) → codes "\ta" ≡ end ++ more → ⊥
     no_feed end (rest, r, f) more e =
@@ -142,7 +139,7 @@ lone_tab room m node behind (gap, text, end, gap_is, is, apart, end_is, e) = by_
         absurd (false≢true (sym ink ∙ blank))
     by_gap gap (inr (inl (line, filler, front, line_is, filler_is, front_is, g))) other f =
         no_feed line line_is ((filler ++ front) ++ (text ++ end))
-        (f ∙ ap (λ x. x ++ (text ++ end)) g ∙ append_assoc line (filler ++ front) (text ++ end))
+        (cc (append_assoc line (filler ++ front) (text ++ end)))
     by_gap gap (inr (inr (first, g))) other f = absurd (false≢true first)
 
 -- a tab in the place of indentation
@@ -165,12 +162,10 @@ tab_before_value room m node behind (gap, text, end, gap_is, is, apart, end_is, 
     by_rest : (rest filler more : List ℕ) (n : ℕ) → (rest ≡ []) ⊎ Begins (λ c. IsTrue (is_blank c)) rest
         → IsFiller filler → suc m ≤ n → codes "\n\ta" ≡ rest ++ (10 ∷ (filler ++ (spaces n ++ more))) → ⊥
     by_rest rest filler more n (inl none) filler_is low f =
-        by_filler filler more n filler_is low (tails 10 10 (codes "\ta") (filler ++ (spaces n ++ more))
-        (f ∙ ap (λ x. x ++ (10 ∷ (filler ++ (spaces n ++ more)))) none))
+        by_filler filler more n filler_is low (tails 10 10 (codes "\ta") (filler ++ (spaces n ++ more)) (cc))
     by_rest rest filler more n (inr (c, cs, blank, begins)) filler_is low f =
         let others = cs ++ (10 ∷ (filler ++ (spaces n ++ more))) in
-        let feed : c ≡ 10 = heads 10 c (codes "\ta") others
-        (f ∙ ap (λ x. x ++ (10 ∷ (filler ++ (spaces n ++ more)))) begins) in
+        let feed : c ≡ 10 = heads 10 c (codes "\ta") others (cc) in
         absurd (let g : true ≡ false = sym blank ∙ ap is_blank feed in cc)
 
     by_gap : (gap : List ℕ) → IsGapAt (BehindKey m) gap → codes "\n\ta" ≡ gap ++ (text ++ end) → ⊥
@@ -187,14 +182,11 @@ tab_before_value room m node behind (gap, text, end, gap_is, is, apart, end_is, 
       (lead, white, (n, low, lead_is), are, front_is),
       g,
     ))) f =
-        let parts : gap ≡ (rest ++ codes "\n") ++ (filler ++ (spaces n ++ white)) =
-        g ∙ ap (λ x. x ++ (filler ++ front)) line_is
-        ∙ ap (λ x. (rest ++ codes "\n") ++ (filler ++ x)) (front_is ∙ ap (λ x. x ++ white) lead_is) in
+        let parts : gap ≡ (rest ++ codes "\n") ++ (filler ++ (spaces n ++ white)) = cc in
         by_rest rest filler (white ++ (text ++ end)) n (line_rest rest rest_is) filler_is low
-        (f ∙ ap (λ x. x ++ (text ++ end)) parts ∙ joined rest filler (spaces n) white (text ++ end))
+        (cc (joined rest filler (spaces n) white (text ++ end)))
       where
-        joined : (a b c d e : List ℕ)
-            → ((a ++ codes "\n") ++ (b ++ (c ++ d))) ++ e ≡ a ++ (10 ∷ (b ++ (c ++ (d ++ e))))
+        joined : (a b c d e : List ℕ) → ((a ++ codes "\n") ++ (b ++ (c ++ d))) ++ e ≡ a ++ (10 ∷ (b ++ (c ++ (d ++ e))))
         joined a b c d e = simp append_assoc
     by_gap gap (inr (inr (first, g))) f = absurd (false≢true first)
 
@@ -231,7 +223,7 @@ before_colon : (c : ℕ) (rest between value : List ℕ) → is_blank c ≡ fals
     → c ∷ rest ≡ between ++ (colon ∷ value) → ⊥
 before_colon c rest [] value x y are e = y (sym (heads c 58 rest value e))
 before_colon c rest (b ∷ bs) value x y are e =
-    let f : is_blank b ≡ is_blank c = ap (λ (d : ℕ). is_blank d) (heads c b rest (bs ++ (58 ∷ value)) e) in
+    let f : is_blank b ≡ is_blank c = cc (heads c b rest (bs ++ (58 ∷ value)) e) in
     absurd (false≢true (sym x ∙ sym f ∙ are.0))
 
 no_key_over_lines : (node between value : List ℕ) → IsOnLine node → AreIn is_blank between

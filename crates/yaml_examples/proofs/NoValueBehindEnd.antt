@@ -57,8 +57,7 @@ none_before : (k : Kind) (s : List Kind) (anchor : Option (List ℕ)) (tag : Opt
     Kind)
     → is_property k ≡ false → AreBoth (option_map anchor_token anchor) (option_map tag_token tag) front
     → t ≡ front ++ content → k ∷ s ≡ t ++ more → HasNone anchor tag × (k ∷ s ≡ content ++ more)
-none_before k s None None front content t more n h e f =
-    (tt, f ∙ ap (λ l. l ++ more) (e ∙ ap (λ l. l ++ content) h))
+none_before k s None None front content t more n h e f = (tt, cc)
 none_before k s (Some a) None front content t more n h e f =
     absurd (no_property k (anchor_token a) n refl
     (begins_so k (anchor_token a) s t content more (e ∙ ap (λ l. l ++ content) h) f))
@@ -74,8 +73,7 @@ none_before k s (Some a) (Some g) front content t more n (inr h) e f =
 
 -- a scalar has a token of its own, or properties
 no_scalar : (k : Kind) (s : List Kind) (anchor : Option (List ℕ)) (tag : Option Tag) (style : Style) (value : List ℕ)
-    (content more : List Kind) → ((j : Kind) → j ≡ scalar_token style value → k ≡ j → ⊥)
-    → HasNone anchor tag
+    (content more : List Kind) → ((j : Kind) → j ≡ scalar_token style value → k ≡ j → ⊥) → HasNone anchor tag
     → (content ≡ scalar_token style value ∷ [])
     ⊎ (HasOne anchor tag × (style ≡ forest.Plain) × (value ≡ []) × (content ≡ [])) → k ∷ s ≡ content ++ more → ⊥
 no_scalar k s anchor tag style value content more n none (inl h) f =
@@ -136,10 +134,10 @@ brackets (forest.Seq p nodes) s t more (properties, content, ps, inl (inside, is
         others FlowSequenceEnd FlowSequenceEnd s more (x ∙ ap (λ l. l ++ FlowSequenceEnd ∷ more) is)
     by_nodes (MoreNodes node nodes) inside (entry, rest, inl h, o, d) x =
         absurd (no_node node s entry (rest ++ (FlowSequenceEnd ∷ more)) h
-        (x ∙ ap (λ l. l ++ (FlowSequenceEnd ∷ more)) d ∙ append_assoc entry rest (FlowSequenceEnd ∷ more)))
+        (cc (append_assoc entry rest (FlowSequenceEnd ∷ more))))
     by_nodes (MoreNodes node nodes) inside (entry, rest, inr h, o, d) x =
         absurd (no_pair node s entry (rest ++ (FlowSequenceEnd ∷ more)) h
-        (x ∙ ap (λ l. l ++ (FlowSequenceEnd ∷ more)) d ∙ append_assoc entry rest (FlowSequenceEnd ∷ more)))
+        (cc (append_assoc entry rest (FlowSequenceEnd ∷ more))))
 brackets (forest.Seq p nodes) s t more (properties, content, ps, inr (inl h), e) f = absurd h.0
 brackets (forest.Seq p nodes) s t more (properties, content, ps, inr (inr h), e) f = absurd h.0
 brackets (forest.Map p pairs) s t more (properties, content, ps, inl (inside, is, d), e) f =
@@ -172,7 +170,7 @@ module _ (style : Style) (value : List ℕ) where
   no_pairs NoPair t behind e f =
       let x = firsts FlowSequenceStart FlowMappingEnd _ behind (f ∙ ap (λ l. l ++ (FlowMappingEnd ∷ behind)) e) in cc
   no_pairs (MorePairs a b pairs) t behind (pair, more, h, o, e) f = by_pair h
-      (f ∙ ap (λ l. l ++ (FlowMappingEnd ∷ behind)) e ∙ append_assoc pair more (FlowMappingEnd ∷ behind))
+      (cc (append_assoc pair more (FlowMappingEnd ∷ behind)))
     where
       by_pair : YieldsFlowPair a b (YieldsNode a InFlow) (YieldsNode b InFlow) pair
           → behind_brace ≡ pair ++ (more ++ (FlowMappingEnd ∷ behind)) → ⊥
@@ -214,8 +212,7 @@ module _ (style : Style) (value : List ℕ) where
       let x = begins_so FlowMappingStart BlockMappingStart behind_brace content _ behind d g.1 in cc
 
   no_directive : (ds : List Directive) (t node behind : List Kind) → t ≡ map directive_token ds ++
-      (DocumentStart ∷ node)
-      → FlowMappingStart ∷ behind_brace ≡ t ++ behind → ⊥
+      (DocumentStart ∷ node) → FlowMappingStart ∷ behind_brace ≡ t ++ behind → ⊥
   no_directive [] t node behind e f =
       let x = begins_so FlowMappingStart DocumentStart behind_brace t node behind e f in cc
   no_directive (Version major minor ∷ ds) t node behind e f =
@@ -236,8 +233,7 @@ module _ (style : Style) (value : List ℕ) where
   no_forest f (front, documents, ends, h, e) =
       by_front front ends (others StreamStart StreamStart (FlowMappingStart ∷ behind_brace) (front ++ documents) e)
     where
-      by_front : (front : List Kind) → AreEndsAndMarks front
-          → FlowMappingStart ∷ behind_brace ≡ front ++ documents → ⊥
+      by_front : (front : List Kind) → AreEndsAndMarks front → FlowMappingStart ∷ behind_brace ≡ front ++ documents → ⊥
       by_front [] ends x = no_documents f documents h x
       by_front (k ∷ ks) (inl d, more) x =
           let y = firsts FlowMappingStart k behind_brace (ks ++ documents) x in cc

@@ -143,7 +143,7 @@ bare_front (a ∷ b ∷ c ∷ cs) behind e n =
     three [] behind e n = cc
     three (c ∷ cs) behind e n =
         let f : c ≡ 10 = heads 10 c [] (cs ++ behind) e in let g : has_marker true (45 ∷ 45 ∷ 45 ∷ 10 ∷ cs) ≡ false =
-        subst (λ (x : ℕ). has_marker true (45 ∷ 45 ∷ 45 ∷ x ∷ cs) ≡ false) f n in cc
+        rw f at n in cc
 
     marked : (a b c : ℕ) (cs behind : List ℕ) → a ≡ hyphen → b ≡ hyphen → c ≡ hyphen → codes "\n" ≡ cs ++ behind
         → IsFalse (has_marker true (a ∷ b ∷ c ∷ cs)) → ⊥
@@ -155,11 +155,9 @@ bare_front (a ∷ b ∷ c ∷ cs) behind e n =
 
 no_first_mark : (t : List ℕ) → Begins IsPropertyMark t → IsAll 10 t → ⊥
 no_first_mark t (c, cs, inl m, e) h =
-    let f : (c == 10) ≡ true = (subst (λ (u : List ℕ). IsAll 10 u) e h).0 in let g : (c == 10) ≡ false = ap
-    (λ x. x == 10) m in cc
+    let f : (c == 10) ≡ true = (rw e at h).0 in let g : (c == 10) ≡ false = ap (λ x. x == 10) m in cc
 no_first_mark t (c, cs, inr m, e) h =
-    let f : (c == 10) ≡ true = (subst (λ (u : List ℕ). IsAll 10 u) e h).0 in let g : (c == 10) ≡ false = ap
-    (λ x. x == 10) m in cc
+    let f : (c == 10) ≡ true = (rw e at h).0 in let g : (c == 10) ≡ false = ap (λ x. x == 10) m in cc
 
 feeds_are_no_word : (in_flow : Bool) (w : List ℕ) → IsFirstWord in_flow w → IsAll 10 w → ⊥
 feeds_are_no_word in_flow [] (h, b, x, y, z) i = h.some refl
@@ -264,8 +262,7 @@ no_document room d t behind (directives, node, x, c, ds, m, n, e) h =
     lacks (is 10) 45 t directives (codes "--" ++ node) refl e h
 
 no_document_unmarked : (room : ℕ) (ds : Forest) (t : List ℕ) → IsBehindMarks (AreDocuments (IsBlockNode room) ds) t
-    → IsAll 10 t
-    → ds ≡ []
+    → IsAll 10 t → ds ≡ []
 no_document_unmarked room [] t h i = refl
 no_document_unmarked room (d ∷ ds) t (inl (filling, document, others, f, inl (x, h), b, e)) i = cc
 no_document_unmarked room (d ∷ ds) t (inl (filling, document, others, f, inr (x, h), b, e)) i =
@@ -277,8 +274,7 @@ no_document_unmarked room (d ∷ ds) t (inr (suffix, others, (filling, end, pref
     (before_in (is 10) t suffix others e i))
 
 no_document_behind : (room : ℕ) (ds : Forest) (t : List ℕ) → IsBehindDocument (AreDocuments (IsBlockNode room) ds) t
-    → IsAll 10 t
-    → ds ≡ []
+    → IsAll 10 t → ds ≡ []
 no_document_behind room ds t (marks, others, ([], each, joins), h, e) i =
     no_document_unmarked room ds others h (behind_in (is 10) t marks others e i)
 no_document_behind room ds t (marks, others, (piece ∷ pieces, ((filling, f, g), each), joins), h, e) i =
@@ -300,8 +296,7 @@ line_feeds node others e =
 
 explicit_one :
     (room : ℕ) (d : Document) (ds : Forest) (t others : List ℕ) → IsExplicitDocument (IsBlockNode room) d t others
-    → IsBehindDocument (AreDocuments (IsBlockNode room) ds) others → codes "---\n" ≡ t ++ others
-    → d ∷ ds ≡ only ∷ []
+    → IsBehindDocument (AreDocuments (IsBlockNode room) ds) others → codes "---\n" ≡ t ++ others → d ∷ ds ≡ only ∷ []
 explicit_one room d ds t others (directives, node, x, c, dirs, m, n, e) b f =
     by_directives (directives_begin d.directives directives dirs)
   where
@@ -355,13 +350,12 @@ one_forest room forest (prefix, others, p, h, e) = by_prefix prefix others p h e
       where
         by_filler : (codes "---\n" ≡ c ∷ (t ++ behind)) ⊎ Begins IsFirst (codes "---\n") → ⊥
         by_filler (inl g) =
-            let k : true ≡ false = sym (ap (λ x. 45 == x) (heads 45 c (codes "--\n") (t ++ behind) g)) ∙ n in cc
+            let k : true ≡ false = sym (cc (heads 45 c (codes "--\n") (t ++ behind) g)) ∙ n in cc
         by_filler (inr (c, cs, h, g)) =
             no_first 45 c (codes "--\n") cs refl (λ y. omega arith) (λ y. omega arith) h g
 
     by_prefix : (prefix others : List ℕ) → IsDocumentPrefix prefix others
-        → AreDocuments (IsBlockNode room) forest true others → codes "---\n" ≡ prefix ++ others
-        → forest ≡ only ∷ []
+        → AreDocuments (IsBlockNode room) forest true others → codes "---\n" ≡ prefix ++ others → forest ≡ only ∷ []
     by_prefix _ _ (no_prefix others) h e = document room forest others h e
     by_prefix _ _ (mark_prefix filling next others f p) h e = absurd (no_front 65279 filling next others refl f e)
     by_prefix _ _ (end_prefix filling end next others f l p) h e =

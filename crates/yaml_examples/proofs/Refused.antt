@@ -31,5 +31,4 @@ pub value_at_colon_on_next_line : ScansShortTexts → (forest : Forest)
 unfolding scanner_on_literals
 value_at_colon_on_next_line law forest is =
     let (tokens, yields, (none, kinds)) = law forest (codes "{[]\n:a}") is (omega arith) in
-    no_forest Plain (encode_utf8_all (codes ":a")) forest
-    (subst (λ (t : List Kind). Yields forest t) (sym kinds) yields)
+    no_forest Plain (encode_utf8_all (codes ":a")) forest (rw kinds yields)

@@ -40,8 +40,7 @@ pub line : {c room : ℕ} {place : Position} {behind : List ℕ} → IsLetter c
 line l = flow space (word l) feed
 
 -- the same at the text's end
-pub last : {c room : ℕ} {place : Position} → IsLetter c
-    → BlockText room (plain_node (c ∷ [])) place (32 ∷ c ∷ []) []
+pub last : {c room : ℕ} {place : Position} → IsLetter c → BlockText room (plain_node (c ∷ [])) place (32 ∷ c ∷ []) []
 last l = flow space (word l) text_end
 
 pub nothing : {room : ℕ} {place : Position} {t behind : List ℕ} → End t behind → IsFalse (is_start place)
@@ -192,8 +191,7 @@ pair_by_colon {t = t} {v} k h n = record {
 
 -- the same with blanks before the colon
 colon_behind : {room m : ℕ} {key value : Node} {t v behind : List ℕ} (w : List ℕ) → IsTrue (list_all is_blank w)
-    → w ≢ []
-    → KeyOnLine room key m t w → BlockText room value (BehindKey m) v behind
+    → w ≢ [] → KeyOnLine room key m t w → BlockText room value (BehindKey m) v behind
     → BlockPair room key value m (t ++ (w ++ (colon ∷ v))) behind
 colon_behind {t = t} {v} w are some k h = record {
   holds = inl (inl (
@@ -220,8 +218,7 @@ colon_behind_tab k h = colon_behind (codes "\t") refl (λ e. cc) k h
 
 -- one letter, its colon, and a value
 pub letter : {c room m : ℕ} {value : Node} {v behind : List ℕ} → IsLetter c
-    → BlockText room value (BehindKey m) v behind
-    → BlockPair room (plain_node (c ∷ [])) value m (c ∷ colon ∷ v) behind
+    → BlockText room value (BehindKey m) v behind → BlockPair room (plain_node (c ∷ [])) value m (c ∷ colon ∷ v) behind
 letter l h = pair_by_colon (letter_key l (omega arith)) h refl
 
 -- a `:` without a key, and a value

@@ -98,7 +98,7 @@ folded_scalar {place = place} {front = front} {others = others} i n chomping lin
     (space {place = place}).holds,
     inr (front, codes " ", h.holds (indent_at place), inl ((λ e. cc), (refl, tt)), refl),
     (t, (i, n, chomping, lines, body, others, s, e, b, v), refl),
-    ap (λ x. 32 ∷ x) (sym (append_assoc front (codes " ") (62 ∷ t))),
+    cc (append_assoc front (codes " ") (62 ∷ t)),
   ));
 }
 
@@ -106,8 +106,7 @@ folded_scalar {place = place} {front = front} {others = others} i n chomping lin
 pub literal_a : {room : ℕ} {place : Position} {p : Properties} {front : List ℕ} (i n : ℕ) (others : List ℕ)
     → ScalarFront p (indent_at place) front → indent_at place ≤ i → n < i
     → is_one_of (codes " \n\r") (slice_index others 0) ≡ false → (is_z (slice_index others 0) ≡ true → n ≡ 0)
-    → IsBehindScalar (indent_at place) i (spaces n ++ others)
-    → BlockText room (Scalar p Literal (codes "a\n")) place
+    → IsBehindScalar (indent_at place) i (spaces n ++ others) → BlockText room (Scalar p Literal (codes "a\n")) place
     (32 ∷ (front ++ (codes "|\n" ++ (spaces i ++ codes "a\n")))) (spaces n ++ others)
 literal_a {room} {place} i n others f least less none z b =
     let body : List ℕ = spaces i ++ (97 ∷ 10 ∷ (spaces n ++ others)) in
@@ -124,7 +123,7 @@ literal_a {room} {place} i n others f least less none z b =
       ends = ends i n others less none z;
     } in
     let same : 124 ∷ 10 ∷ body ≡ 124 ∷ 10 ∷ ((spaces i ++ codes "a\n") ++ (spaces n ++ others)) =
-    ap (λ x. 124 ∷ 10 ∷ x) (sym (append_assoc (spaces i) (codes "a\n") (spaces n ++ others))) in
+    cc (append_assoc (spaces i) (codes "a\n") (spaces n ++ others)) in
     let there = subst (λ x. (s : IsBlockScalar (indent_at place) i n Clip (Content (codes "a") ∷ []) x body others)
     × (s.behind ≡ spaces n ++ others)) same (scalar, refl) in
     literal_scalar i n Clip (Content (codes "a") ∷ []) (10 ∷ (spaces i ++ codes "a\n")) body f there.0 there.1 b refl

@@ -47,8 +47,7 @@ pub colon_alone : {adjacent : Bool} {room indent : ℕ} → Value adjacent room 
 colon_alone = record { holds = inl (refl, refl) }
 
 pub value_behind_colon : {adjacent : Bool} {room indent : ℕ} {value : Node} {t : List ℕ}
-    → FlowText room value true indent t
-    → Value adjacent room value indent (colon ∷ space ∷ t)
+    → FlowText room value true indent t → Value adjacent room value indent (colon ∷ space ∷ t)
 value_behind_colon {indent = indent} {t = t} h = record {
   holds = inr (codes " ", t, (blank {indent = indent}).holds, inl (λ e. cc), h.holds, refl);
 }

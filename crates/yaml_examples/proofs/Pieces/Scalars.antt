@@ -253,7 +253,7 @@ dash_and_word {c} {in_flow = in_flow} {front} {gap} f g l w = record {
       ),
       w.holds.1,
     ),
-    ap (λ x. ((front ++ codes "-") ++ (gap ++ (c ∷ []))) ++ x) w.holds.2,
+    cc,
   );
 }
 

@@ -76,11 +76,7 @@ no_filler = record { holds = ([], tt, refl) }
 
 pub filler : {line others : List ℕ} → FillerLine line → Filler others → Filler ((line ++ codes "\n") ++ others)
 filler {line} l f = record {
-  holds = (
-    (line ++ codes "\n") ∷ f.holds.0,
-    ((line, l.holds, refl), f.holds.1),
-    ap (λ x. (line ++ codes "\n") ++ x) f.holds.2,
-  );
+  holds = ((line ++ codes "\n") ∷ f.holds.0, ((line, l.holds, refl), f.holds.1), cc);
 }
 
 pub record LastFiller (t : List ℕ) : Type 0 where
@@ -108,13 +104,11 @@ blank = apart (codes " ") refl
 
 -- up to a further line, with its indentation and blanks after that
 pub lines_apart : {indent : ℕ} {rest lines : List ℕ} (front : List ℕ) → Rest rest → Filler lines
-    → IsTrue (list_all is_blank front)
-    → Apart indent ((rest ++ (codes "\n" ++ (lines ++ spaces indent))) ++ front)
+    → IsTrue (list_all is_blank front) → Apart indent ((rest ++ (codes "\n" ++ (lines ++ spaces indent))) ++ front)
 lines_apart {indent} {rest} {lines} front r f h =
     let (white, words, w, c, e) = r.holds in
     let behind : List ℕ = codes "\n" ++ (lines ++ spaces indent) in
-    let line : rest ++ behind ≡ white ++ (words ++ behind) =
-    ap (λ x. x ++ behind) e ∙ append_assoc white words behind in
+    let line : rest ++ behind ≡ white ++ (words ++ behind) = cc (append_assoc white words behind) in
     record {
       holds = (
         rest ++ behind,

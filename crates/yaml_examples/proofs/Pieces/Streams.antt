@@ -82,11 +82,10 @@ marked {room} {forest} {lines} {t} f h = record { holds = with_mark h.holds }
       (
         (lines ++ (65279 ∷ [])) ∷ pieces,
         ((lines, f.holds, refl), each),
-        ap (λ (x : List ℕ). lines ++ (65279 ∷ x)) joins
-            ∙ sym (append_assoc lines (65279 ∷ []) (joined_pieces pieces)),
+        cc (append_assoc lines (65279 ∷ []) (joined_pieces pieces)),
       ),
       k,
-      ap (λ (x : List ℕ). lines ++ (65279 ∷ x)) e ∙ sym (append_assoc lines (65279 ∷ marks) others),
+      cc (append_assoc lines (65279 ∷ marks) others),
     )
 
 pub finish : {room : ℕ} → Behind room [] []
@@ -137,8 +136,7 @@ pub stream : {room : ℕ} {forest : Forest} {t : List ℕ} (u : List ℕ) → Do
 stream {room} {forest} {t} u h e = yaml_text room forest t u e ([], t, yaml.no_prefix t, h.holds, refl)
 
 pub prefixed_stream : {room : ℕ} {forest : Forest} {prefix t : List ℕ} (u : List ℕ) → Prefix prefix t
-    → Documents room forest true t
-    → normalized u ≡ prefix ++ t → IsYamlText room forest u
+    → Documents room forest true t → normalized u ≡ prefix ++ t → IsYamlText room forest u
 prefixed_stream {room} {forest} {prefix} {t} u p h e =
     yaml_text room forest (prefix ++ t) u e (prefix, t, p.holds, h.holds, refl)
 
@@ -210,9 +208,7 @@ pub prefix_of_one : (c : ℕ) → IsTrue (is_tag_char c || (c == exclamation_mar
 prefix_of_one c h n = (c ∷ [], [], inl (h, n, refl), refl, refl)
 
 pub prefix_of_two : (c d : ℕ) → IsTrue (is_tag_char c || (c == exclamation_mark)) → c ≢ percent_sign
-    → IsTrue (is_uri_char d)
-    → d ≢ percent_sign
-    → IsPrefix (c ∷ d ∷ []) (c ∷ d ∷ [])
+    → IsTrue (is_uri_char d) → d ≢ percent_sign → IsPrefix (c ∷ d ∷ []) (c ∷ d ∷ [])
 prefix_of_two c d h n g m = (c ∷ [], d ∷ [], inl (h, n, refl), decodes_itself is_uri_char d g m, refl)
 
 -- whether two texts are the same, which tells words apart

@@ -148,10 +148,7 @@ returns-clause-indicator c =
       no_tab = λ e. omega arith;
       indentation = given 1 (omega arith) refl (omega arith);
       lines = inl (first 32 _ _ _ (λ e f. false≢true (ap not e)) (record {
-        all = (
-          refl,
-          (refl, tt),
-        );
+        all = (refl, (refl, tt));
         no_marker = λ e. refl;
       })
           no_lines);

@@ -19,7 +19,6 @@ returns c style value indent s t behind (i, n, chomping, lines, body, others, sc
       n,
       taken.span.start,
       taken.left,
-      subst (λ (x : List ℕ). IsBlockText style indent s x taken.span.start taken.left)
-          (taken.value ∙ ap encode_utf8_all (sym v)) text,
-      sym same ∙ scalar.ends.is ∙ ap (λ x. spaces n ++ x) (sym taken.rest),
+      rw (taken.value ∙ ap encode_utf8_all (sym v)) at text,
+      cc,
     )
