@@ -96,8 +96,6 @@ bare_tokens node =
     (StreamStart ∷ (content.0 ++ StreamEnd ∷ []), bare_yields node content.0 content.1)
 
 pub json_has_tokens : (forest : Forest) (text : List ℕ) → IsJson forest text → (t : List Kind) × Yields forest t
-json_has_tokens (document ∷ []) text h =
-    let Tokens : Document → Type 0 = λ d. (t : List Kind) × Yields (d ∷ []) t in
-    subst Tokens (sym h.0) (bare_tokens document.node)
+json_has_tokens (document ∷ []) text h = rw h.0 (bare_tokens document.node)
 json_has_tokens [] text h = elim h [ ]
 json_has_tokens (document ∷ (_ ∷ _)) text h = elim h [ ]

@@ -19,11 +19,7 @@ json_yields =
       [],
       _,
       refl,
-      inl (
-        _,
-        (_, _, inl (leaf _ _ InFlow), (_, [], inl (leaf _ _ InFlow), inl refl, refl), refl),
-        refl,
-      ),
+      inl (_, (_, _, inl (leaf _ _ InFlow), (_, [], inl (leaf _ _ InFlow), inl refl, refl), refl), refl),
       refl,
     ) in
     bare_yields json_object _ (

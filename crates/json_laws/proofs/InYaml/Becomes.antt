@@ -23,8 +23,7 @@ pub become_both : {P Q : List ℕ → Type 0} (a b x : List ℕ) → Becomes P a
     → Becomes (Both P Q) (a ++ b) x
 become_both a b x p q = record {
   text = p.text ++ q.text;
-  normal = ap normalized (append_assoc a b x) ∙ p.normal ∙ ap (λ (y : List ℕ). p.text ++ y) q.normal
-      ∙ sym (append_assoc p.text q.text (normalized x));
+  normal = cc (append_assoc a b x, append_assoc p.text q.text (normalized x));
   holds = (p.text, q.text, p.holds, q.holds, refl);
 }
 
@@ -38,7 +37,7 @@ no_return c h = grind (arith, nat_tests)
 
 stays_normal : (t x : List ℕ) → AreIn is_no_break t → normalized (t ++ x) ≡ t ++ normalized x
 stays_normal [] x h = refl
-stays_normal (c ∷ cs) x h = rw (no_return c h.0) (ap (λ (y : List ℕ). c ∷ y) (stays_normal cs x h.1))
+stays_normal (c ∷ cs) x h = rw (no_return c h.0) (cc (stays_normal cs x h.1))
 
 pub stays : {P : List ℕ → Type 0} (t x : List ℕ) → AreIn is_no_break t → P t → Becomes P t x
 stays t x h p = record { text = t; normal = stays_normal t x h; holds = p }
@@ -46,12 +45,10 @@ stays t x h p = record { text = t; normal = stays_normal t x h; holds = p }
 -- ## White space stays white space
 
 white_break : (c : ℕ) (others : List ℕ) → IsWhite c → AreIn is_white (normal_break c others)
-white_break c others (inl e) = subst (λ (x : ℕ). AreIn is_white (normal_break x others)) (sym e) (refl, tt)
-white_break c others (inr (inl e)) = subst (λ (x : ℕ). AreIn is_white (normal_break x others)) (sym e) (refl, tt)
-white_break c others (inr (inr (inl e))) =
-    subst (λ (x : ℕ). AreIn is_white (normal_break x others)) (sym e) (refl, tt)
-white_break c others (inr (inr (inr e))) =
-    subst (λ (x : ℕ). AreIn is_white (normal_break x others)) (sym e) (by (slice_index others 0 == 10))
+white_break c others (inl e) = rw e (refl, tt)
+white_break c others (inr (inl e)) = rw e (refl, tt)
+white_break c others (inr (inr (inl e))) = rw e (refl, tt)
+white_break c others (inr (inr (inr e))) = rw e (by (slice_index others 0 == 10))
   where
     by : (b : Bool) → AreIn is_white (if b then [] else line_feed ∷ [])
     by true = tt
@@ -68,6 +65,6 @@ white_becomes (c ∷ w) x h =
     let first = normal_break c (w ++ x) in
     record {
       text = first ++ r.text;
-      normal = ap (λ (y : List ℕ). first ++ y) r.normal ∙ sym (append_assoc first r.text (normalized x));
+      normal = cc (append_assoc first r.text (normalized x));
       holds = white_both first r.text (white_break c (w ++ x) h.0) r.holds;
     }

@@ -12,8 +12,7 @@ abbrev pub IsCalm : List ℕ → Type 0
 IsCalm t = (rest : List ℕ) → has_marker true rest ≡ false → has_marker true (t ++ rest) ≡ false
 
 pub calm_both : (a b : List ℕ) → IsCalm a → IsCalm b → IsCalm (a ++ b)
-calm_both a b p q rest h =
-    subst (λ (x : List ℕ). has_marker true x ≡ false) (sym (append_assoc a b rest)) (p (b ++ rest) (q rest h))
+calm_both a b p q rest h = rw (append_assoc a b rest) (p (b ++ rest) (q rest h))
 
 -- a marker begins no later line where none begins a line
 later_lines : (t : List ℕ) → has_marker true t ≡ false → has_marker false t ≡ false
@@ -55,6 +54,5 @@ inside_line (c ∷ cs) rest h k = rw (no_feed c h.0) (inside_line cs rest h.1 k)
 
 -- a piece whose front is no marker
 pub calm_line : (c : ℕ) (cs : List ℕ) → AreIn is_no_break (c ∷ cs)
-    → ((rest : List ℕ) → is_document_indicator (c ∷ (cs ++ rest)) ≡ false)
-    → IsCalm (c ∷ cs)
+    → ((rest : List ℕ) → is_document_indicator (c ∷ (cs ++ rest)) ≡ false) → IsCalm (c ∷ cs)
 calm_line c cs h none rest k = rw (none rest, no_feed c h.0) (inside_line cs rest h.1 k)

@@ -36,8 +36,7 @@ four a b d e c is = omega arith
 pub code_fits : (c : ℕ) (code : List ℕ) → IsCode c code → ¬ (IsSurrogate c) → spelling.IsNumber 117 c code
 code_fits c code (d3, d2, d1, d0, h3, h2, h1, h0, is, spelled) other =
     let small : c < 0x1_0000 = omega (arith, is, hex_small d3 h3, hex_small d2 h2, hex_small d1 h1, hex_small d0 h0) in
-    subst (spelling.IsNumber 117 c) (sym spelled)
-    (record {
+    rw spelled (record {
       count = refl;
       hex = (hex_fits d3 h3, (hex_fits d2 h2, (hex_fits d1 h1, (hex_fits d0 h0, tt))));
       value = four (hex_value d3) (hex_value d2) (hex_value d1) (hex_value d0) c is;

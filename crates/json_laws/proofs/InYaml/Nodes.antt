@@ -31,8 +31,7 @@ second_least a b room h = omega (arith, h)
 abbrev AsNode : ℕ → Node → Bool → List ℕ → List ℕ → Type 0
 AsNode room node in_flow t x = Becomes (IsPadded room node in_flow) t x
 
-alone : (room : ℕ) (node : Node) (in_flow : Bool) (t : List ℕ) → IsFlowNode room node in_flow 0 t
-    → IsCalm t
+alone : (room : ℕ) (node : Node) (in_flow : Bool) (t : List ℕ) → IsFlowNode room node in_flow 0 t → IsCalm t
     → IsPadded room node in_flow t
 alone room node in_flow t flow calm = record {
   before = [];
@@ -48,9 +47,7 @@ alone room node in_flow t flow calm = record {
 word_becomes : (room : ℕ) (p : Properties) (in_flow : Bool) (value t x : List ℕ) → p ≡ no_properties → IsWord value
     → t ≡ value → AsNode room (Scalar p Plain value) in_flow t x
 word_becomes room p in_flow value t x none h is =
-    subst (λ (y : List ℕ). AsNode room (Scalar p Plain value) in_flow y x) (sym is)
-    (stays value x (word_no_break value (word_safe value h))
-    (alone room (Scalar p Plain value) in_flow value
+    rw is (stays value x (word_no_break value (word_safe value h)) (alone room (Scalar p Plain value) in_flow value
     (inr ([], value, inl (none, refl), word_plain in_flow 0 value h, refl)) (word_calm value h)))
 
 string_becomes : (room : ℕ) (p : Properties) (in_flow : Bool) (value t x : List ℕ) → p ≡ no_properties
@@ -83,8 +80,7 @@ abbrev Marked : List ℕ → (List ℕ → Type 0) → List ℕ → Type 0
 Marked mark P t = (w v core : List ℕ) × AreIn is_white w × AreIn is_white v × P core × (t ≡ w ++ (mark ++ (v ++ core)))
 
 marked_so : (mark : List ℕ) (P : List ℕ → Type 0) (n : List ℕ)
-    → Both (AreIn is_white) (Both (λ m. m ≡ mark) (Both (AreIn is_white) P)) n
-    → Marked mark P n
+    → Both (AreIn is_white) (Both (λ m. m ≡ mark) (Both (AreIn is_white) P)) n → Marked mark P n
 marked_so mark P n (w, r, wh, (m, s, m_is, (v, core, vh, holds, e), f), g) = (
   w,
   v,
@@ -92,19 +88,15 @@ marked_so mark P n (w, r, wh, (m, s, m_is, (v, core, vh, holds, e), f), g) = (
   wh,
   vh,
   holds,
-  g ∙ ap (λ (y : List ℕ). w ++ y) (f ∙ ap (λ (y : List ℕ). y ++ s) m_is
-      ∙ ap (λ (y : List ℕ). mark ++ y) e),
+  cc,
 )
 
 -- the mark is a character
 mark_becomes : {P : List ℕ → Type 0} (c : ℕ) (structural t x : List ℕ) → IsTrue (is_no_break c)
-    → IsStructural (c ∷ []) structural → Becomes P t x
-    → Becomes (Marked (c ∷ []) P) (structural ++ t) x
+    → IsStructural (c ∷ []) structural → Becomes P t x → Becomes (Marked (c ∷ []) P) (structural ++ t) x
 mark_becomes {P} c structural t x no_break (w, v, wh, vh, is) p =
-    let whole : structural ++ t ≡ w ++ ((c ∷ []) ++ (v ++ t)) = ap (λ (y : List ℕ). y ++ t) is
-    ∙ part_text w (c ∷ []) v t in
-    subst (λ (y : List ℕ). Becomes (Marked (c ∷ []) P) y x) (sym whole)
-    (becomes_so (marked_so (c ∷ []) P)
+    let whole : structural ++ t ≡ w ++ ((c ∷ []) ++ (v ++ t)) = cc (part_text w (c ∷ []) v t) in
+    rw whole (becomes_so (marked_so (c ∷ []) P)
     (become_both w ((c ∷ []) ++ (v ++ t)) x (white_becomes w (((c ∷ []) ++ (v ++ t)) ++ x) wh)
     (become_both (c ∷ []) (v ++ t) x (stays (c ∷ []) ((v ++ t) ++ x) (no_break, tt) refl)
     (become_both v t x (white_becomes v (t ++ x) vh) p))))
@@ -135,9 +127,7 @@ enclosed_so left right Q n (b, r, bh, (o, s, o_is, (a, v, ah, (u, w, uh, (k, d, 
   ah,
   uh,
   dh,
-  e0 ∙ ap (λ (y : List ℕ). b ++ y) (e1 ∙ ap (λ (y : List ℕ). y ++ s) o_is
-      ∙ ap (λ (y : List ℕ). left ++ y) (e2 ∙ ap (λ (y : List ℕ). a ++ y) (e3 ∙ ap (λ (y : List ℕ). u ++ y)
-      (e4 ∙ ap (λ (y : List ℕ). y ++ d) k_is)))),
+  cc,
 )
 
 -- the entries, with white space after them, become so before any text
@@ -146,19 +136,15 @@ BecomeInside Q t = (c y : List ℕ) → IsWhiteSpace c → Becomes Q (t ++ c) y
 
 enclosed_becomes : {Q : List ℕ → Type 0} (o k : ℕ) (opening inside closing t x : List ℕ) → IsTrue (is_no_break o)
     → IsTrue (is_no_break k) → IsStructural (o ∷ []) opening → IsStructural (k ∷ []) closing
-    → t ≡ opening ++ (inside ++ closing) → BecomeInside Q inside
-    → Becomes (Enclosed (o ∷ []) (k ∷ []) Q) t x
+    → t ≡ opening ++ (inside ++ closing) → BecomeInside Q inside → Becomes (Enclosed (o ∷ []) (k ∷ []) Q) t x
 enclosed_becomes {Q} o k opening inside closing t x o_stays k_stays (b, a, bh, ah, opening_is)
     (c, d, ch, dh, closing_is)
     is entries =
     let last = (k ∷ []) ++ d in
     let whole : t ≡ b ++ ((o ∷ []) ++ (a ++ ((inside ++ c) ++ last))) =
-    is ∙ ap (λ (y : List ℕ). y ++ (inside ++ closing)) opening_is
-    ∙ ap (λ (y : List ℕ). (b ++ ((o ∷ []) ++ a)) ++ (inside ++ y)) closing_is
-    ∙ enclosed b (o ∷ []) a inside c (k ∷ []) d in
+    cc (enclosed b (o ∷ []) a inside c (k ∷ []) d) in
     let more = (inside ++ c) ++ last in
-    subst (λ (y : List ℕ). Becomes (Enclosed (o ∷ []) (k ∷ []) Q) y x) (sym whole)
-    (becomes_so (enclosed_so (o ∷ []) (k ∷ []) Q)
+    rw whole (becomes_so (enclosed_so (o ∷ []) (k ∷ []) Q)
     (become_both b ((o ∷ []) ++ (a ++ more)) x (white_becomes b (((o ∷ []) ++ (a ++ more)) ++ x) bh)
     (become_both (o ∷ []) (a ++ more) x (stays (o ∷ []) ((a ++ more) ++ x) (o_stays, tt) refl)
     (become_both a more x (white_becomes a (more ++ x) ah)
@@ -167,9 +153,7 @@ enclosed_becomes {Q} o k opening inside closing t x o_stays k_stays (b, a, bh, a
 
 -- no further entries
 none_become : {P : List ℕ → Type 0} (t : List ℕ) → t ≡ [] → P [] → BecomeInside (IsTail P) t
-none_become {P} t none h c y white =
-    subst (λ (x : List ℕ). Becomes (IsTail P) (x ++ c) y) (sym none)
-    (becomes_so (λ n w. record {
+none_become {P} t none h c y white = rw none (becomes_so (λ n w. record {
       before = n;
       core = [];
       is = sym (append-nil n);
@@ -181,14 +165,12 @@ none_become {P} t none h c y white =
 items_joined : (room : ℕ) (node : Node) (nodes : Nodes) (n : List ℕ)
     → Both (IsPadded room node true) (IsTail (AreOtherItems room nodes 0)) n
     → IsTail (AreItemAndOthers room node nodes) n
-items_joined room node nodes n (t, u, p, o, e) =
-    subst (IsTail (AreItemAndOthers room node nodes)) (sym e) (item_and_others room node nodes t u p o)
+items_joined room node nodes n (t, u, p, o, e) = rw e (item_and_others room node nodes t u p o)
 
 -- an element and the others
 element_becomes : (room : ℕ) (node : Node) (nodes : Nodes) (element others : List ℕ)
     → ((x : List ℕ) → AsNode room node true element x) → BecomeInside (IsTail (AreOtherItems room nodes 0)) others
-    → (c y : List ℕ) → IsWhiteSpace c
-    → Becomes (IsTail (AreItemAndOthers room node nodes)) (element ++ (others ++ c)) y
+    → (c y : List ℕ) → IsWhiteSpace c → Becomes (IsTail (AreItemAndOthers room node nodes)) (element ++ (others ++ c)) y
 element_becomes room node nodes element others first more c y white =
     becomes_so (items_joined room node nodes)
     (become_both element (others ++ c) y (first ((others ++ c) ++ y)) (more c y white))
@@ -196,9 +178,7 @@ element_becomes room node nodes element others first more c y white =
 further_items : (room : ℕ) (node : Node) (nodes : Nodes) (n : List ℕ)
     → Marked (codes ",") (IsTail (AreItemAndOthers room node nodes)) n
     → IsTail (AreOtherItems room (MoreNodes node nodes) 0) n
-further_items room node nodes n (w, v, core, wh, vh, h, e) =
-    subst (IsTail (AreOtherItems room (MoreNodes node nodes) 0)) (sym e)
-    (other_items room node nodes w v core wh vh h)
+further_items room node nodes n (w, v, core, wh, vh, h, e) = rw e (other_items room node nodes w v core wh vh h)
 
 abbrev IsPairRun : ℕ → Node → Node → Pairs → List ℕ → Type 0
 IsPairRun room key value pairs t =
@@ -208,8 +188,7 @@ IsPairRun room key value pairs t =
 pairs_joined : (room : ℕ) (key value : Node) (pairs : Pairs) (n : List ℕ) → IsPairRun room key value pairs n
     → ArePairAndOthers room key value pairs n
 pairs_joined room key value pairs n (name, rest, named, (w, v, core, wh, vh, (t, u, p, o, e2), e1), e0) =
-    subst (ArePairAndOthers room key value pairs)
-    (sym (e0 ∙ ap (λ (y : List ℕ). name ++ y) (e1 ∙ ap (λ (y : List ℕ). w ++ (codes ":" ++ (v ++ y))) e2)))
+    rw (e0, e1, e2)
     (pair_and_others room key value pairs name w v t u named wh vh p o)
 
 -- a member and the others
@@ -228,8 +207,7 @@ further_pairs : (room : ℕ) (key value : Node) (pairs : Pairs) (n : List ℕ)
     → Marked (codes ",") (ArePairAndOthers room key value pairs) n
     → IsTail (AreOtherFlowPairs room (MorePairs key value pairs) 0) n
 further_pairs room key value pairs n (w, v, core, wh, vh, h, e) =
-    subst (IsTail (AreOtherFlowPairs room (MorePairs key value pairs) 0)) (sym e)
-    (other_pairs room key value pairs w v core wh vh h)
+    rw e (other_pairs room key value pairs w v core wh vh h)
 
 -- a sequence and a mapping
 sequence_becomes : (room left : ℕ) (p : Properties) (nodes : Nodes) (in_flow : Bool) (t x : List ℕ) → room ≡ suc left
@@ -237,7 +215,7 @@ sequence_becomes : (room left : ℕ) (p : Properties) (nodes : Nodes) (in_flow :
     → ((inside : List ℕ) → AreElements nodes inside → BecomeInside (IsTail (AreItems left nodes 0)) inside)
     → AsNode room (Seq p nodes) in_flow t x
 sequence_becomes room left p nodes in_flow t x some (opening, inside, closing, none, o, els, k, is) entries =
-    becomes_so (λ n (b, a, u, d, bh, ah, uh, dh, e). subst (IsPadded room (Seq p nodes) in_flow) (sym e)
+    becomes_so (λ n (b, a, u, d, bh, ah, uh, dh, e). rw e
     (sequence_padded room left p nodes in_flow b a u d some none bh ah uh dh))
     (enclosed_becomes 91 93 opening inside closing t x refl refl o k is (entries inside els))
 
@@ -246,36 +224,33 @@ mapping_becomes : (room left : ℕ) (p : Properties) (pairs : Pairs) (in_flow : 
     → ((inside : List ℕ) → AreMembers pairs inside → BecomeInside (IsTail (AreFlowPairs left pairs 0)) inside)
     → AsNode room (Map p pairs) in_flow t x
 mapping_becomes room left p pairs in_flow t x some (opening, inside, closing, none, o, els, k, is) entries =
-    becomes_so (λ n (b, a, u, d, bh, ah, uh, dh, e). subst (IsPadded room (Map p pairs) in_flow) (sym e)
+    becomes_so (λ n (b, a, u, d, bh, ah, uh, dh, e). rw e
     (mapping_padded room left p pairs in_flow b a u d some none bh ah uh dh))
     (enclosed_becomes 123 125 opening inside closing t x refl refl o k is (entries inside els))
 
 -- ## All values
 
 behind_two : (a b c : List ℕ) (t : List ℕ) → t ≡ a ++ b → t ++ c ≡ a ++ (b ++ c)
-behind_two a b c t e = ap (λ (y : List ℕ). y ++ c) e ∙ append_assoc a b c
+behind_two a b c t e = cc (append_assoc a b c)
 
 behind_three : (a b c d t : List ℕ) → t ≡ a ++ (b ++ c) → t ++ d ≡ a ++ (b ++ (c ++ d))
-behind_three a b c d t e = ap (λ (y : List ℕ). y ++ d) e ∙ part_text a b c d
+behind_three a b c d t e = cc (part_text a b c d)
 
 behind_four : (a b c d f t : List ℕ) → t ≡ a ++ (b ++ (c ++ d)) → t ++ f ≡ a ++ (b ++ (c ++ (d ++ f)))
-behind_four a b c d f t e = ap (λ (y : List ℕ). y ++ f) e ∙ regrouped a b c d f
+behind_four a b c d f t e = cc (regrouped a b c d f)
   where
     regrouped : (a b c d f : List ℕ) → (a ++ (b ++ (c ++ d))) ++ f ≡ a ++ (b ++ (c ++ (d ++ f)))
     regrouped a b c d f = simp append_assoc
 
-behind_five : (a b c d f g t : List ℕ) → t ≡ a ++ (b ++ (c ++ (d ++ f)))
-    → t ++ g ≡ a ++ (b ++ (c ++ (d ++ (f ++ g))))
-behind_five a b c d f g t e = ap (λ (y : List ℕ). y ++ g) e ∙ regrouped a b c d f g
+behind_five : (a b c d f g t : List ℕ) → t ≡ a ++ (b ++ (c ++ (d ++ f))) → t ++ g ≡ a ++ (b ++ (c ++ (d ++ (f ++ g))))
+behind_five a b c d f g t e = cc (regrouped a b c d f g)
   where
-    regrouped : (a b c d f g : List ℕ)
-        → (a ++ (b ++ (c ++ (d ++ f)))) ++ g ≡ a ++ (b ++ (c ++ (d ++ (f ++ g))))
+    regrouped : (a b c d f g : List ℕ) → (a ++ (b ++ (c ++ (d ++ f)))) ++ g ≡ a ++ (b ++ (c ++ (d ++ (f ++ g))))
     regrouped a b c d f g = simp append_assoc
 
 mutual
   pub value_becomes : (room : ℕ) (node : Node) (in_flow : Bool) (t x : List ℕ) → IsValue node t
-      → open_collections node ≤ room
-      → AsNode room node in_flow t x
+      → open_collections node ≤ room → AsNode room node in_flow t x
   value_becomes room (Scalar p Plain value) in_flow t x h fits = word_becomes room p in_flow value t x h.0 h.1 h.2
   value_becomes room (Scalar p DoubleQuoted value) in_flow t x h fits = string_becomes room p in_flow value t x h.0 h.1
   value_becomes room (Scalar p SingleQuoted value) in_flow t x h fits = elim h [ ]
@@ -295,9 +270,7 @@ mutual
       → BecomeInside (IsTail (AreItems room nodes 0)) t
   elements_become room NoNode t h fits c y white = none_become t h refl c y white
   elements_become room (MoreNodes node nodes) t (element, others, first, more, is) fits c y white =
-      subst (λ (z : List ℕ). Becomes (IsTail (AreItems room (MoreNodes node nodes) 0)) z y)
-      (sym (behind_two element others c t is))
-      (becomes_so (first_items room node nodes)
+      rw (behind_two element others c t is) (becomes_so (first_items room node nodes)
       (element_becomes room node nodes element others
       (λ x. value_becomes room node true element x first (first_least (open_collections node) (open_in_nodes nodes) room
       fits))
@@ -306,13 +279,10 @@ mutual
       c y white))
 
   other_elements_become : (room : ℕ) (nodes : Nodes) (t : List ℕ) → AreOtherElements nodes t
-      → open_in_nodes nodes ≤ room
-      → BecomeInside (IsTail (AreOtherItems room nodes 0)) t
+      → open_in_nodes nodes ≤ room → BecomeInside (IsTail (AreOtherItems room nodes 0)) t
   other_elements_become room NoNode t h fits c y white = none_become t h (inl refl) c y white
   other_elements_become room (MoreNodes node nodes) t (comma, element, others, mark, first, more, is) fits c y white =
-      subst (λ (z : List ℕ). Becomes (IsTail (AreOtherItems room (MoreNodes node nodes) 0)) z y)
-      (sym (behind_three comma element others c t is))
-      (becomes_so (further_items room node nodes)
+      rw (behind_three comma element others c t is) (becomes_so (further_items room node nodes)
       (mark_becomes 44 comma (element ++ (others ++ c)) y refl mark
       (element_becomes room node nodes element others
       (λ x. value_becomes room node true element x first (first_least (open_collections node) (open_in_nodes nodes) room
@@ -327,9 +297,7 @@ mutual
   members_become room (MorePairs key node pairs) t (name, colon, value, others, named, mark, first, more, is) fits c y
       white =
       let later = second_least (open_collections key) (max (open_collections node) (open_in_pairs pairs)) room fits in
-      subst (λ (z : List ℕ). Becomes (IsTail (AreFlowPairs room (MorePairs key node pairs) 0)) z y)
-      (sym (behind_four name colon value others c t is))
-      (becomes_so (first_pairs room key node pairs)
+      rw (behind_four name colon value others c t is) (becomes_so (first_pairs room key node pairs)
       (member_becomes room key node pairs name colon value others named mark
       (λ x. value_becomes room node true value x first
       (first_least (open_collections node) (open_in_pairs pairs) room later))
@@ -343,9 +311,7 @@ mutual
   other_members_become room (MorePairs key node pairs) t
       (comma, name, colon, value, others, first_mark, named, mark, first, more, is) fits c y white =
       let later = second_least (open_collections key) (max (open_collections node) (open_in_pairs pairs)) room fits in
-      subst (λ (z : List ℕ). Becomes (IsTail (AreOtherFlowPairs room (MorePairs key node pairs) 0)) z y)
-      (sym (behind_five comma name colon value others c t is))
-      (becomes_so (further_pairs room key node pairs)
+      rw (behind_five comma name colon value others c t is) (becomes_so (further_pairs room key node pairs)
       (mark_becomes 44 comma (name ++ (colon ++ (value ++ (others ++ c)))) y refl first_mark
       (member_becomes room key node pairs name colon value others named mark
       (λ x. value_becomes room node true value x first

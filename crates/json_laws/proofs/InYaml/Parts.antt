@@ -51,16 +51,14 @@ item_regrouped : (b c a w o : List ℕ) → (b ++ (c ++ a)) ++ (w ++ o) ≡ b ++
 item_regrouped b c a w o = simp append_assoc
 
 pub item_and_others : (room : ℕ) (node : Node) (nodes : Nodes) (t u : List ℕ) → IsPadded room node true t
-    → IsTail (AreOtherItems room nodes 0) u
-    → IsTail (AreItemAndOthers room node nodes) (t ++ u)
+    → IsTail (AreOtherItems room nodes 0) u → IsTail (AreItemAndOthers room node nodes) (t ++ u)
 item_and_others room node nodes t u p o =
     let white = white_both p.after o.before p.white_after o.white in
     let gap = p.after ++ o.before in
     record {
       before = p.before;
       core = (p.core ++ gap) ++ o.core;
-      is = ap (λ (x : List ℕ). x ++ u) p.is ∙ ap (λ (x : List ℕ). (p.before ++ (p.core ++ p.after)) ++ x) o.is
-          ∙ item_regrouped p.before p.core p.after o.before o.core;
+      is = cc (item_regrouped p.before p.core p.after o.before o.core);
       white = p.white_before;
       holds = record {
         item = p.core ++ gap;
@@ -73,8 +71,7 @@ item_and_others room node nodes t u p o =
       calm = calm_both (p.core ++ gap) o.core (calm_both p.core gap p.calm (white_calm gap white)) o.calm;
     }
 
-pub first_items : (room : ℕ) (node : Node) (nodes : Nodes) (t : List ℕ)
-    → IsTail (AreItemAndOthers room node nodes) t
+pub first_items : (room : ℕ) (node : Node) (nodes : Nodes) (t : List ℕ) → IsTail (AreItemAndOthers room node nodes) t
     → IsTail (AreItems room (MoreNodes node nodes) 0) t
 first_items room node nodes t h = record {
   before = h.before;
@@ -103,8 +100,7 @@ other_items room node nodes w v t wh vh h =
     record {
       before = w;
       core = (codes "," ++ gap) ++ h.core;
-      is = ap (λ (x : List ℕ). w ++ (codes "," ++ (v ++ x))) h.is
-          ∙ ap (λ (x : List ℕ). w ++ x) (mark_regrouped (codes ",") v h.before h.core);
+      is = cc (mark_regrouped (codes ",") v h.before h.core);
       white = wh;
       holds = (
         codes "," ++ gap,
@@ -113,7 +109,7 @@ other_items room node nodes w v t wh vh h =
         comma gap white,
         inl h.holds.one,
         h.holds.more,
-        ap (λ (x : List ℕ). (codes "," ++ gap) ++ x) h.holds.is,
+        cc,
       );
       calm = calm_both (codes "," ++ gap) h.core (comma_calm gap white) h.calm;
     }
@@ -132,14 +128,12 @@ pub record ArePairAndOthers (room : ℕ) (key value : Node) (pairs : Pairs) (t :
 colon_calm : (w : List ℕ) → AreIn is_white w → IsCalm (codes ":" ++ w)
 colon_calm w h = calm_both (codes ":") w (calm_character 58 refl refl) (white_calm w h)
 
-pair_regrouped : (n w k v b c a x o : List ℕ)
-    → n ++ (w ++ (k ++ (v ++ ((b ++ (c ++ a)) ++ (x ++ o)))))
+pair_regrouped : (n w k v b c a x o : List ℕ) → n ++ (w ++ (k ++ (v ++ ((b ++ (c ++ a)) ++ (x ++ o)))))
     ≡ ((n ++ (w ++ (k ++ ((v ++ b) ++ c)))) ++ (a ++ x)) ++ o
 pair_regrouped n w k v b c a x o = simp append_assoc
 
 calm_colon : (k g c : List ℕ) → IsCalm (k ++ g) → IsCalm c → IsCalm (k ++ (g ++ c))
-calm_colon k g c p q =
-    subst IsCalm (append_assoc k g c) (calm_both (k ++ g) c p q)
+calm_colon k g c p q = rw (append_assoc k g c) at (calm_both (k ++ g) c p q)
 
 pub pair_and_others : (room : ℕ) (key value : Node) (pairs : Pairs) (n w v t u : List ℕ) → IsName room key n
     → AreIn is_white w → AreIn is_white v → IsPadded room value true t → IsTail (AreOtherFlowPairs room pairs 0) u
@@ -177,12 +171,10 @@ pair_and_others room key value pairs n w v t u name wh vh p o =
         refl,
       );
       more = o.holds;
-      calm = subst IsCalm (sym is) (calm_both (whole ++ gap) o.core
-          (calm_both whole gap whole_calm (white_calm gap gap_white)) o.calm);
+      calm = rw is (calm_both (whole ++ gap) o.core (calm_both whole gap whole_calm (white_calm gap gap_white)) o.calm);
     }
 
-pub first_pairs : (room : ℕ) (key value : Node) (pairs : Pairs) (t : List ℕ)
-    → ArePairAndOthers room key value pairs t
+pub first_pairs : (room : ℕ) (key value : Node) (pairs : Pairs) (t : List ℕ) → ArePairAndOthers room key value pairs t
     → IsTail (AreFlowPairs room (MorePairs key value pairs) 0) t
 first_pairs room key value pairs t h = record {
   before = [];
@@ -208,7 +200,7 @@ other_pairs room key value pairs w v t wh vh h = record {
     comma v vh,
     h.one,
     h.more,
-    ap (λ (x : List ℕ). codes "," ++ (v ++ x)) h.is,
+    cc,
   );
   calm = calm_colon (codes ",") v t (comma_calm v vh) h.calm;
 }
@@ -219,8 +211,7 @@ collection_regrouped : (b o a w c k d : List ℕ)
     → b ++ (o ++ (a ++ ((w ++ c) ++ (k ++ d)))) ≡ b ++ (((o ++ (a ++ w)) ++ (c ++ k)) ++ d)
 collection_regrouped b o a w c k d = simp append_assoc
 
-bracket_calm : (o g c k : List ℕ) → IsCalm o → AreIn is_white g → IsCalm c → IsCalm k
-    → IsCalm ((o ++ g) ++ (c ++ k))
+bracket_calm : (o g c k : List ℕ) → IsCalm o → AreIn is_white g → IsCalm c → IsCalm k → IsCalm ((o ++ g) ++ (c ++ k))
 bracket_calm o g c k p white q r =
     calm_both (o ++ g) (c ++ k) (calm_both o g p (white_calm g white)) (calm_both c k q r)
 
@@ -236,8 +227,7 @@ collection_padded room node in_flow Text o k b a t d oc kc bh ah h dh flow =
       before = b;
       core = (o ++ gap) ++ (h.core ++ k);
       after = d;
-      is = ap (λ (x : List ℕ). b ++ (o ++ (a ++ (x ++ (k ++ d))))) h.is
-          ∙ collection_regrouped b o a h.before h.core k d;
+      is = cc (collection_regrouped b o a h.before h.core k d);
       white_before = bh;
       white_after = dh;
       flow = flow gap h.core (white_separates gap white) h.holds;

@@ -58,37 +58,32 @@ one_spells : (c : ℕ) (spelling more value : List ℕ) → IsJsonSpelling c spe
     → Spells (spelling ++ more) (c ∷ value)
 one_spells c spelling more value (inl h) r =
     let n : (c == 10) ≡ false = no_feed c h.0 in
-    subst (λ (y : List ℕ). Spells (y ++ more) (c ∷ value)) (sym h.1) (record {
+    rw h.1 (record {
       items = raw_item c ∷ r.items;
       text = itself Double c (more ++ codes "\"") r.items [] (unescaped_stands c h.0) r.text;
       line = raw_line c r.items n r.line;
-      value_is = raw_folded c r.items n r.line ∙ ap (λ (y : List ℕ). c ∷ y) r.value_is;
+      value_is = cc (raw_folded c r.items n r.line);
     })
   where
     no_feed : (c : ℕ) → IsUnescaped c → (c == 10) ≡ false
     no_feed c h = grind (arith, nat_tests)
-one_spells c spelling more value (inr (inl h)) r =
-    subst (λ (y : List ℕ). Spells (y ++ more) (c ∷ value)) (sym h.2) (record {
+one_spells c spelling more value (inr (inl h)) r = rw h.2 (record {
       items = Escaped c ∷ r.items;
       text = escaped h.0 c (more ++ codes "\"") r.items [] (short_fits h.0 c h.1) r.text;
       line = r.line;
       value_is = ap (λ (y : List ℕ). c ∷ y) r.value_is;
     })
-one_spells c spelling more value (inr (inr h)) r =
-    subst (λ (y : List ℕ). Spells (y ++ more) (c ∷ value)) (sym h.3) (record {
+one_spells c spelling more value (inr (inr h)) r = rw h.3 (record {
       items = Escaped c ∷ r.items;
-      text = subst (λ (y : List ℕ). IsText Double (92 ∷ 117 ∷ y) (Escaped c ∷ r.items) [])
-          (sym (append_assoc h.0 more (codes "\"")))
+      text = rw (append_assoc h.0 more (codes "\""))
           (numbered 117 c h.0 (more ++ codes "\"") r.items [] (code_fits c h.0 h.1 h.2) r.text);
       line = r.line;
       value_is = ap (λ (y : List ℕ). c ∷ y) r.value_is;
     })
 
 spells : (value t : List ℕ) → AreSpellings value t → Spells t value
-spells [] t h = subst (λ (y : List ℕ). Spells y []) (sym h)
-    (record { items = []; text = closed Double [] refl; line = tt; value_is = refl })
-spells (c ∷ others) t h =
-    subst (λ (y : List ℕ). Spells y (c ∷ others)) (sym h.4) (one_spells c h.0 h.1 others h.2 (spells others h.1 h.3))
+spells [] t h = rw h (record { items = []; text = closed Double [] refl; line = tt; value_is = refl })
+spells (c ∷ others) t h = rw h.4 (one_spells c h.0 h.1 others h.2 (spells others h.1 h.3))
 
 -- A string of JSON is a double quoted scalar, of the same characters.
 pub string_quoted : (indent : ℕ) (value t : List ℕ) → IsString value t → IsQuoted Double indent value t
@@ -118,27 +113,23 @@ letter_no_break letter c (inr (inr (inr (inr (inr (inr (inl h))))))) = rw h.0 re
 letter_no_break letter c (inr (inr (inr (inr (inr (inr (inr h))))))) = rw h.0 refl
 
 one_no_break : (c : ℕ) (t : List ℕ) → IsJsonSpelling c t → AreIn is_no_break t
-one_no_break c t (inl h) = subst (AreIn is_no_break) (sym h.1) (unescaped c h.0, tt)
+one_no_break c t (inl h) = rw h.1 (unescaped c h.0, tt)
   where
     unescaped : (c : ℕ) → IsUnescaped c → is_no_break c ≡ true
     unescaped c h = grind (arith, nat_tests)
-one_no_break c t (inr (inl h)) = subst (AreIn is_no_break) (sym h.2) (refl, (letter_no_break h.0 c h.1, tt))
+one_no_break c t (inr (inl h)) = rw h.2 (refl, (letter_no_break h.0 c h.1, tt))
 one_no_break c t (inr (inr (code, (d3, d2, d1, d0, h3, h2, h1, h0, is, spelled), other, e))) =
-    subst (AreIn is_no_break) (sym (e ∙ ap (λ (y : List ℕ). codes "\\u" ++ y) spelled))
+    rw (e, spelled)
     (refl, (refl, (hex_no_break d3 h3, (hex_no_break d2 h2, (hex_no_break d1 h1, (hex_no_break d0 h0, tt))))))
 
 inside_no_break : (value t : List ℕ) → AreSpellings value t → AreIn is_no_break t
-inside_no_break [] t h = subst (AreIn is_no_break) (sym h) tt
+inside_no_break [] t h = rw h tt
 inside_no_break (c ∷ others) t h =
-    subst (AreIn is_no_break) (sym h.4)
-    (both_in is_no_break h.0 h.1 (one_no_break c h.0 h.2) (inside_no_break others h.1 h.3))
+    rw h.4 (both_in is_no_break h.0 h.1 (one_no_break c h.0 h.2) (inside_no_break others h.1 h.3))
 
 pub string_no_break : (value t : List ℕ) → IsString value t → AreIn is_no_break t
 string_no_break value t h =
-    subst (AreIn is_no_break) (sym h.2)
-    (refl, both_in is_no_break h.0 (codes "\"") (inside_no_break value h.0 h.1) (refl, tt))
+    rw h.2 (refl, both_in is_no_break h.0 (codes "\"") (inside_no_break value h.0 h.1) (refl, tt))
 
 pub string_calm : (value t : List ℕ) → IsString value t → IsCalm t
-string_calm value t h =
-    subst IsCalm (sym h.2)
-    (calm_line 34 (h.0 ++ codes "\"") (subst (AreIn is_no_break) h.2 (string_no_break value t h)) (λ rest. refl))
+string_calm value t h = rw h.2 (calm_line 34 (h.0 ++ codes "\"") (rw h.2 at (string_no_break value t h)) (λ rest. refl))

@@ -23,17 +23,14 @@ flow_node room (Map p pairs) t behind h = inl h
 
 -- white space round a node in flow style, which is that of a bare document
 node_yaml : (room : ℕ) (node : Node) (gap core w : List ℕ) → AreIn is_white gap → IsFlowNode room node false 0 core
-    → IsCalm core → AreIn is_white w
-    → IsYaml room (bare node ∷ []) (gap ++ (core ++ w))
+    → IsCalm core → AreIn is_white w → IsYaml room (bare node ∷ []) (gap ++ (core ++ w))
 node_yaml room node gap core w gap_white flow calm white =
     let e = white_ends w white in
     let document = gap ++ (core ++ e.end) in
     let no_marker = calm_both gap (core ++ e.end) (white_calm gap gap_white)
     (calm_both core e.end calm (white_calm e.end e.white)) [] refl in
-    let unmarked : has_marker true document ≡ false = subst (λ (x : List ℕ). has_marker true x ≡ false)
-    (append-nil document) no_marker in
-    let is : gap ++ (core ++ w) ≡ document ++ e.others = ap (λ (x : List ℕ). gap ++ (core ++ x)) e.is
-    ∙ mark_regrouped gap core e.end e.others in
+    let unmarked : has_marker true document ≡ false = rw (append-nil document) at no_marker in
+    let is : gap ++ (core ++ w) ≡ document ++ e.others = cc (mark_regrouped gap core e.end e.others) in
     let stands = flow_node room node document e.others
     (gap, core, e.end, white_gap gap gap_white, flow, refl, e.ends, refl) in (
       [],
@@ -59,9 +56,8 @@ joined w b c a v = simp append_assoc
 
 root_yaml : (room : ℕ) (node : Node) (n : List ℕ) → IsRoot room node n → IsYaml room (bare node ∷ []) n
 root_yaml room node n (w, rest, wh, (t, v, p, vh, e1), e0) =
-    let is : n ≡ (w ++ p.before) ++ (p.core ++ (p.after ++ v)) = e0 ∙ ap (λ (x : List ℕ). w ++ x)
-    (e1 ∙ ap (λ (x : List ℕ). x ++ v) p.is) ∙ joined w p.before p.core p.after v in
-    subst (IsYaml room (bare node ∷ [])) (sym is)
+    let is : n ≡ (w ++ p.before) ++ (p.core ++ (p.after ++ v)) = cc (joined w p.before p.core p.after v) in
+    rw is
     (node_yaml room node (w ++ p.before) p.core (p.after ++ v) (white_both w p.before wh p.white_before) p.flow p.calm
     (white_both p.after v p.white_after vh))
 
@@ -74,13 +70,12 @@ text_yaml room node text (before, value, after, bh, h, ah, is) fits =
     ah)) in
     let same : normalized text ≡ r.text =
     ap normalized (is ∙ sym (append-nil (before ++ (value ++ after)))) ∙ r.normal ∙ append-nil r.text in
-    subst (IsYaml room (bare node ∷ [])) (sym same) (root_yaml room node r.text r.holds)
+    rw same (root_yaml room node r.text r.holds)
 
 -- Each text of JSON is a text of YAML's grammar, of the same forest.
 pub json_is_yaml : (room : ℕ) (forest : Forest) (text : List ℕ) → IsJson forest text → open_in_forest forest ≤ room
     → IsYamlText room forest text
 json_is_yaml room (document ∷ []) text h fits =
-    subst (λ (d : Document). IsYamlText room (d ∷ []) text) (sym h.0)
-    (text_yaml room document.node text h.1 (first_least (open_collections document.node) 0 room fits))
+    rw h.0 (text_yaml room document.node text h.1 (first_least (open_collections document.node) 0 room fits))
 json_is_yaml room [] text h fits = elim h [ ]
 json_is_yaml room (document ∷ (_ ∷ _)) text h fits = elim h [ ]

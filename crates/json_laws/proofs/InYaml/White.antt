@@ -60,11 +60,10 @@ lines (c ∷ w) h = by_kind (is_blank c) refl h.0 (lines w h.1)
     by_kind true e k r = blank_first c w e r
     by_kind false e k r =
         let is : 10 ≡ c = grind (arith, nat_tests) in
-        subst (λ (x : ℕ). Lines (x ∷ w)) is (feed_first w r)
+        rw is at (feed_first w r)
 
 each_piece : (P : List ℕ → Type 0) → ((t : List ℕ) → IsBlankLine t → P t) → (ps : List (List ℕ))
-    → AreEach IsBlankLine ps
-    → AreEach P ps
+    → AreEach IsBlankLine ps → AreEach P ps
 each_piece P f [] h = tt
 each_piece P f (p ∷ ps) h = (f p h.0, each_piece P f ps h.1)
 
@@ -104,11 +103,10 @@ white_gap w h = let l = lines w h in by_pieces l.pieces l.each l.last l.blanks l
   where
     by_last : (last : List ℕ) → AreIn is_blank last → w ≡ last → IsGapAt AtStart w
     by_last [] blanks is = inr (inr (refl, is))
-    by_last (c ∷ cs) blanks is = inl ((λ e. absurd (let f = sym is ∙ e in cc)), subst (AreIn is_blank) (sym is) blanks)
+    by_last (c ∷ cs) blanks is = inl ((λ e. absurd (let f = sym is ∙ e in cc)), rw is blanks)
 
     by_pieces : (ps : List (List ℕ)) → AreEach IsBlankLine ps → (last : List ℕ) → AreIn is_blank last
-        → w ≡ joined_pieces ps ++ last
-        → IsGapAt AtStart w
+        → w ≡ joined_pieces ps ++ last → IsGapAt AtStart w
     by_pieces [] each last blanks is = by_last last blanks is
     by_pieces (p ∷ ps) each last blanks is =
         inr (inl (
@@ -139,7 +137,7 @@ blanks_white [] h = tt
 blanks_white (c ∷ cs) h = (rw h.0 refl, blanks_white cs h.1)
 
 line_white : (blanks t : List ℕ) → AreIn is_blank blanks → t ≡ blanks ++ codes "\n" → AreIn is_white t
-line_white blanks t h e = subst (AreIn is_white) (sym e) (both blanks h)
+line_white blanks t h e = rw e (both blanks h)
   where
     both : (b : List ℕ) → AreIn is_blank b → AreIn is_white (b ++ codes "\n")
     both [] h = (refl, tt)
@@ -150,8 +148,7 @@ pub white_ends : (w : List ℕ) → AreIn is_white w → Ending w
 white_ends w h = let l = lines w h in by_pieces l.pieces l.each l.last l.blanks l.is
   where
     by_pieces : (ps : List (List ℕ)) → AreEach IsBlankLine ps → (last : List ℕ) → AreIn is_blank last
-        → w ≡ joined_pieces ps ++ last
-        → Ending w
+        → w ≡ joined_pieces ps ++ last → Ending w
     by_pieces [] each last blanks is = record {
       end = last;
       others = [];

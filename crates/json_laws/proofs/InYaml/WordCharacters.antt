@@ -22,45 +22,43 @@ digits_safe [] h = tt
 digits_safe (c ∷ t) h = (digit_safe c h.0, digits_safe t h.1)
 
 minus_safe : (t : List ℕ) → (t ≡ []) ⊎ (t ≡ codes "-") → AreIn is_plain_safe t
-minus_safe t (inl e) = subst (AreIn is_plain_safe) (sym e) tt
-minus_safe t (inr e) = subst (AreIn is_plain_safe) (sym e) (refl, tt)
+minus_safe t (inl e) = rw e tt
+minus_safe t (inr e) = rw e (refl, tt)
 
 integer_safe : (t : List ℕ) → IsInteger t → AreIn is_plain_safe t
-integer_safe t (inl e) = subst (AreIn is_plain_safe) (sym e) (refl, tt)
-integer_safe t (inr h) =
-    subst (AreIn is_plain_safe) (sym h.4) (digit_safe h.0 (omega (arith, h.2), omega (arith, h.2)), digits_safe h.1 h.3)
+integer_safe t (inl e) = rw e (refl, tt)
+integer_safe t (inr h) = rw h.4 (digit_safe h.0 (omega (arith, h.2), omega (arith, h.2)), digits_safe h.1 h.3)
 
 fraction_safe : (t : List ℕ) → (t ≡ []) ⊎ IsFraction t → AreIn is_plain_safe t
-fraction_safe t (inl e) = subst (AreIn is_plain_safe) (sym e) tt
-fraction_safe t (inr h) = subst (AreIn is_plain_safe) (sym h.2) (refl, digits_safe h.0 h.1.1)
+fraction_safe t (inl e) = rw e tt
+fraction_safe t (inr h) = rw h.2 (refl, digits_safe h.0 h.1.1)
 
 letter_safe : (t : List ℕ) → (t ≡ codes "e") ⊎ (t ≡ codes "E") → AreIn is_plain_safe t
-letter_safe t (inl e) = subst (AreIn is_plain_safe) (sym e) (refl, tt)
-letter_safe t (inr e) = subst (AreIn is_plain_safe) (sym e) (refl, tt)
+letter_safe t (inl e) = rw e (refl, tt)
+letter_safe t (inr e) = rw e (refl, tt)
 
 sign_safe : (t : List ℕ) → (t ≡ []) ⊎ (t ≡ codes "+") ⊎ (t ≡ codes "-") → AreIn is_plain_safe t
-sign_safe t (inl e) = subst (AreIn is_plain_safe) (sym e) tt
-sign_safe t (inr (inl e)) = subst (AreIn is_plain_safe) (sym e) (refl, tt)
-sign_safe t (inr (inr e)) = subst (AreIn is_plain_safe) (sym e) (refl, tt)
+sign_safe t (inl e) = rw e tt
+sign_safe t (inr (inl e)) = rw e (refl, tt)
+sign_safe t (inr (inr e)) = rw e (refl, tt)
 
 exponent_safe : (t : List ℕ) → (t ≡ []) ⊎ IsExponent t → AreIn is_plain_safe t
-exponent_safe t (inl e) = subst (AreIn is_plain_safe) (sym e) tt
+exponent_safe t (inl e) = rw e tt
 exponent_safe t (inr h) =
-    subst (AreIn is_plain_safe) (sym h.6) (safe_append h.0 (h.1 ++ h.2) (letter_safe h.0 h.3)
+    rw h.6 (safe_append h.0 (h.1 ++ h.2) (letter_safe h.0 h.3)
     (safe_append h.1 h.2 (sign_safe h.1 h.4) (digits_safe h.2 h.5.1)))
 
 number_safe : (t : List ℕ) → IsJsonNumber t → AreIn is_plain_safe t
 number_safe t h =
-    subst (AreIn is_plain_safe) (sym h.8)
-    (safe_append h.0 (h.1 ++ (h.2 ++ h.3)) (minus_safe h.0 h.4)
+    rw h.8 (safe_append h.0 (h.1 ++ (h.2 ++ h.3)) (minus_safe h.0 h.4)
     (safe_append h.1 (h.2 ++ h.3) (integer_safe h.1 h.5)
     (safe_append h.2 h.3 (fraction_safe h.2 h.6) (exponent_safe h.3 h.7))))
 
 -- each character of a word goes on with a plain scalar, whatever follows it
 pub word_safe : (t : List ℕ) → IsWord t → AreIn is_plain_safe t
-word_safe t (inl e) = subst (AreIn is_plain_safe) (sym e) (refl, (refl, (refl, (refl, tt))))
-word_safe t (inr (inl e)) = subst (AreIn is_plain_safe) (sym e) (refl, (refl, (refl, (refl, (refl, tt)))))
-word_safe t (inr (inr (inl e))) = subst (AreIn is_plain_safe) (sym e) (refl, (refl, (refl, (refl, tt))))
+word_safe t (inl e) = rw e (refl, (refl, (refl, (refl, tt))))
+word_safe t (inr (inl e)) = rw e (refl, (refl, (refl, (refl, (refl, tt)))))
+word_safe t (inr (inr (inl e))) = rw e (refl, (refl, (refl, (refl, tt))))
 word_safe t (inr (inr (inr h))) = number_safe t h
 
 -- ## A word's first character
@@ -102,7 +100,7 @@ number_begins t h = by_minus h.4
     digit = digit_more h.1 (h.2 ++ h.3) (integer_begins h.1 h.5)
 
     by_minus : (h.0 ≡ []) ⊎ (h.0 ≡ codes "-") → BeginsWord t
-    by_minus (inl e) = subst BeginsWord (sym (h.8 ∙ ap (λ y. y ++ rest) e)) (begins_with_digit rest digit)
+    by_minus (inl e) = rw (h.8, e) (begins_with_digit rest digit)
     by_minus (inr e) = record {
       first = 45;
       others = rest;

@@ -28,7 +28,7 @@ safe_ink in_flow c h = by_tests (is_blank_or_breakz c) (c == 58) (is_bom c) (is_
     by_tests false false false false false h = refl
 
 safe_no_colon : (c : ℕ) → is_plain_safe c ≡ true → c ≢ colon
-safe_no_colon c h e = absurd (let f : is_plain_safe 58 ≡ true = subst (λ (x : ℕ). is_plain_safe x ≡ true) e h in cc)
+safe_no_colon c h e = absurd (let f : is_plain_safe 58 ≡ true = rw e at h in cc)
 
 safe_no_break : (c : ℕ) → is_plain_safe c ≡ true → is_no_break c ≡ true
 safe_no_break c h = grind (arith, nat_tests)
@@ -49,7 +49,7 @@ word_no_break (c ∷ cs) h = (safe_no_break c h.0, word_no_break cs h.1)
 word_value : (t : List ℕ) → AreIn is_plain_safe t → t ≡ plain_value t
 word_value [] h = refl
 word_value (c ∷ cs) h =
-    let r = safe_raw c h.0 in rw (r.0, r.1) (ap (λ (y : List ℕ). c ∷ y) (word_value cs h.1))
+    let r = safe_raw c h.0 in rw (r.0, r.1) (cc (word_value cs h.1))
 
 -- a word's first character
 abbrev IsFirst : ℕ → Type 0
@@ -99,7 +99,7 @@ word_plain in_flow indent t h =
     let b = word_begins t h in
     let safe = word_safe t h in
     let first = subst (IsFirstWord in_flow) (sym b.is)
-    (first_word in_flow b.first b.others (subst (AreIn is_plain_safe) b.is safe) b.kind b.dash) in
+    (first_word in_flow b.first b.others (rw b.is at safe) b.kind b.dash) in
     ((t, [], first, ([], tt, refl), sym (append-nil t)), word_value t safe)
 
 -- no document marker begins with it
@@ -118,6 +118,5 @@ no_marker c cs (inr h) dash rest =
 pub word_calm : (t : List ℕ) → IsWord t → IsCalm t
 word_calm t h =
     let b = word_begins t h in
-    subst IsCalm (sym b.is) (calm_line b.first b.others (subst (AreIn is_no_break) b.is (word_no_break t
-    (word_safe t h)))
+    rw b.is (calm_line b.first b.others (rw b.is at (word_no_break t (word_safe t h)))
     (no_marker b.first b.others b.kind b.dash))
