@@ -96,12 +96,11 @@ pub record Laws (text : List ℕ) : Type 0 where
 
 pub of_cores : (text : List ℕ) (P : Core → Core → Type 0) (c d : Core) → Cores text c d
     → ((x : Indexes) → Twin text c x → P c (near_core x c)) → P c d
-of_cores text P c d h go = subst (λ e. P c e) (sym h.1) (go h.0 h.2)
+of_cores text P c d h go = rw h.1 (go h.0 h.2)
 
 pub core_then : {Y : Type 0}
     → (text : List ℕ) (R : Y → Y → Type 0) (r q : Result Core Refusal) (f g : Core → Result Y Refusal)
-    → GiveAlike (Cores text) r q
-    → ((c : Core) (x : Indexes) → Twin text c x → GiveAlike R (f c) (g (near_core x c)))
+    → GiveAlike (Cores text) r q → ((c : Core) (x : Indexes) → Twin text c x → GiveAlike R (f c) (g (near_core x c)))
     → GiveAlike R (r >>= f) (q >>= g)
 core_then text R r q f g h go =
     both_then (Cores text) R r q f g h
@@ -124,8 +123,7 @@ key_moves s u i j k None e h = tt
 key_moves s u i j k (Some y) e h = even_even _ _ _ _ _ _ _ _ _ h e
 
 levels_move : (s u : Cursor) (i j : ℕ) (ks : List ℕ) (ls : List Level)
-    → Even s.mark.line s.mark.index i u.mark.line u.mark.index j → LevelsEven s.mark i ks ls
-    → LevelsEven u.mark j ks ls
+    → Even s.mark.line s.mark.index i u.mark.line u.mark.index j → LevelsEven s.mark i ks ls → LevelsEven u.mark j ks ls
 levels_move s u i j ks [] e h = tt
 levels_move s u i j ks (l ∷ ls) e h =
     (key_moves s u i j (first ks) l.key e h.0, levels_move s u i j (others ks) ls e h.1)
@@ -198,8 +196,7 @@ drop_still text c x t =
     let R = Still text c.cursor in
     both_choose R (not (in_block c && is_too_far c.level.key c.cursor.mark))
     (not (in_block c && is_too_far (near_key x.key c.level.key) (reindexed x.at c.cursor.mark))) _ _ _ _
-    (ap (λ b. not (in_block c && b)) (far_same c.cursor.mark x.at x.key c.level.key t.key))
-    (λ _. ((x, refl, t), refl))
+    (cc (far_same c.cursor.mark x.at x.key c.level.key t.key)) (λ _. ((x, refl, t), refl))
     (λ _. both_choose R c.required c.required _ _ _ _ refl (λ _. refl) (λ _. ((x, refl, forgotten text c x t), refl)))
 
 pub drop_twin : (text : List ℕ) (c : Core) (x : Indexes) → Twin text c x
@@ -242,7 +239,7 @@ pub saved_then : {Y : Type 0}
     → GiveAlike R (f (save_key n c)) (f (save_key n (near_core x c)))
 saved_then text R f P n c x t h go =
     of_still text (λ a b. GiveAlike R (f a) (f b)) c.cursor (save_key n c) (save_key n (near_core x c))
-    (save_still text n c x t) (λ y u e. go (save_key n c) y u (subst P (sym e) h))
+    (save_still text n c x t) (λ y u e. go (save_key n c) y u (rw e h))
 
 -- ## A character
 
@@ -265,7 +262,7 @@ pub pass_twin : (text : List ℕ) (c : Core) (x : Indexes) → Twin text c x →
     → Cores text (pass_on 1 c) (pass_on 1 (near_core x c))
 pass_twin text c x t k = (
   going_to (x.at + 1) x,
-  ap (λ s. with_cursor s (near_core x c)) (pass_near x.at c.cursor.rest c.cursor.mark c.cursor.blank_so_far k),
+  cc (pass_near x.at c.cursor.rest c.cursor.mark c.cursor.blank_so_far k),
   twin_moves text c x (pass 1 c.cursor) (x.at + 1) t
       (pass_ahead text x.at c.cursor.rest c.cursor.mark c.cursor.blank_so_far k (twin_stands text c x t)),
 )
@@ -303,8 +300,7 @@ pub separate_then : {Y : Type 0}
     → GiveAlike R (separate c >>= f) (separate (near_core x c) >>= g)
 separate_then {Y} text R c x f g laws t go =
     both_then (Separated text) R (separate c) (separate (near_core x c)) f g (separate_alike text c x laws t)
-    (λ a b e h w. of_cores text (λ d k. GiveAlike R (f (a.0, d)) (g (b.0, k))) a.1 b.1 w.1
-    (λ y u. let P : SkipTabs → Type 0 = λ k. GiveAlike R (f (a.0, a.1)) (g (k, near_core y a.1)) in subst P w.0
+    (λ a b e h w. of_cores text (λ d k. GiveAlike R (f (a.0, d)) (g (b.0, k))) a.1 b.1 w.1 (λ y u. rw (← w.0)
     (go a.0 a.1 y u)))
 
 -- after a character and a separation
@@ -319,7 +315,7 @@ pass_then {Y} text R c x f g laws t k go =
 
 -- the same text is left
 pub still_inked : (s t : Cursor) → t ≡ s → Inked s.rest → Inked t.rest
-still_inked s t e k = let P : Cursor → Type 0 = λ u. Inked u.rest in subst P (sym e) k
+still_inked s t e k = rw e k
 
 pub still_pass_then : {Y : Type 0}
     → (text : List ℕ) (R : Y → Y → Type 0) (s : Cursor) (c e : Core) (f g : SkipTabs × Core → Result Y Refusal)

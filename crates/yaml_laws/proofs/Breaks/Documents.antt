@@ -134,24 +134,22 @@ three_ahead text i (c ∷ d ∷ f ∷ t) m b k h =
     let three = character_ahead text f t (along (along m 1) 1) (i + 1 + 1) b false k.2
     (ahead_stands text _ _ _ _ two) in
     let all = ahead_ahead text _ _ _ _ _ _ one (ahead_ahead text _ _ _ _ _ _ two three) in
-    let p : along (along (along m 1) 1) 1 ≡ along m 3 = ap (λ (n : Marker). along n 1)
-    (along_more m 1 1 2 (omega arith)) ∙ along_more m 2 1 3 (omega arith) in
+    let p : along (along (along m 1) 1) 1 ≡ along m 3 = cc (along_more m 1 1 2 (omega arith),
+    along_more m 2 1 3 (omega arith)) in
     let q : i + 1 + 1 + 1 ≡ i + 3 = omega arith in
-    subst (λ j. Ahead text s i (cursor_at t (along m 3) false) j) q
-    (subst (λ (n : Marker). Ahead text s i (cursor_at t n false) (i + 1 + 1 + 1)) p all)
+    rw (p, q) at all
 
 passed_marker : (text : List ℕ) (c : Core) (x : Indexes) → Twin text c x → Three c.cursor.rest
     → Cores text (document.pass_marker c) (document.pass_marker (near_core x c))
 passed_marker text c x t k = (
   going_to (x.at + 3) x,
-  ap (λ s. record (with_cursor s (near_core x c)) { key_allowed = false })
-      (three_near x.at c.cursor.rest c.cursor.mark c.cursor.blank_so_far k),
+  cc (three_near x.at c.cursor.rest c.cursor.mark c.cursor.blank_so_far k),
   twin_moves text c x (pass 3 c.cursor) (x.at + 3) t
       (three_ahead text x.at c.cursor.rest c.cursor.mark c.cursor.blank_so_far k (twin_stands text c x t)),
 )
 
 three_still : (s t : Cursor) → t ≡ s → Three s.rest → Three t.rest
-three_still s t e k = let P : Cursor → Type 0 = λ u. Three u.rest in subst P (sym e) k
+three_still s t e k = rw e k
 
 marker_same : (text : List ℕ) (kind : Kind) (c : Core) (x : Indexes) (q r : Queue) → Twin text c x → SameQueues q r
     → Three c.cursor.rest
@@ -237,15 +235,13 @@ passed_mark : (text : List ℕ) (c : Core) (x : Indexes) → Twin text c x → I
     → Cores text (document.pass_mark c) (document.pass_mark (near_core x c))
 passed_mark text c x t k = (
   going_to (x.at + 1) x,
-  ap (λ s. record (with_cursor s (near_core x c)) { key_allowed = true })
-      (bom_near x.at c.cursor.rest c.cursor.mark c.cursor.blank_so_far k),
+  cc (bom_near x.at c.cursor.rest c.cursor.mark c.cursor.blank_so_far k),
   twin_moves text c x (pass_byte_order_mark c.cursor) (x.at + 1) t
       (bom_ahead text x.at c.cursor.rest c.cursor.mark c.cursor.blank_so_far k (twin_stands text c x t)),
 )
 
 pub byte_order_mark_same : (text : List ℕ) (c : Core) (x : Indexes) (q r : Queue) → Twin text c x → SameQueues q r
-    → Inked c.cursor.rest
-    → GiveAlike (States text) (document.state_behind_byte_order_mark (holding c q))
+    → Inked c.cursor.rest → GiveAlike (States text) (document.state_behind_byte_order_mark (holding c q))
     (document.state_behind_byte_order_mark (holding (near_core x c) r))
 unfolding document.state_behind_byte_order_mark
 byte_order_mark_same text c x q r t e ink =
@@ -271,13 +267,12 @@ read_directive_same text c x laws t begins =
     (λ a b e h w.
     let v = read_twin text c x a.2 b.2 laws t (laws.forward.directive s a begins e)
     (laws.forward.directive (near x.at s) b (begins_near 37 x.at s refl begins) h) w.2 in (
-      (going_to b.2.mark.index x, ap (λ u. record (with_cursor u (near_core x c)) { key_allowed = false }) v.0, v.1),
+      (going_to b.2.mark.index x, cc, v.1),
       (ap document.directive_kind w.0, tt),
     ))
 
 pub directive_same : (text : List ℕ) (c : Core) (x : Indexes) (q r : Queue) → Laws text → Twin text c x
-    → SameQueues q r → Begins 37 c.cursor
-    → GiveAlike (States text) (document.state_behind_directive (holding c q))
+    → SameQueues q r → Begins 37 c.cursor → GiveAlike (States text) (document.state_behind_directive (holding c q))
     (document.state_behind_directive (holding (near_core x c) r))
 unfolding document.state_behind_directive
 directive_same text c x q r laws t e begins =

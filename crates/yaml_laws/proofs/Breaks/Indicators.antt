@@ -36,15 +36,13 @@ open_same : (text : List ℕ) (k : Context) (kind : Kind) (c : Core) (x : Indexe
 unfolding flow.open_collection
 open_same text k kind c x laws t ink =
     both_choose (SameSteps text) (nat_le most_open (length c.outer))
-    (nat_le most_open (length (near_levels x.outer c.outer))) _ _ _ _
-    (ap (λ n. nat_le most_open n) (same_length x.outer c.outer)) (λ _. refl)
+    (nat_le most_open (length (near_levels x.outer c.outer))) _ _ _ _ (cc (same_length x.outer c.outer)) (λ _. refl)
     (λ _. pass_then text (SameSteps text) (flow.enter k c) (record x { key = 0; outer = x.key ∷ x.outer }) _ _ laws
     (record { ahead = t.ahead; key = tt; outer = (t.key, t.outer); line = t.line; adjacent = t.adjacent }) ink
     (λ s d y u. ((y, refl, u), (refl, tt))))
 
 pub start_same : (text : List ℕ) (k : Context) (kind : Kind) (n : ℕ) (c : Core) (x : Indexes) → Laws text
-    → Twin text c x → Inked c.cursor.rest
-    → GiveAlike (SameSteps text) (flow.opening_steps k kind n c)
+    → Twin text c x → Inked c.cursor.rest → GiveAlike (SameSteps text) (flow.opening_steps k kind n c)
     (flow.opening_steps k kind n (near_core x c))
 unfolding flow.opening_steps
 start_same text k kind n c x laws t ink =
@@ -131,8 +129,7 @@ check_same text c x laws t =
     (λ k d y u. tab_same k text d y u)) (λ _. (x, refl, t))
 
 alone_puts : (begins further : Bool) (start : Marker) (i : ℕ) (c : Core) (x : Indexes)
-    → is_further start.col c ≡ further
-    → SameActions (value.opening_actions begins start c)
+    → is_further start.col c ≡ further → SameActions (value.opening_actions begins start c)
     (value.opening_actions begins (reindexed i start) (near_core x c))
 unfolding value.opening_actions
 alone_puts true true start i c x e = rw e (refl, (refl, (refl, tt)))
@@ -141,8 +138,7 @@ alone_puts false true start i c x e = rw e (refl, (refl, tt))
 alone_puts false false start i c x e = rw e (refl, tt)
 
 behind_same : (text : List ℕ) (k : Option Candidate) (i : ℕ) (begins : Bool) (start : Marker) (j : ℕ) (c : Core)
-    (x : Indexes) → Twin text c x
-    → GiveAlike (SameSteps text) (value.behind_key k begins start c)
+    (x : Indexes) → Twin text c x → GiveAlike (SameSteps text) (value.behind_key k begins start c)
     (value.behind_key (near_key i k) begins (reindexed j start) (near_core x c))
 unfolding value.behind_key value.value_of_key value.value_alone
 behind_same text (Some k) i begins start j c x t =
@@ -191,8 +187,7 @@ unfolding flow_value_steps
 flow_value_same text second other c x laws t ink e =
     both_choose (SameSteps text) (not (c.cursor.mark.index == c.adjacent) && ((second == 91) || (second == 123)))
     (not (x.at == x.adjacent) && ((other == 91) || (other == 123))) _ _ _ _
-    (ap (λ b. not b && ((other == 91) || (other == 123))) (adjacent_same text c x t) ∙ ap
-    (λ b. not (c.cursor.mark.index == c.adjacent) && b) e) (λ _. refl) (λ _. value_same text c x laws t ink)
+    (cc (adjacent_same text c x t)) (λ _. refl) (λ _. value_same text c x laws t ink)
 
 -- ## Block collections
 
@@ -293,9 +288,7 @@ question_same text c x laws t ink =
     let P : Cursor → Type 0 = λ u. GiveAlike (Cores text) (block.behind_mark g.space (with_cursor g.cursor c))
     (block.behind_mark (gaps.spaces_at false u).space
     (with_cursor (gaps.spaces_at false u).cursor (near_core x c))) in
-    let Q : gaps.SpacesEnd → Type 0 = λ k. GiveAlike (Cores text) (block.behind_mark g.space (with_cursor g.cursor c))
-    (block.behind_mark k.space (with_cursor k.cursor (near_core x c))) in
-    subst P (sym e) (subst Q (sym h.1) (mark_same text g.space (with_cursor g.cursor c) (going_to h.0 x) there))
+    subst P (sym e) (rw h.1 (mark_same text g.space (with_cursor g.cursor c) (going_to h.0 x) there))
 
 begin_same : (text : List ℕ) (c : Core) (x : Indexes) → Laws text → Twin text c x → Inked c.cursor.rest
     → GiveAlike (Cores text) (block.begin_key c) (block.begin_key (near_core x c))

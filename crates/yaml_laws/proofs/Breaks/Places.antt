@@ -118,7 +118,7 @@ alike_is text s t x = same t (normalized s.rest) s.mark.line s.mark.col s.blank_
 -- ## One character on
 
 pub one_less : (i : ℕ) (c : ℕ) (text rest : List ℕ) → drop i text ≡ c ∷ rest → drop (i + 1) text ≡ rest
-one_less i c text rest e = sym (drop_more 1 i (i + 1) text refl) ∙ ap (λ l. drop 1 l) e
+one_less i c text rest e = cc (drop_more 1 i (i + 1) text refl)
 
 -- the lines of a text that is not too long can be counted
 abbrev pub Low : Cursor → Type 0
@@ -135,8 +135,7 @@ pub choose : {X : Type 0} → (P : X → X → Type 0) (b d : Bool) (x y v w : X
 choose P b d x y v w e h k = both_by b d x y v w P (sym e) (λ t _. h t) (λ t _. k t)
 
 pub both_choose : {X : Type 0} → (R : X → X → Type 0) (b d : Bool) (x y v w : Result X Refusal) → d ≡ b
-    → (b ≡ true → GiveAlike R x v) → (b ≡ false → GiveAlike R y w)
-    → GiveAlike R (cond b x y) (cond d v w)
+    → (b ≡ true → GiveAlike R x v) → (b ≡ false → GiveAlike R y w) → GiveAlike R (cond b x y) (cond d v w)
 both_choose R b d x y v w e h k = choose (GiveAlike R) b d x y v w e h k
 
 pub both_so : {X : Type 0} → (R S : X → X → Type 0) (r q : Result X Refusal) → ((x y : X) → R x y → S x y)
@@ -157,8 +156,7 @@ next_lower l h = omega (arith, h)
 
 -- a character that is no break, on its line
 pub character_ahead : (text : List ℕ) (c : ℕ) (t : List ℕ) (m : Marker) (i : ℕ) (b d : Bool)
-    → (c == carriage_return) ≡ false
-    → Stand text (cursor_at (c ∷ t) m b) i
+    → (c == carriage_return) ≡ false → Stand text (cursor_at (c ∷ t) m b) i
     → Ahead text (cursor_at (c ∷ t) m b) i (cursor_at t (along m 1) d) (i + 1)
 character_ahead text c t m i b d e x =
     let is : normalized (c ∷ t) ≡ c ∷ normalized t = rw e refl in

@@ -47,9 +47,7 @@ step_same : (text : List ℕ) (first second other n : ℕ) (c : Core) (x : Index
     → ((other == left_bracket) || (other == left_brace)) ≡ ((second == left_bracket) || (second == left_brace))
     → GiveAlike (SameSteps text) (step first second n c) (step first other n (near_core x c))
 step_same text first second other n c x laws t ink f blank is_flow_too opens =
-    let beside : is_value_adjacent other (near_core x c) ≡ is_value_adjacent second c =
-    ap (λ b. not (in_block c) && (b || (x.at == x.adjacent))) is_flow_too
-    ∙ ap (λ b. not (in_block c) && (is_flow second || b)) (adjacent_same text c x t) in
+    let beside : is_value_adjacent other (near_core x c) ≡ is_value_adjacent second c = cc (adjacent_same text c x t) in
     both_cases (GiveAlike (SameSteps text)) first second other n c (near_core x c) (sym blank) (sym beside) refl
     (record {
       sequence = λ _. start_same text context.FlowSequence tokens.FlowSequenceStart n c x laws t ink;
@@ -86,14 +84,10 @@ unfolding state_behind_content
 content_same text c x q r laws t e ink k =
     let s = c.cursor.rest in
     let n = normalized s in
-    let P : ℕ → ℕ → Type 0 = λ f i. GiveAlike (States text)
-    (after_step (step (slice_index s 0) (slice_index s 1) (next q) c) q)
-    (after_step (step f (slice_index n 1) i (near_core x c)) r) in
     let h = step_same text (slice_index s 0) (slice_index s 1) (slice_index n 1) (next q) c x laws t ink refl
     (second_is is_blank_or_breakz refl s k) (second_is is_flow refl s k)
     (second_is (λ y. (y == 91) || (y == 123)) refl s k) in
-    subst (λ f. P f (next r)) (sym (first_same s ink))
-    (subst (λ i. P (slice_index s 0) i) (same_next q r e) (after_step_same text _ _ q r h e))
+    rw (first_same s ink, ← (same_next q r e)) (after_step_same text _ _ q r h e)
 
 inked_of : (t : List ℕ) → is_z (slice_index t 0) ≡ false → is_break (slice_index t 0) ≡ false → Inked t
 inked_of [] z k = absurd (cc)
@@ -153,7 +147,7 @@ arrive_same text c x q r laws t e =
     (λ y u.
     let w = unroll_same text (Some a.core.cursor.mark.col) a.core.cursor.mark
     (near_core y a.core).cursor.mark a.core y a.queue b.queue u h.1 in
-    ((w.0, ap (λ (s : Cursor). is_break (slice_index s.rest 0)) w.1 ∙ h.0.1), w.2)))
+    ((w.0, cc), w.2)))
 
 pub fetch_same : (text : List ℕ) (c : Core) (x : Indexes) (q r : Queue) → Laws text → Twin text c x → SameQueues q r
     → GiveAlike (States text) (fetch (holding c q)) (fetch (holding (near_core x c) r))
@@ -214,9 +208,7 @@ held_key place i l = by l.key
 
 held_levels : (place : ℕ) (is : List ℕ) (ls : List Level) → any_holds place (near_levels is ls) ≡ any_holds place ls
 held_levels place is [] = refl
-held_levels place is (l ∷ ls) =
-    ap (λ b. b || any_holds place (near_levels (others is) ls)) (held_key place (first is) l) ∙ ap
-    (λ b. holds place l || b) (held_levels place (others is) ls)
+held_levels place is (l ∷ ls) = cc (held_key place (first is) l, held_levels place (others is) ls)
 
 same_empty : (ps qs : List Place) → SamePlaces ps qs → is_empty_list qs ≡ is_empty_list ps
 same_empty [] [] e = refl
@@ -229,12 +221,7 @@ needs_same : (c : Core) (x : Indexes) (q r : Queue) → SameQueues q r
 needs_same c x q r e =
     let f : Bool → ℕ → Bool = λ b h. not c.ended &&
     (b || (is_place h (near_key x.key c.level.key) || any_holds h (near_levels x.outer c.outer))) in
-    ap (λ b. f b r.handed) (same_empty q.places r.places e.places) ∙ ap (λ h. f (is_empty_list q.places) h)
-    (sym e.handed)
-    ∙ ap (λ b. not c.ended && (is_empty_list q.places || (b || any_holds q.handed (near_levels x.outer c.outer))))
-    (held_key q.handed x.key c.level)
-    ∙ ap (λ b. not c.ended && (is_empty_list q.places || (holds q.handed c.level || b)))
-    (held_levels q.handed x.outer c.outer)
+    cc (same_empty q.places r.places e.places, held_key q.handed x.key c.level, held_levels q.handed x.outer c.outer)
 
 -- ## What comes
 
@@ -243,18 +230,18 @@ kinds ps = map (λ (t : Piece). t.kind) ps
 
 before_same : (o p : Opening) (t u : Piece) (r q : Remaining) → o ≡ p → t.kind ≡ u.kind → HaveSameKinds r q
     → HaveSameKinds (before_place o t r) (before_place p u q)
-before_same o p t u r q e k h = subst (λ w. HaveSameKinds (before_place o t r) (before_place w u q)) e (by o)
+before_same o p t u r q e k h = rw (← e) (by o)
   where
     both : t.kind ∷ kinds r.pieces ≡ u.kind ∷ kinds q.pieces
-    both = ap (λ a. a ∷ kinds r.pieces) k ∙ ap (λ l. u.kind ∷ l) h.kinds
+    both = cc
 
     by : (w : Opening) → HaveSameKinds (before_place w t r) (before_place w u q)
     by opening.Nothing = record { kinds = both; refusals = h.refusals }
     by opening.Key = record { kinds = ap (λ l. tokens.Key ∷ l) both; refusals = h.refusals }
     by opening.BlockMappingAndKey =
-        record { kinds = ap (λ l. tokens.BlockMappingStart ∷ tokens.Key ∷ l) both; refusals = h.refusals }
+        record { kinds = cc; refusals = h.refusals }
     by opening.FlowMappingAndKey =
-        record { kinds = ap (λ l. tokens.FlowMappingStart ∷ tokens.Key ∷ l) both; refusals = h.refusals }
+        record { kinds = cc; refusals = h.refusals }
 
 hands_same : (text : List ℕ) (c : Core) (x : Indexes) (ps qs : List Place) (n m : ℕ) (go ho : State → Remaining)
     → SamePlaces ps qs → n ≡ m
@@ -284,8 +271,7 @@ remaining_after_same text (Err d) (Err f) go ho h k = record { kinds = refl; ref
 
 runs_same : (text : List ℕ) → Laws text → Readers → (limit other : ℕ) → length text ≤ limit → length text ≤ other
     → (n m : ℕ) (c : Core) (x : Indexes) (q r : Queue) → size c < n → size (near_core x c) < m → Twin text c x
-    → SameQueues q r
-    → HaveSameKinds (run n limit (holding c q)) (run m other (holding (near_core x c) r))
+    → SameQueues q r → HaveSameKinds (run n limit (holding c q)) (run m other (holding (near_core x c) r))
 runs_same text laws readers limit other short short_too zero m c x q r a b t e = absurd (omega (arith, a))
 runs_same text laws readers limit other short short_too (suc n) zero c x q r a b t e = absurd (omega (arith, b))
 runs_same text laws readers limit other short short_too (suc n) (suc m) c x q r a b t e =

@@ -38,7 +38,7 @@ abbrev pub Begins : ℕ → Cursor → Type 0
 Begins c s = slice_index s.rest 0 ≡ c
 
 pub begins_still : (c : ℕ) (s t : Cursor) → t ≡ s → Begins c s → Begins c t
-begins_still c s t e b = ap (λ (u : Cursor). slice_index u.rest 0) e ∙ b
+begins_still c s t e b = cc
 
 pub begins_near : (c i : ℕ) (s : Cursor) → is_break c ≡ false → Begins c s → Begins c (near i s)
 begins_near c i s k b = by s.rest b
@@ -57,8 +57,7 @@ adjacent_twin : (text : List ℕ) (c : Core) (x : Indexes) → Twin text c x
 adjacent_twin text c x t = (record x { adjacent = x.at }, refl, here_adjacent text c x t)
 
 line_same : (text : List ℕ) (start : Marker) (i : ℕ) (style : ScalarStyle) (value : List ℕ) (c : Core) (x : Indexes)
-    → Laws text → Twin text c x
-    → GiveAlike (SameSteps text) (scalar.behind_quoted_line start style value c)
+    → Laws text → Twin text c x → GiveAlike (SameSteps text) (scalar.behind_quoted_line start style value c)
     (scalar.behind_quoted_line (reindexed i start) style value (near_core x c))
 unfolding scalar.goes_on_behind_quotes
 line_same text start i style value c x laws t =
@@ -77,8 +76,7 @@ line_same text start i style value c x laws t =
     (λ _. refl)
 
 behind_same : (text : List ℕ) (start : Marker) (i : ℕ) (style : ScalarStyle) (value : List ℕ) (c : Core)
-    (x : Indexes) → Laws text → Twin text c x
-    → GiveAlike (SameSteps text) (scalar.behind_quotes start style value c)
+    (x : Indexes) → Laws text → Twin text c x → GiveAlike (SameSteps text) (scalar.behind_quotes start style value c)
     (scalar.behind_quotes (reindexed i start) style value (near_core x c))
 unfolding scalar.behind_quotes
 behind_same text start i style value c x laws t =
@@ -127,7 +125,7 @@ mark_is text m k h = by m.line m.col h.line h.col
     by l c e f = rw (e, f)
 
 noted_is : (text : List ℕ) (o p : Option Marker) → AreNoted text o p → (i : ℕ) × (p ≡ near_comment i o)
-noted_is text (Some m) (Some k) h = (k.index, ap (λ (n : Marker). Some n) (mark_is text m k h))
+noted_is text (Some m) (Some k) h = (k.index, cc (mark_is text m k h))
 noted_is text None None h = (0, refl)
 noted_is text (Some m) None h = absurd h
 noted_is text None (Some k) h = absurd h
@@ -157,7 +155,7 @@ read_same text c x laws t =
     } in
     let at : P (near_comment o.0 a.2) (near b.3.mark.index a.3) =
     (record x { at = b.3.mark.index; comment = o.0 }, refl, there) in (
-      subst (λ z. P z b.3) (sym o.1) (subst (λ u. P (near_comment o.0 a.2) u) (sym v.0) at),
+      rw (o.1, v.0) at,
       (ap (λ z. tokens.Scalar Plain z) w.0, tt),
     )))
 
@@ -190,12 +188,11 @@ read_block_same text style c x laws t begins =
     let v = read_twin text c x a.2 b.2 laws t (laws.forward.block_scalar style c.indent s a begins e)
     (laws.forward.block_scalar style c.indent (near x.at s) b (begins_near d x.at s k begins) h) w.3 in (
       (going_to b.2.mark.index x, ap (λ u. with_cursor u (near_core x c)) v.0, v.1),
-      (ap (λ z. tokens.Scalar (scalar.style_of style) z) w.0, tt),
+      (cc, tt),
     ))
 
 pub block_same : (text : List ℕ) (style : BlockStyle) (n : ℕ) (c : Core) (x : Indexes) → Laws text → Twin text c x
-    → Begins (block_indicator style) c.cursor
-    → GiveAlike (SameSteps text) (scalar.block_scalar_steps style n c)
+    → Begins (block_indicator style) c.cursor → GiveAlike (SameSteps text) (scalar.block_scalar_steps style n c)
     (scalar.block_scalar_steps style n (near_core x c))
 unfolding scalar.block_scalar_steps
 block_same text style n c x laws t begins =
@@ -255,7 +252,7 @@ read_tag_same text c x laws t begins =
     let v = read_twin text c x a.2 b.2 laws t (laws.forward.tag f s a begins e)
     (laws.forward.tag f (near x.at s) b (begins_near 33 x.at s refl begins) h) w.2 in (
       (going_to b.2.mark.index x, ap (λ u. with_cursor u (near_core x c)) v.0, v.1),
-      (ap (λ z. tokens.Tag z a.1) w.0 ∙ ap (λ z. tokens.Tag b.0 z) w.1, tt),
+      (cc, tt),
     ))
 
 pub tag_same : (text : List ℕ) (n : ℕ) (c : Core) (x : Indexes) → Laws text → Twin text c x → Begins 33 c.cursor

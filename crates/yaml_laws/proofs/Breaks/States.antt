@@ -58,10 +58,9 @@ same_act (Put t) (Put u) q r e h = record { places = same_put q.places r.places 
 same_act (Open n o) (Open m p) q r e h =
     let P : ℕ → Opening → Type 0 = λ k w. SamePlaces (places_with_opening (n - q.handed) o q.places)
     (places_with_opening k w r.places) in
-    let at : n - q.handed ≡ m - r.handed = ap (λ k. k - q.handed) e.0 ∙ ap (λ k. m - k) h.handed in
+    let at : n - q.handed ≡ m - r.handed = cc in
     record {
-      places = subst (λ w. P (m - r.handed) w) e.1
-          (subst (λ k. P k o) at (same_opened (n - q.handed) o q.places r.places h.places));
+      places = rw (← e.1) (subst (λ k. P k o) at (same_opened (n - q.handed) o q.places r.places h.places));
       handed = h.handed;
     }
 same_act (Put t) (Open m p) q r e h = absurd e
@@ -81,8 +80,7 @@ places_length [] (q ∷ qs) h = absurd h
 places_length (p ∷ ps) [] h = absurd h
 
 pub same_next : (q r : Queue) → SameQueues q r → next q ≡ next r
-same_next q r h =
-    ap (λ n. n + length q.places) h.handed ∙ ap (λ n. r.handed + n) (places_length q.places r.places h.places)
+same_next q r h = cc (places_length q.places r.places h.places)
 
 -- ## Steps and states
 
@@ -144,8 +142,6 @@ ends_blocks text column m k (i ∷ is) c x q r t e =
     let w = ends_block text m k c x q r t e in
     let a = end_block m (holding c q) in
     let b = end_block k (holding (near_core x c) r) in
-    let P : Core → Type 0 = λ d. Ended text c.cursor (end_blocks column m is a)
-    (end_blocks column k is (holding d b.queue)) in
     let h = ends_blocks text column m k is a.core w.0.0 a.queue b.queue w.0.2 w.2 in
     rw w.0.1 (h.0, h.1 ∙ w.1, h.2))
     (λ _. ((x, refl, t), refl, e))

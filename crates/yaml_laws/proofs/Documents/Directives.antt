@@ -47,8 +47,7 @@ record ReadsAs (d : forest.Directive) (t : List ℕ) : Type 0 where
   end : Marker → Marker
   kind : directive_kind said ≡ directive_token d
   first : slice_index t 0 ≡ percent_sign
-  reads : (m : Marker) (blank : Bool) (o : List ℕ)
-      → directives.directive (cursor_at (t ++ (line_feed ∷ o)) m blank)
+  reads : (m : Marker) (blank : Bool) (o : List ℕ) → directives.directive (cursor_at (t ++ (line_feed ∷ o)) m blank)
       ≡ Ok (said, end m, cursor_at o (next_line (along m (length t)) 1) true)
 
 reads_text : ReaderPromises → (d : forest.Directive) (said : ReadDirective) (t tail : List ℕ)
@@ -60,11 +59,8 @@ reads_text readers d said t tail kind is tail_is first =
       end = λ m. along m (length t);
       kind = kind;
       first = first;
-      reads = λ m blank o. readers.directive (cursor_at ((t ++ tail) ++ (10 ∷ o)) m blank) said t tail (10 ∷ o)
-          (append_assoc t tail (10 ∷ o)) is tail_is refl
-          ∙ ap (λ (n : ℕ). Ok (let x : ReadDirective × Marker × Cursor =
-          (said, along m (length t), cursor_at o (next_line (along m n) 1) true) in x))
-          (sym (length-append t tail));
+      reads = λ m blank o. cc (readers.directive (cursor_at ((t ++ tail) ++ (10 ∷ o)) m blank) said t tail (10 ∷ o)
+          (append_assoc t tail (10 ∷ o)) is tail_is refl, length-append t tail);
     }
 
 handle_is : (handle : forest.Handle) (t : List ℕ) → IsHandle handle t → t ≡ forest.handle_text handle
@@ -74,16 +70,11 @@ handle_is (forest.Named word) t h = h.2
 
 reads_as : ReaderPromises → (d : forest.Directive) (t : List ℕ) → IsDirective d t → ReadsAs d t
 reads_as readers (Version major minor) t (text, tail, is, tail_is, e) =
-    subst (ReadsAs (Version major minor)) (sym e)
-    (reads_text readers (Version major minor) (version major minor) text tail refl is tail_is
-    (ap (λ (x : List ℕ). slice_index (x ++ tail) 0) is.6))
+    rw e (reads_text readers (Version major minor) (version major minor) text tail refl is tail_is (cc))
 reads_as readers (TagPrefix handle prefix) t (written, text, tail, handle_of, is, tail_is, e) =
-    subst (ReadsAs (TagPrefix handle prefix)) (sym e)
-    (reads_text readers (TagPrefix handle prefix)
+    rw e (reads_text readers (TagPrefix handle prefix)
     (tag_prefix (encode_utf8_all written) (encode_utf8_all prefix)) text tail
-    (ap (λ (x : List ℕ). directive_kind (tag_prefix (encode_utf8_all x) (encode_utf8_all prefix)))
-    (handle_is handle written handle_of)) (written, prefix, is, refl, refl) tail_is
-    (ap (λ (x : List ℕ). slice_index (x ++ tail) 0) is.7))
+    (cc (handle_is handle written handle_of)) (written, prefix, is, refl, refl) tail_is (cc))
 reads_as readers (Reserved name) t is =
     record {
       said = reserved (encode_utf8_all name);
@@ -126,7 +117,7 @@ reads_directive {limit = limit} {start = start} {ts = ts} d t o h v =
     let fetched = λ (blank : Bool) (key : Option Candidate) (allowed : Bool) (ad : ℕ) (ps : List Place).
     ap (λ (x : List ℕ). fetch_here (state_at false (cursor_at x v.mark blank) context.Block key [] allowed ad ps)) text
     ∙ directive_here v.mark (h.end v.mark) blank (b.0 ++ (10 ∷ o)) h.said (cursor_at o n true) key allowed ad ps col
-    (ap (λ (x : List ℕ). directives.directive (cursor_at x v.mark blank)) (sym text) ∙ h.reads v.mark blank o) in
+    (cc (h.reads v.mark blank o)) in
     subst (λ (k : Kind). StandsLined limit start true false o (ts ++ k ∷ [])) h.kind
     (reads_token v here (inl refl) (λ _. cursor_at o n true) false
     (piece_of v.mark (h.end v.mark) (directive_kind h.said)) fetched (Lined false o) n o (λ _. refl)
@@ -143,15 +134,12 @@ pub reads_directives : {limit : ℕ} {start : State} → ReaderPromises
     → (ds : List forest.Directive) (t y : List ℕ) (ts : List Kind) → AreDirectives ds t
     → StandsLined limit start true false (t ++ y) ts
     → StandsLined limit start true false y (ts ++ map directive_token ds)
-reads_directives {limit = limit} {start = start} readers [] t y ts h v =
-    rw (append-nil ts) (subst (λ (x : List ℕ). StandsLined limit start true false (x ++ y) ts) h v)
+reads_directives {limit = limit} {start = start} readers [] t y ts h v = rw (append-nil ts) (rw h at v)
 reads_directives {limit = limit} {start = start} readers (d ∷ ds) t y ts
     (directive, filler, more, is, filler_is, others, e) v =
-    let text : t ++ y ≡ directive ++ (10 ∷ (filler ++ (more ++ y))) =
-    ap (λ (x : List ℕ). x ++ y) e ∙ lines_text directive filler more y in
+    let text : t ++ y ≡ directive ++ (10 ∷ (filler ++ (more ++ y))) = cc (lines_text directive filler more y) in
     let first = reads_directive d directive (filler ++ (more ++ y)) (reads_as readers d directive is)
     (lined_so text v) in
     let last = reads_directives readers ds more y (ts ++ directive_token d ∷ []) others
     (passes_filler filler (more ++ y) filler_is first) in
-    subst (λ (x : List Kind). StandsLined limit start true false y x)
-    (append_assoc ts (directive_token d ∷ []) (map directive_token ds)) last
+    rw (append_assoc ts (directive_token d ∷ []) (map directive_token ds)) at last

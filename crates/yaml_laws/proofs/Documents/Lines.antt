@@ -67,12 +67,11 @@ ends_with_last_line m rest h = record {
 }
 
 pub eol : (m : Marker) (end o : List ℕ) → IsEol end o → EndsWithLine m (end ++ o) o
-eol m end o (inl h) = subst (λ (t : List ℕ). EndsWithLine m t o)
-    (sym (ap (λ (x : List ℕ). x ++ o) h.2 ∙ append_assoc h.0 (10 ∷ []) o)) (whole_line m h.0 o h.1)
-eol m end o (inr h) = subst (λ (z : List ℕ). EndsWithLine m (end ++ z) z) (sym h.1) (ends_with_last_line m end h.0)
+eol m end o (inl h) = rw (h.2, append_assoc h.0 (10 ∷ []) o) (whole_line m h.0 o h.1)
+eol m end o (inr h) = rw h.1 (ends_with_last_line m end h.0)
 
 pub break_ends : (more : List ℕ) → EndsLine more → is_breakz (slice_index more 0) ≡ true
-break_ends more (inl e) = ap (λ (t : List ℕ). is_breakz (slice_index t 0)) e
+break_ends more (inl e) = cc
 break_ends more (inr e) = ap is_breakz e
 
 -- ## What comes first
@@ -85,8 +84,7 @@ blank_parts c h = grind (arith, nat_tests)
 
 pub rest_first : (rest more : List ℕ) → IsLineRest rest → EndsLine more
     → is_blank_or_breakz (slice_index (rest ++ more) 0) ≡ true
-rest_first rest more (front, comment, are, k, is) ends =
-    subst (λ (x : List ℕ). is_blank_or_breakz (slice_index (x ++ more) 0) ≡ true) (sym is) (by_front front are k)
+rest_first rest more (front, comment, are, k, is) ends = rw is (by_front front are k)
   where
     by_front : (front : List ℕ) → AreIn is_blank front → IsCommentBehind front comment
         → is_blank_or_breakz (slice_index ((front ++ comment) ++ more) 0) ≡ true
@@ -95,22 +93,20 @@ rest_first rest more (front, comment, are, k, is) ends =
     by_front (c ∷ cs) are h = blank_parts c are.0
 
 pub eol_first : (m : Marker) (t o : List ℕ) → EndsWithLine m t o → is_blank_or_breakz (slice_index t 0) ≡ true
-eol_first m t o e = subst (λ (x : List ℕ). is_blank_or_breakz (slice_index x 0) ≡ true) (sym e.is)
-    (rest_first e.rest e.more e.line e.break)
+eol_first m t o e = rw e.is (rest_first e.rest e.more e.line e.break)
 
 -- ## Filler is passed
 
 -- after filler that begins at a line's start is a line's start
 pub filler_line : (m : Marker) (w : List ℕ) → IsFiller w → m.col ≡ 0 → (moved m w).col ≡ 0
-filler_line m w h col = subst (λ (x : List ℕ). (moved m x).col ≡ 0) (sym h.2) (pieces m h.0 h.1 col)
+filler_line m w h col = rw h.2 (pieces m h.0 h.1 col)
   where
     pieces : (m : Marker) (ws : List (List ℕ)) → AreEach IsFillerLine ws → m.col ≡ 0
         → (moved m (joined_pieces ws)).col ≡ 0
     pieces m [] k e = e
     pieces m (v ∷ vs) k e =
-        let line : (moved m v).col ≡ 0 = ap (λ (x : List ℕ). (moved m x).col) k.0.2
-        ∙ ap (λ (n : Marker). n.col) (moved_append m k.0.0 (10 ∷ [])) in
-        ap (λ (n : Marker). n.col) (moved_append m v (joined_pieces vs)) ∙ pieces (moved m v) vs k.1 line
+        let line : (moved m v).col ≡ 0 = simp (k.0.2, moved_append m k.0.0 (10 ∷ [])) in
+        cc (moved_append m v (joined_pieces vs), pieces (moved m v) vs k.1 line)
 
 none_behind : (w y : List ℕ) → w ++ y ≡ [] → y ≡ []
 none_behind [] y e = e
@@ -121,11 +117,9 @@ filler_at_line m w y h (inl e) = inl (filler_line m w h e)
 filler_at_line m w y h (inr e) = inr (none_behind w y e)
 
 pub passes_filler : {limit : ℕ} {start : State} {free opened : Bool} {ts : List Kind} (w y : List ℕ) → IsFiller w
-    → StandsLined limit start free opened (w ++ y) ts
-    → StandsLined limit start free opened y ts
+    → StandsLined limit start free opened (w ++ y) ts → StandsLined limit start free opened y ts
 passes_filler {limit = limit} {opened = opened} w y h v =
-    passes_over v (Lined opened y) (moved v.mark w) y (filler_past 0 v.mark w y h)
-    (subst (λ (n : ℕ). n ≤ limit) (sym (moved_count v.mark w y)) v.count)
+    passes_over v (Lined opened y) (moved v.mark w) y (filler_past 0 v.mark w y h) (rw (moved_count v.mark w y) v.count)
     (filler_at_line v.mark w y h v.line.0, λ e. still (v.line.1 e)) (moved_lined v.mark w v.lined)
   where
     still : {b : Bool} → (b ≡ true) ⊎ (w ++ y ≡ []) → (b ≡ true) ⊎ (y ≡ [])

@@ -28,10 +28,7 @@ escaped = (
   (
     codes "%C3%A9",
     [],
-    inr (
-      inl (omega arith),
-      (codes "%C3", codes "%A9", first, (codes "%A9", [], second, refl, refl), refl),
-    ),
+    inr (inl (omega arith), (codes "%C3", codes "%A9", first, (codes "%A9", [], second, refl, refl), refl)),
     refl,
     refl,
   ),

@@ -79,7 +79,7 @@ opened_collection m key allowed adjacent new =
 
 pub saved_so : (x : Context) (a b : Bool) (n : ℕ) (m : Marker) (k j : Option Candidate)
     → (is_block x ≡ false → (j ≡ k) × (b ≡ a)) → is_block x ≡ false → saved b n m j ≡ saved a n m k
-saved_so x a b n m k j h e = let s = h e in ap (λ (q : Bool). saved q n m j) s.1 ∙ ap (saved a n m) s.0
+saved_so x a b n m k j h e = let s = h e in cc
 
 pub open_passes : (around : Around) (y : Context) → is_block y ≡ false → (kind : Kind) (ch : ℕ) → IsTokenMark ch
     → ((second i : ℕ) (c : Core) → step ch second i c ≡ flow.opening_steps y kind i c)
@@ -112,8 +112,7 @@ open_passes around y in_flow kind ch mark begins m o fits parted now low calm be
       key,
       saved_so now.context now.allowed v.allowed (length now.places) m now.key v.key v.same,
       step_passes next new (moved m (ch ∷ [])) o (kind ∷ []) (opened_collection
-          (moved m (ch ∷ []))) came (right_one around.indent m ch mark.feed fits.right)
-          (p.lands ∙ ap (λ (q : Marker). past around.indent q o) (mark_moved m ch mark))
+          (moved m (ch ∷ []))) came (right_one around.indent m ch mark.feed fits.right) (cc (mark_moved m ch mark))
           (fresh_in_flow y o true p.there in_flow) refl (
             (came.same in_flow, refl, one_on m ch now.adjacent before),
             (record { span = record { start = m; end = p.there.mark }; kind = kind }, refl),
@@ -221,19 +220,14 @@ close_passes around y flows ends kind ch mark begins m o fits found there is lan
     let here = mark_moved m ch mark in
     step_passes next new (moved m (ch ∷ [])) o (pending ends ++ kind ∷ [])
     (closed_collection around.indent x j (moved m (ch ∷ [])) o) came
-    (right_one around.indent m ch mark.feed fits.right)
-    (lands ∙ ap (λ (q : Marker). past around.indent q o) here) fresh (mark_kinds ends m there.mark kind)
-    (record {
+    (right_one around.indent m ch mark.feed fits.right) (cc) fresh (mark_kinds ends m there.mark kind) (record {
       keeps = came.same;
       kept = came.kept;
       near = λ e w more text parts blank.
-          rw e (ap (λ (q : Marker). q.index)
-          (one_place around.indent (cursor_at o (along m 1) false) found there is w more text parts
-          (le_next around.indent m.col fits.right) blank ∙ ap (λ (q : Marker). moved q w) here));
+          rw e (cc (one_place around.indent (cursor_at o (along m 1) false) found there is w more text parts
+          (le_next around.indent m.col fits.right) blank));
       low = either (is_block x) now.adjacent there.mark.index (past around.indent (moved m (ch ∷ [])) o).0.index
-          (one_behind around.indent m ch o now.adjacent before)
-          (subst (λ (q : Marker × List ℕ). there.mark.index ≤ q.0.index)
-          (lands ∙ ap (λ (q : Marker). past around.indent q o) here)
+          (one_behind around.indent m ch o now.adjacent before) (rw (lands, here) at
           (past_low around.indent there.mark there.rest));
     })
 
@@ -256,12 +250,8 @@ unfolding next_flow_entry
 next_entry_gives around d o m b y k ls a ad flows found there is =
     let c : Core = record (core_at around d (cursor_at o (along m 1) false) (behind_entry y) k ls true ad)
     { required = required_at around y } in
-    let same : required_at around y ≡ required_at around (behind_entry y) =
-    ap (λ (q : Bool). if q then around.pending else around.required) (flows ∙ sym (in_flow y flows)) in
-    ap (λ q. (q >>= λ (e : SkipTabs × Cursor). Ok (e.0, with_cursor e.1 c)) >>= λ (e : SkipTabs × Core). completed_step
-    (behind_pair (ends_pair y) m (up_to_here m tokens.FlowEntry e.1)) e.1) is
-    ∙ ap (λ (q : Bool). completed_step (behind_pair (ends_pair y) m (from_to m there.mark tokens.FlowEntry))
-    (record (core_at around d there (behind_entry y) k ls true ad) { required = q })) same
+    let same : required_at around y ≡ required_at around (behind_entry y) = cc (in_flow y flows) in
+    cc
 
 removes : (around : Around) (d : Bool) (o : List ℕ) (m : Marker) (b : Bool) (y : Context) (k : Option Candidate)
     (ls : List Level) (a : Bool) (ad : ℕ) → is_block y ≡ false
@@ -309,8 +299,7 @@ comma_passes around y flows m o fits parted now before text =
     (within_index around.indent around.limit p.there (along m 1) o p.lands (omega (arith, below))) in
     step_passes next new (moved m (44 ∷ [])) o (pending (ends_pair y)
     ++ tokens.FlowEntry ∷ []) (fresh_key (moved m (44 ∷ []))) came (right_one around.indent m 44 refl fits.right)
-    (p.lands ∙ ap (λ (q : Marker). past around.indent q o) (mark_moved m 44 comma_is_mark))
-    (fresh_in_flow (behind_entry y) o true p.there (in_flow y flows))
+    (cc (mark_moved m 44 comma_is_mark)) (fresh_in_flow (behind_entry y) o true p.there (in_flow y flows))
     (mark_kinds (ends_pair y) m p.there.mark tokens.FlowEntry)
     (came.same (in_flow y flows), refl, one_on m 44 now.adjacent before)
 
@@ -327,8 +316,8 @@ comma_behind around y z flows back m comma o (separation, parts, e) fits b now b
     let texts : comma ++ o ≡ 44 ∷ (separation ++ o) = ap (λ (t : List ℕ). t ++ o) e in
     let parted = parted_by around.indent separation o parts b in
     let here : past around.indent m (comma ++ o) ≡ (m, 44 ∷ (separation ++ o)) =
-    ap (past around.indent m) texts ∙ past_ink around.indent m 44 (separation ++ o) (end_ink 44 (inl refl)) in
-    let low : now.adjacent ≤ m.index = subst (λ (q : Marker × List ℕ). now.adjacent ≤ q.0.index) here before in
+    cc (past_ink around.indent m 44 (separation ++ o) (end_ink 44 (inl refl))) in
+    let low : now.adjacent ≤ m.index = rw here at before in
     let p = separation_joins (moved m (44 ∷ [])) separation o parts
     (comma_passes around y flows m (separation ++ o) f parted now low (text ∙ ap (past around.indent m) texts)) in
     let q = knowing p (fresh_key (moved m (44 ∷ separation)))
@@ -338,6 +327,4 @@ comma_behind around y z flows back m comma o (separation, parts, e) fits b now b
     let r = subst (λ (t : List ℕ). PassesPiece around start (fresh_key (moved m t)) (behind_entry y) now.outer
     now.places
     (moved m t) o ts) (sym e) q in
-    subst (λ (x : Context). PassesPiece around start (fresh_key (moved m comma)) x now.outer now.places (moved m comma)
-    o ts)
-    back r
+    rw back at r

@@ -70,8 +70,8 @@ ends_root around m e o h right =
       found = p.0;
       there = record { rest = h.more; mark = moved (along m 1) h.rest; blank_so_far = false };
       is = p.1;
-      lands = sym (ap (past around.indent (along m 1)) h.is
-          ∙ rest_past around.indent (along m 1) h.rest h.more h.line h.break (le_next around.indent m.col right));
+      lands = sym (cc (rest_past around.indent (along m 1) h.rest h.more h.line h.break
+          (le_next around.indent m.col right)));
       fresh = λ _ e. line_rest_crosses h.rest h.more h.line h.break (ap crosses (sym h.is) ∙ e);
     }
 
@@ -199,12 +199,11 @@ starts_with piece n key allowed adjacent new = ((others : List Place) × (new �
 
 all_told : (opens closes : Kind) (ts ends : List Kind)
     → ((opens ∷ []) ++ ts) ++ (ends ++ closes ∷ []) ≡ opens ∷ ((ts ++ ends) ++ closes ∷ [])
-all_told opens closes ts ends = ap (λ (x : List Kind). opens ∷ x) (sym (append_assoc ts ends (closes ∷ [])))
+all_told opens closes ts ends = cc (append_assoc ts ends (closes ∷ []))
 
 pub brackets_pass : (around : Around) (Is : List Kind → Type 0) (b : Brackets) → AreBrackets b
     → (m : Marker) (w inside o : List ℕ) → FitsAround around m (bracket_text b w inside) o
-    → IsSeparation around.indent w
-    → IsParted around.indent (w ++ (inside ++ (b.closing ∷ o)))
+    → IsSeparation around.indent w → IsParted around.indent (w ++ (inside ++ (b.closing ∷ o)))
     → (now : FlowMoment) → length now.outer < most_open → Calm around now.context → now.adjacent ≤ m.index
     → StandsBefore around now m (bracket_text b w inside ++ o)
     → (around.indent ≤ (moved (moved m (b.opening ∷ w)) inside).col

@@ -48,7 +48,7 @@ colon_place indent m o separation more is parts right =
     let lands = ap (past indent m) is ∙ separation_past indent m separation (58 ∷ more) parts right
     ∙ past_ink indent (moved m separation) 58 more
     (record { blank = refl; break = refl; comment = refl; byte_order_mark = refl }) in
-    ap (λ (p : Marker × List ℕ). p.0.index) lands
+    cc
 
 same_low : (a b : ℕ) → a ≡ b → a ≤ b
 same_low a b e = omega (arith, e)
@@ -67,16 +67,13 @@ follows_quotes : (around : Around) (start : Marker) (x : Context) (node : Node) 
 follows_quotes around start x node m o (follows_inside flow behind) right =
     flow_ends_quotes around node start m o x flow behind right
 follows_quotes around start x node m o (follows_outside is behind) right =
-    subst (EndsQuotes around start (mid_line m o)) (sym is) (root_ends_quotes around start m o behind right)
+    rw is (root_ends_quotes around start m o behind right)
 
 follows_plain : (around : Around) (x : Context) (node : Node) (m : Marker) (o : List ℕ) → ParsColon node
     → Follows around x node m o → around.indent ≤ m.col → EndsPlain (not (is_block x)) around.column m o
 follows_plain around x node m o apart (follows_inside flow behind) right =
-    subst (λ (f : Bool). EndsPlain f around.column m o) (sym (ap not flow))
-    (ends_in_flow around node m o apart behind right)
-follows_plain around x node m o apart (follows_outside is behind) right =
-    subst (λ (y : Context). EndsPlain (not (is_block y)) around.column m o) (sym is)
-    (ends_at_root around m o behind right)
+    rw flow (ends_in_flow around node m o apart behind right)
+follows_plain around x node m o apart (follows_outside is behind) right = rw is (ends_at_root around m o behind right)
 
 -- ## Scalars
 
@@ -117,8 +114,7 @@ quotes_pass reads around node quote value t o m now h fits follows low text =
 
 -- a plain scalar, or a key before its colon
 plains_pass : {around : Around} {p : Properties} {value t o : List ℕ} {m : Marker} {now : FlowMoment}
-    → value ≡ plain_value t → PassesPlain around now m t o
-    → (FitsAround around m t o → around.indent ≤ (moved m t).col)
+    → value ≡ plain_value t → PassesPlain around now m t o → (FitsAround around m t o → around.indent ≤ (moved m t).col)
     → PassesContent around (Scalar p Plain value) Plain value t o m now
 plains_pass {around} {p} {value} {t} {o} {m} {now} stands passes reaches fits follows low text =
     let node = Scalar p Plain value in
@@ -128,7 +124,7 @@ plains_pass {around} {p} {value} {t} {o} {m} {now} stands passes reaches fits fo
     (follows_quotes around m now.context node end o follows right).inked low.1 text in
     record {
       tokens = scalar_token Plain (plain_value t) ∷ [];
-      are = ap (λ (v : List ℕ). scalar_token Plain v ∷ []) (sym stands);
+      are = cc;
       comment = plain_comment around now m t o;
       none = λ e. no_comment (not (is_block now.context)) (is_tabbed around.column o) (past_white end false o)
           (ap not e);

@@ -34,7 +34,7 @@ blanks_white (c ∷ cs) h = blank_white c h.0
 behind_white : (w comment more : List ℕ) → BeginsWhite w → IsCommentBehind w comment → BeginsWhite more
     → BeginsWhite (w ++ (comment ++ more))
 behind_white (c ∷ cs) comment more h k g = h
-behind_white [] comment more h (inl e) g = subst (λ (y : List ℕ). BeginsWhite (y ++ more)) (sym e) g
+behind_white [] comment more h (inl e) g = rw e g
 behind_white [] comment more h (inr k) g = absurd (k.0 refl)
 
 two_white : (a b : List ℕ) → BeginsWhite a → BeginsWhite b → BeginsWhite (a ++ b)
@@ -42,22 +42,18 @@ two_white [] b h k = k
 two_white (c ∷ cs) b h k = h
 
 separation_line_white : (indent : ℕ) (w : List ℕ) → IsSeparationLine indent w → BeginsWhite w
-separation_line_white indent w h = subst BeginsWhite (sym h.6)
+separation_line_white indent w h = rw h.6
     (behind_white h.0 h.1 (10 ∷ (h.2 ++ spaces indent)) (blanks_white h.0 h.3) h.4 refl)
 
 pub separation_white : (indent : ℕ) (w : List ℕ) → IsSeparation indent w → BeginsWhite w
-separation_white indent w h =
-    subst BeginsWhite (sym h.4)
-    (two_white h.0 h.1 (subst BeginsWhite (sym h.2.2) (pieces h.2.0 h.2.1)) (blanks_white h.1 h.3))
+separation_white indent w h = rw h.4 (two_white h.0 h.1 (rw h.2.2 (pieces h.2.0 h.2.1)) (blanks_white h.1 h.3))
   where
     pieces : (ws : List (List ℕ)) → AreEach (IsSeparationLine indent) ws → BeginsWhite (joined_pieces ws)
     pieces [] k = tt
     pieces (v ∷ vs) k = two_white v (joined_pieces vs) (separation_line_white indent v k.0) (pieces vs k.1)
 
 rest_white : (rest more : List ℕ) → IsLineRest rest → BeginsWhite more → BeginsWhite (rest ++ more)
-rest_white rest more h k =
-    subst BeginsWhite (sym (ap (λ (y : List ℕ). y ++ more) h.4 ∙ append_assoc h.0 h.1 more))
-    (behind_white h.0 h.1 more (blanks_white h.0 h.2) h.3 k)
+rest_white rest more h k = rw (h.4, append_assoc h.0 h.1 more) (behind_white h.0 h.1 more (blanks_white h.0 h.2) h.3 k)
 
 -- ## The first character after a node
 
@@ -71,8 +67,7 @@ first_white (c ∷ cs) h = white_breakz c h
 -- after a document's node: a blank, a break or the end
 pub root_first : (around : Around) (m : Marker) (o : List ℕ) → IsBehindRoot around m o
     → IsTrue (is_blank_or_breakz (slice_index o 0))
-root_first around m o h =
-    first_white o (subst BeginsWhite (sym h.is) (rest_white h.rest h.more h.line (ends h.more h.break)))
+root_first around m o h = first_white o (rw h.is (rest_white h.rest h.more h.line (ends h.more h.break)))
   where
     feed : (c : ℕ) → c ≡ line_feed → IsTrue (is_blank_or_break c)
     feed c e = rw e refl
@@ -113,9 +108,7 @@ behind_node_first indent node o h = by_separation h.separation h.is h.parts h.en
     by_separation : (w : List ℕ) → o ≡ w ++ (h.first ∷ h.others) → IsSeparation indent w
         → EndsNode node w h.first h.others → EndsHere node (slice_index o 0)
     by_separation [] is parts k = subst (λ (y : List ℕ). EndsHere node (slice_index y 0)) (sym is) (ends k)
-    by_separation (c ∷ cs) is parts k =
-        subst (λ (y : List ℕ). EndsHere node (slice_index y 0)) (sym is)
-        (inl (white_breakz c (separation_white indent (c ∷ cs) parts)))
+    by_separation (c ∷ cs) is parts k = rw is (inl (white_breakz c (separation_white indent (c ∷ cs) parts)))
 
 -- ## What it ends
 
@@ -158,6 +151,6 @@ node_ends_tag indent node o needs h = by_first (slice_index o 0) (behind_node_fi
 pub follows_tag : (around : Around) (x : Context) (node : Node) (m : Marker) (o : List ℕ) → needs_separation node ≡ true
     → Follows around x node m o → EndsTag (not (is_block x)) o
 follows_tag around x node m o apart (follows_inside flow behind) =
-    subst (λ (f : Bool). EndsTag f o) (sym (ap not flow)) (node_ends_tag around.indent node o apart behind)
+    rw flow (node_ends_tag around.indent node o apart behind)
 follows_tag around x node m o apart (follows_outside is behind) =
     white_ends_tag (not (is_block x)) o (root_first around m o behind)

@@ -52,9 +52,7 @@ ended_behind : {around : Around} {start : Bool → State} {x : Context} {ls : Li
     → PassesPiece around start (ended around.indent (moved m w) o) x ls ps (moved m w) o ts
 ended_behind {around = around} m w o parts p =
     let q = separation_joins m w o parts p in
-    knowing q (ended around.indent (moved m w) o)
-    (subst (λ (r : Marker × List ℕ). q.adjacent ≤ r.0.index) (separation_past around.indent m w o parts p.right)
-    q.knows)
+    knowing q (ended around.indent (moved m w) o) (rw (separation_past around.indent m w o parts p.right) at q.knows)
 
 before_separation : {around : Around} {inner : Context} (room : ℕ) {Text : List ℕ → Type 0} {Is : List Kind → Type 0}
     → PassesText around inner room Text Is → PassesEntry around inner room (IsBeforeSeparation Text around.indent) Is
@@ -67,8 +65,7 @@ before_separation {around} {inner} room {Is = Is} passes m t c cs fits ends (pie
     before (text ∙ ap (past around.indent m) texts) in
     let start = state_at around (moment_in inner now) in
     subst (λ (k : Marker). InsidePasses around start inner Is now.outer now.places k (c ∷ cs))
-    (sym (moved_append m piece w) ∙ ap (moved m) (sym e))
-    (record {
+    (cc (moved_append m piece w)) (record {
       inside = p.inside;
       flows = p.flows;
       back = p.back;
@@ -86,7 +83,7 @@ in_mapping {Is = Is} p = record {
   flows = refl;
   back = refl;
   tokens = p.tokens;
-  are = subst Is (sym (append-nil p.tokens)) p.are;
+  are = rw (append-nil p.tokens) p.are;
   passes = p.passes;
 }
 
@@ -165,7 +162,7 @@ node_item_passes {around} room node N =
       flows = refl;
       back = refl;
       tokens = n.tokens;
-      are = inl (subst (grammar.YieldsNode node grammar.InFlow) (sym (append-nil n.tokens)) n.are);
+      are = inl (rw (append-nil n.tokens) n.are);
       passes = knowing n.passes (ended around.indent (moved m t) o) n.passes.knows.low;
     })
 
@@ -186,9 +183,7 @@ between key value t h = inl (
 
 same_line : (m : Marker) (node blanks : List ℕ) → IsOnLine node → AreIn is_blank blanks
     → m.line ≡ (moved (moved m node) blanks).line
-same_line m node blanks h are =
-    ap (λ (k : Marker). k.line)
-    (sym (blanks_moved (moved m node) blanks are ∙ ap (λ (k : Marker). along k (length blanks)) (moved_along m node h)))
+same_line m node blanks h are = cc (blanks_moved (moved m node) blanks are, moved_along m node h)
 
 single_text_passes : {around : Around} (room : ℕ) (key value : Node) → PassesNode around room key
     → PassesNode around room value → PassesText around context.FlowSequence room
@@ -224,7 +219,7 @@ single_text_passes {around} room key value K V m t o fits ends (inr (inr h)) now
       flows = refl;
       back = refl;
       tokens = p.tokens;
-      are = inr (refl, subst (MarkedTokens key value) (sym (append-nil p.tokens)) p.are);
+      are = inr (refl, rw (append-nil p.tokens) p.are);
       passes = p.passes;
     }
 
@@ -241,7 +236,7 @@ single_passes room key value K V m t c cs fits ends (inl h) now no_candidate fre
       flows = refl;
       back = refl;
       tokens = p.tokens;
-      are = inr (refl, subst (MarkedTokens key value) (sym (append-nil p.tokens)) p.are);
+      are = inr (refl, rw (append-nil p.tokens) p.are);
       passes = p.passes;
     }
 single_passes room key value K V m t c cs fits ends (inr h) now no_candidate fresh low before text =

@@ -97,7 +97,7 @@ behind_front reads around p Is allows m front c o (inl (none, is)) fits now text
     let r = pass m refl (not_more m.index) f now refl refl refl z in
     record {
       tokens = r.tokens;
-      are = ([], r.tokens, subst (λ (q : Properties). grammar.YieldProperties q []) (sym none) refl, r.are, refl);
+      are = ([], r.tokens, rw none refl, r.are, refl);
       comment = r.comment;
       none = r.none;
       passes = r.passes;

@@ -20,7 +20,7 @@ pub record GapCases (column : ℕ) (P : Marker → List ℕ → Marker × List �
   pub line : (m : Marker) (c : ℕ) (cs : List ℕ) (r : Marker × List ℕ) → P (next_line m 1) cs r → P m (c ∷ cs) r
 
 pub no_left : (column : ℕ) (m : Marker) (c : ℕ) → is_blank c ≡ false → is_left_tab column m c ≡ false
-no_left column m c h = ap (λ (b : Bool). b && nat_lt m.col column) (no_tab c h)
+no_left column m c h = cc (no_tab c h)
   where
     no_tab : (c : ℕ) → is_blank c ≡ false → (c == tab) ≡ false
     no_tab c h = grind (arith, nat_tests)
@@ -59,7 +59,7 @@ over_steps column P steps =
   where
     stays : (m : Marker) (c : ℕ) (cs : List ℕ) → past column m (c ∷ cs) ≡ (m, c ∷ cs)
         → P m (c ∷ cs) (past column m (c ∷ cs))
-    stays m c cs still = subst (P m (c ∷ cs)) (sym still) (steps.stays m (c ∷ cs) still)
+    stays m c cs still = rw still (steps.stays m (c ∷ cs) still)
 
 pub by_steps : (column : ℕ) (P : Marker → List ℕ → Marker × List ℕ → Type 0) → GapCases column P
     → (m : Marker) (t : List ℕ) → P m t (past column m t)

@@ -67,7 +67,7 @@ mutual
 -- ## No column is left of the first
 
 pub none_left : (m : Marker) (c : ℕ) → is_left_tab 0 m c ≡ false
-none_left m c = ap (λ (b : Bool). (c == 9) && b) (no_less m.col) ∙ none (c == 9)
+none_left m c = cc (no_less m.col, none (c == 9))
   where
     no_less : (n : ℕ) → nat_lt n 0 ≡ false
     no_less n = grind (arith, nat_tests)

@@ -56,7 +56,7 @@ stop_blank column m c cs h = tab_blank column m c (and_true_left (is_left_tab co
 
 feed_rest : (cs : List ℕ) → (slice_index cs 0 == line_feed) ≡ true → is_filler_rest cs ≡ true
 feed_rest [] e = refl
-feed_rest (c ∷ cs) e = subst (λ (z : ℕ). is_filler_rest (z ∷ cs) ≡ true) (sym (feed c e)) refl
+feed_rest (c ∷ cs) e = rw (feed c e) refl
   where
     feed : (c : ℕ) → (c == line_feed) ≡ true → c ≡ line_feed
     feed c e = grind (arith, nat_tests)

@@ -161,10 +161,9 @@ properties_ink p indent t h = inked t (properties_begin p indent t h)
 -- properties and what comes after them, or that alone
 front_begins : (indent : ℕ) (p : Properties) (front t o : List ℕ) → IsBeforeContent p indent front → t ≡ front ++ o
     → Begins o → Begins t
-front_begins indent p front t o (inl (none, e)) is b = subst Begins (sym (is ∙ ap (λ (x : List ℕ). x ++ o) e)) b
+front_begins indent p front t o (inl (none, e)) is b = rw (is, e) b
 front_begins indent p front t o (inr (properties, separation, h, some, parts, e)) is b =
-    begins_front properties t (separation ++ o)
-    (is ∙ ap (λ (x : List ℕ). x ++ o) e ∙ append_assoc properties separation o)
+    begins_front properties t (separation ++ o) (cc (append_assoc properties separation o))
     (properties_begin p indent properties h)
 
 -- ## Scalars

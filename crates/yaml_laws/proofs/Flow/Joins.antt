@@ -35,7 +35,7 @@ join {ps = ps} {ts = ts} {us = us} p q all knows =
       right = q.right;
       fits = q.fits;
       fresh = q.fresh;
-      are = place_kinds_append p.new q.new ∙ ap (λ x. x ++ place_kinds q.new) p.are ∙ ap (λ x. ts ++ x) q.are;
+      are = cc (place_kinds_append p.new q.new);
       knows = knows;
     }
 
@@ -53,8 +53,7 @@ since_join k m a w b j key f (inr (inl e)) = earlier f
           front,
           back ++ (w ++ b),
           place,
-          ap (λ (x : List ℕ). x ++ (w ++ b)) is
-              ∙ append_assoc front back (w ++ b),
+          cc (append_assoc front back (w ++ b)),
           e ∙ g,
         ))
 since_join k m a w b j key f (inr (inr (front, back, place, is, g))) =
@@ -64,9 +63,8 @@ since_join k m a w b j key f (inr (inr (front, back, place, is, g))) =
       a ++ (w ++ front),
       back,
       place,
-      ap (λ (x : List ℕ). a ++ (w ++ x)) is ∙ ap (λ (x : List ℕ). a ++ x) (sym (append_assoc w front back))
-          ∙ sym (append_assoc a (w ++ front) back),
-      g ∙ ap (λ (n : Marker). Some (let c : Candidate = record { mark = n; place = place } in c)) here,
+      cc (append_assoc w front back, append_assoc a (w ++ front) back),
+      cc,
     ))
 
 -- the separation after a piece
@@ -151,8 +149,7 @@ token_node {around = around} {now} {m = m} {t} {o} allows never low q still =
       keeps = q.knows.keeps;
       since = q.knows.since;
       near = λ _ w more is parts may. absurd (false≢true (sym (never w) ∙ may));
-      low = subst (λ (n : ℕ). n ≤ (past around.indent (moved m t) o).0.index) (sym still)
-          (behind_low around.indent now.adjacent m t o low);
+      low = rw still (behind_low around.indent now.adjacent m t o low);
     })
 
 -- one step

@@ -39,8 +39,7 @@ pub record IsMarked (y z : Context) : Type 0 where
 -- the `?` and the separation after it
 mark_behind : (around : Around) (y z : Context) → IsMarked y z → (m : Marker) (separation o : List ℕ)
     → FitsAround around m (question_mark ∷ separation) o → IsBehindMark around.indent separation
-    → (first : ℕ) (others : List ℕ)
-    → o ≡ first ∷ others → IsInk first → (now : FlowMoment) → now.adjacent ≤ m.index
+    → (first : ℕ) (others : List ℕ) → o ≡ first ∷ others → IsInk first → (now : FlowMoment) → now.adjacent ≤ m.index
     → StandsBefore around now m (question_mark ∷ (separation ++ o))
     → PassesPiece around (state_at around (moment_in y now)) (no_key (moved m (question_mark ∷ separation))) z now.outer
     now.places
@@ -51,8 +50,7 @@ mark_behind around y z c m separation o fits (some, parts, tabs) first others is
     let p = mark_passes around y c.flows m (separation ++ o) f parted some tabs now before text in
     let start = state_at around (moment_in y now) in
     let q = separation_joins (moved m (63 ∷ [])) separation o parts p in
-    subst (λ (x : Context). PassesPiece around start (no_key (moved m (63 ∷ separation))) x now.outer now.places
-    (moved m (63 ∷ separation)) o (tokens.Key ∷ [])) c.question (knowing q (no_key (moved m (63 ∷ separation)))
+    rw c.question at (knowing q (no_key (moved m (63 ∷ separation)))
     (q.knows.0, q.knows.1, less_on q.adjacent (moved m (63 ∷ [])) separation q.knows.2))
 
 -- ## A key, a value or both after the mark
@@ -93,8 +91,7 @@ InsideTokens key value t = MarkedTokens key value (tokens.Key ∷ t)
 
 inside_passes : {around : Around} (room : ℕ) (key value : Node) → PassesNode around room key
     → PassesNode around room value → (y z : Context) → IsMarked y z → (m : Marker) (t o : List ℕ)
-    → FitsAround around m t o
-    → IsBehindEntry around.indent o → Inside around.indent room key value t
+    → FitsAround around m t o → IsBehindEntry around.indent o → Inside around.indent room key value t
     → (now : FlowMoment) → now.key ≡ None → now.allowed ≡ false
     → room + length now.outer ≤ most_open → now.adjacent < m.index → StandsBefore around now m (t ++ o)
     → TellsPiece around (state_at around (moment_in z now)) (InsideTokens key value) z now.outer now.places (moved m t)
@@ -116,12 +113,8 @@ inside_passes {around} room key value K V y z c m t o fits ends (inr (inl h)) no
       tokens.Value ∷ vs,
       ([], inl (h.0, refl), refl),
       (vs, are, refl),
-      ap (λ (x : List Kind). tokens.Key ∷ x)
-          (is ∙ ap (λ (b : Bool). alone_kinds b ++ (tokens.Value ∷ vs)) c.no_pair),
-    ))
-    (subst (λ (x : Context). TellsPiece around start (AloneTokens (alone_kinds (begins_pair z)) value) x now.outer
-    now.places
-    (moved m t) o) c.colon v)
+      cc,
+    )) (rw c.colon at v)
 inside_passes {around} room key value K V y z c m t o fits ends (inr (inr h)) now no_candidate none_allowed
     low before text =
     let start = state_at around (moment_in z now) in
@@ -135,18 +128,14 @@ inside_passes {around} room key value K V y z c m t o fits ends (inr (inr h)) no
       (ks, inr are, refl),
       (vs, others, refl),
       ap (λ (x : List Kind). tokens.Key ∷ x) is,
-    ))
-    (subst (λ (x : Context). TellsPiece around start (PairTokens [] key value) x now.outer now.places (moved m t) o)
-    c.colon
-    v)
+    )) (rw c.colon at v)
 
 -- a `?` with a key, a value or both
 pub explicit_passes : {around : Around} (room : ℕ) (key value : Node) → PassesNode around room key
     → PassesNode around room value → (y z : Context) → IsMarked y z → (m : Marker) (t o : List ℕ)
     → FitsAround around m t o → IsBehindEntry around.indent o
     → IsExplicitPair key value (IsFlowNode room key true around.indent) (IsFlowNode room value true around.indent)
-    around.indent t
-    → (now : FlowMoment) → room + length now.outer ≤ most_open → now.adjacent < m.index
+    around.indent t → (now : FlowMoment) → room + length now.outer ≤ most_open → now.adjacent < m.index
     → StandsBefore around now m (t ++ o)
     → TellsPiece around (state_at around (moment_in y now)) (MarkedTokens key value) z now.outer now.places (moved m t)
     o
@@ -154,16 +143,13 @@ explicit_passes {around} room key value K V y z c m t o fits ends (separation, p
     let b = inside_begins around.indent room key value pair h in
     let is : t ≡ (63 ∷ separation) ++ pair = e in
     let whole = fits_so m t ((63 ∷ separation) ++ pair) o is fits in
-    let texts : t ++ o ≡ 63 ∷ (separation ++ (pair ++ o)) = ap (λ (x : List ℕ). x ++ o) is
-    ∙ append_assoc (63 ∷ separation) pair o in
+    let texts : t ++ o ≡ 63 ∷ (separation ++ (pair ++ o)) = cc (append_assoc (63 ∷ separation) pair o) in
     let p = mark_behind around y z c m separation (pair ++ o) (fits_front m (63 ∷ separation) pair o whole) mark b.first
     (b.others ++ o) (ap (λ (x : List ℕ). x ++ o) b.is) b.ink now
     (omega (arith, before)) (text ∙ ap (past around.indent m) texts) in
     let q = inside_passes room key value K V y z c (moved m (63 ∷ separation)) pair o
     (fits_back m (63 ∷ separation) pair o p.right whole) ends h (after p) p.knows.0 p.knows.1 low p.knows.2 p.fits in
-    told_at (moved (moved m (63 ∷ separation)) pair) (moved m t)
-    (sym (moved_append m (63 ∷ separation) pair) ∙ ap (moved m) (sym is))
-    (record {
+    told_at (moved (moved m (63 ∷ separation)) pair) (moved m t) (cc (moved_append m (63 ∷ separation) pair)) (record {
       tokens = tokens.Key ∷ q.tokens;
       are = q.are;
       passes = join p q.passes (ended around.indent (moved (moved m (63 ∷ separation)) pair) o) q.passes.knows;
@@ -181,8 +167,7 @@ pub lone_passes : {around : Around} (key value : Node) (y z : Context) → IsMar
     (c ∷ cs)
 lone_passes {around} key value y z q m t c cs fits ends (separation, no_key_there, none, mark, e) now before text =
     let p = mark_behind around y z q m separation (c ∷ cs) (fits_so m t (63 ∷ separation) (c ∷ cs) e fits) mark c cs
-    refl (end_ink c ends) now (omega (arith, before))
-    (text ∙ ap (λ (x : List ℕ). past around.indent m (x ++ (c ∷ cs))) e) in
+    refl (end_ink c ends) now (omega (arith, before)) (cc) in
     told_at (moved m (63 ∷ separation)) (moved m t) (ap (moved m) (sym e))
     (record {
       tokens = tokens.Key ∷ [];

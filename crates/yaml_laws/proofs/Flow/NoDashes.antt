@@ -14,18 +14,17 @@ abbrev pub NoDash : List ℕ → Type 0
 NoDash y = ((slice_index y 0 == hyphen) && is_blank_or_breakz (slice_index y 1)) ≡ false
 
 no_dash_front : (a b t : List ℕ) → t ≡ a ++ b → ((o : List ℕ) → NoDash (a ++ o)) → (o : List ℕ) → NoDash (t ++ o)
-no_dash_front a b t e h o =
-    subst NoDash (sym (ap (λ (x : List ℕ). x ++ o) e ∙ append_assoc a b o)) (h (b ++ o))
+no_dash_front a b t e h o = rw (e, append_assoc a b o) (h (b ++ o))
 
 -- ## Properties
 
 anchor_no_dash : (name t : List ℕ) → IsAnchor name t → (o : List ℕ) → NoDash (t ++ o)
-anchor_no_dash name t h o = subst (λ (x : List ℕ). NoDash (x ++ o)) (sym h.1) refl
+anchor_no_dash name t h o = rw h.1 refl
 
 tag_no_dash : (tag : Tag) (t : List ℕ) → IsTag tag t → (o : List ℕ) → NoDash (t ++ o)
 tag_no_dash tag t h o =
     let r = tag_read tag t h in
-    subst (λ (x : List ℕ). NoDash (x ++ o)) (sym (tag_first t r.handle r.suffix r.is).1) refl
+    rw (tag_first t r.handle r.suffix r.is).1 refl
 
 properties_no_dash : (indent : ℕ) (anchor : Option (List ℕ)) (tag : Option Tag) (t : List ℕ)
     → AreProperties anchor tag indent t → (o : List ℕ) → NoDash (t ++ o)
@@ -39,8 +38,7 @@ properties_no_dash indent (Some name) (Some tag) t (a, gap, w, h, k, gapped, inr
 
 before_no_dash : (p : Properties) (indent : ℕ) (front b t : List ℕ) → IsBeforeContent p indent front → t ≡ front ++ b
     → ((o : List ℕ) → NoDash (b ++ o)) → (o : List ℕ) → NoDash (t ++ o)
-before_no_dash p indent front b t (inl (none, empty)) e h o =
-    subst (λ (x : List ℕ). NoDash (x ++ o)) (sym (e ∙ ap (λ (x : List ℕ). x ++ b) empty)) (h o)
+before_no_dash p indent front b t (inl (none, empty)) e h o = rw (e, empty) (h o)
 before_no_dash p indent front b t (inr (properties, separation, g, some, parts, is)) e h o =
     no_dash_front front b t e
     (no_dash_front properties separation front is (properties_no_dash indent p.anchor p.tag properties g)) o
@@ -51,16 +49,15 @@ scalar_no_dash : (indent : ℕ) (style : Style) (value : List ℕ) (in_flow : Bo
     → IsFlowScalar style value in_flow indent t → (o : List ℕ) → NoDash (t ++ o)
 scalar_no_dash indent Plain value in_flow t h o =
     let w = word_begins in_flow indent t o h.0 in
-    subst (λ (x : List ℕ). NoDash (x ++ o)) (sym w.is)
-    (lone_test in_flow w.first 45 (slice_index (w.others ++ o) 0) (λ e. w.further (inl e)))
-scalar_no_dash indent SingleQuoted value in_flow t h o = subst (λ (x : List ℕ). NoDash (x ++ o)) (sym h.5) refl
-scalar_no_dash indent DoubleQuoted value in_flow t h o = subst (λ (x : List ℕ). NoDash (x ++ o)) (sym h.5) refl
+    rw w.is (lone_test in_flow w.first 45 (slice_index (w.others ++ o) 0) (λ e. w.further (inl e)))
+scalar_no_dash indent SingleQuoted value in_flow t h o = rw h.5 refl
+scalar_no_dash indent DoubleQuoted value in_flow t h o = rw h.5 refl
 scalar_no_dash indent Literal value in_flow t h o = absurd h
 scalar_no_dash indent Folded value in_flow t h o = absurd h
 
 pub node_no_dash : (indent room : ℕ) (node : Node) (in_flow : Bool) (t o : List ℕ)
     → IsFlowNode room node in_flow indent t → NoDash (t ++ o)
-node_no_dash indent room (Alias name) in_flow t o h = subst (λ (x : List ℕ). NoDash (x ++ o)) (sym h.1) refl
+node_no_dash indent room (Alias name) in_flow t o h = rw h.1 refl
 node_no_dash indent room (Scalar p style value) in_flow t o (inl h) =
     properties_no_dash indent p.anchor p.tag t h.2 o
 node_no_dash indent room (Scalar p style value) in_flow t o (inr (front, content, f, s, e)) =

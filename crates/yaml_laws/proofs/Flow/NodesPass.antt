@@ -29,13 +29,7 @@ passes_inside : {around : Around} {node : Node} {m : Marker} {t o : List ℕ} (r
     → NodePasses around now node m t o
 passes_inside {around} {node} {m} {t} {o} room passes fits behind now low flow small text =
     let r = passes now flow small fits (follows_inside flow behind) (weaker now.adjacent m.index low, inr low) text in
-    record {
-      tokens = r.tokens;
-      are = r.are grammar.InFlow;
-      passes = subst (λ (c : Option Marker). PassesNoting c around (state_at around now)
-          (after_node around.indent now.context (keeping now m t) (allows_adjacent node) (moved m t) o) now.context
-          now.outer now.places (moved m t) o r.tokens) (r.none flow) r.passes;
-    }
+    record { tokens = r.tokens; are = r.are grammar.InFlow; passes = rw (r.none flow) at r.passes }
 
 -- ## All nodes
 
@@ -45,12 +39,9 @@ mutual
       passes_inside room (λ now flow small. alias_passes reads around name m t o now h)
   nodes_pass reads around room (Alias name) m t o (inr h) = absurd h.0
   nodes_pass reads around room (Scalar p style value) m t o (inl h) =
-      passes_inside room (λ now flow small. scalar_passes reads around p style value m t o now
-      (subst (λ (f : Bool). IsScalarNode p style value f around.indent t) (sym (ap not flow)) h))
+      passes_inside room (λ now flow small. scalar_passes reads around p style value m t o now (rw flow h))
   nodes_pass reads around room (Scalar p style value) m t o (inr (h, (r, e))) =
-      passes_inside room (λ now flow small. subst (λ (y : List ℕ). ReadsText around (Scalar p style value) m t y now)
-      (sym e) (key_node_passes reads around p style value t r m now
-      (subst (λ (f : Bool). IsPlainKeyNode (Scalar p style value) f around.indent t) (sym (ap not flow)) h)))
+      passes_inside room (λ now flow small. rw e (key_node_passes reads around p style value t r m now (rw flow h)))
   nodes_pass reads around room (Seq p nodes) m t o (inl h) =
       passes_inside room (λ now flow small. collection_passes reads
       (reads_sequence around p nodes (λ left. all_items_pass reads around left nodes)) room m t o now h small
@@ -111,7 +102,7 @@ pub mapping_read : ReaderPromises → (around : Around) (p : Properties) (pairs 
 mapping_read reads around p pairs = reads_mapping around p pairs (λ left. all_pairs_pass reads around left pairs)
 
 all_room : (ls : List Level) → ls ≡ [] → most_open + length ls ≤ most_open
-all_room ls e = subst (λ (z : List Level). most_open + length z ≤ most_open) (sym e) (omega arith)
+all_room ls e = rw e (omega arith)
 
 -- at block level, where no key is required
 pub nodes_close : ReaderPromises → (around : Around) → around.required ≡ false → (node : Node) (m : Marker)
@@ -119,8 +110,7 @@ pub nodes_close : ReaderPromises → (around : Around) → around.required ≡ f
     → now.context ≡ context.Block → now.outer ≡ [] → ReadsText around node m t o now
 nodes_close reads around none_required (Alias name) m t o h now is none = alias_passes reads around name m t o now h
 nodes_close reads around none_required (Scalar p style value) m t o h now is none =
-    scalar_passes reads around p style value m t o now
-    (subst (λ (x : Context). IsScalarNode p style value (not (is_block x)) around.indent t) (sym is) h)
+    scalar_passes reads around p style value m t o now (rw is h)
 nodes_close reads around none_required (Seq p nodes) m t o h now is none =
     λ fits. collection_passes reads (sequence_read reads around p nodes) most_open m t o now h (all_room now.outer none)
     (λ _. fits.calm ∙ sym none_required) fits

@@ -20,7 +20,7 @@ pub fits_front : {around : Around} (m : Marker) (a b o : List ℕ) → FitsAroun
 fits_front {around} m a b o h =
     record {
       clear = clear_front m a b o h.clear;
-      below = subst (λ (t : List ℕ). m.index + length t ≤ around.limit) (append_assoc a b o) h.below;
+      below = rw (append_assoc a b o) at h.below;
       right = h.right;
       calm = h.calm;
     }
@@ -28,18 +28,17 @@ fits_front {around} m a b o h =
 pub fits_back : {around : Around} (m : Marker) (a b o : List ℕ) → around.indent ≤ (moved m a).col
     → FitsAround around m (a ++ b) o → FitsAround around (moved m a) b o
 fits_back {around} m a b o right h =
-    let whole : m.index + length (a ++ (b ++ o)) ≤ around.limit =
-    subst (λ (t : List ℕ). m.index + length t ≤ around.limit) (append_assoc a b o) h.below in
+    let whole : m.index + length (a ++ (b ++ o)) ≤ around.limit = rw (append_assoc a b o) at h.below in
     let count = moved_count m a (b ++ o) in
     record { clear = clear_back m a b o h.clear; below = omega (arith, whole, count); right = right; calm = h.calm }
 
 pub fits_so : {around : Around} (m : Marker) (p q o : List ℕ) → p ≡ q → FitsAround around m p o
     → FitsAround around m q o
-fits_so {around} m p q o e h = subst (λ (t : List ℕ). FitsAround around m t o) e h
+fits_so {around} m p q o e h = rw e at h
 
 pub fits_before : {around : Around} (m : Marker) (p o q : List ℕ) → o ≡ q → FitsAround around m p o
     → FitsAround around m p q
-fits_before {around} m p o q e h = subst (FitsAround around m p) e h
+fits_before {around} m p o q e h = rw e at h
 
 -- ## What comes after
 
@@ -65,11 +64,9 @@ behind_so f h =
     }
 
 pub end_ink : (c : ℕ) → EndsEntry c → IsInk c
-end_ink c (inl e) = subst IsInk (sym e) (record { blank = refl; break = refl; comment = refl; byte_order_mark = refl })
-end_ink c (inr (inl e)) =
-    subst IsInk (sym e) (record { blank = refl; break = refl; comment = refl; byte_order_mark = refl })
-end_ink c (inr (inr e)) =
-    subst IsInk (sym e) (record { blank = refl; break = refl; comment = refl; byte_order_mark = refl })
+end_ink c (inl e) = rw e (record { blank = refl; break = refl; comment = refl; byte_order_mark = refl })
+end_ink c (inr (inl e)) = rw e (record { blank = refl; break = refl; comment = refl; byte_order_mark = refl })
+end_ink c (inr (inr e)) = rw e (record { blank = refl; break = refl; comment = refl; byte_order_mark = refl })
 
 pub entry_behind : (indent : ℕ) (node : Node) (o : List ℕ) → IsBehindEntry indent o → IsBehindNode indent node o
 entry_behind indent node o h = behind_so by_end h
@@ -106,24 +103,23 @@ white_ends c (inl h) = blank c h
     blank : (c : ℕ) → is_blank c ≡ true
         → (is_blank_or_breakz c || (c == comma) || (c == right_bracket) || (c == right_brace)) ≡ true
     blank c h = grind (arith, nat_tests)
-white_ends c (inr e) = subst (λ (z : ℕ). IsTrue (ends_colon z)) (sym e) refl
+white_ends c (inr e) = rw e refl
 
 -- after separation that is not empty
 pub white_ends_colon : (indent : ℕ) (w y : List ℕ) → IsSeparation indent w → w ≢ []
     → IsTrue (ends_colon (slice_index (w ++ y) 0))
 white_ends_colon indent w y parts some =
     let b = separation_begins indent w parts some in
-    subst (λ (t : List ℕ). IsTrue (ends_colon (slice_index (t ++ y) 0))) (sym b.is) (white_ends b.first b.white)
+    rw b.is (white_ends b.first b.white)
 
 -- where nothing comes after a colon
 pub entry_ends_colon : (indent : ℕ) (o : List ℕ) → IsBehindEntry indent o → IsTrue (ends_colon (slice_index o 0))
-entry_ends_colon indent o h =
-    subst (λ (t : List ℕ). IsTrue (ends_colon (slice_index t 0))) (sym h.is) (by_separation h.separation h.parts)
+entry_ends_colon indent o h = rw h.is (by_separation h.separation h.parts)
   where
     end : (c : ℕ) → EndsEntry c → IsTrue (ends_colon c)
-    end c (inl e) = subst (λ (z : ℕ). IsTrue (ends_colon z)) (sym e) refl
-    end c (inr (inl e)) = subst (λ (z : ℕ). IsTrue (ends_colon z)) (sym e) refl
-    end c (inr (inr e)) = subst (λ (z : ℕ). IsTrue (ends_colon z)) (sym e) refl
+    end c (inl e) = rw e refl
+    end c (inr (inl e)) = rw e refl
+    end c (inr (inr e)) = rw e refl
 
     some : (c : ℕ) (cs : List ℕ) → (c ∷ cs) ≢ []
     some c cs e = cc

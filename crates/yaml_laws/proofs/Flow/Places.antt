@@ -54,8 +54,7 @@ moved_along m (c ∷ cs) h =
 -- what is right of a column goes on there
 pub right_along : (column : ℕ) (m : Marker) (p : List ℕ) → AreIn (λ c. not (c == line_feed)) p → column ≤ m.col
     → column ≤ (moved m p).col
-right_along column m p h low =
-    subst (λ (k : Marker). column ≤ k.col) (sym (moved_along m p h)) (further m.col (length p) low)
+right_along column m p h low = rw (moved_along m p h) (further m.col (length p) low)
   where
     further : (n l : ℕ) → column ≤ n → column ≤ n + l
     further n l h = omega (arith, h)

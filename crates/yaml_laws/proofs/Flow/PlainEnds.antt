@@ -114,13 +114,12 @@ word_stops node w c others apart (inr (inl e)) = rw e refl
 word_stops node w c others apart (inr (inr (inl e))) = rw e refl
 word_stops node w c others apart (inr (inr (inr (e, before, inl allows)))) =
     absurd (false≢true (sym (apart w) ∙ allows))
-word_stops node w c others apart (inr (inr (inr (e, before, inr ends)))) =
-    subst (λ (d : ℕ). is_in_word true (d ∷ others) ≡ false) (sym e) (colon_stops others ends)
+word_stops node w c others apart (inr (inr (inr (e, before, inr ends)))) = rw e (colon_stops others ends)
 
 -- ## Ends
 
 ends_no_sign : (node : Node) (c : ℕ) → EndsHere node c → c ≢ number_sign
-ends_no_sign node c h e = absurd (by_end (subst (EndsHere node) e h))
+ends_no_sign node c h e = absurd (by_end (rw e at h))
   where
     by_end : EndsHere node 35 → ⊥
     by_end (inl k) = cc
@@ -142,20 +141,18 @@ ends_in_flow around node m o apart h right =
     ink = (ends_node_ink node h.separation h.others h.first h.ends).0
 
     lands : past around.indent m o ≡ (moved m h.separation, h.first ∷ h.others)
-    lands = ap (past around.indent m) h.is
-        ∙ separation_past around.indent m h.separation (h.first ∷ h.others) h.parts right
-        ∙ past_ink around.indent (moved m h.separation) h.first h.others ink
+    lands =
+        cc (separation_past around.indent m h.separation (h.first ∷ h.others) h.parts right,
+        past_ink around.indent (moved m h.separation) h.first h.others ink)
 
     inked : is_blank (slice_index (past around.indent m o).1 0) ≡ false
-    inked = ap (λ (z : Marker × List ℕ). is_blank (slice_index z.1 0)) lands ∙ ink.blank
+    inked = simp (lands, ink.blank)
 
     stops : Reaches around.indent m o (past_white m false o).mark (past_white m false o).rest
         → StopsPlain true around.column (past_white m false o)
     stops (inl e) = inl (no_word true (past_white m false o).rest e)
     stops (inr (inl e)) = inr (inl e)
-    stops (inr (inr e)) = inl (subst (λ (r : List ℕ). is_in_word true r ≡ false)
-        (sym (e.1 ∙ ap (λ (p : Marker × List ℕ). p.1) lands))
-        (word_stops node h.separation h.first h.others apart h.ends))
+    stops (inr (inr e)) = inl (rw (e.1, lands) (word_stops node h.separation h.first h.others apart h.ends))
 
 -- outside flow
 pub ends_at_root : (around : Around) (m : Marker) (o : List ℕ) → IsBehindRoot around m o → around.indent ≤ m.col
@@ -171,7 +168,7 @@ ends_at_root around m o h right =
     inked = lands_on_ink around.column (past around.indent m o).0 (past around.indent m o).1 (h.lands right)
 
     other : (c : ℕ) → IsTrue (is_blank_or_breakz c) → c ≢ number_sign
-    other c k e = absurd (false≢true (subst (λ (d : ℕ). IsTrue (is_blank_or_breakz d)) e k))
+    other c k e = absurd (false≢true (rw e at k))
 
     low : (a b c : ℕ) → a ≤ b → b < c → c ≤ a → ⊥
     low a b c h k g = absurd (omega (arith, h, k, g))
@@ -179,9 +176,7 @@ ends_at_root around m o h right =
     broke : (n : Marker) → n ≡ (past around.indent m o).0 → (past around.indent m o).0.col < around.column
         → ((past_white m false o).blank_so_far ≡ true) ⊎ (m.col ≤ n.col) → IsTrue (past_white m false o).blank_so_far
     broke n e left (inl k) = k
-    broke n e left (inr k) =
-        absurd (low m.col n.col around.column k (subst (λ (z : Marker). z.col < around.column) (sym e) left)
-        (in_column around m.col right))
+    broke n e left (inr k) = absurd (low m.col n.col around.column k (rw e left) (in_column around m.col right))
 
     stops : Reaches around.indent m o (past_white m false o).mark (past_white m false o).rest
         → EndsDocument (past around.indent m o).0 (past around.indent m o).1
@@ -191,13 +186,8 @@ ends_at_root around m o h right =
     stops (inr (inl e)) k = inr (inl e)
     stops (inr (inr e)) (inl (inl k)) = inl (no_word false (past_white m false o).rest (e.1 ∙ k))
     stops (inr (inr e)) (inl (inr (col, inl k))) =
-        inr (inr (inl (
-          ap (λ (n : Marker). n.col) e.0
-              ∙ col,
-          subst (λ (r : List ℕ). IsTrue (is_document_indicator r)) (sym e.1) k,
-        )))
-    stops (inr (inr e)) (inl (inr (col, inr k))) =
-        inl (subst (λ (r : List ℕ). is_in_word false r ≡ false) (sym e.1) (mark_no_word (past around.indent m o).1 k))
+        inr (inr (inl (cc, rw e.1 k)))
+    stops (inr (inr e)) (inl (inr (col, inr k))) = inl (rw e.1 (mark_no_word (past around.indent m o).1 k))
     stops (inr (inr e)) (inr k) =
         inr (inr (inr (
           refl,

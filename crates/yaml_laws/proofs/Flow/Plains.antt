@@ -112,8 +112,7 @@ key_begins f indent t r (inr (plain, dashes, gap, word, h, lone, gapped, last, e
       begins = b.begins;
       ink = b.ink;
       no_comment = b.no_comment;
-      further = λ k. subst (λ (y : List ℕ). IsTrue (is_word_ink f (slice_index y 0)))
-          (sym (append_assoc b.others end (58 ∷ r))) (b.further k);
+      further = λ k. rw (append_assoc b.others end (58 ∷ r)) (b.further k);
     }
 
 no_blank : (c : ℕ) → is_blank_or_breakz c ≡ false → is_blank c ≡ false
@@ -151,8 +150,7 @@ lone_test f first d second h = by_first (first == d) refl
 
 -- no value is where a colon is part of a word
 value_test : (block : Bool) (first second i ad : ℕ) → (first ≡ 58 → IsTrue (is_word_ink (not block) second))
-    → (block ≡ true) ⊎ (ad < i)
-    → ((first == 58) && (not block && (is_flow second || (i == ad)))) ≡ false
+    → (block ≡ true) ⊎ (ad < i) → ((first == 58) && (not block && (is_flow second || (i == ad)))) ≡ false
 value_test true first second i ad h low = and_false (first == 58)
 value_test false first second i ad h (inl e) = absurd (cc)
 value_test false first second i ad h (inr low) = by_first (first == 58) refl
@@ -245,11 +243,10 @@ plain_dispatches around d s n t o x w k ls a ad low =
     let f = not (is_block x) in
     let first = slice_index (t ++ o) 0 in
     let second = slice_index (t ++ o) 1 in
-    let at_first : first ≡ w.first = ap (λ (y : List ℕ). slice_index (y ++ o) 0) w.is in
+    let at_first : first ≡ w.first = cc in
     let at_second : (first ≡ 45) ⊎ ((first ≡ 63) ⊎ (first ≡ 58)) → IsTrue (is_word_ink f second) =
-    λ e. second_ink f t o w (subst (λ (i : ℕ). (i ≡ 45) ⊎ ((i ≡ 63) ⊎ (i ≡ 58))) at_first e) in
-    plain_begins first second n (core_at around d s x k ls a ad)
-    (subst (λ (i : ℕ). IsTrue (begins_plain i)) (sym at_first) w.begins)
+    λ e. second_ink f t o w (rw at_first at e) in
+    plain_begins first second n (core_at around d s x k ls a ad) (rw at_first w.begins)
     (lone_test f first 45 second (λ e. at_second (inl e))) (lone_test f first 63 second (λ e. at_second (inr (inl e))))
     (lone_test f first 58 second (λ e. at_second (inr (inr e))))
     (value_test (is_block x) first second s.mark.index ad (λ e. at_second (inr (inr e))) low)
@@ -257,16 +254,14 @@ plain_dispatches around d s n t o x w k ls a ad low =
     second_ink : (f : Bool) (t o : List ℕ) (w : BeginsWord f t o)
         → (w.first ≡ hyphen) ⊎ ((w.first ≡ question_mark) ⊎ (w.first ≡ 58))
         → IsTrue (is_word_ink f (slice_index (t ++ o) 1))
-    second_ink f t o w e =
-        subst (λ (y : List ℕ). IsTrue (is_word_ink f (slice_index (y ++ o) 1))) (sym w.is) (w.further e)
+    second_ink f t o w e = rw w.is (w.further e)
 
 -- The premises of a step over a plain scalar: outside flow, or where no colon may come at once.
 pub plain_step : ReaderPromises → (around : Around) (d : Bool) (n : ℕ) (m : Marker) (b : Bool) (t o : List ℕ)
     (x : Context)
     → BeginsWord (not (is_block x)) t o → IsPlainText (not (is_block x)) around.column m t o → IsClear m t o
     → (k : Option Candidate) (ls : List Level) (a : Bool) (ad : ℕ) → (is_block x ≡ true) ⊎ (ad < m.index)
-    → Placed around x a m
-    → let u = past_white (moved m t) false o in
+    → Placed around x a m → let u = past_white (moved m t) false o in
     step (slice_index (t ++ o) 0) (slice_index (t ++ o) 1) n (core_at around d (cursor_at (t ++ o) m b) x k ls a ad)
     ≡ completed_step (from_to m (moved m t) (plain_token t) ∷ [])
     (record (core_at around false u x (saved a n m k) ls u.blank_so_far ad)

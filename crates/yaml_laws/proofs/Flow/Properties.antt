@@ -77,15 +77,11 @@ gap_separates indent w (inr (
 )) =
     let line = blanks ++ (comment ++ (10 ∷ (filler ++ spaces indent))) in
     let more = spaces (n - indent) ++ tail in
-    let front_is : front ≡ spaces indent ++ more = prefix_is
-    ∙ ap (λ (x : List ℕ). x ++ tail) (lead_is ∙ longer indent n low)
-    ∙ append_assoc (spaces indent) (spaces (n - indent)) tail in
-    let parts : w ≡ ((blanks ++ comment) ++ (10 ∷ [])) ++ (filler ++ (spaces indent ++ more)) = e
-    ∙ ap (λ (x : List ℕ). x ++ (filler ++ front)) (end_is ∙ ap (λ (x : List ℕ). x ++ (10 ∷ [])) rest_is)
-    ∙ ap (λ (x : List ℕ). ((blanks ++ comment) ++ (10 ∷ [])) ++ (filler ++ x)) front_is in
+    let front_is : front ≡ spaces indent ++ more = cc (longer indent n low,
+    append_assoc (spaces indent) (spaces (n - indent)) tail) in
+    let parts : w ≡ ((blanks ++ comment) ++ (10 ∷ [])) ++ (filler ++ (spaces indent ++ more)) = cc in
     let text : w ≡ (line ++ []) ++ more =
-    parts ∙ joined blanks comment filler (spaces indent) more ∙ ap (λ (x : List ℕ). x ++ more) (sym (append-nil line))
-    in (
+    cc (joined blanks comment filler (spaces indent) more, append-nil line) in (
       line ++ [],
       more,
       (line ∷ [], ((blanks, comment, filler, are, k, filler_is, refl), tt), refl),
@@ -93,14 +89,13 @@ gap_separates indent w (inr (
       text,
     )
   where
-    joined : (a b c d e : List ℕ)
-        → ((a ++ b) ++ (10 ∷ [])) ++ (c ++ (d ++ e)) ≡ (a ++ (b ++ (10 ∷ (c ++ d)))) ++ e
+    joined : (a b c d e : List ℕ) → ((a ++ b) ++ (10 ∷ [])) ++ (c ++ (d ++ e)) ≡ (a ++ (b ++ (10 ∷ (c ++ d)))) ++ e
     joined a b c d e = simp append_assoc
 
     sum : (i j : ℕ) → spaces (i + j) ≡ spaces i ++ spaces j
     sum zero j = let same : 0 + j ≡ j = omega arith in ap spaces same
     sum (suc i) j =
-        let same : suc i + j ≡ suc (i + j) = omega arith in ap spaces same ∙ ap (λ (x : List ℕ). 32 ∷ x) (sum i j)
+        let same : suc i + j ≡ suc (i + j) = omega arith in cc (sum i j)
 
     longer : (i n : ℕ) → i ≤ n → spaces n ≡ spaces i ++ spaces (n - i)
     longer i n low = let same : n ≡ i + (n - i) = omega (arith, low) in ap spaces same ∙ sum i (n - i)
@@ -108,8 +103,7 @@ gap_separates indent w (inr (
 -- two with a gap between
 two_properties : (around : Around) (start : Bool → State) (x : Context) (kept before : Option Candidate)
     (ls : List Level) (ps : List Place) (ad : ℕ) (m : Marker) (a w b o : List ℕ) (first second : Kind)
-    → IsGap around.indent w
-    → (p : PassesPiece around start
+    → IsGap around.indent w → (p : PassesPiece around start
     (after_token (closes_key ad) x (record { kept = kept; before = before; from = m; over = a })) x ls ps (moved m a)
     ((w ++ b) ++ o) (first ∷ []))
     → (StandsBefore around (after p) (moved (moved m a) w) (b ++ o) → around.indent ≤ (moved (moved m a) w).col
@@ -122,20 +116,17 @@ two_properties : (around : Around) (start : Bool → State) (x : Context) (kept 
 two_properties around start x kept before ls ps ad m a w b o first second h p passes =
     let parts = gap_separates around.indent w h in
     let here : StandsBefore around (after p) (moved (moved m a) w) (b ++ o) =
-    p.fits ∙ ap (past around.indent (moved m a)) (append_assoc w b o)
-    ∙ separation_past around.indent (moved m a) w (b ++ o) parts p.right in
+    cc (append_assoc w b o, separation_past around.indent (moved m a) w (b ++ o) parts p.right) in
     let q = passes here (right_behind around.indent (moved m a) w parts p.right) in
     let place : moved (moved (moved m a) w) b ≡ moved m (a ++ (w ++ b)) =
     sym (moved_append m a (w ++ b) ∙ moved_append (moved m a) w b) in
-    subst (λ (n : Marker). PassesPiece around start
-    (behind_properties x (record { kept = kept; before = before; from = m; over = a ++ (w ++ b) }) ad) x ls ps n o
-    (first ∷ second ∷ [])) place
+    rw place at
     (join p q (behind_properties x (record { kept = kept; before = before; from = m; over = a ++ (w ++ b) }) ad)
     (record {
       properties = record {
         piece = p.knows.piece;
         others = q.new;
-        is = ap (λ (r : List Place). r ++ q.new) p.knows.is;
+        is = cc;
         keeps = λ e. q.knows.keeps e
             ∙ closed_saved p.allowed (length (ps ++ p.new)) (moved (moved m a) w) p.key p.knows.tells.0
             ∙ p.knows.keeps e;
@@ -157,18 +148,15 @@ pub gap_first : (indent : ℕ) (w y : List ℕ) → IsGap indent w → IsTrue (i
 gap_first indent w y (inl h) = blank_first w y h
 gap_first indent w y (inr (end, filler, front, (rest, rest_is, end_is), filler_is, prefix, e)) =
     let more = (filler ++ front) ++ y in
-    let text : w ++ y ≡ rest ++ (10 ∷ more) = ap (λ (x : List ℕ). x ++ y) e
-    ∙ ap (λ (x : List ℕ). (x ++ (filler ++ front)) ++ y) end_is ∙ joined rest (filler ++ front) y in
-    subst (λ (x : List ℕ). IsTrue (is_blank_or_breakz (slice_index x 0))) (sym text)
-    (rest_first rest (10 ∷ more) rest_is (inr refl))
+    let text : w ++ y ≡ rest ++ (10 ∷ more) = cc (joined rest (filler ++ front) y) in
+    rw text (rest_first rest (10 ∷ more) rest_is (inr refl))
   where
     joined : (a b c : List ℕ) → ((a ++ (10 ∷ [])) ++ b) ++ c ≡ a ++ (10 ∷ (b ++ c))
     joined a b c = simp append_assoc
 
 gap_ends_tag : (indent : ℕ) (in_flow : Bool) (w b o : List ℕ) → IsGap indent w → EndsTag in_flow ((w ++ b) ++ o)
 gap_ends_tag indent in_flow w b o h =
-    subst (EndsTag in_flow) (sym (append_assoc w b o))
-    (white_ends_tag in_flow (w ++ (b ++ o)) (gap_first indent w (b ++ o) h))
+    rw (append_assoc w b o) (white_ends_tag in_flow (w ++ (b ++ o)) (gap_first indent w (b ++ o) h))
 
 -- ## Properties
 
@@ -205,7 +193,7 @@ both_passed {around} {P} {Q} {i} {j} first second m t a w b o h spaced g is now 
     → PassesPiece around (state_at around now) (behind_properties now.context (keeping now m t) now.adjacent)
     now.context now.outer now.places (moved m t) o (i ∷ j ∷ [])) (sym is) (λ fits text.
     let p = first m a ((w ++ b) ++ o) h now (gap_ends_tag around.indent (not (is_block now.context)) w b o spaced)
-    (fits_front m a (w ++ b) o fits) (text ∙ ap (past around.indent m) (append_assoc a (w ++ b) o)) in
+    (fits_front m a (w ++ b) o fits) (cc (append_assoc a (w ++ b) o)) in
     two_properties around (state_at around now) now.context (key_behind now m) now.key now.outer now.places
     now.adjacent m a w b o i j spaced p
     (λ there right. second (moved (moved m a) w) b o g (after p) ends

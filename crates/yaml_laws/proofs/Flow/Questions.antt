@@ -41,7 +41,7 @@ white_first : (indent : ℕ) (w y : List ℕ) → IsSeparation indent w → w �
     → is_blank_or_breakz (slice_index (w ++ y) 0) ≡ true
 white_first indent w y parts some =
     let b = separation_begins indent w parts some in
-    ap (λ (t : List ℕ). is_blank_or_breakz (slice_index (t ++ y) 0)) b.is ∙ by_first b.first b.white
+    simp (b.is, by_first b.first b.white)
   where
     blank : (c : ℕ) → is_blank c ≡ true → is_blank_or_breakz c ≡ true
     blank c h = grind (arith, nat_tests)
@@ -56,8 +56,7 @@ unfolding step
 question_reads_key second i c h = rw h refl
 
 begins_key : (around : Around) (d : Bool) (s : Cursor) (y : Context) (k : Option Candidate) (ls : List Level) (a : Bool)
-    (ad : ℕ) → is_block y ≡ false
-    → begin_key (core_at around d s y k ls a ad)
+    (ad : ℕ) → is_block y ≡ false → begin_key (core_at around d s y k ls a ad)
     ≡ pass_question (core_at around d s (behind_question y) None ls false ad)
 unfolding begin_key remove_key
 begins_key around d s context.Block k ls a ad e = absurd (true≢false e)
@@ -86,8 +85,7 @@ question_flows context.ExplicitFlowPair e = refl
 question_flows context.MarkedFlowPair e = refl
 
 key_of : (around : Around) (d : Bool) (s : Cursor) (y : Context) (k : Option Candidate) (ls : List Level) (a : Bool)
-    (ad : ℕ) → is_block y ≡ false
-    → block.key_steps (core_at around d s y k ls a ad)
+    (ad : ℕ) → is_block y ≡ false → block.key_steps (core_at around d s y k ls a ad)
     ≡ (begin_key (core_at around d s y k ls a ad) >>= λ e. completed_step (up_to_here s.mark tokens.Key e ∷ []) e)
 unfolding block.key_steps
 key_of around d s context.Block k ls a ad e = absurd (true≢false e)
@@ -116,17 +114,16 @@ mark_passes around y flows m o fits parted some tabs now before text =
     let p = spaces_passed around.indent (along m 1) false w c cs parted.parts on some tabs parted.ends in
     let n = moved (along m 1) w in
     let there = cursor_at (c ∷ cs) n p.still_blank in
-    let white : is_blank_or_breakz (slice_index o 0) ≡ true = ap (λ (t : List ℕ). is_blank_or_breakz (slice_index t 0))
-    parted.is ∙ white_first around.indent w (c ∷ cs) parted.parts some in
+    let white : is_blank_or_breakz (slice_index o 0) ≡ true = cc (white_first around.indent w (c ∷ cs) parted.parts
+    some) in
     let stepped = λ (d : Bool). question_reads_key (slice_index o 0) (length now.places) (core_at around d seen y v.key
     now.outer v.allowed now.adjacent) white ∙ key_of around d seen y v.key now.outer v.allowed now.adjacent flows
     ∙ ap (λ q. q >>= λ (e : Core). completed_step (up_to_here m tokens.Key e ∷ []) e)
     (begins_key around d seen y v.key now.outer v.allowed now.adjacent flows
     ∙ passes_mark around d o m v.blank (behind_question y) now.outer now.adjacent n p.still_blank c cs parted.ends
-    (ap (end_of_spaces (along m 1) false false) parted.is ∙ p.is)) in
+    (cc)) in
     let lands : past around.indent there.mark there.rest ≡ past around.indent (along m 1) o =
-    sym (ap (past around.indent (along m 1)) parted.is
-    ∙ separation_past around.indent (along m 1) w (c ∷ cs) parted.parts on) in
+    sym (cc (separation_past around.indent (along m 1) w (c ∷ cs) parted.parts on)) in
     let below = fits.below in
     let new = token_place m n tokens.Key ∷ [] in
     let next = moment there (behind_question y) None now.outer false now.adjacent now.places in
@@ -134,7 +131,6 @@ mark_passes around y flows m o fits parted some tabs now before text =
     (moment_with new next) (from_to m n tokens.Key ∷ []) (λ d. d) stepped refl
     (within_index around.indent around.limit there (along m 1) o lands (omega (arith, below))) in
     step_passes next new (moved m (63 ∷ [])) o (tokens.Key ∷ [])
-    (no_key (moved m (63 ∷ []))) came (right_one around.indent m 63 refl fits.right)
-    (lands ∙ ap (λ (q : Marker). past around.indent q o) (mark_moved m 63 question))
+    (no_key (moved m (63 ∷ []))) came (right_one around.indent m 63 refl fits.right) (cc (mark_moved m 63 question))
     (fresh_in_flow (behind_question y) o false there (question_flows y flows)) refl
     (came.same (question_flows y flows), refl, one_on m 63 now.adjacent before)

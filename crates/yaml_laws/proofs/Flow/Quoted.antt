@@ -67,7 +67,7 @@ text_first _ _ _ _ (numbered e c ds t items x h r) = (backslash, e ∷ (ds ++ t)
 text_first _ _ _ _ (escaped_break t items x h r) = (backslash, t, refl)
 
 unmarked_at_start : (n : ℕ) (b : Bool) → n ≡ 0 → ((n == 0) && b) ≡ false → b ≡ false
-unmarked_at_start n b e h = subst (λ (k : ℕ). ((k == 0) && b) ≡ false) e h
+unmarked_at_start n b e h = rw e at h
 
 -- more text after a line takes none of its spaces away
 more_spaces : (u o : List ℕ) → space_count u ≤ space_count (u ++ o)
@@ -98,25 +98,19 @@ still_broken (c ∷ cs) o h = by_space (c == space) refl h (still_broken cs o)
     by_space true e k on =
         let count : space_count (c ∷ cs) ≡ suc (space_count cs) = rw e (step (space_count cs)) in
         let counted : space_count (c ∷ (cs ++ o)) ≡ suc (space_count (cs ++ o)) = rw e (step (space_count (cs ++ o))) in
-        subst (λ (n : ℕ). IsTrue (is_break (slice_index (drop n (c ∷ (cs ++ o))) 0))) (sym counted)
-        (on (subst (λ (n : ℕ). IsTrue (is_break (slice_index (drop n (c ∷ cs)) 0))) count k))
+        subst (λ (n : ℕ). IsTrue (is_break (slice_index (drop n (c ∷ (cs ++ o))) 0))) (sym counted) (on (rw count at k))
     by_space false e k on =
         let count : space_count (c ∷ cs) ≡ 0 = rw e refl in
         let counted : space_count (c ∷ (cs ++ o)) ≡ 0 = rw e refl in
-        subst (λ (n : ℕ). IsTrue (is_break (slice_index (drop n (c ∷ (cs ++ o))) 0))) (sym counted)
-        (subst (λ (n : ℕ). IsTrue (is_break (slice_index (drop n (c ∷ cs)) 0))) count k)
+        rw counted (rw count at k)
 
 -- no document marker begins a line of a clear piece, and each is indented as it was, or less is asked
 line_fits : (low indent : ℕ) → low ≤ indent → (m : Marker) (u o : List ℕ) (c : ℕ) (cs : List ℕ) → u ≡ c ∷ cs → m.col ≡ 0
     → IsClear m u o → IsLine indent u → IsLine low (u ++ o)
 line_fits low indent below m u o c cs is start clear line =
     let unmarked : IsFalse (is_document_indicator (c ∷ (cs ++ o))) =
-    unmarked_at_start m.col (is_document_indicator (c ∷ (cs ++ o))) start
-    (clear_here m c cs o (subst (λ (y : List ℕ). IsClear m y o) is clear)) in
-    record {
-      no_marker = subst (λ (y : List ℕ). IsFalse (is_document_indicator (y ++ o))) (sym is) unmarked;
-      indented = by_line line.indented;
-    }
+    unmarked_at_start m.col (is_document_indicator (c ∷ (cs ++ o))) start (clear_here m c cs o (rw is at clear)) in
+    record { no_marker = rw is unmarked; indented = by_line line.indented }
   where
     by_line : (indent ≤ space_count u) ⊎ IsTrue (is_break (slice_index (drop (space_count u) u) 0))
         → (low ≤ space_count (u ++ o)) ⊎ IsTrue (is_break (slice_index (drop (space_count (u ++ o)) (u ++ o)) 0))
@@ -134,7 +128,7 @@ FitsQuotes low q t items x = (spelled : IsText q t items x) × LinesFit low q t 
 over_break : (low : ℕ) (q : Quote) (t : List ℕ) (items : List Item) (x o : List ℕ) (m : Marker) → Breaks m t o
     → FitsQuotes low q (drop (break_len t) t ++ o) items (x ++ o)
     → FitsQuotes low q (drop (break_len (t ++ o)) (t ++ o)) items (x ++ o)
-over_break low q t items x o m b f = subst (λ (y : List ℕ). FitsQuotes low q y items (x ++ o)) b.same f
+over_break low q t items x o m b f = rw b.same at f
 
 break_line : (low indent : ℕ) → low ≤ indent → (q : Quote) (t : List ℕ) (items : List Item) (x o : List ℕ) (m : Marker)
     → IsText q (drop (break_len t) t) items x → Breaks m t o → IsLine indent (drop (break_len t) t)
@@ -142,13 +136,12 @@ break_line : (low indent : ℕ) → low ≤ indent → (q : Quote) (t : List ℕ
 break_line low indent below q t items x o m spelled b line =
     let u = drop (break_len t) t in
     let f = text_first q u items x spelled in
-    subst (IsLine low) b.same (line_fits low indent below b.there u o f.0 f.1 f.2 b.start b.clear line)
+    rw b.same at (line_fits low indent below b.there u o f.0 f.1 f.2 b.start b.clear line)
 
 extends : (low indent : ℕ) → low ≤ indent
     → (q : Quote) (t : List ℕ) (items : List Item) (x : List ℕ) (spelled : IsText q t items x)
     → LinesFit indent q t items x spelled → (o : List ℕ) (m : Marker) → IsClear m t o
-    → (slice_index (x ++ o) 0 == 39) ≡ false
-    → FitsQuotes low q (t ++ o) items (x ++ o)
+    → (slice_index (x ++ o) 0 == 39) ≡ false → FitsQuotes low q (t ++ o) items (x ++ o)
 extends low indent below _ _ _ _ (closed q x h) fit o m clear ends = (
   closed q (x ++ o) (quote_closes q (x ++ o) ends),
   tt,
@@ -174,9 +167,7 @@ extends low indent below _ _ _ _ (numbered e c ds t items x h r) fit o m clear e
     (clear_back m (backslash ∷ e ∷ ds) t o clear) ends in
     let front : FitsQuotes low Double (backslash ∷ e ∷ (ds ++ (t ++ o))) (Escaped c ∷ items) (x ++ o) =
     (numbered e c ds (t ++ o) items (x ++ o) h more.0, more.1) in
-    subst (λ (y : List ℕ). FitsQuotes low Double (backslash ∷ e ∷ y) (Escaped c ∷ items) (x ++ o))
-    (sym (append_assoc ds t o))
-    front
+    rw (append_assoc ds t o) front
 extends low indent below _ _ _ _ (escaped_break t items x h r) fit o m clear ends =
     let n = moved m (backslash ∷ []) in
     let b = breaks n t o (clear_back m (backslash ∷ []) t o clear) h in
@@ -199,7 +190,7 @@ pub moved_passes : (m : Marker) (t o : List ℕ) → AreIn (λ c. not (c == carr
 moved_passes m [] o h = nothing m o
 moved_passes m (c ∷ cs) o h =
     by_test (c == line_feed) (next_line m 1) (along m 1) (λ (k : Marker). IsPassed m (c ∷ (cs ++ o)) (moved k cs) o)
-    (λ e. subst (λ (y : ℕ). IsPassed m (y ∷ (cs ++ o)) (moved (next_line m 1) cs) o) (sym (feed c e))
+    (λ e. rw (feed c e)
     (line_break m (10 ∷ (cs ++ o)) (moved (next_line m 1) cs) o refl (moved_passes (next_line m 1) cs o h.1)))
     (λ e. character m c (cs ++ o) (moved (along m 1) cs) o (no_feed_no_break c e h.0) (moved_passes (along m 1) cs o
     h.1))
@@ -210,25 +201,23 @@ pub quoted_read : ReaderPromises → (low indent : ℕ) → low ≤ indent → (
     → s.rest ≡ t ++ o → IsQuoted quote indent value t → IsClear s.mark t o → (slice_index o 0 == 39) ≡ false
     → quotes.quoted quote low s ≡ Ok (encode_utf8_all value, mid_line (moved s.mark t) o)
 quoted_read reads low indent below quote s value t o is (inside, items, spelled, fit, stands_for, text) clear ends =
-    let behind = clear_back s.mark (mark quote ∷ []) inside o (subst (λ (y : List ℕ). IsClear s.mark y o) text clear) in
+    let behind = clear_back s.mark (mark quote ∷ []) inside o (rw text at clear) in
     let more = extends low indent below quote inside items [] spelled fit o (moved s.mark (mark quote ∷ [])) behind
     ends in
     let got = reads.quoted quote low s items o (inside ++ o, is ∙ ap (λ (y : List ℕ). y ++ o) text, more.0) more.1 in
     let passed : IsPassed s.mark s.rest (moved s.mark t) o = subst
     (λ (y : List ℕ). IsPassed s.mark y (moved s.mark t) o) (sym is) (moved_passes s.mark t o clear.no_return) in
     let there : got.0 ≡ moved s.mark t = reads.place s.mark s.rest (moved s.mark t) o passed got.0 got.1 in
-    got.2 ∙ ap (λ (n : Marker). Ok (encode_utf8_all (folded items), mid_line n o)) there
-    ∙ ap (λ (v : List ℕ). Ok (encode_utf8_all v, mid_line (moved s.mark t) o)) (sym stands_for)
+    cc
 
 -- a quoted scalar ends right of a column that its lines reach
 pub quoted_right : (indent : ℕ) (quote : Quote) (m : Marker) (value t o : List ℕ) → IsQuoted quote indent value t
     → IsClear m t o → indent ≤ m.col → indent ≤ (moved m t).col
 quoted_right indent quote m value t o (inside, items, spelled, fit, stands_for, text) clear low =
     let here = moved m (mark quote ∷ []) in
-    let all : IsClear m (mark quote ∷ inside) o = subst (λ (y : List ℕ). IsClear m y o) text clear in
+    let all : IsClear m (mark quote ∷ inside) o = rw text at clear in
     let right : indent ≤ here.col = right_one indent m (mark quote) (mark_no_feed quote) low in
-    subst (λ (y : List ℕ). indent ≤ (moved m y).col) (sym text)
-    (text_right indent quote inside items [] spelled fit refl here
+    rw text (text_right indent quote inside items [] spelled fit refl here
     (inl (let n = space_count inside in omega (arith, right))) all.no_return.1)
   where
     mark_no_feed : (quote : Quote) → (mark quote == line_feed) ≡ false

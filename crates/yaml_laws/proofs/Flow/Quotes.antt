@@ -94,7 +94,7 @@ flow_ends_quotes around node start m o x flow h right =
       there = p.there;
       is = p.is;
       lands = p.lands;
-      inked = ap (λ (z : Marker × List ℕ). is_blank (slice_index z.1 0)) reached ∙ ink.0.blank;
+      inked = simp (reached, ink.0.blank);
       stays = λ b _. absurd (clash (is_block x) b flow);
       goes = λ d k ls a ad. goes_in_flow around d start p.there x k ls a ad flow (first p.there.rest ink.1 p.ends);
     }
@@ -113,7 +113,7 @@ root_ends_quotes around start m o h right =
       found = p.0;
       there = there;
       is = p.1;
-      lands = sym (ap (past around.indent m) h.is ∙ rest_past around.indent m h.rest h.more h.line h.break right);
+      lands = sym (cc (rest_past around.indent m h.rest h.more h.line h.break right));
       inked = lands_on_ink around.column (past around.indent m o).0 (past around.indent m o).1 (h.lands right);
       stays = λ _ e. line_rest_crosses h.rest h.more h.line h.break (ap crosses (sym h.is) ∙ e);
       goes = λ d k ls a ad. goes_at_root around d start there k ls a ad (first h.more h.break);
@@ -150,41 +150,33 @@ pub quoted_step : ReaderPromises → (around : Around) (d : Bool) (quote : Quote
     (value t o : List ℕ) → IsQuoted quote around.indent value t → IsClear m t o
     → (slice_index o 0 == apostrophe) ≡ false
     → (x : Context) (k : Option Candidate) (ls : List Level) (a : Bool) (ad : ℕ) (c : ℕ) → c ≡ mark quote
-    → Placed around x a m
-    → step c (slice_index (t ++ o) 1) n (core_at around d (cursor_at (t ++ o) m b) x k ls a ad)
+    → Placed around x a m → step c (slice_index (t ++ o) 1) n (core_at around d (cursor_at (t ++ o) m b) x k ls a ad)
     ≡ behind_quotes m (style_of_quote quote) (encode_utf8_all value)
     (core_at around d (mid_line (moved m t) o) x (saved a n m k) ls false ad)
 unfolding step scalar.single_quoted_steps scalar.double_quoted_steps read_single_quoted read_double_quoted
 quoted_step reads around d Single n m b value t o h clear ends x k ls a ad c first placed =
     let s = cursor_at (t ++ o) m b in
     let inner = core_at around d s x (saved a n m k) ls false ad in
-    ap (λ (i : ℕ). step i (slice_index (t ++ o) 1) n (core_at around d s x k ls a ad)) first
-    ∙ ap (λ (e : Core). read_single_quoted (disallow_key e)) (saves_key n around d s x k ls a ad placed)
-    ∙ ap (λ q. q >>= λ (y : List ℕ × Cursor). behind_quotes m SingleQuoted y.0 (with_cursor y.1 inner))
-    (quoted_read reads (reach around d) around.indent (reach_low around d) Single s value t o refl h
-    clear ends)
+    simp (first, saves_key n around d s x k ls a ad placed,
+    quoted_read reads (reach around d) around.indent (reach_low around d) Single s value t o refl h clear ends)
 quoted_step reads around d Double n m b value t o h clear ends x k ls a ad c first placed =
     let s = cursor_at (t ++ o) m b in
     let inner = core_at around d s x (saved a n m k) ls false ad in
-    ap (λ (i : ℕ). step i (slice_index (t ++ o) 1) n (core_at around d s x k ls a ad)) first
-    ∙ ap (λ (e : Core). read_double_quoted (disallow_key e)) (saves_key n around d s x k ls a ad placed)
-    ∙ ap (λ q. q >>= λ (y : List ℕ × Cursor). behind_quotes m DoubleQuoted y.0 (with_cursor y.1 inner))
-    (quoted_read reads (reach around d) around.indent (reach_low around d) Double s value t o refl h
-    clear ends)
+    simp (first, saves_key n around d s x k ls a ad placed,
+    quoted_read reads (reach around d) around.indent (reach_low around d) Double s value t o refl h clear ends)
 
 pub quote_first : (quote : Quote) (inside : List ℕ) → Begins (mark quote ∷ inside)
 quote_first Single inside = starts 39 inside (39 ∷ inside) refl refl
 quote_first Double inside = starts 34 inside (34 ∷ inside) refl refl
 
 pub quoted_passes : ReaderPromises → (around : Around) (quote : Quote) (value t o : List ℕ) (m : Marker)
-    → IsQuoted quote around.indent value t → FitsAround around m t o
-    → (slice_index o 0 == apostrophe) ≡ false
+    → IsQuoted quote around.indent value t → FitsAround around m t o → (slice_index o 0 == apostrophe) ≡ false
     → (now : FlowMoment) → EndsQuotes around m (mid_line (moved m t) o) now.context → StandsBefore around now m (t ++ o)
     → PassesToken around (adjacent_at (past around.indent (moved m t) o).0.index) now m t o
     (scalar_token (style_of_quote quote) value)
 quoted_passes reads around quote value t o m h fits apart now p text =
     let first = subst Begins (sym h.5) (quote_first quote h.0) in
-    let at_first : slice_index (t ++ o) 0 ≡ mark quote = ap (λ (y : List ℕ). slice_index (y ++ o) 0) h.5 in
+    let at_first : slice_index (t ++ o) 0 ≡ mark quote = simp h.5 in
     let behind = past around.indent (moved m t) o in
     let place = length now.places in
     token_passes around None (adjacent_at behind.0.index) (scalar_token (style_of_quote quote) value) t o m first fits

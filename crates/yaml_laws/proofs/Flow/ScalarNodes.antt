@@ -40,8 +40,7 @@ empty_are p indent t tokens place h are =
 pub separation_ends : (indent : ℕ) (in_flow : Bool) (w b o : List ℕ) → w ≢ [] → IsSeparation indent w
     → EndsTag in_flow ((w ++ b) ++ o)
 separation_ends indent in_flow w b o some h =
-    subst (EndsTag in_flow) (sym (append_assoc w b o))
-    (white_ends_tag in_flow (w ++ (b ++ o)) (ends_behind_separation indent w (b ++ o) h some))
+    rw (append_assoc w b o) (white_ends_tag in_flow (w ++ (b ++ o)) (ends_behind_separation indent w (b ++ o) h some))
 
 -- ## Properties alone, for an empty scalar
 
@@ -67,8 +66,7 @@ empty_passes reads around p m t o now h fits follows low text =
             keeps = known.keeps;
             since = r.passes.knows.since;
             near = λ e separation more is parts allows. absurd (false≢true allows);
-            low = subst (λ (n : ℕ). n ≤ (past around.indent end o).0.index) (sym r.passes.knows.still)
-                (behind_low around.indent now.adjacent m t o low.0);
+            low = rw r.passes.knows.still (behind_low around.indent now.adjacent m t o low.0);
           });
     }
 
@@ -77,9 +75,7 @@ empty_passes reads around p m t o now h fits follows low text =
 -- what follows a node follows its content, wherever that begins
 follows_content : {around : Around} {x y : Context} {node : Node} {a b : Marker} {o : List ℕ} → y ≡ x → b ≡ a
     → Follows around x node a o → Follows around y node b o
-follows_content {around} {x} {y} {node} {a} {b} {o} same place h =
-    subst (λ (z : Context). Follows around z node b o) (sym same)
-    (subst (λ (n : Marker). Follows around x node n o) (sym place) h)
+follows_content {around} {x} {y} {node} {a} {b} {o} same place h = rw (same, place) h
 
 low_content : {x y : Context} {ad bd : ℕ} (m e : Marker) → y ≡ x → bd ≡ ad → m.index ≤ e.index → IsLow x ad m
     → IsLow y bd e
@@ -98,30 +94,22 @@ content_node reads around p style value front content o m now before g fits foll
     told (λ ts h place. (h.0, h.1, h.2, inl h.3, h.4)) (λ w h. h)
     (behind_front reads around p (λ ts. ts ≡ scalar_token style value ∷ []) (allows_adjacent (Scalar p style value)) m
     front content o before fits now text (λ e place later inner next same_context same_outer same_adjacent at.
-    g e next (ap (λ (x : Context). not (is_block x)) same_context) inner (follows_content same_context place follows)
+    g e next (cc) inner (follows_content same_context place follows)
     (low_content m e same_context same_adjacent later low) at))
 
 pub scalar_passes : ReaderPromises → (around : Around) (p : Properties) (style : Style) (value : List ℕ) (m : Marker)
     (t o : List ℕ) (now : FlowMoment) → IsScalarNode p style value (not (is_block now.context)) around.indent t
     → ReadsText around (Scalar p style value) m t o now
 scalar_passes reads around p style value m t o now (inl (plain, empty, h)) =
-    subst (λ (q : Style). ReadsText around (Scalar p q value) m t o now) (sym plain)
-    (subst (λ (v : List ℕ). ReadsText around (Scalar p Plain v) m t o now) (sym empty)
-    (empty_passes reads around p m t o now h))
+    rw (plain, empty) (empty_passes reads around p m t o now h)
 scalar_passes reads around p style value m t o now (inr (front, content, before, g, is)) =
-    subst (λ (y : List ℕ). ReadsText around (Scalar p style value) m y o now) (sym is)
-    (content_node reads around p style value front content o m now before (λ e next same.
-    content_passes reads around p style value content o e next
-    (subst (λ (f : Bool). IsFlowScalar style value f around.indent content) (sym same) g)))
+    rw is (content_node reads around p style value front content o m now before (λ e next same.
+    content_passes reads around p style value content o e next (rw same g)))
 
 -- a key before its colon
 pub key_node_passes : ReaderPromises → (around : Around) (p : Properties) (style : Style) (value t r : List ℕ)
-    (m : Marker) (now : FlowMoment)
-    → IsPlainKeyNode (Scalar p style value) (not (is_block now.context)) around.indent t
+    (m : Marker) (now : FlowMoment) → IsPlainKeyNode (Scalar p style value) (not (is_block now.context)) around.indent t
     → ReadsText around (Scalar p style value) m t (colon ∷ r) now
 key_node_passes reads around p style value t r m now (front, content, plain, before, g, stands, is) =
-    subst (λ (q : Style). ReadsText around (Scalar p q value) m t (58 ∷ r) now) (sym plain)
-    (subst (λ (y : List ℕ). ReadsText around (Scalar p Plain value) m y (58 ∷ r) now) (sym is)
-    (content_node reads around p Plain value front content (58 ∷ r) m now before (λ e next same.
-    key_content_passes reads around p value content r e next stands
-    (subst (λ (f : Bool). IsPlainKey f around.indent content) (sym same) g))))
+    rw (plain, is) (content_node reads around p Plain value front content (58 ∷ r) m now before (λ e next same.
+    key_content_passes reads around p value content r e next stands (rw same g)))

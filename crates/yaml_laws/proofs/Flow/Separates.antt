@@ -31,8 +31,7 @@ pub record StopsLine (comment more : List ℕ) : Type 0 where
   pub word : comment ≢ [] → is_yaml_non_break (slice_index more 0) ≡ false
 
 pub line_stops : (comment more : List ℕ) → EndsLine more → StopsLine comment more
-line_stops comment more (inl e) =
-    subst (StopsLine comment) (sym e) (record { mark = refl; blank = λ _. refl; sign = λ _. refl; word = λ _. refl })
+line_stops comment more (inl e) = rw e (record { mark = refl; blank = λ _. refl; sign = λ _. refl; word = λ _. refl })
 line_stops comment more (inr e) =
     record {
       mark = ap is_bom e;
@@ -51,12 +50,11 @@ ink_stops c cs h = record {
 
 comment_counts : (blanks comment more : List ℕ) → IsCommentBehind blanks comment → StopsLine comment more
     → comment_len (comment ++ more) ≡ length comment
-comment_counts blanks comment more (inl e) h =
-    subst (λ (c : List ℕ). comment_len (c ++ more) ≡ length c) (sym e) (rw (h.sign e) refl)
+comment_counts blanks comment more (inl e) h = rw (e, h.sign e) refl
 comment_counts blanks comment more (inr (some, (words, are, is))) h =
     let other : comment ≢ [] = λ e. absurd (let f : [] ≡ 35 ∷ words = sym e ∙ is in cc) in
     let run = run_len is_yaml_non_break words more are (h.word other) in
-    subst (λ (c : List ℕ). comment_len (c ++ more) ≡ length c) (sym is) (counted words run)
+    rw is (counted words run)
   where
     counted : (words : List ℕ) → prefix_len is_yaml_non_break (words ++ more) ≡ length words
         → comment_len (number_sign ∷ (words ++ more)) ≡ length (number_sign ∷ words)
@@ -92,14 +90,13 @@ counts : (blanks comment more : List ℕ) → AreIn is_blank blanks → IsCommen
     → StopsLine comment more → separation_len Yes (blanks ++ (comment ++ more)) ≡ length (blanks ++ comment)
 counts blanks comment more are k h =
     let n = run_len is_blank blanks (comment ++ more) are (blank_stops blanks comment more k h) in
-    rw n (rw (drop-append_seam blanks (comment ++ more))
-    (rw (comment_counts blanks comment more k h)
-    (none_or_some (length blanks) (length comment) (parted blanks comment k) ∙ sym (length-append blanks comment))))
+    rw (n, drop-append_seam blanks (comment ++ more),
+    comment_counts blanks comment more k h) (none_or_some (length blanks) (length comment) (parted blanks comment k)
+    ∙ sym (length-append blanks comment))
 
 -- blanks and a comment, or none
 pub line_separated : (s : Cursor) (blanks comment more : List ℕ) → s.rest ≡ blanks ++ (comment ++ more)
-    → AreIn is_blank blanks → IsCommentBehind blanks comment → StopsLine comment more
-    → separation Yes s ≡ Ok (
+    → AreIn is_blank blanks → IsCommentBehind blanks comment → StopsLine comment more → separation Yes s ≡ Ok (
       found_blanks Yes s.rest,
       record { rest = more; mark = along s.mark (length (blanks ++ comment)); blank_so_far = s.blank_so_far },
     )
@@ -127,10 +124,9 @@ within p q f [] h = tt
 within p q f (c ∷ cs) h = (f c h.0, within p q f cs h.1)
 
 comment_on_line : (comment : List ℕ) → (comment ≡ []) ⊎ IsComment comment → AreIn (λ c. not (c == line_feed)) comment
-comment_on_line comment (inl e) = subst (AreIn (λ c. not (c == line_feed))) (sym e) tt
+comment_on_line comment (inl e) = rw e tt
 comment_on_line comment (inr h) =
-    subst (AreIn (λ c. not (c == line_feed))) (sym h.2)
-    (refl, within is_yaml_non_break (λ c. not (c == line_feed)) non_break_no_feed h.0 h.1)
+    rw h.2 (refl, within is_yaml_non_break (λ c. not (c == line_feed)) non_break_no_feed h.0 h.1)
 
 pub blanks_moved : (m : Marker) (w : List ℕ) → AreIn is_blank w → moved m w ≡ along m (length w)
 blanks_moved m w h = moved_along m w (within is_blank (λ c. not (c == line_feed)) blank_no_feed w h)
@@ -170,8 +166,7 @@ separates_on_line column s blanks c cs is are low ink =
 
 -- up to a line's end
 pub line_rest : (s : Cursor) (blanks comment more : List ℕ) → s.rest ≡ blanks ++ (comment ++ more)
-    → AreIn is_blank blanks → IsCommentBehind blanks comment → EndsLine more
-    → (found : SkipTabs) × (separation Yes s
+    → AreIn is_blank blanks → IsCommentBehind blanks comment → EndsLine more → (found : SkipTabs) × (separation Yes s
     ≡ Ok (found, record { rest = more; mark = moved s.mark (blanks ++ comment); blank_so_far = s.blank_so_far }))
 line_rest s blanks comment more is are k ends =
     let mark = front_moved s.mark blanks comment are (behind_is blanks comment k) in (
@@ -236,4 +231,4 @@ separates column s w c cs is (lines, blanks, (pieces, each, lines_are), are, e) 
         let both : w ≡ (first ++ comment) ++ (10 ∷ ((filler ++ spaces column) ++ (joined_pieces ps ++ blanks))) =
         inside ∙ sym (append_assoc first comment _) in
         over_lines column s w first comment more c cs (is ∙ text) text
-        (λ h. no_blank_feed (first ++ comment) _ (subst (AreIn is_blank) both h)) first_are k low
+        (λ h. no_blank_feed (first ++ comment) _ (rw both at h)) first_are k low

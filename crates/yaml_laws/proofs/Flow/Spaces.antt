@@ -43,13 +43,12 @@ outside : (c : ℕ) (ds w : List ℕ) (sign : Bool) → (c == number_sign) ≡ s
     → has_tab_outside false w ≡ false → ((c == tab) ≡ false) × (has_tab_outside sign ds ≡ false)
 outside c ds w sign e is h =
     let n = or_parts (c == tab) (has_tab_outside (c == 35) ds) (ap (has_tab_outside false) (sym is) ∙ h) in
-    (n.0, ap (λ (b : Bool). has_tab_outside b ds) (sym e) ∙ n.1)
+    (n.0, cc)
 
 -- and after one of a comment
 outside_comment : (c : ℕ) (ds w : List ℕ) (ends : Bool) → is_break c ≡ ends → w ≡ c ∷ ds
     → has_tab_outside true w ≡ false → has_tab_outside (not ends) ds ≡ false
-outside_comment c ds w ends e is h =
-    ap (λ (b : Bool). has_tab_outside (not b) ds) (sym e) ∙ ap (has_tab_outside true) (sym is) ∙ h
+outside_comment c ds w ends e is h = cc
 
 over_outside : OverGap 0
     (λ m t. (w : List ℕ) → t ≡ w ++ (past 0 m t).1 → has_tab_outside false w ≡ false → has_tab t ≡ false)
@@ -106,14 +105,14 @@ separation_begins column w (lines, blanks, (pieces, each, lines_are), are, e) so
     of_line : (front comment more : List ℕ) → AreIn is_blank front → IsCommentBehind front comment
         → w ≡ front ++ (comment ++ (line_feed ∷ more)) → BeginsWhite w
     of_line [] comment more k (inl none) same =
-        record { first = 10; others = more; is = same ∙ ap (λ (t : List ℕ). t ++ (10 ∷ more)) none; white = inr refl }
+        record { first = 10; others = more; is = cc; white = inr refl }
     of_line [] comment more k (inr behind) same = absurd (behind.0 refl)
     of_line (c ∷ cs) comment more k behind same =
         record { first = c; others = cs ++ (comment ++ (10 ∷ more)); is = same; white = inl k.0 }
 
     by_lines : (pieces : List (List ℕ)) → AreEach (IsSeparationLine column) pieces → lines ≡ joined_pieces pieces
         → BeginsWhite w
-    by_lines [] each lines_are = of_blanks blanks are (e ∙ ap (λ (t : List ℕ). t ++ blanks) lines_are)
+    by_lines [] each lines_are = of_blanks blanks are (cc)
     by_lines (p ∷ ps) ((front, comment, filler, front_are, k, filler_is, line_is), others) lines_are =
         let inside : w ≡ front ++ (comment ++ (10 ∷ ((filler ++ spaces_of column) ++ (joined_pieces ps ++ blanks)))) =
         e ∙ ap (λ (t : List ℕ). t ++ blanks) lines_are ∙ ap (λ (t : List ℕ). (t ++ joined_pieces ps) ++ blanks) line_is
@@ -133,10 +132,8 @@ pub spaces_passed : (column : ℕ) (m : Marker) (blank : Bool) (w : List ℕ) (c
 spaces_passed column m blank w c cs parts low some tabs ink =
     let b = separation_begins column w parts some in
     let there = separation_past column m w (c ∷ cs) parts low ∙ past_ink column (moved m w) c cs ink in
-    let same = (settles column m (w ++ (c ∷ cs))
-    (subst (λ (p : Marker × List ℕ). IsStop p.1) (sym there) (ink_stop c cs ink))).0 ∙ there in
-    let clean = over_gap over_outside m (w ++ (c ∷ cs)) w
-    (ap (λ (p : Marker × List ℕ). w ++ p.1) (sym same)) tabs in
+    let same = (settles column m (w ++ (c ∷ cs)) (rw there (ink_stop c cs ink))).0 ∙ there in
+    let clean = over_gap over_outside m (w ++ (c ∷ cs)) w (cc) tabs in
     let front = ap (λ (v : List ℕ). v ++ (c ∷ cs)) b.is in
     let reached = spaces_reach m blank b.first (b.others ++ (c ∷ cs)) (by_first b.first b.others b.is b.white)
     (ap has_tab (sym front) ∙ clean) in

@@ -179,8 +179,7 @@ pub record IsBehindRoot (around : Around) (m : Marker) (o : List ℕ) : Type 0 w
   pub is : o ≡ rest ++ more
   pub line : IsLineRest rest
   pub break : (more ≡ []) ⊎ (slice_index more 0 ≡ line_feed)
-  pub lands : around.indent ≤ m.col
-      → EndsDocument (past around.indent m o).0 (past around.indent m o).1
+  pub lands : around.indent ≤ m.col → EndsDocument (past around.indent m o).0 (past around.indent m o).1
       ⊎ IsLeft around.column (past around.indent m o).0 (past around.indent m o).1
 
 -- A piece that is clear, within the limit, and right of the block collection around it, where no key is required.
@@ -194,8 +193,7 @@ pub record FitsAround (around : Around) (m : Marker) (p o : List ℕ) : Type 0 w
 
 pub record ReaderPromises : Type 0 where
   pub plain : (in_flow : Bool) (indent : ℕ) (s : Cursor) (text x : List ℕ) → s.rest ≡ text ++ x
-      → IsPlainText in_flow indent s.mark text x
-      → let end = end_of_text s.mark text in let behind =
+      → IsPlainText in_flow indent s.mark text x → let end = end_of_text s.mark text in let behind =
       past_white end false x in words.plain in_flow indent s
       ≡ Ok (
         encode_utf8_all (plain_value (normalized text)),
@@ -216,12 +214,10 @@ pub record ReaderPromises : Type 0 where
       → EndsTag in_flow x
       → tags.tag in_flow s ≡ Ok (encode_utf8_all handle, encode_utf8_all suffix, mid_line (along s.mark (length t)) x)
   pub directive : (s : Cursor) (d : ReadDirective) (t tail x : List ℕ) → s.rest ≡ t ++ (tail ++ x) → IsDirectiveText d t
-      → IsLineTail tail → is_breakz (slice_index x 0) ≡ true
-      → directives.directive s
+      → IsLineTail tail → is_breakz (slice_index x 0) ≡ true → directives.directive s
       ≡ Ok (d, along s.mark (length t), pass_break (mid_line (along s.mark (length t + length tail)) x))
   pub reserved : (s : Cursor) (name t x : List ℕ) → s.rest ≡ t ++ x → IsReservedDirective name t
-      → is_breakz (slice_index x 0) ≡ true
-      → directives.directive s
+      → is_breakz (slice_index x 0) ≡ true → directives.directive s
       ≡ Ok (
         spelling.reserved (encode_utf8_all name),
         along s.mark (length t),
@@ -317,8 +313,7 @@ pub record IsAfterNode (indent : ℕ) (x : Context) (kept : KeptKey) (allows : L
   pub keeps : is_block x ≡ false → key ≡ kept.kept
   pub since : Since kept.before kept.from kept.over key
   pub near : is_block x ≡ false → (separation more : List ℕ) → o ≡ separation ++ (colon ∷ more)
-      → IsSeparation indent separation → IsTrue (allows separation)
-      → adjacent ≡ (moved m separation).index
+      → IsSeparation indent separation → IsTrue (allows separation) → adjacent ≡ (moved m separation).index
   pub low : adjacent ≤ (past indent m o).0.index
 
 abbrev pub after_node : ℕ → Context → KeptKey → (List ℕ → Bool) → Marker → List ℕ → Known

@@ -167,10 +167,10 @@ begins_inked p o b = ap (λ (t : List ℕ). is_blank (slice_index (t ++ o) 0)) b
 pub begins_token : (m : Marker) (p o : List ℕ) → Begins p → IsClear m p o → BeginsToken m (p ++ o)
 begins_token m p o b clear =
     let front : p ++ o ≡ b.first ∷ (b.others ++ o) = ap (λ (t : List ℕ). t ++ o) b.is in
-    let here = clear_here m b.first b.others o (subst (λ (t : List ℕ). IsClear m t o) b.is clear) in
+    let here = clear_here m b.first b.others o (rw b.is at clear) in
     let token : BeginsToken m (b.first ∷ (b.others ++ o)) =
     record { nul = b.nul; byte_order_mark = b.ink.byte_order_mark; directive = b.directive; marker = here } in
-    subst (BeginsToken m) (sym front) token
+    rw front token
 
 -- A step over a token that is at m: y is what is there, and after the token o is at n. A comment may have ended it.
 -- `says` tells whether a key may begin after it, and where a colon may come at once.
@@ -226,10 +226,8 @@ saved_since false n m k j p key (inl h) (inr g) = inl (g ∙ h)
 saved_since false n m k j p key (inr h) (inr g) = inr (inl (g ∙ h))
 
 pub token_passes : (around : Around) (comment : Option Marker) (says : Bool → ℕ → Type 0) (kind : Kind) (p o : List ℕ)
-    (m : Marker) → Begins p
-    → FitsAround around m p o → around.indent ≤ (moved m p).col → (now : FlowMoment)
-    → StandsBefore around now m (p ++ o)
-    → ((b : Bool) (j : Option Candidate) (e : Bool)
+    (m : Marker) → Begins p → FitsAround around m p o → around.indent ≤ (moved m p).col → (now : FlowMoment)
+    → StandsBefore around now m (p ++ o) → ((b : Bool) (j : Option Candidate) (e : Bool)
     → TokenStep around comment says kind (p ++ o) m (moved m p) o now.context now.outer now.adjacent
     (length now.places) b j e)
     → PassesNoting comment around (state_at around now) (after_token says now.context (keeping now m p)) now.context

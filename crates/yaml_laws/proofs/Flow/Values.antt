@@ -193,8 +193,7 @@ pair_kinds begins key others new m ts is are =
   where
     by_opening : (begins : Bool)
         → place_kinds (bare_place key ∷ (others ++ bare_place (empty_piece m tokens.Value) ∷ [])) ≡ ts ++
-        tokens.Value ∷ []
-        → place_kinds (pair_places (opened_key begins) key others (empty_piece m tokens.Value))
+        tokens.Value ∷ [] → place_kinds (pair_places (opened_key begins) key others (empty_piece m tokens.Value))
         ≡ key_kinds begins ++ (ts ++ tokens.Value ∷ [])
     by_opening true e = ap (λ (x : List Kind). tokens.FlowMappingStart ∷ tokens.Key ∷ x) e
     by_opening false e = ap (λ (x : List Kind). tokens.Key ∷ x) e
@@ -212,8 +211,7 @@ pub colon_passes : (around : Around) (y : Context) → is_block y ≡ false
     → (start : Bool → State) (ls : List Level) (ps : List Place) (ts : List Kind) (kept : KeptKey)
     → kept.kept ≡ Some (key_at first ps)
     → PassesPiece around start (after_node around.indent y kept (allows_adjacent node) e (w ++ (colon ∷ o))) y ls ps e
-    (w ++ (colon ∷ o)) ts
-    → PassesPiece around start (no_key (moved (moved e w) (colon ∷ []))) (behind_colon y) ls ps
+    (w ++ (colon ∷ o)) ts → PassesPiece around start (no_key (moved (moved e w) (colon ∷ []))) (behind_colon y) ls ps
     (moved (moved e w) (colon ∷ [])) o
     (key_kinds (begins_pair y) ++ (ts ++ tokens.Value ∷ []))
 colon_passes around y flows first e node w o parts fits parted ends same_line start ls ps ts kept first_kept p =
@@ -221,7 +219,7 @@ colon_passes around y flows first e node w o parts fits parted ends same_line st
     let n = p.knows in
     let lands : past around.indent e (w ++ (58 ∷ o)) ≡ (m, 58 ∷ o) =
     separation_past around.indent e w (58 ∷ o) parts p.right ∙ past_ink around.indent m 58 o colon_is_mark.ink in
-    let before : p.adjacent ≤ m.index = subst (λ (q : Marker × List ℕ). p.adjacent ≤ q.0.index) lands n.low in
+    let before : p.adjacent ≤ m.index = rw lands at n.low in
     let qs = ps ++ p.new in
     let v = arrives around (after p) m (58 ∷ o) (p.fits ∙ lands) refl fits.right fits.calm in
     let k = key_at first ps in
@@ -278,8 +276,7 @@ alone_actions true m = at_mark m tokens.FlowMappingStart ∷ at_mark m tokens.Va
 alone_actions false m = at_mark m tokens.Value ∷ []
 
 alone_step : (around : Around) (d : Bool) (m : Marker) (there : Cursor) (y : Context) (ls : List Level) (a : Bool)
-    (ad : ℕ) → is_block y ≡ false
-    → value_alone (begins_pair y) m (core_at around d there (behind_colon y) None ls a ad)
+    (ad : ℕ) → is_block y ≡ false → value_alone (begins_pair y) m (core_at around d there (behind_colon y) None ls a ad)
     ≡ completed_step (alone_actions (begins_pair y) m) (core_at around d there (behind_colon y) None ls false ad)
 unfolding value_alone opening_actions
 alone_step around d m there context.Block ls a ad e = absurd (true≢false e)

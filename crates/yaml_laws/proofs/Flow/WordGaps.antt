@@ -38,12 +38,11 @@ feed_alone c cs h = rw h (by_feed (c == line_feed))
 pub passed_moved : (m : Marker) (t : List ℕ) → NoReturn t → end_of_text m t ≡ moved m t
 passed_moved m [] h = refl
 passed_moved m (c ∷ cs) h =
-    ap (λ (b : Bool). end_of_text (if b then next_line m 1 else along m 1) cs) (feed_alone c cs (no_return c h.0))
-    ∙ passed_moved (if c == line_feed then next_line m 1 else along m 1) cs h.1
+    cc (feed_alone c cs (no_return c h.0), passed_moved (if c == line_feed then next_line m 1 else along m 1) cs h.1)
 
 pub normalized_same : (t : List ℕ) → NoReturn t → normalized t ≡ t
 normalized_same [] h = refl
-normalized_same (c ∷ cs) h = rw (no_return c h.0) (ap (λ (t : List ℕ). c ∷ t) (normalized_same cs h.1))
+normalized_same (c ∷ cs) h = rw (no_return c h.0) (cc (normalized_same cs h.1))
 
 -- ## Gaps
 
@@ -56,18 +55,16 @@ both_white [] b h k = k
 both_white (c ∷ cs) b h k = (h.0, both_white cs b h.1 k)
 
 spaces_white : (least : ℕ) (t : List ℕ) → AreSpaces least t → AreIn is_blank_or_break t
-spaces_white least t h = subst (AreIn is_blank_or_break) (sym h.2) (blanks_white (spaces h.0) (spaces_are_blank h.0))
+spaces_white least t h = rw h.2 (blanks_white (spaces h.0) (spaces_are_blank h.0))
 
 prefix_white : (indent : ℕ) (t : List ℕ) → IsLinePrefix indent t → AreIn is_blank_or_break t
 prefix_white indent t (front, blanks, spaced, are, is) =
-    subst (AreIn is_blank_or_break) (sym is)
-    (both_white front blanks (spaces_white indent front spaced) (blanks_white blanks are))
+    rw is (both_white front blanks (spaces_white indent front spaced) (blanks_white blanks are))
 
 empty_line_white : (indent : ℕ) (t : List ℕ) → IsEmptyLine indent t → AreIn is_blank_or_break t
-empty_line_white indent t (front, inl h, is) =
-    subst (AreIn is_blank_or_break) (sym is) (both_white front (10 ∷ []) (spaces_white 0 front h) (refl, tt))
+empty_line_white indent t (front, inl h, is) = rw is (both_white front (10 ∷ []) (spaces_white 0 front h) (refl, tt))
 empty_line_white indent t (front, inr h, is) =
-    subst (AreIn is_blank_or_break) (sym is) (both_white front (10 ∷ []) (prefix_white indent front h) (refl, tt))
+    rw is (both_white front (10 ∷ []) (prefix_white indent front h) (refl, tt))
 
 lines_white : (indent : ℕ) (ts : List (List ℕ)) → AreEach (IsEmptyLine indent) ts
     → AreIn is_blank_or_break (joined_pieces ts)
@@ -83,14 +80,14 @@ blanks_alone : (t : List ℕ) → AreIn is_blank t → behind_blanks t ≡ []
 blanks_alone [] h = refl
 blanks_alone (c ∷ cs) h =
     rw h.0 (let one : 1 + prefix_len is_blank cs ≡ suc (prefix_len is_blank cs) =
-    omega arith in ap (λ (n : ℕ). drop n (c ∷ cs)) one ∙ blanks_alone cs h.1)
+    omega arith in cc (blanks_alone cs h.1))
 
 blanks_before : (t : List ℕ) (c : ℕ) (cs : List ℕ) → AreIn is_blank t → is_blank c ≡ false
     → behind_blanks (t ++ (c ∷ cs)) ≡ c ∷ cs
 blanks_before [] c cs h e = rw e refl
 blanks_before (d ∷ ds) c cs h e =
     rw h.0 (let one : 1 + prefix_len is_blank (ds ++ (c ∷ cs)) ≡ suc (prefix_len is_blank (ds ++ (c ∷ cs))) =
-    omega arith in ap (λ (n : ℕ). drop n (d ∷ (ds ++ (c ∷ cs)))) one ∙ blanks_before ds c cs h.1 e)
+    omega arith in cc (blanks_before ds c cs h.1 e))
 
 no_line_end : (t : List ℕ) → AreIn is_blank t → has_line_end t ≡ false
 no_line_end [] h = refl
@@ -102,20 +99,18 @@ no_line_end (c ∷ cs) h = rw (blank_no_break c h.0) (no_line_end cs h.1)
 -- spaces fit wherever they are
 spaces_fit : (indent n k : ℕ) (y : List ℕ) → IsFalse (reaches_tabbed indent (n + k) false y)
     → IsFalse (reaches_tabbed indent n false (spaces k ++ y))
-spaces_fit indent n zero y h = subst (λ (i : ℕ). IsFalse (reaches_tabbed indent i false y)) (none n) h
+spaces_fit indent n zero y h = rw (none n) at h
   where
     none : (n : ℕ) → n + 0 ≡ n
     none n = omega arith
-spaces_fit indent n (suc k) y h =
-    spaces_fit indent (n + 1) k y (subst (λ (i : ℕ). IsFalse (reaches_tabbed indent i false y)) (one n k) h)
+spaces_fit indent n (suc k) y h = spaces_fit indent (n + 1) k y (rw (one n k) at h)
   where
     one : (n k : ℕ) → n + suc k ≡ n + 1 + k
     one n k = omega arith
 
 -- and blanks right of the indentation do
 blanks_fit : (indent n : ℕ) (w y : List ℕ) → AreIn is_blank w → indent ≤ n
-    → ((i : ℕ) → IsFalse (reaches_tabbed indent i false y))
-    → IsFalse (reaches_tabbed indent n false (w ++ y))
+    → ((i : ℕ) → IsFalse (reaches_tabbed indent i false y)) → IsFalse (reaches_tabbed indent n false (w ++ y))
 blanks_fit indent n [] y h right fits = fits n
 blanks_fit indent n (c ∷ cs) y h right fits =
     rw (h.0, no_line c h.0, not_left n indent right, and_true (c == tab))
@@ -132,21 +127,17 @@ blanks_fit indent n (c ∷ cs) y h right fits =
     and_true false = refl
 
 prefix_fits : (indent : ℕ) (t y : List ℕ) → IsLinePrefix indent t
-    → ((i : ℕ) → IsFalse (reaches_tabbed indent i false y))
-    → IsFalse (reaches_tabbed indent 0 false (t ++ y))
+    → ((i : ℕ) → IsFalse (reaches_tabbed indent i false y)) → IsFalse (reaches_tabbed indent 0 false (t ++ y))
 prefix_fits indent t y (front, blanks, (n, low, spaced), are, is) fits =
-    let text : t ++ y ≡ spaces n ++ (blanks ++ y) = ap (λ (x : List ℕ). x ++ y)
-    (is ∙ ap (λ (x : List ℕ). x ++ blanks) spaced) ∙ append_assoc (spaces n) blanks y in
-    subst (λ (x : List ℕ). IsFalse (reaches_tabbed indent 0 false x)) (sym text)
-    (spaces_fit indent 0 n (blanks ++ y) (at_column 0 n refl (blanks_fit indent n blanks y are low fits)))
+    let text : t ++ y ≡ spaces n ++ (blanks ++ y) = cc (append_assoc (spaces n) blanks y) in
+    rw text (spaces_fit indent 0 n (blanks ++ y) (at_column 0 n refl (blanks_fit indent n blanks y are low fits)))
   where
     none : (n : ℕ) → 0 + n ≡ n
     none n = omega arith
 
     at_column : (z n : ℕ) → z ≡ 0 → IsFalse (reaches_tabbed indent n false (blanks ++ y))
         → IsFalse (reaches_tabbed indent (z + n) false (blanks ++ y))
-    at_column z n e h = subst (λ (i : ℕ). IsFalse (reaches_tabbed indent i false (blanks ++ y)))
-        (sym (ap (λ (i : ℕ). i + n) e ∙ none n)) h
+    at_column z n e h = rw (e, none n) h
 
 feed_fits : (indent n : ℕ) (y : List ℕ) → IsFalse (reaches_tabbed indent 0 false y)
     → IsFalse (reaches_tabbed indent n false (line_feed ∷ y))
@@ -155,20 +146,17 @@ feed_fits indent n y h = h
 line_fits : (indent : ℕ) (t y : List ℕ) → IsEmptyLine indent t → IsFalse (reaches_tabbed indent 0 false y)
     → IsFalse (reaches_tabbed indent 0 false (t ++ y))
 line_fits indent t y (front, inl (n, low, spaced), is) h =
-    let text : t ++ y ≡ spaces n ++ (10 ∷ y) = ap (λ (x : List ℕ). x ++ y)
-    (is ∙ ap (λ (x : List ℕ). x ++ (10 ∷ [])) spaced) ∙ append_assoc (spaces n) (10 ∷ []) y in
-    subst (λ (x : List ℕ). IsFalse (reaches_tabbed indent 0 false x)) (sym text)
-    (spaces_fit indent 0 n (10 ∷ y) (feed_fits indent n y h))
+    let text : t ++ y ≡ spaces n ++ (10 ∷ y) = cc (append_assoc (spaces n) (10 ∷ []) y) in
+    rw text (spaces_fit indent 0 n (10 ∷ y) (feed_fits indent n y h))
 line_fits indent t y (front, inr p, is) h =
-    let text : t ++ y ≡ front ++ (10 ∷ y) = ap (λ (x : List ℕ). x ++ y) is ∙ append_assoc front (10 ∷ []) y in
-    subst (λ (x : List ℕ). IsFalse (reaches_tabbed indent 0 false x)) (sym text)
-    (prefix_fits indent front (10 ∷ y) p (λ i. feed_fits indent i y h))
+    let text : t ++ y ≡ front ++ (10 ∷ y) = cc (append_assoc front (10 ∷ []) y) in
+    rw text (prefix_fits indent front (10 ∷ y) p (λ i. feed_fits indent i y h))
 
 lines_fit : (indent : ℕ) (ts : List (List ℕ)) (y : List ℕ) → AreEach (IsEmptyLine indent) ts
     → IsFalse (reaches_tabbed indent 0 false y) → IsFalse (reaches_tabbed indent 0 false (joined_pieces ts ++ y))
 lines_fit indent [] y h fits = fits
 lines_fit indent (t ∷ ts) y h fits =
-    subst (λ (x : List ℕ). IsFalse (reaches_tabbed indent 0 false x)) (sym (append_assoc t (joined_pieces ts) y))
+    rw (append_assoc t (joined_pieces ts) y)
     (line_fits indent t (joined_pieces ts ++ y) h.0 (lines_fit indent ts y h.1 fits))
 
 -- what is between two words
@@ -184,13 +172,11 @@ pub prefix_reaches : (indent : ℕ) (m : Marker) (t : List ℕ) → IsLinePrefix
 prefix_reaches indent m t (front, blanks, (n, low, spaced), are, is) =
     let k = moved m front in
     let there = ap (λ (f : List ℕ). (moved m f).col) spaced ∙ spaces_column m n in
-    subst (λ (i : Marker). indent ≤ i.col) (sym (ap (moved m) is ∙ moved_append m front blanks))
-    (blanks_past indent blanks are k (omega (arith, low, there))).right
+    rw (is, moved_append m front blanks) (blanks_past indent blanks are k (omega (arith, low, there))).right
 
 folded_gap_passes : (indent : ℕ) (m : Marker) (t : List ℕ) → IsFoldedGap indent t → Gapped indent m t
 folded_gap_passes indent m t (blanks, lines, front, are, (pieces, each, joins), prefix, is) =
-    let many : AreIn is_blank_or_break lines = subst (AreIn is_blank_or_break) (sym joins)
-    (lines_white indent pieces each) in
+    let many : AreIn is_blank_or_break lines = rw joins (lines_white indent pieces each) in
     let all : AreIn is_blank_or_break (blanks ++ (10 ∷ (lines ++ front))) = both_white blanks (10 ∷ (lines ++ front))
     (blanks_white blanks are) (refl, both_white lines front many (prefix_white indent front prefix)) in
     let last : IsFalse (reaches_tabbed indent 0 false front) = subst
@@ -200,15 +186,12 @@ folded_gap_passes indent m t (blanks, lines, front, are, (pieces, each, joins), 
     (λ (x : List ℕ). IsFalse (reaches_tabbed indent 0 false (x ++ front))) (sym joins)
     (lines_fit indent pieces front each last) in
     let whole : t ≡ (blanks ++ (10 ∷ lines)) ++ front = is ∙ sym (append_assoc blanks (10 ∷ lines) front) in
-    let right : indent ≤ (moved m t).col = subst (λ (k : Marker). indent ≤ k.col)
-    (sym (ap (moved m) whole ∙ moved_append m (blanks ++ (10 ∷ lines)) front))
+    let right : indent ≤ (moved m t).col = rw (whole, moved_append m (blanks ++ (10 ∷ lines)) front)
     (prefix_reaches indent (moved m (blanks ++ (10 ∷ lines))) front prefix) in
     record {
       some = λ e. not_nothing blanks 10 (lines ++ front) (sym is ∙ e);
-      white = subst (AreIn is_blank_or_break) (sym is) all;
-      tabs = subst (λ (y : List ℕ). IsFalse (reaches_tabbed indent 0 false (behind_blanks y))) (sym is)
-          (subst (λ (y : List ℕ). IsFalse (reaches_tabbed indent 0 false y))
-          (sym (blanks_before blanks 10 (lines ++ front) are refl)) (feed_fits indent 0 (lines ++ front) fit));
+      white = rw is all;
+      tabs = rw (is, blanks_before blanks 10 (lines ++ front) are refl) (feed_fits indent 0 (lines ++ front) fit);
       indented = inr right;
       right = λ _. right;
     }
@@ -218,7 +201,7 @@ word_gap indent m t (inl h) =
     record {
       some = h.0;
       white = blanks_white t h.1;
-      tabs = subst (λ (y : List ℕ). IsFalse (reaches_tabbed indent 0 false y)) (sym (blanks_alone t h.1)) refl;
+      tabs = rw (blanks_alone t h.1) refl;
       indented = inl (no_line_end t h.1);
       right = λ low. (blanks_past indent t h.1 m low).right;
     }
@@ -228,9 +211,4 @@ pub plain_gap : (f : Bool) (indent : ℕ) (m : Marker) (t : List ℕ) → IsWord
     → IsPlainGap f indent m t
 plain_gap f indent m t h e =
     let g = word_gap indent m t h in
-    record {
-      some = g.some;
-      white = g.white;
-      tabs = g.tabs;
-      indented = inr (subst (λ (k : Marker). (has_line_end t ≡ false) ⊎ (indent ≤ k.col)) (sym e) g.indented);
-    }
+    record { some = g.some; white = g.white; tabs = g.tabs; indented = inr (rw e g.indented) }

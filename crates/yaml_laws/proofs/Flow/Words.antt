@@ -81,8 +81,7 @@ word_before f w y h = record {
         → (f && (slice_index (w ++ y) 0 == hyphen) && is_flow (slice_index (w ++ y) 1)) ≡ false
     by_word [] some ink other = absurd (some refl)
     by_word (c ∷ []) some ink other = by_first c (is_flow (slice_index y 0)) other
-    by_word (c ∷ d ∷ ds) some ink other =
-        lone_dash c f (is_flow d) (λ e. subst (λ (g : Bool). (g && is_flow d) ≡ false) e (ink_other f d ink.2.0).flow)
+    by_word (c ∷ d ∷ ds) some ink other = lone_dash c f (is_flow d) (λ e. rw e at (ink_other f d ink.2.0).flow)
 
 -- a colon is a character of a word
 pub colon_is_ink : (f : Bool) → IsTrue (is_word_ink f 58)
@@ -106,13 +105,12 @@ last_before f w r (some, ink, no_comment) =
         → (f && (slice_index (w ++ (colon ∷ r)) 0 == hyphen) && is_flow (slice_index (w ++ (colon ∷ r)) 1)) ≡ false
     by_word [] some ink = absurd (some refl)
     by_word (c ∷ []) some ink = lone_dash c f false (λ _. refl)
-    by_word (c ∷ d ∷ ds) some ink =
-        lone_dash c f (is_flow d) (λ e. subst (λ (g : Bool). (g && is_flow d) ≡ false) e (ink_other f d ink.1.0).flow)
+    by_word (c ∷ d ∷ ds) some ink = lone_dash c f (is_flow d) (λ e. rw e at (ink_other f d ink.1.0).flow)
 
 -- ## No marker begins a line
 
 marked : (n : ℕ) (b : Bool) → ((n == 0) && b) ≡ false → n ≡ 0 → IsFalse b
-marked n b h e = subst (λ (k : ℕ). ((k == 0) && b) ≡ false) e h
+marked n b h e = rw e at h
 
 no_marker : (m : Marker) (w o : List ℕ) → w ≢ [] → IsClear m w o → IsNoMarker m (w ++ o)
 no_marker m [] o some clear = absurd (some refl)
@@ -129,15 +127,13 @@ record IsFurther (f : Bool) (indent : ℕ) (m : Marker) (t o : List ℕ) : Type 
 -- after a word
 behind_word : (m : Marker) (word more o : List ℕ) → NoBreaks word → IsClear m (word ++ more) o
     → IsClear (along m (length word)) more o
-behind_word m word more o unbroken clear =
-    subst (λ (n : Marker). IsClear n more o) (unbroken_along m word unbroken) (clear_back m word more o clear)
+behind_word m word more o unbroken clear = rw (unbroken_along m word unbroken) at (clear_back m word more o clear)
 
 -- at a word
 at_word : (m : Marker) (gap word more o : List ℕ) → IsClear m (gap ++ (word ++ more)) o
     → IsClear (end_of_text m gap) (word ++ more) o
 at_word m gap word more o clear =
-    subst (λ (n : Marker). IsClear n (word ++ more) o)
-    (sym (passed_moved m gap (clear_front m gap (word ++ more) o clear).no_return))
+    rw (passed_moved m gap (clear_front m gap (word ++ more) o clear).no_return)
     (clear_back m gap (word ++ more) o clear)
 
 -- a gap and a word before others
@@ -152,25 +148,15 @@ one_further f indent m gap word more o gapped is_word clear rest =
     let line : moved (end_of_text m gap) word ≡ along (end_of_text m gap) (length word) =
     unbroken_along (end_of_text m gap) word unbroken in
     let unmarked : IsNoMarker (end_of_text m gap) (word ++ (words_text rest.words ++ o)) =
-    subst (λ (t : List ℕ). IsNoMarker (end_of_text m gap) (word ++ (t ++ o))) rest.is
-    (no_marker (end_of_text m gap) word (more ++ o) is_word.some
+    rw rest.is at (no_marker (end_of_text m gap) word (more ++ o) is_word.some
     (clear_front (end_of_text m gap) word more o (at_word m gap word more o clear))) in
     record {
       words = (gap, word) ∷ rest.words;
-      is = ap (λ (t : List ℕ). gap ++ (word ++ t)) rest.is;
-      further = (
-        plain_gap f indent m gap gapped there,
-        subst (λ (t : List ℕ). IsWordBefore f word (t ++ o)) rest.is
-            is_word,
-        unmarked,
-        rest.further,
-      );
-      right = λ low. subst (λ (k : Marker). indent ≤ k.col)
-          (sym (moved_append m gap (word ++ more) ∙ moved_append (moved m gap) word more
-          ∙ ap (λ (k : Marker). moved (moved k word) more) (sym there) ∙ ap (λ (k : Marker). moved k more) line))
-          (rest.right (subst (λ (k : Marker). indent ≤ k.col) line
-          (right_along indent (end_of_text m gap) word (unbroken_on_line word unbroken)
-          (subst (λ (k : Marker). indent ≤ k.col) (sym there) ((word_gap indent m gap gapped).right low)))));
+      is = cc;
+      further = (plain_gap f indent m gap gapped there, rw rest.is at is_word, unmarked, rest.further);
+      right = λ low. rw (moved_append m gap (word ++ more), moved_append (moved m gap) word more, ← there, line)
+          (rest.right (rw line at (right_along indent (end_of_text m gap) word (unbroken_on_line word unbroken)
+          (rw there ((word_gap indent m gap gapped).right low)))));
     }
 
 blank_is_apart : (c : ℕ) → IsTrue (is_blank c) → is_flow c ≡ false
@@ -183,8 +169,7 @@ gap_is_apart indent gap more (inl (some, are)) = by_first gap some are
     by_first : (t : List ℕ) → t ≢ [] → AreIn is_blank t → is_flow (slice_index (t ++ more) 0) ≡ false
     by_first [] some are = absurd (some refl)
     by_first (c ∷ cs) some are = blank_is_apart c are.0
-gap_is_apart indent gap more (inr (blanks, lines, front, are, ls, prefix, is)) =
-    subst (λ (t : List ℕ). is_flow (slice_index (t ++ more) 0) ≡ false) (sym is) (by_first blanks are)
+gap_is_apart indent gap more (inr (blanks, lines, front, are, ls, prefix, is)) = rw is (by_first blanks are)
   where
     by_first : (t : List ℕ) → AreIn is_blank t
         → is_flow (slice_index ((t ++ (10 ∷ (lines ++ front))) ++ more) 0) ≡ false
@@ -213,13 +198,12 @@ dashes_further f indent [] h last o apart ends m clear = ends m clear
 dashes_further f indent (p ∷ ps) ((gap, gapped, is), others) last o apart ends m clear =
     let more = joined_pieces ps ++ last in
     let text : (p ++ joined_pieces ps) ++ last ≡ gap ++ ((45 ∷ []) ++ more) =
-    append_assoc p (joined_pieces ps) last ∙ ap (λ (t : List ℕ). t ++ more) is ∙ append_assoc gap (45 ∷ []) more in
-    let all : IsClear m (gap ++ ((45 ∷ []) ++ more)) o = subst (λ (t : List ℕ). IsClear m t o) text clear in
+    cc (append_assoc p (joined_pieces ps) last, append_assoc gap (45 ∷ []) more) in
+    let all : IsClear m (gap ++ ((45 ∷ []) ++ more)) o = rw text at clear in
     let before = dash_before f (more ++ o) (next ps others) in
     let behind = behind_word (end_of_text m gap) (45 ∷ []) more o (word_unbroken f (45 ∷ []) (more ++ o) before.ink)
     (at_word m gap (45 ∷ []) more o all) in
-    subst (λ (t : List ℕ). IsFurther f indent m t o) (sym text)
-    (one_further f indent m gap (45 ∷ []) more o gapped before all
+    rw text (one_further f indent m gap (45 ∷ []) more o gapped before all
     (dashes_further f indent ps others last o apart ends (along (end_of_text m gap) 1) behind))
   where
     next : (qs : List (List ℕ)) → AreEach (IsLoneDash indent) qs
@@ -228,8 +212,7 @@ dashes_further f indent (p ∷ ps) ((gap, gapped, is), others) last o apart ends
     next (q ∷ qs) ((gap, gapped, is), others) =
         let text : ((q ++ joined_pieces qs) ++ last) ++ o ≡ gap ++ ((45 ∷ []) ++ ((joined_pieces qs ++ last) ++ o)) =
         ap (λ (t : List ℕ). ((t ++ joined_pieces qs) ++ last) ++ o) is ∙ simp append_assoc in
-        subst (λ (t : List ℕ). is_flow (slice_index t 0) ≡ false) (sym text)
-        (gap_is_apart indent gap ((45 ∷ []) ++ ((joined_pieces qs ++ last) ++ o)) gapped)
+        rw text (gap_is_apart indent gap ((45 ∷ []) ++ ((joined_pieces qs ++ last) ++ o)) gapped)
 
 -- words, and what comes after them
 further_words : (f : Bool) (indent : ℕ) (pieces : List (List ℕ)) → AreEach (IsFurtherWord f indent) pieces
@@ -243,17 +226,14 @@ further_words f indent (p ∷ ps) ((dashes, gap, word, (lone, each, joins), gapp
     ap (λ (t : List ℕ). (t ++ joined_pieces ps) ++ last) (is ∙ ap (λ (t : List ℕ). t ++ (gap ++ word)) joins)
     ∙ simp append_assoc in
     let before = word_before f word (more ++ o) is_word in
-    subst (λ (t : List ℕ). IsFurther f indent m t o) (sym text)
-    (dashes_further f indent lone each (gap ++ (word ++ more)) o (apart gapped more)
+    rw text (dashes_further f indent lone each (gap ++ (word ++ more)) o (apart gapped more)
     (λ n there. one_further f indent n gap word more o gapped before there
     (further_words f indent ps others last o ends (along (end_of_text n gap) (length word))
     (behind_word (end_of_text n gap) word more o (word_unbroken f word (more ++ o) before.ink)
-    (at_word n gap word more o there)))) m (subst (λ (t : List ℕ). IsClear m t o) text clear))
+    (at_word n gap word more o there)))) m (rw text at clear))
   where
     apart : IsWordGap indent gap → (more : List ℕ) → is_flow (slice_index ((gap ++ (word ++ more)) ++ o) 0) ≡ false
-    apart gapped more =
-        subst (λ (t : List ℕ). is_flow (slice_index t 0) ≡ false) (sym (append_assoc gap (word ++ more) o))
-        (gap_is_apart indent gap ((word ++ more) ++ o) gapped)
+    apart gapped more = rw (append_assoc gap (word ++ more) o) (gap_is_apart indent gap ((word ++ more) ++ o) gapped)
 
 nothing_further : (f : Bool) (indent : ℕ) (m : Marker) (o : List ℕ) → IsFurther f indent m [] o
 nothing_further f indent m o = record { words = []; is = refl; further = tt; right = λ low. low }
@@ -263,19 +243,13 @@ last_further : (f : Bool) (indent : ℕ) (dashes gap word r : List ℕ) → AreM
     → IsWordGap indent gap → IsLastWord f word → (m : Marker) → IsClear m (dashes ++ (gap ++ word)) (colon ∷ r)
     → IsFurther f indent m (dashes ++ (gap ++ word)) (colon ∷ r)
 last_further f indent dashes gap word r (lone, each, joins) gapped is_word m clear =
-    let text : dashes ++ (gap ++ word) ≡ joined_pieces lone ++ (gap ++ (word ++ [])) =
-    ap (λ (t : List ℕ). t ++ (gap ++ word)) joins
-    ∙ ap (λ (t : List ℕ). joined_pieces lone ++ (gap ++ t)) (sym (append-nil word)) in
-    subst (λ (t : List ℕ). IsFurther f indent m t (58 ∷ r)) (sym text)
-    (dashes_further f indent lone each (gap ++ (word ++ [])) (58 ∷ r) apart
+    let text : dashes ++ (gap ++ word) ≡ joined_pieces lone ++ (gap ++ (word ++ [])) = cc (append-nil word) in
+    rw text (dashes_further f indent lone each (gap ++ (word ++ [])) (58 ∷ r) apart
     (λ n there. one_further f indent n gap word [] (58 ∷ r) gapped (last_before f word r is_word) there
-    (nothing_further f indent (along (end_of_text n gap) (length word)) (58 ∷ r))) m
-    (subst (λ (t : List ℕ). IsClear m t (58 ∷ r)) text clear))
+    (nothing_further f indent (along (end_of_text n gap) (length word)) (58 ∷ r))) m (rw text at clear))
   where
     apart : is_flow (slice_index ((gap ++ (word ++ [])) ++ (58 ∷ r)) 0) ≡ false
-    apart =
-        subst (λ (t : List ℕ). is_flow (slice_index t 0) ≡ false) (sym (append_assoc gap (word ++ []) (58 ∷ r)))
-        (gap_is_apart indent gap ((word ++ []) ++ (58 ∷ r)) gapped)
+    apart = rw (append_assoc gap (word ++ []) (58 ∷ r)) (gap_is_apart indent gap ((word ++ []) ++ (58 ∷ r)) gapped)
 
 -- ## The whole scalar
 
@@ -300,15 +274,13 @@ has_words f indent m t o first behind is word clear further = record {
   is = is;
   word = word;
   others = further (along m (length first))
-      (behind_word m first behind o (word_unbroken f first (behind ++ o) word.ink)
-      (subst (λ (y : List ℕ). IsClear m y o) is clear));
+      (behind_word m first behind o (word_unbroken f first (behind ++ o) word.ink) (rw is at clear));
 }
 
 plain_words : (f : Bool) (indent : ℕ) (m : Marker) (t o : List ℕ) → IsPlain f indent t → IsClear m t o
     → HasWords f indent m t o
 plain_words f indent m t o (first, others, is_first, (pieces, each, joins), is) clear =
-    let text : t ≡ first ++ (joined_pieces pieces ++ []) = is ∙ ap (λ (y : List ℕ). first ++ y)
-    (joins ∙ sym (append-nil (joined_pieces pieces))) in
+    let text : t ≡ first ++ (joined_pieces pieces ++ []) = cc (append-nil (joined_pieces pieces)) in
     has_words f indent m t o first (joined_pieces pieces ++ []) text
     (word_before f first ((joined_pieces pieces ++ []) ++ o) is_first.0) clear
     (further_words f indent pieces each [] o (λ n _. nothing_further f indent n o))
@@ -332,8 +304,7 @@ key_words f indent m t r (inr (
 )) clear =
     let end = dashes ++ (gap ++ word) in
     let behind = joined_pieces pieces ++ end in
-    let text : t ≡ first ++ behind = e ∙ ap (λ (y : List ℕ). y ++ end)
-    (is ∙ ap (λ (y : List ℕ). first ++ y) joins) ∙ append_assoc first (joined_pieces pieces) end in
+    let text : t ≡ first ++ behind = cc (append_assoc first (joined_pieces pieces) end) in
     has_words f indent m t (58 ∷ r) first behind text (word_before f first (behind ++ (58 ∷ r)) is_first.0) clear
     (further_words f indent pieces each end (58 ∷ r) (last_further f indent dashes gap word r lone gapped last))
 
@@ -342,11 +313,11 @@ text_of : (f : Bool) (indent : ℕ) (m : Marker) (t o : List ℕ) → HasWords f
 text_of f indent m t o h clear ends = record {
   first = h.first;
   others = h.others.words;
-  is = h.is ∙ ap (λ (y : List ℕ). h.first ++ y) h.others.is;
-  word = subst (λ (y : List ℕ). IsWordBefore f h.first (y ++ o)) h.others.is h.word;
+  is = cc;
+  word = rw h.others.is at h.word;
   marker = no_marker m t o (λ e. both_some h.first h.behind h.word.some (sym h.is ∙ e)) clear;
   further = h.others.further;
-  ends = subst (λ (n : Marker). EndsPlain f indent n o) (sym (passed_moved m t clear.no_return)) ends;
+  ends = rw (passed_moved m t clear.no_return) ends;
 }
 
 pub plain_text : (f : Bool) (indent : ℕ) (m : Marker) (t o : List ℕ) → IsPlain f indent t → IsClear m t o
@@ -364,9 +335,7 @@ right_of f indent m t o h low =
     let line : moved m h.first ≡ along m (length h.first) = unbroken_along m h.first unbroken in
     let here = subst (λ (k : Marker). indent ≤ k.col) line
     (right_along indent m h.first (unbroken_on_line h.first unbroken) low) in
-    subst (λ (k : Marker). indent ≤ k.col)
-    (sym (ap (moved m) h.is ∙ moved_append m h.first h.behind ∙ ap (λ (k : Marker). moved k h.behind) line))
-    (h.others.right here)
+    rw (h.is, moved_append m h.first h.behind, line) (h.others.right here)
 
 -- a plain scalar ends right of a column that its lines reach
 pub plain_right : (f : Bool) (indent : ℕ) (m : Marker) (t o : List ℕ) → IsPlain f indent t → IsClear m t o

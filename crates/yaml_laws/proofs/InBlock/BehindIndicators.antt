@@ -27,10 +27,9 @@ use Rattle.yaml_laws.proofs.InBlock.IndicatorLines.{blanks_behind, token_behind,
 next_line_behind : {colon : Bool} (indent : ℕ) (t : List ℕ) (c : ℕ) (cs : List ℕ) → IsNextLine indent t → IsInk c
     → IsBehindIndicator colon indent (t ++ (c ∷ cs))
 next_line_behind {colon} indent t c cs (end, filler, front, end_is, filler_is, prefix, is) ink =
-    let text : t ++ (c ∷ cs) ≡ end ++ ((filler ++ front) ++ (c ∷ cs)) = ap (λ (x : List ℕ). x ++ (c ∷ cs)) is
-    ∙ append_assoc end (filler ++ front) (c ∷ cs) in
-    subst (IsBehindIndicator colon indent) (sym text)
-    (line_end_behind end ((filler ++ front) ++ (c ∷ cs)) end_is
+    let text : t ++ (c ∷ cs) ≡ end ++ ((filler ++ front) ++ (c ∷ cs)) = cc (append_assoc end (filler ++ front)
+    (c ∷ cs)) in
+    rw text (line_end_behind end ((filler ++ front) ++ (c ∷ cs)) end_is
     (lines_clean indent filler front (c ∷ cs) filler_is prefix (ink_clean c cs ink)))
 
 -- a gap and a token, which is no `-` of a compact sequence
@@ -46,8 +45,7 @@ gap_behind place gap c cs out (inr (inr h)) ink dash word = absurd (clash (is_st
 ink_so : {colon : Bool} {indent : ℕ} (w t : List ℕ) → BeginsInk t
     → ((c : ℕ) (cs : List ℕ) → IsInk c → IsBehindIndicator colon indent (w ++ (c ∷ cs)))
     → IsBehindIndicator colon indent (w ++ t)
-ink_so {colon} {indent} w t b h =
-    subst (λ (x : List ℕ). IsBehindIndicator colon indent (w ++ x)) (sym b.is) (h b.first b.others b.ink)
+ink_so {colon} {indent} w t b h = rw b.is (h b.first b.others b.ink)
 
 pub further_ink : (t o : List ℕ) → BeginsInk t → BeginsInk (t ++ o)
 further_ink t o b = ink_front t (t ++ o) o refl b
@@ -64,8 +62,7 @@ pub record BeginsApart (t : List ℕ) : Type 0 where
 apart_so : {colon : Bool} (place : Position) (gap t : List ℕ) → IsFalse (is_start place) → IsGapAt place gap
     → BeginsApart t → IsBehindIndicator colon (indent_at place) (gap ++ t)
 apart_so {colon} place gap t out gap_is b =
-    subst (λ (x : List ℕ). IsBehindIndicator colon (indent_at place) (gap ++ x)) (sym b.is)
-    (gap_behind place gap b.first b.others out gap_is b.ink (rw b.no_dash refl)
+    rw b.is (gap_behind place gap b.first b.others out gap_is b.ink (rw b.no_dash refl)
     (λ _. rw b.no_word (and_false (list_all (λ c. c == 9) gap))))
 
 further_apart : (t o : List ℕ) → BeginsApart t → BeginsApart (t ++ o)
@@ -101,15 +98,13 @@ pair_ink leaves key value m t o (inr (inr (node, colon, v, some, h, mark, k, e))
     record { first = 63; others = node ++ (colon ++ v); is = e; ink = question_ink }
 
 pub pairs_ink : {limit : ℕ} → ReadsLeaves limit → (pairs : Pairs) (m : ℕ) (t o : List ℕ)
-    → ArePairs most_open pairs m t o
-    → BeginsInk t
+    → ArePairs most_open pairs m t o → BeginsInk t
 pairs_ink leaves NoPair m t o h = absurd h
 pairs_ink leaves (MorePairs key value pairs) m t o (pair, others, h, k, e) =
     let b = further_ink pair others (pair_ink leaves key value m pair (others ++ o) h) in
     record { first = b.first; others = b.others; is = e ∙ b.is; ink = b.ink }
 
-sign_apart : (c : ℕ) (cs t : List ℕ) → t ≡ c ∷ cs → IsInk c → (c == hyphen) ≡ false → is_alpha c ≡ false
-    → BeginsApart t
+sign_apart : (c : ℕ) (cs t : List ℕ) → t ≡ c ∷ cs → IsInk c → (c == hyphen) ≡ false → is_alpha c ≡ false → BeginsApart t
 sign_apart c cs t e ink dash word =
     record { first = c; others = cs; is = e; ink = ink; no_dash = dash; no_word = word }
 
@@ -129,9 +124,9 @@ are_apart None None indent t h = absurd h
 are_apart (Some name) None indent t h = anchor_apart name t h
 are_apart None (Some tag) indent t h = tag_apart tag t h
 are_apart (Some name) (Some tag) indent t (a, gap, w, h, k, gap_is, inl e) =
-    subst BeginsApart (sym e) (further_apart a (gap ++ w) (anchor_apart name a h))
+    rw e (further_apart a (gap ++ w) (anchor_apart name a h))
 are_apart (Some name) (Some tag) indent t (a, gap, w, h, k, gap_is, inr e) =
-    subst BeginsApart (sym e) (further_apart w (gap ++ a) (tag_apart tag w k))
+    rw e (further_apart w (gap ++ a) (tag_apart tag w k))
 
 properties_apart : (p : Properties) (indent : ℕ) (t : List ℕ) → IsProperties p indent t → BeginsApart t
 properties_apart p indent t h = are_apart p.anchor p.tag indent t h
@@ -142,15 +137,12 @@ lead_behind : {colon : Bool} (p : Properties) (place : Position) (least m : ℕ)
 lead_behind {colon} p place least m lead t out (inl (front, end, filler, low, front_is, end_is, filler_is, e)) b =
     let k = skipped_append filler (spaces m) (filler_skipped filler filler_is) (spaces_skipped m) in
     let text : lead ++ t ≡ front ++ (end ++ ((filler ++ spaces m) ++ t)) =
-    ap (λ (x : List ℕ). x ++ t) e ∙ append_assoc front (end ++ (filler ++ spaces m)) t
-    ∙ ap (λ (x : List ℕ). front ++ x) (append_assoc end (filler ++ spaces m) t) in
-    subst (IsBehindIndicator colon (indent_at place)) (sym text) (by_front front_is k)
+    cc (append_assoc front (end ++ (filler ++ spaces m)) t, append_assoc end (filler ++ spaces m) t) in
+    rw text (by_front front_is k)
   where
     after : IsSkipped (filler ++ spaces m)
         → IsBehindIndicator colon (indent_at place) (end ++ ((filler ++ spaces m) ++ t))
-    after k = subst (λ (x : List ℕ). IsBehindIndicator colon (indent_at place) (end ++ ((filler ++ spaces m) ++ x)))
-        (sym b.is)
-        (line_end_behind end ((filler ++ spaces m) ++ (b.first ∷ b.others)) end_is
+    after k = rw b.is (line_end_behind end ((filler ++ spaces m) ++ (b.first ∷ b.others)) end_is
         (λ least low. skipped_clean (filler ++ spaces m) (b.first ∷ b.others) k
         (ink_clean b.first b.others b.ink) least))
 
@@ -161,21 +153,17 @@ lead_behind {colon} p place least m lead t out (inl (front, end, filler, low, fr
         (sym h.1) (after k)
     by_front (inr (gap, properties, gap_is, h, is)) k =
         let rest = end ++ ((filler ++ spaces m) ++ t) in
-        subst (IsBehindIndicator colon (indent_at place))
-        (sym (ap (λ (x : List ℕ). x ++ rest) is ∙ append_assoc gap properties rest))
-        (apart_so place gap (properties ++ rest) out gap_is
+        rw (is, append_assoc gap properties rest) (apart_so place gap (properties ++ rest) out gap_is
         (further_apart properties rest (properties_apart p (indent_at place) properties h)))
 lead_behind {colon} p place least m lead t out (inr (none, h)) b =
     let s = compact_spaced place m lead h in
-    subst (λ (x : List ℕ). IsBehindIndicator colon (indent_at place) (x ++ t)) (sym s.is)
-    (ink_so (spaces s.count) t b (λ c cs ink. token_behind s.count c cs (s.some out) ink))
+    rw s.is (ink_so (spaces s.count) t b (λ c cs ink. token_behind s.count c cs (s.some out) ink))
 
 flow_behind : {limit : ℕ} → ReadsLeaves limit → (node : Node) (place : Position) (t o : List ℕ)
     → IsFalse (is_start place)
     → IsFlowInBlock most_open node place t o → IsBehindIndicator (is_behind_colon place) (indent_at place) (t ++ o)
 flow_behind leaves node place t o out (gap, text, end, gap_is, is, apart, end_is, e) =
-    let whole : t ++ o ≡ gap ++ ((text ++ end) ++ o) = ap (λ (x : List ℕ). x ++ o) e
-    ∙ append_assoc gap (text ++ end) o in
+    let whole : t ++ o ≡ gap ++ ((text ++ end) ++ o) = cc (append_assoc gap (text ++ end) o) in
     let b = leaves.flow_ink node most_open (indent_at place) false text is in
     let behind = (b.others ++ end) ++ o in
     let begins : (text ++ end) ++ o ≡ b.first ∷ behind = ap (λ (x : List ℕ). (x ++ end) ++ o) b.is in
@@ -185,20 +173,14 @@ flow_behind leaves node place t o out (gap, text, end, gap_is, is, apart, end_is
     (end ++ o) is)
     in
     let first : slice_index text 0 ≡ b.first = ap (λ (x : List ℕ). slice_index x 0) b.is in
-    subst (IsBehindIndicator (is_behind_colon place) (indent_at place)) (sym whole)
-    (subst (λ (x : List ℕ). IsBehindIndicator (is_behind_colon place) (indent_at place) (gap ++ x)) (sym begins)
-    (gap_behind place gap b.first behind out gap_is b.ink dash
-    (λ e. ap (λ (q : ℕ). list_all (λ c. c == 9) gap && is_alpha q) (sym first)
-    ∙ sym (ap (λ (q : Bool). q && (list_all (λ c. c == 9) gap && is_alpha (slice_index text 0))) e) ∙ apart)))
+    rw (whole, begins) (gap_behind place gap b.first behind out gap_is b.ink dash (λ e. cc))
 
 -- a block scalar's header, with its properties or without them
 scalar_apart : (p : Properties) (style : Style) (value : List ℕ) (indent : ℕ) (front t o : List ℕ)
     → IsScalarFront p indent front → IsStyled style value indent t o → BeginsApart (front ++ t)
 scalar_apart p style value indent front t o (inr (properties, gap, h, gap_is, e)) is =
-    subst (λ (x : List ℕ). BeginsApart (x ++ t)) (sym e)
-    (further_apart (properties ++ gap) t (further_apart properties gap (properties_apart p indent properties h)))
-scalar_apart p style value indent front t o (inl (none, e)) is =
-    subst (λ (x : List ℕ). BeginsApart (x ++ t)) (sym e) (header_apart style value indent t o is)
+    rw e (further_apart (properties ++ gap) t (further_apart properties gap (properties_apart p indent properties h)))
+scalar_apart p style value indent front t o (inl (none, e)) is = rw e (header_apart style value indent t o is)
   where
     header_apart : (style : Style) (value : List ℕ) (indent : ℕ) (t o : List ℕ) → IsStyled style value indent t o
         → BeginsApart t
@@ -221,20 +203,15 @@ node_behind leaves (Scalar p style value) place t o out (inl h) clean = eol_behi
 node_behind leaves (Scalar p style value) place t o out (inr (inl h)) clean =
     flow_behind leaves (Scalar p style value) place t o out h
 node_behind leaves (Scalar p style value) place t o out (inr (inr (gap, front, scalar, gap_is, front_is, h, e))) clean =
-    let whole : t ++ o ≡ gap ++ ((front ++ scalar) ++ o) = ap (λ (x : List ℕ). x ++ o) e
-    ∙ append_assoc gap (front ++ scalar) o in
-    subst (IsBehindIndicator (is_behind_colon place) (indent_at place)) (sym whole)
-    (apart_so place gap ((front ++ scalar) ++ o) out gap_is (further_apart (front ++ scalar) o
+    let whole : t ++ o ≡ gap ++ ((front ++ scalar) ++ o) = cc (append_assoc gap (front ++ scalar) o) in
+    rw whole (apart_so place gap ((front ++ scalar) ++ o) out gap_is (further_apart (front ++ scalar) o
     (scalar_apart p style value (indent_at place) front scalar o front_is h)))
 node_behind leaves (Seq p nodes) place t o out (inl h) clean = flow_behind leaves (Seq p nodes) place t o out h
 node_behind leaves (Seq p nodes) place t o out (inr (m, lead, entries, lead_is, h, e)) clean =
-    subst (IsBehindIndicator (is_behind_colon place) (indent_at place))
-    (sym (ap (λ (x : List ℕ). x ++ o) e ∙ append_assoc lead entries o))
+    rw (e, append_assoc lead entries o)
     (lead_behind p place (sequence_indent_at place) m lead (entries ++ o) out lead_is
     (further_ink entries o (entries_ink nodes m entries o h)))
 node_behind leaves (Map p pairs) place t o out (inl h) clean = flow_behind leaves (Map p pairs) place t o out h
 node_behind leaves (Map p pairs) place t o out (inr (m, lead, entries, lead_is, h, e)) clean =
-    subst (IsBehindIndicator (is_behind_colon place) (indent_at place))
-    (sym (ap (λ (x : List ℕ). x ++ o) e ∙ append_assoc lead entries o))
-    (lead_behind p place (indent_at place) m lead (entries ++ o) out lead_is
+    rw (e, append_assoc lead entries o) (lead_behind p place (indent_at place) m lead (entries ++ o) out lead_is
     (further_ink entries o (pairs_ink leaves pairs m entries o h)))

@@ -56,10 +56,8 @@ record MarkFirst (prefix others rest : List ℕ) : Type 0 where
   left : next ++ others ≡ rest
 
 mark_first : {limit : ℕ} → ReadsLeaves limit → (ds : Forest) (prefix others rest : List ℕ)
-    → IsDocumentPrefix prefix others
-    → AreBlockDocuments ds true others
-    → ((at : List ℕ) → StopsAt (prefix ++ others) at → at ≡ byte_order_mark ∷ rest)
-    → MarkFirst prefix others rest
+    → IsDocumentPrefix prefix others → AreBlockDocuments ds true others
+    → ((at : List ℕ) → StopsAt (prefix ++ others) at → at ≡ byte_order_mark ∷ rest) → MarkFirst prefix others rest
 mark_first leaves ds _ _ rest (no_prefix others) h stops =
     let k = documents_stop leaves ds true others h in absurd (k.unmarked rest (stops k.at k.stops))
 mark_first leaves ds _ _ rest (mark_prefix filler next others filler_is p) h stops =
@@ -88,12 +86,10 @@ marked_line marker marks tail = joined_pieces marks ++ marker_line marker tail
 -- the stream, or what comes after a `...` line, is of the marks and the last line
 closes_marks : {limit : ℕ} {start : State} → ReaderPromises → ReadsLeaves limit
     → (marker : DocumentMarker) (marks : List (List ℕ)) (tail more : List ℕ) → AreEach IsMarkBehindFiller marks
-    → IsLineRest tail
-    → (ds : Forest) (prefix others : List ℕ) (ts : List Kind) → IsDocumentPrefix prefix others
+    → IsLineRest tail → (ds : Forest) (prefix others : List ℕ) (ts : List Kind) → IsDocumentPrefix prefix others
     → AreBlockDocuments ds true others → HasNoReturn others
     → StandsLined limit start true true ((prefix ++ others) ++ more) ts
-    → prefix ++ others ≡ marked_line marker marks tail
-    → Closes limit start marker (YieldsAhead ds) ts
+    → prefix ++ others ≡ marked_line marker marks tail → Closes limit start marker (YieldsAhead ds) ts
 closes_marks {start = start} readers leaves marker [] tail more are tail_is ds prefix others ts prefix_is h clean v e =
     closes_stream readers leaves marker (last_rest tail) more (last_rest_is tail tail_is)
     (last_marker start leaves marker tail more tail_is) ds prefix others ts prefix_is h clean v
@@ -106,7 +102,7 @@ closes_marks {limit = limit} {start = start} readers leaves marker (piece ∷ ma
     (λ at stops. one_stop (prefix ++ others) (filler ++ (65279 ∷ line)) at (65279 ∷ line) text stops
     (mark_stops filler line (filler_skipped filler filler_is))) in
     passes_mark ds k.filler ((k.next ++ others) ++ more) ts k.filler_is
-    (lined_so (ap (λ (x : List ℕ). x ++ more) k.is ∙ append_assoc k.filler (65279 ∷ (k.next ++ others)) more) v)
+    (lined_so (cc (append_assoc k.filler (65279 ∷ (k.next ++ others)) more)) v)
     (λ us s. closes_marks readers leaves marker marks tail more are tail_is ds k.next others us k.next_is h clean s
     k.left)
 
@@ -125,17 +121,14 @@ line_fed marker marks tail =
     fed_front (joined_pieces marks) (marker_line marker tail)
     (fed_front (marker_text marker) (last_rest tail) (record { front = tail; is = refl }))
 
-mark_rest_is : (marker : DocumentMarker) (end filler : List ℕ) (marks : List (List ℕ)) (tail : List ℕ)
-    → IsWholeEnd end
+mark_rest_is : (marker : DocumentMarker) (end filler : List ℕ) (marks : List (List ℕ)) (tail : List ℕ) → IsWholeEnd end
     → IsMarkerRest (mark_rest end filler (marked_line marker marks tail))
 mark_rest_is marker end filler marks tail (rest, h, e) =
     let line = marked_line marker marks tail in
     let text : mark_rest end filler line ≡ rest ++ (10 ∷ (filler ++ (65279 ∷ line))) =
-    ap (λ (x : List ℕ). x ++ (filler ++ (65279 ∷ line))) e
-    ∙ append_assoc rest (10 ∷ []) (filler ++ (65279 ∷ line)) in
+    cc (append_assoc rest (10 ∷ []) (filler ++ (65279 ∷ line))) in
     record {
-      first = ap (λ (x : List ℕ). is_blank_or_breakz (slice_index x 0)) text
-          ∙ rest_first rest (10 ∷ (filler ++ (65279 ∷ line))) h (inr refl);
+      first = cc (rest_first rest (10 ∷ (filler ++ (65279 ∷ line))) h (inr refl));
       fed = fed_front end (filler ++ (65279 ∷ line))
           (fed_front filler (65279 ∷ line) (fed_front (65279 ∷ []) line (line_fed marker marks tail)));
     }
@@ -156,17 +149,14 @@ mark_end {limit} {start} readers leaves marker before filler marks tail more bef
     let k = mark_first leaves ds prefix others line prefix_is h
     (λ at stops. one_stop (end ++ (prefix ++ others)) (mark_rest before filler line) at (65279 ∷ line) text
     (end_stops end (prefix ++ others) at end_is stops) (mark_rest_stops before filler line before_is filler_is)) in
-    let fed : EndsFed (prefix ++ others) = subst EndsFed (sym k.is)
+    let fed : EndsFed (prefix ++ others) = rw k.is
     (fed_front k.filler (65279 ∷ (k.next ++ others)) (fed_front (65279 ∷ []) (k.next ++ others)
-    (subst EndsFed (sym k.left) (line_fed marker marks tail)))) in
+    (rw k.left (line_fed marker marks tail)))) in
     let whole : mark_rest before filler line ++ more ≡ end ++ ((prefix ++ others) ++ more) =
-    ap (λ (x : List ℕ). x ++ more) (sym text) ∙ append_assoc end (prefix ++ others) more in
-    passes_end ds end (prefix ++ others) more ts end_is fed
-    (subst (λ (x : List ℕ). StandsLined limit start free opened (46 ∷ 46 ∷ 46 ∷ x) ts)
-    whole
-    v)
+    cc (append_assoc end (prefix ++ others) more) in
+    passes_end ds end (prefix ++ others) more ts end_is fed (rw whole at v)
     (λ us s. passes_mark ds k.filler ((k.next ++ others) ++ more) us k.filler_is
-    (lined_so (ap (λ (x : List ℕ). x ++ more) k.is ∙ append_assoc k.filler (65279 ∷ (k.next ++ others)) more) s)
+    (lined_so (cc (append_assoc k.filler (65279 ∷ (k.next ++ others)) more)) s)
     (λ us s. closes_marks readers leaves marker marks tail more are tail_is ds k.next others us k.next_is h clean s
     k.left))
 
@@ -174,7 +164,7 @@ mark_end {limit} {start} readers leaves marker before filler marks tail more bef
 
 before_line : (front : List ℕ) → IsBeforeLine front → opens_line true front ≡ true
 before_line front (inl e) = ap (opens_line true) e
-before_line front (inr (others, e)) = ap (opens_line true) e ∙ feed_opens true others
+before_line front (inr (others, e)) = cc (feed_opens true others)
 
 -- a `...` line, and after it the last line
 line_behind : (others rest line : List ℕ)
@@ -193,8 +183,7 @@ closes_behind_end : {limit : ℕ} {start : State} → ReaderPromises → ReadsLe
     → IsBeforeLine earlier → IsLineRest rest → AreEach IsMarkBehindFiller marks → IsLineRest tail
     → (ds : Forest) (prefix others : List ℕ) (ts : List Kind) → IsDocumentPrefix prefix others
     → AreBlockDocuments ds true others → HasNoReturn others
-    → StandsLined limit start true true ((prefix ++ others) ++ more) ts
-    → prefix ++ others
+    → StandsLined limit start true true ((prefix ++ others) ++ more) ts → prefix ++ others
     ≡ earlier ++ (full_stop ∷ full_stop ∷ full_stop ∷ ((rest ++ line_feed ∷ []) ++ marked_line marker marks tail))
     → Closes limit start marker (YieldsAhead ds) ts
 closes_behind_end {start = start} readers leaves marker earlier rest [] tail more before rest_is are tail_is ds prefix
@@ -218,8 +207,7 @@ closes_behind_end readers leaves marker earlier rest (piece ∷ marks) tail more
     h clean v
     (record {
       front = earlier;
-      is = e ∙ ap (λ (x : List ℕ). earlier ++ (46 ∷ 46 ∷ 46 ∷ (end ++ x)))
-          (marks_text piece filler (joined_pieces marks) (marker_line marker tail) f);
+      is = cc (marks_text piece filler (joined_pieces marks) (marker_line marker tail) f);
       line = before_line earlier before;
     })
 
@@ -238,37 +226,31 @@ closes_last {start = start} readers leaves marker front tail more tail_is ds pre
     (record { front = front; is = e; line = before_line front before })
 closes_last readers leaves marker front tail more tail_is ds prefix others ts prefix_is h clean v
     (inr (marks, (pieces, are, same), inl first)) e =
-    closes_marks readers leaves marker pieces tail more are tail_is ds prefix others ts prefix_is h clean v
-    (e ∙ ap (λ (x : List ℕ). x ++ marker_line marker tail) (first ∙ same))
+    closes_marks readers leaves marker pieces tail more are tail_is ds prefix others ts prefix_is h clean v (cc)
 closes_last readers leaves marker front tail more tail_is ds prefix others ts prefix_is h clean v
     (inr (marks, (pieces, are, same), inr (earlier, rest, before, rest_is, is))) e =
     let line = marker_line marker tail in
     closes_behind_end readers leaves marker earlier rest pieces tail more before rest_is are tail_is ds prefix others ts
-    prefix_is h clean v
-    (e ∙ ap (λ (x : List ℕ). x ++ line) is ∙ mark_text earlier rest marks line
-    ∙ ap (λ (x : List ℕ). earlier ++ (46 ∷ 46 ∷ 46 ∷ ((rest ++ 10 ∷ []) ++ (x ++ line)))) same)
+    prefix_is h clean v (cc (mark_text earlier rest marks line))
 
 in_stream : (forest : Forest) (t : List Kind) → YieldsAhead forest t → Yields forest (tokens.StreamStart ∷ t)
-in_stream forest t (marks, others, are, told, e) =
-    (marks, others, are, told, ap (λ (x : List Kind). tokens.StreamStart ∷ x) e)
+in_stream forest t (marks, others, are, told, e) = (marks, others, are, told, cc)
 
 -- From the start of the text, whatever follows, the scanner comes after the marker, and holds nothing back.
 closed_leads : ReaderPromises → (limit : ℕ) → ReadsLeaves limit
     → (marker : DocumentMarker) (forest : Forest) (text more : List ℕ)
     → HasNoReturn text → EndsWithMarker IsLineRest marker text → IsYaml most_open forest text
-    → length (text ++ more) ≤ limit
-    → Closes limit (start (text ++ more)) marker (Yields forest) []
+    → length (text ++ more) ≤ limit → Closes limit (start (text ++ more)) marker (Yields forest) []
 closed_leads readers limit leaves marker forest text more clean (front, tail, tail_is, before, at)
     (prefix, others, prefix_is, documents, e) short =
     let first = lined_so (ap (λ (x : List ℕ). x ++ more) e) (begins limit (text ++ more) short) in
     closes_on [] (tokens.StreamStart ∷ []) (in_stream forest)
     (closes_last readers leaves marker front tail more tail_is forest prefix others (tokens.StreamStart ∷ []) prefix_is
-    documents (back_in _ prefix others (subst HasNoReturn e clean)) first before (sym e ∙ at))
+    documents (back_in _ prefix others (rw e at clean)) first before (sym e ∙ at))
 
 -- ## The scanner's tokens
 
-onto_kinds : (ts : List Piece) (r : Remaining)
-    → map (λ (t : Piece). t.kind) (onto ts r).pieces
+onto_kinds : (ts : List Piece) (r : Remaining) → map (λ (t : Piece). t.kind) (onto ts r).pieces
     ≡ map (λ (t : Piece). t.kind) ts ++ map (λ (t : Piece). t.kind) r.pieces
 onto_kinds [] r = refl
 onto_kinds (t ∷ ts) r = ap (λ ks. t.kind ∷ ks) (onto_kinds ts r)
@@ -289,8 +271,8 @@ closed_begins readers reads limit leaves marker forest text more clean ends yaml
       earlier = c.earlier;
       more = kinds others;
       yields = c.told;
-      begins = ap kinds all ∙ onto_kinds (flat d.queue.places) others ∙ ap (λ ks. ks ++ kinds others) c.handed.are
-          ∙ append_assoc c.earlier (marker_token marker ∷ []) (kinds others);
+      begins = cc (onto_kinds (flat d.queue.places) others,
+          append_assoc c.earlier (marker_token marker ∷ []) (kinds others));
     }
 
 -- The same of every text whose normalized breaks give such a text. The break between it and what follows is whole.
@@ -306,9 +288,4 @@ closed_scans readers reads blocks limit low marker forest text more same yaml en
     let long = ap length apart in
     let h = closed_begins readers reads limit (leaves reads blocks limit low) marker forest (normalized text)
     (normalized more) clean ends yaml (omega (arith, less, long, short)) in
-    record {
-      earlier = h.earlier;
-      more = h.more;
-      yields = h.yields;
-      begins = same.kinds ∙ ap (λ (x : List ℕ). map (λ (t : Piece). t.kind) (scan limit x).pieces) apart ∙ h.begins;
-    }
+    record { earlier = h.earlier; more = h.more; yields = h.yields; begins = cc }

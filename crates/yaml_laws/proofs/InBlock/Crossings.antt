@@ -84,8 +84,7 @@ white_crosses m b (c ∷ cs) h =
     on : Marker
     on = if ends_line c cs then next_line m 1 else along m 1
 
-    by_white : (white : Bool) → is_blank_or_break c ≡ white
-        → (is_blank_or_break c ≡ true
+    by_white : (white : Bool) → is_blank_or_break c ≡ white → (is_blank_or_break c ≡ true
         → ((past_white on (b || is_break c) cs).blank_so_far || crosses (past_white on (b || is_break c) cs).rest)
         ≡ true)
         → ((past_white m b (c ∷ cs)).blank_so_far || crosses (past_white m b (c ∷ cs)).rest) ≡ true

@@ -44,8 +44,7 @@ none_inside (x ∷ a) b c k e = absurd (cc)
 
 -- the node of a bare document is not empty
 node_some : {limit : ℕ} → ReadsLeaves limit → (node : Node) (t o : List ℕ) → IsBlockNode most_open node AtStart t o
-    → t ≡ []
-    → ⊥
+    → t ≡ [] → ⊥
 node_some leaves (Alias name) t o (gap, text, end, gap_is, is, apart, end_is, e) none =
     none_inside gap text end (leaves.flow_ink (Alias name) most_open 0 false text is) (sym e ∙ none)
 node_some leaves (Scalar p style value) t o (inl h) none = absurd (let k : true ≡ false = h.1 in cc)
@@ -53,23 +52,20 @@ node_some leaves (Scalar p style value) t o (inr (inl (gap, text, end, gap_is, i
     none_inside gap text end (leaves.flow_ink (Scalar p style value) most_open 0 false text is) (sym e ∙ none)
 node_some leaves (Scalar p style value) t o (inr (inr (gap, front, scalar, gap_is, front_is, h, e))) none =
     none_inside gap (front ++ scalar) [] (leaves.block_ink p style value 0 front scalar o front_is h)
-    (ap (λ (x : List ℕ). gap ++ x) (append-nil (front ++ scalar)) ∙ sym e ∙ none)
+    (cc (append-nil (front ++ scalar)))
 node_some leaves (Seq p nodes) t o (inl (gap, text, end, gap_is, is, apart, end_is, e)) none =
     none_inside gap text end (leaves.flow_ink (Seq p nodes) most_open 0 false text is) (sym e ∙ none)
 node_some leaves (Seq p nodes) t o (inr (m, lead, entries, lead_is, h, e)) none =
-    none_inside lead entries [] (entries_ink nodes m entries o h)
-    (ap (λ (x : List ℕ). lead ++ x) (append-nil entries) ∙ sym e ∙ none)
+    none_inside lead entries [] (entries_ink nodes m entries o h) (cc (append-nil entries))
 node_some leaves (Map p pairs) t o (inl (gap, text, end, gap_is, is, apart, end_is, e)) none =
     none_inside gap text end (leaves.flow_ink (Map p pairs) most_open 0 false text is) (sym e ∙ none)
 node_some leaves (Map p pairs) t o (inr (m, lead, entries, lead_is, h, e)) none =
-    none_inside lead entries [] (pairs_ink leaves pairs m entries o h)
-    (ap (λ (x : List ℕ). lead ++ x) (append-nil entries) ∙ sym e ∙ none)
+    none_inside lead entries [] (pairs_ink leaves pairs m entries o h) (cc (append-nil entries))
 
 bare_node : {limit : ℕ} {start : State} → ReadsLeaves limit → (node : Node) (t others : List ℕ) (ts : List Kind)
     → has_marker true t ≡ false → IsBlockNode most_open node AtStart t others
     → ((m : Marker) → AtLine others m → Lands m others) → IsPlainBehind others → HasNoReturn t
-    → (v : StandsLined limit start true true (t ++ others) ts)
-    → NodeStands limit start node AtStart others ts
+    → (v : StandsLined limit start true true (t ++ others) ts) → NodeStands limit start node AtStart others ts
 bare_node {limit} {start} leaves node t others ts unmarked h lands plain clean v =
     let some : (t ++ others ≡ []) → ⊥ = λ e. node_some leaves node t others h (none_here t others e) in
     let clear = bare_clear v.mark t others v.line.0 clean unmarked (node_ends leaves node AtStart t others h) in
@@ -116,12 +112,10 @@ reads_explicit {limit = limit} {start = start} leaves d free t others ts may exp
     record {
       tokens = map directive_token d.directives ++ tokens.DocumentStart ∷ n.tokens;
       are = inr (may, (n.tokens, explicit, compatible, as_optional d.node BehindMarker n.tokens n.are, refl));
-      stands = subst (StandsLined limit start false false others)
-          (token_list ts (map directive_token d.directives) n.tokens tokens.DocumentStart) n.stands;
+      stands = rw (token_list ts (map directive_token d.directives) n.tokens tokens.DocumentStart) at n.stands;
     }
 
-pub text_of_document : (directives node others : List ℕ)
-    → (directives ++ (hyphen ∷ hyphen ∷ hyphen ∷ node)) ++ others
+pub text_of_document : (directives node others : List ℕ) → (directives ++ (hyphen ∷ hyphen ∷ hyphen ∷ node)) ++ others
     ≡ directives ++ (hyphen ∷ hyphen ∷ hyphen ∷ (node ++ others))
 text_of_document directives node others = simp append_assoc
 
@@ -145,25 +139,18 @@ pub reads_front : {limit : ℕ} {start : State} → ReaderPromises
     → (d : Document) (free : Bool) (directives y : List ℕ) (ts : List Kind) → IsTrue free ⊎ (d.directives ≡ [])
     → AreDirectives d.directives directives
     → StandsLined limit start free free (directives ++ (hyphen ∷ hyphen ∷ hyphen ∷ y))
-    ts
-    → MarkerStands limit start d y ts
+    ts → MarkerStands limit start d y ts
 reads_front {limit = limit} {start = start} readers d free directives y ts (inl is_free) are v =
     let t = directives ++ (45 ∷ 45 ∷ 45 ∷ y) in
     record {
       free = true;
       opened = false;
-      stands = reads_directives readers d.directives directives (45 ∷ 45 ∷ 45 ∷ y) ts are
-          (unopened (subst (λ (b : Bool). StandsLined limit start b b t ts) is_free v));
+      stands = reads_directives readers d.directives directives (45 ∷ 45 ∷ 45 ∷ y) ts are (unopened (rw is_free at v));
     }
 reads_front {limit = limit} {start = start} readers d free directives y ts (inr none) are v =
     let empty = no_directives d directives none are in
     let first = subst (λ (x : List ℕ). StandsLined limit start free free (x ++ (45 ∷ 45 ∷ 45 ∷ y)) ts) empty v in
-    record {
-      free = free;
-      opened = free;
-      stands = subst (λ (x : List Kind). StandsLined limit start free free (45 ∷ 45 ∷ 45 ∷ y) x)
-          (sym (ap (λ ds. ts ++ map directive_token ds) none ∙ append-nil ts)) first;
-    }
+    record { free = free; opened = free; stands = rw (none, append-nil ts) first }
 
 -- a bare node is not left out
 some_node : (node : Node) (ts : List Kind) → AreRead node AtStart ts → grammar.YieldsNode node grammar.InBlock ts
@@ -174,12 +161,10 @@ pub reads_document : {limit : ℕ} {start : State} → ReaderPromises → ReadsL
     → (d : Document) (free : Bool) (t others : List ℕ) (ts : List Kind)
     → yaml.IsDocument (IsBlockNode most_open) d free t others
     → ((m : Marker) → AtLine others m → Lands m others) → IsPlainBehind others → HasNoReturn t
-    → StandsLined limit start free free (t ++ others) ts
-    → DocumentStands limit start d free others ts
+    → StandsLined limit start free free (t ++ others) ts → DocumentStands limit start d free others ts
 reads_document {limit = limit} {start = start} readers leaves d free t others ts (inl (is_free, (same, unmarked, is)))
     lands plain clean v =
-    let n = bare_node leaves d.node t others ts unmarked is lands plain clean
-    (subst (λ (b : Bool). StandsLined limit start b b (t ++ others) ts) is_free v) in
+    let n = bare_node leaves d.node t others ts unmarked is lands plain clean (rw is_free at v) in
     record {
       tokens = n.tokens;
       are =
@@ -200,4 +185,4 @@ reads_document {limit = limit} {start = start} readers leaves d free t others ts
     let f = reads_front readers d free directives (node ++ others) ts may are
     (lined_so text v) in
     reads_explicit leaves d free node others ts may explicit compatible unmarked is lands plain
-    (clean_node directives node (subst HasNoReturn e clean)) f.stands
+    (clean_node directives node (rw e at clean)) f.stands

@@ -82,8 +82,7 @@ pub steps_on : {limit : ℕ} {start : State} {ts : List Kind} (f g : Frame) (m :
     (v : At limit start f m y ts) → BeginsToken m y → f.indent ≤ m.col + 1 → (n : Moment) (qs : List Place)
     → state_behind_content (slice_index y 0) (slice_index y 1)
     (state_of f (moment_at m y v.blank v.key v.allowed v.adjacent (deeper_at f v.deeper m)) v.places)
-    ≡ Ok (state_of g n qs)
-    → n.key ≡ None → n.cursor.mark.index ≤ limit → LeadsTo limit (state_of g n qs) start
+    ≡ Ok (state_of g n qs) → n.key ≡ None → n.cursor.mark.index ≤ limit → LeadsTo limit (state_of g n qs) start
 unfolding fetch
 steps_on f g m y v begins far n qs is none low =
     let there = ap (λ r. r >>= fetch_here)
@@ -122,9 +121,7 @@ deepens g n = by_first (is_break (slice_index n.cursor.rest 0) || is_flow (slice
 
 -- what comes after `-` on its line is passed
 passes_dash : {colon : Bool} {indent : ℕ} (g : Frame) (n : Moment) (o : List ℕ) (h : IsBehindIndicator colon indent o)
-    (m : Marker)
-    → n.cursor ≡ cursor_at o m false
-    → (d : Bool) × (pass_dash (core_of g n)
+    (m : Marker) → n.cursor ≡ cursor_at o m false → (d : Bool) × (pass_dash (core_of g n)
     ≡ Ok (core_of g (record n { cursor = cursor_at h.more (front_end h m) false; deeper = d })))
 unfolding pass_dash
 passes_dash g n o h m at =
@@ -147,8 +144,7 @@ abbrev behind_dash : List ℕ → Marker → Bool → ℕ → Moment
 behind_dash more n deeper ad = moment_at n more false None true ad deeper
 
 dash_enters : (f : Frame) (m : Marker) (o : List ℕ) (blank : Bool) (key : Option Candidate) (ad : ℕ)
-    (deeper further : Bool)
-    → nat_le f.indent m.col ≡ further
+    (deeper further : Bool) → nat_le f.indent m.col ≡ further
     → (d : Bool) × (roll m.col (pass_on 1 (core_of f (moment_at m (hyphen ∷ o) blank key true ad deeper)))
     ≡ core_of (frame_behind further m.col f)
     (record (moment_at m (hyphen ∷ o) blank key true ad d) { cursor = cursor_at o (along m 1) false }))
@@ -266,8 +262,7 @@ before_next {limit} {start} {ts} place g n qs m o leads are none free quiet low 
 
 -- `-` is read, which begins a sequence or goes on with one
 pub reads_dash : {colon : Bool} {limit : ℕ} {start : State} {ts : List Kind} (f : Frame) (m : Marker) (o : List ℕ)
-    (further : Bool)
-    → nat_le f.indent m.col ≡ further → f.indent ≤ m.col + 1 → IsBehindIndicator colon (suc m.col) o
+    (further : Bool) → nat_le f.indent m.col ≡ further → f.indent ≤ m.col + 1 → IsBehindIndicator colon (suc m.col) o
     → m.index + length (hyphen ∷ o) ≤ limit → (v : At limit start f m (hyphen ∷ o) ts) → v.allowed ≡ true
     → Before limit start (yaml.BehindDash m.col) (frame_behind further m.col f) (along m 1) o
     (ts ++ dash_kinds further)

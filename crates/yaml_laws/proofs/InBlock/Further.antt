@@ -41,7 +41,7 @@ ends_fed t o fed (inl h) = h
 ends_fed t o fed (inr e) = absurd (none_fed o fed e)
 
 ahead_front : (more t o : List ℕ) → (t ≡ []) ⊎ EndsWithLine t o → IsTokenAhead more o → IsTokenAhead more (t ++ o)
-ahead_front more t o (inl e) h = subst (λ (x : List ℕ). IsTokenAhead more (x ++ o)) (sym e) h
+ahead_front more t o (inl e) h = rw e h
 ahead_front more t o (inr e) h =
     let ends = ends_fed t o h.fed e in
     record {
@@ -54,8 +54,7 @@ question_further : (more node o : List ℕ) → EndsWithLine node o → IsTokenA
     → IsBehindQuestion node (o ++ more)
 question_further more node o ends h (some, clear) = (
   some,
-  ap (has_tab_ahead false) (sym (append_assoc node o more))
-      ∙ tells_behind node o more (ends_fed node o h.fed ends) h.tells ∙ clear,
+  cc (append_assoc node o more, tells_behind node o more (ends_fed node o h.fed ends) h.tells),
 )
 
 -- how a node comes before that
@@ -63,8 +62,7 @@ abbrev GoesOn : List ℕ → (Position → List ℕ → List ℕ → Type 0) →
 GoesOn more Is = (place : Position) (t o : List ℕ) → IsTokenAhead more o → Is place t o → Is place t (o ++ more)
 
 pair_further : (more : List ℕ) {limit : ℕ} → ReadsLeaves limit → (key value : Node)
-    → GoesOn more (IsBlockNode most_open key)
-    → GoesOn more (IsBlockNode most_open value)
+    → GoesOn more (IsBlockNode most_open key) → GoesOn more (IsBlockNode most_open value)
     → (m : ℕ) (t o : List ℕ) → IsTokenAhead more o
     → IsBlockPair most_open key value (IsBlockNode most_open key) (IsBlockNode most_open value) m t o
     → IsBlockPair most_open key value (IsBlockNode most_open key) (IsBlockNode most_open value) m t (o ++ more)
@@ -84,18 +82,16 @@ pair_further more leaves key value K V m t o ahead (inr (inl (node, out, some, h
     ))
 pair_further more leaves key value K V m t o ahead (inr (inr (node, colon, v, some, h, mark, k, e))) =
     let y = colon ++ (v ++ o) in
-    let text : y ++ more ≡ colon ++ (v ++ (o ++ more)) =
-    append_assoc colon (v ++ o) more ∙ ap (λ (x : List ℕ). colon ++ x) (append_assoc v o more) in
+    let text : y ++ more ≡ colon ++ (v ++ (o ++ more)) = cc (append_assoc colon (v ++ o) more, append_assoc v o more) in
     let ends = ends_back colon v o (node_ends leaves value (BehindMark m) v o k) in
-    let ahead_y : IsTokenAhead more y = subst (IsTokenAhead more) (append_assoc colon v o)
+    let ahead_y : IsTokenAhead more y = rw (append_assoc colon v o) at
     (ahead_front more (colon ++ v) o (inr ends) ahead) in
     inr (inr (
       node,
       colon,
       v,
-      subst (IsBehindQuestion node) text
-          (question_further more node y (node_ends leaves key (BehindMark m) node y h) ahead_y some),
-      subst (IsBlockNode most_open key (BehindMark m) node) text (K (BehindMark m) node y ahead_y h),
+      rw text at (question_further more node y (node_ends leaves key (BehindMark m) node y h) ahead_y some),
+      rw text at (K (BehindMark m) node y ahead_y h),
       mark,
       V
           (BehindMark m) v o ahead k,
@@ -196,8 +192,7 @@ mutual
 -- ## Documents
 
 pub document_further : (more : List ℕ) {limit : ℕ} → ReadsLeaves limit → (d : Document) (free : Bool) (t o : List ℕ)
-    → IsTokenAhead more o
-    → yaml.IsDocument (IsBlockNode most_open) d free t o
+    → IsTokenAhead more o → yaml.IsDocument (IsBlockNode most_open) d free t o
     → yaml.IsDocument (IsBlockNode most_open) d free t (o ++ more)
 document_further more leaves d free t o ahead (inl (is_free, (same, unmarked, is))) =
     inl (is_free, (same, unmarked, node_further more leaves d.node AtStart t o ahead is))

@@ -120,18 +120,11 @@ pub passes_to : (least : ℕ) (s : Cursor) (m : Marker) (y : List ℕ) → past 
     → PassesTo least s m y
 passes_to least s m y here clean =
     let g = gap_stops s.mark s.rest s.blank_so_far false in
-    record {
-      blank = g.still_blank;
-      is = g.is least false ∙ ap (λ (b : Bool). stop (past 0 s.mark s.rest).0 g.still_blank (crosses s.rest) b
-          (past 0 s.mark s.rest).1) clean
-          ∙ ap (λ (p : Marker × List ℕ). stop p.0 g.still_blank (crosses s.rest) false p.1) here
-          ∙ stop_here m g.still_blank (crosses s.rest) y;
-    }
+    record { blank = g.still_blank; is = cc (g.is least false, stop_here m g.still_blank (crosses s.rest) y) }
 
 -- ## Before a token
 
-pub stop_tabbed : (least : ℕ) (m : Marker) (blank : Bool) (y : List ℕ) → IsStop y
-    → tabbed least m blank false y ≡ false
+pub stop_tabbed : (least : ℕ) (m : Marker) (blank : Bool) (y : List ℕ) → IsStop y → tabbed least m blank false y ≡ false
 stop_tabbed least m blank [] h = refl
 stop_tabbed least m blank (c ∷ cs) h = rw (h.0, no_return_and c (slice_index cs 0 == 10) h.1, h.1, h.2) refl
 
@@ -148,8 +141,7 @@ gap_stays least m blank [] h = refl
 gap_stays least m blank (c ∷ cs) h = rw (h.0, no_return_and c (slice_index cs 0 == 10) h.1, h.1, h.2) refl
 
 -- nothing is passed right at a token
-pub gap_still : (least : ℕ) (m : Marker) (blank : Bool) (y : List ℕ) → IsStop y
-    → end_of_gap least m blank false false y
+pub gap_still : (least : ℕ) (m : Marker) (blank : Bool) (y : List ℕ) → IsStop y → end_of_gap least m blank false false y
     ≡ Ok (let p : GapEnd = record { cursor = record { rest = y; mark = m; blank_so_far = blank }; broke = false } in
     p)
 gap_still least m blank y h = gap_stays least m blank y h ∙ stop_here m blank false y

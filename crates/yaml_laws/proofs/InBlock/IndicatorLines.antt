@@ -33,7 +33,7 @@ white_line : (blanks comment o : List ℕ) → AreIn is_blank blanks → IsComme
     → BeginsWhite (blanks ++ (comment ++ (line_feed ∷ o)))
 white_line (b ∷ bs) comment o are k = inl are.0
 white_line [] comment o are (inr k) = absurd (k.0 refl)
-white_line [] comment o are (inl e) = subst (λ (x : List ℕ). BeginsWhite (x ++ (10 ∷ o))) (sym e) (inr refl)
+white_line [] comment o are (inl e) = rw e (inr refl)
 
 white_last : (blanks comment : List ℕ) → AreIn is_blank blanks → IsCommentBehind blanks comment
     → (blanks ++ (comment ++ []) ≡ []) ⊎ BeginsWhite (blanks ++ (comment ++ []))
@@ -44,8 +44,7 @@ white_last [] comment are (inl e) = inl (ap (λ (x : List ℕ). x ++ []) e)
 last_clean : (least : ℕ) (blanks comment : List ℕ) → AreIn is_blank blanks → (comment ≡ []) ⊎ IsComment comment
     → (m : Marker) → tabbed least m false false (blanks ++ (comment ++ [])) ≡ false
 last_clean least blanks comment are k m =
-    ap (λ (x : List ℕ). tabbed least m false false (blanks ++ x)) (append-nil comment)
-    ∙ rest_ends_clean blanks comment are k least m false false
+    cc (append-nil comment, rest_ends_clean blanks comment are k least m false false)
 
 -- which blanks are found before a token
 blanks_found : (p : ℕ → Bool) (w : List ℕ) (c : ℕ) (cs : List ℕ) → AreIn is_blank w → is_blank c ≡ false
@@ -54,7 +53,7 @@ blanks_found p [] c cs are h = rw h refl
 blanks_found p (b ∷ bs) c cs are h =
     let n = prefix_len is_blank (bs ++ (c ∷ cs)) in
     let one : 1 + n ≡ suc n = omega arith in
-    rw (are.0, one) (ap (λ (q : Bool). p b || q) (blanks_found p bs c cs are.1 h))
+    rw (are.0, one) (cc (blanks_found p bs c cs are.1 h))
 
 -- among blanks that are not tabs alone is a space
 tabs_or_space : (w : List ℕ) (a : Bool) → AreIn is_blank w → (list_all (λ c. c == tab) w && a) ≡ false
@@ -71,14 +70,13 @@ tabs_or_space (b ∷ bs) a are h = by_space (b == space) refl (λ k. tabs_or_spa
     by_space true e further = rw e refl
     by_space false e further =
         let t = is_tab b are.0 e in
-        rw e (further (ap (λ (q : Bool). (q && list_all (λ c. c == tab) bs) && a) (sym t) ∙ h))
+        rw e (further (cc))
 
 dash_is_alpha : (c : ℕ) → ((c == hyphen) || is_alpha c) ≡ is_alpha c
 dash_is_alpha c = by_dash (c == hyphen) refl
   where
     by_dash : (q : Bool) → (c == hyphen) ≡ q → ((c == hyphen) || is_alpha c) ≡ is_alpha c
-    by_dash true e =
-        subst (λ (d : ℕ). ((d == 45) || is_alpha d) ≡ is_alpha d) (sym (eqb-true c 45 e)) refl
+    by_dash true e = rw (eqb-true c 45 e) refl
     by_dash false e = rw e refl
 
 blank_apart : (c : ℕ) → IsTrue (is_blank c) → is_blank_or_breakz c ≡ true
@@ -100,14 +98,10 @@ blanks_behind (b ∷ bs) c cs are some ink dash word =
       are = are;
       parts = inl refl;
       stops = ink_stops c cs ink;
-      dash = ap (λ (q : Bool). q && ((c == 45) && is_blank_or_breakz (slice_index cs 0)))
-          (blanks_found (λ d. d == 9) w c cs are ink.blank) ∙ dash;
-      word = λ e. ap (λ (q : Bool). not q && ((c == 45) || is_alpha c))
-          (blanks_found (λ d. d == 32) w c cs are ink.blank)
-          ∙ ap (λ (q : Bool). not (list_any (λ d. d == 32) w) && q) (dash_is_alpha c)
-          ∙ tabs_or_space w (is_alpha c) are (word e);
-      lands = λ m. ap (λ (k : Marker). past 0 k (c ∷ cs))
-          (along_front m w [] are (inl refl) ∙ ap (moved m) (append-nil w)) ∙ sym (blanks_pass w are m (c ∷ cs));
+      dash = cc (blanks_found (λ d. d == 9) w c cs are ink.blank);
+      word = λ e. cc (blanks_found (λ d. d == 32) w c cs are ink.blank, dash_is_alpha c,
+          tabs_or_space w (is_alpha c) are (word e));
+      lands = λ m. cc (along_front m w [] are (inl refl), append-nil w, blanks_pass w are m (c ∷ cs));
       crosses_same = sym (blanks_cross w (c ∷ cs) are);
       clean = λ least low m. ink_clean c cs ink least m false;
       clean_all = λ least low m. blanks_untabbed least w (c ∷ cs) are (ink_clean c cs ink) m;
@@ -139,8 +133,7 @@ pub line_behind : {colon : Bool} {indent : ℕ} (rest o : List ℕ) → IsLineRe
     → IsBehindIndicator colon indent (rest ++ (line_feed ∷ o))
 line_behind rest o (blanks, comment, are, k, e) clean =
     let c = behind_is blanks comment k in
-    let text : rest ++ (10 ∷ o) ≡ blanks ++ (comment ++ (10 ∷ o)) =
-    ap (λ (x : List ℕ). x ++ (10 ∷ o)) e ∙ append_assoc blanks comment (10 ∷ o) in
+    let text : rest ++ (10 ∷ o) ≡ blanks ++ (comment ++ (10 ∷ o)) = cc (append_assoc blanks comment (10 ∷ o)) in
     let skipped = line_end_skipped (rest ++ (10 ∷ [])) (rest, (blanks, comment, are, k, e), refl) in
     let whole : rest ++ (10 ∷ o) ≡ (rest ++ (10 ∷ [])) ++ o = sym (append_assoc rest (10 ∷ []) o) in
     record {
@@ -153,15 +146,13 @@ line_behind rest o (blanks, comment, are, k, e) clean =
       stops = line_stops comment (10 ∷ o) (inr refl);
       dash = and_false (found_tabs (found_blanks Yes (rest ++ (10 ∷ o))));
       word = λ _. and_false (not (has_valid_yaml_ws (found_blanks Yes (rest ++ (10 ∷ o)))));
-      lands = λ m. ap (λ (n : Marker). past 0 n (10 ∷ o)) (along_front m blanks comment are c)
-          ∙ sym (ap (past 0 m) (text ∙ sym (append_assoc blanks comment (10 ∷ o)))
-          ∙ front_past 0 m (blanks ++ comment) blanks comment (10 ∷ o)
-          (λ y. (blanks_past 0 blanks are m (omega arith)).is y) c refl (inr refl));
+      lands = λ m. cc (along_front m blanks comment are c, append_assoc blanks comment (10 ∷ o),
+          front_past 0 m (blanks ++ comment) blanks comment (10 ∷ o) (λ y. (blanks_past 0 blanks are m (omega arith)).is
+          y) c refl (inr refl));
       crosses_same = sym (ap crosses text ∙ rest_crosses blanks comment o are c);
       clean = λ least low m. clean least low (next_line m 1) true;
-      clean_all = λ least low m. ap (tabbed least m false false) whole
-          ∙ skipped_untabbed least (rest ++ (10 ∷ [])) o skipped (clean least low) m false;
-      white = inr (subst BeginsWhite (sym text) (white_line blanks comment o are k));
+      clean_all = λ least low m. cc (skipped_untabbed least (rest ++ (10 ∷ [])) o skipped (clean least low) m false);
+      white = inr (rw text (white_line blanks comment o are k));
       first = rest_first rest (10 ∷ o) (blanks, comment, are, k, e) (inr refl);
     }
 
@@ -169,7 +160,7 @@ line_behind rest o (blanks, comment, are, k, e) clean =
 pub last_behind : {colon : Bool} {indent : ℕ} (rest : List ℕ) → IsLineRest rest → IsBehindIndicator colon indent rest
 last_behind rest (blanks, comment, are, k, e) =
     let c = behind_is blanks comment k in
-    let text : rest ≡ blanks ++ (comment ++ []) = e ∙ ap (λ (x : List ℕ). blanks ++ x) (sym (append-nil comment)) in
+    let text : rest ≡ blanks ++ (comment ++ []) = cc (append-nil comment) in
     record {
       blanks = blanks;
       comment = comment;
@@ -180,25 +171,21 @@ last_behind rest (blanks, comment, are, k, e) =
       stops = line_stops comment [] (inl refl);
       dash = and_false (found_tabs (found_blanks Yes rest));
       word = λ _. and_false (not (has_valid_yaml_ws (found_blanks Yes rest)));
-      lands = λ m. ap (λ (n : Marker). past 0 n []) (along_front m blanks comment are c)
-          ∙ sym (ap (past 0 m) (text ∙ sym (append_assoc blanks comment []))
-          ∙ front_past 0 m (blanks ++ comment) blanks comment []
-          (λ y. (blanks_past 0 blanks are m (omega arith)).is y) c refl (inl refl));
+      lands = λ m. cc (along_front m blanks comment are c, append_assoc blanks comment [],
+          front_past 0 m (blanks ++ comment) blanks comment [] (λ y. (blanks_past 0 blanks are m (omega arith)).is y) c
+          refl (inl refl));
       crosses_same = sym (ap crosses text ∙ last_crosses blanks comment are c);
       clean = λ least low m. refl;
-      clean_all = λ least low m. ap (tabbed least m false false) text ∙ last_clean least blanks comment are c m;
-      white = subst (λ (x : List ℕ). (x ≡ []) ⊎ BeginsWhite x) (sym text) (white_last blanks comment are k);
-      first = ap (λ (x : List ℕ). is_blank_or_breakz (slice_index x 0)) (sym (append-nil rest))
-          ∙ rest_first rest [] (blanks, comment, are, k, e) (inl refl);
+      clean_all = λ least low m. cc (last_clean least blanks comment are c m);
+      white = rw text (white_last blanks comment are k);
+      first = cc (append-nil rest, rest_first rest [] (blanks, comment, are, k, e) (inl refl));
     }
 
 pub eol_behind : {colon : Bool} {indent : ℕ} (t o : List ℕ) → IsEol t o → IsCleanIn indent o
     → IsBehindIndicator colon indent (t ++ o)
 eol_behind {colon} {indent} t o (inl (rest, h, is)) clean =
-    subst (IsBehindIndicator colon indent) (sym (ap (λ (x : List ℕ). x ++ o) is ∙ append_assoc rest (10 ∷ []) o))
-    (line_behind rest o h clean)
-eol_behind {colon} {indent} t o (inr (h, e)) clean =
-    subst (IsBehindIndicator colon indent) (sym (ap (λ (x : List ℕ). t ++ x) e ∙ append-nil t)) (last_behind t h)
+    rw (is, append_assoc rest (10 ∷ []) o) (line_behind rest o h clean)
+eol_behind {colon} {indent} t o (inr (h, e)) clean = rw (e, append-nil t) (last_behind t h)
 
 -- after the end of a line
 pub line_end_behind : {colon : Bool} {indent : ℕ} (t o : List ℕ) → IsLineEnd t → IsCleanIn indent o

@@ -34,16 +34,14 @@ plain_lead : {limit : ℕ} {start : State} {ts : List Kind} (p : Properties) (pl
     → (is_compact place || crosses (w ++ y)) ≡ true → Before limit start place f m (w ++ y) ts
     → LeadRead limit start p f (moved m w) y ts
 plain_lead {limit} {start} {ts} p place f m w y none h b opens v =
-    let there : past 0 m (w ++ y) ≡ (moved m w, y) = ap (λ (x : List ℕ). past 0 m (w ++ x)) b.is
-    ∙ reaches m w b.first b.others h b.ink
-    ∙ ap (λ (x : List ℕ). let q : Marker × List ℕ = (moved m w, x) in q) (sym b.is) in
+    let there : past 0 m (w ++ y) ≡ (moved m w, y) = cc (reaches m w b.first b.others h b.ink) in
     let p_at = subst (λ (q : Marker × List ℕ). (u : At limit start f q.0 q.1 ts) × (u.key ≡ None)
     × (u.allowed ≡ true)) there (v.at, v.none, v.allows opens) in
     let all = subst (λ (us : List Kind). (u : At limit start f (moved m w) y us) × (u.key ≡ None)
     × (u.allowed ≡ true)) (sym (append-nil ts)) p_at in
     record {
       tokens = [];
-      are = subst (λ (q : Properties). grammar.YieldProperties q []) (sym none) refl;
+      are = rw none refl;
       at = all.0;
       none = all.1;
       allowed = all.2;
@@ -65,27 +63,21 @@ reads_lead {limit} leaves p place least column f same m lead y
     (skipped_append filler (spaces column) (filler_skipped filler filler_is) (spaces_skipped column)) in
     let over : crosses (w ++ y) ≡ true = ap crosses (append_assoc end (filler ++ spaces column) y)
     ∙ line_end_crosses end ((filler ++ spaces column) ++ y) end_is in
-    subst (λ (x : List ℕ). LeadRead limit start p f (moved m x) y ts) (sym is)
-    (plain_lead p place f m w y none.0 skipped b (true_crosses place (w ++ y) over)
-    (subst (λ (x : List ℕ). Before limit start place f m (x ++ y) ts) is v))
+    rw is (plain_lead p place f m w y none.0 skipped b (true_crosses place (w ++ y) over) (rw is at v))
 reads_lead {limit} leaves p place least column f same m lead y
     (inl (front, end, filler, low, inr (white, t, spaced, properties, front_is), end_is, filler_is, e)) b fits start ts
     v =
     let w = end ++ (filler ++ spaces column) in
-    let is : lead ≡ white ++ (t ++ w) = e ∙ ap (λ (x : List ℕ). x ++ w) front_is ∙ append_assoc white t w in
-    let text : lead ++ y ≡ white ++ (t ++ (w ++ y)) = ap (λ (x : List ℕ). x ++ y) is ∙ append_assoc white (t ++ w) y
-    ∙ ap (λ (x : List ℕ). white ++ x) (append_assoc t w y) in
+    let is : lead ≡ white ++ (t ++ w) = cc (append_assoc white t w) in
+    let text : lead ++ y ≡ white ++ (t ++ (w ++ y)) = cc (append_assoc white (t ++ w) y, append_assoc t w y) in
     let next : IsNextLineText w = (end, filler, column, end_is, filler_is, refl) in
     let r = leaves.properties p place f same m white t w y spaced properties next b
-    (fits_so m lead (white ++ (t ++ w)) y is fits) start ts
-    (subst (λ (x : List ℕ). Before limit start place f m x ts) text v) in
-    subst (λ (x : List ℕ). LeadRead limit start p f (moved m x) y ts) (sym is)
-    (record { tokens = r.tokens; are = r.are; at = r.at; none = r.none; allowed = r.allowed })
+    (fits_so m lead (white ++ (t ++ w)) y is fits) start ts (rw text at v) in
+    rw is (record { tokens = r.tokens; are = r.are; at = r.at; none = r.none; allowed = r.allowed })
 reads_lead {limit} leaves p place least column f same m lead y (inr (none, h)) b fits start ts v =
     let s = compact_spaced place column lead h in
-    subst (λ (x : List ℕ). LeadRead limit start p f (moved m x) y ts) (sym s.is)
-    (plain_lead p place f m (spaces s.count) y none (spaces_skipped s.count) b (rw s.compact refl)
-    (subst (λ (x : List ℕ). Before limit start place f m (x ++ y) ts) s.is v))
+    rw s.is (plain_lead p place f m (spaces s.count) y none (spaces_skipped s.count) b (rw s.compact refl)
+    (rw s.is at v))
 
 -- ## Columns
 
@@ -95,18 +87,16 @@ next_col m front end filler column end_is filler_is =
     let text = moved_append m front (end ++ (filler ++ spaces column))
     ∙ moved_append (moved m front) end (filler ++ spaces column) in
     let line : (moved (moved m front) end).col ≡ 0 = at_line (moved m front) end end_is in
-    ap (λ (n : Marker). n.col) text
-    ∙ indentation_col (moved (moved m front) end) column (filler ++ spaces column) (filler, filler_is, refl) line
+    cc (indentation_col (moved (moved m front) end) column (filler ++ spaces column) (filler, filler_is, refl) line)
   where
     at_line : (m : Marker) (end : List ℕ) → IsLineEnd end → (moved m end).col ≡ 0
-    at_line m end (rest, h, is) =
-        ap (λ (x : List ℕ). (moved m x).col) is ∙ ap (λ (n : Marker). n.col) (moved_append m rest (10 ∷ []))
+    at_line m end (rest, h, is) = simp (is, moved_append m rest (10 ∷ []))
 
 -- the first token of a collection is at its column
 pub lead_col : (p : Properties) (place : Position) (least column : ℕ) (m : Marker) (lead : List ℕ) → IsPlaced place m
     → IsLead p place least column lead → (moved m lead).col ≡ column
 lead_col p place least column m lead at (inl (front, end, filler, low, front_is, end_is, filler_is, e)) =
-    ap (λ (x : List ℕ). (moved m x).col) e ∙ next_col m front end filler column end_is filler_is
+    cc (next_col m front end filler column end_is filler_is)
 lead_col p place least column m lead at (inr (none, h)) =
     let s = compact_spaced place column lead h in
     ap (λ (x : List ℕ). (moved m x).col) s.is ∙ ap (λ (x : Marker). x.col) (spaces_moved m s.count) ∙ s.col m at

@@ -84,8 +84,7 @@ later_line m a b h low =
     let first = moved_line m a h (omega (arith, low, size)) in
     let down : p.line < (next_line p 1).line = broken p.line p.index lined (omega (arith, low, size, count)) in
     let last = moved_line (next_line p 1) b (one_lined p 10 lined) (omega (arith, low, size, count)) in
-    let all : (moved m (a ++ (10 ∷ b))).line ≡ (moved (next_line p 1) b).line =
-    ap (λ (n : Marker). n.line) (moved_append m a (10 ∷ b)) in
+    let all : (moved m (a ++ (10 ∷ b))).line ≡ (moved (next_line p 1) b).line = cc (moved_append m a (10 ∷ b)) in
     omega (arith, first, down, last, all)
   where
     broken : (l i : ℕ) → l ≤ i + 1 → i < 2 ^ 63 → l < min (l + 1) (2 ^ 64 - 1)
@@ -101,22 +100,17 @@ pub record FitsOnLines (limit : ℕ) (m : Marker) (p o : List ℕ) : Type 0 wher
 pub fits_front : {limit : ℕ} (m : Marker) (a b o : List ℕ) → FitsOnLines limit m (a ++ b) o
     → FitsOnLines limit m a (b ++ o)
 fits_front {limit} m a b o h =
-    record {
-      clear = clear_front m a b o h.clear;
-      below = subst (λ (t : List ℕ). m.index + length t ≤ limit) (append_assoc a b o) h.below;
-      lined = h.lined;
-    }
+    record { clear = clear_front m a b o h.clear; below = rw (append_assoc a b o) at h.below; lined = h.lined }
 
 pub fits_back : {limit : ℕ} (m : Marker) (a b o : List ℕ) → FitsOnLines limit m (a ++ b) o
     → FitsOnLines limit (moved m a) b o
 fits_back {limit} m a b o h =
-    let whole : m.index + length (a ++ (b ++ o)) ≤ limit = subst (λ (t : List ℕ). m.index + length t ≤ limit)
-    (append_assoc a b o) h.below in
+    let whole : m.index + length (a ++ (b ++ o)) ≤ limit = rw (append_assoc a b o) at h.below in
     let count = moved_count m a (b ++ o) in
     record { clear = clear_back m a b o h.clear; below = omega (arith, whole, count); lined = moved_lined m a h.lined }
 
 pub fits_so : {limit : ℕ} (m : Marker) (p q o : List ℕ) → p ≡ q → FitsOnLines limit m p o → FitsOnLines limit m q o
-fits_so {limit} m p q o e h = subst (λ (t : List ℕ). FitsOnLines limit m t o) e h
+fits_so {limit} m p q o e h = rw e at h
 
 pub fits_before : {limit : ℕ} (m : Marker) (p o q : List ℕ) → o ≡ q → FitsOnLines limit m p o → FitsOnLines limit m p q
-fits_before {limit} m p o q e h = subst (FitsOnLines limit m p) e h
+fits_before {limit} m p o q e h = rw e at h

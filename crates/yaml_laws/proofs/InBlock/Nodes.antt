@@ -34,9 +34,7 @@ use Rattle.saphyr_input.proofs.Basics.Booleans.{clash}
 
 eol_past : (m : Marker) (t o : List ℕ) → IsEol t o → past 0 m (t ++ o) ≡ past 0 (moved m t) o
 eol_past m t o (inl h) = skipped_past m t o (line_end_skipped t h)
-eol_past m t o (inr h) =
-    subst (λ (x : List ℕ). past 0 m (t ++ x) ≡ past 0 (moved m t) x) (sym h.1)
-    (rest_past 0 m t [] h.0 (inl refl) (omega arith))
+eol_past m t o (inr h) = rw h.1 (rest_past 0 m t [] h.0 (inl refl) (omega arith))
 
 reads_left_out : (limit : ℕ) (node : Node) → ReadsAt limit node (IsLeftOut node)
 reads_left_out limit node place f same m t o (is, out, eol) fits behind start ts v =
@@ -208,16 +206,14 @@ reads_mapping {limit} leaves p key value pairs K V more place f same m t o (colu
     let text : t ++ o ≡ lead ++ (entries ++ o) = ap (λ (x : List ℕ). x ++ o) e ∙ append_assoc lead entries o in
     let whole = fits_so m t (lead ++ entries) o e fits in
     let end = ap (moved m) e ∙ moved_append m lead entries in
-    let low : f.indent ≤ n.col = subst (λ (c : ℕ). f.indent ≤ c) (sym col)
-    (subst (λ (i : ℕ). i ≤ column) (sym same) (mapping_least p place column lead lead_is)) in
+    let low : f.indent ≤ n.col = rw (col, same) (mapping_least p place column lead lead_is) in
     let behind_o = subst (λ (x : Marker). EndsNodeAt f.indent x o) end behind in
     let l = reads_lead leaves p place (indent_at place) column f same m lead (entries ++ o) lead_is
     (further_ink entries o (pairs_ink leaves (MorePairs key value pairs) column entries o h))
     (fits_front m lead entries o whole) start ts
     (subst (λ (x : List ℕ). Before limit start place f m x ts) text v) in
     let r = reads_parts (is_pair leaves key value K V) more f n true (yes f.indent n.col low) (one f.indent n.col low)
-    entries o (subst (λ (c : ℕ). ArePairs most_open (MorePairs key value pairs) c entries o) (sym col) h)
-    (fits_back m lead entries o whole)
+    entries o (rw col h) (fits_back m lead entries o whole)
     (behind_wider f.indent (suc n.col) (moved n entries) o (two f.indent n.col low) behind_o) start (ts ++ l.tokens)
     l.at l.none l.allowed in
     let c = collection_closes f n.col (past 0 (moved n entries) o) low behind_o.left r.arrived in
@@ -233,9 +229,8 @@ reads_mapping {limit} leaves p key value pairs K V more place f same m t o (colu
       );
       arrived = subst (λ (x : Marker). Arrived limit start f x o
           (ts ++ (l.tokens ++ (tokens.BlockMappingStart ∷ (r.tokens ++ tokens.BlockEnd ∷ []))))) (sym end)
-          (subst (Arrived limit start f (moved n entries) o)
-          (new_list (ts ++ l.tokens) r.tokens tokens.BlockMappingStart
-          ∙ append_assoc ts l.tokens (tokens.BlockMappingStart ∷ (r.tokens ++ tokens.BlockEnd ∷ [])))
+          (rw (new_list (ts ++ l.tokens) r.tokens tokens.BlockMappingStart,
+          append_assoc ts l.tokens (tokens.BlockMappingStart ∷ (r.tokens ++ tokens.BlockEnd ∷ []))) at
           c);
     }
   where

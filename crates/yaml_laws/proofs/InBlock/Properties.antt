@@ -42,11 +42,10 @@ use Rattle.saphyr_input.proofs.Basics.Booleans.{or_true_swap}
 use Rattle.saphyr_scalar.proofs.Given.{cursor_at}
 
 lands_on : (m : Marker) (b y : List ℕ) → Passes b → BeginsInk y → past 0 m (b ++ y) ≡ (moved m b, y)
-lands_on m b y h ink = ap (λ (x : List ℕ). past 0 m (b ++ x)) ink.is ∙ passes_to m b ink.first ink.others h ink.ink
-    ∙ ap (λ (x : List ℕ). (moved m b, x)) (sym ink.is)
+lands_on m b y h ink = cc (passes_to m b ink.first ink.others h ink.ink)
 
 clean_ink : (y : List ℕ) → BeginsInk y → IsClean y
-clean_ink y ink = subst IsClean (sym ink.is) (ink_clean ink.first ink.others ink.ink)
+clean_ink y ink = rw ink.is (ink_clean ink.first ink.others ink.ink)
 
 text_line : {limit : ℕ} (m : Marker) (t o : List ℕ) → limit < 2 ^ 63 → FitsOnLines limit m t o
     → m.line ≤ (moved m t).line
@@ -71,15 +70,13 @@ late_since : {limit : ℕ} → limit < 2 ^ 63 → (k : Option Candidate) (m : Ma
     → FitsOnLines limit m t o → IsOnLineOrBefore k m → Since k m t key → IsOnLineOrBefore key (moved m t)
 late_since short k m t o key fits late (inl e) = none_late key (moved m t) e
 late_since short k m t o key fits late (inr (inl e)) =
-    subst (λ (x : Option Candidate). IsOnLineOrBefore x (moved m t)) (sym e)
-    (late_later k m (moved m t) (text_line m t o short fits) late)
+    rw e (late_later k m (moved m t) (text_line m t o short fits) late)
 late_since short k m t o key fits late (inr (inr (front, back, place, is, e))) =
     let line = text_line (moved m front) back o short
     (fits_back m front back o (fits_so m t (front ++ back) o is fits)) in
-    let end : (moved m t).line ≡ (moved (moved m front) back).line =
-    ap (λ (n : Marker). n.line) (ap (moved m) is ∙ moved_append m front back) in
+    let end : (moved m t).line ≡ (moved (moved m front) back).line = cc (moved_append m front back) in
     let on : (moved m front).line ≤ (moved m t).line = omega (arith, line, end) in
-    subst (λ (x : Option Candidate). IsOnLineOrBefore x (moved m t)) (sym e) on
+    rw e on
 
 -- ## Properties
 
@@ -107,7 +104,7 @@ properties_passed reads {limit} short f p t h m o low white fits lands v late =
     let now = moment (cursor_at (t ++ o) m v.blank) context.Block v.key [] v.allowed v.adjacent v.places in
     let r = properties_read reads around p.anchor p.tag m t o h now (white_ends_tag false o white) inside refl in
     let c = r.passes in
-    let g = goes_behind v c (subst (λ (i : ℕ). i ≤ (past f.indent n o).0.index) (sym c.knows.still)
+    let g = goes_behind v c (rw c.knows.still
     (behind_low f.indent v.adjacent m t o v.low)) q (lands c.right) (past_stops n o) (λ d. inl refl) in
     record {
       tokens = r.tokens;
@@ -122,9 +119,7 @@ properties_passed reads {limit} short f p t h m o low white fits lands v late =
 
 line_first : (end o rest : List ℕ) → IsLineRest rest → end ≡ rest ++ (line_feed ∷ [])
     → IsTrue (is_blank_or_breakz (slice_index (end ++ o) 0))
-line_first end o rest h e =
-    ap (λ (x : List ℕ). is_blank_or_breakz (slice_index x 0))
-    (ap (λ (x : List ℕ). x ++ o) e ∙ append_assoc rest (10 ∷ []) o) ∙ rest_first rest (10 ∷ o) h (inr refl)
+line_first end o rest h e = cc (append_assoc rest (10 ∷ []) o, rest_first rest (10 ∷ o) h (inr refl))
 
 pub reads_head : ReaderPromises → (limit : ℕ) → limit < 2 ^ 63 → ReadsHead limit
 reads_head reads limit short p place f same m gap t between y gap_is h between_is ink fits start ts before =
@@ -139,10 +134,9 @@ reads_head reads limit short p place f same m gap t between y gap_is h between_i
     let fits_t = fits_back m gap (t ++ between) y fits in
     let at_frame = subst (λ (i : ℕ). IsProperties p i t) (sym same) h in
     let r = properties_passed reads short f p t at_frame n o low (gap_first (indent_at place) between y between_is)
-    (fits_front n t between y fits_t) (λ right. separation_past f.indent k between y
-    (gap_separates f.indent between spaced) right ∙ ap (past f.indent q) ink.is
-    ∙ past_ink f.indent q ink.first ink.others ink.ink ∙ ap (λ (x : List ℕ). (q, x)) (sym ink.is)
-    ∙ sym (lands_on k between y passes ink)) l.0 (none_late l.0.key n l.1) in
+    (fits_front n t between y fits_t) (λ right. cc (separation_past f.indent k between y
+    (gap_separates f.indent between spaced) right, past_ink f.indent q ink.first ink.others ink.ink,
+    lands_on k between y passes ink)) l.0 (none_late l.0.key n l.1) in
     let line = text_line k between y short (fits_back n t between y fits_t) in
     let Q : Marker × List ℕ → Type 0 = λ x. (u : At limit start f x.0 x.1 (ts ++ r.tokens))
     × IsOnLineOrBefore u.key q in
@@ -155,8 +149,7 @@ reads_head reads limit short p place f same m gap t between y gap_is h between_i
       late = z.1;
       right = text_gap_reaches f.indent k between spaced r.right;
     } in
-    subst (λ (x : Marker). HeadRead limit start p f x y ts)
-    (sym (moved_append m gap (t ++ between) ∙ moved_append n t between)) here
+    rw (moved_append m gap (t ++ between), moved_append n t between) here
 
 -- ## Before the next lines
 
@@ -181,14 +174,12 @@ lines_behind w y (end, filler, n, (rest, rest_is, end_is), filler_is, e) ink =
     let more = filler ++ spaces n in
     let skipped = skipped_append filler (spaces n) (filler_skipped filler filler_is) (spaces_skipped n) in
     let ends = line_end_skipped end (rest, rest_is, end_is) in
-    let text : w ++ y ≡ end ++ (more ++ y) = ap (λ (x : List ℕ). x ++ y) e ∙ append_assoc end more y in
-    let line : w ≡ rest ++ (10 ∷ more) = e ∙ ap (λ (x : List ℕ). x ++ more) end_is ∙ append_assoc rest (10 ∷ []) more in
+    let text : w ++ y ≡ end ++ (more ++ y) = cc (append_assoc end more y) in
+    let line : w ≡ rest ++ (10 ∷ more) = cc (append_assoc rest (10 ∷ []) more) in
     record {
-      skipped = subst IsSkipped (sym e) (skipped_append end more ends skipped);
-      clean = subst IsClean (sym text)
-          (skipped_clean end (more ++ y) ends (skipped_clean more y skipped (clean_ink y ink)));
-      white = subst (λ (x : List ℕ). IsTrue (is_blank_or_breakz (slice_index x 0))) (sym text)
-          (line_first end (more ++ y) rest rest_is end_is);
+      skipped = rw e (skipped_append end more ends skipped);
+      clean = rw text (skipped_clean end (more ++ y) ends (skipped_clean more y skipped (clean_ink y ink)));
+      white = rw text (line_first end (more ++ y) rest rest_is end_is);
       crossed = ap crosses text ∙ line_end_crosses end (more ++ y) (rest, rest_is, end_is);
       rest = rest;
       more = more;
@@ -227,5 +218,4 @@ reads_properties reads limit short p place f same m front t w y gap_is h next_li
       none = late_key_left z.0.key k q z.1 later z.0.near;
       allowed = z.2;
     } in
-    subst (λ (x : Marker). PropertiesRead limit start p f x y ts)
-    (sym (moved_append m front (t ++ w) ∙ moved_append n t w)) here
+    rw (moved_append m front (t ++ w), moved_append n t w) here

@@ -69,9 +69,7 @@ no_tab_here (c ∷ cs) h = no_tab c h.0
     no_tab c h = grind (arith, nat_tests)
 
 mark_enters : (f : Frame) (m : Marker) (y : List ℕ) (blank : Bool) (key : Option Candidate) (ad : ℕ)
-    (deeper further : Bool)
-    → nat_le f.indent m.col ≡ further
-    → (d : Bool) × (remove_key
+    (deeper further : Bool) → nat_le f.indent m.col ≡ further → (d : Bool) × (remove_key
     (with_context (behind_question context.Block)
     (roll m.col (core_of f (moment_at m y blank key true ad deeper))))
     ≡ Ok (core_of (frame_behind further m.col f) (moment_at m y blank None true ad d)))
@@ -96,7 +94,7 @@ passes_mark g m o blank ad deeper h clean =
     (core_of g (question_moment (past 0 (along m 1) o).0 (past 0 (along m 1) o).1 r.0 ad deeper))
     ≡ Ok (core_of g (question_moment (past 0 (along m 1) o).0 (past 0 (along m 1) o).1 r.0 ad deeper)) =
     rw none refl in
-    (r.0, ap (λ (s : gap.SpacesEnd). block.behind_mark s.space (with_cursor s.cursor c)) r.1 ∙ there)
+    (r.0, simp (r.1, there))
 
 question_step : (f : Frame) (m : Marker) (o : List ℕ) (blank : Bool) (key : Option Candidate) (ad : ℕ)
     (deeper further : Bool) → nat_le f.indent m.col ≡ further → BeginsWhite o → has_tab o ≡ false → (i : ℕ)
@@ -116,10 +114,7 @@ question_step f m o blank key ad deeper further e h clean i =
     let begun = ap (λ q. q >>= λ (d : Core). block.pass_question (record d { key_allowed = in_block d })) r.1 ∙ p.1 in (
       p.0,
       r.0,
-      rw first (ap (λ q. q >>= λ (d : Core). completed_step
-          (behind_start (is_further m.col c) m tokens.BlockMappingStart (up_to_here m tokens.Key d)) d) begun
-          ∙ ap (λ (b : Bool). completed_step (behind_start b m tokens.BlockMappingStart (up_to_here m tokens.Key last))
-          last) e),
+      rw first (cc),
     )
 
 -- the tokens before a key, where a mapping may start
@@ -150,13 +145,10 @@ reads_question {limit} {start} {ts} f m o further e far h clean count v allowed 
     let qs = start_places further m tokens.BlockMappingStart m n tokens.Key v.places in
     let made : state_behind_content 63 (slice_index o 0)
     (state_of f (moment_at m (63 ∷ o) v.blank v.key true v.adjacent deeper) v.places) ≡ Ok (state_of g t qs) =
-    ap (λ r. after_step r (queue_of v.places)) s.2
-    ∙ ap (λ (q : Queue). Ok (let r : State = record { core = core_of g t; queue = q } in r))
-    (start_performs further m tokens.BlockMappingStart m n tokens.Key v.places) in
+    cc (start_performs further m tokens.BlockMappingStart m n tokens.Key v.places) in
     let there : state_behind_content 63 (slice_index o 0)
     (state_of f (moment_at m (63 ∷ o) v.blank v.key v.allowed v.adjacent deeper) v.places) ≡ Ok (state_of g t qs) =
-    ap (λ (b : Bool). state_behind_content 63 (slice_index o 0)
-    (state_of f (moment_at m (63 ∷ o) v.blank v.key b v.adjacent deeper) v.places)) allowed ∙ made in
+    cc in
     let counted = past_count 0 (along m 1) o in
     let stop = past_stops (along m 1) o in
     before_next (yaml.BehindMark m.col) g t qs (along m 1) o

@@ -48,9 +48,9 @@ start_reaches yaml.AtStart n h = omega arith
 -- nor after the next line's indentation
 next_line_reaches : (indent : ℕ) (m : Marker) (w : List ℕ) → IsNextLine indent w → indent ≤ (moved m w).col
 next_line_reaches indent m w (end, filler, front, end_is, filler_is, prefix, e) =
-    let there : moved m w ≡ moved (moved (moved m end) filler) front = ap (moved m) e
-    ∙ moved_append m end (filler ++ front) ∙ moved_append (moved m end) filler front in
-    subst (λ (k : Marker). indent ≤ k.col) (sym there) (prefix_reaches indent (moved (moved m end) filler) front prefix)
+    let there : moved m w ≡ moved (moved (moved m end) filler) front = cc (moved_append m end (filler ++ front),
+    moved_append (moved m end) filler front) in
+    rw there (prefix_reaches indent (moved (moved m end) filler) front prefix)
 
 unbroken_blanks : (w : List ℕ) → AreIn is_blank w → NoBreaks w
 unbroken_blanks [] h = tt
@@ -74,7 +74,7 @@ gap_reaches place m gap (inr (inl h)) placed = next_line_reaches (indent_at plac
 gap_reaches place m gap (inr (inr (first, e))) placed = start_reaches place (moved m gap).col first
 
 pub none_late : (k : Option Candidate) (m : Marker) → k ≡ None → IsOnLineOrBefore k m
-none_late k m e = subst (λ (x : Option Candidate). IsOnLineOrBefore x m) (sym e) tt
+none_late k m e = rw e tt
 
 -- the state before a node is that after the gap
 pub lands_behind : {limit : ℕ} {start : State} {ts : List Kind} {place : Position} (f : Frame) (m : Marker)
@@ -82,9 +82,7 @@ pub lands_behind : {limit : ℕ} {start : State} {ts : List Kind} {place : Posit
     → (v : At limit start f (moved m gap) y ts) × (v.key ≡ None)
 lands_behind {limit} {start} {ts} {place} f m gap y h ink b =
     let there : past 0 m (gap ++ y) ≡ (moved m gap, y) =
-    ap (λ (x : List ℕ). past 0 m (gap ++ x)) ink.is
-    ∙ passes_to m gap ink.first ink.others (gap_passes place gap h) ink.ink
-    ∙ ap (λ (x : List ℕ). (moved m gap, x)) (sym ink.is) in
+    cc (passes_to m gap ink.first ink.others (gap_passes place gap h) ink.ink) in
     let P : Marker × List ℕ → Type 0 = λ q. (v : At limit start f q.0 q.1 ts) × (v.key ≡ None) in
     subst P there (b.at, b.none)
 
@@ -132,10 +130,10 @@ reads_block_scalars laws {limit} short heads p style value place f same m t o
     fits behind start ts before = by_front front_is
   where
     is : IsStyled style value f.indent text o
-    is = subst (λ (i : ℕ). IsStyled style value i text o) (sym same) styled
+    is = rw same styled
 
     low : f.indent ≤ (moved m gap).col
-    low = subst (λ (i : ℕ). i ≤ (moved m gap).col) (sym same) (gap_reaches place m gap gap_is before.placed)
+    low = rw same (gap_reaches place m gap gap_is before.placed)
 
     ink : BeginsInk (text ++ o)
     ink = further_ink text o (sign_ink style value f.indent text o is)
@@ -143,44 +141,34 @@ reads_block_scalars laws {limit} short heads p style value place f same m t o
     -- after a piece of the text, properties were read
     behind_head : (w : List ℕ) (us : List Kind) → t ≡ w ++ text → grammar.YieldProperties p us
         → f.indent ≤ (moved m w).col → (v : At limit start f (moved m w) (text ++ o) (ts ++ us))
-        → IsOnLineOrBefore v.key (moved m w)
-        → NodeRead limit start (Scalar p style value) place f (moved m t) o ts
+        → IsOnLineOrBefore v.key (moved m w) → NodeRead limit start (Scalar p style value) place f (moved m t) o ts
     behind_head w us whole are far v late =
         let fits_all = fits_so m t (w ++ text) o whole fits in
-        let behind_all : EndsNodeAt f.indent (moved m (w ++ text)) o =
-        subst (λ (x : List ℕ). EndsNodeAt f.indent (moved m x) o) whole behind in
+        let behind_all : EndsNodeAt f.indent (moved m (w ++ text)) o = rw whole at behind in
         let r = reads_behind laws f style value m w text o short far is fits_all behind_all v late in
         record {
           tokens = us ++ scalar_token style value ∷ [];
           are = inr (scalar_are p style value (context_at place) us are);
-          arrived = subst (λ (x : List ℕ). Arrived limit start f (moved m x) o
-              (ts ++ (us ++ scalar_token style value ∷ []))) (sym whole)
-              (subst (λ (x : List Kind). Arrived limit start f (moved m (w ++ text)) o x)
-              (append_assoc ts us (scalar_token style value ∷ [])) r);
+          arrived = rw whole (rw (append_assoc ts us (scalar_token style value ∷ [])) at r);
         }
 
     by_front : IsScalarFront p (indent_at place) front
         → NodeRead limit start (Scalar p style value) place f (moved m t) o ts
     by_front (inl (none, empty)) =
-        let whole : t ≡ gap ++ text = e ∙ ap (λ (x : List ℕ). gap ++ (x ++ text)) empty in
-        let b : Before limit start place f m (gap ++ (text ++ o)) ts =
-        subst (λ (x : List ℕ). Before limit start place f m x ts)
-        (ap (λ (x : List ℕ). x ++ o) whole ∙ append_assoc gap text o) before in
+        let whole : t ≡ gap ++ text = cc in
+        let b : Before limit start place f m (gap ++ (text ++ o)) ts = rw (whole, append_assoc gap text o) at before in
         let l = lands_behind f m gap (text ++ o) gap_is ink b in
         let P : List Kind → Type 0 = λ us. (v : At limit start f (moved m gap) (text ++ o) us) × (v.key ≡ None) in
         let v = subst P (sym (append-nil ts)) l in
-        behind_head gap [] whole (subst (λ (q : Properties). grammar.YieldProperties q []) (sym none) refl) low v.0
-        (none_late v.0.key (moved m gap) v.1)
+        behind_head gap [] whole (rw none refl) low v.0 (none_late v.0.key (moved m gap) v.1)
     by_front (inr (properties, between, h, spaced, parts)) =
         let w = gap ++ (properties ++ between) in
-        let whole : t ≡ w ++ text = e ∙ ap (λ (x : List ℕ). gap ++ (x ++ text)) parts
-        ∙ sym (append_assoc gap (properties ++ between) text) in
+        let whole : t ≡ w ++ text = cc (append_assoc gap (properties ++ between) text) in
         let inner : t ++ o ≡ gap ++ (properties ++ (between ++ (text ++ o))) =
-        ap (λ (x : List ℕ). x ++ o) whole ∙ append_assoc w text o
-        ∙ append_assoc gap (properties ++ between) (text ++ o)
-        ∙ ap (λ (x : List ℕ). gap ++ x) (append_assoc properties between (text ++ o)) in
+        cc (append_assoc w text o, append_assoc gap (properties ++ between) (text ++ o),
+        append_assoc properties between (text ++ o)) in
         let b : Before limit start place f m (gap ++ (properties ++ (between ++ (text ++ o)))) ts =
-        subst (λ (x : List ℕ). Before limit start place f m x ts) inner before in
+        rw inner at before in
         let r = heads p place f same m gap properties between (text ++ o) gap_is h spaced ink
         (fits_front m w text o (fits_so m t (w ++ text) o whole fits)) start ts b in
         behind_head w r.tokens whole r.are r.right r.at r.late

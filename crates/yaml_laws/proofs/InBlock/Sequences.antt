@@ -27,8 +27,7 @@ use Rattle.yaml_laws.proofs.Flow.Inks.{dash_ink}
 reads_entry : {limit : ℕ} → ReadsLeaves limit → (node : Node) → ReadsAt limit node (IsBlockNode most_open node)
     → (f : Frame) (n : Marker) (further : Bool) → nat_le f.indent n.col ≡ further → f.indent ≤ n.col + 1
     → (entry z : List ℕ) → IsBlockNode most_open node (BehindDash n.col) entry z
-    → FitsOnLines limit n (hyphen ∷ entry) z
-    → EndsNodeAt (suc n.col) (moved (along n 1) entry) z
+    → FitsOnLines limit n (hyphen ∷ entry) z → EndsNodeAt (suc n.col) (moved (along n 1) entry) z
     → (start : State) (ts : List Kind) (v : At limit start f n (hyphen ∷ (entry ++ z)) ts) → v.allowed ≡ true
     → NodeRead limit start node (BehindDash n.col) (frame_behind further n.col f) (moved (along n 1) entry) z
     (ts ++ dash_kinds further)
@@ -38,8 +37,7 @@ reads_entry {limit} leaves node reads f n further e far entry z is fits behind s
     let ahead = node_behind leaves node (BehindDash n.col) entry z refl is behind.clean in
     let before = reads_dash f n (entry ++ z) further e far ahead fits.below v allowed in
     reads (BehindDash n.col) g (same ∙ suc_is n.col) (along n 1) entry z is (fits_back n (45 ∷ []) entry z fits)
-    (subst (λ (i : ℕ). EndsNodeAt i (moved (along n 1) entry) z) (sym (same ∙ suc_is n.col)) behind)
-    start (ts ++ dash_kinds further) before
+    (rw (same ∙ suc_is n.col) behind) start (ts ++ dash_kinds further) before
 
 -- the start of a sequence, where one begins
 abbrev pub sequence_start : Bool → List Kind
@@ -64,8 +62,7 @@ is_entry : {limit : ℕ} → ReadsLeaves limit → (node : Node) → ReadsAt lim
     → IsPart limit (YieldsEntry node) sequence_start (IsEntry node)
 is_entry {limit} leaves node reads = record {
   ink = λ column t z (entry, h, e). record { first = 45; others = entry; is = e; ink = dash_ink };
-  ends = λ column t z (entry, h, e). subst (λ (x : List ℕ). EndsWithLine x z) (sym e)
-      (behind_dash entry z (node_ends leaves node (BehindDash column) entry z h));
+  ends = λ column t z (entry, h, e). rw e (behind_dash entry z (node_ends leaves node (BehindDash column) entry z h));
   reads = λ f n further e far t z (entry, h, is) fits behind start ts v none allowed.
       one f n further e far t z entry h is fits behind start ts v allowed;
   none = refl;
@@ -83,15 +80,12 @@ is_entry {limit} leaves node reads = record {
     one f n further e far t z entry h is fits behind start ts v allowed =
         let p = subst (λ (x : List ℕ). (w : At limit start f n (x ++ z) ts) × (w.allowed ≡ true)) is (v, allowed) in
         let r = reads_entry leaves node reads f n further e far entry z h (fits_so n t (45 ∷ entry) z is fits)
-        (subst (λ (x : List ℕ). EndsNodeAt (suc n.col) (moved n x) z) is behind) start ts p.0 p.1 in
+        (rw is at behind) start ts p.0 p.1 in
         record {
           tokens = tokens.BlockEntry ∷ r.tokens;
           are = λ others ahead. (r.tokens, as_optional node (BehindDash n.col) r.tokens r.are, refl);
           begins = λ others no. absurd no;
-          arrived = subst (λ (x : List ℕ). Arrived limit start (frame_behind further n.col f) (moved n x) z
-              ((ts ++ sequence_start further) ++ (tokens.BlockEntry ∷ r.tokens))) (sym is)
-              (subst (Arrived limit start (frame_behind further n.col f) (moved (along n 1) entry) z)
-              (kinds_of_entry further ts r.tokens) r.arrived);
+          arrived = simp is (rw (kinds_of_entry further ts r.tokens) at r.arrived);
         }
 
 -- ## Entries

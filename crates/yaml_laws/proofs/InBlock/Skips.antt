@@ -42,8 +42,7 @@ skipped_append _ b nothing k = k
 skipped_append _ b (one_space w h) k = one_space (w ++ b) (skipped_append w b h k)
 skipped_append _ b (one_break w h) k = one_break (w ++ b) (skipped_append w b h k)
 skipped_append _ b (one_rest blanks comment w are c h) k =
-    subst IsSkipped (sym (rest_text blanks comment w b))
-    (one_rest blanks comment (w ++ b) are c (skipped_append w b h k))
+    rw (rest_text blanks comment w b) (one_rest blanks comment (w ++ b) are c (skipped_append w b h k))
 
 pub spaces_skipped : (n : ℕ) → IsSkipped (spaces n)
 spaces_skipped zero = nothing
@@ -53,19 +52,19 @@ pub rest_skipped : (t w : List ℕ) → IsLineRest t → IsSkipped w → IsSkipp
 rest_skipped t w (blanks, c, are, k, is) h =
     let text : t ++ (10 ∷ w) ≡ blanks ++ (c ++ (10 ∷ w)) = ap (λ (x : List ℕ). x ++ (10 ∷ w)) is
     ∙ append_assoc blanks c (10 ∷ w) in
-    subst IsSkipped (sym text) (one_rest blanks c w are (behind_is blanks c k) h)
+    rw text (one_rest blanks c w are (behind_is blanks c k) h)
 
 pub line_end_skipped : (t : List ℕ) → IsLineEnd t → IsSkipped t
-line_end_skipped t (rest, h, is) = subst IsSkipped (sym is) (rest_skipped rest [] h nothing)
+line_end_skipped t (rest, h, is) = rw is (rest_skipped rest [] h nothing)
 
 filler_line_skipped : (t : List ℕ) → IsFillerLine t → IsSkipped t
 filler_line_skipped t (text, (front, c, are, k, is_text), is) =
     let whole : t ≡ front ++ (c ++ (10 ∷ [])) = is ∙ ap (λ (x : List ℕ). x ++ (10 ∷ [])) is_text
     ∙ append_assoc front c (10 ∷ []) in
-    subst IsSkipped (sym whole) (one_rest front c [] are k nothing)
+    rw whole (one_rest front c [] are k nothing)
 
 pub filler_skipped : (t : List ℕ) → IsFiller t → IsSkipped t
-filler_skipped t (pieces, each, is) = subst IsSkipped (sym is) (lines pieces each)
+filler_skipped t (pieces, each, is) = rw is (lines pieces each)
   where
     lines : (ws : List (List ℕ)) → AreEach IsFillerLine ws → IsSkipped (joined_pieces ws)
     lines [] h = nothing
@@ -245,8 +244,7 @@ abbrev mutual
 
 pub comment_ends_clean : (t : List ℕ) → IsComment t → (least : ℕ) (m : Marker) (blank tab : Bool)
     → tabbed least m blank tab t ≡ false
-comment_ends_clean t (words, are, is) least m blank tab =
-    subst (λ (x : List ℕ). tabbed least m blank tab x ≡ false) (sym is) (by_words (along m 1) words are)
+comment_ends_clean t (words, are, is) least m blank tab = rw is (by_words (along m 1) words are)
   where
     by_words : (m : Marker) (words : List ℕ) → AreIn is_yaml_non_break words
         → tabbed_comment least m blank tab words ≡ false
@@ -330,10 +328,8 @@ spaces_reach m blank c t first clean = by_first first
         ≡ gap.spaces_end (past 0 m (x ∷ t)).0 b true (past 0 m (x ∷ t)).1)
 
     by_first : (c ≡ 32) ⊎ (c ≡ line_feed) → Reaches c
-    by_first (inl e) =
-        subst Reaches (sym e) (from (along m 1) blank (subst (λ (x : ℕ). has_tab (x ∷ t) ≡ false) e clean))
-    by_first (inr e) =
-        subst Reaches (sym e) (from (next_line m 1) true (subst (λ (x : ℕ). has_tab (x ∷ t) ≡ false) e clean))
+    by_first (inl e) = subst Reaches (sym e) (from (along m 1) blank (rw e at clean))
+    by_first (inr e) = rw e (from (next_line m 1) true (rw e at clean))
 
 -- ## The text before a token, tabs among it
 
@@ -353,12 +349,11 @@ blanks_pass w are m y = (blanks_past 0 w are m (omega arith)).is y
 
 prefix_blank : (indent : ℕ) (w : List ℕ) → IsLinePrefix indent w → AreIn is_blank w
 prefix_blank indent w (front, blanks, (n, low, spaced), are, is) =
-    subst (AreIn is_blank) (sym (is ∙ ap (λ (x : List ℕ). x ++ blanks) spaced))
-    (both_in is_blank (spaces n) blanks (spaces_are_blank n) are)
+    rw (is, spaced) (both_in is_blank (spaces n) blanks (spaces_are_blank n) are)
 
 next_line_passes : (indent : ℕ) (w : List ℕ) → IsNextLine indent w → Passes w
 next_line_passes indent w (end, filler, front, end_is, filler_is, prefix, e) =
-    subst Passes (sym e) (both_pass end (filler ++ front) (skipped_passes end (line_end_skipped end end_is))
+    rw e (both_pass end (filler ++ front) (skipped_passes end (line_end_skipped end end_is))
     (both_pass filler front (skipped_passes filler (filler_skipped filler filler_is))
     (blanks_pass front (prefix_blank indent front prefix))))
 
@@ -369,4 +364,4 @@ text_gap_passes indent gap (inr h) = next_line_passes indent gap h
 pub gap_passes : (place : Position) (gap : List ℕ) → IsGapAt place gap → Passes gap
 gap_passes place gap (inl (some, are)) = blanks_pass gap are
 gap_passes place gap (inr (inl h)) = next_line_passes (indent_at place) gap h
-gap_passes place gap (inr (inr (first, e))) = subst Passes (sym e) (λ m y. refl)
+gap_passes place gap (inr (inr (first, e))) = rw e (λ m y. refl)

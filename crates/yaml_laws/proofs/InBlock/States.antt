@@ -218,5 +218,5 @@ compact_spaced yaml.AtStart column lead e =
       some = λ out. absurd (clash true refl out);
       low = omega arith;
       sequence_low = omega arith;
-      col = λ m at. ap (λ (i : ℕ). i + column) at ∙ zero-add column;
+      col = λ m at. cc (zero-add column);
     }

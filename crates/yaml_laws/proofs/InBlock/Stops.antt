@@ -50,7 +50,7 @@ token_front t o h = record {
   first = h.first;
   others = h.others ++ o;
   ink = h.ink;
-  is = ap (λ (x : List ℕ). x ++ o) h.is ∙ append_assoc h.white (h.first ∷ h.others) o;
+  is = cc (append_assoc h.white (h.first ∷ h.others) o);
 }
 
 token_behind : (w t : List ℕ) → Passes w → HasToken t → HasToken (w ++ t)
@@ -60,7 +60,7 @@ token_behind w t k h = record {
   first = h.first;
   others = h.others;
   ink = h.ink;
-  is = ap (λ (x : List ℕ). w ++ x) h.is ∙ sym (append_assoc w h.white (h.first ∷ h.others));
+  is = cc (append_assoc w h.white (h.first ∷ h.others));
 }
 
 -- ## Nodes
@@ -71,15 +71,13 @@ lead_token : (p : Properties) (place : Position) (least m : ℕ) (lead t u : Lis
 lead_token p place least m lead t u (inl (front, end, filler, low, inl (none, empty), end_is, filler_is, e)) b is =
     let w = end ++ (filler ++ spaces m) in
     ink_token w t u (skipped_passes w (skipped_append end (filler ++ spaces m) (line_end_skipped end end_is)
-    (skipped_append filler (spaces m) (filler_skipped filler filler_is) (spaces_skipped m)))) b
-    (is ∙ ap (λ (x : List ℕ). x ++ t) (e ∙ ap (λ (x : List ℕ). x ++ w) empty))
+    (skipped_append filler (spaces m) (filler_skipped filler filler_is) (spaces_skipped m)))) b (cc)
 lead_token p place least m lead t u
     (inl (front, end, filler, low, inr (gap, properties, gap_is, h, front_is), end_is, filler_is, e)) b is =
     let w = end ++ (filler ++ spaces m) in
     ink_token gap (properties ++ (w ++ t)) u (gap_passes place gap gap_is)
     (further_ink properties (w ++ t) (properties_ink p (indent_at place) properties h))
-    (is ∙ ap (λ (x : List ℕ). x ++ t) (e ∙ ap (λ (x : List ℕ). x ++ w) front_is)
-    ∙ append_assoc (gap ++ properties) w t ∙ append_assoc gap properties (w ++ t))
+    (cc (append_assoc (gap ++ properties) w t, append_assoc gap properties (w ++ t)))
 lead_token p place least m lead t u (inr (none, h)) b is =
     let s = compact_spaced place m lead h in
     ink_token (spaces s.count) t u (skipped_passes (spaces s.count) (spaces_skipped s.count)) b
@@ -125,21 +123,17 @@ document_token leaves d free t o (inr (may, (directives, node, explicit, compati
     by_directives d.directives are
   where
     by_directives : (ds : List Directive) → AreDirectives ds directives → HasToken t
-    by_directives [] h =
-        ink_is_token 45 (45 ∷ 45 ∷ node) t dash_ink (e ∙ ap (λ (x : List ℕ). x ++ (45 ∷ 45 ∷ 45 ∷ node)) h)
+    by_directives [] h = ink_is_token 45 (45 ∷ 45 ∷ node) t dash_ink (cc)
     by_directives (k ∷ ks) (directive, filler, more, is, filler_is, others, text) =
         let line = directive_line k directive is in
-        ink_is_token 37 ((line.others ++ (10 ∷ (filler ++ more))) ++ (45 ∷ 45 ∷ 45 ∷ node)) t percent_ink
-        (e ∙ ap (λ (x : List ℕ). x ++ (45 ∷ 45 ∷ 45 ∷ node))
-        (text ∙ ap (λ (x : List ℕ). x ++ (10 ∷ (filler ++ more))) line.is))
+        ink_is_token 37 ((line.others ++ (10 ∷ (filler ++ more))) ++ (45 ∷ 45 ∷ 45 ∷ node)) t percent_ink (cc)
 
 -- A text with documents has a token; one without them is filler.
 pub documents_token : {limit : ℕ} → ReadsLeaves limit → (ds : Forest) (free : Bool) (t : List ℕ)
     → AreBlockDocuments ds free t → ((ds ≡ []) × IsLastFiller t) ⊎ HasToken t
 documents_token leaves [] free t h = inl (refl, h)
 documents_token leaves (d ∷ ds) free t (filler, document, others, filler_is, is, behind, e) =
-    inr (subst HasToken (sym e)
-    (token_behind filler (document ++ others) (skipped_passes filler (filler_skipped filler filler_is))
+    inr (rw e (token_behind filler (document ++ others) (skipped_passes filler (filler_skipped filler filler_is))
     (token_front document others (document_token leaves d free document others is))))
 
 -- after blanks, breaks and comments the text has this at its front
@@ -150,31 +144,27 @@ StopsAt t s = (m : Marker) → (past 0 m t).1 ≡ s
 pub one_stop : (t u s r : List ℕ) → t ≡ u → StopsAt t s → StopsAt u r → s ≡ r
 one_stop t u s r e h k =
     let m : Marker = record { index = 0; line = 1; col = 0 } in
-    sym (h m) ∙ ap (λ (x : List ℕ). (past 0 m x).1) e ∙ k m
+    cc (h m, k m)
 
 passed_stops : (w s : List ℕ) → Passes w → IsStop s → StopsAt (w ++ s) s
-passed_stops w s h stop m = ap (λ (q : Marker × List ℕ). q.1) (h m s ∙ stop_past (moved m w) s stop)
+passed_stops w s h stop m = cc (h m s, stop_past (moved m w) s stop)
 
 skipped_stops : (w s : List ℕ) → IsSkipped w → IsStop s → StopsAt (w ++ s) s
 skipped_stops w s h stop = passed_stops w s (skipped_passes w h) stop
 
 pub token_stops : (t : List ℕ) (h : HasToken t) → StopsAt t (h.first ∷ h.others)
-token_stops t h m = ap (λ (x : List ℕ). (past 0 m x).1) h.is
-    ∙ passed_stops h.white (h.first ∷ h.others) h.passes (ink_stop h.first h.others h.ink) m
+token_stops t h m = cc (passed_stops h.white (h.first ∷ h.others) h.passes (ink_stop h.first h.others h.ink) m)
 
 pub marker_stops : (o : List ℕ) (k : OpensMarker o) → StopsAt o (k.first ∷ k.others)
-marker_stops o k m = ap (λ (x : List ℕ). (past 0 m x).1) k.is
-    ∙ skipped_stops k.filler (k.first ∷ k.others) (filler_skipped k.filler k.filler_is)
-    k.stops m
+marker_stops o k m = cc (skipped_stops k.filler (k.first ∷ k.others) (filler_skipped k.filler k.filler_is) k.stops m)
 
 pub end_stops : (end o s : List ℕ) → IsEol end o → StopsAt o s → StopsAt (end ++ o) s
 end_stops end o s h k m =
     let e = eol m end o h in
-    ap (λ (q : Marker × List ℕ). q.1)
-    (ap (past 0 m) e.is ∙ rest_past 0 m e.rest e.more e.line e.break (omega arith) ∙ e.behind 0) ∙ k e.mark
+    cc (rest_past 0 m e.rest e.more e.line e.break (omega arith), e.behind 0, k e.mark)
 
 last_stops : (o : List ℕ) → IsLastFiller o → StopsAt o []
-last_stops o h m = ap (λ (q : Marker × List ℕ). q.1) (last_filler_past 0 m o h)
+last_stops o h m = cc (last_filler_past 0 m o h)
 
 -- at a byte order mark
 pub mark_stops : (filler o : List ℕ) → IsSkipped filler → StopsAt (filler ++ (65279 ∷ o)) (65279 ∷ o)
@@ -183,15 +173,15 @@ mark_stops filler o h = skipped_stops filler (65279 ∷ o) h (refl, refl, refl)
 -- at a byte order mark, or at a `...`, before documents
 pub mark_prefix_stops : (filler next others : List ℕ) → IsFiller filler
     → StopsAt ((filler ++ (byte_order_mark ∷ next)) ++ others) (byte_order_mark ∷ (next ++ others))
-mark_prefix_stops filler next others is = subst (λ (x : List ℕ). StopsAt x (65279 ∷ (next ++ others)))
-    (sym (append_assoc filler (65279 ∷ next) others)) (mark_stops filler (next ++ others) (filler_skipped filler is))
+mark_prefix_stops filler next others is =
+    rw (append_assoc filler (65279 ∷ next) others) (mark_stops filler (next ++ others) (filler_skipped filler is))
 
 pub end_prefix_stops : (filler end next others : List ℕ) → IsFiller filler
     → StopsAt ((filler ++ (full_stop ∷ full_stop ∷ full_stop ∷ (end ++ next))) ++ others)
     (full_stop ∷ full_stop ∷ full_stop ∷ (end ++ (next ++ others)))
 end_prefix_stops filler end next others is =
     let at = 46 ∷ 46 ∷ (end ++ (next ++ others)) in
-    subst (λ (x : List ℕ). StopsAt x (46 ∷ at)) (sym (suffix_text filler end next others))
+    rw (suffix_text filler end next others)
     (skipped_stops filler (46 ∷ at) (filler_skipped filler is) (ink_stop 46 at dot_ink))
 
 -- ## Documents begin with no byte order mark
@@ -206,8 +196,7 @@ pub record StopsUnmarked (t : List ℕ) : Type 0 where
   pub unmarked : (o : List ℕ) → at ≡ 65279 ∷ o → ⊥
 
 pub documents_stop : {limit : ℕ} → ReadsLeaves limit → (ds : Forest) (free : Bool) (t : List ℕ)
-    → AreBlockDocuments ds free t
-    → StopsUnmarked t
+    → AreBlockDocuments ds free t → StopsUnmarked t
 documents_stop leaves ds free t h = by_token (documents_token leaves ds free t h)
   where
     by_token : ((ds ≡ []) × IsLastFiller t) ⊎ HasToken t → StopsUnmarked t

@@ -44,20 +44,14 @@ with_mark : {limit : ℕ} {start : State} {others : List ℕ} (ts : List Kind) (
 with_mark {limit = limit} {start = start} {others = others} ts k is p = record {
   marks = k ∷ p.marks;
   are = (is, p.are);
-  stands = subst (StandsLined limit start true true others) (append_assoc ts (k ∷ []) p.marks)
-      p.stands;
+  stands = rw (append_assoc ts (k ∷ []) p.marks) at p.stands;
 }
 
 pub reads_prefix : {limit : ℕ} {start : State} (prefix others : List ℕ) (ts : List Kind)
-    → IsDocumentPrefix prefix others
-    → StandsLined limit start true true (prefix ++ others) ts
+    → IsDocumentPrefix prefix others → StandsLined limit start true true (prefix ++ others) ts
     → PrefixStands limit start others ts
 reads_prefix {limit = limit} {start = start} _ _ ts (no_prefix others) v =
-    record {
-      marks = [];
-      are = tt;
-      stands = subst (StandsLined limit start true true others) (sym (append-nil ts)) v;
-    }
+    record { marks = []; are = tt; stands = rw (append-nil ts) v }
 reads_prefix {limit = limit} {start = start} _ _ ts (mark_prefix filler more others is h) v =
     let first = lined_so (append_assoc filler (65279 ∷ more) others) v in
     with_mark ts tokens.ByteOrderMark (inr refl) (reads_prefix more others (ts ++ tokens.ByteOrderMark ∷ []) h
@@ -76,8 +70,7 @@ ReadsDocuments limit start ds =
     → FinishesStream limit start (grammar.YieldDocuments ds free) ts
 
 -- what comes after a document and its byte order marks is read, where documents are
-reads_unmarked : {limit : ℕ} {start : State} (ds : Forest)
-    → ReadsDocuments limit start ds
+reads_unmarked : {limit : ℕ} {start : State} (ds : Forest) → ReadsDocuments limit start ds
     → (o : List ℕ) (ts : List Kind) → yaml.IsBehindMarks (AreBlockDocuments ds) o → HasNoReturn o
     → StandsLined limit start false false o ts
     → FinishesStream limit start (grammar.YieldsBehindDocument (grammar.YieldDocuments ds)) ts
@@ -93,14 +86,13 @@ reads_unmarked ds go o ts (inl h) clean v =
     }
 reads_unmarked {limit = limit} {start = start} ds go o ts
     (inr (suffix, others, (filler, end, prefix, filler_is, end_is, prefix_is, e), h, is)) clean v =
-    let text : o ≡ filler ++ (46 ∷ 46 ∷ 46 ∷ (end ++ (prefix ++ others))) =
-    is ∙ ap (λ (x : List ℕ). x ++ others) e ∙ suffix_text filler end prefix others in
+    let text : o ≡ filler ++ (46 ∷ 46 ∷ 46 ∷ (end ++ (prefix ++ others))) = cc (suffix_text filler end prefix others) in
     let first = passes_filler filler (46 ∷ 46 ∷ 46 ∷ (end ++ (prefix ++ others))) filler_is
     (lined_so text v) in
     let p = reads_prefix prefix others (ts ++ tokens.DocumentEnd ∷ []) prefix_is
     (reads_end end (prefix ++ others) first end_is) in
     let f = go true others ((ts ++ tokens.DocumentEnd ∷ []) ++ p.marks) h
-    (back_in _ suffix others (subst HasNoReturn is clean)) p.stands in
+    (back_in _ suffix others (rw is at clean)) p.stands in
     record {
       last = f.last;
       leads = f.leads;
@@ -116,12 +108,10 @@ reads_unmarked {limit = limit} {start = start} ds go o ts
 -- a byte order mark, and what comes after a document
 pub mark_told : (Others : Bool → List Kind → Type 0) (ts : List Kind) → grammar.YieldsBehindDocument Others ts
     → grammar.YieldsBehindDocument Others (tokens.ByteOrderMark ∷ ts)
-mark_told Others ts (marks, end, others, are, h, e) =
-    (tokens.ByteOrderMark ∷ marks, end, others, (refl, are), h, ap (λ (x : List Kind). tokens.ByteOrderMark ∷ x) e)
+mark_told Others ts (marks, end, others, are, h, e) = (tokens.ByteOrderMark ∷ marks, end, others, (refl, are), h, cc)
 
 -- from its byte order marks on
-reads_marked : {limit : ℕ} {start : State} (ds : Forest)
-    → ReadsDocuments limit start ds
+reads_marked : {limit : ℕ} {start : State} (ds : Forest) → ReadsDocuments limit start ds
     → (pieces : List (List ℕ)) (o : List ℕ) (ts : List Kind) → AreEach yaml.IsMarkBehindFiller pieces
     → yaml.IsBehindMarks (AreBlockDocuments ds) o → HasNoReturn o
     → StandsLined limit start false false (joined_pieces pieces ++ o) ts
@@ -143,21 +133,19 @@ reads_marked {limit = limit} {start = start} ds go (piece ∷ pieces) o ts ((fil
     }
 
 -- what comes after a document is read
-reads_behind : {limit : ℕ} {start : State} (ds : Forest)
-    → ReadsDocuments limit start ds
+reads_behind : {limit : ℕ} {start : State} (ds : Forest) → ReadsDocuments limit start ds
     → (o : List ℕ) (ts : List Kind) → yaml.IsBehindDocument (AreBlockDocuments ds) o → HasNoReturn o
     → StandsLined limit start false false o ts
     → FinishesStream limit start (grammar.YieldsBehindDocument (grammar.YieldDocuments ds)) ts
 reads_behind {limit = limit} {start = start} ds go o ts (marks, others, (pieces, each, joins), h, e) clean v =
-    reads_marked ds go pieces others ts each h (back_in _ marks others (subst HasNoReturn e clean))
+    reads_marked ds go pieces others ts each h (back_in _ marks others (rw e at clean))
     (lined_so (e ∙ ap (λ (x : List ℕ). x ++ others) joins) v)
 
 -- ## Documents
 
 reads_documents : {limit : ℕ} {start : State} → ReaderPromises → ReadsLeaves limit
     → (forest : Forest) (free : Bool) (t : List ℕ) (ts : List Kind) → AreBlockDocuments forest free t → HasNoReturn t
-    → StandsLined limit start free free t ts
-    → FinishesStream limit start (grammar.YieldDocuments forest free) ts
+    → StandsLined limit start free free t ts → FinishesStream limit start (grammar.YieldDocuments forest free) ts
 reads_documents readers leaves [] free t ts h clean v =
     let f = reads_stream_end v (moved v.mark t) (last_filler_past 0 v.mark t h) in
     record { last = f.last; leads = f.leads; over = f.over; others = f.others; told = f.told; are = f.are }
@@ -165,7 +153,7 @@ reads_documents {limit = limit} {start = start} readers leaves (d ∷ ds) free t
     (filler, document, others, filler_is, is, behind, e) clean v =
     let first = passes_filler filler (document ++ others) filler_is
     (lined_so e v) in
-    let left = back_in _ filler (document ++ others) (subst HasNoReturn e clean) in
+    let left = back_in _ filler (document ++ others) (rw e at clean) in
     let n = reads_document readers leaves d free document others ts is (lands_behind leaves ds others behind)
     (plain_behind ds others behind) (front_in _ document others left) first in
     let f = reads_behind ds (reads_documents readers leaves ds) others (ts ++ n.tokens) behind
@@ -212,7 +200,7 @@ yaml_leads readers limit leaves forest text clean (prefix, others, prefix_is, do
     (lined_so e
     (begins limit text short)) in
     let f = reads_documents readers leaves forest true others (tokens.StreamStart ∷ p.marks) documents
-    (back_in _ prefix others (subst HasNoReturn e clean)) p.stands in (
+    (back_in _ prefix others (rw e at clean)) p.stands in (
       f.last,
       f.leads,
       f.over,

@@ -45,13 +45,12 @@ sign_leads c e = grind (arith, nat_tests)
 -- the rest after a character that leads on
 ahead : (c : ℕ) (cs : List ℕ) (sign : Bool) → (c == number_sign) ≡ sign → leads_on c ≡ true
     → (leads_on c && has_tab_ahead (c == number_sign) cs) ≡ false → has_tab_ahead sign cs ≡ false
-ahead c cs sign e f h = ap (λ (b : Bool). has_tab_ahead b cs) (sym e)
-    ∙ and_then (leads_on c) (has_tab_ahead (c == 35) cs) f h
+ahead c cs sign e f h = cc (and_then (leads_on c) (has_tab_ahead (c == 35) cs) f h)
 
 -- the rest after a character of a comment
 ahead_of_comment : (c : ℕ) (cs : List ℕ) (ends : Bool) → is_break c ≡ ends → has_tab_ahead true (c ∷ cs) ≡ false
     → has_tab_ahead (not ends) cs ≡ false
-ahead_of_comment c cs ends e h = ap (λ (b : Bool). has_tab_ahead (not b) cs) (sym e) ∙ h
+ahead_of_comment c cs ends e h = cc
 
 over_ahead : OverGap 0 (λ m t. has_tab_ahead false t ≡ false → has_tab t ≡ false)
     (λ m t. has_tab_ahead true t ≡ false → comment_has_tab t ≡ false)
@@ -114,19 +113,17 @@ same_ahead true m (c ∷ cs) o more some e h =
     same_ahead (not (is_break c)) (behind_character m c) cs o more
     (λ k. column_behind_character m c (unbroken_no_feed c k)) e h
 same_ahead false m (c ∷ cs) o more some e h =
-    ap (λ (b : Bool). (c == 9) || (leads_on c && b))
-    (same_ahead (c == 35) (behind_character m c) cs o more (λ k. column_behind_character m c (sign_no_feed c k)) e h)
+    cc (same_ahead (c == 35) (behind_character m c) cs o more (λ k. column_behind_character m c (sign_no_feed c k)) e h)
 
 pub tells_behind : (t o more : List ℕ) → ((m : Marker) → (moved m t).col ≡ 0) → TellsTabs more o
     → TellsTabs more (t ++ o)
 tells_behind t o more h k =
-    ap (has_tab_ahead false) (append_assoc t o more)
-    ∙ same_ahead false text_start t o more (λ e. absurd (cc)) (h text_start) k
+    cc (append_assoc t o more, same_ahead false text_start t o more (λ e. absurd (cc)) (h text_start) k)
 
 pub tells_filler : (t o more : List ℕ) → IsFiller t → TellsTabs more o → TellsTabs more (t ++ o)
 tells_filler t o more h k =
-    ap (has_tab_ahead false) (append_assoc t o more)
-    ∙ same_ahead false text_start t o more (λ e. absurd (cc)) (filler_line text_start t h refl) k
+    cc (append_assoc t o more, same_ahead false text_start t o more (λ e. absurd (cc)) (filler_line text_start t h refl)
+    k)
 
 -- before a token
 pub tells_token : (c : ℕ) (cs more : List ℕ) → IsStop (c ∷ cs) → TellsTabs more (c ∷ cs)
@@ -180,8 +177,7 @@ token_here c cs (blank, break, comment) = rw (no_tab c blank, no_space c blank, 
 words_none : (words o : List ℕ) → AreIn is_yaml_non_break words → has_token false o ≡ false
     → has_token true (words ++ (line_feed ∷ o)) ≡ false
 words_none [] o h k = k
-words_none (c ∷ cs) o h k =
-    ap (λ (b : Bool). has_token (not b) (cs ++ (10 ∷ o))) (no_break c h.0) ∙ words_none cs o h.1 k
+words_none (c ∷ cs) o h k = cc (no_break c h.0, words_none cs o h.1 k)
   where
     no_break : (c : ℕ) → IsTrue (is_yaml_non_break c) → is_break c ≡ false
     no_break c h = grind (arith, nat_tests)
@@ -207,27 +203,23 @@ line_none : (t o : List ℕ) → IsFillerLine t → has_token false o ≡ false 
 line_none t o (text, (front, comment, are, k, is_text), is) h =
     let whole : t ++ o ≡ front ++ (comment ++ (10 ∷ o)) =
     ap (λ (x : List ℕ). x ++ o) (is ∙ ap (λ (x : List ℕ). x ++ (10 ∷ [])) is_text) ∙ simp append_assoc in
-    ap (has_token false) whole ∙ blanks_none front (comment ++ (10 ∷ o)) are (by_comment k)
+    cc (blanks_none front (comment ++ (10 ∷ o)) are (by_comment k))
   where
     by_comment : (comment ≡ []) ⊎ IsComment comment → has_token false (comment ++ (line_feed ∷ o)) ≡ false
     by_comment (inl e) = ap (λ (x : List ℕ). has_token false (x ++ (10 ∷ o))) e ∙ h
-    by_comment (inr (words, are_words, e)) =
-        ap (λ (x : List ℕ). has_token false (x ++ (10 ∷ o))) e ∙ words_none words o are_words h
+    by_comment (inr (words, are_words, e)) = cc (words_none words o are_words h)
 
 filler_none : (ws : List (List ℕ)) (o : List ℕ) → AreEach IsFillerLine ws → has_token false o ≡ false
     → has_token false (joined_pieces ws ++ o) ≡ false
 filler_none [] o h k = k
 filler_none (v ∷ vs) o h k =
-    ap (has_token false) (append_assoc v (joined_pieces vs) o) ∙ line_none v (joined_pieces vs ++ o) h.0
-    (filler_none vs o h.1 k)
+    cc (append_assoc v (joined_pieces vs) o, line_none v (joined_pieces vs ++ o) h.0 (filler_none vs o h.1 k))
 
 pub last_none : (t : List ℕ) → IsLastFiller t → has_token false t ≡ false
 last_none t (filler, text, (pieces, each, joins), (front, comment, are, k, is_text), is) =
-    let whole : t ≡ joined_pieces pieces ++ (front ++ comment) =
-    is ∙ ap (λ (x : List ℕ). x ++ text) joins ∙ ap (λ (x : List ℕ). joined_pieces pieces ++ x) is_text in
-    ap (has_token false) whole
-    ∙ filler_none pieces (front ++ comment) each (blanks_none front comment are (by_comment k))
+    let whole : t ≡ joined_pieces pieces ++ (front ++ comment) = cc in
+    cc (filler_none pieces (front ++ comment) each (blanks_none front comment are (by_comment k)))
   where
     by_comment : (comment ≡ []) ⊎ IsComment comment → has_token false comment ≡ false
     by_comment (inl e) = ap (has_token false) e
-    by_comment (inr (words, are_words, e)) = ap (has_token false) e ∙ last_words_none words are_words
+    by_comment (inr (words, are_words, e)) = cc (last_words_none words are_words)

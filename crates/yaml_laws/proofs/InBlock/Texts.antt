@@ -21,11 +21,11 @@ use Rattle.yaml_laws.proofs.InBlock.Statements.{EndsWithLine, EndsNodeAt, ReadsL
 -- ## Where a node ends
 
 pub ends_back : (a t o : List ℕ) → EndsWithLine t o → EndsWithLine (a ++ t) o
-ends_back a t o (inl h) = inl (λ m. ap (λ (n : Marker). n.col) (moved_append m a t) ∙ h (moved m a))
+ends_back a t o (inl h) = inl (λ m. cc (moved_append m a t, h (moved m a)))
 ends_back a t o (inr h) = inr h
 
 ends_so : (t u o : List ℕ) → t ≡ u → EndsWithLine u o → EndsWithLine t o
-ends_so t u o e h = subst (λ (x : List ℕ). EndsWithLine x o) (sym e) h
+ends_so t u o e h = rw e h
 
 pub eol_ends : (t o : List ℕ) → IsEol t o → EndsWithLine t o
 eol_ends t o (inl (rest, h, is)) = ends_so t (rest ++ (10 ∷ [])) o is (ends_back rest (10 ∷ []) o (inl (λ m. refl)))
@@ -34,8 +34,7 @@ eol_ends t o (inr h) = inr h.1
 last_ends : (a t o : List ℕ) → (t ≡ []) ⊎ EndsWithLine t o → EndsWithLine a (t ++ o) → EndsWithLine (a ++ t) o
 last_ends a t o (inr h) first = ends_back a t o h
 last_ends a t o (inl e) first =
-    ends_so (a ++ t) a o (ap (λ (x : List ℕ). a ++ x) e ∙ append-nil a)
-    (subst (λ (x : List ℕ). EndsWithLine a (x ++ o)) e first)
+    ends_so (a ++ t) a o (ap (λ (x : List ℕ). a ++ x) e ∙ append-nil a) (rw e at first)
 
 left_out_ends : (node : Node) (place : Position) (t o : List ℕ) → IsLeftOut node place t o → EndsWithLine t o
 left_out_ends node place t o h = eol_ends t o h.2
@@ -49,8 +48,7 @@ pub pair_ends : (key value : Node)
     → ((place : Position) (t o : List ℕ) → IsBlockNode most_open key place t o → EndsWithLine t o)
     → ((place : Position) (t o : List ℕ) → IsBlockNode most_open value place t o → EndsWithLine t o)
     → (m : ℕ) (t o : List ℕ)
-    → IsBlockPair most_open key value (IsBlockNode most_open key) (IsBlockNode most_open value) m t o
-    → EndsWithLine t o
+    → IsBlockPair most_open key value (IsBlockNode most_open key) (IsBlockNode most_open value) m t o → EndsWithLine t o
 pair_ends key value K V m t o (inl (inl (node, between, v, node_is, line, spaced, before, short, h, e))) =
     ends_so t (node ++ (between ++ ((58 ∷ []) ++ v))) o e
     (ends_back node (between ++ (58 ∷ v)) o (ends_back between (58 ∷ v) o (ends_back (58 ∷ []) v o (V _ v o h))))
@@ -81,8 +79,7 @@ mutual
       ends_so t (lead ++ entries) o e (ends_back lead entries o (pairs_end leaves pairs m entries o h))
 
   pub entries_end : {limit : ℕ} → ReadsLeaves limit → (nodes : Nodes) (m : ℕ) (t o : List ℕ)
-      → AreEntries most_open nodes m t o
-      → EndsWithLine t o
+      → AreEntries most_open nodes m t o → EndsWithLine t o
   entries_end leaves NoNode m t o h = absurd h
   entries_end leaves (MoreNodes node nodes) m t o (entry, others, h, k, e) =
       ends_so t ((45 ∷ []) ++ (entry ++ others)) o e
@@ -100,8 +97,7 @@ mutual
       (node_ends leaves node _ entry (others ++ o) h)))))
 
   pub pairs_end : {limit : ℕ} → ReadsLeaves limit → (pairs : Pairs) (m : ℕ) (t o : List ℕ)
-      → ArePairs most_open pairs m t o
-      → EndsWithLine t o
+      → ArePairs most_open pairs m t o → EndsWithLine t o
   pairs_end leaves NoPair m t o h = absurd h
   pairs_end leaves (MorePairs key value pairs) m t o (pair, others, h, k, e) =
       ends_so t (pair ++ others) o e
@@ -139,13 +135,12 @@ none_and a b e = omega (arith, e)
 pub indentation_col : (m : Marker) (column : ℕ) (w : List ℕ) → IsEntryIndentation column w → m.col ≡ 0
     → (moved m w).col ≡ column
 indentation_col m column w (filler, h, is) e =
-    ap (λ (x : List ℕ). (moved m x).col) is
-    ∙ ap (λ (n : Marker). n.col) (moved_append m filler (spaces column) ∙ spaces_moved (moved m filler) column)
-    ∙ none_and (moved m filler).col column (filler_line m filler h e)
+    simp (is, moved_append m filler (spaces column), spaces_moved (moved m filler) column,
+    none_and (moved m filler).col column (filler_line m filler h e))
 
 pub indentation_skipped : (column : ℕ) (w : List ℕ) → IsEntryIndentation column w → IsSkipped w
 indentation_skipped column w (filler, h, is) =
-    subst IsSkipped (sym is) (skipped_append filler (spaces column) (filler_skipped filler h) (spaces_skipped column))
+    rw is (skipped_append filler (spaces column) (filler_skipped filler h) (spaces_skipped column))
 
 -- ## Before a token
 
@@ -168,8 +163,7 @@ behind_indented column m w c cs h ink e =
     let k = indentation_skipped column w h in
     let there = reaches m w c cs k ink in
     record {
-      left = inr (subst (λ (q : Marker × List ℕ). q.0.col < suc column) (sym there)
-          (less (moved m w).col column (indentation_col m column w h e)));
+      left = inr (rw there (less (moved m w).col column (indentation_col m column w h e)));
       clean = skipped_clean w (c ∷ cs) k (ink_clean c cs ink);
     }
   where

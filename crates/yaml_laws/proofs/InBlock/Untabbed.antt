@@ -169,8 +169,5 @@ gap_past column m blank t =
     record {
       still_blank = g.still_blank;
       is = λ h low under. let s = over_gap (over_settled column) m t h in
-          g.is low false
-          ∙ ap (λ (b : Bool). stop (past 0 m t).0 g.still_blank (crosses t) b (past 0 m t).1)
-          (s.1 low under blank false (no_tab_before (is_filler_rest t)))
-          ∙ ap (λ (p : Marker × List ℕ). stop p.0 g.still_blank (crosses t) false p.1) s.0;
+          cc (g.is low false, s.1 low under blank false (no_tab_before (is_filler_rest t)));
     }

@@ -20,18 +20,15 @@ use Rattle.yaml_laws.proofs.InBlock.TabsAhead.{has_token}
 words_ahead : (m : ℕ) (words o : List ℕ) → AreIn is_yaml_non_break words
     → is_value_ahead true m 0 (words ++ (line_feed ∷ o)) ≡ is_value_ahead false m 0 o
 words_ahead m [] o h = refl
-words_ahead m (c ∷ cs) o h =
-    ap (λ (b : Bool). is_value_ahead (not b) m 0 (cs ++ (10 ∷ o))) (no_break c h.0) ∙ words_ahead m cs o h.1
+words_ahead m (c ∷ cs) o h = cc (no_break c h.0, words_ahead m cs o h.1)
   where
     no_break : (c : ℕ) → is_yaml_non_break c ≡ true → is_break c ≡ false
     no_break c h = grind (arith, nat_tests)
 
 rest_ahead : (m column : ℕ) (blanks comment o : List ℕ) → AreIn is_blank blanks → (comment ≡ []) ⊎ IsComment comment
     → is_value_ahead false m column (blanks ++ (comment ++ (line_feed ∷ o))) ≡ is_value_ahead false m 0 o
-rest_ahead m column [] comment o are (inl e) =
-    ap (λ (x : List ℕ). is_value_ahead false m column (x ++ (10 ∷ o))) e
-rest_ahead m column [] comment o are (inr (words, are_words, e)) =
-    ap (λ (x : List ℕ). is_value_ahead false m column (x ++ (10 ∷ o))) e ∙ words_ahead m words o are_words
+rest_ahead m column [] comment o are (inl e) = cc
+rest_ahead m column [] comment o are (inr (words, are_words, e)) = cc (words_ahead m words o are_words)
 rest_ahead m column (c ∷ cs) comment o are k = rw are.0 (rest_ahead m (column + 1) cs comment o are.1 k)
 
 -- it is at the column that is reached
@@ -45,9 +42,8 @@ skipped_ahead m n _ y (one_rest blanks comment w are k h) =
     let line = next_line (moved n front) 1 in
     let text : (blanks ++ (comment ++ (10 ∷ w))) ++ y ≡ blanks ++ (comment ++ (10 ∷ (w ++ y))) = simp append_assoc in
     let place : moved n (blanks ++ (comment ++ (10 ∷ w))) ≡ moved line w =
-    ap (moved n) (sym (append_assoc blanks comment (10 ∷ w))) ∙ moved_append n front (10 ∷ w) in
-    ap (is_value_ahead false m n.col) text ∙ rest_ahead m n.col blanks comment (w ++ y) are k
-    ∙ skipped_ahead m line w y h ∙ ap (λ (p : Marker). is_value_ahead false m p.col y) (sym place)
+    cc (append_assoc blanks comment (10 ∷ w), moved_append n front (10 ∷ w)) in
+    cc (rest_ahead m n.col blanks comment (w ++ y) are k, skipped_ahead m line w y h)
 
 -- such a `:` itself
 pub value_here : (m column : ℕ) (o : List ℕ) → column ≡ m → is_blank_or_breakz (slice_index o 0) ≡ true
@@ -102,7 +98,7 @@ same_ahead true m column (c ∷ []) more token fed = absurd (cc)
 same_ahead true m column (c ∷ d ∷ ds) more token fed =
     same_ahead (not (is_break c)) m 0 (d ∷ ds) more token (fed_behind (c ∷ []) d ds fed)
 same_ahead false m column (c ∷ []) more token fed =
-    absurd (let e : false ≡ true = subst (λ (x : ℕ). has_token false (x ∷ []) ≡ true) (feed_alone c fed) token in cc)
+    absurd (let e : false ≡ true = rw (feed_alone c fed) at token in cc)
 same_ahead false m column (c ∷ d ∷ ds) more token fed =
     kind_ahead m column c d ds more (is_blank c) (is_break c || (c == 35)) refl refl token
     (λ b k t. same_ahead b m k (d ∷ ds) more t (fed_behind (c ∷ []) d ds fed))

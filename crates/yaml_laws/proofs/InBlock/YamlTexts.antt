@@ -38,8 +38,7 @@ leaves reads blocks limit short = record {
 
 -- Each text of YAML's grammar gives tokens of its forest. The normalized text is scanned with a limit of its own.
 pub yaml_scans : Readers → ReaderPromises → ReadsBlocks → (limit other : ℕ) → other < 2 ^ 63
-    → (forest : Forest) (text : List ℕ)
-    → HaveSameKinds (scan limit text) (scan other (normalized text))
+    → (forest : Forest) (text : List ℕ) → HaveSameKinds (scan limit text) (scan other (normalized text))
     → IsYamlText most_open forest text → length text ≤ other
     → (ts : List Kind) × Yields forest ts × Scans ts (scan limit text)
 yaml_scans readers reads blocks limit other low forest text same yaml short =
@@ -51,9 +50,5 @@ yaml_scans readers reads blocks limit other low forest text same yaml short =
     let all = handed_out readers other n run.0 run.1 run.2 in (
       run.3.0,
       run.3.1,
-      scans_too run.3.0 (scan limit text) (scan other n) same (
-        ap (λ (r : Remaining). r.refusal) all,
-        ap (λ (r : Remaining). map (λ (t : Piece). t.kind) r.pieces) all
-            ∙ run.3.2,
-      ),
+      scans_too run.3.0 (scan limit text) (scan other n) same (ap (λ (r : Remaining). r.refusal) all, cc),
     )

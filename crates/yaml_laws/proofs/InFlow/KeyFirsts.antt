@@ -67,7 +67,7 @@ unfolding flow.opening_steps open_collection
 start_fresh y kind around d s k ad n = refl
 
 fresh_so : (around : Around) (t u : List ℕ) → t ≡ u → Fresh around u → Fresh around t
-fresh_so around t u e h = subst (Fresh around) (sym e) h
+fresh_so around t u e h = rw e h
 
 fresh_alias : (around : Around) (name t o : List ℕ) → yaml.IsAlias name t → Fresh around (t ++ o)
 fresh_alias around name t o h =
@@ -95,10 +95,10 @@ fresh_properties around indent None None t o h = absurd h
 fresh_properties around indent (Some name) None t o h = fresh_anchor around name t o h
 fresh_properties around indent None (Some tag) t o h = fresh_tag around tag t o h
 fresh_properties around indent (Some name) (Some tag) t o (a, s, c, h, g, spaced, inl is) =
-    fresh_so around (t ++ o) (a ++ ((s ++ c) ++ o)) (ap (λ (x : List ℕ). x ++ o) is ∙ append_assoc a (s ++ c) o)
+    fresh_so around (t ++ o) (a ++ ((s ++ c) ++ o)) (cc (append_assoc a (s ++ c) o))
     (fresh_anchor around name a ((s ++ c) ++ o) h)
 fresh_properties around indent (Some name) (Some tag) t o (c, s, a, h, g, spaced, inr is) =
-    fresh_so around (t ++ o) (a ++ ((s ++ c) ++ o)) (ap (λ (x : List ℕ). x ++ o) is ∙ append_assoc a (s ++ c) o)
+    fresh_so around (t ++ o) (a ++ ((s ++ c) ++ o)) (cc (append_assoc a (s ++ c) o))
     (fresh_tag around tag a ((s ++ c) ++ o) g)
 
 fresh_word : (around : Around) (t o : List ℕ) → BeginsWord false t o → Fresh around (t ++ o)
@@ -130,8 +130,7 @@ fresh_front : (around : Around) (indent : ℕ) (p : Properties) (front t : List 
 fresh_front around indent p front t (inl (none, is)) h =
     fresh_so around (front ++ t) t (ap (λ (x : List ℕ). x ++ t) is) h
 fresh_front around indent p front t (inr (written, separation, g, some, parts, is)) h =
-    fresh_so around (front ++ t) (written ++ (separation ++ t))
-    (ap (λ (x : List ℕ). x ++ t) is ∙ append_assoc written separation t)
+    fresh_so around (front ++ t) (written ++ (separation ++ t)) (cc (append_assoc written separation t))
     (fresh_properties around indent p.anchor p.tag written (separation ++ t) g)
 
 scalar_fresh : (around : Around) (indent : ℕ) (p : Properties) (style : Style) (value t o : List ℕ)
@@ -139,8 +138,7 @@ scalar_fresh : (around : Around) (indent : ℕ) (p : Properties) (style : Style)
 scalar_fresh around indent p style value t o (inl (plain, empty, h)) =
     fresh_properties around indent p.anchor p.tag t o h
 scalar_fresh around indent p style value t o (inr (front, content, before, g, e)) =
-    fresh_so around (t ++ o) (front ++ (content ++ o))
-    (ap (λ (x : List ℕ). x ++ o) e ∙ append_assoc front content o)
+    fresh_so around (t ++ o) (front ++ (content ++ o)) (cc (append_assoc front content o))
     (fresh_front around indent p front (content ++ o) before (fresh_content around indent style value content o g))
 
 pub plain_key_fresh : (around : Around) (indent : ℕ) (node : Node) (t r : List ℕ) → IsPlainKeyNode node false indent t
@@ -150,8 +148,7 @@ plain_key_fresh around indent (Seq p nodes) t r h = absurd h
 plain_key_fresh around indent (Map p pairs) t r h = absurd h
 plain_key_fresh around indent (Scalar p style value) t r (front, content, plain, before, g, is, e) =
     let o = 58 ∷ r in
-    fresh_so around (t ++ o) (front ++ (content ++ o))
-    (ap (λ (x : List ℕ). x ++ o) e ∙ append_assoc front content o)
+    fresh_so around (t ++ o) (front ++ (content ++ o)) (cc (append_assoc front content o))
     (fresh_front around indent p front (content ++ o) before
     (fresh_word around content o (key_begins false indent content r g)))
 
@@ -161,8 +158,7 @@ brackets_fresh : (around : Around) (indent : ℕ) (p : Properties) (b : Brackets
 brackets_fresh around indent p b are Text room t o (left, opening, inside, r, (front, w, before, parts, e), h, is) =
     let rest = w ++ (inside ++ (b.closing ∷ [])) in
     fresh_so around (t ++ o) (front ++ (b.opening ∷ (rest ++ o)))
-    (ap (λ (x : List ℕ). x ++ o) (whole_text t opening front w inside b.opening b.closing is e)
-    ∙ append_assoc front (b.opening ∷ rest) o)
+    (cc (whole_text t opening front w inside b.opening b.closing is e, append_assoc front (b.opening ∷ rest) o))
     (fresh_front around indent p front (b.opening ∷ (rest ++ o)) before (fresh_bracket around b are (rest ++ o)))
 
 pub key_node_fresh : (around : Around) (indent : ℕ) (room : ℕ) (node : Node) (t o : List ℕ)

@@ -49,8 +49,7 @@ pub not_far : (k : Candidate) (m : Marker) → IsNear k m → is_too_far (Some k
 not_far k m h = rw (no_later k.mark.line m.line h.line, no_more m.index k.mark.index h.index) refl
 
 pub keeps_near_key : (around : Around) (d : Bool) (s : Cursor) (k : Candidate) (ls : List Level) (a : Bool) (ad : ℕ)
-    → IsNear k s.mark
-    → drop_far_key (core_at around d s context.Block (Some k) ls a ad)
+    → IsNear k s.mark → drop_far_key (core_at around d s context.Block (Some k) ls a ad)
     ≡ Ok (core_at around d s context.Block (Some k) ls a ad)
 unfolding drop_far_key
 keeps_near_key around d s k ls a ad near = rw (not_far k s.mark near) refl
@@ -118,8 +117,7 @@ begins_low around d s k a ad ps h right =
     let n = and_or_false (s.mark.col == 0) (is_document_start s.rest) (is_document_end s.rest) h.marker in
     rw (h.nul, h.byte_order_mark, h.directive, and_false (s.mark.col == 0), n.0, n.1, right) refl
 
-reaches_low : (around : Around) (d : Bool) (m : Marker) → around.indent ≤ m.col
-    → nat_lt m.col (reach around d) ≡ false
+reaches_low : (around : Around) (d : Bool) (m : Marker) → around.indent ≤ m.col → nat_lt m.col (reach around d) ≡ false
 reaches_low around d m right =
     let low = reach_low around d in le-ltb m.col (reach around d) (omega (arith, low, right))
 
@@ -202,8 +200,7 @@ Fresh around t =
 -- the first token of a key
 pub first_ready : (around : Around) → around.pending ≡ false
     → (d blank : Bool) (k : Option Candidate) (ad : ℕ) (ps : List Place) (m : Marker) (c : ℕ) (cs : List ℕ) → IsInk c
-    → (right : around.column ≤ m.col + 1)
-    → BeginsToken m (c ∷ cs) → Fresh around (c ∷ cs)
+    → (right : around.column ≤ m.col + 1) → BeginsToken m (c ∷ cs) → Fresh around (c ∷ cs)
     → Ready (keyed around (deeper_at around d m) m right)
     (state_at around (moment (cursor_at (c ∷ cs) m blank) context.Block k [] true ad ps) d)
     (record { mark = m; place = length ps }) (c ∷ cs) m ad ps

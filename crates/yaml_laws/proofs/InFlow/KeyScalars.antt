@@ -96,8 +96,7 @@ blanks_apart (c ∷ cs) r are e = no_sign c are.0 e
     no_sign c h e = absurd (let f : false ≡ true = sym (ap (λ (d : ℕ). is_blank d) e) ∙ h in cc)
 
 key_ends_plain : (column : ℕ) (m : Marker) (n : Blanks) (r : List ℕ) → column ≤ m.col
-    → is_blank_or_breakz (slice_index r 0) ≡ true
-    → EndsPlain false column m (colon_text n r)
+    → is_blank_or_breakz (slice_index r 0) ≡ true → EndsPlain false column m (colon_text n r)
 key_ends_plain column m n r right h =
     record {
       stops = inl (ap (λ (u : Cursor). is_in_word false u.rest) (white_blanks m n.text r n.are) ∙ colon_stops r h);
@@ -192,8 +191,7 @@ goes_before_colon around d start s r k ls a ad is e = rw (is, eq-eqb start.line 
 
 -- the colon is reached
 gap_to_colon : (around : Around) (d : Bool) (s : Cursor) (k : Candidate) (ad : ℕ) (m : Marker) (r : List ℕ)
-    → s.rest ≡ colon ∷ r → s.mark ≡ m
-    → pass_gap (core_at around d s context.Block (Some k) [] false ad)
+    → s.rest ≡ colon ∷ r → s.mark ≡ m → pass_gap (core_at around d s context.Block (Some k) [] false ad)
     ≡ Ok (core_at around d (cursor_at (colon ∷ r) m s.blank_so_far) context.Block (Some k) [] false ad)
 unfolding pass_gap check_comment
 gap_to_colon around d s k ad m r is at_colon =
@@ -247,7 +245,7 @@ quotes_along reads around quote value t n r h start k qs e ad text low ready =
     let m = colon_after e t n in
     let kind = scalar_token (style_of_quote quote) value in
     let last = in_last k e t n r text in
-    let right = in_right k e t n.text (58 ∷ r) (subst Begins (sym h.5) (quote_first quote h.0)) text in
+    let right = in_right k e t n.text (58 ∷ r) (rw h.5 (quote_first quote h.0)) text in
     let ends = key_quotes around e end n r right (text.line ∙ sym last.line) in
     let shut = ends.ends.there in
     let g : PassesGap around shut context.Block (Some k) [] false ad m (58 ∷ r) =
@@ -305,10 +303,7 @@ ScalarReads around style value content n r =
 quotes_reads : ReaderPromises → (around : Around) (quote : Quote) (value t : List ℕ) (n : Blanks) (r : List ℕ)
     → IsQuoted quote around.indent value t → ScalarReads around (style_of_quote quote) value t n r
 quotes_reads reads around quote value t n r h =
-    record {
-      begins = subst Begins (sym h.5) (quote_first quote h.0);
-      along = quotes_along reads around quote value t n r h;
-    }
+    record { begins = rw h.5 (quote_first quote h.0); along = quotes_along reads around quote value t n r h }
 
 pub scalar_reads : ReaderPromises → (around : Around) (style : Style) (value content : List ℕ) (n : Blanks) (r : List ℕ)
     → IsFlowScalar style value false around.indent content → is_blank_or_breakz (slice_index r 0) ≡ true

@@ -68,13 +68,11 @@ in_back {around} k e a b behind h =
     ap length (append_assoc a b behind) ∙ length-append a (b ++ behind) in
     record {
       line = ap (λ (m : Marker). m.line) there ∙ h.line;
-      index = subst (λ (m : Marker). m.index + length b ≤ k.mark.index + 1024) (sym there)
-          (nearer (length a) (length b) (length (a ++ b)) count index);
+      index = rw there (nearer (length a) (length b) (length (a ++ b)) count index);
       on_line = back_on_line a b (a ++ b) refl h.on_line;
-      low = subst (λ (m : Marker). around.indent ≤ m.col + 1) (sym there) (further (length a) low);
+      low = rw there (further (length a) low);
       clear = clear_back e a b behind h.clear;
-      below = subst (λ (m : Marker). m.index + length (b ++ behind) ≤ around.limit) (sym there)
-          (within (length a) (length (b ++ behind)) (length ((a ++ b) ++ behind)) whole below);
+      below = rw there (within (length a) (length (b ++ behind)) (length ((a ++ b) ++ behind)) whole below);
     }
   where
     nearer : (p q n : ℕ) → n ≡ p + q → e.index + n ≤ k.mark.index + 1024 → e.index + p + q ≤ k.mark.index + 1024
@@ -92,8 +90,7 @@ pub in_right : {around : Around} (k : Candidate) (e : Marker) (p b behind : List
 in_right {around} k e p b behind begins h =
     let front = front_on_line p b (p ++ b) refl h.on_line in
     let low = h.low in
-    subst (λ (m : Marker). around.indent ≤ m.col) (sym (moved_along e p front))
-    (subst (λ (t : List ℕ). around.indent ≤ e.col + length t) (sym begins.is) (further (length begins.others) low))
+    rw (moved_along e p front, begins.is) (further (length begins.others) low)
   where
     further : (n : ℕ) → around.indent ≤ e.col + 1 → around.indent ≤ e.col + suc n
     further n h = omega (arith, h)
@@ -107,7 +104,7 @@ in_limit {around} k e q behind h = further (length (q ++ behind)) h.below
 
 pub in_so : {around : Around} (k : Candidate) (e : Marker) (p q behind : List ℕ) → p ≡ q → InKey around k e p behind
     → InKey around k e q behind
-in_so {around} k e p q behind is h = subst (λ (t : List ℕ). InKey around k e t behind) is h
+in_so {around} k e p q behind is h = rw is at h
 
 -- ## What was read of a key
 
@@ -157,11 +154,8 @@ along_joins {around} {start} {k} {qs} {ts = ts} {us} a b =
       right = b.right;
       piece = a.piece;
       others = a.others ++ back;
-      leads = subst (λ (ps : List Place). LeadsTo around.limit
-          (state_at around (moment b.there context.Block (Some k) [] false b.adjacent ps) b.deeper) start)
-          (append_assoc qs front back) (leads_on a.leads b.leads);
-      are = place_kinds_append front back ∙ ap (λ (x : List Kind). x ++ place_kinds back) a.are
-          ∙ ap (λ (x : List Kind). ts ++ x) b.are;
+      leads = rw (append_assoc qs front back) at (leads_on a.leads b.leads);
+      are = cc (place_kinds_append front back);
       low = b.low;
     }
 
@@ -171,17 +165,14 @@ pub along_ready : {around : Around} {start : State} {k : Candidate} {qs : List P
     → o ≡ b ++ behind → Ready around (state_along a) k (p ++ o) m a.adjacent (places_along a)
 along_ready {around} {k = k} {m = m} p o b behind a begins h same =
     let front : p ++ o ≡ begins.first ∷ (begins.others ++ o) = ap (λ (t : List ℕ). t ++ o) begins.is in
-    let clear : IsClear m p o = subst (IsClear m p) (sym same) (clear_front m p b behind h.clear) in
+    let clear : IsClear m p o = rw same (clear_front m p b behind h.clear) in
     let token = begins_token m p o begins clear in
     let near = in_near k m (p ++ b) behind h in
-    subst (λ (t : List ℕ). Ready around (state_along a) k t m a.adjacent (places_along a)) (sym front)
-    (subst (λ (n : Marker). Ready around (state_along a) k (begins.first ∷ (begins.others ++ o)) n a.adjacent
-    (places_along a)) a.mark
+    rw front (rw a.mark at
     (later_ready around a.deeper a.there k a.adjacent (places_along a) a.white begins.first (begins.others ++ o)
-    (a.rest ∙ ap (λ (t : List ℕ). a.white ++ t) front) a.are_white begins.ink a.right
-    (subst (IsNear k) (sym a.mark) near)
-    (subst (λ (n : Marker). BeginsToken n (begins.first ∷ (begins.others ++ o))) (sym a.mark)
-    (subst (BeginsToken m) front token))))
+    (cc) a.are_white begins.ink a.right
+    (rw a.mark near)
+    (rw a.mark (rw front at token))))
 
 -- the tokens of a part of a key, and what comes after it
 pub record TokensAlong (around : Around) (start : State) (k : Candidate) (qs : List Place) (Is : List Kind → Type 0)
@@ -200,11 +191,7 @@ pub tokens_join : {around : Around} {start : State} {k : Candidate} {qs : List P
     → (a : TokensAlong around start k qs Is m y)
     → TokensAlong around (state_along a.along) k (places_along a.along) Js n z → TokensAlong around start k qs Ks n z
 tokens_join f a b =
-    record {
-      tokens = a.tokens ++ b.tokens;
-      are = f a.tokens b.tokens a.are b.are;
-      along = along_joins a.along b.along;
-    }
+    record { tokens = a.tokens ++ b.tokens; are = f a.tokens b.tokens a.are b.are; along = along_joins a.along b.along }
 
 -- How a text of Is is read in a key, before what ends a tag: its tokens are of Are. After it come blanks w.
 abbrev pub ReadsPart : Around → Candidate → (List ℕ → Type 0) → (List Kind → Type 0) → Type 0
@@ -288,14 +275,12 @@ tag_along reads around k tag start qs t b behind w y e ad h ends text is are low
     let g = tag_read tag t h in
     let f = tag_first t g.handle g.suffix g.is in
     let core = core_at around r.deeper (cursor_at (t ++ o) e r.blank) context.Block (Some k) [] false ad in
-    let at_first : slice_index (t ++ o) 0 ≡ 33 = ap (λ (p : List ℕ). slice_index (p ++ o) 0) f.1 in
+    let at_first : slice_index (t ++ o) 0 ≡ 33 = simp f.1 in
     let second = slice_index (t ++ o) 1 in
-    subst (λ (q : Kind). TokensAlong around start k qs (λ ts. ts ≡ q ∷ []) (moved (moved e t) w) y) g.token
-    (ends_there e t b behind w y ad (tokens.Tag (encode_utf8_all g.handle) (encode_utf8_all g.suffix))
+    rw g.token at (ends_there e t b behind w y ad (tokens.Tag (encode_utf8_all g.handle) (encode_utf8_all g.suffix))
     (tag_begins tag t h) text is are low r
-    (ap (λ (i : ℕ). step i second (length qs) core) at_first ∙ begins_tag second (length qs) core
-    ∙ tag_step reads around r.deeper (length qs) e r.blank t g.handle g.suffix o g.is context.Block (Some k) [] false ad
-    ends (behind_key refl refl)))
+    (cc (begins_tag second (length qs) core, tag_step reads around r.deeper (length qs) e r.blank t g.handle g.suffix o
+    g.is context.Block (Some k) [] false ad ends (behind_key refl refl))))
 
 -- ## Properties
 
@@ -304,8 +289,7 @@ blanks_end_tag w y h = white_ends_tag false (w ++ y) (blank_first w y h)
 
 -- two texts with blanks between
 spaced_parts : (t a s c b : List ℕ) → t ≡ a ++ (s ++ c) → t ++ b ≡ a ++ (s ++ (c ++ b))
-spaced_parts t a s c b e = ap (λ (x : List ℕ). x ++ b) e ∙ append_assoc a (s ++ c) b
-    ∙ ap (λ (x : List ℕ). a ++ x) (append_assoc s c b)
+spaced_parts t a s c b e = cc (append_assoc a (s ++ c) b, append_assoc s c b)
 
 -- on one line a gap is of blanks
 blanks_between : (a s c t : List ℕ) (indent : ℕ) → IsGap indent s → t ≡ a ++ (s ++ c) → IsOnLine t
@@ -315,8 +299,7 @@ blanks_between a s c t indent h e line =
 
 -- two properties with a gap between
 both_along : {around : Around} {k : Candidate} {P Q : List ℕ → Type 0} {i j : Kind} → ReadsToken around k P i
-    → ReadsToken around k Q j → ((t : List ℕ) → Q t → Begins t)
-    → ReadsPart around k
+    → ReadsToken around k Q j → ((t : List ℕ) → Q t → Begins t) → ReadsPart around k
     (λ t. (a s c : List ℕ) × P a × IsGap around.indent s × Q c × (t ≡ a ++ (s ++ c))) (λ ts. ts ≡ i ∷ j ∷ [])
 both_along {around} {k} {i = i} {j} p q begins start qs t b behind w y e ad (a, s, c, h, gapped, g, t_is) ends text is
     are low r =
@@ -324,23 +307,20 @@ both_along {around} {k} {i = i} {j} p q begins start qs t b behind w y e ad (a, 
     let rest = s ++ (c ++ b) in
     let spaced = blanks_between a s c t around.indent gapped t_is (front_on_line t b (t ++ b) refl text.on_line) in
     let whole = in_so k e (t ++ b) (a ++ rest) behind (spaced_parts t a s c b t_is) text in
-    let behind_is : rest ++ behind ≡ s ++ (c ++ o) = append_assoc s (c ++ b) behind
-    ∙ ap (λ (x : List ℕ). s ++ x) (append_assoc c b behind) in
-    let there = subst (λ (x : List ℕ). Ready around start k x e ad qs)
-    (spaced_parts t a s c o t_is ∙ ap (λ (x : List ℕ). a ++ x) (sym behind_is)) r in
+    let behind_is : rest ++ behind ≡ s ++ (c ++ o) = cc (append_assoc s (c ++ b) behind, append_assoc c b behind) in
+    let there = subst (λ (x : List ℕ). Ready around start k x e ad qs) (cc (spaced_parts t a s c o t_is)) r in
     let first = p start qs a rest behind s (c ++ o) e ad h
-    (subst (EndsTag false) (sym behind_is) (blanks_end_tag s (c ++ o) spaced)) whole behind_is spaced.1 low there in
+    (rw behind_is (blanks_end_tag s (c ++ o) spaced)) whole behind_is spaced.1 low there in
     let inside = in_back k (moved e a) s (c ++ b) behind (in_back k e a rest behind whole) in
     let next = along_ready c o b behind first.along (begins c g) inside refl in
     let second = q _ _ c b behind w y (moved (moved e a) s) first.along.adjacent g ends inside is are first.along.low
     next in
     let place : moved (moved (moved e a) s) c ≡ moved e t =
-    sym (ap (moved e) t_is ∙ moved_append e a (s ++ c) ∙ moved_append (moved e a) s c) in
-    subst (λ (m : Marker). TokensAlong around start k qs (λ ts. ts ≡ i ∷ j ∷ []) (moved m w) y) place
-    (tokens_join (two i j) first second)
+    sym (cc (moved_append e a (s ++ c), moved_append (moved e a) s c)) in
+    rw (← place) (tokens_join (two i j) first second)
   where
     two : (i j : Kind) (ts us : List Kind) → ts ≡ i ∷ [] → us ≡ j ∷ [] → ts ++ us ≡ i ∷ j ∷ []
-    two i j ts us e f = ap (λ (x : List Kind). x ++ us) e ∙ ap (λ (x : List Kind). i ∷ x) f
+    two i j ts us e f = cc
 
 two_along : ReaderPromises → (around : Around) (k : Candidate) (name : List ℕ) (tag : Tag)
     → ReadsPart around k (yaml.AreProperties (Some name) (Some tag) around.indent)

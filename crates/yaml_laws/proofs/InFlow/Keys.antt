@@ -36,20 +36,17 @@ use Rattle.yaml_laws.proofs.Flow.Pieces.{parted_by}
 
 -- a piece inside a key's brackets
 inside_fits : (around : Around) (k : Candidate) (e : Marker) (c : ℕ) (w inside : List ℕ) (d : ℕ) (n : Blanks)
-    (r : List ℕ) → is_start c ≡ true
-    → InKey around k e (((c ∷ w) ++ (inside ++ (d ∷ []))) ++ n.text) (colon ∷ r)
+    (r : List ℕ) → is_start c ≡ true → InKey around k e (((c ∷ w) ++ (inside ++ (d ∷ []))) ++ n.text) (colon ∷ r)
     → FitsAround (calmed around) (moved e (c ∷ w)) inside (d ∷ colon_text n r)
 inside_fits around k e c w inside d n r first text =
     let tail = inside ++ ((d ∷ []) ++ n.text) in
     let same : ((c ∷ w) ++ (inside ++ (d ∷ []))) ++ n.text ≡ (c ∷ w) ++ tail =
-    append_assoc (c ∷ w) (inside ++ (d ∷ [])) n.text
-    ∙ ap (λ (x : List ℕ). (c ∷ w) ++ x) (append_assoc inside (d ∷ []) n.text) in
+    cc (append_assoc (c ∷ w) (inside ++ (d ∷ [])) n.text, append_assoc inside (d ∷ []) n.text) in
     let text1 = in_so k e (((c ∷ w) ++ (inside ++ (d ∷ []))) ++ n.text) ((c ∷ w) ++ tail) (58 ∷ r) same text in
     let text2 = in_back k e (c ∷ w) tail (58 ∷ r) text1 in
     record {
       clear = clear_front (moved e (c ∷ w)) inside ((d ∷ []) ++ n.text) (58 ∷ r) text2.clear;
-      below = subst (λ (t : List ℕ). (moved e (c ∷ w)).index + length t ≤ around.limit)
-          (append_assoc inside ((d ∷ []) ++ n.text) (58 ∷ r)) text2.below;
+      below = rw (append_assoc inside ((d ∷ []) ++ n.text) (58 ∷ r)) at text2.below;
       right = in_right k e (c ∷ w) tail (58 ∷ r) (starts c w (c ∷ w) refl first) text1;
       calm = refl;
     }
@@ -76,12 +73,8 @@ collection_key {node} {p} {b} {Are = Are} reads around same collection t n r
           (colon_text n r) h (inside_fits around k m b.opening w inside b.closing n r first at_key)
           (record inner { outer = level_of context.Block j ∷ [] }) no_candidate fresh (room_inside left room) on at);
     } in
-    subst (λ (x : List ℕ). KeyReads around node x n.text r)
-    (sym (whole_text t opening front w inside b.opening b.closing is o))
-    (λ start k qs e ad text low ready. told_along
-    (λ ts (properties, brackets, are, (inner, are_inner, told), all).
-    subst (grammar.YieldsNode node grammar.InBlockMapping)
-    (sym (all ∙ ap (λ (x : List Kind). properties ++ x) told))
+    rw (whole_text t opening front w inside b.opening b.closing is o) (λ start k qs e ad text low ready. told_along
+    (λ ts (properties, brackets, are, (inner, are_inner, told), all). rw (all, told)
     (collection.yields grammar.InBlockMapping properties inner are are_inner))
     (front_along reads around p (AreBracketed b Are) front body n r f content start k qs e ad text low ready))
 
@@ -104,15 +97,12 @@ text_along : ReaderPromises → (around : Around) → around.pending ≡ around.
     → IsKeyText (IsFlowNode most_open node false around.indent) node false around.indent t n.text
     → IsBeforeColon node n.text → is_blank_or_breakz (slice_index r 0) ≡ true → KeyReads around node t n.text r
 text_along reads around same node t n r (inl h) apart white = key_along reads around same node t n r h apart white
-text_along reads around same node t n r (inr (h, none)) apart white =
-    subst (λ (w : List ℕ). KeyReads around node t w r) (sym none) (plain_key reads around node t r h white)
+text_along reads around same node t n r (inr (h, none)) apart white = rw none (plain_key reads around node t r h white)
 
 text_fresh : (around : Around) (indent : ℕ) (node : Node) (t s r : List ℕ)
-    → IsKeyText (IsFlowNode most_open node false indent) node false indent t s
-    → Fresh around (t ++ (s ++ (colon ∷ r)))
+    → IsKeyText (IsFlowNode most_open node false indent) node false indent t s → Fresh around (t ++ (s ++ (colon ∷ r)))
 text_fresh around indent node t s r (inl h) = key_node_fresh around indent most_open node t (s ++ (58 ∷ r)) h
-text_fresh around indent node t s r (inr (h, none)) =
-    subst (λ (x : List ℕ). Fresh around (t ++ (x ++ (58 ∷ r)))) (sym none) (plain_key_fresh around indent node t r h)
+text_fresh around indent node t s r (inr (h, none)) = rw none (plain_key_fresh around indent node t r h)
 
 pub blanks_are_on_line : (w : List ℕ) → AreIn is_blank w → IsOnLine w
 blanks_are_on_line [] are = tt
@@ -156,10 +146,8 @@ key_read reads around calm node m p n r h line apart short white right clear bel
     } in
     let start = λ (t : List ℕ). state_at around (moment (cursor_at t m blank) context.Block k [] true ad ps) d in
     let ready : Ready inner (start (p ++ o)) here (p ++ o) m ad ps =
-    subst (λ (t : List ℕ). Ready inner (start t) here t m ad ps) (sym front)
-    (first_ready around calm d blank k ad ps m b.first (b.others ++ o) b.ink right
-    (subst (BeginsToken m) front token) (subst (Fresh around) front (text_fresh around (suc m.col) node p n.text r h)))
-    in
+    rw front (first_ready around calm d blank k ad ps m b.first (b.others ++ o) b.ink right
+    (rw front at token) (rw front at (text_fresh around (suc m.col) node p n.text r h))) in
     text_along reads inner refl node p n r h apart white (start (p ++ o)) here ps m ad text low ready
   where
     next : (n : ℕ) → suc n ≤ n + 1

@@ -12,10 +12,10 @@ use Rattle.yaml_laws.specs.Grammar.FlowNodes.{IsOnLine}
 -- ## Parts of a line
 
 pub front_on_line : (a b t : List ℕ) → t ≡ a ++ b → IsOnLine t → IsOnLine a
-front_on_line a b t e h = front_in (λ c. not (c == line_feed)) a b (subst IsOnLine e h)
+front_on_line a b t e h = front_in (λ c. not (c == line_feed)) a b (rw e at h)
 
 pub back_on_line : (a b t : List ℕ) → t ≡ a ++ b → IsOnLine t → IsOnLine b
-back_on_line a b t e h = back_in (λ c. not (c == line_feed)) a b (subst IsOnLine e h)
+back_on_line a b t e h = back_in (λ c. not (c == line_feed)) a b (rw e at h)
 
 -- separation on one line is blanks
 pub blanks_on_line : (indent : ℕ) (w : List ℕ) → IsSeparation indent w → IsOnLine w → AreIn is_blank w
@@ -26,13 +26,12 @@ blanks_on_line indent w (lines, blanks, (pieces, each, lines_are), are, e) h = b
 
     by_lines : (pieces : List (List ℕ)) → AreEach (IsSeparationLine indent) pieces → lines ≡ joined_pieces pieces
         → AreIn is_blank w
-    by_lines [] each lines_are = subst (AreIn is_blank) (sym (e ∙ ap (λ (t : List ℕ). t ++ blanks) lines_are)) are
+    by_lines [] each lines_are = subst (AreIn is_blank) (sym (cc)) are
     by_lines (p ∷ ps) ((first, comment, filler, first_are, k, filler_is, line_is), others) lines_are =
         let inside : w ≡ (first ++ comment) ++ (10 ∷ ((filler ++ spaces indent) ++ (joined_pieces ps ++ blanks))) =
         e ∙ ap (λ (t : List ℕ). t ++ blanks) lines_are ∙ ap (λ (t : List ℕ). (t ++ joined_pieces ps) ++ blanks) line_is
         ∙ simp append_assoc in
-        absurd (no_feed (first ++ comment) ((filler ++ spaces indent) ++ (joined_pieces ps ++ blanks))
-        (subst IsOnLine inside h))
+        absurd (no_feed (first ++ comment) ((filler ++ spaces indent) ++ (joined_pieces ps ++ blanks)) (rw inside at h))
 
 pub separation_of_blanks : (indent : ℕ) (w : List ℕ) → AreIn is_blank w → IsSeparation indent w
 separation_of_blanks indent w h = ([], w, ([], tt, refl), h, refl)
@@ -42,8 +41,7 @@ pub gap_of_blanks : (indent : ℕ) (w : List ℕ) → IsGap indent w → IsOnLin
 gap_of_blanks indent w (inl h) line = h
 gap_of_blanks indent w (inr (end, filler, front, (rest, rest_is, end_is), filler_is, prefix, e)) line =
     absurd (let f : false ≡ true = (back_on_line rest (10 ∷ (filler ++ front)) w
-    (e ∙ ap (λ (t : List ℕ). t ++ (filler ++ front)) end_is ∙ append_assoc rest (10 ∷ []) (filler ++ front)) line).0
-    in cc)
+    (cc (append_assoc rest (10 ∷ []) (filler ++ front))) line).0 in cc)
 
 -- ## Plain scalars further left
 

@@ -35,9 +35,7 @@ no_space c t e = rw e refl
 from_ink : (column : ℕ) (m : Marker) (c : ℕ) (t : List ℕ) → (c == space) ≡ false → is_break c ≡ false
     → Reaches column m (c ∷ t) → column ≤ m.col
 from_ink column m c t e f (inl h) = let none = no_space c t e in let n = space_count (c ∷ t) in omega (arith, none, h)
-from_ink column m c t e f (inr h) =
-    absurd (false≢true (sym f
-    ∙ subst (λ (n : ℕ). IsTrue (is_break (slice_index (drop n (c ∷ t)) 0))) (no_space c t e) h))
+from_ink column m c t e f (inr h) = absurd (false≢true (sym f ∙ rw (no_space c t e) at h))
 
 right_reaches : (column : ℕ) (m : Marker) (t : List ℕ) → column ≤ m.col → Reaches column m t
 right_reaches column m t h = inl (let n = space_count t in omega (arith, h))
@@ -49,7 +47,7 @@ on_space column m t (inl h) = inl (further (space_count t) h)
     further n h = omega (arith, h)
 on_space column m t (inr h) =
     let one : 1 + space_count t ≡ suc (space_count t) = omega arith in
-    inr (subst (λ (n : ℕ). IsTrue (is_break (slice_index (drop n (32 ∷ t)) 0))) one h)
+    inr (rw one at h)
 
 itself_ink : (q : Quote) (c : ℕ) → IsTrue (stands_for_itself q c) → is_break c ≡ false
 itself_ink q c h = (or_parts (is_break c) (is_z c)
@@ -107,26 +105,23 @@ pub text_right : (column : ℕ) (q : Quote) (t : List ℕ) (items : List Item) (
     → AreIn (λ c. not (c == carriage_return)) t → column ≤ (moved m t).col
 text_right column _ _ _ _ (closed q x h) fit e m reach clean =
     let ink = mark_ink q in
-    subst (λ (y : List ℕ). column ≤ (moved m (mark q ∷ y)).col) (sym e)
-    (right_along column m (mark q ∷ []) (ap not (no_feed (mark q) ink.1), tt)
+    rw e (right_along column m (mark q ∷ []) (ap not (no_feed (mark q) ink.1), tt)
     (from_ink column m (mark q) x ink.0 ink.1 reach))
 text_right column _ _ _ _ (itself q c t items x h r) fit e m reach clean =
     let ink = itself_ink q c h in
     let same : moved m (c ∷ t) ≡ moved (along m 1) t = rw (no_feed c ink) refl in
-    subst (λ (k : Marker). column ≤ k.col) (sym same)
-    (text_right column q t items x r fit e (along m 1) (by_space (c == space) refl) clean.1)
+    rw same (text_right column q t items x r fit e (along m 1) (by_space (c == space) refl) clean.1)
   where
     is_space : (c : ℕ) → (c == space) ≡ true → c ≡ space
     is_space c e = grind (arith, nat_tests)
 
     by_space : (b : Bool) → (c == space) ≡ b → Reaches column (along m 1) t
-    by_space true k = on_space column m t (subst (λ (z : ℕ). Reaches column m (z ∷ t)) (is_space c k) reach)
+    by_space true k = on_space column m t (rw (is_space c k) at reach)
     by_space false k = right_reaches column (along m 1) t
         (le_next column m.col (from_ink column m c t k (itself_ink q c h) reach))
 text_right column _ _ _ _ (broken q t items x h r) fit e m reach clean =
     let b = over_feed m t (feed_first t h clean) clean in
-    subst (λ (k : Marker). column ≤ k.col) (sym b.0)
-    (text_right column q (drop (break_len t) t) items x r fit.1 e (next_line m 1)
+    rw b.0 (text_right column q (drop (break_len t) t) items x r fit.1 e (next_line m 1)
     (line_reaches column (next_line m 1) (drop (break_len t) t) refl fit.0) b.1)
 text_right column _ _ _ _ (two_quotes t items x r) fit e m reach clean =
     let here = from_ink column m apostrophe (apostrophe ∷ t) refl refl reach in
@@ -136,8 +131,7 @@ text_right column _ _ _ _ (two_quotes t items x r) fit e m reach clean =
 text_right column _ _ _ _ (escaped d c t items x h r) fit e m reach clean =
     let here = from_ink column m backslash (d ∷ t) refl refl reach in
     let same : moved m (backslash ∷ d ∷ t) ≡ moved (along (along m 1) 1) t = rw (short_escape_no_feed d c h) refl in
-    subst (λ (k : Marker). column ≤ k.col) (sym same)
-    (text_right column Double t items x r fit e (along (along m 1) 1)
+    rw same (text_right column Double t items x r fit e (along (along m 1) 1)
     (right_reaches column (along (along m 1) 1) t (le_next column (m.col + 1) (le_next column m.col here)))
     clean.1.1)
 text_right column _ _ _ _ (numbered d c ds t items x h r) fit e m reach clean =
@@ -146,12 +140,11 @@ text_right column _ _ _ _ (numbered d c ds t items x h r) fit e m reach clean =
     let line : AreIn (λ c. not (c == line_feed)) front =
     (refl, (ap not (no_feed_letter d ds c h), hex_line ds h.hex)) in
     let there = right_along column m front line here in
-    subst (λ (k : Marker). column ≤ k.col) (sym (moved_append m front t))
+    rw (moved_append m front t)
     (text_right column Double t items x r fit e (moved m front) (right_reaches column (moved m front) t there)
     (back_in (λ c. not (c == carriage_return)) ds t clean.1.1))
 text_right column _ _ _ _ (escaped_break t items x h r) fit e m reach clean =
     let n = along m 1 in
     let b = over_feed n t (feed_first t h clean.1) clean.1 in
-    subst (λ (k : Marker). column ≤ k.col) (sym b.0)
-    (text_right column Double (drop (break_len t) t) items x r fit.1 e (next_line n 1)
+    rw b.0 (text_right column Double (drop (break_len t) t) items x r fit.1 e (next_line n 1)
     (line_reaches column (next_line n 1) (drop (break_len t) t) refl fit.0) b.1)

@@ -168,9 +168,7 @@ any_column column a b (c ∷ cs) h = by_white (is_blank_or_break c) refl
     at_feed : (x y : ℕ) (cs : List ℕ) → (slice_index cs 0 == line_feed) ≡ true
         → reaches_tabbed column x false cs ≡ reaches_tabbed column y false cs
     at_feed x y [] e = refl
-    at_feed x y (d ∷ ds) e =
-        subst (λ (z : ℕ). reaches_tabbed column x false (z ∷ ds) ≡ reaches_tabbed column y false (z ∷ ds))
-        (sym (feed d e)) refl
+    at_feed x y (d ∷ ds) e = rw (feed d e) refl
 
     by_line : (p : Bool) → ends_line c cs ≡ p → is_break c ≡ true
         → reaches_tabbed column (if p then 0 else a + 1) false cs

@@ -25,8 +25,7 @@ use Rattle.saphyr_input.proofs.Basics.Booleans.{clash}
 
 pub whole_text : (t opening front w inside : List ℕ) (c e : ℕ) → t ≡ opening ++ (inside ++ (e ∷ []))
     → opening ≡ front ++ (c ∷ w) → t ≡ front ++ ((c ∷ w) ++ (inside ++ (e ∷ [])))
-whole_text t opening front w inside c e is open_is =
-    is ∙ ap (λ (x : List ℕ). x ++ (inside ++ (e ∷ []))) open_is ∙ append_assoc front (c ∷ w) (inside ++ (e ∷ []))
+whole_text t opening front w inside c e is open_is = cc (append_assoc front (c ∷ w) (inside ++ (e ∷ [])))
 
 -- ## A collection, given how its entries are read
 
@@ -81,7 +80,7 @@ follows_bracket : {around : Around} {x : Context} {node : Node} {m : Marker} {o 
 follows_bracket {around} {x} {node} {m} {o} (follows_inside flow behind) e right =
     ends_inside around.indent x e o flow (behind_so (λ w c cs k. (ends_node_ink node w cs c k).0) behind) right
 follows_bracket {around} {x} {node} {m} {o} (follows_outside is behind) e right =
-    subst (λ (y : Context). EndsAt around.indent y e o) (sym is) (ends_root around e m o behind right)
+    rw is (ends_root around e m o behind right)
 
 pub collection_passes : {around : Around} {node : Node} {p : Properties} {b : Brackets} {Text : ℕ → List ℕ → Type 0}
     {Are : List Kind → Type 0} → ReaderPromises → ReadsCollection around node p b Text Are → (room : ℕ) (m : Marker)
@@ -93,12 +92,11 @@ collection_passes {around} {node} {p} {b} {Are = Are} reads collection room m t 
     let body = bracket_text b w inside in
     let entries = collection.entries left in
     let c = behind_front reads around p (AreBracketed b Are) (list_all is_blank) m front body o before
-    (fits_so m t (front ++ body) o text_is fits) now (text ∙ ap (λ (z : List ℕ). past around.indent m (z ++ o)) text_is)
+    (fits_so m t (front ++ body) o text_is fits) now (cc)
     (λ n place later inner next same_context same_outer same_adjacent at.
     let here = moved n (b.opening ∷ w) in
-    let next_calm : Calm around next.context = subst (Calm around) (sym same_context) calm in
-    let next_small : room + length next.outer ≤ most_open =
-    subst (λ (ls : List Level). room + length ls ≤ most_open) (sym same_outer) small in
+    let next_calm : Calm around next.context = rw same_context calm in
+    let next_small : room + length next.outer ≤ most_open = rw same_outer small in
     let run : RunsInside around Are b next.context next.outer here inside o =
     λ j start no_candidate fresh on right stands. entries.passes here inside o h
     (fits_front here inside (b.closing ∷ []) o (fits_back n (b.opening ∷ w) (inside ++ (b.closing ∷ [])) o right inner))
@@ -107,9 +105,6 @@ collection_passes {around} {node} {p} {b} {Are = Are} reads collection room m t 
     brackets_pass around Are b collection.are n w inside o inner parts
     (parted_by around.indent w (inside ++ (b.closing ∷ o)) parts (entries.ink inside o h)) next
     (omega (arith, r, next_small)) next_calm (omega (arith, same_adjacent, later, low.0)) at
-    (λ right. subst (λ (x : Context). EndsAt around.indent x (moved here inside) o) (sym same_context)
-    (follows_bracket follows (moved here inside) right)) run) in
-    subst (λ (z : List ℕ). TextPasses around now (YieldsAnywhere node) (allows_adjacent node) m z o) (sym text_is)
-    (told (λ ts (properties, content, are, (entries, inner, k), is) place.
-    subst (grammar.YieldsNode node place) (sym (is ∙ ap (λ (x : List Kind). properties ++ x) k))
+    (λ right. rw same_context (follows_bracket follows (moved here inside) right)) run) in
+    rw text_is (told (λ ts (properties, content, are, (entries, inner, k), is) place. rw (is, k)
     (collection.yields place properties entries are inner)) collection.adjacent c)

@@ -38,51 +38,46 @@ hex_line : (c : ℕ) → IsHex c → IsTrue (not (c == line_feed))
 hex_line c h = grind (arith, nat_tests)
 
 escapes_line : (bytes t : List ℕ) → AreByteEscapes bytes t → IsOneLine t
-escapes_line [] t h = subst IsOneLine (sym h) tt
+escapes_line [] t h = rw h tt
 escapes_line (byte ∷ bytes) t (escape, more, (high, low, high_is, low_is, value, is), others, e) =
-    subst IsOneLine (sym e) (both_lines escape more
-    (subst IsOneLine (sym is) (refl, (hex_line high high_is, (hex_line low low_is, tt))))
+    rw e (both_lines escape more (rw is (refl, (hex_line high high_is, (hex_line low low_is, tt))))
     (escapes_line bytes more others))
 
 character_line : (set : ℕ → Bool) → ((c : ℕ) → IsTrue (set c) → IsTrue (not (c == line_feed))) → (c : ℕ) (t : List ℕ)
     → IsCharacter set c t → IsOneLine t
-character_line set each c t (inl (is, plain, e)) = subst IsOneLine (sym e) (each c is, tt)
+character_line set each c t (inl (is, plain, e)) = rw e (each c is, tt)
 character_line set each c t (inr (scalar, h)) = escapes_line (encode_utf8 c) t h
 
 decoded_line : (set : ℕ → Bool) → ((c : ℕ) → IsTrue (set c) → IsTrue (not (c == line_feed))) → (cs t : List ℕ)
     → IsDecoded set cs t → IsOneLine t
-decoded_line set each [] t h = subst IsOneLine (sym h) tt
+decoded_line set each [] t h = rw h tt
 decoded_line set each (c ∷ cs) t (character, more, is, others, e) =
-    subst IsOneLine (sym e) (both_lines character more (character_line set each c character is)
-    (decoded_line set each cs more others))
+    rw e (both_lines character more (character_line set each c character is) (decoded_line set each cs more others))
 
 prefix_line : (prefix t : List ℕ) → IsPrefix prefix t → IsOneLine t
 prefix_line [] t h = absurd h
 prefix_line (c ∷ cs) t (first, more, is, others, e) =
-    subst IsOneLine (sym e) (both_lines first more
-    (character_line (λ x. is_tag_char x || (x == 33)) tag_line c first is)
+    rw e (both_lines first more (character_line (λ x. is_tag_char x || (x == 33)) tag_line c first is)
     (decoded_line is_uri_char uri_line cs more others))
   where
     tag_line : (c : ℕ) → IsTrue (is_tag_char c || (c == exclamation_mark)) → IsTrue (not (c == line_feed))
     tag_line c h = grind (arith, nat_tests)
 
 handle_line : (t : List ℕ) → IsHandleText t → IsOneLine t
-handle_line t (inl e) = subst IsOneLine (sym e) (refl, tt)
+handle_line t (inl e) = rw e (refl, tt)
 handle_line t (inr (word, are, e)) =
-    subst IsOneLine (sym e) (refl, both_lines word (codes "!") (set_on_line is_alpha alpha_line word are) (refl, tt))
+    rw e (refl, both_lines word (codes "!") (set_on_line is_alpha alpha_line word are) (refl, tt))
 
 tail_line : (t : List ℕ) → IsLineTail t → IsOneLine t
 tail_line t (blanks, comment, are, inl none, e) =
-    subst IsOneLine (sym (e ∙ ap (λ (x : List ℕ). blanks ++ x) none))
-    (both_lines blanks [] (set_on_line is_blank blank_no_feed blanks are) tt)
+    rw (e, none) (both_lines blanks [] (set_on_line is_blank blank_no_feed blanks are) tt)
 tail_line t (blanks, comment, are, inr (words, some, word_are, is), e) =
-    subst IsOneLine (sym (e ∙ ap (λ (x : List ℕ). blanks ++ x) is))
-    (both_lines blanks (35 ∷ words) (set_on_line is_blank blank_no_feed blanks are)
+    rw (e, is) (both_lines blanks (35 ∷ words) (set_on_line is_blank blank_no_feed blanks are)
     (refl, set_on_line is_yaml_non_break non_break_no_feed words word_are))
 
 version_line : (major minor : ℕ) (t : List ℕ) → IsVersionDirective major minor t → IsOneLine t
 version_line major minor t (gap, high, low, gap_is, high_is, low_is, e) =
-    subst IsOneLine (sym e) (
+    rw e (
       refl,
       (
         refl,
@@ -103,7 +98,7 @@ version_line major minor t (gap, high, low, gap_is, high_is, low_is, e) =
 
 tag_line : (handle prefix t : List ℕ) → IsTagDirective handle prefix t → IsOneLine t
 tag_line handle prefix t (first, second, written, first_are, second_are, handle_is, prefix_is, e) =
-    subst IsOneLine (sym e) (
+    rw e (
       refl,
       (
         refl,
@@ -122,7 +117,7 @@ tag_line handle prefix t (first, second, written, first_are, second_are, handle_
 
 reserved_line : (name t : List ℕ) → IsReservedDirective name t → IsOneLine t
 reserved_line name t (more, some, no_version, no_tag, name_is, more_is, parts, e) =
-    subst IsOneLine (sym e) (
+    rw e (
       refl,
       both_lines name more (set_on_line is_yaml_non_space ink_line name name_is)
           (set_on_line is_yaml_non_break non_break_no_feed more more_is),
@@ -139,17 +134,13 @@ directive_line (Version major minor) t (directive, tail, is, tail_is, e) =
     record {
       others = codes "YAML" ++ ((is.0 ++ (is.1 ++ (46 ∷ is.2))) ++ tail);
       is = e ∙ ap (λ (x : List ℕ). x ++ tail) is.6;
-      line =
-          subst IsOneLine (sym e) (both_lines directive tail (version_line major minor directive is)
-          (tail_line tail tail_is));
+      line = rw e (both_lines directive tail (version_line major minor directive is) (tail_line tail tail_is));
     }
 directive_line (TagPrefix handle prefix) t (written, directive, tail, handle_is, is, tail_is, e) =
     record {
       others = codes "TAG" ++ ((is.0 ++ (written ++ (is.1 ++ is.2))) ++ tail);
       is = e ∙ ap (λ (x : List ℕ). x ++ tail) is.7;
-      line =
-          subst IsOneLine (sym e)
-          (both_lines directive tail (tag_line written prefix directive is) (tail_line tail tail_is));
+      line = rw e (both_lines directive tail (tag_line written prefix directive is) (tail_line tail tail_is));
     }
 directive_line (Reserved name) t h = record { others = name ++ h.0; is = h.7; line = reserved_line name t h }
 
@@ -157,13 +148,10 @@ feed_unmarked : IsUnmarked (line_feed ∷ [])
 feed_unmarked = skipped_unmarked (10 ∷ []) (one_break [] nothing)
 
 pub directives_unmarked : (ds : List Directive) (t : List ℕ) → AreDirectives ds t → IsUnmarked t
-directives_unmarked [] t h = subst IsUnmarked (sym h) (λ at_start o. refl)
+directives_unmarked [] t h = rw h (λ at_start o. refl)
 directives_unmarked (d ∷ ds) t (directive, filler, more, is, filler_is, others, e) =
     let k = directive_line d directive is in
-    let first : IsUnmarked directive = subst IsUnmarked (sym k.is)
-    (line_unmarked 37 k.others refl refl (subst IsOneLine k.is k.line)) in
-    subst IsUnmarked (sym e)
-    (both_unmarked directive (10 ∷ (filler ++ more)) first
-    (both_unmarked (10 ∷ []) (filler ++ more) feed_unmarked
+    let first : IsUnmarked directive = rw k.is (line_unmarked 37 k.others refl refl (rw k.is at k.line)) in
+    rw e (both_unmarked directive (10 ∷ (filler ++ more)) first (both_unmarked (10 ∷ []) (filler ++ more) feed_unmarked
     (both_unmarked filler more (skipped_unmarked filler (filler_skipped filler filler_is))
     (directives_unmarked ds more others))))

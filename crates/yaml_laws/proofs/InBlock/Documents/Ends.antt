@@ -42,27 +42,23 @@ pub record IsPlainBehind (o : List ℕ) : Type 0 where
 -- ## What comes after a document ends it
 
 pub no_directives : (d : Document) (t : List ℕ) → d.directives ≡ [] → AreDirectives d.directives t → t ≡ []
-no_directives d t e h = subst (λ ds. AreDirectives ds t) e h
+no_directives d t e h = rw e at h
 
 column_at_line : (c : ℕ) (cs : List ℕ) (m : Marker) → AtLine (c ∷ cs) m → m.col ≡ 0
 column_at_line c cs m (inl e) = e
 column_at_line c cs m (inr e) = absurd (cc)
 
 pub plain_marked : (filler : List ℕ) (c : ℕ) (cs o : List ℕ) → IsFiller filler → o ≡ filler ++ (c ∷ cs)
-    → IsStop (c ∷ cs)
-    → IsPlainBehind o
-plain_marked filler c cs o filler_is e stops =
-    subst IsPlainBehind (sym e)
-    (record {
+    → IsStop (c ∷ cs) → IsPlainBehind o
+plain_marked filler c cs o filler_is e stops = rw e (record {
       clean = skipped_clean filler (c ∷ cs) (filler_skipped filler filler_is)
           (λ least m blank. stop_tabbed least m blank (c ∷ cs) stops);
     })
 
 last_plain : (o : List ℕ) → IsLastFiller o → IsPlainBehind o
 last_plain o (filler, text, filler_is, (front, comment, are, k, text_is), is) =
-    let whole : o ≡ filler ++ (front ++ comment) = is ∙ ap (λ (x : List ℕ). filler ++ x) text_is in
-    subst IsPlainBehind (sym whole)
-    (record {
+    let whole : o ≡ filler ++ (front ++ comment) = cc in
+    rw whole (record {
       clean = skipped_clean filler (front ++ comment) (filler_skipped filler filler_is)
           (λ least m blank. rest_ends_clean front comment are k least m blank false);
     })
@@ -77,22 +73,19 @@ suffix_text filler end prefix others = simp append_assoc
 pub marks_text : (piece filler marks others : List ℕ) → piece ≡ filler ++ byte_order_mark ∷ []
     → (piece ++ marks) ++ others ≡ filler ++ (byte_order_mark ∷ (marks ++ others))
 marks_text piece filler marks others e =
-    ap (λ (x : List ℕ). (x ++ marks) ++ others) e
-    ∙ ap (λ (x : List ℕ). x ++ others) (append_assoc filler (65279 ∷ []) marks)
-    ∙ append_assoc filler (65279 ∷ marks) others
+    cc (append_assoc filler (65279 ∷ []) marks, append_assoc filler (65279 ∷ marks) others)
 
 -- after a document is a byte order mark first, after filler, or none
 marks_first : (Others : Bool → List ℕ → Type 0) (o : List ℕ) → yaml.IsBehindDocument Others o
     → yaml.IsBehindMarks Others o
     ⊎ ((filler rest : List ℕ) × IsFiller filler × (o ≡ filler ++ (byte_order_mark ∷ rest)))
-marks_first Others o (marks, others, ([], each, joins), h, e) =
-    inl (subst (yaml.IsBehindMarks Others) (sym (e ∙ ap (λ (x : List ℕ). x ++ others) joins)) h)
+marks_first Others o (marks, others, ([], each, joins), h, e) = inl (rw (e, joins) h)
 marks_first Others o (marks, others, (piece ∷ pieces, ((filler, filler_is, is), each), joins), h, e) =
     inr (
       filler,
       joined_pieces pieces ++ others,
       filler_is,
-      e ∙ ap (λ (x : List ℕ). x ++ others) joins ∙ marks_text piece filler (joined_pieces pieces) others is,
+      cc (marks_text piece filler (joined_pieces pieces) others is),
     )
 
 plain_unmarked : (ds : Forest) (o : List ℕ) → yaml.IsBehindMarks (AreBlockDocuments ds) o → IsPlainBehind o
@@ -110,13 +103,11 @@ plain_unmarked (d ∷ ds) o (inl (
   e,
 )) =
     let empty = no_directives d directives none directives_are in
-    let begins : document ≡ hyphen ∷ hyphen ∷ hyphen ∷ node = text
-    ∙ ap (λ (x : List ℕ). x ++ (hyphen ∷ hyphen ∷ hyphen ∷ node)) empty in
-    plain_marked filler 45 (hyphen ∷ hyphen ∷ (node ++ others)) o filler_is
-    (e ∙ ap (λ (x : List ℕ). filler ++ (x ++ others)) begins) (refl, refl, refl)
+    let begins : document ≡ hyphen ∷ hyphen ∷ hyphen ∷ node = cc in
+    plain_marked filler 45 (hyphen ∷ hyphen ∷ (node ++ others)) o filler_is (cc) (refl, refl, refl)
 plain_unmarked ds o (inr (suffix, others, (filler, end, prefix, filler_is, end_is, prefix_is, text), behind, e)) =
     let whole : o ≡ filler ++ (46 ∷ 46 ∷ 46 ∷ (end ++ (prefix ++ others))) =
-    e ∙ ap (λ (x : List ℕ). x ++ others) text ∙ suffix_text filler end prefix others in
+    cc (suffix_text filler end prefix others) in
     plain_marked filler 46 (46 ∷ 46 ∷ (end ++ (prefix ++ others))) o filler_is whole (refl, refl, refl)
 
 pub plain_behind : (ds : Forest) (o : List ℕ) → yaml.IsBehindDocument (AreBlockDocuments ds) o → IsPlainBehind o
@@ -147,12 +138,11 @@ pub record OpensMarker (o : List ℕ) : Type 0 where
 pub lands_marked : (o : List ℕ) → OpensMarker o → (m : Marker) → AtLine o m → Lands m o
 lands_marked o k m line =
     let n = moved m k.filler in
-    let there : past 0 m o ≡ (n, k.first ∷ k.others) = ap (past 0 m) k.is
-    ∙ skipped_passes k.filler (filler_skipped k.filler k.filler_is) m (k.first ∷ k.others)
-    ∙ stop_past n (k.first ∷ k.others) k.stops in
+    let there : past 0 m o ≡ (n, k.first ∷ k.others) = cc (skipped_passes k.filler (filler_skipped k.filler k.filler_is)
+    m (k.first ∷ k.others), stop_past n (k.first ∷ k.others) k.stops) in
     let col = column_at_line k.first k.others n
-    (filler_at_line m k.filler (k.first ∷ k.others) k.filler_is (subst (λ (x : List ℕ). AtLine x m) k.is line)) in
-    subst (λ (x : Marker × List ℕ). EndsDocument x.0 x.1) (sym there) (inr (col, k.ends))
+    (filler_at_line m k.filler (k.first ∷ k.others) k.filler_is (rw k.is at line)) in
+    rw there (inr (col, k.ends))
 
 opens_unmarked : {limit : ℕ} → ReadsLeaves limit → (ds : Forest) (o : List ℕ)
     → yaml.IsBehindMarks (AreBlockDocuments ds) o → ((ds ≡ []) × IsLastFiller o) ⊎ OpensMarker o
@@ -171,7 +161,7 @@ opens_unmarked leaves (d ∷ ds) o
       e,
     )) =
     let empty = no_directives d directives none directives_are in
-    let begins : document ≡ 45 ∷ 45 ∷ 45 ∷ node = text ∙ ap (λ (x : List ℕ). x ++ (45 ∷ 45 ∷ 45 ∷ node)) empty in
+    let begins : document ≡ 45 ∷ 45 ∷ 45 ∷ node = cc in
     inr (record {
       filler = filler;
       filler_is = filler_is;
@@ -180,7 +170,7 @@ opens_unmarked leaves (d ∷ ds) o
       stops = (refl, refl, refl);
       ends = inl (start_ends (node ++ others)
           (explicit_first leaves d.node node others node_is (plain_behind ds others behind)));
-      is = e ∙ ap (λ (x : List ℕ). filler ++ (x ++ others)) begins;
+      is = cc;
     })
 opens_unmarked leaves ds o (inr (
   suffix,
@@ -198,7 +188,7 @@ opens_unmarked leaves ds o (inr (
       stops = (refl, refl, refl);
       ends = inl (end_ends (end ++ (prefix ++ others))
           (eol_first m (end ++ (prefix ++ others)) (prefix ++ others) (eol m end (prefix ++ others) end_is)));
-      is = e ∙ ap (λ (x : List ℕ). x ++ others) text ∙ suffix_text filler end prefix others;
+      is = cc (suffix_text filler end prefix others);
     })
 
 -- what comes after a document: filler alone, a document marker, or a byte order mark
@@ -227,5 +217,5 @@ pub lands_behind : {limit : ℕ} → ReadsLeaves limit → (ds : Forest) (o : Li
 lands_behind leaves ds o h m line = by_first (opens_marker leaves ds o h)
   where
     by_first : ((ds ≡ []) × IsLastFiller o) ⊎ OpensMarker o → Lands m o
-    by_first (inl k) = inl (ap (λ (x : Marker × List ℕ). x.1) (last_filler_past 0 m o k.1))
+    by_first (inl k) = inl (cc (last_filler_past 0 m o k.1))
     by_first (inr k) = lands_marked o k m line

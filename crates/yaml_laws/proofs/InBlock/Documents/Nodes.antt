@@ -55,8 +55,7 @@ feed_last m c [] e = by_feed (c == line_feed) refl e
 feed_last m c (d ∷ ds) e = let r = feed_last (behind_character m c) d ds e in (c ∷ r.0, ap (λ (x : List ℕ). c ∷ x) r.1)
 
 pub node_marks : (at_start : Bool) (t o : List ℕ) → EndsWithLine t o → marks_line at_start t o ≡ has_marker at_start t
-node_marks at_start t o (inr e) =
-    subst (λ (x : List ℕ). marks_line at_start t x ≡ has_marker at_start t) (sym e) (last_marks at_start t)
+node_marks at_start t o (inr e) = rw e (last_marks at_start t)
 node_marks at_start [] o (inl h) = refl
 node_marks at_start (c ∷ cs) o (inl h) =
     let f = feed_last (record { index = 0; line = 1; col = 0 }) c cs (h (record { index = 0; line = 1; col = 0 })) in
@@ -70,24 +69,15 @@ none_here (c ∷ cs) others e = absurd (cc)
 pub bare_clear : (m : Marker) (t others : List ℕ) → AtLine (t ++ others) m → HasNoReturn t → has_marker true t ≡ false
     → EndsWithLine t others → IsClear m t others
 bare_clear m t others (inl e) clean h ends =
-    record {
-      no_return = clean;
-      no_marker = ap (λ (b : Bool). marks_line b t others) (eq-eqb m.col 0 e) ∙ node_marks true t others ends ∙ h;
-    }
+    record { no_return = clean; no_marker = cc (eq-eqb m.col 0 e, node_marks true t others ends) }
 bare_clear m t others (inr e) clean h ends =
-    record {
-      no_return = clean;
-      no_marker = ap (λ (x : List ℕ). marks_line (m.col == 0) x others) (none_here t others e);
-    }
+    record { no_return = clean; no_marker = cc (none_here t others e) }
 
 -- the text after a `---`
 pub explicit_clear : (m : Marker) (t others : List ℕ) → OffLine m → HasNoReturn t → has_marker false t ≡ false
     → EndsWithLine t others → IsClear m t others
 explicit_clear m t others e clean h ends =
-    record {
-      no_return = clean;
-      no_marker = ap (λ (b : Bool). marks_line b t others) e ∙ node_marks false t others ends ∙ h;
-    }
+    record { no_return = clean; no_marker = cc (node_marks false t others ends) }
 
 -- ## The node of a document
 
@@ -100,20 +90,16 @@ pub record NodeStands (limit : ℕ) (start : State) (node : Node) (place : Posit
 
 -- at the end of a document it doesn't matter where content would have to be
 flat_here : (m : Marker) (y : List ℕ) (blank : Bool) (key : Option Candidate) (a : Bool) (ad : ℕ) (deeper : Bool)
-    (ps : List Place) → EndsDocument m y
-    → fetch_here (state_of root (moment_at m y blank key a ad deeper) ps)
+    (ps : List Place) → EndsDocument m y → fetch_here (state_of root (moment_at m y blank key a ad deeper) ps)
     ≡ fetch_here (state_of root (moment_at m y blank key a ad false) ps)
 unfolding unroll
 flat_here m y blank key a ad deeper ps (inl e) =
-    subst (λ (z : List ℕ). fetch_here (state_of root (moment_at m z blank key a ad deeper) ps)
-    ≡ fetch_here (state_of root (moment_at m z blank key a ad false) ps)) (sym e)
-    (stream_ends root m blank key a ad deeper ps ∙ sym (stream_ends root m blank key a ad false ps))
+    rw e (stream_ends root m blank key a ad deeper ps ∙ sym (stream_ends root m blank key a ad false ps))
 flat_here m y blank key a ad deeper ps (inr h) =
     ended_alike root root m y blank key a ad deeper false ps ps h.0 h.1 (flat_ends m y blank key a ad deeper ps)
   where
     flat_ends : (m : Marker) (y : List ℕ) (blank : Bool) (key : Option Candidate) (a : Bool) (ad : ℕ) (deeper : Bool)
-        (ps : List Place)
-        → unroll None m (state_of root (moment_at m y blank key a ad deeper) ps)
+        (ps : List Place) → unroll None m (state_of root (moment_at m y blank key a ad deeper) ps)
         ≡ unroll None m (state_of root (moment_at m y blank key a ad false) ps)
     flat_ends m y blank key a ad deeper ps = refl
 

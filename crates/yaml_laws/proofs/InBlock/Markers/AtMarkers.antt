@@ -38,16 +38,14 @@ pub record Closes (limit : ℕ) (start : State) (marker : DocumentMarker) (Told 
 -- with further tokens in front
 pub closes_on : {limit : ℕ} {start : State} {marker : DocumentMarker} {Told Whole : List Kind → Type 0}
     (ts us : List Kind) → ((others : List Kind) → Told others → Whole (us ++ others))
-    → Closes limit start marker Told (ts ++ us)
-    → Closes limit start marker Whole ts
+    → Closes limit start marker Told (ts ++ us) → Closes limit start marker Whole ts
 closes_on {limit = limit} {start = start} {marker = marker} {Told = Told} {Whole = Whole} ts us each c =
     record {
       earlier = us ++ c.earlier;
-      told = subst Whole (sym (append_assoc us c.earlier (marker_token marker ∷ tokens.StreamEnd ∷ [])))
+      told = rw (append_assoc us c.earlier (marker_token marker ∷ tokens.StreamEnd ∷ []))
           (each (c.earlier ++ marker_token marker ∷ tokens.StreamEnd ∷ []) c.told);
-      handed = subst (Handed limit start)
-          (append_assoc ts us (c.earlier ++ marker_token marker ∷ [])
-          ∙ ap (λ (x : List Kind). ts ++ x) (sym (append_assoc us c.earlier (marker_token marker ∷ [])))) c.handed;
+      handed = rw (append_assoc ts us (c.earlier ++ marker_token marker ∷ []),
+          ← append_assoc us c.earlier (marker_token marker ∷ [])) at c.handed;
     }
 
 -- with another clause
@@ -70,14 +68,12 @@ abbrev pub YieldsEnd : Forest → List Kind → Type 0
 YieldsEnd ds t = (others : List Kind) × YieldsAhead ds others × (t ≡ tokens.DocumentEnd ∷ others)
 
 one_more : (ds : Forest) (k : Kind) (t : List Kind) → (k ≡ tokens.DocumentEnd) ⊎ (k ≡ tokens.ByteOrderMark)
-    → YieldsAhead ds t
-    → YieldsAhead ds (k ∷ t)
+    → YieldsAhead ds t → YieldsAhead ds (k ∷ t)
 one_more ds k t is (marks, others, are, told, e) =
     (k ∷ marks, others, (is, are), told, ap (λ (x : List Kind). k ∷ x) e)
 
 pub end_ahead : (ds : Forest) (t : List Kind) → YieldsEnd ds t → YieldsAhead ds t
-end_ahead ds t (others, ahead, e) =
-    subst (YieldsAhead ds) (sym e) (one_more ds tokens.DocumentEnd others (inl refl) ahead)
+end_ahead ds t (others, ahead, e) = rw e (one_more ds tokens.DocumentEnd others (inl refl) ahead)
 
 pub end_behind : (ds : Forest) (t : List Kind) → YieldsEnd ds t
     → grammar.YieldsBehindDocument (grammar.YieldDocuments ds) t
@@ -87,7 +83,7 @@ end_behind ds t (all, (marks, others, are, told, same), e) = (
   others,
   tt,
   inr (marks, are, refl, told),
-  e ∙ ap (λ (x : List Kind). tokens.DocumentEnd ∷ x) same,
+  cc,
 )
 
 -- ## The marker
@@ -134,8 +130,7 @@ abbrev pub Marked : DocumentMarker → List ℕ → List ℕ → Type 0
 Marked w r t = HasLine t (marker_text w ++ r)
 
 pub marked_fed : (w : DocumentMarker) (r t : List ℕ) → IsMarkerRest r → Marked w r t → EndsFed t
-marked_fed w r t h l = subst EndsFed (sym l.is)
-    (fed_front l.front (marker_text w ++ r) (fed_front (marker_text w) r h.fed))
+marked_fed w r t h l = rw l.is (fed_front l.front (marker_text w ++ r) (fed_front (marker_text w) r h.fed))
 
 -- ## A `...` line and a byte order mark are passed
 
@@ -152,10 +147,8 @@ passes_end ds end o more ts end_is fed v go =
 
 -- after filler and a byte order mark
 pub passes_mark : {limit : ℕ} {start : State} {marker : DocumentMarker} (ds : Forest) (filler o : List ℕ)
-    (ts : List Kind) → IsFiller filler
-    → StandsLined limit start true true (filler ++ (byte_order_mark ∷ o))
-    ts
-    → ((us : List Kind) → StandsLined limit start true true o us
+    (ts : List Kind) → IsFiller filler → StandsLined limit start true true (filler ++ (byte_order_mark ∷ o))
+    ts → ((us : List Kind) → StandsLined limit start true true o us
     → Closes limit start marker (YieldsAhead ds) us)
     → Closes limit start marker (YieldsAhead ds) ts
 passes_mark ds filler o ts is v go =

@@ -63,7 +63,7 @@ hands_token {limit = limit} {y = y} {ts = ts} v here ends t piece is low =
           (λ e. longer_by_one v.places (bare_place piece) (ap (λ (s : State). s.queue.places) e));
       none = r.3 refl;
       outer = refl;
-      are = place_kinds_append v.places (bare_place piece ∷ []) ∙ ap (λ (x : List Kind). x ++ piece.kind ∷ []) v.are;
+      are = cc (place_kinds_append v.places (bare_place piece ∷ []));
     }
 
 front_low : (i l limit : ℕ) → i + l ≤ limit → i ≤ limit
@@ -71,8 +71,7 @@ front_low i l limit h = omega (arith, h)
 
 pub hands_start : {limit : ℕ} {start : State} {free opened : Bool} {ts : List Kind} (r : List ℕ)
     → StandsLined limit start free opened (hyphen ∷ hyphen ∷ hyphen ∷ r) ts
-    → is_blank_or_breakz (slice_index r 0) ≡ true
-    → Handed limit start (ts ++ tokens.DocumentStart ∷ [])
+    → is_blank_or_breakz (slice_index r 0) ≡ true → Handed limit start (ts ++ tokens.DocumentStart ∷ [])
 hands_start {limit = limit} r v h =
     let col = at_line (45 ∷ 45 ∷ 45 ∷ r) v.mark v.line.0 (cons_not_empty 45 (45 ∷ 45 ∷ r)) in
     hands_token v refl (inr (col, inl (start_ends r h))) (cursor_at r (along v.mark 3) false)
@@ -81,8 +80,7 @@ hands_start {limit = limit} r v h =
     (front_low (v.mark.index + 3) (length r) limit (start_count v.mark r limit v.count))
 
 pub hands_end : {limit : ℕ} {start : State} {free opened : Bool} {ts : List Kind} (end o : List ℕ)
-    → StandsLined limit start free opened (full_stop ∷ full_stop ∷ full_stop ∷ (end ++ o)) ts
-    → IsEol end o
+    → StandsLined limit start free opened (full_stop ∷ full_stop ∷ full_stop ∷ (end ++ o)) ts → IsEol end o
     → Handed limit start (ts ++ tokens.DocumentEnd ∷ [])
 hands_end {limit = limit} end o v h =
     let r = end ++ o in

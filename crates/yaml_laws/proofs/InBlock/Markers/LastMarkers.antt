@@ -36,7 +36,7 @@ last_rest_is tail h = record {
 }
 
 rest_stops : (tail : List ℕ) → IsLineRest tail → StopsAt (last_rest tail) []
-rest_stops tail h = subst (λ (x : List ℕ). StopsAt x []) (append-nil (last_rest tail))
+rest_stops tail h = rw (append-nil (last_rest tail)) at
     (end_stops (last_rest tail) [] [] (inl (tail, h, refl)) (λ m. refl))
 
 -- after `...` are no byte order mark, no other `...` and no documents
@@ -70,8 +70,7 @@ last_end : {limit : ℕ} {start : State} → ReadsLeaves limit → (tail more : 
     → EndsHere limit start Ends more (last_rest tail)
 last_end leaves tail more tail_is ds free opened end prefix others ts end_is prefix_is h clean text v =
     let none = none_behind leaves tail tail_is ds end prefix others end_is prefix_is h text in
-    let over : grammar.YieldDocuments ds true (tokens.StreamEnd ∷ []) =
-    subst (λ (x : Forest). grammar.YieldDocuments x true (tokens.StreamEnd ∷ [])) (sym none) refl in
+    let over : grammar.YieldDocuments ds true (tokens.StreamEnd ∷ []) = rw none refl in
     record {
       earlier = [];
       told = (tokens.StreamEnd ∷ [], ([], tokens.StreamEnd ∷ [], tt, over, refl), refl);
@@ -81,8 +80,7 @@ last_end leaves tail more tail_is ds free opened end prefix others ts end_is pre
 -- after `---` no node is, and no document after that
 no_node : {limit : ℕ} → ReadsLeaves limit → (tail : List ℕ) → IsLineRest tail
     → (n : Node) (ds : Forest) (node others : List ℕ) → IsBlockNode most_open n BehindMarker node others
-    → yaml.IsBehindDocument (AreBlockDocuments ds) others → node ++ others ≡ last_rest tail
-    → (n ≡ left_out) × (ds ≡ [])
+    → yaml.IsBehindDocument (AreBlockDocuments ds) others → node ++ others ≡ last_rest tail → (n ≡ left_out) × (ds ≡ [])
 no_node leaves tail tail_is n ds node others is behind text = by_token (node_token leaves n BehindMarker node others is)
   where
     ends : (c : ℕ) (cs : List ℕ) → StopsAt (node ++ others) (c ∷ cs) → ⊥
@@ -104,12 +102,10 @@ last_start : {limit : ℕ} {start : State} → ReadsLeaves limit → (tail more 
 last_start {limit} {start} leaves tail more tail_is d ds free now opened node others ts may explicit compatible is
     behind text v =
     let none = no_node leaves tail tail_is d.node ds node others is behind text in
-    let over : grammar.YieldDocuments ds false (tokens.StreamEnd ∷ []) =
-    subst (λ (x : Forest). grammar.YieldDocuments x false (tokens.StreamEnd ∷ [])) (sym none.1) refl in
+    let over : grammar.YieldDocuments ds false (tokens.StreamEnd ∷ []) = rw none.1 refl in
     let front = map directive_token d.directives in
     let first : is_blank_or_breakz (slice_index (last_rest tail ++ more) 0) ≡ true =
-    ap (λ (x : List ℕ). is_blank_or_breakz (slice_index x 0)) (append_assoc tail (10 ∷ []) more)
-    ∙ rest_first tail (10 ∷ more) tail_is (inr refl) in
+    cc (append_assoc tail (10 ∷ []) more, rest_first tail (10 ∷ more) tail_is (inr refl)) in
     record {
       earlier = front;
       told = (
@@ -119,8 +115,7 @@ last_start {limit} {start} leaves tail more tail_is d ds free now opened node ot
         ([], [], tokens.StreamEnd ∷ [], tt, inl (refl, over), refl),
         sym (append_assoc front (tokens.DocumentStart ∷ []) (tokens.StreamEnd ∷ [])),
       );
-      handed = subst (Handed limit start) (append_assoc ts front (tokens.DocumentStart ∷ []))
-          (hands_start (last_rest tail ++ more) v first);
+      handed = rw (append_assoc ts front (tokens.DocumentStart ∷ [])) at (hands_start (last_rest tail ++ more) v first);
     }
 
 pub last_marker : {limit : ℕ} (start : State) → ReadsLeaves limit → (marker : DocumentMarker) (tail more : List ℕ)

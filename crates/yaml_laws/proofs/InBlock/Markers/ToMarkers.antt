@@ -37,7 +37,7 @@ use Rattle.yaml_laws.proofs.InBlock.Markers.AtMarkers.{Closes, closes_on, closes
 
 opens_marker_still : (o more : List ℕ) → EndsFed o → OpensMarker o → OpensMarker (o ++ more)
 opens_marker_still o more fed k =
-    let ends = fed_behind k.filler k.first k.others (subst EndsFed k.is fed) in
+    let ends = fed_behind k.filler k.first k.others (rw k.is at fed) in
     record {
       filler = k.filler;
       filler_is = k.filler_is;
@@ -45,27 +45,24 @@ opens_marker_still o more fed k =
       others = k.others ++ more;
       stops = k.stops;
       ends = content_ends_further more (k.first ∷ k.others) ends k.ends;
-      is = ap (λ (x : List ℕ). x ++ more) k.is ∙ append_assoc k.filler (k.first ∷ k.others) more;
+      is = cc (append_assoc k.filler (k.first ∷ k.others) more);
     }
 
 -- a tab ahead comes before the marker
 tells_marked : (o more : List ℕ) → OpensMarker o → TellsTabs more o
 tells_marked o more k =
-    subst (TellsTabs more) (sym k.is)
-    (tells_filler k.filler (k.first ∷ k.others) more k.filler_is (tells_token k.first k.others more k.stops))
+    rw k.is (tells_filler k.filler (k.first ∷ k.others) more k.filler_is (tells_token k.first k.others more k.stops))
 
 token_marked : (o : List ℕ) → OpensMarker o → has_token false o ≡ true
 token_marked o k =
-    subst (λ (x : List ℕ). has_token false x ≡ true) (sym k.is)
-    (token_filler k.filler (k.first ∷ k.others) k.filler_is (token_here k.first k.others k.stops))
+    rw k.is (token_filler k.filler (k.first ∷ k.others) k.filler_is (token_here k.first k.others k.stops))
 
 closes_beyond : {limit : ℕ} {start : State} {marker : DocumentMarker} → ReaderPromises → ReadsLeaves limit
     → (w : DocumentMarker) (r more : List ℕ) → IsMarkerRest r
     → (d : Document) (ds : Forest) (free : Bool) (document others : List ℕ) (ts : List Kind)
     → yaml.IsDocument (IsBlockNode most_open) d free document others
     → yaml.IsBehindDocument (AreBlockDocuments ds) others → HasNoReturn document
-    → StandsLined limit start free free (document ++ (others ++ more)) ts
-    → Marked w r others
+    → StandsLined limit start free free (document ++ (others ++ more)) ts → Marked w r others
     → ((us : List Kind) → StandsLined limit start false false (others ++ more) us
     → Closes limit start marker (grammar.YieldsBehindDocument (grammar.YieldDocuments ds)) us)
     → Closes limit start marker (grammar.YieldDocuments (d ∷ ds) free) ts
@@ -98,8 +95,7 @@ closes_document : {limit : ℕ} {start : State} {marker : DocumentMarker} → Re
     → (d : Document) (ds : Forest) (free : Bool) (document others : List ℕ) (ts : List Kind)
     → yaml.IsDocument (IsBlockNode most_open) d free document others
     → yaml.IsBehindDocument (AreBlockDocuments ds) others → HasNoReturn document
-    → StandsLined limit start free free (document ++ (others ++ more)) ts
-    → Marked w r (document ++ others)
+    → StandsLined limit start free free (document ++ (others ++ more)) ts → Marked w r (document ++ others)
     → (Marked w r others → (us : List Kind)
     → StandsLined limit start false false (others ++ more) us
     → Closes limit start marker (grammar.YieldsBehindDocument (grammar.YieldDocuments ds)) us)
@@ -114,7 +110,7 @@ closes_document readers leaves w r more rest found d ds free document others ts 
 closes_document {limit = limit} {start = start} {marker = marker} readers leaves w r more rest found d ds free document
     others ts (inr (may, (directives, node, explicit, compatible, are, unmarked, is, e))) behind clean v line go =
     let text : document ++ others ≡ directives ++ (45 ∷ 45 ∷ 45 ∷ (node ++ others)) =
-    ap (λ (x : List ℕ). x ++ others) e ∙ text_of_document directives node others in
+    cc (text_of_document directives node others) in
     let l = behind_piece true directives (45 ∷ 45 ∷ 45 ∷ (node ++ others)) line.front (marker_text w ++ r)
     (sym text ∙ line.is) (directives_unmarked d.directives directives are true (45 ∷ 45 ∷ 45 ∷ (node ++ others)))
     line.line (marker_is_indicator w r rest) in
@@ -127,9 +123,7 @@ closes_document {limit = limit} {start = start} {marker = marker} readers leaves
     at_marker Starts found same =
         let left : node ++ others ≡ r = cc in
         let text : document ++ (others ++ more) ≡ directives ++ (45 ∷ 45 ∷ 45 ∷ (r ++ more)) =
-        ap (λ (x : List ℕ). x ++ (others ++ more)) e ∙ text_of_document directives node (others ++ more)
-        ∙ ap (λ (x : List ℕ). directives ++ (45 ∷ 45 ∷ 45 ∷ x))
-        (sym (append_assoc node others more) ∙ ap (λ (x : List ℕ). x ++ more) left) in
+        cc (text_of_document directives node (others ++ more), append_assoc node others more) in
         let f = reads_front readers d free directives (r ++ more) ts may are
         (lined_so text v) in
         found d ds free f.free f.opened node others ts may explicit compatible is behind left f.stands
@@ -143,7 +137,7 @@ closes_document {limit = limit} {start = start} {marker = marker} readers leaves
         let none = not_dashes node others
         (node_marks false node others (node_ends leaves d.node BehindMarker node others is) ∙ unmarked) in
         let l = behind_piece false (45 ∷ 45 ∷ node) others cs (marker_text w ++ r) left none
-        (subst (λ (x : ℕ). opens_line (x == line_feed) cs ≡ true) first opens) (marker_is_indicator w r rest) in
+        (rw first at opens) (marker_is_indicator w r rest) in
         closes_beyond readers leaves w r more rest d ds free document others ts
         (inr (may, (directives, node, explicit, compatible, are, unmarked, is, e))) behind clean v l (go l)
 
@@ -175,8 +169,7 @@ closes_end {limit = limit} {start = start} {marker = marker} {free = free} {open
         absurd (dash_or_dot (45 ∷ 45 ∷ r) (46 ∷ 46 ∷ (end ++ (prefix ++ others))) (sym same))
     at_marker Ends found first same =
         let text : end ++ (prefix ++ others) ≡ r = cc in
-        found ds free opened end prefix others ts end_is prefix_is h clean text
-        (subst (λ (x : List ℕ). StandsLined limit start free opened (46 ∷ 46 ∷ 46 ∷ (x ++ more)) ts) text first)
+        found ds free opened end prefix others ts end_is prefix_is h clean text (rw text at first)
 
     by_front : StandsLined limit start free opened (full_stop ∷ full_stop ∷ full_stop ∷ ((end ++ (prefix ++ others))
         ++ more)) ts → (front : List ℕ) → full_stop ∷ full_stop ∷ full_stop ∷ (end ++ (prefix ++ others)) ≡ front
@@ -187,12 +180,9 @@ closes_end {limit = limit} {start = start} {marker = marker} {free = free} {open
         let text : 46 ∷ 46 ∷ (end ++ (prefix ++ others)) ≡ cs ++ (marker_text w ++ r) = cc in
         let k = behind_piece false (46 ∷ 46 ∷ end) (prefix ++ others) cs (marker_text w ++ r) text
         (end_unmarked end (prefix ++ others) end_is false (prefix ++ others))
-        (subst (λ (x : ℕ). opens_line (x == line_feed) cs ≡ true) dot opens) (marker_is_indicator w r rest) in
+        (rw dot at opens) (marker_is_indicator w r rest) in
         passes_end ds end (prefix ++ others) more ts end_is (marked_fed w r (prefix ++ others) rest k)
-        (subst (λ (x : List ℕ). StandsLined limit start free opened (46 ∷ 46 ∷ 46 ∷ x) ts)
-        (append_assoc end (prefix ++ others) more)
-        first)
-        (go k)
+        (rw (append_assoc end (prefix ++ others) more) at first) (go k)
 
 -- the marker is in what may come before documents, or in these
 closes_prefix : {limit : ℕ} {start : State} {marker : DocumentMarker} (w : DocumentMarker) (r more : List ℕ)
@@ -201,10 +191,8 @@ closes_prefix : {limit : ℕ} {start : State} {marker : DocumentMarker} (w : Doc
     → StandsLined limit start true true (t ++ more) ts → Marked w r t
     → Closes limit start marker (grammar.YieldDocuments ds true) ts)
     → (prefix others : List ℕ) (ts : List Kind) → IsDocumentPrefix prefix others → AreBlockDocuments ds true others
-    → HasNoReturn others
-    → StandsLined limit start true true ((prefix ++ others) ++ more) ts
-    → Marked w r (prefix ++ others)
-    → Closes limit start marker (YieldsAhead ds) ts
+    → HasNoReturn others → StandsLined limit start true true ((prefix ++ others) ++ more) ts
+    → Marked w r (prefix ++ others) → Closes limit start marker (YieldsAhead ds) ts
 closes_prefix w r more rest found ds go _ _ ts (no_prefix others) h clean v line =
     closes_as (λ all told. ([], all, tt, told, refl)) (go others ts h clean v line)
 closes_prefix {limit = limit} {start = start} w r more rest found ds go _ _ ts (mark_prefix filler next others is p) h
@@ -214,14 +202,13 @@ closes_prefix {limit = limit} {start = start} w r more rest found ds go _ _ ts (
     (append_assoc filler (65279 ∷ []) (next ++ others) ∙ sym text ∙ line.is)
     (mark_unmarked filler is true (next ++ others)) line.line (marker_is_indicator w r rest) in
     passes_mark ds filler ((next ++ others) ++ more) ts is
-    (lined_so (ap (λ (x : List ℕ). x ++ more) text ∙ append_assoc filler (65279 ∷ (next ++ others)) more) v)
+    (lined_so (cc (append_assoc filler (65279 ∷ (next ++ others)) more)) v)
     (λ us s. closes_prefix w r more rest found ds go next others us p h clean s l)
 closes_prefix {limit = limit} {start = start} w r more rest found ds go _ _ ts
     (end_prefix filler end next others is end_is p) h clean v line =
     let text = suffix_text filler end next others in
     closes_as (end_ahead ds) (closes_end w r more rest found ds filler end next others ts is end_is p h clean
-    (lined_so (ap (λ (x : List ℕ). x ++ more) text) v)
-    (subst (Marked w r) text line)
+    (lined_so (ap (λ (x : List ℕ). x ++ more) text) v) (rw text at line)
     (λ l us s. closes_prefix w r more rest found ds go next others us p h clean s l))
 
 -- ## Documents
@@ -243,13 +230,10 @@ closes_unmarked w r more rest found ds go o ts (inl h) clean v line =
     closes_as (λ all told. ([], [], all, tt, inl (refl, told), refl)) (go false o ts h clean v line)
 closes_unmarked {limit = limit} {start = start} {marker = marker} w r more rest found ds go o ts
     (inr (suffix, others, (filler, end, prefix, filler_is, end_is, prefix_is, e), h, is)) clean v line =
-    let text : o ≡ filler ++ (46 ∷ 46 ∷ 46 ∷ (end ++ (prefix ++ others))) =
-    is ∙ ap (λ (x : List ℕ). x ++ others) e ∙ suffix_text filler end prefix others in
-    let left = back_in _ suffix others (subst HasNoReturn is clean) in
+    let text : o ≡ filler ++ (46 ∷ 46 ∷ 46 ∷ (end ++ (prefix ++ others))) = cc (suffix_text filler end prefix others) in
+    let left = back_in _ suffix others (rw is at clean) in
     closes_as (end_behind ds) (closes_end w r more rest found ds filler end prefix others ts filler_is end_is prefix_is
-    h left
-    (lined_so (ap (λ (x : List ℕ). x ++ more) text) v)
-    (subst (Marked w r) text line)
+    h left (lined_so (ap (λ (x : List ℕ). x ++ more) text) v) (rw text at line)
     (λ l us s. closes_prefix w r more rest found ds (go true) prefix others us prefix_is h left s l))
 
 -- the marker comes after a document's byte order marks
@@ -271,7 +255,7 @@ closes_marked {limit = limit} {start = start} w r more rest found ds go (piece �
     (append_assoc filler (65279 ∷ []) left ∙ sym text ∙ line.is) (mark_unmarked filler filler_is true left) line.line
     (marker_is_indicator w r rest) in
     let first = passes_filler filler (65279 ∷ (left ++ more)) filler_is
-    (lined_so (ap (λ (x : List ℕ). x ++ more) text ∙ append_assoc filler (65279 ∷ left) more) v) in
+    (lined_so (cc (append_assoc filler (65279 ∷ left) more)) v) in
     closes_on ts (tokens.ByteOrderMark ∷ []) (mark_told (grammar.YieldDocuments ds))
     (closes_marked w r more rest found ds go pieces o (ts ++ tokens.ByteOrderMark ∷ []) each h clean
     (unfree (reads_mark (left ++ more) first)) l)
@@ -285,9 +269,8 @@ closes_behind : {limit : ℕ} {start : State} {marker : DocumentMarker} (w : Doc
 closes_behind {limit = limit} {start = start} w r more rest found ds go o ts
     (marks, others, (pieces, each, joins), h, e) clean v line =
     let text = e ∙ ap (λ (x : List ℕ). x ++ others) joins in
-    closes_marked w r more rest found ds go pieces others ts each h (back_in _ marks others (subst HasNoReturn e clean))
-    (lined_so (ap (λ (x : List ℕ). x ++ more) text) v)
-    (subst (Marked w r) text line)
+    closes_marked w r more rest found ds go pieces others ts each h (back_in _ marks others (rw e at clean))
+    (lined_so (ap (λ (x : List ℕ). x ++ more) text) v) (rw text at line)
 
 -- The marker is at a line's start of the documents' text: up to it they are read, and there what is to be shown is.
 closes_documents : {limit : ℕ} {start : State} {marker : DocumentMarker} → ReaderPromises → ReadsLeaves limit
@@ -303,11 +286,10 @@ closes_documents {limit = limit} {start = start} readers leaves w r more rest fo
     (skipped_unmarked filler (filler_skipped filler filler_is) true (document ++ others)) line.line
     (marker_is_indicator w r rest) in
     let text : t ++ more ≡ filler ++ (document ++ (others ++ more)) =
-    ap (λ (x : List ℕ). x ++ more) e ∙ append_assoc filler (document ++ others) more
-    ∙ ap (λ (x : List ℕ). filler ++ x) (append_assoc document others more) in
+    cc (append_assoc filler (document ++ others) more, append_assoc document others more) in
     let first = passes_filler filler (document ++ (others ++ more)) filler_is
     (lined_so text v) in
-    let left = back_in _ filler (document ++ others) (subst HasNoReturn e clean) in
+    let left = back_in _ filler (document ++ others) (rw e at clean) in
     closes_document readers leaves w r more rest found d ds free document others ts is behind
     (front_in _ document others left) first l
     (λ next us s. closes_behind w r more rest found ds (closes_documents readers leaves w r more rest found ds) others
@@ -319,8 +301,7 @@ pub closes_stream : {limit : ℕ} {start : State} {marker : DocumentMarker} → 
     → (forest : Forest) (prefix others : List ℕ) (ts : List Kind) → IsDocumentPrefix prefix others
     → AreBlockDocuments forest true others → HasNoReturn others
     → StandsLined limit start true true ((prefix ++ others) ++ more) ts
-    → HasLine (prefix ++ others) (marker_text w ++ r)
-    → Closes limit start marker (YieldsAhead forest) ts
+    → HasLine (prefix ++ others) (marker_text w ++ r) → Closes limit start marker (YieldsAhead forest) ts
 closes_stream readers leaves w r more rest found forest prefix others ts prefix_is h clean v line =
     closes_prefix w r more rest found forest (closes_documents readers leaves w r more rest found forest true) prefix
     others ts prefix_is h clean v line
