@@ -134,8 +134,10 @@ three_ahead text i (c ∷ d ∷ f ∷ t) m b k h =
     let three = character_ahead text f t (along (along m 1) 1) (i + 1 + 1) b false k.2
     (ahead_stands text _ _ _ _ two) in
     let all = ahead_ahead text _ _ _ _ _ _ one (ahead_ahead text _ _ _ _ _ _ two three) in
-    let p : along (along (along m 1) 1) 1 ≡ along m 3 = cc (along_more m 1 1 2 (omega arith),
-    along_more m 2 1 3 (omega arith)) in
+    let p : along (along (along m 1) 1) 1 ≡ along m 3 = cc (
+      along_more m 1 1 2 (omega arith),
+      along_more m 2 1 3 (omega arith),
+    ) in
     let q : i + 1 + 1 + 1 ≡ i + 3 = omega arith in
     rw (p, q) at all
 

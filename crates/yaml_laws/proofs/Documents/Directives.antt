@@ -59,8 +59,11 @@ reads_text readers d said t tail kind is tail_is first =
       end = λ m. along m (length t);
       kind = kind;
       first = first;
-      reads = λ m blank o. cc (readers.directive (cursor_at ((t ++ tail) ++ (10 ∷ o)) m blank) said t tail (10 ∷ o)
-          (append_assoc t tail (10 ∷ o)) is tail_is refl, length-append t tail);
+      reads = λ m blank o. cc (
+        readers.directive (cursor_at ((t ++ tail) ++ (10 ∷ o)) m blank) said t tail (10 ∷ o)
+            (append_assoc t tail (10 ∷ o)) is tail_is refl,
+        length-append t tail,
+      );
     }
 
 handle_is : (handle : forest.Handle) (t : List ℕ) → IsHandle handle t → t ≡ forest.handle_text handle

@@ -142,8 +142,10 @@ ends_in_flow around node m o apart h right =
 
     lands : past around.indent m o ≡ (moved m h.separation, h.first ∷ h.others)
     lands =
-        cc (separation_past around.indent m h.separation (h.first ∷ h.others) h.parts right,
-        past_ink around.indent (moved m h.separation) h.first h.others ink)
+        cc (
+          separation_past around.indent m h.separation (h.first ∷ h.others) h.parts right,
+          past_ink around.indent (moved m h.separation) h.first h.others ink,
+        )
 
     inked : is_blank (slice_index (past around.indent m o).1 0) ≡ false
     inked = simp (lands, ink.blank)

@@ -77,8 +77,10 @@ gap_separates indent w (inr (
 )) =
     let line = blanks ++ (comment ++ (10 ∷ (filler ++ spaces indent))) in
     let more = spaces (n - indent) ++ tail in
-    let front_is : front ≡ spaces indent ++ more = cc (longer indent n low,
-    append_assoc (spaces indent) (spaces (n - indent)) tail) in
+    let front_is : front ≡ spaces indent ++ more = cc (
+      longer indent n low,
+      append_assoc (spaces indent) (spaces (n - indent)) tail,
+    ) in
     let parts : w ≡ ((blanks ++ comment) ++ (10 ∷ [])) ++ (filler ++ (spaces indent ++ more)) = cc in
     let text : w ≡ (line ++ []) ++ more =
     cc (joined blanks comment filler (spaces indent) more, append-nil line) in (

@@ -157,13 +157,19 @@ unfolding step scalar.single_quoted_steps scalar.double_quoted_steps read_single
 quoted_step reads around d Single n m b value t o h clear ends x k ls a ad c first placed =
     let s = cursor_at (t ++ o) m b in
     let inner = core_at around d s x (saved a n m k) ls false ad in
-    simp (first, saves_key n around d s x k ls a ad placed,
-    quoted_read reads (reach around d) around.indent (reach_low around d) Single s value t o refl h clear ends)
+    simp (
+      first,
+      saves_key n around d s x k ls a ad placed,
+      quoted_read reads (reach around d) around.indent (reach_low around d) Single s value t o refl h clear ends,
+    )
 quoted_step reads around d Double n m b value t o h clear ends x k ls a ad c first placed =
     let s = cursor_at (t ++ o) m b in
     let inner = core_at around d s x (saved a n m k) ls false ad in
-    simp (first, saves_key n around d s x k ls a ad placed,
-    quoted_read reads (reach around d) around.indent (reach_low around d) Double s value t o refl h clear ends)
+    simp (
+      first,
+      saves_key n around d s x k ls a ad placed,
+      quoted_read reads (reach around d) around.indent (reach_low around d) Double s value t o refl h clear ends,
+    )
 
 pub quote_first : (quote : Quote) (inside : List ℕ) → Begins (mark quote ∷ inside)
 quote_first Single inside = starts 39 inside (39 ∷ inside) refl refl

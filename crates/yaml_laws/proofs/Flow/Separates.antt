@@ -90,8 +90,11 @@ counts : (blanks comment more : List ℕ) → AreIn is_blank blanks → IsCommen
     → StopsLine comment more → separation_len Yes (blanks ++ (comment ++ more)) ≡ length (blanks ++ comment)
 counts blanks comment more are k h =
     let n = run_len is_blank blanks (comment ++ more) are (blank_stops blanks comment more k h) in
-    rw (n, drop-append_seam blanks (comment ++ more),
-    comment_counts blanks comment more k h) (none_or_some (length blanks) (length comment) (parted blanks comment k)
+    rw (
+      n,
+      drop-append_seam blanks (comment ++ more),
+      comment_counts blanks comment more k h,
+    ) (none_or_some (length blanks) (length comment) (parted blanks comment k)
     ∙ sym (length-append blanks comment))
 
 -- blanks and a comment, or none

@@ -271,8 +271,10 @@ closed_begins readers reads limit leaves marker forest text more clean ends yaml
       earlier = c.earlier;
       more = kinds others;
       yields = c.told;
-      begins = cc (onto_kinds (flat d.queue.places) others,
-          append_assoc c.earlier (marker_token marker ∷ []) (kinds others));
+      begins = cc (
+        onto_kinds (flat d.queue.places) others,
+        append_assoc c.earlier (marker_token marker ∷ []) (kinds others),
+      );
     }
 
 -- The same of every text whose normalized breaks give such a text. The break between it and what follows is whole.

@@ -99,8 +99,11 @@ blanks_behind (b ∷ bs) c cs are some ink dash word =
       parts = inl refl;
       stops = ink_stops c cs ink;
       dash = cc (blanks_found (λ d. d == 9) w c cs are ink.blank);
-      word = λ e. cc (blanks_found (λ d. d == 32) w c cs are ink.blank, dash_is_alpha c,
-          tabs_or_space w (is_alpha c) are (word e));
+      word = λ e. cc (
+        blanks_found (λ d. d == 32) w c cs are ink.blank,
+        dash_is_alpha c,
+        tabs_or_space w (is_alpha c) are (word e),
+      );
       lands = λ m. cc (along_front m w [] are (inl refl), append-nil w, blanks_pass w are m (c ∷ cs));
       crosses_same = sym (blanks_cross w (c ∷ cs) are);
       clean = λ least low m. ink_clean c cs ink least m false;
@@ -146,9 +149,12 @@ line_behind rest o (blanks, comment, are, k, e) clean =
       stops = line_stops comment (10 ∷ o) (inr refl);
       dash = and_false (found_tabs (found_blanks Yes (rest ++ (10 ∷ o))));
       word = λ _. and_false (not (has_valid_yaml_ws (found_blanks Yes (rest ++ (10 ∷ o)))));
-      lands = λ m. cc (along_front m blanks comment are c, append_assoc blanks comment (10 ∷ o),
-          front_past 0 m (blanks ++ comment) blanks comment (10 ∷ o) (λ y. (blanks_past 0 blanks are m (omega arith)).is
-          y) c refl (inr refl));
+      lands = λ m. cc (
+        along_front m blanks comment are c,
+        append_assoc blanks comment (10 ∷ o),
+        front_past 0 m (blanks ++ comment) blanks comment (10 ∷ o) (λ y. (blanks_past 0 blanks are m (omega arith)).is
+            y) c refl (inr refl),
+      );
       crosses_same = sym (ap crosses text ∙ rest_crosses blanks comment o are c);
       clean = λ least low m. clean least low (next_line m 1) true;
       clean_all = λ least low m. cc (skipped_untabbed least (rest ++ (10 ∷ [])) o skipped (clean least low) m false);
@@ -171,9 +177,12 @@ last_behind rest (blanks, comment, are, k, e) =
       stops = line_stops comment [] (inl refl);
       dash = and_false (found_tabs (found_blanks Yes rest));
       word = λ _. and_false (not (has_valid_yaml_ws (found_blanks Yes rest)));
-      lands = λ m. cc (along_front m blanks comment are c, append_assoc blanks comment [],
-          front_past 0 m (blanks ++ comment) blanks comment [] (λ y. (blanks_past 0 blanks are m (omega arith)).is y) c
-          refl (inl refl));
+      lands = λ m. cc (
+        along_front m blanks comment are c,
+        append_assoc blanks comment [],
+        front_past 0 m (blanks ++ comment) blanks comment [] (λ y. (blanks_past 0 blanks are m (omega arith)).is y) c
+            refl (inl refl),
+      );
       crosses_same = sym (ap crosses text ∙ last_crosses blanks comment are c);
       clean = λ least low m. refl;
       clean_all = λ least low m. cc (last_clean least blanks comment are c m);

@@ -229,8 +229,10 @@ reads_mapping {limit} leaves p key value pairs K V more place f same m t o (colu
       );
       arrived = subst (λ (x : Marker). Arrived limit start f x o
           (ts ++ (l.tokens ++ (tokens.BlockMappingStart ∷ (r.tokens ++ tokens.BlockEnd ∷ []))))) (sym end)
-          (rw (new_list (ts ++ l.tokens) r.tokens tokens.BlockMappingStart,
-          append_assoc ts l.tokens (tokens.BlockMappingStart ∷ (r.tokens ++ tokens.BlockEnd ∷ []))) at
+          (rw (
+            new_list (ts ++ l.tokens) r.tokens tokens.BlockMappingStart,
+            append_assoc ts l.tokens (tokens.BlockMappingStart ∷ (r.tokens ++ tokens.BlockEnd ∷ [])),
+          ) at
           c);
     }
   where

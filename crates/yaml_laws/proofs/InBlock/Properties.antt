@@ -134,9 +134,12 @@ reads_head reads limit short p place f same m gap t between y gap_is h between_i
     let fits_t = fits_back m gap (t ++ between) y fits in
     let at_frame = subst (λ (i : ℕ). IsProperties p i t) (sym same) h in
     let r = properties_passed reads short f p t at_frame n o low (gap_first (indent_at place) between y between_is)
-    (fits_front n t between y fits_t) (λ right. cc (separation_past f.indent k between y
-    (gap_separates f.indent between spaced) right, past_ink f.indent q ink.first ink.others ink.ink,
-    lands_on k between y passes ink)) l.0 (none_late l.0.key n l.1) in
+    (fits_front n t between y fits_t) (λ right. cc (
+      separation_past f.indent k between y
+          (gap_separates f.indent between spaced) right,
+      past_ink f.indent q ink.first ink.others ink.ink,
+      lands_on k between y passes ink,
+    )) l.0 (none_late l.0.key n l.1) in
     let line = text_line k between y short (fits_back n t between y fits_t) in
     let Q : Marker × List ℕ → Type 0 = λ x. (u : At limit start f x.0 x.1 (ts ++ r.tokens))
     × IsOnLineOrBefore u.key q in

@@ -48,8 +48,10 @@ start_reaches yaml.AtStart n h = omega arith
 -- nor after the next line's indentation
 next_line_reaches : (indent : ℕ) (m : Marker) (w : List ℕ) → IsNextLine indent w → indent ≤ (moved m w).col
 next_line_reaches indent m w (end, filler, front, end_is, filler_is, prefix, e) =
-    let there : moved m w ≡ moved (moved (moved m end) filler) front = cc (moved_append m end (filler ++ front),
-    moved_append (moved m end) filler front) in
+    let there : moved m w ≡ moved (moved (moved m end) filler) front = cc (
+      moved_append m end (filler ++ front),
+      moved_append (moved m end) filler front,
+    ) in
     rw there (prefix_reaches indent (moved (moved m end) filler) front prefix)
 
 unbroken_blanks : (w : List ℕ) → AreIn is_blank w → NoBreaks w
@@ -165,8 +167,11 @@ reads_block_scalars laws {limit} short heads p style value place f same m t o
         let w = gap ++ (properties ++ between) in
         let whole : t ≡ w ++ text = cc (append_assoc gap (properties ++ between) text) in
         let inner : t ++ o ≡ gap ++ (properties ++ (between ++ (text ++ o))) =
-        cc (append_assoc w text o, append_assoc gap (properties ++ between) (text ++ o),
-        append_assoc properties between (text ++ o)) in
+        cc (
+          append_assoc w text o,
+          append_assoc gap (properties ++ between) (text ++ o),
+          append_assoc properties between (text ++ o),
+        ) in
         let b : Before limit start place f m (gap ++ (properties ++ (between ++ (text ++ o)))) ts =
         rw inner at before in
         let r = heads p place f same m gap properties between (text ++ o) gap_is h spaced ink

@@ -122,8 +122,11 @@ tells_behind t o more h k =
 
 pub tells_filler : (t o more : List ℕ) → IsFiller t → TellsTabs more o → TellsTabs more (t ++ o)
 tells_filler t o more h k =
-    cc (append_assoc t o more, same_ahead false text_start t o more (λ e. absurd (cc)) (filler_line text_start t h refl)
-    k)
+    cc (
+      append_assoc t o more,
+      same_ahead false text_start t o more (λ e. absurd (cc)) (filler_line text_start t h refl)
+          k,
+    )
 
 -- before a token
 pub tells_token : (c : ℕ) (cs more : List ℕ) → IsStop (c ∷ cs) → TellsTabs more (c ∷ cs)

@@ -135,8 +135,12 @@ none_and a b e = omega (arith, e)
 pub indentation_col : (m : Marker) (column : ℕ) (w : List ℕ) → IsEntryIndentation column w → m.col ≡ 0
     → (moved m w).col ≡ column
 indentation_col m column w (filler, h, is) e =
-    simp (is, moved_append m filler (spaces column), spaces_moved (moved m filler) column,
-    none_and (moved m filler).col column (filler_line m filler h e))
+    simp (
+      is,
+      moved_append m filler (spaces column),
+      spaces_moved (moved m filler) column,
+      none_and (moved m filler).col column (filler_line m filler h e),
+    )
 
 pub indentation_skipped : (column : ℕ) (w : List ℕ) → IsEntryIndentation column w → IsSkipped w
 indentation_skipped column w (filler, h, is) =

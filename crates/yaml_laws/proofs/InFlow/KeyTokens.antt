@@ -279,8 +279,11 @@ tag_along reads around k tag start qs t b behind w y e ad h ends text is are low
     let second = slice_index (t ++ o) 1 in
     rw g.token at (ends_there e t b behind w y ad (tokens.Tag (encode_utf8_all g.handle) (encode_utf8_all g.suffix))
     (tag_begins tag t h) text is are low r
-    (cc (begins_tag second (length qs) core, tag_step reads around r.deeper (length qs) e r.blank t g.handle g.suffix o
-    g.is context.Block (Some k) [] false ad ends (behind_key refl refl))))
+    (cc (
+      begins_tag second (length qs) core,
+      tag_step reads around r.deeper (length qs) e r.blank t g.handle g.suffix o
+          g.is context.Block (Some k) [] false ad ends (behind_key refl refl),
+    )))
 
 -- ## Properties
 

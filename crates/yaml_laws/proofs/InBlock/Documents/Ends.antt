@@ -51,9 +51,9 @@ column_at_line c cs m (inr e) = absurd (cc)
 pub plain_marked : (filler : List ℕ) (c : ℕ) (cs o : List ℕ) → IsFiller filler → o ≡ filler ++ (c ∷ cs)
     → IsStop (c ∷ cs) → IsPlainBehind o
 plain_marked filler c cs o filler_is e stops = rw e (record {
-      clean = skipped_clean filler (c ∷ cs) (filler_skipped filler filler_is)
-          (λ least m blank. stop_tabbed least m blank (c ∷ cs) stops);
-    })
+  clean = skipped_clean filler (c ∷ cs) (filler_skipped filler filler_is)
+      (λ least m blank. stop_tabbed least m blank (c ∷ cs) stops);
+})
 
 last_plain : (o : List ℕ) → IsLastFiller o → IsPlainBehind o
 last_plain o (filler, text, filler_is, (front, comment, are, k, text_is), is) =
@@ -138,8 +138,11 @@ pub record OpensMarker (o : List ℕ) : Type 0 where
 pub lands_marked : (o : List ℕ) → OpensMarker o → (m : Marker) → AtLine o m → Lands m o
 lands_marked o k m line =
     let n = moved m k.filler in
-    let there : past 0 m o ≡ (n, k.first ∷ k.others) = cc (skipped_passes k.filler (filler_skipped k.filler k.filler_is)
-    m (k.first ∷ k.others), stop_past n (k.first ∷ k.others) k.stops) in
+    let there : past 0 m o ≡ (n, k.first ∷ k.others) = cc (
+      skipped_passes k.filler (filler_skipped k.filler k.filler_is)
+          m (k.first ∷ k.others),
+      stop_past n (k.first ∷ k.others) k.stops,
+    ) in
     let col = column_at_line k.first k.others n
     (filler_at_line m k.filler (k.first ∷ k.others) k.filler_is (rw k.is at line)) in
     rw there (inr (col, k.ends))

@@ -44,8 +44,10 @@ closes_on {limit = limit} {start = start} {marker = marker} {Told = Told} {Whole
       earlier = us ++ c.earlier;
       told = rw (append_assoc us c.earlier (marker_token marker ∷ tokens.StreamEnd ∷ []))
           (each (c.earlier ++ marker_token marker ∷ tokens.StreamEnd ∷ []) c.told);
-      handed = rw (append_assoc ts us (c.earlier ++ marker_token marker ∷ []),
-          ← append_assoc us c.earlier (marker_token marker ∷ [])) at c.handed;
+      handed = rw (
+        append_assoc ts us (c.earlier ++ marker_token marker ∷ []),
+        ← append_assoc us c.earlier (marker_token marker ∷ []),
+      ) at c.handed;
     }
 
 -- with another clause
