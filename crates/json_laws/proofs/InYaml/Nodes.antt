@@ -154,13 +154,13 @@ enclosed_becomes {Q} o k opening inside closing t x o_stays k_stays (b, a, bh, a
 -- no further entries
 none_become : {P : List ℕ → Type 0} (t : List ℕ) → t ≡ [] → P [] → BecomeInside (IsTail P) t
 none_become {P} t none h c y white = rw none (becomes_so (λ n w. record {
-      before = n;
-      core = [];
-      is = sym (append-nil n);
-      white = w;
-      holds = h;
-      calm = λ rest k. k;
-    }) (white_becomes c y white))
+  before = n;
+  core = [];
+  is = sym (append-nil n);
+  white = w;
+  holds = h;
+  calm = λ rest k. k;
+}) (white_becomes c y white))
 
 items_joined : (room : ℕ) (node : Node) (nodes : Nodes) (n : List ℕ)
     → Both (IsPadded room node true) (IsTail (AreOtherItems room nodes 0)) n

@@ -68,18 +68,18 @@ one_spells c spelling more value (inl h) r =
     no_feed : (c : ℕ) → IsUnescaped c → (c == 10) ≡ false
     no_feed c h = grind (arith, nat_tests)
 one_spells c spelling more value (inr (inl h)) r = rw h.2 (record {
-      items = Escaped c ∷ r.items;
-      text = escaped h.0 c (more ++ codes "\"") r.items [] (short_fits h.0 c h.1) r.text;
-      line = r.line;
-      value_is = ap (λ (y : List ℕ). c ∷ y) r.value_is;
-    })
+  items = Escaped c ∷ r.items;
+  text = escaped h.0 c (more ++ codes "\"") r.items [] (short_fits h.0 c h.1) r.text;
+  line = r.line;
+  value_is = ap (λ (y : List ℕ). c ∷ y) r.value_is;
+})
 one_spells c spelling more value (inr (inr h)) r = rw h.3 (record {
-      items = Escaped c ∷ r.items;
-      text = rw (append_assoc h.0 more (codes "\""))
-          (numbered 117 c h.0 (more ++ codes "\"") r.items [] (code_fits c h.0 h.1 h.2) r.text);
-      line = r.line;
-      value_is = ap (λ (y : List ℕ). c ∷ y) r.value_is;
-    })
+  items = Escaped c ∷ r.items;
+  text = rw (append_assoc h.0 more (codes "\""))
+      (numbered 117 c h.0 (more ++ codes "\"") r.items [] (code_fits c h.0 h.1 h.2) r.text);
+  line = r.line;
+  value_is = ap (λ (y : List ℕ). c ∷ y) r.value_is;
+})
 
 spells : (value t : List ℕ) → AreSpellings value t → Spells t value
 spells [] t h = rw h (record { items = []; text = closed Double [] refl; line = tt; value_is = refl })
