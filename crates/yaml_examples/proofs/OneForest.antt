@@ -1,5 +1,5 @@
 -- The line `---` stands for nothing but one document whose node is left out.
-use Rattle.std.proofs.Common.{◌≡◌, ◌≢◌, ℕ, zero, suc, ◌⊎◌, Bool, true, false, ◌==◌, List, [], ◌∷◌, ◌++◌, inl, inr, refl, ◌∙◌, arith, codes, ap, sym, subst, append_assoc, IsFalse}
+use Rattle.std.proofs.Common.{◌≡◌, ◌≢◌, ℕ, zero, suc, ◌⊎◌, Bool, true, false, ◌==◌, List, [], ◌∷◌, ◌++◌, inl, inr, refl, ◌∙◌, arith, codes, ap, sym, append_assoc, IsFalse}
 use Rattle.saphyr_input.specs.Indicators.{hyphen, percent_sign}
 use Rattle.saphyr_input.specs.Classes.{line_feed}
 use Rattle.saphyr_scalar.specs.Reading.BlockLines.{spaces}

@@ -1,5 +1,5 @@
 -- A text for which the scanner gives a fault, or tokens of no forest, is none of YAML's grammar.
-use Rattle.std.proofs.Common.{◌≡◌, ℕ, ◌≤◌, Bool, true, false, List, length, codes, encode_utf8_all, Option, Some, None, ap, sym, ◌∙◌, arith, subst}
+use Rattle.std.proofs.Common.{◌≡◌, ℕ, ◌≤◌, Bool, true, false, List, length, codes, encode_utf8_all, Option, Some, None, ap, sym, ◌∙◌, arith}
 use Rattle.saphyr_scanner.specs.Grammar.Forest.{Forest, Plain}
 use Rattle.saphyr_scanner.specs.Grammar.TokenGrammar.{Yields}
 use Rattle.saphyr_scanner.specs.Grammar.Tokens.{Kind}

@@ -1,6 +1,6 @@
 -- The parts of a text of JSON, joined to items and pairs of YAML's grammar: white space of both sides of a mark comes
 -- together, and that after a value belongs to the value's item.
-use Rattle.std.proofs.Common.{◌≡◌, ℕ, suc, Bool, true, not, List, [], ◌++◌, refl, sym, ap, ◌∙◌, append_assoc, codes, IsTrue, subst, inl, inr}
+use Rattle.std.proofs.Common.{◌≡◌, ℕ, suc, Bool, true, not, List, [], ◌++◌, refl, ap, ◌∙◌, append_assoc, codes, IsTrue, inl, inr}
 use Rattle.saphyr_scalar.specs.Spelling.Tag.{AreIn}
 use Rattle.saphyr_scanner.specs.Grammar.Forest.{Properties, no_properties, Node, Seq, Map, Nodes, MoreNodes, Pairs, MorePairs}
 use Rattle.scalar_laws.specs.Spelling.Spaces.{IsSeparation}

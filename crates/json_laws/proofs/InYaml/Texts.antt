@@ -1,8 +1,8 @@
 -- A text of JSON is a text of YAML's grammar: its value is the node of a bare document, in flow style.
-use Rattle.std.proofs.Common.{◌≡◌, ℕ, ◌≤◌, true, false, List, [], ◌∷◌, ◌++◌, refl, sym, ap, ◌∙◌, subst, append_assoc, append-nil, inl, inr}
+use Rattle.std.proofs.Common.{◌≡◌, ℕ, ◌≤◌, true, false, List, [], ◌∷◌, ◌++◌, refl, sym, ap, ◌∙◌, append_assoc, append-nil, inl, inr}
 use Rattle.saphyr_input.specs.Breaks.{normalized}
 use Rattle.saphyr_scalar.specs.Spelling.Tag.{AreIn}
-use Rattle.saphyr_scanner.specs.Grammar.Forest.{Node, Alias, Scalar, Seq, Map, bare, Document, Forest, open_collections, open_in_forest}
+use Rattle.saphyr_scanner.specs.Grammar.Forest.{Node, Alias, Scalar, Seq, Map, bare, Forest, open_collections, open_in_forest}
 use Rattle.yaml_laws.specs.Grammar.BlockNodes.{AtStart, IsFlowInBlock, IsBlockNode}
 use Rattle.yaml_laws.specs.Grammar.FlowNodes.{IsFlowNode}
 use Rattle.yaml_laws.specs.Grammar.Yaml.{has_marker, no_prefix, IsYaml, IsYamlText}

@@ -16,7 +16,7 @@ use Rattle.saphyr_scanner.specs.Grammar.Tokens as tokens
 use Rattle.saphyr_scanner.specs.Grammar.Tokens.{Kind}
 use Rattle.saphyr_scanner.specs.Steps.Core.{Core, Put, in_block, remove_key, act}
 use Rattle.saphyr_scanner.specs.Steps.Document as document
-use Rattle.saphyr_scanner.specs.Steps.Passing.{separate, with_cursor}
+use Rattle.saphyr_scanner.specs.Steps.Passing.{separate}
 use Rattle.saphyr_scanner.specs.Steps.Queue.{Queue}
 use Rattle.saphyr_scanner.specs.Steps.State.{State, on_core, on_core_with}
 use Rattle.saphyr_scanner.specs.Steps.Unrolling.{unroll}

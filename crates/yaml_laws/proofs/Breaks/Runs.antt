@@ -10,9 +10,9 @@ use Rattle.saphyr_scanner.specs.Grammar.Tokens as tokens
 use Rattle.saphyr_scanner.specs.Grammar.Tokens.{Kind}
 use Rattle.saphyr_scanner.specs.Views.Tokens.{Piece, Remaining}
 use Rattle.saphyr_scanner.specs.Steps.Queue.{Place, Queue, is_empty_list, next}
-use Rattle.saphyr_scanner.specs.Steps.Core.{Core, in_block, least_column, drop_far_key, at_mark}
-use Rattle.saphyr_scanner.specs.Steps.Level.{Level, is_place, holds, ends_pair}
-use Rattle.saphyr_scanner.specs.Steps.State.{State, start, on_core, after_step}
+use Rattle.saphyr_scanner.specs.Steps.Core.{Core, least_column, drop_far_key, at_mark}
+use Rattle.saphyr_scanner.specs.Steps.Level.{Level, is_place, ends_pair}
+use Rattle.saphyr_scanner.specs.Steps.State.{State, start, on_core}
 use Rattle.saphyr_scanner.specs.Steps.Fetch.{size, without_far_key, needs_token, any_holds, step, is_value_adjacent, state_behind_content, fetch_here, arrive, fetch, check_limit, fetch_within}
 use Rattle.saphyr_scanner.specs.Steps.Remaining.{before_place, hand_out, remaining_after, run, remaining, scan}
 use Rattle.saphyr_scanner.proofs.Filling.{read, less_read}
@@ -24,7 +24,7 @@ use Rattle.yaml_laws.proofs.Breaks.States.{SamePlaces, SameQueues, States, holdi
 use Rattle.saphyr_input.specs.Classes.{is_break, is_z, is_bom, is_flow, is_blank_or_breakz}
 use Rattle.saphyr_input.specs.Places.{is_document_start, is_document_end}
 use Rattle.saphyr_values.specs.declared.block.BlockStyle.TheVariants as block_style
-use Rattle.saphyr_scalar.specs.Views.Cursor.{Cursor, ◌>>=◌}
+use Rattle.saphyr_scalar.specs.Views.Cursor.{◌>>=◌}
 use Rattle.scalar_laws.proofs.Breaks.Results.{both_then}
 use Rattle.saphyr_scanner.specs.declared.engine.level.Context.TheVariants as context
 use Rattle.saphyr_scanner.specs.Steps.Passing.{pass_gap}

@@ -1,6 +1,6 @@
 -- The brackets, braces and commas of a text in flow style are read.
 use Rattle.std.proofs.Common.{◌≡◌, ◌⊎◌, ℕ, ◌<◌, ◌≤◌, Bool, true, false, List, [], ◌∷◌, ◌++◌, length, slice_index, Result, Ok, Err, refl, sym, ap, ◌∙◌, arith, subst, append_assoc, cond, IsTrue, inl}
-use Rattle.std.specs.Prelude.{◌&&◌, ◌==◌, Option, None, if◌then◌else◌}
+use Rattle.std.specs.Prelude.{◌&&◌, ◌==◌, Option, None}
 use Rattle.std.specs.List.{list_all}
 use Rattle.saphyr_input.specs.Indicators.{percent_sign, comma}
 use Rattle.saphyr_input.specs.Classes.{is_blank, is_z, line_feed}
@@ -8,7 +8,7 @@ use Rattle.saphyr_input.specs.declared.input.SkipTabs.{SkipTabs}
 use Rattle.saphyr_input.specs.declared.input.SkipTabs.TheVariants.{Yes}
 use Rattle.saphyr_scalar.specs.declared.scalar.position.Marker.{Marker}
 use Rattle.saphyr_scalar.specs.declared.scalar.fault.Refusal.{Refusal}
-use Rattle.saphyr_scalar.specs.Views.Cursor.{Cursor, along, separation, ◌>>=◌}
+use Rattle.saphyr_scalar.specs.Views.Cursor.{Cursor, along, separation}
 use Rattle.saphyr_scalar.specs.Spelling.Tag.{AreIn}
 use Rattle.saphyr_scalar.proofs.Given.{cursor_at}
 use Rattle.scalar_laws.specs.Spelling.Spaces.{IsSeparation}
@@ -17,7 +17,7 @@ use Rattle.saphyr_scanner.specs.Grammar.Tokens as tokens
 use Rattle.saphyr_scanner.specs.Grammar.Tokens.{Kind}
 use Rattle.saphyr_scanner.specs.Views.Tokens.{Piece}
 use Rattle.saphyr_scanner.specs.Steps.Queue.{Place, bare_place, empty_piece}
-use Rattle.saphyr_scanner.specs.Steps.Core.{Core, from_to, perform, up_to_here, completed_step, remove_key}
+use Rattle.saphyr_scanner.specs.Steps.Core.{Core, from_to, perform, completed_step, remove_key}
 use Rattle.saphyr_scanner.specs.Steps.Level.{Candidate, Level, is_block, behind_entry, ends_pair}
 use Rattle.saphyr_scanner.specs.Steps.Flow as flow
 use Rattle.saphyr_scanner.specs.Steps.Flow.{close_collection, behind_pair, next_flow_entry}
@@ -35,7 +35,6 @@ use Rattle.saphyr_input.proofs.Basics.Numbers.{le_next}
 use Rattle.saphyr_scanner.proofs.Queues.{token_place, place_kinds, queue_of}
 use Rattle.saphyr_scanner.proofs.Levels.{saved, level_of}
 use Rattle.saphyr_scanner.specs.declared.engine.level.Context.TheVariants as context
-use Rattle.saphyr_scanner.specs.Steps.Passing.{with_cursor}
 use Rattle.std.proofs.lemmas.Bool.{true≢false}
 use Rattle.saphyr_scanner.proofs.Steps.Choice.{comma_begins}
 use Rattle.yaml_laws.specs.Grammar.FlowNodes.{IsComma}

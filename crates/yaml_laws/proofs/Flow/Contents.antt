@@ -1,5 +1,5 @@
 -- The content of a scalar in flow style is passed, after its properties or without any.
-use Rattle.std.proofs.Common.{◌≡◌, ℕ, ◌≤◌, Bool, false, List, [], ◌∷◌, ◌++◌, slice_index, refl, sym, ap, ◌∙◌, arith, subst, IsTrue, inl, inr}
+use Rattle.std.proofs.Common.{◌≡◌, ℕ, ◌≤◌, false, List, [], ◌∷◌, ◌++◌, slice_index, refl, ap, ◌∙◌, arith, IsTrue, inl, inr}
 use Rattle.std.specs.Prelude.{◌==◌, not, None}
 use Rattle.std.proofs.lemmas.Bool.Decides.{nat_tests}
 use Rattle.saphyr_input.specs.Classes.{is_blank_or_breakz}

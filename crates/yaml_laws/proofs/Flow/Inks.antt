@@ -1,5 +1,5 @@
 -- The first characters of the nodes of a text in flow style.
-use Rattle.std.proofs.Common.{◌≡◌, ◌≢◌, ℕ, Bool, true, false, List, [], ◌∷◌, ◌++◌, refl, sym, ap, ◌∙◌, arith, subst, append_assoc, IsTrue, inl, inr, codes, ◌≤◌}
+use Rattle.std.proofs.Common.{◌≡◌, ◌≢◌, ℕ, Bool, true, false, List, [], ◌∷◌, ◌++◌, refl, ap, ◌∙◌, arith, append_assoc, IsTrue, inl, inr, codes, ◌≤◌}
 use Rattle.std.specs.Prelude.{◌==◌, ◌&&◌, not, slice_index, Option, Some, None}
 use Rattle.std.proofs.lemmas.Bool.Decides.{nat_tests}
 use Rattle.saphyr_input.specs.Indicators.{comma, number_sign, percent_sign}

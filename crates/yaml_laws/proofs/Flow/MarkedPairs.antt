@@ -1,5 +1,5 @@
 -- Pairs that a `?` begins, inside flow.
-use Rattle.std.proofs.Common.{◌≡◌, ℕ, ◌+◌, ◌<◌, ◌≤◌, Bool, true, false, List, [], ◌∷◌, ◌++◌, length, refl, sym, ap, ◌∙◌, arith, subst, append_assoc, ◌⊎◌, inl, inr}
+use Rattle.std.proofs.Common.{◌≡◌, ℕ, ◌+◌, ◌<◌, ◌≤◌, Bool, true, false, List, [], ◌∷◌, ◌++◌, length, refl, sym, ap, ◌∙◌, arith, append_assoc, ◌⊎◌, inl, inr}
 use Rattle.std.specs.Prelude.{None}
 use Rattle.saphyr_input.specs.Indicators.{question_mark}
 use Rattle.saphyr_scalar.specs.declared.scalar.position.Marker.{Marker}
@@ -16,11 +16,10 @@ use Rattle.yaml_laws.proofs.Flow.States.{FitsAround, moved, past, IsInk, PassesP
 use Rattle.yaml_laws.proofs.Flow.Places.{moved_append}
 use Rattle.yaml_laws.proofs.Flow.GapSteps.{past_low, less_on}
 use Rattle.yaml_laws.proofs.Flow.Joins.{join, separation_joins, knowing}
-use Rattle.yaml_laws.proofs.Flow.Values.{alone_kinds}
 use Rattle.yaml_laws.proofs.Flow.Questions.{mark_passes}
 use Rattle.yaml_laws.proofs.Flow.Inks.{Begins, starts, begins_front, node_begins, key_text_begins, begins_with}
 use Rattle.yaml_laws.proofs.Flow.Pieces.{EndsEntry, fits_front, fits_back, fits_so, IsBehindEntry, end_ink, entry_behind, parted_by}
-use Rattle.yaml_laws.proofs.Flow.Pairs.{TellsPiece, told_at, told_so, PairTokens, AloneTokens, alone_passes, marked_key_passes}
+use Rattle.yaml_laws.proofs.Flow.Pairs.{TellsPiece, told_at, told_so, alone_passes, marked_key_passes}
 
 -- the tokens of such a pair
 abbrev pub MarkedTokens : Node → Node → List Kind → Type 0

@@ -1,5 +1,5 @@
 -- No node in flow style begins with a `-` before white space.
-use Rattle.std.proofs.Common.{◌≡◌, ℕ, Bool, false, List, [], ◌∷◌, ◌++◌, slice_index, refl, sym, ap, ◌∙◌, subst, append_assoc, inl, inr}
+use Rattle.std.proofs.Common.{◌≡◌, ℕ, Bool, false, List, [], ◌∷◌, ◌++◌, slice_index, refl, append_assoc, inl, inr}
 use Rattle.std.specs.Prelude.{◌&&◌, ◌==◌, Option, Some, None}
 use Rattle.saphyr_input.specs.Classes.{is_blank_or_breakz}
 use Rattle.saphyr_input.specs.Indicators.{hyphen}

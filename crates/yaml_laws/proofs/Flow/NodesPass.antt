@@ -1,20 +1,18 @@
 -- The scanner takes a node in flow style and makes its tokens.
-use Rattle.std.proofs.Common.{◌≡◌, ℕ, ◌+◌, ◌<◌, ◌≤◌, Bool, false, List, [], ◌++◌, length, sym, arith, subst, inl, inr, ap, ◌∙◌}
+use Rattle.std.proofs.Common.{◌≡◌, ℕ, ◌+◌, ◌<◌, ◌≤◌, false, List, [], ◌++◌, length, sym, arith, inl, inr, ◌∙◌}
 use Rattle.saphyr_scalar.specs.declared.scalar.position.Marker.{Marker}
 use Rattle.saphyr_scanner.specs.Grammar.TokenGrammar as grammar
 use Rattle.saphyr_scanner.specs.Steps.Level.{is_block, Level}
 use Rattle.saphyr_scanner.specs.Grammar.Forest.{Properties, Node, Alias, Scalar, Seq, Map, Nodes, NoNode, MoreNodes, Pairs, NoPair, MorePairs}
 use Rattle.saphyr_scanner.specs.Limits.{most_open}
-use Rattle.yaml_laws.specs.Grammar.FlowNodes.{AreItems, AreOtherItems, AreFlowPairs, AreOtherFlowPairs, allows_adjacent, IsScalarNode, IsPlainKeyNode, IsFlowNode}
-use Rattle.yaml_laws.proofs.InFlow.States.{Around, FlowMoment, state_at}
-use Rattle.yaml_laws.proofs.Flow.States.{moved, FitsAround, IsBehindNode, ReaderPromises, after_node, NodePasses, PassesNode, StandsBefore, ReadsText, follows_inside, PassesNoting, keeping}
+use Rattle.yaml_laws.specs.Grammar.FlowNodes.{AreItems, AreOtherItems, AreFlowPairs, AreOtherFlowPairs, IsFlowNode}
+use Rattle.yaml_laws.proofs.InFlow.States.{Around, FlowMoment}
+use Rattle.yaml_laws.proofs.Flow.States.{FitsAround, IsBehindNode, ReaderPromises, NodePasses, PassesNode, StandsBefore, ReadsText, follows_inside}
 use Rattle.yaml_laws.proofs.Flow.Collections.{square, curly, are_square, are_curly}
 use Rattle.yaml_laws.proofs.Flow.Items.{PassesPairItem, pair_item_passes, reads_item, reads_pair, ReadsOthers, no_others, more_others, ReadsEntries, no_entries, more_entries}
 use Rattle.yaml_laws.proofs.Flow.Properties.{alias_passes}
 use Rattle.yaml_laws.proofs.Flow.ScalarNodes.{scalar_passes, key_node_passes}
 use Rattle.yaml_laws.proofs.Flow.Collections.Runs.{ReadsCollection, reads_sequence, reads_mapping, calm_in_flow, collection_passes}
-use Rattle.std.specs.Prelude.{not, Option}
-use Rattle.saphyr_scanner.specs.declared.engine.level.Context.{Context}
 use Rattle.saphyr_scanner.specs.declared.engine.level.Context.TheVariants as context
 
 -- ## A node inside flow

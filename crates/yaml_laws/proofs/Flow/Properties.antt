@@ -20,7 +20,7 @@ use Rattle.yaml_laws.specs.Grammar.TagSpelling.{IsTag}
 use Rattle.yaml_laws.specs.Grammar.FlowNodes as yaml
 use Rattle.yaml_laws.specs.Grammar.FlowNodes.{IsAnchor, allows_adjacent}
 use Rattle.yaml_laws.proofs.InFlow.States.{Around, state_at, FlowMoment}
-use Rattle.yaml_laws.proofs.Flow.States.{Since, KeptKey, keeping, moved, past, ReaderPromises, Known, PassesPiece, FitsAround, IsAfterProperties, after, StandsBefore, key_behind, ReadsText}
+use Rattle.yaml_laws.proofs.Flow.States.{Since, KeptKey, keeping, moved, ReaderPromises, Known, PassesPiece, FitsAround, IsAfterProperties, after, StandsBefore, key_behind, ReadsText}
 use Rattle.yaml_laws.proofs.Flow.Places.{moved_append}
 use Rattle.yaml_laws.proofs.Documents.Lines.{rest_first}
 use Rattle.yaml_laws.proofs.Flow.Fillers.{spaces_are_blank, separation_past, right_behind}

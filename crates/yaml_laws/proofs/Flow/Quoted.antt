@@ -12,7 +12,6 @@ use Rattle.saphyr_values.specs.declared.flow.Quote.{Quote}
 use Rattle.saphyr_values.specs.declared.flow.Quote.TheVariants.{Single, Double}
 use Rattle.saphyr_scalar.specs.Views.Cursor.{Cursor, along, next_line}
 use Rattle.saphyr_values.specs.Flow.{mark, backslash, apostrophe}
-use Rattle.saphyr_values.specs.Folding.{folded}
 use Rattle.saphyr_scalar.specs.Passing.{IsPassed, nothing, character, line_break}
 use Rattle.saphyr_scalar.specs.Steps.Quoted as quotes
 use Rattle.saphyr_scalar.specs.Steps.Quoted.{mid_line, break_len, is_closing}

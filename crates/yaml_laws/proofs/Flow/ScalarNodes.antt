@@ -1,5 +1,5 @@
 -- The scalars of a text in flow style are passed, with their properties.
-use Rattle.std.proofs.Common.{◌≡◌, ◌≢◌, ℕ, ◌≤◌, Bool, List, [], ◌∷◌, ◌++◌, refl, sym, ap, ◌∙◌, arith, subst, append_assoc, append-nil, inl, inr, ◌<◌, ◌⊎◌, true}
+use Rattle.std.proofs.Common.{◌≡◌, ◌≢◌, ℕ, ◌≤◌, Bool, List, [], ◌∷◌, ◌++◌, refl, sym, ap, ◌∙◌, arith, append_assoc, append-nil, inl, inr, ◌<◌, ◌⊎◌, true}
 use Rattle.std.specs.Prelude.{not, Option, Some, None}
 use Rattle.std.proofs.lemmas.Bool.{false≢true}
 use Rattle.saphyr_input.specs.Indicators.{colon}
@@ -13,9 +13,8 @@ use Rattle.saphyr_scanner.specs.Steps.Level.{is_block}
 use Rattle.saphyr_scanner.specs.Grammar.Forest.{Style, Plain, Tag, Properties, HasOne, Node, Scalar}
 use Rattle.yaml_laws.specs.Grammar.FlowNodes as yaml
 use Rattle.yaml_laws.specs.Grammar.FlowNodes.{allows_adjacent, IsProperties, IsBeforeContent, IsScalarNode, IsPlainKeyNode}
-use Rattle.yaml_laws.specs.Grammar.FlowScalars.{IsFlowScalar, IsPlainKey}
 use Rattle.yaml_laws.proofs.InFlow.States.{Around, FlowMoment}
-use Rattle.yaml_laws.proofs.Flow.States.{moved, past, ReaderPromises, after_node, keeping, Follows, IsLow, ReadsText}
+use Rattle.yaml_laws.proofs.Flow.States.{moved, ReaderPromises, after_node, keeping, Follows, IsLow, ReadsText}
 use Rattle.yaml_laws.proofs.Flow.Joins.{knowing, told}
 use Rattle.yaml_laws.proofs.Flow.Inks.{behind_low}
 use Rattle.yaml_laws.proofs.Flow.Ends.{white_ends_tag, ends_behind_separation, follows_tag}

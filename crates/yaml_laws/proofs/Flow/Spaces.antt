@@ -1,5 +1,5 @@
 -- What comes after a `?` in flow style is passed.
-use Rattle.std.proofs.Common.{suc, subst, ◌≡◌, ◌≢◌, ℕ, ◌≤◌, Bool, true, false, List, [], ◌∷◌, ◌++◌, length, slice_index, refl, sym, ap, ◌∙◌, arith, append_assoc, ◌⊎◌, inl, inr}
+use Rattle.std.proofs.Common.{suc, ◌≡◌, ◌≢◌, ℕ, ◌≤◌, Bool, true, false, List, [], ◌∷◌, ◌++◌, length, slice_index, refl, sym, ap, ◌∙◌, arith, append_assoc, ◌⊎◌, inl, inr}
 use Rattle.std.specs.Prelude.{◌||◌, ◌&&◌, ◌==◌, not}
 use Rattle.std.proofs.lemmas.Bool.Decides.{nat_tests}
 use Rattle.saphyr_input.specs.Classes.{is_blank, is_break, tab, carriage_return, line_feed}
@@ -14,7 +14,6 @@ use Rattle.yaml_laws.proofs.Flow.States.{moved, past, past_comment, IsInk}
 use Rattle.yaml_laws.proofs.Flow.GapSteps.{past_ink, past_shorter, comment_shorter}
 use Rattle.yaml_laws.proofs.Flow.GapWalks.{OverGap, over_gap, no_stop}
 use Rattle.yaml_laws.proofs.Flow.Fillers.{separation_past}
-use Rattle.yaml_laws.proofs.InBlock.States.{IsStop}
 use Rattle.yaml_laws.proofs.InBlock.Gaps.{ink_stop}
 use Rattle.yaml_laws.proofs.InBlock.Skips.{has_tab, comment_has_tab, spaces_reach}
 use Rattle.yaml_laws.proofs.InBlock.Untabbed.{settles}

@@ -1,5 +1,5 @@
 -- The next token of a text in flow style is reached, and read and passed by a step.
-use Rattle.std.proofs.Common.{◌≡◌, ◌⊎◌, inl, inr, ℕ, ◌≤◌, Bool, true, false, List, [], ◌∷◌, ◌++◌, length, slice_index, refl, sym, ap, ◌∙◌, arith, subst, ◌+◌, Ok}
+use Rattle.std.proofs.Common.{◌≡◌, ◌⊎◌, inl, inr, ℕ, ◌≤◌, Bool, true, false, List, [], ◌∷◌, ◌++◌, length, slice_index, refl, sym, ap, ◌∙◌, arith, ◌+◌, Ok}
 use Rattle.std.specs.Prelude.{◌==◌, Option, None, ◌||◌, ◌&&◌, Some}
 use Rattle.saphyr_input.specs.Indicators.{percent_sign}
 use Rattle.saphyr_input.specs.Classes.{is_blank, is_z, is_bom}

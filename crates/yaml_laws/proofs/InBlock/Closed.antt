@@ -1,10 +1,10 @@
 -- A text of YAML's grammar ends with the line of a document marker: whatever follows, the tokens up to and including
 -- the marker's own come first.
-use Rattle.std.proofs.Common.{◌≡◌, ℕ, ◌≤◌, ◌<◌, ◌^◌, true, false, List, [], ◌∷◌, ◌++◌, length, slice_index, refl, sym, ap, ◌∙◌, subst, append_assoc, inl, inr, arith}
+use Rattle.std.proofs.Common.{◌≡◌, ℕ, ◌≤◌, ◌<◌, ◌^◌, true, false, List, [], ◌∷◌, ◌++◌, length, slice_index, refl, sym, ap, ◌∙◌, append_assoc, inl, inr, arith}
 use Rattle.std.specs.Prelude.{map, ◌==◌}
 use Rattle.saphyr_input.specs.Indicators.{full_stop}
 use Rattle.saphyr_input.specs.Breaks.{normalized}
-use Rattle.saphyr_input.specs.Classes.{byte_order_mark, is_blank_or_breakz, line_feed}
+use Rattle.saphyr_input.specs.Classes.{byte_order_mark, line_feed}
 use Rattle.scalar_laws.specs.Spelling.Spaces.{AreEach, joined_pieces, IsFiller, IsLineRest}
 use Rattle.saphyr_scanner.specs.Grammar.Forest.{Forest}
 use Rattle.saphyr_scanner.specs.Limits.{most_open}

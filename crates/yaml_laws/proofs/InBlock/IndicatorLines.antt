@@ -1,5 +1,5 @@
 -- What comes after an indicator: blanks and a token, or the end of a line.
-use Rattle.std.proofs.Common.{◌≡◌, ◌≢◌, ℕ, zero, suc, ◌+◌, ◌≤◌, Bool, true, false, List, [], ◌∷◌, ◌++◌, length, slice_index, refl, sym, ap, ◌∙◌, arith, subst, append_assoc, append-nil, ◌⊎◌, inl, inr, IsTrue}
+use Rattle.std.proofs.Common.{◌≡◌, ◌≢◌, ℕ, zero, suc, ◌+◌, ◌≤◌, Bool, true, false, List, [], ◌∷◌, ◌++◌, length, slice_index, refl, sym, ap, ◌∙◌, arith, append_assoc, append-nil, ◌⊎◌, inl, inr, IsTrue}
 use Rattle.std.specs.Prelude.{◌||◌, ◌&&◌, ◌==◌, not, take}
 use Rattle.std.specs.List.{list_all, list_any, prefix_len}
 use Rattle.std.proofs.lemmas.Bool.Decides.{nat_tests}
@@ -13,7 +13,7 @@ use Rattle.saphyr_scalar.specs.Reading.BlockLines.{spaces}
 use Rattle.saphyr_scalar.specs.Views.Cursor.{along, next_line}
 use Rattle.saphyr_scalar.specs.Spelling.Tag.{AreIn}
 use Rattle.scalar_laws.specs.Spelling.Spaces.{IsComment, IsCommentBehind, IsLineRest, IsLineEnd, IsEol}
-use Rattle.yaml_laws.proofs.Flow.States.{IsInk, moved, past}
+use Rattle.yaml_laws.proofs.Flow.States.{IsInk, moved}
 use Rattle.yaml_laws.proofs.Documents.Lines.{rest_first}
 use Rattle.yaml_laws.proofs.Flow.Fillers.{spaces_are_blank, blanks_past, behind_is, front_past}
 use Rattle.yaml_laws.proofs.Flow.Separates.{line_stops, ink_stops, front_moved}

@@ -1,5 +1,5 @@
 -- Line numbers grow from line to line, in texts that are not longer than they can tell.
-use Rattle.std.proofs.Common.{◌≡◌, ℕ, suc, ◌+◌, ◌^◌, ◌<◌, ◌≤◌, List, [], ◌∷◌, ◌++◌, length, ap, arith, subst, append_assoc, min}
+use Rattle.std.proofs.Common.{◌≡◌, ℕ, suc, ◌+◌, ◌^◌, ◌<◌, ◌≤◌, List, [], ◌∷◌, ◌++◌, length, arith, append_assoc, min}
 use Rattle.std.specs.Prelude.{◌-◌, ◌==◌}
 use Rattle.std.proofs.lemmas.List.{length-append}
 use Rattle.saphyr_input.specs.Classes.{line_feed}

@@ -6,14 +6,13 @@ use Rattle.saphyr_input.specs.Classes.{is_blank, is_blank_or_breakz, line_feed, 
 use Rattle.saphyr_scalar.specs.declared.scalar.position.Marker.{Marker}
 use Rattle.saphyr_scalar.specs.Views.Cursor.{◌>>=◌, along}
 use Rattle.saphyr_scanner.specs.declared.engine.level.Context.TheVariants as context
-use Rattle.saphyr_scanner.specs.Steps.Core.{least_column, Core, completed_step, from_to, up_to_here, is_further, roll, remove_key, with_context, in_block}
+use Rattle.saphyr_scanner.specs.Steps.Core.{least_column, Core, completed_step, from_to, roll, remove_key, with_context, in_block}
 use Rattle.saphyr_scanner.specs.Steps.Level.{Candidate, behind_question}
 use Rattle.saphyr_scanner.specs.Steps.Block as block
 use Rattle.saphyr_scanner.specs.Steps.Block.{behind_start}
 use Rattle.saphyr_scanner.specs.Steps.Gap as gap
-use Rattle.saphyr_scanner.specs.Steps.Passing.{with_cursor}
-use Rattle.saphyr_scanner.specs.Steps.Queue.{next, Queue}
-use Rattle.saphyr_scanner.specs.Steps.State.{State, after_step}
+use Rattle.saphyr_scanner.specs.Steps.Queue.{next}
+use Rattle.saphyr_scanner.specs.Steps.State.{State}
 use Rattle.saphyr_scanner.specs.Grammar.Tokens as tokens
 use Rattle.saphyr_scanner.specs.Grammar.Tokens.{Kind}
 use Rattle.saphyr_scanner.specs.Steps.Fetch.{state_behind_content, step}

@@ -1,5 +1,5 @@
 -- Block scalars at block level, with what comes before them (YAML 1.2.2, 8.1).
-use Rattle.std.proofs.Common.{◌≡◌, ◌≢◌, ℕ, ◌+◌, ◌^◌, ◌<◌, ◌≤◌, true, false, List, [], ◌∷◌, ◌++◌, length, refl, sym, ap, ◌∙◌, arith, subst, append_assoc, append-nil, IsTrue, inl, inr}
+use Rattle.std.proofs.Common.{◌≡◌, ◌≢◌, ℕ, ◌+◌, ◌^◌, ◌<◌, ◌≤◌, true, false, List, [], ◌∷◌, ◌++◌, length, refl, sym, ap, arith, subst, append_assoc, append-nil, IsTrue, inl, inr}
 use Rattle.std.specs.Prelude.{Option, None}
 use Rattle.std.proofs.lemmas.Bool.Decides.{nat_tests}
 use Rattle.saphyr_input.specs.Classes.{is_blank, is_break}
@@ -23,7 +23,7 @@ use Rattle.yaml_laws.proofs.Flow.WordGaps.{prefix_reaches}
 use Rattle.yaml_laws.proofs.InBlock.States.{Frame, IsPlaced, At, Before}
 use Rattle.yaml_laws.proofs.InBlock.Skips.{gap_passes}
 use Rattle.yaml_laws.proofs.InBlock.Lines.{FitsOnLines, fits_front, fits_so}
-use Rattle.yaml_laws.proofs.InBlock.Statements.{context_at, EndsNodeAt, Arrived, NodeRead, ReadsAt}
+use Rattle.yaml_laws.proofs.InBlock.Statements.{context_at, EndsNodeAt, NodeRead, ReadsAt}
 use Rattle.yaml_laws.proofs.InBlock.Texts.{passes_to}
 use Rattle.yaml_laws.proofs.InBlock.BehindIndicators.{further_ink}
 use Rattle.yaml_laws.proofs.InBlock.ScalarTexts.{ReadsBlocks, sign_ink}

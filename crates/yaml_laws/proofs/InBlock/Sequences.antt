@@ -1,5 +1,5 @@
 -- The entries of a block sequence are read (YAML 1.2.2, 8.2.1).
-use Rattle.std.proofs.Common.{◌≡◌, ℕ, suc, ◌+◌, ◌≤◌, Bool, true, false, List, [], ◌∷◌, ◌++◌, refl, sym, ap, ◌∙◌, subst, append_assoc, append-nil, inl, inr}
+use Rattle.std.proofs.Common.{◌≡◌, ℕ, suc, ◌+◌, ◌≤◌, Bool, true, false, List, [], ◌∷◌, ◌++◌, refl, ap, ◌∙◌, subst, append_assoc, append-nil, inl, inr}
 use Rattle.std.specs.Prelude.{nat_le, None, if◌then◌else◌}
 use Rattle.saphyr_input.specs.Indicators.{hyphen}
 use Rattle.saphyr_scalar.specs.declared.scalar.position.Marker.{Marker}
@@ -15,7 +15,7 @@ use Rattle.yaml_laws.proofs.Flow.States.{moved}
 use Rattle.yaml_laws.proofs.InBlock.Lines.{FitsOnLines, fits_back, fits_so}
 use Rattle.yaml_laws.proofs.InBlock.States.{Frame, At}
 use Rattle.yaml_laws.proofs.InBlock.Entries.{frame_behind, dash_kinds, reads_dash}
-use Rattle.yaml_laws.proofs.InBlock.Statements.{EndsNodeAt, Arrived, EndsWithLine, as_optional, NodeRead, ReadsAt, ReadsLeaves}
+use Rattle.yaml_laws.proofs.InBlock.Statements.{EndsNodeAt, EndsWithLine, as_optional, NodeRead, ReadsAt, ReadsLeaves}
 use Rattle.yaml_laws.proofs.InBlock.Texts.{node_ends}
 use Rattle.yaml_laws.proofs.InBlock.BehindIndicators.{node_behind}
 use Rattle.yaml_laws.proofs.InBlock.Parts.{frame_indent, suc_is, IsPart, PartRead, ReadsOtherParts, parts_so, no_other_parts, AreParts, more_parts, PartsRead, told_parts, reads_parts}

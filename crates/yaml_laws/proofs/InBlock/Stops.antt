@@ -1,5 +1,5 @@
 -- The text from the first token of a text on, which is one however the text is parted.
-use Rattle.std.proofs.Common.{◌≡◌, ℕ, Bool, true, false, List, [], ◌∷◌, ◌++◌, refl, sym, ap, ◌∙◌, arith, subst, append_assoc, ◌⊎◌, inl, inr}
+use Rattle.std.proofs.Common.{◌≡◌, ℕ, Bool, true, false, List, [], ◌∷◌, ◌++◌, refl, sym, ap, ◌∙◌, arith, append_assoc, ◌⊎◌, inl, inr}
 use Rattle.saphyr_input.specs.Classes.{byte_order_mark, is_bom}
 use Rattle.saphyr_input.specs.Indicators.{full_stop}
 use Rattle.saphyr_scalar.specs.declared.scalar.position.Marker.{Marker}

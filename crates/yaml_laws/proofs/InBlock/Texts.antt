@@ -1,5 +1,5 @@
 -- The texts of nodes at block level: where they end, and the columns and tokens after what is skipped.
-use Rattle.std.proofs.Common.{◌≡◌, ℕ, zero, suc, ◌+◌, ◌<◌, ◌≤◌, List, [], ◌∷◌, ◌++◌, length, refl, sym, ap, ◌∙◌, arith, subst, append-nil, ◌⊎◌, inl, inr}
+use Rattle.std.proofs.Common.{◌≡◌, ℕ, zero, suc, ◌+◌, ◌<◌, ◌≤◌, List, [], ◌∷◌, ◌++◌, length, refl, ap, ◌∙◌, arith, append-nil, ◌⊎◌, inl, inr}
 use Rattle.std.specs.Prelude.{◌==◌, not}
 use Rattle.saphyr_input.specs.Classes.{line_feed}
 use Rattle.saphyr_scalar.specs.declared.scalar.position.Marker.{Marker}

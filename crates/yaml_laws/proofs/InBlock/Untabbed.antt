@@ -1,6 +1,6 @@
 -- Where no tab is left of a column on the line of a token, what is passed up to the next token doesn't depend on
 -- the column.
-use Rattle.std.proofs.Common.{◌≡◌, ℕ, ◌≤◌, Bool, true, false, List, ◌∷◌, slice_index, refl, ap, ◌∙◌}
+use Rattle.std.proofs.Common.{◌≡◌, ℕ, ◌≤◌, Bool, true, false, List, ◌∷◌, slice_index, refl}
 use Rattle.std.specs.Prelude.{◌||◌, ◌&&◌, ◌==◌, not, nat_lt}
 use Rattle.saphyr_input.specs.Classes.{is_blank}
 use Rattle.saphyr_scalar.specs.declared.scalar.position.Marker.{Marker}

@@ -1,11 +1,10 @@
 -- Each text of YAML's grammar gives tokens of its forest.
-use Rattle.std.proofs.Common.{false, ℕ, ◌<◌, ◌^◌, ◌≤◌, List, length, ap, ◌∙◌, arith}
-use Rattle.std.specs.Prelude.{map}
+use Rattle.std.proofs.Common.{false, ℕ, ◌<◌, ◌^◌, ◌≤◌, List, length, ap, arith}
 use Rattle.saphyr_input.specs.Breaks.{normalized}
 use Rattle.saphyr_scanner.specs.Grammar.Forest.{Forest}
 use Rattle.saphyr_scanner.specs.Limits.{most_open}
 use Rattle.saphyr_scanner.specs.Steps.Remaining.{Scans, scan}
-use Rattle.saphyr_scanner.specs.Views.Tokens.{Piece, Remaining}
+use Rattle.saphyr_scanner.specs.Views.Tokens.{Remaining}
 use Rattle.saphyr_scanner.specs.Grammar.TokenGrammar.{Yields}
 use Rattle.saphyr_scanner.specs.Grammar.Tokens.{Kind}
 use Rattle.saphyr_scanner.proofs.Lazy.{handed_out}

@@ -1,5 +1,5 @@
 -- A key on one line at block level begins a token, which keeps the key's place.
-use Rattle.std.proofs.Common.{◌≡◌, ℕ, Bool, true, false, List, [], ◌∷◌, ◌++◌, refl, sym, ap, ◌∙◌, subst, append_assoc, inl, inr}
+use Rattle.std.proofs.Common.{◌≡◌, ℕ, Bool, true, false, List, [], ◌∷◌, ◌++◌, refl, sym, ap, ◌∙◌, append_assoc, inl, inr}
 use Rattle.std.specs.Prelude.{Option, Some, None}
 use Rattle.saphyr_input.specs.Indicators.{colon}
 use Rattle.saphyr_scalar.specs.Views.Cursor.{Cursor}

@@ -31,7 +31,7 @@ use Rattle.yaml_laws.proofs.InFlow.OnLine.{front_on_line, back_on_line, gap_of_b
 use Rattle.yaml_laws.proofs.InFlow.KeyLines.{IsNear, Ready, later_ready, token_led}
 use Rattle.yaml_laws.proofs.Flow.States.{moved, IsClear, ReaderPromises}
 use Rattle.yaml_laws.proofs.Flow.Places.{moved_append, moved_index, moved_along, clear_front, clear_back}
-use Rattle.yaml_laws.proofs.Flow.Tokens.{BeginsToken, begins_token}
+use Rattle.yaml_laws.proofs.Flow.Tokens.{begins_token}
 use Rattle.yaml_laws.proofs.Flow.Names.{name_step, begins_anchor, begins_alias, tag_step, begins_tag, tag_read, tag_first}
 use Rattle.yaml_laws.proofs.Flow.Ends.{tag_ends_name, white_ends_tag}
 use Rattle.yaml_laws.proofs.Flow.Properties.{blank_first}

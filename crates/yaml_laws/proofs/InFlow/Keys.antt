@@ -1,5 +1,5 @@
 -- A node in flow style on one line at block level is read as a key.
-use Rattle.std.proofs.Common.{◌≡◌, ℕ, suc, ◌+◌, ◌≤◌, Bool, true, false, List, [], ◌∷◌, ◌++◌, length, slice_index, refl, sym, ap, arith, subst, inl, inr, IsTrue, ◌∙◌, append_assoc}
+use Rattle.std.proofs.Common.{◌≡◌, ℕ, suc, ◌+◌, ◌≤◌, Bool, true, false, List, [], ◌∷◌, ◌++◌, length, slice_index, refl, ap, arith, inl, inr, IsTrue, append_assoc}
 use Rattle.std.specs.Prelude.{Option, not, ◌==◌}
 use Rattle.std.proofs.lemmas.Bool.Decides.{nat_tests}
 use Rattle.saphyr_scalar.specs.Spelling.Tag.{AreIn}
@@ -18,7 +18,7 @@ use Rattle.yaml_laws.proofs.InFlow.KeyTokens.{InKey, in_back, in_right, in_so, T
 use Rattle.yaml_laws.proofs.InFlow.KeyScalars.{Blanks, colon_text, colon_after, ContentReads}
 use Rattle.yaml_laws.proofs.Flow.States.{moved, IsClear, ReaderPromises, FitsAround}
 use Rattle.yaml_laws.proofs.Flow.Places.{clear_front}
-use Rattle.yaml_laws.proofs.Flow.Tokens.{BeginsToken, begins_token}
+use Rattle.yaml_laws.proofs.Flow.Tokens.{begins_token}
 use Rattle.saphyr_scalar.proofs.Given.{cursor_at}
 use Rattle.yaml_laws.proofs.InFlow.KeyFirsts.{plain_key_fresh, key_node_fresh}
 use Rattle.yaml_laws.proofs.InFlow.KeyNodes.{KeyReads, alias_key, scalar_key, plain_key, front_along}

@@ -1,5 +1,5 @@
 -- The tabs and breaks that a plain scalar's reader passes after a scalar, where a token or the text's end is reached.
-use Rattle.std.proofs.Common.{◌≡◌, ℕ, ◌+◌, ◌≤◌, Bool, true, false, List, [], ◌∷◌, drop, slice_index, refl, sym, ap, ◌∙◌, arith, subst, IsTrue, ◌⊎◌, inl, inr}
+use Rattle.std.proofs.Common.{◌≡◌, ℕ, ◌+◌, ◌≤◌, Bool, true, false, List, [], ◌∷◌, drop, slice_index, refl, sym, ap, ◌∙◌, arith, IsTrue, ◌⊎◌, inl, inr}
 use Rattle.std.specs.Prelude.{◌||◌, ◌&&◌, ◌==◌, not, nat_lt, if◌then◌else◌}
 use Rattle.std.specs.List.{prefix_len}
 use Rattle.std.proofs.lemmas.Bool.Decides.{nat_tests}

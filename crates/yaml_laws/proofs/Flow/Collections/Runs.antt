@@ -1,17 +1,17 @@
 -- Collections in brackets and braces after their properties, and given how their entries are read.
-use Rattle.std.proofs.Common.{◌≡◌, ℕ, suc, ◌+◌, ◌≤◌, Bool, false, List, [], ◌∷◌, ◌++◌, length, refl, sym, ap, ◌∙◌, arith, subst, append_assoc, IsTrue, inl}
+use Rattle.std.proofs.Common.{◌≡◌, ℕ, suc, ◌+◌, ◌≤◌, Bool, false, List, [], ◌∷◌, ◌++◌, length, refl, arith, append_assoc, IsTrue, inl}
 use Rattle.std.specs.List.{list_all}
 use Rattle.saphyr_input.specs.Classes.{is_blank}
 use Rattle.saphyr_scalar.specs.declared.scalar.position.Marker.{Marker}
 use Rattle.saphyr_scanner.specs.declared.engine.level.Context.{Context}
 use Rattle.saphyr_scanner.specs.Grammar.Tokens.{Kind}
 use Rattle.saphyr_scanner.specs.Grammar.TokenGrammar as grammar
-use Rattle.saphyr_scanner.specs.Steps.Level.{is_block, Level}
+use Rattle.saphyr_scanner.specs.Steps.Level.{is_block}
 use Rattle.saphyr_scanner.specs.Grammar.Forest.{Properties, Node, Seq, Map, Nodes, Pairs}
 use Rattle.saphyr_scanner.specs.Limits.{most_open}
 use Rattle.yaml_laws.specs.Grammar.FlowNodes.{allows_adjacent, IsOpening, IsFlowNode, AreItems, AreFlowPairs}
 use Rattle.yaml_laws.proofs.InFlow.States.{Around, Calm, FlowMoment}
-use Rattle.yaml_laws.proofs.Flow.States.{moved, past, ReaderPromises, Follows, follows_inside, follows_outside, ReadsText, TextPasses, YieldsAnywhere}
+use Rattle.yaml_laws.proofs.Flow.States.{moved, ReaderPromises, Follows, follows_inside, follows_outside, ReadsText}
 use Rattle.yaml_laws.proofs.Flow.Pieces.{fits_front, fits_back, fits_so, parted_by, behind_so}
 use Rattle.yaml_laws.proofs.Flow.Collections.{EndsAt, Brackets, AreBrackets, square, curly, are_square, are_curly, bracket_text, RunsInside, brackets_pass, ends_inside, ends_root, AreBracketed}
 use Rattle.yaml_laws.proofs.Flow.Items.{ReadsEntries}

@@ -1,5 +1,5 @@
 -- What comes after a document ends it, or begins with a document marker (YAML 1.2.2, chapter 9).
-use Rattle.std.proofs.Common.{◌≡◌, ℕ, Bool, true, false, List, [], ◌∷◌, ◌++◌, slice_index, refl, sym, ap, ◌∙◌, subst, append_assoc, ◌⊎◌, inl, inr}
+use Rattle.std.proofs.Common.{◌≡◌, ℕ, Bool, true, false, List, [], ◌∷◌, ◌++◌, slice_index, refl, append_assoc, ◌⊎◌, inl, inr}
 use Rattle.std.specs.Prelude.{◌==◌, not}
 use Rattle.saphyr_input.specs.Classes.{is_blank_or_breakz, carriage_return, byte_order_mark}
 use Rattle.saphyr_scalar.specs.declared.scalar.position.Marker.{Marker}

@@ -1,5 +1,5 @@
 -- Tokens up to a document marker's own, and what is to be shown at its line.
-use Rattle.std.proofs.Common.{◌≡◌, ℕ, Bool, true, false, List, [], ◌∷◌, ◌++◌, slice_index, IsTrue, refl, sym, ap, ◌∙◌, subst, append_assoc, ◌⊎◌, inl, inr}
+use Rattle.std.proofs.Common.{◌≡◌, ℕ, Bool, true, false, List, [], ◌∷◌, ◌++◌, slice_index, IsTrue, refl, ap, append_assoc, ◌⊎◌, inl, inr}
 use Rattle.std.specs.Prelude.{map, ◌==◌}
 use Rattle.saphyr_input.specs.Indicators.{full_stop, hyphen}
 use Rattle.saphyr_input.specs.Classes.{byte_order_mark, is_blank_or_breakz}

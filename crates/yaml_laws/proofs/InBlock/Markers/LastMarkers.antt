@@ -1,5 +1,5 @@
 -- The line of a document marker that ends a text: what is shown there, whatever follows.
-use Rattle.std.proofs.Common.{◌≡◌, ℕ, true, false, List, [], ◌∷◌, ◌++◌, slice_index, refl, sym, ap, ◌∙◌, subst, append_assoc, append-nil, ◌⊎◌, inl, inr}
+use Rattle.std.proofs.Common.{◌≡◌, ℕ, true, false, List, [], ◌∷◌, ◌++◌, slice_index, refl, sym, append_assoc, append-nil, ◌⊎◌, inl, inr}
 use Rattle.std.specs.Prelude.{map}
 use Rattle.saphyr_input.specs.Classes.{is_blank_or_breakz, line_feed}
 use Rattle.scalar_laws.specs.Spelling.Spaces.{IsEol, IsLastFiller, IsLineRest}
@@ -18,7 +18,7 @@ use Rattle.yaml_laws.proofs.Documents.Lines.{rest_first}
 use Rattle.yaml_laws.proofs.InBlock.Statements.{ReadsLeaves}
 use Rattle.yaml_laws.proofs.InBlock.Documents.Ends.{AreBlockDocuments, OpensMarker, opens_marker}
 use Rattle.yaml_laws.proofs.InBlock.Stops.{HasToken, token_front, node_token, documents_token, StopsAt, one_stop, token_stops, marker_stops, end_stops, mark_prefix_stops, end_prefix_stops}
-use Rattle.yaml_laws.proofs.InBlock.Markers.HandedMarkers.{Handed, hands_start, hands_end}
+use Rattle.yaml_laws.proofs.InBlock.Markers.HandedMarkers.{hands_start, hands_end}
 use Rattle.yaml_laws.proofs.InBlock.YamlTexts.{leaves}
 use Rattle.yaml_laws.proofs.InBlock.Markers.AtMarkers.{IsMarkerRest, StartsHere, EndsHere, Found}
 use Rattle.saphyr_input.proofs.Basics.Lists.{cons_not_empty}

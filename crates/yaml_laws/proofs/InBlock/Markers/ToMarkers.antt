@@ -1,8 +1,6 @@
 -- The documents of a text are read up to a document marker at a line's start, whatever text follows theirs.
-use Rattle.std.proofs.Common.{◌≡◌, ℕ, Bool, true, false, List, [], ◌∷◌, ◌++◌, refl, sym, ap, ◌∙◌, subst, append_assoc, ◌⊎◌, inl, inr}
-use Rattle.std.specs.Prelude.{◌==◌}
+use Rattle.std.proofs.Common.{◌≡◌, ℕ, Bool, true, false, List, [], ◌∷◌, ◌++◌, refl, sym, ap, ◌∙◌, append_assoc, ◌⊎◌, inl, inr}
 use Rattle.saphyr_input.specs.Indicators.{full_stop, hyphen}
-use Rattle.saphyr_input.specs.Classes.{line_feed}
 use Rattle.scalar_laws.specs.Spelling.Spaces.{IsFiller, IsLastFiller, IsEol, AreEach, joined_pieces}
 use Rattle.scalar_laws.proofs.Beginnings.{front_in, back_in}
 use Rattle.saphyr_scanner.specs.Grammar.Forest.{Document, Forest}
