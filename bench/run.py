@@ -17,6 +17,7 @@ Rust crate `saphyr-parser`, whose sources are in that folder, and whose dependen
 PROGRAM any program that prints the same lines of a file.
 """
 import argparse
+import functools
 import os
 import re
 import shutil
@@ -102,17 +103,15 @@ def count_instructions(command):
     return int(found[1]) if found and ran.returncode == 0 else None
 
 
-def memory(command):
+def memory(peak, command):
     """The most memory of a run at a time, in bytes, beyond that for an empty text, or None where it fails."""
-    found, started = (count_memory([command[0], file]) for file in (command[1], os.devnull))
+    found, started = (count_memory([peak, command[0], file]) for file in (command[1], os.devnull))
     return None if found is None else found - started
 
 
 def count_memory(command):
-    child = subprocess.Popen(command, stdout=subprocess.DEVNULL, stderr=subprocess.DEVNULL)
-    _, status, used = os.wait4(child.pid, 0)
-    child.returncode = os.waitstatus_to_exitcode(status)
-    return 1024 * used.ru_maxrss if child.returncode == 0 else None
+    ran = subprocess.run(command, stdout=subprocess.PIPE, stderr=subprocess.DEVNULL)
+    return 1024 * int(ran.stdout) if ran.returncode == 0 else None
 
 
 def least(programs, file, measure, runs):
@@ -173,13 +172,16 @@ def main():
         sys.exit("there is no valgrind")
     few = 0.06 if asked.shapes else 0.1 if asked.instructions else 4
     size = int(1e6 * (asked.size or few))
-    measure = instructions if asked.instructions else memory if asked.memory else seconds
-    units = {instructions: "instructions for each byte", memory: "bytes for each byte"}
+    unit, measure = "seconds, and how many times as long", seconds
+    if asked.instructions:
+        unit, measure = "instructions for each byte", instructions
     with tempfile.TemporaryDirectory() as folder:
+        if asked.memory:
+            peak = compiled(folder, "peak", [f"{ROOT}/bench/peak.c"])
+            unit, measure = "bytes for each byte", functools.partial(memory, peak)
         programs = peers(folder, asked.crate, asked.peer, not (asked.parse_only or asked.small))
         if asked.small:
             return report_small(programs, f"{folder}/small")
-        unit = units.get(measure, "seconds, and how many times as long")
         print(f"{unit:37}" + "".join(f"{name:>12}" for name in programs))
         rows = {}
         for kind in asked.kinds or texts:
