@@ -95,6 +95,7 @@ impl CharSet for NonBreak {
 
     #[inline(always)]
     fn has_wide(byte: u8) -> bool {
+        // The byte order mark, which is not in the set, begins with it.
         byte != 0xEF
     }
 
@@ -123,6 +124,7 @@ impl CharSet for NonSpace {
 
     #[inline(always)]
     fn has_wide(byte: u8) -> bool {
+        // The byte order mark, which is not in the set, begins with it.
         byte != 0xEF
     }
 

@@ -281,10 +281,6 @@ pub stop_here : (m : Marker) (blank now : Bool) (t : List ℕ)
 unfolding stop
 stop_here m blank now t = refl
 
--- where no block collection is open, no tab is in its indentation
-pub no_tab_indentation : (m : Marker) (blank : Bool) (c : ℕ) → (is_tab_indentation 0 m blank c || false) ≡ false
-no_tab_indentation m blank c = grind (arith, nat_tests)
-
 -- after blanks is neither a comment nor a byte order mark
 pub separated : (text : List ℕ) (t : Cursor) → (slice_index text 0 == number_sign) ≡ false
     → is_bom (slice_index t.rest 0) ≡ false → behind_separation Yes text t ≡ Ok (found_blanks Yes text, t)

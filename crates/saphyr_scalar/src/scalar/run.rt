@@ -13,7 +13,8 @@ impl<T: Input> Reader<T> {
     // Moves a run of a set. Whether only blanks are before the place stays as it is.
     #[inline]
     pub(crate) fn move_run<C: CharSet>(&mut self, text: &mut String) -> Result<(), Stop>
-        ensures { AppendsBy (spec.with_front_run C.test) text.old self.old result text.new self.new }
+        ensures { AppendsBy (spec.with_front_run C.test) text.old self.old result text.new
+            self.new }
     {
         let count = self.input.fetch_while::<C>(text)?;
         self.mark = self.mark.along(count);

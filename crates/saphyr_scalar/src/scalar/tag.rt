@@ -298,7 +298,8 @@ impl<T: Input> Reader<T> {
         word: String,
         start: Marker,
     ) -> Result<TagParts, Stop>
-        ensures { ReadsBy spec.seen_tag (spec.named_tail start (string_bytes word)) self.old result self.new }
+        ensures { ReadsBy spec.seen_tag (spec.named_tail start (string_bytes word)) self.old
+            result self.new }
     {
         let handle = handle_in(self.spare.begin_handle(alloc)?, word.as_str())?;
         let mut suffix = word;

@@ -27,6 +27,7 @@ impl CharSet for PlainOutside {
 
     #[inline(always)]
     fn has_wide(byte: u8) -> bool {
+        // The byte order mark, which is not in the set, begins with it.
         byte != 0xEF
     }
 
@@ -58,6 +59,7 @@ impl CharSet for PlainInFlow {
 
     #[inline(always)]
     fn has_wide(byte: u8) -> bool {
+        // The byte order mark, which is not in the set, begins with it.
         byte != 0xEF
     }
 
