@@ -1,19 +1,17 @@
 -- What a scanner has handed out, with the tokens still to come, is all tokens of its text.
-use Rattle.std.proofs.Common.{◌≡◌, ℕ, suc, ◌+◌, true, false, List, [], ◌∷◌, ◌++◌, Option, Some, None, Ok, Err, refl, ap, arith}
+use Rattle.std.proofs.Common.{◌≡◌, ℕ, suc, true, false, List, [], ◌∷◌, ◌++◌, Option, Some, Ok, Err, refl, ap, subst, arith}
 use Rattle.std.proofs.lemmas.Bool.{cond-true, cond-false}
 use Rattle.std.proofs.lemmas.List.{append_assoc}
-use Rattle.saphyr_scanner.specs.declared.queue.Opening.TheVariants as opening
 use Rattle.saphyr_scalar.specs.declared.scalar.fault.Refusal.{Refusal}
 use Rattle.saphyr_scanner.specs.Views.Tokens.{Piece, Remaining, before, refusal_alone}
-use Rattle.saphyr_scanner.specs.declared.queue.Opening.{Opening}
 use Rattle.saphyr_scanner.specs.Steps.Queue.{Place}
-use Rattle.saphyr_scanner.specs.Steps.Core.{Core, drop_far_key}
+use Rattle.saphyr_scanner.specs.Steps.Core.{drop_far_key}
 use Rattle.saphyr_scanner.specs.Steps.State.{State, start}
 use Rattle.saphyr_scanner.specs.Steps.Fetch.{size, needs_token, take_token}
-use Rattle.saphyr_scanner.specs.Steps.Remaining.{before_place, hand_out, remaining, scan}
+use Rattle.saphyr_scanner.specs.Steps.Remaining.{hand_out, remaining, scan}
 use Rattle.saphyr_scanner.proofs.Effects.Readers.{Readers}
-use Rattle.saphyr_scanner.proofs.Queues.{holding, place_with_front}
 use Rattle.saphyr_scanner.proofs.Filling.{read, going, smaller_read, IsSettled, read_settles}
+use Rattle.saphyr_scanner.proofs.Turns.{TakesToken, first_taken}
 use Rattle.saphyr_scanner.proofs.Unroll.{behind, enough, rest, remaining_is, settled_is}
 use Rattle.marker_laws.specs.EventsUpTo.{before_all}
 use Rattle.marker_laws.specs.GoesOn.{ScansTo, starts, reads, takes}
@@ -38,53 +36,17 @@ read_first laws limit s u needs e =
       enough laws limit (size s.core) (suc (size u.core)) u (smaller_read laws limit s u needs e) (omega arith),
     )
 
--- the token that is taken off comes first
-abbrev Precedes : ℕ → State → Option Piece × State → Type 0
-Precedes limit s (None, u) = Unit {0}
-Precedes limit s (Some x, u) = rest limit s ≡ before x (rest limit u)
-
-module _ (limit : ℕ) (c : Core) where
-  place_first : (p : Place) (ps : List Place) (n : ℕ) → needs_token (holding c (p ∷ ps) n) ≡ false
-      → rest limit (holding c (p ∷ ps) n)
-      ≡ before_place p.opening p.piece (rest limit (holding c ps (n + 1)))
-  place_first p ps n ready = cond-false (needs_token (holding c (p ∷ ps) n)) _ _ ready
-
-  -- what comes before the token of a place is taken off first
-  opened_first : (o : Opening) (t : Piece) (ps : List Place) (n : ℕ)
-      → needs_token (holding c (place_with_front o t ∷ ps) n) ≡ false
-      → Precedes limit (holding c (place_with_front o t ∷ ps) n)
-      (take_token (holding c (place_with_front o t ∷ ps) n))
-  opened_first opening.Nothing t ps n ready = place_first (place_with_front opening.Nothing t) ps n ready
-  opened_first opening.Key t ps n ready =
-      cc (
-        place_first (place_with_front opening.Key t) ps n ready,
-        place_first (place_with_front opening.Nothing t) ps n ready,
-      )
-  opened_first opening.BlockMappingAndKey t ps n ready =
-      cc (
-        place_first (place_with_front opening.BlockMappingAndKey t) ps n ready,
-        place_first (place_with_front opening.Key t) ps n ready,
-      )
-  opened_first opening.FlowMappingAndKey t ps n ready =
-      cc (
-        place_first (place_with_front opening.FlowMappingAndKey t) ps n ready,
-        place_first (place_with_front opening.Key t) ps n ready,
-      )
-
-  taken_first : (ps : List Place) (n : ℕ) → needs_token (holding c ps n) ≡ false
-      → Precedes limit (holding c ps n) (take_token (holding c ps n))
-  taken_first [] n ready = tt
-  taken_first (p ∷ ps) n ready = opened_first p.opening p.piece ps n ready
-
 -- ## All tokens
 
-start_settled : (text : List ℕ) → IsSettled (start text)
+pub start_settled : (text : List ℕ) → IsSettled (start text)
 unfolding drop_far_key
 start_settled text = refl
 
 first : (limit : ℕ) (s u : State) (x : Piece) → needs_token s ≡ false → take_token s ≡ (Some x, u)
     → rest limit s ≡ before x (rest limit u)
-first limit s u x ready e = rw e at (taken_first limit s.core s.queue.places s.queue.handed ready)
+first limit s u x ready e =
+    subst (λ (r : Option Piece × State). TakesToken limit s r) e
+    (first_taken limit s.core s.queue.places s.queue.handed ready)
 
 settled_taken : (s u : State) (x : Piece) → take_token s ≡ (Some x, u) → IsSettled s → IsSettled u
 settled_taken s u x e h =

@@ -40,7 +40,7 @@ last_is : (w : DocumentMarker) (us : List Piece) (e : Option Refusal) (ts : List
 last_is w us e [] h = absurd h
 last_is w us e (t ∷ ts) h = last_or w _ t ts t.kind refl (last_is w us e ts) h
 
-last_too : (w : DocumentMarker) (us : List Piece) (e : Option Refusal) (ts : List Piece) → EndWithMarker w ts
+pub last_too : (w : DocumentMarker) (us : List Piece) (e : Option Refusal) (ts : List Piece) → EndWithMarker w ts
     → End (ended_by w us e) ts
 last_too w us e ts (front, x, same, is) = simp same (marker_ends w us e front x is)
 

@@ -22,7 +22,7 @@ use Rattle.saphyr_scanner.proofs.Unroll.{remaining_is, rest, settled_is}
 use Rattle.marker_laws.specs.Beside.{Marked, begins_line}
 use Rattle.marker_laws.specs.EventsUpTo.{before_all}
 use Rattle.marker_laws.specs.GoesOn.{ScansTo, extended_by, reads, starts, takes}
-use Rattle.marker_laws.proofs.HandedTokens.{refusal_ends, regrouped}
+use Rattle.marker_laws.proofs.HandedTokens.{refusal_ends, regrouped, start_settled}
 use Rattle.saphyr_pieces.specs.Comes.{HasCome, Laws, at_end, at_marker, at_start, begun_state, first_token, is_latest, may_read, until_ended}
 use Rattle.saphyr_pieces.specs.Lines.{HasMarkerAt}
 
@@ -186,10 +186,6 @@ refuses laws limit _ _ _ _ e (at_end n stop text ts s comes) needs may is later 
     ∙ refusal_ends laws.readers limit n text ts s e comes needs is)
 
 -- ## No token is left
-
-start_settled : (text : List ℕ) → IsSettled (start text)
-unfolding drop_far_key
-start_settled text = refl
 
 settled : (limit stop : ℕ) (text : List ℕ) (ts : List Piece) (s : State) → ScansTo limit stop text ts s → IsSettled s
 settled limit stop text _ _ starts = start_settled text

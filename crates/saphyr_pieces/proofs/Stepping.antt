@@ -20,8 +20,9 @@ use Rattle.saphyr_machine.proofs.Unroll.{unroll, over}
 use Rattle.saphyr_machine.proofs.Turns as turns
 use Rattle.event_laws.specs.Premises.{DocumentMarker, Ends}
 use Rattle.event_laws.proofs.Beside.Documents.{IsBetweenDocuments}
-use Rattle.event_laws.proofs.Longer.{More, End, AgreesOrEndsEarly, PassesAll, longer, steps_agree}
-use Rattle.event_laws.proofs.Promises.ClosedTokens.{ended_by, marker_ends}
+use Rattle.event_laws.proofs.Longer.{More, AgreesOrEndsEarly, PassesAll, longer, steps_agree}
+use Rattle.event_laws.proofs.Promises.ClosedTokens.{ended_by}
+use Rattle.marker_laws.proofs.Waiting.{last_too}
 use Rattle.marker_laws.specs.EventsAsTheyCome.{ArePassed, EndWithMarker, IsOutside, before_others}
 use Rattle.marker_laws.proofs.Waiting.{refused_waits}
 use Rattle.saphyr_pieces.specs.Pieces.{with_others}
@@ -49,11 +50,6 @@ decided_over m e = record {
 }
 
 -- ## Behind a document marker
-
-last_too : (w : DocumentMarker) (us : List Piece) (e : Option Refusal) (ts : List Piece) → EndWithMarker w ts
-    → End (ended_by w us e) ts
-last_too w us e ts (front, x, same, is) =
-    subst (End (ended_by w us e)) (sym same) (marker_ends w us e front x is)
 
 abbrev Goes : More → Machine → Told → Result Told Refusal → Type 0
 Goes z m x q =

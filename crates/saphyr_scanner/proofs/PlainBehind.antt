@@ -23,7 +23,7 @@ IsNoted comment s = (comment ≡ None) ⊎ (comment ≡ Some s.mark)
 abbrev pub EndsUnbroken : List ℕ × Marker × Option Marker × Cursor → Type 0
 EndsUnbroken x = IsNoted x.2 x.3 × StopsUnbroken x.3
 
-given_then : {X Y : Type 0} → (P : X → Type 0) (Q : Y → Type 0) (r : Result X Refusal) (f : X → Result Y Refusal)
+pub given_then : {X Y : Type 0} → (P : X → Type 0) (Q : Y → Type 0) (r : Result X Refusal) (f : X → Result Y Refusal)
     → Given P r → ((x : X) → P x → Given Q (f x)) → Given Q (r >>= f)
 given_then P Q (Ok x) f h go = go x h
 given_then P Q (Err e) f h go = tt

@@ -21,11 +21,11 @@ use Rattle.std.proofs.lemmas.Bool.{cond-true, cond-false}
 use Rattle.saphyr_scanner.proofs.Queues.{holding, place_with_front}
 
 -- what is taken of a state, and what remains of it
-abbrev LeavesToken : ℕ → State → State → Option Piece → Type 0
+abbrev pub LeavesToken : ℕ → State → State → Option Piece → Type 0
 LeavesToken limit t u None = (rest limit t ≡ none) × (u ≡ t)
 LeavesToken limit t u (Some x) = rest limit t ≡ before x (rest limit u)
 
-abbrev TakesToken : ℕ → State → Option Piece × State → Type 0
+abbrev pub TakesToken : ℕ → State → Option Piece × State → Type 0
 TakesToken limit t r = LeavesToken limit t r.1 r.0
 
 rest_at_end : (limit : ℕ) (c : Core) (n : ℕ) → needs_token (holding c [] n) ≡ false → rest limit (holding c [] n) ≡ none
@@ -55,7 +55,7 @@ place_taken limit c opening.FlowMappingAndKey t ps n ready =
     place_first limit c (place_with_front opening.FlowMappingAndKey t) ps n ready
     ∙ ap (before _) (sym (place_first limit c (place_with_front opening.Key t) ps n ready))
 
-first_taken : (limit : ℕ) (c : Core) (ps : List Place) (n : ℕ) → needs_token (holding c ps n) ≡ false
+pub first_taken : (limit : ℕ) (c : Core) (ps : List Place) (n : ℕ) → needs_token (holding c ps n) ≡ false
     → TakesToken limit (holding c ps n) (take_token (holding c ps n))
 first_taken limit c [] n ready = (rest_at_end limit c n ready, refl)
 first_taken limit c (p ∷ ps) n ready = place_taken limit c p.opening p.piece ps n ready

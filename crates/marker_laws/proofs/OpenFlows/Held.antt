@@ -26,7 +26,8 @@ use Rattle.saphyr_scanner.specs.Steps.Unrolling.{unroll, end_blocks, end_block, 
 use Rattle.saphyr_scanner.proofs.Filling.{read}
 use Rattle.marker_laws.specs.UpTo.{brackets_behind, brackets_behind_held}
 use Rattle.marker_laws.proofs.Fetches.{holding}
-use Rattle.marker_laws.proofs.OpenFlows.Steps.{given_then, Opens, counted, IsCounted, Counted, Beyond, remove_opens, drop_opens, separate_opens, gap_opens, step_counted}
+use Rattle.saphyr_scanner.proofs.PlainBehind.{given_then}
+use Rattle.marker_laws.proofs.OpenFlows.Steps.{Opens, counted, IsCounted, Counted, Beyond, remove_opens, drop_opens, separate_opens, gap_opens, step_counted}
 
 -- as many are open as the tokens leave open, where n are open before those that are held
 abbrev pub IsBalanced : ℕ → State → Type 0

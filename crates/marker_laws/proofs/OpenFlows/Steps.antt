@@ -1,5 +1,5 @@
 -- A step leaves as many flow collections open as the tokens that it puts leave open.
-use Rattle.std.proofs.Common.{◌≡◌, ℕ, ◌+◌, ◌-◌, ◌<◌, ◌≤◌, Bool, true, false, List, [], ◌∷◌, ◌++◌, length, Option, Some, None, Result, Ok, Err, slice_index, refl, sym, ap, ◌∙◌, arith, subst, cond}
+use Rattle.std.proofs.Common.{◌≡◌, ℕ, ◌+◌, ◌-◌, ◌<◌, ◌≤◌, Bool, true, false, List, [], ◌∷◌, ◌++◌, length, Option, Some, None, slice_index, refl, sym, ap, ◌∙◌, arith, subst, cond}
 use Rattle.std.specs.Prelude.{◌&&◌, ◌||◌, ◌==◌, not, nat_lt, nat_le}
 use Rattle.std.proofs.lemmas.Bool.{lt-ltb}
 use Rattle.saphyr_input.proofs.Basics.Booleans.{by_test}
@@ -9,7 +9,6 @@ use Rattle.saphyr_input.specs.declared.input.SkipTabs.{SkipTabs}
 use Rattle.saphyr_input.specs.declared.input.SkipTabs.TheVariants as tabs
 use Rattle.saphyr_values.specs.declared.block.BlockStyle.{BlockStyle}
 use Rattle.saphyr_scalar.specs.declared.scalar.position.Marker.{Marker}
-use Rattle.saphyr_scalar.specs.declared.scalar.fault.Refusal.{Refusal}
 use Rattle.saphyr_scalar.specs.declared.scalar.style.ScalarStyle.{ScalarStyle}
 use Rattle.saphyr_scalar.specs.Views.Cursor.{Cursor, ◌>>=◌, separation, pass}
 use Rattle.saphyr_scalar.specs.Steps.Anchor as anchors
@@ -33,17 +32,13 @@ use Rattle.saphyr_scanner.specs.Steps.Property as property
 use Rattle.saphyr_scanner.specs.Steps.Scalar as scalar
 use Rattle.saphyr_scanner.specs.Steps.Value as value
 use Rattle.saphyr_scanner.specs.Steps.Passing.{separate, pass_on, pass_gap, check_comment, check_comment_of, goes_on_behind, behind_gap}
-use Rattle.saphyr_scanner.specs.Steps.Queue.{next, empty_piece}
+use Rattle.saphyr_scanner.specs.Steps.Queue.{empty_piece}
 use Rattle.saphyr_scanner.specs.Steps.Fetch.{flow_value_steps, step}
+use Rattle.saphyr_scanner.proofs.PlainBehind.{given_then}
 use Rattle.saphyr_scanner.proofs.Taken.InPlace.{no_text}
 use Rattle.saphyr_scanner.proofs.Counted.{Ahead, separation_counted}
 use Rattle.saphyr_scanner.proofs.Steps.Choice.{cases}
 use Rattle.marker_laws.specs.UpTo.{brackets_behind}
-
-pub given_then : {X Y : Type 0} (P : X → Type 0) (Q : Y → Type 0) (r : Result X Refusal) (f : X → Result Y Refusal)
-    → Given P r → ((x : X) → P x → Given Q (f x)) → Given Q (r >>= f)
-given_then P Q (Ok x) f h next = next x h
-given_then P Q (Err e) f h next = tt
 
 -- ## Cores
 
