@@ -1,5 +1,9 @@
 -- The words of a plain scalar.
-use Rattle.std.proofs.Common.{◌≡◌, ℕ, ◌+◌, ◌<◌, Bool, true, List, [], ◌∷◌, length, drop, refl, arith}
+use Rattle.std.proofs.Common.{◌≡◌, ◌≢◌, ℕ, ◌+◌, ◌<◌, Bool, true, false, List, [], ◌∷◌, length, drop, slice_index, refl, sym, ◌∙◌, arith}
+use Rattle.std.specs.Prelude.{◌==◌, ◌&&◌, ◌||◌, not}
+use Rattle.std.proofs.lemmas.Bool.Decides.{nat_tests}
+use Rattle.saphyr_input.specs.Classes.{is_blank_or_breakz, is_bom, is_flow}
+use Rattle.saphyr_input.specs.Indicators.{colon}
 use Rattle.saphyr_scalar.specs.Steps.Plain.{is_in_word, word_len}
 
 pub word_left : (f : Bool) (xs : List ℕ) → is_in_word f xs ≡ true → 0 < length xs
@@ -10,3 +14,18 @@ word_left f (c ∷ cs) h = omega arith
 pub word_len_more : (f : Bool) (xs : List ℕ) → is_in_word f xs ≡ true → word_len f xs ≡ 1 + word_len f (drop 1 xs)
 word_len_more f [] h = absurd (omega (arith, word_left f [] h))
 word_len_more f (c ∷ cs) h = rw h refl
+
+-- what the tests of the first character, `c`, say of a word
+pub colon_in_word : (f : Bool) (xs : List ℕ) (c next : ℕ) (b : Bool) → c ≡ slice_index xs 0 → c ≡ colon
+    → next ≡ slice_index xs 1 → b ≡ not (is_blank_or_breakz next || (f && is_flow next)) → b ≡ is_in_word f xs
+unfolding is_in_word
+colon_in_word f xs c next b first is second e =
+    let here : slice_index xs 0 ≡ 58 = sym first ∙ is in
+    rw (here, ← second) e
+
+pub ink_in_word : (f : Bool) (xs : List ℕ) (c : ℕ) (b : Bool) → c ≡ slice_index xs 0 → c ≢ colon
+    → b ≡ (not (is_blank_or_breakz c) && not (is_bom c || (f && is_flow c))) → b ≡ is_in_word f xs
+unfolding is_in_word
+ink_in_word f xs c b first other e =
+    let off : (c == 58) ≡ false = grind (arith, nat_tests) in
+    rw (← first) (rw off e)

@@ -1,5 +1,5 @@
 -- The escape of a byte that was taken off, where each place is told again.
-use Rattle.std.proofs.Common.{◌≡◌, ℕ, ◌+◌, ◌*◌, ◌^◌, ◌<◌, ◌≤◌, true, List, [], ◌∷◌, length, slice_index, Result, Ok, refl, sym, ap, ◌∙◌, arith}
+use Rattle.std.proofs.Common.{◌≡◌, ℕ, ◌+◌, ◌-◌, ◌*◌, ◌^◌, ◌<◌, ◌≤◌, true, List, [], ◌∷◌, length, slice_index, Result, Ok, refl, sym, ap, ◌∙◌, arith}
 use Rattle.std.specs.Prelude.{◌==◌}
 use Rattle.std.proofs.lemmas.Bool.{false≢true}
 use Rattle.std.proofs.lemmas.Bool.Decides.{nat_tests}
@@ -8,7 +8,7 @@ use Rattle.saphyr_input.specs.Indicators.{percent_sign}
 use Rattle.saphyr_scalar.specs.declared.scalar.position.Marker.{Marker}
 use Rattle.saphyr_scalar.specs.declared.scalar.fault.Refusal.{Refusal}
 use Rattle.saphyr_scalar.specs.Views.Cursor.{Cursor, pass}
-use Rattle.saphyr_scalar.specs.Steps.Tag.{byte_value, escaped_byte}
+use Rattle.saphyr_scalar.specs.Steps.Tag.{byte_value, escaped_byte, is_trailing, trailing_byte}
 
 -- the three characters that are shown: `%`, and two digits with their values
 pub record ShowsByte (xs : List ℕ) (a b : ℕ) : Type 0 where
@@ -49,3 +49,15 @@ byte_fits a b high low = omega arith
 
 pub byte_small : (a b : ℕ) → a < 16 → b < 16 → a * 16 + b < 256
 byte_small a b high low = omega arith
+
+-- a byte that is not the first of its character, and what is said with it
+
+pub trailing_on : (start : Marker) (v b : ℕ) (s t : Cursor) → escaped_byte start s ≡ Ok (b, t) → 0x80 ≤ b → b < 0xC0
+    → trailing_byte start v s ≡ Ok (v * 64 + (b - 0x80), t)
+unfolding trailing_byte
+trailing_on start v b s t read from to =
+    let is : is_trailing b ≡ true = grind (arith, nat_tests) in
+    rw (read, is) refl
+
+pub trailing_small : (v b : ℕ) → b < 0xC0 → v * 64 + (b - 0x80) < 64 * v + 64
+trailing_small v b to = omega arith

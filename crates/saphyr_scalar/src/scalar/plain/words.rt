@@ -1,6 +1,7 @@
 //! The words of plain scalars, with the single spaces between them (YAML 1.2.2, 7.3.3).
 
-ghost use Rattle.std.specs.Prelude.{◌≡◌, ◌≤◌, slice_index, string_bytes, IfOk, OnOk, false, true, refl};
+ghost use Rattle.std.specs.Prelude.{◌≡◌, ◌≤◌, ◌&&◌, ◌||◌, not, slice_index, string_bytes, IfOk, OnOk, false, true, refl};
+ghost use Rattle.saphyr_input.specs.Classes as class;
 ghost use Rattle.saphyr_input.specs.Places.{TransfersWords};
 ghost use Rattle.saphyr_scalar.specs.Steps.Plain as spec;
 ghost use Rattle.saphyr_scalar.specs.Steps.Sets as sets;
@@ -77,6 +78,23 @@ impl SpacedSet for PlainInFlow {
     }
 }
 
+// Whether a word goes on with a colon before this character.
+#[inline(always)]
+fn is_colon_in_word(next: char, in_flow: bool) -> bool
+    ensures { result ≡ not (class.is_blank_or_breakz next || (in_flow && class.is_flow next)) }
+{
+    !(is_blank_or_breakz(next) || in_flow && is_flow(next))
+}
+
+// Whether a word goes on with this character, which is no colon.
+#[inline(always)]
+fn is_ink_in_word(c: char, in_flow: bool) -> bool
+    ensures { result ≡ (not (class.is_blank_or_breakz c)
+        && not (class.is_bom c || (in_flow && class.is_flow c))) }
+{
+    !is_blank_or_breakz(c) && !is_bom(c) && !(in_flow && is_flow(c))
+}
+
 impl<T: Input> Reader<T> {
     ghost use Rattle.saphyr_scalar.specs.Views.Reader.{cursor_of, loaded, GivesBy};
 
@@ -102,7 +120,6 @@ impl<T: Input> Reader<T> {
 
     // Whether a word goes on with `c`, the first character.
     #[inline(always)]
-    #[tactic(auto, unfolding(crate::specs::Steps::Plain::is_in_word))]
     fn is_in_plain_word(&mut self, c: char, in_flow: bool) -> bool
         requires first { c ≡ slice_index (cursor_of self.old).rest 0 }
         requires loaded { 1 ≤ loaded self.old }
@@ -113,9 +130,9 @@ impl<T: Input> Reader<T> {
         if c == ':' {
             self.load(2);
             let next = self.input.peek_nth(1);
-            return !(is_blank_or_breakz(next) || in_flow && is_flow(next));
+            return is_colon_in_word(next, in_flow);
         }
-        !is_blank_or_breakz(c) && !is_bom(c) && !(in_flow && is_flow(c))
+        is_ink_in_word(c, in_flow)
     }
 
     // Moves characters of words without colons, and single spaces between them, to the end of a
