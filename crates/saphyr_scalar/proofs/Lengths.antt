@@ -1,13 +1,13 @@
 -- What is taken off a text is no longer than the text.
 use Rattle.std.proofs.Common.{◌≡◌, ℕ, ◌+◌, ◌^◌, ◌<◌, ◌≤◌, Bool, true, false, List, [], ◌∷◌, length, drop, slice_index, ap, sym, ◌∙◌, arith, subst}
-use Rattle.std.specs.Prelude.{◌&&◌, ◌==◌}
+use Rattle.std.specs.Prelude.{◌&&◌, ◌==◌, Result, Ok, Err, IfOk, OnErr}
 use Rattle.std.specs.List.{prefix_len}
 use Rattle.std.proofs.lemmas.List.{length-drop}
 use Rattle.std.proofs.lemmas.List.Sums.{prefix_len-le-length}
 use Rattle.std.proofs.lemmas.Bool.{false≢true}
 use Rattle.std.proofs.lemmas.Bool.Decides.{nat_tests}
 use Rattle.saphyr_input.specs.Classes.{is_yaml_non_break}
-use Rattle.saphyr_input.specs.Places.{next_2_are, words_len}
+use Rattle.saphyr_input.specs.Places.{next_2_are, words_len, TransfersWords, TransfersPart}
 use Rattle.saphyr_input.specs.Separation.{blank_len, comment_len, separation_len, is_skipped}
 use Rattle.saphyr_input.specs.declared.input.SkipTabs.{SkipTabs}
 use Rattle.saphyr_scalar.specs.declared.scalar.position.Marker.{Marker}
@@ -90,6 +90,13 @@ within_separation tabs xs n is = rw is (separation_within tabs xs)
 -- where a part of a text was taken off, and memory ran out
 pub part_left : (xs now : List ℕ) (at n : ℕ) → at + length xs < 2 ^ 64 → now ≡ drop n xs → at + length now < 2 ^ 64
 part_left xs now at n fits left = rw (left, length-drop) (omega arith)
+
+-- what remains where words were taken off, or memory ran out before
+pub words_fit : {E : Type 0} → (p q : ℕ → Bool) (xs now text grown : List ℕ) (r : Result ℕ E) (at : ℕ)
+    → IfOk r (λ n. TransfersWords p q n xs now text grown) → OnErr r (TransfersPart p xs now text grown)
+    → at + length xs < 2 ^ 64 → at + length now < 2 ^ 64
+words_fit p q xs now text grown (Ok n) at ok err fits = part_left xs now at n fits ok.transfers.taken
+words_fit p q xs now text grown (Err e) at ok err fits = part_left xs now at _ fits err.transfers.taken
 
 -- a run that is taken off a character at a time
 

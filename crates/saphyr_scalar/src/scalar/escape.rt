@@ -15,7 +15,6 @@ impl<T: Input> Reader<T> {
     ghost use Rattle.saphyr_scalar.specs.Views.Reader.{cursor_of, GivesBy};
 
     // Takes off this many hexadecimal digits, and returns their value.
-    #[tactic(auto, using(crate::proofs::Quoted::Escapes::digits_stop))]
     fn read_digits(&mut self, count: usize, start: Marker) -> Result<u32, Refusal>
         requires { count ≤ 8 }
         ensures { GivesBy (spec.digits start count 0) self.old result self.new }
@@ -36,7 +35,7 @@ impl<T: Input> Reader<T> {
     }
 
     // Takes an escape off, from its backslash on, and returns its character.
-    #[tactic(auto, using(crate::proofs::Quoted::Escapes::letter_left, crate::proofs::Quoted::Escapes::digits_left), unfolding(crate::specs::Steps::Quoted::escaped_character, crate::specs::Steps::Quoted::escape_of, crate::specs::Steps::Quoted::escape_by_number, crate::specs::Steps::Quoted::character))]
+    #[tactic(auto, unfolding(crate::specs::Steps::Quoted::escaped_character, crate::specs::Steps::Quoted::escape_of, crate::specs::Steps::Quoted::escape_by_number, crate::specs::Steps::Quoted::character))]
     pub(crate) fn read_escape(&mut self, start: Marker) -> Result<char, Refusal>
         requires { slice_index (cursor_of self.old).rest 0 ≡ backslash }
         ensures { GivesBy (spec.escaped_character start) self.old result self.new }

@@ -1,7 +1,7 @@
-use Rattle.std.proofs.Common.{◌≡◌, true, sym, ◌∙◌}
+use Rattle.std.proofs.Common.{◌≡◌, true, sym, ap, ◌∙◌}
 use Rattle.saphyr_input.specs.Classes as class
 use Rattle.saphyr_scalar.specs.Views.Reader.{cursor_of}
-use Rattle.saphyr_scalar.proofs.Quoted.Escapes.{digits_none, digits_on, digits_below, digits_fit, shift_fits, below_eight, digit_is_left}
+use Rattle.saphyr_scalar.proofs.Quoted.Escapes.{digits_none, digits_on, digits_stop, digits_below, digits_fit, shift_fits, below_eight, digit_is_left}
 use Rattle.saphyr_scalar.proofs.scalar.reader.Reader.read_digits.Goals as goal
 
 pub overflow_mul-value : goal.overflow_mul-value
@@ -20,6 +20,12 @@ pub skip_non_blank-requires : goal.skip_non_blank-requires
 skip_non_blank-requires g c =
     digit_is_left c.look-c.result (cursor_of c.loop.self) (cursor_of c.look-c.new.self) c.look-c.ensures.value
     c.look-c.ensures.same (sym c.is_hex.ensures.test ∙ c.if-not-is_hex.false)
+
+pub returns-then-not-is_hex : goal.returns-then-not-is_hex
+returns-then-not-is_hex g c = sym c.loop.invariant.same
+    ∙ digits_stop c.args.start c.args.count c.loop.counter c.loop.value (cursor_of c.loop.self)
+    (ap class.is_hex (sym c.look-c.ensures.value) ∙ sym c.is_hex.ensures.test ∙ c.if-not-is_hex.true)
+    c.loop-test.true
 
 pub loop-preserved : goal.loop-preserved
 loop-preserved g c =
