@@ -52,12 +52,12 @@ byte_small a b high low = omega arith
 
 -- a byte that is not the first of its character, and what is said with it
 
-pub trailing_on : (start : Marker) (v b : ℕ) (s t : Cursor) → escaped_byte start s ≡ Ok (b, t) → 0x80 ≤ b → b < 0xC0
+pub byte_grows : (start : Marker) (v b : ℕ) (s t : Cursor) → escaped_byte start s ≡ Ok (b, t) → 0x80 ≤ b → b < 0xC0
     → trailing_byte start v s ≡ Ok (v * 64 + (b - 0x80), t)
 unfolding trailing_byte
-trailing_on start v b s t read from to =
+byte_grows start v b s t read from to =
     let is : is_trailing b ≡ true = grind (arith, nat_tests) in
     rw (read, is) refl
 
-pub trailing_small : (v b : ℕ) → b < 0xC0 → v * 64 + (b - 0x80) < 64 * v + 64
-trailing_small v b to = omega arith
+pub grown_small : (v b : ℕ) → b < 0xC0 → v * 64 + (b - 0x80) < 64 * v + 64
+grown_small v b to = omega arith

@@ -6,8 +6,8 @@ use Rattle.saphyr_scalar.proofs.scalar.reader.Reader.is_in_plain_word.Goals as g
 
 pub returns-then-c-eq58-clause-value : goal.returns-then-c-eq58-clause-value
 returns-then-c-eq58-clause-value g c =
-    colon_in_word c.args.in_flow (cursor_of c.args.self.now).rest c.args.c c.peek_nth-next.result _
-    c.requires.first c.if-c-eq58.true (c.peek_nth-next.ensures ∙ ap (λ (s : Cursor). slice_index s.rest 1) c.load.ensures.same)
+    colon_in_word c.args.in_flow (cursor_of c.args.self.now).rest c.args.c c.peek_nth-next.result _ c.requires.first
+    c.if-c-eq58.true (c.peek_nth-next.ensures ∙ ap (λ (s : Cursor). slice_index s.rest 1) c.load.ensures.same)
     c.is_colon_in_word.ensures
 
 pub returns-clause-value : goal.returns-clause-value

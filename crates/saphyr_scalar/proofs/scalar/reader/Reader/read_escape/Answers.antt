@@ -1,4 +1,4 @@
-use Rattle.std.proofs.Common.{◌≡◌, slice_index, sym, ap, ◌∙◌}
+use Rattle.std.proofs.Common.{slice_index, sym, ap, ◌∙◌}
 use Rattle.saphyr_input.specs.Indicators.{backslash}
 use Rattle.saphyr_values.specs.Escapes.{short_escape, digit_count}
 use Rattle.saphyr_scalar.specs.Views.Cursor.{Cursor}

@@ -1,13 +1,13 @@
 use Rattle.std.proofs.Common.{arith}
 use Rattle.saphyr_scalar.specs.Views.Reader.{cursor_of}
-use Rattle.saphyr_scalar.proofs.Properties.ByteSteps.{trailing_on, trailing_small}
+use Rattle.saphyr_scalar.proofs.Properties.ByteSteps.{byte_grows, grown_small}
 use Rattle.saphyr_scalar.proofs.scalar.reader.Reader.read_trailing_byte.Goals as goal
 
 pub returns-in-128-to-191-clause-value : goal.returns-in-128-to-191-clause-value
 returns-in-128-to-191-clause-value g c =
-    trailing_on c.args.start c.args.value c.in_ok-byte.byte (cursor_of c.args.self.now)
+    byte_grows c.args.start c.args.value c.in_ok-byte.byte (cursor_of c.args.self.now)
     (cursor_of c.read_escaped_byte.new.self) c.in_ok-byte.ensures.value (omega arith)
     (omega arith)
 
 pub returns-in-128-to-191-clause-small : goal.returns-in-128-to-191-clause-small
-returns-in-128-to-191-clause-small g c = trailing_small c.args.value c.in_ok-byte.byte (omega arith)
+returns-in-128-to-191-clause-small g c = grown_small c.args.value c.in_ok-byte.byte (omega arith)
