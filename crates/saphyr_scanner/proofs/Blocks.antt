@@ -1,5 +1,6 @@
 -- No block collection ends where the innermost does not, and where it does the others end as before.
-use Rattle.std.proofs.Common.{◌≡◌, ℕ, true, false, List, [], ◌∷◌, Option, Some, None, Result, Ok, refl, ◌∙◌, subst, arith, nat_lt}
+use Rattle.std.proofs.Common.{◌≡◌, ◌+◌, ◌<◌, ℕ, Bool, true, false, List, [], ◌∷◌, length, Option, Some, None, Result, Ok, refl, ◌∙◌, subst, arith, nat_lt}
+use Rattle.std.specs.Prelude.{if◌then◌else◌}
 use Rattle.std.proofs.lemmas.Bool.Decides.{nat_tests}
 use Rattle.saphyr_scalar.specs.declared.scalar.fault.Refusal.{Refusal}
 use Rattle.saphyr_scalar.specs.declared.scalar.position.Marker.{Marker}
@@ -33,6 +34,28 @@ others_end column m s t all right ended known =
     let same : end_block m s ≡ t = cc in
     subst (λ (u : State). end_blocks column m u.core.outer_indents u ≡ all) same
     (one_less column m s.core.outer_indents s right refl ∙ known)
+
+-- how many end at most
+abbrev pub most_ends : Option ℕ → State → ℕ
+most_ends column s = length s.core.outer_indents + (if is_right_of column s.core.indent then 1 else 0)
+
+one_fewer : (column : Option ℕ) (m : Marker) (is : List ℕ) (s : State) → is_right_of column s.core.indent ≡ true
+    → s.core.outer_indents ≡ is → most_ends column (end_block m s) < most_ends column s
+one_fewer None m [] s right outer = rw (right, outer) (omega arith)
+one_fewer (Some k) m [] s right outer =
+    let none : nat_lt k 0 ≡ false = grind (arith, nat_tests) in rw (right, outer, none) (omega arith)
+one_fewer column m (i ∷ is) s right outer = rw (right, outer) (at_most_one (is_right_of column i))
+  where
+    at_most_one : (b : Bool) → length is + (if b then 1 else 0) < length (i ∷ is) + 1
+    at_most_one true = omega arith
+    at_most_one false = omega arith
+
+pub fewer_end : (column : Option ℕ) (m : Marker) (s t : State) → is_right_of column s.core.indent ≡ true
+    → left (end_block m s) ≡ Ok t → most_ends column t < most_ends column s
+fewer_end column m s t right ended =
+    let same : end_block m s ≡ t = cc in
+    subst (λ (u : State). most_ends column u < most_ends column s) same
+    (one_fewer column m s.core.outer_indents s right refl)
 
 -- The text stays as it is.
 outer_indent_cursor : (is : List ℕ) (c : Core) → (with_outer_indent is c).cursor ≡ c.cursor
