@@ -10,7 +10,7 @@ use saphyr_scalar::scalar::TagParts;
 use saphyr_scalar::{Marker, ScalarStyle, Span};
 
 /// The handle of a tag directive, and its prefix.
-#[derive(Clone, Debug, PartialEq, Eq, Drop)]
+#[derive(Clone, Debug, Drop)]
 pub struct TagPrefix {
     pub handle: String,
     pub prefix: String,
@@ -21,7 +21,7 @@ pub struct TagPrefix {
 /// A tag and a tag directive have the handle as it is written, which is empty for `!` and
 /// `!<uri>`. Percent escapes in suffixes and prefixes are decoded. Both are boxed to keep tokens
 /// small, since many may be held.
-#[derive(Debug, PartialEq, Eq, Drop)]
+#[derive(Debug, Drop)]
 pub enum TokenType {
     StreamStart,
     StreamEnd,
@@ -55,7 +55,7 @@ pub enum TokenType {
 }
 
 /// A token and its place.
-#[derive(Debug, PartialEq, Eq, Drop)]
+#[derive(Debug, Drop)]
 pub struct Token {
     pub span: Span,
     pub kind: TokenType,
