@@ -28,15 +28,16 @@ no_gap : (c : Core) → may_begin (slice_index c.cursor.rest 0) ≡ true → c.c
 unfolding pass_gap check_comment
 no_gap c begins none =
     let x = slice_index c.cursor.rest 0 in
-    let gap = nothing_passed (least_column c) c.cursor c.cursor x refl refl (is_no_blank x begins) (is_no_break x begins)
-    (is_no_sign x begins) in
+    let gap = nothing_passed (least_column c) c.cursor c.cursor x refl refl
+    (is_no_blank x begins) (is_no_break x begins) (is_no_sign x begins) in
     rw (gap, none) refl
 
 kept_key : (c : Core) → (in_block c && is_too_far c.level.key c.cursor.mark) ≡ false → drop_far_key c ≡ Ok c
 unfolding drop_far_key
 kept_key c near = rw near refl
 
-kept_deeper : (deeper : Bool) (i k : ℕ) → nat_lt k (if deeper then i else i - 1) ≡ false → (deeper && nat_le i k) ≡ deeper
+kept_deeper : (deeper : Bool) (i k : ℕ) → nat_lt k (if deeper then i else i - 1) ≡ false
+    → (deeper && nat_le i k) ≡ deeper
 kept_deeper true i k e = grind (arith, nat_tests)
 kept_deeper false i k e = refl
 

@@ -86,8 +86,8 @@ impl<T: Input> Scanner<T> {
         self.engine.take_into(token)
     }
 
-    /// Puts a token after all that come, where all tokens of the text were read. So a scanner of an empty text, once its
-    /// two tokens were handed out, is a queue of tokens. `false`: there are others, and the token is dropped.
+    /// Puts a token after all that come, where all tokens of the text were read. So a scanner of an empty text, once
+    /// its two tokens were handed out, is a queue of tokens. `false`: there are others, and the token is dropped.
     pub fn give(&mut self, token: Token) -> Result<bool, AllocError>
         ensures { IfOk result (λ given. GivesLast given (piece token) self.old self.new) }
     {

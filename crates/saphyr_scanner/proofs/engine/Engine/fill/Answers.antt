@@ -24,7 +24,8 @@ returns g c =
     let same = filled_from c.args.limit _ _ dropped in
     elim c.else-needs_token.branch [
       | else-needs_token-via-then-needs_token+else-not-reads_on w ↦
-          let filled : fill c.args.limit (state c.lets_far_key_go.new.self) ≡ Ok (state c.else-needs_token.self) = search rules in
+          let filled : fill c.args.limit (state c.lets_far_key_go.new.self) ≡ Ok (state c.else-needs_token.self) =
+          search rules in
           sym same ∙ filled
       | else-needs_token-via-else-needs_token w ↦
           let none : needs_token (state c.lets_far_key_go.new.self) ≡ false = search rules in

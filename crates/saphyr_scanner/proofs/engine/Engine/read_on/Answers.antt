@@ -20,7 +20,8 @@ returns-then-not-needs_token g c =
     let none : needs_token (state c.drop_far_key.new.self) ≡ false = search rules in
     sym (sym (filled_in_at_once c.args.limit _ none)
     ∙ fetched_is_one_more c.takes_characters_off.ensures c.args.limit _ _ c.loop-self.invariant.needed
-    (read_is c.args.limit _ _ _ (c.in_ok-fetch_within.ensures) (c.in_ok-drop_far_key.ensures)) ∙ c.loop-self.invariant.same)
+    (read_is c.args.limit _ _ _ (c.in_ok-fetch_within.ensures) (c.in_ok-drop_far_key.ensures))
+    ∙ c.loop-self.invariant.same)
 
 pub loop-self-preserved : goal.loop-self-preserved
 loop-self-preserved g c =
