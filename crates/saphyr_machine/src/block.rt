@@ -23,8 +23,7 @@ impl<T: Input> Machine<T> {
         ensures { TellsBy spec.block_node self.old result next.new self.new }
     {
         let token = self.take()?;
-        self.node(NodeContext::Block, token, next)?;
-        Ok(())
+        self.node(NodeContext::Block, token, next)
     }
 
     // An entry of a block sequence, or its end.

@@ -1,6 +1,6 @@
 //! One step of the machine: the next event, by the machine's state, or the fault in its place.
 
-ghost use Rattle.std.specs.Prelude.{◌≡◌, ◌≢◌, ◌↔◌, IsTrue, false};
+ghost use Rattle.std.specs.Prelude.{◌≡◌, ◌≢◌, false};
 ghost use Rattle.saphyr_machine.specs.Steps.Expected as spec;
 
 use crate::event::Event;
@@ -20,13 +20,6 @@ impl<T: Input> Machine<T> {
     ghost use Rattle.saphyr_machine.specs.Calls.{Reads, item_at};
     ghost use Rattle.saphyr_machine.specs.Faults.{IsFaultOf, is_foreign};
     ghost use Rattle.saphyr_machine.specs.declared.state.State.TheVariants.{End};
-
-    // Whether the end of the stream was reached.
-    pub(super) fn is_done(&self) -> bool
-        ensures { IsTrue result ↔ ((machine_of self.now).state ≡ End) }
-    {
-        matches!(self.state, State::End)
-    }
 
     // The fault in place of an event.
     #[inline(never)]
@@ -75,7 +68,7 @@ impl<T: Input> Machine<T> {
             (machine_of self.new) }
         ensures own { is_foreign (item_at next.new fault.new result) ≡ false }
     {
-        if self.is_done() {
+        if matches!(self.state, State::End) {
             return Progress::Over;
         }
         self.give_back(&mut next.0);
@@ -88,7 +81,8 @@ impl<T: Input> Machine<T> {
         }
     }
 
-    // The next event, which is written into its place.
+    // The next event, which is written into its place. The states that are rarely expected return the result of their
+    // function as it is.
     #[inline(never)]
     #[tactic(auto, unfolding(crate::specs::Steps::Expected::event_step))]
     pub(super) fn event<'input>(&mut self, next: &mut (Event<'input>, Span)) -> Result<(), Stop>
@@ -96,27 +90,29 @@ impl<T: Input> Machine<T> {
         ensures { TellsBy spec.event_step self.old result next.new self.new }
     {
         match self.state {
-            State::StreamStart => self.stream_start(next)?,
-            State::ImplicitDocumentStart => self.implicit_document_start(next)?,
-            State::DocumentStart => self.document_start(next)?,
-            State::DocumentContent => self.document_content(next)?,
-            State::DocumentEnd => self.document_end(next)?,
-            State::BlockNode => self.block_node(next)?,
+            State::StreamStart => return self.stream_start(next),
+            State::ImplicitDocumentStart => return self.implicit_document_start(next),
+            State::DocumentStart => return self.document_start(next),
+            State::DocumentContent => return self.document_content(next),
+            State::DocumentEnd => return self.document_end(next),
+            State::BlockNode => return self.block_node(next),
             State::BlockSequenceEntry => self.block_sequence_entry(next)?,
             State::IndentlessSequenceEntry => self.indentless_sequence_entry(next)?,
             State::BlockMappingKey => self.block_mapping_key(next)?,
             State::BlockMappingValue => self.block_mapping_value(next)?,
             State::FlowSequenceFirstEntry => self.flow_sequence_first_entry(next)?,
             State::FlowSequenceEntry => self.flow_sequence_entry(next)?,
-            State::FlowSequenceEntryMappingKey => self.flow_sequence_entry_mapping_key(next)?,
-            State::FlowSequenceEntryMappingValue => self.flow_sequence_entry_mapping_value(next)?,
+            State::FlowSequenceEntryMappingKey => return self.flow_sequence_entry_mapping_key(next),
+            State::FlowSequenceEntryMappingValue => return self.flow_sequence_entry_mapping_value(
+                next,
+            ),
             State::FlowSequenceEntryMappingEnd(place) => {
                 self.flow_sequence_entry_mapping_end(place, next)
             }
             State::FlowMappingFirstKey => self.flow_mapping_first_key(next)?,
             State::FlowMappingKey => self.flow_mapping_key(next)?,
             State::FlowMappingValue => self.flow_mapping_value(next)?,
-            State::FlowMappingEmptyValue => self.flow_mapping_empty_value(next)?,
+            State::FlowMappingEmptyValue => return self.flow_mapping_empty_value(next),
             State::End => unreachable!(),
         }
         Ok(())
