@@ -16,16 +16,15 @@ use saphyr_scalar::{FaultText, Marker, Span, Stop};
 use saphyr_scanner::{TagPrefix, Token, TokenType};
 use std::alloc::Global;
 
-fn is_mark(kind: &TokenType) -> bool
-    ensures { result ≡ spec.is_mark (kind_of kind.now) }
+// Whether a token of the kind is passed: a byte order mark or, where this is true, the end of a document.
+fn is_passable(kind: &TokenType, ends: bool) -> bool
+    ensures { result ≡ spec.is_passable ends (kind_of kind.now) }
 {
-    matches!(kind, TokenType::ByteOrderMark)
-}
-
-fn is_end_or_mark(kind: &TokenType) -> bool
-    ensures { result ≡ spec.is_end_or_mark (kind_of kind.now) }
-{
-    matches!(kind, TokenType::DocumentEnd | TokenType::ByteOrderMark)
+    match kind {
+        TokenType::ByteOrderMark => true,
+        TokenType::DocumentEnd => ends,
+        _ => false,
+    }
 }
 
 fn is_directive(kind: &TokenType) -> bool
@@ -98,28 +97,14 @@ impl<T: Input> Machine<T> {
     ghost use Rattle.saphyr_machine.specs.declared.state.State.TheVariants.{DocumentEnd};
     ghost use Rattle.saphyr_machine.specs.Views.Documents.{declared_of as seen};
 
-    // Takes the first token after ends of documents and byte order marks.
-    fn pass_ends(&mut self) -> Result<Token, Stop>
-        ensures taken { TakesBy (spec.unpassed_token spec.is_end_or_mark) self.old result self.new }
+    // Takes the first token after byte order marks and, where this is true, ends of documents.
+    fn pass_marks(&mut self, ends: bool) -> Result<Token, Stop>
+        ensures taken { TakesBy (spec.unpassed_token (spec.is_passable ends)) self.old result self.new }
         ensures room { IfOk result (λ t. self.new.token ≡ None) }
     {
         loop {
             let token = self.take()?;
-            if !is_end_or_mark(&token.kind) {
-                return Ok(token);
-            }
-            let _ = place_of(token);
-        }
-    }
-
-    // Takes the first token after byte order marks.
-    fn pass_marks(&mut self) -> Result<Token, Stop>
-        ensures taken { TakesBy (spec.unpassed_token spec.is_mark) self.old result self.new }
-        ensures room { IfOk result (λ t. self.new.token ≡ None) }
-    {
-        loop {
-            let token = self.take()?;
-            if !is_mark(&token.kind) {
+            if !is_passable(&token.kind, ends) {
                 return Ok(token);
             }
             let _ = place_of(token);
@@ -273,7 +258,7 @@ impl<T: Input> Machine<T> {
     ) -> Result<(), Stop>
         ensures { TellsBy spec.implicit_start self.old result next.new self.new }
     {
-        let token = self.pass_ends()?;
+        let token = self.pass_marks(true)?;
         match token.kind {
             TokenType::StreamEnd => {
                 self.state = State::End;
@@ -296,7 +281,7 @@ impl<T: Input> Machine<T> {
     ) -> Result<(), Stop>
         ensures { TellsBy spec.explicit_start self.old result next.new self.new }
     {
-        let token = self.pass_ends()?;
+        let token = self.pass_marks(true)?;
         match token.kind {
             TokenType::StreamEnd => {
                 self.state = State::End;
@@ -341,7 +326,7 @@ impl<T: Input> Machine<T> {
         ensures taken { TakesBy (spec.token_behind_marks first) self.old result self.new }
         ensures room { IfOk result (λ t. self.new.token ≡ None) }
     {
-        let token = self.pass_marks()?;
+        let token = self.pass_marks(false)?;
         match token.kind {
             TokenType::DocumentStart | TokenType::DocumentEnd | TokenType::StreamEnd => Ok(token),
             _ => {

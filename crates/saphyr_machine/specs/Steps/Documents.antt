@@ -25,6 +25,11 @@ is_end_or_mark tokens.DocumentEnd = true
 is_end_or_mark tokens.ByteOrderMark = true
 is_end_or_mark _ = false
 
+-- ends of documents are passed where this is true
+abbrev pub is_passable : Bool → Kind → Bool
+is_passable true = is_end_or_mark
+is_passable false = is_mark
+
 abbrev pub unpassed_token_from : (Kind → Bool) → List Piece → Machine → Result (Piece × Machine) Refusal
 unpassed_token_from passed [] m = Err (ending_refusal m.tokens.refusal)
 unpassed_token_from passed (t ∷ ts) m =

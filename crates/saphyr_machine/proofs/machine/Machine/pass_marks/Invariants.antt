@@ -1,10 +1,10 @@
 use Rattle.std.proofs.Common.{◌≡◌, length}
-use Rattle.saphyr_machine.specs.Steps.Documents.{unpassed_token, is_mark}
+use Rattle.saphyr_machine.specs.Steps.Documents.{unpassed_token, is_passable}
 use Rattle.saphyr_machine.specs.Views.Machines.{machine_of}
 use Rattle.saphyr_machine.proofs.machine.Machine.pass_marks.Given as goal
 
 abbrev pub invariant-loop-token : goal.invariant-loop-token
-invariant-loop-token g l = unpassed_token is_mark (machine_of l.self) ≡ unpassed_token is_mark (machine_of l.fn.self)
+invariant-loop-token g l = unpassed_token (is_passable l.fn.ends) (machine_of l.self) ≡ unpassed_token (is_passable l.fn.ends) (machine_of l.fn.self)
 
 abbrev pub decreases-loop-token : goal.decreases-loop-token
 decreases-loop-token g l = length (machine_of l.self).tokens.pieces
