@@ -6,6 +6,7 @@ use Rattle.std.specs.BTreeMap.{BTreeMap, IsClone}
 use Rattle.saphyr_scanner.specs.declared.token.Token.{Token}
 use Rattle.saphyr_scanner.specs.Views.Tokens.{Remaining, Piece, piece, before}
 use Rattle.saphyr_machine.specs.Names.{ids_of, texts_of}
+use Rattle.saphyr_machine.specs.Cursor.{EventCursor}
 use Rattle.saphyr_machine.specs.Views.Machines.{with_token_ahead}
 use Rattle.saphyr_machine.proofs.Names.{seen}
 
@@ -43,3 +44,15 @@ pub ahead_copied : (s t : Option Token) (q r : Remaining) → option_map piece s
 ahead_copied s t q r e f =
     ahead_seen s q ∙ ap (λ (p : Option Piece). ahead_of p q) e
     ∙ ap (λ (rest : Remaining). ahead_of (option_map piece t) rest) f ∙ sym (ahead_seen t r)
+
+-- ## A reader, part by part
+
+pub same_reader : (c d : EventCursor) → c.current ≡ d.current → c.kept ≡ d.kept → c.machine ≡ d.machine
+    → c.inside ≡ d.inside → c.finished ≡ d.finished → c ≡ d
+same_reader c d current kept machine inside finished = λ i. record {
+  current = current i;
+  kept = kept i;
+  machine = machine i;
+  inside = inside i;
+  finished = finished i;
+}
