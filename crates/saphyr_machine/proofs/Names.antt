@@ -1,5 +1,5 @@
 -- Maps from texts, as lists of names.
-use Rattle.std.proofs.Common.{◌≡◌, arith, ℕ, length, List, [], ◌∷◌, Option, Some, None, refl, sym, ap, ◌∙◌, cond, Bool, true, false, true≢false, ◌||◌, nat_eq, ◌+◌, ◌<◌, ◌++◌, take, get_or}
+use Rattle.std.proofs.Common.{◌≡◌, arith, ℕ, length, List, [], ◌∷◌, Option, Some, None, Result, Ok, refl, sym, ap, ◌∙◌, cond, Bool, true, false, true≢false, ◌||◌, nat_eq, ◌+◌, ◌<◌, ◌++◌, take, get_or}
 use Rattle.std.specs.Prelude.{map, String, string_bytes, string_cmp, option_map, is_some}
 use Rattle.std.specs.BTreeMap.{BTreeMap, get_by, insert_entry, is_at}
 use Rattle.std.specs.BTreeSet.{BTreeSet, contains_by, insert_key}
@@ -13,7 +13,8 @@ use Rattle.std.specs.Map.{lookup, keys_of}
 use Rattle.std.specs.Ordering.{nat_cmp, match_ordering, is_eq}
 use Rattle.std.specs.declared.cmp.Ordering.{Ordering}
 use Rattle.std.specs.declared.cmp.Ordering.TheVariants.{Less, Equal, Greater}
-use Rattle.saphyr_machine.specs.Steps.Machine.{Names, meaning, with_meaning, is_listed, with_name}
+use Rattle.saphyr_scalar.specs.declared.scalar.fault.Refusal.{Refusal}
+use Rattle.saphyr_machine.specs.Steps.Machine.{Names, Anchors, meaning, with_meaning, is_listed, with_name, next_id, with_anchor}
 use Rattle.saphyr_machine.specs.Names.{ids_of, with_recent, texts_of, names_of}
 
 abbrev pub seen : {A X Z : Type 0} → (X → Z) → List (String A × X) → Names Z
@@ -108,6 +109,20 @@ one_more {A} name names recent n e same h is c =
     ∙ meaning_with name (string_bytes e.0) e.1 (with_recent (take n recent) names)
     ∙ ap (λ (b : Bool). cond b (Some e.1) (meaning name (with_recent (take n recent) names)))
     (is_eq-slice_cmp name (string_bytes e.0) ∙ sym c)
+
+-- a name that is noted behind the recent ones has its id
+pub registered : {A : Type 0} (a : Anchors) (es fs : List (String A × ℕ)) (ids : Names ℕ) (id : ℕ) (name : String A)
+    → with_recent es ids ≡ a.ids → id ≡ next_id a → fs ≡ es ++ ((name, id) ∷ [])
+    → (let r : Result (ℕ × Anchors) Refusal = Ok (next_id a, with_anchor (string_bytes name) a) in r)
+    ≡ Ok (id, record { ids = with_recent fs ids; last = id })
+registered {A} a es fs ids id name before next more =
+    let bytes : List ℕ = string_bytes name in
+    let names : with_meaning bytes (next_id a) a.ids ≡ with_recent fs ids =
+    ap (λ (n : ℕ). with_meaning bytes n a.ids) (sym next)
+    ∙ ap (λ (ns : Names ℕ). with_meaning bytes id ns) (sym before)
+    ∙ sym (fold-append _ ids es ((name, id) ∷ []))
+    ∙ ap (λ (xs : List (String A × ℕ)). with_recent xs ids) (sym more) in
+    λ i. Ok (sym next i, record { ids = names i; last = sym next i })
 
 pub recent_copied : {A : Type 0} (names : Names ℕ) (es fs : List (String A × ℕ))
     → AllZip (λ (p q : String A × ℕ). (string_bytes q.0 ≡ string_bytes p.0) × (q.1 ≡ p.1)) es fs

@@ -103,8 +103,8 @@ impl<'input, T: Input> EventReader<'input, T> {
             × (cursor self.new ≡ cursor self.old) }
         ensures between { (cursor self.old).kept ≡ None → (cursor self.old).finished ≡ None
             → (cursor self.old).inside ≡ false
-            → spec.Loads R.receives result (spec.portion_to_send multi (cursor self.old)) (cursor self.old)
-            recv.old recv.new (cursor self.new) }
+            → spec.Loads R.receives result (spec.portion_to_send multi (cursor self.old))
+            (cursor self.old) recv.old recv.new (cursor self.new) }
     {
         self.told_fault()?;
         if let Some(span) = self.finished {

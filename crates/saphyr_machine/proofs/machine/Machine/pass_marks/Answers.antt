@@ -7,20 +7,20 @@ use Rattle.saphyr_machine.proofs.machine.Machine.pass_marks.Goals as goal
 
 pub returns-in_err-token-clause-taken : goal.returns-in_err-token-clause-taken
 returns-in_err-token-clause-taken g c =
-    let failed = fails_at (is_passable c.args.ends) (machine_of c.args.self.now) (machine_of c.loop-token.self) c.in_err-token.field-0.0
-    c.loop-token.invariant c.in_err-token.ensures.taken in search rules
+    let failed = fails_at (is_passable c.args.ends) (machine_of c.args.self.now) (machine_of c.loop-token.self)
+    c.in_err-token.field-0.0 c.loop-token.invariant c.in_err-token.ensures.taken in search rules
 
 pub returns-then-not-is_passable-clause-taken : goal.returns-then-not-is_passable-clause-taken
 returns-then-not-is_passable-clause-taken g c =
-    stops_at (is_passable c.args.ends) (machine_of c.args.self.now) (machine_of c.loop-token.self) (machine_of c.take.new.self)
-    (piece c.in_ok-token.token) _ c.loop-token.invariant c.in_ok-token.ensures.taken c.is_passable.ensures
-    c.if-not-is_passable.true
+    stops_at (is_passable c.args.ends) (machine_of c.args.self.now) (machine_of c.loop-token.self)
+    (machine_of c.take.new.self) (piece c.in_ok-token.token) _ c.loop-token.invariant c.in_ok-token.ensures.taken
+    c.is_passable.ensures c.if-not-is_passable.true
 
 pub loop-token-preserved : goal.loop-token-preserved
 loop-token-preserved g c =
-    passes_on (is_passable c.args.ends) (machine_of c.args.self.now) (machine_of c.loop-token.self) (machine_of c.take.new.self)
-    (piece c.in_ok-token.token) _ c.loop-token.invariant c.in_ok-token.ensures.taken c.is_passable.ensures
-    c.if-not-is_passable.false
+    passes_on (is_passable c.args.ends) (machine_of c.args.self.now) (machine_of c.loop-token.self)
+    (machine_of c.take.new.self) (piece c.in_ok-token.token) _ c.loop-token.invariant c.in_ok-token.ensures.taken
+    c.is_passable.ensures c.if-not-is_passable.false
 
 pub loop-token-smaller : goal.loop-token-smaller
 loop-token-smaller g c =
