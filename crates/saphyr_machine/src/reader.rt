@@ -27,7 +27,6 @@ pub fn no_event<'input>() -> (Event<'input>, Span) {
 }
 
 /// A machine, with what was read ahead and what is remembered of the events that were handed out.
-#[derive(Drop)]
 pub struct EventReader<'input, T: Input> {
     pub(super) machine: Machine<T>,
     // An event that was read and not yet handed out.
@@ -37,6 +36,20 @@ pub struct EventReader<'input, T: Input> {
     pub(super) inside: bool,
     // The span of the stream's end, once that was handed out.
     pub(super) finished: Option<Span>,
+}
+
+// Written out, so that whoever drops a reader calls it. A derived one, with those of all inner types, would be copied
+// to each place where a reader is dropped, and checked there.
+impl<T: Input + Drop> Drop for EventReader<'_, T> {
+    fn drop(self) {
+        let EventReader {
+            machine: _machine,
+            current: _current,
+            kept: _kept,
+            inside: _inside,
+            finished: _finished,
+        } = self;
+    }
 }
 
 impl<'input, T: Input> EventReader<'input, T> {

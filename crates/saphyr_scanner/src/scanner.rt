@@ -18,10 +18,20 @@ use std::marker::Model;
 ///
 /// Contracts see a scanner as the tokens that are still to come, and the refusal after them, if one
 /// ends them.
-#[derive(Drop)]
 pub struct Scanner<T: Input> {
     engine: Engine<T>,
     limit: usize,
+}
+
+// Written out, so that whoever drops a scanner calls it. A derived one, with those of all inner types, would be copied
+// to each place where a scanner is dropped, and checked there.
+impl<T: Input + Drop> Drop for Scanner<T> {
+    fn drop(self) {
+        let Scanner {
+            engine: _engine,
+            limit: _limit,
+        } = self;
+    }
 }
 
 impl<T: Input> Model for Scanner<T> {

@@ -17,10 +17,19 @@ use std::marker::Model;
 /// that were read, and may give it the rest of the text anew between two calls.
 ///
 /// Contracts see its state, and the limit of the text's characters.
-#[derive(Drop)]
 pub struct StepScanner<T: Input> {
     engine: Engine<T>,
     limit: usize,
+}
+
+// Written out, so that whoever drops a scanner calls it.
+impl<T: Input + Drop> Drop for StepScanner<T> {
+    fn drop(self) {
+        let StepScanner {
+            engine: _engine,
+            limit: _limit,
+        } = self;
+    }
 }
 
 impl<T: Input> Model for StepScanner<T> {
@@ -94,9 +103,10 @@ impl<T: Input> StepScanner<T> {
         ensures state { result.state ≡ spec.with_rest (U.rest input) self.state }
         ensures limit { result.limit ≡ self.limit }
     {
+        let StepScanner { engine, limit } = self;
         StepScanner {
-            engine: self.engine.over(input),
-            limit: self.limit,
+            engine: engine.over(input),
+            limit,
         }
     }
 }
