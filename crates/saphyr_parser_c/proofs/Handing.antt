@@ -21,7 +21,7 @@ use Rattle.saphyr_parser_c.specs.declared.source.Source.{Source}
 use Rattle.saphyr_parser_c.specs.declared.source.Source.TheVariants as source
 use Rattle.saphyr_parser_c.specs.declared.status.Status.{Status}
 use Rattle.saphyr_parser_c.specs.declared.status.Status.TheVariants as status
-use Rattle.saphyr_parser_c.specs.Coming.{place}
+use Rattle.saphyr_parser_c.specs.Coming.{at_bytes}
 use Rattle.saphyr_parser_c.specs.Inner.{HandsFrom, HandsOfComing, HandsOfPieces, HandsToC, HasSameBytes, IsAt, IsAtFrom, IsSameItem, ShowsFrom, ShowsOfComing, ShowsOfPieces, ShowsToC, TellsKept, Waits, WaitsForMore, handed}
 use Rattle.saphyr_parser_c.specs.Same.{IsSameFault}
 use Rattle.saphyr_parser_c.specs.Shown.{TellsC}
@@ -130,14 +130,14 @@ hands_whole before after s c old new next f p from hands gives over told =
 -- ## A text that comes in pieces
 
 same_place : (old new : Coming) → HasSameBytes old new → (later : List ℕ)
-    → place new later ≡ at new.parser (chars (old.waiting.items ++ later))
-same_place old new same later = ap (λ (n : Coming). place n later) same
+    → at_bytes new later ≡ at new.parser (chars (old.waiting.items ++ later))
+same_place old new same later = ap (λ (n : Coming). at_bytes n later) same
 
 gives_place : (item : Item) (old new : Coming) → HasSameBytes old new
     → ((later : List ℕ) → GivesNext item (at old.parser later) (at new.parser later))
-    → (later : List ℕ) → GivesNext item (place old later) (place new later)
+    → (later : List ℕ) → GivesNext item (at_bytes old later) (at_bytes new later)
 gives_place item old new same gives later =
-    subst (GivesNext item (place old later)) (sym (same_place old new same later))
+    subst (GivesNext item (at_bytes old later)) (sym (same_place old new same later))
     (gives (chars (old.waiting.items ++ later)))
 
 as_hands : (before after : Inner) (s : Status) (c : CEvent) (old new : Coming) → TellsC (handed after) s c
@@ -162,7 +162,7 @@ hands_shown before after s c old from shown told =
       told.others.0,
       refl,
       as_hands before after s c old old told.tells (record {
-        gives = λ later here is. gives_same (handed before) (handed after) here (place old later) told.same
+        gives = λ later here is. gives_same (handed before) (handed after) here (at_bytes old later) told.same
             (subst (λ (b : Bool). IsAtFrom b old before later here) shown is);
         shown = told.others.1;
         tells = told.tells;
@@ -180,7 +180,7 @@ shows_shown before after s c old from shown told =
       refl,
       as_shows before after s c old old told.tells (record {
         place = λ later here is. subst (λ (b : Bool). IsAtFrom b old after later here) (sym (told.others.1 ∙ shown))
-            (gives_same (handed before) (handed after) here (place old later) told.same
+            (gives_same (handed before) (handed after) here (at_bytes old later) told.same
             (subst (λ (b : Bool). IsAtFrom b old before later here) shown is));
         shown = told.others.1 ∙ shown;
         tells = told.tells;
@@ -194,10 +194,10 @@ module _ (before : Inner) (s : Status) (c : CEvent) (old new : Coming) (next : E
 
   behind : (p : Progress) (b : Bool) (after : Inner) → HandsOutOrWaits (Some p) next f old.parser new.parser
       → TellsKept (read p b) s c after → (later : List ℕ) (here : EventCursor) → IsAt old before later here
-      → GivesNext (handed after) here (place new later)
+      → GivesNext (handed after) here (at_bytes new later)
   behind p b after hands told later here is =
-      gives_same (item_at next f p) (handed after) here (place new later) told.same
-      (subst (λ (x : EventCursor). GivesNext (item_at next f p) x (place new later))
+      gives_same (item_at next f p) (handed after) here (at_bytes new later) told.same
+      (subst (λ (x : EventCursor). GivesNext (item_at next f p) x (at_bytes new later))
       (subst (λ (b : Bool). IsAtFrom b old before later here) shown is)
       (gives_place (item_at next f p) old new same hands later))
 
@@ -247,30 +247,30 @@ module _ (before : Inner) (s : Status) (c : CEvent) (old new : Coming) (next : E
         ∙ subst (λ (b : Bool). IsAtFrom b old before later here) shown is);
   }
 
-  -- it waits in place of handing out
+  -- it waits in place of handing out or showing
+  none_comes : (Of : Status → CEvent → Coming → Inner → Coming → Inner → Type 0) (after : Inner)
+      → HandsOutOrWaits None next f old.parser new.parser → Waits (read before.progress before.shown) s c after
+      → (WaitsForMore old before status.More c new (read progress.Over before.shown)
+      → Of status.More c old before new (read progress.Over before.shown))
+      → (n : Coming) × (after.source ≡ source.Pieces n) × HasSameBytes old n × Of s c old before n after
+  none_comes Of after hands waits is =
+      subst (λ (a : Inner). (n : Coming) × (a.source ≡ source.Pieces n) × HasSameBytes old n × Of s c old before n a)
+      (sym waits.2) (
+        new,
+        refl,
+        same,
+        subst (λ (s : Status). Of s c old before new (read progress.Over before.shown)) (sym waits.0)
+            (is (waiting after hands waits)),
+      )
+
   pub hands_none : (after : Inner) → HandsOutOrWaits None next f old.parser new.parser
       → Waits (read before.progress before.shown) s c after → HandsToC before s c after
   hands_none after hands waits =
       subst (λ (x : Source). HandsFrom x before s c after) (sym from)
-      (subst (HandsFrom (source.Pieces old) before s c) (sym waits.2) (
-        new,
-        refl,
-        same,
-        subst
-            (λ (s : Status). HandsOfComing s c old before new (read progress.Over before.shown)) (sym waits.0)
-            (waiting after hands waits),
-      ))
+      (none_comes HandsOfComing after hands waits (λ w. w))
 
-  -- it waits in place of showing
   pub shows_none : (after : Inner) → HandsOutOrWaits None next f old.parser new.parser
       → Waits (read before.progress before.shown) s c after → ShowsToC before s c after
   shows_none after hands waits =
       subst (λ (x : Source). ShowsFrom x before s c after) (sym from)
-      (subst (ShowsFrom (source.Pieces old) before s c) (sym waits.2) (
-        new,
-        refl,
-        same,
-        subst
-            (λ (s : Status). ShowsOfComing s c old before new (read progress.Over before.shown)) (sym waits.0)
-            (waiting after hands waits),
-      ))
+      (none_comes ShowsOfComing after hands waits (λ w. w))

@@ -7,7 +7,7 @@ use Rattle.saphyr_parser_c.specs.declared.coming.Coming.{Coming}
 use Rattle.saphyr_parser_c.specs.declared.inner.Inner.{Inner}
 use Rattle.saphyr_parser_c.specs.declared.source.Source.{Source}
 use Rattle.saphyr_parser_c.specs.declared.source.Source.TheVariants as source
-use Rattle.saphyr_parser_c.specs.Coming.{IsOfNothing, place}
+use Rattle.saphyr_parser_c.specs.Coming.{IsOfNothing, at_bytes}
 use Rattle.saphyr_parser_c.specs.Coming.{IsCopyOfPieces}
 use Rattle.saphyr_parser_c.specs.Inner.{HasSameBytes, IsCopyOfParser, IsFresh, IsOfPieces, IsShownCopy, IsSourceCopy, KeepsFrom}
 
@@ -18,7 +18,7 @@ made_of_pieces keep coming inner nothing is fresh =
 
 pub place_kept : (keep : Bool) (old new : Coming)
     → ((later : List ℕ) → at new.parser later ≡ keeping_tags keep (at old.parser later)) → HasSameBytes old new
-    → (later : List ℕ) → place new later ≡ keeping_tags keep (place old later)
+    → (later : List ℕ) → at_bytes new later ≡ keeping_tags keep (at_bytes old later)
 place_kept keep old new kept same later =
     ap (λ (c : Coming). at new.parser (chars (c.waiting.items ++ later))) same
     ∙ kept (chars (old.waiting.items ++ later))

@@ -13,13 +13,13 @@ use Rattle.saphyr_parser_c.specs.declared.status.Status.TheVariants as status
 use Rattle.saphyr_parser_c.specs.Encoding.{BeginsAsUtf16, IsCutCharacter, IsUtf8SoFar}
 
 -- Where the parser is in the events of the whole text, if these bytes come after those that came.
-abbrev pub place : Coming → List ℕ → EventCursor
-place c later = at c.parser (chars (c.waiting.items ++ later))
+abbrev pub at_bytes : Coming → List ℕ → EventCursor
+at_bytes c later = at c.parser (chars (c.waiting.items ++ later))
 
 -- nothing came: whatever comes, it is the parser of that
 abbrev pub IsOfNothing : Bool → Coming → Type 0
 IsOfNothing keep c =
-    ((later : List ℕ) → place c later ≡ keeping_tags keep (at_start (scan most_characters (chars later))))
+    ((later : List ℕ) → at_bytes c later ≡ keeping_tags keep (at_start (scan most_characters (chars later))))
     × (c.waiting.items ≡ []) × (c.extent ≡ extent.Nothing)
 
 -- Why bytes are refused that come after those that came. The first of a text may be a mark of UTF-16.
@@ -40,7 +40,7 @@ WaitsForRest c = (length c.waiting.items ≤ 3) × IsCutCharacter c.waiting.item
 -- nothing changes. After a want of memory nothing is known of the parser.
 abbrev pub TakesIn : List ℕ → Coming → Status → Coming → Type 0
 TakesIn bytes old status.Done new =
-    ((later : List ℕ) → place new later ≡ at old.parser (chars (bytes ++ later)))
+    ((later : List ℕ) → at_bytes new later ≡ at old.parser (chars (bytes ++ later)))
     × IsUtf8SoFar bytes × WaitsForRest new × (new.extent ≡ extent.Part)
 TakesIn bytes old status.NoMemory new = Unit {0}
 TakesIn bytes old s new = (IsUtf8SoFar bytes → ⊥) × IsRefusal bytes old s × (new ≡ old)
@@ -57,7 +57,7 @@ EndsPieces old s new = (s ≡ status.NotUtf8) × ((old.waiting.items ≡ []) →
 -- refused only if no bytes that may come later make those that wait and these UTF-8, and added only if some do.
 abbrev pub AddsSome : List ℕ → Coming → Status → Coming → Type 0
 AddsSome bytes old status.Done new =
-    ((later : List ℕ) → place new later ≡ place old (bytes ++ later))
+    ((later : List ℕ) → at_bytes new later ≡ at_bytes old (bytes ++ later))
     × IsUtf8SoFar (old.waiting.items ++ bytes) × WaitsForRest new × (new.extent ≡ extent.Part)
 AddsSome bytes old status.NoMemory new = Unit {0}
 AddsSome bytes old s new =

@@ -10,7 +10,7 @@ use Rattle.saphyr_parser_c.specs.declared.status.Status.{Status}
 use Rattle.saphyr_parser_c.specs.declared.status.Status.TheVariants as status
 use Rattle.saphyr_parser_c.specs.Inner as spec
 use Rattle.saphyr_parser_c.specs.Inner.{IsOverText, IsOfPieces, AddsToC, ShowsToC, HandsToC}
-use Rattle.saphyr_parser_c.specs.Shown.{Holds, no_fields, nowhere}
+use Rattle.saphyr_parser_c.specs.Shown.{HasFields, no_fields, nowhere}
 use Rattle.saphyr_parser_c.specs.Status.{code_of}
 
 -- what was taken out of a handle
@@ -22,7 +22,7 @@ IsTakenOut (Some b) held = held ≡ some b.value
 
 -- it stays empty, and no event is told
 abbrev pub TellsNone : ℤ → CEvent → Option Inner → Type 0
-TellsNone code c new = (code ≡ code_of status.NoParser) × Holds no_fields nowhere nowhere c × (new ≡ none)
+TellsNone code c new = (code ≡ code_of status.NoParser) × HasFields no_fields nowhere nowhere c × (new ≡ none)
 
 -- ## Each call
 

@@ -21,11 +21,11 @@ use Rattle.saphyr_parser_c.specs.declared.source.Source.{Source}
 use Rattle.saphyr_parser_c.specs.declared.source.Source.TheVariants as source
 use Rattle.saphyr_parser_c.specs.declared.status.Status.{Status}
 use Rattle.saphyr_parser_c.specs.declared.status.Status.TheVariants as status
-use Rattle.saphyr_parser_c.specs.Coming.{Adds, IsOfNothing, place}
+use Rattle.saphyr_parser_c.specs.Coming.{Adds, IsOfNothing, at_bytes}
 use Rattle.saphyr_parser_c.specs.Coming.{IsCopyOfPieces}
 use Rattle.saphyr_parser_c.specs.Encoding.{BeginsAsUtf16}
 use Rattle.saphyr_parser_c.specs.Same.{IsSameFault}
-use Rattle.saphyr_parser_c.specs.Shown.{Holds, TellsC, TellsLent, no_fields, nowhere}
+use Rattle.saphyr_parser_c.specs.Shown.{HasFields, TellsC, TellsLent, no_fields, nowhere}
 
 -- what was handed out last, which is in the places for an event and for a fault
 abbrev pub handed : Inner → Option (Result (Event × Span) Fault)
@@ -86,8 +86,8 @@ pub record ShowsOfWhole (old new : EventCursor) (s : Status) (c : CEvent) : Type
 -- Where the parser of a text in pieces is in the events of the whole text, if these bytes come later: at this place, or
 -- behind what is there, which was only shown.
 abbrev pub IsAtFrom : Bool → Coming → Inner → List ℕ → EventCursor → Type 0
-IsAtFrom false coming inner later c = place coming later ≡ c
-IsAtFrom true coming inner later c = GivesNext (handed inner) c (place coming later)
+IsAtFrom false coming inner later c = at_bytes coming later ≡ c
+IsAtFrom true coming inner later c = GivesNext (handed inner) c (at_bytes coming later)
 
 abbrev pub IsAt : Coming → Inner → List ℕ → EventCursor → Type 0
 IsAt coming inner later c = IsAtFrom inner.shown coming inner later c
@@ -96,7 +96,7 @@ IsAt coming inner later c = IsAtFrom inner.shown coming inner later c
 pub record WaitsForMore (old : Coming) (before : Inner) (s : Status) (c : CEvent) (new : Coming) (after : Inner)
     : Type 0 where
   pub status : s ≡ status.More
-  pub blank : Holds no_fields nowhere nowhere c
+  pub blank : HasFields no_fields nowhere nowhere c
   pub event : IsFresh after
   pub wants : wants_more new.parser ≡ true
   pub place : (later : List ℕ) (at : EventCursor) → IsAt old before later at → IsAt new after later at
@@ -105,7 +105,7 @@ pub record WaitsForMore (old : Coming) (before : Inner) (s : Status) (c : CEvent
 pub record HandsOfPieces (old : Coming) (before : Inner) (s : Status) (c : CEvent) (new : Coming) (after : Inner)
     : Type 0 where
   pub gives : (later : List ℕ) (at : EventCursor) → IsAt old before later at
-      → GivesNext (handed after) at (place new later)
+      → GivesNext (handed after) at (at_bytes new later)
   pub shown : after.shown ≡ false
   pub tells : TellsC (handed after) s c
 
@@ -190,7 +190,7 @@ abbrev pub KeepsFrom : Source → Bool → Source → Type 0
 KeepsFrom (source.Whole old) keep new = new ≡ source.Whole (keeping_tags keep old)
 KeepsFrom (source.Pieces old) keep new =
     (coming : Coming) × (new ≡ source.Pieces coming) × HasSameBytes old coming
-    × ((later : List ℕ) → place coming later ≡ keeping_tags keep (place old later))
+    × ((later : List ℕ) → at_bytes coming later ≡ keeping_tags keep (at_bytes old later))
 
 -- it has that setting, and nothing else changes
 abbrev pub SetsKeepTags : Bool → Inner → Inner → Type 0
@@ -201,7 +201,7 @@ SetsKeepTags keep before after =
 
 abbrev pub Waits : Inner → Status → CEvent → Inner → Type 0
 Waits before s c after =
-    (s ≡ status.More) × Holds no_fields nowhere nowhere c × (after ≡ record before { progress = progress.Over })
+    (s ≡ status.More) × HasFields no_fields nowhere nowhere c × (after ≡ record before { progress = progress.Over })
 
 -- what is kept is told; its texts may move
 pub record TellsKept (before : Inner) (s : Status) (c : CEvent) (after : Inner) : Type 0 where

@@ -132,21 +132,22 @@ abbrev pub HasTexts : ToldFields → CEvent → Type 0
 HasTexts t c = HasText t.value c.value × HasTagTexts t.tag c
 
 -- each field of the structure
-abbrev pub Holds : ToldFields → Marker → Marker → CEvent → Type 0
-Holds t start end c = HasNumbers t start end c × HasTexts t c
+abbrev pub HasFields : ToldFields → Marker → Marker → CEvent → Type 0
+HasFields t start end c = HasNumbers t start end c × HasTexts t c
 
 -- ## Texts that are kept: C is given the very memory in which they are
 
-abbrev pub StandsAt : Vec ℕ Global → CText → Type 0
-StandsAt bytes c = (c.at ≡ vec_ptr bytes) × (c.len ≡ vec_len bytes)
+abbrev pub BytesStand : Vec ℕ Global → CText → Type 0
+BytesStand bytes c = (c.at ≡ vec_ptr bytes) × (c.len ≡ vec_len bytes)
 
 abbrev pub TextStands : CowStr Global → CText → Type 0
 TextStands (cow.Borrowed text) c = HasText (Some text.now) c
-TextStands (cow.Owned text) c = StandsAt (string_vec text) c
+TextStands (cow.Owned text) c = BytesStand (string_vec text) c
 
 abbrev pub TagStands : Option Tag → CEvent → Type 0
 TagStands None c = HasTagTexts None c
-TagStands (Some tag) c = StandsAt (string_vec tag.handle) c.tag_handle × StandsAt (string_vec tag.suffix) c.tag_suffix
+TagStands (Some tag) c =
+    BytesStand (string_vec tag.handle) c.tag_handle × BytesStand (string_vec tag.suffix) c.tag_suffix
 
 abbrev pub value_of : Event → Option (CowStr Global)
 value_of (events.Scalar text style id tag) = Some text
@@ -166,8 +167,8 @@ abbrev pub ValueStands : Event → CEvent → Type 0
 ValueStands e c = AnyStands (value_of e) c.value
 
 -- the texts of an event
-abbrev pub Stands : Event → CEvent → Type 0
-Stands e c = ValueStands e c × TagStands (tag_in e) c
+abbrev pub TextsStand : Event → CEvent → Type 0
+TextsStand e c = ValueStands e c × TagStands (tag_in e) c
 
 -- ## What a call answers
 
@@ -177,24 +178,24 @@ TellsNumbers e c = HasNumbers (told_fields (happening e.0)) e.1.start e.1.end c
 -- of a fault that is kept; reading gives no other than the first two
 abbrev pub TellsFault : Fault → Status → CEvent → Type 0
 TellsFault (fault.Scan error) s c =
-    (s ≡ status.Refused) × HasNumbers no_fields error.mark error.mark c × StandsAt (string_vec error.info) c.value
+    (s ≡ status.Refused) × HasNumbers no_fields error.mark error.mark c × BytesStand (string_vec error.info) c.value
     × HasTagTexts None c
-TellsFault _ s c = (s ≡ status.NoMemory) × Holds no_fields nowhere nowhere c
+TellsFault _ s c = (s ≡ status.NoMemory) × HasFields no_fields nowhere nowhere c
 
 -- of what is kept
 abbrev pub TellsC : Option (Result (Event × Span) Fault) → Status → CEvent → Type 0
-TellsC None s c = (s ≡ status.End) × Holds no_fields nowhere nowhere c
-TellsC (Some (Ok e)) s c = (s ≡ status.Event) × TellsNumbers e c × Stands e.0 c
+TellsC None s c = (s ≡ status.End) × HasFields no_fields nowhere nowhere c
+TellsC (Some (Ok e)) s c = (s ≡ status.Event) × TellsNumbers e c × TextsStand e.0 c
 TellsC (Some (Err f)) s c = TellsFault f s c
 
 -- of a fault that is lent
 abbrev pub TellsLentFault : Fault → Status → CEvent → Type 0
 TellsLentFault (fault.Scan error) s c =
-    (s ≡ status.Refused) × Holds (fields_of_refusal (string_bytes error.info)) error.mark error.mark c
-TellsLentFault _ s c = (s ≡ status.NoMemory) × Holds no_fields nowhere nowhere c
+    (s ≡ status.Refused) × HasFields (fields_of_refusal (string_bytes error.info)) error.mark error.mark c
+TellsLentFault _ s c = (s ≡ status.NoMemory) × HasFields no_fields nowhere nowhere c
 
 -- of what is lent
 abbrev pub TellsLent : Option (Result (Bor (Event × Span)) (Bor Fault)) → Status → CEvent → Type 0
-TellsLent None s c = (s ≡ status.End) × Holds no_fields nowhere nowhere c
+TellsLent None s c = (s ≡ status.End) × HasFields no_fields nowhere nowhere c
 TellsLent (Some (Ok e)) s c = (s ≡ status.Event) × TellsNumbers e.now c × HasTexts (told_fields (happening e.now.0)) c
 TellsLent (Some (Err f)) s c = TellsLentFault f.now s c

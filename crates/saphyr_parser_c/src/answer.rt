@@ -3,7 +3,7 @@
 ghost use Rattle.std.specs.Prelude.{◌≡◌};
 ghost use Rattle.saphyr_parser.specs.Cursor.{event_of};
 ghost use Rattle.saphyr_parser_c.specs.Same.{IsSameFault};
-ghost use Rattle.saphyr_parser_c.specs.Shown.{HasNumbers, HasTexts, Stands, no_fields};
+ghost use Rattle.saphyr_parser_c.specs.Shown.{HasNumbers, HasTexts, TextsStand, no_fields};
 ghost use Rattle.saphyr_parser_c.specs.Shown.{TellsFault, TellsLent, TellsLentFault, TellsNumbers};
 
 use crate::shown::{CEvent, bare, blank, show};
@@ -24,7 +24,7 @@ fn refused(error: &ScanError) -> CEvent
 pub fn tell_event(alloc: Global, given: &mut (Event<'static>, Span), out: &mut CEvent)
     ensures same { event_of given.new ≡ event_of given.old }
     ensures numbers { TellsNumbers given.new out.new }
-    ensures stands { Stands given.new.0 out.new }
+    ensures stands { TextsStand given.new.0 out.new }
 {
     *out = show(&given.0, given.1);
     keep(alloc, &mut given.0, out);

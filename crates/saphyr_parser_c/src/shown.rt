@@ -103,7 +103,7 @@ pub fn bare(kind: i32, start: Marker, end: Marker) -> CEvent
 
 /// No event.
 pub fn blank() -> CEvent
-    ensures { spec.Holds spec.no_fields spec.nowhere spec.nowhere result }
+    ensures { spec.HasFields spec.no_fields spec.nowhere spec.nowhere result }
 {
     let start = Marker::new(0, 0, 0);
     bare(0, start, start)

@@ -67,7 +67,7 @@ pub fn lend(event: &Event<'static>, out: &mut CEvent)
 
 /// The address and the number of the bytes of a text that is kept. For this they are taken out and put back.
 pub fn kept(alloc: Global, text: &mut String) -> CText
-    ensures stands { spec.StandsAt (string_vec text.new) result }
+    ensures stands { spec.BytesStand (string_vec text.new) result }
     ensures same { string_vec text.new ≡ string_vec text.old }
 {
     let len = text.as_str().len();
@@ -138,7 +138,7 @@ fn keep_tag_of(alloc: Global, event: &mut Event<'static>, out: &mut CEvent)
 pub fn keep(alloc: Global, event: &mut Event<'static>, out: &mut CEvent)
     ensures numbers { spec.HasSameNumbers out.old out.new }
     ensures kept { happening event.new ≡ happening event.old }
-    ensures stands { spec.HasTexts spec.no_fields out.old → spec.Stands event.new out.new }
+    ensures stands { spec.HasTexts spec.no_fields out.old → spec.TextsStand event.new out.new }
 {
     keep_value(alloc, event, out);
     keep_tag_of(alloc, event, out);
