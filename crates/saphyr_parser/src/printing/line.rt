@@ -34,7 +34,6 @@ pub(super) fn write_line<W: Write>(out: &mut W, event: &Event<'_>) -> Result<(),
     }
 }
 
-#[tactic(auto, using(crate::proofs::Printed::Written::takes_three, crate::proofs::Printed::Written::loses_first, crate::proofs::Printed::Written::loses_second))]
 fn write_alias<W: Write>(out: &mut W, id: usize) -> Result<(), Unwritten>
     ensures { Takes result (W.contents out.old) (W.contents out.new)
         (codes "=ALI *" ++ (decimal id ++ codes "\n")) }
@@ -44,7 +43,6 @@ fn write_alias<W: Write>(out: &mut W, id: usize) -> Result<(), Unwritten>
     write_all(out, b"\n")
 }
 
-#[tactic(auto, using(crate::proofs::Printed::Written::takes_four, crate::proofs::Printed::Written::loses_first, crate::proofs::Printed::Written::loses_second, crate::proofs::Printed::Written::loses_third))]
 fn write_scalar<W: Write>(
     out: &mut W,
     text: &str,
@@ -137,7 +135,6 @@ fn mark(style: ScalarStyle) -> &'static [u8]
 }
 
 // Writes the line of a collection's start.
-#[tactic(auto, using(crate::proofs::Printed::Written::takes_two, crate::proofs::Printed::Written::loses_first))]
 fn write_start<W: Write>(
     out: &mut W,
     name: &[u8],
@@ -152,7 +149,6 @@ fn write_start<W: Write>(
 }
 
 // Writes the name of an event, and the properties of its node.
-#[tactic(auto, using(crate::proofs::Printed::Written::takes_three, crate::proofs::Printed::Written::loses_first, crate::proofs::Printed::Written::loses_second))]
 fn write_node<W: Write>(
     out: &mut W,
     name: &[u8],
@@ -170,7 +166,6 @@ fn write_node<W: Write>(
     }
 }
 
-#[tactic(auto, using(crate::proofs::Printed::Written::takes_two, crate::proofs::Printed::Written::loses_first))]
 fn write_anchor<W: Write>(out: &mut W, id: usize) -> Result<(), Unwritten>
     ensures { Takes result (W.contents out.old) (W.contents out.new) (printed.anchor_text id) }
 {
@@ -181,7 +176,6 @@ fn write_anchor<W: Write>(out: &mut W, id: usize) -> Result<(), Unwritten>
     write_number(out, id as u128)
 }
 
-#[tactic(auto, using(crate::proofs::Printed::Written::takes_four, crate::proofs::Printed::Written::loses_first, crate::proofs::Printed::Written::loses_second, crate::proofs::Printed::Written::loses_third))]
 fn write_tag<W: Write>(out: &mut W, tag: &Tag) -> Result<(), Unwritten>
     ensures { Takes result (W.contents out.old) (W.contents out.new)
         (printed.tag_text (Some (resolved_tag tag.now))) }

@@ -16,7 +16,7 @@ pub struct Unwritten;
 
 // Writes all bytes. Most writers take them at once, and that case is inlined.
 #[inline(always)]
-#[tactic(auto, using(crate::proofs::Printed::Written::takes_whole, crate::proofs::Printed::Written::takes_rest, crate::proofs::Printed::Written::takes_nothing))]
+#[tactic(auto, using(crate::proofs::Printed::Written::takes_nothing))]
 pub(super) fn write_all<W: Write>(out: &mut W, bytes: &[u8]) -> Result<(), Unwritten>
     ensures { Takes result (W.contents out.old) (W.contents out.new) bytes.now }
 {
@@ -32,7 +32,7 @@ pub(super) fn write_all<W: Write>(out: &mut W, bytes: &[u8]) -> Result<(), Unwri
 
 // Writes all bytes, however few the writer takes at a time.
 #[inline(never)]
-#[tactic(auto, using(crate::proofs::Printed::Written::takes_first, crate::proofs::Printed::Written::takes_next, crate::proofs::Printed::Written::takes_all, crate::proofs::Printed::Written::takes_none))]
+#[tactic(auto, using(crate::proofs::Printed::Written::takes_all, crate::proofs::Printed::Written::takes_none))]
 fn write_rest<W: Write>(out: &mut W, bytes: &[u8]) -> Result<(), Unwritten>
     ensures { Takes result (W.contents out.old) (W.contents out.new) bytes.now }
 {
@@ -47,7 +47,6 @@ fn write_rest<W: Write>(out: &mut W, bytes: &[u8]) -> Result<(), Unwritten>
 }
 
 // Writes a number in decimal.
-#[tactic(auto, using(crate::proofs::Printed::Numbers::one_digit, crate::proofs::Printed::Numbers::last_digit, crate::proofs::Printed::Numbers::lost_digit))]
 pub(super) fn write_number<W: Write>(out: &mut W, number: u128) -> Result<(), Unwritten>
     ensures { Takes result (W.contents out.old) (W.contents out.new) (decimal number) }
 {
@@ -122,7 +121,6 @@ fn are_blocks_plain(text: &[u8]) -> bool
 
 // If this is true, no byte of a scalar's text is escaped.
 #[inline(always)]
-#[tactic(auto, using(crate::proofs::Printed::Escapes::plain_whole, crate::proofs::Printed::Blocks::plain_through))]
 pub(super) fn is_plain(text: &[u8]) -> bool
     ensures { result ≡ true → printed_bytes text.now ≡ text.now }
 {

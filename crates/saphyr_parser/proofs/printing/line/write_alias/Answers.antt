@@ -1,5 +1,5 @@
 use Rattle.std.proofs.Common.{refl}
-use Rattle.saphyr_parser.proofs.Printed.Written.{loses_first, loses_second}
+use Rattle.saphyr_parser.proofs.Printed.Written.{loses_first, loses_second, takes_three}
 use Rattle.saphyr_parser.proofs.printing.line.write_alias.Goals as goal
 
 pub returns-in_err-write_all : goal.returns-in_err-write_all
@@ -9,3 +9,7 @@ pub returns-in_err-write_number : goal.returns-in_err-write_number
 returns-in_err-write_number g c =
     loses_second _ _ _ _ _ _ _ _ c.from_residual-in_err-write_number.ensures.0 c.in_ok-write_all.ensures
     c.in_err-write_number.ensures refl
+
+pub returns : goal.returns
+returns g c =
+    takes_three _ _ _ _ _ _ _ _ _ c.in_ok-write_all.ensures c.in_ok-write_number.ensures c.write_all-2.ensures refl

@@ -1,4 +1,5 @@
-use Rattle.std.proofs.Common.{refl, ap, Option}
+use Rattle.std.proofs.Common.{refl, ap, Ok, Option}
+use Rattle.std.proofs.KnownBytes.{Appends-nil}
 use Rattle.std.specs.Prelude.{option_map}
 use Rattle.saphyr_machine.specs.Views.Events.{resolved_tag}
 use Rattle.saphyr_parser.specs.Types.Tag.{Tag}
@@ -18,3 +19,8 @@ pub returns-in-Some : goal.returns-in-Some
 returns-in-Some g c =
     takes_three _ _ _ _ _ _ _ _ _ c.in_ok-write_all.ensures c.in_ok-write_anchor.ensures c.write_tag.ensures
     (ap (λ (tag : Option Tag). node_text c.args.name.now c.args.id (option_map resolved_tag tag)) c.in-Some.is)
+
+pub returns-in-None : goal.returns-in-None
+returns-in-None g c =
+    takes_three (Ok tt) _ _ _ _ _ _ _ _ c.in_ok-write_all.ensures c.in_ok-write_anchor.ensures (Appends-nil _)
+    (ap (λ (tag : Option Tag). node_text c.args.name.now c.args.id (option_map resolved_tag tag)) c.in-None.is)

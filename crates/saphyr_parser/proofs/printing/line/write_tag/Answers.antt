@@ -1,5 +1,5 @@
 use Rattle.std.proofs.Common.{refl}
-use Rattle.saphyr_parser.proofs.Printed.Written.{loses_first, loses_second, loses_third}
+use Rattle.saphyr_parser.proofs.Printed.Written.{loses_first, loses_second, loses_third, takes_four}
 use Rattle.saphyr_parser.proofs.printing.line.write_tag.Goals as goal
 
 pub returns-in_err-write_all : goal.returns-in_err-write_all
@@ -16,3 +16,9 @@ returns-in_err-write_all-3 g c =
     let suffix = rw c.as_bytes-2.ensures.value at c.in_err-write_all-3.ensures in
     loses_third _ _ _ _ _ _ _ _ _ _ c.from_residual-in_err-write_all-3.ensures.0 c.in_ok-write_all.ensures handle suffix
     refl
+
+pub returns : goal.returns
+returns g c =
+    let handle = rw c.as_bytes.ensures.value at c.in_ok-write_all-2.ensures in
+    let suffix = rw c.as_bytes-2.ensures.value at c.in_ok-write_all-3.ensures in
+    takes_four _ _ _ _ _ _ _ _ _ _ _ c.in_ok-write_all.ensures handle suffix c.write_all-4.ensures refl

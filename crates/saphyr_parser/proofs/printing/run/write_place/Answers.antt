@@ -1,5 +1,5 @@
 use Rattle.std.proofs.Common.{refl}
-use Rattle.saphyr_parser.proofs.Printed.Written.{loses_first, loses_second}
+use Rattle.saphyr_parser.proofs.Printed.Written.{loses_first, loses_second, takes_three}
 use Rattle.saphyr_parser.proofs.printing.run.write_place.Goals as goal
 
 pub returns-in_err-write_labelled : goal.returns-in_err-write_labelled
@@ -10,3 +10,8 @@ pub returns-in_err-write_labelled-2 : goal.returns-in_err-write_labelled-2
 returns-in_err-write_labelled-2 g c =
     loses_second _ _ _ _ _ _ _ _ c.from_residual-in_err-write_labelled-2.ensures.0 c.in_ok-write_labelled.ensures
     c.in_err-write_labelled-2.ensures refl
+
+pub returns : goal.returns
+returns g c =
+    takes_three _ _ _ _ _ _ _ _ _ c.in_ok-write_labelled.ensures c.in_ok-write_labelled-2.ensures
+    c.write_labelled-3.ensures refl

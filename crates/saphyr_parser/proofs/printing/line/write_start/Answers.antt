@@ -1,0 +1,9 @@
+use Rattle.std.proofs.Common.{refl}
+use Rattle.saphyr_parser.proofs.Printed.Written.{loses_first, takes_two}
+use Rattle.saphyr_parser.proofs.printing.line.write_start.Goals as goal
+
+pub returns-in_err-write_node : goal.returns-in_err-write_node
+returns-in_err-write_node g c = loses_first _ _ _ _ _ _ c.from_residual.ensures.0 c.in_err-write_node.ensures refl
+
+pub returns : goal.returns
+returns g c = takes_two _ _ _ _ _ _ _ c.in_ok-write_node.ensures c.write_all.ensures refl
