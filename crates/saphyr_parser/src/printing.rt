@@ -11,7 +11,7 @@ mod writing;
 use crate::cursor::Parser;
 pub use fault::DumpFault;
 use line::write_line;
-pub use run::run_dump;
+pub use run::{refuse_source, run_dump};
 use saphyr_input::input::Input;
 use saphyr_machine::{Event, Fault, Progress, no_event};
 use saphyr_scalar::Span;

@@ -43,10 +43,21 @@ pub fn run_dump<R: Read, W: Write, E: Write>(
     match print_source(alloc, source, out) {
         Ok(()) => 0,
         Err(fault) => {
-            let _ = complain(err, name, &fault);
+            let _ = complain(err, name.as_bytes(), &fault);
             1
         }
     }
+}
+
+/// Says that a source can't be read, as `run_dump` does, and returns its status, 1. `name` names the source, whatever
+/// bytes it has.
+pub fn refuse_source<E: Write>(err: &mut E, name: &[u8]) -> u8
+    ensures status { result ≡ 1 }
+    ensures says { spec.TakesBeginning (E.contents err.old) (E.contents err.new)
+        (codes "dump_events: can't read " ++ (name.now ++ codes "\n")) }
+{
+    let _ = write_named(err, b"dump_events: can't read ", name, b"\n");
+    1
 }
 
 // Reads all bytes, and prints the events of their text.
@@ -104,7 +115,7 @@ fn finish<W: Write>(dumped: Result<(), DumpFault>, out: &mut W) -> Result<(), Ru
 }
 
 // Says why a run failed.
-fn complain<E: Write>(err: &mut E, name: &str, fault: &RunFault) -> Result<(), Unwritten>
+fn complain<E: Write>(err: &mut E, name: &[u8], fault: &RunFault) -> Result<(), Unwritten>
     ensures { Takes result (E.contents err.old) (E.contents err.new)
         (spec.message name.now fault.now) }
 {
@@ -120,14 +131,14 @@ fn complain<E: Write>(err: &mut E, name: &str, fault: &RunFault) -> Result<(), U
 fn write_named<E: Write>(
     err: &mut E,
     before: &[u8],
-    name: &str,
+    name: &[u8],
     behind: &[u8],
 ) -> Result<(), Unwritten>
     ensures { Takes result (E.contents err.old) (E.contents err.new)
         (before.now ++ (name.now ++ behind.now)) }
 {
     write_all(err, before)?;
-    write_all(err, name.as_bytes())?;
+    write_all(err, name)?;
     write_all(err, behind)
 }
 
@@ -152,7 +163,6 @@ fn write_error<E: Write>(err: &mut E, error: &ScanError) -> Result<(), Unwritten
     write_all(err, b"\n")
 }
 
-#[tactic(auto, using(crate::proofs::Printed::Written::takes_three, crate::proofs::Printed::Written::loses_first, crate::proofs::Printed::Written::loses_second))]
 fn write_place<E: Write>(err: &mut E, mark: Marker) -> Result<(), Unwritten>
     ensures { Takes result (E.contents err.old) (E.contents err.new) (spec.place_text mark) }
 {
@@ -161,7 +171,6 @@ fn write_place<E: Write>(err: &mut E, mark: Marker) -> Result<(), Unwritten>
     write_labelled(err, b" column ", mark.col as u128 + 1)
 }
 
-#[tactic(auto, using(crate::proofs::Printed::Written::takes_two, crate::proofs::Printed::Written::loses_first))]
 fn write_labelled<E: Write>(err: &mut E, label: &[u8], number: u128) -> Result<(), Unwritten>
     ensures { Takes result (E.contents err.old) (E.contents err.new) (label.now ++ decimal number) }
 {
