@@ -9,10 +9,10 @@
 ghost use Rattle.std.specs.Prelude.{◌≡◌};
 ghost use Rattle.std.specs.Process.{exit_status};
 
-use saphyr_parser::run_dump;
+use saphyr_parser::{refuse_source, run_dump};
 use std::env::{Env, FillError};
 use std::fs::File;
-use std::io::{BufWriter, Read, Write};
+use std::io::{BufWriter, Read};
 use std::process::ExitCode;
 
 /// The most bytes of an argument. Linux allows no longer one.
@@ -24,11 +24,12 @@ fn main(rt: HostRuntime) -> ExitCode {
         return usage(&rt);
     }
     let mut bytes = [0; LONGEST_ARGUMENT];
-    match rt.arg(1, &mut bytes) {
+    let status = match rt.arg(1, &mut bytes) {
         Ok(count) => dump_named(&rt, &bytes[..count]),
         Err(FillError::NotPresent) => dump_from(&rt, "-", &mut rt.stdin()),
-        Err(FillError::TooLong) => cant_read(&mut rt.stderr(), b"FILE"),
-    }
+        Err(FillError::TooLong) => refuse_source(&mut rt.stderr(), b"FILE"),
+    };
+    ExitCode::from(status)
 }
 
 fn usage(rt: &HostRuntime) -> ExitCode
@@ -38,38 +39,27 @@ fn usage(rt: &HostRuntime) -> ExitCode
     ExitCode::from(2)
 }
 
-// Says that a source can't be read, whatever bytes its name has.
-fn cant_read<E: Write>(err: &mut E, name: &[u8]) -> ExitCode
-    ensures { exit_status result ≡ 1 }
-{
-    let _ = err.write_all(b"dump_events: can't read ");
-    let _ = err.write_all(name);
-    let _ = err.write_all(b"\n");
-    ExitCode::FAILURE
-}
-
 // The kit opens no file whose name isn't UTF-8.
-fn dump_named(rt: &HostRuntime, name: &[u8]) -> ExitCode {
+fn dump_named(rt: &HostRuntime, name: &[u8]) -> u8 {
     match str::from_utf8(name) {
         Ok(path) => dump_file(rt, path),
-        Err(_) => cant_read(&mut rt.stderr(), name),
+        Err(_) => refuse_source(&mut rt.stderr(), name),
     }
 }
 
-fn dump_file(rt: &HostRuntime, path: &str) -> ExitCode {
+fn dump_file(rt: &HostRuntime, path: &str) -> u8 {
     match File::open(rt, path) {
         Ok(mut file) => dump_from(rt, path, &mut file),
-        Err(_) => cant_read(&mut rt.stderr(), path.as_bytes()),
+        Err(_) => refuse_source(&mut rt.stderr(), path.as_bytes()),
     }
 }
 
-fn dump_from<R: Read>(rt: &HostRuntime, name: &str, source: &mut R) -> ExitCode {
+fn dump_from<R: Read>(rt: &HostRuntime, name: &str, source: &mut R) -> u8 {
     let alloc = rt.alloc();
     let mut err = rt.stderr();
-    let status = match BufWriter::new(alloc, rt.stdout()) {
+    match BufWriter::new(alloc, rt.stdout()) {
         Ok(mut out) => run_dump(alloc, name, source, &mut out, &mut err),
         // If there is no memory for a buffer, the lines are written as they come.
         Err(_) => run_dump(alloc, name, source, &mut rt.stdout(), &mut err),
-    };
-    ExitCode::from(status)
+    }
 }
