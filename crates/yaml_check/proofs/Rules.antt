@@ -233,7 +233,8 @@ module _ (what : Happening) (place : Marker) (s : Seen) (w : Finding) where
   depth_rule (OfDepth told) is = told
   depth_rule (OfNode told) is = absurd (omega (arith, is, node_kind told))
 
-  pub node_rule : IsOfRule what place s w → rule_number w.warning ≡ 4 → node_warning s.limits.nodes s.left what place ≡ Some w
+  pub node_rule : IsOfRule what place s w → rule_number w.warning ≡ 4
+      → node_warning s.limits.nodes s.left what place ≡ Some w
   node_rule (OfContent told) is = absurd (omega (arith, is, content_kind told))
   node_rule (OfKey told) is = absurd (omega (arith, is, key_kind told))
   node_rule (OfAlias told) is = absurd (omega (arith, is, alias_kind told))

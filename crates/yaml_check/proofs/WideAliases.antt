@@ -156,8 +156,8 @@ mutual
       ap (λ (s : SizesOpen). size_at id s) (after_append front (e ∷ [])) ∙ unchanged front e id none
       ∙ repeats_kept front id n repeats
 
-  node_known : (front node : Events) (n : NodeCount) → ExpandsTo front node n → (id : ℕ) → anchor_of_events node ≡ Some id
-      → size_at id (sizes_all node (after front)) ≡ kept n
+  node_known : (front node : Events) (n : NodeCount) → ExpandsTo front node n → (id : ℕ)
+      → anchor_of_events node ≡ Some id → size_at id (sizes_all node (after front)) ≡ kept n
   node_known _ _ _ (OneScalar front text style number tag at) id anchored =
       now_known number id 1 (after front).known anchored ∙ sym one_kept
   node_known _ _ _ (OneAlias front number at n repeats) id anchored = absurd cc

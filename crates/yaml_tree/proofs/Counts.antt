@@ -8,7 +8,7 @@ use Rattle.yaml_tree.specs.declared.node.Node.{Node, Alias, Scalar, out-Node, th
 use Rattle.yaml_tree.specs.declared.expanding.Counter.{Counter}
 use Rattle.yaml_tree.specs.Unloading.{node_events}
 use Rattle.yaml_tree.specs.Expanding.{Sizes, Expanded, most, no_sizes, followed_by, expanded}
-use Rattle.yaml_tree.specs.CounterSeen.{Count, with_nodes, begun, left_to, left, entered_layer, counted, counted_all, size_in, AreOpen, Holds, IsCounting}
+use Rattle.yaml_tree.specs.CounterSeen.{Count, with_nodes, begun, left_to, left, entered_layer, counted, counted_all, size_in, AreOpen, HoldsCount, IsCounting}
 use Rattle.yaml_tree.proofs.EachNode.{of_node}
 use Rattle.yaml_tree.proofs.LastItems.{none_is_last, same_last}
 
@@ -70,7 +70,7 @@ counts_node = of_node Grows (record {
 })
 
 pub counts_none : (root : Node) (to_come : List Happening) (counter : Counter)
-    → Holds counter (record { nodes = 0; sizes = no_sizes; levels = [] }) → to_come ≡ node_events root
+    → HoldsCount counter (record { nodes = 0; sizes = no_sizes; levels = [] }) → to_come ≡ node_events root
     → IsCounting root to_come counter
 counts_none root to_come counter holds e =
     let none : Count = record { nodes = 0; sizes = no_sizes; levels = [] } in
@@ -88,14 +88,14 @@ counts_all root to_come counter k e = k.holds.nodes ∙ ap (min most)
 left_to_holds : (levels : List (ℕ × ℕ)) (old mid new : Counter) (id nodes : ℕ) (c : Count)
     → old.levels.items ≡ mid.levels.items ++ (id, mid.nodes) ∷ [] → AreOpen old.levels.items levels
     → ((k : ℕ) → size_in mid.sizes k ≡ min most (c.sizes k)) → nodes ≡ min most c.nodes
-    → ((d : Count) (n : ℕ) → nodes ≡ min most n → Holds mid d → Holds new (with_nodes id n d))
-    → Holds new (left_to levels c)
+    → ((d : Count) (n : ℕ) → nodes ≡ min most n → HoldsCount mid d → HoldsCount new (with_nodes id n d))
+    → HoldsCount new (left_to levels c)
 left_to_holds [] old mid new id nodes c e are sizes same adds =
     absurd (none_is_last mid.levels.items (id, mid.nodes) (sym e ∙ are))
 left_to_holds (outer ∷ levels) old mid new id nodes c e (front, kept, others) sizes same adds =
     let ends = same_last mid.levels.items front (id, mid.nodes) (outer.0, min most outer.1) (sym e ∙ kept) in
     let before : Count = record { nodes = outer.1; sizes = c.sizes; levels = levels } in
-    subst (λ (k : ℕ). Holds new (with_nodes k c.nodes before)) (ap (λ (p : ℕ × ℕ). p.0) ends.1)
+    subst (λ (k : ℕ). HoldsCount new (with_nodes k c.nodes before)) (ap (λ (p : ℕ × ℕ). p.0) ends.1)
     (adds before c.nodes same (record {
       nodes = ap (λ (p : ℕ × ℕ). p.1) ends.1;
       sizes = sizes;
@@ -104,27 +104,28 @@ left_to_holds (outer ∷ levels) old mid new id nodes c e (front, kept, others) 
 
 pub leaves : {T E : Type 0} (result : Result T E) (old mid new : Counter) (id nodes : ℕ)
     → old.levels.items ≡ mid.levels.items ++ (id, mid.nodes) ∷ [] → nodes ≡ old.nodes → mid.sizes ≡ old.sizes
-    → OnOk result ((d : Count) (n : ℕ) → nodes ≡ min most n → Holds mid d → Holds new (with_nodes id n d))
-    → OnOk result ((c : Count) → Holds old c → Holds new (left c))
+    → OnOk result ((d : Count) (n : ℕ) → nodes ≡ min most n → HoldsCount mid d → HoldsCount new (with_nodes id n d))
+    → OnOk result ((c : Count) → HoldsCount old c → HoldsCount new (left c))
 leaves (Ok t) old mid new id nodes e same sizes adds = λ c h. left_to_holds c.levels old mid new id nodes c e h.levels
     (λ k. ap (λ m. size_in m k) sizes ∙ h.sizes k) (same ∙ h.nodes) adds
 leaves (Err f) old mid new id nodes e same sizes adds = tt
 
 -- an alias or a scalar begins, which is all of it
 pub enters : {T E : Type 0} (result : Result T E) (old new : Counter) (node : Node) (id nodes : ℕ)
-    → ((c : Count) → Holds old c
+    → ((c : Count) → HoldsCount old c
     → (n : ℕ) × (nodes ≡ min most n) × (with_nodes id n c ≡ entered_layer (out-Node node) c))
-    → OnOk result ((c : Count) (n : ℕ) → nodes ≡ min most n → Holds old c → Holds new (with_nodes id n c))
-    → OnOk result ((c : Count) → Holds old c → Holds new (entered_layer (out-Node node) c))
+    → OnOk result ((c : Count) (n : ℕ) → nodes ≡ min most n → HoldsCount old c → HoldsCount new (with_nodes id n c))
+    → OnOk result ((c : Count) → HoldsCount old c → HoldsCount new (entered_layer (out-Node node) c))
 enters (Ok t) old new node id nodes layer adds = λ c h. let own = layer c h in
-    subst (Holds new) own.2 (adds c own.0 own.1 h)
+    subst (HoldsCount new) own.2 (adds c own.0 own.1 h)
 enters (Err f) old new node id nodes layer adds = tt
 
 enters_alias : (id : ℕ) (c : Count) → with_nodes 0 (c.sizes id) c ≡ entered_layer (out-Node (Alias id)) c
 enters_alias id c = search (rules, the_lemmas)
 
 pub alias_layer : (old : Counter) (node : Node) (id nodes : ℕ) → node ≡ Alias id → nodes ≡ size_in old.sizes id
-    → (c : Count) → Holds old c → (n : ℕ) × (nodes ≡ min most n) × (with_nodes 0 n c ≡ entered_layer (out-Node node) c)
+    → (c : Count) → HoldsCount old c
+    → (n : ℕ) × (nodes ≡ min most n) × (with_nodes 0 n c ≡ entered_layer (out-Node node) c)
 alias_layer old node id nodes is size c h = (
   c.sizes id,
   size ∙ h.sizes id,
@@ -136,7 +137,7 @@ enters_scalar : (text : String Global) (style : ScalarStyle) (id : ℕ) (tag : O
 enters_scalar text style id tag c = search (rules, the_lemmas)
 
 pub scalar_layer : (old : Counter) (node : Node) (text : String Global) (style : ScalarStyle) (id : ℕ)
-    (tag : Option Tag) → node ≡ Scalar text style id tag → (c : Count) → Holds old c
+    (tag : Option Tag) → node ≡ Scalar text style id tag → (c : Count) → HoldsCount old c
     → (n : ℕ) × (1 ≡ min most n) × (with_nodes id n c ≡ entered_layer (out-Node node) c)
 scalar_layer old node text style id tag is c h = (
   1,

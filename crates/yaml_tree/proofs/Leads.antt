@@ -205,7 +205,8 @@ stands_walk : (w : Walk) (root : Node) → w.root ≡ None → StandBelow w.leve
 stands_walk w root none below = subst (λ (o : Option (Bor Node)). HasRoot o w.levels.items root) (sym none) below
 
 pub opens : (old : Walk) (rests mid : List Rest) (r t : Rest) (part : Node) → old.root ≡ None
-    → old.levels.items ≡ rests ++ r ∷ [] → mid ≡ rests ++ t ∷ [] → ((node : Node) → IsRestOf r node → Begins t node part)
+    → old.levels.items ≡ rests ++ r ∷ [] → mid ≡ rests ++ t ∷ []
+    → ((node : Node) → IsRestOf r node → Begins t node part)
     → (root : Node) → IsWalkOf root old → LeadDown part mid root
 opens old rests mid r t part none e f begins root h =
     let inner = below_root old.root old.levels.items root h none rests r e in

@@ -33,9 +33,12 @@ Follows p q = IsInner p → IsInner q × (IsCollection p → IsCollection q)
 follows_node : (p q : NestPlace) → place_behind_node p ≡ Some q → Follows p q
 follows_node BeforeRoot q e h = let same : BehindRoot ≡ q = cc in (subst IsInner same tt, λ c. absurd c)
 follows_node BehindRoot q e h = absurd (cc)
-follows_node InSequence q e h = let same : InSequence ≡ q = cc in (subst IsInner same tt, λ c. subst IsCollection same c)
-follows_node BeforeKey q e h = let same : BeforeValue ≡ q = cc in (subst IsInner same tt, λ c. subst IsCollection same c)
-follows_node BeforeValue q e h = let same : BeforeKey ≡ q = cc in (subst IsInner same tt, λ c. subst IsCollection same c)
+follows_node InSequence q e h =
+    let same : InSequence ≡ q = cc in (subst IsInner same tt, λ c. subst IsCollection same c)
+follows_node BeforeKey q e h =
+    let same : BeforeValue ≡ q = cc in (subst IsInner same tt, λ c. subst IsCollection same c)
+follows_node BeforeValue q e h =
+    let same : BeforeKey ≡ q = cc in (subst IsInner same tt, λ c. subst IsCollection same c)
 follows_node _ q e h = absurd h
 
 -- what leads on from a place of a stream leads nowhere from others

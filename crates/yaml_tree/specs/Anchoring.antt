@@ -22,5 +22,6 @@ HaveNoAnchor id (h ∷ hs) = (anchor_in_event h ≡ Some id → ⊥) × HaveNoAn
 abbrev pub FindsAnchor : ℕ → Node → Option (Bor Node) → Type 0
 FindsAnchor id root None = HaveNoAnchor id (node_events root)
 FindsAnchor id root (Some node) =
-    (front : List Happening) × (behind : List Happening) × (node_events root ≡ front ++ (node_events node.now ++ behind))
+    (front : List Happening) × (behind : List Happening)
+    × (node_events root ≡ front ++ (node_events node.now ++ behind))
     × HaveNoAnchor id front × (anchor_of_node node.now ≡ Some id)

@@ -65,7 +65,7 @@ AreOpen kept (outer ∷ levels) =
     (front : List (ℕ × ℕ)) × (kept ≡ front ++ (outer.0, min most outer.1) ∷ []) × AreOpen front levels
 
 -- the count, with `most` in the place of more
-pub record Holds (counter : Counter) (c : Count) : Type 0 where
+pub record HoldsCount (counter : Counter) (c : Count) : Type 0 where
   pub nodes : counter.nodes ≡ min most c.nodes
   pub sizes : (id : ℕ) → size_in counter.sizes id ≡ min most (c.sizes id)
   pub levels : AreOpen counter.levels.items c.levels
@@ -73,5 +73,5 @@ pub record Holds (counter : Counter) (c : Count) : Type 0 where
 -- what a counter holds becomes the count of the tree after the events that are left
 pub record IsCounting (root : Node) (to_come : List Happening) (counter : Counter) : Type 0 where
   pub so_far : Count
-  pub holds : Holds counter so_far
+  pub holds : HoldsCount counter so_far
   pub whole : (counted_all to_come so_far).nodes ≡ (expanded root no_sizes).nodes

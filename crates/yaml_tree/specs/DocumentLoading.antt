@@ -90,7 +90,8 @@ abbrev pub LoadsDocument : Limits → Result (Option Document) TreeFault → Ans
 LoadsDocument limits (Ok (Some document)) all left = PassesDocument limits document all left
 LoadsDocument limits (Ok None) all left = PassesNoDocument all left
 LoadsDocument limits (Err fault.NotFresh) all left =
-    ((ComesBetweenDocuments all → ⊥) × (left ≡ all)) ⊎ (ComesBetweenDocuments all × FailsInDocument limits fault.NotFresh all left)
+    ((ComesBetweenDocuments all → ⊥) × (left ≡ all))
+    ⊎ (ComesBetweenDocuments all × FailsInDocument limits fault.NotFresh all left)
 LoadsDocument limits (Err f) all left = FailsInDocument limits f all left
 
 -- Less is left after a document, so that a loop over documents ends.

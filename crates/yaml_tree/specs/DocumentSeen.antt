@@ -28,13 +28,14 @@ use Rattle.yaml_tree.specs.DocumentLoading.{ComesBetweenDocuments, with_stream_s
 
 -- Documents go on here after these events, of which the next ones aren't.
 abbrev pub GoesOnBehind : List Happening → Answer → Type 0
-GoesOnBehind before a = ComesBetweenDocuments a × (with_stream_start (happenings a.events) ≡ before ++ happenings a.events)
+GoesOnBehind before a =
+    ComesBetweenDocuments a × (with_stream_start (happenings a.events) ≡ before ++ happenings a.events)
 
 -- What a look finds, where only lack of memory changes what is to come.
-abbrev pub StandsAt : Place → Answer → Answer → Type 0
-StandsAt BeforeStream all mid = Stays all mid × GoesOnBehind [] mid
-StandsAt Between all mid = Stays all mid × GoesOnBehind (StreamStart ∷ []) mid
-StandsAt Inside all mid = (ComesBetweenDocuments all → ⊥) × (mid ≡ all)
+abbrev pub FindsPlace : Place → Answer → Answer → Type 0
+FindsPlace BeforeStream all mid = Stays all mid × GoesOnBehind [] mid
+FindsPlace Between all mid = Stays all mid × GoesOnBehind (StreamStart ∷ []) mid
+FindsPlace Inside all mid = (ComesBetweenDocuments all → ⊥) × (mid ≡ all)
 
 -- ## Events up to the end of a document
 

@@ -5,7 +5,7 @@ ghost use Rattle.saphyr_parser.specs.Cursor.{to_come};
 ghost use Rattle.saphyr_parser.specs.Calls.{Looks};
 ghost use Rattle.yaml_tree.specs.LoaderSeen.{HasTaken};
 ghost use Rattle.yaml_tree.specs.DocumentLoading.{AtMost, LoadsDocument, LeavesLess, LeavesBehindLook, LeavesBehindDocument};
-ghost use Rattle.yaml_tree.specs.DocumentSeen.{StandsAt, GoesOnBehind};
+ghost use Rattle.yaml_tree.specs.DocumentSeen.{FindsPlace, GoesOnBehind};
 
 use crate::document::Document;
 use crate::fault::TreeFault;
@@ -49,7 +49,7 @@ enum Place {
 }
 
 fn find_place<'input, T: Input>(parser: &mut Parser<'input, T>) -> Place
-    ensures stands { StandsAt result (to_come parser.old) (to_come parser.new) }
+    ensures stands { FindsPlace result (to_come parser.old) (to_come parser.new) }
     ensures looks { Looks parser.old parser.new }
 {
     match parser.peek() {

@@ -3,7 +3,7 @@ ghost use Rattle.std.specs.Prelude.{◌≡◌, ℕ, [], min, OnOk, IfOk};
 ghost use Rattle.yaml_tree.specs.declared.node.Node.{Node, out-Node};
 ghost use Rattle.yaml_tree.specs.Walking.{to_visit};
 ghost use Rattle.yaml_tree.specs.Expanding.{most, nodes_once_expanded, no_sizes, expanded};
-ghost use Rattle.yaml_tree.specs.CounterSeen.{Count, Holds, IsCounting, size_in, with_nodes, begun, left, entered_layer};
+ghost use Rattle.yaml_tree.specs.CounterSeen.{Count, HoldsCount, IsCounting, size_in, with_nodes, begun, left, entered_layer};
 
 use crate::document::Document;
 use crate::node::Node;
@@ -42,7 +42,7 @@ impl Document {
 
 impl Counter {
     fn new(alloc: Global) -> Counter
-        ensures { Holds result (record { nodes = 0; sizes = no_sizes; levels = [] }) }
+        ensures { HoldsCount result (record { nodes = 0; sizes = no_sizes; levels = [] }) }
     {
         Counter {
             nodes: 0,
@@ -67,8 +67,8 @@ impl Counter {
 
     // A node begins.
     fn enter(&mut self, node: &Node) -> Result<(), AllocError>
-        ensures { OnOk result ((c : Count) → Holds self.old c
-            → Holds self.new (entered_layer (out-Node node.now) c)) }
+        ensures { OnOk result ((c : Count) → HoldsCount self.old c
+            → HoldsCount self.new (entered_layer (out-Node node.now) c)) }
     {
         match node {
             Node::Alias(id) => self.add(0, self.size_of(*id)),
@@ -80,7 +80,7 @@ impl Counter {
 
     // The innermost collection ends.
     fn leave(&mut self) -> Result<(), AllocError>
-        ensures { OnOk result ((c : Count) → Holds self.old c → Holds self.new (left c)) }
+        ensures { OnOk result ((c : Count) → HoldsCount self.old c → HoldsCount self.new (left c)) }
     {
         match self.levels.pop() {
             Some((id, around)) => {
@@ -92,7 +92,8 @@ impl Counter {
     }
 
     fn begin(&mut self, id: usize) -> Result<(), AllocError>
-        ensures { OnOk result ((c : Count) → Holds self.old c → Holds self.new (begun id c)) }
+        ensures { OnOk result ((c : Count) → HoldsCount self.old c
+            → HoldsCount self.new (begun id c)) }
     {
         self.levels.push((id, self.nodes))?;
         self.nodes = 1;
@@ -101,8 +102,8 @@ impl Counter {
 
     // A node with this anchor ended, which has this many nodes.
     fn add(&mut self, id: usize, nodes: u64) -> Result<(), AllocError>
-        ensures { OnOk result ((c : Count) (n : ℕ) → nodes ≡ min most n → Holds self.old c
-            → Holds self.new (with_nodes id n c)) }
+        ensures { OnOk result ((c : Count) (n : ℕ) → nodes ≡ min most n → HoldsCount self.old c
+            → HoldsCount self.new (with_nodes id n c)) }
     {
         if id > 0 {
             self.sizes.insert(id, nodes)?;

@@ -60,7 +60,8 @@ returns-in_err-take-in-Ok-clause-leaves g c = λ limits before h.
 pub returns-in-Err-clause-takes : goal.returns-in-Err-clause-takes
 returns-in-Err-clause-takes g c = λ limits before h.
     let hands = rw c.in-Err.is at c.in-Some.ensures.hands in
-    refuses_behind EndNoDocument c.in-Err.fault limits before _ _ _ _ (c.loop-read.invariant.0 limits before h) hands.0 hands.1
+    refuses_behind EndNoDocument c.in-Err.fault limits before _ _ _ _ (c.loop-read.invariant.0 limits before h)
+    hands.0 hands.1
 
 pub returns-in-Err-clause-leaves : goal.returns-in-Err-clause-leaves
 returns-in-Err-clause-leaves g c = λ limits before h.
