@@ -39,7 +39,7 @@ pushed rests more r e = ap frames_events e ∙ frames_push rests r
 abbrev Begins : Node → List Happening → List Happening → Type 0
 Begins node old new = (start : Happening) × (node_events node ++ old ≡ start ∷ new)
 
-events-Alias : (id : ℕ) → node_events (Alias id) ≡ events.Alias id ∷ []
+pub events-Alias : (id : ℕ) → node_events (Alias id) ≡ events.Alias id ∷ []
 events-Alias id = search (rules, the_lemmas)
 
 events-Scalar : (text : String Global) (style : ScalarStyle) (id : ℕ) (tag : Option Tag)
@@ -134,7 +134,8 @@ pub turn_enters : (result : Result Turn AllocError) (old new : Walk) (rests mid 
     → rest_events r ≡ node_events node ++ rest_events s
     → IfOk result (λ t. Enters t node (frames_events mid) (frames_events new.levels.items) (length mid))
     → IfOk result (λ t. Turns t (to_visit old) (to_visit new))
-turn_enters result old new rests mid r s node none none_new e f own h = enters result node (to_visit old) (to_visit new) mid
+turn_enters result old new rests mid r s node none none_new e f own h =
+    enters result node (to_visit old) (to_visit new) mid
     (subst (λ (l : List Happening). IfOk result (λ t. Enters t node (frames_events mid) l (length mid)))
     (sym (visits_levels new none_new)) h)
     (visits_levels old none ∙ opens old.levels.items rests mid r s node e f own)
