@@ -7,7 +7,7 @@
 PROGRAM is a program over `saphyr-parser` 0.3.3 as it is. `PROGRAM --spans --explicit --batch FILE` reads texts from FILE,
 each behind a line with its length in bytes, and prints for each the length of its lines and these: `EVENT`, a tab and
 `START-END` for an event, and `!! FAULT`; with `--keep-tags`, where prefixes of tags hold for later documents. Events are
-written as `crates/test_case_files/src/lib.rt` says. In TEXT `\\n`, `\\r`, `\\t`, `\\\\` and `\\u{HEX}` stand for characters.
+written as `crates/test_events/src/lib.rt` says. In TEXT `\\n`, `\\r`, `\\t`, `\\\\` and `\\u{HEX}` stand for characters.
 
 A list is to be the crate's, but where `docs/DIFFERENCES.md` says otherwise. Each list that differs is counted under the
 words of that page that tell of it; one under which no words fall fails the script, and so do words that the page lacks.

@@ -1,7 +1,7 @@
 -- What a text says of the lines that `dump` writes, from what `dump` promises.
 use Rattle.std.proofs.Common.{◌≡◌, ℕ, ◌<◌, List, [], ◌∷◌, ◌++◌, length, refl, sym, ap, ◌∙◌, subst, Option, Some, None, Err, Ok, append_assoc, append-nil, arith, length-append, Bool, false, is_some, Result, Bor}
 use Rattle.std.specs.Prelude.{IfOk, option_map}
-use Rattle.test_case_files.specs.declared.difference.Difference.{Difference}
+use Rattle.test_events.specs.declared.difference.Difference.{Difference}
 use Rattle.saphyr_parser.specs.Types.Fault.{Fault}
 use Rattle.saphyr_parser.specs.Types.Fault.TheVariants as fault
 use Rattle.saphyr_parser.specs.declared.printing.fault.DumpFault.TheVariants as dump
@@ -9,7 +9,7 @@ use Rattle.saphyr_parser.specs.Answer.{Answer}
 use Rattle.saphyr_parser.specs.Printed.{printed_lines}
 use Rattle.saphyr_parser.specs.Dumps.{Cuts, Dumps}
 use Rattle.saphyr_parser.proofs.Printed.Dumping.{lines-append}
-use Rattle.test_case_files.specs.Lines.{line_of_fault}
+use Rattle.test_events.specs.Lines.{line_of_fault}
 use Rattle.test_cases.specs.Dumped.{BeginsDump, IsDump, IsDumpUpTo, IsWritten}
 
 -- all of a text was taken

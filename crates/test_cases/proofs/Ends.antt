@@ -7,8 +7,8 @@ use Rattle.saphyr_parser.specs.Types.Fault.{Fault}
 use Rattle.saphyr_parser.specs.Types.Fault.TheVariants as fault
 use Rattle.saphyr_parser.specs.Answer.{Answer, OutOfMemory, empty_answer}
 use Rattle.saphyr_parser.specs.Cursor.{HandsOutNext, Shows, Stays}
-use Rattle.test_case_files.specs.Listings.{ListAll, lines_of_answer}
-use Rattle.test_case_files.specs.declared.difference.Difference.{Difference}
+use Rattle.test_events.specs.Listings.{ListAll, lines_of_answer}
+use Rattle.test_events.specs.declared.difference.Difference.{Difference}
 use Rattle.test_cases.specs.declared.refused_memory.outcome.Outcome.{Outcome}
 use Rattle.test_cases.specs.declared.refused_memory.outcome.Outcome.TheVariants.{Refused, Whole}
 

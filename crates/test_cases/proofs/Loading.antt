@@ -14,10 +14,10 @@ use Rattle.saphyr_parser.specs.Cursor.{EventCursor, HandsOutNext, Kept, IsKept, 
 use Rattle.saphyr_parser.specs.Calls.{EndsTheStream}
 use Rattle.saphyr_parser.specs.Loading.{Portion, is_last, portion, portion_to_send, inside_over, Keeps, Tells, Sends, SendsOne, Stopped, Lost, Finished, Loads}
 use Rattle.saphyr_machine.proofs.HandedOver.{behind_first}
-use Rattle.test_case_files.specs.Lines.{Comes, Comparing, IsNext, PassesLine, event_line, line_of_fault, want_line}
-use Rattle.test_case_files.specs.Listings.{AreLinesOf, ListAll, lines_of_answer, lines_of_events}
-use Rattle.test_case_files.proofs.Listings.{hands_less, lists_before, lists_more}
-use Rattle.test_case_files.specs.declared.difference.Difference.{Difference}
+use Rattle.test_events.specs.Lines.{Comes, Comparing, IsNext, PassesLine, event_line, line_of_fault, want_line}
+use Rattle.test_events.specs.Listings.{AreLinesOf, ListAll, lines_of_answer, lines_of_events}
+use Rattle.test_events.proofs.Listings.{hands_less, lists_before, lists_more}
+use Rattle.test_events.specs.declared.difference.Difference.{Difference}
 use Rattle.test_cases.specs.Handed.{HasMore, ListAllButOne, LoadsOn, StandsBetween, TakesAnswer}
 
 -- ## Lines

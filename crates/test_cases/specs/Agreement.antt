@@ -2,9 +2,9 @@
 use Rattle.std.specs.Prelude.{◌≡◌, ℕ, ◌<◌, Bool, true, List, Some, String, codes, drop, length, nat_eq, slice_get, string_bytes, take}
 use Rattle.std.specs.List.{starts_with}
 use Rattle.std.specs.declared.alloc.Global.{Global}
-use Rattle.test_case_files.specs.declared.case.Case.{Case}
-use Rattle.test_case_files.specs.Files.{dumped_text}
-use Rattle.test_case_files.specs.Listings.{Agrees, fault_line_of, case_answer}
+use Rattle.test_events.specs.declared.case.Case.{Case}
+use Rattle.test_events.specs.Files.{dumped_text}
+use Rattle.test_events.specs.Listings.{Agrees, fault_line_of, case_answer}
 use Rattle.test_cases.specs.declared.findings.Subject.{Subject}
 use Rattle.test_cases.specs.declared.findings.Subject.TheVariants as subject
 use Rattle.test_cases.specs.Dumped.{IsDump}

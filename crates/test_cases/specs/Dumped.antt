@@ -6,8 +6,8 @@ use Rattle.saphyr_parser.specs.Types.Fault.TheVariants as fault
 use Rattle.saphyr_parser.specs.Events.{Happening}
 use Rattle.saphyr_parser.specs.Answer.{Answer, Refused}
 use Rattle.saphyr_parser.specs.Printed.{printed_lines}
-use Rattle.test_case_files.specs.Lines.{line_of_fault}
-use Rattle.test_case_files.specs.Listings.{IsBefore}
+use Rattle.test_events.specs.Lines.{line_of_fault}
+use Rattle.test_events.specs.Listings.{IsBefore}
 
 -- The text is the lines of the events up to this fault.
 abbrev pub IsDumpUpTo : Fault → List ℕ → Answer → Type 0

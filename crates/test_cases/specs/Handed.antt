@@ -7,8 +7,8 @@ use Rattle.saphyr_parser.specs.Types.Fault.{Fault}
 use Rattle.saphyr_parser.specs.Types.Fault.TheVariants.{Receiver}
 use Rattle.saphyr_parser.specs.Answer.{Answer, empty_answer}
 use Rattle.saphyr_parser.specs.Cursor.{EventCursor, count, to_come}
-use Rattle.test_case_files.specs.Lines.{Comparing, IsNext, line_of_fault}
-use Rattle.test_case_files.specs.Listings.{ListAll, lines_of_events}
+use Rattle.test_events.specs.Lines.{Comparing, IsNext, line_of_fault}
+use Rattle.test_events.specs.Listings.{ListAll, lines_of_events}
 
 -- A parser between documents: no fault was met, and the end of the stream was not handed out.
 pub record StandsBetween (parser : EventCursor) : Type 0 where

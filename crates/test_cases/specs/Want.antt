@@ -7,7 +7,7 @@ use Rattle.saphyr_parser.specs.Types.Fault.{Fault}
 use Rattle.saphyr_parser.specs.Types.Fault.TheVariants as fault
 use Rattle.saphyr_parser.specs.Answer.{OutOfMemory}
 use Rattle.saphyr_parser.specs.Cursor.{EventCursor, Kept}
-use Rattle.test_case_files.specs.Lines.{Comes}
+use Rattle.test_events.specs.Lines.{Comes}
 
 -- A fault that was met is lack of memory, and wasn't given yet.
 abbrev pub IsUngivenWant : Option Kept → Type 0

@@ -4,7 +4,7 @@ ghost use Rattle.test_cases.specs.Agreement.{AgreesOn};
 
 use crate::{refused_memory, refusing, trees, ways, writing};
 use std::alloc::{AllocError, Global};
-use test_case_files::{Case, Difference};
+use test_events::{Case, Difference};
 
 /// How many differences are shown of a file.
 const MOST_SHOWN: usize = 20;
@@ -63,9 +63,9 @@ impl Findings {
         ensures count { self.new.agreeing ≡ self.old.agreeing }
         ensures shown { OnOk result (0 < vec_len self.new.differences) }
     {
-        match difference {
-            Difference::OutOfMemory(error) => Err(error),
-            Difference::Found(text) => self.put_text(alloc, name, text.as_str()),
+        match difference.text() {
+            Ok(text) => self.put_text(alloc, name, text.as_str()),
+            Err(error) => Err(error),
         }
     }
 

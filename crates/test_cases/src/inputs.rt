@@ -8,7 +8,7 @@ ghost use Rattle.saphyr_parser.specs.Cursor.{at_start, keeping_tags};
 use example_input::Characters;
 use saphyr_parser::{CloneInput, Parser, StrInput, lists_characters};
 use std::alloc::Global;
-use test_case_files::{Case, Difference};
+use test_events::{Case, Difference};
 
 /// A parser of the text of a case, from a string.
 pub fn parser_of<'a>(alloc: Global, case: &'a Case) -> Parser<'a, StrInput<'a>>

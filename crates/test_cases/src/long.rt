@@ -7,7 +7,7 @@ use crate::inputs::{Comparison, compare_inputs};
 use crate::writing::{WHOLE, is_dumped};
 use saphyr_parser::{CloneInput, Parser};
 use std::alloc::{AllocError, Global};
-use test_case_files::Difference;
+use test_events::Difference;
 
 /// Compares what `dump` writes of each text.
 pub fn compare(alloc: Global) -> Result<(), Difference>

@@ -37,33 +37,49 @@ use std::alloc::AllocError;
 use std::env::{Env, FillError};
 use std::process::ExitCode;
 use std::{fs, io};
-use test_case_files::{Case, Difference, parse_cases, printed};
-use thiserror::Error;
+use test_events::{Case, Difference, parse_cases, printed};
 
 /// The names of the files.
-const FILES: [&str; 6] = ["worked", "json", "layout", "hostile", "standard", "cuts"];
+const FILES: &[&str] = &["worked", "json", "layout", "hostile", "standard", "cuts"];
 
 /// The argument with which requests for memory may be refused.
 const REFUSED: &[u8] = b"refused";
 
 /// Why the cases can't be compared, or what differs.
-#[derive(Debug, Drop, Error)]
 enum Failure {
-    #[error("out of memory")]
-    OutOfMemory(#[from] AllocError),
-    #[error("the cases can't be read, or the lines can't be printed")]
-    Io(#[from] io::Error),
-    #[error("usage: test_cases [refused]")]
+    OutOfMemory,
+    Io,
     Arguments,
-    #[error("{0}")]
     Found(String),
+}
+
+// Written out, so that each place where a failure is dropped is one call.
+impl Drop for Failure {
+    fn drop(self) {
+        match self {
+            Failure::OutOfMemory | Failure::Io | Failure::Arguments => {}
+            Failure::Found(_text) => {}
+        }
+    }
+}
+
+impl From<AllocError> for Failure {
+    fn from(_error: AllocError) -> Self {
+        Failure::OutOfMemory
+    }
+}
+
+impl From<io::Error> for Failure {
+    fn from(_error: io::Error) -> Self {
+        Failure::Io
+    }
 }
 
 impl From<Difference> for Failure {
     fn from(difference: Difference) -> Self {
-        match difference {
-            Difference::OutOfMemory(error) => Failure::OutOfMemory(error),
-            Difference::Found(text) => Failure::Found(text),
+        match difference.text() {
+            Ok(text) => Failure::Found(text),
+            Err(error) => Failure::from(error),
         }
     }
 }
@@ -75,13 +91,22 @@ impl Failure {
             _ => 2,
         }
     }
+
+    fn words(&self) -> &str {
+        match self {
+            Failure::OutOfMemory => "out of memory",
+            Failure::Io => "the cases can't be read, or the lines can't be printed",
+            Failure::Arguments => "usage: test_cases [refused]",
+            Failure::Found(text) => text.as_str(),
+        }
+    }
 }
 
 fn main(rt: HostRuntime) -> ExitCode {
     match run(&rt) {
         Ok(()) => ExitCode::SUCCESS,
         Err(failure) => {
-            let _ = eprintln!(rt; "test_cases: {failure}");
+            let _ = eprintln!(rt; "test_cases: {}", failure.words());
             ExitCode::from(failure.status())
         }
     }
@@ -107,7 +132,7 @@ fn compare_files(rt: &HostRuntime) -> Result<(), Failure> {
 }
 
 fn check_files(rt: &HostRuntime, subject: Subject) -> Result<(), Failure> {
-    for name in FILES {
+    for &name in FILES {
         check_file(rt, name, subject)?;
     }
     Ok(())
@@ -151,8 +176,10 @@ fn show(rt: &HostRuntime, differences: &[String]) -> io::Result<()> {
 fn check_long_texts(rt: &HostRuntime) -> Result<(), Failure> {
     match long::compare(rt.alloc()) {
         Ok(()) => println!(rt; "long texts agree")?,
-        Err(Difference::OutOfMemory(error)) => return Err(Failure::OutOfMemory(error)),
-        Err(Difference::Found(difference)) => println!(rt; "long text, {difference}")?,
+        Err(difference) => {
+            let text = difference.text()?;
+            println!(rt; "long text, {text}")?;
+        }
     }
     Ok(())
 }
@@ -173,7 +200,7 @@ fn take_cases(rt: &HostRuntime, cases: &[Case]) -> Result<(), Failure> {
 }
 
 fn take_case(rt: &HostRuntime, case: &Case, lines: &str) -> Result<(), Failure> {
-    for (name, way) in WAYS {
+    for &(name, way) in WAYS {
         let outcome = take(rt.alloc(), case, lines, way)?;
         println!(rt; "{name}: {}", outcome.name())?;
     }

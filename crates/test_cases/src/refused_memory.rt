@@ -6,7 +6,7 @@
 //! in turn.
 ghost use Rattle.std.specs.Prelude.{◌≡◌, OnOk, Ok};
 ghost use Rattle.saphyr_parser.specs.Cursor.{to_come};
-ghost use Rattle.test_case_files.specs.Listings.{Agrees, ListAll};
+ghost use Rattle.test_events.specs.Listings.{Agrees, ListAll};
 ghost use Rattle.test_cases.specs.declared.refused_memory.Way.TheVariants.{NextEvent};
 ghost use Rattle.test_cases.specs.declared.refused_memory.outcome.Outcome.TheVariants.{Whole};
 
@@ -23,7 +23,7 @@ use crate::inputs::parser_of;
 use outcome::Outcome;
 use saphyr_parser::{CloneInput, Parser};
 use std::alloc::{AllocError, Global};
-use test_case_files::{Case, Difference, printed};
+use test_events::{Case, Difference, printed};
 
 /// A way to take events, or to have something else made that takes memory.
 #[derive(Clone, Copy)]
@@ -43,7 +43,7 @@ pub enum Way {
 }
 
 /// The ways, by the names that are printed.
-pub const WAYS: [(&str, Way); 12] = [
+pub const WAYS: &[(&str, Way)] = &[
     ("NextEvent", Way::NextEvent),
     ("Peek", Way::Peek),
     ("LoadAll", Way::LoadAll),
@@ -69,7 +69,7 @@ pub fn compare(alloc: Global, case: &Case) -> Result<(), Difference>
 fn are_whole(alloc: Global, case: &Case, text: &str) -> Result<(), Difference>
     ensures { OnOk result (Agrees case.now) }
 {
-    for (name, way) in WAYS {
+    for &(name, way) in WAYS {
         let taken = is_whole(alloc, case, text, way);
         Difference::found_in(alloc, name, taken)?;
     }

@@ -3,7 +3,7 @@ ghost use Rattle.std.specs.Prelude.{◌≡◌, Err, List, OnOk, String, drop, st
 ghost use Rattle.std.specs.declared.alloc.Global.{Global as Heap};
 ghost use Rattle.saphyr_parser.specs.Types.Fault.TheVariants.{Receiver};
 ghost use Rattle.saphyr_parser.specs.Cursor.{to_come};
-ghost use Rattle.test_case_files.specs.Listings.{ListAll};
+ghost use Rattle.test_events.specs.Listings.{ListAll};
 ghost use Rattle.test_cases.specs.Agreement.{RefusalAgrees, RefusalsAgree, is_event_line};
 ghost use Rattle.test_cases.specs.Handed.{ListAllButOne, StandsBetween};
 
@@ -11,7 +11,7 @@ use crate::inputs::parser_of;
 use crate::ways::is_left_to_clone;
 use saphyr_parser::{CloneInput, Fault, Input, Parser};
 use std::alloc::Global;
-use test_case_files::{Case, ComparingReceiver, Difference};
+use test_events::{Case, ComparingReceiver, Difference};
 
 /// Refuses each event of a text in turn.
 pub fn compare(alloc: Global, case: &Case) -> Result<(), Difference>

@@ -1,7 +1,7 @@
 //! The documents of a text as trees, within limits.
 ghost use Rattle.std.specs.Prelude.{OnOk};
 ghost use Rattle.saphyr_parser.specs.Cursor.{to_come};
-ghost use Rattle.test_case_files.specs.Listings.{ListAll};
+ghost use Rattle.test_events.specs.Listings.{ListAll};
 ghost use Rattle.test_cases.specs.Agreement.{TreesAgree};
 ghost use Rattle.test_cases.specs.Trees.{HasTrees, IsTold};
 
@@ -10,8 +10,7 @@ use crate::limits::{WIDE, Wanted, first_beyond, needed};
 use crate::ways::{gives_one, is_left, is_left_to_clone};
 use saphyr_parser::{CloneInput, Event, Fault, Input, Parser, ScanError, Span};
 use std::alloc::{AllocError, Global};
-use test_case_files::{Case, Difference, is_fault};
-use test_tree_events::events_of;
+use test_events::{Case, Difference, events_of, is_fault};
 use yaml_tree::{Document, Limits, TreeFault, load_documents};
 
 /// Compares the trees of a text with the events that its parser gives: within limits as wide as the text
@@ -305,5 +304,7 @@ fn have_copies(alloc: Global, documents: &[Document]) -> Result<(), Difference> 
 
 fn has_copy(document: &Document) -> Result<bool, AllocError> {
     let copy = document.try_clone()?;
-    Ok(copy == *document)
+    let is_equal = copy == *document;
+    drop(copy);
+    Ok(is_equal)
 }

@@ -2,13 +2,13 @@
 //! clones.
 ghost use Rattle.std.specs.Prelude.{◌≡◌, ◌<◌, IfOk, OnOk, true};
 ghost use Rattle.saphyr_parser.specs.Cursor.{Stays, count, keeping_tags, to_come};
-ghost use Rattle.test_case_files.specs.Listings.{Agrees, ListAll};
+ghost use Rattle.test_events.specs.Listings.{Agrees, ListAll};
 ghost use Rattle.test_cases.specs.Handed.{HasMore, LoadsOn, MayLoad, StandsBetween, TakesAnswer};
 
 use crate::inputs::{Comparison, compare_inputs};
 use saphyr_parser::{CloneInput, Fault, Input, Parser};
 use std::alloc::{AllocError, Global};
-use test_case_files::{Case, ComparingReceiver, Difference, Expected};
+use test_events::{Case, ComparingReceiver, Difference, Expected};
 
 /// How many lines a case may have whose parser is cloned at each place.
 const MOST_CLONED: usize = 16;

@@ -1,15 +1,15 @@
 //! What `dump` writes, and what a writer has taken where it fails.
 ghost use Rattle.std.specs.Prelude.{◌≡◌, IfOk, OnOk, Some, false, option_map};
 ghost use Rattle.saphyr_parser.specs.Cursor.{to_come};
-ghost use Rattle.test_case_files.specs.Lines.{line_of_fault};
-ghost use Rattle.test_case_files.specs.Listings.{fault_line_of, case_answer};
+ghost use Rattle.test_events.specs.Lines.{line_of_fault};
+ghost use Rattle.test_events.specs.Listings.{fault_line_of, case_answer};
 ghost use Rattle.test_cases.specs.Agreement.{DumpAgrees};
 ghost use Rattle.test_cases.specs.Dumped.{IsDump, IsWritten};
 
 use crate::inputs::parser_of;
 use saphyr_parser::{DumpFault, Fault, Input, Parser, dump};
 use std::alloc::Global;
-use test_case_files::{Case, Difference, KeepingWriter, Manner, printed, push_item};
+use test_events::{Case, Difference, KeepingWriter, Manner, printed, push_item};
 
 /// How many bytes the lines may have of which each is refused alone.
 const MOST_CUT: usize = 200;

@@ -5,8 +5,10 @@ use saphyr_parser::{DumpFault, Fault, Input, Marker, Parser, ScanError, dump};
 use std::alloc::Global;
 
 // A fault prints this.
-fn prints(alloc: Global, fault: &DumpFault, text: &str) -> bool {
-    is_text(fault.to_string(alloc), text)
+fn prints(alloc: Global, fault: DumpFault, text: &str) -> bool {
+    let printed = fault.to_string(alloc);
+    drop(fault);
+    is_text(printed, text)
 }
 
 // `dump` answers so, the text of its fault or nothing, and the writer has then taken these lines.
@@ -19,7 +21,7 @@ fn is_dumped<T: Input + Drop>(
 ) -> bool {
     let is_answer = match dump(parser, out) {
         Ok(()) => answer.is_empty(),
-        Err(fault) => prints(alloc, &fault, answer),
+        Err(fault) => prints(alloc, fault, answer),
     };
     is_answer && out.has_taken(lines)
 }
@@ -91,7 +93,7 @@ fn stops_at_a_fault(rt: HostRuntime) {
 // The fault of a text that is refused there prints this.
 fn prints_refusal(alloc: Global, mark: Marker, text: &str) -> bool {
     match ScanError::new_str(alloc, mark, "x") {
-        Ok(error) => prints(alloc, &DumpFault::Parse(Fault::Scan(error)), text),
+        Ok(error) => prints(alloc, DumpFault::Parse(Fault::Scan(error)), text),
         Err(_) => false,
     }
 }
@@ -100,11 +102,7 @@ fn prints_refusal(alloc: Global, mark: Marker, text: &str) -> bool {
 fn says_why_lines_are_missing(rt: HostRuntime) {
     let alloc = rt.alloc();
     let holds = prints_refusal(alloc, Marker::new(3, 1, 3), "x at byte 3 line 1 column 4")
-        && prints(
-            alloc,
-            &DumpFault::Parse(Fault::OutOfMemory),
-            "out of memory",
-        )
-        && prints(alloc, &DumpFault::Write, "can't write");
+        && prints(alloc, DumpFault::Parse(Fault::OutOfMemory), "out of memory")
+        && prints(alloc, DumpFault::Write, "can't write");
     assert!(rt; holds);
 }

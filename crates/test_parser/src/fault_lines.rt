@@ -3,7 +3,7 @@
 use crate::helpers::is_text;
 use saphyr_parser::{Fault, Marker, ScanError};
 use std::alloc::Global;
-use test_case_files::push_item;
+use test_events::push_item;
 
 // Whether the line of a fault is `! ` and the fault as it prints.
 fn has_its_line(alloc: Global, fault: Fault) -> bool {

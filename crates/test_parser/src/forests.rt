@@ -7,8 +7,8 @@ use crate::helpers::{is_text, owned};
 use saphyr_parser::{Event, Tag};
 use saphyr_scalar::ScalarStyle;
 use std::alloc::{AllocError, Global};
-use test_forest_events::forest_events;
-use test_forest_events::tree::{Directive, Document, Handle, Node, Properties, WrittenTag};
+use test_events::forest::tree::{Directive, Document, Handle, Node, Properties, WrittenTag};
+use test_events::forest_events;
 
 /// What may come before a scalar. A handle is named by its word, and `!` by none.
 #[derive(Clone, Copy)]

@@ -12,7 +12,7 @@ use saphyr_parser::{
 use std::alloc::{AllocError, Global};
 use std::process::Abort;
 use std::str::Chars;
-use test_case_files::push_item;
+use test_events::push_item;
 
 /// A call of a parser.
 #[derive(Clone, Copy)]
@@ -185,11 +185,7 @@ fn told_of<T: Input + Drop>(
 
 /// The lines of a text at these calls, where no more characters than the limit may be read.
 pub fn told_by_str(alloc: Global, text: &str, limit: Option<usize>, calls: Calls<'_>) -> String {
-    let parser = match limit {
-        Some(limit) => Parser::with_limit(alloc, StrInput::new(text), limit),
-        None => Parser::new_from_str(alloc, text),
-    };
-    told(alloc, parser, calls)
+    told_of(alloc, StrInput::new(text), limit, calls)
 }
 
 fn characters_of<'a>(alloc: Global, text: &'a str) -> Result<BufferedInput<Chars<'a>>, AllocError> {

@@ -4,7 +4,7 @@ use crate::refused_memory::outcome::Outcome;
 use crate::refused_memory::ways::{Kind, next_kind, pass_item, take_left};
 use saphyr_parser::{CloneInput, Event, Fault, Input, Parser, Span};
 use std::alloc::{AllocError, Global};
-use test_case_files::{Difference, Expected};
+use test_events::{Difference, Expected};
 
 /// How many places of a text a parser is cloned at, about.
 const MOST_PLACES: usize = 24;
@@ -112,10 +112,14 @@ fn copy_item(item: &Option<Result<(Event<'_>, Span), Fault>>) -> Option<Outcome>
 
 fn has_copy(event: &Event<'_>) -> Result<bool, AllocError> {
     let copy = event.try_clone()?;
-    Ok(copy == *event)
+    let is_equal = copy == *event;
+    drop(copy);
+    Ok(is_equal)
 }
 
 fn has_fault_copy(fault: &Fault) -> Result<bool, AllocError> {
     let copy = fault.try_clone()?;
-    Ok(copy == *fault)
+    let is_equal = copy == *fault;
+    drop(copy);
+    Ok(is_equal)
 }

@@ -2,7 +2,7 @@
 ghost use Rattle.std.specs.Prelude.{◌≡◌, IfOk, OnOk, string_bytes, true};
 ghost use Rattle.saphyr_parser.specs.Answer.{empty_answer};
 ghost use Rattle.saphyr_parser.specs.Cursor.{to_come};
-ghost use Rattle.test_case_files.specs.Listings.{is_fault_line};
+ghost use Rattle.test_events.specs.Listings.{is_fault_line};
 ghost use Rattle.test_cases.specs.declared.refused_memory.outcome.Outcome.TheVariants.{Refused};
 
 use crate::refused_memory::loading::{is_over, load_next};
@@ -11,13 +11,13 @@ use crate::refused_memory::ways::{Kind, next_kind};
 use crate::trees::ends_with_fault;
 use saphyr_parser::{Input, Parser};
 use std::alloc::Global;
-use test_case_files::Difference;
+use test_events::Difference;
 
 /// Whether the line is that of a fault.
 pub fn is_fault(line: &String) -> bool
     ensures { result ≡ is_fault_line (string_bytes line.now) }
 {
-    test_case_files::is_fault(line.as_str())
+    test_events::is_fault(line.as_str())
 }
 
 // `peek` shows nothing.

@@ -5,7 +5,7 @@ use crate::refused_memory::ways::{by_peek, give_want, last};
 use crate::trees::ends_with_fault;
 use saphyr_parser::{Fault, Input, Parser};
 use std::alloc::Global;
-use test_case_files::{ComparingReceiver, Difference, Expected};
+use test_events::{ComparingReceiver, Difference, Expected};
 
 /// The events are taken by `load`, all at once or a document at a time, and with at most one call for each line.
 pub fn by_load<T: Input>(

@@ -5,7 +5,7 @@ use crate::refused_memory::ways::{by_next_event, last};
 use crate::writing::WHOLE;
 use saphyr_parser::{DumpFault, Fault, Input, Marker, Parser, ScanError, dump, lists_characters};
 use std::alloc::{AllocError, Global};
-use test_case_files::{Case, Difference, Expected, KeepingWriter};
+use test_events::{Case, Difference, Expected, KeepingWriter};
 
 /// `dump` writes whole lines, and where it answers lack of memory, nothing is left.
 pub fn by_dump<T: Input>(
@@ -29,7 +29,9 @@ fn dump_lines<T: Input>(
 ) -> Result<Outcome, Difference> {
     let mut writer = KeepingWriter::new(alloc, WHOLE);
     let answer = dump(parser, &mut writer);
-    has_dumped(alloc, &writer, &answer, last, text)
+    let dumped = has_dumped(alloc, &writer, &answer, last, text);
+    drop(answer);
+    dumped
 }
 
 fn has_dumped(

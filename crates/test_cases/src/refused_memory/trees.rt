@@ -8,8 +8,7 @@ use crate::trees::has_event;
 use crate::ways::gives_one;
 use saphyr_parser::{CloneInput, Event, Fault, Input, Parser, Span};
 use std::alloc::{AllocError, Global};
-use test_case_files::{Difference, Expected};
-use test_tree_events::events_of;
+use test_events::{Difference, Expected, events_of};
 use yaml_tree::{Document, TreeFault, load_document, load_documents};
 
 /// How loading ends.
@@ -47,7 +46,9 @@ fn load_lines<T: CloneInput>(
 ) -> Result<Loaded, Difference> {
     let mut again = parser.try_clone()?;
     let loaded = load(alloc, parser, each);
-    judge(alloc, &loaded, &mut again, lines)
+    let judged = judge(alloc, &loaded, &mut again, lines);
+    drop(loaded);
+    judged
 }
 
 fn load<T: Input>(
@@ -97,7 +98,7 @@ pub fn judge_fault(
             is_last(alloc, fault, last)?;
             Ok(Loaded::Whole)
         }
-        fault => Err(Difference::Found(format!(in alloc; "{fault}")?)),
+        fault => Err(Difference::told(format!(in alloc; "{fault}"))),
     }
 }
 
@@ -134,7 +135,9 @@ fn pass_event<T: Input>(
     expected: &mut Expected<'_>,
 ) -> Result<(), Difference> {
     let item = parser.next_event();
-    is_event(alloc, &item, event, expected)
+    let passed = is_event(alloc, &item, event, expected);
+    drop(item);
+    passed
 }
 
 fn is_event(

@@ -5,7 +5,7 @@ use crate::refused_memory::trees::{Loaded, judge_fault};
 use crate::refused_memory::ways::last;
 use saphyr_parser::{Input, Parser, Span};
 use std::alloc::{AllocError, Global};
-use test_case_files::Difference;
+use test_events::Difference;
 use yaml_tree::{Document, DocumentSpans, Node, TreeFault, Walk, load_documents_with_spans};
 
 /// The documents are loaded with their places, their nodes are counted, and the path to each node leads there. Where
@@ -23,7 +23,9 @@ pub fn by_walks<T: Input>(
 }
 
 fn end_walks(alloc: Global, fault: TreeFault, last: &[String]) -> Result<Outcome, Difference> {
-    match judge_fault(alloc, &fault, last) {
+    let judged = judge_fault(alloc, &fault, last);
+    drop(fault);
+    match judged {
         Ok(Loaded::Whole) => Ok(Outcome::Whole),
         Ok(_) => Ok(Outcome::Refused),
         Err(difference) => Err(difference),
@@ -32,10 +34,9 @@ fn end_walks(alloc: Global, fault: TreeFault, last: &[String]) -> Result<Outcome
 
 fn walk_all<T: Input>(alloc: Global, parser: &mut Parser<'_, T>) -> Result<bool, TreeFault> {
     let loaded = load_documents_with_spans(alloc, parser, WIDE)?;
-    match walk_documents(alloc, loaded.documents.as_slice(), loaded.spans.as_slice()) {
-        Ok(leads) => Ok(leads),
-        Err(error) => Err(TreeFault::from(error)),
-    }
+    let walked = walk_documents(alloc, loaded.documents.as_slice(), loaded.spans.as_slice());
+    drop(loaded);
+    Ok(walked?)
 }
 
 fn walk_documents(

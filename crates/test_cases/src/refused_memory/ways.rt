@@ -4,7 +4,7 @@ ghost use Rattle.saphyr_parser.specs.Types.Fault.TheVariants.{OutOfMemory};
 ghost use Rattle.saphyr_parser.specs.Answer as answer;
 ghost use Rattle.saphyr_parser.specs.Answer.{fault_alone, empty_answer};
 ghost use Rattle.saphyr_parser.specs.Cursor.{Stays, count, to_come};
-ghost use Rattle.test_case_files.specs.Listings.{ListAll};
+ghost use Rattle.test_events.specs.Listings.{ListAll};
 ghost use Rattle.test_cases.specs.Want.{IsInWant, PassesItem};
 ghost use Rattle.test_cases.specs.declared.refused_memory.outcome.Outcome.TheVariants.{Refused, Whole};
 ghost use Rattle.test_cases.specs.declared.refused_memory.ways.Kind.TheVariants.{Nothing};
@@ -13,7 +13,7 @@ use crate::refused_memory::ended::{is_ended, is_ended_by_memory, is_fault};
 use crate::refused_memory::outcome::Outcome;
 use saphyr_parser::{Event, Fault, Input, Parser, Span};
 use std::alloc::Global;
-use test_case_files::{Difference, Expected};
+use test_events::{Difference, Expected};
 
 /// The last line of a case, where there is one.
 pub fn last(lines: &[String]) -> &[String]
@@ -38,6 +38,7 @@ pub fn pass_item(
     ensures { IfOk result (λ comes. PassesItem comes item.entry expected.old expected.new) }
 {
     if is_want(&item) {
+        drop(item);
         return Ok(false);
     }
     expected.pass_given(item)?;
@@ -169,7 +170,10 @@ pub enum Kind {
 pub fn next_kind<T: Input>(parser: &mut Parser<'_, T>) -> Kind
     ensures { result ≡ Nothing → to_come parser.new ≡ empty_answer }
 {
-    kind_of(&parser.next_event())
+    let item = parser.next_event();
+    let kind = kind_of(&item);
+    drop(item);
+    kind
 }
 
 fn kind_of(item: &Option<Result<(Event<'_>, Span), Fault>>) -> Kind

@@ -2,7 +2,7 @@ use Rattle.std.proofs.Common.{◌≡◌, ◌+◌, ◌<◌, List, ap, arith, leng
 use Rattle.std.specs.List.{All}
 use Rattle.std.proofs.lemmas.List.{take_all}
 use Rattle.std.proofs.lemmas.List.Elements.{All-more}
-use Rattle.test_case_files.specs.declared.case.Case.{Case}
+use Rattle.test_events.specs.declared.case.Case.{Case}
 use Rattle.test_cases.specs.Agreement.{AgreesOn}
 use Rattle.test_cases.specs.declared.findings.Findings.{Findings}
 use Rattle.test_cases.proofs.findings.compare_all.Goals as goal

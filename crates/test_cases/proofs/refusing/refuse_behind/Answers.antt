@@ -1,6 +1,6 @@
 use Rattle.std.proofs.Common.{ap, true, subst}
 use Rattle.saphyr_parser.specs.Loading.{portion_to_send, Loads}
-use Rattle.test_case_files.specs.Lines.{Comparing}
+use Rattle.test_events.specs.Lines.{Comparing}
 use Rattle.test_cases.proofs.Loading.{refused_ends, takes}
 use Rattle.test_cases.proofs.refusing.refuse_behind.Goals as goal
 

@@ -1,6 +1,6 @@
 use Rattle.std.proofs.Common.{subst}
 use Rattle.saphyr_parser.specs.Cursor.{to_come}
-use Rattle.test_case_files.specs.Listings.{ListAll}
+use Rattle.test_events.specs.Listings.{ListAll}
 use Rattle.test_cases.proofs.Loading.{anyway}
 use Rattle.test_cases.proofs.refusing.refuse_between.Goals as goal
 

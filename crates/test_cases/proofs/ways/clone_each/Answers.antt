@@ -1,5 +1,5 @@
 use Rattle.std.proofs.lemmas.Result.{on_ok_weaker}
-use Rattle.test_case_files.proofs.Listings.{lists_stayed}
+use Rattle.test_events.proofs.Listings.{lists_stayed}
 use Rattle.test_cases.proofs.ways.clone_each.Goals as goal
 
 pub loop-line-preserved : goal.loop-line-preserved

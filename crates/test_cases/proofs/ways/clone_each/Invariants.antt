@@ -1,5 +1,5 @@
 use Rattle.saphyr_parser.specs.Cursor.{to_come}
-use Rattle.test_case_files.specs.Listings.{ListAll}
+use Rattle.test_events.specs.Listings.{ListAll}
 use Rattle.test_cases.proofs.ways.clone_each.Given as goal
 
 -- What is left is all that was there, but for the lines that have come.

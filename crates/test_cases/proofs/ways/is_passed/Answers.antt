@@ -1,5 +1,5 @@
 use Rattle.std.proofs.Common.{Some}
-use Rattle.test_case_files.proofs.Listings.{lists_more}
+use Rattle.test_events.proofs.Listings.{lists_more}
 use Rattle.test_cases.proofs.ways.is_passed.Goals as goal
 
 pub loop-item-preserved : goal.loop-item-preserved

@@ -1,5 +1,5 @@
 use Rattle.saphyr_parser.specs.Cursor.{to_come}
-use Rattle.test_case_files.specs.Listings.{ListAll}
+use Rattle.test_events.specs.Listings.{ListAll}
 use Rattle.test_cases.proofs.ways.is_passed.Given as goal
 
 abbrev pub invariant-loop-item : goal.invariant-loop-item

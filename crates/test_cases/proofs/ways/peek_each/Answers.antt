@@ -1,8 +1,8 @@
 use Rattle.std.proofs.Common.{◌∙◌, subst}
 use Rattle.std.proofs.lemmas.Result.{on_ok_weaker}
 use Rattle.saphyr_parser.specs.Cursor.{to_come}
-use Rattle.test_case_files.specs.Listings.{ListAll}
-use Rattle.test_case_files.proofs.Listings.{lists_stayed}
+use Rattle.test_events.specs.Listings.{ListAll}
+use Rattle.test_events.proofs.Listings.{lists_stayed}
 use Rattle.test_cases.proofs.ways.peek_each.Goals as goal
 
 pub loop-line-preserved : goal.loop-line-preserved

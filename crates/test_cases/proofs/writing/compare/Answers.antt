@@ -1,7 +1,7 @@
 use Rattle.std.proofs.Common.{subst, ap, ◌∙◌}
 use Rattle.std.specs.Result.{OnOk}
-use Rattle.test_case_files.specs.Files.{dumped_text}
-use Rattle.test_case_files.specs.Listings.{fault_line_of, case_answer}
+use Rattle.test_events.specs.Files.{dumped_text}
+use Rattle.test_events.specs.Listings.{fault_line_of, case_answer}
 use Rattle.test_cases.specs.Dumped.{IsDump}
 use Rattle.test_cases.proofs.writing.compare.Goals as goal
 

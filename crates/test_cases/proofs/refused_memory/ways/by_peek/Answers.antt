@@ -1,6 +1,6 @@
 use Rattle.std.proofs.Common.{◌≡◌, Ok, subst}
 use Rattle.saphyr_parser.specs.Cursor.{to_come}
-use Rattle.test_case_files.specs.Listings.{ListAll}
+use Rattle.test_events.specs.Listings.{ListAll}
 use Rattle.test_cases.specs.declared.refused_memory.outcome.Outcome.TheVariants.{Whole}
 use Rattle.test_cases.proofs.refused_memory.ways.by_peek.Goals as goal
 

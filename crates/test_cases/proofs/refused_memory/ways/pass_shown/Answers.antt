@@ -1,8 +1,8 @@
 use Rattle.std.proofs.Common.{subst}
 use Rattle.std.proofs.lemmas.Result.{IfOk-weaker}
 use Rattle.saphyr_parser.specs.Cursor.{to_come}
-use Rattle.test_case_files.specs.Listings.{ListAll}
-use Rattle.test_case_files.proofs.Listings.{lists_more, lists_stayed}
+use Rattle.test_events.specs.Listings.{ListAll}
+use Rattle.test_events.proofs.Listings.{lists_more, lists_stayed}
 use Rattle.test_cases.specs.Want.{PassesItem}
 use Rattle.test_cases.proofs.refused_memory.ways.pass_shown.Goals as goal
 

@@ -2,7 +2,7 @@ use Rattle.std.proofs.Common.{◌≡◌, subst}
 use Rattle.std.specs.Result.{OnOk}
 use Rattle.saphyr_parser.specs.Answer.{empty_answer}
 use Rattle.saphyr_parser.specs.Cursor.{to_come}
-use Rattle.test_case_files.proofs.Listings.{lists_stayed}
+use Rattle.test_events.proofs.Listings.{lists_stayed}
 use Rattle.test_cases.proofs.Ends.{lists_over}
 use Rattle.test_cases.proofs.refused_memory.ways.peek_lines.Goals as goal
 

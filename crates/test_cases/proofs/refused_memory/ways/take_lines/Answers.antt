@@ -1,5 +1,5 @@
 use Rattle.std.proofs.Common.{Some, subst}
-use Rattle.test_case_files.proofs.Listings.{hands_less, lists_more}
+use Rattle.test_events.proofs.Listings.{hands_less, lists_more}
 use Rattle.test_cases.specs.Want.{PassesItem}
 use Rattle.test_cases.proofs.refused_memory.ways.take_lines.Goals as goal
 

@@ -1,5 +1,5 @@
 use Rattle.saphyr_parser.specs.Cursor.{count, to_come}
-use Rattle.test_case_files.specs.Listings.{ListAll}
+use Rattle.test_events.specs.Listings.{ListAll}
 use Rattle.test_cases.proofs.refused_memory.ways.take_lines.Given as goal
 
 abbrev pub invariant-loop-item : goal.invariant-loop-item

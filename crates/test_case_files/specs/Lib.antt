@@ -1,4 +1,0 @@
-pub mod Escapes
-pub mod Files
-pub mod Lines
-pub mod Listings

@@ -1,0 +1,11 @@
+pub mod Fronts
+pub mod Reading
+pub mod Sections
+pub mod Places
+pub mod Dumping
+pub mod Listings
+pub mod Behind
+pub mod EventSteps
+pub mod Handles
+pub mod Parts
+pub mod Pushed

@@ -1,0 +1,137 @@
+//! The lines that a parser is to give.
+ghost use Rattle.std.specs.Prelude.{◌≡◌, OnOk, [], drop, is_ok, if◌then◌else◌, string_bytes};
+ghost use Rattle.test_events.specs.Lines.{Comes, IsNext, item_of};
+
+use crate::difference::Difference;
+use crate::printing::push_item;
+use saphyr_parser::{Event, Fault, Span};
+use std::alloc::Global;
+use std::marker::Model;
+
+/// The lines that are still to come.
+pub struct Expected<'a> {
+    alloc: Global,
+    lines: &'a [String],
+    // The line of what came last.
+    shown: String,
+}
+
+impl Drop for Expected<'_> {
+    fn drop(self) {
+        let Expected {
+            alloc: _alloc,
+            lines: _lines,
+            shown: _shown,
+        } = self;
+    }
+}
+
+impl<'a> Model for Expected<'a> {
+    ghost use Rattle.std.specs.Prelude.{List, String};
+    ghost use Rattle.std.specs.declared.alloc.Global.{Global as Heap};
+
+    ghost Value = { List (String Heap) };
+
+    ghost view = { λ e. e.lines.now };
+}
+
+impl<'a> Expected<'a> {
+    pub fn new(alloc: Global, lines: &'a [String]) -> Self
+        ensures { result ≡ lines.now }
+    {
+        Expected {
+            alloc,
+            lines,
+            shown: String::new(alloc),
+        }
+    }
+
+    /// The lines that haven't come.
+    pub fn left(&self) -> &'a [String]
+        ensures { result.now ≡ self.now }
+    {
+        self.lines
+    }
+
+    /// What comes is the next line, or nothing where no line is left.
+    pub fn is_next(
+        &mut self,
+        item: Option<Result<&(Event<'_>, Span), &Fault>>,
+    ) -> Result<(), Difference>
+        ensures comes { OnOk result (Comes (item_of item.entry) self.old) }
+        ensures same { self.new ≡ self.old }
+    {
+        let Some(item) = item else {
+            return self.ends();
+        };
+        self.shown.clear();
+        push_item(&mut self.shown, item)?;
+        is_first(self.alloc, &self.shown, self.lines)
+    }
+
+    /// The same, and the next line has come.
+    pub fn pass(
+        &mut self,
+        item: Option<Result<&(Event<'_>, Span), &Fault>>,
+    ) -> Result<(), Difference>
+        ensures comes { OnOk result (Comes (item_of item.entry) self.old) }
+        ensures rest { self.new ≡ (if is_ok result then drop 1 self.old else self.old) }
+    {
+        let passed = self.is_next(item);
+        if passed.is_ok() {
+            self.lines = self.lines.get(1..).unwrap_or(&[]);
+        }
+        passed
+    }
+
+    /// The same of what was handed out.
+    pub fn pass_given(
+        &mut self,
+        item: Option<Result<(Event<'_>, Span), Fault>>,
+    ) -> Result<(), Difference>
+        ensures comes { OnOk result (Comes item.entry self.old) }
+        ensures rest { self.new ≡ (if is_ok result then drop 1 self.old else self.old) }
+    {
+        let passed = self.pass_item(&item);
+        drop(item);
+        passed
+    }
+
+    /// The same of what is kept.
+    pub fn pass_item(
+        &mut self,
+        item: &Option<Result<(Event<'_>, Span), Fault>>,
+    ) -> Result<(), Difference>
+        ensures comes { OnOk result (Comes item.now self.old) }
+        ensures rest { self.new ≡ (if is_ok result then drop 1 self.old else self.old) }
+    {
+        match item {
+            Some(item) => self.pass(Some(item.as_ref())),
+            None => self.pass(None),
+        }
+    }
+
+    // No line is left.
+    fn ends(&self) -> Result<(), Difference>
+        ensures { OnOk result (self.now ≡ []) }
+    {
+        match self.lines.first() {
+            None => Ok(()),
+            Some(wanted) => Err(Difference::told(format!(in self.alloc; "{wanted:?} is missing"))),
+        }
+    }
+}
+
+// The line is the first of these.
+fn is_first(alloc: Global, line: &String, lines: &[String]) -> Result<(), Difference>
+    ensures { OnOk result (IsNext (string_bytes line.now) lines.now) }
+{
+    match lines.first() {
+        Some(wanted) if *wanted == *line => Ok(()),
+        Some(wanted) => {
+            let text = format!(in alloc; "{line:?} in place of {wanted:?}");
+            Err(Difference::told(text))
+        }
+        None => Err(Difference::told(format!(in alloc; "{line:?} is too much"))),
+    }
+}

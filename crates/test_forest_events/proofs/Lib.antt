@@ -1,4 +1,0 @@
-pub mod Parts
-pub mod EventSteps
-pub mod Handles
-pub mod Behind
