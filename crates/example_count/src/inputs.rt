@@ -5,7 +5,7 @@ use saphyr_parser::{Fault, Parser, lists_characters};
 use std::alloc::Global;
 
 /// The scalars of a text by each input, and the furthest index of an event.
-#[derive(Clone, Copy, Debug)]
+#[derive(Clone, Copy)]
 pub struct Counts {
     pub from_text: usize,
     pub from_iterator: usize,

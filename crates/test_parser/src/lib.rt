@@ -10,6 +10,8 @@
 #[cfg(test)]
 mod checker;
 #[cfg(test)]
+mod counting;
+#[cfg(test)]
 mod dumping;
 #[cfg(test)]
 mod events;
