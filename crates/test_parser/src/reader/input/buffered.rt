@@ -52,9 +52,12 @@ fn gives<T: Input>(input: &mut T, c: char) -> bool {
     next == c
 }
 
+// What the input gives, and how often the iterator was asked until then.
+const GIVEN: &[(char, u8)] = &[('a', 1), ('\0', 2), ('\0', 2), ('\0', 2)];
+
 // Whether the input gives `a` and then nothing, where the iterator is asked twice.
 fn stops<T: Input + Drop>(mut input: T, calls: &Cell<u8>) -> bool {
-    for (c, count) in [('a', 1), ('\0', 2), ('\0', 2), ('\0', 2)] {
+    for &(c, count) in GIVEN {
         if !gives(&mut input, c) || calls.get() != count {
             return false;
         }
