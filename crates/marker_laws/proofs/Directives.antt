@@ -6,11 +6,11 @@ use Rattle.saphyr_input.specs.Classes.{is_break, is_blank, is_breakz, is_blank_o
 use Rattle.saphyr_input.specs.declared.input.SkipTabs.{SkipTabs}
 use Rattle.saphyr_input.specs.declared.input.SkipTabs.TheVariants as skip
 use Rattle.saphyr_scalar.specs.declared.scalar.position.Marker.{Marker}
-use Rattle.saphyr_scalar.specs.Views.Cursor.{Cursor, ◌>>=◌, refuse, along, pass_break, pass_comment}
+use Rattle.saphyr_scalar.specs.Views.Cursor.{Cursor, ◌>>=◌, refuse, along, pass_break, pass_comment, pass_all_blanks}
 use Rattle.saphyr_scalar.specs.declared.scalar.fault.FaultText.TheVariants as fault
 use Rattle.saphyr_scalar.specs.Steps.Quoted.{mid_line, with_front}
 use Rattle.saphyr_scalar.specs.Steps.Tag.{CharacterSet, handle_of, decoded_at}
-use Rattle.saphyr_scalar.specs.Steps.Directive.{pass_all_blanks, directive_name_of, name, number_end, number_from, number, behind_major, version_directive, handle_behind_word, handle, prefix, behind_prefix, tag_directive, value, line_end, directive}
+use Rattle.saphyr_scalar.specs.Steps.Directive.{directive_name_of, name, number_end, number_from, number, behind_major, version_directive, handle_behind_word, handle, prefix, behind_prefix, tag_directive, value, line_end, directive}
 use Rattle.saphyr_scalar.specs.Spelling.Directive.{ReadDirective, version, tag_prefix, reserved}
 use Rattle.saphyr_scalar.proofs.NoBreaks.{class_no_break}
 use Rattle.marker_laws.specs.Beside.{Ahead, here, character, reading, Before, before, Beside, beside, Gives, refused, given, Pairs, pairs, Triples, triples}

@@ -9,12 +9,12 @@ use Rattle.saphyr_input.specs.Classes.{is_blank, is_break, is_bom, is_yaml_non_b
 use Rattle.saphyr_input.specs.Separation.{blank_len, found_blanks}
 use Rattle.saphyr_input.specs.declared.input.SkipTabs.TheVariants.{Yes}
 use Rattle.saphyr_scalar.specs.declared.scalar.position.Marker.{Marker}
-use Rattle.saphyr_scalar.specs.Views.Cursor.{Cursor, along, pass_blanks, pass_break, pass_comment, pass_spaces, behind_separation}
+use Rattle.saphyr_scalar.specs.Views.Cursor.{Cursor, along, pass_all_blanks, pass_blanks, pass_break, pass_comment, pass_spaces, behind_separation}
 use Rattle.saphyr_scalar.specs.declared.scalar.fault.Refusal.{Refusal}
 use Rattle.saphyr_scanner.specs.Steps.Gap.{GapEnd, stop, end_of_gap, end_of_gap_in_comment, gap_at, whole_gap, is_tab_indentation, SpacesEnd, end_of_spaces, end_of_spaces_in_comment, spaces_at}
 use Rattle.saphyr_input.specs.Places.{spaces_within}
 use Rattle.saphyr_scalar.proofs.Moving.{along_none, along_more}
-use Rattle.saphyr_input.proofs.Basics.Booleans.{either, or_false_left, or_false_right, and_false}
+use Rattle.saphyr_input.proofs.Basics.Booleans.{either, or_false_left, or_false_right, or_true_swap, and_false}
 
 along-along : (m : Marker) (a b : ℕ) → along (along m a) b ≡ along m (a + b)
 along-along m a b =
@@ -116,22 +116,61 @@ spaces_passed l most broke tabbed before read after all same passed known =
     (over_spaces l before.blank_so_far broke tabbed before.mark (spaces_within most before.rest) before.rest
     (omega arith) ∙ known)
 
--- ## Breaks and tabs that are passed
+-- ## Breaks, and tabs with the blanks after them, that are passed
 
-over_tab : (l : ℕ) (blank broke tabbed : Bool) (m : Marker) (t : List ℕ) → slice_index t 0 ≡ 9
-    → end_of_gap l (along m 1) blank broke (is_tab_indentation l m blank 9 || tabbed) (drop 1 t)
+-- A tab is in the indentation only if all before it on its line are.
+settled : (l : ℕ) (m : Marker) (blank tabbed : Bool) (c : ℕ) → (tabbed ≡ false → blank ≡ true → l ≤ m.col)
+    → (is_tab_indentation l m blank c || tabbed) ≡ tabbed
+settled l m blank true c known = or_true_swap true (is_tab_indentation l m blank c) refl
+settled l m false false c known = rw (and_false (c == 9)) refl
+settled l m true false c known = let far : l ≤ m.col = known refl refl in grind (arith, nat_tests)
+
+-- so blanks behind a tab are passed
+over_blanks : (l : ℕ) (blank broke tabbed : Bool) (m : Marker) (t : List ℕ)
+    → (tabbed ≡ false → blank ≡ true → l ≤ m.col)
+    → end_of_gap l (along m (prefix_len is_blank t)) blank broke tabbed (drop (prefix_len is_blank t) t)
     ≡ end_of_gap l m blank broke tabbed t
-over_tab l blank broke tabbed m [] e = absurd (cc)
-over_tab l blank broke tabbed m (c ∷ cs) e = rw e refl
+over_blanks l blank broke tabbed m [] known = rw (along_none m) refl
+over_blanks l blank broke tabbed m (c ∷ cs) known =
+    by_test (is_blank c) refl
+    (over_blanks l blank broke tabbed (along m 1) cs
+    (λ e f. let far : l ≤ m.col = known e f in omega (arith, far)))
+  where
+    by_test : (b : Bool) → is_blank c ≡ b
+        → end_of_gap l (along (along m 1) (prefix_len is_blank cs)) blank broke tabbed (drop (prefix_len is_blank cs) cs)
+        ≡ end_of_gap l (along m 1) blank broke tabbed cs
+        → end_of_gap l (along m (prefix_len is_blank (c ∷ cs))) blank broke tabbed
+        (drop (prefix_len is_blank (c ∷ cs)) (c ∷ cs)) ≡ end_of_gap l m blank broke tabbed (c ∷ cs)
+    by_test true e rest =
+        rw (e, settled l m blank tabbed c known)
+        (sym (one_further l m blank broke tabbed (prefix_len is_blank cs) c cs) ∙ rest)
+    by_test false e rest =
+        let none : prefix_len is_blank (c ∷ cs) ≡ 0 = rw e refl in
+        ap (λ n. end_of_gap l (along m n) blank broke tabbed (drop n (c ∷ cs))) none
+        ∙ ap (λ (k : Marker). end_of_gap l k blank broke tabbed (c ∷ cs)) (along_none m)
 
--- the tab that is taken off is passed
+behind_tab : (l : ℕ) (blank broke tabbed now : Bool) (m : Marker) (t : List ℕ) → slice_index t 0 ≡ 9
+    → now ≡ (is_tab_indentation l m blank 9 || tabbed)
+    → end_of_gap l (along m (prefix_len is_blank t)) blank broke now (drop (prefix_len is_blank t) t)
+    ≡ end_of_gap l m blank broke tabbed t
+behind_tab l blank broke tabbed now m [] e told = absurd (cc)
+behind_tab l blank broke tabbed now m (c ∷ cs) e told =
+    rw (e, told) (sym (one_further l m blank broke _ (prefix_len is_blank cs) 9 cs)
+    ∙ over_blanks l blank broke _ (along m 1) cs (further (nat_lt m.col l) refl))
+  where
+    further : (b : Bool) → nat_lt m.col l ≡ b → (is_tab_indentation l m blank 9 || tabbed) ≡ false → blank ≡ true
+        → l ≤ m.col + 1
+    further b e none still = grind (arith, nat_tests)
+
+-- the tab that is taken off, with the blanks after it, is passed
 pub tab_passed : (l : ℕ) (broke tabbed now : Bool) (before read after : Cursor) (all : Result GapEnd Refusal) (c : ℕ)
     → c ≡ slice_index before.rest 0 → read ≡ before
-    → now ≡ (is_tab_indentation l read.mark read.blank_so_far c || tabbed) → after ≡ pass_blanks 1 read → c ≡ 9
+    → now ≡ (is_tab_indentation l read.mark read.blank_so_far c || tabbed) → after ≡ pass_all_blanks read → c ≡ 9
     → gap_at l broke tabbed before ≡ all → gap_at l broke now after ≡ all
 tab_passed l broke tabbed now before read after all c first same told passed tab known =
-    rw (passed, told, same, tab)
-    (over_tab l before.blank_so_far broke tabbed before.mark before.rest (sym first ∙ tab) ∙ known)
+    rw (passed, same)
+    (behind_tab l before.blank_so_far broke tabbed now before.mark before.rest (sym first ∙ tab)
+    (told ∙ rw (same, tab) refl) ∙ known)
 
 over_break : (l : ℕ) (blank broke tabbed : Bool) (m : Marker) (t : List ℕ) → is_break (slice_index t 0) ≡ true
     → gap_at l true false (pass_break (record { rest = t; mark = m; blank_so_far = blank }))

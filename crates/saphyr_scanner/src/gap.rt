@@ -39,7 +39,8 @@ fn end_gap<T: Input>(
     Ok(broke)
 }
 
-// Passes blanks, breaks and comments one after the other, with spaces and comments in one piece, as `skip_gap` says.
+// Passes blanks, breaks and comments one after the other, as `skip_gap` says. Spaces, comments, and a tab with the blanks
+// after it are each passed in one piece: a tab further right is in the indentation only if the first one is.
 #[inline(always)]
 fn skip_gap_characters<T: Input>(reader: &mut Reader<T>, least: usize) -> Result<bool, Refusal>
     ensures { GivesAs spec.seen_gap_end (spec.whole_gap least) reader.old result reader.new }
@@ -52,9 +53,9 @@ fn skip_gap_characters<T: Input>(reader: &mut Reader<T>, least: usize) -> Result
             reader.skip_spaces(usize::MAX);
         } else if c == '\t' {
             tabbed = stands_behind_tab(reader, least, tabbed, c);
-            reader.skip_blank();
+            reader.skip_blanks();
         } else if is_break(c) {
-            reader.skip_line_break();
+            reader.skip_seen_break(c);
             broke = true;
             tabbed = false;
         } else if c == '#' {

@@ -5,8 +5,7 @@ use Rattle.std.proofs.lemmas.Bool.Decides.{nat_tests}
 use Rattle.saphyr_input.specs.Classes.{is_digit, is_uri_char, is_blank, is_break, is_z, is_breakz, is_blank_or_breakz, is_yaml_non_space}
 use Rattle.saphyr_scalar.specs.declared.scalar.position.Marker.{Marker}
 use Rattle.saphyr_scalar.specs.declared.scalar.fault.Refusal.{Refusal}
-use Rattle.saphyr_scalar.specs.Views.Cursor.{Cursor, along, pass_blanks}
-use Rattle.saphyr_scalar.specs.Steps.Directive.{pass_all_blanks}
+use Rattle.saphyr_scalar.specs.Views.Cursor.{Cursor, along, pass_blanks, pass_all_blanks}
 use Rattle.saphyr_scalar.specs.Spelling.Directive.{ReadDirective}
 use Rattle.saphyr_scalar.specs.Steps.Quoted.{mid_line}
 use Rattle.saphyr_scalar.specs.Spelling.Tag.{AreIn}

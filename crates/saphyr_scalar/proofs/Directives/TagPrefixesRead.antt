@@ -6,8 +6,8 @@ use Rattle.saphyr_input.specs.Classes.{is_alpha, is_tag_char, is_uri_char, is_bl
 use Rattle.saphyr_scalar.specs.declared.scalar.position.Marker.{Marker}
 use Rattle.saphyr_scalar.specs.declared.scalar.fault.Refusal.{Refusal}
 use Rattle.saphyr_scalar.specs.declared.scalar.tag.UriSet.TheVariants.{Uri}
-use Rattle.saphyr_scalar.specs.Views.Cursor.{Cursor, ◌>>=◌, along}
-use Rattle.saphyr_scalar.specs.Steps.Directive.{pass_all_blanks, handle_behind_word, handle, prefix, behind_prefix, tag_directive}
+use Rattle.saphyr_scalar.specs.Views.Cursor.{Cursor, ◌>>=◌, along, pass_all_blanks}
+use Rattle.saphyr_scalar.specs.Steps.Directive.{handle_behind_word, handle, prefix, behind_prefix, tag_directive}
 use Rattle.saphyr_scalar.specs.Spelling.Directive.{ReadDirective, tag_prefix, AreSomeBlanks}
 use Rattle.saphyr_scalar.specs.Steps.Quoted.{with_front, mid_line}
 use Rattle.saphyr_scalar.specs.Steps.Tag.{uri_character, handle_of}

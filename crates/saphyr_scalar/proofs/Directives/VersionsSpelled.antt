@@ -9,8 +9,8 @@ use Rattle.saphyr_input.specs.Classes.{is_digit, is_blank, is_blank_or_breakz}
 use Rattle.saphyr_scalar.specs.declared.scalar.position.Marker.{Marker}
 use Rattle.saphyr_scalar.specs.declared.scalar.fault.FaultText.TheVariants as fault
 use Rattle.saphyr_scalar.specs.declared.scalar.fault.Refusal.{Refusal}
-use Rattle.saphyr_scalar.specs.Views.Cursor.{Cursor, ◌>>=◌, along, pass}
-use Rattle.saphyr_scalar.specs.Steps.Directive.{pass_all_blanks, number_end, number_from, number, behind_major, version_directive}
+use Rattle.saphyr_scalar.specs.Views.Cursor.{Cursor, ◌>>=◌, along, pass, pass_all_blanks}
+use Rattle.saphyr_scalar.specs.Steps.Directive.{number_end, number_from, number, behind_major, version_directive}
 use Rattle.saphyr_scalar.specs.Spelling.Directive.{ReadDirective, version, AreSomeBlanks, decimal_from, IsVersionNumber}
 use Rattle.saphyr_scalar.specs.Steps.Quoted.{mid_line}
 use Rattle.saphyr_scalar.specs.Spelling.Tag.{AreIn}

@@ -11,7 +11,7 @@ use Rattle.saphyr_scalar.specs.declared.scalar.directive.Directive as declared
 use Rattle.saphyr_scalar.specs.declared.scalar.directive.Directive.TheVariants as variant
 use Rattle.saphyr_scalar.specs.declared.scalar.directive.DirectiveLine.{DirectiveLine}
 use Rattle.saphyr_scalar.specs.declared.scalar.tag.UriSet.TheVariants.{Uri}
-use Rattle.saphyr_scalar.specs.Views.Cursor.{Cursor, ◌>>=◌, refuse, along, pass, pass_blanks, pass_break, pass_comment, separation}
+use Rattle.saphyr_scalar.specs.Views.Cursor.{Cursor, ◌>>=◌, refuse, along, pass, pass_blanks, pass_break, pass_comment, separation, pass_all_blanks}
 use Rattle.saphyr_scalar.specs.Steps.Quoted.{with_front, with_run, mid_line}
 use Rattle.saphyr_scalar.specs.Spelling.Directive.{ReadDirective, version, tag_prefix, reserved}
 use Rattle.saphyr_scalar.specs.Steps.Tag.{uri_character, decoded_at, handle_of}
@@ -28,10 +28,6 @@ seen_directive d s = (directive_of d, s)
 -- what contracts see of a directive with its place, and of the reader after its line
 abbrev pub seen_directive_line : DirectiveLine → Cursor → ReadDirective × Marker × Cursor
 seen_directive_line line s = (directive_of line.directive, line.end, s)
-
--- blanks are passed
-abbrev pub pass_all_blanks : Cursor → Cursor
-pass_all_blanks s = pass_blanks (prefix_len is_blank s.rest) s
 
 -- a name has a character, and ends before a blank, a break, NUL or the end
 unfoldable pub directive_name_of : Marker → List ℕ × Cursor → Result (List ℕ × Cursor) Refusal

@@ -1,7 +1,7 @@
 -- What a reader of characters takes off a text, as functions on the text that remains and the place in it.
 use Rattle.std.specs.Prelude.{ℕ, ◌+◌, ◌-◌, ◌^◌, min, Bool, true, false, ◌&&◌, nat_lt, List, drop, slice_index, Result, Ok, Err, if◌then◌else◌}
 use Rattle.std.specs.List.{prefix_len}
-use Rattle.saphyr_input.specs.Classes.{is_break, is_bom, is_yaml_non_break, carriage_return, line_feed}
+use Rattle.saphyr_input.specs.Classes.{is_blank, is_break, is_bom, is_yaml_non_break, carriage_return, line_feed}
 use Rattle.saphyr_input.specs.Places.{next_2_are, spaces_within}
 use Rattle.saphyr_input.specs.Separation.{separation_len, is_bare_comment, found_blanks}
 use Rattle.saphyr_input.specs.declared.input.SkipTabs.{SkipTabs}
@@ -40,6 +40,10 @@ next_line m n = record { index = m.index + n; line = min (m.line + 1) (2 ^ 64 - 
 -- n characters of the line are passed, of which none but blanks and comments count
 abbrev pub pass_blanks : ℕ → Cursor → Cursor
 pass_blanks n s = record { rest = drop n s.rest; mark = along s.mark n; blank_so_far = s.blank_so_far }
+
+-- the blanks that come first are passed
+abbrev pub pass_all_blanks : Cursor → Cursor
+pass_all_blanks s = pass_blanks (prefix_len is_blank s.rest) s
 
 -- spaces are passed, but no more than `most`
 abbrev pub pass_spaces : ℕ → Cursor → Cursor

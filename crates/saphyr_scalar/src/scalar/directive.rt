@@ -43,14 +43,6 @@ fn begins_prefix(c: char) -> bool
 impl<T: Input> Reader<T> {
     ghost use Rattle.saphyr_scalar.specs.Views.Reader.{cursor_of, GivesAs, GivesBy, PassesBy, ReadsBy, ReadsTextBy};
 
-    // Takes blanks off.
-    fn skip_blanks(&mut self)
-        ensures { cursor_of self.new ≡ spec.pass_all_blanks (cursor_of self.old) }
-    {
-        let count = self.input.skip_while_blank();
-        self.mark = self.mark.along(count);
-    }
-
     // Takes off the name of a directive.
     #[tactic(auto, unfolding(crate::specs::Steps::Directive::name, crate::specs::Steps::Directive::directive_name_of))]
     fn read_directive_name(&mut self, alloc: Global) -> Result<String, Stop>

@@ -151,6 +151,15 @@ impl<T: Input> Reader<T> {
         self.mark = self.mark.along(1);
     }
 
+    /// Takes off the blanks that come first.
+    #[inline]
+    pub fn skip_blanks(&mut self)
+        ensures { cursor_of self.new ≡ spec.pass_all_blanks (cursor_of self.old) }
+    {
+        let count = self.input.skip_while_blank();
+        self.mark = self.mark.along(count);
+    }
+
     /// Takes off spaces, but no more than `most`.
     #[inline(always)]
     pub fn skip_spaces(&mut self, most: usize)
@@ -179,9 +188,9 @@ impl<T: Input> Reader<T> {
         }
     }
 
-    // The same for the first character, which was looked at.
+    /// The same for the first character, which was looked at.
     #[inline(always)]
-    pub(crate) fn skip_seen_break(&mut self, c: char)
+    pub fn skip_seen_break(&mut self, c: char)
         requires first { c ≡ slice_index (cursor_of self.old).rest 0 }
         requires loaded { 1 ≤ loaded self.old }
         ensures { cursor_of self.new ≡ spec.pass_break (cursor_of self.old) }

@@ -5,10 +5,10 @@ use Rattle.std.specs.List.{prefix_len}
 use Rattle.saphyr_input.specs.Classes.{is_blank, is_breakz, is_blank_or_breakz, is_digit, is_alpha, is_tag_char, is_yaml_non_space}
 use Rattle.saphyr_input.specs.declared.input.SkipTabs.TheVariants as skip
 use Rattle.saphyr_scalar.specs.declared.scalar.position.Marker.{Marker}
-use Rattle.saphyr_scalar.specs.Views.Cursor.{Cursor, along, pass}
+use Rattle.saphyr_scalar.specs.Views.Cursor.{Cursor, along, pass, pass_all_blanks}
 use Rattle.saphyr_scalar.specs.Steps.Quoted.{mid_line}
 use Rattle.saphyr_scalar.specs.Steps.Tag.{handle_of}
-use Rattle.saphyr_scalar.specs.Steps.Directive.{pass_all_blanks, directive_name_of, name, number_end, number_from, number, behind_major, version_directive, handle_behind_word, handle, prefix, behind_prefix, tag_directive, value, line_end, directive}
+use Rattle.saphyr_scalar.specs.Steps.Directive.{directive_name_of, name, number_end, number_from, number, behind_major, version_directive, handle_behind_word, handle, prefix, behind_prefix, tag_directive, value, line_end, directive}
 use Rattle.saphyr_scalar.specs.Spelling.Directive.{reserved}
 use Rattle.saphyr_scalar.proofs.Choices.{both_by}
 use Rattle.scalar_laws.specs.Alike.{AreAlike, GiveAlike, AreSame, AreDirectivesAlike}

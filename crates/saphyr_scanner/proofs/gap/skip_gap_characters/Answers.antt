@@ -13,20 +13,20 @@ loop-c-preserved-then-c-eq32 g c =
 pub loop-c-preserved-then-c-eq9 : goal.loop-c-preserved-then-c-eq9
 loop-c-preserved-then-c-eq9 g c =
     tab_passed c.args.least c.loop-c.broke c.loop-c.tabbed _ _ _ _ _ _ c.look-c.ensures.value c.look-c.ensures.same
-    c.stands_behind_tab-tabbed.ensures c.skip_blank.ensures c.if-c-eq9.true c.loop-c.invariant
+    c.stands_behind_tab-tabbed.ensures c.skip_blanks.ensures c.if-c-eq9.true c.loop-c.invariant
 
 pub loop-c-preserved-then-is_break : goal.loop-c-preserved-then-is_break
 loop-c-preserved-then-is_break g c =
     break_passed c.args.least c.loop-c.broke c.loop-c.tabbed _ _ _ _ _ c.look-c.ensures.value c.look-c.ensures.same
-    c.skip_line_break.ensures (sym c.is_break.ensures.test ∙ c.if-is_break.true) c.loop-c.invariant
+    c.skip_seen_break.ensures (sym c.is_break.ensures.test ∙ c.if-is_break.true) c.loop-c.invariant
 
 pub loop-c-smaller-then-is_break : goal.loop-c-smaller-then-is_break
 loop-c-smaller-then-is_break g c =
     let first = cursor_of c.loop-c.reader in
     let breaks : is_break (slice_index first.rest 0) ≡ true =
     ap is_break (sym c.look-c.ensures.value) ∙ sym c.is_break.ensures.test ∙ c.if-is_break.true in
-    break_on_shorter first (cursor_of c.look-c.new.self) (cursor_of c.skip_line_break.new.self) breaks
-    c.look-c.ensures.same c.skip_line_break.ensures
+    break_on_shorter first (cursor_of c.look-c.new.self) (cursor_of c.skip_seen_break.new.self) breaks
+    c.look-c.ensures.same c.skip_seen_break.ensures
 
 pub loop-c-preserved : goal.loop-c-preserved
 loop-c-preserved g c =
