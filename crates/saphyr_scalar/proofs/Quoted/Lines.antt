@@ -190,3 +190,23 @@ later_word indent start s u c same read ink right =
     let nul : (slice_index s.rest 0 == 0) ≡ false = grind (arith, nat_tests) in
     let left : nat_lt s.mark.col indent ≡ false = grind (arith, nat_tests) in
     rw (dash, stop, nul, left, and_false (s.mark.col == 0)) (ap Ok (sym same))
+
+later_ink : (c x : ℕ) → c ≡ x → 46 < c → (is_blank x ≡ false) × (is_break x ≡ false)
+later_ink c x same ink =
+    let high : 46 < x = subst (λ y. 46 < y) same ink in
+    let space : (x == 32) ≡ false = grind (arith, nat_tests) in
+    let tab : (x == 9) ≡ false = grind (arith, nat_tests) in
+    let feed : (x == 10) ≡ false = grind (arith, nat_tests) in
+    let return : (x == 13) ≡ false = grind (arith, nat_tests) in
+    (rw (space, tab) refl, rw (feed, return) refl)
+
+-- where such a word follows a break without empty lines
+pub begins_later_word : (q : Quote) (indent : ℕ) (start : Marker) (escaped : Bool) (text : List ℕ) (s : Cursor) (c : ℕ)
+    → c ≡ slice_index s.rest 0 → 46 < c → indent ≤ s.mark.col
+    → with_front (text ++ encode_utf8_all (folded_break escaped 0)) (inner_text_at q indent start no_gap s)
+    ≡ with_front text (inner_text_at q indent start (over_lines escaped 0) s)
+begins_later_word q indent start escaped text s c read ink right =
+    let plain = later_ink c (slice_index s.rest 0) read ink in
+    let word = begins_word q indent start escaped 0 text s s plain.0 plain.1
+    (later_word indent start s s c refl read ink right) in
+    word.1

@@ -34,14 +34,13 @@ impl<T: Input> Reader<T> {
         Ok(value)
     }
 
-    // Takes an escape off, from its backslash on, and returns its character.
+    // Takes an escape off, from its backslash on, and returns its character. Its letter was looked at.
     #[tactic(auto, unfolding(crate::specs::Steps::Quoted::escaped_character, crate::specs::Steps::Quoted::escape_of, crate::specs::Steps::Quoted::escape_by_number, crate::specs::Steps::Quoted::character))]
-    pub(crate) fn read_escape(&mut self, start: Marker) -> Result<char, Refusal>
-        requires { slice_index (cursor_of self.old).rest 0 ≡ backslash }
+    pub(crate) fn read_escape(&mut self, letter: char, start: Marker) -> Result<char, Refusal>
+        requires first { slice_index (cursor_of self.old).rest 0 ≡ backslash }
+        requires second { letter ≡ slice_index (cursor_of self.old).rest 1 }
         ensures { GivesBy (spec.escaped_character start) self.old result self.new }
     {
-        self.load(2);
-        let letter = self.input.peek_nth(1);
         if let Some(c) = short_escape(letter) {
             self.skip_n_non_blank(2);
             return Ok(c);

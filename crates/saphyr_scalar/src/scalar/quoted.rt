@@ -8,6 +8,7 @@ ghost use Rattle.std.specs.Prelude.{◌≡◌, slice_index, string_bytes};
 ghost use Rattle.saphyr_input.specs.Indicators.{apostrophe, quotation_mark};
 ghost use Rattle.saphyr_scalar.specs.Steps.Quoted as spec;
 ghost use Rattle.saphyr_values.specs.Flow as flow;
+ghost use Rattle.saphyr_values.specs.declared.flow.Quote.TheVariants.{Single, Double};
 
 use crate::scalar::fault::Stop;
 use crate::scalar::position::Marker;
@@ -36,8 +37,8 @@ impl<T: Input> Reader<T> {
     }
 
     // Moves what is left of a quoted scalar to the end of its text, and takes off the closing quote.
-    #[inline(never)]
-    fn read_quoted_rest(
+    #[inline(always)]
+    fn read_quoted_parts(
         &mut self,
         alloc: Global,
         quote: Quote,
@@ -50,14 +51,63 @@ impl<T: Input> Reader<T> {
     {
         let mut blanks = String::new(alloc);
         loop {
-            self.read_quoted_word(quote, start, &mut text)?;
-            if self.look() == quote.mark() {
+            let c = self.read_quoted_word(quote, start, &mut text)?;
+            if c == quote.mark() {
                 break;
             }
-            self.read_quoted_gap(quote, indent, start, &mut blanks, &mut text)?;
+            self.read_quoted_gap(c, quote, indent, start, &mut blanks, &mut text)?;
         }
         self.skip_non_blank();
         Ok(text)
+    }
+
+    // The same of a double quoted scalar.
+    #[inline(never)]
+    fn read_double_rest(
+        &mut self,
+        alloc: Global,
+        indent: usize,
+        start: Marker,
+        text: String,
+    ) -> Result<String, Stop>
+        ensures { ReadsTextBy (λ s. spec.with_front (string_bytes text)
+            (spec.inner_text_at Double indent start spec.no_gap s)) self.old result self.new }
+    {
+        self.read_quoted_parts(alloc, Quote::Double, indent, start, text)
+    }
+
+    // The same of a single quoted scalar.
+    #[inline(never)]
+    fn read_single_rest(
+        &mut self,
+        alloc: Global,
+        indent: usize,
+        start: Marker,
+        text: String,
+    ) -> Result<String, Stop>
+        ensures { ReadsTextBy (λ s. spec.with_front (string_bytes text)
+            (spec.inner_text_at Single indent start spec.no_gap s)) self.old result self.new }
+    {
+        self.read_quoted_parts(alloc, Quote::Single, indent, start, text)
+    }
+
+    // The same of either kind. Each has a loop of its own, which doesn't ask again and again which kind it is.
+    #[inline(always)]
+    fn read_quoted_rest(
+        &mut self,
+        alloc: Global,
+        quote: Quote,
+        indent: usize,
+        start: Marker,
+        text: String,
+    ) -> Result<String, Stop>
+        ensures { ReadsTextBy (λ s. spec.with_front (string_bytes text)
+            (spec.inner_text_at quote indent start spec.no_gap s)) self.old result self.new }
+    {
+        match quote {
+            Quote::Double => self.read_double_rest(alloc, indent, start, text),
+            Quote::Single => self.read_single_rest(alloc, indent, start, text),
+        }
     }
 
     // Takes off a quoted scalar, from its opening quote to its closing one, and returns its text. Most

@@ -1,7 +1,7 @@
 //! The characters of a text with the place that is reached, and the steps over blanks, breaks and comments
 //! (YAML 1.2.2, 5.4, 6.2 and 6.6).
 
-ghost use Rattle.std.specs.Prelude.{◌≡◌, ℕ, ◌+◌, ◌<◌, ◌≤◌, ◌^◌, ◌==◌, false, IsTrue, length, slice_index};
+ghost use Rattle.std.specs.Prelude.{◌≡◌, ℕ, ◌+◌, ◌-◌, ◌<◌, ◌≤◌, ◌^◌, ◌==◌, false, IsTrue, length, slice_index};
 ghost use Rattle.saphyr_input.specs.Classes as class;
 ghost use Rattle.saphyr_input.specs.Classes.{carriage_return};
 ghost use Rattle.saphyr_input.specs.Separation as separation;
@@ -170,6 +170,30 @@ impl<T: Input> Reader<T> {
             let count = self.input.skip_spaces(most);
             self.mark = self.mark.along(count);
         }
+    }
+
+    // The same where mostly there are some.
+    #[inline(always)]
+    pub(crate) fn skip_indentation(&mut self, most: usize)
+        ensures { cursor_of self.new ≡ spec.pass_spaces most (cursor_of self.old) }
+    {
+        let count = self.input.skip_spaces(most);
+        self.mark = self.mark.along(count);
+    }
+
+    // Takes off spaces, and returns what follows them.
+    #[inline(always)]
+    pub(crate) fn look_behind_spaces(&mut self) -> char
+        ensures value { result ≡ slice_index (cursor_of self.new).rest 0 }
+        ensures passed { cursor_of self.new ≡ spec.pass_spaces (2 ^ 64 - 1) (cursor_of self.old) }
+        ensures loaded { 1 ≤ loaded self.new }
+    {
+        let c = self.look();
+        if c != ' ' {
+            return c;
+        }
+        self.skip_indentation(usize::MAX);
+        self.look()
     }
 
     /// Takes off a break, if one comes first: CR LF, CR or LF.

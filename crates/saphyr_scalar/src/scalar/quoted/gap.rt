@@ -11,7 +11,7 @@ use crate::scalar::block::push_line_feeds;
 use crate::scalar::fault::{FaultText, Refusal, Stop};
 use crate::scalar::position::Marker;
 use crate::scalar::reader::Reader;
-use saphyr_input::char_traits::{is_blank, is_blank_or_breakz, is_break, is_z};
+use saphyr_input::char_traits::{is_blank, is_break, is_z};
 use saphyr_input::input::Input;
 use saphyr_values::Quote;
 use std::alloc::AllocError;
@@ -38,7 +38,7 @@ fn is_later_word(c: char, col: usize, indent: usize) -> bool
 }
 
 impl<T: Input> Reader<T> {
-    ghost use Rattle.saphyr_scalar.specs.Views.Reader.{cursor_of, PassesBy, AppendsBy, ReadsOn, IsNoLonger, IsShorter};
+    ghost use Rattle.saphyr_scalar.specs.Views.Reader.{cursor_of, loaded, PassesBy, AppendsBy, ReadsOn, IsNoLonger, IsShorter};
 
     // Moves the blanks inside a text to its end.
     #[inline(always)]
@@ -94,27 +94,6 @@ impl<T: Input> Reader<T> {
         }
     }
 
-    // The same. Mostly there is no empty line: then spaces are all that is taken off.
-    #[inline(always)]
-    fn skip_later_lines(&mut self, indent: usize) -> Result<usize, Refusal>
-        ensures same { (quote : Quote) → (start : Marker) → (escaped : Bool)
-            → spec.ReadsFurther result
-            (λ n. spec.inner_text_at quote indent start (spec.over_lines escaped n)
-            (cursor_of self.new)) (spec.inner_text_at quote indent start (spec.over_lines escaped 0)
-            (cursor_of self.old)) }
-        ensures no_blank { OnOk result (class.is_blank (slice_index (cursor_of self.new).rest 0)
-            ≡ false) }
-        ensures no_break { OnOk result (class.is_break (slice_index (cursor_of self.new).rest 0)
-            ≡ false) }
-        ensures shorter { OnOk result (IsNoLonger self.old self.new) }
-    {
-        self.skip_spaces(usize::MAX);
-        if !is_blank_or_breakz(self.look()) {
-            return Ok(0);
-        }
-        self.skip_quoted_lines(indent)
-    }
-
     // Whether a word or the closing quote may be here on a later line.
     #[inline(never)]
     #[tactic(auto, unfolding(crate::specs::Steps::Quoted::quoted_line))]
@@ -134,21 +113,32 @@ impl<T: Input> Reader<T> {
         Err(Refusal { text, mark: start })
     }
 
-    // The same. Mostly only a look at one character is needed.
-    #[inline(always)]
-    #[tactic(auto, unfolding(crate::specs::Steps::Quoted::quoted_line))]
-    fn check_later_line(&mut self, indent: usize, start: Marker) -> Result<(), Refusal>
-        ensures { PassesBy (spec.quoted_line indent start) self.old result self.new }
-    {
-        let c = self.look();
-        if is_later_word(c, self.mark.col, indent) {
-            return Ok(());
-        }
-        self.check_quoted_line(indent, start)
-    }
-
     // Takes off the empty lines after a break, and the blanks before what follows them. Appends what the
     // break and these lines read as to a text.
+    #[inline(never)]
+    fn read_empty_quoted_lines(
+        &mut self,
+        escaped: bool,
+        indent: usize,
+        start: Marker,
+        text: &mut String,
+    ) -> Result<(), Stop>
+        ensures same { (quote : Quote) → ReadsOn result
+            (spec.with_front (string_bytes text.old)
+            (spec.inner_text_at quote indent start (spec.over_lines escaped 0)
+            (cursor_of self.old)))
+            (spec.with_front (string_bytes text.new)
+            (spec.inner_text_at quote indent start spec.no_gap (cursor_of self.new))) }
+        ensures shorter { OnOk result (IsNoLonger self.old self.new) }
+    {
+        let empty_lines = self.skip_quoted_lines(indent)?;
+        self.check_quoted_line(indent, start)?;
+        push_folded_break(text, escaped, empty_lines)?;
+        Ok(())
+    }
+
+    // The same. Mostly there is no empty line: then spaces are all that is taken off, and a look at one character tells
+    // that the scalar goes on.
     #[inline(always)]
     fn read_quoted_lines(
         &mut self,
@@ -165,14 +155,17 @@ impl<T: Input> Reader<T> {
             (spec.inner_text_at quote indent start spec.no_gap (cursor_of self.new))) }
         ensures shorter { OnOk result (IsNoLonger self.old self.new) }
     {
-        let empty_lines = self.skip_later_lines(indent)?;
-        self.check_later_line(indent, start)?;
-        push_folded_break(text, escaped, empty_lines)?;
+        let c = self.look_behind_spaces();
+        if !is_later_word(c, self.mark.col, indent) {
+            return self.read_empty_quoted_lines(escaped, indent, start, text);
+        }
+        push_folded_break(text, escaped, 0)?;
         Ok(())
     }
 
     // Takes off an escaped break and what follows it, up to the next word or the closing quote. Appends
     // what this reads as to a text.
+    #[inline(always)]
     fn read_escaped_break(
         &mut self,
         quote: Quote,
@@ -188,7 +181,8 @@ impl<T: Input> Reader<T> {
         ensures shorter { OnOk result (IsShorter self.old self.new) }
     {
         self.skip_non_blank();
-        self.skip_line_break();
+        let c = self.look();
+        self.skip_seen_break(c);
         if self.look() == quote.mark() {
             return Ok(());
         }
@@ -232,15 +226,19 @@ impl<T: Input> Reader<T> {
     }
 
     // Takes off what is between two words, up to the next word or the closing quote. Appends what it
-    // reads as to a text.
+    // reads as to a text. `c` is its first character.
+    #[inline(always)]
     pub(super) fn read_quoted_gap(
         &mut self,
+        c: char,
         quote: Quote,
         indent: usize,
         start: Marker,
         blanks: &mut String,
         text: &mut String,
     ) -> Result<(), Stop>
+        requires first { c ≡ slice_index (cursor_of self.old).rest 0 }
+        requires loaded { 1 ≤ loaded self.old }
         requires ended { IsTrue (spec.ends_word quote (cursor_of self.old).rest) }
         requires open { (slice_index (cursor_of self.old).rest 0 == flow.mark quote) ≡ false }
         ensures same { ReadsOn result (spec.with_front (string_bytes text.old)
@@ -249,7 +247,6 @@ impl<T: Input> Reader<T> {
             (spec.inner_text_at quote indent start spec.no_gap (cursor_of self.new))) }
         ensures shorter { OnOk result (IsShorter self.old self.new) }
     {
-        let c = self.look();
         if is_break(c) {
             self.skip_seen_break(c);
             let escaped = false;

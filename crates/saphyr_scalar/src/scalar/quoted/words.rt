@@ -1,10 +1,11 @@
 //! The words of quoted scalars: characters that stand for themselves, single spaces between them, escapes and doubled
 //! quotes (YAML 1.2.2, 7.3.1, 7.3.2 and 5.7).
 
-ghost use Rattle.std.specs.Prelude.{◌≡◌, ℕ, ◌++◌, string_bytes, IfOk, OnOk, IsTrue};
+ghost use Rattle.std.specs.Prelude.{◌≡◌, ℕ, ◌≤◌, ◌++◌, false, drop, slice_index, string_bytes, IfNone, IfSome, IfOk, Ok, OnOk, IsTrue};
 ghost use Rattle.saphyr_input.specs.Places.{TransfersWords};
 ghost use Rattle.saphyr_scalar.specs.Steps.Quoted as spec;
 ghost use Rattle.saphyr_scalar.specs.Steps.Sets as sets;
+ghost use Rattle.saphyr_values.specs.declared.flow.Quote.TheVariants.{Single, Double};
 
 use crate::scalar::byte_sets::{is_in_double, is_in_single};
 use crate::scalar::fault::{Refusal, Stop};
@@ -92,7 +93,7 @@ impl SpacedSet for InDouble {
 }
 
 impl<T: Input> Reader<T> {
-    ghost use Rattle.saphyr_scalar.specs.Views.Reader.{cursor_of, GivesBy, ReadsOn, IsNoLonger};
+    ghost use Rattle.saphyr_scalar.specs.Views.Reader.{cursor_of, loaded, GivesBy, ReadsOn, IsNoLonger};
 
     // Moves words, and single spaces between them, to the end of a text, and returns how many
     // characters. The place stays.
@@ -127,51 +128,144 @@ impl<T: Input> Reader<T> {
         Ok(())
     }
 
-    // The same after an escape. Mostly another escape or the closing quote follows, and to look is cheaper than to move
-    // nothing.
+    // Moves one character that stands for itself to the end of a text, before one that does not.
     #[inline(always)]
-    fn read_literal_words(&mut self, quote: Quote, text: &mut String) -> Result<(), AllocError>
-        ensures { OnOk result
+    fn read_single_character(
+        &mut self,
+        quote: Quote,
+        c: char,
+        text: &mut String,
+    ) -> Result<(), AllocError>
+        requires first { c ≡ slice_index (cursor_of self.old).rest 0 }
+        requires loaded { 2 ≤ loaded self.old }
+        requires word { IsTrue (spec.is_literal quote c) }
+        requires ends { spec.is_literal quote (slice_index (cursor_of self.old).rest 1) ≡ false }
+        ensures moved { OnOk result
             (spec.QuotedWordsMoved quote (string_bytes text.old) (string_bytes text.new)
             (cursor_of self.old) (cursor_of self.new)) }
+        ensures taken { (cursor_of self.new).rest ≡ drop 1 (cursor_of self.old).rest }
+        ensures loaded { 1 ≤ loaded self.new }
     {
-        if !is_literal(quote, self.look()) {
-            return Ok(());
-        }
-        self.take_literal_words(quote, text)
+        self.input.skip();
+        self.mark = self.mark.along(1);
+        self.blank_so_far = false;
+        text.push(c)?;
+        Ok(())
     }
 
-    // Takes off an escape, or two single quotes that stand for one, if they come next.
-    #[tactic(auto, unfolding(crate::specs::Steps::Quoted::special))]
-    fn read_quoted_special(&mut self, quote: Quote, start: Marker) -> Result<Option<char>, Refusal>
-        ensures { GivesBy (spec.special quote start) self.old result self.new }
+    // The second character, if it ends a word of a double quoted scalar that has only one character. Between double
+    // quotes such words are frequent, before and after escapes.
+    #[inline(always)]
+    fn look_behind_character(&mut self, quote: Quote) -> Option<char>
+        requires { 1 ≤ loaded self.old }
+        ensures second { IfSome result (λ c. c ≡ slice_index (cursor_of self.old).rest 1) }
+        ensures ends { IfSome result (λ c. spec.is_literal quote c ≡ false) }
+        ensures same { cursor_of self.new ≡ cursor_of self.old }
+        ensures loaded { IfSome result (λ c. 2 ≤ loaded self.new) }
     {
+        if quote == Quote::Single {
+            return None;
+        }
         self.load(2);
+        let second = self.input.peek_nth(1);
+        if second == ' ' || is_literal(quote, second) {
+            return None;
+        }
+        Some(second)
+    }
+
+    // The same after an escape or a gap. After an escape mostly another one or the closing quote follows, and to look is
+    // cheaper than to move nothing. Returns the character that comes next.
+    #[inline(always)]
+    fn read_literal_words(&mut self, quote: Quote, text: &mut String) -> Result<char, AllocError>
+        ensures moved { OnOk result
+            (spec.QuotedWordsMoved quote (string_bytes text.old) (string_bytes text.new)
+            (cursor_of self.old) (cursor_of self.new)) }
+        ensures next { IfOk result (λ c. c ≡ slice_index (cursor_of self.new).rest 0) }
+        ensures loaded { OnOk result (1 ≤ loaded self.new) }
+    {
+        let c = self.look();
+        if !is_literal(quote, c) {
+            return Ok(c);
+        }
+        if let Some(next) = self.look_behind_character(quote) {
+            self.read_single_character(quote, c, text)?;
+            return Ok(next);
+        }
+        self.take_literal_words(quote, text)?;
+        Ok(self.look())
+    }
+
+    // Takes off two single quotes that stand for one, if they come next: `c` is the next character.
+    #[inline(always)]
+    #[tactic(auto, unfolding(crate::specs::Steps::Quoted::special))]
+    fn read_doubled_quote(&mut self, c: char, start: Marker) -> Option<char>
+        requires first { c ≡ slice_index (cursor_of self.old).rest 0 }
+        requires loaded { 1 ≤ loaded self.old }
+        ensures taken { spec.special Single start (cursor_of self.old)
+            ≡ Ok (result, cursor_of self.new) }
+        ensures loaded { IfNone result (1 ≤ loaded self.new) }
+    {
+        if c != '\'' {
+            return None;
+        }
+        self.load(2);
+        if !self.input.nth_char_is(1, '\'') {
+            return None;
+        }
+        self.skip_n_non_blank(2);
+        Some('\'')
+    }
+
+    // Takes off an escape, if one comes next: `c` is the next character.
+    #[inline(always)]
+    #[tactic(auto, unfolding(crate::specs::Steps::Quoted::special))]
+    fn read_next_escape(&mut self, c: char, start: Marker) -> Result<Option<char>, Refusal>
+        requires first { c ≡ slice_index (cursor_of self.old).rest 0 }
+        requires loaded { 1 ≤ loaded self.old }
+        ensures taken { GivesBy (spec.special Double start) self.old result self.new }
+        ensures loaded { IfOk result (λ read. IfNone read (1 ≤ loaded self.new)) }
+    {
+        if c != '\\' {
+            return Ok(None);
+        }
+        self.load(2);
+        let letter = self.input.peek_nth(1);
+        if is_break(letter) {
+            return Ok(None);
+        }
+        Ok(Some(self.read_escape(letter, start)?))
+    }
+
+    // Takes off an escape, or two single quotes that stand for one, if they come next: `c` is the next character.
+    #[inline(always)]
+    fn read_quoted_special(
+        &mut self,
+        quote: Quote,
+        c: char,
+        start: Marker,
+    ) -> Result<Option<char>, Refusal>
+        requires first { c ≡ slice_index (cursor_of self.old).rest 0 }
+        requires loaded { 1 ≤ loaded self.old }
+        ensures taken { GivesBy (spec.special quote start) self.old result self.new }
+        ensures loaded { IfOk result (λ read. IfNone read (1 ≤ loaded self.new)) }
+    {
         match quote {
-            Quote::Single => {
-                if !self.input.next_2_are('\'', '\'') {
-                    return Ok(None);
-                }
-                self.skip_n_non_blank(2);
-                Ok(Some('\''))
-            }
-            Quote::Double => {
-                if !self.input.next_char_is('\\') || is_break(self.input.peek_nth(1)) {
-                    return Ok(None);
-                }
-                Ok(Some(self.read_escape(start)?))
-            }
+            Quote::Single => Ok(self.read_doubled_quote(c, start)),
+            Quote::Double => self.read_next_escape(c, start),
         }
     }
 
     // Moves words, and the single spaces between them, to the end of a text, with their escapes
-    // resolved: up to a blank, a break, escaped or not, the closing quote, NUL or the end.
+    // resolved: up to a blank, a break, escaped or not, the closing quote, NUL or the end. Returns
+    // the character that ends them.
+    #[inline(always)]
     pub(super) fn read_quoted_word(
         &mut self,
         quote: Quote,
         start: Marker,
         text: &mut String,
-    ) -> Result<(), Stop>
+    ) -> Result<char, Stop>
         ensures same { (indent : ℕ) → ReadsOn result
             (spec.with_front (string_bytes text.old)
             (spec.inner_text_at quote indent start spec.no_gap (cursor_of self.old)))
@@ -179,11 +273,13 @@ impl<T: Input> Reader<T> {
             (spec.inner_text_at quote indent start spec.no_gap (cursor_of self.new))) }
         ensures ended { OnOk result (IsTrue (spec.ends_word quote (cursor_of self.new).rest)) }
         ensures shorter { OnOk result (IsNoLonger self.old self.new) }
+        ensures next { IfOk result (λ c. c ≡ slice_index (cursor_of self.new).rest 0) }
+        ensures loaded { OnOk result (1 ≤ loaded self.new) }
     {
         loop {
-            self.read_literal_words(quote, text)?;
-            let Some(c) = self.read_quoted_special(quote, start)? else {
-                return Ok(());
+            let next = self.read_literal_words(quote, text)?;
+            let Some(c) = self.read_quoted_special(quote, next, start)? else {
+                return Ok(next);
             };
             text.push(c)?;
         }

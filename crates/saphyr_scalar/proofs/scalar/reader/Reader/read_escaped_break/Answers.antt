@@ -9,8 +9,8 @@ pub returns-then-look-mark-clause-same : goal.returns-then-look-mark-clause-same
 returns-then-look-mark-clause-same g c =
     let a = c.args in
     let there = cursor_of c.look.new.self in
-    let on : there ≡ behind_escaped (cursor_of a.self.now) = c.look.ensures.same ∙ c.skip_line_break.ensures
-    ∙ ap pass_break c.skip_non_blank.ensures in
+    let on : there ≡ behind_escaped (cursor_of a.self.now) = c.look.ensures.same ∙ c.skip_seen_break.ensures
+    ∙ ap pass_break (c.look-c.ensures.same ∙ c.skip_non_blank.ensures) in
     let quote : slice_index there.rest 0 ≡ flow.mark a.quote = ap (λ (s : Cursor). slice_index s.rest 0)
     c.look.ensures.same ∙ sym c.look.ensures.value ∙ c.if-look-mark.true ∙ c.mark.ensures in
     escaped_to_quote a.quote a.indent a.start (string_bytes a.text.now) (cursor_of a.self.now) there c.requires on quote
@@ -19,8 +19,8 @@ pub returns-clause-same : goal.returns-clause-same
 returns-clause-same g c =
     let a = c.args in
     let there = cursor_of c.look.new.self in
-    let on : there ≡ behind_escaped (cursor_of a.self.now) = c.look.ensures.same ∙ c.skip_line_break.ensures
-    ∙ ap pass_break c.skip_non_blank.ensures in
+    let on : there ≡ behind_escaped (cursor_of a.self.now) = c.look.ensures.same ∙ c.skip_seen_break.ensures
+    ∙ ap pass_break (c.look-c.ensures.same ∙ c.skip_non_blank.ensures) in
     let line = escaped_to_line a.quote a.indent a.start (string_bytes a.text.now)
     (cursor_of a.self.now) there c.requires on
     (λ e. c.if-look-mark.false

@@ -1,4 +1,4 @@
-use Rattle.std.proofs.Common.{string_bytes}
+use Rattle.std.proofs.Common.{refl, string_bytes}
 use Rattle.saphyr_input.specs.Classes as class
 use Rattle.saphyr_scalar.specs.Views.Reader.{cursor_of}
 use Rattle.saphyr_scalar.proofs.Choices.{shows}
@@ -11,8 +11,8 @@ returns-then-is_break-clause-same g c =
     let here = cursor_of c.args.self.now in
     reads_from c.read_quoted_lines.result _ _ _
     (straight_to_break c.args.quote c.args.indent c.args.start (string_bytes c.args.text.now) here
-    (cursor_of c.look-c.new.self) (cursor_of c.skip_seen_break.new.self) c.look-c.ensures.same
-    (shows class.is_break here.rest _ _ _ c.look-c.ensures.value c.is_break.ensures.test c.if-is_break.true)
+    here (cursor_of c.skip_seen_break.new.self) refl
+    (shows class.is_break here.rest _ _ _ c.requires.first c.is_break.ensures.test c.if-is_break.true)
     c.skip_seen_break.ensures)
     (c.read_quoted_lines.ensures.same c.args.quote)
 
@@ -20,7 +20,7 @@ pub returns-then-is_break-clause-shorter : goal.returns-then-is_break-clause-sho
 returns-then-is_break-clause-shorter g c =
     let here = cursor_of c.args.self.now in
     ok_shorter c.read_quoted_lines.result _ _ _
-    (break_on_shorter here (cursor_of c.look-c.new.self) (cursor_of c.skip_seen_break.new.self)
-    (shows class.is_break here.rest _ _ _ c.look-c.ensures.value c.is_break.ensures.test c.if-is_break.true)
-    c.look-c.ensures.same c.skip_seen_break.ensures)
+    (break_on_shorter here here (cursor_of c.skip_seen_break.new.self)
+    (shows class.is_break here.rest _ _ _ c.requires.first c.is_break.ensures.test c.if-is_break.true)
+    refl c.skip_seen_break.ensures)
     c.read_quoted_lines.ensures.shorter

@@ -1,41 +1,42 @@
-use Rattle.std.proofs.Common.{length, string_bytes, sym, ap, ◌∙◌, arith}
-use Rattle.saphyr_scalar.specs.Views.Cursor.{Cursor}
+use Rattle.std.proofs.Common.{refl, string_bytes, ap, ◌∙◌, arith}
 use Rattle.saphyr_scalar.specs.Steps.Quoted as spec
 use Rattle.saphyr_scalar.specs.Views.Reader.{cursor_of}
-use Rattle.saphyr_values.specs.declared.flow.Quote.TheVariants.{Double}
-use Rattle.saphyr_scalar.proofs.Quoted.Inside.{reads_refused}
-use Rattle.saphyr_scalar.proofs.Quoted.Lines.{begins_word, begins_refused}
+use Rattle.saphyr_scalar.proofs.SpaceRuns.{inside_over_spaces}
+use Rattle.saphyr_scalar.proofs.Quoted.Gaps.{ok_no_longer, reads_from}
+use Rattle.saphyr_scalar.proofs.Quoted.Lines.{begins_later_word}
+use Rattle.saphyr_scalar.proofs.Quoted.LineTurns.{no_longer}
 use Rattle.saphyr_scalar.proofs.scalar.reader.Reader.read_quoted_lines.Goals as goal
 
-pub returns-in_err-check_later_line-clause-same : goal.returns-in_err-check_later_line-clause-same
-returns-in_err-check_later_line-clause-same g c = λ quote.
+pub returns-then-not-is_later_word-clause-same : goal.returns-then-not-is_later_word-clause-same
+returns-then-not-is_later_word-clause-same g c = λ quote.
     let a = c.args in
-    let lines = c.in_ok-empty_lines in
-    let refusal = c.in_err-check_later_line.field-0.0 in
-    let refused = begins_refused quote a.indent a.start a.escaped lines.empty_lines (string_bytes a.text.now)
-    (cursor_of c.skip_later_lines.new.self) refusal lines.ensures.no_blank lines.ensures.no_break
-    c.in_err-check_later_line.ensures in
-    reads_refused c.from_residual-in_err-check_later_line.result _ _ refusal
-    c.from_residual-in_err-check_later_line.ensures.1
-    (sym (ap (spec.with_front (string_bytes a.text.now)) (lines.ensures.same quote a.start a.escaped)) ∙ refused)
+    reads_from c.read_empty_quoted_lines.result _ _ _
+    (ap (spec.with_front (string_bytes a.text.now))
+    (inside_over_spaces quote a.indent a.start a.escaped 0 _ (cursor_of a.self.now)
+    (cursor_of c.look_behind_spaces-c.new.self) c.look_behind_spaces-c.ensures.passed))
+    (c.read_empty_quoted_lines.ensures.same quote)
+
+pub returns-then-not-is_later_word-clause-shorter : goal.returns-then-not-is_later_word-clause-shorter
+returns-then-not-is_later_word-clause-shorter g c =
+    let here = cursor_of c.look_behind_spaces-c.new.self in
+    ok_no_longer c.read_empty_quoted_lines.result _ _ _
+    (no_longer _ 0 _ (cursor_of c.args.self.now) here here (omega arith) c.look_behind_spaces-c.ensures.passed refl)
+    c.read_empty_quoted_lines.ensures.shorter
 
 pub returns-clause-same : goal.returns-clause-same
 returns-clause-same g c = λ quote.
     let a = c.args in
-    let lines = c.in_ok-empty_lines in
-    let there = cursor_of c.check_later_line.new.self in
-    let word = begins_word quote a.indent a.start a.escaped lines.empty_lines (string_bytes a.text.now)
-    (cursor_of c.skip_later_lines.new.self) there lines.ensures.no_blank lines.ensures.no_break
-    c.in_ok-check_later_line.ensures in
-    ap (λ b. spec.with_front b (spec.inner_text_at quote a.indent a.start spec.no_gap there))
+    let here = cursor_of c.look_behind_spaces-c.new.self in
+    let ink = c.is_later_word.ensures c.if-not-is_later_word.false in
+    ap (λ b. spec.with_front b (spec.inner_text_at quote a.indent a.start spec.no_gap here))
     c.in_ok-push_folded_break.ensures
-    ∙ word.1 ∙ ap (spec.with_front (string_bytes a.text.now)) (lines.ensures.same quote a.start a.escaped)
+    ∙ begins_later_word quote a.indent a.start a.escaped (string_bytes a.text.now) here c.look_behind_spaces-c.result
+    c.look_behind_spaces-c.ensures.value ink.0 ink.1
+    ∙ ap (spec.with_front (string_bytes a.text.now))
+    (inside_over_spaces quote a.indent a.start a.escaped 0 _ (cursor_of a.self.now) here
+    c.look_behind_spaces-c.ensures.passed)
 
 pub returns-clause-shorter : goal.returns-clause-shorter
 returns-clause-shorter g c =
-    let a = c.args in
-    let lines = c.in_ok-empty_lines in
-    let word = begins_word Double a.indent a.start a.escaped lines.empty_lines (string_bytes a.text.now)
-    (cursor_of c.skip_later_lines.new.self) (cursor_of c.check_later_line.new.self) lines.ensures.no_blank
-    lines.ensures.no_break c.in_ok-check_later_line.ensures in
-    omega (arith, ap (λ (s : Cursor). length s.rest) word.0, lines.ensures.shorter)
+    let here = cursor_of c.look_behind_spaces-c.new.self in
+    no_longer _ 0 _ (cursor_of c.args.self.now) here here (omega arith) c.look_behind_spaces-c.ensures.passed refl

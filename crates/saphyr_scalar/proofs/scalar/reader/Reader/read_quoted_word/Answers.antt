@@ -1,4 +1,4 @@
-use Rattle.std.proofs.Common.{Some, None, length, string_bytes, sym, ap, ◌∙◌, arith}
+use Rattle.std.proofs.Common.{Some, None, length, slice_index, string_bytes, sym, ap, ◌∙◌, arith}
 use Rattle.saphyr_scalar.specs.Views.Cursor.{Cursor}
 use Rattle.saphyr_scalar.specs.Steps.Quoted as spec
 use Rattle.saphyr_scalar.specs.Views.Reader.{cursor_of}
@@ -10,11 +10,11 @@ pub returns-in_err-c-clause-same : goal.returns-in_err-c-clause-same
 returns-in_err-c-clause-same g c = λ indent.
     let q = c.args.quote in
     let here = cursor_of c.read_literal_words.new.self in
-    let moved = c.in_ok-read_literal_words.ensures in
+    let moved = c.in_ok-next.ensures.moved in
     let refusal = c.in_err-c.field-0.0 in
     let text = string_bytes c.read_literal_words.new.text in
-    let refused = sym (moved.same indent c.args.start ∙ c.loop-self.invariant.same indent)
-    ∙ special_refused q indent c.args.start text here refusal c.in_err-c.ensures in
+    let refused = sym (moved.same indent c.args.start ∙ c.loop-next.invariant.same indent)
+    ∙ special_refused q indent c.args.start text here refusal c.in_err-c.ensures.taken in
     reads_refused c.from_residual-in_err-c.result _ _ refusal c.from_residual-in_err-c.ensures.1 refused
 
 pub returns-in_default-clause-same : goal.returns-in_default-clause-same
@@ -22,19 +22,19 @@ returns-in_default-clause-same g c = λ indent.
     let q = c.args.quote in
     let here = cursor_of c.read_literal_words.new.self in
     let there = cursor_of c.read_quoted_special.new.self in
-    let moved = c.in_ok-read_literal_words.ensures in
-    let none = gives (spec.special q c.args.start here) _ None there c.in_ok-c.ensures c.in_default.is in
+    let moved = c.in_ok-next.ensures.moved in
+    let none = gives (spec.special q c.args.start here) _ None there c.in_ok-c.ensures.taken c.in_default.is in
     ap (λ x. spec.with_front (string_bytes c.read_literal_words.new.text)
     (spec.inner_text_at q indent c.args.start spec.no_gap x)) (special_none q c.args.start here there none)
-    ∙ moved.same indent c.args.start ∙ c.loop-self.invariant.same indent
+    ∙ moved.same indent c.args.start ∙ c.loop-next.invariant.same indent
 
 pub returns-in_default-clause-ended : goal.returns-in_default-clause-ended
 returns-in_default-clause-ended g c =
     let q = c.args.quote in
     let here = cursor_of c.read_literal_words.new.self in
     let there = cursor_of c.read_quoted_special.new.self in
-    let moved = c.in_ok-read_literal_words.ensures in
-    let none = gives (spec.special q c.args.start here) _ None there c.in_ok-c.ensures c.in_default.is in
+    let moved = c.in_ok-next.ensures.moved in
+    let none = gives (spec.special q c.args.start here) _ None there c.in_ok-c.ensures.taken c.in_default.is in
     rw (ap (λ (x : Cursor). x.rest) (special_none q c.args.start here there none))
     (word_ends q c.args.start here there none moved.stops)
 
@@ -43,36 +43,45 @@ returns-in_default-clause-shorter g c =
     let q = c.args.quote in
     let here = cursor_of c.read_literal_words.new.self in
     let there = cursor_of c.read_quoted_special.new.self in
-    let moved = c.in_ok-read_literal_words.ensures in
-    let none = gives (spec.special q c.args.start here) _ None there c.in_ok-c.ensures c.in_default.is in
+    let moved = c.in_ok-next.ensures.moved in
+    let none = gives (spec.special q c.args.start here) _ None there c.in_ok-c.ensures.taken c.in_default.is in
     omega (
       arith,
       ap (λ (x : Cursor). length x.rest) (special_none q c.args.start here there none),
       moved.shorter,
-      c.loop-self.invariant.shorter,
+      c.loop-next.invariant.shorter,
     )
 
-pub loop-self-smaller : goal.loop-self-smaller
-loop-self-smaller g c =
+pub loop-next-smaller : goal.loop-next-smaller
+loop-next-smaller g c =
     let q = c.args.quote in
     let here = cursor_of c.read_literal_words.new.self in
     let there = cursor_of c.read_quoted_special.new.self in
-    let moved = c.in_ok-read_literal_words.ensures in
-    let some = gives (spec.special q c.args.start here) _ (Some c.in-Some.c) there c.in_ok-c.ensures c.in-Some.is in
+    let moved = c.in_ok-next.ensures.moved in
+    let some = gives (spec.special q c.args.start here) _ (Some c.in-Some.c) there c.in_ok-c.ensures.taken c.in-Some.is in
     let less = special_shorter q c.args.start here there c.in-Some.c some in
     omega (arith, less, moved.shorter)
 
-pub loop-self-preserved : goal.loop-self-preserved
-loop-self-preserved g c =
+pub loop-next-preserved : goal.loop-next-preserved
+loop-next-preserved g c =
     let q = c.args.quote in
     let here = cursor_of c.read_literal_words.new.self in
     let there = cursor_of c.read_quoted_special.new.self in
-    let moved = c.in_ok-read_literal_words.ensures in
-    let some = gives (spec.special q c.args.start here) _ (Some c.in-Some.c) there c.in_ok-c.ensures c.in-Some.is in
+    let moved = c.in_ok-next.ensures.moved in
+    let some = gives (spec.special q c.args.start here) _ (Some c.in-Some.c) there c.in_ok-c.ensures.taken c.in-Some.is in
     let less = special_shorter q c.args.start here there c.in-Some.c some in
     record {
       same = λ indent. rw c.in_ok-push.ensures.bytes
           (special_moved q indent c.args.start (string_bytes c.read_literal_words.new.text) here there c.in-Some.c some
-          ∙ moved.same indent c.args.start ∙ c.loop-self.invariant.same indent);
-      shorter = omega (arith, less, moved.shorter, c.loop-self.invariant.shorter);
+          ∙ moved.same indent c.args.start ∙ c.loop-next.invariant.same indent);
+      shorter = omega (arith, less, moved.shorter, c.loop-next.invariant.shorter);
     }
+
+pub returns-in_default-clause-next : goal.returns-in_default-clause-next
+returns-in_default-clause-next g c =
+    let here = cursor_of c.read_literal_words.new.self in
+    let there = cursor_of c.read_quoted_special.new.self in
+    let none = gives (spec.special c.args.quote c.args.start here) _ None there c.in_ok-c.ensures.taken
+    c.in_default.is in
+    c.in_ok-next.ensures.next
+    ∙ ap (λ (x : Cursor). slice_index x.rest 0) (sym (special_none c.args.quote c.args.start here there none))

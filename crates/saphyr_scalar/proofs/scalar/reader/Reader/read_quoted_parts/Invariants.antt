@@ -1,7 +1,7 @@
 use Rattle.std.proofs.Common.{◌≡◌, length, string_bytes}
 use Rattle.saphyr_scalar.specs.Steps.Quoted.{with_front, inner_text_at, no_gap}
 use Rattle.saphyr_scalar.specs.Views.Reader.{cursor_of}
-use Rattle.saphyr_scalar.proofs.scalar.reader.Reader.read_quoted_rest.Given as goal
+use Rattle.saphyr_scalar.proofs.scalar.reader.Reader.read_quoted_parts.Given as goal
 
 abbrev pub invariant-loop-blanks : goal.invariant-loop-blanks
 invariant-loop-blanks g l =

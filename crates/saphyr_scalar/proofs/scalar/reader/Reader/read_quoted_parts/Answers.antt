@@ -1,0 +1,55 @@
+use Rattle.std.proofs.Common.{◌≡◌, ℕ, ◌<◌, false, Ok, length, slice_index, string_bytes, sym, ap, ◌∙◌, arith}
+use Rattle.std.specs.Prelude.{◌==◌}
+use Rattle.std.proofs.lemmas.Bool.Decides.{nat_tests}
+use Rattle.saphyr_input.proofs.Basics.Lists.{some_left}
+use Rattle.saphyr_values.specs.declared.flow.Quote.{Quote}
+use Rattle.saphyr_scalar.specs.Views.Cursor.{Cursor}
+use Rattle.saphyr_values.specs.Flow as flow
+use Rattle.saphyr_scalar.specs.Steps.Quoted as spec
+use Rattle.saphyr_scalar.specs.Views.Reader.{cursor_of}
+use Rattle.saphyr_scalar.proofs.NoBreaks.{mark_no_nul}
+use Rattle.saphyr_scalar.proofs.Plain.Pieces.{moves_failed}
+use Rattle.saphyr_scalar.proofs.Quoted.Gaps.{quote_closes}
+use Rattle.saphyr_scalar.proofs.scalar.reader.Reader.read_quoted_parts.Goals as goal
+
+pub returns : goal.returns
+returns g c =
+    let a = c.args in
+    let here = cursor_of c.read_quoted_word.new.self in
+    let text = string_bytes c.read_quoted_word.new.text in
+    let quote : slice_index here.rest 0 ≡ flow.mark a.quote = sym c.in_ok-c.ensures.next ∙ c.if-c-mark.true
+    ∙ c.mark.ensures in
+    sym (c.in_ok-c.ensures.same a.indent ∙ c.loop-blanks.invariant)
+    ∙ quote_closes a.quote a.indent a.start text here c.in_ok-c.ensures.ended quote
+    ∙ ap (λ s. let r : spec.TextRead = Ok (text, s) in r) (sym c.skip_non_blank.ensures)
+
+other : (q : Quote) (x : ℕ) (s : Cursor) → x ≡ slice_index s.rest 0 → (x ≡ flow.mark q → ⊥)
+    → (slice_index s.rest 0 == flow.mark q) ≡ false
+other q x s read differs =
+    let no : (x == flow.mark q) ≡ false = grind (arith, nat_tests) in
+    rw (← read) no
+
+quote_left : (q : Quote) (s : Cursor) → slice_index s.rest 0 ≡ flow.mark q → 0 < length s.rest
+quote_left q s quote = some_left s.rest (λ nul. mark_no_nul q (sym nul ∙ quote))
+
+pub read_quoted_gap-requires-clause-open : goal.read_quoted_gap-requires-clause-open
+read_quoted_gap-requires-clause-open g c =
+    other c.args.quote c.in_ok-c.c (cursor_of c.read_quoted_word.new.self) c.in_ok-c.ensures.next
+    (λ is. c.if-c-mark.false (is ∙ sym c.mark.ensures))
+
+pub loop-blanks-smaller : goal.loop-blanks-smaller
+loop-blanks-smaller g c = omega (arith, c.in_ok-read_quoted_gap.ensures.shorter, c.in_ok-c.ensures.shorter)
+
+pub loop-blanks-preserved : goal.loop-blanks-preserved
+loop-blanks-preserved g c =
+    c.in_ok-read_quoted_gap.ensures.same ∙ c.in_ok-c.ensures.same c.args.indent ∙ c.loop-blanks.invariant
+
+pub returns-in_err-c : goal.returns-in_err-c
+returns-in_err-c g c =
+    moves_failed _ _ _ _ _ c.from_residual.ensures.1 (c.in_err-c.ensures.same c.args.indent)
+    (λ r h. sym c.loop-blanks.invariant ∙ h)
+
+pub skip_non_blank-requires : goal.skip_non_blank-requires
+skip_non_blank-requires g c =
+    quote_left c.args.quote (cursor_of c.read_quoted_word.new.self)
+    (sym c.in_ok-c.ensures.next ∙ c.if-c-mark.true ∙ c.mark.ensures)
