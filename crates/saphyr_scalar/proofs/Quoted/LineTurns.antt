@@ -6,7 +6,7 @@ use Rattle.saphyr_input.specs.Classes.{is_blank, is_break}
 use Rattle.saphyr_input.specs.Places.{spaces_within}
 use Rattle.saphyr_input.proofs.Basics.Lists.{shows_character, drop_one_shorter}
 use Rattle.saphyr_scalar.specs.Views.Cursor.{Cursor, pass_spaces, pass_blanks, pass_break}
-use Rattle.saphyr_scalar.proofs.Lengths.{below_at_most}
+use Rattle.saphyr_scalar.proofs.Lengths.{below_at_most, at_most_below}
 use Rattle.saphyr_scalar.proofs.SpaceRuns.{spaces_shorter}
 use Rattle.saphyr_scalar.proofs.Quoted.Lines.{break_on_shorter}
 
@@ -73,3 +73,16 @@ pub few_in_text : (k most : ℕ) (first here there : Cursor) → k ≤ first.mar
 few_in_text k most first here there few fits spaces same breaks =
     let some : 1 ≤ length here.rest = shows_character here.rest is_break true breaks (λ e. false≢true e) in
     omega (arith, some, spaces_shorter most first here spaces)
+
+pub few_here : (k : ℕ) (s : Cursor) → k ≤ s.mark.index → s.mark.index + length s.rest < 2 ^ 64
+    → is_break (slice_index s.rest 0) ≡ true → k + 1 < 2 ^ 64
+few_here k s few fits breaks =
+    let some : 1 ≤ length s.rest = shows_character s.rest is_break true breaks (λ e. false≢true e) in
+    omega (arith, some)
+
+-- less is left after a break and the spaces behind it
+pub break_and_spaces_shorter : (most : ℕ) (here there behind spaced : Cursor) → is_break (slice_index here.rest 0) ≡ true
+    → there ≡ here → behind ≡ pass_break there → spaced ≡ pass_spaces most behind
+    → length spaced.rest < length here.rest
+break_and_spaces_shorter most here there behind spaced breaks same on spaces =
+    at_most_below _ _ _ (spaces_shorter most behind spaced spaces) (break_on_shorter here there behind breaks same on)

@@ -2,6 +2,7 @@
 //! (YAML 1.2.2, 8.1.2 and 8.1.3).
 
 ghost use Rattle.std.specs.Prelude.{◌≡◌, ◌+◌, ◌≤◌};
+ghost use Rattle.saphyr_input.specs.Places.{is_document_indicator};
 ghost use Rattle.saphyr_scalar.specs.Steps.Block as spec;
 
 use crate::scalar::block::breaks::{BlockEnd, push_break_before};
@@ -44,11 +45,12 @@ impl<T: Input> Reader<T> {
         ensures taken { (result, cursor_of self.new)
             ≡ spec.pass_empty_lines_at limit before (cursor_of self.old) }
         ensures few { result.count ≤ (cursor_of self.new).mark.index }
+        ensures loaded { 1 ≤ loaded self.new }
     {
         let mut lines = before;
+        let left = indentation_left(limit, self.mark.col);
+        self.skip_indentation(left);
         loop {
-            let left = indentation_left(limit, self.mark.col);
-            self.skip_spaces(left);
             let c = self.look();
             if !is_break(c) {
                 break;
@@ -56,23 +58,37 @@ impl<T: Input> Reader<T> {
             lines.count += 1;
             lines.widest = lines.widest.max(self.mark.col);
             self.skip_seen_break(c);
+            let more = indentation_left(limit, self.mark.col);
+            self.skip_spaces(more);
         }
         lines.widest = lines.widest.max(self.mark.col);
         lines
     }
 
+    // Whether a document marker is here.
+    #[inline(never)]
+    fn is_at_document_marker(&mut self) -> bool
+        ensures value { result ≡ is_document_indicator (cursor_of self.old).rest }
+        ensures same { cursor_of self.new ≡ cursor_of self.old }
+        ensures loaded { 1 ≤ loaded self.new }
+    {
+        self.load(4);
+        self.input.next_is_document_indicator()
+    }
+
     // Whether a content line begins here.
+    #[inline(always)]
     #[tactic(auto, unfolding(crate::specs::Steps::Block::line_starts))]
     fn block_line_starts(&mut self, indentation: usize) -> bool
+        requires { 1 ≤ loaded self.old }
         ensures value { result ≡ spec.line_starts indentation (cursor_of self.old).mark.col
             (cursor_of self.old).rest }
         ensures same { cursor_of self.new ≡ cursor_of self.old }
         ensures loaded { 1 ≤ loaded self.new }
     {
-        self.load(4);
         self.mark.col == indentation
             && is_yaml_non_break(self.input.peek())
-            && !(indentation == 0 && self.input.next_is_document_indicator())
+            && !(indentation == 0 && self.is_at_document_marker())
     }
 
     // Moves the content lines to the end of a text, after some empty lines, and returns what follows the

@@ -1,4 +1,4 @@
-use Rattle.std.proofs.Common.{◌≡◌, ◌≤◌, length}
+use Rattle.std.proofs.Common.{◌≡◌, ◌≤◌, false, length, slice_index}
 use Rattle.saphyr_scalar.specs.Steps.Block as spec
 use Rattle.saphyr_scalar.specs.Views.Reader.{cursor_of}
 use Rattle.saphyr_scalar.proofs.scalar.reader.Reader.skip_empty_block_lines.Given as goal
@@ -8,6 +8,7 @@ invariant-loop-limit g l = record {
   same : spec.pass_empty_lines_at l.limit l.lines (cursor_of l.self)
       ≡ spec.pass_empty_lines_at l.limit l.fn.before (cursor_of l.fn.self);
   few : l.lines.count ≤ l.self.mark.index;
+  none : spec.is_indentation l.limit l.self.mark.col (slice_index (cursor_of l.self).rest 0) ≡ false;
 }
 
 abbrev pub decreases-loop-limit : goal.decreases-loop-limit
