@@ -236,3 +236,17 @@ word_ends Double start s t =
 pub gives : (r : Result (Option ℕ × Cursor) Refusal) (a b : Option ℕ) (t : Cursor) → r ≡ Ok (a, t) → a ≡ b
     → r ≡ Ok (b, t)
 gives r a b t e is = subst (λ (x : Option ℕ). r ≡ Ok (x, t)) is e
+
+-- what begins with another character is no such spelling
+
+pub not_doubled : (start : Marker) (s : Cursor) (c : ℕ) → (c == apostrophe) ≡ false → c ≡ slice_index s.rest 0
+    → special Single start s ≡ Ok (None, s)
+unfolding special
+not_doubled start s c other read =
+    let first : (slice_index s.rest 0 == 39) ≡ false = ap (λ x. x == 39) (sym read) ∙ other in rw first refl
+
+pub not_escaped : (start : Marker) (s : Cursor) (c : ℕ) → (c == backslash) ≡ false → c ≡ slice_index s.rest 0
+    → special Double start s ≡ Ok (None, s)
+unfolding special
+not_escaped start s c other read =
+    let first : (slice_index s.rest 0 == 92) ≡ false = ap (λ x. x == 92) (sym read) ∙ other in rw first refl

@@ -50,12 +50,14 @@ impl<T: Input> Reader<T> {
             (spec.inner_text_at quote indent start spec.no_gap s)) self.old result self.new }
     {
         let mut blanks = String::new(alloc);
+        let mut escaped = false;
         loop {
-            let c = self.read_quoted_word(quote, start, &mut text)?;
+            let c = self.read_quoted_word(quote, escaped, start, &mut text)?;
             if c == quote.mark() {
                 break;
             }
             self.read_quoted_gap(c, quote, indent, start, &mut blanks, &mut text)?;
+            escaped = c == '\\';
         }
         self.skip_non_blank();
         Ok(text)

@@ -1,10 +1,11 @@
 //! The words of quoted scalars: characters that stand for themselves, single spaces between them, escapes and doubled
 //! quotes (YAML 1.2.2, 7.3.1, 7.3.2 and 5.7).
 
-ghost use Rattle.std.specs.Prelude.{◌≡◌, ℕ, ◌≤◌, ◌++◌, false, drop, slice_index, string_bytes, IfNone, IfSome, IfOk, Ok, OnOk, IsTrue};
+ghost use Rattle.std.specs.Prelude.{◌≡◌, ℕ, ◌≤◌, ◌++◌, false, drop, slice_index, string_bytes, IfNone, IfSome, IfOk, None, Ok, OnOk, IsTrue};
 ghost use Rattle.saphyr_input.specs.Places.{TransfersWords};
 ghost use Rattle.saphyr_scalar.specs.Steps.Quoted as spec;
 ghost use Rattle.saphyr_scalar.specs.Steps.Sets as sets;
+ghost use Rattle.saphyr_scalar.specs.Views.Cursor.{Cursor};
 ghost use Rattle.saphyr_values.specs.declared.flow.Quote.TheVariants.{Single, Double};
 
 use crate::scalar::byte_sets::{is_in_double, is_in_single};
@@ -28,6 +29,18 @@ fn is_literal(quote: Quote, c: char) -> bool
         Quote::Double => c == '"' || c == '\\',
     };
     !is_blank_or_breakz(c) && !special
+}
+
+// If this is false, neither an escape begins with the character, nor two quotes that stand for one.
+#[inline(always)]
+fn begins_special(quote: Quote, c: char) -> bool
+    ensures { result ≡ false → (start : Marker) (s : Cursor) → c ≡ slice_index s.rest 0
+        → spec.special quote start s ≡ Ok (None, s) }
+{
+    match quote {
+        Quote::Single => c == '\'',
+        Quote::Double => c == '\\',
+    }
 }
 
 // The characters that stand for themselves between single quotes and are no blank.
@@ -153,17 +166,17 @@ impl<T: Input> Reader<T> {
         Ok(())
     }
 
-    // The second character, if it ends a word of a double quoted scalar that has only one character. Between double
-    // quotes such words are frequent, before and after escapes.
+    // The second character, if it ends a word of a double quoted scalar that has only one character. Such words are
+    // frequent behind escapes, and only there they are looked for.
     #[inline(always)]
-    fn look_behind_character(&mut self, quote: Quote) -> Option<char>
+    fn look_behind_character(&mut self, quote: Quote, escaped: bool) -> Option<char>
         requires { 1 ≤ loaded self.old }
         ensures second { IfSome result (λ c. c ≡ slice_index (cursor_of self.old).rest 1) }
         ensures ends { IfSome result (λ c. spec.is_literal quote c ≡ false) }
         ensures same { cursor_of self.new ≡ cursor_of self.old }
         ensures loaded { IfSome result (λ c. 2 ≤ loaded self.new) }
     {
-        if quote == Quote::Single {
+        if quote == Quote::Single || !escaped {
             return None;
         }
         self.load(2);
@@ -174,10 +187,15 @@ impl<T: Input> Reader<T> {
         Some(second)
     }
 
-    // The same after an escape or a gap. After an escape mostly another one or the closing quote follows, and to look is
-    // cheaper than to move nothing. Returns the character that comes next.
+    // The same after an escape or a gap, which may be an escaped break. After an escape mostly another one or the closing
+    // quote follows, and to look is cheaper than to move nothing. Returns the character that comes next.
     #[inline(always)]
-    fn read_literal_words(&mut self, quote: Quote, text: &mut String) -> Result<char, AllocError>
+    fn read_literal_words(
+        &mut self,
+        quote: Quote,
+        escaped: bool,
+        text: &mut String,
+    ) -> Result<char, AllocError>
         ensures moved { OnOk result
             (spec.QuotedWordsMoved quote (string_bytes text.old) (string_bytes text.new)
             (cursor_of self.old) (cursor_of self.new)) }
@@ -188,7 +206,7 @@ impl<T: Input> Reader<T> {
         if !is_literal(quote, c) {
             return Ok(c);
         }
-        if let Some(next) = self.look_behind_character(quote) {
+        if let Some(next) = self.look_behind_character(quote, escaped) {
             self.read_single_character(quote, c, text)?;
             return Ok(next);
         }
@@ -258,11 +276,12 @@ impl<T: Input> Reader<T> {
 
     // Moves words, and the single spaces between them, to the end of a text, with their escapes
     // resolved: up to a blank, a break, escaped or not, the closing quote, NUL or the end. Returns
-    // the character that ends them.
+    // the character that ends them. `escaped` tells whether an escaped break came before.
     #[inline(always)]
     pub(super) fn read_quoted_word(
         &mut self,
         quote: Quote,
+        escaped: bool,
         start: Marker,
         text: &mut String,
     ) -> Result<char, Stop>
@@ -276,12 +295,18 @@ impl<T: Input> Reader<T> {
         ensures next { IfOk result (λ c. c ≡ slice_index (cursor_of self.new).rest 0) }
         ensures loaded { OnOk result (1 ≤ loaded self.new) }
     {
+        let mut escaped = escaped;
         loop {
-            let next = self.read_literal_words(quote, text)?;
+            let next = self.read_literal_words(quote, escaped, text)?;
+            // For speed: here the two results of the call below are not needed.
+            if !begins_special(quote, next) {
+                return Ok(next);
+            }
             let Some(c) = self.read_quoted_special(quote, next, start)? else {
                 return Ok(next);
             };
             text.push(c)?;
+            escaped = true;
         }
     }
 }

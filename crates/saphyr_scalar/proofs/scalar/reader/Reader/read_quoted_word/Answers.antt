@@ -85,3 +85,18 @@ returns-in_default-clause-next g c =
     c.in_default.is in
     c.in_ok-next.ensures.next
     ∙ ap (λ (x : Cursor). slice_index x.rest 0) (sym (special_none c.args.quote c.args.start here there none))
+
+pub returns-then-not-begins_special-clause-same : goal.returns-then-not-begins_special-clause-same
+returns-then-not-begins_special-clause-same g c = λ indent.
+    c.in_ok-next.ensures.moved.same indent c.args.start ∙ c.loop-next.invariant.same indent
+
+pub returns-then-not-begins_special-clause-ended : goal.returns-then-not-begins_special-clause-ended
+returns-then-not-begins_special-clause-ended g c =
+    let here = cursor_of c.read_literal_words.new.self in
+    word_ends c.args.quote c.args.start here here
+    (c.begins_special.ensures c.if-not-begins_special.true c.args.start here c.in_ok-next.ensures.next)
+    c.in_ok-next.ensures.moved.stops
+
+pub returns-then-not-begins_special-clause-shorter : goal.returns-then-not-begins_special-clause-shorter
+returns-then-not-begins_special-clause-shorter g c =
+    omega (arith, c.in_ok-next.ensures.moved.shorter, c.loop-next.invariant.shorter)
