@@ -187,8 +187,9 @@ impl<T: Input> Reader<T> {
         Some(second)
     }
 
-    // The same after an escape or a gap, which may be an escaped break. After an escape mostly another one or the closing
-    // quote follows, and to look is cheaper than to move nothing. Returns the character that comes next.
+    // Moves such words after an escape or a gap, and returns the character that comes next. `escaped` tells whether an
+    // escape or an escaped break came before. After an escape mostly another one or the closing quote follows, and to
+    // look is cheaper than to move nothing.
     #[inline(always)]
     fn read_literal_words(
         &mut self,
