@@ -25,11 +25,9 @@ module _ (P : List Part → Type 0) (nothing : P []) (both : (ps qs : List Part)
     pub of_node : (n : Node) → P (node_parts n)
     of_node (Alias name) = alone (Reference name) tt
     of_node (Scalar p style value) = alone (Leaf p style value) tt
-    of_node (Seq p ns) =
-        both (OpenSequence p ∷ []) _ (alone (OpenSequence p) tt)
+    of_node (Seq p ns) = both (OpenSequence p ∷ []) _ (alone (OpenSequence p) tt)
         (both (entry_parts ns) (CloseSequence ∷ []) (of_entries ns) (alone CloseSequence tt))
-    of_node (Map p qs) =
-        both (OpenMapping p ∷ []) _ (alone (OpenMapping p) tt)
+    of_node (Map p qs) = both (OpenMapping p ∷ []) _ (alone (OpenMapping p) tt)
         (both (pair_parts qs) (CloseMapping ∷ []) (of_pairs qs) (alone CloseMapping tt))
 
     of_entries : (ns : Nodes) → P (entry_parts ns)
@@ -38,8 +36,7 @@ module _ (P : List Part → Type 0) (nothing : P []) (both : (ps qs : List Part)
 
     of_pairs : (qs : Pairs) → P (pair_parts qs)
     of_pairs NoPair = nothing
-    of_pairs (MorePairs key value qs) =
-        both (node_parts key) (node_parts value ++ pair_parts qs) (of_node key)
+    of_pairs (MorePairs key value qs) = both (node_parts key) (node_parts value ++ pair_parts qs) (of_node key)
         (both (node_parts value) (pair_parts qs) (of_node value) (of_pairs qs))
 
 -- ## The pieces
@@ -197,8 +194,7 @@ module _ (W : List Kind → List Part → Type 0) (a : AddsUp W) where
       → W u (pair_parts qs) → W t (pair_parts (MorePairs m n qs))
   pair_and_others m n qs s u t e x y =
       put t (s ++ u) (pair_parts (MorePairs m n qs)) e (rw (append_assoc (node_parts m) (node_parts n)
-      (pair_parts qs)) at
-      (a.both s u (node_parts m ++ node_parts n) (pair_parts qs) x y))
+      (pair_parts qs)) at (a.both s u (node_parts m ++ node_parts n) (pair_parts qs) x y))
 
   list_end : (t : List Kind) → IsListEnd t → W t []
   list_end t (inl h) = none t h
@@ -251,12 +247,10 @@ module _ (W : List Kind → List Part → Type 0) (a : AddsUp W) where
     node (Scalar p style value) c t h =
         put t (h.0 ++ h.1) (Leaf p style value ∷ []) h.4 (a.both h.0 h.1 (Leaf p style value ∷ []) []
         (a.part (Leaf p style value) p h.0 refl h.2 (properties p.anchor p.tag h.0 h.2)) (scalar p style value h.1 h.3))
-    node (Seq p ns) c t h =
-        put t (h.0 ++ h.1) (node_parts (Seq p ns)) h.4
+    node (Seq p ns) c t h = put t (h.0 ++ h.1) (node_parts (Seq p ns)) h.4
         (sequence p ns c (YieldFlowEntries ns) (YieldBlockEntries ns) h.0 h.1 h.2 (λ u g. entries ns u g)
         (λ u g. block_entries ns u g) h.3)
-    node (Map p qs) c t h =
-        put t (h.0 ++ h.1) (node_parts (Map p qs)) h.4
+    node (Map p qs) c t h = put t (h.0 ++ h.1) (node_parts (Map p qs)) h.4
         (mapping p qs c (YieldFlowPairs qs) (YieldBlockPairs qs) h.0 h.1 h.2 (λ u g. pairs qs u g)
         (λ u g. block_pairs qs u g) h.3)
 
@@ -270,42 +264,36 @@ module _ (W : List Kind → List Part → Type 0) (a : AddsUp W) where
 
     entries : (ns : Nodes) (t : List Kind) → YieldFlowEntries ns t → W t (entry_parts ns)
     entries NoNode t h = none t h
-    entries (MoreNodes n ns) t h =
-        put t (h.0 ++ h.1) (entry_parts (MoreNodes n ns)) h.4
+    entries (MoreNodes n ns) t h = put t (h.0 ++ h.1) (entry_parts (MoreNodes n ns)) h.4
         (entry n ns h.0 h.1 (λ u g. node n InFlow u g) (λ u g. pair_entry n u g) h.2 (other_entries ns h.1 h.3))
 
     other_entries : (ns : Nodes) (t : List Kind) → YieldOtherFlowEntries ns t → W t (entry_parts ns)
     other_entries NoNode t h = list_end t h
-    other_entries (MoreNodes n ns) t h =
-        behind tokens.FlowEntry (h.0 ++ h.1) t (entry_parts (MoreNodes n ns)) h.4 tt
+    other_entries (MoreNodes n ns) t h = behind tokens.FlowEntry (h.0 ++ h.1) t (entry_parts (MoreNodes n ns)) h.4 tt
         (entry n ns h.0 h.1 (λ u g. node n InFlow u g) (λ u g. pair_entry n u g) h.2 (other_entries ns h.1 h.3))
 
     pairs : (qs : Pairs) (t : List Kind) → YieldFlowPairs qs t → W t (pair_parts qs)
     pairs NoPair t h = none t h
-    pairs (MorePairs m n qs) t h =
-        pair_and_others m n qs h.0 h.1 t h.4
+    pairs (MorePairs m n qs) t h = pair_and_others m n qs h.0 h.1 t h.4
         (flow_pair m n (YieldsNode m InFlow) (YieldsNode n InFlow) h.0 (λ u g. node m InFlow u g)
         (λ u g. node n InFlow u g) h.2) (other_pairs qs h.1 h.3)
 
     other_pairs : (qs : Pairs) (t : List Kind) → YieldOtherFlowPairs qs t → W t (pair_parts qs)
     other_pairs NoPair t h = list_end t h
-    other_pairs (MorePairs m n qs) t h =
-        behind tokens.FlowEntry (h.0 ++ h.1) t (pair_parts (MorePairs m n qs)) h.4 tt
+    other_pairs (MorePairs m n qs) t h = behind tokens.FlowEntry (h.0 ++ h.1) t (pair_parts (MorePairs m n qs)) h.4 tt
         (pair_and_others m n qs h.0 h.1 (h.0 ++ h.1) refl
         (flow_pair m n (YieldsNode m InFlow) (YieldsNode n InFlow) h.0 (λ u g. node m InFlow u g)
         (λ u g. node n InFlow u g) h.2) (other_pairs qs h.1 h.3))
 
     block_entries : (ns : Nodes) (t : List Kind) → YieldBlockEntries ns t → W t (entry_parts ns)
     block_entries NoNode t h = none t h
-    block_entries (MoreNodes n ns) t h =
-        behind tokens.BlockEntry (h.0 ++ h.1) t (entry_parts (MoreNodes n ns)) h.4 tt
+    block_entries (MoreNodes n ns) t h = behind tokens.BlockEntry (h.0 ++ h.1) t (entry_parts (MoreNodes n ns)) h.4 tt
         (a.both h.0 h.1 (node_parts n) (entry_parts ns)
         (optional n (YieldsNode n InBlock) h.0 (λ u g. node n InBlock u g) h.2) (block_entries ns h.1 h.3))
 
     block_pairs : (qs : Pairs) (t : List Kind) → YieldBlockPairs qs t → W t (pair_parts qs)
     block_pairs NoPair t h = none t h
-    block_pairs (MorePairs m n qs) t h =
-        pair_and_others m n qs h.0 h.1 t h.4
+    block_pairs (MorePairs m n qs) t h = pair_and_others m n qs h.0 h.1 t h.4
         (block_pair m n (YieldsNode m InBlockMapping) (YieldsNode n InBlockMapping) h.0
         (λ u g. node m InBlockMapping u g) (λ u g. node n InBlockMapping u g) h.1 h.2) (block_pairs qs h.1 h.3)
 
@@ -329,8 +317,7 @@ module _ (W : List Kind → List Part → Type 0) (a : AddsUp W) where
 
   ends_and_marks : (t : List Kind) → AreEndsAndMarks t → W t []
   ends_and_marks [] h = a.nothing
-  ends_and_marks (k ∷ t) (inl e, h) =
-      behind tokens.DocumentEnd t (k ∷ t) [] (ap (λ x. x ∷ t) e) tt (ends_and_marks t h)
+  ends_and_marks (k ∷ t) (inl e, h) = behind tokens.DocumentEnd t (k ∷ t) [] (ap (λ x. x ∷ t) e) tt (ends_and_marks t h)
   ends_and_marks (k ∷ t) (inr e, h) =
       behind tokens.ByteOrderMark t (k ∷ t) [] (ap (λ x. x ∷ t) e) tt (ends_and_marks t h)
 
@@ -343,22 +330,19 @@ module _ (W : List Kind → List Part → Type 0) (a : AddsUp W) where
           ⊎ ((more : List Kind) × AreEndsAndMarks more × (end ≡ tokens.DocumentEnd ∷ more) × Others true others)
           → W (end ++ others) ps
       by (inl z) = a.both end others [] ps (none end z.0) (g false others z.1)
-      by (inr z) =
-          a.both end others [] ps (behind tokens.DocumentEnd z.0 end [] z.2 tt (ends_and_marks z.0 z.1))
+      by (inr z) = a.both end others [] ps (behind tokens.DocumentEnd z.0 end [] z.2 tt (ends_and_marks z.0 z.1))
           (g true others z.3)
 
   documents : (ds : Forest) (free : Bool) (t : List Kind) → YieldDocuments ds free t → W t (document_parts ds)
   documents [] free t h =
       parts_behind t [] (CloseStream ∷ []) (alone tokens.StreamEnd t h tt) (one_part CloseStream refl)
-  documents (d ∷ ds) free t h =
-      put t (h.0 ++ h.1) (document_parts (d ∷ ds)) h.4
+  documents (d ∷ ds) free t h = put t (h.0 ++ h.1) (document_parts (d ∷ ds)) h.4
       (a.both h.0 h.1 (OpenDocument d.explicit d.directives ∷ node_parts d.node) (CloseDocument ∷ document_parts ds)
       (part_before (OpenDocument d.explicit d.directives) h.0 (node_parts d.node) refl (document d free h.0 h.2))
       (part_before CloseDocument h.1 (document_parts ds) refl
       (behind_document (YieldDocuments ds) (document_parts ds) h.1 (λ f u g. documents ds f u g) h.3)))
 
   pub of_forest : (f : Forest) (t : List Kind) → Yields f t → W t (parts f)
-  of_forest f t h =
-      part_before OpenStream t (document_parts f) refl
+  of_forest f t h = part_before OpenStream t (document_parts f) refl
       (behind tokens.StreamStart (h.0 ++ h.1) t (document_parts f) h.4 tt
       (a.both h.0 h.1 [] (document_parts f) (ends_and_marks h.0 h.2) (documents f true h.1 h.3)))

@@ -8,8 +8,7 @@ use Rattle.event_laws.specs.Preorder.{Part, parts}
 use Rattle.event_laws.proofs.AddsUp.{Collection, FlowSequence, opening, closing, opening_part, closing_part, of_forest}
 
 one_more_sum : (o : Option (List ℕ)) (a b : ℕ) → one_more_anchor o (a + b) ≡ one_more_anchor o a + b
-one_more_sum None a b = refl
-one_more_sum (Some name) a b = omega arith
+one_more_sum o a b = grind arith
 
 sum : (ps qs : List Part) → anchors (ps ++ qs) ≡ anchors ps + anchors qs
 sum [] qs = omega arith
@@ -18,10 +17,7 @@ sum (p ∷ ps) qs = cc (sum ps qs, one_more_sum (anchor_of p) (anchors ps) (anch
 property_count : (a : Option (List ℕ)) (g : Option Tag) (t : List Kind)
     → AreBoth (option_map anchor_token a) (option_map tag_token g) t
     → one_more_anchor (option_map encode_utf8_all a) 0 ≤ length t
-property_count None g t h = omega arith
-property_count (Some name) None t h = let l = ap length h in omega (arith, l)
-property_count (Some name) (Some tag) t (inl h) = let l = ap length h in omega (arith, l)
-property_count (Some name) (Some tag) t (inr h) = let l = ap length h in omega (arith, l)
+property_count a g t h = grind arith
 
 -- a collection has its properties' anchor, and those inside
 around : (c : Collection) (p : Properties) (ps : List Part) → anchors (opening_part c p ∷ (ps ++ closing_part c ∷ []))
@@ -30,8 +26,7 @@ around c p ps = cc (sum (opening_part c p ∷ []) (ps ++ closing_part c ∷ []),
   where
     by : (c : Collection) → anchors (opening_part c p ∷ []) + (anchors ps + anchors (closing_part c ∷ []))
         ≡ one_more_anchor (option_map encode_utf8_all p.anchor) 0 + anchors ps
-    by FlowSequence = omega arith
-    by _ = omega arith
+    by c = grind arith
 
 pub forest_count : (f : Forest) (t : List Kind) → Yields f t → anchors (parts f) ≤ length t
 forest_count = of_forest (λ t ps. anchors ps ≤ length t) (record {
@@ -41,8 +36,6 @@ forest_count = of_forest (λ t ps. anchors ps ≤ length t) (record {
   part = λ part p t e y x. rw e (property_count p.anchor p.tag t y);
   collection = λ c p front inside ps y f x.
       let own = property_count p.anchor p.tag front y in
-      let all = around c p ps in
       let l = length-append front (opening c ∷ (inside ++ closing c ∷ [])) in
-      let m = length-append inside (closing c ∷ []) in
-      omega (arith, own, all, l, m, x);
+      let m = length-append inside (closing c ∷ []) in omega (arith, own, around c p ps, l, m, x);
 })

@@ -33,8 +33,7 @@ over_too : (s : State) → s ≡ state.End → placeless_state s ≡ state.End
 over_too s e = rw e refl
 
 not_over : (s : State) → s ≢ state.End → placeless_state s ≢ state.End
-not_over (state.FlowSequenceEntryMappingEnd place) h = λ e. absurd (cc)
-not_over s h = h
+not_over s h = grind arith
 
 delivers_alike : (p q : Result Told Refusal) → Same p q
     → ((x : Told) → p ≡ Ok x → Alike (remaining_answer x.machine) (remaining_answer (placeless x.machine)))
@@ -44,8 +43,7 @@ delivers_alike (Ok x) q e h = let behind =
 delivers_alike (Err f) q e h = rw e.1 (record { told = refl; fault = refl })
 
 as_before : (a c b d : Answer) → a ≡ c → b ≡ d → Alike c d → Alike a b
-as_before a c b d e f h =
-    record { told = ap happenings_of f ∙ h.told ∙ sym (ap happenings_of e); fault = cc }
+as_before a c b d e f h = record { told = ap happenings_of f ∙ h.told ∙ sym (ap happenings_of e); fault = cc }
 
 first_step : (m : Machine)
     → ((x : Told) → event_step m ≡ Ok x → Alike (remaining_answer x.machine) (remaining_answer (placeless x.machine)))
@@ -70,10 +68,7 @@ same_pieces : (ts us : List Piece) → kinds ts ≡ kinds us → map placeless_p
 same_pieces [] [] e = refl
 same_pieces [] (u ∷ us) e = absurd (cc)
 same_pieces (t ∷ ts) [] e = absurd (cc)
-same_pieces (t ∷ ts) (u ∷ us) e =
-    let first : t.kind ≡ u.kind = cc in
-    let others : kinds ts ≡ kinds us = cc in
-    cc (same_pieces ts us others)
+same_pieces (t ∷ ts) (u ∷ us) e = cc (same_pieces ts us cc)
 
 -- the machine of a parser at the start of tokens
 abbrev start : Bool → Remaining → Machine
@@ -92,8 +87,7 @@ pub tells_too : (keep : Bool) (a b : Remaining) → kinds a.pieces ≡ kinds b.p
 tells_too keep a b e = let same = alike keep b a (sym e) in record { told = same.told; fault = same.fault }
 
 none_if : {X : Type 0} (o : Option X) → is_some o ≡ false → o ≡ None
-none_if None e = refl
-none_if (Some x) e = absurd (cc)
+none_if o e = grind arith
 
 pub exactly_too : (keep : Bool) (a b : Remaining) (es : List Happening) → kinds a.pieces ≡ kinds b.pieces
     → GivesExactly es (to_come (keeping_tags keep (at_start a)))

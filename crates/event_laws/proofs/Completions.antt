@@ -63,16 +63,13 @@ complete s ss kinds first parts follows starts bare = record {
 }
 
 outside : (s : State) → IsOutside s → Completion s []
-outside state.StreamStart i =
-    complete _ _ (StreamStart ∷ StreamEnd ∷ []) OpenStream (CloseStream ∷ [])
+outside state.StreamStart i = complete _ _ (StreamStart ∷ StreamEnd ∷ []) OpenStream (CloseStream ∷ [])
     ([], ([], StreamEnd ∷ [], tt, refl, refl), refl) (λ ahead. tt) (tt, (tt, tt))
 outside state.ImplicitDocumentStart i =
     complete _ _ (StreamEnd ∷ []) CloseStream [] ([], [], StreamEnd ∷ [], tt, refl, refl, refl) (λ ahead. tt) (tt, tt)
 outside state.DocumentStart i =
-    complete _ _ (StreamEnd ∷ []) CloseStream [] ([], [], StreamEnd ∷ [], tt, refl, refl, refl) (λ ahead b. tt)
-    (tt, tt)
-outside state.DocumentEnd i =
-    complete _ _ (StreamEnd ∷ []) CloseDocument (CloseStream ∷ [])
+    complete _ _ (StreamEnd ∷ []) CloseStream [] ([], [], StreamEnd ∷ [], tt, refl, refl, refl) (λ ahead b. tt) (tt, tt)
+outside state.DocumentEnd i = complete _ _ (StreamEnd ∷ []) CloseDocument (CloseStream ∷ [])
     ([], ([], [], StreamEnd ∷ [], tt, inl (refl, refl), refl), refl) (λ ahead. tt) (tt, (tt, tt))
 outside _ i = elim i [ ]
 
@@ -109,43 +106,34 @@ pair_value R ks ps r = put (IsAnyValueOf InFlow) (AtPairEnd R) [] (leaf ∷ []) 
     (pair_ends R ks ps r)
 
 inside : (s other : State) (ss : List State) → IsInsideDocument s → Completion other ss → Completion s (other ∷ ss)
-inside state.DocumentContent o ss i c =
-    complete _ _ c.kinds leaf c.parts
+inside state.DocumentContent o ss i c = complete _ _ c.kinds leaf c.parts
     (put (IsOptionalOf InBlock) (FollowsStates o ss) [] (leaf ∷ []) c.kinds c.parts
     (forest.left_out, inl (refl, refl), refl) c.follows) (λ ahead. tt) (refl, c.bare)
-inside state.BlockNode o ss i c =
-    complete _ _ (scalar_token Plain [] ∷ c.kinds) leaf c.parts
+inside state.BlockNode o ss i c = complete _ _ (scalar_token Plain [] ∷ c.kinds) leaf c.parts
     (put (IsNodeOf InBlock) (FollowsStates o ss) (scalar_token Plain [] ∷ []) (leaf ∷ []) c.kinds c.parts
     (forest.left_out, ([], scalar_token Plain [] ∷ [], refl, inl refl, refl), refl) c.follows) (λ ahead. tt)
     (refl, c.bare)
-inside state.BlockSequenceEntry o ss i c =
-    complete _ _ (BlockEnd ∷ c.kinds) CloseSequence c.parts
+inside state.BlockSequenceEntry o ss i c = complete _ _ (BlockEnd ∷ c.kinds) CloseSequence c.parts
     (collection_ends BlockEntries (FollowsStates o ss) (BlockEnd ∷ []) CloseSequence c.kinds c.parts
     (NoNode, refl, refl) c.follows) (λ ahead. tt) (tt, c.bare)
-inside state.IndentlessSequenceEntry o ss i c =
-    complete _ _ (BlockEntry ∷ c.kinds) leaf (CloseSequence ∷ c.parts)
+inside state.IndentlessSequenceEntry o ss i c = complete _ _ (BlockEntry ∷ c.kinds) leaf (CloseSequence ∷ c.parts)
     (one_entry (Then (Exactly [] (CloseSequence ∷ [])) (FollowsStates o ss)) c.kinds (leaf ∷ CloseSequence ∷ c.parts)
     (put (IsOptionalOf InBlock) _ [] (leaf ∷ []) c.kinds (CloseSequence ∷ c.parts)
     (forest.left_out, inl (refl, refl), refl)
     (collection_ends BlockEntries (FollowsStates o ss) [] CloseSequence c.kinds c.parts (NoNode, refl, refl)
     c.follows))) (λ ahead b. tt) (refl, (tt, c.bare))
-inside state.BlockMappingKey o ss i c =
-    complete _ _ (BlockEnd ∷ c.kinds) CloseMapping c.parts
+inside state.BlockMappingKey o ss i c = complete _ _ (BlockEnd ∷ c.kinds) CloseMapping c.parts
     (block_pairs_end (FollowsStates o ss) c.kinds c.parts c.follows) (λ ahead b. absurd b) (tt, c.bare)
-inside state.BlockMappingValue o ss i c =
-    complete _ _ (Value ∷ BlockEnd ∷ c.kinds) leaf (CloseMapping ∷ c.parts)
-    (inl
+inside state.BlockMappingValue o ss i c = complete _ _ (Value ∷ BlockEnd ∷ c.kinds) leaf (CloseMapping ∷ c.parts) (inl
     (marked_value InBlockMapping (InBlockPairs (FollowsStates o ss)) (BlockEnd ∷ c.kinds)
     (leaf ∷ CloseMapping ∷ c.parts)
     (put (IsOptionalOf InBlockMapping) (InBlockPairs (FollowsStates o ss)) [] (leaf ∷ []) _ _
     (forest.left_out, inl (refl, refl), refl) (block_pairs_end (FollowsStates o ss) c.kinds c.parts c.follows))))
     (λ ahead b. tt) (refl, (tt, c.bare))
-inside state.FlowSequenceFirstEntry o ss i c =
-    complete _ _ (FlowSequenceEnd ∷ c.kinds) CloseSequence c.parts
+inside state.FlowSequenceFirstEntry o ss i c = complete _ _ (FlowSequenceEnd ∷ c.kinds) CloseSequence c.parts
     (collection_ends FirstEntries (FollowsStates o ss) (FlowSequenceEnd ∷ []) CloseSequence c.kinds c.parts
     (NoNode, refl, refl) c.follows) (λ ahead. tt) (tt, c.bare)
-inside state.FlowSequenceEntry o ss i c =
-    complete _ _ (FlowSequenceEnd ∷ c.kinds) CloseSequence c.parts
+inside state.FlowSequenceEntry o ss i c = complete _ _ (FlowSequenceEnd ∷ c.kinds) CloseSequence c.parts
     (entries_end (FollowsStates o ss) c.kinds c.parts c.follows) (λ ahead. tt) (tt, c.bare)
 inside state.FlowSequenceEntryMappingKey o ss i c =
     complete _ _ (FlowSequenceEnd ∷ c.kinds) leaf (leaf ∷ CloseMapping ∷ CloseSequence ∷ c.parts)
@@ -157,21 +145,17 @@ inside state.FlowSequenceEntryMappingValue o ss i c =
 inside (state.FlowSequenceEntryMappingEnd place) o ss i c =
     complete _ _ (FlowSequenceEnd ∷ c.kinds) CloseMapping (CloseSequence ∷ c.parts)
     (pair_ends (FollowsStates o ss) c.kinds c.parts c.follows) (λ ahead. tt) (tt, (tt, c.bare))
-inside state.FlowMappingFirstKey o ss i c =
-    complete _ _ (FlowMappingEnd ∷ c.kinds) CloseMapping c.parts
+inside state.FlowMappingFirstKey o ss i c = complete _ _ (FlowMappingEnd ∷ c.kinds) CloseMapping c.parts
     (collection_ends FirstPairs (FollowsStates o ss) (FlowMappingEnd ∷ []) CloseMapping c.kinds c.parts
     (NoPair, refl, refl) c.follows) (λ ahead. tt) (tt, c.bare)
-inside state.FlowMappingKey o ss i c =
-    complete _ _ (FlowMappingEnd ∷ c.kinds) CloseMapping c.parts
+inside state.FlowMappingKey o ss i c = complete _ _ (FlowMappingEnd ∷ c.kinds) CloseMapping c.parts
     (pairs_end (FollowsStates o ss) c.kinds c.parts c.follows) (λ ahead. tt) (tt, c.bare)
-inside state.FlowMappingValue o ss i c =
-    complete _ _ (Value ∷ FlowMappingEnd ∷ c.kinds) leaf (CloseMapping ∷ c.parts)
+inside state.FlowMappingValue o ss i c = complete _ _ (Value ∷ FlowMappingEnd ∷ c.kinds) leaf (CloseMapping ∷ c.parts)
     (any_value InFlow (InMapping (FollowsStates o ss)) _ _
     (marked_value InFlow (InMapping (FollowsStates o ss)) (FlowMappingEnd ∷ c.kinds) (leaf ∷ CloseMapping ∷ c.parts)
     (maybe (InMapping (FollowsStates o ss)) _ _ (pairs_end (FollowsStates o ss) c.kinds c.parts c.follows))))
     (λ ahead b. tt) (refl, (tt, c.bare))
-inside state.FlowMappingEmptyValue o ss i c =
-    complete _ _ (FlowMappingEnd ∷ c.kinds) leaf (CloseMapping ∷ c.parts)
+inside state.FlowMappingEmptyValue o ss i c = complete _ _ (FlowMappingEnd ∷ c.kinds) leaf (CloseMapping ∷ c.parts)
     (skip (InMapping (FollowsStates o ss)) _ _ (pairs_end (FollowsStates o ss) c.kinds c.parts c.follows))
     (λ ahead. tt) (refl, (tt, c.bare))
 inside _ o ss i c = elim i [ ]

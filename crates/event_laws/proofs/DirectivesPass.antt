@@ -100,7 +100,6 @@ pub directives_pass : (ds : List Directive) (d : Declared) (f : SpansByKinds) (k
 directives_pass [] d f ks x ss e c h = refl
 directives_pass (Version major minor ∷ ds) d f ks x ss e c h =
     let rest : List Kind = map directive_token ds ++ DocumentStart ∷ ks in
-    let m : Machine = at f rest x ss e in
     cc (
       version_passes d.version d (f rest).start h.0,
       directives_pass ds (declared_by (Version major minor) d) f ks x ss e c.1
@@ -110,12 +109,9 @@ directives_pass (TagPrefix handle prefix ∷ ds) d f ks x ss e c h =
     let rest : List Kind = map directive_token ds ++ DocumentStart ∷ ks in
     let e' : Memory = record {
       anchors = e.anchors;
-      prefixes = with_meaning (handle_bytes handle) (encode_utf8_all prefix)
-          e.prefixes;
+      prefixes = with_meaning (handle_bytes handle) (encode_utf8_all prefix) e.prefixes;
       keep = e.keep;
     } in
-    let refused : Result (Declared × Machine) Refusal =
-    Err (record { text = fault.DuplicateTagDirective; mark = (f rest).start }) in
     let passed : Result (Declared × Machine) Refusal =
     Ok (declared_by (TagPrefix handle prefix) d, at f rest x ss e') in
     cc (directives_pass ds (declared_by (TagPrefix handle prefix) d) f ks x ss e' c.1

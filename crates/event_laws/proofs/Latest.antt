@@ -27,11 +27,8 @@ not_named name other h = go (is_named name other) refl
 pub each : (name : List ℕ) (later : List Part) (part : Part) (earlier : List Part) → AreWithout name later
     → anchor_of part ≡ Some name → latest_id name (later ++ part ∷ earlier) ≡ Some (suc (anchors earlier))
 each name [] part earlier h e =
-    let other : Option ℕ = latest_id name earlier in
-    let here : Option ℕ = Some (suc (anchors earlier)) in
-    cc (opens_none part name e, named name)
+    let here : Option ℕ = Some (suc (anchors earlier)) in cc (opens_none part name e, named name)
 each name (p ∷ ps) part earlier h e =
-    let other : Option ℕ = latest_id name (ps ++ part ∷ earlier) in
     let here : Option ℕ = Some (suc (anchors (ps ++ part ∷ earlier))) in
     cc (not_named name (anchor_of p) h.1, each name ps part earlier h.2 e)
 

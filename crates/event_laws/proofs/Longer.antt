@@ -99,8 +99,7 @@ with_longer z o =
             is = ap (λ (r : Remaining). r.pieces) i.2;
             start = refl;
             end = refl;
-            behind =
-                longer_behind z o t.kind _ _ i.0 i.1
+            behind = longer_behind z o t.kind _ _ i.0 i.1
                 (ap (λ (r : Remaining). record { pieces = ts ++ z.pieces; refusal = r.refusal }) i.2);
           };
     }
@@ -115,8 +114,7 @@ becomes_longer z o T m n near e =
 
 longer_left : (z : More) (o : Option Refusal) (what : Happening) (m n : Machine) → Left (with_longer z o) what m n
     → IsLeftBehind z what m × (m.tokens.refusal ≡ o) × (n ≡ longer z m)
-longer_left z o what m n (inl near) =
-    (inl near.tokens.0, near.tokens.1, becomes_longer z o _ m n near near.tokens.2)
+longer_left z o what m n (inl near) = (inl near.tokens.0, near.tokens.1, becomes_longer z o _ m n near near.tokens.2)
 longer_left z o what m n (inr (d, over, a, own)) = (
   inr (over.tokens.0.1, rw over.tokens.0.0 a, rw over.tokens.0.0 own),
   over.tokens.1,
@@ -148,19 +146,13 @@ none_start _ m i = absurd i
 all_passed : (z : More) (o : Option Refusal) (s : State) (m : Machine) → IsBetweenDocuments s
     → PassedAll (with_longer z o) m (longer z m) (event_step_at s) → PassesAll z m (event_step_at s)
 all_passed z o s m i (ts, us, over, e, y) =
-    let none = over.tokens.0.1 in
-    let others : us ≡ z.pieces = ap (λ (r : Remaining). r.pieces) over.tokens.2 ∙ ap (λ ts. ts ++ z.pieces) none in (
-      over.tokens.0.0,
-      cc (none_start s m i),
-      simp (y, others),
-    )
+    let others : us ≡ z.pieces = ap (λ (r : Remaining). r.pieces) over.tokens.2 ∙ ap (λ ts. ts ++ z.pieces)
+    over.tokens.0.1 in (over.tokens.0.0, cc (none_start s m i), simp (y, others))
 
-pub steps_agree :
-    (z : More) (s : State) (m : Machine) → s ≢ state.End → End z m.tokens.pieces
+pub steps_agree : (z : More) (s : State) (m : Machine) → s ≢ state.End → End z m.tokens.pieces
     → AgreesOrEndsEarly z m.tokens.refusal (event_step_at s m) (event_step_at s (longer z m))
     ⊎ (IsBetweenDocuments s × PassesAll z m (event_step_at s))
-steps_agree z s m on e =
-    by (steps_beside w s s m (longer z m) (still_expected w (λ p. refl) s) on (λ i b c k. k)
+steps_agree z s m on e = by (steps_beside w s s m (longer z m) (still_expected w (λ p. refl) s) on (λ i b c k. k)
     (leaves w _ (more z m.tokens) m.keep_tags m (λ p. refl) (e, refl, refl) refl))
   where
     w : Beside

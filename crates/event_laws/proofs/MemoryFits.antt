@@ -65,23 +65,19 @@ id_is e n more h l = omega (arith, h, l)
 own_same : (e : Memory) (front : List Part) (anchor : Option (List ℕ)) (more : ℕ) → e.anchors.last ≡ anchors front
     → anchors front + one_more_anchor (option_map encode_utf8_all anchor) more < 2 ^ 64
     → own_id_in e anchor ≡ part.own_id front anchor
-own_same e front None more h l = refl
-own_same e front (Some name) more h l = id_is e (anchors front) more h l
+own_same e front anchor more h l = grind arith
 
 -- ## Tags
 
 resolve_same : (keep : Bool) (front : List Part) (names : Names (List ℕ)) (g : Tag)
     → ((handle : Handle) → meaning (handle_bytes handle) names ≡ prefix_declared_for keep handle front)
     → resolve names g ≡ tag.resolution keep g front
-resolve_same keep front names NonSpecific h = refl
-resolve_same keep front names (Verbatim uri) h = refl
-resolve_same keep front names (Shorthand handle suffix) h = cc (h handle)
+resolve_same keep front names g h = grind arith
 
 resolve_any_same : (keep : Bool) (front : List Part) (names : Names (List ℕ)) (g : Option Tag)
     → ((handle : Handle) → meaning (handle_bytes handle) names ≡ prefix_declared_for keep handle front)
     → resolve_any names g ≡ tag.any_resolution keep g front
-resolve_any_same keep front names None h = refl
-resolve_any_same keep front names (Some g) h = cc (resolve_same keep front names g h)
+resolve_any_same keep front names g h = grind arith
 
 properties_same : (make : ℕ → Option ResolvedTag → Happening) (keep : Bool) (front : List Part) (e : Memory)
     (p : Properties) (more : ℕ) → FitsInside keep front e
@@ -132,12 +128,10 @@ fits_noted keep front e p (Some own) more o a h l =
     record {
       keeps = h.keeps;
       count = id ∙ sym (cc);
-      ids = λ name.
-          given_meaning name (encode_utf8_all own) (next_id e.anchors) e.anchors.ids
+      ids = λ name. given_meaning name (encode_utf8_all own) (next_id e.anchors) e.anchors.ids
           ∙ ap (λ (n : ℕ). if bytes_eq name (encode_utf8_all own) then Some n else meaning name e.anchors.ids) id
           ∙ ap (λ (x : Option ℕ). if bytes_eq name (encode_utf8_all own) then Some (suc (anchors front)) else x)
-          (h.ids name)
-          ∙ sym (latest_behind name p front (Some (encode_utf8_all own)) o a);
+          (h.ids name) ∙ sym (latest_behind name p front (Some (encode_utf8_all own)) o a);
       prefixes = λ handle. h.prefixes handle ∙ sym (declared_behind keep handle p front o);
     }
 
@@ -157,8 +151,7 @@ none_else handle other prefix (TagPrefix third text ∷ ds) g e =
 -- a directive alone, and the ones after it
 one_prefix : (b : Bool) (x : List ℕ) (rest later : Option (List ℕ)) → (b ≡ true → rest ≡ None)
     → option_or rest (if b then Some x else later) ≡ option_or (if b then Some x else rest) later
-one_prefix true x rest later h = cc (h refl)
-one_prefix false x rest later h = refl
+one_prefix b x rest later h = grind arith
 
 declaring_meaning : (handle : Handle) (ds : List Directive) (names : Names (List ℕ)) → AreCompatible ds
     → meaning (handle_bytes handle) (declaring ds names)
@@ -180,10 +173,7 @@ kept_meaning : (keep kept : Bool) (handle : Handle) (front : List Part) (names :
     → meaning (handle_bytes handle) names ≡ prefix_declared_for keep handle front
     → meaning (handle_bytes handle) (if kept then names else [])
     ≡ (if keep then prefix_declared_for keep handle front else None)
-kept_meaning true true handle front names k h = h
-kept_meaning false false handle front names k h = refl
-kept_meaning true false handle front names k h = absurd (cc)
-kept_meaning false true handle front names k h = absurd (cc)
+kept_meaning keep kept handle front names k h = grind arith
 
 -- ## After each part
 
@@ -219,8 +209,7 @@ fits_after _ keep front e _ more m h l = elim m [ ]
 
 room_moves : (anchor : Option (List ℕ)) (n more : ℕ) → n + one_more_anchor anchor more < 2 ^ 64
     → one_more_anchor anchor n + more < 2 ^ 64
-room_moves None n more l = l
-room_moves (Some _) n more l = omega (arith, l)
+room_moves anchor n more l = grind arith
 
 pub same_events : (ps : List Part) (b keep : Bool) (front : List Part) (e : Memory) → Within b ps
     → FitsParts b keep front e → anchors front + anchors ps < 2 ^ 64 → events_in e ps ≡ events_behind keep front ps

@@ -42,9 +42,7 @@ not_both : (name other key : List ℕ) → bytes_eq other key ≡ false → byte
     → bytes_eq name other ≡ true → ⊥
 not_both name other key h a b =
     let x : name ≡ key = (bytes_eq-Decides name key).0 a in
-    let y : name ≡ other = (bytes_eq-Decides name other).0 b in
-    let z : bytes_eq other key ≡ true = (bytes_eq-Decides other key).1 (sym y ∙ x) in
-    let no : true ≡ false = sym z ∙ h in cc
+    let y : name ≡ other = (bytes_eq-Decides name other).0 b in cc
 
 given_found : {X : Type 0} (name other : List ℕ) (x : X) (es : Names X)
     → meaning_found name (with_meaning other x es) ≡ cond (bytes_eq name other) (Some x) (meaning_found name es)
@@ -60,12 +58,8 @@ given_found {X} name other x (e ∷ es) = by (slice_cmp nat_cmp other e.0) refl 
         ≡ cond (bytes_eq name other) (Some x)
         (cond (bytes_eq name e.0) (Some e.1) (lookup (λ (k : List ℕ). bytes_eq name k) es))
     by Less h ih = refl
-    by Equal h ih = twice (bytes_eq name e.0) x e.1 _
-        ∙ ap (λ (k : List ℕ). cond (bytes_eq name k) (Some x)
-        (cond (bytes_eq name e.0) (Some e.1) (lookup (λ (k : List ℕ). bytes_eq name k) es)))
-        (sym (exact_bytes other e.0 h))
-    by Greater h ih =
-        cc (order (bytes_eq name e.0) (bytes_eq name other) e.1 x _ (not_both name other e.0
+    by Equal h ih = cc (twice (bytes_eq name e.0) x e.1 _, exact_bytes other e.0 h)
+    by Greater h ih = cc (order (bytes_eq name e.0) (bytes_eq name other) e.1 x _ (not_both name other e.0
         (behind_is_other other e.0 h)))
 
 pub given_meaning : {X : Type 0} (name other : List ℕ) (x : X) (es : Names X)
@@ -95,9 +89,7 @@ listed_test name other (k ∷ ks) = by (slice_cmp nat_cmp other k) refl (listed_
         → is_listed name (match_ordering o (other ∷ k ∷ ks) (k ∷ ks) (k ∷ with_name other ks))
         ≡ (is_at (slice_cmp nat_cmp name) other || (is_at (slice_cmp nat_cmp name) k || is_listed name ks))
     by Less h ih = refl
-    by Equal h ih = once (is_at (slice_cmp nat_cmp name) k) (is_listed name ks)
-        ∙ ap (λ (x : List ℕ). is_at (slice_cmp nat_cmp name) x
-        || (is_at (slice_cmp nat_cmp name) k || is_listed name ks)) (sym (exact_bytes other k h))
+    by Equal h ih = cc (once (is_at (slice_cmp nat_cmp name) k) (is_listed name ks), exact_bytes other k h)
     by Greater h ih =
         cc (or_swapped (is_at (slice_cmp nat_cmp name) k) (is_at (slice_cmp nat_cmp name) other) (is_listed name ks))
 
@@ -112,18 +104,16 @@ different a b h = by (bytes_eq a b) refl
 pub still_unlisted : (name other : List ℕ) (names : List (List ℕ)) → other ≢ name → is_listed name names ≡ false
     → is_listed name (with_name other names) ≡ false
 still_unlisted name other names h u =
-    let test : is_at (slice_cmp nat_cmp name) other ≡ false = is_eq-slice_cmp name other
-    ∙ different name other (λ e. h (sym e)) in
+    let test = is_eq-slice_cmp name other ∙ different name other (λ e. h (sym e)) in
     listed_test name other names ∙ rw (test, u) refl
 
 pub was_unlisted : (name other : List ℕ) (names : List (List ℕ)) → is_listed name (with_name other names) ≡ false
     → (other ≢ name) × (is_listed name names ≡ false)
 was_unlisted name other names h =
     let both : (is_at (slice_cmp nat_cmp name) other ≡ false) × (is_listed name names ≡ false) =
-    or_parts (is_at (slice_cmp nat_cmp name) other) (is_listed name names)
-    (sym (listed_test name other names) ∙ h) in
+    or_parts (is_at (slice_cmp nat_cmp name) other) (is_listed name names) (sym (listed_test name other names) ∙ h) in
     let differ : bytes_eq name other ≡ false = sym (is_eq-slice_cmp name other) ∙ both.0 in (
       (λ e. let same : bytes_eq name other ≡ true =
-          (bytes_eq-Decides name other).1 (sym e) in let no_way : true ≡ false = sym same ∙ differ in cc),
+          (bytes_eq-Decides name other).1 (sym e) in cc),
       both.1,
     )

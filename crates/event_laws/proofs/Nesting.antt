@@ -75,7 +75,7 @@ no_part keep front rest es n p = record { front = front; more = es; are = p; sam
 mapped : {A : Type 0} (f : A → Happening) (o : Option A) (h : Happening) (n : Nest) (m : Option Nest)
     → ((x : A) → nest_behind_event (f x) n ≡ m) → option_map f o ≡ Some h → nest_behind_event h n ≡ m
 mapped f None h n m each p = absurd (cc)
-mapped f (Some x) h n m each p = let same : f x ≡ h = cc in cc (each x)
+mapped f (Some x) h n m each p = cc (each x)
 
 given : (e h : Happening) (n : Nest) (m : Option Nest) → nest_behind_event e n ≡ m → Some e ≡ Some h
     → nest_behind_event h n ≡ m
@@ -95,8 +95,7 @@ mutual
   node_passes : (keep : Bool) (node : Node) (front rest : List Part) (es : List Happening) (n : Nest)
       (place : NestPlace) → place_behind_node n.innermost ≡ Some place
       → events_behind keep front (node_parts node ++ rest) ≡ Some es → PassesParts keep rest es n (at n place)
-  node_passes keep (Alias name) front rest es n place h p =
-      one_part keep front (parts.Reference name) rest es n _ p
+  node_passes keep (Alias name) front rest es n place h p = one_part keep front (parts.Reference name) rest es n _ p
       (λ e q. mapped events.Alias _ e n _ (λ id. behind_moved n place h) q)
   node_passes keep (Scalar own style value) front rest es n place h p =
       one_part keep front (parts.Leaf own style value) rest es n _ p
@@ -176,9 +175,7 @@ forest_passes forest keep es p =
 pub forest_nests : (forest : Forest) (keep : Bool) (es : List Happening) → forests.events forest keep ≡ Some es
     → nest_behind_all es nest_before_stream ≡ Some nest_behind_stream
 forest_nests forest keep es p =
-    let passes = forest_passes forest keep es p in
-    let none : [] ≡ passes.more = cc passes.are in
-    passes.same ∙ ap (λ (hs : List Happening). nest_behind_all hs nest_behind_stream) (sym none)
+    let passes = forest_passes forest keep es p in cc
 
 -- ## Beginnings
 
@@ -186,10 +183,7 @@ pub whole_at_end : (ending : Option Ending) (o : Option Nest) (missing : List Ha
     → option_and_then (nest_behind_all missing) o ≡ Some nest_behind_stream → IsWhole ending o
 whole_at_end ending None missing h e = absurd (cc)
 whole_at_end (Some f) (Some n) missing h e = tt
-whole_at_end None (Some n) missing h e =
-    let same : nest_behind_all missing n ≡ Some n = simp h in
-    let found : Some n ≡ Some nest_behind_stream = sym same ∙ e in
-    cc
+whole_at_end None (Some n) missing h e = cc
 
 pub nests : (keep : Bool) (text : List ℕ) (a : Answer) → AreTaken keep text a → IsNested a
 nests keep text a (forest, t) =
@@ -206,7 +200,7 @@ begins_stream : (es : List (Happening × Span)) (ending : Option Ending) (missin
 begins_stream (e ∷ es) ending missing h others k p q = let same : events.StreamStart ≡ e.0 = cc in
     rw (← same) tt
 begins_stream [] (Some f) missing h others k p q = tt
-begins_stream [] None missing h others k p q = let none : [] ≡ h ∷ others = sym k ∙ p in absurd (cc)
+begins_stream [] None missing h others k p q = absurd (cc)
 
 pub starts : (keep : Bool) (text : List ℕ) (a : Answer) → AreTaken keep text a → IsAtStart a
 starts keep text a (forest, t) =

@@ -211,9 +211,7 @@ pub enters_or_skips : (n : Node) (c : grammar.Context) (t : List Kind) → Yield
 enters_or_skips n c t (inr h) g f k ks machine x behind ss e ps z more span skip go l =
     enters n c t h (g h) f k ks machine x behind ss e ps z more go l
 enters_or_skips n c t (inl h) g f k ks machine x behind ss e ps z more span skip go l =
-    let q : TellsParts f (k ∷ ks) (behind (k ∷ ks)) ss (after_node forest.left_out e) ps
-    → SaysParts e (machine (k ∷ ks)) (node_parts forest.left_out ++ ps) =
-    skipped e (machine (k ∷ ks)) (at f (k ∷ ks) (behind (k ∷ ks)) ss e) ps span (more (k ∷ ks)) skip in
+    let q = skipped e (machine (k ∷ ks)) (at f (k ∷ ks) (behind (k ∷ ks)) ss e) ps span (more (k ∷ ks)) skip in
     left_out_says n t k ks f machine behind ss e ps h.0 h.1 q l
 
 -- ## Nodes after a mark

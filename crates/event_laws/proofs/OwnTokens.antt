@@ -34,13 +34,7 @@ passed_one t what span b h = record { front = t ∷ []; own = []; are = refl; pa
 pub behind_own : {next : List Piece} (t : Piece) (used : List Piece) (what : Happening) (span : Span)
     → BelongsToNone t.kind → HasOwn used what span next → HasOwn (t ∷ used) what span next
 behind_own t used what span b h =
-    record {
-      front = t ∷ h.front;
-      own = h.own;
-      are = ap (λ (l : List Piece). t ∷ l) h.are;
-      passed = (b, h.passed);
-      is_of = h.is_of;
-    }
+    record { front = t ∷ h.front; own = h.own; are = cc; passed = (b, h.passed); is_of = h.is_of }
 
 -- the events of a list and of the ones after it
 from_front : (front own ts unread : List Piece) (what : Happening) (span : Span) (es : List (Happening × Span))

@@ -80,13 +80,11 @@ without_places =
 
 placeless_left : (what : Happening) (m n : Machine) → Left without_places what m n → n ≡ placeless m
 placeless_left what m n (inl near) =
-    becomes without_places _ (λ p. no_place) _ m.keep_tags m n (λ p q e. e) near near.tokens
-    near.setting
+    becomes without_places _ (λ p. no_place) _ m.keep_tags m n (λ p q e. e) near near.tokens near.setting
 placeless_left what m n (inr (d, over, a, own)) = absurd over.tokens
 
 told_same : (p q : Result Told Refusal) → TellsAlike without_places p q → Same p q
-told_same (Ok x) (Ok y) h =
-    ap Ok (tells_so without_places (λ p. no_place) x y _ (λ p q e. e) h
+told_same (Ok x) (Ok y) h = ap Ok (tells_so without_places (λ p. no_place) x y _ (λ p q e. e) h
     (placeless_left x.what x.machine y.machine h.machine))
 told_same (Ok x) (Err g) h = absurd h
 told_same (Err f) (Ok y) (inl e) = absurd e
@@ -95,8 +93,7 @@ told_same (Err f) (Err g) h = (g, refl)
 
 beside_placeless : (s : State) (m : Machine) → s ≢ state.End
     → TellsAlike without_places (event_step_at s m) (event_step_at (placeless_state s) (placeless m))
-beside_placeless s m on =
-    steps_alike without_places (λ r q o. o) s (placeless_state s) m (placeless m)
+beside_placeless s m on = steps_alike without_places (λ r q o. o) s (placeless_state s) m (placeless m)
     (expected without_places (λ p. no_place) (λ p. refl) s) on (λ e b c k. k)
     (puts without_places _ (λ p. no_place) (placeless_tokens m.tokens) m.keep_tags m (λ p. refl) refl refl)
 

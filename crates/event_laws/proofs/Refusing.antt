@@ -54,8 +54,7 @@ placed text = record {
   nothing = λ low d r a. refused_mark (IsPlaceOf text) r a.2;
   own = λ low d r t ts a. ((a.0, a.1.0.0), (a.1.0.0, a.1.0.1));
   from_start = λ low d r t ts a. (a.1.0.0, a.1, a.2);
-  behind = λ low d r t ts e a.
-      (a.1.0.1, a.1.1, known_before_last (AreEnded (IsPlaceOf text) r ts) ts t.kind e a.2);
+  behind = λ low d r t ts e a. (a.1.0.1, a.1.1, known_before_last (AreEnded (IsPlaceOf text) r ts) ts t.kind e a.2);
   less = λ low c d r ts l a. a;
   rests = λ low s d r ts a. inr (a.1, a.2);
   over = λ low d c r t ts e l a. inl refl;
@@ -68,8 +67,7 @@ resumes text s c d r ts n (inr h) =
     (start, ((scalar.start_cursor text, taken.nothing start text, inl refl, omega arith), h.0, h.1))
 
 failed : (text : List ℕ) (o : Option Ending) → IsFailed (placed text) o → HasPlaceIn text o
-failed text None h = tt
-failed text (Some e) h = rw h.1 (h.2, (h.0.text, refl))
+failed text o h = grind arith
 
 pub refused_at : (text : List ℕ) (tokens : Remaining) (keep : Bool) → AreAtPlaces text tokens.pieces
     → AreEnded (IsPlaceOf text) tokens.refusal tokens.pieces
@@ -77,6 +75,5 @@ pub refused_at : (text : List ℕ) (tokens : Remaining) (keep : Bool) → AreAtP
 unfolding remaining_answer
 refused_at text tokens keep a e =
     let m : Machine = (keeping_tags keep (at_start tokens)).machine in
-    failed text _
-    (runs (placed text) (resumes text) (suc (machine_size m)) m
+    failed text _ (runs (placed text) (resumes text) (suc (machine_size m)) m
     (record { place = tt; places = tt; rests = inr (a, e) })).fault

@@ -129,9 +129,7 @@ pub says : (e : Memory) (m n : Machine) (part : Part) (ps : List Part) → m.sta
     → ((w : Happening) → event_in e part ≡ Some w → (span : Span) × (event_step m ≡ told_event w span n))
     → SaysParts (after part e) n ps → SaysParts e m (part ∷ ps)
 says e m n part ps more go h es q =
-    let r : (w : Happening) × (ws : List Happening) × (event_in e part ≡ Some w)
-    × (events_in (after part e) ps ≡ Some ws) × (w ∷ ws ≡ es) =
-    first_and_others_parts (event_in e part) (events_in (after part e) ps) es q in
+    let r = first_and_others_parts (event_in e part) (events_in (after part e) ps) es q in
     let s : (span : Span) × (event_step m ≡ told_event r.0 span n) = go r.0 r.2 in
     rw r.4 at (tells m (record { what = r.0; span = s.0; machine = n }) r.1 more s.1 (h r.1 r.3))
 
@@ -139,7 +137,6 @@ says e m n part ps more go h es q =
 pub plainly : (e : Memory) (m n : Machine) (part : Part) (ps : List Part) (w : Happening) (span : Span) → m.state ≢ End
     → event_in e part ≡ Some w → event_step m ≡ told_event w span n → SaysParts (after part e) n ps
     → SaysParts e m (part ∷ ps)
-plainly e m n part ps w span more a q h =
-    says e m n part ps more (λ v b.
+plainly e m n part ps w span more a q h = says e m n part ps more (λ v b.
     (span, q ∙ ap (λ u. told_event u span n) (let same : w ≡ v = (let c : Some w ≡ Some v = sym a ∙ b in cc) in same)))
     h

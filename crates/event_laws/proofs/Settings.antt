@@ -66,8 +66,7 @@ set_same b (Err f) (Err g) (inr e) = rw e refl
 sets_at : (b : Bool) (s : State) (m : Machine) → s ≢ state.DocumentEnd
     → event_step_at s (with_keep_tags b m) ≡ with_setting b (event_step_at s m)
 sets_at b state.End m other = refl
-sets_at b s m other =
-    set_same b _ _ (steps_alike (with_set b) (λ r q o. o) s s m (with_keep_tags b m)
+sets_at b s m other = set_same b _ _ (steps_alike (with_set b) (λ r q o. o) s s m (with_keep_tags b m)
     (still_expected (with_set b) (λ p. refl) s) (λ e. absurd (cc)) (λ e. absurd (other e))
     (leaves (with_set b) _ m.tokens b m (λ p. refl) refl refl))
 

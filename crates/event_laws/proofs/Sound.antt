@@ -128,8 +128,7 @@ events_joined : (part : Part) (ps : List Part) (e : Memory) (w : Happening) (es 
 events_joined part ps e w es h k = cc
 
 more_anchors : (o : Option (List ℕ)) (n a b : ℕ) → one_more_anchor o 0 ≤ a → n ≤ b → one_more_anchor o n ≤ a + b
-more_anchors None n a b h k = omega (arith, h, k)
-more_anchors (Some x) n a b h k = omega (arith, h, k)
+more_anchors o n a b h k = grind arith
 
 finishes_behind_event : (s : State) (ss : List State) (ts : List Piece) (e : Memory) (x : Told) (a : Answer)
     → Goes (Wanted s ss (kinds ts)) e ts x
@@ -142,10 +141,8 @@ finishes_behind_event s ss ts e x a g h = record {
   parts = g.part ∷ h.parts;
   missing = h.missing;
   are_read = cc (append_assoc g.used h.read h.unread);
-  wanted =
-      rw (ap (λ (l : List Kind). l ++ h.expected) (kinds_append g.used h.read) ∙ append_assoc (kinds g.used)
-      (kinds h.read) h.expected)
-      (g.makes (kinds h.read ++ h.expected) h.parts h.wanted.0 h.wanted.1);
+  wanted = rw (ap (λ (l : List Kind). l ++ h.expected) (kinds_append g.used h.read) ∙ append_assoc (kinds g.used)
+      (kinds h.read) h.expected) (g.makes (kinds h.read ++ h.expected) h.parts h.wanted.0 h.wanted.1);
   told = events_joined g.part h.parts e x.what (happenings_of a ++ h.missing) g.tells (rw g.remembers at h.told);
   few = (let l = length-append g.used h.read in let m =
       more_anchors (anchor_of g.part) (anchors h.parts) (length g.used) (length h.read) g.few h.few in
@@ -186,8 +183,7 @@ finishes : (n : ℕ) (m : Machine) → machine_size m < n → AreWellFormed m.to
     → BeginsSomeParts m.state m.states m.tokens.pieces (memory m) (remaining_answer m)
 unfolding event_step
 finishes zero m l w a = absurd (omega (arith, l))
-finishes (suc n) m l w a =
-    rw (unroll m (alive_is_no_end m.state m.states a))
+finishes (suc n) m l w a = rw (unroll m (alive_is_no_end m.state m.states a))
     (by (event_step m) refl (step_moves m.state m.state m.states m.tokens.pieces m.tokens.refusal (memory m) w a)
     (λ k. finishes n k))
   where

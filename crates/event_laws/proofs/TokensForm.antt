@@ -27,8 +27,7 @@ handle_of text (inr n) = (Named n.0, n.2)
 with_bytes : (text bytes : List ℕ) → bytes ≡ encode_utf8_all text → IsHandleText text
     → (h : Handle) × (bytes ≡ handle_bytes h)
 with_bytes text bytes e i =
-    let h : (h : Handle) × (text ≡ handle_text h) = handle_of text i in
-    (h.0, e ∙ ap encode_utf8_all h.1)
+    let h = handle_of text i in (h.0, e ∙ ap encode_utf8_all h.1)
 
 as_token : (front back handle suffix : List ℕ) → front ≡ handle → back ≡ suffix
     → tokens.Tag front back ≡ tokens.Tag handle suffix
@@ -64,8 +63,7 @@ token_form (tokens.Tag front back) at span s t i = tag_of i.0 i.1 i.2 front back
 token_form (tokens.Scalar k value) at span s t i = scalar_form k at value span s t i
 token_form (tokens.TagDirective handle prefix) at span s t i =
     let d = i.4 in
-    let h : (h : Handle) × (handle ≡ handle_bytes h) = with_bytes d.0 handle d.3 d.2.5 in
-    (h.0, h.1, (d.1, d.4))
+    let h = with_bytes d.0 handle d.3 d.2.5 in (h.0, h.1, (d.1, d.4))
 token_form (tokens.ReservedDirective name) at span s t i = let d = i.4 in (d.0, d.2)
 token_form _ at span s t i = tt
 

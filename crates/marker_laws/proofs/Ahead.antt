@@ -25,9 +25,7 @@ line_first d [] x y = refl
 line_first d (c ∷ t) x y = refl
 
 pub first_same : {from : List ℕ} {b : Bool} {r q : List ℕ} → Ahead from b r q → slice_index r 0 ≡ slice_index q 0
-first_same (here (dashes d e)) = refl
-first_same (here (dots tail d _ _ white e)) = refl
-first_same (character c h) = refl
+first_same h = grind arith
 
 pub second_same : {from : List ℕ} {b : Bool} {r q : List ℕ} → Ahead from b r q → slice_index r 1 ≡ slice_index q 1
 second_same (here (dashes d e)) = refl
@@ -47,11 +45,8 @@ fourth_same (character c h) = third_same h
 pub indicator_same : {from : List ℕ} {b : Bool} {r q : List ℕ} → Ahead from b r q
     → is_document_indicator r ≡ is_document_indicator q
 indicator_same h =
-    let a = first_same h in
-    let b = second_same h in
     let c = third_same h in
-    let d = fourth_same h in
-    rw (a, b, c, d) refl
+    let d = fourth_same h in rw (first_same h, second_same h, c, d) refl
 
 -- ## No marker here
 
@@ -116,8 +111,7 @@ stands_at_line m {b = b} e h = record { flag = b; ahead = h; fits = λ f i. e }
 -- at another place of the same column
 pub stands_in_column : {from : List ℕ} (m n : Marker) {r q : List ℕ} → n.col ≡ m.col → Stands from m r q
     → Stands from n r q
-stands_in_column m n e h =
-    record { flag = h.flag; ahead = h.ahead; fits = λ f i. ap (λ k. k == 0) e ∙ h.fits f i }
+stands_in_column m n e h = record { flag = h.flag; ahead = h.ahead; fits = λ f i. ap (λ k. k == 0) e ∙ h.fits f i }
 
 -- where no indicator is, or not at the start of a line, there is no marker
 unmarked_by : {from : List ℕ} (m : Marker) {b : Bool} {r q : List ℕ} → Ahead from b r q
@@ -181,11 +175,10 @@ moves_before m {a = a} x = record { len = x.len; left = stands_before (along m a
 pub both_moves : {from : List ℕ} (m : Marker) (a b c d : ℕ) (r q : List ℕ) → Moves from m a b r q
     → Moves from (along m a) c d (drop a r) (drop b q) → Moves from m (a + c) (b + d) r q
 both_moves m a b c d r q x y =
-    let col : m.col + (a + c) ≡ m.col + a + c = omega arith in
     record {
       len = omega (arith, x.len, y.len);
       left = rw (← drop-drop c a r, ← drop-drop d b q)
-          (stands_in_column (along (along m a) c) (along m (a + c)) col y.left);
+          (stands_in_column (along (along m a) c) (along m (a + c)) (omega arith) y.left);
     }
 
 run_none : {from : List ℕ} (m : Marker) {r q : List ℕ} → Stands from m r q → Run from m 0 0 r q

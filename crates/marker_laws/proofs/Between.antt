@@ -59,6 +59,5 @@ begins_between (Err e) h = tt
 
 pub next_between : (m : Machine) → IsBetweenDocuments m.state → BeginOutsideDocuments (remaining_answer m).events
 unfolding event_step
-next_between m i =
-    rw (unroll m (λ e. subst IsBetweenDocuments e i))
+next_between m i = rw (unroll m (λ e. subst IsBetweenDocuments e i))
     (begins_between (event_step_at m.state m) (step_between m.state m i))

@@ -116,11 +116,9 @@ empty_same : {from : List ℕ} (limit : Option ℕ) (l : EmptyLinesRead) (k : Bo
     → Ahead from b r q
     → Fits b r m → Pairs (Beside from) (pass_empty_lines limit l k m r) (pass_empty_lines limit l k m q)
 unfolding pass_empty_lines
-empty_same limit l k m (here (dashes d e)) f =
-    rw (no_indentation limit m.col 45 refl)
+empty_same limit l k m (here (dashes d e)) f = rw (no_indentation limit m.col 45 refl)
     (pairs _ (beside (line_cursor k m _) (stands_here m (dashes d e) f)))
-empty_same limit l k m (here (dots tail d _ _ white e)) f =
-    rw (no_indentation limit m.col 46 refl)
+empty_same limit l k m (here (dots tail d _ _ white e)) f = rw (no_indentation limit m.col 46 refl)
     (pairs _ (beside (line_cursor k m _) (stands_here m (dots tail d _ _ white e) f)))
 empty_same {from = from} limit l k m {b = b} (character c {r = r} {q = q} h) f =
     both_by (is_indentation limit m.col c) (is_indentation limit m.col c) _ _ _ _ (Pairs (Beside from)) refl
@@ -136,10 +134,7 @@ empty_same {from = from} limit l k m {b = b} (character c {r = r} {q = q} h) f =
 starts_same : {from : List ℕ} (i j : ℕ) {b : Bool} {r q : List ℕ} → Ahead from b r q
     → line_starts i j r ≡ line_starts i j q
 unfolding line_starts
-starts_same i j n =
-    let first = first_same n in
-    let marker = indicator_same n in
-    rw (marker, first) refl
+starts_same i j n = rw (indicator_same n, first_same n) refl
 
 -- no content begins at a marker
 no_start : (i : ℕ) (m : Marker) (r : List ℕ) → (m.col == 0) ≡ true → is_document_indicator r ≡ true
@@ -151,8 +146,7 @@ no_start i m r z t = by (m.col == i) refl
         → (b && is_yaml_non_break (slice_index r 0) && not ((i == 0) && is_document_indicator r)) ≡ false
     by false e = refl
     by true e =
-        let is = eqb-true m.col i e in
-        let zero : (i == 0) ≡ true = ap (λ k. k == 0) (sym is) ∙ z in
+        let zero : (i == 0) ≡ true = ap (λ k. k == 0) (sym (eqb-true m.col i e)) ∙ z in
         rw (zero, t) (and_false (is_yaml_non_break (slice_index r 0)))
       where
         and_false : (x : Bool) → (x && false) ≡ false

@@ -65,8 +65,7 @@ deeper_twins s q _ _ (twins c) = twins (go_deeper (with_cursor s c))
 
 pub roll_twins : (s : Cursor) (q : List ℕ) (column : ℕ) (c d : Core) → Twins s q c d
     → Twins s q (roll column c) (roll column d)
-roll_twins s q column _ _ (twins c) =
-    both_by (is_further column c) (is_further column c) _ _ _ _ (Twins s q) refl
+roll_twins s q column _ _ (twins c) = both_by (is_further column c) (is_further column c) _ _ _ _ (Twins s q) refl
     (λ _ _. twins (enter_block column (with_cursor s c))) (λ _ _. twins c)
 
 pub roll_cores : {from : List ℕ} (column : ℕ) (c d : Core) → Cores from c d → Cores from (roll column c) (roll column d)
@@ -93,10 +92,7 @@ goes_same : {from : List ℕ} (m : Marker) (c : Core) {q : List ℕ} {b : Bool} 
     → goes_on_behind m c ≡ goes_on_behind m (with_cursor (reading q c.cursor) c)
 unfolding goes_on_behind
 goes_same m c h =
-    let a = first_same h in
-    let b = second_same h in
-    let i = indicator_same h in
-    rw (i, a, b) refl
+    let i = indicator_same h in rw (i, first_same h, second_same h) refl
 
 pub checked : {from : List ℕ} (c d : Core) → Cores from c d → Gives (Cores from) (check_comment c) (check_comment d)
 unfolding check_comment

@@ -72,12 +72,9 @@ version_of k _ _ (pairs v h) = given (pairs (version k v) h)
 major_same : {from : List ℕ} (m : Marker) (x y : ℕ × Cursor) → Pairs (Before from) x y
     → Gives (Pairs (Before from)) (behind_major m x) (behind_major m y)
 unfolding behind_major
-major_same {from = from} m _ _ (pairs v (before s e)) =
-    by_first (Pairs (Before from)) (λ c. c == 46) e _ _ _ _
+major_same {from = from} m _ _ (pairs v (before s e)) = by_first (Pairs (Before from)) (λ c. c == 46) e _ _ _ _
     (λ h. both_then (Pairs (Before from)) (Pairs (Before from))
-    (number_same m _ _ (one_passed s (λ c. c == 46) refl refl e h))
-    (version_of v))
-    (λ _. refused _)
+    (number_same m _ _ (one_passed s (λ c. c == 46) refl refl e h)) (version_of v)) (λ _. refused _)
 
 version_same : {from : List ℕ} (m : Marker) (s t : Cursor) → Before from s t
     → Gives (Pairs (Before from)) (version_directive m s) (version_directive m t)
@@ -90,8 +87,7 @@ version_same {from = from} m s t h =
 handle_word_same : {from : List ℕ} (m : Marker) (x y : List ℕ × Cursor) → Pairs (Before from) x y
     → Gives (Pairs (Before from)) (handle_behind_word m x) (handle_behind_word m y)
 unfolding handle_behind_word
-handle_word_same {from = from} m _ _ (pairs a (before s e)) =
-    by_first (Pairs (Before from)) (λ c. c == 33) e _ _ _ _
+handle_word_same {from = from} m _ _ (pairs a (before s e)) = by_first (Pairs (Before from)) (λ c. c == 33) e _ _ _ _
     (λ h. given (pairs (handle_of a) (one_passed s (λ c. c == 33) refl refl e h)))
     (λ _. choose (Pairs (Before from)) (length a == 0) (length a == 0) _ _ _ _ refl
     (λ _. given (pairs (codes "!") (before s e))) (λ _. refused _))
@@ -99,8 +95,7 @@ handle_word_same {from = from} m _ _ (pairs a (before s e)) =
 handle_same : {from : List ℕ} (m : Marker) (s t : Cursor) → Before from s t
     → Gives (Pairs (Before from)) (handle m s) (handle m t)
 unfolding handle
-handle_same {from = from} m _ _ (before s e) =
-    by_first (Pairs (Before from)) (λ c. c == 33) e _ _ _ _
+handle_same {from = from} m _ _ (before s e) = by_first (Pairs (Before from)) (λ c. c == 33) e _ _ _ _
     (λ h. handle_word_same m _ _ (run_of is_alpha refl refl [] _ _ (one_passed s (λ c. c == 33) refl refl e h)))
     (λ _. refused _)
 

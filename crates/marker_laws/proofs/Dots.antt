@@ -33,8 +33,7 @@ module _ (d : ℕ) (x y : List ℕ) (break : is_break d ≡ true) where
   ended p free = by (p d) refl
     where
       by : (b : Bool) → p d ≡ b → b ≡ false
-      by true e = let f = free d e in absurd (cc)
-      by false e = refl
+      by b e = grind arith
 
   run_passes : (p : ℕ → Bool) → ((c : ℕ) → p c ≡ true → is_break c ≡ false) → (t : List ℕ)
       → Passes d x y (t ++ d ∷ x) (t ++ d ∷ y) (prefix_len p (t ++ d ∷ x)) (prefix_len p (t ++ d ∷ y))
@@ -51,13 +50,11 @@ module _ (d : ℕ) (x y : List ℕ) (break : is_break d ≡ true) where
           let m = prefix_len p (t ++ d ∷ y) in
           let one : 1 + n ≡ suc n = omega arith in
           let two : 1 + m ≡ suc m = omega arith in
-          rw (e, one, two)
-          (record { len = ap suc h.len; left = h.left; first = h.first; second = h.second })
+          rw (e, one, two) (record { len = ap suc h.len; left = h.left; first = h.first; second = h.second })
 
   comment_passes : (t : List ℕ)
       → Passes d x y (t ++ d ∷ x) (t ++ d ∷ y) (comment_len (t ++ d ∷ x)) (comment_len (t ++ d ∷ y))
-  comment_passes t =
-      both_by (slice_index (t ++ d ∷ x) 0 == 35) (slice_index (t ++ d ∷ y) 0 == 35) _ _ _ _
+  comment_passes t = both_by (slice_index (t ++ d ∷ x) 0 == 35) (slice_index (t ++ d ∷ y) 0 == 35) _ _ _ _
       (λ n m. Passes d x y (t ++ d ∷ x) (t ++ d ∷ y) n m) (ap (λ c. c == 35) (line_first d t x y))
       (λ _ _. run_passes is_yaml_non_break (class_no_break is_yaml_non_break refl refl) t) (λ _ _. passes_none t)
 

@@ -116,8 +116,7 @@ module _ (limit : ℕ) (v from : List ℕ) (keep : Bool) where
       events_up_to.first front line others more h k y.0 (itself kind _ _ (answer_of_all keep q) x y.1) y.1
   both_begin front line r q (inr x) (inl y) others more h k =
       events_up_to.first front line others more h k x.0 x.1 (itself kind _ _ (answer_of_all keep r) y x.1)
-  both_begin front line r q (inr x) (inr y) others more h k =
-      events_up_to.first front line others more h k x.0 x.1 y.1
+  both_begin front line r q (inr x) (inr y) others more h k = events_up_to.first front line others more h k x.0 x.1 y.1
 
   pub answers_alike : (front : List Piece) (n : ℕ) (r q : Remaining) → n ≡ brackets_behind_all front 0
       → AlikeThrough limit v from n r q → AnswersAlike limit v from keep (before_all front r) (before_all front q)

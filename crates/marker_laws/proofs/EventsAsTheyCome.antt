@@ -36,6 +36,5 @@ all_told m _ _ (event es k x h is) =
 pub tells_first : (keep : Bool) (ts : List Piece) (es : List (Happening × Span)) (m : Machine) (r : Remaining)
     → TellsTo (with_tokens keep ts) es m
     → answer_of_all keep (before_all ts r) ≡ behind_events es (remaining_answer (before_others r m))
-tells_first keep ts es m r h =
-    all_told (before_others r (with_tokens keep ts)) (before_others r m) es
+tells_first keep ts es m r h = all_told (before_others r (with_tokens keep ts)) (before_others r m) es
     (tells_more r.pieces r.refusal (with_tokens keep ts) m es h)

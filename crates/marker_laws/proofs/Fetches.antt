@@ -119,10 +119,8 @@ module _ (s : Cursor) (q : List ℕ) where
   unroll_twins : (column : Option ℕ) (m : Marker) (queue : Queue) (c d : Core) → Twins s q c d
       → StateTwins s q (unroll column m (holding c queue)) (unroll column m (holding d queue))
   unfolding unroll
-  unroll_twins column m queue _ _ (twins c) =
-      both_by (in_block c) (in_block c) _ _ _ _ (StateTwins s q) refl
-      (λ _ _. ends_twins column m c.outer_indents queue _ _ (less_twins column c))
-      (λ _ _. state_twins queue (twins c))
+  unroll_twins column m queue _ _ (twins c) = both_by (in_block c) (in_block c) _ _ _ _ (StateTwins s q) refl
+      (λ _ _. ends_twins column m c.outer_indents queue _ _ (less_twins column c)) (λ _ _. state_twins queue (twins c))
 
   forgotten : (queue : Queue) (c : Core) (b : Bool) → Gives (Ended s q)
       (on_core (cond b (refuse fault.KeyExpected s.mark) (Ok (forget_key (with_cursor s c)))) queue)
@@ -146,8 +144,7 @@ module _ (s : Cursor) (q : List ℕ) where
       → Ended s q x y
       → Gives (States from) (Ok (document.put_passed s.mark tokens.ByteOrderMark (document.pass_mark x.core) x))
       (Ok (document.put_passed s.mark tokens.ByteOrderMark (document.pass_mark y.core) y))
-  mark_put h k _ _ (ended queue c gone) =
-      given (states _ (cores (document.pass_mark (with_cursor s c))
+  mark_put h k _ _ (ended queue c gone) = given (states _ (cores (document.pass_mark (with_cursor s c))
       (stands_before (pass_byte_order_mark s).mark (past_first false h refl k))))
 
   directive_put : {from : List ℕ} → Ahead from false s.rest q → is_break (slice_index s.rest 0) ≡ false
@@ -177,9 +174,7 @@ module _ (s : Cursor) (q : List ℕ) where
 
 some_left : {from : List ℕ} {b : Bool} {r q : List ℕ} → Ahead from b r q
     → ((length r == 0) ≡ false) × ((length q == 0) ≡ false)
-some_left (here (dashes d e)) = (grind (arith, nat_tests), grind (arith, nat_tests))
-some_left (here (dots tail d _ _ white e)) = (grind (arith, nat_tests), grind (arith, nat_tests))
-some_left (character c h) = (grind (arith, nat_tests), grind (arith, nat_tests))
+some_left h = grind arith
 
 no_end : {from : List ℕ} (c : Core) (queue : Queue) {q : List ℕ} → Ahead from false c.cursor.rest q
     → Gives (States from)
@@ -240,19 +235,13 @@ other_end {from = from} s q h queue c =
 
 start_told : {from : List ℕ} {b : Bool} {r q : List ℕ} → Ahead from b r q → is_document_start r ≡ is_document_start q
 start_told h =
-    let a = first_same h in
-    let b = second_same h in
     let d = third_same h in
-    let e = fourth_same h in
-    rw (a, b, d, e) refl
+    let e = fourth_same h in rw (first_same h, second_same h, d, e) refl
 
 end_told : {from : List ℕ} {b : Bool} {r q : List ℕ} → Ahead from b r q → is_document_end r ≡ is_document_end q
 end_told h =
-    let a = first_same h in
-    let b = second_same h in
     let d = third_same h in
-    let e = fourth_same h in
-    rw (a, b, d, e) refl
+    let e = fourth_same h in rw (first_same h, second_same h, d, e) refl
 
 pub here_same : {from : List ℕ} (c : Core) (queue : Queue) {q : List ℕ} → Ahead from false c.cursor.rest q
     → Gives (States from) (fetch_here (holding c queue))
@@ -274,8 +263,7 @@ here_same {from = from} c queue {q = q} h =
     (ap (λ x. at_start && x) (end_told h))
     (λ e. other_end c.cursor q (passed_marks 46 refl _ h (and_parts at_start _ e).1) queue c)
     (λ _. choose (States from) (nat_lt c.cursor.mark.col (least_column c))
-    (nat_lt c.cursor.mark.col (least_column c)) _ _ _ _
-    refl (λ _. refused _) (λ _. content_same c queue h))))))
+    (nat_lt c.cursor.mark.col (least_column c)) _ _ _ _ refl (λ _. refused _) (λ _. content_same c queue h))))))
 
 -- ## To where the next token begins
 
@@ -295,8 +283,7 @@ on_same queue _ _ (given h) = given (states queue h)
 
 pub arrive_same : {from : List ℕ} (x y : State) → States from x y → Gives (States from) (arrive x) (arrive y)
 unfolding arrive
-arrive_same {from = from} _ _ (states queue {c = c} {d = d} h) =
-    both_then (States from) (States from)
+arrive_same {from = from} _ _ (states queue {c = c} {d = d} h) = both_then (States from) (States from)
     (on_same queue _ _ (both_then (Cores from) (Cores from) (gap_cores c d h) drop_cores)) unrolled
 
 pub within_same : {from : List ℕ} (limit : ℕ) (x y : State) → States from x y

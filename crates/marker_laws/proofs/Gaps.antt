@@ -109,8 +109,7 @@ mutual
   spaces_comment m blank found (here h) f = absurd (f refl (told h))
   spaces_comment {from = from} m blank found {b = b} (character c {r = r} {q = q} h) f =
       both_by (is_yaml_non_break c) (is_yaml_non_break c) _ _ _ _ (Spaces from) refl
-      (λ g _. spaces_comment (along m 1) blank found h
-      (off_on r (class_no_break is_yaml_non_break refl refl c g)))
+      (λ g _. spaces_comment (along m 1) blank found h (off_on r (class_no_break is_yaml_non_break refl refl c g)))
       (λ _ _. both_by ((c == 13) && (slice_index r 0 == 10)) ((c == 13) && (slice_index q 0 == 10)) _ _ _ _
       (Spaces from) (cc (first_same h)) (λ g _. spaces_same (along m 1) blank true h
       (fits_feed (is_break c) r (along m 1) (and_parts (c == 13) _ g).1))

@@ -44,14 +44,11 @@ start_settled text = refl
 
 first : (limit : ℕ) (s u : State) (x : Piece) → needs_token s ≡ false → take_token s ≡ (Some x, u)
     → rest limit s ≡ before x (rest limit u)
-first limit s u x ready e =
-    subst (λ (r : Option Piece × State). TakesToken limit s r) e
+first limit s u x ready e = subst (λ (r : Option Piece × State). TakesToken limit s r) e
     (first_taken limit s.core s.queue.places s.queue.handed ready)
 
 settled_taken : (s u : State) (x : Piece) → take_token s ≡ (Some x, u) → IsSettled s → IsSettled u
-settled_taken s u x e h =
-    let same : s.core ≡ u.core = ap (λ (y : Option Piece × State). y.1.core) e in
-    rw same at h
+settled_taken s u x e h = rw (ap (λ (y : Option Piece × State). y.1.core) e) at h
 
 handed : Readers → (limit stop : ℕ) (text : List ℕ) (ts : List Piece) (s : State) → ScansTo limit stop text ts s
     → IsSettled s × (scan limit text ≡ before_all ts (rest limit s))
@@ -70,8 +67,7 @@ handed laws limit stop text _ _ (takes ts s u x h ready e) =
 pub all_tokens : Readers → (limit stop : ℕ) (text : List ℕ) (ts : List Piece) (s : State)
     → ScansTo limit stop text ts s → scan limit text ≡ before_all ts (remaining limit s)
 all_tokens laws limit stop text ts s h =
-    let w = handed laws limit stop text ts s h in
-    cc (remaining_is limit s s (settled_is s w.0))
+    let w = handed laws limit stop text ts s h in cc (remaining_is limit s s (settled_is s w.0))
 
 pub refusal_ends : Readers → (limit stop : ℕ) (text : List ℕ) (ts : List Piece) (s : State) (e : Refusal)
     → ScansTo limit stop text ts s → needs_token s ≡ true → read limit s ≡ Err e

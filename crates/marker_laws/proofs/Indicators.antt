@@ -54,8 +54,7 @@ tab_same {from = from} _ _ (pairs k (cores c h)) =
 
 check_same : {from : List ℕ} (c d : Core) → Cores from c d → Gives (Cores from) (value.check_tab c) (value.check_tab d)
 unfolding value.check_tab
-check_same {from = from} _ _ (cores c h) =
-    by_first (Cores from) (λ x. x == 9) h.ahead _ _ _ _
+check_same {from = from} _ _ (cores c h) = by_first (Cores from) (λ x. x == 9) h.ahead _ _ _ _
     (λ _. both_then (Pairs (Cores from)) (Cores from) (separate_same _ _ (cores c h)) tab_same) (λ _. given (cores c h))
 
 valued : {from : List ℕ} (c d : Core) → Cores from c d
@@ -87,8 +86,7 @@ behind_same {from = from} (Some k) begins start _ _ (cores c h) =
     (λ _. refused _) (λ _. given (steps _ (valued _ _ (roll_cores k.mark.col _ _ (cores c h)))))
 behind_same {from = from} None begins start _ _ (cores c h) =
     choose (Steps from) (in_block c && not c.key_allowed) (in_block c && not c.key_allowed) _ _ _ _ refl
-    (λ _. refused _)
-    (λ _. given (alone begins start _ _ (cores c h)))
+    (λ _. refused _) (λ _. given (alone begins start _ _ (cores c h)))
 
 behind_cores : {from : List ℕ} (begins : Bool) (start : Marker) (c d : Core) → Cores from c d
     → Gives (Steps from) (value.behind_key c.level.key begins start c) (value.behind_key d.level.key begins start d)
@@ -156,21 +154,18 @@ module _ {from : List ℕ} (s : Cursor) (q : List ℕ) (h : Ahead from false s.r
   close_same : (ends : Bool) (kind : Kind) (c d : Core) → Twins s q c d
       → Gives (Steps from) (flow.close_collection ends kind c) (flow.close_collection ends kind d)
   unfolding flow.close_collection
-  close_same ends kind _ _ (twins c) =
-      both_then (Pairs (Cores from)) (Steps from) (passed _ _ (leave_twins c.outer c))
+  close_same ends kind _ _ (twins c) = both_then (Pairs (Cores from)) (Steps from) (passed _ _ (leave_twins c.outer c))
       (put_closed (λ m. flow.behind_pair ends s.mark (from_to s.mark m kind)))
 
   pub end_same : (ends : Bool) (kind : Kind) (c d : Core) → Twins s q c d
       → Gives (Steps from) (flow.closing_steps ends kind c) (flow.closing_steps ends kind d)
   unfolding flow.closing_steps
-  end_same ends kind _ _ (twins c) =
-      choose (Steps from) (in_block c) (in_block c) _ _ _ _ refl (λ _. refused _)
+  end_same ends kind _ _ (twins c) = choose (Steps from) (in_block c) (in_block c) _ _ _ _ refl (λ _. refused _)
       (λ _. close_same ends kind _ _ (twins c))
 
   next_same : (c d : Core) → Twins s q c d → Gives (Steps from) (flow.next_flow_entry c) (flow.next_flow_entry d)
   unfolding flow.next_flow_entry
-  next_same _ _ (twins c) =
-      both_then (Pairs (Cores from)) (Steps from)
+  next_same _ _ (twins c) = both_then (Pairs (Cores from)) (Steps from)
       (passed _ _ (twins (with_context (behind_entry c.level.context) (record c { key_allowed = true }))))
       (put_here (λ m. flow.behind_pair (ends_pair c.level.context) s.mark (from_to s.mark m tokens.FlowEntry)))
 
@@ -182,8 +177,7 @@ module _ {from : List ℕ} (s : Cursor) (q : List ℕ) (h : Ahead from false s.r
   unfolding value.value_steps
   value_same _ _ (twins c) =
       both_then (Cores from) (Steps from) (check_same _ _ (pass_twins s q h k _ _ (twins (with_context
-      (behind_colon c.level.context) c))))
-      (behind_cores (begins_pair c.level.context) s.mark)
+      (behind_colon c.level.context) c)))) (behind_cores (begins_pair c.level.context) s.mark)
 
   pub flow_value_same : (second : ℕ) (c d : Core) → Twins s q c d
       → Gives (Steps from) (flow_value_steps second c) (flow_value_steps second d)
@@ -194,11 +188,9 @@ module _ {from : List ℕ} (s : Cursor) (q : List ℕ) (h : Ahead from false s.r
 
   next_entry_same : (c d : Core) → Twins s q c d → Gives (Steps from) (block.next_entry c) (block.next_entry d)
   unfolding block.next_entry
-  next_entry_same _ _ (twins c) =
-      both_then (Cores from) (Steps from)
+  next_entry_same _ _ (twins c) = both_then (Cores from) (Steps from)
       (both_then (Cores from) (Cores from) (dash_same _ _ (roll_cores s.mark.col _ _ (pass_twins s q h k _ _
-      (twins c)))) remove_cores)
-      (put_entry (is_further s.mark.col c) s.mark)
+      (twins c)))) remove_cores) (put_entry (is_further s.mark.col c) s.mark)
 
   pub block_entry_same : (c d : Core) → Twins s q c d
       → Gives (Steps from) (block.block_entry_steps c) (block.block_entry_steps d)
@@ -230,11 +222,9 @@ module _ {from : List ℕ} (s : Cursor) (q : List ℕ) (h : Ahead from false s.r
 
   begin_same : (c d : Core) → Twins s q c d → Gives (Cores from) (block.begin_key c) (block.begin_key d)
   unfolding block.begin_key
-  begin_same _ _ (twins c) =
-      both_then (Twins s q) (Cores from)
+  begin_same _ _ (twins c) = both_then (Twins s q) (Cores from)
       (remove_twins s q _ _ (in_context (behind_question c.level.context) _ _ (roll_twins s q s.mark.col _ _
-      (twins c))))
-      question_behind
+      (twins c)))) question_behind
 
   pub key_same : (c d : Core) → Twins s q c d → Gives (Steps from) (block.key_steps c) (block.key_steps d)
   unfolding block.key_steps

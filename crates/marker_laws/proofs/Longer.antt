@@ -32,8 +32,7 @@ given_too {R = R} (given {x = x} {y = y} h) s i =
 
 refusal_too : {R : State → State → Type 0} {a b : Result State Refusal} → Gives R a b → (e : Refusal) → a ≡ Err e
     → b ≡ Err e
-refusal_too (refused d) e i = i
-refusal_too (given h) e i = absurd (cc)
+refusal_too h e i = grind arith
 
 pub same_marker : {r q : List ℕ} → Marked r q → Marked q q
 same_marker (dashes d e) = dashes d e
@@ -94,7 +93,6 @@ module _ (ends : ReaderEnds) (limit : ℕ) (v r q : List ℕ) (begins : begins_l
       → ScansTo limit (length v) (v ++ q) ts t → FetchedAt r u t → Twin ts u
   read_on ts s t u all comes (on i) = record { other = t; beside = at i; comes = comes; all = all }
   read_on ts s _ _ all comes (marked index line k (past c follows queue gone) some within left place) =
-      let len = ap length left in
       let cut = length-drop k r in
       record {
         other = _;
@@ -103,7 +101,7 @@ module _ (ends : ReaderEnds) (limit : ℕ) (v r q : List ℕ) (begins : begins_l
           some = some;
           within = within;
           rest = left;
-          index = omega (arith, all, len, cut, place, within);
+          index = omega (arith, all, ap length left, cut, place, within);
           gone = gone;
         });
         comes = comes;
@@ -161,8 +159,7 @@ module _ (ends : ReaderEnds) (limit : ℕ) (v r q : List ℕ) (begins : begins_l
       (needs, refusal_too (read_same limit _ _ (states queue (cores c i))) e is)
   refused_too _ _ e (past_it c follows queue b) low needs is =
       let place = b.index in
-      let some = b.some in
-      absurd (omega (arith, place, some, low))
+      let some = b.some in absurd (omega (arith, place, some, low))
 
   twin : (ts : List Piece) (s : State) → ScansTo limit (length v) (v ++ r) ts s → Twin ts s
   twin _ _ starts = started
@@ -202,18 +199,14 @@ module _ (limit : ℕ) (v r q : List ℕ) (ts : List Piece) (s t : State) (same 
         (cc (ends_same left other end q (sym f ∙ g) (omega (arith, len, len_too, one, two, i, all, all_too)))))
     followed (inl (left, end, e, f)) (inr b) =
         let len = ap length e in
-        let one = length-append left r in
         let i = index_same in
         let place = b.index in
-        let some = b.some in
-        absurd (omega (arith, len, one, i, place, some, all))
+        let some = b.some in absurd (omega (arith, len, length-append left r, i, place, some, all))
     followed (inr b) (inl (z, (other, _, g, _))) =
-        let len = ap length g in
         let two = length-append other q in
         let i = index_same in
         let place = b.index in
-        let some = b.some in
-        absurd (omega (arith, len, two, i, place, some, all_too))
+        let some = b.some in absurd (omega (arith, ap length g, two, i, place, some, all_too))
     followed (inr b) (inr d) =
         let i = index_same in
         let place = b.index in
@@ -254,8 +247,7 @@ extended limit v r more ts s (behind k some within e gone comes) =
 pub scans_longer : ReaderEnds → (limit : ℕ) (v r more : List ℕ) → begins_line true v ≡ true → Marked r r
     → (ts : List Piece) (s : State) → ScansTo limit (length v) (v ++ r) ts s
     → ScansTo limit (length v) (v ++ r ++ more) ts (extended_by more s)
-scans_longer ends limit v r more begins h ts s comes =
-    rw (append_assoc v r more) (extended limit v r more ts s
+scans_longer ends limit v r more begins h ts s comes = rw (append_assoc v r more) (extended limit v r more ts s
     (scans_alike ends limit v r (r ++ more) begins (marker_goes_on more h) ts s comes))
 
 -- and what it refuses is refused there

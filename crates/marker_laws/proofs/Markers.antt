@@ -81,14 +81,12 @@ module _ (i l d : ℕ) (x y tail : List ℕ) where
       (ap is_breakz (left_first d n x y _ _ left first second))
       (λ _. given (marked i l (suc (suc (suc n)))
       (past (with_cursor (pass_blanks n (mid_line marker_end (tail ++ d ∷ x))) c) (drop n (tail ++ d ∷ y)) queue gone)
-      (omega arith) (omega (arith, within)) refl (omega arith)))
-      (λ _. refused _)
+      (omega arith) (omega (arith, within)) refl (omega arith))) (λ _. refused _)
 
   line_passed : is_break d ≡ true → (v w : State) → Dotted i l (tail ++ d ∷ x) (tail ++ d ∷ y) v w
       → Gives (FetchedAt (46 ∷ 46 ∷ 46 ∷ (tail ++ d ∷ x))) (on_core_with (separate v.core) v >>= document.end_line)
       (on_core_with (separate w.core) w >>= document.end_line)
-  line_passed e _ _ (dotted c queue gone) =
-      line_ends c queue gone _ _ (separation_alike d x y e marker_end tail)
+  line_passed e _ _ (dotted c queue gone) = line_ends c queue gone _ _ (separation_alike d x y e marker_end tail)
 
 -- ## What begins at a place
 
@@ -111,11 +109,9 @@ dashes_put : (d : ℕ) (x y : List ℕ) (i l : ℕ) (k : Bool) (v w : State)
     → Gives (FetchedAt (45 ∷ 45 ∷ 45 ∷ d ∷ x))
     (Ok (document.put_passed v.core.cursor.mark tokens.DocumentStart (document.pass_marker v.core) v))
     (Ok (document.put_passed w.core.cursor.mark tokens.DocumentStart (document.pass_marker w.core) w))
-dashes_put d x y i l k _ _ (ended queue c gone) =
-    given (marked i l 3
+dashes_put d x y i l k _ _ (ended queue c gone) = given (marked i l 3
     (past (document.pass_marker (with_cursor (line_cursor k (at_line i l) (45 ∷ 45 ∷ 45 ∷ d ∷ x)) c)) (d ∷ y) queue
-    gone)
-    (omega arith) (omega arith) refl (omega arith))
+    gone) (omega arith) (omega arith) refl (omega arith))
 
 dashes_same : (c : Core) (queue : Queue) (d : ℕ) (x y : List ℕ) (k : Bool) (i l : ℕ)
     → Gives (FetchedAt (45 ∷ 45 ∷ 45 ∷ d ∷ x))
@@ -177,8 +173,7 @@ began _ _ (states queue (cores c h)) =
 
 pub fetch_same : {from : List ℕ} (x y : State) → States from x y → Gives (FetchedAt from) (fetch x) (fetch y)
 unfolding fetch
-fetch_same {from = from} _ _ (states queue (cores c h)) =
-    choose (FetchedAt from) c.started c.started _ _ _ _ refl
+fetch_same {from = from} _ _ (states queue (cores c h)) = choose (FetchedAt from) c.started c.started _ _ _ _ refl
     (λ _. both_then (States from) (FetchedAt from) (arrive_same _ _ (states queue (cores c h))) fetched_here)
     (λ _. given (began _ _ (states queue (cores c h))))
 
@@ -195,8 +190,7 @@ unfolding drop_far_key
 kept c queue gone = by (in_block c) refl
   where
     by : (b : Bool) → in_block c ≡ b → without_far_key (holding c queue) ≡ Ok (holding c queue)
-    by true e = rw (e, gone) refl
-    by false e = rw e refl
+    by b e = grind arith
 
 settled : {from : List ℕ} (x y : State) → FetchedAt from x y
     → Gives (FetchedAt from) (without_far_key x) (without_far_key y)

@@ -29,8 +29,7 @@ one_before s {q = q} h k = passed_before s q 1 1 refl (past_first false h refl k
 -- one of a class without breaks
 pub one_passed : {from : List ℕ} (s : Cursor) {q : List ℕ} (p : ℕ → Bool) → p 10 ≡ false → p 13 ≡ false
     → Ahead from false s.rest q → p (slice_index s.rest 0) ≡ true → Before from (pass 1 s) (pass 1 (reading q s))
-one_passed s p a b h f =
-    one_before s h (class_no_break p a b (slice_index s.rest 0) f)
+one_passed s p a b h f = one_before s h (class_no_break p a b (slice_index s.rest 0) f)
 
 -- ## Anchors
 
@@ -54,8 +53,7 @@ name_same {from = from} m _ _ (pairs a {s = s} {t = t} h) =
 pub anchor_same : {from : List ℕ} (s : Cursor) {q : List ℕ} → Ahead from false s.rest q
     → is_break (slice_index s.rest 0) ≡ false → Gives (Pairs (Before from)) (anchor s) (anchor (reading q s))
 unfolding anchor
-anchor_same s {q = q} h k =
-    name_same s.mark _ _ (run_of is_anchor_char refl refl [] (pass 1 s) (pass 1 (reading q s))
+anchor_same s {q = q} h k = name_same s.mark _ _ (run_of is_anchor_char refl refl [] (pass 1 s) (pass 1 (reading q s))
     (one_before s h k))
 
 -- ## Percent escapes
@@ -82,10 +80,8 @@ drop_two (c ∷ d ∷ r) = refl
 pub three_before : {from : List ℕ} {r q : List ℕ} → Ahead from false r q → is_break (slice_index r 0) ≡ false
     → is_break (slice_index r 1) ≡ false → is_break (slice_index r 2) ≡ false → Ahead from false (drop 3 r) (drop 3 q)
 three_before {from = from} {r = r} {q = q} h one two three =
-    let a = past_first false h refl one in
-    let b = past_first false a refl (ap is_break (second_is r) ∙ two) in
-    let c = past_first false b refl (ap is_break (third_is r) ∙ three) in
-    rw (drop_three q, drop_three r) at c
+    let b = past_first false (past_first false h refl one) refl (ap is_break (second_is r) ∙ two) in
+    rw (drop_three q, drop_three r) at (past_first false b refl (ap is_break (third_is r) ∙ three))
 
 -- three characters that show a byte
 three_passed : {from : List ℕ} {r q : List ℕ} → Ahead from false r q → shows_byte r ≡ true
@@ -212,8 +208,7 @@ decoded_same {from = from} set m = by_ends (SameRead from set m) (decoded_of set
 verbatim_end_same : {from : List ℕ} (m : Marker) (x y : List ℕ × Cursor) → Pairs (Before from) x y
     → Gives (Triples (Before from)) (verbatim_end m x) (verbatim_end m y)
 unfolding verbatim_end
-verbatim_end_same {from = from} m _ _ (pairs a (before s e)) =
-    by_first (Triples (Before from)) (λ c. c == 62) e _ _ _ _
+verbatim_end_same {from = from} m _ _ (pairs a (before s e)) = by_first (Triples (Before from)) (λ c. c == 62) e _ _ _ _
     (λ h. given (triples [] a (one_passed s (λ c. c == 62) refl refl e h))) (λ _. refused _)
 
 pub two_passed : {from : List ℕ} (s : Cursor) {q : List ℕ} → Ahead from false s.rest q
@@ -255,8 +250,7 @@ primary_same {from = from} _ _ (pairs a h) =
 tag_word_same : {from : List ℕ} (m : Marker) (x y : List ℕ × Cursor) → Pairs (Before from) x y
     → Gives (Triples (Before from)) (tag_behind_word m x) (tag_behind_word m y)
 unfolding tag_behind_word
-tag_word_same {from = from} m _ _ (pairs a (before s e)) =
-    by_first (Triples (Before from)) (λ c. c == 33) e _ _ _ _
+tag_word_same {from = from} m _ _ (pairs a (before s e)) = by_first (Triples (Before from)) (λ c. c == 33) e _ _ _ _
     (λ h. tail_same m a _ _ (one_passed s (λ c. c == 33) refl refl e h))
     (λ _. both_then (Pairs (Before from)) (Triples (Before from))
     (front_same a _ _ (decoded_same _ m _ _ (before s e))) primary_same)
@@ -265,8 +259,7 @@ shorthand_same : {from : List ℕ} (s : Cursor) {q : List ℕ} → Ahead from fa
     → is_break (slice_index s.rest 0) ≡ false
     → Gives (Triples (Before from)) (shorthand_tag s) (shorthand_tag (reading q s))
 unfolding shorthand_tag
-shorthand_same s {q = q} h k =
-    tag_word_same s.mark _ _ (run_of is_alpha refl refl [] (pass 1 s) (pass 1 (reading q s))
+shorthand_same s {q = q} h k = tag_word_same s.mark _ _ (run_of is_alpha refl refl [] (pass 1 s) (pass 1 (reading q s))
     (one_before s h k))
 
 end_same : {from : List ℕ} (in_flow : Bool) (m : Marker) (x y : List ℕ × List ℕ × Cursor) → Triples (Before from) x y
@@ -280,8 +273,7 @@ pub tag_same : {from : List ℕ} (in_flow : Bool) (s : Cursor) {q : List ℕ} �
     → is_break (slice_index s.rest 0) ≡ false
     → Gives (Triples (Before from)) (tag in_flow s) (tag in_flow (reading q s))
 unfolding tag
-tag_same {from = from} in_flow s {q = q} h k =
-    both_then (Triples (Before from)) (Triples (Before from))
+tag_same {from = from} in_flow s {q = q} h k = both_then (Triples (Before from)) (Triples (Before from))
     (choose (Triples (Before from)) (slice_index s.rest 1 == 60) (slice_index q 1 == 60) _ _ _ _
     (ap (λ c. c == 60) (second_same h)) (λ f. verbatim_same s h k f) (λ _. shorthand_same s h k))
     (end_same in_flow s.mark)

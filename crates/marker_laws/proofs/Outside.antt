@@ -114,8 +114,7 @@ module _ (us : List Piece) (e : Option Refusal) where
   directives_more : (w : DocumentMarker) (ts : List Piece) (d : Declared) (m : Machine) → EndWithMarker w ts
       → Same (directives_from ts d m) (directives_from (ts ++ us) d (with_more us e m))
   directives_more w [] d m h = absurd (nothing_left h.0 h.1 (sym h.2))
-  directives_more w (t ∷ ts) d m h =
-      by (is_directive t.kind) refl (behind_first w t ts h)
+  directives_more w (t ∷ ts) d m h = by (is_directive t.kind) refl (behind_first w t ts h)
       (λ k d m. directives_more w ts d m k)
     where
       by : (b : Bool) → is_directive t.kind ≡ b → EndWithMarker w ts ⊎ ((ts ≡ []) × (t.kind ≡ marker_token w))
@@ -168,9 +167,8 @@ module _ (us : List Piece) (e : Option Refusal) where
   abbrev begin : Go → Machine → Result Told Refusal
   begin go m = unpassed_token_from is_end_or_mark m.tokens.pieces m >>= (λ t. go t.0.kind t.0 t.1)
 
-  begins_with : (go : Go) (m : Machine) (front others : List Piece) (t : Piece)
-      → m.tokens.pieces ≡ front ++ t ∷ others → ArePassed front → is_end_or_mark t.kind ≡ false
-      → begin go m ≡ go t.kind t (with_pieces others m)
+  begins_with : (go : Go) (m : Machine) (front others : List Piece) (t : Piece) → m.tokens.pieces ≡ front ++ t ∷ others
+      → ArePassed front → is_end_or_mark t.kind ≡ false → begin go m ≡ go t.kind t (with_pieces others m)
   begins_with go m front others t is h fails = cc (passes_to front others t m h fails)
 
   begins_more : (w : DocumentMarker) (go : Go) → Keeps w go → (m : Machine) (f : Refusal) → First m.tokens.pieces

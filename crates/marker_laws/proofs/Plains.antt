@@ -38,26 +38,21 @@ unfolding word_starts
 starts_same {from = from} f _ _ (beside s {q = q} h) =
     let first = first_same h.ahead in
     let second = second_same h.ahead in
-    let marker = indicator_same h.ahead in
     choose (Starts from) ((slice_index s.rest 0 == 35) || ((s.mark.col == 0) && is_document_indicator s.rest))
     ((slice_index q 0 == 35) || ((s.mark.col == 0) && is_document_indicator q)) _ _ _ _
-    (rw (marker, first) refl) (λ _. given (stays (beside s h)))
+    (rw (indicator_same h.ahead, first) refl) (λ _. given (stays (beside s h)))
     (λ no. choose (Starts from) (f && (slice_index s.rest 0 == 45) && is_flow (slice_index s.rest 1))
-    (f && (slice_index q 0 == 45) && is_flow (slice_index q 1)) _ _ _ _
-    (rw (first, second) refl) (λ _. refused _)
-    (λ _.
+    (f && (slice_index q 0 == 45) && is_flow (slice_index q 1)) _ _ _ _ (rw (first, second) refl) (λ _. refused _) (λ _.
     let e = unmarked_here s.mark h (or_false_right (slice_index s.rest 0 == 35) _ no) in
     rw (← (in_word_same f h.ahead)) (given (begins (is_in_word f s.rest) (before s e)))))
   where
     or_false_right : (x y : Bool) → (x || y) ≡ false → y ≡ false
-    or_false_right true y e = absurd (cc)
-    or_false_right false y e = e
+    or_false_right x y e = grind arith
 
 goes_same : {from : List ℕ} (f : Bool) (i : ℕ) (s t : Cursor) → Beside from s t
     → Gives (Starts from) (next_word_starts f i s) (next_word_starts f i t)
 unfolding next_word_starts
-goes_same {from = from} f i _ _ (beside s h) =
-    choose (Starts from) (s.blank_so_far && not f && nat_lt s.mark.col i)
+goes_same {from = from} f i _ _ (beside s h) = choose (Starts from) (s.blank_so_far && not f && nat_lt s.mark.col i)
     (s.blank_so_far && not f && nat_lt s.mark.col i)
     _ _ _ _ refl (λ _. given (stays (beside s h))) (λ _. starts_same f s _ (beside s h))
 
@@ -92,9 +87,7 @@ along_fits c r m white along = by (is_break c) refl
   where
     by : (b : Bool) → is_break c ≡ b → Fits b r m
     by false e = fits_on r m refl
-    by true e =
-        let cut : ((c == 13) && (slice_index r 0 == 10)) ≡ true = not-false _ (sym (cc) ∙ along) in
-        fits_feed true r m (and_parts (c == 13) _ cut).1
+    by true e = fits_feed true r m (and_parts (c == 13) _ (not-false _ (sym (cc) ∙ along))).1
 
 lines_same : {from : List ℕ} (i : ℕ) (a : Marker) (u : Bool) (feeds : List ℕ) (m : Marker) {b : Bool} {r q : List ℕ}
     → Ahead from b r q → Fits b r m → Gives (PlainGaps from) (lines i a u feeds m r) (lines i a u feeds m q)
@@ -104,8 +97,7 @@ lines_same i a u feeds m (here (dashes d e)) f =
 lines_same i a u feeds m (here (dots tail d _ _ white e)) f =
     reached_same a u feeds _ _ (beside (line_front m _) (stands_here m (dots tail d _ _ white e) f))
 lines_same {from = from} i a u feeds m {b = b} (character c {r = r} {q = q} h) f =
-    choose (PlainGaps from) (is_blank_or_break c) (is_blank_or_break c) _ _ _ _ refl
-    (λ white.
+    choose (PlainGaps from) (is_blank_or_break c) (is_blank_or_break c) _ _ _ _ refl (λ white.
     let ends : ends_line c r ≡ ends_line c q = cc (first_same h) in
     let t : Bool = is_blank c && (u || ((c == tab) && nat_lt m.col i)) in
     rw (← ends) (by t white (ends_line c r) refl (λ g k w. lines_same i a t g k h w)))
@@ -181,8 +173,7 @@ module _ (from : List ℕ) (f : Bool) (i : ℕ) (a : Marker) where
   behind_same : (m : Marker) (g k : PlainGap) (len : ℕ) → PlainGaps from g k
       → (is_in_word f g.behind.rest ≡ true → length g.behind.rest < len) → Others len
       → Gives (PlainReads from) (plain_behind_gap f i a m g) (plain_behind_gap f i a m k)
-  behind_same m g k len is shorter others =
-      both_then_known (Starts from) (PlainReads from) _ _ _ _ (goes_of g k is)
+  behind_same m g k len is shorter others = both_then_known (Starts from) (PlainReads from) _ _ _ _ (goes_of g k is)
       (λ x y first _ are.
       let says = goes_says f i x.0 g.behind x.1 first in
       word_or_end m g k len is others x y (λ goes. rw says.same (shorter (says.goes goes))) are)
@@ -193,8 +184,7 @@ module _ (from : List ℕ) (f : Bool) (i : ℕ) (a : Marker) where
 
   over_same : (s : Cursor) {q : List ℕ} → is_in_word f s.rest ≡ false → Ahead from false s.rest q
       → Others (length s.rest) → Gives (PlainReads from) (word f i a s.mark s.rest) (word f i a s.mark q)
-  over_same s {q = q} stops e others =
-      both_are (PlainReads from) _ _ _ _ (word_over f i a s.mark s.rest stops)
+  over_same s {q = q} stops e others = both_are (PlainReads from) _ _ _ _ (word_over f i a s.mark s.rest stops)
       (word_over f i a s.mark q (sym (in_word_same f e) ∙ stops))
       (both_then_known (PlainGaps from) (PlainReads from) _ _ _ _
       (gap_same i a _ _ (before (mid_line s.mark s.rest) e)) (λ g k first _ is.
@@ -211,8 +201,7 @@ module _ (from : List ℕ) (f : Bool) (i : ℕ) (a : Marker) where
   on_same m goes (here h) z others = absurd (cc)
   on_same m goes (character c {r = r} {q = q} h) z others =
       both_are (PlainReads from) _ _ _ _ (word_on f i a m c r goes)
-      (word_on f i a m c q (sym (in_word_same f (character {b = false} c h)) ∙ goes))
-      (front_same (encode_utf8 c) _ _
+      (word_on f i a m c q (sym (in_word_same f (character {b = false} c h)) ∙ goes)) (front_same (encode_utf8 c) _ _
       (others (mid_line (along m 1) r) (mid_line (along m 1) q) (omega arith)
       (before (mid_line (along m 1) r) (inside false h (in_word_free c r goes)))))
 

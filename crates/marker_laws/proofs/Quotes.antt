@@ -53,8 +53,7 @@ letter_same {from = from} a None letter s {q = q} e k l = by (digit_count letter
   where
     by : (o : Option ℕ) → Gives (Pairs (Before from)) (escape_by_number a o s) (escape_by_number a o (reading q s))
     by None = refused _
-    by (Some n) =
-        both_then (Pairs (Before from)) (Pairs (Before from)) (digits_same a n 0 _ _ (two_passed s e k l))
+    by (Some n) = both_then (Pairs (Before from)) (Pairs (Before from)) (digits_same a n 0 _ _ (two_passed s e k l))
         (number_same a)
 
 escape_same : {from : List ℕ} (a : Marker) (s : Cursor) {q : List ℕ} → Ahead from false s.rest q
@@ -73,17 +72,14 @@ special_same : {from : List ℕ} (quote : Quote) (a : Marker) (s : Cursor) {q : 
 unfolding special
 special_same {from = from} Single a s {q = q} e =
     choose (Pairs (Before from)) (next_2_are s.rest 39 39) (next_2_are q 39 39) _ _ _ _
-    (let x = first_same e in let y = second_same e in rw (x, y) refl)
-    (λ h.
+    (let x = first_same e in let y = second_same e in rw (x, y) refl) (λ h.
     let w = and_parts (slice_index s.rest 0 == 39) (slice_index s.rest 1 == 39) h in
     given (pairs _ (two_passed s e (class_no_break (λ c. c == 39) refl refl (slice_index s.rest 0) w.0)
-    (class_no_break (λ c. c == 39) refl refl (slice_index s.rest 1) w.1))))
-    (λ _. given (pairs None (before s e)))
+    (class_no_break (λ c. c == 39) refl refl (slice_index s.rest 1) w.1)))) (λ _. given (pairs None (before s e)))
 special_same {from = from} Double a s {q = q} e =
     choose (Pairs (Before from)) ((slice_index s.rest 0 == 92) && not (is_break (slice_index s.rest 1)))
     ((slice_index q 0 == 92) && not (is_break (slice_index q 1))) _ _ _ _
-    (let x = first_same e in let y = second_same e in rw (x, y) refl)
-    (λ h.
+    (let x = first_same e in let y = second_same e in rw (x, y) refl) (λ h.
     let w = and_parts (slice_index s.rest 0 == 92) (not (is_break (slice_index s.rest 1))) h in
     both_then (Pairs (Before from)) (Pairs (Before from)) (escape_same a s e
     (class_no_break (λ c. c == 92) refl refl (slice_index s.rest 0) w.0) (not-true _ w.1)) some_of)
@@ -98,8 +94,7 @@ is_over (over_lines escaped n) = true
 
 over_break : (gap : QuotedGap) → is_over (break_in gap) ≡ true
 unfolding is_over
-over_break (on_line bytes) = refl
-over_break (over_lines escaped n) = refl
+over_break gap = grind arith
 
 -- a marker is at the start of a line, after a gap over a break
 abbrev Looked : Bool → List ℕ → Marker → QuotedGap → Type 0
@@ -119,15 +114,14 @@ unfolding is_over
 looked_escaped quote b r m z = by (slice_index r 0 == flow.mark quote) refl
   where
     by : (t : Bool) → (slice_index r 0 == flow.mark quote) ≡ t → Looked b r m (cond t no_gap (over_lines true 0))
-    by true e = λ f i. let no_mark = quote_unmarked quote r e in absurd (cc)
+    by true e = λ f i. absurd (cc (quote_unmarked quote r e))
     by false e = λ f i. (z, refl)
 
 refuses_marker : (i : ℕ) (a m : Marker) (gap : QuotedGap) (r : List ℕ) → (m.col == 0) ≡ true
     → is_document_indicator r ≡ true → is_over gap ≡ true
     → end_gap i a gap (mid_line m r) ≡ refuse fault.DocumentIndicatorInsideQuotes a
 unfolding end_gap quoted_line is_over
-refuses_marker i a m (on_line bytes) r z t over = absurd (cc)
-refuses_marker i a m (over_lines escaped n) r z t over = rw (z, t) refl
+refuses_marker i a m gap r z t over = grind arith
 
 marker_refused : (quote : Quote) (i : ℕ) (a m : Marker) (gap : QuotedGap) (c : ℕ) (cs : List ℕ) → is_blank c ≡ false
     → is_break c ≡ false → (m.col == 0) ≡ true → is_document_indicator (c ∷ cs) ≡ true → is_over gap ≡ true
@@ -138,17 +132,14 @@ marker_refused quote i a m gap c cs blank break z t over =
 refused_here : (quote : Quote) (i : ℕ) (a m : Marker) (gap : QuotedGap) {from r q : List ℕ} → Marked r q
     → (m.col == 0) ≡ true → is_over gap ≡ true
     → Gives (Pairs (Before from)) (inner_text quote i a gap 0 m r) (inner_text quote i a gap 0 m q)
-refused_here quote i a m gap (dashes d {x = x} {y = y} e) z over =
-    both_are (Pairs (Before _)) _ _ _ _
+refused_here quote i a m gap (dashes d {x = x} {y = y} e) z over = both_are (Pairs (Before _)) _ _ _ _
     (marker_refused quote i a m gap 45 (45 ∷ 45 ∷ d ∷ x) refl refl z (told (dashes d {x = x} {y = y} e)) over)
     (marker_refused quote i a m gap 45 (45 ∷ 45 ∷ d ∷ y) refl refl z (told_too (dashes d {x = x} {y = y} e)) over)
     (refused _)
-refused_here quote i a m gap (dots tail d x y white e) z over =
-    both_are (Pairs (Before _)) _ _ _ _
+refused_here quote i a m gap (dots tail d x y white e) z over = both_are (Pairs (Before _)) _ _ _ _
     (marker_refused quote i a m gap 46 (46 ∷ 46 ∷ (tail ++ d ∷ x)) refl refl z (told (dots tail d x y white e)) over)
     (marker_refused quote i a m gap 46 (46 ∷ 46 ∷ (tail ++ d ∷ y)) refl refl z
-    (told_too (dots tail d x y white e)) over)
-    (refused _)
+    (told_too (dots tail d x y white e)) over) (refused _)
 
 -- the very same
 data Same {X : Type 0} : X → X → Type 0 where
@@ -165,10 +156,8 @@ data Any {X : Type 0} : X → X → Type 0 where
 gap_same : {from : List ℕ} (i : ℕ) (a : Marker) (gap : QuotedGap) (s : Cursor) {b : Bool} {q : List ℕ}
     → Ahead from b s.rest q → Gives Same (end_gap i a gap s) (end_gap i a gap (reading q s))
 unfolding end_gap quoted_line
-gap_same i a (on_line bytes) s h =
-    by_first Same is_z h _ _ _ _ (λ _. refused _) (λ _. given (same bytes))
-gap_same i a (over_lines escaped n) s {q = q} h =
-    both_then Any Same
+gap_same i a (on_line bytes) s h = by_first Same is_z h _ _ _ _ (λ _. refused _) (λ _. given (same bytes))
+gap_same i a (over_lines escaped n) s {q = q} h = both_then Any Same
     (choose Any ((s.mark.col == 0) && is_document_indicator s.rest) ((s.mark.col == 0) && is_document_indicator q)
     _ _ _ _ (cc (indicator_same h)) (λ _. refused _) (λ _. by_first Any is_z h _ _ _ _ (λ _. refused _)
     (λ _. choose Any (is_left i s.mark) (is_left i s.mark) _ _ _ _ refl (λ _. refused _) (λ _. given (any _ _)))))
@@ -182,8 +171,7 @@ data Reads (from : List ℕ) : QuotedGap → Cursor → Cursor → Type 0 where
       → Reads from gap s (reading q s)
 
 abbrev SameInside : List ℕ → Quote → ℕ → Marker → Cursor → Cursor → Type 0
-SameInside from quote i a s t =
-    (gap : QuotedGap) → Reads from gap s t
+SameInside from quote i a s t = (gap : QuotedGap) → Reads from gap s t
     → Gives (Pairs (Before from)) (inner_text_at quote i a gap s) (inner_text_at quote i a gap t)
 
 module _ (from : List ℕ) (quote : Quote) (i : ℕ) (a : Marker) where
@@ -301,8 +289,7 @@ module _ (from : List ℕ) (quote : Quote) (i : ℕ) (a : Marker) where
       over : (t : Bool) → ((c == 13) && (slice_index r 0 == 10)) ≡ t → let k : ℕ = cond t 2 1 in
           Gives (Pairs (Before from)) (inner_text quote i a (break_in gap) (pred k) (next_line m k) r)
           (inner_text quote i a (break_in gap) (pred k) (next_line m k) q)
-      over true e =
-          behind_break (next_line m 2) (break_in gap) 1 (suc (length r)) r q
+      over true e = behind_break (next_line m 2) (break_in gap) 1 (suc (length r)) r q
           (past_feed h (and_true_right (c == 13) _ e)) (λ _ _. (refl, over_break gap)) (omega arith) others
       over false e =
           behind_break (next_line m 1) (break_in gap) 0 (suc (length r)) r q h (λ _ _. (refl, over_break gap))
@@ -310,14 +297,12 @@ module _ (from : List ℕ) (quote : Quote) (i : ℕ) (a : Marker) where
 
       by : (t z : Bool) → is_blank c ≡ t → is_break c ≡ z
           → Gives (Pairs (Before from)) (inner_text quote i a gap 0 m (c ∷ r)) (inner_text quote i a gap 0 m (c ∷ q))
-      by true z e k =
-          rw e (both_then Same (Pairs (Before from)) (same_result (blank_in i gap m c))
+      by true z e k = rw e (both_then Same (Pairs (Before from)) (same_result (blank_in i gap m c))
           (behind_blank (class_no_break is_blank refl refl c e)))
       by false true e k =
           let len : break_len (c ∷ r) ≡ break_len (c ∷ q) = cc (first_same h) in
           rw (e, k, ← len) (over ((c == 13) && (slice_index r 0 == 10)) refl)
-      by false false e k =
-          both_are (Pairs (Before from)) _ _ _ _ (quoted_behind_gap quote i a gap m c r e k)
+      by false false e k = both_are (Pairs (Before from)) _ _ _ _ (quoted_behind_gap quote i a gap m c r e k)
           (quoted_behind_gap quote i a gap m c q e k)
           (both_then Same (Pairs (Before from)) (gap_same i a gap (mid_line m (c ∷ r)) (character {b = b} c h))
           (behind_gap k))

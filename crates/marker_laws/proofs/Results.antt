@@ -26,7 +26,7 @@ both_then_known {X} {Y} R Q r q f g h next = by h next
 -- what is given is the same as something else
 pub both_are : {X : Type 0} (R : X → X → Type 0) (r q u v : Result X Refusal) → r ≡ u → q ≡ v → Gives R u v
     → Gives R r q
-both_are R r q u v e f h = subst (λ x. Gives R x q) (sym e) (rw f h)
+both_are R r q u v e f h = rw e (rw f h)
 
 -- a choice by tests that come out alike
 pub choose : {X : Type 0} (R : X → X → Type 0) (a b : Bool) (x y z w : Result X Refusal) → a ≡ b
@@ -53,10 +53,8 @@ pairs_by C x y {s = s} {t = t} e h = subst (λ z. Pairs C (x, s) (z, t)) e (pair
 pub blanks_passed : {from : List ℕ} (s : Cursor) (q : List ℕ) (a b : ℕ) → a ≡ b
     → Stands from (along s.mark a) (drop a s.rest) (drop b q)
     → Beside from (pass_blanks a s) (pass_blanks b (reading q s))
-blanks_passed {from = from} s q a b e =
-    subst (λ k. Stands from (along s.mark a) (drop a s.rest) (drop k q)
-    → Beside from (pass_blanks a s) (pass_blanks k (reading q s)))
-    e (λ h. beside (pass_blanks a s) h)
+blanks_passed {from = from} s q a b e = subst (λ k. Stands from (along s.mark a) (drop a s.rest) (drop k q)
+    → Beside from (pass_blanks a s) (pass_blanks k (reading q s))) e (λ h. beside (pass_blanks a s) h)
 
 pub passed_before : {from : List ℕ} (s : Cursor) (q : List ℕ) (a b : ℕ) → a ≡ b
     → Ahead from false (drop a s.rest) (drop b q) → Before from (pass a s) (pass b (reading q s))
@@ -68,5 +66,4 @@ pub blanks_before : {from : List ℕ} (s : Cursor) (q : List ℕ) (a b : ℕ) �
     → Ahead from false (drop a s.rest) (drop b q) → Before from (pass_blanks a s) (pass_blanks b (reading q s))
 blanks_before {from = from} s q a b e =
     subst (λ k. Ahead from false (drop a s.rest) (drop k q) → Before from (pass_blanks a s)
-    (pass_blanks k (reading q s))) e
-    (λ h. before (pass_blanks a s) h)
+    (pass_blanks k (reading q s))) e (λ h. before (pass_blanks a s) h)

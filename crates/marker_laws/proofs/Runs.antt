@@ -106,13 +106,11 @@ module _ (readers : Readers) (ends : ReaderEnds) (limit : ℕ) (v from : List �
       going _ _ (cores c {q = q} h) more k a b held here needs =
           both_by c.ended c.ended _ _ _ _ (AlikeUpTo limit v from k) refl (λ _ _. same none)
           (λ over _. after_same limit v from k _ _ (run n limit) (run m limit)
-          (forgotten _ _ (read_same limit _ _ (states held (cores c h))))
-          (λ s t i j f.
+          (forgotten _ _ (read_same limit _ _ (states held (cores c h)))) (λ s t i j f.
           let less = less_read readers limit (holding c held) s over i in
           let less_too = less_read readers limit (holding _ held) t over j in
-          let too = counted_same ends limit (holding c held) s over i in
           next k s t more (omega (arith, less, a)) (omega (arith, less_too, b)) (
-            too ∙ here.0,
+            (counted_same ends limit (holding c held) s over i) ∙ here.0,
             reads (holding c held) s here.1 (needs over) i,
             read_balanced k limit (holding c held) s here.2 i,
           ) f))
@@ -121,7 +119,6 @@ module _ (readers : Readers) (ends : ReaderEnds) (limit : ℕ) (v from : List �
       → AlikeUpTo limit v from 0 (scan limit (v ++ from)) (scan limit q)
   unfolding remaining drop_far_key
   scans_same {q = q} h =
-      let all = length-append v from in
       runs_same (suc (size (start (v ++ from)).core)) (suc (size (start q).core)) 0 (start (v ++ from)) (start q)
-      (omega arith) (omega arith) (omega (arith, all), starts, refl)
+      (omega arith) (omega arith) (omega (arith, length-append v from), starts, refl)
       (states _ (cores (core.core_at_start (v ++ from)) (stands_at_line _ refl h)))

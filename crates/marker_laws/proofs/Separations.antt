@@ -62,8 +62,7 @@ comment_moves {from = from} m {r = r} {q = q} h =
     both_by (slice_index r 0 == 35) (slice_index q 0 == 35) _ _ _ _ (λ a b. Moves from m a b r q)
     (ap (λ c. c == 35) (first_same h.ahead))
     (λ f _. moves_before m (run_before is_yaml_non_break refl refl
-    (other_first false (λ c. c == 35) refl refl h.ahead f)))
-    (λ _ _. moves_none m h)
+    (other_first false (λ c. c == 35) refl refl h.ahead f))) (λ _ _. moves_none m h)
 
 separation_moves : {from : List ℕ} (tabs : SkipTabs) (m : Marker) {r q : List ℕ} → Stands from m r q
     → Moves from m (separation_len tabs r) (separation_len tabs q) r q
@@ -78,15 +77,11 @@ separation_moves {from = from} tabs m {r = r} {q = q} h =
 found_same : {from : List ℕ} (tabs : SkipTabs) (m : Marker) {r q : List ℕ} → Stands from m r q
     → found_blanks tabs r ≡ found_blanks tabs q
 found_same tabs m h =
-    let x = skipped_run tabs m h in
-    cc
+    let x = skipped_run tabs m h in cc
 
 bare_same : {from : List ℕ} (tabs : SkipTabs) (m : Marker) {r q : List ℕ} → Stands from m r q
     → is_bare_comment tabs r ≡ is_bare_comment tabs q
-bare_same tabs m h =
-    let len = (skipped_run tabs m h).moves.len in
-    let first = first_same h.ahead in
-    rw (len, first) refl
+bare_same tabs m h = rw ((skipped_run tabs m h).moves.len, first_same h.ahead) refl
 
 behind_beside : {from : List ℕ} (tabs : SkipTabs) (m : Marker) {r q : List ℕ} (s t : Cursor) → Stands from m r q
     → Beside from s t → Gives (Pairs (Beside from)) (behind_separation tabs r s) (behind_separation tabs q t)

@@ -135,8 +135,7 @@ module _ {from : List ℕ} (s : Cursor) (q : List ℕ) (h : Ahead from false s.r
   read_double : (c d : Core) → Twins s q c d
       → Gives (Steps from) (scalar.read_double_quoted c) (scalar.read_double_quoted d)
   unfolding scalar.read_double_quoted
-  read_double _ _ (twins c) =
-      both_then (Pairs (Before from)) (Steps from) (quoted_same Double (least_column c) s h k)
+  read_double _ _ (twins c) = both_then (Pairs (Before from)) (Steps from) (quoted_same Double (least_column c) s h k)
       (quoted_of s.mark DoubleQuoted c)
 
   pub double_same : (n : ℕ) (c d : Core) → Twins s q c d
@@ -147,8 +146,7 @@ module _ {from : List ℕ} (s : Cursor) (q : List ℕ) (h : Ahead from false s.r
   read_single : (c d : Core) → Twins s q c d
       → Gives (Steps from) (scalar.read_single_quoted c) (scalar.read_single_quoted d)
   unfolding scalar.read_single_quoted
-  read_single _ _ (twins c) =
-      both_then (Pairs (Before from)) (Steps from) (quoted_same Single (least_column c) s h k)
+  read_single _ _ (twins c) = both_then (Pairs (Before from)) (Steps from) (quoted_same Single (least_column c) s h k)
       (quoted_of s.mark SingleQuoted c)
 
   pub single_same : (n : ℕ) (c d : Core) → Twins s q c d
@@ -159,8 +157,7 @@ module _ {from : List ℕ} (s : Cursor) (q : List ℕ) (h : Ahead from false s.r
   read_block : (style : BlockStyle) (c d : Core) → Twins s q c d
       → Gives (Steps from) (scalar.read_block style c) (scalar.read_block style d)
   unfolding scalar.read_block
-  read_block style _ _ (twins c) =
-      both_then (Triples (Beside from)) (Steps from) (block_same style c.indent s h k)
+  read_block style _ _ (twins c) = both_then (Triples (Beside from)) (Steps from) (block_same style c.indent s h k)
       (blocked (λ text. tokens.Scalar (scalar.style_of style) text) c)
 
   pub block_steps_same : (style : BlockStyle) (n : ℕ) (c d : Core) → Twins s q c d

@@ -59,8 +59,7 @@ module _ (w : DocumentMarker) (us : List Piece) (e : Option Refusal) (m : Machin
   agree on h = steps_agree (ended_by w us e) m.state m on (last_too w us e m.tokens.pieces h)
 
   left_of : (x : Told) (p q : Result Told Refusal) → p ≡ Ok x → AgreesOrEndsEarly (ended_by w us e) m.tokens.refusal p q
-      → EndWithMarker w x.machine.tokens.pieces
-      ⊎ ((x.machine.tokens.pieces ≡ []) × (x.what ≡ marker_event w))
+      → EndWithMarker w x.machine.tokens.pieces ⊎ ((x.machine.tokens.pieces ≡ []) × (x.what ≡ marker_event w))
   left_of x (Ok y) q is a =
       let same : y ≡ x = cc in
       rw (← same) (elim a.0 [ inl h ↦ inl (last_is w us e y.machine.tokens.pieces h) | inr h ↦ inr (h.0, h.2) ])
@@ -84,8 +83,7 @@ told_waits w m x h is = left_behind w [] None m x is (agree w [] None m (goes_on
 
 refused_behind : (w : DocumentMarker) (m : Machine) (f : Refusal) (us : List Piece) (e : Option Refusal)
     → event_step_at m.state m ≡ Err f → EndWithMarker w m.tokens.pieces → Agree w us e m
-    → (event_step_at m.state (with_more us e m) ≡ Err f)
-    ⊎ ((w ≡ Ends) × IsOutside m × ArePassed m.tokens.pieces)
+    → (event_step_at m.state (with_more us e m) ≡ Err f) ⊎ ((w ≡ Ends) × IsOutside m × ArePassed m.tokens.pieces)
 refused_behind w m f us e is h (inl a) = inl (refused_of w us e m f _ _ is a)
 refused_behind w m f us e is h (inr p) =
     elim (first_kept m.tokens.pieces) [

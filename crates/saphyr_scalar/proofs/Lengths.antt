@@ -52,10 +52,8 @@ at_most_below a b c most less = omega arith
 pub none_before : (n : ℕ) → 0 ≤ n
 none_before n = omega arith
 
-pub less_left : (k : ℕ) (s t u : Cursor) → k < length u.rest → u ≡ t → length t.rest ≤ length s.rest
-    → k < length s.rest
-less_left k s t u less same most =
-    below_at_most k (length t.rest) (length s.rest) (subst (λ (x : Cursor). k < length x.rest) same less) most
+pub less_left : (k : ℕ) (s t u : Cursor) → k < length u.rest → u ≡ t → length t.rest ≤ length s.rest → k < length s.rest
+less_left k s t u less same most = below_at_most k (length t.rest) (length s.rest) (rw same at less) most
 
 -- a place that shows a character other than NUL is one
 pub seen_left : (s t : Cursor) (c d : ℕ) → c ≡ slice_index s.rest 0 → t ≡ s → (d == 0) ≡ false → c ≡ d
@@ -104,9 +102,8 @@ pub run_place_fits : (p : ℕ → Bool) (start now : List ℕ) (n c loaded : ℕ
     → TakesRun p start now n c loaded → t ≡ m → m.index + length start < 2 ^ 64 → t.index + n < 2 ^ 64
 run_place_fits p start now n c loaded m t r same fits = rw same (omega (arith, r.ran.total, fits))
 
-pub run_left : (p : ℕ → Bool) (start now : List ℕ) (n c loaded : ℕ) (m t u : Marker)
-    → TakesRun p start now n c loaded → t ≡ m → u ≡ along t n → m.index + length start < 2 ^ 64
-    → u.index + length now < 2 ^ 64
+pub run_left : (p : ℕ → Bool) (start now : List ℕ) (n c loaded : ℕ) (m t u : Marker) → TakesRun p start now n c loaded
+    → t ≡ m → u ≡ along t n → m.index + length start < 2 ^ 64 → u.index + length now < 2 ^ 64
 run_left p start now n c loaded m t u r same moved fits = rw (moved, same) (omega (arith, r.ran.total, fits))
 
 -- words that are taken off in one piece

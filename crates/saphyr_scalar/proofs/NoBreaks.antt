@@ -21,9 +21,7 @@ NoBreaks (c ∷ cs) = (is_break c ≡ false) × NoBreaks cs
 -- a class without the two breaks
 pub class_no_break : (p : ℕ → Bool) → p 10 ≡ false → p 13 ≡ false → (c : ℕ) → p c ≡ true → is_break c ≡ false
 class_no_break p feed return c h =
-    let first : nat_eq c 10 ≡ false = other_than p 10 c feed h in
-    let second : nat_eq c 13 ≡ false = other_than p 13 c return h in
-    rw (first, second) refl
+    let second : nat_eq c 13 ≡ false = other_than p 13 c return h in rw (other_than p 10 c feed h, second) refl
 
 pub no_breaks_both : (a b : List ℕ) → NoBreaks a → NoBreaks b → NoBreaks (a ++ b)
 no_breaks_both [] b h k = k
@@ -34,18 +32,14 @@ no_breaks_in p feed return [] h = tt
 no_breaks_in p feed return (c ∷ cs) h = (class_no_break p feed return c h.0, no_breaks_in p feed return cs h.1)
 
 pub no_breaks_passed : (m : Marker) (t u : List ℕ) → NoBreaks t → IsPassed m (t ++ u) (along m (length t)) u
-no_breaks_passed m [] u h = subst (λ (k : Marker). IsPassed m u k u) (sym (along_none m)) (nothing m u)
-no_breaks_passed m (c ∷ cs) u h =
-    character m c (cs ++ u) (along m (length (c ∷ cs))) u h.0
-    (subst (λ (k : Marker). IsPassed (along m 1) (cs ++ u) k u)
-    (along_more m 1 (length cs) (length (c ∷ cs)) (omega arith)) (no_breaks_passed (along m 1) cs u h.1))
+no_breaks_passed m [] u h = rw (along_none m) (nothing m u)
+no_breaks_passed m (c ∷ cs) u h = character m c (cs ++ u) (along m (length (c ∷ cs))) u h.0
+    (rw (along_more m 1 (length cs) (length (c ∷ cs)) (omega arith)) at (no_breaks_passed (along m 1) cs u h.1))
 
 -- ## Tags' parts
 
 hex_no_break : (c : ℕ) → IsHex c → is_break c ≡ false
-hex_no_break c (inl digit) = grind (arith, nat_tests)
-hex_no_break c (inr (inl small)) = grind (arith, nat_tests)
-hex_no_break c (inr (inr large)) = grind (arith, nat_tests)
+hex_no_break c h = grind arith
 
 escape_no_break : (byte : ℕ) (t : List ℕ) → IsByteEscape byte t → NoBreaks t
 escape_no_break byte t (high, low, is_high, is_low, value, text) =
@@ -53,8 +47,7 @@ escape_no_break byte t (high, low, is_high, is_low, value, text) =
 
 escapes_no_break : (bytes t : List ℕ) → AreByteEscapes bytes t → NoBreaks t
 escapes_no_break [] t text = subst NoBreaks (sym text) tt
-escapes_no_break (byte ∷ bytes) t (escape, more, first, others, text) =
-    subst NoBreaks (sym text)
+escapes_no_break (byte ∷ bytes) t (escape, more, first, others, text) = subst NoBreaks (sym text)
     (no_breaks_both escape more (escape_no_break byte escape first) (escapes_no_break bytes more others))
 
 character_no_break : (p : ℕ → Bool) → p 10 ≡ false → p 13 ≡ false → (c : ℕ) (t : List ℕ) → IsCharacter p c t
@@ -66,21 +59,18 @@ character_no_break p feed return c t (inr (scalar, escaped)) = escapes_no_break 
 pub decoded_no_break : (p : ℕ → Bool) → p 10 ≡ false → p 13 ≡ false → (value t : List ℕ) → IsDecoded p value t
     → NoBreaks t
 decoded_no_break p feed return [] t text = subst NoBreaks (sym text) tt
-decoded_no_break p feed return (c ∷ value) t (first, more, is, others, text) =
-    subst NoBreaks (sym text)
+decoded_no_break p feed return (c ∷ value) t (first, more, is, others, text) = subst NoBreaks (sym text)
     (no_breaks_both first more (character_no_break p feed return c first is)
     (decoded_no_break p feed return value more others))
 
 pub handle_no_break : (t : List ℕ) → IsHandleText t → NoBreaks t
 handle_no_break t (inl text) = subst NoBreaks (sym text) (refl, tt)
-handle_no_break t (inr (word, is, text)) =
-    subst NoBreaks (sym text)
+handle_no_break t (inr (word, is, text)) = subst NoBreaks (sym text)
     (refl, no_breaks_both word (codes "!") (no_breaks_in is_alpha refl refl word is) (refl, tt))
 
 prefix_no_break : (value t : List ℕ) → IsPrefix value t → NoBreaks t
 prefix_no_break [] t is = absurd is
-prefix_no_break (c ∷ value) t (first, more, is, others, text) =
-    subst NoBreaks (sym text)
+prefix_no_break (c ∷ value) t (first, more, is, others, text) = subst NoBreaks (sym text)
     (no_breaks_both first more (character_no_break (λ x. is_tag_char x || (x == 33)) refl refl c first is)
     (decoded_no_break is_uri_char refl refl value more others))
 
@@ -105,10 +95,9 @@ directive_no_break (version major minor) t (gap, high, low, blanks, first, secon
     )
 directive_no_break (tag_prefix handle prefix) t
     (h, p, (first, second, written, before, between, is_handle, whole, is_prefix, text), _, _) =
-    let last : NoBreaks (second ++ written) = no_breaks_both second written
-    (no_breaks_in is_blank refl refl second between) (prefix_no_break p written is_prefix) in
     let parts : NoBreaks (h ++ (second ++ written)) = no_breaks_both h (second ++ written) (handle_no_break h is_handle)
-    last in
+    (no_breaks_both second written
+    (no_breaks_in is_blank refl refl second between) (prefix_no_break p written is_prefix)) in
     subst NoBreaks (sym text) (
       refl,
       (
@@ -131,9 +120,7 @@ directive_no_break (reserved name) t (n, (more, _, _, _, all, others, _, text), 
     )
 
 pub mark_no_break : (q : Quote) → is_break (flow.mark q) ≡ false
-mark_no_break Single = refl
-mark_no_break Double = refl
+mark_no_break q = grind arith
 
 pub mark_no_nul : (q : Quote) → 0 ≡ flow.mark q → ⊥
-mark_no_nul Single h = absurd (omega arith)
-mark_no_nul Double h = absurd (omega arith)
+mark_no_nul q h = grind arith

@@ -17,8 +17,7 @@ no_run p [] h = refl
 no_run p (c ∷ cs) h = rw h refl
 
 none_passed : (s : Cursor) → pass_blanks 0 s ≡ s
-none_passed s = ap (λ m. let t : Cursor = record { rest = s.rest; mark = m; blank_so_far = s.blank_so_far } in t)
-    (along_none s.mark)
+none_passed s = ap (λ m. (record { rest = s.rest; mark = m; blank_so_far = s.blank_so_far })) (along_none s.mark)
 
 pub nothing_separates : (tabs : SkipTabs) (s t : Cursor) (c : ℕ) → c ≡ slice_index s.rest 0 → t ≡ s
     → is_skipped tabs c ≡ false → (c == number_sign) ≡ false → is_bom c ≡ false

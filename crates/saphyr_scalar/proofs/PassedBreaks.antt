@@ -27,9 +27,7 @@ behind_one m c cs = if ends_line c cs then next_line m 1 else along m 1
 
 -- a break is taken off
 pub break_shorter : (s : Cursor) → is_break (slice_index s.rest 0) ≡ true → length (pass_break s).rest < length s.rest
-break_shorter s h =
-    let some : 1 ≤ length s.rest = shows_character s.rest is_break true h (λ e. false≢true e) in
-    grind (arith, nat_tests, length-drop {A = ℕ})
+break_shorter s h = grind (arith, nat_tests, length-drop {A = ℕ})
 
 -- the place between the two characters may be told in two ways
 pub inside_same : (m : Marker) → next_line (inside_break m) 1 ≡ next_line m 2
@@ -39,8 +37,7 @@ pub along_same : (m : Marker) → next_line (along m 1) 1 ≡ next_line m 2
 along_same m = let i : m.index + 1 + 1 ≡ m.index + 2 = omega arith in rw i refl
 
 not_both : (c a b : ℕ) → (a == b) ≡ false → c ≡ b → (c == a) ≡ true → ⊥
-not_both c a b e f g = let h : c ≡ a =
-    eqb-true c a g in let k : (b == b) ≡ false = ap (λ x. x == b) (sym f ∙ h) ∙ e in differs b k
+not_both c a b e f g = let k : (b == b) ≡ false = ap (λ x. x == b) (sym f ∙ (eqb-true c a g)) ∙ e in differs b k
   where
     differs : (n : ℕ) → (n == n) ≡ false → ⊥
     differs n e = grind (arith, nat_tests, e)
@@ -58,8 +55,7 @@ pub return_here : (m j : Marker) (c : ℕ) (cs : List ℕ) (r : Cursor) → is_c
 return_here m j c cs r e same p =
     let thirteen : c ≡ 13 = eqb-true c 13 (and_true_left (c == 13) (slice_index cs 0 == 10) e) in
     record {
-      here = subst (λ d. IsPassed m (d ∷ cs) r.mark r.rest) (sym thirteen)
-          (p.behind_return (and_true_right (c == 13) (slice_index cs 0 == 10) e) m same);
+      here = rw thirteen (p.behind_return (and_true_right (c == 13) (slice_index cs 0 == 10) e) m same);
       behind_return = λ f k q. absurd (not_both c 10 13 refl thirteen f);
     }
 
@@ -68,18 +64,15 @@ pub feed_here : (m : Marker) (c : ℕ) (cs : List ℕ) (r : Cursor) → is_cr_lf
 feed_here m c cs r e b p =
     let one : break_len (c ∷ cs) ≡ 1 = rw e refl in
     record {
-      here = passing.line_break m (c ∷ cs) r.mark r.rest b
-          (subst (λ n. IsPassed (next_line m n) (drop n (c ∷ cs)) r.mark r.rest) (sym one) p);
+      here = passing.line_break m (c ∷ cs) r.mark r.rest b (rw one p);
       behind_return = λ f k q. fed k (eqb-true c 10 f) q;
     }
   where
     fed : (k : Marker) → c ≡ line_feed → next_line m 1 ≡ next_line k 2
         → IsPassed k (carriage_return ∷ c ∷ cs) r.mark r.rest
     fed k f q =
-        let there : IsPassed (next_line k 2) cs r.mark r.rest = subst (λ (j : Marker). IsPassed j cs r.mark r.rest) q
-        p in
-        subst (λ d. IsPassed k (13 ∷ d ∷ cs) r.mark r.rest) (sym f)
-        (passing.line_break k (13 ∷ 10 ∷ cs) r.mark r.rest refl there)
+        let there : IsPassed (next_line k 2) cs r.mark r.rest = rw q at p in
+        rw f (passing.line_break k (13 ∷ 10 ∷ cs) r.mark r.rest refl there)
 
 pub stop_here : (m : Marker) (c : ℕ) (cs : List ℕ) (b : Bool) → is_break c ≡ false
     → PassesBreak m (c ∷ cs) (record { rest = c ∷ cs; mark = m; blank_so_far = b })

@@ -15,9 +15,8 @@ use Rattle.saphyr_input.proofs.Basics.Booleans.{clash, by_test, either}
 
 pub letter_passed : (m : Marker) (e : ℕ) (t : List ℕ) (n : Marker) (x : List ℕ) → is_break e ≡ false
     → IsPassed (along m 2) t n x → IsPassed m (backslash ∷ e ∷ t) n x
-letter_passed m e t n x h p =
-    character m 92 (e ∷ t) n x refl
-    (character (along m 1) e t n x h (subst (λ (k : Marker). IsPassed k t n x) (sym (along_more m 1 1 2 refl)) p))
+letter_passed m e t n x h p = character m 92 (e ∷ t) n x refl
+    (character (along m 1) e t n x h (rw (along_more m 1 1 2 refl) p))
 
 pub hex_no_break : (d : ℕ) → IsTrue (is_hex d) → is_break d ≡ false
 hex_no_break d h = by_test (is_break d) refl
@@ -32,24 +31,18 @@ hex_no_break d h = by_test (is_break d) refl
         is_thirteen d h = let e : d ≡ 13 = grind (arith, nat_tests) in ap is_hex e
 
     by_test : (b : Bool) → is_break d ≡ b → b ≡ false
-    by_test true is = let no = numbers d is in absurd (cc)
-    by_test false is = refl
+    by_test b is = grind arith
 
 pub digits_passed : (m : Marker) (ds t : List ℕ) (n : Marker) (x : List ℕ) → AreIn is_hex ds
     → IsPassed (along m (length ds)) t n x → IsPassed m (ds ++ t) n x
-digits_passed m [] t n x h p = subst (λ (k : Marker). IsPassed k t n x) (along_none m) p
-digits_passed m (d ∷ ds) t n x h p =
-    character m d (ds ++ t) n x (hex_no_break d h.0)
-    (digits_passed (along m 1) ds t n x h.1
-    (subst (λ (k : Marker). IsPassed k t n x) (sym (along_more m 1 (length ds) (suc (length ds)) (omega arith))) p))
+digits_passed m [] t n x h p = rw (along_none m) at p
+digits_passed m (d ∷ ds) t n x h p = character m d (ds ++ t) n x (hex_no_break d h.0)
+    (digits_passed (along m 1) ds t n x h.1 (rw (along_more m 1 (length ds) (suc (length ds)) (omega arith)) p))
 
 -- A place is determined by what is passed.
 
 drop_less : (t : List ℕ) → is_break (slice_index t 0) ≡ true → length (drop (break_len t) t) < length t
-drop_less [] h = absurd (cc)
-drop_less (c ∷ cs) h =
-    by_test (next_2_are (c ∷ cs) 13 10) 2 1 (λ n. length (drop n (c ∷ cs)) < length (c ∷ cs))
-    (λ _. omega (arith, length-drop {A = ℕ} 1 cs)) (λ _. omega arith)
+drop_less t h = grind arith
 
 passed_shorter : (m : Marker) (t : List ℕ) (n : Marker) (u : List ℕ) → IsPassed m t n u → length u ≤ length t
 passed_shorter _ _ _ _ (nothing m t) = omega arith
@@ -65,8 +58,7 @@ record StaysHere (m : Marker) (s : List ℕ) (n : Marker) (u : List ℕ) : Type 
 behind_character : (m : Marker) (s : List ℕ) (n : Marker) (u : List ℕ) → IsPassed m s n u → (c : ℕ) (t : List ℕ)
     → s ≡ c ∷ t → is_break c ≡ false → StaysHere m s n u ⊎ IsPassed (along m 1) t n u
 behind_character _ _ _ _ (nothing m s) c t e h = inl (record { text = refl; place = refl })
-behind_character _ _ _ _ (character m d s n u k p) c t e h =
-    inr (subst (λ (l : List ℕ). IsPassed (along m 1) l n u) (ap (drop 1) e) p)
+behind_character _ _ _ _ (character m d s n u k p) c t e h = inr (rw (ap (drop 1) e) at p)
 behind_character _ _ _ _ (line_break m s n u k p) c t e h =
     clash (is_break (slice_index s 0)) k (ap (λ (l : List ℕ). is_break (slice_index l 0)) e ∙ h)
 

@@ -52,8 +52,7 @@ byte_refused start s = by_test (shows_byte s.rest) _ _ (RefusedAt start) (λ _. 
 
 trailing_refused : (start : Marker) (v : ℕ) (s : Cursor) → RefusedAt start (trailing_byte start v s)
 unfolding trailing_byte
-trailing_refused start v s =
-    refused_bind (λ e. e.mark ≡ start) (escaped_byte start s) _ (byte_refused start s)
+trailing_refused start v s = refused_bind (λ e. e.mark ≡ start) (escaped_byte start s) _ (byte_refused start s)
     (λ b e. by_test (is_trailing b.0) _ _ (RefusedAt start) (λ _. tt) (λ _. refl))
 
 bytes_refused : (start : Marker) (n v : ℕ) (s : Cursor) → RefusedAt start (trailing_bytes start n v s)
@@ -65,16 +64,14 @@ bytes_refused start (suc n) v s =
 
 leading_refused : (start : Marker) (b : ℕ) (s : Cursor) → RefusedAt start (behind_leading_byte start b s)
 unfolding behind_leading_byte encoded_character
-leading_refused start b s =
-    by_test (utf8_width b == 0) _ _ (RefusedAt start) (λ _. refl)
+leading_refused start b s = by_test (utf8_width b == 0) _ _ (RefusedAt start) (λ _. refl)
     (λ _. refused_bind (λ e. e.mark ≡ start) (trailing_bytes start (utf8_width b - 1) (leading_bits b) s) _
     (bytes_refused start (utf8_width b - 1) (leading_bits b) s)
     (λ x e. by_test (is_encoded (utf8_width b) x.0) _ _ (RefusedAt start) (λ _. tt) (λ _. refl)))
 
 pub character_refused : (start : Marker) (s : Cursor) → RefusedAt start (uri_character start s)
 unfolding uri_character percent_escape
-character_refused start s =
-    by_test (slice_index s.rest 0 == 37) _ _ (RefusedAt start)
+character_refused start s = by_test (slice_index s.rest 0 == 37) _ _ (RefusedAt start)
     (λ _. refused_bind (λ e. e.mark ≡ start) (escaped_byte start s) _ (byte_refused start s)
     (λ b e. leading_refused start b.0 b.1)) (λ _. tt)
 
@@ -92,8 +89,7 @@ decoded_refused set start zero m (c ∷ cs) =
     (λ _. refused_bind P (uri_character start (mid_line m (c ∷ cs))) _
     (character_refused start (mid_line m (c ∷ cs))) (λ x e.
     front_refused P (encode_utf8 x.0) (decoded_characters set start (uri_tail (c ∷ cs)) (along m 1) cs)
-    (decoded_refused set start (uri_tail (c ∷ cs)) (along m 1) cs)))
-    (λ _. tt)
+    (decoded_refused set start (uri_tail (c ∷ cs)) (along m 1) cs))) (λ _. tt)
 decoded_refused set start (suc k) m (c ∷ cs) = decoded_refused set start k (along m 1) cs
 
 verbatim_refused : (s : Cursor) → RefusedAt s.mark (verbatim_tag s)
@@ -112,16 +108,14 @@ word_refused start w =
     (λ _. refused_bind P (decoded_at Suffix start t) _ (decoded_refused Suffix start 0 t.mark t.rest)
     (λ x e. by_test (length x.0 == 0) _ _ (RefusedAt start) (λ _. refl) (λ _. tt)))
     (λ _. refused_bind P (with_front w.0 (decoded_at Suffix start w.1)) _
-    (front_refused P w.0 (decoded_at Suffix start w.1) (decoded_refused Suffix start 0 w.1.mark w.1.rest))
-    (λ x e. tt))
+    (front_refused P w.0 (decoded_at Suffix start w.1) (decoded_refused Suffix start 0 w.1.mark w.1.rest)) (λ x e. tt))
 
 pub tag_refused : (in_flow : Bool) (s : Cursor) → RefusedAt s.mark (tag in_flow s)
 unfolding tag shorthand_tag tag_end
 tag_refused in_flow s =
-    let P : Refusal → Type 0 = λ e. e.mark ≡ s.mark in
     let end = λ (p : TagRead) (e : _). by_test
     (is_blank_or_breakz (slice_index p.2.rest 0) || (in_flow && is_flow (slice_index p.2.rest 0))) _ _
     (RefusedAt s.mark) (λ _. tt) (λ _. refl) in
     let parts = by_test (slice_index s.rest 1 == 60) _ _ (RefusedAt s.mark) (λ _. verbatim_refused s)
     (λ _. word_refused s.mark (with_run is_alpha [] (pass 1 s))) in
-    refused_bind P _ _ parts end
+    refused_bind (λ e. e.mark ≡ s.mark) _ _ parts end

@@ -15,7 +15,7 @@ inside_from s t e p (behind, q) = (behind, passed_passed s.mark s.rest t.mark t.
 
 pub refused_there : (s t : Cursor) → IsPassed s.mark s.rest t.mark t.rest → (e : Refusal) → e.mark ≡ t.mark
     → IsRefusedInside s e
-refused_there s t p e is = (t.rest, subst (λ (m : Marker). IsPassed s.mark s.rest m t.rest) (sym is) p)
+refused_there s t p e is = (t.rest, rw is p)
 
 pub inside_start : (s : Cursor) (e : Refusal) → e.mark ≡ s.mark → IsRefusedInside s e
 inside_start s e is = refused_there s s (nothing s.mark s.rest) e is

@@ -14,8 +14,7 @@ use Rattle.saphyr_scalar.proofs.Given.{together}
 -- a spelled run, before a character that ends it
 pub run_len : (p : ℕ → Bool) (w y : List ℕ) → AreIn p w → p (slice_index y 0) ≡ false → prefix_len p (w ++ y) ≡ length w
 run_len p [] y are ends = run_stops p y ends
-run_len p (c ∷ w) y (is, are) ends =
-    let one : 1 + length w ≡ suc (length w) = omega arith in rw (is, run_len p w y are ends) one
+run_len p (c ∷ w) y (is, are) ends = rw (is, run_len p w y are ends) (omega arith)
 
 pub run_read : (p : ℕ → Bool) (m : Marker) (w y : List ℕ) → AreIn p w → p (slice_index y 0) ≡ false
     → with_run p [] (mid_line m (w ++ y)) ≡ (encode_utf8_all w, mid_line (along m (length w)) y)

@@ -37,7 +37,7 @@ spaces_shorter most s u e = rw (ap (λ (x : Cursor). x.rest) e, length-drop) (om
 pub turn_shorter : (n most : ℕ) (first here there : Cursor) → here ≡ pass_spaces most first → there ≡ here
     → n < length there.rest → n < length first.rest
 turn_shorter n most first here there spaces same less =
-    let left : n < length here.rest = subst (λ (s : Cursor). n < length s.rest) same less in
+    let left : n < length here.rest = rw same at less in
     omega (arith, left, spaces_shorter most first here spaces)
 
 -- What takes no notice of a space takes none of a run of them. `read m xs` is what is read at m, and `fits m` says
@@ -49,15 +49,11 @@ over_run : {X : Type 0} (read : Marker → List ℕ → X) (fits : Marker → �
     → read (along m n) (drop n xs) ≡ read m xs
 over_run read fits next one m zero xs f l = ap (λ x. read x xs) (along_none m)
 over_run read fits next one m (suc n) [] f l = absurd (omega (arith, l))
-over_run read fits next one m (suc n) (c ∷ cs) f l =
-    by_test (c == 32) (1 + prefix_len is_space cs) 0
-    (λ k. suc n ≤ k → read (along m (suc n)) (drop n cs) ≡ read m (c ∷ cs))
-    (λ h less.
-    let e : 32 ≡ c = grind (arith, nat_tests) in
+over_run read fits next one m (suc n) (c ∷ cs) f l = by_test (c == 32) (1 + prefix_len is_space cs) 0
+    (λ k. suc n ≤ k → read (along m (suc n)) (drop n cs) ≡ read m (c ∷ cs)) (λ h less.
     ap (λ x. read x (drop n cs)) (sym (along_more m 1 n (suc n) (omega arith)))
     ∙ over_run read fits next one (along m 1) n cs (next m n f) (omega (arith, less)) ∙ one m n cs f
-    ∙ ap (λ x. read m (x ∷ cs)) e)
-    (λ _ less. absurd (omega (arith, less))) l
+    ∙ ap (λ x. read m (x ∷ cs)) (grind (arith, nat_tests))) (λ _ less. absurd (omega (arith, less))) l
 
 abbrev Always : Marker → ℕ → Type 0
 Always m n = Unit {0}
@@ -74,10 +70,8 @@ lines_space i a false f m cs = sym (lines_blank i a false f m 32 cs refl)
 
 pub lines_over : (i : ℕ) (a : Marker) (t : Bool) (f : List ℕ) (most : ℕ) (s u : Cursor) → u ≡ pass_spaces most s
     → lines i a t f u.mark u.rest ≡ lines i a t f s.mark s.rest
-lines_over i a t f most s u e =
-    ap (λ (x : Cursor). lines i a t f x.mark x.rest) e
-    ∙ over_run (lines i a t f) Always (λ m n _. tt) (λ m n cs _. lines_space i a t f m cs) s.mark
-    (spaces_within most s.rest) s.rest tt (few most s.rest)
+lines_over i a t f most s u e = cc (over_run (lines i a t f) Always (λ m n _. tt)
+    (λ m n cs _. lines_space i a t f m cs) s.mark (spaces_within most s.rest) s.rest tt (few most s.rest))
 
 -- the same, where a character was looked at after the spaces, and b is whether it is white
 pub record LineFront (i : ℕ) (a : Marker) (t : Bool) (f : List ℕ) (s u : Cursor) (b : Bool) : Type 0 where
@@ -87,8 +81,7 @@ pub record LineFront (i : ℕ) (a : Marker) (t : Bool) (f : List ℕ) (s u : Cur
   pub shorter : (n : ℕ) → n < length u.rest → n < length s.rest
 
 pub line_front : (i : ℕ) (a : Marker) (t : Bool) (f : List ℕ) (most : ℕ) (s v u : Cursor) (c : ℕ) (b : Bool)
-    → v ≡ pass_spaces most s → c ≡ slice_index v.rest 0 → u ≡ v → b ≡ is_blank_or_break c
-    → LineFront i a t f s u b
+    → v ≡ pass_spaces most s → c ≡ slice_index v.rest 0 → u ≡ v → b ≡ is_blank_or_break c → LineFront i a t f s u b
 line_front i a t f most s v u c b spaces read same is = record {
   reached = ap (λ (x : Cursor). lines i a t f x.mark x.rest) same ∙ lines_over i a t f most s v spaces;
   white = ap (λ (x : Cursor). is_blank_or_break (slice_index x.rest 0)) same ∙ ap is_blank_or_break (sym read) ∙ sym is;
@@ -101,12 +94,10 @@ line_front i a t f most s v u c b spaces read same is = record {
 pub inside_over_spaces : (q : Quote) (indent : ℕ) (start : Marker) (escaped : Bool) (k most : ℕ) (s u : Cursor)
     → u ≡ pass_spaces most s
     → inner_text_at q indent start (over_lines escaped k) u ≡ inner_text_at q indent start (over_lines escaped k) s
-inside_over_spaces q indent start escaped k most s u e =
-    ap (inner_text_at q indent start (over_lines escaped k)) e
+inside_over_spaces q indent start escaped k most s u e = ap (inner_text_at q indent start (over_lines escaped k)) e
     ∙ over_run (inner_text q indent start (over_lines escaped k) 0) Always (λ m n _. tt)
     (λ m n cs _. line_blank q indent start escaped k (mid_line m (32 ∷ cs)) refl refl) s.mark
-    (spaces_within most s.rest)
-    s.rest tt (few most s.rest)
+    (spaces_within most s.rest) s.rest tt (few most s.rest)
 
 -- before a block scalar's lines
 
@@ -119,8 +110,7 @@ fits_next None m n f = tt
 fits_next (Some limit) m n f = omega (arith, f)
 
 indented : (limit : Option ℕ) (m : Marker) (n : ℕ) → FitsLimit limit m (suc n) → is_indentation limit m.col 32 ≡ true
-indented None m n f = refl
-indented (Some limit) m n f = let less : m.col < limit = omega (arith, f) in grind (arith, nat_tests)
+indented limit m n f = grind arith
 
 fits_left : (limit : Option ℕ) (m : Marker) (xs : List ℕ)
     → FitsLimit limit m (spaces_within (indentation_left limit m.col) xs)
@@ -130,8 +120,7 @@ fits_left (Some limit) m xs = omega arith
 pub empty_over : (limit : Option ℕ) (lines : EmptyLines) (left : ℕ) (s u : Cursor)
     → left ≡ indentation_left limit s.mark.col → u ≡ pass_spaces left s
     → pass_empty_lines_at limit lines u ≡ pass_empty_lines_at limit lines s
-empty_over limit lines left s u room e =
-    ap (pass_empty_lines_at limit lines) (e ∙ ap (λ n. pass_spaces n s) room)
+empty_over limit lines left s u room e = ap (pass_empty_lines_at limit lines) (e ∙ ap (λ n. pass_spaces n s) room)
     ∙ over_run (pass_empty_lines limit lines s.blank_so_far) (FitsLimit limit) (fits_next limit)
     (λ m n cs f. sym (space_on limit lines s.blank_so_far m 32 cs (indented limit m n f)))
     s.mark (spaces_within (indentation_left limit s.mark.col) s.rest) s.rest (fits_left limit s.mark s.rest)
@@ -145,21 +134,17 @@ left_none None m xs l =
     let all : spaces_within (2 ^ 64 - 1) xs ≡ prefix_len is_space xs =
     omega (arith, l, prefix_len-le-length is_space xs) in
     rw all (run_ends is_space xs refl)
-left_none (Some limit) m xs l =
-    by_test (nat_lt (prefix_len is_space xs) (limit - m.col)) true false
+left_none (Some limit) m xs l = by_test (nat_lt (prefix_len is_space xs) (limit - m.col)) true false
     (λ _. is_indentation (Some limit) (m.col + spaces_within (limit - m.col) xs)
-    (slice_index (drop (spaces_within (limit - m.col) xs) xs) 0) ≡ false)
-    (λ h.
+    (slice_index (drop (spaces_within (limit - m.col) xs) xs) 0) ≡ false) (λ h.
     let all : spaces_within (limit - m.col) xs ≡ prefix_len is_space xs = grind (arith, nat_tests) in
-    rw (all, run_ends is_space xs refl) refl)
-    (λ h.
+    rw (all, run_ends is_space xs refl) refl) (λ h.
     let all : spaces_within (limit - m.col) xs ≡ limit - m.col = grind (arith, nat_tests) in
     let past : nat_lt (m.col + (limit - m.col)) limit ≡ false = grind (arith, nat_tests) in
     rw (all, past) (and_false _))
 
 pub none_left : (limit : Option ℕ) (left : ℕ) (s u : Cursor) → left ≡ indentation_left limit s.mark.col
-    → u ≡ pass_spaces left s → length s.rest < 2 ^ 64
-    → is_indentation limit u.mark.col (slice_index u.rest 0) ≡ false
+    → u ≡ pass_spaces left s → length s.rest < 2 ^ 64 → is_indentation limit u.mark.col (slice_index u.rest 0) ≡ false
 none_left limit left s u room e l =
     ap (λ (x : Cursor). is_indentation limit x.mark.col (slice_index x.rest 0)) (e ∙ ap (λ n. pass_spaces n s) room)
     ∙ left_none limit s.mark s.rest l

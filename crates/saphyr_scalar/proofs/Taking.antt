@@ -33,13 +33,11 @@ GapWithin n g = length g.behind.rest ≤ n
 reached_within : (n : ℕ) (start : Marker) (tabbed : Bool) (feeds : List ℕ) (s : Cursor) → length s.rest ≤ n
     → Given (GapWithin n) (reached_gap start tabbed feeds s)
 unfolding content_behind_tab
-reached_within n start tabbed feeds s h =
-    given_bind (GapWithin n) (content_behind_tab start tabbed s) _
+reached_within n start tabbed feeds s h = given_bind (GapWithin n) (content_behind_tab start tabbed s) _
     (λ t e. given_of (λ (u : Cursor). length u.rest ≤ n) (content_behind_tab start tabbed s) t stands e)
   where
     stands : Given (λ (u : Cursor). length u.rest ≤ n) (content_behind_tab start tabbed s)
-    stands =
-        by_test (tabbed && is_bom (slice_index s.rest 0)) _ _ (Given (λ (u : Cursor). length u.rest ≤ n)) (λ _. tt)
+    stands = by_test (tabbed && is_bom (slice_index s.rest 0)) _ _ (Given (λ (u : Cursor). length u.rest ≤ n)) (λ _. tt)
         (λ _. by_test (tabbed && not ((slice_index s.rest 0 == 35) || is_z (slice_index s.rest 0))) _ _
         (Given (λ (u : Cursor). length u.rest ≤ n)) (λ _. tt) (λ _. h))
 
@@ -48,8 +46,7 @@ lines_within : (n indent : ℕ) (start : Marker) (tabbed : Bool) (feeds : List �
 unfolding lines
 lines_within n indent start tabbed feeds m [] h = reached_within n start tabbed feeds (line_front m []) h
 lines_within n indent start tabbed feeds m (c ∷ cs) h =
-    let k : length cs ≤ n = omega (arith, h) in
-    let others = λ (b : Bool) (f : List ℕ) (l : Marker). lines_within n indent start b f l cs k in
+    let others = λ (b : Bool) (f : List ℕ) (l : Marker). lines_within n indent start b f l cs (omega (arith, h)) in
     by_test (is_blank_or_break c) _ _ (Given (GapWithin n)) (λ _. others _ _ _)
     (λ _. reached_within n start tabbed feeds (line_front m (c ∷ cs)) h)
 
@@ -59,12 +56,10 @@ gap_within indent start s =
     let n = length s.rest in
     let t : Cursor = pass (prefix_len is_blank s.rest) s in
     let less : length t.rest ≤ n = drop_shorter (prefix_len is_blank s.rest) s.rest in
-    let behind = break_shorter t in
     let next : Given (GapWithin n) (next_lines indent start (pass_break t)) =
     given_bind (GapWithin n) (lines indent start false [] (pass_break t).mark (pass_break t).rest) _ (λ g e.
-    given_of (GapWithin n) _ g
-    (lines_within n indent start false [] (pass_break t).mark (pass_break t).rest (omega (arith, less, behind)))
-    e) in
+    given_of (GapWithin n) _ g (lines_within n indent start false [] (pass_break t).mark (pass_break t).rest
+    (omega (arith, less, break_shorter t))) e) in
     by_test (is_break (slice_index t.rest 0)) _ _ (Given (GapWithin n)) (λ _. next) (λ _. less)
 
 abbrev Within : ℕ → List ℕ × Marker × Option Marker × Cursor → Type 0
@@ -78,11 +73,9 @@ mutual
   between_within n in_flow indent start end g left [] h k = h
   between_within n in_flow indent start end g zero (c ∷ cs) h k =
       let others = word_within n in_flow indent start (along g.behind.mark 1) cs (omega (arith, k)) in
-      given_bind (Within n) (next_word_starts in_flow indent g.behind) _ (λ b e.
-      by_test b.0 _ _ (Given (Within n))
+      given_bind (Within n) (next_word_starts in_flow indent g.behind) _ (λ b e. by_test b.0 _ _ (Given (Within n))
       (λ _. given_bind (Within n) (word in_flow indent start (along g.behind.mark 1) cs) _
-      (λ x q. given_of (Within n) _ x others q))
-      (λ _. h))
+      (λ x q. given_of (Within n) _ x others q)) (λ _. h))
   between_within n in_flow indent start end g (suc left) (c ∷ cs) h k =
       between_within n in_flow indent start end g left cs h (omega (arith, k))
 
@@ -91,13 +84,11 @@ mutual
   word_within n in_flow indent start m [] h = h
   word_within n in_flow indent start m (c ∷ cs) h =
       let k : length cs ≤ n = omega (arith, h) in
-      let others = word_within n in_flow indent start (along m 1) cs k in
       let behind = λ (g : PlainGap) (left : ℕ)
-      (q : length g.behind.rest ≤ n). between_within n in_flow indent start m g left
-      cs q k in
+      (q : length g.behind.rest ≤ n). between_within n in_flow indent start m g left cs q k in
       by_test (is_in_word in_flow (c ∷ cs)) _ _ (Given (Within n))
       (λ _. given_bind (Within n) (word in_flow indent start (along m 1) cs) _
-      (λ x q. given_of (Within n) _ x others q))
+      (λ x q. given_of (Within n) _ x (word_within n in_flow indent start (along m 1) cs k) q))
       (λ _. given_bind (Within n) (gap indent start (mid_line m (c ∷ cs))) _ (λ g e.
       let l = given_of (GapWithin (length (c ∷ cs))) _ g (gap_within indent start (mid_line m (c ∷ cs))) e in
       let q : length g.behind.rest ≤ n = omega (arith, l, h) in
@@ -114,8 +105,7 @@ first_taken in_flow indent start m (c ∷ cs) x w e =
     let within : Given (Within (length cs)) (word in_flow indent start m (c ∷ cs)) =
     rw w (given_bind (Within (length cs)) (word in_flow indent start (along m 1) cs) _
     (λ y q. given_of (Within (length cs)) _ y others q)) in
-    let less = given_of (Within (length cs)) _ x within e in
-    omega (arith, less)
+    let less = given_of (Within (length cs)) _ x within e in omega (arith, less)
 
 abbrev Starts : Bool → Cursor → Bool × Cursor → Type 0
 Starts in_flow s b = (b.1 ≡ s) × (b.0 ≡ true → is_in_word in_flow s.rest ≡ true)
@@ -149,8 +139,7 @@ plain_takes in_flow indent s t text end comment e =
 -- ## Quoted scalars
 
 no_value : (quote : Quote) (value : List ℕ) → flow.quoted_value quote (normalized []) ≡ Some value → ⊥
-no_value Single value e = absurd (cc)
-no_value Double value e = absurd (cc)
+no_value quote value e = grind arith
 
 piece_is_longer : (piece rest : List ℕ) → (piece ≡ [] → ⊥) → length rest < length (piece ++ rest)
 piece_is_longer [] rest h = absurd (h refl)
@@ -162,5 +151,4 @@ quoted_takes quote indent s t text opening read =
     let r = quoted_reading quote indent s text t opening read in
     let less = piece_is_longer r.0 t.rest
     (λ e. no_value quote r.1 (ap (λ p. flow.quoted_value quote (normalized p)) (sym e) ∙ r.3)) in
-    let is = ap length r.2 in
-    omega (arith, less, is)
+    let is = ap length r.2 in omega (arith, less, is)

@@ -40,24 +40,21 @@ Left n t = length t.rest ≤ n
 chomping_within : (n : ℕ) (s : Cursor) → length s.rest ≤ n → length (chomping s).1.rest ≤ n
 unfolding chomping
 chomping_within n s h =
-    let l = drop_shorter 1 s.rest in
-    let k : length (drop 1 s.rest) ≤ n = omega (arith, l, h) in
+    let k : length (drop 1 s.rest) ≤ n = omega (arith, drop_shorter 1 s.rest, h) in
     by_test (slice_index s.rest 0 == 43) _ _ (Behind (Option Chomping) n) (λ _. k)
     (λ _. by_test (slice_index s.rest 0 == 45) _ _ (Behind (Option Chomping) n) (λ _. k) (λ _. h))
 
 indicator_within : (n : ℕ) (start : Marker) (s : Cursor) → length s.rest ≤ n → Given (Behind ℕ n) (indicator start s)
 unfolding indicator
 indicator_within n start s h =
-    let l = drop_shorter 1 s.rest in
-    let k : length (drop 1 s.rest) ≤ n = omega (arith, l, h) in
+    let k : length (drop 1 s.rest) ≤ n = omega (arith, drop_shorter 1 s.rest, h) in
     by_test (not (is_digit (slice_index s.rest 0))) _ _ (Given (Behind ℕ n)) (λ _. h)
     (λ _. by_test (slice_index s.rest 0 == 48) _ _ (Given (Behind ℕ n)) (λ _. tt) (λ _. k))
 
 break_within : (n : ℕ) (start : Marker) (s : Cursor) → length s.rest ≤ n → Given (Left n) (header_break start s)
 unfolding header_break
 break_within n start s h =
-    let l = break_shorter s in
-    let k : length (pass_break s).rest ≤ n = omega (arith, l, h) in
+    let k : length (pass_break s).rest ≤ n = omega (arith, break_shorter s, h) in
     by_test (not (is_breakz (slice_index s.rest 0))) _ _ (Given (Left n)) (λ _. tt)
     (λ _. by_test (slice_index (pass_break s).rest 0 == tab) _ _ (Given (Left n)) (λ _. tt) (λ _. k))
 
@@ -66,15 +63,13 @@ separation_within : (n : ℕ) (tabs : SkipTabs) (s : Cursor) → length s.rest �
 unfolding separation behind_separation
 separation_within n tabs s h =
     let l = drop_shorter (separation_len tabs s.rest) s.rest in
-    let k : length (drop (separation_len tabs s.rest) s.rest) ≤ n = omega (arith, l, h) in
     let t : Cursor = pass_blanks (separation_len tabs s.rest) s in
     by_test (nat_lt 0 t.mark.col && is_bom (slice_index t.rest 0)) _ _ (Given (Behind SkipTabs n)) (λ _. tt)
-    (λ _. by_test (is_bare_comment tabs s.rest) _ _ (Given (Behind SkipTabs n)) (λ _. tt) (λ _. k))
+    (λ _. by_test (is_bare_comment tabs s.rest) _ _ (Given (Behind SkipTabs n)) (λ _. tt) (λ _. (omega (arith, l, h))))
 
 end_within : (n : ℕ) (start : Marker) (s : Cursor) → length s.rest ≤ n → Given (Left n) (header_end start s)
 unfolding header_end
-end_within n start s h =
-    given_bind (Left n) (separation Yes s) _ (λ x e.
+end_within n start s h = given_bind (Left n) (separation Yes s) _ (λ x e.
     break_within n start x.1 (given_of (Behind SkipTabs n) (separation Yes s) x (separation_within n Yes s h) e))
 
 last_within : (n : ℕ) (first : Option Chomping) (s : Cursor) → length s.rest ≤ n
@@ -86,8 +81,7 @@ last_within n None s h = chomping_within n s h
 behind_within : (n : ℕ) (start : Marker) (i : ℕ) (x : Chomping × Cursor) → length x.1.rest ≤ n
     → Given (Behind BlockHeader n) (header_behind start i x)
 unfolding header_behind
-behind_within n start i x h =
-    given_bind (Behind BlockHeader n) (header_end start x.1) _
+behind_within n start i x h = given_bind (Behind BlockHeader n) (header_end start x.1) _
     (λ s e. given_of (Left n) (header_end start x.1) s (end_within n start x.1 h) e)
 
 header_within : (n : ℕ) (s : Cursor) → length (drop 1 s.rest) ≤ n → Given (Behind BlockHeader n) (header s)
@@ -104,8 +98,7 @@ empty_within : (n : ℕ) (limit : Option ℕ) (before : EmptyLines) (b : Bool) (
 unfolding pass_empty_lines
 empty_within n limit before b m [] h = h
 empty_within n limit before b m (c ∷ cs) h =
-    let k : length cs ≤ n = omega (arith, h) in
-    let others = λ (l : EmptyLines) (a : Bool) (p : Marker). empty_within n limit l a p cs k in
+    let others = λ (l : EmptyLines) (a : Bool) (p : Marker). empty_within n limit l a p cs (omega (arith, h)) in
     by_test (is_indentation limit m.col c) _ _ (Behind EmptyLines n) (λ _. others _ _ _)
     (λ _. by_test (is_cr_lf c cs) _ _ (Behind EmptyLines n) (λ _. others _ _ _)
     (λ _. by_test (is_break c) _ _ (Behind EmptyLines n) (λ _. others _ _ _) (λ _. h)))
@@ -169,8 +162,7 @@ scalar_within n style indent start x h =
 block_within : (n : ℕ) (style : BlockStyle) (indent : ℕ) (s : Cursor) → length (drop 1 s.rest) ≤ n
     → Given (ScalarWithin n) (block_scalar style indent s)
 unfolding block_scalar
-block_within n style indent s h =
-    given_bind (ScalarWithin n) (header s) _ (λ x e.
+block_within n style indent s h = given_bind (ScalarWithin n) (header s) _ (λ x e.
     scalar_within n style indent s.mark x (given_of (Behind BlockHeader n) (header s) x (header_within n s h) e))
 
 pub block_scalar_takes : (style : BlockStyle) (indent : ℕ) (s t : Cursor) (text : List ℕ) (span : Span)
@@ -179,8 +171,7 @@ block_scalar_takes style indent s t text span some e =
     let n = length (drop 1 s.rest) in
     let within = given_of (ScalarWithin n) (block_scalar style indent s) (text, span, t)
     (block_within n style indent s (omega arith)) e in
-    let less = drop_one_shorter s.rest some in
-    omega (arith, within, less)
+    let less = drop_one_shorter s.rest some in omega (arith, within, less)
 
 -- ## Anchors, tags and directives
 
@@ -188,48 +179,37 @@ pub anchor_takes : (s t : Cursor) (text : List ℕ) → 0 < length s.rest → an
     → length t.rest < length s.rest
 anchor_takes s t text some e =
     let spelled = spells_anchor s t text some e in
-    let is : length s.rest ≡ length (spelled.0 ∷ (spelled.1 ++ t.rest)) = ap length spelled.2 in
-    let whole = length-append spelled.1 t.rest in
-    omega (arith, is, whole)
+    let whole = length-append spelled.1 t.rest in omega (arith, ap length spelled.2, whole)
 
 -- a text that begins with some character has one
 some_behind_first : (c : ℕ) (t cs : List ℕ) → t ≡ c ∷ cs → 0 < length t
 some_behind_first c t cs e = let is : length t ≡ length (c ∷ cs) = ap length e in omega (arith, is)
 
 handle_some : (handle back t : List ℕ) → IsHandleText handle → t ≡ handle ++ back → 0 < length t
-handle_some handle back t (inl alone) e = some_behind_first 33 t back (e ∙ ap (λ u. u ++ back) alone)
-handle_some handle back t (inr named) e =
-    some_behind_first 33 t ((named.0 ++ codes "!") ++ back) (e ∙ ap (λ u. u ++ back) named.2)
+handle_some handle back t h e = grind arith
 
 tag_some : (t handle suffix : List ℕ) → IsTagText t handle suffix → 0 < length t
-tag_some t handle suffix (inl alone) = some_behind_first 33 t [] alone.0
-tag_some t handle suffix (inr (inl verbatim)) = some_behind_first 33 t (60 ∷ (verbatim.0 ++ codes ">")) verbatim.3
-tag_some t handle suffix (inr (inr short)) = handle_some handle short.0 t short.1 short.4
+tag_some t handle suffix h = grind arith
 
 pub tag_takes : (in_flow : Bool) (s t : Cursor) (handle suffix : List ℕ) → slice_index s.rest 0 ≡ exclamation_mark
     → tag in_flow s ≡ Ok (handle, suffix, t) → length t.rest < length s.rest
 tag_takes in_flow s t handle suffix opening e =
     let spelled = spells_tag in_flow s t handle suffix opening e in
     let some = tag_some spelled.0 spelled.1 spelled.2 spelled.4 in
-    let is : length s.rest ≡ length (spelled.0 ++ t.rest) = ap length spelled.3 in
-    let whole = length-append spelled.0 t.rest in
-    omega (arith, some, is, whole)
+    let whole = length-append spelled.0 t.rest in omega (arith, some, ap length spelled.3, whole)
 
 directive_some : (d : ReadDirective) (t : List ℕ) → IsReadDirective d t → 0 < length t
-directive_some (version major minor) t is = some_behind_first 37 t _ is.6
-directive_some (tag_prefix handle prefix) t is = some_behind_first 37 t _ is.2.8
-directive_some (reserved name) t is = some_behind_first 37 t _ is.1.7
+directive_some d t is = grind arith
 
 pub directive_takes : (s t : Cursor) (d : ReadDirective) (end : Marker) → slice_index s.rest 0 ≡ percent_sign
     → directive s ≡ Ok (d, end, t) → length t.rest < length s.rest
 directive_takes s t d end opening e =
     let spelled = spells_directive s t d end opening e in
     let x = spelled.2 in
-    let some = directive_some d spelled.0 spelled.4 in
     let is : length s.rest ≡ length (spelled.0 ++ (spelled.1 ++ x)) = ap length spelled.3 in
     let whole = length-append spelled.0 (spelled.1 ++ x) in
     let back = length-append spelled.1 x in
     let behind : Cursor = mid_line (along s.mark (length spelled.0 + length spelled.1)) x in
     let left : length t.rest ≡ length (pass_break behind).rest = ap (λ (u : Cursor). length u.rest) spelled.8 in
     let less : length (pass_break behind).rest ≤ length x = break_shorter behind in
-    omega (arith, some, is, whole, back, left, less)
+    omega (arith, directive_some d spelled.0 spelled.4, is, whole, back, left, less)

@@ -17,10 +17,7 @@ none_ends column m (i ∷ is) s e = rw e refl
 one_less : (column : Option ℕ) (m : Marker) (is : List ℕ) (s : State) → is_right_of column s.core.indent ≡ true
     → s.core.outer_indents ≡ is
     → end_blocks column m (end_block m s).core.outer_indents (end_block m s) ≡ end_blocks column m is s
-one_less None m [] s right outer = rw (right, outer) refl
-one_less (Some k) m [] s right outer =
-    let none : nat_lt k 0 ≡ false = grind (arith, nat_tests) in rw (right, outer, none) refl
-one_less column m (i ∷ is) s right outer = rw (right, outer) refl
+one_less column m is s right outer = grind arith
 
 -- what a call gives that leaves this
 abbrev left : State → Result State Refusal
@@ -47,8 +44,7 @@ one_fewer (Some k) m [] s right outer =
 one_fewer column m (i ∷ is) s right outer = rw (right, outer) (at_most_one (is_right_of column i))
   where
     at_most_one : (b : Bool) → length is + (if b then 1 else 0) < length (i ∷ is) + 1
-    at_most_one true = omega arith
-    at_most_one false = omega arith
+    at_most_one b = grind arith
 
 pub fewer_end : (column : Option ℕ) (m : Marker) (s t : State) → is_right_of column s.core.indent ≡ true
     → left (end_block m s) ≡ Ok t → most_ends column t < most_ends column s
@@ -59,8 +55,7 @@ fewer_end column m s t right ended =
 
 -- The text stays as it is.
 outer_indent_cursor : (is : List ℕ) (c : Core) → (with_outer_indent is c).cursor ≡ c.cursor
-outer_indent_cursor [] c = refl
-outer_indent_cursor (i ∷ is) c = refl
+outer_indent_cursor is c = grind arith
 
 pub block_cursor : (m : Marker) (s : State) → (end_block m s).core.cursor ≡ s.core.cursor
 block_cursor m s = outer_indent_cursor s.core.outer_indents s.core
@@ -75,20 +70,17 @@ blocks_cursor column m (i ∷ is) s =
     (λ _. blocks_cursor column m is (end_block m s) ∙ block_cursor m s) (λ _. refl)
 
 pub go_less_deep_cursor : (column : Option ℕ) (c : Core) → (go_less_deep column c).cursor ≡ c.cursor
-go_less_deep_cursor None c = refl
-go_less_deep_cursor (Some column) c = refl
+go_less_deep_cursor column c = grind arith
 
 pub unrolled_cursor : (column : Option ℕ) (m : Marker) (s : State) → (unroll column m s).core.cursor ≡ s.core.cursor
 unfolding unroll
-unrolled_cursor column m s =
-    by_test (in_block s.core) _ _ (λ (t : State). t.core.cursor ≡ s.core.cursor)
+unrolled_cursor column m s = by_test (in_block s.core) _ _ (λ (t : State). t.core.cursor ≡ s.core.cursor)
     (λ _. blocks_cursor column m s.core.outer_indents _ ∙ go_less_deep_cursor column s.core) (λ _. refl)
 
 -- ## No comment comes
 
 outer_indent_comment : (is : List ℕ) (c : Core) → (with_outer_indent is c).comment ≡ c.comment
-outer_indent_comment [] c = refl
-outer_indent_comment (i ∷ is) c = refl
+outer_indent_comment is c = grind arith
 
 blocks_comment : (column : Option ℕ) (m : Marker) (is : List ℕ) (s : State)
     → (end_blocks column m is s).core.comment ≡ s.core.comment
@@ -97,15 +89,12 @@ blocks_comment column m [] s =
     (λ _. outer_indent_comment s.core.outer_indents s.core) (λ _. refl)
 blocks_comment column m (i ∷ is) s =
     by_test (is_right_of column s.core.indent) _ _ (λ (t : State). t.core.comment ≡ s.core.comment)
-    (λ _. blocks_comment column m is (end_block m s) ∙ outer_indent_comment s.core.outer_indents s.core)
-    (λ _. refl)
+    (λ _. blocks_comment column m is (end_block m s) ∙ outer_indent_comment s.core.outer_indents s.core) (λ _. refl)
 
 go_less_deep_comment : (column : Option ℕ) (c : Core) → (go_less_deep column c).comment ≡ c.comment
-go_less_deep_comment None c = refl
-go_less_deep_comment (Some column) c = refl
+go_less_deep_comment column c = grind arith
 
 pub unrolled_comment : (column : Option ℕ) (m : Marker) (s : State) → (unroll column m s).core.comment ≡ s.core.comment
 unfolding unroll
-unrolled_comment column m s =
-    by_test (in_block s.core) _ _ (λ (t : State). t.core.comment ≡ s.core.comment)
+unrolled_comment column m s = by_test (in_block s.core) _ _ (λ (t : State). t.core.comment ≡ s.core.comment)
     (λ _. blocks_comment column m s.core.outer_indents _ ∙ go_less_deep_comment column s.core) (λ _. refl)

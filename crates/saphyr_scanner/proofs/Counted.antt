@@ -23,8 +23,7 @@ pub record Ahead (s t : Cursor) : Type 0 where
   pub counted : t.mark.index + length t.rest ≡ s.mark.index + length s.rest
 
 pub stays : (s t : Cursor) → t ≡ s → Ahead s t
-stays s t e = let P : Cursor → Type 0 =
-    λ u. Ahead s u in subst P (sym e) (record { later = omega arith; counted = refl })
+stays s t e = rw e (record { later = omega arith; counted = refl })
 
 pub ahead_ahead : (s t u : Cursor) → Ahead s t → Ahead t u → Ahead s u
 ahead_ahead s t u a b = record {
@@ -36,17 +35,14 @@ ahead_ahead s t u a b = record {
 pub taken_off : (s t : Cursor) (n : ℕ) → t.mark.index ≡ s.mark.index + n → t.rest ≡ drop n s.rest → n ≤ length s.rest
     → Ahead s t
 taken_off s t n i r h =
-    let l = length-drop n s.rest in
     let k : length t.rest ≡ length (drop n s.rest) = ap length r in
-    record { later = omega arith; counted = omega (arith, l, k) }
+    record { later = omega arith; counted = omega (arith, length-drop n s.rest, k) }
 
 -- a text is passed
 pub text_passed : (s t : Cursor) (text : List ℕ) → s.rest ≡ text ++ t.rest → t.mark.index ≡ s.mark.index + length text
     → Ahead s t
 text_passed s t text r i =
-    let l = length-append text t.rest in
-    let k : length s.rest ≡ length (text ++ t.rest) = ap length r in
-    record { later = omega arith; counted = omega (arith, l, k) }
+    record { later = omega arith; counted = omega (arith, length-append text t.rest, ap length r) }
 
 -- ## Breaks
 
@@ -74,8 +70,7 @@ passed_at _ _ _ _ (character m c t k u h p) =
 passed_at _ _ _ _ (line_break m t k u h p) =
     let q = passed_at (next_line m (break_len t)) (drop (break_len t) t) k u p in
     let l = length-drop (break_len t) t in
-    let w = break_within t h in
-    (omega (arith, q.0), omega (arith, q.1, l, w))
+    let w = break_within t h in (omega (arith, q.0), omega (arith, q.1, l, w))
 
 pub passed_over : (s t : Cursor) → IsPassed s.mark s.rest t.mark t.rest → Ahead s t
 passed_over s t p = let q = passed_at s.mark s.rest t.mark t.rest p in record { later = q.0; counted = q.1 }
@@ -127,8 +122,7 @@ gap_at_counted low n l (c ∷ cs) m blank broke tabbed h =
 
 pub gap_counted : (l : ℕ) (broke tabbed : Bool) (s : Cursor)
     → Given (λ (p : GapEnd). Ahead s p.cursor) (end_of_gap l s.mark s.blank_so_far broke tabbed s.rest)
-gap_counted l broke tabbed s =
-    ahead_of (end_of_gap l s.mark s.blank_so_far broke tabbed s.rest)
+gap_counted l broke tabbed s = ahead_of (end_of_gap l s.mark s.blank_so_far broke tabbed s.rest)
     (gap_at_counted s.mark.index (s.mark.index + length s.rest) l s.rest s.mark s.blank_so_far broke tabbed
     (omega arith, refl)).0
   where

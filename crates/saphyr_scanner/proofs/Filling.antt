@@ -12,8 +12,7 @@ use Rattle.saphyr_input.proofs.Basics.Booleans.{by_test}
 use Rattle.saphyr_scalar.proofs.Given.{given_of, bind_ok}
 
 pub going : (ended b : Bool) → (not ended && b) ≡ true → ended ≡ false
-going true b e = sym e
-going false b e = refl
+going ended b e = grind arith
 
 -- the next token is read, and a candidate that is too far is dropped
 abbrev pub read : ℕ → State → Result State Refusal
@@ -29,8 +28,7 @@ smaller_read laws limit s u needs e =
 
 pub same_bind : {X Y : Type 0} → (r : Result X Refusal) (f g : X → Result Y Refusal) → ((x : X) → r ≡ Ok x → f x ≡ g x)
     → (r >>= f) ≡ (r >>= g)
-same_bind (Ok x) f g h = h x refl
-same_bind (Err e) f g h = refl
+same_bind r f g h = grind arith
 
 pub enough : Readers → (limit n m : ℕ) (s : State) → size s.core < n → size s.core < m
     → fill_in n limit s ≡ fill_in m limit s
@@ -42,10 +40,7 @@ enough laws limit (suc n) (suc m) s a b =
     go : (t : Bool) → needs_token s ≡ t
         → ((u : State) → size u.core < size s.core → fill_in n limit u ≡ fill_in m limit u)
         → fill_in (suc n) limit s ≡ fill_in (suc m) limit s
-    go true e h =
-        let step : (read limit s >>= fill_in n limit) ≡ (read limit s >>= fill_in m limit) =
-        same_bind (read limit s) _ _ (λ u q. h u (smaller_read laws limit s u e q)) in
-        rw e step
+    go true e h = rw e (same_bind (read limit s) _ _ (λ u q. h u (smaller_read laws limit s u e q)))
     go false e h = rw e refl
 
 -- one token more
@@ -67,16 +62,14 @@ not_twice c d =
     (λ _ e. let is : forget_key c ≡ d = cc in subst (λ x. drop_far_key x ≡ Ok x) is (forgotten c (in_block c) refl)))
   where
     forgotten : (c : Core) (b : Bool) → in_block c ≡ b → drop_far_key (forget_key c) ≡ Ok (forget_key c)
-    forgotten c true e = rw e refl
-    forgotten c false e = rw e refl
+    forgotten c b e = grind arith
 
 -- what no candidate is too far in
 abbrev pub IsSettled : State → Type 0
 IsSettled s = drop_far_key s.core ≡ Ok s.core
 
 core_of_on_core : (r : Result Core Refusal) (s t : State) → on_core r s.queue ≡ Ok t → r ≡ Ok t.core
-core_of_on_core (Ok c) s t e = cc
-core_of_on_core (Err f) s t e = absurd (cc)
+core_of_on_core r s t e = grind arith
 
 pub settled_once : (s t : State) → without_far_key s ≡ Ok t → IsSettled t
 settled_once s t e = not_twice s.core t.core (core_of_on_core (drop_far_key s.core) s t e)
@@ -86,8 +79,7 @@ read_settles limit s u e = let b = bind_ok (fetch_within limit s) without_far_ke
 
 pub less_read : Readers → (limit : ℕ) (s u : State) → s.core.ended ≡ false → read limit s ≡ Ok u
     → size u.core < size s.core
-less_read laws limit s u over e =
-    (given_of (Fetched s) (read limit s) u (read_fetched limit s over) e).smaller laws
+less_read laws limit s u over e = (given_of (Fetched s) (read limit s) u (read_fetched limit s over) e).smaller laws
 
 pub still_settled : (s t : State) → without_far_key s ≡ Ok t → without_far_key t ≡ Ok t
 still_settled s t e = rw (settled_once s t e) refl

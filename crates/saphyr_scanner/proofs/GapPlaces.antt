@@ -53,11 +53,10 @@ all_places l (c ∷ cs) m blank broke tabbed =
     λ e b. refused_map m (c ∷ cs) (next_line m 1) cs (end_of_gap l (next_line m 1) true true false cs)
     (λ k v p. single m c cs k v b e p) (all_places l cs (next_line m 1) true true false).between in
     let return : (x : Bool) → ((c == 13) && (slice_index cs 0 == 10)) ≡ true → P
-    (end_of_gap l (along m 1) blank broke x cs) =
-    λ x e.
+    (end_of_gap l (along m 1) blank broke x cs) = λ x e.
     let f = and_parts (c == 13) (slice_index cs 0 == 10) e in
     let r = end_of_gap l (along m 1) blank broke x cs in
-    refused_map m (c ∷ cs) m (13 ∷ cs) r (λ k v p. subst (λ d. IsReached m (d ∷ cs) k v) (sym (eqb-true c 13 f.0)) p)
+    refused_map m (c ∷ cs) m (13 ∷ cs) r (λ k v p. rw (eqb-true c 13 f.0) p)
     ((all_places l cs (along m 1) blank broke x).behind_return f.1 m refl) in
     let blanks : (x : Bool) → is_blank c ≡ true → P (end_of_gap l (along m 1) blank broke x cs) =
     λ x b. further (class_no_break is_blank refl refl c b) (end_of_gap l (along m 1) blank broke x cs)
@@ -70,15 +69,13 @@ all_places l (c ∷ cs) m blank broke tabbed =
     (end_of_gap_in_comment l (along m 1) blank broke tabbed cs)
     (all_places l cs (along m 1) blank broke tabbed).inside in
     record {
-      between =
-          by_test (is_blank c || ((c == 13) && (slice_index cs 0 == 10))) _ _ P
+      between = by_test (is_blank c || ((c == 13) && (slice_index cs 0 == 10))) _ _ P
           (λ e. elim (or_cases (is_blank c) ((c == 13) && (slice_index cs 0 == 10)) e)
           [ inl b ↦ blanks indented b | inr r ↦ return indented r ])
           (λ e. by_test (is_break c) _ _ P
           (λ b. line (or_false_right (is_blank c) ((c == 13) && (slice_index cs 0 == 10)) e) b)
           (λ _. by_test (c == 35) _ _ P comments (λ _. stop_refused m blank broke tabbed (c ∷ cs))));
-      inside =
-          by_test (is_yaml_non_break c) _ _ P more
+      inside = by_test (is_yaml_non_break c) _ _ P more
           (λ n. by_test ((c == 13) && (slice_index cs 0 == 10)) _ _ P (λ r. return tabbed r)
           (λ e. by_test (is_break c) _ _ P (λ b. line e b) (λ _. stop_refused m blank broke tabbed (c ∷ cs))));
       behind_return = λ e k q. fed c (eqb-true c 10 e) k q (all_places l cs (next_line m 1) true true false).between;
@@ -87,10 +84,8 @@ all_places l (c ∷ cs) m blank broke tabbed =
     fed : (d : ℕ) → d ≡ line_feed → (k : Marker) → m ≡ along k 1
         → Refused (next_line m 1) cs (end_of_gap l (next_line m 1) true true false cs)
         → Refused k (carriage_return ∷ d ∷ cs) (end_of_gap l m blank broke tabbed (d ∷ cs))
-    fed d e k q h =
-        subst (λ x. Refused k (13 ∷ x ∷ cs) (end_of_gap l m blank broke tabbed (x ∷ cs))) (sym e)
-        (refused_map k (13 ∷ 10 ∷ cs) (next_line m 1) cs (end_of_gap l (next_line m 1) true true false cs)
-        (λ j v p. double k cs j v (subst (λ (i : Marker). IsReached (next_line i 1) cs j v) q p)) h)
+    fed d e k q h = rw e (refused_map k (13 ∷ 10 ∷ cs) (next_line m 1) cs
+        (end_of_gap l (next_line m 1) true true false cs) (λ j v p. double k cs j v (rw q at p)) h)
 
 pub gap_refused : (l : ℕ) (m : Marker) (blank broke tabbed : Bool) (t : List ℕ)
     → Refused m t (end_of_gap l m blank broke tabbed t)

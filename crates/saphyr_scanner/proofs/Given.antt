@@ -31,8 +31,7 @@ handed_all : (go : State → Remaining) (c : Core) (ps : List Place) (n : ℕ) �
 handed_all go c [] n over h = h (holding c [] n) refl
 handed_all go c (p ∷ ps) n over h =
     let ready : needs_token (holding c (p ∷ ps) n) ≡ false = rw over refl in
-    rw ready
-    (ap (before_place p.opening p.piece) (handed_all go c ps (n + 1) over h)
+    rw ready (ap (before_place p.opening p.piece) (handed_all go c ps (n + 1) over h)
     ∙ before_these p.opening p.piece (flat ps))
 
 -- the candidate is too far
@@ -45,8 +44,7 @@ not_far s e = rw e refl
 
 all_read : (limit : ℕ) (s : State) → s.core.ended ≡ true → is_far s.core ≡ false
     → remaining limit s ≡ these (flat s.queue.places)
-all_read limit s over near =
-    remaining_is limit s s (not_far s near)
+all_read limit s over near = remaining_is limit s s (not_far s near)
     ∙ handed_all _ s.core s.queue.places s.queue.handed over
     (λ t same. cond-true t.core.ended _ _ (ap (λ (c : Core). c.ended) same ∙ over))
 
@@ -55,7 +53,5 @@ pub given_last : (limit : ℕ) (s : State) (q : Queue) (p : Piece) → s.core.en
     → q ≡ with_piece p s.queue → remaining limit (record { core = s.core; queue = q }) ≡ with_last p (remaining limit s)
 given_last limit s q p over ready put =
     let near = (neither_parts (is_far s.core) (needs_token s) ready).0 in
-    all_read limit (record { core = s.core; queue = q }) over near
-    ∙ ap (λ (x : Queue). these (flat x.places)) put
-    ∙ ap these (flat_append s.queue.places (bare_place p ∷ []))
-    ∙ ap (with_last p) (sym (all_read limit s over near))
+    all_read limit (record { core = s.core; queue = q }) over near ∙ ap (λ (x : Queue). these (flat x.places)) put
+    ∙ ap these (flat_append s.queue.places (bare_place p ∷ [])) ∙ ap (with_last p) (sym (all_read limit s over near))

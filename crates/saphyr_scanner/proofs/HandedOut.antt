@@ -64,8 +64,7 @@ goes_if hs false r s t u x y = y
 
 pub agreed : (hs : List Place) (f : State → Result State Refusal) (s t : State) → AgreesBehind hs f → Goes hs s t
     → Same hs (f s) (f t)
-agreed hs f s t h g = subst (λ (c : Core). Same hs (f s) (f (at c t.queue))) (sym g.core)
-    (h s.core s.queue t.queue g.queue g.above)
+agreed hs f s t h g = rw g.core (h s.core s.queue t.queue g.queue g.above)
 
 same_then : (hs : List Place) (r s : Result State Refusal) (f : State → Result State Refusal) → Same hs r s
     → AgreesBehind hs f → Same hs (r >>= f) (s >>= f)
@@ -103,13 +102,11 @@ acts_behind hs (Open n o ∷ others) q p b k =
     acts_behind hs others _ _ (record { places = places; none = b.none; handed = b.handed }) k.1
 
 same_next : (hs : List Place) (q p : Queue) → Behind hs q p → next q ≡ next p
-same_next hs q p b = let z =
-    b.none in let y = b.handed in let x =
+same_next hs q p b = let z = b.none in let y = b.handed in let x =
     ap length b.places in let l = length-append hs p.places in omega (arith, x, y, z, l)
 
 after_step_agrees : (hs : List Place) (r : StepResult) (q p : Queue) → Behind hs q p
-    → Given (KeepsPlacesAbove (length hs)) r
-    → Same hs (after_step r q) (after_step r p)
+    → Given (KeepsPlacesAbove (length hs)) r → Same hs (after_step r q) (after_step r p)
 after_step_agrees hs (Ok x) q p b k = record { core = refl; queue = acts_behind hs x.actions q p b k.1; above = k.0 }
 after_step_agrees hs (Err e) q p b k = refl
 
@@ -135,8 +132,7 @@ block_goes hs m c q p b k =
 
 blocks_go : (hs : List Place) (column : Option ℕ) (m : Marker) (is : List ℕ) (c : Core) (q p : Queue) → Behind hs q p
     → Above (length hs) c → Goes hs (end_blocks column m is (at c q)) (end_blocks column m is (at c p))
-blocks_go hs column m [] c q p b k =
-    goes_if hs (is_right_of column c.indent) _ _ _ _ (block_goes hs m c q p b k)
+blocks_go hs column m [] c q p b k = goes_if hs (is_right_of column c.indent) _ _ _ _ (block_goes hs m c q p b k)
     (record { core = refl; queue = b; above = k })
 blocks_go hs column m (i ∷ is) c q p b k =
     let g = block_goes hs m c q p b k in
@@ -147,8 +143,7 @@ blocks_go hs column m (i ∷ is) c q p b k =
 unroll_goes : (hs : List Place) (column : Option ℕ) (m : Marker) (c : Core) (q p : Queue) → Behind hs q p
     → Above (length hs) c → Goes hs (unroll column m (at c q)) (unroll column m (at c p))
 unfolding unroll
-unroll_goes hs column m c q p b k =
-    goes_if hs (in_block c) _ _ _ _
+unroll_goes hs column m c q p b k = goes_if hs (in_block c) _ _ _ _
     (blocks_go hs column m c.outer_indents (go_less_deep column c) q p b (less_above (length hs) column c k))
     (record { core = refl; queue = b; above = k })
 
@@ -171,10 +166,8 @@ marker_agrees hs kind c q p b k =
 
 end_marker_agrees : (hs : List Place) → AgreesBehind hs document.state_behind_document_end
 unfolding document.state_behind_document_end document.end_line
-end_marker_agrees hs c q p b k =
-    same_then hs (document.state_behind_marker tokens.DocumentEnd (at c q))
-    (document.state_behind_marker tokens.DocumentEnd (at c p)) _
-    (marker_agrees hs tokens.DocumentEnd c q p b k)
+end_marker_agrees hs c q p b k = same_then hs (document.state_behind_marker tokens.DocumentEnd (at c q))
+    (document.state_behind_marker tokens.DocumentEnd (at c p)) _ (marker_agrees hs tokens.DocumentEnd c q p b k)
     (λ d r s e a. line (separate d) d r s e a (effects.separate_goes 0 d.cursor d d (effects.goes_none d)))
   where
     line : (x : Result (SkipTabs × Core) Refusal) (d : Core) (r s : Queue) → Behind hs r s → Above (length hs) d
@@ -186,8 +179,7 @@ end_marker_agrees hs c q p b k =
 
 mark_agrees : (hs : List Place) → AgreesBehind hs document.state_behind_byte_order_mark
 unfolding document.state_behind_byte_order_mark
-mark_agrees hs c q p b k =
-    same_if hs (nat_lt 0 c.cursor.mark.col || not (in_block c)) _ _ _ _ refl
+mark_agrees hs c q p b k = same_if hs (nat_lt 0 c.cursor.mark.col || not (in_block c)) _ _ _ _ refl
     (same_then hs (document.end_content (at c q)) (document.end_content (at c p)) _ (content_ends hs c q p b k)
     (λ d r s e a. record { core = refl; queue = put_behind hs _ r s e; above = a }))
 
@@ -198,11 +190,8 @@ finish_goes hs m s t g =
 
 stream_agrees : (hs : List Place) → AgreesBehind hs document.state_behind_end
 unfolding document.state_behind_end document.end_at
-stream_agrees hs c q p b k =
-    same_if hs (length c.cursor.rest == 0) _ _ _ _
-    (same_if hs c.required _ _ _ _ refl
-    (let m : Marker = document.end_mark c.cursor.mark in finish_goes hs m _ _ (unroll_goes hs None m c q p b k)))
-    refl
+stream_agrees hs c q p b k = same_if hs (length c.cursor.rest == 0) _ _ _ _ (same_if hs c.required _ _ _ _ refl
+    (let m : Marker = document.end_mark c.cursor.mark in finish_goes hs m _ _ (unroll_goes hs None m c q p b k))) refl
 
 -- ## What begins at a place
 
@@ -254,8 +243,7 @@ arrive_agrees hs c q p b k =
 
 fetch_agrees : (hs : List Place) → AgreesBehind hs fetch
 unfolding fetch
-fetch_agrees hs c q p b k =
-    same_if hs c.started _ _ _ _
+fetch_agrees hs c q p b k = same_if hs c.started _ _ _ _
     (same_then hs (arrive (at c q)) (arrive (at c p)) fetch_here (arrive_agrees hs c q p b k) (here_agrees hs))
     (record { core = refl; queue = put_behind hs _ q p b; above = k })
 
@@ -273,5 +261,4 @@ unfolding fetch_within
 read_agrees hs limit c q p b k =
     same_then hs (fetch_within limit (at c q)) (fetch_within limit (at c p)) without_far_key
     (same_then hs (fetch (at c q)) (fetch (at c p)) (check_limit limit) (fetch_agrees hs c q p b k)
-    (within_agrees hs limit))
-    (settled_agrees hs)
+    (within_agrees hs limit)) (settled_agrees hs)

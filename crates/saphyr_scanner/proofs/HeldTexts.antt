@@ -29,8 +29,7 @@ text_stays old new t g h =
     let e = ap (λ r. text_at r t) (grown old new g)
     ∙ range_of_append old (drop (length old) new) t.start (t.start + t.count) (omega arith) h.0 in
     let longer = ap length (grown old new g) ∙ length-append old (drop (length old) new) in
-    let within = h.0 in
-    ((omega (arith, longer, within), subst (λ bs. ∥ IsUtf8 bs ∥₁) (sym e) h.1), e)
+    let within = h.0 in ((omega (arith, longer, within), rw e h.1), e)
 
 -- ## Places over more texts
 
@@ -50,8 +49,7 @@ places_stay old new ps g h = ((λ k d lt. (place_stays old new (get_or ps k d) g
   where
     seen : (ps : List Place) → All (HasHeldText old) ps → map (place new) ps ≡ map (place old) ps
     seen [] h = refl
-    seen (p ∷ ps) h = λ i.
-        (place_stays old new p g (All-head (HasHeldText old) p ps h)).1 i
+    seen (p ∷ ps) h = λ i. (place_stays old new p g (All-head (HasHeldText old) p ps h)).1 i
         ∷ seen ps (All-tail (HasHeldText old) p ps h) i
 
 map_push : (bytes : List ℕ) (ps : List Place) (p : Place)
@@ -60,10 +58,9 @@ map_push bytes [] p = refl
 map_push bytes (q ∷ ps) p = ap (λ qs. place bytes q ∷ qs) (map_push bytes ps p)
 
 -- after the places is that of a token, whose text comes after theirs
-pub place_put : (old new : List ℕ) (ps : List Place) (p : Place) (t : Piece)
-    → GrowsBehind old new → All (HasHeldText old) ps → IsBarePlaceOf new t p
-    → All (HasHeldText new) (ps ++ p ∷ [])
-    × (map (place new) (ps ++ p ∷ []) ≡ map (place old) ps ++ bare_place t ∷ [])
+pub place_put : (old new : List ℕ) (ps : List Place) (p : Place) (t : Piece) → GrowsBehind old new
+    → All (HasHeldText old) ps → IsBarePlaceOf new t p
+    → All (HasHeldText new) (ps ++ p ∷ []) × (map (place new) (ps ++ p ∷ []) ≡ map (place old) ps ++ bare_place t ∷ [])
 place_put old new ps p t g h is =
     let stay = places_stay old new ps g h in (
       All-push (HasHeldText new) ps p stay.0 is.0,
@@ -88,16 +85,13 @@ no_places old new (p ∷ ps) h = absurd (omega (arith, h))
 
 pub first_place : (bytes : List ℕ) (ps : List Place) (p : Place) → 0 < length ps → p ≡ slice_index_or ps 0 p
     → map (place bytes) ps ≡ place bytes p ∷ map (place bytes) (drop 1 ps)
-first_place bytes [] p lt e = absurd (omega (arith, lt))
-first_place bytes (q ∷ ps) p lt e = ap (λ r. place bytes r ∷ map (place bytes) ps) (sym e)
+first_place bytes ps p lt e = grind arith
 
 pub take_of_none : (bytes : List ℕ) (ps : List Place) (n : ℕ) → false ≡ nat_lt 0 (length ps)
     → take (record { places = map (place bytes) ps; handed = n })
     ≡ (None, record { places = map (place bytes) ps; handed = n })
 take_of_none bytes [] n h = refl
-take_of_none bytes (p ∷ ps) n h =
-    let none = ltb-false 0 (length (p ∷ ps)) (sym h) in
-    absurd (omega (arith, none))
+take_of_none bytes (p ∷ ps) n h = absurd (omega (arith, ltb-false 0 (length (p ∷ ps)) (sym h)))
 
 pub texts_behind : (bytes : List ℕ) (r : Option Place) (ps qs : List Place) → ps ≡ option_to_list r ++ qs
     → All (HasHeldText bytes) ps → All (HasHeldText bytes) qs
@@ -106,7 +100,7 @@ texts_behind bytes (Some p) ps qs e h = All-rest (HasHeldText bytes) p qs ps e h
 
 pub text_of_first : (bytes : List ℕ) (p : Place) (ps qs : List Place) → ps ≡ p ∷ qs
     → All (HasHeldText bytes) ps → HasHeldText bytes p
-text_of_first bytes p ps qs e h = All-head (HasHeldText bytes) p qs (subst (All (HasHeldText bytes)) e h)
+text_of_first bytes p ps qs e h = All-head (HasHeldText bytes) p qs (rw e at h)
 
 pub take_none : (bytes : List ℕ) (ps qs : List Place) (n : ℕ) → length ps ≡ 0 → ps ≡ qs
     → take_place (record { places = map (place bytes) ps; handed = n })
@@ -128,8 +122,7 @@ places_copied bytes [] (q ∷ qs) e h = absurd e
 places_copied bytes (p ∷ ps) [] e h = absurd e
 places_copied bytes (p ∷ ps) (q ∷ qs) e h =
     let more = places_copied bytes ps qs e.1 (All-tail (HasHeldText bytes) p ps h) in (
-      All-cons (HasHeldText bytes) q qs
-          (subst (IsHeldText bytes) (sym e.0.0) (All-head (HasHeldText bytes) p ps h))
+      All-cons (HasHeldText bytes) q qs (rw e.0.0 (All-head (HasHeldText bytes) p ps h))
           more.0,
       (λ i. e.0.1 bytes i ∷ more.1 i),
     )

@@ -33,8 +33,7 @@ levels_further h (l ∷ ls) k e =
     let n = or_parts (holds h l) (any_holds h ls) e in (key_further h l.key k.0 n.0, levels_further h ls k.1 n.1)
 
 above_next : (h : ℕ) (c : Core) → Above h c → (holds h c.level || any_holds h c.outer) ≡ false → Above (suc h) c
-above_next h c k e = let n =
-    or_parts (holds h c.level) (any_holds h c.outer) e in
+above_next h c k e = let n = or_parts (holds h c.level) (any_holds h c.outer) e in
     (key_further h c.level.key k.0 n.0, levels_further h c.outer k.1 n.1)
 
 -- ## The tokens that a state still gives, where the first places were handed out
@@ -50,10 +49,7 @@ onto_none (t ∷ ts) = ap (before t) (onto_none ts)
 
 place_onto : (o : Opening) (t : Piece) (ts : List Piece) (r : Remaining)
     → before_place o t (onto ts r) ≡ onto (place_pieces o t ++ ts) r
-place_onto opening.Nothing t ts r = refl
-place_onto opening.Key t ts r = refl
-place_onto opening.BlockMappingAndKey t ts r = refl
-place_onto opening.FlowMappingAndKey t ts r = refl
+place_onto o t ts r = grind arith
 
 -- whatever the queue has is handed out
 abbrev pub Free : Core → Type 0
@@ -66,12 +62,10 @@ pub free_block : (c : Core) → c.level.key ≡ None → c.outer ≡ [] → Free
 free_block c k o n = rw (k, o) (never c.ended)
   where
     never : (b : Bool) → (not b && false) ≡ false
-    never true = refl
-    never false = refl
+    never b = grind arith
 
 needs : (over b : Bool) → over ≡ false → (not over && b) ≡ b
-needs true b h = absurd (true≢false h)
-needs false b h = refl
+needs over b h = grind arith
 
 held_back : (go : State → Remaining) (c : Core) (p : Place) (ps : List Place) (n : ℕ) → c.ended ≡ false
     → is_held (holding c (p ∷ ps) n) ≡ true → hand_out (p ∷ ps) go (holding c (p ∷ ps) n) ≡ go (holding c (p ∷ ps) n)
@@ -82,8 +76,7 @@ handed_next : (go : State → Remaining) (c : Core) (p : Place) (ps : List Place
     → hand_out ps go (holding c ps (n + 1)) ≡ onto ts r
     → hand_out (p ∷ ps) go (holding c (p ∷ ps) n) ≡ onto (place_pieces p.opening p.piece ++ ts) r
 handed_next go c p ps n h ts r e =
-    cond-false (needs_token (holding c (p ∷ ps) n)) _ _ h ∙ ap (before_place p.opening p.piece) e
-    ∙ place_onto p.opening p.piece ts r
+    cc (cond-false (needs_token (holding c (p ∷ ps) n)) _ _ h, place_onto p.opening p.piece ts r)
 
 all_out : Readers → (limit n : ℕ) (c : Core) → Free c → size c < suc n → (ps : List Place) (k : ℕ)
     → hand_out ps (behind n limit) (holding c ps k) ≡ onto (flat ps) (rest limit (holding c [] (k + length ps)))
@@ -91,9 +84,8 @@ all_out laws limit n c free h [] k =
     let e : k ≡ k + 0 = omega arith in
     enough laws limit (suc n) (suc (size c)) (holding c [] k) h (omega arith) ∙ ap (λ i. rest limit (holding c [] i)) e
 all_out laws limit n c free h (p ∷ ps) k =
-    let e : (k + 1) + length ps ≡ k + suc (length ps) = omega arith in
     handed_next (behind n limit) c p ps k (free k) (flat ps) _ (all_out laws limit n c free h ps (k + 1))
-    ∙ ap (λ i. onto (flat (p ∷ ps)) (rest limit (holding c [] i))) e
+    ∙ ap (λ i. onto (flat (p ∷ ps)) (rest limit (holding c [] i))) (omega arith)
 
 -- the tokens that come after a state, whose places were all handed out
 abbrev others : ℕ → State → Remaining
@@ -122,9 +114,8 @@ ReadsRest limit d hs t = (left : List Place) × (d.queue.places ≡ hs ++ left)
 
 reads : Readers → (limit : ℕ) (d s u : State) (hs : List Place) (t : State) → t.core.ended ≡ false → read limit s ≡ Ok u
     → Hypothesis limit d u → Goes hs s t → ReadsRest limit d hs t
-reads laws limit d s u hs t live e ih g =
-    by (read limit t) refl (subst (λ r. Same hs r (read limit t)) e
-    (agreed hs (read limit) s t (read_agrees hs limit) g))
+reads laws limit d s u hs t live e ih g = by (read limit t) refl
+    (rw e at (agreed hs (read limit) s t (read_agrees hs limit) g))
   where
     by : (r : Result State Refusal) → read limit t ≡ r → Same hs (Ok u) r → ReadsRest limit d hs t
     by (Err f) q h = absurd h
@@ -143,8 +134,6 @@ next_goes : (s : State) (p : Place) (ps hs : List Place) (n : ℕ) → Goes hs s
 next_goes s p ps hs n g h =
     let len : length (hs ++ p ∷ []) ≡ suc (length hs) = omega (arith, length-append hs (p ∷ [])) in
     let handed = g.queue.handed in
-    let no_key = above_next (length hs) s.core g.above
-    (subst (λ m. (holds m s.core.level || any_holds m s.core.outer) ≡ false) handed h) in
     record {
       core = refl;
       queue = record {
@@ -152,7 +141,7 @@ next_goes s p ps hs n g h =
         none = g.queue.none;
         handed = omega (arith, handed, len);
       };
-      above = subst (λ m. Above m s.core) (sym len) no_key;
+      above = rw len (above_next (length hs) s.core g.above (rw handed at h));
     }
 
 next_gives : (limit : ℕ) (d : State) (c : Core) (p : Place) (ps hs : List Place) (n : ℕ)
@@ -171,8 +160,7 @@ hands : Readers → (limit : ℕ) (d s u : State) → s.core.ended ≡ false →
 hands laws limit d s u live e ih [] hs n g =
     let r = reads laws limit d s u hs (holding s.core [] n) live e ih g in
     record { left = r.0; places = r.1; tokens = r.2 }
-hands laws limit d s u live e ih (p ∷ ps) hs n g =
-    by (is_held (holding s.core (p ∷ ps) n)) refl
+hands laws limit d s u live e ih (p ∷ ps) hs n g = by (is_held (holding s.core (p ∷ ps) n)) refl
     (λ later. hands laws limit d s u live e ih ps (hs ++ p ∷ []) (n + 1) later)
   where
     by : (b : Bool) → is_held (holding s.core (p ∷ ps) n) ≡ b
@@ -199,15 +187,13 @@ ended_gives laws limit d free hs ws k b =
 
 -- the same where the core is told to be that of the other state
 of_core : (limit : ℕ) (d s : State) (hs : List Place) (t : State) → Goes hs s t
-    → GivesRest limit d hs (at s.core t.queue)
-    → GivesRest limit d hs t
-of_core limit d s hs t g w = subst (λ (c : Core). GivesRest limit d hs (at c t.queue)) (sym g.core) w
+    → GivesRest limit d hs (at s.core t.queue) → GivesRest limit d hs t
+of_core limit d s hs t g w = rw g.core w
 
 lazy : {limit : ℕ} {d s : State} → Readers → Free d.core → LeadsTo limit d s → Hypothesis limit d s
 lazy {limit} {d} laws free stay =
     λ hs t g. of_core limit d d hs t g (ended_gives laws limit d free hs t.queue.places t.queue.handed g.queue)
-lazy {limit} {d} laws free (onward s t u live e f l) = λ hs v g.
-    of_core limit d s hs v g
+lazy {limit} {d} laws free (onward s t u live e f l) = λ hs v g. of_core limit d s hs v g
     (hands laws limit d s u live (read_is limit s t u e f) (lazy laws free l) v.queue.places hs v.queue.handed
     (record { core = refl; queue = g.queue; above = g.above }))
 
@@ -224,6 +210,5 @@ begins_so laws limit text d l free =
 -- Where such a run reaches the end, they are all the tokens of the text.
 pub handed_out : Readers → (limit : ℕ) (text : List ℕ) (d : State) → LeadsTo limit d (start text) → d.core.ended ≡ true
     → remaining limit (start text) ≡ record { pieces = flat d.queue.places; refusal = None }
-handed_out laws limit text d l over =
-    begins_so laws limit text d l (free_end d.core over)
+handed_out laws limit text d l over = begins_so laws limit text d l (free_end d.core over)
     ∙ ap (onto (flat d.queue.places)) (cond-true d.core.ended _ _ over) ∙ onto_none (flat d.queue.places)

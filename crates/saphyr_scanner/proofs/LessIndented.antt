@@ -15,17 +15,14 @@ use Rattle.saphyr_scalar.specs.Spelling.Quoted.{IsText, closed, itself, broken, 
 line_left : (m n : ℕ) (line : List ℕ) → m ≤ n → IsTrue (is_quoted_line n line) → IsTrue (is_quoted_line m line)
 line_left m n line le h =
     either (nat_le n (indentation line)) (is_break (behind_indentation line)) (is_quoted_line m line ≡ true) h
-    (λ a. let e = leb-true n (indentation line) a in
-    or_left (nat_le m (indentation line)) (is_break (behind_indentation line))
-    (le-leb m (indentation line) (omega (arith, e, le))))
+    (λ a. or_left (nat_le m (indentation line)) (is_break (behind_indentation line))
+    (le-leb m (indentation line) (omega (arith, leb-true n (indentation line) a, le))))
     (λ a. or_right (nat_le m (indentation line)) (is_break (behind_indentation line)) a)
 
 line_left_or : (m n : ℕ) (line : List ℕ) (b : Bool) → m ≤ n → IsTrue (is_quoted_line n line || b)
     → IsTrue (is_quoted_line m line || b)
-line_left_or m n line b le h =
-    either (is_quoted_line n line) b ((is_quoted_line m line || b) ≡ true) h
-    (λ a. or_left (is_quoted_line m line) b (line_left m n line le a))
-    (λ a. or_right (is_quoted_line m line) b a)
+line_left_or m n line b le h = either (is_quoted_line n line) b ((is_quoted_line m line || b) ≡ true) h
+    (λ a. or_left (is_quoted_line m line) b (line_left m n line le a)) (λ a. or_right (is_quoted_line m line) b a)
 
 pub less_indented : (m n : ℕ) → m ≤ n → (q : Quote) (t : List ℕ) (items : List Item) (x : List ℕ)
     (is : IsText q t items x) → HasIndentedLines n q t items x is → HasIndentedLines m q t items x is

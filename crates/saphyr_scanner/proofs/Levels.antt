@@ -25,15 +25,11 @@ top_on before after l e = rw (e, reverse-append) refl
 -- ## Whether one of them holds a place
 
 or_comm : (a b : Bool) → (a || b) ≡ (b || a)
-or_comm true true = refl
-or_comm true false = refl
-or_comm false true = refl
-or_comm false false = refl
+or_comm a b = grind arith
 
 any_append : (p : ℕ) (xs ys : List Level) → any_holds p (xs ++ ys) ≡ (any_holds p xs || any_holds p ys)
 any_append p [] ys = refl
-any_append p (x ∷ xs) ys =
-    ap (λ b. holds p x || b) (any_append p xs ys) ∙ sym (or_assoc (holds p x) (any_holds p xs) (any_holds p ys))
+any_append p (x ∷ xs) ys = cc (any_append p xs ys, or_assoc (holds p x) (any_holds p xs) (any_holds p ys))
 
 any_reverse : (p : ℕ) (xs : List declared.Level) → any_holds p (map level (reverse xs)) ≡ any_holds p (map level xs)
 any_reverse p [] = refl
@@ -59,12 +55,10 @@ one_holds p i xs x b h item told others = sym (from_any b (any_reverse p xs ∙ 
 
     from_any : (a : Bool) → any_holds p (map level (reverse xs)) ≡ true
         → (a || any_holds p (map level (reverse xs))) ≡ true
-    from_any true e = refl
-    from_any false e = e
+    from_any a e = grind arith
 
 drop_nothing : {X : Type 0} → (n : ℕ) → drop {A = X} n [] ≡ []
-drop_nothing zero = refl
-drop_nothing (suc n) = refl
+drop_nothing n = grind arith
 
 past_end : {X : Type 0} → (i : ℕ) (xs : List X) → length xs ≤ i → drop i xs ≡ []
 past_end i [] h = drop_nothing i

@@ -25,12 +25,9 @@ use Rattle.saphyr_input.proofs.Basics.Lists.{run_ends}
 
 blanks_apart : (m : Marker) (blanks t : List ℕ) (n : Marker) (u : List ℕ) → AreIn is_blank blanks
     → IsPassedOver (along m (length blanks)) t n u → IsPassedOver m (blanks ++ t) n u
-blanks_apart m [] t n u are p = subst (λ (k : Marker). IsPassedOver k t n u) (along_none m) p
-blanks_apart m (c ∷ cs) t n u are p =
-    taken.blank m c (cs ++ t) n u are.0
-    (blanks_apart (along m 1) cs t n u are.1
-    (subst (λ (k : Marker). IsPassedOver k t n u) (sym (along_more m 1 (length cs) (length (c ∷ cs)) (omega arith)))
-    p))
+blanks_apart m [] t n u are p = rw (along_none m) at p
+blanks_apart m (c ∷ cs) t n u are p = taken.blank m c (cs ++ t) n u are.0 (blanks_apart (along m 1) cs t n u are.1
+    (rw (along_more m 1 (length cs) (length (c ∷ cs)) (omega arith)) p))
 
 -- blanks and a comment, which ends where it has to
 pub record Tail (m : Marker) (t : List ℕ) (n : ℕ) : Type 0 where
@@ -50,7 +47,7 @@ empty_tail m t = record {
   count = refl;
   line = ([], [], tt, inl refl, refl);
   rest = refl;
-  apart = subst (λ (k : Marker). IsPassedOver m t k t) (sym (along_none m)) (taken.nothing m t);
+  apart = rw (along_none m) (taken.nothing m t);
 }
 
 comment_apart : (m : Marker) (words t : List ℕ) → AreIn is_yaml_non_break words
@@ -95,11 +92,8 @@ tail_apart m tail x is ends =
 
 some_blanks : (xs : List ℕ) → (prefix_len is_blank xs == 0) ≡ false → take (prefix_len is_blank xs) xs ≢ []
 some_blanks xs e none =
-    let l : length (take (prefix_len is_blank xs) xs) ≡ 0 = ap length none in
-    let k = length-prefix_len is_blank xs in
-    let z : prefix_len is_blank xs ≡ 0 = sym k ∙ l in
-    let P : ℕ → Type 0 = λ n. (n == 0) ≡ false in
-    absurd (let f = subst P z e in cc)
+    let z : prefix_len is_blank xs ≡ 0 = sym (length-prefix_len is_blank xs) ∙ (ap length none) in
+    let P : ℕ → Type 0 = λ n. (n == 0) ≡ false in absurd (let f = subst P z e in cc)
 
 tail_from : (m : Marker) (xs : List ℕ) (n : ℕ)
     → let b = prefix_len is_blank xs in let zs =
@@ -109,8 +103,7 @@ tail_from : (m : Marker) (xs : List ℕ) (n : ℕ)
 tail_from m xs n comment ends l =
     let b = prefix_len is_blank xs in
     let zs = drop b xs in
-    let whole : take b xs ++ (take n zs ++ drop n zs) ≡ xs = ap (λ r. take b xs ++ r) (take-append-drop n zs)
-    ∙ take-append-drop b xs in
+    let whole : take b xs ++ (take n zs ++ drop n zs) ≡ xs = cc (take-append-drop n zs, take-append-drop b xs) in
     let k = length-prefix_len is_blank xs in
     let a = length-append (take b xs) (take n zs) in
     let count : length (take b xs ++ take n zs) ≡ b + n = omega (arith, k, l, a) in
@@ -122,8 +115,7 @@ tail_from m xs n comment ends l =
       count = count;
       line = (take b xs, take n zs, run_is_in is_blank xs, comment, refl);
       rest = drop_more n b (b + n) xs refl;
-      apart = subst (λ i. IsPassedOver m xs (along m i) (drop n zs)) count
-          (subst (λ t. IsPassedOver m t (along m (length (take b xs ++ take n zs))) (drop n zs)) whole p);
+      apart = rw count at (rw whole at p);
     }
 
 with_comment : (m : Marker) (xs : List ℕ) → (prefix_len is_blank xs == 0) ≡ false
@@ -132,13 +124,11 @@ with_comment m xs e =
     let b = prefix_len is_blank xs in
     let zs = drop b xs in
     let some = some_blanks xs e in
-    by_test (slice_index zs 0 == 35) (prefix_len is_yaml_non_break zs) 0 (λ n. Tail m xs (b + n))
-    (λ s.
+    by_test (slice_index zs 0 == 35) (prefix_len is_yaml_non_break zs) 0 (λ n. Tail m xs (b + n)) (λ s.
     let ys = drop 1 zs in
     let first : zs ≡ 35 ∷ ys = cut_at 35 zs refl (eqb-true (slice_index zs 0) 35 s) in
     let words = take (prefix_len is_yaml_non_break ys) ys in
-    let whole : take (prefix_len is_yaml_non_break zs) zs ≡ 35 ∷ words =
-    ap (λ u. take (prefix_len is_yaml_non_break u) u) first ∙ one_more ys in
+    let whole : take (prefix_len is_yaml_non_break zs) zs ≡ 35 ∷ words = cc (one_more ys) in
     tail_from m xs (prefix_len is_yaml_non_break zs) (inr (words, some, run_is_in is_yaml_non_break ys, whole))
     (λ _. run_ends is_yaml_non_break zs refl) (length-prefix_len is_yaml_non_break zs))
     (λ _. tail_from m xs 0 (inl refl) (λ w. absurd (let z : [] ≡ 35 ∷ w.0 = w.3 in cc)) refl)
@@ -160,7 +150,7 @@ pub record OnLine (s t : Cursor) : Type 0 where
 tail_on_line : (s : Cursor) (n : ℕ) → Tail s.mark s.rest n → OnLine s (pass_blanks n s)
 tail_on_line s n t = record {
   on_line = (t.tail, t.behind, t.line, t.is, ap (λ i. along s.mark i) (sym t.count));
-  apart = subst (λ u. IsPassedOver s.mark s.rest (along s.mark n) u) t.rest t.apart;
+  apart = rw t.rest at t.apart;
 }
 
 pub separation_passes : (s : Cursor) → Given (λ (x : SkipTabs × Cursor). OnLine s x.1) (separation Yes s)

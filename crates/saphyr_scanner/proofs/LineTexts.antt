@@ -11,11 +11,9 @@ name_no_break name is = no_breaks_in is_anchor_char refl refl name is.1
 
 pub tag_no_break : (t handle suffix : List ℕ) → IsTagText t handle suffix → NoBreaks t
 tag_no_break t handle suffix (inl h) = subst NoBreaks (sym h.0) (refl, tt)
-tag_no_break t handle suffix (inr (inl h)) =
-    subst NoBreaks (sym h.3)
+tag_no_break t handle suffix (inr (inl h)) = subst NoBreaks (sym h.3)
     (refl, (refl, no_breaks_both h.0 (codes ">") (decoded_no_break is_uri_char refl refl suffix h.0 h.1) (refl, tt)))
-tag_no_break t handle suffix (inr (inr h)) =
-    subst NoBreaks (sym h.4)
+tag_no_break t handle suffix (inr (inr h)) = subst NoBreaks (sym h.4)
     (no_breaks_both handle h.0 (handle_no_break handle h.1) (decoded_no_break is_tag_char refl refl suffix h.0 h.3))
 
 pub tail_no_break : (t : List ℕ) → IsLineTail t → NoBreaks t

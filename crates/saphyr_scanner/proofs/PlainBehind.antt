@@ -31,36 +31,29 @@ given_then P Q (Err e) f h go = tt
 line_stops : (start : Marker) (tabbed : Bool) (feeds : List ℕ) (s : Cursor) → StopsUnbroken s
     → Given StopsGap (reached_gap start tabbed feeds s)
 unfolding content_behind_tab
-line_stops start tabbed feeds s h =
-    by_test (tabbed && is_bom (slice_index s.rest 0)) _ _
+line_stops start tabbed feeds s h = by_test (tabbed && is_bom (slice_index s.rest 0)) _ _
     (λ r. Given StopsGap (r >>= λ t. Ok (record { text = feeds; tabbed = tabbed; behind = t }))) (λ _. tt)
     (λ _. by_test (tabbed && not ((slice_index s.rest 0 == 35) || is_z (slice_index s.rest 0))) _ _
-    (λ r. Given StopsGap (r >>= λ t. Ok (record { text = feeds; tabbed = tabbed; behind = t })))
-    (λ _. tt) (λ _. h))
+    (λ r. Given StopsGap (r >>= λ t. Ok (record { text = feeds; tabbed = tabbed; behind = t }))) (λ _. tt) (λ _. h))
 
 lines_stop : (indent : ℕ) (start : Marker) (tabbed : Bool) (feeds : List ℕ) (m : Marker) (xs : List ℕ)
     → Given StopsGap (lines indent start tabbed feeds m xs)
 unfolding lines
 lines_stop indent start tabbed feeds m [] = line_stops start tabbed feeds (line_front m []) refl
-lines_stop indent start tabbed feeds m (c ∷ cs) =
-    by_test (is_blank_or_break c) _ _ (Given StopsGap)
+lines_stop indent start tabbed feeds m (c ∷ cs) = by_test (is_blank_or_break c) _ _ (Given StopsGap)
     (λ _. lines_stop indent start (is_blank c && (tabbed || ((c == tab) && nat_lt m.col indent)))
-    (cond (ends_line c cs) (feeds ++ 10 ∷ []) feeds)
-    (cond (ends_line c cs) (next_line m 1) (along m 1)) cs)
+    (cond (ends_line c cs) (feeds ++ 10 ∷ []) feeds) (cond (ends_line c cs) (next_line m 1) (along m 1)) cs)
     (λ e. line_stops start tabbed feeds (line_front m (c ∷ cs)) (or_false_right (is_blank c) (is_break c) e))
 
 gap_stops : (indent : ℕ) (start : Marker) (blanks : List ℕ) (s : Cursor)
     → Given StopsGap (gap_from indent start blanks s)
 unfolding gap_from
-gap_stops indent start blanks s =
-    by_test (is_break (slice_index s.rest 0)) _ _ (Given StopsGap)
+gap_stops indent start blanks s = by_test (is_break (slice_index s.rest 0)) _ _ (Given StopsGap)
     (λ _. let t = pass_break s in
     given_then StopsGap StopsGap (lines indent start false [] t.mark t.rest) _
-    (lines_stop indent start false [] t.mark t.rest) (λ g h. h))
-    (λ e. e)
+    (lines_stop indent start false [] t.mark t.rest) (λ g h. h)) (λ e. e)
 
-ended_ends : (in_flow : Bool) (end : Marker) (g : PlainGap) → StopsGap g
-    → Given EndsUnbroken (scalar_end in_flow end g)
+ended_ends : (in_flow : Bool) (end : Marker) (g : PlainGap) → StopsGap g → Given EndsUnbroken (scalar_end in_flow end g)
 unfolding comment_of
 ended_ends in_flow end g h = (
   by_test (not in_flow && (slice_index g.behind.rest 0 == 35) && (g.tabbed || not g.behind.blank_so_far))
@@ -87,16 +80,14 @@ mutual
       (any (next_word_starts in_flow indent g.behind))
       (λ b _. by_test b.0 _ _ (Given EndsUnbroken)
       (λ _. text_ends _ (word in_flow indent start (along g.behind.mark 1) cs)
-      (word_ends in_flow indent start (along g.behind.mark 1) cs))
-      (λ _. ended_ends in_flow end g h))
+      (word_ends in_flow indent start (along g.behind.mark 1) cs)) (λ _. ended_ends in_flow end g h))
   between_ends in_flow indent start end g (suc left) (c ∷ cs) h = between_ends in_flow indent start end g left cs h
 
   word_ends : (in_flow : Bool) (indent : ℕ) (start m : Marker) (xs : List ℕ)
       → Given EndsUnbroken (word in_flow indent start m xs)
   word_ends in_flow indent start m [] =
       ended_ends in_flow m (record { text = []; tabbed = false; behind = mid_line m [] }) refl
-  word_ends in_flow indent start m (c ∷ cs) =
-      by_test (is_in_word in_flow (c ∷ cs)) _ _ (Given EndsUnbroken)
+  word_ends in_flow indent start m (c ∷ cs) = by_test (is_in_word in_flow (c ∷ cs)) _ _ (Given EndsUnbroken)
       (λ _. text_ends _ (word in_flow indent start (along m 1) cs) (word_ends in_flow indent start (along m 1) cs))
       (λ _. given_then StopsGap EndsUnbroken (gap indent start (mid_line m (c ∷ cs))) _ (gap_stops indent start _ _)
       (λ g h. by_test (gap_len (c ∷ cs) g == 0) _ _ (Given EndsUnbroken) (λ _. ended_ends in_flow m g h)

@@ -21,9 +21,7 @@ place_with_front o t = record { opening = o; piece = t }
 
 pub flat_append : (ps qs : List Place) → flat (ps ++ qs) ≡ flat ps ++ flat qs
 flat_append [] qs = refl
-flat_append (p ∷ ps) qs =
-    ap (λ r. place_pieces p.opening p.piece ++ r) (flat_append ps qs)
-    ∙ sym (append_assoc (place_pieces p.opening p.piece) (flat ps) (flat qs))
+flat_append (p ∷ ps) qs = cc (flat_append ps qs, append_assoc (place_pieces p.opening p.piece) (flat ps) (flat qs))
 
 -- the queue of these places, of which none was handed out
 abbrev pub queue_of : List Place → Queue
@@ -38,8 +36,7 @@ abbrev pub place_kinds : List Place → List Kind
 place_kinds ps = map (λ (t : Piece). t.kind) (flat ps)
 
 pub place_kinds_append : (a b : List Place) → place_kinds (a ++ b) ≡ place_kinds a ++ place_kinds b
-place_kinds_append a b = ap (map (λ (t : Piece). t.kind)) (flat_append a b)
-    ∙ map-append (λ (t : Piece). t.kind) (flat a) (flat b)
+place_kinds_append a b = cc (flat_append a b, map-append (λ (t : Piece). t.kind) (flat a) (flat b))
 
 -- the place before the others that come after it is opened
 pub with_opening_seam : (o : Opening) (ps : List Place) (p : Place) (qs : List Place)

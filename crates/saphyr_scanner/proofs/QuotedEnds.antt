@@ -36,8 +36,7 @@ is_not_skipped : (x : ℕ) → is_entry_end x ≡ true → is_skipped tabs.Yes x
 is_not_skipped x e = grind (arith, nat_tests)
 
 one_of_more : (z a b d e : Bool) → (a || b || d || e) ≡ true → (z || a || b || d || e) ≡ true
-one_of_more true a b d e h = refl
-one_of_more false a b d e h = h
+one_of_more z a b d e h = grind arith
 
 goes_on : (start : Marker) (c : Core) → in_block c ≡ false → is_entry_end (slice_index c.cursor.rest 0) ≡ true
     → goes_on_behind_quotes start c ≡ true
@@ -57,7 +56,6 @@ quoted_at_indicator start style text c flow sign =
     let x = slice_index c.cursor.rest 0 in
     let apart = nothing_separates tabs.Yes c.cursor c.cursor x refl refl (is_not_skipped x sign) (is_no_sign x sign)
     (is_no_bom x sign) in
-    let on = goes_on start c flow sign in
     let gap = nothing_passed (least_column c) c.cursor c.cursor x refl refl (is_no_blank x sign) (is_no_break x sign)
     (is_no_sign x sign) in
-    rw (apart, on, gap) refl
+    rw (apart, goes_on start c flow sign, gap) refl

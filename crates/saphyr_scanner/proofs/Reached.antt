@@ -36,18 +36,14 @@ reached_counted _ _ _ _ (taken.character m c t n u e p) =
 reached_counted _ _ _ _ (taken.mark m t n u e p) = let h = reached_counted (past_mark m) t n u p in omega (arith, h)
 reached_counted _ _ _ _ (taken.line_break m t n u e p) =
     let h = reached_counted (next_line m (break_len t)) (drop (break_len t) t) n u p in
-    let b = break_later m t e in
-    h ∙ b.counted
+    let b = break_later m t e in h ∙ b.counted
 
 -- characters of a line
 pub words_reached : (m : Marker) (ws t : List ℕ) (n : Marker) (u : List ℕ) → NoBreaks ws
     → IsReached (along m (length ws)) t n u → IsReached m (ws ++ t) n u
-words_reached m [] t n u e p = subst (λ (k : Marker). IsReached k t n u) (along_none m) p
-words_reached m (c ∷ cs) t n u e p =
-    taken.character m c (cs ++ t) n u e.0
-    (words_reached (along m 1) cs t n u e.1
-    (subst (λ (k : Marker). IsReached k t n u) (sym (along_more m 1 (length cs) (length (c ∷ cs)) (omega arith)))
-    p))
+words_reached m [] t n u e p = rw (along_none m) at p
+words_reached m (c ∷ cs) t n u e p = taken.character m c (cs ++ t) n u e.0 (words_reached (along m 1) cs t n u e.1
+    (rw (along_more m 1 (length cs) (length (c ∷ cs)) (omega arith)) p))
 
 pub along_reached : (m : Marker) (ws t : List ℕ) → NoBreaks ws → IsReached m (ws ++ t) (along m (length ws)) t
 along_reached m ws t e = words_reached m ws t (along m (length ws)) t e (taken.nothing (along m (length ws)) t)
@@ -81,20 +77,17 @@ pub single : (m : Marker) (c : ℕ) (t : List ℕ) (n : Marker) (u : List ℕ) �
     → ((c == carriage_return) && (slice_index t 0 == line_feed)) ≡ false → IsReached (next_line m 1) t n u
     → IsReached m (c ∷ t) n u
 single m c t n u b e p =
-    let one : break_len (c ∷ t) ≡ 1 = rw e refl in
-    taken.line_break m (c ∷ t) n u b (subst (λ l. IsReached (next_line m l) (drop l (c ∷ t)) n u) (sym one) p)
+    let one : break_len (c ∷ t) ≡ 1 = rw e refl in taken.line_break m (c ∷ t) n u b (rw one p)
 
 pub double : (m : Marker) (t : List ℕ) (n : Marker) (u : List ℕ) → IsReached (next_line (along m 1) 1) t n u
     → IsReached m (carriage_return ∷ line_feed ∷ t) n u
 double m t n u p =
     let i : m.index + 1 + 1 ≡ m.index + 2 = omega arith in
     let same : next_line (along m 1) 1 ≡ next_line m 2 = rw i refl in
-    taken.line_break m (13 ∷ 10 ∷ t) n u refl (subst (λ (k : Marker). IsReached k t n u) same p)
+    taken.line_break m (13 ∷ 10 ∷ t) n u refl (rw same at p)
 
 no_end : (a b : Bool) → (a && not (b && false)) ≡ false → a ≡ false
-no_end false b e = refl
-no_end true true e = absurd (cc)
-no_end true false e = absurd (cc)
+no_end a b e = grind arith
 
 not_both : (a b : Bool) → (a && not b) ≡ false → (a ≡ false) ⊎ (b ≡ true)
 not_both false b e = inl refl
@@ -102,24 +95,19 @@ not_both true true e = inr refl
 not_both true false e = absurd (cc)
 
 never : (a b c : Bool) → (b || c) ≡ false → (a && b) ≡ false
-never true false c e = refl
-never true true c e = absurd (cc)
-never false b c e = refl
+never a b c e = grind arith
 
 pub piece_reached : (m : Marker) (cs u : List ℕ) → Uncut cs u → IsReached m (cs ++ u) (end_of_text m cs) u
 piece_reached m [] u h = taken.nothing m u
 piece_reached m (c ∷ []) u h =
-    by_test (ends_line c []) (next_line m 1) (along m 1) (λ (k : Marker). IsReached m (c ∷ u) k u)
-    (λ e.
+    by_test (ends_line c []) (next_line m 1) (along m 1) (λ (k : Marker). IsReached m (c ∷ u) k u) (λ e.
     let b : is_break c ≡ true = (and_parts (is_break c) _ e).0 in
     let whole : ((c == 13) && (slice_index u 0 == 10)) ≡ false =
     elim h [ inl f ↦ absurd (cc) | inr f ↦ never (c == 13) (slice_index u 0 == 10) (slice_index u 0 == 13) f ] in
     single m c u (next_line m 1) u b whole (taken.nothing (next_line m 1) u))
     (λ e. taken.character m c u (along m 1) u (no_end (is_break c) (c == 13) e) (taken.nothing (along m 1) u))
-piece_reached m (c ∷ d ∷ cs) u h =
-    by_test (ends_line c (d ∷ cs)) (next_line m 1) (along m 1)
-    (λ (k : Marker). IsReached m (c ∷ d ∷ (cs ++ u)) (end_of_text k (d ∷ cs)) u)
-    (λ e.
+piece_reached m (c ∷ d ∷ cs) u h = by_test (ends_line c (d ∷ cs)) (next_line m 1) (along m 1)
+    (λ (k : Marker). IsReached m (c ∷ d ∷ (cs ++ u)) (end_of_text k (d ∷ cs)) u) (λ e.
     let w = and_parts (is_break c) _ e in
     single m c (d ∷ (cs ++ u)) (end_of_text (next_line m 1) (d ∷ cs)) u w.0 (not-true ((c == 13) && (d == 10)) w.1)
     (piece_reached (next_line m 1) (d ∷ cs) u h))

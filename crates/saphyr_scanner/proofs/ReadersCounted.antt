@@ -51,15 +51,13 @@ plain_counted f s t text end r =
 
 -- what comes after a text of the line
 ahead_behind_text : (s t : Cursor) (text : List ℕ) → s.rest ≡ text ++ t.rest
-    → t ≡ mid_line (along s.mark (length text)) t.rest
-    → Ahead s t
+    → t ≡ mid_line (along s.mark (length text)) t.rest → Ahead s t
 ahead_behind_text s t text is e = text_passed s t text is (ap (λ (c : Cursor). c.mark.index) e)
 
 name_counted : (s t : Cursor) (indicator : ℕ) (name : List ℕ) → s.rest ≡ indicator ∷ (name ++ t.rest)
     → t ≡ mid_line (along s.mark (1 + length name)) t.rest → Ahead s t
 name_counted s t indicator name is e =
-    let i : t.mark.index ≡ s.mark.index + (1 + length name) = ap (λ (c : Cursor). c.mark.index) e in
-    text_passed s t (indicator ∷ name) is (omega (arith, i))
+    text_passed s t (indicator ∷ name) is (omega (arith, ap (λ (c : Cursor). c.mark.index) e))
 
 -- ## Directives
 
@@ -73,8 +71,7 @@ directive_counted s u end t tail x is ends e =
     let b = length-append tail x in
     let first : Ahead s v = record { later = omega arith; counted = omega (arith, l, a, b) } in
     let i : end.index ≡ s.mark.index + length t = ap (λ (m : Marker). m.index) ends in
-    let P : Cursor → Type 0 = λ w. Ahead v w in
-    let last : Ahead v u = subst P (sym e) (pass_break_counted v) in
+    let last : Ahead v u = rw e (pass_break_counted v) in
     let later : s.mark.index + (length t + length tail) ≤ u.mark.index = last.later in
     record { ahead = ahead_ahead s v u first last; begins = omega (arith, i); ends = omega (arith, i, later) }
 

@@ -38,12 +38,10 @@ kept_key c near = rw near refl
 
 kept_deeper : (deeper : Bool) (i k : ℕ) → nat_lt k (if deeper then i else i - 1) ≡ false
     → (deeper && nat_le i k) ≡ deeper
-kept_deeper true i k e = grind (arith, nat_tests)
-kept_deeper false i k e = refl
+kept_deeper deeper i k e = grind arith
 
 not_right : (deeper : Bool) (i k : ℕ) → nat_lt k (if deeper then i else i - 1) ≡ false → nat_lt k (i - 1) ≡ false
-not_right true i k e = grind (arith, nat_tests)
-not_right false i k e = e
+not_right deeper i k e = grind arith
 
 -- no block collection is right of the column
 none_unrolled : (s : State) → nat_lt s.core.cursor.mark.col (least_column s.core) ≡ false
@@ -51,8 +49,7 @@ none_unrolled : (s : State) → nat_lt s.core.cursor.mark.col (least_column s.co
 unfolding unroll
 none_unrolled s e =
     let c = s.core in let m = c.cursor.mark in
-    let deep : with_core (go_less_deep (Some m.col) c) s ≡ s =
-    ap (λ (b : Bool). with_core (record c { deeper = b }) s) (kept_deeper c.deeper c.indent m.col e) in
+    let deep = ap (λ (b : Bool). with_core (record c { deeper = b }) s) (kept_deeper c.deeper c.indent m.col e) in
     by_test (in_block c) _ s (λ (t : State). t ≡ s)
     (λ _. rw deep (none_ends (Some m.col) m c.outer_indents s (not_right c.deeper c.indent m.col e))) (λ _. refl)
 
@@ -61,12 +58,10 @@ pub arrived : (s : State) → may_begin (slice_index s.core.cursor.rest 0) ≡ t
     → nat_lt s.core.cursor.mark.col (least_column s.core) ≡ false
     → (in_block s.core && is_too_far s.core.level.key s.core.cursor.mark) ≡ false → arrive s ≡ Ok s
 unfolding arrive
-arrived s begins none right near =
-    rw (no_gap s.core begins none, kept_key s.core near, none_unrolled s right) refl
+arrived s begins none right near = rw (no_gap s.core begins none, kept_key s.core near, none_unrolled s right) refl
 
 pub neither : (a b : Bool) → b ≡ false → (a && b) ≡ false
-neither true b e = e
-neither false b e = refl
+neither a b e = grind arith
 
 pub not_over : (t : List ℕ) → is_z (slice_index t 0) ≡ false → 0 < length t
 not_over [] e = absurd (cc)
@@ -83,14 +78,10 @@ no_mark true t e =
     (none.0, no_dashes (slice_index t 0 == hyphen) (slice_index t 1 == hyphen) _ _ none.2, rw none.1 refl)
   where
     none_of : (a b c d : Bool) → (a || b || (c && d)) ≡ false → (a ≡ false) × (b ≡ false) × ((c && d) ≡ false)
-    none_of true b c d e = absurd (cc)
-    none_of false true c d e = absurd (cc)
-    none_of false false c d e = (refl, refl, e)
+    none_of a b c d e = grind arith
 
     no_dashes : (a b c d : Bool) → (a && b) ≡ false → ((a && b && c) && d) ≡ false
-    no_dashes true true c d e = absurd (cc)
-    no_dashes true false c d e = refl
-    no_dashes false b c d e = refl
+    no_dashes a b c d e = grind arith
 
 -- the next token is what the first character begins
 pub told_here : (s : State) → is_z (slice_index s.core.cursor.rest 0) ≡ false

@@ -71,12 +71,7 @@ pub none_unrolls : (col : ℕ) (m : Marker) (e : Bool) (s : Cursor) (x : Context
     (a : Bool) (ad : ℕ) (ps : List Place)
     → unroll (Some col) m (state_at e s x k ls a ad ps) ≡ state_at e s x k ls a ad ps
 unfolding unroll
-none_unrolls col m e s context.Block k ls a ad ps = rw (none_below_zero col) refl
-none_unrolls col m e s context.FlowSequence k ls a ad ps = refl
-none_unrolls col m e s context.FlowMapping k ls a ad ps = refl
-none_unrolls col m e s context.FlowPair k ls a ad ps = refl
-none_unrolls col m e s context.ExplicitFlowPair k ls a ad ps = refl
-none_unrolls col m e s context.MarkedFlowPair k ls a ad ps = refl
+none_unrolls col m e s x k ls a ad ps = grind arith
 
 -- ## Runs
 
@@ -115,8 +110,7 @@ pub fetches_stream_start : (limit : ℕ) (text : List ℕ)
     → ComesTo limit (start text) false (start_cursor text) context.Block None [] true 0 (stream_start_place ∷ [])
 unfolding fetch
 fetches_stream_start limit text = comes limit (start text) false (start_cursor text) context.Block None [] true 0
-    (stream_start_place ∷ []) refl refl
-    (omega arith)
+    (stream_start_place ∷ []) refl refl (omega arith)
 
 -- the token of the stream's end
 abbrev pub stream_end_place : Marker → Place

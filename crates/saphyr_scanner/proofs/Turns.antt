@@ -32,8 +32,7 @@ rest_at_end : (limit : ℕ) (c : Core) (n : ℕ) → needs_token (holding c [] n
 rest_at_end limit c n ready = cond-true c.ended _ _ (over c.ended ready)
   where
     over : (b : Bool) → (not b && true) ≡ false → b ≡ true
-    over true e = refl
-    over false e = absurd (cc)
+    over b e = grind arith
 
 -- the tokens of a place that is not held back come first
 place_first : (limit : ℕ) (c : Core) (p : Place) (ps : List Place) (n : ℕ) → needs_token (holding c (p ∷ ps) n) ≡ false
@@ -45,8 +44,7 @@ place_taken : (limit : ℕ) (c : Core) (o : Opening) (t : Piece) (ps : List Plac
     → needs_token (holding c (place_with_front o t ∷ ps) n) ≡ false
     → TakesToken limit (holding c (place_with_front o t ∷ ps) n) (take_token (holding c (place_with_front o t ∷ ps) n))
 place_taken limit c opening.Nothing t ps n ready = place_first limit c (place_with_front opening.Nothing t) ps n ready
-place_taken limit c opening.Key t ps n ready =
-    place_first limit c (place_with_front opening.Key t) ps n ready
+place_taken limit c opening.Key t ps n ready = place_first limit c (place_with_front opening.Key t) ps n ready
     ∙ ap (before _) (sym (place_first limit c (place_with_front opening.Nothing t) ps n ready))
 place_taken limit c opening.BlockMappingAndKey t ps n ready =
     place_first limit c (place_with_front opening.BlockMappingAndKey t) ps n ready
@@ -82,12 +80,11 @@ hands : (limit : ℕ) (t u : State) (r : Option Token) (old : Remaining) → old
 hands limit t u None old is settles taken e =
     let first : (take_token t).0 ≡ None = ap (λ x. x.0) (sym e) in
     let second : u ≡ (take_token t).1 = ap (λ x. x.1) e in
-    let gone = subst (LeavesToken limit t (take_token t).1) first taken in
+    let gone = rw first at taken in
     (is ∙ gone.0, ap (remaining limit) (second ∙ gone.1) ∙ remaining_of limit t settles ∙ gone.0)
 hands limit t u (Some x) old is settles taken e =
-    let first : (take_token t).0 ≡ Some (piece x) = ap (λ x. x.0) (sym e) in
     let second : u ≡ (take_token t).1 = ap (λ x. x.1) e in
-    let gone = subst (LeavesToken limit t (take_token t).1) first taken in
+    let gone = rw (ap (λ x. x.0) (sym e)) at taken in
     is ∙ gone ∙ ap (before (piece x))
     (sym (remaining_of limit (take_token t).1 (taken_settles t settles)) ∙ ap (remaining limit) (sym second))
 

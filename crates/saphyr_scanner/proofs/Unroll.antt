@@ -23,20 +23,17 @@ same_hands (p ∷ ps) go ho s h = by (needs_token s) refl (same_hands ps go ho (
   where
     by : (b : Bool) → needs_token s ≡ b → hand_out ps go (without_first ps s) ≡ hand_out ps ho (without_first ps s)
         → hand_out (p ∷ ps) go s ≡ hand_out (p ∷ ps) ho s
-    by true e others = rw e (h s refl)
-    by false e others = rw e (ap (before_place p.opening p.piece) others)
+    by b e others = grind arith
 
 remaining_after_so : (r : Result State Refusal) (f g : State → Remaining) → ((u : State) → r ≡ Ok u → f u ≡ g u)
     → remaining_after r f ≡ remaining_after r g
-remaining_after_so (Ok u) f g h = h u refl
-remaining_after_so (Err e) f g h = refl
+remaining_after_so r f g h = grind arith
 
 -- a token less is to be read after each
 pub enough : Readers → (limit n m : ℕ) (s : State) → size s.core < n → size s.core < m → run n limit s ≡ run m limit s
 enough laws limit zero m s a b = absurd (omega (arith, a))
 enough laws limit (suc n) zero s a b = absurd (omega (arith, b))
-enough laws limit (suc n) (suc m) s a b =
-    same_hands s.queue.places (behind n limit) (behind m limit) s
+enough laws limit (suc n) (suc m) s a b = same_hands s.queue.places (behind n limit) (behind m limit) s
     (λ t e. at t e t.core.ended refl
     (λ u less. enough laws limit n m u (omega (arith, less, a)) (omega (arith, less, b))))
   where
@@ -44,11 +41,8 @@ enough laws limit (suc n) (suc m) s a b =
         → ((u : State) → size u.core < size s.core → run n limit u ≡ run m limit u)
         → behind n limit t ≡ behind m limit t
     at t e true over h = cond-true t.core.ended _ _ over ∙ sym (cond-true t.core.ended _ _ over)
-    at t e false over h =
-        let same_size : size t.core ≡ size s.core = ap size e in
-        cond-false t.core.ended _ _ over
-        ∙ remaining_after_so (read limit t) _ _
-        (λ u q. let less = less_read laws limit t u over q in h u (omega (arith, less, same_size)))
+    at t e false over h = cond-false t.core.ended _ _ over ∙ remaining_after_so (read limit t) _ _
+        (λ u q. let less = less_read laws limit t u over q in h u (omega (arith, less, ap size e)))
         ∙ sym (cond-false t.core.ended _ _ over)
 
 -- the tokens still to come, where no candidate is too far
@@ -101,11 +95,7 @@ filled_in laws limit (suc n) s t a k e =
     by false needs f h =
         let g : Ok s ≡ Ok t = sym (cond-false (needs_token s) (read limit s >>= fill_in n limit) (Ok s) needs) ∙ f in
         let is : s ≡ t = cc in
-        record {
-          same = ap (rest limit) is;
-          ready = subst (λ x. needs_token x ≡ false) is needs;
-          settles = subst IsSettled is k;
-        }
+        record { same = ap (rest limit) is; ready = rw is at needs; settles = subst IsSettled is k }
 
 -- ## A refusal
 
@@ -151,7 +141,6 @@ settled_fill limit s (Ok t) e i f laws =
     ap (λ r. remaining_after r (λ u. run (suc (size u.core)) limit u)) i
     ∙ refused_in laws limit (suc (size t.core)) t e (omega arith) (settled_once s t i) g
 settled_fill limit s (Err d) e i f laws =
-    let g : Err d ≡ Err e = sym (ap (λ r. r >>= λ u. fill_in (suc (size u.core)) limit u) i) ∙ f in
     let is : d ≡ e = cc in
     ap (λ r. remaining_after r (λ u. run (suc (size u.core)) limit u)) i ∙ ap refusal_alone is
 

@@ -40,13 +40,11 @@ module _ (w : Beside) where
 
   inside : (x y : State) (c : NodeContext) {k : Kind} {t u : Piece} {m n : Machine} → Expected w x y
       → Held w k t u m n → TellsAlike w (node_inside x c t m) (node_inside y c u n)
-  inside x y c {k} {t} {u} {m} {n} i h =
-      node_beside w c k t u (push x m) (push y n) (holds w x y k t u m n i h)
+  inside x y c {k} {t} {u} {m} {n} i h = node_beside w c k t u (push x m) (push y n) (holds w x y k t u m n i h)
 
   leaves_out : (x y : State) {s r : Span} {k : Kind} {t u : Piece} {m n : Machine} → Expected w x y
       → SpansAlike w s r → Held w k t u m n → TellsAlike w (left_out_event t x s m) (left_out_event u y r n)
-  leaves_out x y {s} {r} {k} {t} {u} {m} {n} i e h =
-      enters_told w _ x y s r (put_back t m) (put_back u n) i e h.back tt
+  leaves_out x y {s} {r} {k} {t} {u} {m} {n} i e h = enters_told w _ x y s r (put_back t m) (put_back u n) i e h.back tt
 
   -- ## Block collections
 
@@ -145,8 +143,7 @@ module _ (w : Beside) where
   pub other_pairs : TokenBeside flow.flow_mapping_key_at
   unfolding flow.flow_mapping_pair_behind_comma
   other_pairs tokens.FlowMappingEnd t u m n h = tells_end w _ t.span u.span m n h.span h.behind tt
-  other_pairs tokens.FlowEntry t u m n h =
-      take_at flow.flow_mapping_pair_at pairs t.span u.span h.span m n h.behind
+  other_pairs tokens.FlowEntry t u m n h = take_at flow.flow_mapping_pair_at pairs t.span u.span h.span m n h.behind
   other_pairs k t u m n h = refuses w _ t u h.span
 
   value_in_braces : TokenBesideAt flow.flow_value_node_at

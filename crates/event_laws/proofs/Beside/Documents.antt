@@ -57,8 +57,7 @@ explicit_at w tokens.DocumentStart t u m n h =
     record {
       what = refl;
       span = h.span;
-      machine =
-          left_behind_marker w Starts _ _ (opened_beside w _ state.DocumentContent m n refl h.behind)
+      machine = left_behind_marker w Starts _ _ (opened_beside w _ state.DocumentContent m n refl h.behind)
           (refl, (m.states, refl));
       closes = tt;
     }
@@ -150,8 +149,7 @@ marks w p q e m n near = by _ _ (passes w _ is_mark (goes_by_marks w) _ _ m n (a
         → GivesAlike w (Has w) (a >>= (λ t. document.token_behind_marks_at t.0.kind p t.0 t.1))
         (b >>= (λ t. document.token_behind_marks_at t.0.kind q t.0 t.1))
     by a b (inl g) = behind_both w (Has w) a b (λ k. document.token_behind_marks_at k p)
-        (λ k. document.token_behind_marks_at k q)
-        (marks_at w p q e) g
+        (λ k. document.token_behind_marks_at k q) (marks_at w p q e) g
     by a b (inr s) = absurd s.2.tokens
 
 document_at : (w : Beside) → AtBoth w (Has w) document.token_behind_document_at document.token_behind_document_at
@@ -224,8 +222,7 @@ start_passed (inl a) = inl a
 start_passed (inr b) = inr (tt, b)
 
 -- A step of both, but that at the end of a document where the settings differ.
-pub steps_beside :
-    (w : Beside) (s r : State) (m n : Machine) → Expected w s r → s ≢ state.End
+pub steps_beside : (w : Beside) (s r : State) (m n : Machine) → Expected w s r → s ≢ state.End
     → (s ≡ state.DocumentEnd → KeepsSetting w) → Near w m n → TellsAlike w (event_step_at s m) (event_step_at r n)
     ⊎ (IsBetweenDocuments s × PassedAll w m n (event_step_at s))
 unfolding block_node document.stream_start document.document_content block.block_sequence_entry

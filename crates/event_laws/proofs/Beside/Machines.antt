@@ -136,8 +136,7 @@ Awaits Ends m = m.state ≡ state.ImplicitDocumentStart
 
 -- two machines after an event: tokens are left as before, or the event is that of a marker which was the last token
 abbrev pub Left : Beside → Happening → Machine → Machine → Type 0
-Left w what m n =
-    Near w m n ⊎ ((d : DocumentMarker) × With w (w.Over d) m n × Awaits d m × (what ≡ marker_event d))
+Left w what m n = Near w m n ⊎ ((d : DocumentMarker) × With w (w.Over d) m n × Awaits d m × (what ≡ marker_event d))
 
 -- the same event, and machines side by side, which the end of the stream ends
 pub record Alike (w : Beside) (x y : Told) : Type 0 where
@@ -160,8 +159,7 @@ abbrev pub AtBoth : {X : Type 0} → (w : Beside) → (X → X → Type 0) → (
     → (Kind → Piece → Machine → Result X Refusal) → Type 0
 AtBoth w R go ho = (k : Kind) (t u : Piece) (m n : Machine) → Held w k t u m n → GivesAlike w R (go k t m) (ho k u n)
 
-pub of_kind :
-    {X : Type 0} (w : Beside) (R : X → X → Type 0) (go ho : Kind → Piece → Machine → Result X Refusal)
+pub of_kind : {X : Type 0} (w : Beside) (R : X → X → Type 0) (go ho : Kind → Piece → Machine → Result X Refusal)
     → AtBoth w R go ho → AtBoth w R (λ k t. go t.kind t) (λ k t. ho t.kind t)
 of_kind w R go ho f k t u m n h = by t.kind u.kind h.kind h.same
   where
@@ -170,8 +168,7 @@ of_kind w R go ho f k t u m n h = by t.kind u.kind h.kind h.same
 
 -- with these tokens ahead
 abbrev pub Ahead : Beside → List Piece → List Piece → Machine → Machine → Type 0
-Ahead w ts us m n =
-    With w
+Ahead w ts us m n = With w
     (λ r q. w.Rest (record { pieces = ts; refusal = r.refusal }) (record { pieces = us; refusal = q.refusal })) m n
 
 pub ahead : (w : Beside) (m n : Machine) → Near w m n → Ahead w m.tokens.pieces n.tokens.pieces m n

@@ -14,8 +14,7 @@ placed f s = s
 
 -- other tokens, places and another setting
 abbrev pub moved : (Marker → Marker) → Remaining → Bool → Machine → Machine
-moved f r b m =
-    record m { tokens = r; state = placed f m.state; states = map (placed f) m.states; keep_tags = b }
+moved f r b m = record m { tokens = r; state = placed f m.state; states = map (placed f) m.states; keep_tags = b }
 
 pub expected : (w : Beside) (f : Marker → Marker) → ((p : Marker) → w.Place p (f p)) → (s : State)
     → Expected w s (placed f s)
@@ -68,8 +67,7 @@ becomes w T f r b m n h near t k =
 pub tells_so : (w : Beside) (f : Marker → Marker) (x y : Told) (n : Machine)
     → ((p q : Marker) → w.Place p q → q ≡ f p) → Alike w x y → y.machine ≡ n
     → y ≡ record { what = x.what; span = record { start = f x.span.start; end = f x.span.end }; machine = n }
-tells_so w f x y n h a is =
-    by y.what y.span.start y.span.end y.machine a.what (h _ _ a.span.0) (h _ _ a.span.1) is
+tells_so w f x y n h a is = by y.what y.span.start y.span.end y.machine a.what (h _ _ a.span.0) (h _ _ a.span.1) is
   where
     by : (what : Happening) (p q : Marker) (m : Machine) → what ≡ x.what → p ≡ f x.span.start → q ≡ f x.span.end → m ≡ n
         → ◌≡◌ {A = Told} (record { what = what; span = record { start = p; end = q }; machine = m })

@@ -30,8 +30,7 @@ declared_alike w (Some x) p q h = refl
 prefixes_alike : (w : Beside) (names : Names (List ℕ)) (handle : List ℕ) (x y : Marker) → w.Place x y
     → SameOf w (declared_prefix names handle x) (declared_prefix names handle y)
 unfolding declared_prefix
-prefixes_alike w names handle x y e =
-    either w _ (nat_eq (length handle) 0) (Ok handle) _ _ _ refl
+prefixes_alike w names handle x y e = either w _ (nat_eq (length handle) 0) (Ok handle) _ _ _ refl
     (declared_alike w (meaning handle names) (undeclared_prefix handle x) (undeclared_prefix handle y)
     (either w _ (bytes_eq handle (codes "!!")) (Ok (codes "tag:yaml.org,2002:")) _ _ _ refl
     (either w _ (is_named_handle handle) (Err (record { text = fault.UndeclaredHandle; mark = x })) (Ok handle) _ _
@@ -69,8 +68,7 @@ without_beside :
     (w : Beside) (a b x y : Marker) (id : ℕ) (tag : Option ResolvedTag) (k : Kind) (t u : Piece) (m n : Machine)
     → w.Place a x → w.Place b y → Held w k t u m n
     → TellsAlike w (node_without_content (properties a b id tag) t m) (node_without_content (properties x y id tag) u n)
-without_beside w a b x y id tag k t u m n i j h =
-    either w _ (has_property (properties a b id tag)) _ _ _ _
+without_beside w a b x y id tag k t u m n i j h = either w _ (has_property (properties a b id tag)) _ _ _ _
     (tells_end w _ _ _ (put_back t m) (put_back u n) (i, j) h.back tt) (refuses w _ t u h.span)
 
 content_beside :
@@ -101,18 +99,14 @@ behind_beside :
     (w : Beside) (a b x y : Marker) (id : ℕ) (tag : Option ResolvedTag) (c : NodeContext) → w.Place a x → w.Place b y
     → AtBoth w (Alike w) (λ k. node_content (properties a b id tag) c) (λ k. node_content (properties x y id tag) c)
 unfolding node_content
-behind_beside w a b x y id tag c i j =
-    of_kind w (Alike w) (λ k. node_content_at k (properties a b id tag) c)
-    (λ k. node_content_at k (properties x y id tag) c)
-    (content_beside w a b x y id tag c i j)
+behind_beside w a b x y id tag c i j = of_kind w (Alike w) (λ k. node_content_at k (properties a b id tag) c)
+    (λ k. node_content_at k (properties x y id tag) c) (content_beside w a b x y id tag c i j)
 
 next_beside : (w : Beside) (a b x y : Marker) (id : ℕ) (tag : Option ResolvedTag) (c : NodeContext) → w.Place a x
     → w.Place b y → Both w (Alike w) (next_content (properties a b id tag) c) (next_content (properties x y id tag) c)
 unfolding next_content node_content
-next_beside w a b x y id tag c i j m n near =
-    taken w _ (λ k. node_content_at k (properties a b id tag) c)
-    (λ k. node_content_at k (properties x y id tag) c) m n near
-    (content_beside w a b x y id tag c i j)
+next_beside w a b x y id tag c i j m n near = taken w _ (λ k. node_content_at k (properties a b id tag) c)
+    (λ k. node_content_at k (properties x y id tag) c) m n near (content_beside w a b x y id tag c i j)
 
 alias_beside : (w : Beside) (o p : Option ℕ) (s r : Span) → p ≡ o → SpansAlike w s r
     → Both w (Alike w) (alias_of o s) (alias_of p r)
@@ -122,8 +116,7 @@ alias_beside w o p s r is e m n near = rw is (by o)
     by None = inr (w.refused _ s.start r.start e.0)
     by (Some id) = tells_end w _ s r m n e near tt
 
-behind_anchor_beside :
-    (w : Beside) (id : ℕ) (s r : Span) (c : NodeContext) → SpansAlike w s r
+behind_anchor_beside : (w : Beside) (id : ℕ) (s r : Span) (c : NodeContext) → SpansAlike w s r
     → AtBoth w (Alike w) (λ k. node_behind_anchor_at k id s c) (λ k. node_behind_anchor_at k id r c)
 behind_anchor_beside w id s r c e (tokens.Tag handle suffix) t u m n h =
     resolves w handle suffix s.start r.start m n _ _ e.0 h.behind
@@ -140,8 +133,7 @@ anchor_beside w name s r c e m n near =
     (register name m) (record n { anchors = with_anchor name m.anchors }) (registers w name m n near)
     (behind_anchor_beside w (next_id m.anchors) s r c e))
 
-behind_tag_beside :
-    (w : Beside) (tag : ResolvedTag) (s r : Span) (c : NodeContext) → SpansAlike w s r
+behind_tag_beside : (w : Beside) (tag : ResolvedTag) (s r : Span) (c : NodeContext) → SpansAlike w s r
     → AtBoth w (Alike w) (λ k. node_behind_tag_at k tag s c) (λ k. node_behind_tag_at k tag r c)
 behind_tag_beside w tag s r c e (tokens.Anchor name) t u m n h =
     rw h.behind.anchors (next_beside w s.start t.span.end r.start u.span.end (next_id m.anchors)

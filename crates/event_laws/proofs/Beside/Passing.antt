@@ -83,12 +83,10 @@ goes_by_ends w tokens.DocumentEnd r q y b = b
 goes_by_ends w tokens.ByteOrderMark r q y b = inl b
 goes_by_ends w _ r q y b = absurd (cc)
 
-pub behind_both :
-    {X : Type 0} (w : Beside) (R : X → X → Type 0) (p q : Result (Piece × Machine) Refusal)
+pub behind_both : {X : Type 0} (w : Beside) (R : X → X → Type 0) (p q : Result (Piece × Machine) Refusal)
     (go ho : Kind → Piece → Machine → Result X Refusal) → AtBoth w R go ho → GivesAlike w (Has w) p q
     → GivesAlike w R (p >>= (λ t. go t.0.kind t.0 t.1)) (q >>= (λ t. ho t.0.kind t.0 t.1))
-behind_both w R p q go ho f g = goes_on w (Has w) R p q _ _ g
-    (λ x y h. of_kind w R go ho f x.0.kind x.0 y.0 x.1 y.1 h)
+behind_both w R p q go ho f g = goes_on w (Has w) R p q _ _ g (λ x y h. of_kind w R go ho f x.0.kind x.0 y.0 x.1 y.1 h)
 
 -- ## Directives
 
@@ -152,8 +150,7 @@ directives_beside w (t ∷ ts) us d m n a =
         (t, with_pieces ts m))
         (if b then directive_at t.kind u d (with_pieces x.tail n) >>= (λ s. directives_from x.tail s.0 s.1) else Ok
         (u, with_pieces x.tail n))
-    by true y next =
-        goes_on w (Declares w ts x.tail) (Has w) (directive_at t.kind t d (with_pieces ts m))
+    by true y next = goes_on w (Declares w ts x.tail) (Has w) (directive_at t.kind t d (with_pieces ts m))
         (directive_at t.kind u d (with_pieces x.tail n)) _ _
         (directive_beside w t.kind t u ts x.tail d (with_pieces ts m) (with_pieces x.tail n) (x.start, x.end)
         (changed w _ _ m n _ _ _ _ _ _ (behind_directive w t.kind _ _ y x.behind) a.state a.states a))

@@ -80,8 +80,7 @@ told_behind Starts s k (inl a) =
     ap happenings_of (ap (λ v. remaining_answer (alone s v)) same ∙ content_told s ss k)
 told_behind w s k (inr a) = rw a.0 (ap happenings_of (start_is_told s k a.1))
 
-told_stopped :
-    (w : DocumentMarker) (s : Span) (k : Machine)
+told_stopped : (w : DocumentMarker) (s : Span) (k : Machine)
     → IsStopped (ended_by w (record { span = s; kind = tokens.StreamEnd } ∷ []) None) k
     → happenings_of (remaining_answer (longer (ended_by w (record { span = s; kind = tokens.StreamEnd } ∷ []) None) k))
     ≡ events_behind_marker w
@@ -100,8 +99,7 @@ marker_ends w us e (t ∷ ts) x is = or_last w _ (ts ++ x ∷ []) t.kind (marker
 -- ## Whatever follows
 
 -- what is told before the stream's end, where more tokens follow
-first_told :
-    (w : DocumentMarker) (s : Span) (first : List Happening) (m : Machine) (a b : Answer)
+first_told : (w : DocumentMarker) (s : Span) (first : List Happening) (m : Machine) (a b : Answer)
     → GoesOn (ended_by w (record { span = s; kind = tokens.StreamEnd } ∷ []) None) None m a b
     → happenings_of b ≡ first ++ events_behind_marker w → GivesFirst first a
 first_told w s first m a b (inl e) t = (events_behind_marker w, ap happenings_of (sym e) ∙ t)
@@ -130,13 +128,10 @@ also_first z r first m a b (inr g) f =
 abbrev pub start : Bool → List Piece → Option Refusal → Machine
 start keep ts e = record (fresh_machine (record { pieces = ts; refusal = e })) { keep_tags = keep }
 
-tokens_close :
-    (keep : Bool) (w : DocumentMarker) (ts us : List Piece) (x : Piece) (s : Span) (e : Option Refusal)
+tokens_close : (keep : Bool) (w : DocumentMarker) (ts us : List Piece) (x : Piece) (s : Span) (e : Option Refusal)
     (first : List Happening) → x.kind ≡ marker_token w
     → happenings_of (remaining_answer (start keep ((ts ++ x ∷ []) ++ record { span = s; kind = tokens.StreamEnd } ∷ [])
-    None))
-    ≡ first ++ events_behind_marker w
-    → GivesFirst first (remaining_answer (start keep ((ts ++ x ∷ []) ++ us) e))
+    None)) ≡ first ++ events_behind_marker w → GivesFirst first (remaining_answer (start keep ((ts ++ x ∷ []) ++ us) e))
 tokens_close keep w ts us x s e first is t =
     let m : Machine = start keep (ts ++ x ∷ []) None in
     let end : List Piece = record { span = s; kind = tokens.StreamEnd } ∷ [] in
@@ -154,7 +149,4 @@ closed_tokens keep w ts us x y e first is ends g =
     let same : (vs : List Piece) → (ts ++ x ∷ []) ++ vs ≡ ts ++ x ∷ vs = λ vs. append_assoc ts (x ∷ []) vs in
     let the_end : y ≡ record { span = y.span; kind = tokens.StreamEnd } =
     ap (λ k. record { span = y.span; kind = k }) ends in
-    let given : happenings_of (remaining_answer
-    (start keep ((ts ++ x ∷ []) ++ record { span = y.span; kind = tokens.StreamEnd } ∷ []) None))
-    ≡ first ++ events_behind_marker w = cc (same _) in
-    rw (same us) at (tokens_close keep w ts us x y.span e first is given)
+    rw (same us) at (tokens_close keep w ts us x y.span e first is (cc (same _)))

@@ -22,9 +22,7 @@ use Rattle.event_laws.proofs.Beside.Machines.{Awaits}
 -- ## One step
 
 pub or_last : (w : DocumentMarker) (B : Type 0) (ts : List Piece) (k : Kind) → B → IsLastOr w B ts k
-or_last w B ts tokens.DocumentStart b = inr b
-or_last w B ts tokens.DocumentEnd b = inr b
-or_last w B ts _ b = b
+or_last w B ts k b = grind arith
 
 -- tokens of which nothing is known may end too early
 early : (w : DocumentMarker) (us : List Piece) (e : Option Refusal) (ts : List Piece)
@@ -38,25 +36,20 @@ ended _ = inr (λ e. absurd (cc))
 
 same_result : (z : More) (r : Option Refusal) (p q : Result Told Refusal) (x : Told) → AgreesOrEndsEarly z r p q
     → p ≡ Ok x → q ≡ Ok (record x { machine = longer z x.machine })
-same_result z r (Ok y) q x a e =
-    let same : y ≡ x = cc in rw same at a.2
-same_result z r (Err f) q x a e = absurd (cc)
+same_result z r p q x a e = grind arith
 
 step_given : (z : More) (m : Machine) (x : Told) → End z m.tokens.pieces → event_step m ≡ Ok x
     → event_step (longer z m) ≡ Ok (record x { machine = longer z x.machine })
 unfolding event_step
 step_given z m x e is = by (ended m.state)
   where
-    agreed :
-        AgreesOrEndsEarly z m.tokens.refusal (event_step_at m.state m) (event_step_at m.state (longer z m))
+    agreed : AgreesOrEndsEarly z m.tokens.refusal (event_step_at m.state m) (event_step_at m.state (longer z m))
         ⊎ (IsBetweenDocuments m.state × PassesAll z m (event_step_at m.state))
         → event_step_at m.state (longer z m) ≡ Ok (record x { machine = longer z x.machine })
-    agreed (inl a) = same_result z m.tokens.refusal (event_step_at m.state m) _ x a is
-    agreed (inr p) = let no = p.1.1 in absurd (cc)
+    agreed h = grind arith
 
     none : (s : State) → s ≡ state.End → event_step_at s m ≡ Ok x → ⊥
-    none state.End y i = absurd (cc)
-    none _ y i = absurd (cc)
+    none s y i = grind arith
 
     by : (m.state ≡ state.End) ⊎ (m.state ≢ state.End)
         → event_step_at m.state (longer z m) ≡ Ok (record x { machine = longer z x.machine })
@@ -83,16 +76,14 @@ IsStopped z k = z.Early ⊎ ((k.tokens.pieces ≡ []) × (Awaits z.marker k ⊎ 
 -- The last of the events that a machine m tells, where k wants another token after the marker, is the marker's own;
 -- unless m had told it before, no document was open at `...`, or the tokens ended too early.
 abbrev pub IsLastToldBy : More → Machine → Machine → List (Happening × Span) → Type 0
-IsLastToldBy z m k es =
-    (z.Early ⊎ ((z.marker ≡ Ends) × IsBetweenDocuments k.state))
+IsLastToldBy z m k es = (z.Early ⊎ ((z.marker ≡ Ends) × IsBetweenDocuments k.state))
     ⊎ (((m.tokens.pieces ≡ []) × (es ≡ []))
     ⊎ ((os : List (Happening × Span)) × (s : Span) × (es ≡ os ++ (marker_event z.marker, s) ∷ [])))
 
 -- The answers are the same; or the end of the tokens, which r ends, is the fault of the first, and the second goes on
 -- from there.
 abbrev pub GoesOn : More → Option Refusal → Machine → Answer → Answer → Type 0
-GoesOn z r m a b = (b ≡ a)
-    ⊎ ((a.fault ≡ Some (ending_of (ending_refusal r)))
+GoesOn z r m a b = (b ≡ a) ⊎ ((a.fault ≡ Some (ending_of (ending_refusal r)))
     × ((k : Machine) × IsStopped z k × (b ≡ behind_all a.events (remaining_answer (longer z k)))
     × IsLastToldBy z m k a.events))
 
@@ -100,8 +91,7 @@ last_behind_event : (z : More) (x : Told) (m k : Machine) (es : List (Happening 
     → IsLeftBehind z x.what x.machine → IsLastToldBy z x.machine k es → IsLastToldBy z m k ((x.what, x.span) ∷ es)
 last_behind_event z x m k es l (inl h) = inl h
 last_behind_event z x m k es (inl l) (inr (inl h)) = inl (inl (rw h.0 at l))
-last_behind_event z x m k es (inr l) (inr (inl h)) =
-    inr (inr ([], x.span, rw h.1 (ap (λ v. (v, x.span) ∷ []) l.2)))
+last_behind_event z x m k es (inr l) (inr (inl h)) = inr (inr ([], x.span, rw h.1 (ap (λ v. (v, x.span) ∷ []) l.2)))
 last_behind_event z x m k es l (inr (inr h)) =
     inr (inr ((x.what, x.span) ∷ h.0, h.1, ap (λ v. (x.what, x.span) ∷ v) h.2))
 
@@ -119,8 +109,7 @@ as_before : (z : More) (r : Option Refusal) (m : Machine) (a c b d : Answer) →
     → GoesOn z r m a b
 as_before z r m a c b d x y g = rw (x, y) g
 
-delivers_longer :
-    (z : More) (r : Option Refusal) (m : Machine) (p q : Result Told Refusal) → AgreesOrEndsEarly z r p q
+delivers_longer : (z : More) (r : Option Refusal) (m : Machine) (p q : Result Told Refusal) → AgreesOrEndsEarly z r p q
     → answer_of_step q remaining_answer ≡ remaining_answer (longer z m) → ((x : Told) → p ≡ Ok x → IsLeft z x.machine
     → GoesOn z x.machine.tokens.refusal x.machine (remaining_answer x.machine) (remaining_answer (longer z x.machine)))
     → GoesOn z r m (answer_of_step p remaining_answer) (answer_of_step q remaining_answer)
@@ -141,8 +130,7 @@ none_taken ts m go e = rw e refl
 none_awaited : (w : DocumentMarker) (m : Machine) → m.tokens.pieces ≡ [] → Awaits w m
     → event_step_at m.state m ≡ Err (ending_refusal m.tokens.refusal)
 unfolding implicit_start unpassed_token document_content
-none_awaited Starts m e a = cc (none_taken m.tokens.pieces m _ e)
-none_awaited Ends m e a = cc (passed_from m.tokens.pieces m _ e)
+none_awaited w m e a = grind arith
 
 -- a step, and what comes after it
 first_step : (z : More) (m : Machine) → ((x : Told) → event_step m ≡ Ok x → IsLeft z x.machine
@@ -154,15 +142,12 @@ first_step z m next i = by (ended m.state) i
     r : Option Refusal
     r = m.tokens.refusal
 
-    agreed :
-        m.state ≢ state.End → AgreesOrEndsEarly z r (event_step_at m.state m) (event_step_at m.state (longer z m))
+    agreed : m.state ≢ state.End → AgreesOrEndsEarly z r (event_step_at m.state m) (event_step_at m.state (longer z m))
         ⊎ (IsBetweenDocuments m.state × PassesAll z m (event_step_at m.state))
         → GoesOn z r m (answer_of_step (event_step_at m.state m) remaining_answer)
         (answer_of_step (event_step_at m.state (longer z m)) remaining_answer)
-    agreed h (inl a) =
-        delivers_longer z r m (event_step_at m.state m) (event_step_at m.state (longer z m)) a
-        (sym (unroll (longer z m) h))
-        next
+    agreed h (inl a) = delivers_longer z r m (event_step_at m.state m) (event_step_at m.state (longer z m)) a
+        (sym (unroll (longer z m) h)) next
     agreed h (inr p) = rw p.1.1
         (inr (
           refl,
@@ -179,8 +164,7 @@ first_step z m next i = by (ended m.state) i
     by (inl e) k = inl (over (longer z m) e ∙ sym (over m e))
     by (inr h) (inl e) = as_before z r m _ _ _ _ (unroll m h) (unroll (longer z m) h)
         (agreed h (steps_agree z m.state m h e))
-    by (inr h) (inr k) =
-        as_before z r m _ (fault_alone (ending_of (ending_refusal r))) _ _
+    by (inr h) (inr k) = as_before z r m _ (fault_alone (ending_of (ending_refusal r))) _ _
         (cc (unroll m h, none_awaited z.marker m k.0 k.1)) refl
         (inr (refl, (m, inr (k.0, inl k.1), refl, inr (inl (k.0, refl)))))
 

@@ -44,8 +44,7 @@ documents_within (d ∷ ds) h =
 
 document_compatible : (d : Document) (free : Bool) (t : List Kind) → YieldsDocument d free t
     → AreCompatible d.directives
-document_compatible d free t (inl h) = rw h.1.1 tt
-document_compatible d free t (inr h) = h.1.2
+document_compatible d free t h = grind arith
 
 pub all_compatible : (ds : Forest) (free : Bool) (t : List Kind) → YieldDocuments ds free t → AreAllCompatible ds
 all_compatible [] free t h = tt
@@ -54,8 +53,7 @@ all_compatible (d ∷ ds) free t h = (document_compatible d free h.0 h.2, behind
     behind : ((h.3.1 ≡ []) × YieldDocuments ds false h.3.2)
         ⊎ ((more : List Kind) × AreEndsAndMarks more × (h.3.1 ≡ DocumentEnd ∷ more) × YieldDocuments ds true h.3.2)
         → ((b : Bool) (u : List Kind) → YieldDocuments ds b u → AreAllCompatible ds) → AreAllCompatible ds
-    behind (inl z) g = g false h.3.2 z.1
-    behind (inr z) g = g true h.3.2 z.3
+    behind h g = grind arith
 
 -- ## The start
 
@@ -63,8 +61,7 @@ abbrev pub at_first : Bool → Memory
 at_first keep = record { anchors = no_anchors; prefixes = []; keep = keep }
 
 none_kept : (keep : Bool) → (let o : Option (List ℕ) = None in o) ≡ (if keep then None else None)
-none_kept true = refl
-none_kept false = refl
+none_kept keep = grind arith
 
 pub fits_start : (keep : Bool) → FitsBetween keep [] (at_first keep)
 fits_start keep = record { keeps = refl; count = refl; prefixes = λ handle. none_kept keep }
@@ -77,11 +74,8 @@ pub each_gives : (f : Forest) (keep : Bool) (ts : List Piece) (es : List Happeni
 each_gives f keep ts es y l e =
     let any : (g : SpansByKinds) × (ts ≡ dressed g (kinds ts)) = dress nowhere ts in
     let within : Within false (parts f) = (tt, documents_within f (all_compatible f true y.1 y.3)) in
-    let same : events_in (at_first keep) (parts f) ≡ events f keep =
-    same_events (parts f) false keep [] (at_first keep) within (fits_start keep) (omega (arith, l)) in
-    let told : GivesExactly es (answer_of_tokens keep (dressed any.0 (kinds ts))) =
-    stream_says f (kinds ts) y any.0 (at_first keep) es (same ∙ e) in
-    rw any.1 told
+    let same = same_events (parts f) false keep [] (at_first keep) within (fits_start keep) (omega (arith, l)) in
+    rw any.1 (stream_says f (kinds ts) y any.0 (at_first keep) es (same ∙ e))
 
 -- the same of a parser before these tokens
 pub each_parsed : (f : Forest) (keep : Bool) (ts : Remaining) (es : List Happening) → Yields f (kinds ts.pieces)

@@ -44,8 +44,7 @@ ordered text = record {
   behind = λ low d r t ts e a. (a.2.0.1, a.1.2, a.2.1);
   less = λ low c d r ts l a. a;
   rests = λ low s d r ts a. (lower_pieces (length text) 0 low.index ts (omega arith) a.1, a.2);
-  over = λ low d c r t ts e l a.
-      (lower_pieces (length text) 0 t.span.end.index ts (omega arith) a.1.2, a.2.1);
+  over = λ low d c r t ts e l a. (lower_pieces (length text) 0 t.span.end.index ts (omega arith) a.1.2, a.2.1);
 }
 
 resumes : (text : List ℕ) → Resumes (ordered text)
@@ -123,8 +122,7 @@ no_spans : (text : List ℕ) (k : Kept) (m : Machine) → HasSpansIn text (answe
 no_spans text k m = by k.given
   where
     by : (given : Bool) → HasSpansIn text (if given then empty_answer else fault_alone k.fault)
-    by true = All-nil (λ (e : Happening × Span). IsIn text e.1)
-    by false = All-nil (λ (e : Happening × Span). IsIn text e.1)
+    by given = grind arith
 
 behind_spans : (text : List ℕ) (k : Option Kept) (m : Machine)
     → (k ≡ None → HoldsBetween (ordered text) m) → HasSpansIn text (answer_behind k m)

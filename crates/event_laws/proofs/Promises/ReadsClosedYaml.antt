@@ -61,7 +61,6 @@ with_first : (c : ℕ) (cs : List ℕ) (x : ℕ) (xs others : List ℕ) (return 
     → (normalized cs ≡ x ∷ xs ++ others → WholeParts cs (x ∷ xs) others) → normalized (c ∷ cs) ≡ x ∷ xs ++ others
     → WholeParts (c ∷ cs) (x ∷ xs) others
 with_first c cs x xs others false feed e f less same n =
-    let all = sym (normalized_other c cs e) ∙ n in
     let p = less (cc) in
     record {
       front = c ∷ p.front;
@@ -80,7 +79,6 @@ with_first c cs x xs others true true e f less same n =
       is_behind = p.is_behind;
     }
 with_first c cs x xs others true false e f less same n =
-    let all = sym (lone_return c cs e f) ∙ n in
     let p = less (cc) in
     record {
       front = c ∷ p.front;
@@ -103,8 +101,7 @@ parted (c ∷ cs) (x ∷ xs) others e =
 -- The tokens of each text that ends with the line of a marker are handed out up to the marker's, whatever follows. The
 -- break between is whole.
 abbrev pub HandsOutMarkers : Grammar → (List ℕ → Type 0) → ℕ → Type 0
-HandsOutMarkers G IsTail limit =
-    (marker : DocumentMarker) (forest : Forest) (text others : List ℕ) → G forest text
+HandsOutMarkers G IsTail limit = (marker : DocumentMarker) (forest : Forest) (text others : List ℕ) → G forest text
     → EndsWithMarker IsTail marker (normalized text)
     → normalized (text ++ others) ≡ normalized text ++ normalized others → length (text ++ others) ≤ limit
     → HandsOut marker forest (scan limit (text ++ others))
@@ -121,10 +118,8 @@ few_anchors : (forest : Forest) (limit : ℕ) (ts earlier more : List Kind) (k e
     → length ts ≤ 5 * limit + 10 → limit ≤ 4294967295 → anchors (parts forest) ≤ length (earlier ++ k ∷ end ∷ [])
     → anchors (parts forest) < 2 ^ 64
 few_anchors forest limit ts earlier more k end e bound most count =
-    let all = ap length e in
-    let one = length-append earlier (k ∷ more) in
     let other = length-append earlier (k ∷ end ∷ []) in
-    omega (arith, count, all, one, other, bound, most)
+    omega (arith, count, ap length e, length-append earlier (k ∷ more), other, bound, most)
 
 -- Were the stream's end the next token, the forest's events would be given exactly.
 gives_first : (limit : ℕ) (keep : Bool) (marker : DocumentMarker) (forest : Forest) (text : List ℕ)
@@ -148,8 +143,7 @@ pub reads_closed : (G : Grammar) (IsTail : List ℕ → Type 0) (limit : ℕ) �
 reads_closed G IsTail limit most sees bounds hands text keep first c =
     let p = parted text (normalized c.front) c.others c.begins in
     let whole = ap length p.are_all in
-    let within = c.within in
-    let all_within : length (p.front ++ p.behind) ≤ limit = omega (arith, whole, within) in
+    let all_within : length (p.front ++ p.behind) ≤ limit = omega (arith, whole, c.within) in
     let yaml = sees c.forest c.front p.front (sym p.is_front) c.promised.stands_for in
     let apart : normalized (p.front ++ p.behind) ≡ normalized p.front ++ normalized p.behind = cc in
     let hands_out = hands c.marker c.forest p.front p.behind yaml (rw p.is_front c.ends) apart all_within in

@@ -16,16 +16,14 @@ use Rattle.event_laws.proofs.Promises.Forests.{each_parsed}
 
 -- the tokens of a text within the limit are those of each of its forests
 abbrev pub ScansForests : Grammar → ℕ → List ℕ → Type 0
-ScansForests G limit text =
-    (forest : Forest) → G forest text → length text ≤ limit
+ScansForests G limit text = (forest : Forest) → G forest text → length text ≤ limit
     → (tokens : List Kind) × Yields forest tokens × Scans tokens (scan limit text)
 
 few_anchors : (forest : Forest) (limit : ℕ) (text : List ℕ) → Yields forest (kinds (scan limit text).pieces)
     → length (scan limit text).pieces ≤ 5 * limit + 10 → limit ≤ 4294967295 → anchors (parts forest) < 2 ^ 64
 few_anchors forest limit text yields bound most =
-    let count = forest_count forest (kinds (scan limit text).pieces) yields in
     let same = length-map (scan limit text).pieces (λ (t : Piece). t.kind) in
-    omega (arith, count, same, bound, most)
+    omega (arith, forest_count forest (kinds (scan limit text).pieces) yields, same, bound, most)
 
 pub reads_each : (G : Grammar) (limit : ℕ) (text : List ℕ) → limit ≤ 4294967295
     → length (scan limit text).pieces ≤ 5 * limit + 10 → ScansForests G limit text → (c : EventCursor)

@@ -20,6 +20,5 @@ ScansYaml = (limit : ℕ) (forest : Forest) (text : List ℕ) → IsYamlText mos
 pub reads_yaml : ScansYaml → (limit : ℕ) (text : List ℕ) → limit ≤ 4294967295
     → length (scan limit text).pieces ≤ 5 * limit + 10 → (parser : EventCursor) → parser ≡ at_start (scan limit text)
     → ReadsYaml limit text parser
-reads_yaml scans limit text most bound =
-    reads_each (IsYamlText most_open) limit text most bound
+reads_yaml scans limit text most bound = reads_each (IsYamlText most_open) limit text most bound
     (λ forest yaml short. scans limit forest text yaml short (omega (arith, short, most)))

@@ -19,8 +19,7 @@ use Rattle.event_laws.proofs.TokensForm.{tokens_form}
 -- ## How the tokens end
 
 no_last : (A : Type 0) (k : Kind) (ts : List Piece) → ¬ (k ≡ tokens.StreamEnd) → A → IsLastOr A ts k
-no_last A tokens.StreamEnd ts h a = absurd (h refl)
-no_last A _ ts h a = a
+no_last A k ts h a = grind arith
 
 ended_by_refusal : (P : Marker → Type 0) (r : Option Refusal) (ts : List Piece) → HasNoEnd ts → IsRefusedAt P r
     → AreEnded P r ts

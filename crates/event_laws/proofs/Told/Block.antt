@@ -159,8 +159,7 @@ keyless_says : (value : Node) (t : List Kind) → YieldsMarkedValue value (Yield
 unfolding event_step block_mapping_key
 keyless_says value t h g f k ks ss e ps z l =
     let rest : List Kind = h.0 ++ k ∷ ks in
-    let second : TellsParts f (Value ∷ rest) state.BlockMappingValue ss e (node_parts value ++ ps) =
-    value_says value h.0 h.1 (g h.0) f k ks ss e ps z l in
+    let second = value_says value h.0 h.1 (g h.0) f k ks ss e ps z l in
     rw h.2
     (skipped e (at f (Value ∷ rest) state.BlockMappingKey ss e) (at f (Value ∷ rest) state.BlockMappingValue ss e)
     (node_parts value ++ ps) (f rest) (λ q. cc) refl second)
@@ -175,11 +174,9 @@ pub pair_says : (key value : Node) (others t : List Kind)
 pair_says key value others t (inl h) gk gv f k ks ss e ps z n l =
     let kt : List Kind = h.2.0 in
     let vt : List Kind = h.3.0 in
-    let same : t ++ k ∷ ks ≡ Key ∷ (kt ++ Value ∷ (vt ++ k ∷ ks)) =
-    marked_tokens t h.0 h.1 kt vt (k ∷ ks) h.2.2 h.3.2 h.4 in
-    let second : TellsParts f (Value ∷ (vt ++ k ∷ ks)) state.BlockMappingValue ss (after_node key e)
-    (node_parts value ++ ps) = value_says value vt h.3.1 (gv vt) f k ks ss (after_node key e) ps z l in
-    rw same (key_says key kt h.2.1 (gk kt) f Value (vt ++ k ∷ ks) ss e (node_parts value ++ ps) tt second)
+    rw (marked_tokens t h.0 h.1 kt vt (k ∷ ks) h.2.2 h.3.2 h.4)
+    (key_says key kt h.2.1 (gk kt) f Value (vt ++ k ∷ ks) ss e (node_parts value ++ ps) tt
+    (value_says value vt h.3.1 (gv vt) f k ks ss (after_node key e) ps z l))
 pair_says key value others t (inr (inl h)) gk gv f k ks ss e ps z n l =
     subst (λ (v : Node). TellsParts f (k ∷ ks) state.BlockMappingKey ss (after_node v (after_node key e)) ps
     → TellsParts f (t ++ k ∷ ks) state.BlockMappingKey ss e (node_parts key ++ (node_parts v ++ ps))) (sym h.0)

@@ -169,8 +169,7 @@ sequence_says p ns c t h flow block indentless = by_content h.3
     by_content (inl d) = flow_sequence p ns c h.0 h.1 t h.2 d h.4 flow
     by_content (inr (inl d)) = block_sequence p ns c h.0 h.1 t h.2 d.0 d.1 h.4 block
     by_content (inr (inr d)) =
-        let first : (others : List Kind) × (h.1 ≡ BlockEntry ∷ others) =
-        first_dash ns h.1 d.1 d.2 in
+        let first : (others : List Kind) × (h.1 ≡ BlockEntry ∷ others) = first_dash ns h.1 d.1 d.2 in
         indentless_sequence p ns c h.0 h.1 first.0 t h.2 d.0 first.1 h.4 (indentless h.1 d.2)
 
 pub mapping_says : (p : forest.Properties) (qs : Pairs) (c : grammar.Context) (t : List Kind)
@@ -230,8 +229,7 @@ pub block_pairs_next : (qs : Pairs) (t : List Kind) (ks : List Kind) → YieldBl
     → Next (MayFollow InBlockMapping) (t ++ BlockEnd ∷ ks)
 block_pairs_next NoPair t ks h = end_is (MayFollow InBlockMapping) t BlockEnd ks h tt
 block_pairs_next (MorePairs key value qs) t ks h =
-    let n : Next (MayFollow InBlockMapping) h.0 = pair_next key value (YieldsNode key InBlockMapping)
-    (YieldsNode value InBlockMapping) h.1 h.0 h.2 in
+    let n = pair_next key value (YieldsNode key InBlockMapping) (YieldsNode value InBlockMapping) h.1 h.0 h.2 in
     next_is (MayFollow InBlockMapping) t n.first (n.others ++ h.1) (BlockEnd ∷ ks) (h.4 ∙ ap (λ l. l ++ h.1) n.is)
     n.fits
 

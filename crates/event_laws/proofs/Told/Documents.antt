@@ -42,8 +42,7 @@ explicitly f k ks e n = cc (passes is_end_or_mark [] f k ks state.DocumentStart 
 -- ## The end of the stream
 
 over : (f : SpansByKinds) (e : Memory) → TellsParts f [] state.End [] e []
-over f e es q = let none : [] ≡ es =
-    (let o : Some [] ≡ Some es = q in cc) in
+over f e es q = let none : [] ≡ es = (let o : Some [] ≡ Some es = q in cc) in
     rw none at (ends (at f [] state.End [] e) refl)
 
 pub stream_ends : (f : SpansByKinds) (front : List Kind) (e : Memory) → AreEndsAndMarks front
@@ -87,8 +86,7 @@ next_ends _ h = elim h [ ]
 
 explicit_head : (d : Document) (t rest : List Kind) → d.directives ≡ [] → YieldsExplicitDocument d t
     → Next MayStandBehindDocument (t ++ rest)
-explicit_head d t rest e h =
-    record { first = DocumentStart; others = h.0 ++ rest; is = cc; fits = tt }
+explicit_head d t rest e h = record { first = DocumentStart; others = h.0 ++ rest; is = cc; fits = tt }
 
 pub not_free : IsTrue false → ⊥
 not_free h = cc
@@ -111,14 +109,8 @@ behind_head ds t h = by h.0 h.3 h.4 h.5
     by : (marks : List Kind) → AreMarks marks → ((h.1 ≡ []) × YieldDocuments ds false h.2)
         ⊎ ((more : List Kind) × AreEndsAndMarks more × (h.1 ≡ DocumentEnd ∷ more) × YieldDocuments ds true h.2)
         → t ≡ marks ++ (h.1 ++ h.2) → Next EndsDocument t
-    by [] m (inl g) e = let n : Next MayStandBehindDocument h.2 =
-        next_start ds h.2 g.1 in
-        record {
-          first = n.first;
-          others = n.others;
-          is = e ∙ ap (λ l. l ++ h.2) g.0 ∙ n.is;
-          fits = next_ends n.first n.fits;
-        }
+    by [] m (inl g) e = let n : Next MayStandBehindDocument h.2 = next_start ds h.2 g.1 in
+        record { first = n.first; others = n.others; is = cc; fits = next_ends n.first n.fits }
     by [] m (inr g) e = record { first = DocumentEnd; others = g.0 ++ h.2; is = e ∙ ap (λ l. l ++ h.2) g.2; fits = tt }
     by (k ∷ ks) m g e = record {
       first = ByteOrderMark;
@@ -147,8 +139,7 @@ bare_opens : (f : SpansByKinds) (front : List Kind) (j : Kind) (l : List Kind) (
     → TellsParts f (j ∷ l) state.BlockNode (state.DocumentEnd ∷ []) (opening [] e) ps
     → TellsParts f (front ++ j ∷ l) state.ImplicitDocumentStart [] e (OpenDocument false [] ∷ ps)
 unfolding bare_document
-bare_opens f front j l e ps h s r =
-    plainly e (at f (front ++ j ∷ l) state.ImplicitDocumentStart [] e)
+bare_opens f front j l e ps h s r = plainly e (at f (front ++ j ∷ l) state.ImplicitDocumentStart [] e)
     (at f (j ∷ l) state.BlockNode (state.DocumentEnd ∷ []) (opening [] e)) (OpenDocument false []) ps
     (events.DocumentStart false) (f l) (λ q. cc) refl
     (implicitly front f j l e h (node_stops j s) ∙ node_is_bare j _ _ s) r
@@ -226,8 +217,7 @@ pub explicit_says : (n : Node) (ds : List Directive) (t : List Kind) → AreComp
 explicit_says n ds t c h f k ks m x e ps z more q l =
     let e' : Memory = opening ds e in
     let rest : List Kind = t ++ k ∷ ks in
-    let inside : TellsParts f rest state.DocumentContent (state.DocumentEnd ∷ []) e' (node_parts n ++ ps) =
-    enters_or_skips n InBlock t h (λ g. node_says n InBlock t g) f k ks
+    let inside = enters_or_skips n InBlock t h (λ g. node_says n InBlock t g) f k ks
     (λ l. at f l state.DocumentContent (state.DocumentEnd ∷ []) e') state.DocumentContent (λ l. state.DocumentEnd)
     [] e' ps (document_end_follows k z) (λ l q. cc) (f ks) (content_is_left_out f k ks e' z)
     (λ j l s. content_begins f j l e' s) l in

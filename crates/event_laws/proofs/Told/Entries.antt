@@ -127,10 +127,8 @@ first_and_others : (Fits : Kind → Type 0) (close : Kind) (x y : State) (closin
     → TellsParts f (front ++ k ∷ ls) x ss e (entry ++ ps)) → SayUpTo close y closing inside later v
     → SayUpTo close x closing (entry ++ inside) (λ e. later (now e)) t
 first_and_others Fits close x y closing entry inside now later front v t next w go others = record {
-  by = λ f ks s ss e ps l.
-      rw (append_assoc entry inside (closing ∷ ps))
-      (entry_told Fits f front v t (close ∷ ks) x y (s ∷ ss) e (now e) entry (inside ++ closing ∷ ps) (next ks)
-      w
+  by = λ f ks s ss e ps l. rw (append_assoc entry inside (closing ∷ ps))
+      (entry_told Fits f front v t (close ∷ ks) x y (s ∷ ss) e (now e) entry (inside ++ closing ∷ ps) (next ks) w
       (λ k ls same z r. go f k ls ks (s ∷ ss) e (inside ++ closing ∷ ps) same z r) (others.by f ks s ss (now e) ps l));
 }
 
@@ -229,8 +227,7 @@ pub indentless_entries : (n : Node) (ns : Nodes) (u v t : List Kind) → YieldsO
     → YieldBlockEntries ns v → t ≡ BlockEntry ∷ (u ++ v) → (YieldsNode n InBlock u → NodeSays n InBlock u)
     → IndentlessSay ns v → IndentlessSay (MoreNodes n ns) t
 indentless_entries n ns u v t d h w g others = record {
-  by = λ f j js s ss e ps y l.
-      rw (append_assoc (node_parts n) (entry_parts ns) (CloseSequence ∷ ps))
+  by = λ f j js s ss e ps y l. rw (append_assoc (node_parts n) (entry_parts ns) (CloseSequence ∷ ps))
       (entry_told EndsIndentless f (BlockEntry ∷ u) v t (j ∷ js) state.IndentlessSequenceEntry
       state.IndentlessSequenceEntry (s ∷ ss) e (after_node n e) (node_parts n) (entry_parts ns ++ CloseSequence ∷ ps)
       (block_entries_next EndsIndentless ns v j js tt (mapping_follow_ends j y) h) w

@@ -145,10 +145,9 @@ keyless_says : (value : Node) (t : List Kind) → YieldsMarkedValue value (Yield
     → EachSays value InFlow → SaysPair (pair forest.left_out value) (after_node value) t
 keyless_says value t h g f k ks machine x ss e ps z a l =
     let rest : List Kind = h.0 ++ k ∷ ks in
-    let second : TellsParts f (Value ∷ rest) state.FlowMappingValue ss e (node_parts value ++ ps) =
-    value_says value h.0 h.1 (g h.0) f k ks ss e ps z l in
     rw h.2 (skipped e (machine (Value ∷ rest)) (at f (Value ∷ rest) state.FlowMappingValue ss e)
-    (node_parts value ++ ps) (f rest) (a.goes_on (Value ∷ rest)) (a.steps Value rest) second)
+    (node_parts value ++ ps) (f rest) (a.goes_on (Value ∷ rest)) (a.steps Value rest)
+    (value_says value h.0 h.1 (g h.0) f k ks ss e ps z l))
 
 -- the pair as an entry of braces
 pub pair_says : (key value : Node) (t : List Kind)
@@ -158,11 +157,9 @@ unfolding flow_key_node
 pair_says key value t (inl h) gk gv f k ks machine x ss e ps z a l =
     let kt : List Kind = h.2.0 in
     let vt : List Kind = h.3.0 in
-    let same : t ++ k ∷ ks ≡ Key ∷ (kt ++ Value ∷ (vt ++ k ∷ ks)) =
-    marked_tokens t h.0 h.1 kt vt (k ∷ ks) h.2.2 h.3.2 h.4 in
-    let second : TellsParts f (Value ∷ (vt ++ k ∷ ks)) state.FlowMappingValue ss (after_node key e)
-    (node_parts value ++ ps) = value_says value vt h.3.1 (gv vt) f k ks ss (after_node key e) ps z l in
-    rw same (key_says key kt h.2.1 (gk kt) f Value (vt ++ k ∷ ks) machine x ss e _ tt refl a second)
+    rw (marked_tokens t h.0 h.1 kt vt (k ∷ ks) h.2.2 h.3.2 h.4)
+    (key_says key kt h.2.1 (gk kt) f Value (vt ++ k ∷ ks) machine x ss e _ tt refl a
+    (value_says value vt h.3.1 (gv vt) f k ks ss (after_node key e) ps z l))
 pair_says key value t (inr (inl h)) gk gv f k ks machine x ss e ps z a l =
     subst (λ (v : Node). TellsParts f (k ∷ ks) state.FlowMappingKey ss (after_node v (after_node key e)) ps
     → SaysParts e (machine (t ++ k ∷ ks)) (node_parts key ++ (node_parts v ++ ps))) (sym h.0)

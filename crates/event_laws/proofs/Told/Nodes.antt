@@ -36,15 +36,11 @@ handle_stands : (handle : Handle) (names : Names (List ℕ)) (place : Marker) (p
     → option_or o (default_prefix handle) ≡ Some prefix
     → declared_prefix_or o (undeclared_prefix (handle_bytes handle) place) ≡ Ok prefix
 unfolding encode
-handle_stands Primary names place prefix None h = cc
-handle_stands Secondary names place prefix None h = cc
-handle_stands (Named word) names place prefix None h = absurd (cc)
-handle_stands handle names place prefix (Some other) h = cc
+handle_stands handle names place prefix o h = grind arith
 
 pub handle_is_some : (handle : Handle) → 0 < length (handle_bytes handle)
 unfolding encode
-handle_is_some Primary = omega arith
-handle_is_some _ = omega arith
+handle_is_some handle = grind arith
 
 pub has_handle : (handle : List ℕ) (names : Names (List ℕ)) (place : Marker) → 0 < length handle
     → declared_prefix names handle place ≡ declared_prefix_or (meaning handle names) (undeclared_prefix handle place)
@@ -65,10 +61,7 @@ of_shorthand : (o : Option (List ℕ)) (r : Result (List ℕ) Refusal) (suffix :
     → option_map (λ prefix. let t : ResolvedTag = record { handle = prefix; suffix = suffix } in t) o ≡ Some tag
     → (r >>= (λ prefix. let x : Result ResolvedTag Refusal = Ok (record { handle = prefix; suffix = suffix }) in x))
     ≡ Ok tag
-of_shorthand None r suffix tag h q = absurd (cc)
-of_shorthand (Some prefix) r suffix tag h q =
-    ap (λ r. r >>= (λ prefix. let x : Result ResolvedTag Refusal =
-    Ok (record { handle = prefix; suffix = suffix }) in x)) (h prefix refl) ∙ (cc)
+of_shorthand o r suffix tag h q = grind arith
 
 shorthand_stands : (handle : Handle) (suffix : List ℕ) (names : Names (List ℕ)) (place : Marker) (r : ResolvedTag)
     → resolve names (Shorthand handle suffix) ≡ Some r
@@ -112,22 +105,17 @@ IsContentKind _ = Unit {0}
 
 content_alone : (k : Kind) (d : NodeContext) (t : Piece) (m : Machine) → IsContentKind k
     → node_at k d t m ≡ node_content (no_node_properties t.span.start) d t m
-content_alone (tokens.Alias _) d t m h = elim h [ ]
-content_alone (tokens.Anchor _) d t m h = elim h [ ]
-content_alone (tokens.Tag _ _) d t m h = elim h [ ]
-content_alone _ d t m h = refl
+content_alone k d t m h = grind arith
 
 content_behind_anchor : (k : Kind) (id : ℕ) (s : Span) (d : NodeContext) (t : Piece) (m : Machine) → IsContentKind k
     → node_behind_anchor_at k id s d t m
     ≡ node_content (record { start = s.start; behind = s.end; anchor = id; tag = None }) d t m
-content_behind_anchor (tokens.Tag _ _) id s d t m h = elim h [ ]
-content_behind_anchor _ id s d t m h = refl
+content_behind_anchor k id s d t m h = grind arith
 
 content_behind_tag : (k : Kind) (tag : ResolvedTag) (s : Span) (d : NodeContext) (t : Piece) (m : Machine)
     → IsContentKind k → node_behind_tag_at k tag s d t m
     ≡ node_content (record { start = s.start; behind = s.end; anchor = 0; tag = Some tag }) d t m
-content_behind_tag (tokens.Anchor _) tag s d t m h = elim h [ ]
-content_behind_tag _ tag s d t m h = refl
+content_behind_tag k tag s d t m h = grind arith
 
 -- the machine has read these properties
 pub record Has (e : Memory) (anchor : Option (List ℕ)) (tag : Option Tag) (q : NodeProperties) : Type 0 where
@@ -223,12 +211,9 @@ pub node_opens : (f : SpansByKinds) (d : NodeContext) (x : State) (ss : List Sta
     → ((q : NodeProperties) → Has e p.anchor p.tag q
     → (span : Span) × (node_content_at k q d (record { span = f ks; kind = k }) (at f ks x ss (noted p.anchor e))
     ≡ told_event (make q.anchor q.tag) span n)) → SaysParts (after part e) n ps → SaysParts e m (part ∷ ps)
-node_opens f d x ss e m n p front k ks part ps make h c more q v go l =
-    says e m n part ps more (λ w z.
-    let g : (g : Option ResolvedTag) × (resolve_any e.prefixes p.tag ≡ Some g) × (make (own_id_in e p.anchor) g ≡ w) =
-    found_any make (own_id_in e p.anchor) (resolve_any e.prefixes p.tag) w (sym v ∙ z) in
-    let r : ComesToContent f d x ss e p.anchor p.tag k ks (next_node d (at f (front ++ k ∷ ks) x ss e)) =
-    node_comes f d x ss e p.anchor p.tag front k ks g.0 h c g.1 in
+node_opens f d x ss e m n p front k ks part ps make h c more q v go l = says e m n part ps more (λ w z.
+    let g = found_any make (own_id_in e p.anchor) (resolve_any e.prefixes p.tag) w (sym v ∙ z) in
+    let r = node_comes f d x ss e p.anchor p.tag front k ks g.0 h c g.1 in
     let s : (span : Span) × (node_content_at k r.properties d (record { span = f ks; kind = k })
     (at f ks x ss (noted p.anchor e)) ≡ told_event (make r.properties.anchor r.properties.tag) span n) =
     go r.properties r.has in

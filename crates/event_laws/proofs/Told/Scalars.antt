@@ -26,15 +26,11 @@ id_is_positive e id h = lt-ltb 0 id (omega (arith, h))
 
 is_tagged : (o : Option ResolvedTag) (found : Option ResolvedTag)
     → option_map (λ v. let t : Option ResolvedTag = Some v in t) o ≡ Some found → is_some found ≡ true
-is_tagged (Some v) found h = let same : Some v ≡ found = cc in ap is_some (sym same)
-is_tagged None found h = absurd (cc)
+is_tagged o found h = grind arith
 
 has_one : (e : Memory) (anchor : Option (List ℕ)) (tag : Option Tag) (q : NodeProperties) → HasOne anchor tag
     → Has e anchor tag q → has_property q ≡ true
-has_one e None None q h has = elim h [ ]
-has_one e (Some name) tag q h has = cc (id_is_positive e q.anchor has.anchor_is)
-has_one e None (Some tag) q h has =
-    cc (is_tagged (resolve e.prefixes tag) q.tag has.tag_is, or-true (nat_lt 0 q.anchor))
+has_one e anchor tag q h has = grind arith
 
 empty_is_told : (q : NodeProperties) (t : Piece) (m : Machine) → has_property q ≡ true
     → node_without_content q t m ≡ told_event (Scalar [] forest.Plain q.anchor q.tag) (span_up_to q q.behind)
@@ -84,15 +80,13 @@ scalar_says p style value c t h = by_content h.3
 
 alias_is_told : (o : Option ℕ) (w : Happening) (s : Span) (m : Machine) → option_map Alias o ≡ Some w
     → alias_of o s m ≡ told_event w s (pop m)
-alias_is_told (Some id) w s m h = let same : Alias id ≡ w = cc in ap (λ u. told_event u s (pop m)) same
-alias_is_told None w s m h = absurd (cc)
+alias_is_told o w s m h = grind arith
 
 pub alias_says : (name : List ℕ) (c : grammar.Context) (t : List Kind) → YieldsNode (forest.Alias name) c t
     → NodeSays (forest.Alias name) c t
 unfolding node alias_node
 alias_says name c t h = record {
-  by = λ f k ks m x s ss e ps z more q l.
-      says e m (at f (k ∷ ks) s ss e) (Reference name) ps more
+  by = λ f k ks m x s ss e ps z more q l. says e m (at f (k ∷ ks) s ss e) (Reference name) ps more
       (λ w v. (
         f (k ∷ ks),
         cc (alias_is_told (meaning (encode_utf8_all name) e.anchors.ids) w (f (k ∷ ks)) (at f (k ∷ ks) x (s ∷ ss) e) v),

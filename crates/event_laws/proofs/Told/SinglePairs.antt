@@ -137,13 +137,9 @@ key_alone_says : (key : Node) (t : List Kind) → YieldsMarkedKey key (YieldsNod
     → SaysEntry (single_pair key forest.left_out) (after_node key) t
 key_alone_says key t h gk f k ks machine x ss e ps z a l =
     let e' : Memory = after_node key e in
-    let last : TellsParts f (k ∷ ks) (behind_value f (k ∷ ks)) ss e' (CloseMapping ∷ ps) = pair_ends f [] k ks ss e' ps
-    l in
-    let second : TellsParts f (k ∷ ks) state.FlowSequenceEntryMappingValue ss e'
-    (node_parts forest.left_out ++ CloseMapping ∷ ps) =
-    skipped e' (at f (k ∷ ks) state.FlowSequenceEntryMappingValue ss e')
+    let second = skipped e' (at f (k ∷ ks) state.FlowSequenceEntryMappingValue ss e')
     (at f (k ∷ ks) (behind_value f (k ∷ ks)) ss e') (CloseMapping ∷ ps) (f ks) (λ q. cc)
-    (value_is_missing f k ks ss e' z) last in
+    (value_is_missing f k ks ss e' z) (pair_ends f [] k ks ss e' ps l) in
     let first : TellsParts f (h.0 ++ k ∷ ks) state.FlowSequenceEntryMappingKey ss e
     (node_parts key ++ (node_parts forest.left_out ++ CloseMapping ∷ ps)) =
     enters_or_skips key InFlow h.0 h.1 (gk h.0) f k ks (λ l. at f l state.FlowSequenceEntryMappingKey ss e)
@@ -162,23 +158,20 @@ pair_says key value t (inl h) gk gv f k ks machine x ss e ps z a l =
     let kt : List Kind = h.2.0 in
     let vt : List Kind = h.3.0 in
     let e' : Memory = after_node key e in
-    let same : t ++ k ∷ ks ≡ Key ∷ (kt ++ Value ∷ (vt ++ k ∷ ks)) =
-    marked_tokens t h.0 h.1 kt vt (k ∷ ks) h.2.2 h.3.2 h.4 in
-    let last : TellsParts f (k ∷ ks) (behind_value f (vt ++ k ∷ ks)) ss (after_node value e') (CloseMapping ∷ ps) =
-    pair_ends f vt k ks ss (after_node value e') ps l in
     let second : TellsParts f (Value ∷ (vt ++ k ∷ ks)) state.FlowSequenceEntryMappingValue ss e'
-    (node_parts value ++ CloseMapping ∷ ps) =
-    enters_or_skips value InFlow vt h.3.1 (gv vt) f k ks
+    (node_parts value ++ CloseMapping ∷ ps) = enters_or_skips value InFlow vt h.3.1 (gv vt) f k ks
     (λ l. at f (Value ∷ l) state.FlowSequenceEntryMappingValue ss e') state.FlowSequenceEntryMappingValue
     (behind_value f) ss e' (CloseMapping ∷ ps) (entry_end_follows k z) (λ l q. cc) (f ks)
-    (value_is_left_out f k ks ss e' z) (λ j l s. single_value_begins f j l ss e' s) last in
+    (value_is_left_out f k ks ss e' z) (λ j l s. single_value_begins f j l ss e' s)
+    (pair_ends f vt k ks ss (after_node value e') ps l) in
     let first : TellsParts f (kt ++ Value ∷ (vt ++ k ∷ ks)) state.FlowSequenceEntryMappingKey ss e
     (node_parts key ++ (node_parts value ++ CloseMapping ∷ ps)) =
     enters_or_skips key InFlow kt h.2.1 (gk kt) f Value (vt ++ k ∷ ks)
     (λ l. at f l state.FlowSequenceEntryMappingKey ss e) state.FlowSequenceEntryMappingKey
     (λ l. state.FlowSequenceEntryMappingValue) ss e (node_parts value ++ CloseMapping ∷ ps) tt (λ l q. cc)
     (f (vt ++ k ∷ ks)) refl (λ j l s. single_key_begins f j l ss e s) second in
-    rw same (pair_opens f (kt ++ Value ∷ (vt ++ k ∷ ks)) machine x ss e
+    rw (marked_tokens t h.0 h.1 kt vt (k ∷ ks) h.2.2 h.3.2 h.4)
+    (pair_opens f (kt ++ Value ∷ (vt ++ k ∷ ks)) machine x ss e
     (node_parts key ++ (node_parts value ++ CloseMapping ∷ ps)) a first)
 pair_says key value t (inr h) gk gv f k ks machine x ss e ps z a l =
     subst (λ (v : Node). TellsParts f (k ∷ ks) state.FlowSequenceEntry ss (after_node v (after_node key e)) ps

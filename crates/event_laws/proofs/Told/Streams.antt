@@ -53,10 +53,9 @@ ended_behind : (f : SpansByKinds) (marks : List Kind) (j : Kind) (l : List Kind)
     ≡ document_end_at j (record { span = f l; kind = j }) (at f l state.DocumentEnd [] (closing e))
 unfolding event_step document_end token_behind_document token_behind_marks
 ended_behind f marks j l e a h =
-    let s : Span = f (marks ++ j ∷ l) in
     cc (
       passes is_mark marks f j l state.DocumentEnd [] e (marks_pass marks a) (behind_is_no_mark j h),
-      marks_behind f s j l e h,
+      marks_behind f (f (marks ++ j ∷ l)) j l e h,
     )
 
 ended_all : (f : SpansByKinds) (marks : List Kind) (j : Kind) (l : List Kind) (e : Memory) → AreMarks marks
@@ -69,8 +68,7 @@ ended_all f (k ∷ ks) j l e a h = rw a.0 (ended_behind f ks j l e a.1 h)
 ends_openly : (f : SpansByKinds) (marks l : List Kind) (e : Memory) (ps : List Part) → AreMarks marks
     → TellsParts f l state.ImplicitDocumentStart [] (closing e) ps
     → TellsParts f (marks ++ DocumentEnd ∷ l) state.DocumentEnd [] e (CloseDocument ∷ ps)
-ends_openly f marks l e ps a r =
-    plainly e (at f (marks ++ DocumentEnd ∷ l) state.DocumentEnd [] e)
+ends_openly f marks l e ps a r = plainly e (at f (marks ++ DocumentEnd ∷ l) state.DocumentEnd [] e)
     (at f l state.ImplicitDocumentStart [] (closing e)) CloseDocument ps events.DocumentEnd (f l) (λ q. cc) refl
     (ended_all f marks DocumentEnd l e a tt) r
 
@@ -78,12 +76,10 @@ ends_openly f marks l e ps a r =
 ends_silently : (f : SpansByKinds) (marks : List Kind) (j : Kind) (l : List Kind) (e : Memory) (ps : List Part)
     → AreMarks marks → MayStandBehindDocument j → TellsParts f (j ∷ l) state.DocumentStart [] (closing e) ps
     → TellsParts f (marks ++ j ∷ l) state.DocumentEnd [] e (CloseDocument ∷ ps)
-ends_silently f marks StreamEnd l e ps a z r =
-    plainly e (at f (marks ++ StreamEnd ∷ l) state.DocumentEnd [] e)
+ends_silently f marks StreamEnd l e ps a z r = plainly e (at f (marks ++ StreamEnd ∷ l) state.DocumentEnd [] e)
     (at f (StreamEnd ∷ l) state.DocumentStart [] (closing e)) CloseDocument ps events.DocumentEnd (f l) (λ q. cc) refl
     (ended_all f marks StreamEnd l e a tt) r
-ends_silently f marks DocumentStart l e ps a z r =
-    plainly e (at f (marks ++ DocumentStart ∷ l) state.DocumentEnd [] e)
+ends_silently f marks DocumentStart l e ps a z r = plainly e (at f (marks ++ DocumentStart ∷ l) state.DocumentEnd [] e)
     (at f (DocumentStart ∷ l) state.DocumentStart [] (closing e)) CloseDocument ps events.DocumentEnd (f l) (λ q. cc)
     refl (ended_all f marks DocumentStart l e a tt) r
 ends_silently f marks _ l e ps a z r = elim z [ ]
@@ -92,8 +88,7 @@ ends_silently f marks _ l e ps a z r = elim z [ ]
 
 -- what the machine tells of these documents, where the first may be bare and where it may not
 abbrev DocumentsSay : Forest → Bool → List Kind → Type 0
-DocumentsSay ds true t =
-    (f : SpansByKinds) (front : List Kind) (e : Memory) → AreEndsAndMarks front
+DocumentsSay ds true t = (f : SpansByKinds) (front : List Kind) (e : Memory) → AreEndsAndMarks front
     → TellsParts f (front ++ t) state.ImplicitDocumentStart [] e (document_parts ds)
 DocumentsSay ds false t = (f : SpansByKinds) (e : Memory) → TellsParts f t state.DocumentStart [] e (document_parts ds)
 
@@ -108,8 +103,7 @@ behind_says ds t h g f e = by h.4
     by (inl z) =
         let n : Next MayStandBehindDocument h.2 = next_start ds h.2 z.1 in
         let same : t ≡ h.0 ++ n.first ∷ n.others = cc in
-        let told : TellsParts f h.2 state.DocumentStart [] (closing e) (document_parts ds) = g false h.2 z.1 f
-        (closing e) in
+        let told = g false h.2 z.1 f (closing e) in
         subst (λ (u : List Kind). TellsParts f u state.DocumentEnd [] e (CloseDocument ∷ document_parts ds)) (sym same)
         (ends_silently f h.0 n.first n.others e (document_parts ds) h.3 n.fits (rw n.is at told))
     by (inr z) =
@@ -140,12 +134,10 @@ explicit_tokens ds node t k ks e = cc (append_assoc (map directive_token ds) (Do
 explicit_document_says : (d : Document) (t : List Kind) → YieldsExplicitDocument d t → FreeSays d t
 explicit_document_says d t h f front k ks e ps a z l =
     let rest : List Kind = map directive_token d.directives ++ DocumentStart ∷ (h.0 ++ k ∷ ks) in
-    let same : t ++ k ∷ ks ≡ rest = explicit_tokens d.directives h.0 t k ks h.4 in
-    let told : TellsParts f (front ++ rest) state.ImplicitDocumentStart [] e
-    (OpenDocument true d.directives ∷ (node_parts d.node ++ ps)) =
+    let told =
     explicit_says d.node d.directives h.0 h.2 h.3 f k ks (at f (front ++ rest) state.ImplicitDocumentStart [] e)
     state.ImplicitDocumentStart e ps z (λ q. cc) (implicit_opens d.directives f front (h.0 ++ k ∷ ks) e a) (l _) in
-    rw (h.1, same) told
+    rw (h.1, explicit_tokens d.directives h.0 t k ks h.4) told
 
 -- after another document without `...` between
 next_document_says : (d : Document) (t : List Kind) → d.directives ≡ [] → YieldsExplicitDocument d t → NextSays d t

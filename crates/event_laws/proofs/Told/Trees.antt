@@ -12,8 +12,7 @@ mutual
   pub node_says : (n : Node) (c : Context) (t : List Kind) → YieldsNode n c t → NodeSays n c t
   node_says (Alias name) c t h = alias_says name c t h
   node_says (Scalar p style value) c t h = scalar_says p style value c t h
-  node_says (Seq p ns) c t h =
-      sequence_says p ns c t h (λ u g. entries_say ns u g) (λ u g. block_entries_say ns u g)
+  node_says (Seq p ns) c t h = sequence_says p ns c t h (λ u g. entries_say ns u g) (λ u g. block_entries_say ns u g)
       (λ u g. indentless_say ns u g)
   node_says (Map p qs) c t h = mapping_says p qs c t h (λ u g. pairs_say qs u g) (λ u g. block_pairs_say qs u g)
 
@@ -24,15 +23,13 @@ mutual
 
   entries_say : (ns : Nodes) (t : List Kind) → YieldFlowEntries ns t → FlowEntriesSay ns t
   entries_say NoNode t h = subst (FlowEntriesSay NoNode) (sym h) no_entries
-  entries_say (MoreNodes n ns) t h =
-      first_entries n ns h.0 h.1 t h.3 h.4
+  entries_say (MoreNodes n ns) t h = first_entries n ns h.0 h.1 t h.3 h.4
       (either_says n h.0 h.2 (λ g. node_says n InFlow h.0 g) (λ g. pair_entry_says n h.0 g))
       (other_entries_say ns h.1 h.3)
 
   other_entries_say : (ns : Nodes) (t : List Kind) → YieldOtherFlowEntries ns t → OtherEntriesSay ns t
   other_entries_say NoNode t h = no_other_entries t h
-  other_entries_say (MoreNodes n ns) t h =
-      other_entries n ns h.0 h.1 t h.3 h.4
+  other_entries_say (MoreNodes n ns) t h = other_entries n ns h.0 h.1 t h.3 h.4
       (either_says n h.0 h.2 (λ g. node_says n InFlow h.0 g) (λ g. pair_entry_says n h.0 g))
       (other_entries_say ns h.1 h.3)
 

@@ -60,9 +60,7 @@ pub record Fronted (e : Memory) (p : forest.Properties) (q : NodeProperties) (fr
 
 pub with_told : (make : ℕ → Option ResolvedTag → Happening) (e : Memory) (p : forest.Properties) (q : NodeProperties)
     → Has e p.anchor p.tag q → with_properties make e p ≡ Some (make q.anchor q.tag)
-with_told make e p q h =
-    ap (option_map (make (own_id_in e p.anchor))) h.tag_is
-    ∙ ap (λ (n : ℕ). let o : Option Happening = Some (make n q.tag) in o) (sym h.anchor_is)
+with_told make e p q h = cc
 
 pub enough_for : (p : forest.Properties) (front own : List Piece)
     → one_more_anchor (option_map encode_utf8_all p.anchor) 0 ≤ length front
@@ -73,15 +71,11 @@ enough_for p front own l = let a = length-append front own in omega (arith, l, a
 
 none_has : (a : ℕ) (g : Option ResolvedTag) → a ≡ 0 → (let o : Option (Option ResolvedTag) = Some None in o) ≡ Some g
     → (nat_lt 0 a || is_some g) ≡ true → ⊥
-none_has a None h k t = let no : (nat_lt 0 a || false) ≡ false = ap (λ (n : ℕ). nat_lt 0 n || false) h in cc
-none_has a (Some v) h k t = cc
+none_has a g h k t = grind arith
 
 has_one : (anchor : Option (List ℕ)) (tag : Option Tag) (e : Memory) (q : NodeProperties) → Has e anchor tag q
     → has_property q ≡ true → HasOne anchor tag
-has_one None None e q h t = absurd (none_has q.anchor q.tag h.anchor_is h.tag_is t)
-has_one (Some a) None e q h t = tt
-has_one None (Some g) e q h t = tt
-has_one (Some a) (Some g) e q h t = tt
+has_one anchor tag e q h t = grind arith
 
 pub split : (front : List Piece) (t : Piece) (u : List Kind) → kinds (front ++ t ∷ []) ++ u ≡ kinds front ++ t.kind ∷ u
 split front t u = cc (kinds_append front (t ∷ []), append_assoc (kinds front) (t.kind ∷ []) u)
@@ -168,9 +162,7 @@ module _ (p : forest.Properties) (q : NodeProperties) (front : List Piece) (r : 
 
 pair_begins : (key value : Node) (K V : List Kind → Type 0) (others t u : List Kind)
     → YieldsBlockPair key value K V others t → BeginsWithEntry (t ++ u) → ⊥
-pair_begins key value K V others t u (inl h) = rw (h.4 ∙ ap (λ (l : List Kind). l ++ h.1) h.2.2) (λ z. z)
-pair_begins key value K V others t u (inr (inl h)) = rw h.2.2 (λ z. z)
-pair_begins key value K V others t u (inr (inr h)) = rw h.1.2 (λ z. z)
+pair_begins key value K V others t u h = grind arith
 
 pairs_begin : (qs : Pairs) (t u : List Kind) → YieldBlockPairs qs t → (BeginsWithEntry u → ⊥) → BeginsWithEntry (t ++ u)
     → ⊥
@@ -185,10 +177,7 @@ in_pairs_begin R ks ps h =
     (rw (g.kinds_are ∙ ap (λ (l : List Kind). l ++ g.back) g.begins.0) (λ z. z)))
 
 at_value_begins : (R : Claim) (ks : List Kind) (ps : List Part) → AtBlockValue R ks ps → BeginsWithEntry ks → ⊥
-at_value_begins R ks ps (inl h) = rw (h.kinds_are ∙ ap (λ (l : List Kind). l ++ h.back) h.begins.1.2) (λ z. z)
-at_value_begins R ks ps (inr h) =
-    rw (h.1.kinds_are ∙ ap (λ (l : List Kind). l ++ h.1.back) h.1.begins.0)
-    (in_pairs_begin R h.1.back h.1.second h.1.goes_on)
+at_value_begins R ks ps h = grind arith
 
 pub no_entry : (s : State) (ss : List State) (ks : List Kind) (ps : List Part) → IsPairState s
     → FollowsStates s ss ks ps → BeginsWithEntry ks → ⊥

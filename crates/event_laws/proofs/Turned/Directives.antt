@@ -94,11 +94,9 @@ tag_passed : (b : Bool) (handle : Handle) (prefix : List ℕ) (t : Piece) (ts : 
     ) in y))
     >>= (λ s. directives_from ts s.0 s.1))
 tag_passed true handle prefix t ts d m v k go = tt
-tag_passed false handle prefix t ts d m v k go =
-    one_more_directive (TagPrefix handle prefix) t ts d m
+tag_passed false handle prefix t ts d m v k go = one_more_directive (TagPrefix handle prefix) t ts d m
     (record (with_pieces ts m) { prefixes = with_meaning (handle_bytes handle) (encode_utf8_all prefix) m.prefixes })
-    _ k v
-    (λ ds rest. refl) (go _ _)
+    _ k v (λ ds rest. refl) (go _ _)
 
 passed_at : (k : Kind) (sp : Span) (ts : List Piece) (d : Declared) (m : Machine) → IsWellFormed k
     → ((d : Declared) (m : Machine) → PassedBy ts d m (directives_from ts d m))
@@ -113,8 +111,7 @@ passed_at (tokens.TagDirective handle prefix) sp ts d m w go =
     (record { span = sp; kind = tokens.TagDirective (handle_bytes w.0) (encode_utf8_all w.2.0) }) ts d m refl refl go)
 passed_at (tokens.ReservedDirective name) sp ts d m w go =
     one_more_directive (Reserved w.0) (record { span = sp; kind = tokens.ReservedDirective name }) ts d m
-    (with_pieces ts m) _
-    (ap tokens.ReservedDirective w.1) tt (λ ds rest. refl) (go d (with_pieces ts m))
+    (with_pieces ts m) _ (ap tokens.ReservedDirective w.1) tt (λ ds rest. refl) (go d (with_pieces ts m))
 passed_at k sp ts d m w go = nothing_passed (record { span = sp; kind = k }) ts d m
 
 pub directives_passed : (ts : List Piece) (d : Declared) (m : Machine) → AreWellFormed ts

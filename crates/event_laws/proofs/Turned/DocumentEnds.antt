@@ -47,8 +47,7 @@ content_at_turned tokens.ByteOrderMark = left_out tokens.ByteOrderMark
 content_at_turned tokens.StreamEnd = left_out tokens.StreamEnd
 content_at_turned k = λ sp ts r x s ss e w a.
     weaker (Then (IsNodeOf InBlock) (FollowsStates s ss)) (Then (IsOptionalOf InBlock) (FollowsStates s ss)) e _ _
-    (some_node InBlock (FollowsStates s ss))
-    (node_turned Block r x s ss e tt a (piece_of k sp) ts w)
+    (some_node InBlock (FollowsStates s ss)) (node_turned Block r x s ss e tt a (piece_of k sp) ts w)
 
 pub content_turned : Turns (λ _. Then (IsOptionalOf InBlock)) document_content
 unfolding document_content
@@ -70,8 +69,7 @@ MarkedBy ts m (Ok x) = Marked ts m x.0 x.1
 MarkedBy ts m (Err f) = Unit {0}
 
 mark_is : (k : Kind) → is_mark k ≡ true → k ≡ tokens.ByteOrderMark
-mark_is tokens.ByteOrderMark h = refl
-mark_is _ h = absurd (cc)
+mark_is k h = grind arith
 
 one_more_mark : (t : Piece) (ts : List Piece) (m : Machine) (r : Result (Piece × Machine) Refusal)
     → is_mark t.kind ≡ true → MarkedBy ts (with_pieces ts m) r → MarkedBy (t ∷ ts) m r
@@ -142,14 +140,7 @@ with_end : (marks : List Piece) (u : Piece) (ks : List Kind) (ps : List Part) �
     → Outside state.DocumentEnd (kinds (marks ++ u ∷ []) ++ ks) (CloseDocument ∷ ps)
 with_end marks u ks ps k a f = (
   f.0,
-  (
-    kinds marks,
-    tokens.DocumentEnd ∷ f.1,
-    f.2,
-    a,
-    inr (f.1, f.3, refl, f.4),
-    cc (split marks u ks),
-  ),
+  (kinds marks, tokens.DocumentEnd ∷ f.1, f.2, a, inr (f.1, f.3, refl, f.4), cc (split marks u ks)),
   cc,
 )
 
@@ -161,8 +152,7 @@ no_directives (TagPrefix _ _ ∷ xs) rest ks e b = absurd (rw e at b)
 no_directives (Reserved _ ∷ xs) rest ks e b = absurd (rw e at b)
 
 not_free : (k : Kind) → (k ≡ tokens.DocumentEnd) ⊎ (k ≡ tokens.ByteOrderMark) → IsFree k → ⊥
-not_free k (inl e) h = rw e at h
-not_free k (inr e) h = rw e at h
+not_free k h e = grind arith
 
 no_front : (front documents ks : List Kind) → AreEndsAndMarks front → ks ≡ front ++ documents → BeginsFreely ks
     → ks ≡ documents
@@ -182,8 +172,7 @@ without_end : (marks : List Piece) (ks : List Kind) (ps : List Part) → AreMark
     → Outside state.DocumentEnd (kinds marks ++ ks) (CloseDocument ∷ ps)
 without_end marks ks ps a f b =
     let same : ks ≡ f.2 = no_front f.1 f.2 ks f.3 f.5 b in
-    let documents : YieldDocuments f.0 false ks = next_documents f.0 ks (rw same f.4) b in
-    (f.0, (kinds marks, [], ks, a, inl (refl, documents), refl), cc)
+    (f.0, (kinds marks, [], ks, a, inl (refl, next_documents f.0 ks (rw same f.4) b), refl), cc)
 
 end_at_turned : (k : Kind) (sp : Span) (n : Machine) (ts : List Piece) (r : Option Refusal) (x : State) (e : Memory)
     → Marked ts (machine ts r x [] e) (record { span = sp; kind = k }) n
@@ -191,8 +180,7 @@ end_at_turned : (k : Kind) (sp : Span) (n : Machine) (ts : List Piece) (r : Opti
 end_at_turned tokens.DocumentEnd sp n ts r x e h = rw h.leaves (record {
   used = h.marks ++ record { span = sp; kind = tokens.DocumentEnd } ∷ [];
   part = CloseDocument;
-  taken = h.are
-      ∙ taken_one h.marks (record { span = sp; kind = tokens.DocumentEnd }) h.rest;
+  taken = h.are ∙ taken_one h.marks (record { span = sp; kind = tokens.DocumentEnd }) h.rest;
   tells = refl;
   remembers = refl;
   few = omega arith;
@@ -204,8 +192,7 @@ end_at_turned tokens.DocumentEnd sp n ts r x e h = rw h.leaves (record {
     is_of = refl;
   };
   alive = tt;
-  makes = λ ks ps f b. with_end h.marks (record { span = sp; kind = tokens.DocumentEnd }) ks ps refl
-      h.are_marks f;
+  makes = λ ks ps f b. with_end h.marks (record { span = sp; kind = tokens.DocumentEnd }) ks ps refl h.are_marks f;
 })
 end_at_turned (tokens.VersionDirective major minor) sp n ts r x e h = tt
 end_at_turned (tokens.TagDirective handle prefix) sp n ts r x e h = tt

@@ -47,8 +47,7 @@ pub moves : (F : Claim) (e : Memory) (k : List Piece) (r : Result Told Refusal) 
 moves F e k (Ok x) h = inl h
 moves F e k (Err f) h = tt
 
-behind_moves : (t : Piece) (F G : Claim) (e : Memory) (k : List Piece)
-    (r : Result Told Refusal) → BelongsToNone t.kind
+behind_moves : (t : Piece) (F G : Claim) (e : Memory) (k : List Piece) (r : Result Told Refusal) → BelongsToNone t.kind
     → ((ks : List Kind) (ps : List Part) → F ks ps → G (t.kind ∷ ks) ps) → MovesOn F e k r → MovesOn G e (t ∷ k) r
 behind_moves t F G e k (Ok x) b i (inl h) = inl (behind t F G e k (Ok x) b i h)
 behind_moves t F G e k (Ok x) b i (inr h) =
@@ -104,8 +103,7 @@ are_passed : (used : List Piece) (ds : List Directive) → kinds used ≡ map di
 are_passed [] ds e = tt
 are_passed (t ∷ used) [] e = absurd (cc)
 are_passed (t ∷ used) (d ∷ ds) e =
-    let both : (t.kind ≡ directive_token d) × (kinds used ≡ map directive_token ds) =
-    first_of_all t.kind (directive_token d) (kinds used) (map directive_token ds) e in
+    let both = first_of_all t.kind (directive_token d) (kinds used) (map directive_token ds) e in
     (rw both.0 (directive_is_passed d), are_passed used ds both.1)
 
 -- ## Documents that begin with `---` or directives
@@ -261,13 +259,7 @@ stream_over F t us x e n k w o f = record {
   is_over = o;
   tells = simp w;
   few = omega arith;
-  places = record {
-    front = t ∷ [];
-    own = [];
-    are = ap (λ (l : List Piece). t ∷ l) n;
-    passed = (rw k tt, tt);
-    is_of = rw w refl;
-  };
+  places = record { front = t ∷ []; own = []; are = cc; passed = (rw k tt, tt); is_of = rw w refl };
   makes = rw (ap (λ (l : List Piece). t.kind ∷ kinds l) n ∙ ap (λ (l : Kind). l ∷ []) k) f;
 }
 
@@ -275,8 +267,7 @@ explicit_there : (k : Kind) (sp : Span) (us : List Piece) (r : Option Refusal) (
     → AreWellFormed (record { span = sp; kind = k } ∷ us)
     → MovesOn (Wanted state.ImplicitDocumentStart [] (k ∷ kinds us)) e (record { span = sp; kind = k } ∷ us)
     (explicit_document (record { span = sp; kind = k }) (machine us r x [] e))
-explicit_there k sp us r x e w =
-    moves (Wanted state.ImplicitDocumentStart [] (k ∷ kinds us)) e _ _
+explicit_there k sp us r x e w = moves (Wanted state.ImplicitDocumentStart [] (k ∷ kinds us)) e _ _
     (weaker (Explicit (k ∷ kinds us)) (Wanted state.ImplicitDocumentStart [] (k ∷ kinds us)) e _ _
     (explicit_first (k ∷ kinds us)) (explicit_turned (record { span = sp; kind = k }) us r x e w))
 
@@ -295,8 +286,7 @@ implicit_at_moves (tokens.TagDirective handle prefix) sp us r x e w =
 implicit_at_moves (tokens.ReservedDirective name) sp us r x e w =
     explicit_there (tokens.ReservedDirective name) sp us r x e w
 implicit_at_moves tokens.DocumentStart sp us r x e w = explicit_there tokens.DocumentStart sp us r x e w
-implicit_at_moves k sp us r x e w =
-    moves (Wanted state.ImplicitDocumentStart [] (k ∷ kinds us)) e _ _
+implicit_at_moves k sp us r x e w = moves (Wanted state.ImplicitDocumentStart [] (k ∷ kinds us)) e _ _
     (bare_turned (record { span = sp; kind = k }) us r x e)
 
 implicit_pass : (k : Kind) (ahead ks : List Kind) (ps : List Part) → is_end_or_mark k ≡ true
@@ -326,15 +316,12 @@ explicit_at_moves tokens.StreamEnd sp us r x e w =
     inr (stream_over (Wanted state.DocumentStart [] (tokens.StreamEnd ∷ kinds us))
     (record { span = sp; kind = tokens.StreamEnd }) us _ e w.1 refl refl refl
     (([], [], tokens.StreamEnd ∷ [], tt, refl, refl, refl), λ b. tt))
-explicit_at_moves k sp us r x e w =
-    moves (Wanted state.DocumentStart [] (k ∷ kinds us)) e _ _
+explicit_at_moves k sp us r x e w = moves (Wanted state.DocumentStart [] (k ∷ kinds us)) e _ _
     (weaker (Explicit (k ∷ kinds us)) (Wanted state.DocumentStart [] (k ∷ kinds us)) e _ _
     (explicit_next (k ∷ kinds us)) (explicit_turned (record { span = sp; kind = k }) us r x e w))
 
 never_free : (k : Kind) (ks : List Kind) → is_end_or_mark k ≡ true → BeginsFreely (k ∷ ks) → ⊥
-never_free tokens.DocumentEnd ks h b = b
-never_free tokens.ByteOrderMark ks h b = b
-never_free _ ks h b = absurd (cc)
+never_free k ks h b = grind arith
 
 explicit_pass : (k : Kind) (ahead ks : List Kind) (ps : List Part) → is_end_or_mark k ≡ true
     → Wanted state.DocumentStart [] ahead ks ps → Wanted state.DocumentStart [] (k ∷ ahead) (k ∷ ks) ps

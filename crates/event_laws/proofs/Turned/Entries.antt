@@ -52,8 +52,7 @@ skipped F t sp ts r x s st e a go =
 pub skip_optional : (c : grammar.Context) (t : Piece) (sp : Span) (ts : List Piece) (r : Option Refusal) (x s : State)
     (st : List State) (e : Memory) → IsAlive s st
     → Turned (Then (IsOptionalOf c) (FollowsStates s st)) e (t ∷ ts) (left_out_event t s sp (machine ts r x st e))
-skip_optional c t sp ts r x s st e a =
-    skipped (Then (IsOptionalOf c) (FollowsStates s st)) t sp ts r x s st e a
+skip_optional c t sp ts r x s st e a = skipped (Then (IsOptionalOf c) (FollowsStates s st)) t sp ts r x s st e a
     (λ ks ps f b. put (IsOptionalOf c) (FollowsStates s st) [] (node_parts forest.left_out) ks ps
     (forest.left_out, inl (refl, refl), refl) f)
 
@@ -124,8 +123,7 @@ leaves_out F o k i go span sp ts r x s ss e w a =
 
 pub skips : (c : grammar.Context) (o : State) (k : Kind) → IsInsideDocument o → (span : Span)
     → TurnsBehind (λ _ R. Then (IsOptionalOf c) (Behind o R)) k (λ t. left_out_event t o span)
-skips c o k i span sp ts r x s ss e w a =
-    skip_optional c (piece_of k sp) span ts r x o (s ∷ ss) e (i, a)
+skips c o k i span sp ts r x s ss e w a = skip_optional c (piece_of k sp) span ts r x o (s ∷ ss) e (i, a)
 
 -- a node begins with the token
 pub enters : (F : List Kind → Claim → Claim) (c : NodeContext) (o : State) (k : Kind) → Suits c o → IsInsideDocument o

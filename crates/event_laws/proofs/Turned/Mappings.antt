@@ -50,8 +50,7 @@ marked_join a b p q x (inr y) = (
 
 marked_first : (R : Claim) (ks : List Kind) (ps : List Part)
     → Then (IsOptionalOf InFlow) (Then (IsAnyValueOf InFlow) (InMapping R)) ks ps → AtFirst R (Key ∷ ks) ps
-marked_first R ks ps h =
-    pair_first R (Key ∷ ks) ps
+marked_first R ks ps h = pair_first R (Key ∷ ks) ps
     (join_behind (IsOptionalOf InFlow) (IsAnyValueOf InFlow) (InMapping R) IsPairOf (Key ∷ []) [] ks ps marked_join h)
 
 -- a key alone
@@ -75,8 +74,7 @@ no_value : (R : Claim) (ks : List Kind) (ps : List Part) → InMapping R ks ps �
 no_value R ks ps h =
     let g : Then (Exactly (FlowMappingEnd ∷ []) (CloseMapping ∷ [])) R h.back h.second = h.goes_on in
     rw (h.kinds_are ∙ ap (λ (l : List Kind). h.front ++ l) (g.kinds_are ∙ ap (λ (l : List Kind). l ++ g.back)
-    g.begins.0))
-    (others_begin h.begins.0 h.front g.back h.begins.1)
+    g.begins.0)) (others_begin h.begins.0 h.front g.back h.begins.1)
 
 keyless : (R : Claim) (front back ks : List Kind) (first second ps : List Part)
     → IsAnyValueOf InFlow front first → InMapping R back second → ks ≡ front ++ back → ps ≡ first ++ second
@@ -102,8 +100,7 @@ keyless R front back ks first second ps (inr v) h e q b =
 
 keyless_first : (R : Claim) (ks : List Kind) (ps : List Part) → Then (IsAnyValueOf InFlow) (InMapping R) ks ps
     → BeginsWithValue ks → AtFirst R ks (Leaf forest.no_properties Plain [] ∷ ps)
-keyless_first R ks ps h b =
-    pair_first R ks (Leaf forest.no_properties Plain [] ∷ ps)
+keyless_first R ks ps h b = pair_first R ks (Leaf forest.no_properties Plain [] ∷ ps)
     (keyless R h.front h.back ks h.first h.second ps h.begins h.goes_on h.kinds_are h.parts_are b)
 
 -- after a comma
@@ -143,13 +140,11 @@ pair_at_turned span k sp = enters (λ _. AtFirst) Flow state.FlowMappingEmptyVal
 
 pub first_pair_turned : Turns (λ _. AtFirst) flow_mapping_first_key
 unfolding flow_mapping_first_key
-first_pair_turned =
-    by_token (λ _. AtFirst) (λ k t. flow_mapping_pair_at k t.span t) (pair_at_turned (λ t. t.span))
+first_pair_turned = by_token (λ _. AtFirst) (λ k t. flow_mapping_pair_at k t.span t) (pair_at_turned (λ t. t.span))
 
 behind_comma_turned : (span : Span) → Turns (λ _. AtFirst) (flow_mapping_pair_behind_comma span)
 unfolding flow_mapping_pair_behind_comma
-behind_comma_turned span =
-    by_token (λ _. AtFirst) (λ k. flow_mapping_pair_at k span) (pair_at_turned (λ _. span))
+behind_comma_turned span = by_token (λ _. AtFirst) (λ k. flow_mapping_pair_at k span) (pair_at_turned (λ _. span))
 
 other_pair_at_turned : TurnsAt (λ _. InMapping) flow_mapping_key_at
 other_pair_at_turned FlowMappingEnd sp = closes (λ _. InMapping) OtherPairs FlowMappingEnd MappingEnd CloseMapping

@@ -37,9 +37,7 @@ use Rattle.event_laws.proofs.Turned.Content.{place_of, IsPairState, Suits, NodeT
 
 has_node : (ns : Nodes) (t u ks : List Kind) → YieldBlockEntries ns t → ks ≡ t ++ u → (BeginsWithEntry u → ⊥)
     → BeginsWithEntry ks → HasNode ns
-has_node NoNode t u ks h e n b =
-    n (rw (e ∙ ap (λ (l : List Kind). l ++ u) h) at b)
-has_node (MoreNodes node nodes) t u ks h e n b = tt
+has_node ns t u ks h e n b = grind arith
 
 indentless_makes : (p : forest.Properties) (front : List Kind) (s : State) (ss : List State) (ks : List Kind)
     (ps : List Part) → grammar.YieldProperties p front → IsPairState s
@@ -47,7 +45,6 @@ indentless_makes : (p : forest.Properties) (front : List Kind) (s : State) (ss :
     → Then (IsNodeOf InBlockMapping) (FollowsStates s ss) (front ++ ks) (OpenSequence p ∷ ps)
 indentless_makes p front s ss ks ps h i g b =
     let g2 : Then (Exactly [] (CloseSequence ∷ [])) (FollowsStates s ss) g.back g.second = g.goes_on in
-    let rest : g.back ≡ g2.back = cc in
     let some : HasNode g.begins.0 = has_node g.begins.0 g.front g2.back ks g.begins.1
     (cc) (no_entry s ss g2.back g2.second i g2.goes_on) b in
     record {
@@ -103,8 +100,7 @@ anchor_front text t e k =
     }
 
 tag_token_is : (g : Tag) → IsTagKind (tag_token g)
-tag_token_is forest.NonSpecific = tt
-tag_token_is _ = tt
+tag_token_is g = grind arith
 
 tag_is : (e : Memory) (g : Tag) (v : ResolvedTag) (t : Piece) → t.kind ≡ tag_token g → resolve e.prefixes g ≡ Some v
     → Fronted e (record { anchor = None; tag = Some g })
@@ -157,14 +153,12 @@ module _ (c : NodeContext) (r : Option Refusal) (x s : State) (ss : List State) 
       let t : Piece = piece_of (tokens.Scalar style (encode_utf8_all value)) sp in
       rw v
       (leaf_goes p q front r s ss e h a (t ∷ []) style value (record { start = q.start; end = sp.end }) (place_of c) ts
-      (inl refl)
-      (whole _ _ _ (inl (content_is t.kind front q t refl h.shape, content_spans front q t h.shape b))))
+      (inl refl) (whole _ _ _ (inl (content_is t.kind front q t refl h.shape, content_spans front q t h.shape b))))
 
   content_turned : (k : Kind) (sp : Span) (front : List Piece) (p : forest.Properties) (q : NodeProperties)
       (ts : List Piece) → IsWellFormed k → Fronted e p q front → StartsAt front sp.start q
       → TurnedNode (front ++ piece_of k sp ∷ ts) (node_content_at k q c (piece_of k sp) (before ts (noted p.anchor e)))
-  content_turned (tokens.Scalar style text) sp front p q ts w h b =
-      scalar_turned style text w.0 sp front p q ts w.1 h b
+  content_turned (tokens.Scalar style text) sp front p q ts w h b = scalar_turned style text w.0 sp front p q ts w.1 h b
   content_turned tokens.FlowSequenceStart sp front p q ts w h b =
       collection_goes p q front r s ss e h a FirstEntries tokens.FlowSequenceStart tokens.FlowSequenceEnd
       state.FlowSequenceFirstEntry (OpenSequence p) CloseSequence SequenceStart sp c ts refl refl refl tt
@@ -205,8 +199,7 @@ module _ (c : NodeContext) (r : Option Refusal) (x s : State) (ss : List State) 
     where
       by : (c : NodeContext) → Suits c s → Turned (NodeThen c s ss) e (front ++ piece_of tokens.BlockEntry sp ∷ ts)
           (node_content_at tokens.BlockEntry q c (piece_of tokens.BlockEntry sp) (before ts (noted p.anchor e)))
-      by BlockMapping z =
-          indentless_goes _ p q front _ ts r s ss e refl z h a
+      by BlockMapping z = indentless_goes _ p q front _ ts r s ss e refl z h a
           (whole _ _ _ (inr (no_opening front q (piece_of tokens.BlockEntry sp) ts refl h.shape b)))
       by c z = alone_turned p q front r s ss e h a _ c ts x
   content_turned k sp front p q ts w h b = alone_turned p q front r s ss e h a (piece_of k sp) c ts x
@@ -313,8 +306,7 @@ module _ (c : NodeContext) (r : Option Refusal) (x s : State) (ss : List State) 
       (sym wk.1) (anchored_turned ts wk.0 (piece_of (tokens.Anchor (encode_utf8_all wk.0)) sp) refl w)
   node_at_turned (tokens.Tag handle suffix) sp ts wk w =
       tagged_turned (resolved_tag_at e.prefixes handle suffix sp.start) handle suffix sp ts refl wk w
-  node_at_turned k sp ts wk w =
-      content_turned k sp [] forest.no_properties (no_node_properties sp.start) ts wk
+  node_at_turned k sp ts wk w = content_turned k sp [] forest.no_properties (no_node_properties sp.start) ts wk
       (record {
         are = refl;
         has = record { anchor_is = refl; tag_is = refl };

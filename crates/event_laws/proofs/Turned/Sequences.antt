@@ -69,19 +69,16 @@ single_parts key value p e = cc (append-nil (node_parts value))
 single_join : (a b : List Kind) (p q : List Part) → IsPairInside a p → Exactly [] (CloseMapping ∷ []) b q
     → IsEntryOf (Key ∷ (a ++ b)) (OpenMapping forest.no_properties ∷ (p ++ q))
 single_join a b p q x y =
-    let tokens : a ++ b ≡ a = cc (append-nil a) in
-    let whole : YieldsSinglePair x.0 x.1 (YieldsNode x.0 InFlow) (YieldsNode x.1 InFlow) (Key ∷ (a ++ b)) =
-    rw tokens x.2 in (
+    let tokens : a ++ b ≡ a = cc (append-nil a) in (
       Map forest.no_properties (MorePairs x.0 x.1 NoPair),
-      inr (refl, whole),
+      inr (refl, rw tokens x.2),
       ap
           (λ (l : List Part). OpenMapping forest.no_properties ∷ (p ++ l)) y.1 ∙ single_parts x.0 x.1 p x.3,
     )
 
 pair_first : (R : Claim) (ks : List Kind) (ps : List Part)
     → Then (IsOptionalOf InFlow) (AtPairValue R) ks ps → AtFirst R (Key ∷ ks) (OpenMapping forest.no_properties ∷ ps)
-pair_first R ks ps h =
-    entry_first R (Key ∷ ks) (OpenMapping forest.no_properties ∷ ps)
+pair_first R ks ps h = entry_first R (Key ∷ ks) (OpenMapping forest.no_properties ∷ ps)
     (join_behind IsPairInside (Exactly [] (CloseMapping ∷ [])) (InSequence R) IsEntryOf (Key ∷ [])
     (OpenMapping forest.no_properties ∷ []) ks ps single_join
     (regroup (IsOptionalOf InFlow) (IsAnyValueOf InFlow) (AtPairEnd R) IsPairInside ks ps pair_join h))

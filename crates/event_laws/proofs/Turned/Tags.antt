@@ -35,10 +35,9 @@ named_test : (b : List ℕ) → is_named_handle (exclamation_mark ∷ (b ++ excl
 named_test b =
     let h : List ℕ = 33 ∷ (b ++ 33 ∷ []) in
     let l : length h - 1 ≡ length (33 ∷ b) = let a = length-append b (33 ∷ []) in omega (arith, a) in
-    let long : nat_le 2 (length h) ≡ true =
-    le-leb 2 (length h) (let a = length-append b (33 ∷ []) in omega (arith, a)) in
     let last : slice_index h (length h - 1) ≡ 33 = cc (get_or-append_seam (33 ∷ b) 33 [] 0) in
-    rw long (eq-eqb (slice_index h (length h - 1)) 33 last)
+    rw (le-leb 2 (length h) (let a = length-append b (33 ∷ []) in omega (arith, a)))
+    (eq-eqb (slice_index h (length h - 1)) 33 last)
 
 named_handle : (word : List ℕ) → is_named_handle (handle_bytes (Named word)) ≡ true
 named_handle word = ap is_named_handle (sym (scalar.bytes_of_handle word)) ∙ named_test (encode_utf8_all word)
@@ -51,11 +50,7 @@ prefix_found : (o : Option (List ℕ)) (u : Result (List ℕ) Refusal) (d : Opti
     Ok (record { handle = prefix; suffix = suffix }) in x)) ≡ Ok v
     → option_map (λ prefix. let t : ResolvedTag = record { handle = prefix; suffix = suffix } in t) (option_or o d)
     ≡ Some v
-prefix_found (Some p) u d suffix v h e = cc
-prefix_found None (Ok p) d suffix v h e =
-    ap (λ (o : Option (List ℕ)). option_map
-    (λ prefix. let t : ResolvedTag = record { handle = prefix; suffix = suffix } in t) o) (h p refl) ∙ (cc)
-prefix_found None (Err f) d suffix v h e = absurd (cc)
+prefix_found o u d suffix v h e = grind arith
 
 -- a handle whose default is that of the machine
 shorthand : (handle : Handle) (suffix : List ℕ) (names : Names (List ℕ)) (place : Marker) (v : ResolvedTag)
@@ -88,22 +83,18 @@ secondary_bytes = refl
 
 refuses : (place : Marker) (handle prefix : List ℕ) → bytes_eq handle (codes "!!") ≡ false → is_named_handle handle
     ≡ true → undeclared_prefix handle place ≡ Ok prefix → ⊥
-refuses place handle prefix a b h =
-    let no : undeclared_prefix handle place ≡ Err (record { text = fault.UndeclaredHandle; mark = place }) =
-    rw (a, b) refl in cc
+refuses place handle prefix a b h = cc
 
 named_stands : (word suffix : List ℕ) (names : Names (List ℕ)) (place : Marker) (v : ResolvedTag) (b : Bool)
     → bytes_eq (handle_bytes (Named word)) (codes "!!") ≡ b
     → resolved_tag_at names (handle_bytes (Named word)) (encode_utf8_all suffix) place ≡ Ok v
     → ResolvesTo names (handle_bytes (Named word)) (encode_utf8_all suffix) v
 named_stands word suffix names place v true q e =
-    let same : handle_bytes Secondary ≡ handle_bytes (Named word) =
-    secondary_bytes ∙ sym ((bytes_eq-Decides (handle_bytes (Named word)) (codes "!!")).0 q) in
+    let same = secondary_bytes ∙ sym ((bytes_eq-Decides (handle_bytes (Named word)) (codes "!!")).0 q) in
     subst (λ (h : List ℕ). resolved_tag_at names h (encode_utf8_all suffix) place ≡ Ok v
     → ResolvesTo names h (encode_utf8_all suffix) v) same
     (shorthand Secondary suffix names place v (secondary_default place)) e
-named_stands word suffix names place v false q e =
-    shorthand (Named word) suffix names place v
+named_stands word suffix names place v false q e = shorthand (Named word) suffix names place v
     (λ prefix h. absurd (refuses place (handle_bytes (Named word)) prefix q (named_handle word) h)) e
 
 -- ## Tags
@@ -120,8 +111,7 @@ back (Verbatim uri) = encode_utf8_all uri
 back (Shorthand handle suffix) = encode_utf8_all suffix
 
 token_is : (tag : Tag) → tokens.Tag (front tag) (back tag) ≡ tag_token tag
-token_is NonSpecific = refl
-token_is _ = refl
+token_is tag = grind arith
 
 same : (a b : ResolvedTag) → (let r : Result ResolvedTag Refusal = Ok a in r) ≡ Ok b
     → (let o : Option ResolvedTag = Some a in o) ≡ Some b
@@ -145,7 +135,6 @@ pub stands : (names : Names (List ℕ)) (handle suffix : List ℕ) (place : Mark
     → (tag : Tag) × (tokens.Tag handle suffix ≡ tag_token tag) → resolved_tag_at names handle suffix place ≡ Ok v
     → ResolvesTo names handle suffix v
 stands names handle suffix place v h e =
-    let parts : (handle ≡ front h.0) × (suffix ≡ back h.0) = tag_parts handle suffix (front h.0) (back h.0)
-    (h.1 ∙ sym (token_is h.0)) in
+    let parts = tag_parts handle suffix (front h.0) (back h.0) (h.1 ∙ sym (token_is h.0)) in
     subst (λ (x : List ℕ). resolved_tag_at names x suffix place ≡ Ok v → ResolvesTo names x suffix v) (sym parts.0)
     (rw parts.1 (tag_stands h.0 names place v)) e

@@ -137,8 +137,7 @@ put A R u w ks ps a r = record {
 pub join_behind : (A B C D : Claim) (u : List Kind) (w : List Part) (ks : List Kind) (ps : List Part)
     → ((a b : List Kind) (p q : List Part) → A a p → B b q → D (u ++ (a ++ b)) (w ++ (p ++ q)))
     → Then A (Then B C) ks ps → Then D C (u ++ ks) (w ++ ps)
-join_behind A B C D u w ks ps join h =
-    replace (λ a p. D (u ++ a) (w ++ p)) C D u w ks ps (λ a p x. x)
+join_behind A B C D u w ks ps join h = replace (λ a p. D (u ++ a) (w ++ p)) C D u w ks ps (λ a p x. x)
     (regroup A B C (λ a p. D (u ++ a) (w ++ p)) ks ps join h)
 
 pub both_parts : {a b p q : List Part} → p ≡ a → q ≡ b → p ++ q ≡ a ++ b

@@ -81,8 +81,7 @@ module _ (n : ℕ) where
       → IsBalanced n (end_blocks column m is s)
   ends_balanced column m [] s h =
       by_test (is_right_of column s.core.indent) _ _ (IsBalanced n) (λ _. end_balanced m s h) (λ _. h)
-  ends_balanced column m (i ∷ is) s h =
-      by_test (is_right_of column s.core.indent) _ _ (IsBalanced n)
+  ends_balanced column m (i ∷ is) s h = by_test (is_right_of column s.core.indent) _ _ (IsBalanced n)
       (λ _. ends_balanced column m is (end_block m s) (end_balanced m s h)) (λ _. h)
 
   less_same : (column : Option ℕ) (c : Core) → length (go_less_deep column c).outer ≡ length c.outer
@@ -91,8 +90,7 @@ module _ (n : ℕ) where
 
   unroll_balanced : (column : Option ℕ) (m : Marker) (s : State) → IsBalanced n s → IsBalanced n (unroll column m s)
   unfolding unroll
-  unroll_balanced column m s h =
-      by_test (in_block s.core) _ _ (IsBalanced n)
+  unroll_balanced column m s h = by_test (in_block s.core) _ _ (IsBalanced n)
       (λ _. ends_balanced column m s.core.outer_indents (with_core (go_less_deep column s.core) s)
       (less_same column s.core ∙ h)) (λ _. h)
 
@@ -102,8 +100,7 @@ module _ (n : ℕ) where
   unfolding document.end_content
   content_balanced s h =
       let t = unroll None s.core.cursor.mark s in
-      on_core_balanced (remove_key t.core) t.queue
-      (remove_opens _ t.core (unroll_balanced None s.core.cursor.mark s h))
+      on_core_balanced (remove_key t.core) t.queue (remove_opens _ t.core (unroll_balanced None s.core.cursor.mark s h))
 
   end_at_balanced : (m : Marker) (s : State) → IsBalanced n s → Given (IsBalanced n) (document.end_at m s)
   unfolding document.end_at
@@ -115,8 +112,7 @@ module _ (n : ℕ) where
 
   end_state_balanced : (s : State) → IsBalanced n s → Given (IsBalanced n) (document.state_behind_end s)
   unfolding document.state_behind_end
-  end_state_balanced s h =
-      by_test (length s.core.cursor.rest == 0) _ _ (Given (IsBalanced n))
+  end_state_balanced s h = by_test (length s.core.cursor.rest == 0) _ _ (Given (IsBalanced n))
       (λ _. end_at_balanced (document.end_mark s.core.cursor.mark) s h) (λ _. tt)
 
   mark_balanced : (s : State) → IsBalanced n s → Given (IsBalanced n) (document.state_behind_byte_order_mark s)
@@ -133,8 +129,7 @@ module _ (n : ℕ) where
 
   directive_balanced : (s : State) → IsBalanced n s → Given (IsBalanced n) (document.state_behind_directive s)
   unfolding document.state_behind_directive document.read_directive
-  directive_balanced s h =
-      given_then (IsBalanced n) (IsBalanced n) (document.end_content s) _ (content_balanced s h)
+  directive_balanced s h = given_then (IsBalanced n) (IsBalanced n) (document.end_content s) _ (content_balanced s h)
       (λ t i. stepped (directives.directive t.core.cursor >>= λ x. completed_step
       (from_to t.core.cursor.mark x.1 (document.directive_kind x.0) ∷ [])
       (record t.core { cursor = x.2; key_allowed = false })) t.queue
@@ -190,16 +185,14 @@ module _ (n : ℕ) where
 
   fetch_balanced : (s : State) → IsBalanced n s → Given (IsBalanced n) (fetch s)
   unfolding fetch
-  fetch_balanced s h =
-      by_test s.core.started _ _ (Given (IsBalanced n))
+  fetch_balanced s h = by_test s.core.started _ _ (Given (IsBalanced n))
       (λ _. given_then (IsBalanced n) (IsBalanced n) (arrive s) _ (arrive_balanced s h) here_balanced)
       (λ _. put_balanced (empty_piece s.core.cursor.mark tokens.StreamStart) s.core (record s.core { started = true })
       s.queue h refl (λ k. refl))
 
   pub read_balanced : (limit : ℕ) (s t : State) → IsBalanced n s → read limit s ≡ Ok t → IsBalanced n t
   unfolding fetch_within
-  read_balanced limit s t h e =
-      given_of (IsBalanced n) (read limit s) t
+  read_balanced limit s t h e = given_of (IsBalanced n) (read limit s) t
       (given_then (IsBalanced n) (IsBalanced n) (fetch s >>= check_limit limit) _
       (given_then (IsBalanced n) (IsBalanced n) (fetch s) _ (fetch_balanced s h)
       (λ u i. by_test (nat_le u.core.cursor.mark.index limit) _ _ (Given (IsBalanced n)) (λ _. i) (λ _. tt)))

@@ -85,8 +85,7 @@ module _ (n : ℕ) where
 
   pub drop_opens : (c : Core) → Opens n c → Given (Opens n) (drop_far_key c)
   unfolding drop_far_key
-  drop_opens c e =
-      by_test (not (in_block c && is_too_far c.level.key c.cursor.mark)) _ _ (Given (Opens n)) (λ _. e)
+  drop_opens c e = by_test (not (in_block c && is_too_far c.level.key c.cursor.mark)) _ _ (Given (Opens n)) (λ _. e)
       (λ _. by_test c.required _ _ (Given (Opens n)) (λ _. tt) (λ _. e))
 
   pub separate_opens : (c : Core) → Opens n c → Given (Beyond n) (separate c)
@@ -122,8 +121,7 @@ module _ (n : ℕ) where
   quotes_counted : (start : Marker) (style : ScalarStyle) (text : List ℕ) (c : Core) → Opens n c
       → Counted n (scalar.behind_quotes start style text c)
   unfolding scalar.behind_quotes
-  quotes_counted start style text c e =
-      given_then (Beyond n) (IsCounted n) (separate c) _ (separate_opens c e)
+  quotes_counted start style text c e = given_then (Beyond n) (IsCounted n) (separate c) _ (separate_opens c e)
       (λ x h. by_test (scalar.goes_on_behind_quotes start x.1) _ _ (Counted n)
       (λ _. given_then (Opens n) (IsCounted n) (pass_gap x.1) _ (gap_opens x.1 h) (λ d i. i)) (λ _. tt))
 
@@ -164,8 +162,7 @@ module _ (n : ℕ) where
   opening_counted x kind is k c e =
       let d = go_deeper (save_key k c) in
       let s = pass 1 d.cursor in
-      let P : SkipTabs × Core → Type 0 =
-      λ y. Opens (n + 1) y.1 × (d.cursor.mark.index + 1 ≤ y.1.cursor.mark.index) in
+      let P : SkipTabs × Core → Type 0 = λ y. Opens (n + 1) y.1 × (d.cursor.mark.index + 1 ≤ y.1.cursor.mark.index) in
       let more = save_opens k c e in
       by_test (nat_le most_open (length d.outer)) _ _ (Counted n) (λ _. tt)
       (λ _. given_then P (IsCounted n) (separate (pass_on 1 (flow.enter x d))) _
@@ -174,8 +171,7 @@ module _ (n : ℕ) where
       (λ y h. h.0 ∙ sym (is d.cursor.mark y.1.cursor.mark (omega (arith, h.1)))))
 
   left_opens : (ls : List Level) (c : Core) → length (flow.leave_to ls c).outer ≡ length ls - 1
-  left_opens [] c = refl
-  left_opens (l ∷ ls) c = omega arith
+  left_opens ls c = grind arith
 
   adjacent_opens : (m : ℕ) (c : Core) → Opens m c → Opens m (flow.allow_adjacent c)
   adjacent_opens m c e = by_test (in_block c) _ _ (Opens m) (λ _. e) (λ _. e)
@@ -191,8 +187,7 @@ module _ (n : ℕ) where
   closing_counted ends kind is c e =
       let d = flow.leave c in
       let s = pass 1 c.cursor in
-      let P : SkipTabs × Core → Type 0 =
-      λ y. Opens (n - 1) y.1 × (c.cursor.mark.index + 1 ≤ y.1.cursor.mark.index) in
+      let P : SkipTabs × Core → Type 0 = λ y. Opens (n - 1) y.1 × (c.cursor.mark.index + 1 ≤ y.1.cursor.mark.index) in
       let less : length d.outer ≡ n - 1 = left_opens c.outer c ∙ ap (λ k. k - 1) e in
       by_test (in_block c) _ _ (Counted n) (λ _. tt)
       (λ _. given_then P (IsCounted n) (separate (pass_on 1 d)) _ (rw (left_cursor c.outer)
@@ -207,9 +202,7 @@ module _ (n : ℕ) where
 
   entry_counted : (c : Core) → Opens n c → Counted n (flow.flow_entry_steps c)
   unfolding flow.flow_entry_steps flow.next_flow_entry
-  entry_counted c e =
-      given_then (Opens n) (IsCounted n) (remove_key c) _ (remove_opens c e)
-      (λ d h.
+  entry_counted c e = given_then (Opens n) (IsCounted n) (remove_key c) _ (remove_opens c e) (λ d h.
       let f = pass_on 1 (with_context (behind_entry d.level.context) (record d { key_allowed = true })) in
       given_then (Beyond n) (IsCounted n) (separate f) _ (separate_opens f h)
       (λ x i. i ∙ sym (pair_counted (ends_pair d.level.context) d.cursor.mark _)))
@@ -225,15 +218,12 @@ module _ (n : ℕ) where
 
   dash_opens : (c : Core) → Opens n c → Given (Opens n) (block.pass_dash c)
   unfolding block.pass_dash
-  dash_opens c e =
-      given_then (Beyond n) (Opens n) (separate c) _ (separate_opens c e) tab_opens
+  dash_opens c e = given_then (Beyond n) (Opens n) (separate c) _ (separate_opens c e) tab_opens
 
   block_entry_counted : (c : Core) → Opens n c → Counted n (block.block_entry_steps c)
   unfolding block.block_entry_steps block.next_entry
-  block_entry_counted c e =
-      by_test (not (in_block c)) _ _ (Counted n) (λ _. tt)
-      (λ _. by_test (not c.key_allowed) _ _ (Counted n) (λ _. tt)
-      (λ _.
+  block_entry_counted c e = by_test (not (in_block c)) _ _ (Counted n) (λ _. tt)
+      (λ _. by_test (not c.key_allowed) _ _ (Counted n) (λ _. tt) (λ _.
       let d = roll c.cursor.mark.col (pass_on 1 c) in
       given_then (Opens n) (IsCounted n) (block.pass_dash d >>= remove_key) _ (given_then (Opens n) (Opens n)
       (block.pass_dash d) _ (dash_opens d (roll_opens c.cursor.mark.col (pass_on 1 c) e)) remove_opens)
@@ -242,15 +232,12 @@ module _ (n : ℕ) where
 
   mark_opens : (b : Bool) (c : Core) → Opens n c → Given (Opens n) (block.behind_mark b c)
   unfolding block.behind_mark
-  mark_opens b c e =
-      by_test (not b) _ _ (Given (Opens n)) (λ _. tt)
+  mark_opens b c e = by_test (not b) _ _ (Given (Opens n)) (λ _. tt)
       (λ _. by_test (slice_index c.cursor.rest 0 == 9) _ _ (Given (Opens n)) (λ _. tt) (λ _. e))
 
   key_counted : (c : Core) → Opens n c → Counted n (block.key_steps c)
   unfolding block.key_steps block.begin_key
-  key_counted c e =
-      by_test (in_block c && not c.key_allowed) _ _ (Counted n) (λ _. tt)
-      (λ _.
+  key_counted c e = by_test (in_block c && not c.key_allowed) _ _ (Counted n) (λ _. tt) (λ _.
       let d = with_context (behind_question c.level.context) (roll c.cursor.mark.col c) in
       given_then (Opens n) (IsCounted n) (remove_key d >>= λ f. block.pass_question (record f {
         key_allowed = in_block f;
@@ -271,19 +258,15 @@ module _ (n : ℕ) where
 
   check_opens : (c : Core) → Opens n c → Given (Opens n) (value.check_tab c)
   unfolding value.check_tab
-  check_opens c e =
-      by_test (slice_index c.cursor.rest 0 == 9) _ _ (Given (Opens n))
-      (λ _. given_then (Beyond n) (Opens n) (separate c) _ (separate_opens c e) lone_opens)
-      (λ _. e)
+  check_opens c e = by_test (slice_index c.cursor.rest 0 == 9) _ _ (Given (Opens n))
+      (λ _. given_then (Beyond n) (Opens n) (separate c) _ (separate_opens c e) lone_opens) (λ _. e)
 
   value_counted_behind : (k : Option Candidate) (begins : Bool) (start : Marker) (c : Core) → Opens n c
       → Counted n (value.behind_key k begins start c)
   unfolding value.behind_key value.value_of_key value.value_alone value.opening_actions
   value_counted_behind (Some k) begins start c e =
-      by_test (begins && nat_lt k.mark.line start.line) _ _ (Counted n) (λ _. tt)
-      (λ _. roll_opens k.mark.col c e)
-  value_counted_behind None begins start c e =
-      by_test (in_block c && not c.key_allowed) _ _ (Counted n) (λ _. tt)
+      by_test (begins && nat_lt k.mark.line start.line) _ _ (Counted n) (λ _. tt) (λ _. roll_opens k.mark.col c e)
+  value_counted_behind None begins start c e = by_test (in_block c && not c.key_allowed) _ _ (Counted n) (λ _. tt)
       (λ _. roll_opens start.col c e ∙ starts begins (is_further start.col c))
     where
       starts : (b f : Bool) → n ≡ counted n (cond b (at_mark start tokens.FlowMappingStart ∷ []) []

@@ -39,8 +39,7 @@ one_moved low n s h k = counts_moved low n 1 s.mark.index s.rest h.0 h.1 k
 
 chomping_stands : (low n : ℕ) (s : Cursor) → CountsFrom low n s → CountsFrom low n (chomping s).1
 unfolding chomping
-chomping_stands low n s h =
-    by_test (slice_index s.rest 0 == 43) _ _ (Behind (Option Chomping) low n)
+chomping_stands low n s h = by_test (slice_index s.rest 0 == 43) _ _ (Behind (Option Chomping) low n)
     (λ e. one_moved low n s h (shows_character s.rest (λ c. c == 43) true e (λ k. absurd (cc))))
     (λ _. by_test (slice_index s.rest 0 == 45) _ _ (Behind (Option Chomping) low n)
     (λ e. one_moved low n s h (shows_character s.rest (λ c. c == 45) true e (λ k. absurd (cc)))) (λ _. h))
@@ -48,14 +47,12 @@ chomping_stands low n s h =
 indicator_stands : (low n : ℕ) (start : Marker) (s : Cursor) → CountsFrom low n s
     → Given (Behind ℕ low n) (indicator start s)
 unfolding indicator
-indicator_stands low n start s h =
-    by_test (not (is_digit (slice_index s.rest 0))) _ _ (Given (Behind ℕ low n)) (λ _. h)
+indicator_stands low n start s h = by_test (not (is_digit (slice_index s.rest 0))) _ _ (Given (Behind ℕ low n)) (λ _. h)
     (λ e. by_test (slice_index s.rest 0 == 48) _ _ (Given (Behind ℕ low n)) (λ _. tt)
     (λ _. one_moved low n s h (shows_character s.rest (λ c. not (is_digit c)) false e (λ k. absurd (cc)))))
 
 break_stands : (low n : ℕ) (s : Cursor) → CountsFrom low n s → CountsFrom low n (pass_break s)
-break_stands low n s h =
-    by_test (next_2_are s.rest 13 10) _ _ (CountsFrom low n)
+break_stands low n s h = by_test (next_2_are s.rest 13 10) _ _ (CountsFrom low n)
     (λ e. counts_moved low n 2 s.mark.index s.rest h.0 h.1 (two_shown s.rest e))
     (λ _. by_test (is_break (slice_index s.rest 0)) _ _ (CountsFrom low n)
     (λ e. counts_moved low n 1 s.mark.index s.rest h.0 h.1 (shows_character s.rest is_break true e (λ k. absurd (cc))))
@@ -81,8 +78,7 @@ separation_stands low n tabs s h =
 header_end_stands : (low n : ℕ) (start : Marker) (s : Cursor) → CountsFrom low n s
     → Given (CountsFrom low n) (header_end start s)
 unfolding header_end
-header_end_stands low n start s h =
-    given_bind (CountsFrom low n) (separation Yes s) _ (λ x e.
+header_end_stands low n start s h = given_bind (CountsFrom low n) (separation Yes s) _ (λ x e.
     header_break_stands low n start x.1
     (given_of (Behind SkipTabs low n) (separation Yes s) x (separation_stands low n Yes s h) e))
 
@@ -95,8 +91,7 @@ last_stands low n None s h = chomping_stands low n s h
 header_behind_stands : (low n : ℕ) (start : Marker) (i : ℕ) (x : Chomping × Cursor) → CountsFrom low n x.1
     → Given (Behind BlockHeader low n) (header_behind start i x)
 unfolding header_behind
-header_behind_stands low n start i x h =
-    given_bind (Behind BlockHeader low n) (header_end start x.1) _
+header_behind_stands low n start i x h = given_bind (Behind BlockHeader low n) (header_end start x.1) _
     (λ s e. given_of (CountsFrom low n) (header_end start x.1) s (header_end_stands low n start x.1 h) e)
 
 header_stands : (low n : ℕ) (s : Cursor) → CountsFrom low n (pass 1 s) → Given (Behind BlockHeader low n) (header s)
@@ -191,8 +186,7 @@ header_scalar_stands n style indent start x h =
 scalar_stands : (n : ℕ) (style : BlockStyle) (indent : ℕ) (s : Cursor) → CountsFrom s.mark.index n (pass 1 s)
     → Given (SpanStands s.mark.index n) (block_scalar style indent s)
 unfolding block_scalar
-scalar_stands n style indent s h =
-    given_bind (SpanStands s.mark.index n) (header s) _ (λ x e.
+scalar_stands n style indent s h = given_bind (SpanStands s.mark.index n) (header s) _ (λ x e.
     header_scalar_stands n style indent s.mark x
     (given_of (Behind BlockHeader s.mark.index n) (header s) x (header_stands s.mark.index n s h) e))
 
@@ -202,6 +196,5 @@ pub block_scalar_counts : (style : BlockStyle) (indent : ℕ) (s t : Cursor) (te
     × (t.mark.index + length t.rest ≡ s.mark.index + length s.rest)
 block_scalar_counts style indent s t text span some e =
     let n = s.mark.index + length s.rest in
-    let first : CountsFrom s.mark.index n (pass 1 s) = one_moved s.mark.index n s (omega arith, refl) (omega arith) in
     given_of (SpanStands s.mark.index n) (block_scalar style indent s) (text, span, t)
-    (scalar_stands n style indent s first) e
+    (scalar_stands n style indent s (one_moved s.mark.index n s (omega arith, refl) (omega arith))) e

@@ -39,8 +39,7 @@ begun_by_empty_lines limit before m (x ∷ cs) =
     by_test (is_indentation limit m.col x) _ _ Begun (λ _. begun_by_empty_lines limit before (along m 1) cs)
     (λ _. by_test (is_cr_lf x cs) _ _ Begun (λ _. begun_by_empty_lines limit before (inside_break m) cs)
     (λ _. by_test (is_break x) _ _ Begun
-    (λ _. begun_by_empty_lines limit (with_empty_line before m.col) (next_line m 1) cs)
-    (λ _. refl)))
+    (λ _. begun_by_empty_lines limit (with_empty_line before m.col) (next_line m 1) cs) (λ _. refl)))
 
 z_is_none : (x : ℕ) → is_z x ≡ true → is_yaml_non_break x ≡ false
 z_is_none x h = ap is_yaml_non_break (z_is_nul x h)
@@ -68,8 +67,7 @@ pub record Led (i : ℕ) (u v : Cursor) (k : ℕ) : Type 0 where
 
 no_space : (limit : Option ℕ) (indent col w x : ℕ) → is_indentation limit col x ≡ false
     → is_indentation (Some (unwrap_or limit (max w indent))) col x ≡ false
-no_space None indent col w x h = rw h refl
-no_space (Some i) indent col w x h = h
+no_space limit indent col w x h = grind arith
 
 wide : (limit : Option ℕ) (indent : ℕ) (m : Marker) (xs : List ℕ) → m.col ≡ 0
     → (pass_empty_lines limit no_lines true m xs).0.widest
@@ -118,17 +116,14 @@ alone_read st c i u v k l z =
     record {
       lines = w.0;
       taken = w.1;
-      indented = subst (HasLines i) (sym w.2) (l.shape [] (rw nothing (lines_spaces i v.mark.col l.within)));
+      indented = rw w.2 (l.shape [] (rw nothing (lines_spaces i v.mark.col l.within)));
       ends = record {
         no_space = l.space;
         no_break = l.clear;
         no_content = no_start i v.mark.col v.rest (z_is_none _ z);
         whole_line = λ _. z_is_none _ z;
       };
-      value =
-          ap encode_utf8_all
-          (sym
-          (block_value_of st c i (normalized w.0) (spaces v.mark.col) (empties k) (ending v)
+      value = ap encode_utf8_all (sym (block_value_of st c i (normalized w.0) (spaces v.mark.col) (empties k) (ending v)
           (ap (lines_of i) w.2 ∙ l.lines [] ∙ ap (λ ys. empties k ++ lines_of i ys) nothing
           ∙ ap (λ ls. empties k ++ map (line_of i) ls) cut.0 ∙ append-nil (empties k))
           (ap last_line w.2 ∙ l.last [] ∙ ap last_line nothing ∙ cut.1)
@@ -148,24 +143,19 @@ lines_behind st c i u v k l z =
     record {
       lines = w.0;
       taken = w.1;
-      indented = subst (HasLines i) (sym w.2) (l.shape (normalized f.taken) f.lines);
+      indented = rw w.2 (l.shape (normalized f.taken) f.lines);
       ends = f.ends;
-      value = ap encode_utf8_all
-          (f.value (normalized w.0) (ap (lines_of i) w.2 ∙ l.lines (normalized f.taken))
+      value = ap encode_utf8_all (f.value (normalized w.0) (ap (lines_of i) w.2 ∙ l.lines (normalized f.taken))
           (ap last_line w.2 ∙ l.last (normalized f.taken)));
     }
 
 -- a header that the text's end cuts
 nothing_alone : (c : Chomping) (s : Cursor) → s.blank_so_far ≡ false → tail_alone c 0 s ≡ []
 unfolding tail_alone
-nothing_alone Strip s h = refl
-nothing_alone Clip s h = refl
-nothing_alone Keep s h = rw h refl
+nothing_alone c s h = grind arith
 
 nothing_read : (st : BlockStyle) (c : Chomping) (i : ℕ) → block_value st c i [] AtEnd ≡ []
-nothing_read st Strip i = let none = empty_spaces i 0 (omega arith) in rw none refl
-nothing_read st Clip i = let none = empty_spaces i 0 (omega arith) in rw none refl
-nothing_read st Keep i = let none = empty_spaces i 0 (omega arith) in rw none refl
+nothing_read st c i = grind arith
 
 cut_header : (st : BlockStyle) (c : Chomping) (i : ℕ) (u : Cursor) → is_z (slice_index u.rest 0) ≡ true
     → u.blank_so_far ≡ false → Behind st c i u (encode_utf8_all (tail_alone c 0 u)) u
@@ -182,8 +172,7 @@ cut_header st c i u z blank =
         no_content = no_start i u.mark.col u.rest (z_is_none _ z);
         whole_line = λ _. z_is_none _ z;
       };
-      value = ap encode_utf8_all
-          (nothing_alone c u blank ∙ sym (ap (block_value st c i []) ends ∙ nothing_read st c i));
+      value = cc (nothing_alone c u blank, nothing_read st c i);
     }
 
 pub nothing_led : (limit : Option ℕ) (u : Cursor) → is_z (slice_index u.rest 0) ≡ true
@@ -194,9 +183,8 @@ nothing_led limit u z =
     (ap is_break first)
 
 told_behind : (st : BlockStyle) (c : Chomping) (i : ℕ) (u : Cursor) (x y : Read) → gave x ≡ gave y
-    → Behind st c i u x.0 x.2
-    → Behind st c i u y.0 y.2
-told_behind st c i u x y e b = subst (λ (r : Read). Behind st c i u r.0 r.2) (same_gift x y e) b
+    → Behind st c i u x.0 x.2 → Behind st c i u y.0 y.2
+told_behind st c i u x y e b = rw (same_gift x y e) at b
 
 pub behind_begun : (st : BlockStyle) (indent : ℕ) (start : Marker) (c : Chomping) (i k : ℕ) (limit : Option ℕ)
     (u : Cursor) (x : EmptyLines × Cursor) (y : Read) → Led i u x.1 x.0.count
@@ -209,30 +197,24 @@ behind_begun st indent start c i k limit u x y l same =
     (encode_utf8_all (tail_alone c x.0.count x.1), record { start = start; end = x.1.mark }, x.1)
     y e (alone_read st c i u x.1 x.0.count l h))
     (λ h. by_test (nat_lt x.1.mark.col (unwrap_or limit (max x.0.widest indent)) && nat_le indent x.1.mark.col) _ _
-    (λ r. r ≡ gave y → Behind st c i u y.0 y.2)
-    (λ _ e. refused_gave _ y e)
-    (λ _ e.
+    (λ r. r ≡ gave y → Behind st c i u y.0 y.2) (λ _ e. refused_gave _ y e) (λ _ e.
     let n = unwrap_or limit (max x.0.widest indent) in
-    let P : ℕ → Type 0 = λ j. let z = between_at st j None x.0.count x.1 in gave
-    (encode_utf8_all (z.0 ++ tail c (is_unfinished j z.2) z.1), record { start = x.1.mark; end = z.2.mark }, z.2)
-    ≡ gave y in
     let z = between_at st i None x.0.count x.1 in
     told_behind st c i u (
       encode_utf8_all (z.0 ++ tail c (is_unfinished i z.2) z.1),
       record { start = x.1.mark; end = z.2.mark },
       z.2,
-    ) y (subst P same e) (lines_behind st c i u x.1 x.0.count l h)))
+    ) y (subst (λ j. let z = between_at st j None x.0.count x.1 in gave
+    (encode_utf8_all (z.0 ++ tail c (is_unfinished j z.2) z.1), record { start = x.1.mark; end = z.2.mark }, z.2)
+    ≡ gave y) same e) (lines_behind st c i u x.1 x.0.count l h)))
 
 pub behind_cut : (st : BlockStyle) (indent : ℕ) (start : Marker) (c : Chomping) (i : ℕ) (limit : Option ℕ) (u : Cursor)
     (y : Read) → is_z (slice_index u.rest 0) ≡ true → u.blank_so_far ≡ false
     → behind_leading_lines st indent start c limit (with_column no_lines u.mark.col, u) ≡ Ok y → Behind st c i u y.0 y.2
 unfolding behind_leading_lines
 behind_cut st indent start c i limit u y z blank e =
-    let here : behind_leading_lines st indent start c limit (with_column no_lines u.mark.col, u)
-    ≡ gave (encode_utf8_all (tail_alone c 0 u), record { start = start; end = u.mark }, u) = rw z refl in
     told_behind st c i u (encode_utf8_all (tail_alone c 0 u), record { start = start; end = u.mark }, u) y
-    (sym here ∙ e)
-    (cut_header st c i u z blank)
+    (sym (rw z refl) ∙ e) (cut_header st c i u z blank)
 
 behind_place : (st : BlockStyle) (indent : ℕ) (start : Marker) (h : BlockHeader) (u : Cursor) (y : Read)
     → IsBehindHeaderLine u
@@ -241,8 +223,7 @@ unfolding behind_header
 behind_place st indent start h u y (inl p) e =
     let limit = given_indentation indent h.indicator in
     behind_begun st indent start h.chomping (indentation_of indent h u) 0 limit u
-    (pass_empty_lines_at limit no_lines u) y
-    (led limit indent u p.0 p.1) refl e
+    (pass_empty_lines_at limit no_lines u) y (led limit indent u p.0 p.1) refl e
 behind_place st indent start h u y (inr p) e =
     let limit = given_indentation indent h.indicator in
     behind_cut st indent start h.chomping (indentation_of indent h u) limit u y p.0 p.1

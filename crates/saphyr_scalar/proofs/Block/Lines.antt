@@ -25,17 +25,14 @@ feed_first n = rw (add-one n) refl
 
 pub feed_last : (n : ℕ) → encode_utf8_all (line_feeds n) ++ encode_utf8 10 ≡ encode_utf8_all (line_feeds (n + 1))
 feed_last zero = sym (append-nil (encode_utf8 10)) ∙ feed_first zero
-feed_last (suc n) =
-    append_assoc (encode_utf8 10) (encode_utf8_all (line_feeds n)) (encode_utf8 10)
-    ∙ ap (λ t. encode_utf8 10 ++ t) (feed_last n ∙ sym (feed_first n))
-    ∙ feed_first (suc n)
+feed_last (suc n) = append_assoc (encode_utf8 10) (encode_utf8_all (line_feeds n)) (encode_utf8 10)
+    ∙ ap (λ t. encode_utf8 10 ++ t) (feed_last n ∙ sym (feed_first n)) ∙ feed_first (suc n)
 
 -- line feeds after others
 pub feeds_join : (text : List ℕ) (m n : ℕ)
     → (text ++ encode_utf8_all (line_feeds m)) ++ encode_utf8_all (line_feeds n)
     ≡ text ++ encode_utf8_all (line_feeds m ++ line_feeds n)
-feeds_join text m n =
-    append_assoc text (encode_utf8_all (line_feeds m)) (encode_utf8_all (line_feeds n))
+feeds_join text m n = append_assoc text (encode_utf8_all (line_feeds m)) (encode_utf8_all (line_feeds n))
     ∙ ap (λ b. text ++ b) (sym (encodes-append (line_feeds m) (line_feeds n)))
 
 -- a space of the indentation
@@ -43,8 +40,7 @@ pub space_on : (limit : Option ℕ) (lines : EmptyLines) (b : Bool) (m : Marker)
     → is_indentation limit m.col c ≡ true
     → pass_empty_lines limit lines b m (c ∷ cs) ≡ pass_empty_lines limit lines b (along m 1) cs
 unfolding pass_empty_lines
-space_on None lines b m c cs h = rw h refl
-space_on (Some limit) lines b m c cs h = rw h refl
+space_on limit lines b m c cs h = grind arith
 
 pub no_break : (c : ℕ) → is_break c ≡ false → (nat_eq c 10 ≡ false) × (nat_eq c 13 ≡ false)
 no_break c h = (or_false_left (nat_eq c 10) (nat_eq c 13) h, or_false_right (nat_eq c 10) (nat_eq c 13) h)
@@ -71,8 +67,7 @@ pub behind_cr : (m : Marker) (b : Bool) (cs : List ℕ) (P : Cursor → Type 0)
 behind_cr m b [] P two one = one refl
 behind_cr m b (d ∷ ds) P two one =
     by_test (d == 10) (line_cursor true (next_line m 2) ds) (line_cursor true (next_line m 1) (d ∷ ds)) P
-    (λ h. let e : d ≡ 10 = grind (arith, nat_tests) in two ds (ap (λ (x : ℕ). x ∷ ds) e))
-    one
+    (λ h. let e : d ≡ 10 = grind (arith, nat_tests) in two ds (ap (λ (x : ℕ). x ∷ ds) e)) one
 
 abbrev Taken : Option ℕ → EmptyLines → Bool → Marker → List ℕ → Cursor → Type 0
 Taken limit lines b m xs s = pass_empty_lines limit lines b m xs ≡ pass_empty_lines_at limit
@@ -95,8 +90,7 @@ at_cr_lf : (limit : Option ℕ) (lines : EmptyLines) (b : Bool) (m : Marker) (ds
     → Taken limit lines b m (carriage_return ∷ line_feed ∷ ds) (line_cursor true (next_line m 2) ds)
 unfolding pass_empty_lines
 at_cr_lf None lines b m ds = ap (λ x. pass_empty_lines None (with_empty_line lines m.col) true x ds) (inside_same m)
-at_cr_lf (Some limit) lines b m ds = ap (λ x. pass_empty_lines (Some limit) (with_empty_line lines m.col) true x ds)
-    (inside_same m)
+at_cr_lf (Some limit) lines b m ds = cc (inside_same m)
 
 -- a break at the end of an empty line
 at_break : (limit : Option ℕ) (lines : EmptyLines) (b : Bool) (m : Marker) (xs : List ℕ)
@@ -104,11 +98,8 @@ at_break : (limit : Option ℕ) (lines : EmptyLines) (b : Bool) (m : Marker) (xs
 at_break limit lines b m [] h = absurd (cc)
 at_break limit lines b m (c ∷ cs) h =
     break_cases c h (λ x. Taken limit lines b m (x ∷ cs) (pass_break (line_cursor b m (x ∷ cs))))
-    (at_lf limit lines b m cs)
-    (behind_cr m b cs (Taken limit lines b m (13 ∷ cs))
-    (λ ds e. subst (λ ys. Taken limit lines b m (13 ∷ ys) (line_cursor true (next_line m 2) ds)) (sym e)
-    (at_cr_lf limit lines b m ds))
-    (at_cr limit lines b m cs))
+    (at_lf limit lines b m cs) (behind_cr m b cs (Taken limit lines b m (13 ∷ cs))
+    (λ ds e. rw e (at_cr_lf limit lines b m ds)) (at_cr limit lines b m cs))
 
 pub break_taken : (limit : Option ℕ) (lines : EmptyLines) (s : Cursor) → is_break (slice_index s.rest 0) ≡ true
     → pass_empty_lines_at limit lines s ≡ pass_empty_lines_at limit (with_empty_line lines s.mark.col) (pass_break s)
@@ -119,9 +110,8 @@ pub break_turn : (limit : Option ℕ) (lines : EmptyLines) (s here t : Cursor) (
     → c ≡ slice_index s.rest 0 → is_break c ≡ true → w ≡ max lines.widest here.mark.col → t ≡ pass_break here
     → pass_empty_lines_at limit (record { count = lines.count + 1; widest = w }) t ≡ pass_empty_lines_at limit lines s
 break_turn limit lines s here t c w same read h e passed =
-    let first : is_break (slice_index here.rest 0) ≡ true = ap (λ (x : Cursor). is_break (slice_index x.rest 0)) same
-    ∙ sym (ap is_break read) ∙ h in
-    rw (e, passed) (sym (break_taken limit lines here first)) ∙ ap (pass_empty_lines_at limit lines) same
+    rw (e, passed) (sym (break_taken limit lines here (ap (λ (x : Cursor). is_break (slice_index x.rest 0)) same
+    ∙ sym (ap is_break read) ∙ h))) ∙ ap (pass_empty_lines_at limit lines) same
 
 pub end_turn : (limit : Option ℕ) (lines : EmptyLines) (s here : Cursor) (c w : ℕ) → here ≡ s → c ≡ slice_index s.rest 0
     → is_break c ≡ false → is_indentation limit here.mark.col c ≡ false
@@ -129,25 +119,19 @@ pub end_turn : (limit : Option ℕ) (lines : EmptyLines) (s here : Cursor) (c w 
     → ◌≡◌ {A = EmptyLines × Cursor} (record { count = lines.count; widest = w }, here)
     (pass_empty_lines_at limit lines s)
 end_turn limit lines s here c w same read h k e =
-    let first : is_break (slice_index here.rest 0) ≡ false = ap (λ (x : Cursor). is_break (slice_index x.rest 0)) same
-    ∙ sym (ap is_break read) ∙ h in
     let second : is_indentation limit here.mark.col (slice_index here.rest 0) ≡ false =
     ap (λ (x : Cursor). is_indentation limit here.mark.col (slice_index x.rest 0)) same
     ∙ sym (ap (is_indentation limit here.mark.col) read) ∙ k in
-    let stop = stops limit lines here second first in
+    let stop = stops limit lines here second (ap (λ (x : Cursor). is_break (slice_index x.rest 0)) same
+    ∙ sym (ap is_break read) ∙ h) in
     rw e (sym stop ∙ ap (pass_empty_lines_at limit lines) same)
 
 -- a break has a character or two
 index_on : (m : Marker) (b : Bool) (xs : List ℕ) → is_break (slice_index xs 0) ≡ true
     → m.index + 1 ≤ (pass_break (line_cursor b m xs)).mark.index
-index_on m b [] h = absurd (cc)
-index_on m b (c ∷ cs) h =
-    break_cases c h (λ x. m.index + 1 ≤ (pass_break (line_cursor b m (x ∷ cs))).mark.index)
-    (omega arith)
-    (behind_cr m b cs (λ s. m.index + 1 ≤ s.mark.index) (λ ds e. omega arith) (λ _. omega arith))
+index_on m b xs h = grind arith
 
 pub break_index : (s here t : Cursor) (c n : ℕ) → here ≡ s → c ≡ slice_index s.rest 0 → is_break c ≡ true
     → t ≡ pass_break here → n ≤ s.mark.index → n + 1 ≤ t.mark.index
 break_index s here t c n same read h passed few =
-    let first : is_break (slice_index s.rest 0) ≡ true = sym (ap is_break read) ∙ h in
-    rw (passed, same) (omega (arith, index_on s.mark s.blank_so_far s.rest first))
+    rw (passed, same) (omega (arith, index_on s.mark s.blank_so_far s.rest (sym (ap is_break read) ∙ h)))

@@ -43,9 +43,7 @@ unfolding line_starts
 starts_non_break i col c cs e = non_break_no_break c (middle (col == i) (is_yaml_non_break c) _ e)
   where
     middle : (x y z : Bool) → (x && y && z) ≡ true → y ≡ true
-    middle true true z f = refl
-    middle true false z f = absurd (cc)
-    middle false y z f = absurd (cc)
+    middle x y z f = grind arith
 
 mutual
   unfolding between line
@@ -75,8 +73,7 @@ mutual
       by_test (is_yaml_non_break c) _ _ P
       (λ e. one_here m c cs _ (non_break_no_break c e) (line_passes style i more b (along m 1) cs))
       (λ _. by_test (is_cr_lf c cs) _ _ P
-      (λ e. return_here m (inside_break m) c cs _ e (inside_same m)
-      (line_passes style i more b (inside_break m) cs))
+      (λ e. return_here m (inside_break m) c cs _ e (inside_same m) (line_passes style i more b (inside_break m) cs))
       (λ e. by_test (is_break c) _ _ P
       (λ f. feed_here m c cs _ e f (between_passes style i (Some more) 0 true (next_line m 1) cs).here)
       (λ f. stop_here m c cs b f)))
@@ -159,13 +156,11 @@ leading_placed style indent c limit s h x e p z =
 scalar_placed : (style : BlockStyle) (indent : ℕ) (s : Cursor) → Goes s (pass 1 s)
     → Given (PlacedAt s) (block_scalar style indent s)
 unfolding block_scalar behind_header
-scalar_placed style indent s g =
-    given_bind (PlacedAt s) (header s) _ (λ x e.
+scalar_placed style indent s g = given_bind (PlacedAt s) (header s) _ (λ x e.
     let h = given_of (λ (y : BlockHeader × Cursor). EndsHeaderLine s y.1) (header s) x (header_ends s g) e in
     let limit = given_indentation indent x.0.indicator in
     leading_placed style indent x.0.chomping limit s x.1
-    (pass_empty_lines limit no_lines x.1.blank_so_far x.1.mark x.1.rest)
-    h
+    (pass_empty_lines limit no_lines x.1.blank_so_far x.1.mark x.1.rest) h
     (empty_passes limit no_lines x.1.blank_so_far x.1.mark x.1.rest).here
     (none_at_end limit no_lines x.1.blank_so_far x.1.mark x.1.rest))
 

@@ -102,8 +102,7 @@ pub run_passed : (p : ℕ → Bool) (m : Marker) (t : List ℕ) → ((c : ℕ) �
     → IsPassed m t (along m (prefix_len p t)) (drop (prefix_len p t) t)
 run_passed p m [] h = subst (λ (k : Marker). IsPassed m [] k []) (sym (along_none m)) (passing.nothing m [])
 run_passed p m (c ∷ cs) h =
-    by_test (p c) (1 + prefix_len p cs) 0 (λ n. IsPassed m (c ∷ cs) (along m n) (drop n (c ∷ cs)))
-    (λ e.
+    by_test (p c) (1 + prefix_len p cs) 0 (λ n. IsPassed m (c ∷ cs) (along m n) (drop n (c ∷ cs))) (λ e.
     let one : 1 + prefix_len p cs ≡ suc (prefix_len p cs) = omega arith in
     let q = run_passed p (along m 1) cs h in
     let k = along_more m 1 (prefix_len p cs) (1 + prefix_len p cs) refl in
@@ -114,13 +113,10 @@ run_passed p m (c ∷ cs) h =
     (λ _. subst (λ (k : Marker). IsPassed m (c ∷ cs) k (c ∷ cs)) (sym (along_none m)) (passing.nothing m (c ∷ cs)))
 
 skipped_no_break : (tabs : SkipTabs) (c : ℕ) → is_skipped tabs c ≡ true → is_break c ≡ false
-skipped_no_break Yes c e = blank_no_break c e
-skipped_no_break No c e = ap is_break (eqb-true c 32 e)
-skipped_no_break (found.Result _ _) c e = ap is_break (eqb-true c 32 e)
+skipped_no_break tabs c e = grind arith
 
 pub line_passed : (tabs : SkipTabs) (s : Cursor) → Goes s (pass_blanks (separation_len tabs s.rest) s)
-line_passed tabs s =
-    by_test (blank_len tabs s.rest == 0) _ _ (λ n. Goes s (pass_blanks n s)) (λ _. none)
+line_passed tabs s = by_test (blank_len tabs s.rest == 0) _ _ (λ n. Goes s (pass_blanks n s)) (λ _. none)
     (λ _. let b = prefix_len (is_skipped tabs) s.rest in
     let first = run_passed (is_skipped tabs) s.mark s.rest (skipped_no_break tabs) in
     by_test (slice_index (drop b s.rest) 0 == 35) _ _ (λ n. Goes s (pass_blanks (b + n) s))
@@ -138,8 +134,7 @@ line_passed tabs s =
   where
     none : Goes s (pass_blanks 0 s)
     none = record {
-      passes =
-          subst (λ (m : Marker). IsPassed s.mark s.rest m s.rest) (sym (along_none s.mark))
+      passes = subst (λ (m : Marker). IsPassed s.mark s.rest m s.rest) (sym (along_none s.mark))
           (passing.nothing s.mark s.rest);
       line = refl;
     }
@@ -170,36 +165,29 @@ goes_ends s t u a b = record {
     by (inr e) = inr e
 
 pub break_ends : (s : Cursor) → is_breakz (slice_index s.rest 0) ≡ true → EndsHeaderLine s (pass_break s)
-break_ends s e =
-    by_test (next_2_are s.rest 13 10) _ _ (EndsHeaderLine s)
+break_ends s e = by_test (next_2_are s.rest 13 10) _ _ (EndsHeaderLine s)
     (λ n. let two : break_len s.rest ≡ 2 = rw n refl in
     let c = ap is_break (eqb-true (slice_index s.rest 0) 13
     (and_true_left (slice_index s.rest 0 == 13) (slice_index s.rest 1 == 10) n)) in
     record {
-      passes = passing.line_break s.mark s.rest _ _ c
-          (subst (λ k. IsPassed (next_line s.mark k) (drop k s.rest) (next_line s.mark 2) (drop 2 s.rest)) (sym two)
-          (passing.nothing _ _));
+      passes = passing.line_break s.mark s.rest _ _ c (rw two (passing.nothing _ _));
       line = inl refl;
     })
     (λ n. let one : break_len s.rest ≡ 1 = rw n refl in
     by_test (is_break (slice_index s.rest 0)) _ _ (EndsHeaderLine s)
     (λ c. record {
-      passes = passing.line_break s.mark s.rest _ _ c
-          (subst (λ k. IsPassed (next_line s.mark k) (drop k s.rest) (next_line s.mark 1) (drop 1 s.rest)) (sym one)
-          (passing.nothing _ _));
+      passes = passing.line_break s.mark s.rest _ _ c (rw one (passing.nothing _ _));
       line = inl refl;
     })
     (λ c. record {
       passes = passing.nothing s.mark s.rest;
-      line =
-          inr (either (is_break (slice_index s.rest 0)) (is_z (slice_index s.rest 0))
+      line = inr (either (is_break (slice_index s.rest 0)) (is_z (slice_index s.rest 0))
           (is_z (slice_index s.rest 0) ≡ true) e (λ k. absurd (cc)) (λ k. k));
     }))
 
 header_break_ends : (start : Marker) (s : Cursor) → Given (EndsHeaderLine s) (header_break start s)
 unfolding header_break
-header_break_ends start s =
-    by_test (not (is_breakz (slice_index s.rest 0))) _ _ (Given (EndsHeaderLine s)) (λ _. tt)
+header_break_ends start s = by_test (not (is_breakz (slice_index s.rest 0))) _ _ (Given (EndsHeaderLine s)) (λ _. tt)
     (λ e. by_test (slice_index (pass_break s).rest 0 == tab) _ _ (Given (EndsHeaderLine s)) (λ _. tt)
     (λ _. break_ends s (not-false (is_breakz (slice_index s.rest 0)) e)))
 
@@ -210,8 +198,7 @@ ends_from s t (Err e) g h = tt
 
 header_end_ends : (start : Marker) (s t : Cursor) → Goes s t → Given (EndsHeaderLine s) (header_end start t)
 unfolding header_end
-header_end_ends start s t g =
-    given_bind (EndsHeaderLine s) (separation Yes t) _ (λ x e.
+header_end_ends start s t g = given_bind (EndsHeaderLine s) (separation Yes t) _ (λ x e.
     let h = given_of (λ (y : SkipTabs × Cursor). Goes t y.1) (separation Yes t) x (separation_goes t) e in
     ends_from s x.1 (header_break start x.1) (goes_goes s t x.1 g h) (header_break_ends start x.1))
 
@@ -232,10 +219,8 @@ pub header_goes : (s : Cursor) (x : ℕ × Cursor) → Goes s (pass 1 s) → ind
     → Goes s (last_chomping (chomping (pass 1 s)).0 x.1).1
 header_goes s x g e =
     let first = chomping (pass 1 s) in
-    let h = goes_goes s (pass 1 s) first.1 g (chomping_goes (pass 1 s)) in
-    let k = goes_goes s first.1 x.1 h
-    (given_of (λ (y : ℕ × Cursor). Goes first.1 y.1) (indicator s.mark first.1) x (indicator_goes s.mark first.1)
-    e) in
+    let k = goes_goes s first.1 x.1 (goes_goes s (pass 1 s) first.1 g (chomping_goes (pass 1 s)))
+    (given_of (λ (y : ℕ × Cursor). Goes first.1 y.1) (indicator s.mark first.1) x (indicator_goes s.mark first.1) e) in
     goes_goes s x.1 (last_chomping first.0 x.1).1 k (last_goes first.0 x.1)
 
 pub header_ends : (s : Cursor) → Goes s (pass 1 s)

@@ -69,7 +69,7 @@ lead_space j x before cs r e l = record {
       );
   lines = λ i text h. ap (lines_of i) (sym (spaces_more j (l.front ++ text))) ∙ l.lines i text h;
   last = λ text. ap last_line (sym (spaces_more j (l.front ++ text))) ∙ l.last text;
-  shape = λ i text w h. subst (HasLines i) (spaces_more j (l.front ++ text)) (l.shape i text w h);
+  shape = λ i text w h. rw (spaces_more j (l.front ++ text)) at (l.shape i text w h);
   count = l.count;
   reached = l.reached;
   wider = l.wider;
@@ -95,13 +95,11 @@ lead_break : (j x : ℕ) (before : EmptyLines) (cs : List ℕ) (r : EmptyLines �
 lead_break j x before cs r half e l = record {
   front = 10 ∷ l.front;
   d = suc l.d;
-  joins = λ taken rest s k. let w =
-      l.joins taken rest s k in
+  joins = λ taken rest s k. let w = l.joins taken rest s k in
       (x ∷ w.0, ap (λ ys. x ∷ ys) w.1, normalized_break x cs w.0 rest half e w.1 ∙ ap (λ ys. 10 ∷ ys) w.2);
   lines = λ i text h.
       let f = first_line (spaces j) (l.front ++ text) (plain_spaces j) in
-      let within : j ≤ i = omega (arith, l.wider) in
-      rw (f.ended, line_spaces i j within) (ap (λ ys. Empty ∷ ys) (l.lines i text h));
+      rw (f.ended, line_spaces i j (omega (arith, l.wider))) (ap (λ ys. Empty ∷ ys) (l.lines i text h));
   last = λ text. let f = first_line (spaces j) (l.front ++ text) (plain_spaces j) in f.last ∙ l.last text;
   shape = λ i text w h. lines_break i j (l.front ++ text) (omega (arith, l.wider)) (l.shape i text w h);
   count = omega (arith, l.count);
@@ -113,8 +111,7 @@ pub leading : (limit : Option ℕ) (before : EmptyLines) (b : Bool) (m : Marker)
     → Leading m.col before xs (pass_empty_lines limit before b m xs)
 unfolding pass_empty_lines
 leading limit before b m [] = lead_stop before b m []
-leading limit before b m (x ∷ cs) =
-    by_test (is_indentation limit m.col x) _ _ (Leading m.col before (x ∷ cs))
+leading limit before b m (x ∷ cs) = by_test (is_indentation limit m.col x) _ _ (Leading m.col before (x ∷ cs))
     (λ h. lead_space m.col x before cs _ (indentation_is_space limit m.col x h) (leading limit before b (along m 1) cs))
     (λ h0. by_test (is_cr_lf x cs) _ _ (Leading m.col before (x ∷ cs))
     (λ h. lead_half m.col x before cs _ h (leading limit before b (inside_break m) cs))
@@ -130,10 +127,8 @@ pub within_limit : (i : ℕ) (before : EmptyLines) (b : Bool) (m : Marker) (xs :
     → Within i (pass_empty_lines (Some i) before b m xs)
 unfolding pass_empty_lines
 within_limit i before b m [] h k = omega arith
-within_limit i before b m (x ∷ cs) h k =
-    by_test (is_indentation (Some i) m.col x) _ _ (Within i)
-    (λ t. let both = and_parts (nat_eq x 32) (nat_lt m.col i) t in let less : m.col + 1 ≤ i =
-    grind (arith, nat_tests) in within_limit i before b (along m 1) cs less k)
+within_limit i before b m (x ∷ cs) h k = by_test (is_indentation (Some i) m.col x) _ _ (Within i)
+    (λ t. let less : m.col + 1 ≤ i = grind (arith, nat_tests) in within_limit i before b (along m 1) cs less k)
     (λ _. by_test (is_cr_lf x cs) _ _ (Within i)
     (λ _. within_limit i before b (inside_break m) cs h k)
     (λ _. by_test (is_break x) _ _ (Within i)
@@ -162,8 +157,7 @@ IsBehindHeaderLine u = ((u.mark.col ≡ 0) × (u.blank_so_far ≡ true))
 
 break_place : (s : Cursor) → s.blank_so_far ≡ false → is_breakz (slice_index s.rest 0) ≡ true
     → IsBehindHeaderLine (pass_break s)
-break_place s blank h =
-    by_test (next_2_are s.rest 13 10) _ _ IsBehindHeaderLine (λ _. inl (refl, refl))
+break_place s blank h = by_test (next_2_are s.rest 13 10) _ _ IsBehindHeaderLine (λ _. inl (refl, refl))
     (λ _. by_test (is_break (slice_index s.rest 0)) _ _ IsBehindHeaderLine (λ _. inl (refl, refl))
     (λ k. let z = rw k at h in inr (z, blank)))
 
@@ -180,8 +174,7 @@ header_break_place start s u blank =
 separation_blank : (s : Cursor) (x : SkipTabs × Cursor) → s.blank_so_far ≡ false → separation Yes s ≡ Ok x
     → x.1.blank_so_far ≡ false
 unfolding separation behind_separation
-separation_blank s x blank =
-    by_test (nat_lt 0 (along s.mark (separation_len Yes s.rest)).col && is_bom
+separation_blank s x blank = by_test (nat_lt 0 (along s.mark (separation_len Yes s.rest)).col && is_bom
     (slice_index (pass_blanks (separation_len Yes s.rest) s).rest 0)) _ _
     (λ r. r ≡ gave x → x.1.blank_so_far ≡ false)
     (λ _ e. refused_gave _ x e)

@@ -22,14 +22,12 @@ use Rattle.saphyr_scalar.proofs.Given.{given_of}
 
 indicator_refused : (start : Marker) (s : Cursor) → RefusedAt start (indicator start s)
 unfolding indicator
-indicator_refused start s =
-    by_test (not (is_digit (slice_index s.rest 0))) _ _ (RefusedAt start) (λ _. tt)
+indicator_refused start s = by_test (not (is_digit (slice_index s.rest 0))) _ _ (RefusedAt start) (λ _. tt)
     (λ _. by_test (slice_index s.rest 0 == 48) _ _ (RefusedAt start) (λ _. refl) (λ _. tt))
 
 break_refused : (start : Marker) (s : Cursor) → RefusedAt start (header_break start s)
 unfolding header_break
-break_refused start s =
-    by_test (not (is_breakz (slice_index s.rest 0))) _ _ (RefusedAt start) (λ _. refl)
+break_refused start s = by_test (not (is_breakz (slice_index s.rest 0))) _ _ (RefusedAt start) (λ _. refl)
     (λ _. by_test (slice_index (pass_break s).rest 0 == tab) _ _ (RefusedAt start) (λ _. refl) (λ _. tt))
 
 end_refused : (s t : Cursor) → IsPassed s.mark s.rest t.mark t.rest → Refused (IsRefusedInside s) (header_end s.mark t)

@@ -27,8 +27,7 @@ abbrev pub IsUnbroken : List ℕ → Type 0
 IsUnbroken text = has_break text ≡ false
 
 pub parts_plain : (c : ℕ) (cs : List ℕ) → IsUnbroken (c ∷ cs) → ((c == line_feed) ≡ false) × IsUnbroken cs
-parts_plain c cs h =
-    (or_false_left (nat_eq c 10) (has_break cs) h, or_false_right (nat_eq c 10) (has_break cs) h)
+parts_plain c cs h = (or_false_left (nat_eq c 10) (has_break cs) h, or_false_right (nat_eq c 10) (has_break cs) h)
 
 pub plain_first : (c : ℕ) (cs : List ℕ) → (c == line_feed) ≡ false → IsUnbroken cs → IsUnbroken (c ∷ cs)
 plain_first c cs h k = rw (h, k) refl
@@ -59,8 +58,7 @@ pub only_line : (text : List ℕ) → IsUnbroken text → (ended_lines text ≡ 
 only_line [] h = (refl, refl)
 only_line (c ∷ cs) h =
     let p = parts_plain c cs h in
-    let r = only_line cs p.1 in
-    (rw (p.0, r.0) refl, rw (p.0, p.1, r.1) refl)
+    let r = only_line cs p.1 in (rw (p.0, r.0) refl, rw (p.0, p.1, r.1) refl)
 
 all_spaces : (n : ℕ) → list_all (λ c. c == space) (spaces n) ≡ true
 all_spaces zero = refl
@@ -110,9 +108,7 @@ pub normalized_break : (c : ℕ) (cs taken rest : List ℕ) → is_cr_lf c cs �
     → normalized (c ∷ taken) ≡ line_feed ∷ normalized taken
 normalized_break c cs taken rest half h e =
     break_cases c h (λ x. is_cr_lf x cs ≡ false → normalized (x ∷ taken) ≡ 10 ∷ normalized taken)
-    (λ _. refl)
-    (λ k. rw (not_feed cs taken rest k e) refl)
-    half
+    (λ _. refl) (λ k. rw (not_feed cs taken rest k e) refl) half
 
 -- The last line, after content: spaces count where they reach the indentation.
 abbrev pub is_counted_behind : ℕ → List ℕ → Ending → Bool
@@ -126,8 +122,7 @@ lines_behind i lines last ending =
 
 -- what a text reads as, after the content line `above` and k empty lines
 abbrev pub value_of_lines : BlockStyle → Chomping → ℕ → List ℕ → ℕ → List (List ℕ) → List ℕ → Ending → List ℕ
-value_of_lines st c i above k lines last ending =
-    contents_behind st above k (lines_behind i lines last ending)
+value_of_lines st c i above k lines last ending = contents_behind st above k (lines_behind i lines last ending)
     ++ chomped c (is_broken i last ending) (empty_at_end k (lines_behind i lines last ending))
 
 abbrev pub value_behind : BlockStyle → Chomping → ℕ → List ℕ → ℕ → List ℕ → Ending → List ℕ

@@ -35,8 +35,7 @@ front_text text a read = rw (encodes-append, append_assoc) refl
 
 -- empty lines before a line, and its indentation
 b_space : (st : BlockStyle) (i : ℕ) (ab : Option Bool) (k : ℕ) (b : Bool) (m : Marker) (c : ℕ) (cs : List ℕ)
-    → is_indentation (Some i) m.col c ≡ true
-    → between st i ab k b m (c ∷ cs) ≡ between st i ab k b (along m 1) cs
+    → is_indentation (Some i) m.col c ≡ true → between st i ab k b m (c ∷ cs) ≡ between st i ab k b (along m 1) cs
 unfolding between
 b_space st i ab k b m c cs h = rw h refl
 
@@ -66,8 +65,7 @@ between_skips st i ab lines b m (c ∷ cs) =
     (λ h. b_half st i ab lines.count b m c cs h0 h ∙ between_skips st i ab lines b (inside_break m) cs)
     (λ h1. by_test (is_break c) _ _ (Skips st i ab lines.count b m (c ∷ cs))
     (λ h. b_break st i ab lines.count b m c cs h0 h1 h
-    ∙ between_skips st i ab (with_empty_line lines m.col) true (next_line m 1) cs)
-    (λ _. refl)))
+    ∙ between_skips st i ab (with_empty_line lines m.col) true (next_line m 1) cs) (λ _. refl)))
 
 -- after the empty lines and the indentation
 abbrev pub Stopped : Option ℕ → EmptyLines × Cursor → Type 0
@@ -78,14 +76,12 @@ pub stopped : (limit : Option ℕ) (lines : EmptyLines) (b : Bool) (m : Marker) 
     → Stopped limit (pass_empty_lines limit lines b m xs)
 unfolding pass_empty_lines
 stopped limit lines b m [] = (nul_no_indentation limit m.col, refl)
-stopped limit lines b m (c ∷ cs) =
-    by_test (is_indentation limit m.col c) _ _ (Stopped limit)
+stopped limit lines b m (c ∷ cs) = by_test (is_indentation limit m.col c) _ _ (Stopped limit)
     (λ h. stopped limit lines b (along m 1) cs)
     (λ h0. by_test (is_cr_lf c cs) _ _ (Stopped limit)
     (λ h. stopped limit lines b (inside_break m) cs)
     (λ h1. by_test (is_break c) _ _ (Stopped limit)
-    (λ h. stopped limit (with_empty_line lines m.col) true (next_line m 1) cs)
-    (λ h2. (h0, h2))))
+    (λ h. stopped limit (with_empty_line lines m.col) true (next_line m 1) cs) (λ h2. (h0, h2))))
 
 -- nothing is put before what is taken off
 abbrev Shorter : List ℕ → EmptyLines × Cursor → Type 0
@@ -95,14 +91,12 @@ shorter : (limit : Option ℕ) (lines : EmptyLines) (b : Bool) (m : Marker) (xs 
     → Shorter xs (pass_empty_lines limit lines b m xs)
 unfolding pass_empty_lines
 shorter limit lines b m [] = omega arith
-shorter limit lines b m (c ∷ cs) =
-    by_test (is_indentation limit m.col c) _ _ (Shorter (c ∷ cs))
+shorter limit lines b m (c ∷ cs) = by_test (is_indentation limit m.col c) _ _ (Shorter (c ∷ cs))
     (λ h. omega (arith, shorter limit lines b (along m 1) cs))
     (λ h0. by_test (is_cr_lf c cs) _ _ (Shorter (c ∷ cs))
     (λ h. omega (arith, shorter limit lines b (inside_break m) cs))
     (λ h1. by_test (is_break c) _ _ (Shorter (c ∷ cs))
-    (λ h. omega (arith, shorter limit (with_empty_line lines m.col) true (next_line m 1) cs))
-    (λ h2. omega arith)))
+    (λ h. omega (arith, shorter limit (with_empty_line lines m.col) true (next_line m 1) cs)) (λ h2. omega arith)))
 
 -- what was left after empty lines
 pub record Skipped (st : BlockStyle) (i : ℕ) (ab : Option Bool) (before after : EmptyLines) (s t : Cursor) : Type
@@ -114,9 +108,7 @@ pub record Skipped (st : BlockStyle) (i : ℕ) (ab : Option Bool) (before after 
 
 pub skipped : (st : BlockStyle) (i : ℕ) (ab : Option Bool) (before after : EmptyLines) (s t : Cursor)
     → (after, t) ≡ pass_empty_lines_at (Some i) before s → Skipped st i ab before after s t
-skipped st i ab before after s t e =
-    let P : EmptyLines × Cursor → Type 0 = λ r. Skipped st i ab before r.0 s r.1 in
-    subst P (sym e)
+skipped st i ab before after s t e = subst (λ r. Skipped st i ab before r.0 s r.1) (sym e)
     (record {
       same = between_skips st i ab before s.blank_so_far s.mark s.rest;
       space = (stopped (Some i) before s.blank_so_far s.mark s.rest).0;
@@ -198,12 +190,9 @@ line_run st i more b m (c ∷ cs) =
     let n = prefix_len is_yaml_non_break cs in
     let one : 1 + n ≡ suc n = omega arith in
     by_test (is_yaml_non_break c) (1 + n) 0 (RunsOnLine st i more b m (c ∷ cs))
-    (λ h. rw one
-    (line_on st i more b m c cs h ∙ ap (lines_behind_text (c ∷ [])) (line_run st i more b (along m 1) cs)
-    ∙ text_twice (c ∷ []) (take n cs) _
-    ∙ ap (λ x. lines_behind_text (c ∷ take n cs) (line st i more b x (drop n cs)))
-    (along_more m 1 n (suc n) (omega arith))))
-    (λ h. no_run st i more b m (c ∷ cs))
+    (λ h. rw one (line_on st i more b m c cs h ∙ ap (lines_behind_text (c ∷ [])) (line_run st i more b (along m 1) cs)
+    ∙ text_twice (c ∷ []) (take n cs) _ ∙ ap (λ x. lines_behind_text (c ∷ take n cs) (line st i more b x (drop n cs)))
+    (along_more m 1 n (suc n) (omega arith)))) (λ h. no_run st i more b m (c ∷ cs))
 
 -- the break at a line's end
 abbrev Breaks : BlockStyle → ℕ → Bool → Bool → Marker → List ℕ → Cursor → Type 0
@@ -229,11 +218,8 @@ line_breaks : (st : BlockStyle) (i : ℕ) (more b : Bool) (m : Marker) (xs : Lis
 line_breaks st i more b m [] h = absurd (cc)
 line_breaks st i more b m (c ∷ cs) h =
     break_cases c h (λ x. Breaks st i more b m (x ∷ cs) (pass_break (line_cursor b m (x ∷ cs))))
-    (line_lf st i more b m cs)
-    (behind_cr m b cs (Breaks st i more b m (13 ∷ cs))
-    (λ ds e. subst (λ ys. Breaks st i more b m (13 ∷ ys) (line_cursor true (next_line m 2) ds)) (sym e)
-    (line_cr_lf st i more b m ds))
-    (line_cr st i more b m cs))
+    (line_lf st i more b m cs) (behind_cr m b cs (Breaks st i more b m (13 ∷ cs))
+    (λ ds e. rw e (line_cr_lf st i more b m ds)) (line_cr st i more b m cs))
 
 -- a line that no break ends
 line_cut : (st : BlockStyle) (i : ℕ) (more b : Bool) (m : Marker) (xs : List ℕ)
@@ -269,10 +255,9 @@ pub line_read : (st : BlockStyle) (i : ℕ) (ab : Option Bool) (k : ℕ) (text m
 line_read st i ab k text more grown here end below h e pushed read =
     let n = prefix_len is_yaml_non_break here.rest in
     let s = starts i here.mark.col here.rest h in
-    let P : List ℕ × Cursor → Type 0 = λ x. LineRead st i ab k text x.0 here x.1 below in
     let start = line_begins st i ab k here.blank_so_far here.mark here.rest h in
     let run = line_run st i below here.blank_so_far here.mark here.rest in
-    subst P (read_to more grown here end read)
+    subst (λ x. LineRead st i ab k text x.0 here x.1 below) (read_to more grown here end read)
     (record {
       same = ap (with_lines text) (rw (← e) at start)
           ∙ front_text text (break_before st ab k below) (line_at st i below here)
@@ -291,9 +276,8 @@ pub turn : (st : BlockStyle) (i : ℕ) (ab : Option Bool) (before after : EmptyL
     → (with_lines text (between_at st i ab before.count s) ≡ with_lines grown (line_at st i below end))
     × (is_yaml_non_break (slice_index end.rest 0) ≡ false) × (length end.rest < length s.rest)
 turn st i ab before after text more grown s t here end below skip same h e pushed read =
-    let begins : line_starts i here.mark.col here.rest ≡ true = ap (λ (x : Cursor). line_starts i x.mark.col x.rest)
-    same ∙ h in
-    let r = line_read st i ab after.count text more grown here end below begins e pushed read in
+    let r = line_read st i ab after.count text more grown here end below
+    (ap (λ (x : Cursor). line_starts i x.mark.col x.rest) same ∙ h) e pushed read in
     let less : length here.rest ≤ length s.rest = rw same skip.shorter in (
       ap (with_lines text) (skip.same ∙ ap (between_at st i ab after.count) (sym same))
           ∙ r.same,
@@ -314,10 +298,9 @@ pub broken : (st : BlockStyle) (i : ℕ) (more : Bool) (text : List ℕ) (end lo
     → (with_lines text (between_at st i (Some more) 0 t) ≡ with_lines text (line_at st i more end))
     × (length t.rest ≤ length end.rest)
 broken st i more text end look t c same read h passed =
-    let first : is_break (slice_index end.rest 0) ≡ true = sym (ap is_break read) ∙ h in
     let place : t ≡ pass_break end = passed ∙ ap pass_break same in (
       ap (with_lines text) (ap (between_at st i (Some more) 0) place
-          ∙ sym (line_breaks st i more end.blank_so_far end.mark end.rest first)),
+          ∙ sym (line_breaks st i more end.blank_so_far end.mark end.rest (sym (ap is_break read) ∙ h))),
       rw place (break_shorter end.blank_so_far end.mark end.rest),
     )
 
@@ -326,8 +309,7 @@ pub cut : (st : BlockStyle) (i : ℕ) (more : Bool) (text : List ℕ) (end look 
     → c ≡ slice_index end.rest 0 → is_break c ≡ false → is_yaml_non_break (slice_index end.rest 0) ≡ false
     → with_lines text (line_at st i more end) ≡ (text, record { broken = false; empty_lines = 0 }, look)
 cut st i more text end look c same read h ends =
-    let first : is_break (slice_index end.rest 0) ≡ false = sym (ap is_break read) ∙ h in
-    ap (with_lines text) (line_cut st i more end.blank_so_far end.mark end.rest ends first
+    ap (with_lines text) (line_cut st i more end.blank_so_far end.mark end.rest ends (sym (ap is_break read) ∙ h)
     ∙ ap (lines_ended false 0) (sym same)) ∙ rw append-nil refl
 
 -- no line begins
@@ -335,8 +317,7 @@ pub last : (st : BlockStyle) (i : ℕ) (ab : Option Bool) (before after : EmptyL
     (b : Bool) → Skipped st i ab before after s t → here ≡ t → line_starts i t.mark.col t.rest ≡ false → b ≡ is_some ab
     → with_lines text (between_at st i ab before.count s)
     ≡ (text, record { broken = b; empty_lines = after.count }, here)
-last st i ab before after text s t here b skip same h e =
-    ap (with_lines text)
+last st i ab before after text s t here b skip same h e = ap (with_lines text)
     (no_line st i ab before after s t skip h ∙ ap (lines_ended (is_some ab) after.count) (sym same))
     ∙ rw (e, append-nil) refl
 
@@ -376,5 +357,4 @@ unfolding line_starts
 no_start i col xs h = rw h (both (nat_eq col i) _)
   where
     both : (a b : Bool) → (a && false && b) ≡ false
-    both true b = refl
-    both false b = refl
+    both a b = grind arith

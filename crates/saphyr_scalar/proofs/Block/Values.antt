@@ -33,34 +33,22 @@ extra counted = if counted then Empty ∷ [] else []
 tail_same : (st : BlockStyle) (c : Chomping) (above : List ℕ) (k : ℕ) (w : Bool)
     → tail c w (record { broken = true; empty_lines = k })
     ≡ contents_behind st above k (extra w) ++ reading.chomped c true (empty_at_end k (extra w))
-tail_same st Strip above k true = refl
-tail_same st Strip above k false = refl
-tail_same st Clip above k true = refl
-tail_same st Clip above k false = refl
-tail_same st Keep above k true = refl
-tail_same st Keep above k false = refl
+tail_same st c above k w = grind arith
 
 pub cut_tail : (c : Chomping) (w : Bool) → tail c w (record { broken = false; empty_lines = 0 }) ≡ reading.chomped c w 0
-cut_tail Strip w = refl
-cut_tail Clip true = refl
-cut_tail Clip false = refl
-cut_tail Keep true = refl
-cut_tail Keep false = refl
+cut_tail c w = grind arith
 
 at_end_of : (b : Bool) → is_at_end (if b then AtEnd else AtMark) ≡ b
-at_end_of true = refl
-at_end_of false = refl
+at_end_of b = grind arith
 
 -- an unfinished line of spaces counts as the readings have it
 counted_spaces : (i j : ℕ) (z : Bool) → j ≤ i → (z && nat_le (max i 1) j) ≡ (z && not (nat_eq j 0) && nat_eq j i)
-counted_spaces i j false h = refl
-counted_spaces i j true h = grind (arith, nat_tests)
+counted_spaces i j z h = grind arith
 
 pub unfinished_spaces : (i : ℕ) (s : Cursor) → s.mark.col ≤ i
     → is_unfinished i s ≡ is_counted_behind i (spaces s.mark.col) (ending s)
 unfolding is_unfinished
-unfinished_spaces i s h =
-    rw (empty_spaces i s.mark.col h, length-replicate, at_end_of (is_z (slice_index s.rest 0)))
+unfinished_spaces i s h = rw (empty_spaces i s.mark.col h, length-replicate, at_end_of (is_z (slice_index s.rest 0)))
     (counted_spaces i s.mark.col (is_z (slice_index s.rest 0)) h)
 
 -- what was read of the lines after content: k empty lines and j spaces come before xs, in its line
@@ -76,13 +64,11 @@ pub record BetweenRead (st : BlockStyle) (c : Chomping) (i : ℕ) (more : Bool) 
 
 -- The lines end in the line that was begun, or its break is after it and others follow.
 abbrev pub CutLine : Chomping → ℕ → List ℕ → List ℕ → LinesRead → Type 0
-CutLine c i content text r =
-    (text ≡ content) × (r.0 ++ tail c (is_unfinished i r.2) r.1
+CutLine c i content text r = (text ≡ content) × (r.0 ++ tail c (is_unfinished i r.2) r.1
     ≡ content ++ reading.chomped c (is_at_end (ending r.2)) 0)
 
 abbrev pub BrokenLine : BlockStyle → Chomping → ℕ → Bool → List ℕ → List ℕ → LinesRead → Type 0
-BrokenLine st c i more content text r =
-    (others : List ℕ) × (text ≡ content ++ 10 ∷ others) × HasLines i others
+BrokenLine st c i more content text r = (others : List ℕ) × (text ≡ content ++ 10 ∷ others) × HasLines i others
     × ((above : List ℕ) → is_more_indented above ≡ more
     → r.0 ++ tail c (is_unfinished i r.2) r.1 ≡ content ++ value_behind st c i above 0 others (ending r.2))
 
@@ -108,8 +94,7 @@ stop_spaces st c i more k b m xs within ends =
       split = refl;
       ends = ends;
       lines = rw text (lines_spaces i m.col within);
-      value = λ above h.
-          ap (λ w. tail c w (record { broken = true; empty_lines = k })) (unfinished_spaces i s within)
+      value = λ above h. ap (λ w. tail c w (record { broken = true; empty_lines = k })) (unfinished_spaces i s within)
           ∙ tail_same st c above k (is_counted_behind i (spaces m.col) (ending s))
           ∙ rw (text, only.0, only.1, line_spaces i m.col within, empty_spaces i m.col within) refl;
     }
@@ -151,20 +136,16 @@ stop_content st c i more b m xs within cut clear =
 
 space_text : (j x : ℕ) (taken : List ℕ) → x ≡ space
     → spaces (j + 1) ++ normalized taken ≡ spaces j ++ normalized (x ∷ taken)
-space_text j x taken e =
-    spaces_more j (normalized taken)
-    ∙ ap (λ ys. spaces j ++ ys)
-    (ap (λ y. y ∷ normalized taken) (sym e) ∙ sym (normalized_other x taken (ap (λ y. nat_eq y 13) e)))
+space_text j x taken e = cc (spaces_more j (normalized taken), normalized_other x taken (ap (λ y. nat_eq y 13) e))
 
 -- a space of a line's indentation more
 space_more : (st : BlockStyle) (c : Chomping) (i : ℕ) (more : Bool) (k j x : ℕ) (cs : List ℕ) (r : LinesRead)
-    → x ≡ space
-    → BetweenRead st c i more k (j + 1) cs r → BetweenRead st c i more k j (x ∷ cs) r
+    → x ≡ space → BetweenRead st c i more k (j + 1) cs r → BetweenRead st c i more k j (x ∷ cs) r
 space_more st c i more k j x cs r e b = record {
   taken = x ∷ b.taken;
   split = ap (λ ys. x ∷ ys) b.split;
   ends = b.ends;
-  lines = subst (HasLines i) (space_text j x b.taken e) b.lines;
+  lines = rw (space_text j x b.taken e) at b.lines;
   value = λ above h. b.value above h
       ∙ ap (λ text. value_behind st c i above k text (ending r.2)) (space_text j x b.taken e);
 }
@@ -176,10 +157,8 @@ half_more st c i more k j x cs r e b = record {
   taken = x ∷ b.taken;
   split = ap (λ ys. x ∷ ys) b.split;
   ends = b.ends;
-  lines = subst (λ text. HasLines i (spaces j ++ text))
-      (sym (normal_half x cs b.taken r.2.rest e b.split b.ends.no_break)) b.lines;
-  value = λ above h. b.value above h
-      ∙ ap (λ text. value_behind st c i above k (spaces j ++ text) (ending r.2))
+  lines = rw (normal_half x cs b.taken r.2.rest e b.split b.ends.no_break) b.lines;
+  value = λ above h. b.value above h ∙ ap (λ text. value_behind st c i above k (spaces j ++ text) (ending r.2))
       (sym (normal_half x cs b.taken r.2.rest e b.split b.ends.no_break));
 }
 
@@ -191,9 +170,8 @@ half_line st c i more x cs r e l = record {
   ends = l.ends;
   content = l.content;
   plain = l.plain;
-  value =
-      let P : List ℕ → Type 0 = λ text. CutLine c i l.content text r ⊎ BrokenLine st c i more l.content text r in
-      subst P (sym (normal_half x cs l.taken r.2.rest e l.split l.ends.no_break)) l.value;
+  value = subst (λ text. CutLine c i l.content text r ⊎ BrokenLine st c i more l.content text r)
+      (sym (normal_half x cs l.taken r.2.rest e l.split l.ends.no_break)) l.value;
 }
 
 -- the break of an empty line
@@ -204,10 +182,9 @@ break_more st c i more k j x cs r within half e b = record {
   taken = x ∷ b.taken;
   split = ap (λ ys. x ∷ ys) b.split;
   ends = b.ends;
-  lines = subst (λ text. HasLines i (spaces j ++ text)) (sym (normalized_break x cs b.taken r.2.rest half e b.split))
+  lines = rw (normalized_break x cs b.taken r.2.rest half e b.split)
       (lines_break i j (normalized b.taken) within b.lines);
-  value = λ above h.
-      b.value above h ∙ sym (value_empty st c i above k j (normalized b.taken) (ending r.2) within)
+  value = λ above h. b.value above h ∙ sym (value_empty st c i above k j (normalized b.taken) (ending r.2) within)
       ∙ ap (λ text. value_behind st c i above k (spaces j ++ text) (ending r.2))
       (sym (normalized_break x cs b.taken r.2.rest half e b.split));
 }
@@ -246,8 +223,7 @@ content_line st c i more x cs r e l =
 -- a line that begins with content
 pub same_break : (st : BlockStyle) (above below : List ℕ) (a b : Bool) (k : ℕ) → is_more_indented above ≡ a
     → is_more_indented below ≡ b → break_between st above k below ≡ break_before st (Some a) k b
-same_break Literal above below a b k e f = refl
-same_break Folded above below a b k e f = rw (e, f) refl
+same_break st above below a b k e f = grind arith
 
 value_cut : (st : BlockStyle) (c : Chomping) (i : ℕ) (above : List ℕ) (k : ℕ) (content : List ℕ) (e : Ending)
     → IsUnbroken content → 0 < length content
@@ -263,9 +239,7 @@ value_broken : (st : BlockStyle) (c : Chomping) (i : ℕ) (above : List ℕ) (k 
     ≡ break_between st above k content ++ (content ++ value_behind st c i content 0 others e)
 value_broken st c i above k content others e plain some =
     let f = first_line (spaces i ++ content) others (plain_both (spaces i) content (plain_spaces i) plain) in
-    let whole : (spaces i ++ content) ++ 10 ∷ others ≡ spaces i ++ (content ++ 10 ∷ others) =
-    append_assoc (spaces i) content (10 ∷ others) in
-    ap (λ text. value_behind st c i above k text e) (sym whole)
+    ap (λ text. value_behind st c i above k text e) (sym (append_assoc (spaces i) content (10 ∷ others)))
     ∙ rw (f.ended, f.last, line_content i content some, append_assoc, append_assoc) refl
 
 content_line_read : (st : BlockStyle) (c : Chomping) (i : ℕ) (more : Bool) (k x : ℕ) (cs : List ℕ) (r : LinesRead)
@@ -288,11 +262,9 @@ content_line_read st c i more k x cs r e l =
       lines = elim l.value [
         | inl w ↦ subst (λ text. HasLines i (spaces i ++ text)) (sym (same ∙ ap (λ ys. x ∷ ys) w.0))
             (lines_cut i here plain)
-        | inr w ↦ subst (λ text. HasLines i (spaces i ++ text)) (sym (same ∙ ap (λ ys. x ∷ ys) w.1))
-            (lines_broken i here w.0 plain w.2)
+        | inr w ↦ rw (same ∙ ap (λ ys. x ∷ ys) w.1) (lines_broken i here w.0 plain w.2)
       ];
-      value = λ above h.
-          joined
+      value = λ above h. joined
           ∙ (elim l.value [
             | inl w ↦ ap (λ ys. breaks ++ (x ∷ ys)) w.1
                 ∙ ap (λ b. b ++ (here ++ reading.chomped c (is_at_end (ending r.2)) 0))
@@ -316,26 +288,22 @@ begun_line : (st : BlockStyle) (c : Chomping) (i : ℕ) (more : Bool) (k col x :
     → Starts i col (x ∷ cs) → LineRead st c i (is_blank x) cs r
     → BetweenRead st c i more k col (x ∷ cs)
     (lines_behind_text (break_before st (Some more) k (is_blank x) ++ x ∷ []) r)
-begun_line st c i more k col x cs r s l =
-    let P : ℕ → Type 0 = λ j. BetweenRead st c i more k j (x ∷ cs)
-    (lines_behind_text (break_before st (Some more) k (is_blank x) ++ x ∷ []) r) in
-    subst P (sym s.column) (content_line_read st c i more k x cs r s.content l)
+begun_line st c i more k col x cs r s l = subst (λ j. BetweenRead st c i more k j (x ∷ cs)
+    (lines_behind_text (break_before st (Some more) k (is_blank x) ++ x ∷ []) r)) (sym s.column)
+    (content_line_read st c i more k x cs r s.content l)
 
 no_space_at : (i col : ℕ) → is_indentation (Some i) col 0 ≡ false
 no_space_at i col = refl
 
 indentation_is_space : (i col x : ℕ) → is_indentation (Some i) col x ≡ true → (x ≡ space) × (col + 1 ≤ i)
-indentation_is_space i col x h =
-    let both = and_parts (nat_eq x 32) (nat_lt col i) h in
-    (grind (arith, nat_tests), grind (arith, nat_tests))
+indentation_is_space i col x h = (grind (arith, nat_tests), grind (arith, nat_tests))
 
 mutual
   unfolding between line
 
   pub between_read : (st : BlockStyle) (c : Chomping) (i : ℕ) (more : Bool) (k : ℕ) (b : Bool) (m : Marker)
       (xs : List ℕ) → m.col ≤ i → BetweenRead st c i more k m.col xs (between st i (Some more) k b m xs)
-  between_read st c i more k b m [] within =
-      stop_spaces st c i more k b m [] within
+  between_read st c i more k b m [] within = stop_spaces st c i more k b m [] within
       (record {
         no_space = no_space_at i m.col;
         no_break = refl;
@@ -365,8 +333,7 @@ mutual
   pub line_read : (st : BlockStyle) (c : Chomping) (i : ℕ) (more b : Bool) (m : Marker) (xs : List ℕ) → i < m.col
       → LineRead st c i more xs (line st i more b m xs)
   line_read st c i more b m [] right = stop_content st c i more b m [] right refl refl
-  line_read st c i more b m (x ∷ cs) right =
-      by_test (is_yaml_non_break x) _ _ (LineRead st c i more (x ∷ cs))
+  line_read st c i more b m (x ∷ cs) right = by_test (is_yaml_non_break x) _ _ (LineRead st c i more (x ∷ cs))
       (λ h. content_line st c i more x cs _ h (line_read st c i more b (along m 1) cs (omega arith)))
       (λ h0. by_test (is_cr_lf x cs) _ _ (LineRead st c i more (x ∷ cs))
       (λ h. half_line st c i more x cs _ h (line_read st c i more b (inside_break m) cs right))

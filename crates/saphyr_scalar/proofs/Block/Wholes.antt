@@ -73,8 +73,6 @@ whole_broken : (st : BlockStyle) (c : Chomping) (i k : ℕ) (x text : List ℕ) 
 whole_broken st c i k x text e =
     let lines = lines_of i text in
     let more = (if is_counted_behind i (last_line text) e then line_of i (last_line text) ∷ [] else []) in
-    let joined : (empties k ++ (Content x ∷ lines)) ++ more ≡ empties k ++ (Content x ∷ (lines ++ more)) =
-    append_assoc (empties k) (Content x ∷ lines) more in
     let counted : whole st c i (empties k ++ (Content x ∷ lines)) (last_line text) e
     ≡ lines_value st c (is_broken i (last_line text) e) ((empties k ++ (Content x ∷ lines)) ++ more) =
     rw (content_after k x lines) refl in
@@ -87,13 +85,12 @@ whole_broken st c i k x text e =
       append_assoc,
       append_assoc,
     ) refl in
-    counted ∙ ap (lines_value st c (is_broken i (last_line text) e)) joined ∙ value
+    counted ∙ ap (lines_value st c (is_broken i (last_line text) e))
+    (append_assoc (empties k) (Content x ∷ lines) more) ∙ value
 
 alone_tail : (c : Chomping) (k : ℕ)
     → reading.chomped_alone c k ≡ tail c false (record { broken = false; empty_lines = k })
-alone_tail Strip k = refl
-alone_tail Clip k = refl
-alone_tail Keep k = refl
+alone_tail c k = grind arith
 
 -- no content
 whole_empty : (st : BlockStyle) (c : Chomping) (i k j : ℕ) → j ≤ i
@@ -111,8 +108,7 @@ alone_feeds : (k j : ℕ) → line_feeds (length (empties k ++ extra (not (nat_e
 alone_feeds zero zero = refl
 alone_feeds zero (suc j) =
     let some : nat_eq (suc j) 0 ≡ false = grind (arith, nat_tests) in
-    let more : nat_lt 0 (suc j) ≡ true = grind (arith, nat_tests) in
-    rw (some, more) refl
+    let more : nat_lt 0 (suc j) ≡ true = grind (arith, nat_tests) in rw (some, more) refl
 alone_feeds (suc k) j =
     let some : nat_eq (suc k) 0 ≡ false = grind (arith, nat_tests) in
     rw (some, and_false (not (nat_eq j 0)), append-nil (empties k), length-replicate k Empty) refl
@@ -139,8 +135,7 @@ whole_alone st c i k j s within e f =
 
 pub block_value_of : (st : BlockStyle) (c : Chomping) (i : ℕ) (text last : List ℕ) (lines : List Line) (e : Ending)
     → lines_of i text ≡ lines → last_line text ≡ last → block_value st c i text e ≡ whole st c i lines last e
-block_value_of st c i text last lines e p q =
-    ap (λ ls. whole st c i ls (last_line text) e) p ∙ ap (λ l. whole st c i lines l e) q
+block_value_of st c i text last lines e p q = cc
 
 -- what was read of the lines from the first content line on, where k empty lines and j spaces come before xs
 pub record FirstRead (st : BlockStyle) (c : Chomping) (i k j : ℕ) (xs : List ℕ) (r : LinesRead) : Type 0 where
@@ -189,11 +184,9 @@ begin_first st c i k x cs r e l =
       lines = elim l.value [
         | inl w ↦ subst (λ text. HasLines i (spaces i ++ text)) (sym (same ∙ ap (λ ys. x ∷ ys) w.0))
             (lines_cut i here plain)
-        | inr w ↦ subst (λ text. HasLines i (spaces i ++ text)) (sym (same ∙ ap (λ ys. x ∷ ys) w.1))
-            (lines_broken i here w.0 plain w.2)
+        | inr w ↦ rw (same ∙ ap (λ ys. x ∷ ys) w.1) (lines_broken i here w.0 plain w.2)
       ];
-      value = λ text lines last.
-          joined
+      value = λ text lines last. joined
           ∙ (elim l.value [
             | inl w ↦
                 let told : normalized (x ∷ l.taken) ≡ here = same ∙ ap (λ ys. x ∷ ys) w.0 in
@@ -201,8 +194,7 @@ begin_first st c i k x cs r e l =
                 ap (λ ys. line_feeds k ++ (x ∷ ys)) w.1 ∙ sym (whole_cut st c i k here (ending r.2) some)
                 ∙ sym (block_value_of st c i text (spaces i ++ here) (empties k) (ending r.2)
                 (lines ∙ ap (λ ys. empties k ++ lines_of i (spaces i ++ ys)) told ∙ ap (λ ls. empties k ++ ls) cut.0
-                ∙ append-nil (empties k))
-                (last ∙ ap (λ ys. last_line (spaces i ++ ys)) told ∙ cut.1))
+                ∙ append-nil (empties k)) (last ∙ ap (λ ys. last_line (spaces i ++ ys)) told ∙ cut.1))
             | inr w ↦
                 let told : normalized (x ∷ l.taken) ≡ here ++ 10 ∷ w.0 = same ∙ ap (λ ys. x ∷ ys) w.1 in
                 let broken = broken_lines i here w.0 plain some in
@@ -228,13 +220,11 @@ first_without_content st c i k b m xs within ends some =
       split = refl;
       ends = ends;
       lines = rw nothing (lines_spaces i m.col within);
-      value = λ text lines last.
-          rw some (sym (whole_empty st c i k m.col within))
+      value = λ text lines last. rw some (sym (whole_empty st c i k m.col within))
           ∙ ap (whole st c i (empties k) (spaces m.col)) (sym mark)
           ∙ sym (block_value_of st c i text (spaces m.col) (empties k) (ending s)
           (lines ∙ ap (λ ys. empties k ++ lines_of i ys) nothing ∙ ap (λ ls. empties k ++ map (line_of i) ls) cut.0
-          ∙ append-nil (empties k))
-          (last ∙ ap last_line nothing ∙ cut.1));
+          ∙ append-nil (empties k)) (last ∙ ap last_line nothing ∙ cut.1));
     }
 
 by_bool : (b : Bool) (P : Type 0) → (b ≡ true → P) → (b ≡ false → P) → P
@@ -244,12 +234,9 @@ by_bool false P here other = other refl
 -- from after the leading empty lines on
 pub first_read : (st : BlockStyle) (c : Chomping) (i k : ℕ) (b : Bool) (m : Marker) (xs : List ℕ) → m.col ≤ i
     → is_indentation (Some i) m.col (slice_index xs 0) ≡ false → is_break (slice_index xs 0) ≡ false
-    → is_z (slice_index xs 0) ≡ false
-    → FirstRead st c i k m.col xs (between st i None k b m xs)
+    → is_z (slice_index xs 0) ≡ false → FirstRead st c i k m.col xs (between st i None k b m xs)
 first_read st c i k b m [] within space clear some = absurd (cc)
-first_read st c i k b m (x ∷ cs) within space clear some =
-    by_bool (line_starts i m.col (x ∷ cs)) _
-    (λ h.
+first_read st c i k b m (x ∷ cs) within space clear some = by_bool (line_starts i m.col (x ∷ cs)) _ (λ h.
     let s = starts i m.col (x ∷ cs) h in
     let right : i < m.col + 1 = omega (arith, s.column) in
     let begins : between st i None k b m (x ∷ cs)
@@ -257,10 +244,8 @@ first_read st c i k b m (x ∷ cs) within space clear some =
     line_begins st i None k b m (x ∷ cs) h
     ∙ ap (lines_behind_text (line_feeds k)) (line_on st i (is_blank x) b m x cs s.content) in
     let P : ℕ → LinesRead → Type 0 = λ j r. FirstRead st c i k j (x ∷ cs) r in
-    subst (P m.col) (sym begins)
-    (subst (λ j. P j (lines_behind_text (line_feeds k)
-    (lines_behind_text (x ∷ []) (line st i (is_blank x) b (along m 1) cs))))
-    (sym s.column)
+    subst (P m.col) (sym begins) (subst (λ j. P j (lines_behind_text (line_feeds k)
+    (lines_behind_text (x ∷ []) (line st i (is_blank x) b (along m 1) cs)))) (sym s.column)
     (begin_first st c i k x cs _ s.content (line_read st c i (is_blank x) b (along m 1) cs right))))
     (λ h. subst (λ r. FirstRead st c i k m.col (x ∷ cs) r) (sym (no_line_at st i None k b m (x ∷ cs) space clear h))
     (first_without_content st c i k b m (x ∷ cs) within

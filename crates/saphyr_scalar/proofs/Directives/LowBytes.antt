@@ -19,8 +19,7 @@ pub record BeginsHigh (c : ℕ) : Type 0 where
 
 begins_high : (c : ℕ) → 128 ≤ c → BeginsHigh c
 unfolding encode
-begins_high c h =
-    by_test {A = Unit {0}} (nat_lt c 0x800) tt tt (λ _. BeginsHigh c)
+begins_high c h = by_test {A = Unit {0}} (nat_lt c 0x800) tt tt (λ _. BeginsHigh c)
     (λ e. record {
       first = 192 + c / 64;
       others = (128 + c % 64) ∷ [];
@@ -43,21 +42,17 @@ begins_high c h =
 
 begins_not_low : (c b : ℕ) (bs others : List ℕ) → BeginsHigh c → encode c ++ bs ≡ b ∷ others → b < 128 → ⊥
 begins_not_low c b bs others h e lt =
-    let is : h.first ∷ (h.others ++ bs) ≡ b ∷ others = sym (ap (λ u. u ++ bs) h.is) ∙ e in
-    let first : h.first ≡ b = cc in
-    absurd (omega (arith, h.high))
+    let first : h.first ≡ b = cc in absurd (omega (arith, h.high))
 
 abbrev pub SameStart : ℕ → List ℕ → ℕ → List ℕ → Type 0
 SameStart c bs b others = (c ≡ b) × (bs ≡ others)
 
 begins_low : (c b : ℕ) (bs others : List ℕ) → c < 128 → encode c ++ bs ≡ b ∷ others → SameStart c bs b others
 begins_low c b bs others lt e =
-    let is : c ∷ bs ≡ b ∷ others = sym (ap (λ u. u ++ bs) (encode_ascii c lt)) ∙ e in
-    (cc, cc)
+    let is : c ∷ bs ≡ b ∷ others = sym (ap (λ u. u ++ bs) (encode_ascii c lt)) ∙ e in (cc, cc)
 
 pub begins : (c b : ℕ) (bs others : List ℕ) → encode c ++ bs ≡ b ∷ others → b < 128 → SameStart c bs b others
-begins c b bs others e lt =
-    by_test {A = Unit {0}} (nat_lt c 128) tt tt (λ _. SameStart c bs b others)
+begins c b bs others e lt = by_test {A = Unit {0}} (nat_lt c 128) tt tt (λ _. SameStart c bs b others)
     (λ h. begins_low c b bs others (grind (arith, nat_tests)) e)
     (λ h. absurd (begins_not_low c b bs others (begins_high c (grind (arith, nat_tests))) e lt))
 
@@ -70,14 +65,11 @@ pub low_unique : (cs bs : List ℕ) → AreLow bs → encode_utf8_all cs ≡ bs 
 low_unique [] [] low e = refl
 low_unique [] (b ∷ bs) low e = absurd (cc)
 low_unique (c ∷ cs) [] low e =
-    let some : nat_eq (length (encode_utf8_all (c ∷ cs))) 0 ≡ false = some_bytes (c ∷ cs) (λ e. cc) in
-    let k : false ≡ true = sym some ∙ ap (λ (u : List ℕ). nat_eq (length u) 0) e in
+    let k : false ≡ true = sym (some_bytes (c ∷ cs) (λ e. cc)) ∙ ap (λ (u : List ℕ). nat_eq (length u) 0) e in
     absurd (false≢true k)
 low_unique (c ∷ cs) (b ∷ bs) (lt, low) e =
-    let is = begins c b (encode_utf8_all cs) bs e lt in
-    rw (is.0, low_unique cs bs low is.1) refl
+    let is = begins c b (encode_utf8_all cs) bs e lt in rw (is.0, low_unique cs bs low is.1) refl
 
 pub not_text : (name text : List ℕ) → AreLow text → name ≢ text → bytes_eq (encode_utf8_all name) text ≡ false
-not_text name text low other =
-    false_from_ne_true (bytes_eq (encode_utf8_all name) text)
+not_text name text low other = false_from_ne_true (bytes_eq (encode_utf8_all name) text)
     (λ e. other (low_unique name text low ((bytes_eq-Decides (encode_utf8_all name) text).0 e)))

@@ -48,6 +48,5 @@ name_spelled m xs text u h =
       text_is = sym (take-append-drop n xs) ∙ ap (λ r. w ++ r) rest;
       bytes = ap (λ (x : List ℕ × Cursor). x.0) is.same;
       ends = rw (← rest) is.test;
-      place = sym left ∙ ap (mid_line (along m n)) rest
-          ∙ ap (λ k. mid_line (along m k) u.rest) (sym (run_count is_yaml_non_space xs));
+      place = cc (run_count is_yaml_non_space xs);
     }

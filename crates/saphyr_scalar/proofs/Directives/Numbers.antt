@@ -45,8 +45,7 @@ counts_on n few = omega arith
 digit_first : (start : Marker) (n v : ℕ) (m : Marker) (xs : List ℕ) → is_digit (slice_index xs 0) ≡ true → n < 9
     → number_from start n v m xs ≡ number_from start (suc n) (v * 10 + (slice_index xs 0 - 48)) (along m 1) (drop 1 xs)
 unfolding number_from
-digit_first start n v m [] h few = absurd (false≢true h)
-digit_first start n v m (c ∷ cs) h few = let small : nat_lt n 9 ≡ true = grind (arith, nat_tests) in rw (h, small) refl
+digit_first start n v m xs h few = grind arith
 
 -- a digit that was taken off
 pub digit_on : (start : Marker) (n v c : ℕ) (s t u : Cursor) → c ≡ slice_index s.rest 0 → is_digit c ≡ true → n < 9

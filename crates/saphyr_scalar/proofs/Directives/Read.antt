@@ -51,9 +51,7 @@ tail_given d k j x = Ok (d, k, pass_break (mid_line j x))
 
 pub line_place : (d : ReadDirective) (m k : Marker) (n : ℕ) (tail x : List ℕ) → k ≡ along m n
     → line_given d k tail x ≡ tail_given d (along m n) (along m (n + length tail)) x
-line_place d m k n tail x e =
-    ap (λ k. line_given d k tail x) e
-    ∙ ap (λ j. tail_given d (along m n) j x) (along_more m n (length tail) (n + length tail) refl)
+line_place d m k n tail x e = cc (along_more m n (length tail) (n + length tail) refl)
 
 pub directive_same : (s : Cursor) → directive s ≡ directive (mid_line s.mark s.rest)
 unfolding directive
@@ -71,10 +69,8 @@ version_line : (m : Marker) (major minor : ℕ) (t tail x : List ℕ) → IsVers
     ≡ tail_given (version major minor) (along m (length t)) (along m (length t + length tail)) x
 version_line m major minor t tail x (gap, high, low, blanks, first, second, e) is_tail ends =
     let z = tail ++ x in
-    let last = tail_first tail x is_tail ends in
     let parts = gap ++ (high ++ (46 ∷ (low ++ z))) in
-    let whole : t ++ z ≡ 37 ∷ 89 ∷ 65 ∷ 77 ∷ 76 ∷ parts =
-    ap (λ u. u ++ z) e ∙ ap (λ u. 37 ∷ 89 ∷ 65 ∷ 77 ∷ 76 ∷ u)
+    let whole : t ++ z ≡ 37 ∷ 89 ∷ 65 ∷ 77 ∷ 76 ∷ parts = ap (λ u. u ++ z) e ∙ ap (λ u. 37 ∷ 89 ∷ 65 ∷ 77 ∷ 76 ∷ u)
     (append_assoc gap (high ++ (46 ∷ low)) z ∙ ap (λ u. gap ++ u) (append_assoc high (46 ∷ low) z)) in
     let n = length gap + length high + 1 + length low in
     let len : length t ≡ 1 + 4 + n =
@@ -82,14 +78,12 @@ version_line m major minor t tail x (gap, high, low, blanks, first, second, e) i
     let a = along (along m 1) 4 in
     let gap_first = or_left (is_blank (slice_index parts 0)) (is_breakz (slice_index parts 0))
     (first_of is_blank gap (high ++ (46 ∷ (low ++ z))) blanks.0 blanks.1) in
-    ap (λ u. directive (mid_line m u)) whole
-    ∙ whole_line (mid_line m (37 ∷ 89 ∷ 65 ∷ 77 ∷ 76 ∷ parts))
+    ap (λ u. directive (mid_line m u)) whole ∙ whole_line (mid_line m (37 ∷ 89 ∷ 65 ∷ 77 ∷ 76 ∷ parts))
     (pass_break (mid_line (along (along a n) (length tail)) x))
     (version major minor) (encode_utf8_all (codes "YAML")) (mid_line a parts) (mid_line (along a n) z)
     (name_read (along m 1) (codes "YAML") parts yaml_some (refl, (refl, (refl, (refl, tt)))) gap_first)
-    (yaml_value m (mid_line a parts)
-    ∙ version_read m a major minor gap high low z blanks first second (ends_at (slice_index z 0) last).no_digit)
-    (line_read m (along a n) tail x is_tail ends)
+    (yaml_value m (mid_line a parts) ∙ version_read m a major minor gap high low z blanks first second
+    (ends_at (slice_index z 0) (tail_first tail x is_tail ends)).no_digit) (line_read m (along a n) tail x is_tail ends)
     ∙ line_place (version major minor) m (along a n) (length t) tail x (along_three m 1 4 n (length t) len)
 
 tag_line : (m : Marker) (h p t tail x : List ℕ) → IsTagDirective h p t → IsLineTail tail
@@ -100,13 +94,9 @@ tag_line : (m : Marker) (h p t tail x : List ℕ) → IsTagDirective h p t → I
 tag_line m h p t tail x (first, second, written, before, between, is_h, is_p, e) is_tail ends =
     let z = tail ++ x in
     let d = tag_prefix (encode_utf8_all h) (encode_utf8_all p) in
-    let last = tail_first tail x is_tail ends in
     let parts = first ++ (h ++ (second ++ (written ++ z))) in
-    let whole : t ++ z ≡ 37 ∷ 84 ∷ 65 ∷ 71 ∷ parts =
-    ap (λ u. u ++ z) e
-    ∙ ap (λ u. 37 ∷ 84 ∷ 65 ∷ 71 ∷ u)
-    (append_assoc first (h ++ (second ++ written)) z
-    ∙ ap (λ u. first ++ u) (append_assoc h (second ++ written) z
+    let whole : t ++ z ≡ 37 ∷ 84 ∷ 65 ∷ 71 ∷ parts = ap (λ u. u ++ z) e ∙ ap (λ u. 37 ∷ 84 ∷ 65 ∷ 71 ∷ u)
+    (append_assoc first (h ++ (second ++ written)) z ∙ ap (λ u. first ++ u) (append_assoc h (second ++ written) z
     ∙ ap (λ u. h ++ u) (append_assoc second written z))) in
     let n = length first + length h + length second + length written in
     let len : length t ≡ 1 + 3 + n =
@@ -123,8 +113,8 @@ tag_line m h p t tail x (first, second, written, before, between, is_h, is_p, e)
     ∙ whole_line (mid_line m (37 ∷ 84 ∷ 65 ∷ 71 ∷ parts)) (pass_break (mid_line (along (along a n) (length tail)) x)) d
     (encode_utf8_all (codes "TAG")) (mid_line a parts) (mid_line (along a n) z)
     (name_read (along m 1) (codes "TAG") parts tag_some (refl, (refl, (refl, tt))) gap_first)
-    (tag_value m (mid_line a parts) ∙ tag_read m a first h second p written z before is_h between is_p last)
-    (line_read m (along a n) tail x is_tail ends)
+    (tag_value m (mid_line a parts) ∙ tag_read m a first h second p written z before is_h between is_p
+    (tail_first tail x is_tail ends)) (line_read m (along a n) tail x is_tail ends)
     ∙ line_place d m (along a n) (length t) tail x (along_three m 1 3 n (length t) len)
 
 directive_with_tail : (m : Marker) (d : ReadDirective) (t tail x : List ℕ) → IsDirectiveText d t → IsLineTail tail
@@ -137,8 +127,7 @@ directive_with_tail m (tag_prefix handle prefix) t tail x (h, p, is, is_h, is_p)
 directive_with_tail m (reserved name) t tail x is is_tail ends = absurd is
 
 pub reads_directive : (s : Cursor) (d : ReadDirective) (t tail x : List ℕ) → s.rest ≡ t ++ (tail ++ x)
-    → IsDirectiveText d t
-    → IsLineTail tail → is_breakz (slice_index x 0) ≡ true
+    → IsDirectiveText d t → IsLineTail tail → is_breakz (slice_index x 0) ≡ true
     → directive s ≡ Ok (d, along s.mark (length t), pass_break (mid_line (along s.mark (length t + length tail)) x))
 reads_directive s d t tail x e is tail_is ends =
     directive_same s ∙ ap (λ u. directive (mid_line s.mark u)) e ∙ directive_with_tail s.mark d t tail x is tail_is ends

@@ -52,8 +52,7 @@ number_ended start n v s = by_test (n == 0) _ _ (RefusedAt start) (λ _. refl) (
 number_refused : (start : Marker) (n v : ℕ) (m : Marker) (t : List ℕ) → RefusedAt start (number_from start n v m t)
 unfolding number_from
 number_refused start n v m [] = number_ended start n v (mid_line m [])
-number_refused start n v m (c ∷ cs) =
-    by_test (is_digit c) _ _ (RefusedAt start)
+number_refused start n v m (c ∷ cs) = by_test (is_digit c) _ _ (RefusedAt start)
     (λ _. by_test (nat_lt n 9) _ _ (RefusedAt start)
     (λ _. number_refused start (suc n) (v * 10 + (c - 48)) (along m 1) cs) (λ _. refl))
     (λ _. number_ended start n v (mid_line m (c ∷ cs)))
@@ -95,15 +94,13 @@ tag_refused start s =
 
 value_refused : (start : Marker) (x : List ℕ × Cursor) → RefusedAt start (value start x)
 unfolding value
-value_refused start x =
-    by_test (bytes_eq x.0 (codes "YAML")) _ _ (RefusedAt start) (λ _. version_refused start x.1)
+value_refused start x = by_test (bytes_eq x.0 (codes "YAML")) _ _ (RefusedAt start) (λ _. version_refused start x.1)
     (λ _. by_test (bytes_eq x.0 (codes "TAG")) _ _ (RefusedAt start) (λ _. tag_refused start x.1) (λ _. tt))
 
 -- the end of a line that was reached from s
 end_refused : (s t : Cursor) → IsPassed s.mark s.rest t.mark t.rest → Refused (IsRefusedInside s) (line_end s.mark t)
 unfolding line_end
-end_refused s t p =
-    refused_bind (IsRefusedInside s) (separation Yes t) _
+end_refused s t p = refused_bind (IsRefusedInside s) (separation Yes t) _
     (refused_more (IsRefusedInside t) (IsRefusedInside s) (separation Yes t) (separation_refused Yes t)
     (λ e h. inside_from s t e p h))
     (λ x _. by_test (is_breakz (slice_index x.1.rest 0)) _ _ (Refused (IsRefusedInside s)) (λ _. tt)
@@ -121,12 +118,9 @@ value_passed m ys x d h k =
     let t : List ℕ = 37 ∷ (n.word ++ is.more) in
     let text : 37 ∷ ys ≡ t ++ d.1.rest =
     ap (λ r. 37 ∷ r) (n.text_is ∙ ap (λ r. n.word ++ r) is.text ∙ sym (append_assoc n.word is.more d.1.rest)) in
-    let end : d.1.mark ≡ along m (length t) =
-    ap (λ (y : Cursor). y.mark) is.place
+    let end : d.1.mark ≡ along m (length t) = ap (λ (y : Cursor). y.mark) is.place
     ∙ along_three m 1 (length n.word) (length is.more) (length t) (omega (arith, length-append n.word is.more)) in
-    subst (λ (k : Marker). IsPassed m (37 ∷ ys) k d.1.rest) (sym end)
-    (subst (λ r. IsPassed m r (along m (length t)) d.1.rest) (sym text)
-    (no_breaks_passed m t d.1.rest (directive_no_break d.0 t is.is)))
+    rw end (rw text (no_breaks_passed m t d.1.rest (directive_no_break d.0 t is.is)))
 
 directive_refused_at : (m : Marker) (ys : List ℕ)
     → Refused (IsRefusedInside (mid_line m (percent_sign ∷ ys))) (directive (mid_line m (percent_sign ∷ ys)))
@@ -135,8 +129,7 @@ directive_refused_at m ys =
     let s : Cursor = mid_line m (37 ∷ ys) in
     let behind : Cursor = mid_line (along m 1) ys in
     let P = IsRefusedInside s in
-    refused_bind P (name behind) _
-    (refused_more (λ e. e.mark ≡ behind.mark) P (name behind) (name_refused behind)
+    refused_bind P (name behind) _ (refused_more (λ e. e.mark ≡ behind.mark) P (name behind) (name_refused behind)
     (refused_there s behind (character m 37 ys behind.mark ys refl (nothing behind.mark ys))))
     (λ x h. refused_bind P (value m x) _
     (refused_more (λ e. e.mark ≡ m) P (value m x) (value_refused m x) (inside_start s))
@@ -146,6 +139,4 @@ pub directive_refused : (s : Cursor) → slice_index s.rest 0 ≡ percent_sign �
 unfolding directive
 directive_refused s begins =
     let more : s.rest ≡ 37 ∷ drop 1 s.rest = cut_at 37 s.rest refl begins in
-    subst (λ r. Refused (λ e. (behind : List ℕ) × IsPassed s.mark r e.mark behind) (directive (mid_line s.mark r)))
-    (sym more)
-    (directive_refused_at s.mark (drop 1 s.rest))
+    rw more (directive_refused_at s.mark (drop 1 s.rest))

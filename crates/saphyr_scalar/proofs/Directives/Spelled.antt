@@ -30,16 +30,13 @@ line_spells : (m : Marker) (ys text : List ℕ) (a b : Cursor) (d : ReadDirectiv
     → TailOf b.mark b.rest u → Spelled m (percent_sign ∷ ys) d b.mark u
 line_spells m ys text a b d u n is tail =
     let t = 37 ∷ (n.word ++ is.more) in
-    let end : b.mark ≡ along m (length t) =
-    ap (λ (y : Cursor). y.mark) is.place
-    ∙ along_three m 1 (length n.word) (length is.more) (length t) (omega (arith, length-append n.word is.more)) in
-    let whole : 37 ∷ ys ≡ t ++ (tail.tail ++ tail.behind) =
-    ap (λ r. 37 ∷ r) (n.text_is ∙ ap (λ r. n.word ++ r) (is.text ∙ ap (λ r. is.more ++ r) tail.text)
-    ∙ sym (append_assoc n.word is.more (tail.tail ++ tail.behind))) in (
+    let end : b.mark ≡ along m (length t) = ap (λ (y : Cursor). y.mark) is.place
+    ∙ along_three m 1 (length n.word) (length is.more) (length t) (omega (arith, length-append n.word is.more)) in (
       t,
       tail.tail,
       tail.behind,
-      whole,
+      (ap (λ r. 37 ∷ r) (n.text_is ∙ ap (λ r. n.word ++ r) (is.text ∙ ap (λ r. is.more ++ r) tail.text)
+          ∙ sym (append_assoc n.word is.more (tail.tail ++ tail.behind)))),
       is.is,
       tail.is,
       tail.ends,
@@ -85,6 +82,4 @@ pub spells_directive : (s u : Cursor) (d : ReadDirective) (end : Marker) → sli
 spells_directive s u d end begins read =
     let more : s.rest ≡ 37 ∷ drop 1 s.rest = cut_at 37 s.rest refl begins in
     let here = sym (directive_same s) ∙ read in
-    let is = directive_spelled s.mark (drop 1 s.rest) d end u
-    (subst (λ r. directive (mid_line s.mark r) ≡ Ok (d, end, u)) more here) in
-    subst (λ r. Spelled s.mark r d end u) (sym more) is
+    let is = directive_spelled s.mark (drop 1 s.rest) d end u (rw more at here) in rw more is

@@ -27,8 +27,7 @@ handle_read : (start m : Marker) (h y : List ℕ) → IsHandleText h → is_blan
 unfolding handle handle_behind_word
 handle_read start m h y (inl primary) ends =
     let stop = stops_blank (slice_index y 0) ends in
-    rw primary
-    (ap (handle_behind_word start) (run_read is_alpha (along m 1) [] y tt stop.no_alpha)
+    rw primary (ap (handle_behind_word start) (run_read is_alpha (along m 1) [] y tt stop.no_alpha)
     ∙ rw (stop.no_mark, along_none (along m 1)) (ap (λ v. text_given v (mid_line (along m 1) y)) (sym mark_bytes)))
 handle_read start m h y (inr (w, are, named)) ends =
     let whole : h ++ y ≡ 33 ∷ (w ++ (33 ∷ y)) = ap (λ u. u ++ y) named
@@ -88,8 +87,7 @@ abbrev then_prefix : Marker → List ℕ → Result (List ℕ × Cursor) Refusal
 then_prefix start h r = r >>= λ x. behind_prefix start h x
 
 handle_first : (h y : List ℕ) → IsHandleText h → is_blank (slice_index (h ++ y) 0) ≡ false
-handle_first h y (inl primary) = rw primary refl
-handle_first h y (inr (w, are, named)) = rw named refl
+handle_first h y k = grind arith
 
 pub tag_read : (start m : Marker) (first h second p t y : List ℕ) → AreSomeBlanks first → IsHandleText h
     → AreSomeBlanks second
@@ -105,7 +103,6 @@ tag_read start m first h second p t y before is_h between is_p ends =
     let a = along m (length first) in
     let b = along a (length h) in
     let c = along b (length second) in
-    let d = along c (length t) in
     ap (λ s. then_handle start (handle start s))
     (blanks_read m first (h ++ (second ++ (t ++ y))) before.1 (handle_first h (second ++ (t ++ y)) is_h))
     ∙ ap (then_handle start)
@@ -114,7 +111,7 @@ tag_read start m first h second p t y before is_h between is_p ends =
     (blanks_read b second (t ++ y) between.1 (prefix_no_blank (slice_index (t ++ y) 0) (written_first p t y is_p)))
     ∙ ap (then_prefix start (encode_utf8_all h))
     (prefix_read start c p t y is_p (ends_at (slice_index y 0) ends).no_uri)
-    ∙ prefix_ends start (encode_utf8_all h) (encode_utf8_all p) (mid_line d y) ends
+    ∙ prefix_ends start (encode_utf8_all h) (encode_utf8_all p) (mid_line (along c (length t)) y) ends
     ∙ ap (λ k. said (tag_prefix (encode_utf8_all h) (encode_utf8_all p)) (mid_line k y))
     (along_four m (length first) (length h) (length second) (length t)
     (length first + length h + length second + length t) refl)

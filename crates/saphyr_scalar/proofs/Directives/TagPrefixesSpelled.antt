@@ -42,9 +42,7 @@ abbrev OfHandle : Marker → List ℕ → List ℕ × Cursor → Type 0
 OfHandle m xs x = HandleOf m xs x.0 x.1
 
 both_fail : (a b : Bool) → a ≡ false → b ≡ false → (a || b) ≡ false
-both_fail false false p q = refl
-both_fail true b p q = absurd (cc)
-both_fail false true p q = absurd (cc)
+both_fail a b p q = grind arith
 
 word_spelled : (start m : Marker) (ys text : List ℕ) (u : Cursor)
     → handle_behind_word start (with_run is_alpha [] (mid_line (along m 1) ys)) ≡ Ok (text, u)
@@ -59,8 +57,7 @@ word_spelled start m ys text u =
     by_test (nat_eq (slice_index left 0) 33) (Ok (handle_of bytes, mid_line (along k 1) (drop 1 left)))
     (cond (nat_eq (length bytes) 0) (Ok (codes "!", mid_line k left))
     (Err (record { text = fault.TagDirectiveHandleEndExpected; mark = start })))
-    (λ (r : Result (List ℕ × Cursor) Refusal). r ≡ Ok (text, u) → HandleOf m (33 ∷ ys) text u)
-    (λ mark h.
+    (λ (r : Result (List ℕ × Cursor) Refusal). r ≡ Ok (text, u) → HandleOf m (33 ∷ ys) text u) (λ mark h.
     let handle = codes "!" ++ (w ++ codes "!") in
     let more : left ≡ 33 ∷ drop 1 left = cut_at 33 left refl (eqb-true (slice_index left 0) 33 mark) in
     let len : length handle ≡ 1 + n + 1 = omega (arith, length-append w (codes "!"), run_count is_alpha ys) in
@@ -101,7 +98,7 @@ handle_spelled start m xs text u h =
     (handle_behind_word start (with_run is_alpha [] (mid_line (along m 1) (drop 1 xs)))) (text, u)
     (record { text = fault.TagHandleStartExpected; mark = start }) h in
     let more : xs ≡ 33 ∷ drop 1 xs = cut_at 33 xs refl (eqb-true (slice_index xs 0) 33 is.test) in
-    subst (λ r. HandleOf m r text u) (sym more) (word_spelled start m (drop 1 xs) text u is.same)
+    rw more (word_spelled start m (drop 1 xs) text u is.same)
 
 pub record PrefixOf (m : Marker) (xs text : List ℕ) (u : Cursor) : Type 0 where
   pub value : List ℕ
@@ -119,8 +116,7 @@ prefix_spelled start m xs text u h =
     let begins : ℕ → Bool = λ x. is_tag_char x || (x == 33) in
     let is = cond_then (begins_prefix c0)
     (uri_character start (mid_line m xs) >>= λ (x : ℕ × Cursor). with_front (encode_utf8 x.0)
-    (decoded_at Uri start x.1))
-    (text, u) (record { text = fault.TagPrefixCharacter; mark = start }) h in
+    (decoded_at Uri start x.1)) (text, u) (record { text = fault.TagPrefixCharacter; mark = start }) h in
     let one = bind_ok (uri_character start (mid_line m xs))
     (λ (x : ℕ × Cursor). with_front (encode_utf8 x.0) (decoded_at Uri start x.1)) (text, u) is.same in
     let c = one.given.0 in
@@ -223,10 +219,8 @@ tag_spelled start m xs d u begins h =
           (subst (λ r. (is_alpha (slice_index r 0) || nat_eq (slice_index r 0) 33) ≡ false) parted (a.whole alone));
       between = run_is_in is_blank ys;
       is_prefix = b.is;
-      text = sym (take-append-drop n xs)
-          ∙ ap (λ r. first ++ r) (a.rest
+      text = sym (take-append-drop n xs) ∙ ap (λ r. first ++ r) (a.rest
           ∙ ap (λ r. a.handle ++ r) (sym (take-append-drop o ys) ∙ ap (λ r. second ++ r) b.rest));
-      place = b.place ∙ ap (λ k. mid_line k u.rest)
-          (along_four m n (length a.handle) o (length b.written)
+      place = b.place ∙ ap (λ k. mid_line k u.rest) (along_four m n (length a.handle) o (length b.written)
           (length first + length a.handle + length second + length b.written) total);
     }

@@ -37,8 +37,7 @@ tail_begins [] comment x are (inr (words, some, in_line, is)) ends = absurd (som
 
 comment_begins : (blanks comment x : List ℕ) → Tail blanks comment → is_breakz (slice_index x 0) ≡ true
     → is_blank (slice_index (comment ++ x) 0) ≡ false
-comment_begins blanks comment x (inl none) ends = rw none (break_is_no_blank (slice_index x 0) ends)
-comment_begins blanks comment x (inr (words, some, in_line, is)) ends = rw is refl
+comment_begins blanks comment x h ends = grind arith
 
 comment_is : (blanks comment x : List ℕ) → Tail blanks comment → is_breakz (slice_index x 0) ≡ true
     → comment_len (comment ++ x) ≡ length comment
@@ -78,20 +77,18 @@ tail_first tail x (blanks, comment, are, end, e) ends =
 
 tail_len : (tail x : List ℕ) → IsLineTail tail → is_breakz (slice_index x 0) ≡ true
     → separation_len Yes (tail ++ x) ≡ length tail
-tail_len tail x (blanks, comment, are, end, e) ends =
-    rw (e, append_assoc blanks comment x)
+tail_len tail x (blanks, comment, are, end, e) ends = rw (e, append_assoc blanks comment x)
     (separation_is blanks comment x are end ends ∙ sym (length-append blanks comment))
 
 separation_read : (m : Marker) (tail x : List ℕ) → IsLineTail tail → is_breakz (slice_index x 0) ≡ true
     → separation Yes (mid_line m (tail ++ x)) ≡ Ok (found_blanks Yes (tail ++ x), mid_line (along m (length tail)) x)
 unfolding separation
 separation_read m tail x is ends =
-    let bare : is_bare_comment Yes (tail ++ x) ≡ false =
-    and_right (nat_eq (blank_len Yes (tail ++ x)) 0) (nat_eq (slice_index (tail ++ x) 0) 35)
-    (other_than is_blank_or_breakz 35 (slice_index (tail ++ x) 0) refl (tail_first tail x is ends)) in
     ap (λ n. behind_separation Yes (tail ++ x) (blanks_passed n m (tail ++ x))) (tail_len tail x is ends)
     ∙ ap (λ u. behind_separation Yes (tail ++ x) (mid_line (along m (length tail)) u)) (drop-append_seam tail x)
-    ∙ nothing_refused (tail ++ x) (mid_line (along m (length tail)) x) (no_bom (slice_index x 0) ends) bare
+    ∙ nothing_refused (tail ++ x) (mid_line (along m (length tail)) x) (no_bom (slice_index x 0) ends)
+    (and_right (nat_eq (blank_len Yes (tail ++ x)) 0) (nat_eq (slice_index (tail ++ x) 0) 35)
+    (other_than is_blank_or_breakz 35 (slice_index (tail ++ x) 0) refl (tail_first tail x is ends)))
 
 pub line_read : (start m : Marker) (tail x : List ℕ) → IsLineTail tail → is_breakz (slice_index x 0) ≡ true
     → line_end start (mid_line m (tail ++ x)) ≡ Ok (pass_break (mid_line (along m (length tail)) x))

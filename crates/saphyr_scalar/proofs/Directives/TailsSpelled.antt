@@ -42,11 +42,9 @@ comment_at blanks ws some =
 
 comment_in_tail : (blanks zs : List ℕ) → blanks ≢ [] → Tail blanks (take (comment_len zs) zs)
 comment_in_tail blanks zs some =
-    by_test (nat_eq (slice_index zs 0) 35) (prefix_len is_yaml_non_break zs) 0 (λ n. Tail blanks (take n zs))
-    (λ e.
+    by_test (nat_eq (slice_index zs 0) 35) (prefix_len is_yaml_non_break zs) 0 (λ n. Tail blanks (take n zs)) (λ e.
     let more : zs ≡ 35 ∷ drop 1 zs = cut_at 35 zs refl (eqb-true (slice_index zs 0) 35 e) in
-    subst (λ u. Tail blanks (take (prefix_len is_yaml_non_break u) u)) (sym more) (comment_at blanks (drop 1 zs) some))
-    (λ _. inl refl)
+    rw more (comment_at blanks (drop 1 zs) some)) (λ _. inl refl)
 
 comment_count : (zs : List ℕ) → length (take (comment_len zs) zs) ≡ comment_len zs
 comment_count zs =
@@ -86,8 +84,7 @@ some_blanks m xs e =
     let some : b + c ≡ separation_len Yes xs = rw e refl in
     let test : nat_eq b 0 ≡ false = e in
     let blank : blanks ≢ [] = some_of_length blanks (let k = run_count is_blank xs in grind (arith, nat_tests)) in
-    let text : xs ≡ (blanks ++ comment) ++ drop (b + c) xs =
-    sym (take-append-drop b xs)
+    let text : xs ≡ (blanks ++ comment) ++ drop (b + c) xs = sym (take-append-drop b xs)
     ∙ ap (λ r. blanks ++ r) (sym (take-append-drop c zs) ∙ ap (λ r. comment ++ r) (drop_more c b (b + c) xs refl))
     ∙ sym (append_assoc blanks comment (drop (b + c) xs)) in
     let len : length (blanks ++ comment) ≡ b + c = rw (length-append blanks comment)

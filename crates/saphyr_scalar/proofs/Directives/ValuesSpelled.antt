@@ -69,10 +69,8 @@ tag_value d k zs u is =
     ) in
     record {
       more = more;
-      text = is.text
-          ∙ sym (append_assoc is.first (is.handle ++ (is.second ++ is.written)) u.rest
-          ∙ ap (λ r. is.first ++ r)
-          (append_assoc is.handle (is.second ++ is.written) u.rest
+      text = is.text ∙ sym (append_assoc is.first (is.handle ++ (is.second ++ is.written)) u.rest
+          ∙ ap (λ r. is.first ++ r) (append_assoc is.handle (is.second ++ is.written) u.rest
           ∙ ap (λ r. is.handle ++ r) (append_assoc is.second is.written u.rest)));
       place = is.place ∙ ap (λ n. mid_line (along k n) u.rest) len;
       is = subst (λ (e : ReadDirective). IsReadDirective e (37 ∷ (codes "TAG" ++ more))) is.says spelled;
@@ -89,8 +87,7 @@ blank_begins (c ∷ cs) h =
 
 parameters_begin : (zs : List ℕ) → is_blank_or_breakz (slice_index zs 0) ≡ true
     → Begins (take (prefix_len is_yaml_non_break zs) zs)
-parameters_begin zs h =
-    either (is_blank (slice_index zs 0)) (is_breakz (slice_index zs 0))
+parameters_begin zs h = either (is_blank (slice_index zs 0)) (is_breakz (slice_index zs 0))
     (Begins (take (prefix_len is_yaml_non_break zs) zs)) h (blank_begins zs)
     (λ e. inl (ap (λ n. take n zs) (run_stops is_yaml_non_break zs (breakz_no_non_break (slice_index zs 0) e))))
 
@@ -104,8 +101,7 @@ tag_eq = refl
 
 other_name : (w text : List ℕ) → bytes_eq (encode_utf8_all text) text ≡ true → bytes_eq (encode_utf8_all w) text ≡ false
     → w ≢ text
-other_name w text same other e =
-    let k : false ≡ true = sym other ∙ ap (λ v. bytes_eq (encode_utf8_all v) text) e ∙ same in false≢true k
+other_name w text same other e = false≢true (sym other ∙ ap (λ v. bytes_eq (encode_utf8_all v) text) e ∙ same)
 
 same_name : (w text : List ℕ) → AreLow text → bytes_eq (encode_utf8_all w) text ≡ true → w ≡ text
 same_name w text low e = low_unique w text low ((bytes_eq-Decides (encode_utf8_all w) text).0 e)
@@ -131,9 +127,8 @@ abbrev OfValue : Marker → List ℕ → List ℕ → ReadDirective × Cursor �
 OfValue k w zs x = ValueOf x.0 k w zs x.1
 
 pub value_spelled : (start k : Marker) (w zs : List ℕ) (d : ReadDirective) (u : Cursor) → w ≢ []
-    → AreIn is_yaml_non_space w
-    → is_blank_or_breakz (slice_index zs 0) ≡ true → value start (encode_utf8_all w, mid_line k zs) ≡ Ok (d, u)
-    → ValueOf d k w zs u
+    → AreIn is_yaml_non_space w → is_blank_or_breakz (slice_index zs 0) ≡ true
+    → value start (encode_utf8_all w, mid_line k zs) ≡ Ok (d, u) → ValueOf d k w zs u
 unfolding value
 value_spelled start k w zs d u some all ends =
     by_test (bytes_eq (encode_utf8_all w) (codes "YAML")) (version_directive start (mid_line k zs))

@@ -27,10 +27,8 @@ digits_read start n v m [] [] few are ends = rw (along_none m, add-zero n) refl
 digits_read start n v m [] (c ∷ y) few are ends = rw (along_none m, ends, add-zero n) refl
 digits_read start n v m (d ∷ ds) y few (is, are) ends =
     let grown = v * 10 + (d - 48) in
-    let more : suc n + length ds ≡ n + suc (length ds) = omega arith in
-    rw (is, lt-ltb n 9 (omega arith))
-    (digits_read start (suc n) grown (along m 1) ds y (omega arith) are ends
-    ∙ ap (λ k. number_end start k (decimal_from grown ds) (mid_line (along (along m 1) (length ds)) y)) more
+    rw (is, lt-ltb n 9 (omega arith)) (digits_read start (suc n) grown (along m 1) ds y (omega arith) are ends
+    ∙ ap (λ k. number_end start k (decimal_from grown ds) (mid_line (along (along m 1) (length ds)) y)) (omega arith)
     ∙ ap (λ k. number_end start (n + suc (length ds)) (decimal_from grown ds) (mid_line k y))
     (along_more m 1 (length ds) (suc (length ds)) (omega arith)))
 
@@ -40,11 +38,9 @@ number_ends start n v s some = let no : nat_eq n 0 ≡ false = grind (arith, nat
 
 number_read : (start m : Marker) (v : ℕ) (ds y : List ℕ) → IsVersionNumber v ds → is_digit (slice_index y 0) ≡ false
     → number start (mid_line m (ds ++ y)) ≡ Ok (v, mid_line (along m (length ds)) y)
-number_read start m v ds y (some, few, are, is) ends =
-    digits_read start 0 0 m ds y (omega arith) are ends
+number_read start m v ds y (some, few, are, is) ends = digits_read start 0 0 m ds y (omega arith) are ends
     ∙ number_ends start (0 + length ds) (decimal_from 0 ds) (mid_line (along m (length ds)) y)
-    (omega (arith, some_length ds some))
-    ∙ ap (λ v. number_given v (mid_line (along m (length ds)) y)) is
+    (omega (arith, some_length ds some)) ∙ ap (λ v. number_given v (mid_line (along m (length ds)) y)) is
 
 digit_no_blank : (c : ℕ) → is_digit c ≡ true → is_blank c ≡ false
 digit_no_blank c h = rw (other_than is_digit 32 c refl h, other_than is_digit 9 c refl h) refl
@@ -62,12 +58,10 @@ pub version_read : (start m : Marker) (major minor : ℕ) (gap high low y : List
 unfolding version_directive behind_major
 version_read start m major minor gap high low y blanks first second ends =
     let there = along m (length gap) in
-    let point = along there (length high) in
-    ap (λ s. then_major start (number start s))
-    (blanks_read m gap (high ++ (46 ∷ (low ++ y))) blanks.1
+    ap (λ s. then_major start (number start s)) (blanks_read m gap (high ++ (46 ∷ (low ++ y))) blanks.1
     (digit_no_blank (slice_index (high ++ (46 ∷ (low ++ y))) 0)
     (first_of is_digit high (46 ∷ (low ++ y)) first.0 first.2)))
     ∙ ap (then_major start) (number_read start there major high (46 ∷ (low ++ y)) first refl)
-    ∙ ap (then_minor major) (number_read start (along point 1) minor low y second ends)
+    ∙ ap (then_minor major) (number_read start (along (along there (length high)) 1) minor low y second ends)
     ∙ ap (λ k. said (version major minor) (mid_line k y))
     (along_four m (length gap) (length high) 1 (length low) (length gap + length high + 1 + length low) refl)

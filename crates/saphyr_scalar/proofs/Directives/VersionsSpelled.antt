@@ -41,7 +41,6 @@ number_ended start n v w m xs u le h =
     let same = ok_same {A = ℕ × Cursor} (v, mid_line m xs) (w, u) some.same in
     let left : mid_line m xs ≡ u = ap (λ (x : ℕ × Cursor). x.1) same in
     let rest : xs ≡ u.rest = ap (λ (x : Cursor). x.rest) left in
-    let test = some.test in
     record {
       digits = [];
       all = tt;
@@ -60,8 +59,7 @@ digits_spelled start n v m (c ∷ cs) w u le =
     by_test (is_digit c) _ _ (λ (r : Result (ℕ × Cursor) Refusal). r ≡ Ok (w, u) → DigitsOf n v w m (c ∷ cs) u)
     (λ digit. by_test (nat_lt n 9) (number_from start (suc n) (v * 10 + (c - 48)) (along m 1) cs)
     (Err (record { text = fault.VersionNumberTooLong; mark = start }))
-    (λ (r : Result (ℕ × Cursor) Refusal). r ≡ Ok (w, u) → DigitsOf n v w m (c ∷ cs) u)
-    (λ small h.
+    (λ (r : Result (ℕ × Cursor) Refusal). r ≡ Ok (w, u) → DigitsOf n v w m (c ∷ cs) u) (λ small h.
     let lt : n < 9 = grind (arith, nat_tests) in
     let others = digits_spelled start (suc n) (v * 10 + (c - 48)) (along m 1) cs w u (omega arith) h in
     record {
@@ -71,12 +69,10 @@ digits_spelled start n v m (c ∷ cs) w u le =
       some = omega arith;
       value = others.value;
       text = ap (λ r. c ∷ r) others.text;
-      place = others.place ∙ ap (λ k. mid_line k u.rest)
-          (along_more m 1 (length others.digits) (suc (length others.digits)) (omega arith));
+      place = cc (along_more m 1 (length others.digits) (suc (length others.digits)) (omega arith));
     })
     (λ _ h. no_result (record { text = fault.VersionNumberTooLong; mark = start }) (w, u) (DigitsOf n v w m (c ∷ cs) u)
-    h))
-    (λ _ h. number_ended start n v w m (c ∷ cs) u le h)
+    h)) (λ _ h. number_ended start n v w m (c ∷ cs) u le h)
 
 pub some_of_length : (t : List ℕ) → 0 < length t → t ≢ []
 some_of_length t lt e = let k : length t ≡ 0 = ap (λ (u : List ℕ). length u) e in absurd (omega arith)
@@ -86,8 +82,7 @@ pub gap_some : (p : ℕ → Bool) (xs gap behind : List ℕ) → ((c : ℕ) → 
     → is_blank_or_breakz (slice_index xs 0) ≡ true → xs ≡ gap ++ behind → p (slice_index behind 0) ≡ true → gap ≢ []
 gap_some p xs gap behind apart first text begins none =
     let same : xs ≡ behind = text ∙ ap (λ g. g ++ behind) none in
-    let k : false ≡ true = sym (apart (slice_index xs 0) first) ∙ ap (λ u. p (slice_index u 0)) same ∙ begins in
-    false≢true k
+    false≢true (sym (apart (slice_index xs 0) first) ∙ ap (λ u. p (slice_index u 0)) same ∙ begins)
 
 is_version_number : (w : ℕ) (m : Marker) (xs : List ℕ) (u : Cursor) (is : DigitsOf 0 0 w m xs u)
     → IsVersionNumber w is.digits
@@ -126,9 +121,8 @@ version_spelled start m xs d u begins h =
     dot.same in
     let same = ok_same {A = ReadDirective × Cursor} (version one.given.0 two.given.0, two.given.1) (d, u) two.next in
     let left : two.given.1 ≡ u = ap (λ (x : ReadDirective × Cursor). x.1) same in
-    let b = subst (λ (y : Cursor). DigitsOf 0 0 two.given.0 (along mid.mark 1) (drop 1 mid.rest) y) left
-    (digits_spelled start 0 0 (along mid.mark 1) (drop 1 mid.rest) two.given.0 two.given.1 (omega arith)
-    two.first) in
+    let b = rw left at (digits_spelled start 0 0 (along mid.mark 1) (drop 1 mid.rest) two.given.0 two.given.1
+    (omega arith) two.first) in
     let first = is_version_number one.given.0 (along m n) (drop n xs) mid a in
     let mark : mid.mark ≡ along (along m n) (length high) = ap (λ (y : Cursor). y.mark) a.place in
     let more : mid.rest ≡ 46 ∷ drop 1 mid.rest = cut_at 46 mid.rest refl
@@ -143,8 +137,7 @@ version_spelled start m xs d u begins h =
       low = b.digits;
       says = ap (λ (x : ReadDirective × Cursor). x.0) same;
       blanks = (
-        gap_some is_digit xs gap (drop n xs) (λ c e. (ends_at c e).no_digit) begins
-            (sym (take-append-drop n xs))
+        gap_some is_digit xs gap (drop n xs) (λ c e. (ends_at c e).no_digit) begins (sym (take-append-drop n xs))
             (rw point (first_of is_digit high (46 ∷ (b.digits ++ u.rest)) first.0 first.2)),
         run_is_in is_blank xs,
       );

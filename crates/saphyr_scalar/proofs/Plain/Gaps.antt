@@ -48,14 +48,12 @@ same_gap g h e = cc
 pub may_stand_same : (a : Marker) (t : Bool) (f : List ℕ) (s : Cursor) (g : PlainGap) → reached_gap a t f s ≡ Ok g
     → g ≡ seen_gap t f s
 unfolding content_behind_tab
-may_stand_same a t f s g =
-    by_test (t && is_bom (slice_index s.rest 0)) _ _
+may_stand_same a t f s g = by_test (t && is_bom (slice_index s.rest 0)) _ _
     (λ (r : Result Cursor Refusal). (r >>= λ u. Ok (seen_gap t f u)) ≡ Ok g → g ≡ seen_gap t f s)
     (λ _ e. absurd (no_refusal _ g e))
     (λ _. by_test (t && not ((slice_index s.rest 0 == 35) || is_z (slice_index s.rest 0))) _ _
     (λ (r : Result Cursor Refusal). (r >>= λ u. Ok (seen_gap t f u)) ≡ Ok g → g ≡ seen_gap t f s)
-    (λ _ e. absurd (no_refusal _ g e))
-    (λ _ e. same_gap (seen_gap t f s) g e))
+    (λ _ e. absurd (no_refusal _ g e)) (λ _ e. same_gap (seen_gap t f s) g e))
 
 reached_end : (a : Marker) (t : Bool) (f : List ℕ) (m : Marker) (xs : List ℕ) (g : PlainGap)
     → reached_gap a t f (line_front m xs) ≡ Ok g → IsEnd xs g.behind.rest
@@ -68,13 +66,11 @@ lines_end i a t f m [] g = reached_end a t f m [] g
 lines_end i a t f m (c ∷ cs) g =
     by_test (is_blank_or_break c) _ _ (λ (r : Result PlainGap Refusal). r ≡ Ok g → IsEnd (c ∷ cs) g.behind.rest)
     (λ _ e. end_behind_character c cs _ (lines_end i a (is_blank c && (t || ((c == tab) && nat_lt m.col i)))
-    (if ends_line c cs then f ++ line_feed ∷ [] else f) (if ends_line c cs then next_line m 1 else along m 1) cs g
-    e))
+    (if ends_line c cs then f ++ line_feed ∷ [] else f) (if ends_line c cs then next_line m 1 else along m 1) cs g e))
     (λ _ e. reached_end a t f m (c ∷ cs) g e)
 
 not_two : (b : Bool) → (b && false) ≡ true → ⊥
-not_two true h = absurd (cc)
-not_two false h = absurd (cc)
+not_two b h = grind arith
 
 break_end : (s : Cursor) → IsEnd s.rest (pass_break s).rest
 break_end s = at_first s.rest
@@ -90,21 +86,18 @@ break_end s = at_first s.rest
     at_first (c ∷ []) = by_test (next_2_are (c ∷ []) 13 10) _ _ (λ (p : Cursor). IsEnd (c ∷ []) p.rest)
         (λ h. absurd (not_two (c == 13) h))
         (λ _. by_test (is_break c) _ _ (λ (p : Cursor). IsEnd (c ∷ []) p.rest)
-        (λ _. end_behind_character c [] _ (end_at_start _))
-        (λ _. end_at_start _))
+        (λ _. end_behind_character c [] _ (end_at_start _)) (λ _. end_at_start _))
     at_first (c ∷ d ∷ cs) = by_test (next_2_are (c ∷ d ∷ cs) 13 10) _ _ (λ (p : Cursor). IsEnd (c ∷ d ∷ cs) p.rest)
         (λ _. end_behind_character c _ _ (end_behind_character d _ _ (end_at_start _)))
         (λ _. by_test (is_break c) _ _ (λ (p : Cursor). IsEnd (c ∷ d ∷ cs) p.rest)
-        (λ _. end_behind_character c _ _ (end_at_start _))
-        (λ _. end_at_start _))
+        (λ _. end_behind_character c _ _ (end_at_start _)) (λ _. end_at_start _))
 
 next_lines_end : (i : ℕ) (a : Marker) (s : Cursor) (g : PlainGap) → next_lines i a s ≡ Ok g → IsEnd s.rest g.behind.rest
 next_lines_end i a s g = by_result (lines i a false [] s.mark s.rest) (lines_end i a false [] s.mark s.rest)
   where
     by_result : (r : Result PlainGap Refusal) → ((h : PlainGap) → r ≡ Ok h → IsEnd s.rest h.behind.rest)
         → (r >>= λ h. Ok (folded_gap h)) ≡ Ok g → IsEnd s.rest g.behind.rest
-    by_result (Ok h) ends e = let is = same_gap (folded_gap h) g e in rw is (ends h refl)
-    by_result (Err r) ends e = absurd (no_refusal r g e)
+    by_result r ends e = grind arith
 
 pub gap_end : (i : ℕ) (a : Marker) (s : Cursor) (g : PlainGap) → gap i a s ≡ Ok g → IsEnd s.rest g.behind.rest
 unfolding gap gap_from
@@ -127,17 +120,13 @@ lines_blank i a t f m [] g e = ap (λ (x : PlainGap). x.behind.blank_so_far) (ma
 lines_blank i a t f m (c ∷ cs) g e =
     by_test (is_blank_or_break c) _ _ (λ (r : Result PlainGap Refusal). r ≡ Ok g → g.behind.blank_so_far ≡ true)
     (λ _ e. lines_blank i a (is_blank c && (t || ((c == tab) && nat_lt m.col i)))
-    (if ends_line c cs then f ++ line_feed ∷ [] else f) (if ends_line c cs then next_line m 1 else along m 1) cs g
-    e)
+    (if ends_line c cs then f ++ line_feed ∷ [] else f) (if ends_line c cs then next_line m 1 else along m 1) cs g e)
     (λ _ e. ap (λ (x : PlainGap). x.behind.blank_so_far) (may_stand_same a t f (line_front m (c ∷ cs)) g e)) e
 
 pub lines_read : (i : ℕ) (a m : Marker) (xs feeds : List ℕ) (w : Cursor) (r : Result Bool Stop)
     → Moves (λ t. seen_gap t feeds w) r (lines i a false [] m xs)
     → Moves (λ t. seen_gap t (gap_text w.blank_so_far feeds) w) r (lines i a false [] m xs >>= λ g. Ok (folded_gap g))
-lines_read i a m xs feeds w (Ok t) e =
-    ap (λ (x : Result PlainGap Refusal). x >>= λ g. Ok (folded_gap g)) e
-    ∙ ap (λ b. let r : Result PlainGap Refusal = Ok (seen_gap t (gap_text b feeds) w) in r)
-    (sym (lines_blank i a false [] m xs (seen_gap t feeds w) e))
+lines_read i a m xs feeds w (Ok t) e = cc (lines_blank i a false [] m xs (seen_gap t feeds w) e)
 lines_read i a m xs feeds w (Err stop.OutOfMemory) e = tt
 lines_read i a m xs feeds w (Err (stop.Refused r)) e = ap
     (λ (x : Result PlainGap Refusal). x >>= λ g. Ok (folded_gap g)) e
@@ -145,8 +134,7 @@ lines_read i a m xs feeds w (Err (stop.Refused r)) e = ap
 gap_over_break : (i : ℕ) (a : Marker) (grown : List ℕ) (s t : Cursor) → Moved is_blank [] grown s t
     → is_break (slice_index t.rest 0) ≡ true → gap i a s ≡ next_lines i a (pass_break t)
 unfolding gap gap_from
-gap_over_break i a grown s t m h =
-    ap (λ (x : List ℕ × Cursor). gap_from i a x.0 x.1) m.is
+gap_over_break i a grown s t m h = ap (λ (x : List ℕ × Cursor). gap_from i a x.0 x.1) m.is
     ∙ by_test (is_break (slice_index t.rest 0)) _ _ (λ (r : Result PlainGap Refusal). r ≡ next_lines i a (pass_break t))
     (λ _. refl) (λ is. absurd (cc))
 
@@ -158,6 +146,4 @@ pub gap_read : (i : ℕ) (a : Marker) (grown cleared feeds : List ℕ) (s t u v 
 gap_read i a grown cleared feeds s t u v w r m same breaks on empty h =
     let there : v ≡ pass_break t = on ∙ ap pass_break same in
     let from : gap i a s ≡ next_lines i a v = gap_over_break i a grown s t m breaks ∙ ap (next_lines i a) (sym there) in
-    subst (λ (x : Result PlainGap Refusal). Moves (λ t. seen_gap t (gap_text w.blank_so_far feeds) w) r x) (sym from)
-    (lines_read i a v.mark v.rest feeds w r
-    (subst (λ (x : List ℕ). Moves (λ t. seen_gap t feeds w) r (lines i a false x v.mark v.rest)) empty h))
+    rw from (lines_read i a v.mark v.rest feeds w r (rw empty at h))

@@ -53,7 +53,7 @@ more_run P c cs rest m end k white none line r =
       count = ap (λ n. if ends_line c r.white then suc n else n) r.count
           ∙ ap (λ (b : Bool). if b then suc k else k) (sym same);
       place = ap (λ (b : Bool). end_of_text (if b then next_line m 1 else along m 1) r.white) (sym same) ∙ r.place;
-      later = (subst (λ (l : List ℕ). IsTrue (ends_line c l) → P l) r.is line, r.later);
+      later = (rw r.is at line, r.later);
     }
 
 other_no_feed : (c : ℕ) → is_blank_or_break c ≡ false → (c == line_feed) ≡ false
@@ -98,8 +98,7 @@ lines_run i a t f m (c ∷ cs) g =
     (λ white e. lines_more i f m c cs g white
     (λ ends. line_begins i a t (if ends_line c cs then f ++ line_feed ∷ [] else f) m c cs g ends e)
     (lines_run i a (is_blank c && (t || ((c == tab) && nat_lt m.col i)))
-    (if ends_line c cs then f ++ line_feed ∷ [] else f) (if ends_line c cs then next_line m 1 else along m 1) cs g
-    e))
+    (if ends_line c cs then f ++ line_feed ∷ [] else f) (if ends_line c cs then next_line m 1 else along m 1) cs g e))
     (λ other e. reached_run i a t f m (c ∷ cs) g (other_no_feed c other) e)
 
 -- a break before them
@@ -129,8 +128,7 @@ break_run P s rest end k h none = at_first s.rest h
     two : (cs : List ℕ) → Goal (carriage_return ∷ line_feed ∷ cs)
     two cs line r =
         let index : s.mark.index + 1 + 1 ≡ s.mark.index + 2 = omega arith in
-        let moved : Run P cs rest (next_line (along s.mark 1) 1) end k =
-        subst (λ n. Run P cs rest (record (next_line s.mark 2) { index = n }) end k) (sym index) r in
+        let moved : Run P cs rest (next_line (along s.mark 1) 1) end k = rw index r in
         more_run P 13 (10 ∷ cs) rest s.mark end (suc k) refl none (λ e. absurd (false≢true e))
         (more_run P 10 cs rest (along s.mark 1) end k refl none (λ _. line) moved)
 
@@ -158,26 +156,19 @@ one_blank : (P : List ℕ → Type 0) (c : ℕ) (cs rest : List ℕ) (m end : Ma
 one_blank P c cs rest m end k h none r =
     let Begins : Bool → Type 0 = λ b. Run P cs rest (cond b (next_line m 1) (along m 1)) end k
     → Run P (c ∷ cs) rest m end (cond b (suc k) k) in
-    let one : Begins false = subst Begins (blank_line c cs h)
-    (more_run P c cs rest m end k (blank_white c h) none
-    (λ e. absurd (false≢true (sym (blank_line c cs h) ∙ e)))) in
-    one r
+    (subst Begins (blank_line c cs h) (more_run P c cs rest m end k (blank_white c h) none
+    (λ e. absurd (false≢true (sym (blank_line c cs h) ∙ e))))) r
 
 pub blanks_run : (P : List ℕ → Type 0) (xs rest : List ℕ) (m end : Marker) (k : ℕ) → NoFeed rest
     → Run P (drop (prefix_len is_blank xs) xs) rest (along m (prefix_len is_blank xs)) end k → Run P xs rest m end k
-blanks_run P [] rest m end k none = λ r. subst (λ x. Run P [] rest x end k) (along_none m) r
-blanks_run P (c ∷ cs) rest m end k none =
-    by_test (is_blank c) (1 + prefix_len is_blank cs) 0
-    (λ n. Run P (drop n (c ∷ cs)) rest (along m n) end k → Run P (c ∷ cs) rest m end k)
-    (λ h r.
+blanks_run P [] rest m end k none = λ r. rw (along_none m) at r
+blanks_run P (c ∷ cs) rest m end k none = by_test (is_blank c) (1 + prefix_len is_blank cs) 0
+    (λ n. Run P (drop n (c ∷ cs)) rest (along m n) end k → Run P (c ∷ cs) rest m end k) (λ h r.
     let one : 1 + prefix_len is_blank cs ≡ suc (prefix_len is_blank cs) = omega arith in
     let n = prefix_len is_blank cs in
-    let moved : Run P (drop n cs) rest (along m (suc n)) end k =
-    subst (λ x. Run P (drop x (c ∷ cs)) rest (along m x) end k) one r in
-    one_blank P c cs rest m end k h none
-    (blanks_run P cs rest (along m 1) end k none
-    (subst (λ x. Run P (drop n cs) rest x end k) (sym (along_more m 1 n (suc n) (omega arith))) moved)))
-    (λ h r. subst (λ x. Run P (c ∷ cs) rest x end k) (along_none m) r)
+    let moved : Run P (drop n cs) rest (along m (suc n)) end k = rw one at r in
+    one_blank P c cs rest m end k h none (blanks_run P cs rest (along m 1) end k none
+    (rw (along_more m 1 n (suc n) (omega arith)) moved))) (λ h r. rw (along_none m) at r)
 
 -- what a gap is read as
 
@@ -208,16 +199,14 @@ all_white (c ∷ v) h = (blank_white c h.0, all_white v h.1)
 passed_blanks : (m : Marker) (v : List ℕ) → AreBlank v → end_of_text m v ≡ along m (length v)
 passed_blanks m [] h = sym (along_none m)
 passed_blanks m (c ∷ v) h =
-    ap (λ (b : Bool). end_of_text (if b then next_line m 1 else along m 1) v) (blank_line c v h.0)
-    ∙ passed_blanks (along m 1) v h.1 ∙ along_more m 1 (length v) (suc (length v)) (omega arith)
+    cc (blank_line c v h.0, passed_blanks (along m 1) v h.1, along_more m 1 (length v) (suc (length v)) (omega arith))
 
 prefix_take : (xs : List ℕ) → length (take (prefix_len is_blank xs) xs) ≡ prefix_len is_blank xs
 prefix_take xs = length-take-le (prefix_len is_blank xs) xs (prefix_len-le-length is_blank xs)
 
 all_on_line : (P : List ℕ → Type 0) (v behind : List ℕ) → AreBlank v → AreLaterLines P v behind
 all_on_line P [] behind h = tt
-all_on_line P (c ∷ v) behind h =
-    later_unbroken P c v behind (blank_no_break c h.0) (all_on_line P v behind h.1)
+all_on_line P (c ∷ v) behind h = later_unbroken P c v behind (blank_no_break c h.0) (all_on_line P v behind h.1)
 
 blanks_read : (i : ℕ) (xs : List ℕ) (m : Marker)
     → is_break (slice_index (drop (prefix_len is_blank xs) xs) 0) ≡ false
@@ -243,37 +232,30 @@ blanks_read i xs m other =
     not_feed c h = first_of (c == 10) (c == 13) h
       where
         first_of : (a b : Bool) → (a || b) ≡ false → a ≡ false
-        first_of false b e = refl
-        first_of true b e = absurd (cc)
+        first_of a b e = grind arith
 
 -- breaks
 feeds_encode : (k : ℕ) → encode_utf8_all (line_feeds k) ≡ line_feeds k
 feeds_encode zero = refl
-feeds_encode (suc k) = ap (λ (l : List ℕ). l ++ encode_utf8_all (line_feeds k)) (encode_ascii 10 (omega arith))
-    ∙ ap (λ l. 10 ∷ l) (feeds_encode k)
+feeds_encode (suc k) = cc (encode_ascii 10 (omega arith), feeds_encode k)
 
 folded_text : (k : ℕ) (g : PlainGap) → g.text ≡ line_feeds k → encode_utf8_all (raw_break k) ≡ (spec.folded_gap g).text
 folded_text zero g e = ap (λ (l : List ℕ). l ++ []) (encode_ascii 32 (omega arith)) ∙ sym (rw e refl)
-folded_text (suc k) g e =
-    let some : (length (line_feeds (suc k)) == 0) ≡ false = some_length (length (line_feeds k)) in
-    feeds_encode (suc k) ∙ sym (rw e (rw some refl))
+folded_text (suc k) g e = feeds_encode (suc k) ∙ sym (rw e (rw (some_length (length (line_feeds k))) refl))
   where
     some_length : (n : ℕ) → (suc n == 0) ≡ false
     some_length n = grind (arith, nat_tests)
 
-lines_read : (i : ℕ) (xs : List ℕ) (m : Marker) (g : PlainGap) (t : Cursor)
-    → along m (prefix_len is_blank xs) ≡ t.mark
+lines_read : (i : ℕ) (xs : List ℕ) (m : Marker) (g : PlainGap) (t : Cursor) → along m (prefix_len is_blank xs) ≡ t.mark
     → drop (prefix_len is_blank xs) xs ≡ t.rest → is_break (slice_index t.rest 0) ≡ true
-    → IsLine i g.behind (pass_break t).rest
-    → LinesRun i (pass_break t).rest (pass_break t).mark [] g → GapReads i xs m (spec.folded_gap g)
+    → IsLine i g.behind (pass_break t).rest → LinesRun i (pass_break t).rest (pass_break t).mark [] g
+    → GapReads i xs m (spec.folded_gap g)
 lines_read i xs m g t mark rest breaks line r =
     let P = IsLine i g.behind in
     let k = suc r.breaks in
     let behind = break_run P t g.behind.rest g.behind.mark r.breaks breaks r.stop line r.run in
     let blanks = prefix_len is_blank xs in
-    let moved : Run P (drop blanks xs) g.behind.rest (along m blanks) g.behind.mark k =
-    subst (λ x. Run P (drop blanks xs) g.behind.rest x g.behind.mark k) (sym mark)
-    (subst (λ y. Run P y g.behind.rest t.mark g.behind.mark k) (sym rest) behind) in
+    let moved : Run P (drop blanks xs) g.behind.rest (along m blanks) g.behind.mark k = rw mark (rw rest behind) in
     let all = blanks_run P xs g.behind.rest m g.behind.mark k r.stop moved in
     record {
       white = all.white;
@@ -289,10 +271,8 @@ lines_read i xs m g t mark rest breaks line r =
 
 next_lines_read : (i : ℕ) (a : Marker) (xs : List ℕ) (m : Marker) (g : PlainGap) (t : Cursor)
     → along m (prefix_len is_blank xs) ≡ t.mark → drop (prefix_len is_blank xs) xs ≡ t.rest
-    → is_break (slice_index t.rest 0) ≡ true
-    → next_lines i a (pass_break t) ≡ Ok g → GapReads i xs m g
-next_lines_read i a xs m g t mark rest breaks =
-    by_result (lines i a false [] (pass_break t).mark (pass_break t).rest)
+    → is_break (slice_index t.rest 0) ≡ true → next_lines i a (pass_break t) ≡ Ok g → GapReads i xs m g
+next_lines_read i a xs m g t mark rest breaks = by_result (lines i a false [] (pass_break t).mark (pass_break t).rest)
     (lines_run i a false [] (pass_break t).mark (pass_break t).rest)
     (λ h e. lines_is_line i a [] (pass_break t).mark (pass_break t).rest h (break_to_start t breaks) e)
   where
@@ -300,8 +280,7 @@ next_lines_read i a xs m g t mark rest breaks =
         → ((h : PlainGap) → r ≡ Ok h → LinesRun i (pass_break t).rest (pass_break t).mark [] h)
         → ((h : PlainGap) → r ≡ Ok h → IsLine i h.behind (pass_break t).rest)
         → (r >>= λ h. Ok (spec.folded_gap h)) ≡ Ok g → GapReads i xs m g
-    by_result (Ok h) runs line e =
-        subst (λ (x : PlainGap). GapReads i xs m x) (sym (same_gap (spec.folded_gap h) g e))
+    by_result (Ok h) runs line e = subst (λ (x : PlainGap). GapReads i xs m x) (sym (same_gap (spec.folded_gap h) g e))
         (lines_read i xs m h t mark rest breaks (line h refl) (runs h refl))
     by_result (Err r) runs line e = absurd (no_refusal r g e)
 

@@ -26,7 +26,7 @@ pub later_append : (P : List ℕ → Type 0) (v w behind : List ℕ) → AreLate
     → AreLaterLines P w behind → AreLaterLines P (v ++ w) behind
 later_append P [] w behind h k = k
 later_append P (c ∷ v) w behind h k = (
-  subst (λ (l : List ℕ). IsTrue (ends_line c l) → P l) (sym (append_assoc v w behind)) h.0,
+  rw (append_assoc v w behind) h.0,
   later_append P v w behind h.1 k,
 )
 
@@ -67,19 +67,14 @@ IsOnLine f true n xs = is_blank_line xs ≡ true
 IsOnLine f false n xs = IsOn f n xs
 
 enough : (f : Bool) (n : ℕ) (xs : List ℕ) → n ≤ indentation xs → IsOn f n xs
-enough f n xs h =
-    or_left (nat_le n (indentation xs) || is_blank_line xs) (f && not (behind_indentation xs == 9))
+enough f n xs h = or_left (nat_le n (indentation xs) || is_blank_line xs) (f && not (behind_indentation xs == 9))
     (or_left (nat_le n (indentation xs)) (is_blank_line xs) (le-leb n (indentation xs) h))
 
 blank : (f t : Bool) (n : ℕ) (xs : List ℕ) → is_blank_line xs ≡ true → IsOnLine f t n xs
-blank f true n xs h = h
-blank f false n xs h =
-    or_left (nat_le n (indentation xs) || is_blank_line xs) (f && not (behind_indentation xs == 9))
-    (or_right (nat_le n (indentation xs)) (is_blank_line xs) h)
+blank f t n xs h = grind arith
 
 space_on : (f : Bool) (n k : ℕ) (xs : List ℕ) → n ≤ k + 1 → IsOn f k xs → IsOn f n (32 ∷ xs)
-space_on f n k xs le h =
-    either (nat_le k (indentation xs) || is_blank_line xs) (f && not (behind_indentation xs == 9))
+space_on f n k xs le h = either (nat_le k (indentation xs) || is_blank_line xs) (f && not (behind_indentation xs == 9))
     (IsOn f n (32 ∷ xs)) h
     (λ a. either (nat_le k (indentation xs)) (is_blank_line xs) (IsOn f n (32 ∷ xs)) a
     (λ b. let e = leb-true k (indentation xs) b in enough f n (32 ∷ xs) (omega (arith, e, le)))
@@ -88,8 +83,7 @@ space_on f n k xs le h =
     (f && not (behind_indentation (32 ∷ xs) == 9)) a)
 
 space_on_line : (f t : Bool) (n k : ℕ) (xs : List ℕ) → n ≤ k + 1 → IsOnLine f t k xs → IsOnLine f t n (32 ∷ xs)
-space_on_line f true n k xs le h = h
-space_on_line f false n k xs le h = space_on f n k xs le h
+space_on_line f t n k xs le h = grind arith
 
 tab_on_line : (f t : Bool) (i : ℕ) (m : Marker) (k : ℕ) (xs : List ℕ) → IsOnLine f (t || nat_lt m.col i) k xs
     → IsOnLine f t (i - m.col) (9 ∷ xs)
@@ -97,8 +91,7 @@ tab_on_line f true i m k xs = λ h. h
 tab_on_line f false i m k xs = by_left (nat_lt m.col i) refl
   where
     by_left : (b : Bool) → nat_lt m.col i ≡ b → IsOnLine f b k xs → IsOn f (i - m.col) (9 ∷ xs)
-    by_left true e h = blank f false (i - m.col) (9 ∷ xs) h
-    by_left false e h = let le = ltb-false m.col i e in enough f (i - m.col) (9 ∷ xs) (omega (arith, le))
+    by_left b e h = grind arith
 
 break_on_line : (f t : Bool) (n c : ℕ) (cs : List ℕ) → is_break c ≡ true → IsOnLine f t n (c ∷ cs)
 break_on_line f t n c cs h = blank f t n (c ∷ cs) (or_left (is_break c) (is_blank c && is_blank_line cs) h)
@@ -107,20 +100,17 @@ break_on_line f t n c cs h = blank f t n (c ∷ cs) (or_left (is_break c) (is_bl
 tabbed_content : (a : Marker) (f : List ℕ) (s : Cursor) (g : PlainGap) → reached_gap a true f s ≡ Ok g
     → ((slice_index s.rest 0 == number_sign) || is_z (slice_index s.rest 0)) ≡ true
 unfolding content_behind_tab
-tabbed_content a f s g =
-    by_test (is_bom (slice_index s.rest 0)) _ _
+tabbed_content a f s g = by_test (is_bom (slice_index s.rest 0)) _ _
     (λ (r : Result Cursor Refusal). (r >>= λ u. Ok (seen_gap true f u)) ≡ Ok g
     → ((slice_index s.rest 0 == number_sign) || is_z (slice_index s.rest 0)) ≡ true)
     (λ _ e. absurd (no_refusal _ g e))
     (λ _. by_test (not ((slice_index s.rest 0 == 35) || is_z (slice_index s.rest 0))) _ _
     (λ (r : Result Cursor Refusal). (r >>= λ u. Ok (seen_gap true f u)) ≡ Ok g
     → ((slice_index s.rest 0 == number_sign) || is_z (slice_index s.rest 0)) ≡ true)
-    (λ _ e. absurd (no_refusal _ g e))
-    (λ h e. is_not _ h))
+    (λ _ e. absurd (no_refusal _ g e)) (λ h e. is_not _ h))
   where
     is_not : (b : Bool) → not b ≡ false → b ≡ true
-    is_not true h = refl
-    is_not false h = absurd (cc)
+    is_not b h = grind arith
 
 word_no_nul : (f : Bool) (xs : List ℕ) → is_in_word f xs ≡ true → is_z (slice_index xs 0) ≡ false
 unfolding is_in_word
@@ -128,10 +118,7 @@ word_no_nul f xs h =
     by_parts (is_blank (slice_index xs 0)) (is_break (slice_index xs 0)) (is_z (slice_index xs 0)) (can_be_plain f xs) h
   where
     by_parts : (a b z e : Bool) → (not (a || (b || z)) && e) ≡ true → z ≡ false
-    by_parts false false false e x = refl
-    by_parts true b z e x = absurd (cc)
-    by_parts false true z e x = absurd (cc)
-    by_parts false false true e x = absurd (cc)
+    by_parts a b z e x = grind arith
 
 -- where the line's content begins
 ink_on : (n c : ℕ) (cs : List ℕ) → Ink c → IsOn true n (c ∷ cs)
@@ -144,8 +131,7 @@ reached_on : (f : Bool) (i : ℕ) (a : Marker) (t : Bool) (feeds : List ℕ) (m 
     (g : PlainGap)
     → Ink c → reached_gap a t feeds (line_front m (c ∷ cs)) ≡ Ok g → GoesOn f i (line_front m (c ∷ cs))
     → IsOnLine f t (i - m.col) (c ∷ cs)
-reached_on f i a true feeds m c cs g ink e on =
-    either (c == 35) (is_z c) (is_blank_line (c ∷ cs) ≡ true)
+reached_on f i a true feeds m c cs g ink e on = either (c == 35) (is_z c) (is_blank_line (c ∷ cs) ≡ true)
     (tabbed_content a feeds (line_front m (c ∷ cs)) g e)
     (λ is. absurd (on.comment (eqb-true c 35 is)))
     (λ is. absurd (false≢true (sym (word_no_nul f (c ∷ cs) on.word) ∙ is)))
@@ -155,8 +141,7 @@ reached_on false i a false feeds m c cs g ink e on =
 
 same_front : (f : Bool) (i : ℕ) (a : Marker) (t : Bool) (feeds : List ℕ) (m : Marker) (xs : List ℕ) (g : PlainGap)
     → reached_gap a t feeds (line_front m xs) ≡ Ok g → GoesOn f i g.behind → GoesOn f i (line_front m xs)
-same_front f i a t feeds m xs g e on =
-    subst (λ (x : PlainGap). GoesOn f i x.behind) (may_stand_same a t feeds (line_front m xs) g e) on
+same_front f i a t feeds m xs g e on = rw (may_stand_same a t feeds (line_front m xs) g e) at on
 
 -- one blank or break of the lines
 white_on_line : (f : Bool) (i : ℕ) (t : Bool) (m : Marker) (c : ℕ) (cs : List ℕ) → is_blank_or_break c ≡ true
@@ -168,12 +153,10 @@ white_on_line f i t m c cs white h = either (is_blank c) (is_break c) (IsOnLine 
     → IsOnLine f t (i - m.col) (x ∷ cs))
     (λ k. space_on_line f t (i - m.col) (i - (m.col + 1)) cs (omega arith)
     (subst (λ b. IsOnLine f b (i - (m.col + 1)) cs) (or_no t) k))
-    (λ k. tab_on_line f t i m (i - (m.col + 1)) cs k) h)
-    (λ is. break_on_line f t (i - m.col) c cs is)
+    (λ k. tab_on_line f t i m (i - (m.col + 1)) cs k) h) (λ is. break_on_line f t (i - m.col) c cs is)
   where
     or_no : (b : Bool) → (b || false) ≡ b
-    or_no true = refl
-    or_no false = refl
+    or_no b = grind arith
 
 -- from any place in the blanks and breaks after a word's line on
 pub lines_on_line : (f : Bool) (i : ℕ) (a : Marker) (t : Bool) (feeds : List ℕ) (m : Marker) (xs : List ℕ)
@@ -182,21 +165,19 @@ pub lines_on_line : (f : Bool) (i : ℕ) (a : Marker) (t : Bool) (feeds : List �
 unfolding lines
 lines_on_line f i a t feeds m [] g = λ e on.
     let here = same_front f i a t feeds m [] g e on in absurd (false≢true (sym (not_in_word f) ∙ here.word))
-lines_on_line f i a t feeds m (c ∷ cs) g =
-    by_test (is_blank_or_break c) _ _
+lines_on_line f i a t feeds m (c ∷ cs) g = by_test (is_blank_or_break c) _ _
     (λ (r : Result PlainGap Refusal). r ≡ Ok g → GoesOn f i g.behind → IsOnLine f t (i - m.col) (c ∷ cs))
     (λ white e on. white_on_line f i t m c cs white
     (lines_on_line f i a (is_blank c && (t || ((c == tab) && nat_lt m.col i)))
     (if ends_line c cs then feeds ++ line_feed ∷ [] else feeds) (if ends_line c cs then next_line m 1 else along m 1) cs
-    g e on))
-    (λ ink e on. reached_on f i a t feeds m c cs g ink e (same_front f i a t feeds m (c ∷ cs) g e on))
+    g e on)) (λ ink e on. reached_on f i a t feeds m c cs g ink e (same_front f i a t feeds m (c ∷ cs) g e on))
 
 -- a line that begins in them
 pub lines_is_line : (i : ℕ) (a : Marker) (feeds : List ℕ) (m : Marker) (xs : List ℕ) (g : PlainGap) → m.col ≡ 0
     → lines i a false feeds m xs ≡ Ok g → IsLine i g.behind xs
 lines_is_line i a feeds m xs g start e f on =
     let none : i - m.col ≡ i = omega (arith, start) in
-    subst (λ n. IsOn f n xs) none (lines_on_line f i a false feeds m xs g e on)
+    rw none at (lines_on_line f i a false feeds m xs g e on)
 
 pub break_to_start : (s : Cursor) → is_break (slice_index s.rest 0) ≡ true → (pass_break s).mark.col ≡ 0
 break_to_start s breaks = rw (by_break_len s breaks) refl
@@ -211,24 +192,19 @@ line_begins i a t feeds m c cs g ends e =
     let no_blank : is_blank c ≡ false = break_cases c breaks (λ x. is_blank x ≡ false) refl refl in
     let there : Bool → Bool → Type 0 = λ b n.
     lines i a (b && (t || ((c == 9) && nat_lt m.col i))) feeds (if n then next_line m 1 else along m 1) cs ≡ Ok g in
-    lines_is_line i a feeds (next_line m 1) cs g refl
-    (subst (λ n. there false n) ends (subst (λ b. there b (ends_line c cs)) no_blank e))
+    lines_is_line i a feeds (next_line m 1) cs g refl (rw ends at (rw no_blank at e))
 
 -- after a gap a word begins
 not_left : (i col : ℕ) (x y : Bool) → (x && not y && nat_lt col i) ≡ false → y ≡ false → x ≡ true → i ≤ col
-not_left i col true false h g k = ltb-false col i h
-not_left i col true true h g k = absurd (cc)
-not_left i col false y h g k = absurd (cc)
+not_left i col x y h g k = grind arith
 
 goes_right : (f : Bool) (i : ℕ) (s t : Cursor) → next_word_starts f i s ≡ Ok (true, t) → f ≡ false
     → s.blank_so_far ≡ true → i ≤ s.mark.col
 unfolding next_word_starts
 goes_right f i s t = by_test (s.blank_so_far && not f && nat_lt s.mark.col i) _ _
     (λ (r : Result (Bool × Cursor) Refusal). r ≡ Ok (true, t) → f ≡ false → s.blank_so_far ≡ true → i ≤ s.mark.col)
-    (λ _ e _ _. absurd (other_answer s t e))
-    (λ h _ out line. not_left i s.mark.col s.blank_so_far f h out line)
+    (λ _ e _ _. absurd (other_answer s t e)) (λ h _ out line. not_left i s.mark.col s.blank_so_far f h out line)
 
 pub goes_on : (f : Bool) (i : ℕ) (s t : Cursor) → next_word_starts f i s ≡ Ok (true, t) → is_in_word f s.rest ≡ true
     → GoesOn f i s
-goes_on f i s t e word =
-    record { word = word; comment = (goes_begins f i s t e).comment; right = goes_right f i s t e }
+goes_on f i s t e word = record { word = word; comment = (goes_begins f i s t e).comment; right = goes_right f i s t e }

@@ -25,9 +25,7 @@ use Rattle.saphyr_scalar.proofs.Plain.WordEnds.{none_moved, none_passed}
 
 no_blanks : (s : Cursor) → s.blank_so_far ≡ false → is_blank (slice_index s.rest 0) ≡ false
     → with_run is_blank [] s ≡ ([], s)
-no_blanks s line h =
-    let none : prefix_len is_blank s.rest ≡ 0 = no_run is_blank s.rest h in
-    rw (none, none_passed s line) refl
+no_blanks s line h = rw (no_run is_blank s.rest h, none_passed s line) refl
 
 from_break : (i : ℕ) (a : Marker) (s : Cursor) → is_break (slice_index s.rest 0) ≡ true
     → gap_from i a [] s ≡ next_lines i a (pass_break s)
@@ -40,10 +38,8 @@ from_break i a s breaks =
 break_gap : (i : ℕ) (a : Marker) (s : Cursor) → s.blank_so_far ≡ false → is_break (slice_index s.rest 0) ≡ true
     → gap i a s ≡ next_lines i a (pass_break s)
 unfolding gap
-break_gap i a s line breaks =
-    let blank : is_blank (slice_index s.rest 0) ≡ false =
-    break_cases (slice_index s.rest 0) breaks (λ c. is_blank c ≡ false) refl refl in
-    ap (λ (x : List ℕ × Cursor). gap_from i a x.0 x.1) (no_blanks s line blank) ∙ from_break i a s breaks
+break_gap i a s line breaks = ap (λ (x : List ℕ × Cursor). gap_from i a x.0 x.1) (no_blanks s line
+    (break_cases (slice_index s.rest 0) breaks (λ c. is_blank c ≡ false) refl refl)) ∙ from_break i a s breaks
 
 -- after the break, and spaces after it
 pub word_to_line : (f : Bool) (i : ℕ) (a : Marker) (text : List ℕ) (most : ℕ) (s v u : Cursor)
@@ -51,11 +47,10 @@ pub word_to_line : (f : Bool) (i : ℕ) (a : Marker) (text : List ℕ) (most : �
     → v ≡ pass_break s → u ≡ pass_spaces most v
     → with_text text (scalar_behind_line f i a s.mark u) ≡ with_text text (word f i a s.mark s.rest)
 word_to_line f i a text most s v u ends line breaks on spaces =
-    let over : next_lines i a u ≡ next_lines i a v =
-    ap (λ (r : Result PlainGap Refusal). r >>= λ g. Ok (folded_gap g)) (lines_over i a false [] most v u spaces) in
     sym (moved_behind_word f i a text text s s (none_moved f text s ends line)
     ∙ ap (λ (r : Result PlainGap Refusal). with_text text (r >>= plain_behind_gap f i a s.mark))
-    (break_gap i a s line breaks ∙ ap (next_lines i a) (sym on) ∙ sym over))
+    (break_gap i a s line breaks ∙ ap (next_lines i a) (sym on) ∙ sym
+    (ap (λ (r : Result PlainGap Refusal). r >>= λ g. Ok (folded_gap g)) (lines_over i a false [] most v u spaces))))
 
 pub break_begins : (s : Cursor) → is_break (slice_index s.rest 0) ≡ true → (pass_break s).blank_so_far ≡ true
 break_begins s breaks = rw (by_break_len s breaks) refl
@@ -74,8 +69,7 @@ line_there i a m [] h = refl
 line_there i a m (c ∷ cs) h = rw h refl
 
 same_line_front : (u : Cursor) → u.blank_so_far ≡ true → line_front u.mark u.rest ≡ u
-same_line_front u blank =
-    ap (λ b. let t : Cursor = record { rest = u.rest; mark = u.mark; blank_so_far = b } in t) (sym blank)
+same_line_front u blank = ap (λ b. (record { rest = u.rest; mark = u.mark; blank_so_far = b })) (sym blank)
 
 not_on : (f : Bool) (i : ℕ) (u : Cursor) → u.blank_so_far ≡ true → not f ≡ true → nat_lt u.mark.col i ≡ true
     → next_word_starts f i u ≡ Ok (false, u)
@@ -90,8 +84,7 @@ no_comment f u blank = rw (blank, and_false (not f && (slice_index u.rest 0 == 3
 pub gap_no_turn : (f : Bool) (i : ℕ) (a end : Marker) (text : List ℕ) (g : PlainGap) (u : Cursor)
     → next_word_starts f i g.behind ≡ Ok (false, u)
     → with_text text (plain_behind_gap f i a end g) ≡ Ok (text, end, comment_of f g.tabbed u, u)
-gap_no_turn f i a end text g u h =
-    ap (λ x. with_text text
+gap_no_turn f i a end text g u h = ap (λ x. with_text text
     (x >>= λ b. if b.0 then with_text g.text (word f i a b.1.mark b.1.rest) else scalar_end f end g)) h
     ∙ ap (λ x. Ok (x, end, comment_of f g.tabbed g.behind, g.behind)) (append-nil text)
     ∙ ap (λ x. Ok (text, end, comment_of f g.tabbed x, x)) (sym (goes_says f i false g.behind u h).same)
@@ -100,11 +93,7 @@ gap_no_turn f i a end text g u h =
 pub gap_turn : (f : Bool) (i : ℕ) (a end : Marker) (text joined : List ℕ) (g : PlainGap) (u : Cursor)
     → next_word_starts f i g.behind ≡ Ok (true, u) → joined ≡ text ++ g.text
     → with_text joined (word f i a u.mark u.rest) ≡ with_text text (plain_behind_gap f i a end g)
-gap_turn f i a end text joined g u h j =
-    ap (λ x. with_text x (word f i a u.mark u.rest)) j
-    ∙ sym (ap (λ x. with_text text
-    (x >>= λ b. if b.0 then with_text g.text (word f i a b.1.mark b.1.rest) else scalar_end f end g)) h
-    ∙ text_twice text g.text _)
+gap_turn f i a end text joined g u h j = cc (text_twice text g.text _)
 
 -- what is left of the indentation ends the scalar
 pub left_ends : (f : Bool) (i : ℕ) (a end : Marker) (text : List ℕ) (u : Cursor) → u.blank_so_far ≡ true
@@ -113,10 +102,8 @@ left_ends f i a end text u blank left =
     let all = all_three (not f) (nat_lt u.mark.col i) (not (is_blank_or_break (slice_index u.rest 0))) left in
     let ink = not-true (is_blank_or_break (slice_index u.rest 0)) all.2 in
     let g = folded_gap (seen_gap false [] u) in
-    let reach : lines i a false [] u.mark u.rest ≡ Ok (seen_gap false [] u) =
-    line_there i a u.mark u.rest ink ∙ ap (λ x. Ok (seen_gap false [] x)) (same_line_front u blank) in
-    ap (λ (r : Result PlainGap Refusal). with_text text
-    ((r >>= λ g. Ok (folded_gap g)) >>= plain_behind_gap f i a end)) reach
+    ap (λ (r : Result PlainGap Refusal). with_text text ((r >>= λ g. Ok (folded_gap g)) >>= plain_behind_gap f i a end))
+    (line_there i a u.mark u.rest ink ∙ ap (λ x. Ok (seen_gap false [] x)) (same_line_front u blank))
     ∙ gap_no_turn f i a end text g u (not_on f i u blank all.0 all.1)
     ∙ ap (λ x. Ok (text, end, x, u)) (no_comment f u blank)
 
@@ -128,9 +115,7 @@ pub break_gap_read : (i : ℕ) (a : Marker) (cleared feeds : List ℕ) (s u v w 
 break_gap_read i a cleared feeds s u v w r line same breaks on empty h =
     let from : gap i a s ≡ next_lines i a v = break_gap i a s line breaks
     ∙ ap (next_lines i a) (sym (on ∙ ap pass_break same)) in
-    subst (λ (x : Result PlainGap Refusal). Moves (λ t. seen_gap t (gap_text w.blank_so_far feeds) w) r x) (sym from)
-    (lines_read i a v.mark v.rest feeds w r
-    (subst (λ (x : List ℕ). Moves (λ t. seen_gap t feeds w) r (lines i a false x v.mark v.rest)) empty h))
+    rw from (lines_read i a v.mark v.rest feeds w r (rw empty at h))
 
 -- where no tab is in the indentation, nothing is refused
 pub reached_without_tab : (a : Marker) (f : List ℕ) (s : Cursor) → reached_gap a false f s ≡ Ok (seen_gap false f s)

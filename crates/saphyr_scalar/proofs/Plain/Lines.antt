@@ -45,10 +45,8 @@ lines_first_of_two i a t f m cs = refl
 
 lines_two : (i : ℕ) (a : Marker) (t : Bool) (f : List ℕ) (m : Marker) (cs : List ℕ)
     → lines i a t f m (carriage_return ∷ line_feed ∷ cs) ≡ lines i a false (f ++ line_feed ∷ []) (next_line m 2) cs
-lines_two i a t f m cs =
-    let two : m.index + 1 + 1 ≡ m.index + 2 = omega arith in
-    lines_first_of_two i a t f m cs ∙ lines_feed i a false f (along m 1) cs
-    ∙ ap (λ n. lines i a false (f ++ 10 ∷ []) (record (next_line m 2) { index = n }) cs) two
+lines_two i a t f m cs = lines_first_of_two i a t f m cs ∙ lines_feed i a false f (along m 1) cs
+    ∙ ap (λ n. lines i a false (f ++ 10 ∷ []) (record (next_line m 2) { index = n }) cs) (omega arith)
 
 -- after a break
 abbrev Behind : ℕ → Marker → Bool → List ℕ → Cursor → Type 0
@@ -94,9 +92,7 @@ lines_over i a t f m [] h = refl
 lines_over i a t f m (c ∷ cs) h = rw h refl
 
 blank_of : (a b : Bool) → (a || b) ≡ true → b ≡ false → a ≡ true
-blank_of true b x y = refl
-blank_of false true x y = absurd (cc)
-blank_of false false x y = absurd (cc)
+blank_of a b x y = grind arith
 
 -- a blank or a break is passed
 pub past_shorter : (i : ℕ) (t : Bool) (f : List ℕ) (s : Cursor) → is_blank_or_break (slice_index s.rest 0) ≡ true
@@ -115,15 +111,13 @@ past_blank i t f s h =
     by_test (is_break (slice_index s.rest 0)) _ _ (λ (p : Bool × List ℕ × Cursor). p.2.blank_so_far ≡ true)
     (λ e. by_test (next_2_are s.rest 13 10) _ _ (λ (p : Cursor). p.blank_so_far ≡ true) (λ _. refl)
     (λ _. by_test (is_break (slice_index s.rest 0)) _ _ (λ (p : Cursor). p.blank_so_far ≡ true) (λ _. refl)
-    (λ _. h)))
-    (λ _. h)
+    (λ _. h))) (λ _. h)
 
 pub past_on : (i : ℕ) (a : Marker) (t : Bool) (f : List ℕ) (s : Cursor)
     → is_blank_or_break (slice_index s.rest 0) ≡ true
     → let p = pass_white i t f s in lines i a p.0 p.1 p.2.mark p.2.rest ≡ lines i a t f s.mark s.rest
 unfolding pass_white
-past_on i a t f s h =
-    by_test (is_break (slice_index s.rest 0)) _ _
+past_on i a t f s h = by_test (is_break (slice_index s.rest 0)) _ _
     (λ (p : Bool × List ℕ × Cursor). lines i a p.0 p.1 p.2.mark p.2.rest ≡ lines i a t f s.mark s.rest)
     (λ e. sym (lines_break i a t f s e))
     (λ e. sym (lines_on i a t f s (blank_of (is_blank (slice_index s.rest 0)) _ h e)))
@@ -144,26 +138,21 @@ past_of i t f s t2 f2 s2 e = record { is = cc }
 pub white_on : (i : ℕ) (a : Marker) (t : Bool) (f : List ℕ) (s : Cursor) (t2 : Bool) (f2 : List ℕ) (s2 : Cursor)
     → is_blank_or_break (slice_index s.rest 0) ≡ true → PastWhite i t f s t2 f2 s2
     → lines i a t2 f2 s2.mark s2.rest ≡ lines i a t f s.mark s.rest
-white_on i a t f s t2 f2 s2 h p =
-    subst (λ (p : Bool × List ℕ × Cursor). lines i a p.0 p.1 p.2.mark p.2.rest ≡ lines i a t f s.mark s.rest) p.is
-    (past_on i a t f s h)
+white_on i a t f s t2 f2 s2 h p = rw p.is at (past_on i a t f s h)
 
 pub white_blank : (i : ℕ) (t : Bool) (f : List ℕ) (s : Cursor) (t2 : Bool) (f2 : List ℕ) (s2 : Cursor)
     → s.blank_so_far ≡ true → PastWhite i t f s t2 f2 s2 → s2.blank_so_far ≡ true
-white_blank i t f s t2 f2 s2 h p =
-    subst (λ (p : Bool × List ℕ × Cursor). p.2.blank_so_far ≡ true) p.is (past_blank i t f s h)
+white_blank i t f s t2 f2 s2 h p = rw p.is at (past_blank i t f s h)
 
 pub white_shorter : (i : ℕ) (t : Bool) (f : List ℕ) (s : Cursor) (t2 : Bool) (f2 : List ℕ) (s2 : Cursor)
     → is_blank_or_break (slice_index s.rest 0) ≡ true → PastWhite i t f s t2 f2 s2 → length s2.rest < length s.rest
-white_shorter i t f s t2 f2 s2 h p =
-    subst (λ (p : Bool × List ℕ × Cursor). length p.2.rest < length s.rest) p.is (past_shorter i t f s h)
+white_shorter i t f s t2 f2 s2 h p = rw p.is at (past_shorter i t f s h)
 
 -- a line that is reached
 pub line_over : (i : ℕ) (a : Marker) (t : Bool) (f : List ℕ) (s : Cursor)
     → is_blank_or_break (slice_index s.rest 0) ≡ false → s.blank_so_far ≡ true
     → lines i a t f s.mark s.rest ≡ reached_gap a t f s
-line_over i a t f s h b =
-    lines_over i a t f s.mark s.rest h
+line_over i a t f s h b = lines_over i a t f s.mark s.rest h
     ∙ ap (λ x. reached_gap a t f (record { rest = s.rest; mark = s.mark; blank_so_far = x })) (sym b)
 
 pub refused_by : (a : Marker) (t : Bool) (f : List ℕ) (s : Cursor) (r : Refusal) → content_behind_tab a t s ≡ Err r

@@ -25,8 +25,7 @@ text_twice a b (Ok x) = rw append_assoc refl
 text_twice a b (Err e) = refl
 
 pub no_text : (read : PlainScalarRead) → with_text [] read ≡ read
-no_text (Ok x) = refl
-no_text (Err e) = refl
+no_text read = grind arith
 
 pub not_in_word : (f : Bool) → is_in_word f [] ≡ false
 unfolding is_in_word
@@ -37,27 +36,20 @@ not_in_word f = refl
 -- a dash is a character of a word
 dash_in_word : (f : Bool) (xs : List ℕ) → slice_index xs 0 ≡ hyphen → is_in_word f xs ≡ true
 unfolding is_in_word
-dash_in_word true xs h = rw h refl
-dash_in_word false xs h = rw h refl
+dash_in_word f xs h = grind arith
 
 second_of : (a b d : Bool) → (a && b && d) ≡ true → b ≡ true
-second_of true true d h = refl
-second_of true false d h = absurd (cc)
-second_of false b d h = absurd (cc)
+second_of a b d h = grind arith
 
 -- where no word goes on, none begins
 pub starts_not : (f : Bool) (s : Cursor) → is_in_word f s.rest ≡ false → word_starts f s ≡ Ok (false, s)
 unfolding word_starts
-starts_not f s h =
-    by_test ((slice_index s.rest 0 == 35) || ((s.mark.col == 0) && is_document_indicator s.rest)) _ _
+starts_not f s h = by_test ((slice_index s.rest 0 == 35) || ((s.mark.col == 0) && is_document_indicator s.rest)) _ _
     (λ r. r ≡ Ok (false, s)) (λ _. refl)
     (λ _. by_test (f && (slice_index s.rest 0 == 45) && is_flow (slice_index s.rest 1)) _ _ (λ r. r ≡ Ok (false, s))
     (λ is.
     let dash : (slice_index s.rest 0 == 45) ≡ true = second_of f _ _ is in
-    let here : slice_index s.rest 0 ≡ 45 = grind (arith, nat_tests) in
-    let goes = dash_in_word f s.rest here in
-    absurd (cc))
-    (λ _. rw h refl))
+    let goes = dash_in_word f s.rest (grind (arith, nat_tests)) in absurd (cc)) (λ _. rw h refl))
 
 abbrev WordAnswer : Type 0
 WordAnswer = Result (Bool × Cursor) Refusal
@@ -88,19 +80,16 @@ not_refused r b t e = absurd (cc)
 
 pub starts_says : (f b : Bool) (s t : Cursor) → word_starts f s ≡ Ok (b, t) → KeepsWord f b s t
 unfolding word_starts
-starts_says f b s t =
-    by_test ((slice_index s.rest 0 == 35) || ((s.mark.col == 0) && is_document_indicator s.rest)) _ _
+starts_says f b s t = by_test ((slice_index s.rest 0 == 35) || ((s.mark.col == 0) && is_document_indicator s.rest)) _ _
     (λ r. r ≡ answer b t → KeepsWord f b s t)
     (λ _ e. says_not f b s t e)
     (λ _. by_test (f && (slice_index s.rest 0 == 45) && is_flow (slice_index s.rest 1)) _ _
-    (λ r. r ≡ answer b t → KeepsWord f b s t)
-    (λ _ e. absurd (not_refused _ b t e)) (λ _ e. says_it f b s t e))
+    (λ r. r ≡ answer b t → KeepsWord f b s t) (λ _ e. absurd (not_refused _ b t e)) (λ _ e. says_it f b s t e))
 
 pub goes_says : (f : Bool) (i : ℕ) (b : Bool) (s t : Cursor) → next_word_starts f i s ≡ Ok (b, t) → KeepsWord f b s t
 unfolding next_word_starts
 goes_says f i b s t = by_test (s.blank_so_far && not f && nat_lt s.mark.col i) _ _
-    (λ r. r ≡ answer b t → KeepsWord f b s t)
-    (λ _ e. says_not f b s t e) (λ _ e. starts_says f b s t e)
+    (λ r. r ≡ answer b t → KeepsWord f b s t) (λ _ e. says_not f b s t e) (λ _ e. starts_says f b s t e)
 
 pub goes_not : (f : Bool) (i : ℕ) (s : Cursor) → is_in_word f s.rest ≡ false → next_word_starts f i s ≡ Ok (false, s)
 unfolding next_word_starts
@@ -121,8 +110,7 @@ no_part f i a m xs = sym (no_text _) ∙ ap (λ x. with_text [] (word f i a x xs
 
 more_part : (f : Bool) (i : ℕ) (a m : Marker) (c : ℕ) (cs : List ℕ) (n : ℕ) → is_in_word f (c ∷ cs) ≡ true
     → WordPart f i a (along m 1) cs n → WordPart f i a m (c ∷ cs) (suc n)
-more_part f i a m c cs n h r =
-    word_on f i a m c cs h ∙ ap (with_text (encode_utf8 c)) r
+more_part f i a m c cs n h r = word_on f i a m c cs h ∙ ap (with_text (encode_utf8 c)) r
     ∙ text_twice (encode_utf8 c) (encode_utf8_all (take n cs)) _
     ∙ ap (λ x. with_text (encode_utf8 c ++ encode_utf8_all (take n cs)) (word f i a x (drop n cs)))
     (along_more m 1 n (suc n) (omega arith))
@@ -145,21 +133,17 @@ word_stops f (c ∷ cs) =
 
 -- after a gap
 abbrev pub plain_behind_gap : Bool → ℕ → Marker → Marker → PlainGap → PlainScalarRead
-plain_behind_gap f i a end g =
-    next_word_starts f i g.behind >>= λ b. if b.0 then with_text g.text
+plain_behind_gap f i a end g = next_word_starts f i g.behind >>= λ b. if b.0 then with_text g.text
     (word f i a b.1.mark b.1.rest) else scalar_end f end g
 
 gap_over : (f : Bool) (i : ℕ) (a end : Marker) (g : PlainGap) → is_in_word f g.behind.rest ≡ false
     → plain_behind_gap f i a end g ≡ scalar_end f end g
-gap_over f i a end g h =
-    ap (λ r. r >>= λ b. if b.0 then with_text g.text (word f i a b.1.mark b.1.rest) else scalar_end f end g)
-    (goes_not f i g.behind h)
+gap_over f i a end g h = cc (goes_not f i g.behind h)
 
 between_none : (f : Bool) (i : ℕ) (a end : Marker) (g : PlainGap) (k : ℕ) → word_behind_gap f i a end g k []
     ≡ scalar_end f end g
 unfolding word_behind_gap
-between_none f i a end g zero = refl
-between_none f i a end g (suc k) = refl
+between_none f i a end g k = grind arith
 
 between_step : (f : Bool) (i : ℕ) (a end : Marker) (g : PlainGap) (c : ℕ) (cs : List ℕ)
     → word_behind_gap f i a end g zero (c ∷ cs)
@@ -174,26 +158,22 @@ unfolding word_behind_gap
 between_more f i a end g k c cs = refl
 
 choice : (b : Bool) (x y z : PlainScalarRead) → (b ≡ true → x ≡ y) → (if b then x else z) ≡ (if b then y else z)
-choice true x y z h = h refl
-choice false x y z h = refl
+choice b x y z h = grind arith
 
 -- the next word's first character
 word_first : (f : Bool) (i : ℕ) (a : Marker) (g : PlainGap) (c : ℕ) (cs : List ℕ) (t : Cursor) → c ∷ cs ≡ g.behind.rest
     → t ≡ g.behind → is_in_word f g.behind.rest ≡ true
     → with_text (g.text ++ encode_utf8 c) (word f i a (along g.behind.mark 1) cs)
     ≡ with_text g.text (word f i a t.mark t.rest)
-word_first f i a g c cs t is same goes =
-    let here : is_in_word f (c ∷ cs) ≡ true = ap (is_in_word f) is ∙ goes in
-    sym (text_twice g.text (encode_utf8 c) _)
-    ∙ ap (with_text g.text) (sym (word_on f i a g.behind.mark c cs here) ∙ ap (word f i a g.behind.mark) is)
-    ∙ ap (λ (x : Cursor). with_text g.text (word f i a x.mark x.rest)) (sym same)
+word_first f i a g c cs t is same goes = sym (text_twice g.text (encode_utf8 c) _)
+    ∙ ap (with_text g.text) (sym (word_on f i a g.behind.mark c cs (ap (is_in_word f) is ∙ goes)) ∙ ap
+    (word f i a g.behind.mark) is) ∙ ap (λ (x : Cursor). with_text g.text (word f i a x.mark x.rest)) (sym same)
 
 between_there : (f : Bool) (i : ℕ) (a end : Marker) (g : PlainGap) (xs : List ℕ) → xs ≡ g.behind.rest
     → word_behind_gap f i a end g zero xs ≡ plain_behind_gap f i a end g
 between_there f i a end g [] is =
     between_none f i a end g zero ∙ sym (gap_over f i a end g (ap (is_in_word f) (sym is) ∙ not_in_word f))
-between_there f i a end g (c ∷ cs) is =
-    between_step f i a end g c cs
+between_there f i a end g (c ∷ cs) is = between_step f i a end g c cs
     ∙ bind_same (next_word_starts f i g.behind) _ _ (λ b h.
     let says = goes_says f i b.0 g.behind b.1 h in
     choice b.0 _ _ (scalar_end f end g) (λ goes. word_first f i a g c cs b.1 is says.same (says.goes goes)))
@@ -223,29 +203,23 @@ unfolding gap gap_from
 gap_at_end i a m = ap (λ x. Ok (record { text = []; tabbed = false; behind = mid_line x [] })) (along_none m)
 
 pub some_count : (n : ℕ) → (n == 0) ≡ false → n ≡ suc (pred n)
-some_count zero e = absurd (cc)
-some_count (suc n) e = refl
+some_count n e = grind arith
 
 -- what an end of a text is, by the count of what comes before it
 pub dropped_at_end : (xs : List ℕ) (g : PlainGap) → IsEnd xs g.behind.rest → (n : ℕ) → gap_len xs g ≡ n → drop n xs
     ≡ g.behind.rest
-dropped_at_end xs g e n h = let same : e.taken ≡ n = omega (arith, e.count, h) in ap (λ k. drop k xs) (sym same)
-    ∙ sym e.is
+dropped_at_end xs g e n h = ap (λ k. drop k xs) (sym (omega (arith, e.count, h))) ∙ sym e.is
 
 pub word_over : (f : Bool) (i : ℕ) (a m : Marker) (xs : List ℕ) → is_in_word f xs ≡ false
     → word f i a m xs ≡ (gap i a (mid_line m xs) >>= plain_behind_gap f i a m)
 word_over f i a m [] h =
     word_end f i a m ∙ sym (gap_over f i a m (record { text = []; tabbed = false; behind = mid_line m [] }) h)
     ∙ sym (ap (λ r. r >>= plain_behind_gap f i a m) (gap_at_end i a m))
-word_over f i a m (c ∷ cs) h =
-    word_gap f i a m c cs h
-    ∙ bind_same (gap i a (mid_line m (c ∷ cs))) _ _ (λ g is.
+word_over f i a m (c ∷ cs) h = word_gap f i a m c cs h ∙ bind_same (gap i a (mid_line m (c ∷ cs))) _ _ (λ g is.
     let end = gap_end i a (mid_line m (c ∷ cs)) g is in
-    by_test (gap_len (c ∷ cs) g == 0) _ _ (λ (r : PlainScalarRead). r ≡ plain_behind_gap f i a m g)
-    (λ none.
+    by_test (gap_len (c ∷ cs) g == 0) _ _ (λ (r : PlainScalarRead). r ≡ plain_behind_gap f i a m g) (λ none.
     let no : gap_len (c ∷ cs) g ≡ 0 = grind (arith, nat_tests) in
-    sym (gap_over f i a m g (ap (is_in_word f) (sym (dropped_at_end (c ∷ cs) g end 0 no)) ∙ h)))
-    (λ some.
+    sym (gap_over f i a m g (ap (is_in_word f) (sym (dropped_at_end (c ∷ cs) g end 0 no)) ∙ h))) (λ some.
     let k = pred (gap_len (c ∷ cs) g) in
     let more : gap_len (c ∷ cs) g ≡ suc k = some_count (gap_len (c ∷ cs) g) some in
     between_all f i a m g k cs (dropped_at_end (c ∷ cs) g end (suc k) more)))
@@ -255,23 +229,19 @@ word_over f i a m (c ∷ cs) h =
 -- words that were put after a text end on their line
 moved_at : (f : Bool) (text grown : List ℕ) (s t : Cursor) → PlainWordsMoved f text grown s t
     → mid_line t.mark t.rest ≡ t
-moved_at f text grown s t m =
-    let there : Bool → Cursor = λ b. record { rest = t.rest; mark = t.mark; blank_so_far = b } in ap there
-    (sym m.on_line)
+moved_at f text grown s t m = ap (λ b. record { rest = t.rest; mark = t.mark; blank_so_far = b }) (sym m.on_line)
 
 -- after a word that was read
 pub moved_behind_word : (f : Bool) (i : ℕ) (a : Marker) (text grown : List ℕ) (s t : Cursor)
     → PlainWordsMoved f text grown s t
     → with_text text (word f i a s.mark s.rest) ≡ with_text grown (gap i a t >>= plain_behind_gap f i a t.mark)
-moved_behind_word f i a text grown s t m =
-    sym (m.same i a)
+moved_behind_word f i a text grown s t m = sym (m.same i a)
     ∙ ap (with_text grown) (word_over f i a t.mark t.rest m.stops
     ∙ ap (λ x. gap i a x >>= plain_behind_gap f i a t.mark) (moved_at f text grown s t m))
 
 pub gap_refused : (f : Bool) (i : ℕ) (a : Marker) (text grown : List ℕ) (s t : Cursor) (r : Refusal)
     → PlainWordsMoved f text grown s t → gap i a t ≡ Err r → with_text text (word f i a s.mark s.rest) ≡ Err r
-gap_refused f i a text grown s t r m h =
-    moved_behind_word f i a text grown s t m ∙ ap (λ x. with_text grown (x >>= plain_behind_gap f i a t.mark)) h
+gap_refused f i a text grown s t r m h = cc (moved_behind_word f i a text grown s t m)
 
 -- a gap after a word
 pub record GapMoved (f : Bool) (i : ℕ) (a : Marker) (text grown : List ℕ) (s t : Cursor) (g : PlainGap) : Type 0 where
@@ -281,38 +251,30 @@ pub record GapMoved (f : Bool) (i : ℕ) (a : Marker) (text grown : List ℕ) (s
 -- a test of where a word starts, whose answer is known
 pub started : (starts : Cursor → Result (Bool × Cursor) Refusal) (s t : Cursor) (b d : Bool) → b ≡ d
     → starts s ≡ Ok (b, t) → starts s ≡ Ok (d, t)
-started starts s t b d is e = subst (λ (x : Bool). starts s ≡ Ok (x, t)) is e
+started starts s t b d is e = rw is at e
 
 -- what is put between two words
 pub joined_by : (f : Bool) (i : ℕ) (s t : Cursor) (text feeds shown pushed : List ℕ)
     → next_word_starts f i s ≡ Ok (true, t) → pushed ≡ text ++ gap_text t.blank_so_far shown → shown ≡ feeds
     → pushed ≡ text ++ gap_text s.blank_so_far feeds
-joined_by f i s t text feeds shown pushed goes put is =
-    put ∙ ap (λ b. text ++ gap_text t.blank_so_far b) is
+joined_by f i s t text feeds shown pushed goes put is = put ∙ ap (λ b. text ++ gap_text t.blank_so_far b) is
     ∙ ap (λ (x : Cursor). text ++ gap_text x.blank_so_far feeds) (goes_says f i true s t goes).same
 
 pub behind_both : (f : Bool) (i : ℕ) (a : Marker) (text grown : List ℕ) (s t : Cursor) (g : PlainGap)
     → GapMoved f i a text grown s t g
     → with_text text (word f i a s.mark s.rest) ≡ with_text grown (plain_behind_gap f i a t.mark g)
-behind_both f i a text grown s t g m =
-    moved_behind_word f i a text grown s t m.moved
-    ∙ ap (λ x. with_text grown (x >>= plain_behind_gap f i a t.mark)) m.is
+behind_both f i a text grown s t g m = cc (moved_behind_word f i a text grown s t m.moved)
 
 pub turn_refused : (f : Bool) (i : ℕ) (a : Marker) (text grown : List ℕ) (s t : Cursor) (g : PlainGap) (r : Refusal)
     → GapMoved f i a text grown s t g → next_word_starts f i g.behind ≡ Err r
     → with_text text (word f i a s.mark s.rest) ≡ Err r
-turn_refused f i a text grown s t g r m h =
-    behind_both f i a text grown s t g m
-    ∙ ap (λ x. with_text grown
-    (x >>= λ b. if b.0 then with_text g.text (word f i a b.1.mark b.1.rest) else scalar_end f t.mark g)) h
+turn_refused f i a text grown s t g r m h = cc (behind_both f i a text grown s t g m)
 
 -- no word after the gap
 pub no_turn : (f : Bool) (i : ℕ) (a : Marker) (text grown : List ℕ) (s t : Cursor) (g : PlainGap) (u : Cursor)
     → GapMoved f i a text grown s t g → next_word_starts f i g.behind ≡ Ok (false, u)
     → with_text text (word f i a s.mark s.rest) ≡ Ok (grown, t.mark, comment_of f g.tabbed u, u)
-no_turn f i a text grown s t g u m h =
-    behind_both f i a text grown s t g m
-    ∙ ap (λ x. with_text grown
+no_turn f i a text grown s t g u m h = behind_both f i a text grown s t g m ∙ ap (λ x. with_text grown
     (x >>= λ b. if b.0 then with_text g.text (word f i a b.1.mark b.1.rest) else scalar_end f t.mark g)) h
     ∙ ap (λ x. Ok (x, t.mark, comment_of f g.tabbed g.behind, g.behind)) (append-nil grown)
     ∙ ap (λ x. Ok (grown, t.mark, comment_of f g.tabbed x, x)) (sym (goes_says f i false g.behind u h).same)
@@ -321,31 +283,24 @@ no_turn f i a text grown s t g u m h =
 pub turn : (f : Bool) (i : ℕ) (a : Marker) (text grown joined : List ℕ) (s t : Cursor) (g : PlainGap) (u : Cursor)
     → GapMoved f i a text grown s t g → next_word_starts f i g.behind ≡ Ok (true, u)
     → joined ≡ grown ++ g.text → with_text joined (word f i a u.mark u.rest) ≡ with_text text (word f i a s.mark s.rest)
-turn f i a text grown joined s t g u m h j =
-    ap (λ x. with_text x (word f i a u.mark u.rest)) j
-    ∙ sym (behind_both f i a text grown s t g m
-    ∙ ap (λ x. with_text grown
-    (x >>= λ b. if b.0 then with_text g.text (word f i a b.1.mark b.1.rest) else scalar_end f t.mark g)) h
-    ∙ text_twice grown g.text _)
+turn f i a text grown joined s t g u m h j = cc (behind_both f i a text grown s t g m, text_twice grown g.text _)
 
 pub turn_goes : (f : Bool) (i : ℕ) (g : PlainGap) (u : Cursor) → next_word_starts f i g.behind ≡ Ok (true, u)
     → is_in_word f u.rest ≡ true
-turn_goes f i g u h = let says =
-    goes_says f i true g.behind u h in ap (λ (x : Cursor). is_in_word f x.rest) says.same ∙ says.goes refl
+turn_goes f i g u h = let says = goes_says f i true g.behind u h in cc (says.goes refl)
 
 -- the scalar
 
 pub plain_starts : (f : Bool) (i : ℕ) (s t : Cursor) → word_starts f s ≡ Ok (true, t)
     → plain f i s ≡ word f i s.mark t.mark t.rest
 unfolding plain
-plain_starts f i s t h =
-    ap (λ r. r >>= λ b. if b.0 then word f i s.mark b.1.mark b.1.rest else refuse fault.PlainEnd s.mark) h
+plain_starts f i s t h = cc
 
 -- a refusal that `?` hands on
 pub moves_refused : {X Y : Type 0} (view : X → Y) (r : Result X Stop) (f : Result Y Refusal) (refusal : Refusal)
     → IsErrAnd r (λ e. e ≡ stop.Refused refusal) → f ≡ Err refusal → Moves view r f
 moves_refused view (Ok x) f refusal h e = absurd h
-moves_refused view (Err s) f refusal h e = subst (λ (x : Stop). Fails x f) (sym h) e
+moves_refused view (Err s) f refusal h e = rw h e
 
 fails_on : {Y Z : Type 0} (e : Stop) (h : Result Z Refusal) (f : Result Y Refusal) → Fails e h
     → ((r : Refusal) → h ≡ Err r → f ≡ Err r) → Fails e f
@@ -356,15 +311,13 @@ pub moves_failed : {X Y Z : Type 0} (view : X → Y) (r : Result X Stop) (f : Re
     (e : Stop) → IsErrAnd r (λ x. x ≡ e) → Fails e h
     → ((r : Refusal) → h ≡ Err r → f ≡ Err r) → Moves view r f
 moves_failed view (Ok x) f h e is b on = absurd is
-moves_failed view (Err s) f h e is b on = subst (λ (x : Stop). Fails x f) (sym is) (fails_on e h f b on)
+moves_failed view (Err s) f h e is b on = rw is (fails_on e h f b on)
 
 pub plain_refused : (f : Bool) (i : ℕ) (s : Cursor) (r : Refusal) → word_starts f s ≡ Err r → plain f i s ≡ Err r
 unfolding plain
-plain_refused f i s r h =
-    ap (λ r. r >>= λ b. if b.0 then word f i s.mark b.1.mark b.1.rest else refuse fault.PlainEnd s.mark) h
+plain_refused f i s r h = cc
 
 pub no_plain : (f : Bool) (i : ℕ) (s t : Cursor) → word_starts f s ≡ Ok (false, t)
     → plain f i s ≡ refuse fault.PlainEnd s.mark
 unfolding plain
-no_plain f i s t h = ap (λ r. r >>= λ b. if b.0 then word f i s.mark b.1.mark b.1.rest else refuse fault.PlainEnd
-    s.mark) h
+no_plain f i s t h = cc

@@ -30,8 +30,7 @@ TellsGap start m t (Ok g) = PassesBreak m t g.behind
 TellsGap start m t (Err e) = (e.mark ≡ start) ⊎ ((behind : List ℕ) × PassesBreak m t (mid_line e.mark behind))
 
 told_more : (start m k : Marker) (t u : List ℕ) (r : Result PlainGap Refusal)
-    → ((s : Cursor) → PassesBreak k u s → PassesBreak m t s)
-    → TellsGap start k u r → TellsGap start m t r
+    → ((s : Cursor) → PassesBreak k u s → PassesBreak m t s) → TellsGap start k u r → TellsGap start m t r
 told_more start m k t u (Ok g) more h = more g.behind h
 told_more start m k t u (Err e) more (inl is) = inl is
 told_more start m k t u (Err e) more (inr h) = inr (h.0, more (mid_line e.mark h.0) h.1)
@@ -107,14 +106,12 @@ next_told indent start s t p =
 gap_told : (indent : ℕ) (start : Marker) (s : Cursor) → GapTold start s (gap indent start s)
 unfolding gap gap_from
 gap_told indent start s =
-    let n = prefix_len is_blank s.rest in
-    let t : Cursor = pass n s in
+    let t : Cursor = pass (prefix_len is_blank s.rest) s in
     let p : IsPassed s.mark s.rest t.mark t.rest = run_passed is_blank s.mark s.rest blank_no_break in
     by_test (is_break (slice_index t.rest 0)) _ _ (GapTold start s)
     (λ e. next_told indent start s (pass_break t)
     (passed_passed s.mark s.rest t.mark t.rest (pass_break t).mark (pass_break t).rest p
-    (break_ends t (or_left (is_break (slice_index t.rest 0)) (is_z (slice_index t.rest 0)) e)).passes))
-    (λ _. p)
+    (break_ends t (or_left (is_break (slice_index t.rest 0)) (is_z (slice_index t.rest 0)) e)).passes)) (λ _. p)
 
 plain_gap_refused : (indent : ℕ) (s t : Cursor) → IsPassed s.mark s.rest t.mark t.rest
     → Refused (IsRefusedInside s) (gap indent s.mark t)
@@ -127,7 +124,7 @@ plain_gap_refused indent s t p = by (gap indent s.mark t) (gap_told indent s.mar
 
 gap_passed : (indent : ℕ) (start : Marker) (s : Cursor) (g : PlainGap) → gap indent start s ≡ Ok g
     → IsPassed s.mark s.rest g.behind.mark g.behind.rest
-gap_passed indent start s g e = subst (GapTold start s) e (gap_told indent start s)
+gap_passed indent start s g e = rw e at (gap_told indent start s)
 
 -- ## Words
 
@@ -171,13 +168,11 @@ mutual
       let here : IsPassed s.mark s.rest b.mark (c ∷ cs) = subst (λ u. IsPassed s.mark s.rest b.mark u) (sym is) p in
       refused_bind P (next_word_starts in_flow indent b) _
       (refused_more (λ e. e.mark ≡ b.mark) P (next_word_starts in_flow indent b) (goes_refused in_flow indent b)
-      (refused_there s b p)) (λ x e.
-      by_test x.0 _ _ (Refused P)
+      (refused_there s b p)) (λ x e. by_test x.0 _ _ (Refused P)
       (λ goes. let first : is_break c ≡ false =
       word_no_break in_flow (c ∷ cs) (ap (is_in_word in_flow) is ∙ (goes_says in_flow indent x.0 b x.1 e).goes goes) in
       text_refused P (g.text ++ encode_utf8 c) (word in_flow indent s.mark (along b.mark 1) cs)
-      (word_refused s in_flow indent (along b.mark 1) cs (one_more_passed s b.mark c cs here first)))
-      (λ _. tt))
+      (word_refused s in_flow indent (along b.mark 1) cs (one_more_passed s b.mark c cs here first))) (λ _. tt))
   between_refused s in_flow indent end g (suc left) (c ∷ cs) p is = between_refused s in_flow indent end g left cs p is
 
   word_refused : (s : Cursor) (in_flow : Bool) (indent : ℕ) (m : Marker) (t : List ℕ) → IsPassed s.mark s.rest m t
@@ -188,8 +183,7 @@ mutual
       let t : Cursor = mid_line m (c ∷ cs) in
       by_test (is_in_word in_flow (c ∷ cs)) _ _ (Refused P)
       (λ e. text_refused P (encode_utf8 c) (word in_flow indent s.mark (along m 1) cs)
-      (word_refused s in_flow indent (along m 1) cs
-      (one_more_passed s m c cs p (word_no_break in_flow (c ∷ cs) e))))
+      (word_refused s in_flow indent (along m 1) cs (one_more_passed s m c cs p (word_no_break in_flow (c ∷ cs) e))))
       (λ _. refused_bind P (gap indent s.mark t) _ (plain_gap_refused indent s t p) (λ g e.
       let end = gap_end indent s.mark t g e in
       let k = pred (gap_len (c ∷ cs) g) in
@@ -204,10 +198,8 @@ unfolding plain
 plain_refused in_flow indent s =
     let P = IsRefusedInside s in
     refused_bind P (word_starts in_flow s) _
-    (refused_more (λ e. e.mark ≡ s.mark) P (word_starts in_flow s) (starts_refused in_flow s) (inside_start s))
-    (λ b e.
+    (refused_more (λ e. e.mark ≡ s.mark) P (word_starts in_flow s) (starts_refused in_flow s) (inside_start s)) (λ b e.
     let same : b.1 ≡ s = (starts_says in_flow b.0 s b.1 e).same in
-    let here : IsPassed s.mark s.rest b.1.mark b.1.rest = subst (λ (u : Cursor). IsPassed s.mark s.rest u.mark u.rest)
-    (sym same) (nothing s.mark s.rest) in
+    let here : IsPassed s.mark s.rest b.1.mark b.1.rest = rw same (nothing s.mark s.rest) in
     by_test b.0 _ _ (Refused P) (λ _. word_refused s in_flow indent b.1.mark b.1.rest here)
     (λ _. (s.rest, nothing s.mark s.rest)))

@@ -36,10 +36,7 @@ abbrev pub items_of : List ℕ → List Item
 items_of text = map raw_item (normalized text)
 
 three_false : (a b d : Bool) → (a || (b || d)) ≡ false → (a ≡ false) × (b ≡ false) × (d ≡ false)
-three_false false false false h = (refl, refl, refl)
-three_false true b d h = absurd (cc)
-three_false false true d h = absurd (cc)
-three_false false false true h = absurd (cc)
+three_false a b d h = grind arith
 
 pub ink_no_feed : (c : ℕ) → Ink c → (c == line_feed) ≡ false
 ink_no_feed c h = (three_false (is_blank c) (c == 10) (c == 13) h).1
@@ -71,8 +68,7 @@ same_normal c v y h = ap (λ (b : Bool). if c == 13 then (if b then [] else 10 �
 
 normalized_append : (v y : List ℕ) → NoFeed y → normalized (v ++ y) ≡ normalized v ++ normalized y
 normalized_append [] y h = refl
-normalized_append (c ∷ v) y h =
-    ap (λ (l : List ℕ). l ++ normalized (v ++ y)) (same_normal c v y h)
+normalized_append (c ∷ v) y h = ap (λ (l : List ℕ). l ++ normalized (v ++ y)) (same_normal c v y h)
     ∙ ap (λ (l : List ℕ). normal_break c v ++ l) (normalized_append v y h)
     ∙ sym (append_assoc (normal_break c v) (normalized v) (normalized y))
 
@@ -84,8 +80,7 @@ items_append v y h = ap (map raw_item) (normalized_append v y h) ∙ map-append 
 pub passed_append : (m : Marker) (v y : List ℕ) → NoFeed y → end_of_text m (v ++ y) ≡ end_of_text (end_of_text m v) y
 passed_append m [] y h = refl
 passed_append m (c ∷ v) y h =
-    ap (λ (b : Bool). end_of_text (if b then next_line m 1 else along m 1) (v ++ y)) (same_ends c v y h)
-    ∙ passed_append (if ends_line c v then next_line m 1 else along m 1) v y h
+    cc (same_ends c v y h, passed_append (if ends_line c v then next_line m 1 else along m 1) v y h)
 
 -- no line ends in a word
 pub passed_word : (m : Marker) (w y : List ℕ) → AreInk w → end_of_text m (w ++ y) ≡ end_of_text (along m (length w)) y
@@ -94,8 +89,7 @@ passed_word m (c ∷ w) y h =
     let t = three_false (is_blank c) (c == 10) (c == 13) h.0 in
     let none : ends_line c (w ++ y) ≡ false = rw (t.1, t.2) refl in
     ap (λ (b : Bool). end_of_text (if b then next_line m 1 else along m 1) (w ++ y)) none ∙ passed_word
-    (along m 1) w y h.1
-    ∙ ap (λ x. end_of_text x y) (along_more m 1 (length w) (suc (length w)) (omega arith))
+    (along m 1) w y h.1 ∙ ap (λ x. end_of_text x y) (along_more m 1 (length w) (suc (length w)) (omega arith))
 
 -- Runs of blanks and breaks.
 
@@ -127,16 +121,14 @@ are_breaks (c ∷ v) h = by_white (is_blank c) refl (are_breaks v h.1)
     by_white true e rest = blank_cases c e Goal (one_blank (line_count v) 32 (items_of v) rest)
         (one_blank (line_count v) 9 (items_of v) rest)
     by_white false e rest = break_cases c (or_break (is_blank c) (is_break c) e h.0) Goal
-        ([], items_of v, tt, rest, refl)
-        (at_return (slice_index v 0 == 10) refl rest)
+        ([], items_of v, tt, rest, refl) (at_return (slice_index v 0 == 10) refl rest)
 
 -- breaks before a word
-pub folded_breaks : (k : ℕ) (v : List ℕ) (c : ℕ) (cs : List ℕ) → AreIn is_blank_or_break v
-    → line_count v ≡ suc k → Ink c
-    → folded (items_of (v ++ (c ∷ cs))) ≡ raw_break k ++ folded (items_of (c ∷ cs))
+pub folded_breaks : (k : ℕ) (v : List ℕ) (c : ℕ) (cs : List ℕ) → AreIn is_blank_or_break v → line_count v ≡ suc k
+    → Ink c → folded (items_of (v ++ (c ∷ cs))) ≡ raw_break k ++ folded (items_of (c ∷ cs))
 folded_breaks k v c cs h count ink =
     let here = items_ink c cs ink in
-    let breaks : AreBreaks (suc k) (items_of v) = subst (λ n. AreBreaks n (items_of v)) count (are_breaks v h) in
+    let breaks : AreBreaks (suc k) (items_of v) = rw count at (are_breaks v h) in
     ap folded (items_append v (c ∷ cs) (ink_no_feed c ink) ∙ ap (λ (l : List Item). items_of v ++ l) here)
     ∙ (folds_breaks k (items_of v) c (items_of cs)).0 breaks
     ∙ ap (λ (l : List ℕ). raw_break k ++ l) (sym (ap folded here))
@@ -154,8 +146,7 @@ no_break_next (b ∷ v) c cs h ink = ap is_before_break (items_blank b (v ++ (c 
 pub folded_blanks : (v : List ℕ) (c : ℕ) (cs : List ℕ) → AreBlank v → Ink c
     → folded (items_of (v ++ (c ∷ cs))) ≡ v ++ folded (items_of (c ∷ cs))
 folded_blanks [] c cs h ink = refl
-folded_blanks (b ∷ v) c cs h ink =
-    ap folded (items_blank b (v ++ (c ∷ cs)) h.0)
+folded_blanks (b ∷ v) c cs h ink = ap folded (items_blank b (v ++ (c ∷ cs)) h.0)
     ∙ ap (λ (t : Bool). (if t then [] else b ∷ []) ++ folded (items_of (v ++ (c ∷ cs)))) (no_break_next v c cs h.1 ink)
     ∙ ap (λ (l : List ℕ). b ∷ l) (folded_blanks v c cs h.1 ink)
 
@@ -167,5 +158,4 @@ passed_index m (c ∷ cs) =
     omega (arith, more, one_further (ends_line c cs) m)
   where
     one_further : (e : Bool) (m : Marker) → (cond e (next_line m 1) (along m 1)).index ≡ m.index + 1
-    one_further true m = refl
-    one_further false m = refl
+    one_further e m = grind arith

@@ -27,23 +27,16 @@ use Rattle.saphyr_scalar.proofs.Given.{together}
 set_in_word : (f : Bool) (xs : List ℕ) → in_plain f (slice_index xs 0) ≡ true → is_in_word f xs ≡ true
 unfolding is_in_word
 set_in_word f xs h =
-    let c = slice_index xs 0 in
-    all (c == 58) (is_blank_or_breakz c) (is_bom c) (f && is_flow c) _ h
+    let c = slice_index xs 0 in all (c == 58) (is_blank_or_breakz c) (is_bom c) (f && is_flow c) _ h
   where
     all : (a b d e x : Bool) → (not a && not b && not d && not e) ≡ true → (not b && cond a x (not (d || e))) ≡ true
-    all false false false false x h = refl
-    all true b d e x h = absurd (cc)
-    all false true d e x h = absurd (cc)
-    all false false true e x h = absurd (cc)
-    all false false false true x h = absurd (cc)
+    all a b d e x h = grind arith
 
 set_content : (f : Bool) (c : ℕ) → in_plain f c ≡ true → IsQuotedInk c
 set_content f c h = content_of c (second (c == 58) (is_blank_or_breakz c) (is_bom c) (f && is_flow c) h)
   where
     second : (a b d e : Bool) → (not a && not b && not d && not e) ≡ true → b ≡ false
-    second false false d e h = refl
-    second true b d e h = absurd (cc)
-    second false true d e h = absurd (cc)
+    second a b d e h = grind arith
 
 -- a word that begins after a space
 record LeadsWord (f : Bool) (cs : List ℕ) : Type 0 where
@@ -66,8 +59,7 @@ one_blank (d ∷ ds) h = rw h refl
 space_moved : (m : Marker) (cs : List ℕ) → is_blank (slice_index cs 0) ≡ false
     → Moved is_blank [] (encode_utf8 32) (mid_line m (32 ∷ cs)) (mid_line (along m 1) cs)
 space_moved m cs h = record {
-  is = ap (λ n. together (encode_utf8_all (take n (32 ∷ cs))) (pass n (mid_line m (32 ∷ cs)))) (one_blank cs h)
-      ∙ ap (λ b. together b (mid_line (along m 1) cs)) (append-nil (encode_utf8 32));
+  is = cc (one_blank cs h, append-nil (encode_utf8 32));
 }
 
 abbrev space_gap : Marker → List ℕ → PlainGap
@@ -82,21 +74,16 @@ unfolding gap gap_from
 gap_is_space f i a m cs s =
     let content = set_content f (slice_index cs 0) s.set in
     ap (λ (x : List ℕ × Cursor). gap_from i a x.0 x.1) (space_moved m cs content.blank).is
-    ∙ by_test (is_break (slice_index cs 0)) _ _ (λ (r : Found). r ≡ Ok (space_gap m cs))
-    (λ is. let no = content.break in absurd (cc)) (λ _. refl)
+    ∙ by_test (is_break (slice_index cs 0)) _ _ (λ (r : Found). r ≡ Ok (space_gap m cs)) (λ is. absurd (cc)) (λ _. refl)
 
 abbrev answer : Bool → Cursor → Result (Bool × Cursor) Refusal
 answer b s = Ok (b, s)
 
 no_either : (a b d : Bool) → a ≡ false → b ≡ false → (a || (b && d)) ≡ true → ⊥
-no_either true b d is_a is_b h = absurd (cc)
-no_either false true d is_a is_b h = absurd (cc)
-no_either false false d is_a is_b h = absurd (cc)
+no_either a b d is_a is_b h = grind arith
 
 no_second : (a b d : Bool) → b ≡ false → (a && b && d) ≡ true → ⊥
-no_second a true d is h = absurd (cc)
-no_second true false d is h = absurd (cc)
-no_second false false d is h = absurd (cc)
+no_second a b d is h = grind arith
 
 space_goes : (f : Bool) (i : ℕ) (m : Marker) (cs : List ℕ) → LeadsWord f cs
     → next_word_starts f i (mid_line (along m 1) cs) ≡ answer true (mid_line (along m 1) cs)
@@ -121,38 +108,30 @@ space_ends f cs = refl
 
 space_passed : (f : Bool) (i : ℕ) (a m : Marker) (cs : List ℕ) → LeadsWord f cs → PassesCharacter f i a m 32 cs
 space_passed f i a m cs s =
-    word_over f i a m (32 ∷ cs) (space_ends f cs) ∙ ap (λ r. r >>= plain_behind_gap f i a m) (gap_is_space f i a m cs s)
-    ∙ ap (λ r. r >>= λ b. cond b.0 (with_text (encode_utf8 32) (word f i a b.1.mark b.1.rest))
-    (scalar_end f m (space_gap m cs))) (space_goes f i m cs s)
+    cc (word_over f i a m (32 ∷ cs) (space_ends f cs), gap_is_space f i a m cs s, space_goes f i m cs s)
 
 word_passed : (f : Bool) (i : ℕ) (a m : Marker) (c : ℕ) (cs : List ℕ)
     → (in_plain f c || ((c == 32) && leads_plain f (slice_index cs 0))) ≡ true → PassesCharacter f i a m c cs
 word_passed f i a m c cs h =
     either (in_plain f c) ((c == 32) && leads_plain f (slice_index cs 0)) (PassesCharacter f i a m c cs) h
-    (λ is. word_on f i a m c cs (set_in_word f (c ∷ cs) is))
-    (λ is.
-    let two = both_true (c == 32) (leads_plain f (slice_index cs 0)) is in
+    (λ is. word_on f i a m c cs (set_in_word f (c ∷ cs) is)) (λ is.
     let space : c ≡ 32 = grind (arith, nat_tests) in
-    rw space (space_passed f i a m cs (leads f cs two.1)))
+    rw space (space_passed f i a m cs (leads f cs (both_true (c == 32) (leads_plain f (slice_index cs 0)) is).1)))
 
 piece_on : (f : Bool) (i : ℕ) (a m : Marker) (c : ℕ) (cs : List ℕ) (n : ℕ) → PassesCharacter f i a m c cs
     → WordPart f i a (along m 1) cs n → WordPart f i a m (c ∷ cs) (suc n)
 piece_on f i a m c cs n h r =
-    h ∙ ap (with_text (encode_utf8 c)) r ∙ text_twice (encode_utf8 c) (encode_utf8_all (take n cs)) _
-    ∙ ap (λ x. with_text (encode_utf8 c ++ encode_utf8_all (take n cs)) (word f i a x (drop n cs)))
-    (along_more m 1 n (suc n) (omega arith))
+    cc (text_twice (encode_utf8 c) (encode_utf8_all (take n cs)) _, along_more m 1 n (suc n) (omega arith))
 
 pub words_piece : (f : Bool) (i : ℕ) (a m : Marker) (n : ℕ) (xs : List ℕ)
     → n ≤ words_len (in_plain f) (leads_plain f) xs → WordPart f i a m xs n
 unfolding words_len
 words_piece f i a m zero xs l = no_part f i a m xs
 words_piece f i a m (suc n) [] l = absurd (omega (arith, l))
-words_piece f i a m (suc n) (c ∷ cs) l =
-    by_test (in_plain f c || ((c == 32) && leads_plain f (slice_index cs 0)))
+words_piece f i a m (suc n) (c ∷ cs) l = by_test (in_plain f c || ((c == 32) && leads_plain f (slice_index cs 0)))
     (1 + words_len (in_plain f) (leads_plain f) cs) 0 (λ k. suc n ≤ k → WordPart f i a m (c ∷ cs) (suc n))
     (λ h less. piece_on f i a m c cs n (word_passed f i a m c cs h)
-    (words_piece f i a (along m 1) n cs (omega (arith, less))))
-    (λ _ less. absurd (omega (arith, less))) l
+    (words_piece f i a (along m 1) n cs (omega (arith, less)))) (λ _ less. absurd (omega (arith, less))) l
 
 -- n characters of words at s were put after a text, and t is left, whose place is not told yet
 pub record WordsRan (f : Bool) (text grown : List ℕ) (s t : Cursor) (n : ℕ) : Type 0 where
@@ -176,8 +155,7 @@ pub words_ran : (f : Bool) (text grown more : List ℕ) (s t u : Cursor) (n k : 
     → WordsRan f text more s u (n + k)
 words_ran f text grown more s t u n k r w place =
     let within : k ≤ length t.rest = omega (arith, w.within, words_within (in_plain f) (leads_plain f) t.rest) in
-    let on = λ (i : ℕ) (a : Marker). sym
-    (ap (with_text grown) (words_piece f i a (along s.mark n) k t.rest w.within)
+    let on = λ (i : ℕ) (a : Marker). sym (ap (with_text grown) (words_piece f i a (along s.mark n) k t.rest w.within)
     ∙ text_twice grown (encode_utf8_all (take k t.rest)) _) in
     record {
       same = λ i a. rw (w.transfers.appended, w.transfers.taken)
@@ -195,15 +173,13 @@ pub record WordsTurn (f : Bool) (text grown : List ℕ) (s t : Cursor) (n c : �
   pub goes : b ≡ is_in_word f t.rest
 
 pub words_turn : (f : Bool) (text grown more : List ℕ) (s t u v w : Cursor) (n k c : ℕ) (b : Bool)
-    → WordsRan f text grown s t n
-    → TransfersWords (in_plain f) (leads_plain f) k t.rest u.rest grown more → u.mark ≡ t.mark
-    → c ≡ slice_index u.rest 0 → v ≡ u → b ≡ is_in_word f v.rest → w ≡ v
+    → WordsRan f text grown s t n → TransfersWords (in_plain f) (leads_plain f) k t.rest u.rest grown more
+    → u.mark ≡ t.mark → c ≡ slice_index u.rest 0 → v ≡ u → b ≡ is_in_word f v.rest → w ≡ v
     → WordsTurn f text more s w (n + k) c b
 words_turn f text grown more s t u v w n k c b r moved place read seen goes same =
     let still : u ≡ w = sym seen ∙ sym same in
     record {
-      ran = subst (λ (x : Cursor). WordsRan f text more s x (n + k)) still
-          (words_ran f text grown more s t u n k r moved place);
+      ran = rw still at (words_ran f text grown more s t u n k r moved place);
       read = read ∙ ap (λ (x : Cursor). slice_index x.rest 0) still;
       goes = goes ∙ ap (λ (x : Cursor). is_in_word f x.rest) (sym same);
     }
@@ -248,8 +224,7 @@ words_done f text grown s t n c b m turn is moved =
   where
     some : (k : ℕ) → t.rest ≡ drop k s.rest → k + length t.rest ≡ length s.rest → is_in_word f s.rest ≡ true
         → length t.rest < length s.rest
-    some zero left total goes = let still = ap (is_in_word f) left in absurd (cc)
-    some (suc k) left total goes = omega (arith, total)
+    some k left total goes = grind arith
 
 -- how many characters that is, the place after them and what is left
 

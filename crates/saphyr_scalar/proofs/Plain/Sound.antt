@@ -34,8 +34,7 @@ Hypothesis n f i a = (m : Marker) (xs : List ℕ) → length xs ≤ n → is_in_
 
 word_turn : (n : ℕ) (f : Bool) (i : ℕ) (a m : Marker) (xs : List ℕ) → Hypothesis n f i a → length xs ≤ suc n
     → is_in_word f xs ≡ true → Begins m xs → (x : Read) → word f i a m xs ≡ Ok x → WordReads f i m xs x
-word_turn n f i a m xs hyp short goes begins x is =
-    by_gap (gap i a (mid_line end left)) refl
+word_turn n f i a m xs hyp short goes begins x is = by_gap (gap i a (mid_line end left)) refl
     (sym (all_word f i a m xs ∙ ap (with_text text) (word_over f i a end left (word_stops f xs))) ∙ is)
   where
     k : ℕ
@@ -56,8 +55,7 @@ word_turn n f i a m xs hyp short goes begins x is =
     by_rest : (g : PlainGap) → GapReads i left end g → GoesOn f i g.behind → length g.behind.rest ≤ n
         → Begins g.behind.mark g.behind.rest → (r : PlainScalarRead) → word f i a g.behind.mark g.behind.rest ≡ r
         → with_text text (with_text g.text r) ≡ Ok x → Goal
-    by_rest g reads on less starts (Ok y) eq e =
-        subst (WordReads f i m xs) (same_reading _ x e)
+    by_rest g reads on less starts (Ok y) eq e = subst (WordReads f i m xs) (same_reading _ x e)
         (word_more f i m xs g y goes begins (front_of f xs goes) on reads
         (hyp g.behind.mark g.behind.rest less on.word starts y eq))
     by_rest g reads on less starts (Err r) eq e = absurd (no_reading r x e)
@@ -65,8 +63,7 @@ word_turn n f i a m xs hyp short goes begins x is =
     by_goes : (g : PlainGap) → gap i a (mid_line end left) ≡ Ok g → (b : Bool) (u : Cursor)
         → next_word_starts f i g.behind ≡ Ok (b, u)
         → with_text text (if b then with_text g.text (word f i a u.mark u.rest) else scalar_end f end g) ≡ Ok x → Goal
-    by_goes g eq false u q e =
-        subst (WordReads f i m xs) (same_reading _ x e)
+    by_goes g eq false u q e = subst (WordReads f i m xs) (same_reading _ x e)
         (last_word f i m xs g goes begins (front_of f xs goes) (gap_reads i a left end g eq))
     by_goes g eq true u q e =
         let says = goes_says f i true g.behind u q in
@@ -74,9 +71,7 @@ word_turn n f i a m xs hyp short goes begins x is =
         let less : length g.behind.rest ≤ n = shorter (length left) (length g.behind.rest) gone.taken
         (rw length-drop refl) gone.count in
         by_rest g (gap_reads i a left end g eq) (goes_on f i g.behind u q (says.goes refl)) less
-        (goes_begins f i g.behind u q)
-        (word f i a g.behind.mark g.behind.rest) refl
-        (subst (λ (c : Cursor). with_text text (with_text g.text (word f i a c.mark c.rest)) ≡ Ok x) says.same e)
+        (goes_begins f i g.behind u q) (word f i a g.behind.mark g.behind.rest) refl (rw says.same at e)
       where
         shorter : (d r t : ℕ) → d ≡ length xs - k → t + r ≡ d → r ≤ n
         shorter d r t cut count = let some = word_left f xs goes in omega (arith, word_len_more f xs goes, short)
@@ -90,9 +85,7 @@ word_turn n f i a m xs hyp short goes begins x is =
     by_answer g eq (Err r) q e = absurd (no_reading r x e)
 
     by_gap : (r : Result PlainGap Refusal) → gap i a (mid_line end left) ≡ r
-        → with_text text (r >>= plain_behind_gap f i a end)
-        ≡ Ok x
-        → Goal
+        → with_text text (r >>= plain_behind_gap f i a end) ≡ Ok x → Goal
     by_gap (Ok g) eq e = by_answer g eq (next_word_starts f i g.behind) refl e
     by_gap (Err r) eq e = absurd (no_reading r x e)
 
@@ -142,11 +135,10 @@ plain_lines f i s t text end comment is = by_start (word_starts f s) refl is
     by_first true u q e =
         let says = starts_says f true s u q in
         from_word (word_reads (length s.rest) f i s.mark s.mark s.rest (omega arith) (says.goes refl)
-        (starts_begins f s u q) x (subst (λ (c : Cursor). word f i s.mark c.mark c.rest ≡ Ok x) says.same e))
+        (starts_begins f s u q) x (rw says.same at e))
 
     by_start : (r : Result (Bool × Cursor) Refusal) → word_starts f s ≡ r
-        → (r >>= λ b. if b.0 then word f i s.mark b.1.mark b.1.rest else refuse fault.PlainEnd s.mark) ≡ Ok x
-        → Goal
+        → (r >>= λ b. if b.0 then word f i s.mark b.1.mark b.1.rest else refuse fault.PlainEnd s.mark) ≡ Ok x → Goal
     by_start (Ok b) q e = by_first b.0 b.1 q e
     by_start (Err r) q e = absurd (no_reading r x e)
 

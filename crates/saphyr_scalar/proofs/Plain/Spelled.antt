@@ -42,8 +42,7 @@ word_character f c cs h =
     }
   where
     first_of : (a b : Bool) → not (a || b) ≡ true → a ≡ false
-    first_of false b x = refl
-    first_of true b x = absurd (false≢true x)
+    first_of a b x = grind arith
 
     by_parts : (a b z : Bool) → not (a || (b || z)) ≡ true → (a || b) ≡ false
     by_parts false false z x = refl
@@ -54,8 +53,7 @@ ink_line : (c : ℕ) (cs : List ℕ) → Ink c → ends_line c cs ≡ false
 ink_line c cs h = let no : is_break c ≡ false = second_of (is_blank c) (is_break c) h in rw no refl
   where
     second_of : (a b : Bool) → (a || b) ≡ false → b ≡ false
-    second_of false b x = x
-    second_of true b x = absurd (cc)
+    second_of a b x = grind arith
 
 -- one character more of a word
 one_spelled : (f : Bool) (m : Marker) (apart : Bool) (c : ℕ) (cs behind all : List ℕ) → cs ++ behind ≡ all
@@ -65,37 +63,30 @@ one_spelled f m apart c cs behind all is w comment marker more = (
   w.no_nul,
   w.no_mark,
   comment,
-  λ e. subst (λ (l : List ℕ). IsFalse (is_blank_or_breakz (slice_index l 0))) (sym is) (w.colon e),
-  λ e. subst (λ (l : List ℕ). IsFalse (is_document_indicator (c ∷ l))) (sym is) (marker e),
-  subst (λ (b : Bool). IsSpelledPlain (if b then next_line m 1 else along m 1) (is_blank_or_break c) cs behind)
-      (sym (ink_line c (cs ++ behind) w.ink))
-      (subst (λ (b : Bool). IsSpelledPlain (along m 1) b cs behind) (sym w.ink) more),
+  λ e. rw is (w.colon e),
+  λ e. rw is (marker e),
+  rw (ink_line c (cs ++ behind) w.ink) (rw w.ink more),
 )
 
 taken_and_left : (xs y behind : List ℕ) (n : ℕ) → drop n xs ≡ y ++ behind → (take n xs ++ y) ++ behind ≡ xs
-taken_and_left xs y behind n e =
-    append_assoc (take n xs) y behind ∙ ap (λ l. take n xs ++ l) (sym e) ∙ take-append-drop n xs
+taken_and_left xs y behind n e = cc (append_assoc (take n xs) y behind, take-append-drop n xs)
 
 word_tail : (f : Bool) (m : Marker) (xs y behind : List ℕ) → 0 < m.col → drop (word_len f xs) xs ≡ y ++ behind
     → IsSpelledPlain (along m (word_len f xs)) false y behind
     → IsSpelledPlain m false (take (word_len f xs) xs ++ y) behind
-word_tail f m [] y behind some = λ e h. subst (λ x. IsSpelledPlain x false y behind) (along_none m) h
-word_tail f m (c ∷ cs) y behind some =
-    by_test (is_in_word f (c ∷ cs)) (1 + word_len f cs) 0
+word_tail f m [] y behind some = λ e h. rw (along_none m) at h
+word_tail f m (c ∷ cs) y behind some = by_test (is_in_word f (c ∷ cs)) (1 + word_len f cs) 0
     (λ n. drop n (c ∷ cs) ≡ y ++ behind → IsSpelledPlain (along m n) false y behind
-    → IsSpelledPlain m false (take n (c ∷ cs) ++ y) behind)
-    (λ goes.
+    → IsSpelledPlain m false (take n (c ∷ cs) ++ y) behind) (λ goes.
     let n = word_len f cs in
     let one : 1 + n ≡ suc n = omega arith in
     let Goal : ℕ → Type 0 = λ k. drop k (c ∷ cs) ≡ y ++ behind → IsSpelledPlain (along m k) false y behind
     → IsSpelledPlain m false (take k (c ∷ cs) ++ y) behind in
     let next : Goal (suc n) = λ e h.
     one_spelled f m false c (take n cs ++ y) behind cs (taken_and_left cs y behind n e) (word_character f c cs goes)
-    (λ t. absurd (false≢true t)) (λ t. absurd (omega arith))
-    (word_tail f (along m 1) cs y behind (omega arith) e
-    (subst (λ x. IsSpelledPlain x false y behind) (sym (along_more m 1 n (suc n) (omega arith))) h)) in
-    subst Goal (sym one) next)
-    (λ _ e h. subst (λ x. IsSpelledPlain x false y behind) (along_none m) h)
+    (λ t. absurd (false≢true t)) (λ t. absurd (omega arith)) (word_tail f (along m 1) cs y behind (omega arith) e
+    (rw (along_more m 1 n (suc n) (omega arith)) h)) in
+    subst Goal (sym one) next) (λ _ e h. rw (along_none m) at h)
 
 -- where a word may begin
 pub record Begins (m : Marker) (xs : List ℕ) : Type 0 where
@@ -113,8 +104,7 @@ word_spelled f m (c ∷ cs) y behind goes b =
     → IsSpelledPlain m true (take k (c ∷ cs) ++ y) behind in
     let next : Goal (suc n) = λ e h.
     one_spelled f m true c (take n cs ++ y) behind cs (taken_and_left cs y behind n e) (word_character f c cs goes)
-    (λ _. b.comment) b.marker
-    (word_tail f (along m 1) cs y behind (omega arith) e
+    (λ _. b.comment) b.marker (word_tail f (along m 1) cs y behind (omega arith) e
     (subst (λ x. IsSpelledPlain x false y behind) (sym (along_more m 1 n (suc n) (omega arith))) h)) in
     subst Goal (sym here) next
 
@@ -134,8 +124,7 @@ white_character c cs h = by_blank (is_blank c) refl
     Goal x = WhiteCharacter x cs
 
     other : (a b : Bool) → a ≡ false → (a || b) ≡ true → b ≡ true
-    other false b e x = x
-    other true b e x = absurd (cc)
+    other a b e x = grind arith
 
     by_blank : (b : Bool) → is_blank c ≡ b → Goal c
     by_blank true e = blank_cases c e Goal
@@ -174,8 +163,7 @@ white_no_flow : (c : ℕ) → IsTrue (is_blank_or_break c) → is_flow c ≡ fal
 white_no_flow c h = by_blank (is_blank c) refl
   where
     other : (a b : Bool) → a ≡ false → (a || b) ≡ true → b ≡ true
-    other false b e x = x
-    other true b e x = absurd (cc)
+    other a b e x = grind arith
 
     by_blank : (b : Bool) → is_blank c ≡ b → is_flow c ≡ false
     by_blank true e = blank_cases c e (λ x. is_flow x ≡ false) refl refl
@@ -199,9 +187,8 @@ white_spelled m apart (c ∷ v) next behind are none h =
       λ _. w.no_comment,
       λ e. absurd (w.no_colon e),
       λ _. w.no_marker,
-      subst (λ (b : Bool). IsSpelledPlain (if b then next_line m 1 else along m 1) (is_blank_or_break c) (v ++ next)
-          behind) (sym line)
-          (white_spelled (if ends_line c v then next_line m 1 else along m 1) (is_blank_or_break c) v next behind are.1
+      rw line (white_spelled (if ends_line c v then next_line m 1 else along m 1) (is_blank_or_break c) v next behind
+          are.1
           none h),
     )
 
@@ -217,9 +204,7 @@ flow_character c cs h = (
 )
   where
     next : (a b : Bool) → (true && not (a || (true && b))) ≡ true → b ≡ false
-    next false false x = refl
-    next false true x = absurd (cc)
-    next true b x = absurd (cc)
+    next a b x = grind arith
 
     by_colon : (b : Bool) → (c == colon) ≡ b → is_flow c ≡ false
     by_colon true e = ap is_flow (eqb-true c colon e)
@@ -235,10 +220,8 @@ flow_character c cs h = (
 pub word_safe : (xs y behind : List ℕ) → drop (word_len true xs) xs ≡ y ++ behind → IsSafeInFlow y behind
     → IsSafeInFlow (take (word_len true xs) xs ++ y) behind
 word_safe [] y behind = λ e h. h
-word_safe (c ∷ cs) y behind =
-    by_test (is_in_word true (c ∷ cs)) (1 + word_len true cs) 0
-    (λ n. drop n (c ∷ cs) ≡ y ++ behind → IsSafeInFlow y behind → IsSafeInFlow (take n (c ∷ cs) ++ y) behind)
-    (λ goes.
+word_safe (c ∷ cs) y behind = by_test (is_in_word true (c ∷ cs)) (1 + word_len true cs) 0
+    (λ n. drop n (c ∷ cs) ≡ y ++ behind → IsSafeInFlow y behind → IsSafeInFlow (take n (c ∷ cs) ++ y) behind) (λ goes.
     let n = word_len true cs in
     let one : 1 + n ≡ suc n = omega arith in
     let Goal : ℕ → Type 0 = λ k. drop k (c ∷ cs) ≡ y ++ behind → IsSafeInFlow y behind
@@ -246,11 +229,10 @@ word_safe (c ∷ cs) y behind =
     let next : Goal (suc n) = λ e h.
     let w = flow_character c cs goes in (
       w.0,
-      λ k. subst (λ (l : List ℕ). IsFalse (is_flow (slice_index l 0))) (sym (taken_and_left cs y behind n e)) (w.1 k),
+      λ k. rw (taken_and_left cs y behind n e) (w.1 k),
       word_safe cs y behind e h,
     ) in
-    subst Goal (sym one) next)
-    (λ _ e h. h)
+    subst Goal (sym one) next) (λ _ e h. h)
 
 pub white_safe : (v next behind : List ℕ) → AreIn is_blank_or_break v → IsSafeInFlow next behind
     → IsSafeInFlow (v ++ next) behind
@@ -269,12 +251,7 @@ word_follows f xs h =
   where
     by_colon : (e w b f l n : Bool) → (not w && (if e then not n else not (b || (f && l)))) ≡ false
         → (w || b || e || l) ≡ true
-    by_colon e true b f l n x = refl
-    by_colon e false true f l n x = refl
-    by_colon true false false f l n x = refl
-    by_colon false false false f true n x = refl
-    by_colon false false false true false n x = absurd (cc)
-    by_colon false false false false false n x = absurd (cc)
+    by_colon e w b f l n x = grind arith
 
 -- the last character of a word
 pub record Closes (text : List ℕ) : Type 0 where
@@ -303,8 +280,7 @@ begins_here s h = record {
 }
   where
     first_not : (a b : Bool) → (a || b) ≡ false → a ≡ true → ⊥
-    first_not false b x y = absurd (cc)
-    first_not true b x y = absurd (cc)
+    first_not a b x y = grind arith
 
     second_not : (a b d : Bool) → (a || (b && d)) ≡ false → b ≡ true → d ≡ false
     second_not false true d x y = x
@@ -313,8 +289,7 @@ begins_here s h = record {
 
 pub starts_begins : (f : Bool) (s t : Cursor) → word_starts f s ≡ Ok (true, t) → Begins s.mark s.rest
 unfolding word_starts
-starts_begins f s t =
-    by_test ((slice_index s.rest 0 == 35) || ((s.mark.col == 0) && is_document_indicator s.rest)) _ _
+starts_begins f s t = by_test ((slice_index s.rest 0 == 35) || ((s.mark.col == 0) && is_document_indicator s.rest)) _ _
     (λ (r : Result (Bool × Cursor) Refusal). r ≡ Ok (true, t) → Begins s.mark s.rest)
     (λ _ e. absurd (other_answer s t e)) (λ h _. begins_here s h)
 

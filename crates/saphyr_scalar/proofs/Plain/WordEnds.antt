@@ -35,33 +35,24 @@ none_passed s line =
     ∙ ap (λ b. let t : Cursor = record { rest = s.rest; mark = s.mark; blank_so_far = b } in t) (sym line)
 
 gap_before_ink : (i : ℕ) (a : Marker) (s : Cursor) → s.blank_so_far ≡ false
-    → is_blank_or_break (slice_index s.rest 0) ≡ false
-    → gap i a s ≡ Ok (seen_gap false [] s)
+    → is_blank_or_break (slice_index s.rest 0) ≡ false → gap i a s ≡ Ok (seen_gap false [] s)
 unfolding gap gap_from
 gap_before_ink i a s line ink =
     let two = or_parts (is_blank (slice_index s.rest 0)) (is_break (slice_index s.rest 0)) ink in
-    let none : prefix_len is_blank s.rest ≡ 0 = no_run is_blank s.rest two.0 in
-    rw (none, none_passed s line, two.1) refl
+    rw (no_run is_blank s.rest two.0, none_passed s line, two.1) refl
 
 hash_in_word : (f : Bool) (xs : List ℕ) → slice_index xs 0 ≡ number_sign → is_in_word f xs ≡ true
 unfolding is_in_word
-hash_in_word true xs h = rw h refl
-hash_in_word false xs h = rw h refl
+hash_in_word f xs h = grind arith
 
 no_comment : (f : Bool) (s : Cursor) → is_in_word f s.rest ≡ false → comment_of f false s ≡ None
 unfolding comment_of
-no_comment f s ends =
-    by_test (slice_index s.rest 0 == 35) true false (λ _. comment_of f false s ≡ None)
-    (λ is.
-    let hash : slice_index s.rest 0 ≡ 35 = grind (arith, nat_tests) in
-    let goes = hash_in_word f s.rest hash in
-    absurd (cc))
-    (λ is. rw (is, and_false (not f)) refl)
+no_comment f s ends = by_test (slice_index s.rest 0 == 35) true false (λ _. comment_of f false s ≡ None) (λ is.
+    let goes = hash_in_word f s.rest (grind (arith, nat_tests)) in absurd (cc)) (λ is. rw (is, and_false (not f)) refl)
 
 pub scalar_ends : (f : Bool) (i : ℕ) (a : Marker) (text : List ℕ) (s : Cursor) → is_in_word f s.rest ≡ false
     → s.blank_so_far ≡ false → is_blank_or_break (slice_index s.rest 0) ≡ false
     → with_text text (word f i a s.mark s.rest) ≡ Ok (text, s.mark, None, s)
 scalar_ends f i a text s ends line ink =
-    let moved = still_moved f i a text s (seen_gap false [] s) ends line (gap_before_ink i a s line ink) in
-    no_turn f i a text text s s (seen_gap false [] s) s moved (goes_not f i s ends)
-    ∙ ap (λ x. Ok (text, s.mark, x, s)) (no_comment f s ends)
+    no_turn f i a text text s s (seen_gap false [] s) s (still_moved f i a text s (seen_gap false [] s) ends line
+    (gap_before_ink i a s line ink)) (goes_not f i s ends) ∙ ap (λ x. Ok (text, s.mark, x, s)) (no_comment f s ends)

@@ -19,13 +19,10 @@ word_len_more f (c ∷ cs) h = rw h refl
 pub colon_in_word : (f : Bool) (xs : List ℕ) (c next : ℕ) (b : Bool) → c ≡ slice_index xs 0 → c ≡ colon
     → next ≡ slice_index xs 1 → b ≡ not (is_blank_or_breakz next || (f && is_flow next)) → b ≡ is_in_word f xs
 unfolding is_in_word
-colon_in_word f xs c next b first is second e =
-    let here : slice_index xs 0 ≡ 58 = sym first ∙ is in
-    rw (here, ← second) e
+colon_in_word f xs c next b first is second e = rw (sym first ∙ is, ← second) e
 
 pub ink_in_word : (f : Bool) (xs : List ℕ) (c : ℕ) (b : Bool) → c ≡ slice_index xs 0 → c ≢ colon
     → b ≡ (not (is_blank_or_breakz c) && not (is_bom c || (f && is_flow c))) → b ≡ is_in_word f xs
 unfolding is_in_word
 ink_in_word f xs c b first other e =
-    let off : (c == 58) ≡ false = grind (arith, nat_tests) in
-    rw (← first) (rw off e)
+    let off : (c == 58) ≡ false = grind (arith, nat_tests) in rw (← first) (rw off e)

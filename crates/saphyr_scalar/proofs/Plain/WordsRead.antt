@@ -27,9 +27,7 @@ unfolding is_in_word
 in_word_ink f c cs h = by_parts (is_blank c) (is_break c) (is_z c) (can_be_plain f (c ∷ cs)) h
   where
     by_parts : (a b z e : Bool) → (not (a || (b || z)) && e) ≡ true → (a || b) ≡ false
-    by_parts false false z e x = refl
-    by_parts true b z e x = absurd (cc)
-    by_parts false true z e x = absurd (cc)
+    by_parts a b z e x = grind arith
 
 word_ink : (f : Bool) (xs : List ℕ) → AreInk (take (word_len f xs) xs)
 word_ink f [] = tt
@@ -40,10 +38,8 @@ word_ink f (c ∷ cs) =
 
 word_within : (f : Bool) (xs : List ℕ) → word_len f xs ≤ length xs
 word_within f [] = omega arith
-word_within f (c ∷ cs) =
-    by_test (is_in_word f (c ∷ cs)) (1 + word_len f cs) 0 (λ n. n ≤ length (c ∷ cs))
-    (λ _. omega (arith, word_within f cs))
-    (λ _. omega arith)
+word_within f (c ∷ cs) = by_test (is_in_word f (c ∷ cs)) (1 + word_len f cs) 0 (λ n. n ≤ length (c ∷ cs))
+    (λ _. omega (arith, word_within f cs)) (λ _. omega arith)
 
 abbrev pub Read : Type 0
 Read = List ℕ × Marker × Option Marker × Cursor
@@ -80,7 +76,7 @@ front_of f (c ∷ cs) h =
       first = c;
       others = take (word_len f cs) cs;
       is = ap (λ n. take n (c ∷ cs)) here;
-      ink = subst (λ n. AreInk (take n (c ∷ cs))) here (word_ink f (c ∷ cs));
+      ink = rw here at (word_ink f (c ∷ cs));
     }
 
 safe_word : (f : Bool) (xs y behind : List ℕ) → f ≡ true → drop (word_len f xs) xs ≡ y ++ behind
@@ -108,15 +104,12 @@ last_word f i m xs g goes begins w r =
       white = r.white;
       is = sym (take-append-drop n xs) ∙ ap (λ (l : List ℕ). l ++ drop n xs) w.is
           ∙ ap (λ (l : List ℕ). (w.first ∷ w.others) ++ l) r.is;
-      spelled = subst (λ (l : List ℕ). IsSpelledPlain m true l (r.white ++ g.behind.rest))
-          (append-nil (take n xs) ∙ w.is) (word_spelled f m xs [] (r.white ++ g.behind.rest) goes begins r.is tt);
-      safe = λ e. subst (λ (l : List ℕ). IsSafeInFlow l (r.white ++ g.behind.rest)) (append-nil (take n xs) ∙ w.is)
-          (safe_word f xs [] (r.white ++ g.behind.rest) e r.is tt);
+      spelled = rw (append-nil (take n xs) ∙ w.is) at (word_spelled f m xs [] (r.white ++ g.behind.rest) goes begins
+          r.is tt);
+      safe = λ e. rw (append-nil (take n xs) ∙ w.is) at (safe_word f xs [] (r.white ++ g.behind.rest) e r.is tt);
       closes = word_closes w.first w.others w.ink;
-      follows = subst (λ (l : List ℕ). IsTrue (ends_piece (slice_index l 0))) r.is
-          (word_follows f (drop n xs) (word_stops f xs));
-      value = ap encode_utf8_all
-          (ap (λ l. folded (items_of l)) (sym (append-nil (w.first ∷ w.others)))
+      follows = rw r.is at (word_follows f (drop n xs) (word_stops f xs));
+      value = ap encode_utf8_all (ap (λ l. folded (items_of l)) (sym (append-nil (w.first ∷ w.others)))
           ∙ folded_word (w.first ∷ w.others) [] w.ink ∙ append-nil (w.first ∷ w.others) ∙ sym w.is)
           ∙ sym (append-nil (encode_utf8_all (take n xs)));
       ends = ap (end_of_text m) (sym (append-nil (w.first ∷ w.others))) ∙ passed_word m (w.first ∷ w.others) [] w.ink
@@ -145,22 +138,19 @@ word_more f i m xs g x goes begins w on r b =
     let left : drop n xs ≡ (r.white ++ next) ++ rest = r.is ∙ ap (λ (l : List ℕ). r.white ++ l) b.is
     ∙ sym (append_assoc r.white next rest) in
     let behind : IsSpelledPlain (along m n) false (r.white ++ next) rest =
-    white_spelled (along m n) false r.white next rest r.are (ink_no_feed b.first b.ink)
-    (subst (λ y. IsSpelledPlain y true next rest) (sym r.place) b.spelled) in
+    white_spelled (along m n) false r.white next rest r.are (ink_no_feed b.first b.ink) (rw r.place b.spelled) in
     record {
       first = w.first;
       others = w.others ++ (r.white ++ next);
       ink = w.ink.0;
       white = b.white;
-      spelled = subst (λ (l : List ℕ). IsSpelledPlain m true (l ++ (r.white ++ next)) rest) w.is
-          (word_spelled f m xs (r.white ++ next) rest goes begins left behind);
-      safe = λ e. subst (λ (l : List ℕ). IsSafeInFlow (l ++ (r.white ++ next)) rest) w.is
-          (safe_word f xs (r.white ++ next) rest e left (white_safe r.white next rest r.are (b.safe e)));
+      spelled = rw w.is at (word_spelled f m xs (r.white ++ next) rest goes begins left behind);
+      safe = λ e. rw w.is at (safe_word f xs (r.white ++ next) rest e left
+          (white_safe r.white next rest r.are (b.safe e)));
       closes = record {
         front = word ++ (r.white ++ b.closes.front);
         last = b.closes.last;
-        is = ap (λ (l : List ℕ). word ++ l)
-            (ap (λ (l : List ℕ). r.white ++ l) b.closes.is
+        is = ap (λ (l : List ℕ). word ++ l) (ap (λ (l : List ℕ). r.white ++ l) b.closes.is
             ∙ sym (append_assoc r.white b.closes.front (b.closes.last ∷ [])))
             ∙ sym (append_assoc word (r.white ++ b.closes.front) (b.closes.last ∷ []));
         ink = b.closes.ink;
@@ -169,8 +159,7 @@ word_more f i m xs g x goes begins w on r b =
       is = text ∙ ap (λ (l : List ℕ). word ++ l) (sym (append_assoc r.white next rest))
           ∙ sym (append_assoc word (r.white ++ next) rest);
       value = ap encode_utf8_all read ∙ encodes-append word (r.value ++ folded (items_of next))
-          ∙ ap (λ (l : List ℕ). encode_utf8_all word ++ l)
-          (encodes-append r.value (folded (items_of next))
+          ∙ ap (λ (l : List ℕ). encode_utf8_all word ++ l) (encodes-append r.value (folded (items_of next))
           ∙ ap (λ (l : List ℕ). l ++ encode_utf8_all (folded (items_of next))) r.text
           ∙ ap (λ (l : List ℕ). g.text ++ l) b.value)
           ∙ ap (λ (l : List ℕ). encode_utf8_all l ++ (g.text ++ x.0)) (sym w.is);
@@ -181,8 +170,7 @@ word_more f i m xs g x goes begins w on r b =
       behind = b.behind;
       later = later_append (IsPlainLine f i) word (r.white ++ next) rest
           (later_ink (IsPlainLine f i) word ((r.white ++ next) ++ rest) w.ink)
-          (later_append (IsPlainLine f i) r.white next rest
-          (subst (AreLaterLines (IsPlainLine f i) r.white) b.is
+          (later_append (IsPlainLine f i) r.white next rest (rw b.is at
           (later_weaken (IsLine i g.behind) (IsPlainLine f i) (λ line is. is f on) r.white g.behind.rest r.later))
           b.later);
     }

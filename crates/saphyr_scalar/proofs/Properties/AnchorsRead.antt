@@ -40,15 +40,13 @@ at_name m indicator name x (some, are) ends =
 pub reads_anchor : (s : Cursor) (indicator : ℕ) (name x : List ℕ) → s.rest ≡ indicator ∷ (name ++ x) → IsAnchorName name
     → is_anchor_char (slice_index x 0) ≡ false
     → anchor s ≡ Ok (encode_utf8_all name, mid_line (along s.mark (1 + length name)) x)
-reads_anchor s indicator name x e is ends =
-    anchor_same s ∙ ap (λ u. anchor (mid_line s.mark u)) e ∙ at_name s.mark indicator name x is ends
+reads_anchor s indicator name x e is ends = cc (anchor_same s, at_name s.mark indicator name x is ends)
 
 no_bytes : (v : List ℕ) → v ≡ [] → nat_eq (length (encode_utf8_all v)) 0 ≡ true
 no_bytes v e = rw e refl
 
 abbrev Spelled : Cursor → List ℕ → Cursor → Type 0
-Spelled s text t =
-    (indicator : ℕ) × (name : List ℕ) × (s.rest ≡ indicator ∷ (name ++ t.rest)) × IsAnchorName name
+Spelled s text t = (indicator : ℕ) × (name : List ℕ) × (s.rest ≡ indicator ∷ (name ++ t.rest)) × IsAnchorName name
     × (is_anchor_char (slice_index t.rest 0) ≡ false) × (t ≡ mid_line (along s.mark (1 + length name)) t.rest)
     × (encode_utf8_all name ≡ text)
 
@@ -68,9 +66,6 @@ spells_anchor s t text some =
     let pair : (encode_utf8_all name, pass n (pass 1 s)) ≡ (text, t) = cc in
     let left : mid_line (along (along s.mark 1) n) (drop n xs) ≡ t = ap (λ (x : List ℕ × Cursor). x.1) pair in
     let rest : drop n xs ≡ t.rest = ap (λ (x : Cursor). x.rest) left in
-    let whole : s.rest ≡ slice_index s.rest 0 ∷ (name ++ t.rest) =
-    first_and_rest s.rest some
-    ∙ ap (λ u. slice_index s.rest 0 ∷ u) (sym (take-append-drop n xs) ∙ ap (λ u. name ++ u) rest) in
     let count : length name ≡ n = length-take-le n xs (prefix_len-le-length is_anchor_char xs) in
     let ends : is_anchor_char (slice_index t.rest 0) ≡ false = rw (← rest) (run_ends is_anchor_char xs refl) in
     let place : t ≡ mid_line (along s.mark (1 + length name)) t.rest =
@@ -78,7 +73,8 @@ spells_anchor s t text some =
     ∙ ap (λ k. mid_line k t.rest) (along_more s.mark 1 n (1 + length name) (omega arith)) in (
       slice_index s.rest 0,
       name,
-      whole,
+      (first_and_rest s.rest some
+          ∙ ap (λ u. slice_index s.rest 0 ∷ u) (sym (take-append-drop n xs) ∙ ap (λ u. name ++ u) rest)),
       ((λ none. let k : false ≡ true = sym there ∙ no_bytes name none in false≢true k), run_is_in is_anchor_char xs),
       ends,
       place,

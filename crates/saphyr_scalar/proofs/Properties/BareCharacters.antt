@@ -26,17 +26,14 @@ bare_passed : (set : UriSet) (start m : Marker) (c : ℕ) (cs : List ℕ) → is
 unfolding decoded_characters uri_character
 bare_passed set start m c cs h =
     let two = both_true (not (c == 37)) (is_in_set set c) h in
-    let other = not-true (c == 37) two.0 in
-    rw (two.1, other) refl
+    let other = not-true (c == 37) two.0 in rw (two.1, other) refl
 
 abbrev DecodedPiece : UriSet → Marker → Marker → List ℕ → ℕ → Type 0
-DecodedPiece set start m xs n =
-    decoded_characters set start 0 m xs ≡ with_front (encode_utf8_all (take n xs))
+DecodedPiece set start m xs n = decoded_characters set start 0 m xs ≡ with_front (encode_utf8_all (take n xs))
     (decoded_characters set start 0 (along m n) (drop n xs))
 
 no_piece : (set : UriSet) (start m : Marker) (xs : List ℕ) → DecodedPiece set start m xs 0
-no_piece set start m xs = sym (no_front _) ∙ ap (λ x. with_front [] (decoded_characters set start 0 x xs))
-    (sym (along_none m))
+no_piece set start m xs = cc (no_front _, along_none m)
 
 run_piece : (set : UriSet) (start m : Marker) (xs : List ℕ) → DecodedPiece set start m xs (prefix_len (is_bare set) xs)
 run_piece set start m [] = no_piece set start m []
@@ -44,16 +41,13 @@ run_piece set start m (c ∷ cs) =
     let n = prefix_len (is_bare set) cs in
     let one : 1 + n ≡ suc n = omega arith in
     by_test (is_bare set c) (1 + n) 0 (DecodedPiece set start m (c ∷ cs))
-    (λ h. rw one
-    (bare_passed set start m c cs h ∙ ap (with_front (encode_utf8 c)) (run_piece set start (along m 1) cs)
+    (λ h. rw one (bare_passed set start m c cs h ∙ ap (with_front (encode_utf8 c)) (run_piece set start (along m 1) cs)
     ∙ front_twice (encode_utf8 c) (encode_utf8_all (take n cs)) _
     ∙ ap (λ x. with_front (encode_utf8 c ++ encode_utf8_all (take n cs)) (decoded_characters set start 0 x (drop n cs)))
-    (along_more m 1 n (suc n) (omega arith))))
-    (λ _. no_piece set start m (c ∷ cs))
+    (along_more m 1 n (suc n) (omega arith)))) (λ _. no_piece set start m (c ∷ cs))
 
 no_bare_nul : (set : UriSet) → is_bare set 0 ≡ false
-no_bare_nul Uri = refl
-no_bare_nul Suffix = refl
+no_bare_nul set = grind arith
 
 -- characters that begin no escape were moved, and c comes next
 pub record BareTurn (set : UriSet) (start : Marker) (text grown : List ℕ) (s t : Cursor) (c : ℕ) : Type 0 where
@@ -89,13 +83,11 @@ bare_turn set start text grown s u t c moved read same =
     no_escape c x seen other = grind (arith, nat_tests)
 
     second : (a b : Bool) → a ≡ false → (not a && b) ≡ false → b ≡ false
-    second true b is h = absurd (cc)
-    second false b is h = h
+    second a b is h = grind arith
 
 -- an escape stands for a character of the set
 pub escape_in_set : (set : UriSet) (c : ℕ) → c ≡ percent_sign → is_in_set set c ≡ true
-escape_in_set Uri c e = rw e refl
-escape_in_set Suffix c e = rw e refl
+escape_in_set set c e = grind arith
 
 pub escape_is_character : (start : Marker) (s : Cursor) → slice_index s.rest 0 ≡ percent_sign
     → uri_character start s ≡ percent_escape start s

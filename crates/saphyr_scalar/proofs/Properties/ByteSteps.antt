@@ -26,10 +26,8 @@ pub byte_on : (start : Marker) (s u t : Cursor) (a b : ℕ) → ShowsByte u.rest
 unfolding escaped_byte
 byte_on start s u t a b shows same on =
     let percent : (slice_index u.rest 0 == 37) ≡ true = test _ shows.first in
-    let here : escaped_byte start u ≡ Ok (byte_value u.rest, pass 3 u) = rw (percent, shows.high, shows.low) refl in
-    ap (escaped_byte start) (sym same) ∙ here
-    ∙ ap (λ n. let r : Result (ℕ × Cursor) Refusal = Ok (n, pass 3 u) in r)
-    (byte_is a b _ _ shows.high_is shows.low_is)
+    ap (escaped_byte start) (sym same) ∙ (rw (percent, shows.high, shows.low) refl) ∙ ap
+    (λ n. let r : Result (ℕ × Cursor) Refusal = Ok (n, pass 3 u) in r) (byte_is a b _ _ shows.high_is shows.low_is)
     ∙ ap (λ x. let r : Result (ℕ × Cursor) Refusal = Ok (a * 16 + b, x) in r) (sym on)
   where
     test : (x : ℕ) → x ≡ 37 → (x == 37) ≡ true
@@ -56,8 +54,7 @@ pub byte_grows : (start : Marker) (v b : ℕ) (s t : Cursor) → escaped_byte st
     → trailing_byte start v s ≡ Ok (v * 64 + (b - 0x80), t)
 unfolding trailing_byte
 byte_grows start v b s t read from to =
-    let is : is_trailing b ≡ true = grind (arith, nat_tests) in
-    rw (read, is) refl
+    let is : is_trailing b ≡ true = grind (arith, nat_tests) in rw (read, is) refl
 
 pub grown_small : (v b : ℕ) → b < 0xC0 → v * 64 + (b - 0x80) < 64 * v + 64
 grown_small v b to = omega arith

@@ -18,16 +18,13 @@ use Rattle.saphyr_input.proofs.Basics.Booleans.{and_true_left, and_true_right, e
 
 from_is : (a b c : ℕ) → (nat_le a c && nat_le c b) ≡ true → (a ≤ c) × (c ≤ b)
 from_is a b c h =
-    let low = and_true_left (nat_le a c) (nat_le c b) h in
     let high = and_true_right (nat_le a c) (nat_le c b) h in
     (grind (arith, nat_tests), grind (arith, nat_tests))
 
 hex_is : (c : ℕ) → is_hex c ≡ true → IsHex c
-hex_is c h =
-    either (is_digit c || is_from 97 102 c) (is_from 65 70 c) (IsHex c) h
+hex_is c h = either (is_digit c || is_from 97 102 c) (is_from 65 70 c) (IsHex c) h
     (λ h. either (is_digit c) (is_from 97 102 c) (IsHex c) h (λ d. inl (from_is 48 57 c d))
-    (λ d. inr (inl (from_is 97 102 c d))))
-    (λ d. inr (inr (from_is 65 70 c d)))
+    (λ d. inr (inl (from_is 97 102 c d)))) (λ d. inr (inr (from_is 65 70 c d)))
 
 pub record ByteOf (b : ℕ) (m : Marker) (xs : List ℕ) (u : Cursor) : Type 0 where
   pub high : ℕ
@@ -42,18 +39,10 @@ no_hex : (b : Bool) (c : ℕ) (P : Type 0) → is_hex c ≡ false → (b && is_h
 no_hex b c P fails h = let k : false ≡ true = sym fails ∙ and_true_right b (is_hex c) h in absurd (false≢true k)
 
 byte_shown : (xs : List ℕ) → shows_byte xs ≡ true → xs ≡ percent_sign ∷ slice_index xs 1 ∷ slice_index xs 2 ∷ drop 3 xs
-byte_shown [] h = absurd (cc)
-byte_shown (x ∷ []) h = no_hex _ 0 _ refl h
-byte_shown (x ∷ y ∷ []) h = no_hex _ 0 _ refl h
-byte_shown (x ∷ y ∷ z ∷ xs) h =
-    let first : nat_eq x 37 ≡ true = and_true_left (nat_eq x 37) (is_hex y)
-    (and_true_left (nat_eq x 37 && is_hex y) (is_hex z) h) in
-    let is : x ≡ 37 = grind (arith, nat_tests) in
-    rw is refl
+byte_shown xs h = grind arith
 
 pub byte_spelled : (start m : Marker) (xs : List ℕ) (b : ℕ) (u : Cursor)
-    → escaped_byte start (mid_line m xs) ≡ Ok (b, u)
-    → ByteOf b m xs u
+    → escaped_byte start (mid_line m xs) ≡ Ok (b, u) → ByteOf b m xs u
 unfolding escaped_byte
 byte_spelled start m xs b u h =
     let is = cond_ok (shows_byte xs) (byte_value xs, mid_line (along m 3) (drop 3 xs)) (b, u)
@@ -103,8 +92,7 @@ trailing_byte_spelled start m v xs w u h =
       byte = one.given.0;
       trailing = is.test;
       says = ap (λ (x : ℕ × Cursor). x.0) is.same;
-      is = subst (λ (y : Cursor). ByteOf one.given.0 m xs y) left
-          (byte_spelled start m xs one.given.0 one.given.1 one.first);
+      is = rw left at (byte_spelled start m xs one.given.0 one.given.1 one.first);
     }
 
 pub escape_of_byte : (b : ℕ) (m : Marker) (xs : List ℕ) (u : Cursor) (is : ByteOf b m xs u)
@@ -134,7 +122,7 @@ trailing_spelled start m (suc n) v xs w u h =
     let first = trailing_byte_spelled start m v xs one.given.0 one.given.1 one.first in
     let byte = first.is in
     let here = one.given.1 in
-    let next = subst (λ (y : Cursor). trailing_bytes start n one.given.0 y ≡ Ok (w, u)) byte.place one.next in
+    let next = rw byte.place at one.next in
     let others = trailing_spelled start (along m 3) n one.given.0 here.rest w u next in
     let escape = 37 ∷ byte.high ∷ byte.low ∷ [] in
     record {

@@ -124,12 +124,11 @@ unfolding encode
 four_bytes c h lt s =
     let b = 240 + c / 262144 in
     let low : 0xF0 ≤ b = omega arith in
-    let high : b < 0xF8 = omega arith in
     record {
       first = b;
       others = (128 + c / 4096 % 64) ∷ (128 + c / 64 % 64) ∷ (128 + c % 64) ∷ [];
       is = rw (le-ltb c 0x80 (omega arith), le-ltb c 0x800 (omega arith), le-ltb c 0x1_0000 h) refl;
-      width = width_four b low high;
+      width = width_four b low (omega arith);
       trailing = (trailing_true (c / 4096), (trailing_true (c / 64), (trailing_true c, tt)));
       says = rw (bits_four b low) (omega arith);
       shortest = rw (s, le-ltb c 0x80 (omega arith), le-ltb c 0x800 (omega arith), le-ltb c 0x1_0000 h) refl;

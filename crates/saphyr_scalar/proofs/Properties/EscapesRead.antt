@@ -47,12 +47,11 @@ unfolding trailing_bytes
 trailing_read start m [] v t y tails e = rw (e, along_none m) refl
 trailing_read start m (b ∷ bs) v t y (tail, tails) (percent_escape, more, is_byte, are_more, e) =
     let whole : t ++ y ≡ percent_escape ++ (more ++ y) = ap (λ u. u ++ y) e ∙ append_assoc percent_escape more y in
-    let len : length t ≡ 3 + length more = rw (e, length-append) (omega (arith, byte_len b percent_escape is_byte)) in
     ap (λ u. trailing_behind start (length bs) (trailing_byte start v (mid_line m u))) whole
     ∙ ap (trailing_behind start (length bs)) (trailing_byte_read start m b v percent_escape (more ++ y) tail is_byte)
     ∙ trailing_read start (along m 3) bs (v * 64 + (b - 0x80)) more y tails are_more
     ∙ ap (λ k. number_given (joined_bytes (v * 64 + (b - 0x80)) bs) (mid_line k y))
-    (along_more m 3 (length more) (length t) len)
+    (along_more m 3 (length more) (length t) (rw (e, length-append) (omega (arith, byte_len b percent_escape is_byte))))
 
 -- the bytes after the first one are read, and the character that they all stand for
 leading_read : (start : Marker) (b n c : ℕ) (s t : Cursor) → utf8_width b ≡ suc n
@@ -61,12 +60,11 @@ leading_read : (start : Marker) (b n c : ℕ) (s t : Cursor) → utf8_width b �
 unfolding behind_leading_byte encoded_character
 leading_read start b n c s t width read shortest =
     let some : nat_eq (suc n) 0 ≡ false = grind (arith, nat_tests) in
-    let less : suc n - 1 ≡ n = omega arith in
-    rw (width, some, less, read, shortest) refl
+    let less : suc n - 1 ≡ n = omega arith in rw (width, some, less, read, shortest) refl
 
 escape_parts : (c : ℕ) (b : Bytes c) (t : List ℕ) → AreByteEscapes (encode_utf8 c) t
     → AreByteEscapes (b.first ∷ b.others) t
-escape_parts c b t h = subst (λ bs. AreByteEscapes bs t) b.is h
+escape_parts c b t h = rw b.is at h
 
 behind_first_byte : Marker → Result (ℕ × Cursor) Refusal → Result (ℕ × Cursor) Refusal
 behind_first_byte start r = r >>= λ b. behind_leading_byte start b.0 b.1
@@ -78,17 +76,13 @@ escape_bytes_read start m c b t y (percent_escape, more, is_byte, are_more, e) =
     let whole : t ++ y ≡ percent_escape ++ (more ++ y) = ap (λ u. u ++ y) e ∙ append_assoc percent_escape more y in
     let len : length t ≡ 3 + length more = rw (e, length-append)
     (omega (arith, byte_len b.first percent_escape is_byte)) in
-    let others : trailing_bytes start (length b.others) (leading_bits b.first) (mid_line (along m 3) (more ++ y))
-    ≡ Ok (c, mid_line (along m (length t)) y) =
-    trailing_read start (along m 3) b.others (leading_bits b.first) more y b.trailing are_more
-    ∙ ap (λ k. number_given (joined_bytes (leading_bits b.first) b.others) (mid_line k y))
-    (along_more m 3 (length more) (length t) len)
-    ∙ ap (λ v. number_given v (mid_line (along m (length t)) y)) b.says in
     ap (λ u. behind_first_byte start (escaped_byte start (mid_line m u))) whole
     ∙ ap (behind_first_byte start) (byte_read start m b.first percent_escape (more ++ y) is_byte)
     ∙ leading_read start b.first (length b.others) c (mid_line (along m 3) (more ++ y))
-    (mid_line (along m (length t)) y) b.width
-    others b.shortest
+    (mid_line (along m (length t)) y) b.width (trailing_read start (along m 3) b.others (leading_bits b.first) more y
+    b.trailing are_more ∙ ap (λ k. number_given (joined_bytes (leading_bits b.first) b.others) (mid_line k y))
+    (along_more m 3 (length more) (length t) len) ∙ ap (λ v. number_given v (mid_line (along m (length t)) y)) b.says)
+    b.shortest
 
 -- a character that is escaped is read
 escape_read : (start m : Marker) (c : ℕ) (t y : List ℕ) → IsScalarValue c → AreByteEscapes (encode_utf8 c) t
@@ -109,14 +103,12 @@ pub character_read : (set : ℕ → Bool) (start m : Marker) (c : ℕ) (t y : Li
     → uri_character start (mid_line m (t ++ y)) ≡ Ok (c, mid_line (along m (length t)) y)
 unfolding uri_character
 character_read set start m c t y (inl (in_set, plain, e)) =
-    let no : nat_eq c 37 ≡ false = grind (arith, nat_tests) in
-    rw (e, no) refl
+    let no : nat_eq c 37 ≡ false = grind (arith, nat_tests) in rw (e, no) refl
 character_read set start m c t y (inr (scalar, escaped)) =
     rw (escape_first c t y scalar escaped) (escape_read start m c t y scalar escaped)
 
 has_percent : (set : UriSet) → is_in_set set 37 ≡ true
-has_percent Uri = refl
-has_percent Suffix = refl
+has_percent set = grind arith
 
 pub character_first : (set : UriSet) (c : ℕ) (t y : List ℕ) → IsCharacter (is_in_set set) c t
     → is_in_set set (slice_index (t ++ y) 0) ≡ true
@@ -129,10 +121,9 @@ pub decoded_read : (set : UriSet) (start m : Marker) (v t x : List ℕ) → IsDe
     → decoded_characters set start 0 m (t ++ x) ≡ Ok (encode_utf8_all v, mid_line (along m (length t)) x)
 decoded_read set start m [] t x e ends = rw (e, along_none m) (ends_at set start m x ends)
 decoded_read set start m (c ∷ v) t x (character, more, is, others, e) ends =
-    let whole : t ++ x ≡ character ++ (more ++ x) = ap (λ u. u ++ x) e ∙ append_assoc character more x in
     let len : length t ≡ length character + length more = rw (e, length-append) refl in
     let there = along m (length character) in
-    ap (decoded_characters set start 0 m) whole
+    ap (decoded_characters set start 0 m) (ap (λ u. u ++ x) e ∙ append_assoc character more x)
     ∙ decoded_one_more set start m (character ++ (more ++ x)) (character_first set c character (more ++ x) is)
     ∙ ap (reads_on set start) (character_read (is_in_set set) start m c character (more ++ x) is)
     ∙ ap (with_front (encode_utf8 c)) (decoded_read set start there v more x others ends)

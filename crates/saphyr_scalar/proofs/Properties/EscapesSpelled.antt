@@ -45,7 +45,7 @@ leading_spelled start b c s u h =
     record {
       some = some.test;
       trailing = one.first ∙ ap (λ (x : ℕ × Cursor). let r : Result (ℕ × Cursor) Refusal = Ok x in r) last.same;
-      shortest = subst (λ (x : ℕ × Cursor). is_encoded w x.0 ≡ true) last.same last.test;
+      shortest = rw last.same at last.test;
     }
 
 pub record EscapeOf (c : ℕ) (m : Marker) (xs : List ℕ) (u : Cursor) : Type 0 where
@@ -56,8 +56,7 @@ pub record EscapeOf (c : ℕ) (m : Marker) (xs : List ℕ) (u : Cursor) : Type 0
   pub place : u ≡ mid_line (along m (length piece)) u.rest
 
 pub escape_spelled : (start m : Marker) (xs : List ℕ) (c : ℕ) (u : Cursor)
-    → percent_escape start (mid_line m xs) ≡ Ok (c, u)
-    → EscapeOf c m xs u
+    → percent_escape start (mid_line m xs) ≡ Ok (c, u) → EscapeOf c m xs u
 unfolding percent_escape
 escape_spelled start m xs c u h =
     let one = bind_ok (escaped_byte start (mid_line m xs)) (λ (b : ℕ × Cursor). behind_leading_byte start b.0 b.1)
@@ -67,8 +66,7 @@ escape_spelled start m xs c u h =
     let byte = byte_spelled start m xs b here one.first in
     let behind = leading_spelled start b c here u one.next in
     let w = utf8_width b in
-    let read = subst (λ (y : Cursor). trailing_bytes start (w - 1) (leading_bits b) y ≡ Ok (c, u)) byte.place
-    behind.trailing in
+    let read = rw byte.place at behind.trailing in
     let others = trailing_spelled start (along m 3) (w - 1) (leading_bits b) here.rest c u read in
     let some = behind.some in
     let count = others.count in
@@ -82,7 +80,7 @@ escape_spelled start m xs c u h =
     record {
       piece = percent_escape ++ others.piece;
       scalar = scalar_is c (and_true_left (is_scalar_value c) (nat_eq (len_utf8 c) w) behind.shortest);
-      escaped = subst (λ (bs : List ℕ). AreByteEscapes bs (percent_escape ++ others.piece)) (sym utf8) are;
+      escaped = rw utf8 are;
       text = byte.text ∙ ap (λ r. 37 ∷ byte.high ∷ byte.low ∷ r) others.text;
       place = others.place ∙ ap (λ k. mid_line k u.rest)
           (along_more m 3 (length others.piece) (length (percent_escape ++ others.piece))
@@ -97,19 +95,15 @@ pub record CharacterOf (set : ℕ → Bool) (c : ℕ) (m : Marker) (xs : List �
 
 first_of_set : (set : ℕ → Bool) (xs : List ℕ) → set 0 ≡ false → set (slice_index xs 0) ≡ true
     → xs ≡ slice_index xs 0 ∷ drop 1 xs
-first_of_set set [] nul h = let k : false ≡ true = sym nul ∙ h in absurd (false≢true k)
-first_of_set set (c ∷ cs) nul h = refl
+first_of_set set xs nul h = grind arith
 
 pub character_spelled : (set : ℕ → Bool) (start m : Marker) (xs : List ℕ) (c : ℕ) (u : Cursor) → set 0 ≡ false
     → set (slice_index xs 0) ≡ true → uri_character start (mid_line m xs) ≡ Ok (c, u) → CharacterOf set c m xs u
 unfolding uri_character
-character_spelled set start m xs c u nul in_set =
-    by_test (nat_eq (slice_index xs 0) 37) _ _
-    (λ (r : Result (ℕ × Cursor) Refusal). r ≡ Ok (c, u) → CharacterOf set c m xs u)
-    (λ _ h.
+character_spelled set start m xs c u nul in_set = by_test (nat_eq (slice_index xs 0) 37) _ _
+    (λ (r : Result (ℕ × Cursor) Refusal). r ≡ Ok (c, u) → CharacterOf set c m xs u) (λ _ h.
     let is = escape_spelled start m xs c u h in
-    record { piece = is.piece; is = inr (is.scalar, is.escaped); text = is.text; place = is.place })
-    (λ plain h.
+    record { piece = is.piece; is = inr (is.scalar, is.escaped); text = is.text; place = is.place }) (λ plain h.
     let same = ok_same (slice_index xs 0, mid_line (along m 1) (drop 1 xs)) (c, u) h in
     let first : slice_index xs 0 ≡ c = ap (λ (x : ℕ × Cursor). x.0) same in
     let left : mid_line (along m 1) (drop 1 xs) ≡ u = ap (λ (x : ℕ × Cursor). x.1) same in
@@ -117,7 +111,7 @@ character_spelled set start m xs c u nul in_set =
     let other : c ≢ 37 = λ (e : c ≡ 37). let e2 : slice_index xs 0 ≡ 37 = first ∙ e in grind (arith, nat_tests) in
     record {
       piece = c ∷ [];
-      is = inl (subst (λ (x : ℕ). set x ≡ true) first in_set, other, refl);
+      is = inl (rw first at in_set, other, refl);
       text = first_of_set set xs nul in_set ∙ ap (λ (x : ℕ). x ∷ drop 1 xs) first ∙ ap (λ r. c ∷ r) rest;
       place = sym left ∙ ap (mid_line (along m 1)) rest;
     })
@@ -132,8 +126,7 @@ pub record DecodedOf (set : UriSet) (m : Marker) (xs text : List ℕ) (t : Curso
   pub place : t ≡ mid_line (along m (length piece)) t.rest
 
 nul_out : (set : UriSet) → is_in_set set 0 ≡ false
-nul_out Uri = refl
-nul_out Suffix = refl
+nul_out set = grind arith
 
 decoded_none : (set : UriSet) (start m : Marker) (xs text : List ℕ) (t : Cursor)
     → is_in_set set (slice_index xs 0) ≡ false
@@ -200,8 +193,7 @@ decoded_more set start m xs text t one others =
       bytes = ap (λ b. encode_utf8 one.c ++ b) others.bytes ∙ one.bytes;
       rest = one.first.text ∙ ap (λ r. first ++ r) others.rest ∙ sym (append_assoc first others.piece t.rest);
       ends = others.ends;
-      place = others.place ∙ ap (λ k. mid_line k t.rest)
-          (along_more m (length first) (length others.piece) (length piece) (length-append first others.piece));
+      place = cc (along_more m (length first) (length others.piece) (length piece) (length-append first others.piece));
     }
 
 decoded_from : (set : UriSet) (start : Marker) (n : ℕ) (m : Marker) (xs text : List ℕ) (t : Cursor) → length xs ≤ n
@@ -210,13 +202,11 @@ decoded_from set start zero m xs text t le h =
     by_test {A = Unit {0}} (is_in_set set (slice_index xs 0)) tt tt (λ _. DecodedOf set m xs text t)
     (λ more. absurd (omega (arith, has_left set xs more))) (λ stop. decoded_none set start m xs text t stop h)
 decoded_from set start (suc n) m xs text t le h =
-    by_test {A = Unit {0}} (is_in_set set (slice_index xs 0)) tt tt (λ _. DecodedOf set m xs text t)
-    (λ more.
+    by_test {A = Unit {0}} (is_in_set set (slice_index xs 0)) tt tt (λ _. DecodedOf set m xs text t) (λ more.
     let one = one_character set start m xs text t more h in
     decoded_more set start m xs text t one
     (decoded_from set start n (along m (length one.first.piece)) one.here.rest one.others t
-    (omega (arith, one.shorter)) one.next))
-    (λ stop. decoded_none set start m xs text t stop h)
+    (omega (arith, one.shorter)) one.next)) (λ stop. decoded_none set start m xs text t stop h)
 
 -- characters of a set that were read
 pub decoded_spelled : (set : UriSet) (start m : Marker) (xs text : List ℕ) (t : Cursor)

@@ -26,8 +26,7 @@ trailing_first : (start : Marker) (n i v : ℕ) (s : Cursor) → i < n
     → trailing_bytes start (n - i) v s ≡ (trailing_byte start v s >>= λ x. trailing_bytes start (n - (i + 1)) x.0 x.1)
 unfolding trailing_bytes
 trailing_first start n i v s lt =
-    let e : n - i ≡ suc (n - (i + 1)) = omega arith in
-    ap (λ k. trailing_bytes start k v s) e
+    let e : n - i ≡ suc (n - (i + 1)) = omega arith in ap (λ k. trailing_bytes start k v s) e
 
 -- a byte that was read of several
 pub trailing_on : (start : Marker) (n i v w : ℕ) (s t : Cursor) → i < n → trailing_byte start v s ≡ Ok (w, t)
@@ -37,8 +36,7 @@ trailing_on start n i v w s t lt e =
 
 pub trailing_refused : (start : Marker) (n i v : ℕ) (s : Cursor) (r : Refusal) → i < n → trailing_byte start v s ≡ Err r
     → trailing_bytes start (n - i) v s ≡ Err r
-trailing_refused start n i v s r lt e =
-    trailing_first start n i v s lt ∙ ap (λ r. r >>= λ x. trailing_bytes start (n - (i + 1)) x.0 x.1) e
+trailing_refused start n i v s r lt e = cc (trailing_first start n i v s lt)
 
 -- what one byte more says
 pub bits_below : (i v w : ℕ) → v < 256 * 64 ^ i → w < 64 * v + 64 → w < 256 * 64 ^ (i + 1)
@@ -49,8 +47,7 @@ pub bits_fit : (i v : ℕ) → v < 256 * 64 ^ i → i < 3 → v < 2 ^ 24
 bits_fit i v lt few =
     let two : i ≤ 2 = omega arith in
     let some : 0 < 64 = omega arith in
-    let le : 64 ^ i ≤ 64 ^ 2 = pow-le-pow_right some two in
-    omega (arith, le)
+    let le : 64 ^ i ≤ 64 ^ 2 = pow-le-pow_right some two in omega (arith, le)
 
 -- a refusal that `?` hands on
 pub gives_refused : {X Y : Type 0} (view : X → Y) (r : Result X Refusal) (f : Result Y Refusal) (refusal : Refusal)
@@ -62,8 +59,7 @@ gives_refused view (Err r) f refusal h e = e ∙ ap Err (sym h)
 
 places_added : (m : Marker) (xs : List ℕ) (a b n : ℕ) → n ≡ a + b
     → mid_line (along (along m a) b) (drop b (drop a xs)) ≡ mid_line (along m n) (drop n xs)
-places_added m xs a b n e = ap (λ x. mid_line x (drop b (drop a xs))) (along_more m a b n e)
-    ∙ ap (mid_line (along m n)) (drop_more b a n xs e)
+places_added m xs a b n e = cc (along_more m a b n e, drop_more b a n xs e)
 
 -- what is read after a place is read after the one before it
 then_further : (m : Marker) (xs : List ℕ) (a b n : ℕ) (r : Result (ℕ × Cursor) Refusal) → n ≡ a + b
@@ -80,7 +76,7 @@ unfolding trailing_byte
 trailing_place start m v xs = then_ends m xs 3 (escaped_byte start (mid_line m xs)) _ (λ b is.
     let place = byte_place start m xs b is in
     by_test (is_trailing b.0) _ _ (EscapeEnds m xs 3)
-    (λ _. subst (λ x. EscapeEnds m xs 3 (Ok (v * 64 + (b.0 - 0x80), x))) (sym place) (read m xs 3 _))
+    (λ _. rw place (read m xs 3 _))
     (λ _. refused_ends m xs 3 (record { text = fault.TagEscapeTrailingByte; mark = start })))
 
 bytes_place : (start m : Marker) (n v : ℕ) (xs : List ℕ)
@@ -94,8 +90,7 @@ bytes_place start m (suc n) v xs = then_ends m xs (3 * suc n) (trailing_byte sta
 encoded_place : (start m : Marker) (width v n : ℕ) (xs : List ℕ)
     → EscapeEnds m xs n (encoded_character start width v (mid_line (along m n) (drop n xs)))
 unfolding encoded_character
-encoded_place start m width v n xs =
-    by_test (is_encoded width v) _ _ (EscapeEnds m xs n) (λ _. read m xs n v)
+encoded_place start m width v n xs = by_test (is_encoded width v) _ _ (EscapeEnds m xs n) (λ _. read m xs n v)
     (λ _. refused_ends m xs n (record { text = fault.TagEscapeCodePoint; mark = start }))
 
 leading_place : (start m : Marker) (b : ℕ) (xs : List ℕ)
@@ -109,16 +104,13 @@ leading_place start m b xs =
     (λ x is.
     let n : 3 * w ≡ 3 + 3 * (w - 1) = grind (arith, nat_tests) in
     let place : x.1 ≡ mid_line (along m (3 * w)) (drop (3 * w) xs) = bytes_place start (along m 3) (w - 1)
-    (leading_bits b)
-    (drop 3 xs) x is ∙ places_added m xs 3 (3 * (w - 1)) (3 * w) n in
-    subst (λ y. EscapeEnds m xs (3 * w) (encoded_character start w x.0 y)) (sym place)
-    (encoded_place start m w x.0 (3 * w) xs)))
+    (leading_bits b) (drop 3 xs) x is ∙ places_added m xs 3 (3 * (w - 1)) (3 * w) n in
+    rw place (encoded_place start m w x.0 (3 * w) xs)))
 
 escape_place : (start m : Marker) (xs : List ℕ)
     → EscapeEnds m xs (3 * utf8_width (byte_value xs)) (percent_escape start (mid_line m xs))
 unfolding percent_escape escaped_byte
-escape_place start m xs =
-    by_test (shows_byte xs) _ _
+escape_place start m xs = by_test (shows_byte xs) _ _
     (λ (r : Result (ℕ × Cursor) Refusal). EscapeEnds m xs (3 * utf8_width (byte_value xs))
     (r >>= λ (b : ℕ × Cursor). behind_leading_byte start b.0 b.1))
     (λ _. leading_place start m (byte_value xs) xs)
@@ -142,8 +134,7 @@ leading_some start b s x =
 escape_some : (start : Marker) (s : Cursor) (x : ℕ × Cursor) → percent_escape start s ≡ Ok x
     → 0 < utf8_width (byte_value s.rest)
 unfolding percent_escape escaped_byte
-escape_some start s x =
-    by_test (shows_byte s.rest) _ _
+escape_some start s x = by_test (shows_byte s.rest) _ _
     (λ (r : Result (ℕ × Cursor) Refusal). (r >>= λ (b : ℕ × Cursor). behind_leading_byte start b.0 b.1) ≡ Ok x
     → 0 < utf8_width (byte_value s.rest))
     (λ _. leading_some start (byte_value s.rest) (pass 3 s) x)
@@ -159,8 +150,7 @@ tail_of_character xs h = rw h refl
 character_place : (start m : Marker) (xs : List ℕ)
     → EscapeEnds m xs (1 + uri_tail xs) (uri_character start (mid_line m xs))
 unfolding uri_character
-character_place start m xs x =
-    by_test (nat_eq (slice_index xs 0) 37) _ _
+character_place start m xs x = by_test (nat_eq (slice_index xs 0) 37) _ _
     (λ (r : Result (ℕ × Cursor) Refusal). r ≡ Ok x
     → x.1 ≡ mid_line (along m (1 + uri_tail xs)) (drop (1 + uri_tail xs) xs))
     (λ h is. escape_place start m xs x is
@@ -172,11 +162,9 @@ escape_passed_over : (set : UriSet) (start : Marker) (k : ℕ) (m : Marker) (xs 
     → decoded_characters set start k m xs ≡ decoded_characters set start 0 (along m k) (drop k xs)
 unfolding decoded_characters
 escape_passed_over set start zero m xs = ap (λ x. decoded_characters set start 0 x xs) (sym (along_none m))
-escape_passed_over set start (suc k) m [] =
-    ap (λ (x : Marker). let r : Result (List ℕ × Cursor) Refusal = Ok ([], mid_line x []) in r)
+escape_passed_over set start (suc k) m [] = ap (λ (x : Marker). (Ok ([], mid_line x [])))
     (sym (along_none (along m (suc k))))
-escape_passed_over set start (suc k) m (c ∷ cs) =
-    escape_passed_over set start k (along m 1) cs
+escape_passed_over set start (suc k) m (c ∷ cs) = escape_passed_over set start k (along m 1) cs
     ∙ ap (λ x. decoded_characters set start 0 x (drop k cs)) (along_more m 1 k (suc k) (omega arith))
 
 -- what holds of the characters of a URI and of those of a suffix
@@ -185,8 +173,7 @@ by_set P uri suffix Uri = uri
 by_set P uri suffix Suffix = suffix
 
 no_nul : (set : UriSet) → is_in_set set 0 ≡ true → ⊥
-no_nul Uri h = false≢true h
-no_nul Suffix h = false≢true h
+no_nul set h = grind arith
 
 -- a place that shows a character of the set is a character
 pub has_left : (set : UriSet) (xs : List ℕ) → is_in_set set (slice_index xs 0) ≡ true → 0 < length xs
@@ -203,8 +190,7 @@ decoded_one_more set start m (c ∷ cs) h = rw h (bind_same (uri_character start
     let k = uri_tail (c ∷ cs) in
     let place : x.1 ≡ mid_line (along m (1 + k)) (drop (1 + k) (c ∷ cs)) = character_place start m (c ∷ cs) x is in
     let one : suc k ≡ 1 + k = omega arith in
-    ap (with_front (encode_utf8 x.0))
-    (escape_passed_over set start k (along m 1) cs
+    ap (with_front (encode_utf8 x.0)) (escape_passed_over set start k (along m 1) cs
     ∙ ap (λ y. decoded_characters set start 0 y (drop k cs)) (along_more m 1 k (1 + k) refl)
     ∙ ap (λ n. decoded_characters set start 0 (along m (1 + k)) (drop n (c ∷ cs))) one
     ∙ ap (decoded_at set start) (sym place))))
@@ -214,15 +200,13 @@ reads_on set start r = r >>= λ x. with_front (encode_utf8 x.0) (decoded_at set 
 
 from_state : (set : UriSet) (start : Marker) (s : Cursor) → is_in_set set (slice_index s.rest 0) ≡ true
     → decoded_at set start s ≡ reads_on set start (uri_character start s)
-from_state set start s h = decoded_one_more set start s.mark s.rest h ∙ ap (reads_on set start)
-    (sym (from_here start s))
+from_state set start s h = cc (decoded_one_more set start s.mark s.rest h, from_here start s)
 
 -- a character that was put after a text
 pub character_on : (set : UriSet) (start : Marker) (text : List ℕ) (s t : Cursor) (c : ℕ)
     → is_in_set set (slice_index s.rest 0) ≡ true → uri_character start s ≡ Ok (c, t)
     → with_front (text ++ encode_utf8 c) (decoded_at set start t) ≡ with_front text (decoded_at set start s)
-character_on set start text s t c h e =
-    sym (ap (with_front text) (from_state set start s h ∙ ap (reads_on set start) e)
+character_on set start text s t c h e = sym (ap (with_front text) (from_state set start s h ∙ ap (reads_on set start) e)
     ∙ front_twice text (encode_utf8 c) _)
 
 pub character_refused : (set : UriSet) (start : Marker) (text : List ℕ) (s : Cursor) (r : Refusal)
@@ -233,9 +217,7 @@ character_refused set start text s r h e = ap (with_front text) (from_state set 
 pub character_shorter : (start : Marker) (s t : Cursor) (c : ℕ) → 0 < length s.rest → uri_character start s ≡ Ok (c, t)
     → length t.rest < length s.rest
 character_shorter start s t c some e =
-    let place : t ≡ mid_line (along s.mark (1 + uri_tail s.rest)) (drop (1 + uri_tail s.rest) s.rest) =
-    character_place start s.mark s.rest (c, t) (sym (from_here start s) ∙ e) in
-    rw (place, length-drop) (omega arith)
+    rw (character_place start s.mark s.rest (c, t) (sym (from_here start s) ∙ e), length-drop) (omega arith)
 
 pub ends_at : (set : UriSet) (start m : Marker) (xs : List ℕ) → is_in_set set (slice_index xs 0) ≡ false
     → decoded_characters set start 0 m xs ≡ Ok ([], mid_line m xs)

@@ -53,8 +53,7 @@ pub named_from : (s look behind : Cursor) (word : List ℕ) (c : ℕ) → Behind
     → behind ≡ pass 1 look → named_tail s.mark word behind ≡ shorthand_tag s
 unfolding shorthand_tag tag_behind_word
 named_from s look behind word c b is on =
-    let bang : (slice_index look.rest 0 == 33) ≡ true = test _ (sym b.read ∙ is) in
-    ap (named_tail s.mark word) on ∙ sym (ap (tag_behind_word s.mark) b.is ∙ rw bang refl)
+    ap (named_tail s.mark word) on ∙ sym (ap (tag_behind_word s.mark) b.is ∙ rw (test _ (sym b.read ∙ is)) refl)
   where
     test : (x : ℕ) → x ≡ 33 → (x == 33) ≡ true
     test x h = grind (arith, nat_tests)
@@ -63,9 +62,7 @@ named_from s look behind word c b is on =
 primary_from : (s look : Cursor) (word : List ℕ) (c : ℕ) → BehindWord s look word c → (c ≡ exclamation_mark → ⊥)
     → shorthand_tag s ≡ then_primary (decoded_onto Suffix s.mark word look)
 unfolding shorthand_tag tag_behind_word
-primary_from s look word c b other =
-    let bang : (slice_index look.rest 0 == 33) ≡ false = test _ (λ h. other (b.read ∙ h)) in
-    ap (tag_behind_word s.mark) b.is ∙ rw bang refl
+primary_from s look word c b other = ap (tag_behind_word s.mark) b.is ∙ rw (test _ (λ h. other (b.read ∙ h))) refl
   where
     test : (x : ℕ) → (x ≡ 33 → ⊥) → (x == 33) ≡ false
     test x h = grind (arith, nat_tests)
@@ -91,15 +88,11 @@ tag_read handle suffix t = Ok (handle, suffix, t)
 pub alone_read : (s look t : Cursor) (word suffix mark : List ℕ) (c : ℕ) → BehindWord s look word c
     → (c ≡ exclamation_mark → ⊥) → decoded_onto Suffix s.mark word look ≡ Ok (suffix, t)
     → (length suffix == 0) ≡ true → mark ≡ codes "!" → shorthand_tag s ≡ Ok (suffix, mark, t)
-alone_read s look t word suffix mark c b other h none is =
-    primary_from s look word c b other ∙ ap then_primary h
-    ∙ ap (λ (x : TagRead). tag_read x.0 x.1 x.2) (no_suffix suffix t none)
-    ∙ ap (λ m. tag_read suffix m t) (sym is)
+alone_read s look t word suffix mark c b other h none is = primary_from s look word c b other ∙ ap then_primary h
+    ∙ ap (λ (x : TagRead). tag_read x.0 x.1 x.2) (no_suffix suffix t none) ∙ ap (λ m. tag_read suffix m t) (sym is)
 
 pub primary_read : (s look t : Cursor) (word suffix mark : List ℕ) (c : ℕ) → BehindWord s look word c
     → (c ≡ exclamation_mark → ⊥) → decoded_onto Suffix s.mark word look ≡ Ok (suffix, t)
     → (length suffix == 0) ≡ false → mark ≡ codes "!" → shorthand_tag s ≡ Ok (mark, suffix, t)
-primary_read s look t word suffix mark c b other h some is =
-    primary_from s look word c b other ∙ ap then_primary h
-    ∙ ap (λ (x : TagRead). tag_read x.0 x.1 x.2) (some_suffix suffix t some)
-    ∙ ap (λ m. tag_read m suffix t) (sym is)
+primary_read s look t word suffix mark c b other h some is = primary_from s look word c b other ∙ ap then_primary h
+    ∙ ap (λ (x : TagRead). tag_read x.0 x.1 x.2) (some_suffix suffix t some) ∙ ap (λ m. tag_read m suffix t) (sym is)

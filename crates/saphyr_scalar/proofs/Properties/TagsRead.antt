@@ -49,8 +49,7 @@ stops_breakz c h = either (is_break c) (is_z c) (StopsTag c) h
     (λ e. same_as c 0 e (record { no_alpha = refl; no_suffix = refl; no_mark = refl; no_uri = refl }))
 
 stops_flow : (c : ℕ) → is_flow c ≡ true → StopsTag c
-stops_flow c h =
-    either (nat_eq c 44) (is_one_of (91 ∷ 93 ∷ 123 ∷ 125 ∷ []) c) (StopsTag c) h
+stops_flow c h = either (nat_eq c 44) (is_one_of (91 ∷ 93 ∷ 123 ∷ 125 ∷ []) c) (StopsTag c) h
     (λ e. same_as c 44 e (record { no_alpha = refl; no_suffix = refl; no_mark = refl; no_uri = refl }))
     (λ h. either (nat_eq c 91) (is_one_of (93 ∷ 123 ∷ 125 ∷ []) c) (StopsTag c) h
     (λ e. same_as c 91 e (record { no_alpha = refl; no_suffix = refl; no_mark = refl; no_uri = refl }))
@@ -70,14 +69,11 @@ stops in_flow x h =
     (λ b. stops_flow c (and_true_right in_flow (is_flow c) b))
 
 alpha_no_flow : (c : ℕ) → is_alpha c ≡ true → is_flow c ≡ false
-alpha_no_flow c h = false_from_ne_true (is_flow c)
-    (λ e. let k : false ≡ true = sym (stops_flow c e).no_alpha ∙ h in absurd (false≢true k))
+alpha_no_flow c h = false_from_ne_true (is_flow c) (λ e. absurd (false≢true (sym (stops_flow c e).no_alpha ∙ h)))
 
 alpha_uri : (c : ℕ) → is_alpha c ≡ true → is_uri_char c ≡ true
-alpha_uri c h =
-    by_test {A = Unit {0}} (nat_eq c 95) tt tt (λ _. is_uri_char c ≡ true)
-    (λ e. let is : 95 ≡ c = grind (arith, nat_tests) in subst (λ x. is_uri_char x ≡ true) is refl)
-    (λ e. rw (h, e) refl)
+alpha_uri c h = by_test {A = Unit {0}} (nat_eq c 95) tt tt (λ _. is_uri_char c ≡ true)
+    (λ e. let is : 95 ≡ c = grind (arith, nat_tests) in subst (λ x. is_uri_char x ≡ true) is refl) (λ e. rw (h, e) refl)
 
 -- characters of words are characters of suffixes, and no percent sign
 alpha_tag : (c : ℕ) → is_alpha c ≡ true → is_tag_char c ≡ true
@@ -94,8 +90,7 @@ plain_character start m c cs h = rw h refl
 alpha_first : (start m : Marker) (c : ℕ) (cs : List ℕ) → is_alpha c ≡ true
     → decoded_characters Suffix start 0 m (c ∷ cs) ≡ with_front (encode_utf8 c) (decoded_characters Suffix start 0
     (along m 1) cs)
-alpha_first start m c cs h =
-    decoded_one_more Suffix start m (c ∷ cs) (alpha_tag c h)
+alpha_first start m c cs h = decoded_one_more Suffix start m (c ∷ cs) (alpha_tag c h)
     ∙ ap (reads_on Suffix start) (plain_character start m c cs (alpha_plain c h))
 
 -- a word that was read before the rest of a suffix
@@ -110,14 +105,10 @@ alpha_on start m (c ∷ cs) =
     let word = encode_utf8_all (take n cs) in
     by_test (is_alpha c) (1 + n) 0
     (λ k. with_front (encode_utf8_all (take k (c ∷ cs)))
-    (decoded_characters Suffix start 0 (along m k) (drop k (c ∷ cs)))
-    ≡ decoded_characters Suffix start 0 m (c ∷ cs))
-    (λ h. rw one
-    (ap (λ k. with_front (encode_utf8 c ++ word) (decoded_characters Suffix start 0 k (drop n cs)))
-    (sym (along_more m 1 n (suc n) (omega arith)))
-    ∙ sym (front_twice (encode_utf8 c) word _)
-    ∙ ap (with_front (encode_utf8 c)) (alpha_on start (along m 1) cs)
-    ∙ sym (alpha_first start m c cs h)))
+    (decoded_characters Suffix start 0 (along m k) (drop k (c ∷ cs))) ≡ decoded_characters Suffix start 0 m (c ∷ cs))
+    (λ h. rw one (ap (λ k. with_front (encode_utf8 c ++ word) (decoded_characters Suffix start 0 k (drop n cs)))
+    (sym (along_more m 1 n (suc n) (omega arith))) ∙ sym (front_twice (encode_utf8 c) word _)
+    ∙ ap (with_front (encode_utf8 c)) (alpha_on start (along m 1) cs) ∙ sym (alpha_first start m c cs h)))
     (λ h. no_front _ ∙ ap (λ k. decoded_characters Suffix start 0 k (c ∷ cs)) (along_none m))
 
 -- no `!` comes after the word that a suffix begins with
@@ -213,12 +204,11 @@ named_read : (m : Marker) (w v back x : List ℕ) → AreIn is_alpha w → v ≢
 unfolding shorthand_tag
 named_read m w v back x are some is stop =
     let k = along (along m 1) (length w) in
-    let there : along k (1 + length back) ≡ along m (2 + length w + length back) =
-    ap (λ j. along j (1 + length back)) (along_more m 1 (length w) (1 + length w) refl)
-    ∙ along_more m (1 + length w) (1 + length back) (2 + length w + length back) (omega arith) in
     ap (tag_behind_word m) (run_read is_alpha (along m 1) w (33 ∷ (back ++ x)) are refl)
     ∙ behind_named m k (encode_utf8_all w) v back x some is stop
-    ∙ ap (λ j. parts_given (handle_of (encode_utf8_all w)) (encode_utf8_all v) (mid_line j x)) there
+    ∙ ap (λ j. parts_given (handle_of (encode_utf8_all w)) (encode_utf8_all v) (mid_line j x))
+    (ap (λ j. along j (1 + length back)) (along_more m 1 (length w) (1 + length w) refl)
+    ∙ along_more m (1 + length w) (1 + length back) (2 + length w + length back) (omega arith))
 
 -- The whole tag.
 
@@ -255,17 +245,15 @@ verbatim_read : (in_flow : Bool) (m : Marker) (v inside x : List ℕ) → IsDeco
 unfolding tag verbatim_tag
 verbatim_read in_flow m v inside x is ends =
     let k = along (along m 2) (length inside) in
-    let there : along k 1 ≡ along m (3 + length inside) = ap (λ j. along j 1)
-    (along_more m 2 (length inside) (2 + length inside) refl)
-    ∙ along_more m (2 + length inside) 1 (3 + length inside) (omega arith) in
     ap (λ r. then_end in_flow m (then_uri_end m r)) (decoded_read Uri m (along m 2) v inside (62 ∷ x) is refl)
     ∙ ap (then_end in_flow m) (uri_ends m k (encode_utf8_all v) x)
     ∙ tag_ends in_flow m (along k 1) [] (encode_utf8_all v) x ends
-    ∙ ap (λ j. parts_given [] (encode_utf8_all v) (mid_line j x)) there
+    ∙ ap (λ j. parts_given [] (encode_utf8_all v) (mid_line j x)) (ap (λ j. along j 1)
+    (along_more m 2 (length inside) (2 + length inside) refl)
+    ∙ along_more m (2 + length inside) 1 (3 + length inside) (omega arith))
 
 abbrev ReadsTag : Bool → Marker → List ℕ → List ℕ → List ℕ → List ℕ → Type 0
-ReadsTag in_flow m t handle suffix x =
-    tag in_flow (mid_line m (t ++ x)) ≡ Ok
+ReadsTag in_flow m t handle suffix x = tag in_flow (mid_line m (t ++ x)) ≡ Ok
     (encode_utf8_all handle, encode_utf8_all suffix, mid_line (along m (length t)) x)
 
 pub mark_bytes : encode_utf8_all (codes "!") ≡ codes "!"
@@ -289,17 +277,15 @@ reads_primary : (in_flow : Bool) (m : Marker) (v back x : List ℕ) → v ≢ []
 reads_primary in_flow m v back x some is ends =
     let stop = stops in_flow x ends in
     let k = along m (1 + length back) in
-    let one : 1 + length back ≡ suc (length back) = omega arith in
     shorthand_read in_flow m k (back ++ x) (codes "!") (encode_utf8_all v) x (suffix_first v back x is stop) ends
     (primary_read m v back x is stop ∙ ap Ok (primary_of_some v (mid_line k x) some))
     ∙ ap (λ h. parts_given h (encode_utf8_all v) (mid_line k x)) (sym mark_bytes)
-    ∙ ap (λ n. parts_given (encode_utf8_all (codes "!")) (encode_utf8_all v) (mid_line (along m n) x)) one
+    ∙ ap (λ n. parts_given (encode_utf8_all (codes "!")) (encode_utf8_all v) (mid_line (along m n) x)) (omega arith)
 
 reads_named : (in_flow : Bool) (m : Marker) (w v back x : List ℕ) → AreIn is_alpha w → v ≢ []
     → IsDecoded is_tag_char v back → EndsTag in_flow x
     → ReadsTag in_flow m ((codes "!" ++ (w ++ codes "!")) ++ back) (codes "!" ++ (w ++ codes "!")) v x
 reads_named in_flow m w v back x are some is ends =
-    let stop = stops in_flow x ends in
     let handle = codes "!" ++ (w ++ codes "!") in
     let whole : (handle ++ back) ++ x ≡ 33 ∷ (w ++ (33 ∷ (back ++ x))) = ap (λ u. 33 ∷ u) (simp append_assoc) in
     let len : 2 + length w + length back ≡ length (handle ++ back) =
@@ -307,7 +293,7 @@ reads_named in_flow m w v back x are some is ends =
     let k = along m (2 + length w + length back) in
     ap (λ u. tag in_flow (mid_line m u)) whole
     ∙ shorthand_read in_flow m k (w ++ (33 ∷ (back ++ x))) (handle_of (encode_utf8_all w)) (encode_utf8_all v) x
-    (word_first w (back ++ x) are) ends (named_read m w v back x are some is stop)
+    (word_first w (back ++ x) are) ends (named_read m w v back x are some is (stops in_flow x ends))
     ∙ ap (λ h. parts_given h (encode_utf8_all v) (mid_line k x)) (bytes_of_handle w)
     ∙ ap (λ n. parts_given (encode_utf8_all handle) (encode_utf8_all v) (mid_line (along m n) x)) len
 
@@ -315,10 +301,9 @@ reads_verbatim : (in_flow : Bool) (m : Marker) (v inside x : List ℕ) → IsDec
     → EndsTag in_flow x → ReadsTag in_flow m (codes "!<" ++ (inside ++ codes ">")) [] v x
 reads_verbatim in_flow m v inside x is ends =
     let t = codes "!<" ++ (inside ++ codes ">") in
-    let whole : t ++ x ≡ 33 ∷ 60 ∷ (inside ++ (62 ∷ x)) = ap (λ u. 33 ∷ 60 ∷ u) (append_assoc inside (codes ">") x) in
     let len : 3 + length inside ≡ length t = omega (arith, length-append inside (codes ">")) in
-    ap (λ u. tag in_flow (mid_line m u)) whole ∙ verbatim_read in_flow m v inside x is ends
-    ∙ ap (λ n. parts_given [] (encode_utf8_all v) (mid_line (along m n) x)) len
+    ap (λ u. tag in_flow (mid_line m u)) (ap (λ u. 33 ∷ 60 ∷ u) (append_assoc inside (codes ">") x)) ∙ verbatim_read
+    in_flow m v inside x is ends ∙ ap (λ n. parts_given [] (encode_utf8_all v) (mid_line (along m n) x)) len
 
 reads_text : (in_flow : Bool) (m : Marker) (t handle suffix x : List ℕ) → IsTagText t handle suffix → EndsTag in_flow x
     → ReadsTag in_flow m t handle suffix x
@@ -334,6 +319,5 @@ reads_text in_flow m t handle suffix x (inr (inr (back, inr (w, are, named), som
 pub reads_tag : (in_flow : Bool) (s : Cursor) (t handle suffix x : List ℕ) → s.rest ≡ t ++ x → IsTagText t handle suffix
     → EndsTag in_flow x → tag in_flow s
     ≡ Ok (encode_utf8_all handle, encode_utf8_all suffix, mid_line (along s.mark (length t)) x)
-reads_tag in_flow s t handle suffix x e is ends =
-    tag_same in_flow s ∙ ap (λ u. tag in_flow (mid_line s.mark u)) e
+reads_tag in_flow s t handle suffix x e is ends = tag_same in_flow s ∙ ap (λ u. tag in_flow (mid_line s.mark u)) e
     ∙ reads_text in_flow s.mark t handle suffix x is ends

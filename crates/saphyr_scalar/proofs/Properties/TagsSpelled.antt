@@ -35,21 +35,19 @@ pub record TagOf (m : Marker) (xs front back : List ℕ) (u : Cursor) : Type 0 w
 
 -- a place that shows a character that is no NUL has it
 pub cut_at : (n : ℕ) (xs : List ℕ) → nat_eq n 0 ≡ false → slice_index xs 0 ≡ n → xs ≡ n ∷ drop 1 xs
-cut_at n [] some h = let k : false ≡ true = sym some ∙ ap (λ i. nat_eq i 0) (sym h) in absurd (false≢true k)
-cut_at n (c ∷ cs) some h = ap (λ i. i ∷ cs) h
+cut_at n xs some h = grind arith
 
 verbatim_at : (m : Marker) (xs text : List ℕ) (k : Cursor) → DecodedOf Uri (along m 2) xs text k
     → slice_index k.rest 0 ≡ greater_than → TagOf m (exclamation_mark ∷ less_than ∷ xs) [] text (pass 1 k)
 verbatim_at m xs text k is ends =
     let written = codes "!<" ++ (is.piece ++ codes ">") in
-    let more : k.rest ≡ 62 ∷ drop 1 k.rest = cut_at 62 k.rest refl ends in
     let len : length written ≡ 2 + length is.piece + 1 = omega (arith, length-append is.piece (codes ">")) in
     record {
       written = written;
       handle = [];
       suffix = is.value;
-      text = ap (λ r. 33 ∷ 60 ∷ r)
-          (is.rest ∙ ap (λ r. is.piece ++ r) more ∙ sym (append_assoc is.piece (codes ">") (drop 1 k.rest)));
+      text = ap (λ r. 33 ∷ 60 ∷ r) (is.rest ∙ ap (λ r. is.piece ++ r) (cut_at 62 k.rest refl ends) ∙ sym
+          (append_assoc is.piece (codes ">") (drop 1 k.rest)));
       is = inr (inl (is.piece, is.is, refl, refl));
       place = ap (pass 1) is.place
           ∙ ap (λ j. mid_line j (drop 1 k.rest)) (along_three m 2 (length is.piece) 1 (length written) len);
@@ -77,8 +75,7 @@ verbatim_spelled m xs front back u h =
     let one = bind_ok (decoded_characters Uri m 0 (along m 2) xs) (λ (x : List ℕ × Cursor). verbatim_end m x)
     (front, back, u) h in
     let ended = verbatim_ended m one.given.0 front back one.given.1 u one.next in
-    subst (Of m (33 ∷ 60 ∷ xs)) ended.1
-    (verbatim_at m xs one.given.0 one.given.1
+    subst (Of m (33 ∷ 60 ∷ xs)) ended.1 (verbatim_at m xs one.given.0 one.given.1
     (decoded_spelled Uri m (along m 2) xs one.given.0 one.given.1 one.first) ended.0)
 
 pub none_value : (v : List ℕ) → nat_eq (length (encode_utf8_all v)) 0 ≡ true → v ≡ []
@@ -86,8 +83,7 @@ none_value [] h = refl
 none_value (c ∷ v) h = let k : false ≡ true = sym (some_bytes (c ∷ v) (λ e. cc)) ∙ h in absurd (false≢true k)
 
 pub some_value : (v : List ℕ) → nat_eq (length (encode_utf8_all v)) 0 ≡ false → v ≢ []
-some_value v h e = let k : false ≡ true =
-    sym h ∙ ap (λ u. nat_eq (length (encode_utf8_all u)) 0) e in absurd (false≢true k)
+some_value v h e = absurd (false≢true (sym h ∙ ap (λ u. nat_eq (length (encode_utf8_all u)) 0) e))
 
 abbrev none_text : List ℕ → Bool
 none_text text = nat_eq (length text) 0
@@ -97,7 +93,7 @@ non_specific_at : (m : Marker) (xs text : List ℕ) (k : Cursor) → DecodedOf S
     → none_text text ≡ true → TagOf m (exclamation_mark ∷ xs) [] (codes "!") k
 non_specific_at m xs text k is none =
     let value : is.value ≡ [] = none_value is.value (ap none_text is.bytes ∙ none) in
-    let piece : is.piece ≡ [] = subst (λ v. IsDecoded (is_in_set Suffix) v is.piece) value is.is in
+    let piece : is.piece ≡ [] = rw value at is.is in
     record {
       written = codes "!";
       handle = [];
@@ -139,14 +135,13 @@ named_at : (m : Marker) (n : ℕ) (w xs text : List ℕ) (k : Cursor) → length
 named_at m n w xs text k len are is some =
     let handle = codes "!" ++ (w ++ codes "!") in
     let written = handle ++ is.piece in
-    let whole : w ++ (33 ∷ (is.piece ++ k.rest)) ≡ ((w ++ codes "!") ++ is.piece) ++ k.rest = simp append_assoc in
     let total : length written ≡ 1 + n + 1 + length is.piece = rw (length-append handle is.piece)
     (omega (arith, length-append w (codes "!"))) in
     record {
       written = written;
       handle = handle;
       suffix = is.value;
-      text = ap (λ r. 33 ∷ (w ++ (33 ∷ r))) is.rest ∙ ap (λ r. 33 ∷ r) whole;
+      text = ap (λ r. 33 ∷ (w ++ (33 ∷ r))) is.rest ∙ ap (λ r. 33 ∷ r) (simp append_assoc);
       is = inr (inr (is.piece, inr (w, are, refl), some_value is.value (ap none_text is.bytes ∙ some), is.is, refl));
       place = is.place ∙ ap (λ j. mid_line j k.rest) (along_four m 1 n 1 (length is.piece) (length written) total);
       front_bytes = sym (bytes_of_handle w);
@@ -169,11 +164,9 @@ unfolding named_tail
 named_spelled m n w xs front back u len are h =
     let there = along (along (along m 1) n) 1 in
     let one = bind_ok (decoded_characters Suffix m 0 there xs)
-    (λ (x : List ℕ × Cursor). named_tag m (encode_utf8_all w) x)
-    (front, back, u) h in
+    (λ (x : List ℕ × Cursor). named_tag m (encode_utf8_all w) x) (front, back, u) h in
     let ended = named_ended m (encode_utf8_all w) one.given.0 front back one.given.1 u one.next in
-    subst (Of m (33 ∷ (w ++ (33 ∷ xs)))) ended.1
-    (named_at m n w xs one.given.0 one.given.1 len are
+    subst (Of m (33 ∷ (w ++ (33 ∷ xs)))) ended.1 (named_at m n w xs one.given.0 one.given.1 len are
     (decoded_spelled Suffix m there xs one.given.0 one.given.1 one.first) ended.0)
 
 shorthand_spelled : (m : Marker) (xs front back : List ℕ) (u : Cursor)
@@ -185,22 +178,17 @@ shorthand_spelled m xs front back u =
     let w = take n xs in
     let left = drop n xs in
     by_test (nat_eq (slice_index left 0) 33) _ _
-    (λ (r : Result TagRead Refusal). r ≡ Ok (front, back, u) → TagOf m (33 ∷ xs) front back u)
-    (λ mark h.
+    (λ (r : Result TagRead Refusal). r ≡ Ok (front, back, u) → TagOf m (33 ∷ xs) front back u) (λ mark h.
     let more : left ≡ 33 ∷ drop 1 left = cut_at 33 left refl (eqb-true (slice_index left 0) 33 mark) in
     let whole : w ++ (33 ∷ drop 1 left) ≡ xs = ap (λ r. w ++ r) (sym more) ∙ take-append-drop n xs in
     let len : length w ≡ n = length-take-le n xs (prefix_len-le-length is_alpha xs) in
-    subst (λ r. TagOf m (33 ∷ r) front back u) whole
-    (named_spelled m n w (drop 1 left) front back u len (run_is_in is_alpha xs) h))
-    (λ _ h.
+    rw whole at (named_spelled m n w (drop 1 left) front back u len (run_is_in is_alpha xs) h)) (λ _ h.
     let all : then_primary (decoded_characters Suffix m 0 (along m 1) xs) ≡ Ok (front, back, u) =
     sym (ap then_primary (alpha_on m (along m 1) xs)) ∙ h in
     let one = bind_ok (decoded_characters Suffix m 0 (along m 1) xs) (λ (x : List ℕ × Cursor). Ok (primary_tag x))
-    (front, back, u)
-    all in
+    (front, back, u) all in
     let same = ok_same {A = TagRead} (primary_tag one.given) (front, back, u) one.next in
-    subst (Of m (33 ∷ xs)) same
-    (primary_spelled m xs one.given.0 one.given.1
+    rw same at (primary_spelled m xs one.given.0 one.given.1
     (decoded_spelled Suffix m (along m 1) xs one.given.0 one.given.1 one.first)))
 
 tag_ended : (in_flow : Bool) (start : Marker) (p : TagRead) (front back : List ℕ) (u : Cursor)
@@ -210,7 +198,7 @@ tag_ended in_flow start p front back u h =
     let c = slice_index p.2.rest 0 in
     let is = cond_ok {A = TagRead} (is_blank_or_breakz c || (in_flow && is_flow c)) p (front, back, u)
     (record { text = fault.TagEndExpected; mark = start }) h in
-    (subst (λ (q : TagRead). EndsTag in_flow q.2.rest) is.same is.test, is.same)
+    (rw is.same at is.test, is.same)
 
 abbrev Read : Bool → Marker → List ℕ → List ℕ → List ℕ → Cursor → Type 0
 Read in_flow m xs front back u = TagOf m xs front back u × EndsTag in_flow u.rest
@@ -225,10 +213,8 @@ tag_spelled in_flow m xs front back u h =
     (λ (p : TagRead). tag_end in_flow m p) (front, back, u) h in
     let ended = tag_ended in_flow m one.given front back u one.next in
     let p = one.given in
-    let is : Of m (33 ∷ xs) p =
-    by_test (nat_eq (slice_index xs 0) 60) (verbatim_tag s) (shorthand_tag s)
-    (λ (r : Result TagRead Refusal). r ≡ Ok p → Of m (33 ∷ xs) p)
-    (λ less v.
+    let is : Of m (33 ∷ xs) p = by_test (nat_eq (slice_index xs 0) 60) (verbatim_tag s) (shorthand_tag s)
+    (λ (r : Result TagRead Refusal). r ≡ Ok p → Of m (33 ∷ xs) p) (λ less v.
     let more : xs ≡ 60 ∷ drop 1 xs = cut_at 60 xs refl (eqb-true (slice_index xs 0) 60 less) in
     let v2 = subst (λ r. verbatim_tag (mid_line m (33 ∷ r)) ≡ Ok p) more v in
     subst (λ r. Of m (33 ∷ r) p) (sym more) (verbatim_spelled m (drop 1 xs) p.0 p.1 p.2 v2))
@@ -243,7 +229,6 @@ pub spells_tag : (in_flow : Bool) (s u : Cursor) (front back : List ℕ) → sli
 spells_tag in_flow s u front back begins read =
     let more : s.rest ≡ 33 ∷ drop 1 s.rest = cut_at 33 s.rest refl begins in
     let here = sym (tag_same in_flow s) ∙ read in
-    let is = tag_spelled in_flow s.mark (drop 1 s.rest) front back u
-    (subst (λ r. tag in_flow (mid_line s.mark r) ≡ Ok (front, back, u)) more here) in
+    let is = tag_spelled in_flow s.mark (drop 1 s.rest) front back u (rw more at here) in
     let all = is.0 in
     (all.written, all.handle, all.suffix, more ∙ all.text, all.is, is.1, all.place, all.front_bytes, all.back_bytes)

@@ -12,16 +12,13 @@ use Rattle.saphyr_scalar.proofs.Properties.EscapedBytes.{AreTrailing, joined_byt
 use Rattle.saphyr_input.proofs.Basics.Booleans.{and_true_left, and_true_right, by_test, either}
 
 pub scalar_is : (c : ℕ) → is_scalar_value c ≡ true → IsScalarValue c
-scalar_is c h =
-    either (nat_lt c 0xD800) (nat_le 0xE000 c && nat_le c 0x10FFFF) (IsScalarValue c) h
-    (λ e. inl (grind (arith, nat_tests)))
-    (λ e.
-    let low = and_true_left (nat_le 0xE000 c) (nat_le c 0x10FFFF) e in
+scalar_is c h = either (nat_lt c 0xD800) (nat_le 0xE000 c && nat_le c 0x10FFFF) (IsScalarValue c) h
+    (λ e. inl (grind (arith, nat_tests))) (λ e.
     let high = and_true_right (nat_le 0xE000 c) (nat_le c 0x10FFFF) e in
     inr (grind (arith, nat_tests), grind (arith, nat_tests)))
 
 len_of : (n c : ℕ) → is_encoded n c ≡ true → len_utf8 c ≡ n
-len_of n c h = let e = and_true_right (is_scalar_value c) (nat_eq (len_utf8 c) n) h in grind (arith, nat_tests)
+len_of n c h = grind (arith, nat_tests)
 
 long_two : (c : ℕ) → len_utf8 c ≡ 2 → 0x80 ≤ c
 long_two c h = grind (arith, nat_tests)
@@ -33,10 +30,10 @@ long_four : (c : ℕ) → len_utf8 c ≡ 4 → 0x1_0000 ≤ c
 long_four c h = grind (arith, nat_tests)
 
 tail_low : (b : ℕ) → is_trailing b ≡ true → 0x80 ≤ b
-tail_low b h = let e = and_true_left (nat_le 0x80 b) (nat_lt b 0xC0) h in grind (arith, nat_tests)
+tail_low b h = grind (arith, nat_tests)
 
 tail_high : (b : ℕ) → is_trailing b ≡ true → b < 0xC0
-tail_high b h = let e = and_true_right (nat_le 0x80 b) (nat_lt b 0xC0) h in grind (arith, nat_tests)
+tail_high b h = grind (arith, nat_tests)
 
 unique_one : (b c : ℕ) → b < 0x80 → leading_bits b ≡ c → encode_utf8 c ≡ b ∷ []
 unique_one b c lt says = rw (← says, bits_one b lt) (encode_ascii b lt)
@@ -60,26 +57,23 @@ unique_two : (b x c : ℕ) → 0xC0 ≤ b → b < 0xE0 → is_trailing x ≡ tru
 unique_two b x c h lt tail says shortest =
     let low = tail_low x tail in
     let high = tail_high x tail in
-    let long = long_two c (len_of 2 c shortest) in
     let is : (b - 0xC0) * 64 + (x - 0x80) ≡ c = rw (← bits_two b h lt) says in
     let first : 192 + c / 64 ≡ b = omega arith in
     let second : 128 + c % 64 ≡ x = omega arith in
-    two_encoded c long (omega arith) ∙ rw (first, second) refl
+    two_encoded c (long_two c (len_of 2 c shortest)) (omega arith) ∙ rw (first, second) refl
 
 unique_three : (b x y c : ℕ) → 0xE0 ≤ b → b < 0xF0 → is_trailing x ≡ true → is_trailing y ≡ true
-    → (leading_bits b * 64 + (x - 0x80)) * 64 + (y - 0x80) ≡ c → is_encoded 3 c ≡ true
-    → encode_utf8 c ≡ b ∷ x ∷ y ∷ []
+    → (leading_bits b * 64 + (x - 0x80)) * 64 + (y - 0x80) ≡ c → is_encoded 3 c ≡ true → encode_utf8 c ≡ b ∷ x ∷ y ∷ []
 unique_three b x y c h lt tail tail2 says shortest =
     let low = tail_low x tail in
     let high = tail_high x tail in
     let low2 = tail_low y tail2 in
     let high2 = tail_high y tail2 in
-    let long = long_three c (len_of 3 c shortest) in
     let is : ((b - 0xE0) * 64 + (x - 0x80)) * 64 + (y - 0x80) ≡ c = rw (← bits_three b h lt) says in
     let first : 224 + c / 4096 ≡ b = omega arith in
     let second : 128 + c / 64 % 64 ≡ x = omega arith in
     let third : 128 + c % 64 ≡ y = omega arith in
-    three_encoded c long (omega arith) ∙ rw (first, second, third) refl
+    three_encoded c (long_three c (len_of 3 c shortest)) (omega arith) ∙ rw (first, second, third) refl
 
 unique_four : (b x y z c : ℕ) → 0xF0 ≤ b → is_trailing x ≡ true → is_trailing y ≡ true → is_trailing z ≡ true
     → ((leading_bits b * 64 + (x - 0x80)) * 64 + (y - 0x80)) * 64 + (z - 0x80) ≡ c → is_encoded 4 c ≡ true
@@ -91,19 +85,17 @@ unique_four b x y z c h tail tail2 tail3 says shortest =
     let high2 = tail_high y tail2 in
     let low3 = tail_low z tail3 in
     let high3 = tail_high z tail3 in
-    let long = long_four c (len_of 4 c shortest) in
     let is : (((b - 0xF0) * 64 + (x - 0x80)) * 64 + (y - 0x80)) * 64 + (z - 0x80) ≡ c = rw (← bits_four b h) says in
     let first : 240 + c / 262144 ≡ b = omega arith in
     let second : 128 + c / 4096 % 64 ≡ x = omega arith in
     let third : 128 + c / 64 % 64 ≡ y = omega arith in
     let fourth : 128 + c % 64 ≡ z = omega arith in
-    four_encoded c long ∙ rw (first, second, third, fourth) refl
+    four_encoded c (long_four c (len_of 4 c shortest)) ∙ rw (first, second, third, fourth) refl
 
 width_cases : (b : ℕ) (P : ℕ → Type 0) → (b < 0x80 → P 1) → (0xC0 ≤ b → b < 0xE0 → P 2) → (0xE0 ≤ b → b < 0xF0 → P 3)
     → (0xF0 ≤ b → P 4) → P 0 → P (utf8_width b)
 unfolding utf8_width
-width_cases b P one two three four none =
-    by_test (nat_lt b 0x80) _ _ P (λ e. one (grind (arith, nat_tests)))
+width_cases b P one two three four none = by_test (nat_lt b 0x80) _ _ P (λ e. one (grind (arith, nat_tests)))
     (λ _. by_test (nat_lt b 0xC0) _ _ P (λ _. none)
     (λ low. by_test (nat_lt b 0xE0) _ _ P (λ e. two (grind (arith, nat_tests)) (grind (arith, nat_tests)))
     (λ low. by_test (nat_lt b 0xF0) _ _ P (λ e. three (grind (arith, nat_tests)) (grind (arith, nat_tests)))
@@ -118,8 +110,7 @@ pub bytes_unique : (b c : ℕ) (bs : List ℕ) → BytesStand (utf8_width b) b c
 bytes_unique b c [] = width_cases b (λ w. BytesStand w b c []) (λ lt e tails says shortest. unique_one b c lt says)
     (λ _ _ e. absurd (omega arith)) (λ _ _ e. absurd (omega arith)) (λ _ e. absurd (omega arith))
     (λ e. absurd (omega arith))
-bytes_unique b c (x ∷ []) =
-    width_cases b (λ w. BytesStand w b c (x ∷ [])) (λ _ e. absurd (omega arith))
+bytes_unique b c (x ∷ []) = width_cases b (λ w. BytesStand w b c (x ∷ [])) (λ _ e. absurd (omega arith))
     (λ h lt e tails says shortest. unique_two b x c h lt tails.0 says shortest)
     (λ _ _ e. absurd (omega arith)) (λ _ e. absurd (omega arith)) (λ e. absurd (omega arith))
 bytes_unique b c (x ∷ y ∷ []) =
@@ -134,5 +125,4 @@ bytes_unique b c (x ∷ y ∷ z ∷ []) =
 bytes_unique b c (x ∷ y ∷ z ∷ v ∷ bs) =
     width_cases b (λ w. BytesStand w b c (x ∷ y ∷ z ∷ v ∷ bs)) (λ _ e. absurd (omega arith))
     (λ _ _ e. absurd (omega arith))
-    (λ _ _ e. absurd (omega arith))
-    (λ _ e. absurd (omega arith)) (λ e. absurd (omega arith))
+    (λ _ _ e. absurd (omega arith)) (λ _ e. absurd (omega arith)) (λ e. absurd (omega arith))

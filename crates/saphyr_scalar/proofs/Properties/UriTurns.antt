@@ -30,8 +30,7 @@ module _ (set : UriSet) (start : Marker) (text grown : List ℕ) (s t : Cursor) 
   pub escape_on : (e : ℕ) (u : Cursor) (pushed : List ℕ) → BareTurn set start text grown s t c → c ≡ percent_sign
       → percent_escape start t ≡ Ok (e, u) → pushed ≡ grown ++ encode_utf8 e
       → with_front pushed (decoded_at set start u) ≡ with_front text (decoded_at set start s)
-  escape_on e u pushed turn is read put =
-      ap (λ b. with_front b (decoded_at set start u)) put
+  escape_on e u pushed turn is read put = ap (λ b. with_front b (decoded_at set start u)) put
       ∙ character_on set start grown t u e (in_set turn is) (as_character (Ok (e, u)) turn is read) ∙ turn.reached
 
   pub escape_shorter : (e : ℕ) (u : Cursor) → BareTurn set start text grown s t c → c ≡ percent_sign

@@ -36,8 +36,7 @@ IsReachedOrClosed n line = IsTrue (is_quoted_line n line || (slice_index line 0 
 pub closed : (n : ℕ) (q : Quote) (x : List ℕ) → IsTrue (is_closing q (mark q ∷ x)) → IsCleanText n q (mark q ∷ x) [] x
 closed n q x h = (quotes.closed q x h, tt, tt)
 
-pub itself : (n : ℕ) (q : Quote) (c : ℕ) (t : List ℕ) (items : List Item) (x : List ℕ)
-    → IsTrue (stands_for_itself q c)
+pub itself : (n : ℕ) (q : Quote) (c : ℕ) (t : List ℕ) (items : List Item) (x : List ℕ) → IsTrue (stands_for_itself q c)
     → IsCleanText n q t items x → IsCleanText n q (c ∷ t) (raw_item c ∷ items) x
 itself n q c t items x h r = (quotes.itself q c t items x h r.0, r.1, r.2)
 
@@ -55,8 +54,7 @@ pub escaped : (n e c : ℕ) (t : List ℕ) (items : List Item) (x : List ℕ) �
 escaped n e c t items x h r = (quotes.escaped e c t items x h r.0, r.1, r.2)
 
 pub numbered : (n e c : ℕ) (ds t : List ℕ) (items : List Item) (x : List ℕ) → IsNumber e c ds
-    → IsCleanText n Double t items x
-    → IsCleanText n Double (backslash ∷ e ∷ (ds ++ t)) (Escaped c ∷ items) x
+    → IsCleanText n Double t items x → IsCleanText n Double (backslash ∷ e ∷ (ds ++ t)) (Escaped c ∷ items) x
 numbered n e c ds t items x h r = (quotes.numbered e c ds t items x h r.0, r.1, r.2)
 
 pub escaped_break : (n : ℕ) (t : List ℕ) (items : List Item) (x : List ℕ) → IsTrue (is_break (slice_index t 0))

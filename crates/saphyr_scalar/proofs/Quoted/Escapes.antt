@@ -37,8 +37,7 @@ digits_more start n i v s h lt = let e : n - i ≡ suc (n - (i + 1)) = omega ari
 
 -- a digit that was read and taken off
 pub digits_on : (start : Marker) (n i v c d : ℕ) (s t u : Cursor) → i < n → c ≡ slice_index s.rest 0 → is_hex c ≡ true
-    → d ≡ hex_value c → t ≡ s → u ≡ pass 1 t
-    → digits start (n - (i + 1)) (v * 16 + d) u ≡ digits start (n - i) v s
+    → d ≡ hex_value c → t ≡ s → u ≡ pass 1 t → digits start (n - (i + 1)) (v * 16 + d) u ≡ digits start (n - i) v s
 digits_on start n i v c d s t u lt read hex value same on =
     let h : is_hex (slice_index s.rest 0) ≡ true = rw (← read) hex in
     rw (on, same, value, read) (sym (digits_more start n i v s h lt))
@@ -63,8 +62,7 @@ below_eight i n lt few = omega arith
 
 -- a place that shows a digit is a character
 pub digit_is_left : (c : ℕ) (s t : Cursor) → c ≡ slice_index s.rest 0 → t ≡ s → is_hex c ≡ true → 0 < length t.rest
-digit_is_left c s t read same hex =
-    subst (λ (x : Cursor). 0 < length x.rest) (sym same)
+digit_is_left c s t read same hex = subst (λ (x : Cursor). 0 < length x.rest) (sym same)
     (shows_character s.rest is_hex true (ap is_hex (sym read) ∙ hex) (λ e. false≢true e))
 
 two_left : (xs : List ℕ) → (slice_index xs 0 ≡ 0 → ⊥) → (slice_index xs 1 ≡ 0 → ⊥) → 2 ≤ length xs
@@ -95,12 +93,10 @@ digits_place : (start : Marker) (n v : ℕ) (m : Marker) (xs : List ℕ)
     → EscapeEnds m xs n (digits start n v (mid_line m xs))
 unfolding digits
 digits_place start zero v m xs = subst (λ x. EscapeEnds m xs 0 (Ok (v, mid_line x xs))) (along_none m) (read m xs 0 v)
-digits_place start (suc n) v m xs =
-    by_test (is_hex (slice_index xs 0)) _ _ (EscapeEnds m xs (suc n))
+digits_place start (suc n) v m xs = by_test (is_hex (slice_index xs 0)) _ _ (EscapeEnds m xs (suc n))
     (λ _ e is. digits_place start n _ (along m 1) (drop 1 xs) e is
     ∙ ap (λ x. mid_line x (drop n (drop 1 xs))) (along_more m 1 n (suc n) (omega arith))
-    ∙ ap (mid_line (along m (suc n))) (drop_more n 1 (suc n) xs (omega arith)))
-    (λ _. refused_ends m xs (suc n) _)
+    ∙ ap (mid_line (along m (suc n))) (drop_more n 1 (suc n) xs (omega arith))) (λ _. refused_ends m xs (suc n) _)
 
 character_place : (start : Marker) (m : Marker) (xs : List ℕ) (n v : ℕ)
     → EscapeEnds m xs n (character start v (mid_line (along m n) (drop n xs)))
@@ -114,8 +110,7 @@ unfolding escape_by_number
 numbered_place start m xs None = refused_ends m xs (2 + 0) _
 numbered_place start m xs (Some n) =
     then_ends m xs (2 + n) (digits start n 0 (mid_line (along m 2) (drop 2 xs))) _ (λ x is.
-    let place : x.1 ≡ mid_line (along m (2 + n)) (drop (2 + n) xs) =
-    digits_place start n 0 (along m 2) (drop 2 xs) x is
+    let place : x.1 ≡ mid_line (along m (2 + n)) (drop (2 + n) xs) = digits_place start n 0 (along m 2) (drop 2 xs) x is
     ∙ ap (λ y. mid_line y (drop n (drop 2 xs))) (along_more m 2 n (2 + n) refl)
     ∙ ap (mid_line (along m (2 + n))) (drop_more n 2 (2 + n) xs refl) in
     subst (λ y. EscapeEnds m xs (2 + n) (character start x.0 y)) (sym place) (character_place start m xs (2 + n) x.0))
@@ -134,13 +129,10 @@ no_U v e = none-some v e
 
 -- an escape of one letter has no digits
 pub simple_no_digits : (c v : ℕ) → short_escape c ≡ Some v → None ≡ digit_count c
-simple_no_digits c v h =
-    by_test (nat_eq c 120) _ _ (λ o. None ≡ o)
-    (λ is. let e : c ≡ 120 =
-    grind (arith, nat_tests) in absurd (no_x v (subst (λ x. short_escape x ≡ Some v) e h)))
+simple_no_digits c v h = by_test (nat_eq c 120) _ _ (λ o. None ≡ o)
+    (λ is. let e : c ≡ 120 = grind (arith, nat_tests) in absurd (no_x v (subst (λ x. short_escape x ≡ Some v) e h)))
     (λ _. by_test (nat_eq c 117) _ _ (λ o. None ≡ o)
-    (λ is. let e : c ≡ 117 =
-    grind (arith, nat_tests) in absurd (no_u v (subst (λ x. short_escape x ≡ Some v) e h)))
+    (λ is. let e : c ≡ 117 = grind (arith, nat_tests) in absurd (no_u v (subst (λ x. short_escape x ≡ Some v) e h)))
     (λ _. by_test (nat_eq c 85) _ _ (λ o. None ≡ o)
     (λ is. let e : c ≡ 85 = grind (arith, nat_tests) in absurd (no_U v (subst (λ x. short_escape x ≡ Some v) e h)))
     (λ _. refl)))
@@ -150,8 +142,7 @@ of_place : (start m : Marker) (xs : List ℕ) (letter : ℕ) (o : Option ℕ) �
 unfolding escape_of
 of_place start m xs letter (Some c) h =
     subst (λ o. EscapeEnds m xs (2 + unwrap_or o 0) (Ok (c, mid_line (along m 2) (drop 2 xs))))
-    (simple_no_digits letter c h)
-    (read m xs 2 c)
+    (simple_no_digits letter c h) (read m xs 2 c)
 of_place start m xs letter None h = numbered_place start m xs (digit_count letter)
 
 pub escape_place : (start m : Marker) (xs : List ℕ)

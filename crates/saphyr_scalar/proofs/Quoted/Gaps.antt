@@ -38,8 +38,7 @@ pub at_escaped_break : (indent : ℕ) (start m : Marker) (cs : List ℕ) → is_
     ≡ inner_text Double indent start (escaped_gap Double (slice_index (drop (break_len cs) cs) 0)) 0
     (next_line (along m 1) (break_len cs)) (drop (break_len cs) cs)
 unfolding is_literal special
-at_escaped_break indent start m cs h =
-    behind_no_gap Double indent start m 92 cs refl refl refl ∙ rw h refl
+at_escaped_break indent start m cs h = behind_no_gap Double indent start m 92 cs refl refl refl ∙ rw h refl
     ∙ passed_over Double indent start (escaped_gap Double (slice_index (drop (break_len cs) cs) 0)) (break_len cs)
     (next_line (along m 1) (break_len cs)) cs
 
@@ -150,8 +149,7 @@ pub straight_to_break : (q : Quote) (indent : ℕ) (start : Marker) (text : List
     → is_break (slice_index s.rest 0) ≡ true → v ≡ pass_break u
     → with_front text (inner_text_at q indent start (over_lines false 0) v)
     ≡ with_front text (inner_text_at q indent start no_gap s)
-straight_to_break q indent start text s u v same h on =
-    ap (with_front text)
+straight_to_break q indent start text s u v same h on = ap (with_front text)
     (ap (inner_text_at q indent start (over_lines false 0)) (on ∙ ap pass_break same)
     ∙ sym (at_break q indent start no_gap s h))
 
@@ -160,16 +158,14 @@ pub blanks_to_break : (q : Quote) (indent : ℕ) (start : Marker) (text grown : 
     → Moved is_blank [] grown s t → u ≡ t → is_break (slice_index t.rest 0) ≡ true → v ≡ pass_break u
     → with_front text (inner_text_at q indent start (over_lines false 0) v)
     ≡ with_front text (inner_text_at q indent start no_gap s)
-blanks_to_break q indent start text grown s t u v m same h on =
-    ap (with_front text)
+blanks_to_break q indent start text grown s t u v m same h on = ap (with_front text)
     (ap (inner_text_at q indent start (over_lines false 0)) (on ∙ ap pass_break same)
     ∙ sym (at_break q indent start (on_line grown) t h) ∙ blanks_moved q indent start [] grown s t m)
 
 pub blanks_to_end : (q : Quote) (indent : ℕ) (start : Marker) (text grown : List ℕ) (s t : Cursor)
     → Moved is_blank [] grown s t → slice_index t.rest 0 ≡ 0
     → with_front text (inner_text_at q indent start no_gap s) ≡ refuse fault.EndInsideQuotes start
-blanks_to_end q indent start text grown s t m h =
-    ap (with_front text) (sym (blanks_moved q indent start [] grown s t m)
+blanks_to_end q indent start text grown s t m h = ap (with_front text) (sym (blanks_moved q indent start [] grown s t m)
     ∙ at_end q indent start grown t.mark t.rest h)
 
 content_left : (xs : List ℕ) → is_z (slice_index xs 0) ≡ false → (c : ℕ) × (cs : List ℕ) × (xs ≡ c ∷ cs)
@@ -189,8 +185,7 @@ blanks_to_word q indent start text grown s t u m same break z =
       nul = ap (λ (xs : List ℕ). is_z (slice_index xs 0)) (sym left.2) ∙ z;
     } in
     let word : inner_text_at q indent start (on_line grown) t ≡ with_front grown
-    (inner_text_at q indent start no_gap t) =
-    ap (inner_text q indent start (on_line grown) 0 t.mark) left.2
+    (inner_text_at q indent start no_gap t) = ap (inner_text q indent start (on_line grown) 0 t.mark) left.2
     ∙ flushed q indent start grown t.mark left.0 left.1 is
     ∙ ap (λ xs. with_front grown (inner_text q indent start no_gap 0 t.mark xs)) (sym left.2) in
     ap (λ x. with_front (text ++ grown) (inner_text_at q indent start no_gap x)) same
@@ -203,8 +198,7 @@ closing_quote Double xs h e = rw e refl
 closing_quote Single xs h e = by_rest (slice_index xs 0) (slice_index xs 1 == 39) h e
   where
     by_rest : (c : ℕ) (d : Bool) → IsTrue (is_blank_or_breakz c || ((c == apostrophe) && not d) || false)
-        → c ≡ apostrophe
-        → IsTrue ((c == apostrophe) && not d)
+        → c ≡ apostrophe → IsTrue ((c == apostrophe) && not d)
     by_rest c true h e = let h = rw e at h in absurd (cc)
     by_rest c false h e = rw e refl
 
@@ -227,24 +221,20 @@ closing_left Double [] h = absurd (cc)
 
 closing_mark : (q : Quote) (xs : List ℕ) → IsTrue (is_closing q xs) → slice_index xs 0 ≡ flow.mark q
 closing_mark Double xs h = sym (sym (eqb-true (slice_index xs 0) 34 h))
-closing_mark Single xs h =
-    sym (sym (eqb-true (slice_index xs 0) 39
+closing_mark Single xs h = sym (sym (eqb-true (slice_index xs 0) 39
     (and_true_left (slice_index xs 0 == 39) (not (slice_index xs 1 == 39)) h)))
 
 pub closing_closes : (q : Quote) (indent : ℕ) (start : Marker) (text : List ℕ) (s : Cursor)
-    → IsTrue (is_closing q s.rest)
-    → with_front text (inner_text_at q indent start no_gap s) ≡ Ok (text, pass 1 s)
+    → IsTrue (is_closing q s.rest) → with_front text (inner_text_at q indent start no_gap s) ≡ Ok (text, pass 1 s)
 closing_closes q indent start text s h =
     ap (with_front text) (closes s.mark s.rest h (closing_mark q s.rest h)) ∙ rw (append-nil text) refl
   where
     closes : (m : Marker) (xs : List ℕ) → IsTrue (is_closing q xs) → slice_index xs 0 ≡ flow.mark q
         → inner_text q indent start no_gap 0 m xs ≡ Ok ([], mid_line (along m 1) (drop 1 xs))
     closes m [] h e = absurd (mark_no_nul q e)
-    closes m (c ∷ cs) h e =
-        ap (λ x. inner_text q indent start no_gap 0 m (x ∷ cs)) e
+    closes m (c ∷ cs) h e = ap (λ x. inner_text q indent start no_gap 0 m (x ∷ cs)) e
         ∙ at_closing q indent start m cs (subst (λ (x : ℕ). IsTrue (is_closing q (x ∷ cs))) e h)
 
 pub quote_closes : (q : Quote) (indent : ℕ) (start : Marker) (text : List ℕ) (s : Cursor) → IsTrue (ends_word q s.rest)
-    → slice_index s.rest 0 ≡ flow.mark q
-    → with_front text (inner_text_at q indent start no_gap s) ≡ Ok (text, pass 1 s)
+    → slice_index s.rest 0 ≡ flow.mark q → with_front text (inner_text_at q indent start no_gap s) ≡ Ok (text, pass 1 s)
 quote_closes q indent start text s h e = closing_closes q indent start text s (closing_quote q s.rest h e)

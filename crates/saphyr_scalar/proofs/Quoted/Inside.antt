@@ -88,8 +88,7 @@ stands q indent start m c cs h =
 
 -- what was read of a word, and what is read after it
 abbrev pub WordPiece : Quote → ℕ → Marker → Marker → List ℕ → ℕ → Type 0
-WordPiece q indent start m xs n =
-    inner_text q indent start no_gap 0 m xs
+WordPiece q indent start m xs n = inner_text q indent start no_gap 0 m xs
     ≡ with_front (encode_utf8_all (take n xs)) (inner_text q indent start no_gap 0 (along m n) (drop n xs))
 
 pub no_piece : (q : Quote) (indent : ℕ) (start m : Marker) (xs : List ℕ) → WordPiece q indent start m xs 0
@@ -98,8 +97,7 @@ no_piece q indent start m xs =
 
 -- blanks on a line
 abbrev pub Blanks : Quote → ℕ → Marker → List ℕ → Marker → List ℕ → ℕ → Type 0
-Blanks q indent start bytes m xs n =
-    inner_text q indent start (on_line bytes) 0 m xs
+Blanks q indent start bytes m xs n = inner_text q indent start (on_line bytes) 0 m xs
     ≡ inner_text q indent start (on_line (bytes ++ encode_utf8_all (take n xs))) 0 (along m n) (drop n xs)
 
 pub one_blank : (q : Quote) (indent : ℕ) (start : Marker) (bytes : List ℕ) (m : Marker) (c : ℕ) (cs : List ℕ)
@@ -111,8 +109,7 @@ one_blank q indent start bytes m c cs h = rw h refl
 
 no_blanks : (q : Quote) (indent : ℕ) (start : Marker) (bytes : List ℕ) (m : Marker) (xs : List ℕ)
     → Blanks q indent start bytes m xs 0
-no_blanks q indent start bytes m xs =
-    ap (λ b. inner_text q indent start (on_line b) 0 m xs) (sym (append-nil bytes))
+no_blanks q indent start bytes m xs = ap (λ b. inner_text q indent start (on_line b) 0 m xs) (sym (append-nil bytes))
     ∙ ap (λ x. inner_text q indent start (on_line (bytes ++ [])) 0 x xs) (sym (along_none m))
 
 pub run_blanks : (q : Quote) (indent : ℕ) (start : Marker) (bytes : List ℕ) (m : Marker) (xs : List ℕ)
@@ -127,8 +124,7 @@ run_blanks q indent start bytes m (c ∷ cs) =
     ∙ ap (λ b. inner_text q indent start (on_line b) 0 (along (along m 1) n) (drop n cs))
     (append_assoc bytes (encode_utf8 c) (encode_utf8_all (take n cs)))
     ∙ ap (λ x. inner_text q indent start (on_line (bytes ++ (encode_utf8 c ++ encode_utf8_all (take n cs)))) 0 x
-    (drop n cs)) (along_more m 1 n (suc n) (omega arith))))
-    (λ h. no_blanks q indent start bytes m (c ∷ cs))
+    (drop n cs)) (along_more m 1 n (suc n) (omega arith)))) (λ h. no_blanks q indent start bytes m (c ∷ cs))
 
 -- NUL, or the end
 pub at_end : (q : Quote) (indent : ℕ) (start : Marker) (bytes : List ℕ) (m : Marker) (xs : List ℕ)
@@ -179,8 +175,7 @@ at_break q indent start gap s h = passes s.mark s.rest h
         (pass_break (record { rest = xs; mark = m; blank_so_far = s.blank_so_far }))
     passes m [] h = absurd (cc)
     passes m (c ∷ cs) h = break_cases c h
-        (λ x. inner_text q indent start gap 0 m (x ∷ cs)
-        ≡ inner_text_at q indent start (break_in gap)
+        (λ x. inner_text q indent start gap 0 m (x ∷ cs) ≡ inner_text_at q indent start (break_in gap)
         (pass_break (record { rest = x ∷ cs; mark = m; blank_so_far = s.blank_so_far }))) refl
         (by_len (slice_index cs 0 == 10) m 13 cs ∙ of_len (slice_index cs 0 == 10) m 13 cs true)
 

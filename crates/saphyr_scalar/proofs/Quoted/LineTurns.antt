@@ -18,16 +18,14 @@ break_turn_shorter most first here there behind spaces breaks same on =
 
 pub blank_left : (here there : Cursor) → is_blank (slice_index here.rest 0) ≡ true → there ≡ here
     → 0 < length there.rest
-blank_left here there blank same =
-    subst (λ (s : Cursor). 0 < length s.rest) (sym same)
+blank_left here there blank same = subst (λ (s : Cursor). 0 < length s.rest) (sym same)
     (shows_character here.rest is_blank true blank (λ e. false≢true e))
 
 pub blank_turn_shorter : (most : ℕ) (first here there behind : Cursor) → here ≡ pass_spaces most first
     → is_blank (slice_index here.rest 0) ≡ true → there ≡ here → behind ≡ pass_blanks 1 there
     → length behind.rest < length first.rest
 blank_turn_shorter most first here there behind spaces blank same on =
-    let less : length behind.rest < length here.rest =
-    subst (λ (s : Cursor). length s.rest < length here.rest) (sym on)
+    let less : length behind.rest < length here.rest = subst (λ (s : Cursor). length s.rest < length here.rest) (sym on)
     (subst (λ (s : Cursor). length (pass_blanks 1 s).rest < length here.rest) (sym same)
     (drop_one_shorter here.rest (blank_left here here blank refl))) in
     below_at_most _ _ _ less (spaces_shorter most first here spaces)
@@ -45,8 +43,7 @@ count_fits k first behind all at counted less fits = omega arith
 
 pub no_longer : (most k all : ℕ) (first here there : Cursor) → k + length first.rest ≤ all
     → here ≡ pass_spaces most first → there ≡ here → length there.rest ≤ all
-no_longer most k all first here there counted spaces same =
-    subst (λ (s : Cursor). length s.rest ≤ all) (sym same)
+no_longer most k all first here there counted spaces same = subst (λ (s : Cursor). length s.rest ≤ all) (sym same)
     (at_most _ _ k all (spaces_shorter most first here spaces) counted)
   where
     at_most : (a b k n : ℕ) → a ≤ b → k + b ≤ n → a ≤ n

@@ -86,8 +86,7 @@ pub tab_on : (q : Quote) (indent : ℕ) (start : Marker) (escaped : Bool) (n : �
     → inner_text_at q indent start (over_lines escaped n) s ≡ refuse fault.TabAsIndentation u.mark
 tab_on q indent start escaped n s u tab same left =
     subst (λ (x : Cursor). inner_text_at q indent start (over_lines escaped n) s ≡ refuse fault.TabAsIndentation x.mark)
-    (sym same)
-    (line_tab q indent start escaped n s tab
+    (sym same) (line_tab q indent start escaped n s tab
     (lt-ltb s.mark.col indent (subst (λ (x : Cursor). x.mark.col < indent) same left)))
 
 -- What begins a word on a later line.
@@ -101,8 +100,7 @@ Begins q indent start escaped n s (Err r) = inner_text_at q indent start (over_l
 
 -- the tests of `quoted_line`, in their order
 abbrev tests : Marker → Bool → Bool → Bool → Cursor → Result Cursor Refusal
-tests start marker nul left s =
-    cond marker (refuse fault.DocumentIndicatorInsideQuotes start)
+tests start marker nul left s = cond marker (refuse fault.DocumentIndicatorInsideQuotes start)
     (cond nul (refuse fault.EndInsideQuotes start) (cond left (refuse fault.QuotedIndentation start) (Ok s)))
 
 begins_by : (q : Quote) (indent : ℕ) (start : Marker) (escaped : Bool) (n : ℕ) (s t : Cursor) (word : TextRead)
@@ -144,8 +142,7 @@ begins_at q indent start m escaped n b [] blank break =
     begins_end q indent start m escaped n b (m.col == 0) (is_left indent m)
 begins_at q indent start m escaped n b (c ∷ cs) blank break =
     begins_by q indent start escaped n (record { rest = c ∷ cs; mark = m; blank_so_far = b }) (mid_line m (c ∷ cs))
-    (word_from q indent start m c cs)
-    ((m.col == 0) && is_document_indicator (c ∷ cs)) (is_z c) (is_left indent m)
+    (word_from q indent start m c cs) ((m.col == 0) && is_document_indicator (c ∷ cs)) (is_z c) (is_left indent m)
     (behind_lines q indent start m escaped n c cs blank break)
     (λ nul. behind_no_gap q indent start m c cs blank break nul)
 

@@ -24,8 +24,7 @@ pub blanks_moved : (q : Quote) (indent : ℕ) (start : Marker) (bytes grown : Li
     → inner_text_at q indent start (on_line grown) t ≡ inner_text_at q indent start (on_line bytes) s
 blanks_moved q indent start bytes grown s t m =
     subst (λ (x : List ℕ × Cursor). inner_text_at q indent start (on_line x.0) x.1
-    ≡ inner_text_at q indent start (on_line bytes) s) m.is
-    (sym (run_blanks q indent start bytes s.mark s.rest))
+    ≡ inner_text_at q indent start (on_line bytes) s) m.is (sym (run_blanks q indent start bytes s.mark s.rest))
 
 -- Escapes, and two single quotes.
 
@@ -46,8 +45,7 @@ at_escape indent start m cs h =
     ∙ rw h (bind_twice (escaped_character start (mid_line m (92 ∷ cs))) (λ e. (Some e.0, e.1)) _)
     ∙ bind_same (escaped_character start (mid_line m (92 ∷ cs))) _ _ (λ e is.
     let place : e.1 ≡ mid_line (along m (2 + k)) (drop (2 + k) (92 ∷ cs)) = escape_place start m (92 ∷ cs) e is in
-    ap (with_front (encode_utf8 e.0))
-    (passed_over Double indent start no_gap (suc k) e.1.mark cs
+    ap (with_front (encode_utf8 e.0)) (passed_over Double indent start no_gap (suc k) e.1.mark cs
     ∙ ap (λ n. inner_text Double indent start no_gap 0 e.1.mark (drop n (92 ∷ cs))) (two_more k)
     ∙ ap (λ xs. inner_text Double indent start no_gap 0 e.1.mark xs) (sym (ap (λ (x : Cursor). x.rest) place))))
   where
@@ -141,8 +139,7 @@ escape_reads indent start s (Ok e) is h = (
   escape_shorter
       start s e.1 e.0 is h,
 )
-escape_reads indent start s (Err r) is h =
-    escape_on indent start s is
+escape_reads indent start s (Err r) is h = escape_on indent start s is
     ∙ ap (λ r. r >>= λ e. with_front (encode_utf8 e.0) (inner_text_at Double indent start no_gap e.1)) h
 
 two_quotes_read : (indent : ℕ) (start : Marker) (s : Cursor) → AreTwoQuotes s.rest
@@ -158,8 +155,7 @@ two_quotes_read indent start s is = cut s.rest is.cut
 special_reads : (q : Quote) (indent : ℕ) (start : Marker) (s : Cursor)
     → ReadsSpecial q indent start s (special q start s)
 unfolding special
-special_reads Single indent start s =
-    by_test (next_2_are s.rest 39 39) _ _ (ReadsSpecial Single indent start s)
+special_reads Single indent start s = by_test (next_2_are s.rest 39 39) _ _ (ReadsSpecial Single indent start s)
     (λ h. two_quotes_read indent start s (two_of_test s.rest h)) (λ h. refl)
 special_reads Double indent start s =
     by_test ((slice_index s.rest 0 == 92) && not (is_break (slice_index s.rest 1))) _ _
@@ -179,8 +175,7 @@ pub special_shorter : (q : Quote) (start : Marker) (s t : Cursor) (d : ℕ) → 
 special_shorter q start s t d e = let r = subst (ReadsSpecial q 0 start s) e (special_reads q 0 start s) in r.1
 
 pub special_refused : (q : Quote) (indent : ℕ) (start : Marker) (text : List ℕ) (s : Cursor) (refusal : Refusal)
-    → special q start s ≡ Err refusal
-    → with_front text (inner_text_at q indent start no_gap s) ≡ Err refusal
+    → special q start s ≡ Err refusal → with_front text (inner_text_at q indent start no_gap s) ≡ Err refusal
 special_refused q indent start text s refusal e =
     ap (with_front text) (subst (ReadsSpecial q indent start s) e (special_reads q indent start s))
 
@@ -205,21 +200,18 @@ word_ends_double false false false e h f = absurd (cc)
 some_none : (d : ℕ) (s t : Cursor) → ◌≡◌ {A = Result (Option ℕ × Cursor) Refusal} (Ok (Some d, s)) (Ok (None, t)) → ⊥
 some_none d s t e =
     let pair : ◌≡◌ {A = Option ℕ × Cursor} (Some d, s) (None, t) = cc in
-    let first : Some d ≡ None = ap (λ (x : Option ℕ × Cursor). x.0) pair in
-    absurd (cc)
+    let first : Some d ≡ None = ap (λ (x : Option ℕ × Cursor). x.0) pair in absurd (cc)
 
 pub word_ends : (q : Quote) (start : Marker) (s t : Cursor) → special q start s ≡ Ok (None, t)
     → is_literal q (slice_index s.rest 0) ≡ false → IsTrue (ends_word q s.rest)
 unfolding special is_literal
-word_ends Single start s t =
-    by_test (next_2_are s.rest 39 39) _ _
+word_ends Single start s t = by_test (next_2_are s.rest 39 39) _ _
     (λ (r : Result (Option ℕ × Cursor) Refusal). r ≡ Ok (None, t) → is_literal Single (slice_index s.rest 0) ≡ false
     → IsTrue (ends_word Single s.rest))
     (λ h e l. absurd (some_none 39 (pass 2 s) t e))
     (λ h e l. word_ends_single (is_blank_or_breakz (slice_index s.rest 0)) (slice_index s.rest 0 == 39)
     (slice_index s.rest 1 == 39) l h)
-word_ends Double start s t =
-    by_test ((slice_index s.rest 0 == 92) && not (is_break (slice_index s.rest 1))) _ _
+word_ends Double start s t = by_test ((slice_index s.rest 0 == 92) && not (is_break (slice_index s.rest 1))) _ _
     (λ (r : Result (Option ℕ × Cursor) Refusal). r ≡ Ok (None, t) → is_literal Double (slice_index s.rest 0) ≡ false
     → IsTrue (ends_word Double s.rest))
     (λ h e l. absurd (never (escaped_character start s) e))

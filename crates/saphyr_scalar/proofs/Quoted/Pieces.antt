@@ -95,8 +95,7 @@ break_piece (c ∷ cs) p x h =
     (λ b. feed_piece cs p x b) (λ b. returns (slice_index cs 0 == 10) refl b)
   where
     returns : (two : Bool) → (slice_index cs 0 == line_feed) ≡ two
-        → Begins p (drop (cond two 2 1) (carriage_return ∷ cs)) x
-        → BreakPiece (carriage_return ∷ cs) p x
+        → Begins p (drop (cond two 2 1) (carriage_return ∷ cs)) x → BreakPiece (carriage_return ∷ cs) p x
     returns true is b = both_piece cs p x b is
     returns false is b = return_piece cs p x is b
 
@@ -152,8 +151,7 @@ itself_of : (q : Quote) (c : ℕ) → IsTrue (quotes.stands_for_itself q c) → 
 itself_of q c h = by_tests (c == 10) (c == 13) (c == 0) (flow.is_special q c) refl refl h
   where
     by_tests : (a b z d : Bool) → (c == carriage_return) ≡ b → flow.is_special q c ≡ d
-        → (not ((a || b) || z) && not d) ≡ true
-        → Itself q c
+        → (not ((a || b) || z) && not d) ≡ true → Itself q c
     by_tests false false false false r s h = record { no_return = r; plain = s }
     by_tests true b z d r s h = absurd (cc)
     by_tests false true z d r s h = absurd (cc)
@@ -212,8 +210,7 @@ text_piece _ _ _ _ (quotes.broken q t items x h r) =
     let p = text_piece q (drop (break_len t) t) items x r in
     let b = break_piece t p.piece x h p.begins in
     piece_behind_item q Break t (drop (break_len t) t) items x (10 ∷ []) b.piece p
-    (raw_spelling q Break 10 (plain q) refl)
-    b.begins b.norm
+    (raw_spelling q Break 10 (plain q) refl) b.begins b.norm
   where
     plain : (q : Quote) → IsFalse (flow.is_special q 10)
     plain Single = refl
@@ -232,18 +229,15 @@ text_piece _ _ _ _ (quotes.numbered e c ds t items x h r) =
     let p = text_piece Double t items x r in
     piece_behind_item Double (Escaped c) (92 ∷ e ∷ (ds ++ t)) t items x (92 ∷ e ∷ ds) (92 ∷ e ∷ (ds ++ p.piece)) p
     (inr (e ∷ ds, inr (e, ds, h.count, number_spells e c ds h, refl), refl))
-    (begin_more 92 (e ∷ (ds ++ p.piece)) (e ∷ (ds ++ t)) x
-    (ap (λ (l : List ℕ). e ∷ (ds ++ l)) p.begins.cut
-    ∙ ap (λ (l : List ℕ). e ∷ l) (sym (append_assoc ds p.piece x))))
-    (ap (λ (l : List ℕ). 92 ∷ l)
+    (begin_more 92 (e ∷ (ds ++ p.piece)) (e ∷ (ds ++ t)) x (ap (λ (l : List ℕ). e ∷ (ds ++ l)) p.begins.cut
+    ∙ ap (λ (l : List ℕ). e ∷ l) (sym (append_assoc ds p.piece x)))) (ap (λ (l : List ℕ). 92 ∷ l)
     (normalized_other e (ds ++ p.piece) (no_return_count e (length ds) h.count)
     ∙ ap (λ (l : List ℕ). e ∷ l) (digits_same ds p.piece h.hex)))
 text_piece _ _ _ _ (quotes.escaped_break t items x h r) =
     let p = text_piece Double (drop (break_len t) t) items x r in
     let b = break_piece t p.piece x h p.begins in
     piece_behind_item Double EscapedBreak (92 ∷ t) (drop (break_len t) t) items x (92 ∷ 10 ∷ []) (92 ∷ b.piece) p
-    (inr (10 ∷ [], refl, refl))
-    (begin_more 92 b.piece t x b.begins.cut) (ap (λ (l : List ℕ). 92 ∷ l) b.norm)
+    (inr (10 ∷ [], refl, refl)) (begin_more 92 b.piece t x b.begins.cut) (ap (λ (l : List ℕ). 92 ∷ l) b.norm)
 
 normal_mark : (q : Quote) (p : List ℕ) → normalized (flow.mark q ∷ p) ≡ flow.mark q ∷ normalized p
 normal_mark Single p = refl

@@ -106,8 +106,7 @@ escape_passed start m (d ∷ ds) x e =
 special_told : (q : Quote) (start m : Marker) (c : ℕ) (cs : List ℕ) → IsQuotedInk c → is_literal q c ≡ false
     → SpecialTold q start m c cs (special q start (mid_line m (c ∷ cs)))
 unfolding special
-special_told Single start m c cs is plain =
-    by_test (next_2_are (c ∷ cs) 39 39) _ _ (SpecialTold Single start m c cs)
+special_told Single start m c cs is plain = by_test (next_2_are (c ∷ cs) 39 39) _ _ (SpecialTold Single start m c cs)
     (λ e. two_passed m c cs is.break (and_true_right (c == 39) (slice_index cs 0 == 39) e))
     (λ _ other. absurd (let quote : (c == 39) ≡ true = special_of Single c is plain in cc))
 special_told Double start m c cs is plain =
@@ -154,8 +153,7 @@ behind_break c cs = by_test (next_2_are (c ∷ cs) 13 10) 2 1 (λ n. drop n (c �
     (λ _. refl)
 
 inside_refused : (q : Quote) (indent : ℕ) (s : Cursor) (gap : QuotedGap) (k : ℕ) (m : Marker) (t : List ℕ)
-    → IsPassed s.mark s.rest m (drop k t)
-    → Refused (IsRefusedInside s) (inner_text q indent s.mark gap k m t)
+    → IsPassed s.mark s.rest m (drop k t) → Refused (IsRefusedInside s) (inner_text q indent s.mark gap k m t)
 unfolding inner_text
 inside_refused q indent s gap k m [] p = (s.rest, nothing s.mark s.rest)
 inside_refused q indent s gap zero m (c ∷ cs) p =
@@ -186,8 +184,7 @@ inside_refused q indent s gap zero m (c ∷ cs) p =
     (λ no_literal. refused_bind P (special q start (mid_line m (c ∷ cs))) _
     (refused_of_told (special q start (mid_line m (c ∷ cs))) (special_told q start m c cs is no_literal)) (λ x e.
     let told = subst (SpecialTold q start m c cs) e (special_told q start m c cs is no_literal) in
-    let escaped = λ (d : ℕ) (passed : IsPassed m (c ∷ cs) x.1.mark special_end).
-    front_refused P (encode_utf8 d) _
+    let escaped = λ (d : ℕ) (passed : IsPassed m (c ∷ cs) x.1.mark special_end). front_refused P (encode_utf8 d) _
     (inside_refused q indent s no_gap (special_len q (slice_index cs 0)) x.1.mark cs
     (passed_passed s.mark s.rest m (c ∷ cs) x.1.mark special_end p passed)) in
     let n = break_len cs in

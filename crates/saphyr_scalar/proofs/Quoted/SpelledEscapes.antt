@@ -36,13 +36,11 @@ nothing_text r b s e = absurd (cc)
 
 gave_first : (a c : ℕ) (s t : Cursor) → Gave (Ok (a, s)) c t → a ≡ c
 gave_first a c s t e =
-    let pair : ◌≡◌ {A = ℕ × Cursor} (a, s) (c, t) = cc in
-    ap (λ (x : ℕ × Cursor). x.0) pair
+    let pair : ◌≡◌ {A = ℕ × Cursor} (a, s) (c, t) = cc in ap (λ (x : ℕ × Cursor). x.0) pair
 
 gave_second : (a c : ℕ) (s t : Cursor) → Gave (Ok (a, s)) c t → s ≡ t
 gave_second a c s t e =
-    let pair : ◌≡◌ {A = ℕ × Cursor} (a, s) (c, t) = cc in
-    ap (λ (x : ℕ × Cursor). x.1) pair
+    let pair : ◌≡◌ {A = ℕ × Cursor} (a, s) (c, t) = cc in ap (λ (x : ℕ × Cursor). x.1) pair
 
 pub text_first : (a b : List ℕ) (s t : Cursor) → GaveText (Ok (a, s)) b t → a ≡ b
 text_first a b s t e =
@@ -76,9 +74,7 @@ digits_spelled start zero v t w s e = record {
 }
 digits_spelled start (suc n) v t w s e =
     by_test (is_hex (slice_index t.rest 0)) _ _ (λ r. Gave r w s → Digits v (suc n) t.mark t.rest w s)
-    (λ hex g. more t.rest hex (digits_spelled start n _ (pass 1 t) w s g))
-    (λ _ g. nothing _ w s g)
-    e
+    (λ hex g. more t.rest hex (digits_spelled start n _ (pass 1 t) w s g)) (λ _ g. nothing _ w s g) e
   where
     more : (xs : List ℕ) → is_hex (slice_index xs 0) ≡ true
         → Digits (v * 16 + hex_value (slice_index xs 0)) n (along t.mark 1) (drop 1 xs) w s
@@ -141,11 +137,9 @@ number_spelled start m e xs c s (Some n) asked g =
     } in
     record {
       grows = λ n items x r. subst (λ (y : List ℕ). quotes.IsCleanText n Double (92 ∷ e ∷ y) (Escaped c ∷ items) x)
-          (sym split)
-          (quotes.numbered n e c d.ds s.rest items x is r);
+          (sym split) (quotes.numbered n e c d.ds s.rest items x is r);
       shorter = rw (split, length-append) (omega arith);
-      passes = λ n u p. letter_passed m e xs n u
-          (no_break_digits e _ asked)
+      passes = λ n u p. letter_passed m e xs n u (no_break_digits e _ asked)
           (d.passes n u (subst (λ (x : Cursor). IsPassed x.mark x.rest n u) (sym k.2) p));
     }
 
@@ -157,13 +151,11 @@ of_spelled start m e xs c s (Some k) is g =
     let left : xs ≡ s.rest = ap (λ (u : Cursor). u.rest) (gave_second k c (pass 2 (mid_line m (92 ∷ e ∷ xs))) s g) in
     record {
       grows = λ n items x r. subst (λ (y : List ℕ). quotes.IsCleanText n Double (92 ∷ e ∷ y) (Escaped c ∷ items) x)
-          (sym left)
-          (quotes.escaped n e c s.rest items x (is ∙ ap Some same) r);
+          (sym left) (quotes.escaped n e c s.rest items x (is ∙ ap Some same) r);
       shorter = rw left (omega arith);
       passes = λ n u p. letter_passed m e xs n u (no_break_simple e k is)
           (subst (λ (x : Cursor). IsPassed x.mark x.rest n u)
-          (sym (gave_second k c (pass 2 (mid_line m (92 ∷ e ∷ xs))) s g))
-          p);
+          (sym (gave_second k c (pass 2 (mid_line m (92 ∷ e ∷ xs))) s g)) p);
     }
 of_spelled start m e xs c s None is g = number_spelled start m e xs c s (digit_count e) refl g
 

@@ -45,8 +45,7 @@ pub record Spelled (indent : ℕ) (q : Quote) (gap : QuotedGap) (m : Marker) (xs
 
 -- what is known of shorter texts
 abbrev pub Known : ℕ → Quote → ℕ → Marker → Type 0
-Known n q indent start =
-    (gap : QuotedGap) (m : Marker) (xs b : List ℕ) (s : Cursor) → length xs ≤ n
+Known n q indent start = (gap : QuotedGap) (m : Marker) (xs b : List ℕ) (s : Cursor) → length xs ≤ n
     → GaveText (inner_text q indent start gap 0 m xs) b s → Spelled indent q gap m xs b s
 
 blank_itself : (q : Quote) (c : ℕ) → is_blank c ≡ true → IsTrue (quotes.stands_for_itself q c)
@@ -117,12 +116,9 @@ blank_step n q indent start (on_line bytes) m c cs b s h le known g =
       clear = λ o _. blank_clear c cs h;
       reached = λ o. absurd o;
     }
-blank_step n q indent start (over_lines escaped k) m c cs b s h le known g =
-    by_test ((c == 9) && is_left indent m) _ _
+blank_step n q indent start (over_lines escaped k) m c cs b s h le known g = by_test ((c == 9) && is_left indent m) _ _
     (λ (r : Result QuotedGap Refusal). GaveText (r >>= λ g. inner_text q indent start g 0 (along m 1) cs) b s
-    → Spelled indent q (over_lines escaped k) m (c ∷ cs) b s)
-    (λ _ e. nothing_text _ b s e)
-    (λ left e.
+    → Spelled indent q (over_lines escaped k) m (c ∷ cs) b s) (λ _ e. nothing_text _ b s e) (λ left e.
     let r = known (over_lines escaped k) (along m 1) cs b s le e in
     record {
       items = Blank c ∷ r.items;
@@ -135,8 +131,7 @@ blank_step n q indent start (over_lines escaped k) m c cs b s h le known g =
     (sym (line_blank q indent start escaped k m c cs h) ∙ g)
 
 behind_break_shorter : (c : ℕ) (cs : List ℕ) → length (drop (break_len (c ∷ cs)) (c ∷ cs)) ≤ length cs
-behind_break_shorter c cs =
-    by_test (next_2_are (c ∷ cs) 13 10) 2 1 (λ n. length (drop n (c ∷ cs)) ≤ length cs)
+behind_break_shorter c cs = by_test (next_2_are (c ∷ cs) 13 10) 2 1 (λ n. length (drop n (c ∷ cs)) ≤ length cs)
     (λ _. omega (arith, length-drop {A = ℕ} 1 cs)) (λ _. omega arith)
 
 pub break_step : (n : ℕ) (q : Quote) (indent : ℕ) (start : Marker) (gap : QuotedGap) (m : Marker) (c : ℕ)

@@ -39,15 +39,13 @@ given_is : (x y : List ℕ) → ◌≡◌ {A = Result (List ℕ) Refusal} (Ok x)
 given_is x y e = cc
 
 abbrev LinesEnded : ℕ → Bool → ℕ → Cursor → List ℕ → Result Cursor Refusal → Type 0
-LinesEnded indent escaped n s text r =
-    (r >>= λ t. Ok (encode_utf8_all (folded_break escaped n))) ≡ Ok text
+LinesEnded indent escaped n s text r = (r >>= λ t. Ok (encode_utf8_all (folded_break escaped n))) ≡ Ok text
     → Ended indent (over_lines escaped n) s.mark.col s.rest text
 
 pub gap_ended : (indent : ℕ) (start : Marker) (gap : QuotedGap) (s : Cursor) (text : List ℕ)
     → end_gap indent start gap s ≡ Ok text → Ended indent gap s.mark.col s.rest text
 unfolding end_gap quoted_line
-gap_ended indent start (on_line bytes) s text =
-    by_test (is_z (slice_index s.rest 0)) _ _
+gap_ended indent start (on_line bytes) s text = by_test (is_z (slice_index s.rest 0)) _ _
     (λ (r : Result (List ℕ) Refusal). r ≡ Ok text → Ended indent (on_line bytes) s.mark.col s.rest text)
     (λ _ e. no_error_is_ok _ text e)
     (λ nul e. record { bytes = given_is bytes text e; clear = λ o. absurd o; right = λ o. absurd o; nul = nul })

@@ -86,15 +86,12 @@ cases false at_true at_false = at_false refl
 
 two_passed : (m : Marker) (cs : List ℕ) (n : Marker) (u : List ℕ) → IsPassed (along m 2) cs n u
     → IsPassed m (apostrophe ∷ apostrophe ∷ cs) n u
-two_passed m cs n u p =
-    character m 39 (39 ∷ cs) n u refl
-    (character (along m 1) 39 cs n u refl
+two_passed m cs n u p = character m 39 (39 ∷ cs) n u refl (character (along m 1) 39 cs n u refl
     (subst (λ (k : Marker). IsPassed k cs n u) (sym (along_more m 1 1 2 refl)) p))
 
 -- two single quotes, or the closing one
 quote_word : (n : ℕ) (indent : ℕ) (start m : Marker) (cs y : List ℕ) (s : Cursor) → length cs ≤ n
-    → Known n Single indent start
-    → GaveText (inner_text Single indent start no_gap 0 m (apostrophe ∷ cs)) y s
+    → Known n Single indent start → GaveText (inner_text Single indent start no_gap 0 m (apostrophe ∷ cs)) y s
     → Word indent Single m (apostrophe ∷ cs) y s
 quote_word n indent start m [] y s le known g = closed_word Single indent start m [] y s refl g
 quote_word n indent start m (d ∷ cs) y s le known g = cases (d == 39)
@@ -150,8 +147,7 @@ line_word n indent start m (c ∷ cs) y s first le known g = cases (c == 34)
     subst (λ (x : ℕ). Further indent m (x ∷ cs) y s) is
     (closes (ap (λ x. inner_text Double indent start no_gap 0 m (x ∷ cs)) is
     ∙ ap (λ g. inner_text Double indent start g 0 m (c ∷ cs)) (sym (gap_of (c == 34) h)) ∙ g)))
-    (λ h. further indent m (c ∷ cs) y s first
-    (known (over_lines true 0) m (c ∷ cs) y s le
+    (λ h. further indent m (c ∷ cs) y s first (known (over_lines true 0) m (c ∷ cs) y s le
     (ap (λ g. inner_text Double indent start g 0 m (c ∷ cs)) (sym (line_of (c == 34) h)) ∙ g)))
   where
     gap_of : (b : Bool) → b ≡ true → cond b no_gap (over_lines true 0) ≡ no_gap
@@ -181,15 +177,13 @@ line_word n indent start m (c ∷ cs) y s first le known g = cases (c == 34)
 
 -- an escape, or an escaped break
 backslash_word : (n : ℕ) (indent : ℕ) (start m : Marker) (cs y : List ℕ) (s : Cursor) → length cs ≤ n
-    → Known n Double indent start
-    → GaveText (inner_text Double indent start no_gap 0 m (backslash ∷ cs)) y s
+    → Known n Double indent start → GaveText (inner_text Double indent start no_gap 0 m (backslash ∷ cs)) y s
     → Word indent Double m (backslash ∷ cs) y s
 backslash_word n indent start m [] y s le known g =
     let t = then_text (escaped_character start (mid_line m (92 ∷ []))) _ y s
     (sym (at_escape indent start m [] refl) ∙ g) in
     absurd (no_escape start m t.0 t.1 t.2)
-backslash_word n indent start m (e ∷ xs) y s le known g = cases (is_break e)
-    (λ h.
+backslash_word n indent start m (e ∷ xs) y s le known g = cases (is_break e) (λ h.
     let r = line_word n indent start (next_line (along m 1) (break_len (e ∷ xs))) (drop (break_len (e ∷ xs)) (e ∷ xs)) y
     s refl (omega (arith, drop_shorter (break_len (e ∷ xs)) (e ∷ xs))) known
     (sym (at_escaped_break indent start m (e ∷ xs) h) ∙ g) in
@@ -225,26 +219,21 @@ special_of q c is h = by_cases (is_blank c) (is_break c) (is_z c) (flow.is_speci
     by_cases false false false false x y w h = absurd (cc)
 
 pub word_spelled : (n : ℕ) (q : Quote) (indent : ℕ) (start m : Marker) (c : ℕ) (cs y : List ℕ) (s : Cursor)
-    → IsQuotedInk c
-    → length cs ≤ n → Known n q indent start
+    → IsQuotedInk c → length cs ≤ n → Known n q indent start
     → GaveText (inner_text q indent start no_gap 0 m (c ∷ cs)) y s → Word indent q m (c ∷ cs) y s
 word_spelled n q indent start m c cs y s is le known g = cases (is_literal q c)
-    (λ h. literal_word n q indent start m c cs y s is h le known g)
-    (λ h. by_quote q known g (special_of q c is h))
+    (λ h. literal_word n q indent start m c cs y s is h le known g) (λ h. by_quote q known g (special_of q c is h))
   where
     by_quote : (q : Quote) → Known n q indent start → GaveText (inner_text q indent start no_gap 0 m (c ∷ cs)) y s
         → flow.is_special q c ≡ true → Word indent q m (c ∷ cs) y s
     by_quote Single known g special =
         let same : 39 ≡ c = sym (eqb-true c 39 special) in
-        subst (λ (x : ℕ). Word indent Single m (x ∷ cs) y s) same
-        (quote_word n indent start m cs y s le known
+        subst (λ (x : ℕ). Word indent Single m (x ∷ cs) y s) same (quote_word n indent start m cs y s le known
         (ap (λ x. inner_text Single indent start no_gap 0 m (x ∷ cs)) same ∙ g))
     by_quote Double known g special = either (c == 34) (c == 92) (Word indent Double m (c ∷ cs) y s) special
         (λ h. let same : 34 ≡ c = sym (eqb-true c 34 h) in
-        subst (λ (x : ℕ). Word indent Double m (x ∷ cs) y s) same
-        (closed_word Double indent start m cs y s refl
+        subst (λ (x : ℕ). Word indent Double m (x ∷ cs) y s) same (closed_word Double indent start m cs y s refl
         (ap (λ x. inner_text Double indent start no_gap 0 m (x ∷ cs)) same ∙ g)))
         (λ h. let same : 92 ≡ c = sym (eqb-true c 92 h) in
-        subst (λ (x : ℕ). Word indent Double m (x ∷ cs) y s) same
-        (backslash_word n indent start m cs y s le known
+        subst (λ (x : ℕ). Word indent Double m (x ∷ cs) y s) same (backslash_word n indent start m cs y s le known
         (ap (λ x. inner_text Double indent start no_gap 0 m (x ∷ cs)) same ∙ g)))

@@ -27,8 +27,7 @@ digits_read : (start m : Marker) (v : ℕ) (ds t : List ℕ) → AreIn is_hex ds
     )
 unfolding digits
 digits_read start m v [] t h = ap (λ x. Ok (v, mid_line x t)) (sym (along_none m))
-digits_read start m v (d ∷ ds) t h =
-    rw h.0 (digits_read start (along m 1) _ ds t h.1
+digits_read start m v (d ∷ ds) t h = rw h.0 (digits_read start (along m 1) _ ds t h.1
     ∙ ap (λ x. Ok (spelling.hexadecimal_from v (d ∷ ds), mid_line x t))
     (along_more m 1 (length ds) (suc (length ds)) (omega arith)))
 
@@ -111,16 +110,14 @@ escape_reads : (indent : ℕ) (start : Marker) (b : List ℕ) (m : Marker) (e c 
     → ReadsInside indent start [] (along m k) rest v x n
     → ReadsInside indent start b m (backslash ∷ e ∷ t) (c ∷ v) x (k + n)
 escape_reads indent start b m e c t v x rest k n no_break h r =
-    flushed Double indent start b m 92 (e ∷ t) escape_content
-    ∙ ap (with_front b)
+    flushed Double indent start b m 92 (e ∷ t) escape_content ∙ ap (with_front b)
     (at_escape indent start m (e ∷ t) no_break
     ∙ ap (λ y. y >>= λ z. with_front (encode_utf8 z.0) (inner_text_at Double indent start no_gap z.1)) h
     ∙ ap (with_front (encode_utf8 c)) r)
     ∙ ap (λ y. Ok (b ++ encode_utf8_all (c ∷ v), mid_line y x)) (along_more m k n (k + n) refl)
 
 itself_reads : (indent : ℕ) (start : Marker) (b : List ℕ) (m : Marker) (c : ℕ) (t v x : List ℕ) (n : ℕ)
-    → IsTrue (spelling.stands_in_double_quotes c)
-    → ((b : List ℕ) → ReadsInside indent start b (along m 1) t v x n)
+    → IsTrue (spelling.stands_in_double_quotes c) → ((b : List ℕ) → ReadsInside indent start b (along m 1) t v x n)
     → ReadsInside indent start b m (c ∷ t) (c ∷ v) x (1 + n)
 itself_reads indent start b m c t v x n h r = by_blank (is_blank c) refl
   where
@@ -128,12 +125,10 @@ itself_reads indent start b m c t v x n h r = by_blank (is_blank c) refl
     on y = ap (λ z. text_given_at y z x) (along_more m 1 n (1 + n) refl)
 
     by_blank : (a : Bool) → is_blank c ≡ a → ReadsInside indent start b m (c ∷ t) (c ∷ v) x (1 + n)
-    by_blank true blank =
-        one_blank Double indent start b m c t blank ∙ r (b ++ encode_utf8 c)
+    by_blank true blank = one_blank Double indent start b m c t blank ∙ r (b ++ encode_utf8 c)
         ∙ ap (λ y. text_given_at y (along (along m 1) n) x) (append_assoc b (encode_utf8 c) (encode_utf8_all v))
         ∙ on (b ++ encode_utf8_all (c ∷ v))
-    by_blank false other =
-        flushed Double indent start b m c t (itself_content c h other)
+    by_blank false other = flushed Double indent start b m c t (itself_content c h other)
         ∙ ap (with_front b) (stands Double indent start m c t (itself_literal c h other)
         ∙ ap (with_front (encode_utf8 c)) (r [])) ∙ on (b ++ encode_utf8_all (c ∷ v))
 
@@ -158,8 +153,7 @@ inside_read indent start b m _ _ _ (spelling.numbered e c ds t v x h r) =
     let place : escaped_character start (mid_line m (92 ∷ e ∷ (ds ++ t))) ≡ Ok (c, mid_line (along m k) t) =
     number_read start m e c ds t h ∙ ap (λ y. Ok (c, mid_line y t)) (along_more m 2 (length ds) k refl) in
     escape_reads indent start b m e c (ds ++ t) v x t k (spelled_len t v x r)
-    (no_break_digits e (length ds) h.count) place
-    (inside_read indent start [] (along m k) t v x r)
+    (no_break_digits e (length ds) h.count) place (inside_read indent start [] (along m k) t v x r)
 
 -- A double quoted scalar that is spelled on one line is read: its characters, and what comes after it.
 pub double_quoted_read : (indent : ℕ) (s : Cursor) (v x : List ℕ) → spelling.IsDoubleQuoted s.rest v x

@@ -22,15 +22,13 @@ both_true false b h = absurd (cc)
 
 -- a character is passed
 abbrev PassesQuotedCharacter : Quote → ℕ → Marker → Marker → ℕ → List ℕ → Type 0
-PassesQuotedCharacter q indent start m c cs =
-    inner_text q indent start no_gap 0 m (c ∷ cs)
+PassesQuotedCharacter q indent start m c cs = inner_text q indent start no_gap 0 m (c ∷ cs)
     ≡ with_front (encode_utf8 c) (inner_text q indent start no_gap 0 (along m 1) cs)
 
 space_passed : (q : Quote) (indent : ℕ) (start m : Marker) (cs : List ℕ) → is_content (slice_index cs 0) ≡ true
     → PassesQuotedCharacter q indent start m 32 cs
 space_passed q indent start m [] h = absurd (cc)
-space_passed q indent start m (d ∷ ds) h =
-    one_blank q indent start [] m 32 (d ∷ ds) refl
+space_passed q indent start m (d ∷ ds) h = one_blank q indent start [] m 32 (d ∷ ds) refl
     ∙ flushed q indent start (encode_utf8 32) (along m 1) d ds (content_of d (not-true (is_blank_or_breakz d) h))
 
 word_passed : (q : Quote) (indent : ℕ) (start m : Marker) (c : ℕ) (cs : List ℕ)
@@ -38,8 +36,7 @@ word_passed : (q : Quote) (indent : ℕ) (start m : Marker) (c : ℕ) (cs : List
     → PassesQuotedCharacter q indent start m c cs
 word_passed q indent start m c cs h =
     either (is_literal q c) ((c == 32) && is_content (slice_index cs 0)) (PassesQuotedCharacter q indent start m c cs) h
-    (λ is. stands q indent start m c cs is)
-    (λ is.
+    (λ is. stands q indent start m c cs is) (λ is.
     let two = both_true (c == 32) (is_content (slice_index cs 0)) is in
     let space : c ≡ 32 = grind (arith, nat_tests) in
     rw space (space_passed q indent start m cs two.1))
@@ -50,8 +47,7 @@ piece_on : (q : Quote) (indent : ℕ) (start m : Marker) (c : ℕ) (cs : List �
 piece_on q indent start m c cs n h r =
     h ∙ ap (with_front (encode_utf8 c)) r ∙ front_twice (encode_utf8 c) (encode_utf8_all (take n cs)) _
     ∙ ap (λ x. with_front (encode_utf8 c ++ encode_utf8_all (take n cs))
-    (inner_text q indent start no_gap 0 x (drop n cs)))
-    (along_more m 1 n (suc n) (omega arith))
+    (inner_text q indent start no_gap 0 x (drop n cs))) (along_more m 1 n (suc n) (omega arith))
 
 words_piece : (q : Quote) (indent : ℕ) (start m : Marker) (n : ℕ) (xs : List ℕ)
     → n ≤ words_len (is_literal q) is_content xs → WordPiece q indent start m xs n
@@ -62,8 +58,7 @@ words_piece q indent start m (suc n) (c ∷ cs) l =
     by_test (is_literal q c || ((c == 32) && is_content (slice_index cs 0)))
     (1 + words_len (is_literal q) is_content cs) 0 (λ k. suc n ≤ k → WordPiece q indent start m (c ∷ cs) (suc n))
     (λ h less. piece_on q indent start m c cs n (word_passed q indent start m c cs h)
-    (words_piece q indent start (along m 1) n cs (omega (arith, less))))
-    (λ _ less. absurd (omega (arith, less))) l
+    (words_piece q indent start (along m 1) n cs (omega (arith, less)))) (λ _ less. absurd (omega (arith, less))) l
 
 pub words_moved : (q : Quote) (text grown : List ℕ) (n : ℕ) (s : Cursor) (left : List ℕ) (m : Marker)
     → TransfersWords (is_literal q) is_content n s.rest left text grown → m ≡ along s.mark n

@@ -25,10 +25,7 @@ use Rattle.saphyr_scanner.proofs.Queues.{holding}
 
 place_counted : (o : Opening) (t : Piece) (r : Remaining)
     → length (before_place o t r).pieces ≡ tokens_at o + length r.pieces
-place_counted opening.Nothing t r = omega arith
-place_counted opening.Key t r = omega arith
-place_counted opening.BlockMappingAndKey t r = omega arith
-place_counted opening.FlowMappingAndKey t r = omega arith
+place_counted o t r = grind arith
 
 -- the tokens of the places, and those after them
 handed_counted : (m n : ℕ) (go : State → Remaining) (c : Core)
@@ -55,14 +52,12 @@ drop_stays limit s h =
 
 within_stays : (limit : ℕ) (s : State) → Given (IsWithinLimit limit) (fetch_within limit s)
 unfolding fetch_within
-within_stays limit s =
-    given_bind (IsWithinLimit limit) (fetch s) (check_limit limit) (λ t e.
+within_stays limit s = given_bind (IsWithinLimit limit) (fetch s) (check_limit limit) (λ t e.
     by_test (nat_le t.core.cursor.mark.index limit) _ _ (Given (IsWithinLimit limit))
     (λ i. let j : t.core.cursor.mark.index ≤ limit = grind (arith, nat_tests) in j) (λ _. tt))
 
 read_stays : (limit : ℕ) (s : State) → Given (IsWithinLimit limit) (fetch_within limit s >>= without_far_key)
-read_stays limit s =
-    given_bind (IsWithinLimit limit) (fetch_within limit s) without_far_key
+read_stays limit s = given_bind (IsWithinLimit limit) (fetch_within limit s) without_far_key
     (λ t e. drop_stays limit t (given_of (IsWithinLimit limit) (fetch_within limit s) t (within_stays limit s) e))
 
 -- ## What comes
@@ -91,8 +86,7 @@ counts_on n limit s t g w h =
 
 delivers_few : (n limit : ℕ) (s : State) (r : Result State Refusal) (go : State → Remaining) → CountsWithin n limit s
     → ((t : State) → r ≡ Ok t → IsFew n limit s (go t)) → IsFew n limit s (remaining_after r go)
-delivers_few n limit s (Ok t) go h others = others t refl
-delivers_few n limit s (Err e) go h others = none_few n limit s h
+delivers_few n limit s r go h others = grind arith
 
 run_few : Readers → ReaderEnds → (n limit fuel : ℕ) (s : State) → CountsWithin n limit s
     → IsFew n limit s (run fuel limit s)
@@ -122,8 +116,7 @@ run_few readers laws n limit (suc fuel) s h = handed (λ t. run_few readers laws
 
     handed : ((t : State) → CountsWithin n limit t → IsFew n limit t (run fuel limit t))
         → IsFew n limit s (run (suc fuel) limit s)
-    handed others =
-        whole (run (suc fuel) limit s)
+    handed others = whole (run (suc fuel) limit s)
         (handed_counted (5 * n) (open_blocks s.core + 5 * limit + 5 * size s.core) (behind fuel limit) s.core
         (λ k ps. part ps (behind fuel limit (holding s.core ps k)) k (here others k ps)) s.queue.handed s.queue.places)
 

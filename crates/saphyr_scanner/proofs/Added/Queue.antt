@@ -64,10 +64,7 @@ tokens_put [] t = refl
 tokens_put (p ∷ ps) t = let e = tokens_put ps t in omega (arith, e)
 
 some_tokens : (o : Opening) → (1 ≤ tokens_at o) × (tokens_at o ≤ 3)
-some_tokens opening.Nothing = (omega arith, omega arith)
-some_tokens opening.Key = (omega arith, omega arith)
-some_tokens opening.BlockMappingAndKey = (omega arith, omega arith)
-some_tokens opening.FlowMappingAndKey = (omega arith, omega arith)
+some_tokens o = grind arith
 
 tokens_opened : (n : ℕ) (o : Opening) (ps : List Place) → tokens_in (places_with_opening n o ps) ≤ tokens_in ps + 2
 tokens_opened n o [] = omega arith
@@ -90,8 +87,7 @@ at_most_one zero = 0
 at_most_one (suc n) = 1
 
 pub one_at_most : (n : ℕ) → at_most_one n ≤ 1
-one_at_most zero = omega arith
-one_at_most (suc n) = omega arith
+one_at_most n = grind arith
 
 -- how many block collections are open, each of which ends with a token
 abbrev pub open_blocks : Core → ℕ

@@ -51,9 +51,8 @@ going_on : (go : State → Remaining) (c : Core)
     → (k : ℕ) (ps : List Place) → PlacesGoOn ps → EndsWithStream (hand_out ps go (holding c ps k))
 going_on go c others k [] h = others k [] h
 going_on go c others k (p ∷ ps) h =
-    let next = going_on go c others (k + 1) ps h.1 in
     by_test (needs_token (holding c (p ∷ ps) k)) _ _ EndsWithStream (λ _. others k (p ∷ ps) h)
-    (λ _. place_before p.opening p.piece _ h.0 next)
+    (λ _. place_before p.opening p.piece _ h.0 (going_on go c others (k + 1) ps h.1))
 
 -- where the stream has ended all places are handed out
 ended_hands_out : (go : State → Remaining) (c : Core) → c.ended ≡ true
@@ -68,8 +67,7 @@ ended_hands_out go c over others k [] end h e =
 ended_hands_out go c over others k (p ∷ front) end h e =
     let next = ended_hands_out go c over others (k + 1) front end h.1 e in
     by_test (needs_token (holding c (p ∷ (front ++ bare_place end ∷ [])) k)) _ _ EndsWithStream
-    (λ n. absurd (let g = going c.ended _ n in cc))
-    (λ _. place_before p.opening p.piece _ h.0 next)
+    (λ n. absurd (let g = going c.ended _ n in cc)) (λ _. place_before p.opening p.piece _ h.0 next)
 
 delivers_end : (r : Result State Refusal) (go : State → Remaining) → ((t : State) → r ≡ Ok t → EndsWithStream (go t))
     → EndsWithStream (remaining_after r go)
@@ -85,21 +83,17 @@ run_ends laws limit (suc fuel) s f h = by s.core.ended refl (λ t. run_ends laws
 
     by : (b : Bool) → s.core.ended ≡ b
         → ((t : State) → size t.core < fuel → Standing t → EndsWithStream (run fuel limit t))
-        → EndStands b s.queue.places
-        → EndsWithStream (hand_out s.queue.places go s)
+        → EndStands b s.queue.places → EndsWithStream (hand_out s.queue.places go s)
     by true e others w =
         let P : List Place → Type 0 = λ ps. EndsWithStream (hand_out ps go (holding s.core ps s.queue.handed)) in
         subst P (sym w.4) (ended_hands_out go s.core e (λ k ps. cond-true s.core.ended none _ e) s.queue.handed w.0 w.1
         w.2 w.3)
-    by false e others w =
-        going_on go s.core
-        (λ k ps h.
+    by false e others w = going_on go s.core (λ k ps h.
         let t : State = holding s.core ps k in
         by_test t.core.ended _ _ EndsWithStream (λ i. absurd (cc))
         (λ i. delivers_end (fetch_within limit t >>= without_far_key) (run fuel limit) (λ u q.
         let a = given_of (Fetched t) (fetch_within limit t >>= without_far_key) u (read_fetched limit t i) q in
-        let less = a.smaller laws in others u (omega (arith, less, f)) (a.stands h))))
-        s.queue.handed s.queue.places w
+        let less = a.smaller laws in others u (omega (arith, less, f)) (a.stands h)))) s.queue.handed s.queue.places w
 
 pub scan_ends : Readers → (limit : ℕ) (text : List ℕ) → EndsWithStream (scan limit text)
 unfolding remaining drop_far_key

@@ -76,8 +76,7 @@ dash g c d first second b allowed column s o follows =
     let r : Core = forget_key c in
     let u = d.cursor in
     let later = apart_later (pass 1 c.cursor).mark (pass 1 c.cursor).rest u.mark u.rest o.apart in
-    and_then (λ n. n)
-    (loud (with_begun g (enclosures_of c)) 1 r (empty_piece u.mark tokens.BlockEntry) u (λ x. refl)
+    and_then (λ n. n) (loud (with_begun g (enclosures_of c)) 1 r (empty_piece u.mark tokens.BlockEntry) u (λ x. refl)
     (rw (follows (empty_piece u.mark tokens.BlockEntry).span) refl) (λ i. absurd (cc)) refl
     ((λ _. (allowed, ap (λ (m : Marker). m.line) o.on_line.4)), λ no. absurd (cc)) b refl
     (indicated 45 r u (empty_piece u.mark tokens.BlockEntry) (record { some = refl; unbroken = refl; is = first })
@@ -86,14 +85,11 @@ dash g c d first second b allowed column s o follows =
     (further (freed (with_cursor u r)) d s (taken.nothing u.mark u.rest) (λ _. inl refl))
 
 -- where no block collection begins the innermost is at this column
-at_column : (i column : ℕ) (b : Bool) → b ≡ true → (b && nat_le i column) ≡ false → i ≤ column + 1
-    → i ≡ column + 1
-at_column i column true e f deep = let less = leb-false i column f in omega (arith, less, deep)
-at_column i column false e f deep = absurd (cc)
+at_column : (i column : ℕ) (b : Bool) → b ≡ true → (b && nat_le i column) ≡ false → i ≤ column + 1 → i ≡ column + 1
+at_column i column b e f deep = grind arith
 
 next_entry_does : (c : Core) → in_block c ≡ true → c.key_allowed ≡ true → IsDeep c
-    → slice_index c.cursor.rest 0 ≡ hyphen
-    → is_blank_or_breakz (slice_index c.cursor.rest 1) ≡ true
+    → slice_index c.cursor.rest 0 ≡ hyphen → is_blank_or_breakz (slice_index c.cursor.rest 1) ≡ true
     → Walked (Premises c) (Doing None c) c.cursor (block.next_entry c)
 unfolding block.next_entry
 next_entry_does c e allowed deep first second =
@@ -114,8 +110,7 @@ next_entry_does c e allowed deep first second =
     g.0 g.1
     (λ p. refl)))))
     (λ f. walked_then (Premises c) (Behind (pass_on 1 c)) (Doing None c) s
-    (block.pass_dash (pass_on 1 c) >>= remove_key)
-    _ (dash_walked c s (pass_on 1 c) a)
+    (block.pass_dash (pass_on 1 c) >>= remove_key) _ (dash_walked c s (pass_on 1 c) a)
     (λ d g. at_most (omega arith) (and_then (λ n. n)
     (lesser (enclosures_of c) c (forget_key c) (record { block = refl; key = inr refl }) refl (λ n. n)
     (taken.nothing s.mark s.rest) (λ a. inl a))
@@ -124,9 +119,7 @@ next_entry_does c e allowed deep first second =
 
 -- a key may begin outside flow
 pub allowed_in : (block allowed : Bool) → (block && not allowed) ≡ false → block ≡ true → allowed ≡ true
-allowed_in true true e b = refl
-allowed_in true false e b = absurd (cc)
-allowed_in false allowed e b = absurd (cc)
+allowed_in block allowed e b = grind arith
 
 pub block_entry_does : (c : Core) → IsDeep c → slice_index c.cursor.rest 0 ≡ hyphen
     → is_blank_or_breakz (slice_index c.cursor.rest 1) ≡ true
@@ -145,8 +138,7 @@ abbrev Asked : Core → Core → Type 0
 Asked c d = Same (forget_key c) d × AreApart (pass 1 c.cursor) d.cursor
 
 question_walked : (A : Type 0) (c : Core) → Reaches c.cursor (pass 1 c.cursor)
-    → Walked A (Asked c) c.cursor
-    (remove_key c >>= λ d. block.pass_question (record d { key_allowed = in_block d }))
+    → Walked A (Asked c) c.cursor (remove_key c >>= λ d. block.pass_question (record d { key_allowed = in_block d }))
 unfolding remove_key block.behind_mark
 question_walked A c a =
     let t = spaces_at false (pass 1 c.cursor) in
@@ -160,11 +152,8 @@ question_walked A c a =
 
 -- what encloses the tokens after a `?`
 question_encloses : (x : Context) (outside : Outside)
-    → free (enclosure_of (behind_question x)) outside
-    ≡ free (place.behind_question (enclosure_of x)) outside
-question_encloses context.FlowSequence outside = refl
-question_encloses context.FlowPair outside = refl
-question_encloses _ outside = refl
+    → free (enclosure_of (behind_question x)) outside ≡ free (place.behind_question (enclosure_of x)) outside
+question_encloses x outside = grind arith
 
 -- From c, which comes before the `?`, outside flow at the column of its mapping, which may have begun. The context
 -- before was x.
@@ -182,10 +171,8 @@ question g x c d turned none first second column s a follows =
     let t : Piece = record { span = record { start = c.cursor.mark; end = u.mark }; kind = tokens.Key } in
     let some = has_some t.span (omega (arith, later.index)) in
     let behind : enclosures_of c ≡ enclosures_behind tokens.Key t.span within =
-    ap (λ y. free (enclosure_of y) (outside_of c)) turned ∙ question_encloses x (outside_of c)
-    ∙ sym (marked (has_text t.span) some) in
-    and_then (λ n. n)
-    (encloses behind (quiet_within within 1 c t u refl (λ y. refl) (λ y. refl) (inl none)
+    cc (question_encloses x (outside_of c), marked (has_text t.span) some) in
+    and_then (λ n. n) (encloses behind (quiet_within within 1 c t u refl (λ y. refl) (λ y. refl) (inl none)
     (λ _. rw (follows t.span, some) refl) (λ i. absurd (cc)) refl
     (indicated 63 c u t (record { some = refl; unbroken = refl; is = first }) a (omega arith)
     (omega (arith, later.index)) (omega arith)
@@ -202,13 +189,10 @@ question g x c d turned none first second column s a follows =
         (free (enclosure_of x) (outside_of c)) else awaiting_colon c.cursor.mark
         (free (enclosure_of x) (outside_of c)))
         ≡ free (place.behind_question (enclosure_of x)) (outside_of c)
-    marked true e = refl
-    marked false e = absurd (cc)
+    marked b e = grind arith
 
 question_block : (x : Context) → is_block (behind_question x) ≡ is_block x
-question_block context.FlowSequence = refl
-question_block context.FlowPair = refl
-question_block _ = refl
+question_block x = grind arith
 
 pub key_does : (c : Core) → IsDeep c → slice_index c.cursor.rest 0 ≡ question_mark
     → is_blank_or_breakz (slice_index c.cursor.rest 1) ≡ true
@@ -230,8 +214,7 @@ key_does c deep first second =
     (block_begins (enclosure_of c.level.context) c tokens.BlockMappingStart place.BlockMapping
     (λ i. absurd (cc)) refl refl (allowed_in (in_block c) c.key_allowed w (further_block s.mark.col c f))
     (λ i p u t h. h) (λ j y. refl) (λ p all. refl) (λ p columns. refl)
-    (further_block s.mark.col c f) (further_right s.mark.col c f) (ap taken.begins_text first))
-    (and_then (λ n. n)
+    (further_block s.mark.col c f) (further_right s.mark.col c f) (ap taken.begins_text first)) (and_then (λ n. n)
     (lesser (with_begun place.BlockMapping (enclosures_of (enter_block s.mark.col c)))
     (forget_key (enter_block s.mark.col c)) (forget_key r)
     (record { block = question_block c.level.context; key = inr refl }) refl (λ n. n) (taken.nothing s.mark s.rest)

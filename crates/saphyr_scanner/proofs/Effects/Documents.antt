@@ -121,8 +121,7 @@ pub marker_walked : (stands : List ℕ → Bool) (text : List ℕ) (kind : Kind)
     → Walked (Premises s.core) (λ (t : State). Documented s t × (t.core.cursor ≡ pass 3 s.core.cursor)) s.core.cursor
     (document.state_behind_marker kind s)
 unfolding document.state_behind_marker
-marker_walked stands text kind marking no_end s col e =
-    walked_then (Premises s.core) (Content s)
+marker_walked stands text kind marking no_end s col e = walked_then (Premises s.core) (Content s)
     (λ (t : State). Documented s t × (t.core.cursor ≡ pass 3 s.core.cursor)) s.core.cursor (document.end_content s) _
     (content_walked s (inr (col, inl (marking.ends s.core.cursor.rest e)))) (λ t c.
     let d : Core = document.pass_marker t.core in
@@ -216,17 +215,13 @@ mark_walked s e =
     (λ _ _. at_here here)
     (λ w. let column = no_column here.mark.col (not (in_block s.core)) w in
     walked_then (Premises s.core) (Content s) (Documented s) here (document.end_content s) _
-    (content_walked s (inr (column, inr (inr (eqb-true (slice_index here.rest 0) byte_order_mark e)))))
-    (λ t c.
+    (content_walked s (inr (column, inr (inr (eqb-true (slice_index here.rest 0) byte_order_mark e))))) (λ t c.
     let d : Core = document.pass_mark t.core in
-    let first : slice_index t.core.cursor.rest 0 ≡ byte_order_mark =
-    ap (λ (u : Cursor). slice_index u.rest 0) c.cursor
+    let first : slice_index t.core.cursor.rest 0 ≡ byte_order_mark = ap (λ (u : Cursor). slice_index u.rest 0) c.cursor
     ∙ eqb-true (slice_index here.rest 0) byte_order_mark e in
     let is = cut_at byte_order_mark t.core.cursor.rest refl first in
-    let col : t.core.cursor.mark.col ≡ 0 = ap (λ (u : Cursor). u.mark.col) c.cursor
-    ∙ column in
-    let P : Cursor → Type 0 = λ u. Does (Unit {0}) None 1 5 t.core d
-    (up_to_here u.mark tokens.ByteOrderMark d ∷ []) in
+    let col : t.core.cursor.mark.col ≡ 0 = ap (λ (u : Cursor). u.mark.col) c.cursor ∙ column in
+    let P : Cursor → Type 0 = λ u. Does (Unit {0}) None 1 5 t.core d (up_to_here u.mark tokens.ByteOrderMark d ∷ []) in
     documented s t (record { core = d; actions = up_to_here here.mark tokens.ByteOrderMark d ∷ [] }) c (λ n. n)
     (subst P c.cursor (spelled t.core d c.no_key tokens.ByteOrderMark (byte_order_mark ∷ []) is (omega arith)
     (omega arith) refl
@@ -237,8 +232,7 @@ mark_walked s e =
     no_column n b f = zero_of n (first (nat_lt 0 n) b f)
       where
         first : (a b : Bool) → (a || b) ≡ false → a ≡ false
-        first false b g = refl
-        first true b g = absurd (cc)
+        first a b g = grind arith
 
         zero_of : (n : ℕ) → nat_lt 0 n ≡ false → n ≡ 0
         zero_of n g = grind (arith, nat_tests)
@@ -246,9 +240,7 @@ mark_walked s e =
 -- ## Directives
 
 directive_is_no_end : (d : ReadDirective) → IsNoEnd (document.directive_kind d)
-directive_is_no_end (version major minor) = λ i. absurd (cc)
-directive_is_no_end (tag_prefix handle prefix) = λ i. absurd (cc)
-directive_is_no_end (reserved name) = λ i. absurd (cc)
+directive_is_no_end d = grind arith
 
 directive_reading : (c : Core) (x : ReadDirective × Marker × Cursor) → c.cursor.mark.col ≡ 0
     → slice_index c.cursor.rest 0 ≡ percent_sign → directives.directive c.cursor ≡ Ok x
@@ -266,10 +258,9 @@ directive_reading c x col f e = record {
       let s = c.cursor in
       let mid : Cursor = mid_line (along s.mark (length text)) (tail ++ behind) in
       let there : Cursor = mid_line (along s.mark (length text + length tail)) behind in
-      let first : IsPassedOver mid.mark (tail ++ behind) (along mid.mark (length tail)) behind =
-      tail_apart mid.mark tail behind r.5 (breakz_no_non_break (slice_index behind 0) r.6) in
-      let second : AreApart mid there = subst (λ (m : Marker). IsPassedOver mid.mark (tail ++ behind) m behind)
-      (along_more s.mark (length text) (length tail) (length text + length tail) refl) first in
+      let first = tail_apart mid.mark tail behind r.5 (breakz_no_non_break (slice_index behind 0) r.6) in
+      let second : AreApart mid there = rw (along_more s.mark (length text) (length tail) (length text + length tail)
+      refl) at first in
       let P : Cursor → Type 0 = λ u. AreApart mid u in (
         mid,
         (λ b _. directive_is_token x.0 (surroundings b c) (record { start = s.mark; end = x.1 }) s mid (
@@ -316,8 +307,7 @@ directive_walked s col f =
         documented s t (record { core = d; actions = from_to t.core.cursor.mark x.1 kind ∷ [] }) c (λ n. n)
         (at_most (omega arith) (and_then (λ n. n)
         (quiet 1 t.core (record { span = record { start = t.core.cursor.mark; end = x.1 }; kind = kind }) x.2
-        (quiet_directive x.0) (directive_keeps x.0 (record { start = t.core.cursor.mark; end = x.1 }))
-        (inl c.no_key)
+        (quiet_directive x.0) (directive_keeps x.0 (record { start = t.core.cursor.mark; end = x.1 })) (inl c.no_key)
         (directive_is_no_end x.0) (unbound_directive x.0) (directive_reading t.core x col first e))
         (still (freed (with_cursor x.2 t.core)) d (refl, refl, λ n. n) refl (λ _. inl refl))))
     by t c (Err e) col first h = h

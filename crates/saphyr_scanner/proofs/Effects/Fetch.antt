@@ -45,8 +45,7 @@ use Rattle.std.proofs.Math.Bool.{or-true}
 -- ## What begins at a place
 
 deep_of : (deeper : Bool) (i col : ℕ) → nat_lt col (cond deeper i (i - 1)) ≡ false → i ≤ col + 1
-deep_of true i col e = let h = ltb-false col i e in omega (arith, h)
-deep_of false i col e = let h = ltb-false col (i - 1) e in omega (arith, h)
+deep_of deeper i col e = grind arith
 
 -- no token is where the line is not indented enough
 pub deep_here : (c : Core) → nat_lt c.cursor.mark.col (least_column c) ≡ false → IsDeep c
@@ -69,11 +68,9 @@ pub step_does : (first second n : ℕ) (c : Core) → 0 < length c.cursor.rest �
     → Walked (Premises c) (Stepped n c) c.cursor (step first second n c)
 step_does first second n c h f g deep =
     let does : (r : StepResult) → Walked (Premises c) (Doing (Some n) c) c.cursor r
-    → Walked (Premises c) (Stepped n c) c.cursor r =
-    λ r w. walked_step (Premises c) n c c.cursor r w in
+    → Walked (Premises c) (Stepped n c) c.cursor r = λ r w. walked_step (Premises c) n c c.cursor r w in
     let still : (r : StepResult) → Walked (Premises c) (Doing None c) c.cursor r
-    → Walked (Premises c) (Stepped n c) c.cursor r =
-    λ r w. unsaved_step (Premises c) n c c.cursor r w in
+    → Walked (Premises c) (Stepped n c) c.cursor r = λ r w. unsaved_step (Premises c) n c c.cursor r w in
     cases (Walked (Premises c) (Stepped n c) c.cursor) first second n c (record {
       sequence = λ e. does _ (start_does 91 tokens.FlowSequenceStart context.FlowSequence open_sequence sequence_starts
           sequence_opens sequence_enters refl n c (f ∙ e));
@@ -144,12 +141,10 @@ flags b c e = ap flag e
 of_advances : (s : State) (r : Result State Refusal) → s.core.ended ≡ false → Given (FetchesTokens 1 s) r
     → Given (Fetched s) r
 of_advances s (Ok t) going a = record {
-  smaller = λ laws. let x = a.less laws in
-      let b = flags t.core.started s.core.started a.started in
-      let e = flags t.core.ended s.core.ended a.ended in omega (arith, x, b, e);
+  smaller = λ laws. let b = flags t.core.started s.core.started a.started in
+      let e = flags t.core.ended s.core.ended a.ended in omega (arith, a.less laws, b, e);
   grows = a.grows;
-  stands = λ h. let P : Bool → Type 0 = λ b. EndStands b t.queue.places in
-      subst P (sym (a.ended ∙ going)) (a.goes_on h);
+  stands = λ h. subst (λ b. EndStands b t.queue.places) (sym (a.ended ∙ going)) (a.goes_on h);
   few = a.few;
 }
 of_advances s (Err f) going a = tt
@@ -188,17 +183,14 @@ end_fetched s going =
     let a = unroll_advances None m s i in
     by_test (length s.core.cursor.rest == 0) _ _ (Given (Fetched s))
     (λ _. by_test s.core.required _ _ (Given (Fetched s)) (λ _. tt)
-    (λ _. onward s t (Ok (document.finish m t)) a
-    (finish_fetched m t (a.ended ∙ going)
-    (same_index m s.core.cursor t.core.cursor (unrolled_cursor None m s) i))))
-    (λ _. tt)
+    (λ _. onward s t (Ok (document.finish m t)) a (finish_fetched m t (a.ended ∙ going)
+    (same_index m s.core.cursor t.core.cursor (unrolled_cursor None m s) i)))) (λ _. tt)
 
 here_fetched : (s : State) → s.core.ended ≡ false → Given (Fetched s) (fetch_here s)
 unfolding fetch_here state_behind_content
 here_fetched s going =
     let t = s.core.cursor.rest in let P = Given (Fetched s) in
-    by_test (is_z (slice_index t 0)) _ _ P (λ _. end_fetched s going) (λ z. let h : 0 < length t =
-    some_character_left t z in
+    by_test (is_z (slice_index t 0)) _ _ P (λ _. end_fetched s going) (λ z. let h = some_character_left t z in
     by_test (is_bom (slice_index t 0)) _ _ P (λ e. of_advances s _ going (documents_advance s _ (mark_walked s e)))
     (λ _. by_test ((s.core.cursor.mark.col == 0) && (slice_index t 0 == 37)) _ _ P
     (λ e. let w = and_parts (s.core.cursor.mark.col == 0) (slice_index t 0 == 37) e in
@@ -217,8 +209,7 @@ here_fetched s going =
 
 -- what comes before the next token is passed
 pub arrival_goes : (c : Core) → Given (Goes 0 c.cursor c) (pass_gap c >>= drop_far_key)
-arrival_goes c =
-    given_bind (Goes 0 c.cursor c) (pass_gap c) drop_far_key
+arrival_goes c = given_bind (Goes 0 c.cursor c) (pass_gap c) drop_far_key
     (λ d e. drop_goes 0 c.cursor c d
     (given_of (Goes 0 c.cursor c) (pass_gap c) d (gap_goes 0 c.cursor c c (goes_none c)) e))
 
@@ -226,8 +217,7 @@ pub arrive_advances : (s : State) → Given (FetchesTokens 0 s) (arrive s)
 unfolding arrive
 arrive_advances s =
     let r = pass_gap s.core >>= drop_far_key in
-    given_bind (FetchesTokens 0 s) (on_core r s.queue) _ (λ t e.
-    advances_advances 0 0 s t _
+    given_bind (FetchesTokens 0 s) (on_core r s.queue) _ (λ t e. advances_advances 0 0 s t _
     (given_of (FetchesTokens 0 s) (on_core r s.queue) t (on_core_fetches s r (arrival_goes s.core)) e)
     (unroll_advances (Some t.core.cursor.mark.col) t.core.cursor.mark t refl))
 
@@ -235,25 +225,21 @@ begin_fetched : (s : State) → s.core.started ≡ false → s.core.ended ≡ fa
 begin_fetched s first going = record {
   smaller = λ _. let e = flags s.core.started false first in omega (arith, e);
   grows = λ _. put_grows s s.core.cursor.mark tokens.StreamStart (record s.core { started = true }) refl refl;
-  stands = λ h.
-      let P : Bool → Type 0 = λ b. EndStands b (begin s).queue.places in subst P (sym going)
-      (place_goes_on s.queue.places (empty_piece s.core.cursor.mark tokens.StreamStart) h (λ i. absurd (cc)));
+  stands = λ h. rw going (place_goes_on s.queue.places (empty_piece s.core.cursor.mark tokens.StreamStart) h
+      (λ i. absurd (cc)));
   few = let x = tokens_put s.queue.places (empty_piece s.core.cursor.mark tokens.StreamStart) in omega (arith, x);
 }
 
 fetch_fetched : (s : State) → s.core.ended ≡ false → Given (Fetched s) (fetch s)
 unfolding fetch
-fetch_fetched s going =
-    by_test s.core.started _ _ (Given (Fetched s))
+fetch_fetched s going = by_test s.core.started _ _ (Given (Fetched s))
     (λ _. given_bind (Fetched s) (arrive s) fetch_here (λ t e.
     let a = given_of (FetchesTokens 0 s) (arrive s) t (arrive_advances s) e in
-    onward s t (fetch_here t) a (here_fetched t (a.ended ∙ going))))
-    (λ first. begin_fetched s first going)
+    onward s t (fetch_here t) a (here_fetched t (a.ended ∙ going)))) (λ first. begin_fetched s first going)
 
 within_fetched : (limit : ℕ) (s : State) → s.core.ended ≡ false → Given (Fetched s) (fetch_within limit s)
 unfolding fetch_within
-within_fetched limit s going =
-    given_bind (Fetched s) (fetch s) (check_limit limit) (λ t e.
+within_fetched limit s going = given_bind (Fetched s) (fetch s) (check_limit limit) (λ t e.
     by_test (nat_le t.core.cursor.mark.index limit) _ _ (Given (Fetched s))
     (λ _. given_of (Fetched s) (fetch s) t (fetch_fetched s going) e) (λ _. tt))
 
@@ -276,7 +262,6 @@ dropped s t (Err f) a g = tt
 
 pub read_fetched : (limit : ℕ) (s : State) → s.core.ended ≡ false
     → Given (Fetched s) (fetch_within limit s >>= without_far_key)
-read_fetched limit s going =
-    given_bind (Fetched s) (fetch_within limit s) without_far_key (λ t e.
+read_fetched limit s going = given_bind (Fetched s) (fetch_within limit s) without_far_key (λ t e.
     dropped s t (drop_far_key t.core) (given_of (Fetched s) (fetch_within limit s) t (within_fetched limit s going) e)
     (drop_goes 0 t.core.cursor t.core t.core (goes_none t.core)))

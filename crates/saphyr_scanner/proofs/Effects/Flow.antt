@@ -77,8 +77,7 @@ abbrev pub EntersAll : Kind → Context → Type 0
 EntersAll kind x = (span : Span) → span.start.index < span.end.index → Enters kind x span
 
 pub sequence_enters : EntersAll tokens.FlowSequenceStart context.FlowSequence
-sequence_enters span l =
-    record { encloses = λ all. refl; depth = λ d. refl; of_node = refl; fits = λ e columns. refl }
+sequence_enters span l = record { encloses = λ all. refl; depth = λ d. refl; of_node = refl; fits = λ e columns. refl }
 
 pub mapping_enters : EntersAll tokens.FlowMappingStart context.FlowMapping
 mapping_enters span l =
@@ -114,8 +113,7 @@ ended false all = all
 
 left_ended : (ends : Bool) (all : Enclosures)
     → place.left_for (ended ends all).outer (ended ends all).columns ≡ place.left_for all.outer all.columns
-left_ended true all = refl
-left_ended false all = refl
+left_ended ends all = grind arith
 
 -- a bracket that closes may come after the pair's end
 abbrev pub EndsPair : Bool → Context → Type 0
@@ -215,9 +213,7 @@ mapping_starts span l i s u h = by h
   where
     by : IsToken i tokens.FlowMappingStart span s u
         → (span.start ≡ s.mark) × IsTrue (begins_text (slice_index s.rest 0))
-    by (inl k) = (k.1, ap (λ t. begins_text (slice_index t 0)) k.0.0)
-    by (inr k) = absurd (let e : span.end.index ≡ span.start.index =
-        ap (λ (m : Marker). m.index) k.0 in omega (arith, e, l))
+    by h = grind arith
 
 stands : (x : ℕ) (kind : Kind) (s : Cursor) → Bracket x kind → slice_index s.rest 0 ≡ x → IndicatorStands x s
 stands x kind s b f = record { some = b.some; unbroken = b.unbroken; is = f }
@@ -254,8 +250,7 @@ start_does i kind x b starts counts enters flows n c f =
     let span : Span = record { start = c.cursor.mark; end = u.mark } in
     let some : c.cursor.mark.index < u.mark.index = omega (arith, later.index) in
     let into = enters span some in
-    and_then (λ n. n)
-    (entered n x c behind (bracket_piece kind c u) flows s refl (λ n. n) b.quiet (counts span some)
+    and_then (λ n. n) (entered n x c behind (bracket_piece kind c u) flows s refl (λ n. n) b.quiet (counts span some)
     into.encloses into.depth into.of_node into.fits b.no_end b.unbound (starts span some) refl
     (bracket_read i kind c u b f g.1))
     (further (flow.enter x behind) e.1 g.0 (taken.nothing u.mark u.rest) (λ _. inl refl)))))
@@ -314,8 +309,7 @@ bracket_walked x kind bracket c d ends first there silent may f alike put =
     (λ _. subst R (sym on) (passes x c.cursor (stands x kind c.cursor bracket first)))) (λ e g.
     let u : Cursor = e.1.cursor in
     let k = alike (freed (with_cursor u d)) e.1 g.0 refl in
-    let Q : Cursor → Type 0 = λ v. OnLine v u in
-    let o : OnLine (pass 1 c.cursor) u = subst Q on g.1 in
+    let o : OnLine (pass 1 c.cursor) u = rw on at g.1 in
     let later = apart_later (pass 1 c.cursor).mark (pass 1 c.cursor).rest u.mark u.rest o.apart in
     let token : DoesWithin (IsArrival c) (ended ends (enclosures_of c)) (enclosures_of (f e.1)) None 1 1 b (f e.1)
     (up_to_here c.cursor.mark kind e.1 ∷ []) = and_then (λ n. k.silent (silent n))
@@ -327,11 +321,9 @@ bracket_walked x kind bracket c d ends first there silent may f alike put =
     (taken.nothing c.cursor.mark c.cursor.rest) (λ a. inl a) in
     by_bool ends
     (λ b2. EndsPair b2 c.level.context → DoesWithin (IsArrival c) (ended b2 (enclosures_of c)) (enclosures_of (f e.1))
-    None 1 1 b (f e.1) (up_to_here c.cursor.mark kind e.1 ∷ [])
-    → Does (IsArrival c) None 1 5 c (f e.1)
+    None 1 1 b (f e.1) (up_to_here c.cursor.mark kind e.1 ∷ []) → Does (IsArrival c) None 1 5 c (f e.1)
     (flow.behind_pair b2 c.cursor.mark (up_to_here c.cursor.mark kind e.1)))
-    (λ _ pair last. at_most (omega arith) (and_then (λ n. n) forgets (and_then (λ n. n)
-    (pair_end c (pair refl)) last)))
+    (λ _ pair last. at_most (omega arith) (and_then (λ n. n) forgets (and_then (λ n. n) (pair_end c (pair refl)) last)))
     (λ _ _ last. at_most (omega arith) (and_then (λ n. n) forgets last)) may token)
   where
     pair_end : (c : Core) → IsTrue (may_end_pair (enclosure_of c.level.context))
@@ -341,9 +333,7 @@ bracket_walked x kind bracket c d ends first there silent may f alike put =
         let b : Core = with_key None c in
         let t = empty_piece c.cursor.mark tokens.FlowMappingEnd in
         let no = no_text c.cursor.mark.index in
-        and_then (λ n. n)
-        (encloses (rw no refl)
-        (quiet_within (enclosures_of c) 0 b t c.cursor refl
+        and_then (λ n. n) (encloses (rw no refl) (quiet_within (enclosures_of c) 0 b t c.cursor refl
         (λ y. ap (λ (z : Collections). z.brackets) (pair_ends c.cursor.mark y)) (λ d. rw no refl) (inl refl)
         (λ _. rw no may) (λ i. absurd (cc)) refl
         (empty_reading b tokens.FlowMappingEnd (λ _. inr (refl, inl refl, refl)))))
@@ -351,25 +341,21 @@ bracket_walked x kind bracket c d ends first there silent may f alike put =
 
 pub end_does : (i : ℕ) (kind : Kind) → Bracket i kind → Counts (λ n. n - 1) kind → LeavesAll kind
     → (ends : Bool) (c : Core) → EndsPair ends c.level.context → MayClose kind ends c.level.context
-    → slice_index c.cursor.rest 0 ≡ i
-    → Walked (Premises c) (Doing None c) c.cursor (flow.closing_steps ends kind c)
+    → slice_index c.cursor.rest 0 ≡ i → Walked (Premises c) (Doing None c) c.cursor (flow.closing_steps ends kind c)
 unfolding flow.closing_steps flow.close_collection
 end_does i kind b counts leaves ends c may close first =
     by_test (in_block c) _ _ (Walked (Premises c) (Doing None c) c.cursor) (λ _ _. at_here c.cursor)
     (λ inside. leaving c
-    (λ d. Walked (Premises c) (Doing None c) c.cursor
-    (separate (pass_on 1 d) >>= λ e. completed_step
+    (λ d. Walked (Premises c) (Doing None c) c.cursor (separate (pass_on 1 d) >>= λ e. completed_step
     (flow.behind_pair ends c.cursor.mark (up_to_here c.cursor.mark kind e.1)) (flow.allow_adjacent e.1)))
     (λ l ls m.
     bracket_walked i kind b c (record c { level = l; outer = ls; key_allowed = false }) ends first refl (λ n. n) may
-    flow.allow_adjacent adjacent_respected
-    (λ u some r.
+    flow.allow_adjacent adjacent_respected (λ u some r.
     let span : Span = record { start = c.cursor.mark; end = u.mark } in
     let out = leaves span some in
     let within = ended ends (enclosures_of c) in
     let t = bracket_piece kind c u in
-    let d : ℕ → Core =
-    λ n. record c { cursor = u; level = l; outer = ls; key_allowed = true; adjacent = n } in
+    let d : ℕ → Core = λ n. record c { cursor = u; level = l; outer = ls; key_allowed = true; adjacent = n } in
     let Closes : Core → Type 0 =
     λ e. DoesWithin (IsArrival c) within (enclosures_of e) None 1 1 (with_key None c) e (Put t ∷ []) in
     let closes : (n : ℕ) → Adjoins t c (d n) → Closes (d n) = λ n j.
@@ -381,23 +367,16 @@ end_does i kind b counts leaves ends c may close first =
     (λ _. closes u.mark.index (inr (refl, out.ends_json))))))
 
 entry_block : (x : Context) → is_block (behind_entry x) ≡ is_block x
-entry_block context.Block = refl
-entry_block _ = refl
+entry_block x = grind arith
 
 -- after a comma
 entry_encloses : (x : Context) (outside : Outside) (span : Span)
     → free (enclosure_of (behind_entry x)) outside
     ≡ enclosures_behind tokens.FlowEntry span (ended (ends_pair x) (free (enclosure_of x) outside))
-entry_encloses context.Block outside span = refl
-entry_encloses context.FlowSequence outside span = refl
-entry_encloses context.FlowPair outside span = refl
-entry_encloses context.ExplicitFlowPair outside span = refl
-entry_encloses context.MarkedFlowPair outside span = refl
-entry_encloses context.FlowMapping outside span = refl
+entry_encloses x outside span = grind arith
 
 entry_fits : (x : Context) (outside : Outside) (span : Span)
-    → FitsWithin (ended (ends_pair x) (free (enclosure_of x) outside))
-    (record { span = span; kind = tokens.FlowEntry })
+    → FitsWithin (ended (ends_pair x) (free (enclosure_of x) outside)) (record { span = span; kind = tokens.FlowEntry })
 entry_fits context.Block outside span = refl
 entry_fits context.FlowSequence outside span = refl
 entry_fits context.FlowPair outside span = refl
@@ -417,8 +396,7 @@ entry_does c first =
     (λ r. Walked (Premises c) (Doing None c) c.cursor (r >>= flow.next_flow_entry)) (λ _ _. at_here c.cursor)
     (λ _. bracket_walked 44 tokens.FlowEntry comma_is_bracket c d (ends_pair x) first refl (λ n. n) (pair_may_end x)
     (λ e. e) (λ v w s e. record { same = s; before = refl; behind = refl; silent = λ n. n; allows = refl })
-    (λ u some r. encloses (entry_encloses x (outside_of c) (bracket_piece tokens.FlowEntry c u).span)
-    (and_then (λ n. n)
+    (λ u some r. encloses (entry_encloses x (outside_of c) (bracket_piece tokens.FlowEntry c u).span) (and_then (λ n. n)
     (quiet_within within 1 b (bracket_piece tokens.FlowEntry c u) u refl (λ y. refl) (λ e. refl) (inl refl)
     (λ _. entry_fits x (outside_of c) (bracket_piece tokens.FlowEntry c u).span) (λ i. absurd (cc)) refl r)
     (lesser (enclosures_behind tokens.FlowEntry (bracket_piece tokens.FlowEntry c u).span within)

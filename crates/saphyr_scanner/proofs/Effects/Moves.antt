@@ -49,8 +49,7 @@ pub record DoesWithin (A : Type 0) (within behind : Enclosures) (n : Option ℕ)
   pub few : added actions + open_blocks d ≤ open_blocks c + w
   pub keeps : (h : ℕ) → IsBeforePlace h n → Above h c → Above h d × ActionsAbove h actions
   pub holds : A → TextLaws → (opened : Setting) (from : Cursor) (q : Queue) → IsNextPlace n c q
-      → HoldsWithin within opened from c q
-      → HoldsWithin behind opened from d (perform actions q)
+      → HoldsWithin within opened from c q → HoldsWithin behind opened from d (perform actions q)
   pub noted : c.comment ≡ None → IsNoted d.comment d.cursor
 
 abbrev pub Does : Type 0 → Option ℕ → ℕ → ℕ → Core → Core → List Action → Type 0
@@ -73,8 +72,7 @@ put_lower high mid low (Open k o ∷ others) l h = put_lower high mid low others
 puts_append : (high mid low : ℕ) (front back : List Action) → PutsInOrder mid low front → PutsInOrder high mid back
     → PutsInOrder high low (front ++ back)
 puts_append high mid low [] back a b = put_lower high mid low back a b
-puts_append high mid low (Put t ∷ others) back a b =
-    (a.0, a.1, puts_append high mid t.span.end.index others back a.2 b)
+puts_append high mid low (Put t ∷ others) back a b = (a.0, a.1, puts_append high mid t.span.end.index others back a.2 b)
 puts_append high mid low (Open k o ∷ others) back a b = puts_append high mid low others back a b
 
 goes_on_append : (front back : List Action) → PutsGoOn front → PutsGoOn back → PutsGoOn (front ++ back)
@@ -118,9 +116,8 @@ and_then {A} {x} {y} {z} {n} {k} {l} {v} {w} {c} {d} {e} {front} {back} m a b = 
       let p = a.keeps h i s in
       let q = b.keeps h tt p.0 in (q.0, above_append h front back p.1 q.1);
   holds = λ premise laws opened from q i h.
-      let P : Queue → Type 0 = λ r. HoldsWithin z opened from e r in
-      subst P (sym (perform_append front back q))
-      (b.holds premise laws opened from (perform front q) tt (a.holds premise laws opened from q i h));
+      rw (perform_append front back q) (b.holds premise laws opened from (perform front q) tt
+      (a.holds premise laws opened from q i h));
   noted = λ f. b.noted (m f);
 }
 
@@ -163,8 +160,6 @@ pub lesser : {A : Type 0} (within : Enclosures) (c d : Core) → Lesser c.level 
     → NoComment c d → AreApart c.cursor d.cursor → AllowsKey c d → DoesWithin A within within None 0 0 c d []
 lesser within c d l a m p allows =
     let later = apart_later c.cursor.mark c.cursor.rest d.cursor.mark d.cursor.rest p in
-    let blocks : open_blocks d ≡ open_blocks c =
-    ap (λ (x : Around). at_most_one x.indent + length x.outer_indents) a in
     record {
       less = λ _. omega (arith, later.index, later.counted);
       ahead = λ _. record { later = later.index; counted = later.counted };
@@ -172,13 +167,10 @@ lesser within c d l a m p allows =
       started = ap (λ (x : Around). x.started) a;
       ended = ap (λ (x : Around). x.ended) a;
       goes_on = tt;
-      few = omega (arith, blocks);
+      few = omega (arith, ap (λ (x : Around). at_most_one x.indent + length x.outer_indents) a);
       keeps = λ h _ x.
           let P : List Level → Type 0 = λ ls. LevelsAbove h ls in (
-            (
-              lesser_above h c.level d.level l x.0,
-              subst P (sym (ap (λ (y : Around). y.outer) a)) x.1,
-            ),
+            (lesser_above h c.level d.level l x.0, subst P (sym (ap (λ (y : Around). y.outer) a)) x.1),
             tt,
           );
       holds = λ _ _ opened from q _ h.
@@ -189,18 +181,15 @@ lesser within c d l a m p allows =
 
 pub further_within : {A : Type 0} (within : Enclosures) (c d : Core) → Same c d → AreApart c.cursor d.cursor
     → AllowsKey c d → DoesWithin A within within None 0 0 c d []
-further_within within c d s p allows =
-    lesser within c d
+further_within within c d s p allows = lesser within c d
     (record { block = ap (λ (l : Level). is_block l.context) s.0; key = inl (ap (λ (l : Level). l.key) s.0) }) s.1 s.2
     p allows
 
 pub same_around : (c d : Core) → Same c d → enclosures_of d ≡ enclosures_of c
-same_around c d s =
-    same_enclosures c d (ap (λ (l : Level). l.context) s.0) (ap (λ (x : Around). x.outer) s.1)
+same_around c d s = same_enclosures c d (ap (λ (l : Level). l.context) s.0) (ap (λ (x : Around). x.outer) s.1)
     (ap (λ (x : Around). x.indent) s.1) (ap (λ (x : Around). x.outer_indents) s.1)
 
-pub further : {A : Type 0} (c d : Core) → Same c d → AreApart c.cursor d.cursor → AllowsKey c d
-    → Does A None 0 0 c d []
+pub further : {A : Type 0} (c d : Core) → Same c d → AreApart c.cursor d.cursor → AllowsKey c d → Does A None 0 0 c d []
 further c d s p allows = encloses (same_around c d s) (further_within (enclosures_of c) c d s p allows)
 
 -- what is known stays, where the text doesn't go on
@@ -216,8 +205,7 @@ still c d s e allows = encloses (same_around c d s) (still_within (enclosures_of
 -- a flow collection is left for the level around it
 pub record Left (c : Core) (l : Level) (ls : List Level) : Type 0 where
   pub above : (h : ℕ) → LevelsAbove h c.outer → KeyAbove h l.key × LevelsAbove h ls
-  pub keys : (all : Enclosures) (b : ℕ) (q : Queue) → Keys all b q c.indent c.outer
-      → Keys all b q c.indent (l ∷ ls)
+  pub keys : (all : Enclosures) (b : ℕ) (q : Queue) → Keys all b q c.indent c.outer → Keys all b q c.indent (l ∷ ls)
   pub fewer : length ls ≡ length c.outer - 1
   pub encloses : (columns : List ℕ)
       → free (enclosure_of l.context) (record { enclosed = enclosed_by ls; columns = columns })

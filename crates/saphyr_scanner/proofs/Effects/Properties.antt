@@ -77,8 +77,7 @@ tag_begins text behind handle suffix (inr (inl h)) = ap (λ t. slice_index (t ++
 tag_begins text behind handle suffix (inr (inr h)) = ap (λ t. slice_index (t ++ behind) 0) h.4 ∙ by h.1
   where
     by : IsHandleText handle → slice_index ((handle ++ h.0) ++ behind) 0 ≡ exclamation_mark
-    by (inl e) = ap (λ t. slice_index ((t ++ h.0) ++ behind) 0) e
-    by (inr e) = ap (λ t. slice_index ((t ++ h.0) ++ behind) 0) e.2
+    by h = grind arith
 
 pub name_does : (token_of : List ℕ → Kind) (x : ℕ) → Named token_of x → (n : ℕ) (c : Core) → 0 < length c.cursor.rest
     → slice_index c.cursor.rest 0 ≡ x
@@ -120,8 +119,7 @@ tag_does n c first =
     (read_walked (Premises c) here (tags.tag f here) (λ e q laws. here_at here e.mark (laws.0.tag f here e q))) (λ y e.
     let span : Span = record { start = here.mark; end = y.2.mark } in
     saved n c (with_cursor y.2 d) (record { span = span; kind = tokens.Tag y.0 y.1 }) s refl (inl refl) (λ m. inl m)
-    refl
-    (neutral _ span refl) refl (λ i. absurd (cc)) (λ _. refl)
+    refl (neutral _ span refl) refl (λ i. absurd (cc)) (λ _. refl)
     (λ i a b k. (
       k.6.start,
       ap (λ t. begins_text (slice_index t 0)) k.6.is ∙ ap begins_text (tag_begins k.0 b.rest k.1 k.2 k.3),

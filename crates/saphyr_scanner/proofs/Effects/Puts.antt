@@ -71,10 +71,8 @@ passes x s h = character_reached x s (pass 1 s) h.unbroken (indicator_is_passed 
 
 -- its token, with separation after it
 pub indicated : (x : ℕ) (c : Core) (u : Cursor) (t : Piece) → IndicatorStands x c.cursor → AreApart (pass 1 c.cursor) u
-    → c.cursor.mark.index ≤ t.span.start.index → t.span.start.index ≤ t.span.end.index
-    → t.span.end.index ≤ u.mark.index
-    → (TakesCharacter x c.cursor (pass 1 c.cursor) → IsTokenThere c t c.cursor (pass 1 c.cursor))
-    → Reading 1 c t u
+    → c.cursor.mark.index ≤ t.span.start.index → t.span.start.index ≤ t.span.end.index → t.span.end.index ≤ u.mark.index
+    → (TakesCharacter x c.cursor (pass 1 c.cursor) → IsTokenThere c t c.cursor (pass 1 c.cursor)) → Reading 1 c t u
 indicated x c u t stands apart begins inside ends is =
     let takes = indicator_is_passed x c.cursor stands.some stands.is in
     let l : length c.cursor.rest ≡ length (x ∷ (pass 1 c.cursor).rest) = ap length takes.0 in
@@ -124,8 +122,7 @@ quiet_within within k c t u q b depth own fit e unbound r =
     let d : Core = freed (with_cursor u c) in
     encloses (sym (unbound_calm t.kind t.span within unbound))
     (putting within (calm (enclosures_behind t.kind t.span within)) None k 0 c d t r e refl refl (λ m. inl m)
-    (omega arith) (λ h _ a. a)
-    (λ premise laws opened from p _ h.
+    (omega arith) (λ h _ a. a) (λ premise laws opened from p _ h.
     let w = r.token laws in
     quiet_put within opened from c d p t c.cursor w.0 q b depth own (fit premise) (unbound_parted t c d unbound)
     (taken.nothing c.cursor.mark c.cursor.rest) w.1 w.2
@@ -135,8 +132,7 @@ quiet_within within k c t u q b depth own fit e unbound r =
 pub quiet : {A : Type 0} (k : ℕ) (c : Core) (t : Piece) (u : Cursor) → is_quiet t.kind ≡ true → Neutral t
     → IsFreeOr t c.level.key → IsNoEnd t.kind → is_unbound t.kind ≡ true → Reading k c t u
     → Does A None k 1 c (freed (with_cursor u c)) (Put t ∷ [])
-quiet k c t u q b own e unbound r =
-    encloses (sym (b.encloses (enclosure_of c.level.context) (outside_of c))
+quiet k c t u q b own e unbound r = encloses (sym (b.encloses (enclosure_of c.level.context) (outside_of c))
     ∙ unbound_calm t.kind t.span (enclosures_of c) unbound)
     (quiet_within (enclosures_of c) k c t u q b.brackets b.depth own
     (λ _. b.fits (enclosure_of c.level.context) (outside_of c).columns) e unbound r)
@@ -166,11 +162,9 @@ block_begins e c kind g n other same allowed is opens begins fit b right first =
     refl
     (λ m. inl m)
     (let y = one_at_most (c.cursor.mark.col + 1) in omega (arith, y)) (λ h _ a. (tt, a.1)) (λ _ _ opened from q _ h.
-    loud_put within opened from c d q t c.cursor c.cursor
-    none (λ i _. token i) none
-    (λ x k. subst (λ (l : Collections). Stands l d)
-    (sym (opens (record { start = c.cursor.mark; end = c.cursor.mark }) x))
-    ((refl, k.0), k.1)) refl (fit t.span within.columns) ((λ _. (allowed, refl)), λ no. absurd (cc)) refl
+    loud_put within opened from c d q t c.cursor c.cursor none (λ i _. token i) none
+    (λ x k. rw (opens (record { start = c.cursor.mark; end = c.cursor.mark }) x) ((refl, k.0), k.1)) refl
+    (fit t.span within.columns) ((λ _. (allowed, refl)), λ no. absurd (cc)) refl
     (outermost within opened from c q h b) b h))
 
 -- outside flow a token that changes nothing that is open, where no token may be a key
@@ -183,19 +177,15 @@ loud within k c t u same fit e other parted b none r =
     let d : Core = freed (with_cursor u c) in
     encloses (sym (same_calm t.kind t.span within other))
     (putting within (calm (enclosures_behind t.kind t.span within)) None k 0 c d t r e refl refl (λ m. inl m)
-    (omega arith)
-    (λ h _ a. a)
-    (λ _ laws opened from q _ h.
+    (omega arith) (λ h _ a. a) (λ _ laws opened from q _ h.
     let w = r.token laws in
     loud_put within opened from c d q t c.cursor w.0 (taken.nothing c.cursor.mark c.cursor.rest) w.1 w.2
-    (λ x k. subst (λ (l : Collections). Stands l d) (sym (same x)) k) refl fit parted none
-    (outermost within opened from c q h b) b h))
+    (λ x k. rw (same x) k) refl fit parted none (outermost within opened from c q h b) b h))
 
 -- ## A key is saved
 
 abbrev pub IsSaved : ℕ → Core → Level → Type 0
-IsSaved n c l =
-    (l ≡ c.level)
+IsSaved n c l = (l ≡ c.level)
     ⊎ (
     (l ≡ record { context = c.level.context; key = Some (record { mark = c.cursor.mark; place = n }) })
     × (c.key_allowed ≡ true)
@@ -207,8 +197,7 @@ saving n c P f = by_test c.key_allowed _ _ P (λ e. f _ _ (inr (refl, e))) (λ _
 
 -- the level is as much inside flow
 pub same_block : (n : ℕ) (c : Core) (l : Level) → IsSaved n c l → is_block l.context ≡ in_block c
-same_block n c l (inl e) = ap (λ (x : Level). is_block x.context) e
-same_block n c l (inr e) = ap (λ (x : Level). is_block x.context) e.0
+same_block n c l h = grind arith
 
 pub same_flow : (n : ℕ) (c : Core) (l : Level) → IsSaved n c l → not (is_block l.context) ≡ not (in_block c)
 same_flow n c l s = ap not (same_block n c l s)
@@ -221,10 +210,8 @@ saved_above h n c l (inr e) i a = let P : Level → Type 0 = λ x. KeyAbove h x.
 abbrev pub Stays : Core → Core → Type 0
 Stays c d = around (record d { adjacent = c.adjacent }) ≡ around c
 
-pub saved_around : (n : ℕ) (c d : Core) → IsSaved n c d.level → Stays c d
-    → enclosures_of d ≡ enclosures_of c
-saved_around n c d s a =
-    same_enclosures c d
+pub saved_around : (n : ℕ) (c d : Core) → IsSaved n c d.level → Stays c d → enclosures_of d ≡ enclosures_of c
+saved_around n c d s a = same_enclosures c d
     (elim s [ inl e ↦ ap (λ (l : Level). l.context) e | inr e ↦ ap (λ (l : Level). l.context) e.0 ])
     (ap (λ (x : Around). x.outer) a) (ap (λ (x : Around). x.indent) a) (ap (λ (x : Around). x.outer_indents) a)
 
@@ -237,16 +224,13 @@ saved n c d t s a j m q b node e closes begins start h =
     let outer = ap (λ (x : Around). x.outer) a in
     let indent = ap (λ (x : Around). x.indent) a in
     let indents = ap (λ (x : Around). x.outer_indents) a in
-    let blocks : open_blocks d ≡ open_blocks c =
-    ap (λ (x : Around). at_most_one x.indent + length x.outer_indents) a in
+    let blocks : open_blocks d ≡ open_blocks c = ap (λ (x : Around). at_most_one x.indent + length x.outer_indents) a in
     let within = enclosures_of c in
     encloses (saved_around n c d s a ∙ sym (b.encloses (enclosure_of c.level.context) (outside_of c)))
     (putting within (calm (enclosures_behind t.kind t.span within)) (Some n) 1 4 c d t h e
-    (ap (λ (x : Around). x.started) a) (ap (λ (x : Around). x.ended) a) m
-    (omega (arith, blocks))
+    (ap (λ (x : Around). x.started) a) (ap (λ (x : Around). x.ended) a) m (omega (arith, blocks))
     (λ i l x. let P : List Level → Type 0 = λ ls. LevelsAbove i ls in
-    (saved_above i n c d.level s l x.0, subst P (sym outer) x.1))
-    (λ _ laws opened from p i k.
+    (saved_above i n c d.level s l x.0, subst P (sym outer) x.1)) (λ _ laws opened from p i k.
     let w = h.token laws in
     let Q : ℕ → Type 0 = λ j. IsSaved j c d.level in
     record {
@@ -275,21 +259,17 @@ entered n x c d t flows s a m q b enters depth node fit e unbound begins start h
     let outer = ap (λ (x : Around). x.outer) a in
     let indent = ap (λ (x : Around). x.indent) a in
     let indents = ap (λ (x : Around). x.outer_indents) a in
-    let blocks : open_blocks r ≡ open_blocks c =
-    ap (λ (x : Around). at_most_one x.indent + length x.outer_indents) a in
+    let blocks : open_blocks r ≡ open_blocks c = ap (λ (x : Around). at_most_one x.indent + length x.outer_indents) a in
     let within = enclosures_of c in
     let stays : Stays c d = ap (λ (y : Around). record y { adjacent = c.adjacent }) a in
     encloses (ap (place.entered (enclosure_of x)) (saved_around n c d s stays) ∙ sym (enters within)
     ∙ sym (unbound_calm t.kind t.span within unbound))
     (putting within (calm (enclosures_behind t.kind t.span within)) (Some n) 1 4 c r t h e
-    (ap (λ (x : Around). x.started) a)
-    (ap (λ (x : Around). x.ended) a)
+    (ap (λ (x : Around). x.started) a) (ap (λ (x : Around). x.ended) a)
     (λ f. inl (m f)) (omega (arith, blocks))
     (λ i l y. let P : List Level → Type 0 = λ ls. LevelsAbove i ls in
-    (tt, (saved_above i n c d.level s l y.0, subst P (sym outer) y.1)))
-    (λ _ laws opened from p i k.
+    (tt, (saved_above i n c d.level s l y.0, subst P (sym outer) y.1))) (λ _ laws opened from p i k.
     let w = h.token laws in
-    let Q : ℕ → Type 0 = λ j. IsSaved j c d.level in
     record {
       taken = holds_put within opened from c r p t c.cursor w.0 (taken.nothing c.cursor.mark c.cursor.rest) w.1 w.2
           (quiet_opens t c r q indent indents (λ y z. b y ∙ (let l = ap length outer in omega (arith, z, l))))
@@ -299,10 +279,9 @@ entered n x c d t flows s a m q b enters depth node fit e unbound begins start h
         flows,
         tt,
         saved_keys opened.enclosures 1 c p t (with_cursor c.cursor d) q node (depth 0)
-            (leads_in t (c.level ∷ c.outer) 0 node depth)
-            begins start i.1
+            (leads_in t (c.level ∷ c.outer) 0 node depth) begins start i.1
             (record {
-              level = subst Q i.0 s;
+              level = rw i.0 at s;
               cursor = refl;
               outer = outer;
               indent = indent;
@@ -324,15 +303,12 @@ left within c l ls t u n j z q b depth fit e unbound h =
     let d : Core = record c { cursor = u; level = l; outer = ls; key_allowed = true; adjacent = n } in
     encloses (sym (unbound_calm t.kind t.span within unbound))
     (putting within (calm (enclosures_behind t.kind t.span within)) None 1 0 c d t h e refl refl (λ m. inl m)
-    (omega arith)
-    (λ i _ a. z.above i a.1)
-    (λ _ laws opened from p _ k.
+    (omega arith) (λ i _ a. z.above i a.1) (λ _ laws opened from p _ k.
     let w = h.token laws in
-    let more = next_put t p in
     let r = with_piece t p in
     let outers = keys_weaken opened.enclosures 1 (lower (next p) c.level.key) (next r) p c.indent c.outer
     (let low = below_key opened.enclosures 0 (next p) p (is_block c.level.context) c.indent c.level.key k.keys.1 in
-    omega (arith, more, low)) k.keys.2 in
+    omega (arith, next_put t p, low)) k.keys.2 in
     record {
       taken = holds_put within opened from c d p t c.cursor w.0 (taken.nothing c.cursor.mark c.cursor.rest) w.1 w.2
           (quiet_opens t c d q refl refl (λ y v. b y ∙ ap (λ i. i - 1) v ∙ sym z.fewer)) j fit
@@ -372,12 +348,10 @@ opens within behind v c d k o e key none outer s f m few holds =
 -- a key alone, or in flow with its mapping
 pub key_opens : {A : Type 0} (e : Enclosure) (outside : Outside) (c : Core) (k : Candidate) (o : Opening)
     → opens_block o ≡ false → MayOpen o e → (in_block c ≡ true → k.mark.col < c.indent) → c.level.key ≡ Some k
-    → DoesWithin A (free e outside) (awaited o k.mark (free e outside)) None 0 2 c (forget_key c)
-    (Open k.place o ∷ [])
+    → DoesWithin A (free e outside) (awaited o k.mark (free e outside)) None 0 2 c (forget_key c) (Open k.place o ∷ [])
 key_opens e outside c k o n m left is =
     opens (free e outside) (awaited o k.mark (free e outside)) 0 c (forget_key c) k o refl is refl refl refl refl
-    (λ i. i) (omega arith)
-    (λ _ opened from q h. open_quiet e outside opened from c q k o n m left is h)
+    (λ i. i) (omega arith) (λ _ opened from q h. open_quiet e outside opened from c q k o n m left is h)
 
 -- a block mapping and a key
 pub mapping_opens : {A : Type 0} (e : Enclosure) (c : Core) (k : Candidate) → in_block c ≡ true

@@ -123,7 +123,7 @@ quotes_do quote style quoting n c first l r s =
     let v : Cursor = f.cursor in
     let a = apart_later x.1.mark x.1.rest u.mark u.rest g.1.apart in
     let b = apart_later u.mark u.rest v.mark v.rest k.1 in
-    saved n c (scalar.adjacent_here f) t (subst (λ m. IsSaved n c m) (sym (k.0.0 ∙ g.0.0)) s)
+    saved n c (scalar.adjacent_here f) t (rw (k.0.0 ∙ g.0.0) s)
     (ap (λ (a : Around). record a { adjacent = c.adjacent }) (k.0.1 ∙ g.0.1)) (inr (refl, quoting.ends_json x.0 t.span))
     (λ m. inl (k.0.2 (g.0.2 m))) (quoting.quiet x.0) (neutral _ t.span refl) refl (λ i. absurd (cc))
     (λ no. absurd (cc))
@@ -161,16 +161,14 @@ quotes_do quote style quoting n c first l r s =
 pub double_quoted_does : (n : ℕ) (c : Core) → slice_index c.cursor.rest 0 ≡ quotation_mark
     → Walked (Premises c) (Doing (Some n) c) c.cursor (scalar.double_quoted_steps n c)
 unfolding scalar.double_quoted_steps scalar.read_double_quoted
-double_quoted_does n c first =
-    saving n c (λ d. Walked (Premises c) (Doing (Some n) c) c.cursor
+double_quoted_does n c first = saving n c (λ d. Walked (Premises c) (Doing (Some n) c) c.cursor
     (scalar.read_double_quoted (scalar.disallow_key d)))
     (λ l r s. quotes_do Double DoubleQuoted double_quoting n c first l r s)
 
 pub single_quoted_does : (n : ℕ) (c : Core) → slice_index c.cursor.rest 0 ≡ apostrophe
     → Walked (Premises c) (Doing (Some n) c) c.cursor (scalar.single_quoted_steps n c)
 unfolding scalar.single_quoted_steps scalar.read_single_quoted
-single_quoted_does n c first =
-    saving n c (λ d. Walked (Premises c) (Doing (Some n) c) c.cursor
+single_quoted_does n c first = saving n c (λ d. Walked (Premises c) (Doing (Some n) c) c.cursor
     (scalar.read_single_quoted (scalar.disallow_key d)))
     (λ l r s. quotes_do Single SingleQuoted single_quoting n c first l r s)
 
@@ -181,9 +179,7 @@ plain_begins : (c : ℕ) → IsTrue (may_begin_plain c) → IsFalse (is_blank_or
 plain_begins c h ink = by (c == 35) refl
   where
     by : (b : Bool) → (c == number_sign) ≡ b → IsTrue (begins_text c)
-    by false e = rw (ink, e) refl
-    by true e = absurd (let same : c ≡ 35 =
-        eqb-true c 35 e in let no : may_begin_plain c ≡ false = ap may_begin_plain same in cc)
+    by b e = grind arith
 
 -- what a plain scalar begins with, but for `#`
 pub record PlainStart (in_flow : Bool) (s : Cursor) : Type 0 where
@@ -211,27 +207,18 @@ no_sign f s t text end r = by r.piece r.front r.closes r.is (spelled_start s.mar
     by (c ∷ cs) front e is n k = n (sym (ap (λ l. slice_index l 0) is) ∙ k)
 
 no_indicator_begins_plain : (x : ℕ) → (x == 44) ≡ false → (x == left_bracket) ≡ false → (x == right_bracket) ≡ false
-    → (x == left_brace) ≡ false
-    → (x == right_brace) ≡ false
-    → (x == number_sign) ≡ false → (x == ampersand) ≡ false → (x == asterisk) ≡ false → (x == exclamation_mark) ≡ false
-    → (x == apostrophe) ≡ false
+    → (x == left_brace) ≡ false → (x == right_brace) ≡ false → (x == number_sign) ≡ false → (x == ampersand) ≡ false
+    → (x == asterisk) ≡ false → (x == exclamation_mark) ≡ false → (x == apostrophe) ≡ false
     → (x == quotation_mark) ≡ false → (x == percent_sign) ≡ false → (x == at_sign) ≡ false → (x == grave_accent) ≡ false
     → may_begin_plain x ≡ true
 no_indicator_begins_plain x a b c d e f g h i j k l m n = rw (a, b, c, d, e, f, g, h, i, j, k, l, m, n) refl
 
 no_second : (b x y z : Bool) → (x && b) ≡ false → (y && b) ≡ false → (z && b) ≡ false
     → (x || (y || (z || false))) ≡ true → b ≡ false
-no_second false x y z e f g h = refl
-no_second true true y z e f g h = absurd (cc)
-no_second true false true z e f g h = absurd (cc)
-no_second true false false true e f g h = absurd (cc)
-no_second true false false false e f g h = absurd (cc)
+no_second b x y z e f g h = grind arith
 
 no_literal : (b x y : Bool) → (x && b) ≡ false → (y && b) ≡ false → not b ≡ false → (x || (y || false)) ≡ false
-no_literal false x y e f g = absurd (cc)
-no_literal true true y e f g = absurd (cc)
-no_literal true false true e f g = absurd (cc)
-no_literal true false false e f g = refl
+no_literal b x y e f g = grind arith
 
 -- where no indicator is a plain scalar may begin
 pub plain_start : (first second : ℕ) (c : Core) → slice_index c.cursor.rest 0 ≡ first
@@ -278,7 +265,7 @@ plain_does n c starts =
       span = λ laws. let z = laws.plain f c.indent here x.3 x.0 x.1 x.2 e in
           record { ahead = z.ahead; begins = omega arith; inside = z.begins; ends = z.ends };
       token = λ laws. let z = laws.plain f c.indent here x.3 x.0 x.1 x.2 e in
-          let read = subst (λ g. PlainRead g c.indent here x.0 x.1 x.3) (same_flow n c l s) z in (
+          let read = rw (same_flow n c l s) at z in (
             x.3,
             (λ _ _. record {
               start = refl;
@@ -297,8 +284,7 @@ plain_does n c starts =
 -- ## Block scalars
 
 indicator_begins : (style : BlockStyle) (x : ℕ) → x ≡ taken.block_indicator style → is_break x ≡ false
-indicator_begins block_style.Literal x e = ap is_break e
-indicator_begins block_style.Folded x e = ap is_break e
+indicator_begins style x e = grind arith
 
 -- A key may be too far after one.
 pub block_does : (style : BlockStyle) (n : ℕ) (c : Core) → in_block c ≡ true → 0 < length c.cursor.rest

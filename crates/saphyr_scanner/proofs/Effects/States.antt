@@ -103,8 +103,7 @@ block_advances m s i e = at s.core.outer_indents refl
     at : (is : List ℕ) → s.core.outer_indents ≡ is
         → FetchesTokens 0 s (with_core (with_outer_indent is s.core) (with_action (at_mark m tokens.BlockEnd) s))
     at [] l = end_advances m s (with_outer_indent [] s.core) i refl refl refl (omega (arith, e))
-    at (x ∷ is) l =
-        end_advances m s (with_outer_indent (x ∷ is) s.core) i refl refl refl
+    at (x ∷ is) l = end_advances m s (with_outer_indent (x ∷ is) s.core) i refl refl refl
         (let k = one_at_most x in let n = ap length l in omega (arith, e, k, n))
 
 pub same_index : (m : Marker) (s t : Cursor) → t ≡ s → m.index ≡ s.mark.index → m.index ≡ t.mark.index
@@ -112,15 +111,12 @@ same_index m s t e i = i ∙ ap (λ (c : Cursor). c.mark.index) (sym e)
 
 blocks_advance : (column : Option ℕ) (m : Marker) (is : List ℕ) (s : State) → m.index ≡ s.core.cursor.mark.index
     → FetchesTokens 0 s (end_blocks column m is s)
-blocks_advance column m [] s i =
-    by_test (is_right_of column s.core.indent) _ _ (FetchesTokens 0 s)
+blocks_advance column m [] s i = by_test (is_right_of column s.core.indent) _ _ (FetchesTokens 0 s)
     (λ e. block_advances m s i (is_open column s.core.indent e)) (λ _. advances_none s)
-blocks_advance column m (x ∷ is) s i =
-    by_test (is_right_of column s.core.indent) _ _ (FetchesTokens 0 s)
+blocks_advance column m (x ∷ is) s i = by_test (is_right_of column s.core.indent) _ _ (FetchesTokens 0 s)
     (λ e. advances_advances 0 0 s (end_block m s) _ (block_advances m s i (is_open column s.core.indent e))
     (blocks_advance column m is (end_block m s)
-    (same_index m s.core.cursor (end_block m s).core.cursor (block_cursor m s) i)))
-    (λ _. advances_none s)
+    (same_index m s.core.cursor (end_block m s).core.cursor (block_cursor m s) i))) (λ _. advances_none s)
 
 go_less_deep_goes : (column : Option ℕ) (c : Core) → Goes 0 c.cursor c (go_less_deep column c)
 go_less_deep_goes None c = goes_none c
@@ -133,7 +129,5 @@ unroll_advances column m s i =
     let t : State = with_core (go_less_deep column s.core) s in
     by_test (in_block s.core) _ _ (FetchesTokens 0 s)
     (λ _. advances_advances 0 0 s t _ (on_core_fetches s (Ok (go_less_deep column s.core))
-    (go_less_deep_goes column s.core))
-    (blocks_advance column m s.core.outer_indents t
-    (same_index m s.core.cursor t.core.cursor (go_less_deep_cursor column s.core) i)))
-    (λ _. advances_none s)
+    (go_less_deep_goes column s.core)) (blocks_advance column m s.core.outer_indents t
+    (same_index m s.core.cursor t.core.cursor (go_less_deep_cursor column s.core) i))) (λ _. advances_none s)

@@ -74,8 +74,7 @@ check_goes n s c d g = check_comment_of_goes n s c d.comment d g
 
 pub gap_goes : (n : ℕ) (s : Cursor) (c d : Core) → Goes n s c d → Given (Goes n s c) (pass_gap d)
 unfolding pass_gap
-gap_goes n s c d g =
-    given_bind (Goes n s c) (gaps.whole_gap (least_column d) d.cursor) _ (λ p e.
+gap_goes n s c d g = given_bind (Goes n s c) (gaps.whole_gap (least_column d) d.cursor) _ (λ p e.
     check_goes n s c (behind_gap d p) (
       ahead_ahead s d.cursor p.cursor g.0
           (given_of (λ (q : gaps.GapEnd). Ahead d.cursor q.cursor) (gaps.whole_gap (least_column d) d.cursor) p

@@ -55,8 +55,7 @@ tab_walked b c a =
     && ((slice_index x.1.cursor.rest 0 == 45) || is_alpha (slice_index x.1.cursor.rest 0))) _ _ P
     (λ _ _. at_reach c.cursor x.1.cursor (reaches_reaches c.cursor (pass 1 c.cursor) x.1.cursor a
     (apart_reached (pass 1 c.cursor).mark (pass 1 c.cursor).rest x.1.cursor.mark x.1.cursor.rest g.1.apart)))
-    (λ _. (g.0, g.1.apart, g.2))))
-    (λ _. (same c, taken.nothing (pass 1 c.cursor).mark (pass 1 c.cursor).rest, refl))
+    (λ _. (g.0, g.1.apart, g.2)))) (λ _. (same c, taken.nothing (pass 1 c.cursor).mark (pass 1 c.cursor).rest, refl))
 
 -- ## What stays alike
 
@@ -83,8 +82,7 @@ no_key l e = ap (λ k. let m : Level = record { context = l.context; key = k } i
 block_same : (c d : Core) → Same c d → in_block d ≡ true → in_block c ≡ true
 block_same c d s e = ap (λ (l : Level). is_block l.context) (sym s.0) ∙ e
 
-left_same : (column : ℕ) (c d : Core) → Same c d → is_further column d ≡ false → in_block c ≡ true
-    → column < c.indent
+left_same : (column : ℕ) (c d : Core) → Same c d → is_further column d ≡ false → in_block c ≡ true → column < c.indent
 left_same column c d s e b =
     let i = ap (λ (x : Around). x.indent) s.1 in
     let l = no_further column d e (ap (λ (x : Level). is_block x.context) s.0 ∙ b) in omega (arith, i, l)
@@ -104,9 +102,7 @@ behind_value all = turned_to (behind_pair_colon all.inner.enclosure) all
 
 -- a blank, a break, NUL or the end follows the colon, or inside flow a flow indicator, or the place for it is kept
 abbrev pub IsParted : Core → Type 0
-IsParted c =
-    (in_block c ≡ true → is_blank_or_breakz (slice_index c.cursor.rest 1) ≡ true)
-    × (in_block c ≡ false
+IsParted c = (in_block c ≡ true → is_blank_or_breakz (slice_index c.cursor.rest 1) ≡ true) × (in_block c ≡ false
     → (c.cursor.mark.index ≡ c.adjacent) ⊎ IsTrue (parts_colon (slice_index c.cursor.rest 1)))
 
 -- from e, which comes before the colon, where no key is a candidate
@@ -117,8 +113,7 @@ colon_does : {A : Type 0} (within : Enclosures) (e d : Core) (u : Cursor) → sl
 colon_does within e d u first parted a s there none fit =
     let later = apart_later (pass 1 e.cursor).mark (pass 1 e.cursor).rest u.mark u.rest a in
     let t = empty_piece e.cursor.mark tokens.Value in
-    and_then (λ n. n)
-    (quiet_within within 1 e t u refl (λ x. refl) (λ x. refl) (inl none) fit (λ i. absurd (cc)) refl
+    and_then (λ n. n) (quiet_within within 1 e t u refl (λ x. refl) (λ x. refl) (inl none) fit (λ i. absurd (cc)) refl
     (indicated 58 e u t (record { some = refl; unbroken = refl; is = first }) a
     (omega arith) (omega arith) (omega (arith, later.index)) (λ t b told. (
       t,
@@ -140,17 +135,8 @@ near_colon context.Block k m far e =
     near (nat_lt k.mark.line m.line) (nat_lt 1024 (m.index - k.mark.index)) refl refl far
   where
     near : (a b : Bool) → nat_lt k.mark.line m.line ≡ a → nat_lt 1024 (m.index - k.mark.index) ≡ b
-        → (if a then true else b) ≡ false
-        → (nat_le m.line k.mark.line && nat_le m.index (k.mark.index + 1024)) ≡ true
-    near true b f g h = absurd (cc)
-    near false true f g h = absurd (cc)
-    near false false f g h =
-        let i = ltb-false k.mark.line m.line f in
-        let j = ltb-false 1024 (m.index - k.mark.index) g in
-        let line : nat_le m.line k.mark.line ≡ true = le-leb m.line k.mark.line i in
-        let index : nat_le m.index (k.mark.index + 1024) ≡ true =
-        le-leb m.index (k.mark.index + 1024) (omega (arith, j)) in
-        rw (line, index) refl
+        → (if a then true else b) ≡ false → (nat_le m.line k.mark.line && nat_le m.index (k.mark.index + 1024)) ≡ true
+    near a b f g h = grind arith
 near_colon context.FlowSequence k m far e = absurd (cc)
 near_colon context.FlowPair k m far e = absurd (cc)
 near_colon context.ExplicitFlowPair k m far e = refl
@@ -163,47 +149,25 @@ near_line x k m b far = near (nat_lt k.mark.line m.line) refl (sym (rw b refl) �
   where
     near : (a : Bool) → nat_lt k.mark.line m.line ≡ a
         → (if a then true else nat_lt 1024 (m.index - k.mark.index)) ≡ false → m.line ≤ k.mark.line
-    near true f h = absurd (cc)
-    near false f h = ltb-false k.mark.line m.line f
+    near a f h = grind arith
 
 pair_near : (begins : Bool) (k m : Marker) → (begins && nat_lt k.line m.line) ≡ false → begins ≡ true
     → IsTrue (nat_le m.line k.line)
-pair_near true k m e b = le-leb m.line k.line (ltb-false k.line m.line e)
-pair_near false k m e b = absurd (cc)
+pair_near begins k m e b = grind arith
 
 -- what encloses the tokens after the colon
 behind_alone : (x : Context) → begins_pair x ≡ false
     → enclosure_of (behind_colon x) ≡ behind_pair_colon (enclosure_of x)
-behind_alone context.FlowSequence e = absurd (cc)
-behind_alone context.FlowPair e = absurd (cc)
-behind_alone context.Block e = refl
-behind_alone context.ExplicitFlowPair e = refl
-behind_alone context.MarkedFlowPair e = refl
-behind_alone context.FlowMapping e = refl
+behind_alone x e = grind arith
 
 behind_pair : (x : Context) → begins_pair x ≡ true → enclosure_of (behind_colon x) ≡ place.PairValue
-behind_pair context.FlowSequence e = refl
-behind_pair context.FlowPair e = refl
-behind_pair context.Block e = absurd (cc)
-behind_pair context.ExplicitFlowPair e = absurd (cc)
-behind_pair context.MarkedFlowPair e = absurd (cc)
-behind_pair context.FlowMapping e = absurd (cc)
+behind_pair x e = grind arith
 
 alone_may_begin : (x : Context) → begins_pair x ≡ false → IsTrue (may_begin_key (enclosure_of x))
-alone_may_begin context.FlowSequence e = absurd (cc)
-alone_may_begin context.FlowPair e = absurd (cc)
-alone_may_begin context.Block e = refl
-alone_may_begin context.ExplicitFlowPair e = refl
-alone_may_begin context.MarkedFlowPair e = refl
-alone_may_begin context.FlowMapping e = refl
+alone_may_begin x e = grind arith
 
 pair_may_begin : (x : Context) → begins_pair x ≡ true → IsTrue (may_begin_pair (enclosure_of x))
-pair_may_begin context.FlowSequence e = refl
-pair_may_begin context.FlowPair e = refl
-pair_may_begin context.Block e = absurd (cc)
-pair_may_begin context.ExplicitFlowPair e = absurd (cc)
-pair_may_begin context.MarkedFlowPair e = absurd (cc)
-pair_may_begin context.FlowMapping e = absurd (cc)
+pair_may_begin x e = grind arith
 
 -- What a colon does from c, where it turned the context to that after the colon, and x enclosed the tokens before.
 abbrev Valued : Core → Context → Core → Step → Type 0
@@ -211,8 +175,7 @@ Valued b x c y =
     DoesWithin (IsArrival b) (free (enclosure_of x) (outside_of c)) (enclosures_of y.core) None 1 5 c y.core y.actions
 
 colon_block : (x : Context) → is_block (behind_colon x) ≡ is_block x
-colon_block context.FlowSequence = refl
-colon_block _ = refl
+colon_block x = grind arith
 
 -- d is after the colon
 record Turned (b : Core) (x : Context) (c d : Core) : Type 0 where
@@ -227,18 +190,14 @@ record Turned (b : Core) (x : Context) (c d : Core) : Type 0 where
 
 turned_encloses : (b : Core) (x : Context) (c d : Core) (e : Enclosure) → Turned b x c d
     → enclosure_of (behind_colon x) ≡ e → enclosures_of d ≡ free e (outside_of c)
-turned_encloses b x c d e t f =
-    same_around c d t.behind.0 ∙ ap (λ y. free (enclosure_of y) (outside_of c)) t.context
-    ∙ ap (λ y. free y (outside_of c)) f
+turned_encloses b x c d e t f = cc (same_around c d t.behind.0)
 
 -- where a block collection began before
 turned_in_block : (b : Core) (x : Context) (c d : Core) (e : Enclosure) (column : ℕ) → Turned b x c d
     → enclosure_of (behind_colon x) ≡ e
     → enclosures_of (enter_block column d) ≡ free e (outside_of (enter_block column c))
 turned_in_block b x c d e column t f =
-    same_around (enter_block column c) (enter_block column d) (same_blocks column c d t.behind.0)
-    ∙ ap (λ y. free (enclosure_of y) (outside_of (enter_block column c))) t.context
-    ∙ ap (λ y. free y (outside_of (enter_block column c))) f
+    cc (same_around (enter_block column c) (enter_block column d) (same_blocks column c d t.behind.0))
 
 key_does : (b c d : Core) (x : Context) (k : Candidate) → Turned b x c d → d.level.key ≡ Some k
     → Walked (Premises b) (Valued b x c) c.cursor (value.value_of_key k (begins_pair x) c.cursor.mark d)
@@ -253,8 +212,7 @@ key_does b c d x k t is =
     let known = key_same c d (Some k) g.0 is in
     let near : begins ≡ false → IsArrival b → IsTrue (is_near own k.mark s.mark) =
     λ e a. near_colon x k s.mark (ap (λ o. is_block x && is_too_far o s.mark) (sym known) ∙ t.near a) e in
-    let block_x : in_block c ≡ true → is_block x ≡ true = λ e. sym (colon_block x)
-    ∙ ap is_block (sym t.context) ∙ e in
+    let block_x : in_block c ≡ true → is_block x ≡ true = λ e. sym (colon_block x) ∙ ap is_block (sym t.context) ∙ e in
     let Into : Bool → Core = λ f. record (forget_key (go_deeper (if f then enter_block k.mark.col d else d))) {
       key_allowed = false;
     } in
@@ -263,8 +221,7 @@ key_does b c d x k t is =
     by_test (begins && nat_lt k.mark.line s.mark.line) _ _ (Walked (Premises b) (Valued b x c) s)
     (λ _ _. at_here s)
     (λ line. by_bool (is_further k.mark.col d)
-    (λ f. From f (if begins then opening.FlowMappingAndKey else if f then
-    opening.BlockMappingAndKey else opening.Key))
+    (λ f. From f (if begins then opening.FlowMappingAndKey else if f then opening.BlockMappingAndKey else opening.Key))
     (λ f. let inside = further_block k.mark.col d f in
     by_test begins opening.FlowMappingAndKey opening.BlockMappingAndKey (From true)
     (λ e. absurd (let no = t.flows e in cc))
@@ -296,18 +253,14 @@ key_does b c d x k t is =
 -- ## Without a key
 
 flow_brackets : (x : Context) → is_block x ≡ false → IsTrue (is_in_brackets (enclosure_of x))
-flow_brackets context.Block e = absurd (cc)
-flow_brackets _ e = refl
+flow_brackets x e = grind arith
 
 or_right : (a b : Bool) → b ≡ true → IsTrue (a || b)
-or_right true b e = refl
-or_right false b e = e
+or_right a b e = grind arith
 
 -- the innermost of the open block collections has the column left of the indentation
 innermost_column : (column i : ℕ) (is : List ℕ) → i ≡ column + 1 → is_at_column column (columns_of i is) ≡ true
-innermost_column column zero is e = absurd (omega (arith, e))
-innermost_column column (suc i) [] e = eq-eqb column i (omega (arith, e))
-innermost_column column (suc i) (j ∷ is) e = eq-eqb column i (omega (arith, e))
+innermost_column column i is e = grind arith
 
 -- where no block collection begins outside brackets the colon is at the column of the innermost
 alone_fits : (b : Core) (x : Context) (c d : Core) (e : Enclosure) → Turned b x c d
@@ -332,7 +285,6 @@ alone_does b c d x t none =
     let s = c.cursor in
     let u = d.cursor in
     let g = t.behind in
-    let begins = begins_pair x in
     let own = enclosure_of x in
     let outside = outside_of c in
     let column = s.mark.col in
@@ -346,13 +298,11 @@ alone_does b c d x t none =
     let value : (in_block d && not d.key_allowed) ≡ false → (e : Enclosure)
     → enclosure_of (behind_colon x) ≡ behind_pair_colon e → (is_block x ≡ false → IsTrue (is_in_brackets e))
     → DoesWithin (IsArrival b) (free e outside) (enclosures_of (Into further)) None 1 4 c (Into further)
-    (Starts further) = λ w e same bracketed.
-    by_bool further
+    (Starts further) = λ w e same bracketed. by_bool further
     (λ f. DoesWithin (IsArrival b) (free e outside) (enclosures_of (Into f)) None 1 4 c (Into f) (Starts f))
     (λ f. let r = same_blocks column c d g.0 in
     let allowed = sym g.2 ∙ allowed_in (in_block d) d.key_allowed w (further_block column d f) in
-    encloses (turned_in_block b x c d (behind_pair_colon e) column t same)
-    (and_then (λ n. n)
+    encloses (turned_in_block b x c d (behind_pair_colon e) column t same) (and_then (λ n. n)
     (block_begins e c tokens.BlockMappingStart place.BlockMapping (λ i. absurd (cc)) refl refl allowed
     (λ i p v t h. h) (λ x y. refl) (λ p all. refl) (λ p columns. refl)
     (block_same c d g.0 (further_block column d f)) (right_same column c d g.0 f) (ap taken.begins_text t.first))
@@ -361,12 +311,11 @@ alone_does b c d x t none =
     (no_key d.level none ∙ ap (λ (l : Level). record { context = l.context; key = None }) g.0.0, r.1, r.2) refl refl
     (λ _. or_right (is_in_brackets e) (is_at_column column (outside_of (enter_block column c)).columns)
     (innermost_column column (column + 1) (c.indent ∷ c.outer_indents) refl)))))
-    (λ f. encloses (turned_encloses b x c d (behind_pair_colon e) t same)
-    (at_most (omega arith)
+    (λ f. encloses (turned_encloses b x c d (behind_pair_colon e) t same) (at_most (omega arith)
     (colon_does (free e outside) c (Into false) u t.first t.parted g.1 g.0 refl free_key
     (λ a. alone_fits b x c d e t bracketed f (t.deep a))))) in
     by_test (in_block d && not d.key_allowed) _ _ (Walked (Premises b) (Valued b x c) s) (λ _ _. at_here s)
-    (λ w. by_bool begins
+    (λ w. by_bool (begins_pair x)
     (λ f. DoesWithin (IsArrival b) (free own outside) (enclosures_of (Into further)) None 1 5 c (Into further)
     ((if f then at_mark s.mark tokens.FlowMappingStart ∷ [] else []) ++ Starts further))
     (λ e. and_then (λ n. n)
@@ -380,9 +329,7 @@ alone_does b c d x t none =
     pair_begins e outside c none may =
         let t = empty_piece c.cursor.mark tokens.FlowMappingStart in
         let no = no_text c.cursor.mark.index in
-        and_then (λ n. n)
-        (encloses (rw no refl)
-        (quiet_within (free e outside) 0 c t c.cursor refl
+        and_then (λ n. n) (encloses (rw no refl) (quiet_within (free e outside) 0 c t c.cursor refl
         (λ x. ap (λ (y : Collections). y.brackets) (pair_starts c.cursor.mark x)) (λ x. rw no refl) (inl none)
         (λ _. rw no may) (λ i. absurd (cc)) refl
         (empty_reading c tokens.FlowMappingStart (λ _. inr (refl, inl refl, refl)))))
@@ -395,10 +342,7 @@ either_does b c d x (Some k) e t = key_does b c d x k t e
 either_does b c d x None e t = alone_does b c d x t e
 
 pair_flows : (x : Context) → begins_pair x ≡ true → is_block (behind_colon x) ≡ false
-pair_flows context.FlowSequence e = refl
-pair_flows context.FlowPair e = refl
-pair_flows context.Block e = absurd (cc)
-pair_flows _ e = refl
+pair_flows x e = grind arith
 
 pub value_does : (c : Core) → slice_index c.cursor.rest 0 ≡ colon → IsParted c
     → Walked (Premises c) (Doing None c) c.cursor (value.value_steps c)

@@ -119,8 +119,7 @@ walked_step A n c s r h = walked_map A (Doing (Some n) c) (Stepped n c) s r (λ 
 -- where no key is saved
 pub unsaved_step : (A : Type 0) (n : ℕ) (c : Core) (s : Cursor) (r : StepResult) → Walked A (Doing None c) s r
     → Walked A (Stepped n c) s r
-unsaved_step A n c s r h =
-    walked_step A n c s r (walked_map A (Doing None c) (Doing (Some n) c) s r
+unsaved_step A n c s r h = walked_step A n c s r (walked_map A (Doing None c) (Doing (Some n) c) s r
     (λ x d. does_weaker (omega arith) (λ p. p) (λ i b. tt) (λ q i. tt) d) h)
 
 -- ## What is passed
@@ -135,8 +134,7 @@ at_inside s e w = at_reached s e.mark w.0 (passed_reached s.mark s.rest e.mark w
 -- what a reader gives, and where it refuses
 pub read_walked : {X : Type 0} → (A : Type 0) (s : Cursor) (r : Result X Refusal)
     → ((e : Refusal) → r ≡ Err e → A → At s e.mark) → Walked A (λ x. r ≡ Ok x) s r
-read_walked A s (Ok x) told = refl
-read_walked A s (Err e) told = told e refl
+read_walked A s r told = grind arith
 
 pub separate_walked : (b : Core) (s : Cursor) (c : Core) → (Premises b → Reaches s c.cursor)
     → Walked (Premises b)
@@ -164,8 +162,7 @@ gap_walked b s c a none =
     checked : (o : Option Marker) (d : Core) → Same c d → AreApart c.cursor d.cursor → (Premises b → o ≡ None)
         → Walked (Premises b) (λ (e : Core). Same c e × AreApart c.cursor e.cursor) s (check_comment_of o d)
     checked None d m p n = (m, p)
-    checked (Some k) d m p n =
-        by_test (goes_on_behind k (record d { comment = None })) _ _
+    checked (Some k) d m p n = by_test (goes_on_behind k (record d { comment = None })) _ _
         (Walked (Premises b) (λ (e : Core). Same c e × AreApart c.cursor e.cursor) s)
         (λ _ laws. absurd (let no = n laws in cc)) (λ _. ((m.0, m.1, λ _. refl), p))
 

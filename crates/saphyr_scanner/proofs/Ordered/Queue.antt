@@ -13,8 +13,7 @@ use Rattle.saphyr_scanner.proofs.Counted.{Ahead, stays, ahead_ahead}
 -- the tokens of the places, from `low` on to n
 abbrev pub PlacesInOrder : ℕ → ℕ → List Place → Type 0
 PlacesInOrder n low [] = low ≤ n
-PlacesInOrder n low (p ∷ ps) =
-    (low ≤ p.piece.span.start.index) × (p.piece.span.start.index ≤ p.piece.span.end.index)
+PlacesInOrder n low (p ∷ ps) = (low ≤ p.piece.span.start.index) × (p.piece.span.start.index ≤ p.piece.span.end.index)
     × PlacesInOrder n p.piece.span.end.index ps
 
 -- the tokens that are put into the queue, from `low` on to n
@@ -47,8 +46,7 @@ place_opened n low (suc k) o (p ∷ ps) h = (h.0, h.1, place_opened n p.piece.sp
 pub performed : (n m low : ℕ) (actions : List Action) (q : Queue) → PlacesInOrder n low q.places
     → PutsInOrder m n actions → PlacesInOrder m low (perform actions q).places
 performed n m low [] q h k = places_further n m low q.places k h
-performed n m low (Put t ∷ others) q h k =
-    performed t.span.end.index m low others (act (Put t) q)
+performed n m low (Put t ∷ others) q h k = performed t.span.end.index m low others (act (Put t) q)
     (place_put n t.span.end.index low q.places t h k.0 k.1 (omega arith)) k.2
 performed n m low (Open i o ∷ others) q h k =
     performed n m low others (act (Open i o) q) (place_opened n low (i - q.handed) o q.places h) k
@@ -82,10 +80,9 @@ core_grows s t a e = record {
 pub put_grows : (s : State) (m : Marker) (kind : Kind) (d : Core) → d.cursor ≡ s.core.cursor
     → m.index ≡ s.core.cursor.mark.index → GrowsInOrder s (with_action (at_mark m kind) (with_core d s))
 put_grows s m kind d e i =
-    let k : d.cursor.mark.index ≡ s.core.cursor.mark.index = ap (λ (c : Cursor). c.mark.index) e in
     record {
       ahead = stays s.core.cursor d.cursor e;
       ordered = λ low h.
           place_put s.core.cursor.mark.index d.cursor.mark.index low s.queue.places (empty_piece m kind) h
-          (omega (arith, i)) (omega arith) (omega (arith, i, k));
+          (omega (arith, i)) (omega arith) (omega (arith, i, ap (λ (c : Cursor). c.mark.index) e));
     }

@@ -52,8 +52,7 @@ low_within : (n low : ℕ) (s : State) → IsCounted n s → InOrder low s → l
 low_within n low s w h = omega (arith, w, places_within s.core.cursor.mark.index low s.queue.places h)
 
 delivers_in_order : (n low : ℕ) (s : State) (r : Result State Refusal) (go : State → Remaining) → IsCounted n s
-    → InOrder low s
-    → ((t : State) → r ≡ Ok t → GrowsInOrder s t)
+    → InOrder low s → ((t : State) → r ≡ Ok t → GrowsInOrder s t)
     → ((t : State) → IsCounted n t → InOrder low t → FollowsInOrder n low (go t))
     → FollowsInOrder n low (remaining_after r go)
 delivers_in_order n low s (Ok t) go w h g others =

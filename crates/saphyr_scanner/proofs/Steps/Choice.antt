@@ -64,8 +64,7 @@ pub record Cases (P : StepResult → StepResult → Type 0) (first second other 
       → P (scalar.block_scalar_steps block_style.Literal n c) (scalar.block_scalar_steps block_style.Literal n d)
   pub folded : first ≡ greater_than → in_block c ≡ true
       → P (scalar.block_scalar_steps block_style.Folded n c) (scalar.block_scalar_steps block_style.Folded n d)
-  pub reserved :
-      P (refuse (fault.UnexpectedCharacter first) c.cursor.mark)
+  pub reserved : P (refuse (fault.UnexpectedCharacter first) c.cursor.mark)
       (refuse (fault.UnexpectedCharacter first) d.cursor.mark)
   pub plain : NoIndicator first second c → P (scalar.plain_steps n c) (scalar.plain_steps n d)
 

@@ -81,20 +81,15 @@ behind_gap_of P c f go = by (gaps.whole_gap (least_column c) c.cursor)
 -- at NUL and at the end nothing is passed
 z_stays : (m : Marker) (t : List ℕ) (n : Marker) (u : List ℕ) → IsPassedOver m t n u → is_z (slice_index t 0) ≡ true
     → u ≡ t
-z_stays _ _ _ _ (taken.nothing m t) z = refl
-z_stays _ _ _ _ (taken.blank m c t n u e p) z = absurd (let f : is_blank c ≡ false = ap is_blank (eqb-true c 0 z) in cc)
-z_stays _ _ _ _ (taken.line_break m t n u e p) z =
-    absurd (let f : is_break (slice_index t 0) ≡ false = ap is_break (eqb-true (slice_index t 0) 0 z) in cc)
-z_stays _ _ _ _ (taken.comment m words t n u a e p) z = absurd (cc)
+z_stays m t n u h z = grind arith
 
 further_live : (all : Enclosures) (c d : Core) (q : Queue) → Alike c d → AreApart c.cursor d.cursor → Live all c q
     → Live all d q
 further_live all c d q a p h nz = by (is_z (slice_index c.cursor.rest 0)) refl
   where
     by : (b : Bool) → is_z (slice_index c.cursor.rest 0) ≡ b → Keys all (next q) q d.indent (d.level ∷ d.outer)
-    by true z = absurd (let e =
-        z_stays c.cursor.mark c.cursor.rest d.cursor.mark d.cursor.rest p z in
-        let f : is_z (slice_index d.cursor.rest 0) ≡ true = ap (λ l. is_z (slice_index l 0)) e ∙ z in cc)
+    by true z = absurd (let e = z_stays c.cursor.mark c.cursor.rest d.cursor.mark d.cursor.rest p z in
+        cc)
     by false z = keys_of all (next q) q c.indent d.indent c.level d.level c.outer d.outer a.indent a.level a.outer (h z)
 
 record Near (opened : Setting) (from : Cursor) (q : Queue) (c : Core) : Type 0 where
@@ -141,8 +136,7 @@ gapped text small opened from q c l h k =
     let here = later_later (start_cursor text).mark text from.mark from.rest c.cursor.mark c.cursor.rest l
     (taken_later opened from c q h) in
     let low = line_small text c.cursor small here in
-    behind_gap_of (Near opened from q) c drop_far_key
-    (λ d a p b allows.
+    behind_gap_of (Near opened from q) c drop_far_key (λ d a p b allows.
     let there = later_later (start_cursor text).mark text c.cursor.mark c.cursor.rest d.cursor.mark d.cursor.rest here
     (apart_later c.cursor.mark c.cursor.rest d.cursor.mark d.cursor.rest p) in
     let lines : AllowsKey c d = λ e. elim (allows e)
@@ -150,15 +144,13 @@ gapped text small opened from q c l h k =
     dropped_near opened from q d b
     (taken_within (enclosures_of c) (enclosures_of d) opened from d q (alike_enclosures c d a)
     (taken_further (enclosures_of c) opened from c d q p a.indent a.outer_indents (ap length a.outer) a.adjacent
-    lines h))
-    (further_live opened.enclosures c d q a p k))
+    lines h)) (further_live opened.enclosures c d q a p k))
 
 line_near : (k : Candidate) (m : Marker) → is_too_far (Some k) m ≡ false → m.line ≤ k.mark.line
 line_near k m e = ltb-false k.mark.line m.line (first (nat_lt k.mark.line m.line) _ e)
   where
     first : (b x : Bool) → cond b true x ≡ false → b ≡ false
-    first false x f = refl
-    first true x f = absurd (cc)
+    first b x f = grind arith
 
 -- where a key is a candidate no block collection ends
 unrolled_keys : (text : List ℕ) → length text < 2 ^ 63 → (opened : Setting) (from : Cursor) (q : Queue) (c : Core)
@@ -169,13 +161,11 @@ unfolding unroll
 unrolled_keys text small opened from q c l h nz =
     let m = c.cursor.mark in
     let s : State = record { core = c; queue = q } in
-    let P : State → Type 0 = λ t. Keys opened.enclosures (next t.queue) t.queue t.core.indent
-    (t.core.level ∷ t.core.outer) in
-    let z : is_z (slice_index c.cursor.rest 0) ≡ false = ap (λ (u : Cursor). is_z (slice_index u.rest 0))
-    (sym (unrolled_cursor (Some m.col) m s)) ∙ nz in
-    let keys = h.live z in
-    by_test (in_block c) (end_blocks (Some m.col) m c.outer_indents (with_core (go_less_deep (Some m.col) c) s)) s P
-    (λ e. by c.level.key refl e keys) (λ _. keys)
+    let keys = h.live (ap (λ (u : Cursor). is_z (slice_index u.rest 0))
+    (sym (unrolled_cursor (Some m.col) m s)) ∙ nz) in
+    by_test (in_block c) (end_blocks (Some m.col) m c.outer_indents (with_core (go_less_deep (Some m.col) c) s)) s
+    (λ t. Keys opened.enclosures (next t.queue) t.queue t.core.indent
+    (t.core.level ∷ t.core.outer)) (λ e. by c.level.key refl e keys) (λ _. keys)
   where
     by : (o : Option Candidate) → c.level.key ≡ o → in_block c ≡ true
         → Keys opened.enclosures (next q) q c.indent (c.level ∷ c.outer)
@@ -225,13 +215,11 @@ unrolled_near c q h =
     let m = c.cursor.mark in
     let s : State = record { core = c; queue = q } in
     let t : State = with_core (go_less_deep (Some m.col) c) s in
-    let v = blocks_levels (Some m.col) m c.outer_indents t in
-    let same : (end_blocks (Some m.col) m c.outer_indents t).core.cursor ≡ c.cursor =
-    blocks_cursor (Some m.col) m c.outer_indents t ∙ go_less_deep_cursor (Some m.col) c in
+    let same = blocks_cursor (Some m.col) m c.outer_indents t ∙ go_less_deep_cursor (Some m.col) c in
     let F : Level → Cursor → Bool = λ l u. is_block l.context && is_too_far l.key u.mark in
     by_test (in_block c) (end_blocks (Some m.col) m c.outer_indents t) s (λ (u : State). IsNear u.core)
-    (λ _. ap (λ l. F l (end_blocks (Some m.col) m c.outer_indents t).core.cursor) v.level
-    ∙ ap (F c.level) same ∙ h) (λ _. h)
+    (λ _. ap (λ l. F l (end_blocks (Some m.col) m c.outer_indents t).core.cursor)
+    (blocks_levels (Some m.col) m c.outer_indents t).level ∙ ap (F c.level) same ∙ h) (λ _. h)
 
 pub arrived : (text : List ℕ) → length text < 2 ^ 63 → (opened : Setting) (from : Cursor) (s : State)
     → LaterThan (start_cursor text) from → TakenState opened from s → Live opened.enclosures s.core s.queue

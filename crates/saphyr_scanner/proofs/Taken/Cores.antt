@@ -46,25 +46,17 @@ pub record Alike (c d : Core) : Type 0 where
 -- the same encloses them
 pub same_enclosures : (c d : Core) → d.level.context ≡ c.level.context → d.outer ≡ c.outer → d.indent ≡ c.indent
     → d.outer_indents ≡ c.outer_indents → enclosures_of d ≡ enclosures_of c
-same_enclosures c d l o i s =
-    let From : Context → List Level → ℕ → List ℕ → Enclosures =
-    λ x ls j js. free (enclosure_of x) (record { enclosed = enclosed_by ls; columns = columns_of j js }) in
-    ap (λ x. From x d.outer d.indent d.outer_indents) l
-    ∙ ap (λ ls. From c.level.context ls d.indent d.outer_indents) o
-    ∙ ap (λ j. From c.level.context c.outer j d.outer_indents) i
-    ∙ ap (λ js. From c.level.context c.outer c.indent js) s
+same_enclosures c d l o i s = cc
 
 pub alike_enclosures : (c d : Core) → Alike c d → enclosures_of d ≡ enclosures_of c
-alike_enclosures c d a =
-    same_enclosures c d (ap (λ (l : Level). l.context) a.level) a.outer a.indent a.outer_indents
+alike_enclosures c d a = same_enclosures c d (ap (λ (l : Level). l.context) a.level) a.outer a.indent a.outer_indents
 
 pub keys_of : (all : Enclosures) (b : ℕ) (q : Queue) (i j : ℕ) (l m : Level) (ls ms : List Level) → j ≡ i → m ≡ l
     → ms ≡ ls → Keys all b q i (l ∷ ls) → Keys all b q j (m ∷ ms)
 keys_of all b q i j l m ls ms e f g h =
-    let P : ℕ → Type 0 = λ x. Keys all b q x (m ∷ ms) in
     let Q : Level → Type 0 = λ x. Keys all b q i (x ∷ ms) in
     let R : List Level → Type 0 = λ x. Keys all b q i (l ∷ x) in
-    subst P (sym e) (subst Q (sym f) (subst R (sym g) h))
+    rw e (subst Q (sym f) (subst R (sym g) h))
 
 -- the key of the level may be forgotten
 pub record Lesser (l m : Level) : Type 0 where
@@ -86,19 +78,17 @@ keys_lesser all b q i l m ls e h = by e.key
 
     same : (k : Option Candidate) → k ≡ l.key → Known k
     same k f =
-        let P : Option Candidate → Type 0 = λ x. KeyOf all 0 b q (is_block m.context) i x
-        × KeysFrom all 1 (lower b x) q i ls in
         let Q : Bool → Type 0 = λ x. KeyOf all 0 b q x i l.key in
-        subst P (sym f) (subst Q (sym e.block) h.1, h.2)
+        subst (λ x. KeyOf all 0 b q (is_block m.context) i x
+        × KeysFrom all 1 (lower b x) q i ls) (sym f) (subst Q (sym e.block) h.1, h.2)
 
     by : (m.key ≡ l.key) ⊎ (m.key ≡ None) → Keys all b q i (m ∷ ls)
     by (inl f) = let x = same m.key f in (e.block ∙ h.0, x.0, x.1)
     by (inr f) = let x = none m.key f in (e.block ∙ h.0, x.0, x.1)
 
 pub holds_lesser : (within : Enclosures) (opened : Setting) (from : Cursor) (c d : Core) (q : Queue)
-    → Lesser c.level d.level
-    → d.outer ≡ c.outer → d.indent ≡ c.indent → d.outer_indents ≡ c.outer_indents → d.adjacent ≡ c.adjacent
-    → AreApart c.cursor d.cursor → AllowsKey c d → HoldsWithin within opened from c q
+    → Lesser c.level d.level → d.outer ≡ c.outer → d.indent ≡ c.indent → d.outer_indents ≡ c.outer_indents
+    → d.adjacent ≡ c.adjacent → AreApart c.cursor d.cursor → AllowsKey c d → HoldsWithin within opened from c q
     → HoldsWithin within opened from d q
 holds_lesser within opened from c d q l o i s e p allows h = record {
   taken = taken_further within opened from c d q p i s (ap length o) e allows h.taken;
@@ -114,12 +104,10 @@ holds_forgotten opened from c q h =
 
 -- outside flow nothing encloses the level
 none_outer : (ls : List Level) → is_empty_list ls ≡ true → ls ≡ []
-none_outer [] e = refl
-none_outer (l ∷ ls) e = absurd (cc)
+none_outer ls e = grind arith
 
 pub outermost_level : (all : Enclosures) (b : ℕ) (q : Queue) (i : ℕ) (l : Level) (ls : List Level)
-    → Keys all b q i (l ∷ ls)
-    → is_block l.context ≡ true → ls ≡ []
+    → Keys all b q i (l ∷ ls) → is_block l.context ≡ true → ls ≡ []
 outermost_level all b q i l ls h e = none_outer ls (sym h.0 ∙ e)
 
 pub outermost : (within : Enclosures) (opened : Setting) (from : Cursor) (c : Core) (q : Queue)
@@ -128,8 +116,7 @@ outermost within opened from c q h e = outermost_level opened.enclosures (next q
 
 -- inside flow a level encloses the innermost, as many as brackets are open
 open_outside : (ls : List Level) → nat_lt 0 (length ls) ≡ not (is_empty_list ls)
-open_outside [] = refl
-open_outside (l ∷ ls) = lt-ltb 0 (length (l ∷ ls)) (omega arith)
+open_outside ls = grind arith
 
 pub open_in_flow : (within : Enclosures) (opened : Setting) (from : Cursor) (c : Core) (q : Queue)
     → HoldsWithin within opened from c q → nat_lt 0 (length c.outer) ≡ not (in_block c)
@@ -139,9 +126,8 @@ open_in_flow within opened from c q h = open_outside c.outer ∙ ap not (sym h.k
 pub no_keys : (all : Enclosures) (b : ℕ) (q : Queue) (i : ℕ) (l : Level) (ls : List Level) → l.key ≡ None → ls ≡ []
     → is_block l.context ≡ true → Keys all b q i (l ∷ ls)
 no_keys all b q i l ls k o e =
-    let P : List Level → Type 0 = λ x. Keys all b q i (l ∷ x) in
     let Q : Option Candidate → Type 0 = λ x. KeyOf all 0 b q (is_block l.context) i x in
-    subst P (sym o) (e, subst Q (sym k) tt, tt)
+    rw o (e, subst Q (sym k) tt, tt)
 
 -- ## A token comes
 
@@ -155,8 +141,7 @@ pub quiet_opens : (t : Piece) (c d : Core) → is_quiet t.kind ≡ true → d.in
 quiet_opens t c d e i o n opened h =
     let P : ℕ → Type 0 = λ x. Stack opened.columns x d.outer_indents in
     let Q : List ℕ → Type 0 = λ x. Stack opened.columns c.indent x in (
-      subst (λ l. Stack l d.indent d.outer_indents) (sym (quiet_open t.kind t.span opened e))
-          (subst P (sym i) (subst Q (sym o) h.0)),
+      rw (quiet_open t.kind t.span opened e) (subst P (sym i) (subst Q (sym o) h.0)),
       n opened h.1,
     )
 
@@ -175,8 +160,7 @@ abbrev pub IsTokenThere : Core → Piece → Cursor → Cursor → Type 0
 IsTokenThere c t here behind = (b : Bool) → IsToldAt b c → IsToken (surroundings b c) t.kind t.span here behind
 
 some_outer : (ls : List Level) → is_empty_list ls ≡ false → 0 < length ls
-some_outer [] e = absurd (cc)
-some_outer (l ∷ ls) e = omega arith
+some_outer ls e = grind arith
 
 -- a token is put after the others
 pub holds_put : (within : Enclosures) (opened : Setting) (from : Cursor) (c d : Core) (q : Queue) (t : Piece)
@@ -189,8 +173,8 @@ holds_put within opened from c d q t here behind a is b o adjoins f parted h =
     let P : Bool → Bool → Type 0 = λ e x. IsToken
     (record { in_flow = x; indent = c.indent; ends_json = e }) t.kind t.span here behind in
     taken_put within opened from c d q t here behind a
-    (λ e k. subst (P e) (sym (open_in_flow within opened from c q h))
-    (is e (λ i n. k.1 i (some_outer c.outer (sym h.keys.0 ∙ n))))) b o adjoins f parted h.taken
+    (λ e k. rw (open_in_flow within opened from c q h) (is e (λ i n. k.1 i (some_outer c.outer (sym h.keys.0 ∙ n))))) b
+    o adjoins f parted h.taken
 
 -- a quiet token from here to after, and separation to the place that is reached
 pub quiet_put : (within : Enclosures) (opened : Setting) (from : Cursor) (c d : Core) (q : Queue) (t : Piece)
@@ -206,14 +190,10 @@ quiet_put within opened from c d q t here behind e f depth own fit parted a is b
       parted h;
   keys =
       let all = opened.enclosures in
-      let k = keys_put all 0 0 (next q) q c.indent (c.level ∷ c.outer) t e (keeps_depth t c.level c.outer own depth)
-      h.keys in
-      let n = next_put t q in
       keys_of all (next (with_piece t q)) (with_piece t q) c.indent d.indent c.level d.level c.outer d.outer l.indent
-      l.level l.outer
-      (keys_weaken all 0 (next q) (next (with_piece t q)) (with_piece t q) c.indent (c.level ∷ c.outer)
-      (omega (arith, n))
-      k);
+      l.level l.outer (keys_weaken all 0 (next q) (next (with_piece t q)) (with_piece t q) c.indent (c.level ∷ c.outer)
+      (omega (arith, next_put t q)) (keys_put all 0 0 (next q) q c.indent (c.level ∷ c.outer) t e
+      (keeps_depth t c.level c.outer own depth) h.keys));
 }
 
 -- any token, after which no key is a candidate
@@ -249,9 +229,7 @@ pub apart_same : (s t : Cursor) → t ≡ s → AreApart s t
 apart_same s t e = let P : Cursor → Type 0 = λ u. AreApart s u in subst P (sym e) (taken.nothing s.mark s.rest)
 
 pub saved_enclosures : (n : ℕ) (c d : Core) → Saved n c d → enclosures_of d ≡ enclosures_of c
-saved_enclosures n c d s =
-    same_enclosures c d
-    (elim s.level
+saved_enclosures n c d s = same_enclosures c d (elim s.level
     [ inl e ↦ ap (λ (l : Level). l.context) e | inr e ↦ ap (λ (l : Level). l.context) e.0 ]) s.outer s.indent
     s.outer_indents
 
@@ -265,10 +243,9 @@ saved_taken opened from n c d q s e allows h =
 
 -- A token that may be a key: from its level to a depth, which its own level's candidate is told of.
 pub saved_keys : (all : Enclosures) (e : ℕ) (c : Core) (q : Queue) (t : Piece) (d : Core) → is_quiet t.kind ≡ true
-    → IsTrue (is_of_flow_node t.kind t.span) → deeper t.kind t.span 0 ≡ e
-    → LeadsDeeper t (c.level ∷ c.outer) 0 e → Begins t
-    → t.span.start ≡ c.cursor.mark → (in_block c ≡ true → c.indent ≤ c.cursor.mark.col + 1) → Saved (next q) c d
-    → (c.key_allowed ≡ true → IsPast (all_behind (flat q.places) all).begun c.cursor.mark.line)
+    → IsTrue (is_of_flow_node t.kind t.span) → deeper t.kind t.span 0 ≡ e → LeadsDeeper t (c.level ∷ c.outer) 0 e
+    → Begins t → t.span.start ≡ c.cursor.mark → (in_block c ≡ true → c.indent ≤ c.cursor.mark.col + 1)
+    → Saved (next q) c d → (c.key_allowed ≡ true → IsPast (all_behind (flat q.places) all).begun c.cursor.mark.line)
     → Keys all (next q) q c.indent (c.level ∷ c.outer)
     → KeysFrom all e (next (with_piece t q)) (with_piece t q) d.indent (d.level ∷ d.outer)
 saved_keys all e c q t d quiet node depth leads b m deep s past h = by s.level
@@ -293,9 +270,7 @@ saved_keys all e c q t d quiet node depth leads b m deep s past h = by s.level
         × (c.key_allowed ≡ true)
         )
         → KeysFrom all e (next r) r d.indent (d.level ∷ d.outer)
-    by (inl f) =
-        of c.level f
-        (keys_weaken all e (next q) (next r) r c.indent (c.level ∷ c.outer) (omega (arith, more))
+    by (inl f) = of c.level f (keys_weaken all e (next q) (next r) r c.indent (c.level ∷ c.outer) (omega (arith, more))
         (keys_put all 0 e (next q) q c.indent (c.level ∷ c.outer) t quiet leads h))
     by (inr (f, allowed)) =
         let outers = keys_weaken all 1 (lower (next q) c.level.key) (next q) q c.indent c.outer
@@ -330,16 +305,14 @@ next_open n o q = ap (λ l. q.handed + l) (with_opening_length (n - q.handed) o 
 
 quiet_column : (o : Opening) (column : ℕ) (opened : Collections) → opens_block o ≡ false
     → column_of o column opened ≡ opened
-quiet_column opening.BlockMappingAndKey column opened e = absurd (cc)
-quiet_column _ column opened e = refl
+quiet_column o column opened e = grind arith
 
 pub key_known : (all : Enclosures) (b : ℕ) (q : Queue) (block : Bool) (i : ℕ) (o : Option Candidate) (k : Candidate)
     (ls : List Level) → o ≡ Some k → KeyOf all 0 b q block i o → KeysFrom all 1 (lower b o) q i ls
     → Key all 0 b q block i k × KeysFrom all 1 k.place q i ls
 key_known all b q block i o k ls e x y =
-    let P : Option Candidate → Type 0 = λ z. KeyOf all 0 b q block i z in
     let Q : Option Candidate → Type 0 = λ z. KeysFrom all 1 (lower b z) q i ls in
-    (subst P e x, subst Q e y)
+    (rw e at x, subst Q e y)
 
 -- a key alone, or in flow with its mapping
 pub open_quiet : (e : Enclosure) (outside : Outside) (opened : Setting) (from : Cursor) (c : Core) (q : Queue)
@@ -357,8 +330,7 @@ open_quiet e outside opened from c q k o f m left is h =
       taken = taken_open e outside opened from c (forget_key c) q (next q) (is_block c.level.context) k o key
           (λ g. absurd (cc)) (λ g. absurd (cc)) (λ g. absurd (cc)) (λ _ g. left g)
           (λ g. some_outer c.outer (sym h.keys.0 ∙ g)) m
-          refl refl refl refl (λ l s. subst (λ (j : Collections). Stands j c)
-          (sym (quiet_column o k.mark.col l f)) s) h.taken;
+          refl refl refl refl (λ l s. rw (quiet_column o k.mark.col l f) s) h.taken;
       keys = (
         h.keys.0,
         tt,
@@ -394,23 +366,20 @@ pub further_block : (column : ℕ) (c : Core) → is_further column c ≡ true �
 further_block column c e = first (in_block c) (nat_le c.indent column) e
   where
     first : (a b : Bool) → (a && b) ≡ true → a ≡ true
-    first true b e = refl
-    first false b e = absurd (cc)
+    first a b e = grind arith
 
 -- outside flow no block collection begins
 pub no_further : (column : ℕ) (c : Core) → is_further column c ≡ false → in_block c ≡ true → column < c.indent
 no_further column c e b = leb-false c.indent column (second (in_block c) (nat_le c.indent column) b e)
   where
     second : (a b : Bool) → a ≡ true → (a && b) ≡ false → b ≡ false
-    second true b e f = f
-    second false b e f = absurd (cc)
+    second a b e f = grind arith
 
 pub further_right : (column : ℕ) (c : Core) → is_further column c ≡ true → c.indent ≤ column
 further_right column c e = leb-true c.indent column (second (in_block c) (nat_le c.indent column) e)
   where
     second : (a b : Bool) → (a && b) ≡ true → b ≡ true
-    second true b e = e
-    second false b e = absurd (cc)
+    second a b e = grind arith
 
 -- ## What is passed
 

@@ -61,9 +61,8 @@ pub forgotten_unrolled : (opened : Setting) (from : Cursor) (s : State) → IsCo
 unfolding unroll
 forgotten_unrolled opened from s end h =
     let m = s.core.cursor.mark in
-    let P : State → Type 0 = λ t. TakenState opened from t → HoldsTaken opened from (forget_key t.core) t.queue in
-    by_test (in_block s.core) (end_blocks None m s.core.outer_indents (with_core (go_less_deep None s.core) s)) s P
-    (λ e k.
+    by_test (in_block s.core) (end_blocks None m s.core.outer_indents (with_core (go_less_deep None s.core) s)) s
+    (λ t. TakenState opened from t → HoldsTaken opened from (forget_key t.core) t.queue) (λ e k.
     let t : State = end_blocks None m s.core.outer_indents (with_core (go_less_deep None s.core) s) in
     let l = blocks_levels None m s.core.outer_indents (with_core (go_less_deep None s.core) s) in
     record {
@@ -81,19 +80,11 @@ forgotten_unrolled opened from s end h =
 pub three_at : (x : ℕ) (xs : List ℕ) → (0 == x) ≡ false → next_3_are xs x x x ≡ true → xs ≡ x ∷ x ∷ x ∷ drop 3 xs
 three_at x xs z e =
     let a = and_parts ((slice_index xs 0 == x) && (slice_index xs 1 == x)) (slice_index xs 2 == x) e in
-    let b = and_parts (slice_index xs 0 == x) (slice_index xs 1 == x) a.0 in
-    by xs b.0 b.1 a.1
+    let b = and_parts (slice_index xs 0 == x) (slice_index xs 1 == x) a.0 in by xs b.0 b.1 a.1
   where
     by : (xs : List ℕ) → (slice_index xs 0 == x) ≡ true → (slice_index xs 1 == x) ≡ true
         → (slice_index xs 2 == x) ≡ true → xs ≡ x ∷ x ∷ x ∷ drop 3 xs
-    by [] e f g = absurd (cc)
-    by (c ∷ []) e f g = absurd (cc)
-    by (c ∷ d ∷ []) e f g = absurd (cc)
-    by (c ∷ d ∷ b ∷ cs) e f g =
-        let i = eqb-true c x e in
-        let j = eqb-true d x f in
-        let k = eqb-true b x g in
-        cc
+    by xs e f g = grind arith
 
 -- a document marker's token
 pub record Marking (stands : List ℕ → Bool) (text : List ℕ) (kind : Kind) : Type 0 where
@@ -131,36 +122,23 @@ end_marking = record {
 -- ## Directives
 
 pub break_apart : (s : Cursor) → AreApart s (pass_break s)
-break_apart s =
-    by_test (next_2_are s.rest 13 10) _ _ (AreApart s)
-    (λ n. let two : break_len s.rest ≡ 2 = rw n refl in
+break_apart s = by_test (next_2_are s.rest 13 10) _ _ (AreApart s) (λ n. let two : break_len s.rest ≡ 2 = rw n refl in
     let c = ap is_break (eqb-true (slice_index s.rest 0) 13
     (and_parts (slice_index s.rest 0 == 13) (slice_index s.rest 1 == 10) n).0) in
-    taken.line_break s.mark s.rest _ _ c
-    (subst (λ k. IsPassedOver (next_line s.mark k) (drop k s.rest) (next_line s.mark 2) (drop 2 s.rest)) (sym two)
-    (taken.nothing _ _)))
+    taken.line_break s.mark s.rest _ _ c (rw two (taken.nothing _ _)))
     (λ n. let one : break_len s.rest ≡ 1 = rw n refl in
     by_test (is_break (slice_index s.rest 0)) _ _ (AreApart s)
-    (λ c. taken.line_break s.mark s.rest _ _ c
-    (subst (λ k. IsPassedOver (next_line s.mark k) (drop k s.rest) (next_line s.mark 1) (drop 1 s.rest)) (sym one)
-    (taken.nothing _ _)))
-    (λ c. taken.nothing s.mark s.rest))
+    (λ c. taken.line_break s.mark s.rest _ _ c (rw one (taken.nothing _ _))) (λ c. taken.nothing s.mark s.rest))
 
 pub directive_is_token : (d : ReadDirective) (i : Surroundings) (span : Span) (s t : Cursor)
     → taken.IsDirectiveToken d span s t → IsToken i (document.directive_kind d) span s t
-directive_is_token (version major minor) i span s t h = h
-directive_is_token (tag_prefix handle prefix) i span s t h = h
-directive_is_token (reserved name) i span s t h = h
+directive_is_token d i span s t h = grind arith
 
 pub quiet_directive : (d : ReadDirective) → is_quiet (document.directive_kind d) ≡ true
-quiet_directive (version major minor) = refl
-quiet_directive (tag_prefix handle prefix) = refl
-quiet_directive (reserved name) = refl
+quiet_directive d = grind arith
 
 pub unbound_directive : (d : ReadDirective) → is_unbound (document.directive_kind d) ≡ true
-unbound_directive (version major minor) = refl
-unbound_directive (tag_prefix handle prefix) = refl
-unbound_directive (reserved name) = refl
+unbound_directive d = grind arith
 
 pub directive_keeps : (d : ReadDirective) (span : Span)
     → Neutral (record { span = span; kind = document.directive_kind d })
@@ -184,14 +162,12 @@ end_fetched opened from s h =
     let P : State → Type 0 = λ t. Fetched opened from t.core t.queue in
     let m : Marker = document.end_mark s.core.cursor.mark in
     let t : State = unroll None m s in
-    by_test (length s.core.cursor.rest == 0) _ _ (Given P)
-    (λ e.
+    by_test (length s.core.cursor.rest == 0) _ _ (Given P) (λ e.
     let empty = no_length s.core.cursor.rest e in
     let place = end_place s.core.cursor empty in
     let first = ap (λ l. begins_text (slice_index l 0)) empty in
     let same : t.core.cursor ≡ s.core.cursor = unrolled_cursor None m s in
-    let Q : Cursor → Type 0 = λ u. IsPlaceOrEnd u m in
-    let there : IsPlaceOrEnd t.core.cursor m = subst Q (sym same) place in
+    let there : IsPlaceOrEnd t.core.cursor m = rw same place in
     let left : t.core.cursor.rest ≡ [] = ap (λ (c : Cursor). c.rest) same ∙ empty in
     by_test s.core.required _ _ (Given P) (λ _. tt)
     (λ _. record {

@@ -92,8 +92,7 @@ held opened from (Ok t) h = holds_fetched opened from t.core t.queue h
 held opened from (Err e) h = tt
 
 after_step_fetched : (opened : Setting) (from : Cursor) (q : Queue) (r : StepResult)
-    → Given (FetchedStep opened from q) r
-    → Given (λ (t : State). Fetched opened from t.core t.queue) (after_step r q)
+    → Given (FetchedStep opened from q) r → Given (λ (t : State). Fetched opened from t.core t.queue) (after_step r q)
 after_step_fetched opened from q (Ok x) h = h
 after_step_fetched opened from q (Err e) h = tt
 
@@ -106,8 +105,7 @@ here_read laws text small opened from s l going begun a =
     let P = Given (Read opened from) in
     by_test (is_z (slice_index t 0)) _ _ P
     (λ _. end_given opened from (document.state_behind_end s) (end_fetched opened from s a.taken)
-    (end_over opened from s))
-    (λ z. let some : 0 < length t = some_character_left t z in
+    (end_over opened from s)) (λ z. let some : 0 < length t = some_character_left t z in
     let h : HoldsState opened from s = record { taken = a.taken; keys = a.live z } in
     let behind : (r : Result State Refusal) → Walked (Premises s.core) (Documented s) s.core.cursor r → P r =
     λ r w. both_given opened from s r going begun (held opened from r (documents_hold laws opened from s r h w))
@@ -129,8 +127,7 @@ here_read laws text small opened from s l going begun a =
     (λ _. by_test (nat_lt s.core.cursor.mark.col (least_column s.core)) _ _ P (λ _. tt)
     (λ e. let deep = deep_here s.core e in
     let r = step (slice_index t 0) (slice_index t 1) (next s.queue) s.core in
-    both_given opened from s (after_step r s.queue) going begun
-    (after_step_fetched opened from s.queue r
+    both_given opened from s (after_step r s.queue) going begun (after_step_fetched opened from s.queue r
     (walked_given (Premises s.core) (Stepped (next s.queue) s.core) (FetchedStep opened from s.queue) s.core.cursor r
     (λ x k. k.fetched laws text small opened from s.queue l refl (
       deep,
@@ -176,8 +173,7 @@ pub fetch_read : TextLaws → (text : List ℕ) → length text < 2 ^ 63
     → (opened : Setting) (from : Cursor) (s : State) → LaterThan (start_cursor text) from → s.core.ended ≡ false
     → IsFresh s → TakenState opened from s → Live opened.enclosures s.core s.queue → Given (Read opened from) (fetch s)
 unfolding fetch
-fetch_read laws text small opened from s l going fresh h k =
-    by_test s.core.started _ _ (Given (Read opened from))
+fetch_read laws text small opened from s l going fresh h k = by_test s.core.started _ _ (Given (Read opened from))
     (λ begun. given_bind (Read opened from) (arrive s) fetch_here (λ t e.
     let a = given_of (Arrived opened from) (arrive s) t (arrived text small opened from s l h k) e in
     let kept = given_of (FetchesTokens 0 s) (arrive s) t (arrive_advances s) e in
@@ -203,8 +199,7 @@ settled_ready opened from s h =
       taken = h.fetched.taken;
       live = λ g. elim (h.fetched.live g) [
         | inl k ↦ k
-        | inr w ↦ absurd
-            (let n = not-true (in_block c && is_too_far c.level.key c.cursor.mark) e in let y = w.0 in cc)
+        | inr w ↦ absurd (let n = not-true (in_block c && is_too_far c.level.key c.cursor.mark) e in cc)
       ];
       over = h.over;
       fresh = h.fresh;
@@ -224,8 +219,7 @@ settled_ready opened from s h =
 
 pub read_ready : TextLaws → (text : List ℕ) → length text < 2 ^ 63
     → (limit : ℕ) (opened : Setting) (from : Cursor) (s : State) → LaterThan (start_cursor text) from
-    → s.core.ended ≡ false
-    → Ready opened from s → Given (Ready opened from) (fetch_within limit s >>= without_far_key)
+    → s.core.ended ≡ false → Ready opened from s → Given (Ready opened from) (fetch_within limit s >>= without_far_key)
 unfolding fetch_within
 read_ready laws text small limit opened from s l going h =
     by (fetch s) (fetch_read laws text small opened from s l going h.fresh h.taken (h.live going))
@@ -233,6 +227,5 @@ read_ready laws text small limit opened from s l going h =
     by : (r : Result State Refusal) → Given (Read opened from) r
         → Given (Ready opened from) ((r >>= check_limit limit) >>= without_far_key)
     by (Ok t) k = by_test (nat_le t.core.cursor.mark.index limit) _ _
-        (λ r. Given (Ready opened from) (r >>= without_far_key))
-        (λ _. settled_ready opened from t k) (λ _. tt)
+        (λ r. Given (Ready opened from) (r >>= without_far_key)) (λ _. settled_ready opened from t k) (λ _. tt)
     by (Err e) k = tt

@@ -35,9 +35,7 @@ Stack (column ∷ columns) i [] = ⊥
 Stack (column ∷ columns) i (j ∷ is) = (i ≡ column + 1) × Stack columns j is
 
 pub stack_indent : (columns : List ℕ) (i : ℕ) (is : List ℕ) → Stack columns i is → least_column_in columns ≡ i
-stack_indent [] i is h = sym h.0
-stack_indent (column ∷ columns) i [] h = absurd h
-stack_indent (column ∷ columns) i (j ∷ is) h = sym h.0
+stack_indent columns i is h = grind arith
 
 -- what is open where the scanner is
 abbrev pub Stands : Collections → Core → Type 0
@@ -45,24 +43,18 @@ Stands opened c = Stack opened.columns c.indent c.outer_indents × (opened.brack
 
 -- where the next token of a scanner is, and whether the text before ends like JSON
 abbrev pub surroundings_of : Bool → Core → Surroundings
-surroundings_of ends_json c =
-    record { in_flow = nat_lt 0 (length c.outer); indent = c.indent; ends_json = ends_json }
+surroundings_of ends_json c = record { in_flow = nat_lt 0 (length c.outer); indent = c.indent; ends_json = ends_json }
 
 stands_in : (opened : Collections) (c : Core) → Stands opened c
     → surroundings_in opened ≡ surroundings_of opened.ends_json c
-stands_in opened c h =
-    let S : ℕ → ℕ → Surroundings =
-    λ n i. record { in_flow = nat_lt 0 n; indent = i; ends_json = opened.ends_json } in
-    ap (λ i. S opened.brackets i) (stack_indent opened.columns c.indent c.outer_indents h.0)
-    ∙ ap (λ n. S n c.indent) h.1
+stands_in opened c h = cc (stack_indent opened.columns c.indent c.outer_indents h.0)
 
 -- as many of each are open
 pub stands_same : (opened : Collections) (c d : Core) → d.indent ≡ c.indent → d.outer_indents ≡ c.outer_indents
     → length d.outer ≡ length c.outer → Stands opened c → Stands opened d
 stands_same opened c d i o n h =
-    let P : ℕ → Type 0 = λ j. Stack opened.columns j d.outer_indents in
     let Q : List ℕ → Type 0 = λ js. Stack opened.columns c.indent js in
-    (subst P (sym i) (subst Q (sym o) h.0), h.1 ∙ sym n)
+    (rw i (subst Q (sym o) h.0), h.1 ∙ sym n)
 
 -- what encloses the tokens of a level, where no key's colon is to come
 abbrev pub enclosure_of : Context → Enclosure
@@ -104,8 +96,7 @@ began_at g e column c =
 
 -- inside flow the place that is kept for such a colon comes after a text that ends like JSON, if the scanner is there
 abbrev pub KeepsPlace : Bool → Core → Type 0
-KeepsPlace ends_json c =
-    (c.adjacent ≤ c.cursor.mark.index)
+KeepsPlace ends_json c = (c.adjacent ≤ c.cursor.mark.index)
     × (c.cursor.mark.index ≡ c.adjacent → 0 < length c.outer → ends_json ≡ true)
 
 pub keeps_further : (ends_json : Bool) (c d : Core) → c.cursor.mark.index ≤ d.cursor.mark.index
@@ -150,10 +141,9 @@ keeps_put i c d t here behind opened a is b flows before after adjoins k = by ad
               ∙ k.1 (omega (arith, first, own, last, e, k.0, h)) (omega (arith, same, before, after, s)),
         )
     stays e (inr (inr (brackets, inr out))) =
-        let same = brackets opened in
         let none = ltb-false 0 (length c.outer) (sym flows ∙ out) in (
           omega (arith, first, own, last, e, k.0),
-          λ h s. absurd (omega (arith, same, before, after, s, none)),
+          λ h s. absurd (omega (arith, brackets opened, before, after, s, none)),
         )
 
     by : Adjoins t c d → KeepsPlace (open_behind t.kind t.span opened).ends_json d
@@ -190,8 +180,7 @@ Taken opened from c q = TakenWithin (enclosures_of c) opened from c q
 
 pub taken_within : (v w : Enclosures) (opened : Setting) (from : Cursor) (c : Core) (q : Queue) → w ≡ v
     → TakenWithin v opened from c q → TakenWithin w opened from c q
-taken_within v w opened from c q e h =
-    let P : Enclosures → Type 0 = λ x. TakenWithin x opened from c q in subst P (sym e) h
+taken_within v w opened from c q e h = rw e h
 
 -- a key may begin only where one might before, or on a later line
 abbrev pub AllowsKey : Core → Core → Type 0
@@ -200,8 +189,7 @@ AllowsKey c d = d.key_allowed ≡ true → (c.key_allowed ≡ true) ⊎ (c.curso
 -- the text goes on after separation
 pub taken_further : (within : Enclosures) (opened : Setting) (from : Cursor) (c d : Core) (q : Queue)
     → AreApart c.cursor d.cursor → d.indent ≡ c.indent → d.outer_indents ≡ c.outer_indents
-    → length d.outer ≡ length c.outer → d.adjacent ≡ c.adjacent → AllowsKey c d
-    → TakenWithin within opened from c q
+    → length d.outer ≡ length c.outer → d.adjacent ≡ c.adjacent → AllowsKey c d → TakenWithin within opened from c q
     → TakenWithin within opened from d q
 taken_further within opened from c d q a i o n e allows h =
     let now = all_behind (flat q.places) opened.enclosures in
@@ -265,9 +253,7 @@ unbound_parted t c d e = by (begins_block t.kind) (is_property t.kind) e
     by : (a b : Bool) → (not a && not b) ≡ true
         → (a ≡ true → (c.key_allowed ≡ true) × (t.span.start.line ≡ c.cursor.mark.line))
         × (b ≡ true → d.key_allowed ≡ false)
-    by true b e = absurd (cc)
-    by false true e = absurd (cc)
-    by false false e = ((λ no. absurd (cc)), (λ no. absurd (cc)))
+    by a b e = grind arith
 
 pub same_calm : (kind : Kind) (span : Span) (all : Enclosures) → is_property kind ≡ false
     → calm (enclosures_behind kind span all) ≡ enclosures_behind kind span all
@@ -277,19 +263,14 @@ same_calm kind span all e =
     ap (λ g. with_begun g behind) (ap calmed begun ∙ same kind e ∙ sym begun)
   where
     same : (kind : Kind) → is_property kind ≡ false → calmed (begun_by kind span) ≡ begun_by kind span
-    same (tokens.Anchor name) e = absurd (cc)
-    same (tokens.Tag handle suffix) e = absurd (cc)
-    same tokens.Key e = by_test (has_text span) _ _ (λ g. calmed g ≡ g) (λ _. refl) (λ _. refl)
-    same _ e = refl
+    same kind e = grind arith
 
 pub unbound_calm : (kind : Kind) (span : Span) (all : Enclosures) → is_unbound kind ≡ true
     → calm (enclosures_behind kind span all) ≡ enclosures_behind kind span all
 unbound_calm kind span all e = same_calm kind span all (by (begins_block kind) (is_property kind) e)
   where
     by : (a b : Bool) → (not a && not b) ≡ true → b ≡ false
-    by true b e = absurd (cc)
-    by false true e = absurd (cc)
-    by false false e = refl
+    by a b e = grind arith
 
 -- a node's token begins no block collection
 pub node_parted : (t : Piece) (c d : Core) → IsTrue (is_of_flow_node t.kind t.span)
@@ -304,20 +285,12 @@ node_parted t c d node closes = (λ e. absurd (no t.kind node e), closes)
 
 calmed_fits : (g : Begun) (kind : Kind) (span : Span) (fit : Bool) → (may_follow (calmed g) kind span && fit) ≡ true
     → (begins_block kind ≡ true → IsPast g span.start.line) → (may_follow g kind span && fit) ≡ true
-calmed_fits (place.Property line) tokens.BlockSequenceStart span fit h past =
-    let l = lt-ltb line span.start.line (past refl) in rw l h
-calmed_fits (place.Property line) tokens.BlockMappingStart span fit h past =
-    let l = lt-ltb line span.start.line (past refl) in rw l h
-calmed_fits (place.Property line) tokens.BlockEntry span fit h past =
-    let l = lt-ltb line span.start.line (past refl) in rw l h
-calmed_fits (place.Property line) _ span fit h past = h
-calmed_fits _ kind span fit h past = h
+calmed_fits g kind span fit h past = grind arith
 
 -- what encloses the token after does not rest on what has begun in front
 behind_begun : (kind : Kind) (span : Span) (g : Begun) (all : Enclosures)
     → enclosures_behind kind span (with_begun g all) ≡ enclosures_behind kind span all
-behind_begun tokens.BlockSequenceStart span g all = refl
-behind_begun _ span g all = refl
+behind_begun kind span g all = grind arith
 
 -- properties end where their token does
 begun_ends : (i : Surroundings) (kind : Kind) (span : Span) (s t : Cursor) → IsToken i kind span s t
@@ -329,10 +302,7 @@ begun_ends i _ span s t h = tt
 
 begun_past : (kind : Kind) (span : Span) (n : ℕ) (allowed : Bool) → (is_property kind ≡ true → allowed ≡ false)
     → allowed ≡ true → IsPast (begun_by kind span) n
-begun_past (tokens.Anchor name) span n allowed f e = absurd (let no = f refl in cc)
-begun_past (tokens.Tag handle suffix) span n allowed f e = absurd (let no = f refl in cc)
-begun_past tokens.Key span n allowed f e = by_test (has_text span) _ _ (λ g. IsPast g n) (λ _. tt) (λ _. tt)
-begun_past _ span n allowed f e = tt
+begun_past kind span n allowed f e = grind arith
 
 -- a token is put after the others
 pub taken_put : (within : Enclosures) (opened : Setting) (from : Cursor) (c d : Core) (q : Queue) (t : Piece)
@@ -349,35 +319,29 @@ taken_put within opened from c d q t here behind a told b o adjoins f parted h =
     let i : surroundings_in open_now ≡ around = stands_in open_now c h.stands in
     let stands_then = o open_now h.stands in
     let apart = apart_apart h.last.mark h.last.rest c.cursor.mark c.cursor.rest here.mark here.rest h.apart a in
-    let one : AreTokens open_now (t ∷ []) h.last behind =
-    (here, behind, apart, subst (λ (j : Surroundings). IsToken j t.kind t.span here behind) (sym i) is, refl) in
+    let one : AreTokens open_now (t ∷ []) h.last behind = (here, behind, apart, rw i is, refl) in
     let all = tokens_append opened.collections (flat q.places) (t ∷ []) from h.last behind h.tokens one in
     let same : flat q.places ++ t ∷ [] ≡ flat (with_piece t q).places = sym (flat_put t q) in
     let open_then : open_all (flat (with_piece t q).places) opened.collections ≡ open_behind t.kind t.span open_now =
-    ap (λ l. open_all l opened.collections) (flat_put t q)
-    ∙ open_append (flat q.places) (t ∷ []) opened.collections in
+    ap (λ l. open_all l opened.collections) (flat_put t q) ∙ open_append (flat q.places) (t ∷ []) opened.collections in
     let now = all_behind (flat q.places) opened.enclosures in
     let then : all_behind (flat (with_piece t q).places) opened.enclosures ≡ enclosures_behind t.kind t.span now =
-    ap (λ l. all_behind l opened.enclosures) (flat_put t q) ∙ behind_append (flat q.places) (t ∷ [])
-    opened.enclosures in
+    cc (flat_put t q, behind_append (flat q.places) (t ∷ []) opened.enclosures) in
     let begun = ap (λ (x : Enclosures). x.begun) then ∙ begun_behind t.kind t.span now in
     record {
       last = behind;
-      tokens = subst (λ l. AreTokens opened.collections l from behind) same all;
+      tokens = rw same at all;
       apart = b;
-      stands = subst (λ (x : Collections). Stands x d) (sym open_then) stands_then;
-      in_place = subst (λ l. AreInPlace opened.enclosures l) same
-          (in_place_append (flat q.places) (t ∷ []) opened.enclosures h.in_place
+      stands = rw open_then stands_then;
+      in_place = rw same at (in_place_append (flat q.places) (t ∷ []) opened.enclosures h.in_place
           (put_fits within now t c d h.encloses f parted h.past, tt));
       encloses = ap calm (then ∙ sym (behind_begun t.kind t.span (calmed now.begun) now))
           ∙ ap (λ x. calm (enclosures_behind t.kind t.span x)) h.encloses;
       small = h.small;
-      ends = subst (λ g. EndsOn g behind.mark.line) (sym begun)
-          (begun_ends around t.kind t.span here behind is);
-      past = λ e. subst (λ g. IsPast g d.cursor.mark.line) (sym begun)
-          (begun_past t.kind t.span d.cursor.mark.line d.key_allowed parted.1 e);
-      place = subst (λ (x : Collections). KeepsPlace x.ends_json d) (sym open_then)
-          (keeps_put around c d t here behind open_now a is b refl h.stands.1 stands_then.1 adjoins h.place);
+      ends = rw begun (begun_ends around t.kind t.span here behind is);
+      past = λ e. rw begun (begun_past t.kind t.span d.cursor.mark.line d.key_allowed parted.1 e);
+      place = rw open_then (keeps_put around c d t here behind open_now a is b refl h.stands.1 stands_then.1 adjoins
+          h.place);
     }
   where
     put_fits : (within now : Enclosures) (t : Piece) (c d : Core) → calm now ≡ within → FitsWithin within t

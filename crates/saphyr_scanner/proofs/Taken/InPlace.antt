@@ -58,23 +58,19 @@ AreInside (suc d) (p ∷ ps) e = AreInside (deeper p.kind p.span (suc d)) ps e
 
 pub inside_rest : (d : ℕ) (p : Piece) (ps : List Piece) (e : ℕ) → AreInside d (p ∷ ps) e
     → AreInside (deeper p.kind p.span d) ps e
-inside_rest zero p ps e h = h.1
-inside_rest (suc d) p ps e h = h
+inside_rest d p ps e h = grind arith
 
 pub inside_first : (d : ℕ) (p : Piece) (ps : List Piece) (e : ℕ) → AreInside d (p ∷ ps) e → d ≡ 0
     → IsTrue (is_of_flow_node p.kind p.span)
-inside_first zero p ps e h i = h.0
-inside_first (suc d) p ps e h i = absurd (omega (arith, i))
+inside_first d p ps e h i = grind arith
 
 pub inside_of : (d : ℕ) (p : Piece) (ps : List Piece) (e : ℕ) → (d ≡ 0 → IsTrue (is_of_flow_node p.kind p.span))
     → AreInside (deeper p.kind p.span d) ps e → AreInside d (p ∷ ps) e
-inside_of zero p ps e f h = (f refl, h)
-inside_of (suc d) p ps e f h = h
+inside_of d p ps e f h = grind arith
 
 pub inside_append : (ps qs : List Piece) (a b c : ℕ) → AreInside a ps b → AreInside b qs c → AreInside a (ps ++ qs) c
 inside_append [] qs a b c h k = let P : ℕ → Type 0 = λ n. AreInside n qs c in subst P (sym h) k
-inside_append (p ∷ ps) qs a b c h k =
-    inside_of a p (ps ++ qs) c (inside_first a p ps b h)
+inside_append (p ∷ ps) qs a b c h k = inside_of a p (ps ++ qs) c (inside_first a p ps b h)
     (inside_append ps qs (deeper p.kind p.span a) b c (inside_rest a p ps b h) k)
 
 pub inside_parts : (ps qs : List Piece) (a c : ℕ) → AreInside a (ps ++ qs) c
@@ -92,14 +88,12 @@ deeper_shift tokens.FlowSequenceEnd span m (suc a) f = omega arith
 deeper_shift tokens.FlowMappingStart span m a f = by (has_text span)
   where
     by : (b : Bool) → (if b then suc (m + a) else m + a) ≡ m + (if b then suc a else a)
-    by true = omega arith
-    by false = refl
+    by b = grind arith
 deeper_shift tokens.FlowMappingEnd span m zero f = absurd (let no : false ≡ true = f refl in cc)
 deeper_shift tokens.FlowMappingEnd span m (suc a) f = by (has_text span)
   where
     by : (b : Bool) → (if b then m + suc a - 1 else m + suc a) ≡ m + (if b then suc a - 1 else suc a)
-    by true = omega arith
-    by false = refl
+    by b = grind arith
 deeper_shift _ span m a f = refl
 
 -- from a deeper place the same tokens lead as much deeper
@@ -127,27 +121,12 @@ on_top ts g all = with_begun g (stacked ts all)
 
 of_node_fits : (e : Enclosure) (key : Option Marker) (columns : List ℕ) (kind : Kind) (span : Span)
     → IsTrue (is_of_flow_node kind span) → IsTrue (fits_at e key columns kind span)
-of_node_fits e None columns (tokens.Alias name) span h = refl
-of_node_fits e None columns (tokens.Anchor name) span h = refl
-of_node_fits e None columns (tokens.Tag handle suffix) span h = refl
-of_node_fits e None columns (tokens.Scalar style value) span h = refl
-of_node_fits e None columns tokens.FlowSequenceStart span h = refl
-of_node_fits e None columns tokens.FlowMappingStart span h = rw h refl
-of_node_fits e None columns _ span h = absurd (let no : false ≡ true = h in cc)
-of_node_fits e (Some m) columns (tokens.Alias name) span h = refl
-of_node_fits e (Some m) columns (tokens.Anchor name) span h = refl
-of_node_fits e (Some m) columns (tokens.Tag handle suffix) span h = refl
-of_node_fits e (Some m) columns (tokens.Scalar style value) span h = refl
-of_node_fits e (Some m) columns tokens.FlowSequenceStart span h = refl
-of_node_fits e (Some m) columns tokens.FlowMappingStart span h = h
-of_node_fits e (Some m) columns _ span h = absurd (let no : false ≡ true = h in cc)
+of_node_fits e key columns kind span h = grind arith
 
 -- in brackets no column counts
 fits_in_brackets : (e : Enclosure) (key : Option Marker) (columns others : List ℕ) (kind : Kind) (span : Span)
     → IsTrue (is_in_brackets e) → fits_at e key others kind span ≡ fits_at e key columns kind span
-fits_in_brackets e (Some m) columns others kind span h = refl
-fits_in_brackets e None columns others tokens.Value span h = rw h refl
-fits_in_brackets e None columns others _ span h = refl
+fits_in_brackets e key columns others kind span h = grind arith
 
 -- no block collection has begun right in front
 abbrev pub takes_node : Begun → Bool
@@ -158,12 +137,7 @@ takes_node _ = true
 -- a node's token begins no block collection's entry
 node_follows : (g : Begun) (kind : Kind) (span : Span) → IsTrue (is_of_flow_node kind span)
     → IsTrue (may_follow g kind span) → takes_node g ≡ true
-node_follows place.BlockSequence tokens.BlockEntry span h f = absurd (let no : false ≡ true = h in cc)
-node_follows place.BlockSequence _ span h f = absurd (let no : false ≡ true = f in cc)
-node_follows place.BlockMapping tokens.Key span h f = absurd (let no : false ≡ true = h in cc)
-node_follows place.BlockMapping tokens.Value span h f = absurd (let no : false ≡ true = h in cc)
-node_follows place.BlockMapping _ span h f = absurd (let no : false ≡ true = f in cc)
-node_follows _ kind span h f = refl
+node_follows g kind span h f = grind arith
 
 -- no start of a block collection, no `-` and no colon
 abbrev begins_node : Kind → Bool
@@ -174,23 +148,11 @@ begins_node tokens.Value = false
 begins_node _ = true
 
 node_begins : (kind : Kind) (span : Span) → IsTrue (is_of_flow_node kind span) → begins_node kind ≡ true
-node_begins tokens.BlockSequenceStart span h = absurd (let no : false ≡ true = h in cc)
-node_begins tokens.BlockMappingStart span h = absurd (let no : false ≡ true = h in cc)
-node_begins tokens.BlockEntry span h = absurd (let no : false ≡ true = h in cc)
-node_begins tokens.Value span h = absurd (let no : false ≡ true = h in cc)
-node_begins _ span h = refl
+node_begins kind span h = grind arith
 
 node_may_follow : (g : Begun) (kind : Kind) (span : Span) → takes_node g ≡ true → begins_node kind ≡ true
     → may_follow g kind span ≡ true
-node_may_follow place.Nothing kind span h b = refl
-node_may_follow place.BlockSequence kind span h b = absurd (cc)
-node_may_follow place.BlockMapping kind span h b = absurd (cc)
-node_may_follow (place.Property line) tokens.BlockSequenceStart span h b = absurd (cc)
-node_may_follow (place.Property line) tokens.BlockMappingStart span h b = absurd (cc)
-node_may_follow (place.Property line) tokens.BlockEntry span h b = absurd (cc)
-node_may_follow (place.Property line) _ span h b = refl
-node_may_follow place.KeyStart tokens.Value span h b = absurd (cc)
-node_may_follow place.KeyStart _ span h b = refl
+node_may_follow g kind span h b = grind arith
 
 -- ## Tokens that neither begin nor end a block collection nor an entry of a sequence, and are no block scalars
 
@@ -217,8 +179,7 @@ begun_by tokens.Key span = if has_text span then place.Nothing else place.KeySta
 begun_by _ span = place.Nothing
 
 begun_left : (es : List Enclosed) (columns : List ℕ) → (place.left_for es columns).begun ≡ place.Nothing
-begun_left [] columns = refl
-begun_left (e ∷ es) columns = refl
+begun_left es columns = grind arith
 
 pub begun_behind : (kind : Kind) (span : Span) (all : Enclosures)
     → (enclosures_behind kind span all).begun ≡ begun_by kind span
@@ -232,8 +193,7 @@ begun_behind tokens.Key span all = by (has_text span)
   where
     by : (b : Bool) → (if b then turned_to (place.behind_question all.inner.enclosure) all else
         awaiting_colon span.start all).begun ≡ (if b then place.Nothing else place.KeyStart)
-    by true = refl
-    by false = refl
+    by b = grind arith
 begun_behind _ span all = refl
 
 abbrev AreBrackets : List Enclosed → Type 0
@@ -249,12 +209,9 @@ record Top (kind : Kind) (span : Span) (ts : List Enclosed) : Type 0 where
       → enclosures_behind kind span (on_top ts g all) ≡ on_top top (begun_by kind span) all
 
 top_of_node : (kind : Kind) (span : Span) → IsTrue (is_of_flow_node kind span) → Top kind span []
-top_of_node (tokens.Alias name) span h =
-    record { top = []; brackets = tt; depth = refl; behind = λ g all. refl }
-top_of_node (tokens.Anchor name) span h =
-    record { top = []; brackets = tt; depth = refl; behind = λ g all. refl }
-top_of_node (tokens.Tag handle suffix) span h =
-    record { top = []; brackets = tt; depth = refl; behind = λ g all. refl }
+top_of_node (tokens.Alias name) span h = record { top = []; brackets = tt; depth = refl; behind = λ g all. refl }
+top_of_node (tokens.Anchor name) span h = record { top = []; brackets = tt; depth = refl; behind = λ g all. refl }
+top_of_node (tokens.Tag handle suffix) span h = record { top = []; brackets = tt; depth = refl; behind = λ g all. refl }
 top_of_node (tokens.Scalar style value) span h =
     record { top = []; brackets = tt; depth = refl; behind = λ g all. refl }
 top_of_node tokens.FlowSequenceStart span h = record {
@@ -285,16 +242,13 @@ changed_top kind span t u ts b d e = record {
 }
 
 question_stays : (e : Enclosure) → IsTrue (is_in_brackets e) → IsTrue (is_in_brackets (place.behind_question e))
-question_stays place.Block h = h
-question_stays _ h = refl
+question_stays e h = grind arith
 
 comma_stays : (e : Enclosure) → IsTrue (is_in_brackets e) → IsTrue (is_in_brackets (place.behind_comma e))
-comma_stays place.Block h = h
-comma_stays _ h = refl
+comma_stays e h = grind arith
 
 colon_stays : (e : Enclosure) → IsTrue (is_in_brackets e) → IsTrue (is_in_brackets (place.behind_pair_colon e))
-colon_stays place.Block h = h
-colon_stays _ h = refl
+colon_stays e h = grind arith
 
 top_behind : (kind : Kind) (span : Span) (t : Enclosed) (ts : List Enclosed) → is_quiet kind ≡ true
     → AreBrackets (t ∷ ts) → Top kind span (t ∷ ts)
@@ -315,8 +269,7 @@ top_behind tokens.FlowMappingStart span t ts q b = by (has_text span) refl
       depth = rw e refl;
       behind = λ g all. rw e refl;
     }
-    by false e =
-        changed_top _ span t (record { enclosure = place.PairKey; key = None }) ts (refl, b.1) (λ d. rw e refl)
+    by false e = changed_top _ span t (record { enclosure = place.PairKey; key = None }) ts (refl, b.1) (λ d. rw e refl)
         (λ g all columns. rw e refl)
 top_behind tokens.FlowMappingEnd span t ts q b = by (has_text span) refl
   where
@@ -333,11 +286,9 @@ top_behind tokens.FlowMappingEnd span t ts q b = by (has_text span) refl
 top_behind tokens.Key span t ts q b = by (has_text span) refl
   where
     by : (x : Bool) → has_text span ≡ x → Top tokens.Key span (t ∷ ts)
-    by true e =
-        changed_top _ span t (record { enclosure = place.behind_question t.enclosure; key = None }) ts
+    by true e = changed_top _ span t (record { enclosure = place.behind_question t.enclosure; key = None }) ts
         (question_stays t.enclosure b.0, b.1) (λ d. refl) (λ g all columns. rw e refl)
-    by false e =
-        changed_top _ span t (record { enclosure = t.enclosure; key = Some span.start }) ts b (λ d. refl)
+    by false e = changed_top _ span t (record { enclosure = t.enclosure; key = Some span.start }) ts b (λ d. refl)
         (λ g all columns. rw e refl)
 top_behind tokens.Value span t ts q b =
     changed_top _ span t (record { enclosure = place.behind_pair_colon t.enclosure; key = None }) ts
@@ -362,8 +313,7 @@ record Retold (ps : List Piece) (ts : List Enclosed) (g : Begun) (e : ℕ) (b c 
 retell : (ps : List Piece) (ts : List Enclosed) (g : Begun) (e : ℕ) (b c : Enclosures) → AreBrackets ts → AreQuiet ps
     → AreInside (length ts) ps e → AreInPlace (on_top ts g b) ps → Retold ps ts g e b c
 retell [] ts g e b c w q h k = record { top = ts; last = g; depth = h; in_place = tt; before = refl; behind = refl }
-retell (p ∷ ps) ts g e b c w q h k =
-    by ts w h k (λ us v. retell ps us (begun_by p.kind p.span) e b c v q.1)
+retell (p ∷ ps) ts g e b c w q h k = by ts w h k (λ us v. retell ps us (begun_by p.kind p.span) e b c v q.1)
   where
     Others : Type 0
     Others = (us : List Enclosed) → AreBrackets us → AreInside (length us) ps e
@@ -390,8 +340,7 @@ retell (p ∷ ps) ts g e b c w q h k =
         let x = and_parts (may_follow g p.kind p.span)
         (fits_at b.inner.enclosure b.inner.key b.columns p.kind p.span) k.0 in
         let fit = of_node_fits c.inner.enclosure c.inner.key c.columns p.kind p.span h.0 in
-        let follows : may_follow g p.kind p.span ≡ true = x.0 in
-        further [] (top_of_node p.kind p.span h.0) (rw (follows, fit) refl) h.1 k.1 go
+        further [] (top_of_node p.kind p.span h.0) (rw (x.0, fit) refl) h.1 k.1 go
     by (t ∷ ts) w h k go =
         let same = fits_in_brackets t.enclosure t.key (stacked ts b).columns (stacked ts c).columns p.kind p.span w.0 in
         further (t ∷ ts) (top_behind p.kind p.span t ts q.0 w) (ap (λ x. may_follow g p.kind p.span && x) same ∙ k.0)
@@ -413,10 +362,9 @@ pub node_retold : (t : Piece) (ps : List Piece) (g f : Begun) (b c : Enclosures)
     → AreQuiet (t ∷ ps) → AreInside 0 (t ∷ ps) 0 → AreInPlace (with_begun g b) (t ∷ ps) → NodeRetold (t ∷ ps) g f b c
 node_retold t ps g f b c takes q h k =
     let u = top_of_node t.kind t.span h.0 in
-    let P : ℕ → Type 0 = λ n. AreInside n ps 0 in
     let Q : Enclosures → Type 0 = λ all. AreInPlace all ps in
-    let r = retell ps u.top (begun_by t.kind t.span) 0 b c u.brackets q.1 (subst P (sym u.depth) h.1)
-    (subst Q (u.behind g b) k.1) in
+    let r = retell ps u.top (begun_by t.kind t.span) 0 b c u.brackets q.1
+    (rw u.depth h.1) (subst Q (u.behind g b) k.1) in
     let fit = of_node_fits c.inner.enclosure c.inner.key c.columns t.kind t.span h.0 in
     let follows = node_may_follow f t.kind t.span takes (node_begins t.kind t.span h.0) in record {
       last = r.last;
@@ -454,19 +402,14 @@ EndsOn (place.Property line) n = line ≡ n
 EndsOn _ n = Unit {0}
 
 pub past_later : (g : Begun) (m n : ℕ) → m ≤ n → IsPast g m → IsPast g n
-past_later (place.Property line) m n l h = omega (arith, l, h)
-past_later _ m n l h = tt
+past_later g m n l h = grind arith
 
 pub past_end : (g : Begun) (m n : ℕ) → m < n → EndsOn g m → IsPast g n
-past_end (place.Property line) m n l e = omega (arith, l, e)
-past_end _ m n l e = tt
+past_end g m n l e = grind arith
 
 past_follows : (g : Begun) (span : Span) → takes_node g ≡ true → IsPast g span.start.line
     → may_follow g tokens.BlockMappingStart span ≡ true
-past_follows place.BlockSequence span h l = absurd (cc)
-past_follows place.BlockMapping span h l = absurd (cc)
-past_follows (place.Property line) span h l = lt-ltb line span.start.line l
-past_follows _ span h l = refl
+past_follows g span h l = grind arith
 
 -- ## A candidate turns out to be a key
 
@@ -509,10 +452,9 @@ pub record Opened (o : Opening) (t : Piece) (back : List Piece) (g : Begun) (all
   pub in_place : AreInPlace (with_begun g all) (place_pieces o t ++ back)
   pub behind : all_behind (place_pieces o t ++ back) (with_begun g all) ≡ with_begun last (awaited o t.span.start all)
 
-pub opened_in_place : (o : Opening) (t : Piece) (back : List Piece) (g : Begun) (e : Enclosure)
-    (outside : Outside) → MayOpen o e → takes_node g ≡ true → IsPast g t.span.start.line → AreQuiet (t ∷ back)
-    → AreInside 0 (t ∷ back) 0 → AreInPlace (with_begun g (free e outside)) (t ∷ back)
-    → Opened o t back g (free e outside)
+pub opened_in_place : (o : Opening) (t : Piece) (back : List Piece) (g : Begun) (e : Enclosure) (outside : Outside)
+    → MayOpen o e → takes_node g ≡ true → IsPast g t.span.start.line → AreQuiet (t ∷ back) → AreInside 0 (t ∷ back) 0
+    → AreInPlace (with_begun g (free e outside)) (t ∷ back) → Opened o t back g (free e outside)
 opened_in_place opening.Nothing t back g e outside m f l q h k =
     let r = node_retold t back g g (free e outside) (free e outside) f q h k in
     record { last = r.last; before = r.before; in_place = k; behind = r.before }
@@ -554,10 +496,4 @@ opened_in_place opening.FlowMappingAndKey t back g e outside m f l q h k =
 -- before the tokens inside a key no depth changes
 pub inside_opened : (d : ℕ) (o : Opening) (t : Piece) (back : List Piece) (e : ℕ) → AreInside (suc d) (t ∷ back) e
     → AreInside (suc d) (place_pieces o t ++ back) e
-inside_opened d opening.Nothing t back e h = h
-inside_opened d opening.Key t back e h = h
-inside_opened d opening.BlockMappingAndKey t back e h = h
-inside_opened d opening.FlowMappingAndKey t back e h =
-    let P : Bool → Type 0 = λ b. AreInside (if b then suc (suc d) else suc d)
-    (empty_piece t.span.start tokens.Key ∷ t ∷ back) e in
-    subst P (sym (no_text t.span.start.index)) h
+inside_opened d o t back e h = grind arith

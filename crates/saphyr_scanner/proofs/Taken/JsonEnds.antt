@@ -26,8 +26,7 @@ LeavesEnd kind span = (b : Bool) → ends_json_behind kind span b ≡ b
 
 -- what is passed with a token from s to t
 abbrev pub GoesOn : Surroundings → Kind → Span → Cursor → Cursor → Type 0
-GoesOn i kind span s t =
-    (s.mark.index < t.mark.index) ⊎ (((b : Bool) → ends_json_behind kind span b ≡ true)
+GoesOn i kind span s t = (s.mark.index < t.mark.index) ⊎ (((b : Bool) → ends_json_behind kind span b ≡ true)
     ⊎ (LeavesBrackets kind span × (LeavesEnd kind span ⊎ (i.in_flow ≡ false))))
 
 character_goes_on : (c : ℕ) (s t : Cursor) → TakesCharacter c s t → s.mark.index < t.mark.index
@@ -36,14 +35,11 @@ character_goes_on c s t h = let e = ap (λ (m : Marker). m.index) h.1 in omega (
 plain_goes_on : (f : Bool) (s t : Cursor) (value : List ℕ) (end : Marker) → IsPlainReading f s value end t
     → s.mark.index < t.mark.index
 plain_goes_on f s t value end r =
-    let l = plain_later f s t value end r in
-    let a = ap length r.is in
     let b = length-append r.piece (r.white ++ t.rest) in
     let c = length-append r.white t.rest in
     let d = ap length r.closes in
     let e = length-append r.front (r.last ∷ []) in
-    let n = l.counted in
-    omega (arith, a, b, c, d, e, n)
+    let n = (plain_later f s t value end r).counted in omega (arith, ap length r.is, b, c, d, e, n)
 
 -- a span from s to t has a text, or the place is the same
 span_goes_on : (text : List ℕ) (span : Span) (s t : Cursor) → IsSpan span text s t
@@ -54,13 +50,11 @@ span_goes_on text span s t h = by (has_text span) refl
     by true e =
         let l = ltb-true span.start.index span.end.index e in
         let x = ap (λ (m : Marker). m.index) h.start in
-        let y = ap (λ (m : Marker). m.index) h.end in
-        inl (omega (arith, l, x, y))
+        let y = ap (λ (m : Marker). m.index) h.end in inl (omega (arith, l, x, y))
     by false e = inr refl
 
 empty : (span : Span) → span.end ≡ span.start → has_text span ≡ false
-empty span e =
-    ap (λ (m : Marker). nat_lt span.start.index m.index) e ∙ no_text span.start.index
+empty span e = ap (λ (m : Marker). nat_lt span.start.index m.index) e ∙ no_text span.start.index
 
 -- so do all but brackets, scalars, `-` and `:`
 abbrev Common : Kind → Span → Type 0

@@ -60,8 +60,7 @@ abbrev pub Keys : Enclosures → ℕ → Queue → ℕ → List Level → Type 0
 Keys all b q i ls = KeysFrom all 0 b q i ls
 
 key_weaken : (all : Enclosures) (d a b : ℕ) (q : Queue) (block : Bool) (i : ℕ) (k : Option Candidate) → a ≤ b
-    → KeyOf all d a q block i k
-    → KeyOf all d b q block i k
+    → KeyOf all d a q block i k → KeyOf all d b q block i k
 key_weaken all d a b q block i None h x = tt
 key_weaken all d a b q block i (Some k) h x =
     record {
@@ -155,8 +154,7 @@ key_put all d e b q block i (Some k) t f g x =
       front = x.front;
       back = x.back ++ bare_place t ∷ [];
       token = x.token;
-      places = ap (λ l. l ++ bare_place t ∷ []) x.places
-          ∙ append_assoc x.front (bare_place x.token ∷ x.back) (bare_place t ∷ []);
+      places = cc (append_assoc x.front (bare_place x.token ∷ x.back) (bare_place t ∷ []));
       at = x.at;
       below = x.below;
       marked = x.marked;
@@ -184,17 +182,11 @@ quiet_opened n o [] e h = tt
 quiet_opened zero o (p ∷ ps) e h = now o e (own p.opening h)
   where
     own : (w : Opening) → AreQuiet (place_pieces w p.piece ++ flat ps) → AreQuiet (p.piece ∷ flat ps)
-    own opening.Nothing x = x
-    own opening.Key x = x.1
-    own opening.FlowMappingAndKey x = x.1.1
-    own opening.BlockMappingAndKey x = x.1.1
+    own w x = grind arith
 
     now : (w : Opening) → opens_block w ≡ false → AreQuiet (p.piece ∷ flat ps)
         → AreQuiet (place_pieces w p.piece ++ flat ps)
-    now opening.Nothing f x = x
-    now opening.Key f x = (refl, x)
-    now opening.FlowMappingAndKey f x = (refl, (refl, x))
-    now opening.BlockMappingAndKey f x = absurd (cc)
+    now w f x = grind arith
 quiet_opened (suc n) o (p ∷ ps) e h = further p.opening h (λ x. quiet_opened n o ps e x)
   where
     further : (w : Opening) → AreQuiet (place_pieces w p.piece ++ flat ps)
@@ -224,10 +216,8 @@ key_open all d a q block i k z e b outside j (Some o) w f h deep x =
     let r = behind_front z.front x.front (bare_place z.token) (bare_place x.token) z.back x.back
     (sym x.places ∙ z.places) (omega (arith, x.at, z.at, x.below, h)) in
     let mid = r.0 in
-    let is : k.place - q.handed ≡ length x.front + suc (length mid) = omega (arith, z.at, r.2) in
     let there : places_with_opening (length mid) w x.back ≡ mid ++ place_with_front w z.token ∷ z.back =
-    ap (λ l. places_with_opening (length mid) w l) r.1
-    ∙ with_opening_there w mid (bare_place z.token) z.back in
+    ap (λ l. places_with_opening (length mid) w l) r.1 ∙ with_opening_there w mid (bare_place z.token) z.back in
     let P : List Piece → Type 0 = λ l. AreInside 0 (x.token ∷ l) e in
     let front = flat mid in
     let before = subst P (ap flat r.1 ∙ flat_append mid (bare_place z.token ∷ z.back)) x.inside in
@@ -238,7 +228,7 @@ key_open all d a q block i k z e b outside j (Some o) w f h deep x =
       front = x.front;
       back = places_with_opening (length mid) w x.back;
       token = x.token;
-      places = ap (λ n. places_with_opening n w q.places) is
+      places = ap (λ n. places_with_opening n w q.places) (omega (arith, z.at, r.2))
           ∙ ap (places_with_opening (length x.front + suc (length mid)) w) x.places
           ∙ with_opening_behind w x.front (length mid) (bare_place x.token) x.back;
       at = x.at;
@@ -260,19 +250,15 @@ key_open all d a q block i k z e b outside j (Some o) w f h deep x =
 
     opened_at : (m : ℕ) → 0 < m → AreInside m (z.token ∷ flat z.back) e
         → AreInside m (place_pieces w z.token ++ flat z.back) e
-    opened_at zero l y = absurd (omega (arith, l))
-    opened_at (suc m) l y = inside_opened m w z.token (flat z.back) e y
+    opened_at m l y = grind arith
 
 pub below_key : (all : Enclosures) (d b : ℕ) (q : Queue) (block : Bool) (i : ℕ) (k : Option Candidate)
-    → KeyOf all d b q block i k
-    → lower b k ≤ b
-below_key all d b q block i None x = omega arith
-below_key all d b q block i (Some k) x = omega (arith, x.below)
+    → KeyOf all d b q block i k → lower b k ≤ b
+below_key all d b q block i k x = grind arith
 
 pub keys_open : (all : Enclosures) (d a : ℕ) (q : Queue) (block : Bool) (i : ℕ) (k : Candidate)
-    → Key all d a q block i k
-    → (e b j : ℕ) (ls : List Level) (w : Opening) → opens_block w ≡ false → b ≤ k.place → d < e
-    → KeysFrom all e b q j ls → KeysFrom all e b (with_opening k.place w q) j ls
+    → Key all d a q block i k → (e b j : ℕ) (ls : List Level) (w : Opening) → opens_block w ≡ false → b ≤ k.place
+    → d < e → KeysFrom all e b q j ls → KeysFrom all e b (with_opening k.place w q) j ls
 keys_open all d a q block i k z e b j [] w f h deep x = tt
 keys_open all d a q block i k z e b j (l ∷ ls) w f h deep x =
     let n = below_key all e b q (is_block l.context) j l.key x.1 in (
@@ -286,8 +272,7 @@ keys_open all d a q block i k z e b j (l ∷ ls) w f h deep x =
 record InPlaceOpened (e : Enclosure) (outside : Outside) (all : Enclosures) (o : Opening) (front : List Place)
     (t : Piece) (back : List Place) : Type 0 where
   in_place : AreInPlace all (flat (front ++ place_with_front o t ∷ back))
-  behind : calm (all_behind (flat (front ++ place_with_front o t ∷ back)) all)
-      ≡ awaited o t.span.start (free e outside)
+  behind : calm (all_behind (flat (front ++ place_with_front o t ∷ back)) all) ≡ awaited o t.span.start (free e outside)
   begun : (all_behind (flat (front ++ place_with_front o t ∷ back)) all).begun
       ≡ (all_behind (flat (front ++ bare_place t ∷ back)) all).begun
 
@@ -299,10 +284,7 @@ calm_awaited o m e outside last h =
     ap (λ y. with_begun y (awaited o m (free e outside))) g ∙ same o
   where
     same : (o : Opening) → with_begun place.Nothing (awaited o m (free e outside)) ≡ awaited o m (free e outside)
-    same opening.Nothing = refl
-    same opening.Key = refl
-    same opening.BlockMappingAndKey = refl
-    same opening.FlowMappingAndKey = refl
+    same o = grind arith
 
 place_in_place : (e : Enclosure) (outside : Outside) (all : Enclosures) (o : Opening) (front : List Place)
     (t : Piece) (back : List Place) → MayOpen o e → IsPast (all_behind (flat front) all).begun t.span.start.line
@@ -312,18 +294,14 @@ place_in_place : (e : Enclosure) (outside : Outside) (all : Enclosures) (o : Ope
 place_in_place e outside all o front t back m past quiet inside h i =
     let P : List Piece → Type 0 = λ l. AreInPlace all l in
     let mid = all_behind (flat front) all in
-    let parts = in_place_parts (flat front) (t ∷ flat back) all
-    (subst P (flat_append front (bare_place t ∷ back)) h) in
+    let parts = in_place_parts (flat front) (t ∷ flat back) all (subst P (flat_append front (bare_place t ∷ back)) h) in
     let takes = node_taken t (flat back) 0 mid inside parts.1 in
     let stays = node_retold t (flat back) mid.begun mid.begun mid mid takes quiet inside parts.1 in
-    let before : all_behind (flat (front ++ bare_place t ∷ back)) all ≡ with_begun stays.last mid =
-    ap (λ l. all_behind l all) (flat_append front (bare_place t ∷ back))
-    ∙ behind_append (flat front) (t ∷ flat back) all ∙ stays.before in
-    let here : mid ≡ with_begun mid.begun (free e outside) =
-    ap (with_begun mid.begun) (sym (ap calm before) ∙ i) in
+    let here : mid ≡ with_begun mid.begun (free e outside) = ap (with_begun mid.begun)
+    (sym (ap calm (ap (λ l. all_behind l all) (flat_append front (bare_place t ∷ back))
+    ∙ behind_append (flat front) (t ∷ flat back) all ∙ stays.before)) ∙ i) in
     let Q : Enclosures → Type 0 = λ x. AreInPlace x (t ∷ flat back) in
     let now = opened_in_place o t (flat back) mid.begun e outside m takes past quiet inside (subst Q here parts.1) in
-    let R : Enclosures → Type 0 = λ x. AreInPlace x (place_pieces o t ++ flat back) in
     let same = flat_append front (place_with_front o t ∷ back) in
     let ends : all_behind (flat (front ++ bare_place t ∷ back)) all ≡ with_begun now.last (free e outside) =
     ap (λ l. all_behind l all) (flat_append front (bare_place t ∷ back))
@@ -333,17 +311,15 @@ place_in_place e outside all o front t back m past quiet inside h i =
     ap (λ l. all_behind l all) same ∙ behind_append (flat front) (place_pieces o t ++ flat back) all
     ∙ ap (all_behind (place_pieces o t ++ flat back)) here ∙ now.behind in
     record {
-      in_place = subst P (sym same)
-          (in_place_append (flat front) (place_pieces o t ++ flat back) all parts.0
-          (subst R (sym here) now.in_place));
+      in_place = subst P (sym same) (in_place_append (flat front) (place_pieces o t ++ flat back) all parts.0
+          (subst (λ x. AreInPlace x (place_pieces o t ++ flat back)) (sym here) now.in_place));
       behind = ap calm then ∙ calm_awaited o t.span.start e outside now.last (sym (ap calm ends) ∙ i);
       begun = ap (λ (x : Enclosures). x.begun) then ∙ sym (ap (λ (x : Enclosures). x.begun) ends);
     }
 
 column_ends_json : (o : Opening) (column : ℕ) (opened : Collections)
     → (column_of o column opened).ends_json ≡ opened.ends_json
-column_ends_json opening.BlockMappingAndKey column opened = refl
-column_ends_json _ column opened = refl
+column_ends_json o column opened = grind arith
 
 -- the tokens, where a candidate of the innermost level turns out to be a key
 pub taken_open : (e : Enclosure) (outside : Outside) (opened : Setting) (from : Cursor) (c d : Core) (q : Queue)
@@ -396,8 +372,7 @@ taken_open e outside opened from c d q b block k o x f near right left outer m t
       omega (arith, last, (near g).1),
     ) in
     let all = place_tokens opened.collections o x.front x.token x.back from h.last x.begins quiet
-    on_line further x.inside (by block refl)
-    (subst P x.places h.tokens) in
+    on_line further x.inside (by block refl) (subst P x.places h.tokens) in
     let stands_now = s (open_all (flat (x.front ++ bare_place x.token ∷ x.back)) opened.collections)
     (subst S x.places h.stands) in
     let is : open_all (flat (x.front ++ place_with_front o x.token ∷ x.back)) opened.collections
@@ -422,8 +397,7 @@ taken_open e outside opened from c d q b block k o x f near right left outer m t
       in_place = subst (λ l. AreInPlace opened.enclosures (flat l)) (sym now) places.in_place;
       encloses = ap (λ l. calm (all_behind (flat l) opened.enclosures)) now ∙ places.behind
           ∙ ap (λ i. awaited o i (free e outside)) x.marked;
-      place = subst (λ b. KeepsPlace b d)
-          (ap (λ l. (open_all (flat l) opened.collections).ends_json) x.places
+      place = subst (λ b. KeepsPlace b d) (ap (λ l. (open_all (flat l) opened.collections).ends_json) x.places
           ∙ sym (column_ends_json o k.mark.col (open_all (flat (x.front ++ bare_place x.token ∷ x.back))
           opened.collections)) ∙ ap (λ (y : Collections). y.ends_json) (sym is)
           ∙ ap (λ l. (open_all (flat l) opened.collections).ends_json) (sym now))

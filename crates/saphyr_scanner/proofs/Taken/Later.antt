@@ -59,8 +59,7 @@ later_later m t n u k v a b = record {
       let x = a.lines h in
       let y = b.lines x.1 in
       let p : m.col ≤ n.col = a.columns h (omega (arith, y.0, i)) (omega (arith, y.0, l)) in
-      let q : n.col ≤ k.col = b.columns x.1 i (omega (arith, x.0, l)) in
-      omega (arith, p, q);
+      let q : n.col ≤ k.col = b.columns x.1 i (omega (arith, x.0, l)) in omega (arith, p, q);
 }
 
 -- so many characters of a line
@@ -106,9 +105,8 @@ apart_later _ _ _ _ (taken.line_break m t n u e p) =
     later_later m t (next_line m (break_len t)) (drop (break_len t) t) n u (break_later m t e)
     (apart_later (next_line m (break_len t)) (drop (break_len t) t) n u p)
 apart_later _ _ _ _ (taken.comment m words t n u a e p) =
-    let l = length-append words t in
     later_later m (35 ∷ (words ++ t)) (along m (1 + length words)) t n u
-    (along_later m (1 + length words) (35 ∷ (words ++ t)) t (omega (arith, l)))
+    (along_later m (1 + length words) (35 ∷ (words ++ t)) t (omega (arith, length-append words t)))
     (apart_later (along m (1 + length words)) t n u p)
 
 pub passed_later : (m : Marker) (t : List ℕ) (n : Marker) (u : List ℕ) → IsPassed m t n u → Later m t n u
@@ -132,26 +130,20 @@ piece_later m (c ∷ cs) u =
 pub plain_later : (f : Bool) (s t : Cursor) (text : List ℕ) (end : Marker) → IsPlainReading f s text end t
     → LaterThan s t
 plain_later f s t text end r =
-    let a = piece_later s.mark r.piece (r.white ++ t.rest) in
     let b = piece_later end r.white t.rest in
     let P : Marker → Type 0 = λ k. Later s.mark (r.piece ++ (r.white ++ t.rest)) k (r.white ++ t.rest) in
     let Q : Marker → Type 0 = λ k. Later end (r.white ++ t.rest) k t.rest in
     let both = later_later s.mark (r.piece ++ (r.white ++ t.rest)) end (r.white ++ t.rest) t.mark t.rest
-    (subst P r.ends a) (subst Q r.behind b) in
-    subst (λ l. Later s.mark l t.mark t.rest) (sym r.is) both
+    (subst P r.ends (piece_later s.mark r.piece (r.white ++ t.rest))) (subst Q r.behind b) in
+    rw r.is both
 
 span_later : (span : Span) (text : List ℕ) (s t : Cursor) → IsSpan span text s t → LaterThan s t
 span_later span text s t h =
     let l = length-append text t.rest in
-    let k : length s.rest ≡ length (text ++ t.rest) = ap length h.is in
-    subst (λ (n : Marker). Later s.mark s.rest n t.rest) (sym h.goes_on)
-    (along_later s.mark (length text) s.rest t.rest (omega (arith, l, k)))
+    rw h.goes_on (along_later s.mark (length text) s.rest t.rest (omega (arith, l, ap length h.is)))
 
 character_later : (c : ℕ) (s t : Cursor) → TakesCharacter c s t → LaterThan s t
-character_later c s t h =
-    let k : length s.rest ≡ length (c ∷ t.rest) = ap length h.0 in
-    subst (λ (n : Marker). Later s.mark s.rest n t.rest) (sym h.1)
-    (along_later s.mark 1 s.rest t.rest (omega (arith, k)))
+character_later c s t h = rw h.1 (along_later s.mark 1 s.rest t.rest (omega (arith, ap length h.0)))
 
 nothing_later : (span : Span) (s t : Cursor) → HasNoText span s t → LaterThan s t
 nothing_later span s t h = let P : Cursor → Type 0 = λ u. LaterThan s u in subst P (sym h.2) (later_here s.mark s.rest)
@@ -203,8 +195,7 @@ token_later i (tokens.Scalar style.Literal value) span s t h = passed_later s.ma
 token_later i (tokens.Scalar style.Folded value) span s t h = passed_later s.mark s.rest t.mark t.rest h.1.passes
 
 pub tokens_later : (opened : Collections) (ps : List Piece) (s u : Cursor) → AreTokens opened ps s u → LaterThan s u
-tokens_later opened [] s u h =
-    let P : Cursor → Type 0 = λ v. LaterThan s v in subst P (sym h) (later_here s.mark s.rest)
+tokens_later opened [] s u h = rw h (later_here s.mark s.rest)
 tokens_later opened (p ∷ ps) s u h =
     let a = apart_later s.mark s.rest h.0.mark h.0.rest h.2 in
     let b = token_later (taken.surroundings_in opened) p.kind p.span h.0 h.1 h.3 in

@@ -56,8 +56,7 @@ record OnLine (k : ℕ) (q : Quote) (t : List ℕ) (items : List Item) (x : List
   lines : place.line ≤ m.line → place.line < top → HasIndentedLines k q t items x is
 
 stands_unbroken : (q : Quote) (c : ℕ) → IsTrue (stands_for_itself q c) → is_break c ≡ false
-stands_unbroken q c h =
-    (or_parts (is_break c) (is_z c)
+stands_unbroken q c h = (or_parts (is_break c) (is_z c)
     (not-true (is_breakz c) (and_true_left (not (is_breakz c)) (not (is_special q c)) h))).0
 
 quotes_on_line : (k : ℕ) (q : Quote) (t : List ℕ) (items : List Item) (x : List ℕ) (is : IsText q t items x)
@@ -120,9 +119,7 @@ pub quoted_on_line : (k : ℕ) (q : Quote) (items : List Item) (s t : Cursor) (i
     → HasIndentedLines k q is.0 items t.rest is.2
 quoted_on_line k q items s t is passed le small =
     let o = quotes_on_line k q is.0 items t.rest is.2 (along s.mark 1) in
-    let all : IsPassed s.mark s.rest o.place t.rest =
-    subst (λ l. IsPassed s.mark l o.place t.rest) (sym is.1)
-    (character s.mark (mark q) is.0 o.place t.rest (mark_no_break q) o.passed) in
     let line : o.place.line ≡ t.mark.line =
-    ap (λ (m : Marker). m.line) (one_place s.mark s.rest t.mark t.rest passed o.place all) in
+    ap (λ (m : Marker). m.line) (one_place s.mark s.rest t.mark t.rest passed o.place (rw is.1
+    (character s.mark (mark q) is.0 o.place t.rest (mark_no_break q) o.passed))) in
     o.lines (omega (arith, line, le)) (omega (arith, line, small))

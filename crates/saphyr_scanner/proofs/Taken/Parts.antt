@@ -93,14 +93,7 @@ quiet_token f b i j _ span s t q w le small h = h
 -- the columns stay after a quiet token
 pub quiet_open : (kind : Kind) (span : Span) (opened : Collections) → is_quiet kind ≡ true
     → (open_behind kind span opened).columns ≡ opened.columns
-quiet_open tokens.BlockSequenceStart span opened q = absurd (cc)
-quiet_open tokens.BlockMappingStart span opened q = absurd (cc)
-quiet_open tokens.BlockEnd span opened q = absurd (cc)
-quiet_open tokens.FlowMappingStart span opened q =
-    by_test (has_text span) _ _ (λ (r : Collections). r.columns ≡ opened.columns) (λ _. refl) (λ _. refl)
-quiet_open tokens.FlowMappingEnd span opened q =
-    by_test (has_text span) _ _ (λ (r : Collections). r.columns ≡ opened.columns) (λ _. refl) (λ _. refl)
-quiet_open _ span opened q = refl
+quiet_open kind span opened q = grind arith
 
 -- a quiet token opens and closes the same brackets whichever columns are open
 quiet_column : (column : ℕ) (kind : Kind) (span : Span) (opened : Collections) → is_quiet kind ≡ true
@@ -114,16 +107,14 @@ quiet_column column tokens.FlowMappingStart span opened q = by (has_text span)
         (if b then with_brackets (opened.brackets + 1) (with_column column opened) else with_column column opened)
         ≡ with_column column (with_ends_json (if b then false else opened.ends_json)
         (if b then with_brackets (opened.brackets + 1) opened else opened))
-    by true = refl
-    by false = refl
+    by b = grind arith
 quiet_column column tokens.FlowMappingEnd span opened q = by (has_text span)
   where
     by : (b : Bool) → with_ends_json (if b then true else opened.ends_json)
         (if b then with_brackets (opened.brackets - 1) (with_column column opened) else with_column column opened)
         ≡ with_column column (with_ends_json (if b then true else opened.ends_json)
         (if b then with_brackets (opened.brackets - 1) opened else opened))
-    by true = refl
-    by false = refl
+    by b = grind arith
 quiet_column column _ span opened q = refl
 
 pub quiet_columns : (ps : List Piece) (opened : Collections) → AreQuiet ps
@@ -147,15 +138,13 @@ bracket_changes tokens.FlowMappingStart span opened d l w = by (has_text span)
   where
     by : (b : Bool) → (if b then with_brackets (opened.brackets + 1) opened else opened).brackets + d
         ≡ opened.brackets + (if b then suc d else d)
-    by true = omega arith
-    by false = refl
+    by b = grind arith
 bracket_changes tokens.FlowMappingEnd span opened zero l w = absurd (let no : false ≡ true = w refl in cc)
 bracket_changes tokens.FlowMappingEnd span opened (suc d) l w = by (has_text span)
   where
     by : (b : Bool) → (if b then with_brackets (opened.brackets - 1) opened else opened).brackets + suc d
         ≡ opened.brackets + (if b then suc d - 1 else suc d)
-    by true = omega (arith, l)
-    by false = refl
+    by b = grind arith
 bracket_changes _ span opened d l w = refl
 
 -- brackets are open where tokens lead so deep
@@ -167,24 +156,21 @@ brackets_deep tokens.FlowMappingStart span opened d l = by (has_text span)
   where
     by : (b : Bool) → (if b then suc d else d)
         ≤ (if b then with_brackets (opened.brackets + 1) opened else opened).brackets
-    by true = omega (arith, l)
-    by false = l
+    by b = grind arith
 brackets_deep tokens.FlowMappingEnd span opened d l = by (has_text span)
   where
     by : (b : Bool) → (if b then d - 1 else d)
         ≤ (if b then with_brackets (opened.brackets - 1) opened else opened).brackets
-    by true = omega (arith, l)
-    by false = l
+    by b = grind arith
 brackets_deep _ span opened d l = l
 
 pub same_brackets : (ps : List Piece) (opened : Collections) (d e : ℕ) → d ≤ opened.brackets → AreInside d ps e
     → (open_all ps opened).brackets + d ≡ opened.brackets + e
 same_brackets [] opened d e l x = ap (λ n. opened.brackets + n) x
 same_brackets (p ∷ ps) opened d e l x =
-    let one = bracket_changes p.kind p.span opened d l (inside_first d p ps e x) in
     let others = same_brackets ps (open_behind p.kind p.span opened) (deeper p.kind p.span d) e
     (brackets_deep p.kind p.span opened d l) (inside_rest d p ps e x) in
-    omega (arith, one, others)
+    omega (arith, bracket_changes p.kind p.span opened d l (inside_first d p ps e x), others)
 
 inside_in_flow : (d : ℕ) (p : Piece) (ps : List Piece) (e n : ℕ) → d ≤ n → AreInside d (p ∷ ps) e
     → IsTrue (is_of_flow_node p.kind p.span) ⊎ (nat_lt 0 n ≡ true)
@@ -208,8 +194,8 @@ quiet_tokens column opened (p ∷ ps) s u d e l x q le small h =
       quiet_token (surroundings_in opened).in_flow opened.ends_json (surroundings_in opened).indent (column + 1) p.kind
           p.span h.0 h.1 q.0 (inside_in_flow d p ps e opened.brackets l x) (omega (arith, behind, here, le))
           (omega (arith, behind, small)) h.3,
-      subst (λ (x : Collections). AreTokens x ps h.1 u) (sym (quiet_column column p.kind p.span opened q.0))
-          (quiet_tokens column (open_behind p.kind p.span opened) ps h.1 u (deeper p.kind p.span d) e
+      rw (quiet_column column p.kind p.span opened q.0) (quiet_tokens column (open_behind p.kind p.span opened) ps h.1
+          u (deeper p.kind p.span d) e
           (brackets_deep p.kind p.span opened d l) (inside_rest d p ps e x) q.1 (omega (arith, here, there, le)) small
           h.4),
     )
@@ -221,8 +207,7 @@ EndsOnLine m u = (u.mark.line ≤ m.line) × (u.mark.line < top)
 pub quiet_all : (column : ℕ) (ps : List Piece) (opened : Collections) → AreQuiet ps
     → open_all ps (with_column column opened) ≡ with_column column (open_all ps opened)
 quiet_all column [] opened q = refl
-quiet_all column (p ∷ ps) opened q =
-    ap (open_all ps) (quiet_column column p.kind p.span opened q.0)
+quiet_all column (p ∷ ps) opened q = ap (open_all ps) (quiet_column column p.kind p.span opened q.0)
     ∙ quiet_all column ps (open_behind p.kind p.span opened) q.1
 
 -- ## The start of a key and of a block mapping, and a single pair's start and end
@@ -255,8 +240,7 @@ pub with_opening_behind : (o : Opening) (front : List Place) (n : ℕ) (p : Plac
 with_opening_behind o [] n p back = let e : 0 + suc n ≡ suc n = omega arith in rw e refl
 with_opening_behind o (f ∷ front) n p back =
     let e : length (f ∷ front) + suc n ≡ suc (length front + suc n) = omega arith in
-    ap (λ i. places_with_opening i o (f ∷ (front ++ p ∷ back))) e
-    ∙ ap (λ r. f ∷ r) (with_opening_behind o front n p back)
+    cc (with_opening_behind o front n p back)
 
 -- a token with a text, which begins where its span does
 abbrev pub Begins : Piece → Type 0
@@ -310,10 +294,8 @@ opening_tokens opened opening.FlowMappingAndKey t back s u b q n r x c h =
 opening_tokens opened opening.BlockMappingAndKey t back s u b q n r x c h =
     let place = b _ h.0 h.1 h.3 in
     let k = quiet_tokens t.span.start.col opened (t ∷ back) h.0 u 0 0 (omega arith) x (q refl)
-    (subst (λ (m : Marker). u.mark.line ≤ m.line) place.0 (n refl).0) (n refl).1
-    (h.0, h.1, taken.nothing _ _, h.3, h.4) in
-    let right : least_column_in opened.columns ≤ h.0.mark.col =
-    subst (λ (m : Marker). least_column_in opened.columns ≤ m.col) place.0 (r refl) in
+    (rw place.0 at (n refl).0) (n refl).1 (h.0, h.1, taken.nothing _ _, h.3, h.4) in
+    let right : least_column_in opened.columns ≤ h.0.mark.col = rw place.0 at (r refl) in
     let begun = with_column t.span.start.col opened in
     let P : Collections → Type 0 = λ x. AreTokens x (empty_piece t.span.start tokens.Key ∷ t ∷ back) h.0 u in
     let Q : Collections → Type 0 = λ x. AreTokens x (t ∷ back) h.0 u in (
@@ -336,8 +318,7 @@ opening_open : (opened : Collections) (o : Opening) (t : Piece) (back : List Pie
 opening_open opened opening.Nothing t back q = refl
 opening_open opened opening.Key t back q = ap (open_all (t ∷ back)) (key_starts t.span.start opened)
 opening_open opened opening.FlowMappingAndKey t back q =
-    ap (open_all (empty_piece t.span.start tokens.Key ∷ t ∷ back)) (pair_starts t.span.start opened)
-    ∙ ap (open_all (t ∷ back)) (key_starts t.span.start opened)
+    cc (pair_starts t.span.start opened, key_starts t.span.start opened)
 opening_open opened opening.BlockMappingAndKey t back q =
     ap (open_all (empty_piece t.span.start tokens.Key ∷ t ∷ back)) (mapping_starts t.span.start opened)
     ∙ ap (open_all (t ∷ back)) (key_starts t.span.start (with_column t.span.start.col opened))
@@ -355,8 +336,7 @@ pub place_tokens : (opened : Collections) (o : Opening) (front : List Place) (t 
     → AreTokens opened (flat (front ++ place_with_front o t ∷ back)) s u
 place_tokens opened o front t back s u b q n c x at h =
     let P : List Piece → Type 0 = λ l. AreTokens opened l s u in
-    let r = tokens_part opened (flat front) (t ∷ flat back) s u
-    (subst P (flat_append front (bare_place t ∷ back)) h) in
+    let r = tokens_part opened (flat front) (t ∷ flat back) s u (subst P (flat_append front (bare_place t ∷ back)) h) in
     let k = opening_tokens (open_all (flat front) opened) o t (flat back) r.between u b q n c x at r.back in
     subst P (sym (flat_append front (place_with_front o t ∷ back)))
     (tokens_append opened (flat front) (place_pieces o t ++ flat back) s r.between u r.front k)
@@ -365,10 +345,8 @@ pub place_open : (opened : Collections) (o : Opening) (front : List Place) (t : 
     → (opens_block o ≡ true → AreQuiet (t ∷ flat back))
     → open_all (flat (front ++ place_with_front o t ∷ back)) opened
     ≡ column_of o t.span.start.col (open_all (flat (front ++ bare_place t ∷ back)) opened)
-place_open opened o front t back q =
-    ap (λ l. open_all l opened) (flat_append front (place_with_front o t ∷ back))
+place_open opened o front t back q = ap (λ l. open_all l opened) (flat_append front (place_with_front o t ∷ back))
     ∙ open_append (flat front) (place_pieces o t ++ flat back) opened
-    ∙ opening_open (open_all (flat front) opened) o t (flat back) q
-    ∙ ap (column_of o t.span.start.col)
+    ∙ opening_open (open_all (flat front) opened) o t (flat back) q ∙ ap (column_of o t.span.start.col)
     (sym (ap (λ l. open_all l opened) (flat_append front (bare_place t ∷ back))
     ∙ open_append (flat front) (t ∷ flat back) opened))

@@ -51,26 +51,16 @@ place_of text m a = (a.0, a.1, a.2, by a.2)
 -- ## Tokens
 
 span_reached : (span : Span) (text : List ℕ) (s t : Cursor) → NoBreaks text → IsSpan span text s t → Reaches s t
-span_reached span text s t e h =
-    subst (λ (n : Marker). IsReached s.mark s.rest n t.rest) (sym h.goes_on)
-    (subst (λ l. IsReached s.mark l (along s.mark (length text)) t.rest) (sym h.is)
-    (along_reached s.mark text t.rest e))
+span_reached span text s t e h = rw h.goes_on (rw h.is (along_reached s.mark text t.rest e))
 
 pub character_reached : (c : ℕ) (s t : Cursor) → is_break c ≡ false → TakesCharacter c s t → Reaches s t
-character_reached c s t e h =
-    subst (λ (n : Marker). IsReached s.mark s.rest n t.rest) (sym h.1)
-    (subst (λ l. IsReached s.mark l (along s.mark 1) t.rest) (sym h.0)
-    (along_reached s.mark (c ∷ []) t.rest (e, tt)))
+character_reached c s t e h = rw h.1 (rw h.0 (along_reached s.mark (c ∷ []) t.rest (e, tt)))
 
 nothing_reached : (span : Span) (s t : Cursor) → HasNoText span s t → Reaches s t
-nothing_reached span s t h =
-    let P : Cursor → Type 0 = λ u. Reaches s u in subst P (sym h.2) (taken.nothing s.mark s.rest)
+nothing_reached span s t h = rw h.2 (taken.nothing s.mark s.rest)
 
 mark_reached : (span : Span) (s t : Cursor) → IsMark span s t → Reaches s t
-mark_reached span s t h =
-    subst (λ (n : Marker). IsReached s.mark s.rest n t.rest) (sym h.goes_on)
-    (subst (λ l. IsReached s.mark l (taken.past_mark s.mark) t.rest) (sym h.is)
-    (taken.mark s.mark t.rest (taken.past_mark s.mark) t.rest h.at_start
+mark_reached span s t h = rw h.goes_on (rw h.is (taken.mark s.mark t.rest (taken.past_mark s.mark) t.rest h.at_start
     (taken.nothing (taken.past_mark s.mark) t.rest)))
 
 pub plain_reached : (f : Bool) (s t : Cursor) (text : List ℕ) (end : Marker) (r : IsPlainReading f s text end t)
@@ -82,9 +72,7 @@ plain_reached f s t text end r e =
     let a : IsReached s.mark (r.piece ++ w) (end_of_text s.mark r.piece) w =
     subst P (sym r.closes) (piece_reached s.mark (r.front ++ r.last ∷ []) w (uncut_ink r.front r.last w ink)) in
     let b : IsReached end w (end_of_text end r.white) t.rest = piece_reached end r.white t.rest (whole e) in
-    let both = reached_reached s.mark (r.piece ++ w) end w t.mark t.rest
-    (subst (λ (k : Marker). IsReached s.mark (r.piece ++ w) k w) r.ends a)
-    (subst (λ (k : Marker). IsReached end w k t.rest) r.behind b) in
+    let both = reached_reached s.mark (r.piece ++ w) end w t.mark t.rest (rw r.ends at a) (rw r.behind at b) in
     subst (λ l. IsReached s.mark l t.mark t.rest) (sym r.is) both
   where
     whole : ((r.white ≡ []) ⊎ IsFalse (is_break (slice_index t.rest 0))) → Uncut r.white t.rest
@@ -129,8 +117,7 @@ token_reached i (tokens.Scalar style.Literal value) span s t h = passed_reached 
 token_reached i (tokens.Scalar style.Folded value) span s t h = passed_reached s.mark s.rest t.mark t.rest h.1.passes
 
 pub tokens_reached : (opened : Collections) (ps : List Piece) (s u : Cursor) → AreTokens opened ps s u → Reaches s u
-tokens_reached opened [] s u h =
-    let P : Cursor → Type 0 = λ v. Reaches s v in subst P (sym h) (taken.nothing s.mark s.rest)
+tokens_reached opened [] s u h = rw h (taken.nothing s.mark s.rest)
 tokens_reached opened (p ∷ ps) s u h =
     let a = apart_reached s.mark s.rest h.0.mark h.0.rest h.2 in
     let b = token_reached (surroundings_in opened) p.kind p.span h.0 h.1 h.3 in
@@ -148,8 +135,7 @@ nothing_at span s t h = (s, taken.nothing s.mark s.rest, h.1)
 line_at : (s : Cursor) (m : Marker) → LiesOnLine s m → At s m
 line_at s m h =
     let p = along_reached s.mark h.0 h.1 (tail_no_break h.0 h.2) in
-    at_reached s m h.1 (subst (λ (n : Marker). IsReached s.mark s.rest n h.1) (sym h.4)
-    (subst (λ l. IsReached s.mark l (along s.mark (length h.0)) h.1) (sym h.3) p))
+    at_reached s m h.1 (rw h.4 (rw h.3 p))
 
 pub token_at : (i : Surroundings) (kind : Kind) (span : Span) (s t : Cursor) → IsToken i kind span s t → At s span.start
 token_at i tokens.StreamStart span s t h = nothing_at span s t h
@@ -181,11 +167,9 @@ token_at i (tokens.Tag handle suffix) span s t h = here_at s span.start h.6.star
 token_at i (tokens.Scalar style.Plain value) span s t h = here_at s span.start h.start
 token_at i (tokens.Scalar style.SingleQuoted value) span s t h = here_at s span.start h.4
 token_at i (tokens.Scalar style.DoubleQuoted value) span s t h = here_at s span.start h.4
-token_at i (tokens.Scalar style.Literal value) span s t h =
-    at_reached s span.start h.1.reading.behind
+token_at i (tokens.Scalar style.Literal value) span s t h = at_reached s span.start h.1.reading.behind
     (passed_reached s.mark s.rest span.start h.1.reading.behind h.1.reading.starts)
-token_at i (tokens.Scalar style.Folded value) span s t h =
-    at_reached s span.start h.1.reading.behind
+token_at i (tokens.Scalar style.Folded value) span s t h = at_reached s span.start h.1.reading.behind
     (passed_reached s.mark s.rest span.start h.1.reading.behind h.1.reading.starts)
 
 -- ## Their ends
@@ -195,7 +179,7 @@ at_behind : (s t : Cursor) (m : Marker) → Reaches s t → m ≡ t.mark → At 
 at_behind s t m r e = at_further s t m r (here_at t m e)
 
 same_end : (s : Cursor) (span : Span) → span.end ≡ span.start → At s span.start → At s span.end
-same_end s span e a = subst (At s) (sym e) a
+same_end s span e a = rw e a
 
 -- a plain scalar's span ends before the blanks and breaks after it
 plain_to : (f : Bool) (s t : Cursor) (text : List ℕ) (end : Marker) → IsPlainReading f s text end t → At s end
@@ -205,9 +189,7 @@ plain_to f s t text end r =
     let P : List ℕ → Type 0 = λ p. IsReached s.mark (p ++ w) (end_of_text s.mark p) w in
     let a : IsReached s.mark (r.piece ++ w) (end_of_text s.mark r.piece) w =
     subst P (sym r.closes) (piece_reached s.mark (r.front ++ r.last ∷ []) w (uncut_ink r.front r.last w ink)) in
-    let b : IsReached s.mark (r.piece ++ w) end w = subst (λ (k : Marker). IsReached s.mark (r.piece ++ w) k w) r.ends
-    a in
-    at_reached s end w (subst (λ l. IsReached s.mark l end w) (sym r.is) b)
+    let b : IsReached s.mark (r.piece ++ w) end w = rw r.ends at a in at_reached s end w (rw r.is b)
 
 -- an end on the line after a token
 line_to : (s t : Cursor) (m : Marker) → Reaches s t → LiesOnLine t m → At s m
@@ -241,8 +223,7 @@ token_to i tokens.FlowMappingEnd span s t (inl h) = line_to s t span.end (charac
 token_to i tokens.FlowMappingEnd span s t (inr h) = same_end s span h.0 (nothing_at span s t h)
 token_to i tokens.BlockEntry span s t h = same_end s span h.3 (token_at i tokens.BlockEntry span s t h)
 token_to i tokens.FlowEntry span s t h = line_to s t span.end (token_reached i tokens.FlowEntry span s t h) h.2
-token_to i tokens.Key span s t (inl h) =
-    at_further s t span.end (character_reached 63 s t refl h.0)
+token_to i tokens.Key span s t (inl h) = at_further s t span.end (character_reached 63 s t refl h.0)
     (at_reached t span.end h.3.0 (apart_reached t.mark t.rest span.end h.3.0 h.3.1))
 token_to i tokens.Key span s t (inr h) = same_end s span h.0 (here_at s span.start h.1)
 token_to i tokens.Value span s t h = here_at s span.end h.3

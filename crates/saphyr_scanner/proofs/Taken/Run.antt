@@ -35,8 +35,7 @@ use Rattle.saphyr_scanner.proofs.Queues.{holding}
 
 -- ## A place is handed out
 
-key_handed : (all : Enclosures) (d b n : ℕ) (p : Place) (ps : List Place) (block : Bool) (i : ℕ)
-    (k : Option Candidate)
+key_handed : (all : Enclosures) (d b n : ℕ) (p : Place) (ps : List Place) (block : Bool) (i : ℕ) (k : Option Candidate)
     → is_place n k ≡ false → KeyOf all d b (record { places = p ∷ ps; handed = n }) block i k
     → KeyOf (all_behind (place_pieces p.opening p.piece) all) d b (record { places = ps; handed = n + 1 }) block i k
 key_handed all d b n p ps block i None e x = tt
@@ -65,10 +64,8 @@ key_handed all d b n p ps block i (Some k) e x = by x.front x.places x.at x.past
       inside = x.inside;
       past =
           let P : Enclosures → Type 0 = λ y. IsPast y.begun k.mark.line in
-          let Q : Place → Type 0 = λ y. IsPast (all_behind (flat ws) (all_behind (place_pieces y.opening y.piece)
-          all)).begun k.mark.line in
-          subst Q (first w ws (bare_place x.token ∷ x.back) f)
-          (subst P (behind_append (place_pieces w.opening w.piece) (flat ws) all) past);
+          rw (first w ws (bare_place x.token ∷ x.back) f) at (subst P
+          (behind_append (place_pieces w.opening w.piece) (flat ws) all) past);
     }
 
 keys_handed : (all : Enclosures) (d b n : ℕ) (p : Place) (ps : List Place) (i : ℕ) (ls : List Level)
@@ -83,8 +80,7 @@ keys_handed all d b n p ps i (l ∷ ls) e x =
     )
 
 not_held : (ended held : Bool) → ended ≡ false → (not ended && held) ≡ false → held ≡ false
-not_held false h e f = f
-not_held true h e f = absurd (cc)
+not_held ended held e f = grind arith
 
 abbrev From : List ℕ → Cursor → Type 0
 From text u = LaterThan (start_cursor text) u × Reaches (start_cursor text) u
@@ -105,7 +101,6 @@ one_left text opened from c p ps n l h e =
     let ts = place_pieces p.opening p.piece in
     let r = tokens_part opened.collections ts (flat ps) from h.taken.last h.taken.tokens in
     let w = in_place_parts ts (flat ps) opened.enclosures h.taken.in_place in
-    let count : n + length (p ∷ ps) ≡ n + 1 + length ps = omega arith in
     let further = tokens_later opened.collections ts from r.between r.front in
     let same = behind_append ts (flat ps) opened.enclosures in
     let reached = tokens_reached opened.collections ts from r.between r.front in
@@ -122,22 +117,20 @@ one_left text opened from c p ps n l h e =
           last = h.taken.last;
           tokens = r.back;
           apart = h.taken.apart;
-          stands = subst (λ (x : Collections). Stands x c) (open_append ts (flat ps) opened.collections) h.taken.stands;
+          stands = rw (open_append ts (flat ps) opened.collections) at h.taken.stands;
           in_place = w.1;
           encloses = ap calm (sym same) ∙ h.taken.encloses;
           small = (further.lines h.taken.small).1;
-          ends = subst (λ (x : Enclosures). EndsOn x.begun h.taken.last.mark.line) same h.taken.ends;
-          past = λ a. subst (λ (x : Enclosures). IsPast x.begun c.cursor.mark.line) same (h.taken.past a);
-          place = subst (λ (x : Collections). KeepsPlace x.ends_json c) (open_append ts (flat ps) opened.collections)
-              h.taken.place;
+          ends = rw same at h.taken.ends;
+          past = λ a. rw same at (h.taken.past a);
+          place = rw (open_append ts (flat ps) opened.collections) at h.taken.place;
         };
         live = λ f nz.
             let free = not_held c.ended _ f e in
             let k = keys_handed opened.enclosures 0 (n + length (p ∷ ps)) n p ps c.indent (c.level ∷ c.outer) free
             (h.live f nz) in
             keys_weaken (all_behind ts opened.enclosures) 0 (n + length (p ∷ ps)) (n + 1 + length ps)
-            (record { places = ps; handed = n + 1 }) c.indent
-            (c.level ∷ c.outer) (omega arith) k;
+            (record { places = ps; handed = n + 1 }) c.indent (c.level ∷ c.outer) (omega arith) k;
         over = λ f u v. h.over f u (tokens_append opened.collections ts (flat ps) from r.between u r.front v);
         fresh = h.fresh;
       };
@@ -174,13 +167,11 @@ handed_follow : (text : List ℕ) (go : State → Remaining) (c : Core)
 handed_follow text go c others opened from n [] l h = others opened from n [] l (λ _. refl) h
 handed_follow text go c others opened from n (p ∷ ps) l h =
     by_test (needs_token (holding c (p ∷ ps) n)) _ _ (FollowsTaken text opened from)
-    (λ e. others opened from n (p ∷ ps) l (λ f. absurd (let g = going c.ended _ e in cc)) h)
-    (λ e.
+    (λ e. others opened from n (p ∷ ps) l (λ f. absurd (let g = going c.ended _ e in cc)) h) (λ e.
     let w = one_left text opened from c p ps n l h e in
     place_follows text opened from w.between p.opening p.piece _ w.tokens w.in_place
     (handed_follow text go c others (setting_behind (place_pieces p.opening p.piece) opened) w.between (n + 1) ps
-    w.later
-    w.ready))
+    w.later w.ready))
 
 delivers_taken : (text : List ℕ) (opened : Setting) (from : Cursor) (r : Result State Refusal)
     (go : State → Remaining) → ((t : State) → r ≡ Ok t → FollowsTaken text opened from (go t))
@@ -197,17 +188,13 @@ pub record AllLaws : Type 0 where
 
 run_follows : AllLaws → (text : List ℕ) → length text < 2 ^ 63
     → (limit fuel : ℕ) (opened : Setting) (from : Cursor) (s : State) → From text from → size s.core < fuel
-    → Ready opened from s
-    → NotedState s → FollowsTaken text opened from (run fuel limit s)
+    → Ready opened from s → NotedState s → FollowsTaken text opened from (run fuel limit s)
 run_follows laws text small limit zero opened from s l f h m = absurd (omega (arith, f))
-run_follows laws text small limit (suc fuel) opened from s l f h m =
-    handed_follow text _ s.core
-    (λ cs u n ps k over w.
+run_follows laws text small limit (suc fuel) opened from s l f h m = handed_follow text _ s.core (λ cs u n ps k over w.
     let t : State = holding s.core ps n in
     let r = fetch_within limit t >>= without_far_key in
     by_test t.core.ended _ _ (FollowsTaken text cs u)
-    (λ e. let P : List Place → Type 0 =
-    λ qs. AreTokens cs.collections (flat qs) u u in
+    (λ e. let P : List Place → Type 0 = λ qs. AreTokens cs.collections (flat qs) u u in
     (u, refl, tt, (λ _. w.over e u (subst P (sym (over e)) refl)), (λ f i. absurd (cc))))
     (λ e. let told = read_told laws.texts laws.refusals text small limit cs u t k.0 k.1 e w m in
     delivers_taken text cs u r (run fuel limit)
@@ -265,5 +252,4 @@ scan_taken laws limit text small =
   where
     by : (o : Option Refusal) (end : Cursor) → (o ≡ None → end.rest ≡ [])
         → ((e : Refusal) → o ≡ Some e → IsPlaceOf text e.mark) → IsEndOf text o end
-    by None end a b = a refl
-    by (Some e) end a b = b e refl
+    by o end a b = grind arith

@@ -52,7 +52,7 @@ comment_here m t n u e p = record {
   is = refl;
   are = tt;
   ends = e;
-  goes_on = subst (λ (k : Marker). IsPassedOver k t n u) (sym (along_none m)) p;
+  goes_on = rw (along_none m) p;
 }
 
 comment_more : (m : Marker) (c : ℕ) (t : List ℕ) (n : Marker) (u : List ℕ) → IsTrue (is_yaml_non_break c)
@@ -64,26 +64,22 @@ comment_more m c t n u e w =
       is = ap (λ l. c ∷ l) w.is;
       are = (e, w.are);
       ends = w.ends;
-      goes_on = subst (λ (k : Marker). IsPassedOver k w.behind n u)
-          (along_more m 1 (length w.words) (length (c ∷ w.words)) (omega arith)) w.goes_on;
+      goes_on = rw (along_more m 1 (length w.words) (length (c ∷ w.words)) (omega arith)) at w.goes_on;
     }
 
 comment_whole : (m : Marker) (c : ℕ) (t : List ℕ) (n : Marker) (u : List ℕ) → c ≡ number_sign
-    → Comment (along m 1) t n u
-    → IsPassedOver m (c ∷ t) n u
+    → Comment (along m 1) t n u → IsPassedOver m (c ∷ t) n u
 comment_whole m c t n u e w =
     let p = taken.comment m w.words w.behind n u w.are w.ends
-    (subst (λ (k : Marker). IsPassedOver k w.behind n u) (along_more m 1 (length w.words) (1 + length w.words) refl)
-    w.goes_on) in
-    subst (λ l. IsPassedOver m l n u) (ap (λ l. 35 ∷ l) (sym w.is) ∙ ap (λ d. d ∷ t) (sym e)) p
+    (rw (along_more m 1 (length w.words) (1 + length w.words) refl) at w.goes_on) in
+    rw (ap (λ l. 35 ∷ l) (sym w.is) ∙ ap (λ d. d ∷ t) (sym e)) at p
 
 -- a break that is no CR before LF
 single_break : (m : Marker) (c : ℕ) (t : List ℕ) (n : Marker) (u : List ℕ) → is_break c ≡ true
     → ((c == carriage_return) && (slice_index t 0 == line_feed)) ≡ false → IsPassedOver (next_line m 1) t n u
     → IsPassedOver m (c ∷ t) n u
 single_break m c t n u b e p =
-    let one : break_len (c ∷ t) ≡ 1 = rw e refl in
-    taken.line_break m (c ∷ t) n u b (subst (λ l. IsPassedOver (next_line m l) (drop l (c ∷ t)) n u) (sym one) p)
+    let one : break_len (c ∷ t) ≡ 1 = rw e refl in taken.line_break m (c ∷ t) n u b (rw one p)
 
 -- CR LF, whose CR was passed
 crlf_break : (k : Marker) (t : List ℕ) (n : Marker) (u : List ℕ) → IsPassedOver (next_line (along k 1) 1) t n u
@@ -91,7 +87,7 @@ crlf_break : (k : Marker) (t : List ℕ) (n : Marker) (u : List ℕ) → IsPasse
 crlf_break k t n u p =
     let i : k.index + 1 + 1 ≡ k.index + 2 = omega arith in
     let same : next_line (along k 1) 1 ≡ next_line k 2 = rw i refl in
-    taken.line_break k (13 ∷ 10 ∷ t) n u refl (subst (λ (m : Marker). IsPassedOver m t n u) same p)
+    taken.line_break k (13 ∷ 10 ∷ t) n u refl (rw same at p)
 
 stop_apart : (m : Marker) (blank broke tabbed : Bool) (t : List ℕ)
     → Given (λ (p : GapEnd). To p.cursor.mark p.cursor.rest m t) (stop m blank broke tabbed t)
@@ -127,12 +123,10 @@ all_gaps l (c ∷ cs) m blank broke tabbed =
     (λ p h. single_break m c cs p.cursor.mark p.cursor.rest b e h)
     (all_gaps l cs (next_line m 1) true true false).between in
     let return : (x : Bool) → ((c == 13) && (slice_index cs 0 == 10)) ≡ true → P
-    (end_of_gap l (along m 1) blank broke x cs) =
-    λ x e.
+    (end_of_gap l (along m 1) blank broke x cs) = λ x e.
     let f = and_parts (c == 13) (slice_index cs 0 == 10) e in
     given_map _ _ (end_of_gap l (along m 1) blank broke x cs)
-    (λ p h. subst (λ d. IsPassedOver m (d ∷ cs) p.cursor.mark p.cursor.rest) (sym (eqb-true c 13 f.0)) h)
-    ((all_gaps l cs (along m 1) blank broke x).behind_return f.1 m refl) in
+    (λ p h. rw (eqb-true c 13 f.0) h) ((all_gaps l cs (along m 1) blank broke x).behind_return f.1 m refl) in
     let further : (x : Bool) → is_blank c ≡ true → P (end_of_gap l (along m 1) blank broke x cs) =
     λ x b. given_map _ _ (end_of_gap l (along m 1) blank broke x cs)
     (λ p h. taken.blank m c cs p.cursor.mark p.cursor.rest b h) (all_gaps l cs (along m 1) blank broke x).between in
@@ -147,18 +141,15 @@ all_gaps l (c ∷ cs) m blank broke tabbed =
     let ended : is_yaml_non_break c ≡ false → (r : Result GapEnd Refusal) → P r → Q r =
     λ e r h. given_map _ _ r (λ p k. comment_here m (c ∷ cs) p.cursor.mark p.cursor.rest e k) h in
     record {
-      between =
-          by_test (is_blank c || ((c == 13) && (slice_index cs 0 == 10))) _ _ P
+      between = by_test (is_blank c || ((c == 13) && (slice_index cs 0 == 10))) _ _ P
           (λ e. elim (or_cases (is_blank c) ((c == 13) && (slice_index cs 0 == 10)) e) [
             | inl b ↦ further (is_tab_indentation l m blank c || tabbed) b
-            | inr r ↦ return
-                (is_tab_indentation l m blank c || tabbed) r
+            | inr r ↦ return (is_tab_indentation l m blank c || tabbed) r
           ])
           (λ e. by_test (is_break c) _ _ P
           (λ b. line (or_false_right (is_blank c) ((c == 13) && (slice_index cs 0 == 10)) e) b)
           (λ _. by_test (c == 35) _ _ P comments (λ _. stop_apart m blank broke tabbed (c ∷ cs))));
-      inside =
-          by_test (is_yaml_non_break c) _ _ Q more
+      inside = by_test (is_yaml_non_break c) _ _ Q more
           (λ n. by_test ((c == 13) && (slice_index cs 0 == 10)) _ _ Q (λ r. ended n _ (return tabbed r))
           (λ e. by_test (is_break c) _ _ Q (λ b. ended n _ (line e b))
           (λ _. ended n _ (stop_apart m blank broke tabbed (c ∷ cs)))));
@@ -171,12 +162,8 @@ all_gaps l (c ∷ cs) m blank broke tabbed =
         → Given (λ (p : GapEnd). To p.cursor.mark p.cursor.rest k (carriage_return ∷ d ∷ cs))
         (end_of_gap l m blank broke tabbed
         (d ∷ cs))
-    fed d e k q h =
-        subst (λ x. Given (λ (p : GapEnd). To p.cursor.mark p.cursor.rest k (13 ∷ x ∷ cs))
-        (end_of_gap l m blank broke tabbed (x ∷ cs))) (sym e)
-        (given_map _ _ (end_of_gap l (next_line m 1) true true false cs)
-        (λ p s. crlf_break k cs p.cursor.mark p.cursor.rest
-        (subst (λ (j : Marker). IsPassedOver (next_line j 1) cs p.cursor.mark p.cursor.rest) q s)) h)
+    fed d e k q h = rw e (given_map _ _ (end_of_gap l (next_line m 1) true true false cs)
+        (λ p s. crlf_break k cs p.cursor.mark p.cursor.rest (rw q at s)) h)
 
 pub gap_apart : (l : ℕ) (broke tabbed : Bool) (s : Cursor)
     → Given (λ (p : GapEnd). AreApart s p.cursor) (end_of_gap l s.mark s.blank_so_far broke tabbed s.rest)
@@ -190,12 +177,10 @@ BeginsText p = IsTrue (begins_text (slice_index p.cursor.rest 0))
 stop_begins : (m : Marker) (blank broke tabbed : Bool) (t : List ℕ) → IsTrue (begins_text (slice_index t 0))
     → Given BeginsText (stop m blank broke tabbed t)
 unfolding stop
-stop_begins m blank broke tabbed t h =
-    by_test (tabbed && is_bom (slice_index t 0)) _ _ (Given BeginsText) (λ _. tt)
+stop_begins m blank broke tabbed t h = by_test (tabbed && is_bom (slice_index t 0)) _ _ (Given BeginsText) (λ _. tt)
     (λ _. by_test (tabbed && not (is_z (slice_index t 0))) _ _ (Given BeginsText) (λ _. tt) (λ _. h))
 
-ink_begins : (c : ℕ) → is_blank c ≡ false → is_break c ≡ false → (c == number_sign) ≡ false
-    → begins_text c ≡ true
+ink_begins : (c : ℕ) → is_blank c ≡ false → is_break c ≡ false → (c == number_sign) ≡ false → begins_text c ≡ true
 ink_begins c b k s = rw (b, k, s) refl
 
 unprintable_begins : (c : ℕ) → is_yaml_non_break c ≡ false → is_break c ≡ false → begins_text c ≡ true
@@ -215,15 +200,13 @@ all_begin l [] m blank broke tabbed =
 all_begin l (c ∷ cs) m blank broke tabbed =
     let P = Given BeginsText in
     record {
-      between =
-          by_test (is_blank c || ((c == 13) && (slice_index cs 0 == 10))) _ _ P
+      between = by_test (is_blank c || ((c == 13) && (slice_index cs 0 == 10))) _ _ P
           (λ _. (all_begin l cs (along m 1) blank broke (is_tab_indentation l m blank c || tabbed)).between)
           (λ e. by_test (is_break c) _ _ P (λ _. (all_begin l cs (next_line m 1) true true false).between)
           (λ k. by_test (c == 35) _ _ P (λ _. (all_begin l cs (along m 1) blank broke tabbed).inside)
           (λ s. stop_begins m blank broke tabbed (c ∷ cs)
           (ink_begins c (or_false_left (is_blank c) ((c == 13) && (slice_index cs 0 == 10)) e) k s))));
-      inside =
-          by_test (is_yaml_non_break c) _ _ P (λ _. (all_begin l cs (along m 1) blank broke tabbed).inside)
+      inside = by_test (is_yaml_non_break c) _ _ P (λ _. (all_begin l cs (along m 1) blank broke tabbed).inside)
           (λ n. by_test ((c == 13) && (slice_index cs 0 == 10)) _ _ P
           (λ _. (all_begin l cs (along m 1) blank broke tabbed).between)
           (λ _. by_test (is_break c) _ _ P (λ _. (all_begin l cs (next_line m 1) true true false).between)
@@ -244,8 +227,7 @@ Breaks m broke p = m.line ≤ top → (m.line ≤ p.cursor.mark.line) × (p.curs
 stop_breaks : (m : Marker) (blank broke tabbed : Bool) (t : List ℕ)
     → Given (Breaks m broke) (stop m blank broke tabbed t)
 unfolding stop
-stop_breaks m blank broke tabbed t =
-    by_test (tabbed && is_bom (slice_index t 0)) _ _ (Given (Breaks m broke)) (λ _. tt)
+stop_breaks m blank broke tabbed t = by_test (tabbed && is_bom (slice_index t 0)) _ _ (Given (Breaks m broke)) (λ _. tt)
     (λ _. by_test (tabbed && not (is_z (slice_index t 0))) _ _ (Given (Breaks m broke)) (λ _. tt)
     (λ _ l. (omega arith, l, λ e s. inl e)))
 
@@ -259,21 +241,17 @@ all_break l [] m blank broke tabbed =
     record { between = stop_breaks m blank broke tabbed []; inside = stop_breaks m blank broke tabbed [] }
 all_break l (c ∷ cs) m blank broke tabbed =
     let P = Given (Breaks m broke) in
-    let line : P (end_of_gap l (next_line m 1) true true false cs) =
-    given_map _ _ (end_of_gap l (next_line m 1) true true false cs)
-    (λ p h small.
+    let line = given_map _ _ (end_of_gap l (next_line m 1) true true false cs) (λ p h small.
     let k = h (omega arith) in
     (omega (arith, k.0, small), k.1, λ _ s. inr (omega (arith, k.0, s))))
     (all_break l cs (next_line m 1) true true false).between in
     record {
-      between =
-          by_test (is_blank c || ((c == 13) && (slice_index cs 0 == 10))) _ _ P
+      between = by_test (is_blank c || ((c == 13) && (slice_index cs 0 == 10))) _ _ P
           (λ _. (all_break l cs (along m 1) blank broke (is_tab_indentation l m blank c || tabbed)).between)
           (λ _. by_test (is_break c) _ _ P (λ _. line)
           (λ _. by_test (c == 35) _ _ P (λ _. (all_break l cs (along m 1) blank broke tabbed).inside)
           (λ _. stop_breaks m blank broke tabbed (c ∷ cs))));
-      inside =
-          by_test (is_yaml_non_break c) _ _ P (λ _. (all_break l cs (along m 1) blank broke tabbed).inside)
+      inside = by_test (is_yaml_non_break c) _ _ P (λ _. (all_break l cs (along m 1) blank broke tabbed).inside)
           (λ _. by_test ((c == 13) && (slice_index cs 0 == 10)) _ _ P
           (λ _. (all_break l cs (along m 1) blank broke tabbed).between)
           (λ _. by_test (is_break c) _ _ P (λ _. line) (λ _. stop_breaks m blank broke tabbed (c ∷ cs))));
@@ -306,8 +284,7 @@ all_spaces (c ∷ cs) m blank space =
     let line : ((c == 13) && (slice_index cs 0 == 10)) ≡ false → is_break c ≡ true
     → P (end_of_spaces (next_line m 1) true true cs) =
     λ e b. single_break m c cs _ _ b e (all_spaces cs (next_line m 1) true true).between in
-    let return : ((c == 13) && (slice_index cs 0 == 10)) ≡ true → P (end_of_spaces (along m 1) blank true cs) =
-    λ e.
+    let return : ((c == 13) && (slice_index cs 0 == 10)) ≡ true → P (end_of_spaces (along m 1) blank true cs) = λ e.
     let f = and_parts (c == 13) (slice_index cs 0 == 10) e in
     let r = end_of_spaces (along m 1) blank true cs in
     subst (λ d. IsPassedOver m (d ∷ cs) r.cursor.mark r.cursor.rest) (sym (eqb-true c 13 f.0))
@@ -319,15 +296,13 @@ all_spaces (c ∷ cs) m blank space =
     let more : is_yaml_non_break c ≡ true → Q (end_of_spaces_in_comment (along m 1) blank space cs) =
     λ e. comment_more m c cs _ _ e (all_spaces cs (along m 1) blank space).inside in
     record {
-      between =
-          by_test ((c == 32) || ((c == 13) && (slice_index cs 0 == 10))) _ _ P
+      between = by_test ((c == 32) || ((c == 13) && (slice_index cs 0 == 10))) _ _ P
           (λ e. elim (or_cases (c == 32) ((c == 13) && (slice_index cs 0 == 10)) e)
           [ inl b ↦ further b | inr r ↦ return r ])
           (λ e. by_test (is_break c) _ _ P
           (λ b. line (or_false_right (c == 32) ((c == 13) && (slice_index cs 0 == 10)) e) b)
           (λ _. by_test (c == 35) _ _ P comments (λ _. taken.nothing m (c ∷ cs))));
-      inside =
-          by_test (is_yaml_non_break c) _ _ Q more
+      inside = by_test (is_yaml_non_break c) _ _ Q more
           (λ n. by_test ((c == 13) && (slice_index cs 0 == 10)) _ _ Q (λ r. comment_here m (c ∷ cs) _ _ n (return r))
           (λ e. by_test (is_break c) _ _ Q (λ b. comment_here m (c ∷ cs) _ _ n (line e b))
           (λ _. comment_here m (c ∷ cs) m (c ∷ cs) n (taken.nothing m (c ∷ cs)))));
@@ -343,8 +318,7 @@ all_spaces (c ∷ cs) m blank space =
     fed d e k q h =
         let r = end_of_spaces (next_line m 1) true true cs in
         subst (λ x. To (end_of_spaces m blank space (x ∷ cs)).cursor.mark
-        (end_of_spaces m blank space (x ∷ cs)).cursor.rest k
-        (13 ∷ x ∷ cs)) (sym e)
+        (end_of_spaces m blank space (x ∷ cs)).cursor.rest k (13 ∷ x ∷ cs)) (sym e)
         (crlf_break k cs r.cursor.mark r.cursor.rest
         (subst (λ (j : Marker). IsPassedOver (next_line j 1) cs r.cursor.mark r.cursor.rest) q h))
 

@@ -50,8 +50,7 @@ pub record CandidateStands (k : Candidate) (c : Core) : Type 0 where
 
 pub taken_later : (opened : Setting) (from : Cursor) (c : Core) (q : Queue) → Taken opened from c q
     → LaterThan from c.cursor
-taken_later opened from c q h =
-    later_later from.mark from.rest h.last.mark h.last.rest c.cursor.mark c.cursor.rest
+taken_later opened from c q h = later_later from.mark from.rest h.last.mark h.last.rest c.cursor.mark c.cursor.rest
     (tokens_later opened.collections (flat q.places) from h.last h.tokens)
     (apart_later h.last.mark h.last.rest c.cursor.mark c.cursor.rest h.apart)
 
@@ -104,8 +103,7 @@ block_token : (style : BlockStyle) (i : ℕ) (b : Bool) (value : List ℕ) (span
     → IsBlockScalarToken style i value span s t
     → IsToken (record { in_flow = false; indent = i; ends_json = b }) (tokens.Scalar (scalar.style_of style) value) span
     s t
-block_token block_style.Literal i b value span s t h = (refl, h)
-block_token block_style.Folded i b value span s t h = (refl, h)
+block_token style i b value span s t h = grind arith
 
 pub too_far : (k : Candidate) (m : Marker) → k.mark.line < m.line → is_too_far (Some k) m ≡ true
 too_far k m h = let e = lt-ltb k.mark.line m.line h in rw e refl
@@ -125,12 +123,9 @@ key_line opened from q c d l s h k i = by s.level
     old : (o : Option Candidate) → c.level.key ≡ o → o ≡ Some k → k.mark.line ≤ d.cursor.mark.line
     old o e f =
         let known = key_known opened.enclosures (next q) q (is_block c.level.context) c.indent c.level.key k c.outer
-        (e ∙ f) h.keys.1
-        h.keys.2 in
+        (e ∙ f) h.keys.1 h.keys.2 in
         let stands = key_stands opened from c q (next q) (is_block c.level.context) c.indent k l h.taken known.0 in
-        let lines = stands.later.lines stands.small in
-        let u = same in
-        omega (arith, lines.0, u)
+        let u = same in omega (arith, (stands.later.lines stands.small).0, u)
 
     by : (d.level ≡ c.level)
         ⊎ (
@@ -144,8 +139,7 @@ key_line opened from q c d l s h k i = by s.level
         sym (ap (λ (y : Level). y.key) g) ∙ i in
         let line : Option Candidate → ℕ = λ o. elim o [ None ↦ 0 | Some y ↦ y.mark.line ] in
         let n : c.cursor.mark.line ≡ k.mark.line = ap line m in
-        let u = same in
-        omega (arith, n, u)
+        let u = same in omega (arith, n, u)
 
 pub block_fetched : TextLaws → (text : List ℕ) → length text < 2 ^ 63
     → (opened : Setting) (from : Cursor) (q : Queue) (style : BlockStyle) (c d : Core)
@@ -164,8 +158,7 @@ block_fetched laws text small opened from q style c d l s stays h b bd f x e =
     let p = laws.block_place style d.indent d.cursor x.2 x.0 x.1 first e in
     let piece : Piece = record {
       span = record { start = x.1.start; end = x.1.end };
-      kind = tokens.Scalar
-          (scalar.style_of style) x.0;
+      kind = tokens.Scalar (scalar.style_of style) x.0;
     } in
     let is : IsBlockScalarToken style d.indent x.0 x.1 d.cursor x.2 =
     record {
@@ -193,20 +186,16 @@ block_fetched laws text small opened from q style c d l s stays h b bd f x e =
     → (Live opened.enclosures e2 (with_piece piece q)) ⊎ (IsFar e2) =
     λ o g less. elim o as (λ y. d.level.key ≡ y → (Live opened.enclosures e2 (with_piece piece q)) ⊎ (IsFar e2)) [
       | None ↦ λ i. inl (λ nz. no_keys opened.enclosures (next (with_piece piece q)) (with_piece piece q) d.indent
-          d.level d.outer i
-          (s.outer ∙ none) bd)
+          d.level d.outer i (s.outer ∙ none) bd)
       | Some k ↦ λ i. inr (
         far_of e2 (Some k) i bd k refl
             (let w = key_line opened from q c d l2 s h k i in omega (arith, w, less)),
         s.outer ∙ none,
       )
     ] g in
-    let There : Bool → List Level → Type 0 = λ i ls. IsToken
-    (record { in_flow = nat_lt 0 (length ls); indent = d.indent; ends_json = i })
-    (tokens.Scalar (scalar.style_of style) x.0) x.1 d.cursor x.2 in
     record {
       taken = taken_put (enclosures_of d) opened from before e2 q piece d.cursor x.2 (taken.nothing _ _)
-          (λ i _. subst (There i) (sym (s.outer ∙ none)) (block_token style d.indent i x.0 x.1 d.cursor x.2 is))
+          (λ i _. rw (s.outer ∙ none) (block_token style d.indent i x.0 x.1 d.cursor x.2 is))
           (taken.nothing _ _) (λ cs k. k) (inl refl) refl (unbound_parted piece before e2 refl) held;
       live = λ _. elim (p.line (line_small text d.cursor small r))
           [ inl less ↦ by d.level.key refl less | inr z ↦ inl (λ nz. absurd (cc)) ];
@@ -224,8 +213,7 @@ outer_indent_levels [] c = record { level = refl; outer = refl }
 outer_indent_levels (i ∷ is) c = record { level = refl; outer = refl }
 
 outer_indent_stays : (is : List ℕ) (c : Core) → (with_outer_indent is c).adjacent ≡ c.adjacent
-outer_indent_stays [] c = refl
-outer_indent_stays (i ∷ is) c = refl
+outer_indent_stays is c = grind arith
 
 outer_indent_stack : (is columns : List ℕ) (c : Core) → Stack columns c.indent is
     → Stack (without_innermost columns) (with_outer_indent is c).indent (with_outer_indent is c).outer_indents
@@ -241,15 +229,12 @@ outer_indent_columns : (column : Option ℕ) (is : List ℕ) (c : Core) → is_r
 outer_indent_columns column is c e = by is c.indent (positive column c.indent e)
   where
     positive : (column : Option ℕ) (i : ℕ) → is_right_of column i ≡ true → 0 < i
-    positive None i e = ltb-true 0 i e
-    positive (Some column) i e = let l = ltb-true column (i - 1) e in omega (arith, l)
+    positive column i e = grind arith
 
     by : (is : List ℕ) (i : ℕ) → 0 < i
         → columns_of (with_outer_indent is c).indent (with_outer_indent is c).outer_indents
         ≡ without_innermost (columns_of i is)
-    by is zero l = absurd (omega (arith, l))
-    by [] (suc i) l = refl
-    by (j ∷ is) (suc i) l = refl
+    by is i l = grind arith
 
 -- what encloses the tokens after an end
 ended_enclosures : (column : Option ℕ) (m : Marker) (s : State) → is_right_of column s.core.indent ≡ true
@@ -258,10 +243,7 @@ ended_enclosures column m s e =
     let levels = outer_indent_levels s.core.outer_indents s.core in
     let From : Level → List Level → List ℕ → Enclosures =
     λ l ls columns. free (enclosure_of l.context) (record { enclosed = enclosed_by ls; columns = columns }) in
-    let d = (end_block m s).core in
-    ap (λ l. From l d.outer (columns_of d.indent d.outer_indents)) levels.level
-    ∙ ap (λ ls. From s.core.level ls (columns_of d.indent d.outer_indents)) levels.outer
-    ∙ ap (From s.core.level s.core.outer) (outer_indent_columns column s.core.outer_indents s.core e)
+    let d = (end_block m s).core in cc (outer_indent_columns column s.core.outer_indents s.core e)
 
 abbrev pub TakenState : Setting → Cursor → State → Type 0
 TakenState opened from s = Taken opened from s.core s.queue
@@ -288,7 +270,6 @@ block_taken : (opened : Setting) (from : Cursor) (column : Option ℕ) (m : Mark
     → is_right_of column s.core.indent ≡ true → BlocksEnd column m s.core.cursor → TakenState opened from s
     → TakenState opened from (end_block m s)
 block_taken opened from column m s e p h =
-    let levels = outer_indent_levels s.core.outer_indents s.core in
     taken_within (block_ended (enclosures_of s.core)) (enclosures_of (end_block m s).core) opened from
     (end_block m s).core (end_block m s).queue (ended_enclosures column m s e)
     (taken_put (enclosures_of s.core) opened from s.core (end_block m s).core s.queue (empty_piece m tokens.BlockEnd)
@@ -296,14 +277,13 @@ block_taken opened from column m s e p h =
     (apart_same s.core.cursor (end_block m s).core.cursor (block_cursor m s))
     (λ x k. (
       outer_indent_stack s.core.outer_indents x.columns s.core k.0,
-      k.1 ∙ sym (ap length levels.outer),
+      k.1 ∙ sym (ap length (outer_indent_levels s.core.outer_indents s.core).outer),
     )) (inl (outer_indent_stays s.core.outer_indents s.core)) refl
     (unbound_parted (empty_piece m tokens.BlockEnd) s.core (end_block m s).core refl) h)
 
 blocks_taken : (opened : Setting) (from : Cursor) (column : Option ℕ) (m : Marker) (is : List ℕ) (s : State)
     → BlocksEnd column m s.core.cursor → TakenState opened from s → TakenState opened from (end_blocks column m is s)
-blocks_taken opened from column m [] s p h =
-    by_test (is_right_of column s.core.indent) _ _ (TakenState opened from)
+blocks_taken opened from column m [] s p h = by_test (is_right_of column s.core.indent) _ _ (TakenState opened from)
     (λ e. block_taken opened from column m s e p h) (λ _. h)
 blocks_taken opened from column m (i ∷ is) s p h =
     by_test (is_right_of column s.core.indent) _ _ (TakenState opened from)
@@ -335,11 +315,9 @@ levels_levels c d e a b = record { level = b.level ∙ a.level; outer = b.outer 
 
 pub blocks_levels : (column : Option ℕ) (m : Marker) (is : List ℕ) (s : State)
     → Levels s.core (end_blocks column m is s).core
-blocks_levels column m [] s =
-    by_test (is_right_of column s.core.indent) _ _ (λ (t : State). Levels s.core t.core)
+blocks_levels column m [] s = by_test (is_right_of column s.core.indent) _ _ (λ (t : State). Levels s.core t.core)
     (λ _. outer_indent_levels s.core.outer_indents s.core) (λ _. record { level = refl; outer = refl })
-blocks_levels column m (i ∷ is) s =
-    by_test (is_right_of column s.core.indent) _ _ (λ (t : State). Levels s.core t.core)
+blocks_levels column m (i ∷ is) s = by_test (is_right_of column s.core.indent) _ _ (λ (t : State). Levels s.core t.core)
     (λ _. levels_levels s.core (end_block m s).core (end_blocks column m is (end_block m s)).core
     (outer_indent_levels s.core.outer_indents s.core) (blocks_levels column m is (end_block m s)))
     (λ _. record { level = refl; outer = refl })

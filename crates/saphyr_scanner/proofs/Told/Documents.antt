@@ -49,8 +49,7 @@ stream_told s n =
     by_test (length c.rest == 0) _ _ (HoldsOrRefuses NotedState c)
     (λ e. by_test s.core.required _ _ (HoldsOrRefuses NotedState c)
     (λ _. (c, taken.nothing c.mark c.rest, end_place c (no_length c.rest e)))
-    (λ _. inl (unrolled_comment None (document.end_mark c.mark) s ∙ n)))
-    (λ _. at_here c)
+    (λ _. inl (unrolled_comment None (document.end_mark c.mark) s ∙ n))) (λ _. at_here c)
 
 documents_told : (s : State) → Premises s.core → (r : Result State Refusal)
     → Walked (Premises s.core) (Documented s) s.core.cursor r → HoldsOrRefuses NotedState s.core.cursor r
@@ -87,8 +86,7 @@ here_told texts laws s n =
     (λ e. let w = at (is_document_end t) e in told _ (end_marker_walked s w.0 w.1))
     (λ _. by_test (nat_lt s.core.cursor.mark.col (least_column s.core)) _ _ P (λ _. at_here s.core.cursor)
     (λ e. let r = step (slice_index t 0) (slice_index t 1) (next s.queue) s.core in
-    after_step_told s.core.cursor r s.queue
-    (walked_told s.core (laws, texts, n) (next s.queue) r
+    after_step_told s.core.cursor r s.queue (walked_told s.core (laws, texts, n) (next s.queue) r
     (step_does (slice_index t 0) (slice_index t 1) (next s.queue) s.core (some_character_left t z) refl refl
     (deep_here s.core e)))))))))
 
@@ -103,8 +101,7 @@ unfolding arrive
 arrive_told s n =
     let c = s.core.cursor in
     let r = pass_gap s.core >>= drop_far_key in
-    told_then (GoesState c) (GoesState c) c (on_core r s.queue) _
-    (on_core_told (Goes c) c r s.queue
+    told_then (GoesState c) (GoesState c) c (on_core r s.queue) _ (on_core_told (Goes c) c r s.queue
     (told_then (Goes c) (Goes c) c (pass_gap s.core) drop_far_key (gap_told s.core n)
     (λ d g. by d g (drop_far_key d) (drop_still d))))
     (λ t g. goes_still c t.core (unroll (Some t.core.cursor.mark.col) t.core.cursor.mark t).core
@@ -117,8 +114,7 @@ arrive_told s n =
 
 pub fetch_told : TextLaws → RefusalLaws → (s : State) → NotedState s → HoldsOrRefuses NotedState s.core.cursor (fetch s)
 unfolding fetch
-fetch_told texts laws s n =
-    by_test s.core.started _ _ (HoldsOrRefuses NotedState s.core.cursor)
+fetch_told texts laws s n = by_test s.core.started _ _ (HoldsOrRefuses NotedState s.core.cursor)
     (λ _. told_then (GoesState s.core.cursor) NotedState s.core.cursor (arrive s) fetch_here (arrive_told s n)
     (λ t g. told_further NotedState s.core.cursor t.core.cursor (fetch_here t) g.0 (here_told texts laws t g.1)))
     (λ e. n)

@@ -41,8 +41,7 @@ taken_reached opened from c q h =
 noted_still : (c d : Core) → Still c d → Noted c → Noted d
 noted_still c d s n =
     let P : Option Marker → Type 0 = λ o. IsNoted o d.cursor in
-    let Q : Cursor → Type 0 = λ u. IsNoted c.comment u in
-    subst P (sym s.1) (subst Q (sym s.0) n)
+    let Q : Cursor → Type 0 = λ u. IsNoted c.comment u in subst P (sym s.1) (subst Q (sym s.0) n)
 
 pub settled_told : (text : List ℕ) (t : State) → Reaches (start_cursor text) t.core.cursor → NotedState t
     → HoldsOrRefuses NotedState (start_cursor text) (without_far_key t)

@@ -23,14 +23,12 @@ HoldsOrRefuses P s (Err e) = At s e.mark
 
 pub told_then : {X Y : Type 0}
     → (P : X → Type 0) (Q : Y → Type 0) (s : Cursor) (r : Result X Refusal) (f : X → Result Y Refusal)
-    → HoldsOrRefuses P s r
-    → ((x : X) → P x → HoldsOrRefuses Q s (f x)) → HoldsOrRefuses Q s (r >>= f)
+    → HoldsOrRefuses P s r → ((x : X) → P x → HoldsOrRefuses Q s (f x)) → HoldsOrRefuses Q s (r >>= f)
 told_then P Q s (Ok x) f h go = go x h
 told_then P Q s (Err e) f h go = h
 
 pub told_further : {X : Type 0} → (P : X → Type 0) (s t : Cursor) (r : Result X Refusal) → Reaches s t
-    → HoldsOrRefuses P t r
-    → HoldsOrRefuses P s r
+    → HoldsOrRefuses P t r → HoldsOrRefuses P s r
 told_further P s t (Ok x) a h = h
 told_further P s t (Err e) a h = at_further s t e.mark a h
 
@@ -70,8 +68,7 @@ drop_still c =
 
 pub gap_told : (c : Core) → Noted c → HoldsOrRefuses (Goes c.cursor) c.cursor (pass_gap c)
 unfolding pass_gap check_comment
-gap_told c n =
-    by (gaps.whole_gap (least_column c) c.cursor) (gap_apart (least_column c) false false c.cursor)
+gap_told c n = by (gaps.whole_gap (least_column c) c.cursor) (gap_apart (least_column c) false false c.cursor)
     (gap_refused (least_column c) c.cursor.mark c.cursor.blank_so_far false false c.cursor.rest)
   where
     checked : (o : Option Marker) (d : Core) → d.comment ≡ o → IsNoted o c.cursor → Reaches c.cursor d.cursor

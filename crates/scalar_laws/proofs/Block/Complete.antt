@@ -31,8 +31,7 @@ unfolding given_indentation
 limit_of indent i _ _ (found low) = refl
 limit_of indent i _ _ (given d some is fits) =
     let other : nat_eq d 0 ≡ false = grind (arith, nat_tests) in
-    let exact : min (indent - 1 + d) (2 ^ 64 - 1) ≡ i = omega arith in
-    rw other exact
+    let exact : min (indent - 1 + d) (2 ^ 64 - 1) ≡ i = omega arith in rw other exact
 
 pub found_as : (indent i d w : ℕ) (is_given : Bool) → IsIndentation indent i d is_given → w ≡ i
     → unwrap_or (given_indentation indent d) (max w indent) ≡ i
@@ -40,8 +39,7 @@ unfolding given_indentation
 found_as indent i _ w _ (found low) e = omega arith
 found_as indent i _ w _ (given d some is fits) e =
     let other : nat_eq d 0 ≡ false = grind (arith, nat_tests) in
-    let exact : min (indent - 1 + d) (2 ^ 64 - 1) ≡ i = omega arith in
-    rw other exact
+    let exact : min (indent - 1 + d) (2 ^ 64 - 1) ≡ i = omega arith in rw other exact
 
 no_z : (x : ℕ) → is_yaml_non_break x ≡ true → is_z x ≡ false
 no_z x h = parts (nat_eq x 10) (nat_eq x 13) (nat_eq x 0) _ h
@@ -312,8 +310,7 @@ lines_read : (st : BlockStyle) (c : Chomping) (indent i n d : ℕ) (is_given : B
 lines_read st c indent i n d is_given ls start b m x body others ind h (inl is) (inl (col, blank)) =
     let limit = given_indentation indent d in
     let r = pass_empty_lines limit no_lines b m body in
-    let l : Led st c i n others no_lines ls r =
-    led_on st c i n is_given limit x others no_lines b m ls body
+    let l : Led st c i n others no_lines ls r = led_on st c i n is_given limit x others no_lines b m ls body
     (limit_of indent i d is_given ind) col (omega arith) h is in
     content_read st c indent i n others start limit ls r l (found_as indent i d r.0.widest is_given ind l.widest)
 lines_read st c indent i n d is_given ls start b m x body others ind h (inl is) (inr (e, dark)) =
@@ -326,8 +323,7 @@ lines_read st c indent i n d is_given _ start b m x _ others ind h (inr (empty_l
     (empty_passed i n is_given limit x others no_lines b m ls body (limit_of indent i d is_given ind) col (omega arith)
     h are) cond
 lines_read st c indent i n d is_given _ start b m x _ others ind h (inr (empty_lines ls body are cond)) (inr
-    (e, dark)) =
-    nothing_read are e
+    (e, dark)) = nothing_read are e
   where
     nothing_read : {ls : List Line} {t : List ℕ} → AreEmptyLines i x ls t → t ≡ []
         → ScalarRead st c indent i n others start (given_indentation indent d) ls

@@ -52,8 +52,7 @@ stopped : (i n : ℕ) (given : Bool) (limit : Option ℕ) (others : List ℕ) (b
     → is_break (slice_index others 0) ≡ false → pass_empty_lines limit before b m (spaces n ++ others)
     ≡ (with_column before (m.col + n), line_cursor b (along m n) others)
 stopped i n given limit others before b m l within no_space no_break =
-    e_spaces i given limit before b n m others l within
-    ∙ stops limit before (line_cursor b (along m n) others)
+    e_spaces i given limit before b n m others l within ∙ stops limit before (line_cursor b (along m n) others)
     (no_indentation limit (m.col + n) (slice_index others 0) no_space) no_break
 
 none_passed : (i n : ℕ) (given : Bool) (limit : Option ℕ) (x others : List ℕ) (before : EmptyLinesRead) (b : Bool)
@@ -80,9 +79,8 @@ pub spaces_passed : (i : ℕ) (given : Bool) (limit : Option ℕ) (before : Empt
 spaces_passed i given limit before b k m l col within =
     cc (append-nil (spaces k), stopped i k given limit [] before b m l (omega arith) (λ e. cc) refl)
 
-one_more : (i n : ℕ) (others : List ℕ) (before : EmptyLinesRead) (w : ℕ) (ls : List Line)
-    (r : EmptyLinesRead × Cursor) → Passed i n others (with_empty_line before w) ls r
-    → Passed i n others before (Empty ∷ ls) r
+one_more : (i n : ℕ) (others : List ℕ) (before : EmptyLinesRead) (w : ℕ) (ls : List Line) (r : EmptyLinesRead × Cursor)
+    → Passed i n others (with_empty_line before w) ls r → Passed i n others before (Empty ∷ ls) r
 one_more i n others before w ls r p = record {
   rest = p.rest;
   count = omega (arith, p.count);
@@ -104,8 +102,7 @@ empty_passed i n given limit x others before b m _ _ l col wide h no_empty_lines
 empty_passed i n given limit x others before b m _ _ l col wide h (empty_line j ls t within more) =
     let same = e_spaces i given limit before b j m (10 ∷ t) l (omega arith) ∙ e_feed limit before b (along m j) t in
     let wider : max before.widest (m.col + j) ≤ i = omega arith in
-    subst (Passed i n others before (Empty ∷ ls)) (sym same)
-    (one_more i n others before (m.col + j) ls _
+    subst (Passed i n others before (Empty ∷ ls)) (sym same) (one_more i n others before (m.col + j) ls _
     (empty_passed i n given limit x others (with_empty_line before (m.col + j)) true (next_line (along m j) 1) ls t l
     refl wider h more))
 empty_passed i n given limit x others before b m _ _ l col wide h (empty_line_and_spaces j k within further none_left) =

@@ -238,8 +238,7 @@ pub record NoMark (x : ℕ) : Type 0 where
   pub digit : is_digit x ≡ false
 
 blank_no_mark : (x : ℕ) → is_blank x ≡ true → NoMark x
-blank_no_mark x h =
-    either (nat_eq x 32) (nat_eq x 9) (NoMark x) h
+blank_no_mark x h = either (nat_eq x 32) (nat_eq x 9) (NoMark x) h
     (λ is. let e : 32 ≡ x = grind (arith, nat_tests) in
     subst NoMark e (record { keep = refl; strip = refl; digit = refl }))
     (λ is. let e : 9 ≡ x = grind (arith, nat_tests) in
@@ -301,8 +300,7 @@ some_first : (n : ℕ) (c : Chomping) (b d x : List ℕ) (s v : Cursor) → chom
 some_first _ c _ d x s v e rest (no_digit y) l tab dark =
     let none = end_no_mark y x l in
     header_of 0 c y x s (Some c, v) v v e
-    (indicator_none s.mark v (slice_index y 0) (first_of_text v y rest) none.digit) (last_chosen c v) rest l tab
-    dark
+    (indicator_none s.mark v (slice_index y 0) (first_of_text v y rest) none.digit) (last_chosen c v) rest l tab dark
 some_first _ c _ d x s v e rest (digit k y low high) l tab dark =
     header_of k c y x s (Some c, v) (pass 1 v) (pass 1 v) e
     (indicator_digit s.mark v k (front v (48 + k) y rest) low high) (last_chosen c (pass 1 v)) (ap (drop 1) rest) l
@@ -312,14 +310,10 @@ some_first _ c _ d x s v e rest (digit k y low high) l tab dark =
 last_read : (n : ℕ) (c : Chomping) (b d x : List ℕ) (s t : Cursor) → chomping (pass 1 s) ≡ (None, pass 1 s)
     → indicator s.mark (pass 1 s) ≡ Ok (n, t) → t.rest ≡ b → IsChomping c b d → IsHeaderEnd d x → slice_index x 0 ≢ 9
     → t.blank_so_far ≡ false → HeaderRead n c x s
-last_read n _ _ d x s t e i rest (strip y) l tab dark =
-    header_of n Strip y x s (None, pass 1 s) t (pass 1 t) e i
-    (last_looked t (pass 1 t) (Some Strip) (chomping_strip t (front t 45 y rest))) (ap (drop 1) rest) l tab
-    refl
-last_read n _ _ d x s t e i rest (keep y) l tab dark =
-    header_of n Keep y x s (None, pass 1 s) t (pass 1 t) e i
-    (last_looked t (pass 1 t) (Some Keep) (chomping_keep t (front t 43 y rest))) (ap (drop 1) rest) l tab
-    refl
+last_read n _ _ d x s t e i rest (strip y) l tab dark = header_of n Strip y x s (None, pass 1 s) t (pass 1 t) e i
+    (last_looked t (pass 1 t) (Some Strip) (chomping_strip t (front t 45 y rest))) (ap (drop 1) rest) l tab refl
+last_read n _ _ d x s t e i rest (keep y) l tab dark = header_of n Keep y x s (None, pass 1 s) t (pass 1 t) e i
+    (last_looked t (pass 1 t) (Some Keep) (chomping_keep t (front t 43 y rest))) (ap (drop 1) rest) l tab refl
 last_read n _ _ d x s t e i rest (clip y) l tab dark =
     let none = end_no_mark y x l in
     header_of n Clip y x s (None, pass 1 s) t t e i

@@ -131,11 +131,9 @@ led_on st c i n given limit x others before b m _ _ l col wide h (leading j ls t
     let at : m.col + j ≤ i = omega arith in
     let more : max before.widest (m.col + j) ≤ i = omega arith in
     let same = e_spaces i given limit before b j m (10 ∷ t) l at ∙ e_feed limit before b (along m j) t in
-    subst (Led st c i n others before (Empty ∷ ls)) (sym same)
-    (led_more st c i n others before (m.col + j) ls _
+    subst (Led st c i n others before (Empty ∷ ls)) (sym same) (led_more st c i n others before (m.col + j) ls _
     (led_on st c i n given limit x others (with_empty_line before (m.col + j)) true
-    (next_line (along m j) 1) ls t l refl
-    more h body))
+    (next_line (along m j) 1) ls t l refl more h body))
 led_on st c i n given limit x others before b m _ _ l col wide h (first y cs ls t no_space ic lines) =
     let at : m.col + i ≤ i = omega arith in
     let here : m.col + i ≡ i = omega arith in

@@ -87,8 +87,7 @@ space_off i n x h = by_left (nat_lt n i) refl
   where
     by_left : (a : Bool) → nat_lt n i ≡ a → (nat_eq x 32 && nat_lt n i) ≡ false
     by_left true e =
-        let less : n < i = grind (arith, nat_tests) in
-        rw (ne_eqb x 32 (h less)) refl
+        let less : n < i = grind (arith, nat_tests) in rw (ne_eqb x 32 (h less)) refl
     by_left false e = rw e (and_false (nat_eq x 32))
 
 pub none_starts : (i n : ℕ) (xs : List ℕ)

@@ -22,8 +22,7 @@ use Rattle.saphyr_input.proofs.Basics.Characters.{no_return}
 
 chomping_alike : {text : List ℕ} {s t : Cursor} → AreAlike text s t → AreSame text (chomping s) (chomping t)
 unfolding chomping
-chomping_alike {text = text} {s = s} {t = t} e =
-    by_first (λ c. c == 43) refl e (AreSame text)
+chomping_alike {text = text} {s = s} {t = t} e = by_first (λ c. c == 43) refl e (AreSame text)
     (λ h. (refl, one_passed (no_break_in (λ c. c == 43) refl refl s.rest h) e))
     (λ _. by_first (λ c. c == 45) refl e (AreSame text)
     (λ h. (refl, one_passed (no_break_in (λ c. c == 45) refl refl s.rest h) e)) (λ _. (refl, e)))
@@ -31,10 +30,8 @@ chomping_alike {text = text} {s = s} {t = t} e =
 indicator_read : (text : List ℕ) (m n : Marker) (s t : Cursor) → AreAlike text s t
     → GiveAlike (AreSame text) (indicator m s) (indicator n t)
 unfolding indicator
-indicator_read text m n s t e =
-    by_first (λ c. not (is_digit c)) refl e (GiveAlike (AreSame text))
-    (λ _. (refl, e))
-    (λ h.
+indicator_read text m n s t e = by_first (λ c. not (is_digit c)) refl e (GiveAlike (AreSame text))
+    (λ _. (refl, e)) (λ h.
     let digit = no_break_in is_digit refl refl s.rest (not-false _ h) in
     by_first (λ c. c == 48) refl e (GiveAlike (AreSame text))
     (λ _. refl) (λ _. (cc (first_same digit (normal_of e)), one_passed digit e)))
@@ -42,8 +39,7 @@ indicator_read text m n s t e =
 header_break_alike : (text : List ℕ) (m n : Marker) (s t : Cursor) → AreAlike text s t
     → GiveAlike (AreAlike text) (header_break m s) (header_break n t)
 unfolding header_break
-header_break_alike text m n s t e =
-    by_first (λ c. not (is_breakz c)) refl e (GiveAlike (AreAlike text))
+header_break_alike text m n s t e = by_first (λ c. not (is_breakz c)) refl e (GiveAlike (AreAlike text))
     (λ _. refl)
     (λ _. both_by (slice_index (pass_break s).rest 0 == tab) (slice_index (pass_break t).rest 0 == tab) _ _ _ _
     (GiveAlike (AreAlike text)) (first_in (λ c. c == tab) refl (normal_of (break_alike e)))
@@ -52,8 +48,7 @@ header_break_alike text m n s t e =
 header_end_alike : (text : List ℕ) (m n : Marker) (s t : Cursor) → AreAlike text s t
     → GiveAlike (AreAlike text) (header_end m s) (header_end n t)
 unfolding header_end
-header_end_alike text m n s t e =
-    both_then (AreSame text) (AreAlike text) _ _ _ _ (separation_alike skip.Yes e)
+header_end_alike text m n s t e = both_then (AreSame text) (AreAlike text) _ _ _ _ (separation_alike skip.Yes e)
     (λ x y _ _ is. header_break_alike text m n x.1 y.1 is.1)
 
 last_alike : (text : List ℕ) (a b : Option Chomping) (s t : Cursor) → a ≡ b → AreAlike text s t
@@ -98,13 +93,11 @@ empty_alike text limit l k a b m n same e (character c h x) p =
 empty_alike text limit l k a b m n same e (feed x) p =
     rw (no_indentation limit m.col 10 refl, no_indentation limit n.col 10 refl)
     (empty_alike text limit (with_empty_line l m.col) (with_empty_line k n.col) true true (next_line m 1)
-    (next_line n 1)
-    (rw (same, p.col) refl) refl x (moved_down 1 1 p))
+    (next_line n 1) (rw (same, p.col) refl) refl x (moved_down 1 1 p))
 empty_alike text limit l k a b m n same e (return h x) p =
     rw (no_indentation limit m.col 13 refl, no_indentation limit n.col 10 refl, h)
     (empty_alike text limit (with_empty_line l m.col) (with_empty_line k n.col) true true (next_line m 1)
-    (next_line n 1)
-    (rw (same, p.col) refl) refl x (moved_down 1 1 p))
+    (next_line n 1) (rw (same, p.col) refl) refl x (moved_down 1 1 p))
 empty_alike text limit l k a b m n same e (pair x) p =
     rw (no_indentation limit m.col 13 refl, no_indentation limit m.col 10 refl, no_indentation limit n.col 10 refl)
     (empty_alike text limit (with_empty_line l m.col) (with_empty_line k n.col) true true (next_line (inside_break m) 1)
@@ -119,8 +112,7 @@ starts_alike : (i : ℕ) (j k : ℕ) {r q : List ℕ} → j ≡ k → Normal r q
 unfolding line_starts
 starts_alike i j k same n =
     let first = first_in is_yaml_non_break refl n in
-    let marker = indicator_alike n in
-    rw (same, first, marker) refl
+    let marker = indicator_alike n in rw (same, first, marker) refl
 
 front_alike : (text a : List ℕ) (x y : LinesRead) → AreRead text x y
     → AreRead text (lines_behind_text a x) (lines_behind_text a y)
@@ -157,8 +149,7 @@ mutual
   line_alike text style i more a b m n e (character c h x) p =
       both_by (is_yaml_non_break c) (is_yaml_non_break c) _ _ _ _ (AreRead text) refl
       (λ _ _. front_alike text (c ∷ []) _ _ (line_alike text style i more a b (along m 1) (along n 1) e x
-      (moved_along 1 1 refl p)))
-      (λ _ _. rw (no_return c h, no_feed c h) (refl, refl, alike a b e (character c h x) p))
+      (moved_along 1 1 refl p))) (λ _ _. rw (no_return c h, no_feed c h) (refl, refl, alike a b e (character c h x) p))
   line_alike text style i more a b m n e (feed x) p =
       between_alike text style i (Some more) 0 true true (next_line m 1) (next_line n 1) refl x (moved_down 1 1 p)
   line_alike text style i more a b m n e (return h x) p =
@@ -193,16 +184,14 @@ content_alike text style c indent i k s t e =
     both_by (nat_lt s.mark.col i && nat_le indent s.mark.col) (nat_lt t.mark.col i && nat_le indent t.mark.col) _ _ _ _
     (GiveAlike (AreBlocksAlike text)) (rw e.col refl) (λ _ _. refl)
     (λ _ _. chomped_alike text c i s.mark t.mark _ _ (marks_alike e)
-    (between_alike text style i None k s.blank_so_far t.blank_so_far s.mark t.mark e.blank (normal_of e)
-    (places_of e)))
+    (between_alike text style i None k s.blank_so_far t.blank_so_far s.mark t.mark e.blank (normal_of e) (places_of e)))
 
 leading_alike : (text : List ℕ) (style : BlockStyle) (indent : ℕ) (m n : Marker) (c : Chomping) (limit : Option ℕ)
     (x y : EmptyLinesRead × Cursor) → AreMarksAlike text m n → AreSame text x y
     → GiveAlike (AreBlocksAlike text) (behind_leading_lines style indent m c limit x)
     (behind_leading_lines style indent n c limit y)
 unfolding behind_leading_lines
-leading_alike text style indent m n c limit x y marks e =
-    by_first is_z refl e.1 (GiveAlike (AreBlocksAlike text))
+leading_alike text style indent m n c limit x y marks e = by_first is_z refl e.1 (GiveAlike (AreBlocksAlike text))
     (λ _. (rw (e.0, tail_alike c y.0.count e.1) refl, marks, marks_alike e.1, e.1))
     (λ _. rw e.0 (content_alike text style c indent (unwrap_or limit (max y.0.widest indent)) y.0.count x.1 y.1 e.1))
 

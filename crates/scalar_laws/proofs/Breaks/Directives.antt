@@ -19,8 +19,7 @@ use Rattle.scalar_laws.proofs.Breaks.Names.{NoBreak, no_break_in, one_passed, ru
 
 blanks_alike : {text : List ℕ} {s t : Cursor} → AreAlike text s t
     → AreAlike text (pass_all_blanks s) (pass_all_blanks t)
-blanks_alike {s = s} {t = t} e =
-    passed_blanks (prefix_len is_blank s.rest) (prefix_len is_blank t.rest)
+blanks_alike {s = s} {t = t} e = passed_blanks (prefix_len is_blank s.rest) (prefix_len is_blank t.rest)
     (part_of (run_same is_blank refl refl (normal_of e))) e
 
 name_of_alike : (text : List ℕ) (m n : Marker) (x y : List ℕ × Cursor) → AreSame text x y
@@ -28,9 +27,7 @@ name_of_alike : (text : List ℕ) (m n : Marker) (x y : List ℕ × Cursor) → 
 unfolding directive_name_of
 name_of_alike text m n x y e =
     both_by (length x.0 == 0) (length y.0 == 0) _ _ _ _ (GiveAlike (AreSame text)) (ap (λ r. length r == 0) e.0)
-    (λ _ _. refl)
-    (λ _ _. by_first is_blank_or_breakz refl e.1 (GiveAlike (AreSame text))
-    (λ _. e) (λ _. refl))
+    (λ _ _. refl) (λ _ _. by_first is_blank_or_breakz refl e.1 (GiveAlike (AreSame text)) (λ _. e) (λ _. refl))
 
 name_alike : {text : List ℕ} {s t : Cursor} → AreAlike text s t → GiveAlike (AreSame text) (name s) (name t)
 unfolding name
@@ -68,12 +65,10 @@ number_alike text m n s t e = number_by text m n 0 0 s.mark t.mark (normal_of e)
 major_alike : (text : List ℕ) (m n : Marker) (x y : ℕ × Cursor) → AreSame text x y
     → GiveAlike (AreSame text) (behind_major m x) (behind_major n y)
 unfolding behind_major
-major_alike text m n x y e =
-    by_first (λ c. c == 46) refl e.1 (GiveAlike (AreSame text))
+major_alike text m n x y e = by_first (λ c. c == 46) refl e.1 (GiveAlike (AreSame text))
     (λ h. both_then (AreSame text) (AreSame text) _ _ _ _ (number_alike text m n (pass 1 x.1) (pass 1 y.1)
     (one_passed (no_break_in (λ c. c == 46) refl refl x.1.rest h) e.1))
-    (λ u v _ _ is. (rw (e.0, is.0) refl, is.1)))
-    (λ _. refl)
+    (λ u v _ _ is. (rw (e.0, is.0) refl, is.1))) (λ _. refl)
 
 version_alike : (text : List ℕ) (m n : Marker) (s t : Cursor) → AreAlike text s t
     → GiveAlike (AreSame text) (version_directive m s) (version_directive n t)
@@ -87,8 +82,7 @@ version_alike text m n s t e =
 handle_word_alike : (text : List ℕ) (m n : Marker) (x y : List ℕ × Cursor) → AreSame text x y
     → GiveAlike (AreSame text) (handle_behind_word m x) (handle_behind_word n y)
 unfolding handle_behind_word
-handle_word_alike text m n x y e =
-    by_first (λ c. c == 33) refl e.1 (GiveAlike (AreSame text))
+handle_word_alike text m n x y e = by_first (λ c. c == 33) refl e.1 (GiveAlike (AreSame text))
     (λ h. (ap handle_of e.0, one_passed (no_break_in (λ c. c == 33) refl refl x.1.rest h) e.1))
     (λ _. both_by (length x.0 == 0) (length y.0 == 0) _ _ _ _ (GiveAlike (AreSame text)) (ap (λ r. length r == 0) e.0)
     (λ _ _. (refl, e.1)) (λ _ _. refl))
@@ -96,26 +90,22 @@ handle_word_alike text m n x y e =
 handle_alike : (text : List ℕ) (m n : Marker) (s t : Cursor) → AreAlike text s t
     → GiveAlike (AreSame text) (handle m s) (handle n t)
 unfolding handle
-handle_alike text m n s t e =
-    by_first (λ c. c == 33) refl e (GiveAlike (AreSame text))
+handle_alike text m n s t e = by_first (λ c. c == 33) refl e (GiveAlike (AreSame text))
     (λ h. handle_word_alike text m n _ _
     (run_alike is_alpha refl refl [] (one_passed (no_break_in (λ c. c == 33) refl refl s.rest h) e))) (λ _. refl)
 
 prefix_alike : (text : List ℕ) (m n : Marker) (s t : Cursor) → AreAlike text s t
     → GiveAlike (AreSame text) (prefix m s) (prefix n t)
 unfolding prefix
-prefix_alike text m n s t e =
-    by_first (λ c. (c == 33) || is_tag_char c) refl e (GiveAlike (AreSame text))
+prefix_alike text m n s t e = by_first (λ c. (c == 33) || is_tag_char c) refl e (GiveAlike (AreSame text))
     (λ h. both_then (AreSame text) (AreSame text) _ _ _ _
     (character_alike text m n s t (no_break_in (λ c. (c == 33) || is_tag_char c) refl refl s.rest h) e)
-    (λ x y _ _ is. front_alike text _ _ _ _ (ap encode_utf8 is.0) (decoded_alike text _ m n x.1 y.1 is.1)))
-    (λ _. refl)
+    (λ x y _ _ is. front_alike text _ _ _ _ (ap encode_utf8 is.0) (decoded_alike text _ m n x.1 y.1 is.1))) (λ _. refl)
 
 behind_prefix_alike : (text : List ℕ) (m n : Marker) (h k : List ℕ) (x y : List ℕ × Cursor) → h ≡ k → AreSame text x y
     → GiveAlike (AreSame text) (behind_prefix m h x) (behind_prefix n k y)
 unfolding behind_prefix
-behind_prefix_alike text m n h k x y same e =
-    by_first is_blank_or_breakz refl e.1 (GiveAlike (AreSame text))
+behind_prefix_alike text m n h k x y same e = by_first is_blank_or_breakz refl e.1 (GiveAlike (AreSame text))
     (λ _. (rw (same, e.0) refl, e.1)) (λ _. refl)
 
 tag_alike : (text : List ℕ) (m n : Marker) (s t : Cursor) → AreAlike text s t
@@ -144,8 +134,7 @@ line_alike : (text : List ℕ) (m n : Marker) (s t : Cursor) → AreAlike text s
 unfolding line_end
 line_alike text m n s t e =
     both_then (AreSame text) (AreAlike text) _ _ _ _ (separation_alike skip.Yes e) (λ x y _ _ is.
-    by_first is_breakz refl is.1 (GiveAlike (AreAlike text))
-    (λ _. break_alike is.1) (λ _. refl))
+    by_first is_breakz refl is.1 (GiveAlike (AreAlike text)) (λ _. break_alike is.1) (λ _. refl))
 
 pub directive_alike : {text : List ℕ} {s t : Cursor} → NoBreak s.rest → AreAlike text s t
     → GiveAlike (AreDirectivesAlike text) (directive s) (directive t)

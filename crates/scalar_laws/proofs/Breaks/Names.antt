@@ -73,8 +73,7 @@ two_hex_alike : (r q : List ℕ) → Normal r q → two_hex r ≡ two_hex q
 two_hex_alike r q n = behind_first is_hex refl refl hex_first (λ r q n. first_in is_hex refl n) n
 
 shows_is : (r : List ℕ) → shows_byte r ≡ ((slice_index r 0 == percent_sign) && two_hex (drop 1 r))
-shows_is r =
-    all_three (slice_index r 0 == 37) (is_hex (slice_index r 1)) (is_hex (slice_index r 2))
+shows_is r = all_three (slice_index r 0 == 37) (is_hex (slice_index r 1)) (is_hex (slice_index r 2))
     ∙ rw (second_is r, third_is r) refl
 
 shows_alike : {r q : List ℕ} → Normal r q → shows_byte r ≡ shows_byte q
@@ -119,8 +118,7 @@ unfolding trailing_bytes
 bytes_alike text m n zero v w s t same e = (same, e)
 bytes_alike text m n (suc k) v w s t same e =
     both_then (AreSame text) (AreSame text) (trailing_byte m v s) (trailing_byte n w t) _ _
-    (trailing_alike text m n v w s t same e)
-    (λ x y _ _ is. bytes_alike text m n k x.0 y.0 x.1 y.1 is.0 is.1)
+    (trailing_alike text m n v w s t same e) (λ x y _ _ is. bytes_alike text m n k x.0 y.0 x.1 y.1 is.0 is.1)
 
 encoded_alike : (text : List ℕ) (m n : Marker) (k v w : ℕ) (s t : Cursor) → v ≡ w → AreAlike text s t
     → GiveAlike (AreSame text) (encoded_character m k v s) (encoded_character n k w t)
@@ -135,8 +133,7 @@ unfolding behind_leading_byte
 leading_alike text m n b s t e =
     both_by (utf8_width b == 0) (utf8_width b == 0) _ _ _ _ (GiveAlike (AreSame text)) refl (λ _ _. refl)
     (λ _ _. both_then (AreSame text) (AreSame text) _ _ _ _ (bytes_alike text m n (utf8_width b - 1) (leading_bits b)
-    (leading_bits b) s t refl e)
-    (λ x y _ _ is. encoded_alike text m n (utf8_width b) x.0 y.0 x.1 y.1 is.0 is.1))
+    (leading_bits b) s t refl e) (λ x y _ _ is. encoded_alike text m n (utf8_width b) x.0 y.0 x.1 y.1 is.0 is.1))
 
 escape_alike : (text : List ℕ) (m n : Marker) (s t : Cursor) → AreAlike text s t
     → GiveAlike (AreSame text) (percent_escape m s) (percent_escape n t)
@@ -151,8 +148,7 @@ escape_alike text m n s t e =
 pub character_alike : (text : List ℕ) (m n : Marker) (s t : Cursor) → NoBreak s.rest → AreAlike text s t
     → GiveAlike (AreSame text) (uri_character m s) (uri_character n t)
 unfolding uri_character
-character_alike text m n s t h e =
-    by_first (λ c. c == 37) refl e (GiveAlike (AreSame text))
+character_alike text m n s t h e = by_first (λ c. c == 37) refl e (GiveAlike (AreSame text))
     (λ _. escape_alike text m n s t e) (λ _. (first_same h (normal_of e), one_passed h e))
 
 -- ## Runs of characters and escapes
@@ -179,33 +175,27 @@ decoded_by : (text : List ℕ) (set : CharacterSet) (m n : Marker) (s t : Cursor
     → (b : Bool) → is_in_set set (slice_index s.rest 0) ≡ b → SameRead text set m n s t
 decoded_by text set m n s t others true h e =
     let here : AreAlike text (mid_line s.mark s.rest) (mid_line t.mark t.rest) = alike false false refl (normal_of e)
-    (places_of e)
-    in
+    (places_of e) in
     both_are (AreSame text) _ _ _ _ (decoded_one_more set m s.mark s.rest h)
     (decoded_one_more set n t.mark t.rest (sym (has_alike set (normal_of e)) ∙ h))
     (both_then (AreSame text) (AreSame text) _ _ _ _
-    (character_alike text m n (mid_line s.mark s.rest) (mid_line t.mark t.rest)
-    (has_no_break set s.rest h) here)
+    (character_alike text m n (mid_line s.mark s.rest) (mid_line t.mark t.rest) (has_no_break set s.rest h) here)
     (λ x y read _ is. front_alike text _ _ _ _ (ap encode_utf8 is.0)
     (others x.1 y.1 (character_shorter m (mid_line s.mark s.rest) x.1 x.0 (has_left set s.rest h) read) is.1)))
-decoded_by text set m n s t others false h e =
-    both_are (AreSame text) _ _ _ _ (ends_at set m s.mark s.rest h)
+decoded_by text set m n s t others false h e = both_are (AreSame text) _ _ _ _ (ends_at set m s.mark s.rest h)
     (ends_at set n t.mark t.rest (sym (has_alike set (normal_of e)) ∙ h))
     (refl, alike false false refl (normal_of e) (places_of e))
 
 pub decoded_alike : (text : List ℕ) (set : CharacterSet) (m n : Marker) (s t : Cursor) → SameRead text set m n s t
-decoded_alike text set m n =
-    by_ends (SameRead text set m n)
-    (λ s t others. decoded_by text set m n s t others (is_in_set set (slice_index s.rest 0))
-    refl)
+decoded_alike text set m n = by_ends (SameRead text set m n)
+    (λ s t others. decoded_by text set m n s t others (is_in_set set (slice_index s.rest 0)) refl)
 
 -- ## Tags
 
 verbatim_end_alike : (text : List ℕ) (m n : Marker) (x y : List ℕ × Cursor) → AreSame text x y
     → GiveAlike (AreTagsAlike text) (verbatim_end m x) (verbatim_end n y)
 unfolding verbatim_end
-verbatim_end_alike text m n x y e =
-    by_first (λ c. c == 62) refl e.1 (GiveAlike (AreTagsAlike text))
+verbatim_end_alike text m n x y e = by_first (λ c. c == 62) refl e.1 (GiveAlike (AreTagsAlike text))
     (λ h. (refl, e.0, one_passed (no_break_in (λ c. c == 62) refl refl x.1.rest h) e.1)) (λ _. refl)
 
 verbatim_alike : (text : List ℕ) (s t : Cursor) → NoBreak s.rest → (slice_index s.rest 1 == less_than) ≡ true
@@ -217,8 +207,7 @@ verbatim_alike text s t h second e =
     let two : PartsAlike 2 2 s.rest t.rest = both_parts 1 1 1 1 s.rest t.rest (first_part h n)
     (first_part next (past_first h n)) in
     both_then (AreSame text) (AreTagsAlike text) _ _ _ _ (decoded_alike text _ s.mark t.mark (pass 2 s) (pass 2 t)
-    (passed_alike 2 2 two e))
-    (λ x y _ _ is. verbatim_end_alike text s.mark t.mark x y is)
+    (passed_alike 2 2 two e)) (λ x y _ _ is. verbatim_end_alike text s.mark t.mark x y is)
 
 named_alike : (text : List ℕ) (m n : Marker) (v w : List ℕ) (x y : List ℕ × Cursor) → v ≡ w → AreSame text x y
     → GiveAlike (AreTagsAlike text) (named_tag m v x) (named_tag n w y)
@@ -244,13 +233,11 @@ primary_alike text x y e =
 tag_word_alike : (text : List ℕ) (m n : Marker) (x y : List ℕ × Cursor) → AreSame text x y
     → GiveAlike (AreTagsAlike text) (tag_behind_word m x) (tag_behind_word n y)
 unfolding tag_behind_word
-tag_word_alike text m n x y e =
-    by_first (λ c. c == 33) refl e.1 (GiveAlike (AreTagsAlike text))
+tag_word_alike text m n x y e = by_first (λ c. c == 33) refl e.1 (GiveAlike (AreTagsAlike text))
     (λ h. tail_alike text m n x.0 y.0 (pass 1 x.1) (pass 1 y.1) e.0
     (one_passed (no_break_in (λ c. c == 33) refl refl x.1.rest h) e.1))
     (λ _. both_then (AreSame text) (AreTagsAlike text) _ _ _ _
-    (front_alike text x.0 y.0 _ _ e.0 (decoded_alike text _ m n x.1 y.1 e.1))
-    (λ u v _ _ is. primary_alike text u v is))
+    (front_alike text x.0 y.0 _ _ e.0 (decoded_alike text _ m n x.1 y.1 e.1)) (λ u v _ _ is. primary_alike text u v is))
 
 shorthand_alike : (text : List ℕ) (s t : Cursor) → NoBreak s.rest → AreAlike text s t
     → GiveAlike (AreTagsAlike text) (shorthand_tag s) (shorthand_tag t)
@@ -267,8 +254,7 @@ end_alike text in_flow m n x y e =
 pub tag_alike : (in_flow : Bool) {text : List ℕ} {s t : Cursor} → NoBreak s.rest → AreAlike text s t
     → GiveAlike (AreTagsAlike text) (tag in_flow s) (tag in_flow t)
 unfolding tag
-tag_alike in_flow {text = text} {s = s} {t = t} h e =
-    both_then (AreTagsAlike text) (AreTagsAlike text) _ _ _ _
+tag_alike in_flow {text = text} {s = s} {t = t} h e = both_then (AreTagsAlike text) (AreTagsAlike text) _ _ _ _
     (both_by (slice_index s.rest 1 == 60) (slice_index t.rest 1 == 60) _ _ _ _ (GiveAlike (AreTagsAlike text))
     (second_in (λ c. c == 60) refl h (normal_of e))
     (λ k _. verbatim_alike text s t h k e) (λ _ _. shorthand_alike text s t h e))

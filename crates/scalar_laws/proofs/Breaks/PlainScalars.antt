@@ -48,20 +48,17 @@ starts_alike text f s t e =
     let marker = indicator_alike (normal_of e) in
     both_by ((slice_index s.rest 0 == 35) || ((s.mark.col == 0) && is_document_indicator s.rest))
     ((slice_index t.rest 0 == 35) || ((t.mark.col == 0) && is_document_indicator t.rest)) _ _ _ _
-    (GiveAlike (AreSame text))
-    (rw (first, e.col, marker) refl) (λ _ _. (refl, e))
+    (GiveAlike (AreSame text)) (rw (first, e.col, marker) refl) (λ _ _. (refl, e))
     (λ _ _. both_by (f && (slice_index s.rest 0 == 45) && is_flow (slice_index s.rest 1))
     (f && (slice_index t.rest 0 == 45) && is_flow (slice_index t.rest 1)) _ _ _ _ (GiveAlike (AreSame text))
-    (dash_alike f (normal_of e))
-    (λ _ _. refl) (λ _ _. (in_word_alike f (normal_of e), e)))
+    (dash_alike f (normal_of e)) (λ _ _. refl) (λ _ _. (in_word_alike f (normal_of e), e)))
 
 goes_alike : (text : List ℕ) (f : Bool) (i : ℕ) (s t : Cursor) → AreAlike text s t
     → GiveAlike (AreSame text) (next_word_starts f i s) (next_word_starts f i t)
 unfolding next_word_starts
 goes_alike text f i s t e =
     both_by (s.blank_so_far && not f && nat_lt s.mark.col i) (t.blank_so_far && not f && nat_lt t.mark.col i) _ _ _ _
-    (GiveAlike (AreSame text)) (rw (e.blank, e.col) refl)
-    (λ _ _. (refl, e)) (λ _ _. starts_alike text f s t e)
+    (GiveAlike (AreSame text)) (rw (e.blank, e.col) refl) (λ _ _. (refl, e)) (λ _ _. starts_alike text f s t e)
 
 -- ## Gaps
 
@@ -73,8 +70,7 @@ record AreGapsAlike (text : List ℕ) (g k : PlainGap) : Type 0 where
 stand_alike : (text : List ℕ) (a b : Marker) (t : Bool) (x y : Cursor) → AreAlike text x y
     → GiveAlike (AreAlike text) (content_behind_tab a t x) (content_behind_tab b t y)
 unfolding content_behind_tab
-stand_alike text a b t x y e =
-    both_by (t && is_bom (slice_index x.rest 0)) (t && is_bom (slice_index y.rest 0)) _ _ _ _
+stand_alike text a b t x y e = both_by (t && is_bom (slice_index x.rest 0)) (t && is_bom (slice_index y.rest 0)) _ _ _ _
     (GiveAlike (AreAlike text)) (cc (first_in is_bom refl (normal_of e))) (λ _ _. refl)
     (λ _ _. both_by (t && not ((slice_index x.rest 0 == 35) || is_z (slice_index x.rest 0)))
     (t && not ((slice_index y.rest 0 == 35) || is_z (slice_index y.rest 0))) _ _ _ _ (GiveAlike (AreAlike text))
@@ -132,8 +128,7 @@ noted_alike text f a b s t same e =
     let first = first_in (λ c. c == 35) refl (normal_of e) in
     both_by (not f && (slice_index s.rest 0 == 35) && (a || not s.blank_so_far))
     (not f && (slice_index t.rest 0 == 35) && (b || not t.blank_so_far)) _ _ _ _ (AreNoted text)
-    (rw (first, same, e.blank) refl)
-    (λ _ _. marks_alike e) (λ _ _. tt)
+    (rw (first, same, e.blank) refl) (λ _ _. marks_alike e) (λ _ _. tt)
 
 ended_alike : (text : List ℕ) (f : Bool) (m n : Marker) (g k : PlainGap) → AreMarksAlike text m n
     → AreGapsAlike text g k → GiveAlike (ArePlainAlike text) (scalar_end f m g) (scalar_end f n k)
@@ -142,8 +137,7 @@ ended_alike text f m n g k marks is =
 
 front_alike : (text u v : List ℕ) (r q : PlainScalarRead) → u ≡ v → GiveAlike (ArePlainAlike text) r q
     → GiveAlike (ArePlainAlike text) (with_text u r) (with_text v q)
-front_alike text u v r q same e =
-    both_then (ArePlainAlike text) (ArePlainAlike text) r q _ _ e
+front_alike text u v r q same e = both_then (ArePlainAlike text) (ArePlainAlike text) r q _ _ e
     (λ x y _ _ is. (rw (same, is.0) refl, is.1, is.2, is.3))
 
 -- another word comes after what ends one
@@ -154,8 +148,7 @@ word_behind f xs ys end stops goes = by end.taken refl
     by : (n : ℕ) → end.taken ≡ n → length ys < length xs
     by zero e =
         let same : ys ≡ xs = end.is ∙ ap (λ n. drop n xs) e in
-        let other : true ≡ false = sym goes ∙ ap (is_in_word f) same ∙ stops in
-        absurd (cc)
+        let other : true ≡ false = sym goes ∙ ap (is_in_word f) same ∙ stops in absurd (cc)
     by (suc n) e = omega (arith, end.count, e)
 
 abbrev SameWord : List ℕ → Bool → ℕ → Marker → Marker → Cursor → Cursor → Type 0
@@ -173,8 +166,7 @@ module _ (text : List ℕ) (f : Bool) (i : ℕ) (a b : Marker) where
       both_then (AreSame text) (ArePlainAlike text) _ _ _ _ (goes_alike text f i g.behind k.behind is.behind)
       (λ x y first _ are.
       let says = goes_says f i x.0 g.behind x.1 first in
-      both_by x.0 y.0 _ _ _ _ (GiveAlike (ArePlainAlike text)) are.0
-      (λ goes _.
+      both_by x.0 y.0 _ _ _ _ (GiveAlike (ArePlainAlike text)) are.0 (λ goes _.
       let less : length x.1.rest < len = rw says.same (shorter (says.goes goes)) in
       front_alike text g.text k.text _ _ is.same (others x.1 y.1 less are.1))
       (λ _ _. ended_alike text f m n g k marks is))

@@ -33,35 +33,29 @@ digits_alike : (text : List ℕ) (a b : Marker) (k v w : ℕ) (s t : Cursor) →
     → GiveAlike (AreSame text) (digits a k v s) (digits b k w t)
 unfolding digits
 digits_alike text a b zero v w s t same e = (same, e)
-digits_alike text a b (suc k) v w s t same e =
-    by_first is_hex refl e (GiveAlike (AreSame text))
-    (λ h.
+digits_alike text a b (suc k) v w s t same e = by_first is_hex refl e (GiveAlike (AreSame text)) (λ h.
     let first = no_break_in is_hex refl refl s.rest h in
     let is = first_same first (normal_of e) in
     digits_alike text a b k (v * 16 + hex_value (slice_index s.rest 0)) (w * 16 + hex_value (slice_index t.rest 0))
-    (pass 1 s) (pass 1 t) (rw (same, is) refl) (one_passed first e))
-    (λ _. refl)
+    (pass 1 s) (pass 1 t) (rw (same, is) refl) (one_passed first e)) (λ _. refl)
 
 character_alike : (text : List ℕ) (a b : Marker) (v w : ℕ) (s t : Cursor) → v ≡ w → AreAlike text s t
     → GiveAlike (AreSame text) (quotes.character a v s) (quotes.character b w t)
 unfolding quotes.character
 character_alike text a b v w s t same e =
     both_by (is_scalar_value v) (is_scalar_value w) _ _ _ _ (GiveAlike (AreSame text)) (ap is_scalar_value same)
-    (λ _ _. (same, e))
-    (λ _ _. refl)
+    (λ _ _. (same, e)) (λ _ _. refl)
 
 -- two characters that are no breaks
 two_part : {r q : List ℕ} → NoBreak r → NoBreak (drop 1 r) → Normal r q → PartsAlike 2 2 r q
 two_part {r = r} {q = q} first second n =
     both_parts 1 1 1 1 r q (first_part first n) (first_part second (past_first first n))
 
-numbered_alike : (text : List ℕ) (a b : Marker) (o : Option ℕ) (s t : Cursor) → NoBreak s.rest
-    → NoBreak (drop 1 s.rest) → AreAlike text s t
-    → GiveAlike (AreSame text) (escape_by_number a o s) (escape_by_number b o t)
+numbered_alike : (text : List ℕ) (a b : Marker) (o : Option ℕ) (s t : Cursor) → NoBreak s.rest → NoBreak (drop 1 s.rest)
+    → AreAlike text s t → GiveAlike (AreSame text) (escape_by_number a o s) (escape_by_number b o t)
 unfolding escape_by_number
 numbered_alike text a b None s t first second e = refl
-numbered_alike text a b (Some n) s t first second e =
-    both_then (AreSame text) (AreSame text) _ _ _ _
+numbered_alike text a b (Some n) s t first second e = both_then (AreSame text) (AreSame text) _ _ _ _
     (digits_alike text a b n 0 0 (pass 2 s) (pass 2 t) refl (passed_alike 2 2 (two_part first second (normal_of e)) e))
     (λ x y _ _ is. character_alike text a b x.0 y.0 x.1 y.1 is.0 is.1)
 
@@ -106,22 +100,18 @@ special_alike : (text : List ℕ) (quote : Quote) (a b : Marker) (s t : Cursor) 
 unfolding special
 special_alike text Single a b s t e =
     both_by (next_2_are s.rest 39 39) (next_2_are t.rest 39 39) _ _ _ _ (GiveAlike (AreSame text))
-    (two_quotes_alike (normal_of e))
-    (λ h _.
+    (two_quotes_alike (normal_of e)) (λ h _.
     let first = no_break_in (λ c. c == 39) refl refl s.rest (and_true_left _ _ h) in
     let second = no_break_in (λ c. c == 39) refl refl (drop 1 s.rest) (cc
     (second_is s.rest, and_true_right (slice_index s.rest 0 == 39) _ h)) in
-    (refl, passed_alike 2 2 (two_part first second (normal_of e)) e))
-    (λ _ _. (refl, e))
+    (refl, passed_alike 2 2 (two_part first second (normal_of e)) e)) (λ _ _. (refl, e))
 special_alike text Double a b s t e =
     both_by ((slice_index s.rest 0 == 92) && not (is_break (slice_index s.rest 1))) ((slice_index t.rest 0 == 92) && not
-    (is_break (slice_index t.rest 1))) _ _ _ _ (GiveAlike (AreSame text)) (slash_alike (normal_of e))
-    (λ h _.
+    (is_break (slice_index t.rest 1))) _ _ _ _ (GiveAlike (AreSame text)) (slash_alike (normal_of e)) (λ h _.
     let first = no_break_in (λ c. c == 92) refl refl s.rest (and_true_left _ _ h) in
     let second = ap is_break (second_is s.rest) ∙ not-true _ (and_true_right (slice_index s.rest 0 == 92) _ h) in
     both_then (AreSame text) (AreSame text) _ _ _ _ (escape_alike text a b s t first second e)
-    (λ x y _ _ is. (ap (λ (c : ℕ). Some c) is.0, is.1)))
-    (λ _ _. (refl, e))
+    (λ x y _ _ is. (ap (λ (c : ℕ). Some c) is.0, is.1))) (λ _ _. (refl, e))
 
 -- ## What such a spelling leaves
 
@@ -147,10 +137,8 @@ escape_left a m c cs (Err e) is = λ x d read some. absurd (cc)
 pub special_left : (quote : Quote) (a m : Marker) (c : ℕ) (cs : List ℕ)
     → LeavesRest (drop (special_len quote (slice_index cs 0)) cs) (special quote a (mid_line m (c ∷ cs)))
 unfolding special
-special_left Single a m c cs =
-    by_test (next_2_are (c ∷ cs) 39 39) _ _ (LeavesRest (drop 1 cs))
-    (λ _. leaves_some _ 39 (pass 2 (mid_line m (c ∷ cs))) refl)
-    (λ _. leaves_none _ _)
+special_left Single a m c cs = by_test (next_2_are (c ∷ cs) 39 39) _ _ (LeavesRest (drop 1 cs))
+    (λ _. leaves_some _ 39 (pass 2 (mid_line m (c ∷ cs))) refl) (λ _. leaves_none _ _)
 special_left Double a m c cs =
     let k = hex_digit_count (slice_index cs 0) in
     let two : 2 + k ≡ suc (suc k) = omega arith in
@@ -179,8 +167,7 @@ AreGaps x y = x ≡ y
 gap_alike : (text : List ℕ) (i : ℕ) (a b : Marker) (gap : QuotedGap) (s t : Cursor) → AreAlike text s t
     → GiveAlike AreTexts (end_gap i a gap s) (end_gap i b gap t)
 unfolding end_gap
-gap_alike text i a b (on_line bytes) s t e =
-    by_first is_z refl e (GiveAlike AreTexts) (λ _. refl) (λ _. refl)
+gap_alike text i a b (on_line bytes) s t e = by_first is_z refl e (GiveAlike AreTexts) (λ _. refl) (λ _. refl)
 gap_alike text i a b (over_lines escaped n) s t e =
     both_then (AreAlike text) AreTexts _ _ _ _ (begin_word_alike text i a b s t e) (λ x y _ _ is. refl)
 
@@ -216,8 +203,7 @@ if_alike R (Some c) None f g u v e some none = absurd (cc)
 if_alike R None (Some d) f g u v e some none = absurd (cc)
 
 abbrev SameInside : List ℕ → Quote → ℕ → Marker → Marker → Cursor → Cursor → Type 0
-SameInside text quote i a b s t =
-    (gap : QuotedGap) → AreAlike text s t
+SameInside text quote i a b s t = (gap : QuotedGap) → AreAlike text s t
     → GiveAlike (AreSame text) (inner_text_at quote i a gap s) (inner_text_at quote i b gap t)
 
 module _ (text : List ℕ) (quote : Quote) (i : ℕ) (a b : Marker) where
@@ -266,14 +252,12 @@ module _ (text : List ℕ) (quote : Quote) (i : ℕ) (a b : Marker) where
       (others (mid_line (along m 1) r) (mid_line (along n 1) q) less no_gap (alike false false refl x one)))
       (λ _ _. both_then (AreSame text) (AreSame text) _ _ _ _
       (special_alike text quote a b (mid_line m (c ∷ r)) (mid_line n (c ∷ q)) here) (λ u v first second is.
-      if_alike (AreSame text) u.0 v.0 _ _ _ _ is.0
-      (λ d some.
+      if_alike (AreSame text) u.0 v.0 _ _ _ _ is.0 (λ d some.
       let left = special_left quote a m c r u d first some in
       let other = special_left quote b n c q v d second (sym is.0 ∙ some) in
       front_alike text (encode_utf8 d) (encode_utf8 d) _ _ refl (behind_special r q u.1 v.1 left other is.1 others))
       (λ none. both_by (c == flow.mark quote) (c == flow.mark quote) _ _ _ _ (GiveAlike (AreSame text)) refl
-      (λ _ _. (refl, alike false false refl x one))
-      (λ _ _. behind_escaped (along m 1) (along n 1) x one others))))
+      (λ _ _. (refl, alike false false refl x one)) (λ _ _. behind_escaped (along m 1) (along n 1) x one others))))
 
   inside_by : (m n : Marker) (gap : QuotedGap) {r q : List ℕ} → Normal r q → Places text r q m n → Others (length r)
       → GiveAlike (AreSame text) (inner_text quote i a gap 0 m r) (inner_text quote i b gap 0 n q)
@@ -283,12 +267,10 @@ module _ (text : List ℕ) (quote : Quote) (i : ℕ) (a b : Marker) where
     where
       by : (t : Bool) → is_blank c ≡ t
           → GiveAlike (AreSame text) (inner_text quote i a gap 0 m (c ∷ r)) (inner_text quote i b gap 0 n (c ∷ q))
-      by true e =
-          rw e (both_then AreGaps (AreSame text) _ _ _ _ (blank_alike i gap m n c p.col) (λ g k _ _ is.
+      by true e = rw e (both_then AreGaps (AreSame text) _ _ _ _ (blank_alike i gap m n c p.col) (λ g k _ _ is.
           rw (← is) (others (mid_line (along m 1) r) (mid_line (along n 1) q) (omega arith) g
           (alike false false refl x (moved_along 1 1 refl p)))))
-      by false e =
-          both_are (AreSame text) _ _ _ _ (quoted_behind_gap quote i a gap m c r e h)
+      by false e = both_are (AreSame text) _ _ _ _ (quoted_behind_gap quote i a gap m c r e h)
           (quoted_behind_gap quote i b gap n c q e h)
           (both_then AreTexts (AreSame text) _ _ _ _ (gap_alike text i a b gap (mid_line m (c ∷ r)) (mid_line n (c ∷ q))
           (alike false false refl (character c h x) p)) (λ u v _ _ is.

@@ -61,8 +61,7 @@ marker_alike c a b {r = r} {q = q} n =
 pub indicator_alike : {r q : List ℕ} → Normal r q → is_document_indicator r ≡ is_document_indicator q
 indicator_alike n =
     let start = marker_alike 45 refl refl n in
-    let end = marker_alike 46 refl refl n in
-    rw (start, end) refl
+    let end = marker_alike 46 refl refl n in rw (start, end) refl
 
 -- ## So many characters, of which none is a break
 
@@ -112,8 +111,7 @@ comment_alike {s = s} {t = t} e =
 
 pub mark_alike : {text : List ℕ} {s t : Cursor} → is_break (slice_index s.rest 0) ≡ false → AreAlike text s t
     → AreAlike text (pass_byte_order_mark s) (pass_byte_order_mark t)
-mark_alike {s = s} {t = t} h e =
-    alike s.blank_so_far t.blank_so_far e.blank (past_first h (normal_of e))
+mark_alike {s = s} {t = t} h e = alike s.blank_so_far t.blank_so_far e.blank (past_first h (normal_of e))
     (places_moved 1 1 _ _ (places_of e) refl refl e.line e.col)
 
 -- ## White space and a comment
@@ -126,8 +124,7 @@ blanks_run (skip.Result a b) n = run_same (λ c. c == space) refl refl n
 comment_part : {r q : List ℕ} → Normal r q → PartsAlike (comment_len r) (comment_len q) r q
 comment_part {r = r} {q = q} n =
     both_by (slice_index r 0 == 35) (slice_index q 0 == 35) _ _ _ _ (λ a b. PartsAlike a b r q)
-    (first_in (λ c. c == 35) refl n)
-    (λ _ _. part_of (run_same is_yaml_non_break refl refl n)) (λ _ _. no_part n)
+    (first_in (λ c. c == 35) refl n) (λ _ _. part_of (run_same is_yaml_non_break refl refl n)) (λ _ _. no_part n)
 
 separation_part : (tabs : SkipTabs) {r q : List ℕ} → Normal r q
     → PartsAlike (separation_len tabs r) (separation_len tabs q) r q
@@ -139,14 +136,12 @@ separation_part tabs {r = r} {q = q} n =
 
 found_alike : (tabs : SkipTabs) {r q : List ℕ} → Normal r q → found_blanks tabs r ≡ found_blanks tabs q
 found_alike tabs n =
-    let x = blanks_run tabs n in
-    cc
+    let x = blanks_run tabs n in cc
 
 bare_alike : (tabs : SkipTabs) {r q : List ℕ} → Normal r q → is_bare_comment tabs r ≡ is_bare_comment tabs q
 bare_alike tabs n =
     let x = blanks_run tabs n in
-    let first = first_in (λ c. c == 35) refl n in
-    rw (x.len, first) refl
+    let first = first_in (λ c. c == 35) refl n in rw (x.len, first) refl
 
 behind_alike : (tabs : SkipTabs) {text r q : List ℕ} {s t : Cursor} → Normal r q → AreAlike text s t
     → GiveAlike (AreSame text) (behind_separation tabs r s) (behind_separation tabs q t)
@@ -156,8 +151,7 @@ behind_alike tabs {text = text} {r = r} {q = q} {s = s} {t = t} n e =
     (nat_lt 0 t.mark.col && is_bom (slice_index t.rest 0)) _ _ _ _ (GiveAlike (AreSame text))
     (let first = first_in is_bom refl (normal_of e) in rw (e.col, first) refl) (λ _ _. refl)
     (λ _ _. both_by (is_bare_comment tabs r) (is_bare_comment tabs q) _ _ _ _ (GiveAlike (AreSame text))
-    (bare_alike tabs n) (λ _ _. refl)
-    (λ _ _. (found_alike tabs n, e)))
+    (bare_alike tabs n) (λ _ _. refl) (λ _ _. (found_alike tabs n, e)))
 
 pub separation_alike : (tabs : SkipTabs) {text : List ℕ} {s t : Cursor} → AreAlike text s t
     → GiveAlike (AreSame text) (separation tabs s) (separation tabs t)

@@ -42,8 +42,7 @@ at_return (d ∷ ds) here behind = by (d == 10) refl
   where
     by : (b : Bool) → (d == line_feed) ≡ b → Normal (carriage_return ∷ d ∷ ds) (normalized (carriage_return ∷ d ∷ ds))
     by true e =
-        let ten : 10 ≡ d = grind (arith, nat_tests) in
-        rw (← ten) (pair behind)
+        let ten : 10 ≡ d = grind (arith, nat_tests) in rw (← ten) (pair behind)
     by false e = rw e (return e here)
 
 normal_behind_character : (c : ℕ) (cs : List ℕ) → Normal cs (normalized cs)
@@ -55,8 +54,7 @@ normal_behind_character c cs here behind = by (c == 13) (c == 10) refl refl
         let is : 13 ≡ c = grind (arith, nat_tests) in
         subst (λ x. Normal (x ∷ cs) (normalized (x ∷ cs))) is (at_return cs here behind)
     by false true e f =
-        let is : 10 ≡ c = grind (arith, nat_tests) in
-        rw (← is) (feed here)
+        let is : 10 ≡ c = grind (arith, nat_tests) in rw (← is) (feed here)
     by false false e f = let no : is_break c ≡ false = rw (e, f) refl in rw e (character c no here)
 
 normal_by_two : (r : List ℕ) → Normal r (normalized r) × Normal (drop 1 r) (normalized (drop 1 r))

@@ -36,8 +36,7 @@ more_begins (c ∷ more) x (inr blank) ends = or_left (is_blank c) (is_breakz c)
 
 comment_passed : (k : Marker) (more x : List ℕ) → AreIn is_yaml_non_break more → is_breakz (slice_index x 0) ≡ true
     → pass_comment (mid_line k (more ++ x)) ≡ mid_line (along k (length more)) x
-comment_passed k more x are ends =
-    ap (λ n. blanks_passed n k (more ++ x))
+comment_passed k more x are ends = ap (λ n. blanks_passed n k (more ++ x))
     (run_len is_yaml_non_break more x are (breakz_no_non_break (slice_index x 0) ends))
     ∙ rw (drop-append_seam more x) refl
 

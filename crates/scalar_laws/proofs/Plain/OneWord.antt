@@ -149,12 +149,10 @@ left_stops : (f : Bool) (i : ℕ) (s : Cursor) → f ≡ false → s.blank_so_fa
     → next_word_starts f i s ≡ Ok (false, s)
 unfolding next_word_starts
 left_stops f i s out blank left =
-    let less : nat_lt s.mark.col i ≡ true = grind (arith, nat_tests) in
-    rw (out, blank, less) refl
+    let less : nat_lt s.mark.col i ≡ true = grind (arith, nat_tests) in rw (out, blank, less) refl
 
 pub stops_plain : (f : Bool) (i : ℕ) (s : Cursor) → StopsPlain f i s → next_word_starts f i s ≡ Ok (false, s)
-stops_plain f i s h =
-    ⊎_elim (λ e. goes_not f i s e)
+stops_plain f i s h = ⊎_elim (λ e. goes_not f i s e)
     (λ h. ⊎_elim (λ e. comment_stops f i s e)
     (λ h. ⊎_elim (λ e. marker_stops f i s e.0 e.1) (λ e. left_stops f i s e.0 e.1 e.2) h) h) h
 

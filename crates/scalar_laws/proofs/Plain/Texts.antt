@@ -165,8 +165,7 @@ blanks_on c cs h =
 blanks_stop : (xs : List ℕ) → is_blank (slice_index xs 0) ≡ false → behind_blanks xs ≡ xs
 blanks_stop [] h = refl
 blanks_stop (c ∷ cs) h =
-    let none : prefix_len is_blank (c ∷ cs) ≡ 0 = rw h refl in
-    ap (λ n. drop n (c ∷ cs)) none
+    let none : prefix_len is_blank (c ∷ cs) ≡ 0 = rw h refl in ap (λ n. drop n (c ∷ cs)) none
 
 is_tabbed_more : (i : ℕ) (v y : List ℕ) → Dark y → AreIn is_blank_or_break v → is_tabbed i (v ++ y) ≡ is_tabbed i v
 is_tabbed_more i [] y dark are = cc (blanks_stop y (dark_no_blank y dark), tabbed_stop i 0 false y dark)
@@ -185,8 +184,7 @@ gap_first (c ∷ v) y some are = are.0
 -- a gap's place is not left of the scalar's indentation
 not_left : (f : Bool) (i : ℕ) (m : Marker) (v : List ℕ) → IsPlainGap f i m v
     → (has_line_end v && not f && nat_lt (end_of_text m v).col i) ≡ false
-not_left f i m v h =
-    ⊎_elim (λ e. in_flow f e) (λ r. ⊎_elim (λ e. on_line e) (λ e. indented e) r) h.indented
+not_left f i m v h = ⊎_elim (λ e. in_flow f e) (λ r. ⊎_elim (λ e. on_line e) (λ e. indented e) r) h.indented
   where
     in_flow : (g : Bool) → g ≡ true → (has_line_end v && not g && nat_lt (end_of_text m v).col i) ≡ false
     in_flow true e = none_of (has_line_end v) (nat_lt (end_of_text m v).col i)
@@ -278,8 +276,7 @@ words_read f i a (p ∷ ps) m x some h ends =
 passed_words : (f : Bool) (i : ℕ) (ps : List (List ℕ × List ℕ)) (m : Marker) (x : List ℕ) → AreFurtherWords f i m ps x
     → end_of_text m (words_text ps) ≡ end_of m ps
 passed_words f i [] m x h = refl
-passed_words f i (p ∷ ps) m x h =
-    passed_append m p.0 (p.1 ++ words_text ps)
+passed_words f i (p ∷ ps) m x h = passed_append m p.0 (p.1 ++ words_text ps)
     (dark_no_feed (p.1 ++ words_text ps) (word_dark f p.1 (words_text ps) (words_text ps ++ x) h.1))
     ∙ passed_word (end_of_text m p.0) p.1 (words_text ps) (ink_of f p.1 (words_text ps ++ x) h.1.ink)
     ∙ passed_words f i ps (along (end_of_text m p.0) (length p.1)) x h.3

@@ -112,11 +112,7 @@ past_stop m b (c ∷ cs) h = rw h refl
 
 leaves_on : (r q : Result PlainGap Refusal) (p t : Bool) (s u : Cursor) → r ≡ q → p ≡ t → s ≡ u → LeavesGap q t u
     → LeavesGap r p s
-leaves_on r q p t s u e same place l =
-    record {
-      text = l.text;
-      is = simp (e, l.is, place, same);
-    }
+leaves_on r q p t s u e same place l = record { text = l.text; is = simp (e, l.is, place, same) }
 
 pub lines_past : (i : ℕ) (a : Marker) (t : Bool) (f : List ℕ) (m : Marker) (xs : List ℕ)
     → MayStand (reaches_tabbed i m.col t xs) (past_white m true xs).rest
@@ -179,8 +175,7 @@ past_blanks m b (c ∷ cs) = by_case (is_blank c) refl (past_blanks (along m 1) 
         subst (λ k. past_white m b (c ∷ cs) ≡ past_white (along m k) b (drop k (c ∷ cs))) (sym one)
         (cc (blank_on h, along_more m 1 n (suc n) (omega arith)))
     by_case false h rest =
-        let none : prefix_len is_blank (c ∷ cs) ≡ 0 = rw h refl in
-        rw none (cc (along_none m))
+        let none : prefix_len is_blank (c ∷ cs) ≡ 0 = rw h refl in rw none (cc (along_none m))
 
 abbrev AtBreak : List ℕ → Marker → Bool → Type 0
 AtBreak xs m b =
@@ -197,10 +192,7 @@ return_at cs m b h = rw h (cc (or-true b), λ i k. refl)
 
 two_at : (cs : List ℕ) (m : Marker) (b : Bool) → AtBreak (carriage_return ∷ line_feed ∷ cs) m b
 two_at cs m b =
-    let two : m.index + 1 + 1 ≡ m.index + 2 = omega arith in (
-      cc (or-true b),
-      λ i k. refl,
-    )
+    let two : m.index + 1 + 1 ≡ m.index + 2 = omega arith in (cc (or-true b), λ i k. refl)
 
 return_or_two : (cs : List ℕ) (m : Marker) (b : Bool) → AtBreak (carriage_return ∷ cs) m b
 return_or_two [] m b = return_at [] m b refl
@@ -224,10 +216,8 @@ from_past : (i : ℕ) (a : Marker) (blanks : List ℕ) (m : Marker) (xs : List �
     → MayStand (reaches_tabbed i 0 false xs) (past_white m false xs).rest
     → LeavesGap (gap_from i a blanks (mid_line m xs)) (reaches_tabbed i 0 false xs) (past_white m false xs)
 unfolding gap_from
-from_past i a blanks m xs clean h =
-    by_test (is_break (slice_index xs 0)) _ _
-    (λ (r : Result PlainGap Refusal). LeavesGap r (reaches_tabbed i 0 false xs) (past_white m false xs))
-    (λ e.
+from_past i a blanks m xs clean h = by_test (is_break (slice_index xs 0)) _ _
+    (λ (r : Result PlainGap Refusal). LeavesGap r (reaches_tabbed i 0 false xs) (past_white m false xs)) (λ e.
     let t = pass_break (mid_line m xs) in
     let here = at_break xs m false e in
     leaves_on _ _ _ _ _ _ refl (here.1 i 0) here.0 (same_fold _ _ _ (lines_past i a false [] t.mark t.rest
@@ -239,8 +229,7 @@ from_past i a blanks m xs clean h =
 pub gap_past : (i : ℕ) (a : Marker) (m : Marker) (xs : List ℕ) → MayStand (is_tabbed i xs) (past_white m false xs).rest
     → LeavesGap (gap i a (mid_line m xs)) (is_tabbed i xs) (past_white m false xs)
 unfolding gap
-gap_past i a m xs h =
-    leaves_on _ _ _ _ _ _ refl refl (past_blanks m false xs)
+gap_past i a m xs h = leaves_on _ _ _ _ _ _ refl refl (past_blanks m false xs)
     (from_past i a _ (along m (prefix_len is_blank xs)) (behind_blanks xs) (run_ends is_blank xs refl)
     (rw (past_blanks m false xs) at h))
 
@@ -248,8 +237,7 @@ gap_past i a m xs h =
 pub past_rest : (m : Marker) (b : Bool) (xs : List ℕ)
     → (past_white m b xs).rest ≡ drop (prefix_len is_blank_or_break xs) xs
 past_rest m b [] = refl
-past_rest m b (c ∷ cs) =
-    by_case (is_blank_or_break c) refl
+past_rest m b (c ∷ cs) = by_case (is_blank_or_break c) refl
     (past_rest (if ends_line c cs then next_line m 1 else along m 1) (b || is_break c) cs)
   where
     Rest : Type 0
@@ -273,8 +261,7 @@ one_further false m = refl
 pub past_index : (m : Marker) (b : Bool) (xs : List ℕ)
     → (past_white m b xs).mark.index ≡ m.index + prefix_len is_blank_or_break xs
 past_index m b [] = omega arith
-past_index m b (c ∷ cs) =
-    by_case (is_blank_or_break c) refl
+past_index m b (c ∷ cs) = by_case (is_blank_or_break c) refl
     (past_index (if ends_line c cs then next_line m 1 else along m 1) (b || is_break c) cs)
   where
     Rest : Type 0

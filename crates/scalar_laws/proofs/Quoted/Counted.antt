@@ -56,15 +56,12 @@ special_behind : (quote : Quote) (start m : Marker) (c : ℕ) (cs : List ℕ)
     → IsBehindSpelling (m.index + suc (special_len quote (slice_index cs 0))) (special quote start
     (mid_line m (c ∷ cs)))
 unfolding special
-special_behind Single start m c cs =
-    by_test (next_2_are (c ∷ cs) 39 39) _ _ (IsBehindSpelling (m.index + 2))
+special_behind Single start m c cs = by_test (next_2_are (c ∷ cs) 39 39) _ _ (IsBehindSpelling (m.index + 2))
     (λ _. some_behind _ 39 (pass 2 (mid_line m (c ∷ cs))) refl) (λ _. none_behind _ _)
-special_behind Double start m c cs =
-    by_test ((c == 92) && not (is_break (slice_index cs 0))) _ _
+special_behind Double start m c cs = by_test ((c == 92) && not (is_break (slice_index cs 0))) _ _
     (IsBehindSpelling (m.index + suc (suc (hex_digit_count (slice_index cs 0)))))
     (λ _. rw (two_more (hex_digit_count (slice_index cs 0))) at
-    (escape_behind start m c cs (escaped_character start (mid_line m (c ∷ cs))) refl))
-    (λ _. none_behind _ _)
+    (escape_behind start m c cs (escaped_character start (mid_line m (c ∷ cs))) refl)) (λ _. none_behind _ _)
   where
     two_more : (n : ℕ) → 2 + n ≡ suc (suc n)
     two_more n = omega arith
@@ -113,8 +110,7 @@ behind_quote_counts : (quote : Quote) (indent : ℕ) (m : Marker) (xs text : Lis
     → t.mark.index + length t.rest ≡ m.index + length xs
 unfolding inner_text
 behind_quote_counts quote indent m [] text t read = absurd (cc)
-behind_quote_counts quote indent m (c ∷ cs) text t read =
-    read_counts (m.index + length (c ∷ cs)) _ text t read
+behind_quote_counts quote indent m (c ∷ cs) text t read = read_counts (m.index + length (c ∷ cs)) _ text t read
     (inside_counts quote indent m no_gap zero (along m 1) cs (m.index + length (c ∷ cs)) (omega arith))
 
 -- index and length of what is left together are the same after a quoted scalar as before it

@@ -18,8 +18,7 @@ GapFits indent (on_line bytes) m t = Unit {0}
 GapFits indent (over_lines escaped n) m t = Indented indent m t
 
 pub line_indented : (indent : ℕ) (m : Marker) (t : List ℕ) → m.col ≡ 0 → IsLine indent t → Indented indent m t
-line_indented indent m t zero_col h =
-    record { marker = λ _. h.no_marker; far = rw (← sum) h.indented }
+line_indented indent m t zero_col h = record { marker = λ _. h.no_marker; far = rw (← sum) h.indented }
   where
     sum : space_count t ≡ m.col + space_count t
     sum = omega arith

@@ -47,14 +47,12 @@ text_on_line _ _ _ _ (quotes.closed q x h) on = record {
   total = omega arith;
   passed = λ m. character m (flow.mark q) x (along m 1) x (mark_no_break q) (nothing (along m 1) x);
 }
-text_on_line _ _ _ _ (quotes.itself q c t items x h r) on =
-    character_on_line c t x (no_break_itself q c h)
+text_on_line _ _ _ _ (quotes.itself q c t items x h r) on = character_on_line c t x (no_break_itself q c h)
     (text_on_line q t items x r (on_line_behind (flow.raw_item c) items on))
 text_on_line _ _ _ _ (quotes.broken q t items x h r) on = absurd on
 text_on_line _ _ _ _ (quotes.two_quotes t items x r) on =
     character_on_line 39 (39 ∷ t) x refl (character_on_line 39 t x refl (text_on_line Single t items x r on))
-text_on_line _ _ _ _ (quotes.escaped e c t items x h r) on =
-    character_on_line 92 (e ∷ t) x refl
+text_on_line _ _ _ _ (quotes.escaped e c t items x h r) on = character_on_line 92 (e ∷ t) x refl
     (character_on_line e t x (no_break_simple e c h) (text_on_line Double t items x r on))
 text_on_line _ _ _ _ (quotes.numbered e c ds t items x h r) on =
     let b = text_on_line Double t items x r on in

@@ -32,8 +32,7 @@ inside_read indent start _ _ _ _ (quotes.broken q t items x h r) fit m = λ gap 
     broken_read q indent start gap m t items x h fit.0
     (inside_read indent start q (drop (break_len t) t) items x r fit.1 (next_line m (break_len t)))
 inside_read indent start _ _ _ _ (quotes.two_quotes t items x r) fit m = λ gap fits.
-    with_gap Single indent start gap m (39 ∷ 39 ∷ t) (Raw 39 ∷ items) x fits
-    (two_quotes_read indent start m t items x
+    with_gap Single indent start gap m (39 ∷ 39 ∷ t) (Raw 39 ∷ items) x fits (two_quotes_read indent start m t items x
     (inside_read indent start Single t items x r fit (along m 2) no_gap tt))
 inside_read indent start _ _ _ _ (quotes.escaped e c t items x h r) fit m = λ gap fits.
     let b = inside_read indent start Double t items x r fit (along m 2) no_gap tt in

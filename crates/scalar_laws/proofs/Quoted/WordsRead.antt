@@ -203,8 +203,7 @@ same_at_quote indent start m (c ∷ cs) fits = by_test (c == 34) refl
     quote : Indented indent m (quotation_mark ∷ cs) → inner_text Double indent start no_gap 0 m (quotation_mark ∷ cs)
         ≡ inner_text Double indent start (over_lines true 0) 0 m
         (quotation_mark ∷ cs)
-    quote fits =
-        at_closing Double indent start m cs refl
+    quote fits = at_closing Double indent start m cs refl
         ∙ sym (cc (
           quoted_behind_gap Double indent start (over_lines true 0) m 34 cs refl refl,
           ends_gap indent start (over_lines true 0) m 34 cs (mark_content Double) fits,
@@ -217,8 +216,7 @@ same_at_quote indent start m (c ∷ cs) fits = by_test (c == 34) refl
         ≡ inner_text Double indent start (over_lines true 0) 0 m (c ∷ cs)
     by_test true h = subst (λ (k : ℕ). Indented indent m (k ∷ cs)
         → inner_text Double indent start no_gap 0 m (k ∷ cs) ≡ inner_text Double indent start (over_lines true 0) 0 m
-        (k ∷ cs))
-        (number c h) quote fits
+        (k ∷ cs)) (number c h) quote fits
     by_test false h = refl
 
 line_blank : (q : Quote) (indent : ℕ) (start : Marker) (escaped : Bool) (k : ℕ) (m : Marker) (c : ℕ) (cs : List ℕ)

@@ -43,11 +43,7 @@ record Digit (s : Cursor) (x : ℕ × Cursor) : Type 0 where
 
 digit_here : (s : Cursor) (c k : ℕ) → slice_index s.rest 0 ≡ c → c ≡ 48 + k → 1 ≤ k
     → s.rest ≡ digit_of k ++ drop 1 s.rest
-digit_here s c zero e f h = absurd (omega (arith, h))
-digit_here s c (suc n) e f h =
-    let some : (c == 0) ≡ false = grind (arith, nat_tests) in
-    let is : c ≡ 49 + n = omega (arith, f) in
-    cut_at c s.rest some e ∙ ap (λ d. d ∷ drop 1 s.rest) is
+digit_here s c k e f h = grind arith
 
 digit_value : (c : ℕ) → not (is_digit c) ≡ false → (c == 48) ≡ false → (1 ≤ c - 48) × (c - 48 ≤ 9) × (c ≡ 48 + (c - 48))
 digit_value c h z = (grind (arith, nat_tests), grind (arith, nat_tests), grind (arith, nat_tests))
@@ -65,8 +61,7 @@ indicator_told start s x =
     (record { few = v.1; is = digit_here s c (c - 48) refl v.2 v.0 })))
 
 chosen : (o : Option Chomping) → mark_of o ≡ chomping_of (unwrap_or o Clip)
-chosen None = refl
-chosen (Some c) = refl
+chosen o = grind arith
 
 -- the indicators, by whether a chomping indicator was first
 both_told : (o : Option Chomping) (n : ℕ) (r a : List ℕ) (b : Cursor) → n ≤ 9 → r ≡ mark_of o ++ a
@@ -80,12 +75,10 @@ both_told (Some c) n r a b few e f = (
       ∙ sym (append_assoc (chomping_of c) (digit_of n) b.rest),
 )
 both_told None n r a b few e f =
-    let x = chomping b in
-    let last : b.rest ≡ chomping_of (unwrap_or x.0 Clip) ++ x.1.rest =
-    chomping_told b ∙ ap (λ t. t ++ x.1.rest) (chosen x.0) in (
+    let x = chomping b in (
       digit_of n ++ chomping_of (unwrap_or x.0 Clip),
       (few, inl refl),
-      e ∙ f ∙ ap (λ t. digit_of n ++ t) last
+      e ∙ f ∙ ap (λ t. digit_of n ++ t) (chomping_told b ∙ ap (λ t. t ++ x.1.rest) (chosen x.0))
           ∙ sym (append_assoc (digit_of n) (chomping_of (unwrap_or x.0 Clip)) x.1.rest),
     )
 
@@ -95,12 +88,7 @@ abbrev Ended : List ℕ → List ℕ → Type 0
 Ended xs behind = (end : List ℕ) × EndsHeader behind end × (xs ≡ end ++ behind)
 
 two_broken : (xs : List ℕ) → next_2_are xs 13 10 ≡ true → xs ≡ codes "\r\n" ++ drop 2 xs
-two_broken [] h = absurd (cc)
-two_broken (c ∷ []) h = absurd (let k = and_true_right (c == 13) false h in cc)
-two_broken (c ∷ d ∷ ds) h =
-    let first : c ≡ 13 = eqb-true c 13 (and_true_left (c == 13) (d == 10) h) in
-    let second : d ≡ 10 = eqb-true d 10 (and_true_right (c == 13) (d == 10) h) in
-    ap (λ x. x ∷ d ∷ ds) first ∙ ap (λ x. 13 ∷ x ∷ ds) second
+two_broken xs h = grind arith
 
 feed_by_test : (x : ℕ) → (x == line_feed) ≡ false → x ≢ line_feed
 feed_by_test x e h = absurd (grind (arith, nat_tests))
@@ -108,19 +96,15 @@ feed_by_test x e h = absurd (grind (arith, nat_tests))
 one_broken : (xs : List ℕ) → next_2_are xs 13 10 ≡ false → is_break (slice_index xs 0) ≡ true
     → (end : List ℕ) × IsBreakBefore (drop 1 xs) end × (xs ≡ end ++ drop 1 xs)
 one_broken [] h b = absurd (cc)
-one_broken (c ∷ cs) h b =
-    break_cases c b (λ x. next_2_are (x ∷ cs) 13 10 ≡ false
+one_broken (c ∷ cs) h b = break_cases c b (λ x. next_2_are (x ∷ cs) 13 10 ≡ false
     → (end : List ℕ) × IsBreakBefore cs end × (x ∷ cs ≡ end ++ cs))
-    (λ _. (codes "\n", inl refl, refl))
-    (λ k. (codes "\r", inr (inr (refl, feed_by_test (slice_index cs 0) k)), refl))
-    h
+    (λ _. (codes "\n", inl refl, refl)) (λ k. (codes "\r", inr (inr (refl, feed_by_test (slice_index cs 0) k)), refl)) h
 
 other_than_tab : (x : ℕ) → (x == tab) ≡ false → x ≢ tab
 other_than_tab x e h = absurd (grind (arith, nat_tests))
 
 second : (a b : Bool) → (a || b) ≡ true → a ≡ false → b ≡ true
-second true b h e = absurd (cc)
-second false b h e = h
+second a b h e = grind arith
 
 break_ended : (s : Cursor) → is_breakz (slice_index s.rest 0) ≡ true
     → (slice_index (pass_break s).rest 0 == tab) ≡ false → Ended s.rest (pass_break s).rest
@@ -134,13 +118,10 @@ break_ended s h =
 
 break_told : (start : Marker) (s u : Cursor) → header_break start s ≡ Ok u → Ended s.rest u.rest
 unfolding header_break
-break_told start s u =
-    by_test (not (is_breakz (slice_index s.rest 0))) _ _ (λ r. r ≡ gave u → Ended s.rest u.rest)
+break_told start s u = by_test (not (is_breakz (slice_index s.rest 0))) _ _ (λ r. r ≡ gave u → Ended s.rest u.rest)
     (λ _ e. refused_gave _ u e)
     (λ h. by_test (slice_index (pass_break s).rest 0 == tab) _ _ (λ r. r ≡ gave u → Ended s.rest u.rest)
-    (λ _ e. refused_gave _ u e)
-    (λ t e. subst (λ (v : Cursor). Ended s.rest v.rest) (same_gift (pass_break s) u e)
-    (break_ended s (not-false _ h) t)))
+    (λ _ e. refused_gave _ u e) (λ t e. rw (same_gift (pass_break s) u e) at (break_ended s (not-false _ h) t)))
 
 separation_left : (s : Cursor) (x : SkipTabs × Cursor) → separation Yes s ≡ Ok x
     → pass_blanks (separation_len Yes s.rest) s ≡ x.1
@@ -163,9 +144,7 @@ end_told start s u e =
     let w = then_gave (separation Yes s) (λ x. header_break start x.1) u e in
     let l = tail_line_of s.mark s.rest in
     let b = break_told start w.0.1 u w.2 in
-    let left : drop (separation_len Yes s.rest) s.rest ≡ b.0 ++ u.rest =
-    ap (λ (t : Cursor). t.rest) (separation_left s w.0 w.1) ∙ b.2 in
-    (l.0, b.0, l.1.1, b.1, l.1.0 ∙ ap (λ t. l.0 ++ t) left)
+    (l.0, b.0, l.1.1, b.1, l.1.0 ∙ ap (λ t. l.0 ++ t) (ap (λ (t : Cursor). t.rest) (separation_left s w.0 w.1) ∙ b.2))
 
 -- ## The line
 
@@ -174,8 +153,7 @@ Headed xs x = (first : List ℕ) × (xs ≡ first ++ x.1.rest) × IsHeaderLine x
 
 header_joined : (c : ℕ) (xs a b d behind : List ℕ) → xs ≡ a ++ (b ++ (d ++ behind))
     → c ∷ xs ≡ (c ∷ (a ++ (b ++ d))) ++ behind
-header_joined c xs a b d behind e =
-    ap (λ t. c ∷ t) (e ∙ ap (λ t. a ++ t) (sym (append_assoc b d behind)) ∙ sym (append_assoc a (b ++ d) behind))
+header_joined c xs a b d behind e = cc (append_assoc b d behind, append_assoc a (b ++ d) behind)
 
 pub header_line : (s : Cursor) (x : BlockHeader × Cursor) → 0 < length s.rest → header s ≡ Ok x → Headed s.rest x
 unfolding header header_behind
@@ -188,8 +166,7 @@ header_line s x some e =
     let d = indicator_told s.mark first.1 w.0 w.1 in
     let m = both_told first.0 w.0.0 (drop 1 s.rest) first.1.rest w.0.1 d.few (chomping_told (pass 1 s)) d.is in
     let t = end_told s.mark last.1 v.0 v.1 in
-    let whole : s.rest ≡ (slice_index s.rest 0 ∷ (m.0 ++ (t.0 ++ t.1))) ++ v.0.rest =
-    first_and_rest s.rest some
+    let whole : s.rest ≡ (slice_index s.rest 0 ∷ (m.0 ++ (t.0 ++ t.1))) ++ v.0.rest = first_and_rest s.rest some
     ∙ header_joined (slice_index s.rest 0) (drop 1 s.rest) m.0 t.0 t.1 v.0.rest (m.2 ∙ ap (λ y. m.0 ++ y) t.4) in
     subst (Headed s.rest) (same_gift (header_of v.0) x v.2)
     (slice_index s.rest 0 ∷ (m.0 ++ (t.0 ++ t.1)), whole, (slice_index s.rest 0, m.0, t.0, t.1, m.1, t.2, t.3, refl))

@@ -28,14 +28,13 @@ within_nothing A xs = record { taken = []; is = refl; inside = λ starts h. tt }
 -- one character more
 within_more : (A B : Type 0) (c : ℕ) (cs rest : List ℕ) → IsTrue (is_break c || is_yaml_non_break c)
     → (A ⊎ (c ≡ line_feed) → IsFalse (is_document_indicator (c ∷ cs)))
-    → (IsTrue (is_break c) → B ⊎ (slice_index cs 0 ≡ line_feed))
-    → Within B cs rest → Within A (c ∷ cs) rest
+    → (IsTrue (is_break c) → B ⊎ (slice_index cs 0 ≡ line_feed)) → Within B cs rest → Within A (c ∷ cs) rest
 within_more A B c cs rest h none next w = record {
   taken = c ∷ w.taken;
   is = ap (λ t. c ∷ t) w.is;
   inside = λ starts k. (
     h,
-    λ e. subst (λ t. IsFalse (is_document_indicator (c ∷ t))) w.is (none (k e)),
+    λ e. rw w.is at (none (k e)),
     w.inside
         (is_break c) next,
   );
@@ -48,23 +47,20 @@ break_stands : (c : ℕ) → is_break c ≡ true → IsTrue (is_break c || is_ya
 break_stands c b = let P : Bool → Type 0 = λ k. (k || is_yaml_non_break c) ≡ true in subst P (sym b) refl
 
 non_break_stands : (c : ℕ) → is_yaml_non_break c ≡ true → IsTrue (is_break c || is_yaml_non_break c)
-non_break_stands c e = let P : Bool → Type 0 =
-    λ k. (k || is_yaml_non_break c) ≡ true in subst P (sym (non_break_no_break c e)) e
+non_break_stands c e = subst (λ k. (k || is_yaml_non_break c) ≡ true) (sym (non_break_no_break c e)) e
 
 feed_is_none : (c : ℕ) → is_yaml_non_break c ≡ true → c ≡ line_feed → ⊥
-feed_is_none c e f = let k : is_yaml_non_break c ≡ false = ap is_yaml_non_break f in cc
+feed_is_none c e f = cc
 
 -- ## Steps
 
 a_space : (A B : Type 0) (c : ℕ) (cs rest : List ℕ) → c ≡ space → Within B cs rest → Within A (c ∷ cs) rest
 a_space A B c cs rest e w =
-    let P : ℕ → Type 0 = λ x. Within A (x ∷ cs) rest in
-    subst P (sym e) (within_more A B 32 cs rest refl (λ _. refl) (λ k. absurd (cc)) w)
+    subst (λ x. Within A (x ∷ cs) rest) (sym e) (within_more A B 32 cs rest refl (λ _. refl) (λ k. absurd (cc)) w)
 
 a_return : (A B : Type 0) (c : ℕ) (cs rest : List ℕ) → is_cr_lf c cs ≡ true → Within B cs rest → Within A (c ∷ cs) rest
 a_return A B c cs rest e w =
-    let is : c ≡ 13 = eqb-true c 13 (and_true_left (c == 13) (slice_index cs 0 == 10) e) in
-    let b : is_break c ≡ true = ap is_break is in
+    let b : is_break c ≡ true = ap is_break (eqb-true c 13 (and_true_left (c == 13) (slice_index cs 0 == 10) e)) in
     within_more A B c cs rest (break_stands c b) (λ _. no_marker_break c cs b)
     (λ _. inr (eqb-true (slice_index cs 0) 10 (and_true_right (c == 13) (slice_index cs 0 == 10) e))) w
 
@@ -81,11 +77,7 @@ starts_clear i col xs = parts (col == i) (is_yaml_non_break (slice_index xs 0)) 
   where
     parts : (a d z k : Bool) → (col == i) ≡ a → (i == 0) ≡ z → (a && d && not (z && k)) ≡ true
         → (d ≡ true) × (col ≡ 0 → k ≡ false)
-    parts true true true false e f h = (refl, λ _. refl)
-    parts true true true true e f h = absurd (cc)
-    parts true true false k e f h = (refl, λ c. absurd (grind (arith, nat_tests)))
-    parts true false z k e f h = absurd (cc)
-    parts false d z k e f h = absurd (cc)
+    parts a d z k e f h = grind arith
 
 -- ## Lines
 
@@ -95,21 +87,18 @@ At m = m.col ≡ 0
 -- a character of a line's content, at its start and after that
 content_more : (A : Type 0) (c : ℕ) (cs rest : List ℕ) → is_yaml_non_break c ≡ true
     → (A → IsFalse (is_document_indicator (c ∷ cs))) → Within ⊥ cs rest → Within A (c ∷ cs) rest
-content_more A c cs rest e none w =
-    within_more A ⊥ c cs rest (non_break_stands c e) (λ (k : A ⊎ (c ≡ 10)). by k)
+content_more A c cs rest e none w = within_more A ⊥ c cs rest (non_break_stands c e) (λ (k : A ⊎ (c ≡ 10)). by k)
     (λ k. absurd (let f = non_break_no_break c e in cc)) w
   where
     by : A ⊎ (c ≡ line_feed) → IsFalse (is_document_indicator (c ∷ cs))
-    by (inl a) = none a
-    by (inr f) = absurd (feed_is_none c e f)
+    by h = grind arith
 
 within_behind_character : (c : ℕ) (cs rest : List ℕ) → is_yaml_non_break c ≡ true → Within ⊥ cs rest
     → Within ⊥ (c ∷ cs) rest
 within_behind_character c cs rest e w = content_more ⊥ c cs rest e (λ k. absurd k) w
 
 within_from_line_start : (m : Marker) (i c : ℕ) (cs rest : List ℕ) → line_starts i m.col (c ∷ cs) ≡ true
-    → Within ⊥ cs rest
-    → Within (At m) (c ∷ cs) rest
+    → Within ⊥ cs rest → Within (At m) (c ∷ cs) rest
 within_from_line_start m i c cs rest g w =
     let s = starts_clear i m.col (c ∷ cs) g in content_more (At m) c cs rest s.0 s.1 w
 

@@ -90,9 +90,7 @@ not_wider : (indent column i : ℕ) → (nat_lt column i && nat_le indent column
 not_wider indent column i = by (nat_lt column i) (nat_le indent column) refl refl
   where
     by : (a b : Bool) → nat_lt column i ≡ a → nat_le indent column ≡ b → (a && b) ≡ false → AreNotWider indent column i
-    by false b e f h = inl (grind (arith, nat_tests))
-    by true false e f h = inr (grind (arith, nat_tests))
-    by true true e f h = absurd (cc)
+    by a b e f h = grind arith
 
 -- what is read has no line of spaces that is too wide
 fit_told : (style : BlockStyle) (indent : ℕ) (start : Marker) (c : Chomping) (limit : Option ℕ)
@@ -105,8 +103,7 @@ fit_told style indent start c limit x y =
     (λ z _. inl z)
     (λ _. by_test (nat_lt x.1.mark.col i && nat_le indent x.1.mark.col) _ _
     (λ r. r ≡ gave y → Fits indent x.1.mark.col i x.1.rest)
-    (λ _ e. refused_gave _ y e)
-    (λ fits _. inr (not_wider indent x.1.mark.col i fits)))
+    (λ _ e. refused_gave _ y e) (λ fits _. inr (not_wider indent x.1.mark.col i fits)))
 
 -- ## No content before the span
 
@@ -126,14 +123,13 @@ empty_told i u v k l =
     let w = l.joins [] v.rest refl l.clear in
     let cut = only_line (spaces v.mark.col) (plain_spaces v.mark.col) in
     let nothing : spaces v.mark.col ++ [] ≡ spaces v.mark.col = append-nil (spaces v.mark.col) in
-    let ended : map (line_of i) (ended_lines (normalized w.0)) ≡ empties k =
-    ap (lines_of i) w.2 ∙ l.lines [] ∙ ap (λ ys. empties k ++ lines_of i ys) nothing
-    ∙ ap (λ ls. empties k ++ map (line_of i) ls) cut.0 ∙ append-nil (empties k) in
     let last : last_line (normalized w.0) ≡ spaces v.mark.col = ap last_line w.2 ∙ l.last [] ∙ ap last_line nothing
     ∙ cut.1 in (
       w.0,
       w.1,
-      no_content_in (ended_lines (normalized w.0)) i k (last_line (normalized w.0)) ended
+      no_content_in (ended_lines (normalized w.0)) i k (last_line (normalized w.0))
+          (ap (lines_of i) w.2 ∙ l.lines [] ∙ ap (λ ys. empties k ++ lines_of i ys) nothing
+          ∙ ap (λ ls. empties k ++ map (line_of i) ls) cut.0 ∙ append-nil (empties k))
           (ap (line_of i) last ∙ line_spaces i v.mark.col l.within),
     )
 
@@ -144,7 +140,7 @@ same_lines : (A : Type 0) (xs rest lines : List ℕ) → xs ≡ lines ++ rest �
     → (IsTrue starts → A ⊎ (slice_index xs 0 ≡ line_feed)) → Within A xs rest → AreInside starts lines rest
 same_lines A xs rest lines e starts h w =
     let same : w.taken ≡ lines = append_cancel_right w.taken lines rest (sym w.is ∙ e) in
-    subst (λ t. AreInside starts t rest) same (w.inside starts h)
+    rw same at (w.inside starts h)
 
 -- what was read after the header, and where the span begins
 record BlockParts (style : BlockStyle) (indent : ℕ) (s : Cursor) (h : BlockHeader) (first : List ℕ) (u : Cursor)
@@ -171,9 +167,9 @@ put_together style indent s h first u t text span e l p = record {
   first = first;
   lines = p.own.lines;
   is = e ∙ ap (λ r. first ++ r) p.own.taken;
-  begins = subst (λ r. IsHeaderLine h.indicator h.chomping r first) p.own.taken l;
+  begins = rw p.own.taken at l;
   indentation = p.i;
-  indented = subst (λ r. IsIndentationFrom indent h.indicator r p.i) p.own.taken p.indented;
+  indented = rw p.own.taken at p.indented;
   shaped = p.own.indented;
   inside = p.inside;
   ends = ends_told p.i t p.own.ends;
@@ -216,8 +212,8 @@ behind_header_line style indent s h first u y e p col blank is =
         before = [];
         behind = s.rest;
         split = refl;
-        starts = subst (λ (m : Marker). IsPassed s.mark s.rest m s.rest) (sym a) (passing.nothing s.mark s.rest);
-        goes_on = subst (λ (m : Marker). IsPassed m s.rest y.2.mark y.2.rest) (sym a) all;
+        starts = rw a (passing.nothing s.mark s.rest);
+        goes_on = rw a all;
         no_content = inl refl;
       }
       | inr a ↦
@@ -230,8 +226,8 @@ behind_header_line style indent s h first u y e p col blank is =
             before = first ++ w.0;
             behind = x.1.rest;
             split = e ∙ ap (λ r. first ++ r) w.1 ∙ sym (append_assoc first w.0 x.1.rest);
-            starts = subst (λ (m : Marker). IsPassed s.mark s.rest m x.1.rest) (sym a.0) whole;
-            goes_on = subst (λ (m : Marker). IsPassed m x.1.rest y.2.mark y.2.rest) (sym a.0) told.passes;
+            starts = rw a.0 whole;
+            goes_on = rw a.0 told.passes;
             no_content = inr (w.0, refl, w.2);
           }
     ]
@@ -243,13 +239,11 @@ no_lines_at_end xs rest z [] e h = tt
 no_lines_at_end xs rest z (c ∷ cs) e h =
     let nul : c ≡ 0 = eqb-true c 0 (ap (λ t. is_z (slice_index t 0)) (sym e) ∙ z) in
     let none : (is_break c || is_yaml_non_break c) ≡ false = ap (λ x. is_break x || is_yaml_non_break x) nul in
-    let some = h.0 in
-    absurd (cc)
+    let some = h.0 in absurd (cc)
 
 whole_at_end : (style : BlockStyle) (indent : ℕ) (s : Cursor) (h : BlockHeader) (first : List ℕ) (u : Cursor) (y : Read)
     → s.rest ≡ first ++ u.rest → IsPassed s.mark s.rest u.mark u.rest → is_z (slice_index u.rest 0) ≡ true
-    → u.blank_so_far ≡ false → behind_header style indent s.mark (h, u) ≡ Ok y
-    → BlockParts style indent s h first u y
+    → u.blank_so_far ≡ false → behind_header style indent s.mark (h, u) ≡ Ok y → BlockParts style indent s h first u y
 unfolding behind_header
 whole_at_end style indent s h first u y e p z blank is =
     let limit = given_indentation indent h.indicator in
@@ -279,8 +273,8 @@ whole_at_end style indent s h first u y e p z blank is =
       before = [];
       behind = s.rest;
       split = refl;
-      starts = subst (λ (m : Marker). IsPassed s.mark s.rest m s.rest) (sym start) (passing.nothing s.mark s.rest);
-      goes_on = subst (λ (m : Marker). IsPassed m s.rest y.2.mark y.2.rest) (sym start) all;
+      starts = rw start (passing.nothing s.mark s.rest);
+      goes_on = rw start all;
       no_content = inl refl;
     }
 

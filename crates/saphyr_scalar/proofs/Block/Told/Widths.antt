@@ -90,11 +90,9 @@ width_break j x before cs r e b w = record {
   stops = w.stops;
   width =
       let others = widest (all_lines (normalized w.leading)) in
-      let told : widest (all_lines (spaces j ++ normalized (x ∷ w.leading))) ≡ max j others =
-      ap (λ t. widest (all_lines (spaces j ++ t))) (normalized_break x cs w.leading r.1.rest e b w.is)
-      ∙ one_line_more j (normalized w.leading) in
       let own : r.0.widest ≡ max (max before.widest j) others = w.width in
-      rw told (omega (arith, own));
+      rw (ap (λ t. widest (all_lines (spaces j ++ t))) (normalized_break x cs w.leading r.1.rest e b w.is)
+      ∙ one_line_more j (normalized w.leading)) (omega (arith, own));
   column = w.column
       ∙ sym (ap (λ t. length (last_line (spaces j ++ t))) (normalized_break x cs w.leading r.1.rest e b w.is)
       ∙ column_behind j (normalized w.leading));
@@ -110,8 +108,7 @@ widths : (before : EmptyLines) (b : Bool) (m : Marker) (xs : List ℕ)
     → Width m.col before xs (pass_empty_lines None before b m xs)
 unfolding pass_empty_lines
 widths before b m [] = width_stop before b m [] refl
-widths before b m (x ∷ cs) =
-    by_test (x == 32) _ _ (Width m.col before (x ∷ cs))
+widths before b m (x ∷ cs) = by_test (x == 32) _ _ (Width m.col before (x ∷ cs))
     (λ h. width_space m.col x before cs _ (eqb-true x 32 h) (widths before b (along m 1) cs))
     (λ h0. by_test (is_cr_lf x cs) _ _ (Width m.col before (x ∷ cs))
     (λ h. width_half m.col x before cs _ h (half_breaks x cs h) (widths before b (inside_break m) cs))
