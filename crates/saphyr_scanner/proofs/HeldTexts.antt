@@ -1,15 +1,18 @@
 -- Texts that are held stay as they are when others are put after them.
-use Rattle.std.proofs.Common.{◌≡◌, ℕ, ◌+◌, ◌-◌, ◌≤◌, ◌<◌, List, [], ◌∷◌, ◌++◌, length, drop, get_or, refl, sym, ap, subst, arith, ◌∙◌, Option, Some, None, false}
+use Rattle.std.proofs.Common.{◌≡◌, ◌+◌, ◌-◌, ◌≤◌, ◌<◌, List, [], ◌∷◌, ◌++◌, length, drop, get_or, refl, sym, ap, subst, arith, ◌∙◌, ℕ, zero, suc, Bool, true, false, Some, None}
 use Rattle.std.specs.Prelude as std
-use Rattle.std.specs.Prelude.{map, nat_lt, slice_index_or, slice_range, IsUtf8, option_to_list}
+use Rattle.std.specs.Prelude.{map, set, slice_index_or, slice_range, IsUtf8}
 use Rattle.std.specs.List.{All, AllZip}
-use Rattle.std.proofs.lemmas.Bool.{ltb-false}
-use Rattle.std.proofs.lemmas.List.{length-drop, length-append, take-append-drop, take-append-le, drop-append-le}
-use Rattle.std.proofs.lemmas.List.Elements.{All-nil, All-cons, All-head, All-tail, All-push, All-same, All-rest}
+use Rattle.std.proofs.Math.Dec.{eqb, eqb-suc-zero, ltb}
+use Rattle.std.proofs.lemmas.Bool.{ltb-false, ltb-true}
+use Rattle.std.proofs.Math.ListN.{drop_of_length-le}
+use Rattle.std.proofs.lemmas.List.{length-drop, length-append, length-map, take-append-drop, take-append-le, drop-append-le, drop-map, drop-set-lt}
+use Rattle.std.proofs.lemmas.List.Elements.{All-nil, All-cons, All-head, All-tail, All-push}
 use Rattle.saphyr_scanner.specs.declared.queue.place.Place.{Place}
 use Rattle.saphyr_scanner.specs.declared.queue.place.Place.TheVariants.{Bare, Text, Tagged, Whole}
 use Rattle.saphyr_scanner.specs.declared.queue.texts.TextPlace.{TextPlace}
-use Rattle.saphyr_scanner.specs.Steps.Queue.{bare_place, take, take_place}
+use Rattle.saphyr_scanner.specs.Steps.Queue as seen
+use Rattle.saphyr_scanner.specs.Steps.Queue.{bare_place, is_empty_list, take, take_place}
 use Rattle.saphyr_scanner.specs.Views.Tokens.{Piece}
 use Rattle.saphyr_scanner.specs.Views.Places.{GrowsBehind, HasHeldText, IsCopyOfPlace, IsHeldText, IsBarePlaceOf, on_line, place, text_at, text_kind, text_place}
 
@@ -29,7 +32,8 @@ text_stays old new t g h =
     let e = ap (λ r. text_at r t) (grown old new g)
     ∙ range_of_append old (drop (length old) new) t.start (t.start + t.count) (omega arith) h.0 in
     let longer = ap length (grown old new g) ∙ length-append old (drop (length old) new) in
-    let within = h.0 in ((omega (arith, longer, within), rw e h.1), e)
+    let within = h.0 in
+    ((omega (arith, longer, within), subst (λ bs. ∥ IsUtf8 bs ∥₁) (sym e) h.1), e)
 
 -- ## Places over more texts
 
@@ -49,7 +53,8 @@ places_stay old new ps g h = ((λ k d lt. (place_stays old new (get_or ps k d) g
   where
     seen : (ps : List Place) → All (HasHeldText old) ps → map (place new) ps ≡ map (place old) ps
     seen [] h = refl
-    seen (p ∷ ps) h = λ i. (place_stays old new p g (All-head (HasHeldText old) p ps h)).1 i
+    seen (p ∷ ps) h = λ i.
+        (place_stays old new p g (All-head (HasHeldText old) p ps h)).1 i
         ∷ seen ps (All-tail (HasHeldText old) p ps h) i
 
 map_push : (bytes : List ℕ) (ps : List Place) (p : Place)
@@ -58,9 +63,10 @@ map_push bytes [] p = refl
 map_push bytes (q ∷ ps) p = ap (λ qs. place bytes q ∷ qs) (map_push bytes ps p)
 
 -- after the places is that of a token, whose text comes after theirs
-pub place_put : (old new : List ℕ) (ps : List Place) (p : Place) (t : Piece) → GrowsBehind old new
-    → All (HasHeldText old) ps → IsBarePlaceOf new t p
-    → All (HasHeldText new) (ps ++ p ∷ []) × (map (place new) (ps ++ p ∷ []) ≡ map (place old) ps ++ bare_place t ∷ [])
+pub place_put : (old new : List ℕ) (ps : List Place) (p : Place) (t : Piece)
+    → GrowsBehind old new → All (HasHeldText old) ps → IsBarePlaceOf new t p
+    → All (HasHeldText new) (ps ++ p ∷ [])
+    × (map (place new) (ps ++ p ∷ []) ≡ map (place old) ps ++ bare_place t ∷ [])
 place_put old new ps p t g h is =
     let stay = places_stay old new ps g h in (
       All-push (HasHeldText new) ps p stay.0 is.0,
@@ -77,41 +83,81 @@ place_added bytes ps p t h is = (
   map_push bytes ps p ∙ (λ i. map (place bytes) ps ++ is.1 i ∷ []),
 )
 
-pub no_places : (old new : List ℕ) (ps : List Place) → length ps ≡ 0 → map (place new) ps ≡ map (place old) ps
-no_places old new [] h = refl
-no_places old new (p ∷ ps) h = absurd (omega (arith, h))
+-- ## Places that were handed out, which stay before the others
+
+pub is_none : (ps : List seen.Place) → eqb (length ps) 0 ≡ is_empty_list ps
+is_none [] = refl
+is_none (p ∷ ps) = eqb-suc-zero (length ps)
+
+pub nothing_held : (bytes : List ℕ) (ps : List Place) (qs : List seen.Place) → ps ≡ [] → true ≡ is_empty_list qs
+    → map (place bytes) ps ≡ qs
+nothing_held bytes ps [] e h = ap (map (place bytes)) e
+nothing_held bytes ps (q ∷ qs) e h = absurd (cc)
+
+pub le_of_not : (a b : ℕ) → (a < b → false ≡ true) → b ≤ a
+le_of_not a b h = by (ltb a b) refl
+  where
+    by : (x : Bool) → ltb a b ≡ x → b ≤ a
+    by true e = let no = h (ltb-true a b e) in absurd (cc)
+    by false e = ltb-false a b e
+
+-- where as many were handed out as are here
+all_spent : (bytes : List ℕ) (n : ℕ) (ps : List Place) → length ps ≤ n → drop n (map (place bytes) ps) ≡ []
+all_spent bytes n ps h = drop-map (place bytes) n ps ∙ ap (map (place bytes)) (drop_of_length-le ps h)
+
+-- the first of those behind n others
+first_behind : (n m : ℕ) (ps : List Place) (p : Place) → m ≡ suc n → n < length ps → p ≡ slice_index_or ps n p
+    → drop n ps ≡ p ∷ drop m ps
+first_behind n m [] p is lt e = absurd (omega (arith, lt))
+first_behind zero m (q ∷ ps) p is lt e = rw is (ap (λ r. r ∷ ps) (sym e))
+first_behind (suc n) m (q ∷ ps) p is lt e =
+    rw is (first_behind n (suc n) ps p refl (omega (arith, lt)) e)
+
+pub first_place : (bytes : List ℕ) (n m : ℕ) (ps : List Place) (p : Place) → m ≡ suc n → n < length ps
+    → p ≡ slice_index_or ps n p
+    → drop n (map (place bytes) ps) ≡ place bytes p ∷ drop m (map (place bytes) ps)
+first_place bytes n m ps p is lt e =
+    drop-map (place bytes) n ps
+    ∙ ap (map (place bytes)) (first_behind n m ps p is lt e)
+    ∙ ap (λ qs. place bytes p ∷ qs) (sym (drop-map (place bytes) m ps))
+
+pub put_behind : (n : ℕ) (bytes : List ℕ) (ps : List Place) (qs : List seen.Place) → n ≤ length ps
+    → drop n (map (place bytes) ps ++ qs) ≡ drop n (map (place bytes) ps) ++ qs
+put_behind n bytes ps qs h =
+    let same = length-map ps (place bytes) in
+    drop-append-le n (map (place bytes) ps) qs (omega (arith, h, same))
 
 -- ## The first place is taken off
 
-pub first_place : (bytes : List ℕ) (ps : List Place) (p : Place) → 0 < length ps → p ≡ slice_index_or ps 0 p
-    → map (place bytes) ps ≡ place bytes p ∷ map (place bytes) (drop 1 ps)
-first_place bytes ps p lt e = grind arith
+pub take_none : (bytes : List ℕ) (n : ℕ) (ps : List Place) (handed : ℕ) → length ps ≤ n
+    → take_place (record { places = drop n (map (place bytes) ps); handed = handed })
+    ≡ (None, record { places = drop n (map (place bytes) ps); handed = handed })
+take_none bytes n ps handed h = rw (all_spent bytes n ps h) refl
 
-pub take_of_none : (bytes : List ℕ) (ps : List Place) (n : ℕ) → false ≡ nat_lt 0 (length ps)
-    → take (record { places = map (place bytes) ps; handed = n })
-    ≡ (None, record { places = map (place bytes) ps; handed = n })
-take_of_none bytes [] n h = refl
-take_of_none bytes (p ∷ ps) n h = absurd (omega (arith, ltb-false 0 (length (p ∷ ps)) (sym h)))
+pub take_of_none : (bytes : List ℕ) (n : ℕ) (ps : List Place) (handed : ℕ) → length ps ≤ n
+    → take (record { places = drop n (map (place bytes) ps); handed = handed })
+    ≡ (None, record { places = drop n (map (place bytes) ps); handed = handed })
+take_of_none bytes n ps handed h = rw (all_spent bytes n ps h) refl
 
-pub texts_behind : (bytes : List ℕ) (r : Option Place) (ps qs : List Place) → ps ≡ option_to_list r ++ qs
-    → All (HasHeldText bytes) ps → All (HasHeldText bytes) qs
-texts_behind bytes None ps qs e h = All-same (HasHeldText bytes) qs ps (sym e) h
-texts_behind bytes (Some p) ps qs e h = All-rest (HasHeldText bytes) p qs ps e h
+pub text_of_first : (bytes : List ℕ) (n : ℕ) (ps : List Place) (p : Place) → n < length ps
+    → p ≡ slice_index_or ps n p → All (HasHeldText bytes) ps → HasHeldText bytes p
+text_of_first bytes n ps p lt e h = subst (HasHeldText bytes) (sym e) (h n p lt)
 
-pub text_of_first : (bytes : List ℕ) (p : Place) (ps qs : List Place) → ps ≡ p ∷ qs
-    → All (HasHeldText bytes) ps → HasHeldText bytes p
-text_of_first bytes p ps qs e h = All-head (HasHeldText bytes) p qs (rw e at h)
-
-pub take_none : (bytes : List ℕ) (ps qs : List Place) (n : ℕ) → length ps ≡ 0 → ps ≡ qs
-    → take_place (record { places = map (place bytes) ps; handed = n })
-    ≡ (None, record { places = map (place bytes) qs; handed = n })
-take_none bytes [] qs n h e = ap (λ rs. (None, record { places = map (place bytes) rs; handed = n })) e
-take_none bytes (p ∷ ps) qs n h e = absurd (omega (arith, h))
-
-pub take_one : (bytes : List ℕ) (p : Place) (ps qs : List Place) (n : ℕ) → ps ≡ p ∷ qs
-    → take_place (record { places = map (place bytes) ps; handed = n })
-    ≡ (Some (place bytes p).piece, record { places = map (place bytes) qs; handed = n + 1 })
-take_one bytes p ps qs n e = ap (λ rs. take_place (record { places = map (place bytes) rs; handed = n })) e
+pub take_one : (bytes : List ℕ) (n m : ℕ) (ps : List Place) (p q : Place) (handed : ℕ) → m ≡ suc n
+    → n < length ps → p ≡ slice_index_or ps n p
+    → take_place (record { places = drop n (map (place bytes) ps); handed = handed })
+    ≡ (
+      Some (place bytes p).piece,
+      record { places = drop m (map (place bytes) (set ps n q)); handed = handed + 1 },
+    )
+take_one bytes n m ps p q handed is lt e =
+    let left = drop-map (place bytes) m (set ps n q)
+    ∙ ap (map (place bytes)) (drop-set-lt m ps n q (omega (arith, is)))
+    ∙ sym (drop-map (place bytes) m ps) in
+    ap (λ (qs : List seen.Place). take_place (record { places = qs; handed = handed }))
+    (first_place bytes n m ps p is lt e)
+    ∙ ap (λ (qs : List seen.Place). (Some (place bytes p).piece, record { places = qs; handed = handed + 1 }))
+    (sym left)
 
 -- ## Copies
 
@@ -122,7 +168,8 @@ places_copied bytes [] (q ∷ qs) e h = absurd e
 places_copied bytes (p ∷ ps) [] e h = absurd e
 places_copied bytes (p ∷ ps) (q ∷ qs) e h =
     let more = places_copied bytes ps qs e.1 (All-tail (HasHeldText bytes) p ps h) in (
-      All-cons (HasHeldText bytes) q qs (rw e.0.0 (All-head (HasHeldText bytes) p ps h))
+      All-cons (HasHeldText bytes) q qs
+          (subst (IsHeldText bytes) (sym e.0.0) (All-head (HasHeldText bytes) p ps h))
           more.0,
       (λ i. e.0.1 bytes i ∷ more.1 i),
     )

@@ -1,5 +1,5 @@
 -- What contracts see of the queue.
-use Rattle.std.specs.Prelude.{map, if◌then◌else◌, List, ◌∷◌, ℕ, Bool, Option, option_map, Result, Ok}
+use Rattle.std.specs.Prelude.{drop, map, if◌then◌else◌, List, ◌∷◌, ℕ, Bool, Option, option_map, Result, Ok}
 use Rattle.saphyr_scalar.specs.declared.scalar.fault.Stop.{Stop}
 use Rattle.saphyr_scanner.specs.declared.queue.held.Held.{Held}
 use Rattle.saphyr_scanner.specs.declared.queue.Queue as declared_queue
@@ -17,9 +17,9 @@ slot_place s = record { opening = s.opening; piece = piece s.token }
 abbrev pub in_slot : Slot → List Place → List Place
 in_slot s ps = if s.is_full then slot_place s ∷ ps else ps
 
--- the places that are held, over their texts
+-- the places that are held, over their texts: those that were handed out are left out
 unfoldable pub held_places : Held → List Place
-held_places h = map (place h.texts.bytes.items) h.places.items
+held_places h = drop h.spent (map (place h.texts.bytes.items) h.places.items)
 
 abbrev pub queue : declared_queue.Queue → Queue
 queue q = record { places = in_slot q.first (in_slot q.second (held_places q.held)); handed = q.handed }

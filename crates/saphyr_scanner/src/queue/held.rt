@@ -1,6 +1,6 @@
 //! The tokens that are held, in their places.
 
-ghost use Rattle.std.specs.Prelude.{◌≡◌, ◌<◌, ◌^◌, ◌+◌, [], ◌∷◌, ◌++◌, length, IfOk, Ok, OnOk};
+ghost use Rattle.std.specs.Prelude.{◌≡◌, ◌<◌, ◌≤◌, ◌^◌, ◌+◌, [], ◌∷◌, ◌++◌, length, IfOk, Ok, OnOk};
 ghost use Rattle.std.specs.List.{All};
 ghost use Rattle.saphyr_scanner.specs.Steps.Queue as spec;
 ghost use Rattle.saphyr_scanner.specs.Views.Places.{HasHeldText, indicator_kind};
@@ -11,15 +11,23 @@ use crate::queue::texts::Texts;
 use crate::token::{Token, TokenType};
 use saphyr_scalar::{Span, Spare, Stop};
 use std::alloc::{AllocError, Global};
-use std::collections::VecDeque;
+
+// How many places that were handed out may stay before others, so that few are moved for each.
+const MOST_SPENT: usize = 64;
 
 /// The tokens that are held, in the order of the text.
+///
+/// A place that is handed out stays where it is, since to move it costs more than to write its token. Its memory is used
+/// again once no token is held, or once most places were handed out.
 #[derive(Drop)]
 pub(super) struct Held {
-    places: VecDeque<Place>,
+    places: Vec<Place>,
+    // How many of the places were handed out.
+    spent: usize,
     // The texts of these tokens, and of some that were handed out.
     texts: Texts,
     ghost have_texts: { All (HasHeldText texts.bytes.items) places.items },
+    ghost within: { spent ≤ length places.items },
 }
 
 impl Held {
@@ -31,7 +39,8 @@ impl Held {
         ensures { held_places result ≡ [] }
     {
         Held {
-            places: VecDeque::new(alloc),
+            places: Vec::new(alloc),
+            spent: 0,
             texts: Texts::new(alloc),
         }
     }
@@ -41,23 +50,36 @@ impl Held {
     pub(super) fn is_empty(&self) -> bool
         ensures { result ≡ spec.is_empty_list (held_places self.now) }
     {
-        self.places.is_empty()
+        self.len() == 0
     }
 
     #[tactic(auto, unfolding(crate::specs::Views::Queue::held_places))]
     pub(super) fn len(&self) -> usize
         ensures { result ≡ length (held_places self.now) }
     {
-        self.places.len()
+        self.places.len() - self.spent
     }
 
-    // Forgets the texts of tokens that were handed out, if no others are held.
-    #[inline(always)]
-    fn clear_texts(&mut self)
+    // Takes off the places that were handed out, where they are most of them.
+    #[inline(never)]
+    fn forget_spent(&mut self)
         ensures { held_places self.new ≡ held_places self.old }
     {
-        if self.places.is_empty() {
+        drop(self.places.drain(..self.spent));
+        self.spent = 0;
+    }
+
+    // Forgets the places that were handed out, and their texts too if no others are held.
+    #[inline(always)]
+    fn clear_spent(&mut self)
+        ensures { held_places self.new ≡ held_places self.old }
+    {
+        if self.is_empty() {
+            self.places.clear();
+            self.spent = 0;
             self.texts.clear();
+        } else if self.spent > MOST_SPENT && self.spent > self.places.len() / 2 {
+            self.forget_spent();
         }
     }
 
@@ -73,10 +95,10 @@ impl Held {
         ensures { OnOk result (held_places self.new ≡ held_places self.old
             ++ spec.bare_place (record { span = span.now; kind = kind_of kind }) ∷ []) }
     {
-        self.clear_texts();
+        self.clear_spent();
         self.places.reserve(1)?;
         let place = Place::new(alloc, span, kind, &mut self.texts, spare)?;
-        self.places.push_back_reserved(place);
+        self.places.push_reserved(place);
         Ok(())
     }
 
@@ -91,10 +113,10 @@ impl Held {
         ensures { OnOk result (held_places self.new ≡ held_places self.old
             ++ spec.bare_place (record { span = span.now; kind = indicator_kind indicator }) ∷ []) }
     {
-        self.clear_texts();
+        self.clear_spent();
         self.places.reserve(1)?;
         let place = Place::of_indicator(alloc, span, indicator)?;
-        self.places.push_back_reserved(place);
+        self.places.push_reserved(place);
         Ok(())
     }
 
@@ -103,7 +125,10 @@ impl Held {
         ensures { held_places self.new
             ≡ spec.places_with_opening nth opening (held_places self.old) }
     {
-        if let Some(place) = self.places.get_mut(nth) {
+        if nth >= self.places.len() - self.spent {
+            return;
+        }
+        if let Some(place) = self.places.get_mut(self.spent + nth) {
             place.open(opening);
         }
     }
@@ -123,10 +148,11 @@ impl Held {
         let Some(count) = handed.checked_add(1) else {
             return Err(Stop::OutOfMemory);
         };
-        let Some(place) = self.places.pop_front() else {
+        let Some(place) = self.places.get_mut(self.spent) else {
             return Ok(false);
         };
         *handed = count;
+        self.spent += 1;
         place.write_into(alloc, &self.texts, token, spare)?;
         Ok(true)
     }
@@ -143,7 +169,7 @@ impl Held {
     ) -> Result<bool, Stop>
         ensures { TakesHeldBy spec.take self.old handed.old result token.new self.new handed.new }
     {
-        let Some(place) = self.places.front() else {
+        let Some(place) = self.places.get(self.spent) else {
             return Ok(false);
         };
         let (kind, left) = match place.opening() {
@@ -163,6 +189,7 @@ impl Held {
     {
         Ok(Held {
             places: self.places.clone()?,
+            spent: self.spent,
             texts: self.texts.try_clone()?,
         })
     }

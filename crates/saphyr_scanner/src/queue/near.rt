@@ -17,6 +17,15 @@ pub(super) struct NearMarker {
 }
 
 impl NearMarker {
+    /// The start of a text.
+    pub(super) fn zero() -> NearMarker {
+        NearMarker {
+            index: 0,
+            line: 0,
+            col: 0,
+        }
+    }
+
     #[inline(always)]
     fn new(mark: Marker) -> Option<NearMarker>
         ensures { IfSome result (λ near. near_marker near ≡ mark) }

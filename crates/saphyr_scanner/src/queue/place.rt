@@ -21,6 +21,7 @@ use crate::token::{Token, TokenType};
 use saphyr_scalar::scalar::TagParts;
 use saphyr_scalar::{Marker, ScalarStyle, Span, Spare};
 use std::alloc::{AllocError, Global};
+use std::mem::replace;
 
 /// The kinds of tokens of collections, which have no text.
 #[derive(Clone, Copy)]
@@ -227,36 +228,52 @@ impl Place {
         }
     }
 
-    /// Writes the token into `token`. Its text is among `texts`.
+    /// Writes the token into `token`. Its text is among `texts`. What is left here is no longer needed, and holds no
+    /// memory.
     #[inline(always)]
     pub(super) fn write_into(
-        self,
+        &mut self,
         alloc: Global,
         texts: &Texts,
         token: &mut Token,
         spare: &mut Spare,
     ) -> Result<(), AllocError>
-        requires { HasHeldText texts.now.bytes.items self }
-        ensures { OnOk result (piece token.new ≡ (place texts.now.bytes.items self).piece) }
+        requires { HasHeldText texts.now.bytes.items self.old }
+        ensures written { OnOk result
+            (piece token.new ≡ (place texts.now.bytes.items self.old).piece) }
+        ensures left { HasHeldText texts.now.bytes.items self.new }
     {
         match self {
             Place::Bare(_, indicator, length, start) => {
-                token.set(start.span(length), indicator.kind());
+                token.set(start.span(*length), indicator.kind());
             }
             Place::Text(_, what, length, start, place) => {
                 let mut text = spare.begin(alloc)?;
-                text.push_str(texts.get(place))?;
-                token.set(start.span(length), what.kind(text));
+                text.push_str(texts.get(*place))?;
+                token.set(start.span(*length), what.kind(text));
             }
-            Place::Tagged(_, length, start, tag) => {
-                token.set(start.span(length), TokenType::Tag(tag));
+            Place::Tagged(_, length, start, _) => {
+                let span = start.span(*length);
+                if let Place::Tagged(_, _, _, tag) = replace(self, Place::spent()) {
+                    token.set(span, TokenType::Tag(tag));
+                }
             }
-            Place::Whole(_, whole) => {
-                let Token { span, kind } = Box::into_inner(whole);
-                token.set(span, kind);
+            Place::Whole(..) => {
+                if let Place::Whole(_, whole) = replace(self, Place::spent()) {
+                    let Token { span, kind } = Box::into_inner(whole);
+                    token.set(span, kind);
+                }
             }
         }
         Ok(())
+    }
+
+    // What is left of a place whose token was moved out.
+    #[inline(always)]
+    fn spent() -> Place
+        ensures { text_place result ≡ record { start = 0; count = 0 } }
+    {
+        Place::Bare(Opening::Nothing, Indicator::Entry, 0, NearMarker::zero())
     }
 }
 
