@@ -112,6 +112,22 @@ impl<T: Input> Scanner<T> {
         self.engine.give_back(text);
     }
 
+    /// Takes the name of an anchor that is no longer needed. The next one may use its memory.
+    #[inline(always)]
+    pub fn give_back_name(&mut self, name: String)
+        ensures { self.new ≡ self.old }
+    {
+        self.engine.give_back_name(name);
+    }
+
+    /// Takes a tag's token that is no longer needed. The next one may use its memory.
+    #[inline(always)]
+    pub fn give_back_box(&mut self, tag: Box<TagParts>)
+        ensures { self.new ≡ self.old }
+    {
+        self.engine.give_back_box(tag);
+    }
+
     /// Takes the texts of a tag that is no longer needed. The next one may use their memory.
     pub fn give_back_tag(&mut self, tag: TagParts)
         ensures { self.new ≡ self.old }

@@ -31,8 +31,8 @@ impl CharSet for AnchorSet {
 impl<T: Input> Reader<T> {
     ghost use Rattle.saphyr_scalar.specs.Views.Reader.{cursor_of, ReadsTextBy};
 
-    // An empty text for the name that begins here. An anchor's name is kept, so it begins in memory of its own, of
-    // which it needs less.
+    // An empty text for the name that begins here. The memory of an anchor's name is given back before that of the
+    // scalar after it, so the two have memory of their own.
     fn begin_name(&mut self, alloc: Global) -> Result<String, AllocError>
         ensures same { cursor_of self.new ≡ cursor_of self.old }
         ensures empty { IfOk result (λ name. string_bytes name ≡ []) }
@@ -40,7 +40,7 @@ impl<T: Input> Reader<T> {
         if self.look() == '*' {
             return self.spare.begin(alloc);
         }
-        Ok(String::new(alloc))
+        self.spare.begin_name(alloc)
     }
 
     /// Takes off an anchor or an alias (YAML 1.2.2, 6.9.2 and 7.1), from its `&` or `*` on, and

@@ -4,6 +4,7 @@ ghost use Rattle.std.specs.Prelude.{◌≡◌, [], IfOk, string_bytes};
 
 use crate::scalar::tag::TagParts;
 use std::alloc::{AllocError, Global};
+use std::mem::replace;
 
 /// How many bytes a scalar's text has room for at first. Most scalars need no more, and a smaller
 /// piece of memory costs as much.
@@ -24,6 +25,10 @@ pub struct Spare {
     // For the two texts of a tag.
     handle: Option<String>,
     suffix: Option<String>,
+    // For the name of an anchor.
+    name: Option<String>,
+    // For the token of a tag. Its texts are of no use.
+    tag: Option<Box<TagParts>>,
 }
 
 // Whether the memory of a text is kept: it has not little room, and not very much.
@@ -52,6 +57,8 @@ impl Spare {
             text: None,
             handle: None,
             suffix: None,
+            name: None,
+            tag: None,
         }
     }
 
@@ -71,6 +78,34 @@ impl Spare {
         }
         if is_kept(&suffix) {
             self.suffix = Some(suffix);
+        }
+    }
+
+    /// Keeps the memory of an anchor's name for the next one in the same way.
+    #[inline(always)]
+    pub fn keep_name(&mut self, name: String) {
+        if is_kept(&name) {
+            self.name = Some(name);
+        }
+    }
+
+    /// Keeps the memory of a tag's token for the next one.
+    #[inline(always)]
+    pub fn keep_box(&mut self, tag: Box<TagParts>) {
+        self.tag = Some(tag);
+    }
+
+    /// A token's tag, in the memory that is kept or in new memory.
+    #[inline(always)]
+    pub fn boxed(&mut self, alloc: Global, tag: TagParts) -> Result<Box<TagParts>, AllocError>
+        ensures { IfOk result (λ token. token.value ≡ tag) }
+    {
+        match self.tag.take() {
+            Some(mut token) => {
+                drop(replace(&mut *token, tag));
+                Ok(token)
+            }
+            None => Ok(Box::new(alloc, tag)?),
         }
     }
 
@@ -102,5 +137,13 @@ impl Spare {
         ensures { IfOk result (λ text. string_bytes text ≡ []) }
     {
         begin_in(&mut self.suffix, alloc, FIRST_ROOM)
+    }
+
+    // The same for the name of an anchor.
+    #[inline(always)]
+    pub(super) fn begin_name(&mut self, alloc: Global) -> Result<String, AllocError>
+        ensures { IfOk result (λ text. string_bytes text ≡ []) }
+    {
+        begin_in(&mut self.name, alloc, FIRST_ROOM)
     }
 }

@@ -474,6 +474,22 @@ impl<T: Input> Engine<T> {
         self.reader.spare.keep(text);
     }
 
+    /// Keeps the memory of an anchor's name for the next one.
+    #[inline(always)]
+    pub(crate) fn give_back_name(&mut self, name: String)
+        ensures { state self.new ≡ state self.old }
+    {
+        self.reader.spare.keep_name(name);
+    }
+
+    /// Keeps the memory of a tag's token for the next one.
+    #[inline(always)]
+    pub(crate) fn give_back_box(&mut self, tag: Box<TagParts>)
+        ensures { state self.new ≡ state self.old }
+    {
+        self.reader.spare.keep_box(tag);
+    }
+
     /// Keeps the memory of the texts of a tag for the next one.
     pub(crate) fn give_back_tag(&mut self, tag: TagParts)
         ensures { state self.new ≡ state self.old }

@@ -55,7 +55,7 @@ impl<T: Input> Engine<T> {
         let start = self.reader.mark();
         let in_flow = !self.in_block();
         let tag = self.reader.read_tag(self.alloc, in_flow)?;
-        let tag = Box::new(self.alloc, tag)?;
+        let tag = self.reader.spare.boxed(self.alloc, tag)?;
         self.put_from(start, TokenType::Tag(tag))?;
         Ok(())
     }
