@@ -1,4 +1,5 @@
 pub mod Given
+pub mod RecentNames
 pub mod Names
 pub mod Stacks
 pub mod Passing

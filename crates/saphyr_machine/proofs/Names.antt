@@ -3,9 +3,9 @@ use Rattle.std.proofs.Common.{◌≡◌, arith, ℕ, length, List, [], ◌∷◌
 use Rattle.std.specs.Prelude.{map, String, string_bytes, string_cmp, option_map, is_some}
 use Rattle.std.specs.BTreeMap.{BTreeMap, get_by, insert_entry, is_at}
 use Rattle.std.specs.BTreeSet.{BTreeSet, contains_by, insert_key}
-use Rattle.std.specs.List.{AllZip, list_any}
+use Rattle.std.specs.List.{list_any}
 use Rattle.std.specs.Cmp.Lexicographic.{slice_cmp, pointwise}
-use Rattle.std.proofs.lemmas.List.{take_more}
+use Rattle.std.proofs.lemmas.List.{map-append, take_more}
 use Rattle.std.proofs.lemmas.List.Sums.{fold-append}
 use Rattle.std.proofs.lemmas.Map.Lookups.{exact_bytes}
 use Rattle.std.proofs.lemmas.Map.Text.{is_eq-slice_cmp}
@@ -15,6 +15,8 @@ use Rattle.std.specs.declared.cmp.Ordering.{Ordering}
 use Rattle.std.specs.declared.cmp.Ordering.TheVariants.{Less, Equal, Greater}
 use Rattle.saphyr_scalar.specs.declared.scalar.fault.Refusal.{Refusal}
 use Rattle.saphyr_machine.specs.Steps.Machine.{Names, Anchors, meaning, with_meaning, is_listed, with_name, next_id, with_anchor}
+use Rattle.saphyr_machine.specs.declared.recent.Name.{Name}
+use Rattle.saphyr_machine.specs.RecentNames.{text_of, with_id}
 use Rattle.saphyr_machine.specs.Names.{ids_of, with_recent, texts_of, names_of}
 
 abbrev pub seen : {A X Z : Type 0} → (X → Z) → List (String A × X) → Names Z
@@ -97,42 +99,41 @@ meaning_with {Z} name given z (e ∷ es) = by (slice_cmp nat_cmp given e.0) refl
         ap (λ (m : Option Z). cond (is_at (slice_cmp nat_cmp name) e.0) (Some e.1) m) later
         ∙ swapped (slice_cmp nat_cmp name given) (slice_cmp nat_cmp name e.0) refl refl p (meaning name es)
 
--- what a name means after one more recent name, which is compared by its bytes
-pub one_more : {A : Type 0} (name : List ℕ) (names : Names ℕ) (recent : List (String A × ℕ)) (n : ℕ)
-    (e : String A × ℕ) (same : Bool) → n < length recent → e ≡ get_or recent n e
-    → same ≡ pointwise nat_eq name (string_bytes e.0) → meaning name (with_recent (take (n + 1) recent) names)
-    ≡ cond same (Some e.1) (meaning name (with_recent (take n recent) names))
-one_more {A} name names recent n e same h is c =
-    ap (λ (es : List (String A × ℕ)). meaning name (with_recent es names))
-    (take_more recent n e h ∙ ap (λ (x : String A × ℕ). take n recent ++ x ∷ []) (sym is))
-    ∙ ap (λ (ns : Names ℕ). meaning name ns) (fold-append _ names (take n recent) (e ∷ []))
-    ∙ meaning_with name (string_bytes e.0) e.1 (with_recent (take n recent) names)
-    ∙ ap (λ (b : Bool). cond b (Some e.1) (meaning name (with_recent (take n recent) names)))
-    (is_eq-slice_cmp name (string_bytes e.0) ∙ sym c)
+-- one more of the names that wait
+pub next_given : (bytes : List ℕ) (ns : List Name) (n : ℕ) (x : Name) (names : Names ℕ)
+    → n < length ns → x ≡ get_or ns n x
+    → with_recent (map (with_id bytes) (take (n + 1) ns)) names
+    ≡ with_meaning (text_of bytes x) x.id (with_recent (map (with_id bytes) (take n ns)) names)
+next_given bytes ns n x names h is =
+    ap (λ (xs : List Name). with_recent (map (with_id bytes) xs) names)
+    (take_more ns n x h ∙ ap (λ (y : Name). take n ns ++ y ∷ []) (sym is))
+    ∙ ap (λ (es : List (List ℕ × ℕ)). with_recent es names) (map-append (with_id bytes) (take n ns) (x ∷ []))
+    ∙ fold-append _ names (map (with_id bytes) (take n ns)) (with_id bytes x ∷ [])
+
+-- what a name means after one more of them, which is compared by its bytes
+pub one_more : (name bytes : List ℕ) (ns : List Name) (n : ℕ) (x : Name) (names : Names ℕ) (same : Bool)
+    → n < length ns → x ≡ get_or ns n x → same ≡ pointwise nat_eq name (text_of bytes x)
+    → meaning name (with_recent (map (with_id bytes) (take (n + 1) ns)) names)
+    ≡ cond same (Some x.id) (meaning name (with_recent (map (with_id bytes) (take n ns)) names))
+one_more name bytes ns n x names same h is c =
+    let before : Names ℕ = with_recent (map (with_id bytes) (take n ns)) names in
+    ap (λ (ms : Names ℕ). meaning name ms) (next_given bytes ns n x names h is)
+    ∙ meaning_with name (text_of bytes x) x.id before
+    ∙ ap (λ (b : Bool). cond b (Some x.id) (meaning name before))
+    (is_eq-slice_cmp name (text_of bytes x) ∙ sym c)
 
 -- a name that is noted behind the recent ones has its id
-pub registered : {A : Type 0} (a : Anchors) (es fs : List (String A × ℕ)) (ids : Names ℕ) (id : ℕ) (name : String A)
-    → with_recent es ids ≡ a.ids → id ≡ next_id a → fs ≡ es ++ ((name, id) ∷ [])
-    → (let r : Result (ℕ × Anchors) Refusal = Ok (next_id a, with_anchor (string_bytes name) a) in r)
+pub registered : (a : Anchors) (es fs : List (List ℕ × ℕ)) (ids : Names ℕ) (id : ℕ) (bytes : List ℕ)
+    → with_recent es ids ≡ a.ids → id ≡ next_id a → fs ≡ es ++ ((bytes, id) ∷ [])
+    → (let r : Result (ℕ × Anchors) Refusal = Ok (next_id a, with_anchor bytes a) in r)
     ≡ Ok (id, record { ids = with_recent fs ids; last = id })
-registered {A} a es fs ids id name before next more =
-    let bytes : List ℕ = string_bytes name in
+registered a es fs ids id bytes before next more =
     let names : with_meaning bytes (next_id a) a.ids ≡ with_recent fs ids =
     ap (λ (n : ℕ). with_meaning bytes n a.ids) (sym next)
     ∙ ap (λ (ns : Names ℕ). with_meaning bytes id ns) (sym before)
-    ∙ sym (fold-append _ ids es ((name, id) ∷ []))
-    ∙ ap (λ (xs : List (String A × ℕ)). with_recent xs ids) (sym more) in
+    ∙ sym (fold-append _ ids es ((bytes, id) ∷ []))
+    ∙ ap (λ (xs : List (List ℕ × ℕ)). with_recent xs ids) (sym more) in
     λ i. Ok (sym next i, record { ids = names i; last = sym next i })
-
-pub recent_copied : {A : Type 0} (names : Names ℕ) (es fs : List (String A × ℕ))
-    → AllZip (λ (p q : String A × ℕ). (string_bytes q.0 ≡ string_bytes p.0) × (q.1 ≡ p.1)) es fs
-    → with_recent fs names ≡ with_recent es names
-recent_copied names [] [] e = refl
-recent_copied names [] (y ∷ ys) e = absurd e
-recent_copied names (x ∷ xs) [] e = absurd e
-recent_copied names (x ∷ xs) (y ∷ ys) e =
-    recent_copied (with_meaning (string_bytes y.0) y.1 names) xs ys e.1
-    ∙ λ i. with_recent xs (with_meaning (e.0.0 i) (e.0.1 i) names)
 
 -- ## Maps to texts
 

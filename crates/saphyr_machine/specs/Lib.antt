@@ -1,4 +1,5 @@
 pub mod Events
+pub mod RecentNames
 pub mod Names
 pub mod Views
 pub mod Steps

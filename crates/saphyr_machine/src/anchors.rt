@@ -1,16 +1,14 @@
 //! The ids of anchors, and which of them an alias means (YAML 1.2.2, 3.2.2.2, 6.9.2 and 7.1).
 
-ghost use Rattle.std.specs.Prelude.{◌≡◌, ℕ, Ok, string_bytes};
-ghost use Rattle.std.specs.Option.{option_or};
+ghost use Rattle.std.specs.Prelude.{◌≡◌, ℕ, Ok};
 ghost use Rattle.saphyr_scalar.specs.Views.Reader.{Moves};
-ghost use Rattle.saphyr_machine.specs.Names.{ids_of, with_recent};
 ghost use Rattle.saphyr_machine.specs.Steps.Machine as spec;
 
+use crate::recent::Recent;
 use saphyr_scalar::Stop;
 use std::alloc::{AllocError, Global};
 use std::collections::BTreeMap;
 use std::marker::Model;
-use std::mem::replace;
 
 /// How many recent anchors an alias may look through one by one. The map is faster for more.
 const MOST_RECENT: usize = 8;
@@ -24,43 +22,17 @@ pub struct Anchors {
     ids: BTreeMap<String, usize>,
     // The names that were given ids since, with these, the latest last. Most anchors have no alias, and to put a name
     // into the map costs most of what it costs to read an anchor. So that waits for an alias.
-    recent: Vec<(String, usize)>,
+    recent: Recent,
     last: usize,
 }
 
 impl Model for Anchors {
     ghost use Rattle.saphyr_machine.specs.Steps.Machine.{Anchors as Seen};
-    ghost use Rattle.saphyr_machine.specs.Names.{ids_of, with_recent};
+    ghost use Rattle.saphyr_machine.specs.Names.{ids_of, recent_names, with_recent};
 
     ghost Value = { Seen };
 
-    ghost view = { λ a. record { ids = with_recent a.recent.items (ids_of a.ids); last = a.last } };
-}
-
-// Gives the ids to the names, in their order.
-fn put_all(ids: &mut BTreeMap<String, usize>, recent: Vec<(String, usize)>) -> Result<(), Stop>
-    ensures { Moves (λ _. ids_of ids.new) result (Ok (with_recent recent.items (ids_of ids.old))) }
-{
-    for (name, id) in recent {
-        ids.insert(name, id)?;
-    }
-    Ok(())
-}
-
-// The id that the name was given last, if it is among these names. An alias often means the anchor right before it.
-fn latest_id(recent: &[(String, usize)], name: &str) -> Option<usize>
-    ensures { (names : spec.Names ℕ) → spec.meaning name.now (with_recent recent.now names)
-        ≡ option_or result (spec.meaning name.now names) }
-{
-    let mut left = recent.len();
-    while left > 0 {
-        left -= 1;
-        let (other, id) = &recent[left];
-        if name == other.as_str() {
-            return Some(*id);
-        }
-    }
-    None
+    ghost view = { λ a. record { ids = with_recent (recent_names a.recent) (ids_of a.ids); last = a.last } };
 }
 
 impl Anchors {
@@ -72,7 +44,7 @@ impl Anchors {
     {
         Anchors {
             ids: BTreeMap::new(alloc),
-            recent: Vec::new(alloc),
+            recent: Recent::new(alloc),
             last: 0,
         }
     }
@@ -86,12 +58,12 @@ impl Anchors {
     }
 
     /// Gives the next id to the name, which may already have one.
-    pub fn register(&mut self, name: String) -> Result<usize, Stop>
+    pub fn register(&mut self, name: &str) -> Result<usize, Stop>
         ensures { Moves {Y = ℕ × spec.Anchors} (λ id. (id, self.new)) result
-            (Ok (spec.next_id self.old, spec.with_anchor (string_bytes name) self.old)) }
+            (Ok (spec.next_id self.old, spec.with_anchor name.now self.old)) }
     {
         let id = self.last.saturating_add(1);
-        self.recent.push((name, id))?;
+        self.recent.push(name, id)?;
         self.last = id;
         Ok(id)
     }
@@ -103,16 +75,15 @@ impl Anchors {
         if self.recent.len() <= MOST_RECENT {
             return Ok(());
         }
-        let none = Vec::new(*self.recent.allocator());
-        let recent = replace(&mut self.recent, none);
-        put_all(&mut self.ids, recent)
+        self.recent.move_into(&mut self.ids)?;
+        Ok(())
     }
 
     /// The id that the name has.
     pub fn id_of(&self, name: &str) -> Option<usize>
         ensures { result ≡ spec.meaning name.now self.now.ids }
     {
-        match latest_id(&self.recent, name) {
+        match self.recent.latest_id(name) {
             Some(id) => Some(id),
             None => self.ids.get(name).copied(),
         }
@@ -124,7 +95,7 @@ impl Anchors {
     {
         Ok(Anchors {
             ids: self.ids.clone()?,
-            recent: self.recent.clone()?,
+            recent: self.recent.try_clone()?,
             last: self.last,
         })
     }

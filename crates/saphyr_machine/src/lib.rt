@@ -19,6 +19,7 @@ mod prefixes;
 mod progress;
 mod reader;
 mod receiver;
+mod recent;
 mod state;
 mod step;
 mod tag;

@@ -14,6 +14,7 @@ use saphyr_scalar::scalar::TagParts;
 use saphyr_scalar::{FaultText, Marker, ScalarStyle, Span, Stop};
 use saphyr_scanner::{Token, TokenType};
 use std::borrow::CowStr;
+use std::mem::replace;
 
 // What comes before the content of a node.
 #[derive(Drop)]
@@ -48,9 +49,12 @@ impl Properties {
 }
 
 impl<T: Input> Machine<T> {
+    ghost use Rattle.std.specs.Prelude.{ℕ, Ok};
+    ghost use Rattle.saphyr_scalar.specs.Views.Reader.{Moves};
     ghost use Rattle.saphyr_scanner.specs.Views.Tokens.{piece};
     ghost use Rattle.saphyr_machine.specs.Views.Machines.{machine_of, told_event_of, TellsBy};
     ghost use Rattle.saphyr_machine.specs.Views.Nodes.{properties as seen};
+    ghost use Rattle.saphyr_machine.specs.Steps.Machine.{Machine as Seen, next_id};
 
     // Properties without content are those of an empty scalar.
     fn without_content<'input>(
@@ -186,6 +190,33 @@ impl<T: Input> Machine<T> {
         }
     }
 
+    // The parts of a tag, whose token is given back.
+    #[inline(always)]
+    fn unboxed(&mut self, mut tag: Box<TagParts>) -> TagParts
+        ensures parts { result ≡ tag.value }
+        ensures same { machine_of self.new ≡ machine_of self.old }
+    {
+        let handle = String::new(self.alloc);
+        let suffix = String::new(self.alloc);
+        let parts = replace(&mut *tag, TagParts { handle, suffix });
+        self.scanner.give_back_box(tag);
+        parts
+    }
+
+    // The next id for an anchor's name, which is given back.
+    #[inline(always)]
+    fn id_for(&mut self, name: String) -> Result<usize, Stop>
+        ensures { Moves {Y = ℕ × Seen} (λ id. (id, machine_of self.new)) result
+            (Ok (
+              next_id (machine_of self.old).anchors,
+              spec.register (string_bytes name) (machine_of self.old),
+            )) }
+    {
+        let id = self.anchors.register(name.as_str())?;
+        self.scanner.give_back_name(name);
+        Ok(id)
+    }
+
     #[tactic(auto, unfolding(crate::specs::Steps::Nodes::alias_node))]
     fn alias<'input>(
         &mut self,
@@ -220,11 +251,12 @@ impl<T: Input> Machine<T> {
         ensures { TellsBy (spec.node_behind_anchor (string_bytes name) anchor context)
             self.old result next.new self.new }
     {
-        let id = self.anchors.register(name)?;
+        let id = self.id_for(name)?;
         let Token { span, kind } = self.take()?;
         match kind {
             TokenType::Tag(tag) => {
-                let tag = self.resolve(Box::into_inner(tag), anchor.start)?;
+                let tag = self.unboxed(tag);
+                let tag = self.resolve(tag, anchor.start)?;
                 let properties = Properties {
                     start: anchor.start,
                     behind: span.end,
@@ -267,7 +299,7 @@ impl<T: Input> Machine<T> {
             }
         };
         match kind {
-            TokenType::Anchor(name) => match self.anchors.register(name) {
+            TokenType::Anchor(name) => match self.id_for(name) {
                 Ok(anchor) => {
                     let properties = Properties {
                         start: place.start,
@@ -311,7 +343,10 @@ impl<T: Input> Machine<T> {
         match kind {
             TokenType::Alias(name) => self.alias(name, span, next),
             TokenType::Anchor(name) => self.behind_anchor(name, span, context, next),
-            TokenType::Tag(tag) => self.behind_tag(Box::into_inner(tag), span, context, next),
+            TokenType::Tag(tag) => {
+                let tag = self.unboxed(tag);
+                self.behind_tag(tag, span, context, next)
+            }
             kind => {
                 let properties = Properties {
                     start: span.start,

@@ -1,6 +1,6 @@
-use Rattle.std.proofs.Common.{◌∙◌, ℕ, List, String, Global, sym, ap}
+use Rattle.std.proofs.Common.{◌∙◌, sym, ap}
 use Rattle.saphyr_machine.specs.Steps.Machine.{Anchors, meaning}
-use Rattle.saphyr_machine.specs.Names.{ids_of, with_recent}
+use Rattle.saphyr_machine.specs.Names.{ids_of}
 use Rattle.saphyr_machine.proofs.Names.{ids_meaning}
 use Rattle.saphyr_machine.proofs.anchors.Anchors.id_of.Goals as goal
 
@@ -9,5 +9,4 @@ returns-in-None c =
     let name = c.args.name.now in
     let ids = ids_of c.self.inside.ids in
     c.copied.ensures ∙ c.get.ensures.value ∙ ids_meaning c.self.inside.ids name ∙ sym (c.in-None.ensures ids)
-    ∙ ap (λ (es : List (String Global × ℕ)). meaning name (with_recent es ids)) c.deref.ensures.value
     ∙ ap (λ (a : Anchors). meaning name a.ids) c.self.view_is

@@ -1,0 +1,13 @@
+-- What contracts see of a name that waits for an alias.
+use Rattle.std.specs.Prelude.{◌+◌, ◌≤◌, length, slice_range, List, ℕ, IsUtf8}
+use Rattle.saphyr_machine.specs.declared.recent.Name.{Name}
+
+-- its bytes among those of all names
+abbrev pub text_of : List ℕ → Name → List ℕ
+text_of bytes n = slice_range bytes n.start (n.start + n.count)
+
+abbrev pub HasText : List ℕ → Name → Type 0
+HasText bytes n = (n.start + n.count ≤ length bytes) × ∥ IsUtf8 (text_of bytes n) ∥₁
+
+abbrev pub with_id : List ℕ → Name → List ℕ × ℕ
+with_id bytes n = (text_of bytes n, n.id)
