@@ -137,8 +137,8 @@ over_blanks l blank broke tabbed m (c ∷ cs) known =
     (λ e f. let far : l ≤ m.col = known e f in omega (arith, far)))
   where
     by_test : (b : Bool) → is_blank c ≡ b
-        → end_of_gap l (along (along m 1) (prefix_len is_blank cs)) blank broke tabbed (drop (prefix_len is_blank cs) cs)
-        ≡ end_of_gap l (along m 1) blank broke tabbed cs
+        → end_of_gap l (along (along m 1) (prefix_len is_blank cs)) blank broke tabbed
+        (drop (prefix_len is_blank cs) cs) ≡ end_of_gap l (along m 1) blank broke tabbed cs
         → end_of_gap l (along m (prefix_len is_blank (c ∷ cs))) blank broke tabbed
         (drop (prefix_len is_blank (c ∷ cs)) (c ∷ cs)) ≡ end_of_gap l m blank broke tabbed (c ∷ cs)
     by_test true e rest =

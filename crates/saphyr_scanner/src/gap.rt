@@ -39,8 +39,8 @@ fn end_gap<T: Input>(
     Ok(broke)
 }
 
-// Passes blanks, breaks and comments one after the other, as `skip_gap` says. Spaces, comments, and a tab with the blanks
-// after it are each passed in one piece: a tab further right is in the indentation only if the first one is.
+// Passes blanks, breaks and comments one after the other, as `skip_gap` says. Spaces, comments, and a tab with the
+// blanks after it are each passed in one piece: a tab further right is in the indentation only if the first one is.
 #[inline(always)]
 fn skip_gap_characters<T: Input>(reader: &mut Reader<T>, least: usize) -> Result<bool, Refusal>
     ensures { GivesAs spec.seen_gap_end (spec.whole_gap least) reader.old result reader.new }

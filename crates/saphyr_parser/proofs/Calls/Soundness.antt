@@ -126,7 +126,8 @@ sound_gives (Some (Ok e)) old new h s = sound_advances (event_of e) old new h s
 sound_gives (Some (Err f)) old new h s = sound_fails f old new h s
 
 failing_unmoved : (c : Option (Happening × Span)) (k : Option Kept) (m : Machine) (i : Bool) (s : Option Span)
-    (f : Fault) (new : EventCursor) → FailsWith f (cursor_of_parts c k m i s) new → IsUnmoved (cursor_of_parts c k m i s) new
+    (f : Fault) (new : EventCursor) → FailsWith f (cursor_of_parts c k m i s) new
+    → IsUnmoved (cursor_of_parts c k m i s) new
 failing_unmoved (Some next) k m i s f new h = absurd h
 failing_unmoved None (Some kept) m i s f new (fresh, same, left) =
     (ap (λ (c : EventCursor). c.inside) left, ap (λ (c : EventCursor). c.finished) left)

@@ -78,8 +78,8 @@ few_here k s few fits breaks =
     omega (arith, some)
 
 -- less is left after a break and the spaces behind it
-pub break_and_spaces_shorter : (most : ℕ) (here there behind spaced : Cursor) → is_break (slice_index here.rest 0) ≡ true
-    → there ≡ here → behind ≡ pass_break there → spaced ≡ pass_spaces most behind
+pub break_and_spaces_shorter : (most : ℕ) (here there behind spaced : Cursor)
+    → is_break (slice_index here.rest 0) ≡ true → there ≡ here → behind ≡ pass_break there → spaced ≡ pass_spaces most behind
     → length spaced.rest < length here.rest
 break_and_spaces_shorter most here there behind spaced breaks same on spaces =
     at_most_below _ _ _ (spaces_shorter most behind spaced spaces) (break_on_shorter here there behind breaks same on)

@@ -93,7 +93,8 @@ first_word q (d ∷ ds) left text grown c read is ends taken more =
       stops = rw taken ends;
       transfers = record {
         taken = taken;
-        appended = more ∙ ap (λ x. text ++ encode_utf8 x) read ∙ ap (λ xs. text ++ xs) (sym (append-nil (encode_utf8 d)));
+        appended =
+            more ∙ ap (λ x. text ++ encode_utf8 x) read ∙ ap (λ xs. text ++ xs) (sym (append-nil (encode_utf8 d)));
       };
     }
 

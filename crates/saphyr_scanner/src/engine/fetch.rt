@@ -133,8 +133,8 @@ impl<T: Input> Engine<T> {
         column > 0 || !may_begin_mark(c, self.reader.input().peek_nth(1))
     }
 
-    // Goes on to where the next token begins, and puts it into the queue if its first character alone does not tell it. It
-    // is separate for speed.
+    // Goes on to where the next token begins, and puts it into the queue if its first character alone does not tell it.
+    // It is separate for speed.
     #[inline(never)]
     fn arrives(&mut self) -> Ahead
         ensures { Leads result (fetched (state self.old)) self.new }
@@ -151,8 +151,8 @@ impl<T: Input> Engine<T> {
         self.fetches_mark(c)
     }
 
-    // Puts the token that begins here into the queue, if its first character alone does not tell it, with the stop kept, as
-    // `reads_on` does.
+    // Puts the token that begins here into the queue, if its first character alone does not tell it, with the stop kept,
+    // as `reads_on` does.
     #[inline(always)]
     fn fetches_mark(&mut self, c: char) -> Ahead
         requires first { c ≡ slice_index (state self.old).core.cursor.rest 0 }
@@ -366,8 +366,8 @@ impl<T: Input> Engine<T> {
         !self.has_far_key() && !self.needs_token()
     }
 
-    // Reads tokens until the head of the queue can be handed out, unless all were. To be called where the next token must
-    // be read.
+    // Reads tokens until the head of the queue can be handed out, unless all were. To be called where the next token
+    // must be read.
     #[inline(always)]
     fn read_on(&mut self, limit: usize) -> Result<(), Stop>
         requires needed { fetch.needs_token (state self.old) ≡ true }
@@ -452,8 +452,8 @@ impl<T: Input> Engine<T> {
         self.ended && self.is_ready()
     }
 
-    /// Puts a token after all that come, where all tokens of the text were read. `false`: there are others, and the token
-    /// is dropped.
+    /// Puts a token after all that come, where all tokens of the text were read. `false`: there are others, and the
+    /// token is dropped.
     pub(crate) fn give(&mut self, token: Token) -> Result<bool, AllocError>
         ensures { (limit : ℕ) → IfOk result (λ given. GivesLast given (piece token)
             (remaining limit (state self.old)) (remaining limit (state self.new))) }

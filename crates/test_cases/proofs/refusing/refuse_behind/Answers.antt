@@ -10,6 +10,6 @@ returns-then-refused g c = λ between.
     c.refusing-receiver.result c.load-answer.new.recv c.load-answer.new.self)
     (c.is_refused-refused.ensures c.if-refused.true)
     (c.load-answer.ensures.between between.kept between.finished between.inside) in
-    refused_ends c.check_end.result true c.args.parser.now c.load-answer.new.self c.refusing-receiver.result c.load-answer.new.recv
-    c.args.before.now stopped (ap (λ (r : Comparing). r.left) c.refusing-receiver.ensures) c.check_end.ensures.ends
+    refused_ends c.check_end.result true c.args.parser.now c.load-answer.new.self c.refusing-receiver.result
+    c.load-answer.new.recv c.args.before.now stopped (ap (λ (r : Comparing). r.left) c.refusing-receiver.ensures) c.check_end.ensures.ends
     c.check_end.ensures.same

@@ -23,7 +23,8 @@ behind_removed (Err x) q b u e passed = absurd (cc)
 
 rolled_context : (n : ℕ) (c : Core) → (roll n c).level.context ≡ c.level.context
 rolled_context n c =
-    by_test (is_further n c) (enter_block n c) c (λ (d : Core). d.level.context ≡ c.level.context) (λ _. refl) (λ _. refl)
+    by_test (is_further n c) (enter_block n c) c (λ (d : Core). d.level.context ≡ c.level.context) (λ _. refl)
+    (λ _. refl)
 
 -- a key that begins, where its parts give these
 begun : (s a b u : State) (n : ℕ) (x : Context) (allowed : Bool) → n ≡ s.core.cursor.mark.col

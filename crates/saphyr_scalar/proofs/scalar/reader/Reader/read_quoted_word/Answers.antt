@@ -58,7 +58,8 @@ loop-next-smaller g c =
     let here = cursor_of c.read_literal_words.new.self in
     let there = cursor_of c.read_quoted_special.new.self in
     let moved = c.in_ok-next.ensures.moved in
-    let some = gives (spec.special q c.args.start here) _ (Some c.in-Some.c) there c.in_ok-c.ensures.taken c.in-Some.is in
+    let some =
+    gives (spec.special q c.args.start here) _ (Some c.in-Some.c) there c.in_ok-c.ensures.taken c.in-Some.is in
     let less = special_shorter q c.args.start here there c.in-Some.c some in
     omega (arith, less, moved.shorter)
 
@@ -68,7 +69,8 @@ loop-next-preserved g c =
     let here = cursor_of c.read_literal_words.new.self in
     let there = cursor_of c.read_quoted_special.new.self in
     let moved = c.in_ok-next.ensures.moved in
-    let some = gives (spec.special q c.args.start here) _ (Some c.in-Some.c) there c.in_ok-c.ensures.taken c.in-Some.is in
+    let some =
+    gives (spec.special q c.args.start here) _ (Some c.in-Some.c) there c.in_ok-c.ensures.taken c.in-Some.is in
     let less = special_shorter q c.args.start here there c.in-Some.c some in
     record {
       same = λ indent. rw c.in_ok-push.ensures.bytes

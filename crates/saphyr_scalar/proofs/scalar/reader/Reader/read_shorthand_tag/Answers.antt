@@ -7,7 +7,8 @@ use Rattle.saphyr_scalar.proofs.Properties.TagSteps.{moves_unrefused, behind_wor
 use Rattle.saphyr_scalar.proofs.scalar.reader.Reader.read_shorthand_tag.Goals as goal
 
 pub returns-in_err-read_run : goal.returns-in_err-read_run
-returns-in_err-read_run g c = moves_unrefused _ _ _ _ _ c.from_residual-in_err-read_run.ensures.1 c.in_err-read_run.ensures
+returns-in_err-read_run g c =
+    moves_unrefused _ _ _ _ _ c.from_residual-in_err-read_run.ensures.1 c.in_err-read_run.ensures
 
 pub skip_non_blank-requires-then-look-eq33 : goal.skip_non_blank-requires-then-look-eq33
 skip_non_blank-requires-then-look-eq33 g c =
