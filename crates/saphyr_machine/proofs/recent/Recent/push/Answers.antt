@@ -1,5 +1,5 @@
 -- A name is put after the others, and its text after theirs.
-use Rattle.std.proofs.Common.{List, ℕ, ◌∷◌, [], ◌++◌, ap, ◌∙◌}
+use Rattle.std.proofs.Common.{◌∷◌, [], ◌++◌, ap, ◌∙◌}
 use Rattle.std.specs.Prelude.{map}
 use Rattle.std.proofs.lemmas.List.Elements.{All-same}
 use Rattle.saphyr_machine.specs.RecentNames.{HasText, with_id}

@@ -1,5 +1,5 @@
-use Rattle.std.proofs.Common.{arith, refl, ◌≡◌, ◌∙◌, ◌<◌, ◌≤◌, ◌+◌, ℕ, List, sym, ap, length, take}
-use Rattle.std.specs.Prelude.{map, string_bytes}
+use Rattle.std.proofs.Common.{arith, refl, ◌≡◌, ◌∙◌, ◌<◌, ℕ, List, sym, ap, length, take}
+use Rattle.std.specs.Prelude.{map}
 use Rattle.std.proofs.Math.Seq.{take-length}
 use Rattle.saphyr_machine.specs.declared.recent.Name.{Name}
 use Rattle.saphyr_machine.specs.RecentNames.{text_of, with_id}

@@ -1,4 +1,4 @@
-use Rattle.std.proofs.Common.{◌≡◌, ◌≤◌, ◌-◌, ℕ, length, take}
+use Rattle.std.proofs.Common.{◌≡◌, ◌≤◌, ◌-◌, length, take}
 use Rattle.std.specs.Prelude.{map}
 use Rattle.saphyr_machine.specs.RecentNames.{with_id}
 use Rattle.saphyr_machine.specs.Names.{ids_of, with_recent}
