@@ -391,6 +391,17 @@ pub trait Input {
         self.fetch_while::<C>(out)
     }
 
+    /// Moves blanks to the end of `out`, and characters of a set among them, where each run of blanks
+    /// is before some of the set's characters. Returns how many. It may stop at any blank, and may
+    /// move nothing.
+    fn fetch_blank_words<C: SpacedSet>(&mut self, _out: &mut String) -> Result<usize, AllocError>
+        ensures ok { IfOk result (λ n. spec.TransfersBlankWords C.CharSet.test C.lead n
+            (rest self.old) (rest self.new) (string_bytes _out.old) (string_bytes _out.new)) }
+        ensures err { OnErr result (rest self.new ≡ rest self.old) }
+    {
+        Ok(0)
+    }
+
     /// Takes spaces off, but no more than `most`. Returns how many.
     fn skip_spaces(&mut self, most: usize) -> usize
         ensures count { result ≡ spec.spaces_within most (rest self.old) }

@@ -6,8 +6,8 @@ ghost use Rattle.saphyr_input.specs.Places as spec;
 mod text;
 
 use self::text::{
-    ascii_run, begins_with_2, behind, first_byte, is_marker, nth_char, run, run_here, second_char,
-    spaces, split_blanks, split_first, words,
+    ascii_run, begins_with_2, behind, blank_words, first_byte, is_marker, nth_char, run, run_here,
+    second_char, spaces, split_blanks, split_first, words,
 };
 use crate::char_set::{Alpha, Blank, CharSet, NonBreak, NonSpace, SpacedSet};
 use crate::char_traits::{
@@ -310,6 +310,14 @@ impl Input for StrInput<'_> {
     fn fetch_words<C: SpacedSet>(&mut self, out: &mut String) -> Result<usize, AllocError> {
         self.loaded = self.loaded.max(1);
         let (count, rest) = words::<C>(self.rest);
+        self.fetch(count, rest, out)
+    }
+
+    fn fetch_blank_words<C: SpacedSet>(&mut self, out: &mut String) -> Result<usize, AllocError> {
+        let (count, rest) = blank_words::<C>(self.rest);
+        if count == 0 {
+            return Ok(0);
+        }
         self.fetch(count, rest, out)
     }
 

@@ -24,7 +24,7 @@ use Rattle.saphyr_input.proofs.Basics.Booleans.{by_test, either}
 use Rattle.saphyr_scalar.proofs.Given.{together}
 
 -- a character of the set goes on with a word
-set_in_word : (f : Bool) (xs : List ℕ) → in_plain f (slice_index xs 0) ≡ true → is_in_word f xs ≡ true
+pub set_in_word : (f : Bool) (xs : List ℕ) → in_plain f (slice_index xs 0) ≡ true → is_in_word f xs ≡ true
 unfolding is_in_word
 set_in_word f xs h =
     let c = slice_index xs 0 in all (c == 58) (is_blank_or_breakz c) (is_bom c) (f && is_flow c) _ h
@@ -32,19 +32,19 @@ set_in_word f xs h =
     all : (a b d e x : Bool) → (not a && not b && not d && not e) ≡ true → (not b && cond a x (not (d || e))) ≡ true
     all a b d e x h = grind arith
 
-set_content : (f : Bool) (c : ℕ) → in_plain f c ≡ true → IsQuotedInk c
+pub set_content : (f : Bool) (c : ℕ) → in_plain f c ≡ true → IsQuotedInk c
 set_content f c h = content_of c (second (c == 58) (is_blank_or_breakz c) (is_bom c) (f && is_flow c) h)
   where
     second : (a b d e : Bool) → (not a && not b && not d && not e) ≡ true → b ≡ false
     second a b d e h = grind arith
 
--- a word that begins after a space
-record LeadsWord (f : Bool) (cs : List ℕ) : Type 0 where
-  set : in_plain f (slice_index cs 0) ≡ true
-  hash : (slice_index cs 0 == number_sign) ≡ false
-  dash : (slice_index cs 0 == hyphen) ≡ false
+-- a word that begins after a blank
+pub record LeadsWord (f : Bool) (cs : List ℕ) : Type 0 where
+  pub set : in_plain f (slice_index cs 0) ≡ true
+  pub hash : (slice_index cs 0 == number_sign) ≡ false
+  pub dash : (slice_index cs 0 == hyphen) ≡ false
 
-leads : (f : Bool) (cs : List ℕ) → leads_plain f (slice_index cs 0) ≡ true → LeadsWord f cs
+pub leads : (f : Bool) (cs : List ℕ) → leads_plain f (slice_index cs 0) ≡ true → LeadsWord f cs
 leads f cs h =
     let two = both_true (in_plain f (slice_index cs 0) && not (slice_index cs 0 == 35)) (not (slice_index cs 0 == 45))
     h in
@@ -76,7 +76,7 @@ gap_is_space f i a m cs s =
     ap (λ (x : List ℕ × Cursor). gap_from i a x.0 x.1) (space_moved m cs content.blank).is
     ∙ by_test (is_break (slice_index cs 0)) _ _ (λ (r : Found). r ≡ Ok (space_gap m cs)) (λ is. absurd (cc)) (λ _. refl)
 
-abbrev answer : Bool → Cursor → Result (Bool × Cursor) Refusal
+abbrev pub answer : Bool → Cursor → Result (Bool × Cursor) Refusal
 answer b s = Ok (b, s)
 
 no_either : (a b d : Bool) → a ≡ false → b ≡ false → (a || (b && d)) ≡ true → ⊥
@@ -85,21 +85,24 @@ no_either a b d is_a is_b h = grind arith
 no_second : (a b d : Bool) → b ≡ false → (a && b && d) ≡ true → ⊥
 no_second a b d is h = grind arith
 
+pub word_goes : (f : Bool) (i : ℕ) (m : Marker) (cs : List ℕ) → 0 < m.col → LeadsWord f cs
+    → next_word_starts f i (mid_line m cs) ≡ answer true (mid_line m cs)
+unfolding next_word_starts word_starts
+word_goes f i m cs l s =
+    let c = slice_index cs 0 in
+    let column : (m.col == 0) ≡ false = grind (arith, nat_tests) in
+    by_test ((c == 35) || ((m.col == 0) && is_document_indicator cs)) _ _ (λ r. r ≡ answer true (mid_line m cs))
+    (λ h. absurd (no_either _ _ _ s.hash column h))
+    (λ _. by_test (f && (c == 45) && is_flow (slice_index cs 1)) _ _ (λ r. r ≡ answer true (mid_line m cs))
+    (λ h. absurd (no_second f _ _ s.dash h))
+    (λ _. ap (λ b. answer b (mid_line m cs)) (set_in_word f cs s.set)))
+
 space_goes : (f : Bool) (i : ℕ) (m : Marker) (cs : List ℕ) → LeadsWord f cs
     → next_word_starts f i (mid_line (along m 1) cs) ≡ answer true (mid_line (along m 1) cs)
-unfolding next_word_starts word_starts
-space_goes f i m cs s =
-    let c = slice_index cs 0 in
-    let column : (m.col + 1 == 0) ≡ false = grind (arith, nat_tests) in
-    by_test ((c == 35) || ((m.col + 1 == 0) && is_document_indicator cs)) _ _
-    (λ r. r ≡ answer true (mid_line (along m 1) cs))
-    (λ h. absurd (no_either _ _ _ s.hash column h))
-    (λ _. by_test (f && (c == 45) && is_flow (slice_index cs 1)) _ _ (λ r. r ≡ answer true (mid_line (along m 1) cs))
-    (λ h. absurd (no_second f _ _ s.dash h))
-    (λ _. ap (λ b. answer b (mid_line (along m 1) cs)) (set_in_word f cs s.set)))
+space_goes f i m cs s = word_goes f i (along m 1) cs (omega arith) s
 
 -- a character is passed
-abbrev PassesCharacter : Bool → ℕ → Marker → Marker → ℕ → List ℕ → Type 0
+abbrev pub PassesCharacter : Bool → ℕ → Marker → Marker → ℕ → List ℕ → Type 0
 PassesCharacter f i a m c cs = word f i a m (c ∷ cs) ≡ with_text (encode_utf8 c) (word f i a (along m 1) cs)
 
 space_ends : (f : Bool) (cs : List ℕ) → is_in_word f (32 ∷ cs) ≡ false
@@ -118,7 +121,7 @@ word_passed f i a m c cs h =
     let space : c ≡ 32 = grind (arith, nat_tests) in
     rw space (space_passed f i a m cs (leads f cs (both_true (c == 32) (leads_plain f (slice_index cs 0)) is).1)))
 
-piece_on : (f : Bool) (i : ℕ) (a m : Marker) (c : ℕ) (cs : List ℕ) (n : ℕ) → PassesCharacter f i a m c cs
+pub piece_on : (f : Bool) (i : ℕ) (a m : Marker) (c : ℕ) (cs : List ℕ) (n : ℕ) → PassesCharacter f i a m c cs
     → WordPart f i a (along m 1) cs n → WordPart f i a m (c ∷ cs) (suc n)
 piece_on f i a m c cs n h r =
     cc (text_twice (encode_utf8 c) (encode_utf8_all (take n cs)) _, along_more m 1 n (suc n) (omega arith))
@@ -220,6 +223,7 @@ words_done f text grown s t n c b m turn is moved =
       on_line = refl;
       stops = sym turn.goes ∙ is;
       shorter = λ goes. some n r.left r.total goes;
+      within = omega (arith, r.total);
     }
   where
     some : (k : ℕ) → t.rest ≡ drop k s.rest → k + length t.rest ≡ length s.rest → is_in_word f s.rest ≡ true

@@ -23,6 +23,7 @@ none_moved f text s ends line = record {
   on_line = line;
   stops = ends;
   shorter = λ goes. absurd (cc);
+  within = omega arith;
 }
 
 pub still_moved : (f : Bool) (i : ℕ) (a : Marker) (text : List ℕ) (s : Cursor) (g : PlainGap)

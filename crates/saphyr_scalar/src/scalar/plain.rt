@@ -81,7 +81,7 @@ impl<T: Input> Reader<T> {
                 return Ok(PlainScalar { text, end, comment });
             }
             push_gap(&mut text, self.blank_so_far, gap.as_str())?;
-            self.read_plain_words(in_flow, &mut text)?;
+            self.read_words_behind(in_flow, gap.as_str(), &mut text)?;
         }
     }
 

@@ -65,7 +65,7 @@ loop-gap-smaller g c =
     let end = gap_end i start here gap c.in_ok-tabbed.ensures in
     let same : length there.rest ≡ length behind.rest =
     ap (λ (x : Cursor). length x.rest) (goes_says f i true behind there goes).same in
-    let less = c.in_ok-read_plain_words.ensures.shorter (turn_goes f i gap there goes) in
+    let less = c.in_ok-read_words_behind.ensures.shorter (turn_goes f i gap there goes) in
     omega (arith, end.count, same, less)
 
 pub loop-gap-preserved : goal.loop-gap-preserved
@@ -83,7 +83,7 @@ loop-gap-preserved g c =
     let goes = started (spec.next_word_starts f i) behind there _ _ c.if-not-branch.false
     c.in_ok-next_plain_word_starts.ensures in
     let joined = joined_by f i behind there text _ _ _ goes c.in_ok-push_gap.ensures c.as_str.ensures.value in
-    let words = c.in_ok-read_plain_words.ensures in
+    let words = c.in_ok-read_words_behind.ensures in
     record {
       same = words.same i start ∙ turn f i start text text _ here here gap there moved goes joined ∙ inv.same;
       ended = words.stops;
