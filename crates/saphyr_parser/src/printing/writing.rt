@@ -148,8 +148,8 @@ fn letter_of(byte: u8) -> Option<u8>
     }
 }
 
-// Puts the escapes of the first bytes into the room. Returns of how many bytes, and how many places they fill. The
-// first byte may be one that isn't escaped.
+// Puts the escapes of the first bytes into the room, with up to 8 bytes behind each that aren't escaped. Returns of
+// how many bytes, and how many places they fill. The first byte may be one that isn't escaped.
 fn gather_escapes(text: &[u8], room: &mut [u8; 64]) -> (usize, usize)
     ensures within { result.0 ≤ length text.now }
     ensures some { 0 < length text.now → 0 < result.0 }
@@ -158,12 +158,15 @@ fn gather_escapes(text: &[u8], room: &mut [u8; 64]) -> (usize, usize)
 {
     let mut read = 0;
     let mut filled = 0;
-    while read < text.len() && filled < 63 {
+    let mut last = 0;
+    let most = text.len().min(32);
+    while read < most {
         if let Some(letter) = letter_of(text[read]) {
             room[filled] = b'\\';
             room[filled + 1] = letter;
             filled += 2;
-        } else if filled == 0 {
+            last = read;
+        } else if read - last < 8 {
             room[filled] = text[read];
             filled += 1;
         } else {
@@ -200,7 +203,7 @@ fn write_gathered<W: Write>(out: &mut W, text: &[u8]) -> Result<usize, Unwritten
     Ok(read)
 }
 
-// Writes a scalar's text. A run without escapes is written in one piece, and so are adjacent escapes.
+// Writes a scalar's text. A run without escapes is written in one piece, and so are escapes with few bytes between.
 #[tactic(auto, using(crate::proofs::Printed::Escapes::plain_written, crate::proofs::Printed::Escapes::plain_lost))]
 pub(super) fn write_escaped<W: Write>(out: &mut W, text: &[u8]) -> Result<(), Unwritten>
     ensures { Takes result (W.contents out.old) (W.contents out.new) (printed_bytes text.now) }
@@ -212,7 +215,8 @@ pub(super) fn write_escaped<W: Write>(out: &mut W, text: &[u8]) -> Result<(), Un
         let Some((byte, behind)) = others.split_first() else {
             return Ok(());
         };
-        if behind.is_empty() || !is_escaped(behind[0]) {
+        // After a short run the next one is mostly short too.
+        if behind.is_empty() || plain.len() >= 8 && !is_escaped(behind[0]) {
             write_escape(out, *byte)?;
             rest = behind;
         } else {
