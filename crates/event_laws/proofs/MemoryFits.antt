@@ -4,17 +4,17 @@ use Rattle.std.specs.Prelude.{if◌then◌else◌}
 use Rattle.std.specs.Option.{option_or}
 use Rattle.std.specs.Str.{bytes_eq}
 use Rattle.std.proofs.lemmas.Slice.Eq.{bytes_eq-Decides}
-use Rattle.saphyr_scanner.specs.Grammar.Forest.{Handle, handle_bytes, Tag, NonSpecific, Verbatim, Shorthand, Properties, Directive, Version, TagPrefix, Reserved, GoesWithAll, AreCompatible}
+use Rattle.saphyr_scanner.specs.Grammar.Forest.{Handle, handle_bytes, Tag, Properties, Directive, Version, TagPrefix, Reserved, GoesWithAll, AreCompatible}
 use Rattle.event_laws.specs.Preorder.{Part, OpenStream, CloseStream, OpenDocument, CloseDocument, Reference, Leaf, OpenSequence, CloseSequence, OpenMapping, CloseMapping, opens_document}
 use Rattle.saphyr_machine.specs.Events.{Happening, ResolvedTag, Scalar, SequenceStart, MappingStart}
 use Rattle.event_laws.specs.Anchors.{anchor_of, one_more_anchor, anchors, is_named, latest_id}
 use Rattle.event_laws.specs.Anchors as part
-use Rattle.event_laws.specs.TagResolution.{prefix_in, prefix_declared_for, default_prefix}
+use Rattle.event_laws.specs.TagResolution.{prefix_in, prefix_declared_for}
 use Rattle.event_laws.specs.TagResolution as tag
 use Rattle.event_laws.specs.ForestEvents.{event_of_part, events_behind}
 use Rattle.saphyr_machine.specs.Steps.Machine.{Names, meaning, with_meaning, next_id}
 use Rattle.event_laws.proofs.Told.Telling.{Memory}
-use Rattle.event_laws.proofs.Remembering.{noted, declaring, after, own_id_in, resolve, resolve_any, with_properties, event_in, events_in}
+use Rattle.event_laws.proofs.Remembering.{noted, declaring, after, own_id_in, resolve_any, with_properties, event_in, events_in}
 use Rattle.event_laws.proofs.NameLaws.{different, given_meaning}
 
 -- inside a document
@@ -68,11 +68,6 @@ own_same : (e : Memory) (front : List Part) (anchor : Option (List ℕ)) (more :
 own_same e front anchor more h l = grind arith
 
 -- ## Tags
-
-resolve_same : (keep : Bool) (front : List Part) (names : Names (List ℕ)) (g : Tag)
-    → ((handle : Handle) → meaning (handle_bytes handle) names ≡ prefix_declared_for keep handle front)
-    → resolve names g ≡ tag.resolution keep g front
-resolve_same keep front names g h = grind arith
 
 resolve_any_same : (keep : Bool) (front : List Part) (names : Names (List ℕ)) (g : Option Tag)
     → ((handle : Handle) → meaning (handle_bytes handle) names ≡ prefix_declared_for keep handle front)

@@ -2,7 +2,7 @@
 use Rattle.std.proofs.Common.{◌≡◌, ◌≢◌, ℕ, List, [], ◌∷◌, ◌++◌, Option, Some, None, option_map, refl, ap, ◌∙◌, ◌⊎◌, inl, inr, append_assoc}
 use lib.Utf8.{encode}
 use Rattle.saphyr_scalar.specs.declared.scalar.position.Span.{Span}
-use Rattle.saphyr_scanner.specs.Grammar.Forest.{Tag, NonSpecific, Verbatim, Shorthand, HasOne, HasProperty, Properties, Node, Nodes, NoNode, MoreNodes}
+use Rattle.saphyr_scanner.specs.Grammar.Forest.{Tag, NonSpecific, HasOne, HasProperty, Properties, Node, Nodes, NoNode, MoreNodes}
 use Rattle.saphyr_scanner.specs.Grammar.Forest as forest
 use Rattle.saphyr_scanner.specs.Grammar.Tokens as tokens
 use Rattle.saphyr_scanner.specs.Grammar.Tokens.{Kind, alias_token, anchor_token, tag_token, scalar_token}

@@ -99,10 +99,8 @@ impl<T: Input> Machine<T> {
 
     // Takes the first token after byte order marks and, where this is true, ends of documents.
     fn pass_marks(&mut self, ends: bool) -> Result<Token, Stop>
-        ensures taken {
-            TakesBy (spec.unpassed_token (spec.is_passable ends))
-                self.old result self.new
-        }
+        ensures taken { TakesBy (spec.unpassed_token (spec.is_passable ends))
+            self.old result self.new }
         ensures room { IfOk result (λ t. self.new.token ≡ None) }
     {
         loop {

@@ -1,5 +1,5 @@
 -- Moving along a line, and choices.
-use Rattle.std.proofs.Common.{◌≡◌, ℕ, ◌+◌, List, drop, Result, Ok, Err, refl, sym, ap, ◌∙◌, arith, add-zero}
+use Rattle.std.proofs.Common.{◌≡◌, ℕ, ◌+◌, List, drop, Result, Ok, refl, sym, ap, ◌∙◌, arith, add-zero}
 use Rattle.std.proofs.lemmas.List.{drop-drop}
 use Rattle.saphyr_scalar.specs.declared.scalar.position.Marker.{Marker}
 use Rattle.saphyr_scalar.specs.Views.Cursor.{◌>>=◌, along}
@@ -8,9 +8,7 @@ pub along_none : (m : Marker) → along m 0 ≡ m
 along_none m = rw (add-zero m.index, add-zero m.col) refl
 
 pub along_more : (m : Marker) (a b n : ℕ) → n ≡ a + b → along (along m a) b ≡ along m n
-along_more m a b n e =
-    let i : m.index + a + b ≡ m.index + n = omega arith in
-    let c : m.col + a + b ≡ m.col + n = omega arith in rw (i, c) refl
+along_more m a b n e = grind arith
 
 pub drop_more : (a b n : ℕ) (xs : List ℕ) → n ≡ b + a → drop a (drop b xs) ≡ drop n xs
 drop_more a b n xs e = drop-drop a b xs ∙ ap (λ k. drop k xs) (sym e)

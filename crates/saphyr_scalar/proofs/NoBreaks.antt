@@ -1,18 +1,15 @@
 -- Texts without line breaks, of which each character is passed on its line.
-use Rattle.std.proofs.Common.{◌≡◌, ℕ, Bool, true, false, List, [], ◌∷◌, ◌++◌, length, refl, sym, arith, subst, inl, inr, codes, encode_utf8, nat_eq}
+use Rattle.std.proofs.Common.{◌≡◌, ℕ, Bool, true, false, List, [], ◌∷◌, ◌++◌, length, refl, sym, arith, subst, inl, inr, codes, encode_utf8}
 use Rattle.std.specs.Prelude.{◌||◌, ◌==◌}
-use Rattle.std.proofs.lemmas.Bool.Decides.{nat_tests}
 use Rattle.saphyr_input.specs.Classes.{is_break, is_blank, is_digit, is_alpha, is_tag_char, is_uri_char, is_yaml_non_break, is_yaml_non_space, IsHex}
 use Rattle.saphyr_scalar.specs.declared.scalar.position.Marker.{Marker}
 use Rattle.saphyr_scalar.specs.Views.Cursor.{along}
 use Rattle.saphyr_values.specs.declared.flow.Quote.{Quote}
-use Rattle.saphyr_values.specs.declared.flow.Quote.TheVariants.{Single, Double}
 use Rattle.saphyr_values.specs.Flow as flow
 use Rattle.saphyr_scalar.specs.Spelling.Directive.{ReadDirective, version, tag_prefix, reserved, IsReadDirective}
 use Rattle.saphyr_scalar.specs.Passing.{IsPassed, nothing, character}
 use Rattle.saphyr_scalar.specs.Spelling.Tag.{AreIn, IsByteEscape, AreByteEscapes, IsCharacter, IsDecoded, IsHandleText, IsPrefix}
 use Rattle.saphyr_scalar.proofs.Moving.{along_none, along_more}
-use Rattle.saphyr_input.proofs.Basics.Booleans.{other_than}
 
 abbrev pub NoBreaks : List ℕ → Type 0
 NoBreaks [] = Unit {0}
@@ -20,8 +17,7 @@ NoBreaks (c ∷ cs) = (is_break c ≡ false) × NoBreaks cs
 
 -- a class without the two breaks
 pub class_no_break : (p : ℕ → Bool) → p 10 ≡ false → p 13 ≡ false → (c : ℕ) → p c ≡ true → is_break c ≡ false
-class_no_break p feed return c h =
-    let second : nat_eq c 13 ≡ false = other_than p 13 c return h in rw (other_than p 10 c feed h, second) refl
+class_no_break p feed return c h = grind arith
 
 pub no_breaks_both : (a b : List ℕ) → NoBreaks a → NoBreaks b → NoBreaks (a ++ b)
 no_breaks_both [] b h k = k
@@ -80,44 +76,17 @@ pub directive_no_break : (d : ReadDirective) (t : List ℕ) → IsReadDirective 
 directive_no_break (version major minor) t (gap, high, low, blanks, first, second, text) =
     let numbers : NoBreaks (high ++ (46 ∷ low)) = no_breaks_both high (46 ∷ low)
     (no_breaks_in is_digit refl refl high first.2) (refl, no_breaks_in is_digit refl refl low second.2) in
-    subst NoBreaks (sym text) (
-      refl,
-      (
-        refl,
-        (
-          refl,
-          (
-            refl,
-            (refl, no_breaks_both gap (high ++ (46 ∷ low)) (no_breaks_in is_blank refl refl gap blanks.1) numbers),
-          ),
-        ),
-      ),
-    )
+    let all = no_breaks_both gap (high ++ (46 ∷ low)) (no_breaks_in is_blank refl refl gap blanks.1) numbers in
+    subst NoBreaks (sym text) (refl, (refl, (refl, (refl, (refl, all)))))
 directive_no_break (tag_prefix handle prefix) t
     (h, p, (first, second, written, before, between, is_handle, whole, is_prefix, text), _, _) =
-    let parts : NoBreaks (h ++ (second ++ written)) = no_breaks_both h (second ++ written) (handle_no_break h is_handle)
-    (no_breaks_both second written
+    let parts = no_breaks_both h (second ++ written) (handle_no_break h is_handle) (no_breaks_both second written
     (no_breaks_in is_blank refl refl second between) (prefix_no_break p written is_prefix)) in
-    subst NoBreaks (sym text) (
-      refl,
-      (
-        refl,
-        (
-          refl,
-          (
-            refl,
-            no_breaks_both first (h ++ (second ++ written))
-                (no_breaks_in is_blank refl refl first before.1) parts,
-          ),
-        ),
-      ),
-    )
+    let all = no_breaks_both first (h ++ (second ++ written)) (no_breaks_in is_blank refl refl first before.1) parts in
+    subst NoBreaks (sym text) (refl, (refl, (refl, (refl, all))))
 directive_no_break (reserved name) t (n, (more, _, _, _, all, others, _, text), _) =
-    subst NoBreaks (sym text) (
-      refl,
-      no_breaks_both n more (no_breaks_in is_yaml_non_space refl refl n all)
-          (no_breaks_in is_yaml_non_break refl refl more others),
-    )
+    let rest = no_breaks_in is_yaml_non_break refl refl more others in
+    subst NoBreaks (sym text) (refl, no_breaks_both n more (no_breaks_in is_yaml_non_space refl refl n all) rest)
 
 pub mark_no_break : (q : Quote) → is_break (flow.mark q) ≡ false
 mark_no_break q = grind arith

@@ -4,7 +4,7 @@ use Rattle.std.specs.Prelude.{◌+◌, ◌==◌, nat_lt}
 use Rattle.std.specs.List.{prefix_len}
 use Rattle.saphyr_input.specs.Indicators.{number_sign}
 use Rattle.saphyr_input.specs.Classes.{is_bom}
-use Rattle.saphyr_input.specs.Separation.{blank_len, is_skipped}
+use Rattle.saphyr_input.specs.Separation.{is_skipped}
 use Rattle.saphyr_input.specs.declared.input.SkipTabs.{SkipTabs}
 use Rattle.saphyr_input.specs.declared.input.SkipTabs.TheVariants.{Result}
 use Rattle.saphyr_input.proofs.Basics.Booleans.{and_false}
@@ -24,8 +24,7 @@ pub nothing_separates : (tabs : SkipTabs) (s t : Cursor) (c : ℕ) → c ≡ sli
     → separation tabs s ≡ Ok (Result false false, t)
 unfolding separation behind_separation
 nothing_separates tabs s t c first same skipped comment mark =
-    let none : blank_len tabs s.rest ≡ 0 =
-    no_run (is_skipped tabs) s.rest (ap (is_skipped tabs) (sym first) ∙ skipped) in
+    let none = no_run (is_skipped tabs) s.rest (ap (is_skipped tabs) (sym first) ∙ skipped) in
     let hash : (slice_index s.rest 0 == 35) ≡ false = ap (λ x. x == 35) (sym first) ∙ comment in
     let bom : is_bom (slice_index s.rest 0) ≡ false = ap is_bom (sym first) ∙ mark in
     rw (none, none_passed s, hash, bom, and_false (nat_lt 0 (s.mark.col + 0)), same) refl

@@ -1,17 +1,14 @@
 -- Passing over a text.
-use Rattle.std.proofs.Common.{◌≡◌, ℕ, suc, ◌<◌, ◌≤◌, Bool, true, false, List, [], ◌∷◌, ◌++◌, length, length-drop, drop, slice_index, refl, sym, ap, ◌∙◌, arith, subst, nat_eq, IsTrue, inl, inr, ◌⊎◌}
-use Rattle.std.specs.Prelude.{◌==◌}
-use Rattle.std.proofs.lemmas.Bool.Decides.{nat_tests}
+use Rattle.std.proofs.Common.{◌≡◌, ℕ, suc, ◌<◌, ◌≤◌, true, false, List, [], ◌∷◌, ◌++◌, length, drop, slice_index, refl, ap, ◌∙◌, arith, IsTrue, inl, inr, ◌⊎◌}
 use Rattle.saphyr_input.specs.Indicators.{backslash}
 use Rattle.saphyr_input.specs.Classes.{is_break, is_hex}
-use Rattle.saphyr_input.specs.Places.{next_2_are}
 use Rattle.saphyr_scalar.specs.Spelling.Tag.{AreIn}
 use Rattle.saphyr_scalar.specs.declared.scalar.position.Marker.{Marker}
 use Rattle.saphyr_scalar.specs.Views.Cursor.{along, next_line}
 use Rattle.saphyr_scalar.specs.Passing.{IsPassed, nothing, character, line_break}
 use Rattle.saphyr_scalar.specs.Steps.Quoted.{break_len}
 use Rattle.saphyr_scalar.proofs.Moving.{along_more, along_none}
-use Rattle.saphyr_input.proofs.Basics.Booleans.{clash, by_test, either}
+use Rattle.saphyr_input.proofs.Basics.Booleans.{clash}
 
 pub letter_passed : (m : Marker) (e : ℕ) (t : List ℕ) (n : Marker) (x : List ℕ) → is_break e ≡ false
     → IsPassed (along m 2) t n x → IsPassed m (backslash ∷ e ∷ t) n x
@@ -19,19 +16,7 @@ letter_passed m e t n x h p = character m 92 (e ∷ t) n x refl
     (character (along m 1) e t n x h (rw (along_more m 1 1 2 refl) p))
 
 pub hex_no_break : (d : ℕ) → IsTrue (is_hex d) → is_break d ≡ false
-hex_no_break d h = by_test (is_break d) refl
-  where
-    numbers : (d : ℕ) → is_break d ≡ true → is_hex d ≡ false
-    numbers d h = either (d == 10) (d == 13) (is_hex d ≡ false) h (λ k. is_ten d k) (λ k. is_thirteen d k)
-      where
-        is_ten : (d : ℕ) → nat_eq d 10 ≡ true → is_hex d ≡ false
-        is_ten d h = let e : d ≡ 10 = grind (arith, nat_tests) in ap is_hex e
-
-        is_thirteen : (d : ℕ) → nat_eq d 13 ≡ true → is_hex d ≡ false
-        is_thirteen d h = let e : d ≡ 13 = grind (arith, nat_tests) in ap is_hex e
-
-    by_test : (b : Bool) → is_break d ≡ b → b ≡ false
-    by_test b is = grind arith
+hex_no_break d h = grind arith
 
 pub digits_passed : (m : Marker) (ds t : List ℕ) (n : Marker) (x : List ℕ) → AreIn is_hex ds
     → IsPassed (along m (length ds)) t n x → IsPassed m (ds ++ t) n x

@@ -1,5 +1,5 @@
 -- Refusals at places on the way from one place to another.
-use Rattle.std.proofs.Common.{◌≡◌, ℕ, List, ◌∷◌, false, sym, subst}
+use Rattle.std.proofs.Common.{◌≡◌, ℕ, List, ◌∷◌, false}
 use Rattle.saphyr_input.specs.Classes.{is_break}
 use Rattle.saphyr_scalar.specs.declared.scalar.fault.Refusal.{Refusal}
 use Rattle.saphyr_scalar.specs.declared.scalar.position.Marker.{Marker}

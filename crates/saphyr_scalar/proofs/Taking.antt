@@ -4,26 +4,22 @@ use Rattle.std.specs.Prelude.{◌&&◌, ◌||◌, slice_index, not, ◌==◌, pr
 use Rattle.std.specs.List.{prefix_len}
 use Rattle.std.proofs.lemmas.List.{length-append}
 use Rattle.saphyr_input.specs.Classes.{is_bom, is_blank, is_break, is_z, is_flow}
-use Rattle.saphyr_input.specs.Places.{next_2_are, is_document_indicator, is_blank_or_break}
+use Rattle.saphyr_input.specs.Places.{is_document_indicator, is_blank_or_break}
 use Rattle.saphyr_scalar.specs.declared.scalar.position.Marker.{Marker}
 use Rattle.saphyr_scalar.specs.Views.Cursor.{Cursor, refuse, pass, pass_break, along}
 use Rattle.saphyr_scalar.specs.declared.scalar.fault.FaultText.TheVariants as fault
 use Rattle.saphyr_input.specs.Breaks.{normalized}
 use Rattle.saphyr_values.specs.declared.flow.Quote.{Quote}
-use Rattle.saphyr_values.specs.declared.flow.Quote.TheVariants.{Single, Double}
 use Rattle.saphyr_values.specs.Flow as flow
 use Rattle.saphyr_scalar.specs.Steps.Quoted.{mid_line, quoted}
 use Rattle.saphyr_scalar.proofs.Quoted.Pieces.{quoted_reading}
-use Rattle.saphyr_scalar.specs.Steps.Plain.{PlainGap, lines, reached_gap, content_behind_tab, line_front, next_lines, gap_from, gap, next_word_starts, word_starts, is_in_word, word_behind_gap, word, plain, gap_len}
+use Rattle.saphyr_scalar.specs.Steps.Plain.{PlainGap, lines, reached_gap, content_behind_tab, line_front, gap_from, gap, next_word_starts, word_starts, is_in_word, word_behind_gap, word, plain, gap_len}
 use Rattle.saphyr_input.proofs.Basics.Booleans.{by_test}
 use Rattle.saphyr_input.proofs.Basics.Lists.{drop_shorter}
 use Rattle.saphyr_scalar.proofs.Given.{Given, given_bind, given_of, bind_ok}
 
 pub break_shorter : (s : Cursor) → length (pass_break s).rest ≤ length s.rest
-break_shorter s =
-    by_test (next_2_are s.rest 13 10) _ _ (λ (t : Cursor). length t.rest ≤ length s.rest) (λ _. drop_shorter 2 s.rest)
-    (λ _. by_test (is_break (slice_index s.rest 0)) _ _ (λ (t : Cursor). length t.rest ≤ length s.rest)
-    (λ _. drop_shorter 1 s.rest) (λ _. omega arith))
+break_shorter s = grind arith
 
 -- ## Plain scalars
 
@@ -56,8 +52,7 @@ gap_within indent start s =
     let n = length s.rest in
     let t : Cursor = pass (prefix_len is_blank s.rest) s in
     let less : length t.rest ≤ n = drop_shorter (prefix_len is_blank s.rest) s.rest in
-    let next : Given (GapWithin n) (next_lines indent start (pass_break t)) =
-    given_bind (GapWithin n) (lines indent start false [] (pass_break t).mark (pass_break t).rest) _ (λ g e.
+    let next = given_bind (GapWithin n) (lines indent start false [] (pass_break t).mark (pass_break t).rest) _ (λ g e.
     given_of (GapWithin n) _ g (lines_within n indent start false [] (pass_break t).mark (pass_break t).rest
     (omega (arith, less, break_shorter t))) e) in
     by_test (is_break (slice_index t.rest 0)) _ _ (Given (GapWithin n)) (λ _. next) (λ _. less)

@@ -1,6 +1,6 @@
 -- Each reader of block scalars, anchors, tags and directives takes something off the text.
-use Rattle.std.proofs.Common.{◌≡◌, ℕ, ◌+◌, ◌≤◌, ◌<◌, inl, inr, Bool, true, List, [], ◌∷◌, ◌++◌, length, drop, Ok, ap, ◌∙◌, arith}
-use Rattle.std.specs.Prelude.{◌&&◌, slice_index, not, ◌==◌, nat_lt, nat_le, max, Option, Some, None, unwrap_or, codes}
+use Rattle.std.proofs.Common.{◌≡◌, ℕ, ◌+◌, ◌≤◌, ◌<◌, Bool, true, List, [], ◌∷◌, ◌++◌, length, drop, Ok, ap, arith}
+use Rattle.std.specs.Prelude.{◌&&◌, slice_index, not, ◌==◌, nat_lt, nat_le, max, Option, Some, None, unwrap_or}
 use Rattle.std.proofs.lemmas.List.{length-append}
 use Rattle.saphyr_input.specs.Indicators.{exclamation_mark, percent_sign}
 use Rattle.saphyr_input.specs.Classes.{is_bom, is_blank, is_break, is_breakz, is_z, is_digit, is_yaml_non_break, tab}
@@ -18,9 +18,9 @@ use Rattle.saphyr_scalar.specs.Steps.Quoted.{mid_line}
 use Rattle.saphyr_scalar.specs.Steps.Block.{chomping, indicator, header_break, header_end, last_chomping, header_behind, header, is_indentation, is_cr_lf, pass_empty_lines, line_starts, LinesRead, between, line, chomped_lines, content, behind_leading_lines, given_indentation, no_lines, behind_header, block_scalar}
 use Rattle.saphyr_scalar.specs.Steps.Anchor.{anchor}
 use Rattle.saphyr_scalar.specs.Steps.Tag.{tag}
-use Rattle.saphyr_scalar.specs.Spelling.Tag.{IsHandleText, IsTagText}
+use Rattle.saphyr_scalar.specs.Spelling.Tag.{IsTagText}
 use Rattle.saphyr_scalar.specs.Steps.Directive.{directive}
-use Rattle.saphyr_scalar.specs.Spelling.Directive.{ReadDirective, version, tag_prefix, reserved, IsReadDirective}
+use Rattle.saphyr_scalar.specs.Spelling.Directive.{ReadDirective, IsReadDirective}
 use Rattle.saphyr_scalar.proofs.Properties.AnchorsRead.{spells_anchor}
 use Rattle.saphyr_scalar.proofs.Properties.TagsSpelled.{spells_tag}
 use Rattle.saphyr_scalar.proofs.Directives.Spelled.{spells_directive}
@@ -39,10 +39,7 @@ Left n t = length t.rest ≤ n
 
 chomping_within : (n : ℕ) (s : Cursor) → length s.rest ≤ n → length (chomping s).1.rest ≤ n
 unfolding chomping
-chomping_within n s h =
-    let k : length (drop 1 s.rest) ≤ n = omega (arith, drop_shorter 1 s.rest, h) in
-    by_test (slice_index s.rest 0 == 43) _ _ (Behind (Option Chomping) n) (λ _. k)
-    (λ _. by_test (slice_index s.rest 0 == 45) _ _ (Behind (Option Chomping) n) (λ _. k) (λ _. h))
+chomping_within n s h = grind arith
 
 indicator_within : (n : ℕ) (start : Marker) (s : Cursor) → length s.rest ≤ n → Given (Behind ℕ n) (indicator start s)
 unfolding indicator
@@ -180,13 +177,6 @@ pub anchor_takes : (s t : Cursor) (text : List ℕ) → 0 < length s.rest → an
 anchor_takes s t text some e =
     let spelled = spells_anchor s t text some e in
     let whole = length-append spelled.1 t.rest in omega (arith, ap length spelled.2, whole)
-
--- a text that begins with some character has one
-some_behind_first : (c : ℕ) (t cs : List ℕ) → t ≡ c ∷ cs → 0 < length t
-some_behind_first c t cs e = let is : length t ≡ length (c ∷ cs) = ap length e in omega (arith, is)
-
-handle_some : (handle back t : List ℕ) → IsHandleText handle → t ≡ handle ++ back → 0 < length t
-handle_some handle back t h e = grind arith
 
 tag_some : (t handle suffix : List ℕ) → IsTagText t handle suffix → 0 < length t
 tag_some t handle suffix h = grind arith

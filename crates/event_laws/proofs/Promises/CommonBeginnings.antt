@@ -9,7 +9,7 @@ use Rattle.saphyr_machine.specs.declared.state.State.{State}
 use Rattle.saphyr_machine.specs.declared.state.State.TheVariants as state
 use Rattle.saphyr_machine.specs.Events.{Happening}
 use Rattle.event_laws.specs.Premises.{DocumentMarker, Starts, Ends, marker_event}
-use Rattle.saphyr_machine.specs.Steps.Machine.{◌>>=◌, Machine, Told, ending_refusal, with_pieces, taken_token_from}
+use Rattle.saphyr_machine.specs.Steps.Machine.{◌>>=◌, Machine, Told, ending_refusal, with_pieces}
 use Rattle.saphyr_machine.specs.Steps.Documents.{unpassed_token_from, unpassed_token, is_end_or_mark, implicit_start, document_content}
 use Rattle.saphyr_machine.specs.Steps.Expected.{event_step, event_step_at}
 use Rattle.saphyr_machine.specs.Answer.{Answer, with_first_event, answer_of_step, fault_alone, ending_of, remaining_answer, machine_size}
@@ -121,10 +121,6 @@ delivers_longer z r m (Err f) q (inr e) s h = inl (rw e refl)
 passed_from : (ts : List Piece) (m : Machine) (go : Piece × Machine → Result Told Refusal) → ts ≡ []
     → (unpassed_token_from is_end_or_mark ts m >>= go) ≡ Err (ending_refusal m.tokens.refusal)
 passed_from ts m go e = rw e refl
-
-none_taken : (ts : List Piece) (m : Machine) (go : Piece × Machine → Result Told Refusal) → ts ≡ []
-    → (taken_token_from ts m >>= go) ≡ Err (ending_refusal m.tokens.refusal)
-none_taken ts m go e = rw e refl
 
 -- what waits for a token after the marker gets none
 none_awaited : (w : DocumentMarker) (m : Machine) → m.tokens.pieces ≡ [] → Awaits w m

@@ -1,5 +1,5 @@
 -- The tokens of a forest give its events.
-use Rattle.std.proofs.Common.{◌≡◌, ◌<◌, ◌^◌, ℕ, Bool, true, false, List, [], ◌∷◌, ◌++◌, Some, None, refl, ◌∙◌, ◌⊎◌, inl, inr, append_assoc, arith}
+use Rattle.std.proofs.Common.{◌≡◌, ◌<◌, ◌^◌, ℕ, Bool, true, false, List, [], ◌∷◌, ◌++◌, Some, None, refl, ◌∙◌, ◌⊎◌, append_assoc, arith}
 use Rattle.std.specs.Prelude.{if◌then◌else◌, Option}
 use Rattle.saphyr_scalar.specs.declared.scalar.position.Span.{Span}
 use Rattle.saphyr_scanner.specs.Grammar.Forest.{Node, Document, AreCompatible, Forest}
@@ -15,7 +15,6 @@ use Rattle.saphyr_machine.specs.Cursor.{at_start, keeping_tags, to_come}
 use Rattle.event_laws.specs.Exactly.{GivesExactly, kinds, answer_of_tokens}
 use Rattle.event_laws.proofs.Told.Telling.{SpansByKinds, Memory, dressed, dress}
 use Rattle.event_laws.proofs.AddsUp.{IsInNode, of_node}
-use Rattle.event_laws.proofs.Remembering.{events_in}
 use Rattle.event_laws.proofs.Told.Streams.{stream_says}
 use Rattle.event_laws.proofs.MemoryFits.{FitsBetween, Within, same_events}
 

@@ -11,7 +11,7 @@ use Rattle.saphyr_machine.specs.declared.state.State.{State}
 use Rattle.saphyr_machine.specs.declared.state.State.TheVariants as state
 use Rattle.event_laws.specs.Preorder.{Part, CloseStream, OpenDocument, node_parts}
 use Rattle.saphyr_machine.specs.Events as events
-use Rattle.saphyr_machine.specs.Events.{Happening, empty_scalar}
+use Rattle.saphyr_machine.specs.Events.{empty_scalar}
 use Rattle.saphyr_machine.specs.Steps.Machine.{◌>>=◌, Machine, Told, told_event}
 use Rattle.saphyr_machine.specs.Steps.Documents.{is_end_or_mark, directives, none_declared, explicit_document_at, explicit_document, bare_document, implicit_start_at, implicit_start, explicit_start_at, explicit_start, document_content}
 use Rattle.saphyr_machine.specs.Steps.Block.{block_node}

@@ -1,8 +1,6 @@
 -- Scalars are told.
-use Rattle.std.proofs.Common.{◌≡◌, ℕ, true, List, [], ◌∷◌, ◌++◌, Option, Some, None, option_map, encode_utf8_all, refl, sym, ap, ◌∙◌, inl, inr, arith, append_assoc}
-use Rattle.std.specs.Prelude.{nat_lt, is_some}
-use Rattle.std.proofs.Math.Bool.{or-true}
-use Rattle.std.proofs.lemmas.Bool.{lt-ltb}
+use Rattle.std.proofs.Common.{◌≡◌, ℕ, true, List, [], ◌∷◌, ◌++◌, Option, Some, option_map, encode_utf8_all, refl, ◌∙◌, inl, inr, arith, append_assoc}
+use Rattle.std.specs.Prelude.{is_some}
 use Rattle.saphyr_scalar.specs.declared.scalar.position.Span.{Span}
 use Rattle.saphyr_scanner.specs.Grammar.Forest.{Style, Tag, HasOne, HasProperty}
 use Rattle.saphyr_scanner.specs.Grammar.Forest as forest
@@ -12,17 +10,14 @@ use Rattle.saphyr_scanner.specs.Grammar.TokenGrammar.{YieldsNode}
 use Rattle.saphyr_scanner.specs.Views.Tokens.{Piece}
 use Rattle.event_laws.specs.Preorder.{Reference, Leaf}
 use Rattle.saphyr_machine.specs.Events.{Happening, ResolvedTag, Alias, Scalar}
-use Rattle.saphyr_machine.specs.Steps.Machine.{Machine, told_event, pop, put_back, meaning, next_id}
+use Rattle.saphyr_machine.specs.Steps.Machine.{Machine, told_event, pop, put_back, meaning}
 use Rattle.saphyr_machine.specs.Steps.Nodes.{NodeProperties, has_property, span_up_to, node_without_content, alias_of, alias_node, node}
 use Rattle.event_laws.proofs.Told.Telling.{Memory, at}
-use Rattle.event_laws.proofs.Remembering.{noted, resolve, says}
+use Rattle.event_laws.proofs.Remembering.{noted, says}
 use Rattle.event_laws.proofs.Told.Nodes.{Has, node_opens}
 use Rattle.event_laws.proofs.NodeStarts.{context_of, follow_is_content, follow_ends, NodeSays}
 
 -- ## A node that has properties
-
-id_is_positive : (e : Memory) (id : ℕ) → id ≡ next_id e.anchors → nat_lt 0 id ≡ true
-id_is_positive e id h = lt-ltb 0 id (omega (arith, h))
 
 is_tagged : (o : Option ResolvedTag) (found : Option ResolvedTag)
     → option_map (λ v. let t : Option ResolvedTag = Some v in t) o ≡ Some found → is_some found ≡ true

@@ -1,8 +1,8 @@
 -- The content of a node is turned, after its properties.
 use Rattle.event_laws.proofs.OwnTokens.{HasOwn, whole, Shape, StartsAt, content_spans, content_is, alone_is}
 use Rattle.event_laws.specs.EventsTaken.{AreContentTokens, SpansAll, IsOf}
-use Rattle.std.proofs.Common.{◌≡◌, ◌≤◌, ℕ, Bool, true, false, List, [], ◌∷◌, ◌++◌, length, Option, Some, None, option_map, encode_utf8_all, is_some, Ok, Err, refl, sym, ap, ◌∙◌, inl, inr, append_assoc, arith, length-append}
-use Rattle.std.specs.Prelude.{if◌then◌else◌, nat_lt, ◌||◌}
+use Rattle.std.proofs.Common.{◌≡◌, ◌≤◌, ℕ, Bool, true, false, List, [], ◌∷◌, ◌++◌, length, Option, Some, option_map, encode_utf8_all, Ok, Err, refl, sym, ap, ◌∙◌, inr, append_assoc, arith, length-append}
+use Rattle.std.specs.Prelude.{if◌then◌else◌}
 use Rattle.saphyr_scalar.specs.declared.scalar.position.Span.{Span}
 use Rattle.saphyr_scalar.specs.declared.scalar.style.ScalarStyle.{ScalarStyle}
 use Rattle.saphyr_scalar.specs.declared.scalar.style.ScalarStyle.TheVariants.{Plain}
@@ -25,7 +25,7 @@ use Rattle.saphyr_machine.specs.Events.{Happening, ResolvedTag, Scalar}
 use Rattle.event_laws.specs.Exactly.{kinds}
 use Rattle.saphyr_machine.specs.Steps.Nodes.{NodeProperties, span_up_to, has_property, node_without_content}
 use Rattle.event_laws.proofs.Told.Telling.{Memory}
-use Rattle.event_laws.proofs.Remembering.{after, event_in, noted, own_id_in, with_properties}
+use Rattle.event_laws.proofs.Remembering.{after, event_in, noted, with_properties}
 use Rattle.event_laws.proofs.Told.Nodes.{Has}
 use Rattle.event_laws.proofs.Turned.Following.{Then, Exactly, Claim, IsNodeOf, InBlockPairs, AtBlockValue, Behind, FollowsStates, IsInsideDocument, IsAlive, BeginsWithEntry}
 use Rattle.event_laws.proofs.Turned.Turning.{piece_of, machine, Goes, Turned, kinds_append, put, around}
@@ -68,10 +68,6 @@ pub enough_for : (p : forest.Properties) (front own : List Piece)
 enough_for p front own l = let a = length-append front own in omega (arith, l, a)
 
 -- ## What may be after properties
-
-none_has : (a : ℕ) (g : Option ResolvedTag) → a ≡ 0 → (let o : Option (Option ResolvedTag) = Some None in o) ≡ Some g
-    → (nat_lt 0 a || is_some g) ≡ true → ⊥
-none_has a g h k t = grind arith
 
 has_one : (anchor : Option (List ℕ)) (tag : Option Tag) (e : Memory) (q : NodeProperties) → Has e anchor tag q
     → has_property q ≡ true → HasOne anchor tag

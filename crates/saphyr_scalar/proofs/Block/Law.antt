@@ -6,7 +6,6 @@ use Rattle.saphyr_input.specs.Breaks.{normalized}
 use Rattle.saphyr_input.specs.Classes.{is_break, is_z, is_yaml_non_break}
 use Rattle.saphyr_values.specs.declared.block.BlockStyle.{BlockStyle}
 use Rattle.saphyr_values.specs.declared.block.Chomping.{Chomping}
-use Rattle.saphyr_values.specs.declared.block.Chomping.TheVariants.{Strip, Clip, Keep}
 use Rattle.saphyr_values.specs.declared.block.Ending.TheVariants.{AtEnd}
 use Rattle.saphyr_scalar.specs.declared.scalar.position.Marker.{Marker}
 use Rattle.saphyr_scalar.specs.declared.scalar.position.Span.{Span}
@@ -20,7 +19,7 @@ use Rattle.saphyr_scalar.specs.Reading.BlockLines.{ending, HasLines}
 use Rattle.saphyr_scalar.specs.Steps.Block.{is_indentation, is_cr_lf, inside_break, with_empty_line, with_column, pass_empty_lines, pass_empty_lines_at, between_at, tail, tail_alone, is_unfinished, chomped_lines, content, behind_leading_lines, behind_header, block_scalar, header, no_lines, given_indentation}
 use Rattle.saphyr_scalar.proofs.Block.Lines.{stops}
 use Rattle.saphyr_scalar.proofs.Block.Turns.{stopped, no_start}
-use Rattle.saphyr_scalar.proofs.Block.Texts.{spaces, plain_spaces, only_line, empty_spaces, lines_spaces}
+use Rattle.saphyr_scalar.proofs.Block.Texts.{spaces, plain_spaces, only_line, lines_spaces}
 use Rattle.saphyr_scalar.proofs.Block.Wholes.{empties, whole, whole_alone, block_value_of, first_read}
 use Rattle.saphyr_scalar.proofs.Block.Reads.{Leading, leading, within_limit, IsBehindHeaderLine, header_place, then_gave, gave, refused_gave, same_gift}
 use Rattle.saphyr_input.proofs.Basics.Booleans.{by_test}
@@ -137,9 +136,8 @@ lines_behind : (st : BlockStyle) (c : Chomping) (i : ℕ) (u v : Cursor) (k : �
     → let x = between_at st i None k v in
     Behind st c i u (encode_utf8_all (x.0 ++ tail c (is_unfinished i x.2) x.1)) x.2
 lines_behind st c i u v k l z =
-    let x = between_at st i None k v in
     let f = first_read st c i k v.blank_so_far v.mark v.rest l.within l.space l.clear z in
-    let w = l.joins f.taken x.2.rest f.split f.ends.no_break in
+    let w = l.joins f.taken (between_at st i None k v).2.rest f.split f.ends.no_break in
     record {
       lines = w.0;
       taken = w.1;
@@ -204,9 +202,7 @@ behind_begun st indent start c i k limit u x y l same =
       encode_utf8_all (z.0 ++ tail c (is_unfinished i z.2) z.1),
       record { start = x.1.mark; end = z.2.mark },
       z.2,
-    ) y (subst (λ j. let z = between_at st j None x.0.count x.1 in gave
-    (encode_utf8_all (z.0 ++ tail c (is_unfinished j z.2) z.1), record { start = x.1.mark; end = z.2.mark }, z.2)
-    ≡ gave y) same e) (lines_behind st c i u x.1 x.0.count l h)))
+    ) y (rw same at e) (lines_behind st c i u x.1 x.0.count l h)))
 
 pub behind_cut : (st : BlockStyle) (indent : ℕ) (start : Marker) (c : Chomping) (i : ℕ) (limit : Option ℕ) (u : Cursor)
     (y : Read) → is_z (slice_index u.rest 0) ≡ true → u.blank_so_far ≡ false

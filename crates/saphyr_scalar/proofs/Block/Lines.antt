@@ -1,5 +1,5 @@
 -- The lines of a block scalar, read a piece at a time.
-use Rattle.std.proofs.Common.{◌≡◌, ℕ, zero, suc, ◌+◌, ◌<◌, ◌≤◌, Bool, true, false, List, [], ◌∷◌, ◌++◌, length, slice_index, max, refl, sym, ap, ◌∙◌, arith, subst, encode_utf8_all, append_assoc, add-one, nat_eq}
+use Rattle.std.proofs.Common.{◌≡◌, ℕ, zero, suc, ◌+◌, ◌<◌, ◌≤◌, Bool, true, false, List, [], ◌∷◌, ◌++◌, length, slice_index, max, refl, sym, ap, ◌∙◌, arith, encode_utf8_all, append_assoc, add-one, nat_eq}
 use Rattle.std.specs.Prelude.{◌==◌, encode_utf8, Option, Some, None}
 use Rattle.std.proofs.lemmas.Bool.Decides.{nat_tests}
 use Rattle.std.proofs.lemmas.List.{append-nil}
@@ -126,12 +126,6 @@ end_turn limit lines s here c w same read h k e =
     ∙ sym (ap is_break read) ∙ h) in
     rw e (sym stop ∙ ap (pass_empty_lines_at limit lines) same)
 
--- a break has a character or two
-index_on : (m : Marker) (b : Bool) (xs : List ℕ) → is_break (slice_index xs 0) ≡ true
-    → m.index + 1 ≤ (pass_break (line_cursor b m xs)).mark.index
-index_on m b xs h = grind arith
-
 pub break_index : (s here t : Cursor) (c n : ℕ) → here ≡ s → c ≡ slice_index s.rest 0 → is_break c ≡ true
     → t ≡ pass_break here → n ≤ s.mark.index → n + 1 ≤ t.mark.index
-break_index s here t c n same read h passed few =
-    rw (passed, same) (omega (arith, index_on s.mark s.blank_so_far s.rest (sym (ap is_break read) ∙ h)))
+break_index s here t c n same read h passed few = grind arith

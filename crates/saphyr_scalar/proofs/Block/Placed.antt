@@ -40,10 +40,7 @@ empty_passes limit before b m (c ∷ cs) =
 
 starts_non_break : (i col c : ℕ) (cs : List ℕ) → line_starts i col (c ∷ cs) ≡ true → is_break c ≡ false
 unfolding line_starts
-starts_non_break i col c cs e = non_break_no_break c (middle (col == i) (is_yaml_non_break c) _ e)
-  where
-    middle : (x y z : Bool) → (x && y && z) ≡ true → y ≡ true
-    middle x y z f = grind arith
+starts_non_break i col c cs e = grind arith
 
 mutual
   unfolding between line

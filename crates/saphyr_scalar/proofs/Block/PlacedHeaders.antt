@@ -8,7 +8,7 @@ use Rattle.saphyr_input.specs.Classes.{is_bom, is_break, is_breakz, is_z, is_dig
 use Rattle.saphyr_input.specs.Places.{next_2_are}
 use Rattle.saphyr_input.specs.Separation.{is_skipped, blank_len, separation_len, is_bare_comment}
 use Rattle.saphyr_input.specs.declared.input.SkipTabs.{SkipTabs}
-use Rattle.saphyr_input.specs.declared.input.SkipTabs.TheVariants.{Yes, No}
+use Rattle.saphyr_input.specs.declared.input.SkipTabs.TheVariants.{Yes}
 use Rattle.saphyr_input.specs.declared.input.SkipTabs.TheVariants as found
 use Rattle.saphyr_values.specs.declared.block.Chomping.{Chomping}
 use Rattle.saphyr_scalar.specs.declared.scalar.position.Marker.{Marker}
@@ -22,7 +22,7 @@ use Rattle.saphyr_scalar.specs.Steps.Block.{chomping, indicator, header_break, h
 use Rattle.saphyr_scalar.proofs.Moving.{along_none, along_more, drop_more}
 use Rattle.saphyr_input.proofs.Basics.Booleans.{and_true_left, by_test, either}
 use Rattle.std.proofs.lemmas.Bool.{not-false, eqb-true}
-use Rattle.saphyr_input.proofs.Basics.Characters.{blank_no_break, non_break_no_break}
+use Rattle.saphyr_input.proofs.Basics.Characters.{non_break_no_break}
 use Rattle.saphyr_scalar.proofs.Given.{Given, given_bind, given_of}
 
 abbrev pub top : ℕ
@@ -100,7 +100,7 @@ indicator_goes start s =
 
 pub run_passed : (p : ℕ → Bool) (m : Marker) (t : List ℕ) → ((c : ℕ) → p c ≡ true → is_break c ≡ false)
     → IsPassed m t (along m (prefix_len p t)) (drop (prefix_len p t) t)
-run_passed p m [] h = subst (λ (k : Marker). IsPassed m [] k []) (sym (along_none m)) (passing.nothing m [])
+run_passed p m [] h = rw (along_none m) (passing.nothing m [])
 run_passed p m (c ∷ cs) h =
     by_test (p c) (1 + prefix_len p cs) 0 (λ n. IsPassed m (c ∷ cs) (along m n) (drop n (c ∷ cs))) (λ e.
     let one : 1 + prefix_len p cs ≡ suc (prefix_len p cs) = omega arith in
@@ -125,8 +125,8 @@ line_passed tabs s = by_test (blank_len tabs s.rest == 0) _ _ (λ n. Goes s (pas
     let whole = passed_passed s.mark s.rest (along s.mark b) (drop b s.rest) _ _ first second in
     record {
       passes =
-          subst (λ (m : Marker). IsPassed s.mark s.rest m (drop (b + n) s.rest)) (along_more s.mark b n (b + n) refl)
-          (subst (λ u. IsPassed s.mark s.rest (along (along s.mark b) n) u) (drop_more n b (b + n) s.rest refl) whole);
+          rw (along_more s.mark b n (b + n) refl) at (subst (λ u. IsPassed s.mark s.rest (along (along s.mark b) n) u)
+          (drop_more n b (b + n) s.rest refl) whole);
       line = refl;
     })
     (λ _. let e : b ≡ b + 0 =

@@ -1,26 +1,25 @@
 -- A block scalar that is read has the value of its lines.
-use Rattle.std.proofs.Common.{◌≡◌, ℕ, suc, ◌+◌, ◌-◌, ◌≤◌, Bool, true, false, List, [], ◌∷◌, ◌++◌, slice_index, Result, Ok, Err, refl, sym, ap, ◌∙◌, arith, subst, nat_eq, nat_lt, inl, inr}
-use Rattle.std.specs.Prelude.{◌&&◌, ◌==◌, not, Option, Some, None, ◌⊎◌}
+use Rattle.std.proofs.Common.{◌≡◌, ℕ, suc, ◌+◌, ◌-◌, ◌≤◌, Bool, true, false, List, [], ◌∷◌, ◌++◌, slice_index, Result, Ok, Err, refl, sym, ap, ◌∙◌, arith, subst, nat_eq, inl, inr}
+use Rattle.std.specs.Prelude.{◌==◌, not, Option, Some, None, ◌⊎◌}
 use Rattle.std.proofs.lemmas.Bool.Decides.{nat_tests}
 use Rattle.saphyr_input.specs.Breaks.{normalized}
-use Rattle.saphyr_input.specs.Classes.{is_break, is_breakz, is_bom, is_digit, is_z, tab, space}
+use Rattle.saphyr_input.specs.Classes.{is_break, is_breakz, is_z, tab, space}
 use Rattle.saphyr_values.specs.declared.block.Chomping.{Chomping}
 use Rattle.saphyr_scalar.specs.declared.scalar.position.Marker.{Marker}
 use Rattle.saphyr_scalar.specs.declared.scalar.fault.Refusal.{Refusal}
 use Rattle.saphyr_scalar.specs.declared.scalar.block.header.BlockHeader.{BlockHeader}
 use Rattle.saphyr_scalar.specs.declared.scalar.block.lines.EmptyLines.{EmptyLines}
 use Rattle.saphyr_input.specs.Places.{next_2_are}
-use Rattle.saphyr_input.specs.Separation.{separation_len, is_bare_comment, found_blanks}
 use Rattle.saphyr_input.specs.declared.input.SkipTabs.{SkipTabs}
 use Rattle.saphyr_input.specs.declared.input.SkipTabs.TheVariants.{Yes}
-use Rattle.saphyr_scalar.specs.Views.Cursor.{Cursor, ◌>>=◌, along, next_line, pass, pass_blanks, pass_break, separation, behind_separation}
+use Rattle.saphyr_scalar.specs.Views.Cursor.{Cursor, ◌>>=◌, along, next_line, pass, pass_break, separation, behind_separation}
 use Rattle.saphyr_values.specs.Block.{Empty, lines_of}
 use Rattle.saphyr_values.specs.Lines.{last_line}
 use Rattle.saphyr_scalar.specs.Steps.Block.{line_cursor, is_indentation, is_cr_lf, inside_break, with_column, with_empty_line, pass_empty_lines, header, header_break, header_end, header_behind, chomping, last_chomping, indicator}
 use Rattle.saphyr_scalar.proofs.Block.Texts.{spaces, spaces_more, plain_spaces, first_line, line_spaces, normal_half, normalized_break, lines_break}
 use Rattle.saphyr_scalar.specs.Reading.BlockLines.{HasLines}
 use Rattle.saphyr_scalar.proofs.Block.Wholes.{empties}
-use Rattle.std.proofs.lemmas.Bool.{not-false, and_parts}
+use Rattle.std.proofs.lemmas.Bool.{not-false}
 use Rattle.saphyr_input.proofs.Basics.Booleans.{by_test}
 use Rattle.saphyr_input.proofs.Basics.Characters.{normalized_other}
 use Rattle.saphyr_scalar.proofs.Block.Indentations.{indentation_is_space}
@@ -174,14 +173,7 @@ header_break_place start s u blank =
 separation_blank : (s : Cursor) (x : SkipTabs × Cursor) → s.blank_so_far ≡ false → separation Yes s ≡ Ok x
     → x.1.blank_so_far ≡ false
 unfolding separation behind_separation
-separation_blank s x blank = by_test (nat_lt 0 (along s.mark (separation_len Yes s.rest)).col && is_bom
-    (slice_index (pass_blanks (separation_len Yes s.rest) s).rest 0)) _ _
-    (λ r. r ≡ gave x → x.1.blank_so_far ≡ false)
-    (λ _ e. refused_gave _ x e)
-    (λ _. by_test (is_bare_comment Yes s.rest) _ _ (λ r. r ≡ gave x → x.1.blank_so_far ≡ false)
-    (λ _ e. refused_gave _ x e)
-    (λ _ e. let same = same_gift (found_blanks Yes s.rest, pass_blanks (separation_len Yes s.rest) s) x e in
-    sym (ap (λ (y : SkipTabs × Cursor). y.1.blank_so_far) same) ∙ blank))
+separation_blank s x blank = grind arith
 
 header_end_place : (start : Marker) (s u : Cursor) → s.blank_so_far ≡ false → header_end start s ≡ Ok u
     → IsBehindHeaderLine u
@@ -192,10 +184,7 @@ header_end_place start s u blank e =
 
 chomping_blank : (s : Cursor) → s.blank_so_far ≡ false → (chomping s).1.blank_so_far ≡ false
 unfolding chomping
-chomping_blank s h =
-    by_test (slice_index s.rest 0 == 43) _ _ (λ (x : Option Chomping × Cursor). x.1.blank_so_far ≡ false) (λ _. refl)
-    (λ _. by_test (slice_index s.rest 0 == 45) _ _ (λ (x : Option Chomping × Cursor). x.1.blank_so_far ≡ false)
-    (λ _. refl) (λ _. h))
+chomping_blank s h = grind arith
 
 last_blank : (first : Option Chomping) (s : Cursor) → s.blank_so_far ≡ false
     → (last_chomping first s).1.blank_so_far ≡ false
@@ -206,12 +195,7 @@ last_blank None s h = chomping_blank s h
 indicator_blank : (start : Marker) (s : Cursor) (x : ℕ × Cursor) → s.blank_so_far ≡ false → indicator start s ≡ Ok x
     → x.1.blank_so_far ≡ false
 unfolding indicator
-indicator_blank start s x blank =
-    by_test (not (is_digit (slice_index s.rest 0))) _ _ (λ r. r ≡ gave x → x.1.blank_so_far ≡ false)
-    (λ _ e. sym (ap (λ (y : ℕ × Cursor). y.1.blank_so_far) (same_gift (0, s) x e)) ∙ blank)
-    (λ _. by_test (slice_index s.rest 0 == 48) _ _ (λ r. r ≡ gave x → x.1.blank_so_far ≡ false)
-    (λ _ e. refused_gave _ x e)
-    (λ _ e. sym (ap (λ (y : ℕ × Cursor). y.1.blank_so_far) (same_gift (slice_index s.rest 0 - 48, pass 1 s) x e))))
+indicator_blank start s x blank = grind arith
 
 pub header_place : (s : Cursor) (x : BlockHeader × Cursor) → header s ≡ Ok x → IsBehindHeaderLine x.1
 unfolding header header_behind
@@ -223,4 +207,4 @@ header_place s x e =
     let header_of : Cursor → BlockHeader × Cursor = λ t. (record { chomping = last.0; indicator = w.0.0 }, t) in
     let v = then_gave (header_end s.mark last.1) (λ t. gave (header_of t)) x w.2 in
     let place = header_end_place s.mark last.1 v.0 (last_blank first.0 w.0.1 blank) v.1 in
-    subst (λ (y : BlockHeader × Cursor). IsBehindHeaderLine y.1) (same_gift (header_of v.0) x v.2) place
+    rw (← same_gift (header_of v.0) x v.2) place

@@ -91,9 +91,7 @@ pub normal_half : (c : ℕ) (cs taken rest : List ℕ) → is_cr_lf c cs ≡ tru
 normal_half c cs [] rest h e clear =
     let both = and_parts (nat_eq c 13) (nat_eq (slice_index cs 0) 10) h in
     let first : slice_index cs 0 ≡ 10 = grind (arith, nat_tests) in
-    let there : is_break (slice_index rest 0) ≡ true = ap (λ (x : List ℕ). is_break (slice_index x 0)) (sym e)
-    ∙ ap is_break first in
-    absurd (cc)
+    let there : is_break (slice_index rest 0) ≡ true = cc in absurd (cc)
 normal_half c cs (t ∷ ts) rest h e clear =
     let both = and_parts (nat_eq c 13) (nat_eq (slice_index cs 0) 10) h in
     let same : (t == 10) ≡ true = ap (λ (x : List ℕ). slice_index x 0 == 10) (sym e) ∙ both.1 in
@@ -156,6 +154,5 @@ pub lines_broken : (i : ℕ) (content others : List ℕ) → IsUnbroken content 
     → HasLines i (spaces i ++ (content ++ line_feed ∷ others))
 lines_broken i content others plain h =
     let f = first_line (spaces i ++ content) others (plain_both (spaces i) content (plain_spaces i) plain) in
-    let whole : (spaces i ++ content) ++ 10 ∷ others ≡ spaces i ++ (content ++ 10 ∷ others) =
-    append_assoc (spaces i) content (10 ∷ others) in
+    let whole = append_assoc (spaces i) content (10 ∷ others) in
     subst (HasLines i) whole (record { ended = rw f.ended (inr (content, refl), h.ended); last = rw f.last h.last })

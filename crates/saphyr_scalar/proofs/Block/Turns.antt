@@ -286,11 +286,7 @@ turn st i ab before after text more grown s t here end below skip same h e pushe
     )
 
 break_shorter : (b : Bool) (m : Marker) (xs : List ℕ) → length (pass_break (line_cursor b m xs)).rest ≤ length xs
-break_shorter b m xs =
-    by_test ((slice_index xs 0 == 13) && (slice_index xs 1 == 10)) _ _ (λ (s : Cursor). length s.rest ≤ length xs)
-    (λ _. rw length-drop (omega arith))
-    (λ _. by_test (is_break (slice_index xs 0)) _ _ (λ (s : Cursor). length s.rest ≤ length xs)
-    (λ _. rw length-drop (omega arith)) (λ _. omega arith))
+break_shorter b m xs = grind arith
 
 -- the break after a line
 pub broken : (st : BlockStyle) (i : ℕ) (more : Bool) (text : List ℕ) (end look t : Cursor) (c : ℕ) → look ≡ end
@@ -354,7 +350,4 @@ text_done c i start read text grown pushed end t u b span e none unfinished same
 -- no content line begins with what is no content
 pub no_start : (i col : ℕ) (xs : List ℕ) → is_yaml_non_break (slice_index xs 0) ≡ false → line_starts i col xs ≡ false
 unfolding line_starts
-no_start i col xs h = rw h (both (nat_eq col i) _)
-  where
-    both : (a b : Bool) → (a && false && b) ≡ false
-    both a b = grind arith
+no_start i col xs h = grind arith

@@ -6,9 +6,7 @@ use Rattle.std.proofs.lemmas.List.{append-nil, length-replicate}
 use Rattle.saphyr_input.specs.Breaks.{normalized}
 use Rattle.saphyr_input.specs.Classes.{is_break, is_blank, is_z, is_yaml_non_break, line_feed, space}
 use Rattle.saphyr_values.specs.declared.block.BlockStyle.{BlockStyle}
-use Rattle.saphyr_values.specs.declared.block.BlockStyle.TheVariants.{Literal, Folded}
 use Rattle.saphyr_values.specs.declared.block.Chomping.{Chomping}
-use Rattle.saphyr_values.specs.declared.block.Chomping.TheVariants.{Strip, Clip, Keep}
 use Rattle.saphyr_values.specs.declared.block.Ending.{Ending}
 use Rattle.saphyr_values.specs.declared.block.Ending.TheVariants.{AtEnd, AtMark}
 use Rattle.saphyr_scalar.specs.declared.scalar.position.Marker.{Marker}
@@ -21,8 +19,6 @@ use Rattle.saphyr_scalar.specs.Steps.Block.{line_cursor, is_indentation, is_cr_l
 use Rattle.saphyr_scalar.proofs.Block.Lines.{no_break}
 use Rattle.saphyr_scalar.proofs.Block.Turns.{Starts, starts, no_start}
 use Rattle.saphyr_scalar.proofs.Block.Texts.{spaces, spaces_more, IsUnbroken, plain_first, plain_both, plain_spaces, first_line, only_line, empty_spaces, line_spaces, full_content, line_content, content_of, normal_half, normalized_break, is_counted_behind, value_behind, value_empty, lines_break, lines_spaces, lines_cut, lines_broken}
-use Rattle.std.proofs.lemmas.Bool.{and_parts}
-use Rattle.std.proofs.Math.Bool.{and-true}
 use Rattle.saphyr_input.proofs.Basics.Booleans.{and_false, by_test}
 use Rattle.saphyr_input.proofs.Basics.Characters.{non_break_no_break, normalized_other}
 
@@ -107,8 +103,7 @@ far i col h = grind (arith, nat_tests)
 
 unfinished_content : (i : ℕ) (s : Cursor) → i < s.mark.col → is_unfinished i s ≡ is_at_end (ending s)
 unfolding is_unfinished
-unfinished_content i s h =
-    rw (far i s.mark.col h, at_end_of (is_z (slice_index s.rest 0))) (and-true (is_z (slice_index s.rest 0)))
+unfinished_content i s h = grind arith
 
 -- the lines end here, in content
 stop_content : (st : BlockStyle) (c : Chomping) (i : ℕ) (more b : Bool) (m : Marker) (xs : List ℕ) → i < m.col
@@ -170,8 +165,7 @@ half_line st c i more x cs r e l = record {
   ends = l.ends;
   content = l.content;
   plain = l.plain;
-  value = subst (λ text. CutLine c i l.content text r ⊎ BrokenLine st c i more l.content text r)
-      (sym (normal_half x cs l.taken r.2.rest e l.split l.ends.no_break)) l.value;
+  value = rw (normal_half x cs l.taken r.2.rest e l.split l.ends.no_break) l.value;
 }
 
 -- the break of an empty line
@@ -253,8 +247,6 @@ content_line_read st c i more k x cs r e l =
     let same : normalized (x ∷ l.taken) ≡ x ∷ normalized l.taken = normalized_other x l.taken clear.1 in
     let some : 0 < length here = omega arith in
     let plain = plain_first x l.content clear.0 l.plain in
-    let joined : ((breaks ++ x ∷ []) ++ r.0) ++ end ≡ breaks ++ (x ∷ (r.0 ++ end)) =
-    rw (append_assoc, append_assoc) refl in
     record {
       taken = x ∷ l.taken;
       split = ap (λ ys. x ∷ ys) l.split;
@@ -264,7 +256,7 @@ content_line_read st c i more k x cs r e l =
             (lines_cut i here plain)
         | inr w ↦ rw (same ∙ ap (λ ys. x ∷ ys) w.1) (lines_broken i here w.0 plain w.2)
       ];
-      value = λ above h. joined
+      value = λ above h. rw (append_assoc, append_assoc) refl
           ∙ (elim l.value [
             | inl w ↦ ap (λ ys. breaks ++ (x ∷ ys)) w.1
                 ∙ ap (λ b. b ++ (here ++ reading.chomped c (is_at_end (ending r.2)) 0))
@@ -288,9 +280,7 @@ begun_line : (st : BlockStyle) (c : Chomping) (i : ℕ) (more : Bool) (k col x :
     → Starts i col (x ∷ cs) → LineRead st c i (is_blank x) cs r
     → BetweenRead st c i more k col (x ∷ cs)
     (lines_behind_text (break_before st (Some more) k (is_blank x) ++ x ∷ []) r)
-begun_line st c i more k col x cs r s l = subst (λ j. BetweenRead st c i more k j (x ∷ cs)
-    (lines_behind_text (break_before st (Some more) k (is_blank x) ++ x ∷ []) r)) (sym s.column)
-    (content_line_read st c i more k x cs r s.content l)
+begun_line st c i more k col x cs r s l = rw s.column (content_line_read st c i more k x cs r s.content l)
 
 no_space_at : (i col : ℕ) → is_indentation (Some i) col 0 ≡ false
 no_space_at i col = refl

@@ -175,8 +175,7 @@ begin_first st c i k x cs r e l =
     let same : normalized (x ∷ l.taken) ≡ x ∷ normalized l.taken = normalized_other x l.taken clear.1 in
     let some : 0 < length here = omega arith in
     let plain = plain_first x l.content clear.0 l.plain in
-    let joined : (line_feeds k ++ (x ∷ r.0)) ++ end ≡ line_feeds k ++ (x ∷ (r.0 ++ end)) =
-    append_assoc (line_feeds k) (x ∷ r.0) end in
+    let joined = append_assoc (line_feeds k) (x ∷ r.0) end in
     record {
       taken = x ∷ l.taken;
       split = ap (λ ys. x ∷ ys) l.split;
@@ -241,8 +240,7 @@ first_read st c i k b m (x ∷ cs) within space clear some = by_bool (line_start
     let right : i < m.col + 1 = omega (arith, s.column) in
     let begins : between st i None k b m (x ∷ cs)
     ≡ lines_behind_text (line_feeds k) (lines_behind_text (x ∷ []) (line st i (is_blank x) b (along m 1) cs)) =
-    line_begins st i None k b m (x ∷ cs) h
-    ∙ ap (lines_behind_text (line_feeds k)) (line_on st i (is_blank x) b m x cs s.content) in
+    cc (line_begins st i None k b m (x ∷ cs) h, line_on st i (is_blank x) b m x cs s.content) in
     let P : ℕ → LinesRead → Type 0 = λ j r. FirstRead st c i k j (x ∷ cs) r in
     subst (P m.col) (sym begins) (subst (λ j. P j (lines_behind_text (line_feeds k)
     (lines_behind_text (x ∷ []) (line st i (is_blank x) b (along m 1) cs)))) (sym s.column)

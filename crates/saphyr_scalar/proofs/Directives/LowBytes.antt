@@ -1,5 +1,5 @@
 -- Bytes below 128 are the UTF-8 of one text alone.
-use Rattle.std.proofs.Common.{◌≡◌, ◌≢◌, ℕ, ◌+◌, ◌/◌, ◌%◌, ◌<◌, ◌≤◌, true, false, List, [], ◌∷◌, ◌++◌, length, nat_eq, nat_lt, refl, sym, ap, ◌∙◌, arith, encode_utf8_all}
+use Rattle.std.proofs.Common.{◌≡◌, ◌≢◌, ℕ, ◌+◌, ◌/◌, ◌%◌, ◌<◌, ◌≤◌, true, false, List, [], ◌∷◌, ◌++◌, nat_lt, refl, sym, ap, ◌∙◌, arith, encode_utf8_all}
 use Rattle.std.specs.Prelude.{bytes_eq}
 use Rattle.std.proofs.Math.Utf8.{encode}
 use Rattle.std.proofs.lemmas.Bool.{false≢true, false_from_ne_true, le-ltb}
@@ -65,8 +65,7 @@ pub low_unique : (cs bs : List ℕ) → AreLow bs → encode_utf8_all cs ≡ bs 
 low_unique [] [] low e = refl
 low_unique [] (b ∷ bs) low e = absurd (cc)
 low_unique (c ∷ cs) [] low e =
-    let k : false ≡ true = sym (some_bytes (c ∷ cs) (λ e. cc)) ∙ ap (λ (u : List ℕ). nat_eq (length u) 0) e in
-    absurd (false≢true k)
+    let k : false ≡ true = cc (some_bytes (c ∷ cs) (λ e. cc)) in absurd (false≢true k)
 low_unique (c ∷ cs) (b ∷ bs) (lt, low) e =
     let is = begins c b (encode_utf8_all cs) bs e lt in rw (is.0, low_unique cs bs low is.1) refl
 

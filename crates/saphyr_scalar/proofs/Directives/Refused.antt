@@ -1,6 +1,6 @@
 -- Separation is refused after what is passed of it, and a directive where it begins, at its name, or in the separation
 -- after it.
-use Rattle.std.proofs.Common.{◌≡◌, ℕ, suc, ◌+◌, ◌-◌, ◌*◌, List, [], ◌∷◌, ◌++◌, length, length-append, append_assoc, arith, drop, slice_index, Ok, refl, sym, ap, ◌∙◌, subst, nat_lt, codes, encode_utf8, encode_utf8_all}
+use Rattle.std.proofs.Common.{◌≡◌, ℕ, suc, ◌+◌, ◌-◌, ◌*◌, List, [], ◌∷◌, ◌++◌, length, length-append, append_assoc, arith, drop, slice_index, Ok, refl, sym, ap, ◌∙◌, nat_lt, codes, encode_utf8, encode_utf8_all}
 use Rattle.std.specs.Prelude.{◌||◌, ◌&&◌, ◌==◌, bytes_eq}
 use Rattle.saphyr_input.specs.Indicators.{percent_sign}
 use Rattle.saphyr_input.specs.Classes.{is_alpha, is_blank_or_breakz, is_bom, is_breakz, is_digit, is_tag_char, is_yaml_non_space}
@@ -138,5 +138,4 @@ directive_refused_at m ys =
 pub directive_refused : (s : Cursor) → slice_index s.rest 0 ≡ percent_sign → Refused (IsRefusedInside s) (directive s)
 unfolding directive
 directive_refused s begins =
-    let more : s.rest ≡ 37 ∷ drop 1 s.rest = cut_at 37 s.rest refl begins in
-    rw more (directive_refused_at s.mark (drop 1 s.rest))
+    let more = cut_at 37 s.rest refl begins in rw more (directive_refused_at s.mark (drop 1 s.rest))

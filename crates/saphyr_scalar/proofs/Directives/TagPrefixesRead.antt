@@ -30,8 +30,7 @@ handle_read start m h y (inl primary) ends =
     rw primary (ap (handle_behind_word start) (run_read is_alpha (along m 1) [] y tt stop.no_alpha)
     ∙ rw (stop.no_mark, along_none (along m 1)) (ap (λ v. text_given v (mid_line (along m 1) y)) (sym mark_bytes)))
 handle_read start m h y (inr (w, are, named)) ends =
-    let whole : h ++ y ≡ 33 ∷ (w ++ (33 ∷ y)) = ap (λ u. u ++ y) named
-    ∙ ap (λ u. 33 ∷ u) (append_assoc w (codes "!") y) in
+    let whole : h ++ y ≡ 33 ∷ (w ++ (33 ∷ y)) = cc (append_assoc w (codes "!") y) in
     let len : 1 + length w + 1 ≡ length h = rw named (omega (arith, length-append w (codes "!"))) in
     ap (λ u. handle start (mid_line m u)) whole
     ∙ ap (handle_behind_word start) (run_read is_alpha (along m 1) w (33 ∷ y) are refl)

@@ -70,8 +70,7 @@ word_spelled start m ys text u =
           let e : length (w ++ codes "!") ≡ 0 = ap (λ (v : List ℕ). length v) none in
           omega (arith, length-append w (codes "!"), e));
       begins = refl;
-      rest = ap (λ r. 33 ∷ r) (sym (take-append-drop n ys) ∙ ap (λ r. w ++ r) more
-          ∙ sym (append_assoc w (codes "!") (drop 1 left)));
+      rest = cc (take-append-drop n ys, append_assoc w (codes "!") (drop 1 left));
       place = ap (λ j. mid_line j (drop 1 left)) (along_three m 1 n 1 (length handle) len);
     }))
     (λ mark h.
@@ -138,8 +137,7 @@ prefix_spelled start m xs text u h =
       is = (first.piece, others.piece, first.is, others.is, refl);
       bytes = ap (λ b. encode_utf8 c ++ b) others.bytes ∙ ap (λ (x : List ℕ × Cursor). x.0) same;
       rest = first.text ∙ ap (λ r. first.piece ++ r) others.rest ∙ sym (append_assoc first.piece others.piece u.rest);
-      place = others.place ∙ ap (λ k. mid_line k u.rest)
-          (along_more m (length first.piece) (length others.piece) (length written)
+      place = cc (along_more m (length first.piece) (length others.piece) (length written)
           (length-append first.piece others.piece));
     }
 
@@ -207,8 +205,7 @@ tag_spelled start m xs d u begins h =
       second = second;
       value = b.value;
       written = b.written;
-      says = ap (λ t. tag_prefix t (encode_utf8_all b.value)) a.bytes ∙ ap (λ t. tag_prefix one.given.0 t) b.bytes
-          ∙ says;
+      says = cc;
       before = (
         gap_some (λ c. nat_eq c 33) xs first (drop n xs) no_mark_first begins (sym (take-append-drop n xs))
             (rw a.begins refl),

@@ -1,13 +1,12 @@
 -- What is passed after a directive on its line is spelled so: blanks, and after some a comment.
-use Rattle.std.proofs.Common.{◌≡◌, ◌≢◌, ℕ, suc, ◌+◌, true, false, List, [], ◌∷◌, ◌++◌, length, length-append, append_assoc, take, drop, slice_index, nat_eq, nat_lt, cond, Ok, Err, refl, sym, ap, ◌∙◌, arith, subst, inl, inr}
-use Rattle.std.specs.Prelude.{◌&&◌}
+use Rattle.std.proofs.Common.{◌≡◌, ◌≢◌, ℕ, suc, ◌+◌, true, false, List, [], ◌∷◌, ◌++◌, length, length-append, append_assoc, take, drop, slice_index, nat_eq, cond, Ok, Err, refl, sym, ap, ◌∙◌, arith, subst, inl, inr}
 use Rattle.std.specs.List.{prefix_len}
 use Rattle.std.proofs.lemmas.Bool.{eqb-true}
 use Rattle.std.proofs.lemmas.Bool.Decides.{nat_tests}
 use Rattle.std.proofs.lemmas.List.{take-append-drop}
 use Rattle.saphyr_input.specs.Indicators.{number_sign}
-use Rattle.saphyr_input.specs.Classes.{is_blank, is_breakz, is_bom, is_yaml_non_break}
-use Rattle.saphyr_input.specs.Separation.{separation_len, blank_len, comment_len, is_bare_comment, found_blanks}
+use Rattle.saphyr_input.specs.Classes.{is_blank, is_breakz, is_yaml_non_break}
+use Rattle.saphyr_input.specs.Separation.{separation_len, blank_len, comment_len}
 use Rattle.saphyr_input.specs.declared.input.SkipTabs.{SkipTabs}
 use Rattle.saphyr_input.specs.declared.input.SkipTabs.TheVariants.{Yes}
 use Rattle.saphyr_scalar.specs.declared.scalar.position.Marker.{Marker}
@@ -20,7 +19,7 @@ use Rattle.saphyr_scalar.proofs.Moving.{drop_more}
 use Rattle.saphyr_scalar.proofs.Runs.{run_is_in}
 use Rattle.saphyr_scalar.proofs.Properties.TagsSpelled.{cut_at}
 use Rattle.saphyr_scalar.proofs.Directives.TailsRead.{no_tail, Tail}
-use Rattle.saphyr_scalar.proofs.Steps.{bind_ok, ok_same, cond_ok, cond_not}
+use Rattle.saphyr_scalar.proofs.Steps.{bind_ok, cond_ok}
 use Rattle.saphyr_input.proofs.Basics.Booleans.{by_test}
 use Rattle.saphyr_scalar.proofs.Directives.NamesSpelled.{run_count}
 use Rattle.saphyr_scalar.proofs.Directives.VersionsSpelled.{some_of_length}
@@ -54,15 +53,7 @@ comment_count zs =
 separation_spelled : (m : Marker) (xs : List ℕ) (x : SkipTabs × Cursor) → separation Yes (mid_line m xs) ≡ Ok x
     → mid_line (along m (separation_len Yes xs)) (drop (separation_len Yes xs) xs) ≡ x.1
 unfolding separation behind_separation
-separation_spelled m xs x h =
-    let n = separation_len Yes xs in
-    let there = mid_line (along m n) (drop n xs) in
-    let one = cond_not {A = SkipTabs × Cursor} (nat_lt 0 (m.col + n) && is_bom (slice_index (drop n xs) 0))
-    (cond (is_bare_comment Yes xs) (Err (record { text = fault.CommentWithoutWhitespace; mark = along m n }))
-    (Ok (found_blanks Yes xs, there))) x (record { text = fault.MisplacedByteOrderMark; mark = along m n }) h in
-    let two = cond_not {A = SkipTabs × Cursor} (is_bare_comment Yes xs) (Ok (found_blanks Yes xs, there)) x
-    (record { text = fault.CommentWithoutWhitespace; mark = along m n }) one.same in
-    ap (λ (y : SkipTabs × Cursor). y.1) (ok_same {A = SkipTabs × Cursor} (found_blanks Yes xs, there) x two.same)
+separation_spelled m xs x h = grind arith
 
 abbrev IsTailLine : Marker → List ℕ → List ℕ → ℕ → Type 0
 IsTailLine m xs tail n = (xs ≡ tail ++ drop n xs) × IsLineTail tail × (length tail ≡ n)
@@ -70,8 +61,7 @@ IsTailLine m xs tail n = (xs ≡ tail ++ drop n xs) × IsLineTail tail × (lengt
 no_blanks : (m : Marker) (xs : List ℕ) → nat_eq (blank_len Yes xs) 0 ≡ true
     → (tail : List ℕ) × IsTailLine m xs tail (separation_len Yes xs)
 no_blanks m xs e =
-    let none : 0 ≡ separation_len Yes xs = rw e refl in
-    subst (λ n. (tail : List ℕ) × IsTailLine m xs tail n) none ([], (refl, no_tail, refl))
+    let none : 0 ≡ separation_len Yes xs = rw e refl in rw (← none) ([], (refl, no_tail, refl))
 
 some_blanks : (m : Marker) (xs : List ℕ) → nat_eq (blank_len Yes xs) 0 ≡ false
     → (tail : List ℕ) × IsTailLine m xs tail (separation_len Yes xs)
@@ -113,6 +103,5 @@ line_spelled start m xs u h =
       text = line.1.0;
       is = line.1.1;
       ends = subst (λ (y : Cursor). is_breakz (slice_index y.rest 0) ≡ true) (sym there) is.test;
-      place = sym is.same ∙ ap pass_break (sym there)
-          ∙ ap (λ k. pass_break (mid_line (along m k) (drop n xs))) (sym line.1.2);
+      place = cc;
     }

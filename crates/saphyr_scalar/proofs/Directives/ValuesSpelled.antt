@@ -41,8 +41,7 @@ version_value d k zs u is =
     (is.gap, is.high, is.low, is.blanks, is.first, is.second, refl) in
     record {
       more = more;
-      text = is.text ∙ sym (append_assoc is.gap (is.high ++ (46 ∷ is.low)) u.rest
-          ∙ ap (λ r. is.gap ++ r) (append_assoc is.high (46 ∷ is.low) u.rest));
+      text = cc (append_assoc is.gap (is.high ++ (46 ∷ is.low)) u.rest, append_assoc is.high (46 ∷ is.low) u.rest);
       place = is.place ∙ ap (λ n. mid_line (along k n) u.rest) len;
       is = subst (λ (e : ReadDirective). IsReadDirective e (37 ∷ (codes "YAML" ++ more))) is.says spelled;
     }
@@ -135,8 +134,7 @@ value_spelled start k w zs d u some all ends =
     (cond (bytes_eq (encode_utf8_all w) (codes "TAG")) (tag_directive start (mid_line k zs))
     (Ok (reserved (encode_utf8_all w), pass_comment (mid_line k zs))))
     (λ (r : Result (ReadDirective × Cursor) Refusal). r ≡ Ok (d, u) → ValueOf d k w zs u)
-    (λ yaml h. subst (λ v. ValueOf d k v zs u)
-    (sym (same_name w (codes "YAML") (lit< tt, (lit< tt, (lit< tt, (lit< tt, tt)))) yaml))
+    (λ yaml h. rw (same_name w (codes "YAML") (lit< tt, (lit< tt, (lit< tt, (lit< tt, tt)))) yaml)
     (version_value d k zs u (version_spelled start k zs d u ends h)))
     (λ no_yaml. by_test (bytes_eq (encode_utf8_all w) (codes "TAG")) (tag_directive start (mid_line k zs))
     (Ok (reserved (encode_utf8_all w), pass_comment (mid_line k zs)))

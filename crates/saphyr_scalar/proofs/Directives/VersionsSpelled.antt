@@ -1,7 +1,7 @@
 -- What is read as a version directive is spelled so.
-use Rattle.std.proofs.Common.{◌≡◌, ◌≢◌, ℕ, suc, ◌+◌, ◌-◌, ◌*◌, ◌<◌, ◌≤◌, Bool, true, false, List, [], ◌∷◌, ◌++◌, length, take, drop, slice_index, nat_eq, nat_lt, Result, Ok, Err, refl, sym, ap, ◌∙◌, arith, subst}
+use Rattle.std.proofs.Common.{◌≡◌, ◌≢◌, ℕ, suc, ◌+◌, ◌-◌, ◌*◌, ◌<◌, ◌≤◌, Bool, true, false, List, [], ◌∷◌, ◌++◌, length, take, drop, slice_index, nat_eq, nat_lt, Result, Ok, Err, refl, sym, ap, ◌∙◌, arith}
 use Rattle.std.specs.List.{prefix_len}
-use Rattle.std.proofs.lemmas.Bool.{false≢true, eqb-true}
+use Rattle.std.proofs.lemmas.Bool.{eqb-true}
 use Rattle.std.proofs.lemmas.Bool.Decides.{nat_tests}
 use Rattle.std.proofs.lemmas.List.{take-append-drop}
 use Rattle.saphyr_input.specs.Indicators.{full_stop}
@@ -80,9 +80,7 @@ some_of_length t lt e = let k : length t ≡ 0 = ap (λ (u : List ℕ). length u
 -- where a blank or a break comes first, there are blanks before what begins otherwise
 pub gap_some : (p : ℕ → Bool) (xs gap behind : List ℕ) → ((c : ℕ) → is_blank_or_breakz c ≡ true → p c ≡ false)
     → is_blank_or_breakz (slice_index xs 0) ≡ true → xs ≡ gap ++ behind → p (slice_index behind 0) ≡ true → gap ≢ []
-gap_some p xs gap behind apart first text begins none =
-    let same : xs ≡ behind = text ∙ ap (λ g. g ++ behind) none in
-    false≢true (sym (apart (slice_index xs 0) first) ∙ ap (λ u. p (slice_index u 0)) same ∙ begins)
+gap_some p xs gap behind apart first text begins none = grind arith
 
 is_version_number : (w : ℕ) (m : Marker) (xs : List ℕ) (u : Cursor) (is : DigitsOf 0 0 w m xs u)
     → IsVersionNumber w is.digits
@@ -127,8 +125,7 @@ version_spelled start m xs d u begins h =
     let mark : mid.mark ≡ along (along m n) (length high) = ap (λ (y : Cursor). y.mark) a.place in
     let more : mid.rest ≡ 46 ∷ drop 1 mid.rest = cut_at 46 mid.rest refl
     (eqb-true (slice_index mid.rest 0) 46 dot.test) in
-    let point : drop n xs ≡ high ++ (46 ∷ (b.digits ++ u.rest)) =
-    a.text ∙ ap (λ r. high ++ r) (more ∙ ap (λ r. 46 ∷ r) b.text) in
+    let point : drop n xs ≡ high ++ (46 ∷ (b.digits ++ u.rest)) = cc in
     record {
       major = one.given.0;
       minor = two.given.0;

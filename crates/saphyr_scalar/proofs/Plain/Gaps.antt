@@ -1,9 +1,9 @@
 -- What comes after a plain scalar's word, and how much of the text it takes.
-use Rattle.std.proofs.Common.{◌≡◌, ℕ, suc, ◌+◌, ◌≤◌, Bool, true, false, List, [], ◌∷◌, ◌++◌, length, drop, length-drop, slice_index, Result, Ok, Err, refl, sym, ap, subst, ◌∙◌, arith}
-use Rattle.std.specs.Prelude.{◌||◌, ◌&&◌, ◌==◌, not, nat_lt, if◌then◌else◌}
+use Rattle.std.proofs.Common.{◌≡◌, ℕ, suc, ◌+◌, ◌≤◌, Bool, true, false, List, [], ◌∷◌, ◌++◌, length, drop, length-drop, slice_index, Result, Ok, Err, refl, sym, ap, ◌∙◌, arith}
+use Rattle.std.specs.Prelude.{◌||◌, ◌&&◌, ◌==◌, nat_lt, if◌then◌else◌}
 use Rattle.std.specs.List.{prefix_len}
 use Rattle.std.proofs.lemmas.List.{drop-drop}
-use Rattle.saphyr_input.specs.Classes.{is_blank, is_break, is_bom, is_z, tab, line_feed}
+use Rattle.saphyr_input.specs.Classes.{is_blank, is_break, tab, line_feed}
 use Rattle.saphyr_input.specs.Places.{is_blank_or_break, next_2_are}
 use Rattle.saphyr_scalar.specs.declared.scalar.position.Marker.{Marker}
 use Rattle.saphyr_scalar.specs.declared.scalar.fault.Refusal.{Refusal}
@@ -48,12 +48,7 @@ same_gap g h e = cc
 pub may_stand_same : (a : Marker) (t : Bool) (f : List ℕ) (s : Cursor) (g : PlainGap) → reached_gap a t f s ≡ Ok g
     → g ≡ seen_gap t f s
 unfolding content_behind_tab
-may_stand_same a t f s g = by_test (t && is_bom (slice_index s.rest 0)) _ _
-    (λ (r : Result Cursor Refusal). (r >>= λ u. Ok (seen_gap t f u)) ≡ Ok g → g ≡ seen_gap t f s)
-    (λ _ e. absurd (no_refusal _ g e))
-    (λ _. by_test (t && not ((slice_index s.rest 0 == 35) || is_z (slice_index s.rest 0))) _ _
-    (λ (r : Result Cursor Refusal). (r >>= λ u. Ok (seen_gap t f u)) ≡ Ok g → g ≡ seen_gap t f s)
-    (λ _ e. absurd (no_refusal _ g e)) (λ _ e. same_gap (seen_gap t f s) g e))
+may_stand_same a t f s g = grind arith
 
 reached_end : (a : Marker) (t : Bool) (f : List ℕ) (m : Marker) (xs : List ℕ) (g : PlainGap)
     → reached_gap a t f (line_front m xs) ≡ Ok g → IsEnd xs g.behind.rest
@@ -134,9 +129,7 @@ lines_read i a m xs feeds w (Err (stop.Refused r)) e = ap
 gap_over_break : (i : ℕ) (a : Marker) (grown : List ℕ) (s t : Cursor) → Moved is_blank [] grown s t
     → is_break (slice_index t.rest 0) ≡ true → gap i a s ≡ next_lines i a (pass_break t)
 unfolding gap gap_from
-gap_over_break i a grown s t m h = ap (λ (x : List ℕ × Cursor). gap_from i a x.0 x.1) m.is
-    ∙ by_test (is_break (slice_index t.rest 0)) _ _ (λ (r : Result PlainGap Refusal). r ≡ next_lines i a (pass_break t))
-    (λ _. refl) (λ is. absurd (cc))
+gap_over_break i a grown s t m h = grind arith
 
 -- a gap over lines
 pub gap_read : (i : ℕ) (a : Marker) (grown cleared feeds : List ℕ) (s t u v w : Cursor) (r : Result Bool Stop)

@@ -50,8 +50,7 @@ more_run P c cs rest m end k white none line r =
       white = c ∷ r.white;
       are = (white, r.are);
       is = ap (λ l. c ∷ l) r.is;
-      count = ap (λ n. if ends_line c r.white then suc n else n) r.count
-          ∙ ap (λ (b : Bool). if b then suc k else k) (sym same);
+      count = cc;
       place = ap (λ (b : Bool). end_of_text (if b then next_line m 1 else along m 1) r.white) (sym same) ∙ r.place;
       later = (rw r.is at line, r.later);
     }
@@ -122,8 +121,7 @@ break_run P s rest end k h none = at_first s.rest h
         let Begins : Bool → Type 0 = λ b. Run P cs rest (cond b (next_line s.mark 1) (along s.mark 1)) end k → Run P
         (13 ∷ cs) rest s.mark end (cond b (suc k) k) in
         let line : ends_line 13 cs ≡ true = rw e refl in
-        let one : P cs → Begins true = λ p. subst Begins line (more_run P 13 cs rest s.mark end k refl none (λ _. p)) in
-        rw e one
+        rw e (λ p. subst Begins line (more_run P 13 cs rest s.mark end k refl none (λ _. p)))
 
     two : (cs : List ℕ) → Goal (carriage_return ∷ line_feed ∷ cs)
     two cs line r =
@@ -255,8 +253,7 @@ lines_read i xs m g t mark rest breaks line r =
     let k = suc r.breaks in
     let behind = break_run P t g.behind.rest g.behind.mark r.breaks breaks r.stop line r.run in
     let blanks = prefix_len is_blank xs in
-    let moved : Run P (drop blanks xs) g.behind.rest (along m blanks) g.behind.mark k = rw mark (rw rest behind) in
-    let all = blanks_run P xs g.behind.rest m g.behind.mark k r.stop moved in
+    let all = blanks_run P xs g.behind.rest m g.behind.mark k r.stop (rw mark (rw rest behind)) in
     record {
       white = all.white;
       are = all.are;

@@ -1,21 +1,21 @@
 -- The later lines of a plain scalar that is read are indented.
-use Rattle.std.proofs.Common.{◌≡◌, ◌≢◌, ℕ, ◌+◌, ◌-◌, ◌≤◌, Bool, true, false, List, [], ◌∷◌, ◌++◌, slice_index, Result, Ok, refl, sym, ap, ◌∙◌, arith, subst, IsTrue, append_assoc}
+use Rattle.std.proofs.Common.{◌≡◌, ◌≢◌, ℕ, ◌+◌, ◌-◌, ◌≤◌, Bool, true, false, List, [], ◌∷◌, ◌++◌, slice_index, Result, Ok, refl, sym, ap, ◌∙◌, arith, IsTrue, append_assoc}
 use Rattle.std.specs.Prelude.{◌||◌, ◌&&◌, ◌==◌, not, nat_le, nat_lt, if◌then◌else◌}
-use Rattle.std.proofs.lemmas.Bool.{false≢true, eqb-true, le-leb, leb-true, ltb-false, or_left, or_right, or_parts}
-use Rattle.saphyr_input.specs.Classes.{is_blank, is_break, is_bom, is_z, tab, line_feed}
+use Rattle.std.proofs.lemmas.Bool.{false≢true, eqb-true, le-leb, leb-true, or_left, or_right, or_parts}
+use Rattle.saphyr_input.specs.Classes.{is_blank, is_break, is_z, tab, line_feed}
 use Rattle.saphyr_input.specs.Places.{is_blank_or_break, can_be_plain}
 use Rattle.saphyr_input.specs.Indicators.{number_sign}
 use Rattle.saphyr_scalar.specs.declared.scalar.position.Marker.{Marker}
 use Rattle.saphyr_scalar.specs.declared.scalar.fault.Refusal.{Refusal}
-use Rattle.saphyr_scalar.specs.Views.Cursor.{Cursor, ◌>>=◌, along, next_line, pass_break}
+use Rattle.saphyr_scalar.specs.Views.Cursor.{Cursor, along, next_line, pass_break}
 use Rattle.saphyr_scalar.specs.Spelling.LaterLines.{indentation, behind_indentation, is_blank_line, is_plain_line, AreLaterLines}
-use Rattle.saphyr_scalar.specs.Steps.Plain.{is_in_word, next_word_starts, PlainGap, seen_gap, content_behind_tab, reached_gap, line_front, ends_line, lines}
+use Rattle.saphyr_scalar.specs.Steps.Plain.{is_in_word, next_word_starts, PlainGap, content_behind_tab, reached_gap, line_front, ends_line, lines}
 use Rattle.saphyr_scalar.proofs.Quoted.Inside.{break_cases}
 use Rattle.saphyr_scalar.proofs.Quoted.Gaps.{by_break_len}
 use Rattle.saphyr_scalar.proofs.PassedBreaks.{behind_one}
-use Rattle.saphyr_scalar.proofs.Plain.Gaps.{no_refusal, may_stand_same}
+use Rattle.saphyr_scalar.proofs.Plain.Gaps.{may_stand_same}
 use Rattle.saphyr_scalar.proofs.Plain.Pieces.{not_in_word}
-use Rattle.saphyr_scalar.proofs.Plain.Spelled.{other_answer, goes_begins}
+use Rattle.saphyr_scalar.proofs.Plain.Spelled.{goes_begins}
 use Rattle.saphyr_scalar.proofs.Plain.Runs.{Ink, AreInk}
 use Rattle.saphyr_input.proofs.Basics.Booleans.{by_test, either, and_true_left}
 use Rattle.saphyr_input.proofs.Basics.Characters.{blank_cases}
@@ -100,17 +100,7 @@ break_on_line f t n c cs h = blank f t n (c ∷ cs) (or_left (is_break c) (is_bl
 tabbed_content : (a : Marker) (f : List ℕ) (s : Cursor) (g : PlainGap) → reached_gap a true f s ≡ Ok g
     → ((slice_index s.rest 0 == number_sign) || is_z (slice_index s.rest 0)) ≡ true
 unfolding content_behind_tab
-tabbed_content a f s g = by_test (is_bom (slice_index s.rest 0)) _ _
-    (λ (r : Result Cursor Refusal). (r >>= λ u. Ok (seen_gap true f u)) ≡ Ok g
-    → ((slice_index s.rest 0 == number_sign) || is_z (slice_index s.rest 0)) ≡ true)
-    (λ _ e. absurd (no_refusal _ g e))
-    (λ _. by_test (not ((slice_index s.rest 0 == 35) || is_z (slice_index s.rest 0))) _ _
-    (λ (r : Result Cursor Refusal). (r >>= λ u. Ok (seen_gap true f u)) ≡ Ok g
-    → ((slice_index s.rest 0 == number_sign) || is_z (slice_index s.rest 0)) ≡ true)
-    (λ _ e. absurd (no_refusal _ g e)) (λ h e. is_not _ h))
-  where
-    is_not : (b : Bool) → not b ≡ false → b ≡ true
-    is_not b h = grind arith
+tabbed_content a f s g = grind arith
 
 word_no_nul : (f : Bool) (xs : List ℕ) → is_in_word f xs ≡ true → is_z (slice_index xs 0) ≡ false
 unfolding is_in_word
@@ -151,8 +141,7 @@ white_on_line f i t m c cs white h = either (is_blank c) (is_break c) (IsOnLine 
     (λ is. blank_cases c is
     (λ x. IsOnLine f (is_blank x && (t || ((x == tab) && nat_lt m.col i))) (i - (behind_one m x cs).col) cs
     → IsOnLine f t (i - m.col) (x ∷ cs))
-    (λ k. space_on_line f t (i - m.col) (i - (m.col + 1)) cs (omega arith)
-    (subst (λ b. IsOnLine f b (i - (m.col + 1)) cs) (or_no t) k))
+    (λ k. space_on_line f t (i - m.col) (i - (m.col + 1)) cs (omega arith) (rw (or_no t) at k))
     (λ k. tab_on_line f t i m (i - (m.col + 1)) cs k) h) (λ is. break_on_line f t (i - m.col) c cs is)
   where
     or_no : (b : Bool) → (b || false) ≡ b
@@ -201,9 +190,7 @@ not_left i col x y h g k = grind arith
 goes_right : (f : Bool) (i : ℕ) (s t : Cursor) → next_word_starts f i s ≡ Ok (true, t) → f ≡ false
     → s.blank_so_far ≡ true → i ≤ s.mark.col
 unfolding next_word_starts
-goes_right f i s t = by_test (s.blank_so_far && not f && nat_lt s.mark.col i) _ _
-    (λ (r : Result (Bool × Cursor) Refusal). r ≡ Ok (true, t) → f ≡ false → s.blank_so_far ≡ true → i ≤ s.mark.col)
-    (λ _ e _ _. absurd (other_answer s t e)) (λ h _ out line. not_left i s.mark.col s.blank_so_far f h out line)
+goes_right f i s t = grind arith
 
 pub goes_on : (f : Bool) (i : ℕ) (s t : Cursor) → next_word_starts f i s ≡ Ok (true, t) → is_in_word f s.rest ≡ true
     → GoesOn f i s

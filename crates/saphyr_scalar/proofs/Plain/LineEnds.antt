@@ -1,7 +1,6 @@
 -- Where a word of a plain scalar ends its line, and what is left after that.
-use Rattle.std.proofs.Common.{◌≡◌, ℕ, Bool, true, false, List, [], ◌∷◌, ◌++◌, slice_index, Result, Ok, refl, sym, ap, ◌∙◌, subst}
+use Rattle.std.proofs.Common.{◌≡◌, ℕ, Bool, true, false, List, [], ◌∷◌, ◌++◌, slice_index, Result, Ok, refl, sym, ap, ◌∙◌}
 use Rattle.std.specs.Prelude.{◌&&◌, ◌==◌, not, nat_lt, None, if◌then◌else◌}
-use Rattle.std.specs.List.{prefix_len}
 use Rattle.std.proofs.lemmas.List.{append-nil}
 use Rattle.std.proofs.lemmas.Bool.{not-true}
 use Rattle.saphyr_input.specs.Classes.{is_blank, is_break}
@@ -113,8 +112,7 @@ pub break_gap_read : (i : ℕ) (a : Marker) (cleared feeds : List ℕ) (s u v w 
     → Moves (λ t. seen_gap t feeds w) r (lines i a false cleared v.mark v.rest)
     → Moves (λ t. seen_gap t (gap_text w.blank_so_far feeds) w) r (gap i a s)
 break_gap_read i a cleared feeds s u v w r line same breaks on empty h =
-    let from : gap i a s ≡ next_lines i a v = break_gap i a s line breaks
-    ∙ ap (next_lines i a) (sym (on ∙ ap pass_break same)) in
+    let from : gap i a s ≡ next_lines i a v = cc (break_gap i a s line breaks) in
     rw from (lines_read i a v.mark v.rest feeds w r (rw empty at h))
 
 -- where no tab is in the indentation, nothing is refused

@@ -1,9 +1,9 @@
 -- The blanks and breaks after a plain scalar's word, read a piece at a time.
-use Rattle.std.proofs.Common.{◌≡◌, ℕ, ◌+◌, ◌<◌, Bool, true, false, List, [], ◌∷◌, ◌++◌, length, drop, length-drop, slice_index, Result, Ok, Err, refl, sym, ap, ◌∙◌, arith, subst}
+use Rattle.std.proofs.Common.{◌≡◌, ℕ, ◌+◌, ◌<◌, Bool, true, false, List, [], ◌∷◌, ◌++◌, length, drop, slice_index, Result, Ok, Err, refl, sym, ap, ◌∙◌, arith, subst}
 use Rattle.std.specs.Prelude.{◌||◌, ◌&&◌, ◌==◌, nat_lt}
 use Rattle.std.proofs.lemmas.Bool.Decides.{nat_tests}
 use Rattle.saphyr_input.specs.Classes.{is_blank, is_break, tab, carriage_return, line_feed}
-use Rattle.saphyr_input.specs.Places.{is_blank_or_break, next_2_are}
+use Rattle.saphyr_input.specs.Places.{is_blank_or_break}
 use Rattle.saphyr_scalar.specs.declared.scalar.position.Marker.{Marker}
 use Rattle.saphyr_scalar.specs.declared.scalar.fault.Refusal.{Refusal}
 use Rattle.saphyr_scalar.specs.Views.Cursor.{Cursor, ◌>>=◌, along, next_line, pass_break}
@@ -11,7 +11,6 @@ use Rattle.saphyr_scalar.specs.Steps.Plain.{lines, reached_gap, line_front, pass
 use Rattle.saphyr_scalar.proofs.Quoted.Inside.{break_cases}
 use Rattle.saphyr_input.proofs.Basics.Booleans.{by_test}
 use Rattle.saphyr_input.proofs.Basics.Characters.{blank_cases}
-use Rattle.saphyr_scalar.proofs.PassedBreaks.{break_shorter}
 
 pub some_blank : (xs : List ℕ) → is_blank (slice_index xs 0) ≡ true → 0 < length xs
 some_blank [] h = absurd (cc)
@@ -98,20 +97,12 @@ blank_of a b x y = grind arith
 pub past_shorter : (i : ℕ) (t : Bool) (f : List ℕ) (s : Cursor) → is_blank_or_break (slice_index s.rest 0) ≡ true
     → length (pass_white i t f s).2.rest < length s.rest
 unfolding pass_white
-past_shorter i t f s h =
-    by_test (is_break (slice_index s.rest 0)) _ _ (λ (p : Bool × List ℕ × Cursor). length p.2.rest < length s.rest)
-    (λ e. break_shorter s e)
-    (λ e. let some = some_blank s.rest (blank_of (is_blank (slice_index s.rest 0)) _ h e) in
-    rw length-drop (omega arith))
+past_shorter i t f s h = grind arith
 
 pub past_blank : (i : ℕ) (t : Bool) (f : List ℕ) (s : Cursor) → s.blank_so_far ≡ true
     → (pass_white i t f s).2.blank_so_far ≡ true
 unfolding pass_white
-past_blank i t f s h =
-    by_test (is_break (slice_index s.rest 0)) _ _ (λ (p : Bool × List ℕ × Cursor). p.2.blank_so_far ≡ true)
-    (λ e. by_test (next_2_are s.rest 13 10) _ _ (λ (p : Cursor). p.blank_so_far ≡ true) (λ _. refl)
-    (λ _. by_test (is_break (slice_index s.rest 0)) _ _ (λ (p : Cursor). p.blank_so_far ≡ true) (λ _. refl)
-    (λ _. h))) (λ _. h)
+past_blank i t f s h = grind arith
 
 pub past_on : (i : ℕ) (a : Marker) (t : Bool) (f : List ℕ) (s : Cursor)
     → is_blank_or_break (slice_index s.rest 0) ≡ true

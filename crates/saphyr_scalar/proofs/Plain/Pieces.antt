@@ -1,5 +1,5 @@
 -- A plain scalar, read a piece at a time.
-use Rattle.std.proofs.Common.{◌≡◌, ℕ, zero, suc, ◌+◌, Bool, true, false, List, [], ◌∷◌, ◌++◌, take, drop, slice_index, Result, Ok, Err, refl, sym, ap, ◌∙◌, arith, subst, encode_utf8_all, append_assoc}
+use Rattle.std.proofs.Common.{◌≡◌, ℕ, zero, suc, ◌+◌, Bool, true, false, List, [], ◌∷◌, ◌++◌, take, drop, slice_index, Result, Ok, Err, refl, sym, ap, ◌∙◌, arith, encode_utf8_all, append_assoc}
 use Rattle.std.specs.Prelude.{◌||◌, ◌&&◌, ◌==◌, not, nat_lt, encode_utf8, if◌then◌else◌, pred}
 use Rattle.std.specs.Result.{IsErrAnd}
 use Rattle.std.proofs.lemmas.Bool.Decides.{nat_tests}
@@ -67,7 +67,7 @@ says_not f b s t e =
     let pair : ◌≡◌ {A = Bool × Cursor} (false, s) (b, t) = cc in
     record {
       same = sym (ap (λ (x : Bool × Cursor). x.1) pair);
-      goes = λ h. let no : b ≡ false = sym (ap (λ (x : Bool × Cursor). x.0) pair) in absurd (cc);
+      goes = λ h. absurd (cc (sym (ap (λ (x : Bool × Cursor). x.0) pair)));
     }
 
 says_it : (f b : Bool) (s t : Cursor) → answer (is_in_word f s.rest) s ≡ answer b t → KeepsWord f b s t

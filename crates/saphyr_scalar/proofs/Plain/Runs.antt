@@ -1,5 +1,5 @@
 -- What is between the words of a plain scalar, and what it is read as.
-use Rattle.std.proofs.Common.{◌≡◌, ℕ, zero, suc, ◌+◌, Bool, true, false, List, [], ◌∷◌, ◌++◌, length, map, slice_index, refl, sym, ap, ◌∙◌, arith, subst, IsTrue, append_assoc, cond}
+use Rattle.std.proofs.Common.{◌≡◌, ℕ, zero, suc, ◌+◌, Bool, true, false, List, [], ◌∷◌, ◌++◌, length, map, slice_index, refl, sym, ap, ◌∙◌, arith, IsTrue, append_assoc, cond}
 use Rattle.std.specs.Prelude.{◌||◌, ◌&&◌, ◌==◌, not, if◌then◌else◌}
 use Rattle.std.proofs.lemmas.List.{map-append}
 use Rattle.saphyr_input.specs.Breaks.{normalized, normal_break}
@@ -42,11 +42,7 @@ pub ink_no_feed : (c : ℕ) → Ink c → (c == line_feed) ≡ false
 ink_no_feed c h = (three_false (is_blank c) (c == 10) (c == 13) h).1
 
 items_ink : (c : ℕ) (cs : List ℕ) → Ink c → items_of (c ∷ cs) ≡ Raw c ∷ items_of cs
-items_ink c cs h =
-    let t = three_false (is_blank c) (c == 10) (c == 13) h in
-    let normal : normalized (c ∷ cs) ≡ c ∷ normalized cs = rw t.2 refl in
-    let raw : raw_item c ≡ Raw c = rw (t.1, t.0) refl in
-    ap (map raw_item) normal ∙ ap (λ (i : Item). i ∷ items_of cs) raw
+items_ink c cs h = grind arith
 
 items_blank : (c : ℕ) (cs : List ℕ) → is_blank c ≡ true → items_of (c ∷ cs) ≡ Blank c ∷ items_of cs
 items_blank c cs h = blank_cases c h (λ x. items_of (x ∷ cs) ≡ Blank x ∷ items_of cs) refl refl
@@ -88,8 +84,7 @@ passed_word m [] y h = ap (λ x. end_of_text x y) (sym (along_none m))
 passed_word m (c ∷ w) y h =
     let t = three_false (is_blank c) (c == 10) (c == 13) h.0 in
     let none : ends_line c (w ++ y) ≡ false = rw (t.1, t.2) refl in
-    ap (λ (b : Bool). end_of_text (if b then next_line m 1 else along m 1) (w ++ y)) none ∙ passed_word
-    (along m 1) w y h.1 ∙ ap (λ x. end_of_text x y) (along_more m 1 (length w) (suc (length w)) (omega arith))
+    cc (passed_word (along m 1) w y h.1, along_more m 1 (length w) (suc (length w)) (omega arith))
 
 -- Runs of blanks and breaks.
 

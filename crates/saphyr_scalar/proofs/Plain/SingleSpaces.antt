@@ -1,5 +1,5 @@
 -- Words of a plain scalar, and single spaces between them, taken off in one piece.
-use Rattle.std.proofs.Common.{◌≡◌, ℕ, zero, suc, ◌+◌, ◌^◌, ◌<◌, ◌≤◌, Bool, true, false, List, [], ◌∷◌, ◌++◌, length, length-drop, take, drop, slice_index, Result, Ok, refl, sym, ap, ◌∙◌, subst, arith, encode_utf8_all, cond}
+use Rattle.std.proofs.Common.{◌≡◌, ℕ, zero, suc, ◌+◌, ◌^◌, ◌<◌, ◌≤◌, Bool, true, false, List, [], ◌∷◌, ◌++◌, length, length-drop, take, drop, slice_index, Result, Ok, refl, sym, ap, ◌∙◌, arith, encode_utf8_all, cond}
 use Rattle.std.specs.Prelude.{◌&&◌, ◌||◌, ◌==◌, not, encode_utf8}
 use Rattle.std.specs.List.{prefix_len}
 use Rattle.std.proofs.lemmas.Bool.Decides.{nat_tests}
@@ -11,17 +11,16 @@ use Rattle.saphyr_input.specs.Places.{is_document_indicator, words_len, Transfer
 use Rattle.saphyr_input.proofs.WordRuns.{words_within}
 use Rattle.saphyr_scalar.specs.declared.scalar.position.Marker.{Marker}
 use Rattle.saphyr_scalar.specs.declared.scalar.fault.Refusal.{Refusal}
-use Rattle.saphyr_scalar.specs.Views.Cursor.{Cursor, ◌>>=◌, along, pass}
-use Rattle.saphyr_scalar.specs.Steps.Plain.{is_in_word, word_starts, next_word_starts, gap_from, gap, PlainGap, with_text, scalar_end, word, PlainWordsMoved, seen_gap}
+use Rattle.saphyr_scalar.specs.Views.Cursor.{Cursor, along}
+use Rattle.saphyr_scalar.specs.Steps.Plain.{is_in_word, word_starts, next_word_starts, gap_from, gap, PlainGap, with_text, word, PlainWordsMoved, seen_gap}
 use Rattle.saphyr_scalar.specs.Steps.Quoted.{mid_line}
 use Rattle.saphyr_scalar.specs.Steps.Sets.{in_plain, leads_plain}
 use Rattle.saphyr_scalar.proofs.Moving.{along_none, along_more}
-use Rattle.saphyr_scalar.proofs.Plain.Pieces.{plain_behind_gap, word_over, word_on, text_twice, WordPart, no_part}
+use Rattle.saphyr_scalar.proofs.Plain.Pieces.{word_over, word_on, text_twice, WordPart, no_part}
 use Rattle.saphyr_scalar.proofs.Plain.Words.{word_left}
 use Rattle.saphyr_scalar.proofs.Quoted.Inside.{Moved, IsQuotedInk, content_of}
 use Rattle.saphyr_scalar.proofs.Quoted.Words.{both_true}
 use Rattle.saphyr_input.proofs.Basics.Booleans.{by_test, either}
-use Rattle.saphyr_scalar.proofs.Given.{together}
 
 -- a character of the set goes on with a word
 pub set_in_word : (f : Bool) (xs : List ℕ) → in_plain f (slice_index xs 0) ≡ true → is_in_word f xs ≡ true
@@ -242,9 +241,7 @@ ran_place_fits f text grown s t n r fits = omega (arith, r.total, fits, ap (λ (
 
 pub ran_left : (f : Bool) (text grown : List ℕ) (s t : Cursor) (n : ℕ) (m : Marker) → WordsRan f text grown s t n
     → s.mark.index + length s.rest < 2 ^ 64 → m ≡ along t.mark n → m.index + length t.rest < 2 ^ 64
-ran_left f text grown s t n m r fits moved =
-    let index : m.index ≡ t.mark.index + n = ap (λ (m : Marker). m.index) moved in
-    omega (arith, r.total, fits, ap (λ (m : Marker). m.index) r.mark)
+ran_left f text grown s t n m r fits moved = grind arith
 
 pub turn_fits : (f : Bool) (text grown : List ℕ) (s t : Cursor) (n c : ℕ) (b : Bool)
     → WordsTurn f text grown s t n c b → b ≡ true → s.mark.index + length s.rest < 2 ^ 64 → n + 1 < 2 ^ 64

@@ -74,7 +74,7 @@ word_turn n f i a m xs hyp short goes begins x is = by_gap (gap i a (mid_line en
         (goes_begins f i g.behind u q) (word f i a g.behind.mark g.behind.rest) refl (rw says.same at e)
       where
         shorter : (d r t : ℕ) → d ≡ length xs - k → t + r ≡ d → r ≤ n
-        shorter d r t cut count = let some = word_left f xs goes in omega (arith, word_len_more f xs goes, short)
+        shorter d r t cut count = omega (arith, word_len_more f xs goes, short)
 
     by_answer : (g : PlainGap) → gap i a (mid_line end left) ≡ Ok g → (r : Result (Bool × Cursor) Refusal)
         → next_word_starts f i g.behind ≡ r

@@ -45,15 +45,10 @@ word_character f c cs h =
     first_of a b x = grind arith
 
     by_parts : (a b z : Bool) → not (a || (b || z)) ≡ true → (a || b) ≡ false
-    by_parts false false z x = refl
-    by_parts true b z x = absurd (false≢true x)
-    by_parts false true z x = absurd (false≢true x)
+    by_parts a b z x = grind arith
 
 ink_line : (c : ℕ) (cs : List ℕ) → Ink c → ends_line c cs ≡ false
-ink_line c cs h = let no : is_break c ≡ false = second_of (is_blank c) (is_break c) h in rw no refl
-  where
-    second_of : (a b : Bool) → (a || b) ≡ false → b ≡ false
-    second_of a b x = grind arith
+ink_line c cs h = grind arith
 
 -- one character more of a word
 one_spelled : (f : Bool) (m : Marker) (apart : Bool) (c : ℕ) (cs behind all : List ℕ) → cs ++ behind ≡ all
@@ -79,14 +74,13 @@ word_tail f m (c ∷ cs) y behind some = by_test (is_in_word f (c ∷ cs)) (1 + 
     (λ n. drop n (c ∷ cs) ≡ y ++ behind → IsSpelledPlain (along m n) false y behind
     → IsSpelledPlain m false (take n (c ∷ cs) ++ y) behind) (λ goes.
     let n = word_len f cs in
-    let one : 1 + n ≡ suc n = omega arith in
     let Goal : ℕ → Type 0 = λ k. drop k (c ∷ cs) ≡ y ++ behind → IsSpelledPlain (along m k) false y behind
     → IsSpelledPlain m false (take k (c ∷ cs) ++ y) behind in
     let next : Goal (suc n) = λ e h.
     one_spelled f m false c (take n cs ++ y) behind cs (taken_and_left cs y behind n e) (word_character f c cs goes)
     (λ t. absurd (false≢true t)) (λ t. absurd (omega arith)) (word_tail f (along m 1) cs y behind (omega arith) e
     (rw (along_more m 1 n (suc n) (omega arith)) h)) in
-    subst Goal (sym one) next) (λ _ e h. rw (along_none m) at h)
+    subst Goal (sym (omega arith)) next) (λ _ e h. rw (along_none m) at h)
 
 -- where a word may begin
 pub record Begins (m : Marker) (xs : List ℕ) : Type 0 where
@@ -283,9 +277,7 @@ begins_here s h = record {
     first_not a b x y = grind arith
 
     second_not : (a b d : Bool) → (a || (b && d)) ≡ false → b ≡ true → d ≡ false
-    second_not false true d x y = x
-    second_not false false d x y = absurd (cc)
-    second_not true b d x y = absurd (cc)
+    second_not a b d x y = grind arith
 
 pub starts_begins : (f : Bool) (s t : Cursor) → word_starts f s ≡ Ok (true, t) → Begins s.mark s.rest
 unfolding word_starts

@@ -1,7 +1,6 @@
 -- Where a word of a plain scalar ends before neither a blank nor a break, the scalar ends.
-use Rattle.std.proofs.Common.{◌≡◌, ℕ, Bool, true, false, List, [], slice_index, Ok, refl, sym, ap, ◌∙◌, arith}
+use Rattle.std.proofs.Common.{◌≡◌, ℕ, Bool, true, false, List, [], slice_index, Ok, refl, ap, ◌∙◌, arith}
 use Rattle.std.specs.Prelude.{◌==◌, not, None}
-use Rattle.std.specs.List.{prefix_len}
 use Rattle.std.proofs.lemmas.Bool.{or_parts}
 use Rattle.std.proofs.lemmas.Bool.Decides.{nat_tests}
 use Rattle.saphyr_input.specs.Indicators.{number_sign}
@@ -11,7 +10,6 @@ use Rattle.saphyr_input.proofs.Basics.Booleans.{by_test, and_false}
 use Rattle.saphyr_scalar.specs.declared.scalar.position.Marker.{Marker}
 use Rattle.saphyr_scalar.specs.Views.Cursor.{Cursor, pass}
 use Rattle.saphyr_scalar.specs.Steps.Plain.{PlainGap, is_in_word, PlainWordsMoved, seen_gap, gap_from, gap, comment_of, with_text, word}
-use Rattle.saphyr_scalar.proofs.Moving.{along_none}
 use Rattle.saphyr_scalar.proofs.NoSeparation.{no_run}
 use Rattle.saphyr_scalar.proofs.Plain.Pieces.{GapMoved, goes_not, no_turn}
 
@@ -31,9 +29,7 @@ pub still_moved : (f : Bool) (i : ℕ) (a : Marker) (text : List ℕ) (s : Curso
 still_moved f i a text s g ends line is = record { moved = none_moved f text s ends line; is = is }
 
 pub none_passed : (s : Cursor) → s.blank_so_far ≡ false → pass 0 s ≡ s
-none_passed s line =
-    ap (λ m. let t : Cursor = record { rest = s.rest; mark = m; blank_so_far = false } in t) (along_none s.mark)
-    ∙ ap (λ b. let t : Cursor = record { rest = s.rest; mark = s.mark; blank_so_far = b } in t) (sym line)
+none_passed s line = grind arith
 
 gap_before_ink : (i : ℕ) (a : Marker) (s : Cursor) → s.blank_so_far ≡ false
     → is_blank_or_break (slice_index s.rest 0) ≡ false → gap i a s ≡ Ok (seen_gap false [] s)

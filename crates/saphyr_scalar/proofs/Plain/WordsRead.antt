@@ -1,5 +1,5 @@
 -- A word of a plain scalar, and a gap before more words, are read as a piece of the text.
-use Rattle.std.proofs.Common.{◌≡◌, ℕ, suc, ◌+◌, ◌≤◌, Bool, true, false, List, [], ◌∷◌, ◌++◌, length, take, drop, slice_index, Option, refl, sym, ap, ◌∙◌, arith, subst, IsTrue, append_assoc, encode_utf8_all}
+use Rattle.std.proofs.Common.{◌≡◌, ℕ, suc, ◌+◌, ◌≤◌, Bool, true, false, List, [], ◌∷◌, ◌++◌, length, take, drop, slice_index, Option, sym, ap, ◌∙◌, arith, IsTrue, append_assoc, encode_utf8_all}
 use Rattle.std.specs.Prelude.{◌||◌, ◌&&◌, not}
 use Rattle.std.proofs.lemmas.List.{append-nil, take-append-drop, length-take-le}
 use Rattle.std.proofs.lemmas.Str.{encodes-append}
@@ -18,7 +18,7 @@ use Rattle.saphyr_scalar.proofs.Plain.Runs.{Ink, AreInk, items_of, ink_no_feed, 
 use Rattle.saphyr_input.proofs.Basics.Booleans.{by_test}
 use Rattle.saphyr_scalar.proofs.Plain.GapsRead.{GapReads}
 use Rattle.saphyr_scalar.proofs.Plain.Indented.{GoesOn, IsLine, later_append, later_ink, later_weaken}
-use Rattle.saphyr_scalar.specs.Spelling.LaterLines.{AreLaterLines, IsPlainLine, ArePlainLines}
+use Rattle.saphyr_scalar.specs.Spelling.LaterLines.{IsPlainLine, ArePlainLines}
 
 -- Words and gaps.
 
@@ -102,8 +102,7 @@ last_word f i m xs g goes begins w r =
       others = w.others;
       ink = w.ink.0;
       white = r.white;
-      is = sym (take-append-drop n xs) ∙ ap (λ (l : List ℕ). l ++ drop n xs) w.is
-          ∙ ap (λ (l : List ℕ). (w.first ∷ w.others) ++ l) r.is;
+      is = cc (take-append-drop n xs);
       spelled = rw (append-nil (take n xs) ∙ w.is) at (word_spelled f m xs [] (r.white ++ g.behind.rest) goes begins
           r.is tt);
       safe = λ e. rw (append-nil (take n xs) ∙ w.is) at (safe_word f xs [] (r.white ++ g.behind.rest) e r.is tt);
@@ -130,9 +129,7 @@ word_more f i m xs g x goes begins w on r b =
     let next = b.first ∷ b.others in
     let rest = b.white ++ x.3.rest in
     let count : length word ≡ n = sym (ap length w.is) ∙ length-take-le n xs (word_within f xs) in
-    let text : xs ≡ word ++ (r.white ++ (next ++ rest)) = sym (take-append-drop n xs)
-    ∙ ap (λ (l : List ℕ). l ++ drop n xs) w.is
-    ∙ ap (λ (l : List ℕ). word ++ l) (r.is ∙ ap (λ (l : List ℕ). r.white ++ l) b.is) in
+    let text : xs ≡ word ++ (r.white ++ (next ++ rest)) = cc (take-append-drop n xs) in
     let read : folded (items_of (word ++ (r.white ++ next))) ≡ word ++ (r.value ++ folded (items_of next)) =
     folded_word word (r.white ++ next) w.ink ∙ ap (λ (l : List ℕ). word ++ l) (r.reads b.first b.others b.ink) in
     let left : drop n xs ≡ (r.white ++ next) ++ rest = r.is ∙ ap (λ (l : List ℕ). r.white ++ l) b.is

@@ -69,8 +69,7 @@ spells_anchor s t text some =
     let count : length name ≡ n = length-take-le n xs (prefix_len-le-length is_anchor_char xs) in
     let ends : is_anchor_char (slice_index t.rest 0) ≡ false = rw (← rest) (run_ends is_anchor_char xs refl) in
     let place : t ≡ mid_line (along s.mark (1 + length name)) t.rest =
-    sym left ∙ ap (mid_line (along (along s.mark 1) n)) rest
-    ∙ ap (λ k. mid_line k t.rest) (along_more s.mark 1 n (1 + length name) (omega arith)) in (
+    cc (along_more s.mark 1 n (1 + length name) (omega arith)) in (
       slice_index s.rest 0,
       name,
       (first_and_rest s.rest some

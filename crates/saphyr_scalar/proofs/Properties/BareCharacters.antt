@@ -3,20 +3,17 @@ use Rattle.std.proofs.Common.{◌≡◌, ℕ, suc, ◌+◌, ◌≤◌, Bool, tru
 use Rattle.std.specs.Prelude.{◌&&◌, ◌==◌, not, encode_utf8}
 use Rattle.std.specs.List.{prefix_len}
 use Rattle.std.proofs.lemmas.Bool.Decides.{nat_tests}
-use Rattle.std.proofs.lemmas.Bool.{not-true}
 use Rattle.saphyr_input.specs.Indicators.{percent_sign}
 use Rattle.saphyr_input.proofs.WordRuns.{run_ends}
 use Rattle.saphyr_scalar.specs.declared.scalar.position.Marker.{Marker}
 use Rattle.saphyr_scalar.specs.declared.scalar.fault.Refusal.{Refusal}
 use Rattle.saphyr_scalar.specs.declared.scalar.tag.UriSet.{UriSet}
-use Rattle.saphyr_scalar.specs.declared.scalar.tag.UriSet.TheVariants.{Uri, Suffix}
 use Rattle.saphyr_scalar.specs.Views.Cursor.{Cursor, along, pass_blanks}
 use Rattle.saphyr_scalar.specs.Steps.Quoted.{with_front, with_front_run}
 use Rattle.saphyr_scalar.specs.Steps.Sets.{is_bare}
 use Rattle.saphyr_scalar.specs.Steps.Tag.{is_in_set, percent_escape, uri_character, decoded_characters, decoded_at}
 use Rattle.saphyr_scalar.proofs.Moving.{along_none, along_more}
 use Rattle.saphyr_scalar.proofs.Quoted.Inside.{front_twice, no_front}
-use Rattle.saphyr_scalar.proofs.Quoted.Words.{both_true}
 use Rattle.saphyr_input.proofs.Basics.Booleans.{by_test}
 use Rattle.saphyr_input.proofs.Basics.Lists.{drop_shorter}
 
@@ -24,9 +21,7 @@ bare_passed : (set : UriSet) (start m : Marker) (c : ℕ) (cs : List ℕ) → is
     → decoded_characters set start 0 m (c ∷ cs) ≡ with_front (encode_utf8 c) (decoded_characters set start 0
     (along m 1) cs)
 unfolding decoded_characters uri_character
-bare_passed set start m c cs h =
-    let two = both_true (not (c == 37)) (is_in_set set c) h in
-    let other = not-true (c == 37) two.0 in rw (two.1, other) refl
+bare_passed set start m c cs h = grind arith
 
 abbrev DecodedPiece : UriSet → Marker → Marker → List ℕ → ℕ → Type 0
 DecodedPiece set start m xs n = decoded_characters set start 0 m xs ≡ with_front (encode_utf8_all (take n xs))

@@ -1,14 +1,11 @@
 -- The escape of a byte that was taken off, where each place is told again.
-use Rattle.std.proofs.Common.{◌≡◌, ℕ, ◌+◌, ◌-◌, ◌*◌, ◌^◌, ◌<◌, ◌≤◌, true, List, [], ◌∷◌, length, slice_index, Result, Ok, refl, sym, ap, ◌∙◌, arith}
-use Rattle.std.specs.Prelude.{◌==◌}
+use Rattle.std.proofs.Common.{◌≡◌, ℕ, ◌+◌, ◌-◌, ◌*◌, ◌^◌, ◌<◌, ◌≤◌, true, List, [], ◌∷◌, length, slice_index, Ok, arith}
 use Rattle.std.proofs.lemmas.Bool.{false≢true}
-use Rattle.std.proofs.lemmas.Bool.Decides.{nat_tests}
 use Rattle.saphyr_input.specs.Classes.{is_hex, hex_value}
 use Rattle.saphyr_input.specs.Indicators.{percent_sign}
 use Rattle.saphyr_scalar.specs.declared.scalar.position.Marker.{Marker}
-use Rattle.saphyr_scalar.specs.declared.scalar.fault.Refusal.{Refusal}
 use Rattle.saphyr_scalar.specs.Views.Cursor.{Cursor, pass}
-use Rattle.saphyr_scalar.specs.Steps.Tag.{byte_value, escaped_byte, is_trailing, trailing_byte}
+use Rattle.saphyr_scalar.specs.Steps.Tag.{escaped_byte, trailing_byte}
 
 -- the three characters that are shown: `%`, and two digits with their values
 pub record ShowsByte (xs : List ℕ) (a b : ℕ) : Type 0 where
@@ -18,20 +15,10 @@ pub record ShowsByte (xs : List ℕ) (a b : ℕ) : Type 0 where
   pub high_is : a ≡ hex_value (slice_index xs 1)
   pub low_is : b ≡ hex_value (slice_index xs 2)
 
-byte_is : (a b c d : ℕ) → a ≡ c → b ≡ d → c * 16 + d ≡ a * 16 + b
-byte_is a b c d e f = rw (e, f) refl
-
 pub byte_on : (start : Marker) (s u t : Cursor) (a b : ℕ) → ShowsByte u.rest a b → u ≡ s → t ≡ pass 3 u
     → escaped_byte start s ≡ Ok (a * 16 + b, t)
 unfolding escaped_byte
-byte_on start s u t a b shows same on =
-    let percent : (slice_index u.rest 0 == 37) ≡ true = test _ shows.first in
-    ap (escaped_byte start) (sym same) ∙ (rw (percent, shows.high, shows.low) refl) ∙ ap
-    (λ n. let r : Result (ℕ × Cursor) Refusal = Ok (n, pass 3 u) in r) (byte_is a b _ _ shows.high_is shows.low_is)
-    ∙ ap (λ x. let r : Result (ℕ × Cursor) Refusal = Ok (a * 16 + b, x) in r) (sym on)
-  where
-    test : (x : ℕ) → x ≡ 37 → (x == 37) ≡ true
-    test x h = grind (arith, nat_tests)
+byte_on start s u t a b shows same on = grind arith
 
 pub three_left : (xs : List ℕ) → is_hex (slice_index xs 2) ≡ true → 3 ≤ length xs
 three_left [] h = absurd (false≢true h)
@@ -53,8 +40,7 @@ byte_small a b high low = omega arith
 pub byte_grows : (start : Marker) (v b : ℕ) (s t : Cursor) → escaped_byte start s ≡ Ok (b, t) → 0x80 ≤ b → b < 0xC0
     → trailing_byte start v s ≡ Ok (v * 64 + (b - 0x80), t)
 unfolding trailing_byte
-byte_grows start v b s t read from to =
-    let is : is_trailing b ≡ true = grind (arith, nat_tests) in rw (read, is) refl
+byte_grows start v b s t read from to = grind arith
 
 pub grown_small : (v b : ℕ) → b < 0xC0 → v * 64 + (b - 0x80) < 64 * v + 64
 grown_small v b to = omega arith

@@ -1,8 +1,6 @@
 -- What is read as escaped bytes is spelled so.
-use Rattle.std.proofs.Common.{◌≡◌, ℕ, zero, suc, ◌+◌, ◌-◌, ◌*◌, ◌≤◌, Bool, true, false, List, [], ◌∷◌, ◌++◌, length, length-append, drop, slice_index, nat_eq, cond, Ok, Err, refl, sym, ap, ◌∙◌, arith, subst, inl, inr}
+use Rattle.std.proofs.Common.{◌≡◌, ℕ, zero, suc, ◌+◌, ◌-◌, ◌*◌, ◌≤◌, true, List, [], ◌∷◌, ◌++◌, length, length-append, drop, slice_index, nat_eq, cond, Ok, Err, refl, sym, ap, ◌∙◌, arith, inl, inr}
 use Rattle.std.specs.Prelude.{◌||◌, ◌&&◌, nat_le}
-use Rattle.std.proofs.lemmas.Bool.{false≢true}
-use Rattle.std.proofs.lemmas.Bool.Decides.{nat_tests}
 use Rattle.saphyr_input.specs.Indicators.{percent_sign}
 use Rattle.saphyr_input.specs.Classes.{is_hex, IsHex, is_digit, is_from, hex_value}
 use Rattle.saphyr_scalar.specs.declared.scalar.position.Marker.{Marker}
@@ -17,9 +15,7 @@ use Rattle.saphyr_scalar.proofs.Steps.{bind_ok, ok_same, cond_ok}
 use Rattle.saphyr_input.proofs.Basics.Booleans.{and_true_left, and_true_right, either}
 
 from_is : (a b c : ℕ) → (nat_le a c && nat_le c b) ≡ true → (a ≤ c) × (c ≤ b)
-from_is a b c h =
-    let high = and_true_right (nat_le a c) (nat_le c b) h in
-    (grind (arith, nat_tests), grind (arith, nat_tests))
+from_is a b c h = grind arith
 
 hex_is : (c : ℕ) → is_hex c ≡ true → IsHex c
 hex_is c h = either (is_digit c || is_from 97 102 c) (is_from 65 70 c) (IsHex c) h
@@ -34,9 +30,6 @@ pub record ByteOf (b : ℕ) (m : Marker) (xs : List ℕ) (u : Cursor) : Type 0 w
   pub value : b ≡ hex_value high * 16 + hex_value low
   pub text : xs ≡ percent_sign ∷ high ∷ low ∷ u.rest
   pub place : u ≡ mid_line (along m 3) u.rest
-
-no_hex : (b : Bool) (c : ℕ) (P : Type 0) → is_hex c ≡ false → (b && is_hex c) ≡ true → P
-no_hex b c P fails h = let k : false ≡ true = sym fails ∙ and_true_right b (is_hex c) h in absurd (false≢true k)
 
 byte_shown : (xs : List ℕ) → shows_byte xs ≡ true → xs ≡ percent_sign ∷ slice_index xs 1 ∷ slice_index xs 2 ∷ drop 3 xs
 byte_shown xs h = grind arith
@@ -133,7 +126,6 @@ trailing_spelled start m (suc n) v xs w u h =
       says = ap (λ k. joined_bytes k others.bytes) first.says ∙ others.says;
       escaped = (escape, others.piece, escape_of_byte first.byte m xs here byte, others.escaped, refl);
       text = byte.text ∙ ap (λ r. 37 ∷ byte.high ∷ byte.low ∷ r) others.text;
-      place = others.place ∙ ap (λ k. mid_line k u.rest)
-          (along_more m 3 (length others.piece) (length (escape ++ others.piece))
+      place = cc (along_more m 3 (length others.piece) (length (escape ++ others.piece))
           (omega (arith, length-append escape others.piece)));
     }

@@ -1,5 +1,5 @@
 -- Each spelled percent escape is read, and each character with escapes.
-use Rattle.std.proofs.Common.{◌≡◌, ℕ, suc, ◌+◌, ◌-◌, ◌*◌, Bool, true, false, List, [], ◌∷◌, ◌++◌, length, length-append, append_assoc, slice_index, nat_eq, Result, Ok, refl, ap, ◌∙◌, arith, subst, encode_utf8_all}
+use Rattle.std.proofs.Common.{◌≡◌, ℕ, suc, ◌+◌, ◌-◌, ◌*◌, Bool, true, false, List, [], ◌∷◌, ◌++◌, length, length-append, append_assoc, slice_index, nat_eq, Result, Ok, refl, ap, ◌∙◌, arith, encode_utf8_all}
 use Rattle.std.specs.Prelude.{encode_utf8}
 use Rattle.std.proofs.Common.{inl, inr}
 use Rattle.std.proofs.lemmas.Bool.Decides.{nat_tests}
@@ -9,7 +9,6 @@ use Rattle.saphyr_values.specs.Escapes.{IsScalarValue}
 use Rattle.saphyr_scalar.specs.declared.scalar.position.Marker.{Marker}
 use Rattle.saphyr_scalar.specs.declared.scalar.fault.Refusal.{Refusal}
 use Rattle.saphyr_scalar.specs.declared.scalar.tag.UriSet.{UriSet}
-use Rattle.saphyr_scalar.specs.declared.scalar.tag.UriSet.TheVariants.{Uri, Suffix}
 use Rattle.saphyr_scalar.specs.Views.Cursor.{Cursor, ◌>>=◌, along}
 use Rattle.saphyr_scalar.specs.Steps.Quoted.{with_front, mid_line}
 use Rattle.saphyr_scalar.specs.Steps.Tag.{is_in_set, escaped_byte, utf8_width, leading_bits, is_trailing, is_encoded, trailing_byte, trailing_bytes, encoded_character, behind_leading_byte, percent_escape, uri_character, decoded_characters}
@@ -121,11 +120,10 @@ pub decoded_read : (set : UriSet) (start m : Marker) (v t x : List ℕ) → IsDe
     → decoded_characters set start 0 m (t ++ x) ≡ Ok (encode_utf8_all v, mid_line (along m (length t)) x)
 decoded_read set start m [] t x e ends = rw (e, along_none m) (ends_at set start m x ends)
 decoded_read set start m (c ∷ v) t x (character, more, is, others, e) ends =
-    let len : length t ≡ length character + length more = rw (e, length-append) refl in
     let there = along m (length character) in
     ap (decoded_characters set start 0 m) (ap (λ u. u ++ x) e ∙ append_assoc character more x)
     ∙ decoded_one_more set start m (character ++ (more ++ x)) (character_first set c character (more ++ x) is)
     ∙ ap (reads_on set start) (character_read (is_in_set set) start m c character (more ++ x) is)
     ∙ ap (with_front (encode_utf8 c)) (decoded_read set start there v more x others ends)
     ∙ ap (λ k. text_given (encode_utf8 c ++ encode_utf8_all v) (mid_line k x))
-    (along_more m (length character) (length more) (length t) len)
+    (along_more m (length character) (length more) (length t) (rw (e, length-append) refl))

@@ -2,14 +2,12 @@
 use Rattle.std.proofs.Common.{◌≡◌, ◌≢◌, ℕ, zero, suc, ◌-◌, ◌<◌, ◌≤◌, Bool, true, false, List, [], ◌∷◌, ◌++◌, length, length-append, append_assoc, drop, slice_index, nat_eq, Result, Ok, refl, sym, ap, ◌∙◌, arith, subst, encode_utf8_all, inl, inr}
 use Rattle.std.specs.Prelude.{encode_utf8}
 use Rattle.std.specs.Char.{len_utf8}
-use Rattle.std.proofs.lemmas.Bool.{false≢true}
 use Rattle.std.proofs.lemmas.Bool.Decides.{nat_tests}
 use Rattle.saphyr_values.specs.Escapes.{IsScalarValue, is_scalar_value}
 use Rattle.saphyr_scalar.specs.declared.scalar.position.Marker.{Marker}
 use Rattle.saphyr_scalar.specs.declared.scalar.fault.FaultText.TheVariants as fault
 use Rattle.saphyr_scalar.specs.declared.scalar.fault.Refusal.{Refusal}
 use Rattle.saphyr_scalar.specs.declared.scalar.tag.UriSet.{UriSet}
-use Rattle.saphyr_scalar.specs.declared.scalar.tag.UriSet.TheVariants.{Uri, Suffix}
 use Rattle.saphyr_scalar.specs.Views.Cursor.{Cursor, ◌>>=◌, along}
 use Rattle.saphyr_scalar.specs.Steps.Quoted.{with_front, mid_line}
 use Rattle.saphyr_scalar.specs.Steps.Tag.{is_in_set, escaped_byte, utf8_width, leading_bits, is_encoded, trailing_bytes, encoded_character, behind_leading_byte, percent_escape, uri_character, decoded_characters, decoded_at}
@@ -42,11 +40,7 @@ leading_spelled start b c s u h =
     (record { text = fault.TagEscapeLeadingByte; mark = start }) h in
     let one = bind_ok read (λ (x : ℕ × Cursor). encoded_character start w x.0 x.1) (c, u) some.same in
     let last = encoded_spelled start w one.given.0 c one.given.1 u one.next in
-    record {
-      some = some.test;
-      trailing = one.first ∙ ap (λ (x : ℕ × Cursor). let r : Result (ℕ × Cursor) Refusal = Ok x in r) last.same;
-      shortest = rw last.same at last.test;
-    }
+    record { some = some.test; trailing = cc; shortest = rw last.same at last.test }
 
 pub record EscapeOf (c : ℕ) (m : Marker) (xs : List ℕ) (u : Cursor) : Type 0 where
   pub piece : List ℕ
@@ -82,8 +76,7 @@ escape_spelled start m xs c u h =
       scalar = scalar_is c (and_true_left (is_scalar_value c) (nat_eq (len_utf8 c) w) behind.shortest);
       escaped = rw utf8 are;
       text = byte.text ∙ ap (λ r. 37 ∷ byte.high ∷ byte.low ∷ r) others.text;
-      place = others.place ∙ ap (λ k. mid_line k u.rest)
-          (along_more m 3 (length others.piece) (length (percent_escape ++ others.piece))
+      place = cc (along_more m 3 (length others.piece) (length (percent_escape ++ others.piece))
           (omega (arith, length-append percent_escape others.piece)));
     }
 
@@ -108,7 +101,7 @@ character_spelled set start m xs c u nul in_set = by_test (nat_eq (slice_index x
     let first : slice_index xs 0 ≡ c = ap (λ (x : ℕ × Cursor). x.0) same in
     let left : mid_line (along m 1) (drop 1 xs) ≡ u = ap (λ (x : ℕ × Cursor). x.1) same in
     let rest : drop 1 xs ≡ u.rest = ap (λ (x : Cursor). x.rest) left in
-    let other : c ≢ 37 = λ (e : c ≡ 37). let e2 : slice_index xs 0 ≡ 37 = first ∙ e in grind (arith, nat_tests) in
+    let other : c ≢ 37 = λ (e : c ≡ 37). grind (arith, nat_tests) in
     record {
       piece = c ∷ [];
       is = inl (rw first at in_set, other, refl);

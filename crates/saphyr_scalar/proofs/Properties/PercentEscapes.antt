@@ -1,6 +1,5 @@
 -- Percent escapes, read a byte at a time, and the characters of uris.
 use Rattle.std.proofs.Common.{◌≡◌, ℕ, zero, suc, ◌+◌, ◌-◌, ◌*◌, ◌^◌, ◌<◌, ◌≤◌, true, false, List, [], ◌∷◌, ◌++◌, length, drop, length-drop, slice_index, nat_eq, Result, Ok, Err, refl, sym, ap, ◌∙◌, arith, subst}
-use Rattle.std.proofs.lemmas.Bool.{false≢true}
 use Rattle.std.specs.Prelude.{encode_utf8}
 use Rattle.std.proofs.Math.Nat.{pow-le-pow_right}
 use Rattle.std.proofs.lemmas.Grind.{pow_more}
@@ -25,8 +24,7 @@ use Rattle.saphyr_scalar.proofs.EscapeEnds.{EscapeEnds, refused_ends, read, then
 trailing_first : (start : Marker) (n i v : ℕ) (s : Cursor) → i < n
     → trailing_bytes start (n - i) v s ≡ (trailing_byte start v s >>= λ x. trailing_bytes start (n - (i + 1)) x.0 x.1)
 unfolding trailing_bytes
-trailing_first start n i v s lt =
-    let e : n - i ≡ suc (n - (i + 1)) = omega arith in ap (λ k. trailing_bytes start k v s) e
+trailing_first start n i v s lt = grind arith
 
 -- a byte that was read of several
 pub trailing_on : (start : Marker) (n i v w : ℕ) (s t : Cursor) → i < n → trailing_byte start v s ≡ Ok (w, t)
@@ -74,9 +72,8 @@ byte_place start m xs = by_test (shows_byte xs) _ _ (EscapeEnds m xs 3) (λ _. r
 trailing_place : (start m : Marker) (v : ℕ) (xs : List ℕ) → EscapeEnds m xs 3 (trailing_byte start v (mid_line m xs))
 unfolding trailing_byte
 trailing_place start m v xs = then_ends m xs 3 (escaped_byte start (mid_line m xs)) _ (λ b is.
-    let place = byte_place start m xs b is in
     by_test (is_trailing b.0) _ _ (EscapeEnds m xs 3)
-    (λ _. rw place (read m xs 3 _))
+    (λ _. rw (byte_place start m xs b is) (read m xs 3 _))
     (λ _. refused_ends m xs 3 (record { text = fault.TagEscapeTrailingByte; mark = start })))
 
 bytes_place : (start m : Marker) (n v : ℕ) (xs : List ℕ)
@@ -125,10 +122,7 @@ from_here start s = refl
 leading_some : (start : Marker) (b : ℕ) (s : Cursor) (x : ℕ × Cursor) → behind_leading_byte start b s ≡ Ok x
     → 0 < utf8_width b
 unfolding behind_leading_byte
-leading_some start b s x =
-    by_test (nat_eq (utf8_width b) 0) _ _ (λ (r : Result (ℕ × Cursor) Refusal). r ≡ Ok x → 0 < utf8_width b)
-    (λ _. no_result (record { text = fault.TagEscapeLeadingByte; mark = start }) x (0 < utf8_width b))
-    (λ some e. grind (arith, nat_tests))
+leading_some start b s x = grind arith
 
 -- an escape has a byte, where one is read
 escape_some : (start : Marker) (s : Cursor) (x : ℕ × Cursor) → percent_escape start s ≡ Ok x
@@ -162,8 +156,7 @@ escape_passed_over : (set : UriSet) (start : Marker) (k : ℕ) (m : Marker) (xs 
     → decoded_characters set start k m xs ≡ decoded_characters set start 0 (along m k) (drop k xs)
 unfolding decoded_characters
 escape_passed_over set start zero m xs = ap (λ x. decoded_characters set start 0 x xs) (sym (along_none m))
-escape_passed_over set start (suc k) m [] = ap (λ (x : Marker). (Ok ([], mid_line x [])))
-    (sym (along_none (along m (suc k))))
+escape_passed_over set start (suc k) m [] = cc (along_none (along m (suc k)))
 escape_passed_over set start (suc k) m (c ∷ cs) = escape_passed_over set start k (along m 1) cs
     ∙ ap (λ x. decoded_characters set start 0 x (drop k cs)) (along_more m 1 k (suc k) (omega arith))
 
@@ -222,8 +215,7 @@ character_shorter start s t c some e =
 pub ends_at : (set : UriSet) (start m : Marker) (xs : List ℕ) → is_in_set set (slice_index xs 0) ≡ false
     → decoded_characters set start 0 m xs ≡ Ok ([], mid_line m xs)
 unfolding decoded_characters
-ends_at set start m [] h =
-    ap (λ (x : Marker). let r : Result (List ℕ × Cursor) Refusal = Ok ([], mid_line x []) in r) (along_none m)
+ends_at set start m [] h = cc (along_none m)
 ends_at set start m (c ∷ cs) h = rw h refl
 
 -- no character of the set is next

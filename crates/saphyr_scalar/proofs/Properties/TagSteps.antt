@@ -3,7 +3,6 @@ use Rattle.std.proofs.Common.{◌≡◌, ℕ, ◌<◌, true, false, List, [], �
 use Rattle.std.specs.Prelude.{◌==◌, codes}
 use Rattle.std.specs.Result.{IsErrAnd}
 use Rattle.std.proofs.lemmas.Bool.{eqb-true}
-use Rattle.std.proofs.lemmas.Bool.Decides.{nat_tests}
 use Rattle.saphyr_input.specs.Classes.{is_alpha}
 use Rattle.saphyr_input.specs.Indicators.{exclamation_mark}
 use Rattle.saphyr_scalar.specs.declared.scalar.fault.Refusal.{Refusal}
@@ -34,11 +33,7 @@ pub behind_word : (s here there look : Cursor) (old word : List ℕ) (c : ℕ) �
     → look ≡ there → BehindWord s look word c
 behind_word s here there look old word c first empty run read same =
     let pair : ◌≡◌ {A = List ℕ × Cursor} (with_run is_alpha old here) (word, there) = cc in
-    record {
-      is = ap (with_run is_alpha []) (sym first) ∙ ap (λ b. with_run is_alpha b here) (sym empty) ∙ pair
-          ∙ ap (λ x. let w : List ℕ × Cursor = (word, x) in w) (sym same);
-      read = read ∙ ap (λ (x : Cursor). slice_index x.rest 0) (sym same);
-    }
+    record { is = cc; read = read ∙ ap (λ (x : Cursor). slice_index x.rest 0) (sym same) }
 
 pub mark_left : (s look : Cursor) (word : List ℕ) (c : ℕ) → BehindWord s look word c → c ≡ exclamation_mark
     → 0 < length look.rest
@@ -52,20 +47,13 @@ mark_left s look word c b is = some look.rest (sym b.read ∙ is)
 pub named_from : (s look behind : Cursor) (word : List ℕ) (c : ℕ) → BehindWord s look word c → c ≡ exclamation_mark
     → behind ≡ pass 1 look → named_tail s.mark word behind ≡ shorthand_tag s
 unfolding shorthand_tag tag_behind_word
-named_from s look behind word c b is on =
-    ap (named_tail s.mark word) on ∙ sym (ap (tag_behind_word s.mark) b.is ∙ rw (test _ (sym b.read ∙ is)) refl)
-  where
-    test : (x : ℕ) → x ≡ 33 → (x == 33) ≡ true
-    test x h = grind (arith, nat_tests)
+named_from s look behind word c b is on = grind arith
 
 -- none does
 primary_from : (s look : Cursor) (word : List ℕ) (c : ℕ) → BehindWord s look word c → (c ≡ exclamation_mark → ⊥)
     → shorthand_tag s ≡ then_primary (decoded_onto Suffix s.mark word look)
 unfolding shorthand_tag tag_behind_word
-primary_from s look word c b other = ap (tag_behind_word s.mark) b.is ∙ rw (test _ (λ h. other (b.read ∙ h))) refl
-  where
-    test : (x : ℕ) → (x ≡ 33 → ⊥) → (x == 33) ≡ false
-    test x h = grind (arith, nat_tests)
+primary_from s look word c b other = grind arith
 
 pub primary_refused : (s look : Cursor) (word : List ℕ) (c : ℕ) (r : Refusal) → BehindWord s look word c
     → (c ≡ exclamation_mark → ⊥) → decoded_onto Suffix s.mark word look ≡ Err r → shorthand_tag s ≡ Err r

@@ -72,8 +72,7 @@ alpha_no_flow : (c : ℕ) → is_alpha c ≡ true → is_flow c ≡ false
 alpha_no_flow c h = false_from_ne_true (is_flow c) (λ e. absurd (false≢true (sym (stops_flow c e).no_alpha ∙ h)))
 
 alpha_uri : (c : ℕ) → is_alpha c ≡ true → is_uri_char c ≡ true
-alpha_uri c h = by_test {A = Unit {0}} (nat_eq c 95) tt tt (λ _. is_uri_char c ≡ true)
-    (λ e. let is : 95 ≡ c = grind (arith, nat_tests) in subst (λ x. is_uri_char x ≡ true) is refl) (λ e. rw (h, e) refl)
+alpha_uri c h = grind arith
 
 -- characters of words are characters of suffixes, and no percent sign
 alpha_tag : (c : ℕ) → is_alpha c ≡ true → is_tag_char c ≡ true
@@ -291,11 +290,11 @@ reads_named in_flow m w v back x are some is ends =
     let len : 2 + length w + length back ≡ length (handle ++ back) =
     rw (length-append handle back) (omega (arith, length-append w (codes "!"))) in
     let k = along m (2 + length w + length back) in
-    ap (λ u. tag in_flow (mid_line m u)) whole
-    ∙ shorthand_read in_flow m k (w ++ (33 ∷ (back ++ x))) (handle_of (encode_utf8_all w)) (encode_utf8_all v) x
-    (word_first w (back ++ x) are) ends (named_read m w v back x are some is (stops in_flow x ends))
-    ∙ ap (λ h. parts_given h (encode_utf8_all v) (mid_line k x)) (bytes_of_handle w)
-    ∙ ap (λ n. parts_given (encode_utf8_all handle) (encode_utf8_all v) (mid_line (along m n) x)) len
+    cc (
+      shorthand_read in_flow m k (w ++ (33 ∷ (back ++ x))) (handle_of (encode_utf8_all w)) (encode_utf8_all v) x
+          (word_first w (back ++ x) are) ends (named_read m w v back x are some is (stops in_flow x ends)),
+      bytes_of_handle w,
+    )
 
 reads_verbatim : (in_flow : Bool) (m : Marker) (v inside x : List ℕ) → IsDecoded is_uri_char v inside
     → EndsTag in_flow x → ReadsTag in_flow m (codes "!<" ++ (inside ++ codes ">")) [] v x

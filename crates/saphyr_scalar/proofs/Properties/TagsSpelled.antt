@@ -13,13 +13,13 @@ use Rattle.saphyr_scalar.specs.declared.scalar.fault.Refusal.{Refusal}
 use Rattle.saphyr_scalar.specs.declared.scalar.tag.UriSet.TheVariants.{Uri, Suffix}
 use Rattle.saphyr_scalar.specs.Views.Cursor.{Cursor, along, pass}
 use Rattle.saphyr_scalar.specs.Steps.Quoted.{mid_line}
-use Rattle.saphyr_scalar.specs.Steps.Tag.{is_in_set, decoded_characters, TagRead, verbatim_tag, verbatim_end, handle_of, named_tag, named_tail, primary_tag, tag_behind_word, shorthand_tag, tag, tag_end}
-use Rattle.saphyr_scalar.specs.Spelling.Tag.{AreIn, IsDecoded, IsTagText, EndsTag}
+use Rattle.saphyr_scalar.specs.Steps.Tag.{decoded_characters, TagRead, verbatim_tag, verbatim_end, handle_of, named_tag, named_tail, primary_tag, tag_behind_word, shorthand_tag, tag, tag_end}
+use Rattle.saphyr_scalar.specs.Spelling.Tag.{AreIn, IsTagText, EndsTag}
 use Rattle.saphyr_scalar.proofs.Moving.{along_more}
 use Rattle.saphyr_scalar.proofs.Runs.{run_is_in}
 use Rattle.saphyr_scalar.proofs.Properties.TagsRead.{some_bytes, alpha_on, bytes_of_handle, mark_bytes, then_primary, tag_same}
 use Rattle.saphyr_scalar.proofs.Properties.EscapesSpelled.{decoded_spelled, DecodedOf}
-use Rattle.saphyr_scalar.proofs.Steps.{bind_ok, ok_same, cond_ok, cond_not}
+use Rattle.saphyr_scalar.proofs.Steps.{bind_ok, ok_same, cond_ok}
 use Rattle.saphyr_scalar.proofs.Places.{along_three, along_four}
 use Rattle.saphyr_input.proofs.Basics.Booleans.{by_test}
 
@@ -46,8 +46,7 @@ verbatim_at m xs text k is ends =
       written = written;
       handle = [];
       suffix = is.value;
-      text = ap (λ r. 33 ∷ 60 ∷ r) (is.rest ∙ ap (λ r. is.piece ++ r) (cut_at 62 k.rest refl ends) ∙ sym
-          (append_assoc is.piece (codes ">") (drop 1 k.rest)));
+      text = cc (cut_at 62 k.rest refl ends, append_assoc is.piece (codes ">") (drop 1 k.rest));
       is = inr (inl (is.piece, is.is, refl, refl));
       place = ap (pass 1) is.place
           ∙ ap (λ j. mid_line j (drop 1 k.rest)) (along_three m 2 (length is.piece) 1 (length written) len);
@@ -59,10 +58,7 @@ verbatim_ended : (start : Marker) (text front back : List ℕ) (k u : Cursor)
     → verbatim_end start (text, k) ≡ Ok (front, back, u)
     → (slice_index k.rest 0 ≡ greater_than) × (let p : TagRead = ([], text, pass 1 k) in p ≡ (front, back, u))
 unfolding verbatim_end
-verbatim_ended start text front back k u h =
-    let is = cond_ok {A = TagRead} (nat_eq (slice_index k.rest 0) 62) ([], text, pass 1 k) (front, back, u)
-    (record { text = fault.VerbatimTagEndExpected; mark = start }) h in
-    (eqb-true (slice_index k.rest 0) 62 is.test, is.same)
+verbatim_ended start text front back k u h = grind arith
 
 abbrev Of : Marker → List ℕ → TagRead → Type 0
 Of m xs p = TagOf m xs p.0 p.1 p.2
@@ -92,8 +88,7 @@ none_text text = nat_eq (length text) 0
 non_specific_at : (m : Marker) (xs text : List ℕ) (k : Cursor) → DecodedOf Suffix (along m 1) xs text k
     → none_text text ≡ true → TagOf m (exclamation_mark ∷ xs) [] (codes "!") k
 non_specific_at m xs text k is none =
-    let value : is.value ≡ [] = none_value is.value (ap none_text is.bytes ∙ none) in
-    let piece : is.piece ≡ [] = rw value at is.is in
+    let piece : is.piece ≡ [] = rw (none_value is.value (ap none_text is.bytes ∙ none)) at is.is in
     record {
       written = codes "!";
       handle = [];
@@ -152,10 +147,7 @@ named_ended : (start : Marker) (word text front back : List ℕ) (k u : Cursor)
     → named_tag start word (text, k) ≡ Ok (front, back, u)
     → (none_text text ≡ false) × (let p : TagRead = (handle_of word, text, k) in p ≡ (front, back, u))
 unfolding named_tag
-named_ended start word text front back k u h =
-    let is = cond_not {A = TagRead} (none_text text) (Ok (handle_of word, text, k)) (front, back, u)
-    (record { text = fault.TagSuffixExpected; mark = start }) h in
-    (is.test, ok_same {A = TagRead} (handle_of word, text, k) (front, back, u) is.same)
+named_ended start word text front back k u h = grind arith
 
 named_spelled : (m : Marker) (n : ℕ) (w xs front back : List ℕ) (u : Cursor) → length w ≡ n → AreIn is_alpha w
     → named_tail m (encode_utf8_all w) (mid_line (along (along (along m 1) n) 1) xs) ≡ Ok (front, back, u)
@@ -183,8 +175,7 @@ shorthand_spelled m xs front back u =
     let whole : w ++ (33 ∷ drop 1 left) ≡ xs = ap (λ r. w ++ r) (sym more) ∙ take-append-drop n xs in
     let len : length w ≡ n = length-take-le n xs (prefix_len-le-length is_alpha xs) in
     rw whole at (named_spelled m n w (drop 1 left) front back u len (run_is_in is_alpha xs) h)) (λ _ h.
-    let all : then_primary (decoded_characters Suffix m 0 (along m 1) xs) ≡ Ok (front, back, u) =
-    sym (ap then_primary (alpha_on m (along m 1) xs)) ∙ h in
+    let all = sym (ap then_primary (alpha_on m (along m 1) xs)) ∙ h in
     let one = bind_ok (decoded_characters Suffix m 0 (along m 1) xs) (λ (x : List ℕ × Cursor). Ok (primary_tag x))
     (front, back, u) all in
     let same = ok_same {A = TagRead} (primary_tag one.given) (front, back, u) one.next in

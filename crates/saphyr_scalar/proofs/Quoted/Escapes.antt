@@ -140,9 +140,7 @@ simple_no_digits c v h = by_test (nat_eq c 120) _ _ (λ o. None ≡ o)
 of_place : (start m : Marker) (xs : List ℕ) (letter : ℕ) (o : Option ℕ) → short_escape letter ≡ o
     → EscapeEnds m xs (2 + hex_digit_count letter) (escape_of start o letter (mid_line m xs))
 unfolding escape_of
-of_place start m xs letter (Some c) h =
-    subst (λ o. EscapeEnds m xs (2 + unwrap_or o 0) (Ok (c, mid_line (along m 2) (drop 2 xs))))
-    (simple_no_digits letter c h) (read m xs 2 c)
+of_place start m xs letter (Some c) h = rw (← simple_no_digits letter c h) (read m xs 2 c)
 of_place start m xs letter None h = numbered_place start m xs (digit_count letter)
 
 pub escape_place : (start m : Marker) (xs : List ℕ)

@@ -1,5 +1,5 @@
 -- The bytes of a gap in a quoted scalar, and of the items after it.
-use Rattle.std.proofs.Common.{◌≡◌, ℕ, suc, ◌+◌, Bool, true, false, List, [], ◌∷◌, ◌++◌, refl, sym, ap, ◌∙◌, arith, encode_utf8_all, cond, append_assoc, zero-add, add-zero}
+use Rattle.std.proofs.Common.{◌≡◌, ℕ, suc, ◌+◌, Bool, true, false, List, [], ◌∷◌, ◌++◌, refl, sym, ap, arith, encode_utf8_all, cond, append_assoc, zero-add, add-zero}
 use Rattle.std.specs.Prelude.{encode_utf8}
 use Rattle.std.proofs.lemmas.Str.{encodes-append}
 use Rattle.saphyr_values.specs.declared.folding.Item.{Item}
@@ -29,19 +29,13 @@ blank_bytes bytes c items = by_break (is_before_break items)
 
 pub break_bytes : (gap : QuotedGap) (items : List Item) → gap_bytes (break_in gap) items ≡ gap_bytes gap (Break ∷ items)
 break_bytes (on_line bytes) items =
-    ap (λ n. encode_utf8_all (raw_break n) ++ encode_utf8_all (folded_from true items)) (zero-add (empty_lines items))
-    ∙ sym (encodes-append (raw_break (empty_lines items)) (folded_from true items))
+    cc (zero-add (empty_lines items), encodes-append (raw_break (empty_lines items)) (folded_from true items))
 break_bytes (over_lines escaped n) items =
     let more : suc n + empty_lines items ≡ n + suc (empty_lines items) = omega arith in
     ap (λ k. encode_utf8_all (folded_break escaped k) ++ encode_utf8_all (folded_from true items)) more
 
 pub no_gap_bytes : (items : List Item) → gap_bytes no_gap items ≡ encode_utf8_all (folded_from false items)
-no_gap_bytes items = by_break (is_before_break items)
-  where
-    by_break : (b : Bool) → cond b [] [] ++ encode_utf8_all (folded_from false items)
-        ≡ encode_utf8_all (folded_from false items)
-    by_break true = refl
-    by_break false = refl
+no_gap_bytes items = grind arith
 
 -- no empty line is left
 no_line_more : (escaped : Bool) (n : ℕ) (b : List ℕ)
@@ -49,32 +43,23 @@ no_line_more : (escaped : Bool) (n : ℕ) (b : List ℕ)
 no_line_more escaped n b = ap (λ k. encode_utf8_all (folded_break escaped k) ++ b) (sym (add-zero n))
 
 pub closed_bytes : (gap : QuotedGap) → gap_front gap ++ [] ≡ gap_bytes gap []
-closed_bytes (on_line bytes) = refl
-closed_bytes (over_lines escaped n) = no_line_more escaped n []
+closed_bytes gap = grind arith
 
 pub raw_bytes : (gap : QuotedGap) (c : ℕ) (items : List Item)
     → gap_front gap ++ (encode_utf8 c ++ gap_bytes no_gap items) ≡ gap_bytes gap (Raw c ∷ items)
-raw_bytes (on_line bytes) c items = ap (λ b. bytes ++ (encode_utf8 c ++ b)) (no_gap_bytes items)
-raw_bytes (over_lines escaped n) c items =
-    ap (λ b. encode_utf8_all (folded_break escaped n) ++ (encode_utf8 c ++ b)) (no_gap_bytes items)
-    ∙ no_line_more escaped n _
+raw_bytes gap c items = grind arith
 
 pub escaped_bytes : (gap : QuotedGap) (c : ℕ) (items : List Item)
     → gap_front gap ++ (encode_utf8 c ++ gap_bytes no_gap items) ≡ gap_bytes gap (Escaped c ∷ items)
-escaped_bytes (on_line bytes) c items = ap (λ b. bytes ++ (encode_utf8 c ++ b)) (no_gap_bytes items)
-escaped_bytes (over_lines escaped n) c items =
-    ap (λ b. encode_utf8_all (folded_break escaped n) ++ (encode_utf8 c ++ b)) (no_gap_bytes items)
-    ∙ no_line_more escaped n _
+escaped_bytes gap c items = grind arith
 
 -- the bytes after an escaped break
 escaped_break_line : (items : List Item)
     → gap_bytes (over_lines true 0) items ≡ encode_utf8_all (line_feeds (empty_lines items) ++ folded_from true items)
 escaped_break_line items =
-    ap (λ n. encode_utf8_all (line_feeds n) ++ encode_utf8_all (folded_from true items)) (zero-add (empty_lines items))
-    ∙ sym (encodes-append (line_feeds (empty_lines items)) (folded_from true items))
+    cc (zero-add (empty_lines items), encodes-append (line_feeds (empty_lines items)) (folded_from true items))
 
 pub escaped_break_bytes : (gap : QuotedGap) (items : List Item)
     → gap_front gap ++ gap_bytes (over_lines true 0) items ≡ gap_bytes gap (EscapedBreak ∷ items)
 escaped_break_bytes (on_line bytes) items = ap (λ b. bytes ++ b) (escaped_break_line items)
-escaped_break_bytes (over_lines escaped n) items =
-    ap (λ b. encode_utf8_all (folded_break escaped n) ++ b) (escaped_break_line items) ∙ no_line_more escaped n _
+escaped_break_bytes (over_lines escaped n) items = cc (escaped_break_line items, no_line_more escaped n _)

@@ -1,11 +1,10 @@
 -- What is between the words of a quoted scalar, and its closing quote.
-use Rattle.std.proofs.Common.{◌≡◌, ℕ, ◌<◌, ◌≤◌, Bool, true, false, List, [], ◌∷◌, ◌++◌, length, length-drop, drop, slice_index, Result, Ok, Err, refl, sym, ap, ◌∙◌, arith, subst, nat_eq, IsTrue, cond}
+use Rattle.std.proofs.Common.{◌≡◌, ℕ, ◌<◌, ◌≤◌, Bool, true, false, List, [], ◌∷◌, ◌++◌, length, length-drop, drop, slice_index, Result, Ok, refl, sym, ap, ◌∙◌, arith, subst, nat_eq, IsTrue}
 use Rattle.std.specs.Prelude.{◌||◌, ◌&&◌, ◌==◌, not, OnOk}
 use Rattle.std.specs.List.{prefix_len}
 use Rattle.std.proofs.lemmas.Bool.Decides.{nat_tests}
 use Rattle.std.proofs.lemmas.List.{append-nil}
 use Rattle.saphyr_input.specs.Classes.{is_z, is_blank, is_break, is_blank_or_breakz}
-use Rattle.saphyr_input.specs.Places.{next_2_are}
 use Rattle.saphyr_scalar.specs.declared.scalar.position.Marker.{Marker}
 use Rattle.saphyr_scalar.specs.declared.scalar.fault.Refusal.{Refusal}
 use Rattle.saphyr_scalar.specs.declared.scalar.fault.FaultText.TheVariants as fault
@@ -16,21 +15,13 @@ use Rattle.saphyr_scalar.specs.Views.Reader.{ReadsOn}
 use Rattle.saphyr_scalar.specs.Views.Cursor.{Cursor, refuse, along, pass, pass_break, pass_line, next_line}
 use Rattle.saphyr_values.specs.Flow as flow
 use Rattle.saphyr_scalar.proofs.NoBreaks.{mark_no_nul}
-use Rattle.saphyr_scalar.proofs.Quoted.Inside.{front_twice, passed_over, behind_no_gap, IsQuotedInk, at_break, at_end, flushed, Moved, moved_stops, SameRun, moved_of}
+use Rattle.saphyr_scalar.proofs.Quoted.Inside.{front_twice, passed_over, behind_no_gap, at_break, at_end, flushed, Moved, moved_stops, SameRun, moved_of}
 use Rattle.saphyr_scalar.proofs.Quoted.Parts.{blanks_moved}
-use Rattle.std.proofs.lemmas.Bool.{eqb-true}
 use Rattle.saphyr_input.specs.Indicators.{apostrophe, backslash}
-use Rattle.saphyr_input.proofs.Basics.Booleans.{and_true_left}
 use Rattle.saphyr_scalar.specs.Steps.Quoted.{is_literal, is_escaped_break, is_closing, ends_word, with_front, mid_line, special, on_line, over_lines, no_gap, escaped_gap, break_len, inner_text, inner_text_at}
 
 pub by_break_len : (s : Cursor) → is_break (slice_index s.rest 0) ≡ true → pass_break s ≡ pass_line (break_len s.rest) s
-by_break_len s h = by_tests (next_2_are s.rest 13 10) (is_break (slice_index s.rest 0)) h
-  where
-    by_tests : (two one : Bool) → one ≡ true
-        → cond two (pass_line 2 s) (cond one (pass_line 1 s) s) ≡ pass_line (cond two 2 1) s
-    by_tests true one h = refl
-    by_tests false true h = refl
-    by_tests false false h = absurd (cc)
+by_break_len s h = grind arith
 
 -- a backslash before a break
 pub at_escaped_break : (indent : ℕ) (start m : Marker) (cs : List ℕ) → is_break (slice_index cs 0) ≡ true
@@ -52,9 +43,8 @@ escaped_break_at : (indent : ℕ) (start : Marker) (s : Cursor) (cs : List ℕ) 
     ≡ inner_text_at Double indent start (escaped_gap Double (slice_index (behind_escaped s).rest 0)) (behind_escaped s)
 escaped_break_at indent start s cs cut h =
     let behind : (pass 1 s).rest ≡ cs = ap (drop 1) cut in
-    let breaks : is_break (slice_index (pass 1 s).rest 0) ≡ true =
-    ap (λ (xs : List ℕ). is_break (slice_index xs 0)) behind ∙ h in
-    let place : behind_escaped s ≡ pass_line (break_len (pass 1 s).rest) (pass 1 s) = by_break_len (pass 1 s) breaks in
+    let place : behind_escaped s ≡ pass_line (break_len (pass 1 s).rest) (pass 1 s) = by_break_len (pass 1 s)
+    (ap (λ (xs : List ℕ). is_break (slice_index xs 0)) behind ∙ h) in
     ap (inner_text Double indent start no_gap 0 s.mark) cut ∙ at_escaped_break indent start s.mark cs h
     ∙ sym (ap (λ (x : Cursor). inner_text_at Double indent start (escaped_gap Double (slice_index x.rest 0)) x) place
     ∙ ap (λ (xs : List ℕ). inner_text Double indent start
@@ -73,9 +63,7 @@ escaped_of (c ∷ cs) h =
     record { cs = cs; cut = ap (λ x. x ∷ cs) (number c two.0); breaks = two.1 }
   where
     both : (a b : Bool) → IsTrue (a && b) → (a ≡ true) × (b ≡ true)
-    both true true h = (refl, refl)
-    both true false h = absurd (cc)
-    both false b h = absurd (cc)
+    both a b h = grind arith
 
     number : (c : ℕ) → nat_eq c 92 ≡ true → c ≡ backslash
     number c h = grind (arith, nat_tests)
@@ -97,33 +85,31 @@ gap_elsewhere q c e = let is : (c == flow.mark q) ≡ false = grind (arith, nat_
 pub escaped_to_quote : (q : Quote) (indent : ℕ) (start : Marker) (text : List ℕ) (s t : Cursor)
     → IsTrue (is_escaped_break q s.rest) → t ≡ behind_escaped s → slice_index t.rest 0 ≡ flow.mark q
     → with_front text (inner_text_at q indent start no_gap t) ≡ with_front text (inner_text_at q indent start no_gap s)
-escaped_to_quote q indent start text s t h on quote =
-    ap (λ x. with_front text (inner_text_at q indent start no_gap x)) on
-    ∙ sym (ap (with_front text) (escaped_break_on q indent start s h
-    ∙ ap (λ g. inner_text_at q indent start g (behind_escaped s))
-    (gap_at_quote q _ (ap (λ (x : Cursor). slice_index x.rest 0) (sym on) ∙ quote))))
+escaped_to_quote q indent start text s t h on quote = cc (
+  escaped_break_on q indent start s h,
+  gap_at_quote q _
+      (ap (λ (x : Cursor). slice_index x.rest 0) (sym on) ∙ quote),
+)
 
 pub escaped_to_line : (q : Quote) (indent : ℕ) (start : Marker) (text : List ℕ) (s t : Cursor)
     → IsTrue (is_escaped_break q s.rest) → t ≡ behind_escaped s → (slice_index t.rest 0 ≡ flow.mark q → ⊥)
     → with_front text (inner_text_at q indent start (over_lines true 0) t)
     ≡ with_front text (inner_text_at q indent start no_gap s)
-escaped_to_line q indent start text s t h on quote =
-    ap (λ x. with_front text (inner_text_at q indent start (over_lines true 0) x)) on
-    ∙ sym (ap (with_front text) (escaped_break_on q indent start s h
-    ∙ ap (λ g. inner_text_at q indent start g (behind_escaped s))
-    (gap_elsewhere q _ (λ e. quote (ap (λ (x : Cursor). slice_index x.rest 0) on ∙ e)))))
+escaped_to_line q indent start text s t h on quote = cc (
+  escaped_break_on q indent start s h,
+  gap_elsewhere q _
+      (λ e. quote (ap (λ (x : Cursor). slice_index x.rest 0) on ∙ e)),
+)
 
 -- a part of what was to be read before is told again
 pub reads_from : {X Y : Type 0} (r : Result X Stop) (before begun now : Result Y Refusal) → begun ≡ before
     → ReadsOn r begun now → ReadsOn r before now
-reads_from r before begun now e h = subst (λ (b : Result _ Refusal). ReadsOn r b now) e h
+reads_from r before begun now e h = rw e at h
 
 pub moved_on : (grown : List ℕ) (s u t : Cursor) (cleared : List ℕ) → u ≡ s → cleared ≡ []
     → SameRun is_blank cleared grown u t → Moved is_blank [] grown s t
 moved_on grown s u t cleared same empty e =
-    let m = moved_of is_blank cleared grown u t e in
-    subst (λ (x : Cursor). Moved is_blank [] grown x t) same
-    (subst (λ (b : List ℕ). Moved is_blank b grown u t) empty m)
+    let m = moved_of is_blank cleared grown u t e in rw same at (rw empty at m)
 
 -- after a run no more remains
 pub moved_no_longer : (p : ℕ → Bool) (text grown : List ℕ) (s t : Cursor) → Moved p text grown s t
@@ -137,30 +123,25 @@ moved_no_longer p text grown s t m =
 
 -- what was read on is shorter than what was longer before
 pub ok_shorter : {X E : Type 0} (r : Result X E) (n m k : ℕ) → m < k → OnOk r (n ≤ m) → OnOk r (n < k)
-ok_shorter (Ok x) n m k less no_longer = omega (arith, less, no_longer)
-ok_shorter (Err e) n m k less no_longer = tt
+ok_shorter r n m k less no_longer = grind arith
 
 pub ok_no_longer : {X E : Type 0} (r : Result X E) (n m k : ℕ) → m ≤ k → OnOk r (n ≤ m) → OnOk r (n ≤ k)
-ok_no_longer (Ok x) n m k less no_longer = omega (arith, less, no_longer)
-ok_no_longer (Err e) n m k less no_longer = tt
+ok_no_longer r n m k less no_longer = grind arith
 
 -- a break right after a word
 pub straight_to_break : (q : Quote) (indent : ℕ) (start : Marker) (text : List ℕ) (s u v : Cursor) → u ≡ s
     → is_break (slice_index s.rest 0) ≡ true → v ≡ pass_break u
     → with_front text (inner_text_at q indent start (over_lines false 0) v)
     ≡ with_front text (inner_text_at q indent start no_gap s)
-straight_to_break q indent start text s u v same h on = ap (with_front text)
-    (ap (inner_text_at q indent start (over_lines false 0)) (on ∙ ap pass_break same)
-    ∙ sym (at_break q indent start no_gap s h))
+straight_to_break q indent start text s u v same h on = cc (at_break q indent start no_gap s h)
 
 -- blanks, and what comes after them
 pub blanks_to_break : (q : Quote) (indent : ℕ) (start : Marker) (text grown : List ℕ) (s t u v : Cursor)
     → Moved is_blank [] grown s t → u ≡ t → is_break (slice_index t.rest 0) ≡ true → v ≡ pass_break u
     → with_front text (inner_text_at q indent start (over_lines false 0) v)
     ≡ with_front text (inner_text_at q indent start no_gap s)
-blanks_to_break q indent start text grown s t u v m same h on = ap (with_front text)
-    (ap (inner_text_at q indent start (over_lines false 0)) (on ∙ ap pass_break same)
-    ∙ sym (at_break q indent start (on_line grown) t h) ∙ blanks_moved q indent start [] grown s t m)
+blanks_to_break q indent start text grown s t u v m same h on = cc
+    (at_break q indent start (on_line grown) t h, blanks_moved q indent start [] grown s t m)
 
 pub blanks_to_end : (q : Quote) (indent : ℕ) (start : Marker) (text grown : List ℕ) (s t : Cursor)
     → Moved is_blank [] grown s t → slice_index t.rest 0 ≡ 0
@@ -179,14 +160,13 @@ pub blanks_to_word : (q : Quote) (indent : ℕ) (start : Marker) (text grown : L
     ≡ with_front text (inner_text_at q indent start no_gap s)
 blanks_to_word q indent start text grown s t u m same break z =
     let left = content_left t.rest z in
-    let is : IsQuotedInk left.0 = record {
+    let word : inner_text_at q indent start (on_line grown) t ≡ with_front grown
+    (inner_text_at q indent start no_gap t) = ap (inner_text q indent start (on_line grown) 0 t.mark) left.2
+    ∙ flushed q indent start grown t.mark left.0 left.1 (record {
       blank = ap (λ (xs : List ℕ). is_blank (slice_index xs 0)) (sym left.2) ∙ moved_stops is_blank [] grown s t refl m;
       break = ap (λ (xs : List ℕ). is_break (slice_index xs 0)) (sym left.2) ∙ break;
       nul = ap (λ (xs : List ℕ). is_z (slice_index xs 0)) (sym left.2) ∙ z;
-    } in
-    let word : inner_text_at q indent start (on_line grown) t ≡ with_front grown
-    (inner_text_at q indent start no_gap t) = ap (inner_text q indent start (on_line grown) 0 t.mark) left.2
-    ∙ flushed q indent start grown t.mark left.0 left.1 is
+    })
     ∙ ap (λ xs. with_front grown (inner_text q indent start no_gap 0 t.mark xs)) (sym left.2) in
     ap (λ x. with_front (text ++ grown) (inner_text_at q indent start no_gap x)) same
     ∙ sym (front_twice text grown _) ∙ ap (with_front text) (sym word ∙ blanks_moved q indent start [] grown s t m)
@@ -199,8 +179,7 @@ closing_quote Single xs h e = by_rest (slice_index xs 0) (slice_index xs 1 == 39
   where
     by_rest : (c : ℕ) (d : Bool) → IsTrue (is_blank_or_breakz c || ((c == apostrophe) && not d) || false)
         → c ≡ apostrophe → IsTrue ((c == apostrophe) && not d)
-    by_rest c true h e = let h = rw e at h in absurd (cc)
-    by_rest c false h e = rw e refl
+    by_rest c d h e = grind arith
 
 pub at_closing : (q : Quote) (indent : ℕ) (start m : Marker) (cs : List ℕ) → IsTrue (is_closing q (flow.mark q ∷ cs))
     → inner_text q indent start no_gap 0 m (flow.mark q ∷ cs) ≡ Ok ([], mid_line (along m 1) cs)
@@ -210,8 +189,7 @@ at_closing Single indent start m cs h =
     behind_no_gap Single indent start m 39 cs refl refl refl ∙ rw (not_second (slice_index cs 0 == 39) h) refl
   where
     not_second : (d : Bool) → IsTrue (not d) → d ≡ false
-    not_second true h = absurd (cc)
-    not_second false h = refl
+    not_second d h = grind arith
 
 -- where a closing quote is, there is a character
 pub closing_left : (q : Quote) (xs : List ℕ) → IsTrue (is_closing q xs) → 0 < length xs
@@ -220,9 +198,7 @@ closing_left Single [] h = absurd (cc)
 closing_left Double [] h = absurd (cc)
 
 closing_mark : (q : Quote) (xs : List ℕ) → IsTrue (is_closing q xs) → slice_index xs 0 ≡ flow.mark q
-closing_mark Double xs h = sym (sym (eqb-true (slice_index xs 0) 34 h))
-closing_mark Single xs h = sym (sym (eqb-true (slice_index xs 0) 39
-    (and_true_left (slice_index xs 0 == 39) (not (slice_index xs 1 == 39)) h)))
+closing_mark q xs h = grind arith
 
 pub closing_closes : (q : Quote) (indent : ℕ) (start : Marker) (text : List ℕ) (s : Cursor)
     → IsTrue (is_closing q s.rest) → with_front text (inner_text_at q indent start no_gap s) ≡ Ok (text, pass 1 s)

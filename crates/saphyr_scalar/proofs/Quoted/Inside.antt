@@ -12,7 +12,7 @@ use Rattle.std.specs.Result.{IsErrAnd}
 use Rattle.saphyr_scalar.specs.declared.scalar.fault.Stop.{Stop}
 use Rattle.saphyr_scalar.specs.declared.scalar.fault.Stop.TheVariants as stop
 use Rattle.saphyr_values.specs.declared.flow.Quote.{Quote}
-use Rattle.saphyr_scalar.specs.Views.Reader.{ReadsOn, Fails}
+use Rattle.saphyr_scalar.specs.Views.Reader.{ReadsOn}
 use Rattle.saphyr_scalar.specs.Views.Cursor.{Cursor, ◌>>=◌, refuse, along, pass_break, next_line}
 use Rattle.saphyr_values.specs.Flow as flow
 use Rattle.saphyr_scalar.proofs.Moving.{along_none, along_more}
@@ -27,8 +27,7 @@ front_twice a b (Ok x) = rw append_assoc refl
 front_twice a b (Err e) = refl
 
 pub no_front : (read : TextRead) → with_front [] read ≡ read
-no_front (Ok x) = refl
-no_front (Err e) = refl
+no_front read = grind arith
 
 -- what is taken off already is passed over
 pub passed_over : (q : Quote) (indent : ℕ) (start : Marker) (gap : QuotedGap) (k : ℕ) (m : Marker) (xs : List ℕ)
@@ -92,8 +91,7 @@ WordPiece q indent start m xs n = inner_text q indent start no_gap 0 m xs
     ≡ with_front (encode_utf8_all (take n xs)) (inner_text q indent start no_gap 0 (along m n) (drop n xs))
 
 pub no_piece : (q : Quote) (indent : ℕ) (start m : Marker) (xs : List ℕ) → WordPiece q indent start m xs 0
-no_piece q indent start m xs =
-    sym (no_front _) ∙ ap (λ x. with_front [] (inner_text q indent start no_gap 0 x xs)) (sym (along_none m))
+no_piece q indent start m xs = cc (no_front _, along_none m)
 
 -- blanks on a line
 abbrev pub Blanks : Quote → ℕ → Marker → List ℕ → Marker → List ℕ → ℕ → Type 0
@@ -109,8 +107,7 @@ one_blank q indent start bytes m c cs h = rw h refl
 
 no_blanks : (q : Quote) (indent : ℕ) (start : Marker) (bytes : List ℕ) (m : Marker) (xs : List ℕ)
     → Blanks q indent start bytes m xs 0
-no_blanks q indent start bytes m xs = ap (λ b. inner_text q indent start (on_line b) 0 m xs) (sym (append-nil bytes))
-    ∙ ap (λ x. inner_text q indent start (on_line (bytes ++ [])) 0 x xs) (sym (along_none m))
+no_blanks q indent start bytes m xs = cc (append-nil bytes, along_none m)
 
 pub run_blanks : (q : Quote) (indent : ℕ) (start : Marker) (bytes : List ℕ) (m : Marker) (xs : List ℕ)
     → Blanks q indent start bytes m xs (prefix_len is_blank xs)
@@ -145,8 +142,7 @@ flushed q indent start bytes m c cs is =
 
 pub break_cases : (c : ℕ) → is_break c ≡ true → (P : ℕ → Type 0) → P 10 → P 13 → P c
 break_cases c h P lf cr = either (nat_eq c 10) (nat_eq c 13) (P c) h
-    (λ is. let e : 10 ≡ c = grind (arith, nat_tests) in subst P e lf)
-    (λ is. let e : 13 ≡ c = grind (arith, nat_tests) in subst P e cr)
+    (λ is. let e : 10 ≡ c = grind (arith, nat_tests) in subst P e lf) (λ is. subst P (grind (arith, nat_tests)) cr)
 
 -- a line break
 pub at_break : (q : Quote) (indent : ℕ) (start : Marker) (gap : QuotedGap) (s : Cursor)
@@ -158,8 +154,7 @@ at_break q indent start gap s h = passes s.mark s.rest h
     by_len : (b : Bool) (m : Marker) (c : ℕ) (cs : List ℕ)
         → inner_text q indent start (break_in gap) (pred (cond b 2 1)) (next_line m (cond b 2 1)) cs
         ≡ inner_text q indent start (break_in gap) 0 (next_line m (cond b 2 1)) (drop (cond b 2 1) (c ∷ cs))
-    by_len true m c cs = passed_over q indent start (break_in gap) 1 (next_line m 2) cs
-    by_len false m c cs = refl
+    by_len b m c cs = grind arith
 
     of_len : (b : Bool) (m : Marker) (c : ℕ) (cs : List ℕ) (u : Bool)
         → inner_text q indent start (break_in gap) 0 (next_line m (cond b 2 1)) (drop (cond b 2 1) (c ∷ cs))
@@ -203,4 +198,4 @@ moved_of p text grown s t e = record { is = cc }
 pub reads_refused : {X Y : Type 0} (r : Result X Stop) (before now : Result Y Refusal) (refusal : Refusal)
     → IsErrAnd r (λ e. e ≡ stop.Refused refusal) → before ≡ Err refusal → ReadsOn r before now
 reads_refused (Ok x) before now refusal h e = absurd h
-reads_refused (Err s) before now refusal h e = subst (λ (x : Stop). Fails x before) (sym h) e
+reads_refused (Err s) before now refusal h e = rw h e

@@ -3,12 +3,12 @@
 use Rattle.std.proofs.Common.{◌≡◌, ℕ, ◌+◌, ◌^◌, ◌<◌, ◌≤◌, true, length, slice_index, refl, sym, ap, arith, subst}
 use Rattle.std.proofs.lemmas.Bool.{false≢true}
 use Rattle.saphyr_input.specs.Classes.{is_blank, is_break}
-use Rattle.saphyr_input.specs.Places.{spaces_within}
 use Rattle.saphyr_input.proofs.Basics.Lists.{shows_character, drop_one_shorter}
 use Rattle.saphyr_scalar.specs.Views.Cursor.{Cursor, pass_spaces, pass_blanks, pass_break}
 use Rattle.saphyr_scalar.proofs.Lengths.{below_at_most, at_most_below}
 use Rattle.saphyr_scalar.proofs.SpaceRuns.{spaces_shorter}
 use Rattle.saphyr_scalar.proofs.Quoted.Lines.{break_on_shorter}
+use Rattle.saphyr_input.specs.Places.{spaces_within}
 
 pub break_turn_shorter : (most : ℕ) (first here there behind : Cursor) → here ≡ pass_spaces most first
     → is_break (slice_index here.rest 0) ≡ true → there ≡ here → behind ≡ pass_break there

@@ -1,5 +1,5 @@
 -- The breaks inside a quoted scalar, and the lines after them.
-use Rattle.std.proofs.Common.{◌≡◌, ℕ, ◌+◌, ◌<◌, ◌≤◌, Bool, true, false, List, [], ◌∷◌, ◌++◌, length, drop, slice_index, Result, Ok, Err, refl, sym, ap, ◌∙◌, arith, subst, encode_utf8_all, nat_lt, cond, add-one}
+use Rattle.std.proofs.Common.{◌≡◌, ℕ, ◌+◌, ◌<◌, ◌≤◌, Bool, true, false, List, [], ◌∷◌, ◌++◌, length, slice_index, Result, Ok, Err, refl, sym, ap, ◌∙◌, arith, encode_utf8_all, nat_lt, cond, add-one, subst}
 use Rattle.std.specs.Prelude.{◌&&◌, ◌==◌}
 use Rattle.std.proofs.lemmas.Bool.Decides.{nat_tests}
 use Rattle.saphyr_input.specs.Classes.{is_z, is_blank, is_break}
@@ -8,7 +8,7 @@ use Rattle.saphyr_scalar.specs.declared.scalar.position.Marker.{Marker}
 use Rattle.saphyr_scalar.specs.declared.scalar.fault.Refusal.{Refusal}
 use Rattle.saphyr_scalar.specs.declared.scalar.fault.FaultText.TheVariants as fault
 use Rattle.saphyr_values.specs.declared.flow.Quote.{Quote}
-use Rattle.saphyr_scalar.specs.Views.Cursor.{Cursor, ◌>>=◌, refuse, along, pass_blanks, pass_break}
+use Rattle.saphyr_scalar.specs.Views.Cursor.{Cursor, ◌>>=◌, refuse, pass_blanks, pass_break}
 use Rattle.saphyr_scalar.proofs.Quoted.Inside.{front_twice, quoted_behind_gap, behind_no_gap, word_from, at_break}
 use Rattle.saphyr_scalar.specs.Steps.Quoted.{TextRead, with_front, mid_line, over_lines, no_gap, is_left, blank_in, folded_break, quoted_line, end_gap, inner_text, inner_text_at}
 use Rattle.saphyr_input.proofs.Basics.Booleans.{and_false}
@@ -22,14 +22,7 @@ pub line_blank : (q : Quote) (indent : ℕ) (start : Marker) (escaped : Bool) (n
     → inner_text_at q indent start (over_lines escaped n) (pass_blanks 1 s)
     ≡ inner_text_at q indent start (over_lines escaped n) s
 unfolding inner_text blank_in
-line_blank q indent start escaped n s h fits = passes s.mark s.rest h fits
-  where
-    passes : (m : Marker) (xs : List ℕ) → is_blank (slice_index xs 0) ≡ true
-        → ((slice_index xs 0 == 9) && is_left indent m) ≡ false
-        → inner_text q indent start (over_lines escaped n) 0 (along m 1) (drop 1 xs)
-        ≡ inner_text q indent start (over_lines escaped n) 0 m xs
-    passes m [] h fits = absurd (cc)
-    passes m (c ∷ cs) h fits = rw (h, fits) refl
+line_blank q indent start escaped n s h fits = grind arith
 
 -- a tab left of the indentation
 line_tab : (q : Quote) (indent : ℕ) (start : Marker) (escaped : Bool) (n : ℕ) (s : Cursor) → slice_index s.rest 0 ≡ 9
@@ -48,13 +41,10 @@ pub line_break : (q : Quote) (indent : ℕ) (start : Marker) (escaped : Bool) (n
     → is_break (slice_index s.rest 0) ≡ true
     → inner_text_at q indent start (over_lines escaped (n + 1)) (pass_break s)
     ≡ inner_text_at q indent start (over_lines escaped n) s
-line_break q indent start escaped n s h =
-    ap (λ k. inner_text_at q indent start (over_lines escaped k) (pass_break s)) (add-one n)
-    ∙ sym (at_break q indent start (over_lines escaped n) s h)
+line_break q indent start escaped n s h = cc (add-one n, at_break q indent start (over_lines escaped n) s h)
 
 pub fits_right : (x col indent : ℕ) → indent ≤ col → ((x == 9) && nat_lt col indent) ≡ false
-fits_right x col indent h =
-    let right : nat_lt col indent ≡ false = grind (arith, nat_tests) in rw right (and_false (x == 9))
+fits_right x col indent h = grind arith
 
 pub fits_no_tab : (x col indent : ℕ) → (x ≡ 9 → ⊥) → ((x == 9) && nat_lt col indent) ≡ false
 fits_no_tab x col indent h = let other : (x == 9) ≡ false = grind (arith, nat_tests) in rw other refl
@@ -64,30 +54,23 @@ pub break_on : (q : Quote) (indent : ℕ) (start : Marker) (escaped : Bool) (n :
     → is_break (slice_index s.rest 0) ≡ true → u ≡ s → t ≡ pass_break u
     → inner_text_at q indent start (over_lines escaped (n + 1)) t ≡ inner_text_at q indent start
     (over_lines escaped n) s
-break_on q indent start escaped n s u t h same on =
-    ap (inner_text_at q indent start (over_lines escaped (n + 1))) (on ∙ ap pass_break same)
-    ∙ line_break q indent start escaped n s h
+break_on q indent start escaped n s u t h same on = cc (line_break q indent start escaped n s h)
 
 pub break_on_shorter : (s u t : Cursor) → is_break (slice_index s.rest 0) ≡ true → u ≡ s → t ≡ pass_break u
     → length t.rest < length s.rest
-break_on_shorter s u t h same on =
-    subst (λ (x : Cursor). length x.rest < length s.rest) (sym (on ∙ ap pass_break same)) (break_shorter s h)
+break_on_shorter s u t h same on = rw (on ∙ ap pass_break same) (break_shorter s h)
 
 pub blank_on : (q : Quote) (indent : ℕ) (start : Marker) (escaped : Bool) (n : ℕ) (s u t : Cursor)
     → is_blank (slice_index s.rest 0) ≡ true
     → ((slice_index s.rest 0 == 9) && is_left indent s.mark) ≡ false → u ≡ s → t ≡ pass_blanks 1 u
     → inner_text_at q indent start (over_lines escaped n) t ≡ inner_text_at q indent start (over_lines escaped n) s
-blank_on q indent start escaped n s u t h fits same on =
-    ap (inner_text_at q indent start (over_lines escaped n)) (on ∙ ap (pass_blanks 1) same)
-    ∙ line_blank q indent start escaped n s h fits
+blank_on q indent start escaped n s u t h fits same on = cc (line_blank q indent start escaped n s h fits)
 
 pub tab_on : (q : Quote) (indent : ℕ) (start : Marker) (escaped : Bool) (n : ℕ) (s u : Cursor)
     → slice_index s.rest 0 ≡ 9 → u ≡ s → u.mark.col < indent
     → inner_text_at q indent start (over_lines escaped n) s ≡ refuse fault.TabAsIndentation u.mark
-tab_on q indent start escaped n s u tab same left =
-    subst (λ (x : Cursor). inner_text_at q indent start (over_lines escaped n) s ≡ refuse fault.TabAsIndentation x.mark)
-    (sym same) (line_tab q indent start escaped n s tab
-    (lt-ltb s.mark.col indent (subst (λ (x : Cursor). x.mark.col < indent) same left)))
+tab_on q indent start escaped n s u tab same left = rw same (line_tab q indent start escaped n s tab
+    (lt-ltb s.mark.col indent (rw same at left)))
 
 -- What begins a word on a later line.
 
@@ -159,7 +142,7 @@ pub begins_word : (q : Quote) (indent : ℕ) (start : Marker) (escaped : Bool) (
     → (t ≡ s) × (with_front (text ++ encode_utf8_all (folded_break escaped n)) (inner_text_at q indent start no_gap t)
     ≡ with_front text (inner_text_at q indent start (over_lines escaped n) s))
 begins_word q indent start escaped n text s t blank break e =
-    let r = subst (Begins q indent start escaped n s) e (begins_with_ink q indent start escaped n s blank break) in (
+    let r = rw e at (begins_with_ink q indent start escaped n s blank break) in (
       r.0,
       ap (λ u. with_front (text ++ encode_utf8_all (folded_break escaped n))
           (inner_text_at q indent start no_gap u)) r.0
@@ -172,16 +155,15 @@ pub begins_refused : (q : Quote) (indent : ℕ) (start : Marker) (escaped : Bool
     → quoted_line indent start s ≡ Err refusal
     → with_front text (inner_text_at q indent start (over_lines escaped n) s) ≡ Err refusal
 begins_refused q indent start escaped n text s refusal blank break e =
-    ap (with_front text) (subst (Begins q indent start escaped n s) e (begins_with_ink q indent start escaped n s blank
-    break))
+    ap (with_front text) (rw e at (begins_with_ink q indent start escaped n s blank break))
 
 -- a character that begins no document marker, at a column that later lines may begin at
 pub later_word : (indent : ℕ) (start : Marker) (s u : Cursor) (c : ℕ) → u ≡ s → c ≡ slice_index s.rest 0 → 46 < c
     → indent ≤ u.mark.col → quoted_line indent start s ≡ Ok u
 unfolding quoted_line
 later_word indent start s u c same read ink right =
-    let high : 46 < slice_index s.rest 0 = subst (λ x. 46 < x) read ink in
-    let at : indent ≤ s.mark.col = subst (λ (x : Cursor). indent ≤ x.mark.col) same right in
+    let high : 46 < slice_index s.rest 0 = rw read at ink in
+    let at : indent ≤ s.mark.col = rw same at right in
     let dash : (slice_index s.rest 0 == 45) ≡ false = grind (arith, nat_tests) in
     let stop : (slice_index s.rest 0 == 46) ≡ false = grind (arith, nat_tests) in
     let nul : (slice_index s.rest 0 == 0) ≡ false = grind (arith, nat_tests) in

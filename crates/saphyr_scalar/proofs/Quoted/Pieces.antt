@@ -1,5 +1,5 @@
 -- The piece of a text that is read as a quoted scalar, and what the standard reads of it.
-use Rattle.std.proofs.Common.{◌≡◌, ℕ, ◌+◌, ◌*◌, Bool, true, false, List, [], ◌∷◌, ◌++◌, length, drop, slice_index, Some, None, refl, sym, ap, ◌∙◌, arith, subst, encode_utf8_all, nat_eq, IsTrue, cond, append_assoc, inl, inr}
+use Rattle.std.proofs.Common.{◌≡◌, ℕ, ◌+◌, ◌*◌, Bool, true, false, List, [], ◌∷◌, ◌++◌, length, drop, slice_index, Some, None, refl, sym, ap, ◌∙◌, arith, encode_utf8_all, nat_eq, IsTrue, cond, append_assoc, inl, inr}
 use Rattle.std.specs.Prelude.{◌||◌, ◌&&◌, ◌==◌, not, option_map, IsFalse}
 use Rattle.std.proofs.lemmas.Bool.Decides.{nat_tests}
 use Rattle.saphyr_input.specs.Classes.{is_break, is_hex, hex_value, carriage_return, line_feed}
@@ -16,7 +16,7 @@ use Rattle.saphyr_values.specs.Folding.{folded}
 use Rattle.saphyr_scalar.specs.Spelling.OneLine as line
 use Rattle.saphyr_scalar.specs.Steps.Quoted.{break_len, quoted}
 use Rattle.saphyr_scalar.specs.Spelling.Quoted as quotes
-use Rattle.saphyr_values.specs.Items.{IsSpelling, Spells, IsSpelledQuote}
+use Rattle.saphyr_values.specs.Items.{IsSpelling, Spells}
 use Rattle.saphyr_scalar.proofs.Quoted.Inside.{break_cases}
 use Rattle.saphyr_scalar.proofs.Quoted.SpelledLines.{quoted_spelled}
 use Rattle.saphyr_scalar.proofs.Quoted.SpelledEscapes.{GaveText}
@@ -29,8 +29,7 @@ digits_number v [] hex h = rw h refl
 digits_number v (d ∷ ds) hex h = rw hex.0 (digits_number (v * 16 + hex_value d) ds hex.1 h)
 
 number_spells : (e c : ℕ) (ds : List ℕ) → line.IsNumber e c ds → hex_character 0 ds ≡ Some c
-number_spells e c ds h =
-    digits_number 0 ds h.hex (subst (λ (n : ℕ). IsTrue (is_scalar_value n)) (sym h.value) h.scalar) ∙ ap Some h.value
+number_spells e c ds h = digits_number 0 ds h.hex (rw h.value h.scalar) ∙ ap Some h.value
 
 -- Normalized breaks.
 
@@ -42,8 +41,7 @@ record Begins (p xs x : List ℕ) : Type 0 where
   cut : xs ≡ p ++ x
 
 begin_same : (p xs x : List ℕ) → Begins p xs x → slice_index p 0 ≡ slice_index xs 0
-begin_same p xs x b = ap (λ (t : List ℕ). slice_index t 0) b.some
-    ∙ sym (ap (λ (t : List ℕ). slice_index t 0) (b.cut ∙ ap (λ (t : List ℕ). t ++ x) b.some))
+begin_same p xs x b = cc
 
 -- a break before a piece
 record BreakPiece (t p x : List ℕ) : Type 0 where
@@ -61,26 +59,19 @@ feed_piece cs p x b = record {
 return_piece : (cs p x : List ℕ) → (slice_index cs 0 == line_feed) ≡ false → Begins p cs x
     → BreakPiece (carriage_return ∷ cs) p x
 return_piece cs p x h b =
-    let other : (slice_index p 0 == 10) ≡ false = ap (λ c. c == 10) (begin_same p cs x b) ∙ h in
     record {
       piece = 13 ∷ p;
       begins = record { first = 13; others = p; some = refl; cut = ap (λ (t : List ℕ). 13 ∷ t) b.cut };
-      norm = rw other refl;
+      norm = rw (ap (λ c. c == 10) (begin_same p cs x b) ∙ h) refl;
     }
 
 both_piece : (cs p x : List ℕ) → Begins p (drop 1 cs) x → (slice_index cs 0 == line_feed) ≡ true
     → BreakPiece (carriage_return ∷ cs) p x
 both_piece [] p x b h = absurd (cc)
 both_piece (d ∷ cs) p x b h =
-    let is : d ≡ 10 = number d h in
     record {
       piece = 13 ∷ 10 ∷ p;
-      begins = record {
-        first = 13;
-        others = 10 ∷ p;
-        some = refl;
-        cut = ap (λ (n : ℕ). 13 ∷ n ∷ cs) is ∙ ap (λ (t : List ℕ). 13 ∷ 10 ∷ t) b.cut;
-      };
+      begins = record { first = 13; others = 10 ∷ p; some = refl; cut = cc (number d h) };
       norm = refl;
     }
   where
@@ -109,8 +100,7 @@ record TextPiece (q : Quote) (xs : List ℕ) (items : List Item) (x : List ℕ) 
 
 raw_spelling : (q : Quote) (item : Item) (c : ℕ) → IsFalse (flow.is_special q c) → item ≡ flow.raw_item c
     → IsSpelling q item (c ∷ [])
-raw_spelling Single item c h e = inl (c, h, e, refl)
-raw_spelling Double item c h e = inl (c, h, e, refl)
+raw_spelling q item c h e = grind arith
 
 -- one character or more before a piece
 piece_behind_item : (q : Quote) (item : Item) (xs t : List ℕ) (items : List Item) (x front piece : List ℕ)
@@ -173,29 +163,14 @@ no_return_simple e c h = by_test (e == 13) refl
     by_test false is = refl
 
 no_return_count : (e n : ℕ) → digit_count e ≡ Some n → (e == carriage_return) ≡ false
-no_return_count e n is = by_test (e == 13) refl
-  where
-    number : (e : ℕ) → nat_eq e 13 ≡ true → e ≡ carriage_return
-    number e h = grind (arith, nat_tests)
-
-    by_test : (b : Bool) → (e == carriage_return) ≡ b → b ≡ false
-    by_test true h = let none : digit_count e ≡ None = ap digit_count (number e h) in absurd (cc)
-    by_test false h = refl
+no_return_count e n is = grind arith
 
 no_return_hex : (d : ℕ) → IsTrue (is_hex d) → (d == carriage_return) ≡ false
-no_return_hex d h = by_test (d == 13) refl
-  where
-    number : (e : ℕ) → nat_eq e 13 ≡ true → e ≡ carriage_return
-    number e h = grind (arith, nat_tests)
-
-    by_test : (b : Bool) → (d == carriage_return) ≡ b → b ≡ false
-    by_test true is = let no : is_hex d ≡ false = ap is_hex (number d is) in absurd (cc)
-    by_test false is = refl
+no_return_hex d h = grind arith
 
 digits_same : (ds p : List ℕ) → AreIn is_hex ds → normalized (ds ++ p) ≡ ds ++ normalized p
 digits_same [] p h = refl
-digits_same (d ∷ ds) p h =
-    normalized_other d (ds ++ p) (no_return_hex d h.0) ∙ ap (λ (r : List ℕ). d ∷ r) (digits_same ds p h.1)
+digits_same (d ∷ ds) p h = cc (normalized_other d (ds ++ p) (no_return_hex d h.0), digits_same ds p h.1)
 
 text_piece : (q : Quote) (xs : List ℕ) (items : List Item) (x : List ℕ) → quotes.IsText q xs items x
     → TextPiece q xs items x
@@ -213,8 +188,7 @@ text_piece _ _ _ _ (quotes.broken q t items x h r) =
     (raw_spelling q Break 10 (plain q) refl) b.begins b.norm
   where
     plain : (q : Quote) → IsFalse (flow.is_special q 10)
-    plain Single = refl
-    plain Double = refl
+    plain q = grind arith
 text_piece _ _ _ _ (quotes.two_quotes t items x r) =
     let p = text_piece Single t items x r in
     piece_behind_item Single (Raw 39) (39 ∷ 39 ∷ t) t items x (39 ∷ 39 ∷ []) (39 ∷ 39 ∷ p.piece) p (inr (refl, refl))
@@ -240,8 +214,7 @@ text_piece _ _ _ _ (quotes.escaped_break t items x h r) =
     (inr (10 ∷ [], refl, refl)) (begin_more 92 b.piece t x b.begins.cut) (ap (λ (l : List ℕ). 92 ∷ l) b.norm)
 
 normal_mark : (q : Quote) (p : List ℕ) → normalized (flow.mark q ∷ p) ≡ flow.mark q ∷ normalized p
-normal_mark Single p = refl
-normal_mark Double p = refl
+normal_mark q p = grind arith
 
 -- What is read as a quoted scalar is the value of the piece that it takes.
 pub quoted_reading : (q : Quote) (indent : ℕ) (t : Cursor) (b : List ℕ) (s : Cursor)
@@ -251,14 +224,12 @@ pub quoted_reading : (q : Quote) (indent : ℕ) (t : Cursor) (b : List ℕ) (s :
 quoted_reading q indent t b s quote g =
     let (items, is, bytes, passed) = quoted_spelled q indent t b s quote g in
     let (rest, cut, text) = is in
-    let p = text_piece q rest items s.rest text in
-    let spelled : IsSpelledQuote q items (normalized (flow.mark q ∷ p.piece)) =
-    (p.inside, p.spells, normal_mark q p.piece ∙ ap (λ (l : List ℕ). flow.mark q ∷ l) p.norm) in (
+    let p = text_piece q rest items s.rest text in (
       flow.mark q ∷ p.piece,
       folded items,
       cut
           ∙ ap (λ (l : List ℕ). flow.mark q ∷ l) p.begins.cut,
-      ap (option_map folded)
-          (quoted_read q items (normalized (flow.mark q ∷ p.piece)) spelled),
+      ap (option_map folded) (quoted_read q items (normalized (flow.mark q ∷ p.piece))
+          ((p.inside, p.spells, normal_mark q p.piece ∙ ap (λ (l : List ℕ). flow.mark q ∷ l) p.norm))),
       bytes,
     )

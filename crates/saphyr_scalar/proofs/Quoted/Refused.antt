@@ -98,8 +98,7 @@ escape_passed start m [] x e = absurd (no_escape start m x.0 x.1 e)
 escape_passed start m (d ∷ ds) x e =
     let k = hex_digit_count d in
     let two : 2 + k ≡ suc (suc k) = omega arith in
-    let rest : x.1.rest ≡ drop (suc k) (d ∷ ds) = ap (λ (u : Cursor). u.rest) (escape_place start m (92 ∷ d ∷ ds) x e)
-    ∙ ap (λ n. drop n (92 ∷ d ∷ ds)) two in
+    let rest : x.1.rest ≡ drop (suc k) (d ∷ ds) = cc (escape_place start m (92 ∷ d ∷ ds) x e) in
     subst (λ u. IsPassed m (92 ∷ d ∷ ds) x.1.mark u) rest
     ((escape_spelled start m d ds x.0 x.1 e).passes x.1.mark x.1.rest (nothing x.1.mark x.1.rest))
 
@@ -136,8 +135,8 @@ special_told Double start m c cs is plain =
     backslash : c ≡ 92 → SpecialTold Double start m c cs
         (escaped_character start (mid_line m (c ∷ cs)) >>= λ e. Ok (Some e.0, e.1))
     backslash same = by (escaped_character start (mid_line m (c ∷ cs))) (escape_refused start (mid_line m (c ∷ cs)))
-        (λ x e. subst (λ d. IsPassed m (d ∷ cs) x.1.mark behind) (sym same)
-        (escape_passed start m cs x (ap (λ d. escaped_character start (mid_line m (d ∷ cs))) (sym same) ∙ e)))
+        (λ x e. rw same (escape_passed start m cs x (ap (λ d. escaped_character start (mid_line m (d ∷ cs))) (sym same)
+        ∙ e)))
 
 -- ## The scalar
 
@@ -149,8 +148,7 @@ one_break s m t p e =
     passed_passed s.mark s.rest m t k u p (line_break m t k u e (nothing k u))
 
 behind_break : (c : ℕ) (cs : List ℕ) → drop (break_len (c ∷ cs)) (c ∷ cs) ≡ drop (pred (break_len (c ∷ cs))) cs
-behind_break c cs = by_test (next_2_are (c ∷ cs) 13 10) 2 1 (λ n. drop n (c ∷ cs) ≡ drop (pred n) cs) (λ _. refl)
-    (λ _. refl)
+behind_break c cs = grind arith
 
 inside_refused : (q : Quote) (indent : ℕ) (s : Cursor) (gap : QuotedGap) (k : ℕ) (m : Marker) (t : List ℕ)
     → IsPassed s.mark s.rest m (drop k t) → Refused (IsRefusedInside s) (inner_text q indent s.mark gap k m t)

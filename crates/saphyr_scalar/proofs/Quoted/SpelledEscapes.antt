@@ -35,22 +35,16 @@ pub nothing_text : {X : Type 0} (r : Refusal) (b : List ℕ) (s : Cursor) → Ga
 nothing_text r b s e = absurd (cc)
 
 gave_first : (a c : ℕ) (s t : Cursor) → Gave (Ok (a, s)) c t → a ≡ c
-gave_first a c s t e =
-    let pair : ◌≡◌ {A = ℕ × Cursor} (a, s) (c, t) = cc in ap (λ (x : ℕ × Cursor). x.0) pair
+gave_first a c s t e = grind arith
 
 gave_second : (a c : ℕ) (s t : Cursor) → Gave (Ok (a, s)) c t → s ≡ t
-gave_second a c s t e =
-    let pair : ◌≡◌ {A = ℕ × Cursor} (a, s) (c, t) = cc in ap (λ (x : ℕ × Cursor). x.1) pair
+gave_second a c s t e = grind arith
 
 pub text_first : (a b : List ℕ) (s t : Cursor) → GaveText (Ok (a, s)) b t → a ≡ b
-text_first a b s t e =
-    let pair : ◌≡◌ {A = List ℕ × Cursor} (a, s) (b, t) = cc in
-    ap (λ (x : List ℕ × Cursor). x.0) pair
+text_first a b s t e = grind arith
 
 pub text_second : (a b : List ℕ) (s t : Cursor) → GaveText (Ok (a, s)) b t → s ≡ t
-text_second a b s t e =
-    let pair : ◌≡◌ {A = List ℕ × Cursor} (a, s) (b, t) = cc in
-    ap (λ (x : List ℕ × Cursor). x.1) pair
+text_second a b s t e = grind arith
 
 -- digits that were read
 record Digits (v n : ℕ) (m : Marker) (xs : List ℕ) (w : ℕ) (s : Cursor) : Type 0 where
@@ -115,9 +109,7 @@ front_gave a (Err r) b s e = nothing_text r b s e
 scalar_gave : (start : Marker) (w c : ℕ) (u s : Cursor) → Gave (character start w u) c s
     → IsTrue (is_scalar_value w) × (w ≡ c) × (u ≡ s)
 unfolding character
-scalar_gave start w c u s =
-    by_test (is_scalar_value w) _ _ (λ r. Gave r c s → IsTrue (is_scalar_value w) × (w ≡ c) × (u ≡ s))
-    (λ h g. (h, gave_first w c u s g, gave_second w c u s g)) (λ _ g. nothing _ c s g)
+scalar_gave start w c u s = grind arith
 
 number_spelled : (start m : Marker) (e : ℕ) (xs : List ℕ) (c : ℕ) (s : Cursor) (o : Option ℕ) → digit_count e ≡ o
     → Gave (escape_by_number start o (mid_line m (backslash ∷ e ∷ xs))) c s → Escape m e xs c s
@@ -125,8 +117,7 @@ unfolding escape_by_number
 number_spelled start m e xs c s None asked g = nothing _ c s g
 number_spelled start m e xs c s (Some n) asked g =
     let t = then_gave (digits start n 0 (pass 2 (mid_line m (92 ∷ e ∷ xs)))) _ c s g in
-    let d : Digits 0 n (along m 2) xs t.0 t.1 = digits_spelled start n 0
-    (pass 2 (mid_line m (92 ∷ e ∷ xs))) t.0 t.1 t.2 in
+    let d = digits_spelled start n 0 (pass 2 (mid_line m (92 ∷ e ∷ xs))) t.0 t.1 t.2 in
     let k = scalar_gave start t.0 c t.1 s t.3 in
     let split : xs ≡ d.ds ++ s.rest = d.split ∙ ap (λ (u : Cursor). d.ds ++ u.rest) k.2 in
     let is : spelling.IsNumber e c d.ds = record {
@@ -150,8 +141,7 @@ of_spelled start m e xs c s (Some k) is g =
     let same : k ≡ c = gave_first k c (pass 2 (mid_line m (92 ∷ e ∷ xs))) s g in
     let left : xs ≡ s.rest = ap (λ (u : Cursor). u.rest) (gave_second k c (pass 2 (mid_line m (92 ∷ e ∷ xs))) s g) in
     record {
-      grows = λ n items x r. subst (λ (y : List ℕ). quotes.IsCleanText n Double (92 ∷ e ∷ y) (Escaped c ∷ items) x)
-          (sym left) (quotes.escaped n e c s.rest items x (is ∙ ap Some same) r);
+      grows = λ n items x r. rw left (quotes.escaped n e c s.rest items x (is ∙ ap Some same) r);
       shorter = rw left (omega arith);
       passes = λ n u p. letter_passed m e xs n u (no_break_simple e k is)
           (subst (λ (x : Cursor). IsPassed x.mark x.rest n u)

@@ -1,9 +1,8 @@
 -- Blanks and breaks of a quoted scalar that is read are spelled so, and so is what is read after them.
-use Rattle.std.proofs.Common.{◌≡◌, ℕ, ◌+◌, ◌-◌, ◌≤◌, Bool, true, false, List, ◌∷◌, ◌++◌, length, length-drop, drop, Result, refl, sym, ap, ◌∙◌, arith, subst, IsTrue}
+use Rattle.std.proofs.Common.{◌≡◌, ℕ, ◌+◌, ◌-◌, ◌≤◌, Bool, true, false, List, ◌∷◌, ◌++◌, length, drop, Result, refl, sym, ap, ◌∙◌, arith, IsTrue, subst}
 use Rattle.std.specs.Prelude.{◌&&◌, ◌==◌, nat_le, encode_utf8}
 use Rattle.std.proofs.lemmas.Bool.{le-leb, leb-true, ltb-false, or_left, or_right}
 use Rattle.saphyr_input.specs.Classes.{is_blank, is_break, space, tab}
-use Rattle.saphyr_input.specs.Places.{next_2_are}
 use Rattle.saphyr_scalar.specs.declared.scalar.position.Marker.{Marker}
 use Rattle.saphyr_scalar.specs.declared.scalar.fault.Refusal.{Refusal}
 use Rattle.saphyr_values.specs.declared.folding.Item.{Item}
@@ -131,8 +130,7 @@ blank_step n q indent start (over_lines escaped k) m c cs b s h le known g = by_
     (sym (line_blank q indent start escaped k m c cs h) ∙ g)
 
 behind_break_shorter : (c : ℕ) (cs : List ℕ) → length (drop (break_len (c ∷ cs)) (c ∷ cs)) ≤ length cs
-behind_break_shorter c cs = by_test (next_2_are (c ∷ cs) 13 10) 2 1 (λ n. length (drop n (c ∷ cs)) ≤ length cs)
-    (λ _. omega (arith, length-drop {A = ℕ} 1 cs)) (λ _. omega arith)
+behind_break_shorter c cs = grind arith
 
 pub break_step : (n : ℕ) (q : Quote) (indent : ℕ) (start : Marker) (gap : QuotedGap) (m : Marker) (c : ℕ)
     (cs b : List ℕ)

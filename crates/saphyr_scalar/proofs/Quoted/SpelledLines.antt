@@ -1,5 +1,5 @@
 -- What is read as a quoted scalar is spelled so, and its text is the reading of its items.
-use Rattle.std.proofs.Common.{◌≡◌, ℕ, zero, suc, ◌≤◌, Bool, false, List, [], ◌∷◌, ◌++◌, length, drop, slice_index, Result, Ok, Err, refl, sym, ap, ◌∙◌, arith, subst, encode_utf8_all}
+use Rattle.std.proofs.Common.{◌≡◌, ℕ, zero, suc, ◌≤◌, Bool, false, List, [], ◌∷◌, ◌++◌, length, drop, slice_index, Result, Ok, Err, refl, sym, ap, ◌∙◌, arith, encode_utf8_all}
 use Rattle.std.specs.Prelude.{◌-◌, ◌&&◌, ◌==◌}
 use Rattle.std.proofs.lemmas.Bool.{ltb-false}
 use Rattle.saphyr_input.specs.Classes.{is_z, is_blank, is_break}
@@ -120,8 +120,7 @@ quoted_clean q indent t b s quote g =
       inner.items,
       (drop 1 t.rest, cut, inner.is.0),
       sym (no_gap_bytes inner.items) ∙ inner.bytes,
-      subst (λ (l : List ℕ). IsPassed t.mark l s.mark s.rest) (sym cut)
-          (character t.mark (flow.mark q) (drop 1 t.rest) s.mark s.rest (mark_no_break q) inner.passed),
+      rw cut (character t.mark (flow.mark q) (drop 1 t.rest) s.mark s.rest (mark_no_break q) inner.passed),
       inner.is.1,
       inner.is.2,
     )

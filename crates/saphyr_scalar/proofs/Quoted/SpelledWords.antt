@@ -1,7 +1,7 @@
 -- The words of a quoted scalar that is read are spelled so, and its closing quote.
 use Rattle.std.proofs.Common.{◌≡◌, ℕ, ◌-◌, ◌≤◌, Bool, true, false, List, [], ◌∷◌, ◌++◌, length, drop, slice_index, refl, sym, ap, ◌∙◌, arith, subst, IsTrue, cond}
-use Rattle.std.specs.Prelude.{◌||◌, ◌&&◌, ◌==◌, not, encode_utf8}
-use Rattle.saphyr_input.specs.Classes.{is_z, is_blank, is_break, is_breakz}
+use Rattle.std.specs.Prelude.{◌==◌, encode_utf8}
+use Rattle.saphyr_input.specs.Classes.{is_break}
 use Rattle.saphyr_scalar.specs.declared.scalar.position.Marker.{Marker}
 use Rattle.saphyr_values.specs.declared.folding.Item.{Item}
 use Rattle.saphyr_values.specs.declared.folding.Item.TheVariants.{Raw, Escaped, EscapedBreak}
@@ -53,16 +53,10 @@ closed_word q indent start m cs y s h g =
 
 literal_itself : (q : Quote) (c : ℕ) → is_literal q c ≡ true → IsTrue (quotes.stands_for_itself q c)
 unfolding is_literal
-literal_itself q c h = by_cases (is_blank c) (is_breakz c) (flow.is_special q c) h
-  where
-    by_cases : (a b d : Bool) → (not (a || b) && not d) ≡ true → (not b && not d) ≡ true
-    by_cases true b d h = absurd (cc)
-    by_cases false b d h = h
+literal_itself q c h = grind arith
 
 pub content_item : (c : ℕ) → IsQuotedInk c → flow.raw_item c ≡ Raw c
-content_item c is =
-    let no_feed : (c == 10) ≡ false = or_false_left (c == 10) (c == 13) is.break in
-    rw (no_feed, is.blank) refl
+content_item c is = rw (or_false_left (c == 10) (c == 13) is.break, is.blank) refl
 
 literal_word : (n : ℕ) (q : Quote) (indent : ℕ) (start m : Marker) (c : ℕ) (cs y : List ℕ) (s : Cursor) → IsQuotedInk c
     → is_literal q c ≡ true → length cs ≤ n → Known n q indent start
@@ -73,8 +67,7 @@ literal_word n q indent start m c cs y s content h le known g =
     let r = known no_gap (along m 1) cs f.0 s le f.1 in
     record {
       items = Raw c ∷ r.items;
-      is = subst (λ (i : Item). quotes.IsCleanText indent q (c ∷ cs) (i ∷ r.items) s.rest) (content_item c content)
-          (quotes.itself indent q c cs r.items s.rest (literal_itself q c h) r.is);
+      is = rw (content_item c content) at (quotes.itself indent q c cs r.items s.rest (literal_itself q c h) r.is);
       bytes = λ gap. ap (λ b. gap_front gap ++ b) (sym f.2 ∙ ap (λ b. encode_utf8 c ++ b) (sym r.bytes))
           ∙ raw_bytes gap c r.items;
       passed = character m c cs s.mark s.rest content.break r.passed;
@@ -87,7 +80,7 @@ cases false at_true at_false = at_false refl
 two_passed : (m : Marker) (cs : List ℕ) (n : Marker) (u : List ℕ) → IsPassed (along m 2) cs n u
     → IsPassed m (apostrophe ∷ apostrophe ∷ cs) n u
 two_passed m cs n u p = character m 39 (39 ∷ cs) n u refl (character (along m 1) 39 cs n u refl
-    (subst (λ (k : Marker). IsPassed k cs n u) (sym (along_more m 1 1 2 refl)) p))
+    (rw (along_more m 1 1 2 refl) p))
 
 -- two single quotes, or the closing one
 quote_word : (n : ℕ) (indent : ℕ) (start m : Marker) (cs y : List ℕ) (s : Cursor) → length cs ≤ n
@@ -96,8 +89,7 @@ quote_word : (n : ℕ) (indent : ℕ) (start m : Marker) (cs y : List ℕ) (s : 
 quote_word n indent start m [] y s le known g = closed_word Single indent start m [] y s refl g
 quote_word n indent start m (d ∷ cs) y s le known g = cases (d == 39)
     (λ h. let is : 39 ≡ d = sym (eqb-true d 39 h) in
-    subst (λ (x : ℕ). Word indent Single m (39 ∷ x ∷ cs) y s) is
-    (second (ap (λ x. inner_text Single indent start no_gap 0 m (39 ∷ x ∷ cs)) is ∙ g)))
+    rw (← is) (second (ap (λ x. inner_text Single indent start no_gap 0 m (39 ∷ x ∷ cs)) is ∙ g)))
     (λ h. closed_word Single indent start m (d ∷ cs) y s (rw h refl) g)
   where
     second : GaveText (inner_text Single indent start no_gap 0 m (apostrophe ∷ apostrophe ∷ cs)) y s
@@ -133,7 +125,7 @@ further indent m xs y s start r = record {
   clear = r.clear tt start;
   reached = or_left (is_quoted_line indent xs) (slice_index xs 0 == 34)
       (let none : indent - m.col ≡ indent = omega (arith, start) in
-      subst (λ n. quotes.IsReached n xs) none (r.reached tt));
+      rw none at (r.reached tt));
 }
 
 line_word : (n : ℕ) (indent : ℕ) (start m : Marker) (xs y : List ℕ) (s : Cursor) → m.col ≡ 0 → length xs ≤ n
@@ -151,12 +143,10 @@ line_word n indent start m (c ∷ cs) y s first le known g = cases (c == 34)
     (ap (λ g. inner_text Double indent start g 0 m (c ∷ cs)) (sym (line_of (c == 34) h)) ∙ g)))
   where
     gap_of : (b : Bool) → b ≡ true → cond b no_gap (over_lines true 0) ≡ no_gap
-    gap_of true h = refl
-    gap_of false h = absurd (cc)
+    gap_of b h = grind arith
 
     line_of : (b : Bool) → b ≡ false → cond b no_gap (over_lines true 0) ≡ over_lines true 0
-    line_of true h = absurd (cc)
-    line_of false h = refl
+    line_of b h = grind arith
 
     closes : GaveText (inner_text Double indent start no_gap 0 m (quotation_mark ∷ cs)) y s
         → Further indent m (quotation_mark ∷ cs) y s
@@ -209,14 +199,7 @@ backslash_word n indent start m (e ∷ xs) y s le known g = cases (is_break e) (
 
 pub special_of : (q : Quote) (c : ℕ) → IsQuotedInk c → is_literal q c ≡ false → flow.is_special q c ≡ true
 unfolding is_literal
-special_of q c is h = by_cases (is_blank c) (is_break c) (is_z c) (flow.is_special q c) is.blank is.break is.nul h
-  where
-    by_cases : (a b z d : Bool) → a ≡ false → b ≡ false → z ≡ false → (not (a || (b || z)) && not d) ≡ false → d ≡ true
-    by_cases a b z true x y w h = refl
-    by_cases true b z false x y w h = absurd (cc)
-    by_cases false true z false x y w h = absurd (cc)
-    by_cases false false true false x y w h = absurd (cc)
-    by_cases false false false false x y w h = absurd (cc)
+special_of q c is h = grind arith
 
 pub word_spelled : (n : ℕ) (q : Quote) (indent : ℕ) (start m : Marker) (c : ℕ) (cs y : List ℕ) (s : Cursor)
     → IsQuotedInk c → length cs ≤ n → Known n q indent start
@@ -232,8 +215,8 @@ word_spelled n q indent start m c cs y s is le known g = cases (is_literal q c)
         (ap (λ x. inner_text Single indent start no_gap 0 m (x ∷ cs)) same ∙ g))
     by_quote Double known g special = either (c == 34) (c == 92) (Word indent Double m (c ∷ cs) y s) special
         (λ h. let same : 34 ≡ c = sym (eqb-true c 34 h) in
-        subst (λ (x : ℕ). Word indent Double m (x ∷ cs) y s) same (closed_word Double indent start m cs y s refl
+        rw same at (closed_word Double indent start m cs y s refl
         (ap (λ x. inner_text Double indent start no_gap 0 m (x ∷ cs)) same ∙ g)))
         (λ h. let same : 92 ≡ c = sym (eqb-true c 92 h) in
-        subst (λ (x : ℕ). Word indent Double m (x ∷ cs) y s) same (backslash_word n indent start m cs y s le known
+        rw same at (backslash_word n indent start m cs y s le known
         (ap (λ x. inner_text Double indent start no_gap 0 m (x ∷ cs)) same ∙ g)))

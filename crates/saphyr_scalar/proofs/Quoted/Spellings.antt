@@ -8,8 +8,8 @@ use Rattle.saphyr_values.specs.Escapes.{digit_count, short_escape}
 use Rattle.saphyr_scalar.specs.Spelling.Tag.{AreIn}
 use Rattle.saphyr_scalar.specs.declared.scalar.position.Marker.{Marker}
 use Rattle.saphyr_values.specs.declared.flow.Quote.TheVariants.{Double}
-use Rattle.saphyr_scalar.specs.Views.Cursor.{Cursor, ◌>>=◌, along}
-use Rattle.saphyr_scalar.specs.Steps.Quoted.{is_literal, digits, character, escape_by_number, escape_of, escaped_character, with_front, mid_line, on_line, no_gap, inner_text, inner_text_at, quoted, double_quoted}
+use Rattle.saphyr_scalar.specs.Views.Cursor.{Cursor, along}
+use Rattle.saphyr_scalar.specs.Steps.Quoted.{is_literal, digits, character, escape_by_number, escape_of, escaped_character, with_front, mid_line, on_line, no_gap, inner_text, quoted, double_quoted}
 use Rattle.saphyr_scalar.specs.Spelling.OneLine as spelling
 use Rattle.saphyr_scalar.proofs.Moving.{along_none, along_more}
 use Rattle.saphyr_scalar.proofs.Quoted.Escapes.{simple_no_digits}
@@ -34,22 +34,13 @@ digits_read start m v (d ∷ ds) t h = rw h.0 (digits_read start (along m 1) _ d
 -- what stands for itself and is no blank is a literal
 itself_literal : (c : ℕ) → IsTrue (spelling.stands_in_double_quotes c) → is_blank c ≡ false → is_literal Double c ≡ true
 unfolding is_literal
-itself_literal c h other = by_cases (is_blank c) (is_breakz c) (c == 34) (c == 92) h other
-  where
-    by_cases : (a b q s : Bool) → (not b && not q && not s) ≡ true → a ≡ false → (not (a || b) && not (q || s)) ≡ true
-    by_cases true b q s h other = absurd (cc)
-    by_cases false false false false h other = refl
-    by_cases false true q s h other = absurd (cc)
-    by_cases false false true s h other = absurd (cc)
-    by_cases false false false true h other = absurd (cc)
+itself_literal c h other = grind arith
 
 itself_content : (c : ℕ) → IsTrue (spelling.stands_in_double_quotes c) → is_blank c ≡ false → IsQuotedInk c
 itself_content c h other = content_of c (by_cases (is_blank c) (is_breakz c) (c == 34) (c == 92) h other)
   where
     by_cases : (a b q s : Bool) → (not b && not q && not s) ≡ true → a ≡ false → (a || b) ≡ false
-    by_cases true b q s h other = absurd (cc)
-    by_cases false false q s h other = refl
-    by_cases false true q s h other = absurd (cc)
+    by_cases a b q s h other = grind arith
 
 -- an escape of one letter is no break
 pub no_break_simple : (e c : ℕ) → short_escape e ≡ Some c → is_break e ≡ false
@@ -59,17 +50,10 @@ no_break_simple e c h = by_test_eq (is_break e)
     (λ no_break. no_break)
   where
     by_test_eq : (b : Bool) → (b ≡ true → b ≡ false) → (b ≡ false → b ≡ false) → b ≡ false
-    by_test_eq true yes_case no_case = yes_case refl
-    by_test_eq false yes_case no_case = refl
+    by_test_eq b yes_case no_case = grind arith
 
 pub no_break_digits : (e n : ℕ) → digit_count e ≡ Some n → is_break e ≡ false
-no_break_digits e n h = by_test_eq (is_break e)
-    (λ is. absurd (break_cases e is (λ x. digit_count x ≡ Some n → ⊥) (λ k. absurd (cc)) (λ k. absurd (cc)) h))
-    (λ no_break. no_break)
-  where
-    by_test_eq : (b : Bool) → (b ≡ true → b ≡ false) → (b ≡ false → b ≡ false) → b ≡ false
-    by_test_eq true yes_case no_case = yes_case refl
-    by_test_eq false yes_case no_case = refl
+no_break_digits e n h = grind arith
 
 no_letter : (e n : ℕ) (o : Option ℕ) → short_escape e ≡ o → digit_count e ≡ Some n → o ≡ None
 no_letter e n (Some c) is h = let none = simple_no_digits e c is in absurd (cc)
@@ -110,11 +94,11 @@ escape_reads : (indent : ℕ) (start : Marker) (b : List ℕ) (m : Marker) (e c 
     → ReadsInside indent start [] (along m k) rest v x n
     → ReadsInside indent start b m (backslash ∷ e ∷ t) (c ∷ v) x (k + n)
 escape_reads indent start b m e c t v x rest k n no_break h r =
-    flushed Double indent start b m 92 (e ∷ t) escape_content ∙ ap (with_front b)
-    (at_escape indent start m (e ∷ t) no_break
-    ∙ ap (λ y. y >>= λ z. with_front (encode_utf8 z.0) (inner_text_at Double indent start no_gap z.1)) h
-    ∙ ap (with_front (encode_utf8 c)) r)
-    ∙ ap (λ y. Ok (b ++ encode_utf8_all (c ∷ v), mid_line y x)) (along_more m k n (k + n) refl)
+    cc (
+      flushed Double indent start b m 92 (e ∷ t) escape_content,
+      at_escape indent start m (e ∷ t) no_break,
+      along_more m k n (k + n) refl,
+    )
 
 itself_reads : (indent : ℕ) (start : Marker) (b : List ℕ) (m : Marker) (c : ℕ) (t v x : List ℕ) (n : ℕ)
     → IsTrue (spelling.stands_in_double_quotes c) → ((b : List ℕ) → ReadsInside indent start b (along m 1) t v x n)
@@ -150,10 +134,9 @@ inside_read indent start b m _ _ _ (spelling.escaped e c t v x h r) =
     (letter_read start m e c t h) (inside_read indent start [] (along m 2) t v x r)
 inside_read indent start b m _ _ _ (spelling.numbered e c ds t v x h r) =
     let k = 2 + length ds in
-    let place : escaped_character start (mid_line m (92 ∷ e ∷ (ds ++ t))) ≡ Ok (c, mid_line (along m k) t) =
-    number_read start m e c ds t h ∙ ap (λ y. Ok (c, mid_line y t)) (along_more m 2 (length ds) k refl) in
     escape_reads indent start b m e c (ds ++ t) v x t k (spelled_len t v x r)
-    (no_break_digits e (length ds) h.count) place (inside_read indent start [] (along m k) t v x r)
+    (no_break_digits e (length ds) h.count) (number_read start m e c ds t h ∙ ap (λ y. Ok (c, mid_line y t))
+    (along_more m 2 (length ds) k refl)) (inside_read indent start [] (along m k) t v x r)
 
 -- A double quoted scalar that is spelled on one line is read: its characters, and what comes after it.
 pub double_quoted_read : (indent : ℕ) (s : Cursor) (v x : List ℕ) → spelling.IsDoubleQuoted s.rest v x

@@ -1,5 +1,5 @@
 -- Words between quotes, and single spaces between them, taken off in one piece.
-use Rattle.std.proofs.Common.{◌≡◌, ℕ, zero, suc, ◌+◌, ◌≤◌, Bool, true, false, List, [], ◌∷◌, ◌++◌, length-drop, take, drop, slice_index, refl, sym, ap, ◌∙◌, arith, encode_utf8_all}
+use Rattle.std.proofs.Common.{◌≡◌, ℕ, zero, suc, ◌+◌, ◌≤◌, Bool, true, List, [], ◌∷◌, length-drop, take, slice_index, refl, sym, ap, ◌∙◌, arith, encode_utf8_all, false, drop, ◌++◌}
 use Rattle.std.specs.Prelude.{◌||◌, ◌&&◌, ◌==◌, encode_utf8}
 use Rattle.std.proofs.lemmas.Bool.Decides.{nat_tests}
 use Rattle.std.proofs.lemmas.Bool.{not-true}
@@ -17,8 +17,7 @@ use Rattle.saphyr_scalar.proofs.Quoted.Inside.{front_twice, content_of, stands, 
 use Rattle.saphyr_input.proofs.Basics.Booleans.{by_test, clash, either}
 
 pub both_true : (a b : Bool) → (a && b) ≡ true → (a ≡ true) × (b ≡ true)
-both_true true b h = (refl, h)
-both_true false b h = absurd (cc)
+both_true a b h = grind arith
 
 -- a character is passed
 abbrev PassesQuotedCharacter : Quote → ℕ → Marker → Marker → ℕ → List ℕ → Type 0
@@ -37,17 +36,14 @@ word_passed : (q : Quote) (indent : ℕ) (start m : Marker) (c : ℕ) (cs : List
 word_passed q indent start m c cs h =
     either (is_literal q c) ((c == 32) && is_content (slice_index cs 0)) (PassesQuotedCharacter q indent start m c cs) h
     (λ is. stands q indent start m c cs is) (λ is.
-    let two = both_true (c == 32) (is_content (slice_index cs 0)) is in
     let space : c ≡ 32 = grind (arith, nat_tests) in
-    rw space (space_passed q indent start m cs two.1))
+    rw space (space_passed q indent start m cs (both_true (c == 32) (is_content (slice_index cs 0)) is).1))
 
 piece_on : (q : Quote) (indent : ℕ) (start m : Marker) (c : ℕ) (cs : List ℕ) (n : ℕ)
     → PassesQuotedCharacter q indent start m c cs
     → WordPiece q indent start (along m 1) cs n → WordPiece q indent start m (c ∷ cs) (suc n)
 piece_on q indent start m c cs n h r =
-    h ∙ ap (with_front (encode_utf8 c)) r ∙ front_twice (encode_utf8 c) (encode_utf8_all (take n cs)) _
-    ∙ ap (λ x. with_front (encode_utf8 c ++ encode_utf8_all (take n cs))
-    (inner_text q indent start no_gap 0 x (drop n cs))) (along_more m 1 n (suc n) (omega arith))
+    cc (front_twice (encode_utf8 c) (encode_utf8_all (take n cs)) _, along_more m 1 n (suc n) (omega arith))
 
 words_piece : (q : Quote) (indent : ℕ) (start m : Marker) (n : ℕ) (xs : List ℕ)
     → n ≤ words_len (is_literal q) is_content xs → WordPiece q indent start m xs n
@@ -64,11 +60,10 @@ pub words_moved : (q : Quote) (text grown : List ℕ) (n : ℕ) (s : Cursor) (le
     → TransfersWords (is_literal q) is_content n s.rest left text grown → m ≡ along s.mark n
     → QuotedWordsMoved q text grown s (mid_line m left)
 words_moved q text grown n s left m t place =
-    let all = λ (indent : ℕ) (start : Marker). sym
-    (ap (with_front text) (words_piece q indent start s.mark n s.rest t.within)
-    ∙ front_twice text (encode_utf8_all (take n s.rest)) _) in
     record {
-      same = λ indent start. rw (place, t.transfers.taken, t.transfers.appended) (all indent start);
+      same = λ indent start. rw (place, t.transfers.taken, t.transfers.appended) ((λ (indent : ℕ) (start : Marker). sym
+          (ap (with_front text) (words_piece q indent start s.mark n s.rest t.within)
+          ∙ front_twice text (encode_utf8_all (take n s.rest)) _)) indent start);
       stops = t.stops;
       shorter = rw (t.transfers.taken, length-drop) (omega arith);
     }

@@ -35,7 +35,7 @@ use Rattle.saphyr_scanner.proofs.Taken.Places.{Reaches, reaches_reaches, at_here
 use Rattle.saphyr_scanner.proofs.Taken.Separated.{spaces_apart}
 use Rattle.saphyr_input.proofs.Basics.Booleans.{by_test}
 use Rattle.saphyr_input.proofs.Basics.Lists.{second_is}
-use Rattle.std.proofs.lemmas.Bool.{not-false, leb-false}
+use Rattle.std.proofs.lemmas.Bool.{not-false}
 use Rattle.saphyr_input.specs.Indicators.{hyphen, question_mark}
 
 reaches_on : (s t u : Cursor) → Reaches s t → AreApart t u → Reaches s u

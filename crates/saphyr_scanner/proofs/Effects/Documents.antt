@@ -9,7 +9,7 @@ use Rattle.saphyr_scalar.specs.declared.scalar.position.Span.{Span}
 use Rattle.saphyr_scalar.specs.declared.scalar.fault.Refusal.{Refusal}
 use Rattle.saphyr_scalar.specs.Views.Cursor.{Cursor, ◌>>=◌, along, pass, pass_break}
 use Rattle.saphyr_scalar.specs.Steps.Directive as directives
-use Rattle.saphyr_scalar.specs.Spelling.Directive.{ReadDirective, version, tag_prefix, reserved}
+use Rattle.saphyr_scalar.specs.Spelling.Directive.{ReadDirective}
 use Rattle.saphyr_scalar.specs.Steps.Quoted.{mid_line}
 use Rattle.saphyr_scalar.proofs.Moving.{along_more}
 use Rattle.saphyr_scalar.proofs.Properties.TagsSpelled.{cut_at}
@@ -21,7 +21,7 @@ use Rattle.saphyr_scanner.specs.Steps.State.{State, on_core, on_core_with, after
 use Rattle.saphyr_scanner.specs.Steps.Unrolling.{unroll}
 use Rattle.saphyr_scanner.specs.Steps.Document as document
 use Rattle.saphyr_scanner.specs.TokensTaken as taken
-use Rattle.saphyr_scanner.specs.TokensTaken.{AreApart, IsPassedOver, IsReached, IsToken, Collections, IsContentEnd}
+use Rattle.saphyr_scanner.specs.TokensTaken.{AreApart, IsReached, IsToken, IsContentEnd}
 use Rattle.saphyr_scanner.proofs.Added.Queue.{IsNoEnd}
 use Rattle.saphyr_scanner.proofs.Blocks.{unrolled_cursor, unrolled_comment}
 use Rattle.saphyr_scanner.proofs.Counted.{stays, text_passed}
@@ -127,8 +127,7 @@ marker_walked stands text kind marking no_end s col e = walked_then (Premises s.
     let d : Core = document.pass_marker t.core in
     let stand : stands t.core.cursor.rest ≡ true = ap (λ (u : Cursor). stands u.rest) c.cursor ∙ e in
     let three = marking.three t.core.cursor.rest stand in
-    let goes : d.cursor.mark ≡ along t.core.cursor.mark (length text) =
-    ap (λ n. along t.core.cursor.mark n) (sym marking.count) in
+    let goes : d.cursor.mark ≡ along t.core.cursor.mark (length text) = cc in
     let token : taken.IsMarker stands text (record { start = t.core.cursor.mark; end = d.cursor.mark }) t.core.cursor
     d.cursor = (
       ap (λ (u : Cursor). u.mark.col) c.cursor ∙ col,

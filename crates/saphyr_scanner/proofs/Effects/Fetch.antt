@@ -39,7 +39,7 @@ use Rattle.saphyr_scanner.proofs.Effects.Documents.{start_walked, end_marker_wal
 use Rattle.saphyr_scanner.proofs.Taken.Documents.{start_marking}
 use Rattle.saphyr_input.proofs.Basics.Booleans.{by_test}
 use Rattle.saphyr_scalar.proofs.Given.{Given, given_bind, given_of}
-use Rattle.std.proofs.lemmas.Bool.{and_parts, or_cases, ltb-false, eqb-true}
+use Rattle.std.proofs.lemmas.Bool.{and_parts, or_cases, eqb-true}
 use Rattle.std.proofs.Math.Bool.{or-true}
 
 -- ## What begins at a place
@@ -144,7 +144,7 @@ of_advances s (Ok t) going a = record {
   smaller = λ laws. let b = flags t.core.started s.core.started a.started in
       let e = flags t.core.ended s.core.ended a.ended in omega (arith, a.less laws, b, e);
   grows = a.grows;
-  stands = λ h. subst (λ b. EndStands b t.queue.places) (sym (a.ended ∙ going)) (a.goes_on h);
+  stands = λ h. rw (a.ended ∙ going) (a.goes_on h);
   few = a.few;
 }
 of_advances s (Err f) going a = tt

@@ -3,7 +3,6 @@ use Rattle.std.proofs.Common.{◌≡◌, ℕ, ◌+◌, ◌-◌, ◌<◌, Bool, t
 use Rattle.std.specs.Prelude.{◌&&◌, ◌==◌, slice_index, nat_le, if◌then◌else◌}
 use Rattle.saphyr_input.specs.Indicators.{comma}
 use Rattle.saphyr_input.specs.Classes.{is_break}
-use Rattle.saphyr_scalar.specs.declared.scalar.position.Marker.{Marker}
 use Rattle.saphyr_scalar.specs.declared.scalar.position.Span.{Span}
 use Rattle.saphyr_scalar.specs.Views.Cursor.{Cursor, ◌>>=◌, pass}
 use Rattle.saphyr_scanner.specs.declared.engine.level.Context.{Context}
@@ -311,8 +310,7 @@ bracket_walked x kind bracket c d ends first there silent may f alike put =
     let k = alike (freed (with_cursor u d)) e.1 g.0 refl in
     let o : OnLine (pass 1 c.cursor) u = rw on at g.1 in
     let later = apart_later (pass 1 c.cursor).mark (pass 1 c.cursor).rest u.mark u.rest o.apart in
-    let token : DoesWithin (IsArrival c) (ended ends (enclosures_of c)) (enclosures_of (f e.1)) None 1 1 b (f e.1)
-    (up_to_here c.cursor.mark kind e.1 ∷ []) = and_then (λ n. k.silent (silent n))
+    let token = and_then (λ n. k.silent (silent n))
     (put u (omega (arith, later.index)) (bracket_read x kind b u bracket first o))
     (further (f (freed (with_cursor u d))) (f e.1) k.same
     (apart_same (f (freed (with_cursor u d))).cursor (f e.1).cursor (k.behind ∙ sym k.before)) (λ _. inl k.allows)) in

@@ -18,7 +18,7 @@ use Rattle.saphyr_scanner.proofs.Effects.Readers.{Readers, ReaderEnds, TextLaws}
 use Rattle.saphyr_scanner.proofs.Ordered.Queue.{PutsInOrder}
 use Rattle.saphyr_scanner.proofs.PlainBehind.{IsNoted}
 use Rattle.saphyr_scanner.proofs.Taken.Candidates.{KeyAbove, LevelsAbove, Above, ActionsAbove}
-use Rattle.saphyr_scanner.proofs.Taken.Cores.{HoldsWithin, same_enclosures, Lesser, holds_lesser}
+use Rattle.saphyr_scanner.proofs.Taken.Cores.{HoldsWithin, Lesser, holds_lesser}
 use Rattle.saphyr_scanner.proofs.Taken.Held.{enclosure_of, enclosed_by, enclosures_of, Setting, AllowsKey}
 use Rattle.saphyr_scanner.proofs.Taken.Keys.{Keys}
 use Rattle.saphyr_scanner.proofs.Taken.InPlace.{free}
@@ -186,8 +186,7 @@ further_within within c d s p allows = lesser within c d
     p allows
 
 pub same_around : (c d : Core) → Same c d → enclosures_of d ≡ enclosures_of c
-same_around c d s = same_enclosures c d (ap (λ (l : Level). l.context) s.0) (ap (λ (x : Around). x.outer) s.1)
-    (ap (λ (x : Around). x.indent) s.1) (ap (λ (x : Around). x.outer_indents) s.1)
+same_around c d s = grind arith
 
 pub further : {A : Type 0} (c d : Core) → Same c d → AreApart c.cursor d.cursor → AllowsKey c d → Does A None 0 0 c d []
 further c d s p allows = encloses (same_around c d s) (further_within (enclosures_of c) c d s p allows)

@@ -101,8 +101,7 @@ name_does token_of x named n c some f =
     let first : w.0 ≡ x = sym (ap (λ t. slice_index t 0) w.2) ∙ f in
     let P : ℕ → Type 0 = λ k. here.rest ≡ k ∷ (w.1 ++ y.1.rest) in
     let m : 1 + length w.1 ≡ length (x ∷ w.1) = omega arith in
-    let goes : y.1.mark ≡ along here.mark (length (x ∷ w.1)) =
-    ap (λ (u : Cursor). u.mark) w.5 ∙ ap (λ k. along here.mark k) m in
+    let goes : y.1.mark ≡ along here.mark (length (x ∷ w.1)) = cc in
     named.is (surroundings b c) y.0 span here y.1
     (w.1, w.3, sym w.6, record { is = subst P first w.2; start = refl; end = refl; goes_on = goes }, w.4)))))
 

@@ -23,14 +23,14 @@ use Rattle.saphyr_scanner.proofs.Effects.Readers.{Readers, ReaderEnds, ReadsSpan
 use Rattle.saphyr_scanner.proofs.Effects.Moves.{Around, DoesWithin, Does, encloses, IsBeforePlace, IsNextPlace, Left, NoComment, around}
 use Rattle.saphyr_scanner.proofs.PlainBehind.{IsNoted}
 use Rattle.saphyr_scanner.proofs.Taken.Candidates.{KeyAbove, LevelsAbove, Above}
-use Rattle.saphyr_scanner.proofs.Taken.Cores.{HoldsWithin, same_enclosures, surroundings, IsTokenThere, outermost, holds_put, next_put, quiet_opens, quiet_put, loud_put}
+use Rattle.saphyr_scanner.proofs.Taken.Cores.{HoldsWithin, surroundings, IsTokenThere, outermost, holds_put, next_put, quiet_opens, quiet_put, loud_put}
 use Rattle.saphyr_scanner.proofs.Taken.Neutral.{KeepsBrackets, Neutral}
 use Rattle.saphyr_scanner.proofs.Taken.Cores.{saved_keys, open_quiet, open_loud, indicator_is_passed}
-use Rattle.saphyr_scanner.proofs.Taken.Held.{Stands, enclosure_of, outside_of, enclosures_of, began_at, Setting, FitsWithin, Adjoins, is_property, IsParted, is_unbound, unbound_parted, same_calm, unbound_calm, node_parted}
+use Rattle.saphyr_scanner.proofs.Taken.Held.{enclosure_of, outside_of, enclosures_of, began_at, Setting, FitsWithin, Adjoins, is_property, IsParted, is_unbound, unbound_parted, same_calm, unbound_calm, node_parted}
 use Rattle.saphyr_scanner.proofs.Taken.Keys.{KeepsDepth, IsFreeOr, keeps_depth, leads_in, leads_out, lower, below_key, keys_put, keys_weaken}
 use Rattle.saphyr_scanner.proofs.Taken.InPlace.{deeper, in_key, awaited, MayOpen, Outside, free, calmed, calm}
 use Rattle.saphyr_scanner.specs.TokensInPlace as place
-use Rattle.saphyr_scanner.specs.TokensInPlace.{Enclosure, Begun, Enclosures, with_begun, begun_at, awaiting_colon, enclosures_behind, may_begin_key, is_of_flow_node, fits}
+use Rattle.saphyr_scanner.specs.TokensInPlace.{Enclosure, Begun, Enclosures, with_begun, begun_at, enclosures_behind, may_begin_key, is_of_flow_node, fits}
 use Rattle.saphyr_scanner.proofs.Taken.Later.{apart_later}
 use Rattle.saphyr_scanner.proofs.Taken.Parts.{is_quiet, Begins, opens_block, with_column, EndsOnLine}
 use Rattle.saphyr_scanner.proofs.Taken.Places.{Reaches, character_reached}
@@ -211,9 +211,7 @@ abbrev pub Stays : Core → Core → Type 0
 Stays c d = around (record d { adjacent = c.adjacent }) ≡ around c
 
 pub saved_around : (n : ℕ) (c d : Core) → IsSaved n c d.level → Stays c d → enclosures_of d ≡ enclosures_of c
-saved_around n c d s a = same_enclosures c d
-    (elim s [ inl e ↦ ap (λ (l : Level). l.context) e | inr e ↦ ap (λ (l : Level). l.context) e.0 ])
-    (ap (λ (x : Around). x.outer) a) (ap (λ (x : Around). x.indent) a) (ap (λ (x : Around). x.outer_indents) a)
+saved_around n c d s a = grind arith
 
 -- the token that may be a key
 pub saved : {A : Type 0} (n : ℕ) (c d : Core) (t : Piece) → IsSaved n c d.level → Stays c d → Adjoins t c d

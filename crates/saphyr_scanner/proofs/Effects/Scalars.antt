@@ -43,7 +43,7 @@ use Rattle.saphyr_scanner.proofs.Taken.Parts.{is_quiet}
 use Rattle.saphyr_scanner.proofs.Taken.Places.{Reaches, reaches_reaches, at_here}
 use Rattle.saphyr_scanner.proofs.Taken.Separated.{apart_apart}
 use Rattle.saphyr_scanner.proofs.Taken.States.{block_fetched}
-use Rattle.std.proofs.lemmas.Bool.{or_parts, ne_eqb, eqb-true}
+use Rattle.std.proofs.lemmas.Bool.{or_parts, ne_eqb}
 use Rattle.saphyr_input.specs.Indicators.{ampersand, apostrophe, asterisk, at_sign, exclamation_mark, grave_accent, left_brace, left_bracket, number_sign, percent_sign, quotation_mark, right_brace, right_bracket}
 use Rattle.saphyr_input.proofs.Basics.Booleans.{by_test}
 use Rattle.saphyr_scalar.proofs.Given.{given_of}
@@ -176,10 +176,7 @@ single_quoted_does n c first = saving n c (λ d. Walked (Premises c) (Doing (Som
 
 -- what a plain scalar begins with begins a text
 plain_begins : (c : ℕ) → IsTrue (may_begin_plain c) → IsFalse (is_blank_or_break c) → IsTrue (begins_text c)
-plain_begins c h ink = by (c == 35) refl
-  where
-    by : (b : Bool) → (c == number_sign) ≡ b → IsTrue (begins_text c)
-    by b e = grind arith
+plain_begins c h ink = grind arith
 
 -- what a plain scalar begins with, but for `#`
 pub record PlainStart (in_flow : Bool) (s : Cursor) : Type 0 where

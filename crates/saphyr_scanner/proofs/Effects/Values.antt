@@ -1,5 +1,5 @@
 -- What a colon does.
-use Rattle.std.proofs.Common.{◌≡◌, ℕ, zero, suc, ◌+◌, Bool, true, false, List, [], ◌∷◌, ◌++◌, Option, Some, None, refl, sym, ap, ◌∙◌, arith, inl, inr, ◌≤◌, ◌<◌, ◌⊎◌}
+use Rattle.std.proofs.Common.{◌≡◌, ℕ, ◌+◌, Bool, true, false, List, [], ◌∷◌, ◌++◌, Option, Some, None, refl, sym, ap, ◌∙◌, arith, inl, inr, ◌≤◌, ◌<◌, ◌⊎◌}
 use Rattle.std.specs.Prelude.{◌-◌, ◌&&◌, ◌||◌, ◌==◌, slice_index, not, nat_lt, nat_le, if◌then◌else◌, IsTrue}
 use Rattle.saphyr_input.specs.Indicators.{colon}
 use Rattle.saphyr_input.specs.Classes.{is_alpha, is_blank_or_breakz}
@@ -20,7 +20,7 @@ use Rattle.saphyr_scanner.specs.Steps.Fetch as fetching
 use Rattle.saphyr_scanner.specs.TokensTaken as taken
 use Rattle.saphyr_scanner.specs.TokensTaken.{AreApart, Collections, parts_colon}
 use Rattle.saphyr_scanner.specs.TokensInPlace as place
-use Rattle.saphyr_scanner.specs.TokensInPlace.{Enclosure, Enclosures, turned_to, awaiting_colon, behind_pair_colon, may_begin_pair, may_begin_key, with_begun, is_in_brackets, is_at_column, is_near, Enclosed}
+use Rattle.saphyr_scanner.specs.TokensInPlace.{Enclosure, Enclosures, turned_to, behind_pair_colon, may_begin_pair, may_begin_key, with_begun, is_in_brackets, is_at_column, is_near}
 use Rattle.saphyr_scanner.proofs.Effects.Moves.{DoesWithin, encloses, and_then, Around, Same, same, same_around, lesser, still_within}
 use Rattle.saphyr_scanner.proofs.Effects.Puts.{empty_reading, IndicatorStands, passes, indicated, freed, quiet_within, block_begins, key_opens}
 use Rattle.saphyr_scanner.proofs.Effects.Puts.{mapping_opens}
@@ -28,7 +28,7 @@ use Rattle.saphyr_scanner.proofs.Effects.Blocks.{allowed_in}
 use Rattle.saphyr_scanner.proofs.Effects.Walked.{Premises, Walked, walked_then, walked_map, at_most, Doing, at_reach}
 use Rattle.saphyr_scanner.proofs.Effects.Walked.{separate_walked}
 use Rattle.saphyr_scanner.proofs.Reached.{apart_reached}
-use Rattle.saphyr_scanner.proofs.Taken.Cores.{by_bool, further_block, further_right, no_further}
+use Rattle.saphyr_scanner.proofs.Taken.Cores.{by_bool, further_block}
 use Rattle.saphyr_scanner.proofs.Taken.Keys.{IsDeep, IsArrival}
 use Rattle.saphyr_scanner.proofs.Taken.Held.{enclosure_of, columns_of, outside_of, enclosures_of, FitsWithin}
 use Rattle.saphyr_scanner.proofs.Taken.InPlace.{no_text, Outside, free, in_key}
@@ -37,7 +37,7 @@ use Rattle.saphyr_scanner.proofs.Taken.Parts.{pair_starts}
 use Rattle.saphyr_scanner.proofs.Taken.Places.{Reaches, reaches_reaches, at_here}
 use Rattle.saphyr_input.proofs.Basics.Booleans.{by_test}
 use Rattle.saphyr_input.proofs.Basics.Lists.{second_is}
-use Rattle.std.proofs.lemmas.Bool.{not-false, ltb-false, le-leb, eq-eqb, not-true}
+use Rattle.std.proofs.lemmas.Bool.{not-false, not-true}
 
 -- after the colon, where what is known stays
 abbrev Behind : Core → Core → Type 0
@@ -83,13 +83,10 @@ block_same : (c d : Core) → Same c d → in_block d ≡ true → in_block c �
 block_same c d s e = ap (λ (l : Level). is_block l.context) (sym s.0) ∙ e
 
 left_same : (column : ℕ) (c d : Core) → Same c d → is_further column d ≡ false → in_block c ≡ true → column < c.indent
-left_same column c d s e b =
-    let i = ap (λ (x : Around). x.indent) s.1 in
-    let l = no_further column d e (ap (λ (x : Level). is_block x.context) s.0 ∙ b) in omega (arith, i, l)
+left_same column c d s e b = grind arith
 
 right_same : (column : ℕ) (c d : Core) → Same c d → is_further column d ≡ true → c.indent ≤ column
-right_same column c d s e =
-    let i = ap (λ (x : Around). x.indent) s.1 in let r = further_right column d e in omega (arith, i, r)
+right_same column c d s e = grind arith
 
 key_same : (c d : Core) (o : Option Candidate) → Same c d → d.level.key ≡ o → c.level.key ≡ o
 key_same c d o s e = ap (λ (l : Level). l.key) (sym s.0) ∙ e
@@ -145,11 +142,7 @@ near_colon context.FlowMapping k m far e = refl
 
 near_line : (x : Context) (k : Candidate) (m : Marker) → is_block x ≡ true
     → (is_block x && is_too_far (Some k) m) ≡ false → m.line ≤ k.mark.line
-near_line x k m b far = near (nat_lt k.mark.line m.line) refl (sym (rw b refl) ∙ far)
-  where
-    near : (a : Bool) → nat_lt k.mark.line m.line ≡ a
-        → (if a then true else nat_lt 1024 (m.index - k.mark.index)) ≡ false → m.line ≤ k.mark.line
-    near a f h = grind arith
+near_line x k m b far = grind arith
 
 pair_near : (begins : Bool) (k m : Marker) → (begins && nat_lt k.line m.line) ≡ false → begins ≡ true
     → IsTrue (nat_le m.line k.line)
@@ -196,8 +189,7 @@ turned_encloses b x c d e t f = cc (same_around c d t.behind.0)
 turned_in_block : (b : Core) (x : Context) (c d : Core) (e : Enclosure) (column : ℕ) → Turned b x c d
     → enclosure_of (behind_colon x) ≡ e
     → enclosures_of (enter_block column d) ≡ free e (outside_of (enter_block column c))
-turned_in_block b x c d e column t f =
-    cc (same_around (enter_block column c) (enter_block column d) (same_blocks column c d t.behind.0))
+turned_in_block b x c d e column t f = grind arith
 
 key_does : (b c d : Core) (x : Context) (k : Candidate) → Turned b x c d → d.level.key ≡ Some k
     → Walked (Premises b) (Valued b x c) c.cursor (value.value_of_key k (begins_pair x) c.cursor.mark d)

@@ -1,7 +1,7 @@
 -- What is passed up to where the next token begins is separation, or the text's end.
-use Rattle.std.proofs.Common.{◌≡◌, ℕ, ◌+◌, ◌-◌, ◌^◌, ◌≤◌, ◌<◌, ◌⊎◌, Bool, true, false, List, ◌∷◌, length, Option, Some, None, Result, Ok, Err, refl, sym, ap, ◌∙◌, arith, subst, inl, inr, cond, IsTrue}
-use Rattle.std.specs.Prelude.{◌&&◌, ◌||◌, slice_index, not, nat_lt}
-use Rattle.saphyr_input.specs.Classes.{is_z, is_blank, is_break}
+use Rattle.std.proofs.Common.{◌≡◌, ℕ, ◌+◌, ◌-◌, ◌^◌, ◌≤◌, ◌<◌, ◌⊎◌, Bool, true, false, List, ◌∷◌, length, Option, Some, None, Result, Ok, Err, refl, sym, ap, ◌∙◌, arith, subst, inl, inr, IsTrue}
+use Rattle.std.specs.Prelude.{◌&&◌, ◌||◌, slice_index, not}
+use Rattle.saphyr_input.specs.Classes.{is_z}
 use Rattle.saphyr_scalar.specs.declared.scalar.position.Marker.{Marker}
 use Rattle.saphyr_scalar.specs.declared.scalar.fault.Refusal.{Refusal}
 use Rattle.saphyr_scalar.specs.Views.Cursor.{Cursor, start_cursor, ◌>>=◌}
@@ -14,7 +14,7 @@ use Rattle.saphyr_scanner.specs.Steps.State.{State, on_core, with_core}
 use Rattle.saphyr_scanner.specs.Steps.Unrolling.{unroll, end_blocks, is_right_of, go_less_deep}
 use Rattle.saphyr_scanner.specs.Steps.Fetch.{arrive}
 use Rattle.saphyr_scanner.specs.TokensTaken as taken
-use Rattle.saphyr_scanner.specs.TokensTaken.{AreApart, IsPassedOver, Collections, begins_text}
+use Rattle.saphyr_scanner.specs.TokensTaken.{AreApart, IsPassedOver, begins_text}
 use Rattle.saphyr_scanner.specs.TokensInPlace.{Enclosures}
 use Rattle.saphyr_scanner.proofs.Blocks.{none_ends, unrolled_cursor, blocks_cursor, go_less_deep_cursor}
 use Rattle.saphyr_scanner.proofs.Taken.Separated.{gap_apart, BeginsText, gap_begins, Breaks, gap_breaks}
@@ -27,7 +27,7 @@ use Rattle.saphyr_scanner.proofs.Taken.Cores.{key_known}
 use Rattle.saphyr_scanner.proofs.Taken.States.{line_small, taken_later, key_stands, Live, TakenState, unroll_taken, blocks_levels}
 use Rattle.saphyr_input.proofs.Basics.Booleans.{by_test, and_false}
 use Rattle.saphyr_scalar.proofs.Given.{Given}
-use Rattle.std.proofs.lemmas.Bool.{not-true, le-ltb, ltb-false, eqb-true}
+use Rattle.std.proofs.lemmas.Bool.{not-true, le-ltb}
 
 -- ## What is passed
 
@@ -147,10 +147,7 @@ gapped text small opened from q c l h k =
     lines h)) (further_live opened.enclosures c d q a p k))
 
 line_near : (k : Candidate) (m : Marker) → is_too_far (Some k) m ≡ false → m.line ≤ k.mark.line
-line_near k m e = ltb-false k.mark.line m.line (first (nat_lt k.mark.line m.line) _ e)
-  where
-    first : (b x : Bool) → cond b true x ≡ false → b ≡ false
-    first b x f = grind arith
+line_near k m e = grind arith
 
 -- where a key is a candidate no block collection ends
 unrolled_keys : (text : List ℕ) → length text < 2 ^ 63 → (opened : Setting) (from : Cursor) (q : Queue) (c : Core)
@@ -191,8 +188,7 @@ unrolled_keys text small opened from q c l h nz =
         known.0 in
         let here = later_later (start_cursor text).mark text from.mark from.rest c.cursor.mark c.cursor.rest l
         (taken_later opened from c q h.taken) in
-        let far : is_too_far (Some k) m ≡ false = ap (λ o. is_too_far o m) (sym i)
-        ∙ sym (ap (λ b. b && is_too_far c.level.key m) e) ∙ h.near in
+        let far : is_too_far (Some k) m ≡ false = cc in
         let column : k.mark.col ≤ m.col = stands.later.columns stands.small (line_small text c.cursor small here)
         (line_near k m far) in
         let deep : c.indent ≤ k.mark.col + 1 = known.0.deep e in

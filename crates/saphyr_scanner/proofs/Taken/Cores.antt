@@ -1,9 +1,8 @@
 -- What is held stays so where the core of a scanner changes, and where a token comes.
 use Rattle.std.proofs.Common.{◌≡◌, ℕ, zero, suc, ◌+◌, ◌-◌, ◌≤◌, ◌<◌, ◌⊎◌, Bool, true, false, List, [], ◌∷◌, length, Option, Some, None, refl, sym, ap, ◌∙◌, arith, subst, inl, inr, length-append, IsTrue}
-use Rattle.std.specs.Prelude.{◌&&◌, ◌==◌, slice_index, not, nat_le, nat_lt}
+use Rattle.std.specs.Prelude.{◌==◌, slice_index, not, nat_lt}
 use Rattle.saphyr_scalar.specs.Views.Cursor.{Cursor, pass}
 use Rattle.saphyr_scalar.proofs.Properties.TagsSpelled.{cut_at}
-use Rattle.saphyr_scanner.specs.declared.engine.level.Context.{Context}
 use Rattle.saphyr_scanner.specs.declared.queue.Opening.{Opening}
 use Rattle.saphyr_scanner.specs.declared.queue.Opening.TheVariants as opening
 use Rattle.saphyr_scanner.specs.Views.Tokens.{Piece}
@@ -11,15 +10,14 @@ use Rattle.saphyr_scanner.specs.Steps.Queue.{Place, Queue, is_empty_list, bare_p
 use Rattle.saphyr_scanner.specs.Steps.Core.{Core, in_block, forget_key, is_further, enter_block}
 use Rattle.saphyr_scanner.specs.Steps.Level.{Candidate, Level, is_block}
 use Rattle.saphyr_scanner.specs.TokensTaken as taken
-use Rattle.saphyr_scanner.specs.TokensTaken.{Collections, Surroundings, AreApart, IsToken, TakesCharacter, open_behind, begins_text}
+use Rattle.saphyr_scanner.specs.TokensTaken.{Collections, Surroundings, AreApart, IsToken, TakesCharacter, open_behind}
 use Rattle.saphyr_scanner.specs.TokensInPlace.{Enclosure, Enclosures, enclosures_behind, may_begin_key, is_of_flow_node}
 use Rattle.saphyr_scanner.proofs.Taken.InPlace.{deeper, awaited, MayOpen, Outside, free, all_behind, calm, IsPast}
 use Rattle.saphyr_scanner.proofs.Taken.Parts.{is_quiet, quiet_open, Begins, opens_block, column_of, EndsOnLine}
-use Rattle.saphyr_scanner.proofs.Taken.Held.{Stack, Stands, enclosure_of, enclosed_by, columns_of, enclosures_of, Setting, TakenWithin, Taken, taken_within, taken_further, Opens, FitsWithin, taken_put, Adjoins, AllowsKey, IsParted}
+use Rattle.saphyr_scanner.proofs.Taken.Held.{Stack, enclosures_of, Setting, TakenWithin, Taken, taken_within, taken_further, Opens, FitsWithin, taken_put, Adjoins, AllowsKey, IsParted}
 use Rattle.saphyr_scanner.proofs.Leads.{flat}
 use Rattle.saphyr_scanner.proofs.Taken.Neutral.{KeepsBrackets}
 use Rattle.saphyr_scanner.proofs.Taken.Keys.{taken_open, Key, KeyOf, lower, KeysFrom, Keys, keys_weaken, KeepsDepth, IsFreeOr, LeadsDeeper, keeps_depth, keys_put, keys_open, below_key}
-use Rattle.std.proofs.lemmas.Bool.{lt-ltb, leb-true, leb-false}
 
 pub record HoldsWithin (within : Enclosures) (opened : Setting) (from : Cursor) (c : Core) (q : Queue) : Type 0 where
   pub taken : TakenWithin within opened from c q
@@ -54,9 +52,8 @@ alike_enclosures c d a = same_enclosures c d (ap (λ (l : Level). l.context) a.l
 pub keys_of : (all : Enclosures) (b : ℕ) (q : Queue) (i j : ℕ) (l m : Level) (ls ms : List Level) → j ≡ i → m ≡ l
     → ms ≡ ls → Keys all b q i (l ∷ ls) → Keys all b q j (m ∷ ms)
 keys_of all b q i j l m ls ms e f g h =
-    let Q : Level → Type 0 = λ x. Keys all b q i (x ∷ ms) in
     let R : List Level → Type 0 = λ x. Keys all b q i (l ∷ x) in
-    rw e (subst Q (sym f) (subst R (sym g) h))
+    rw e (subst (λ x. Keys all b q i (x ∷ ms)) (sym f) (subst R (sym g) h))
 
 -- the key of the level may be forgotten
 pub record Lesser (l m : Level) : Type 0 where
@@ -229,9 +226,7 @@ pub apart_same : (s t : Cursor) → t ≡ s → AreApart s t
 apart_same s t e = let P : Cursor → Type 0 = λ u. AreApart s u in subst P (sym e) (taken.nothing s.mark s.rest)
 
 pub saved_enclosures : (n : ℕ) (c d : Core) → Saved n c d → enclosures_of d ≡ enclosures_of c
-saved_enclosures n c d s = same_enclosures c d (elim s.level
-    [ inl e ↦ ap (λ (l : Level). l.context) e | inr e ↦ ap (λ (l : Level). l.context) e.0 ]) s.outer s.indent
-    s.outer_indents
+saved_enclosures n c d s = grind arith
 
 -- what the new token is put after, where a key was saved
 pub saved_taken : (opened : Setting) (from : Cursor) (n : ℕ) (c d : Core) (q : Queue) → Saved n c d
@@ -363,23 +358,14 @@ open_loud e outside opened from c q k b may near right is h =
     }
 
 pub further_block : (column : ℕ) (c : Core) → is_further column c ≡ true → in_block c ≡ true
-further_block column c e = first (in_block c) (nat_le c.indent column) e
-  where
-    first : (a b : Bool) → (a && b) ≡ true → a ≡ true
-    first a b e = grind arith
+further_block column c e = grind arith
 
 -- outside flow no block collection begins
 pub no_further : (column : ℕ) (c : Core) → is_further column c ≡ false → in_block c ≡ true → column < c.indent
-no_further column c e b = leb-false c.indent column (second (in_block c) (nat_le c.indent column) b e)
-  where
-    second : (a b : Bool) → a ≡ true → (a && b) ≡ false → b ≡ false
-    second a b e f = grind arith
+no_further column c e b = grind arith
 
 pub further_right : (column : ℕ) (c : Core) → is_further column c ≡ true → c.indent ≤ column
-further_right column c e = leb-true c.indent column (second (in_block c) (nat_le c.indent column) e)
-  where
-    second : (a b : Bool) → (a && b) ≡ true → b ≡ true
-    second a b e = grind arith
+further_right column c e = grind arith
 
 -- ## What is passed
 

@@ -1,12 +1,12 @@
 -- What is held after a document's content and at the stream's end, and which texts are tokens of markers and
 -- directives.
-use Rattle.std.proofs.Common.{◌≡◌, ℕ, Bool, true, false, List, [], ◌∷◌, ◌++◌, length, drop, None, refl, sym, ap, ◌∙◌, arith, subst, inl, inr, IsTrue}
+use Rattle.std.proofs.Common.{◌≡◌, ℕ, Bool, true, false, List, [], ◌∷◌, ◌++◌, length, drop, None, refl, ap, ◌∙◌, arith, inl, inr, IsTrue}
 use Rattle.std.specs.Prelude.{◌&&◌, ◌==◌, slice_index, codes}
 use Rattle.saphyr_input.specs.Classes.{is_break, is_blank_or_breakz}
 use Rattle.saphyr_input.specs.Places.{is_document_start, is_document_end, is_document_indicator, next_2_are, next_3_are}
 use Rattle.saphyr_scalar.specs.declared.scalar.position.Marker.{Marker}
 use Rattle.saphyr_scalar.specs.declared.scalar.position.Span.{Span}
-use Rattle.saphyr_scalar.specs.Views.Cursor.{Cursor, next_line, pass_break}
+use Rattle.saphyr_scalar.specs.Views.Cursor.{Cursor, pass_break}
 use Rattle.saphyr_scalar.specs.Spelling.Directive.{ReadDirective, version, tag_prefix, reserved}
 use Rattle.saphyr_scalar.specs.Steps.Quoted.{break_len}
 use Rattle.saphyr_scanner.specs.Grammar.Tokens as tokens
@@ -18,7 +18,7 @@ use Rattle.saphyr_scanner.specs.Steps.State.{State, with_core}
 use Rattle.saphyr_scanner.specs.Steps.Unrolling.{unroll, end_blocks, go_less_deep}
 use Rattle.saphyr_scanner.specs.Steps.Document as document
 use Rattle.saphyr_scanner.specs.TokensTaken as taken
-use Rattle.saphyr_scanner.specs.TokensTaken.{Surroundings, AreApart, IsPassedOver, IsToken, IsPlaceOrEnd, Collections, begins_text, BeginsNoContent, IsContentEnd}
+use Rattle.saphyr_scanner.specs.TokensTaken.{Surroundings, AreApart, IsToken, IsPlaceOrEnd, begins_text, BeginsNoContent, IsContentEnd}
 use Rattle.saphyr_scanner.proofs.Blocks.{unrolled_cursor}
 use Rattle.saphyr_scanner.proofs.Taken.Parts.{is_quiet}
 use Rattle.saphyr_scanner.proofs.Taken.Held.{enclosures_of, Setting, taken_further, is_unbound, unbound_parted, taken_put}
@@ -78,13 +78,7 @@ forgotten_unrolled opened from s end h =
 -- ## Markers
 
 pub three_at : (x : ℕ) (xs : List ℕ) → (0 == x) ≡ false → next_3_are xs x x x ≡ true → xs ≡ x ∷ x ∷ x ∷ drop 3 xs
-three_at x xs z e =
-    let a = and_parts ((slice_index xs 0 == x) && (slice_index xs 1 == x)) (slice_index xs 2 == x) e in
-    let b = and_parts (slice_index xs 0 == x) (slice_index xs 1 == x) a.0 in by xs b.0 b.1 a.1
-  where
-    by : (xs : List ℕ) → (slice_index xs 0 == x) ≡ true → (slice_index xs 1 == x) ≡ true
-        → (slice_index xs 2 == x) ≡ true → xs ≡ x ∷ x ∷ x ∷ drop 3 xs
-    by xs e f g = grind arith
+three_at x xs z e = grind arith
 
 -- a document marker's token
 pub record Marking (stands : List ℕ → Bool) (text : List ℕ) (kind : Kind) : Type 0 where
@@ -168,12 +162,11 @@ end_fetched opened from s h =
     let first = ap (λ l. begins_text (slice_index l 0)) empty in
     let same : t.core.cursor ≡ s.core.cursor = unrolled_cursor None m s in
     let there : IsPlaceOrEnd t.core.cursor m = rw same place in
-    let left : t.core.cursor.rest ≡ [] = ap (λ (c : Cursor). c.rest) same ∙ empty in
     by_test s.core.required _ _ (Given P) (λ _. tt)
     (λ _. record {
       taken = taken_put (enclosures_of t.core) opened from t.core (document.core_at_end t.core) t.queue
-          (empty_piece m tokens.StreamEnd)
-          t.core.cursor t.core.cursor (taken.nothing _ _) (λ _ _. (left, (refl, there, refl))) (taken.nothing _ _)
+          (empty_piece m tokens.StreamEnd) t.core.cursor t.core.cursor (taken.nothing _ _) (λ _ _.
+          (ap (λ (c : Cursor). c.rest) same ∙ empty, (refl, there, refl))) (taken.nothing _ _)
           (λ cs k. k) (inl refl) refl
           (unbound_parted (empty_piece m tokens.StreamEnd) t.core (document.core_at_end t.core) refl)
           (unroll_taken opened from None m s (place, first, inl empty) h);

@@ -23,7 +23,7 @@ use Rattle.saphyr_scanner.proofs.Taken.Later.{apart_later, token_later}
 use Rattle.saphyr_scanner.proofs.Taken.JsonEnds.{GoesOn, token_goes_on}
 use Rattle.saphyr_scanner.proofs.Taken.Parts.{open_all, open_append, tokens_append}
 use Rattle.saphyr_scanner.proofs.Queues.{flat_append}
-use Rattle.std.proofs.lemmas.Bool.{ltb-false, lt-ltb}
+use Rattle.std.proofs.lemmas.Bool.{ltb-false}
 use Rattle.saphyr_input.proofs.Basics.Booleans.{by_test}
 
 -- ## The open collections
@@ -75,9 +75,6 @@ columns_of zero is = []
 columns_of (suc column) [] = column ∷ []
 columns_of (suc column) (i ∷ is) = column ∷ columns_of i is
 
-pub columns_entered : (column i : ℕ) (is : List ℕ) → columns_of (column + 1) (i ∷ is) ≡ column ∷ columns_of i is
-columns_entered column i is = let next : column + 1 ≡ suc column = omega arith in rw next refl
-
 abbrev pub outside_of : Core → Outside
 outside_of c = record { enclosed = enclosed_by c.outer; columns = columns_of c.indent c.outer_indents }
 
@@ -87,10 +84,7 @@ enclosures_of c = free (enclosure_of c.level.context) (outside_of c)
 -- a block collection began at a column
 pub began_at : (g : Begun) (e : Enclosure) (column : ℕ) (c : Core)
     → begun_at g column (free e (outside_of c)) ≡ with_begun g (free e (outside_of (enter_block column c)))
-began_at g e column c =
-    let From : List ℕ → Enclosures =
-    λ columns. with_begun g (free e (record { enclosed = enclosed_by c.outer; columns = columns })) in
-    ap From (sym (columns_entered column c.indent c.outer_indents))
+began_at g e column c = grind arith
 
 -- ## Where a colon may be with nothing after it
 
@@ -257,20 +251,11 @@ unbound_parted t c d e = by (begins_block t.kind) (is_property t.kind) e
 
 pub same_calm : (kind : Kind) (span : Span) (all : Enclosures) → is_property kind ≡ false
     → calm (enclosures_behind kind span all) ≡ enclosures_behind kind span all
-same_calm kind span all e =
-    let behind = enclosures_behind kind span all in
-    let begun = begun_behind kind span all in
-    ap (λ g. with_begun g behind) (ap calmed begun ∙ same kind e ∙ sym begun)
-  where
-    same : (kind : Kind) → is_property kind ≡ false → calmed (begun_by kind span) ≡ begun_by kind span
-    same kind e = grind arith
+same_calm kind span all e = grind arith
 
 pub unbound_calm : (kind : Kind) (span : Span) (all : Enclosures) → is_unbound kind ≡ true
     → calm (enclosures_behind kind span all) ≡ enclosures_behind kind span all
-unbound_calm kind span all e = same_calm kind span all (by (begins_block kind) (is_property kind) e)
-  where
-    by : (a b : Bool) → (not a && not b) ≡ true → b ≡ false
-    by a b e = grind arith
+unbound_calm kind span all e = grind arith
 
 -- a node's token begins no block collection
 pub node_parted : (t : Piece) (c d : Core) → IsTrue (is_of_flow_node t.kind t.span)
@@ -335,8 +320,7 @@ taken_put within opened from c d q t here behind a told b o adjoins f parted h =
       stands = rw open_then stands_then;
       in_place = rw same at (in_place_append (flat q.places) (t ∷ []) opened.enclosures h.in_place
           (put_fits within now t c d h.encloses f parted h.past, tt));
-      encloses = ap calm (then ∙ sym (behind_begun t.kind t.span (calmed now.begun) now))
-          ∙ ap (λ x. calm (enclosures_behind t.kind t.span x)) h.encloses;
+      encloses = cc (behind_begun t.kind t.span (calmed now.begun) now);
       small = h.small;
       ends = rw begun (begun_ends around t.kind t.span here behind is);
       past = λ e. rw begun (begun_past t.kind t.span d.cursor.mark.line d.key_allowed parted.1 e);

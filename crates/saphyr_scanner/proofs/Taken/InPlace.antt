@@ -2,7 +2,7 @@
 use Rattle.std.proofs.Common.{◌≡◌, ℕ, zero, suc, ◌+◌, ◌-◌, Bool, true, false, List, [], ◌∷◌, ◌++◌, length, Option, Some, None, refl, sym, ap, ◌∙◌, arith, subst, IsTrue, ◌≤◌, ◌<◌}
 use Rattle.std.specs.Prelude.{◌||◌, ◌&&◌, nat_lt, if◌then◌else◌}
 use Rattle.std.proofs.lemmas.Bool.Decides.{nat_tests}
-use Rattle.std.proofs.lemmas.Bool.{and_parts, lt-ltb}
+use Rattle.std.proofs.lemmas.Bool.{and_parts}
 use Rattle.saphyr_input.proofs.Basics.Booleans.{by_test}
 use Rattle.saphyr_scalar.specs.declared.scalar.position.Marker.{Marker}
 use Rattle.saphyr_scalar.specs.declared.scalar.position.Span.{Span}
@@ -133,11 +133,6 @@ abbrev pub takes_node : Begun → Bool
 takes_node place.BlockSequence = false
 takes_node place.BlockMapping = false
 takes_node _ = true
-
--- a node's token begins no block collection's entry
-node_follows : (g : Begun) (kind : Kind) (span : Span) → IsTrue (is_of_flow_node kind span)
-    → IsTrue (may_follow g kind span) → takes_node g ≡ true
-node_follows g kind span h f = grind arith
 
 -- no start of a block collection, no `-` and no colon
 abbrev begins_node : Kind → Bool
@@ -376,10 +371,7 @@ node_retold t ps g f b c takes q h k =
 -- no block collection has begun before such a node
 pub node_taken : (t : Piece) (ps : List Piece) (d : ℕ) (all : Enclosures) → AreInside 0 (t ∷ ps) d
     → AreInPlace all (t ∷ ps) → takes_node all.begun ≡ true
-node_taken t ps d all h k =
-    let w = and_parts (may_follow all.begun t.kind t.span)
-    (fits_at all.inner.enclosure all.inner.key all.columns t.kind t.span) k.0 in
-    node_follows all.begun t.kind t.span h.0 w.0
+node_taken t ps d all h k = grind arith
 
 -- ## Properties right in front
 
@@ -490,8 +482,7 @@ opened_in_place opening.FlowMappingAndKey t back g e outside m f l q h k =
     }
   where
     or_true : (b : Bool) → (b || true) ≡ true
-    or_true true = refl
-    or_true false = refl
+    or_true b = grind (arith, nat_tests)
 
 -- before the tokens inside a key no depth changes
 pub inside_opened : (d : ℕ) (o : Opening) (t : Piece) (back : List Piece) (e : ℕ) → AreInside (suc d) (t ∷ back) e

@@ -9,11 +9,11 @@ use Rattle.saphyr_scanner.specs.Views.Tokens.{Piece}
 use Rattle.saphyr_scanner.specs.Steps.Queue.{Place, Queue, is_empty_list, bare_place, places_with_opening, with_piece, with_opening}
 use Rattle.saphyr_scanner.specs.Steps.Core.{Core, in_block, is_too_far}
 use Rattle.saphyr_scanner.specs.Steps.Level.{Candidate, Level, is_block}
-use Rattle.saphyr_scanner.specs.TokensInPlace.{Enclosure, Enclosures, is_of_flow_node, AreInPlace, Enclosed, Begun, with_begun}
+use Rattle.saphyr_scanner.specs.TokensInPlace.{Enclosure, Enclosures, is_of_flow_node, AreInPlace, Begun, with_begun}
 use Rattle.saphyr_scanner.specs.TokensTaken.{Collections, AreApart, AreTokens, least_column_in, IsAtColumn}
 use Rattle.std.proofs.lemmas.Bool.{ltb-false}
 use Rattle.saphyr_scanner.proofs.Leads.{flat, place_pieces}
-use Rattle.saphyr_scanner.proofs.Taken.InPlace.{all_behind, behind_append, in_place_append, in_place_parts, deeper, AreInside, inside_of, inside_append, inside_parts, inside_shift, inside_opened, node_retold, awaited, MayOpen, Outside, free, opened_in_place, node_taken, calm, IsPast, EndsOn}
+use Rattle.saphyr_scanner.proofs.Taken.InPlace.{all_behind, behind_append, in_place_append, in_place_parts, deeper, AreInside, inside_of, inside_append, inside_parts, inside_shift, node_retold, awaited, MayOpen, Outside, free, opened_in_place, node_taken, calm, IsPast, EndsOn}
 use Rattle.saphyr_scanner.specs.TokensInPlace as place
 use Rattle.saphyr_scanner.proofs.Taken.Later.{apart_later, top}
 use Rattle.saphyr_scanner.proofs.Taken.Parts.{open_all, open_append, is_quiet, AreQuiet, quiet_columns, quiet_append, same_brackets, with_opening_there, with_opening_behind, Begins, opens_block, column_of, place_tokens, place_open, EndsOnLine}
@@ -192,10 +192,7 @@ quiet_opened (suc n) o (p ∷ ps) e h = further p.opening h (λ x. quiet_opened 
     further : (w : Opening) → AreQuiet (place_pieces w p.piece ++ flat ps)
         → (AreQuiet (flat ps) → AreQuiet (flat (places_with_opening n o ps)))
         → AreQuiet (place_pieces w p.piece ++ flat (places_with_opening n o ps))
-    further opening.Nothing x go = (x.0, go x.1)
-    further opening.Key x go = (x.0, (x.1.0, go x.1.1))
-    further opening.FlowMappingAndKey x go = (x.0, (x.1.0, (x.1.1.0, go x.1.1.1)))
-    further opening.BlockMappingAndKey x go = (x.0, (x.1.0, (x.1.1.0, go x.1.1.1)))
+    further w x go = grind arith
 
 -- the places after one that is further in front than another
 behind_front : (front other : List Place) (p r : Place) (back rest : List Place)
@@ -245,8 +242,7 @@ key_open all d a q block i k z e b outside j (Some o) w f h deep x =
   where
     at_depth : (m : ℕ) (ps : List Piece) (c : ℕ) → AreInside m ps c → AreInside (m + 0) ps c
     at_depth m ps c y =
-        let P : ℕ → Type 0 = λ n. AreInside n ps c in
-        let same : m + 0 ≡ m = omega arith in subst P (sym same) y
+        let same : m + 0 ≡ m = omega arith in subst (λ n. AreInside n ps c) (sym same) y
 
     opened_at : (m : ℕ) → 0 < m → AreInside m (z.token ∷ flat z.back) e
         → AreInside m (place_pieces w z.token ++ flat z.back) e
@@ -279,12 +275,7 @@ record InPlaceOpened (e : Enclosure) (outside : Outside) (all : Enclosures) (o :
 calm_awaited : (o : Opening) (m : Marker) (e : Enclosure) (outside : Outside) (last : Begun)
     → calm (with_begun last (free e outside)) ≡ free e outside
     → calm (with_begun last (awaited o m (free e outside))) ≡ awaited o m (free e outside)
-calm_awaited o m e outside last h =
-    let g = ap (λ (x : Enclosures). x.begun) h in
-    ap (λ y. with_begun y (awaited o m (free e outside))) g ∙ same o
-  where
-    same : (o : Opening) → with_begun place.Nothing (awaited o m (free e outside)) ≡ awaited o m (free e outside)
-    same o = grind arith
+calm_awaited o m e outside last h = grind arith
 
 place_in_place : (e : Enclosure) (outside : Outside) (all : Enclosures) (o : Opening) (front : List Place)
     (t : Piece) (back : List Place) → MayOpen o e → IsPast (all_behind (flat front) all).begun t.span.start.line
@@ -335,8 +326,7 @@ pub taken_open : (e : Enclosure) (outside : Outside) (opened : Setting) (from : 
 taken_open e outside opened from c d q b block k o x f near right left outer m there allowed levels stays s h =
     let n : k.place - q.handed ≡ length x.front = omega (arith, x.at) in
     let now : (with_opening k.place o q).places ≡ x.front ++ place_with_front o x.token ∷ x.back =
-    ap (λ j. places_with_opening j o q.places) n ∙ ap (places_with_opening (length x.front) o) x.places
-    ∙ with_opening_there o x.front (bare_place x.token) x.back in
+    cc (with_opening_there o x.front (bare_place x.token) x.back) in
     let quiet : opens_block o ≡ true → AreQuiet (x.token ∷ flat x.back) = λ _. x.quiet in
     let P : List Place → Type 0 = λ l. AreTokens opened.collections (flat l) from h.last in
     let Q : List Place → Type 0 = λ l. Stands (open_all (flat l) opened.collections) d in

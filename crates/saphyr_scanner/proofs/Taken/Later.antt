@@ -138,9 +138,8 @@ plain_later f s t text end r =
     rw r.is both
 
 span_later : (span : Span) (text : List ℕ) (s t : Cursor) → IsSpan span text s t → LaterThan s t
-span_later span text s t h =
-    let l = length-append text t.rest in
-    rw h.goes_on (along_later s.mark (length text) s.rest t.rest (omega (arith, l, ap length h.is)))
+span_later span text s t h = rw h.goes_on (along_later s.mark (length text) s.rest t.rest
+    (omega (arith, length-append text t.rest, ap length h.is)))
 
 character_later : (c : ℕ) (s t : Cursor) → TakesCharacter c s t → LaterThan s t
 character_later c s t h = rw h.1 (along_later s.mark 1 s.rest t.rest (omega (arith, ap length h.0)))

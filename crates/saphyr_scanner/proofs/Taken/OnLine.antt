@@ -1,12 +1,12 @@
 -- Scalars that end on the line where they begin have no later lines.
-use Rattle.std.proofs.Common.{◌≡◌, ℕ, ◌≤◌, ◌<◌, Bool, true, false, List, [], ◌∷◌, ◌++◌, length, drop, slice_index, refl, sym, ap, ◌∙◌, arith, subst, IsTrue}
+use Rattle.std.proofs.Common.{◌≡◌, ℕ, ◌≤◌, ◌<◌, Bool, true, false, List, [], ◌∷◌, ◌++◌, length, drop, slice_index, refl, sym, ap, ◌∙◌, arith, IsTrue}
 use Rattle.std.specs.Prelude.{◌&&◌, ◌==◌, not}
-use Rattle.std.proofs.lemmas.Bool.{false≢true, or_parts, not-true}
-use Rattle.saphyr_input.specs.Classes.{is_break, is_breakz, is_z}
+use Rattle.std.proofs.lemmas.Bool.{false≢true}
+use Rattle.saphyr_input.specs.Classes.{is_break}
 use Rattle.saphyr_input.proofs.Basics.Booleans.{by_test, and_true_left, and_false}
 use Rattle.saphyr_values.specs.declared.folding.Item.{Item}
 use Rattle.saphyr_values.specs.declared.flow.Quote.{Quote}
-use Rattle.saphyr_values.specs.Flow.{mark, is_special}
+use Rattle.saphyr_values.specs.Flow.{mark}
 use Rattle.saphyr_scalar.specs.declared.scalar.position.Marker.{Marker}
 use Rattle.saphyr_scalar.specs.Passing.{IsPassed, nothing, character, line_break}
 use Rattle.saphyr_scalar.specs.Reading.Plain.{end_of_text, IsPlainReading}
@@ -56,8 +56,7 @@ record OnLine (k : ℕ) (q : Quote) (t : List ℕ) (items : List Item) (x : List
   lines : place.line ≤ m.line → place.line < top → HasIndentedLines k q t items x is
 
 stands_unbroken : (q : Quote) (c : ℕ) → IsTrue (stands_for_itself q c) → is_break c ≡ false
-stands_unbroken q c h = (or_parts (is_break c) (is_z c)
-    (not-true (is_breakz c) (and_true_left (not (is_breakz c)) (not (is_special q c)) h))).0
+stands_unbroken q c h = grind arith
 
 quotes_on_line : (k : ℕ) (q : Quote) (t : List ℕ) (items : List Item) (x : List ℕ) (is : IsText q t items x)
     (m : Marker) → OnLine k q t items x is m
@@ -119,7 +118,6 @@ pub quoted_on_line : (k : ℕ) (q : Quote) (items : List Item) (s t : Cursor) (i
     → HasIndentedLines k q is.0 items t.rest is.2
 quoted_on_line k q items s t is passed le small =
     let o = quotes_on_line k q is.0 items t.rest is.2 (along s.mark 1) in
-    let line : o.place.line ≡ t.mark.line =
-    ap (λ (m : Marker). m.line) (one_place s.mark s.rest t.mark t.rest passed o.place (rw is.1
+    let line : o.place.line ≡ t.mark.line = cc (one_place s.mark s.rest t.mark t.rest passed o.place (rw is.1
     (character s.mark (mark q) is.0 o.place t.rest (mark_no_break q) o.passed))) in
     o.lines (omega (arith, line, le)) (omega (arith, line, small))

@@ -2,7 +2,6 @@
 use Rattle.std.proofs.Common.{◌≡◌, ℕ, zero, suc, ◌+◌, ◌⊎◌, Bool, true, false, List, [], ◌∷◌, ◌++◌, length, refl, sym, ap, ◌∙◌, arith, subst, inl, inr, IsTrue, ◌≤◌, ◌<◌}
 use Rattle.std.specs.Prelude.{◌-◌, slice_index, if◌then◌else◌, nat_lt}
 use Rattle.std.proofs.lemmas.Bool.{lt-ltb}
-use Rattle.saphyr_input.proofs.Basics.Booleans.{by_test}
 use Rattle.saphyr_scalar.specs.declared.scalar.position.Marker.{Marker}
 use Rattle.saphyr_scalar.specs.declared.scalar.position.Span.{Span}
 use Rattle.saphyr_scalar.specs.declared.scalar.style.ScalarStyle.TheVariants as style
@@ -295,14 +294,13 @@ opening_tokens opened opening.BlockMappingAndKey t back s u b q n r x c h =
     let place = b _ h.0 h.1 h.3 in
     let k = quiet_tokens t.span.start.col opened (t ∷ back) h.0 u 0 0 (omega arith) x (q refl)
     (rw place.0 at (n refl).0) (n refl).1 (h.0, h.1, taken.nothing _ _, h.3, h.4) in
-    let right : least_column_in opened.columns ≤ h.0.mark.col = rw place.0 at (r refl) in
     let begun = with_column t.span.start.col opened in
     let P : Collections → Type 0 = λ x. AreTokens x (empty_piece t.span.start tokens.Key ∷ t ∷ back) h.0 u in
     let Q : Collections → Type 0 = λ x. AreTokens x (t ∷ back) h.0 u in (
       h.0,
       h.0,
       h.2,
-      (refl, place.0, refl, place.1, right),
+      (refl, place.0, refl, place.1, rw place.0 at (r refl)),
       subst P (sym (mapping_starts t.span.start opened)) (
         h.0,
         h.0,

@@ -5,7 +5,7 @@ use Rattle.saphyr_input.specs.Classes.{is_break, is_blank}
 use Rattle.saphyr_scalar.specs.declared.scalar.position.Marker.{Marker}
 use Rattle.saphyr_scalar.specs.declared.scalar.position.Span.{Span}
 use Rattle.saphyr_scalar.specs.declared.scalar.style.ScalarStyle.TheVariants as style
-use Rattle.saphyr_scalar.specs.Views.Cursor.{Cursor, start_cursor, along}
+use Rattle.saphyr_scalar.specs.Views.Cursor.{Cursor, start_cursor}
 use Rattle.saphyr_scalar.specs.Spelling.Directive.{version, tag_prefix, reserved}
 use Rattle.saphyr_scalar.specs.Reading.Plain.{end_of_text, IsPlainReading}
 use Rattle.saphyr_scalar.proofs.NoBreaks.{NoBreaks, directive_no_break}

@@ -13,16 +13,16 @@ use Rattle.saphyr_scanner.specs.Steps.State.{State, start}
 use Rattle.saphyr_scanner.specs.Steps.Fetch.{size, without_far_key, needs_token, fetch_within, any_holds}
 use Rattle.saphyr_scanner.specs.Steps.Remaining.{before_place, hand_out, remaining_after, run, remaining, scan}
 use Rattle.saphyr_scanner.specs.TokensTaken as taken
-use Rattle.saphyr_scanner.specs.TokensTaken.{Collections, no_collections, IsPlaceOf, AreTokens, IsEndOf, AreTakenFrom}
+use Rattle.saphyr_scanner.specs.TokensTaken.{no_collections, IsPlaceOf, AreTokens, IsEndOf, AreTakenFrom}
 use Rattle.saphyr_scanner.proofs.Effects.Fetch.{Fetched, read_fetched}
 use Rattle.saphyr_scanner.proofs.Filling.{going}
 use Rattle.saphyr_scanner.proofs.Leads.{flat, place_pieces}
 use Rattle.saphyr_scanner.proofs.Effects.Readers.{Readers, TextLaws, RefusalLaws}
 use Rattle.saphyr_scanner.proofs.Taken.Later.{LaterThan, later_here, later_later, tokens_later}
 use Rattle.saphyr_scanner.proofs.Taken.Parts.{open_append, tokens_append, tokens_part}
-use Rattle.saphyr_scanner.proofs.Taken.Held.{Stands, Setting, KeepsPlace, setting_behind}
+use Rattle.saphyr_scanner.proofs.Taken.Held.{Setting, setting_behind}
 use Rattle.saphyr_scanner.proofs.Taken.Keys.{Key, KeyOf, lower, KeysFrom, keys_weaken}
-use Rattle.saphyr_scanner.proofs.Taken.InPlace.{all_behind, behind_append, in_place_append, in_place_parts, calm, IsPast, EndsOn}
+use Rattle.saphyr_scanner.proofs.Taken.InPlace.{all_behind, behind_append, in_place_append, in_place_parts, calm, IsPast}
 use Rattle.saphyr_scanner.specs.TokensInPlace.{Enclosures, not_enclosed, AreInPlace}
 use Rattle.saphyr_scanner.proofs.Taken.Fetch.{Read, Ready, settled_ready, read_ready}
 use Rattle.saphyr_scanner.proofs.Taken.Places.{Reaches, reaches_reaches, place_of, tokens_reached}
@@ -126,9 +126,8 @@ one_left text opened from c p ps n l h e =
           place = rw (open_append ts (flat ps) opened.collections) at h.taken.place;
         };
         live = λ f nz.
-            let free = not_held c.ended _ f e in
-            let k = keys_handed opened.enclosures 0 (n + length (p ∷ ps)) n p ps c.indent (c.level ∷ c.outer) free
-            (h.live f nz) in
+            let k = keys_handed opened.enclosures 0 (n + length (p ∷ ps)) n p ps c.indent (c.level ∷ c.outer)
+            (not_held c.ended _ f e) (h.live f nz) in
             keys_weaken (all_behind ts opened.enclosures) 0 (n + length (p ∷ ps)) (n + 1 + length ps)
             (record { places = ps; handed = n + 1 }) c.indent (c.level ∷ c.outer) (omega arith) k;
         over = λ f u v. h.over f u (tokens_append opened.collections ts (flat ps) from r.between u r.front v);

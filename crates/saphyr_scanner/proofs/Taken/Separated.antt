@@ -287,8 +287,7 @@ all_spaces (c ∷ cs) m blank space =
     let return : ((c == 13) && (slice_index cs 0 == 10)) ≡ true → P (end_of_spaces (along m 1) blank true cs) = λ e.
     let f = and_parts (c == 13) (slice_index cs 0 == 10) e in
     let r = end_of_spaces (along m 1) blank true cs in
-    subst (λ d. IsPassedOver m (d ∷ cs) r.cursor.mark r.cursor.rest) (sym (eqb-true c 13 f.0))
-    ((all_spaces cs (along m 1) blank true).behind_return f.1 m refl) in
+    rw (eqb-true c 13 f.0) ((all_spaces cs (along m 1) blank true).behind_return f.1 m refl) in
     let further : (c == 32) ≡ true → P (end_of_spaces (along m 1) blank true cs) =
     λ b. taken.blank m c cs _ _ (ap is_blank (eqb-true c 32 b)) (all_spaces cs (along m 1) blank true).between in
     let comments : (c == 35) ≡ true → P (end_of_spaces_in_comment (along m 1) blank space cs) =

@@ -1,6 +1,6 @@
 -- What is known between tokens: after a block scalar a candidate is too far in front to be a key.
-use Rattle.std.proofs.Common.{◌≡◌, ℕ, zero, suc, ◌^◌, ◌≤◌, ◌<◌, ◌⊎◌, Bool, true, false, List, [], ◌∷◌, length, Option, Ok, Some, None, refl, sym, ap, ◌∙◌, arith, subst, inl, inr, IsTrue}
-use Rattle.std.specs.Prelude.{◌-◌, ◌&&◌, slice_index, nat_lt}
+use Rattle.std.proofs.Common.{◌≡◌, ℕ, ◌^◌, ◌≤◌, ◌<◌, ◌⊎◌, Bool, true, false, List, [], ◌∷◌, length, Option, Ok, Some, None, refl, sym, ap, ◌∙◌, arith, subst, inl, inr, IsTrue}
+use Rattle.std.specs.Prelude.{◌-◌, ◌&&◌, slice_index}
 use Rattle.saphyr_input.specs.Classes.{is_z}
 use Rattle.saphyr_values.specs.declared.block.BlockStyle.{BlockStyle}
 use Rattle.saphyr_values.specs.declared.block.BlockStyle.TheVariants as block_style
@@ -18,14 +18,13 @@ use Rattle.saphyr_scanner.specs.Steps.Scalar as scalar
 use Rattle.saphyr_scanner.specs.Steps.State.{State, with_core}
 use Rattle.saphyr_scanner.specs.Steps.Unrolling.{unroll, end_blocks, end_block, is_right_of, with_outer_indent, go_less_deep}
 use Rattle.saphyr_scanner.specs.TokensTaken as taken
-use Rattle.saphyr_scanner.specs.TokensTaken.{AreTokens, IsToken, IsBlockScalarToken, IsPlaceOrEnd, Collections, begins_text, IsContentEnd, IsBlockEnd}
+use Rattle.saphyr_scanner.specs.TokensTaken.{AreTokens, IsToken, IsBlockScalarToken, IsPlaceOrEnd, begins_text, IsContentEnd, IsBlockEnd}
 use Rattle.saphyr_scanner.specs.TokensInPlace.{Enclosures, without_innermost, block_ended}
 use Rattle.saphyr_scanner.proofs.Blocks.{block_cursor, go_less_deep_cursor}
 use Rattle.saphyr_scanner.proofs.Leads.{flat}
 use Rattle.saphyr_scanner.proofs.Taken.Later.{top, Later, LaterThan, later_later, apart_later, token_later, tokens_later}
 use Rattle.saphyr_scanner.proofs.Taken.Parts.{tokens_part}
-use Rattle.saphyr_scanner.proofs.Taken.InPlace.{free}
-use Rattle.saphyr_scanner.proofs.Taken.Held.{Stack, enclosure_of, enclosed_by, columns_of, enclosures_of, Setting, Taken, taken_within, taken_further, unbound_parted, taken_put}
+use Rattle.saphyr_scanner.proofs.Taken.Held.{Stack, enclosures_of, Setting, Taken, taken_within, taken_further, unbound_parted, taken_put}
 use Rattle.saphyr_scanner.proofs.Taken.Keys.{Key, Keys}
 use Rattle.saphyr_scanner.proofs.Taken.Cores.{HoldsTaken, Saved, no_keys, outermost}
 use Rattle.saphyr_scanner.proofs.Taken.Cores.{saved_taken, first_at, apart_same}
@@ -153,8 +152,7 @@ pub block_fetched : TextLaws → (text : List ℕ) → length text < 2 ^ 63
       kind = tokens.Scalar (scalar.style_of style) x.0;
     }) q)
 block_fetched laws text small opened from q style c d l s stays h b bd f x e =
-    let first : slice_index d.cursor.rest 0 ≡ taken.block_indicator style =
-    first_at (taken.block_indicator style) c.cursor d.cursor s.cursor f in
+    let first = first_at (taken.block_indicator style) c.cursor d.cursor s.cursor f in
     let p = laws.block_place style d.indent d.cursor x.2 x.0 x.1 first e in
     let piece : Piece = record {
       span = record { start = x.1.start; end = x.1.end };
@@ -222,28 +220,10 @@ outer_indent_stack [] (column ∷ columns) c h = absurd h
 outer_indent_stack (j ∷ is) [] c h = absurd (let e = h.1 in cc)
 outer_indent_stack (j ∷ is) (column ∷ columns) c h = h.1
 
--- the innermost column goes
-outer_indent_columns : (column : Option ℕ) (is : List ℕ) (c : Core) → is_right_of column c.indent ≡ true
-    → columns_of (with_outer_indent is c).indent (with_outer_indent is c).outer_indents
-    ≡ without_innermost (columns_of c.indent is)
-outer_indent_columns column is c e = by is c.indent (positive column c.indent e)
-  where
-    positive : (column : Option ℕ) (i : ℕ) → is_right_of column i ≡ true → 0 < i
-    positive column i e = grind arith
-
-    by : (is : List ℕ) (i : ℕ) → 0 < i
-        → columns_of (with_outer_indent is c).indent (with_outer_indent is c).outer_indents
-        ≡ without_innermost (columns_of i is)
-    by is i l = grind arith
-
 -- what encloses the tokens after an end
 ended_enclosures : (column : Option ℕ) (m : Marker) (s : State) → is_right_of column s.core.indent ≡ true
     → enclosures_of (end_block m s).core ≡ block_ended (enclosures_of s.core)
-ended_enclosures column m s e =
-    let levels = outer_indent_levels s.core.outer_indents s.core in
-    let From : Level → List Level → List ℕ → Enclosures =
-    λ l ls columns. free (enclosure_of l.context) (record { enclosed = enclosed_by ls; columns = columns }) in
-    let d = (end_block m s).core in cc (outer_indent_columns column s.core.outer_indents s.core e)
+ended_enclosures column m s e = grind arith
 
 abbrev pub TakenState : Setting → Cursor → State → Type 0
 TakenState opened from s = Taken opened from s.core s.queue

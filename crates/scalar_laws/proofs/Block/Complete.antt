@@ -28,27 +28,18 @@ use Rattle.saphyr_input.proofs.Basics.Booleans.{and_false, clash, by_test}
 pub limit_of : (indent i d : ℕ) (is_given : Bool) → IsIndentation indent i d is_given
     → IsLimit i is_given (given_indentation indent d)
 unfolding given_indentation
-limit_of indent i _ _ (found low) = refl
-limit_of indent i _ _ (given d some is fits) =
-    let other : nat_eq d 0 ≡ false = grind (arith, nat_tests) in
-    let exact : min (indent - 1 + d) (2 ^ 64 - 1) ≡ i = omega arith in rw other exact
+limit_of indent i d is_given h = grind arith
 
 pub found_as : (indent i d w : ℕ) (is_given : Bool) → IsIndentation indent i d is_given → w ≡ i
     → unwrap_or (given_indentation indent d) (max w indent) ≡ i
 unfolding given_indentation
-found_as indent i _ w _ (found low) e = omega arith
-found_as indent i _ w _ (given d some is fits) e =
-    let other : nat_eq d 0 ≡ false = grind (arith, nat_tests) in
-    let exact : min (indent - 1 + d) (2 ^ 64 - 1) ≡ i = omega arith in rw other exact
+found_as indent i d w is_given h e = grind arith
 
 no_z : (x : ℕ) → is_yaml_non_break x ≡ true → is_z x ≡ false
 no_z x h = parts (nat_eq x 10) (nat_eq x 13) (nat_eq x 0) _ h
   where
     parts : (a b d e : Bool) → (not ((a || b) || d) && e) ≡ true → d ≡ false
-    parts true b d e k = absurd (cc)
-    parts false true d e k = absurd (cc)
-    parts false false true e k = absurd (cc)
-    parts false false false e k = refl
+    parts a b d e k = grind arith
 
 -- what was read after the header, with the leading empty lines
 record ScalarRead (st : BlockStyle) (c : Chomping) (indent i n : ℕ) (others : List ℕ) (start : Marker)
@@ -80,8 +71,7 @@ content_read st c indent i n others start limit ls r l same =
     let all : lines_value st c true ls ≡ line_feeds l.d ++ l.later = rw l.some (l.whole 0) in
     let read : Value c j z ≡ lines_value st c true ls = subst V (sym same) (l.value r.0.count)
     ∙ ap (λ k. line_feeds k ++ l.later) count ∙ sym all in
-    let within : nat_lt r.1.mark.col j ≡ false = let at : j ≤ r.1.mark.col = omega (arith, same, l.column) in grind
-    (arith, nat_tests) in
+    let within : nat_lt r.1.mark.col j ≡ false = grind (arith, nat_tests) in
     let no : (nat_lt r.1.mark.col j && nat_le indent r.1.mark.col) ≡ false = cc in
     let Goal : BlockScalarRead → Type 0 = λ x. x ≡ Ok (text, span, z.2) in
     let told =
@@ -130,32 +120,22 @@ end_read st c indent i n others start limit ls r no_content z rest column stays 
 plain_tail : (c : Chomping) (k : ℕ) (s : Cursor) → ((k == 0) && s.blank_so_far && nat_lt 0 s.mark.col) ≡ false
     → tail_alone c k s ≡ chomped_alone c k
 unfolding tail_alone
-plain_tail Strip k s h = refl
-plain_tail Clip k s h = refl
-plain_tail Keep k s h = rw h refl
+plain_tail c k s h = grind arith
 
 spaced_tail : (c : Chomping) (s : Cursor) → s.blank_so_far ≡ true → 1 ≤ s.mark.col
     → tail_alone c 0 s ≡ chomped_alone c 1
 unfolding tail_alone
-spaced_tail Strip s blank some = refl
-spaced_tail Clip s blank some = refl
-spaced_tail Keep s blank some = let far : nat_lt 0 s.mark.col ≡ true = grind (arith, nat_tests) in rw (blank, far) refl
+spaced_tail c s blank some = grind arith
 
 no_breaks_tail : (c : Chomping) (k : ℕ) → tail c false (record { broken = false; empty_lines = k }) ≡ chomped_alone c k
-no_breaks_tail Strip k = refl
-no_breaks_tail Clip k = refl
-no_breaks_tail Keep k = refl
+no_breaks_tail c k = grind arith
 
 -- the indentation that is taken for a scalar without content
 low_of : (indent i d w : ℕ) (is_given : Bool) → IsIndentation indent i d is_given → w ≤ i
     → (indent ≤ unwrap_or (given_indentation indent d) (max w indent))
     × (unwrap_or (given_indentation indent d) (max w indent) ≤ i)
 unfolding given_indentation
-low_of indent i _ w _ (found low) e = (omega arith, omega arith)
-low_of indent i _ w _ (given d some is fits) e =
-    let other : nat_eq d 0 ≡ false = grind (arith, nat_tests) in
-    let exact : min (indent - 1 + d) (2 ^ 64 - 1) ≡ i = omega arith in
-    rw (other, exact) (omega (arith, is, some), omega arith)
+low_of indent i d w is_given h e = grind arith
 
 -- Up to a line that begins left of `indent`, or at column 0.
 left_read : (st : BlockStyle) (c : Chomping) (indent i n : ℕ) (x others : List ℕ) (start : Marker) (limit : Option ℕ)
@@ -346,8 +326,7 @@ lines_read st c indent i n d is_given _ start b m x _ others ind h (inr (spaces_
     let limit = given_indentation indent d in
     let same = spaces_passed i is_given limit no_lines b j m (limit_of indent i d is_given ind) col low in
     let nothing = nothing_behind i n x others over h in
-    subst (ScalarRead st c indent i n others start limit (Empty ∷ [])) (sym same)
-    (end_read st c indent i n others start limit (Empty ∷ []) (
+    rw same (end_read st c indent i n others start limit (Empty ∷ []) (
       with_column no_lines (m.col + j),
       line_cursor b
           (along m j) [],

@@ -30,21 +30,18 @@ pub no_space_behind : (i n : ℕ) (x others : List ℕ) → IsBehind i n x other
 no_space_behind i n x others h e = by_column (nat_lt n i) refl
   where
     no_marker : (xs : List ℕ) → slice_index xs 0 ≡ 32 → is_document_indicator xs ≡ true → ⊥
-    no_marker [] f k = cc
-    no_marker (x ∷ xs) f k = let no : true ≡ false = sym k ∙ ap (λ y. is_document_indicator (y ∷ xs)) f in cc
+    no_marker xs f k = grind arith
 
     by_content : (is_yaml_non_break (slice_index others 0) ≡ false)
         ⊎ ((i ≡ 0) × (is_document_indicator others ≡ true)) → ⊥
-    by_content (inl k) = let no : true ≡ false = sym (ap is_yaml_non_break e) ∙ k in cc
-    by_content (inr (zero_is, k)) = no_marker others e k
+    by_content h = grind arith
 
     by_column : (a : Bool) → nat_lt n i ≡ a → ⊥
     by_column true k = let less : n < i = grind (arith, nat_tests) in h.no_space less e
     by_column false k = let at : n ≡ i = let w = h.within in grind (arith, nat_tests) in by_content (h.no_content at)
 
 pub no_indentation : (limit : Option ℕ) (col c : ℕ) → c ≢ 32 → is_indentation limit col c ≡ false
-no_indentation None col c h = ne_eqb c 32 h
-no_indentation (Some limit) col c h = rw (ne_eqb c 32 h) refl
+no_indentation limit col c h = grind arith
 
 -- spaces, and after them what is no more of the indentation
 stopped : (i n : ℕ) (given : Bool) (limit : Option ℕ) (others : List ℕ) (before : EmptyLinesRead) (b : Bool)

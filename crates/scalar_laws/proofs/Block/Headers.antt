@@ -45,7 +45,6 @@ unfolding header_break
 break_read start v x e tab =
     let yes : not (is_breakz (slice_index v.rest 0)) ≡ false = cc in
     let passed = feed_passed v x e in
-    let left : (pass_break v).rest ≡ x = cc in
     let none : nat_eq (slice_index x 0) 9 ≡ false = grind (arith, nat_tests) in
     let no : nat_eq (slice_index (pass_break v).rest 0) 9 ≡ false = cc in
     let Goal : Result Cursor Refusal → Type 0 = λ r. r ≡ Ok (pass_line 1 v) in
@@ -55,20 +54,17 @@ break_read start v x e tab =
 none_passed : (v : Cursor) → v.rest ≡ [] → pass_break v ≡ v
 none_passed v e =
     let no : next_2_are v.rest 13 10 ≡ false = ap (λ (xs : List ℕ). next_2_are xs 13 10) e in
-    let nor : is_break (slice_index v.rest 0) ≡ false = cc in
     let Goal : Cursor → Type 0 = λ s. s ≡ v in
     by_test (next_2_are v.rest 13 10) _ _ Goal (λ h. clash _ h no)
-    (λ _. by_test (is_break (slice_index v.rest 0)) _ _ Goal (λ h. clash _ h nor) (λ _. refl))
+    (λ _. by_test (is_break (slice_index v.rest 0)) _ _ Goal (λ h. clash _ h cc) (λ _. refl))
 
 end_passed : (start : Marker) (v : Cursor) → v.rest ≡ [] → header_break start v ≡ Ok v
 unfolding header_break
 end_passed start v e =
-    let yes : not (is_breakz (slice_index v.rest 0)) ≡ false = cc in
     let passed = none_passed v e in
-    let left : (pass_break v).rest ≡ [] = ap (λ (s : Cursor). s.rest) passed ∙ e in
     let no : nat_eq (slice_index (pass_break v).rest 0) 9 ≡ false = cc in
     let Goal : Result Cursor Refusal → Type 0 = λ r. r ≡ Ok v in
-    by_test (not (is_breakz (slice_index v.rest 0))) _ _ Goal (λ h. clash _ h yes)
+    by_test (not (is_breakz (slice_index v.rest 0))) _ _ Goal (λ h. clash _ h cc)
     (λ _. by_test (nat_eq (slice_index (pass_break v).rest 0) 9) _ _ Goal (λ h. clash _ h no) (λ _. ap Ok passed))
 
 -- after a header's line a line begins, or nothing is left after the header
@@ -203,10 +199,9 @@ chomping_keep s e =
 pub chomping_strip : (s : Cursor) → slice_index s.rest 0 ≡ hyphen → chomping s ≡ (Some Strip, pass 1 s)
 unfolding chomping
 chomping_strip s e =
-    let no : nat_eq (slice_index s.rest 0) 43 ≡ false = ap (λ y. nat_eq y 43) e in
     let yes : nat_eq (slice_index s.rest 0) 45 ≡ true = ap (λ y. nat_eq y 45) e in
     let Goal : Option Chomping × Cursor → Type 0 = λ r. r ≡ (Some Strip, pass 1 s) in
-    by_test (nat_eq (slice_index s.rest 0) 43) _ _ Goal (λ h. clash _ h no)
+    by_test (nat_eq (slice_index s.rest 0) 43) _ _ Goal (λ h. clash _ h (ap (λ y. nat_eq y 43) e))
     (λ _. by_test (nat_eq (slice_index s.rest 0) 45) _ _ Goal (λ _. refl) (λ h. clash _ yes h))
 
 pub indicator_none : (start : Marker) (s : Cursor) (x : ℕ) → slice_index s.rest 0 ≡ x → is_digit x ≡ false
@@ -225,11 +220,10 @@ indicator_digit start s d e low high =
     let other : nat_eq (48 + d) 48 ≡ false = grind (arith, nat_tests) in
     let yes : not (is_digit (slice_index s.rest 0)) ≡ false = ap (λ y. not (is_digit y)) e ∙ ap not is in
     let no : nat_eq (slice_index s.rest 0) 48 ≡ false = ap (λ y. nat_eq y 48) e ∙ other in
-    let value : slice_index s.rest 0 - 48 ≡ d = omega arith in
     let Goal : Result (ℕ × Cursor) Refusal → Type 0 = λ r. r ≡ Ok (d, pass 1 s) in
     by_test (not (is_digit (slice_index s.rest 0))) _ _ Goal (λ h. clash _ h yes)
     (λ _. by_test (nat_eq (slice_index s.rest 0) 48) _ _ Goal (λ h. clash _ h no)
-    (λ _. ap (λ v. Ok (v, pass 1 s)) value))
+    (λ _. ap (λ v. Ok (v, pass 1 s)) (omega arith)))
 
 -- a header's line ends with no indicator
 pub record NoMark (x : ℕ) : Type 0 where

@@ -30,13 +30,11 @@ e_space : (limit : Option ℕ) (lines : EmptyLinesRead) (b : Bool) (m : Marker) 
     → is_indentation limit m.col 32 ≡ true
     → pass_empty_lines limit lines b m (space ∷ t) ≡ pass_empty_lines limit lines b (along m 1) t
 unfolding pass_empty_lines
-e_space None lines b m t h = refl
-e_space (Some limit) lines b m t h = rw h refl
+e_space limit lines b m t h = grind arith
 
 limit_space : (i : ℕ) (given : Bool) (limit : Option ℕ) (col : ℕ) → IsLimit i given limit → col < i
     → is_indentation limit col 32 ≡ true
-limit_space i given None col h less = refl
-limit_space i given (Some limit) col h less = space_left limit col (omega arith)
+limit_space i given limit col h less = grind arith
 
 pub e_spaces : (i : ℕ) (given : Bool) (limit : Option ℕ) (lines : EmptyLinesRead) (b : Bool) (j : ℕ) (m : Marker)
     (t : List ℕ) → IsLimit i given limit → m.col + j ≤ i
@@ -53,14 +51,11 @@ pub e_feed : (limit : Option ℕ) (lines : EmptyLinesRead) (b : Bool) (m : Marke
     → pass_empty_lines limit lines b m (line_feed ∷ t) ≡ pass_empty_lines limit (with_empty_line lines m.col) true
     (next_line m 1) t
 unfolding pass_empty_lines
-e_feed None lines b m t = refl
-e_feed (Some limit) lines b m t = refl
+e_feed limit lines b m t = grind arith
 
 limit_stops : (i : ℕ) (given : Bool) (limit : Option ℕ) (col c : ℕ) → IsLimit i given limit
     → (given ≡ false → c ≢ space) → col ≡ i → is_indentation limit col c ≡ false
-limit_stops i given None col c l h e = ne_eqb c 32 (h l)
-limit_stops i given (Some limit) col c l h e =
-    let right : nat_lt col limit ≡ false = grind (arith, nat_tests) in rw right (and_false (nat_eq c 32))
+limit_stops i given limit col c l h e = grind arith
 
 -- the first content line, with what comes after it
 abbrev pub FirstValue : BlockStyle → Chomping → List ℕ → List Line → List ℕ
@@ -131,14 +126,13 @@ led_on st c i n given limit x others before b m _ _ l col wide h (leading j ls t
     let at : m.col + j ≤ i = omega arith in
     let more : max before.widest (m.col + j) ≤ i = omega arith in
     let same = e_spaces i given limit before b j m (10 ∷ t) l at ∙ e_feed limit before b (along m j) t in
-    subst (Led st c i n others before (Empty ∷ ls)) (sym same) (led_more st c i n others before (m.col + j) ls _
+    rw same (led_more st c i n others before (m.col + j) ls _
     (led_on st c i n given limit x others (with_empty_line before (m.col + j)) true
     (next_line (along m j) 1) ls t l refl more h body))
 led_on st c i n given limit x others before b m _ _ l col wide h (first y cs ls t no_space ic lines) =
     let at : m.col + i ≤ i = omega arith in
     let here : m.col + i ≡ i = omega arith in
-    subst (Led st c i n others before (Content (y ∷ cs) ∷ ls))
-    (sym (e_spaces i given limit before b i m (y ∷ (cs ++ (10 ∷ t))) l at))
+    rw (e_spaces i given limit before b i m (y ∷ (cs ++ (10 ∷ t))) l at)
     (led_at st c i n given limit before b (along m i) y cs (cs ++ (10 ∷ t)) others ls l no_space here wide ic.all.0
     (λ k. content_left st i n None k b (along m i) y cs t others here ic
     (λ more p e. lines_left st i n x (Some more) 0 true p ls t others e lines h))
@@ -147,7 +141,7 @@ led_on st c i n given limit x others before b m _ _ l col wide h (first y cs ls 
 led_on st c i n given limit x others before b m _ _ l col wide h (first_and_last y cs no_space ic none) =
     let at : m.col + i ≤ i = omega arith in
     let here : m.col + i ≡ i = omega arith in
-    subst (Led st c i n others before (Content (y ∷ cs) ∷ [])) (sym (e_spaces i given limit before b i m (y ∷ cs) l at))
-    (led_at st c i n given limit before b (along m i) y cs cs others [] l no_space here wide ic.all.0
+    rw (e_spaces i given limit before b i m (y ∷ cs) l at) (led_at st c i n given limit before b (along m i) y cs cs
+    others [] l no_space here wide ic.all.0
     (λ k. last_left st i n None k b (along m i) y cs others here ic (nothing_behind i n x others none h))
     (λ k. last_value st c i None k b (along m i) y cs here ic))

@@ -86,9 +86,7 @@ space_off : (i n x : ℕ) → (n < i → x ≢ 32) → is_indentation (Some i) n
 space_off i n x h = by_left (nat_lt n i) refl
   where
     by_left : (a : Bool) → nat_lt n i ≡ a → (nat_eq x 32 && nat_lt n i) ≡ false
-    by_left true e =
-        let less : n < i = grind (arith, nat_tests) in rw (ne_eqb x 32 (h less)) refl
-    by_left false e = rw e (and_false (nat_eq x 32))
+    by_left a e = grind arith
 
 pub none_starts : (i n : ℕ) (xs : List ℕ)
     → (n ≡ i → (is_yaml_non_break (slice_index xs 0) ≡ false) ⊎ ((i ≡ 0) × (is_document_indicator xs ≡ true)))
@@ -114,20 +112,18 @@ pub behind_same : (st : BlockStyle) (i : ℕ) (ab : Option Bool) (k : ℕ) (b : 
     ≡ lines_ended (is_some ab) k (line_cursor b (along m n) others)
 behind_same st i ab k b m n x others col h =
     let at : m.col + n ≡ n = omega arith in
-    let within : m.col + n ≤ i = omega (arith, h.within) in
     let space : is_indentation (Some i) (m.col + n) (slice_index others 0) ≡ false =
     cc (space_off i n (slice_index others 0) h.no_space) in
     let starts : line_starts i (m.col + n) others ≡ false = cc (none_starts i n others h.no_content) in
     cc (
-      spaces_on st i ab k b n m others within,
+      spaces_on st i ab k b n m others (omega (arith, h.within)),
       no_line_at st i ab k b (along m n) others space
           (no_break_at (slice_index others 0) h.no_break h.no_return) starts,
     )
 
 behind_left : (st : BlockStyle) (i : ℕ) (ab : Option Bool) (k : ℕ) (b : Bool) (m : Marker) (n : ℕ) (x others : List ℕ)
     → m.col ≡ 0 → IsBehind i n x others → Left n others (between st i ab k b m x)
-behind_left st i ab k b m n x others col h =
-    subst (Left n others) (sym (behind_same st i ab k b m n x others col h)) (refl, inl (omega arith))
+behind_left st i ab k b m n x others col h = rw (behind_same st i ab k b m n x others col h) (refl, inl (omega arith))
 
 pub nothing_behind : (i n : ℕ) (x others : List ℕ) → x ≡ [] → IsBehind i n x others → others ≡ []
 nothing_behind i zero x others e h = sym h.is ∙ e
@@ -153,18 +149,17 @@ content_left st i n ab k b m c cs t others col h after =
     let same = begun_on st i ab k b m c cs (10 ∷ t) col h
     ∙ ap (λ r. lines_behind_text (break_before st ab k (is_blank c)) (lines_behind_text (c ∷ cs) r))
     (line_feed_on st i (is_blank c) b p t) in
-    subst (Left n others) (sym same) (after (is_blank c) (next_line p 1) refl)
+    rw same (after (is_blank c) (next_line p 1) refl)
 
 pub last_left : (st : BlockStyle) (i n : ℕ) (ab : Option Bool) (k : ℕ) (b : Bool) (m : Marker) (c : ℕ)
     (cs others : List ℕ) → m.col ≡ i → IsContent i c cs [] → others ≡ []
     → Left n others (between st i ab k b m (c ∷ cs))
 last_left st i n ab k b m c cs others col h none =
-    let p = along m (length (c ∷ cs)) in
     let whole : cs ++ [] ≡ cs = append-nil cs in
     let same = ap (λ ys. between st i ab k b m (c ∷ ys)) (sym whole) ∙ begun_on st i ab k b m c cs [] col h
     ∙ ap (λ r. lines_behind_text (break_before st ab k (is_blank c)) (lines_behind_text (c ∷ cs) r))
-    (line_end_on st i (is_blank c) b p) in
-    subst (Left n others) (sym same) (sym none, inr none)
+    (line_end_on st i (is_blank c) b (along m (length (c ∷ cs)))) in
+    rw same (sym none, inr none)
 
 -- spaces up to the text's end
 pub spaces_end : (st : BlockStyle) (i : ℕ) (ab : Option Bool) (k : ℕ) (b : Bool) (j : ℕ) (m : Marker) → m.col + j ≤ i
@@ -174,8 +169,7 @@ spaces_end st i ab k b j m at = cc (append-nil (spaces j), spaces_on st i ab k b
 
 spaces_left : (st : BlockStyle) (i n : ℕ) (ab : Option Bool) (k : ℕ) (b : Bool) (j : ℕ) (m : Marker) (others : List ℕ)
     → m.col + j ≤ i → others ≡ [] → Left n others (between st i ab k b m (spaces j))
-spaces_left st i n ab k b j m others at none =
-    subst (Left n others) (sym (spaces_end st i ab k b j m at)) (sym none, inr none)
+spaces_left st i n ab k b j m others at none = rw (spaces_end st i ab k b j m at) (sym none, inr none)
 
 pub lines_left : (st : BlockStyle) (i n : ℕ) (x : List ℕ) (ab : Option Bool) (k : ℕ) (b : Bool) (m : Marker)
     (ls : List Line) (t others : List ℕ) → m.col ≡ 0 → AreLines i x ls t → IsBehind i n x others
@@ -184,17 +178,15 @@ lines_left st i n x ab k b m _ _ others col no_lines h = behind_left st i ab k b
 lines_left st i n x ab k b m _ _ others col (empty j ls t within l) h =
     let at : m.col + j ≤ i = omega arith in
     let same = spaces_on st i ab k b j m (10 ∷ t) at ∙ feed_on st i ab k b (along m j) t in
-    subst (Left n others) (sym same)
-    (lines_left st i n x ab (k + 1) true (next_line (along m j) 1) ls t others refl l h)
+    rw same (lines_left st i n x ab (k + 1) true (next_line (along m j) 1) ls t others refl l h)
 lines_left st i n x ab k b m _ _ others col (content c cs ls t ic l) h =
     let at : m.col + i ≤ i = omega arith in
-    subst (Left n others) (sym (spaces_on st i ab k b i m (c ∷ (cs ++ (10 ∷ t))) at))
-    (content_left st i n ab k b (along m i) c cs t others (omega arith) ic
-    (λ more p e. lines_left st i n x (Some more) 0 true p ls t others e l h))
+    rw (spaces_on st i ab k b i m (c ∷ (cs ++ (10 ∷ t))) at) (content_left st i n ab k b (along m i) c cs t others
+    (omega arith) ic (λ more p e. lines_left st i n x (Some more) 0 true p ls t others e l h))
 lines_left st i n x ab k b m _ _ others col (last c cs ic none) h =
     let at : m.col + i ≤ i = omega arith in
-    subst (Left n others) (sym (spaces_on st i ab k b i m (c ∷ cs) at))
-    (last_left st i n ab k b (along m i) c cs others (omega arith) ic (nothing_behind i n x others none h))
+    rw (spaces_on st i ab k b i m (c ∷ cs) at) (last_left st i n ab k b (along m i) c cs others (omega arith) ic
+    (nothing_behind i n x others none h))
 lines_left st i n x ab k b m _ _ others col (last_empty some none) h =
     spaces_left st i n ab k b i m others (omega arith) (nothing_behind i n x others none h)
 lines_left st i n x ab k b m _ _ others col (left_of j less none) h =
@@ -206,9 +198,7 @@ Value c i r = r.0 ++ tail c (is_unfinished i r.2) r.1
 
 ended_tail : (c : Chomping) (k : ℕ)
     → tail c false (record { broken = true; empty_lines = k }) ≡ reading.chomped c true k
-ended_tail Strip k = refl
-ended_tail Clip k = refl
-ended_tail Keep k = refl
+ended_tail c k = grind arith
 
 not_unfinished : (i n : ℕ) (s : Cursor) → s.mark.col ≡ n → (is_z (slice_index s.rest 0) ≡ true → n ≡ 0)
     → is_unfinished i s ≡ false
@@ -223,14 +213,11 @@ unfinished : (i : ℕ) (s : Cursor) → i < s.mark.col → s.rest ≡ [] → is_
 unfolding is_unfinished
 unfinished i s h e =
     let far : nat_le (max i 1) s.mark.col ≡ true = grind (arith, nat_tests) in
-    let z : is_z (slice_index s.rest 0) ≡ true = ap (λ (xs : List ℕ). is_z (slice_index xs 0)) e in
-    rw (z, far) refl
+    rw (ap (λ (xs : List ℕ). is_z (slice_index xs 0)) e, far) refl
 
 keeps_more : (c : Chomping) (k : ℕ)
     → tail c true (record { broken = true; empty_lines = k }) ≡ reading.chomped c true (suc k)
-keeps_more Strip k = refl
-keeps_more Clip k = refl
-keeps_more Keep k = refl
+keeps_more c k = grind arith
 
 -- spaces up to the text's end, at the indentation and left of it
 full_spaces : (st : BlockStyle) (c : Chomping) (i : ℕ) (more : Bool) (k : ℕ) (b : Bool) (m : Marker) → m.col ≡ 0
@@ -251,10 +238,9 @@ behind_value : (st : BlockStyle) (c : Chomping) (i : ℕ) (more : Bool) (k : ℕ
     (x others : List ℕ) → m.col ≡ 0 → IsBehind i n x others
     → Value c i (between st i (Some more) k b m x) ≡ reading.chomped c true k
 behind_value st c i more k b m n x others col h =
-    let at : m.col + n ≡ n = omega arith in
     cc (
       behind_same st i (Some more) k b m n x others col h,
-      not_unfinished i n (line_cursor b (along m n) others) at h.finished,
+      not_unfinished i n (line_cursor b (along m n) others) (omega arith) h.finished,
       ended_tail c k,
     )
 
@@ -284,8 +270,7 @@ last_value st c i ab k b m x cs col h =
     let whole : cs ++ [] ≡ cs = append-nil cs in
     let same = ap (λ ys. between st i ab k b m (x ∷ ys)) (sym whole) ∙ begun_on st i ab k b m x cs [] col h
     ∙ ap (λ r. lines_behind_text bb (lines_behind_text (x ∷ cs) r)) (line_end_on st i (is_blank x) b p) in
-    let far : i < p.col = omega arith in
-    simp (same, append_assoc, unfinished i (line_cursor b p []) far refl, cut_tail c true)
+    simp (same, append_assoc, unfinished i (line_cursor b p []) (omega arith) refl, cut_tail c true)
 
 pub lines_value_left : (st : BlockStyle) (c : Chomping) (i n : ℕ) (x others : List ℕ) (above : List ℕ) (more : Bool)
     (k : ℕ) (b : Bool) (m : Marker) (ls : List Line) (t : List ℕ) → is_more_indented above ≡ more → m.col ≡ 0
@@ -299,12 +284,11 @@ lines_value_left st c i n x others above more k b m _ _ e col (empty j ls t with
     ∙ lines_value_left st c i n x others above more (k + 1) true (next_line (along m j) 1) ls t e refl l h
     ∙ rw (add-one k) refl
 lines_value_left st c i n x others above more k b m _ _ e col (content y cs ls t ic l) h =
-    let at : m.col + i ≤ i = omega arith in
     let bb = break_before st (Some more) k (is_blank y) in
     let own = contents_behind st (y ∷ cs) 0 ls in
     let end = reading.chomped c true (empty_at_end 0 ls) in
     cc (
-      spaces_on st i (Some more) k b i m (y ∷ (cs ++ (10 ∷ t))) at,
+      spaces_on st i (Some more) k b i m (y ∷ (cs ++ (10 ∷ t))) (omega arith),
       content_value st c i (Some more) k b (along m i) y cs t (own ++ end) (omega arith) ic
           (λ p q. lines_value_left st c i n x others (y ∷ cs) (is_blank y) 0 true p ls t refl q l h),
       append_assoc (y ∷ cs) own end,
@@ -312,11 +296,10 @@ lines_value_left st c i n x others above more k b m _ _ e col (content y cs ls t
       same_break st above (y ∷ cs) more (is_blank y) k e refl,
     )
 lines_value_left st c i n x others above more k b m _ _ e col (last y cs ic none) h =
-    let at : m.col + i ≤ i = omega arith in
     let bb = break_before st (Some more) k (is_blank y) in
     let end = reading.chomped c true 0 in
     cc (
-      spaces_on st i (Some more) k b i m (y ∷ cs) at,
+      spaces_on st i (Some more) k b i m (y ∷ cs) (omega arith),
       last_value st c i (Some more) k b (along m i) y cs (omega arith) ic,
       append-nil (y ∷ cs),
       append_assoc bb ((y ∷ cs) ++ []) end,

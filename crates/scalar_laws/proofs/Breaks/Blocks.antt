@@ -110,9 +110,7 @@ AreRead text x y = (x.0 ≡ y.0) × (x.1 ≡ y.1) × AreAlike text x.2 y.2
 
 starts_alike : (i : ℕ) (j k : ℕ) {r q : List ℕ} → j ≡ k → Normal r q → line_starts i j r ≡ line_starts i k q
 unfolding line_starts
-starts_alike i j k same n =
-    let first = first_in is_yaml_non_break refl n in
-    let marker = indicator_alike n in rw (same, first, marker) refl
+starts_alike i j k same n = rw (same, first_in is_yaml_non_break refl n, indicator_alike n) refl
 
 front_alike : (text a : List ℕ) (x y : LinesRead) → AreRead text x y
     → AreRead text (lines_behind_text a x) (lines_behind_text a y)

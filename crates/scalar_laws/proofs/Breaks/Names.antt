@@ -90,9 +90,8 @@ byte_part {r = r} {q = q} n shows =
     let third = no_break_in is_hex refl refl (drop 1 (drop 1 r)) (and_true_right _ _ others) in
     let n1 = past_first first n in
     let n2 = past_first second n1 in
-    let high : slice_index r 1 ≡ slice_index q 1 = sym (second_is r) ∙ first_same second n1 ∙ second_is q in
     let low : slice_index r 2 ≡ slice_index q 2 = sym (third_is r) ∙ first_same third n2 ∙ third_is q in (
-      rw (high, low) refl,
+      rw (sym (second_is r) ∙ first_same second n1 ∙ second_is q, low) refl,
       both_parts 1 1 2 2 r q (first_part first n) (both_parts 1 1 1 1 (drop 1 r) (drop 1 q)
           (first_part second n1) (first_part third n2)),
     )
@@ -174,8 +173,7 @@ decoded_by : (text : List ℕ) (set : CharacterSet) (m n : Marker) (s t : Cursor
     → ((x y : Cursor) → length x.rest < length s.rest → SameRead text set m n x y)
     → (b : Bool) → is_in_set set (slice_index s.rest 0) ≡ b → SameRead text set m n s t
 decoded_by text set m n s t others true h e =
-    let here : AreAlike text (mid_line s.mark s.rest) (mid_line t.mark t.rest) = alike false false refl (normal_of e)
-    (places_of e) in
+    let here = alike false false refl (normal_of e) (places_of e) in
     both_are (AreSame text) _ _ _ _ (decoded_one_more set m s.mark s.rest h)
     (decoded_one_more set n t.mark t.rest (sym (has_alike set (normal_of e)) ∙ h))
     (both_then (AreSame text) (AreSame text) _ _ _ _
@@ -204,8 +202,7 @@ unfolding verbatim_tag
 verbatim_alike text s t h second e =
     let n = normal_of e in
     let next = no_break_in (λ c. c == 60) refl refl (drop 1 s.rest) (rw (second_is s.rest) second) in
-    let two : PartsAlike 2 2 s.rest t.rest = both_parts 1 1 1 1 s.rest t.rest (first_part h n)
-    (first_part next (past_first h n)) in
+    let two = both_parts 1 1 1 1 s.rest t.rest (first_part h n) (first_part next (past_first h n)) in
     both_then (AreSame text) (AreTagsAlike text) _ _ _ _ (decoded_alike text _ s.mark t.mark (pass 2 s) (pass 2 t)
     (passed_alike 2 2 two e)) (λ x y _ _ is. verbatim_end_alike text s.mark t.mark x y is)
 

@@ -146,10 +146,7 @@ pub word_behind : (f : Bool) (xs ys : List ℕ) → IsEnd xs ys → is_in_word f
 word_behind f xs ys end stops goes = by end.taken refl
   where
     by : (n : ℕ) → end.taken ≡ n → length ys < length xs
-    by zero e =
-        let same : ys ≡ xs = end.is ∙ ap (λ n. drop n xs) e in
-        let other : true ≡ false = sym goes ∙ ap (is_in_word f) same ∙ stops in absurd (cc)
-    by (suc n) e = omega (arith, end.count, e)
+    by n e = grind arith
 
 abbrev SameWord : List ℕ → Bool → ℕ → Marker → Marker → Cursor → Cursor → Type 0
 SameWord text f i a b s t =
@@ -174,8 +171,7 @@ module _ (text : List ℕ) (f : Bool) (i : ℕ) (a b : Marker) where
   over_alike : (s t : Cursor) → is_in_word f s.rest ≡ false → AreAlike text s t → Others (length s.rest)
       → GiveAlike (ArePlainAlike text) (word f i a s.mark s.rest) (word f i b t.mark t.rest)
   over_alike s t stops e others =
-      let here : AreAlike text (mid_line s.mark s.rest) (mid_line t.mark t.rest) =
-      alike false false refl (normal_of e) (places_of e) in
+      let here = alike false false refl (normal_of e) (places_of e) in
       both_are (ArePlainAlike text) _ _ _ _ (word_over f i a s.mark s.rest stops)
       (word_over f i b t.mark t.rest (sym (in_word_alike f (normal_of e)) ∙ stops))
       (both_then (AreGapsAlike text) (ArePlainAlike text) _ _ _ _

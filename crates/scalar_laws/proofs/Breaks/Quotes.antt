@@ -71,8 +71,7 @@ escape_alike : (text : List ℕ) (a b : Marker) (s t : Cursor) → NoBreak s.res
     → AreAlike text s t → GiveAlike (AreSame text) (escaped_character a s) (escaped_character b t)
 unfolding escaped_character
 escape_alike text a b s t first second e =
-    let letter : slice_index s.rest 1 ≡ slice_index t.rest 1 = sym (second_is s.rest) ∙ first_same second
-    (past_first first (normal_of e)) ∙ second_is t.rest in
+    let letter = sym (second_is s.rest) ∙ first_same second (past_first first (normal_of e)) ∙ second_is t.rest in
     rw (← letter)
     (letter_alike text a b (short_escape (slice_index s.rest 1)) (slice_index s.rest 1) s t first second e)
 
@@ -190,8 +189,7 @@ break_left (return h n) = rw h n
 break_left (pair n) = n
 
 mark_in : (quote : Quote) → (13 == flow.mark quote) ≡ (10 == flow.mark quote)
-mark_in Single = refl
-mark_in Double = refl
+mark_in quote = grind arith
 
 if_alike : (R : List ℕ × Cursor → List ℕ × Cursor → Type 0) (o p : Option ℕ) (f g : ℕ → TextRead) (u v : TextRead)
     → o ≡ p → ((d : ℕ) → o ≡ Some d → GiveAlike R (f d) (g d)) → (o ≡ None → GiveAlike R u v)
@@ -230,8 +228,7 @@ module _ (text : List ℕ) (quote : Quote) (i : ℕ) (a b : Marker) where
   behind_escaped m n {r = r} {q = q} x p others =
       let k = break_len r in
       let l = break_len q in
-      let len = length-drop k r in
-      let less : length (drop k r) < suc (length r) = omega (arith, len) in
+      let less : length (drop k r) < suc (length r) = omega (arith, length-drop k r) in
       let gap = escaped_gap quote (slice_index (drop k r) 0) in
       let same : gap ≡ escaped_gap quote (slice_index (drop l q) 0) =
       cc (first_in (λ c. c == flow.mark quote) (mark_in quote) (break_left x)) in

@@ -15,7 +15,7 @@ both_then R Q (Err d) (Ok y) f g h next = absurd h
 -- what is given is the same as something else
 pub both_are : {X : Type 0} (R : X → X → Type 0) (r q u v : Result X Refusal) → r ≡ u → q ≡ v → GiveAlike R u v
     → GiveAlike R r q
-both_are R r q u v e f h = rw e (subst (GiveAlike R u) (sym f) h)
+both_are R r q u v e f h = rw e (rw f h)
 
 -- ## What is read of a text is told by what is read of its ends
 

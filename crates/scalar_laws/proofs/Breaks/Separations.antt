@@ -29,9 +29,7 @@ by_first p same {s = s} {t = t} e P then else =
 -- ## Document markers
 
 all_four : (a b c d : Bool) → ((a && b && c) && d) ≡ (a && (b && (c && d)))
-all_four true true c d = refl
-all_four true false c d = refl
-all_four false b c d = refl
+all_four a b c d = grind arith
 
 abbrev ends_marker : List ℕ → Bool
 ends_marker r = is_blank_or_breakz (slice_index r 0)
@@ -59,9 +57,7 @@ marker_alike c a b {r = r} {q = q} n =
     marker_is c r ∙ first_more c a b (mark_first c (mark_first c ends_marker)) second r q n ∙ sym (marker_is c q)
 
 pub indicator_alike : {r q : List ℕ} → Normal r q → is_document_indicator r ≡ is_document_indicator q
-indicator_alike n =
-    let start = marker_alike 45 refl refl n in
-    let end = marker_alike 46 refl refl n in rw (start, end) refl
+indicator_alike n = rw (marker_alike 45 refl refl n, marker_alike 46 refl refl n) refl
 
 -- ## So many characters, of which none is a break
 
@@ -139,9 +135,7 @@ found_alike tabs n =
     let x = blanks_run tabs n in cc
 
 bare_alike : (tabs : SkipTabs) {r q : List ℕ} → Normal r q → is_bare_comment tabs r ≡ is_bare_comment tabs q
-bare_alike tabs n =
-    let x = blanks_run tabs n in
-    let first = first_in (λ c. c == 35) refl n in rw (x.len, first) refl
+bare_alike tabs n = rw ((blanks_run tabs n).len, first_in (λ c. c == 35) refl n) refl
 
 behind_alike : (tabs : SkipTabs) {text r q : List ℕ} {s t : Cursor} → Normal r q → AreAlike text s t
     → GiveAlike (AreSame text) (behind_separation tabs r s) (behind_separation tabs q t)

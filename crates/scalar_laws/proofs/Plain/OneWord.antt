@@ -24,11 +24,7 @@ use Rattle.saphyr_scalar.proofs.Given.{cursor_at}
 
 by_four : (a b d e : Bool) → (not a && not b && not d && not e) ≡ true
     → (a ≡ false) × (b ≡ false) × (d ≡ false) × (e ≡ false)
-by_four false false false false h = (refl, refl, refl, refl)
-by_four true b d e h = absurd (cc)
-by_four false true d e h = absurd (cc)
-by_four false false true e h = absurd (cc)
-by_four false false false true h = absurd (cc)
+by_four a b d e h = grind arith
 
 safe_in_word : (f : Bool) (c : ℕ) (cs : List ℕ) → IsTrue (is_plain_safe c) → is_in_word f (c ∷ cs) ≡ true
 unfolding is_in_word
@@ -43,18 +39,15 @@ unfolding is_in_word
 white_stops f xs h = by_white (is_blank (slice_index xs 0)) (is_break (slice_index xs 0)) h
   where
     by_white : (a b : Bool) → (a || b) ≡ true → (not (a || (b || (slice_index xs 0 == 0))) && can_be_plain f xs) ≡ false
-    by_white true b h = refl
-    by_white false true h = refl
-    by_white false false h = absurd (cc)
+    by_white a b h = grind arith
 
 -- a word's characters are read
 word_read : (f : Bool) (i : ℕ) (a m : Marker) (w x : List ℕ) → AreIn is_plain_safe w
     → word f i a m (w ++ x) ≡ with_text (encode_utf8_all w) (word f i a (along m (length w)) x)
 word_read f i a m [] x h = cc (no_text _, along_none m)
 word_read f i a m (c ∷ w) x h =
-    let goes = safe_in_word f c (w ++ x) h.0 in
     cc (
-      word_on f i a m c (w ++ x) goes,
+      word_on f i a m c (w ++ x) (safe_in_word f c (w ++ x) h.0),
       word_read f i a (along m 1) w x h.1,
       text_twice (encode_utf8 c) (encode_utf8_all w) _,
       along_more m 1 (length w) (suc (length w)) (omega arith),
@@ -68,13 +61,10 @@ not_dashes : (c : ℕ) (cs : List ℕ) → (c == hyphen) ≡ false → is_docume
 not_dashes c cs h = rw h refl
 
 none_of : (f d : Bool) → (f && false && d) ≡ false
-none_of true d = refl
-none_of false d = refl
+none_of f d = grind arith
 
 last_of : (f d : Bool) → (f && d && false) ≡ false
-last_of true true = refl
-last_of true false = refl
-last_of false d = refl
+last_of f d = grind arith
 
 -- a word starts where no comment, document marker or lone dash does
 starts_at : (f : Bool) (s : Cursor) → (slice_index s.rest 0 == number_sign) ≡ false
@@ -113,8 +103,7 @@ first_starts f m b c cs x safe hash dot dash = test (c == 45) (λ is. dashed (is
     dashed : 45 ≡ c → Goal c cs
     dashed is =
         let d = dash (sym is) in
-        let safe_too : AreIn is_plain_safe (d.0 ∷ d.1) = subst (AreIn is_plain_safe) d.2 safe.1 in
-        let no_flow : is_flow d.0 ≡ false = safe_no_flow d.0 safe_too.0 in
+        let no_flow : is_flow d.0 ≡ false = safe_no_flow d.0 (rw d.2 at safe.1).0 in
         let lone : (f && (45 == 45) && is_flow d.0) ≡ false = rw no_flow (last_of f true) in
         let one : Goal 45 (d.0 ∷ d.1) =
         starts_at f (cursor_at (45 ∷ (d.0 ∷ (d.1 ++ x))) m b) refl (not_dashes d.0 (d.1 ++ x) (ne_eqb d.0 45 d.3)) lone
@@ -183,10 +172,9 @@ pub plain_word_read : (f : Bool) (i : ℕ) (s : Cursor) (w x : List ℕ) → s.r
 plain_word_read f i s w x is h ends =
     let m = s.mark in
     let e = along m (length w) in
-    let behind = past_white e false x in
     let c = h.first in
     let cs = h.others in
-    let safe : AreIn is_plain_safe (c ∷ cs) = subst (AreIn is_plain_safe) h.is h.safe in
+    let safe : AreIn is_plain_safe (c ∷ cs) = rw h.is at h.safe in
     let here : s.rest ≡ c ∷ (cs ++ x) = is ∙ ap (λ y. y ++ x) h.is in
     let starts : word_starts f s ≡ Ok (true, s) =
     rw here (first_starts f m s.blank_so_far c cs x safe h.no_comment h.no_dot h.dash) in

@@ -79,8 +79,7 @@ no_marker_by_test : (m : Marker) (xs : List ℕ) → IsNoMarker m xs → ((m.col
 no_marker_by_test m xs h = test (m.col == 0) refl
   where
     test : (b : Bool) → (m.col == 0) ≡ b → ((m.col == 0) && is_document_indicator xs) ≡ false
-    test true e = let is : m.col ≡ 0 = grind (arith, nat_tests) in rw e (h is)
-    test false e = rw e refl
+    test b e = grind arith
 
 first_in : (f : Bool) (w y : List ℕ) → IsWordBefore f w y → is_in_word f (w ++ y) ≡ true
 first_in f [] y h = absurd (h.some refl)
@@ -112,9 +111,7 @@ ink_of f [] y h = tt
 ink_of f (c ∷ w) y h = (no_white (is_blank c) (is_break c) (c == 0) (is_bom c) (f && is_flow c) h.0, ink_of f w y h.2)
   where
     no_white : (a b z d e : Bool) → (not (a || (b || z)) && not d && not e) ≡ true → (a || b) ≡ false
-    no_white false false z d e h = refl
-    no_white true b z d e h = absurd (cc)
-    no_white false true z d e h = absurd (cc)
+    no_white a b z d e h = grind arith
 
 word_dark : (f : Bool) (w y z : List ℕ) → IsWordBefore f w z → Dark (w ++ y)
 word_dark f [] y z h = absurd (h.some refl)
@@ -124,16 +121,13 @@ dark_no_feed : (xs : List ℕ) → Dark xs → NoFeed xs
 dark_no_feed xs h = by_parts (is_blank (slice_index xs 0)) (slice_index xs 0 == 10) (slice_index xs 0 == 13) h
   where
     by_parts : (a b d : Bool) → (a || (b || d)) ≡ false → b ≡ false
-    by_parts false false d e = refl
-    by_parts true b d e = absurd (cc)
-    by_parts false true d e = absurd (cc)
+    by_parts a b d e = grind arith
 
 dark_no_blank : (xs : List ℕ) → Dark xs → is_blank (slice_index xs 0) ≡ false
 dark_no_blank xs h = by_parts (is_blank (slice_index xs 0)) (is_break (slice_index xs 0)) h
   where
     by_parts : (a b : Bool) → (a || b) ≡ false → a ≡ false
-    by_parts false b e = refl
-    by_parts true b e = absurd (cc)
+    by_parts a b e = grind arith
 
 past_gap : (m : Marker) (b : Bool) (v y : List ℕ) → AreIn is_blank_or_break v → Dark y
     → past_white m b (v ++ y) ≡ cursor_at y (end_of_text m v) (b || has_line_end v)
@@ -159,13 +153,10 @@ tabbed_more i k t (c ∷ v) y dark are =
 
 pub blanks_on : (c : ℕ) (cs : List ℕ) → is_blank c ≡ true → behind_blanks (c ∷ cs) ≡ behind_blanks cs
 blanks_on c cs h =
-    let one : prefix_len is_blank (c ∷ cs) ≡ suc (prefix_len is_blank cs) = rw h (omega arith) in
-    ap (λ n. drop n (c ∷ cs)) one
+    let one : prefix_len is_blank (c ∷ cs) ≡ suc (prefix_len is_blank cs) = rw h (omega arith) in cc
 
 blanks_stop : (xs : List ℕ) → is_blank (slice_index xs 0) ≡ false → behind_blanks xs ≡ xs
-blanks_stop [] h = refl
-blanks_stop (c ∷ cs) h =
-    let none : prefix_len is_blank (c ∷ cs) ≡ 0 = rw h refl in ap (λ n. drop n (c ∷ cs)) none
+blanks_stop xs h = grind arith
 
 is_tabbed_more : (i : ℕ) (v y : List ℕ) → Dark y → AreIn is_blank_or_break v → is_tabbed i (v ++ y) ≡ is_tabbed i v
 is_tabbed_more i [] y dark are = cc (blanks_stop y (dark_no_blank y dark), tabbed_stop i 0 false y dark)
@@ -190,17 +181,14 @@ not_left f i m v h = ⊎_elim (λ e. in_flow f e) (λ r. ⊎_elim (λ e. on_line
     in_flow true e = none_of (has_line_end v) (nat_lt (end_of_text m v).col i)
       where
         none_of : (a b : Bool) → (a && false && b) ≡ false
-        none_of true b = refl
-        none_of false b = refl
+        none_of a b = grind arith
     in_flow false e = absurd (cc)
 
     on_line : has_line_end v ≡ false → (has_line_end v && not f && nat_lt (end_of_text m v).col i) ≡ false
     on_line e = rw e refl
 
     last_of : (a b : Bool) → (a && b && false) ≡ false
-    last_of true true = refl
-    last_of true false = refl
-    last_of false b = refl
+    last_of a b = grind arith
 
     indented : i ≤ (end_of_text m v).col → (has_line_end v && not f && nat_lt (end_of_text m v).col i) ≡ false
     indented le =
@@ -225,7 +213,6 @@ gap_passes f i a m v w z h hw marker =
     let there = cursor_at y (end_of_text m v) (has_line_end v) in
     let clean : is_tabbed i (v ++ y) ≡ false = is_tabbed_more i v y dark h.white ∙ h.tabs in
     let gap_is = gap_past i a m (v ++ y) (inl clean) in
-    let behind : past_white m false (v ++ y) ≡ there = past_gap m false v y h.white dark in
     let goes : next_word_starts f i there ≡ Ok (true, there) = goes_here f i there (not_left f i m v h)
     (word_begins f (end_of_text m v) (has_line_end v) w z hw marker) in
     record {
@@ -234,7 +221,7 @@ gap_passes f i a m v w z h hw marker =
         word_over f i a m (v ++ y) (white_stops f (v ++ y) (gap_first v y h.some h.white)),
         gap_is.is,
         clean,
-        behind,
+        (past_gap m false v y h.white dark),
         goes,
       );
     }
@@ -264,11 +251,9 @@ words_read f i a (p ∷ ps) m x some h ends =
     let z = words_text ps ++ x in
     let there = end_of_text m v in
     let passes = gap_passes f i a m v w z h.0 h.1 h.2 in
-    let same : (v ++ (w ++ words_text ps)) ++ x ≡ v ++ (w ++ z) =
-    cc (append_assoc v (w ++ words_text ps) x, append_assoc w (words_text ps) x) in
-    let long = some_length w h.1.some in
-    let first : 0 < (along there (length w)).col = omega (arith, long) in
-    more_text f (is_tabbed i x) passes.text _ _ _ _ (ap (word f i a m) same ∙ passes.is)
+    let first : 0 < (along there (length w)).col = omega (arith, some_length w h.1.some) in
+    more_text f (is_tabbed i x) passes.text _ _ _ _ (ap (word f i a m)
+    (cc (append_assoc v (w ++ words_text ps) x, append_assoc w (words_text ps) x)) ∙ passes.is)
     (more_text f (is_tabbed i x) (encode_utf8_all w) _ _ _ _ (read_word f i a there w z h.1.ink)
     (words_read f i a ps (along there (length w)) x first h.3 ends))
 

@@ -31,15 +31,10 @@ pub record LeavesGap (r : Result PlainGap Refusal) (t : Bool) (s : Cursor) : Typ
 abbrev pub MayStand : Bool → List ℕ → Type 0
 MayStand t xs = (t ≡ false) ⊎ (stands_behind_tab xs ≡ true)
 
-no_byte_order_mark : (c : ℕ) → ((c == number_sign) || is_z c) ≡ true → is_bom c ≡ false
-no_byte_order_mark c h = grind (arith, nat_tests)
-
 is_reached : (a : Marker) (t : Bool) (f : List ℕ) (s : Cursor) → MayStand t s.rest
     → reached_gap a t f s ≡ Ok (seen_gap t f s)
 unfolding content_behind_tab
-is_reached a false f s h = refl
-is_reached a true f s (inl e) = absurd (cc)
-is_reached a true f s (inr e) = rw (no_byte_order_mark (slice_index s.rest 0) e, e) refl
+is_reached a t f s h = grind arith
 
 -- the flag after a blank or a break
 abbrev pub flag_on : ℕ → ℕ → Bool → ℕ → Bool
@@ -56,20 +51,11 @@ tabbed_stop i k t (c ∷ cs) h = rw h refl
 
 -- nothing is left of the first column
 off : (a b : Bool) → (a && (false || (b && false))) ≡ false
-off true true = refl
-off true false = refl
-off false b = refl
+off a b = grind arith
 
 root_kind : (k c : ℕ) (cs : List ℕ) (white : Bool) → is_blank_or_break c ≡ white
     → ((n : ℕ) → reaches_tabbed 0 n false cs ≡ false) → reaches_tabbed 0 k false (c ∷ cs) ≡ false
-root_kind k c cs true e on =
-    cc (
-      tabbed_on 0 k false c cs e,
-      none_below_zero k,
-      off (is_blank c) (c == tab),
-      on (if ends_line c cs then 0 else k + 1),
-    )
-root_kind k c cs false e on = tabbed_stop 0 k false (c ∷ cs) e
+root_kind k c cs white e on = grind arith
 
 root_untabbed : (k : ℕ) (xs : List ℕ) → reaches_tabbed 0 k false xs ≡ false
 root_untabbed k [] = refl
@@ -80,8 +66,7 @@ pub untabbed_root : (xs : List ℕ) → is_tabbed 0 xs ≡ false
 untabbed_root xs = root_untabbed 0 (behind_blanks xs)
 
 step_col : (b : Bool) (m : Marker) → (cond b 0 (m.col + 1)) ≡ (cond b (next_line m 1) (along m 1)).col
-step_col true m = refl
-step_col false m = refl
+step_col b m = grind arith
 
 line_past : (i : ℕ) (a : Marker) (t : Bool) (f : List ℕ) (m : Marker) (c : ℕ) (cs : List ℕ) → is_blank_or_break c ≡ true
     → lines i a t f m (c ∷ cs)
@@ -159,14 +144,12 @@ past_blanks m b (c ∷ cs) = by_case (is_blank c) refl (past_blanks (along m 1) 
     Goal = past_white m b (c ∷ cs) ≡ past_white (along m (prefix_len is_blank (c ∷ cs))) b (behind_blanks (c ∷ cs))
 
     or_false : (x : Bool) → (x || false) ≡ x
-    or_false true = refl
-    or_false false = refl
+    or_false x = grind arith
 
     blank_on : is_blank c ≡ true → past_white m b (c ∷ cs) ≡ past_white (along m 1) b cs
     blank_on h =
-        let no = blank_no_break c h in
         let white : is_blank_or_break c ≡ true = rw h refl in
-        past_on m b c cs white ∙ rw no (cc (or_false b))
+        past_on m b c cs white ∙ rw (blank_no_break c h) (cc (or_false b))
 
     by_case : (t : Bool) → is_blank c ≡ t → past_white (along m 1) b cs ≡ past_white (along (along m 1) n) b (drop n cs)
         → Goal
@@ -246,17 +229,10 @@ past_rest m b (c ∷ cs) = by_case (is_blank_or_break c) refl
 
     by_case : (t : Bool) → is_blank_or_break c ≡ t → Rest
         → (past_white m b (c ∷ cs)).rest ≡ drop (prefix_len is_blank_or_break (c ∷ cs)) (c ∷ cs)
-    by_case true white rest =
-        let one : prefix_len is_blank_or_break (c ∷ cs) ≡ suc (prefix_len is_blank_or_break cs) =
-        rw white (omega arith) in
-        ap (λ (s : Cursor). s.rest) (past_on m b c cs white) ∙ rest ∙ ap (λ n. drop n (c ∷ cs)) (sym one)
-    by_case false other rest =
-        let none : prefix_len is_blank_or_break (c ∷ cs) ≡ 0 = rw other refl in
-        simp (past_stop m b (c ∷ cs) other, none)
+    by_case t white rest = grind arith
 
 one_further : (e : Bool) (m : Marker) → (cond e (next_line m 1) (along m 1)).index ≡ m.index + 1
-one_further true m = refl
-one_further false m = refl
+one_further e m = grind arith
 
 pub past_index : (m : Marker) (b : Bool) (xs : List ℕ)
     → (past_white m b xs).mark.index ≡ m.index + prefix_len is_blank_or_break xs
@@ -270,10 +246,4 @@ past_index m b (c ∷ cs) = by_case (is_blank_or_break c) refl
 
     by_case : (t : Bool) → is_blank_or_break c ≡ t → Rest
         → (past_white m b (c ∷ cs)).mark.index ≡ m.index + prefix_len is_blank_or_break (c ∷ cs)
-    by_case true white rest =
-        let one : prefix_len is_blank_or_break (c ∷ cs) ≡ 1 + prefix_len is_blank_or_break cs = rw white refl in
-        let on = ap (λ (s : Cursor). s.mark.index) (past_on m b c cs white) in
-        omega (arith, on, rest, one, one_further (ends_line c cs) m)
-    by_case false other rest =
-        let none : prefix_len is_blank_or_break (c ∷ cs) ≡ 0 = rw other refl in
-        omega (arith, none, ap (λ (s : Cursor). s.mark.index) (past_stop m b (c ∷ cs) other))
+    by_case t white rest = grind arith

@@ -94,8 +94,7 @@ inside_counts quote indent start gap zero m (c ∷ cs) n e =
     (by_test (is_literal quote c) _ _ (CountsText n)
     (λ _. front_counts n (encode_utf8 c) _ (inside_counts quote indent start no_gap zero (along m 1) cs n one))
     (λ _. bind_counts n (special quote start (mid_line m (c ∷ cs))) _ (λ x read. some_counts n x.0 _ _
-    (λ v some. let place : x.1.mark.index ≡ m.index + suc (special_len quote letter) =
-    special_behind quote start m c cs x v read some in
+    (λ v some. let place = special_behind quote start m c cs x v read some in
     front_counts n (encode_utf8 v) _
     (inside_counts quote indent start no_gap (special_len quote letter) x.1.mark cs n (omega arith)))
     (by_test (c == flow.mark quote) _ _ (CountsText n) (λ _. omega arith)
@@ -103,7 +102,7 @@ inside_counts quote indent start gap zero m (c ∷ cs) n e =
 
 read_counts : (n : ℕ) (r : TextRead) (text : List ℕ) (t : Cursor) → r ≡ Ok (text, t) → CountsText n r
     → t.mark.index + length t.rest ≡ n
-read_counts n r text t read h = subst (CountsText n) read h
+read_counts n r text t read h = rw read at h
 
 behind_quote_counts : (quote : Quote) (indent : ℕ) (m : Marker) (xs text : List ℕ) (t : Cursor)
     → inner_text quote indent m no_gap zero (along m 1) (drop 1 xs) ≡ Ok (text, t)

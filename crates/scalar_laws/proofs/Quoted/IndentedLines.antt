@@ -45,8 +45,7 @@ right_of indent m c t space break h = by_case h.far
 
     by_case : (indent ≤ m.col + space_count (c ∷ t))
         ⊎ (is_break (slice_index (drop (space_count (c ∷ t)) (c ∷ t)) 0) ≡ true) → indent ≤ m.col
-    by_case (inl le) = omega (arith, none)
-    by_case (inr b) = let is : is_break c ≡ true = rw none at b in absurd (cc)
+    by_case h = grind arith
 
 pub behind_tab : (indent : ℕ) (m : Marker) (t : List ℕ) → Indented indent m (tab ∷ t) → Indented indent (along m 1) t
 behind_tab indent m t h =

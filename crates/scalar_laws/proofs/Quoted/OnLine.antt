@@ -37,8 +37,7 @@ no_break_itself : (q : Quote) (c : ℕ) → IsTrue (quotes.stands_for_itself q c
 no_break_itself q c h = by_tests (is_break c) (c == 0) (flow.is_special q c) h
   where
     by_tests : (a z d : Bool) → (not (a || z) && not d) ≡ true → a ≡ false
-    by_tests true z d h = absurd (cc)
-    by_tests false z d h = refl
+    by_tests a z d h = grind arith
 
 text_on_line : (q : Quote) (t : List ℕ) (items : List Item) (x : List ℕ) → quotes.IsText q t items x → AreOnLine items
     → OnLine t x

@@ -44,8 +44,7 @@ inside_read indent start _ _ _ _ (quotes.numbered e c ds t items x h r) fit m = 
     let b = inside_read indent start Double t items x r fit (along m k) no_gap tt in
     let place : escaped_character start (mid_line m (92 ∷ e ∷ (ds ++ t))) ≡ Ok (c, mid_line (along m k) t) =
     cc (number_read start m e c ds t h, along_more m 2 (length ds) k refl) in
-    let passed : IsPassed m (92 ∷ e ∷ (ds ++ t)) b.mark x =
-    letter_passed m e (ds ++ t) b.mark x (no_break_digits e (length ds) h.count)
+    let passed = letter_passed m e (ds ++ t) b.mark x (no_break_digits e (length ds) h.count)
     (digits_passed (along m 2) ds t b.mark x h.hex (rw (along_more m 2 (length ds) k refl) b.passed)) in
     with_gap Double indent start gap m (92 ∷ e ∷ (ds ++ t)) (Escaped c ∷ items) x fits
     (escape_read indent start m e c (ds ++ t) items x t k (no_break_digits e (length ds) h.count) place b passed)

@@ -74,22 +74,19 @@ pub with_gap : (q : Quote) (indent : ℕ) (start : Marker) (gap : QuotedGap) (m 
 with_gap q indent start gap m t items x fits w =
     let c = w.first in
     let cs = w.others in
-    let fits_here : GapFits indent gap m (c ∷ cs) = rw w.cut at fits in
-    let word : inner_text q indent start no_gap 0 m (c ∷ cs) ≡ text_given_at w.text w.mark x = cc in
     record {
       mark = w.mark;
       passed = w.passed;
       is = cc (
         quoted_behind_gap q indent start gap m c cs w.content.blank w.content.break,
-        ends_gap indent start gap m c cs w.content fits_here,
+        ends_gap indent start gap m c cs w.content (rw w.cut at fits),
         behind_no_gap q indent start m c cs w.content.blank w.content.break w.content.nul,
         w.bytes gap,
       );
     }
 
 pub mark_content : (q : Quote) → IsQuotedInk (flow.mark q)
-mark_content Single = record { blank = refl; break = refl; nul = refl }
-mark_content Double = record { blank = refl; break = refl; nul = refl }
+mark_content q = grind arith
 
 pub closed_read : (q : Quote) (indent : ℕ) (start m : Marker) (x : List ℕ) → IsTrue (is_closing q (flow.mark q ∷ x))
     → WordRead q indent start m (flow.mark q ∷ x) [] x
@@ -118,10 +115,7 @@ itself_of q c h = record {
   where
     by_cases : (a b d : Bool) → (not b && not d) ≡ true → a ≡ false
         → ((a || b) ≡ false) × ((not (a || b) && not d) ≡ true)
-    by_cases true b d h other = absurd (cc)
-    by_cases false false false h other = (refl, refl)
-    by_cases false true d h other = absurd (cc)
-    by_cases false false true h other = absurd (cc)
+    by_cases a b d h other = grind arith
 
 pub literal_read : (q : Quote) (indent : ℕ) (start m : Marker) (c : ℕ) (t : List ℕ) (items : List Item) (x : List ℕ)
     → IsQuotedInk c → is_literal q c ≡ true → Read q indent start no_gap (along m 1) t items x

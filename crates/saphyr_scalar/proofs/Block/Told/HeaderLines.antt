@@ -1,10 +1,10 @@
 -- The line of a block scalar's header, as it is spelled.
-use Rattle.std.proofs.Common.{◌≡◌, ◌≢◌, ℕ, zero, suc, ◌+◌, ◌-◌, ◌≤◌, ◌<◌, Bool, true, false, List, [], ◌∷◌, ◌++◌, length, drop, slice_index, Ok, refl, sym, ap, ◌∙◌, arith, subst, inl, inr, append_assoc}
-use Rattle.std.specs.Prelude.{◌&&◌, ◌||◌, ◌==◌, not, nat_lt, Option, Some, None, unwrap_or, codes}
+use Rattle.std.proofs.Common.{◌≡◌, ◌≢◌, ℕ, ◌+◌, ◌-◌, ◌≤◌, ◌<◌, Bool, true, false, List, [], ◌∷◌, ◌++◌, length, drop, slice_index, Ok, refl, sym, ap, ◌∙◌, arith, subst, inl, inr, append_assoc}
+use Rattle.std.specs.Prelude.{◌||◌, ◌==◌, not, Option, Some, None, unwrap_or, codes}
 use Rattle.std.proofs.lemmas.Bool.Decides.{nat_tests}
-use Rattle.saphyr_input.specs.Classes.{is_bom, is_break, is_breakz, is_digit, is_z, tab, line_feed}
+use Rattle.saphyr_input.specs.Classes.{is_break, is_breakz, is_digit, is_z, tab, line_feed}
 use Rattle.saphyr_input.specs.Places.{next_2_are}
-use Rattle.saphyr_input.specs.Separation.{separation_len, is_bare_comment, found_blanks}
+use Rattle.saphyr_input.specs.Separation.{separation_len}
 use Rattle.saphyr_input.specs.declared.input.SkipTabs.{SkipTabs}
 use Rattle.saphyr_input.specs.declared.input.SkipTabs.TheVariants.{Yes}
 use Rattle.saphyr_values.specs.declared.block.Chomping.{Chomping}
@@ -18,9 +18,8 @@ use Rattle.saphyr_scalar.specs.Spelling.Directive.{IsLineTail}
 use Rattle.saphyr_scalar.proofs.Block.Reads.{then_gave, gave, refused_gave, same_gift}
 use Rattle.saphyr_scalar.proofs.Directives.TailsSpelled.{tail_line_of}
 use Rattle.saphyr_scalar.proofs.Quoted.Inside.{break_cases}
-use Rattle.saphyr_scalar.proofs.Properties.TagsSpelled.{cut_at}
-use Rattle.saphyr_input.proofs.Basics.Booleans.{and_true_left, and_true_right, by_test}
-use Rattle.std.proofs.lemmas.Bool.{not-false, eqb-true}
+use Rattle.saphyr_input.proofs.Basics.Booleans.{by_test}
+use Rattle.std.proofs.lemmas.Bool.{not-false}
 use Rattle.saphyr_input.proofs.Basics.Lists.{first_and_rest}
 
 -- ## The indicators
@@ -31,11 +30,7 @@ mark_of (Some c) = chomping_of c
 
 chomping_told : (s : Cursor) → s.rest ≡ mark_of (chomping s).0 ++ (chomping s).1.rest
 unfolding chomping
-chomping_told s =
-    let P : Option Chomping × Cursor → Type 0 = λ x. s.rest ≡ mark_of x.0 ++ x.1.rest in
-    by_test (slice_index s.rest 0 == 43) _ _ P (λ e. cut_at 43 s.rest refl (eqb-true (slice_index s.rest 0) 43 e))
-    (λ _. by_test (slice_index s.rest 0 == 45) _ _ P (λ e. cut_at 45 s.rest refl (eqb-true (slice_index s.rest 0) 45 e))
-    (λ _. refl))
+chomping_told s = grind arith
 
 record Digit (s : Cursor) (x : ℕ × Cursor) : Type 0 where
   few : x.0 ≤ 9
@@ -126,13 +121,7 @@ break_told start s u = by_test (not (is_breakz (slice_index s.rest 0))) _ _ (λ 
 separation_left : (s : Cursor) (x : SkipTabs × Cursor) → separation Yes s ≡ Ok x
     → pass_blanks (separation_len Yes s.rest) s ≡ x.1
 unfolding separation behind_separation
-separation_left s x =
-    let t = pass_blanks (separation_len Yes s.rest) s in
-    by_test (nat_lt 0 t.mark.col && is_bom (slice_index t.rest 0)) _ _ (λ r. r ≡ gave x → t ≡ x.1)
-    (λ _ e. refused_gave _ x e)
-    (λ _. by_test (is_bare_comment Yes s.rest) _ _ (λ r. r ≡ gave x → t ≡ x.1)
-    (λ _ e. refused_gave _ x e)
-    (λ _ e. ap (λ (y : SkipTabs × Cursor). y.1) (same_gift (found_blanks Yes s.rest, t) x e)))
+separation_left s x = grind arith
 
 abbrev IsHeaderTail : List ℕ → List ℕ → Type 0
 IsHeaderTail xs behind = (tail : List ℕ) × (end : List ℕ) × IsLineTail tail × EndsHeader behind end

@@ -1,7 +1,6 @@
 -- Inside the lines of a block scalar is no NUL and no byte order mark, and at the start of none a document marker.
 use Rattle.std.proofs.Common.{◌≡◌, ◌⊎◌, ℕ, ◌+◌, Bool, true, false, List, [], ◌∷◌, ◌++◌, slice_index, refl, sym, ap, arith, subst, inl, inr}
 use Rattle.std.specs.Prelude.{◌||◌, ◌&&◌, ◌==◌, not, Option, Some, IsTrue, IsFalse}
-use Rattle.std.proofs.lemmas.Bool.Decides.{nat_tests}
 use Rattle.saphyr_input.specs.Classes.{is_blank, is_break, is_yaml_non_break, line_feed, space}
 use Rattle.saphyr_input.specs.Places.{is_document_indicator}
 use Rattle.saphyr_values.specs.declared.block.BlockStyle.{BlockStyle}
@@ -49,14 +48,10 @@ break_stands c b = let P : Bool → Type 0 = λ k. (k || is_yaml_non_break c) �
 non_break_stands : (c : ℕ) → is_yaml_non_break c ≡ true → IsTrue (is_break c || is_yaml_non_break c)
 non_break_stands c e = subst (λ k. (k || is_yaml_non_break c) ≡ true) (sym (non_break_no_break c e)) e
 
-feed_is_none : (c : ℕ) → is_yaml_non_break c ≡ true → c ≡ line_feed → ⊥
-feed_is_none c e f = cc
-
 -- ## Steps
 
 a_space : (A B : Type 0) (c : ℕ) (cs rest : List ℕ) → c ≡ space → Within B cs rest → Within A (c ∷ cs) rest
-a_space A B c cs rest e w =
-    subst (λ x. Within A (x ∷ cs) rest) (sym e) (within_more A B 32 cs rest refl (λ _. refl) (λ k. absurd (cc)) w)
+a_space A B c cs rest e w = rw e (within_more A B 32 cs rest refl (λ _. refl) (λ k. absurd (cc)) w)
 
 a_return : (A B : Type 0) (c : ℕ) (cs rest : List ℕ) → is_cr_lf c cs ≡ true → Within B cs rest → Within A (c ∷ cs) rest
 a_return A B c cs rest e w =

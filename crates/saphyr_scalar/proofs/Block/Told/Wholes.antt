@@ -15,7 +15,7 @@ use Rattle.saphyr_scalar.specs.declared.scalar.position.Span.{Span}
 use Rattle.saphyr_scalar.specs.Steps.BlockRead as step
 use Rattle.saphyr_scalar.specs.Steps.BlockRead.{indentation_of}
 use Rattle.saphyr_values.specs.Block.{Line, Empty, has_content, line_of, lines_of}
-use Rattle.saphyr_scalar.specs.Steps.Block.{line_starts, pass_empty_lines_at, no_lines, given_indentation, with_column, chomped_lines, content, behind_leading_lines, behind_header, block_scalar, header}
+use Rattle.saphyr_scalar.specs.Steps.Block.{line_starts, pass_empty_lines_at, no_lines, given_indentation, chomped_lines, content, behind_leading_lines, behind_header, block_scalar, header}
 use Rattle.saphyr_scalar.specs.Reading.BlockText.{AreInside, AreNotWider, HasNoContent, IsIndentationFrom, IsBehindLines, IsBlockText, IsHeaderLine}
 use Rattle.saphyr_scalar.specs.Views.Cursor.{Cursor}
 use Rattle.saphyr_values.specs.Lines.{ended_lines, last_line}
@@ -123,8 +123,7 @@ empty_told i u v k l =
     let w = l.joins [] v.rest refl l.clear in
     let cut = only_line (spaces v.mark.col) (plain_spaces v.mark.col) in
     let nothing : spaces v.mark.col ++ [] ≡ spaces v.mark.col = append-nil (spaces v.mark.col) in
-    let last : last_line (normalized w.0) ≡ spaces v.mark.col = ap last_line w.2 ∙ l.last [] ∙ ap last_line nothing
-    ∙ cut.1 in (
+    let last : last_line (normalized w.0) ≡ spaces v.mark.col = cc (l.last []) in (
       w.0,
       w.1,
       no_content_in (ended_lines (normalized w.0)) i k (last_line (normalized w.0))
@@ -139,8 +138,7 @@ empty_told i u v k l =
 same_lines : (A : Type 0) (xs rest lines : List ℕ) → xs ≡ lines ++ rest → (starts : Bool)
     → (IsTrue starts → A ⊎ (slice_index xs 0 ≡ line_feed)) → Within A xs rest → AreInside starts lines rest
 same_lines A xs rest lines e starts h w =
-    let same : w.taken ≡ lines = append_cancel_right w.taken lines rest (sym w.is ∙ e) in
-    rw same at (w.inside starts h)
+    rw (append_cancel_right w.taken lines rest (sym w.is ∙ e)) at (w.inside starts h)
 
 -- what was read after the header, and where the span begins
 record BlockParts (style : BlockStyle) (indent : ℕ) (s : Cursor) (h : BlockHeader) (first : List ℕ) (u : Cursor)
@@ -249,8 +247,7 @@ whole_at_end style indent s h first u y e p z blank is =
     let limit = given_indentation indent h.indicator in
     let x = pass_empty_lines_at limit no_lines u in
     let found = indentation_at_end indent h.indicator u.rest z in
-    let cut : behind_leading_lines style indent s.mark h.chomping limit (with_column no_lines u.mark.col, u) ≡ Ok y =
-    ap (behind_leading_lines style indent s.mark h.chomping limit) (sym (nothing_led limit u z)) ∙ is in
+    let cut = ap (behind_leading_lines style indent s.mark h.chomping limit) (sym (nothing_led limit u z)) ∙ is in
     let own = behind_cut style indent s.mark h.chomping found.0 limit u y z blank cut in
     let told = leading_told style indent s.mark h.chomping limit x y is in
     let within = empty_inside limit no_lines u.blank_so_far u.mark u.rest y.2.rest told.inside in

@@ -93,9 +93,7 @@ width_break j x before cs r e b w = record {
       let own : r.0.widest ≡ max (max before.widest j) others = w.width in
       rw (ap (λ t. widest (all_lines (spaces j ++ t))) (normalized_break x cs w.leading r.1.rest e b w.is)
       ∙ one_line_more j (normalized w.leading)) (omega (arith, own));
-  column = w.column
-      ∙ sym (ap (λ t. length (last_line (spaces j ++ t))) (normalized_break x cs w.leading r.1.rest e b w.is)
-      ∙ column_behind j (normalized w.leading));
+  column = cc (normalized_break x cs w.leading r.1.rest e b w.is, column_behind j (normalized w.leading));
 }
   where
     broken : IsTrue (is_space_or_break x)
