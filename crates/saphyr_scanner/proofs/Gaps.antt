@@ -11,7 +11,7 @@ use Rattle.saphyr_input.specs.declared.input.SkipTabs.TheVariants.{Yes}
 use Rattle.saphyr_scalar.specs.declared.scalar.position.Marker.{Marker}
 use Rattle.saphyr_scalar.specs.Views.Cursor.{Cursor, along, pass_all_blanks, pass_blanks, pass_break, pass_comment, pass_spaces, behind_separation}
 use Rattle.saphyr_scalar.specs.declared.scalar.fault.Refusal.{Refusal}
-use Rattle.saphyr_scanner.specs.Steps.Gap.{GapEnd, stop, end_of_gap, end_of_gap_in_comment, gap_at, whole_gap, is_tab_indentation, SpacesEnd, end_of_spaces, end_of_spaces_in_comment, spaces_at}
+use Rattle.saphyr_scanner.specs.Steps.Gap.{GapEnd, stop, end_of_gap, end_of_gap_in_comment, behind_comment, gap_at, whole_gap, is_tab_indentation, SpacesEnd, end_of_spaces, end_of_spaces_in_comment, spaces_at}
 use Rattle.saphyr_input.specs.Places.{spaces_within}
 use Rattle.saphyr_scalar.proofs.Moving.{along_none, along_more}
 use Rattle.saphyr_input.proofs.Basics.Booleans.{either, or_false_left, or_false_right, or_true_swap, and_false}
@@ -203,6 +203,17 @@ pub break_passed : (l : ℕ) (broke tabbed : Bool) (before read after : Cursor) 
 break_passed l broke tabbed before read after all c first same passed breaks known =
     rw (passed, same)
     (over_break l before.blank_so_far broke tabbed before.mark before.rest (ap is_break (sym first) ∙ breaks) ∙ known)
+
+-- a comment is passed with the break behind it
+pub comment_line_passed : (l : ℕ) (broke tabbed fed : Bool) (before read after : Cursor) (all : Result GapEnd Refusal)
+    (c : ℕ) → c ≡ get_or before.rest 0 0 → read ≡ before → after ≡ behind_comment fed read
+    → (fed ≡ true → is_break (slice_index (pass_comment read).rest 0) ≡ true) → fed ≡ true → c ≡ number_sign
+    → gap_at l broke tabbed before ≡ all → gap_at l true false after ≡ all
+comment_line_passed l broke tabbed true before read after all c first same passed ends feeds sign known =
+    break_passed l broke tabbed (pass_comment read) (pass_comment read) after all _ refl refl passed (ends refl)
+    (comment_passed l broke tabbed before read (pass_comment read) all c first same refl sign known)
+comment_line_passed l broke tabbed false before read after all c first same passed ends feeds sign known =
+    absurd (cc)
 
 -- ## The same after `?`
 

@@ -1,6 +1,8 @@
 //! What is between two tokens: blanks, breaks and comments (YAML 1.2.2, 6.7).
 
-ghost use Rattle.std.specs.Prelude.{◌≡◌, ◌||◌, false, slice_index};
+ghost use Rattle.std.specs.Prelude.{◌≡◌, ◌||◌, true, false, slice_index};
+ghost use Rattle.saphyr_input.specs.Classes.{is_break};
+ghost use Rattle.saphyr_scalar.specs.Views.Cursor.{pass_comment};
 ghost use Rattle.saphyr_scalar.specs.Views.Reader.{cursor_of, GivesAs};
 ghost use Rattle.saphyr_scanner.specs.Steps.Gap as spec;
 
@@ -39,6 +41,22 @@ fn end_gap<T: Input>(
     Ok(broke)
 }
 
+// Passes a comment, and returns whether it also passed a line feed behind it. Most comments end with one, so this saves
+// their loops a turn.
+#[inline(always)]
+fn skip_comment_line<T: Input>(reader: &mut Reader<T>) -> bool
+    ensures passed { cursor_of reader.new ≡ spec.behind_comment result (cursor_of reader.old) }
+    ensures ends { result ≡ true
+        → is_break (slice_index (pass_comment (cursor_of reader.old)).rest 0) ≡ true }
+{
+    reader.skip_comment();
+    let c = reader.look();
+    if c == '\n' {
+        reader.skip_seen_break(c);
+    }
+    c == '\n'
+}
+
 // Passes blanks, breaks and comments one after the other, as `skip_gap` says. Spaces, comments, and a tab with the
 // blanks after it are each passed in one piece: a tab further right is in the indentation only if the first one is.
 #[inline(always)]
@@ -59,7 +77,10 @@ fn skip_gap_characters<T: Input>(reader: &mut Reader<T>, least: usize) -> Result
             broke = true;
             tabbed = false;
         } else if c == '#' {
-            reader.skip_comment();
+            if skip_comment_line(reader) {
+                broke = true;
+                tabbed = false;
+            }
         } else {
             return end_gap(reader, c, broke, tabbed);
         }

@@ -5,7 +5,7 @@ use Rattle.saphyr_input.specs.Indicators.{number_sign}
 use Rattle.saphyr_scalar.specs.declared.scalar.position.Marker.{Marker}
 use Rattle.saphyr_scalar.specs.declared.scalar.fault.Refusal.{Refusal}
 use Rattle.saphyr_scalar.specs.declared.scalar.fault.FaultText.TheVariants as fault
-use Rattle.saphyr_scalar.specs.Views.Cursor.{Cursor, along, next_line, refuse}
+use Rattle.saphyr_scalar.specs.Views.Cursor.{Cursor, along, next_line, pass_break, pass_comment, refuse}
 
 -- where the text goes on, and whether a break was met
 pub record GapEnd : Type 0 where
@@ -50,6 +50,11 @@ abbrev mutual
       (along m 1) blank broke tabbed cs
       else if is_break c then end_of_gap least (next_line m 1) true true false cs
       else stop m blank broke tabbed (c ∷ cs)
+
+-- a comment is passed, and where this is true the break that ends its line too
+abbrev pub behind_comment : Bool → Cursor → Cursor
+behind_comment true s = pass_break (pass_comment s)
+behind_comment false s = pass_comment s
 
 abbrev pub gap_at : ℕ → Bool → Bool → Cursor → Result GapEnd Refusal
 gap_at least broke tabbed s = end_of_gap least s.mark s.blank_so_far broke tabbed s.rest
