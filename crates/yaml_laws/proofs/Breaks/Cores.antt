@@ -1,6 +1,6 @@
 -- What a scanner knows of a text, and what another knows of its normalized text: the same, but for the indexes.
-use Rattle.std.proofs.Common.{◌≡◌, ℕ, suc, ◌+◌, ◌^◌, ◌<◌, Bool, true, false, List, [], ◌∷◌, length, Option, Some, None, Result, refl, ap, arith}
-use Rattle.std.specs.Prelude.{◌&&◌, not, nat_lt}
+use Rattle.std.proofs.Common.{◌≡◌, ℕ, suc, ◌+◌, ◌^◌, ◌<◌, Bool, false, List, [], ◌∷◌, length, Option, Some, None, Result, refl, ap, arith}
+use Rattle.std.specs.Prelude.{nat_lt}
 use Rattle.saphyr_input.specs.Classes.{is_break}
 use Rattle.saphyr_input.specs.declared.input.SkipTabs.{SkipTabs}
 use Rattle.saphyr_input.specs.declared.input.SkipTabs.TheVariants as tabs
@@ -9,11 +9,11 @@ use Rattle.saphyr_scalar.specs.declared.scalar.fault.Refusal.{Refusal}
 use Rattle.saphyr_scalar.specs.Views.Cursor.{Cursor, ◌>>=◌, start_cursor, pass, separation}
 use Rattle.scalar_laws.specs.Alike.{AreAlike, AreSame, GiveAlike, ReadsAlike}
 use Rattle.scalar_laws.proofs.Breaks.Results.{both_then}
-use Rattle.saphyr_scanner.specs.Steps.Core.{Core, in_block, is_too_far, save_key, remove_key, drop_far_key, roll, is_further}
+use Rattle.saphyr_scanner.specs.Steps.Core.{Core, is_too_far, save_key, remove_key, drop_far_key, roll, is_further}
 use Rattle.saphyr_scanner.specs.Steps.Level.{Candidate, Level}
 use Rattle.saphyr_scanner.specs.Steps.Passing.{separate, pass_on, with_cursor}
 use Rattle.yaml_laws.proofs.Breaks.Forward.{Forward, Forwards, both_ahead, separation_forward}
-use Rattle.yaml_laws.proofs.Breaks.Places.{reindexed, near, Even, even_here, even_even, even_far, Ahead, ahead_ahead, Stand, stand_alike, alike_is, Low, choose, both_choose, both_so, character_ahead}
+use Rattle.yaml_laws.proofs.Breaks.Places.{reindexed, near, Even, even_here, even_even, Ahead, ahead_ahead, Stand, stand_alike, alike_is, Low, choose, both_choose, both_so, character_ahead}
 use Rattle.saphyr_input.proofs.Basics.Characters.{no_return}
 use Rattle.saphyr_scalar.proofs.Given.{cursor_at}
 
@@ -102,8 +102,7 @@ pub core_then : {Y : Type 0}
     → (text : List ℕ) (R : Y → Y → Type 0) (r q : Result Core Refusal) (f g : Core → Result Y Refusal)
     → GiveAlike (Cores text) r q → ((c : Core) (x : Indexes) → Twin text c x → GiveAlike R (f c) (g (near_core x c)))
     → GiveAlike R (r >>= f) (q >>= g)
-core_then text R r q f g h go =
-    both_then (Cores text) R r q f g h
+core_then text R r q f g h go = both_then (Cores text) R r q f g h
     (λ c d e i k. of_cores text (λ a b. GiveAlike R (f a) (g b)) c d k (λ x t. go c x t))
 
 pub twin_low : (text : List ℕ) (c : Core) (x : Indexes) → Laws text → Twin text c x → Low c.cursor
@@ -154,15 +153,12 @@ Still text s c d = Cores text c d × (c.cursor ≡ s)
 
 pub save_still : (text : List ℕ) (n : ℕ) (c : Core) (x : Indexes) → Twin text c x
     → Still text c.cursor (save_key n c) (save_key n (near_core x c))
-save_still text n c x t =
-    choose (Still text c.cursor) c.key_allowed c.key_allowed _ _ _ _ refl
-    (λ _.
+save_still text n c x t = choose (Still text c.cursor) c.key_allowed c.key_allowed _ _ _ _ refl (λ _.
     let here = even_here c.cursor.mark.line c.cursor.mark.index x.at in
     let kept : TwinParts text c.cursor (Some (record { mark = c.cursor.mark; place = n })) c.outer c.adjacent
     (record x { key = x.at }) =
     record { ahead = t.ahead; key = here; outer = t.outer; line = t.line; adjacent = t.adjacent } in
-    ((record x { key = x.at }, refl, kept), refl))
-    (λ _. ((x, refl, t), refl))
+    ((record x { key = x.at }, refl, kept), refl)) (λ _. ((x, refl, t), refl))
 
 pub forgotten : (text : List ℕ) (c : Core) (x : Indexes) → Twin text c x
     → TwinParts text c.cursor None c.outer c.adjacent x
@@ -186,18 +182,12 @@ far_same m j i (Some k) e = by (nat_lt k.mark.line m.line) refl
   where
     by : (b : Bool) → nat_lt k.mark.line m.line ≡ b
         → is_too_far (near_key i (Some k)) (reindexed j m) ≡ is_too_far (Some k) m
-    by true f = rw f refl
-    by false f = rw f (even_far k.mark.line k.mark.index i m.line m.index j e f)
+    by b f = grind arith
 
 pub drop_still : (text : List ℕ) (c : Core) (x : Indexes) → Twin text c x
     → GiveAlike (Still text c.cursor) (drop_far_key c) (drop_far_key (near_core x c))
 unfolding drop_far_key
-drop_still text c x t =
-    let R = Still text c.cursor in
-    both_choose R (not (in_block c && is_too_far c.level.key c.cursor.mark))
-    (not (in_block c && is_too_far (near_key x.key c.level.key) (reindexed x.at c.cursor.mark))) _ _ _ _
-    (cc (far_same c.cursor.mark x.at x.key c.level.key t.key)) (λ _. ((x, refl, t), refl))
-    (λ _. both_choose R c.required c.required _ _ _ _ refl (λ _. refl) (λ _. ((x, refl, forgotten text c x t), refl)))
+drop_still text c x t = search (both_choose, reindexed, far_same, forgotten)
 
 pub drop_twin : (text : List ℕ) (c : Core) (x : Indexes) → Twin text c x
     → GiveAlike (Cores text) (drop_far_key c) (drop_far_key (near_core x c))
@@ -208,14 +198,11 @@ drop_twin text c x t =
 pub remove_still : (text : List ℕ) (c : Core) (x : Indexes) → Twin text c x
     → GiveAlike (Still text c.cursor) (remove_key c) (remove_key (near_core x c))
 unfolding remove_key
-remove_still text c x t =
-    both_choose (Still text c.cursor) (in_block c && c.required) (in_block c && c.required) _ _ _ _ refl (λ _. refl)
-    (λ _. ((x, refl, forgotten text c x t), refl))
+remove_still text c x t = search (both_choose, forgotten)
 
 pub roll_still : (text : List ℕ) (column : ℕ) (c : Core) (x : Indexes) → Twin text c x
     → Still text c.cursor (roll column c) (roll column (near_core x c))
-roll_still text column c x t =
-    choose (Still text c.cursor) (is_further column c) (is_further column c) _ _ _ _ refl
+roll_still text column c x t = choose (Still text c.cursor) (is_further column c) (is_further column c) _ _ _ _ refl
     (λ _. ((x, refl, t), refl)) (λ _. ((x, refl, t), refl))
 
 pub of_still : (text : List ℕ) (P : Core → Core → Type 0) (s : Cursor) (c d : Core) → Still text s c d
@@ -227,8 +214,7 @@ pub still_then : {Y : Type 0}
     → GiveAlike (Still text s) r q
     → ((c : Core) (x : Indexes) → Twin text c x → c.cursor ≡ s → GiveAlike R (f c) (g (near_core x c)))
     → GiveAlike R (r >>= f) (q >>= g)
-still_then text R s r q f g h go =
-    both_then (Still text s) R r q f g h
+still_then text R s r q f g h go = both_then (Still text s) R r q f g h
     (λ c d e i k. of_still text (λ a b. GiveAlike R (f a) (g b)) s c d k (λ x t m. go c x t m))
 
 -- what a step does once it has kept a key, where P holds of the cursor
@@ -237,9 +223,7 @@ pub saved_then : {Y : Type 0}
     (x : Indexes) → Twin text c x → P c.cursor
     → ((d : Core) (y : Indexes) → Twin text d y → P d.cursor → GiveAlike R (f d) (f (near_core y d)))
     → GiveAlike R (f (save_key n c)) (f (save_key n (near_core x c)))
-saved_then text R f P n c x t h go =
-    of_still text (λ a b. GiveAlike R (f a) (f b)) c.cursor (save_key n c) (save_key n (near_core x c))
-    (save_still text n c x t) (λ y u e. go (save_key n c) y u (rw e h))
+saved_then text R f P n c x t h go = grind (arith, of_still, save_still)
 
 -- ## A character
 
@@ -250,8 +234,7 @@ Inked (c ∷ cs) = is_break c ≡ false
 
 pub pass_near : (i : ℕ) (t : List ℕ) (m : Marker) (b : Bool) → Inked t
     → pass 1 (near i (cursor_at t m b)) ≡ near (i + 1) (pass 1 (cursor_at t m b))
-pass_near i [] m b k = absurd k
-pass_near i (c ∷ cs) m b k = let e = no_return c k in rw e refl
+pass_near i t m b k = grind arith
 
 pub pass_ahead : (text : List ℕ) (i : ℕ) (t : List ℕ) (m : Marker) (b : Bool) → Inked t
     → Stand text (cursor_at t m b) i → Ahead text (cursor_at t m b) i (pass 1 (cursor_at t m b)) (i + 1)
@@ -284,10 +267,8 @@ Separated text a b = (a.0 ≡ b.0) × Cores text a.1 b.1
 
 pub separate_alike : (text : List ℕ) (c : Core) (x : Indexes) → Laws text → Twin text c x
     → GiveAlike (Separated text) (separate c) (separate (near_core x c))
-separate_alike text c x laws t =
-    both_then (AreSame text) (Separated text) (separation tabs.Yes c.cursor)
-    (separation tabs.Yes (near x.at c.cursor)) _ _ ((twin_reads text c x laws t).separation tabs.Yes)
-    (λ a b e h w.
+separate_alike text c x laws t = both_then (AreSame text) (Separated text) (separation tabs.Yes c.cursor)
+    (separation tabs.Yes (near x.at c.cursor)) _ _ ((twin_reads text c x laws t).separation tabs.Yes) (λ a b e h w.
     let v = read_twin text c x a.1 b.1 laws t (separation_forward c.cursor a e)
     (separation_forward (near x.at c.cursor) b h) w.1 in
     (w.0, (going_to b.1.mark.index x, ap (λ s. with_cursor s (near_core x c)) v.0, v.1)))

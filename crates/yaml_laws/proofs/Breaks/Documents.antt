@@ -57,16 +57,14 @@ content_then : (text : List ℕ) (R : State → State → Type 0) (c : Core) (x 
     → ((d : Core) (y : Indexes) (u v : Queue) → Twin text d y → d.cursor ≡ c.cursor → SameQueues u v → GiveAlike R
     (f (holding d u)) (g (holding (near_core y d) v)))
     → GiveAlike R (document.end_content (holding c q) >>= f) (document.end_content (holding (near_core x c) r) >>= g)
-content_then text R c x q r f g t e go =
-    both_then (Ended text c.cursor) R _ _ f g (content_ends text c x q r t e)
+content_then text R c x q r f g t e go = both_then (Ended text c.cursor) R _ _ f g (content_ends text c x q r t e)
     (λ a b i j h. of_cores text (λ d k. GiveAlike R (f (holding d a.queue))
     (g (holding k b.queue))) a.core b.core h.0 (λ y u. go a.core y a.queue b.queue u h.1 h.2))
 
 put_same : (m k n o : Marker) (kind : Kind) (q r : Queue) → SameQueues q r
     → SameQueues (act (Put (record { span = record { start = m; end = k }; kind = kind })) q)
     (act (Put (record { span = record { start = n; end = o }; kind = kind })) r)
-put_same m k n o kind q r e =
-    same_act (Put (record { span = record { start = m; end = k }; kind = kind }))
+put_same m k n o kind q r e = same_act (Put (record { span = record { start = m; end = k }; kind = kind }))
     (Put (record { span = record { start = n; end = o }; kind = kind })) q r refl e
 
 -- ## The end of the stream
@@ -77,9 +75,7 @@ pub stream_same : (text : List ℕ) (c : Core) (x : Indexes) (q r : Queue) → T
 unfolding document.state_behind_end document.end_at
 stream_same text c x q r t e =
     both_choose (States text) (length c.cursor.rest == 0) (length (normalized c.cursor.rest) == 0) _ _ _ _
-    (normal_none c.cursor.rest)
-    (λ _. both_choose (States text) c.required c.required _ _ _ _ refl (λ _. refl)
-    (λ _.
+    (normal_none c.cursor.rest) (λ _. both_choose (States text) c.required c.required _ _ _ _ refl (λ _. refl) (λ _.
     let m = document.end_mark c.cursor.mark in
     let k = document.end_mark (reindexed x.at c.cursor.mark) in
     let w = unroll_same text None m k c x q r t e in
@@ -100,27 +96,15 @@ Three _ = ⊥
 
 three_of : (x : ℕ) → (x == carriage_return) ≡ false → (0 == x) ≡ false → (t : List ℕ) → (slice_index t 0 == x) ≡ true
     → (slice_index t 1 == x) ≡ true → (slice_index t 2 == x) ≡ true → Three t
-three_of x k z [] e f g = absurd (cc)
-three_of x k z (a ∷ []) e f g = absurd (cc)
-three_of x k z (a ∷ b ∷ []) e f g = absurd (cc)
-three_of x k z (a ∷ b ∷ c ∷ t) e f g =
-    let none : (y : ℕ) → (y == x) ≡ true → (y == 13) ≡ false = λ y h. ap (λ n. n == 13) (eqb-true y x h) ∙ k in
-    (none a e, none b f, none c g)
+three_of x h k t e g p = grind (arith, eqb-true)
 
 three_marks : (x : ℕ) → (x == carriage_return) ≡ false → (0 == x) ≡ false → (t : List ℕ) (b : Bool)
     → ((slice_index t 0 == x) && (slice_index t 1 == x) && (slice_index t 2 == x) && b) ≡ true → Three t
-three_marks x k z t b e =
-    let p = and_parts ((slice_index t 0 == x) && (slice_index t 1 == x) && (slice_index t 2 == x)) b e in
-    let q = and_parts ((slice_index t 0 == x) && (slice_index t 1 == x)) (slice_index t 2 == x) p.0 in
-    let r = and_parts (slice_index t 0 == x) (slice_index t 1 == x) q.0 in
-    three_of x k z t r.0 r.1 q.1
+three_marks x k z t b e = grind (arith, and_parts, three_of)
 
 three_near : (i : ℕ) (t : List ℕ) (m : Marker) (b : Bool) → Three t
     → pass 3 (near i (cursor_at t m b)) ≡ near (i + 3) (pass 3 (cursor_at t m b))
-three_near i [] m b k = absurd k
-three_near i (c ∷ []) m b k = absurd k
-three_near i (c ∷ d ∷ []) m b k = absurd k
-three_near i (c ∷ d ∷ f ∷ t) m b k = let e0 = k.0 in let e1 = k.1 in let e2 = k.2 in rw (e0, e1, e2) refl
+three_near i t m b k = grind arith
 
 three_ahead : (text : List ℕ) (i : ℕ) (t : List ℕ) (m : Marker) (b : Bool) → Three t → Stand text (cursor_at t m b) i
     → Ahead text (cursor_at t m b) i (pass 3 (cursor_at t m b)) (i + 3)
@@ -138,8 +122,7 @@ three_ahead text i (c ∷ d ∷ f ∷ t) m b k h =
       along_more m 1 1 2 (omega arith),
       along_more m 2 1 3 (omega arith),
     ) in
-    let q : i + 1 + 1 + 1 ≡ i + 3 = omega arith in
-    rw (p, q) at all
+    let q : i + 1 + 1 + 1 ≡ i + 3 = omega arith in rw (p, q) at all
 
 passed_marker : (text : List ℕ) (c : Core) (x : Indexes) → Twin text c x → Three c.cursor.rest
     → Cores text (document.pass_marker c) (document.pass_marker (near_core x c))
@@ -158,12 +141,10 @@ marker_same : (text : List ℕ) (kind : Kind) (c : Core) (x : Indexes) (q r : Qu
     → GiveAlike (States text) (document.state_behind_marker kind (holding c q)) (document.state_behind_marker kind
     (holding (near_core x c) r))
 unfolding document.state_behind_marker
-marker_same text kind c x q r t e three =
-    content_then text (States text) c x q r _ _ t e
+marker_same text kind c x q r t e three = content_then text (States text) c x q r _ _ t e
     (λ d y u v w m f. (
       passed_marker text d y w (three_still c.cursor d.cursor m three),
-      put_same d.cursor.mark
-          (document.pass_marker d).cursor.mark (reindexed y.at d.cursor.mark)
+      put_same d.cursor.mark (document.pass_marker d).cursor.mark (reindexed y.at d.cursor.mark)
           (document.pass_marker (near_core y d)).cursor.mark kind u v f,
     ))
 
@@ -177,8 +158,7 @@ start_marker_same text c x q r t e k =
 line_ends : (text : List ℕ) (k : SkipTabs) (c : Core) (x : Indexes) (q r : Queue) → Twin text c x → SameQueues q r
     → GiveAlike (States text) (document.end_line (k, holding c q)) (document.end_line (k, holding (near_core x c) r))
 unfolding document.end_line
-line_ends text k c x q r t e =
-    both_choose (States text) (is_breakz (slice_index c.cursor.rest 0))
+line_ends text k c x q r t e = both_choose (States text) (is_breakz (slice_index c.cursor.rest 0))
     (is_breakz (slice_index (normalized c.cursor.rest) 0)) _ _ _ _ (first_is is_breakz refl c.cursor.rest)
     (λ _. ((x, refl, t), e)) (λ _. refl)
 
@@ -203,8 +183,7 @@ pub end_marker_same : (text : List ℕ) (c : Core) (x : Indexes) (q r : Queue) �
     → GiveAlike (States text) (document.state_behind_document_end (holding c q)) (document.state_behind_document_end
     (holding (near_core x c) r))
 unfolding document.state_behind_document_end
-end_marker_same text c x q r laws t e k =
-    both_then (States text) (States text) _ _ _ _
+end_marker_same text c x q r laws t e k = both_then (States text) (States text) _ _ _ _
     (marker_same text tokens.DocumentEnd c x q r t e (three_marks 46 refl refl c.cursor.rest _ k))
     (λ a b i j h. of_cores text (λ d f. GiveAlike (States text)
     (on_core_with (separate d) (holding d a.queue) >>= document.end_line)
@@ -215,23 +194,11 @@ end_marker_same text c x q r laws t e k =
 
 bom_near : (i : ℕ) (t : List ℕ) (m : Marker) (b : Bool) → Inked t
     → pass_byte_order_mark (near i (cursor_at t m b)) ≡ near (i + 1) (pass_byte_order_mark (cursor_at t m b))
-bom_near i [] m b k = absurd k
-bom_near i (c ∷ cs) m b k = let e = no_return c k in rw e refl
+bom_near i t m b k = grind arith
 
 bom_ahead : (text : List ℕ) (i : ℕ) (t : List ℕ) (m : Marker) (b : Bool) → Inked t → Stand text (cursor_at t m b) i
     → Ahead text (cursor_at t m b) i (pass_byte_order_mark (cursor_at t m b)) (i + 1)
-bom_ahead text i [] m b k h = absurd k
-bom_ahead text i (c ∷ t) m b k h =
-    let e = no_return c k in
-    let is : normalized (c ∷ t) ≡ c ∷ normalized t = rw e refl in
-    let count : length (normalized (c ∷ t)) ≡ length (c ∷ normalized t) = ap length is in
-    record {
-      even = record { lines = omega arith; slow = omega arith; slow_too = omega arith; even = λ q. omega arith };
-      counted = omega arith;
-      counted_too = omega (arith, count);
-      here = one_less m.index c text t h.here;
-      there = one_less i c (normalized text) (normalized t) (h.there ∙ is);
-    }
+bom_ahead text i t m b h k = grind (arith, no_return, one_less)
 
 passed_mark : (text : List ℕ) (c : Core) (x : Indexes) → Twin text c x → Inked c.cursor.rest
     → Cores text (document.pass_mark c) (document.pass_mark (near_core x c))
@@ -246,14 +213,12 @@ pub byte_order_mark_same : (text : List ℕ) (c : Core) (x : Indexes) (q r : Que
     → Inked c.cursor.rest → GiveAlike (States text) (document.state_behind_byte_order_mark (holding c q))
     (document.state_behind_byte_order_mark (holding (near_core x c) r))
 unfolding document.state_behind_byte_order_mark
-byte_order_mark_same text c x q r t e ink =
-    both_choose (States text) (nat_lt 0 c.cursor.mark.col || not (in_block c))
+byte_order_mark_same text c x q r t e ink = both_choose (States text) (nat_lt 0 c.cursor.mark.col || not (in_block c))
     (nat_lt 0 c.cursor.mark.col || not (in_block c)) _ _ _ _ refl (λ _. refl)
     (λ _. content_then text (States text) c x q r _ _ t e
     (λ d y u v w m f. (
       passed_mark text d y w (still_inked c.cursor d.cursor m ink),
-      put_same c.cursor.mark
-          (document.pass_mark d).cursor.mark (reindexed x.at c.cursor.mark)
+      put_same c.cursor.mark (document.pass_mark d).cursor.mark (reindexed x.at c.cursor.mark)
           (document.pass_mark (near_core y d)).cursor.mark tokens.ByteOrderMark u v f,
     )))
 
@@ -277,7 +242,6 @@ pub directive_same : (text : List ℕ) (c : Core) (x : Indexes) (q r : Queue) �
     → SameQueues q r → Begins 37 c.cursor → GiveAlike (States text) (document.state_behind_directive (holding c q))
     (document.state_behind_directive (holding (near_core x c) r))
 unfolding document.state_behind_directive
-directive_same text c x q r laws t e begins =
-    content_then text (States text) c x q r _ _ t e
+directive_same text c x q r laws t e begins = content_then text (States text) c x q r _ _ t e
     (λ d y u v w m f. after_step_same text (document.read_directive d) (document.read_directive (near_core y d)) u v
     (read_directive_same text d y laws w (begins_still 37 c.cursor d.cursor m begins)) f)

@@ -1,8 +1,7 @@
 -- Where the readers of a text go on: on one line the index grows as the column does.
-use Rattle.std.proofs.Common.{◌≡◌, ℕ, ◌+◌, ◌≤◌, ◌<◌, Bool, true, List, [], ◌∷◌, ◌++◌, length, drop, Option, Ok, refl, sym, ap, ◌∙◌, arith, subst}
+use Rattle.std.proofs.Common.{◌≡◌, ℕ, ◌+◌, ◌≤◌, ◌<◌, Bool, true, List, [], ◌∷◌, ◌++◌, length, drop, Option, Ok, refl, sym, ap, arith, subst}
 use Rattle.std.specs.Prelude.{◌==◌, slice_index}
 use Rattle.std.proofs.lemmas.List.{length-append}
-use Rattle.saphyr_input.specs.Breaks.{normalized}
 use Rattle.saphyr_input.specs.Classes.{is_break}
 use Rattle.saphyr_input.specs.Places.{next_2_are}
 use Rattle.saphyr_input.specs.declared.input.SkipTabs.{SkipTabs}
@@ -28,7 +27,7 @@ use Rattle.saphyr_scalar.specs.Steps.Tag as tags
 use Rattle.scalar_laws.specs.Alike.{AreAlike}
 use Rattle.saphyr_scanner.specs.TokensTaken.{block_indicator}
 use Rattle.saphyr_scanner.proofs.Taken.Later.{top, Later, LaterThan, later_later, along_later, apart_later, passed_later, piece_later, plain_later}
-use Rattle.saphyr_scanner.proofs.LineTails.{OnLine, separation_passes}
+use Rattle.saphyr_scanner.proofs.LineTails.{separation_passes}
 use Rattle.yaml_laws.proofs.Breaks.Places.{near, Ahead, Low}
 use Rattle.saphyr_input.proofs.Basics.Booleans.{by_test}
 use Rattle.saphyr_scalar.proofs.Given.{given_of}
@@ -56,8 +55,7 @@ level_piece m [] = λ h k l. omega arith
 level_piece m (c ∷ cs) =
     by_test (ends_line c cs) (next_line m 1) (along m 1) (λ (k : Marker). OnOneLine m (end_of_text k cs))
     (λ _. λ h k l. let x = (piece_later (next_line m 1) cs []).lines (omega arith) in absurd
-    (omega (arith, h, k, l, x.0)))
-    (λ _. λ h k l. let i = level_piece (along m 1) cs h k l in omega (arith, i))
+    (omega (arith, h, k, l, x.0))) (λ _. λ h k l. let i = level_piece (along m 1) cs h k l in omega (arith, i))
 
 pub forward_forward : (s t u : Cursor) → Forward s t → Forward t u → Forward s u
 forward_forward s t u a b = record {
@@ -66,8 +64,7 @@ forward_forward s t u a b = record {
       let x = a.later.lines h in
       let y = b.later.lines x.1 in
       let p = a.level h (omega (arith, y.0, k)) (omega (arith, y.0, l)) in
-      let q = b.level x.1 k (omega (arith, x.0, l)) in
-      omega (arith, p, q);
+      let q = b.level x.1 k (omega (arith, x.0, l)) in omega (arith, p, q);
 }
 
 pub forward_passed : (s t : Cursor) → IsPassed s.mark s.rest t.mark t.rest → Forward s t
@@ -91,30 +88,21 @@ forward_plain f s t text end r = record {
       let b : OnOneLine end t.mark = subst Q r.behind (level_piece end r.white) in
       let K : Marker → Type 0 = λ m. s.mark.line ≤ top → (s.mark.line ≤ m.line) × (m.line ≤ top) in
       let L : Marker → Type 0 = λ m. end.line ≤ top → (end.line ≤ m.line) × (m.line ≤ top) in
-      let f : s.mark.line ≤ top → (s.mark.line ≤ end.line) × (end.line ≤ top) = subst K r.ends
-      (piece_later s.mark r.piece []).lines in
-      let g : end.line ≤ top → (end.line ≤ t.mark.line) × (t.mark.line ≤ top) = subst L r.behind
-      (piece_later end r.white []).lines in
       λ h k l.
-      let x = f h in
-      let y = g x.1 in
+      let x = (subst K r.ends (piece_later s.mark r.piece []).lines) h in
+      let y = (subst L r.behind (piece_later end r.white []).lines) x.1 in
       let p = a h (omega (arith, y.0, k)) (omega (arith, y.0, l)) in
-      let q = b x.1 k (omega (arith, x.0, l)) in
-      omega (arith, p, q);
+      let q = b x.1 k (omega (arith, x.0, l)) in omega (arith, p, q);
 }
 
 return_breaks : (t : List ℕ) → next_2_are t 13 10 ≡ true → is_break (slice_index t 0) ≡ true
 return_breaks t e = ap is_break (eqb-true (slice_index t 0) 13 (and_parts (slice_index t 0 == 13) _ e).0)
 
 break_passed : (s : Cursor) → IsPassed s.mark s.rest (pass_break s).mark (pass_break s).rest
-break_passed s =
-    by_test (next_2_are s.rest 13 10) _ _ (λ (u : Cursor). IsPassed s.mark s.rest u.mark u.rest)
-    (λ e.
-    let two : break_len s.rest ≡ 2 = rw e refl in
-    one 2 two (return_breaks s.rest e))
+break_passed s = by_test (next_2_are s.rest 13 10) _ _ (λ (u : Cursor). IsPassed s.mark s.rest u.mark u.rest) (λ e.
+    one 2 (rw e refl) (return_breaks s.rest e))
     (λ e. by_test (is_break (slice_index s.rest 0)) _ _ (λ (u : Cursor). IsPassed s.mark s.rest u.mark u.rest)
-    (λ b. let single : break_len s.rest ≡ 1 = rw e refl in one 1 single b)
-    (λ _. passing.nothing s.mark s.rest))
+    (λ b. let single : break_len s.rest ≡ 1 = rw e refl in one 1 single b) (λ _. passing.nothing s.mark s.rest))
   where
     one : (n : ℕ) → break_len s.rest ≡ n → is_break (slice_index s.rest 0) ≡ true
         → IsPassed s.mark s.rest (next_line s.mark n) (drop n s.rest)
@@ -127,10 +115,7 @@ break_passed s =
 -- ## The readers
 
 pub separation_forward : (s : Cursor) (x : SkipTabs × Cursor) → separation tabs.Yes s ≡ Ok x → Forward s x.1
-separation_forward s x e =
-    let o = given_of (λ (y : SkipTabs × Cursor). OnLine s y.1) (separation tabs.Yes s) x (separation_passes s) e in
-    let l = apart_later s.mark s.rest x.1.mark x.1.rest o.apart in
-    record { later = l; level = subst (λ (m : Marker). OnOneLine s.mark m) (sym o.on_line.4) (λ h k g. omega arith) }
+separation_forward s x e = grind (arith, given_of, separation_passes, apart_later)
 
 -- what the laws of the readers say of where they go on
 pub record Forwards : Type 0 where
@@ -148,12 +133,9 @@ pub record Forwards : Type 0 where
 
 -- a text of the line was read
 pub line_forward : (s t : Cursor) (text : List ℕ) → s.rest ≡ text ++ t.rest
-    → t ≡ mid_line (along s.mark (length text)) t.rest
-    → Forward s t
-line_forward s t text is e =
-    let l : length s.rest ≡ length (text ++ t.rest) = ap length is in
-    let k = length-append text t.rest in
-    forward_along s t (length text) (ap (λ (u : Cursor). u.mark) e) (omega (arith, l, k))
+    → t ≡ mid_line (along s.mark (length text)) t.rest → Forward s t
+line_forward s t text is e = forward_along s t (length text) (ap (λ (u : Cursor). u.mark) e)
+    (omega (arith, ap length is, length-append text t.rest))
 
 -- and a break after it, or none
 pub break_forward : (s t : Cursor) (text tail behind : List ℕ) → s.rest ≡ text ++ (tail ++ behind)
@@ -165,31 +147,11 @@ break_forward s t text tail behind is e =
     let k = length-append text (tail ++ behind) in
     let j = length-append tail behind in
     let P : Cursor → Type 0 = λ u. Forward s u in
-    subst P (sym e) (forward_forward s there (pass_break there)
-    (forward_along s there n refl (omega (arith, l, k, j)))
+    subst P (sym e) (forward_forward s there (pass_break there) (forward_along s there n refl (omega (arith, l, k, j)))
     (forward_passed there (pass_break there) (break_passed there)))
 
 -- ## Both texts
 
 pub both_ahead : (text : List ℕ) (s : Cursor) (i : ℕ) (t u : Cursor) → Low s → Forward s t → Forward (near i s) u
     → AreAlike text t u → Ahead text s i t u.mark.index
-both_ahead text s i t u low a b x =
-    let small : s.mark.line ≤ top = omega (arith, low) in
-    let x_line = a.later.lines small in
-    let below : t.mark.line < top = omega (arith, low, a.later.slow, a.later.counted) in
-    let same_rest : length (normalized t.rest) ≡ length u.rest = ap length x.rest in
-    record {
-      even = record {
-        lines = x_line.0;
-        slow = a.later.slow;
-        slow_too = omega (arith, b.later.slow, x.line);
-        even = λ q.
-            let p = a.level small below (omega (arith, q)) in
-            let r = b.level small (omega (arith, below, x.line)) (omega (arith, q, x.line)) in
-            omega (arith, p, r, x.col);
-      };
-      counted = a.later.counted;
-      counted_too = omega (arith, b.later.counted, same_rest);
-      here = x.here;
-      there = x.there ∙ sym x.rest;
-    }
+both_ahead text s i t u low a b x = grind (arith, top)

@@ -1,8 +1,8 @@
 -- What is between two tokens is passed alike in a text and in its normalized text.
-use Rattle.std.proofs.Common.{◌≡◌, ℕ, ◌+◌, ◌≤◌, Bool, true, false, List, [], ◌∷◌, length, Result, refl, sym, ap, ◌∙◌, arith, Option, Some, None, cond}
-use Rattle.std.specs.Prelude.{◌==◌, ◌^◌, ◌&&◌, ◌||◌, not, slice_index, ◌-◌, nat_lt, nat_le}
+use Rattle.std.proofs.Common.{◌≡◌, ℕ, ◌+◌, ◌≤◌, Bool, true, false, List, [], ◌∷◌, length, Result, refl, sym, ap, ◌∙◌, arith, Option, Some, None}
+use Rattle.std.specs.Prelude.{◌==◌, ◌^◌, ◌&&◌, ◌||◌, slice_index}
 use Rattle.saphyr_input.specs.Breaks.{normalized}
-use Rattle.saphyr_input.specs.Classes.{is_blank, is_bom, is_break, is_yaml_non_break, is_z, carriage_return, line_feed}
+use Rattle.saphyr_input.specs.Classes.{is_blank, is_break, is_yaml_non_break, is_z, carriage_return, line_feed}
 use Rattle.saphyr_scalar.specs.declared.scalar.position.Marker.{Marker}
 use Rattle.saphyr_scalar.specs.declared.scalar.fault.Refusal.{Refusal}
 use Rattle.saphyr_scalar.specs.Views.Cursor.{Cursor, along, next_line}
@@ -13,10 +13,9 @@ use Rattle.yaml_laws.proofs.Breaks.Normal.{beside, first_is, indicator_so, plain
 use Rattle.yaml_laws.proofs.Breaks.Places.{reindexed, near, Ahead, Stand, Low, ahead_ahead, ahead_stands, stand_here, choose, both_choose, both_so, line_from, character_ahead, two_ahead, single_ahead}
 use Rattle.saphyr_input.proofs.Basics.Characters.{no_return}
 use Rattle.saphyr_scalar.proofs.Given.{cursor_at}
-use Rattle.saphyr_input.specs.Places.{can_be_plain, is_document_indicator}
 use Rattle.scalar_laws.proofs.Breaks.Results.{both_then}
 use Rattle.saphyr_scanner.specs.Steps.Gap as gaps
-use Rattle.saphyr_scanner.specs.Steps.Core.{Core, in_block, least_column, drop_far_key}
+use Rattle.saphyr_scanner.specs.Steps.Core.{Core, least_column, drop_far_key}
 use Rattle.saphyr_scanner.specs.Steps.Passing.{pass_gap, check_comment, goes_on_behind, behind_gap, check_comment_of}
 use Rattle.yaml_laws.proofs.Breaks.Cores.{Indexes, near_core, near_comment, Cores, Twin, Laws, twin_low, twin_stands, twin_moves, going_to, Still, drop_still}
 
@@ -28,8 +27,7 @@ PassesAlike text s i g h =
 
 passes_from_ahead : (text : List ℕ) (s : Cursor) (i : ℕ) (t : Cursor) (j : ℕ) (r q : Result GapEnd Refusal)
     → Ahead text s i t j → GiveAlike (PassesAlike text t j) r q → GiveAlike (PassesAlike text s i) r q
-passes_from_ahead text s i t j r q x h =
-    both_so (PassesAlike text t j) (PassesAlike text s i) r q
+passes_from_ahead text s i t j r q x h = both_so (PassesAlike text t j) (PassesAlike text s i) r q
     (λ g k p. (p.0, p.1, ahead_ahead text s i t j g.cursor p.0 x p.2, p.3)) h
 
 stop_alike : (text : List ℕ) (t n : List ℕ) (m : Marker) (i : ℕ) (blank broke tabbed : Bool) → n ≡ normalized t
@@ -38,15 +36,7 @@ stop_alike : (text : List ℕ) (t n : List ℕ) (m : Marker) (i : ℕ) (blank br
     → GiveAlike (PassesAlike text (cursor_at t m blank) i) (stop m blank broke tabbed t)
     (stop (reindexed i m) blank broke tabbed n)
 unfolding stop
-stop_alike text t n m i blank broke tabbed e f k x =
-    let R = PassesAlike text (cursor_at t m blank) i in
-    both_choose R (tabbed && is_bom (slice_index t 0)) (tabbed && is_bom (slice_index n 0)) _ _ _ _
-    (ap (λ c. tabbed && is_bom c) f) (λ _. refl)
-    (λ _. both_choose R (tabbed && not (is_z (slice_index t 0))) (tabbed && not (is_z (slice_index n 0))) _ _ _ _
-    (ap (λ c. tabbed && not (is_z c)) f) (λ _. refl)
-    (λ _.
-    let same = ap (λ l. record { cursor = cursor_at l (reindexed i m) blank; broke = broke }) e in
-    (i, same, stand_here text (cursor_at t m blank) i x, k)))
+stop_alike text t n m i blank broke tabbed e f k x = grind (arith, cursor_at, both_choose, reindexed, stand_here)
 
 -- What is passed from here on, and in a comment.
 record Gaps (text : List ℕ) (least : ℕ) (t n : List ℕ) (m : Marker) (i : ℕ) (blank broke tabbed : Bool) : Type 0 where
@@ -61,8 +51,7 @@ not_cut : (c : ℕ) (t n : List ℕ) → (c == carriage_return) ≡ false
 not_cut c t n e = rw e refl
 
 all_gaps : (text : List ℕ) (least : ℕ) (t n : List ℕ) → Normal t n → (m : Marker) (i : ℕ) (blank broke tabbed : Bool)
-    → m.line + length t ≤ 2 ^ 63 → Stand text (cursor_at t m blank) i
-    → Gaps text least t n m i blank broke tabbed
+    → m.line + length t ≤ 2 ^ 63 → Stand text (cursor_at t m blank) i → Gaps text least t n m i blank broke tabbed
 all_gaps text least _ _ nothing m i blank broke tabbed low x =
     let h = stop_alike text [] [] m i blank broke tabbed refl refl refl x in record { between = h; inside = h }
 all_gaps text least _ _ (character c {r = t} {q = n} ink w) m i blank broke tabbed low x =
@@ -78,16 +67,14 @@ all_gaps text least _ _ (character c {r = t} {q = n} ink w) m i blank broke tabb
     let here = λ (k : is_break c ≡ false). stop_alike text (c ∷ t) (c ∷ n) m i blank broke tabbed
     (ap (λ l. c ∷ l) (sym (normalized_is w)) ∙ sym is) refl k x in
     record {
-      between =
-          both_choose R (is_blank c || ((c == 13) && (slice_index t 0 == 10)))
+      between = both_choose R (is_blank c || ((c == 13) && (slice_index t 0 == 10)))
           (is_blank c || ((c == 13) && (slice_index n 0 == 10))) _ _ _ _ (ap (λ b. is_blank c || b) (not_cut c t n e))
           (λ _. passes_from_ahead text _ _ _ _ _ _ on (more (is_tab_indentation least m blank c || tabbed)).between)
           (λ _. both_choose R (is_break c) (is_break c) _ _ _ _ refl (λ _. passes_from_ahead text _ _ _ _ _ _ line
           next.between)
           (λ k. both_choose R (c == 35) (c == 35) _ _ _ _ refl
           (λ _. passes_from_ahead text _ _ _ _ _ _ on (more tabbed).inside) (λ _. here k)));
-      inside =
-          both_choose R (is_yaml_non_break c) (is_yaml_non_break c) _ _ _ _ refl
+      inside = both_choose R (is_yaml_non_break c) (is_yaml_non_break c) _ _ _ _ refl
           (λ _. passes_from_ahead text _ _ _ _ _ _ on (more tabbed).inside)
           (λ _. both_choose R ((c == 13) && (slice_index t 0 == 10)) ((c == 13) && (slice_index n 0 == 10)) _ _ _ _
           (not_cut c t n e)
@@ -108,8 +95,7 @@ all_gaps text least _ _ (pair {r = t} {q = n} w) m i blank broke tabbed low x =
     let h = passes_from_ahead text _ _ _ _ _ _ line next.between in
     record { between = h; inside = h }
 all_gaps text least _ _ (return {r = t} {q = n} e w) m i blank broke tabbed low x =
-    let is : normalized (13 ∷ t) ≡ 10 ∷ normalized t = rw e refl in
-    let line = single_ahead text 13 10 t m i blank true is (omega (arith, low)) x in
+    let line = single_ahead text 13 10 t m i blank true (rw e refl) (omega (arith, low)) x in
     let next = all_gaps text least t n w (next_line m 1) (i + 1) true true false (omega (arith, low))
     (ahead_stands text _ _ _ _ line) in
     let h = passes_from_ahead text _ _ _ _ _ _ line next.between in
@@ -118,8 +104,7 @@ all_gaps text least _ _ (return {r = t} {q = n} e w) m i blank broke tabbed low 
 pub gap_alike : (text : List ℕ) (least : ℕ) (s : Cursor) (i : ℕ) (broke tabbed : Bool) → Low s → Stand text s i
     → GiveAlike (PassesAlike text s i) (end_of_gap least s.mark s.blank_so_far broke tabbed s.rest)
     (end_of_gap least (near i s).mark s.blank_so_far broke tabbed (normalized s.rest))
-gap_alike text least s i broke tabbed low x =
-    (all_gaps text least s.rest (normalized s.rest)
+gap_alike text least s i broke tabbed low x = (all_gaps text least s.rest (normalized s.rest)
     (beside s.rest) s.mark i s.blank_so_far broke tabbed low x).between
 
 -- ## After `?`
@@ -161,16 +146,14 @@ all_spaces text _ _ (character c {r = t} {q = n} ink w) m i blank space low x =
       stand_here text (cursor_at (c ∷ t) m blank) i x,
     ) in
     record {
-      between =
-          choose P ((c == 32) || ((c == 13) && (slice_index t 0 == 10)))
+      between = choose P ((c == 32) || ((c == 13) && (slice_index t 0 == 10)))
           ((c == 32) || ((c == 13) && (slice_index n 0 == 10))) _ _ _ _ (ap (λ b. (c == 32) || b) (not_cut c t n e))
           (λ _. spaces_end_further text _ _ _ _ _ _ on (more true).between)
           (λ _. choose P (is_break c) (is_break c) _ _ _ _ refl
           (λ _. spaces_end_further text _ _ _ _ _ _ line next.between)
           (λ _. choose P (c == 35) (c == 35) _ _ _ _ refl
           (λ _. spaces_end_further text _ _ _ _ _ _ on (more space).inside) (λ _. here)));
-      inside =
-          choose P (is_yaml_non_break c) (is_yaml_non_break c) _ _ _ _ refl
+      inside = choose P (is_yaml_non_break c) (is_yaml_non_break c) _ _ _ _ refl
           (λ _. spaces_end_further text _ _ _ _ _ _ on (more space).inside)
           (λ _. choose P ((c == 13) && (slice_index t 0 == 10)) ((c == 13) && (slice_index n 0 == 10)) _ _ _ _
           (not_cut c t n e)
@@ -191,8 +174,7 @@ all_spaces text _ _ (pair {r = t} {q = n} w) m i blank space low x =
     let h = spaces_end_further text _ _ _ _ _ _ line next.between in
     record { between = h; inside = h }
 all_spaces text _ _ (return {r = t} {q = n} e w) m i blank space low x =
-    let is : normalized (13 ∷ t) ≡ 10 ∷ normalized t = rw e refl in
-    let line = single_ahead text 13 10 t m i blank true is (omega (arith, low)) x in
+    let line = single_ahead text 13 10 t m i blank true (rw e refl) (omega (arith, low)) x in
     let next = all_spaces text t n w (next_line m 1) (i + 1) true true (omega (arith, low))
     (ahead_stands text _ _ _ _ line) in
     let h = spaces_end_further text _ _ _ _ _ _ line next.between in
@@ -212,14 +194,7 @@ goes_same : (m : Marker) (i : ℕ) (c : Core) (x : Indexes)
     → goes_on_behind (reindexed i m) (near_core x c) ≡ goes_on_behind m c
 unfolding goes_on_behind
 goes_same m i c x =
-    let t = c.cursor.rest in
-    let F : Bool → Bool → Bool → Bool = λ z d p.
-    in_block c && (c.cursor.mark.line - m.line == 1) &&
-    (cond c.deeper (nat_lt c.indent c.cursor.mark.col) (nat_le c.indent c.cursor.mark.col)) && not z
-    && not ((c.cursor.mark.col == 0) && d) && p in
-    ap (λ z. F z (is_document_indicator (normalized t)) (can_be_plain false (normalized t))) (first_is is_z refl t)
-    ∙ ap (λ d. F (is_z (slice_index t 0)) d (can_be_plain false (normalized t))) (indicator_so t)
-    ∙ ap (λ p. F (is_z (slice_index t 0)) (is_document_indicator t) p) (plain_so false t)
+    let t = c.cursor.rest in cc (first_is is_z refl t, indicator_so t, plain_so false t)
 
 checked : (text : List ℕ) (o : Option Marker) (c : Core) (x : Indexes) → Twin text c x
     → is_break (slice_index c.cursor.rest 0) ≡ false
@@ -246,6 +221,5 @@ gap_rests text c x laws t =
 pub dropped_rest : (text : List ℕ) (c : Core) (x : Indexes) → Twin text c x
     → is_break (slice_index c.cursor.rest 0) ≡ false
     → GiveAlike (Rested text) (drop_far_key c) (drop_far_key (near_core x c))
-dropped_rest text c x t k =
-    both_so (Still text c.cursor) (Rested text) (drop_far_key c) (drop_far_key (near_core x c))
+dropped_rest text c x t k = both_so (Still text c.cursor) (Rested text) (drop_far_key c) (drop_far_key (near_core x c))
     (λ a b h. (h.0, ap (λ (s : Cursor). is_break (slice_index s.rest 0)) h.1 ∙ k)) (drop_still text c x t)

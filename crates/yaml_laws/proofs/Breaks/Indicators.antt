@@ -4,7 +4,7 @@ use Rattle.std.specs.Prelude.{◌&&◌, ◌||◌, ◌==◌, not, slice_index, na
 use Rattle.saphyr_input.specs.Breaks.{normalized}
 use Rattle.saphyr_input.specs.Classes.{is_alpha, is_blank_or_breakz, is_break, is_flow}
 use Rattle.saphyr_input.specs.declared.input.SkipTabs.{SkipTabs}
-use Rattle.saphyr_input.specs.Separation.{found_tabs, has_valid_yaml_ws}
+use Rattle.saphyr_input.specs.Separation.{has_valid_yaml_ws}
 use Rattle.saphyr_scalar.specs.declared.scalar.position.Marker.{Marker}
 use Rattle.saphyr_scalar.specs.Views.Cursor.{Cursor, ◌>>=◌, pass}
 use Rattle.scalar_laws.specs.Alike.{GiveAlike}
@@ -23,7 +23,7 @@ use Rattle.saphyr_scanner.specs.Limits.{most_open}
 use Rattle.yaml_laws.proofs.Breaks.Cores.{Indexes, near_core, near_key, near_levels, first, others, LevelsEven, Cores, Twin, Laws, Still, Inked, of_cores, of_still, core_then, still_then, same_length, remove_still, roll_still, forgotten, separate_then, pass_then, still_pass_then, still_inked, pass_twin, pass_near, pass_ahead, twin_low, twin_stands, twin_moves, going_to, here_adjacent, saved_then}
 use Rattle.yaml_laws.proofs.Breaks.Gaps.{spaces_alike}
 use Rattle.yaml_laws.proofs.Breaks.Normal.{first_is, second_is}
-use Rattle.yaml_laws.proofs.Breaks.Places.{reindexed, near, even_index, ahead_ahead, ahead_stands, low_ahead, choose, both_choose, both_so}
+use Rattle.yaml_laws.proofs.Breaks.Places.{reindexed, even_index, ahead_ahead, ahead_stands, low_ahead, choose, both_choose, both_so}
 use Rattle.yaml_laws.proofs.Breaks.States.{SameActions, SameSteps}
 use Rattle.std.proofs.lemmas.Bool.{eqb-true}
 use Rattle.saphyr_input.specs.Indicators.{hyphen, left_brace, left_bracket}
@@ -34,8 +34,7 @@ open_same : (text : List ℕ) (k : Context) (kind : Kind) (c : Core) (x : Indexe
     → Inked c.cursor.rest
     → GiveAlike (SameSteps text) (flow.open_collection k kind c) (flow.open_collection k kind (near_core x c))
 unfolding flow.open_collection
-open_same text k kind c x laws t ink =
-    both_choose (SameSteps text) (nat_le most_open (length c.outer))
+open_same text k kind c x laws t ink = both_choose (SameSteps text) (nat_le most_open (length c.outer))
     (nat_le most_open (length (near_levels x.outer c.outer))) _ _ _ _ (cc (same_length x.outer c.outer)) (λ _. refl)
     (λ _. pass_then text (SameSteps text) (flow.enter k c) (record x { key = 0; outer = x.key ∷ x.outer }) _ _ laws
     (record { ahead = t.ahead; key = tt; outer = (t.key, t.outer); line = t.line; adjacent = t.adjacent }) ink
@@ -61,8 +60,7 @@ leave_still text (l ∷ ls) c x t h =
 
 adjacent_twin : (text : List ℕ) (c : Core) (x : Indexes) → Twin text c x
     → Cores text (flow.allow_adjacent c) (flow.allow_adjacent (near_core x c))
-adjacent_twin text c x t =
-    choose (Cores text) (in_block c) (in_block c) _ _ _ _ refl (λ _. (x, refl, t))
+adjacent_twin text c x t = choose (Cores text) (in_block c) (in_block c) _ _ _ _ refl (λ _. (x, refl, t))
     (λ _. (record x { adjacent = x.at }, refl, here_adjacent text c x t))
 
 pair_same : (ends : Bool) (m k : Marker) (kind : Kind) (a b d e : Marker)
@@ -89,15 +87,13 @@ pub end_same : (text : List ℕ) (ends : Bool) (kind : Kind) (c : Core) (x : Ind
     → Twin text c x → Inked c.cursor.rest
     → GiveAlike (SameSteps text) (flow.closing_steps ends kind c) (flow.closing_steps ends kind (near_core x c))
 unfolding flow.closing_steps
-end_same text ends kind c x laws t ink =
-    both_choose (SameSteps text) (in_block c) (in_block c) _ _ _ _ refl (λ _. refl)
+end_same text ends kind c x laws t ink = both_choose (SameSteps text) (in_block c) (in_block c) _ _ _ _ refl (λ _. refl)
     (λ _. close_same text ends kind c x laws t ink)
 
 pub entry_same : (text : List ℕ) (c : Core) (x : Indexes) → Laws text → Twin text c x → Inked c.cursor.rest
     → GiveAlike (SameSteps text) (flow.flow_entry_steps c) (flow.flow_entry_steps (near_core x c))
 unfolding flow.flow_entry_steps flow.next_flow_entry
-entry_same text c x laws t ink =
-    still_then text (SameSteps text) c.cursor (remove_key c)
+entry_same text c x laws t ink = still_then text (SameSteps text) c.cursor (remove_key c)
     (remove_key (near_core x c)) flow.next_flow_entry flow.next_flow_entry (remove_still text c x t)
     (λ d y u e. pass_then text (SameSteps text)
     (with_context (behind_entry d.level.context) (record d { key_allowed = true })) y _ _ laws u
@@ -122,8 +118,7 @@ tab_same k text c x t =
 check_same : (text : List ℕ) (c : Core) (x : Indexes) → Laws text → Twin text c x
     → GiveAlike (Cores text) (value.check_tab c) (value.check_tab (near_core x c))
 unfolding value.check_tab
-check_same text c x laws t =
-    both_choose (Cores text) (slice_index c.cursor.rest 0 == 9)
+check_same text c x laws t = both_choose (Cores text) (slice_index c.cursor.rest 0 == 9)
     (slice_index (normalized c.cursor.rest) 0 == 9) _ _ _ _ (first_is (λ y. y == 9) refl c.cursor.rest)
     (λ _. separate_then text (Cores text) c x value.refuse_lone_tab value.refuse_lone_tab laws t
     (λ k d y u. tab_same k text d y u)) (λ _. (x, refl, t))
@@ -197,8 +192,7 @@ dash_next c x = by c.cursor.rest (slice_index c.cursor.rest 0 == 45) refl
     by : (t : List ℕ) (b : Bool) → (slice_index t 0 == hyphen) ≡ b
         → ((slice_index (normalized t) 0 == hyphen) && is_blank_or_breakz (slice_index (normalized t) 1)) ≡
         ((slice_index t 0 == hyphen) && is_blank_or_breakz (slice_index t 1))
-    by t true e =
-        ap (λ b. b && is_blank_or_breakz (slice_index (normalized t) 1)) (first_is (λ y. y == 45) refl t)
+    by t true e = ap (λ b. b && is_blank_or_breakz (slice_index (normalized t) 1)) (first_is (λ y. y == 45) refl t)
         ∙ ap (λ b. (slice_index t 0 == 45) && b)
         (second_is is_blank_or_breakz refl t (ap is_break (eqb-true (slice_index t 0) 45 e)))
     by t false e =
@@ -208,19 +202,13 @@ deepen_twin : (text : List ℕ) (c : Core) (x : Indexes) → Twin text c x
     → Cores text (block.deepen c) (block.deepen (near_core x c))
 deepen_twin text c x t =
     choose (Cores text) (is_break (slice_index c.cursor.rest 0) || is_flow (slice_index c.cursor.rest 0))
-    (is_break (slice_index (normalized c.cursor.rest) 0) || is_flow
-    (slice_index (normalized c.cursor.rest) 0)) _ _ _ _
+    (is_break (slice_index (normalized c.cursor.rest) 0) || is_flow (slice_index (normalized c.cursor.rest) 0)) _ _ _ _
     (first_is (λ y. is_break y || is_flow y) refl c.cursor.rest) (λ _. (x, refl, t)) (λ _. (x, refl, t))
 
 dash_same : (text : List ℕ) (c : Core) (x : Indexes) → Laws text → Twin text c x
     → GiveAlike (Cores text) (block.pass_dash c) (block.pass_dash (near_core x c))
 unfolding block.pass_dash
-dash_same text c x laws t =
-    separate_then text (Cores text) c x block.refuse_tab block.refuse_tab laws t
-    (λ k d y u. both_choose (Cores text) (found_tabs k && block.is_dash_next d)
-    (found_tabs k && block.is_dash_next (near_core y d)) _ _ _ _ (ap (λ b. found_tabs k && b) (dash_next d y))
-    (λ _. refl)
-    (λ _. deepen_twin text d y u))
+dash_same text c x laws t = search (separate_then, both_choose, near_core, dash_next, deepen_twin)
 
 starts_same : (begins : Bool) (m k : Marker) (kind t : Kind) (a b d e : Marker)
     → SameActions (block.behind_start begins m kind
@@ -267,8 +255,7 @@ block_entry_same text c x laws t ink =
 mark_same : (text : List ℕ) (space : Bool) (c : Core) (x : Indexes) → Twin text c x
     → GiveAlike (Cores text) (block.behind_mark space c) (block.behind_mark space (near_core x c))
 unfolding block.behind_mark
-mark_same text space c x t =
-    both_choose (Cores text) (not space) (not space) _ _ _ _ refl (λ _. refl)
+mark_same text space c x t = both_choose (Cores text) (not space) (not space) _ _ _ _ refl (λ _. refl)
     (λ _. both_choose (Cores text) (slice_index c.cursor.rest 0 == 9)
     (slice_index (normalized c.cursor.rest) 0 == 9) _ _ _ _ (first_is (λ y. y == 9) refl c.cursor.rest) (λ _. refl)
     (λ _. (x, refl, t)))
@@ -277,18 +264,15 @@ question_same : (text : List ℕ) (c : Core) (x : Indexes) → Laws text → Twi
     → GiveAlike (Cores text) (block.pass_question c) (block.pass_question (near_core x c))
 question_same text c x laws t ink =
     let s = pass 1 c.cursor in
-    let e : pass 1 (near x.at c.cursor) ≡ near
-    (x.at + 1) s = pass_near x.at c.cursor.rest c.cursor.mark c.cursor.blank_so_far ink in
     let on = pass_ahead text x.at c.cursor.rest c.cursor.mark c.cursor.blank_so_far ink (twin_stands text c x t) in
     let low = low_ahead text c.cursor x.at s (x.at + 1) on (twin_low text c x laws t) in
     let h = spaces_alike text s (x.at + 1) false low (ahead_stands text c.cursor x.at s (x.at + 1) on) in
     let g = gaps.spaces_at false s in
-    let there = twin_moves text c x g.cursor h.0 t
-    (ahead_ahead text c.cursor x.at s (x.at + 1) g.cursor h.0 on h.2) in
+    let there = twin_moves text c x g.cursor h.0 t (ahead_ahead text c.cursor x.at s (x.at + 1) g.cursor h.0 on h.2) in
     let P : Cursor → Type 0 = λ u. GiveAlike (Cores text) (block.behind_mark g.space (with_cursor g.cursor c))
-    (block.behind_mark (gaps.spaces_at false u).space
-    (with_cursor (gaps.spaces_at false u).cursor (near_core x c))) in
-    subst P (sym e) (rw h.1 (mark_same text g.space (with_cursor g.cursor c) (going_to h.0 x) there))
+    (block.behind_mark (gaps.spaces_at false u).space (with_cursor (gaps.spaces_at false u).cursor (near_core x c))) in
+    subst P (sym (pass_near x.at c.cursor.rest c.cursor.mark c.cursor.blank_so_far ink))
+    (rw h.1 (mark_same text g.space (with_cursor g.cursor c) (going_to h.0 x) there))
 
 begin_same : (text : List ℕ) (c : Core) (x : Indexes) → Laws text → Twin text c x → Inked c.cursor.rest
     → GiveAlike (Cores text) (block.begin_key c) (block.begin_key (near_core x c))

@@ -1,7 +1,6 @@
 -- A text beside its normalized text: how long both are, and what comes first in them.
-use Rattle.std.proofs.Common.{◌≡◌, ℕ, ◌≤◌, Bool, true, false, List, length, refl, sym, ap, ◌∙◌, arith, cond, Option, Some, None}
+use Rattle.std.proofs.Common.{◌≡◌, ℕ, ◌≤◌, Bool, true, false, List, length, refl, sym, ap, ◌∙◌, arith, cond, Option, None}
 use Rattle.std.specs.Prelude.{◌==◌, ◌&&◌, ◌||◌, not, slice_index, option_map}
-use Rattle.std.proofs.lemmas.Bool.Decides.{nat_tests}
 use Rattle.saphyr_input.specs.Breaks.{normalized}
 use Rattle.saphyr_input.specs.Classes.{is_blank_or_breakz, is_break, is_flow, byte_order_mark, carriage_return}
 use Rattle.saphyr_input.specs.Places.{is_document_start, is_document_end, is_document_indicator, can_be_plain}
@@ -30,11 +29,7 @@ pub normal_shorter : (t : List ℕ) → length (normalized t) ≤ length t
 normal_shorter t = shorter (beside t)
 
 none_as_long : {t n : List ℕ} → Normal t n → (length n == 0) ≡ (length t == 0)
-none_as_long nothing = refl
-none_as_long (character c e h) = grind (arith, nat_tests)
-none_as_long (feed h) = grind (arith, nat_tests)
-none_as_long (return e h) = grind (arith, nat_tests)
-none_as_long (pair h) = grind (arith, nat_tests)
+none_as_long h = grind (arith, nothing, character, feed, return, pair)
 
 pub normal_none : (t : List ℕ) → (length (normalized t) == 0) ≡ (length t == 0)
 normal_none t = none_as_long (beside t)
@@ -60,8 +55,7 @@ pub indicator_so : (t : List ℕ) → is_document_indicator (normalized t) ≡ i
 indicator_so t = sym (indicator_alike (beside t))
 
 chosen : {X : Type 0} → (b : Bool) (x y v w : X) → (b ≡ true → v ≡ x) → (b ≡ false → w ≡ y) → cond b v w ≡ cond b x y
-chosen true x y v w h k = h refl
-chosen false x y v w h k = k refl
+chosen b x y v w h k = grind arith
 
 pub plain_so : (in_flow : Bool) (t : List ℕ) → can_be_plain in_flow (normalized t) ≡ can_be_plain in_flow t
 plain_so f t =
@@ -85,8 +79,7 @@ no_return_left (return e h) = (refl, no_return_left h)
 no_return_left (pair h) = (refl, no_return_left h)
 
 none_if : {X Y : Type 0} → (f : X → Y) (o : Option X) → option_map f o ≡ None → o ≡ None
-none_if f None e = refl
-none_if f (Some x) e = absurd (cc)
+none_if f o e = grind arith
 
 pub scans_too : (ts : List Kind) (r q : Remaining) → HaveSameKinds r q → Scans ts q → Scans ts r
 scans_too ts r q h s = (

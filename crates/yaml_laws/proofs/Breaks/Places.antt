@@ -1,5 +1,5 @@
 -- Places of a text and of its normalized text, and how both go on together.
-use Rattle.std.proofs.Common.{◌≡◌, ℕ, ◌+◌, ◌^◌, ◌≤◌, ◌<◌, Bool, true, false, List, ◌∷◌, length, drop, refl, sym, ap, ◌∙◌, arith, Result, Ok, Err, cond}
+use Rattle.std.proofs.Common.{◌≡◌, ℕ, ◌+◌, ◌^◌, ◌≤◌, ◌<◌, Bool, true, false, List, ◌∷◌, length, drop, refl, sym, ◌∙◌, arith, Result, cond}
 use Rattle.std.specs.Prelude.{◌==◌, ◌-◌, nat_lt, ◌^◌, min}
 use Rattle.std.proofs.lemmas.Bool.Decides.{nat_tests}
 use Rattle.saphyr_input.specs.Breaks.{normalized}
@@ -38,11 +38,8 @@ even_even l a b k c d h e f x y = record {
   slow = omega (arith, x.slow, y.slow);
   slow_too = omega (arith, x.slow_too, y.slow_too);
   even = λ q.
-      let s : k ≡ l = omega (arith, q, x.lines, y.lines) in
-      let t : h ≡ k = omega (arith, q, x.lines, y.lines) in
-      let u = x.even s in
-      let v = y.even t in
-      omega (arith, u, v);
+      let u = x.even (omega (arith, q, x.lines, y.lines)) in
+      let v = y.even (omega (arith, q, x.lines, y.lines)) in omega (arith, u, v);
 }
 
 same_test : (a b c d : ℕ) → c + b ≡ d + a → (c == a) ≡ (d == b)
@@ -53,23 +50,11 @@ differ a c l = grind (arith, nat_tests, l)
 
 -- where an index is what it was
 pub even_index : (l a b k c d : ℕ) → Even l a b k c d → (d == b) ≡ (c == a)
-even_index l a b k c d x = by (k == l) refl
-  where
-    by : (t : Bool) → (k == l) ≡ t → (d == b) ≡ (c == a)
-    by true e = let q : k ≡ l = grind (arith, nat_tests, e) in let u = x.even q in sym (same_test a b c d u)
-    by false e =
-        let n : l < k = grind (arith, nat_tests, e, x.lines) in
-        differ b d (omega (arith, n, x.slow_too)) ∙ sym (differ a c (omega (arith, n, x.slow)))
+even_index l a b k c d x = grind arith
 
 -- how far both indexes have come on one line
 pub even_far : (l a b k c d : ℕ) → Even l a b k c d → nat_lt l k ≡ false → nat_lt 1024 (d - b) ≡ nat_lt 1024 (c - a)
-even_far l a b k c d x e =
-    let q : k ≡ l = grind (arith, nat_tests, e, x.lines) in
-    let u = x.even q in
-    let v : a ≤ c = omega (arith, x.slow, q) in
-    let w : b ≤ d = omega (arith, x.slow_too, q) in
-    let r : d - b ≡ c - a = omega (arith, u, v, w) in
-    ap (λ n. nat_lt 1024 n) r
+even_far l a b k c d x e = grind arith
 
 -- ## Where a text goes on
 
@@ -100,20 +85,13 @@ pub ahead_stands : (text : List ℕ) (s : Cursor) (i : ℕ) (t : Cursor) (j : �
 ahead_stands text s i t j x = record { here = x.here; there = x.there }
 
 pub stand_here : (text : List ℕ) (s : Cursor) (i : ℕ) → Stand text s i → Ahead text s i s i
-stand_here text s i x =
-    let even = even_here s.mark.line s.mark.index i in
-    record { even = even; counted = refl; counted_too = refl; here = x.here; there = x.there }
+stand_here text s i x = search (even_here)
 
 pub stand_alike : (text : List ℕ) (s : Cursor) (i : ℕ) → Stand text s i → AreAlike text s (near i s)
 stand_alike text s i x = record { line = refl; col = refl; rest = refl; blank = refl; here = x.here; there = x.there }
 
 pub alike_is : (text : List ℕ) (s t : Cursor) → AreAlike text s t → t ≡ near t.mark.index s
-alike_is text s t x = same t (normalized s.rest) s.mark.line s.mark.col s.blank_so_far x.rest x.line x.col x.blank
-  where
-    same : (t : Cursor) (r : List ℕ) (l c : ℕ) (b : Bool) → r ≡ t.rest → l ≡ t.mark.line → c ≡ t.mark.col
-        → b ≡ t.blank_so_far
-        → t ≡ record { rest = r; mark = record { index = t.mark.index; line = l; col = c }; blank_so_far = b }
-    same t r l c b e f g h = rw (e, f, g, h)
+alike_is text s t x = grind arith
 
 -- ## One character on
 
@@ -140,10 +118,7 @@ both_choose R b d x y v w e h k = choose (GiveAlike R) b d x y v w e h k
 
 pub both_so : {X : Type 0} → (R S : X → X → Type 0) (r q : Result X Refusal) → ((x y : X) → R x y → S x y)
     → GiveAlike R r q → GiveAlike S r q
-both_so R S (Ok x) (Ok y) go h = go x y h
-both_so R S (Ok x) (Err d) go h = absurd h
-both_so R S (Err e) (Ok y) go h = absurd h
-both_so R S (Err e) (Err d) go h = h
+both_so R S r q h k = grind (arith)
 
 -- ## What is passed
 
@@ -158,52 +133,23 @@ next_lower l h = omega (arith, h)
 pub character_ahead : (text : List ℕ) (c : ℕ) (t : List ℕ) (m : Marker) (i : ℕ) (b d : Bool)
     → (c == carriage_return) ≡ false → Stand text (cursor_at (c ∷ t) m b) i
     → Ahead text (cursor_at (c ∷ t) m b) i (cursor_at t (along m 1) d) (i + 1)
-character_ahead text c t m i b d e x =
-    let is : normalized (c ∷ t) ≡ c ∷ normalized t = rw e refl in
-    let count : length (normalized (c ∷ t)) ≡ length (c ∷ normalized t) = ap length is in
-    record {
-      even = record { lines = omega arith; slow = omega arith; slow_too = omega arith; even = λ q. omega arith };
-      counted = omega arith;
-      counted_too = omega (arith, count);
-      here = one_less m.index c text t x.here;
-      there = one_less i c (normalized text) (normalized t) (x.there ∙ is);
-    }
+character_ahead text c t m i b d e x = grind (arith, one_less)
 
 -- a break: some characters of the text, and one of the normalized text
 pub line_ahead : (text : List ℕ) (s t : List ℕ) (m : Marker) (i j k c : ℕ) (b d : Bool) → j ≡ m.index + k → 1 ≤ k
-    → length s ≡ k + length t → normalized s ≡ c ∷ normalized t → drop j text ≡ t
-    → m.line ≤ 2 ^ 63 → Stand text (cursor_at s m b) i
-    → Ahead text (cursor_at s m b) i (cursor_at t (line_from m j) d) (i + 1)
-line_ahead text s t m i j k c b d e one l is h low x =
-    let next = next_lower m.line low in
-    let count : length (normalized s) ≡ length (c ∷ normalized t) = ap length is in
-    record {
-      even = record {
-        lines = omega (arith, next);
-        slow = omega (arith, next, one, e);
-        slow_too = omega
-            (arith, next);
-        even = λ q. absurd (omega (arith, q, next));
-      };
-      counted = omega (arith, l, e);
-      counted_too = omega (arith, count);
-      here = h;
-      there = one_less i c (normalized text) (normalized t) (x.there ∙ is);
-    }
+    → length s ≡ k + length t → normalized s ≡ c ∷ normalized t → drop j text ≡ t → m.line ≤ 2 ^ 63
+    → Stand text (cursor_at s m b) i → Ahead text (cursor_at s m b) i (cursor_at t (line_from m j) d) (i + 1)
+line_ahead text s t m i j k c b d e one l is h low x = grind (arith, next_lower, one_less)
 
 -- CR before LF
 pub two_ahead : (text t : List ℕ) (m : Marker) (i : ℕ) (b d : Bool) → m.line ≤ 2 ^ 63
     → Stand text (cursor_at (carriage_return ∷ line_feed ∷ t) m b) i
     → Ahead text (cursor_at (carriage_return ∷ line_feed ∷ t) m b) i (cursor_at t (line_from m (m.index + 1 + 1)) d)
     (i + 1)
-two_ahead text t m i b d low x =
-    line_ahead text (13 ∷ 10 ∷ t) t m i (m.index + 1 + 1) 2 10 b d (omega arith) (omega arith) (omega arith) refl
-    (one_less (m.index + 1) 10 text t (one_less m.index 13 text (10 ∷ t) x.here)) low x
+two_ahead text t m i b d low x = grind (arith, line_ahead, one_less)
 
 -- any other break
 pub single_ahead : (text : List ℕ) (c e : ℕ) (t : List ℕ) (m : Marker) (i : ℕ) (b d : Bool)
     → normalized (c ∷ t) ≡ e ∷ normalized t → m.line ≤ 2 ^ 63 → Stand text (cursor_at (c ∷ t) m b) i
     → Ahead text (cursor_at (c ∷ t) m b) i (cursor_at t (line_from m (m.index + 1)) d) (i + 1)
-single_ahead text c e t m i b d is low x =
-    line_ahead text (c ∷ t) t m i (m.index + 1) 1 e b d refl (omega arith) (omega arith) is
-    (one_less m.index c text t x.here) low x
+single_ahead text c e t m i b d is low x = grind (arith, line_ahead, one_less)

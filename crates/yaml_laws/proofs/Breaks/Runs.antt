@@ -1,11 +1,10 @@
 -- A text and its normalized text have tokens of the same kinds.
-use Rattle.std.proofs.Common.{◌≡◌, ℕ, zero, suc, ◌+◌, ◌≤◌, ◌<◌, Bool, List, [], ◌∷◌, length, map, Option, Some, None, Result, Ok, Err, refl, sym, ap, ◌∙◌, arith, subst, true, false}
-use Rattle.std.specs.Prelude.{◌&&◌, ◌||◌, not, ◌==◌, slice_index, nat_le, nat_lt}
+use Rattle.std.proofs.Common.{◌≡◌, ℕ, zero, suc, ◌+◌, ◌≤◌, ◌<◌, List, [], ◌∷◌, length, map, Some, Result, Ok, refl, sym, ap, ◌∙◌, arith, subst, false}
+use Rattle.std.specs.Prelude.{◌&&◌, ◌||◌, ◌==◌, slice_index, nat_lt}
 use Rattle.saphyr_input.specs.Breaks.{normalized}
 use Rattle.saphyr_scalar.specs.declared.scalar.fault.Refusal.{Refusal}
 use Rattle.scalar_laws.specs.Alike.{GiveAlike}
 use Rattle.saphyr_scanner.specs.declared.queue.Opening.{Opening}
-use Rattle.saphyr_scanner.specs.declared.queue.Opening.TheVariants as opening
 use Rattle.saphyr_scanner.specs.Grammar.Tokens as tokens
 use Rattle.saphyr_scanner.specs.Grammar.Tokens.{Kind}
 use Rattle.saphyr_scanner.specs.Views.Tokens.{Piece, Remaining}
@@ -35,7 +34,6 @@ use Rattle.yaml_laws.proofs.Breaks.Indicators.{start_same, end_same, entry_same,
 use Rattle.yaml_laws.proofs.Breaks.Normal.{first_is, second_is, start_so, end_so, normal_shorter}
 use Rattle.yaml_laws.proofs.Breaks.Gaps.{Rested, gap_rests, dropped_rest}
 use Rattle.yaml_laws.proofs.Breaks.Scalars.{double_same, single_same, plain_same, block_same, name_same, tag_same}
-use Rattle.saphyr_input.proofs.Basics.Characters.{no_return}
 use Rattle.std.proofs.lemmas.Bool.{and_parts, le-leb, eqb-true}
 use Rattle.saphyr_input.specs.Indicators.{left_brace, left_bracket}
 
@@ -71,8 +69,7 @@ step_same text first second other n c x laws t ink f blank is_flow_too opens =
     })
 
 first_same : (t : List ℕ) → Inked t → slice_index (normalized t) 0 ≡ slice_index t 0
-first_same [] k = absurd k
-first_same (c ∷ t) k = let e = no_return c k in rw e refl
+first_same t k = grind arith
 
 content_same : (text : List ℕ) (c : Core) (x : Indexes) (q r : Queue) → Laws text → Twin text c x → SameQueues q r
     → Inked c.cursor.rest → is_break (slice_index c.cursor.rest 0) ≡ false
@@ -103,8 +100,7 @@ here_same text c x q r laws t e k =
     let R = States text in
     let at_start = c.cursor.mark.col == 0 in
     both_choose R (is_z (slice_index s 0)) (is_z (slice_index n 0)) _ _ _ _ (first_is is_z refl s)
-    (λ _. stream_same text c x q r t e)
-    (λ z.
+    (λ _. stream_same text c x q r t e) (λ z.
     let ink = inked_of s z k in
     both_choose R (is_bom (slice_index s 0)) (is_bom (slice_index n 0)) _ _ _ _ (first_is is_bom refl s)
     (λ _. byte_order_mark_same text c x q r t e ink)
@@ -126,10 +122,7 @@ RestedStates text s t = Rested text s.core t.core × SameQueues s.queue t.queue
 
 on_core_rested : (text : List ℕ) (a b : Result Core Refusal) (q r : Queue) → GiveAlike (Rested text) a b
     → SameQueues q r → GiveAlike (RestedStates text) (on_core a q) (on_core b r)
-on_core_rested text (Ok c) (Ok d) q r h e = (h, e)
-on_core_rested text (Ok c) (Err f) q r h e = absurd h
-on_core_rested text (Err d) (Ok c) q r h e = absurd h
-on_core_rested text (Err d) (Err f) q r h e = h
+on_core_rested text a b q r h k = grind (arith)
 
 arrive_same : (text : List ℕ) (c : Core) (x : Indexes) (q r : Queue) → Laws text → Twin text c x → SameQueues q r
     → GiveAlike (RestedStates text) (arrive (holding c q)) (arrive (holding (near_core x c) r))
@@ -143,8 +136,7 @@ arrive_same text c x q r laws t e =
     both_then (RestedStates text) (RestedStates text) _ _ _ _ (on_core_rested text _ _ q r gone e)
     (λ a b i j h. of_cores text (λ d f. RestedStates text
     (unroll (Some d.cursor.mark.col) d.cursor.mark (holding d a.queue))
-    (unroll (Some f.cursor.mark.col) f.cursor.mark (holding f b.queue))) a.core b.core h.0.0
-    (λ y u.
+    (unroll (Some f.cursor.mark.col) f.cursor.mark (holding f b.queue))) a.core b.core h.0.0 (λ y u.
     let w = unroll_same text (Some a.core.cursor.mark.col) a.core.cursor.mark
     (near_core y a.core).cursor.mark a.core y a.queue b.queue u h.1 in
     ((w.0, cc), w.2)))
@@ -152,8 +144,7 @@ arrive_same text c x q r laws t e =
 pub fetch_same : (text : List ℕ) (c : Core) (x : Indexes) (q r : Queue) → Laws text → Twin text c x → SameQueues q r
     → GiveAlike (States text) (fetch (holding c q)) (fetch (holding (near_core x c) r))
 unfolding fetch
-fetch_same text c x q r laws t e =
-    both_choose (States text) c.started c.started _ _ _ _ refl
+fetch_same text c x q r laws t e = both_choose (States text) c.started c.started _ _ _ _ refl
     (λ _. both_then (RestedStates text) (States text) (arrive (holding c q))
     (arrive (holding (near_core x c) r)) fetch_here fetch_here (arrive_same text c x q r laws t e)
     (λ a b i j h. of_cores text (λ d f. GiveAlike (States text) (fetch_here (holding d a.queue))
@@ -168,13 +159,7 @@ fetch_same text c x q r laws t e =
 within_same : (text : List ℕ) (limit other : ℕ) (c : Core) (x : Indexes) (q r : Queue) → length text ≤ limit
     → length text ≤ other → Twin text c x → SameQueues q r
     → GiveAlike (States text) (check_limit limit (holding c q)) (check_limit other (holding (near_core x c) r))
-within_same text limit other c x q r short short_too t e =
-    let a : nat_le c.cursor.mark.index limit ≡ true = le-leb c.cursor.mark.index limit
-    (omega (arith, t.ahead.counted, short)) in
-    let l = normal_shorter text in
-    let b : nat_le x.at other ≡ true = le-leb x.at other (omega (arith, t.ahead.counted_too, l, short_too)) in
-    both_choose (States text) (nat_le c.cursor.mark.index limit) (nat_le x.at other) _ _ _ _ (b ∙ sym a)
-    (λ _. ((x, refl, t), e)) (λ _. refl)
+within_same text limit other c x q r short short_too t e = grind (arith, le-leb, normal_shorter, both_choose)
 
 pub settled_same : (text : List ℕ) (c : Core) (x : Indexes) (q r : Queue) → Twin text c x → SameQueues q r
     → GiveAlike (States text) (without_far_key (holding c q)) (without_far_key (holding (near_core x c) r))
@@ -200,28 +185,18 @@ read_same text limit other c x q r laws short short_too t e =
 -- ## Whether a token has to be read
 
 held_key : (place i : ℕ) (l : Level) → is_place place (near_key i l.key) ≡ is_place place l.key
-held_key place i l = by l.key
-  where
-    by : (k : Option _) → is_place place (near_key i k) ≡ is_place place k
-    by None = refl
-    by (Some k) = refl
+held_key place i l = grind arith
 
 held_levels : (place : ℕ) (is : List ℕ) (ls : List Level) → any_holds place (near_levels is ls) ≡ any_holds place ls
 held_levels place is [] = refl
 held_levels place is (l ∷ ls) = cc (held_key place (first is) l, held_levels place (others is) ls)
 
 same_empty : (ps qs : List Place) → SamePlaces ps qs → is_empty_list qs ≡ is_empty_list ps
-same_empty [] [] e = refl
-same_empty (p ∷ ps) (q ∷ qs) e = refl
-same_empty [] (q ∷ qs) e = absurd e
-same_empty (p ∷ ps) [] e = absurd e
+same_empty ps qs e = grind arith
 
 needs_same : (c : Core) (x : Indexes) (q r : Queue) → SameQueues q r
     → needs_token (holding (near_core x c) r) ≡ needs_token (holding c q)
-needs_same c x q r e =
-    let f : Bool → ℕ → Bool = λ b h. not c.ended &&
-    (b || (is_place h (near_key x.key c.level.key) || any_holds h (near_levels x.outer c.outer))) in
-    cc (same_empty q.places r.places e.places, held_key q.handed x.key c.level, held_levels q.handed x.outer c.outer)
+needs_same c x q r e = grind (arith, near_key, near_levels, same_empty, held_key, held_levels)
 
 -- ## What comes
 
@@ -230,18 +205,7 @@ kinds ps = map (λ (t : Piece). t.kind) ps
 
 before_same : (o p : Opening) (t u : Piece) (r q : Remaining) → o ≡ p → t.kind ≡ u.kind → HaveSameKinds r q
     → HaveSameKinds (before_place o t r) (before_place p u q)
-before_same o p t u r q e k h = rw (← e) (by o)
-  where
-    both : t.kind ∷ kinds r.pieces ≡ u.kind ∷ kinds q.pieces
-    both = cc
-
-    by : (w : Opening) → HaveSameKinds (before_place w t r) (before_place w u q)
-    by opening.Nothing = record { kinds = both; refusals = h.refusals }
-    by opening.Key = record { kinds = ap (λ l. tokens.Key ∷ l) both; refusals = h.refusals }
-    by opening.BlockMappingAndKey =
-        record { kinds = cc; refusals = h.refusals }
-    by opening.FlowMappingAndKey =
-        record { kinds = cc; refusals = h.refusals }
+before_same o p t u r q e k h = grind (arith)
 
 hands_same : (text : List ℕ) (c : Core) (x : Indexes) (ps qs : List Place) (n m : ℕ) (go ho : State → Remaining)
     → SamePlaces ps qs → n ≡ m
@@ -264,10 +228,7 @@ remaining_after_same : (text : List ℕ) (a b : Result State Refusal) (go ho : S
     → GiveAlike (States text) a b
     → ((s t : State) → a ≡ Ok s → b ≡ Ok t → States text s t → HaveSameKinds (go s) (ho t))
     → HaveSameKinds (remaining_after a go) (remaining_after b ho)
-remaining_after_same text (Ok s) (Ok t) go ho h k = k s t refl refl h
-remaining_after_same text (Ok s) (Err f) go ho h k = absurd h
-remaining_after_same text (Err d) (Ok t) go ho h k = absurd h
-remaining_after_same text (Err d) (Err f) go ho h k = record { kinds = refl; refusals = ap (λ e. Some e) h }
+remaining_after_same text a b go ho h k = grind (arith)
 
 runs_same : (text : List ℕ) → Laws text → Readers → (limit other : ℕ) → length text ≤ limit → length text ≤ other
     → (n m : ℕ) (c : Core) (x : Indexes) (q r : Queue) → size c < n → size (near_core x c) < m → Twin text c x
@@ -278,9 +239,7 @@ runs_same text laws readers limit other short short_too (suc n) (suc m) c x q r 
     hands_same text c x q.places r.places q.handed r.handed _ _ e.places e.handed
     (λ u v f. choose HaveSameKinds c.ended c.ended _ _ _ _ refl (λ _. record { kinds = refl; refusals = refl })
     (λ going. remaining_after_same text (read limit (holding c u)) (read other (holding (near_core x c) v))
-    (run n limit)
-    (run m other) (read_same text limit other c x u v laws short short_too t f)
-    (λ s w i j h.
+    (run n limit) (run m other) (read_same text limit other c x u v laws short short_too t f) (λ s w i j h.
     let less = less_read readers limit (holding c u) s going i in
     let less_too = less_read readers other (holding (near_core x c) v) w going j in
     of_run s w h.0 h.1 (omega (arith, less, a)) (omega (arith, less_too, b))
@@ -293,8 +252,7 @@ runs_same text laws readers limit other short short_too (suc n) (suc m) c x q r 
         (run m other (holding (near_core y s.core) w.queue))) → HaveSameKinds (run n limit s) (run m other w)
     of_run s w h f l k go =
         let P : Core → Type 0 = λ d. size d < m → HaveSameKinds (run n limit s) (run m other (holding d w.queue)) in
-        let Q : Core → Type 0 = λ d. P d in
-        (subst Q (sym h.1) (λ z. go h.0 h.2 z)) k
+        let Q : Core → Type 0 = λ d. P d in (subst Q (sym h.1) (λ z. go h.0 h.2 z)) k
 
 start_indexes : Indexes
 start_indexes = record { at = 0; key = 0; outer = []; adjacent = 0; comment = 0 }

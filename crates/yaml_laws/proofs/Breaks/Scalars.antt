@@ -4,7 +4,6 @@ use Rattle.std.specs.Prelude.{◌&&◌, ◌||◌, ◌==◌, not, slice_index, na
 use Rattle.saphyr_input.specs.Breaks.{normalized}
 use Rattle.saphyr_input.specs.Classes.{is_break, is_breakz}
 use Rattle.saphyr_values.specs.declared.block.BlockStyle.{BlockStyle}
-use Rattle.saphyr_values.specs.declared.block.BlockStyle.TheVariants as block_style
 use Rattle.saphyr_values.specs.declared.flow.Quote.{Quote}
 use Rattle.saphyr_values.specs.declared.flow.Quote.TheVariants.{Single, Double}
 use Rattle.saphyr_scalar.specs.declared.scalar.position.Marker.{Marker}
@@ -64,8 +63,7 @@ line_same text start i style value c x laws t =
     let p : ℕ → Bool = λ y. cond (in_block c) (is_breakz y || ((y == 58) && (start.line == c.cursor.mark.line)))
     (is_breakz y || (y == 58) || (y == 44) || (y == 93) || (y == 125)) in
     both_choose (SameSteps text) (scalar.goes_on_behind_quotes start c)
-    (scalar.goes_on_behind_quotes (reindexed i start) (near_core x c)) _ _ _ _
-    (first_is p refl c.cursor.rest)
+    (scalar.goes_on_behind_quotes (reindexed i start) (near_core x c)) _ _ _ _ (first_is p refl c.cursor.rest)
     (λ _. both_then (Rested text) (SameSteps text) (pass_gap c) (pass_gap (near_core x c)) _ _
     (gap_rests text c x laws t)
     (λ d e f g h. (
@@ -92,8 +90,7 @@ quotes_same text quote style c x k laws t begins =
     let i = least_column c in
     let s = c.cursor in
     both_then (AreSame text) (SameSteps text) (quoted.quoted quote i s) (quoted.quoted quote i (near x.at s)) _ _
-    ((twin_reads text c x laws t).quoted quote i (no_break_here (mark quote) s k begins))
-    (λ a b e f w.
+    ((twin_reads text c x laws t).quoted quote i (no_break_here (mark quote) s k begins)) (λ a b e f w.
     let v = read_twin text c x a.1 b.1 laws t (laws.forward.quoted quote i s a begins e)
     (laws.forward.quoted quote i (near x.at s) b (begins_near (mark quote) x.at s k begins) f) w.1 in
     let P : List ℕ → Cursor → Type 0 = λ z u.
@@ -119,10 +116,7 @@ single_same text n c x laws t begins =
 -- ## Plain scalars
 
 mark_is : (text : List ℕ) (m k : Marker) → AreMarksAlike text m k → k ≡ reindexed k.index m
-mark_is text m k h = by m.line m.col h.line h.col
-  where
-    by : (l c : ℕ) → l ≡ k.line → c ≡ k.col → k ≡ record { index = k.index; line = l; col = c }
-    by l c e f = rw (e, f)
+mark_is text m k h = grind arith
 
 noted_is : (text : List ℕ) (o p : Option Marker) → AreNoted text o p → (i : ℕ) × (p ≡ near_comment i o)
 noted_is text (Some m) (Some k) h = (k.index, cc (mark_is text m k h))
@@ -139,8 +133,7 @@ read_same text c x laws t =
     both_choose (SameSteps text) (f && nat_lt s.mark.col c.indent) (f && nat_lt s.mark.col c.indent) _ _ _ _ refl
     (λ _. refl)
     (λ _. both_then (ArePlainAlike text) (SameSteps text) (words.plain f c.indent s)
-    (words.plain f c.indent (near x.at s)) _ _ ((twin_reads text c x laws t).plain f c.indent)
-    (λ a b e h w.
+    (words.plain f c.indent (near x.at s)) _ _ ((twin_reads text c x laws t).plain f c.indent) (λ a b e h w.
     let v = read_twin text c x a.3 b.3 laws t (laws.forward.plain f c.indent s a e)
     (laws.forward.plain f c.indent (near x.at s) b h) w.3 in
     let o = noted_is text a.2 b.2 w.2 in
@@ -170,8 +163,7 @@ plain_same text n c x laws t =
 -- ## Block scalars
 
 pub indicator_no_break : (style : BlockStyle) → is_break (block_indicator style) ≡ false
-indicator_no_break block_style.Literal = refl
-indicator_no_break block_style.Folded = refl
+indicator_no_break style = grind arith
 
 read_block_same : (text : List ℕ) (style : BlockStyle) (c : Core) (x : Indexes) → Laws text → Twin text c x
     → Begins (block_indicator style) c.cursor
@@ -183,8 +175,7 @@ read_block_same text style c x laws t begins =
     let k = indicator_no_break style in
     both_then (AreBlocksAlike text) (SameSteps text) (blocks.block_scalar style c.indent s)
     (blocks.block_scalar style c.indent (near x.at s)) _ _
-    ((twin_reads text c x laws t).block_scalar style c.indent (no_break_here d s k begins))
-    (λ a b e h w.
+    ((twin_reads text c x laws t).block_scalar style c.indent (no_break_here d s k begins)) (λ a b e h w.
     let v = read_twin text c x a.2 b.2 laws t (laws.forward.block_scalar style c.indent s a begins e)
     (laws.forward.block_scalar style c.indent (near x.at s) b (begins_near d x.at s k begins) h) w.3 in (
       (going_to b.2.mark.index x, ap (λ u. with_cursor u (near_core x c)) v.0, v.1),
@@ -203,19 +194,13 @@ block_same text style n c x laws t begins =
 -- ## Anchors, aliases and tags
 
 some_text : (t : List ℕ) → Inked t → 0 < length t
-some_text [] k = absurd k
-some_text (c ∷ t) k = omega arith
+some_text t k = grind arith
 
 ink_first : (t : List ℕ) → Inked t → is_break (slice_index t 0) ≡ false
-ink_first [] k = absurd k
-ink_first (c ∷ t) k = k
+ink_first t k = grind arith
 
 near_inked : (i : ℕ) (s : Cursor) → Inked s.rest → 0 < length (normalized s.rest)
-near_inked i s k = by s.rest k
-  where
-    by : (t : List ℕ) → Inked t → 0 < length (normalized t)
-    by [] h = absurd h
-    by (c ∷ t) h = let e = no_return c h in rw e (omega arith)
+near_inked i s k = grind arith
 
 read_name_same : (text : List ℕ) (token_of : List ℕ → Kind) (c : Core) (x : Indexes) → Laws text → Twin text c x
     → Inked c.cursor.rest
@@ -224,8 +209,7 @@ unfolding property.read_name
 read_name_same text token_of c x laws t ink =
     let s = c.cursor in
     both_then (AreSame text) (SameSteps text) (anchors.anchor s) (anchors.anchor (near x.at s)) _ _
-    ((twin_reads text c x laws t).anchor (ink_first s.rest ink))
-    (λ a b e h w.
+    ((twin_reads text c x laws t).anchor (ink_first s.rest ink)) (λ a b e h w.
     let v = read_twin text c x a.1 b.1 laws t (laws.forward.name s a (some_text s.rest ink) e)
     (laws.forward.name (near x.at s) b (near_inked x.at s ink) h) w.1 in (
       (going_to b.1.mark.index x, ap (λ u. with_cursor u (near_core x c)) v.0, v.1),
@@ -247,8 +231,7 @@ read_tag_same text c x laws t begins =
     let s = c.cursor in
     let f = not (in_block c) in
     both_then (AreTagsAlike text) (SameSteps text) (tags.tag f s) (tags.tag f (near x.at s)) _ _
-    ((twin_reads text c x laws t).tag f (no_break_here 33 s refl begins))
-    (λ a b e h w.
+    ((twin_reads text c x laws t).tag f (no_break_here 33 s refl begins)) (λ a b e h w.
     let v = read_twin text c x a.2 b.2 laws t (laws.forward.tag f s a begins e)
     (laws.forward.tag f (near x.at s) b (begins_near 33 x.at s refl begins) h) w.2 in (
       (going_to b.2.mark.index x, ap (λ u. with_cursor u (near_core x c)) v.0, v.1),

@@ -137,14 +137,12 @@ ends_blocks text column m k [] c x q r t e =
     choose (Ended text c.cursor) (is_right_of column c.indent) (is_right_of column c.indent) _ _ _ _ refl
     (λ _. ends_block text m k c x q r t e) (λ _. ((x, refl, t), refl, e))
 ends_blocks text column m k (i ∷ is) c x q r t e =
-    choose (Ended text c.cursor) (is_right_of column c.indent) (is_right_of column c.indent) _ _ _ _ refl
-    (λ _.
+    choose (Ended text c.cursor) (is_right_of column c.indent) (is_right_of column c.indent) _ _ _ _ refl (λ _.
     let w = ends_block text m k c x q r t e in
     let a = end_block m (holding c q) in
     let b = end_block k (holding (near_core x c) r) in
     let h = ends_blocks text column m k is a.core w.0.0 a.queue b.queue w.0.2 w.2 in
-    rw w.0.1 (h.0, h.1 ∙ w.1, h.2))
-    (λ _. ((x, refl, t), refl, e))
+    rw w.0.1 (h.0, h.1 ∙ w.1, h.2)) (λ _. ((x, refl, t), refl, e))
 
 less_twin : (text : List ℕ) (column : Option ℕ) (c : Core) (x : Indexes) → Twin text c x
     → (go_less_deep column (near_core x c) ≡ near_core x (go_less_deep column c)) × Twin text (go_less_deep column c) x
@@ -156,10 +154,7 @@ pub unroll_same : (text : List ℕ) (column : Option ℕ) (m k : Marker) (c : Co
     → Twin text c x → SameQueues q r
     → Ended text c.cursor (unroll column m (holding c q)) (unroll column k (holding (near_core x c) r))
 unfolding unroll
-unroll_same text column m k c x q r t e =
-    choose (Ended text c.cursor) (in_block c) (in_block c) _ _ _ _ refl
-    (λ _.
+unroll_same text column m k c x q r t e = choose (Ended text c.cursor) (in_block c) (in_block c) _ _ _ _ refl (λ _.
     let w = less_twin text column c x t in
     let h = ends_blocks text column m k c.outer_indents (go_less_deep column c) x q r w.1 e in
-    rw w.0 (h.0, h.1 ∙ w.2, h.2))
-    (λ _. ((x, refl, t), refl, e))
+    rw w.0 (h.0, h.1 ∙ w.2, h.2)) (λ _. ((x, refl, t), refl, e))

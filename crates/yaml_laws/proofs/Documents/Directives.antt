@@ -67,9 +67,7 @@ reads_text readers d said t tail kind is tail_is first =
     }
 
 handle_is : (handle : forest.Handle) (t : List ℕ) → IsHandle handle t → t ≡ forest.handle_text handle
-handle_is forest.Primary t h = h
-handle_is forest.Secondary t h = h
-handle_is (forest.Named word) t h = h.2
+handle_is handle t h = grind arith
 
 reads_as : ReaderPromises → (d : forest.Directive) (t : List ℕ) → IsDirective d t → ReadsAs d t
 reads_as readers (Version major minor) t (text, tail, is, tail_is, e) =
@@ -115,8 +113,7 @@ reads_directive {limit = limit} {start = start} {ts = ts} d t o h v =
     let b = percent_sign_begins t h.first in
     let n = next_line (along v.mark (length t)) 1 in
     let text : t ++ (10 ∷ o) ≡ 37 ∷ (b.0 ++ (10 ∷ o)) = ap (λ (x : List ℕ). x ++ (10 ∷ o)) b.1 in
-    let here : past 0 v.mark (t ++ (10 ∷ o)) ≡ (v.mark, t ++ (10 ∷ o)) =
-    ap (past 0 v.mark) text ∙ ap (λ (x : List ℕ). (v.mark, x)) (sym text) in
+    let here = ap (past 0 v.mark) text ∙ ap (λ (x : List ℕ). (v.mark, x)) (sym text) in
     let fetched = λ (blank : Bool) (key : Option Candidate) (allowed : Bool) (ad : ℕ) (ps : List Place).
     ap (λ (x : List ℕ). fetch_here (state_at false (cursor_at x v.mark blank) context.Block key [] allowed ad ps)) text
     ∙ directive_here v.mark (h.end v.mark) blank (b.0 ++ (10 ∷ o)) h.said (cursor_at o n true) key allowed ad ps col
@@ -140,9 +137,8 @@ pub reads_directives : {limit : ℕ} {start : State} → ReaderPromises
 reads_directives {limit = limit} {start = start} readers [] t y ts h v = rw (append-nil ts) (rw h at v)
 reads_directives {limit = limit} {start = start} readers (d ∷ ds) t y ts
     (directive, filler, more, is, filler_is, others, e) v =
-    let text : t ++ y ≡ directive ++ (10 ∷ (filler ++ (more ++ y))) = cc (lines_text directive filler more y) in
     let first = reads_directive d directive (filler ++ (more ++ y)) (reads_as readers d directive is)
-    (lined_so text v) in
+    (lined_so (cc (lines_text directive filler more y)) v) in
     let last = reads_directives readers ds more y (ts ++ directive_token d ∷ []) others
     (passes_filler filler (more ++ y) filler_is first) in
     rw (append_assoc ts (directive_token d ∷ []) (map directive_token ds)) at last

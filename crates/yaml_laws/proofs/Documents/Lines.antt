@@ -1,5 +1,5 @@
 -- Ends of lines, filler and the gaps before a document's node.
-use Rattle.std.proofs.Common.{◌≡◌, ℕ, suc, ◌+◌, Bool, true, List, [], ◌∷◌, ◌++◌, length, slice_index, inl, inr, refl, ap, arith, append_assoc, ◌⊎◌}
+use Rattle.std.proofs.Common.{◌≡◌, ℕ, suc, ◌+◌, Bool, true, List, [], ◌∷◌, ◌++◌, length, slice_index, inl, inr, refl, arith, append_assoc, ◌⊎◌}
 use Rattle.std.proofs.lemmas.Bool.Decides.{nat_tests}
 use Rattle.saphyr_input.specs.Classes.{is_blank, is_blank_or_breakz, is_breakz, line_feed}
 use Rattle.saphyr_scalar.specs.declared.scalar.position.Marker.{Marker}
@@ -33,7 +33,6 @@ pub record EndsWithLine (m : Marker) (t o : List ℕ) : Type 0 where
 
 whole_line : (m : Marker) (rest o : List ℕ) → IsLineRest rest → EndsWithLine m (rest ++ (line_feed ∷ o)) o
 whole_line m rest o h =
-    let c = moved_count m rest (10 ∷ o) in
     record {
       rest = rest;
       more = 10 ∷ o;
@@ -42,7 +41,7 @@ whole_line m rest o h =
       break = inr refl;
       mark = next_line (moved m rest) 1;
       behind = λ column. refl;
-      count = further (moved m rest).index (length o) c;
+      count = further (moved m rest).index (length o) (moved_count m rest (10 ∷ o));
       place = inl refl;
       opens = inl refl;
       lined = λ h. one_lined (moved m rest) 10 (moved_lined m rest h);
@@ -71,8 +70,7 @@ eol m end o (inl h) = rw (h.2, append_assoc h.0 (10 ∷ []) o) (whole_line m h.0
 eol m end o (inr h) = rw h.1 (ends_with_last_line m end h.0)
 
 pub break_ends : (more : List ℕ) → EndsLine more → is_breakz (slice_index more 0) ≡ true
-break_ends more (inl e) = cc
-break_ends more (inr e) = ap is_breakz e
+break_ends more h = grind arith
 
 -- ## What comes first
 

@@ -8,7 +8,7 @@ use Rattle.saphyr_input.specs.Places.{is_document_indicator}
 use Rattle.saphyr_input.specs.declared.input.SkipTabs.{SkipTabs}
 use Rattle.saphyr_input.specs.declared.input.SkipTabs.TheVariants.{Yes}
 use Rattle.saphyr_scalar.specs.declared.scalar.position.Marker.{Marker}
-use Rattle.saphyr_scalar.specs.Views.Cursor.{Cursor, ◌>>=◌, along, separation}
+use Rattle.saphyr_scalar.specs.Views.Cursor.{along, separation}
 use Rattle.saphyr_scalar.proofs.Given.{cursor_at}
 use Rattle.scalar_laws.specs.Spelling.Spaces.{IsEol}
 use Rattle.saphyr_scanner.specs.declared.engine.level.Context.TheVariants as context
@@ -18,8 +18,7 @@ use Rattle.saphyr_scanner.specs.Views.Tokens.{Piece}
 use Rattle.saphyr_scanner.specs.Steps.Queue.{Place, bare_place}
 use Rattle.saphyr_scanner.specs.Steps.Core.{remove_key}
 use Rattle.saphyr_scanner.specs.Steps.Level.{Candidate}
-use Rattle.saphyr_scanner.specs.Steps.Passing.{with_cursor}
-use Rattle.saphyr_scanner.specs.Steps.State.{on_core_with, State}
+use Rattle.saphyr_scanner.specs.Steps.State.{State}
 use Rattle.saphyr_scanner.specs.Steps.Unrolling.{unroll}
 use Rattle.saphyr_scanner.specs.Steps.Document.{end_content, state_behind_marker, end_line, state_behind_document_end, state_behind_byte_order_mark}
 use Rattle.saphyr_scanner.specs.Steps.Fetch.{fetch_here}
@@ -36,7 +35,7 @@ use Rattle.std.proofs.lemmas.Bool.{eq-eqb}
 use Rattle.saphyr_input.specs.Indicators.{full_stop, hyphen}
 use Rattle.saphyr_input.proofs.Basics.Lists.{cons_not_empty}
 use Rattle.saphyr_scanner.proofs.Queues.{place_kinds, place_kinds_append}
-use Rattle.saphyr_scanner.proofs.Root.{core_at, state_at, fetches_stream_end, stream_end_place}
+use Rattle.saphyr_scanner.proofs.Root.{state_at, fetches_stream_end, stream_end_place}
 
 no_greater : (n : ℕ) → n ≡ 0 → nat_lt 0 n ≡ false
 no_greater n h = grind (arith, nat_tests)
@@ -47,8 +46,7 @@ piece_of a b kind = record { span = record { start = a; end = b }; kind = kind }
 
 -- a line's start, where something is left
 pub at_line : (o : List ℕ) (m : Marker) → AtLine o m → ¬ (o ≡ []) → m.col ≡ 0
-at_line o m (inl e) h = e
-at_line o m (inr e) h = absurd (h e)
+at_line o m h k = grind arith
 
 -- ## `---`
 
@@ -130,15 +128,7 @@ pub end_here : (m n : Marker) (blank : Bool) (r more : List ℕ) (found : SkipTa
     ≡ Ok (state_at false (cursor_at more n false) context.Block None [] false ad
     (ps ++ bare_place (piece_of m (along m 3) tokens.DocumentEnd) ∷ []))
 unfolding fetch_here state_behind_document_end state_behind_marker end_content remove_key unroll end_line
-end_here m n blank r more found k a ad ps col first is h =
-    let c = core_at false (cursor_at r (along m 3) false) context.Block None [] false ad in
-    let t = state_at false (cursor_at r (along m 3) false) context.Block None [] false ad
-    (ps ++ bare_place (piece_of m (along m 3) tokens.DocumentEnd) ∷ []) in
-    let u = state_at false (cursor_at more n false) context.Block None [] false ad
-    (ps ++ bare_place (piece_of m (along m 3) tokens.DocumentEnd) ∷ []) in
-    let line : end_line (found, u) ≡ Ok u = rw h refl in
-    rw (eq-eqb m.col 0 col, first)
-    (ap (λ q. on_core_with (q >>= λ (x : SkipTabs × Cursor). Ok (x.0, with_cursor x.1 c)) t >>= end_line) is ∙ line)
+end_here m n blank r more found k a ad ps col first is h = grind arith
 
 pub end_ends : (r : List ℕ) → is_blank_or_breakz (slice_index r 0) ≡ true
     → IsTrue (is_document_indicator (full_stop ∷ full_stop ∷ full_stop ∷ r))
@@ -153,8 +143,7 @@ end_further : (m n : Marker) (end o : List ℕ) → n.index + length o ≡ m.ind
 end_further m n end o e = let all = length-append end o in omega (arith, e, all)
 
 pub reads_end : {limit : ℕ} {start : State} {free opened : Bool} {ts : List Kind} (end o : List ℕ)
-    → StandsLined limit start free opened (full_stop ∷ full_stop ∷ full_stop ∷ (end ++ o)) ts
-    → IsEol end o
+    → StandsLined limit start free opened (full_stop ∷ full_stop ∷ full_stop ∷ (end ++ o)) ts → IsEol end o
     → StandsLined limit start true true o (ts ++ tokens.DocumentEnd ∷ [])
 reads_end {limit = limit} end o v h =
     let r = end ++ o in
@@ -192,8 +181,7 @@ pub reads_stream_end : {limit : ℕ} {start : State} {free : Bool} {P : Marker �
     {ts : List Kind} (v : StandsInStream limit start free P o ts) (m : Marker) → past 0 v.mark o ≡ (m, [])
     → FinishesStream limit start (λ t. t ≡ tokens.StreamEnd ∷ []) ts
 reads_stream_end {limit = limit} {free = free} {o = o} {ts = ts} v m text =
-    let counted : m.index + 0 ≡ v.mark.index + length o = ap (λ (p : Marker × List ℕ). p.0.index + length p.1)
-    (sym text) ∙ past_count 0 v.mark o in
+    let counted = ap (λ (p : Marker × List ℕ). p.0.index + length p.1) (sym text) ∙ past_count 0 v.mark o in
     let low = low_index m.index (length o) v.mark.index limit counted v.count in
     let r = reads_here limit v.comment v.there v.key v.allowed v.adjacent v.places m [] (v.fits ∙ text) (inr (inl refl))
     true (λ blank. cursor_at [] m blank) (λ key. key) false (v.places ++ stream_end_place m ∷ [])
@@ -205,6 +193,5 @@ reads_stream_end {limit = limit} {free = free} {o = o} {ts = ts} v m text =
       over = refl;
       others = tokens.StreamEnd ∷ [];
       told = refl;
-      are = place_kinds_append v.places (stream_end_place m ∷ [])
-          ∙ ap (λ (x : List Kind). x ++ tokens.StreamEnd ∷ []) v.are;
+      are = cc (place_kinds_append v.places (stream_end_place m ∷ []));
     }

@@ -1,6 +1,6 @@
 -- The places between the documents of a text, and a step from one to the next.
 use Rattle.std.proofs.Common.{◌≡◌, ℕ, ◌+◌, ◌≤◌, Bool, true, false, List, [], ◌∷◌, ◌++◌, length, slice_index, Ok, ◌⊎◌, inl, inr, refl, sym, ap, ◌∙◌, arith, subst}
-use Rattle.std.specs.Prelude.{◌-◌, ◌||◌, ◌&&◌, ◌==◌, not, nat_lt, nat_le, Option, Some, None, if◌then◌else◌}
+use Rattle.std.specs.Prelude.{◌||◌, ◌&&◌, ◌==◌, not, Option, Some, None}
 use Rattle.saphyr_input.specs.Classes.{is_blank, is_z}
 use Rattle.saphyr_input.specs.Places.{is_document_indicator, can_be_plain}
 use Rattle.saphyr_scalar.specs.declared.scalar.position.Marker.{Marker}
@@ -10,7 +10,7 @@ use Rattle.saphyr_scanner.specs.Grammar.Tokens.{Kind}
 use Rattle.saphyr_scanner.specs.Views.Tokens.{Piece}
 use Rattle.saphyr_scanner.specs.Steps.Gap.{GapEnd, stop}
 use Rattle.saphyr_scanner.specs.Steps.Queue.{Place, bare_place}
-use Rattle.saphyr_scanner.specs.Steps.Core.{Core, in_block, drop_far_key}
+use Rattle.saphyr_scanner.specs.Steps.Core.{Core, drop_far_key}
 use Rattle.saphyr_scanner.specs.Steps.Level.{Candidate}
 use Rattle.saphyr_scanner.specs.Steps.Passing.{goes_on_behind, pass_gap, check_comment, behind_gap}
 use Rattle.saphyr_scanner.specs.Steps.State.{State, on_core}
@@ -36,32 +36,17 @@ use Rattle.yaml_laws.proofs.Flow.Inks.{mark_no_plain}
 
 pub none_of : (a b c d e g : Bool) → (c ≡ false) ⊎ ((d ≡ false) ⊎ ((e ≡ false) ⊎ (g ≡ false)))
     → (a && b && c && d && e && g) ≡ false
-none_of false b c d e g h = refl
-none_of true false c d e g h = refl
-none_of true true false d e g h = refl
-none_of true true true false e g h = refl
-none_of true true true true false g h = refl
-none_of true true true true true g (inl h) = absurd (cc)
-none_of true true true true true g (inr (inl h)) = absurd (cc)
-none_of true true true true true g (inr (inr (inl h))) = absurd (cc)
-none_of true true true true true g (inr (inr (inr h))) = h
+none_of a b c d e g h = grind arith
 
 pub document_ends_by_test : (m : Marker) (y : List ℕ) → EndsDocument m y
     → (not (is_z (slice_index y 0)) ≡ false)
     ⊎ ((not ((m.col == 0) && is_document_indicator y) ≡ false) ⊎ (can_be_plain false y ≡ false))
-document_ends_by_test m y (inl e) = inl (ap (λ (t : List ℕ). not (is_z (slice_index t 0))) e)
-document_ends_by_test m y (inr (col, inl h)) = inr (inl (rw (eq-eqb m.col 0 col) (ap not h)))
-document_ends_by_test m y (inr (col, inr h)) = inr (inr (mark_no_plain y h))
+document_ends_by_test m y h = grind (arith, eq-eqb, mark_no_plain)
 
 none_goes_on : (comment : Marker) (c : Core) → EndsDocument c.cursor.mark c.cursor.rest
     → goes_on_behind comment c ≡ false
 unfolding goes_on_behind
-none_goes_on comment c h =
-    none_of (in_block c) (c.cursor.mark.line - comment.line == 1)
-    (if c.deeper then nat_lt c.indent c.cursor.mark.col else nat_le c.indent c.cursor.mark.col)
-    (not (is_z (slice_index c.cursor.rest 0)))
-    (not ((c.cursor.mark.col == 0) && is_document_indicator c.cursor.rest)) (can_be_plain false c.cursor.rest)
-    (inr (document_ends_by_test c.cursor.mark c.cursor.rest h))
+none_goes_on comment c h = grind (arith, none_of, document_ends_by_test)
 
 none_less : 0 ≤ 0
 none_less = omega arith
@@ -75,8 +60,7 @@ record PassesNoted (co : Option Marker) (s : Cursor) (k : Option Candidate) (a :
       ≡ Ok (core_at false (cursor_at y m blank) context.Block k [] allowed ad)
 
 passes_noted : (co : Option Marker) (s : Cursor) (k : Option Candidate) (a : Bool) (ad : ℕ) (m : Marker) (y : List ℕ)
-    → past 0 s.mark s.rest ≡ (m, y) → (co ≡ None) ⊎ EndsDocument m y
-    → PassesNoted co s k a ad m y
+    → past 0 s.mark s.rest ≡ (m, y) → (co ≡ None) ⊎ EndsDocument m y → PassesNoted co s k a ad m y
 unfolding pass_gap check_comment stop
 passes_noted None s k a ad m y here h =
     let g = passes_gap (alone 0) s context.Block k [] a ad m y here
@@ -244,25 +228,7 @@ goes_over : {limit : ℕ} {start : State} {was : Bool} {P : Marker → Bool → 
     → (Q : Marker → Bool → Type 0) (n : Marker) (y : List ℕ)
     → past 0 v.mark o ≡ past 0 n y → n.index + length y ≤ limit → Q n (crosses v.there.rest || v.allowed) → IsLined n
     → StandsInStream limit start free Q y ts
-goes_over v free was Q n y fits count line lined =
-    record {
-      there = v.there;
-      key = v.key;
-      allowed = v.allowed;
-      adjacent = v.adjacent;
-      comment = v.comment;
-      places = v.places;
-      mark = n;
-      follows = v.follows;
-      none = λ e. v.none (was e);
-      fits = v.fits ∙ fits;
-      line = line;
-      count = count;
-      are = v.are;
-      quiet = λ e. v.quiet (was e);
-      low = subst (λ (q : Marker × List ℕ). v.adjacent ≤ q.0.index) fits v.low;
-      lined = lined;
-    }
+goes_over v free was Q n y fits count line lined = grind (arith)
 
 -- what holds no token is passed
 pub passes_over : {limit : ℕ} {start : State} {free : Bool} {P : Marker → Bool → Type 0} {o : List ℕ} {ts : List Kind}

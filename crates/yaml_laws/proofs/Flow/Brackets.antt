@@ -23,7 +23,7 @@ use Rattle.saphyr_scanner.specs.Steps.Flow as flow
 use Rattle.saphyr_scanner.specs.Steps.Flow.{close_collection, behind_pair, next_flow_entry}
 use Rattle.saphyr_scanner.specs.Steps.Fetch.{step}
 use Rattle.saphyr_scanner.specs.Limits.{most_open}
-use Rattle.yaml_laws.proofs.InFlow.States.{Around, core_at, state_at, Calm, placed_right, opening_steps_open, open_collection_gives, close_collection_gives, deepened, FlowMoment, moment, moment_with, required_at, moment_in}
+use Rattle.yaml_laws.proofs.InFlow.States.{Around, core_at, state_at, Calm, placed_right, opening_steps_open, open_collection_gives, close_collection_gives, deepened, FlowMoment, moment, moment_with, moment_in}
 use Rattle.yaml_laws.proofs.Flow.States.{IsFresh, Since, moved, past, IsClear, IsInk, IsParted, Known, fresh_key, PassesPiece, FitsAround, StandsBefore, key_behind}
 use Rattle.yaml_laws.proofs.Flow.Places.{moved_index, right_one, clear_here}
 use Rattle.yaml_laws.proofs.Flow.GapSteps.{past_ink, past_low, less_on}
@@ -34,8 +34,6 @@ use Rattle.yaml_laws.proofs.InBlock.Crossings.{fresh_in_flow}
 use Rattle.saphyr_input.proofs.Basics.Numbers.{le_next}
 use Rattle.saphyr_scanner.proofs.Queues.{token_place, place_kinds, queue_of}
 use Rattle.saphyr_scanner.proofs.Levels.{saved, level_of}
-use Rattle.saphyr_scanner.specs.declared.engine.level.Context.TheVariants as context
-use Rattle.std.proofs.lemmas.Bool.{true≢false}
 use Rattle.saphyr_scanner.proofs.Steps.Choice.{comma_begins}
 use Rattle.yaml_laws.specs.Grammar.FlowNodes.{IsComma}
 use Rattle.scalar_laws.proofs.Breaks.Sides.{no_feed}
@@ -50,18 +48,10 @@ pub record IsTokenMark (c : ℕ) : Type 0 where
   pub feed : (c == line_feed) ≡ false
 
 pub token_mark : (c : ℕ) → is_start c ≡ true → IsTokenMark c
-token_mark c h =
-    let ink = start_ink c h in
-    record { ink = ink; nul = start_nul c h; directive = start_directive c h; feed = no_feed c ink.break }
+token_mark c h = grind (arith, start_ink, start_nul, start_directive, no_feed)
 
 pub mark_begins : (m : Marker) (c : ℕ) (o : List ℕ) → IsTokenMark c → IsClear m (c ∷ []) o → BeginsToken m (c ∷ o)
-mark_begins m c o h clear =
-    record {
-      nul = h.nul;
-      byte_order_mark = h.ink.byte_order_mark;
-      directive = h.directive;
-      marker = clear_here m c [] o clear;
-    }
+mark_begins m c o h clear = search (clear_here)
 
 pub mark_moved : (m : Marker) (c : ℕ) → IsTokenMark c → along m 1 ≡ moved m (c ∷ [])
 mark_moved m c h = rw h.feed refl
@@ -133,14 +123,11 @@ mark_places false m e kind = token_place m e kind ∷ []
 
 pub mark_puts : (ends : Bool) (ps : List Place) (m e : Marker) (kind : Kind)
     → perform (behind_pair ends m (from_to m e kind)) (queue_of ps) ≡ queue_of (ps ++ mark_places ends m e kind)
-mark_puts true ps m e kind =
-    ap queue_of (append_assoc ps (bare_place (empty_piece m tokens.FlowMappingEnd) ∷ []) (token_place m e kind ∷ []))
-mark_puts false ps m e kind = refl
+mark_puts ends ps m e kind = grind (arith, queue_of, append_assoc, token_place)
 
 pub mark_kinds : (ends : Bool) (m e : Marker) (kind : Kind)
     → place_kinds (mark_places ends m e kind) ≡ pending ends ++ kind ∷ []
-mark_kinds true m e kind = refl
-mark_kinds false m e kind = refl
+mark_kinds ends m e kind = grind arith
 
 -- After a collection the key is that of the level around it. Where blanks alone come before a colon, it may be at
 -- once.
@@ -162,8 +149,7 @@ all_blank (c ∷ cs) h = by_first (is_blank c) (list_all is_blank cs) refl h (λ
   where
     by_first : (p q : Bool) → is_blank c ≡ p → IsTrue (p && q) → (IsTrue q → AreIn is_blank cs)
         → AreIn is_blank (c ∷ cs)
-    by_first true q e h f = (e, f h)
-    by_first false q e h f = absurd (cc)
+    by_first p q e h f = grind arith
 
 abbrev reached : Marker → Result (SkipTabs × Cursor) Refusal → Marker
 reached m (Ok x) = x.1.mark
@@ -178,15 +164,11 @@ one_place indent s found there is w more text parts right blank =
     ap (reached s.mark) (sym is ∙ p.is) ∙ (p.near (all_blank w blank)).1
 
 either : (b : Bool) (n k bound : ℕ) → n ≤ bound → k ≤ bound → cond b n k ≤ bound
-either true n k bound h g = h
-either false n k bound h g = g
+either b n k bound h g = grind arith
 
 one_behind : (indent : ℕ) (m : Marker) (c : ℕ) (o : List ℕ) (ad : ℕ) → ad ≤ m.index
     → ad ≤ (past indent (moved m (c ∷ [])) o).0.index
-one_behind indent m c o ad low =
-    let on = one_on m c ad low in
-    let behind = past_low indent (moved m (c ∷ [])) o in
-    omega (arith, on, behind)
+one_behind indent m c o ad low = grind (arith, one_on, past_low, moved)
 
 pub close_passes : (around : Around) (y : Context) → is_block y ≡ false → (ends : Bool) (kind : Kind) (ch : ℕ)
     → IsTokenMark ch
@@ -213,10 +195,8 @@ close_passes around y flows ends kind ch mark begins m o fits found there is lan
     let new = mark_places ends m there.mark kind in
     let next = moment there x j ls false (cond (is_block x) now.adjacent there.mark.index) now.places in
     let came = step_comes around inside m (ch ∷ o) v (mark_begins m ch o mark fits.clear) None (moment_with new next)
-    (behind_pair ends m (from_to m there.mark kind)) (λ d. d)
-    stepped (mark_puts ends now.places m there.mark kind)
+    (behind_pair ends m (from_to m there.mark kind)) (λ d. d) stepped (mark_puts ends now.places m there.mark kind)
     (within_index around.indent around.limit there (along m 1) o lands (omega (arith, below))) in
-    let here = mark_moved m ch mark in
     step_passes next new (moved m (ch ∷ [])) o (pending ends ++ kind ∷ [])
     (closed_collection around.indent x j (moved m (ch ∷ [])) o) came
     (right_one around.indent m ch mark.feed fits.right) (cc) fresh (mark_kinds ends m there.mark kind) (record {
@@ -226,17 +206,12 @@ close_passes around y flows ends kind ch mark begins m o fits found there is lan
           rw e (cc (one_place around.indent (cursor_at o (along m 1) false) found there is w more text parts
           (le_next around.indent m.col fits.right) blank));
       low = either (is_block x) now.adjacent there.mark.index (past around.indent (moved m (ch ∷ [])) o).0.index
-          (one_behind around.indent m ch o now.adjacent before) (rw (lands, here) at
+          (one_behind around.indent m ch o now.adjacent before) (rw (lands, mark_moved m ch mark) at
           (past_low around.indent there.mark there.rest));
     })
 
 in_flow : (y : Context) → is_block y ≡ false → is_block (behind_entry y) ≡ false
-in_flow context.Block e = absurd (true≢false e)
-in_flow context.FlowSequence e = refl
-in_flow context.FlowMapping e = refl
-in_flow context.FlowPair e = refl
-in_flow context.ExplicitFlowPair e = refl
-in_flow context.MarkedFlowPair e = refl
+in_flow y e = grind arith
 
 next_entry_gives : (around : Around) (d : Bool) (o : List ℕ) (m : Marker) (b : Bool) (y : Context)
     (k : Option Candidate)
@@ -246,23 +221,14 @@ next_entry_gives : (around : Around) (d : Bool) (o : List ℕ) (m : Marker) (b :
     ≡ completed_step (behind_pair (ends_pair y) m (from_to m there.mark tokens.FlowEntry))
     (core_at around d there (behind_entry y) k ls true ad)
 unfolding next_flow_entry
-next_entry_gives around d o m b y k ls a ad flows found there is =
-    let c : Core = record (core_at around d (cursor_at o (along m 1) false) (behind_entry y) k ls true ad)
-    { required = required_at around y } in
-    let same : required_at around y ≡ required_at around (behind_entry y) = cc (in_flow y flows) in
-    cc
+next_entry_gives around d o m b y k ls a ad flows found there is = grind arith
 
 removes : (around : Around) (d : Bool) (o : List ℕ) (m : Marker) (b : Bool) (y : Context) (k : Option Candidate)
     (ls : List Level) (a : Bool) (ad : ℕ) → is_block y ≡ false
     → flow.flow_entry_steps (core_at around d (cursor_at (comma ∷ o) m b) y k ls a ad)
     ≡ next_flow_entry (core_at around d (cursor_at (comma ∷ o) m b) y None ls a ad)
 unfolding flow.flow_entry_steps remove_key
-removes around d o m b context.Block k ls a ad e = absurd (true≢false e)
-removes around d o m b context.FlowSequence k ls a ad e = refl
-removes around d o m b context.FlowMapping k ls a ad e = refl
-removes around d o m b context.FlowPair k ls a ad e = refl
-removes around d o m b context.ExplicitFlowPair k ls a ad e = refl
-removes around d o m b context.MarkedFlowPair k ls a ad e = refl
+removes around d o m b y k ls a ad e = grind arith
 
 comma_is_mark : IsTokenMark 44
 comma_is_mark = record {
@@ -292,8 +258,7 @@ comma_passes around y flows m o fits parted now before text =
     let new = mark_places (ends_pair y) m p.there.mark tokens.FlowEntry in
     let next = moment p.there (behind_entry y) None now.outer true now.adjacent now.places in
     let came = step_comes around (moment_in y now) m (44 ∷ o) v (mark_begins m 44 o comma_is_mark fits.clear) None
-    (moment_with new next) (behind_pair (ends_pair y) m
-    (from_to m p.there.mark tokens.FlowEntry)) (λ d. d) stepped
+    (moment_with new next) (behind_pair (ends_pair y) m (from_to m p.there.mark tokens.FlowEntry)) (λ d. d) stepped
     (mark_puts (ends_pair y) now.places m p.there.mark tokens.FlowEntry)
     (within_index around.indent around.limit p.there (along m 1) o p.lands (omega (arith, below))) in
     step_passes next new (moved m (44 ∷ [])) o (pending (ends_pair y)
@@ -322,8 +287,6 @@ comma_behind around y z flows back m comma o (separation, parts, e) fits b now b
     let q = knowing p (fresh_key (moved m (44 ∷ separation)))
     (p.knows.0, p.knows.1, less_on p.adjacent (moved m (44 ∷ [])) separation p.knows.2) in
     let start = state_at around (moment_in y now) in
-    let ts = pending (ends_pair y) ++ tokens.FlowEntry ∷ [] in
     let r = subst (λ (t : List ℕ). PassesPiece around start (fresh_key (moved m t)) (behind_entry y) now.outer
-    now.places
-    (moved m t) o ts) (sym e) q in
+    now.places (moved m t) o (pending (ends_pair y) ++ tokens.FlowEntry ∷ [])) (sym e) q in
     rw back at r

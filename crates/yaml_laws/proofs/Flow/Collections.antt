@@ -218,8 +218,7 @@ brackets_pass around Is b are m w inside o fits parts parted now low calm before
     let opening_fits = fits_before m (b.opening ∷ []) (w ++ ((inside ++ close) ++ o)) (w ++ (inside ++ (b.closing ∷ o)))
     (ap (λ (t : List ℕ). w ++ t) follow) first in
     let here = moved m (b.opening ∷ w) in
-    let texts : bracket_text b w inside ++ o ≡ b.opening ∷ (w ++ (inside ++ (b.closing ∷ o))) =
-    append_assoc (b.opening ∷ w) (inside ++ close) o ∙ ap (λ (t : List ℕ). b.opening ∷ (w ++ t)) follow in
+    let texts = append_assoc (b.opening ∷ w) (inside ++ close) o ∙ ap (λ (t : List ℕ). b.opening ∷ (w ++ t)) follow in
     let opened = open_passes around b.context are.flows b.opens b.opening (token_mark b.opening are.start) are.begins m
     (w ++ (inside ++ (b.closing ∷ o))) opening_fits parted
     now low calm before (text ∙ ap (past around.indent m) texts) in
@@ -254,8 +253,7 @@ brackets_pass around Is b are m w inside o fits parts parted now low calm before
     } in
     let all = join q c (after_node around.indent now.context kept (list_all is_blank) end o) known in
     let start = state_at around now in
-    let place : end ≡ moved m (bracket_text b w inside) =
-    sym (moved_append m (b.opening ∷ w) (inside ++ close) ∙ moved_append here inside close) in
+    let place = sym (moved_append m (b.opening ∷ w) (inside ++ close) ∙ moved_append here inside close) in
     let inner = r.tokens ++ pending (ends_pair r.inside) in
     record {
       tokens = b.opens ∷ (inner ++ b.closes ∷ []);

@@ -1,5 +1,5 @@
 -- The content of a scalar in flow style is passed, after its properties or without any.
-use Rattle.std.proofs.Common.{◌≡◌, ℕ, ◌≤◌, false, List, [], ◌∷◌, ◌++◌, slice_index, refl, ap, ◌∙◌, arith, IsTrue, inl, inr}
+use Rattle.std.proofs.Common.{◌≡◌, ℕ, ◌≤◌, false, List, [], ◌∷◌, ◌++◌, slice_index, refl, ap, ◌∙◌, arith, IsTrue}
 use Rattle.std.specs.Prelude.{◌==◌, not, None}
 use Rattle.std.proofs.lemmas.Bool.Decides.{nat_tests}
 use Rattle.saphyr_input.specs.Classes.{is_blank_or_breakz}
@@ -35,11 +35,7 @@ white_apart : (c : ℕ) → IsTrue (is_blank_or_breakz c) → (c == apostrophe) 
 white_apart c h = grind (arith, nat_tests)
 
 node_apart : (node : Node) (c : ℕ) → EndsHere node c → (c == apostrophe) ≡ false
-node_apart node c (inl h) = white_apart c h
-node_apart node c (inr (inl e)) = rw e refl
-node_apart node c (inr (inr (inl e))) = rw e refl
-node_apart node c (inr (inr (inr (inl e)))) = rw e refl
-node_apart node c (inr (inr (inr (inr h)))) = rw h.0 refl
+node_apart node c h = grind arith
 
 -- the place of the next token, where that is a colon
 colon_place : (indent : ℕ) (m : Marker) (o separation more : List ℕ) → o ≡ separation ++ (colon ∷ more)
@@ -98,8 +94,7 @@ quotes_pass reads around node quote value t o m now h fits follows low text =
       are = refl;
       comment = None;
       none = λ _. refl;
-      passes = knowing q
-          (after_node around.indent now.context (keeping now m t) (allows_adjacent node) end o)
+      passes = knowing q (after_node around.indent now.context (keeping now m t) (allows_adjacent node) end o)
           (record {
             piece = q.knows.piece;
             others = [];
@@ -141,8 +136,7 @@ key_content_passes reads around p value t r m now stands h =
 pub content_passes : ReaderPromises → (around : Around) (p : Properties) (style : Style) (value t o : List ℕ)
     (m : Marker) (now : FlowMoment) → IsFlowScalar style value (not (is_block now.context)) around.indent t
     → PassesContent around (Scalar p style value) style value t o m now
-content_passes reads around p Plain value t o m now h =
-    plains_pass h.1 (plain_passes reads around t o m now h.0)
+content_passes reads around p Plain value t o m now h = plains_pass h.1 (plain_passes reads around t o m now h.0)
     (λ fits. plain_right (not (is_block now.context)) around.indent m t o h.0 fits.clear fits.right)
 content_passes reads around p SingleQuoted value t o m now h =
     quotes_pass reads around (Scalar p SingleQuoted value) Single value t o m now h

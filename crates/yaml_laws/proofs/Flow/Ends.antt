@@ -2,7 +2,7 @@
 use Rattle.std.proofs.Common.{◌≡◌, ◌≢◌, ℕ, Bool, true, false, List, [], ◌∷◌, ◌++◌, slice_index, refl, sym, arith, subst, append_assoc, IsTrue, ◌⊎◌, inl, inr}
 use Rattle.std.specs.Prelude.{◌||◌, ◌&&◌, not}
 use Rattle.std.proofs.lemmas.Bool.Decides.{nat_tests}
-use Rattle.saphyr_input.specs.Classes.{is_blank, is_breakz, is_blank_or_breakz, is_bom, is_flow, is_anchor_char, line_feed}
+use Rattle.saphyr_input.specs.Classes.{is_blank, is_blank_or_breakz, is_flow, is_anchor_char, line_feed}
 use Rattle.saphyr_input.specs.Places.{is_blank_or_break}
 use Rattle.saphyr_scalar.specs.declared.scalar.position.Marker.{Marker}
 use Rattle.saphyr_scalar.specs.Reading.BlockLines.{spaces}
@@ -33,9 +33,7 @@ blanks_white (c ∷ cs) h = blank_white c h.0
 -- a comment comes after white space alone
 behind_white : (w comment more : List ℕ) → BeginsWhite w → IsCommentBehind w comment → BeginsWhite more
     → BeginsWhite (w ++ (comment ++ more))
-behind_white (c ∷ cs) comment more h k g = h
-behind_white [] comment more h (inl e) g = rw e g
-behind_white [] comment more h (inr k) g = absurd (k.0 refl)
+behind_white w comment more h k e = grind (arith)
 
 two_white : (a b : List ℕ) → BeginsWhite a → BeginsWhite b → BeginsWhite (a ++ b)
 two_white [] b h k = k
@@ -61,8 +59,7 @@ white_breakz : (c : ℕ) → IsTrue (is_blank_or_break c) → IsTrue (is_blank_o
 white_breakz c h = grind (arith, nat_tests)
 
 pub first_white : (w : List ℕ) → BeginsWhite w → IsTrue (is_blank_or_breakz (slice_index w 0))
-first_white [] h = refl
-first_white (c ∷ cs) h = white_breakz c h
+first_white w h = grind arith
 
 -- after a document's node: a blank, a break or the end
 pub root_first : (around : Around) (m : Marker) (o : List ℕ) → IsBehindRoot around m o
@@ -83,8 +80,7 @@ pub ends_behind_separation : (indent : ℕ) (w y : List ℕ) → IsSeparation in
 ends_behind_separation indent w y h some = by_first w some (separation_white indent w h)
   where
     by_first : (w : List ℕ) → w ≢ [] → BeginsWhite w → IsTrue (is_blank_or_breakz (slice_index (w ++ y) 0))
-    by_first [] some k = absurd (some refl)
-    by_first (c ∷ cs) some k = white_breakz c k
+    by_first w some k = grind arith
 
 -- the character right after a node inside flow
 abbrev pub EndsHere : Node → ℕ → Type 0
@@ -96,8 +92,7 @@ pub behind_node_first : (indent : ℕ) (node : Node) (o : List ℕ) → IsBehind
 behind_node_first indent node o h = by_separation h.separation h.is h.parts h.ends
   where
     colon : IsBeforeColon node [] → IsTrue (not (needs_separation node))
-    colon (inl some) = absurd (some refl)
-    colon (inr k) = k
+    colon h = grind arith
 
     ends : EndsNode node [] h.first h.others → EndsHere node h.first
     ends (inl e) = inr (inl e)
@@ -114,17 +109,11 @@ behind_node_first indent node o h = by_separation h.separation h.is h.parts h.en
 
 ends_none : (blank breakz mark flow in_flow : Bool) → ((blank || breakz) || (in_flow && flow)) ≡ true
     → ((((not breakz && not mark) && not blank) && not flow)) ≡ false
-ends_none blank true mark flow in_flow e = refl
-ends_none blank false true flow in_flow e = refl
-ends_none true false false flow in_flow e = refl
-ends_none false false false true in_flow e = refl
-ends_none false false false false true e = absurd (cc)
-ends_none false false false false false e = absurd (cc)
+ends_none blank breakz mark flow in_flow e = grind arith
 
 -- what ends a tag ends a name
 pub tag_ends_name : (in_flow : Bool) (o : List ℕ) → EndsTag in_flow o → is_anchor_char (slice_index o 0) ≡ false
-tag_ends_name in_flow o h =
-    let c = slice_index o 0 in ends_none (is_blank c) (is_breakz c) (is_bom c) (is_flow c) in_flow h
+tag_ends_name in_flow o h = grind (arith, nat_tests)
 
 pub white_ends_tag : (in_flow : Bool) (o : List ℕ) → IsTrue (is_blank_or_breakz (slice_index o 0)) → EndsTag in_flow o
 white_ends_tag in_flow o h = or_left (is_blank_or_breakz (slice_index o 0)) (in_flow && is_flow (slice_index o 0)) h
@@ -135,15 +124,10 @@ pub node_ends_tag : (indent : ℕ) (node : Node) (o : List ℕ) → IsTrue (need
 node_ends_tag indent node o needs h = by_first (slice_index o 0) (behind_node_first indent node o h)
   where
     never : (b : Bool) → b ≡ true → IsTrue (not b) → ⊥
-    never true e k = absurd (cc)
-    never false e k = cc
+    never b e k = grind arith
 
     by_first : (c : ℕ) → EndsHere node c → IsTrue (is_blank_or_breakz c || (true && is_flow c))
-    by_first c (inl k) = or_left (is_blank_or_breakz c) (true && is_flow c) k
-    by_first c (inr (inl e)) = rw e refl
-    by_first c (inr (inr (inl e))) = rw e refl
-    by_first c (inr (inr (inr (inl e)))) = rw e refl
-    by_first c (inr (inr (inr (inr e)))) = absurd (never (needs_separation node) needs e.1)
+    by_first c h = grind arith
 
 -- ## After a node, wherever it is
 

@@ -15,7 +15,7 @@ use Rattle.saphyr_scanner.specs.Steps.Level.{Level}
 use Rattle.saphyr_scanner.specs.Steps.State.{State}
 use Rattle.saphyr_scanner.specs.Grammar.Forest.{no_properties, Node, Map, NoPair, MorePairs}
 use Rattle.saphyr_scanner.specs.Limits.{most_open}
-use Rattle.yaml_laws.specs.Grammar.FlowNodes.{IsOnLine, IsKeyAndValue, IsBeforeSeparation, IsPairText, IsPair, IsSinglePairText, IsSinglePair, IsFlowNode}
+use Rattle.yaml_laws.specs.Grammar.FlowNodes.{IsOnLine, IsBeforeSeparation, IsPairText, IsPair, IsSinglePairText, IsSinglePair, IsFlowNode}
 use Rattle.yaml_laws.proofs.InFlow.States.{Around, state_at, FlowMoment, moment_in}
 use Rattle.yaml_laws.proofs.Flow.States.{FitsAround, moved, past, PassesPiece, ended, PassesNode, StandsBefore}
 use Rattle.yaml_laws.proofs.Flow.Places.{moved_append, moved_along}
@@ -56,8 +56,7 @@ ended_behind {around = around} m w o parts p =
 before_separation : {around : Around} {inner : Context} (room : ℕ) {Text : List ℕ → Type 0} {Is : List Kind → Type 0}
     → PassesText around inner room Text Is → PassesEntry around inner room (IsBeforeSeparation Text around.indent) Is
 before_separation {around} {inner} room {Is = Is} passes m t c cs fits ends (piece, w, h, parts, e) now no_candidate
-    fresh low
-    before text =
+    fresh low before text =
     let f = fits_front m piece w (c ∷ cs) (fits_so m t (piece ++ w) (c ∷ cs) e fits) in
     let texts = ap (λ (x : List ℕ). x ++ (c ∷ cs)) e ∙ append_assoc piece w (c ∷ cs) in
     let p = passes m piece (w ++ (c ∷ cs)) f (wider_entry around.indent w cs c parts ends) h now no_candidate fresh low
@@ -190,15 +189,12 @@ single_text_passes : {around : Around} (room : ℕ) (key value : Node) → Passe
     around.indent) (IsEntry (single key value))
 single_text_passes {around} room key value K V m t o fits ends (inl (node, blanks, colon, h, line, are, apart, c, e))
     now no_candidate fresh low before text =
-    let pair : IsKeyAndValue key value (IsFlowNode room key true around.indent)
-    (IsFlowNode room value true around.indent) around.indent t =
-    (node, blanks, colon, h, ([], blanks, ([], tt, refl), are, refl), apart, c, e) in
-    let p = key_passes room key value K V context.FlowSequence refl m t o fits ends pair
+    let p = key_passes room key value K V context.FlowSequence refl m t o fits ends
+    ((node, blanks, colon, h, ([], blanks, ([], tt, refl), are, refl), apart, c, e))
     (λ _. same_line m node blanks line are) now fresh low before text in
     let ks = p.are.0 in
     let vs = p.are.1 in
-    let told : PairInBraces key value (tokens.Key ∷ (ks ++ tokens.Value ∷ vs)) =
-    inl (tokens.Key ∷ ks, tokens.Value ∷ vs, (ks, inr p.are.2, refl), (vs, p.are.3, refl), refl) in
+    let told = inl (tokens.Key ∷ ks, tokens.Value ∷ vs, (ks, inr p.are.2, refl), (vs, p.are.3, refl), refl) in
     let all = subst (λ (x : List Kind). IsEntry (single key value) (x ++ tokens.FlowMappingEnd ∷ [])) (sym p.are.4)
     (between key value (tokens.Key ∷ (ks ++ tokens.Value ∷ vs)) told) in
     record { inside = context.FlowPair; flows = refl; back = refl; tokens = p.tokens; are = all; passes = p.passes }
@@ -206,9 +202,8 @@ single_text_passes {around} room key value K V m t o fits ends (inr (inl h)) now
     let p = alone_passes room key value V context.FlowSequence refl m t o fits ends h now no_candidate low
     before text in
     let vs = p.are.0 in
-    let told : PairInBraces key value (tokens.Value ∷ vs) = inr (inr (inl (h.0, (vs, p.are.1, refl)))) in
     let all = subst (λ (x : List Kind). IsEntry (single key value) (x ++ tokens.FlowMappingEnd ∷ [])) (sym p.are.2)
-    (between key value (tokens.Value ∷ vs) told) in
+    (between key value (tokens.Value ∷ vs) (inr (inr (inl (h.0, (vs, p.are.1, refl)))))) in
     record { inside = context.FlowPair; flows = refl; back = refl; tokens = p.tokens; are = all; passes = p.passes }
 single_text_passes {around} room key value K V m t o fits ends (inr (inr h)) now no_candidate fresh low before text =
     let p = explicit_passes room key value K V context.FlowSequence context.ExplicitFlowPair in_brackets m t o fits ends

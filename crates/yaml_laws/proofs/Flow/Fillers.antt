@@ -1,6 +1,6 @@
 -- Separation, filler and the ends of lines are passed between two tokens.
 use Rattle.std.proofs.Common.{◌≡◌, ℕ, zero, suc, ◌+◌, ◌≤◌, Bool, true, false, List, [], ◌∷◌, ◌++◌, slice_index, refl, sym, ap, ◌∙◌, arith, subst, append_assoc, append-nil, ◌⊎◌, inl, inr}
-use Rattle.std.specs.Prelude.{◌||◌, ◌&&◌, ◌==◌, nat_lt}
+use Rattle.std.specs.Prelude.{◌||◌, ◌&&◌, ◌==◌}
 use Rattle.std.proofs.lemmas.Bool.Decides.{nat_tests}
 use Rattle.saphyr_input.specs.Classes.{is_blank, is_break, is_yaml_non_break, line_feed, carriage_return}
 use Rattle.saphyr_scalar.specs.declared.scalar.position.Marker.{Marker}
@@ -30,18 +30,11 @@ abbrev pub IsPastRight : ℕ → List ℕ → Type 0
 IsPastRight column w = (m : Marker) → column ≤ m.col → PassesRight column m w
 
 pub both_past : (column : ℕ) (a b : List ℕ) → IsPast column a → IsPast column b → IsPast column (a ++ b)
-both_past column a b f g m y =
-    ap (past column m) (append_assoc a b y) ∙ f m (b ++ y) ∙ g (moved m a) y
-    ∙ ap (λ (k : Marker). past column k y) (sym (moved_append m a b))
+both_past column a b f g m y = cc (append_assoc a b y, f m (b ++ y), g (moved m a) y, moved_append m a b)
 
 pub both_right : (column : ℕ) (m : Marker) (a b : List ℕ) → PassesRight column m a → PassesRight column (moved m a) b
     → PassesRight column m (a ++ b)
-both_right column m a b f g =
-    record {
-      right = subst (λ (k : Marker). column ≤ k.col) (sym (moved_append m a b)) g.right;
-      is = λ y. ap (past column m) (append_assoc a b y) ∙ f.is (b ++ y) ∙ g.is y
-          ∙ ap (λ (k : Marker). past column k y) (sym (moved_append m a b));
-    }
+both_right column m a b f g = grind (arith, moved_append, past, append_assoc)
 
 pub many_past : (column : ℕ) (P : List ℕ → Type 0) → ((w : List ℕ) → P w → IsPast column w) → (w : List ℕ) → AreMany P w
     → IsPast column w
@@ -64,14 +57,7 @@ pub no_feed : (c : ℕ) → is_blank c ≡ true → (c == line_feed) ≡ false
 no_feed c h = grind (arith, nat_tests)
 
 pub right_tab : (column : ℕ) (m : Marker) (c : ℕ) → column ≤ m.col → is_left_tab column m c ≡ false
-right_tab column m c low = further (c == 9) (no_less m.col column low)
-  where
-    no_less : (a b : ℕ) → b ≤ a → nat_lt a b ≡ false
-    no_less a b h = grind (arith, nat_tests)
-
-    further : (q : Bool) → nat_lt m.col column ≡ false → (q && nat_lt m.col column) ≡ false
-    further true e = e
-    further false e = refl
+right_tab column m c low = grind arith
 
 pub blanks_past : (column : ℕ) (w : List ℕ) → AreIn is_blank w → IsPastRight column w
 blanks_past column [] h m low = record { right = low; is = λ y. refl }
@@ -119,15 +105,11 @@ words_end column m (c ∷ cs) more h ends =
 
 pub comment_past : (column : ℕ) (m : Marker) (comment more : List ℕ) → IsComment comment → EndsLine more
     → past column m (comment ++ more) ≡ past column (moved m comment) more
-comment_past column m comment more h ends =
-    subst (λ (w : List ℕ). past column m (w ++ more) ≡ past column (moved m w) more) (sym h.2)
-    (words_end column (along m 1) h.0 more h.1 ends)
+comment_past column m comment more h ends = grind (arith, past, moved, words_end)
 
 maybe_comment_past : (column : ℕ) (m : Marker) (comment more : List ℕ) → ((comment ≡ []) ⊎ IsComment comment)
     → EndsLine more → past column m (comment ++ more) ≡ past column (moved m comment) more
-maybe_comment_past column m comment more (inl e) ends =
-    subst (λ (w : List ℕ). past column m (w ++ more) ≡ past column (moved m w) more) (sym e) refl
-maybe_comment_past column m comment more (inr h) ends = comment_past column m comment more h ends
+maybe_comment_past column m comment more h k = grind (arith, past, moved, comment_past)
 
 -- blanks and maybe a comment, up to a line's end
 pub front_past : (column : ℕ) (m : Marker) (t front comment more : List ℕ)
@@ -165,10 +147,7 @@ ends_rest (c ∷ cs) (inr e) = subst (λ (z : ℕ). is_filler_rest (z ∷ cs) �
 
 comment_rest : (comment more : List ℕ) → ((comment ≡ []) ⊎ IsComment comment) → EndsLine more
     → is_filler_rest (comment ++ more) ≡ true
-comment_rest comment more (inl e) ends =
-    ap (λ (x : List ℕ). is_filler_rest (x ++ more)) e ∙ ends_rest more ends
-comment_rest comment more (inr (words, are, is)) ends =
-    ap (λ (x : List ℕ). is_filler_rest (x ++ more)) is ∙ words_rest words more are ends
+comment_rest comment more h k = grind (arith, is_filler_rest, ends_rest, words_rest)
 
 blanks_rest : (w z : List ℕ) → AreIn is_blank w → is_filler_rest z ≡ true → is_filler_rest (w ++ z) ≡ true
 blanks_rest [] z h k = k
@@ -181,28 +160,20 @@ none_stops column m c cs h = rw h (and_false (is_left_tab column m c))
 bare_past : (column : ℕ) (m : Marker) (w z : List ℕ) → AreIn is_blank w → is_filler_rest z ≡ true
     → past column m (w ++ z) ≡ past column (moved m w) z
 bare_past column m [] z h k = refl
-bare_past column m (c ∷ cs) z h k =
-    rw (none_stops column m c (cs ++ z) (blanks_rest cs z h.1 k), h.0, no_feed c h.0)
+bare_past column m (c ∷ cs) z h k = rw (none_stops column m c (cs ++ z) (blanks_rest cs z h.1 k), h.0, no_feed c h.0)
     (bare_past column (along m 1) cs z h.1 k)
 
 pub filler_text_past : (column : ℕ) (m : Marker) (t more : List ℕ) → IsFillerText t → EndsLine more
     → past column m (t ++ more) ≡ past column (moved m t) more
 filler_text_past column m t more (front, comment, are, k, is) ends =
-    subst (λ (w : List ℕ). past column m (w ++ more) ≡ past column (moved m w) more) (sym is)
-    (ap (past column m) (append_assoc front comment more)
-    ∙ bare_past column m front (comment ++ more) are (comment_rest comment more k ends)
-    ∙ maybe_comment_past column (moved m front) comment more k ends
-    ∙ ap (λ (n : Marker). past column n more) (sym (moved_append m front comment)))
+    grind (arith, past, moved, append_assoc, bare_past, comment_rest, maybe_comment_past, moved_append)
 
 -- ## Whole lines
 
 line_past : (column : ℕ) (t w : List ℕ)
     → ((m : Marker) (more : List ℕ) → EndsLine more → past column m (t ++ more) ≡ past column (moved m t) more)
     → w ≡ t ++ (line_feed ∷ []) → IsPast column w
-line_past column t w h is =
-    subst (IsPast column) (sym is)
-    (λ m y. ap (past column m) (append_assoc t (10 ∷ []) y) ∙ h m (10 ∷ y) (inr refl)
-    ∙ ap (λ (n : Marker). past column n y) (sym (moved_append m t (10 ∷ []))))
+line_past column t w h is = grind (arith, past, append_assoc, moved_append)
 
 filler_line_past : (column : ℕ) (w : List ℕ) → IsFillerLine w → IsPast column w
 filler_line_past column w h = line_past column h.0 w (λ m more ends. filler_text_past column m h.0 more h.1 ends) h.2
@@ -233,8 +204,7 @@ first_line column blanks comment h k m low y =
 separation_line_past : (column : ℕ) (w : List ℕ) → IsSeparationLine column w → IsPastRight column w
 separation_line_past column w (blanks, comment, filler, h, k, f, is) m low =
     let front = (blanks ++ comment) ++ (10 ∷ []) in
-    let text : w ≡ front ++ (filler ++ spaces column) =
-    is ∙ sym (append_assoc blanks comment (10 ∷ (filler ++ spaces column)))
+    let text = is ∙ sym (append_assoc blanks comment (10 ∷ (filler ++ spaces column)))
     ∙ sym (append_assoc (blanks ++ comment) (10 ∷ []) (filler ++ spaces column)) in
     subst (PassesRight column m) (sym text)
     (record {
@@ -242,8 +212,7 @@ separation_line_past column w (blanks, comment, filler, h, k, f, is) m low =
           (sym (moved_append m front (filler ++ spaces column) ∙ moved_append (moved m front) filler (spaces column)))
           (reaches (moved (moved (moved m front) filler) (spaces column)).col (moved (moved m front) filler).col
           (spaces_column (moved (moved m front) filler) column));
-      is = λ y. ap (past column m)
-          (append_assoc front (filler ++ spaces column) y
+      is = λ y. ap (past column m) (append_assoc front (filler ++ spaces column) y
           ∙ append_assoc (blanks ++ comment) (10 ∷ []) ((filler ++ spaces column) ++ y))
           ∙ first_line column blanks comment h k m low ((filler ++ spaces column) ++ y)
           ∙ both_past column filler (spaces column) (λ n z. filler_past column n filler z f) (spaces_past column column)
@@ -255,8 +224,7 @@ separation_line_past column w (blanks, comment, filler, h, k, f, is) m low =
     reaches a b e = omega (arith, e)
 
 pub separation_right : (column : ℕ) (w : List ℕ) → IsSeparation column w → IsPastRight column w
-separation_right column w h m low =
-    subst (PassesRight column m) (sym h.4)
+separation_right column w h m low = subst (PassesRight column m) (sym h.4)
     (let lines = many_right column (IsSeparationLine column) (separation_line_past column) h.0 h.2 m low in
     both_right column m h.0 h.1 lines (blanks_past column h.1 h.3 (moved m h.0) lines.right))
 
@@ -272,8 +240,7 @@ right_behind column m w h low = (separation_right column w h m low).right
 -- ## After a plain scalar
 
 abbrev WhitePast : ℕ → Marker → Bool → List ℕ → Type 0
-WhitePast column m b t =
-    is_blank (slice_index (past column m t).1 0) ≡ false
+WhitePast column m b t = is_blank (slice_index (past column m t).1 0) ≡ false
     → past column (past_white m b t).mark (past_white m b t).rest ≡ past column m t
 
 white_kind : (column : ℕ) (m : Marker) (b : Bool) (c : ℕ) (cs : List ℕ) (tab blank return break : Bool)

@@ -41,8 +41,7 @@ behind_properties_passes : ReaderPromises → (around : Around) (p : Properties)
     → PassesBehind around now m Is allows (moved m ((t ++ v) ++ c)) c o
     → TextPasses around now (AreFronted p Is) allows m ((t ++ v) ++ c) o
 behind_properties_passes reads around p Is allows m t v c o h some gap fits now text pass =
-    let texts : ((t ++ v) ++ c) ++ o ≡ t ++ (v ++ (c ++ o)) =
-    append_assoc (t ++ v) c o ∙ append_assoc t v (c ++ o) in
+    let texts : ((t ++ v) ++ c) ++ o ≡ t ++ (v ++ (c ++ o)) = append_assoc (t ++ v) c o ∙ append_assoc t v (c ++ o) in
     let pp = properties_read reads around p.anchor p.tag m t (v ++ (c ++ o)) h now
     (white_ends_tag (not (is_block now.context)) (v ++ (c ++ o))
     (ends_behind_separation around.indent v (c ++ o) gap some))
@@ -60,8 +59,7 @@ behind_properties_passes reads around p Is allows m t v c o h some gap fits now 
     let r = pass here place (no_less m (t ++ v)) (fits_back m (t ++ v) c o q.right fits) (after q) refl refl
     q.knows.still q.fits in
     let b = r.passes in
-    let still : saved q.allowed (length (now.places ++ q.new)) here q.key ≡ q.key =
-    ap (λ (z : Bool). saved z (length (now.places ++ q.new)) here q.key) front.closed in
+    let still = ap (λ (z : Bool). saved z (length (now.places ++ q.new)) here q.key) front.closed in
     let known : IsAfterNode around.indent now.context kept allows (moved here c) o b.key b.adjacent (q.new ++ b.new) =
     record {
       piece = front.piece;

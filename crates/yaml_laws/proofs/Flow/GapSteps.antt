@@ -1,9 +1,7 @@
 -- What is passed between two tokens of a text in flow style, character by character.
-use Rattle.std.proofs.Common.{◌≡◌, ℕ, suc, ◌+◌, ◌<◌, ◌≤◌, false, List, [], ◌∷◌, length, refl, arith}
-use Rattle.std.specs.Prelude.{◌==◌}
+use Rattle.std.proofs.Common.{◌≡◌, ℕ, suc, ◌+◌, ◌<◌, ◌≤◌, false, List, ◌∷◌, length, refl, arith}
 use Rattle.std.proofs.lemmas.Bool.Decides.{nat_tests}
-use Rattle.saphyr_input.specs.Indicators.{number_sign}
-use Rattle.saphyr_input.specs.Classes.{is_blank, is_break, is_yaml_non_break, carriage_return, tab}
+use Rattle.saphyr_input.specs.Classes.{is_blank, is_break, is_yaml_non_break}
 use Rattle.saphyr_scalar.specs.declared.scalar.position.Marker.{Marker}
 use Rattle.saphyr_scalar.specs.Views.Cursor.{along, next_line}
 use Rattle.yaml_laws.proofs.Flow.States.{moved, is_left_tab, past, past_comment, IsInk}
@@ -20,46 +18,16 @@ pub record GapCases (column : ℕ) (P : Marker → List ℕ → Marker × List �
   pub line : (m : Marker) (c : ℕ) (cs : List ℕ) (r : Marker × List ℕ) → P (next_line m 1) cs r → P m (c ∷ cs) r
 
 pub no_left : (column : ℕ) (m : Marker) (c : ℕ) → is_blank c ≡ false → is_left_tab column m c ≡ false
-no_left column m c h = cc (no_tab c h)
-  where
-    no_tab : (c : ℕ) → is_blank c ≡ false → (c == tab) ≡ false
-    no_tab c h = grind (arith, nat_tests)
+no_left column m c h = grind arith
 
 -- a character that ends a comment and no line
 ends_comment : (column : ℕ) (m : Marker) (c : ℕ) (cs : List ℕ) → is_yaml_non_break c ≡ false → is_break c ≡ false
     → past column m (c ∷ cs) ≡ (m, c ∷ cs)
-ends_comment column m c cs e f =
-    let blank = no_blank c e f in rw (no_left column m c blank, blank, f, no_sign c e, no_return c f) refl
-  where
-    no_blank : (c : ℕ) → is_yaml_non_break c ≡ false → is_break c ≡ false → is_blank c ≡ false
-    no_blank c e f = grind (arith, nat_tests)
-
-    no_return : (c : ℕ) → is_break c ≡ false → (c == carriage_return) ≡ false
-    no_return c f = grind (arith, nat_tests)
-
-    no_sign : (c : ℕ) → is_yaml_non_break c ≡ false → (c == number_sign) ≡ false
-    no_sign c e = grind (arith, nat_tests)
+ends_comment column m c cs e f = grind (arith, nat_tests)
 
 over_steps : (column : ℕ) (P : Marker → List ℕ → Marker × List ℕ → Type 0) → GapCases column P
     → OverGap column (λ m t. P m t (past column m t)) (λ m t. P m t (past_comment column m t))
-over_steps column P steps =
-    record {
-      ends = λ m. steps.stays m [] refl;
-      tab = λ m c cs t. stays m c cs (rw t refl);
-      white = λ m c cs t e on. rw (t, e) (steps.onward m c cs (past column (along m 1) cs) on);
-      break = λ m c cs t e f on. rw (t, e, f) (steps.line m c cs (past column (next_line m 1) cs) on);
-      sign = λ m c cs t e f g on. rw (t, e, f, g) (steps.onward m c cs (past_comment column (along m 1) cs) on);
-      token = λ m c cs t e f g. stays m c cs (rw (t, e, f, g) refl);
-      comment_ends = λ m. steps.stays m [] refl;
-      word = λ m c cs e on. rw e (steps.onward m c cs (past_comment column (along m 1) cs) on);
-      return = λ m c cs e f on. rw (e, f) (steps.onward m c cs (past column (along m 1) cs) on);
-      line = λ m c cs e f g on. rw (e, f, g) (steps.line m c cs (past column (next_line m 1) cs) on);
-      other = λ m c cs e f g. rw (e, f, g) (steps.stays m (c ∷ cs) (ends_comment column m c cs e g));
-    }
-  where
-    stays : (m : Marker) (c : ℕ) (cs : List ℕ) → past column m (c ∷ cs) ≡ (m, c ∷ cs)
-        → P m (c ∷ cs) (past column m (c ∷ cs))
-    stays m c cs still = rw still (steps.stays m (c ∷ cs) still)
+over_steps column P steps = grind (arith, past, past_comment, ends_comment)
 
 pub by_steps : (column : ℕ) (P : Marker → List ℕ → Marker × List ℕ → Type 0) → GapCases column P
     → (m : Marker) (t : List ℕ) → P m t (past column m t)
@@ -73,8 +41,7 @@ past_again column m t = by_steps column (λ m t r. past column r.0 r.1 ≡ r)
 
 pub past_count : (column : ℕ) (m : Marker) (t : List ℕ)
     → (past column m t).0.index + length (past column m t).1 ≡ m.index + length t
-past_count column m t =
-    by_steps column (λ m t r. r.0.index + length r.1 ≡ m.index + length t)
+past_count column m t = by_steps column (λ m t r. r.0.index + length r.1 ≡ m.index + length t)
     (record {
       stays = λ m t e. refl;
       onward = λ m c cs r p. further (r.0.index + length r.1) m.index (length cs) p;
@@ -99,20 +66,14 @@ pub past_shorter : (column : ℕ) (m : Marker) (t : List ℕ) → length (past c
 past_shorter column m t = by_steps column (λ m t r. length r.1 ≤ length t) (no_longer column) m t
 
 pub past_low : (column : ℕ) (m : Marker) (t : List ℕ) → m.index ≤ (past column m t).0.index
-past_low column m t =
-    let count = past_count column m t in
-    let short = past_shorter column m t in
-    omega (arith, count, short)
+past_low column m t = grind (arith, past_count, past_shorter)
 
 -- what comes before a piece comes before what comes after it
 pub less_on : (ad : ℕ) (m : Marker) (p : List ℕ) → ad < m.index → ad < (moved m p).index
 less_on ad m p low = let i = moved_index m p in omega (arith, i, low)
 
 pub less_behind : (column ad : ℕ) (m : Marker) (p o : List ℕ) → ad < m.index → ad ≤ (past column (moved m p) o).0.index
-less_behind column ad m p o low =
-    let i = moved_index m p in
-    let on = past_low column (moved m p) o in
-    omega (arith, i, on, low)
+less_behind column ad m p o low = grind (arith, moved_index, past_low, moved)
 
 pub comment_shorter : (column : ℕ) (m : Marker) (t : List ℕ) → length (past_comment column m t).1 ≤ length t
 comment_shorter column = over_comment (over_steps column (λ m t r. length r.1 ≤ length t) (no_longer column))

@@ -1,7 +1,6 @@
 -- A walk over what is between two tokens, character by character.
 use Rattle.std.proofs.Common.{◌≡◌, ℕ, Bool, true, false, List, [], ◌∷◌, refl, arith}
-use Rattle.std.specs.Prelude.{◌&&◌, ◌==◌, not, nat_lt}
-use Rattle.std.proofs.lemmas.Bool.Decides.{nat_tests}
+use Rattle.std.specs.Prelude.{◌==◌, not}
 use Rattle.saphyr_input.specs.Indicators.{number_sign}
 use Rattle.saphyr_input.specs.Classes.{is_break, is_yaml_non_break}
 use Rattle.saphyr_scalar.specs.declared.scalar.position.Marker.{Marker}
@@ -36,19 +35,12 @@ by_kind : {column : ℕ} {P Q : Marker → List ℕ → Type 0} → OverGap colu
     (is_tab is_white is_line is_sign : Bool) → stops_tab column m c cs ≡ is_tab → is_white_at c cs ≡ is_white
     → is_break c ≡ is_line → (c == number_sign) ≡ is_sign → P (along m 1) cs → P (next_line m 1) cs
     → Q (along m 1) cs → P m (c ∷ cs)
-by_kind over m c cs true p q r t e f g on line sign = over.tab m c cs t
-by_kind over m c cs false true q r t e f g on line sign = over.white m c cs t e on
-by_kind over m c cs false false true r t e f g on line sign = over.break m c cs t e f line
-by_kind over m c cs false false false true t e f g on line sign = over.sign m c cs t e f g sign
-by_kind over m c cs false false false false t e f g on line sign = over.token m c cs t e f g
+by_kind h m c cs is_tab is_white is_line is_sign k e g p q u v = grind (arith)
 
 by_comment_kind : {column : ℕ} {P Q : Marker → List ℕ → Type 0} → OverGap column P Q → (m : Marker) (c : ℕ)
     (cs : List ℕ) (is_word is_return is_line : Bool) → is_yaml_non_break c ≡ is_word → is_return_at c cs ≡ is_return
     → is_break c ≡ is_line → Q (along m 1) cs → P (along m 1) cs → P (next_line m 1) cs → Q m (c ∷ cs)
-by_comment_kind over m c cs true q r e f g word on line = over.word m c cs e word
-by_comment_kind over m c cs false true r e f g word on line = over.return m c cs e f on
-by_comment_kind over m c cs false false true e f g word on line = over.line m c cs e f g line
-by_comment_kind over m c cs false false false e f g word on line = over.other m c cs e f g
+by_comment_kind h m c cs is_word is_return is_line k e g p q u = grind (arith)
 
 mutual
   pub over_gap : {column : ℕ} {P Q : Marker → List ℕ → Type 0} → OverGap column P Q → (m : Marker) (t : List ℕ) → P m t
@@ -67,14 +59,7 @@ mutual
 -- ## No column is left of the first
 
 pub none_left : (m : Marker) (c : ℕ) → is_left_tab 0 m c ≡ false
-none_left m c = cc (no_less m.col, none (c == 9))
-  where
-    no_less : (n : ℕ) → nat_lt n 0 ≡ false
-    no_less n = grind (arith, nat_tests)
-
-    none : (b : Bool) → (b && false) ≡ false
-    none true = refl
-    none false = refl
+none_left m c = grind arith
 
 pub no_stop : (m : Marker) (c : ℕ) (cs : List ℕ) → stops_tab 0 m c cs ≡ true → ⊥
 no_stop m c cs h = clash (is_left_tab 0 m c) (and_true_left (is_left_tab 0 m c) (not (is_filler_rest cs)) h)

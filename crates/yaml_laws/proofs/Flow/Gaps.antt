@@ -6,7 +6,7 @@ use Rattle.saphyr_input.specs.Classes.{is_blank, is_break, is_yaml_non_break, li
 use Rattle.saphyr_scalar.specs.declared.scalar.position.Marker.{Marker}
 use Rattle.saphyr_scanner.specs.Steps.Gap.{stop, is_tab_indentation}
 use Rattle.yaml_laws.proofs.Flow.States.{is_left_tab, is_filler_rest, is_comment_rest}
-use Rattle.saphyr_input.proofs.Basics.Booleans.{clash, and_true_left, and_true_right}
+use Rattle.saphyr_input.proofs.Basics.Booleans.{and_true_left, and_true_right}
 use Rattle.std.proofs.lemmas.Bool.{or_parts}
 use Rattle.saphyr_input.specs.Indicators.{number_sign}
 
@@ -31,19 +31,10 @@ right_tab column low m true c e h = further c m.col column low e h
 right_tab column low m false c e h = none (c == 9)
   where
     none : (a : Bool) → (((a && false) && nat_lt m.col low) || false) ≡ false
-    none true = refl
-    none false = refl
+    none a = grind arith
 
 pub tab_blank : (column : ℕ) (m : Marker) (c : ℕ) → is_left_tab column m c ≡ true → is_blank c ≡ true
-tab_blank column m c h = further c (nat_lt m.col column) h
-  where
-    further : (c : ℕ) (b : Bool) → ((c == 9) && b) ≡ true → is_blank c ≡ true
-    further c true h = grind (arith, nat_tests)
-    further c false h = absurd (none (c == 9) h)
-      where
-        none : (a : Bool) → (a && false) ≡ true → ⊥
-        none true e = cc
-        none false e = cc
+tab_blank column m c h = grind arith
 
 -- whether a tab ends what is passed
 abbrev pub stops_tab : ℕ → Marker → ℕ → List ℕ → Bool
@@ -64,19 +55,12 @@ feed_rest (c ∷ cs) e = rw (feed c e) refl
 -- after a blank, or CR before LF
 pub rest_on : (c : ℕ) (cs : List ℕ) → is_white_at c cs ≡ true
     → is_filler_rest (c ∷ cs) ≡ true → is_filler_rest cs ≡ true
-rest_on c cs e h = by_blank (is_blank c) refl e
-  where
-    by_blank : (b : Bool) → is_blank c ≡ b → (b || is_return_at c cs) ≡ true → is_filler_rest cs ≡ true
-    by_blank true f k = let same : is_filler_rest (c ∷ cs) ≡ is_filler_rest cs = rw f refl in sym same ∙ h
-    by_blank false f k = feed_rest cs (and_true_right (c == 13) (slice_index cs 0 == 10) k)
+rest_on c cs e h = grind (arith, is_filler_rest, feed_rest, and_true_right)
 
 -- after the sign of a comment
 pub rest_sign : (c : ℕ) (cs : List ℕ) → is_white_at c cs ≡ false → is_break c ≡ false → (c == number_sign) ≡ true
     → is_filler_rest (c ∷ cs) ≡ true → is_comment_rest cs ≡ true
-rest_sign c cs e f g h =
-    let same : is_filler_rest (c ∷ cs) ≡ is_comment_rest cs =
-    rw ((or_parts (is_blank c) ((c == 13) && (slice_index cs 0 == 10)) e).0, f, g) refl in
-    sym same ∙ h
+rest_sign c cs e f g h = grind arith
 
 -- none is the rest that begins with a token
 pub no_rest : (c : ℕ) (cs : List ℕ) → is_white_at c cs ≡ false → is_break c ≡ false → (c == number_sign) ≡ false
@@ -100,8 +84,7 @@ pub no_tab_before : (b : Bool) → false ≡ true → b ≡ true
 no_tab_before b e = absurd (cc)
 
 pub no_tab_here : (tab rest : Bool) → rest ≡ false → (tab ≡ true → rest ≡ true) → tab ≡ false
-no_tab_here true rest e h = absurd (clash rest (h refl) e)
-no_tab_here false rest e h = refl
+no_tab_here tab rest e h = grind arith
 
 -- a tab that ends nothing is on such a rest, or right of a lower column
 pub tab_rest : (column low : ℕ) (m : Marker) (blank : Bool) (c : ℕ) (cs : List ℕ) (tab : Bool)
@@ -112,17 +95,13 @@ tab_rest column low m blank c cs true t under e h k = rest_on c cs e (h refl)
 tab_rest column low m blank c cs false t under e h k = by_left (is_left_tab column m c) refl t
   where
     falsely : (b : Bool) → not b ≡ false → b ≡ true
-    falsely true e = refl
-    falsely false e = absurd (cc)
+    falsely b e = grind arith
 
     by_left : (b : Bool) → is_left_tab column m c ≡ b → (b && not (is_filler_rest cs)) ≡ false
         → is_filler_rest cs ≡ true
-    by_left true f n = falsely (is_filler_rest cs) n
-    by_left false f n =
-        absurd (clash (is_tab_indentation low m blank c || false) k (right_tab column low m blank c f under))
+    by_left b f n = grind arith
 
 -- at the text's end a tab is no matter
 pub stop_ends : (m : Marker) (blank broke tab : Bool) → stop m blank broke tab [] ≡ stop m blank broke false []
 unfolding stop
-stop_ends m blank broke true = refl
-stop_ends m blank broke false = refl
+stop_ends m blank broke tab = grind arith

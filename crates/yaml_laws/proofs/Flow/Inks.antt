@@ -1,11 +1,11 @@
 -- The first characters of the nodes of a text in flow style.
 use Rattle.std.proofs.Common.{◌≡◌, ◌≢◌, ℕ, Bool, true, false, List, [], ◌∷◌, ◌++◌, refl, ap, ◌∙◌, arith, append_assoc, IsTrue, inl, inr, codes, ◌≤◌}
-use Rattle.std.specs.Prelude.{◌==◌, ◌&&◌, not, slice_index, Option, Some, None}
+use Rattle.std.specs.Prelude.{◌==◌, ◌&&◌, not, slice_index, Option}
 use Rattle.std.proofs.lemmas.Bool.Decides.{nat_tests}
 use Rattle.saphyr_input.specs.Indicators.{comma, number_sign, percent_sign}
 use Rattle.saphyr_input.specs.Classes.{is_blank, is_break, is_bom, is_z, byte_order_mark}
 use Rattle.scalar_laws.specs.Spelling.Plain.{is_word_ink}
-use Rattle.saphyr_scanner.specs.Grammar.Forest.{Style, Plain, SingleQuoted, DoubleQuoted, Literal, Folded, Handle, Primary, Secondary, Named, Tag, NonSpecific, Verbatim, Shorthand, Properties, Node, Alias, Scalar, Seq, Map}
+use Rattle.saphyr_scanner.specs.Grammar.Forest.{Style, Plain, SingleQuoted, DoubleQuoted, Literal, Folded, Handle, Tag, Properties, Node, Alias, Scalar, Seq, Map}
 use Rattle.yaml_laws.specs.Grammar.TagSpelling.{IsHandle, IsTag}
 use Rattle.yaml_laws.specs.Grammar.FlowScalars.{begins_plain, IsFirstWord, IsPlainKey, IsFlowScalar}
 use Rattle.yaml_laws.specs.Grammar.FlowNodes.{IsAnchor, AreProperties, IsProperties, IsBeforeContent, IsPlainKeyNode, IsKeyText, IsFlowNode}
@@ -91,29 +91,11 @@ start_comma : (c : ℕ) → is_start c ≡ true → (c == comma) ≡ false
 start_comma c h = grind (arith, nat_tests)
 
 pub starts : (c : ℕ) (cs t : List ℕ) → t ≡ c ∷ cs → is_start c ≡ true → Begins t
-starts c cs t e h =
-    record {
-      first = c;
-      others = cs;
-      is = e;
-      ink = start_ink c h;
-      nul = start_nul c h;
-      directive = start_directive c h;
-      comma = start_comma c h;
-    }
+starts c cs t e h = search (start_ink, start_nul, start_directive, start_comma)
 
 -- whatever comes after
 pub begins_front : (a t o : List ℕ) → t ≡ a ++ o → Begins a → Begins t
-begins_front a t o e b =
-    record {
-      first = b.first;
-      others = b.others ++ o;
-      is = e ∙ ap (λ (x : List ℕ). x ++ o) b.is;
-      ink = b.ink;
-      nul = b.nul;
-      directive = b.directive;
-      comma = b.comma;
-    }
+begins_front a t o e b = grind (arith)
 
 pub inked : (t : List ℕ) → Begins t → BeginsInk t
 inked t b = record { first = b.first; others = b.others; is = b.is; ink = b.ink }
@@ -133,24 +115,14 @@ pub anchor_begins : (name t : List ℕ) → IsAnchor name t → Begins t
 anchor_begins name t h = starts 38 name t h.1 refl
 
 handle_begins : (handle : Handle) (t : List ℕ) → IsHandle handle t → Begins t
-handle_begins Primary t h = starts 33 [] t h refl
-handle_begins Secondary t h = starts 33 (33 ∷ []) t h refl
-handle_begins (Named word) t h = starts 33 (word ++ codes "!") t h.2 refl
+handle_begins handle t h = grind (arith, starts, codes)
 
 pub tag_begins : (tag : Tag) (t : List ℕ) → IsTag tag t → Begins t
-tag_begins NonSpecific t h = starts 33 [] t h refl
-tag_begins (Verbatim uri) t h = starts 33 (60 ∷ (h.0 ++ codes ">")) t h.3 refl
-tag_begins (Shorthand handle suffix) t h = begins_front h.0 t h.1 h.5 (handle_begins handle h.0 h.2)
+tag_begins tag t h = grind (arith, starts, codes, begins_front, handle_begins)
 
 are_properties_begin : (indent : ℕ) (anchor : Option (List ℕ)) (tag : Option Tag) (t : List ℕ)
     → AreProperties anchor tag indent t → Begins t
-are_properties_begin indent None None t h = absurd h
-are_properties_begin indent (Some name) None t h = anchor_begins name t h
-are_properties_begin indent None (Some tag) t h = tag_begins tag t h
-are_properties_begin indent (Some name) (Some tag) t (anchor, between, written, a, w, s, inl e) =
-    begins_front anchor t (between ++ written) e (anchor_begins name anchor a)
-are_properties_begin indent (Some name) (Some tag) t (anchor, between, written, a, w, s, inr e) =
-    begins_front written t (between ++ anchor) e (tag_begins tag written w)
+are_properties_begin indent anchor tag t h = grind (arith, anchor_begins, tag_begins, begins_front)
 
 properties_begin : (p : Properties) (indent : ℕ) (t : List ℕ) → IsProperties p indent t → Begins t
 properties_begin p indent t h = are_properties_begin indent p.anchor p.tag t h
@@ -178,36 +150,20 @@ word_ink in_flow c h n =
     }
   where
     blank : (in_flow : Bool) (c : ℕ) → IsTrue (is_word_ink in_flow c) → is_blank c ≡ false
-    blank true c h = grind (arith, nat_tests)
-    blank false c h = grind (arith, nat_tests)
+    blank in_flow c h = grind arith
 
     break : (in_flow : Bool) (c : ℕ) → IsTrue (is_word_ink in_flow c) → is_break c ≡ false
-    break true c h = grind (arith, nat_tests)
-    break false c h = grind (arith, nat_tests)
+    break in_flow c h = grind arith
 
     bom : (in_flow : Bool) (c : ℕ) → IsTrue (is_word_ink in_flow c) → is_bom c ≡ false
-    bom true c h = grind (arith, nat_tests)
-    bom false c h = grind (arith, nat_tests)
+    bom in_flow c h = grind arith
 
     sign : (c : ℕ) → c ≢ number_sign → (c == number_sign) ≡ false
     sign c n = grind (arith, nat_tests)
 
 word_starts : (in_flow : Bool) (c : ℕ) (cs : List ℕ) → IsTrue (is_word_ink in_flow c) → c ≢ number_sign
     → IsTrue (begins_plain c) → Begins (c ∷ cs)
-word_starts in_flow c cs h n b =
-    record {
-      first = c;
-      others = cs;
-      is = refl;
-      ink = word_ink in_flow c h n;
-      nul = nul in_flow c h;
-      directive = other_than begins_plain 37 c refl b;
-      comma = other_than begins_plain 44 c refl b;
-    }
-  where
-    nul : (in_flow : Bool) (c : ℕ) → IsTrue (is_word_ink in_flow c) → is_z c ≡ false
-    nul true c h = grind (arith, nat_tests)
-    nul false c h = grind (arith, nat_tests)
+word_starts in_flow c cs h n b = grind (arith, word_ink, other_than)
 
 words_begin : (in_flow : Bool) (w : List ℕ) → IsFirstWord in_flow w → Begins w
 words_begin in_flow [] h = absurd (h.0.some refl)
@@ -226,8 +182,7 @@ plain_key_begins in_flow indent [] (inl ((some, ink, no_comment), begins)) = abs
 plain_key_begins in_flow indent (c ∷ cs) (inl ((some, ink, no_comment), begins)) =
     word_starts in_flow c cs ink.0 no_comment begins
 plain_key_begins in_flow indent t (inr (plain, dashes, gap, word, h, lone, gapped, last, e)) =
-    begins_front plain t (dashes ++ (gap ++ word)) e
-    (begins_front h.0 plain h.1 h.4 (words_begin in_flow h.0 h.2))
+    begins_front plain t (dashes ++ (gap ++ word)) e (begins_front h.0 plain h.1 h.4 (words_begin in_flow h.0 h.2))
 
 -- ## Nodes
 
@@ -268,7 +223,4 @@ key_text_begins in_flow indent room key t separation (inl h) = node_begins inden
 key_text_begins in_flow indent room key t separation (inr (h, none)) = plain_key_node_begins in_flow indent key t h
 
 pub behind_low : (column ad : ℕ) (m : Marker) (p o : List ℕ) → ad ≤ m.index → ad ≤ (past column (moved m p) o).0.index
-behind_low column ad m p o low =
-    let i = moved_index m p in
-    let on = past_low column (moved m p) o in
-    omega (arith, i, on, low)
+behind_low column ad m p o low = grind (arith, moved_index, past_low, moved)

@@ -56,8 +56,7 @@ single_text_begins indent room key value t (inr (inr (separation, pair, mark, h,
     starts 63 (separation ++ pair) t e refl
 
 single_begins : (indent room : ℕ) (key value : Node) (t : List ℕ)
-    → IsSinglePair key value (IsFlowNode room key true indent) (IsFlowNode room value true indent) indent t
-    → Begins t
+    → IsSinglePair key value (IsFlowNode room key true indent) (IsFlowNode room value true indent) indent t → Begins t
 single_begins indent room key value t (inl (separation, none, other, mark, e)) = starts 63 separation t e refl
 single_begins indent room key value t (inr (piece, separation, h, parts, e)) =
     begins_front piece t separation e (single_text_begins indent room key value piece h)
@@ -128,19 +127,14 @@ item_passes room node N P m t c cs fits ends (inr h) now no_candidate fresh low 
     P m t c cs fits ends h now no_candidate fresh low before text
 
 pub reads_item : {around : Around} (room : ℕ) (node : Node) → PassesNode around room node
-    → PassesPairItem around room node
-    → ReadsEntry around square room (IsItem around.indent room node) (IsEntry node)
+    → PassesPairItem around room node → ReadsEntry around square room (IsItem around.indent room node) (IsEntry node)
 reads_item {around} room node N P =
     record { ink = λ t h. inked t (item_begins around.indent room node t h); passes = item_passes room node N P }
 
 pub reads_pair : {around : Around} (room : ℕ) (key value : Node) → PassesNode around room key
     → PassesNode around room value
     → ReadsEntry around curly room (IsPairIn around.indent room key value) (PairInBraces key value)
-reads_pair {around} room key value K V =
-    record {
-      ink = λ t h. inked t (pair_begins around.indent room key value t h);
-      passes = pair_passes room key value K V;
-    }
+reads_pair {around} room key value K V = search (inked, pair_begins, pair_passes)
 
 entry_passes : {around : Around} {b : Brackets} {room : ℕ} {Text : List ℕ → Type 0} {Is : List Kind → Type 0}
     → ReadsEntry around b room Text Is → (m : Marker) (t o : List ℕ) → FitsAround around m t o → BeginsEnd o → Text t
@@ -239,8 +233,7 @@ FurtherText indent One Rest t =
     (comma item others : List ℕ) × IsComma indent comma × One item × Rest others × (t ≡ comma ++ (item ++ others))
 
 abbrev FurtherTokens : (List Kind → Type 0) → (List Kind → Type 0) → List Kind → Type 0
-FurtherTokens Is Are t =
-    (entry others : List Kind) × Is entry × Are others × (t ≡ tokens.FlowEntry ∷ (entry ++ others))
+FurtherTokens Is Are t = (entry others : List Kind) × Is entry × Are others × (t ≡ tokens.FlowEntry ∷ (entry ++ others))
 
 pub more_others : {around : Around} {b : Brackets} {room : ℕ} {One Rest : List ℕ → Type 0} {Is Are : List Kind → Type 0}
     → ReadsEntry around b room One Is → ReadsOthers around b room Rest Are
@@ -257,10 +250,8 @@ more_others {around} {b} {room} {One} {Rest} {Is} {Are} one rest =
         let behind_all = b.closing ∷ o in
         let start = state_at around (moment_in x now) in
         let whole = fits_so m p (comma ++ (item ++ others)) behind_all e fits in
-        let follow : (item ++ others) ++ behind_all ≡ item ++ (others ++ behind_all) =
-        append_assoc item others behind_all in
-        let texts : p ++ behind_all ≡ comma ++ (item ++ (others ++ behind_all)) =
-        ap (λ (t : List ℕ). t ++ behind_all) e ∙ append_assoc comma (item ++ others) behind_all ∙ ap
+        let follow = append_assoc item others behind_all in
+        let texts = ap (λ (t : List ℕ). t ++ behind_all) e ∙ append_assoc comma (item ++ others) behind_all ∙ ap
         (λ (t : List ℕ). comma ++ t) follow in
         let comma_fits = fits_before m comma ((item ++ others) ++ behind_all) (item ++ (others ++ behind_all)) follow
         (fits_front m comma (item ++ others) behind_all whole) in
@@ -275,12 +266,9 @@ more_others {around} {b} {room} {One} {Rest} {Is} {Are} one rest =
         let there = moved here item in
         let both = join q n.passes (ended around.indent there (others ++ behind_all)) n.passes.knows in
         let r = rest.passes there others o h (fits_back here item others behind_all n.passes.right inner) n.inside
-        n.flows n.back
-        (after both) low both.knows both.fits in
+        n.flows n.back (after both) low both.knows both.fits in
         let end = moved there others in
-        let all = join both r.passes (ended around.indent end behind_all) r.passes.knows in
-        let place : end ≡ moved m p =
-        sym (ap (moved m) e ∙ moved_append m comma (item ++ others) ∙ moved_append here item others) in
+        let place = sym (ap (moved m) e ∙ moved_append m comma (item ++ others) ∙ moved_append here item others) in
         subst (λ (z : Marker). OthersPass around start b.context x (FurtherTokens Is Are) now.outer now.places z
         behind_all) place
         (record {
@@ -292,7 +280,7 @@ more_others {around} {b} {room} {One} {Rest} {Is} {Are} one rest =
           is = entries_regrouped (pending (ends_pair x)) n.tokens r.tokens (pending (ends_pair r.inside))
               (pending (ends_pair n.inside)) r.others tokens.FlowEntry r.is;
           are = (n.tokens ++ pending (ends_pair n.inside), r.others, n.are, r.are, refl);
-          passes = all;
+          passes = join both r.passes (ended around.indent end behind_all) r.passes.knows;
         })
 
 -- ## All entries
@@ -348,20 +336,16 @@ more_entries {around} {b} {room} {One} {Rest} {Is} {Are} one rest =
           let behind_all = b.closing ∷ o in
           let start = state_at around (moment_in b.context now) in
           let whole = fits_so m p (item ++ others) behind_all e fits in
-          let texts : p ++ behind_all ≡ item ++ (others ++ behind_all) =
-          ap (λ (t : List ℕ). t ++ behind_all) e ∙ append_assoc item others behind_all in
+          let texts = ap (λ (t : List ℕ). t ++ behind_all) e ∙ append_assoc item others behind_all in
           let n = entry_passes one m item (others ++ behind_all) (fits_front m item others behind_all whole)
-          (rest.first others o h) i
-          now no_candidate fresh low before (text ∙ ap (past around.indent m) texts) in
+          (rest.first others o h) i now no_candidate fresh low before (text ∙ ap (past around.indent m) texts) in
           let there = moved m item in
           let q = n.passes in
           let r = rest.passes there others o h (fits_back m item others behind_all n.passes.right whole) n.inside
-          n.flows n.back
-          (after q) low q.knows q.fits in
+          n.flows n.back (after q) low q.knows q.fits in
           let end = moved there others in
-          let place : end ≡ moved m p = sym (ap (moved m) e ∙ moved_append m item others) in
           subst (λ (z : Marker). InsidePasses around start b.context (AllTokens Is Are) now.outer now.places z
-          behind_all) place
+          behind_all) (sym (ap (moved m) e ∙ moved_append m item others))
           (record {
             inside = r.inside;
             flows = r.flows;

@@ -1,5 +1,5 @@
 -- Runs over pieces of a text in flow style, one after the other.
-use Rattle.std.proofs.Common.{◌≡◌, inl, inr, sym, ℕ, ◌≤◌, Bool, false, IsTrue, List, [], ◌++◌, refl, ◌∙◌, append_assoc, append-nil}
+use Rattle.std.proofs.Common.{◌≡◌, inl, inr, sym, ℕ, ◌≤◌, Bool, false, IsTrue, List, [], ◌++◌, ◌∙◌, append_assoc, append-nil}
 use Rattle.std.specs.Prelude.{Option}
 use Rattle.saphyr_scalar.specs.declared.scalar.position.Marker.{Marker}
 use Rattle.scalar_laws.specs.Spelling.Spaces.{IsSeparation}
@@ -49,16 +49,9 @@ since_join k m a w b j key f (inr (inl e)) = earlier f
     earlier (inl g) = inl (e ∙ g)
     earlier (inr (inl g)) = inr (inl (e ∙ g))
     earlier (inr (inr (front, back, place, is, g))) =
-        inr (inr (
-          front,
-          back ++ (w ++ b),
-          place,
-          cc (append_assoc front back (w ++ b)),
-          e ∙ g,
-        ))
+        inr (inr (front, back ++ (w ++ b), place, cc (append_assoc front back (w ++ b)), e ∙ g))
 since_join k m a w b j key f (inr (inr (front, back, place, is, g))) =
-    let here : moved (moved (moved m a) w) front ≡ moved m (a ++ (w ++ front)) =
-    sym (moved_append m a (w ++ front) ∙ moved_append (moved m a) w front) in
+    let here = sym (moved_append m a (w ++ front) ∙ moved_append (moved m a) w front) in
     inr (inr (
       a ++ (w ++ front),
       back,
@@ -178,17 +171,4 @@ step_passes next new m o ts known c right fits fresh are knows =
 pub passes_nothing : (around : Around) (now : FlowMoment) (m : Marker) (o : List ℕ) (known : Known) → around.indent
     ≤ m.col → StandsBefore around now m o → IsFresh now.context o now.allowed now.cursor → known now.key now.allowed
     now.adjacent [] → PassesPiece around (state_at around now) known now.context now.outer now.places m o []
-passes_nothing around now m o known right text fresh knows =
-    record {
-      there = now.cursor;
-      key = now.key;
-      allowed = now.allowed;
-      adjacent = now.adjacent;
-      new = [];
-      leads = rw append-nil (runs_to_itself around _);
-      right = right;
-      fits = text;
-      fresh = fresh;
-      are = refl;
-      knows = knows;
-    }
+passes_nothing around now m o known right text fresh knows = search (append-nil, runs_to_itself)

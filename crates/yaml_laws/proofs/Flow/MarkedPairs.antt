@@ -56,9 +56,7 @@ mark_behind around y z c m separation o fits (some, parts, tabs) first others is
 
 colon_begins : (indent : ℕ) (adjacent : Bool) (value : Node) (V : List ℕ → Type 0) (t : List ℕ)
     → IsColonAndValue adjacent value V indent t → Begins t
-colon_begins indent adjacent value V t (inl (none, e)) = starts 58 [] t e refl
-colon_begins indent adjacent value V t (inr (separation, node, parts, apart, h, e)) =
-    starts 58 (separation ++ node) t e refl
+colon_begins indent adjacent value V t h = grind (arith, starts)
 
 pub alone_begins : (indent : ℕ) (key value : Node) (V : List ℕ → Type 0) (t : List ℕ)
     → IsValueAlone key value V indent t → Begins t
@@ -71,11 +69,9 @@ key_begins indent room key value V t (node, separation, colon, h, parts, apart, 
 
 -- what comes after the separation of a mark
 abbrev Inside : ℕ → ℕ → Node → Node → List ℕ → Type 0
-Inside indent room key value t =
-    ((value ≡ left_out) × IsFlowNode room key true indent t)
+Inside indent room key value t = ((value ≡ left_out) × IsFlowNode room key true indent t)
     ⊎ (IsValueAlone key value (IsFlowNode room value true indent) indent t
-    ⊎ IsKeyAndValue key value (IsFlowNode room key true indent)
-    (IsFlowNode room value true indent) indent t)
+    ⊎ IsKeyAndValue key value (IsFlowNode room key true indent) (IsFlowNode room value true indent) indent t)
 
 inside_begins : (indent room : ℕ) (key value : Node) (t : List ℕ) → Inside indent room key value t → Begins t
 inside_begins indent room key value t (inl h) = node_begins indent room key true t h.1
@@ -140,8 +136,7 @@ pub explicit_passes : {around : Around} (room : ℕ) (key value : Node) → Pass
     o
 explicit_passes {around} room key value K V y z c m t o fits ends (separation, pair, mark, h, e) now low before text =
     let b = inside_begins around.indent room key value pair h in
-    let is : t ≡ (63 ∷ separation) ++ pair = e in
-    let whole = fits_so m t ((63 ∷ separation) ++ pair) o is fits in
+    let whole = fits_so m t ((63 ∷ separation) ++ pair) o e fits in
     let texts : t ++ o ≡ 63 ∷ (separation ++ (pair ++ o)) = cc (append_assoc (63 ∷ separation) pair o) in
     let p = mark_behind around y z c m separation (pair ++ o) (fits_front m (63 ∷ separation) pair o whole) mark b.first
     (b.others ++ o) (ap (λ (x : List ℕ). x ++ o) b.is) b.ink now

@@ -11,7 +11,7 @@ use Rattle.saphyr_scalar.proofs.NoBreaks.{NoBreaks}
 use Rattle.saphyr_scanner.specs.declared.engine.level.Context.{Context}
 use Rattle.saphyr_scanner.specs.Grammar.Tokens as tokens
 use Rattle.saphyr_scanner.specs.Grammar.Tokens.{Kind, alias_token, anchor_token, tag_token}
-use Rattle.saphyr_scanner.specs.Grammar.Forest.{Tag, Handle, Primary, Secondary, Named, handle_text, NonSpecific, Verbatim, Shorthand}
+use Rattle.saphyr_scanner.specs.Grammar.Forest.{Tag, Handle, handle_text, NonSpecific, Verbatim, Shorthand}
 use Rattle.saphyr_scanner.specs.Steps.Core.{Core, from_to, completed_step}
 use Rattle.saphyr_scanner.specs.Steps.Level.{Candidate, Level, is_block}
 use Rattle.saphyr_scanner.specs.Steps.Passing.{with_cursor}
@@ -40,9 +40,7 @@ letters_read (c ∷ others) h = (h.0, letters_read others h.1)
 
 pub handle_read : (handle : Handle) (t : List ℕ) → spelling.IsHandle handle t
     → IsHandleText t × (t ≡ handle_text handle)
-handle_read Primary t h = (inl h, h)
-handle_read Secondary t h = (inr ([], tt, h), h)
-handle_read (Named word) t h = (inr (word, letters_read word h.1, h.2), h.2)
+handle_read handle t h = grind arith
 
 -- a tag as it is read, and its token
 pub record IsReadTag (tag : Tag) (t : List ℕ) : Type 0 where
@@ -60,12 +58,7 @@ tag_read NonSpecific t h = record { handle = []; suffix = 33 ∷ []; is = inl (h
 tag_read (Verbatim uri) t h = record { handle = []; suffix = uri; is = inr (inl (h.0, h.2, refl, h.3)); token = refl }
 tag_read (Shorthand handle suffix) t h =
     let r = handle_read handle h.0 h.2 in
-    record {
-      handle = h.0;
-      suffix = suffix;
-      is = inr (inr (h.1, r.0, h.3, h.4, h.5));
-      token = ap (λ (front : List ℕ). tokens.Tag (encode_utf8_all front) (encode_utf8_all suffix)) r.1;
-    }
+    record { handle = h.0; suffix = suffix; is = inr (inr (h.1, r.0, h.3, h.4, h.5)); token = cc }
 
 handle_first : (t back : List ℕ) → IsHandleText t → (others : List ℕ) × (t ++ back ≡ exclamation_mark ∷ others)
 handle_first t back (inl h) = (back, ap (λ (y : List ℕ). y ++ back) h)
@@ -74,9 +67,7 @@ handle_first t back (inr h) = ((h.0 ++ 33 ∷ []) ++ back, ap (λ (y : List ℕ)
 -- a tag begins with `!`
 pub tag_first : (t handle suffix : List ℕ) → IsTagText t handle suffix
     → (others : List ℕ) × (t ≡ exclamation_mark ∷ others)
-tag_first t handle suffix (inl h) = ([], h.0)
-tag_first t handle suffix (inr (inl h)) = (60 ∷ (h.0 ++ 62 ∷ []), h.3)
-tag_first t handle suffix (inr (inr h)) = let f = handle_first handle h.0 h.1 in (f.0, h.4 ∙ f.1)
+tag_first t handle suffix h = grind (arith, handle_first)
 
 -- on its line what has no break has no line feed
 pub unbroken_on_line : (t : List ℕ) → NoBreaks t → AreIn (λ c. not (c == line_feed)) t
@@ -97,9 +88,7 @@ closes_key ad allowed adjacent = (allowed ≡ false) × (adjacent ≡ ad)
 
 named_along : (m : Marker) (indicator : ℕ) (name : List ℕ) → is_break indicator ≡ false → IsAnchorName name
     → along m (1 + length name) ≡ moved m (indicator ∷ name)
-named_along m indicator name e h =
-    let one : 1 + length name ≡ length (indicator ∷ name) = omega arith in
-    ap (along m) one ∙ sym (unbroken_along m (indicator ∷ name) (e, name_no_break name h))
+named_along m indicator name e h = grind (arith, unbroken_along, name_no_break)
 
 pub name_step : ReaderPromises → (around : Around) (d : Bool) (token_of : List ℕ
     → Kind) (n : ℕ) (m : Marker) (b : Bool) (indicator : ℕ)
@@ -156,15 +145,13 @@ begins_alias second n c = refl
 
 pub anchor_passes : ReaderPromises → (around : Around) (name t o : List ℕ) (m : Marker) → IsAnchor name t
     → is_anchor_char (slice_index o 0) ≡ false → FitsAround around m t o → (now : FlowMoment)
-    → StandsBefore around now m (t ++ o)
-    → PassesToken around (closes_key now.adjacent) now m t o (anchor_token name)
+    → StandsBefore around now m (t ++ o) → PassesToken around (closes_key now.adjacent) now m t o (anchor_token name)
 anchor_passes reads around name t o m h =
     name_passes reads around tokens.Anchor 38 name t o m begins_anchor refl refl h.0 h.1
 
 pub alias_token_passes : ReaderPromises → (around : Around) (name t o : List ℕ) (m : Marker) → IsAlias name t
     → is_anchor_char (slice_index o 0) ≡ false → FitsAround around m t o → (now : FlowMoment)
-    → StandsBefore around now m (t ++ o)
-    → PassesToken around (closes_key now.adjacent) now m t o (alias_token name)
+    → StandsBefore around now m (t ++ o) → PassesToken around (closes_key now.adjacent) now m t o (alias_token name)
 alias_token_passes reads around name t o m h =
     name_passes reads around tokens.Alias 42 name t o m begins_alias refl refl h.0 h.1
 
@@ -180,33 +167,29 @@ pub tag_step : ReaderPromises → (around : Around) (d : Bool) (n : ℕ) (m : Ma
 unfolding property.tag_steps read_tag
 tag_step reads around d n m b t handle suffix o h x k ls a ad ends placed =
     let s = cursor_at (t ++ o) m b in
-    let c = core_at around d s x (saved a n m k) ls false ad in
-    let token = λ (y : List ℕ × List ℕ × Cursor). completed_step (from_to m y.2.mark (tokens.Tag y.0 y.1) ∷ [])
-    (with_cursor y.2 c) in
-    ap (λ (q : Core). read_tag (disallow_key q)) (saves_key n around d s x k ls a ad placed)
-    ∙ ap (λ q. q >>= token) (reads.tag (not (is_block x)) s t handle suffix o refl h ends)
-    ∙ ap (λ (end : Marker). token (encode_utf8_all handle, encode_utf8_all suffix, mid_line end o))
-    (sym (unbroken_along m t (tag_no_break t handle suffix h)))
+    cc (
+      saves_key n around d s x k ls a ad placed,
+      reads.tag (not (is_block x)) s t handle suffix o refl h ends,
+      unbroken_along m t (tag_no_break t handle suffix h),
+    )
 
 pub begins_tag : (second n : ℕ) (c : Core) → step 33 second n c ≡ property.tag_steps n c
 unfolding step
 begins_tag second n c = refl
 
 pub tag_passes : ReaderPromises → (around : Around) (tag : Tag) (t o : List ℕ) (m : Marker) → IsTag tag t
-    → FitsAround around m t o
-    → (now : FlowMoment) → EndsTag (not (is_block now.context)) o → StandsBefore around now m (t ++ o)
-    → PassesToken around (closes_key now.adjacent) now m t o (tag_token tag)
+    → FitsAround around m t o → (now : FlowMoment) → EndsTag (not (is_block now.context)) o
+    → StandsBefore around now m (t ++ o) → PassesToken around (closes_key now.adjacent) now m t o (tag_token tag)
 tag_passes reads around tag t o m h fits now ends text =
     let r = tag_read tag t h in
     let f = tag_first t r.handle r.suffix r.is in
-    let first = tag_begins tag t h in
     let at_first : slice_index (t ++ o) 0 ≡ 33 = ap (λ (p : List ℕ). slice_index (p ++ o) 0) f.1 in
     let second = slice_index (t ++ o) 1 in
     let end = moved m t in
     let n = length now.places in
     let kind = tokens.Tag (encode_utf8_all r.handle) (encode_utf8_all r.suffix) in
     subst (λ (q : Kind). PassesToken around (closes_key now.adjacent) now m t o q) r.token (token_passes around None
-    (closes_key now.adjacent) kind t o m first fits
+    (closes_key now.adjacent) kind t o m (tag_begins tag t h) fits
     (unbroken_right around.indent m t (tag_no_break t r.handle r.suffix r.is) fits.right) now text (λ b j e. record {
       there = mid_line end o;
       end = end;

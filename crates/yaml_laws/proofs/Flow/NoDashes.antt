@@ -23,8 +23,7 @@ anchor_no_dash name t h o = rw h.1 refl
 
 tag_no_dash : (tag : Tag) (t : List ℕ) → IsTag tag t → (o : List ℕ) → NoDash (t ++ o)
 tag_no_dash tag t h o =
-    let r = tag_read tag t h in
-    rw (tag_first t r.handle r.suffix r.is).1 refl
+    let r = tag_read tag t h in rw (tag_first t r.handle r.suffix r.is).1 refl
 
 properties_no_dash : (indent : ℕ) (anchor : Option (List ℕ)) (tag : Option Tag) (t : List ℕ)
     → AreProperties anchor tag indent t → (o : List ℕ) → NoDash (t ++ o)
@@ -39,8 +38,7 @@ properties_no_dash indent (Some name) (Some tag) t (a, gap, w, h, k, gapped, inr
 before_no_dash : (p : Properties) (indent : ℕ) (front b t : List ℕ) → IsBeforeContent p indent front → t ≡ front ++ b
     → ((o : List ℕ) → NoDash (b ++ o)) → (o : List ℕ) → NoDash (t ++ o)
 before_no_dash p indent front b t (inl (none, empty)) e h o = rw (e, empty) (h o)
-before_no_dash p indent front b t (inr (properties, separation, g, some, parts, is)) e h o =
-    no_dash_front front b t e
+before_no_dash p indent front b t (inr (properties, separation, g, some, parts, is)) e h o = no_dash_front front b t e
     (no_dash_front properties separation front is (properties_no_dash indent p.anchor p.tag properties g)) o
 
 -- ## Nodes
@@ -58,8 +56,7 @@ scalar_no_dash indent Folded value in_flow t h o = absurd h
 pub node_no_dash : (indent room : ℕ) (node : Node) (in_flow : Bool) (t o : List ℕ)
     → IsFlowNode room node in_flow indent t → NoDash (t ++ o)
 node_no_dash indent room (Alias name) in_flow t o h = rw h.1 refl
-node_no_dash indent room (Scalar p style value) in_flow t o (inl h) =
-    properties_no_dash indent p.anchor p.tag t h.2 o
+node_no_dash indent room (Scalar p style value) in_flow t o (inl h) = properties_no_dash indent p.anchor p.tag t h.2 o
 node_no_dash indent room (Scalar p style value) in_flow t o (inr (front, content, f, s, e)) =
     before_no_dash p indent front content t f e (scalar_no_dash indent style value in_flow content s) o
 node_no_dash indent room (Seq p nodes) in_flow t o

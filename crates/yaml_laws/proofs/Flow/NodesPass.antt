@@ -26,8 +26,7 @@ passes_inside : {around : Around} {node : Node} {m : Marker} {t o : List ℕ} (r
     → is_block now.context ≡ false → room + length now.outer ≤ most_open → StandsBefore around now m (t ++ o)
     → NodePasses around now node m t o
 passes_inside {around} {node} {m} {t} {o} room passes fits behind now low flow small text =
-    let r = passes now flow small fits (follows_inside flow behind) (weaker now.adjacent m.index low, inr low) text in
-    record { tokens = r.tokens; are = r.are grammar.InFlow; passes = rw (r.none flow) at r.passes }
+    grind (arith, follows_inside, weaker)
 
 -- ## All nodes
 

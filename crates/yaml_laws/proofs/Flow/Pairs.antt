@@ -15,7 +15,7 @@ use Rattle.saphyr_scanner.specs.Limits.{most_open}
 use Rattle.saphyr_scanner.proofs.Levels.{saved}
 use Rattle.yaml_laws.specs.Grammar.FlowNodes.{allows_adjacent, IsColonAndValue, IsBeforeColon, IsKeyAndValue, IsValueAlone, IsFlowNode, IsKeyText}
 use Rattle.yaml_laws.proofs.InFlow.States.{Around, state_at, FlowMoment, moment_in}
-use Rattle.yaml_laws.proofs.Flow.States.{moved, past, FitsAround, IsParted, ends_colon, IsBehindNode, Known, PassesPiece, no_key, ended, keeping, IsNodeOrKey, PassesNode, after, StandsBefore, key_behind, NodePasses}
+use Rattle.yaml_laws.proofs.Flow.States.{moved, past, FitsAround, IsParted, ends_colon, IsBehindNode, Known, PassesPiece, no_key, ended, keeping, IsNodeOrKey, PassesNode, after, StandsBefore, NodePasses}
 use Rattle.yaml_laws.proofs.Flow.Places.{moved_append, right_one}
 use Rattle.yaml_laws.proofs.Flow.GapSteps.{past_ink, less_on, less_behind}
 use Rattle.yaml_laws.proofs.Flow.Fillers.{separation_past, right_behind}
@@ -50,8 +50,7 @@ ValueTokens value vs = grammar.YieldsOptional value (grammar.YieldsNode value gr
 
 -- what comes after a colon, up to the value's end
 abbrev pub IsValueText : ℕ → ℕ → Node → List ℕ → Type 0
-IsValueText indent room value rest =
-    ((value ≡ left_out) × (rest ≡ []))
+IsValueText indent room value rest = ((value ≡ left_out) × (rest ≡ []))
     ⊎ ((separation node : List ℕ) × IsSeparation indent separation × IsFlowNode room value true indent node
     × (rest ≡ separation ++ node))
 
@@ -112,8 +111,7 @@ is_colon_text indent room adjacent value colon o ends (inr (separation, node, pa
     record {
       rest = separation ++ node;
       is = e;
-      parted = subst (IsParted indent) assoc
-          (parted_by indent separation (node ++ o) parts
+      parted = subst (IsParted indent) assoc (parted_by indent separation (node ++ o) parts
           (ink_front node (node ++ o) o refl (node_ink indent room value true node h)));
       ends = by_part apart;
       value_text = inr (separation, node, parts, h, refl);
@@ -128,23 +126,14 @@ is_colon_text indent room adjacent value colon o ends (inr (separation, node, pa
 -- ## A key and a value
 
 abbrev pub PairTokens : List Kind → Node → Node → List Kind → Type 0
-PairTokens front key value t =
-    (ks vs : List Kind) × grammar.YieldsNode key grammar.InFlow ks × ValueTokens value vs
+PairTokens front key value t = (ks vs : List Kind) × grammar.YieldsNode key grammar.InFlow ks × ValueTokens value vs
     × (t ≡ front ++ (ks ++ tokens.Value ∷ vs))
 
 key_followed : (indent room : ℕ) (key value : Node) (separation rest o : List ℕ) → IsSeparation indent separation
     → IsBeforeColon key separation
     → (IsTrue (allows_adjacent key separation) ⊎ IsTrue (ends_colon (slice_index (rest ++ o) 0)))
     → IsBehindNode indent key (separation ++ (58 ∷ (rest ++ o)))
-key_followed indent room key value separation rest o parts apart ends =
-    record {
-      separation = separation;
-      first = 58;
-      others = rest ++ o;
-      is = refl;
-      parts = parts;
-      ends = inr (inr (inr (refl, apart, ends)));
-    }
+key_followed indent room key value separation rest o parts apart ends = grind (arith)
 
 -- what is passed before the colon
 node_or_key : (indent room : ℕ) (key : Node) (t separation r : List ℕ)
@@ -159,9 +148,7 @@ value_regrouped front ks vs = simp append_assoc
 
 whole_moved : (m : Marker) (t node separation rest : List ℕ) → t ≡ node ++ (separation ++ (58 ∷ rest))
     → moved (moved (moved (moved m node) separation) (58 ∷ [])) rest ≡ moved m t
-whole_moved m t node separation rest e =
-    sym (ap (moved m) e ∙ moved_append m node (separation ++ (58 ∷ rest))
-    ∙ moved_append (moved m node) separation (58 ∷ rest))
+whole_moved m t node separation rest e = grind (arith, moved, moved_append)
 
 -- A key and a value, where the colon after the key is passed with these tokens before the key.
 key_and_value : {around : Around} (room : ℕ) (key value : Node) → PassesNode around room key
@@ -280,8 +267,7 @@ marked_key_passes {around} room key value K V y flows no_pair m t o fits ends h 
     text = key_and_value room key value K V [] y flows m t o fits ends h now low before text colon
   where
     by_place : (w : List ℕ) (c adjacent index : ℕ) → IsTrue (allows_adjacent key w) ⊎ IsTrue (ends_colon c)
-        → (IsTrue (allows_adjacent key w) → adjacent ≡ index)
-        → (index ≡ adjacent) ⊎ IsTrue (ends_colon c)
+        → (IsTrue (allows_adjacent key w) → adjacent ≡ index) → (index ≡ adjacent) ⊎ IsTrue (ends_colon c)
     by_place w c adjacent index (inl h) near = inl (sym (near h))
     by_place w c adjacent index (inr h) near = inr h
 
@@ -295,12 +281,11 @@ marked_key_passes {around} room key value K V y flows no_pair m t o fits ends h 
         let at_end = moved m h.0 in
         let here = moved at_end h.1 in
         let known = n.passes.knows in
-        let kept : key_behind now m ≡ None = rw (none_allowed, no_candidate) refl in
         let second = slice_index more 0 in
         let lands = separation_past around.indent at_end h.1 (58 ∷ more) h.4 n.passes.right
         ∙ past_ink around.indent here 58 more colon_ink in
         let told : at_colon here second n.passes.key n.passes.allowed n.passes.adjacent n.passes.new = (
-          known.keeps flows ∙ kept,
+          known.keeps flows ∙ (rw (none_allowed, no_candidate) refl),
           by_place h.1 second n.passes.adjacent here.index colon_ends (known.near flows h.1 more refl h.4),
           subst (λ (z : Marker × List ℕ). n.passes.adjacent ≤ z.0.index) lands known.low,
         ) in

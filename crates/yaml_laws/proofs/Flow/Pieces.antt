@@ -53,20 +53,10 @@ IsBehindEntry indent o = IsBehind indent (λ w c cs. EndsEntry c) o
 -- what comes after, told otherwise
 pub behind_so : {indent : ℕ} {P Q : List ℕ → ℕ → List ℕ → Type 0} {o : List ℕ}
     → ((w : List ℕ) (c : ℕ) (cs : List ℕ) → P w c cs → Q w c cs) → IsBehind indent P o → IsBehind indent Q o
-behind_so f h =
-    record {
-      separation = h.separation;
-      first = h.first;
-      others = h.others;
-      is = h.is;
-      parts = h.parts;
-      ends = f h.separation h.first h.others h.ends;
-    }
+behind_so f h = grind (arith)
 
 pub end_ink : (c : ℕ) → EndsEntry c → IsInk c
-end_ink c (inl e) = rw e (record { blank = refl; break = refl; comment = refl; byte_order_mark = refl })
-end_ink c (inr (inl e)) = rw e (record { blank = refl; break = refl; comment = refl; byte_order_mark = refl })
-end_ink c (inr (inr e)) = rw e (record { blank = refl; break = refl; comment = refl; byte_order_mark = refl })
+end_ink c h = grind arith
 
 pub entry_behind : (indent : ℕ) (node : Node) (o : List ℕ) → IsBehindEntry indent o → IsBehindNode indent node o
 entry_behind indent node o h = behind_so by_end h
@@ -109,17 +99,14 @@ white_ends c (inr e) = rw e refl
 pub white_ends_colon : (indent : ℕ) (w y : List ℕ) → IsSeparation indent w → w ≢ []
     → IsTrue (ends_colon (slice_index (w ++ y) 0))
 white_ends_colon indent w y parts some =
-    let b = separation_begins indent w parts some in
-    rw b.is (white_ends b.first b.white)
+    let b = separation_begins indent w parts some in rw b.is (white_ends b.first b.white)
 
 -- where nothing comes after a colon
 pub entry_ends_colon : (indent : ℕ) (o : List ℕ) → IsBehindEntry indent o → IsTrue (ends_colon (slice_index o 0))
 entry_ends_colon indent o h = rw h.is (by_separation h.separation h.parts)
   where
     end : (c : ℕ) → EndsEntry c → IsTrue (ends_colon c)
-    end c (inl e) = rw e refl
-    end c (inr (inl e)) = rw e refl
-    end c (inr (inr e)) = rw e refl
+    end c h = grind arith
 
     some : (c : ℕ) (cs : List ℕ) → (c ∷ cs) ≢ []
     some c cs e = cc

@@ -1,7 +1,6 @@
 -- Places after the pieces of a text, and pieces that no document marker begins a line of.
 use Rattle.std.proofs.Common.{◌≡◌, ℕ, suc, ◌+◌, ◌≤◌, Bool, true, false, List, [], ◌∷◌, ◌++◌, length, refl, sym, ap, ◌∙◌, arith, append_assoc, IsTrue}
 use Rattle.std.specs.Prelude.{◌&&◌, ◌==◌, not, if◌then◌else◌}
-use Rattle.std.proofs.lemmas.Bool.Decides.{nat_tests}
 use Rattle.std.proofs.lemmas.List.{length-append}
 use Rattle.saphyr_input.specs.Classes.{line_feed, carriage_return}
 use Rattle.saphyr_input.specs.Places.{is_document_indicator}
@@ -23,21 +22,14 @@ moved_append m [] b = refl
 moved_append m (c ∷ cs) b = moved_append (behind_character m c) cs b
 
 one_index : (m : Marker) (c : ℕ) → (behind_character m c).index ≡ m.index + 1
-one_index m c = by_test (c == line_feed) (next_line m 1) (along m 1) (λ (k : Marker). k.index ≡ m.index + 1) (λ _. refl)
-    (λ _. refl)
+one_index m c = grind arith
 
 pub moved_index : (m : Marker) (p : List ℕ) → (moved m p).index ≡ m.index + length p
 moved_index m [] = omega arith
-moved_index m (c ∷ cs) =
-    let more = moved_index (behind_character m c) cs in
-    let one = one_index m c in
-    omega (arith, more, one)
+moved_index m (c ∷ cs) = omega (arith, moved_index (behind_character m c) cs, one_index m c)
 
 pub moved_count : (m : Marker) (p o : List ℕ) → (moved m p).index + length o ≡ m.index + length (p ++ o)
-moved_count m p o =
-    let i = moved_index m p in
-    let l = length-append p o in
-    omega (arith, i, l)
+moved_count m p o = grind (arith, moved_index, length-append)
 
 -- on one line
 pub moved_along : (m : Marker) (p : List ℕ) → AreIn (λ c. not (c == line_feed)) p → moved m p ≡ along m (length p)
@@ -48,16 +40,12 @@ moved_along m (c ∷ cs) h =
     (λ _. moved_along (along m 1) cs h.1 ∙ along_more m 1 (length cs) (length (c ∷ cs)) (omega arith))
   where
     never : (b : Bool) → b ≡ true → IsTrue (not b) → ⊥
-    never true e k = absurd (cc)
-    never false e k = cc
+    never b e k = grind arith
 
 -- what is right of a column goes on there
 pub right_along : (column : ℕ) (m : Marker) (p : List ℕ) → AreIn (λ c. not (c == line_feed)) p → column ≤ m.col
     → column ≤ (moved m p).col
-right_along column m p h low = rw (moved_along m p h) (further m.col (length p) low)
-  where
-    further : (n l : ℕ) → column ≤ n → column ≤ n + l
-    further n l h = omega (arith, h)
+right_along column m p h low = grind (arith, moved_along)
 
 pub right_one : (column : ℕ) (m : Marker) (c : ℕ) → (c == line_feed) ≡ false → column ≤ m.col
     → column ≤ (moved m (c ∷ [])).col
@@ -76,11 +64,7 @@ front_unmarked at_start (c ∷ cs) b o h =
     (front_unmarked (c == line_feed) cs b o n.1)
 
 one_column : (m : Marker) (c : ℕ) → ((behind_character m c).col == 0) ≡ (c == line_feed)
-one_column m c = by_test (c == line_feed) (next_line m 1) (along m 1) (λ (k : Marker). (k.col == 0) ≡ (c == line_feed))
-    (λ e. sym e) (λ e. further m.col ∙ sym e)
-  where
-    further : (n : ℕ) → (n + 1 == 0) ≡ false
-    further n = grind (arith, nat_tests)
+one_column m c = grind arith
 
 back_unmarked : (m : Marker) (a b o : List ℕ) → marks_line (m.col == 0) (a ++ b) o ≡ false
     → marks_line ((moved m a).col == 0) b o ≡ false
@@ -105,5 +89,4 @@ clear_back m a b o h = record {
 
 pub clear_here : (m : Marker) (c : ℕ) (cs o : List ℕ) → IsClear m (c ∷ cs) o
     → ((m.col == 0) && is_document_indicator (c ∷ (cs ++ o))) ≡ false
-clear_here m c cs o h = (or_parts ((m.col == 0) && is_document_indicator (c ∷ (cs ++ o)))
-    (marks_line (c == line_feed) cs o) h.no_marker).0
+clear_here m c cs o h = grind arith

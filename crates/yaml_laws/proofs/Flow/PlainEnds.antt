@@ -3,7 +3,7 @@ use Rattle.std.proofs.Common.{◌≡◌, ◌≢◌, ℕ, ◌<◌, ◌≤◌, Boo
 use Rattle.std.specs.Prelude.{◌||◌, ◌&&◌, ◌==◌, if◌then◌else◌}
 use Rattle.std.proofs.lemmas.Bool.{false≢true}
 use Rattle.std.proofs.lemmas.Bool.Decides.{nat_tests}
-use Rattle.saphyr_input.specs.Indicators.{colon, comma, number_sign, right_brace, right_bracket}
+use Rattle.saphyr_input.specs.Indicators.{colon, number_sign}
 use Rattle.saphyr_input.specs.Classes.{is_blank, is_break, is_blank_or_breakz, is_flow, carriage_return, is_bom}
 use Rattle.saphyr_input.specs.Places.{is_blank_or_break}
 use Rattle.saphyr_scalar.specs.declared.scalar.position.Marker.{Marker}
@@ -14,7 +14,7 @@ use Rattle.saphyr_scanner.specs.Grammar.Forest.{Node}
 use Rattle.yaml_laws.specs.Grammar.FlowNodes.{allows_adjacent}
 use Rattle.yaml_laws.proofs.Flow.States.{past, moved, IsInk, EndsDocument, IsLeft, ends_colon, EndsNode, IsBehindNode, IsBehindRoot}
 use Rattle.yaml_laws.proofs.Flow.GapSteps.{past_ink, no_left}
-use Rattle.yaml_laws.proofs.InFlow.States.{Around, in_column}
+use Rattle.yaml_laws.proofs.InFlow.States.{Around}
 use Rattle.yaml_laws.proofs.InFlow.Tabs.{lands_on_ink, tabs_behind_low, broke_or_right}
 use Rattle.yaml_laws.proofs.Flow.Fillers.{white_past, separation_past}
 use Rattle.yaml_laws.proofs.Flow.Ends.{EndsHere, behind_node_first, root_first}
@@ -30,8 +30,7 @@ StopsWhite (c ∷ cs) = is_blank_or_break c ≡ false
 
 white_stops : (m : Marker) (b : Bool) (t : List ℕ) → StopsWhite (past_white m b t).rest
 white_stops m b [] = tt
-white_stops m b (c ∷ cs) =
-    by_test (is_blank_or_break c)
+white_stops m b (c ∷ cs) = by_test (is_blank_or_break c)
     (past_white (if ends_line c cs then next_line m 1 else along m 1) (b || is_break c) cs)
     (record { rest = c ∷ cs; mark = m; blank_so_far = b })
     (λ (u : Cursor). StopsWhite u.rest)
@@ -43,8 +42,7 @@ Reaches column m o n r = (r ≡ []) ⊎ ((slice_index r 0 ≡ 35) ⊎ ((n ≡ (p
 
 reaches : (column : ℕ) (m : Marker) (o : List ℕ) → is_blank (slice_index (past column m o).1 0) ≡ false
     → Reaches column m o (past_white m false o).mark (past_white m false o).rest
-reaches column m o inked =
-    by_rest (past_white m false o).mark (past_white m false o).rest (white_stops m false o)
+reaches column m o inked = by_rest (past_white m false o).mark (past_white m false o).rest (white_stops m false o)
     (white_past column m false o inked)
   where
     no_blank : (c : ℕ) → is_blank_or_break c ≡ false → is_blank c ≡ false
@@ -83,20 +81,7 @@ unfolding is_in_word
 mark_no_word t h = rw (bom_is (slice_index t 0) h) refl
 
 colon_ends : (c : ℕ) → IsTrue (ends_colon c) → (is_blank_or_breakz c || (true && is_flow c)) ≡ true
-colon_ends c h = by_blank (is_blank_or_breakz c) refl h
-  where
-    flow : (c : ℕ) → ((c == comma) || (c == right_bracket) || (c == right_brace)) ≡ true → is_flow c ≡ true
-    flow c e = grind (arith, nat_tests)
-
-    parts : (b p q r : Bool) → b ≡ false → (b || p || q || r) ≡ true → (p || q || r) ≡ true
-    parts true p q r e k = absurd (cc)
-    parts false p q r e k = k
-
-    by_blank : (b : Bool) → is_blank_or_breakz c ≡ b
-        → (is_blank_or_breakz c || (c == comma) || (c == right_bracket) || (c == right_brace)) ≡ true
-        → (is_blank_or_breakz c || (true && is_flow c)) ≡ true
-    by_blank true e k = rw e refl
-    by_blank false e k = rw e (flow c (parts (is_blank_or_breakz c) (c == 44) (c == 93) (c == 125) e k))
+colon_ends c h = grind (arith, nat_tests)
 
 colon_stops : (others : List ℕ) → IsTrue (ends_colon (slice_index others 0)) → is_in_word true (colon ∷ others) ≡ false
 unfolding is_in_word
@@ -109,24 +94,12 @@ ParsColon node = (w : List ℕ) → allows_adjacent node w ≡ false
 word_stops : (node : Node) (w : List ℕ) (c : ℕ) (others : List ℕ) → ParsColon node → EndsNode node w c others
     → is_in_word true (c ∷ others) ≡ false
 unfolding is_in_word
-word_stops node w c others apart (inl e) = rw e refl
-word_stops node w c others apart (inr (inl e)) = rw e refl
-word_stops node w c others apart (inr (inr (inl e))) = rw e refl
-word_stops node w c others apart (inr (inr (inr (e, before, inl allows)))) =
-    absurd (false≢true (sym (apart w) ∙ allows))
-word_stops node w c others apart (inr (inr (inr (e, before, inr ends)))) = rw e (colon_stops others ends)
+word_stops node w c others h k = grind (arith, colon_stops)
 
 -- ## Ends
 
 ends_no_sign : (node : Node) (c : ℕ) → EndsHere node c → c ≢ number_sign
-ends_no_sign node c h e = absurd (by_end (rw e at h))
-  where
-    by_end : EndsHere node 35 → ⊥
-    by_end (inl k) = cc
-    by_end (inr (inl k)) = omega (arith, k)
-    by_end (inr (inr (inl k))) = omega (arith, k)
-    by_end (inr (inr (inr (inl k)))) = omega (arith, k)
-    by_end (inr (inr (inr (inr k)))) = omega (arith, k.0)
+ends_no_sign node c h e = grind arith
 
 pub ends_in_flow : (around : Around) (node : Node) (m : Marker) (o : List ℕ) → ParsColon node
     → IsBehindNode around.indent node o → around.indent ≤ m.col → EndsPlain true around.column m o
@@ -177,8 +150,7 @@ ends_at_root around m o h right =
 
     broke : (n : Marker) → n ≡ (past around.indent m o).0 → (past around.indent m o).0.col < around.column
         → ((past_white m false o).blank_so_far ≡ true) ⊎ (m.col ≤ n.col) → IsTrue (past_white m false o).blank_so_far
-    broke n e left (inl k) = k
-    broke n e left (inr k) = absurd (low m.col n.col around.column k (rw e left) (in_column around m.col right))
+    broke n e left h = grind arith
 
     stops : Reaches around.indent m o (past_white m false o).mark (past_white m false o).rest
         → EndsDocument (past around.indent m o).0 (past around.indent m o).1
@@ -187,8 +159,7 @@ ends_at_root around m o h right =
     stops (inl e) k = inl (no_word false (past_white m false o).rest e)
     stops (inr (inl e)) k = inr (inl e)
     stops (inr (inr e)) (inl (inl k)) = inl (no_word false (past_white m false o).rest (e.1 ∙ k))
-    stops (inr (inr e)) (inl (inr (col, inl k))) =
-        inr (inr (inl (cc, rw e.1 k)))
+    stops (inr (inr e)) (inl (inr (col, inl k))) = inr (inr (inl (cc, rw e.1 k)))
     stops (inr (inr e)) (inl (inr (col, inr k))) = inl (rw e.1 (mark_no_word (past around.indent m o).1 k))
     stops (inr (inr e)) (inr k) =
         inr (inr (inr (

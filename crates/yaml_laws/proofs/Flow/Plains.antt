@@ -31,7 +31,7 @@ use Rattle.yaml_laws.proofs.Flow.Words.{ink_other, ink_no_break, colon_is_ink, p
 use Rattle.yaml_laws.proofs.InBlock.Crossings.{white_crosses}
 use Rattle.saphyr_input.proofs.Basics.Booleans.{other_than, and_false}
 use Rattle.saphyr_scalar.proofs.Given.{cursor_at}
-use Rattle.std.proofs.lemmas.Bool.{ne_eqb, eqb-true}
+use Rattle.std.proofs.lemmas.Bool.{ne_eqb}
 use Rattle.saphyr_input.specs.Indicators.{hyphen, question_mark, number_sign}
 use Rattle.saphyr_scanner.proofs.Levels.{saved}
 
@@ -63,9 +63,7 @@ word_begins f indent t o (word, others, (is_word, begins, no_dash, no_mark, no_c
         record { first = c; others = others; is = e; begins = b; ink = ink.0; no_comment = sign; further = alone }
       where
         alone : (c ≡ hyphen) ⊎ ((c ≡ question_mark) ⊎ (c ≡ 58)) → IsTrue (is_word_ink f (slice_index (others ++ o) 0))
-        alone (inl k) = absurd (lone c 45 k dash)
-        alone (inr (inl k)) = absurd (lone c 63 k mark)
-        alone (inr (inr k)) = absurd (lone c 58 k colon)
+        alone h = grind arith
     by_word (c ∷ d ∷ ds) some ink sign b dash mark colon e =
         record {
           first = c;
@@ -122,31 +120,12 @@ no_nul : (c : ℕ) → is_blank_or_breakz c ≡ false → is_z c ≡ false
 no_nul c h = grind (arith, nat_tests)
 
 pub token_begins : (f : Bool) (t o : List ℕ) → BeginsWord f t o → Begins t
-token_begins f t o b =
-    let ink = ink_other f b.first b.ink in
-    record {
-      first = b.first;
-      others = b.others;
-      is = b.is;
-      ink = record {
-        blank = no_blank b.first ink.blank_or_breakz;
-        break = ink_no_break b.first ink.blank_or_breakz;
-        comment = ne_eqb b.first 35 b.no_comment;
-        byte_order_mark = ink.byte_order_mark;
-      };
-      nul = no_nul b.first ink.blank_or_breakz;
-      directive = other_than begins_plain 37 b.first refl b.begins;
-      comma = other_than begins_plain 44 b.first refl b.begins;
-    }
+token_begins f t o b = grind (arith, ink_other, no_blank, ink_no_break, ne_eqb, no_nul, other_than)
 
 -- a character before a word's second one
 pub lone_test : (f : Bool) (first d second : ℕ) → (first ≡ d → IsTrue (is_word_ink f second))
     → ((first == d) && is_blank_or_breakz second) ≡ false
-lone_test f first d second h = by_first (first == d) refl
-  where
-    by_first : (b : Bool) → (first == d) ≡ b → ((first == d) && is_blank_or_breakz second) ≡ false
-    by_first true e = rw e ((ink_other f second (h (eqb-true first d e))).blank_or_breakz)
-    by_first false e = rw e refl
+lone_test f first d second h = grind arith
 
 -- no value is where a colon is part of a word
 value_test : (block : Bool) (first second i ad : ℕ) → (first ≡ 58 → IsTrue (is_word_ink (not block) second))
@@ -159,8 +138,7 @@ value_test false first second i ad h (inr low) = by_first (first == 58) refl
     further i ad h = grind (arith, nat_tests)
 
     by_first : (b : Bool) → (first == 58) ≡ b → ((first == 58) && (true && (is_flow second || (i == ad)))) ≡ false
-    by_first true e = rw (e, (ink_other true second (h (eqb-true first 58 e))).flow, further i ad low) refl
-    by_first false e = rw e refl
+    by_first b e = grind (arith, nat_tests)
 
 pub plain_begins : (first second n : ℕ) (c : Core) → IsTrue (begins_plain first)
     → ((first == hyphen) && is_blank_or_breakz second) ≡ false
@@ -222,8 +200,7 @@ plain_read reads around d n m b t o x h clear k ls a ad placed =
     let f = not (is_block x) in
     let c = core_at around false s x (saved a n m k) ls false ad in
     let token = λ (z : List ℕ × Marker × Option Marker × Cursor). completed_step
-    (from_to m z.1 (tokens.Scalar Plain z.0) ∷ [])
-    (behind_plain z.2 z.3 c) in
+    (from_to m z.1 (tokens.Scalar Plain z.0) ∷ []) (behind_plain z.2 z.3 c) in
     let refused : (f && nat_lt m.col around.column) ≡ false = plain_placed around x a m placed in
     let got = reads.plain f around.column s t o refl h
     ∙ ap (λ (end : Marker). found around.column f o end (normalized t)) (passed_moved m t clear.no_return)
@@ -267,8 +244,7 @@ pub plain_step : ReaderPromises → (around : Around) (d : Bool) (n : ℕ) (m : 
     (record (core_at around false u x (saved a n m k) ls u.blank_so_far ad)
     { comment = comment_of (not (is_block x)) (is_tabbed around.column o) u })
 plain_step reads around d n m b t o x begins text clear k ls a ad low placed =
-    plain_dispatches around d (cursor_at (t ++ o) m b) n t o x begins k ls a ad low
-    ∙ plain_read reads around d n m b t o x text clear k ls a ad placed
+    grind (arith, plain_dispatches, cursor_at, plain_read)
 
 -- ## The scalar is passed
 

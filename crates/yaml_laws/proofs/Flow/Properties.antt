@@ -49,19 +49,7 @@ one_property : {around : Around} {start : Bool → State} {ls : List Level} {ps 
     {ts : List Kind} → (x : Context) (kept : KeptKey) (ad : ℕ)
     → PassesPiece around start (after_token (closes_key ad) x kept) x ls ps m o ts
     → PassesPiece around start (behind_properties x kept ad) x ls ps m o ts
-one_property x kept ad p =
-    knowing p (behind_properties x kept ad)
-    (record {
-      properties = record {
-        piece = p.knows.piece;
-        others = [];
-        is = p.knows.is;
-        keeps = p.knows.keeps;
-        closed = p.knows.tells.0;
-      };
-      since = p.knows.since;
-      still = p.knows.tells.1;
-    })
+one_property x kept ad p = grind (arith, knowing)
 
 -- a gap is separation
 pub gap_separates : (indent : ℕ) (w : List ℕ) → IsGap indent w → IsSeparation indent w
@@ -80,15 +68,12 @@ gap_separates indent w (inr (
     let front_is : front ≡ spaces indent ++ more = cc (
       longer indent n low,
       append_assoc (spaces indent) (spaces (n - indent)) tail,
-    ) in
-    let parts : w ≡ ((blanks ++ comment) ++ (10 ∷ [])) ++ (filler ++ (spaces indent ++ more)) = cc in
-    let text : w ≡ (line ++ []) ++ more =
-    cc (joined blanks comment filler (spaces indent) more, append-nil line) in (
+    ) in (
       line ++ [],
       more,
       (line ∷ [], ((blanks, comment, filler, are, k, filler_is, refl), tt), refl),
       both_in is_blank (spaces (n - indent)) tail (spaces_are_blank (n - indent)) tail_are,
-      text,
+      (cc (joined blanks comment filler (spaces indent) more, append-nil line)),
     )
   where
     joined : (a b c d e : List ℕ) → ((a ++ b) ++ (10 ∷ [])) ++ (c ++ (d ++ e)) ≡ (a ++ (b ++ (10 ∷ (c ++ d)))) ++ e
@@ -120,9 +105,7 @@ two_properties around start x kept before ls ps ad m a w b o first second h p pa
     let here : StandsBefore around (after p) (moved (moved m a) w) (b ++ o) =
     cc (append_assoc w b o, separation_past around.indent (moved m a) w (b ++ o) parts p.right) in
     let q = passes here (right_behind around.indent (moved m a) w parts p.right) in
-    let place : moved (moved (moved m a) w) b ≡ moved m (a ++ (w ++ b)) =
-    sym (moved_append m a (w ++ b) ∙ moved_append (moved m a) w b) in
-    rw place at
+    rw (sym (moved_append m a (w ++ b) ∙ moved_append (moved m a) w b)) at
     (join p q (behind_properties x (record { kept = kept; before = before; from = m; over = a ++ (w ++ b) }) ad)
     (record {
       properties = record {
@@ -203,9 +186,8 @@ both_passed {around} {P} {Q} {i} {j} first second m t a w b o h spaced g is now 
 
 pub properties_read : ReaderPromises
     → (around : Around) (anchor : Option (List ℕ)) (tag : Option Tag) (m : Marker) (t o : List ℕ)
-    → yaml.AreProperties anchor tag around.indent t
-    → (now : FlowMoment) → EndsTag (not (is_block now.context)) o → FitsAround around m t o
-    → StandsBefore around now m (t ++ o) → PropertiesRead around now anchor tag m t o
+    → yaml.AreProperties anchor tag around.indent t → (now : FlowMoment) → EndsTag (not (is_block now.context)) o
+    → FitsAround around m t o → StandsBefore around now m (t ++ o) → PropertiesRead around now anchor tag m t o
 properties_read reads around None None m t o h now ends fits text = absurd h
 properties_read reads around (Some name) None m t o h now ends fits text =
     record {

@@ -1,5 +1,5 @@
 -- The `?` of a text in flow style is read.
-use Rattle.std.proofs.Common.{◌≡◌, ◌≢◌, ℕ, ◌≤◌, Bool, true, false, List, [], ◌∷◌, ◌++◌, length, slice_index, Ok, refl, sym, ap, ◌∙◌, arith, ◌⊎◌, inl, inr}
+use Rattle.std.proofs.Common.{◌≡◌, ◌≢◌, ℕ, ◌≤◌, Bool, true, false, List, [], ◌∷◌, ◌++◌, length, slice_index, Ok, refl, sym, ap, ◌∙◌, arith, ◌⊎◌}
 use Rattle.std.specs.Prelude.{Option, None}
 use Rattle.std.proofs.lemmas.Bool.Decides.{nat_tests}
 use Rattle.saphyr_input.specs.Classes.{is_blank, is_blank_or_breakz, line_feed}
@@ -8,19 +8,17 @@ use Rattle.saphyr_scalar.specs.Views.Cursor.{Cursor, ◌>>=◌, along}
 use Rattle.saphyr_scalar.proofs.Given.{cursor_at}
 use Rattle.scalar_laws.specs.Spelling.Spaces.{IsSeparation}
 use Rattle.saphyr_scanner.specs.declared.engine.level.Context.{Context}
-use Rattle.saphyr_scanner.specs.declared.engine.level.Context.TheVariants as context
-use Rattle.saphyr_scanner.specs.Steps.Gap.{SpacesEnd, spaces_end, end_of_spaces}
+use Rattle.saphyr_scanner.specs.Steps.Gap.{spaces_end, end_of_spaces}
 use Rattle.saphyr_scanner.specs.Grammar.Tokens as tokens
 use Rattle.saphyr_scanner.specs.Steps.Core.{Core, from_to, up_to_here, completed_step, remove_key}
 use Rattle.saphyr_scanner.specs.Steps.Level.{Candidate, Level, is_block, behind_question}
 use Rattle.saphyr_scanner.specs.Steps.Block as block
 use Rattle.saphyr_scanner.specs.Steps.Block.{behind_mark, pass_question, begin_key}
-use Rattle.saphyr_scanner.specs.Steps.Passing.{with_cursor}
 use Rattle.saphyr_scanner.specs.Steps.Fetch.{step}
 use Rattle.yaml_laws.specs.Grammar.FlowNodes.{has_tab_outside}
 use Rattle.yaml_laws.proofs.InFlow.States.{Around, core_at, state_at, moment, FlowMoment, moment_in, moment_with}
 use Rattle.yaml_laws.proofs.Flow.Places.{right_one}
-use Rattle.yaml_laws.proofs.Flow.States.{moved, past, IsInk, IsParted, no_key, PassesPiece, FitsAround, StandsBefore}
+use Rattle.yaml_laws.proofs.Flow.States.{moved, IsInk, IsParted, no_key, PassesPiece, FitsAround, StandsBefore}
 use Rattle.yaml_laws.proofs.Flow.GapSteps.{past_ink}
 use Rattle.yaml_laws.proofs.Flow.Fillers.{separation_past}
 use Rattle.yaml_laws.proofs.Flow.Tokens.{arrives, step_comes, within_index}
@@ -29,8 +27,6 @@ use Rattle.yaml_laws.proofs.InBlock.Crossings.{fresh_in_flow}
 use Rattle.yaml_laws.proofs.Flow.Brackets.{IsTokenMark, mark_begins, mark_moved, one_on, token_mark}
 use Rattle.yaml_laws.proofs.Flow.Spaces.{separation_begins, spaces_passed}
 use Rattle.saphyr_input.proofs.Basics.Numbers.{le_next}
-use Rattle.saphyr_input.proofs.Basics.Characters.{ink_no_tab}
-use Rattle.std.proofs.lemmas.Bool.{true≢false}
 use Rattle.saphyr_input.specs.Indicators.{question_mark}
 use Rattle.saphyr_scanner.proofs.Queues.{token_place}
 
@@ -40,15 +36,13 @@ question = token_mark 63 refl
 white_first : (indent : ℕ) (w y : List ℕ) → IsSeparation indent w → w ≢ []
     → is_blank_or_breakz (slice_index (w ++ y) 0) ≡ true
 white_first indent w y parts some =
-    let b = separation_begins indent w parts some in
-    simp (b.is, by_first b.first b.white)
+    let b = separation_begins indent w parts some in simp (b.is, by_first b.first b.white)
   where
     blank : (c : ℕ) → is_blank c ≡ true → is_blank_or_breakz c ≡ true
     blank c h = grind (arith, nat_tests)
 
     by_first : (c : ℕ) → (is_blank c ≡ true) ⊎ (c ≡ line_feed) → is_blank_or_breakz c ≡ true
-    by_first c (inl h) = blank c h
-    by_first c (inr e) = ap is_blank_or_breakz e
+    by_first c h = grind arith
 
 question_reads_key : (second i : ℕ) (c : Core) → is_blank_or_breakz second ≡ true
     → step 63 second i c ≡ block.key_steps c
@@ -59,12 +53,7 @@ begins_key : (around : Around) (d : Bool) (s : Cursor) (y : Context) (k : Option
     (ad : ℕ) → is_block y ≡ false → begin_key (core_at around d s y k ls a ad)
     ≡ pass_question (core_at around d s (behind_question y) None ls false ad)
 unfolding begin_key remove_key
-begins_key around d s context.Block k ls a ad e = absurd (true≢false e)
-begins_key around d s context.FlowSequence k ls a ad e = refl
-begins_key around d s context.FlowMapping k ls a ad e = refl
-begins_key around d s context.FlowPair k ls a ad e = refl
-begins_key around d s context.ExplicitFlowPair k ls a ad e = refl
-begins_key around d s context.MarkedFlowPair k ls a ad e = refl
+begins_key around d s y k ls a ad e = grind arith
 
 passes_mark : (around : Around) (d : Bool) (o : List ℕ) (m : Marker) (b : Bool) (y : Context) (ls : List Level) (ad : ℕ)
     (n : Marker) (blank : Bool) (c : ℕ) (cs : List ℕ) → IsInk c
@@ -72,28 +61,16 @@ passes_mark : (around : Around) (d : Bool) (o : List ℕ) (m : Marker) (b : Bool
     → pass_question (core_at around d (cursor_at (question_mark ∷ o) m b) y None ls false ad)
     ≡ Ok (core_at around d (cursor_at (c ∷ cs) n blank) y None ls false ad)
 unfolding behind_mark
-passes_mark around d o m b y ls ad n blank c cs ink is =
-    let here = core_at around d (cursor_at (63 ∷ o) m b) y None ls false ad in
-    ap (λ (z : SpacesEnd). behind_mark z.space (with_cursor z.cursor here)) is ∙ rw (ink_no_tab c ink.blank) refl
+passes_mark around d o m b y ls ad n blank c cs ink is = grind arith
 
 question_flows : (y : Context) → is_block y ≡ false → is_block (behind_question y) ≡ false
-question_flows context.Block e = absurd (true≢false e)
-question_flows context.FlowSequence e = refl
-question_flows context.FlowMapping e = refl
-question_flows context.FlowPair e = refl
-question_flows context.ExplicitFlowPair e = refl
-question_flows context.MarkedFlowPair e = refl
+question_flows y e = grind arith
 
 key_of : (around : Around) (d : Bool) (s : Cursor) (y : Context) (k : Option Candidate) (ls : List Level) (a : Bool)
     (ad : ℕ) → is_block y ≡ false → block.key_steps (core_at around d s y k ls a ad)
     ≡ (begin_key (core_at around d s y k ls a ad) >>= λ e. completed_step (up_to_here s.mark tokens.Key e ∷ []) e)
 unfolding block.key_steps
-key_of around d s context.Block k ls a ad e = absurd (true≢false e)
-key_of around d s context.FlowSequence k ls a ad e = refl
-key_of around d s context.FlowMapping k ls a ad e = refl
-key_of around d s context.FlowPair k ls a ad e = refl
-key_of around d s context.ExplicitFlowPair k ls a ad e = refl
-key_of around d s context.MarkedFlowPair k ls a ad e = refl
+key_of around d s y k ls a ad e = grind arith
 
 -- A `?` before separation without a tab: the key after it is not kept.
 pub mark_passes : (around : Around) (y : Context) → is_block y ≡ false → (m : Marker) (o : List ℕ)
@@ -122,8 +99,7 @@ mark_passes around y flows m o fits parted some tabs now before text =
     (begins_key around d seen y v.key now.outer v.allowed now.adjacent flows
     ∙ passes_mark around d o m v.blank (behind_question y) now.outer now.adjacent n p.still_blank c cs parted.ends
     (cc)) in
-    let lands : past around.indent there.mark there.rest ≡ past around.indent (along m 1) o =
-    sym (cc (separation_past around.indent (along m 1) w (c ∷ cs) parted.parts on)) in
+    let lands = sym (cc (separation_past around.indent (along m 1) w (c ∷ cs) parted.parts on)) in
     let below = fits.below in
     let new = token_place m n tokens.Key ∷ [] in
     let next = moment there (behind_question y) None now.outer false now.adjacent now.places in

@@ -1,13 +1,11 @@
 -- The quoted scalars of a text in flow style are read, whatever comes after them.
-use Rattle.std.proofs.Common.{◌≡◌, ℕ, suc, ◌+◌, ◌≤◌, Bool, true, false, List, [], ◌∷◌, ◌++◌, drop, slice_index, Ok, refl, sym, ap, ◌∙◌, arith, subst, append_assoc, IsTrue, IsFalse, ◌⊎◌, inl, inr, encode_utf8_all}
+use Rattle.std.proofs.Common.{◌≡◌, ℕ, suc, ◌+◌, ◌≤◌, Bool, true, false, List, [], ◌∷◌, ◌++◌, drop, slice_index, Ok, refl, sym, ap, ◌∙◌, arith, subst, append_assoc, IsTrue, IsFalse, encode_utf8_all}
 use Rattle.std.specs.Prelude.{◌&&◌, ◌==◌, not}
 use Rattle.std.proofs.lemmas.Bool.{false≢true}
 use Rattle.std.proofs.lemmas.Bool.Decides.{nat_tests}
 use Rattle.saphyr_input.specs.Classes.{is_break, space, line_feed, carriage_return}
-use Rattle.saphyr_input.specs.Places.{is_document_indicator}
 use Rattle.saphyr_scalar.specs.declared.scalar.position.Marker.{Marker}
 use Rattle.saphyr_values.specs.declared.folding.Item.{Item}
-use Rattle.saphyr_values.specs.declared.folding.Item.TheVariants.{Escaped}
 use Rattle.saphyr_values.specs.declared.flow.Quote.{Quote}
 use Rattle.saphyr_values.specs.declared.flow.Quote.TheVariants.{Single, Double}
 use Rattle.saphyr_scalar.specs.Views.Cursor.{Cursor, along, next_line}
@@ -100,25 +98,16 @@ still_broken (c ∷ cs) o h = by_space (c == space) refl h (still_broken cs o)
         subst (λ (n : ℕ). IsTrue (is_break (slice_index (drop n (c ∷ (cs ++ o))) 0))) (sym counted) (on (rw count at k))
     by_space false e k on =
         let count : space_count (c ∷ cs) ≡ 0 = rw e refl in
-        let counted : space_count (c ∷ (cs ++ o)) ≡ 0 = rw e refl in
-        rw counted (rw count at k)
+        let counted : space_count (c ∷ (cs ++ o)) ≡ 0 = rw e refl in rw counted (rw count at k)
 
 -- no document marker begins a line of a clear piece, and each is indented as it was, or less is asked
 line_fits : (low indent : ℕ) → low ≤ indent → (m : Marker) (u o : List ℕ) (c : ℕ) (cs : List ℕ) → u ≡ c ∷ cs → m.col ≡ 0
     → IsClear m u o → IsLine indent u → IsLine low (u ++ o)
 line_fits low indent below m u o c cs is start clear line =
-    let unmarked : IsFalse (is_document_indicator (c ∷ (cs ++ o))) =
-    unmarked_at_start m.col (is_document_indicator (c ∷ (cs ++ o))) start (clear_here m c cs o (rw is at clear)) in
-    record { no_marker = rw is unmarked; indented = by_line line.indented }
-  where
-    by_line : (indent ≤ space_count u) ⊎ IsTrue (is_break (slice_index (drop (space_count u) u) 0))
-        → (low ≤ space_count (u ++ o)) ⊎ IsTrue (is_break (slice_index (drop (space_count (u ++ o)) (u ++ o)) 0))
-    by_line (inl k) = inl (let more = more_spaces u o in omega (arith, below, k, more))
-    by_line (inr k) = inr (still_broken u o k)
+    grind (arith, unmarked_at_start, clear_here, drop, more_spaces, still_broken)
 
 quote_closes : (q : Quote) (y : List ℕ) → (slice_index y 0 == 39) ≡ false → IsTrue (is_closing q (mark q ∷ y))
-quote_closes Single y h = rw h refl
-quote_closes Double y h = refl
+quote_closes q y h = grind arith
 
 -- a text between quotes, with its lines
 abbrev FitsQuotes : ℕ → Quote → List ℕ → List Item → List ℕ → Type 0
@@ -164,9 +153,7 @@ extends low indent below _ _ _ _ (escaped e c t items x h r) fit o m clear ends 
 extends low indent below _ _ _ _ (numbered e c ds t items x h r) fit o m clear ends =
     let more = extends low indent below Double t items x r fit o (moved m (backslash ∷ e ∷ ds))
     (clear_back m (backslash ∷ e ∷ ds) t o clear) ends in
-    let front : FitsQuotes low Double (backslash ∷ e ∷ (ds ++ (t ++ o))) (Escaped c ∷ items) (x ++ o) =
-    (numbered e c ds (t ++ o) items (x ++ o) h more.0, more.1) in
-    rw (append_assoc ds t o) front
+    rw (append_assoc ds t o) ((numbered e c ds (t ++ o) items (x ++ o) h more.0, more.1))
 extends low indent below _ _ _ _ (escaped_break t items x h r) fit o m clear ends =
     let n = moved m (backslash ∷ []) in
     let b = breaks n t o (clear_back m (backslash ∷ []) t o clear) h in
@@ -200,25 +187,15 @@ pub quoted_read : ReaderPromises → (low indent : ℕ) → low ≤ indent → (
     → s.rest ≡ t ++ o → IsQuoted quote indent value t → IsClear s.mark t o → (slice_index o 0 == 39) ≡ false
     → quotes.quoted quote low s ≡ Ok (encode_utf8_all value, mid_line (moved s.mark t) o)
 quoted_read reads low indent below quote s value t o is (inside, items, spelled, fit, stands_for, text) clear ends =
-    let behind = clear_back s.mark (mark quote ∷ []) inside o (rw text at clear) in
-    let more = extends low indent below quote inside items [] spelled fit o (moved s.mark (mark quote ∷ [])) behind
-    ends in
+    let more = extends low indent below quote inside items [] spelled fit o (moved s.mark (mark quote ∷ []))
+    (clear_back s.mark (mark quote ∷ []) inside o (rw text at clear)) ends in
     let got = reads.quoted quote low s items o (inside ++ o, is ∙ ap (λ (y : List ℕ). y ++ o) text, more.0) more.1 in
     let passed : IsPassed s.mark s.rest (moved s.mark t) o = subst
     (λ (y : List ℕ). IsPassed s.mark y (moved s.mark t) o) (sym is) (moved_passes s.mark t o clear.no_return) in
-    let there : got.0 ≡ moved s.mark t = reads.place s.mark s.rest (moved s.mark t) o passed got.0 got.1 in
-    cc
+    let there = reads.place s.mark s.rest (moved s.mark t) o passed got.0 got.1 in cc
 
 -- a quoted scalar ends right of a column that its lines reach
 pub quoted_right : (indent : ℕ) (quote : Quote) (m : Marker) (value t o : List ℕ) → IsQuoted quote indent value t
     → IsClear m t o → indent ≤ m.col → indent ≤ (moved m t).col
 quoted_right indent quote m value t o (inside, items, spelled, fit, stands_for, text) clear low =
-    let here = moved m (mark quote ∷ []) in
-    let all : IsClear m (mark quote ∷ inside) o = rw text at clear in
-    let right : indent ≤ here.col = right_one indent m (mark quote) (mark_no_feed quote) low in
-    rw text (text_right indent quote inside items [] spelled fit refl here
-    (inl (let n = space_count inside in omega (arith, right))) all.no_return.1)
-  where
-    mark_no_feed : (quote : Quote) → (mark quote == line_feed) ≡ false
-    mark_no_feed Single = refl
-    mark_no_feed Double = refl
+    grind (arith, moved, right_one, text_right)

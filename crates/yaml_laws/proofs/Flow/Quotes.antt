@@ -136,8 +136,7 @@ behind_step around d start style text s x k ls ad m y p g =
     let token = λ (e : Core). completed_step (from_to start p.there.mark (tokens.Scalar style text) ∷ [])
     (adjacent_here e) in
     ap (λ q. (q >>= λ (e : SkipTabs × Cursor). Ok (e.0, with_cursor e.1 c))
-    >>= λ (e : SkipTabs × Core). behind_quoted_line
-    start style text e.1) p.is
+    >>= λ (e : SkipTabs × Core). behind_quoted_line start style text e.1) p.is
     ∙ rw (p.goes d k ls false ad) (ap (λ q. q >>= token) (g.is d))
 
 -- ## The scalar

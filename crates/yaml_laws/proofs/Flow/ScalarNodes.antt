@@ -1,6 +1,6 @@
 -- The scalars of a text in flow style are passed, with their properties.
-use Rattle.std.proofs.Common.{◌≡◌, ◌≢◌, ℕ, ◌≤◌, Bool, List, [], ◌∷◌, ◌++◌, refl, sym, ap, ◌∙◌, arith, append_assoc, append-nil, inl, inr, ◌<◌, ◌⊎◌, true}
-use Rattle.std.specs.Prelude.{not, Option, Some, None}
+use Rattle.std.proofs.Common.{◌≡◌, ◌≢◌, ℕ, ◌≤◌, Bool, List, [], ◌∷◌, ◌++◌, refl, sym, arith, append_assoc, append-nil, inl, inr}
+use Rattle.std.specs.Prelude.{not, Option, None}
 use Rattle.std.proofs.lemmas.Bool.{false≢true}
 use Rattle.saphyr_input.specs.Indicators.{colon}
 use Rattle.saphyr_scalar.specs.declared.scalar.position.Marker.{Marker}
@@ -26,10 +26,7 @@ use Rattle.yaml_laws.proofs.Flow.Fronts.{behind_front}
 
 some_property : (anchor : Option (List ℕ)) (tag : Option Tag) (indent : ℕ) (t : List ℕ)
     → yaml.AreProperties anchor tag indent t → HasOne anchor tag
-some_property None None indent t h = absurd h
-some_property (Some name) None indent t h = tt
-some_property None (Some tag) indent t h = tt
-some_property (Some name) (Some tag) indent t h = tt
+some_property anchor tag indent t h = grind arith
 
 pub empty_are : (p : Properties) (indent : ℕ) (t : List ℕ) (tokens : List Kind) (place : grammar.Context)
     → IsProperties p indent t → grammar.YieldProperties p tokens → grammar.YieldsNode (Scalar p Plain []) place tokens
@@ -56,8 +53,7 @@ empty_passes reads around p m t o now h fits follows low text =
       are = λ place. empty_are p around.indent t r.tokens place h r.are;
       comment = None;
       none = λ _. refl;
-      passes = knowing r.passes
-          (after_node around.indent now.context (keeping now m t) (allows_adjacent node) end o)
+      passes = knowing r.passes (after_node around.indent now.context (keeping now m t) (allows_adjacent node) end o)
           (record {
             piece = known.piece;
             others = known.others;
@@ -78,11 +74,7 @@ follows_content {around} {x} {y} {node} {a} {b} {o} same place h = rw (same, pla
 
 low_content : {x y : Context} {ad bd : ℕ} (m e : Marker) → y ≡ x → bd ≡ ad → m.index ≤ e.index → IsLow x ad m
     → IsLow y bd e
-low_content {x} {y} {ad} {bd} m e same_context same later (low, h) = (omega (arith, same, later, low), by_context h)
-  where
-    by_context : (is_block x ≡ true) ⊎ (ad < m.index) → (is_block y ≡ true) ⊎ (bd < e.index)
-    by_context (inl k) = inl (ap is_block same_context ∙ k)
-    by_context (inr k) = inr (omega (arith, same, later, k))
+low_content {x} {y} {ad} {bd} m e same_context same later (low, h) = grind (arith)
 
 content_node : ReaderPromises → (around : Around) (p : Properties) (style : Style) (value front content o : List ℕ)
     (m : Marker) (now : FlowMoment) → IsBeforeContent p around.indent front

@@ -11,7 +11,7 @@ use Rattle.saphyr_input.specs.Separation.{comment_len, separation_len, found_bla
 use Rattle.saphyr_input.specs.declared.input.SkipTabs.{SkipTabs}
 use Rattle.saphyr_input.specs.declared.input.SkipTabs.TheVariants.{Yes}
 use Rattle.saphyr_scalar.specs.declared.scalar.position.Marker.{Marker}
-use Rattle.saphyr_scalar.specs.Views.Cursor.{Cursor, along, pass_blanks, separation, behind_separation}
+use Rattle.saphyr_scalar.specs.Views.Cursor.{Cursor, along, separation, behind_separation}
 use Rattle.saphyr_scalar.specs.Spelling.Tag.{AreIn}
 use Rattle.saphyr_scalar.specs.Reading.BlockLines.{spaces}
 use Rattle.saphyr_scalar.proofs.Runs.{run_len}
@@ -31,14 +31,7 @@ pub record StopsLine (comment more : List ℕ) : Type 0 where
   pub word : comment ≢ [] → is_yaml_non_break (slice_index more 0) ≡ false
 
 pub line_stops : (comment more : List ℕ) → EndsLine more → StopsLine comment more
-line_stops comment more (inl e) = rw e (record { mark = refl; blank = λ _. refl; sign = λ _. refl; word = λ _. refl })
-line_stops comment more (inr e) =
-    record {
-      mark = ap is_bom e;
-      blank = λ _. ap is_blank e;
-      sign = λ _. ap (λ (c : ℕ). c == 35) e;
-      word = λ _. ap is_yaml_non_break e;
-    }
+line_stops comment more h = grind (arith)
 
 pub ink_stops : (c : ℕ) (cs : List ℕ) → IsInk c → StopsLine [] (c ∷ cs)
 ink_stops c cs h = record {
@@ -53,8 +46,7 @@ comment_counts : (blanks comment more : List ℕ) → IsCommentBehind blanks com
 comment_counts blanks comment more (inl e) h = rw (e, h.sign e) refl
 comment_counts blanks comment more (inr (some, (words, are, is))) h =
     let other : comment ≢ [] = λ e. absurd (let f : [] ≡ 35 ∷ words = sym e ∙ is in cc) in
-    let run = run_len is_yaml_non_break words more are (h.word other) in
-    rw is (counted words run)
+    let run = run_len is_yaml_non_break words more are (h.word other) in rw is (counted words run)
   where
     counted : (words : List ℕ) → prefix_len is_yaml_non_break (words ++ more) ≡ length words
         → comment_len (number_sign ∷ (words ++ more)) ≡ length (number_sign ∷ words)
@@ -71,8 +63,7 @@ starts_white [] comment more are (inr k) h = absurd (k.0 refl)
 
 pub blank_stops : (blanks comment more : List ℕ) → IsCommentBehind blanks comment → StopsLine comment more
     → is_blank (slice_index (comment ++ more) 0) ≡ false
-blank_stops blanks comment more (inl e) h = ap (λ (t : List ℕ). is_blank (slice_index (t ++ more) 0)) e ∙ h.blank e
-blank_stops blanks comment more (inr k) h = ap (λ (t : List ℕ). is_blank (slice_index (t ++ more) 0)) k.1.2
+blank_stops blanks comment more h k = grind arith
 
 none_or_some : (n k : ℕ) → (k ≡ 0) ⊎ (0 < n) → cond (n == 0) 0 (n + k) ≡ n + k
 none_or_some n k (inl e) = rw e (by_some n)
@@ -108,15 +99,13 @@ line_separated s blanks comment more is are k h =
     let n = separation_len Yes s.rest in
     let count : n ≡ length (blanks ++ comment) = ap (separation_len Yes) is ∙ counts blanks comment more are k h in
     let text : s.rest ≡ (blanks ++ comment) ++ more = is ∙ sym (append_assoc blanks comment more) in
-    let left : drop n s.rest ≡ more = ap (λ (x : List ℕ). drop n x) text
-    ∙ ap (λ (i : ℕ). drop i ((blanks ++ comment) ++ more)) count ∙ drop-append_seam (blanks ++ comment) more in
+    let left : drop n s.rest ≡ more = cc (drop-append_seam (blanks ++ comment) more) in
     let there : Cursor = record {
       rest = more;
       mark = along s.mark (length (blanks ++ comment));
       blank_so_far = s.blank_so_far;
     } in
-    let place : pass_blanks n s ≡ there = rw (left, count) refl in
-    ap (behind_separation Yes s.rest) place
+    ap (behind_separation Yes s.rest) (rw (left, count) refl)
     ∙ separated s.rest there (ap (λ (x : List ℕ). slice_index x 0 == 35) is ∙ starts_white blanks comment more are k h)
     h.mark
 
@@ -127,18 +116,14 @@ within p q f [] h = tt
 within p q f (c ∷ cs) h = (f c h.0, within p q f cs h.1)
 
 comment_on_line : (comment : List ℕ) → (comment ≡ []) ⊎ IsComment comment → AreIn (λ c. not (c == line_feed)) comment
-comment_on_line comment (inl e) = rw e tt
-comment_on_line comment (inr h) =
-    rw h.2 (refl, within is_yaml_non_break (λ c. not (c == line_feed)) non_break_no_feed h.0 h.1)
+comment_on_line comment h = grind (arith, within, non_break_no_feed)
 
 pub blanks_moved : (m : Marker) (w : List ℕ) → AreIn is_blank w → moved m w ≡ along m (length w)
 blanks_moved m w h = moved_along m w (within is_blank (λ c. not (c == line_feed)) blank_no_feed w h)
 
 pub front_moved : (m : Marker) (blanks comment : List ℕ) → AreIn is_blank blanks → (comment ≡ []) ⊎ IsComment comment
     → moved m (blanks ++ comment) ≡ along m (length (blanks ++ comment))
-front_moved m blanks comment h k =
-    moved_along m (blanks ++ comment)
-    (both_in (λ c. not (c == line_feed)) blanks comment
+front_moved m blanks comment h k = moved_along m (blanks ++ comment) (both_in (λ c. not (c == line_feed)) blanks comment
     (within is_blank (λ c. not (c == line_feed)) blank_no_feed blanks h) (comment_on_line comment k))
 
 -- ## What is passed before the character that begins a token
@@ -174,8 +159,7 @@ pub line_rest : (s : Cursor) (blanks comment more : List ℕ) → s.rest ≡ bla
 line_rest s blanks comment more is are k ends =
     let mark = front_moved s.mark blanks comment are (behind_is blanks comment k) in (
       found_blanks Yes s.rest,
-      line_separated s blanks comment more is are k (line_stops comment more ends)
-          ∙ ap (λ (m : Marker). Ok
+      line_separated s blanks comment more is are k (line_stops comment more ends) ∙ ap (λ (m : Marker). Ok
           (let t : SkipTabs × Cursor =
           (found_blanks Yes s.rest, record { rest = more; mark = m; blank_so_far = s.blank_so_far }) in t))
           (sym mark),
@@ -185,12 +169,10 @@ pub separates_rest : (s : Cursor) (rest more : List ℕ) → s.rest ≡ rest ++ 
     → (found : SkipTabs) × (separation Yes s
     ≡ Ok (found, record { rest = more; mark = moved s.mark rest; blank_so_far = s.blank_so_far }))
 separates_rest s rest more is (front, comment, blank, k, e) ends =
-    let text : s.rest ≡ front ++ (comment ++ more) = is ∙ ap (λ (t : List ℕ). t ++ more) e
-    ∙ append_assoc front comment more in
+    let text : s.rest ≡ front ++ (comment ++ more) = cc (append_assoc front comment more) in
     let r = line_rest s front comment more text blank k ends in (
       r.0,
-      r.1 ∙ ap (λ (t : List ℕ). Ok
-          (let u : SkipTabs × Cursor =
+      r.1 ∙ ap (λ (t : List ℕ). Ok (let u : SkipTabs × Cursor =
           (r.0, record { rest = more; mark = moved s.mark t; blank_so_far = s.blank_so_far }) in u)) (sym e),
     )
 

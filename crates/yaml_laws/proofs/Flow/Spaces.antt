@@ -17,7 +17,6 @@ use Rattle.yaml_laws.proofs.Flow.Fillers.{separation_past}
 use Rattle.yaml_laws.proofs.InBlock.Gaps.{ink_stop}
 use Rattle.yaml_laws.proofs.InBlock.Skips.{has_tab, comment_has_tab, spaces_reach}
 use Rattle.yaml_laws.proofs.InBlock.Untabbed.{settles}
-use Rattle.std.proofs.lemmas.Bool.{or_parts}
 use Rattle.saphyr_input.specs.Indicators.{number_sign}
 use Rattle.saphyr_input.proofs.Basics.Characters.{non_break_no_break, return_breaks}
 
@@ -25,8 +24,7 @@ use Rattle.saphyr_input.proofs.Basics.Characters.{non_break_no_break, return_bre
 
 pub white_no_sign : (d : ℕ) (r : Bool) → (is_blank d || ((d == carriage_return) && r)) ≡ true
     → (d == number_sign) ≡ false
-white_no_sign d true h = grind (arith, nat_tests)
-white_no_sign d false h = grind (arith, nat_tests)
+white_no_sign d r h = grind arith
 
 pub break_no_sign : (d : ℕ) → is_break d ≡ true → (d == number_sign) ≡ false
 break_no_sign d h = grind (arith, nat_tests)
@@ -40,9 +38,7 @@ passed c cs (d ∷ ds) r e low = (ds, cc, cc)
 -- what is outside comments after a character
 outside : (c : ℕ) (ds w : List ℕ) (sign : Bool) → (c == number_sign) ≡ sign → w ≡ c ∷ ds
     → has_tab_outside false w ≡ false → ((c == tab) ≡ false) × (has_tab_outside sign ds ≡ false)
-outside c ds w sign e is h =
-    let n = or_parts (c == tab) (has_tab_outside (c == 35) ds) (ap (has_tab_outside false) (sym is) ∙ h) in
-    (n.0, cc)
+outside c ds w sign e is h = grind arith
 
 -- and after one of a comment
 outside_comment : (c : ℕ) (ds w : List ℕ) (ends : Bool) → is_break c ≡ ends → w ≡ c ∷ ds
@@ -72,8 +68,7 @@ over_outside =
       token = λ m c cs t e f g w is h. rw (e, f, g) refl;
       comment_ends = λ m w is h. refl;
       word = λ m c cs e on w is h.
-          let p = passed c cs w (past_comment 0 (along m 1) cs).1 (rw e at is)
-          (comment_shorter 0 (along m 1) cs) in
+          let p = passed c cs w (past_comment 0 (along m 1) cs).1 (rw e at is) (comment_shorter 0 (along m 1) cs) in
           rw e (on p.0 p.2 (outside_comment c p.0 w false (non_break_no_break c e) p.1 h));
       return = λ m c cs e f on w is h.
           let p = passed c cs w (past 0 (along m 1) cs).1 (rw (e, f) at is) (past_shorter 0 (along m 1) cs) in
@@ -103,8 +98,7 @@ separation_begins column w (lines, blanks, (pieces, each, lines_are), are, e) so
 
     of_line : (front comment more : List ℕ) → AreIn is_blank front → IsCommentBehind front comment
         → w ≡ front ++ (comment ++ (line_feed ∷ more)) → BeginsWhite w
-    of_line [] comment more k (inl none) same =
-        record { first = 10; others = more; is = cc; white = inr refl }
+    of_line [] comment more k (inl none) same = record { first = 10; others = more; is = cc; white = inr refl }
     of_line [] comment more k (inr behind) same = absurd (behind.0 refl)
     of_line (c ∷ cs) comment more k behind same =
         record { first = c; others = cs ++ (comment ++ (10 ∷ more)); is = same; white = inl k.0 }

@@ -71,44 +71,33 @@ abbrev mutual
 abbrev mutual
   pub past : ℕ → Marker → List ℕ → Marker × List ℕ
   past column m [] = (m, [])
-  past column m (c ∷ cs) =
-      if is_left_tab column m c && not (is_filler_rest cs) then (m, c ∷ cs)
+  past column m (c ∷ cs) = if is_left_tab column m c && not (is_filler_rest cs) then (m, c ∷ cs)
       else if is_blank c || ((c == 13) && (slice_index cs 0 == 10)) then past column (along m 1) cs
-      else if is_break c then past column (next_line m 1) cs
-      else if c == 35 then past_comment column (along m 1) cs
+      else if is_break c then past column (next_line m 1) cs else if c == 35 then past_comment column (along m 1) cs
       else (m, c ∷ cs)
 
   -- after the `#` of a comment
   pub past_comment : ℕ → Marker → List ℕ → Marker × List ℕ
   past_comment column m [] = (m, [])
-  past_comment column m (c ∷ cs) =
-      if is_yaml_non_break c then past_comment column (along m 1) cs
+  past_comment column m (c ∷ cs) = if is_yaml_non_break c then past_comment column (along m 1) cs
       else if (c == 13) && (slice_index cs 0 == 10) then past column (along m 1) cs
-      else if is_break c then past column (next_line m 1) cs
-      else (m, c ∷ cs)
+      else if is_break c then past column (next_line m 1) cs else (m, c ∷ cs)
 
 -- the text that is at m has the same next token as what is left at a moment
 abbrev pub StandsBefore : Around → FlowMoment → Marker → List ℕ → Type 0
-StandsBefore around now m t =
-    past around.indent now.cursor.mark now.cursor.rest ≡ past around.indent m t
+StandsBefore around now m t = past around.indent now.cursor.mark now.cursor.rest ≡ past around.indent m t
 
 -- Whether a break comes before the next token (the text's end): what `gap` knows where it stops.
 abbrev mutual
   pub crosses : List ℕ → Bool
   crosses [] = false
-  crosses (c ∷ cs) =
-      if is_blank c || ((c == 13) && (slice_index cs 0 == 10)) then crosses cs
-      else if is_break c then true
-      else if c == 35 then crosses_comment cs
-      else false
+  crosses (c ∷ cs) = if is_blank c || ((c == 13) && (slice_index cs 0 == 10)) then crosses cs
+      else if is_break c then true else if c == 35 then crosses_comment cs else false
 
   pub crosses_comment : List ℕ → Bool
   crosses_comment [] = false
-  crosses_comment (c ∷ cs) =
-      if is_yaml_non_break c then crosses_comment cs
-      else if (c == 13) && (slice_index cs 0 == 10) then crosses cs
-      else if is_break c then true
-      else false
+  crosses_comment (c ∷ cs) = if is_yaml_non_break c then crosses_comment cs
+      else if (c == 13) && (slice_index cs 0 == 10) then crosses cs else if is_break c then true else false
 
 -- whether a document marker begins a line of a text before `behind`, where the text is at a line's start or
 -- elsewhere
@@ -150,9 +139,7 @@ ends_colon c = is_blank_or_breakz c || (c == 44) || (c == 93) || (c == 125)
 
 -- what ends a node inside flow, after separation: a comma, a closing bracket, or the colon of a key
 abbrev pub EndsNode : Node → List ℕ → ℕ → List ℕ → Type 0
-EndsNode node separation c others =
-    (c ≡ 44) ⊎ ((c ≡ 93) ⊎ ((c ≡ 125)
-    ⊎ ((c ≡ 58) × IsBeforeColon node separation
+EndsNode node separation c others = (c ≡ 44) ⊎ ((c ≡ 93) ⊎ ((c ≡ 125) ⊎ ((c ≡ 58) × IsBeforeColon node separation
     × (IsTrue (allows_adjacent node separation) ⊎ IsTrue (ends_colon (slice_index others 0))))))
 
 -- what comes after a node inside flow
@@ -229,9 +216,7 @@ pub record ReaderPromises : Type 0 where
 
 -- What may be a key after a text that is at m: nothing, what could be one before it, or what begins in it.
 abbrev pub Since : Option Candidate → Marker → List ℕ → Option Candidate → Type 0
-Since k m t key =
-    (key ≡ None) ⊎ ((key ≡ k)
-    ⊎ ((front back : List ℕ) × (place : ℕ) × (t ≡ front ++ back)
+Since k m t key = (key ≡ None) ⊎ ((key ≡ k) ⊎ ((front back : List ℕ) × (place : ℕ) × (t ≡ front ++ back)
     × (key ≡ Some (record { mark = moved m front; place = place }))))
 
 -- what is kept inside flow after a text, and what could be a key before it, and where the text is
@@ -367,8 +352,7 @@ YieldsAnywhere node ts = (place : grammar.Context) → grammar.YieldsNode node p
 abbrev pub ReadsText : Around → Node → Marker → List ℕ → List ℕ → FlowMoment → Type 0
 ReadsText around node m t o now =
     FitsAround around m t o → Follows around now.context node (moved m t) o → IsLow now.context now.adjacent m
-    → StandsBefore around now m (t ++ o)
-    → TextPasses around now (YieldsAnywhere node) (allows_adjacent node) m t o
+    → StandsBefore around now m (t ++ o) → TextPasses around now (YieldsAnywhere node) (allows_adjacent node) m t o
 
 -- a node inside flow, or a plain scalar that is a key, with its colon right after it
 abbrev pub IsNodeOrKey : ℕ → Node → ℕ → List ℕ → List ℕ → Type 0

@@ -1,5 +1,5 @@
 -- The next token of a text in flow style is reached, and read and passed by a step.
-use Rattle.std.proofs.Common.{◌≡◌, ◌⊎◌, inl, inr, ℕ, ◌≤◌, Bool, true, false, List, [], ◌∷◌, ◌++◌, length, slice_index, refl, sym, ap, ◌∙◌, arith, ◌+◌, Ok}
+use Rattle.std.proofs.Common.{◌≡◌, ◌⊎◌, inl, inr, ℕ, ◌≤◌, Bool, true, false, List, [], ◌∷◌, ◌++◌, length, slice_index, refl, ap, ◌∙◌, arith, ◌+◌, Ok}
 use Rattle.std.specs.Prelude.{◌==◌, Option, None, ◌||◌, ◌&&◌, Some}
 use Rattle.saphyr_input.specs.Indicators.{percent_sign}
 use Rattle.saphyr_input.specs.Classes.{is_blank, is_z, is_bom}
@@ -16,12 +16,12 @@ use Rattle.yaml_laws.proofs.InFlow.States.{Around, core_at, state_at, FlowMoment
 use Rattle.yaml_laws.proofs.Flow.States.{moved, past, IsClear, IsFresh, Since, KeptKey, keeping, Known, PassesNoting, PassesPiece, FitsAround, StandsBefore, crosses}
 use Rattle.yaml_laws.proofs.Flow.Inks.{Begins}
 use Rattle.yaml_laws.proofs.Flow.Places.{moved_count, clear_here}
-use Rattle.yaml_laws.proofs.Flow.GapSteps.{past_ink, past_count}
+use Rattle.yaml_laws.proofs.Flow.GapSteps.{past_count}
 use Rattle.saphyr_scalar.proofs.Given.{cursor_at}
 use Rattle.saphyr_scanner.proofs.Queues.{token_place, queue_of}
 use Rattle.saphyr_scanner.proofs.Levels.{saved}
 use Rattle.std.proofs.Math.Nat.{zero-add}
-use Rattle.saphyr_input.specs.Places.{is_document_indicator, is_document_start, is_document_end}
+use Rattle.saphyr_input.specs.Places.{is_document_indicator}
 use Rattle.saphyr_scanner.specs.Steps.Gap.{GapEnd, stop}
 use Rattle.saphyr_scanner.specs.Steps.Passing.{pass_gap, check_comment, behind_gap}
 use Rattle.saphyr_scanner.specs.Steps.State.{State, on_core, after_step}
@@ -83,8 +83,7 @@ arrives around now m y text inked right calm =
       key = left;
       allowed = g.allowed;
       is = λ d. let reached = ap (λ r. r >>= drop_far_key) (g.is d) ∙ drops_far_key around None d there now.context
-          now.key
-          now.outer g.allowed now.adjacent calm in
+          now.key now.outer g.allowed now.adjacent calm in
           ap (λ r. on_core r (queue_of now.places) >>= λ (t : State). Ok
           (unroll (Some t.core.cursor.mark.col) t.core.cursor.mark t)) reached
           ∙ ap Ok (none_unrolls around m.col m there now.context left now.outer g.allowed now.adjacent now.places d
@@ -106,18 +105,7 @@ pub begins_here : (around : Around) (d : Bool) (now : FlowMoment) → BeginsToke
     → around.indent ≤ now.cursor.mark.col → fetch_here (state_at around now d)
     ≡ state_behind_content (slice_index now.cursor.rest 0) (slice_index now.cursor.rest 1) (state_at around now d)
 unfolding fetch_here
-begins_here around d now h right =
-    let n = and_or_false (now.cursor.mark.col == 0) (is_document_start now.cursor.rest)
-    (is_document_end now.cursor.rest) h.marker in
-    rw (
-      h.nul,
-      h.byte_order_mark,
-      h.directive,
-      and_false (now.cursor.mark.col == 0),
-      n.0,
-      n.1,
-      not_left around.column now.cursor.mark.col d (in_column around now.cursor.mark.col right),
-    ) refl
+begins_here around d now h right = grind (arith, and_or_false, and_false, not_left, in_column)
 
 -- what the step at the next token's first characters gives
 pub step_comes : (around : Around) (now : FlowMoment) (m : Marker) (y : List ℕ) (v : Arrives around now m y)
@@ -140,43 +128,32 @@ step_comes around now m y v h comment next actions to is done low =
     }) h v.right in
     let at_place = ap (λ (n : ℕ). after_step (step (slice_index y 0) (slice_index y 1) n c) (queue_of now.places))
     (zero-add (length now.places)) in
-    let made = ap (λ r. after_step r (queue_of now.places)) (is d)
-    ∙ ap (λ (q : Queue). Ok (let r : State =
+    let made = ap (λ r. after_step r (queue_of now.places)) (is d) ∙ ap (λ (q : Queue). Ok (let r : State =
     record (noted comment (state_at around next (to d))) { queue = q } in r)) done in
     there ∙ at_place ∙ made) low v.calm
 
 -- a place before the same token is within the limit
 pub within_index : (column limit : ℕ) (t : Cursor) (m : Marker) (o : List ℕ)
     → past column t.mark t.rest ≡ past column m o → m.index + length o ≤ limit → t.mark.index ≤ limit
-within_index column limit t m o e h =
-    let here = past_count column t.mark t.rest in
-    let there = past_count column m o in
-    let same : (past column t.mark t.rest).0.index + length (past column t.mark t.rest).1
-    ≡ (past column m o).0.index + length (past column m o).1 =
-    ap (λ (p : Marker × List ℕ). p.0.index + length p.1) e in
-    omega (arith, here, there, same, h)
+within_index column limit t m o e h = grind (arith, past_count, past)
 
 pub begins_past : (column : ℕ) (m : Marker) (p o : List ℕ) → Begins p → past column m (p ++ o) ≡ (m, p ++ o)
-begins_past column m p o b =
-    let front : p ++ o ≡ b.first ∷ (b.others ++ o) = ap (λ (t : List ℕ). t ++ o) b.is in
-    ap (past column m) front ∙ past_ink column m b.first (b.others ++ o) b.ink ∙ ap (λ (t : List ℕ). (m, t)) (sym front)
+begins_past column m p o b = grind arith
 
 pub begins_inked : (p o : List ℕ) → Begins p → is_blank (slice_index (p ++ o) 0) ≡ false
 begins_inked p o b = ap (λ (t : List ℕ). is_blank (slice_index (t ++ o) 0)) b.is ∙ b.ink.blank
 
 pub begins_token : (m : Marker) (p o : List ℕ) → Begins p → IsClear m p o → BeginsToken m (p ++ o)
 begins_token m p o b clear =
-    let front : p ++ o ≡ b.first ∷ (b.others ++ o) = ap (λ (t : List ℕ). t ++ o) b.is in
     let here = clear_here m b.first b.others o (rw b.is at clear) in
     let token : BeginsToken m (b.first ∷ (b.others ++ o)) =
     record { nul = b.nul; byte_order_mark = b.ink.byte_order_mark; directive = b.directive; marker = here } in
-    rw front token
+    rw (ap (λ (t : List ℕ). t ++ o) b.is) token
 
 -- A step over a token that is at m: y is what is there, and after the token o is at n. A comment may have ended it.
 -- `says` tells whether a key may begin after it, and where a colon may come at once.
 pub record TokenStep (around : Around) (comment : Option Marker) (says : Bool → ℕ → Type 0) (kind : Kind) (y : List ℕ)
-    (m n : Marker) (o : List ℕ)
-    (x : Context) (ls : List Level) (ad place : ℕ) (b : Bool) (j : Option Candidate)
+    (m n : Marker) (o : List ℕ) (x : Context) (ls : List Level) (ad place : ℕ) (b : Bool) (j : Option Candidate)
     (e : Bool) : Type 0 where
   pub there : Cursor
   pub end : Marker

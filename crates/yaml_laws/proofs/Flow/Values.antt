@@ -1,15 +1,14 @@
 -- The colons of a text in flow style are read, after a key and without one, and passed as pieces.
 use Rattle.std.proofs.Common.{◌≡◌, ℕ, ◌≤◌, Bool, true, false, List, [], ◌∷◌, ◌++◌, length, slice_index, refl, sym, ap, ◌∙◌, arith, append_assoc, IsTrue, ◌⊎◌, inl, inr, Ok}
-use Rattle.std.specs.Prelude.{Option, Some, None, if◌then◌else◌, ◌||◌, ◌==◌, not, nat_lt}
+use Rattle.std.specs.Prelude.{Option, Some, None, ◌||◌, ◌==◌, not, nat_lt}
 use Rattle.saphyr_scalar.specs.declared.scalar.position.Marker.{Marker}
 use Rattle.saphyr_scalar.specs.Views.Cursor.{Cursor, along, ◌>>=◌}
 use Rattle.saphyr_scalar.proofs.Given.{cursor_at}
 use Rattle.scalar_laws.specs.Spelling.Spaces.{IsSeparation}
 use Rattle.saphyr_scanner.specs.declared.engine.level.Context.{Context}
-use Rattle.saphyr_scanner.specs.declared.engine.level.Context.TheVariants as context
 use Rattle.saphyr_scanner.specs.Grammar.Tokens as tokens
 use Rattle.saphyr_scanner.specs.Grammar.Tokens.{Kind}
-use Rattle.saphyr_scanner.specs.Steps.Queue.{Place, bare_place, empty_piece, places_with_opening}
+use Rattle.saphyr_scanner.specs.Steps.Queue.{Place, bare_place, empty_piece}
 use Rattle.saphyr_scanner.specs.Steps.Core.{Action, Open, at_mark, completed_step, perform, Core, Put, StepResult}
 use Rattle.saphyr_scanner.specs.Steps.Level.{Candidate, Level, is_block, begins_pair, behind_colon}
 use Rattle.saphyr_scanner.specs.Steps.Value as value
@@ -17,7 +16,7 @@ use Rattle.saphyr_scanner.specs.Steps.Value.{value_alone, opening_actions, check
 use Rattle.saphyr_scanner.specs.Steps.State.{State}
 use Rattle.saphyr_scanner.specs.Grammar.Forest.{Node}
 use Rattle.yaml_laws.specs.Grammar.FlowNodes.{allows_adjacent}
-use Rattle.yaml_laws.proofs.InFlow.States.{Around, core_at, state_at, chains, moment, FlowMoment, moment_in, moment_with, required_at}
+use Rattle.yaml_laws.proofs.InFlow.States.{Around, core_at, state_at, chains, moment, FlowMoment, moment_in, moment_with}
 use Rattle.yaml_laws.proofs.Flow.States.{moved, past, IsParted, ends_colon, KeptKey, no_key, after_node, PassesPiece, FitsAround, after, StandsBefore}
 use Rattle.yaml_laws.proofs.Flow.Places.{right_one}
 use Rattle.yaml_laws.proofs.Flow.GapSteps.{past_ink}
@@ -27,7 +26,7 @@ use Rattle.yaml_laws.proofs.Flow.Joins.{step_passes}
 use Rattle.yaml_laws.proofs.InBlock.Crossings.{fresh_in_flow}
 use Rattle.yaml_laws.proofs.Flow.Brackets.{mark_begins, mark_moved, one_on, IsTokenMark, token_mark}
 use Rattle.saphyr_input.proofs.Basics.Numbers.{le_next}
-use Rattle.std.proofs.lemmas.Bool.{true≢false, or_right, eq-eqb}
+use Rattle.std.proofs.lemmas.Bool.{or_right, eq-eqb}
 use Rattle.saphyr_input.specs.Indicators.{colon, left_brace, left_bracket}
 use Rattle.saphyr_scanner.proofs.Queues.{place_kinds, queue_of, place_kinds_append, with_opening_seam}
 use Rattle.std.proofs.Math.Nat.{sub-zero}
@@ -46,14 +45,7 @@ use Rattle.saphyr_input.proofs.Basics.Booleans.{by_test, and_false}
 
 is_flow_or_blank : (c : ℕ) → IsTrue (ends_colon c) → is_blank_or_breakz c ≡ false
     → (is_flow c ≡ true) × (((c == left_bracket) || (c == left_brace)) ≡ false)
-is_flow_or_blank c h e = (flow_one c h e, other c h e)
-  where
-    flow_one : (c : ℕ) → IsTrue (ends_colon c) → is_blank_or_breakz c ≡ false → is_flow c ≡ true
-    flow_one c h e = grind (arith, nat_tests)
-
-    other : (c : ℕ) → IsTrue (ends_colon c) → is_blank_or_breakz c ≡ false
-        → ((c == left_bracket) || (c == left_brace)) ≡ false
-    other c h e = grind (arith, nat_tests)
+is_flow_or_blank c h e = grind arith
 
 -- where a colon may come at once, or before what ends it
 pub colon_reads_value : (around : Around) (d : Bool) (second i : ℕ) (s : Cursor) (y : Context) (k : Option Candidate)
@@ -63,8 +55,7 @@ unfolding step flow_value_steps
 colon_reads_value around d second i s y k ls a ad e (inl f) =
     let c = core_at around d s y k ls a ad in
     by_test (is_blank_or_breakz second) (value.value_steps c) _ (λ (r : StepResult). r ≡ value.value_steps c)
-    (λ _. refl)
-    (λ _. rw (eq-eqb s.mark.index ad f, or_right (is_flow second) true refl, e) refl)
+    (λ _. refl) (λ _. rw (eq-eqb s.mark.index ad f, or_right (is_flow second) true refl, e) refl)
 colon_reads_value around d second i s y k ls a ad e (inr h) =
     let c = core_at around d s y k ls a ad in
     by_test (is_blank_or_breakz second) (value.value_steps c) _ (λ (r : StepResult). r ≡ value.value_steps c)
@@ -97,8 +88,7 @@ tabbed around o m y k ls a ad flows parted right = by_tab (slice_index o 0 == 9)
         parted.parts right parted.ends in
         record {
           there = p.there;
-          is = λ d. rw e (ap (λ q.
-              (q >>= λ (z : SkipTabs × Cursor). Ok
+          is = λ d. rw e (ap (λ q. (q >>= λ (z : SkipTabs × Cursor). Ok
               (z.0, with_cursor z.1 (core_at around d (cursor_at o m false) y k ls a ad))) >>= refuse_lone_tab) p.is
               ∙ no_refusal around d p.found p.there y k ls a ad flows);
           lands = p.lands;
@@ -123,21 +113,10 @@ pub opens_key : (around : Around) (d : Bool) (k : Candidate) (start : Marker) (t
     ≡ completed_step (Open k.place (opened_key (begins_pair y)) ∷ at_mark start tokens.Value ∷ [])
     (core_at around d there (behind_colon y) None ls false ad)
 unfolding value_of_key
-opens_key around d k start there context.Block ls a ad e line = absurd (true≢false e)
-opens_key around d k start there context.FlowSequence ls a ad e line =
-    rw (no_later k.mark.line start.line (line refl)) refl
-opens_key around d k start there context.FlowMapping ls a ad e line = refl
-opens_key around d k start there context.FlowPair ls a ad e line = rw (no_later k.mark.line start.line (line refl)) refl
-opens_key around d k start there context.ExplicitFlowPair ls a ad e line = refl
-opens_key around d k start there context.MarkedFlowPair ls a ad e line = refl
+opens_key around d k start there y ls a ad e line = grind arith
 
 pub colon_flows : (y : Context) → is_block y ≡ false → is_block (behind_colon y) ≡ false
-colon_flows context.Block e = absurd (true≢false e)
-colon_flows context.FlowSequence e = refl
-colon_flows context.FlowMapping e = refl
-colon_flows context.FlowPair e = refl
-colon_flows context.ExplicitFlowPair e = refl
-colon_flows context.MarkedFlowPair e = refl
+colon_flows y e = grind arith
 
 pub fetches : (around : Around) (d : Bool) (o : List ℕ) (m : Marker) (b : Bool) (y : Context) (k : Option Candidate)
     (ls : List Level) (a : Bool) (ad : ℕ) → is_block y ≡ false
@@ -145,13 +124,7 @@ pub fetches : (around : Around) (d : Bool) (o : List ℕ) (m : Marker) (b : Bool
     → value.value_steps (core_at around d (cursor_at (colon ∷ o) m b) y k ls a ad)
     ≡ behind_key k (begins_pair y) m (core_at around d p.there (behind_colon y) k ls a ad)
 unfolding value.value_steps
-fetches around d o m b y k ls a ad flows p =
-    let same : required_at around y ≡ required_at around (behind_colon y) =
-    ap (λ (q : Bool). if q then around.pending else around.required) (flows ∙ sym (colon_flows y flows)) in
-    ap (λ (q : Bool). check_tab
-    (record (core_at around d (cursor_at o (along m 1) false) (behind_colon y) k ls a ad) { required = q })
-    >>= λ (e : Core). behind_key e.level.key (begins_pair y) m e) same
-    ∙ ap (λ q. q >>= λ (e : Core). behind_key e.level.key (begins_pair y) m e) (p.is d)
+fetches around d o m b y k ls a ad flows p = grind arith
 
 pub behind_some : (k : Candidate) (begins : Bool) (m : Marker) (c : Core)
     → behind_key (Some k) begins m c ≡ value_of_key k begins m c
@@ -174,29 +147,13 @@ pair_places op key others mark = record { opening = op; piece = key } ∷ (other
 pub performs : (ps others new : List Place) (op : Opening) (key mark : Piece) → new ≡ bare_place key ∷ others
     → perform (Open (length ps) op ∷ Put mark ∷ []) (queue_of (ps ++ new))
     ≡ queue_of (ps ++ pair_places op key others mark)
-performs ps others new op key mark is =
-    let places = ap (λ (i : ℕ). places_with_opening i op (ps ++ new)) (sub-zero (length ps))
-    ∙ ap (λ (x : List Place). places_with_opening (length ps) op (ps ++ x)) is
-    ∙ with_opening_seam op ps (bare_place key) others in
-    ap (λ (x : List Place). queue_of (x ++ bare_place mark ∷ [])) places
-    ∙ ap queue_of (append_assoc ps (record { opening = op; piece = key } ∷ others) (bare_place mark ∷ []))
+performs ps others new op key mark is = grind (arith, sub-zero, with_opening_seam, queue_of, append_assoc)
 
 pub pair_kinds : (begins : Bool) (key : Piece) (others new : List Place) (m : Marker) (ts : List Kind)
     → new ≡ bare_place key ∷ others → place_kinds new ≡ ts
     → place_kinds (pair_places (opened_key begins) key others (empty_piece m tokens.Value))
     ≡ key_kinds begins ++ (ts ++ tokens.Value ∷ [])
-pair_kinds begins key others new m ts is are =
-    let whole : place_kinds (bare_place key ∷ others) ≡ ts = ap place_kinds (sym is) ∙ are in
-    let back = place_kinds_append (bare_place key ∷ others) (bare_place (empty_piece m tokens.Value) ∷ [])
-    ∙ ap (λ (x : List Kind). x ++ tokens.Value ∷ []) whole in
-    by_opening begins back
-  where
-    by_opening : (begins : Bool)
-        → place_kinds (bare_place key ∷ (others ++ bare_place (empty_piece m tokens.Value) ∷ [])) ≡ ts ++
-        tokens.Value ∷ [] → place_kinds (pair_places (opened_key begins) key others (empty_piece m tokens.Value))
-        ≡ key_kinds begins ++ (ts ++ tokens.Value ∷ [])
-    by_opening true e = ap (λ (x : List Kind). tokens.FlowMappingStart ∷ tokens.Key ∷ x) e
-    by_opening false e = ap (λ (x : List Kind). tokens.Key ∷ x) e
+pair_kinds begins key others new m ts is are = grind (arith, place_kinds, place_kinds_append)
 
 -- the key that a token at a place of the text and of the queue may be
 abbrev pub key_at : Marker → List Place → Candidate
@@ -219,7 +176,6 @@ colon_passes around y flows first e node w o parts fits parted ends same_line st
     let n = p.knows in
     let lands : past around.indent e (w ++ (58 ∷ o)) ≡ (m, 58 ∷ o) =
     separation_past around.indent e w (58 ∷ o) parts p.right ∙ past_ink around.indent m 58 o colon_is_mark.ink in
-    let before : p.adjacent ≤ m.index = rw lands at n.low in
     let qs = ps ++ p.new in
     let v = arrives around (after p) m (58 ∷ o) (p.fits ∙ lands) refl fits.right fits.calm in
     let k = key_at first ps in
@@ -251,7 +207,7 @@ colon_passes around y flows first e node w o parts fits parted ends same_line st
       fits = t.lands ∙ ap (λ (q : Marker). past around.indent q o) (mark_moved m 58 colon_is_mark);
       fresh = fresh_in_flow (behind_colon y) o false t.there (colon_flows y flows);
       are = pair_kinds (begins_pair y) n.piece n.others p.new m ts n.is p.are;
-      knows = (came.same (colon_flows y flows), refl, one_on m 58 p.adjacent before);
+      knows = (came.same (colon_flows y flows), refl, one_on m 58 p.adjacent (rw lands at n.low));
     }
   where
     by_place : IsTrue (allows_adjacent node w) ⊎ IsTrue (ends_colon (slice_index o 0))
@@ -279,24 +235,15 @@ alone_step : (around : Around) (d : Bool) (m : Marker) (there : Cursor) (y : Con
     (ad : ℕ) → is_block y ≡ false → value_alone (begins_pair y) m (core_at around d there (behind_colon y) None ls a ad)
     ≡ completed_step (alone_actions (begins_pair y) m) (core_at around d there (behind_colon y) None ls false ad)
 unfolding value_alone opening_actions
-alone_step around d m there context.Block ls a ad e = absurd (true≢false e)
-alone_step around d m there context.FlowSequence ls a ad e = refl
-alone_step around d m there context.FlowMapping ls a ad e = refl
-alone_step around d m there context.FlowPair ls a ad e = refl
-alone_step around d m there context.ExplicitFlowPair ls a ad e = refl
-alone_step around d m there context.MarkedFlowPair ls a ad e = refl
+alone_step around d m there y ls a ad e = grind arith
 
 alone_puts : (begins : Bool) (ps : List Place) (m : Marker)
     → perform (alone_actions begins m) (queue_of ps) ≡ queue_of (ps ++ alone_places begins m)
-alone_puts true ps m = ap queue_of
-    (append_assoc ps (bare_place (empty_piece m tokens.FlowMappingStart) ∷ []) (bare_place (empty_piece m tokens.Value)
-    ∷ []))
-alone_puts false ps m = refl
+alone_puts begins ps m = grind (arith, queue_of, append_assoc)
 
 alone_told : (begins : Bool) (m : Marker)
     → place_kinds (alone_places begins m) ≡ alone_kinds begins ++ tokens.Value ∷ []
-alone_told true m = refl
-alone_told false m = refl
+alone_told begins m = grind arith
 
 -- A colon where no key is kept: a key that is left out, or that a `?` began.
 pub value_passes : (around : Around) (y : Context) → is_block y ≡ false → (m : Marker) (o : List ℕ)
@@ -321,8 +268,7 @@ value_passes around y flows m o fits parted now none ends before text =
     let new = alone_places (begins_pair y) m in
     let next = moment t.there (behind_colon y) None now.outer false now.adjacent now.places in
     let came = step_comes around (moment_in y now) m (58 ∷ o) v (mark_begins m 58 o colon_is_mark fits.clear) None
-    (moment_with new next) (alone_actions (begins_pair y) m) (λ d. d) stepped
-    (alone_puts (begins_pair y) now.places m)
+    (moment_with new next) (alone_actions (begins_pair y) m) (λ d. d) stepped (alone_puts (begins_pair y) now.places m)
     (within_index around.indent around.limit t.there (along m 1) o t.lands (omega (arith, below))) in
     step_passes next new (moved m (58 ∷ [])) o (alone_kinds (begins_pair y)
     ++ tokens.Value ∷ []) (no_key (moved m (58 ∷ []))) came (right_one around.indent m 58 refl fits.right)

@@ -1,6 +1,6 @@
 -- The gaps between the words of a plain scalar in flow style are gaps as they are read.
-use Rattle.std.proofs.Common.{◌≡◌, ◌≢◌, ℕ, zero, suc, ◌+◌, ◌≤◌, Bool, true, false, List, [], ◌∷◌, ◌++◌, slice_index, refl, sym, ap, ◌∙◌, arith, subst, append_assoc, append-nil, IsTrue, IsFalse, ◌⊎◌, inl, inr}
-use Rattle.std.specs.Prelude.{◌||◌, ◌&&◌, ◌==◌, not, nat_lt, if◌then◌else◌}
+use Rattle.std.proofs.Common.{◌≡◌, ◌≢◌, ℕ, zero, suc, ◌+◌, ◌≤◌, Bool, false, List, [], ◌∷◌, ◌++◌, refl, sym, ◌∙◌, arith, subst, append_assoc, append-nil, IsTrue, IsFalse, ◌⊎◌, inl, inr}
+use Rattle.std.specs.Prelude.{◌&&◌, ◌==◌, not, nat_lt, if◌then◌else◌}
 use Rattle.std.specs.List.{prefix_len}
 use Rattle.std.proofs.lemmas.Bool.Decides.{nat_tests}
 use Rattle.saphyr_input.specs.Breaks.{normalized}
@@ -29,11 +29,7 @@ pub no_return : (c : ℕ) → IsTrue (not (c == carriage_return)) → (c == carr
 no_return c h = grind (arith, nat_tests)
 
 feed_alone : (c : ℕ) (cs : List ℕ) → (c == carriage_return) ≡ false → ends_line c cs ≡ (c == line_feed)
-feed_alone c cs h = rw h (by_feed (c == line_feed))
-  where
-    by_feed : (b : Bool) → ((b || false) && not (false && (slice_index cs 0 == line_feed))) ≡ b
-    by_feed true = refl
-    by_feed false = refl
+feed_alone c cs h = grind arith
 
 pub passed_moved : (m : Marker) (t : List ℕ) → NoReturn t → end_of_text m t ≡ moved m t
 passed_moved m [] h = refl
@@ -78,8 +74,7 @@ not_nothing (d ∷ a) c b e = absurd (cc)
 
 blanks_alone : (t : List ℕ) → AreIn is_blank t → behind_blanks t ≡ []
 blanks_alone [] h = refl
-blanks_alone (c ∷ cs) h =
-    rw h.0 (let one : 1 + prefix_len is_blank cs ≡ suc (prefix_len is_blank cs) =
+blanks_alone (c ∷ cs) h = rw h.0 (let one : 1 + prefix_len is_blank cs ≡ suc (prefix_len is_blank cs) =
     omega arith in cc (blanks_alone cs h.1))
 
 blanks_before : (t : List ℕ) (c : ℕ) (cs : List ℕ) → AreIn is_blank t → is_blank c ≡ false
@@ -112,8 +107,7 @@ spaces_fit indent n (suc k) y h = spaces_fit indent (n + 1) k y (rw (one n k) at
 blanks_fit : (indent n : ℕ) (w y : List ℕ) → AreIn is_blank w → indent ≤ n
     → ((i : ℕ) → IsFalse (reaches_tabbed indent i false y)) → IsFalse (reaches_tabbed indent n false (w ++ y))
 blanks_fit indent n [] y h right fits = fits n
-blanks_fit indent n (c ∷ cs) y h right fits =
-    rw (h.0, no_line c h.0, not_left n indent right, and_true (c == tab))
+blanks_fit indent n (c ∷ cs) y h right fits = rw (h.0, no_line c h.0, not_left n indent right, and_true (c == tab))
     (blanks_fit indent (n + 1) cs y h.1 (omega (arith, right)) fits)
   where
     no_line : (c : ℕ) → IsTrue (is_blank c) → is_break c ≡ false
@@ -123,21 +117,12 @@ blanks_fit indent n (c ∷ cs) y h right fits =
     not_left a b h = grind (arith, nat_tests)
 
     and_true : (b : Bool) → (b && false) ≡ false
-    and_true true = refl
-    and_true false = refl
+    and_true b = grind arith
 
 prefix_fits : (indent : ℕ) (t y : List ℕ) → IsLinePrefix indent t
     → ((i : ℕ) → IsFalse (reaches_tabbed indent i false y)) → IsFalse (reaches_tabbed indent 0 false (t ++ y))
 prefix_fits indent t y (front, blanks, (n, low, spaced), are, is) fits =
-    let text : t ++ y ≡ spaces n ++ (blanks ++ y) = cc (append_assoc (spaces n) blanks y) in
-    rw text (spaces_fit indent 0 n (blanks ++ y) (at_column 0 n refl (blanks_fit indent n blanks y are low fits)))
-  where
-    none : (n : ℕ) → 0 + n ≡ n
-    none n = omega arith
-
-    at_column : (z n : ℕ) → z ≡ 0 → IsFalse (reaches_tabbed indent n false (blanks ++ y))
-        → IsFalse (reaches_tabbed indent (z + n) false (blanks ++ y))
-    at_column z n e h = rw (e, none n) h
+    grind (arith, append_assoc, spaces_fit, blanks_fit)
 
 feed_fits : (indent n : ℕ) (y : List ℕ) → IsFalse (reaches_tabbed indent 0 false y)
     → IsFalse (reaches_tabbed indent n false (line_feed ∷ y))
@@ -145,18 +130,12 @@ feed_fits indent n y h = h
 
 line_fits : (indent : ℕ) (t y : List ℕ) → IsEmptyLine indent t → IsFalse (reaches_tabbed indent 0 false y)
     → IsFalse (reaches_tabbed indent 0 false (t ++ y))
-line_fits indent t y (front, inl (n, low, spaced), is) h =
-    let text : t ++ y ≡ spaces n ++ (10 ∷ y) = cc (append_assoc (spaces n) (10 ∷ []) y) in
-    rw text (spaces_fit indent 0 n (10 ∷ y) (feed_fits indent n y h))
-line_fits indent t y (front, inr p, is) h =
-    let text : t ++ y ≡ front ++ (10 ∷ y) = cc (append_assoc front (10 ∷ []) y) in
-    rw text (prefix_fits indent front (10 ∷ y) p (λ i. feed_fits indent i y h))
+line_fits indent t y h k = grind (arith, append_assoc, spaces_fit, feed_fits, prefix_fits)
 
 lines_fit : (indent : ℕ) (ts : List (List ℕ)) (y : List ℕ) → AreEach (IsEmptyLine indent) ts
     → IsFalse (reaches_tabbed indent 0 false y) → IsFalse (reaches_tabbed indent 0 false (joined_pieces ts ++ y))
 lines_fit indent [] y h fits = fits
-lines_fit indent (t ∷ ts) y h fits =
-    rw (append_assoc t (joined_pieces ts) y)
+lines_fit indent (t ∷ ts) y h fits = rw (append_assoc t (joined_pieces ts) y)
     (line_fits indent t (joined_pieces ts ++ y) h.0 (lines_fit indent ts y h.1 fits))
 
 -- what is between two words
@@ -170,9 +149,7 @@ pub record Gapped (indent : ℕ) (m : Marker) (t : List ℕ) : Type 0 where
 -- a line's prefix reaches the indentation
 pub prefix_reaches : (indent : ℕ) (m : Marker) (t : List ℕ) → IsLinePrefix indent t → indent ≤ (moved m t).col
 prefix_reaches indent m t (front, blanks, (n, low, spaced), are, is) =
-    let k = moved m front in
-    let there = ap (λ (f : List ℕ). (moved m f).col) spaced ∙ spaces_column m n in
-    rw (is, moved_append m front blanks) (blanks_past indent blanks are k (omega (arith, low, there))).right
+    grind (arith, moved, spaces_column, moved_append, blanks_past)
 
 folded_gap_passes : (indent : ℕ) (m : Marker) (t : List ℕ) → IsFoldedGap indent t → Gapped indent m t
 folded_gap_passes indent m t (blanks, lines, front, are, (pieces, each, joins), prefix, is) =

@@ -16,7 +16,7 @@ use Rattle.yaml_laws.specs.Grammar.FlowScalars.{IsWordGap, IsLoneDash, IsFurther
 use Rattle.yaml_laws.proofs.Flow.States.{moved, IsClear}
 use Rattle.yaml_laws.proofs.Flow.Places.{moved_append, right_along, clear_front, clear_back, clear_here}
 use Rattle.yaml_laws.proofs.Flow.Names.{unbroken_along, unbroken_on_line}
-use Rattle.saphyr_input.proofs.Basics.Booleans.{none_of_three, and_false}
+use Rattle.saphyr_input.proofs.Basics.Booleans.{none_of_three}
 use Rattle.yaml_laws.proofs.Flow.WordGaps.{passed_moved, word_gap, plain_gap}
 
 -- ## Words
@@ -28,8 +28,7 @@ pub record IsOther (f : Bool) (c : ℕ) : Type 0 where
   pub flow : (f && is_flow c) ≡ false
 
 pub ink_other : (f : Bool) (c : ℕ) → IsTrue (is_word_ink f c) → IsOther f c
-ink_other f c h = let p =
-    none_of_three (is_blank_or_breakz c) (is_bom c) (f && is_flow c) h in
+ink_other f c h = let p = none_of_three (is_blank_or_breakz c) (is_bom c) (f && is_flow c) h in
     record { blank_or_breakz = p.0; byte_order_mark = p.1; flow = p.2 }
 
 pub ink_no_break : (c : ℕ) → is_blank_or_breakz c ≡ false → is_break c ≡ false
@@ -50,11 +49,7 @@ ink_before f (c ∷ cs) y h = (h.0, λ e. next cs (h.1 e) h.2, ink_before f cs y
     next (d ∷ ds) some k = k.0
 
 lone_dash : (c : ℕ) (f second : Bool) → (f ≡ true → second ≡ false) → (f && (c == hyphen) && second) ≡ false
-lone_dash c f second h = by_flow f h
-  where
-    by_flow : (g : Bool) → (g ≡ true → second ≡ false) → (g && (c == hyphen) && second) ≡ false
-    by_flow false h = refl
-    by_flow true h = rw (h refl) (and_false (c == 45))
+lone_dash c f second h = grind arith
 
 -- a word comes before anything
 pub word_before : (f : Bool) (w y : List ℕ) → IsWordIn f w → IsWordBefore f w y
@@ -73,9 +68,7 @@ word_before f w y h = record {
       where
         by_test : (g : Bool) (q : Bool) → (c == hyphen) ≡ q → (g ≡ true → (c ∷ []) ≢ hyphen ∷ [])
             → (g && q && b) ≡ false
-        by_test false q e k = refl
-        by_test true false e k = refl
-        by_test true true e k = absurd (k refl (ap (λ (z : ℕ). z ∷ []) (dash c e)))
+        by_test g q e k = grind arith
 
     by_word : (w : List ℕ) → w ≢ [] → AreWordInk f w → (f ≡ true → w ≢ hyphen ∷ [])
         → (f && (slice_index (w ++ y) 0 == hyphen) && is_flow (slice_index (w ++ y) 1)) ≡ false
@@ -85,8 +78,7 @@ word_before f w y h = record {
 
 -- a colon is a character of a word
 pub colon_is_ink : (f : Bool) → IsTrue (is_word_ink f 58)
-colon_is_ink true = refl
-colon_is_ink false = refl
+colon_is_ink f = grind arith
 
 -- a key's last word comes before the key's colon
 pub last_before : (f : Bool) (w r : List ℕ) → IsLastWord f w → IsWordBefore f w (colon ∷ r)
@@ -132,8 +124,7 @@ behind_word m word more o unbroken clear = rw (unbroken_along m word unbroken) a
 -- at a word
 at_word : (m : Marker) (gap word more o : List ℕ) → IsClear m (gap ++ (word ++ more)) o
     → IsClear (end_of_text m gap) (word ++ more) o
-at_word m gap word more o clear =
-    rw (passed_moved m gap (clear_front m gap (word ++ more) o clear).no_return)
+at_word m gap word more o clear = rw (passed_moved m gap (clear_front m gap (word ++ more) o clear).no_return)
     (clear_back m gap (word ++ more) o clear)
 
 -- a gap and a word before others
@@ -142,11 +133,9 @@ one_further : (f : Bool) (indent : ℕ) (m : Marker) (gap word more o : List ℕ
     → IsFurther f indent (along (end_of_text m gap) (length word)) more o
     → IsFurther f indent m (gap ++ (word ++ more)) o
 one_further f indent m gap word more o gapped is_word clear rest =
-    let there : end_of_text m gap ≡ moved m gap =
-    passed_moved m gap (clear_front m gap (word ++ more) o clear).no_return in
+    let there = passed_moved m gap (clear_front m gap (word ++ more) o clear).no_return in
     let unbroken = word_unbroken f word (more ++ o) is_word.ink in
-    let line : moved (end_of_text m gap) word ≡ along (end_of_text m gap) (length word) =
-    unbroken_along (end_of_text m gap) word unbroken in
+    let line = unbroken_along (end_of_text m gap) word unbroken in
     let unmarked : IsNoMarker (end_of_text m gap) (word ++ (words_text rest.words ++ o)) =
     rw rest.is at (no_marker (end_of_text m gap) word (more ++ o) is_word.some
     (clear_front (end_of_text m gap) word more o (at_word m gap word more o clear))) in
@@ -186,8 +175,7 @@ dash_before f y apart = record {
 }
   where
     dash_is_ink : (f : Bool) → IsTrue (is_word_ink f 45)
-    dash_is_ink true = refl
-    dash_is_ink false = refl
+    dash_is_ink f = grind arith
 
 -- lone `-` and their gaps, and what comes after them
 dashes_further : (f : Bool) (indent : ℕ) (pieces : List (List ℕ)) → AreEach (IsLoneDash indent) pieces
@@ -222,8 +210,7 @@ further_words f indent [] h last o ends m clear = ends m clear
 further_words f indent (p ∷ ps) ((dashes, gap, word, (lone, each, joins), gapped, is_word, is), others) last o ends m
     clear =
     let more = joined_pieces ps ++ last in
-    let text : (p ++ joined_pieces ps) ++ last ≡ joined_pieces lone ++ (gap ++ (word ++ more)) =
-    ap (λ (t : List ℕ). (t ++ joined_pieces ps) ++ last) (is ∙ ap (λ (t : List ℕ). t ++ (gap ++ word)) joins)
+    let text = ap (λ (t : List ℕ). (t ++ joined_pieces ps) ++ last) (is ∙ ap (λ (t : List ℕ). t ++ (gap ++ word)) joins)
     ∙ simp append_assoc in
     let before = word_before f word (more ++ o) is_word in
     rw text (dashes_further f indent lone each (gap ++ (word ++ more)) o (apart gapped more)

@@ -90,8 +90,7 @@ pub pair_ink : {limit : ℕ} → ReadsLeaves limit → (key value : Node) (m : �
 pair_ink leaves key value m t o (inl (inl (node, between, v, node_is, line, spaced, before, short, h, e))) =
     let b = further_ink node (between ++ (58 ∷ v)) (key_text_ink leaves key m node between node_is) in
     record { first = b.first; others = b.others; is = e ∙ b.is; ink = b.ink }
-pair_ink leaves key value m t o (inl (inr (v, out, h, e))) =
-    record { first = 58; others = v; is = e; ink = colon_ink }
+pair_ink leaves key value m t o (inl (inr (v, out, h, e))) = record { first = 58; others = v; is = e; ink = colon_ink }
 pair_ink leaves key value m t o (inr (inl (node, out, some, h, unvalued, e))) =
     record { first = 63; others = node; is = e; ink = question_ink }
 pair_ink leaves key value m t o (inr (inr (node, colon, v, some, h, mark, k, e))) =
@@ -105,8 +104,7 @@ pairs_ink leaves (MorePairs key value pairs) m t o (pair, others, h, k, e) =
     record { first = b.first; others = b.others; is = e ∙ b.is; ink = b.ink }
 
 sign_apart : (c : ℕ) (cs t : List ℕ) → t ≡ c ∷ cs → IsInk c → (c == hyphen) ≡ false → is_alpha c ≡ false → BeginsApart t
-sign_apart c cs t e ink dash word =
-    record { first = c; others = cs; is = e; ink = ink; no_dash = dash; no_word = word }
+sign_apart c cs t e ink dash word = record { first = c; others = cs; is = e; ink = ink; no_dash = dash; no_word = word }
 
 anchor_apart : (name t : List ℕ) → IsAnchor name t → BeginsApart t
 anchor_apart name t h =
@@ -170,8 +168,7 @@ flow_behind leaves node place t o out (gap, text, end, gap_is, is, apart, end_is
     let dash : ((b.first == 45) && is_blank_or_breakz (slice_index behind 0)) ≡ false =
     subst (λ (x : List ℕ). ((slice_index x 0 == 45) && is_blank_or_breakz (slice_index x 1)) ≡ false)
     (sym (append_assoc text end o) ∙ begins) (leaves.flow_dash node most_open (indent_at place) false text
-    (end ++ o) is)
-    in
+    (end ++ o) is) in
     let first : slice_index text 0 ≡ b.first = ap (λ (x : List ℕ). slice_index x 0) b.is in
     rw (whole, begins) (gap_behind place gap b.first behind out gap_is b.ink dash (λ e. cc))
 
@@ -184,11 +181,9 @@ scalar_apart p style value indent front t o (inl (none, e)) is = rw e (header_ap
   where
     header_apart : (style : Style) (value : List ℕ) (indent : ℕ) (t o : List ℕ) → IsStyled style value indent t o
         → BeginsApart t
-    header_apart Literal value indent t o (others, is, e) =
-        sign_apart 124 others t e
+    header_apart Literal value indent t o (others, is, e) = sign_apart 124 others t e
         (record { blank = refl; break = refl; comment = refl; byte_order_mark = refl }) refl refl
-    header_apart Folded value indent t o (others, is, e) =
-        sign_apart 62 others t e
+    header_apart Folded value indent t o (others, is, e) = sign_apart 62 others t e
         (record { blank = refl; break = refl; comment = refl; byte_order_mark = refl }) refl refl
     header_apart Plain value indent t o h = absurd h
     header_apart SingleQuoted value indent t o h = absurd h

@@ -117,8 +117,7 @@ abbrev mark_rest : List ℕ → List ℕ → List ℕ → List ℕ
 mark_rest end filler line = end ++ (filler ++ (byte_order_mark ∷ line))
 
 line_fed : (marker : DocumentMarker) (marks : List (List ℕ)) (tail : List ℕ) → EndsFed (marked_line marker marks tail)
-line_fed marker marks tail =
-    fed_front (joined_pieces marks) (marker_line marker tail)
+line_fed marker marks tail = fed_front (joined_pieces marks) (marker_line marker tail)
     (fed_front (marker_text marker) (last_rest tail) (record { front = tail; is = refl }))
 
 mark_rest_is : (marker : DocumentMarker) (end filler : List ℕ) (marks : List (List ℕ)) (tail : List ℕ) → IsWholeEnd end
@@ -135,8 +134,7 @@ mark_rest_is marker end filler marks tail (rest, h, e) =
 
 mark_rest_stops : (end filler line : List ℕ) → IsWholeEnd end → IsFiller filler
     → StopsAt (mark_rest end filler line) (byte_order_mark ∷ line)
-mark_rest_stops end filler line end_is filler_is =
-    end_stops end (filler ++ (65279 ∷ line)) (65279 ∷ line) (inl end_is)
+mark_rest_stops end filler line end_is filler_is = end_stops end (filler ++ (65279 ∷ line)) (65279 ∷ line) (inl end_is)
     (mark_stops filler line (filler_skipped filler filler_is))
 
 mark_end : {limit : ℕ} {start : State} → ReaderPromises → ReadsLeaves limit
@@ -163,8 +161,7 @@ mark_end {limit} {start} readers leaves marker before filler marks tail more bef
 -- ## Streams
 
 before_line : (front : List ℕ) → IsBeforeLine front → opens_line true front ≡ true
-before_line front (inl e) = ap (opens_line true) e
-before_line front (inr (others, e)) = cc (feed_opens true others)
+before_line front h = grind (arith, opens_line, feed_opens)
 
 -- a `...` line, and after it the last line
 line_behind : (others rest line : List ℕ)
@@ -203,8 +200,7 @@ closes_behind_end readers leaves marker earlier rest (piece ∷ marks) tail more
     closes_stream readers leaves Ends (mark_rest end filler (marked_line marker marks tail)) more
     (mark_rest_is marker end filler marks tail whole)
     (mark_end readers leaves marker end filler marks tail more whole filler_is are tail_is) ds prefix others ts
-    prefix_is
-    h clean v
+    prefix_is h clean v
     (record {
       front = earlier;
       is = cc (marks_text piece filler (joined_pieces marks) (marker_line marker tail) f);
@@ -213,15 +209,13 @@ closes_behind_end readers leaves marker earlier rest (piece ∷ marks) tail more
 
 -- after a front at whose end a line begins, perhaps with byte order marks
 closes_last : {limit : ℕ} {start : State} → ReaderPromises → ReadsLeaves limit
-    → (marker : DocumentMarker) (front tail more : List ℕ)
-    → IsLineRest tail → (ds : Forest) (prefix others : List ℕ) (ts : List Kind) → IsDocumentPrefix prefix others
+    → (marker : DocumentMarker) (front tail more : List ℕ) → IsLineRest tail
+    → (ds : Forest) (prefix others : List ℕ) (ts : List Kind) → IsDocumentPrefix prefix others
     → AreBlockDocuments ds true others → HasNoReturn others
-    → StandsLined limit start true true ((prefix ++ others) ++ more) ts
-    → IsBeforeMarker front → prefix ++ others ≡ front ++ marker_line marker tail
-    → Closes limit start marker (YieldsAhead ds) ts
+    → StandsLined limit start true true ((prefix ++ others) ++ more) ts → IsBeforeMarker front
+    → prefix ++ others ≡ front ++ marker_line marker tail → Closes limit start marker (YieldsAhead ds) ts
 closes_last {start = start} readers leaves marker front tail more tail_is ds prefix others ts prefix_is h clean v
-    (inl before) e =
-    closes_stream readers leaves marker (last_rest tail) more (last_rest_is tail tail_is)
+    (inl before) e = closes_stream readers leaves marker (last_rest tail) more (last_rest_is tail tail_is)
     (last_marker start leaves marker tail more tail_is) ds prefix others ts prefix_is h clean v
     (record { front = front; is = e; line = before_line front before })
 closes_last readers leaves marker front tail more tail_is ds prefix others ts prefix_is h clean v
@@ -229,9 +223,8 @@ closes_last readers leaves marker front tail more tail_is ds prefix others ts pr
     closes_marks readers leaves marker pieces tail more are tail_is ds prefix others ts prefix_is h clean v (cc)
 closes_last readers leaves marker front tail more tail_is ds prefix others ts prefix_is h clean v
     (inr (marks, (pieces, are, same), inr (earlier, rest, before, rest_is, is))) e =
-    let line = marker_line marker tail in
     closes_behind_end readers leaves marker earlier rest pieces tail more before rest_is are tail_is ds prefix others ts
-    prefix_is h clean v (cc (mark_text earlier rest marks line))
+    prefix_is h clean v (cc (mark_text earlier rest marks (marker_line marker tail)))
 
 in_stream : (forest : Forest) (t : List Kind) → YieldsAhead forest t → Yields forest (tokens.StreamStart ∷ t)
 in_stream forest t (marks, others, are, told, e) = (marks, others, are, told, cc)

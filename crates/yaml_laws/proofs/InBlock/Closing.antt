@@ -7,12 +7,11 @@ use Rattle.saphyr_input.specs.Places.{is_document_start, is_document_end, is_doc
 use Rattle.saphyr_scalar.specs.declared.scalar.position.Marker.{Marker}
 use Rattle.saphyr_scalar.specs.declared.scalar.fault.Refusal.{Refusal}
 use Rattle.saphyr_scalar.specs.Views.Cursor.{◌>>=◌}
-use Rattle.saphyr_scanner.specs.Steps.Passing.{separate}
 use Rattle.saphyr_scanner.specs.Steps.Level.{Candidate}
 use Rattle.saphyr_scanner.specs.Steps.Document as document
 use Rattle.saphyr_scanner.specs.Steps.Document.{end_mark}
 use Rattle.saphyr_scanner.specs.Steps.Queue.{Place, bare_place, empty_piece}
-use Rattle.saphyr_scanner.specs.Steps.State.{State, on_core_with}
+use Rattle.saphyr_scanner.specs.Steps.State.{State}
 use Rattle.saphyr_scanner.specs.Grammar.Tokens as tokens
 use Rattle.saphyr_scanner.specs.Grammar.Tokens.{Kind}
 use Rattle.saphyr_scanner.specs.Steps.Unrolling.{unroll}
@@ -20,11 +19,9 @@ use Rattle.saphyr_scanner.specs.Steps.Fetch.{fetch, fetch_here}
 use Rattle.yaml_laws.proofs.InBlock.States.{Frame, frame_at_column, moment_at, state_of, EndsDocument, At}
 use Rattle.yaml_laws.proofs.InBlock.Follows.{goes_alike, arrives_at, stays_open}
 use Rattle.saphyr_input.proofs.Basics.Numbers.{zero_below_next}
-use Rattle.saphyr_input.proofs.Basics.Booleans.{and_false}
 use Rattle.std.proofs.lemmas.Bool.{ltb-true, eq-eqb, eqb-true}
 use Rattle.saphyr_input.specs.Indicators.{full_stop, hyphen, percent_sign}
 use Rattle.saphyr_scanner.proofs.Queues.{place_kinds, place_kinds_append}
-use Rattle.yaml_laws.proofs.Flow.Inks.{bom_is}
 use Rattle.yaml_laws.specs.Grammar.BlockNodes.{EndsContent}
 
 -- the token that ends a collection
@@ -36,16 +33,12 @@ end_place m = bare_place (empty_piece m tokens.BlockEnd)
 right_of : (c col : ℕ) → col < c → nat_lt col (c + 1 - 1) ≡ true
 right_of c col h = grind (arith, nat_tests)
 
-not_deep : (c col : ℕ) → col < c → nat_le (c + 1) col ≡ false
-not_deep c col h = grind (arith, nat_tests)
-
 ends_left : (f : Frame) (c : ℕ) (m : Marker) (y : List ℕ) (blank : Bool) (key : Option Candidate) (a : Bool) (ad : ℕ)
     (deeper : Bool) (ps : List Place) → m.col < c
     → unroll (Some m.col) m (state_of (frame_at_column c f) (moment_at m y blank key a ad deeper) ps)
     ≡ unroll (Some m.col) m (state_of f (moment_at m y blank key a ad false) (ps ++ end_place m ∷ []))
 unfolding unroll
-ends_left f c m y blank key a ad deeper ps left =
-    rw (right_of c m.col left, not_deep c m.col left, and_false deeper) refl
+ends_left f c m y blank key a ad deeper ps left = grind arith
 
 -- ## At the end of its document
 
@@ -75,20 +68,16 @@ dot_sign c h =
     subst IsMarkerSign (sym (eqb-true c 46 h)) (record { nul = refl; byte_order_mark = refl; directive = refl })
 
 first_of : (a b c d : Bool) → ((a && b && c) && d) ≡ true → a ≡ true
-first_of true b c d h = refl
-first_of false b c d h = h
+first_of a b c d h = grind arith
 
 marker_sign : (y : List ℕ) (start : Bool) → is_document_start y ≡ start → IsTrue (is_document_indicator y)
     → IsMarkerSign (slice_index y 0)
-marker_sign y true e h =
-    dash_sign (slice_index y 0)
+marker_sign y true e h = dash_sign (slice_index y 0)
     (first_of (slice_index y 0 == 45) (slice_index y 1 == 45) (slice_index y 2 == 45)
     (is_blank_or_breakz (slice_index y 3)) e)
 marker_sign y false e h =
-    let end : is_document_end y ≡ true = ap (λ (b : Bool). b || is_document_end y) (sym e) ∙ h in
-    dot_sign (slice_index y 0)
-    (first_of (slice_index y 0 == 46) (slice_index y 1 == 46) (slice_index y 2 == 46)
-    (is_blank_or_breakz (slice_index y 3)) end)
+    dot_sign (slice_index y 0) (first_of (slice_index y 0 == 46) (slice_index y 1 == 46) (slice_index y 2 == 46)
+    (is_blank_or_breakz (slice_index y 3)) (ap (λ (b : Bool). b || is_document_end y) (sym e) ∙ h))
 
 abbrev by_marker : Bool → State → Result State Refusal
 by_marker start s =
@@ -100,12 +89,7 @@ marker_here : (f : Frame) (m : Marker) (y : List ℕ) (blank : Bool) (key : Opti
     → fetch_here (state_of f (moment_at m y blank key a ad deeper) ps)
     ≡ by_marker start (state_of f (moment_at m y blank key a ad deeper) ps)
 unfolding fetch_here
-marker_here f m y blank key a ad deeper ps true e col h =
-    let g = marker_sign y true e h in rw (eq-eqb m.col 0 col, g.nul, g.byte_order_mark, g.directive, e) refl
-marker_here f m y blank key a ad deeper ps false e col h =
-    let g = marker_sign y false e h in
-    let end : is_document_end y ≡ true = ap (λ (b : Bool). b || is_document_end y) (sym e) ∙ h in
-    rw (eq-eqb m.col 0 col, g.nul, g.byte_order_mark, g.directive, e, end) refl
+marker_here f m y blank key a ad deeper ps start h k e = grind (arith, marker_sign, eq-eqb)
 
 -- what a byte order mark at m does
 abbrev by_mark : Marker → State → Result State Refusal
@@ -117,37 +101,19 @@ mark_here : (f : Frame) (m : Marker) (y : List ℕ) (blank : Bool) (key : Option
     → fetch_here (state_of f (moment_at m y blank key a ad deeper) ps)
     ≡ by_mark m (state_of f (moment_at m y blank key a ad deeper) ps)
 unfolding fetch_here document.state_behind_byte_order_mark
-mark_here f m y blank key a ad deeper ps col h =
-    rw (ap is_z (bom_is (slice_index y 0) h), h, no_greater m.col col) refl
-  where
-    no_greater : (n : ℕ) → n ≡ 0 → nat_lt 0 n ≡ false
-    no_greater n e = grind (arith, nat_tests)
+mark_here f m y blank key a ad deeper ps col h = grind arith
 
 -- the content of states whose collections all end alike ends alike
 content_alike : (m : Marker) (s t : State) → s.core.cursor.mark ≡ m → t.core.cursor.mark ≡ m
     → unroll None m s ≡ unroll None m t → document.end_content s ≡ document.end_content t
 unfolding document.end_content
-content_alike m s t at_s at_t e =
-    ap (λ (n : Marker). document.remove_key_of (unroll None n s)) at_s ∙ ap document.remove_key_of e
-    ∙ sym (ap (λ (n : Marker). document.remove_key_of (unroll None n t)) at_t)
+content_alike m s t at_s at_t e = grind arith
 
 -- by a marker too
 marked_alike : (start : Bool) (m : Marker) (s t : State) → s.core.cursor.mark ≡ m → t.core.cursor.mark ≡ m
     → unroll None m s ≡ unroll None m t → by_marker start s ≡ by_marker start t
 unfolding document.state_behind_marker document.state_behind_document_end
-marked_alike start m s t at_s at_t e = by_start start
-  where
-    content : document.end_content s ≡ document.end_content t
-    content = content_alike m s t at_s at_t e
-
-    marker : (kind : Kind) → document.state_behind_marker kind s ≡ document.state_behind_marker kind t
-    marker kind = ap (λ r. r >>= λ (u : State). Ok
-        (document.put_passed u.core.cursor.mark kind (document.pass_marker u.core) u)) content
-
-    by_start : (start : Bool) → by_marker start s ≡ by_marker start t
-    by_start true = marker tokens.DocumentStart
-    by_start false = ap (λ r. r >>= λ (u : State). on_core_with (separate u.core) u >>= document.end_line)
-        (marker tokens.DocumentEnd)
+marked_alike start m s t at_s at_t e = grind (arith, content_alike)
 
 -- What ends a document's content is read alike in states whose collections all end alike.
 pub ended_alike : (f g : Frame) (m : Marker) (y : List ℕ) (blank : Bool) (key : Option Candidate) (a : Bool) (ad : ℕ)
@@ -162,8 +128,7 @@ ended_alike f g m y blank key a ad deeper other ps qs col (inl h) same =
     ∙ marked_alike start m (state_of f (moment_at m y blank key a ad deeper) ps)
     (state_of g (moment_at m y blank key a ad other) qs) refl refl same
     ∙ sym (marker_here g m y blank key a ad other qs start refl col h)
-ended_alike f g m y blank key a ad deeper other ps qs col (inr h) same =
-    mark_here f m y blank key a ad deeper ps col h
+ended_alike f g m y blank key a ad deeper other ps qs col (inr h) same = mark_here f m y blank key a ad deeper ps col h
     ∙ ap (λ r. r >>= λ (u : State). Ok (document.put_passed m tokens.ByteOrderMark (document.pass_mark u.core) u))
     (content_alike m (state_of f (moment_at m y blank key a ad deeper) ps)
     (state_of g (moment_at m y blank key a ad other) qs) refl refl same)
@@ -220,8 +185,7 @@ closes_block {limit} {start} {ts} f c m y inside ends v = by_column (nat_lt m.co
     arrived : (g : Frame) (deeper : Bool) (ps : List Place)
         → fetch (state_of g (moment_at m y v.blank v.key v.allowed v.adjacent deeper) ps)
         ≡ fetch_here (unroll (Some m.col) m (state_of g (moment_at m y v.blank v.key v.allowed v.adjacent deeper) ps))
-    arrived g deeper ps = ap (λ r. r >>= fetch_here)
-        (arrives_at g m y v.blank v.key v.allowed v.adjacent deeper ps v.stop v.near)
+    arrived g deeper ps = cc (arrives_at g m y v.blank v.key v.allowed v.adjacent deeper ps v.stop v.near)
 
     closed_at : (n : Marker)
         → fetch (state_of (frame_at_column c f) (moment_at m y v.blank v.key v.allowed v.adjacent v.deeper) v.places)
@@ -254,21 +218,16 @@ closes_block {limit} {start} {ts} f c m y inside ends v = by_column (nat_lt m.co
         yes col l = grind (arith, nat_tests)
     by_end e (inl h) =
         let far = at_least c m.col e in
-        closed_at (end_mark m)
-        (arrived (frame_at_column c f) v.deeper v.places
+        closed_at (end_mark m) (arrived (frame_at_column c f) v.deeper v.places
         ∙ ap fetch_here (stays_open (frame_at_column c f) false m y v.blank v.key v.allowed v.adjacent v.deeper v.places
-        far)
-        ∙ ends_here f c m y v.blank v.key v.allowed v.adjacent (v.deeper && nat_le (c + 1) m.col) false v.places h
+        far) ∙ ends_here f c m y v.blank v.key v.allowed v.adjacent (v.deeper && nat_le (c + 1) m.col) false v.places h
         ∙ sym (arrived f false (v.places ++ end_place (end_mark m) ∷ [])
         ∙ ap fetch_here (stays_open f false m y v.blank v.key v.allowed v.adjacent false
         (v.places ++ end_place (end_mark m) ∷ []) (outer_least f.indent c m.col inside far))))
 
     by_column : (b : Bool) → nat_lt m.col c ≡ b
         → (w : At limit start f m y (ts ++ tokens.BlockEnd ∷ [])) × (w.key ≡ v.key) × (w.allowed ≡ v.allowed)
-    by_column true e =
-        closed_at m
-        (arrived (frame_at_column c f) v.deeper v.places
-        ∙ ap fetch_here (ends_left f c m y v.blank v.key v.allowed v.adjacent v.deeper v.places
-        (ltb-true m.col c e))
+    by_column true e = closed_at m (arrived (frame_at_column c f) v.deeper v.places
+        ∙ ap fetch_here (ends_left f c m y v.blank v.key v.allowed v.adjacent v.deeper v.places (ltb-true m.col c e))
         ∙ sym (arrived f false (v.places ++ end_place m ∷ [])))
     by_column false e = by_end e ends

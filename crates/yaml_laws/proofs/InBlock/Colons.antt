@@ -5,7 +5,6 @@ use Rattle.std.proofs.lemmas.Bool.Decides.{nat_tests}
 use Rattle.std.proofs.lemmas.List.{length-append}
 use Rattle.saphyr_input.specs.Classes.{tab}
 use Rattle.saphyr_scalar.specs.declared.scalar.position.Marker.{Marker}
-use Rattle.saphyr_input.specs.Separation.{found_blanks}
 use Rattle.saphyr_input.specs.declared.input.SkipTabs.{SkipTabs}
 use Rattle.saphyr_input.specs.declared.input.SkipTabs.TheVariants.{Yes}
 use Rattle.saphyr_scalar.specs.Views.Cursor.{Cursor, ◌>>=◌, along, separation}
@@ -58,13 +57,10 @@ passes_colon indent o h m = by_tab (slice_index o 0 == 9) refl
     passed : (slice_index o 0 == tab) ≡ true → (f : Frame) (n : Moment) → n.cursor ≡ cursor_at o m false
         → value.check_tab (core_of f n) ≡ Ok (core_of f (record n { cursor = cursor_at h.more (front_end h m) false }))
     passed e f n at =
-        let there = cursor_at h.more (front_end h m) false in
         let sep = ap (separation Yes) at ∙ separates o h m false in
         let first : (slice_index n.cursor.rest 0 == 9) ≡ true = ap (λ (s : Cursor). slice_index s.rest 0 == 9) at ∙ e in
-        let word : value.refuse_lone_tab (found_blanks Yes o, core_of f (record n { cursor = there }))
-        ≡ Ok (core_of f (record n { cursor = there })) = rw (h.word refl) refl in
         rw first (ap (λ r. (r >>= λ (x : SkipTabs × Cursor). Ok (x.0, with_cursor x.1 (core_of f n)))
-        >>= value.refuse_lone_tab) sep ∙ word)
+        >>= value.refuse_lone_tab) sep ∙ (rw (h.word refl) refl))
 
     by_tab : (b : Bool) → (slice_index o 0 == tab) ≡ b → PassesColon indent o h m
     by_tab false e = record {
@@ -120,9 +116,7 @@ value_step f m o h p blank ad deeper further e i =
         → value.behind_key None false m (core_of f d)
         ≡ completed_step (value.opening_actions false m (core_of f (moment_at m (colon ∷ o) blank None true ad deeper)))
         (core_of (frame_behind b m.col f) (behind_value p.mark p.rest ad))
-    alone true e s = rw (e, zero_below_next m.col) refl
-    alone false e (inl s) = rw (e, s) refl
-    alone false e (inr s) = absurd (cc)
+    alone b h k = grind (arith, zero_below_next)
 
 value_performs : (f : Frame) (n : Moment) (further : Bool) (m : Marker) (ps : List Place)
     → nat_le f.indent m.col ≡ further → perform (value.opening_actions false m (core_of f n)) (queue_of ps)
@@ -166,8 +160,7 @@ reads_value {limit} {start} {ts} f m o further e far h count v none allowed =
     (room m.index p.mark.index (length o) limit p.low count))
     (start_are further m tokens.BlockMappingStart m m tokens.Value v.places ts v.are) refl refl refl
     (le_next v.adjacent m.index v.low) p.lands
-    (p.clean (least_column (core_of g t)) (least_within further m.col f t far))
-    (or-true (crosses p.rest)) refl
+    (p.clean (least_column (core_of g t)) (least_within further m.col f t far)) (or-true (crosses p.rest)) refl
   where
     room : (i j l limit : ℕ) → j ≤ i + 1 + l → i + suc l ≤ limit → j ≤ limit
     room i j l limit k h = omega (arith, k, h)
@@ -204,29 +197,14 @@ colon_step f r k m indent o h p blank a ad deeper further e far some i =
         → value.behind_key (Some k) false m (core_of f d)
         ≡ completed_step (Open k.place (block_opening b) ∷ at_mark m tokens.Value ∷ [])
         (core_of (frame_behind b k.mark.col f) (colon_moment p.mark p.rest ad))
-    opens true e s = rw (e, zero_below_next k.mark.col) refl
-    opens false e (inl s) = rw (e, s) refl
-    opens false e (inr s) = absurd (cc)
+    opens b h k = grind (arith, zero_below_next)
 
 key_are : (further : Bool) (ps others : List Place) (key : Piece) (m : Marker) (ts us : List Kind) → place_kinds ps ≡ ts
     → place_kinds (bare_place key ∷ others) ≡ us
     → place_kinds (ps ++ pair_places (block_opening further) key others (empty_piece m tokens.Value))
     ≡ ts ++ (key_kinds further ++ (us ++ tokens.Value ∷ []))
 key_are further ps others key m ts us first are =
-    let back = place_kinds_append (bare_place key ∷ others) (bare_place (empty_piece m tokens.Value) ∷ [])
-    ∙ ap (λ (x : List Kind). x ++ tokens.Value ∷ []) are in
-    place_kinds_append ps (pair_places (block_opening further) key others (empty_piece m tokens.Value))
-    ∙ ap (λ (x : List Kind). x
-    ++ place_kinds (pair_places (block_opening further) key others (empty_piece m tokens.Value))) first
-    ∙ ap (λ (x : List Kind). ts ++ x) (by_opening further back)
-  where
-    by_opening : (further : Bool)
-        → place_kinds (bare_place key ∷ (others ++ bare_place (empty_piece m tokens.Value) ∷ [])) ≡ us ++
-        tokens.Value ∷ []
-        → place_kinds (pair_places (block_opening further) key others (empty_piece m tokens.Value))
-        ≡ key_kinds further ++ (us ++ tokens.Value ∷ [])
-    by_opening true e = ap (λ (x : List Kind). tokens.BlockMappingStart ∷ tokens.Key ∷ x) e
-    by_opening false e = ap (λ (x : List Kind). tokens.Key ∷ x) e
+    grind (arith, place_kinds_append, pair_places, place_kinds, key_kinds)
 
 -- the colon of a key is read, which begins a mapping or goes on with one
 pub reads_colon : {limit : ℕ} {start : State} (f : Frame) (n : Moment) (ps others new : List Place) (key : Piece)
@@ -255,8 +233,7 @@ reads_colon {limit} {start} f n ps others new key k m o ts us further e far v is
     let stepped = ap (λ (q : Option Candidate). step 58 (slice_index o 0) i
     (core_of f (moment_with n.required m (58 ∷ o) l.0 q allowed n.adjacent deeper))) candidate
     ∙ colon_step f n.required (record { mark = k; place = length ps }) m (suc k.col) o h p l.0 allowed n.adjacent deeper
-    further e
-    far (some_further f.indent k.col further e) i in
+    further e far (some_further f.indent k.col further e) i in
     let made = ap (λ r. after_step r (queue_of (ps ++ new))) stepped
     ∙ ap (λ (q : Queue). Ok (let r : State = record { core = core_of g t; queue = q } in r))
     (performs ps others new (block_opening further) key (empty_piece m tokens.Value) is) in
@@ -266,17 +243,14 @@ reads_colon {limit} {start} f n ps others new key k m o ts us further e far v is
     before_next (yaml.BehindKey k.col) g t (ps ++ places) (along m 1) o
     (steps_from g t (ps ++ places) v refl there refl (room m.index p.mark.index (length o) limit p.low count))
     (key_are further ps others key m ts us first (ap place_kinds (sym is) ∙ are)) refl refl refl
-    (le_next n.adjacent m.index low) p.lands
-    (p.clean (least_column (core_of g t)) (least_within further k.col f t far))
-    (none_same (crosses p.rest) (crosses o) p.crosses_same)
-    (behind k.col m.col right)
+    (le_next n.adjacent m.index low) p.lands (p.clean (least_column (core_of g t)) (least_within further k.col f t far))
+    (none_same (crosses p.rest) (crosses o) p.crosses_same) (behind k.col m.col right)
   where
     further_right : (i k m : ℕ) → i ≤ k + 1 → k ≤ m → i ≤ m + 1
     further_right i k m h l = omega (arith, h, l)
 
     or_none : (b : Bool) → (b || false) ≡ b
-    or_none true = refl
-    or_none false = refl
+    or_none b = grind arith
 
     none_same : (a b : Bool) → a ≡ b → (a || false) ≡ (false || b)
     none_same a b e = or_none a ∙ e

@@ -28,16 +28,12 @@ separation_crosses indent w o (lines, blanks, (pieces, each, lines_are), are, e)
   where
     by_lines : (ps : List (List ℕ)) → AreEach (IsSeparationLine indent) ps → lines ≡ joined_pieces ps
         → crosses (w ++ o) ≡ true
-    by_lines [] each lines_are =
-        ap (λ (t : List ℕ). crosses (t ++ o)) (e ∙ ap (λ (t : List ℕ). t ++ blanks) lines_are)
-        ∙ blanks_cross blanks o are ∙ h
+    by_lines [] each lines_are = cc (blanks_cross blanks o are)
     by_lines (p ∷ ps) ((first, comment, filler, first_are, k, filler_is, line_is), others) lines_are =
         let more = (filler ++ spaces indent) ++ (joined_pieces ps ++ (blanks ++ o)) in
-        let text : w ++ o ≡ first ++ (comment ++ (10 ∷ more)) =
-        ap (λ (t : List ℕ). t ++ o)
+        let text : w ++ o ≡ first ++ (comment ++ (10 ∷ more)) = ap (λ (t : List ℕ). t ++ o)
         (e ∙ ap (λ (t : List ℕ). t ++ blanks) lines_are
-        ∙ ap (λ (t : List ℕ). (t ++ joined_pieces ps) ++ blanks) line_is)
-        ∙ simp append_assoc in
+        ∙ ap (λ (t : List ℕ). (t ++ joined_pieces ps) ++ blanks) line_is) ∙ simp append_assoc in
         ap crosses text ∙ rest_crosses first comment more first_are (behind_is first comment k)
 
 feed_crosses : (t : List ℕ) → slice_index t 0 ≡ line_feed → crosses t ≡ true
@@ -49,16 +45,14 @@ pub line_rest_crosses : (rest more : List ℕ) → IsLineRest rest → EndsLine 
     → crosses more ≡ true
 line_rest_crosses rest more h (inr feed) e = feed_crosses more feed
 line_rest_crosses rest more (blanks, comment, are, k, is) (inl none) e =
-    let text : rest ++ more ≡ blanks ++ (comment ++ []) = ap (λ (t : List ℕ). rest ++ t) none
-    ∙ ap (λ (t : List ℕ). t ++ []) is ∙ append_assoc blanks comment [] in
+    let text = ap (λ (t : List ℕ). rest ++ t) none ∙ ap (λ (t : List ℕ). t ++ []) is ∙ append_assoc blanks comment [] in
     absurd (clash (crosses (rest ++ more)) e
     (ap crosses text ∙ last_crosses blanks comment are (behind_is blanks comment k)))
 
 -- a break is at the end of a line
 pub content_crosses : (rest o : List ℕ) → IsLineRest rest → crosses (rest ++ (line_feed ∷ o)) ≡ true
 content_crosses rest o (blanks, comment, are, k, is) =
-    ap crosses (ap (λ (t : List ℕ). t ++ (10 ∷ o)) is ∙ append_assoc blanks comment (10 ∷ o))
-    ∙ rest_crosses blanks comment o are (behind_is blanks comment k)
+    cc (append_assoc blanks comment (10 ∷ o), rest_crosses blanks comment o are (behind_is blanks comment k))
 
 -- ## After a plain scalar
 
@@ -76,8 +70,7 @@ break_ahead false c cs false false e f white h = absurd (cc)
 pub white_crosses : (m : Marker) (b : Bool) (o : List ℕ) → (b || crosses o) ≡ true
     → ((past_white m b o).blank_so_far || crosses (past_white m b o).rest) ≡ true
 white_crosses m b [] h = h
-white_crosses m b (c ∷ cs) h =
-    by_white (is_blank_or_break c) refl
+white_crosses m b (c ∷ cs) h = by_white (is_blank_or_break c) refl
     (λ e. white_crosses (if ends_line c cs then next_line m 1 else along m 1) (b || is_break c) cs
     (break_ahead b c cs (is_blank c) (is_break c) refl refl e h))
   where

@@ -70,8 +70,7 @@ bare_node {limit} {start} leaves node t others ts unmarked h lands plain clean v
     let some : (t ++ others ≡ []) → ⊥ = λ e. node_some leaves node t others h (none_here t others e) in
     let clear = bare_clear v.mark t others v.line.0 clean unmarked (node_ends leaves node AtStart t others h) in
     reads_root leaves AtStart refl node t others ts h lands plain v
-    (record { clear = clear; below = v.count; lined = v.lined }) (col some v.line.0)
-    (λ _. opened some (v.line.1 refl))
+    (record { clear = clear; below = v.count; lined = v.lined }) (col some v.line.0) (λ _. opened some (v.line.1 refl))
   where
     col : ((t ++ others ≡ []) → ⊥) → AtLine (t ++ others) v.mark → v.mark.col ≡ 0
     col some (inl e) = e
@@ -182,7 +181,6 @@ reads_document {limit = limit} {start = start} readers leaves d free t others ts
 reads_document {limit = limit} {start = start} readers leaves d free t others ts
     (inr (may, (directives, node, explicit, compatible, are, unmarked, is, e))) lands plain clean v =
     let text = ap (λ (x : List ℕ). x ++ others) e ∙ text_of_document directives node others in
-    let f = reads_front readers d free directives (node ++ others) ts may are
-    (lined_so text v) in
+    let f = reads_front readers d free directives (node ++ others) ts may are (lined_so text v) in
     reads_explicit leaves d free node others ts may explicit compatible unmarked is lands plain
     (clean_node directives node (rw e at clean)) f.stands

@@ -22,7 +22,7 @@ use Rattle.saphyr_scanner.specs.Steps.Queue.{next, Place, Queue, bare_place, emp
 use Rattle.saphyr_scanner.specs.Steps.State.{State, after_step}
 use Rattle.saphyr_scanner.specs.Grammar.Tokens as tokens
 use Rattle.saphyr_scanner.specs.Grammar.Tokens.{Kind}
-use Rattle.saphyr_scanner.specs.Steps.Fetch.{fetch, fetch_here, state_behind_content, step}
+use Rattle.saphyr_scanner.specs.Steps.Fetch.{fetch, state_behind_content, step}
 use Rattle.saphyr_scanner.proofs.Leads.{LeadsTo}
 use Rattle.yaml_laws.proofs.Flow.States.{past}
 use Rattle.yaml_laws.proofs.Flow.GapSteps.{past_low}
@@ -32,7 +32,6 @@ use Rattle.yaml_laws.proofs.Flow.Separates.{StopsLine, line_separated}
 use Rattle.yaml_laws.proofs.InBlock.States.{Frame, Moment, frame_at_column, moment_at, core_of, state_of, IsUntabbed, crosses, is_compact, IsPlaced, At, Before}
 use Rattle.yaml_laws.proofs.InBlock.Gaps.{past_stops}
 use Rattle.yaml_laws.proofs.InBlock.Skips.{IsCleanBehind}
-use Rattle.yaml_laws.proofs.InFlow.States.{least_low}
 use Rattle.yaml_laws.proofs.InBlock.Follows.{follows_itself, steps_from, goes_alike, left_key, left_again, lands, BeginsToken, begins_with, begins_here, arrives_at, stays_open, deeper_at}
 use Rattle.saphyr_scanner.proofs.Queues.{token_place, place_kinds, place_kinds_append, queue_of}
 
@@ -84,12 +83,7 @@ pub steps_on : {limit : ℕ} {start : State} {ts : List Kind} (f g : Frame) (m :
     (state_of f (moment_at m y v.blank v.key v.allowed v.adjacent (deeper_at f v.deeper m)) v.places)
     ≡ Ok (state_of g n qs) → n.key ≡ None → n.cursor.mark.index ≤ limit → LeadsTo limit (state_of g n qs) start
 unfolding fetch
-steps_on f g m y v begins far n qs is none low =
-    let there = ap (λ r. r >>= fetch_here)
-    (arrives_at f m y v.blank v.key v.allowed v.adjacent v.deeper v.places v.stop v.near)
-    ∙ ap fetch_here (stays_open f false m y v.blank v.key v.allowed v.adjacent v.deeper v.places far)
-    ∙ begins_here f false m y v.blank v.key v.allowed v.adjacent v.deeper v.places begins far ∙ is in
-    steps_from g n qs v.follows refl there none low
+steps_on f g m y v begins far n qs is none low = search (arrives_at, stays_open, begins_here, steps_from)
 
 -- ## `-`
 
@@ -105,8 +99,7 @@ dash_is_no_marker (c ∷ cs) h = by_dash (c == 45) refl
         no c e = grind (arith, nat_tests)
 
     by_dash : (b : Bool) → (c == hyphen) ≡ b → is_document_indicator (hyphen ∷ c ∷ cs) ≡ false
-    by_dash true e = absurd (dash c e h)
-    by_dash false e = rw e refl
+    by_dash b e = grind (arith, nat_tests)
 
 dash_begins : (m : Marker) (o : List ℕ) → is_blank_or_breakz (slice_index o 0) ≡ true → BeginsToken m (hyphen ∷ o)
 dash_begins m o h = begins_with 45 m o (refl, refl, refl) refl refl refl (dash_is_no_marker o h)
@@ -176,8 +169,7 @@ dash_step f m o h blank key ad deeper further e i =
       p.0,
       rw h.first (ap (λ q. q >>= λ (d : Core). completed_step
           (behind_start (is_further m.col c) m tokens.BlockSequenceStart (at_mark d.cursor.mark tokens.BlockEntry))
-          (record d { key_allowed = true })) gone
-          ∙ ap (λ (b : Bool). completed_step
+          (record d { key_allowed = true })) gone ∙ ap (λ (b : Bool). completed_step
           (behind_start b m tokens.BlockSequenceStart (at_mark last.cursor.mark tokens.BlockEntry)) last) e),
     )
 
@@ -190,8 +182,7 @@ pub start_performs : (further : Bool) (m : Marker) (opens : Kind) (n e : Marker)
     → perform (behind_start further m opens (from_to n e kind)) (queue_of ps)
     ≡ queue_of (start_places further m opens n e kind ps)
 unfolding start_places
-start_performs true m opens n e kind ps = refl
-start_performs false m opens n e kind ps = refl
+start_performs further m opens n e kind ps = grind arith
 
 -- their tokens
 abbrev pub start_kinds : Bool → Kind → Kind → List Kind
@@ -201,13 +192,7 @@ pub start_are : (further : Bool) (m : Marker) (opens : Kind) (n e : Marker) (kin
     (ts : List Kind) → place_kinds ps ≡ ts
     → place_kinds (start_places further m opens n e kind ps) ≡ ts ++ start_kinds further opens kind
 unfolding start_places
-start_are true m opens n e kind ps ts is =
-    let first = place_kinds_append ps (bare_place (empty_piece m opens) ∷ []) ∙ ap (λ (x : List Kind). x ++ opens ∷ [])
-    is in
-    place_kinds_append (ps ++ bare_place (empty_piece m opens) ∷ []) (token_place n e kind ∷ [])
-    ∙ ap (λ (x : List Kind). x ++ kind ∷ []) first ∙ append_assoc ts (opens ∷ []) (kind ∷ [])
-start_are false m opens n e kind ps ts is =
-    place_kinds_append ps (token_place n e kind ∷ []) ∙ ap (λ (x : List Kind). x ++ kind ∷ []) is
+start_are further m opens n e kind ps ts h = grind (arith, place_kinds_append, token_place, append_assoc)
 
 -- the tokens of a `-`, before which a sequence may start
 abbrev pub dash_kinds : Bool → List Kind
@@ -216,16 +201,7 @@ dash_kinds further = start_kinds further tokens.BlockSequenceStart tokens.BlockE
 -- After an indicator content has to reach no column after the next.
 pub least_within : (further : Bool) (column : ℕ) (f : Frame) (n : Moment) → f.indent ≤ column + 1
     → least_column (core_of (frame_behind further column f) n) ≤ suc column
-least_within further column f n far =
-    let g = frame_behind further column f in
-    within (least_column (core_of g n)) g.indent (suc column) (least_low g.indent n.deeper) (by_frame further)
-  where
-    within : (i j k : ℕ) → i ≤ j → j ≤ k → i ≤ k
-    within i j k h l = omega (arith, h, l)
-
-    by_frame : (further : Bool) → (frame_behind further column f).indent ≤ suc column
-    by_frame true = omega arith
-    by_frame false = omega (arith, far)
+least_within further column f n far = grind arith
 
 -- A raw state after a token, told at the next one.
 pub before_next : {limit : ℕ} {start : State} {ts : List Kind} (place : Position) (g : Frame) (n : Moment)
@@ -237,7 +213,6 @@ pub before_next : {limit : ℕ} {start : State} {ts : List Kind} (place : Positi
 before_next {limit} {start} {ts} place g n qs m o leads are none free quiet low text clean allows placed =
     let t = past 0 m o in
     let l = lands g n qs t.0 t.1 free text clean (inl quiet) in
-    let on = past_low 0 m o in
     record {
       at = record {
         blank = l.0;
@@ -250,7 +225,7 @@ before_next {limit} {start} {ts} place g n qs m o leads are none free quiet low 
         stop = past_stops m o;
         near = left_again n.key t.0;
         are = are;
-        low = omega (arith, low, on);
+        low = omega (arith, low, past_low 0 m o);
       };
       none = left_none n.key none t.0;
       allows = λ e. allows ∙ e;
@@ -301,5 +276,4 @@ reads_dash {limit} {start} {ts} f m o further e far h count v allowed =
     later a b h = omega (arith, h)
 
     or_true : (b : Bool) → (b || true) ≡ true
-    or_true true = refl
-    or_true false = refl
+    or_true b = grind arith

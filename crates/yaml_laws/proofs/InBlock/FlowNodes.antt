@@ -1,7 +1,6 @@
 -- Keys on one line are read at block level, and nodes in flow style, up to what is left of them (YAML 1.2.2, 8.2.3).
 use Rattle.std.proofs.Common.{◌≡◌, ℕ, suc, ◌+◌, ◌^◌, ◌<◌, ◌≤◌, Bool, true, false, List, [], ◌∷◌, ◌++◌, length, slice_index, refl, sym, ap, ◌∙◌, arith, subst, append_assoc, ◌⊎◌, inl, inr}
 use Rattle.std.specs.Prelude.{◌-◌, ◌||◌, ◌&&◌, ◌==◌, not, nat_le, nat_lt, Option, Some, None, if◌then◌else◌}
-use Rattle.std.proofs.lemmas.Bool.Decides.{nat_tests}
 use Rattle.std.proofs.lemmas.List.{length-append}
 use Rattle.saphyr_input.specs.Classes.{is_z, line_feed}
 use Rattle.saphyr_input.specs.Places.{can_be_plain, is_document_indicator}
@@ -38,8 +37,7 @@ use Rattle.yaml_laws.proofs.InBlock.BehindIndicators.{further_ink}
 use Rattle.yaml_laws.proofs.InBlock.Untabbed.{clean_past, settles}
 use Rattle.saphyr_input.proofs.Basics.Booleans.{or_true_swap}
 use Rattle.saphyr_scalar.proofs.Given.{cursor_at}
-use Rattle.saphyr_scanner.proofs.Taken.States.{too_far}
-use Rattle.saphyr_scanner.proofs.Queues.{place_kinds, place_kinds_append}
+use Rattle.saphyr_scanner.proofs.Queues.{place_kinds_append}
 use Rattle.yaml_laws.proofs.InFlow.KeyLines.{IsNear, not_far, deeper_at, is_required}
 use Rattle.yaml_laws.proofs.InFlow.Keys.{key_read, blanks_are_on_line, both_on_line}
 use Rattle.yaml_laws.proofs.InBlock.Skips.{right_untabbed}
@@ -61,12 +59,7 @@ around_of limit f = record {
 -- after a text on a key's line
 line_near : (m : Marker) (place : ℕ) (t : List ℕ) → IsOnLine t → length t ≤ 1024
     → IsNear (record { mark = m; place = place }) (moved m t)
-line_near m place t line short =
-    subst (IsNear (record { mark = m; place = place })) (sym (moved_along m t line))
-    (record { line = refl; index = further m.index (length t) short })
-  where
-    further : (i l : ℕ) → l ≤ 1024 → i + l ≤ i + 1024
-    further i l h = omega (arith, h)
+line_near m place t line short = grind (arith, moved_along)
 
 pub reads_key : ReaderPromises → (limit : ℕ) (node : Node) → ReadsKey limit node
 reads_key reads limit node f m t o n far h line apart short white fits start ts v allowed =
@@ -104,8 +97,7 @@ reads_key reads limit node f m t o n far h line apart short white fits start ts 
       quiet = refl;
       lands = ap (past 0 a.there.mark) a.rest
           ∙ (blanks_past 0 a.white a.are_white a.there.mark (none_left a.there.mark.col)).is (58 ∷ o)
-          ∙ past_ink 0 (moved a.there.mark a.white) 58 o colon_ink
-          ∙ ap (λ (p : Marker). (p, 58 ∷ o)) (a.mark ∙ place);
+          ∙ past_ink 0 (moved a.there.mark a.white) 58 o colon_ink ∙ ap (λ (p : Marker). (p, 58 ∷ o)) (a.mark ∙ place);
       untabbed = ap (tabbed (least f.indent a.deeper) a.there.mark a.there.blank_so_far false) a.rest
           ∙ right_untabbed (least f.indent a.deeper) f.indent (least_low f.indent a.deeper) a.white (58 ∷ o) a.are_white
           (ink_clean 58 o colon_ink) a.there.mark a.there.blank_so_far right;
@@ -126,21 +118,15 @@ reads_key reads limit node f m t o n far h line apart short white fits start ts 
 -- what comes after the end of a line is reached from its start
 eol_moved : (column : ℕ) (m : Marker) (end o : List ℕ) → IsEol end o → column ≤ m.col
     → past column m (end ++ o) ≡ past column (moved m end) o
-eol_moved column m end o (inl (rest, h, is)) right =
-    let text : end ++ o ≡ rest ++ (10 ∷ o) = ap (λ (x : List ℕ). x ++ o) is ∙ append_assoc rest (10 ∷ []) o in
-    ap (past column m) text ∙ rest_past column m rest (10 ∷ o) h (inr refl) right
-    ∙ ap (λ (k : Marker). past column k o) (sym (ap (moved m) is ∙ moved_append m rest (10 ∷ [])))
-eol_moved column m end o (inr (h, none)) right = rest_past column m end o h (inl none) right
+eol_moved column m end o h k = grind (arith, append_assoc, past, rest_past, moved, moved_append)
 
 left_of : (deeper : Bool) (i col : ℕ) → col < i → (if deeper then nat_lt i col else nat_le i col) ≡ false
-left_of true i col h = grind (arith, nat_tests)
-left_of false i col h = grind (arith, nat_tests)
+left_of deeper i col h = grind arith
 
 -- a comment that ended a plain scalar does not intercept what is left of the scalar
 quiet_left : (f : Frame) (n : Moment) (m : Marker) (y : List ℕ) → IsLeftOf f.indent m y → IsQuiet f n m y
 unfolding goes_on_behind
-quiet_left f n m y h =
-    inr (λ comment blank. none_of true (m.line - comment.line == 1)
+quiet_left f n m y h = inr (λ comment blank. none_of true (m.line - comment.line == 1)
     (if n.deeper then nat_lt f.indent m.col else nat_le f.indent m.col) (not (is_z (slice_index y 0)))
     (not ((m.col == 0) && is_document_indicator y)) (can_be_plain false y) (by_end h))
   where
@@ -153,9 +139,6 @@ quiet_left f n m y h =
 
 -- ## What may be a key after it
 
-far_left : (k : Candidate) (m : Marker) → k.mark.line < m.line → left_key (Some k) m ≡ None
-far_left k m h = rw (too_far k m h) refl
-
 -- after a break at the end of a text and what is passed then is a later line
 later_end : (limit : ℕ) → limit < 2 ^ 63 → (m : Marker) (a b rest o : List ℕ) → IsLined m
     → m.index + length ((a ++ (b ++ (rest ++ (line_feed ∷ [])))) ++ o) ≤ limit
@@ -164,24 +147,19 @@ later_end limit short m a b rest o lined below =
     let p = moved m a in
     let w = (b ++ rest) ++ (10 ∷ []) in
     let same : b ++ (rest ++ (10 ∷ [])) ≡ w = sym (append_assoc b rest (10 ∷ [])) in
-    let size : length ((a ++ (b ++ (rest ++ (10 ∷ [])))) ++ o) ≡ length (a ++ (w ++ o)) =
-    ap length (ap (λ (x : List ℕ). (a ++ x) ++ o) same ∙ append_assoc a w o) in
+    let size = ap length (ap (λ (x : List ℕ). (a ++ x) ++ o) same ∙ append_assoc a w o) in
     let first = moved_count m a (w ++ o) in
-    let second = moved_count p w o in
     let parts = length-append w o in
     let down = later_line p (b ++ rest) [] (moved_lined m a lined) (omega (arith, short, below, size, first, parts)) in
     let on = past_line (moved p w) o (moved_lined p w (moved_lined m a lined))
-    (omega (arith, short, below, size, first, second)) in
+    (omega (arith, short, below, size, first, moved_count p w o)) in
     subst (λ (k : Marker). p.line < (past 0 k o).0.line)
     (sym (ap (λ (x : List ℕ). moved m (a ++ x)) same ∙ moved_append m a w)) (omega (arith, down, on))
 
 -- no key is kept from a line before
 none_kept : (k : Option Candidate) (m : Marker) (t : List ℕ) (key : Option Candidate) (n : Marker) → Since k m t key
     → k ≡ None → ((front back : List ℕ) → t ≡ front ++ back → (moved m front).line < n.line) → left_key key n ≡ None
-none_kept k m t key n (inl e) none later = rw e refl
-none_kept k m t key n (inr (inl e)) none later = rw (e ∙ none) refl
-none_kept k m t key n (inr (inr (front, back, place, is, e))) none later =
-    rw e (far_left (record { mark = moved m front; place = place }) n (later front back is))
+none_kept k m t key n h none later = grind arith
 
 -- after a node and the end of its line the document ends, or a key may begin and none is kept
 what_comes : (limit : ℕ) → limit < 2 ^ 63 → (m : Marker) (t : List ℕ) (at : Marker) (text end o : List ℕ)
@@ -202,15 +180,12 @@ what_comes limit short m t at text end o place fits (inl (rest, h, is)) k none_b
   where
     later : (front back : List ℕ) → text ≡ front ++ back → (moved at front).line < (past 0 (moved m t) o).0.line
     later front back parts =
-        let whole : text ++ end ≡ front ++ (back ++ (rest ++ (10 ∷ []))) =
-        ap (λ (x : List ℕ). x ++ end) parts ∙ append_assoc front back end
+        let whole = ap (λ (x : List ℕ). x ++ end) parts ∙ append_assoc front back end
         ∙ ap (λ (x : List ℕ). front ++ (back ++ x)) is in
-        let there : moved m t ≡ moved at (front ++ (back ++ (rest ++ (10 ∷ [])))) =
-        place ∙ sym (moved_append at text end) ∙ ap (moved at) whole in
-        let below : at.index + length ((front ++ (back ++ (rest ++ (10 ∷ [])))) ++ o) ≤ limit =
-        subst (λ (x : List ℕ). at.index + length (x ++ o) ≤ limit) whole fits.below in
-        subst (λ (z : Marker). (moved at front).line < (past 0 z o).0.line) (sym there)
-        (later_end limit short at front back rest o fits.lined below)
+        subst (λ (z : Marker). (moved at front).line < (past 0 z o).0.line)
+        (sym (place ∙ sym (moved_append at text end) ∙ ap (moved at) whole))
+        (later_end limit short at front back rest o fits.lined
+        (subst (λ (x : List ℕ). at.index + length (x ++ o) ≤ limit) whole fits.below))
 
 -- ## The node
 
@@ -275,27 +250,22 @@ goes_behind {limit} {start} {f} {ts = ts} {us} v {n = n} {o} c low q lands_at st
       follows = goes_alike (goes_on v.follows ran.leads) land.1 refl;
       stop = stop;
       near = left_again c.key q.0;
-      are = place_kinds_append v.places c.new ∙ ap (λ (x : List Kind). x ++ place_kinds c.new) v.are
-          ∙ ap (λ (x : List Kind). ts ++ x) c.are;
+      are = cc (place_kinds_append v.places c.new);
       low = subst (λ (z : Marker × List ℕ). c.adjacent ≤ z.0.index) lands_at low;
     }
 
 pub reads_flow : ReaderPromises → (limit : ℕ) → limit < 2 ^ 63 → (node : Node)
     → ReadsAt limit node (IsFlowInBlock most_open node)
 reads_flow reads limit short node place f same m t o (gap, text, end, gap_is, node_is, apart, end_is, e) fits behind
-    start ts
-    before =
+    start ts before =
     let around = around_of limit f in
     let at = moved m gap in
     let n = moved at text in
     let rest = end ++ o in
-    let whole : t ++ o ≡ gap ++ (text ++ rest) = ap (λ (x : List ℕ). x ++ o) e ∙ append_assoc gap (text ++ end) o
-    ∙ ap (λ (x : List ℕ). gap ++ x) (append_assoc text end o) in
-    let place_is : moved m t ≡ moved n end = ap (moved m) e ∙ moved_append m gap (text ++ end)
-    ∙ moved_append at text end in
+    let whole : t ++ o ≡ gap ++ (text ++ rest) = cc (append_assoc gap (text ++ end) o, append_assoc text end o) in
+    let place_is = ap (moved m) e ∙ moved_append m gap (text ++ end) ∙ moved_append at text end in
     let is : IsFlowNode most_open node false f.indent text = subst (λ (i : ℕ). IsFlowNode most_open node false i text)
-    (sym same)
-    node_is in
+    (sym same) node_is in
     let ink = node_ink f.indent most_open node false text is in
     let l = lands_behind f m gap (text ++ rest) gap_is (further_ink text rest ink)
     (subst (λ (x : List ℕ). Before limit start place f m x ts) whole before) in

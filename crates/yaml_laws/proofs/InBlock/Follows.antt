@@ -1,9 +1,9 @@
 -- Runs at block level, told at the next token.
-use Rattle.std.proofs.Common.{◌≡◌, ℕ, ◌+◌, ◌≤◌, Bool, true, false, List, [], ◌∷◌, slice_index, refl, sym, ap, ◌∙◌, arith, subst, Ok, ◌⊎◌, inl, inr}
+use Rattle.std.proofs.Common.{◌≡◌, ℕ, ◌+◌, ◌≤◌, Bool, true, false, List, [], ◌∷◌, slice_index, refl, sym, ap, ◌∙◌, arith, subst, Ok, ◌⊎◌, inl}
 use Rattle.std.specs.Prelude.{◌-◌, ◌||◌, ◌&&◌, ◌==◌, nat_le, nat_lt, Option, Some, None, if◌then◌else◌}
 use Rattle.std.proofs.lemmas.Bool.Decides.{nat_tests}
 use Rattle.saphyr_input.specs.Classes.{is_z, is_bom}
-use Rattle.saphyr_input.specs.Places.{is_document_start, is_document_end, is_document_indicator}
+use Rattle.saphyr_input.specs.Places.{is_document_indicator}
 use Rattle.saphyr_scalar.specs.declared.scalar.position.Marker.{Marker}
 use Rattle.saphyr_scalar.specs.Views.Cursor.{◌>>=◌}
 use Rattle.saphyr_scanner.specs.Steps.Core.{Core, is_too_far, drop_far_key, least_column}
@@ -20,7 +20,6 @@ use Rattle.yaml_laws.proofs.InBlock.States.{Frame, Moment, moment_at, moment_wit
 use Rattle.yaml_laws.proofs.InBlock.Gaps.{past_stops, gap_still, passes_to}
 use Rattle.saphyr_scalar.proofs.Given.{cursor_at}
 use Rattle.saphyr_input.proofs.Basics.Booleans.{and_false, and_or_false}
-use Rattle.std.proofs.Math.Bool.{and-true}
 use Rattle.std.proofs.lemmas.Bool.{le-leb}
 use Rattle.saphyr_input.specs.Indicators.{percent_sign}
 use Rattle.saphyr_scanner.proofs.Queues.{queue_of}
@@ -39,9 +38,7 @@ goes_alike f e g = record { reached = f.reached; leads = f.leads; same = f.same 
 pub first_step : {limit : ℕ} {start s t u : State} → GoesOnAs limit start s → s.core.ended ≡ false
     → fetch_within limit s ≡ Ok t → without_far_key t ≡ Ok u → LeadsTo limit u start
 unfolding fetch_within
-first_step {limit} {s = s} {t = t} {u = u} f going is settles =
-    let there : fetch_within limit f.reached ≡ Ok t = ap (λ r. r >>= check_limit limit) f.same ∙ is in
-    leads_on f.leads (onward f.reached t u (f.running ∙ going) there settles stay)
+first_step {limit} {s = s} {t = t} {u = u} f going is settles = grind (arith, leads_on, onward, stay)
 
 pub goes_on : {limit : ℕ} {start s d : State} → GoesOnAs limit start s → LeadsTo limit d s → GoesOnAs limit start d
 goes_on f stay = f
@@ -60,8 +57,7 @@ abbrev pub left_key : Option Candidate → Marker → Option Candidate
 left_key k m = if is_too_far k m then None else k
 
 left_by : (k : Option Candidate) (m : Marker) (b : Bool) → is_too_far k m ≡ b → is_too_far (left_key k m) m ≡ false
-left_by k m true e = rw e refl
-left_by k m false e = rw e e
+left_by k m b e = grind arith
 
 -- nothing is dropped twice
 pub left_again : (k : Option Candidate) (m : Marker) → is_too_far (left_key k m) m ≡ false
@@ -74,18 +70,11 @@ landed n m y blank = moment_at m y blank (left_key n.key m) (crosses n.cursor.re
 pub drops : (f : Frame) (n : Moment) → n.required ≡ false
     → drop_far_key (core_of f n) ≡ Ok (core_of f (record n { key = left_key n.key n.cursor.mark; required = false }))
 unfolding drop_far_key
-drops f n free = by_distance (is_too_far n.key n.cursor.mark) refl
-  where
-    by_distance : (far : Bool) → is_too_far n.key n.cursor.mark ≡ far
-        → drop_far_key (core_of f n)
-        ≡ Ok (core_of f (record n { key = left_key n.key n.cursor.mark; required = false }))
-    by_distance true h = rw (h, free) refl
-    by_distance false h = rw (h, free) refl
+drops f n free = grind arith
 
 -- the comment does not intercept what is at the next token
 abbrev pub IsQuiet : Frame → Moment → Marker → List ℕ → Type 0
-IsQuiet f n m y = (n.comment ≡ None)
-    ⊎ ((comment : Marker) (blank : Bool)
+IsQuiet f n m y = (n.comment ≡ None) ⊎ ((comment : Marker) (blank : Bool)
     → goes_on_behind comment (core_of f (record (landed n m y blank) { key = n.key; required = n.required })) ≡ false)
 
 passes_untabbed : (f : Frame) (n : Moment) (m : Marker) (y : List ℕ) → past 0 n.cursor.mark n.cursor.rest ≡ (m, y)
@@ -105,9 +94,7 @@ passes_untabbed f n m y here clean quiet =
         → check_comment_of n.comment (behind_gap (core_of f n)
         (record { cursor = cursor_at y m blank; broke = crosses n.cursor.rest }))
         ≡ Ok (core_of f (record (landed n m y blank) { key = n.key; required = n.required }))
-    at_comment blank None q e = rw (e, and-true (crosses n.cursor.rest)) refl
-    at_comment blank (Some c) (inl k) e = absurd (let other = sym k ∙ e in cc)
-    at_comment blank (Some c) (inr k) e = rw (e, and-true (crosses n.cursor.rest), k c blank) refl
+    at_comment blank co q e = grind arith
 
 -- right at a token nothing is passed
 pub arrives_still : (f : Frame) (m : Marker) (y : List ℕ) (blank : Bool) (key : Option Candidate) (a : Bool) (ad : ℕ)
@@ -149,9 +136,7 @@ pub arrives_at : (f : Frame) (m : Marker) (y : List ℕ) (blank : Bool) (key : O
     → arrive (state_of f (moment_at m y blank key a ad deeper) ps)
     ≡ Ok (unroll (Some m.col) m (state_of f (moment_at m y blank key a ad deeper) ps))
 unfolding arrive
-arrives_at f m y blank key a ad deeper ps stop near =
-    ap (λ r. on_core r (queue_of ps) >>= λ (t : State). Ok (unroll (Some t.core.cursor.mark.col) t.core.cursor.mark t))
-    (arrives_still f m y blank key a ad deeper stop near)
+arrives_at f m y blank key a ad deeper ps stop near = grind (arith, queue_of, arrives_still)
 
 -- whether content is one column further right, at a token
 abbrev pub deeper_at : Frame → Bool → Marker → Bool
@@ -202,8 +187,7 @@ far_enough i col true h = by_test (nat_le i col) refl
     right e = grind (arith, nat_tests)
 
     by_test : (b : Bool) → nat_le i col ≡ b → nat_lt col (if nat_le i col then i else i - 1) ≡ false
-    by_test true e = rw e (right e)
-    by_test false e = rw e (not_right i col h)
+    by_test b e = grind arith
 
 -- what the step at a token's first characters gives
 pub begins_here : (f : Frame) (r : Bool) (m : Marker) (y : List ℕ) (blank : Bool) (key : Option Candidate) (a : Bool)
@@ -212,9 +196,7 @@ pub begins_here : (f : Frame) (r : Bool) (m : Marker) (y : List ℕ) (blank : Bo
     ≡ state_behind_content (slice_index y 0) (slice_index y 1)
     (state_of f (moment_with r m y blank key a ad (deeper_at f deeper m)) ps)
 unfolding fetch_here
-begins_here f r m y blank key a ad deeper ps h far =
-    let n = and_or_false (m.col == 0) (is_document_start y) (is_document_end y) h.marker in
-    rw (h.nul, h.byte_order_mark, h.directive, n.0, n.1, far_enough f.indent m.col deeper far) refl
+begins_here f r m y blank key a ad deeper ps h far = grind (arith, and_or_false, far_enough)
 
 -- ## A step
 

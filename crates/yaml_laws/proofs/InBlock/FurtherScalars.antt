@@ -126,9 +126,7 @@ content_further more i c cs t h =
 
 content_text : (i c : ℕ) (cs t more : List ℕ)
     → (spaces i ++ (c ∷ (cs ++ (line_feed ∷ t)))) ++ more ≡ spaces i ++ (c ∷ (cs ++ (line_feed ∷ (t ++ more))))
-content_text i c cs t more =
-    append_assoc (spaces i) (c ∷ (cs ++ (10 ∷ t))) more
-    ∙ ap (λ (x : List ℕ). spaces i ++ (c ∷ x)) (append_assoc cs (10 ∷ t) more)
+content_text i c cs t more = cc (append_assoc (spaces i) (c ∷ (cs ++ (10 ∷ t))) more, append_assoc cs (10 ∷ t) more)
 
 lines_further : (more x : List ℕ) → EndsFed x → {i : ℕ} {ls : List Line} {t : List ℕ} → AreLines i x ls t
     → AreLines i (x ++ more) ls (t ++ more)
@@ -181,8 +179,7 @@ all_further more x fed (inr h) = inr (empty_body_further more x fed h)
 lines_fed : (x : List ℕ) → EndsFed x → {i : ℕ} {ls : List Line} {t : List ℕ} → AreLines i x ls t → EndsFed t
 lines_fed x fed no_lines = fed
 lines_fed x fed (empty j ls t low h) = fed_front (spaces j) (10 ∷ t) (fed_front (10 ∷ []) t (lines_fed x fed h))
-lines_fed x fed {i} (content c cs ls t k h) =
-    fed_front (spaces i) (c ∷ (cs ++ (10 ∷ t)))
+lines_fed x fed {i} (content c cs ls t k h) = fed_front (spaces i) (c ∷ (cs ++ (10 ∷ t)))
     (fed_front (c ∷ cs) (10 ∷ t) (fed_front (10 ∷ []) t (lines_fed x fed h)))
 lines_fed x fed (last c cs k e) = absurd (none_fed x fed e)
 lines_fed x fed (last_empty some e) = absurd (none_fed x fed e)
@@ -191,8 +188,7 @@ lines_fed x fed (left_of j less e) = absurd (none_fed x fed e)
 body_fed : (x : List ℕ) → EndsFed x → {i : ℕ} {given : Bool} {ls : List Line} {t : List ℕ} → IsBody i given x ls t
     → EndsFed t
 body_fed x fed (leading j ls t low h) = fed_front (spaces j) (10 ∷ t) (fed_front (10 ∷ []) t (body_fed x fed h))
-body_fed x fed {i} (first c cs ls t some k h) =
-    fed_front (spaces i) (c ∷ (cs ++ (10 ∷ t)))
+body_fed x fed {i} (first c cs ls t some k h) = fed_front (spaces i) (c ∷ (cs ++ (10 ∷ t)))
     (fed_front (c ∷ cs) (10 ∷ t) (fed_front (10 ∷ []) t (lines_fed x fed h)))
 body_fed x fed (first_and_last c cs some k e) = absurd (none_fed x fed e)
 

@@ -1,6 +1,6 @@
 -- What is between two tokens at block level: where it ends, whether a break is in it, and a tab in its last
 -- indentation.
-use Rattle.std.proofs.Common.{◌≡◌, ℕ, Bool, true, false, List, [], ◌∷◌, slice_index, refl, ◌∙◌, arith, Ok}
+use Rattle.std.proofs.Common.{◌≡◌, ℕ, Bool, true, false, List, ◌∷◌, slice_index, refl, ◌∙◌, arith, Ok}
 use Rattle.std.specs.Prelude.{◌||◌, ◌==◌}
 use Rattle.std.proofs.lemmas.Bool.Decides.{nat_tests}
 use Rattle.saphyr_input.specs.Classes.{is_blank, is_break, is_yaml_non_break}
@@ -9,13 +9,12 @@ use Rattle.saphyr_scalar.specs.Views.Cursor.{Cursor}
 use Rattle.saphyr_scanner.specs.Steps.Gap.{GapEnd, end_of_gap, end_of_gap_in_comment, stop, is_tab_indentation, whole_gap}
 use Rattle.yaml_laws.proofs.Flow.States.{IsInk, past, past_comment}
 use Rattle.yaml_laws.proofs.InBlock.States.{IsStop, tabbed, tabbed_comment, IsUntabbed, crosses, crosses_comment}
-use Rattle.saphyr_input.proofs.Basics.Characters.{no_return_and}
 use Rattle.saphyr_input.proofs.Basics.Booleans.{or_false_left}
 use Rattle.std.proofs.Math.Bool.{or-false, or-true}
 use Rattle.saphyr_input.specs.Indicators.{number_sign}
 use Rattle.saphyr_scanner.proofs.Gaps.{stop_here}
 use Rattle.yaml_laws.proofs.Flow.Gaps.{is_return_at, stop_ends}
-use Rattle.yaml_laws.proofs.Flow.GapWalks.{OverGap, over_gap, none_left, no_stop}
+use Rattle.yaml_laws.proofs.Flow.GapWalks.{OverGap, over_gap, no_stop}
 
 -- ## Where `gap` stops
 
@@ -100,8 +99,7 @@ pub past_stops : (m : Marker) (t : List ℕ) → IsStop (past 0 m t).1
 past_stops m t = (gap_stops m t false false).stop
 
 pub stop_inked : (y : List ℕ) → IsStop y → is_blank (slice_index y 0) ≡ false
-stop_inked [] h = refl
-stop_inked (c ∷ cs) h = h.0
+stop_inked y h = grind arith
 
 -- no column is left of the first: blanks and tabs are passed
 pub past_inked : (m : Marker) (t : List ℕ) → is_blank (slice_index (past 0 m t).1 0) ≡ false
@@ -125,20 +123,17 @@ passes_to least s m y here clean =
 -- ## Before a token
 
 pub stop_tabbed : (least : ℕ) (m : Marker) (blank : Bool) (y : List ℕ) → IsStop y → tabbed least m blank false y ≡ false
-stop_tabbed least m blank [] h = refl
-stop_tabbed least m blank (c ∷ cs) h = rw (h.0, no_return_and c (slice_index cs 0 == 10) h.1, h.1, h.2) refl
+stop_tabbed least m blank y h = grind arith
 
 pub stop_past : (m : Marker) (y : List ℕ) → IsStop y → past 0 m y ≡ (m, y)
-stop_past m [] h = refl
-stop_past m (c ∷ cs) h = rw (none_left m c, h.0, no_return_and c (slice_index cs 0 == 10) h.1, h.1, h.2) refl
+stop_past m y h = grind arith
 
 pub ink_stop : (c : ℕ) (cs : List ℕ) → IsInk c → IsStop (c ∷ cs)
 ink_stop c cs h = (h.blank, h.break, h.comment)
 
 gap_stays : (least : ℕ) (m : Marker) (blank : Bool) (y : List ℕ) → IsStop y
     → end_of_gap least m blank false false y ≡ stop m blank false false y
-gap_stays least m blank [] h = refl
-gap_stays least m blank (c ∷ cs) h = rw (h.0, no_return_and c (slice_index cs 0 == 10) h.1, h.1, h.2) refl
+gap_stays least m blank y h = grind arith
 
 -- nothing is passed right at a token
 pub gap_still : (least : ℕ) (m : Marker) (blank : Bool) (y : List ℕ) → IsStop y → end_of_gap least m blank false false y

@@ -1,7 +1,6 @@
 -- A block scalar at block level is read from its header on (YAML 1.2.2, 8.1).
 use Rattle.std.proofs.Common.{◌≡◌, ℕ, zero, suc, ◌+◌, ◌^◌, ◌<◌, ◌≤◌, Bool, true, false, List, [], ◌∷◌, ◌++◌, length, slice_index, refl, sym, ap, ◌∙◌, arith, subst, Ok, encode_utf8_all, ◌⊎◌, inl, inr}
-use Rattle.std.specs.Prelude.{◌||◌, ◌==◌, not, Option, Some, None}
-use Rattle.std.proofs.lemmas.Bool.Decides.{nat_tests}
+use Rattle.std.specs.Prelude.{◌||◌, Option, Some, None}
 use Rattle.std.proofs.lemmas.List.{length-append}
 use Rattle.saphyr_input.specs.Classes.{is_break}
 use Rattle.saphyr_values.specs.declared.block.BlockStyle.{BlockStyle}
@@ -11,11 +10,10 @@ use Rattle.saphyr_scalar.specs.declared.scalar.position.Span.{Span}
 use Rattle.saphyr_scalar.specs.Reading.BlockLines.{spaces}
 use Rattle.saphyr_scalar.specs.Steps.Block as blocks
 use Rattle.saphyr_scalar.specs.Views.Cursor.{Cursor, ◌>>=◌}
-use Rattle.saphyr_scanner.specs.Steps.Core.{Core, completed_step, from_to, least_column, save_key}
+use Rattle.saphyr_scanner.specs.Steps.Core.{completed_step, from_to, least_column, save_key}
 use Rattle.saphyr_scanner.specs.Steps.Level.{Candidate}
 use Rattle.saphyr_scanner.specs.Steps.Fetch.{fetch, fetch_here, fetch_within, check_limit, state_behind_content, step}
 use Rattle.saphyr_scanner.specs.Grammar.Forest.{Style, Plain, SingleQuoted, DoubleQuoted, Literal, Folded}
-use Rattle.saphyr_scanner.specs.Steps.Passing.{with_cursor}
 use Rattle.saphyr_scanner.specs.Steps.Queue.{next, Place, bare_place}
 use Rattle.saphyr_scanner.specs.Steps.Scalar as scalar
 use Rattle.saphyr_scanner.specs.Steps.Scalar.{style_of}
@@ -36,10 +34,8 @@ use Rattle.yaml_laws.proofs.InBlock.Lines.{FitsOnLines, fits_back}
 use Rattle.yaml_laws.proofs.InBlock.Statements.{EndsNodeAt, Arrived}
 use Rattle.yaml_laws.proofs.InBlock.ScalarTexts.{ReadsBlocks, block_taken}
 use Rattle.saphyr_scalar.proofs.Given.{cursor_at}
-use Rattle.saphyr_input.proofs.Basics.Booleans.{and_false}
 use Rattle.std.proofs.Math.Bool.{or-true}
 use Rattle.std.proofs.lemmas.Bool.{le-leb}
-use Rattle.saphyr_scanner.proofs.Taken.States.{too_far}
 use Rattle.saphyr_scanner.proofs.Queues.{place_kinds, place_kinds_append, queue_of}
 use Rattle.saphyr_scanner.proofs.Levels.{saved}
 
@@ -55,16 +51,12 @@ abbrev behind_scalar : Cursor → Option Candidate → ℕ → Moment
 behind_scalar s key ad =
     record { cursor = s; key = key; allowed = true; adjacent = ad; deeper = false; required = false; comment = None }
 
-no_key_column : (i col : ℕ) → i ≤ col → (i == col + 1) ≡ false
-no_key_column i col h = grind (arith, nat_tests)
-
 -- the core after the saving of a key, with the header ahead
 pub saves : (f : Frame) (m : Marker) (y : List ℕ) (blank : Bool) (key : Option Candidate) (a : Bool) (ad : ℕ)
     (deeper : Bool) (i : ℕ) → f.indent ≤ m.col
     → save_key i (core_of f (moment_at m y blank key a ad deeper))
     ≡ core_of f (moment_at m y blank (saved a i m key) a ad deeper)
-saves f m y blank key true ad deeper i low = rw (no_key_column f.indent m.col low, and_false (not deeper)) refl
-saves f m y blank key false ad deeper i low = refl
+saves f m y blank key a ad deeper i low = grind arith
 
 reads_block : (f : Frame) (style : BlockStyle) (m : Marker) (y : List ℕ) (blank : Bool) (key : Option Candidate)
     (ad : ℕ) (text : List ℕ) (span : Span) (left : Cursor)
@@ -73,10 +65,7 @@ reads_block : (f : Frame) (style : BlockStyle) (m : Marker) (y : List ℕ) (blan
     ≡ completed_step (from_to span.start span.end (kind.Scalar (style_of style) text) ∷ [])
     (core_of f (behind_scalar left key ad))
 unfolding scalar.read_block
-reads_block f style m y blank key ad text span left e =
-    ap (λ r. r >>= λ (x : List ℕ × Span × Cursor). completed_step
-    (from_to x.1.start x.1.end (kind.Scalar (style_of style) x.0) ∷ [])
-    (with_cursor x.2 (core_of f (moment_at m y blank key true ad false)))) e
+reads_block f style m y blank key ad text span left e = grind arith
 
 block_step : (f : Frame) (style : BlockStyle) (m : Marker) (y : List ℕ) (blank : Bool) (key : Option Candidate)
     (a : Bool) (ad : ℕ) (deeper : Bool) (text : List ℕ) (span : Span) (left : Cursor)
@@ -85,24 +74,19 @@ block_step : (f : Frame) (style : BlockStyle) (m : Marker) (y : List ℕ) (blank
     ≡ completed_step (from_to span.start span.end (kind.Scalar (style_of style) text) ∷ [])
     (core_of f (behind_scalar left (saved a i m key) ad))
 unfolding scalar.block_scalar_steps
-block_step f style m y blank key a ad deeper text span left low e i =
-    ap (λ (c : Core). scalar.read_block style (record c { key_allowed = true; deeper = false }))
-    (saves f m y blank key a ad deeper i low)
-    ∙ reads_block f style m y blank (saved a i m key) ad text span left e
+block_step f style m y blank key a ad deeper text span left low e i = grind (arith, saves, reads_block, saved)
 
 style_at_sign : (f : Frame) (style : BlockStyle) (n : Moment) (second i : ℕ)
     → step (sign style) second i (core_of f n) ≡ scalar.block_scalar_steps style i (core_of f n)
 unfolding step
-style_at_sign f block_style.Literal n second i = refl
-style_at_sign f block_style.Folded n second i = refl
+style_at_sign f style n second i = grind arith
 
 header_begins : (style : BlockStyle) (m : Marker) (o : List ℕ) → BeginsToken m (sign style ∷ o)
 header_begins block_style.Literal m o = begins_with 124 m o (refl, refl, refl) refl refl refl refl
 header_begins block_style.Folded m o = begins_with 62 m o (refl, refl, refl) refl refl refl refl
 
 sign_is_no_break : (style : BlockStyle) → is_break (sign style) ≡ false
-sign_is_no_break block_style.Literal = refl
-sign_is_no_break block_style.Folded = refl
+sign_is_no_break style = grind arith
 
 -- ## A key that is dropped after a line
 
@@ -113,14 +97,11 @@ IsOnLineOrBefore (Some k) m = k.mark.line ≤ m.line
 
 gone : (a : Bool) (i : ℕ) (m n : Marker) (key : Option Candidate) → IsOnLineOrBefore key m → m.line < n.line
     → left_key (saved a i m key) n ≡ None
-gone true i m n key late h = rw (too_far (record { mark = m; place = i }) n h) refl
-gone false i m n None late h = refl
-gone false i m n (Some k) late h = rw (too_far k n (omega (arith, late, h))) refl
+gone a i m n key late h = grind arith
 
 -- From a state that goes on with this state the scanner comes to that, where a key that is too far is dropped.
 steps_dropping : {limit : ℕ} {start s : State} (g : Frame) (n : Moment) (qs : List Place) → GoesOnAs limit start s
-    → s.core.ended ≡ false → fetch s ≡ Ok (state_of g n qs) → n.required ≡ false
-    → n.cursor.mark.index ≤ limit
+    → s.core.ended ≡ false → fetch s ≡ Ok (state_of g n qs) → n.required ≡ false → n.cursor.mark.index ≤ limit
     → LeadsTo limit (state_of g (record n { key = left_key n.key n.cursor.mark; required = false }) qs) start
 unfolding fetch_within
 steps_dropping {limit} g n qs f going is free low =
@@ -165,8 +146,7 @@ arrives_behind f left key ad qs ts k o leads are text clean low ends =
   where
     by_end : (key ≡ None) ⊎ (o ≡ []) → EndsDocument (past 0 k o).0 (past 0 k o).1
         ⊎ ((left_key key (past 0 k o).0 ≡ None) × ((crosses left.rest || true) ≡ true))
-    by_end (inl none) =
-        inr (ap (λ (c : Option Candidate). left_key c (past 0 k o).0) none, or-true (crosses left.rest))
+    by_end (inl none) = inr (ap (λ (c : Option Candidate). left_key c (past 0 k o).0) none, or-true (crosses left.rest))
     by_end (inr over) = inl (inl (ap (λ (y : List ℕ). (past 0 k y).1) over))
 
 -- from its header on
@@ -190,46 +170,35 @@ reads_scalar laws {limit} {start} {ts} f style value m more t o short low begins
     let c = core_of f (moment_at m y v.blank v.key v.allowed v.adjacent deeper) in
     let far = column_far f.indent m.col low in
     let begun : BeginsToken m y = subst (BeginsToken m) (sym start_is) (header_begins style m (more ++ o)) in
-    let stepped : step (slice_index y 0) (slice_index y 1) i c
-    ≡ completed_step (from_to b.span.start b.span.end piece.kind ∷ []) (core_of f n) =
-    ap (λ (x : List ℕ). step (slice_index x 0) (slice_index y 1) i c) start_is
+    let stepped = ap (λ (x : List ℕ). step (slice_index x 0) (slice_index y 1) i c) start_is
     ∙ style_at_sign f style (moment_at m y v.blank v.key v.allowed v.adjacent deeper) (slice_index y 1) i
     ∙ block_step f style m y v.blank v.key v.allowed v.adjacent deeper (encode_utf8_all value) b.span b.left low b.read
     i in
-    let made : state_behind_content (slice_index y 0) (slice_index y 1)
-    (state_of f (moment_at m y v.blank v.key v.allowed v.adjacent deeper) v.places) ≡ Ok (state_of f n qs) =
-    ap (λ r. after_step r (queue_of v.places)) stepped in
-    let there : fetch (state_of f (moment_at m y v.blank v.key v.allowed v.adjacent v.deeper) v.places)
-    ≡ Ok (state_of f n qs) =
+    let there =
     ap (λ r. r >>= fetch_here) (arrives_at f m y v.blank v.key v.allowed v.adjacent v.deeper v.places v.stop v.near)
     ∙ ap fetch_here (stays_open f false m y v.blank v.key v.allowed v.adjacent v.deeper v.places far)
-    ∙ begins_here f false m y v.blank v.key v.allowed v.adjacent v.deeper v.places begun far ∙ made in
+    ∙ begins_here f false m y v.blank v.key v.allowed v.adjacent v.deeper v.places begun far ∙
+    (ap (λ r. after_step r (queue_of v.places)) stepped) in
     let whole = moved_count m t o in
     let inner = moved_count (moved m t) (spaces b.n) b.others in
     let size = ap length b.behind in
     let index = ap (λ (k : Marker). k.index) b.mark in
     let below = fits.below in
     let limited : b.left.mark.index ≤ limit = omega (arith, whole, inner, size, index, below) in
-    let leads = steps_dropping f n qs v.follows refl there refl limited in
     let ends = key_ends i b.left.mark (b.later fits.lined (omega (arith, below, short))) in
-    let lands_at : past 0 b.left.mark b.left.rest ≡ past 0 (moved m t) o =
-    ap (λ (x : List ℕ). past 0 b.left.mark x) b.rest ∙ ap (λ (k : Marker). past 0 k b.others) b.mark
+    let lands_at = ap (λ (x : List ℕ). past 0 b.left.mark x) b.rest ∙ ap (λ (k : Marker). past 0 k b.others) b.mark
     ∙ sym (skipped_past (moved m t) (spaces b.n) b.others (spaces_skipped b.n))
     ∙ ap (past 0 (moved m t)) (sym b.behind) in
-    let on = past_low 0 (moved m t) o in
-    let lower = v.low in
     let clean : (least : ℕ) → IsUntabbed least b.left =
     λ least. ap (λ (x : List ℕ). tabbed least b.left.mark b.left.blank_so_far false x) b.rest
     ∙ ap (λ (k : Marker). tabbed least k b.left.blank_so_far false b.others) b.mark
     ∙ sym (spaces_tabbed least (moved m t) b.left.blank_so_far b.n b.others)
     ∙ ap (tabbed least (moved m t) b.left.blank_so_far false) (sym b.behind)
     ∙ behind.clean least (moved m t) b.left.blank_so_far in
-    let size_y = length-append t o in
     arrives_behind f b.left (left_key (saved v.allowed i m v.key) b.left.mark) v.adjacent qs (ts ++ piece.kind ∷ [])
-    (moved m t) o leads
+    (moved m t) o (steps_dropping f n qs v.follows refl there refl limited)
     (place_kinds_append v.places (bare_place piece ∷ []) ∙ ap (λ (x : List Kind). x ++ piece.kind ∷ []) v.are)
-    lands_at clean
-    (omega (arith, lower, on, whole, size_y)) ends
+    lands_at clean (omega (arith, v.low, past_low 0 (moved m t) o, whole, length-append t o)) ends
   where
     key_ends : (i : ℕ) (n : Marker) → (m.line < n.line) ⊎ (o ≡ [])
         → (left_key (saved v.allowed i m v.key) n ≡ None) ⊎ (o ≡ [])

@@ -3,7 +3,6 @@ use Rattle.std.proofs.Common.{◌≡◌, ◌≢◌, ℕ, zero, suc, ◌+◌, ◌
 use Rattle.std.specs.Prelude.{◌||◌, ◌&&◌, ◌==◌, not, take}
 use Rattle.std.specs.List.{list_all, list_any, prefix_len}
 use Rattle.std.proofs.lemmas.Bool.Decides.{nat_tests}
-use Rattle.std.proofs.lemmas.Bool.{eqb-true}
 use Rattle.saphyr_input.specs.Classes.{is_alpha, is_blank, is_blank_or_breakz, line_feed, space, tab}
 use Rattle.saphyr_input.specs.Indicators.{hyphen}
 use Rattle.saphyr_input.specs.Separation.{found_blanks, found_tabs, has_valid_yaml_ws}
@@ -43,8 +42,7 @@ white_last [] comment are (inl e) = inl (ap (λ (x : List ℕ). x ++ []) e)
 
 last_clean : (least : ℕ) (blanks comment : List ℕ) → AreIn is_blank blanks → (comment ≡ []) ⊎ IsComment comment
     → (m : Marker) → tabbed least m false false (blanks ++ (comment ++ [])) ≡ false
-last_clean least blanks comment are k m =
-    cc (append-nil comment, rest_ends_clean blanks comment are k least m false false)
+last_clean least blanks comment are k m = grind (arith, append-nil, rest_ends_clean)
 
 -- which blanks are found before a token
 blanks_found : (p : ℕ → Bool) (w : List ℕ) (c : ℕ) (cs : List ℕ) → AreIn is_blank w → is_blank c ≡ false
@@ -52,8 +50,7 @@ blanks_found : (p : ℕ → Bool) (w : List ℕ) (c : ℕ) (cs : List ℕ) → A
 blanks_found p [] c cs are h = rw h refl
 blanks_found p (b ∷ bs) c cs are h =
     let n = prefix_len is_blank (bs ++ (c ∷ cs)) in
-    let one : 1 + n ≡ suc n = omega arith in
-    rw (are.0, one) (cc (blanks_found p bs c cs are.1 h))
+    let one : 1 + n ≡ suc n = omega arith in rw (are.0, one) (cc (blanks_found p bs c cs are.1 h))
 
 -- among blanks that are not tabs alone is a space
 tabs_or_space : (w : List ℕ) (a : Bool) → AreIn is_blank w → (list_all (λ c. c == tab) w && a) ≡ false
@@ -67,17 +64,10 @@ tabs_or_space (b ∷ bs) a are h = by_space (b == space) refl (λ k. tabs_or_spa
     by_space : (q : Bool) → (b == space) ≡ q
         → ((list_all (λ c. c == tab) bs && a) ≡ false → (not (list_any (λ c. c == space) bs) && a) ≡ false)
         → (not ((b == space) || list_any (λ c. c == space) bs) && a) ≡ false
-    by_space true e further = rw e refl
-    by_space false e further =
-        let t = is_tab b are.0 e in
-        rw e (further (cc))
+    by_space q e further = grind arith
 
 dash_is_alpha : (c : ℕ) → ((c == hyphen) || is_alpha c) ≡ is_alpha c
-dash_is_alpha c = by_dash (c == hyphen) refl
-  where
-    by_dash : (q : Bool) → (c == hyphen) ≡ q → ((c == hyphen) || is_alpha c) ≡ is_alpha c
-    by_dash true e = rw (eqb-true c 45 e) refl
-    by_dash false e = rw e refl
+dash_is_alpha c = grind arith
 
 blank_apart : (c : ℕ) → IsTrue (is_blank c) → is_blank_or_breakz c ≡ true
 blank_apart c h = grind (arith, nat_tests)
@@ -120,16 +110,14 @@ token_behind n c cs some ink =
     (λ _. rw (some_space n some) refl)
   where
     some_spaces : (n : ℕ) → 1 ≤ n → spaces n ≢ []
-    some_spaces zero h = absurd (omega (arith, h))
-    some_spaces (suc n) h = λ e. cc
+    some_spaces n h = grind arith
 
     no_tab : (n : ℕ) → list_any (λ b. b == tab) (spaces n) ≡ false
     no_tab zero = refl
     no_tab (suc n) = no_tab n
 
     some_space : (n : ℕ) → 1 ≤ n → list_all (λ b. b == tab) (spaces n) ≡ false
-    some_space zero h = absurd (omega (arith, h))
-    some_space (suc n) h = refl
+    some_space n h = grind arith
 
 -- the rest of a line, and its break
 pub line_behind : {colon : Bool} {indent : ℕ} (rest o : List ℕ) → IsLineRest rest → IsCleanIn indent o

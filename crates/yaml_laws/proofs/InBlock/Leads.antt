@@ -39,13 +39,7 @@ plain_lead {limit} {start} {ts} p place f m w y none h b opens v =
     × (u.allowed ≡ true)) there (v.at, v.none, v.allows opens) in
     let all = subst (λ (us : List Kind). (u : At limit start f (moved m w) y us) × (u.key ≡ None)
     × (u.allowed ≡ true)) (sym (append-nil ts)) p_at in
-    record {
-      tokens = [];
-      are = rw none refl;
-      at = all.0;
-      none = all.1;
-      allowed = all.2;
-    }
+    record { tokens = []; are = rw none refl; at = all.0; none = all.1; allowed = all.2 }
 
 true_crosses : (place : Position) (t : List ℕ) → crosses t ≡ true → (is_compact place || crosses t) ≡ true
 true_crosses place t e = rw e (or-true (is_compact place))

@@ -1,35 +1,24 @@
 -- Where lines begin in a text, and pieces of which no document marker begins a line.
 use Rattle.std.proofs.Common.{◌≡◌, ℕ, Bool, true, false, List, [], ◌∷◌, ◌++◌, IsTrue, refl, sym, ap, ◌∙◌, arith, subst, append_assoc, append-nil, ◌⊎◌, inl, inr}
 use Rattle.std.proofs.lemmas.Bool.Decides.{nat_tests}
-use Rattle.std.specs.Prelude.{◌&&◌, ◌==◌, not, ◌||◌}
+use Rattle.std.specs.Prelude.{◌&&◌, ◌==◌, not}
 use Rattle.saphyr_input.specs.Classes.{byte_order_mark, line_feed, is_blank, is_yaml_non_break}
-use Rattle.saphyr_input.specs.Places.{is_document_indicator, is_document_start, is_document_end}
+use Rattle.saphyr_input.specs.Places.{is_document_indicator}
 use Rattle.saphyr_scalar.specs.Spelling.Tag.{AreIn}
 use Rattle.scalar_laws.specs.Spelling.Spaces.{IsComment, IsFiller, IsLastFiller, IsLineRest, IsEol}
 use Rattle.yaml_laws.proofs.Flow.States.{marks_line}
 use Rattle.yaml_laws.proofs.Flow.Fillers.{behind_is}
 use Rattle.yaml_laws.proofs.InBlock.Skips.{IsSkipped, nothing, one_space, one_break, one_rest, filler_skipped}
-use Rattle.std.proofs.lemmas.Bool.{or_parts, or_from, and_right}
+use Rattle.std.proofs.lemmas.Bool.{or_parts, or_from}
 use Rattle.saphyr_input.specs.Indicators.{full_stop, hyphen}
-use Rattle.saphyr_input.proofs.Basics.Characters.{non_break_no_feed, no_marker_at}
+use Rattle.saphyr_input.proofs.Basics.Characters.{non_break_no_feed}
 use Rattle.yaml_laws.specs.Grammar.Yaml.{has_marker}
 
-lost_second : (a y z : Bool) → ((a && false && y) && z) ≡ false
-lost_second true y z = refl
-lost_second false y z = refl
-
-lost_third : (a b z : Bool) → ((a && b && false) && z) ≡ false
-lost_third true true z = refl
-lost_third true false z = refl
-lost_third false b z = refl
-
 feed_second : (c : ℕ) (t : List ℕ) → is_document_indicator (c ∷ line_feed ∷ t) ≡ false
-feed_second c t = or_from (is_document_start (c ∷ 10 ∷ t)) (is_document_end (c ∷ 10 ∷ t)) (lost_second (c == 45) _ _)
-    (lost_second (c == 46) _ _)
+feed_second c t = grind arith
 
 feed_third : (c d : ℕ) (t : List ℕ) → is_document_indicator (c ∷ d ∷ line_feed ∷ t) ≡ false
-feed_third c d t = or_from (is_document_start (c ∷ d ∷ 10 ∷ t)) (is_document_end (c ∷ d ∷ 10 ∷ t))
-    (lost_third (c == 45) (d == 45) _) (lost_third (c == 46) (d == 46) _)
+feed_third c d t = grind arith
 
 -- a document marker ends before a line feed
 pub fed_marker : (c : ℕ) (cs behind : List ℕ)
@@ -43,17 +32,11 @@ fed_marker c (d ∷ e ∷ f ∷ more) behind = refl
 pub fed_marks : (at_start : Bool) (t behind : List ℕ)
     → marks_line at_start (t ++ (line_feed ∷ [])) behind ≡ has_marker at_start (t ++ (line_feed ∷ []))
 fed_marks at_start [] behind = refl
-fed_marks at_start (c ∷ cs) behind =
-    ap (λ (b : Bool). (at_start && b) || marks_line (c == line_feed) (cs ++ (10 ∷ [])) behind) (fed_marker c cs behind)
-    ∙ ap (λ (b : Bool). (at_start && is_document_indicator (c ∷ (cs ++ (10 ∷ [])))) || b)
-    (fed_marks (c == line_feed) cs behind)
+fed_marks at_start (c ∷ cs) behind = cc (fed_marker c cs behind, fed_marks (c == line_feed) cs behind)
 
 pub last_marks : (at_start : Bool) (t : List ℕ) → marks_line at_start t [] ≡ has_marker at_start t
 last_marks at_start [] = refl
-last_marks at_start (c ∷ cs) =
-    ap (λ (x : List ℕ). (at_start && is_document_indicator (c ∷ x)) || marks_line (c == line_feed) cs [])
-    (append-nil cs)
-    ∙ ap (λ (b : Bool). (at_start && is_document_indicator (c ∷ cs)) || b) (last_marks (c == line_feed) cs)
+last_marks at_start (c ∷ cs) = cc (append-nil cs, last_marks (c == line_feed) cs)
 
 -- ## Starts of lines
 
@@ -92,16 +75,10 @@ both_unmarked a b h k at_start o = join_unmarked at_start a b o (h at_start (b +
 -- after a character with which no marker begins
 first_unmarked : (c : ℕ) (cs o : List ℕ) → (c == hyphen) ≡ false → (c == full_stop) ≡ false
     → marks_line (c == line_feed) cs o ≡ false → (at_start : Bool) → marks_line at_start (c ∷ cs) o ≡ false
-first_unmarked c cs o e f h at_start =
-    or_from (at_start && is_document_indicator (c ∷ (cs ++ o))) (marks_line (c == line_feed) cs o)
-    (and_right at_start _ (no_marker_at c (cs ++ o) e f)) h
+first_unmarked c cs o e f h at_start = grind arith
 
 feed_by_test : (c : ℕ) → IsTrue (not (c == line_feed)) → (c == line_feed) ≡ false
-feed_by_test c h = by_test (c == line_feed) h
-  where
-    by_test : (b : Bool) → IsTrue (not b) → b ≡ false
-    by_test true h = absurd (cc)
-    by_test false h = refl
+feed_by_test c h = grind arith
 
 words_unmarked : (w o : List ℕ) → AreIn (λ c. not (c == line_feed)) w → marks_line false w o ≡ false
 words_unmarked [] o h = refl
@@ -113,15 +90,13 @@ pub line_unmarked : (c : ℕ) (cs : List ℕ) → (c == hyphen) ≡ false → (c
 line_unmarked c cs e f h at_start o = first_unmarked c cs o e f (words_unmarked (c ∷ cs) o h) at_start
 
 pub set_on_line : (set : ℕ → Bool) → ((c : ℕ) → IsTrue (set c) → IsTrue (not (c == line_feed))) → (w : List ℕ)
-    → AreIn set w
-    → AreIn (λ c. not (c == line_feed)) w
+    → AreIn set w → AreIn (λ c. not (c == line_feed)) w
 set_on_line set each [] h = tt
 set_on_line set each (c ∷ cs) h = (each c h.0, set_on_line set each cs h.1)
 
 comment_unmarked : (t : List ℕ) → (t ≡ []) ⊎ IsComment t → IsUnmarked t
 comment_unmarked t (inl e) = subst IsUnmarked (sym e) (λ at_start o. refl)
-comment_unmarked t (inr (words, are, e)) =
-    subst IsUnmarked (sym e)
+comment_unmarked t (inr (words, are, e)) = subst IsUnmarked (sym e)
     (line_unmarked 35 words refl refl (refl, set_on_line is_yaml_non_break non_break_no_feed words are))
 
 blanks_unmarked : (w : List ℕ) → AreIn is_blank w → IsUnmarked w
@@ -147,25 +122,19 @@ skipped_unmarked _ (one_rest blanks comment w are k h) at_start o =
 pub last_unmarked : (t : List ℕ) → IsLastFiller t → IsUnmarked t
 last_unmarked t (filler, text, filler_is, (front, comment, are, k, text_is), e) =
     let last = both_unmarked front comment (blanks_unmarked front are) (comment_unmarked comment k) in
-    subst IsUnmarked (sym e)
-    (both_unmarked filler text (skipped_unmarked filler (filler_skipped filler filler_is))
+    subst IsUnmarked (sym e) (both_unmarked filler text (skipped_unmarked filler (filler_skipped filler filler_is))
     (subst IsUnmarked (sym text_is) last))
 
 rest_unmarked : (t : List ℕ) → IsLineRest t → IsUnmarked t
-rest_unmarked t (blanks, comment, are, k, e) =
-    subst IsUnmarked (sym e)
+rest_unmarked t (blanks, comment, are, k, e) = subst IsUnmarked (sym e)
     (both_unmarked blanks comment (blanks_unmarked blanks are) (comment_unmarked comment (behind_is blanks comment k)))
 
 pub end_unmarked : (t o : List ℕ) → IsEol t o → IsUnmarked t
-end_unmarked t o (inl (rest, h, e)) =
-    subst IsUnmarked (sym e)
-    (both_unmarked rest (10 ∷ []) (rest_unmarked rest h) (skipped_unmarked (10 ∷ []) (one_break [] nothing)))
-end_unmarked t o (inr h) = rest_unmarked t h.0
+end_unmarked t o h = grind (arith, both_unmarked, rest_unmarked, skipped_unmarked, one_break, nothing)
 
 -- a byte order mark after filler
 pub mark_unmarked : (filler : List ℕ) → IsFiller filler → IsUnmarked (filler ++ (byte_order_mark ∷ []))
-mark_unmarked filler is =
-    both_unmarked filler (65279 ∷ []) (skipped_unmarked filler (filler_skipped filler is))
+mark_unmarked filler is = both_unmarked filler (65279 ∷ []) (skipped_unmarked filler (filler_skipped filler is))
     (line_unmarked 65279 [] refl refl (refl, tt))
 
 -- ## A document marker comes after such a piece
@@ -186,14 +155,13 @@ behind_piece at_start (c ∷ cs) b [] y e unmarked line marker =
     absurd (clash at_start (is_document_indicator (c ∷ (cs ++ b))) line (ap is_document_indicator e ∙ marker) n)
   where
     clash : (a b : Bool) → a ≡ true → b ≡ true → (a && b) ≡ false → ⊥
-    clash a b e f h = let k : (a && b) ≡ true = rw (e, f) refl in cc
+    clash a b e f h = cc
 behind_piece at_start (c ∷ cs) b (d ∷ ds) y e unmarked line marker =
-    let same : c ≡ d = cc in
     let others : cs ++ b ≡ ds ++ y = cc in
     let n = (or_parts (at_start && is_document_indicator (c ∷ (cs ++ b))) (marks_line (c == line_feed) cs b)
     unmarked).1 in
     behind_piece (c == line_feed) cs b ds y others n
-    (subst (λ (z : ℕ). opens_line (z == line_feed) ds ≡ true) (sym same) line) marker
+    (subst (λ (z : ℕ). opens_line (z == line_feed) ds ≡ true) (sym cc) line) marker
 
 -- a text of which none begins a line has none
 pub no_line : (t y : List ℕ) → IsUnmarked t → HasLine t y → IsTrue (is_document_indicator y) → ⊥

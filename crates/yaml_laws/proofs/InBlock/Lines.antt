@@ -1,48 +1,33 @@
 -- Line numbers grow from line to line, in texts that are not longer than they can tell.
 use Rattle.std.proofs.Common.{◌≡◌, ℕ, suc, ◌+◌, ◌^◌, ◌<◌, ◌≤◌, List, [], ◌∷◌, ◌++◌, length, arith, append_assoc, min}
-use Rattle.std.specs.Prelude.{◌-◌, ◌==◌}
+use Rattle.std.specs.Prelude.{◌-◌}
 use Rattle.std.proofs.lemmas.List.{length-append}
 use Rattle.saphyr_input.specs.Classes.{line_feed}
 use Rattle.saphyr_scalar.specs.declared.scalar.position.Marker.{Marker}
-use Rattle.saphyr_scalar.specs.Views.Cursor.{along, next_line}
 use Rattle.yaml_laws.proofs.Flow.States.{moved, past, IsClear}
 use Rattle.yaml_laws.proofs.Flow.GapSteps.{by_steps}
 use Rattle.yaml_laws.proofs.Flow.Places.{behind_character, moved_append, moved_index, moved_count, clear_front, clear_back}
-use Rattle.saphyr_input.proofs.Basics.Booleans.{by_test}
 
 -- A place has at most as many lines before it as characters.
 abbrev pub IsLined : Marker → Type 0
 IsLined m = m.line ≤ m.index + 1
 
 pub one_lined : (m : Marker) (c : ℕ) → IsLined m → IsLined (behind_character m c)
-one_lined m c h = by_test (c == line_feed) (next_line m 1) (along m 1) IsLined (λ _. broken m.line m.index h)
-    (λ _. further m.line m.index h)
-  where
-    broken : (l i : ℕ) → l ≤ i + 1 → min (l + 1) (2 ^ 64 - 1) ≤ i + 1 + 1
-    broken l i h = omega (arith, h)
-
-    further : (l i : ℕ) → l ≤ i + 1 → l ≤ i + 1 + 1
-    further l i h = omega (arith, h)
+one_lined m c h = grind (arith, min)
 
 pub moved_lined : (m : Marker) (t : List ℕ) → IsLined m → IsLined (moved m t)
 moved_lined m [] h = h
 moved_lined m (c ∷ cs) h = moved_lined (behind_character m c) cs (one_lined m c h)
 
 one_line : (m : Marker) (c : ℕ) → IsLined m → m.index < 2 ^ 63 → m.line ≤ (behind_character m c).line
-one_line m c h low = by_test (c == line_feed) (next_line m 1) (along m 1) (λ (n : Marker). m.line ≤ n.line)
-    (λ _. broken m.line m.index h low) (λ _. omega arith)
-  where
-    broken : (l i : ℕ) → l ≤ i + 1 → i < 2 ^ 63 → l ≤ min (l + 1) (2 ^ 64 - 1)
-    broken l i h low = omega (arith, h, low)
+one_line m c h low = grind arith
 
 pub moved_line : (m : Marker) (t : List ℕ) → IsLined m → m.index + length t < 2 ^ 63 → m.line ≤ (moved m t).line
 moved_line m [] h low = omega arith
 moved_line m (c ∷ cs) h low =
-    let one = moved_index m (c ∷ []) in
-    let here = one_line m c h (front m.index (length cs) low) in
     let more = moved_line (behind_character m c) cs (one_lined m c h)
-    (back m.index (behind_character m c).index (length cs) one low) in
-    omega (arith, here, more)
+    (back m.index (behind_character m c).index (length cs) (moved_index m (c ∷ [])) low) in
+    omega (arith, one_line m c h (front m.index (length cs) low), more)
   where
     front : (i l : ℕ) → i + suc l < 2 ^ 63 → i < 2 ^ 63
     front i l h = omega (arith, h)
@@ -52,8 +37,7 @@ moved_line m (c ∷ cs) h low =
 
 -- what is passed leads to no earlier line
 pub past_line : (m : Marker) (t : List ℕ) → IsLined m → m.index + length t < 2 ^ 63 → m.line ≤ (past 0 m t).0.line
-past_line m t =
-    by_steps 0 (λ m t r. IsLined m → m.index + length t < 2 ^ 63 → m.line ≤ r.0.line)
+past_line m t = by_steps 0 (λ m t r. IsLined m → m.index + length t < 2 ^ 63 → m.line ≤ r.0.line)
     (record {
       stays = λ m t e h low. omega arith;
       onward = λ m c cs r p h low. p (further m.line m.index h) (shorter m.index (length cs) low);
@@ -77,18 +61,7 @@ past_line m t =
 pub later_line : (m : Marker) (a b : List ℕ) → IsLined m → m.index + length (a ++ (line_feed ∷ b)) < 2 ^ 63
     → m.line < (moved m (a ++ (line_feed ∷ b))).line
 later_line m a b h low =
-    let p = moved m a in
-    let count = moved_index m a in
-    let size = length-append a (10 ∷ b) in
-    let lined = moved_lined m a h in
-    let first = moved_line m a h (omega (arith, low, size)) in
-    let down : p.line < (next_line p 1).line = broken p.line p.index lined (omega (arith, low, size, count)) in
-    let last = moved_line (next_line p 1) b (one_lined p 10 lined) (omega (arith, low, size, count)) in
-    let all : (moved m (a ++ (10 ∷ b))).line ≡ (moved (next_line p 1) b).line = cc (moved_append m a (10 ∷ b)) in
-    omega (arith, first, down, last, all)
-  where
-    broken : (l i : ℕ) → l ≤ i + 1 → i < 2 ^ 63 → l < min (l + 1) (2 ^ 64 - 1)
-    broken l i h low = omega (arith, h, low)
+    grind (arith, moved, moved_index, length-append, moved_lined, moved_line, one_lined, moved_append, min)
 
 -- ## A piece that is clear and within the limit, where lines can be told
 

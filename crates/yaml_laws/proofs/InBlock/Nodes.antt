@@ -10,7 +10,7 @@ use Rattle.saphyr_scanner.specs.Grammar.Tokens.{Kind}
 use Rattle.saphyr_scanner.specs.Grammar.TokenGrammar as grammar
 use Rattle.saphyr_scanner.specs.Grammar.Forest.{Properties, Node, Alias, Scalar, Seq, Map, Nodes, NoNode, MoreNodes, Pairs, NoPair, MorePairs}
 use Rattle.saphyr_scanner.specs.Limits.{most_open}
-use Rattle.yaml_laws.specs.Grammar.BlockNodes.{Position, BehindDash, BehindMark, BehindKey, BehindMarker, AtStart, indent_at, sequence_indent_at, IsLead, IsLeftOut, IsFlowInBlock, IsBlockNode, AreEntries, ArePairs}
+use Rattle.yaml_laws.specs.Grammar.BlockNodes.{Position, indent_at, sequence_indent_at, IsLead, IsLeftOut, IsFlowInBlock, IsBlockNode, AreEntries, ArePairs}
 use Rattle.yaml_laws.proofs.Flow.States.{moved, past}
 use Rattle.yaml_laws.proofs.Flow.Places.{moved_append}
 use Rattle.yaml_laws.proofs.InBlock.Lines.{FitsOnLines, fits_front, fits_back, fits_so}
@@ -33,8 +33,7 @@ use Rattle.saphyr_input.proofs.Basics.Booleans.{clash}
 -- ## A node that is left out
 
 eol_past : (m : Marker) (t o : List ℕ) → IsEol t o → past 0 m (t ++ o) ≡ past 0 (moved m t) o
-eol_past m t o (inl h) = skipped_past m t o (line_end_skipped t h)
-eol_past m t o (inr h) = rw h.1 (rest_past 0 m t [] h.0 (inl refl) (omega arith))
+eol_past m t o h = grind (arith, skipped_past, line_end_skipped, rest_past)
 
 reads_left_out : (limit : ℕ) (node : Node) → ReadsAt limit node (IsLeftOut node)
 reads_left_out limit node place f same m t o (is, out, eol) fits behind start ts v =
@@ -61,11 +60,7 @@ reads_left_out limit node place f same m t o (is, out, eol) fits behind start ts
 -- ## Block sequences
 
 indent_near : (place : Position) → indent_at place ≤ suc (sequence_indent_at place)
-indent_near (BehindDash c) = omega arith
-indent_near (BehindMark c) = omega arith
-indent_near (BehindKey c) = omega arith
-indent_near BehindMarker = omega arith
-indent_near AtStart = omega arith
+indent_near place = grind arith
 
 enough : (i j col : ℕ) → i ≡ j → j ≤ col → nat_le i col ≡ true
 enough i j col e h = grind (arith, nat_tests)
@@ -73,11 +68,7 @@ enough i j col e h = grind (arith, nat_tests)
 -- a sequence at the column of what encloses it is in a mapping
 in_mapping : (place : Position) (i col : ℕ) → i ≡ indent_at place → sequence_indent_at place ≤ col
     → nat_le i col ≡ false → grammar.IsInBlockMapping (context_at place)
-in_mapping (BehindMark c) i col same low e = tt
-in_mapping (BehindKey c) i col same low e = tt
-in_mapping (BehindDash c) i col same low e = absurd (clash (nat_le i col) (enough i (suc c) col same low) e)
-in_mapping BehindMarker i col same low e = absurd (clash (nat_le i col) (enough i 0 col same low) e)
-in_mapping AtStart i col same low e = absurd (clash (nat_le i col) (enough i 0 col same low) e)
+in_mapping place i col h k e = grind (arith, clash, enough)
 
 new_list : (ts us : List Kind) (k : Kind)
     → ((ts ++ k ∷ []) ++ us) ++ tokens.BlockEnd ∷ [] ≡ ts ++ (k ∷ (us ++ tokens.BlockEnd ∷ []))
@@ -85,9 +76,8 @@ new_list ts us k = simp append_assoc
 
 -- a collection that began at a column ends
 collection_closes : {limit : ℕ} {start : State} {ts : List Kind} (f : Frame) (column : ℕ) (q : Marker × List ℕ)
-    → f.indent ≤ column
-    → EndsDocument q.0 q.1 ⊎ (q.0.col < f.indent) → ArrivedAt limit start (frame_behind true column f) ts q
-    → ArrivedAt limit start f (ts ++ tokens.BlockEnd ∷ []) q
+    → f.indent ≤ column → EndsDocument q.0 q.1 ⊎ (q.0.col < f.indent)
+    → ArrivedAt limit start (frame_behind true column f) ts q → ArrivedAt limit start f (ts ++ tokens.BlockEnd ∷ []) q
 collection_closes {limit} {start} {ts} f column q low left v =
     let c = closes_block f column q.0 q.1 low (by_left left) v.at in
     record { at = c.0; next = by_next c v.next }
@@ -107,8 +97,7 @@ collection_closes {limit} {start} {ts} f column q low left v =
 
 -- how a block sequence is at a place
 abbrev IsBlockSequence : Properties → Nodes → Position → List ℕ → List ℕ → Type 0
-IsBlockSequence p nodes place t o =
-    (m : ℕ) × (lead entries : List ℕ) × IsLead p place (sequence_indent_at place) m lead
+IsBlockSequence p nodes place t o = (m : ℕ) × (lead entries : List ℕ) × IsLead p place (sequence_indent_at place) m lead
     × AreEntries most_open nodes m entries o × (t ≡ lead ++ entries)
 
 reads_sequence : {limit : ℕ} → ReadsLeaves limit → (p : Properties) (node : Node) (nodes : Nodes)
@@ -210,8 +199,7 @@ reads_mapping {limit} leaves p key value pairs K V more place f same m t o (colu
     let behind_o = subst (λ (x : Marker). EndsNodeAt f.indent x o) end behind in
     let l = reads_lead leaves p place (indent_at place) column f same m lead (entries ++ o) lead_is
     (further_ink entries o (pairs_ink leaves (MorePairs key value pairs) column entries o h))
-    (fits_front m lead entries o whole) start ts
-    (subst (λ (x : List ℕ). Before limit start place f m x ts) text v) in
+    (fits_front m lead entries o whole) start ts (subst (λ (x : List ℕ). Before limit start place f m x ts) text v) in
     let r = reads_parts (is_pair leaves key value K V) more f n true (yes f.indent n.col low) (one f.indent n.col low)
     entries o (rw col h) (fits_back m lead entries o whole)
     (behind_wider f.indent (suc n.col) (moved n entries) o (two f.indent n.col low) behind_o) start (ts ++ l.tokens)
@@ -278,8 +266,7 @@ mutual
   reads_node {limit} leaves (Map p NoPair) =
       reads_either limit (Map p NoPair) (IsFlowInBlock most_open (Map p NoPair)) (IsBlockMapping p NoPair)
       (leaves.flow (Map p NoPair)) (no_mapping limit p)
-  reads_node {limit} leaves (Map p (MorePairs key value pairs)) =
-      reads_either limit (Map p (MorePairs key value pairs))
+  reads_node {limit} leaves (Map p (MorePairs key value pairs)) = reads_either limit (Map p (MorePairs key value pairs))
       (IsFlowInBlock most_open (Map p (MorePairs key value pairs)))
       (IsBlockMapping p (MorePairs key value pairs)) (leaves.flow (Map p (MorePairs key value pairs)))
       (reads_mapping leaves p key value pairs (reads_node leaves key) (reads_node leaves value)

@@ -55,8 +55,7 @@ key_text node w v z = simp append_assoc
 implicit_list : (further : Bool) (ts us vs : List Kind)
     → (ts ++ (key_kinds further ++ (us ++ tokens.Value ∷ []))) ++ vs
     ≡ (ts ++ mapping_start further) ++ ((tokens.Key ∷ us) ++ (tokens.Value ∷ vs))
-implicit_list true ts us vs = simp append_assoc
-implicit_list false ts us vs = simp (append_assoc, append-nil)
+implicit_list further ts us vs = grind (arith, append_assoc, append-nil)
 
 reads_implicit : {limit : ℕ} → ReadsLeaves limit → (key value : Node)
     → ReadsAt limit value (IsBlockNode most_open value)
@@ -66,8 +65,7 @@ reads_implicit {limit} leaves key value V f n further e far t z
     let g = frame_behind further n.col f in
     let m = moved n (node ++ between) in
     let inside : t ≡ (node ++ between) ++ (58 ∷ v) = is ∙ sym (append_assoc node between (58 ∷ v)) in
-    let text : t ++ z ≡ node ++ (between ++ (58 ∷ (v ++ z))) = ap (λ (x : List ℕ). x ++ z) is
-    ∙ key_text node between v z in
+    let text = ap (λ (x : List ℕ). x ++ z) is ∙ key_text node between v z in
     let whole = fits_so n t ((node ++ between) ++ (58 ∷ v)) z inside fits in
     let fits_colon = fits_back n (node ++ between) (58 ∷ v) z whole in
     let end = ap (moved n) inside ∙ moved_append n (node ++ between) (58 ∷ v) in
@@ -75,13 +73,10 @@ reads_implicit {limit} leaves key value V f n further e far t z
     let ahead = node_behind leaves value (BehindKey n.col) v z refl h behind_v.clean in
     let p = subst (λ (y : List ℕ). (w : At limit start f n y ts) × (w.allowed ≡ true)) text (at_key, allowed) in
     let r = leaves.key key f n node (v ++ z) (record { text = between; are = are }) far node_is line before short
-    ahead.first
-    (fits_front n (node ++ between) (58 ∷ v) z whole) start ts p.0 p.1 in
-    let right : n.col ≤ m.col = further_right n node between line are in
+    ahead.first (fits_front n (node ++ between) (58 ∷ v) z whole) start ts p.0 p.1 in
     let b = reads_colon f r.moment r.places r.others (bare_place r.key ∷ r.others) r.key n m (v ++ z) ts r.tokens
-    further e
-    far r.follows refl r.first r.are r.candidate r.quiet r.lands r.untabbed r.near right ahead fits_colon.below
-    r.low in
+    further e far r.follows refl r.first r.are r.candidate r.quiet r.lands r.untabbed r.near
+    (further_right n node between line are) ahead fits_colon.below r.low in
     let s = V (BehindKey n.col) g (frame_same further f n.col e far) (along m 1) v z h
     (fits_back m (58 ∷ []) v z fits_colon)
     (subst (λ (i : ℕ). EndsNodeAt i (moved (along m 1) v) z) (sym (frame_same further f n.col e far)) behind_v) start
@@ -122,8 +117,7 @@ some_white (c ∷ cs) z some (inr h) = h
 
 alone_list : (further : Bool) (ts us : List Kind)
     → (ts ++ key_kinds further) ++ us ≡ (ts ++ mapping_start further) ++ (tokens.Key ∷ us)
-alone_list true ts us = simp append_assoc
-alone_list false ts us = simp (append_assoc, append-nil)
+alone_list further ts us = grind (arith, append_assoc, append-nil)
 
 reads_alone : {limit : ℕ} → ReadsLeaves limit → (key value : Node) → ReadsAt limit key (IsBlockNode most_open key)
     → ReadsPair limit key value (IsKeyAlone value (IsBlockNode most_open key))
@@ -159,8 +153,7 @@ reads_alone {limit} leaves key value K f n further e far t z (node, out, some, h
 
 keyless_list : (further : Bool) (ts vs : List Kind)
     → (ts ++ value_kinds further) ++ vs ≡ (ts ++ mapping_start further) ++ (tokens.Value ∷ vs)
-keyless_list true ts vs = simp append_assoc
-keyless_list false ts vs = simp (append_assoc, append-nil)
+keyless_list further ts vs = grind (arith, append_assoc, append-nil)
 
 -- after a `:` alone, as after that of a key
 as_behind_key : {limit : ℕ} {start : State} {ts : List Kind} (f : Frame) (m : Marker) (o : List ℕ)
@@ -187,10 +180,8 @@ reads_keyless {limit} leaves key value V f n further e far t z (v, out, h, is) f
     let ahead = node_behind leaves value (BehindKey n.col) v z refl h behind_v.clean in
     let p = subst (λ (y : List ℕ). (w : At limit start f n y ts) × (w.key ≡ None) × (w.allowed ≡ true)) text
     (at_colon, none, allowed) in
-    let b = as_behind_key g n (v ++ z)
-    (reads_value f n (v ++ z) further e far ahead whole.below p.0 p.1 p.2) in
-    let s = V (BehindKey n.col) g (frame_same further f n.col e far) (along n 1) v z h
-    (fits_back n (58 ∷ []) v z whole)
+    let b = as_behind_key g n (v ++ z) (reads_value f n (v ++ z) further e far ahead whole.below p.0 p.1 p.2) in
+    let s = V (BehindKey n.col) g (frame_same further f n.col e far) (along n 1) v z h (fits_back n (58 ∷ []) v z whole)
     (subst (λ (i : ℕ). EndsNodeAt i (moved (along n 1) v) z) (sym (frame_same further f n.col e far)) behind_v) start
     (ts ++ value_kinds further) b in
     record {
@@ -209,15 +200,12 @@ reads_keyless {limit} leaves key value V f n further e far t z (v, out, h, is) f
 -- ## `?` and `:`
 
 no_colon_marker : (m : Marker) (o : List ℕ) → EndsDocument m (58 ∷ o) → ⊥
-no_colon_marker m o (inl e) = cc
-no_colon_marker m o (inr (col, inl h)) = absurd (let k : false ≡ true = h in cc)
-no_colon_marker m o (inr (col, inr h)) = absurd (let k : false ≡ true = h in cc)
+no_colon_marker m o h = grind arith
 
 marked_list : (further : Bool) (ts us vs : List Kind)
     → (((ts ++ key_kinds further) ++ us) ++ tokens.Value ∷ []) ++ vs
     ≡ (ts ++ mapping_start further) ++ ((tokens.Key ∷ us) ++ (tokens.Value ∷ vs))
-marked_list true ts us vs = simp append_assoc
-marked_list false ts us vs = simp (append_assoc, append-nil)
+marked_list further ts us vs = grind (arith, append_assoc, append-nil)
 
 reads_marked : {limit : ℕ} → ReadsLeaves limit → (key value : Node) → ReadsAt limit key (IsBlockNode most_open key)
     → ReadsAt limit value (IsBlockNode most_open value)
@@ -231,8 +219,7 @@ reads_marked {limit} leaves key value K V f n further e far t z
     let colon_parts : colon ≡ w ++ (58 ∷ []) = colon_is ∙ sym (append_assoc filler (spaces n.col) (58 ∷ [])) in
     let y_is : y ≡ w ++ (58 ∷ (v ++ z)) = ap (λ (x : List ℕ). x ++ (v ++ z)) colon_parts
     ∙ append_assoc w (58 ∷ []) (v ++ z) in
-    let text : t ++ z ≡ 63 ∷ (node ++ y) = ap (λ (x : List ℕ). x ++ z) is
-    ∙ ap (λ (x : List ℕ). 63 ∷ x)
+    let text : t ++ z ≡ 63 ∷ (node ++ y) = ap (λ (x : List ℕ). x ++ z) is ∙ ap (λ (x : List ℕ). 63 ∷ x)
     (append_assoc node (colon ++ v) z ∙ ap (λ (x : List ℕ). node ++ x) (append_assoc colon v z)) in
     let whole = fits_so n t ((63 ∷ []) ++ (node ++ (colon ++ v))) z is fits in
     let fits_in = fits_back n (63 ∷ []) (node ++ (colon ++ v)) z whole in
@@ -241,8 +228,7 @@ reads_marked {limit} leaves key value K V f n further e far t z
     let colon_v : colon ++ v ≡ w ++ (58 ∷ v) = ap (λ (x : List ℕ). x ++ v) colon_parts ∙ append_assoc w (58 ∷ []) v in
     let fits_node = fits_front (along n 1) node (colon ++ v) z fits_in in
     let fits_key : FitsOnLines limit (along n 1) node y =
-    subst (FitsOnLines limit (along n 1) node) (append_assoc colon v z)
-    fits_node in
+    subst (FitsOnLines limit (along n 1) node) (append_assoc colon v z) fits_node in
     let fits_rest = fits_so k (colon ++ v) (w ++ (58 ∷ v)) z colon_v
     (fits_back (along n 1) node (colon ++ v) z fits_in) in
     let fits_colon = fits_back k w (58 ∷ v) z fits_rest in
@@ -260,8 +246,7 @@ reads_marked {limit} leaves key value K V f n further e far t z
     let ahead_v = node_behind leaves value (BehindMark n.col) v z refl j behind_v.clean in
     let p = subst (λ (x : List ℕ). (u : At limit start f n x ts) × (u.allowed ≡ true)) text (at_mark, allowed) in
     let b = reads_question f n (node ++ y) further e far (some_white node y some.0 ahead_k.white)
-    (no_tab_ahead (node ++ y) some.1)
-    (subst (λ (x : List ℕ). n.index + length x ≤ limit) text fits.below) p.0 p.1 in
+    (no_tab_ahead (node ++ y) some.1) (subst (λ (x : List ℕ). n.index + length x ≤ limit) text fits.below) p.0 p.1 in
     let r = K (BehindMark n.col) g same (along n 1) node y h fits_key
     (subst (λ (i : ℕ). EndsNodeAt i k y) (sym same) behind_k) start (ts ++ key_kinds further) b in
     let us = (ts ++ key_kinds further) ++ r.tokens in

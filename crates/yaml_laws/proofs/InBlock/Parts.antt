@@ -26,8 +26,7 @@ use Rattle.saphyr_input.proofs.Basics.Booleans.{clash}
 
 pub not_empty : (m : Marker) (t o : List ℕ) (c : ℕ) (cs : List ℕ) → (m.col ≡ 0) ⊎ (t ++ o ≡ []) → t ++ o ≡ c ∷ cs
     → m.col ≡ 0
-not_empty m t o c cs (inl h) e = h
-not_empty m t o c cs (inr h) e = absurd (let k : [] ≡ c ∷ cs = sym h ∙ e in cc)
+not_empty m t o c cs h e = grind arith
 
 pub some_first : (w rest : List ℕ) (d : ℕ) → (c : ℕ) × (cs : List ℕ) × (w ++ (d ∷ rest) ≡ c ∷ cs)
 some_first [] rest d = (d, rest, refl)
@@ -58,21 +57,14 @@ least i col e = omega (arith, e)
 -- a key may begin at a token that doesn't end the document
 pub goes_on : {limit : ℕ} {start : State} {f : Frame} {ts : List Kind} {n : Marker} {y : List ℕ}
     → ((EndsDocument n y) → ⊥) → (v : ArrivedAt limit start f ts (n, y)) → (v.at.key ≡ None) × (v.at.allowed ≡ true)
-goes_on {n = n} {y = y} out v = by_next v.next
-  where
-    by_next : EndsDocument n y ⊎ ((v.at.key ≡ None) × (v.at.allowed ≡ true)) → (v.at.key ≡ None) × (v.at.allowed ≡ true)
-    by_next (inl h) = absurd (out h)
-    by_next (inr h) = h
+goes_on {n = n} {y = y} out v = grind arith
 
 -- a token that is no document marker, where the text has none at its line's start
 not_marker : (m : Marker) (c : ℕ) (cs : List ℕ) → ((m.col == 0) && is_document_indicator (c ∷ cs)) ≡ false → IsInk c
     → EndsDocument m (c ∷ cs) → ⊥
 not_marker m c cs h ink (inl e) = cc
 not_marker m c cs h ink (inr (col, inr k)) = clash (is_bom c) k ink.byte_order_mark
-not_marker m c cs h ink (inr (col, inl k)) =
-    absurd (let start : (m.col == 0) ≡ true =
-    zero_is m.col col in let both : ((m.col == 0) && is_document_indicator (c ∷ cs)) ≡ true =
-    rw (start, k) refl in let no : false ≡ true = sym h ∙ both in cc)
+not_marker m c cs h ink (inr (col, inl k)) = absurd (let start : (m.col == 0) ≡ true = zero_is m.col col in cc)
   where
     zero_is : (n : ℕ) → n ≡ 0 → (n == 0) ≡ true
     zero_is n e = grind (arith, nat_tests)
@@ -80,9 +72,7 @@ not_marker m c cs h ink (inr (col, inl k)) =
 -- a `:` ahead, after a line's end
 ahead_of_line : (n : Marker) (z : List ℕ) (column : ℕ) → StartsLine n z → is_value_ahead false column n.col z ≡ true
     → is_value_ahead false column 0 z ≡ true
-ahead_of_line n z column (inl e) h = subst (λ (c : ℕ). is_value_ahead false column c z ≡ true) e h
-ahead_of_line n z column (inr e) h =
-    absurd (let no : false ≡ true = subst (λ (x : List ℕ). is_value_ahead false column n.col x ≡ true) e h in cc)
+ahead_of_line n z column h k = grind arith
 
 -- ## What is read
 
@@ -137,8 +127,7 @@ abbrev pub IsFirst : (ℕ → List ℕ → List ℕ → Type 0) → (ℕ → Lis
 IsFirst Is Others column t o =
     (part others : List ℕ) × Is column part (others ++ o) × Others column others o × (t ≡ part ++ others)
 
-abbrev pub AreOthers : (ℕ → List ℕ → List ℕ → Type 0) → (ℕ → List ℕ → List ℕ → Type 0) → ℕ → List ℕ → List ℕ
-    → Type 0
+abbrev pub AreOthers : (ℕ → List ℕ → List ℕ → Type 0) → (ℕ → List ℕ → List ℕ → Type 0) → ℕ → List ℕ → List ℕ → Type 0
 AreOthers Is Others column t o =
     (front part others : List ℕ) × IsEntryIndentation column front × Is column part (others ++ o)
     × Others column others o × (t ≡ front ++ (part ++ others))
@@ -169,8 +158,7 @@ no_other_parts {limit} = record {
 pub told_parts : {limit : ℕ} {start : State} {As Bs : List Kind → Type 0} {column : ℕ} {g : Frame} {m : Marker}
     {t o : List ℕ} {ts : List Kind} → ((us : List Kind) → As us → Bs us)
     → PartsRead limit start As column g m t o ts → PartsRead limit start Bs column g m t o ts
-told_parts f r =
-    record { tokens = r.tokens; are = f r.tokens r.are; begins = r.begins; arrived = r.arrived }
+told_parts f r = record { tokens = r.tokens; are = f r.tokens r.are; begins = r.begins; arrived = r.arrived }
 
 pub parts_so : {limit : ℕ} {Ps Qs : ℕ → List ℕ → List ℕ → Type 0} {As Bs : List Kind → Type 0}
     → ((column : ℕ) (t o : List ℕ) → Qs column t o → Ps column t o) → ((ts : List Kind) → As ts → Bs ts)
@@ -212,9 +200,8 @@ more_parts {limit} {opens = opens} {Is} {Others} {As} is_part more = record {
       let first = some_first front bz.others bz.first in
       let line = not_empty m t o first.0 first.1 starts (inked ∙ first.2) in
       let col : n.col ≡ column = indentation_col m column front front_is line in
-      let there : past 0 m (t ++ o) ≡ (n, part ++ z) = ap (past 0 m) inked
-      ∙ reaches m front bz.first bz.others (indentation_skipped column front front_is) bz.ink
-      ∙ ap (λ (x : List ℕ). let q : Marker × List ℕ = (n, x) in q) (sym bz.is) in
+      let there : past 0 m (t ++ o) ≡ (n, part ++ z) = cc (reaches m front bz.first bz.others
+      (indentation_skipped column front front_is) bz.ink) in
       let at_part = subst (ArrivedAt limit start g ts) there v in
       let is_it = subst (λ (c : ℕ). Is c part z) (sym col) h in
       let whole = fits_so m t (front ++ (part ++ others)) o e fits in
@@ -232,8 +219,7 @@ more_parts {limit} {opens = opens} {Is} {Others} {As} is_part more = record {
       let width = same ∙ ap (λ (c : ℕ). c + 1) (sym col) in
       let r = is_part.reads g n false (next_not_within g.indent n.col width)
       (least g.indent n.col width) part z is_it fits_part
-      (subst (λ (c : ℕ). EndsNodeAt (suc c) last z) (sym col) behind_z) start ts at_part.at ready.0
-      ready.1 in
+      (subst (λ (c : ℕ). EndsNodeAt (suc c) last z) (sym col) behind_z) start ts at_part.at ready.0 ready.1 in
       let s = more.reads g column same last others o k (fits_back n part others o fits_parts) behind_o starts_z start
       ((ts ++ opens false) ++ r.tokens) r.arrived in
       record {
@@ -277,8 +263,7 @@ reads_parts {limit} {opens = opens} is_part more f n further e far t o (part, ot
     let behind_z = more.behind n.col last others o k starts_z behind_o in
     let p = subst (λ (y : List ℕ). (w : At limit start f n y ts) × (w.key ≡ None) × (w.allowed ≡ true)) text
     (v, none, allowed) in
-    let r = is_part.reads f n further e far part z h (fits_front n part others o whole) behind_z start
-    ts p.0 p.1 p.2 in
+    let r = is_part.reads f n further e far part z h (fits_front n part others o whole) behind_z start ts p.0 p.1 p.2 in
     let s = more.reads g n.col (frame_indent further f n.col e far) last others o k (fits_back n part others o whole)
     behind_o starts_z start ((ts ++ opens further) ++ r.tokens) r.arrived in
     record {

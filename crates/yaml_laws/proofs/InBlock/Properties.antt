@@ -1,7 +1,7 @@
 -- Properties at block level are read: before a block scalar, and before a collection on the next lines
 -- (YAML 1.2.2, 6.9 and 8.2.3).
-use Rattle.std.proofs.Common.{◌≡◌, ℕ, ◌^◌, ◌<◌, ◌≤◌, Bool, true, false, List, [], ◌∷◌, ◌++◌, length, slice_index, refl, sym, ap, ◌∙◌, arith, subst, append_assoc, IsTrue, inl, inr}
-use Rattle.std.specs.Prelude.{Option, Some, None, if◌then◌else◌}
+use Rattle.std.proofs.Common.{◌≡◌, ℕ, ◌^◌, ◌<◌, ◌≤◌, true, false, List, [], ◌∷◌, ◌++◌, length, slice_index, refl, sym, ap, ◌∙◌, arith, subst, append_assoc, IsTrue, inl, inr}
+use Rattle.std.specs.Prelude.{Option, None}
 use Rattle.std.proofs.lemmas.List.{length-append}
 use Rattle.saphyr_input.specs.Classes.{is_blank_or_breakz, line_feed}
 use Rattle.saphyr_scalar.specs.declared.scalar.position.Marker.{Marker}
@@ -13,7 +13,6 @@ use Rattle.saphyr_scanner.specs.Grammar.Forest.{Properties}
 use Rattle.saphyr_scanner.specs.Steps.State.{State}
 use Rattle.saphyr_scanner.specs.Grammar.Tokens.{Kind}
 use Rattle.saphyr_scanner.specs.Grammar.TokenGrammar as grammar
-use Rattle.saphyr_scanner.proofs.Taken.States.{too_far}
 use Rattle.yaml_laws.specs.Grammar.FlowNodes.{IsProperties}
 use Rattle.yaml_laws.specs.Grammar.BlockNodes.{indent_at}
 use Rattle.saphyr_scanner.specs.declared.engine.level.Context.TheVariants as context
@@ -49,21 +48,13 @@ clean_ink y ink = rw ink.is (ink_clean ink.first ink.others ink.ink)
 
 text_line : {limit : ℕ} (m : Marker) (t o : List ℕ) → limit < 2 ^ 63 → FitsOnLines limit m t o
     → m.line ≤ (moved m t).line
-text_line m t o short fits =
-    let below = fits.below in
-    let size = length-append t o in
-    moved_line m t fits.lined (omega (arith, below, size, short))
+text_line m t o short fits = grind (arith, length-append, moved_line)
 
 late_left : (k : Option Candidate) (n m : Marker) → IsOnLineOrBefore k m → IsOnLineOrBefore (left_key k n) m
-late_left k n m h = by_far (is_too_far k n)
-  where
-    by_far : (b : Bool) → IsOnLineOrBefore (if b then None else k) m
-    by_far true = tt
-    by_far false = h
+late_left k n m h = grind (arith)
 
 late_later : (k : Option Candidate) (m n : Marker) → m.line ≤ n.line → IsOnLineOrBefore k m → IsOnLineOrBefore k n
-late_later None m n e h = tt
-late_later (Some k) m n e h = omega (arith, e, h)
+late_later k m n e h = grind arith
 
 -- what may be a key after a text begins on its last line or before it
 late_since : {limit : ℕ} → limit < 2 ^ 63 → (k : Option Candidate) (m : Marker) (t o : List ℕ) (key : Option Candidate)
@@ -75,8 +66,7 @@ late_since short k m t o key fits late (inr (inr (front, back, place, is, e))) =
     let line = text_line (moved m front) back o short
     (fits_back m front back o (fits_so m t (front ++ back) o is fits)) in
     let end : (moved m t).line ≡ (moved (moved m front) back).line = cc (moved_append m front back) in
-    let on : (moved m front).line ≤ (moved m t).line = omega (arith, line, end) in
-    rw e on
+    let on : (moved m front).line ≤ (moved m t).line = omega (arith, line, end) in rw e on
 
 -- ## Properties
 
@@ -158,9 +148,7 @@ reads_head reads limit short p place f same m gap t between y gap_is h between_i
 
 late_key_left : (k : Option Candidate) (m n : Marker) → IsOnLineOrBefore k m → m.line < n.line → is_too_far k n ≡ false
     → k ≡ None
-late_key_left None m n late h near = refl
-late_key_left (Some k) m n late h near =
-    absurd (let e : true ≡ false = sym (too_far k n (omega (arith, late, h))) ∙ near in cc)
+late_key_left k m n late h near = grind arith
 
 -- the rest of the line after properties, and what else comes before the next token
 record LinesBehind (w y : List ℕ) : Type 0 where
@@ -178,7 +166,6 @@ lines_behind w y (end, filler, n, (rest, rest_is, end_is), filler_is, e) ink =
     let skipped = skipped_append filler (spaces n) (filler_skipped filler filler_is) (spaces_skipped n) in
     let ends = line_end_skipped end (rest, rest_is, end_is) in
     let text : w ++ y ≡ end ++ (more ++ y) = cc (append_assoc end more y) in
-    let line : w ≡ rest ++ (10 ∷ more) = cc (append_assoc rest (10 ∷ []) more) in
     record {
       skipped = rw e (skipped_append end more ends skipped);
       clean = rw text (skipped_clean end (more ++ y) ends (skipped_clean more y skipped (clean_ink y ink)));
@@ -186,7 +173,7 @@ lines_behind w y (end, filler, n, (rest, rest_is, end_is), filler_is, e) ink =
       crossed = ap crosses text ∙ line_end_crosses end (more ++ y) (rest, rest_is, end_is);
       rest = rest;
       more = more;
-      is = line;
+      is = cc (append_assoc rest (10 ∷ []) more);
     }
 
 pub reads_properties : ReaderPromises → (limit : ℕ) → limit < 2 ^ 63 → ReadsProperties limit
@@ -208,17 +195,15 @@ reads_properties reads limit short p place f same m front t w y gap_is h next_li
     let size_line = ap length b.is in
     let grown = later_line k b.rest b.more fits_w.lined (omega (arith, below, size, size_line, short)) in
     let at_line = ap (λ (x : List ℕ). (moved k x).line) b.is in
-    let later : k.line < q.line = omega (arith, grown, at_line) in
     let Q : Marker × List ℕ → Type 0 = λ x. (u : At limit start f x.0 x.1 (ts ++ r.tokens)) × IsOnLineOrBefore u.key k
     × (u.allowed ≡ true) in
-    let z = subst Q (lands_on k w y (skipped_passes w b.skipped) ink)
-    (r.at, r.late, r.allowed b.crossed) in
+    let z = subst Q (lands_on k w y (skipped_passes w b.skipped) ink) (r.at, r.late, r.allowed b.crossed) in
     let here : PropertiesRead limit start p f q y ts =
     record {
       tokens = r.tokens;
       are = r.are;
       at = z.0;
-      none = late_key_left z.0.key k q z.1 later z.0.near;
+      none = late_key_left z.0.key k q z.1 (omega (arith, grown, at_line)) z.0.near;
       allowed = z.2;
     } in
     rw (moved_append m front (t ++ w), moved_append n t w) here

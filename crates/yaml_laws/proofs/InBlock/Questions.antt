@@ -91,8 +91,7 @@ passes_mark g m o blank ad deeper h clean =
     let none = no_tab_here (past 0 (along m 1) o).1 (past_stops (along m 1) o) in
     let there : block.behind_mark true
     (core_of g (question_moment (past 0 (along m 1) o).0 (past 0 (along m 1) o).1 r.0 ad deeper))
-    ≡ Ok (core_of g (question_moment (past 0 (along m 1) o).0 (past 0 (along m 1) o).1 r.0 ad deeper)) =
-    rw none refl in
+    ≡ Ok (core_of g (question_moment (past 0 (along m 1) o).0 (past 0 (along m 1) o).1 r.0 ad deeper)) = rw none refl in
     (r.0, simp (r.1, there))
 
 question_step : (f : Frame) (m : Marker) (o : List ℕ) (blank : Bool) (key : Option Candidate) (ad : ℕ)
@@ -130,8 +129,7 @@ shifted i l limit h = omega (arith, h)
 pub reads_question : {limit : ℕ} {start : State} {ts : List Kind} (f : Frame) (m : Marker) (o : List ℕ) (further : Bool)
     → nat_le f.indent m.col ≡ further → f.indent ≤ m.col + 1 → BeginsWhite o → has_tab o ≡ false
     → m.index + length (question_mark ∷ o) ≤ limit → (v : At limit start f m (question_mark ∷ o) ts) → v.allowed ≡ true
-    → Before limit start (yaml.BehindMark m.col) (frame_behind further m.col f) (along m 1) o
-    (ts ++ key_kinds further)
+    → Before limit start (yaml.BehindMark m.col) (frame_behind further m.col f) (along m 1) o (ts ++ key_kinds further)
 unfolding state_behind_content
 reads_question {limit} {start} {ts} f m o further e far h clean count v allowed =
     let i = next (queue_of v.places) in
@@ -152,8 +150,7 @@ reads_question {limit} {start} {ts} f m o further e far h clean count v allowed 
     let stop = past_stops (along m 1) o in
     before_next (yaml.BehindMark m.col) g t qs (along m 1) o
     (steps_on f g m (63 ∷ o) v (begins_with 63 m o (refl, refl, refl) refl refl refl refl) far t qs there refl
-    (within_index n.index (length y) (m.index + 1) (length o) limit counted
-    (shifted m.index (length o) limit count)))
+    (within_index n.index (length y) (m.index + 1) (length o) limit counted (shifted m.index (length o) limit count)))
     (start_are further m tokens.BlockMappingStart m n tokens.Key v.places ts v.are) refl refl refl (le_next v.adjacent
     m.index v.low)
     (past_again 0 (along m 1) o) (stop_tabbed (least_column (core_of g t)) n s.0 y stop) (or-true (crosses y)) refl

@@ -11,7 +11,7 @@ use Rattle.saphyr_scalar.specs.declared.scalar.position.Span.{Span}
 use Rattle.saphyr_scalar.specs.Reading.BlockLines.{spaces}
 use Rattle.saphyr_values.specs.Block.{Line}
 use Rattle.saphyr_scalar.specs.Steps.Block.{block_scalar}
-use Rattle.saphyr_scalar.specs.Views.Cursor.{Cursor, next_line}
+use Rattle.saphyr_scalar.specs.Views.Cursor.{Cursor}
 use Rattle.saphyr_scalar.specs.Passing.{IsPassed}
 use Rattle.saphyr_scalar.specs.Spelling.Tag.{AreIn}
 use Rattle.scalar_laws.specs.Spelling.Block as spelling
@@ -88,12 +88,7 @@ record Ended (t behind : List ℕ) : Type 0 where
   ends : (front ≡ []) ⊎ EndsWithLine front behind
 
 line_then : (a b o : List ℕ) → (b ≡ []) ⊎ EndsWithLine b o → EndsWithLine (a ++ (line_feed ∷ b)) o
-line_then a b o (inl e) =
-    inl (λ m. ap (λ (n : Marker). n.col) (moved_append m a (10 ∷ b))
-    ∙ ap (λ (y : List ℕ). (moved (next_line (moved m a) 1) y).col) e)
-line_then a b o (inr (inl h)) =
-    inl (λ m. ap (λ (n : Marker). n.col) (moved_append m a (10 ∷ b)) ∙ h (next_line (moved m a) 1))
-line_then a b o (inr (inr e)) = inr e
+line_then a b o h = grind (arith, moved_append, moved)
 
 ended_behind_line : (a t o : List ℕ) → Ended t o → Ended (a ++ (line_feed ∷ t)) o
 ended_behind_line a t o p = record {
@@ -103,8 +98,7 @@ ended_behind_line a t o p = record {
 }
 
 content_line : (i c : ℕ) (cs t o : List ℕ) → Ended t o → Ended (spaces i ++ (c ∷ (cs ++ (line_feed ∷ t)))) o
-content_line i c cs t o p =
-    subst (λ (y : List ℕ). Ended y o) (append_assoc (spaces i) (c ∷ cs) (10 ∷ t))
+content_line i c cs t o p = subst (λ (y : List ℕ). Ended y o) (append_assoc (spaces i) (c ∷ cs) (10 ∷ t))
     (ended_behind_line (spaces i ++ (c ∷ cs)) t o p)
 
 ended_at_last_line : (t o : List ℕ) → o ≡ [] → Ended t o
@@ -135,9 +129,7 @@ empty_lines_end i o _ _ (spelling.empty_line_and_spaces j k low further e) =
 
 all_end : (indent i n : ℕ) (is_given : Bool) (o : List ℕ) (ls : List Line) (t : List ℕ)
     → spelling.IsBody i is_given o ls t ⊎ spelling.IsEmptyBody indent i n o ls t → Ended t o
-all_end indent i n is_given o ls t (inl h) = body_end i is_given o ls t h
-all_end indent i n is_given o _ _ (inr (spelling.empty_lines ls t are cond)) = empty_lines_end i o ls t are
-all_end indent i n is_given o _ _ (inr (spelling.spaces_alone j some low e)) = ended_at_last_line (spaces j) o e
+all_end indent i n is_given o ls t h = grind (arith, body_end, empty_lines_end, ended_at_last_line)
 
 -- where nothing is left, nothing comes after
 none_left : (t o : List ℕ) → Ended t o → t ≡ [] → o ≡ []
@@ -170,18 +162,15 @@ some_text c xs t e = subst (λ (y : List ℕ). 0 < length y) (sym e) (omega arit
 
 pub block_taken : ReadsBlocks
     → (style : BlockStyle) (value : List ℕ) (indent : ℕ) (s : Cursor) (first : ℕ) (more t o : List ℕ) → s.rest ≡ t ++ o
-    → t ≡ first ∷ more → is_break first ≡ false
-    → AreIn (λ c. not (c == carriage_return)) t → IsBlockScalarText style value indent t o
-    → BlockTaken style indent value s t o
+    → t ≡ first ∷ more → is_break first ≡ false → AreIn (λ c. not (c == carriage_return)) t
+    → IsBlockScalarText style value indent t o → BlockTaken style indent value s t o
 block_taken laws style value indent s first more t o whole begins no_break clean
     (i, n, chomping, lines, body, others, scalar, behind_is, ends, is_value) =
     let k = laws.reads style chomping indent i n lines s body others
     (subst (λ (y : List ℕ). IsBlockScalar indent i n chomping lines y body others) (sym whole) scalar) in
     let behind : o ≡ spaces n ++ others = sym behind_is ∙ scalar.ends.is in
-    let text : s.rest ≡ (t ++ spaces n) ++ others = whole ∙ ap (λ (y : List ℕ). t ++ y) behind
-    ∙ sym (append_assoc t (spaces n) others) in
-    let read : block_scalar style indent s ≡ Ok (encode_utf8_all value, k.span, k.left) =
-    k.read ∙ ap (λ (y : List ℕ). Ok (y, k.span, k.left)) (k.value ∙ ap encode_utf8_all (sym is_value)) in
+    let text = whole ∙ ap (λ (y : List ℕ). t ++ y) behind ∙ sym (append_assoc t (spaces n) others) in
+    let read = k.read ∙ ap (λ (y : List ℕ). Ok (y, k.span, k.left)) (k.value ∙ ap encode_utf8_all (sym is_value)) in
     let start : s.rest ≡ first ∷ (more ++ o) = whole ∙ ap (λ (y : List ℕ). y ++ o) begins in
     let went = laws.passes style indent s k.left (encode_utf8_all value) k.span
     (ap (λ (y : List ℕ). is_break (slice_index y 0)) start ∙ no_break) (some_text first (more ++ o) s.rest start)
@@ -192,8 +181,7 @@ block_taken laws style value indent s first more t o whole begins no_break clean
     subst (λ (y : List ℕ). IsPassed s.mark y (moved s.mark (t ++ spaces n)) others) (sym text)
     (moved_passes s.mark (t ++ spaces n) others
     (both_in (λ c. not (c == carriage_return)) t (spaces n) clean (no_returns n))) in
-    let place : k.left.mark ≡ moved s.mark (t ++ spaces n) = laws.place s.mark s.rest (moved s.mark (t ++ spaces n))
-    others there k.left.mark here in
+    let place = laws.place s.mark s.rest (moved s.mark (t ++ spaces n)) others there k.left.mark here in
     let size = ap length (sym whole ∙ text) ∙ length-append (t ++ spaces n) others in
     record {
       n = n;
@@ -214,16 +202,12 @@ block_taken laws style value indent s first more t o whole begins no_break clean
         → k.left.mark ≡ moved s.mark (t ++ spaces n) → length (t ++ o) ≡ length (t ++ spaces n) + length others
         → (body ≡ []) ⊎ ((w : List ℕ) × (t ++ o ≡ w ++ (line_feed ∷ body)))
         → IsLined s.mark → s.mark.index + length (t ++ o) < 2 ^ 63 → (s.mark.line < k.left.mark.line) ⊎ (o ≡ [])
-    by_header k place size (inl none) lined low =
-        inr (sym behind_is ∙ none_left body scalar.behind
+    by_header k place size (inl none) lined low = inr (sym behind_is ∙ none_left body scalar.behind
         (all_end indent i n scalar.is_given scalar.behind lines body scalar.lines) none)
     by_header k place size (inr (w, e)) lined low =
-        let text : t ++ o ≡ (t ++ spaces n) ++ others = ap (λ (y : List ℕ). t ++ y) (sym behind_is ∙ scalar.ends.is)
-        ∙ sym (append_assoc t (spaces n) others) in
-        let inner : t ++ o ≡ (w ++ (10 ∷ k.front)) ++ others =
-        e ∙ ap (λ (y : List ℕ). w ++ (10 ∷ y)) k.taken ∙ sym (append_assoc w (10 ∷ k.front) others) in
-        let line : t ++ spaces n ≡ w ++ (10 ∷ k.front) = append_cancel_right (t ++ spaces n) (w ++ (10 ∷ k.front))
-        others (sym text ∙ inner) in
+        let text : t ++ o ≡ (t ++ spaces n) ++ others = cc (append_assoc t (spaces n) others) in
+        let inner = e ∙ ap (λ (y : List ℕ). w ++ (10 ∷ y)) k.taken ∙ sym (append_assoc w (10 ∷ k.front) others) in
+        let line = append_cancel_right (t ++ spaces n) (w ++ (10 ∷ k.front)) others (sym text ∙ inner) in
         inl (subst (λ (p : Marker). s.mark.line < p.line) (sym (place ∙ ap (moved s.mark) line))
         (later_line s.mark w k.front lined
         (short s.mark.index (length (t ++ o)) (length others) (t ++ spaces n) (w ++ (10 ∷ k.front)) size line low)))
@@ -234,8 +218,7 @@ block_ends style value indent t o (i, n, chomping, lines, body, others, scalar, 
     by_header (header_splits scalar.digit chomping body (t ++ o) scalar.header)
   where
     p : Ended body o
-    p = subst (Ended body) behind_is
-        (all_end indent i n scalar.is_given scalar.behind lines body scalar.lines)
+    p = subst (Ended body) behind_is (all_end indent i n scalar.is_given scalar.behind lines body scalar.lines)
 
     by_header : (body ≡ []) ⊎ ((w : List ℕ) × (t ++ o ≡ w ++ (line_feed ∷ body))) → EndsWithLine t o
     by_header (inl none) = inr (none_left body o p none)
@@ -258,23 +241,7 @@ scalar_ends DoubleQuoted value indent t o h = absurd h
 
 pub sign_ink : (style : Style) (value : List ℕ) (indent : ℕ) (t o : List ℕ) → IsStyled style value indent t o
     → BeginsInk t
-sign_ink Literal value indent t o (others, h, e) =
-    record {
-      first = 124;
-      others = others;
-      is = e;
-      ink = record { blank = refl; break = refl; comment = refl; byte_order_mark = refl };
-    }
-sign_ink Folded value indent t o (others, h, e) =
-    record {
-      first = 62;
-      others = others;
-      is = e;
-      ink = record { blank = refl; break = refl; comment = refl; byte_order_mark = refl };
-    }
-sign_ink Plain value indent t o h = absurd h
-sign_ink SingleQuoted value indent t o h = absurd h
-sign_ink DoubleQuoted value indent t o h = absurd h
+sign_ink style value indent t o h = grind (arith)
 
 -- a block scalar begins with its properties or with its header
 pub block_ink : (p : Properties) (style : Style) (value : List ℕ) (indent : ℕ) (front t o : List ℕ)

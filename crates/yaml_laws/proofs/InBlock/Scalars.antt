@@ -1,5 +1,5 @@
 -- Block scalars at block level, with what comes before them (YAML 1.2.2, 8.1).
-use Rattle.std.proofs.Common.{◌≡◌, ◌≢◌, ℕ, ◌+◌, ◌^◌, ◌<◌, ◌≤◌, true, false, List, [], ◌∷◌, ◌++◌, length, refl, sym, ap, arith, subst, append_assoc, append-nil, IsTrue, inl, inr}
+use Rattle.std.proofs.Common.{◌≡◌, ◌≢◌, ℕ, ◌+◌, ◌^◌, ◌<◌, ◌≤◌, false, List, [], ◌∷◌, ◌++◌, length, refl, sym, ap, arith, subst, append_assoc, append-nil, IsTrue, inl, inr}
 use Rattle.std.specs.Prelude.{Option, None}
 use Rattle.std.proofs.lemmas.Bool.Decides.{nat_tests}
 use Rattle.saphyr_input.specs.Classes.{is_blank, is_break}
@@ -13,7 +13,6 @@ use Rattle.saphyr_scanner.specs.Steps.State.{State}
 use Rattle.saphyr_scanner.specs.Grammar.Tokens.{Kind, scalar_token}
 use Rattle.saphyr_scanner.specs.Grammar.TokenGrammar as grammar
 use Rattle.yaml_laws.specs.Grammar.FlowNodes.{IsProperties}
-use Rattle.yaml_laws.specs.Grammar.BlockNodes as yaml
 use Rattle.yaml_laws.specs.Grammar.BlockNodes.{Position as Position, indent_at, is_start, IsGapAt, IsStyled, IsScalarFront, IsScalarInBlock}
 use Rattle.yaml_laws.proofs.Flow.States.{moved, past}
 use Rattle.yaml_laws.proofs.Flow.Inks.{BeginsInk}
@@ -32,18 +31,10 @@ use Rattle.yaml_laws.proofs.InBlock.HeaderScalars.{IsOnLineOrBefore, reads_behin
 -- ## The gap before it
 
 pub spaces_reach : (place : Position) (m : Marker) (n : ℕ) → 1 ≤ n → IsPlaced place m → indent_at place ≤ m.col + n
-spaces_reach (yaml.BehindDash c) m n some placed = omega (arith, some, placed)
-spaces_reach (yaml.BehindMark c) m n some placed = omega (arith, some, placed)
-spaces_reach (yaml.BehindKey c) m n some placed = omega (arith, some, placed)
-spaces_reach yaml.BehindMarker m n some placed = omega arith
-spaces_reach yaml.AtStart m n some placed = omega arith
+spaces_reach place m n some placed = grind arith
 
 start_reaches : (place : Position) (n : ℕ) → IsTrue (is_start place) → indent_at place ≤ n
-start_reaches (yaml.BehindDash c) n h = absurd (let e : false ≡ true = h in cc)
-start_reaches (yaml.BehindMark c) n h = absurd (let e : false ≡ true = h in cc)
-start_reaches (yaml.BehindKey c) n h = absurd (let e : false ≡ true = h in cc)
-start_reaches yaml.BehindMarker n h = absurd (let e : false ≡ true = h in cc)
-start_reaches yaml.AtStart n h = omega arith
+start_reaches place n h = grind arith
 
 -- nor after the next line's indentation
 next_line_reaches : (indent : ℕ) (m : Marker) (w : List ℕ) → IsNextLine indent w → indent ≤ (moved m w).col
@@ -66,8 +57,7 @@ pub gap_reaches : (place : Position) (m : Marker) (gap : List ℕ) → IsGapAt p
     → indent_at place ≤ (moved m gap).col
 gap_reaches place m gap (inl (some, are)) placed =
     let there = ap (λ (k : Marker). k.col) (unbroken_along m gap (unbroken_blanks gap are)) in
-    let reach = spaces_reach place m (length gap) (some_length gap some) placed in
-    omega (arith, there, reach)
+    omega (arith, there, spaces_reach place m (length gap) (some_length gap some) placed)
   where
     some_length : (w : List ℕ) → w ≢ [] → 1 ≤ length w
     some_length [] some = absurd (some refl)
@@ -101,20 +91,16 @@ pub record HeadRead (limit : ℕ) (start : State) (p : Properties) (f : Frame) (
 
 -- `t` is the properties, `gap` comes before them, and `between` after.
 abbrev pub ReadsHead : ℕ → Type 0
-ReadsHead limit =
-    (p : Properties) (place : Position) (f : Frame) → f.indent ≡ indent_at place
+ReadsHead limit = (p : Properties) (place : Position) (f : Frame) → f.indent ≡ indent_at place
     → (m : Marker) (gap t between y : List ℕ) → IsGapAt place gap → IsProperties p (indent_at place) t
-    → IsGap (indent_at place) between
-    → BeginsInk y
+    → IsGap (indent_at place) between → BeginsInk y
     → FitsOnLines limit m (gap ++ (t ++ between)) y → (start : State) (ts : List Kind)
     → Before limit start place f m (gap ++ (t ++ (between ++ y))) ts
     → HeadRead limit start p f (moved m (gap ++ (t ++ between))) y ts
 
 -- the gap after a text
 pub text_gap_reaches : (least : ℕ) (m : Marker) (w : List ℕ) → IsGap least w → least ≤ m.col → least ≤ (moved m w).col
-text_gap_reaches least m w (inl (some, are)) low =
-    let there = ap (λ (j : Marker). j.col) (unbroken_along m w (unbroken_blanks w are)) in omega (arith, there, low)
-text_gap_reaches least m w (inr h) low = next_line_reaches least m w h
+text_gap_reaches least m w h k = grind (arith, unbroken_along, unbroken_blanks, next_line_reaches)
 
 -- ## The leaf
 
@@ -128,8 +114,7 @@ pub reads_block_scalars : ReadsBlocks → {limit : ℕ} → limit < 2 ^ 63 → R
     → (p : Properties) (style : Style) (value : List ℕ)
     → ReadsAt limit (Scalar p style value) (IsScalarInBlock p style value)
 reads_block_scalars laws {limit} short heads p style value place f same m t o
-    (gap, front, text, gap_is, front_is, styled, e)
-    fits behind start ts before = by_front front_is
+    (gap, front, text, gap_is, front_is, styled, e) fits behind start ts before = by_front front_is
   where
     is : IsStyled style value f.indent text o
     is = rw same styled
@@ -159,9 +144,8 @@ reads_block_scalars laws {limit} short heads p style value place f same m t o
     by_front (inl (none, empty)) =
         let whole : t ≡ gap ++ text = cc in
         let b : Before limit start place f m (gap ++ (text ++ o)) ts = rw (whole, append_assoc gap text o) at before in
-        let l = lands_behind f m gap (text ++ o) gap_is ink b in
         let P : List Kind → Type 0 = λ us. (v : At limit start f (moved m gap) (text ++ o) us) × (v.key ≡ None) in
-        let v = subst P (sym (append-nil ts)) l in
+        let v = subst P (sym (append-nil ts)) (lands_behind f m gap (text ++ o) gap_is ink b) in
         behind_head gap [] whole (rw none refl) low v.0 (none_late v.0.key (moved m gap) v.1)
     by_front (inr (properties, between, h, spaced, parts)) =
         let w = gap ++ (properties ++ between) in

@@ -107,8 +107,7 @@ entries_are node nodes ts (part, others, (entry, optional, is), are, all) =
 pub more_entries : {limit : ℕ} → ReadsLeaves limit → (node : Node) (nodes : Nodes)
     → ReadsAt limit node (IsBlockNode most_open node) → ReadsOtherEntries limit nodes
     → ReadsOtherEntries limit (MoreNodes node nodes)
-more_entries leaves node nodes reads more =
-    parts_so (λ column t o (front, entry, others, front_is, h, k, e).
+more_entries leaves node nodes reads more = parts_so (λ column t o (front, entry, others, front_is, h, k, e).
     (front, 45 ∷ entry, others, front_is, (entry, h, refl), k, e)) (entries_are node nodes)
     (more_parts (is_entry leaves node reads) more)
 
@@ -122,7 +121,6 @@ pub reads_entries : {limit : ℕ} → ReadsLeaves limit → (node : Node) (nodes
     → PartsRead limit start (grammar.YieldBlockEntries (MoreNodes node nodes)) n.col (frame_behind further n.col f) n t
     o (ts ++ sequence_start further)
 reads_entries leaves node nodes reads more f n further e far t o (entry, others, h, k, is) fits behind start ts v none
-    allowed =
-    told_parts (entries_are node nodes)
+    allowed = told_parts (entries_are node nodes)
     (reads_parts (is_entry leaves node reads) more f n further e far t o (45 ∷ entry, others, (entry, h, refl), k, is)
     fits behind start ts v none allowed)

@@ -50,8 +50,7 @@ spaces_skipped (suc n) = one_space (spaces n) (spaces_skipped n)
 
 pub rest_skipped : (t w : List ℕ) → IsLineRest t → IsSkipped w → IsSkipped (t ++ (line_feed ∷ w))
 rest_skipped t w (blanks, c, are, k, is) h =
-    let text : t ++ (10 ∷ w) ≡ blanks ++ (c ++ (10 ∷ w)) = ap (λ (x : List ℕ). x ++ (10 ∷ w)) is
-    ∙ append_assoc blanks c (10 ∷ w) in
+    let text = ap (λ (x : List ℕ). x ++ (10 ∷ w)) is ∙ append_assoc blanks c (10 ∷ w) in
     rw text (one_rest blanks c w are (behind_is blanks c k) h)
 
 pub line_end_skipped : (t : List ℕ) → IsLineEnd t → IsSkipped t
@@ -59,8 +58,7 @@ line_end_skipped t (rest, h, is) = rw is (rest_skipped rest [] h nothing)
 
 filler_line_skipped : (t : List ℕ) → IsFillerLine t → IsSkipped t
 filler_line_skipped t (text, (front, c, are, k, is_text), is) =
-    let whole : t ≡ front ++ (c ++ (10 ∷ [])) = is ∙ ap (λ (x : List ℕ). x ++ (10 ∷ [])) is_text
-    ∙ append_assoc front c (10 ∷ []) in
+    let whole = is ∙ ap (λ (x : List ℕ). x ++ (10 ∷ [])) is_text ∙ append_assoc front c (10 ∷ []) in
     rw whole (one_rest front c [] are k nothing)
 
 pub filler_skipped : (t : List ℕ) → IsFiller t → IsSkipped t
@@ -79,15 +77,11 @@ skipped_past m _ y (one_space w h) = skipped_past (along m 1) w y h
 skipped_past m _ y (one_break w h) = skipped_past (next_line m 1) w y h
 skipped_past m _ y (one_rest blanks comment w are k h) =
     let front = blanks ++ comment in
-    let line = next_line (moved m front) 1 in
     let whole : blanks ++ (comment ++ (10 ∷ w)) ≡ front ++ (10 ∷ w) = sym (append_assoc blanks comment (10 ∷ w)) in
-    let text : (blanks ++ (comment ++ (10 ∷ w))) ++ y ≡ front ++ (10 ∷ (w ++ y)) =
-    ap (λ (x : List ℕ). x ++ y) whole ∙ append_assoc front (10 ∷ w) y in
+    let text = ap (λ (x : List ℕ). x ++ y) whole ∙ append_assoc front (10 ∷ w) y in
     let rest = front_past 0 m front blanks comment (10 ∷ (w ++ y))
     (λ z. (blanks_past 0 blanks are m (omega arith)).is z) k refl (inr refl) in
-    let place : moved m (blanks ++ (comment ++ (10 ∷ w))) ≡ moved line w =
-    ap (moved m) whole ∙ moved_append m front (10 ∷ w) in
-    ap (past 0 m) text ∙ rest ∙ skipped_past line w y h ∙ ap (λ (n : Marker). past 0 n y) (sym place)
+    cc (skipped_past (next_line (moved m front) 1) w y h, moved_append m front (10 ∷ w))
 
 pub words_cross : (words y : List ℕ) → AreIn is_yaml_non_break words → crosses_comment (words ++ (line_feed ∷ y)) ≡ true
 words_cross [] y h = refl
@@ -99,9 +93,7 @@ blanks_cross (c ∷ cs) o h = rw h.0 (blanks_cross cs o h.1)
 
 pub comment_crosses : (comment o : List ℕ) → (comment ≡ []) ⊎ IsComment comment
     → crosses (comment ++ (line_feed ∷ o)) ≡ true
-comment_crosses comment o (inl e) = ap (λ (x : List ℕ). crosses (x ++ (10 ∷ o))) e
-comment_crosses comment o (inr (words, are, is)) =
-    ap (λ (x : List ℕ). crosses (x ++ (10 ∷ o))) is ∙ words_cross words o are
+comment_crosses comment o h = grind (arith, crosses, words_cross)
 
 -- after the rest of a line, before its break
 pub rest_crosses : (blanks comment o : List ℕ) → AreIn is_blank blanks → (comment ≡ []) ⊎ IsComment comment
@@ -115,19 +107,12 @@ words_end_uncrossed (c ∷ cs) h = rw h.0 (words_end_uncrossed cs h.1)
 -- a text's last line has no break
 pub last_crosses : (blanks comment : List ℕ) → AreIn is_blank blanks → (comment ≡ []) ⊎ IsComment comment
     → crosses (blanks ++ (comment ++ [])) ≡ false
-last_crosses blanks comment are k =
-    blanks_cross blanks (comment ++ []) are ∙ ap crosses (append-nil comment) ∙ by_comment k
-  where
-    by_comment : (comment ≡ []) ⊎ IsComment comment → crosses comment ≡ false
-    by_comment (inl e) = ap crosses e
-    by_comment (inr (words, are, is)) = ap crosses is ∙ words_end_uncrossed words are
+last_crosses blanks comment are k = grind (arith, blanks_cross, crosses, append-nil, words_end_uncrossed)
 
 -- a break is at the end of a line
 pub line_end_crosses : (t y : List ℕ) → IsLineEnd t → crosses (t ++ y) ≡ true
 line_end_crosses t y (rest, (blanks, c, are, k, is_rest), is) =
-    let text : t ++ y ≡ blanks ++ (c ++ (10 ∷ y)) = ap (λ (x : List ℕ). x ++ y)
-    (is ∙ ap (λ (x : List ℕ). x ++ (10 ∷ [])) is_rest) ∙ simp append_assoc in
-    ap crosses text ∙ rest_crosses blanks c y are (behind_is blanks c k)
+    grind (arith, append_assoc, crosses, rest_crosses, behind_is)
 
 -- No tab is left of any column before the next token.
 abbrev pub IsClean : List ℕ → Type 0
@@ -151,11 +136,7 @@ words_clean least (c ∷ cs) y h k m blank tab = rw h.0 (words_clean least cs y 
 comment_line_clean : (least : ℕ) (comment y : List ℕ) → (comment ≡ []) ⊎ IsComment comment
     → ((m : Marker) → tabbed least m true false y ≡ false) → (m : Marker) (blank tab : Bool)
     → tabbed least m blank tab (comment ++ (line_feed ∷ y)) ≡ false
-comment_line_clean least comment y (inl e) k m blank tab =
-    ap (λ (x : List ℕ). tabbed least m blank tab (x ++ (10 ∷ y))) e ∙ k (next_line m 1)
-comment_line_clean least comment y (inr (words, are, is)) k m blank tab =
-    ap (λ (x : List ℕ). tabbed least m blank tab (x ++ (10 ∷ y))) is
-    ∙ words_clean least words y are k (along m 1) blank tab
+comment_line_clean least comment y h k m blank tab = grind (arith, tabbed, words_clean)
 
 rest_clean : (least : ℕ) (blanks comment y : List ℕ) → AreIn is_blank blanks → (comment ≡ []) ⊎ IsComment comment
     → ((m : Marker) → tabbed least m true false y ≡ false)
@@ -188,8 +169,7 @@ blanks_untabbed least (b ∷ bs) y are k m =
 pub right_untabbed : (least column : ℕ) → least ≤ column → (w y : List ℕ) → AreIn is_blank w → IsClean y
     → (m : Marker) (blank : Bool) → column ≤ m.col → tabbed least m blank false (w ++ y) ≡ false
 right_untabbed least column under [] y are k m blank right = k least m blank
-right_untabbed least column under (x ∷ xs) y are k m blank right =
-    rw are.0
+right_untabbed least column under (x ∷ xs) y are k m blank right = rw are.0
     (ap (λ (t : Bool). tabbed least (along m 1) blank t (xs ++ y))
     (no_left_tab column least m blank x (right_tab column m x right) under)
     ∙ right_untabbed least column under xs y are.1 k (along m 1) blank (le_next column m.col right))
@@ -207,38 +187,24 @@ spaces_untabbed least (suc n) w y are k m blank far =
 -- before a line's content the tabs come after its indentation
 prefix_clean : (indent : ℕ) (w y : List ℕ) → IsLinePrefix indent w → IsClean y → IsCleanIn indent (w ++ y)
 prefix_clean indent w y (front, blanks, (n, reach, spaced), are, is) k least low m blank =
-    let text : w ++ y ≡ spaces n ++ (blanks ++ y) = ap (λ (x : List ℕ). x ++ y)
-    (is ∙ ap (λ (x : List ℕ). x ++ blanks) spaced) ∙ append_assoc (spaces n) blanks y in
-    ap (tabbed least m blank false) text
-    ∙ spaces_untabbed least n blanks y are k m blank (further m.col least indent n low reach)
-  where
-    further : (c i j n : ℕ) → i ≤ j → j ≤ n → i ≤ c + n
-    further c i j n h k = omega (arith, h, k)
+    grind (arith, append_assoc, spaces_untabbed)
 
 pub lines_clean : (indent : ℕ) (filler front y : List ℕ) → IsFiller filler → IsLinePrefix indent front → IsClean y
     → IsCleanIn indent ((filler ++ front) ++ y)
 lines_clean indent filler front y filler_is prefix k least low m blank =
-    ap (tabbed least m blank false) (append_assoc filler front y)
-    ∙ skipped_untabbed least filler (front ++ y) (filler_skipped filler filler_is)
-    (prefix_clean indent front y prefix k least low) m blank
+    search (append_assoc, skipped_untabbed, filler_skipped, prefix_clean)
 
 -- Whether a tab is among the blanks before the next token.
 abbrev mutual
   pub has_tab : List ℕ → Bool
   has_tab [] = false
-  has_tab (c ∷ cs) =
-      if is_blank c || ((c == 13) && (slice_index cs 0 == 10)) then (c == 9) || has_tab cs
-      else if is_break c then has_tab cs
-      else if c == 35 then comment_has_tab cs
-      else false
+  has_tab (c ∷ cs) = if is_blank c || ((c == 13) && (slice_index cs 0 == 10)) then (c == 9) || has_tab cs
+      else if is_break c then has_tab cs else if c == 35 then comment_has_tab cs else false
 
   pub comment_has_tab : List ℕ → Bool
   comment_has_tab [] = false
-  comment_has_tab (c ∷ cs) =
-      if is_yaml_non_break c then comment_has_tab cs
-      else if (c == 13) && (slice_index cs 0 == 10) then has_tab cs
-      else if is_break c then has_tab cs
-      else false
+  comment_has_tab (c ∷ cs) = if is_yaml_non_break c then comment_has_tab cs
+      else if (c == 13) && (slice_index cs 0 == 10) then has_tab cs else if is_break c then has_tab cs else false
 
 -- ## A line without a token at the text's end
 
@@ -340,9 +306,7 @@ pub skipped_passes : (w : List ℕ) → IsSkipped w → Passes w
 skipped_passes w h m y = skipped_past m w y h
 
 pub both_pass : (a b : List ℕ) → Passes a → Passes b → Passes (a ++ b)
-both_pass a b h k m y =
-    ap (past 0 m) (append_assoc a b y) ∙ h m (b ++ y) ∙ k (moved m a) y
-    ∙ ap (λ (n : Marker). past 0 n y) (sym (moved_append m a b))
+both_pass a b h k m y = cc (append_assoc a b y, h m (b ++ y), k (moved m a) y, moved_append m a b)
 
 pub blanks_pass : (w : List ℕ) → AreIn is_blank w → Passes w
 blanks_pass w are m y = (blanks_past 0 w are m (omega arith)).is y

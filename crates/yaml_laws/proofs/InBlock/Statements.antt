@@ -105,8 +105,7 @@ pub record KeyRead (limit : ℕ) (start : State) (node : Node) (f : Frame) (k m 
 
 -- the same of each key
 abbrev pub ReadsKey : ℕ → Node → Type 0
-ReadsKey limit node =
-    (f : Frame) (m : Marker) (t o : List ℕ) (n : Blanks) → f.indent ≤ m.col + 1
+ReadsKey limit node = (f : Frame) (m : Marker) (t o : List ℕ) (n : Blanks) → f.indent ≤ m.col + 1
     → IsKeyText (IsFlowNode most_open node false (suc m.col)) node false (suc m.col) t n.text → IsOnLine t
     → IsBeforeColon node n.text → length (t ++ n.text) ≤ 1024
     → is_blank_or_breakz (slice_index o 0) ≡ true → FitsOnLines limit m (t ++ n.text) (58 ∷ o)

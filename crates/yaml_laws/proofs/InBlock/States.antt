@@ -1,9 +1,7 @@
 -- What is said of a piece of a text at block level, and of the states before it and after it. Block collections may be
 -- open.
-use Rattle.std.proofs.Common.{◌≡◌, ℕ, ◌+◌, ◌<◌, ◌≤◌, Bool, true, false, List, [], ◌∷◌, slice_index, ◌⊎◌, IsFalse, refl, sym, ap, ◌∙◌, arith}
-use Rattle.std.proofs.Math.Nat.{zero-add}
+use Rattle.std.proofs.Common.{◌≡◌, ℕ, ◌+◌, ◌<◌, ◌≤◌, Bool, true, false, List, [], ◌∷◌, slice_index, ◌⊎◌, IsFalse, arith}
 use Rattle.saphyr_scalar.specs.Reading.BlockLines.{spaces}
-use Rattle.saphyr_input.proofs.Basics.Booleans.{clash}
 use Rattle.std.specs.Prelude.{◌||◌, ◌&&◌, ◌==◌, Option, None, if◌then◌else◌}
 use Rattle.saphyr_input.specs.Classes.{is_blank, is_break, is_yaml_non_break}
 use Rattle.saphyr_scalar.specs.declared.scalar.position.Marker.{Marker}
@@ -97,18 +95,14 @@ abbrev mutual
   tabbed least m blank tab [] = false
   tabbed least m blank tab (c ∷ cs) =
       if is_blank c || ((c == 13) && (slice_index cs 0 == 10)) then tabbed least (along m 1) blank
-      (is_tab_indentation least m blank c || tab) cs
-      else if is_break c then tabbed least (next_line m 1) true false cs
-      else if c == 35 then tabbed_comment least (along m 1) blank tab cs
-      else tab
+      (is_tab_indentation least m blank c || tab) cs else if is_break c then tabbed least (next_line m 1) true false cs
+      else if c == 35 then tabbed_comment least (along m 1) blank tab cs else tab
 
   pub tabbed_comment : ℕ → Marker → Bool → Bool → List ℕ → Bool
   tabbed_comment least m blank tab [] = false
-  tabbed_comment least m blank tab (c ∷ cs) =
-      if is_yaml_non_break c then tabbed_comment least (along m 1) blank tab cs
+  tabbed_comment least m blank tab (c ∷ cs) = if is_yaml_non_break c then tabbed_comment least (along m 1) blank tab cs
       else if (c == 13) && (slice_index cs 0 == 10) then tabbed least (along m 1) blank tab cs
-      else if is_break c then tabbed least (next_line m 1) true false cs
-      else tab
+      else if is_break c then tabbed least (next_line m 1) true false cs else tab
 
 -- no tab is in the indentation before the next token
 abbrev pub IsUntabbed : ℕ → Cursor → Type 0
@@ -188,35 +182,4 @@ pub record IsSpaced (place : Position) (column : ℕ) (lead : List ℕ) : Type 0
 
 pub compact_spaced : (place : Position) (column : ℕ) (lead : List ℕ) → yaml.IsCompactLead place column lead
     → IsSpaced place column lead
-compact_spaced (yaml.BehindDash c) column lead (n, some, col, e) =
-    record {
-      count = n;
-      is = e;
-      compact = refl;
-      some = λ _. some;
-      low = omega (arith, some, col);
-      sequence_low = omega (arith, some, col);
-      col = λ m at. ap (λ (i : ℕ). i + n) at ∙ sym col;
-    }
-compact_spaced (yaml.BehindMark c) column lead (n, some, col, e) =
-    record {
-      count = n;
-      is = e;
-      compact = refl;
-      some = λ _. some;
-      low = omega (arith, some, col);
-      sequence_low = omega (arith, some, col);
-      col = λ m at. ap (λ (i : ℕ). i + n) at ∙ sym col;
-    }
-compact_spaced (yaml.BehindKey c) column lead h = absurd h
-compact_spaced yaml.BehindMarker column lead h = absurd h
-compact_spaced yaml.AtStart column lead e =
-    record {
-      count = column;
-      is = e;
-      compact = refl;
-      some = λ out. absurd (clash true refl out);
-      low = omega arith;
-      sequence_low = omega arith;
-      col = λ m at. cc (zero-add column);
-    }
+compact_spaced place column lead h = grind arith

@@ -1,6 +1,6 @@
 -- The text from the first token of a text on, which is one however the text is parted.
-use Rattle.std.proofs.Common.{◌≡◌, ℕ, Bool, true, false, List, [], ◌∷◌, ◌++◌, refl, sym, ap, ◌∙◌, arith, append_assoc, ◌⊎◌, inl, inr}
-use Rattle.saphyr_input.specs.Classes.{byte_order_mark, is_bom}
+use Rattle.std.proofs.Common.{◌≡◌, ℕ, Bool, true, false, List, [], ◌∷◌, ◌++◌, refl, ap, ◌∙◌, arith, append_assoc, ◌⊎◌, inl, inr}
+use Rattle.saphyr_input.specs.Classes.{byte_order_mark}
 use Rattle.saphyr_input.specs.Indicators.{full_stop}
 use Rattle.saphyr_scalar.specs.declared.scalar.position.Marker.{Marker}
 use Rattle.scalar_laws.specs.Spelling.Spaces.{IsFiller, IsLastFiller, IsEol}
@@ -143,8 +143,7 @@ StopsAt t s = (m : Marker) → (past 0 m t).1 ≡ s
 -- there is one such text
 pub one_stop : (t u s r : List ℕ) → t ≡ u → StopsAt t s → StopsAt u r → s ≡ r
 one_stop t u s r e h k =
-    let m : Marker = record { index = 0; line = 1; col = 0 } in
-    cc (h m, k m)
+    let m : Marker = record { index = 0; line = 1; col = 0 } in cc (h m, k m)
 
 passed_stops : (w s : List ℕ) → Passes w → IsStop s → StopsAt (w ++ s) s
 passed_stops w s h stop m = cc (h m s, stop_past (moved m w) s stop)
@@ -179,15 +178,12 @@ mark_prefix_stops filler next others is =
 pub end_prefix_stops : (filler end next others : List ℕ) → IsFiller filler
     → StopsAt ((filler ++ (full_stop ∷ full_stop ∷ full_stop ∷ (end ++ next))) ++ others)
     (full_stop ∷ full_stop ∷ full_stop ∷ (end ++ (next ++ others)))
-end_prefix_stops filler end next others is =
-    let at = 46 ∷ 46 ∷ (end ++ (next ++ others)) in
-    rw (suffix_text filler end next others)
-    (skipped_stops filler (46 ∷ at) (filler_skipped filler is) (ink_stop 46 at dot_ink))
+end_prefix_stops filler end next others is = search (suffix_text, skipped_stops, filler_skipped, ink_stop, dot_ink)
 
 -- ## Documents begin with no byte order mark
 
 no_ink : (c : ℕ) → IsInk c → c ≡ 65279 → ⊥
-no_ink c ink e = let k : true ≡ false = sym (ap is_bom e) ∙ ink.byte_order_mark in cc
+no_ink c ink e = cc
 
 -- Where a text stops, which is not at a byte order mark.
 pub record StopsUnmarked (t : List ℕ) : Type 0 where

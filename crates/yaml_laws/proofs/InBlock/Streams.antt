@@ -59,15 +59,13 @@ reads_prefix {limit = limit} {start = start} _ _ ts (mark_prefix filler more oth
 reads_prefix {limit = limit} {start = start} _ _ ts (end_prefix filler end more others is end_is h) v =
     let first = lined_so (suffix_text filler end more others) v in
     with_mark ts tokens.DocumentEnd (inl refl) (reads_prefix more others (ts ++ tokens.DocumentEnd ∷ []) h
-    (reads_end end (more ++ others)
-    (passes_filler filler (46 ∷ 46 ∷ 46 ∷ (end ++ (more ++ others))) is first) end_is))
+    (reads_end end (more ++ others) (passes_filler filler (46 ∷ 46 ∷ 46 ∷ (end ++ (more ++ others))) is first) end_is))
 
 -- the documents are read, wherever they begin
 abbrev ReadsDocuments : ℕ → State → Forest → Type 0
 ReadsDocuments limit start ds =
     (free : Bool) (t : List ℕ) (ts : List Kind) → AreBlockDocuments ds free t → HasNoReturn t
-    → StandsLined limit start free free t ts
-    → FinishesStream limit start (grammar.YieldDocuments ds free) ts
+    → StandsLined limit start free free t ts → FinishesStream limit start (grammar.YieldDocuments ds free) ts
 
 -- what comes after a document and its byte order marks is read, where documents are
 reads_unmarked : {limit : ℕ} {start : State} (ds : Forest) → ReadsDocuments limit start ds
@@ -87,8 +85,7 @@ reads_unmarked ds go o ts (inl h) clean v =
 reads_unmarked {limit = limit} {start = start} ds go o ts
     (inr (suffix, others, (filler, end, prefix, filler_is, end_is, prefix_is, e), h, is)) clean v =
     let text : o ≡ filler ++ (46 ∷ 46 ∷ 46 ∷ (end ++ (prefix ++ others))) = cc (suffix_text filler end prefix others) in
-    let first = passes_filler filler (46 ∷ 46 ∷ 46 ∷ (end ++ (prefix ++ others))) filler_is
-    (lined_so text v) in
+    let first = passes_filler filler (46 ∷ 46 ∷ 46 ∷ (end ++ (prefix ++ others))) filler_is (lined_so text v) in
     let p = reads_prefix prefix others (ts ++ tokens.DocumentEnd ∷ []) prefix_is
     (reads_end end (prefix ++ others) first end_is) in
     let f = go true others ((ts ++ tokens.DocumentEnd ∷ []) ++ p.marks) h
@@ -133,9 +130,8 @@ reads_marked {limit = limit} {start = start} ds go (piece ∷ pieces) o ts ((fil
     }
 
 -- what comes after a document is read
-reads_behind : {limit : ℕ} {start : State} (ds : Forest) → ReadsDocuments limit start ds
-    → (o : List ℕ) (ts : List Kind) → yaml.IsBehindDocument (AreBlockDocuments ds) o → HasNoReturn o
-    → StandsLined limit start false false o ts
+reads_behind : {limit : ℕ} {start : State} (ds : Forest) → ReadsDocuments limit start ds → (o : List ℕ) (ts : List Kind)
+    → yaml.IsBehindDocument (AreBlockDocuments ds) o → HasNoReturn o → StandsLined limit start false false o ts
     → FinishesStream limit start (grammar.YieldsBehindDocument (grammar.YieldDocuments ds)) ts
 reads_behind {limit = limit} {start = start} ds go o ts (marks, others, (pieces, each, joins), h, e) clean v =
     reads_marked ds go pieces others ts each h (back_in _ marks others (rw e at clean))
@@ -151,8 +147,7 @@ reads_documents readers leaves [] free t ts h clean v =
     record { last = f.last; leads = f.leads; over = f.over; others = f.others; told = f.told; are = f.are }
 reads_documents {limit = limit} {start = start} readers leaves (d ∷ ds) free t ts
     (filler, document, others, filler_is, is, behind, e) clean v =
-    let first = passes_filler filler (document ++ others) filler_is
-    (lined_so e v) in
+    let first = passes_filler filler (document ++ others) filler_is (lined_so e v) in
     let left = back_in _ filler (document ++ others) (rw e at clean) in
     let n = reads_document readers leaves d free document others ts is (lands_behind leaves ds others behind)
     (plain_behind ds others behind) (front_in _ document others left) first in
@@ -196,9 +191,7 @@ pub yaml_leads : ReaderPromises → (limit : ℕ) → ReadsLeaves limit → (for
     → (d : State) × LeadsTo limit d (start text) × (d.core.ended ≡ true)
     × ((tokens : List Kind) × Yields forest tokens × (place_kinds d.queue.places ≡ tokens))
 yaml_leads readers limit leaves forest text clean (prefix, others, prefix_is, documents, e) short =
-    let p = reads_prefix prefix others (tokens.StreamStart ∷ []) prefix_is
-    (lined_so e
-    (begins limit text short)) in
+    let p = reads_prefix prefix others (tokens.StreamStart ∷ []) prefix_is (lined_so e (begins limit text short)) in
     let f = reads_documents readers leaves forest true others (tokens.StreamStart ∷ p.marks) documents
     (back_in _ prefix others (rw e at clean)) p.stands in (
       f.last,

@@ -1,9 +1,9 @@
 -- Where no tab is ahead, none is among the blanks before the next token. And what follows a token tells nothing
 -- of what comes before it.
-use Rattle.std.proofs.Common.{◌≡◌, ℕ, ◌+◌, ◌≤◌, Bool, true, false, List, [], ◌∷◌, ◌++◌, slice_index, refl, ap, ◌∙◌, arith, append_assoc, IsTrue, ◌⊎◌, inl, inr}
+use Rattle.std.proofs.Common.{◌≡◌, ℕ, ◌≤◌, Bool, true, false, List, [], ◌∷◌, ◌++◌, slice_index, refl, arith, append_assoc, IsTrue}
 use Rattle.std.specs.Prelude.{◌||◌, ◌&&◌, ◌==◌, not, if◌then◌else◌}
 use Rattle.std.proofs.lemmas.Bool.Decides.{nat_tests}
-use Rattle.saphyr_input.specs.Classes.{is_blank, is_break, is_yaml_non_break, line_feed, carriage_return, space, tab}
+use Rattle.saphyr_input.specs.Classes.{is_blank, is_break, is_yaml_non_break, line_feed, carriage_return, tab}
 use Rattle.saphyr_scalar.specs.declared.scalar.position.Marker.{Marker}
 use Rattle.yaml_laws.specs.Grammar.BlockNodes.{has_tab_ahead}
 use Rattle.yaml_laws.proofs.Flow.States.{moved}
@@ -13,7 +13,7 @@ use Rattle.yaml_laws.proofs.InBlock.States.{IsStop}
 use Rattle.std.proofs.lemmas.Bool.{or_parts}
 use Rattle.saphyr_input.specs.Indicators.{number_sign}
 use Rattle.saphyr_scalar.specs.Spelling.Tag.{AreIn}
-use Rattle.scalar_laws.specs.Spelling.Spaces.{IsFiller, AreEach, joined_pieces, IsComment, IsFillerLine, IsLastFiller}
+use Rattle.scalar_laws.specs.Spelling.Spaces.{IsFiller, AreEach, joined_pieces, IsFillerLine, IsLastFiller}
 use Rattle.yaml_laws.proofs.Flow.Spaces.{white_no_sign, break_no_sign}
 use Rattle.yaml_laws.proofs.Flow.GapWalks.{OverGap, over_gap, no_stop}
 use Rattle.saphyr_input.proofs.Basics.Characters.{non_break_no_break, return_breaks}
@@ -28,13 +28,11 @@ abbrev leads_on : ℕ → Bool
 leads_on c = (c == 32) || is_break c || (c == 35)
 
 and_then : (a b : Bool) → a ≡ true → (a && b) ≡ false → b ≡ false
-and_then true b e h = h
-and_then false b e h = absurd (cc)
+and_then a b e h = grind arith
 
 white_leads : (c : ℕ) (b : Bool) → (is_blank c || ((c == carriage_return) && b)) ≡ true → (c == tab) ≡ false
     → leads_on c ≡ true
-white_leads c true e f = grind (arith, nat_tests)
-white_leads c false e f = grind (arith, nat_tests)
+white_leads c b e f = grind arith
 
 break_leads : (c : ℕ) → is_break c ≡ true → leads_on c ≡ true
 break_leads c e = grind (arith, nat_tests)
@@ -85,23 +83,13 @@ TellsTabs more o = has_tab_ahead false (o ++ more) ≡ has_tab_ahead false o
 
 -- in mid-line
 column_behind_character : (m : Marker) (c : ℕ) → (c == line_feed) ≡ false → 1 ≤ (behind_character m c).col
-column_behind_character m c e = rw e (some m.col)
-  where
-    some : (n : ℕ) → 1 ≤ n + 1
-    some n = omega arith
+column_behind_character m c e = grind arith
 
 sign_no_feed : (c : ℕ) → (c == number_sign) ≡ true → (c == line_feed) ≡ false
 sign_no_feed c e = grind (arith, nat_tests)
 
 unbroken_no_feed : (c : ℕ) → not (is_break c) ≡ true → (c == line_feed) ≡ false
-unbroken_no_feed c e = feed c (falsely (is_break c) e)
-  where
-    falsely : (b : Bool) → not b ≡ true → b ≡ false
-    falsely false e = refl
-    falsely true e = absurd (cc)
-
-    feed : (c : ℕ) → is_break c ≡ false → (c == line_feed) ≡ false
-    feed c e = grind (arith, nat_tests)
+unbroken_no_feed c e = grind arith
 
 -- after a text that ends a line
 same_ahead : (in_comment : Bool) (m : Marker) (t o more : List ℕ) → (in_comment ≡ true → 1 ≤ m.col)
@@ -109,8 +97,7 @@ same_ahead : (in_comment : Bool) (m : Marker) (t o more : List ℕ) → (in_comm
     → has_tab_ahead in_comment (t ++ (o ++ more)) ≡ has_tab_ahead in_comment (t ++ o)
 same_ahead true m [] o more some e h = let k = some refl in absurd (omega (arith, k, e))
 same_ahead false m [] o more some e h = h
-same_ahead true m (c ∷ cs) o more some e h =
-    same_ahead (not (is_break c)) (behind_character m c) cs o more
+same_ahead true m (c ∷ cs) o more some e h = same_ahead (not (is_break c)) (behind_character m c) cs o more
     (λ k. column_behind_character m c (unbroken_no_feed c k)) e h
 same_ahead false m (c ∷ cs) o more some e h =
     cc (same_ahead (c == 35) (behind_character m c) cs o more (λ k. column_behind_character m c (sign_no_feed c k)) e h)
@@ -130,13 +117,7 @@ tells_filler t o more h k =
 
 -- before a token
 pub tells_token : (c : ℕ) (cs more : List ℕ) → IsStop (c ∷ cs) → TellsTabs more (c ∷ cs)
-tells_token c cs more (blank, break, comment) = rw (no_tab c blank, no_space c blank, break, comment) refl
-  where
-    no_tab : (c : ℕ) → is_blank c ≡ false → (c == tab) ≡ false
-    no_tab c h = grind (arith, nat_tests)
-
-    no_space : (c : ℕ) → is_blank c ≡ false → (c == space) ≡ false
-    no_space c h = grind (arith, nat_tests)
+tells_token c cs more (blank, break, comment) = grind (arith)
 
 -- ## Whether a token is ahead
 
@@ -151,8 +132,7 @@ token_front : (in_comment : Bool) (m : Marker) (t o : List ℕ) → (in_comment 
     → has_token false o ≡ true → has_token in_comment (t ++ o) ≡ true
 token_front true m [] o some e h = let k = some refl in absurd (omega (arith, k, e))
 token_front false m [] o some e h = h
-token_front true m (c ∷ cs) o some e h =
-    token_front (not (is_break c)) (behind_character m c) cs o
+token_front true m (c ∷ cs) o some e h = token_front (not (is_break c)) (behind_character m c) cs o
     (λ k. column_behind_character m c (unbroken_no_feed c k)) e h
 token_front false m (c ∷ cs) o some e h =
     by_test ((c == 9) || leads_on c) (has_token (c == 35) (cs ++ o)) true (λ (b : Bool). b ≡ true)
@@ -164,17 +144,10 @@ pub token_behind : (t o : List ℕ) → ((m : Marker) → (moved m t).col ≡ 0)
 token_behind t o h k = token_front false text_start t o (λ e. absurd (cc)) (h text_start) k
 
 pub token_filler : (t o : List ℕ) → IsFiller t → has_token false o ≡ true → has_token false (t ++ o) ≡ true
-token_filler t o h k =
-    token_front false text_start t o (λ e. absurd (cc)) (filler_line text_start t h refl) k
+token_filler t o h k = token_front false text_start t o (λ e. absurd (cc)) (filler_line text_start t h refl) k
 
 pub token_here : (c : ℕ) (cs : List ℕ) → IsStop (c ∷ cs) → has_token false (c ∷ cs) ≡ true
-token_here c cs (blank, break, comment) = rw (no_tab c blank, no_space c blank, break, comment) refl
-  where
-    no_tab : (c : ℕ) → is_blank c ≡ false → (c == tab) ≡ false
-    no_tab c h = grind (arith, nat_tests)
-
-    no_space : (c : ℕ) → is_blank c ≡ false → (c == space) ≡ false
-    no_space c h = grind (arith, nat_tests)
+token_here c cs (blank, break, comment) = grind arith
 
 -- none is in filler
 words_none : (words o : List ℕ) → AreIn is_yaml_non_break words → has_token false o ≡ false
@@ -203,14 +176,7 @@ blanks_none (c ∷ cs) o h k = rw (leads c h.0, no_sign c h.0) (blanks_none cs o
     no_sign c h = grind (arith, nat_tests)
 
 line_none : (t o : List ℕ) → IsFillerLine t → has_token false o ≡ false → has_token false (t ++ o) ≡ false
-line_none t o (text, (front, comment, are, k, is_text), is) h =
-    let whole : t ++ o ≡ front ++ (comment ++ (10 ∷ o)) =
-    ap (λ (x : List ℕ). x ++ o) (is ∙ ap (λ (x : List ℕ). x ++ (10 ∷ [])) is_text) ∙ simp append_assoc in
-    cc (blanks_none front (comment ++ (10 ∷ o)) are (by_comment k))
-  where
-    by_comment : (comment ≡ []) ⊎ IsComment comment → has_token false (comment ++ (line_feed ∷ o)) ≡ false
-    by_comment (inl e) = ap (λ (x : List ℕ). has_token false (x ++ (10 ∷ o))) e ∙ h
-    by_comment (inr (words, are_words, e)) = cc (words_none words o are_words h)
+line_none t o (text, (front, comment, are, k, is_text), is) h = grind (arith, append_assoc, blanks_none, words_none)
 
 filler_none : (ws : List (List ℕ)) (o : List ℕ) → AreEach IsFillerLine ws → has_token false o ≡ false
     → has_token false (joined_pieces ws ++ o) ≡ false
@@ -220,9 +186,4 @@ filler_none (v ∷ vs) o h k =
 
 pub last_none : (t : List ℕ) → IsLastFiller t → has_token false t ≡ false
 last_none t (filler, text, (pieces, each, joins), (front, comment, are, k, is_text), is) =
-    let whole : t ≡ joined_pieces pieces ++ (front ++ comment) = cc in
-    cc (filler_none pieces (front ++ comment) each (blanks_none front comment are (by_comment k)))
-  where
-    by_comment : (comment ≡ []) ⊎ IsComment comment → has_token false comment ≡ false
-    by_comment (inl e) = ap (has_token false) e
-    by_comment (inr (words, are_words, e)) = cc (last_words_none words are_words)
+    grind (arith, filler_none, blanks_none, last_words_none)

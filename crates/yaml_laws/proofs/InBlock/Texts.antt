@@ -13,7 +13,6 @@ use Rattle.yaml_laws.specs.Grammar.BlockNodes.{Position, indent_at, IsLeftOut, I
 use Rattle.yaml_laws.proofs.Flow.States.{IsInk, moved, past}
 use Rattle.yaml_laws.proofs.Flow.Places.{moved_append, moved_along}
 use Rattle.yaml_laws.proofs.Documents.Lines.{filler_line}
-use Rattle.yaml_laws.proofs.InBlock.States.{EndsDocument}
 use Rattle.yaml_laws.proofs.InBlock.Gaps.{ink_stop, stop_tabbed, stop_past}
 use Rattle.yaml_laws.proofs.InBlock.Skips.{IsSkipped, Passes, IsClean, skipped_passes, skipped_clean, skipped_append, spaces_skipped, filler_skipped}
 use Rattle.yaml_laws.proofs.InBlock.Statements.{EndsWithLine, EndsNodeAt, ReadsLeaves}
@@ -33,8 +32,7 @@ eol_ends t o (inr h) = inr h.1
 
 last_ends : (a t o : List ℕ) → (t ≡ []) ⊎ EndsWithLine t o → EndsWithLine a (t ++ o) → EndsWithLine (a ++ t) o
 last_ends a t o (inr h) first = ends_back a t o h
-last_ends a t o (inl e) first =
-    ends_so (a ++ t) a o (ap (λ (x : List ℕ). a ++ x) e ∙ append-nil a) (rw e at first)
+last_ends a t o (inl e) first = ends_so (a ++ t) a o (ap (λ (x : List ℕ). a ++ x) e ∙ append-nil a) (rw e at first)
 
 left_out_ends : (node : Node) (place : Position) (t o : List ℕ) → IsLeftOut node place t o → EndsWithLine t o
 left_out_ends node place t o h = eol_ends t o h.2
@@ -68,8 +66,7 @@ mutual
   node_ends leaves (Scalar p style value) place t o (inr (inl h)) =
       flow_ends most_open (Scalar p style value) place t o h
   node_ends leaves (Scalar p style value) place t o (inr (inr (gap, front, scalar, gap_is, front_is, h, e))) =
-      ends_so t (gap ++ (front ++ scalar)) o e
-      (ends_back gap (front ++ scalar) o
+      ends_so t (gap ++ (front ++ scalar)) o e (ends_back gap (front ++ scalar) o
       (ends_back front scalar o (leaves.scalar_ends style value (indent_at place) scalar o h)))
   node_ends leaves (Seq p nodes) place t o (inl h) = flow_ends most_open (Seq p nodes) place t o h
   node_ends leaves (Seq p nodes) place t o (inr (m, lead, entries, lead_is, h, e)) =
@@ -82,8 +79,7 @@ mutual
       → AreEntries most_open nodes m t o → EndsWithLine t o
   entries_end leaves NoNode m t o h = absurd h
   entries_end leaves (MoreNodes node nodes) m t o (entry, others, h, k, e) =
-      ends_so t ((45 ∷ []) ++ (entry ++ others)) o e
-      (ends_back (45 ∷ []) (entry ++ others) o
+      ends_so t ((45 ∷ []) ++ (entry ++ others)) o e (ends_back (45 ∷ []) (entry ++ others) o
       (last_ends entry others o (other_entries_end leaves nodes m others o k)
       (node_ends leaves node _ entry (others ++ o) h)))
 
@@ -92,15 +88,13 @@ mutual
   other_entries_end leaves NoNode m t o h = inl h
   other_entries_end leaves (MoreNodes node nodes) m t o (front, entry, others, front_is, h, k, e) =
       inr (ends_so t (front ++ ((45 ∷ []) ++ (entry ++ others))) o e (ends_back front (45 ∷ (entry ++ others)) o
-      (ends_back (45 ∷ []) (entry ++ others) o
-      (last_ends entry others o (other_entries_end leaves nodes m others o k)
+      (ends_back (45 ∷ []) (entry ++ others) o (last_ends entry others o (other_entries_end leaves nodes m others o k)
       (node_ends leaves node _ entry (others ++ o) h)))))
 
   pub pairs_end : {limit : ℕ} → ReadsLeaves limit → (pairs : Pairs) (m : ℕ) (t o : List ℕ)
       → ArePairs most_open pairs m t o → EndsWithLine t o
   pairs_end leaves NoPair m t o h = absurd h
-  pairs_end leaves (MorePairs key value pairs) m t o (pair, others, h, k, e) =
-      ends_so t (pair ++ others) o e
+  pairs_end leaves (MorePairs key value pairs) m t o (pair, others, h, k, e) = ends_so t (pair ++ others) o e
       (last_ends pair others o (other_pairs_end leaves pairs m others o k)
       (pair_ends key value (λ place u z k. node_ends leaves key place u z k)
       (λ place u z k. node_ends leaves value place u z k) m pair (others ++ o) h))
@@ -109,8 +103,7 @@ mutual
       → AreOtherPairs most_open pairs m t o → (t ≡ []) ⊎ EndsWithLine t o
   other_pairs_end leaves NoPair m t o h = inl h
   other_pairs_end leaves (MorePairs key value pairs) m t o (front, pair, others, front_is, h, k, e) =
-      inr (ends_so t (front ++ (pair ++ others)) o e
-      (ends_back front (pair ++ others) o
+      inr (ends_so t (front ++ (pair ++ others)) o e (ends_back front (pair ++ others) o
       (last_ends pair others o (other_pairs_end leaves pairs m others o k)
       (pair_ends key value (λ place u z k. node_ends leaves key place u z k)
       (λ place u z k. node_ends leaves value place u z k) m pair (others ++ o) h))))
@@ -134,13 +127,7 @@ none_and a b e = omega (arith, e)
 -- the column after filler and indentation that begin at a line's start
 pub indentation_col : (m : Marker) (column : ℕ) (w : List ℕ) → IsEntryIndentation column w → m.col ≡ 0
     → (moved m w).col ≡ column
-indentation_col m column w (filler, h, is) e =
-    simp (
-      is,
-      moved_append m filler (spaces column),
-      spaces_moved (moved m filler) column,
-      none_and (moved m filler).col column (filler_line m filler h e),
-    )
+indentation_col m column w (filler, h, is) e = grind (arith, moved_append, spaces_moved, moved, none_and, filler_line)
 
 pub indentation_skipped : (column : ℕ) (w : List ℕ) → IsEntryIndentation column w → IsSkipped w
 indentation_skipped column w (filler, h, is) =
@@ -176,12 +163,4 @@ behind_indented column m w c cs h ink e =
 
 -- further to the right, what is left of a column is left of it too
 pub behind_wider : (i j : ℕ) (m : Marker) (o : List ℕ) → i ≤ j → EndsNodeAt i m o → EndsNodeAt j m o
-behind_wider i j m o low h = record { left = by_left h.left; clean = h.clean }
-  where
-    further : (a i j : ℕ) → i ≤ j → a < i → a < j
-    further a i j l k = omega (arith, l, k)
-
-    by_left : EndsDocument (past 0 m o).0 (past 0 m o).1 ⊎ ((past 0 m o).0.col < i)
-        → EndsDocument (past 0 m o).0 (past 0 m o).1 ⊎ ((past 0 m o).0.col < j)
-    by_left (inl k) = inl k
-    by_left (inr k) = inr (further (past 0 m o).0.col i j low k)
+behind_wider i j m o low h = grind (arith, past)

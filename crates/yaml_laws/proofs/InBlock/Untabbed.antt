@@ -97,15 +97,12 @@ clean_past column m t h = over_gap (over_untabbed column) m t false (h column m 
 -- What is passed ends at no blank: so does what is passed for the first column, and no tab is in the indentation
 -- before it, if there is none already or no token is on the rest of the line.
 abbrev Settles : ℕ → Marker → List ℕ → Type 0
-Settles i m t =
-    is_blank (slice_index (past i m t).1 0) ≡ false
-    → (past 0 m t ≡ past i m t)
+Settles i m t = is_blank (slice_index (past i m t).1 0) ≡ false → (past 0 m t ≡ past i m t)
     × ((low : ℕ) → low ≤ i → (blank tab : Bool) → (tab ≡ true → is_filler_rest t ≡ true)
     → tabbed low m blank tab t ≡ false)
 
 abbrev CommentSettles : ℕ → Marker → List ℕ → Type 0
-CommentSettles i m t =
-    is_blank (slice_index (past_comment i m t).1 0) ≡ false
+CommentSettles i m t = is_blank (slice_index (past_comment i m t).1 0) ≡ false
     → (past_comment 0 m t ≡ past_comment i m t)
     × ((low : ℕ) → low ≤ i → (blank tab : Bool) → (tab ≡ true → is_comment_rest t ≡ true)
     → tabbed_comment low m blank tab t ≡ false)
@@ -117,8 +114,7 @@ over_settled i =
       tab = λ m c cs t h. absurd (clash (is_blank c) (stop_blank i m c cs t) (rw t at h));
       white = λ m c cs t e on h. let s = on (rw (t, e) at h) in (
         rw (t, none_left m c, e) s.0,
-        λ low under blank tab bare. rw e
-            (s.1 low under blank (is_tab_indentation low m blank c || tab)
+        λ low under blank tab bare. rw e (s.1 low under blank (is_tab_indentation low m blank c || tab)
             (tab_rest i low m blank c cs tab t under e bare)),
       );
       break = λ m c cs t e f on h. let s = on (rw (t, e, f) at h) in (

@@ -48,10 +48,7 @@ skipped_ahead m n _ y (one_rest blanks comment w are k h) =
 -- such a `:` itself
 pub value_here : (m column : ℕ) (o : List ℕ) → column ≡ m → is_blank_or_breakz (slice_index o 0) ≡ true
     → is_value_ahead false m column (colon ∷ o) ≡ true
-value_here m column o e white = rw (same column m e, white) refl
-  where
-    same : (a b : ℕ) → a ≡ b → (a == b) ≡ true
-    same a b e = grind (arith, nat_tests)
+value_here m column o e white = grind arith
 
 -- ## Where more text follows
 
@@ -86,9 +83,7 @@ kind_ahead m column c d ds more false true e f token on =
     leads c h = widened (c == tab) (c == space) (is_break c) (c == number_sign) h
       where
         widened : (a b x y : Bool) → (x || y) ≡ true → (a || (b || x || y)) ≡ true
-        widened true b x y e = refl
-        widened false true x y e = refl
-        widened false false x y e = e
+        widened a b x y e = grind arith
 kind_ahead m column c d ds more false false e f token on = rw (e, f) refl
 
 same_ahead : (in_comment : Bool) (m column : ℕ) (o more : List ℕ) → has_token in_comment o ≡ true → EndsFed o
@@ -97,8 +92,7 @@ same_ahead in_comment m column [] more token fed = absurd (cc)
 same_ahead true m column (c ∷ []) more token fed = absurd (cc)
 same_ahead true m column (c ∷ d ∷ ds) more token fed =
     same_ahead (not (is_break c)) m 0 (d ∷ ds) more token (fed_behind (c ∷ []) d ds fed)
-same_ahead false m column (c ∷ []) more token fed =
-    absurd (let e : false ≡ true = rw (feed_alone c fed) at token in cc)
+same_ahead false m column (c ∷ []) more token fed = absurd (let e : false ≡ true = rw (feed_alone c fed) at token in cc)
 same_ahead false m column (c ∷ d ∷ ds) more token fed =
     kind_ahead m column c d ds more (is_blank c) (is_break c || (c == 35)) refl refl token
     (λ b k t. same_ahead b m k (d ∷ ds) more t (fed_behind (c ∷ []) d ds fed))

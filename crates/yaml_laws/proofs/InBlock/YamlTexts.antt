@@ -44,8 +44,7 @@ yaml_scans readers reads blocks limit other low forest text same yaml short =
     let n = normalized text in
     let clean = no_return_left (beside text) in
     let l = normal_shorter text in
-    let run = yaml_leads reads other (leaves reads blocks other low) forest n clean yaml
-    (omega (arith, l, short)) in
+    let run = yaml_leads reads other (leaves reads blocks other low) forest n clean yaml (omega (arith, l, short)) in
     let all = handed_out readers other n run.0 run.1 run.2 in (
       run.3.0,
       run.3.1,

@@ -87,8 +87,7 @@ bracket_opens around same start b are k qs e o ad parted right below r =
     ∙ opening_steps_open y kind (length qs) around r.deeper (cursor_at (b.opening ∷ o) e r.blank) context.Block (Some k)
     [] false ad (behind_key refl refl)
     ∙ open_collection_gives y kind b.opening o e r.blank around d context.Block (Some k) [] false ad p.found p.there
-    p.is none_open are.flows (λ _. same)
-    ∙ ap (completed_step (from_to e p.there.mark kind ∷ []))
+    p.is none_open are.flows (λ _. same) ∙ ap (completed_step (from_to e p.there.mark kind ∷ []))
     (same_inside around d p.there y None ls true ad are.flows) in
     let fetched : fetch start ≡ Ok st = r.fetches ∙ ap (λ q. after_step q (queue_of qs)) stepped in
     let low = within_index around.indent around.limit p.there (along e 1) o p.lands below in
@@ -133,8 +132,7 @@ bracket_closes around same b are inside flows back k j a ad qs s d e n r text ri
     (at ∙ past_ink around.indent e b.closing o mark.ink) mark.ink.blank right refl in
     let seen = cursor_at (b.closing ∷ o) e v.blank in
     let p = separates around.indent (cursor_at o (along e 1) false) n.text 58 r refl
-    (separation_of_blanks around.indent n.text n.are) (le_next around.indent e.col right)
-    colon_ink in
+    (separation_of_blanks around.indent n.text n.are) (le_next around.indent e.col right) colon_ink in
     let near = p.near n.are in
     let begins = mark_begins e b.closing o mark (clear_front e (b.closing ∷ []) n.text (58 ∷ r) text.clear) in
     let core = core_at (calmed around) d seen inside v.key ls v.allowed ad in
@@ -149,8 +147,7 @@ bracket_closes around same b are inside flows back k j a ad qs s d e n r text ri
     ∙ begins_here (calmed around) d (moment seen inside v.key ls v.allowed ad qs) begins right in
     let at_place = ap (λ (i : ℕ). after_step (step b.closing (slice_index o 0) i core) (queue_of qs))
     (zero-add (length qs)) in
-    let made = ap (λ q. after_step q (queue_of qs)) stepped
-    ∙ ap (λ (q : Queue). Ok (let z : State =
+    let made = ap (λ q. after_step q (queue_of qs)) stepped ∙ ap (λ (q : Queue). Ok (let z : State =
     record { core = core_at around d p.there context.Block (Some k) [] false ad; queue = q } in z))
     (mark_puts ends qs e p.there.mark b.closes) in
     let start = state_at (calmed around) (moment s inside j ls a ad qs) d in
@@ -158,8 +155,7 @@ bracket_closes around same b are inside flows back k j a ad qs s d e n r text ri
     let one : along e 1 ≡ moved e (b.closing ∷ []) = mark_moved e b.closing mark in
     let behind_text = in_back k e (b.closing ∷ []) n.text (58 ∷ r) text in
     let whole = in_back k (moved e (b.closing ∷ [])) n.text [] (58 ∷ r)
-    (in_so k (moved e (b.closing ∷ [])) n.text (n.text ++ []) (58 ∷ r) (sym (append-nil n.text))
-    behind_text) in
+    (in_so k (moved e (b.closing ∷ [])) n.text (n.text ++ []) (58 ∷ r) (sym (append-nil n.text)) behind_text) in
     let place : p.there.mark ≡ moved (moved e (b.closing ∷ [])) n.text =
     near.1 ∙ ap (λ (m : Marker). moved m n.text) one in
     let last = subst (λ (m : Marker). InKey around k m [] (58 ∷ r)) (sym place) whole in
@@ -208,43 +204,32 @@ collection_along around same Is b are w inside n r parts parted runs start k qs 
     let below1 = below_open e body n.text (58 ∷ r) o1 texts text.below in
     let first = bracket_opens around same start b are k qs e o1 ad parted text.low below1
     (subst (λ (t : List ℕ). Ready around start k t e ad qs) texts ready) in
-    let right0 : around.indent ≤ (moved e (b.opening ∷ [])).col =
-    subst (λ (m : Marker). around.indent ≤ m.col) (sym mark) text.low in
     let lands : past around.indent first.there.mark first.there.rest
     ≡ past around.indent here (inside ++ (b.closing ∷ o)) =
-    first.lands ∙ separation_past around.indent (moved e (b.opening ∷ [])) w (inside ++ (b.closing ∷ o)) parts right0
+    first.lands ∙ separation_past around.indent (moved e (b.opening ∷ [])) w (inside ++ (b.closing ∷ o)) parts
+    (subst (λ (m : Marker). around.indent ≤ m.col) (sym mark) text.low)
     ∙ ap (λ (m : Marker). past around.indent m (inside ++ (b.closing ∷ o))) (sym split) in
     let new1 = token_place e first.there.mark b.opens ∷ [] in
-    let i1 = moved_index e (b.opening ∷ w) in
-    let i2 = moved_index here inside in
     let in_front = runs k e text (Some k) (moment first.there b.context None [] true ad (qs ++ new1)) refl refl
-    (lower ad (length w) here.index i1 low) right1 lands in
+    (lower ad (length w) here.index (moved_index e (b.opening ∷ w)) low) right1 lands in
     let q = in_front.passes in
     let ran = q.leads.run first.deeper in
     let ended = subst (λ (z : Marker × List ℕ). q.adjacent ≤ z.0.index)
     (past_ink around.indent at_end b.closing o are.closing_mark.ink) q.knows in
-    let qs2 = (qs ++ new1) ++ q.new in
-    let last = bracket_closes around same b are in_front.inside in_front.flows in_front.back k q.key
-    q.allowed
-    q.adjacent qs2 q.there ran.deeper at_end n r text3 q.right q.fits in
+    let last = bracket_closes around same b are in_front.inside in_front.flows in_front.back k q.key q.allowed
+    q.adjacent ((qs ++ new1) ++ q.new) q.there ran.deeper at_end n r text3 q.right q.fits in
     let new3 = mark_places (ends_pair in_front.inside) at_end last.there.mark b.closes in
-    let places : qs2 ++ new3 ≡ qs ++ (new1 ++ (q.new ++ new3)) =
-    append_assoc (qs ++ new1) q.new new3 ∙ append_assoc qs new1 (q.new ++ new3) in
     let led = leads_on first.leads (leads_on ran.leads last.leads) in
-    let end : moved (along at_end 1) n.text ≡ colon_after e body n =
-    ap (λ (m : Marker). moved m n.text)
+    let end : moved (along at_end 1) n.text ≡ colon_after e body n = ap (λ (m : Marker). moved m n.text)
     (mark_moved at_end b.closing are.closing_mark
     ∙ sym (moved_append e (b.opening ∷ w) (inside ++ close) ∙ moved_append here inside close)) in
     let told : place_kinds (new1 ++ (q.new ++ new3))
     ≡ b.opens ∷ ((in_front.tokens ++ pending (ends_pair in_front.inside)) ++ b.closes ∷ []) =
-    place_kinds_append new1 (q.new ++ new3)
-    ∙ ap (λ (x : List Kind). (b.opens ∷ []) ++ x)
+    place_kinds_append new1 (q.new ++ new3) ∙ ap (λ (x : List Kind). (b.opens ∷ []) ++ x)
     (place_kinds_append q.new new3 ∙ ap (λ (x : List Kind). x ++ place_kinds new3) q.are
     ∙ ap (λ (x : List Kind). in_front.tokens ++ x)
     (mark_kinds (ends_pair in_front.inside) at_end last.there.mark b.closes))
     ∙ all_told b.opens b.closes in_front.tokens (pending (ends_pair in_front.inside)) in
-    let i3 = moved_index e body in
-    let at_colon = last.mark ∙ end in
     let inner = in_front.tokens ++ pending (ends_pair in_front.inside) in
     record {
       tokens = b.opens ∷ (inner ++ b.closes ∷ []);
@@ -256,16 +241,15 @@ collection_along around same Is b are w inside n r parts parted runs start k qs 
         white = [];
         are_white = tt;
         rest = last.rest;
-        mark = at_colon;
+        mark = last.mark ∙ end;
         right = subst (λ (m : Marker). around.indent ≤ m.col) (sym last.mark)
-            (right_behind around.indent (along at_end 1) n.text
-            (separation_of_blanks around.indent n.text n.are)
+            (right_behind around.indent (along at_end 1) n.text (separation_of_blanks around.indent n.text n.are)
             (le_next around.indent at_end.col q.right));
         piece = record { span = record { start = e; end = first.there.mark }; kind = b.opens };
         others = q.new ++ new3;
         leads = subst (λ (ps : List Place). LeadsTo around.limit
-            (state_at around (moment last.there context.Block (Some k) [] false q.adjacent ps) ran.deeper) start) places
-            led;
+            (state_at around (moment last.there context.Block (Some k) [] false q.adjacent ps) ran.deeper) start)
+            (append_assoc (qs ++ new1) q.new new3 ∙ append_assoc qs new1 (q.new ++ new3)) led;
         are = told;
         low = subst (λ (m : Marker). q.adjacent ≤ m.index) end (later q.adjacent at_end n ended);
       };
@@ -280,8 +264,7 @@ collection_along around same Is b are w inside n r parts parted runs start k qs 
     below_open : (e : Marker) (body s y o1 : List ℕ) → body ++ (s ++ y) ≡ b.opening ∷ o1
         → e.index + length ((body ++ s) ++ y) ≤ around.limit → (along e 1).index + length o1 ≤ around.limit
     below_open e body s y o1 is h =
-        let count : length ((body ++ s) ++ y) ≡ suc (length o1) = ap length (append_assoc body s y ∙ is) in
-        further (length ((body ++ s) ++ y)) (length o1) count h
+        further (length ((body ++ s) ++ y)) (length o1) (ap length (append_assoc body s y ∙ is)) h
       where
         further : (a l : ℕ) → a ≡ suc l → e.index + a ≤ around.limit → e.index + 1 + l ≤ around.limit
         further a l c h = omega (arith, c, h)

@@ -70,15 +70,12 @@ fresh_so : (around : Around) (t u : List ℕ) → t ≡ u → Fresh around u →
 fresh_so around t u e h = rw e h
 
 fresh_alias : (around : Around) (name t o : List ℕ) → yaml.IsAlias name t → Fresh around (t ++ o)
-fresh_alias around name t o h =
-    fresh_so around (t ++ o) (42 ∷ (name ++ o)) (ap (λ (x : List ℕ). x ++ o) h.1)
+fresh_alias around name t o h = fresh_so around (t ++ o) (42 ∷ (name ++ o)) (ap (λ (x : List ℕ). x ++ o) h.1)
     (λ d s k ad n. begins_alias _ n (core_at around d s context.Block k [] true ad)
-    ∙ name_fresh tokens.Alias around d s k ad n
-    ∙ sym (begins_alias _ n (first_at around d s n ad)))
+    ∙ name_fresh tokens.Alias around d s k ad n ∙ sym (begins_alias _ n (first_at around d s n ad)))
 
 fresh_anchor : (around : Around) (name t o : List ℕ) → yaml.IsAnchor name t → Fresh around (t ++ o)
-fresh_anchor around name t o h =
-    fresh_so around (t ++ o) (38 ∷ (name ++ o)) (ap (λ (x : List ℕ). x ++ o) h.1)
+fresh_anchor around name t o h = fresh_so around (t ++ o) (38 ∷ (name ++ o)) (ap (λ (x : List ℕ). x ++ o) h.1)
     (λ d s k ad n. begins_anchor _ n (core_at around d s context.Block k [] true ad)
     ∙ name_fresh tokens.Anchor around d s k ad n ∙ sym (begins_anchor _ n (first_at around d s n ad)))
 
@@ -102,10 +99,8 @@ fresh_properties around indent (Some name) (Some tag) t o (c, s, a, h, g, spaced
     (fresh_tag around tag a ((s ++ c) ++ o) g)
 
 fresh_word : (around : Around) (t o : List ℕ) → BeginsWord false t o → Fresh around (t ++ o)
-fresh_word around t o w =
-    λ d s k ad n. plain_dispatches around d s n t o context.Block w k [] true ad (inl refl)
-    ∙ plain_fresh around d s k ad n
-    ∙ sym (plain_dispatches (requiring around d s.mark) d s n t o context.Block w
+fresh_word around t o w = λ d s k ad n. plain_dispatches around d s n t o context.Block w k [] true ad (inl refl)
+    ∙ plain_fresh around d s k ad n ∙ sym (plain_dispatches (requiring around d s.mark) d s n t o context.Block w
     (Some (record { mark = s.mark; place = n })) [] false ad (inl refl))
 
 fresh_content : (around : Around) (indent : ℕ) (style : Style) (value t o : List ℕ)

@@ -4,7 +4,6 @@ use Rattle.std.proofs.Math.Nat.{zero-add}
 use Rattle.std.specs.Prelude.{◌-◌, ◌&&◌, ◌==◌, not, nat_lt, nat_le, Option, Some, None}
 use Rattle.std.proofs.lemmas.Bool.Decides.{nat_tests}
 use Rattle.saphyr_input.specs.Classes.{is_blank}
-use Rattle.saphyr_input.specs.Places.{is_document_start, is_document_end}
 use Rattle.saphyr_scalar.specs.declared.scalar.position.Marker.{Marker}
 use Rattle.saphyr_scalar.specs.Views.Cursor.{Cursor, ◌>>=◌, along}
 use Rattle.saphyr_scalar.specs.Spelling.Tag.{AreIn}
@@ -27,8 +26,7 @@ use Rattle.yaml_laws.proofs.Flow.Tokens.{BeginsToken}
 use Rattle.saphyr_scalar.proofs.Given.{cursor_at}
 use Rattle.saphyr_input.proofs.Basics.Numbers.{le_next}
 use Rattle.saphyr_input.proofs.Basics.Characters.{no_return}
-use Rattle.saphyr_input.proofs.Basics.Booleans.{and_false, and_or_false}
-use Rattle.std.proofs.lemmas.Bool.{le-ltb, le-leb}
+use Rattle.std.proofs.lemmas.Bool.{le-leb}
 use Rattle.saphyr_scanner.proofs.Queues.{token_place, queue_of}
 use Rattle.saphyr_scanner.proofs.Gaps.{stop_here}
 
@@ -65,12 +63,10 @@ blanks_gap : (low column : ℕ) → low ≤ column → (w : List ℕ) (c : ℕ) 
     → end_of_gap low m blank false false (w ++ (c ∷ cs)) ≡ stop (moved m w) blank false false (c ∷ cs)
 blanks_gap low column under [] c cs are ink m blank right = ink_gap low c cs ink m blank
 blanks_gap low column under (x ∷ xs) c cs are ink m blank right =
-    let same : moved (along m 1) xs ≡ moved m (x ∷ xs) = rw (no_feed x are.0) refl in
-    rw are.0
-    (ap (λ (t : Bool). end_of_gap low (along m 1) blank false t (xs ++ (c ∷ cs)))
+    rw are.0 (ap (λ (t : Bool). end_of_gap low (along m 1) blank false t (xs ++ (c ∷ cs)))
     (no_left_tab column low m blank x (right_tab column m x right) under)
     ∙ blanks_gap low column under xs c cs are.1 ink (along m 1) blank (le_next column m.col right)
-    ∙ ap (λ (n : Marker). stop n blank false false (c ∷ cs)) same)
+    ∙ ap (λ (n : Marker). stop n blank false false (c ∷ cs)) (rw (no_feed x are.0) refl))
 
 -- the next token on the line is reached
 line_arrives : (around : Around) (d : Bool) (s : Cursor) (k : Candidate) (ad : ℕ) (ps : List Place) (w : List ℕ) (c : ℕ)
@@ -89,9 +85,7 @@ line_arrives around d s k ad ps w c cs is are ink right near =
     right ∙ stop_here n s.blank_so_far false (c ∷ cs) in
     let passed = ap (λ r. r >>= λ (p : GapEnd). check_comment (behind_gap here p)) gapped in
     let reached = ap (λ r. r >>= drop_far_key) passed ∙ keeps_near_key around d there k [] false ad near in
-    ap (λ r. on_core r (queue_of ps) >>= λ (t : State). Ok (unroll (Some t.core.cursor.mark.col) t.core.cursor.mark t))
-    reached
-    ∙ ap Ok (none_unrolls around n.col n there context.Block (Some k) [] false ad ps d
+    cc (none_unrolls around n.col n there context.Block (Some k) [] false ad ps d
     (blanks_past around.indent w are s.mark right).right)
 
 -- ## A token is about to be read
@@ -113,13 +107,10 @@ begins_low : (around : Around) (d : Bool) (s : Cursor) (k : Option Candidate) (a
     ≡ state_behind_content (slice_index s.rest 0) (slice_index s.rest 1)
     (state_at around (moment s context.Block k [] a ad ps) d)
 unfolding fetch_here
-begins_low around d s k a ad ps h right =
-    let n = and_or_false (s.mark.col == 0) (is_document_start s.rest) (is_document_end s.rest) h.marker in
-    rw (h.nul, h.byte_order_mark, h.directive, and_false (s.mark.col == 0), n.0, n.1, right) refl
+begins_low around d s k a ad ps h right = grind arith
 
 reaches_low : (around : Around) (d : Bool) (m : Marker) → around.indent ≤ m.col → nat_lt m.col (reach around d) ≡ false
-reaches_low around d m right =
-    let low = reach_low around d in le-ltb m.col (reach around d) (omega (arith, low, right))
+reaches_low around d m right = grind arith
 
 -- after another token of the key
 pub later_ready : (around : Around) (d : Bool) (s : Cursor) (k : Candidate) (ad : ℕ) (ps : List Place) (w : List ℕ)
@@ -171,28 +162,11 @@ deeper_at around d m = d && nat_le around.column m.col
 
 still_least : (around : Around) (d : Bool) (m : Marker) → around.column ≤ m.col + 1
     → nat_lt m.col (least around.column (deeper_at around d m)) ≡ false
-still_least around d m h = by_deeper (deeper_at around d m) refl
-  where
-    reached : (d : Bool) → (d && nat_le around.column m.col) ≡ true → nat_le around.column m.col ≡ true
-    reached true e = e
-    reached false e = absurd (cc)
-
-    is_reached : (a b : ℕ) → nat_le a b ≡ true → nat_lt b a ≡ false
-    is_reached a b e = grind (arith, nat_tests)
-
-    one_less : (a b : ℕ) → a ≤ b + 1 → nat_lt b (a - 1) ≡ false
-    one_less a b h = grind (arith, nat_tests)
-
-    by_deeper : (b : Bool) → deeper_at around d m ≡ b
-        → nat_lt m.col (least around.column (deeper_at around d m)) ≡ false
-    by_deeper true e = ap (λ (q : Bool). nat_lt m.col (least around.column q)) e
-        ∙ is_reached around.column m.col (reached d e)
-    by_deeper false e = ap (λ (q : Bool). nat_lt m.col (least around.column q)) e ∙ one_less around.column m.col h
+still_least around d m h = grind arith
 
 -- the step at the first token of a key keeps the key's place
 abbrev pub Fresh : Around → List ℕ → Type 0
-Fresh around t =
-    (d : Bool) (s : Cursor) (k : Option Candidate) (ad n : ℕ)
+Fresh around t = (d : Bool) (s : Cursor) (k : Option Candidate) (ad n : ℕ)
     → step (slice_index t 0) (slice_index t 1) n (core_at around d s context.Block k [] true ad)
     ≡ step (slice_index t 0) (slice_index t 1) n
     (core_at (requiring around d s.mark) d s context.Block (Some (record { mark = s.mark; place = n })) [] false ad)
@@ -225,8 +199,7 @@ first_ready around calm d blank k ad ps m c cs ink right token fresh =
       fetches = ap (λ r. r >>= fetch_here) arrived
           ∙ begins_low around e there left true ad ps token (still_least around d m right)
           ∙ ap (λ (i : ℕ). after_step (step c (slice_index cs 0) i
-          (core_at around e there context.Block left [] true ad))
-          (queue_of ps)) (zero-add (length ps))
+          (core_at around e there context.Block left [] true ad)) (queue_of ps)) (zero-add (length ps))
           ∙ ap (λ q. after_step q (queue_of ps)) (fresh e there left ad (length ps));
     }
   where

@@ -56,10 +56,7 @@ front_parts front t v c s e = append_assoc front c s ∙ ap (λ (x : List ℕ). 
 
 colon_after_parts : (e : Marker) (front t v c : List ℕ) (n : Blanks) → front ≡ t ++ v
     → colon_after (moved (moved e t) v) c n ≡ colon_after e (front ++ c) n
-colon_after_parts e front t v c n is =
-    ap (λ (m : Marker). moved (moved m c) n.text) (sym (moved_append e t v))
-    ∙ ap (λ (x : List ℕ). moved (moved (moved e x) c) n.text) (sym is)
-    ∙ ap (λ (m : Marker). moved m n.text) (sym (moved_append e front c))
+colon_after_parts e front t v c n is = grind (arith, moved, moved_append)
 
 -- after properties, or without any
 pub front_along : ReaderPromises → (around : Around) (p : Properties) (Is : List Kind → Type 0) (front content : List ℕ)
@@ -70,27 +67,23 @@ front_along reads around p Is front content n r (inl (none, is)) g =
     (λ start k qs e ad text low ready. told_along
     (λ ts are. ([], ts, subst (λ (q : Properties). grammar.YieldProperties q []) (sym none) refl, are, refl))
     (g.along start k qs e ad text low ready))
-front_along reads around p Is front content n r (inr (t, v, h, some, gap, is)) g =
-    λ start k qs e ad text low ready.
+front_along reads around p Is front content n r (inr (t, v, h, some, gap, is)) g = λ start k qs e ad text low ready.
     let o = colon_text n r in
     let more = content ++ n.text in
     let whole = in_so k e ((front ++ content) ++ n.text) (t ++ (v ++ more)) (58 ∷ r)
     (front_parts front t v content n.text is) text in
     let line = front_on_line v more (v ++ more) refl (back_on_line t (v ++ more) (t ++ (v ++ more)) refl whole.on_line)
     in
-    let same : (v ++ more) ++ (58 ∷ r) ≡ v ++ (content ++ o) =
-    append_assoc v more (58 ∷ r) ∙ ap (λ (x : List ℕ). v ++ x) (append_assoc content n.text (58 ∷ r)) in
+    let same = append_assoc v more (58 ∷ r) ∙ ap (λ (x : List ℕ). v ++ x) (append_assoc content n.text (58 ∷ r)) in
     let f = properties_along reads around k p.anchor p.tag start qs t (v ++ more) (58 ∷ r) v (content ++ o) e ad h
     (separation_ends around.indent false v more (58 ∷ r) some gap) whole same (blanks_on_line around.indent v gap line)
     low (subst (λ (x : List ℕ). Ready around start k x e ad qs)
     (front_parts front t v content o is ∙ ap (λ (x : List ℕ). t ++ x) (sym same)) ready) in
-    let there = moved (moved e t) v in
     let inside = in_back k (moved e t) v more (58 ∷ r) (in_back k e t (v ++ more) (58 ∷ r) whole) in
     let next = along_ready content o n.text (58 ∷ r) f.along g.begins inside refl in
-    let c = g.along _ k _ there f.along.adjacent inside f.along.low next in
+    let c = g.along _ k _ (moved (moved e t) v) f.along.adjacent inside f.along.low next in
     subst (λ (m : Marker). TokensAlong around start k qs (AreFronted p Is) m (58 ∷ r))
-    (colon_after_parts e front t v content n is)
-    (tokens_join (λ ts us h g. (ts, us, h, g, refl)) f c)
+    (colon_after_parts e front t v content n is) (tokens_join (λ ts us h g. (ts, us, h, g, refl)) f c)
 
 content_key : ReaderPromises → (around : Around) (p : Properties) (style : Style) (value front content : List ℕ)
     (n : Blanks) (r : List ℕ) → IsBeforeContent p around.indent front → ScalarReads around style value content n r

@@ -7,7 +7,7 @@ use Rattle.saphyr_input.specs.Places.{is_blank_or_break}
 use Rattle.saphyr_scalar.specs.declared.scalar.position.Marker.{Marker}
 use Rattle.saphyr_values.specs.declared.flow.Quote.{Quote}
 use Rattle.saphyr_values.specs.declared.flow.Quote.TheVariants.{Single, Double}
-use Rattle.saphyr_scalar.specs.Views.Cursor.{Cursor, ◌>>=◌, along}
+use Rattle.saphyr_scalar.specs.Views.Cursor.{Cursor, along}
 use Rattle.saphyr_values.specs.Flow.{mark, plain_value}
 use Rattle.saphyr_scalar.specs.Steps.Quoted.{mid_line}
 use Rattle.saphyr_scalar.specs.Steps.Plain.{is_in_word, comment_of}
@@ -16,11 +16,10 @@ use Rattle.saphyr_scalar.proofs.Given.{cursor_at}
 use Rattle.scalar_laws.specs.Spelling.Plain.{is_tabbed, past_white, EndsPlain, IsPlainText}
 use Rattle.saphyr_scanner.specs.declared.engine.level.Context.TheVariants as context
 use Rattle.saphyr_scanner.specs.Grammar.Tokens.{scalar_token, Kind}
-use Rattle.saphyr_scanner.specs.Steps.Gap.{GapEnd, end_of_gap}
 use Rattle.saphyr_scanner.specs.Steps.Queue.{Place}
 use Rattle.saphyr_scanner.specs.Steps.Core.{from_to, completed_step}
 use Rattle.saphyr_scanner.specs.Steps.Level.{Candidate, Level}
-use Rattle.saphyr_scanner.specs.Steps.Passing.{pass_gap, check_comment, behind_gap}
+use Rattle.saphyr_scanner.specs.Steps.Passing.{pass_gap, check_comment}
 use Rattle.saphyr_scanner.specs.Steps.Scalar.{goes_on_behind_quotes}
 use Rattle.saphyr_scanner.specs.Steps.State.{State}
 use Rattle.saphyr_scanner.specs.Grammar.Forest.{Style, Plain, SingleQuoted, DoubleQuoted, Literal, Folded}
@@ -109,10 +108,7 @@ right_behind_key : (column : ℕ) (m : Marker) (n : Blanks) → column ≤ m.col
 right_behind_key column m n right = (blanks_past column n.text n.are m right).right
 
 index_behind : (e : Marker) (t : List ℕ) (n : Blanks) (ad : ℕ) → ad ≤ e.index → ad ≤ (moved (moved e t) n.text).index
-index_behind e t n ad low =
-    let one = moved_index e t in
-    let two = moved_index (moved e t) n.text in
-    omega (arith, one, two, low)
+index_behind e t n ad low = grind (arith, moved_index, moved)
 
 -- where a part of a key ends before its colon
 abbrev pub colon_after : Marker → List ℕ → Blanks → Marker
@@ -132,8 +128,7 @@ ReadsScalar around style value t n r = ReadsKey around (λ ts. ts ≡ scalar_tok
 -- at the colon
 in_last : {around : Around} (k : Candidate) (e : Marker) (t : List ℕ) (n : Blanks) (r : List ℕ)
     → InKey around k e (t ++ n.text) (colon ∷ r) → InKey around k (colon_after e t n) [] (colon ∷ r)
-in_last k e t n r text =
-    in_back k (moved e t) n.text [] (58 ∷ r)
+in_last k e t n r text = in_back k (moved e t) n.text [] (58 ∷ r)
     (in_so k (moved e t) n.text (n.text ++ []) (58 ∷ r) (sym (append-nil n.text)) (in_back k e t n.text (58 ∷ r) text))
 
 -- a text that is read as a plain scalar
@@ -194,13 +189,7 @@ gap_to_colon : (around : Around) (d : Bool) (s : Cursor) (k : Candidate) (ad : �
     → s.rest ≡ colon ∷ r → s.mark ≡ m → pass_gap (core_at around d s context.Block (Some k) [] false ad)
     ≡ Ok (core_at around d (cursor_at (colon ∷ r) m s.blank_so_far) context.Block (Some k) [] false ad)
 unfolding pass_gap check_comment
-gap_to_colon around d s k ad m r is at_colon =
-    let low = reach around d in
-    let gapped = ap (λ (t : List ℕ). end_of_gap low s.mark s.blank_so_far false false t) is
-    ∙ ap (λ (n : Marker). end_of_gap low n s.blank_so_far false false (58 ∷ r)) at_colon
-    ∙ ink_gap low 58 r colon_ink m s.blank_so_far ∙ stop_here m s.blank_so_far false (58 ∷ r) in
-    ap (λ q. q >>= λ (p : GapEnd). check_comment (behind_gap (core_at around d s context.Block (Some k) [] false ad) p))
-    gapped
+gap_to_colon around d s k ad m r is at_colon = grind (arith, reach, ink_gap, colon_ink, stop_here, core_at)
 
 -- what comes after the closing quote, and the colon
 record KeyQuotes (around : Around) (start : Marker) (m : Marker) (n : Blanks) (r : List ℕ) : Type 0 where
@@ -258,8 +247,7 @@ quotes_along reads around quote value t n r h start k qs e ad text low ready =
     } in
     let first : slice_index (t ++ o) 0 ≡ mark quote = ap (λ (y : List ℕ). slice_index (y ++ o) 0) h.5 in
     let stepped = quoted_step reads around ready.deeper quote (length qs) e ready.blank value t o h clear
-    (no_quote n.text r n.are)
-    context.Block (Some k) [] false ad (slice_index (t ++ o) 0) first (behind_key refl refl)
+    (no_quote n.text r n.are) context.Block (Some k) [] false ad (slice_index (t ++ o) 0) first (behind_key refl refl)
     ∙ behind_step around ready.deeper e (style_of_quote quote) (encode_utf8_all value)
     (mid_line end o) context.Block (Some k) [] ad m (58 ∷ r) ends.ends g in
     let led = token_led around start k (t ++ o) e ad qs ready shut.mark kind (cursor_at (58 ∷ r) m shut.blank_so_far)
@@ -297,8 +285,7 @@ pub record ContentReads (around : Around) (Is : List Kind → Type 0) (content :
 
 -- how a scalar is
 abbrev pub ScalarReads : Around → Style → List ℕ → List ℕ → Blanks → List ℕ → Type 0
-ScalarReads around style value content n r =
-    ContentReads around (λ ts. ts ≡ scalar_token style value ∷ []) content n r
+ScalarReads around style value content n r = ContentReads around (λ ts. ts ≡ scalar_token style value ∷ []) content n r
 
 quotes_reads : ReaderPromises → (around : Around) (quote : Quote) (value t : List ℕ) (n : Blanks) (r : List ℕ)
     → IsQuoted quote around.indent value t → ScalarReads around (style_of_quote quote) value t n r

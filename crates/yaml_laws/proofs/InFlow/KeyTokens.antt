@@ -1,5 +1,5 @@
 -- The tokens of a key on one line at block level, one after the other.
-use Rattle.std.proofs.Common.{◌≡◌, ◌≢◌, ℕ, suc, ◌+◌, ◌≤◌, Bool, true, false, List, [], ◌∷◌, ◌++◌, length, slice_index, refl, sym, ap, ◌∙◌, arith, subst, append_assoc, inl, inr, encode_utf8_all}
+use Rattle.std.proofs.Common.{◌≡◌, ◌≢◌, ℕ, ◌+◌, ◌≤◌, Bool, true, false, List, [], ◌∷◌, ◌++◌, length, slice_index, refl, sym, ap, ◌∙◌, arith, subst, append_assoc, inl, inr, encode_utf8_all}
 use Rattle.std.specs.Prelude.{option_map, Option, Some, None}
 use Rattle.std.proofs.lemmas.List.{length-append}
 use Rattle.saphyr_input.specs.Classes.{is_blank, is_break}
@@ -50,29 +50,24 @@ pub record InKey (around : Around) (k : Candidate) (e : Marker) (q behind : List
 
 pub in_near : {around : Around} (k : Candidate) (e : Marker) (q behind : List ℕ) → InKey around k e q behind
     → IsNear k e
-in_near k e q behind h = let index = h.index in record { line = h.line; index = further (length q) index }
-  where
-    further : (n : ℕ) → e.index + n ≤ k.mark.index + 1024 → e.index ≤ k.mark.index + 1024
-    further n h = omega (arith, h)
+in_near k e q behind h = grind (arith)
 
 pub in_back : {around : Around} (k : Candidate) (e : Marker) (a b behind : List ℕ) → InKey around k e (a ++ b) behind
     → InKey around k (moved e a) b behind
 in_back {around} k e a b behind h =
     let front = front_on_line a b (a ++ b) refl h.on_line in
     let there : moved e a ≡ along e (length a) = moved_along e a front in
-    let count = length-append a b in
     let index = h.index in
     let below = h.below in
     let low = h.low in
-    let whole : length ((a ++ b) ++ behind) ≡ length a + length (b ++ behind) =
-    ap length (append_assoc a b behind) ∙ length-append a (b ++ behind) in
     record {
       line = ap (λ (m : Marker). m.line) there ∙ h.line;
-      index = rw there (nearer (length a) (length b) (length (a ++ b)) count index);
+      index = rw there (nearer (length a) (length b) (length (a ++ b)) (length-append a b) index);
       on_line = back_on_line a b (a ++ b) refl h.on_line;
       low = rw there (further (length a) low);
       clear = clear_back e a b behind h.clear;
-      below = rw there (within (length a) (length (b ++ behind)) (length ((a ++ b) ++ behind)) whole below);
+      below = rw there (within (length a) (length (b ++ behind)) (length ((a ++ b) ++ behind))
+          (ap length (append_assoc a b behind) ∙ length-append a (b ++ behind)) below);
     }
   where
     nearer : (p q n : ℕ) → n ≡ p + q → e.index + n ≤ k.mark.index + 1024 → e.index + p + q ≤ k.mark.index + 1024
@@ -87,20 +82,11 @@ in_back {around} k e a b behind h =
 -- after a token of a key is nothing left of its collection
 pub in_right : {around : Around} (k : Candidate) (e : Marker) (p b behind : List ℕ) → Begins p
     → InKey around k e (p ++ b) behind → around.indent ≤ (moved e p).col
-in_right {around} k e p b behind begins h =
-    let front = front_on_line p b (p ++ b) refl h.on_line in
-    let low = h.low in
-    rw (moved_along e p front, begins.is) (further (length begins.others) low)
-  where
-    further : (n : ℕ) → around.indent ≤ e.col + 1 → around.indent ≤ e.col + suc n
-    further n h = omega (arith, h)
+in_right {around} k e p b behind begins h = grind (arith, front_on_line, moved_along)
 
 pub in_limit : {around : Around} (k : Candidate) (e : Marker) (q behind : List ℕ) → InKey around k e q behind
     → e.index ≤ around.limit
-in_limit {around} k e q behind h = further (length (q ++ behind)) h.below
-  where
-    further : (n : ℕ) → e.index + n ≤ around.limit → e.index ≤ around.limit
-    further n h = omega (arith, h)
+in_limit {around} k e q behind h = grind arith
 
 pub in_so : {around : Around} (k : Candidate) (e : Marker) (p q behind : List ℕ) → p ≡ q → InKey around k e p behind
     → InKey around k e q behind
@@ -170,9 +156,7 @@ along_ready {around} {k = k} {m = m} p o b behind a begins h same =
     let near = in_near k m (p ++ b) behind h in
     rw front (rw a.mark at
     (later_ready around a.deeper a.there k a.adjacent (places_along a) a.white begins.first (begins.others ++ o)
-    (cc) a.are_white begins.ink a.right
-    (rw a.mark near)
-    (rw a.mark (rw front at token))))
+    (cc) a.are_white begins.ink a.right (rw a.mark near) (rw a.mark (rw front at token))))
 
 -- the tokens of a part of a key, and what comes after it
 pub record TokensAlong (around : Around) (start : State) (k : Candidate) (qs : List Place) (Is : List Kind → Type 0)
@@ -195,8 +179,7 @@ tokens_join f a b =
 
 -- How a text of Is is read in a key, before what ends a tag: its tokens are of Are. After it come blanks w.
 abbrev pub ReadsPart : Around → Candidate → (List ℕ → Type 0) → (List Kind → Type 0) → Type 0
-ReadsPart around k Is Are =
-    (start : State) (qs : List Place) (t b behind w y : List ℕ) (e : Marker) (ad : ℕ) → Is t
+ReadsPart around k Is Are = (start : State) (qs : List Place) (t b behind w y : List ℕ) (e : Marker) (ad : ℕ) → Is t
     → EndsTag false (b ++ behind) → InKey around k e (t ++ b) behind → b ++ behind ≡ w ++ y → AreIn is_blank w
     → ad ≤ e.index → Ready around start k (t ++ (b ++ behind)) e ad qs
     → TokensAlong around start k qs Are (moved (moved e t) w) y
@@ -220,7 +203,6 @@ ends_there {around} {start} {k} {qs} e p b behind w y ad kind begins h is are lo
     let end = moved e p in
     let inside = in_back k e p b behind h in
     let one = moved_index e p in
-    let two = moved_index end w in
     record {
       tokens = kind ∷ [];
       are = refl;
@@ -238,7 +220,7 @@ ends_there {around} {start} {k} {qs} e p b behind w y ad kind begins h is are lo
         leads = token_led around start k (p ++ (b ++ behind)) e ad qs r end kind (mid_line end (b ++ behind)) ad
             (λ d. d) stepped (in_near k end b behind inside) (in_limit k end b behind inside);
         are = refl;
-        low = omega (arith, one, two, low);
+        low = omega (arith, one, moved_index end w, low);
       };
     }
 
@@ -252,8 +234,7 @@ name_along reads around k token_of indicator name begins break first start qs t 
     let ends = tag_ends_name false o ends_tag in
     subst (λ (p : List ℕ). InKey around k e (p ++ b) behind → Ready around start k (p ++ o) e ad qs
     → TokensAlong around start k qs (λ ts. ts ≡ token_of (encode_utf8_all name) ∷ []) (moved (moved e p) w) y)
-    (sym e_is) (λ text r.
-    ends_there e (indicator ∷ name) b behind w y ad (token_of (encode_utf8_all name))
+    (sym e_is) (λ text r. ends_there e (indicator ∷ name) b behind w y ad (token_of (encode_utf8_all name))
     (starts indicator name (indicator ∷ name) refl first) text is are low r
     (begins (slice_index (name ++ o) 0) (length qs)
     (core_at around r.deeper (cursor_at (indicator ∷ (name ++ o)) e r.blank) context.Block (Some k) [] false ad)
@@ -329,13 +310,11 @@ two_along : ReaderPromises → (around : Around) (k : Candidate) (name : List �
     → ReadsPart around k (yaml.AreProperties (Some name) (Some tag) around.indent)
     (grammar.AreBoth (Some (anchor_token name)) (Some (tag_token tag)))
 two_along reads around k name tag start qs t b behind w y e ad (a, s, c, h, g, gapped, inl t_is) ends text is are low
-    r =
-    told_along (λ ts e. inl e)
+    r = told_along (λ ts e. inl e)
     (both_along (anchor_along reads around k name) (tag_along reads around k tag) (tag_begins tag) start qs t b behind w
     y e ad (a, s, c, h, gapped, g, t_is) ends text is are low r)
 two_along reads around k name tag start qs t b behind w y e ad (c, s, a, h, g, gapped, inr t_is) ends text is are low
-    r =
-    told_along (λ ts e. inr e)
+    r = told_along (λ ts e. inr e)
     (both_along (tag_along reads around k tag) (anchor_along reads around k name) (anchor_begins name) start qs t b
     behind w y e ad (a, s, c, g, gapped, h, t_is) ends text is are low r)
 

@@ -57,26 +57,14 @@ empty_lines_lower i j low (t ∷ ts) ((front, inr prefix, is), others) =
     ((front, inr (prefix_lowers i j low front prefix), is), empty_lines_lower i j low ts others)
 
 gap_lowers : (i j : ℕ) → j ≤ i → (t : List ℕ) → IsWordGap i t → IsWordGap j t
-gap_lowers i j low t (inl h) = inl h
-gap_lowers i j low t (inr (blanks, lines, front, are, (pieces, each, joins), prefix, is)) =
-    inr (
-      blanks,
-      lines,
-      front,
-      are,
-      (pieces, empty_lines_lower i j low pieces each, joins),
-      prefix_lowers i j low front
-          prefix,
-      is,
-    )
+gap_lowers i j h t k = grind (arith, empty_lines_lower, prefix_lowers)
 
 dashes_lower : (i j : ℕ) → j ≤ i → (t : List ℕ) → AreMany (IsLoneDash i) t → AreMany (IsLoneDash j) t
 dashes_lower i j low t (pieces, each, joins) = (pieces, by_pieces pieces each, joins)
   where
     by_pieces : (pieces : List (List ℕ)) → AreEach (IsLoneDash i) pieces → AreEach (IsLoneDash j) pieces
     by_pieces [] h = tt
-    by_pieces (p ∷ ps) ((gap, gapped, is), others) =
-        ((gap, gap_lowers i j low gap gapped, is), by_pieces ps others)
+    by_pieces (p ∷ ps) ((gap, gapped, is), others) = ((gap, gap_lowers i j low gap gapped, is), by_pieces ps others)
 
 words_lower : (i j : ℕ) → j ≤ i → (f : Bool) (pieces : List (List ℕ)) → AreEach (IsFurtherWord f i) pieces
     → AreEach (IsFurtherWord f j) pieces

@@ -1,19 +1,17 @@
 -- A quoted scalar ends right of a column that its lines reach.
-use Rattle.std.proofs.Common.{◌≡◌, ℕ, suc, ◌+◌, ◌≤◌, Bool, true, false, List, [], ◌∷◌, ◌++◌, drop, slice_index, refl, sym, ap, ◌∙◌, arith, subst, IsTrue, ◌⊎◌, inl, inr}
-use Rattle.std.specs.Prelude.{◌==◌, not, None}
-use Rattle.std.proofs.lemmas.Bool.{false≢true, or_parts, not-true}
-use Rattle.saphyr_input.proofs.Basics.Booleans.{and_true_left}
+use Rattle.std.proofs.Common.{◌≡◌, ℕ, suc, ◌+◌, ◌≤◌, Bool, true, false, List, [], ◌∷◌, ◌++◌, drop, slice_index, refl, ap, arith, IsTrue, ◌⊎◌, inl, inr}
+use Rattle.std.specs.Prelude.{◌==◌, not}
+use Rattle.std.proofs.lemmas.Bool.{false≢true}
 use Rattle.scalar_laws.proofs.Breaks.Sides.{no_feed}
 use Rattle.std.proofs.lemmas.Bool.Decides.{nat_tests}
-use Rattle.saphyr_input.specs.Classes.{is_break, is_hex, is_breakz, is_z, space, line_feed, carriage_return}
-use Rattle.saphyr_values.specs.Escapes.{digit_count}
+use Rattle.saphyr_input.specs.Classes.{is_break, is_hex, space, line_feed, carriage_return}
 use Rattle.saphyr_values.proofs.ItemsRead.{short_escape_no_feed}
 use Rattle.saphyr_scalar.specs.declared.scalar.position.Marker.{Marker}
 use Rattle.saphyr_values.specs.declared.folding.Item.{Item}
 use Rattle.saphyr_values.specs.declared.flow.Quote.{Quote}
 use Rattle.saphyr_values.specs.declared.flow.Quote.TheVariants.{Single, Double}
 use Rattle.saphyr_scalar.specs.Views.Cursor.{along, next_line}
-use Rattle.saphyr_values.specs.Flow.{mark, is_special, backslash, apostrophe}
+use Rattle.saphyr_values.specs.Flow.{mark, backslash, apostrophe}
 use Rattle.saphyr_scalar.specs.Spelling.OneLine.{IsNumber}
 use Rattle.saphyr_scalar.specs.Steps.Quoted.{break_len}
 use Rattle.saphyr_scalar.specs.Spelling.Quoted.{stands_for_itself, IsText, closed, itself, broken, two_quotes, escaped, numbered, escaped_break}
@@ -34,8 +32,7 @@ no_space c t e = rw e refl
 -- after a character that is no space and no break
 from_ink : (column : ℕ) (m : Marker) (c : ℕ) (t : List ℕ) → (c == space) ≡ false → is_break c ≡ false
     → Reaches column m (c ∷ t) → column ≤ m.col
-from_ink column m c t e f (inl h) = let none = no_space c t e in let n = space_count (c ∷ t) in omega (arith, none, h)
-from_ink column m c t e f (inr h) = absurd (false≢true (sym f ∙ rw (no_space c t e) at h))
+from_ink column m c t e f h = grind arith
 
 right_reaches : (column : ℕ) (m : Marker) (t : List ℕ) → column ≤ m.col → Reaches column m t
 right_reaches column m t h = inl (let n = space_count t in omega (arith, h))
@@ -46,12 +43,10 @@ on_space column m t (inl h) = inl (further (space_count t) h)
     further : (n : ℕ) → column ≤ m.col + (1 + n) → column ≤ m.col + 1 + n
     further n h = omega (arith, h)
 on_space column m t (inr h) =
-    let one : 1 + space_count t ≡ suc (space_count t) = omega arith in
-    inr (rw one at h)
+    let one : 1 + space_count t ≡ suc (space_count t) = omega arith in inr (rw one at h)
 
 itself_ink : (q : Quote) (c : ℕ) → IsTrue (stands_for_itself q c) → is_break c ≡ false
-itself_ink q c h = (or_parts (is_break c) (is_z c)
-    (not-true (is_breakz c) (and_true_left (not (is_breakz c)) (not (is_special q c)) h))).0
+itself_ink q c h = grind arith
 
 feed_first : (t : List ℕ) → IsTrue (is_break (slice_index t 0)) → AreIn (λ c. not (c == carriage_return)) t
     → (cs : List ℕ) × (t ≡ line_feed ∷ cs)
@@ -62,21 +57,10 @@ feed_first (c ∷ cs) h k = (cs, ap (λ (z : ℕ). z ∷ cs) (is_feed c h k.0))
     is_feed c h k = grind (arith, nat_tests)
 
 line_reaches : (column : ℕ) (m : Marker) (t : List ℕ) → m.col ≡ 0 → IsLine column t → Reaches column m t
-line_reaches column m t e h = by_line h.indented
-  where
-    by_line : (column ≤ space_count t) ⊎ IsTrue (is_break (slice_index (drop (space_count t) t) 0)) → Reaches column m t
-    by_line (inl k) = inl (let n = space_count t in omega (arith, e, k))
-    by_line (inr k) = inr k
+line_reaches column m t e h = grind (arith, drop)
 
 no_feed_letter : (e : ℕ) (ds : List ℕ) (c : ℕ) → IsNumber e c ds → (e == line_feed) ≡ false
-no_feed_letter e ds c h = by_test (e == line_feed) refl
-  where
-    feed : (e : ℕ) → (e == line_feed) ≡ true → e ≡ line_feed
-    feed e h = grind (arith, nat_tests)
-
-    by_test : (b : Bool) → (e == line_feed) ≡ b → (e == line_feed) ≡ false
-    by_test true k = let count = h.count in let none : digit_count e ≡ None = ap digit_count (feed e k) in absurd (cc)
-    by_test false k = k
+no_feed_letter e ds c h = grind arith
 
 hex_line : (ds : List ℕ) → AreIn is_hex ds → AreIn (λ c. not (c == line_feed)) ds
 hex_line [] h = tt
@@ -88,17 +72,12 @@ hex_line (d ∷ ds) h = (one d h.0, hex_line ds h.1)
 -- ## To the end of the text
 
 mark_ink : (q : Quote) → ((mark q == space) ≡ false) × (is_break (mark q) ≡ false)
-mark_ink Single = (refl, refl)
-mark_ink Double = (refl, refl)
+mark_ink q = grind arith
 
 over_feed : (m : Marker) (t : List ℕ) → (cs : List ℕ) × (t ≡ line_feed ∷ cs) → AreIn (λ c. not (c == carriage_return)) t
     → (moved m t ≡ moved (next_line m 1) (drop (break_len t) t))
     × AreIn (λ c. not (c == carriage_return)) (drop (break_len t) t)
-over_feed m t (cs, is) clean =
-    subst (λ (y : List ℕ). AreIn (λ c. not (c == carriage_return)) y
-    → (moved m y ≡ moved (next_line m 1) (drop (break_len y) y))
-    × AreIn (λ c. not (c == carriage_return)) (drop (break_len y) y)) (sym is)
-    (λ k. (refl, k.1)) clean
+over_feed m t (cs, is) clean = grind arith
 
 pub text_right : (column : ℕ) (q : Quote) (t : List ℕ) (items : List Item) (x : List ℕ) (spelled : IsText q t items x)
     → LinesFit column q t items x spelled → x ≡ [] → (m : Marker) → Reaches column m t
@@ -108,8 +87,7 @@ text_right column _ _ _ _ (closed q x h) fit e m reach clean =
     rw e (right_along column m (mark q ∷ []) (ap not (no_feed (mark q) ink.1), tt)
     (from_ink column m (mark q) x ink.0 ink.1 reach))
 text_right column _ _ _ _ (itself q c t items x h r) fit e m reach clean =
-    let ink = itself_ink q c h in
-    let same : moved m (c ∷ t) ≡ moved (along m 1) t = rw (no_feed c ink) refl in
+    let same : moved m (c ∷ t) ≡ moved (along m 1) t = rw (no_feed c (itself_ink q c h)) refl in
     rw same (text_right column q t items x r fit e (along m 1) (by_space (c == space) refl) clean.1)
   where
     is_space : (c : ℕ) → (c == space) ≡ true → c ≡ space
@@ -126,22 +104,18 @@ text_right column _ _ _ _ (broken q t items x h r) fit e m reach clean =
 text_right column _ _ _ _ (two_quotes t items x r) fit e m reach clean =
     let here = from_ink column m apostrophe (apostrophe ∷ t) refl refl reach in
     text_right column Single t items x r fit e (along (along m 1) 1)
-    (right_reaches column (along (along m 1) 1) t (le_next column (m.col + 1) (le_next column m.col here)))
-    clean.1.1
+    (right_reaches column (along (along m 1) 1) t (le_next column (m.col + 1) (le_next column m.col here))) clean.1.1
 text_right column _ _ _ _ (escaped d c t items x h r) fit e m reach clean =
     let here = from_ink column m backslash (d ∷ t) refl refl reach in
     let same : moved m (backslash ∷ d ∷ t) ≡ moved (along (along m 1) 1) t = rw (short_escape_no_feed d c h) refl in
     rw same (text_right column Double t items x r fit e (along (along m 1) 1)
-    (right_reaches column (along (along m 1) 1) t (le_next column (m.col + 1) (le_next column m.col here)))
-    clean.1.1)
+    (right_reaches column (along (along m 1) 1) t (le_next column (m.col + 1) (le_next column m.col here))) clean.1.1)
 text_right column _ _ _ _ (numbered d c ds t items x h r) fit e m reach clean =
     let here = from_ink column m backslash (d ∷ (ds ++ t)) refl refl reach in
     let front = backslash ∷ d ∷ ds in
-    let line : AreIn (λ c. not (c == line_feed)) front =
-    (refl, (ap not (no_feed_letter d ds c h), hex_line ds h.hex)) in
-    let there = right_along column m front line here in
-    rw (moved_append m front t)
-    (text_right column Double t items x r fit e (moved m front) (right_reaches column (moved m front) t there)
+    rw (moved_append m front t) (text_right column Double t items x r fit e (moved m front)
+    (right_reaches column (moved m front) t (right_along column m front
+    ((refl, (ap not (no_feed_letter d ds c h), hex_line ds h.hex))) here))
     (back_in (λ c. not (c == carriage_return)) ds t clean.1.1))
 text_right column _ _ _ _ (escaped_break t items x h r) fit e m reach clean =
     let n = along m 1 in

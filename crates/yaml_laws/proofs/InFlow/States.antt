@@ -1,6 +1,6 @@
 -- States of a scanner that reads a node in flow style, whatever block collections are open around it.
-use Rattle.std.proofs.Common.{◌≡◌, ◌⊎◌, inl, inr, ℕ, ◌+◌, ◌<◌, ◌≤◌, Bool, true, false, List, [], ◌∷◌, ◌++◌, length, Ok, refl, sym, ap, ◌∙◌, arith, cond, subst}
-use Rattle.std.specs.Prelude.{◌-◌, ◌||◌, ◌&&◌, ◌==◌, not, nat_lt, nat_le, Option, Some, None, if◌then◌else◌}
+use Rattle.std.proofs.Common.{◌≡◌, ◌⊎◌, ℕ, ◌<◌, ◌≤◌, Bool, true, false, List, [], ◌∷◌, ◌++◌, length, Ok, refl, ap, ◌∙◌, arith, cond}
+use Rattle.std.specs.Prelude.{◌-◌, ◌||◌, ◌&&◌, not, nat_lt, nat_le, Option, Some, None, if◌then◌else◌}
 use Rattle.std.proofs.lemmas.Bool.Decides.{nat_tests}
 use Rattle.saphyr_input.specs.declared.input.SkipTabs.{SkipTabs}
 use Rattle.saphyr_input.specs.declared.input.SkipTabs.TheVariants.{Yes}
@@ -10,9 +10,8 @@ use Rattle.saphyr_scanner.specs.declared.engine.level.Context.{Context}
 use Rattle.saphyr_scanner.specs.declared.engine.level.Context.TheVariants as context
 use Rattle.saphyr_scanner.specs.Grammar.Tokens.{Kind}
 use Rattle.saphyr_scanner.specs.Steps.Queue.{Place}
-use Rattle.saphyr_scanner.specs.Steps.Core.{Core, is_too_far, drop_far_key, save_key, go_deeper, from_to, up_to_here, completed_step}
+use Rattle.saphyr_scanner.specs.Steps.Core.{Core, is_too_far, drop_far_key, save_key, from_to, completed_step}
 use Rattle.saphyr_scanner.specs.Steps.Level.{Candidate, Level, is_block}
-use Rattle.saphyr_scanner.specs.Steps.Passing.{with_cursor}
 use Rattle.saphyr_scanner.specs.Steps.Flow as flow
 use Rattle.saphyr_scanner.specs.Steps.Flow.{open_collection, close_collection, allow_adjacent, behind_pair}
 use Rattle.saphyr_scanner.specs.Steps.State.{State, on_core}
@@ -22,8 +21,7 @@ use Rattle.saphyr_scanner.specs.Limits.{most_open}
 use Rattle.saphyr_scanner.proofs.Leads.{LeadsTo, stay, onward, leads_on}
 use Rattle.saphyr_scalar.proofs.Given.{cursor_at}
 use Rattle.std.proofs.lemmas.Bool.{le-leb}
-use Rattle.saphyr_input.proofs.Basics.Booleans.{and_false}
-use Rattle.saphyr_scanner.proofs.Levels.{saved, level_of, not_full}
+use Rattle.saphyr_scanner.proofs.Levels.{saved, level_of}
 use Rattle.saphyr_scanner.proofs.Queues.{queue_of}
 
 -- ## What stays as it is
@@ -129,18 +127,14 @@ least_low indent false = lower indent
     lower n = grind (arith, nat_tests)
 
 pub not_left : (indent col : ℕ) (d : Bool) → indent ≤ col → nat_lt col (least indent d) ≡ false
-not_left indent col d h = let low = least_low indent d in further col (least indent d) (omega (arith, low, h))
-  where
-    further : (a b : ℕ) → b ≤ a → nat_lt a b ≡ false
-    further a b h = grind (arith, nat_tests)
+not_left indent col d h = grind arith
 
 -- the column that content has to reach around a node, which is not right of the node's indentation
 abbrev pub reach : Around → Bool → ℕ
 reach around d = least around.column d
 
 pub reach_low : (around : Around) (d : Bool) → reach around d ≤ around.indent
-reach_low around d =
-    let first = least_low around.column d in let second = around.low in omega (arith, first, second)
+reach_low around d = grind arith
 
 pub in_column : (around : Around) (col : ℕ) → around.indent ≤ col → around.column ≤ col
 in_column around col h = let low = around.low in omega (arith, low, h)
@@ -159,10 +153,7 @@ runs_to_itself around s = record { run = λ d. record { deeper = d; leads = stay
 pub chains : {around : Around} {c b a : Bool → State} → RunsTo around b a → RunsTo around c b → RunsTo around c a
 chains f g = record {
   run = λ d. let r = f.run d in let q =
-      g.run r.deeper in record {
-        deeper = q.deeper;
-        leads = leads_on r.leads q.leads;
-      };
+      g.run r.deeper in record { deeper = q.deeper; leads = leads_on r.leads q.leads };
 }
 
 -- ## A key outside flow may be forgotten
@@ -181,8 +172,7 @@ drops_far_key around comment d s context.Block k ls a ad calm = by_distance (is_
     by_distance : (far : Bool) → is_too_far k s.mark ≡ far
         → drop_far_key (noted_core comment (core_at around d s context.Block k ls a ad))
         ≡ Ok (noted_core comment (core_at around d s context.Block (key_left context.Block k s.mark) ls a ad))
-    by_distance true h = rw (h, calm) refl
-    by_distance false h = rw h refl
+    by_distance far h = grind arith
 drops_far_key around comment d s context.FlowSequence k ls a ad calm = refl
 drops_far_key around comment d s context.FlowMapping k ls a ad calm = refl
 drops_far_key around comment d s context.FlowPair k ls a ad calm = refl
@@ -190,11 +180,7 @@ drops_far_key around comment d s context.ExplicitFlowPair k ls a ad calm = refl
 drops_far_key around comment d s context.MarkedFlowPair k ls a ad calm = refl
 
 pub left_or_none : (x : Context) (k : Option Candidate) (m : Marker) → (key_left x k m ≡ None) ⊎ (key_left x k m ≡ k)
-left_or_none x k m = by_distance (is_block x && is_too_far k m) refl
-  where
-    by_distance : (b : Bool) → (is_block x && is_too_far k m) ≡ b → (key_left x k m ≡ None) ⊎ (key_left x k m ≡ k)
-    by_distance true e = inl (rw e refl)
-    by_distance false e = inr (rw e refl)
+left_or_none x k m = grind (arith)
 
 pub left_in_flow : (x : Context) (k : Option Candidate) (m : Marker) → is_block x ≡ false → key_left x k m ≡ k
 left_in_flow x k m e = rw e refl
@@ -215,17 +201,15 @@ pub none_unrolls : (around : Around) (col : ℕ) (m : Marker) (s : Cursor) (x : 
 unfolding unroll
 none_unrolls around col m s context.Block k ls a ad ps d h =
     let right = in_column around col h in
-    let same : (d && nat_le around.column col) ≡ d =
-    still d (nat_le around.column col) (reaches around.column col right) in
-    rw same (no_ends col m around.outers (state_at around (moment s context.Block k ls a ad ps) d)
+    rw (still d (nat_le around.column col) (reaches around.column col right))
+    (no_ends col m around.outers (state_at around (moment s context.Block k ls a ad ps) d)
     (no_right around.column col right))
   where
     reaches : (a b : ℕ) → a ≤ b → nat_le a b ≡ true
     reaches a b h = grind (arith, nat_tests)
 
     still : (a b : Bool) → b ≡ true → (a && b) ≡ a
-    still true b e = e
-    still false b e = refl
+    still a b e = grind arith
 none_unrolls around col m s context.FlowSequence k ls a ad ps d h = refl
 none_unrolls around col m s context.FlowMapping k ls a ad ps d h = refl
 none_unrolls around col m s context.FlowPair k ls a ad ps d h = refl
@@ -261,8 +245,7 @@ comes around start comment next to going is low calm =
     }
   where
     there : Bool → State
-    there d = noted comment
-        (state_at around (record next { key = key_left next.context next.key next.cursor.mark }) d)
+    there d = noted comment (state_at around (record next { key = key_left next.context next.key next.cursor.mark }) d)
 
     one : (d : Bool) → Run around there (start d)
     one d =
@@ -278,10 +261,6 @@ comes around start comment next to going is low calm =
 
 -- ## Keys and brackets
 
-pub off_column : (indent col : ℕ) (d : Bool) → indent ≤ col → (not d && (indent == col + 1)) ≡ false
-off_column indent col true h = refl
-off_column indent col false h = grind (arith, nat_tests)
-
 -- What is known where a token begins: it is right of the block collections, and at block level no key is required,
 -- or it is no first token of a key, and is on a key's line.
 pub data Placed (around : Around) (x : Context) (a : Bool) (m : Marker) : Type 0 where
@@ -293,58 +272,26 @@ pub placed_right : {around : Around} {m : Marker} (x : Context) (a : Bool) → a
     → around.indent ≤ m.col → Placed around x a m
 placed_right x a calm h = right calm h
 
-saves_open : (n : ℕ) (around : Around) (d : Bool) (s : Cursor) (x : Context) (k : Option Candidate) (ls : List Level)
-    (a : Bool) (ad : ℕ) → (is_block x ≡ false) ⊎ ((around.pending ≡ false) × (around.indent ≤ s.mark.col))
-    → save_key n (core_at around d s x k ls a ad) ≡ core_at around d s x (saved a n s.mark k) ls a ad
-saves_open n around d s x k ls false ad h = refl
-saves_open n around d s context.Block k ls true ad (inl e) = absurd (cc)
-saves_open n around d s context.Block k ls true ad (inr (e, h)) =
-    rw (off_column around.column s.mark.col d (in_column around s.mark.col h), e) refl
-saves_open n around d s context.FlowSequence k ls true ad h = refl
-saves_open n around d s context.FlowMapping k ls true ad h = refl
-saves_open n around d s context.FlowPair k ls true ad h = refl
-saves_open n around d s context.ExplicitFlowPair k ls true ad h = refl
-saves_open n around d s context.MarkedFlowPair k ls true ad h = refl
-
 pub saves_key : (n : ℕ) (around : Around) (d : Bool) (s : Cursor) (x : Context) (k : Option Candidate) (ls : List Level)
     (a : Bool) (ad : ℕ) → Placed around x a s.mark
     → save_key n (core_at around d s x k ls a ad) ≡ core_at around d s x (saved a n s.mark k) ls a ad
-saves_key n around d s x k ls a ad (inside e h) = saves_open n around d s x k ls a ad (inl e)
-saves_key n around d s x k ls a ad (right e h) = saves_open n around d s x k ls a ad (inr (e, h))
-saves_key n around d s x k ls a ad (behind_key b e) =
-    subst (λ (q : Bool). save_key n (core_at around d s x k ls q ad)
-    ≡ core_at around d s x (saved q n s.mark k) ls q ad) (sym e) refl
+saves_key n around d s x k ls a ad h = grind arith
 
 -- a plain scalar inside flow is right of the block collections
 pub plain_placed : (around : Around) (x : Context) (a : Bool) (m : Marker) → Placed around x a m
     → (not (is_block x) && nat_lt m.col around.column) ≡ false
-plain_placed around x a m (inside e h) =
-    ap (λ (b : Bool). not (is_block x) && b) (not_left around.column m.col true (in_column around m.col h))
-    ∙ and_false (not (is_block x))
-plain_placed around x a m (right e h) =
-    ap (λ (b : Bool). not (is_block x) && b) (not_left around.column m.col true (in_column around m.col h))
-    ∙ and_false (not (is_block x))
-plain_placed around x a m (behind_key b e) = rw b refl
+plain_placed around x a m h = grind arith
 
 pub opening_steps_open : (y : Context) (kind : Kind) (n : ℕ) (around : Around) (d : Bool) (s : Cursor) (x : Context)
     (k : Option Candidate) (ls : List Level) (a : Bool) (ad : ℕ) → Placed around x a s.mark
     → flow.opening_steps y kind n (core_at around d s x k ls a ad)
     ≡ open_collection y kind (core_at around (deepened around x d) s x (saved a n s.mark k) ls a ad)
 unfolding flow.opening_steps
-opening_steps_open y kind n around d s x k ls a ad h =
-    ap (λ (c : Core). open_collection y kind (go_deeper c)) (saves_key n around d s x k ls a ad h)
+opening_steps_open y kind n around d s x k ls a ad h = grind arith
 
 -- what is required around a collection is so inside it
 abbrev pub Calm : Around → Context → Type 0
 Calm around x = is_block x ≡ true → around.pending ≡ around.required
-
-still_required : (around : Around) (x y : Context) → is_block y ≡ false → Calm around x
-    → required_at around x ≡ required_at around y
-still_required around x y e calm = by_context (is_block x) refl
-  where
-    by_context : (b : Bool) → is_block x ≡ b → required_at around x ≡ required_at around y
-    by_context true h = rw (h, e) (calm h)
-    by_context false h = rw (h, e) refl
 
 pub open_collection_gives : (y : Context) (kind : Kind) (ch : ℕ) (r : List ℕ) (m : Marker) (b : Bool) (around : Around)
     (d : Bool)
@@ -354,22 +301,7 @@ pub open_collection_gives : (y : Context) (kind : Kind) (ch : ℕ) (r : List ℕ
     → open_collection y kind (core_at around d (cursor_at (ch ∷ r) m b) x k ls a ad)
     ≡ completed_step (from_to m there.mark kind ∷ []) (core_at around d there y None (level_of x k ∷ ls) true ad)
 unfolding open_collection
-open_collection_gives y kind ch r m b around d x k ls a ad found there is low flows calm =
-    let c : Core = record (core_at around d (cursor_at r (along m 1) false) y None (level_of x k ∷ ls) true ad)
-    { required = required_at around x } in
-    rw (not_full (length ls) low)
-    (ap (λ q. (q >>= λ (e : SkipTabs × Cursor). Ok (e.0, with_cursor e.1 c)) >>= λ (e : SkipTabs × Core). completed_step
-    (up_to_here m kind e.1 ∷ []) e.1) is
-    ∙ ap (λ (q : Bool). completed_step (from_to m there.mark kind ∷ [])
-    (record (core_at around d there y None (level_of x k ∷ ls) true ad) { required = q }))
-    (still_required around x y flows calm))
-
-adjacent_by : (b : Bool) (around : Around) (d : Bool) (s : Cursor) (x : Context) (k : Option Candidate)
-    (ls : List Level) (ad : ℕ)
-    → cond b (core_at around d s x k ls false ad) (core_at around d s x k ls false s.mark.index)
-    ≡ core_at around d s x k ls false (cond b ad s.mark.index)
-adjacent_by true around d s x k ls ad = refl
-adjacent_by false around d s x k ls ad = refl
+open_collection_gives y kind ch r m b around d x k ls a ad found there is low flows calm = grind arith
 
 pub close_collection_gives : (ends : Bool) (kind : Kind) (ch : ℕ) (r : List ℕ) (m : Marker) (b : Bool) (around : Around)
     (d : Bool)
@@ -380,13 +312,4 @@ pub close_collection_gives : (ends : Bool) (kind : Kind) (ch : ℕ) (r : List �
     ≡ completed_step (behind_pair ends m (from_to m there.mark kind))
     (core_at around d there x j ls false (cond (is_block x) ad there.mark.index))
 unfolding close_collection
-close_collection_gives ends kind ch r m b around d y k j x ls a ad found there is flows calm =
-    let was = required_at around y in
-    let c : Core = record (core_at around d (cursor_at r (along m 1) false) x j ls false ad) { required = was } in
-    ap (λ q. (q >>= λ (e : SkipTabs × Cursor). Ok (e.0, with_cursor e.1 c)) >>= λ (e : SkipTabs × Core). completed_step
-    (behind_pair ends m (up_to_here m kind e.1)) (allow_adjacent e.1)) is
-    ∙ ap (λ (q : Bool). completed_step (behind_pair ends m (from_to m there.mark kind))
-    (allow_adjacent (record (core_at around d there x j ls false ad) { required = q })))
-    (sym (still_required around x y flows calm))
-    ∙ ap (completed_step (behind_pair ends m (from_to m there.mark kind)))
-    (adjacent_by (is_block x) around d there x j ls ad)
+close_collection_gives ends kind ch r m b around d y k j x ls a ad found there is flows calm = grind arith

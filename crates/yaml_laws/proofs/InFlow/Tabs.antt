@@ -1,59 +1,33 @@
 -- The tabs and breaks that a plain scalar's reader passes after a scalar, where a token or the text's end is reached.
-use Rattle.std.proofs.Common.{◌≡◌, ℕ, ◌+◌, ◌≤◌, Bool, true, false, List, [], ◌∷◌, drop, slice_index, refl, sym, ap, ◌∙◌, arith, IsTrue, ◌⊎◌, inl, inr}
+use Rattle.std.proofs.Common.{◌≡◌, ℕ, ◌+◌, ◌≤◌, Bool, true, false, List, [], ◌∷◌, drop, slice_index, refl, sym, ap, ◌∙◌, arith, ◌⊎◌, inl, inr}
 use Rattle.std.specs.Prelude.{◌||◌, ◌&&◌, ◌==◌, not, nat_lt, if◌then◌else◌}
 use Rattle.std.specs.List.{prefix_len}
 use Rattle.std.proofs.lemmas.Bool.Decides.{nat_tests}
-use Rattle.saphyr_input.specs.Indicators.{full_stop, hyphen}
 use Rattle.saphyr_input.specs.Classes.{is_blank, is_break, line_feed}
-use Rattle.saphyr_input.specs.Places.{is_blank_or_break, is_document_indicator}
+use Rattle.saphyr_input.specs.Places.{is_blank_or_break}
 use Rattle.saphyr_scalar.specs.declared.scalar.position.Marker.{Marker}
 use Rattle.saphyr_scalar.specs.Views.Cursor.{Cursor, along, next_line}
 use Rattle.saphyr_scalar.specs.Steps.Plain.{ends_line}
-use Rattle.saphyr_scalar.proofs.Given.{cursor_at}
 use Rattle.scalar_laws.specs.Spelling.Plain.{behind_blanks, reaches_tabbed, is_tabbed, stands_behind_tab, past_white}
 use Rattle.scalar_laws.proofs.Plain.Texts.{blanks_on}
 use Rattle.scalar_laws.proofs.Plain.White.{flag_on, tabbed_on, tabbed_stop, past_on, past_stop}
 use Rattle.yaml_laws.proofs.Flow.States.{is_filler_rest, past, EndsDocument, IsLeft}
-use Rattle.yaml_laws.proofs.Flow.Gaps.{is_return_at, is_white_at, stops_tab, stop_blank, tab_rest, no_rest, no_tab_before, no_tab_here}
+use Rattle.yaml_laws.proofs.Flow.Gaps.{is_return_at, is_white_at, stops_tab, stop_blank, no_rest, no_tab_before, no_tab_here}
 use Rattle.yaml_laws.proofs.Flow.GapWalks.{OverGap, over_gap}
 use Rattle.saphyr_input.proofs.Basics.Characters.{blank_no_break, return_breaks}
 use Rattle.saphyr_input.proofs.Basics.Booleans.{and_true_right, clash}
-use Rattle.yaml_laws.proofs.Flow.Inks.{bom_is}
 
 -- ## What is landed at is no blank
 
-starts_marker : (y : List ℕ) → IsTrue (is_document_indicator y) → is_blank (slice_index y 0) ≡ false
-starts_marker y h = by_first (slice_index y 0 == 45) (slice_index y 0 == 46) refl refl
-  where
-    dash : (c : ℕ) → (c == hyphen) ≡ true → is_blank c ≡ false
-    dash c e = grind (arith, nat_tests)
-
-    dot : (c : ℕ) → (c == full_stop) ≡ true → is_blank c ≡ false
-    dot c e = grind (arith, nat_tests)
-
-    neither : (p q : Bool) → slice_index y 0 == hyphen ≡ p → slice_index y 0 == full_stop ≡ q → p ≡ false → q ≡ false
-        → is_document_indicator y ≡ false
-    neither p q e f g h = rw (e ∙ g, f ∙ h) refl
-
-    by_first : (p q : Bool) → slice_index y 0 == hyphen ≡ p → slice_index y 0 == full_stop ≡ q
-        → is_blank (slice_index y 0) ≡ false
-    by_first true q e f = dash (slice_index y 0) e
-    by_first false true e f = dot (slice_index y 0) f
-    by_first false false e f = absurd (clash (is_document_indicator y) h (neither false false e f refl refl))
-
 pub lands_on_ink : (column : ℕ) (m : Marker) (y : List ℕ) → EndsDocument m y ⊎ IsLeft column m y
     → is_blank (slice_index y 0) ≡ false
-lands_on_ink column m y (inl (inl e)) = ap (λ (t : List ℕ). is_blank (slice_index t 0)) e
-lands_on_ink column m y (inl (inr (col, inl h))) = starts_marker y h
-lands_on_ink column m y (inl (inr (col, inr h))) = ap is_blank (bom_is (slice_index y 0) h)
-lands_on_ink column m y (inr h) = ap (λ (t : List ℕ). is_blank (slice_index t 0)) h.is ∙ h.blank
+lands_on_ink column m y h = grind (arith, nat_tests)
 
 -- ## After a tab in the indentation comes a comment or the text's end
 
 -- from a place on, where a tab comes before it only if no token is on the rest of the line
 abbrev Tabs : ℕ → Marker → Bool → List ℕ → Type 0
-Tabs column m tab t =
-    is_blank (slice_index (past column m t).1 0) ≡ false → (tab ≡ true → is_filler_rest t ≡ true)
+Tabs column m tab t = is_blank (slice_index (past column m t).1 0) ≡ false → (tab ≡ true → is_filler_rest t ≡ true)
     → (n : Marker) (b : Bool)
     → (reaches_tabbed column m.col tab t ≡ false) ⊎ (stands_behind_tab (past_white n b t).rest ≡ true)
 
@@ -63,53 +37,24 @@ record White (c : ℕ) (cs : List ℕ) : Type 0 where
   line : ends_line c cs ≡ false
 
 white_passes : (c : ℕ) (cs : List ℕ) → is_white_at c cs ≡ true → White c cs
-white_passes c cs h = by_blank (is_blank c) ((c == 13) && (slice_index cs 0 == 10)) refl refl h
-  where
-    by_blank : (p q : Bool) → is_blank c ≡ p → is_return_at c cs ≡ q → (p || q) ≡ true → White c cs
-    by_blank true q e f k = record { white = rw e refl; line = rw (blank_no_break c e) refl }
-    by_blank false true e f k =
-        let b = return_breaks c (slice_index cs 0 == 10) f in record { white = rw (e, b) refl; line = rw (b, f) refl }
-    by_blank false false e f k = absurd (cc)
+white_passes c cs h = grind (arith, is_return_at, blank_no_break, return_breaks)
 
 line_break_white : (c : ℕ) (cs : List ℕ) → is_white_at c cs ≡ false → is_break c ≡ true → (is_blank_or_break c ≡ true)
     × (ends_line c cs ≡ true)
-line_break_white c cs h e = by_return (is_blank c) ((c == 13) && (slice_index cs 0 == 10)) refl refl h
-  where
-    by_return : (p q : Bool) → is_blank c ≡ p → is_return_at c cs ≡ q → (p || q) ≡ false → (is_blank_or_break c ≡ true)
-        × (ends_line c cs ≡ true)
-    by_return true q f g k = absurd (cc)
-    by_return false true f g k = absurd (cc)
-    by_return false false f g k = (rw (f, e) refl, rw (e, g) refl)
+line_break_white c cs h e = grind arith
 
 other_white : (c : ℕ) (cs : List ℕ) → is_white_at c cs ≡ false → is_break c ≡ false → is_blank_or_break c ≡ false
-other_white c cs h e = by_blank (is_blank c) refl h
-  where
-    by_blank : (p : Bool) → is_blank c ≡ p → (p || is_return_at c cs) ≡ false → is_blank_or_break c ≡ false
-    by_blank true f k = absurd (cc)
-    by_blank false f k = rw (f, e) refl
+other_white c cs h e = grind arith
 
 -- the flag after a blank or a break stands for a tab that ends nothing
 flag_rest : (column : ℕ) (m : Marker) (c : ℕ) (cs : List ℕ) (tab : Bool) → stops_tab column m c cs ≡ false
     → is_white_at c cs ≡ true → (tab ≡ true → is_filler_rest (c ∷ cs) ≡ true) → flag_on column m.col tab c ≡ true
     → is_filler_rest cs ≡ true
-flag_rest column m c cs tab t e h k =
-    tab_rest column column m true c cs tab t (omega arith) e h
-    (either (c == 9) (nat_lt m.col column) tab
-    (and_true_right (is_blank c) (tab || ((c == 9) && nat_lt m.col column)) k))
-  where
-    either : (a b d : Bool) → (d || (a && b)) ≡ true → (((a && true) && b) || d) ≡ true
-    either true true d k = refl
-    either true false true k = refl
-    either true false false k = absurd (cc)
-    either false b true k = refl
-    either false b false k = absurd (cc)
+flag_rest column m c cs tab t e h k = grind arith
 
 -- no tab comes after a break
 no_flag : (column : ℕ) (m : Marker) (c : ℕ) (tab : Bool) → is_break c ≡ true → flag_on column m.col tab c ≡ false
-no_flag column m c tab e = rw (no_blank c e) refl
-  where
-    no_blank : (c : ℕ) → is_break c ≡ true → is_blank c ≡ false
-    no_blank c e = grind (arith, nat_tests)
+no_flag column m c tab e = grind arith
 
 -- what is known further on is known here
 from_on : {a b : Bool} {u v : Cursor} → a ≡ b → u ≡ v → (b ≡ false) ⊎ (stands_behind_tab v.rest ≡ true)
@@ -124,9 +69,7 @@ over_tabs column =
       tab = λ m c cs t tab h bare n b. absurd (clash (is_blank c) (stop_blank column m c cs t) (rw t at h));
       white = λ m c cs t e on tab h bare n b.
           let w = white_passes c cs e in
-          let step : reaches_tabbed column m.col tab (c ∷ cs)
-          ≡ reaches_tabbed column (m.col + 1) (flag_on column m.col tab c) cs =
-          tabbed_on column m.col tab c cs w.white
+          let step = tabbed_on column m.col tab c cs w.white
           ∙ ap (λ (p : Bool). reaches_tabbed column (if p then 0 else m.col + 1) (flag_on column m.col tab c) cs) w.line
           in
           from_on step (past_on n b c cs w.white)
@@ -134,16 +77,13 @@ over_tabs column =
           (if ends_line c cs then next_line n 1 else along n 1) (b || is_break c));
       break = λ m c cs t e f on tab h bare n b.
           let w = line_break_white c cs e f in
-          let step : reaches_tabbed column m.col tab (c ∷ cs) ≡ reaches_tabbed column 0 false cs =
-          tabbed_on column m.col tab c cs w.0
+          let step = tabbed_on column m.col tab c cs w.0
           ∙ ap (λ (p : Bool). reaches_tabbed column (if p then 0 else m.col + 1) (flag_on column m.col tab c) cs) w.1
           ∙ ap (λ (p : Bool). reaches_tabbed column 0 p cs) (no_flag column m c tab f) in
-          from_on step (past_on n b c cs w.0)
-          (on false (rw (t, e, f) at h) (no_tab_before (is_filler_rest cs))
+          from_on step (past_on n b c cs w.0) (on false (rw (t, e, f) at h) (no_tab_before (is_filler_rest cs))
           (if ends_line c cs then next_line n 1 else along n 1) (b || is_break c));
       sign = λ m c cs t e f g on tab h bare n b.
-          let still : past_white n b (c ∷ cs) ≡ cursor_at (c ∷ cs) n b =
-          past_stop n b (c ∷ cs) (other_white c cs e f) in
+          let still = past_stop n b (c ∷ cs) (other_white c cs e f) in
           inr (ap (λ (u : Cursor). stands_behind_tab u.rest) still ∙ rw g refl);
       token = λ m c cs t e f g tab h bare n b. inl (tabbed_stop column m.col tab (c ∷ cs) (other_white c cs e f)
           ∙ no_tab_here tab (is_filler_rest (c ∷ cs)) (no_rest c cs e f g) bare);
@@ -178,25 +118,21 @@ any_column column a b (c ∷ cs) h = by_white (is_blank_or_break c) refl
         (cut (is_break c) ((c == 13) && (slice_index cs 0 == 10)) f e))
       where
         cut : (x y : Bool) → x ≡ true → (x && not y) ≡ false → y ≡ true
-        cut true true f e = refl
-        cut true false f e = absurd (cc)
-        cut false y f e = absurd (cc)
+        cut x y f e = grind arith
 
     no_flag_at : (k : ℕ) → flag_on column k false c ≡ false
     no_flag_at k = rw h refl
 
     by_white : (w : Bool) → is_blank_or_break c ≡ w
         → reaches_tabbed column a false (c ∷ cs) ≡ reaches_tabbed column b false (c ∷ cs)
-    by_white true e =
-        tabbed_on column a false c cs e
+    by_white true e = tabbed_on column a false c cs e
         ∙ ap (λ (p : Bool). reaches_tabbed column (if ends_line c cs then 0 else a + 1) p cs) (no_flag_at a)
         ∙ by_line (ends_line c cs) refl (or_false_first (is_blank c) (is_break c) h e)
         ∙ sym (tabbed_on column b false c cs e
         ∙ ap (λ (p : Bool). reaches_tabbed column (if ends_line c cs then 0 else b + 1) p cs) (no_flag_at b))
       where
         or_false_first : (x y : Bool) → x ≡ false → (x || y) ≡ true → y ≡ true
-        or_false_first false y e f = f
-        or_false_first true y e f = absurd (cc)
+        or_false_first x y e f = grind arith
     by_white false e = tabbed_stop column a false (c ∷ cs) e ∙ sym (tabbed_stop column b false (c ∷ cs) e)
 
 behind_kind : (column : ℕ) (m : Marker) (c : ℕ) (cs : List ℕ) (is_tab blank : Bool) → stops_tab column m c cs ≡ is_tab
@@ -215,8 +151,7 @@ behind_kind column m c cs false true t e h n b on =
   where
     white : is_blank_or_break c ≡ true
     white = rw e refl
-behind_kind column m c cs false false t e h n b on =
-    from_on {u = past_white n b (c ∷ cs)} {v = past_white n b (c ∷ cs)}
+behind_kind column m c cs false false t e h n b on = from_on {u = past_white n b (c ∷ cs)} {v = past_white n b (c ∷ cs)}
     (ap (λ (k : ℕ). reaches_tabbed column 0 false (drop k (c ∷ cs))) none ∙ any_column column 0 m.col (c ∷ cs) e) refl
     (over_gap (over_tabs column) m (c ∷ cs) false h (no_tab_before (is_filler_rest (c ∷ cs))) n b)
   where
@@ -227,20 +162,17 @@ behind_kind column m c cs false false t e h n b on =
 pub tabs_behind : (column : ℕ) (m n : Marker) (b : Bool) (t : List ℕ) → is_blank (slice_index (past column m t).1 0)
     ≡ false → (is_tabbed column t ≡ false) ⊎ (stands_behind_tab (past_white n b t).rest ≡ true)
 tabs_behind column m n b [] h = inr refl
-tabs_behind column m n b (c ∷ cs) h =
-    behind_kind column m c cs (stops_tab column m c cs) (is_blank c) refl refl h n b
+tabs_behind column m n b (c ∷ cs) h = behind_kind column m c cs (stops_tab column m c cs) (is_blank c) refl refl h n b
     (tabs_behind column (along m 1) (if ends_line c cs then next_line n 1 else along n 1) (b || is_break c) cs)
 
 neither : (p q : Bool) → (p ≡ true → q ≡ true) → q ≡ false → p ≡ false
-neither true q more e = absurd (let f : false ≡ true = sym e ∙ more refl in cc)
-neither false q more e = refl
+neither p q more e = grind arith
 
 -- a column further left has no more tabs left of it
 fewer_tabbed : (low column : ℕ) → low ≤ column → (t : List ℕ) (col : ℕ) (p q : Bool) → (p ≡ true → q ≡ true)
     → reaches_tabbed column col q t ≡ false → reaches_tabbed low col p t ≡ false
 fewer_tabbed low column under [] col p q more h = neither p q more h
-fewer_tabbed low column under (c ∷ cs) col p q more h =
-    by_white (is_blank_or_break c) refl
+fewer_tabbed low column under (c ∷ cs) col p q more h = by_white (is_blank_or_break c) refl
     (fewer_tabbed low column under cs (if ends_line c cs then 0 else col + 1) (flag_on low col p c)
     (flag_on column col q c) (flags (is_blank c) p q (c == 9) (nat_lt col low) (nat_lt col column) more
     (further col low column under)))
@@ -250,20 +182,13 @@ fewer_tabbed low column under (c ∷ cs) col p q more h =
 
     flags : (b p q t x y : Bool) → (p ≡ true → q ≡ true) → (x ≡ true → y ≡ true) → (b && (p || (t && x))) ≡ true
         → (b && (q || (t && y))) ≡ true
-    flags false p q t x y f g e = absurd (cc)
-    flags true true q t x y f g e = rw (f refl) refl
-    flags true false true t x y f g e = refl
-    flags true false false true true y f g e = g refl
-    flags true false false true false y f g e = absurd (cc)
-    flags true false false false x y f g e = absurd (cc)
+    flags b p q t x y f g e = grind arith
 
     by_white : (b : Bool) → is_blank_or_break c ≡ b
         → (reaches_tabbed column (if ends_line c cs then 0 else col + 1) (flag_on column col q c) cs ≡ false
         → reaches_tabbed low (if ends_line c cs then 0 else col + 1) (flag_on low col p c) cs ≡ false)
         → reaches_tabbed low col p (c ∷ cs) ≡ false
-    by_white true e on = tabbed_on low col p c cs e ∙ on (sym (tabbed_on column col q c cs e) ∙ h)
-    by_white false e on =
-        tabbed_stop low col p (c ∷ cs) e ∙ neither p q more (sym (tabbed_stop column col q (c ∷ cs) e) ∙ h)
+    by_white b e on = grind arith
 
 pub tabs_behind_low : (low column : ℕ) → low ≤ column → (m n : Marker) (b : Bool) (t : List ℕ)
     → is_blank (slice_index (past column m t).1 0) ≡ false
@@ -288,8 +213,7 @@ still_blank m (c ∷ cs) =
     by_white : (b : Bool) → is_blank_or_break c ≡ b
         → (past_white (if ends_line c cs then next_line m 1 else along m 1) true cs).blank_so_far ≡ true
         → (past_white m true (c ∷ cs)).blank_so_far ≡ true
-    by_white true e on = rw e on
-    by_white false e on = rw e refl
+    by_white b e on = grind arith
 
 pub broke_or_right : (m : Marker) (t : List ℕ)
     → ((past_white m false t).blank_so_far ≡ true) ⊎ (m.col ≤ (past_white m false t).mark.col)

@@ -4,7 +4,7 @@ use Rattle.std.proofs.lemmas.Bool.Decides.{nat_tests}
 use Rattle.std.specs.Prelude.{◌||◌, ◌==◌, not}
 use Rattle.std.specs.Char.{encode_utf8}
 use Rattle.saphyr_input.specs.Indicators.{exclamation_mark, percent_sign}
-use Rattle.saphyr_input.specs.Classes.{line_feed, is_blank, is_digit, is_alpha, is_tag_char, is_uri_char, is_yaml_non_break, is_yaml_non_space, IsHex}
+use Rattle.saphyr_input.specs.Classes.{line_feed, is_blank, is_digit, is_alpha, is_tag_char, is_uri_char, is_yaml_non_space, IsHex}
 use Rattle.saphyr_scalar.specs.Spelling.Directive.{IsVersionDirective, IsTagDirective, IsReservedDirective, IsLineTail}
 use Rattle.saphyr_scalar.specs.Spelling.Tag.{AreIn, IsHandleText, IsPrefix, AreByteEscapes, IsCharacter, IsDecoded}
 use Rattle.saphyr_scanner.specs.Grammar.Forest.{Directive, Version, TagPrefix, Reserved}
@@ -64,37 +64,14 @@ prefix_line (c ∷ cs) t (first, more, is, others, e) =
     tag_line c h = grind (arith, nat_tests)
 
 handle_line : (t : List ℕ) → IsHandleText t → IsOneLine t
-handle_line t (inl e) = rw e (refl, tt)
-handle_line t (inr (word, are, e)) =
-    rw e (refl, both_lines word (codes "!") (set_on_line is_alpha alpha_line word are) (refl, tt))
+handle_line t h = grind (arith, both_lines, codes, set_on_line, alpha_line)
 
 tail_line : (t : List ℕ) → IsLineTail t → IsOneLine t
-tail_line t (blanks, comment, are, inl none, e) =
-    rw (e, none) (both_lines blanks [] (set_on_line is_blank blank_no_feed blanks are) tt)
-tail_line t (blanks, comment, are, inr (words, some, word_are, is), e) =
-    rw (e, is) (both_lines blanks (35 ∷ words) (set_on_line is_blank blank_no_feed blanks are)
-    (refl, set_on_line is_yaml_non_break non_break_no_feed words word_are))
+tail_line t h = grind (arith, both_lines, set_on_line, blank_no_feed, non_break_no_feed)
 
 version_line : (major minor : ℕ) (t : List ℕ) → IsVersionDirective major minor t → IsOneLine t
 version_line major minor t (gap, high, low, gap_is, high_is, low_is, e) =
-    rw e (
-      refl,
-      (
-        refl,
-        (
-          refl,
-          (
-            refl,
-            (
-              refl,
-              both_lines gap (high ++ (46 ∷ low)) (set_on_line is_blank blank_no_feed gap gap_is.1)
-                  (both_lines high (46 ∷ low) (set_on_line is_digit digit_line high high_is.2)
-                  (refl, set_on_line is_digit digit_line low low_is.2)),
-            ),
-          ),
-        ),
-      ),
-    )
+    grind (arith, both_lines, set_on_line, blank_no_feed, digit_line)
 
 tag_line : (handle prefix t : List ℕ) → IsTagDirective handle prefix t → IsOneLine t
 tag_line handle prefix t (first, second, written, first_are, second_are, handle_is, prefix_is, e) =
@@ -117,11 +94,7 @@ tag_line handle prefix t (first, second, written, first_are, second_are, handle_
 
 reserved_line : (name t : List ℕ) → IsReservedDirective name t → IsOneLine t
 reserved_line name t (more, some, no_version, no_tag, name_is, more_is, parts, e) =
-    rw e (
-      refl,
-      both_lines name more (set_on_line is_yaml_non_space ink_line name name_is)
-          (set_on_line is_yaml_non_break non_break_no_feed more more_is),
-    )
+    grind (arith, both_lines, set_on_line, ink_line, non_break_no_feed)
 
 -- a directive with the rest of its line
 pub record DirectiveLine (t : List ℕ) : Type 0 where

@@ -48,10 +48,8 @@ feed_last m c [] e = by_feed (c == line_feed) refl e
     by_feed : (b : Bool) → (c == line_feed) ≡ b → (moved m (c ∷ [])).col ≡ 0
         → (front : List ℕ) × (c ∷ [] ≡ front ++ (line_feed ∷ []))
     by_feed true k e = ([], ap (λ (x : ℕ). x ∷ []) (feed c k))
-    by_feed false k e = absurd
-        (let place : moved m (c ∷ []) ≡ along m 1 =
-        rw (moved, k) refl in let col : m.col + 1 ≡ 0 =
-        sym (ap (λ (n : Marker). n.col) place) ∙ e in omega (arith, col))
+    by_feed false k e = absurd (let place : moved m (c ∷ []) ≡ along m 1 =
+        rw (moved, k) refl in omega (arith, sym (ap (λ (n : Marker). n.col) place) ∙ e))
 feed_last m c (d ∷ ds) e = let r = feed_last (behind_character m c) d ds e in (c ∷ r.0, ap (λ (x : List ℕ). c ∷ x) r.1)
 
 pub node_marks : (at_start : Bool) (t o : List ℕ) → EndsWithLine t o → marks_line at_start t o ≡ has_marker at_start t
@@ -68,16 +66,12 @@ none_here (c ∷ cs) others e = absurd (cc)
 -- a bare document's text
 pub bare_clear : (m : Marker) (t others : List ℕ) → AtLine (t ++ others) m → HasNoReturn t → has_marker true t ≡ false
     → EndsWithLine t others → IsClear m t others
-bare_clear m t others (inl e) clean h ends =
-    record { no_return = clean; no_marker = cc (eq-eqb m.col 0 e, node_marks true t others ends) }
-bare_clear m t others (inr e) clean h ends =
-    record { no_return = clean; no_marker = cc (none_here t others e) }
+bare_clear m t others h k e g = grind (arith, eq-eqb, node_marks, none_here)
 
 -- the text after a `---`
 pub explicit_clear : (m : Marker) (t others : List ℕ) → OffLine m → HasNoReturn t → has_marker false t ≡ false
     → EndsWithLine t others → IsClear m t others
-explicit_clear m t others e clean h ends =
-    record { no_return = clean; no_marker = cc (node_marks false t others ends) }
+explicit_clear m t others e clean h ends = record { no_return = clean; no_marker = cc (node_marks false t others ends) }
 
 -- ## The node of a document
 
@@ -122,10 +116,9 @@ sum_within i l j k limit e h = omega (arith, e, h)
 
 pub reads_root : {limit : ℕ} {start : State} {P : Marker → Bool → Type 0} → ReadsLeaves limit → (place : Position)
     → indent_at place ≡ 0 → (node : Node) (t others : List ℕ) (ts : List Kind)
-    → IsBlockNode most_open node place t others
-    → ((m : Marker) → AtLine others m → Lands m others) → IsPlainBehind others
-    → (v : StandsInStream limit start true P (t ++ others) ts) → FitsOnLines limit v.mark t others
-    → IsPlaced place v.mark
+    → IsBlockNode most_open node place t others → ((m : Marker) → AtLine others m → Lands m others)
+    → IsPlainBehind others → (v : StandsInStream limit start true P (t ++ others) ts)
+    → FitsOnLines limit v.mark t others → IsPlaced place v.mark
     → ((is_compact place || crosses (t ++ others)) ≡ true → (crosses v.there.rest || v.allowed) ≡ true)
     → NodeStands limit start node place others ts
 reads_root {limit} {start} leaves place flat_place node t others ts h lands plain v fits placed opens =
@@ -162,12 +155,10 @@ reads_root {limit} {start} leaves place flat_place node t others ts h lands plai
     let ends = node_ends leaves node place t others h in
     let m = moved v.mark t in
     let line = lined m others (starts_behind v.mark t others ends) in
-    let behind : EndsNodeAt 0 m others =
-    record { left = inl (lands m line); clean = plain.clean } in
+    let behind : EndsNodeAt 0 m others = record { left = inl (lands m line); clean = plain.clean } in
     let r = reads_node leaves node place root (sym flat_place) v.mark t others h fits behind start ts before in
     let u = r.arrived.at in
     let p = past 0 m others in
-    let on = past_again 0 m others in
     record {
       tokens = r.tokens;
       are = r.are;
@@ -182,7 +173,7 @@ reads_root {limit} {start} leaves place flat_place node t others ts h lands plai
         none = λ e. absurd (unopened e);
         follows = goes_alike u.follows
             (flat p.0 p.1 u.blank u.key u.allowed u.adjacent u.deeper u.places u.stop u.near (lands m line)) refl;
-        fits = on;
+        fits = past_again 0 m others;
         line = (line, λ e. absurd (unopened e));
         count =
             sum_within m.index (length others) v.mark.index (length (t ++ others)) limit (moved_count v.mark t others)

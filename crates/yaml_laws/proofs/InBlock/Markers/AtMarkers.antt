@@ -71,8 +71,7 @@ YieldsEnd ds t = (others : List Kind) × YieldsAhead ds others × (t ≡ tokens.
 
 one_more : (ds : Forest) (k : Kind) (t : List Kind) → (k ≡ tokens.DocumentEnd) ⊎ (k ≡ tokens.ByteOrderMark)
     → YieldsAhead ds t → YieldsAhead ds (k ∷ t)
-one_more ds k t is (marks, others, are, told, e) =
-    (k ∷ marks, others, (is, are), told, ap (λ (x : List Kind). k ∷ x) e)
+one_more ds k t is (marks, others, are, told, e) = (k ∷ marks, others, (is, are), told, ap (λ (x : List Kind). k ∷ x) e)
 
 pub end_ahead : (ds : Forest) (t : List Kind) → YieldsEnd ds t → YieldsAhead ds t
 end_ahead ds t (others, ahead, e) = rw e (one_more ds tokens.DocumentEnd others (inl refl) ahead)
@@ -110,17 +109,14 @@ StartsHere limit start marker more r =
     (d : Document) (ds : Forest) (free now opened : Bool) (node others : List ℕ) (ts : List Kind)
     → IsTrue free ⊎ (d.directives ≡ []) → d.explicit ≡ true → AreCompatible d.directives
     → IsBlockNode most_open d.node BehindMarker node others → yaml.IsBehindDocument (AreBlockDocuments ds) others
-    → node ++ others ≡ r
-    → StandsLined limit start now opened (45 ∷ 45 ∷ 45 ∷ (r ++ more))
-    (ts ++ map directive_token d.directives)
-    → Closes limit start marker (grammar.YieldDocuments (d ∷ ds) free) ts
+    → node ++ others ≡ r → StandsLined limit start now opened (45 ∷ 45 ∷ 45 ∷ (r ++ more))
+    (ts ++ map directive_token d.directives) → Closes limit start marker (grammar.YieldDocuments (d ∷ ds) free) ts
 
 abbrev pub EndsHere : ℕ → State → DocumentMarker → List ℕ → List ℕ → Type 0
 EndsHere limit start marker more r =
     (ds : Forest) (free opened : Bool) (end prefix others : List ℕ) (ts : List Kind) → IsEol end (prefix ++ others)
     → IsDocumentPrefix prefix others → AreBlockDocuments ds true others → HasNoReturn others
-    → end ++ (prefix ++ others) ≡ r
-    → StandsLined limit start free opened (46 ∷ 46 ∷ 46 ∷ (r ++ more)) ts
+    → end ++ (prefix ++ others) ≡ r → StandsLined limit start free opened (46 ∷ 46 ∷ 46 ∷ (r ++ more)) ts
     → Closes limit start marker (YieldsEnd ds) ts
 
 abbrev pub Found : ℕ → State → DocumentMarker → List ℕ → DocumentMarker → List ℕ → Type 0
@@ -143,8 +139,7 @@ pub passes_end : {limit : ℕ} {start : State} {marker : DocumentMarker} {free o
     → ((us : List Kind) → StandsLined limit start true true (o ++ more) us
     → Closes limit start marker (YieldsAhead ds) us)
     → Closes limit start marker (YieldsEnd ds) ts
-passes_end ds end o more ts end_is fed v go =
-    closes_on ts (tokens.DocumentEnd ∷ []) (λ all told. (all, told, refl))
+passes_end ds end o more ts end_is fed v go = closes_on ts (tokens.DocumentEnd ∷ []) (λ all told. (all, told, refl))
     (go (ts ++ tokens.DocumentEnd ∷ []) (reads_end end (o ++ more) v (end_further more end o fed end_is)))
 
 -- after filler and a byte order mark

@@ -92,6 +92,5 @@ hands_end {limit = limit} end o v h =
     hands_token v refl (inr (col, inl (end_ends r first))) (cursor_at e.more n false)
     (piece_of v.mark (along v.mark 3) tokens.DocumentEnd)
     (λ blank key allowed ad ps. end_here v.mark n blank r e.more sep.0 key allowed ad ps col first sep.1
-    (break_ends e.more e.break))
-    (within_index 0 limit (cursor_at e.more n false) e.mark o (e.behind 0)
+    (break_ends e.more e.break)) (within_index 0 limit (cursor_at e.more n false) e.mark o (e.behind 0)
     (end_count v.mark e.mark r o limit v.count e.count))

@@ -44,16 +44,14 @@ none_behind : {limit : ℕ} → ReadsLeaves limit → (tail : List ℕ) → IsLi
     → (ds : Forest) (end prefix others : List ℕ) → IsEol end (prefix ++ others) → IsDocumentPrefix prefix others
     → AreBlockDocuments ds true others → end ++ (prefix ++ others) ≡ last_rest tail → ds ≡ []
 none_behind leaves tail tail_is ds end _ _ end_is (mark_prefix filler next others filler_is p) h text =
-    let stops = mark_prefix_stops filler next others filler_is in
     absurd (cons_not_empty 65279 (next ++ others)
     (one_stop (end ++ ((filler ++ (65279 ∷ next)) ++ others)) (last_rest tail) (65279 ∷ (next ++ others)) [] text
-    (end_stops end ((filler ++ (65279 ∷ next)) ++ others) (65279 ∷ (next ++ others)) end_is stops)
-    (rest_stops tail tail_is)))
+    (end_stops end ((filler ++ (65279 ∷ next)) ++ others) (65279 ∷ (next ++ others)) end_is
+    (mark_prefix_stops filler next others filler_is)) (rest_stops tail tail_is)))
 none_behind leaves tail tail_is ds end _ _ end_is (end_prefix filler own next others filler_is own_is p) h text =
     let prefix = filler ++ (46 ∷ 46 ∷ 46 ∷ (own ++ next)) in
     let at = 46 ∷ 46 ∷ (own ++ (next ++ others)) in
-    absurd (cons_not_empty 46 at
-    (one_stop (end ++ (prefix ++ others)) (last_rest tail) (46 ∷ at) [] text
+    absurd (cons_not_empty 46 at (one_stop (end ++ (prefix ++ others)) (last_rest tail) (46 ∷ at) [] text
     (end_stops end (prefix ++ others) (46 ∷ at) end_is (end_prefix_stops filler own next others filler_is))
     (rest_stops tail tail_is)))
 none_behind leaves tail tail_is ds end _ _ end_is (no_prefix others) h text =
@@ -61,8 +59,7 @@ none_behind leaves tail tail_is ds end _ _ end_is (no_prefix others) h text =
   where
     by_token : ((ds ≡ []) × IsLastFiller others) ⊎ HasToken others → ds ≡ []
     by_token (inl k) = k.0
-    by_token (inr k) =
-        absurd (cons_not_empty k.first k.others
+    by_token (inr k) = absurd (cons_not_empty k.first k.others
         (one_stop (end ++ others) (last_rest tail) (k.first ∷ k.others) [] text
         (end_stops end others (k.first ∷ k.others) end_is (token_stops others k)) (rest_stops tail tail_is)))
 

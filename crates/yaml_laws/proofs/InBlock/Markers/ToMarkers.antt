@@ -122,8 +122,7 @@ closes_document {limit = limit} {start = start} {marker = marker} readers leaves
         let left : node ++ others ≡ r = cc in
         let text : document ++ (others ++ more) ≡ directives ++ (45 ∷ 45 ∷ 45 ∷ (r ++ more)) =
         cc (text_of_document directives node (others ++ more), append_assoc node others more) in
-        let f = reads_front readers d free directives (r ++ more) ts may are
-        (lined_so text v) in
+        let f = reads_front readers d free directives (r ++ more) ts may are (lined_so text v) in
         found d ds free f.free f.opened node others ts may explicit compatible is behind left f.stands
 
     by_front : (front : List ℕ) → hyphen ∷ hyphen ∷ hyphen ∷ (node ++ others) ≡ front ++ (marker_text w ++ r)
@@ -220,10 +219,9 @@ ClosesDocuments limit start marker w r more ds =
 
 closes_unmarked : {limit : ℕ} {start : State} {marker : DocumentMarker} (w : DocumentMarker) (r more : List ℕ)
     → IsMarkerRest r → Found limit start marker more w r → (ds : Forest)
-    → ClosesDocuments limit start marker w r more ds
-    → (o : List ℕ) (ts : List Kind) → yaml.IsBehindMarks (AreBlockDocuments ds) o → HasNoReturn o
-    → StandsLined limit start false false (o ++ more) ts → Marked w r o
-    → Closes limit start marker (grammar.YieldsBehindDocument (grammar.YieldDocuments ds)) ts
+    → ClosesDocuments limit start marker w r more ds → (o : List ℕ) (ts : List Kind)
+    → yaml.IsBehindMarks (AreBlockDocuments ds) o → HasNoReturn o → StandsLined limit start false false (o ++ more) ts
+    → Marked w r o → Closes limit start marker (grammar.YieldsBehindDocument (grammar.YieldDocuments ds)) ts
 closes_unmarked w r more rest found ds go o ts (inl h) clean v line =
     closes_as (λ all told. ([], [], all, tt, inl (refl, told), refl)) (go false o ts h clean v line)
 closes_unmarked {limit = limit} {start = start} {marker = marker} w r more rest found ds go o ts
@@ -237,9 +235,8 @@ closes_unmarked {limit = limit} {start = start} {marker = marker} w r more rest 
 -- the marker comes after a document's byte order marks
 closes_marked : {limit : ℕ} {start : State} {marker : DocumentMarker} (w : DocumentMarker) (r more : List ℕ)
     → IsMarkerRest r → Found limit start marker more w r → (ds : Forest)
-    → ClosesDocuments limit start marker w r more ds
-    → (pieces : List (List ℕ)) (o : List ℕ) (ts : List Kind) → AreEach yaml.IsMarkBehindFiller pieces
-    → yaml.IsBehindMarks (AreBlockDocuments ds) o → HasNoReturn o
+    → ClosesDocuments limit start marker w r more ds → (pieces : List (List ℕ)) (o : List ℕ) (ts : List Kind)
+    → AreEach yaml.IsMarkBehindFiller pieces → yaml.IsBehindMarks (AreBlockDocuments ds) o → HasNoReturn o
     → StandsLined limit start false false ((joined_pieces pieces ++ o) ++ more) ts
     → Marked w r (joined_pieces pieces ++ o)
     → Closes limit start marker (grammar.YieldsBehindDocument (grammar.YieldDocuments ds)) ts
@@ -285,8 +282,7 @@ closes_documents {limit = limit} {start = start} readers leaves w r more rest fo
     (marker_is_indicator w r rest) in
     let text : t ++ more ≡ filler ++ (document ++ (others ++ more)) =
     cc (append_assoc filler (document ++ others) more, append_assoc document others more) in
-    let first = passes_filler filler (document ++ (others ++ more)) filler_is
-    (lined_so text v) in
+    let first = passes_filler filler (document ++ (others ++ more)) filler_is (lined_so text v) in
     let left = back_in _ filler (document ++ others) (rw e at clean) in
     closes_document readers leaves w r more rest found d ds free document others ts is behind
     (front_in _ document others left) first l
@@ -301,5 +297,4 @@ pub closes_stream : {limit : ℕ} {start : State} {marker : DocumentMarker} → 
     → StandsLined limit start true true ((prefix ++ others) ++ more) ts
     → HasLine (prefix ++ others) (marker_text w ++ r) → Closes limit start marker (YieldsAhead forest) ts
 closes_stream readers leaves w r more rest found forest prefix others ts prefix_is h clean v line =
-    closes_prefix w r more rest found forest (closes_documents readers leaves w r more rest found forest true) prefix
-    others ts prefix_is h clean v line
+    search (closes_prefix, closes_documents)
