@@ -6,8 +6,8 @@ use Rattle.saphyr_machine.specs.declared.recent.Name.{Name}
 abbrev pub text_of : List ℕ → Name → List ℕ
 text_of bytes n = slice_range bytes n.start (n.start + n.count)
 
-abbrev pub HasText : List ℕ → Name → Type 0
-HasText bytes n = (n.start + n.count ≤ length bytes) × ∥ IsUtf8 (text_of bytes n) ∥₁
+abbrev pub HasName : List ℕ → Name → Type 0
+HasName bytes n = (n.start + n.count ≤ length bytes) × ∥ IsUtf8 (text_of bytes n) ∥₁
 
 abbrev pub with_id : List ℕ → Name → List ℕ × ℕ
 with_id bytes n = (text_of bytes n, n.id)

@@ -4,7 +4,7 @@ ghost use Rattle.std.specs.Prelude.{◌≡◌, ◌∷◌, ◌++◌, ℕ, [], IfO
 ghost use Rattle.std.specs.List.{All};
 ghost use Rattle.std.specs.Option.{option_or};
 ghost use Rattle.saphyr_scanner.specs.Views.Places.{GrowsBehind};
-ghost use Rattle.saphyr_machine.specs.RecentNames.{HasText, text_of, with_id};
+ghost use Rattle.saphyr_machine.specs.RecentNames.{HasName, text_of, with_id};
 ghost use Rattle.saphyr_machine.specs.Steps.Machine as spec;
 
 use std::alloc::{AllocError, Global};
@@ -25,14 +25,14 @@ pub struct Name {
 pub struct Recent {
     bytes: Vec<u8>,
     names: Vec<Name>,
-    ghost have_texts: { All (HasText bytes.items) names.items },
+    ghost have_texts: { All (HasName bytes.items) names.items },
 }
 
 // Puts a name after the others.
 #[inline(always)]
 fn append(bytes: &mut Vec<u8>, name: &str, id: usize) -> Result<Name, AllocError>
     ensures grows { GrowsBehind bytes.old.items bytes.new.items }
-    ensures text { IfOk result (λ n. HasText bytes.new.items n) }
+    ensures text { IfOk result (λ n. HasName bytes.new.items n) }
     ensures name { IfOk result (λ n. with_id bytes.new.items n ≡ (name.now, id)) }
 {
     let start = bytes.len();
@@ -79,7 +79,7 @@ impl Recent {
 
     #[inline(always)]
     fn text(&self, name: Name) -> &str
-        requires { HasText self.now.bytes.items name }
+        requires { HasName self.now.bytes.items name }
         ensures { result.now ≡ text_of self.now.bytes.items name }
     {
         let bytes = &self.bytes[name.start..name.start + name.count];

@@ -83,7 +83,3 @@ saved false n m k = k
 -- a level, of what is open and the key there
 abbrev pub level_of : Context → Option Candidate → Level
 level_of x k = record { context = x; key = k }
-
--- one more may be opened
-pub not_full : (n : ℕ) → n < most_open → nat_le most_open n ≡ false
-not_full n h = grind (arith, nat_tests)

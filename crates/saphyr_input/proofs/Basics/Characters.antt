@@ -49,9 +49,6 @@ breakz_no_non_break c h = rw h refl
 pub no_return : (c : ℕ) → is_break c ≡ false → (c == carriage_return) ≡ false
 no_return c h = grind (arith, nat_tests)
 
-pub no_return_and : (c : ℕ) (b : Bool) → is_break c ≡ false → ((c == carriage_return) && b) ≡ false
-no_return_and c b h = ap (λ (p : Bool). p && b) (no_return c h)
-
 pub return_breaks : (c : ℕ) (b : Bool) → ((c == carriage_return) && b) ≡ true → is_break c ≡ true
 return_breaks c true h = grind (arith, nat_tests)
 return_breaks c false h = absurd (none (c == 13) h)

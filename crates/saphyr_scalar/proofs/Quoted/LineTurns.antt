@@ -58,19 +58,6 @@ few_over_spaces k most first here few spaces =
     ap (λ (s : Cursor). s.mark.index) spaces in
     omega (arith, few, on)
 
-pub few_at : (k most : ℕ) (first here there : Cursor) → k ≤ first.mark.index → here ≡ pass_spaces most first
-    → there ≡ here → k ≤ there.mark.index
-few_at k most first here there few spaces same =
-    subst (λ (s : Cursor). k ≤ s.mark.index) (sym same) (few_over_spaces k most first here few spaces)
-
--- a break that comes after them can be counted too
-pub few_in_text : (k most : ℕ) (first here there : Cursor) → k ≤ first.mark.index
-    → first.mark.index + length first.rest < 2 ^ 64 → here ≡ pass_spaces most first → there ≡ here
-    → is_break (slice_index here.rest 0) ≡ true → k + 1 < 2 ^ 64
-few_in_text k most first here there few fits spaces same breaks =
-    let some : 1 ≤ length here.rest = shows_character here.rest is_break true breaks (λ e. false≢true e) in
-    omega (arith, some, spaces_shorter most first here spaces)
-
 pub few_here : (k : ℕ) (s : Cursor) → k ≤ s.mark.index → s.mark.index + length s.rest < 2 ^ 64
     → is_break (slice_index s.rest 0) ≡ true → k + 1 < 2 ^ 64
 few_here k s few fits breaks =

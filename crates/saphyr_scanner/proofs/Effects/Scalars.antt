@@ -234,10 +234,6 @@ plain_start first second c f g n =
           ∙ no_literal (in_block c) (first == 124) (first == 62) n.literal n.folded b;
     }
 
-abbrev PlainRead : Bool → ℕ → Cursor → List ℕ → Marker → Cursor → Type 0
-PlainRead f indent s text end t =
-    (r : IsPlainReading f s text end t) × ArePlainLines f indent r.piece (r.white ++ t.rest)
-
 pub plain_does : (n : ℕ) (c : Core) → PlainStart (not (in_block c)) c.cursor
     → Walked (Premises c) (Doing (Some n) c) c.cursor (scalar.plain_steps n c)
 unfolding scalar.plain_steps scalar.read_plain

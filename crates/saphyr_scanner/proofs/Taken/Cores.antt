@@ -360,10 +360,6 @@ open_loud e outside opened from c q k b may near right is h =
 pub further_block : (column : ℕ) (c : Core) → is_further column c ≡ true → in_block c ≡ true
 further_block column c e = grind arith
 
--- outside flow no block collection begins
-pub no_further : (column : ℕ) (c : Core) → is_further column c ≡ false → in_block c ≡ true → column < c.indent
-no_further column c e b = grind arith
-
 pub further_right : (column : ℕ) (c : Core) → is_further column c ≡ true → c.indent ≤ column
 further_right column c e = grind arith
 

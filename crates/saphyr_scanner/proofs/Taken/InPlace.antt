@@ -483,8 +483,3 @@ opened_in_place opening.FlowMappingAndKey t back g e outside m f l q h k =
   where
     or_true : (b : Bool) → (b || true) ≡ true
     or_true b = grind (arith, nat_tests)
-
--- before the tokens inside a key no depth changes
-pub inside_opened : (d : ℕ) (o : Opening) (t : Piece) (back : List Piece) (e : ℕ) → AreInside (suc d) (t ∷ back) e
-    → AreInside (suc d) (place_pieces o t ++ back) e
-inside_opened d o t back e h = grind arith

@@ -52,10 +52,6 @@ differ a c l = grind (arith, nat_tests, l)
 pub even_index : (l a b k c d : ℕ) → Even l a b k c d → (d == b) ≡ (c == a)
 even_index l a b k c d x = grind arith
 
--- how far both indexes have come on one line
-pub even_far : (l a b k c d : ℕ) → Even l a b k c d → nat_lt l k ≡ false → nat_lt 1024 (d - b) ≡ nat_lt 1024 (c - a)
-even_far l a b k c d x e = grind arith
-
 -- ## Where a text goes on
 
 -- From s, and the index i in the normalized text, to t, and the index j there.

@@ -2,13 +2,13 @@
 use Rattle.std.proofs.Common.{◌∷◌, [], ◌++◌, ap, ◌∙◌}
 use Rattle.std.specs.Prelude.{map}
 use Rattle.std.proofs.lemmas.List.Elements.{All-same}
-use Rattle.saphyr_machine.specs.RecentNames.{HasText, with_id}
+use Rattle.saphyr_machine.specs.RecentNames.{HasName, with_id}
 use Rattle.saphyr_machine.proofs.RecentNames.{name_put, names_stay}
 use Rattle.saphyr_machine.proofs.recent.Recent.push.Goals as goal
 
 pub invariant_of-self : goal.invariant_of-self
 invariant_of-self c = record {
-  have_texts = All-same (HasText c.args.self.now.bytes.items) c.reserve.new.self.items
+  have_texts = All-same (HasName c.args.self.now.bytes.items) c.reserve.new.self.items
       c.args.self.now.names.items c.reserve.ensures.items c.args.self.now.have_texts;
 }
 
@@ -18,7 +18,7 @@ invariant_of-self-in-Break-branch-2 c =
     let stay = names_stay old.bytes.items c.append.new.bytes.items old.names.items c.append.ensures.grows
     old.have_texts in
     record {
-      have_texts = All-same (HasText c.append.new.bytes.items) c.reserve.new.self.items old.names.items
+      have_texts = All-same (HasName c.append.new.bytes.items) c.reserve.new.self.items old.names.items
           c.reserve.ensures.items stay.0;
     }
 
@@ -29,7 +29,7 @@ invariant_of-self-2 c =
     (c.args.name.now, c.args.id) c.append.ensures.grows old.have_texts
     c.in_ok-noted.ensures.text c.in_ok-noted.ensures.name in
     record {
-      have_texts = All-same (HasText c.append.new.bytes.items) c.push_reserved.new.self.items
+      have_texts = All-same (HasName c.append.new.bytes.items) c.push_reserved.new.self.items
           (old.names.items ++ c.in_ok-noted.noted ∷ [])
           (c.push_reserved.ensures.items ∙ ap (λ ns. ns ++ c.in_ok-noted.noted ∷ []) c.reserve.ensures.items)
           after.0;

@@ -2,7 +2,7 @@ use Rattle.std.proofs.Common.{ℕ, List, sym, subst}
 use Rattle.std.specs.Prelude.{map}
 use Rattle.std.specs.List.{All}
 use Rattle.saphyr_machine.specs.declared.recent.Name.{Name}
-use Rattle.saphyr_machine.specs.RecentNames.{HasText, with_id}
+use Rattle.saphyr_machine.specs.RecentNames.{HasName, with_id}
 use Rattle.saphyr_machine.proofs.RecentNames.{copied}
 use Rattle.saphyr_machine.proofs.recent.Recent.try_clone.Goals as goal
 
@@ -12,8 +12,8 @@ invariant_of-result c =
     let bytes = copied old.bytes.items c.in_ok-clone.field-0.items c.in_ok-clone.ensures.cases.0 in
     let names = copied old.names.items c.in_ok-clone-2.field-0.items c.in_ok-clone-2.ensures.cases.0 in
     record {
-      have_texts = subst (λ (bs : List ℕ). All (HasText bs) c.in_ok-clone-2.field-0.items) (sym bytes)
-          (subst (λ (ns : List Name). All (HasText old.bytes.items) ns) (sym names) old.have_texts);
+      have_texts = subst (λ (bs : List ℕ). All (HasName bs) c.in_ok-clone-2.field-0.items) (sym bytes)
+          (subst (λ (ns : List Name). All (HasName old.bytes.items) ns) (sym names) old.have_texts);
     }
 
 pub returns : goal.returns
