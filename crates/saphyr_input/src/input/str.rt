@@ -1,5 +1,5 @@
 //! A text as an input.
-ghost use Rattle.std.specs.Prelude.{◌≡◌, ◌≤◌, length, drop, take, string_bytes, IfOk, OnErr};
+ghost use Rattle.std.specs.Prelude.{◌≡◌, ◌≤◌, length, drop, take, max, string_bytes, IfOk, OnErr};
 ghost use Rattle.std.specs.Str.{chars};
 ghost use Rattle.saphyr_input.specs.Places as spec;
 
@@ -22,7 +22,8 @@ const WINDOW: usize = 128;
 
 /// The rest of a text, as an input.
 ///
-/// To load only counts places: the characters are read from the text itself.
+/// To load only counts places: the characters are read from the text itself. So no place is lost when characters are
+/// taken off, and the count never falls.
 #[derive(Clone, Copy, Debug)]
 pub struct StrInput<'a> {
     rest: &'a str,
@@ -48,6 +49,17 @@ impl<'a> StrInput<'a> {
         ensures { chars result.now ≡ ⟦<StrInput<'a> as Input>⟧.rest self.now }
     {
         self.rest
+    }
+
+    // Loads one place, unless one is loaded, as mostly: for speed nothing is written then.
+    #[inline(always)]
+    fn load_one(&mut self)
+        ensures rest { self.new.rest ≡ self.old.rest }
+        ensures loaded { self.new.loaded ≡ max 1 self.old.loaded }
+    {
+        if self.loaded == 0 {
+            self.loaded = 1;
+        }
     }
 
     // Moves the first `count` characters to the end of `out`, in one piece. `rest` is what follows them.
@@ -87,7 +99,9 @@ impl Input for StrInput<'_> {
     fn lookahead(&mut self, count: usize) {
         // There are fewer than 2^64 bytes, and no more characters than bytes.
         let _ = self.rest.as_bytes();
-        self.loaded = self.loaded.max(count);
+        if self.loaded < count {
+            self.loaded = count;
+        }
     }
 
     #[inline]
@@ -125,13 +139,11 @@ impl Input for StrInput<'_> {
     #[inline]
     fn skip(&mut self) {
         self.rest = split_first(self.rest).1;
-        self.loaded -= 1;
     }
 
     #[inline]
     fn skip_n(&mut self, count: usize) {
         self.rest = behind(self.rest, count);
-        self.loaded -= count;
     }
 
     #[inline]
@@ -198,8 +210,8 @@ impl Input for StrInput<'_> {
     fn skip_ws_to_eol(&mut self, skip_tabs: SkipTabs) -> (usize, Result<SkipTabs, &'static str>) {
         // There are fewer than 2^64 bytes, and no more characters than bytes.
         let _ = self.rest.as_bytes();
-        self.loaded = self.loaded.max(1);
         let (blanks, rest) = split_blanks(self.rest, skip_tabs);
+        self.load_one();
         let found = SkipTabs::Result(blanks.tabs, blanks.spaces);
         if first_byte(rest) != '#' {
             self.rest = rest;
@@ -273,7 +285,7 @@ impl Input for StrInput<'_> {
     }
 
     fn skip_while_non_breakz(&mut self) -> usize {
-        self.loaded = self.loaded.max(1);
+        self.load_one();
         let (count, rest) = run::<NonBreak>(self.rest);
         self.rest = rest;
         count
@@ -281,7 +293,7 @@ impl Input for StrInput<'_> {
 
     #[inline]
     fn skip_while_blank(&mut self) -> usize {
-        self.loaded = self.loaded.max(1);
+        self.load_one();
         let (count, rest) = ascii_run::<Blank>(self.rest);
         self.rest = rest;
         count
@@ -289,26 +301,26 @@ impl Input for StrInput<'_> {
 
     #[inline]
     fn fetch_while_is_alpha(&mut self, out: &mut String) -> Result<usize, AllocError> {
-        self.loaded = self.loaded.max(1);
+        self.load_one();
         let (count, rest) = ascii_run::<Alpha>(self.rest);
         self.fetch(count, rest, out)
     }
 
     fn fetch_while_is_yaml_non_space(&mut self, out: &mut String) -> Result<usize, AllocError> {
-        self.loaded = self.loaded.max(1);
+        self.load_one();
         let (count, rest) = run::<NonSpace>(self.rest);
         self.fetch(count, rest, out)
     }
 
     fn fetch_while<C: CharSet>(&mut self, out: &mut String) -> Result<usize, AllocError> {
-        self.loaded = self.loaded.max(1);
+        self.load_one();
         let (count, rest) = run_here::<C>(self.rest);
         self.fetch(count, rest, out)
     }
 
     #[inline(always)]
     fn fetch_words<C: SpacedSet>(&mut self, out: &mut String) -> Result<usize, AllocError> {
-        self.loaded = self.loaded.max(1);
+        self.load_one();
         let (count, rest) = words::<C>(self.rest);
         self.fetch(count, rest, out)
     }
