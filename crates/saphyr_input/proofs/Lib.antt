@@ -7,6 +7,7 @@ pub mod Separations
 pub mod Sets
 pub mod SkippedBlanks
 pub mod Texts
+pub mod WideChars
 pub mod WordRuns
 pub mod Ring
 pub mod AsciiLen

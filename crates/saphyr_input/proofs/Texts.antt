@@ -60,32 +60,19 @@ front_of bs rs n u v e =
 pub run_fits : (p : ℕ → Bool) (bs : List ℕ) → IsUtf8 bs → prefix_len p (chars bs) ≤ length bs
 run_fits p bs u = omega (arith, prefix_len-le-length p (chars bs), length-chars bs u)
 
--- n characters of a run were passed, then one more, and then k more
+-- n characters of a run were passed
 pub record Ran (p : ℕ → Bool) (start now : List ℕ) (n : ℕ) : Type 0 where
   pub run : n + prefix_len p now ≡ prefix_len p start
   pub behind : now ≡ drop n start
 
-pub ran_on : (p : ℕ → Bool) (start now next last : List ℕ) (n k : ℕ) → n + prefix_len p now ≡ prefix_len p start
-    → now ≡ drop n start
-    → prefix_len p now ≡ 1 + prefix_len p next → next ≡ drop 1 now → k + prefix_len p last ≡ prefix_len p next
-    → last ≡ drop k next → Ran p start last (n + (1 + k))
-ran_on p start now next last n k a b c d e f = record {
+-- n characters of a run were passed, then w, and then k
+pub ran_wide : (p : ℕ → Bool) (start now mid last : List ℕ) (n w k : ℕ) → n + prefix_len p now ≡ prefix_len p start
+    → now ≡ drop n start → w + prefix_len p mid ≡ prefix_len p now → mid ≡ drop w now
+    → k + prefix_len p last ≡ prefix_len p mid → last ≡ drop k mid → Ran p start last (n + (w + k))
+ran_wide p start now mid last n w k a b c d e f = record {
   run = omega (arith, a, c, e);
-  behind = f ∙ ap (drop k) d ∙ drop-drop k 1 now ∙ ap (drop (1 + k)) b ∙ drop-drop (1 + k) n start;
+  behind = f ∙ ap (drop k) d ∙ drop-drop k w now ∙ ap (drop (w + k)) b ∙ drop-drop (w + k) n start;
 }
-
--- n characters of a run were passed, then one more, then w, and then k
-pub ran_wide : (p : ℕ → Bool) (start now next mid last : List ℕ) (n w k : ℕ) → n + prefix_len p now ≡ prefix_len p start
-    → now ≡ drop n start → prefix_len p now ≡ 1 + prefix_len p next → next ≡ drop 1 now
-    → w + prefix_len p mid ≡ prefix_len p next → mid ≡ drop w next → k + prefix_len p last ≡ prefix_len p mid
-    → last ≡ drop k mid → Ran p start last (n + (1 + w + k))
-ran_wide p start now next mid last n w k a b c d e f g h =
-    let ran = ran_on p start now next last n (w + k) a b c d (omega (arith, e, g))
-    (h ∙ ap (drop k) f ∙ drop-drop k w next) in
-    record {
-      run = omega (arith, a, c, e, g);
-      behind = ran.behind ∙ ap (λ (m : ℕ). drop m start) (omega arith);
-    }
 
 -- n characters of a run were passed, and then one more
 pub ran_one : (p : ℕ → Bool) (start now next : List ℕ) (n : ℕ) → n + prefix_len p now ≡ prefix_len p start

@@ -1,4 +1,5 @@
 -- What is at the front of a text, told by its first bytes.
+use Rattle.std.specs.Char.{len_utf8}
 use Rattle.std.specs.Prelude.{◌≡◌, ℕ, ◌≤◌, Bool, true, false, ◌&&◌, ◌==◌, nat_lt, List, slice_index, encode_utf8, ◌⊎◌}
 use Rattle.saphyr_input.specs.Classes.{is_blank, is_blank_or_breakz, space}
 use Rattle.saphyr_input.specs.Places.{next_3_are}
@@ -27,3 +28,9 @@ is_passed_blank false c = c == space
 -- the UTF-8 of the character c begins with the byte b
 abbrev pub IsFirstByte : ℕ → ℕ → Type 0
 IsFirstByte b c = slice_index (encode_utf8 c) 0 ≡ b
+
+-- each character whose UTF-8 begins with the byte b, which is not ASCII, has n bytes and passes the test
+pub record IsSized (test : ℕ → Bool) (b n : ℕ) : Type 0 where
+  pub wide : 128 ≤ b
+  pub long : (c : ℕ) → IsFirstByte b c → n ≡ len_utf8 c
+  pub is : (c : ℕ) → IsFirstByte b c → test c ≡ true
