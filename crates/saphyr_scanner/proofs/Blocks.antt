@@ -1,12 +1,14 @@
 -- No block collection ends where the innermost does not, and where it does the others end as before.
-use Rattle.std.proofs.Common.{◌≡◌, ◌+◌, ◌<◌, ℕ, Bool, true, false, List, [], ◌∷◌, length, Option, Some, None, Result, Ok, refl, ◌∙◌, subst, arith, nat_lt}
+use Rattle.std.proofs.Common.{◌≡◌, ◌+◌, ◌<◌, ◌≤◌, ℕ, Bool, true, false, List, [], ◌∷◌, length, Option, Some, None, refl, sym, ◌∙◌, subst, arith, nat_lt}
 use Rattle.std.specs.Prelude.{if◌then◌else◌}
 use Rattle.std.proofs.lemmas.Bool.Decides.{nat_tests}
-use Rattle.saphyr_scalar.specs.declared.scalar.fault.Refusal.{Refusal}
 use Rattle.saphyr_scalar.specs.declared.scalar.position.Marker.{Marker}
-use Rattle.saphyr_scanner.specs.Steps.State.{State}
+use Rattle.saphyr_scanner.specs.Steps.Queue.{Queue}
+use Rattle.saphyr_scanner.specs.Steps.State.{State, with_core}
 use Rattle.saphyr_scanner.specs.Steps.Core.{Core, in_block}
 use Rattle.saphyr_scanner.specs.Steps.Unrolling.{end_blocks, end_block, is_right_of, with_outer_indent, go_less_deep, unroll}
+use Rattle.saphyr_scanner.specs.Views.Queue.{with_block_ends}
+use Rattle.saphyr_scanner.proofs.Rows.{next_end}
 use Rattle.saphyr_input.proofs.Basics.Booleans.{by_test}
 
 pub none_ends : (column : Option ℕ) (m : Marker) (is : List ℕ) (s : State) → is_right_of column s.core.indent ≡ false
@@ -19,22 +21,37 @@ one_less : (column : Option ℕ) (m : Marker) (is : List ℕ) (s : State) → is
     → end_blocks column m (end_block m s).core.outer_indents (end_block m s) ≡ end_blocks column m is s
 one_less column m is s right outer = grind arith
 
--- what a call gives that leaves this
-abbrev left : State → Result State Refusal
-left s = Ok s
+-- a state after so many block collections ended at a place
+abbrev pub with_ends : ℕ → Marker → State → State
+with_ends n m s = record { core = s.core; queue = with_block_ends n m s.queue }
 
--- the innermost block collection has ended, and the others end as before
-pub others_end : (column : Option ℕ) (m : Marker) (s t all : State) → is_right_of column s.core.indent ≡ true
-    → left (end_block m s) ≡ Ok t → end_blocks column m s.core.outer_indents s ≡ all
-    → end_blocks column m t.core.outer_indents t ≡ all
-others_end column m s t all right ended known =
-    let same : end_block m s ≡ t = cc in
-    subst (λ (u : State). end_blocks column m u.core.outer_indents u ≡ all) same
-    (one_less column m s.core.outer_indents s right refl ∙ known)
+-- a state with this queue
+abbrev pub holds : Core → Queue → State
+holds c q = record { core = c; queue = q }
+
+-- the innermost block collection is left, and its end not yet put into the queue
+abbrev pub left : State → State
+left s = with_core (with_outer_indent s.core.outer_indents s.core) s
+
+-- one more is left, and the others end as before
+pub others_end : (column : Option ℕ) (m : Marker) (n : ℕ) (s t all : State) → is_right_of column s.core.indent ≡ true
+    → t ≡ left s → end_blocks column m s.core.outer_indents (with_ends n m s) ≡ all
+    → end_blocks column m t.core.outer_indents (with_ends (n + 1) m t) ≡ all
+others_end column m n s t all right is known =
+    let same : with_ends (n + 1) m t ≡ end_block m (with_ends n m s) = rw (is, next_end n m s.queue) refl in
+    subst (λ (u : State). end_blocks column m u.core.outer_indents u ≡ all) (sym same)
+    (one_less column m s.core.outer_indents (with_ends n m s) right refl ∙ known)
 
 -- how many end at most
 abbrev pub most_ends : Option ℕ → State → ℕ
 most_ends column s = length s.core.outer_indents + (if is_right_of column s.core.indent then 1 else 0)
+
+-- they are one more at most than the indentations that are kept
+pub few_ends : (column : Option ℕ) (s : State) → most_ends column s ≤ length s.core.outer_indents + 1
+few_ends column s = at_most (is_right_of column s.core.indent)
+  where
+    at_most : (b : Bool) → length s.core.outer_indents + (if b then 1 else 0) ≤ length s.core.outer_indents + 1
+    at_most b = grind arith
 
 one_fewer : (column : Option ℕ) (m : Marker) (is : List ℕ) (s : State) → is_right_of column s.core.indent ≡ true
     → s.core.outer_indents ≡ is → most_ends column (end_block m s) < most_ends column s
@@ -46,12 +63,11 @@ one_fewer column m (i ∷ is) s right outer = rw (right, outer) (at_most_one (is
     at_most_one : (b : Bool) → length is + (if b then 1 else 0) < length (i ∷ is) + 1
     at_most_one b = grind arith
 
-pub fewer_end : (column : Option ℕ) (m : Marker) (s t : State) → is_right_of column s.core.indent ≡ true
-    → left (end_block m s) ≡ Ok t → most_ends column t < most_ends column s
-fewer_end column m s t right ended =
-    let same : end_block m s ≡ t = cc in
-    subst (λ (u : State). most_ends column u < most_ends column s) same
-    (one_fewer column m s.core.outer_indents s right refl)
+pub fewer_end : (column : Option ℕ) (s t : State) → is_right_of column s.core.indent ≡ true
+    → t ≡ left s → most_ends column t < most_ends column s
+fewer_end column s t right is =
+    subst (λ (u : State). most_ends column u < most_ends column s) (sym is)
+    (one_fewer column s.core.cursor.mark s.core.outer_indents s right refl)
 
 -- The text stays as it is.
 outer_indent_cursor : (is : List ℕ) (c : Core) → (with_outer_indent is c).cursor ≡ c.cursor

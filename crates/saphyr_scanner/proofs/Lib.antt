@@ -1,4 +1,5 @@
 pub mod Places
+pub mod Rows
 pub mod Queues
 pub mod Given
 pub mod Turns

@@ -65,12 +65,10 @@ with_opening_outside bytes n k o ps h =
     let same = length-map ps (place bytes) in
     outside k o (drop n (map (place bytes) ps)) (omega (arith, h, less, same))
 
-in_slot_append : (full : Bool) (p : Place) (ps qs : List Place)
+in_place_append : (full : Bool) (p : Place) (ps qs : List Place)
     → (if full then p ∷ (ps ++ qs) else (ps ++ qs)) ≡ (if full then p ∷ ps else ps) ++ qs
-in_slot_append true p ps qs = refl
-in_slot_append false p ps qs = refl
+in_place_append true p ps qs = refl
+in_place_append false p ps qs = refl
 
-pub behind_slots : (a b : Slot) (ps qs : List Place) → in_slot a (in_slot b (ps ++ qs)) ≡ in_slot a (in_slot b ps) ++ qs
-behind_slots a b ps qs =
-    ap (in_slot a) (in_slot_append b.is_full (slot_place b) ps qs)
-    ∙ in_slot_append a.is_full (slot_place a) (in_slot b ps) qs
+pub in_slot_append : (a : Slot) (ps qs : List Place) → in_slot a (ps ++ qs) ≡ in_slot a ps ++ qs
+in_slot_append a ps qs = in_place_append a.is_full (slot_place a) ps qs

@@ -4,6 +4,7 @@ mod cloning;
 mod held;
 mod near;
 mod place;
+mod row;
 mod slot;
 mod texts;
 
@@ -13,9 +14,10 @@ ghost use Rattle.saphyr_scanner.specs.Steps.Queue as spec;
 
 use crate::queue::held::Held;
 pub(crate) use crate::queue::place::Indicator;
+use crate::queue::row::Row;
 use crate::queue::slot::Slot;
 use crate::token::{Token, TokenType};
-use saphyr_scalar::{ScalarStyle, Span, Spare, Stop};
+use saphyr_scalar::{Marker, ScalarStyle, Span, Spare, Stop};
 use std::alloc::{AllocError, Global};
 
 /// What comes in front of a token: nothing, or the tokens that make it a key.
@@ -37,9 +39,10 @@ pub(crate) enum Opening {
 /// colon. The place of a token also says what makes it a key, so no token moves.
 #[derive(Drop)]
 pub(crate) struct Queue {
-    // The first two tokens of a queue that was empty. Mostly no more are held at once.
+    // The first two tokens of a queue that was empty. Mostly no more are held at once. The second may be the ends of many
+    // block collections.
     first: Slot,
-    second: Slot,
+    second: Row,
     // The tokens after them in the order of the text.
     held: Held,
     // How many places were handed out, which is the number of the first one here.
@@ -50,7 +53,7 @@ impl Queue {
     ghost use Rattle.saphyr_scalar.specs.Views.Reader.{Moves};
     ghost use Rattle.saphyr_scanner.specs.Views.Tokens.{piece};
     ghost use Rattle.saphyr_scanner.specs.Views.Places.{indicator_kind};
-    ghost use Rattle.saphyr_scanner.specs.Views.Queue.{queue, TakesOffBy};
+    ghost use Rattle.saphyr_scanner.specs.Views.Queue.{queue, with_block_ends, TakesOffBy};
     ghost use Rattle.std.specs.Prelude.{◌<◌};
 
     pub(crate) fn new(alloc: Global) -> Self
@@ -58,7 +61,7 @@ impl Queue {
     {
         Queue {
             first: Slot::new(),
-            second: Slot::new(),
+            second: Row::new(),
             held: Held::new(alloc),
             handed: 0,
         }
@@ -68,7 +71,7 @@ impl Queue {
     pub(crate) fn is_empty(&self) -> bool
         ensures { result ≡ spec.is_empty (queue self.now) }
     {
-        !self.first.is_full && !self.second.is_full && self.held.is_empty()
+        !self.first.is_full && self.second.count == 0 && self.held.is_empty()
     }
 
     /// The number of the first place.
@@ -79,20 +82,21 @@ impl Queue {
     }
 
     /// The number of the place that comes next.
+    #[tactic(auto, using(crate::proofs::Rows::row_length))]
     pub(crate) fn next(&self) -> Result<usize, Stop>
         ensures { Moves (λ n. n) result (Ok (spec.next (queue self.now))) }
     {
-        let slots = usize::from(self.first.is_full) + usize::from(self.second.is_full);
         self.held
             .len()
-            .checked_add(slots)
+            .checked_add(self.second.count)
+            .and_then(|count| count.checked_add(usize::from(self.first.is_full)))
             .and_then(|count| self.handed.checked_add(count))
             .ok_or(Stop::OutOfMemory)
     }
 
     /// Puts a token at the end.
     #[inline(always)]
-    #[tactic(auto, using(crate::proofs::Places::behind_slots))]
+    #[tactic(auto, using(crate::proofs::Rows::behind_slots))]
     pub(crate) fn put(
         &mut self,
         alloc: Global,
@@ -101,7 +105,7 @@ impl Queue {
     ) -> Result<(), AllocError>
         ensures { OnOk result (queue self.new ≡ spec.with_piece (piece token) (queue self.old)) }
     {
-        if self.second.is_full || !self.held.is_empty() {
+        if self.second.count > 0 || !self.held.is_empty() {
             return self.put_behind(alloc, token, spare);
         }
         if self.first.is_full {
@@ -114,7 +118,7 @@ impl Queue {
 
     // The same after tokens that are held.
     #[inline(never)]
-    #[tactic(auto, using(crate::proofs::Places::behind_slots))]
+    #[tactic(auto, using(crate::proofs::Rows::behind_slots))]
     fn put_behind(
         &mut self,
         alloc: Global,
@@ -130,7 +134,7 @@ impl Queue {
 
     /// Puts a scalar at the end. It is separate from `put` for speed: there is no need to distinguish kinds.
     #[inline(always)]
-    #[tactic(auto, using(crate::proofs::Places::behind_slots))]
+    #[tactic(auto, using(crate::proofs::Rows::behind_slots))]
     pub(crate) fn put_scalar(
         &mut self,
         alloc: Global,
@@ -143,7 +147,7 @@ impl Queue {
             (record { span = span; kind = tokens.Scalar style (string_bytes text) })
             (queue self.old)) }
     {
-        if self.second.is_full || !self.held.is_empty() {
+        if self.second.count > 0 || !self.held.is_empty() {
             return self.put_scalar_behind(alloc, &span, style, text, spare);
         }
         let kind = TokenType::Scalar(style, text);
@@ -158,7 +162,7 @@ impl Queue {
 
     // The same after tokens that are held.
     #[inline(never)]
-    #[tactic(auto, using(crate::proofs::Places::behind_slots))]
+    #[tactic(auto, using(crate::proofs::Rows::behind_slots))]
     fn put_scalar_behind(
         &mut self,
         alloc: Global,
@@ -177,7 +181,7 @@ impl Queue {
 
     /// Puts an indicator at the end.
     #[inline(always)]
-    #[tactic(auto, using(crate::proofs::Places::behind_slots))]
+    #[tactic(auto, using(crate::proofs::Rows::behind_slots))]
     pub(crate) fn put_indicator(
         &mut self,
         alloc: Global,
@@ -187,7 +191,7 @@ impl Queue {
         ensures { OnOk result (queue self.new ≡ spec.with_piece
             (record { span = span; kind = indicator_kind indicator }) (queue self.old)) }
     {
-        if self.second.is_full || !self.held.is_empty() {
+        if self.second.count > 0 || !self.held.is_empty() {
             return self.put_indicator_behind(alloc, &span, indicator);
         }
         let kind = indicator.kind();
@@ -202,7 +206,7 @@ impl Queue {
 
     // The same after tokens that are held.
     #[inline(never)]
-    #[tactic(auto, using(crate::proofs::Places::behind_slots))]
+    #[tactic(auto, using(crate::proofs::Rows::behind_slots))]
     fn put_indicator_behind(
         &mut self,
         alloc: Global,
@@ -215,26 +219,72 @@ impl Queue {
         self.held.put_indicator(alloc, span, indicator)
     }
 
+    /// Puts so many ends of block collections at the end, all at one place of the text.
+    #[inline(always)]
+    #[tactic(auto, using(crate::proofs::Rows::ends_behind, crate::proofs::Rows::no_row))]
+    pub(crate) fn put_block_ends(
+        &mut self,
+        alloc: Global,
+        mark: Marker,
+        count: usize,
+    ) -> Result<(), AllocError>
+        ensures { OnOk result (queue self.new ≡ with_block_ends count mark (queue self.old)) }
+    {
+        if count == 0 {
+            return Ok(());
+        }
+        if self.second.count > 0 || !self.held.is_empty() {
+            return self.put_block_ends_behind(alloc, mark, count);
+        }
+        if self.first.is_full {
+            self.second.put_ends(mark, count);
+            return Ok(());
+        }
+        let (span, kind) = (Span::empty(mark), TokenType::BlockEnd);
+        self.first.put(Token { span, kind });
+        if count > 1 {
+            self.second.put_ends(mark, count - 1);
+        }
+        Ok(())
+    }
+
+    // The same after tokens that are held.
+    #[inline(never)]
+    #[tactic(auto, using(crate::proofs::Rows::next_end))]
+    fn put_block_ends_behind(
+        &mut self,
+        alloc: Global,
+        mark: Marker,
+        count: usize,
+    ) -> Result<(), AllocError>
+        ensures { OnOk result (queue self.new ≡ with_block_ends count mark (queue self.old)) }
+    {
+        let span = Span::empty(mark);
+        for _done in 0..count {
+            self.put_indicator_behind(alloc, &span, Indicator::BlockEnd)?;
+        }
+        Ok(())
+    }
+
     /// Sets what comes in front of the token at a place.
-    pub(crate) fn set_opening(&mut self, number: usize, opening: Opening)
-        ensures { queue self.new ≡ spec.with_opening number opening (queue self.old) }
+    #[tactic(auto, using(crate::proofs::Rows::opened_behind_row))]
+    pub(crate) fn set_opening(&mut self, number: usize, opening: Opening) -> Result<(), AllocError>
+        ensures { OnOk result
+            (queue self.new ≡ spec.with_opening number opening (queue self.old)) }
     {
         let mut nth = number.saturating_sub(self.handed);
         if self.first.is_full {
             if nth == 0 {
                 self.first.opening = opening;
-                return;
+                return Ok(());
             }
             nth -= 1;
         }
-        if self.second.is_full {
-            if nth == 0 {
-                self.second.opening = opening;
-                return;
-            }
-            nth -= 1;
+        if nth < self.second.count {
+            return self.second.open(nth, opening);
         }
-        self.held.open(nth, opening);
+        self.held.open(nth - self.second.count, opening);
+        Ok(())
     }
 
     /// Takes the first token off, if there is one, and writes it into `token`.
@@ -247,7 +297,7 @@ impl Queue {
     ) -> Result<bool, Stop>
         ensures { TakesOffBy spec.take self.old result token.new self.new }
     {
-        if !self.first.is_full && !self.second.is_full {
+        if !self.first.is_full && self.second.count == 0 {
             return self.held.take_into(alloc, token, &mut self.handed, spare);
         }
         if self.handed == usize::MAX {

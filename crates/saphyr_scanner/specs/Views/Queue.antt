@@ -1,14 +1,18 @@
 -- What contracts see of the queue.
-use Rattle.std.specs.Prelude.{drop, map, if◌then◌else◌, List, ◌∷◌, ℕ, Bool, Option, option_map, Result, Ok}
+use Rattle.std.specs.Prelude.{drop, map, if◌then◌else◌, List, ◌∷◌, ℕ, zero, suc, Bool, Option, option_map, Result, Ok}
 use Rattle.saphyr_scalar.specs.declared.scalar.fault.Stop.{Stop}
+use Rattle.saphyr_scalar.specs.declared.scalar.position.Marker.{Marker}
 use Rattle.saphyr_scanner.specs.declared.queue.held.Held.{Held}
 use Rattle.saphyr_scanner.specs.declared.queue.Queue as declared_queue
+use Rattle.saphyr_scanner.specs.declared.queue.Opening.{Opening}
+use Rattle.saphyr_scanner.specs.declared.queue.row.Row.{Row}
 use Rattle.saphyr_scanner.specs.declared.queue.slot.Slot.{Slot}
 use Rattle.saphyr_scanner.specs.declared.token.Token.{Token}
 use Rattle.saphyr_scalar.specs.Views.Reader.{Moves}
 use Rattle.saphyr_scanner.specs.Views.Places.{place}
 use Rattle.saphyr_scanner.specs.Views.Tokens.{Piece, piece, written_token}
-use Rattle.saphyr_scanner.specs.Steps.Queue.{Place, Queue}
+use Rattle.saphyr_scanner.specs.Grammar.Tokens.{BlockEnd}
+use Rattle.saphyr_scanner.specs.Steps.Queue.{Place, Queue, bare_place, empty_piece, with_piece}
 
 abbrev pub slot_place : Slot → Place
 slot_place s = record { opening = s.opening; piece = piece s.token }
@@ -17,12 +21,31 @@ slot_place s = record { opening = s.opening; piece = piece s.token }
 abbrev pub in_slot : Slot → List Place → List Place
 in_slot s ps = if s.is_full then slot_place s ∷ ps else ps
 
+-- so many tokens with nothing in front of them, and the places after them
+abbrev pub bare_places : ℕ → Piece → List Place → List Place
+bare_places zero t ps = ps
+bare_places (suc n) t ps = bare_place t ∷ bare_places n t ps
+
+-- the same, with this in front of the first of them
+abbrev pub row_places : ℕ → Opening → Piece → List Place → List Place
+row_places zero o t ps = ps
+row_places (suc n) o t ps = record { opening = o; piece = t } ∷ bare_places n t ps
+
+-- the places in a row, and those after it
+abbrev pub in_row : Row → List Place → List Place
+in_row r ps = row_places r.count r.opening (piece r.token) ps
+
 -- the places that are held, over their texts: those that were handed out are left out
 unfoldable pub held_places : Held → List Place
 held_places h = drop h.spent (map (place h.texts.bytes.items) h.places.items)
 
 abbrev pub queue : declared_queue.Queue → Queue
-queue q = record { places = in_slot q.first (in_slot q.second (held_places q.held)); handed = q.handed }
+queue q = record { places = in_slot q.first (in_row q.second (held_places q.held)); handed = q.handed }
+
+-- the queue after so many block collections ended at a place
+abbrev pub with_block_ends : ℕ → Marker → Queue → Queue
+with_block_ends zero m q = q
+with_block_ends (suc n) m q = with_piece (empty_piece m BlockEnd) (with_block_ends n m q)
 
 -- the queue of the places that are held alone
 abbrev pub held_queue : Held → ℕ → Queue

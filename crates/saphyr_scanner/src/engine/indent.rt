@@ -6,7 +6,6 @@ ghost use Rattle.saphyr_scanner.specs.Steps.Unrolling as unrolling;
 ghost use Rattle.saphyr_scanner.specs.Steps.State as spec_state;
 
 use crate::engine::Engine;
-use crate::queue::Indicator;
 use saphyr_input::input::Input;
 use saphyr_scalar::{Marker, Stop};
 
@@ -57,18 +56,18 @@ impl<T: Input> Engine<T> {
         Ok(())
     }
 
-    // The innermost block collection ends at a place.
+    // The innermost block collection is left. Its end is put into the queue with those of others.
     #[inline(always)]
     #[tactic(auto, using(crate::proofs::Stacks::top_off))]
-    fn end_block(&mut self, mark: Marker) -> Result<(), Stop>
-        ensures { MovesBy (λ s. Ok (unrolling.end_block mark s)) self.old result self.new }
+    fn leave_block(&mut self)
+        ensures { state self.new ≡ spec_state.with_core
+            (unrolling.with_outer_indent (state self.old).core.outer_indents (state self.old).core)
+            (state self.old) }
     {
-        self.put_empty_indicator(mark, Indicator::BlockEnd)?;
         self.indent = match self.outer_indents.pop() {
             Some(indent) => indent,
             None => 0,
         };
-        Ok(())
     }
 
     // Whether the innermost block collection is to the right of a column. For `None` each one is.
@@ -103,9 +102,12 @@ impl<T: Input> Engine<T> {
             return Ok(());
         }
         self.go_less_deep(column);
+        let mut count = 0;
         while self.is_right_of(column) {
-            self.end_block(mark)?;
+            self.leave_block();
+            count += 1;
         }
+        self.queue.put_block_ends(self.alloc, mark, count)?;
         Ok(())
     }
 }

@@ -82,7 +82,7 @@ impl<T: Input> Engine<T> {
         } else {
             Opening::Key
         };
-        self.queue.set_opening(key.place, opening);
+        self.queue.set_opening(key.place, opening)?;
         self.roll(key.mark.col)?;
         self.go_deeper();
         self.forget_key();

@@ -1,0 +1,150 @@
+//! A place for a token that is held only briefly, or for the ends of several block collections.
+
+ghost use Rattle.std.specs.Prelude.{◌≡◌, ◌+◌, ◌<◌, ◌^◌, [], ◌∷◌, List, Some, IfOk, OnOk};
+ghost use Rattle.saphyr_scanner.specs.Grammar.Tokens as tokens;
+ghost use Rattle.saphyr_scanner.specs.Steps.Queue as spec;
+ghost use Rattle.saphyr_scanner.specs.Views.Tokens.{kind_of};
+
+use crate::queue::Opening;
+use crate::token::{Token, TokenType};
+use saphyr_scalar::{Marker, Span};
+use std::alloc::AllocError;
+use std::mem::{forget, replace};
+
+/// A place for a token, or for the ends of all block collections that end at one place of the text.
+///
+/// These tokens are all the same, so only their number is kept. One line can end thousands.
+#[derive(Drop)]
+pub(super) struct Row {
+    // How many tokens are here. They are more than one only if each of them is the end of a block collection.
+    pub(super) count: usize,
+    // The token, or one that was handed out.
+    token: Token,
+    // What is handed out before the first of them.
+    opening: Opening,
+    ghost are_ends: { 1 < count → kind_of token.kind ≡ tokens.BlockEnd },
+}
+
+impl Row {
+    ghost use Rattle.saphyr_scanner.specs.declared.queue.Opening.TheVariants as opening;
+    ghost use Rattle.saphyr_scanner.specs.Views.Queue.{bare_places, in_row};
+    ghost use Rattle.saphyr_scanner.specs.Views.Tokens.{piece};
+
+    pub(super) fn new() -> Self
+        ensures { result.count ≡ 0 }
+    {
+        Row {
+            count: 0,
+            token: Token::at_start(),
+            opening: Opening::Nothing,
+        }
+    }
+
+    // Writes a token, which stands for so many, over what was here. That was taken.
+    #[inline(always)]
+    #[tactic(auto, using(crate::proofs::Rows::bare_row))]
+    fn write(&mut self, token: Token, count: usize)
+        requires { 1 < count → kind_of token.kind ≡ tokens.BlockEnd }
+        ensures { (behind : List spec.Place)
+            → in_row self.new behind ≡ bare_places count (piece token) behind }
+    {
+        self.token.span = token.span;
+        // For speed there is no code to drop what was here.
+        forget(replace(&mut self.token.kind, token.kind));
+        self.opening = Opening::Nothing;
+        self.count = count;
+    }
+
+    /// Puts a token here.
+    #[inline(always)]
+    pub(super) fn put(&mut self, token: Token)
+        ensures { (behind : List spec.Place)
+            → in_row self.new behind ≡ spec.bare_place (piece token) ∷ behind }
+    {
+        self.write(token, 1);
+    }
+
+    /// Puts so many ends of block collections here, all at one place of the text.
+    #[inline(always)]
+    pub(super) fn put_ends(&mut self, mark: Marker, count: usize)
+        ensures { (behind : List spec.Place) → in_row self.new behind
+            ≡ bare_places count (spec.empty_piece mark tokens.BlockEnd) behind }
+    {
+        let token = Token {
+            span: Span::empty(mark),
+            kind: TokenType::BlockEnd,
+        };
+        self.write(token, count);
+    }
+
+    /// Sets what comes in front of the nth of the tokens here. It is the only one, since no end of a block collection
+    /// becomes a key. To put something between such ends would take memory, so that call fails.
+    pub(super) fn open(&mut self, nth: usize, opening: Opening) -> Result<(), AllocError>
+        requires { nth < self.old.count }
+        ensures { OnOk result ((behind : List spec.Place) → in_row self.new behind
+            ≡ spec.places_with_opening nth opening (in_row self.old behind)) }
+    {
+        if nth > 0 {
+            return Err(AllocError);
+        }
+        self.opening = opening;
+        Ok(())
+    }
+
+    /// Writes into `token` what is handed out next: what comes in front of the first token here, or that token itself,
+    /// which is counted.
+    #[inline(always)]
+    pub(super) fn take_into(&mut self, token: &mut Token, handed: &mut usize)
+        requires some { 0 < self.old.count }
+        requires countable { handed.old + 1 < 2 ^ 64 }
+        ensures { (behind : List spec.Place)
+            → spec.take (record { places = in_row self.old behind; handed = handed.old })
+            ≡ (
+              Some (piece token.new),
+              record { places = in_row self.new behind; handed = handed.new },
+            ) }
+    {
+        let (kind, left) = match self.opening {
+            Opening::Nothing => {
+                self.take_token(token);
+                *handed += 1;
+                return;
+            }
+            Opening::Key => (TokenType::Key, Opening::Nothing),
+            Opening::BlockMappingAndKey => (TokenType::BlockMappingStart, Opening::Key),
+            Opening::FlowMappingAndKey => (TokenType::FlowMappingStart, Opening::Key),
+        };
+        token.set(Span::empty(self.token.span.start), kind);
+        self.opening = left;
+    }
+
+    // Takes the first token, with nothing in front of it, and writes it into `token`.
+    #[inline(always)]
+    fn take_token(&mut self, token: &mut Token)
+        requires some { 0 < self.old.count }
+        requires bare { self.old.opening ≡ opening.Nothing }
+        ensures { (behind : List spec.Place) → in_row self.old behind
+            ≡ spec.bare_place (piece token.new) ∷ in_row self.new behind }
+    {
+        if self.count > 1 {
+            token.set(self.token.span, TokenType::BlockEnd);
+            self.count -= 1;
+            return;
+        }
+        let kind = replace(&mut self.token.kind, TokenType::StreamStart);
+        token.set(self.token.span, kind);
+        self.count = 0;
+    }
+
+    /// The same tokens, unless memory runs out.
+    pub(super) fn try_clone(&self) -> Result<Row, AllocError>
+        ensures { IfOk result (λ copy. (behind : List spec.Place)
+            → in_row copy behind ≡ in_row self.now behind) }
+    {
+        Ok(Row {
+            count: self.count,
+            token: self.token.try_clone()?,
+            opening: self.opening,
+        })
+    }
+}
