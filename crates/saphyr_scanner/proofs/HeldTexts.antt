@@ -7,7 +7,9 @@ use Rattle.std.proofs.Math.Dec.{eqb, eqb-suc-zero, ltb}
 use Rattle.std.proofs.lemmas.Bool.{ltb-false, ltb-true}
 use Rattle.std.proofs.Math.ListN.{drop_of_length-le}
 use Rattle.std.proofs.lemmas.List.{length-drop, length-append, length-map, take-append-drop, take-append-le, drop-append-le, drop-map, drop-set-lt}
-use Rattle.std.proofs.lemmas.List.Elements.{All-nil, All-cons, All-head, All-tail, All-push}
+use Rattle.std.proofs.lemmas.List.Elements.{All-nil, All-cons, All-head, All-same, All-tail, All-push}
+use Rattle.saphyr_scalar.specs.declared.scalar.position.Span.{Span}
+use Rattle.saphyr_scanner.specs.Grammar.Tokens.{Kind}
 use Rattle.saphyr_scanner.specs.declared.queue.place.Place.{Place}
 use Rattle.saphyr_scanner.specs.declared.queue.place.Place.TheVariants.{Bare, Text, Tagged, Whole}
 use Rattle.saphyr_scanner.specs.declared.queue.texts.TextPlace.{TextPlace}
@@ -126,6 +128,44 @@ pub put_behind : (n : ℕ) (bytes : List ℕ) (ps : List Place) (qs : List seen.
 put_behind n bytes ps qs h =
     let same = length-map ps (place bytes) in
     drop-append-le n (map (place bytes) ps) qs (omega (arith, h, same))
+
+-- after those that are held is that of a token, whose text comes after theirs
+pub pushed_behind : (n : ℕ) (old new : List ℕ) (ps qs : List Place) (p : Place) (t : Piece) → n ≤ length ps
+    → GrowsBehind old new → All (HasHeldText old) ps → IsBarePlaceOf new t p → qs ≡ ps ++ p ∷ []
+    → All (HasHeldText new) qs
+    × (drop n (map (place new) qs) ≡ drop n (map (place old) ps) ++ bare_place t ∷ [])
+pushed_behind n old new ps qs p t h g texts is e =
+    let after = place_put old new ps p t g texts is in (
+      All-same (HasHeldText new) qs (ps ++ p ∷ []) e after.0,
+      ap (λ rs. drop n (map (place new) rs)) e
+          ∙ ap (drop n) after.1
+          ∙ put_behind n old ps (bare_place t ∷ []) h,
+    )
+
+-- the same where no text comes with it
+pub added_behind : (n : ℕ) (bytes : List ℕ) (ps qs : List Place) (p : Place) (t : Piece) → n ≤ length ps
+    → All (HasHeldText bytes) ps → IsBarePlaceOf bytes t p → qs ≡ ps ++ p ∷ []
+    → All (HasHeldText bytes) qs
+    × (drop n (map (place bytes) qs) ≡ drop n (map (place bytes) ps) ++ bare_place t ∷ [])
+added_behind n bytes ps qs p t h texts is e =
+    let after = place_added bytes ps p t texts is in (
+      All-same (HasHeldText bytes) qs (ps ++ p ∷ []) e after.0,
+      ap (λ rs. drop n (map (place bytes) rs)) e
+          ∙ ap (drop n) after.1
+          ∙ put_behind n bytes ps (bare_place t ∷ []) h,
+    )
+
+-- where the span is this one
+pub place_with_span : (bytes : List ℕ) (s t : Span) (kind : Kind) (p : Place) → s ≡ t
+    → IsBarePlaceOf bytes (record { span = s; kind = kind }) p
+    → IsBarePlaceOf bytes (record { span = t; kind = kind }) p
+place_with_span bytes s t kind p e = subst (λ (u : Span). IsBarePlaceOf bytes (record { span = u; kind = kind }) p) e
+
+-- where the kind is this one
+pub place_with_kind : (bytes : List ℕ) (s : Span) (k l : Kind) (p : Place) → k ≡ l
+    → IsBarePlaceOf bytes (record { span = s; kind = k }) p
+    → IsBarePlaceOf bytes (record { span = s; kind = l }) p
+place_with_kind bytes s k l p e = subst (λ (m : Kind). IsBarePlaceOf bytes (record { span = s; kind = m }) p) e
 
 -- ## The first place is taken off
 

@@ -175,8 +175,7 @@ impl Queue {
             (record { span = span.now; kind = tokens.Scalar style (string_bytes text) })
             (queue self.old)) }
     {
-        self.held
-            .put(alloc, span, TokenType::Scalar(style, text), spare)
+        self.held.put_scalar(alloc, span, style, text, spare)
     }
 
     /// Puts an indicator at the end.

@@ -1,15 +1,17 @@
 //! The tokens that are held, in their places.
 
-ghost use Rattle.std.specs.Prelude.{◌≡◌, ◌<◌, ◌≤◌, ◌^◌, ◌+◌, [], ◌∷◌, ◌++◌, length, IfOk, Ok, OnOk};
+ghost use Rattle.std.specs.Prelude.{◌≡◌, ◌<◌, ◌≤◌, ◌^◌, ◌+◌, [], ◌∷◌, ◌++◌, length, IfOk, IfSome, Ok, OnOk, string_bytes, vec_len, vec_capacity};
 ghost use Rattle.std.specs.List.{All};
+ghost use Rattle.saphyr_scanner.specs.Grammar.Tokens as tokens;
 ghost use Rattle.saphyr_scanner.specs.Steps.Queue as spec;
-ghost use Rattle.saphyr_scanner.specs.Views.Places.{HasHeldText, indicator_kind};
+ghost use Rattle.saphyr_scanner.specs.Views.Places.{HasHeldText, indicator_kind, near_span};
 
 use crate::queue::Opening;
-use crate::queue::place::{Indicator, Place};
+use crate::queue::near::{NearMarker, near};
+use crate::queue::place::{Indicator, Place, TextKind};
 use crate::queue::texts::Texts;
 use crate::token::{Token, TokenType};
-use saphyr_scalar::{Span, Spare, Stop};
+use saphyr_scalar::{ScalarStyle, Span, Spare, Stop};
 use std::alloc::{AllocError, Global};
 
 // How many places that were handed out may stay before others, so that few are moved for each.
@@ -102,9 +104,89 @@ impl Held {
         Ok(())
     }
 
-    /// Puts an indicator at the end.
+    // The place where a span begins and the number of its characters, if it is as `near` says, and a place can be put at
+    // the end at once.
+    #[inline(always)]
+    fn near_with_room(&self, span: &Span) -> Option<(NearMarker, u8)>
+        ensures near { IfSome result (λ found. near_span found.0 found.1 ≡ span.now) }
+        ensures room { IfSome result
+            (λ found. vec_len self.now.places < vec_capacity self.now.places) }
+    {
+        if self.spent != 0 || self.places.len() >= self.places.capacity() {
+            return None;
+        }
+        near(span)
+    }
+
+    /// Puts a scalar at the end. Mostly it is on one line, and its place can be put there at once: then no room is
+    /// asked for, and nothing is kept during a call.
+    #[inline(always)]
+    pub(super) fn put_scalar(
+        &mut self,
+        alloc: Global,
+        span: &Span,
+        style: ScalarStyle,
+        text: String,
+        spare: &mut Spare,
+    ) -> Result<(), AllocError>
+        ensures { OnOk result (held_places self.new ≡ held_places self.old
+            ++ spec.bare_place (record
+            { span = span.now; kind = tokens.Scalar style (string_bytes text) }) ∷ []) }
+    {
+        let Some(what) = TextKind::of_style(style) else {
+            return self.put_scalar_rarely(alloc, span, style, text, spare);
+        };
+        let Some((start, length)) = self.near_with_room(span) else {
+            return self.put_scalar_rarely(alloc, span, style, text, spare);
+        };
+        let Some(place) = self.texts.keep(&text)? else {
+            return self.put_scalar_rarely(alloc, span, style, text, spare);
+        };
+        spare.keep(text);
+        self.places
+            .push_reserved(Place::text(start, length, what, place));
+        Ok(())
+    }
+
+    // The same for any scalar.
+    #[inline(never)]
+    fn put_scalar_rarely(
+        &mut self,
+        alloc: Global,
+        span: &Span,
+        style: ScalarStyle,
+        text: String,
+        spare: &mut Spare,
+    ) -> Result<(), AllocError>
+        ensures { OnOk result (held_places self.new ≡ held_places self.old
+            ++ spec.bare_place (record
+            { span = span.now; kind = tokens.Scalar style (string_bytes text) }) ∷ []) }
+    {
+        self.put(alloc, span, TokenType::Scalar(style, text), spare)
+    }
+
+    /// Puts an indicator at the end, mostly at once, as `put_scalar` does.
     #[inline(always)]
     pub(super) fn put_indicator(
+        &mut self,
+        alloc: Global,
+        span: &Span,
+        indicator: Indicator,
+    ) -> Result<(), AllocError>
+        ensures { OnOk result (held_places self.new ≡ held_places self.old
+            ++ spec.bare_place (record { span = span.now; kind = indicator_kind indicator }) ∷ []) }
+    {
+        let Some((start, length)) = self.near_with_room(span) else {
+            return self.put_indicator_rarely(alloc, span, indicator);
+        };
+        self.places
+            .push_reserved(Place::bare(start, length, indicator));
+        Ok(())
+    }
+
+    // The same for any place and any room.
+    #[inline(never)]
+    fn put_indicator_rarely(
         &mut self,
         alloc: Global,
         span: &Span,

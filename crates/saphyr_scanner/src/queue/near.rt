@@ -8,6 +8,9 @@ use saphyr_scalar::{Marker, Span};
 // What fits into 32 bits.
 const MOST: usize = u32::MAX as usize;
 
+// What fits into a byte.
+const MOST_LENGTH: usize = u8::MAX as usize;
+
 /// A place whose numbers fit into 32 bits.
 #[derive(Clone, Copy)]
 pub(super) struct NearMarker {
@@ -75,12 +78,12 @@ impl NearMarker {
 pub(super) fn near(span: &Span) -> Option<(NearMarker, u8)>
     ensures { IfSome result (λ found. near_span found.0 found.1 ≡ span.now) }
 {
-    let count = span.end.index.checked_sub(span.start.index)?;
-    let width = span.end.col.checked_sub(span.start.col)?;
-    if span.end.line != span.start.line || width != count {
+    // For speed a difference below 0 is not told apart: it is a large number, as the start is near.
+    let count = span.end.index.wrapping_sub(span.start.index);
+    let width = span.end.col.wrapping_sub(span.start.col);
+    if count > MOST_LENGTH || width != count || span.end.line != span.start.line {
         return None;
     }
     let start = NearMarker::new(span.start)?;
-    let length = u8::try_from(count).ok()?;
-    Some((start, length))
+    Some((start, count as u8))
 }

@@ -1,11 +1,13 @@
 //! A token that is held, and what comes in front of it, in a small form, since the queue may hold all tokens of a text.
 
-ghost use Rattle.std.specs.Prelude.{◌≡◌, ℕ, List, IfOk, OnOk, string_bytes};
+ghost use Rattle.std.specs.Prelude.{◌≡◌, ℕ, List, IfOk, IfSome, OnOk, string_bytes};
+ghost use Rattle.saphyr_scanner.specs.Grammar.Tokens as tokens;
 ghost use Rattle.saphyr_scanner.specs.Steps.Queue as spec;
 ghost use Rattle.saphyr_scanner.specs.Views.Places.{
   GrowsBehind,
   HasHeldText,
   IsBarePlaceOf,
+  IsHeldAs,
   indicator_kind,
   near_span,
   place,
@@ -71,6 +73,20 @@ pub(super) enum TextKind {
 }
 
 impl TextKind {
+    /// The kind of a scalar of a style on one line. No block scalar is on one line.
+    #[inline(always)]
+    pub(super) fn of_style(style: ScalarStyle) -> Option<TextKind>
+        ensures { IfSome result
+            (λ what. (text : List ℕ) → text_kind what text ≡ tokens.Scalar style text) }
+    {
+        match style {
+            ScalarStyle::Plain => Some(TextKind::Plain),
+            ScalarStyle::SingleQuoted => Some(TextKind::SingleQuoted),
+            ScalarStyle::DoubleQuoted => Some(TextKind::DoubleQuoted),
+            ScalarStyle::Literal | ScalarStyle::Folded => None,
+        }
+    }
+
     #[inline(always)]
     fn kind(self, text: String) -> TokenType
         ensures { kind_of result ≡ text_kind self (string_bytes text) }
@@ -99,6 +115,24 @@ pub(super) enum Place {
 }
 
 impl Place {
+    /// The place of an indicator on one line, with nothing in front of it.
+    #[inline(always)]
+    pub(super) fn bare(start: NearMarker, length: u8, indicator: Indicator) -> Place
+        ensures { (bytes : List ℕ) → IsBarePlaceOf bytes
+            (record { span = near_span start length; kind = indicator_kind indicator }) result }
+    {
+        Place::Bare(Opening::Nothing, indicator, length, start)
+    }
+
+    /// The same for a token with a text that is held.
+    #[inline(always)]
+    pub(super) fn text(start: NearMarker, length: u8, what: TextKind, place: TextPlace) -> Place
+        ensures { (bytes text : List ℕ) → IsHeldAs bytes text place → IsBarePlaceOf bytes
+            (record { span = near_span start length; kind = text_kind what text }) result }
+    {
+        Place::Text(Opening::Nothing, what, length, start, place)
+    }
+
     /// The place of a token, with nothing in front of it. Its text is appended to `texts`.
     #[inline(always)]
     pub(super) fn new(
