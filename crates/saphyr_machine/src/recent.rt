@@ -1,6 +1,6 @@
 //! The names of anchors that wait for an alias, one after another in one piece of memory.
 
-ghost use Rattle.std.specs.Prelude.{◌≡◌, ◌∷◌, ◌++◌, ℕ, [], IfOk, OnOk};
+ghost use Rattle.std.specs.Prelude.{◌≡◌, ◌∷◌, ◌++◌, ℕ, [], length, IfOk, OnOk};
 ghost use Rattle.std.specs.List.{All};
 ghost use Rattle.std.specs.Option.{option_or};
 ghost use Rattle.saphyr_scanner.specs.Views.Places.{GrowsBehind};
@@ -53,7 +53,10 @@ impl Recent {
         }
     }
 
-    pub fn len(&self) -> usize {
+    /// How many names there are.
+    pub fn len(&self) -> usize
+        ensures { result ≡ length (recent_names self.now) }
+    {
         self.names.len()
     }
 
