@@ -1,5 +1,5 @@
 -- What the event structure of C holds.
-use Rattle.std.specs.Prelude.{◌≡◌, ℕ, ℤ, pos, Bool, true, false, List, length, Option, Some, None, Result, Ok, Err, string_bytes}
+use Rattle.std.specs.Prelude.{◌≡◌, ℕ, ℤ, pos, Bool, true, false, List, length, Option, Some, None, Result, Ok, Err, option_map, string_bytes}
 use Rattle.std.specs.Borrow.{Bor}
 use Rattle.std.specs.Global.{Global}
 use Rattle.std.specs.Ptr.{as_ptr, null_ptr}
@@ -18,7 +18,7 @@ use Rattle.saphyr_parser.specs.Types.Tag.{Tag}
 use Rattle.saphyr_parser.specs.Types.Fault.{Fault}
 use Rattle.saphyr_parser.specs.Types.Fault.TheVariants as fault
 use Rattle.saphyr_parser.specs.Events.{ResolvedTag, Happening, Nothing, StreamStart, StreamEnd, DocumentStart, DocumentEnd, Alias, Scalar, SequenceStart, SequenceEnd, MappingStart, MappingEnd}
-use Rattle.saphyr_parser.specs.Views.Events.{happening}
+use Rattle.saphyr_parser.specs.Views.Events.{happening, resolved_tag}
 use Rattle.saphyr_parser_c.specs.declared.shown.CText.{CText}
 use Rattle.saphyr_parser_c.specs.declared.shown.CMarker.{CMarker}
 use Rattle.saphyr_parser_c.specs.declared.shown.CEvent.{CEvent}
@@ -97,25 +97,6 @@ pub record HasNumbers (t : ToldFields) (from to : Marker) (c : CEvent) : Type 0 
   pub start : IsMarkerOfC from c.start
   pub end : IsMarkerOfC to c.end
 
--- only texts are written
-pub record HasSameNumbers (old new : CEvent) : Type 0 where
-  pub kind : new.kind ≡ old.kind
-  pub style : new.style ≡ old.style
-  pub explicit : new.is_explicit ≡ old.is_explicit
-  pub has_tag : new.has_tag ≡ old.has_tag
-  pub anchor : new.anchor ≡ old.anchor
-  pub start : new.start ≡ old.start
-  pub end : new.end ≡ old.end
-
--- only the text of a scalar is written
-abbrev pub IsSameButValue : CEvent → CEvent → Type 0
-IsSameButValue old new =
-    HasSameNumbers old new × (new.tag_handle ≡ old.tag_handle) × (new.tag_suffix ≡ old.tag_suffix)
-
--- only the texts of the tag are written
-abbrev pub IsSameButTag : CEvent → CEvent → Type 0
-IsSameButTag old new = HasSameNumbers old new × (new.value ≡ old.value)
-
 -- ## The texts in C's structure
 
 -- the address of a text that is lent, and the number of its bytes; null where there is no text
@@ -127,6 +108,19 @@ HasText (Some bytes) c =
 abbrev pub HasTagTexts : Option ResolvedTag → CEvent → Type 0
 HasTagTexts None c = HasText None c.tag_handle × HasText None c.tag_suffix
 HasTagTexts (Some tag) c = HasText (Some tag.handle) c.tag_handle × HasText (Some tag.suffix) c.tag_suffix
+
+-- whether there is a tag, and its texts
+abbrev pub HasTag : Option ResolvedTag → CEvent → Type 0
+HasTag tag c = (c.has_tag ≡ tag_code tag) × HasTagTexts tag c
+
+-- only the text of a scalar is written
+abbrev pub IsSameButValue : CEvent → CEvent → Type 0
+IsSameButValue old new = new ≡ record old { value = new.value }
+
+-- only what is told of the tag is written
+abbrev pub IsSameButTag : CEvent → CEvent → Type 0
+IsSameButTag old new =
+    new ≡ record old { has_tag = new.has_tag; tag_handle = new.tag_handle; tag_suffix = new.tag_suffix }
 
 abbrev pub HasTexts : ToldFields → CEvent → Type 0
 HasTexts t c = HasText t.value c.value × HasTagTexts t.tag c
@@ -148,6 +142,10 @@ abbrev pub TagStands : Option Tag → CEvent → Type 0
 TagStands None c = HasTagTexts None c
 TagStands (Some tag) c =
     BytesStand (string_vec tag.handle) c.tag_handle × BytesStand (string_vec tag.suffix) c.tag_suffix
+
+-- whether there is a tag, and where its texts are
+abbrev pub TellsTag : Option Tag → CEvent → Type 0
+TellsTag tag c = (c.has_tag ≡ tag_code (option_map resolved_tag tag)) × TagStands tag c
 
 abbrev pub value_of : Event → Option (CowStr Global)
 value_of (events.Scalar text style id tag) = Some text

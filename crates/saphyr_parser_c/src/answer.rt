@@ -2,13 +2,15 @@
 
 ghost use Rattle.std.specs.Prelude.{◌≡◌};
 ghost use Rattle.saphyr_parser.specs.Cursor.{event_of};
+ghost use Rattle.saphyr_parser.specs.Views.Events.{happening};
 ghost use Rattle.saphyr_parser_c.specs.Same.{IsSameFault};
-ghost use Rattle.saphyr_parser_c.specs.Shown.{HasNumbers, HasTexts, TextsStand, no_fields};
+ghost use Rattle.saphyr_parser_c.specs.Shown.{HasFields, HasNumbers, HasTexts, TextsStand};
+ghost use Rattle.saphyr_parser_c.specs.Shown.{no_fields, told_fields};
 ghost use Rattle.saphyr_parser_c.specs.Shown.{TellsFault, TellsLent, TellsLentFault, TellsNumbers};
 
-use crate::shown::{CEvent, bare, blank, show};
+use crate::shown::{CEvent, bare, blank, explicit_code, kind_code, style_code};
 use crate::status::Status;
-use crate::texts::{keep, kept, lend, lent};
+use crate::texts::{keep_tag_of, keep_value, kept, lend_tag, lent};
 use saphyr_parser::{Event, Fault, ScanError, Span};
 use std::alloc::Global;
 
@@ -21,16 +23,69 @@ fn refused(error: &ScanError) -> CEvent
 }
 
 /// Tells an event that is kept.
+#[inline(always)]
 pub fn tell_event(alloc: Global, given: &mut (Event<'static>, Span), out: &mut CEvent)
     ensures same { event_of given.new ≡ event_of given.old }
     ensures numbers { TellsNumbers given.new out.new }
     ensures stands { TextsStand given.new.0 out.new }
 {
-    *out = show(&given.0, given.1);
-    keep(alloc, &mut given.0, out);
+    *out = bare(kind_code(&given.0), given.1.start, given.1.end);
+    match &given.0 {
+        Event::DocumentStart(explicit) => out.is_explicit = explicit_code(*explicit),
+        Event::Alias(id) => out.anchor = *id,
+        Event::Scalar(_, style, id, tag) => {
+            out.style = style_code(*style);
+            out.anchor = *id;
+            let is_tagged = tag.is_some();
+            keep_value(alloc, &mut given.0, out);
+            if is_tagged {
+                keep_tag_of(alloc, &mut given.0, out);
+            }
+        }
+        Event::SequenceStart(id, tag) | Event::MappingStart(id, tag) => {
+            out.anchor = *id;
+            if tag.is_some() {
+                keep_tag_of(alloc, &mut given.0, out);
+            }
+        }
+        Event::Nothing
+        | Event::StreamStart
+        | Event::StreamEnd
+        | Event::DocumentEnd
+        | Event::SequenceEnd
+        | Event::MappingEnd => {}
+    }
+}
+
+// Tells an event that is lent.
+fn tell_lent_event(event: &Event<'static>, span: Span, out: &mut CEvent)
+    ensures { HasFields (told_fields (happening event.now)) span.start span.end out.new }
+{
+    *out = bare(kind_code(event), span.start, span.end);
+    match event {
+        Event::DocumentStart(explicit) => out.is_explicit = explicit_code(*explicit),
+        Event::Alias(id) => out.anchor = *id,
+        Event::Scalar(value, style, id, tag) => {
+            out.style = style_code(*style);
+            out.anchor = *id;
+            out.value = lent(value);
+            lend_tag(tag, out);
+        }
+        Event::SequenceStart(id, tag) | Event::MappingStart(id, tag) => {
+            out.anchor = *id;
+            lend_tag(tag, out);
+        }
+        Event::Nothing
+        | Event::StreamStart
+        | Event::StreamEnd
+        | Event::DocumentEnd
+        | Event::SequenceEnd
+        | Event::MappingEnd => {}
+    }
 }
 
 /// Tells a fault that is kept.
+#[inline(never)]
 pub fn tell_fault(alloc: Global, fault: &mut Fault, out: &mut CEvent) -> Status
     ensures same { IsSameFault fault.old fault.new }
     ensures tells { TellsFault fault.new result out.new }
@@ -71,8 +126,7 @@ pub fn tell_lent(shown: Option<Result<&(Event<'static>, Span), &Fault>>, out: &m
 {
     match shown {
         Some(Ok((event, span))) => {
-            *out = show(event, *span);
-            lend(event, out);
+            tell_lent_event(event, *span, out);
             Status::Event
         }
         Some(Err(fault)) => tell_lent_fault(fault, out),

@@ -37,6 +37,17 @@ fn put(place: &mut Handle, handle: Handle)
     }
 }
 
+// Puts a parser back that was taken. The handle has none, so nothing is tested or freed.
+fn put_back(place: &mut Handle, inner: Box<Inner, Global>)
+    requires { place.old.value ≡ none }
+    ensures { place.new.value ≡ some inner.value }
+{
+    match mem::replace(place, Handle::of_parts(Parts::of(inner))).into_parts() {
+        Some(parts) => mem::forget(parts.into_box()),
+        None => {}
+    }
+}
+
 // Takes what C holds, and leaves an empty handle.
 fn take(alloc: Global, place: &mut Handle) -> Option<Box<Inner, Global>>
     ensures taken { spec.IsTakenOut result place.old.value }
@@ -103,7 +114,7 @@ pub extern "C" fn saphyr_add(alloc: Global, parser: &mut Handle, bytes: &[u8]) -
         return Status::NoParser.code();
     };
     let status = inner.add(alloc, bytes);
-    put(parser, Handle::of_parts(Parts::of(inner)));
+    put_back(parser, inner);
     status.code()
 }
 
@@ -122,9 +133,9 @@ pub extern "C" fn saphyr_next(alloc: Global, parser: &mut Handle, event: &mut CE
 {
     match take(alloc, parser) {
         Some(mut inner) => {
-            let status = inner.step(alloc, event);
-            put(parser, Handle::of_parts(Parts::of(inner)));
-            status.code()
+            let code = inner.step(alloc, event).code();
+            put_back(parser, inner);
+            code
         }
         None => {
             *event = blank();
@@ -140,9 +151,9 @@ pub extern "C" fn saphyr_peek(alloc: Global, parser: &mut Handle, event: &mut CE
 {
     match take(alloc, parser) {
         Some(mut inner) => {
-            let status = inner.look(alloc, event);
-            put(parser, Handle::of_parts(Parts::of(inner)));
-            status.code()
+            let code = inner.look(alloc, event).code();
+            put_back(parser, inner);
+            code
         }
         None => {
             *event = blank();
@@ -169,7 +180,7 @@ pub extern "C" fn saphyr_clone(alloc: Global, parser: &mut Handle, copy: &mut Ha
                     Status::NoMemory
                 }
             };
-            put(parser, Handle::of_parts(Parts::of(inner)));
+            put_back(parser, inner);
             status.code()
         }
         None => {
@@ -187,7 +198,7 @@ pub extern "C" fn saphyr_keep_tags(alloc: Global, parser: &mut Handle, keep_tags
     match take(alloc, parser) {
         Some(mut inner) => {
             inner.keep_tags(alloc, keep_tags);
-            put(parser, Handle::of_parts(Parts::of(inner)));
+            put_back(parser, inner);
             Status::Done.code()
         }
         None => Status::NoParser.code(),

@@ -1,11 +1,11 @@
 //! The structure of an event or a fault for C, and its numbers.
 
-ghost use Rattle.std.specs.Prelude.{◌≡◌, None, option_map};
+ghost use Rattle.std.specs.Prelude.{◌≡◌, None};
 ghost use Rattle.std.specs.Ptr.{null_ptr};
-ghost use Rattle.saphyr_parser.specs.Views.Events.{happening, resolved_tag};
+ghost use Rattle.saphyr_parser.specs.Views.Events.{happening};
 ghost use Rattle.saphyr_parser_c.specs.Shown as spec;
 
-use saphyr_parser::{Event, Marker, ScalarStyle, Span, Tag};
+use saphyr_parser::{Event, Marker, ScalarStyle};
 use std::ptr::null;
 
 /// A text that C may read until the next call with its parser. Null if there is none.
@@ -52,8 +52,8 @@ fn marker_of(mark: Marker) -> CMarker
     }
 }
 
-// The number of a style in C.
-fn style_code(style: ScalarStyle) -> i32
+/// The number of a style in C.
+pub fn style_code(style: ScalarStyle) -> i32
     ensures { result ≡ spec.style_code style }
 {
     match style {
@@ -63,6 +63,13 @@ fn style_code(style: ScalarStyle) -> i32
         ScalarStyle::Literal => 3,
         ScalarStyle::Folded => 4,
     }
+}
+
+/// Whether a document begins with a `---`, as a number.
+pub fn explicit_code(explicit: bool) -> i32
+    ensures { result ≡ spec.explicit_code explicit }
+{
+    if explicit { 1 } else { 0 }
 }
 
 // No address.
@@ -109,50 +116,21 @@ pub fn blank() -> CEvent
     bare(0, start, start)
 }
 
-// A node of this kind with its anchor, without the texts of its tag.
-fn node(kind: i32, span: Span, anchor: usize, tag: &Option<Tag>) -> CEvent
-    ensures numbers { spec.HasNumbers
-        (spec.fields_of_node kind anchor (option_map resolved_tag tag.now))
-        span.start span.end result }
-    ensures texts { spec.HasTexts spec.no_fields result }
-{
-    let mut shown = bare(kind, span.start, span.end);
-    shown.anchor = anchor;
-    if tag.is_some() {
-        shown.has_tag = 1;
-    }
-    shown
-}
-
-/// An event with its place, without its texts.
-pub fn show(event: &Event<'static>, span: Span) -> CEvent
-    ensures numbers { spec.HasNumbers (spec.told_fields (happening event.now))
-        span.start span.end result }
-    ensures texts { spec.HasTexts spec.no_fields result }
+/// The number of an event's kind in C.
+pub fn kind_code(event: &Event<'static>) -> i32
+    ensures { result ≡ (spec.told_fields (happening event.now)).kind }
 {
     match event {
-        Event::Nothing => bare(0, span.start, span.end),
-        Event::StreamStart => bare(1, span.start, span.end),
-        Event::StreamEnd => bare(2, span.start, span.end),
-        Event::DocumentStart(explicit) => {
-            let mut shown = bare(3, span.start, span.end);
-            shown.is_explicit = if *explicit { 1 } else { 0 };
-            shown
-        }
-        Event::DocumentEnd => bare(4, span.start, span.end),
-        Event::Alias(id) => {
-            let mut shown = bare(5, span.start, span.end);
-            shown.anchor = *id;
-            shown
-        }
-        Event::Scalar(_, style, id, tag) => {
-            let mut shown = node(6, span, *id, tag);
-            shown.style = style_code(*style);
-            shown
-        }
-        Event::SequenceStart(id, tag) => node(7, span, *id, tag),
-        Event::SequenceEnd => bare(8, span.start, span.end),
-        Event::MappingStart(id, tag) => node(9, span, *id, tag),
-        Event::MappingEnd => bare(10, span.start, span.end),
+        Event::Nothing => 0,
+        Event::StreamStart => 1,
+        Event::StreamEnd => 2,
+        Event::DocumentStart(_) => 3,
+        Event::DocumentEnd => 4,
+        Event::Alias(_) => 5,
+        Event::Scalar(_, _, _, _) => 6,
+        Event::SequenceStart(_, _) => 7,
+        Event::SequenceEnd => 8,
+        Event::MappingStart(_, _) => 9,
+        Event::MappingEnd => 10,
     }
 }

@@ -30,38 +30,16 @@ pub fn lent(text: &str) -> CText
     }
 }
 
-// Writes the addresses and lengths of the texts of a tag.
-fn lend_tag(tag: &Option<Tag>, out: &mut CEvent)
+/// Writes whether there is a tag, and the addresses and lengths of its texts, where `out` has none.
+pub fn lend_tag(tag: &Option<Tag>, out: &mut CEvent)
     ensures same { spec.IsSameButTag out.old out.new }
-    ensures texts { spec.HasTagTexts None out.old
-        → spec.HasTagTexts (option_map resolved_tag tag.now) out.new }
+    ensures tag { spec.HasTag None out.old
+        → spec.HasTag (option_map resolved_tag tag.now) out.new }
 {
     if let Some(tag) = tag {
+        out.has_tag = 1;
         out.tag_handle = lent(tag.handle.as_str());
         out.tag_suffix = lent(tag.suffix.as_str());
-    }
-}
-
-/// Writes the addresses and lengths of the texts of an event.
-pub fn lend(event: &Event<'static>, out: &mut CEvent)
-    ensures numbers { spec.HasSameNumbers out.old out.new }
-    ensures texts { spec.HasTexts spec.no_fields out.old
-        → spec.HasTexts (spec.told_fields (happening event.now)) out.new }
-{
-    match event {
-        Event::Scalar(value, _, _, tag) => {
-            out.value = lent(value);
-            lend_tag(tag, out);
-        }
-        Event::SequenceStart(_, tag) | Event::MappingStart(_, tag) => lend_tag(tag, out),
-        Event::Nothing
-        | Event::StreamStart
-        | Event::StreamEnd
-        | Event::DocumentStart(_)
-        | Event::DocumentEnd
-        | Event::Alias(_)
-        | Event::SequenceEnd
-        | Event::MappingEnd => {}
     }
 }
 
@@ -88,21 +66,23 @@ fn kept_any(alloc: Global, text: &mut CowStr<'static>) -> CText
     }
 }
 
-// Writes the addresses and lengths of the texts of a tag.
+// Writes that there is a tag, and the addresses and lengths of its texts.
 fn keep_tag(alloc: Global, tag: &mut Option<Tag>, out: &mut CEvent)
     ensures same { spec.IsSameButTag out.old out.new }
     ensures kept { option_map resolved_tag tag.new ≡ option_map resolved_tag tag.old }
-    ensures stands { spec.HasTagTexts None out.old → spec.TagStands tag.new out.new }
+    ensures tells { spec.HasTag None out.old → spec.TellsTag tag.new out.new }
 {
     if let Some(tag) = tag {
+        out.has_tag = 1;
         out.tag_handle = kept(alloc, &mut tag.handle);
         out.tag_suffix = kept(alloc, &mut tag.suffix);
     }
 }
 
-// Writes the address and the length of the text of a scalar.
-fn keep_value(alloc: Global, event: &mut Event<'static>, out: &mut CEvent)
+/// Writes the address and the length of the text of a scalar.
+pub fn keep_value(alloc: Global, event: &mut Event<'static>, out: &mut CEvent)
     ensures same { spec.IsSameButValue out.old out.new }
+    ensures tag { spec.tag_in event.new ≡ spec.tag_in event.old }
     ensures kept { happening event.new ≡ happening event.old }
     ensures stands { spec.HasText None out.old.value → spec.ValueStands event.new out.new }
 {
@@ -111,13 +91,12 @@ fn keep_value(alloc: Global, event: &mut Event<'static>, out: &mut CEvent)
     }
 }
 
-// Writes the addresses and lengths of the texts of a node's tag.
-fn keep_tag_of(alloc: Global, event: &mut Event<'static>, out: &mut CEvent)
+/// Writes that a node has a tag, and the addresses and lengths of the tag's texts.
+pub fn keep_tag_of(alloc: Global, event: &mut Event<'static>, out: &mut CEvent)
     ensures same { spec.IsSameButTag out.old out.new }
     ensures value { spec.value_of event.new ≡ spec.value_of event.old }
     ensures kept { happening event.new ≡ happening event.old }
-    ensures stands { spec.HasTagTexts None out.old
-        → spec.TagStands (spec.tag_in event.new) out.new }
+    ensures tells { spec.HasTag None out.old → spec.TellsTag (spec.tag_in event.new) out.new }
 {
     match event {
         Event::Scalar(_, _, _, tag) => keep_tag(alloc, tag, out),
@@ -132,14 +111,4 @@ fn keep_tag_of(alloc: Global, event: &mut Event<'static>, out: &mut CEvent)
         | Event::SequenceEnd
         | Event::MappingEnd => {}
     }
-}
-
-/// Writes the addresses and lengths of the texts of an event.
-pub fn keep(alloc: Global, event: &mut Event<'static>, out: &mut CEvent)
-    ensures numbers { spec.HasSameNumbers out.old out.new }
-    ensures kept { happening event.new ≡ happening event.old }
-    ensures stands { spec.HasTexts spec.no_fields out.old → spec.TextsStand event.new out.new }
-{
-    keep_value(alloc, event, out);
-    keep_tag_of(alloc, event, out);
 }
