@@ -1,6 +1,8 @@
 -- What a parser is after bytes were added to the text that comes in pieces, and what it is with its event.
 use Rattle.std.proofs.Common.{◌≡◌, ◌∙◌, ◌<◌, ℕ, List, [], ◌∷◌, ◌++◌, length, true, Some, Err, ap, append_assoc, arith, refl, subst, sym}
 use Rattle.std.specs.Str.{chars}
+use Rattle.std.specs.declared.boxed.Box.{Box}
+use Rattle.std.specs.Global.{Global}
 use Rattle.saphyr_parser.specs.Types.Fault.TheVariants as fault
 use Rattle.saphyr_pieces.specs.Pieces.{at}
 use Rattle.saphyr_parser_c.specs.declared.coming.Coming.{Coming}
@@ -35,8 +37,8 @@ stays_without_memory s before after none_left told shown =
     subst (λ (t : Status). StaysBut t before after) (sym none_left) (told, shown)
 
 -- the text that comes in pieces has the bytes
-pub adds_to_pieces : (bytes : List ℕ) (before after : Inner) (old new : Coming) (s : Status)
-    → before.source ≡ source.Pieces old → after.source ≡ source.Pieces new → Adds bytes old s new
+pub adds_to_pieces : (bytes : List ℕ) (before after : Inner) (old new : Box Coming Global) (s : Status)
+    → before.source ≡ source.Pieces old → after.source ≡ source.Pieces new → Adds bytes old.value s new.value
     → StaysBut s before after → AddsToC bytes before s after
 adds_to_pieces bytes before after old new s is_old is_new adds stays =
     subst (λ (from : Source). AddsFrom from bytes before s after) (sym is_old) (new, is_new, adds, stays)

@@ -2,6 +2,8 @@
 use Rattle.std.proofs.Common.{◌≡◌, ◌∙◌, ℕ, Bool, true, false, List, Option, None, Some, Result, Ok, Err, ◌++◌, ap, sym, subst, refl}
 use Rattle.std.specs.Prelude.{string_bytes}
 use Rattle.std.specs.Str.{chars}
+use Rattle.std.specs.declared.boxed.Box.{Box}
+use Rattle.std.specs.Global.{Global}
 use Rattle.saphyr_scalar.specs.declared.scalar.position.Marker.{Marker}
 use Rattle.saphyr_scalar.specs.declared.scalar.position.Span.{Span}
 use Rattle.saphyr_parser.specs.Types.Event.{Event}
@@ -140,6 +142,15 @@ gives_place item old new same gives later =
     subst (GivesNext item (at_bytes old later)) (sym (same_place old new same later))
     (gives (chars (old.waiting.items ++ later)))
 
+-- what a call does to a value that is lent from a box
+pub same_lent : (lent old new : Coming) → lent ≡ old → HasSameBytes lent new → HasSameBytes old new
+same_lent lent old new is same = subst (λ (m : Coming). HasSameBytes m new) is same
+
+pub hands_lent : (p : Option Progress) (next : Event × Span) (f : Fault) (lent old new : Coming) → lent ≡ old
+    → HandsOutOrWaits p next f lent.parser new.parser → HandsOutOrWaits p next f old.parser new.parser
+hands_lent p next f lent old new is hands =
+    subst (λ (m : Coming). HandsOutOrWaits p next f m.parser new.parser) is hands
+
 as_hands : (before after : Inner) (s : Status) (c : CEvent) (old new : Coming) → TellsC (handed after) s c
     → HandsOfPieces old before s c new after → HandsOfComing s c old before new after
 as_hands before after s c old new told =
@@ -153,12 +164,13 @@ as_shows before after s c old new told =
     (λ h. h) (λ h. h) (λ h. h) (λ h. h) (handed after) s c told
 
 -- what was shown is handed out
-pub hands_shown : (before after : Inner) (s : Status) (c : CEvent) (old : Coming)
-    → before.source ≡ source.Pieces old → before.shown ≡ true
-    → TellsKept (record before { source = source.Pieces old; shown = false }) s c after → HandsToC before s c after
-hands_shown before after s c old from shown told =
+pub hands_shown : (before after : Inner) (s : Status) (c : CEvent) (box : Box Coming Global)
+    → before.source ≡ source.Pieces box → before.shown ≡ true
+    → TellsKept (record before { source = source.Pieces box; shown = false }) s c after → HandsToC before s c after
+hands_shown before after s c box from shown told =
+    let old = box.value in
     subst (λ (x : Source). HandsFrom x before s c after) (sym from) (
-      old,
+      box,
       told.others.0,
       refl,
       as_hands before after s c old old told.tells (record {
@@ -170,12 +182,13 @@ hands_shown before after s c old from shown told =
     )
 
 -- what was shown is shown again
-pub shows_shown : (before after : Inner) (s : Status) (c : CEvent) (old : Coming)
-    → before.source ≡ source.Pieces old → before.shown ≡ true
-    → TellsKept (record before { source = source.Pieces old }) s c after → ShowsToC before s c after
-shows_shown before after s c old from shown told =
+pub shows_shown : (before after : Inner) (s : Status) (c : CEvent) (box : Box Coming Global)
+    → before.source ≡ source.Pieces box → before.shown ≡ true
+    → TellsKept (record before { source = source.Pieces box }) s c after → ShowsToC before s c after
+shows_shown before after s c box from shown told =
+    let old = box.value in
     subst (λ (x : Source). ShowsFrom x before s c after) (sym from) (
-      old,
+      box,
       told.others.0,
       refl,
       as_shows before after s c old old told.tells (record {
@@ -187,10 +200,17 @@ shows_shown before after s c old from shown told =
       }),
     )
 
-module _ (before : Inner) (s : Status) (c : CEvent) (old new : Coming) (next : Event × Span) (f : Fault)
-    (from : before.source ≡ source.Pieces old) (shown : before.shown ≡ false) (same : HasSameBytes old new) where
+module _ (before : Inner) (s : Status) (c : CEvent) (from_box to_box : Box Coming Global) (next : Event × Span)
+    (f : Fault) (from : before.source ≡ source.Pieces from_box) (shown : before.shown ≡ false)
+    (same : HasSameBytes from_box.value to_box.value) where
+  abbrev old : Coming
+  old = from_box.value
+
+  abbrev new : Coming
+  new = to_box.value
+
   abbrev read : Progress → Bool → Inner
-  read p b = record before { source = source.Pieces new; next = next; fault = f; progress = p; shown = b }
+  read p b = record before { source = source.Pieces to_box; next = next; fault = f; progress = p; shown = b }
 
   behind : (p : Progress) (b : Bool) (after : Inner) → HandsOutOrWaits (Some p) next f old.parser new.parser
       → TellsKept (read p b) s c after → (later : List ℕ) (here : EventCursor) → IsAt old before later here
@@ -207,7 +227,7 @@ module _ (before : Inner) (s : Status) (c : CEvent) (old new : Coming) (next : E
   hands_next p after hands kept =
       let told = subst (λ (b : Bool). TellsKept (read p b) s c after) shown kept in
       subst (λ (x : Source). HandsFrom x before s c after) (sym from) (
-        new,
+        to_box,
         told.others.0,
         same,
         as_hands before after s c old new told.tells (record {
@@ -222,7 +242,7 @@ module _ (before : Inner) (s : Status) (c : CEvent) (old new : Coming) (next : E
       → TellsKept (read p true) s c after → ShowsToC before s c after
   shows_next p after hands told =
       subst (λ (x : Source). ShowsFrom x before s c after) (sym from) (
-        new,
+        to_box,
         told.others.0,
         same,
         as_shows before after s c old new told.tells (record {
@@ -252,11 +272,12 @@ module _ (before : Inner) (s : Status) (c : CEvent) (old new : Coming) (next : E
       → HandsOutOrWaits None next f old.parser new.parser → Waits (read before.progress before.shown) s c after
       → (WaitsForMore old before status.More c new (read progress.Over before.shown)
       → Of status.More c old before new (read progress.Over before.shown))
-      → (n : Coming) × (after.source ≡ source.Pieces n) × HasSameBytes old n × Of s c old before n after
+      → (n : Box Coming Global) × (after.source ≡ source.Pieces n) × HasSameBytes old n.value
+      × Of s c old before n.value after
   none_comes Of after hands waits is =
-      subst (λ (a : Inner). (n : Coming) × (a.source ≡ source.Pieces n) × HasSameBytes old n × Of s c old before n a)
-      (sym waits.2) (
-        new,
+      subst (λ (a : Inner). (n : Box Coming Global) × (a.source ≡ source.Pieces n) × HasSameBytes old n.value
+      × Of s c old before n.value a) (sym waits.2) (
+        to_box,
         refl,
         same,
         subst (λ (s : Status). Of s c old before new (read progress.Over before.shown)) (sym waits.0)

@@ -3,6 +3,8 @@ use Rattle.std.specs.Prelude.{◌≡◌, ℕ, Bool, true, false, List, Option, S
 use Rattle.std.specs.Borrow.{Bor}
 use Rattle.std.specs.Str.{chars}
 use Rattle.std.specs.declared.alloc.AllocError.{AllocError}
+use Rattle.std.specs.declared.boxed.Box.{Box}
+use Rattle.std.specs.Global.{Global}
 use Rattle.saphyr_scalar.specs.declared.scalar.position.Span.{Span}
 use Rattle.saphyr_parser.specs.Limits.{most_characters}
 use Rattle.saphyr_parser.specs.Types.Event.{Event}
@@ -52,10 +54,14 @@ pub record IsOverText (text : List ℕ) (keep : Bool) (inner : Inner) : Type 0 w
   pub parser : inner.source ≡ source.Whole (keeping_tags keep fresh)
   pub event : IsFresh inner
 
+-- the source of a text that comes in pieces
+abbrev pub IsSourceOf : Coming → Source → Type 0
+IsSourceOf coming s = (b : Box Coming Global) × (s ≡ source.Pieces b) × (b.value ≡ coming)
+
 -- a parser of a text that comes in pieces, of which nothing came
 pub record IsOfPieces (keep : Bool) (inner : Inner) : Type 0 where
-  pub coming : Coming
-  pub nothing : IsOfNothing keep coming
+  pub coming : Box Coming Global
+  pub nothing : IsOfNothing keep coming.value
   pub source : inner.source ≡ source.Pieces coming
   pub event : IsFresh inner
 
@@ -135,8 +141,8 @@ HandsFrom (source.Whole old) before s c after =
     (new : EventCursor) × (after.source ≡ source.Whole new) × (after.shown ≡ before.shown)
     × HandsOfWhole old new after s c
 HandsFrom (source.Pieces old) before s c after =
-    (new : Coming) × (after.source ≡ source.Pieces new) × HasSameBytes old new
-    × HandsOfComing s c old before new after
+    (new : Box Coming Global) × (after.source ≡ source.Pieces new) × HasSameBytes old.value new.value
+    × HandsOfComing s c old.value before new.value after
 
 -- what comes next is handed out, or it waits for more of the text
 abbrev pub HandsToC : Inner → Status → CEvent → Inner → Type 0
@@ -147,8 +153,8 @@ ShowsFrom (source.Whole old) before s c after =
     (new : EventCursor) × (after.source ≡ source.Whole new) × (after.shown ≡ before.shown) × ShowsOfWhole old new s c
     × (handed after ≡ handed before)
 ShowsFrom (source.Pieces old) before s c after =
-    (new : Coming) × (after.source ≡ source.Pieces new) × HasSameBytes old new
-    × ShowsOfComing s c old before new after
+    (new : Box Coming Global) × (after.source ≡ source.Pieces new) × HasSameBytes old.value new.value
+    × ShowsOfComing s c old.value before new.value after
 
 -- what comes next is shown, or it waits for more of the text
 abbrev pub ShowsToC : Inner → Status → CEvent → Inner → Type 0
@@ -162,7 +168,8 @@ StaysBut s before after = after ≡ record before { source = after.source }
 abbrev pub AddsFrom : Source → List ℕ → Inner → Status → Inner → Type 0
 AddsFrom (source.Whole old) bytes before s after = (s ≡ status.Whole) × (after ≡ before)
 AddsFrom (source.Pieces old) bytes before s after =
-    (new : Coming) × (after.source ≡ source.Pieces new) × Adds bytes old s new × StaysBut s before after
+    (new : Box Coming Global) × (after.source ≡ source.Pieces new) × Adds bytes old.value s new.value
+    × StaysBut s before after
 
 -- the next bytes of a text in pieces are added
 abbrev pub AddsToC : List ℕ → Inner → Status → Inner → Type 0
@@ -170,7 +177,8 @@ AddsToC bytes before s after = AddsFrom before.source bytes before s after
 
 abbrev pub IsSourceCopy : Source → Source → Type 0
 IsSourceCopy (source.Whole old) copy = copy ≡ source.Whole old
-IsSourceCopy (source.Pieces old) copy = (new : Coming) × (copy ≡ source.Pieces new) × IsCopyOfPieces old new
+IsSourceCopy (source.Pieces old) copy =
+    (new : Box Coming Global) × (copy ≡ source.Pieces new) × IsCopyOfPieces old.value new.value
 
 -- the same item, wherever its texts are
 abbrev pub IsSameItem : Option (Result (Event × Span) Fault) → Option (Result (Event × Span) Fault) → Type 0
@@ -189,8 +197,8 @@ IsCopyOfParser inner copy = IsSourceCopy inner.source copy.source × IsShownCopy
 abbrev pub KeepsFrom : Source → Bool → Source → Type 0
 KeepsFrom (source.Whole old) keep new = new ≡ source.Whole (keeping_tags keep old)
 KeepsFrom (source.Pieces old) keep new =
-    (coming : Coming) × (new ≡ source.Pieces coming) × HasSameBytes old coming
-    × ((later : List ℕ) → at_bytes coming later ≡ keeping_tags keep (at_bytes old later))
+    (coming : Box Coming Global) × (new ≡ source.Pieces coming) × HasSameBytes old.value coming.value
+    × ((later : List ℕ) → at_bytes coming.value later ≡ keeping_tags keep (at_bytes old.value later))
 
 -- it has that setting, and nothing else changes
 abbrev pub SetsKeepTags : Bool → Inner → Inner → Type 0

@@ -83,7 +83,7 @@ impl Inner {
         ensures { IfOk result (λ b. spec.IsOfPieces keep_tags b.value) }
     {
         let coming = Coming::new(alloc, keep_tags)?;
-        let inner = Inner::fresh(alloc, Source::Pieces(coming))?;
+        let inner = Inner::fresh(alloc, Source::of_pieces(alloc, coming)?)?;
         Ok(inner)
     }
 
@@ -111,16 +111,20 @@ impl Inner {
         match &mut self.source {
             Source::Whole(parser) => {
                 self.progress = parser.next_event_into(&mut self.next, &mut self.fault);
+                self.tell(alloc, out)
             }
-            Source::Pieces(_) if self.shown => self.shown = false,
+            Source::Pieces(_) if self.shown => {
+                self.shown = false;
+                self.tell(alloc, out)
+            }
             Source::Pieces(coming) => {
                 let Some(progress) = coming.next_into(&mut self.next, &mut self.fault) else {
                     return self.wait(out);
                 };
                 self.progress = progress;
+                self.tell(alloc, out)
             }
         }
-        self.tell(alloc, out)
     }
 
     // Says that it waits for more of the text.
@@ -133,6 +137,7 @@ impl Inner {
     }
 
     // Tells what is kept.
+    #[inline(always)]
     fn tell(&mut self, alloc: Global, out: &mut CEvent) -> Status
         ensures { spec.TellsKept self.old result out.new self.new }
     {

@@ -1,8 +1,19 @@
-use Rattle.std.proofs.Common.{refl}
+use Rattle.std.proofs.Common.{◌≡◌, List, ℕ, refl, subst}
+use Rattle.saphyr_parser.specs.Cursor.{keeping_tags}
+use Rattle.saphyr_pieces.specs.Pieces.{at}
+use Rattle.saphyr_parser_c.specs.declared.coming.Coming.{Coming}
+use Rattle.saphyr_parser_c.specs.Inner.{HasSameBytes}
 use Rattle.saphyr_parser_c.proofs.OfPieces.{keeps_from_pieces}
 use Rattle.saphyr_parser_c.proofs.inner.Inner.keep_tags.Goals as goal
 
 pub returns-in-Pieces : goal.returns-in-Pieces
 returns-in-Pieces c =
+    let value = c.args.value in
+    let new = c.keep_tags-in-Pieces.new.self in
     let kept = c.keep_tags-in-Pieces.ensures in
-    (keeps_from_pieces c.args.value _ _ _ c.in-Pieces.is kept.at kept.same, refl)
+    let is = c.deref_mut.ensures.value in (
+      keeps_from_pieces value _ c.in-Pieces.coming _ c.in-Pieces.is
+          (subst (λ (m : Coming). (later : List ℕ) → at new.parser later ≡ keeping_tags value (at m.parser later)) is kept.at)
+          (subst (λ (m : Coming). HasSameBytes m new) is kept.same),
+      refl,
+    )

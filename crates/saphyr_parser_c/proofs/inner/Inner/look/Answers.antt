@@ -1,21 +1,34 @@
 -- What is read, or was shown, is shown.
-use Rattle.saphyr_parser_c.proofs.Handing.{shows_next, shows_none, shows_shown}
+use Rattle.std.proofs.Common.{None, Some}
+use Rattle.saphyr_parser_c.proofs.Handing.{hands_lent, same_lent, shows_next, shows_none, shows_shown}
 use Rattle.saphyr_parser_c.proofs.inner.Inner.look.Goals as goal
 
 pub returns-in_default : goal.returns-in_default
 returns-in_default c =
-    shows_none c.args.self.now c.wait.result c.wait.new.out c.in-Pieces.field-0 c.next_into.new.self
-    c.next_into.new.next c.next_into.new.fault c.in-Pieces.is c.if-self.false c.next_into.ensures.same
-    c.wait.new.self c.in_default.ensures.next c.wait.ensures
+    let lent = c.deref_mut.result.now in
+    let old = c.in-Pieces.field-0.value in
+    let new = c.next_into.new.self in
+    let is = c.deref_mut.ensures.value in
+    shows_none c.args.self.now c.wait.result c.wait.new.out c.in-Pieces.field-0 _ c.next_into.new.next
+    c.next_into.new.fault c.in-Pieces.is c.if-self.false (same_lent lent old new is c.next_into.ensures.same)
+    c.wait.new.self
+    (hands_lent None c.next_into.new.next c.next_into.new.fault lent old new is c.in_default.ensures.next)
+    c.wait.ensures
 
 pub returns-in-Pieces : goal.returns-in-Pieces
 returns-in-Pieces c =
-    shows_shown c.args.self.now c.tell.new.self c.tell.result c.tell.new.out c.in-Pieces.field-0 c.in-Pieces.is
-    c.if-self.true c.tell.ensures
+    shows_shown c.args.self.now c.tell.new.self c.tell.result c.tell.new.out
+    c.in-Pieces.field-0 c.in-Pieces.is c.if-self.true c.tell.ensures
 
 pub returns-in-Some : goal.returns-in-Some
 returns-in-Some c =
-    shows_next c.args.self.now c.tell-in-Pieces-2.result c.tell-in-Pieces-2.new.out c.in-Pieces.field-0
-    c.next_into.new.self c.next_into.new.next c.next_into.new.fault c.in-Pieces.is c.if-self.false
-    c.next_into.ensures.same c.in-Some.progress c.tell-in-Pieces-2.new.self c.in-Some.ensures.next
+    let lent = c.deref_mut.result.now in
+    let old = c.in-Pieces.field-0.value in
+    let new = c.next_into.new.self in
+    let is = c.deref_mut.ensures.value in
+    let p = c.in-Some.progress in
+    shows_next c.args.self.now c.tell-in-Pieces-2.result c.tell-in-Pieces-2.new.out c.in-Pieces.field-0 _
+    c.next_into.new.next c.next_into.new.fault c.in-Pieces.is c.if-self.false
+    (same_lent lent old new is c.next_into.ensures.same) p c.tell-in-Pieces-2.new.self
+    (hands_lent (Some p) c.next_into.new.next c.next_into.new.fault lent old new is c.in-Some.ensures.next)
     c.tell-in-Pieces-2.ensures
