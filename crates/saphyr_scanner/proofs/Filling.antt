@@ -1,11 +1,12 @@
 -- Tokens are read until the first of the queue can be handed out.
-use Rattle.std.proofs.Common.{◌≡◌, ℕ, zero, suc, ◌<◌, Bool, true, false, Result, Ok, Err, refl, sym, ◌∙◌, arith, subst}
-use Rattle.std.specs.Prelude.{◌&&◌, not}
+use Rattle.std.proofs.Common.{◌≡◌, ℕ, zero, suc, ◌<◌, Bool, true, false, Result, Ok, refl, sym, ◌∙◌, arith, subst}
+use Rattle.std.specs.Prelude.{◌&&◌, ◌||◌, not, None}
 use Rattle.saphyr_scalar.specs.declared.scalar.fault.Refusal.{Refusal}
 use Rattle.saphyr_scalar.specs.Views.Cursor.{◌>>=◌}
 use Rattle.saphyr_scanner.specs.Steps.Core.{Core, in_block, is_too_far, drop_far_key, forget_key}
 use Rattle.saphyr_scanner.specs.Steps.State.{State, on_core}
-use Rattle.saphyr_scanner.specs.Steps.Fetch.{size, fetch_within, without_far_key, needs_token, fill_in, fill}
+use Rattle.saphyr_scanner.specs.Steps.Fetch.{size, fetch_within, without_far_key, is_held, needs_token, fill_in, fill}
+use Rattle.saphyr_scanner.specs.Steps.Queue.{is_empty}
 use Rattle.saphyr_scanner.proofs.Effects.Readers.{Readers}
 use Rattle.saphyr_scanner.proofs.Effects.Fetch.{Fetched, read_fetched}
 use Rattle.saphyr_input.proofs.Basics.Booleans.{by_test}
@@ -50,6 +51,27 @@ fetched_is_one_more laws limit s u needs e =
     let less = smaller_read laws limit s u needs e in
     let unfolded : fill_in (suc (size s.core)) limit s ≡ fill_in (size s.core) limit u = rw (needs, e) refl in
     enough laws limit (suc (size u.core)) (size s.core) u (omega arith) less ∙ sym unfolded
+
+-- ## Where there is no candidate, none is too far
+
+pub no_key_settles : (s : State) → s.core.level.key ≡ None → without_far_key s ≡ Ok s
+unfolding drop_far_key
+no_key_settles s e = go (in_block s.core) refl
+  where
+    go : (b : Bool) → in_block s.core ≡ b → without_far_key s ≡ Ok s
+    go true i = rw (i, e) refl
+    go false i = rw i refl
+
+-- ## Where the head of the queue can be handed out
+
+pub ended_needs_none : (s : State) → s.core.ended ≡ true → needs_token s ≡ false
+ended_needs_none s e = rw e refl
+
+pub free_needs_none : (s : State) → is_empty s.queue ≡ false → is_held s ≡ false → needs_token s ≡ false
+free_needs_none s e f = go s.core.ended (is_empty s.queue) (is_held s) e f
+  where
+    go : (ended empty held : Bool) → empty ≡ false → held ≡ false → (not ended && (empty || held)) ≡ false
+    go ended empty held e f = grind arith
 
 -- ## A candidate that was dropped stays so
 

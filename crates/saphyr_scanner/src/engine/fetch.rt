@@ -418,16 +418,45 @@ impl<T: Input> Engine<T> {
         self.drops_far_key()
     }
 
-    /// Reads until a token at the head of the queue can be handed out, unless all were.
+    // Whether nothing that is open has a candidate. Then no token is held.
     #[inline(always)]
+    fn has_no_candidate(&self) -> bool
+        ensures settled { IsTrue result
+            → fetch.without_far_key (state self.now) ≡ Ok (state self.now) }
+        ensures free { IsTrue result → fetch.is_held (state self.now) ≡ false }
+    {
+        self.level.key.is_none() && self.outer.is_empty()
+    }
+
+    // Reads until a token at the head of the queue can be handed out, where a candidate may be far or hold it, with
+    // the stop kept, as `reads_on` does.
+    #[inline(never)]
     #[tactic(auto, unfolding(crate::specs::Steps::Fetch::fill))]
+    fn fills(&mut self, limit: usize) -> bool
+        ensures { MovesBy (fetch.fill limit) self.old (answer_of result self.new.stop) self.new }
+    {
+        if !self.lets_far_key_go() {
+            return false;
+        }
+        if self.needs_token() {
+            return self.reads_on(limit);
+        }
+        true
+    }
+
+    /// Reads until a token at the head of the queue can be handed out, unless all were. Mostly there is no candidate,
+    /// and then this looks at the queue alone.
+    #[inline(always)]
     pub(crate) fn fill(&mut self, limit: usize) -> Result<(), Stop>
         ensures { MovesBy (fetch.fill limit) self.old result self.new }
     {
-        if !self.lets_far_key_go() {
+        if !self.has_no_candidate() {
+            if self.fills(limit) {
+                return Ok(());
+            }
             return Err(self.stop);
         }
-        if self.needs_token() && !self.reads_on(limit) {
+        if self.queue.is_empty() && !self.ended && !self.reads_on(limit) {
             return Err(self.stop);
         }
         Ok(())
