@@ -56,8 +56,9 @@ impl<T: Input> Machine<T> {
         }
     }
 
-    // Reads the next event or fault into its place, if there is one.
-    #[inline(always)]
+    // Reads the next event or fault into its place, if there is one. The step is inlined here, and this is not
+    // inlined, so that only a byte is returned: the room for a stop would be written and read at each event.
+    #[inline(never)]
     #[tactic(auto, using(crate::proofs::Turns::refused))]
     pub(super) fn advance<'input>(
         &mut self,
@@ -83,7 +84,7 @@ impl<T: Input> Machine<T> {
 
     // The next event, which is written into its place. The states that are rarely expected return the result of their
     // function as it is.
-    #[inline(never)]
+    #[inline(always)]
     #[tactic(auto, unfolding(crate::specs::Steps::Expected::event_step))]
     pub(super) fn event<'input>(&mut self, next: &mut (Event<'input>, Span)) -> Result<(), Stop>
         requires { (machine_of self.old).state ≢ End }

@@ -8,7 +8,7 @@ mod row;
 mod slot;
 mod texts;
 
-ghost use Rattle.std.specs.Prelude.{◌≡◌, false, Ok, OnOk, length, string_bytes};
+ghost use Rattle.std.specs.Prelude.{◌≡◌, false, Ok, OnErr, OnOk, length, string_bytes};
 ghost use Rattle.saphyr_scanner.specs.Grammar.Tokens as tokens;
 ghost use Rattle.saphyr_scanner.specs.Steps.Queue as spec;
 
@@ -268,8 +268,9 @@ impl Queue {
     /// Sets what comes in front of the token at a place.
     #[tactic(auto, using(crate::proofs::Rows::opened_behind_row))]
     pub(crate) fn set_opening(&mut self, number: usize, opening: Opening) -> Result<(), AllocError>
-        ensures { OnOk result
+        ensures opened { OnOk result
             (queue self.new ≡ spec.with_opening number opening (queue self.old)) }
+        ensures refused { OnErr result (1 < self.old.second.count) }
     {
         let mut nth = number.saturating_sub(self.handed);
         if self.first.is_full {

@@ -1,6 +1,6 @@
 //! A place for a token that is held only briefly, or for the ends of several block collections.
 
-ghost use Rattle.std.specs.Prelude.{◌≡◌, ◌+◌, ◌<◌, ◌^◌, [], ◌∷◌, List, Some, IfOk, OnOk};
+ghost use Rattle.std.specs.Prelude.{◌≡◌, ◌+◌, ◌<◌, ◌^◌, ◌∷◌, List, Some, IfOk, OnErr, OnOk};
 ghost use Rattle.saphyr_scanner.specs.Grammar.Tokens as tokens;
 ghost use Rattle.saphyr_scanner.specs.Steps.Queue as spec;
 ghost use Rattle.saphyr_scanner.specs.Views.Tokens.{kind_of};
@@ -81,8 +81,9 @@ impl Row {
     /// becomes a key. To put something between such ends would take memory, so that call fails.
     pub(super) fn open(&mut self, nth: usize, opening: Opening) -> Result<(), AllocError>
         requires { nth < self.old.count }
-        ensures { OnOk result ((behind : List spec.Place) → in_row self.new behind
+        ensures opened { OnOk result ((behind : List spec.Place) → in_row self.new behind
             ≡ spec.places_with_opening nth opening (in_row self.old behind)) }
+        ensures refused { OnErr result (0 < nth) }
     {
         if nth > 0 {
             return Err(AllocError);
