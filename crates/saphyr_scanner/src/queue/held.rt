@@ -104,8 +104,8 @@ impl Held {
         Ok(())
     }
 
-    // The place where a span begins and the number of its characters, if it is as `near` says, and a place can be put at
-    // the end at once.
+    // The place where a span begins and the number of its characters, if it is as `near` says, and a place can be put
+    // at the end at once.
     #[inline(always)]
     fn near_with_room(&self, span: &Span) -> Option<(NearMarker, u8)>
         ensures near { IfSome result (λ found. near_span found.0 found.1 ≡ span.now) }

@@ -31,7 +31,8 @@ unfolding held_places
 returns-in_default-2 c =
     let old = c.args.self.now in
     let rare = c.put_scalar_rarely-in_default-2 in
-    let token = bare_place (record { span = c.args.span.now; kind = tokens.Scalar c.args.style (string_bytes c.args.text) }) in
+    let kind = tokens.Scalar c.args.style (string_bytes c.args.text) in
+    let token = bare_place (record { span = c.args.span.now; kind = kind }) in
     subst (λ (ps : List Place). OnOk rare.result (held_places rare.new.self ≡ ps ++ token ∷ []))
     (ap (drop old.spent) (places_stay old.texts.bytes.items c.keep.new.self.bytes.items old.places.items
     c.keep.ensures.grows old.have_texts).1)
