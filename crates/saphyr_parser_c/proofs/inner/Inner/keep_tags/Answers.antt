@@ -13,7 +13,8 @@ returns-in-Pieces c =
     let kept = c.keep_tags-in-Pieces.ensures in
     let is = c.deref_mut.ensures.value in (
       keeps_from_pieces value _ c.in-Pieces.coming _ c.in-Pieces.is
-          (subst (λ (m : Coming). (later : List ℕ) → at new.parser later ≡ keeping_tags value (at m.parser later)) is kept.at)
+          (subst (λ (m : Coming). (later : List ℕ) → at new.parser later ≡ keeping_tags value (at m.parser later)) is
+          kept.at)
           (subst (λ (m : Coming). HasSameBytes m new) is kept.same),
       refl,
     )
