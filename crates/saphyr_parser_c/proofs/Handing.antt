@@ -13,8 +13,8 @@ use Rattle.saphyr_machine.specs.declared.progress.Progress.{Progress}
 use Rattle.saphyr_machine.specs.declared.progress.Progress.TheVariants as progress
 use Rattle.saphyr_parser.specs.Answer.{Answer, Ending, Refused, fault_alone, remaining_answer, with_first_event}
 use Rattle.saphyr_parser.specs.Events.{Happening}
-use Rattle.saphyr_parser.specs.Calls.{Advances, EndsTheStream, FailsFrom, GivesNext, IsToldAs, given_fault, item_at}
-use Rattle.saphyr_parser.specs.Cursor.{EventCursor, HandsOutNext, Kept, Refuses, ending_of_fault, to_come}
+use Rattle.saphyr_parser.specs.Calls.{Advances, FailsFrom, GivesNext, IsToldAs, given_fault, item_at}
+use Rattle.saphyr_parser.specs.Cursor.{EventCursor, HandsOutNext, Kept, Refuses, ending_of_fault}
 use Rattle.saphyr_pieces.specs.Pieces.{HandsOutOrWaits, at}
 use Rattle.saphyr_parser_c.specs.declared.coming.Coming.{Coming}
 use Rattle.saphyr_parser_c.specs.declared.inner.Inner.{Inner}
@@ -107,27 +107,6 @@ told_so Q end event refused memory (Some (Err (fault.Scan e))) s c told = subst 
 told_so Q end event refused memory (Some (Err fault.OutOfMemory)) s c told = subst Q (sym told.0) memory
 told_so Q end event refused memory (Some (Err fault.Receiver)) s c told = subst Q (sym told.0) memory
 told_so Q end event refused memory (Some (Err fault.InsideDocument)) s c told = subst Q (sym told.0) memory
-
--- ## A whole text
-
-pub hands_whole : (before after : Inner) (s : Status) (c : CEvent) (old new : EventCursor) (next : Event × Span)
-    (f : Fault) (p : Progress) → before.source ≡ source.Whole old
-    → HandsOutNext (item_at next f p) (to_come old) (to_come new) → GivesNext (item_at next f p) old new
-    → EndsTheStream new
-    → TellsKept (record before { source = source.Whole new; next = next; fault = f; progress = p }) s c after
-    → HandsToC before s c after
-hands_whole before after s c old new next f p from hands gives over told =
-    subst (λ (x : Source). HandsFrom x before s c after) (sym from) (
-      new,
-      told.others.0,
-      told.others.1,
-      record {
-        hands = hands_same (item_at next f p) (handed after) (to_come old) (to_come new) told.same hands;
-        gives = gives_same (item_at next f p) (handed after) old new told.same gives;
-        over = over;
-        tells = told.tells;
-      },
-    )
 
 -- ## A text that comes in pieces
 
