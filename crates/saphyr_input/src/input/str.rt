@@ -4,6 +4,7 @@ ghost use Rattle.std.specs.Str.{chars};
 ghost use Rattle.saphyr_input.specs.Places as spec;
 
 mod text;
+mod wide;
 
 use self::text::{
     ascii_run, begins_with_2, behind, blank_words, first_byte, is_marker, nth_char, run, run_here,

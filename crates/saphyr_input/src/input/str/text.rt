@@ -11,6 +11,7 @@ ghost use Rattle.saphyr_input.specs.Separation as separation;
 use crate::char_set::{Blank, CharSet, SpacedSet};
 use crate::char_traits::is_blank_or_breakz;
 use crate::input::SkipTabs;
+use crate::input::str::wide::strip_wide;
 
 // The first byte, and NUL at the end.
 #[inline]
@@ -137,116 +138,6 @@ pub(super) fn ascii_run<C: CharSet>(text: &str) -> (usize, &str)
 {
     let count = ascii_len::<C>(text.as_bytes());
     (count, &text[count..])
-}
-
-// How many bytes a character has whose UTF-8 begins with the byte, which is not ASCII.
-#[inline(always)]
-fn wide_len(byte: u8) -> usize
-    requires { 128 ≤ byte }
-    ensures { (c : ℕ) → spec.IsFirstByte byte c → result ≡ len_utf8 c }
-{
-    if byte < 0xE0 {
-        2
-    } else if byte < 0xF0 {
-        3
-    } else {
-        4
-    }
-}
-
-// Whether a character of `size` bytes begins with the byte, and is in the class by it.
-#[inline(always)]
-fn is_sized<C: CharSet>(byte: u8, size: usize) -> bool
-    ensures { IsTrue result → spec.IsSized C.test byte size }
-{
-    if byte < 0x80 {
-        return false;
-    }
-    wide_len(byte) == size && C::has_wide(byte)
-}
-
-// The first character, which has `size` bytes and is in the class by the first of them, and those of the same kind
-// right behind it: how many, and what follows them.
-#[inline(always)]
-fn sized_run<C: CharSet>(text: &str, size: usize) -> (usize, &str)
-    requires first { spec.IsSized C.test (slice_index text.now 0) size }
-    ensures some { 0 < result.0 }
-    ensures part { result.0 + prefix_len C.test (chars result.1.now)
-        ≡ prefix_len C.test (chars text.now) }
-    ensures rest { chars result.1.now ≡ drop result.0 (chars text.now) }
-{
-    let bytes = text.as_bytes();
-    let mut count = 1;
-    let mut at = size;
-    while at < bytes.len() && is_sized::<C>(bytes[at], size) {
-        count += 1;
-        at += size;
-    }
-    (count, &text[at..])
-}
-
-// What follows the first character, if this is in the class and not ASCII, but its first byte does not tell that.
-#[inline]
-fn strip_decoded<C: CharSet>(text: &str) -> Option<&str>
-    ensures some { IfSome result (λ rest. prefix_len C.test (chars text.now)
-        ≡ 1 + prefix_len C.test (chars rest.now)) }
-    ensures rest { IfSome result (λ rest. chars rest.now ≡ drop 1 (chars text.now)) }
-{
-    let byte = text.as_bytes().first().copied().unwrap_or(0);
-    if byte < 0x80 || C::has_wide(byte) {
-        return None;
-    }
-    let (first, rest) = split_first(text);
-    if C::has(first) { Some(rest) } else { None }
-}
-
-// Such characters that come first: how many, and what follows them.
-#[inline]
-fn decoded_run<C: CharSet>(text: &str) -> (usize, &str)
-    ensures part { result.0 + prefix_len C.test (chars result.1.now)
-        ≡ prefix_len C.test (chars text.now) }
-    ensures rest { chars result.1.now ≡ drop result.0 (chars text.now) }
-{
-    // There are fewer than 2^64 bytes, and no more characters than bytes.
-    let _ = text.as_bytes();
-    let mut count = 0;
-    let mut rest = text;
-    while let Some(after) = strip_decoded::<C>(rest) {
-        count += 1;
-        rest = after;
-    }
-    (count, rest)
-}
-
-// Characters of the class that come first and are not ASCII: how many, and what follows them.
-#[inline(always)]
-fn strip_wide<C: CharSet>(text: &str) -> Option<(usize, &str)>
-    ensures none { IfNone result (spec.ascii_in C.test (slice_index text.now 0) ≡ false
-        → prefix_len C.test (chars text.now) ≡ 0) }
-    ensures some { IfSome result (λ wide. 0 < wide.0) }
-    ensures part { IfSome result (λ wide. wide.0 + prefix_len C.test (chars wide.1.now)
-        ≡ prefix_len C.test (chars text.now)) }
-    ensures rest { IfSome result (λ wide. chars wide.1.now ≡ drop wide.0 (chars text.now)) }
-{
-    let byte = text.as_bytes().first().copied().unwrap_or(0);
-    if byte < 0x80 {
-        return None;
-    }
-    if !C::has_wide(byte) {
-        let (first, rest) = split_first(text);
-        if !C::has(first) {
-            return None;
-        }
-        let (more, rest) = decoded_run::<C>(rest);
-        return Some((1 + more, rest));
-    }
-    // For speed: most characters need not be put together from their bytes, and a loop for characters of one
-    // length has few instructions.
-    match wide_len(byte) {
-        2 => Some(sized_run::<C>(text, 2)),
-        3 => Some(sized_run::<C>(text, 3)),
-        size => Some(sized_run::<C>(text, size)),
-    }
 }
 
 // The longest run of the class: how many characters it has, and what follows it.

@@ -1,6 +1,6 @@
 use Rattle.std.proofs.Common.{arith}
 use Rattle.std.proofs.lemmas.Bool.Decides.{nat_tests}
-use Rattle.saphyr_input.proofs.input.str.text.wide_len.Goals as goal
+use Rattle.saphyr_input.proofs.input.str.wide.wide_len.Goals as goal
 
 pub returns-then-byte-lt224 : goal.returns-then-byte-lt224
 unfolding lib.Utf8.encode

@@ -1,5 +1,5 @@
 use Rattle.saphyr_input.proofs.WideChars.{sized}
-use Rattle.saphyr_input.proofs.input.str.text.is_sized.Goals as goal
+use Rattle.saphyr_input.proofs.input.str.wide.is_sized.Goals as goal
 
 pub returns-then-wide_len-size : goal.returns-then-wide_len-size
 returns-then-wide_len-size g c =

@@ -1,7 +1,7 @@
 use Rattle.std.proofs.Common.{arith, rules}
 use Rattle.std.specs.Str.{chars}
 use Rattle.saphyr_input.proofs.Texts.{run_fits, ran_one}
-use Rattle.saphyr_input.proofs.input.str.text.decoded_run.Goals as goal
+use Rattle.saphyr_input.proofs.input.str.wide.decoded_run.Goals as goal
 
 pub overflow_add-count : goal.overflow_add-count
 overflow_add-count g c =

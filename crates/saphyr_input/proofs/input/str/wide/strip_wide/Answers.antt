@@ -2,7 +2,7 @@ use Rattle.std.proofs.Common.{◌≡◌, ◌<◌, true, get_or, sym, ◌∙◌, 
 use Rattle.std.specs.Str.{chars}
 use Rattle.saphyr_input.proofs.Ascii.{no_ascii_run, first_of_run}
 use Rattle.saphyr_input.proofs.Texts.{run_fits}
-use Rattle.saphyr_input.proofs.input.str.text.strip_wide.Goals as goal
+use Rattle.saphyr_input.proofs.input.str.wide.strip_wide.Goals as goal
 
 pub returns-then-byte-lt128-clause-none : goal.returns-then-byte-lt128-clause-none
 returns-then-byte-lt128-clause-none g c =
