@@ -4,6 +4,6 @@
 pub mod scalar;
 
 pub use scalar::{
-    BlockScalar, Directive, DirectiveLine, FaultText, Marker, PlainScalar, Reader, Refusal,
-    ScalarStyle, ScanError, Span, Spare, Stop, TagParts,
+    BlockScalar, Directive, DirectiveLine, FaultText, Marker, PlainEnd, PlainScalar, Reader,
+    Refusal, ScalarStyle, ScanError, Span, Spare, Stop, TagParts,
 };

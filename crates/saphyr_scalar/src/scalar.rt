@@ -27,7 +27,7 @@ pub use law::{
     places_each_block_scalar, reads_plain_values, spells_each_quoted, spells_quoted_lines,
     takes_anchor, takes_block_scalar, takes_directive, takes_plain, takes_quoted, takes_tag,
 };
-pub use plain::PlainScalar;
+pub use plain::{PlainEnd, PlainScalar};
 pub use position::{Marker, Span};
 pub use property_law::{spells_each_anchor, spells_each_tag};
 pub use reader::Reader;

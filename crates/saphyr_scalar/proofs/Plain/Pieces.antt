@@ -27,6 +27,9 @@ text_twice a b (Err e) = refl
 pub no_text : (read : PlainScalarRead) → with_text [] read ≡ read
 no_text read = grind arith
 
+pub behind_no_text : (text : List ℕ) (read : PlainScalarRead) → text ≡ [] → with_text text read ≡ read
+behind_no_text text read empty = ap (λ b. with_text b read) empty ∙ no_text read
+
 pub not_in_word : (f : Bool) → is_in_word f [] ≡ false
 unfolding is_in_word
 not_in_word f = refl
@@ -295,6 +298,14 @@ pub plain_starts : (f : Bool) (i : ℕ) (s t : Cursor) → word_starts f s ≡ O
     → plain f i s ≡ word f i s.mark t.mark t.rest
 unfolding plain
 plain_starts f i s t h = cc
+
+-- Behind a text the scalar is what was moved of its first words, and what is left, where `seen` looks at it.
+pub words_and_rest : (f : Bool) (i : ℕ) (s there end seen : Cursor) (text grown : List ℕ)
+    → word_starts f s ≡ Ok (true, there) → PlainWordsMoved f text grown there end → seen ≡ end
+    → with_text grown (word f i s.mark seen.mark seen.rest) ≡ with_text text (plain f i s)
+words_and_rest f i s there end seen text grown starts moved same =
+    ap (λ (x : Cursor). with_text grown (word f i s.mark x.mark x.rest)) same ∙ moved.same i s.mark
+    ∙ ap (with_text text) (sym (plain_starts f i s there starts))
 
 -- a refusal that `?` hands on
 pub moves_refused : {X Y : Type 0} (view : X → Y) (r : Result X Stop) (f : Result Y Refusal) (refusal : Refusal)

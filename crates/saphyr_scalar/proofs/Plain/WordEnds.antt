@@ -1,5 +1,5 @@
 -- Where a word of a plain scalar ends before neither a blank nor a break, the scalar ends.
-use Rattle.std.proofs.Common.{◌≡◌, ℕ, Bool, true, false, List, [], slice_index, Ok, refl, ap, ◌∙◌, arith}
+use Rattle.std.proofs.Common.{◌≡◌, ℕ, Bool, true, false, List, [], slice_index, Ok, refl, sym, ap, ◌∙◌, arith}
 use Rattle.std.specs.Prelude.{◌==◌, not, None}
 use Rattle.std.proofs.lemmas.Bool.{or_parts}
 use Rattle.std.proofs.lemmas.Bool.Decides.{nat_tests}
@@ -9,9 +9,9 @@ use Rattle.saphyr_input.specs.Places.{is_blank_or_break}
 use Rattle.saphyr_input.proofs.Basics.Booleans.{by_test, and_false}
 use Rattle.saphyr_scalar.specs.declared.scalar.position.Marker.{Marker}
 use Rattle.saphyr_scalar.specs.Views.Cursor.{Cursor, pass}
-use Rattle.saphyr_scalar.specs.Steps.Plain.{PlainGap, is_in_word, PlainWordsMoved, seen_gap, gap_from, gap, comment_of, with_text, word}
+use Rattle.saphyr_scalar.specs.Steps.Plain.{PlainGap, is_in_word, PlainWordsMoved, seen_gap, gap_from, gap, comment_of, with_text, word_starts, word, plain}
 use Rattle.saphyr_scalar.proofs.NoSeparation.{no_run}
-use Rattle.saphyr_scalar.proofs.Plain.Pieces.{GapMoved, goes_not, no_turn}
+use Rattle.saphyr_scalar.proofs.Plain.Pieces.{GapMoved, goes_not, no_turn, words_and_rest}
 
 -- where a word has ended, no more of it is moved
 pub none_moved : (f : Bool) (text : List ℕ) (s : Cursor) → is_in_word f s.rest ≡ false → s.blank_so_far ≡ false
@@ -47,9 +47,20 @@ unfolding comment_of
 no_comment f s ends = by_test (slice_index s.rest 0 == 35) true false (λ _. comment_of f false s ≡ None) (λ is.
     let goes = hash_in_word f s.rest (grind (arith, nat_tests)) in absurd (cc)) (λ is. rw (is, and_false (not f)) refl)
 
-pub scalar_ends : (f : Bool) (i : ℕ) (a : Marker) (text : List ℕ) (s : Cursor) → is_in_word f s.rest ≡ false
+scalar_ends : (f : Bool) (i : ℕ) (a : Marker) (text : List ℕ) (s : Cursor) → is_in_word f s.rest ≡ false
     → s.blank_so_far ≡ false → is_blank_or_break (slice_index s.rest 0) ≡ false
     → with_text text (word f i a s.mark s.rest) ≡ Ok (text, s.mark, None, s)
 scalar_ends f i a text s ends line ink =
     no_turn f i a text text s s (seen_gap false [] s) s (still_moved f i a text s (seen_gap false [] s) ends line
     (gap_before_ink i a s line ink)) (goes_not f i s ends) ∙ ap (λ x. Ok (text, s.mark, x, s)) (no_comment f s ends)
+
+-- the same of a whole scalar behind a text, where `seen` looks at the character behind its first words
+pub words_end : (f : Bool) (i : ℕ) (s there end seen : Cursor) (text grown : List ℕ) (c : ℕ)
+    → word_starts f s ≡ Ok (true, there) → PlainWordsMoved f text grown there end → seen ≡ end
+    → c ≡ slice_index end.rest 0 → is_blank c ≡ false → is_break c ≡ false
+    → with_text text (plain f i s) ≡ Ok (grown, seen.mark, None, seen)
+words_end f i s there end seen text grown c starts moved same is blank break =
+    let ink : is_blank_or_break (slice_index end.rest 0) ≡ false = rw (← is, blank, break) refl in
+    sym (words_and_rest f i s there end end text grown starts moved refl)
+    ∙ scalar_ends f i s.mark grown end moved.stops moved.on_line ink
+    ∙ ap (λ (x : Cursor). Ok (grown, x.mark, None, x)) (sym same)

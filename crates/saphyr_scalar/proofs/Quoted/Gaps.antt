@@ -191,12 +191,6 @@ at_closing Single indent start m cs h =
     not_second : (d : Bool) → IsTrue (not d) → d ≡ false
     not_second d h = grind arith
 
--- where a closing quote is, there is a character
-pub closing_left : (q : Quote) (xs : List ℕ) → IsTrue (is_closing q xs) → 0 < length xs
-closing_left q (c ∷ cs) h = omega arith
-closing_left Single [] h = absurd (cc)
-closing_left Double [] h = absurd (cc)
-
 closing_mark : (q : Quote) (xs : List ℕ) → IsTrue (is_closing q xs) → slice_index xs 0 ≡ flow.mark q
 closing_mark q xs h = grind arith
 

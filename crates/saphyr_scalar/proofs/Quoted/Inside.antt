@@ -13,10 +13,10 @@ use Rattle.saphyr_scalar.specs.declared.scalar.fault.Stop.{Stop}
 use Rattle.saphyr_scalar.specs.declared.scalar.fault.Stop.TheVariants as stop
 use Rattle.saphyr_values.specs.declared.flow.Quote.{Quote}
 use Rattle.saphyr_scalar.specs.Views.Reader.{ReadsOn}
-use Rattle.saphyr_scalar.specs.Views.Cursor.{Cursor, ◌>>=◌, refuse, along, pass_break, next_line}
+use Rattle.saphyr_scalar.specs.Views.Cursor.{Cursor, ◌>>=◌, refuse, along, pass, pass_break, next_line}
 use Rattle.saphyr_values.specs.Flow as flow
 use Rattle.saphyr_scalar.proofs.Moving.{along_none, along_more}
-use Rattle.saphyr_scalar.specs.Steps.Quoted.{TextRead, is_literal, with_front, mid_line, special, special_len, QuotedGap, on_line, no_gap, blank_in, break_in, end_gap, escaped_gap, break_len, if_some, inner_text, inner_text_at, with_run}
+use Rattle.saphyr_scalar.specs.Steps.Quoted.{TextRead, is_literal, with_front, mid_line, special, special_len, QuotedGap, on_line, no_gap, blank_in, break_in, end_gap, escaped_gap, break_len, if_some, inner_text, inner_text_at, quoted, with_run}
 use Rattle.saphyr_input.proofs.Basics.Lists.{run_ends}
 use Rattle.saphyr_input.proofs.Basics.Booleans.{neither_parts, by_test, either}
 use Rattle.std.proofs.lemmas.Bool.{or_parts}
@@ -28,6 +28,12 @@ front_twice a b (Err e) = refl
 
 pub no_front : (read : TextRead) → with_front [] read ≡ read
 no_front read = grind arith
+
+-- a scalar is what is behind its opening quote
+pub quoted_inside : (q : Quote) (indent : ℕ) (s here : Cursor) → here ≡ pass 1 s
+    → quoted q indent s ≡ inner_text_at q indent s.mark no_gap here
+unfolding quoted
+quoted_inside q indent s here same = ap (inner_text_at q indent s.mark no_gap) (sym same)
 
 -- what is taken off already is passed over
 pub passed_over : (q : Quote) (indent : ℕ) (start : Marker) (gap : QuotedGap) (k : ℕ) (m : Marker) (xs : List ℕ)

@@ -1,7 +1,6 @@
 -- Directives (YAML 1.2.2, 6.8).
 use Rattle.std.specs.Prelude.{ℕ, suc, ◌+◌, ◌-◌, ◌*◌, ◌||◌, ◌==◌, nat_lt, List, [], ◌∷◌, length, slice_index, Result, Ok, if◌then◌else◌, encode_utf8, codes, bytes_eq, string_bytes}
-use Rattle.std.specs.List.{prefix_len}
-use Rattle.saphyr_input.specs.Classes.{is_blank, is_breakz, is_blank_or_breakz, is_digit, is_alpha, is_tag_char, is_yaml_non_space}
+use Rattle.saphyr_input.specs.Classes.{is_breakz, is_blank_or_breakz, is_digit, is_alpha, is_tag_char, is_yaml_non_space}
 use Rattle.saphyr_input.specs.declared.input.SkipTabs.TheVariants.{Yes}
 use Rattle.saphyr_input.specs.Indicators.{exclamation_mark, full_stop}
 use Rattle.saphyr_scalar.specs.declared.scalar.position.Marker.{Marker}
@@ -11,7 +10,7 @@ use Rattle.saphyr_scalar.specs.declared.scalar.directive.Directive as declared
 use Rattle.saphyr_scalar.specs.declared.scalar.directive.Directive.TheVariants as variant
 use Rattle.saphyr_scalar.specs.declared.scalar.directive.DirectiveLine.{DirectiveLine}
 use Rattle.saphyr_scalar.specs.declared.scalar.tag.UriSet.TheVariants.{Uri}
-use Rattle.saphyr_scalar.specs.Views.Cursor.{Cursor, ◌>>=◌, refuse, along, pass, pass_blanks, pass_break, pass_comment, separation, pass_all_blanks}
+use Rattle.saphyr_scalar.specs.Views.Cursor.{Cursor, ◌>>=◌, refuse, along, pass, pass_break, pass_comment, separation, pass_all_blanks}
 use Rattle.saphyr_scalar.specs.Steps.Quoted.{with_front, with_run, mid_line}
 use Rattle.saphyr_scalar.specs.Spelling.Directive.{ReadDirective, version, tag_prefix, reserved}
 use Rattle.saphyr_scalar.specs.Steps.Tag.{uri_character, decoded_at, handle_of}

@@ -6,6 +6,7 @@ use Rattle.saphyr_input.specs.Indicators.{hyphen, number_sign}
 use Rattle.saphyr_scalar.specs.declared.scalar.position.Marker.{Marker}
 use Rattle.saphyr_scalar.specs.declared.scalar.fault.Refusal.{Refusal}
 use Rattle.saphyr_scalar.specs.declared.scalar.fault.FaultText.TheVariants as fault
+use Rattle.saphyr_scalar.specs.declared.scalar.plain.PlainEnd.{PlainEnd}
 use Rattle.saphyr_scalar.specs.declared.scalar.plain.PlainScalar.{PlainScalar}
 use Rattle.saphyr_scalar.specs.Views.Cursor.{Cursor, ◌>>=◌, refuse, along, next_line, pass_blanks, pass_break}
 pub use Rattle.saphyr_scalar.specs.Spelling.LineBreaks.{ends_line}
@@ -128,6 +129,10 @@ PlainScalarRead = Result (List ℕ × Marker × Option Marker × Cursor) Refusal
 -- what contracts see of a scalar and of the reader after it
 abbrev pub seen_plain_scalar : PlainScalar → Cursor → List ℕ × Marker × Option Marker × Cursor
 seen_plain_scalar scalar s = (string_bytes scalar.text, scalar.end, scalar.comment, s)
+
+-- the same of a scalar whose text was put behind another
+abbrev pub seen_plain_end : PlainEnd → List ℕ → Cursor → List ℕ × Marker × Option Marker × Cursor
+seen_plain_end scalar text s = (text, scalar.end, scalar.comment, s)
 
 -- a text before what is read
 abbrev pub with_text : List ℕ → PlainScalarRead → PlainScalarRead

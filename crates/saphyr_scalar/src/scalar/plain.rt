@@ -15,6 +15,7 @@ use crate::scalar::reader::Reader;
 use saphyr_input::char_traits::{is_blank, is_break};
 use saphyr_input::input::Input;
 use std::alloc::Global;
+use std::mem::replace;
 
 /// The text of a plain scalar, and how it ended.
 #[derive(Drop)]
@@ -27,8 +28,15 @@ pub struct PlainScalar {
     pub comment: Option<Marker>,
 }
 
+/// How a plain scalar ended: as in `PlainScalar`, whose text was put behind another.
+#[derive(Clone, Copy)]
+pub struct PlainEnd {
+    pub end: Marker,
+    pub comment: Option<Marker>,
+}
+
 impl<T: Input> Reader<T> {
-    ghost use Rattle.saphyr_scalar.specs.Views.Reader.{cursor_of, GivesBy, ReadsBy};
+    ghost use Rattle.saphyr_scalar.specs.Views.Reader.{cursor_of, GivesBy, ReadsBy, WritesBy};
 
     // Whether another word of a plain scalar begins after a gap.
     #[inline(always)]
@@ -200,5 +208,43 @@ impl<T: Input> Reader<T> {
             });
         }
         self.read_plain_rest(alloc, in_flow, indent, start, text)
+    }
+
+    /// The same, with its text put behind another. If it fails, nothing is known of what is left of that text.
+    #[inline(always)]
+    pub fn read_plain_onto(
+        &mut self,
+        alloc: Global,
+        in_flow: bool,
+        indent: usize,
+        text: &mut String,
+    ) -> Result<PlainEnd, Stop>
+        ensures { WritesBy spec.seen_plain_end
+            (λ before s. spec.with_text before (spec.plain in_flow indent s))
+            text.old self.old result text.new self.new }
+    {
+        let start = self.mark;
+        if !self.plain_word_starts(in_flow)? {
+            return Err(Stop::Refused(Refusal {
+                text: FaultText::PlainEnd,
+                mark: start,
+            }));
+        }
+        self.read_plain_words(in_flow, text)?;
+        let c = self.look();
+        // Most end right before a colon, a comma or a bracket.
+        if !is_break(c) && !is_blank(c) {
+            return Ok(PlainEnd {
+                end: self.mark,
+                comment: None,
+            });
+        }
+        let whole = replace(text, String::new(alloc));
+        let scalar = self.read_plain_rest(alloc, in_flow, indent, start, whole)?;
+        *text = scalar.text;
+        Ok(PlainEnd {
+            end: scalar.end,
+            comment: scalar.comment,
+        })
     }
 }

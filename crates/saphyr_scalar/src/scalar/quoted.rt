@@ -17,9 +17,10 @@ use crate::scalar::spare::FIRST_ROOM;
 use saphyr_input::input::Input;
 use saphyr_values::Quote;
 use std::alloc::Global;
+use std::mem::replace;
 
 impl<T: Input> Reader<T> {
-    ghost use Rattle.saphyr_scalar.specs.Views.Reader.{cursor_of, ReadsTextBy};
+    ghost use Rattle.saphyr_scalar.specs.Views.Reader.{cursor_of, ReadsTextBy, WritesBy, text_alone};
 
     // Whether the closing quote is here, and not the first of two single quotes.
     #[inline(always)]
@@ -112,8 +113,32 @@ impl<T: Input> Reader<T> {
         }
     }
 
-    // Takes off a quoted scalar, from its opening quote to its closing one, and returns its text. Most
-    // have only words on one line without escapes: then that is all.
+    // Takes off a quoted scalar behind its opening quote, with its closing quote, and puts its text behind another.
+    // Most have only words on one line without escapes: then that is all.
+    #[inline(always)]
+    fn read_quoted_inside(
+        &mut self,
+        alloc: Global,
+        quote: Quote,
+        indent: usize,
+        start: Marker,
+        text: &mut String,
+    ) -> Result<(), Stop>
+        ensures { WritesBy text_alone (λ before s. spec.with_front before
+            (spec.inner_text_at quote indent start spec.no_gap s))
+            text.old self.old result text.new self.new }
+    {
+        self.take_literal_words(quote, text)?;
+        if self.is_at_closing_quote(quote) {
+            self.skip_non_blank();
+            return Ok(());
+        }
+        let whole = replace(text, String::new(alloc));
+        *text = self.read_quoted_rest(alloc, quote, indent, start, whole)?;
+        Ok(())
+    }
+
+    // Takes off a quoted scalar, from its opening quote to its closing one, and returns its text.
     #[inline(always)]
     fn read_quoted(&mut self, alloc: Global, quote: Quote, indent: usize) -> Result<String, Stop>
         requires { slice_index (cursor_of self.old).rest 0 ≡ flow.mark quote }
@@ -124,12 +149,28 @@ impl<T: Input> Reader<T> {
         let is_empty = self.look() == quote.mark();
         let room = if is_empty { 0 } else { FIRST_ROOM };
         let mut text = self.spare.begin_with(alloc, room)?;
-        self.take_literal_words(quote, &mut text)?;
-        if self.is_at_closing_quote(quote) {
-            self.skip_non_blank();
-            return Ok(text);
-        }
-        self.read_quoted_rest(alloc, quote, indent, start, text)
+        self.read_quoted_inside(alloc, quote, indent, start, &mut text)?;
+        Ok(text)
+    }
+
+    // The same, with its text put behind another.
+    #[inline(always)]
+    fn read_quoted_onto(
+        &mut self,
+        alloc: Global,
+        quote: Quote,
+        indent: usize,
+        text: &mut String,
+    ) -> Result<(), Stop>
+        requires { slice_index (cursor_of self.old).rest 0 ≡ flow.mark quote }
+        ensures { WritesBy text_alone
+            (λ before s. spec.with_front before (spec.quoted quote indent s))
+            text.old self.old result text.new self.new }
+    {
+        let start = self.mark;
+        self.skip_non_blank();
+        self.read_quoted_inside(alloc, quote, indent, start, text)?;
+        Ok(())
     }
 
     /// Takes off a double quoted scalar, from its opening quote to its closing one, and returns its
@@ -143,6 +184,21 @@ impl<T: Input> Reader<T> {
         ensures { ReadsTextBy (spec.double_quoted indent) self.old result self.new }
     {
         self.read_quoted(alloc, Quote::Double, indent)
+    }
+
+    /// The same, with its text put behind another. If it fails, nothing is known of what is left of that text.
+    pub fn read_double_quoted_onto(
+        &mut self,
+        alloc: Global,
+        indent: usize,
+        text: &mut String,
+    ) -> Result<(), Stop>
+        requires { slice_index (cursor_of self.old).rest 0 ≡ quotation_mark }
+        ensures { WritesBy text_alone
+            (λ before s. spec.with_front before (spec.double_quoted indent s))
+            text.old self.old result text.new self.new }
+    {
+        self.read_quoted_onto(alloc, Quote::Double, indent, text)
     }
 
     /// Takes off a single quoted scalar, from its opening quote to its closing one, and returns its
