@@ -1,7 +1,6 @@
 pub mod Given
 pub mod RecentNames
 pub mod Names
-pub mod Stacks
 pub mod Passing
 pub mod Walk
 pub mod Sizes

@@ -1,17 +1,30 @@
 -- Names stay as they are when others are put after them.
-use Rattle.std.proofs.Common.{◌≡◌, ℕ, ◌<◌, List, [], ◌∷◌, ◌++◌, length, get_or, refl, sym, subst, ◌∙◌}
-use Rattle.std.specs.Prelude.{map}
+use Rattle.std.proofs.Common.{◌≡◌, ℕ, ◌+◌, ◌-◌, ◌<◌, ◌≤◌, List, [], ◌∷◌, ◌++◌, drop, length, get_or, take, refl, sym, ap, subst, arith, ◌∙◌}
+use Rattle.std.specs.Prelude.{map, slice_range, IsUtf8}
 use Rattle.std.specs.List.{All, AllZip}
-use Rattle.std.proofs.lemmas.List.{map-append}
+use Rattle.std.proofs.lemmas.List.{drop-append-le, length-append, length-drop, map-append, take-append-drop, take-append-le}
 use Rattle.std.proofs.lemmas.List.Elements.{All-head, All-push, All-tail}
-use Rattle.saphyr_scanner.specs.Views.Places.{GrowsBehind}
-use Rattle.saphyr_scanner.proofs.HeldTexts.{text_stays}
 use Rattle.saphyr_machine.specs.declared.recent.Name.{Name}
-use Rattle.saphyr_machine.specs.RecentNames.{HasName, text_of, with_id}
+use Rattle.saphyr_machine.specs.RecentNames.{GrowsBehind, HasName, text_of, with_id}
+
+range_of_append : (old more : List ℕ) (a b : ℕ) → a ≤ b → b ≤ length old
+    → slice_range (old ++ more) a b ≡ slice_range old a b
+range_of_append old more a b h k =
+    let behind = length-drop a old in
+    ap (take (b - a)) (drop-append-le a old more (omega (arith, h, k)))
+    ∙ take-append-le (b - a) (drop a old) more (omega (arith, h, k, behind))
+
+grown : (old new : List ℕ) → GrowsBehind old new → new ≡ old ++ drop (length old) new
+grown old new g = sym (take-append-drop (length old) new) ∙ ap (λ r. r ++ drop (length old) new) g
 
 stays : (old new : List ℕ) (n : Name) → GrowsBehind old new → HasName old n
     → HasName new n × (text_of new n ≡ text_of old n)
-stays old new n g h = text_stays old new (record { start = n.start; count = n.count }) g h
+stays old new n g h =
+    let e = ap (λ bs. text_of bs n) (grown old new g)
+    ∙ range_of_append old (drop (length old) new) n.start (n.start + n.count) (omega arith) h.0 in
+    let longer = ap length (grown old new g) ∙ length-append old (drop (length old) new) in
+    let within = h.0 in
+    ((omega (arith, longer, within), subst (λ bs. ∥ IsUtf8 bs ∥₁) (sym e) h.1), e)
 
 pub names_stay : (old new : List ℕ) (ns : List Name) → GrowsBehind old new → All (HasName old) ns
     → All (HasName new) ns × (map (with_id new) ns ≡ map (with_id old) ns)

@@ -1,5 +1,5 @@
 -- What contracts see of a name that waits for an alias.
-use Rattle.std.specs.Prelude.{◌+◌, ◌≤◌, length, slice_range, List, ℕ, IsUtf8}
+use Rattle.std.specs.Prelude.{◌+◌, ◌≤◌, ◌≡◌, length, slice_range, take, List, ℕ, IsUtf8}
 use Rattle.saphyr_machine.specs.declared.recent.Name.{Name}
 
 -- its bytes among those of all names
@@ -11,3 +11,7 @@ HasName bytes n = (n.start + n.count ≤ length bytes) × ∥ IsUtf8 (text_of by
 
 abbrev pub with_id : List ℕ → Name → List ℕ × ℕ
 with_id bytes n = (text_of bytes n, n.id)
+
+-- What was before is there still, maybe with more after it.
+abbrev pub GrowsBehind : List ℕ → List ℕ → Type 0
+GrowsBehind old new = take (length old) new ≡ old

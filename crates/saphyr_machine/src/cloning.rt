@@ -56,7 +56,7 @@ impl<T: CloneInput> Machine<T> {
     fn try_clone(&self) -> Result<Self, AllocError>
         ensures { IfOk result (λ copy. machine_of copy ≡ machine_of self.now) }
     {
-        let states = Vec::from_slice(self.alloc, &self.states)?;
+        let states = self.states.try_clone()?;
         let anchors = self.anchors.try_clone()?;
         let prefixes = self.prefixes.try_clone()?;
         let token = copy_token(&self.token)?;

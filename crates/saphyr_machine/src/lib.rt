@@ -21,6 +21,7 @@ mod reader;
 mod receiver;
 mod recent;
 mod state;
+mod states;
 mod step;
 mod tag;
 mod tags;

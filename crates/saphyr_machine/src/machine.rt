@@ -11,6 +11,7 @@ use crate::anchors::Anchors;
 use crate::event::Event;
 use crate::prefixes::Prefixes;
 use crate::state::State;
+use crate::states::States;
 use saphyr_input::input::Input;
 use saphyr_scalar::{FaultText, Marker, Refusal, ScalarStyle, Span, Stop};
 use saphyr_scanner::{Scanner, Token};
@@ -32,9 +33,8 @@ pub struct Machine<T: Input> {
     pub(super) end: Option<Refusal>,
     // What is expected next.
     pub(super) state: State,
-    // What is expected after each node that is open, the innermost last. For example after `[a, {`: the document's end,
-    // and the sequence's next entry.
-    pub(super) states: Vec<State>,
+    // What is expected after each node that is open.
+    pub(super) states: States,
     // The anchors of the document, which its aliases name.
     pub(super) anchors: Anchors,
     // What the directives of the document declare and, if `keep_tags` is set, those of documents before it.
@@ -83,7 +83,7 @@ impl<T: Input> Machine<T> {
             token: None,
             end: None,
             state: State::StreamStart,
-            states: Vec::new(alloc),
+            states: States::new(alloc),
             anchors: Anchors::new(alloc),
             prefixes: Prefixes::new(alloc),
             keep_tags: false,
@@ -144,7 +144,6 @@ impl<T: Input> Machine<T> {
 
     // Goes back to what is expected after the node that has ended.
     #[inline(always)]
-    #[tactic(auto, using(crate::proofs::Stacks::top_off))]
     pub(super) fn pop(&mut self)
         ensures moved { machine_of self.new ≡ spec.pop (machine_of self.old) }
         ensures room { self.new.token ≡ self.old.token }
@@ -157,14 +156,12 @@ impl<T: Input> Machine<T> {
 
     // What is expected after the node that begins.
     #[inline(always)]
-    #[tactic(auto, using(crate::proofs::Stacks::top_on))]
     pub(super) fn push(&mut self, state: State) -> Result<(), Stop>
         ensures moved { Moves (λ _. machine_of self.new) result
             (Ok (spec.push state (machine_of self.old))) }
         ensures room { self.new.token ≡ self.old.token }
     {
-        self.states.reserve(1)?;
-        self.states.push_reserved(state);
+        self.states.push(state)?;
         Ok(())
     }
 

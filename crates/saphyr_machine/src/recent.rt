@@ -3,8 +3,7 @@
 ghost use Rattle.std.specs.Prelude.{◌≡◌, ◌∷◌, ◌++◌, ℕ, [], length, IfOk, OnOk};
 ghost use Rattle.std.specs.List.{All};
 ghost use Rattle.std.specs.Option.{option_or};
-ghost use Rattle.saphyr_scanner.specs.Views.Places.{GrowsBehind};
-ghost use Rattle.saphyr_machine.specs.RecentNames.{HasName, text_of, with_id};
+ghost use Rattle.saphyr_machine.specs.RecentNames.{GrowsBehind, HasName, text_of, with_id};
 ghost use Rattle.saphyr_machine.specs.Steps.Machine as spec;
 
 use std::alloc::{AllocError, Global};

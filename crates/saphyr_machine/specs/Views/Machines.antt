@@ -1,5 +1,5 @@
 -- What contracts see of a machine and of events.
-use Rattle.std.specs.Prelude.{Option, Some, None, reverse, Result}
+use Rattle.std.specs.Prelude.{Option, Some, None, Result}
 use Rattle.saphyr_scalar.specs.declared.scalar.fault.Refusal.{Refusal}
 use Rattle.saphyr_scalar.specs.declared.scalar.fault.Stop.{Stop}
 use Rattle.saphyr_scalar.specs.declared.scalar.position.Span.{Span}
@@ -29,7 +29,7 @@ abbrev pub machine_of : {T : Type 0} → declared.Machine T → Machine
 machine_of m = record {
   tokens = with_token_ahead m.token (with_end m.end m.scanner);
   state = m.state;
-  states = reverse m.states.items;
+  states = m.states;
   anchors = m.anchors;
   prefixes = m.prefixes;
   keep_tags = m.keep_tags;
