@@ -1,5 +1,5 @@
 -- What is between two tokens is refused at a place of it.
-use Rattle.std.proofs.Common.{◌≡◌, ℕ, Bool, true, false, List, [], ◌∷◌, Result, Ok, Err, refl, sym, ap, subst, inl, inr}
+use Rattle.std.proofs.Common.{◌≡◌, ℕ, Bool, true, false, List, [], ◌∷◌, Result, Ok, Err, refl, ap, inl, inr}
 use Rattle.std.specs.Prelude.{◌&&◌, ◌||◌, ◌==◌, not, slice_index}
 use Rattle.saphyr_input.specs.Classes.{is_bom, is_blank, is_break, is_yaml_non_break, is_z, carriage_return, line_feed}
 use Rattle.saphyr_scalar.specs.declared.scalar.position.Marker.{Marker}

@@ -1,7 +1,6 @@
 -- The stack of what is open, whose top is the last item of a vector.
 use Rattle.std.proofs.Common.{◌≡◌, ℕ, ◌≤◌, ◌<◌, Bool, true, false, List, [], ◌∷◌, ◌++◌, length, drop, get_or, refl, sym, ◌∙◌, ap, zero, suc, arith}
-use Rattle.std.specs.Prelude.{map, reverse, ◌||◌, nat_le, Option, Some}
-use Rattle.std.proofs.lemmas.Bool.Decides.{nat_tests}
+use Rattle.std.specs.Prelude.{map, reverse, ◌||◌, Option, Some}
 use Rattle.saphyr_scalar.specs.declared.scalar.position.Marker.{Marker}
 use Rattle.saphyr_scanner.specs.declared.engine.level.Context.{Context}
 use Rattle.std.proofs.lemmas.List.{reverse-append, map-append}
@@ -10,7 +9,6 @@ use Rattle.saphyr_scanner.specs.declared.engine.level.Level as declared
 use Rattle.saphyr_scanner.specs.Steps.Level.{Candidate, Level, holds}
 use Rattle.saphyr_scanner.specs.Views.Engine.{level}
 use Rattle.saphyr_scanner.specs.Steps.Fetch.{any_holds}
-use Rattle.saphyr_scanner.specs.Limits.{most_open}
 use Rattle.saphyr_input.proofs.Basics.Booleans.{or_assoc}
 use Rattle.std.proofs.Math.Bool.{or-false}
 

@@ -1,4 +1,3 @@
-pub mod Places
 pub mod Rows
 pub mod Queues
 pub mod Given
@@ -20,7 +19,8 @@ pub mod LineTails
 pub mod Added
 pub mod Effects
 pub mod ReadersCounted
-pub mod HeldTexts
+pub mod HeldPlaces
+pub mod HeldReads
 pub mod LineTexts
 pub mod Reached
 pub mod LessIndented

@@ -14,11 +14,8 @@ use Rattle.saphyr_scanner.specs.Grammar.Tokens as tokens
 use Rattle.saphyr_scanner.specs.Steps.Core.{Core, completed_step, from_to, in_block, least_column}
 use Rattle.saphyr_scanner.specs.Steps.Passing.{check_comment, pass_gap}
 use Rattle.saphyr_scanner.specs.Steps.Scalar.{adjacent_here, behind_quotes, goes_on_behind_quotes}
+use Rattle.saphyr_scanner.specs.Views.Reads.{is_entry_end}
 use Rattle.saphyr_scanner.proofs.Gaps.{nothing_passed}
-
--- the indicators that may come after a quoted scalar inside flow
-abbrev pub is_entry_end : ℕ → Bool
-is_entry_end x = (x == colon) || (x == comma) || (x == right_bracket) || (x == right_brace)
 
 is_no_blank : (x : ℕ) → is_entry_end x ≡ true → is_blank x ≡ false
 is_no_blank x e = grind (arith, nat_tests)

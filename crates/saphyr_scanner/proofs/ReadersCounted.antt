@@ -1,5 +1,5 @@
 -- The laws of the readers say where what they read ends.
-use Rattle.std.proofs.Common.{◌≡◌, ℕ, ◌+◌, ◌≤◌, ◌<◌, Bool, true, false, Option, Ok, List, ◌∷◌, ◌++◌, length, sym, ap, arith, subst}
+use Rattle.std.proofs.Common.{◌≡◌, ℕ, ◌+◌, ◌≤◌, ◌<◌, Bool, true, false, Option, Ok, List, ◌∷◌, ◌++◌, length, ap, arith}
 use Rattle.std.specs.Prelude.{slice_index, encode_utf8_all}
 use Rattle.std.proofs.lemmas.List.{length-append}
 use Rattle.saphyr_input.specs.Indicators.{exclamation_mark, percent_sign}

@@ -10,7 +10,7 @@ use Rattle.saphyr_scanner.specs.Steps.Core.{Core, in_block, is_too_far, least_co
 use Rattle.saphyr_scanner.specs.Steps.Fetch.{arrive, fetch_here}
 use Rattle.saphyr_scanner.specs.Steps.Passing.{check_comment, pass_gap}
 use Rattle.saphyr_scanner.specs.Steps.State.{State, with_core}
-use Rattle.saphyr_scanner.specs.Steps.Unrolling.{go_less_deep, unroll}
+use Rattle.saphyr_scanner.specs.Steps.Unrolling.{unroll}
 use Rattle.saphyr_scanner.specs.Views.Ahead.{may_begin, may_begin_mark, with_content}
 use Rattle.saphyr_scanner.proofs.Blocks.{none_ends}
 use Rattle.saphyr_scanner.proofs.Gaps.{nothing_passed}

@@ -1,19 +1,17 @@
--- The tokens in the second place of the queue: none, one, or ends of block collections.
-use Rattle.std.proofs.Common.{◌≡◌, ◌+◌, ◌-◌, ◌<◌, ◌≤◌, ℕ, zero, suc, List, [], ◌∷◌, ◌++◌, length, refl, sym, ap, ◌∙◌, arith, append_assoc, append-nil}
+-- The tokens in a row: none, one, or ends of block collections.
+use Rattle.std.proofs.Common.{◌≡◌, ◌+◌, ◌-◌, ◌<◌, ◌≤◌, ℕ, zero, suc, List, [], ◌∷◌, ◌++◌, length, refl, sym, ap, ◌∙◌, arith, true, append_assoc, append-nil}
 use Rattle.saphyr_scalar.specs.declared.scalar.position.Marker.{Marker}
 use Rattle.saphyr_scalar.specs.declared.scalar.position.Span.{Span}
 use Rattle.saphyr_scanner.specs.declared.queue.Opening.{Opening}
 use Rattle.saphyr_scanner.specs.declared.queue.Opening.TheVariants as opening
 use Rattle.saphyr_scanner.specs.declared.queue.row.Row.{Row}
-use Rattle.saphyr_scanner.specs.declared.queue.slot.Slot.{Slot}
 use Rattle.saphyr_scanner.specs.Grammar.Tokens.{BlockEnd, Kind}
-use Rattle.saphyr_scanner.specs.Steps.Queue.{Place, Queue, bare_place, empty_piece, places_with_opening, with_piece}
-use Rattle.saphyr_scanner.specs.Views.Queue.{bare_places, row_places, in_row, in_slot, with_block_ends}
+use Rattle.saphyr_scanner.specs.Steps.Queue.{Place, Queue, bare_place, empty_piece, is_empty_list, places_with_opening, with_piece}
+use Rattle.saphyr_scanner.specs.Views.Queue.{bare_places, row_places, in_row, with_block_ends}
 use Rattle.saphyr_scanner.specs.Views.Tokens.{Piece, piece}
-use Rattle.saphyr_scanner.proofs.Places.{in_slot_append}
 use Rattle.saphyr_scanner.proofs.Queues.{place_with_front}
 
-pub no_row : (n : ℕ) (o : Opening) (t : Piece) (ps : List Place) → n ≡ 0 → row_places n o t ps ≡ ps
+no_row : (n : ℕ) (o : Opening) (t : Piece) (ps : List Place) → n ≡ 0 → row_places n o t ps ≡ ps
 no_row n o t ps e = rw e refl
 
 pub bare_row : (n : ℕ) (t : Piece) (ps : List Place) → row_places n opening.Nothing t ps ≡ bare_places n t ps
@@ -31,7 +29,7 @@ end_taken (suc n) o t u ps h e f =
     let same : suc n - 1 ≡ n = omega arith in
     rw (e, sym f, same) (ap (λ rs. bare_place t ∷ rs) (sym (bare_row n t ps)))
 
--- ## What is behind a row
+-- ## What is behind rows
 
 bare_behind : (n : ℕ) (t : Piece) (ps qs : List Place) → bare_places n t (ps ++ qs) ≡ bare_places n t ps ++ qs
 bare_behind zero t ps qs = refl
@@ -42,11 +40,18 @@ row_behind : (n : ℕ) (o : Opening) (t : Piece) (ps qs : List Place)
 row_behind zero o t ps qs = refl
 row_behind (suc n) o t ps qs = ap (λ rs. place_with_front o t ∷ rs) (bare_behind n t ps qs)
 
-pub behind_slots : (a : Slot) (b : Row) (ps qs : List Place)
-    → in_slot a (in_row b (ps ++ qs)) ≡ in_slot a (in_row b ps) ++ qs
-behind_slots a b ps qs =
-    ap (in_slot a) (row_behind b.count b.opening (piece b.token) ps qs)
-    ∙ in_slot_append a (in_row b ps) qs
+pub behind_rows : (a b : Row) (ps qs : List Place) → in_row a (in_row b (ps ++ qs)) ≡ in_row a (in_row b ps) ++ qs
+behind_rows a b ps qs =
+    ap (in_row a) (row_behind b.count b.opening (piece b.token) ps qs)
+    ∙ row_behind a.count a.opening (piece a.token) (in_row b ps) qs
+
+-- what is put into the second row comes behind the first
+pub put_in_second : (a b c : Row) (ps qs : List Place) → b.count ≡ 0 → is_empty_list ps ≡ true → in_row c [] ≡ qs
+    → in_row a (in_row c ps) ≡ in_row a (in_row b ps) ++ qs
+put_in_second a b c [] qs none empty is =
+    let was = no_row b.count b.opening (piece b.token) [] none in
+    rw (was, is) (row_behind a.count a.opening (piece a.token) [] qs)
+put_in_second a b c (p ∷ ps) qs none empty is = absurd (cc)
 
 -- ## How many there are
 

@@ -191,8 +191,7 @@ impl<T: Input> Engine<T> {
             ≡ spec_state.with_action (spec.from_to start end (kind_of kind)) (state self.old)) }
     {
         let span = Span::new(start, end);
-        self.queue
-            .put(self.alloc, Token { span, kind }, &mut self.reader.spare)
+        self.queue.put(Token { span, kind }, &mut self.reader.spare)
     }
 
     // Puts a scalar from one place to another into the queue.
@@ -209,7 +208,7 @@ impl<T: Input> Engine<T> {
     {
         let span = Span::new(start, end);
         self.queue
-            .put_scalar(self.alloc, span, style, text, &mut self.reader.spare)
+            .put_scalar(span, style, text, &mut self.reader.spare)
     }
 
     // Puts an indicator from one place to another into the queue.
@@ -224,7 +223,7 @@ impl<T: Input> Engine<T> {
             (spec.from_to start end (indicator_kind indicator)) (state self.old)) }
     {
         let span = Span::new(start, end);
-        self.queue.put_indicator(self.alloc, span, indicator)
+        self.queue.put_indicator(span, indicator)
     }
 
     // Puts an indicator without characters into the queue.

@@ -1,23 +1,26 @@
 //! Tokens that wait to be handed out, and what comes in front of one that becomes a key.
 
+mod aside;
 mod cloning;
+mod content;
 mod held;
 mod near;
 mod place;
 mod row;
-mod slot;
-mod texts;
 
-ghost use Rattle.std.specs.Prelude.{◌≡◌, false, Ok, OnErr, OnOk, length, string_bytes};
+ghost use Rattle.std.specs.Prelude.{◌≡◌, ◌⊎◌, false, Ok, OnErr, OnOk, length, slice_index, string_bytes};
+ghost use Rattle.saphyr_input.specs.Indicators.{quotation_mark};
+ghost use Rattle.saphyr_scalar.specs.Steps.Plain.{plain};
+ghost use Rattle.saphyr_scalar.specs.Steps.Quoted.{double_quoted};
 ghost use Rattle.saphyr_scanner.specs.Grammar.Tokens as tokens;
 ghost use Rattle.saphyr_scanner.specs.Steps.Queue as spec;
 
+pub(crate) use crate::queue::content::Indicator;
 use crate::queue::held::Held;
-pub(crate) use crate::queue::place::Indicator;
 use crate::queue::row::Row;
-use crate::queue::slot::Slot;
 use crate::token::{Token, TokenType};
-use saphyr_scalar::{Marker, ScalarStyle, Span, Spare, Stop};
+use saphyr_input::input::Input;
+use saphyr_scalar::{Marker, Reader, ScalarStyle, Span, Spare, Stop};
 use std::alloc::{AllocError, Global};
 
 /// What comes in front of a token: nothing, or the tokens that make it a key.
@@ -39,9 +42,9 @@ pub(crate) enum Opening {
 /// colon. The place of a token also says what makes it a key, so no token moves.
 #[derive(Drop)]
 pub(crate) struct Queue {
-    // The first two tokens of a queue that was empty. Mostly no more are held at once. The second may be the ends of many
-    // block collections.
-    first: Slot,
+    // The first two tokens of a queue that was empty. Mostly no more are held at once. Instead of one token a row
+    // may have the ends of many block collections.
+    first: Row,
     second: Row,
     // The tokens after them in the order of the text.
     held: Held,
@@ -50,9 +53,10 @@ pub(crate) struct Queue {
 }
 
 impl Queue {
-    ghost use Rattle.saphyr_scalar.specs.Views.Reader.{Moves};
+    ghost use Rattle.saphyr_scalar.specs.Views.Reader.{Moves, cursor_of};
     ghost use Rattle.saphyr_scanner.specs.Views.Tokens.{piece};
     ghost use Rattle.saphyr_scanner.specs.Views.Places.{indicator_kind};
+    ghost use Rattle.saphyr_scanner.specs.Views.Reads.{PutsQuoted, queue_with_plain};
     ghost use Rattle.saphyr_scanner.specs.Views.Queue.{queue, with_block_ends, TakesOffBy};
     ghost use Rattle.std.specs.Prelude.{◌<◌};
 
@@ -60,7 +64,7 @@ impl Queue {
         ensures { queue result ≡ spec.empty }
     {
         Queue {
-            first: Slot::new(),
+            first: Row::new(),
             second: Row::new(),
             held: Held::new(alloc),
             handed: 0,
@@ -71,7 +75,7 @@ impl Queue {
     pub(crate) fn is_empty(&self) -> bool
         ensures { result ≡ spec.is_empty (queue self.now) }
     {
-        !self.first.is_full && self.second.count == 0 && self.held.is_empty()
+        self.first.count == 0 && self.second.count == 0 && self.held.is_empty()
     }
 
     /// The number of the first place.
@@ -89,26 +93,21 @@ impl Queue {
         self.held
             .len()
             .checked_add(self.second.count)
-            .and_then(|count| count.checked_add(usize::from(self.first.is_full)))
+            .and_then(|count| count.checked_add(self.first.count))
             .and_then(|count| self.handed.checked_add(count))
             .ok_or(Stop::OutOfMemory)
     }
 
     /// Puts a token at the end.
     #[inline(always)]
-    #[tactic(auto, using(crate::proofs::Rows::behind_slots))]
-    pub(crate) fn put(
-        &mut self,
-        alloc: Global,
-        token: Token,
-        spare: &mut Spare,
-    ) -> Result<(), AllocError>
+    #[tactic(auto, using(crate::proofs::Rows::put_in_second))]
+    pub(crate) fn put(&mut self, token: Token, spare: &mut Spare) -> Result<(), AllocError>
         ensures { OnOk result (queue self.new ≡ spec.with_piece (piece token) (queue self.old)) }
     {
         if self.second.count > 0 || !self.held.is_empty() {
-            return self.put_behind(alloc, token, spare);
+            return self.put_behind(token, spare);
         }
-        if self.first.is_full {
+        if self.first.count > 0 {
             self.second.put(token);
         } else {
             self.first.put(token);
@@ -118,26 +117,20 @@ impl Queue {
 
     // The same after tokens that are held.
     #[inline(never)]
-    #[tactic(auto, using(crate::proofs::Rows::behind_slots))]
-    fn put_behind(
-        &mut self,
-        alloc: Global,
-        token: Token,
-        spare: &mut Spare,
-    ) -> Result<(), AllocError>
+    #[tactic(auto, using(crate::proofs::Rows::behind_rows))]
+    fn put_behind(&mut self, token: Token, spare: &mut Spare) -> Result<(), AllocError>
         ensures { OnOk result (queue self.new ≡ spec.with_piece (piece token) (queue self.old)) }
     {
         // For speed the span is not moved: most of it isn't kept.
         let kind = token.kind;
-        self.held.put(alloc, &token.span, kind, spare)
+        self.held.put(&token.span, kind, spare)
     }
 
     /// Puts a scalar at the end. It is separate from `put` for speed: there is no need to distinguish kinds.
     #[inline(always)]
-    #[tactic(auto, using(crate::proofs::Rows::behind_slots))]
+    #[tactic(auto, using(crate::proofs::Rows::put_in_second))]
     pub(crate) fn put_scalar(
         &mut self,
-        alloc: Global,
         span: Span,
         style: ScalarStyle,
         text: String,
@@ -148,11 +141,11 @@ impl Queue {
             (queue self.old)) }
     {
         if self.second.count > 0 || !self.held.is_empty() {
-            return self.put_scalar_behind(alloc, &span, style, text, spare);
+            return self.put_scalar_behind(&span, style, text, spare);
         }
         let kind = TokenType::Scalar(style, text);
         let token = Token { span, kind };
-        if self.first.is_full {
+        if self.first.count > 0 {
             self.second.put(token);
         } else {
             self.first.put(token);
@@ -162,10 +155,9 @@ impl Queue {
 
     // The same after tokens that are held.
     #[inline(never)]
-    #[tactic(auto, using(crate::proofs::Rows::behind_slots))]
+    #[tactic(auto, using(crate::proofs::Rows::behind_rows))]
     fn put_scalar_behind(
         &mut self,
-        alloc: Global,
         span: &Span,
         style: ScalarStyle,
         text: String,
@@ -175,15 +167,55 @@ impl Queue {
             (record { span = span.now; kind = tokens.Scalar style (string_bytes text) })
             (queue self.old)) }
     {
-        self.held.put_scalar(alloc, span, style, text, spare)
+        self.held.put_scalar(span, style, text, spare)
+    }
+
+    /// Whether the next token will be held after others. Then a scalar is best read where its text is held.
+    #[inline(always)]
+    pub(crate) fn is_holding(&self) -> bool {
+        self.second.count > 0 || !self.held.is_empty()
+    }
+
+    /// Reads a plain scalar, and puts its token at the end. Its text is read right where it is held. Returns a comment
+    /// that ended it. After an error no token is held.
+    #[inline(always)]
+    pub(crate) fn read_plain<T: Input>(
+        &mut self,
+        alloc: Global,
+        reader: &mut Reader<T>,
+        in_flow: bool,
+        indent: usize,
+    ) -> Result<Option<Marker>, Stop>
+        ensures { Moves (λ comment. (queue self.new, comment, cursor_of reader.new)) result
+            (queue_with_plain (queue self.old) (cursor_of reader.old).mark
+            (plain in_flow indent (cursor_of reader.old))) }
+    {
+        self.held.read_plain(alloc, reader, in_flow, indent)
+    }
+
+    /// Reads a double quoted scalar inside flow in the same way, and puts its token at the end if an indicator comes
+    /// right behind it. Otherwise it returns the text, and no token is put here.
+    #[inline(always)]
+    pub(crate) fn read_double_quoted<T: Input>(
+        &mut self,
+        alloc: Global,
+        reader: &mut Reader<T>,
+        indent: usize,
+    ) -> Result<Option<String>, Stop>
+        requires { slice_index (cursor_of reader.old).rest 0 ≡ quotation_mark }
+        ensures places { PutsQuoted (cursor_of reader.old).mark (queue self.old).places
+            (queue self.new).places (cursor_of reader.new) result
+            (double_quoted indent (cursor_of reader.old)) }
+        ensures handed { (queue self.new).handed ≡ (queue self.old).handed }
+    {
+        self.held.read_double_quoted(alloc, reader, indent)
     }
 
     /// Puts an indicator at the end.
     #[inline(always)]
-    #[tactic(auto, using(crate::proofs::Rows::behind_slots))]
+    #[tactic(auto, using(crate::proofs::Rows::put_in_second))]
     pub(crate) fn put_indicator(
         &mut self,
-        alloc: Global,
         span: Span,
         indicator: Indicator,
     ) -> Result<(), AllocError>
@@ -191,11 +223,11 @@ impl Queue {
             (record { span = span; kind = indicator_kind indicator }) (queue self.old)) }
     {
         if self.second.count > 0 || !self.held.is_empty() {
-            return self.put_indicator_behind(alloc, &span, indicator);
+            return self.put_indicator_behind(&span, indicator);
         }
         let kind = indicator.kind();
         let token = Token { span, kind };
-        if self.first.is_full {
+        if self.first.count > 0 {
             self.second.put(token);
         } else {
             self.first.put(token);
@@ -205,44 +237,30 @@ impl Queue {
 
     // The same after tokens that are held.
     #[inline(never)]
-    #[tactic(auto, using(crate::proofs::Rows::behind_slots))]
-    fn put_indicator_behind(
-        &mut self,
-        alloc: Global,
-        span: &Span,
-        indicator: Indicator,
-    ) -> Result<(), AllocError>
+    #[tactic(auto, using(crate::proofs::Rows::behind_rows))]
+    fn put_indicator_behind(&mut self, span: &Span, indicator: Indicator) -> Result<(), AllocError>
         ensures { OnOk result (queue self.new ≡ spec.with_piece
             (record { span = span.now; kind = indicator_kind indicator }) (queue self.old)) }
     {
-        self.held.put_indicator(alloc, span, indicator)
+        self.held.put_indicator(span, indicator)
     }
 
     /// Puts so many ends of block collections at the end, all at one place of the text.
     #[inline(always)]
-    #[tactic(auto, using(crate::proofs::Rows::ends_behind, crate::proofs::Rows::no_row))]
-    pub(crate) fn put_block_ends(
-        &mut self,
-        alloc: Global,
-        mark: Marker,
-        count: usize,
-    ) -> Result<(), AllocError>
+    #[tactic(auto, using(crate::proofs::Rows::ends_behind, crate::proofs::Rows::put_in_second))]
+    pub(crate) fn put_block_ends(&mut self, mark: Marker, count: usize) -> Result<(), AllocError>
         ensures { OnOk result (queue self.new ≡ with_block_ends count mark (queue self.old)) }
     {
         if count == 0 {
             return Ok(());
         }
         if self.second.count > 0 || !self.held.is_empty() {
-            return self.put_block_ends_behind(alloc, mark, count);
+            return self.put_block_ends_behind(mark, count);
         }
-        if self.first.is_full {
+        if self.first.count > 0 {
             self.second.put_ends(mark, count);
-            return Ok(());
-        }
-        let (span, kind) = (Span::empty(mark), TokenType::BlockEnd);
-        self.first.put(Token { span, kind });
-        if count > 1 {
-            self.second.put_ends(mark, count - 1);
+        } else {
+            self.first.put_ends(mark, count);
         }
         Ok(())
     }
@@ -250,36 +268,30 @@ impl Queue {
     // The same after tokens that are held.
     #[inline(never)]
     #[tactic(auto, using(crate::proofs::Rows::next_end))]
-    fn put_block_ends_behind(
-        &mut self,
-        alloc: Global,
-        mark: Marker,
-        count: usize,
-    ) -> Result<(), AllocError>
+    fn put_block_ends_behind(&mut self, mark: Marker, count: usize) -> Result<(), AllocError>
         ensures { OnOk result (queue self.new ≡ with_block_ends count mark (queue self.old)) }
     {
         let span = Span::empty(mark);
         for _done in 0..count {
-            self.put_indicator_behind(alloc, &span, Indicator::BlockEnd)?;
+            self.put_indicator_behind(&span, Indicator::BlockEnd)?;
         }
         Ok(())
     }
 
-    /// Sets what comes in front of the token at a place.
+    /// Sets what comes in front of the token at a place. It fails only if a row has the ends of several block
+    /// collections, of which none becomes a key.
     #[tactic(auto, using(crate::proofs::Rows::opened_behind_row))]
     pub(crate) fn set_opening(&mut self, number: usize, opening: Opening) -> Result<(), AllocError>
         ensures opened { OnOk result
             (queue self.new ≡ spec.with_opening number opening (queue self.old)) }
-        ensures refused { OnErr result (1 < self.old.second.count) }
+        ensures refused { OnErr result
+            ((1 < self.old.first.count) ⊎ (1 < self.old.second.count)) }
     {
-        let mut nth = number.saturating_sub(self.handed);
-        if self.first.is_full {
-            if nth == 0 {
-                self.first.opening = opening;
-                return Ok(());
-            }
-            nth -= 1;
+        let nth = number.saturating_sub(self.handed);
+        if nth < self.first.count {
+            return self.first.open(nth, opening);
         }
+        let nth = nth - self.first.count;
         if nth < self.second.count {
             return self.second.open(nth, opening);
         }
@@ -297,13 +309,13 @@ impl Queue {
     ) -> Result<bool, Stop>
         ensures { TakesOffBy spec.take self.old result token.new self.new }
     {
-        if !self.first.is_full && self.second.count == 0 {
+        if self.first.count == 0 && self.second.count == 0 {
             return self.held.take_into(alloc, token, &mut self.handed, spare);
         }
         if self.handed == usize::MAX {
             return Err(Stop::OutOfMemory);
         }
-        if self.first.is_full {
+        if self.first.count > 0 {
             self.first.take_into(token, &mut self.handed);
         } else {
             self.second.take_into(token, &mut self.handed);

@@ -4,7 +4,6 @@ use Rattle.std.specs.Prelude.{◌&&◌, nat_lt}
 use Rattle.saphyr_scalar.specs.declared.scalar.position.Marker.{Marker}
 use Rattle.saphyr_scalar.specs.Views.Cursor.{Cursor}
 use Rattle.saphyr_scanner.specs.declared.queue.Opening.{Opening}
-use Rattle.saphyr_scanner.specs.declared.queue.Opening.TheVariants as opening
 use Rattle.saphyr_scanner.specs.Views.Tokens.{Piece}
 use Rattle.saphyr_scanner.specs.Steps.Queue.{Place, Queue, is_empty_list, bare_place, places_with_opening, with_piece, with_opening}
 use Rattle.saphyr_scanner.specs.Steps.Core.{Core, in_block, is_too_far}
@@ -14,7 +13,6 @@ use Rattle.saphyr_scanner.specs.TokensTaken.{Collections, AreApart, AreTokens, l
 use Rattle.std.proofs.lemmas.Bool.{ltb-false}
 use Rattle.saphyr_scanner.proofs.Leads.{flat, place_pieces}
 use Rattle.saphyr_scanner.proofs.Taken.InPlace.{all_behind, behind_append, in_place_append, in_place_parts, deeper, AreInside, inside_of, inside_append, inside_parts, inside_shift, node_retold, awaited, MayOpen, Outside, free, opened_in_place, node_taken, calm, IsPast, EndsOn}
-use Rattle.saphyr_scanner.specs.TokensInPlace as place
 use Rattle.saphyr_scanner.proofs.Taken.Later.{apart_later, top}
 use Rattle.saphyr_scanner.proofs.Taken.Parts.{open_all, open_append, is_quiet, AreQuiet, quiet_columns, quiet_append, same_brackets, with_opening_there, with_opening_behind, Begins, opens_block, column_of, place_tokens, place_open, EndsOnLine}
 use Rattle.saphyr_scanner.proofs.Queues.{flat_append, place_with_front}

@@ -70,10 +70,6 @@ take_of opening.Key p ps q = take_front tokens.Key opening.Nothing p ps q
 take_of opening.BlockMappingAndKey p ps q = take_front tokens.BlockMappingStart opening.Key p ps q
 take_of opening.FlowMappingAndKey p ps q = take_front tokens.FlowMappingStart opening.Key p ps q
 
--- the same of a first place, those after it, and how many were handed out before them
-abbrev pub take_first_of : Place → List Place → ℕ → Option Piece × Queue
-take_first_of p ps n = take_of p.opening p ps (record { places = p ∷ ps; handed = n })
-
 abbrev pub take_from : List Place → Queue → Option Piece × Queue
 take_from [] q = (None, q)
 take_from (p ∷ ps) q = take_of p.opening p ps q

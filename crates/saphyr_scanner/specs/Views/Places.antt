@@ -1,20 +1,22 @@
 -- What contracts see of the tokens that are held.
-use Rattle.std.specs.Prelude.{take, slice_range, length, ◌+◌, ◌≤◌, ◌≡◌, List, ℕ, IsUtf8, string_bytes}
+use Rattle.std.proofs.Props.{props}
+use Rattle.std.specs.Prelude.{take, length, ⊤, [], ◌∷◌, ◌++◌, ◌+◌, ◌≤◌, ◌≡◌, List, ℕ}
 use Rattle.saphyr_scalar.specs.declared.scalar.position.Marker.{Marker}
 use Rattle.saphyr_scalar.specs.declared.scalar.position.Span.{Span}
 use Rattle.saphyr_scalar.specs.declared.scalar.style.ScalarStyle.TheVariants as style
+use Rattle.saphyr_scanner.specs.declared.queue.content.Content.{Content}
+use Rattle.saphyr_scanner.specs.declared.queue.content.Content.TheVariants.{Indicator, Text, Aside}
+use Rattle.saphyr_scanner.specs.declared.queue.content.Indicator as declared_indicator
+use Rattle.saphyr_scanner.specs.declared.queue.content.Indicator.TheVariants as indicator
+use Rattle.saphyr_scanner.specs.declared.queue.content.TextKind.{TextKind}
+use Rattle.saphyr_scanner.specs.declared.queue.content.TextKind.TheVariants as text
 use Rattle.saphyr_scanner.specs.declared.queue.near.NearMarker.{NearMarker}
-use Rattle.saphyr_scanner.specs.declared.queue.place.Indicator.{Indicator}
-use Rattle.saphyr_scanner.specs.declared.queue.place.Indicator.TheVariants as indicator
-use Rattle.saphyr_scanner.specs.declared.queue.place.TextKind.{TextKind}
-use Rattle.saphyr_scanner.specs.declared.queue.place.TextKind.TheVariants as text
 use Rattle.saphyr_scanner.specs.declared.queue.place.Place as declared_place
-use Rattle.saphyr_scanner.specs.declared.queue.place.Place.TheVariants.{Bare, Text, Tagged, Whole}
-use Rattle.saphyr_scanner.specs.declared.queue.texts.TextPlace.{TextPlace}
-use Rattle.saphyr_scanner.specs.declared.queue.Opening.{Opening}
 use Rattle.saphyr_scanner.specs.Grammar.Tokens as tokens
 use Rattle.saphyr_scanner.specs.Grammar.Tokens.{Kind}
-use Rattle.saphyr_scanner.specs.Views.Tokens.{Piece, piece}
+use Rattle.saphyr_scanner.specs.Views.Asides.{Asides, BeginsWithText, behind_text, behind_token, first_aside, nothing}
+use Rattle.saphyr_scanner.specs.Views.Contents.{content_of}
+use Rattle.saphyr_scanner.specs.Views.Tokens.{Piece}
 use Rattle.saphyr_scanner.specs.Steps.Queue.{Place, bare_place}
 
 abbrev pub near_marker : NearMarker → Marker
@@ -27,7 +29,7 @@ near_span m n = record {
   end = record { index = m.index + n; line = m.line; col = m.col + n };
 }
 
-abbrev pub indicator_kind : Indicator → Kind
+abbrev pub indicator_kind : declared_indicator.Indicator → Kind
 indicator_kind indicator.SequenceStart = tokens.FlowSequenceStart
 indicator_kind indicator.SequenceEnd = tokens.FlowSequenceEnd
 indicator_kind indicator.MappingStart = tokens.FlowMappingStart
@@ -47,51 +49,59 @@ text_kind text.Plain bs = tokens.Scalar style.Plain bs
 text_kind text.SingleQuoted bs = tokens.Scalar style.SingleQuoted bs
 text_kind text.DoubleQuoted bs = tokens.Scalar style.DoubleQuoted bs
 
--- ## Texts that are held
-
--- the bytes at a place among those of all texts
-abbrev pub text_at : List ℕ → TextPlace → List ℕ
-text_at bytes t = slice_range bytes t.start (t.start + t.count)
-
--- At the place a text is.
-abbrev pub IsHeldText : List ℕ → TextPlace → Type 0
-IsHeldText bytes t = (t.start + t.count ≤ length bytes) × ∥ IsUtf8 (text_at bytes t) ∥₁
-
--- At the place this text is.
-abbrev pub IsHeldAs : List ℕ → List ℕ → TextPlace → Type 0
-IsHeldAs bytes text t = IsHeldText bytes t × (text_at bytes t ≡ text)
-
--- What was before is there still, maybe with more after it.
-abbrev pub GrowsBehind : List ℕ → List ℕ → Type 0
-GrowsBehind old new = take (length old) new ≡ old
-
--- where the text of a token is held, with no bytes for a token that has none there
-abbrev pub text_place : declared_place.Place → TextPlace
-text_place (Bare o what n m) = record { start = 0; count = 0 }
-text_place (Text o what n m t) = t
-text_place (Tagged o n m tag) = record { start = 0; count = 0 }
-text_place (Whole o t) = record { start = 0; count = 0 }
-
-abbrev pub HasHeldText : List ℕ → declared_place.Place → Type 0
-HasHeldText bytes p = IsHeldText bytes (text_place p)
-
 -- ## Places
 
-abbrev pub on_line : Opening → NearMarker → ℕ → Kind → Place
-on_line o m n kind = record { opening = o; piece = record { span = near_span m n; kind = kind } }
+-- the token of a place, over what it and those after it have beside them
+abbrev pub token_of : Content → NearMarker → ℕ → ℕ → Asides → Piece
+token_of (Indicator what) m n k s = record { span = near_span m n; kind = indicator_kind what }
+token_of (Text what) m n k s = record { span = near_span m n; kind = text_kind what (take k s.bytes) }
+token_of Aside m n k s = first_aside s.tokens
 
--- the place of a token, over the bytes of the texts that are held
-abbrev pub place : List ℕ → declared_place.Place → Place
-place bytes (Bare o what n m) = on_line o m n (indicator_kind what)
-place bytes (Text o what n m t) = on_line o m n (text_kind what (text_at bytes t))
-place bytes (Tagged o n m tag) =
-    on_line o m n (tokens.Tag (string_bytes tag.value.handle) (string_bytes tag.value.suffix))
-place bytes (Whole o t) = record { opening = o; piece = piece t.value }
+-- what those after it have beside them
+abbrev pub behind_token_of : Content → ℕ → Asides → Asides
+behind_token_of (Indicator what) k s = s
+behind_token_of (Text what) k s = behind_text k s
+behind_token_of Aside k s = behind_token s
 
--- It is the place of this token, with nothing before it.
-abbrev pub IsBarePlaceOf : List ℕ → Piece → declared_place.Place → Type 0
-IsBarePlaceOf bytes t p = HasHeldText bytes p × (place bytes p ≡ bare_place t)
+-- What the token needs is there.
+abbrev pub HasTokenOf : Content → ℕ → Asides → Type 0
+HasTokenOf (Indicator what) k s = ⊤
+HasTokenOf (Text what) k s = BeginsWithText k s
+HasTokenOf Aside k s = 1 ≤ length s.tokens
 
--- It is seen as the other place, over whatever texts.
-abbrev pub IsCopyOfPlace : declared_place.Place → declared_place.Place → Type 0
-IsCopyOfPlace p q = (text_place q ≡ text_place p) × ((bytes : List ℕ) → place bytes q ≡ place bytes p)
+abbrev pub place_at : declared_place.Place → Asides → Place
+place_at p s = record { opening = p.opening; piece = token_of (content_of p.content) p.start p.length p.count s }
+
+abbrev pub beside_behind : declared_place.Place → Asides → Asides
+beside_behind p s = behind_token_of (content_of p.content) p.count s
+
+abbrev pub HasBeside : declared_place.Place → Asides → Type 0
+HasBeside p s = HasTokenOf (content_of p.content) p.count s
+
+abbrev pub places_at : List declared_place.Place → Asides → List Place
+places_at [] s = []
+places_at (p ∷ ps) s = place_at p s ∷ places_at ps (beside_behind p s)
+
+-- The places have all that they need beside them, and nothing more is there.
+abbrev pub Fit : List declared_place.Place → Asides → Type 0
+Fit [] s = s ≡ nothing
+Fit (p ∷ ps) s = HasBeside p s × Fit ps (beside_behind p s)
+
+HasTokenOf-prop : (what : Content) (k : ℕ) (s : Asides) → IsProp (HasTokenOf what k s)
+HasTokenOf-prop (Indicator what) k s = hlevel props
+HasTokenOf-prop (Text what) k s = hlevel props
+HasTokenOf-prop Aside k s = hlevel props
+
+-- A fact of structs has one proof.
+pub Fit-prop : (ps : List declared_place.Place) (s : Asides) → IsProp (Fit ps s)
+Fit-prop [] s = hlevel props
+Fit-prop (p ∷ ps) s = λ u v i. (
+  HasTokenOf-prop (content_of p.content) p.count s u.0 v.0 i,
+  Fit-prop ps (beside_behind p s) u.1 v.1 i,
+)
+
+-- Put behind others, it is the place of this token, with nothing before it, where this is beside them then.
+abbrev pub AddsBehind : Piece → declared_place.Place → Asides → Asides → Type 0
+AddsBehind t p old new =
+    (ps : List declared_place.Place) → Fit ps old
+    → Fit (ps ++ p ∷ []) new × (places_at (ps ++ p ∷ []) new ≡ places_at ps old ++ bare_place t ∷ [])

@@ -1,25 +1,17 @@
 -- What contracts see of the queue.
-use Rattle.std.specs.Prelude.{drop, map, if◌then◌else◌, List, ◌∷◌, ℕ, zero, suc, Bool, Option, option_map, Result, Ok}
+use Rattle.std.specs.Prelude.{drop, List, ◌∷◌, ℕ, zero, suc, Bool, Option, option_map, Result, Ok}
 use Rattle.saphyr_scalar.specs.declared.scalar.fault.Stop.{Stop}
 use Rattle.saphyr_scalar.specs.declared.scalar.position.Marker.{Marker}
 use Rattle.saphyr_scanner.specs.declared.queue.held.Held.{Held}
 use Rattle.saphyr_scanner.specs.declared.queue.Queue as declared_queue
 use Rattle.saphyr_scanner.specs.declared.queue.Opening.{Opening}
 use Rattle.saphyr_scanner.specs.declared.queue.row.Row.{Row}
-use Rattle.saphyr_scanner.specs.declared.queue.slot.Slot.{Slot}
 use Rattle.saphyr_scanner.specs.declared.token.Token.{Token}
 use Rattle.saphyr_scalar.specs.Views.Reader.{Moves}
-use Rattle.saphyr_scanner.specs.Views.Places.{place}
+use Rattle.saphyr_scanner.specs.Views.Places.{places_at}
 use Rattle.saphyr_scanner.specs.Views.Tokens.{Piece, piece, written_token}
 use Rattle.saphyr_scanner.specs.Grammar.Tokens.{BlockEnd}
 use Rattle.saphyr_scanner.specs.Steps.Queue.{Place, Queue, bare_place, empty_piece, with_piece}
-
-abbrev pub slot_place : Slot → Place
-slot_place s = record { opening = s.opening; piece = piece s.token }
-
--- the place in a slot, if there is one, and those after it
-abbrev pub in_slot : Slot → List Place → List Place
-in_slot s ps = if s.is_full then slot_place s ∷ ps else ps
 
 -- so many tokens with nothing in front of them, and the places after them
 abbrev pub bare_places : ℕ → Piece → List Place → List Place
@@ -35,12 +27,12 @@ row_places (suc n) o t ps = record { opening = o; piece = t } ∷ bare_places n 
 abbrev pub in_row : Row → List Place → List Place
 in_row r ps = row_places r.count r.opening (piece r.token) ps
 
--- the places that are held, over their texts: those that were handed out are left out
+-- the places that are held, without those that were handed out
 unfoldable pub held_places : Held → List Place
-held_places h = drop h.spent (map (place h.texts.bytes.items) h.places.items)
+held_places h = places_at (drop h.spent h.places.items) h.aside
 
 abbrev pub queue : declared_queue.Queue → Queue
-queue q = record { places = in_slot q.first (in_row q.second (held_places q.held)); handed = q.handed }
+queue q = record { places = in_row q.first (in_row q.second (held_places q.held)); handed = q.handed }
 
 -- the queue after so many block collections ended at a place
 abbrev pub with_block_ends : ℕ → Marker → Queue → Queue

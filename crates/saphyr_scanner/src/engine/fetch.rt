@@ -151,7 +151,7 @@ impl<T: Input> Engine<T> {
         self.fetches_mark(c)
     }
 
-    // Puts the token that begins here into the queue, if its first character alone does not tell it, with the stop kept,
+    // Puts the token that begins here into the queue, if its first character alone does not tell it. The stop is kept,
     // as `reads_on` does.
     #[inline(always)]
     fn fetches_mark(&mut self, c: char) -> Ahead
@@ -491,7 +491,7 @@ impl<T: Input> Engine<T> {
             drop(token);
             return Ok(false);
         }
-        self.queue.put(self.alloc, token, &mut self.reader.spare)?;
+        self.queue.put(token, &mut self.reader.spare)?;
         Ok(true)
     }
 

@@ -107,7 +107,7 @@ impl<T: Input> Engine<T> {
             self.leave_block();
             count += 1;
         }
-        self.queue.put_block_ends(self.alloc, mark, count)?;
+        self.queue.put_block_ends(mark, count)?;
         Ok(())
     }
 }

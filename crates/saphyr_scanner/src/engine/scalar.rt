@@ -105,8 +105,18 @@ impl<T: Input> Engine<T> {
         self.key_allowed = false;
         let start = self.reader.mark();
         let least = self.least_column();
-        let text = self.reader.read_double_quoted(self.alloc, least)?;
-        self.fetch_behind_quotes(start, ScalarStyle::DoubleQuoted, text)?;
+        if self.in_block() || !self.queue.is_holding() {
+            let text = self.reader.read_double_quoted(self.alloc, least)?;
+            self.fetch_behind_quotes(start, ScalarStyle::DoubleQuoted, text)?;
+            return Ok(());
+        }
+        let reader = &mut self.reader;
+        if let Some(text) = self.queue.read_double_quoted(self.alloc, reader, least)? {
+            self.fetch_behind_quotes(start, ScalarStyle::DoubleQuoted, text)?;
+            return Ok(());
+        }
+        self.check_comment()?;
+        self.adjacent = self.reader.mark().index;
         Ok(())
     }
 
@@ -140,6 +150,14 @@ impl<T: Input> Engine<T> {
         let in_flow = !self.in_block();
         if in_flow && start.col < self.indent {
             return Err(self.refuse_here(FaultText::FlowIndentation));
+        }
+        if self.queue.is_holding() {
+            let reader = &mut self.reader;
+            self.comment = self
+                .queue
+                .read_plain(self.alloc, reader, in_flow, self.indent)?;
+            self.key_allowed = self.reader.blank_so_far();
+            return Ok(());
         }
         let scalar = self.reader.read_plain(self.alloc, in_flow, self.indent)?;
         self.key_allowed = self.reader.blank_so_far();

@@ -1,17 +1,23 @@
 //! The tokens that are held, in their places.
 
-ghost use Rattle.std.specs.Prelude.{◌≡◌, ◌<◌, ◌≤◌, ◌^◌, ◌+◌, [], ◌∷◌, ◌++◌, length, IfOk, IfSome, Ok, OnOk, string_bytes, vec_len, vec_capacity};
-ghost use Rattle.std.specs.List.{All};
+ghost use Rattle.std.specs.Prelude.{◌≡◌, ◌<◌, ◌≤◌, ◌^◌, ◌+◌, [], ◌∷◌, ◌++◌, drop, length, IfOk, IfSome, Ok, OnOk, slice_index, string_bytes, vec_len, vec_capacity};
 ghost use Rattle.saphyr_scanner.specs.Grammar.Tokens as tokens;
 ghost use Rattle.saphyr_scanner.specs.Steps.Queue as spec;
-ghost use Rattle.saphyr_scanner.specs.Views.Places.{HasHeldText, indicator_kind, near_span};
+ghost use Rattle.saphyr_input.specs.Indicators.{quotation_mark};
+ghost use Rattle.saphyr_scalar.specs.Steps.Plain.{plain};
+ghost use Rattle.saphyr_scalar.specs.Steps.Quoted.{double_quoted};
+ghost use Rattle.saphyr_scalar.specs.Views.Reader.{Moves, cursor_of};
+ghost use Rattle.saphyr_scanner.specs.Views.Places.{Fit, Fit-prop, indicator_kind, near_span};
+ghost use Rattle.saphyr_scanner.specs.Views.Reads.{PutsQuoted, with_plain};
 
 use crate::queue::Opening;
+use crate::queue::aside::Aside;
+use crate::queue::content::{Indicator, TextKind};
 use crate::queue::near::{NearMarker, near};
-use crate::queue::place::{Indicator, Place, TextKind};
-use crate::queue::texts::Texts;
+use crate::queue::place::Place;
 use crate::token::{Token, TokenType};
-use saphyr_scalar::{ScalarStyle, Span, Spare, Stop};
+use saphyr_input::input::Input;
+use saphyr_scalar::{Marker, Reader, ScalarStyle, Span, Spare, Stop};
 use std::alloc::{AllocError, Global};
 
 // How many places that were handed out may stay before others, so that few are moved for each.
@@ -19,17 +25,17 @@ const MOST_SPENT: usize = 64;
 
 /// The tokens that are held, in the order of the text.
 ///
-/// A place that is handed out stays where it is, since to move it costs more than to write its token. Its memory is used
-/// again once no token is held, or once most places were handed out.
+/// A place that is handed out stays where it is, since to move it costs more than to write its token. Its memory is
+/// used again once no token is held, or once most places were handed out.
 #[derive(Drop)]
 pub(super) struct Held {
     places: Vec<Place>,
     // How many of the places were handed out.
     spent: usize,
-    // The texts of these tokens, and of some that were handed out.
-    texts: Texts,
-    ghost have_texts: { All (HasHeldText texts.bytes.items) places.items },
+    // What the others have beside them.
+    aside: Aside,
     ghost within: { spent ≤ length places.items },
+    ghost fit: { Fit (drop spent places.items) aside } by { Fit-prop (drop spent places.items) aside },
 }
 
 impl Held {
@@ -43,19 +49,17 @@ impl Held {
         Held {
             places: Vec::new(alloc),
             spent: 0,
-            texts: Texts::new(alloc),
+            aside: Aside::new(alloc),
         }
     }
 
     #[inline(always)]
-    #[tactic(auto, unfolding(crate::specs::Views::Queue::held_places))]
     pub(super) fn is_empty(&self) -> bool
         ensures { result ≡ spec.is_empty_list (held_places self.now) }
     {
         self.len() == 0
     }
 
-    #[tactic(auto, unfolding(crate::specs::Views::Queue::held_places))]
     pub(super) fn len(&self) -> usize
         ensures { result ≡ length (held_places self.now) }
     {
@@ -79,7 +83,7 @@ impl Held {
         if self.is_empty() {
             self.places.clear();
             self.spent = 0;
-            self.texts.clear();
+            self.aside.clear();
         } else if self.spent > MOST_SPENT && self.spent > self.places.len() / 2 {
             self.forget_spent();
         }
@@ -89,7 +93,6 @@ impl Held {
     #[inline(always)]
     pub(super) fn put(
         &mut self,
-        alloc: Global,
         span: &Span,
         kind: TokenType,
         spare: &mut Spare,
@@ -99,7 +102,7 @@ impl Held {
     {
         self.clear_spent();
         self.places.reserve(1)?;
-        let place = Place::new(alloc, span, kind, &mut self.texts, spare)?;
+        let place = Place::new(span, kind, &mut self.aside, spare)?;
         self.places.push_reserved(place);
         Ok(())
     }
@@ -123,7 +126,6 @@ impl Held {
     #[inline(always)]
     pub(super) fn put_scalar(
         &mut self,
-        alloc: Global,
         span: &Span,
         style: ScalarStyle,
         text: String,
@@ -134,25 +136,106 @@ impl Held {
             { span = span.now; kind = tokens.Scalar style (string_bytes text) }) ∷ []) }
     {
         let Some(what) = TextKind::of_style(style) else {
-            return self.put_scalar_rarely(alloc, span, style, text, spare);
+            return self.put_scalar_rarely(span, style, text, spare);
         };
         let Some((start, length)) = self.near_with_room(span) else {
-            return self.put_scalar_rarely(alloc, span, style, text, spare);
+            return self.put_scalar_rarely(span, style, text, spare);
         };
-        let Some(place) = self.texts.keep(&text)? else {
-            return self.put_scalar_rarely(alloc, span, style, text, spare);
+        let Some(count) = self.aside.keep_text(&text)? else {
+            return self.put_scalar_rarely(span, style, text, spare);
         };
         spare.keep(text);
         self.places
-            .push_reserved(Place::text(start, length, what, place));
+            .push_reserved(Place::text(start, length, what, count));
         Ok(())
+    }
+
+    // Makes room for one more place.
+    #[inline(always)]
+    fn make_room(&mut self) -> Result<(), AllocError>
+        ensures same { held_places self.new ≡ held_places self.old }
+        ensures room { OnOk result (vec_len self.new.places < vec_capacity self.new.places) }
+    {
+        if self.spent != 0 || self.places.len() >= self.places.capacity() {
+            self.make_room_rarely()?;
+        }
+        Ok(())
+    }
+
+    // The same where places were handed out, or there is no room.
+    #[inline(never)]
+    fn make_room_rarely(&mut self) -> Result<(), AllocError>
+        ensures same { held_places self.new ≡ held_places self.old }
+        ensures room { OnOk result (vec_len self.new.places < vec_capacity self.new.places) }
+    {
+        self.clear_spent();
+        self.places.reserve(1)?;
+        Ok(())
+    }
+
+    /// Reads a plain scalar, and puts its token at the end. Its text is read right where it is held. Returns a comment
+    /// that ended it. After an error no token is held.
+    #[inline(always)]
+    pub(super) fn read_plain<T: Input>(
+        &mut self,
+        alloc: Global,
+        reader: &mut Reader<T>,
+        in_flow: bool,
+        indent: usize,
+    ) -> Result<Option<Marker>, Stop>
+        ensures { Moves (λ comment. (held_places self.new, comment, cursor_of reader.new)) result
+            (with_plain (held_places self.old) (cursor_of reader.old).mark
+            (plain in_flow indent (cursor_of reader.old))) }
+    {
+        self.make_room()?;
+        match Place::read_plain(alloc, reader, in_flow, indent, &mut self.aside) {
+            Ok((place, comment)) => {
+                self.places.push_reserved(place);
+                Ok(comment)
+            }
+            Err(stop) => {
+                self.places.clear();
+                self.spent = 0;
+                self.aside.forget();
+                Err(stop)
+            }
+        }
+    }
+
+    /// Reads a double quoted scalar inside flow in the same way, and puts its token at the end if an indicator comes
+    /// right behind it. Otherwise it returns the text, and no token is put here.
+    #[inline(always)]
+    pub(super) fn read_double_quoted<T: Input>(
+        &mut self,
+        alloc: Global,
+        reader: &mut Reader<T>,
+        indent: usize,
+    ) -> Result<Option<String>, Stop>
+        requires { slice_index (cursor_of reader.old).rest 0 ≡ quotation_mark }
+        ensures { PutsQuoted (cursor_of reader.old).mark (held_places self.old)
+            (held_places self.new) (cursor_of reader.new) result
+            (double_quoted indent (cursor_of reader.old)) }
+    {
+        self.make_room()?;
+        match Place::read_double_quoted(alloc, reader, indent, &mut self.aside) {
+            Ok(Ok(place)) => {
+                self.places.push_reserved(place);
+                Ok(None)
+            }
+            Ok(Err(text)) => Ok(Some(text)),
+            Err(stop) => {
+                self.places.clear();
+                self.spent = 0;
+                self.aside.forget();
+                Err(stop)
+            }
+        }
     }
 
     // The same for any scalar.
     #[inline(never)]
     fn put_scalar_rarely(
         &mut self,
-        alloc: Global,
         span: &Span,
         style: ScalarStyle,
         text: String,
@@ -162,14 +245,13 @@ impl Held {
             ++ spec.bare_place (record
             { span = span.now; kind = tokens.Scalar style (string_bytes text) }) ∷ []) }
     {
-        self.put(alloc, span, TokenType::Scalar(style, text), spare)
+        self.put(span, TokenType::Scalar(style, text), spare)
     }
 
     /// Puts an indicator at the end, mostly at once, as `put_scalar` does.
     #[inline(always)]
     pub(super) fn put_indicator(
         &mut self,
-        alloc: Global,
         span: &Span,
         indicator: Indicator,
     ) -> Result<(), AllocError>
@@ -177,7 +259,7 @@ impl Held {
             ++ spec.bare_place (record { span = span.now; kind = indicator_kind indicator }) ∷ []) }
     {
         let Some((start, length)) = self.near_with_room(span) else {
-            return self.put_indicator_rarely(alloc, span, indicator);
+            return self.put_indicator_rarely(span, indicator);
         };
         self.places
             .push_reserved(Place::bare(start, length, indicator));
@@ -186,20 +268,11 @@ impl Held {
 
     // The same for any place and any room.
     #[inline(never)]
-    fn put_indicator_rarely(
-        &mut self,
-        alloc: Global,
-        span: &Span,
-        indicator: Indicator,
-    ) -> Result<(), AllocError>
+    fn put_indicator_rarely(&mut self, span: &Span, indicator: Indicator) -> Result<(), AllocError>
         ensures { OnOk result (held_places self.new ≡ held_places self.old
             ++ spec.bare_place (record { span = span.now; kind = indicator_kind indicator }) ∷ []) }
     {
-        self.clear_spent();
-        self.places.reserve(1)?;
-        let place = Place::of_indicator(alloc, span, indicator)?;
-        self.places.push_reserved(place);
-        Ok(())
+        self.put(span, indicator.kind(), &mut Spare::new())
     }
 
     /// Sets what comes in front of the nth of the tokens, if there are that many.
@@ -211,7 +284,7 @@ impl Held {
             return;
         }
         if let Some(place) = self.places.get_mut(self.spent + nth) {
-            place.open(opening);
+            place.opening = opening;
         }
     }
 
@@ -230,12 +303,12 @@ impl Held {
         let Some(count) = handed.checked_add(1) else {
             return Err(Stop::OutOfMemory);
         };
-        let Some(place) = self.places.get_mut(self.spent) else {
+        let Some(place) = self.places.get(self.spent) else {
             return Ok(false);
         };
         *handed = count;
+        place.take_into(alloc, &mut self.aside, token, spare)?;
         self.spent += 1;
-        place.write_into(alloc, &self.texts, token, spare)?;
         Ok(true)
     }
 
@@ -254,13 +327,13 @@ impl Held {
         let Some(place) = self.places.get(self.spent) else {
             return Ok(false);
         };
-        let (kind, left) = match place.opening() {
+        let (kind, left) = match place.opening {
             Opening::Nothing => return self.take_place(alloc, token, handed, spare),
             Opening::Key => (TokenType::Key, Opening::Nothing),
             Opening::BlockMappingAndKey => (TokenType::BlockMappingStart, Opening::Key),
             Opening::FlowMappingAndKey => (TokenType::FlowMappingStart, Opening::Key),
         };
-        token.set(Span::empty(place.start()), kind);
+        token.set(Span::empty(place.start(&self.aside)), kind);
         self.open(0, left);
         Ok(true)
     }
@@ -272,7 +345,7 @@ impl Held {
         Ok(Held {
             places: self.places.clone()?,
             spent: self.spent,
-            texts: self.texts.try_clone()?,
+            aside: self.aside.try_clone()?,
         })
     }
 }

@@ -1,153 +1,172 @@
 //! A token that is held, and what comes in front of it, in a small form, since the queue may hold all tokens of a text.
 
-ghost use Rattle.std.specs.Prelude.{◌≡◌, ℕ, List, IfOk, IfSome, OnOk, string_bytes};
-ghost use Rattle.saphyr_scanner.specs.Grammar.Tokens as tokens;
-ghost use Rattle.saphyr_scanner.specs.Steps.Queue as spec;
+ghost use Rattle.std.specs.Prelude.{◌≡◌, List, ℕ, IfOk, OnErr, OnOk, slice_index};
+ghost use Rattle.saphyr_input.specs.Indicators.{quotation_mark};
+ghost use Rattle.saphyr_scalar.specs.Steps.Plain.{plain};
+ghost use Rattle.saphyr_scalar.specs.Steps.Quoted.{double_quoted};
+ghost use Rattle.saphyr_scalar.specs.Views.Reader.{cursor_of};
+ghost use Rattle.saphyr_scanner.specs.Views.Asides.{EndsWithText, IsTextOf, with_text_aside, with_token};
 ghost use Rattle.saphyr_scanner.specs.Views.Places.{
-  GrowsBehind,
-  HasHeldText,
-  IsBarePlaceOf,
-  IsHeldAs,
+  AddsBehind,
+  beside_behind,
   indicator_kind,
   near_span,
-  place,
+  place_at,
+  HasBeside,
   text_kind,
-  text_place,
 };
-ghost use Rattle.saphyr_scanner.specs.Views.Tokens.{kind_of, piece};
+ghost use Rattle.saphyr_scanner.specs.Views.Reads.{PlacesPlain, PlacesQuoted};
+ghost use Rattle.saphyr_scanner.specs.Views.Tokens.{Piece, kind_of, piece};
 
 use crate::queue::Opening;
+use crate::queue::aside::Aside;
+use crate::queue::content::{Content, Indicator, Packed, TextKind};
 use crate::queue::near::{NearMarker, near};
-use crate::queue::texts::{TextPlace, Texts};
 use crate::token::{Token, TokenType};
-use saphyr_scalar::scalar::TagParts;
-use saphyr_scalar::{Marker, ScalarStyle, Span, Spare};
+use saphyr_input::input::Input;
+use saphyr_scalar::{Marker, Reader, ScalarStyle, Span, Spare, Stop};
 use std::alloc::{AllocError, Global};
-use std::mem::replace;
-
-/// The kinds of tokens of collections, which have no text.
-#[derive(Clone, Copy)]
-pub(crate) enum Indicator {
-    SequenceStart,
-    SequenceEnd,
-    MappingStart,
-    MappingEnd,
-    Entry,
-    Key,
-    Value,
-    BlockSequenceStart,
-    BlockMappingStart,
-    BlockEntry,
-    BlockEnd,
-}
-
-impl Indicator {
-    #[inline(always)]
-    pub(super) fn kind(self) -> TokenType
-        ensures { kind_of result ≡ indicator_kind self }
-    {
-        match self {
-            Indicator::SequenceStart => TokenType::FlowSequenceStart,
-            Indicator::SequenceEnd => TokenType::FlowSequenceEnd,
-            Indicator::MappingStart => TokenType::FlowMappingStart,
-            Indicator::MappingEnd => TokenType::FlowMappingEnd,
-            Indicator::Entry => TokenType::FlowEntry,
-            Indicator::Key => TokenType::Key,
-            Indicator::Value => TokenType::Value,
-            Indicator::BlockSequenceStart => TokenType::BlockSequenceStart,
-            Indicator::BlockMappingStart => TokenType::BlockMappingStart,
-            Indicator::BlockEntry => TokenType::BlockEntry,
-            Indicator::BlockEnd => TokenType::BlockEnd,
-        }
-    }
-}
-
-/// The kind of a token with a text on one line.
-#[derive(Clone, Copy)]
-pub(super) enum TextKind {
-    Alias,
-    Anchor,
-    Plain,
-    SingleQuoted,
-    DoubleQuoted,
-}
-
-impl TextKind {
-    /// The kind of a scalar of a style on one line. No block scalar is on one line.
-    #[inline(always)]
-    pub(super) fn of_style(style: ScalarStyle) -> Option<TextKind>
-        ensures { IfSome result
-            (λ what. (text : List ℕ) → text_kind what text ≡ tokens.Scalar style text) }
-    {
-        match style {
-            ScalarStyle::Plain => Some(TextKind::Plain),
-            ScalarStyle::SingleQuoted => Some(TextKind::SingleQuoted),
-            ScalarStyle::DoubleQuoted => Some(TextKind::DoubleQuoted),
-            ScalarStyle::Literal | ScalarStyle::Folded => None,
-        }
-    }
-
-    #[inline(always)]
-    fn kind(self, text: String) -> TokenType
-        ensures { kind_of result ≡ text_kind self (string_bytes text) }
-    {
-        match self {
-            TextKind::Alias => TokenType::Alias(text),
-            TextKind::Anchor => TokenType::Anchor(text),
-            TextKind::Plain => TokenType::Scalar(ScalarStyle::Plain, text),
-            TextKind::SingleQuoted => TokenType::Scalar(ScalarStyle::SingleQuoted, text),
-            TextKind::DoubleQuoted => TokenType::Scalar(ScalarStyle::DoubleQuoted, text),
-        }
-    }
-}
 
 /// A token, and what is handed out before it.
 ///
-/// All but the last are tokens on one line, kept as the place and the number of characters. A token's text is among
-/// those of all held tokens. A place has 24 bytes, since the fields of one byte are next to one another.
-#[derive(Drop)]
-pub(super) enum Place {
-    Bare(Opening, Indicator, u8, NearMarker),
-    Text(Opening, TextKind, u8, NearMarker, TextPlace),
-    Tagged(Opening, u8, NearMarker, Box<TagParts>),
-    /// Any other token.
-    Whole(Opening, Box<Token>),
+/// A token on one line is kept as its place and the number of its characters. Its text is aside, and so is the whole
+/// of any other token.
+#[derive(Clone, Copy)]
+pub(super) struct Place {
+    pub(super) opening: Opening,
+    content: Packed,
+    // How many characters the token has, and how many bytes its text.
+    length: u8,
+    count: u8,
+    start: NearMarker,
 }
 
 impl Place {
+    ghost use Rattle.saphyr_scanner.specs.Views.Asides.{Asides};
+
     /// The place of an indicator on one line, with nothing in front of it.
     #[inline(always)]
     pub(super) fn bare(start: NearMarker, length: u8, indicator: Indicator) -> Place
-        ensures { (bytes : List ℕ) → IsBarePlaceOf bytes
-            (record { span = near_span start length; kind = indicator_kind indicator }) result }
+        ensures { (s : Asides) → AddsBehind
+            (record { span = near_span start length; kind = indicator_kind indicator }) result s s }
     {
-        Place::Bare(Opening::Nothing, indicator, length, start)
+        Place {
+            opening: Opening::Nothing,
+            content: Packed::new(Content::Indicator(indicator)),
+            length,
+            count: 0,
+            start,
+        }
     }
 
-    /// The same for a token with a text that is held.
+    /// The same for a token with a text, which is aside, and has so many bytes.
     #[inline(always)]
-    pub(super) fn text(start: NearMarker, length: u8, what: TextKind, place: TextPlace) -> Place
-        ensures { (bytes text : List ℕ) → IsHeldAs bytes text place → IsBarePlaceOf bytes
-            (record { span = near_span start length; kind = text_kind what text }) result }
+    pub(super) fn text(start: NearMarker, length: u8, what: TextKind, count: u8) -> Place
+        ensures { (text : List ℕ) (s : Asides) → IsTextOf count text → AddsBehind
+            (record { span = near_span start length; kind = text_kind what text }) result
+            s (with_text_aside text s) }
     {
-        Place::Text(Opening::Nothing, what, length, start, place)
+        Place {
+            opening: Opening::Nothing,
+            content: Packed::new(Content::Text(what)),
+            length,
+            count,
+            start,
+        }
     }
 
-    /// The place of a token, with nothing in front of it. Its text is appended to `texts`.
+    // The same for a token whose text is the last one aside, and has so many bytes.
+    #[inline(always)]
+    fn of_last_text(
+        span: &Span,
+        what: TextKind,
+        count: usize,
+        aside: &mut Aside,
+    ) -> Result<Place, AllocError>
+        requires { EndsWithText count aside.old }
+        ensures { (text : List ℕ) (s : Asides) → aside.old ≡ with_text_aside text s
+            → IsTextOf count text → IfOk result (λ p. AddsBehind
+            (record { span = span.now; kind = text_kind what text }) p s aside.new) }
+    {
+        if let Ok(count) = u8::try_from(count)
+            && let Some((start, length)) = near(span)
+        {
+            return Ok(Place::text(start, length, what, count));
+        }
+        let text = aside.take_last_text(count)?;
+        Place::whole(span, what.kind(text), aside)
+    }
+
+    /// Reads a plain scalar, whose text is put behind those that are aside. Returns the place of its token, and a
+    /// comment that ended it. After an error nothing is known of what is aside.
+    #[inline(always)]
+    pub(super) fn read_plain<T: Input>(
+        alloc: Global,
+        reader: &mut Reader<T>,
+        in_flow: bool,
+        indent: usize,
+        aside: &mut Aside,
+    ) -> Result<(Place, Option<Marker>), Stop>
+        ensures { PlacesPlain (cursor_of reader.old).mark aside.old aside.new
+            (cursor_of reader.new) result (plain in_flow indent (cursor_of reader.old)) }
+    {
+        let start = reader.mark();
+        let (scalar, count) = aside.read_plain(alloc, reader, in_flow, indent)?;
+        let span = Span::new(start, scalar.end);
+        let place = Place::of_last_text(&span, TextKind::Plain, count, aside)?;
+        Ok((place, scalar.comment))
+    }
+
+    /// Reads a double quoted scalar inside flow in the same way. Mostly an indicator comes right behind it: then this
+    /// returns the place of its token. Otherwise it returns the text, and nothing is put aside.
+    #[inline(always)]
+    pub(super) fn read_double_quoted<T: Input>(
+        alloc: Global,
+        reader: &mut Reader<T>,
+        indent: usize,
+        aside: &mut Aside,
+    ) -> Result<Result<Place, String>, Stop>
+        requires { slice_index (cursor_of reader.old).rest 0 ≡ quotation_mark }
+        ensures { PlacesQuoted (cursor_of reader.old).mark aside.old aside.new
+            (cursor_of reader.new) result (double_quoted indent (cursor_of reader.old)) }
+    {
+        let start = reader.mark();
+        let count = aside.read_double_quoted(alloc, reader, indent)?;
+        if !matches!(reader.look(), ':' | ',' | ']' | '}') {
+            return Ok(Err(aside.take_last_text(count)?));
+        }
+        let span = Span::new(start, reader.mark());
+        let place = Place::of_last_text(&span, TextKind::DoubleQuoted, count, aside)?;
+        Ok(Ok(place))
+    }
+
+    // The same for a token that is aside.
+    fn of_aside() -> Place
+        ensures { (t : Piece) (s : Asides) → AddsBehind t result s (with_token t s) }
+    {
+        Place {
+            opening: Opening::Nothing,
+            content: Packed::new(Content::Aside),
+            length: 0,
+            count: 0,
+            start: NearMarker::zero(),
+        }
+    }
+
+    /// The place of a token, with nothing in front of it. What it has beside it is put behind what is aside.
     #[inline(always)]
     pub(super) fn new(
-        alloc: Global,
         span: &Span,
         kind: TokenType,
-        texts: &mut Texts,
+        aside: &mut Aside,
         spare: &mut Spare,
     ) -> Result<Place, AllocError>
-        ensures grows { GrowsBehind texts.old.bytes.items texts.new.bytes.items }
-        ensures place { IfOk result (IsBarePlaceOf texts.new.bytes.items
-            (record { span = span.now; kind = kind_of kind })) }
+        ensures place { IfOk result (λ p. AddsBehind
+            (record { span = span.now; kind = kind_of kind }) p aside.old aside.new) }
+        ensures failed { OnErr result (aside.new ≡ aside.old) }
     {
         let Some((start, length)) = near(span) else {
-            return Place::whole(alloc, span, kind);
+            return Place::whole(span, kind, aside);
         };
         let indicator = match kind {
             TokenType::FlowSequenceStart => Indicator::SequenceStart,
@@ -161,40 +180,23 @@ impl Place {
             TokenType::BlockMappingStart => Indicator::BlockMappingStart,
             TokenType::BlockEntry => Indicator::BlockEntry,
             TokenType::BlockEnd => Indicator::BlockEnd,
-            kind => return Place::of_text(alloc, start, length, kind, texts, spare),
+            kind => return Place::with_text(start, length, kind, aside, spare),
         };
-        Ok(Place::Bare(Opening::Nothing, indicator, length, start))
-    }
-
-    /// The same for an indicator. On one line its kind need not be made and distinguished again.
-    #[inline(always)]
-    pub(super) fn of_indicator(
-        alloc: Global,
-        span: &Span,
-        indicator: Indicator,
-    ) -> Result<Place, AllocError>
-        ensures { IfOk result (λ p. (bytes : List ℕ) → IsBarePlaceOf bytes
-            (record { span = span.now; kind = indicator_kind indicator }) p) }
-    {
-        let Some((start, length)) = near(span) else {
-            return Ok(Place::whole(alloc, span, indicator.kind())?);
-        };
-        Ok(Place::Bare(Opening::Nothing, indicator, length, start))
+        Ok(Place::bare(start, length, indicator))
     }
 
     // The same for a token on one line that is none of the indicators.
     #[inline(always)]
-    fn of_text(
-        alloc: Global,
+    fn with_text(
         start: NearMarker,
         length: u8,
         kind: TokenType,
-        texts: &mut Texts,
+        aside: &mut Aside,
         spare: &mut Spare,
     ) -> Result<Place, AllocError>
-        ensures grows { GrowsBehind texts.old.bytes.items texts.new.bytes.items }
-        ensures place { IfOk result (IsBarePlaceOf texts.new.bytes.items
-            (record { span = near_span start length; kind = kind_of kind })) }
+        ensures place { IfOk result (λ p. AddsBehind
+            (record { span = near_span start length; kind = kind_of kind }) p aside.old aside.new) }
+        ensures failed { OnErr result (aside.new ≡ aside.old) }
     {
         let (what, text) = match kind {
             TokenType::Alias(name) => (TextKind::Alias, name),
@@ -202,114 +204,68 @@ impl Place {
             TokenType::Scalar(ScalarStyle::Plain, text) => (TextKind::Plain, text),
             TokenType::Scalar(ScalarStyle::SingleQuoted, text) => (TextKind::SingleQuoted, text),
             TokenType::Scalar(ScalarStyle::DoubleQuoted, text) => (TextKind::DoubleQuoted, text),
-            TokenType::Tag(tag) => return Ok(Place::Tagged(Opening::Nothing, length, start, tag)),
-            kind => return Place::whole(alloc, &start.span(length), kind),
+            kind => return Place::whole(&start.span(length), kind, aside),
         };
-        let Some(place) = texts.keep(&text)? else {
-            return Place::whole(alloc, &start.span(length), what.kind(text));
+        let Some(count) = aside.keep_text(&text)? else {
+            return Place::whole(&start.span(length), what.kind(text), aside);
         };
         spare.keep(text);
-        Ok(Place::Text(Opening::Nothing, what, length, start, place))
+        Ok(Place::text(start, length, what, count))
     }
 
     // The same for any token.
-    fn whole(alloc: Global, span: &Span, kind: TokenType) -> Result<Place, AllocError>
-        ensures { (bytes : List ℕ) → IfOk result (IsBarePlaceOf bytes
-            (record { span = span.now; kind = kind_of kind })) }
+    fn whole(span: &Span, kind: TokenType, aside: &mut Aside) -> Result<Place, AllocError>
+        ensures place { IfOk result (λ p. AddsBehind
+            (record { span = span.now; kind = kind_of kind }) p aside.old aside.new) }
+        ensures failed { OnErr result (aside.new ≡ aside.old) }
     {
-        let token = Box::new(alloc, Token { span: *span, kind })?;
-        Ok(Place::Whole(Opening::Nothing, token))
-    }
-
-    /// What comes in front of the token.
-    #[inline(always)]
-    pub(super) fn opening(&self) -> Opening
-        ensures { (bytes : List ℕ) → result ≡ (place bytes self.now).opening }
-    {
-        match self {
-            Place::Bare(opening, _, _, _) => *opening,
-            Place::Text(opening, _, _, _, _) => *opening,
-            Place::Tagged(opening, _, _, _) => *opening,
-            Place::Whole(opening, _) => *opening,
-        }
-    }
-
-    /// Sets what comes in front of the token.
-    #[inline(always)]
-    pub(super) fn open(&mut self, before: Opening)
-        ensures place { (bytes : List ℕ) → place bytes self.new
-            ≡ record { opening = before; piece = (place bytes self.old).piece } }
-        ensures text { text_place self.new ≡ text_place self.old }
-    {
-        match self {
-            Place::Bare(opening, _, _, _) => *opening = before,
-            Place::Text(opening, _, _, _, _) => *opening = before,
-            Place::Tagged(opening, _, _, _) => *opening = before,
-            Place::Whole(opening, _) => *opening = before,
-        }
+        aside.keep_token(Token { span: *span, kind })?;
+        Ok(Place::of_aside())
     }
 
     /// Where the token begins.
     #[inline(always)]
-    pub(super) fn start(&self) -> Marker
-        ensures { (bytes : List ℕ) → result ≡ (place bytes self.now).piece.span.start }
+    pub(super) fn start(self, aside: &Aside) -> Marker
+        ensures { result ≡ (place_at self aside.now).piece.span.start }
     {
-        match self {
-            Place::Bare(_, _, _, start) => start.marker(),
-            Place::Text(_, _, _, start, _) => start.marker(),
-            Place::Tagged(_, _, start, _) => start.marker(),
-            Place::Whole(_, token) => token.span.start,
+        match self.content.content() {
+            Content::Indicator(_) | Content::Text(_) => self.start.marker(),
+            Content::Aside => aside.first_start(),
         }
     }
 
-    /// Writes the token into `token`. Its text is among `texts`. What is left here is no longer needed, and holds no
-    /// memory.
+    /// Writes the token into `token`, and takes off what it has aside.
     #[inline(always)]
-    pub(super) fn write_into(
-        &mut self,
+    pub(super) fn take_into(
+        self,
         alloc: Global,
-        texts: &Texts,
+        aside: &mut Aside,
         token: &mut Token,
         spare: &mut Spare,
     ) -> Result<(), AllocError>
-        requires { HasHeldText texts.now.bytes.items self.old }
-        ensures written { OnOk result
-            (piece token.new ≡ (place texts.now.bytes.items self.old).piece) }
-        ensures left { HasHeldText texts.now.bytes.items self.new }
+        requires { HasBeside self aside.old }
+        ensures written { OnOk result (piece token.new ≡ (place_at self aside.old).piece) }
+        ensures left { OnOk result (aside.new ≡ beside_behind self aside.old) }
+        ensures failed { OnErr result (aside.new ≡ aside.old) }
     {
-        match self {
-            Place::Bare(_, indicator, length, start) => {
-                token.set(start.span(*length), indicator.kind());
+        match self.content.content() {
+            Content::Indicator(indicator) => {
+                token.set(self.start.span(self.length), indicator.kind());
             }
-            Place::Text(_, what, length, start, place) => {
+            Content::Text(what) => {
                 let mut text = spare.begin(alloc)?;
-                text.push_str(texts.get(*place))?;
-                token.set(start.span(*length), what.kind(text));
+                text.push_str(aside.first_text(self.count))?;
+                aside.pass_text(self.count);
+                token.set(self.start.span(self.length), what.kind(text));
             }
-            Place::Tagged(_, length, start, _) => {
-                let span = start.span(*length);
-                if let Place::Tagged(_, _, _, tag) = replace(self, Place::spent()) {
-                    token.set(span, TokenType::Tag(tag));
-                }
-            }
-            Place::Whole(..) => {
-                if let Place::Whole(_, whole) = replace(self, Place::spent()) {
-                    let Token { span, kind } = Box::into_inner(whole);
-                    token.set(span, kind);
-                }
+            Content::Aside => {
+                let Token { span, kind } = aside.take_token();
+                token.set(span, kind);
             }
         }
         Ok(())
     }
-
-    // What is left of a place whose token was moved out.
-    #[inline(always)]
-    fn spent() -> Place
-        ensures { text_place result ≡ record { start = 0; count = 0 } }
-    {
-        Place::Bare(Opening::Nothing, Indicator::Entry, 0, NearMarker::zero())
-    }
 }
 
 // Texts whose tokens are all held have one for each byte or two.
-const _: () = prove!(size_of::<Place>() == 24);
+const _: () = prove!(size_of::<Place>() == 16);

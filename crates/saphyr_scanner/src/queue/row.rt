@@ -1,4 +1,5 @@
-//! A place for a token that is held only briefly, or for the ends of several block collections.
+//! A place for a token that is held only briefly, or for the ends of several block collections. Nothing is allocated
+//! for it, and its span is kept as it is.
 
 ghost use Rattle.std.specs.Prelude.{◌≡◌, ◌+◌, ◌<◌, ◌^◌, ◌∷◌, List, Some, IfOk, OnErr, OnOk};
 ghost use Rattle.saphyr_scanner.specs.Grammar.Tokens as tokens;

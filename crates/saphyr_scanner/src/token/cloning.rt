@@ -52,3 +52,11 @@ impl Token {
         })
     }
 }
+
+impl Clone for Token {
+    ghost is_clone = { λ token copy. piece copy ≡ piece token };
+
+    fn clone(&self) -> Result<Token, AllocError> {
+        self.try_clone()
+    }
+}

@@ -38,8 +38,8 @@ loop-column-preserved g c =
     let less = fewer_end c.args.column (state c.loop-column.self) (state c.leave_block.new.self) right
     c.leave_block.ensures in
     let few = c.loop-column.invariant.1 in (
-      others_end c.args.column c.args.mark c.loop-column.count (state c.loop-column.self) (state c.leave_block.new.self) _
-          right c.leave_block.ensures c.loop-column.invariant.0,
+      others_end c.args.column c.args.mark c.loop-column.count (state c.loop-column.self)
+          (state c.leave_block.new.self) _ right c.leave_block.ensures c.loop-column.invariant.0,
       omega (arith, less, few),
     )
 

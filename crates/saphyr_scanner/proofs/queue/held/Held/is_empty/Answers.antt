@@ -2,7 +2,7 @@
 use Rattle.std.proofs.Common.{ap, ◌∙◌}
 use Rattle.std.proofs.Math.Dec.{eqb}
 use Rattle.saphyr_scanner.specs.Views.Queue.{held_places}
-use Rattle.saphyr_scanner.proofs.HeldTexts.{is_none}
+use Rattle.saphyr_scanner.proofs.HeldPlaces.{is_none}
 use Rattle.saphyr_scanner.proofs.queue.held.Held.is_empty.Goals as goal
 
 pub returns : goal.returns

@@ -1,9 +1,9 @@
 -- What is handed out next is taken off the tokens that are held.
-use Rattle.std.proofs.Common.{rules, ap, arith, sym, length, suc, refl, Ok, ◌∙◌}
+use Rattle.std.proofs.Common.{rules, ap, arith, sym, length, suc, refl, ◌∙◌}
 use Rattle.std.proofs.lemmas.Bool.{ltb-false, ltb-true}
 use Rattle.std.specs.Prelude.{slice_index_or}
 use Rattle.saphyr_scanner.specs.Views.Queue.{held_places}
-use Rattle.saphyr_scanner.proofs.HeldTexts.{first_place, take_of_none}
+use Rattle.saphyr_scanner.proofs.HeldPlaces.{first_held, none_behind}
 use Rattle.saphyr_scanner.proofs.queue.held.Held.take_into.Goals as goal
 
 pub returns-in_default : goal.returns-in_default
@@ -12,7 +12,8 @@ returns-in_default c =
     let old = c.args.self.now in
     let none = ltb-false old.spent (length c.deref.result.now) (sym c.in_default.ensures.lookup.0) in
     let same = ap length c.deref.ensures.value in
-    ap Ok (take_of_none old.texts.bytes.items old.spent old.places.items c.args.handed.now (omega (arith, none, same)))
+    let nothing = none_behind old.spent old.places.items old.aside (omega (arith, none, same)) in
+    search (rules, nothing)
 
 pub returns-in-Nothing : goal.returns-in-Nothing
 unfolding held_places
@@ -20,7 +21,7 @@ returns-in-Nothing c =
     let old = c.args.self.now in
     let some = ltb-true old.spent (length c.deref.result.now) (sym c.in-Some.ensures.lookup.0) in
     let same = ap length c.deref.ensures.value in
-    let first = first_place old.texts.bytes.items old.spent (suc old.spent) old.places.items c.in-Some.place.now refl
+    let first = first_held old.spent (suc old.spent) old.places.items c.in-Some.place.now old.aside refl
     (omega (arith, some, same))
     (c.in-Some.ensures.lookup.1 ∙ ap (λ ps. slice_index_or ps old.spent c.in-Some.place.now) c.deref.ensures.value) in
     search (rules, first)
@@ -31,7 +32,7 @@ returns c =
     let old = c.args.self.now in
     let some = ltb-true old.spent (length c.deref.result.now) (sym c.in-Some.ensures.lookup.0) in
     let same = ap length c.deref.ensures.value in
-    let first = first_place old.texts.bytes.items old.spent (suc old.spent) old.places.items c.in-Some.place.now refl
+    let first = first_held old.spent (suc old.spent) old.places.items c.in-Some.place.now old.aside refl
     (omega (arith, some, same))
     (c.in-Some.ensures.lookup.1 ∙ ap (λ ps. slice_index_or ps old.spent c.in-Some.place.now) c.deref.ensures.value) in
     search (rules, first)

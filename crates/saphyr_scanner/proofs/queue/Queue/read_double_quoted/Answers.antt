@@ -1,0 +1,13 @@
+-- A double quoted scalar is put behind the tokens of the queue.
+use Rattle.saphyr_scalar.specs.Steps.Quoted.{double_quoted}
+use Rattle.saphyr_scalar.specs.Views.Reader.{cursor_of}
+use Rattle.saphyr_scanner.specs.Views.Queue.{held_places}
+use Rattle.saphyr_scanner.proofs.HeldReads.{quoted_queued}
+use Rattle.saphyr_scanner.proofs.queue.Queue.read_double_quoted.Goals as goal
+
+pub returns-clause-places : goal.returns-clause-places
+returns-clause-places g c =
+    let old = c.args.self.now in
+    quoted_queued old.first old.second (held_places old.held) (held_places c.read_double_quoted.new.self)
+    c.args.reader.now.mark (double_quoted c.args.indent (cursor_of c.args.reader.now)) c.read_double_quoted.result
+    (cursor_of c.read_double_quoted.new.reader) c.read_double_quoted.ensures

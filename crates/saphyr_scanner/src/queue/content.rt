@@ -1,0 +1,171 @@
+//! What a place holds of its token, in a byte.
+
+ghost use Rattle.std.specs.Prelude.{◌≡◌, List, ℕ, IfSome, string_bytes};
+ghost use Rattle.saphyr_scanner.specs.Grammar.Tokens as tokens;
+ghost use Rattle.saphyr_scanner.specs.Views.Places.{indicator_kind, text_kind};
+ghost use Rattle.saphyr_scanner.specs.Views.Tokens.{kind_of};
+
+use crate::token::TokenType;
+use saphyr_scalar::ScalarStyle;
+
+/// The kinds of tokens of collections, which have no text.
+#[derive(Clone, Copy)]
+pub(crate) enum Indicator {
+    SequenceStart,
+    SequenceEnd,
+    MappingStart,
+    MappingEnd,
+    Entry,
+    Key,
+    Value,
+    BlockSequenceStart,
+    BlockMappingStart,
+    BlockEntry,
+    BlockEnd,
+}
+
+impl Indicator {
+    #[inline(always)]
+    pub(super) fn kind(self) -> TokenType
+        ensures { kind_of result ≡ indicator_kind self }
+    {
+        match self {
+            Indicator::SequenceStart => TokenType::FlowSequenceStart,
+            Indicator::SequenceEnd => TokenType::FlowSequenceEnd,
+            Indicator::MappingStart => TokenType::FlowMappingStart,
+            Indicator::MappingEnd => TokenType::FlowMappingEnd,
+            Indicator::Entry => TokenType::FlowEntry,
+            Indicator::Key => TokenType::Key,
+            Indicator::Value => TokenType::Value,
+            Indicator::BlockSequenceStart => TokenType::BlockSequenceStart,
+            Indicator::BlockMappingStart => TokenType::BlockMappingStart,
+            Indicator::BlockEntry => TokenType::BlockEntry,
+            Indicator::BlockEnd => TokenType::BlockEnd,
+        }
+    }
+}
+
+/// The kind of a token with a text on one line.
+#[derive(Clone, Copy)]
+pub(super) enum TextKind {
+    Alias,
+    Anchor,
+    Plain,
+    SingleQuoted,
+    DoubleQuoted,
+}
+
+impl TextKind {
+    /// The kind of a scalar of a style on one line. No block scalar is on one line.
+    #[inline(always)]
+    pub(super) fn of_style(style: ScalarStyle) -> Option<TextKind>
+        ensures { IfSome result
+            (λ what. (text : List ℕ) → text_kind what text ≡ tokens.Scalar style text) }
+    {
+        match style {
+            ScalarStyle::Plain => Some(TextKind::Plain),
+            ScalarStyle::SingleQuoted => Some(TextKind::SingleQuoted),
+            ScalarStyle::DoubleQuoted => Some(TextKind::DoubleQuoted),
+            ScalarStyle::Literal | ScalarStyle::Folded => None,
+        }
+    }
+
+    #[inline(always)]
+    pub(super) fn kind(self, text: String) -> TokenType
+        ensures { kind_of result ≡ text_kind self (string_bytes text) }
+    {
+        match self {
+            TextKind::Alias => TokenType::Alias(text),
+            TextKind::Anchor => TokenType::Anchor(text),
+            TextKind::Plain => TokenType::Scalar(ScalarStyle::Plain, text),
+            TextKind::SingleQuoted => TokenType::Scalar(ScalarStyle::SingleQuoted, text),
+            TextKind::DoubleQuoted => TokenType::Scalar(ScalarStyle::DoubleQuoted, text),
+        }
+    }
+}
+
+/// What a place holds of its token.
+#[derive(Clone, Copy)]
+pub(super) enum Content {
+    Indicator(Indicator),
+    /// The token has a text, which is aside.
+    Text(TextKind),
+    /// The whole token is aside.
+    Aside,
+}
+
+/// The same in a byte.
+#[derive(Clone, Copy)]
+pub(super) enum Packed {
+    SequenceStart,
+    SequenceEnd,
+    MappingStart,
+    MappingEnd,
+    Entry,
+    Key,
+    Value,
+    BlockSequenceStart,
+    BlockMappingStart,
+    BlockEntry,
+    BlockEnd,
+    Alias,
+    Anchor,
+    Plain,
+    SingleQuoted,
+    DoubleQuoted,
+    Aside,
+}
+
+impl Packed {
+    ghost use Rattle.saphyr_scanner.specs.Views.Contents.{content_of};
+
+    #[inline(always)]
+    pub(super) fn new(content: Content) -> Self
+        ensures { content_of result ≡ content }
+    {
+        match content {
+            Content::Indicator(Indicator::SequenceStart) => Packed::SequenceStart,
+            Content::Indicator(Indicator::SequenceEnd) => Packed::SequenceEnd,
+            Content::Indicator(Indicator::MappingStart) => Packed::MappingStart,
+            Content::Indicator(Indicator::MappingEnd) => Packed::MappingEnd,
+            Content::Indicator(Indicator::Entry) => Packed::Entry,
+            Content::Indicator(Indicator::Key) => Packed::Key,
+            Content::Indicator(Indicator::Value) => Packed::Value,
+            Content::Indicator(Indicator::BlockSequenceStart) => Packed::BlockSequenceStart,
+            Content::Indicator(Indicator::BlockMappingStart) => Packed::BlockMappingStart,
+            Content::Indicator(Indicator::BlockEntry) => Packed::BlockEntry,
+            Content::Indicator(Indicator::BlockEnd) => Packed::BlockEnd,
+            Content::Text(TextKind::Alias) => Packed::Alias,
+            Content::Text(TextKind::Anchor) => Packed::Anchor,
+            Content::Text(TextKind::Plain) => Packed::Plain,
+            Content::Text(TextKind::SingleQuoted) => Packed::SingleQuoted,
+            Content::Text(TextKind::DoubleQuoted) => Packed::DoubleQuoted,
+            Content::Aside => Packed::Aside,
+        }
+    }
+
+    #[inline(always)]
+    pub(super) fn content(self) -> Content
+        ensures { result ≡ content_of self }
+    {
+        match self {
+            Packed::SequenceStart => Content::Indicator(Indicator::SequenceStart),
+            Packed::SequenceEnd => Content::Indicator(Indicator::SequenceEnd),
+            Packed::MappingStart => Content::Indicator(Indicator::MappingStart),
+            Packed::MappingEnd => Content::Indicator(Indicator::MappingEnd),
+            Packed::Entry => Content::Indicator(Indicator::Entry),
+            Packed::Key => Content::Indicator(Indicator::Key),
+            Packed::Value => Content::Indicator(Indicator::Value),
+            Packed::BlockSequenceStart => Content::Indicator(Indicator::BlockSequenceStart),
+            Packed::BlockMappingStart => Content::Indicator(Indicator::BlockMappingStart),
+            Packed::BlockEntry => Content::Indicator(Indicator::BlockEntry),
+            Packed::BlockEnd => Content::Indicator(Indicator::BlockEnd),
+            Packed::Alias => Content::Text(TextKind::Alias),
+            Packed::Anchor => Content::Text(TextKind::Anchor),
+            Packed::Plain => Content::Text(TextKind::Plain),
+            Packed::SingleQuoted => Content::Text(TextKind::SingleQuoted),
+            Packed::DoubleQuoted => Content::Text(TextKind::DoubleQuoted),
+            Packed::Aside => Content::Aside,
+        }
+    }
+}
