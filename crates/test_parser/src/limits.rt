@@ -195,6 +195,36 @@ const LONG: &[(&str, &[(&str, usize)])] = &[
         "a long key in brackets",
         &[("[", 1), ("a", 1100), ("]: b", 1)],
     ),
+    (
+        "texts that are held, up to the longest that is packed",
+        &[
+            ("[a, \"", 1),
+            ("b", 253),
+            ("\", ", 1),
+            ("c", 255),
+            (", d]", 1),
+        ],
+    ),
+    (
+        "longer ones",
+        &[
+            ("[a, \"", 1),
+            ("b", 254),
+            ("\", ", 1),
+            ("c", 256),
+            (", d]", 1),
+        ],
+    ),
+    (
+        "few characters of more bytes",
+        &[
+            ("[a, \"", 1),
+            ("\u{e9}", 130),
+            ("\", ", 1),
+            ("\u{e9}", 130),
+            (", d]", 1),
+        ],
+    ),
 ];
 
 #[test]
