@@ -108,6 +108,8 @@ SCALARS = {
 
 FLOW = {
     "flow_empty_strings": enclosed("[", each('"",'), '""]'),
+    "flow_spaced_strings": enclosed("[", each('"ab" , '), '"ab"]'),
+    "flow_tags": enclosed("[", each("!t ab, "), "ab]"),
     "flow_empty_sequences": enclosed("[", each("[],"), "[]]"),
     "flow_empty_mappings": enclosed("[", each("{},"), "{}]"),
     "flow_empty_values": each("- {a: , b: }\n"),
@@ -133,6 +135,7 @@ FLOW = {
     "json_escapes": enclosed("[", each('"a\\"b\\\\c\\/d\\n",'), "1]"),
     "json_u_escapes": enclosed("[", each('"\\u00e9\\u4e2d",'), "1]"),
     "json_indented": enclosed("[\n", each("        1,\n"), "        1\n]\n"),
+    "json_spaced_colons": enclosed("[\n", each('  {"key" : "value of it", "n" : 12},\n'), "  {}\n]\n"),
 }
 
 BLOCK = {
