@@ -1,12 +1,13 @@
 -- Scalars that are read right where their texts are held.
-use Rattle.std.proofs.Common.{◌≡◌, ◌+◌, ◌-◌, ◌≤◌, ℕ, List, [], ◌∷◌, ◌++◌, Some, None, Ok, Err, true, slice_index, drop, length, take, sym, ap, subst, arith, ◌∙◌}
-use Rattle.std.specs.Prelude.{Option, Result, String, IsUtf8}
+use Rattle.std.proofs.Common.{◌≡◌, ◌+◌, ◌-◌, ◌≤◌, ℕ, List, [], ◌∷◌, ◌++◌, Ok, Err, drop, length, take, sym, ap, subst, arith, ◌∙◌}
+use Rattle.std.specs.Prelude.{Option, Result, IsUtf8}
 use Rattle.std.specs.String.Boundary.{IsSplitPoint}
 use Rattle.std.proofs.Math.Seq.{drop-append_seam, take-append_seam}
 use Rattle.std.proofs.lemmas.List.{drop-append-le, drop-drop, length-append, length-drop, length-take-le, take-append-drop}
 use Rattle.std.proofs.lemmas.Str.{IsCharBoundary-from_drop, IsCharBoundary-from_take, IsUtf8-drop}
 use Rattle.saphyr_scalar.specs.declared.scalar.fault.Refusal.{Refusal}
 use Rattle.saphyr_scalar.specs.declared.scalar.position.Marker.{Marker}
+use Rattle.saphyr_scalar.specs.declared.scalar.style.ScalarStyle.{ScalarStyle}
 use Rattle.saphyr_scalar.specs.Steps.Plain.{PlainScalarRead, with_text}
 use Rattle.saphyr_scalar.specs.Steps.Quoted.{TextRead, with_front}
 use Rattle.saphyr_scalar.specs.Views.Cursor.{Cursor}
@@ -19,12 +20,12 @@ use Rattle.saphyr_scanner.specs.Steps.Queue as seen
 use Rattle.saphyr_scanner.specs.Steps.Queue.{bare_place}
 use Rattle.saphyr_scanner.specs.Views.Places.{Fit, places_at}
 use Rattle.saphyr_scanner.specs.Views.Queue.{in_row}
-use Rattle.saphyr_scanner.specs.Views.Reads.{PlacesPlain, PlacesQuoted, PutsQuoted, is_entry_end, plain_piece, queue_with_plain, quoted_piece, with_plain}
+use Rattle.saphyr_scanner.specs.Views.Reads.{PlacesScalar, ScalarRead, queue_with_scalar, scalar_piece, with_scalar}
 use Rattle.saphyr_scanner.proofs.HeldPlaces.{put_behind}
 use Rattle.saphyr_scanner.proofs.Rows.{behind_rows}
 use Rattle.saphyr_scanner.specs.Views.Asides.{Asides, EndsWithText, IsTextOf, with_text_aside}
 
-abbrev value_or : {X : Type 0} → X → Result X Refusal → X
+abbrev pub value_or : {X : Type 0} → X → Result X Refusal → X
 value_or d (Ok x) = x
 value_or d (Err e) = d
 
@@ -143,25 +144,15 @@ cut_again at spent bs within short =
 
 -- ## The token of what was read is put behind others
 
-pub plain_put : (n : ℕ) (ps qs : List Place) (p : Place) (start : Marker) (old new : Asides) (s : Cursor)
-    (comment : Option Marker) (f : PlainScalarRead) → n ≤ length ps → qs ≡ ps ++ p ∷ [] → Fit (drop n ps) old
-    → PlacesPlain start old new s (Ok (p, comment)) f
+pub scalar_put : {X : Type 0} (n : ℕ) (ps qs : List Place) (p : Place) (style : ScalarStyle) (start : Marker)
+    (old new : Asides) (s : Cursor) (told : X) (f : ScalarRead X)
+    → n ≤ length ps → qs ≡ ps ++ p ∷ [] → Fit (drop n ps) old → PlacesScalar style start old new s (Ok (p, told)) f
     → Fit (drop n qs) new
-    × (with_plain (places_at (drop n ps) old) start f ≡ Ok (places_at (drop n qs) new, comment, s))
-plain_put n ps qs p start old new s comment (Err e) within is fit h = absurd h
-plain_put n ps qs p start old new s comment (Ok x) within is fit h =
-    let both = put_behind n ps qs p (plain_piece start x) old new within is fit h.2 in
+    × (with_scalar style (places_at (drop n ps) old) start f ≡ Ok (places_at (drop n qs) new, told, s))
+scalar_put n ps qs p style start old new s told (Err e) within is fit h = absurd h
+scalar_put n ps qs p style start old new s told (Ok x) within is fit h =
+    let both = put_behind n ps qs p (scalar_piece style start x) old new within is fit h.2 in
     (both.0, λ i. Ok (sym both.1 i, sym h.0 i, sym h.1 i))
-
-pub quoted_put : (Z : Type 0) (n : ℕ) (ps qs : List Place) (p : Place) (start : Marker) (old new : Asides) (s : Cursor)
-    (f : TextRead) → n ≤ length ps → qs ≡ ps ++ p ∷ [] → Fit (drop n ps) old
-    → PlacesQuoted {Z = Z} start old new s (Ok (Ok p)) f
-    → Fit (drop n qs) new
-    × PutsQuoted {Z = Z} start (places_at (drop n ps) old) (places_at (drop n qs) new) s (Ok None) f
-quoted_put Z n ps qs p start old new s (Err e) within is fit h = absurd h
-quoted_put Z n ps qs p start old new s (Ok x) within is fit h =
-    let both = put_behind n ps qs p (quoted_piece start x) old new within is fit h.2 in
-    (both.0, (h.0, h.1, both.1))
 
 -- ## The same behind two rows
 
@@ -176,39 +167,17 @@ other_error : {X Y : Type 0} (e d : Refusal) → ◌≡◌ {A = Result X Refusal
     → ◌≡◌ {A = Result Y Refusal} (Err e) (Err d)
 other_error e d is = ap Err (ap (error_or e) is)
 
-pub plain_queued : (a b : Row) (ps qs : List seen.Place) (n : ℕ) (start : Marker) (f : PlainScalarRead)
-    (r : Result (Option Marker) Stop) (s : Cursor)
-    → Moves (λ comment. (qs, comment, s)) r (with_plain ps start f)
-    → Moves (λ comment. (queue_of a b qs n, comment, s)) r (queue_with_plain (queue_of a b ps n) start f)
-plain_queued a b ps qs n start (Ok x) (Ok comment) s h =
-    let parts = ap (value_or (qs, comment, s)) h in
-    let behind = behind_rows a b ps (bare_place (plain_piece start x) ∷ []) in
+pub scalar_queued : {X : Type 0} (a b : Row) (ps qs : List seen.Place) (n : ℕ) (style : ScalarStyle) (start : Marker)
+    (f : ScalarRead X) (r : Result X Stop) (s : Cursor)
+    → Moves (λ told. (qs, told, s)) r (with_scalar style ps start f)
+    → Moves (λ told. (queue_of a b qs n, told, s)) r (queue_with_scalar style (queue_of a b ps n) start f)
+scalar_queued a b ps qs n style start (Ok x) (Ok told) s h =
+    let parts = ap (value_or (qs, told, s)) h in
+    let behind = behind_rows a b ps (bare_place (scalar_piece style start x) ∷ []) in
     (λ i. Ok (record { places = sym behind i; handed = n }, x.2, x.3))
     ∙ (λ i. Ok (queue_of a b (parts i).0 n, (parts i).1, (parts i).2))
-plain_queued a b ps qs n start (Ok x) (Err stop.OutOfMemory) s h = h
-plain_queued a b ps qs n start (Ok x) (Err (stop.Refused d)) s h = absurd (cc)
-plain_queued a b ps qs n start (Err e) (Ok comment) s h = absurd (cc)
-plain_queued a b ps qs n start (Err e) (Err stop.OutOfMemory) s h = h
-plain_queued a b ps qs n start (Err e) (Err (stop.Refused d)) s h = other_error e d h
-
-pub quoted_queued : {Z : Type 0} (a b : Row) (ps qs : List seen.Place) (start : Marker) (f : TextRead)
-    (r : Result (Option (String Z)) Stop) (s : Cursor)
-    → PutsQuoted start ps qs s r f → PutsQuoted start (in_row a (in_row b ps)) (in_row a (in_row b qs)) s r f
-quoted_queued a b ps qs start (Ok x) (Ok None) s h =
-    (h.0, h.1, ap (λ rs. in_row a (in_row b rs)) h.2 ∙ behind_rows a b ps (bare_place (quoted_piece start x) ∷ []))
-quoted_queued a b ps qs start (Ok x) (Ok (Some text)) s h = (h.0, h.1, ap (λ rs. in_row a (in_row b rs)) h.2)
-quoted_queued a b ps qs start (Err e) (Ok None) s h = absurd h
-quoted_queued a b ps qs start (Err e) (Ok (Some text)) s h = absurd h
-quoted_queued a b ps qs start (Ok x) (Err e) s h = h
-quoted_queued a b ps qs start (Err d) (Err e) s h = h
-
--- where the token of a quoted scalar was put behind others
-pub quoted_held : (Z : Type 0) (start : Marker) (ps qs : List seen.Place) (s : Cursor) (f : TextRead)
-    → PutsQuoted {Z = Z} start ps qs s (Ok None) f
-    → (text : List ℕ)
-    × (f ≡ Ok (text, s))
-    × (is_entry_end (slice_index s.rest 0) ≡ true)
-    × (qs ≡ ps ++ bare_place (quoted_piece start (text, s)) ∷ [])
-quoted_held Z start ps qs s (Err e) h = absurd h
-quoted_held Z start ps qs s (Ok x) h =
-    (x.0, (λ i. Ok (x.0, sym h.0 i)), h.1, h.2 ∙ (λ i. ps ++ bare_place (quoted_piece start (x.0, sym h.0 i)) ∷ []))
+scalar_queued a b ps qs n style start (Ok x) (Err stop.OutOfMemory) s h = h
+scalar_queued a b ps qs n style start (Ok x) (Err (stop.Refused d)) s h = absurd (cc)
+scalar_queued a b ps qs n style start (Err e) (Ok told) s h = absurd (cc)
+scalar_queued a b ps qs n style start (Err e) (Err stop.OutOfMemory) s h = h
+scalar_queued a b ps qs n style start (Err e) (Err (stop.Refused d)) s h = other_error e d h

@@ -11,7 +11,6 @@ mod row;
 ghost use Rattle.std.specs.Prelude.{◌≡◌, ◌⊎◌, false, Ok, OnErr, OnOk, length, slice_index, string_bytes};
 ghost use Rattle.saphyr_input.specs.Indicators.{quotation_mark};
 ghost use Rattle.saphyr_scalar.specs.Steps.Plain.{plain};
-ghost use Rattle.saphyr_scalar.specs.Steps.Quoted.{double_quoted};
 ghost use Rattle.saphyr_scanner.specs.Grammar.Tokens as tokens;
 ghost use Rattle.saphyr_scanner.specs.Steps.Queue as spec;
 
@@ -53,10 +52,11 @@ pub(crate) struct Queue {
 }
 
 impl Queue {
+    ghost use Rattle.saphyr_scalar.specs.declared.scalar.style.ScalarStyle.TheVariants.{DoubleQuoted, Plain};
     ghost use Rattle.saphyr_scalar.specs.Views.Reader.{Moves, cursor_of};
     ghost use Rattle.saphyr_scanner.specs.Views.Tokens.{piece};
     ghost use Rattle.saphyr_scanner.specs.Views.Places.{indicator_kind};
-    ghost use Rattle.saphyr_scanner.specs.Views.Reads.{PutsQuoted, queue_with_plain};
+    ghost use Rattle.saphyr_scanner.specs.Views.Reads.{flow_double_quoted, queue_with_scalar};
     ghost use Rattle.saphyr_scanner.specs.Views.Queue.{queue, with_block_ends, TakesOffBy};
     ghost use Rattle.std.specs.Prelude.{◌<◌};
 
@@ -187,26 +187,25 @@ impl Queue {
         indent: usize,
     ) -> Result<Option<Marker>, Stop>
         ensures { Moves (λ comment. (queue self.new, comment, cursor_of reader.new)) result
-            (queue_with_plain (queue self.old) (cursor_of reader.old).mark
+            (queue_with_scalar Plain (queue self.old) (cursor_of reader.old).mark
             (plain in_flow indent (cursor_of reader.old))) }
     {
         self.held.read_plain(alloc, reader, in_flow, indent)
     }
 
-    /// Reads a double quoted scalar inside flow in the same way, and puts its token at the end if an indicator comes
-    /// right behind it. Otherwise it returns the text, and no token is put here.
+    /// Reads a double quoted scalar inside flow in the same way, passes what separates it from what comes after it, and
+    /// puts its token at the end. Returns whether an indicator is there.
     #[inline(always)]
     pub(crate) fn read_double_quoted<T: Input>(
         &mut self,
         alloc: Global,
         reader: &mut Reader<T>,
         indent: usize,
-    ) -> Result<Option<String>, Stop>
+    ) -> Result<bool, Stop>
         requires { slice_index (cursor_of reader.old).rest 0 ≡ quotation_mark }
-        ensures places { PutsQuoted (cursor_of reader.old).mark (queue self.old).places
-            (queue self.new).places (cursor_of reader.new) result
-            (double_quoted indent (cursor_of reader.old)) }
-        ensures handed { (queue self.new).handed ≡ (queue self.old).handed }
+        ensures { Moves (λ told. (queue self.new, told, cursor_of reader.new)) result
+            (queue_with_scalar DoubleQuoted (queue self.old) (cursor_of reader.old).mark
+            (flow_double_quoted indent (cursor_of reader.old))) }
     {
         self.held.read_double_quoted(alloc, reader, indent)
     }

@@ -1,13 +1,15 @@
 -- What contracts see of scalars that are read right where their texts are held.
-use Rattle.std.specs.Prelude.{◌≡◌, ◌==◌, ◌||◌, [], ◌∷◌, ◌++◌, ℕ, Bool, true, List, Option, Some, None, Result, Ok, Err, String, slice_index, string_bytes}
+use Rattle.std.specs.Prelude.{◌≡◌, ◌==◌, ◌||◌, [], ◌∷◌, ◌++◌, ℕ, Bool, true, false, List, Result, Ok, Err, slice_index, if◌then◌else◌}
+use Rattle.saphyr_input.specs.Classes.{is_breakz}
 use Rattle.saphyr_input.specs.Indicators.{colon, comma, right_brace, right_bracket}
+use Rattle.saphyr_input.specs.declared.input.SkipTabs.TheVariants as tabs
+use Rattle.saphyr_scalar.specs.declared.scalar.fault.FaultText.TheVariants as fault
 use Rattle.saphyr_scalar.specs.declared.scalar.fault.Refusal.{Refusal}
 use Rattle.saphyr_scalar.specs.declared.scalar.fault.Stop.{Stop}
 use Rattle.saphyr_scalar.specs.declared.scalar.position.Marker.{Marker}
-use Rattle.saphyr_scalar.specs.declared.scalar.style.ScalarStyle.TheVariants.{DoubleQuoted, Plain}
-use Rattle.saphyr_scalar.specs.Steps.Plain.{PlainScalarRead}
-use Rattle.saphyr_scalar.specs.Steps.Quoted.{TextRead}
-use Rattle.saphyr_scalar.specs.Views.Cursor.{Cursor, ◌>>=◌}
+use Rattle.saphyr_scalar.specs.declared.scalar.style.ScalarStyle.{ScalarStyle}
+use Rattle.saphyr_scalar.specs.Steps.Quoted.{double_quoted}
+use Rattle.saphyr_scalar.specs.Views.Cursor.{Cursor, ◌>>=◌, refuse, separation}
 use Rattle.saphyr_scalar.specs.Views.Reader.{Fails}
 use Rattle.saphyr_scanner.specs.declared.queue.place.Place as declared_place
 use Rattle.saphyr_scanner.specs.Grammar.Tokens as tokens
@@ -20,26 +22,34 @@ use Rattle.saphyr_scanner.specs.Views.Tokens.{Piece}
 abbrev pub spanning_piece : Marker → Marker → Kind → Piece
 spanning_piece a b kind = record { span = record { start = a; end = b }; kind = kind }
 
--- the token of a plain scalar that began at a place
-abbrev pub plain_piece : Marker → List ℕ × Marker × Option Marker × Cursor → Piece
-plain_piece start x = spanning_piece start x.1 (tokens.Scalar Plain x.0)
+-- what a call reads of a scalar: its text, its end, what else it tells, and the cursor
+abbrev pub ScalarRead : Type 0 → Type 0
+ScalarRead X = Result (List ℕ × Marker × X × Cursor) Refusal
 
--- The place that a call made is that of the scalar that the function gives, as are the comment and the reader, unless
--- memory ran out.
-abbrev pub PlacesPlain
-    : Marker → Asides → Asides → Cursor → Result (declared_place.Place × Option Marker) Stop → PlainScalarRead → Type 0
-PlacesPlain start old new s (Ok made) (Ok x) =
-    (made.1 ≡ x.2) × (s ≡ x.3) × AddsBehind (plain_piece start x) made.0 old new
-PlacesPlain start old new s (Ok made) (Err e) = ⊥
-PlacesPlain start old new s (Err stop) f = Fails stop f
+-- the token of a scalar that began at a place
+abbrev pub scalar_piece : {X : Type 0} → ScalarStyle → Marker → List ℕ × Marker × X × Cursor → Piece
+scalar_piece style start x = spanning_piece start x.1 (tokens.Scalar style x.0)
 
--- the places with that of a plain scalar behind them, the comment and the cursor
-abbrev pub with_plain : List Place → Marker → PlainScalarRead → Result (List Place × Option Marker × Cursor) Refusal
-with_plain ps start read = read >>= λ x. Ok (ps ++ bare_place (plain_piece start x) ∷ [], x.2, x.3)
+-- The place that a call made is that of the scalar that the function gives, as are what else is told and the reader,
+-- unless memory ran out.
+abbrev pub PlacesScalar
+    : {X : Type 0}
+    → ScalarStyle → Marker → Asides → Asides → Cursor → Result (declared_place.Place × X) Stop → ScalarRead X → Type 0
+PlacesScalar style start old new s (Ok made) (Ok x) =
+    (made.1 ≡ x.2) × (s ≡ x.3) × AddsBehind (scalar_piece style start x) made.0 old new
+PlacesScalar style start old new s (Ok made) (Err e) = ⊥
+PlacesScalar style start old new s (Err stop) f = Fails stop f
+
+-- the places with that of a scalar behind them, what else is told, and the cursor
+abbrev pub with_scalar
+    : {X : Type 0} → ScalarStyle → List Place → Marker → ScalarRead X → Result (List Place × X × Cursor) Refusal
+with_scalar style ps start read =
+    read >>= λ x. Ok (ps ++ bare_place (scalar_piece style start x) ∷ [], x.2, x.3)
 
 -- the same of a queue
-abbrev pub queue_with_plain : Queue → Marker → PlainScalarRead → Result (Queue × Option Marker × Cursor) Refusal
-queue_with_plain q start read = read >>= λ x. Ok (with_piece (plain_piece start x) q, x.2, x.3)
+abbrev pub queue_with_scalar
+    : {X : Type 0} → ScalarStyle → Queue → Marker → ScalarRead X → Result (Queue × X × Cursor) Refusal
+queue_with_scalar style q start read = read >>= λ x. Ok (with_piece (scalar_piece style start x) q, x.2, x.3)
 
 -- ## Quoted scalars
 
@@ -47,26 +57,16 @@ queue_with_plain q start read = read >>= λ x. Ok (with_piece (plain_piece start
 abbrev pub is_entry_end : ℕ → Bool
 is_entry_end x = (x == colon) || (x == comma) || (x == right_bracket) || (x == right_brace)
 
--- the token of a double quoted scalar that began at a place, and ended right here
-abbrev pub quoted_piece : Marker → List ℕ × Cursor → Piece
-quoted_piece start x = spanning_piece start x.1.mark (tokens.Scalar DoubleQuoted x.0)
+-- What separates a quoted scalar inside flow from what comes after it is passed. That is such an indicator, or the
+-- line's end. It is told whether it is an indicator.
+unfoldable pub behind_flow_quotes : Cursor → Result (Bool × Cursor) Refusal
+behind_flow_quotes s =
+    separation tabs.Yes s >>= λ x.
+    (let y = slice_index x.1.rest 0 in
+    if is_entry_end y then Ok (true, x.1)
+    else if is_breakz y then Ok (false, x.1) else refuse fault.ContentAfterQuotes x.1.mark)
 
--- A call read what the function gives, unless memory ran out. Where such an indicator is right behind the scalar, the
--- call may have made the place of its token. Otherwise it returned the text, and added nothing.
-abbrev pub PlacesQuoted
-    : {Z : Type 0} → Marker → Asides → Asides → Cursor → Result (Result declared_place.Place (String Z)) Stop → TextRead
-    → Type 0
-PlacesQuoted start old new s (Ok (Ok p)) (Ok x) =
-    (s ≡ x.1) × (is_entry_end (slice_index s.rest 0) ≡ true) × AddsBehind (quoted_piece start x) p old new
-PlacesQuoted start old new s (Ok (Err text)) (Ok x) = (s ≡ x.1) × (string_bytes text ≡ x.0) × (new ≡ old)
-PlacesQuoted start old new s (Ok made) (Err e) = ⊥
-PlacesQuoted start old new s (Err stop) f = Fails stop f
-
--- the same of places, where the token was put behind them
-abbrev pub PutsQuoted
-    : {Z : Type 0} → Marker → List Place → List Place → Cursor → Result (Option (String Z)) Stop → TextRead → Type 0
-PutsQuoted start old new s (Ok None) (Ok x) =
-    (s ≡ x.1) × (is_entry_end (slice_index s.rest 0) ≡ true) × (new ≡ old ++ bare_place (quoted_piece start x) ∷ [])
-PutsQuoted start old new s (Ok (Some text)) (Ok x) = (s ≡ x.1) × (string_bytes text ≡ x.0) × (new ≡ old)
-PutsQuoted start old new s (Ok made) (Err e) = ⊥
-PutsQuoted start old new s (Err stop) f = Fails stop f
+-- A double quoted scalar inside flow is read, with what separates it from what comes after it, where its token ends.
+unfoldable pub flow_double_quoted : ℕ → Cursor → ScalarRead Bool
+flow_double_quoted indent s =
+    double_quoted indent s >>= λ x. (behind_flow_quotes x.1 >>= λ d. Ok (x.0, d.1.mark, d.0, d.1))

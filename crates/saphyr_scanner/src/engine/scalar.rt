@@ -1,17 +1,11 @@
 //! Scalars of all styles, and what may follow a quoted one (YAML 1.2.2, 7.3 and 8.1).
 
-ghost use Rattle.std.specs.Prelude.{◌≡◌, ℕ, Ok, ◌<◌, ◌==◌, ◌||◌, IsTrue, true, false, length, slice_index, string_bytes};
-ghost use Rattle.saphyr_input.specs.Indicators.{
-  apostrophe,
-  colon,
-  comma,
-  quotation_mark,
-  right_brace,
-  right_bracket,
-};
+ghost use Rattle.std.specs.Prelude.{◌≡◌, ℕ, ◌<◌, IsTrue, true, false, length, slice_index, string_bytes};
+ghost use Rattle.saphyr_input.specs.Indicators.{apostrophe, quotation_mark};
 ghost use Rattle.saphyr_scanner.specs.Steps.Core as spec;
 ghost use Rattle.saphyr_scanner.specs.Steps.Passing as passing;
 ghost use Rattle.saphyr_scanner.specs.Steps.Scalar as scalar;
+ghost use Rattle.saphyr_scanner.specs.Views.Reads.{is_entry_end};
 
 use crate::engine::Engine;
 use crate::token::TokenType;
@@ -44,7 +38,7 @@ impl<T: Input> Engine<T> {
     fn ends_at_indicator(&mut self) -> bool
         ensures flow { IsTrue result → spec.in_block (state self.old).core ≡ false }
         ensures sign { (c : ℕ) → c ≡ slice_index (state self.old).core.cursor.rest 0 → IsTrue result
-            → ((c == colon) || (c == comma) || (c == right_bracket) || (c == right_brace)) ≡ true }
+            → is_entry_end c ≡ true }
         ensures same { state self.new ≡ state self.old }
     {
         let c = self.reader.look();
@@ -58,6 +52,22 @@ impl<T: Input> Engine<T> {
     {
         let ended = self.pass_gap();
         self.keep(ended)
+    }
+
+    // Passes what is between a quoted scalar inside flow and the next token. Often that is an indicator right here.
+    #[inline(always)]
+    fn pass_gap_to(&mut self, is_at_indicator: bool) -> Result<(), Stop>
+        requires { IsTrue is_at_indicator
+            → is_entry_end (slice_index (state self.old).core.cursor.rest 0) ≡ true }
+        ensures { CarriesBy passing.pass_gap self.old result self.new }
+    {
+        if is_at_indicator {
+            return self.check_comment();
+        }
+        if !self.passes_gap() {
+            return Err(self.stop);
+        }
+        Ok(())
     }
 
     // What follows a quoted scalar.
@@ -111,11 +121,8 @@ impl<T: Input> Engine<T> {
             return Ok(());
         }
         let reader = &mut self.reader;
-        if let Some(text) = self.queue.read_double_quoted(self.alloc, reader, least)? {
-            self.fetch_behind_quotes(start, ScalarStyle::DoubleQuoted, text)?;
-            return Ok(());
-        }
-        self.check_comment()?;
+        let is_at_indicator = self.queue.read_double_quoted(self.alloc, reader, least)?;
+        self.pass_gap_to(is_at_indicator)?;
         self.adjacent = self.reader.mark().index;
         Ok(())
     }

@@ -5,10 +5,10 @@ ghost use Rattle.saphyr_scanner.specs.Grammar.Tokens as tokens;
 ghost use Rattle.saphyr_scanner.specs.Steps.Queue as spec;
 ghost use Rattle.saphyr_input.specs.Indicators.{quotation_mark};
 ghost use Rattle.saphyr_scalar.specs.Steps.Plain.{plain};
-ghost use Rattle.saphyr_scalar.specs.Steps.Quoted.{double_quoted};
+ghost use Rattle.saphyr_scalar.specs.declared.scalar.style.ScalarStyle.TheVariants.{DoubleQuoted, Plain};
 ghost use Rattle.saphyr_scalar.specs.Views.Reader.{Moves, cursor_of};
 ghost use Rattle.saphyr_scanner.specs.Views.Places.{Fit, Fit-prop, indicator_kind, near_span};
-ghost use Rattle.saphyr_scanner.specs.Views.Reads.{PutsQuoted, with_plain};
+ghost use Rattle.saphyr_scanner.specs.Views.Reads.{flow_double_quoted, with_scalar};
 
 use crate::queue::Opening;
 use crate::queue::aside::Aside;
@@ -184,7 +184,7 @@ impl Held {
         indent: usize,
     ) -> Result<Option<Marker>, Stop>
         ensures { Moves (λ comment. (held_places self.new, comment, cursor_of reader.new)) result
-            (with_plain (held_places self.old) (cursor_of reader.old).mark
+            (with_scalar Plain (held_places self.old) (cursor_of reader.old).mark
             (plain in_flow indent (cursor_of reader.old))) }
     {
         self.make_room()?;
@@ -202,27 +202,26 @@ impl Held {
         }
     }
 
-    /// Reads a double quoted scalar inside flow in the same way, and puts its token at the end if an indicator comes
-    /// right behind it. Otherwise it returns the text, and no token is put here.
+    /// Reads a double quoted scalar inside flow in the same way, passes what separates it from what comes after it, and
+    /// puts its token at the end. Returns whether an indicator is there.
     #[inline(always)]
     pub(super) fn read_double_quoted<T: Input>(
         &mut self,
         alloc: Global,
         reader: &mut Reader<T>,
         indent: usize,
-    ) -> Result<Option<String>, Stop>
+    ) -> Result<bool, Stop>
         requires { slice_index (cursor_of reader.old).rest 0 ≡ quotation_mark }
-        ensures { PutsQuoted (cursor_of reader.old).mark (held_places self.old)
-            (held_places self.new) (cursor_of reader.new) result
-            (double_quoted indent (cursor_of reader.old)) }
+        ensures { Moves (λ told. (held_places self.new, told, cursor_of reader.new)) result
+            (with_scalar DoubleQuoted (held_places self.old) (cursor_of reader.old).mark
+            (flow_double_quoted indent (cursor_of reader.old))) }
     {
         self.make_room()?;
         match Place::read_double_quoted(alloc, reader, indent, &mut self.aside) {
-            Ok(Ok(place)) => {
+            Ok((place, is_at_indicator)) => {
                 self.places.push_reserved(place);
-                Ok(None)
+                Ok(is_at_indicator)
             }
-            Ok(Err(text)) => Ok(Some(text)),
             Err(stop) => {
                 self.places.clear();
                 self.spent = 0;

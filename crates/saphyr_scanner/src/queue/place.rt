@@ -3,8 +3,8 @@
 ghost use Rattle.std.specs.Prelude.{◌≡◌, List, ℕ, IfOk, OnErr, OnOk, slice_index};
 ghost use Rattle.saphyr_input.specs.Indicators.{quotation_mark};
 ghost use Rattle.saphyr_scalar.specs.Steps.Plain.{plain};
-ghost use Rattle.saphyr_scalar.specs.Steps.Quoted.{double_quoted};
-ghost use Rattle.saphyr_scalar.specs.Views.Reader.{cursor_of};
+ghost use Rattle.saphyr_scalar.specs.declared.scalar.style.ScalarStyle.TheVariants.{DoubleQuoted, Plain};
+ghost use Rattle.saphyr_scalar.specs.Views.Reader.{GivesBy, cursor_of};
 ghost use Rattle.saphyr_scanner.specs.Views.Asides.{EndsWithText, IsTextOf, with_text_aside, with_token};
 ghost use Rattle.saphyr_scanner.specs.Views.Places.{
   AddsBehind,
@@ -15,7 +15,8 @@ ghost use Rattle.saphyr_scanner.specs.Views.Places.{
   HasBeside,
   text_kind,
 };
-ghost use Rattle.saphyr_scanner.specs.Views.Reads.{PlacesPlain, PlacesQuoted};
+ghost use Rattle.saphyr_scanner.specs.Views.Reads as spec;
+ghost use Rattle.saphyr_scanner.specs.Views.Reads.{PlacesScalar, flow_double_quoted};
 ghost use Rattle.saphyr_scanner.specs.Views.Tokens.{Piece, kind_of, piece};
 
 use crate::queue::Opening;
@@ -23,8 +24,9 @@ use crate::queue::aside::Aside;
 use crate::queue::content::{Content, Indicator, Packed, TextKind};
 use crate::queue::near::{NearMarker, near};
 use crate::token::{Token, TokenType};
-use saphyr_input::input::Input;
-use saphyr_scalar::{Marker, Reader, ScalarStyle, Span, Spare, Stop};
+use saphyr_input::char_traits::is_breakz;
+use saphyr_input::input::{Input, SkipTabs};
+use saphyr_scalar::{FaultText, Marker, Reader, Refusal, ScalarStyle, Span, Spare, Stop};
 use std::alloc::{AllocError, Global};
 
 /// A token, and what is handed out before it.
@@ -39,6 +41,38 @@ pub(super) struct Place {
     length: u8,
     count: u8,
     start: NearMarker,
+}
+
+// Whether a character is an indicator that may come after a quoted scalar inside flow.
+#[inline(always)]
+fn is_entry_end(c: char) -> bool
+    ensures { result ≡ spec.is_entry_end c }
+{
+    matches!(c, ':' | ',' | ']' | '}')
+}
+
+// Passes what separates a quoted scalar inside flow from what comes after it. Returns whether that is an indicator.
+#[inline(always)]
+#[tactic(auto, unfolding(crate::specs::Views::Reads::behind_flow_quotes))]
+fn pass_behind_quotes<T: Input>(reader: &mut Reader<T>) -> Result<bool, Refusal>
+    ensures { GivesBy spec.behind_flow_quotes reader.old result reader.new }
+{
+    // For speed: mostly one look shows that nothing does.
+    if is_entry_end(reader.look()) {
+        return Ok(true);
+    }
+    reader.skip_ws_to_eol(SkipTabs::Yes)?;
+    let c = reader.look();
+    if is_entry_end(c) {
+        return Ok(true);
+    }
+    if is_breakz(c) {
+        return Ok(false);
+    }
+    Err(Refusal {
+        text: FaultText::ContentAfterQuotes,
+        mark: reader.mark(),
+    })
 }
 
 impl Place {
@@ -107,7 +141,7 @@ impl Place {
         indent: usize,
         aside: &mut Aside,
     ) -> Result<(Place, Option<Marker>), Stop>
-        ensures { PlacesPlain (cursor_of reader.old).mark aside.old aside.new
+        ensures { PlacesScalar Plain (cursor_of reader.old).mark aside.old aside.new
             (cursor_of reader.new) result (plain in_flow indent (cursor_of reader.old)) }
     {
         let start = reader.mark();
@@ -117,27 +151,26 @@ impl Place {
         Ok((place, scalar.comment))
     }
 
-    /// Reads a double quoted scalar inside flow in the same way. Mostly an indicator comes right behind it: then this
-    /// returns the place of its token. Otherwise it returns the text, and nothing is put aside.
+    /// Reads a double quoted scalar inside flow in the same way, and passes what separates it from what comes after it.
+    /// Returns whether that is an indicator.
     #[inline(always)]
+    #[tactic(auto, unfolding(crate::specs::Views::Reads::flow_double_quoted))]
     pub(super) fn read_double_quoted<T: Input>(
         alloc: Global,
         reader: &mut Reader<T>,
         indent: usize,
         aside: &mut Aside,
-    ) -> Result<Result<Place, String>, Stop>
+    ) -> Result<(Place, bool), Stop>
         requires { slice_index (cursor_of reader.old).rest 0 ≡ quotation_mark }
-        ensures { PlacesQuoted (cursor_of reader.old).mark aside.old aside.new
-            (cursor_of reader.new) result (double_quoted indent (cursor_of reader.old)) }
+        ensures { PlacesScalar DoubleQuoted (cursor_of reader.old).mark aside.old aside.new
+            (cursor_of reader.new) result (flow_double_quoted indent (cursor_of reader.old)) }
     {
         let start = reader.mark();
         let count = aside.read_double_quoted(alloc, reader, indent)?;
-        if !matches!(reader.look(), ':' | ',' | ']' | '}') {
-            return Ok(Err(aside.take_last_text(count)?));
-        }
+        let is_at_indicator = pass_behind_quotes(reader)?;
         let span = Span::new(start, reader.mark());
         let place = Place::of_last_text(&span, TextKind::DoubleQuoted, count, aside)?;
-        Ok(Ok(place))
+        Ok((place, is_at_indicator))
     }
 
     // The same for a token that is aside.

@@ -1,13 +1,14 @@
 -- A double quoted scalar is put behind the tokens of the queue.
-use Rattle.saphyr_scalar.specs.Steps.Quoted.{double_quoted}
+use Rattle.saphyr_scalar.specs.declared.scalar.style.ScalarStyle.TheVariants.{DoubleQuoted}
 use Rattle.saphyr_scalar.specs.Views.Reader.{cursor_of}
 use Rattle.saphyr_scanner.specs.Views.Queue.{held_places}
-use Rattle.saphyr_scanner.proofs.HeldReads.{quoted_queued}
+use Rattle.saphyr_scanner.specs.Views.Reads.{flow_double_quoted}
+use Rattle.saphyr_scanner.proofs.HeldReads.{scalar_queued}
 use Rattle.saphyr_scanner.proofs.queue.Queue.read_double_quoted.Goals as goal
 
-pub returns-clause-places : goal.returns-clause-places
-returns-clause-places g c =
+pub returns : goal.returns
+returns g c =
     let old = c.args.self.now in
-    quoted_queued old.first old.second (held_places old.held) (held_places c.read_double_quoted.new.self)
-    c.args.reader.now.mark (double_quoted c.args.indent (cursor_of c.args.reader.now)) c.read_double_quoted.result
-    (cursor_of c.read_double_quoted.new.reader) c.read_double_quoted.ensures
+    scalar_queued old.first old.second (held_places old.held) (held_places c.read_double_quoted.new.self) old.handed
+    DoubleQuoted c.args.reader.now.mark (flow_double_quoted c.args.indent (cursor_of c.args.reader.now))
+    c.read_double_quoted.result (cursor_of c.read_double_quoted.new.reader) c.read_double_quoted.ensures

@@ -1,11 +1,12 @@
 -- A plain scalar is put behind the tokens that are held.
 use Rattle.std.proofs.Common.{ap, arith, length, sym, ◌∙◌, ◌∷◌, []}
 use Rattle.std.proofs.lemmas.List.{length-append}
+use Rattle.saphyr_scalar.specs.declared.scalar.style.ScalarStyle.TheVariants.{Plain}
 use Rattle.saphyr_scalar.specs.Steps.Plain.{plain}
 use Rattle.saphyr_scalar.specs.Views.Reader.{cursor_of}
 use Rattle.saphyr_scanner.specs.Views.Queue.{held_places}
-use Rattle.saphyr_scanner.specs.Views.Reads.{with_plain}
-use Rattle.saphyr_scanner.proofs.HeldReads.{plain_put}
+use Rattle.saphyr_scanner.specs.Views.Reads.{with_scalar}
+use Rattle.saphyr_scanner.proofs.HeldReads.{scalar_put}
 use Rattle.saphyr_scanner.proofs.queue.held.Held.read_plain.Goals as goal
 
 pub invariant_of-self : goal.invariant_of-self
@@ -15,7 +16,7 @@ invariant_of-self g c =
     let count = length-append old.places.items (c.in-Ok.place ∷ []) in
     let within = old.within in record {
       within = omega (arith, longer, count, within);
-      fit = (plain_put old.spent old.places.items c.push_reserved.new.self.items c.in-Ok.place c.args.reader.now.mark
+      fit = (scalar_put old.spent old.places.items c.push_reserved.new.self.items c.in-Ok.place Plain c.args.reader.now.mark
           old.aside c.read_plain.new.aside (cursor_of c.read_plain.new.reader) c.in-Ok.comment
           (plain c.args.in_flow c.args.indent (cursor_of c.args.reader.now)) old.within
           c.push_reserved.ensures.items old.fit
@@ -28,7 +29,7 @@ returns-in-Ok g c =
     let old = c.make_room.new.self in
     let start = c.args.reader.now.mark in
     let read = plain c.args.in_flow c.args.indent (cursor_of c.args.reader.now) in
-    ap (λ ps. with_plain ps start read) (sym c.make_room.ensures.same)
-    ∙ (plain_put old.spent old.places.items c.push_reserved.new.self.items c.in-Ok.place start
+    ap (λ ps. with_scalar Plain ps start read) (sym c.make_room.ensures.same)
+    ∙ (scalar_put old.spent old.places.items c.push_reserved.new.self.items c.in-Ok.place Plain start
     old.aside c.read_plain.new.aside (cursor_of c.read_plain.new.reader) c.in-Ok.comment
     read old.within c.push_reserved.ensures.items old.fit c.in-Ok.ensures).1
