@@ -27,6 +27,7 @@ pub mod LessIndented
 pub mod PlainBehind
 pub mod QuotedEnds
 pub mod RightHere
+pub mod Dashes
 pub mod GapPlaces
 pub mod Told
 pub mod Steps

@@ -1,6 +1,7 @@
 -- What contracts see of the way to the next token.
 use Rattle.std.specs.Prelude.{ℕ, ◌≡◌, ◌<◌, ◌==◌, ◌&&◌, ◌||◌, Bool, true, false, nat_lt, length, slice_index, Result, Ok, Err}
 use Rattle.saphyr_input.specs.declared.input.Input.{Ghosts}
+use Rattle.saphyr_input.specs.Classes.{is_from}
 use Rattle.saphyr_input.specs.Indicators.{full_stop, hyphen, number_sign, percent_sign, quotation_mark}
 use Rattle.saphyr_scalar.specs.declared.scalar.fault.Refusal.{Refusal}
 use Rattle.saphyr_scalar.specs.declared.scalar.fault.Stop.{Stop}
@@ -41,3 +42,8 @@ may_begin c = (c == quotation_mark) || nat_lt number_sign c
 abbrev pub may_begin_mark : ℕ → ℕ → Bool
 may_begin_mark first second =
     (first == percent_sign) || (first == full_stop) || ((first == hyphen) && (second == hyphen))
+
+-- a character that most entries begin with, and no blank, break, `#`, flow indicator or byte order mark: `"`, and
+-- others from `$` to `z`
+abbrev pub may_begin_entry : ℕ → Bool
+may_begin_entry c = (c == quotation_mark) || is_from 36 43 c || is_from 45 90 c || is_from 94 122 c

@@ -4,6 +4,7 @@
 ghost use Rattle.std.specs.Prelude.{◌≡◌, Ok, ◌<◌, length};
 ghost use Rattle.saphyr_scanner.specs.Steps.Block as block;
 ghost use Rattle.saphyr_scanner.specs.Steps.State as spec_state;
+ghost use Rattle.saphyr_scanner.specs.Views.Ahead.{may_begin_entry};
 
 use crate::engine::Engine;
 use crate::gap::skip_spaces;
@@ -11,6 +12,15 @@ use crate::queue::Indicator;
 use saphyr_input::char_traits::{is_blank_or_breakz, is_break, is_flow};
 use saphyr_input::input::{Input, SkipTabs};
 use saphyr_scalar::{FaultText, Stop};
+
+// Whether the character is one that most entries begin with, and no blank, break, `#`, flow indicator or byte order
+// mark.
+#[inline(always)]
+fn may_begin_entry(c: char) -> bool
+    ensures { result ≡ may_begin_entry c }
+{
+    matches!(c, '"' | '$'..='+' | '-'..='Z' | '^'..='z')
+}
 
 impl<T: Input> Engine<T> {
     ghost use Rattle.saphyr_scanner.specs.Views.Engine.{state, ActsBy, CarriesBy};
@@ -39,12 +49,30 @@ impl<T: Input> Engine<T> {
     // Passes what follows `-` on its line.
     #[inline(always)]
     #[tactic(auto, unfolding(crate::specs::Steps::Block::pass_dash))]
-    fn pass_dash(&mut self) -> Result<(), Stop>
+    fn pass_separation(&mut self) -> Result<(), Stop>
         ensures { CarriesBy block.pass_dash self.old result self.new }
     {
         let found = self.separate()?;
         self.refuse_tab(found)?;
         Ok(())
+    }
+
+    // The same. For speed it looks first for what mostly is there: a line feed, or a space and then content.
+    #[inline(always)]
+    fn pass_dash(&mut self) -> Result<(), Stop>
+        ensures { CarriesBy block.pass_dash self.old result self.new }
+    {
+        self.reader.load(2);
+        let c = self.reader.input().peek();
+        if c == '\n' {
+            self.go_deeper();
+            return Ok(());
+        }
+        if c == ' ' && may_begin_entry(self.reader.input().peek_nth(1)) {
+            self.reader.skip_blank();
+            return Ok(());
+        }
+        self.pass_separation()
     }
 
     // Content on a later line, and flow collections, must be right of the `-`.

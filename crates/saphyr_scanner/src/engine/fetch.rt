@@ -227,7 +227,11 @@ impl<T: Input> Engine<T> {
                 }
             }
             '"' => self.fetch_double_quoted()?,
-            '?' | '\'' | '*' | '&' | '!' | '|' | '>' | '%' | '@' | '`' => self.fetch_rare(c, next)?,
+            '?' | '\'' | '*' | '&' | '!' | '|' | '>' | '%' | '@' | '`' => {
+                if !self.fetches_rare(c, next) {
+                    return Err(self.stop);
+                }
+            }
             _ => {
                 if !self.fetches_plain() {
                     return Err(self.stop);
@@ -237,9 +241,8 @@ impl<T: Input> Engine<T> {
         Ok(())
     }
 
-    // The same for characters with which few tokens begin. It is separate for speed: the places for the results of its
-    // calls are cleared here, and not for each token.
-    #[inline(never)]
+    // The same for characters with which few tokens begin.
+    #[inline(always)]
     #[tactic(auto, unfolding(crate::specs::Steps::Fetch::state_behind_content, crate::specs::Steps::Fetch::step))]
     fn fetch_rare(&mut self, c: char, next: char) -> Result<(), Stop>
         requires some { 0 < length (state self.old).core.cursor.rest }
@@ -267,6 +270,24 @@ impl<T: Input> Engine<T> {
             }
         }
         Ok(())
+    }
+
+    // The same with the stop kept, as `reads_on` does. It is separate for speed: the places for the results of its calls
+    // are cleared here, and not for each token.
+    #[inline(never)]
+    fn fetches_rare(&mut self, c: char, next: char) -> bool
+        requires some { 0 < length (state self.old).core.cursor.rest }
+        requires first { c ≡ slice_index (state self.old).core.cursor.rest 0 }
+        requires second { next ≡ slice_index (state self.old).core.cursor.rest 1 }
+        requires outside_brackets { ((c == left_bracket) ≡ false) × ((c == left_brace) ≡ false)
+            × ((c == right_bracket) ≡ false) × ((c == right_brace) ≡ false) }
+        requires rare { ((c == comma) ≡ false) × ((c == hyphen) ≡ false) × ((c == colon) ≡ false)
+            × ((c == quotation_mark) ≡ false) }
+        ensures { MovesBy (fetch.state_behind_content c next) self.old
+            (answer_of result self.new.stop) self.new }
+    {
+        let ended = self.fetch_rare(c, next);
+        self.keep(ended)
     }
 
     // Whether a colon inside flow, with no blank after it, is between a key and its value.
