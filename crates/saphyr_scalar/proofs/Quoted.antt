@@ -15,3 +15,4 @@ pub mod SpelledWords
 pub mod Spellings
 pub mod Clean
 pub mod Words
+pub mod BlankWords

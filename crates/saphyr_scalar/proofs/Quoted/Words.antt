@@ -20,7 +20,7 @@ pub both_true : (a b : Bool) → (a && b) ≡ true → (a ≡ true) × (b ≡ tr
 both_true a b h = grind arith
 
 -- a character is passed
-abbrev PassesQuotedCharacter : Quote → ℕ → Marker → Marker → ℕ → List ℕ → Type 0
+abbrev pub PassesQuotedCharacter : Quote → ℕ → Marker → Marker → ℕ → List ℕ → Type 0
 PassesQuotedCharacter q indent start m c cs = inner_text q indent start no_gap 0 m (c ∷ cs)
     ≡ with_front (encode_utf8 c) (inner_text q indent start no_gap 0 (along m 1) cs)
 
@@ -39,7 +39,7 @@ word_passed q indent start m c cs h =
     let space : c ≡ 32 = grind (arith, nat_tests) in
     rw space (space_passed q indent start m cs (both_true (c == 32) (is_content (slice_index cs 0)) is).1))
 
-piece_on : (q : Quote) (indent : ℕ) (start m : Marker) (c : ℕ) (cs : List ℕ) (n : ℕ)
+pub piece_on : (q : Quote) (indent : ℕ) (start m : Marker) (c : ℕ) (cs : List ℕ) (n : ℕ)
     → PassesQuotedCharacter q indent start m c cs
     → WordPiece q indent start (along m 1) cs n → WordPiece q indent start m (c ∷ cs) (suc n)
 piece_on q indent start m c cs n h r =

@@ -189,9 +189,10 @@ impl<T: Input> Reader<T> {
         self.read_quoted_lines(true, indent, start, text)
     }
 
-    // The same of what begins with neither a break nor a backslash.
+    // The same of blanks before a break or the end, and of a NUL. Other blanks are here where the input takes no blanks
+    // together with words.
     #[inline(always)]
-    fn read_blank_gap(
+    fn read_blanks_alone(
         &mut self,
         quote: Quote,
         indent: usize,
@@ -222,6 +223,34 @@ impl<T: Input> Reader<T> {
             }));
         }
         text.push_str(blanks.as_str())?;
+        Ok(())
+    }
+
+    // The same of what begins with neither a break nor a backslash. Mostly these are blanks before a word: then the
+    // words behind them are taken off as well.
+    #[inline(always)]
+    fn read_blank_gap(
+        &mut self,
+        quote: Quote,
+        indent: usize,
+        start: Marker,
+        blanks: &mut String,
+        text: &mut String,
+    ) -> Result<(), Stop>
+        requires ended { IsTrue (spec.ends_word quote (cursor_of self.old).rest) }
+        requires open { (slice_index (cursor_of self.old).rest 0 == flow.mark quote) ≡ false }
+        requires plain { (slice_index (cursor_of self.old).rest 0 == backslash) ≡ false }
+        ensures same { ReadsOn result (spec.with_front (string_bytes text.old)
+            (spec.inner_text_at quote indent start spec.no_gap (cursor_of self.old)))
+            (spec.with_front (string_bytes text.new)
+            (spec.inner_text_at quote indent start spec.no_gap (cursor_of self.new))) }
+        ensures shorter { OnOk result (IsShorter self.old self.new) }
+    {
+        let count = self.fetch_literal_blank_words(quote, text)?;
+        if count == 0 {
+            return self.read_blanks_alone(quote, indent, start, blanks, text);
+        }
+        self.mark = self.mark.along(count);
         Ok(())
     }
 
