@@ -4,6 +4,7 @@ pub mod Gaps
 pub mod Lines
 pub mod Runs
 pub mod Pieces
+pub mod Colons
 pub mod SingleSpaces
 pub mod BlankRuns
 pub mod Words

@@ -1,6 +1,6 @@
 -- Words of a plain scalar, and runs of blanks between them, taken off in one piece.
 use Rattle.std.proofs.Common.{◌≡◌, ℕ, zero, suc, ◌+◌, ◌^◌, ◌<◌, ◌≤◌, Bool, true, false, List, [], ◌∷◌, ◌++◌, length, length-drop, take, drop, slice_index, Result, Ok, Err, refl, sym, ap, ◌∙◌, arith, encode_utf8_all, append-nil}
-use Rattle.std.specs.Prelude.{◌&&◌, ◌||◌, not, encode_utf8, IfOk, OnOk, OnErr}
+use Rattle.std.specs.Prelude.{◌&&◌, ◌||◌, not, encode_utf8, IfOk, OnErr}
 use Rattle.std.specs.List.{prefix_len}
 use Rattle.std.proofs.lemmas.List.Sums.{prefix_len_passes}
 use Rattle.saphyr_input.specs.Classes.{is_blank, is_break, is_z}
@@ -140,18 +140,17 @@ blank_words_moved f start text grown more s t v w n m x place z =
       within = omega (arith, z.within, less, m.within);
     }
 
--- the same, where memory may run out in the words at v, whose place is told alone
-pub blank_words_moved_ok : {E : Type 0} → (f : Bool) (start text grown more : List ℕ) (s t u v w : Cursor) (m : Marker)
-    (n : ℕ) → PlainWordsMoved f start text s t
+-- the same, where the place of v is told alone
+pub blank_words_moved_on : (f : Bool) (start text grown more : List ℕ) (s t u v w : Cursor) (m : Marker) (n : ℕ)
+    → PlainWordsMoved f start text s t
     → TransfersBlankWords (in_plain f) (leads_plain f) n t.rest u.rest text grown → u.mark ≡ t.mark
     → m ≡ along u.mark n → v ≡ record { rest = u.rest; mark = m; blank_so_far = u.blank_so_far }
-    → (r : Result Unit E) → OnOk r (PlainWordsMoved f grown more v w) → OnOk r (PlainWordsMoved f start more s w)
-blank_words_moved_ok f start text grown more s t u v w m n a x place moved is (Ok y) z =
+    → PlainWordsMoved f grown more v w → PlainWordsMoved f start more s w
+blank_words_moved_on f start text grown more s t u v w m n a x place moved is z =
     let left : v.rest ≡ u.rest = ap (λ (x : Cursor). x.rest) is in
     let mark : v.mark ≡ along t.mark n = ap (λ (x : Cursor). x.mark) is ∙ moved ∙ ap (λ (x : Marker). along x n) place
     in
     blank_words_moved f start text grown more s t v w n a (rw left x) mark z
-blank_words_moved_ok f start text grown more s t u v w m n a x place moved is (Err e) z = tt
 
 -- what remains where such words were taken off, or memory ran out before
 pub blank_words_fit : {E : Type 0} → (p q : ℕ → Bool) (xs now text grown : List ℕ) (r : Result ℕ E) (at : ℕ)

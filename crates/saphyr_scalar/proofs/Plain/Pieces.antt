@@ -111,7 +111,7 @@ WordPart f i a m xs n = word f i a m xs ≡ with_text (encode_utf8_all (take n x
 pub no_part : (f : Bool) (i : ℕ) (a m : Marker) (xs : List ℕ) → WordPart f i a m xs 0
 no_part f i a m xs = sym (no_text _) ∙ ap (λ x. with_text [] (word f i a x xs)) (sym (along_none m))
 
-more_part : (f : Bool) (i : ℕ) (a m : Marker) (c : ℕ) (cs : List ℕ) (n : ℕ) → is_in_word f (c ∷ cs) ≡ true
+pub more_part : (f : Bool) (i : ℕ) (a m : Marker) (c : ℕ) (cs : List ℕ) (n : ℕ) → is_in_word f (c ∷ cs) ≡ true
     → WordPart f i a (along m 1) cs n → WordPart f i a m (c ∷ cs) (suc n)
 more_part f i a m c cs n h r = word_on f i a m c cs h ∙ ap (with_text (encode_utf8 c)) r
     ∙ text_twice (encode_utf8 c) (encode_utf8_all (take n cs)) _

@@ -1,5 +1,5 @@
 -- Words of a plain scalar, and single spaces between them, taken off in one piece.
-use Rattle.std.proofs.Common.{◌≡◌, ℕ, zero, suc, ◌+◌, ◌^◌, ◌<◌, ◌≤◌, Bool, true, false, List, [], ◌∷◌, ◌++◌, length, length-drop, take, drop, slice_index, Result, Ok, refl, sym, ap, ◌∙◌, arith, encode_utf8_all, cond}
+use Rattle.std.proofs.Common.{◌≡◌, ◌≢◌, add-zero, ℕ, zero, suc, ◌+◌, ◌^◌, ◌<◌, ◌≤◌, Bool, true, false, List, [], ◌∷◌, ◌++◌, length, length-drop, take, drop, slice_index, Result, Ok, refl, sym, ap, ◌∙◌, arith, encode_utf8_all, cond}
 use Rattle.std.specs.Prelude.{◌&&◌, ◌||◌, ◌==◌, not, encode_utf8}
 use Rattle.std.specs.List.{prefix_len}
 use Rattle.std.proofs.lemmas.Bool.Decides.{nat_tests}
@@ -7,17 +7,17 @@ use Rattle.std.proofs.lemmas.List.{append-nil, drop-drop}
 use Rattle.std.proofs.lemmas.Bool.{not-true}
 use Rattle.saphyr_input.specs.Indicators.{hyphen, number_sign}
 use Rattle.saphyr_input.specs.Classes.{is_blank, is_break, is_bom, is_flow, is_blank_or_breakz}
-use Rattle.saphyr_input.specs.Places.{is_document_indicator, words_len, TransfersWords}
+use Rattle.saphyr_input.specs.Places.{is_document_indicator, words_len, Transfers, TransfersWords}
 use Rattle.saphyr_input.proofs.WordRuns.{words_within}
 use Rattle.saphyr_scalar.specs.declared.scalar.position.Marker.{Marker}
 use Rattle.saphyr_scalar.specs.declared.scalar.fault.Refusal.{Refusal}
 use Rattle.saphyr_scalar.specs.Views.Cursor.{Cursor, along}
-use Rattle.saphyr_scalar.specs.Steps.Plain.{is_in_word, word_starts, next_word_starts, gap_from, gap, PlainGap, with_text, word, PlainWordsMoved, seen_gap}
+use Rattle.saphyr_scalar.specs.Steps.Plain.{is_in_word, word_starts, next_word_starts, gap_from, gap, PlainGap, with_text, word, colons_len, TransfersColons, PlainWordsMoved, seen_gap}
 use Rattle.saphyr_scalar.specs.Steps.Quoted.{mid_line}
 use Rattle.saphyr_scalar.specs.Steps.Sets.{in_plain, leads_plain}
 use Rattle.saphyr_scalar.proofs.Moving.{along_none, along_more}
 use Rattle.saphyr_scalar.proofs.Plain.Pieces.{word_over, word_on, text_twice, WordPart, no_part}
-use Rattle.saphyr_scalar.proofs.Plain.Words.{word_left}
+use Rattle.saphyr_scalar.proofs.Plain.Colons.{colons_within, colons_piece, word_over_set}
 use Rattle.saphyr_scalar.proofs.Quoted.Inside.{Moved, IsQuotedInk, content_of}
 use Rattle.saphyr_scalar.proofs.Quoted.Words.{both_true}
 use Rattle.saphyr_input.proofs.Basics.Booleans.{by_test, either}
@@ -151,83 +151,78 @@ none_ran f text s = record {
   mark = refl;
 }
 
+-- a piece of k characters more
+piece_ran : (f : Bool) (text grown more : List ℕ) (s t u : Cursor) (n k : ℕ) → WordsRan f text grown s t n
+    → k ≤ length t.rest → ((i : ℕ) (a m : Marker) → WordPart f i a m t.rest k)
+    → Transfers k t.rest u.rest grown more → u.mark ≡ t.mark → WordsRan f text more s u (n + k)
+piece_ran f text grown more s t u n k r within part w place =
+    let on = λ (i : ℕ) (a : Marker). sym (ap (with_text grown) (part i a (along s.mark n))
+    ∙ text_twice grown (encode_utf8_all (take k t.rest)) _) in
+    record {
+      same = λ i a. rw (w.appended, w.taken)
+          (ap (λ x. with_text (grown ++ encode_utf8_all (take k t.rest)) (word f i a x (drop k t.rest)))
+          (sym (along_more s.mark n k (n + k) refl)) ∙ on i a ∙ r.same i a);
+      left = w.taken ∙ ap (drop k) r.left ∙ drop-drop k n s.rest;
+      total = rw (w.taken, length-drop) (omega (arith, r.total, within));
+      mark = place ∙ r.mark;
+    }
+
 -- words of k characters more, up to a character that is of the set no longer
 pub words_ran : (f : Bool) (text grown more : List ℕ) (s t u : Cursor) (n k : ℕ) → WordsRan f text grown s t n
     → TransfersWords (in_plain f) (leads_plain f) k t.rest u.rest grown more → u.mark ≡ t.mark
     → WordsRan f text more s u (n + k)
 words_ran f text grown more s t u n k r w place =
     let within : k ≤ length t.rest = omega (arith, w.within, words_within (in_plain f) (leads_plain f) t.rest) in
-    let on = λ (i : ℕ) (a : Marker). sym (ap (with_text grown) (words_piece f i a (along s.mark n) k t.rest w.within)
-    ∙ text_twice grown (encode_utf8_all (take k t.rest)) _) in
-    record {
-      same = λ i a. rw (w.transfers.appended, w.transfers.taken)
-          (ap (λ x. with_text (grown ++ encode_utf8_all (take k t.rest)) (word f i a x (drop k t.rest)))
-          (sym (along_more s.mark n k (n + k) refl)) ∙ on i a ∙ r.same i a);
-      left = w.transfers.taken ∙ ap (drop k) r.left ∙ drop-drop k n s.rest;
-      total = rw (w.transfers.taken, length-drop) (omega (arith, r.total, within));
-      mark = place ∙ r.mark;
-    }
+    piece_ran f text grown more s t u n k r within (λ i a m. words_piece f i a m k t.rest w.within) w.transfers place
 
--- the same, where c comes next, and b is whether the word goes on with it
-pub record WordsTurn (f : Bool) (text grown : List ℕ) (s t : Cursor) (n c : ℕ) (b : Bool) : Type 0 where
-  pub ran : WordsRan f text grown s t n
-  pub read : c ≡ slice_index t.rest 0
-  pub goes : b ≡ is_in_word f t.rest
+-- A turn: words of which m characters are told by then, and j colons behind them, where c comes first. Where there is
+-- no colon, that is all.
+pub record WordsTurn (f : Bool) (text grown : List ℕ) (s t u : Cursor) (m j c : ℕ) : Type 0 where
+  pub ran : WordsRan f text grown s u (m + j)
+  pub done : j ≡ 0 → WordsRan f text grown s u m
+  pub ends : j ≡ 0 → is_in_word f u.rest ≡ false
+  pub read : j ≡ 0 → c ≡ slice_index u.rest 0
+  pub less : j ≢ 0 → length u.rest < length t.rest
 
-pub words_turn : (f : Bool) (text grown more : List ℕ) (s t u v w : Cursor) (n k c : ℕ) (b : Bool)
-    → WordsRan f text grown s t n → TransfersWords (in_plain f) (leads_plain f) k t.rest u.rest grown more
-    → u.mark ≡ t.mark → c ≡ slice_index u.rest 0 → v ≡ u → b ≡ is_in_word f v.rest → w ≡ v
-    → WordsTurn f text more s w (n + k) c b
-words_turn f text grown more s t u v w n k c b r moved place read seen goes same =
-    let still : u ≡ w = sym seen ∙ sym same in
+pub words_turn : (f : Bool) (text grown middle more : List ℕ) (s t u v w : Cursor) (n k j c : ℕ)
+    → WordsRan f text grown s t n → TransfersWords (in_plain f) (leads_plain f) k t.rest u.rest grown middle
+    → u.mark ≡ t.mark → c ≡ slice_index u.rest 0 → v ≡ u → TransfersColons f j v.rest w.rest middle more
+    → w.mark ≡ v.mark → WordsTurn f text more s t w (n + k) j c
+words_turn f text grown middle more s t u v w n k j c r moved place read same colons stays =
+    let words : WordsRan f text middle s v (n + k) = rw same (words_ran f text grown middle s t u n k r moved place) in
+    let within : j ≤ length v.rest = rw colons.count (colons_within f v.rest) in
+    let ran = piece_ran f text middle more s v w (n + k) j words within
+    (λ i a m. colons_piece f i a m j v.rest colons.count) colons.transfers stays in
+    let left : j ≡ 0 → w.rest ≡ u.rest = λ none. colons.transfers.taken ∙ ap (λ i. drop i v.rest) none
+    ∙ ap (λ (x : Cursor). x.rest) same in
+    let over : j ≡ 0 → is_in_word f u.rest ≡ false = λ none. word_over_set f u.rest moved.stops
+    (ap (λ (x : Cursor). colons_len f x.rest) (sym same) ∙ sym colons.count ∙ none) in
     record {
-      ran = rw still at (words_ran f text grown more s t u n k r moved place);
-      read = read ∙ ap (λ (x : Cursor). slice_index x.rest 0) still;
-      goes = goes ∙ ap (λ (x : Cursor). is_in_word f x.rest) (sym same);
+      ran = ran;
+      done = λ none. rw (ap (λ i. n + k + i) none ∙ add-zero (n + k)) at ran;
+      ends = λ none. rw (left none) (over none);
+      read = λ none. rw (left none) read;
+      less = λ some. omega (arith, some, r.total, ran.total);
     }
-
--- a colon with which the word goes on
-pub colon_ran : (f : Bool) (text grown pushed : List ℕ) (s t u : Cursor) (n c : ℕ) (b : Bool)
-    → WordsTurn f text grown s t n c b → b ≡ true → pushed ≡ grown ++ encode_utf8 c → u.rest ≡ drop 1 t.rest
-    → u.mark ≡ t.mark → WordsRan f text pushed s u (n + 1)
-colon_ran f text grown pushed s t u n c b turn is e behind place =
-    let r = turn.ran in
-    let read = turn.read in
-    let goes : is_in_word f t.rest ≡ true = sym turn.goes ∙ is in
-    let on = λ (i : ℕ) (a : Marker). one_on f i a (along s.mark n) t.rest goes in
-    record {
-      same = λ i a. rw (e, behind, read)
-          (ap (λ x. with_text (grown ++ encode_utf8 (slice_index t.rest 0)) (word f i a x (drop 1 t.rest)))
-          (sym (along_more s.mark n 1 (n + 1) refl))
-          ∙ sym (ap (with_text grown) (on i a) ∙ text_twice grown (encode_utf8 (slice_index t.rest 0)) _) ∙ r.same i a);
-      left = behind ∙ ap (drop 1) r.left ∙ drop-drop 1 n s.rest;
-      total = rw (behind, length-drop) (omega (arith, r.total, word_left f t.rest goes));
-      mark = place ∙ r.mark;
-    }
-  where
-    one_on : (f : Bool) (i : ℕ) (a m : Marker) (xs : List ℕ) → is_in_word f xs ≡ true
-        → word f i a m xs ≡ with_text (encode_utf8 (slice_index xs 0)) (word f i a (along m 1) (drop 1 xs))
-    one_on f i a m [] h = absurd (omega (arith, word_left f [] h))
-    one_on f i a m (c ∷ cs) h = word_on f i a m c cs h
 
 -- the words end
-pub words_done : (f : Bool) (text grown : List ℕ) (s t : Cursor) (n c : ℕ) (b : Bool) (m : Marker)
-    → WordsTurn f text grown s t n c b → b ≡ false → m ≡ along t.mark n
-    → PlainWordsMoved f text grown s (mid_line m t.rest)
-words_done f text grown s t n c b m turn is moved =
-    let r = turn.ran in
+pub words_done : (f : Bool) (text grown : List ℕ) (s t u : Cursor) (n j c : ℕ) (m : Marker)
+    → WordsTurn f text grown s t u n j c → j ≡ 0 → m ≡ along u.mark n
+    → PlainWordsMoved f text grown s (mid_line m u.rest)
+words_done f text grown s t u n j c m turn none moved =
+    let r = turn.done none in
     let place : m ≡ along s.mark n = moved ∙ ap (λ (x : Marker). along x n) r.mark in
     record {
-      same = λ i a. ap (λ x. with_text grown (word f i a x t.rest)) place ∙ r.same i a;
+      same = λ i a. ap (λ x. with_text grown (word f i a x u.rest)) place ∙ r.same i a;
       on_line = refl;
-      stops = sym turn.goes ∙ is;
+      stops = turn.ends none;
       shorter = λ goes. some n r.left r.total goes;
       within = omega (arith, r.total);
     }
   where
-    some : (k : ℕ) → t.rest ≡ drop k s.rest → k + length t.rest ≡ length s.rest → is_in_word f s.rest ≡ true
-        → length t.rest < length s.rest
-    some k left total goes = grind arith
+    some : (k : ℕ) → u.rest ≡ drop k s.rest → k + length u.rest ≡ length s.rest → is_in_word f s.rest ≡ true
+        → length u.rest < length s.rest
+    some k left total goes = grind (arith, turn.ends none)
 
 -- how many characters that is, the place after them and what is left
 
@@ -242,14 +237,3 @@ ran_place_fits f text grown s t n r fits = omega (arith, r.total, fits, ap (λ (
 pub ran_left : (f : Bool) (text grown : List ℕ) (s t : Cursor) (n : ℕ) (m : Marker) → WordsRan f text grown s t n
     → s.mark.index + length s.rest < 2 ^ 64 → m ≡ along t.mark n → m.index + length t.rest < 2 ^ 64
 ran_left f text grown s t n m r fits moved = grind arith
-
-pub turn_fits : (f : Bool) (text grown : List ℕ) (s t : Cursor) (n c : ℕ) (b : Bool)
-    → WordsTurn f text grown s t n c b → b ≡ true → s.mark.index + length s.rest < 2 ^ 64 → n + 1 < 2 ^ 64
-turn_fits f text grown s t n c b turn is fits =
-    omega (arith, turn.ran.total, word_left f t.rest (sym turn.goes ∙ is), fits)
-
-pub turn_less : (f : Bool) (text grown more left : List ℕ) (s t u : Cursor) (n k c : ℕ) (b : Bool)
-    → WordsRan f text grown s t n → WordsTurn f text more s u (n + k) c b → b ≡ true → left ≡ drop 1 u.rest
-    → length left < length t.rest
-turn_less f text grown more left s t u n k c b r turn is behind =
-    rw (behind, length-drop) (omega (arith, r.total, turn.ran.total, word_left f u.rest (sym turn.goes ∙ is)))

@@ -194,8 +194,7 @@ impl<T: Input> Reader<T> {
             }));
         }
         let mut text = self.spare.begin(alloc)?;
-        self.read_plain_words(in_flow, &mut text)?;
-        let c = self.look();
+        let c = self.read_plain_words(in_flow, &mut text)?;
         if is_break(c) {
             return self.read_plain_break(alloc, in_flow, indent, start, text);
         }
@@ -230,8 +229,7 @@ impl<T: Input> Reader<T> {
                 mark: start,
             }));
         }
-        self.read_plain_words(in_flow, text)?;
-        let c = self.look();
+        let c = self.read_plain_words(in_flow, text)?;
         // Most end right before a colon, a comma or a bracket.
         if !is_break(c) && !is_blank(c) {
             return Ok(PlainEnd {

@@ -144,10 +144,6 @@ impl<T: Input> Reader<T> {
             (string_bytes text.old) (string_bytes text.new)) }
         ensures mark { (cursor_of self.new).mark ≡ (cursor_of self.old).mark }
     {
-        // For speed: there may be several colons in a row, and an empty run before each costs more than this look.
-        if self.look() == ':' {
-            return Ok(0);
-        }
         if in_flow {
             self.input.fetch_words::<PlainInFlow>(text)
         } else {
@@ -155,30 +151,62 @@ impl<T: Input> Reader<T> {
         }
     }
 
+    // Moves colons to the end of a text, as far as a word goes on with them, and returns how many. The first
+    // character is `c`. The place stays.
+    #[inline(always)]
+    fn fetch_plain_colons(
+        &mut self,
+        mut c: char,
+        in_flow: bool,
+        text: &mut String,
+    ) -> Result<usize, AllocError>
+        requires first { c ≡ slice_index (cursor_of self.old).rest 0 }
+        requires loaded { 1 ≤ loaded self.old }
+        ensures colons { IfOk result (λ n. spec.TransfersColons in_flow n (cursor_of self.old).rest
+            (cursor_of self.new).rest (string_bytes text.old) (string_bytes text.new)) }
+        ensures mark { (cursor_of self.new).mark ≡ (cursor_of self.old).mark }
+        ensures loaded { OnOk result (1 ≤ loaded self.new) }
+    {
+        let mut count = 0;
+        while c == ':' {
+            self.load(2);
+            let next = self.input.peek_nth(1);
+            if !is_colon_in_word(next, in_flow) {
+                return Ok(count);
+            }
+            self.input.skip();
+            text.push(':')?;
+            count += 1;
+            c = next;
+        }
+        Ok(count)
+    }
+
     // Moves the rest of a word to the end of a text, and the words after it, each with a single space
-    // before it.
+    // before it. Returns the character at which they end.
     pub(super) fn read_plain_words(
         &mut self,
         in_flow: bool,
         text: &mut String,
-    ) -> Result<(), AllocError>
-        ensures { OnOk result (spec.PlainWordsMoved in_flow (string_bytes text.old)
+    ) -> Result<char, AllocError>
+        ensures words { OnOk result (spec.PlainWordsMoved in_flow (string_bytes text.old)
             (string_bytes text.new) (cursor_of self.old) (cursor_of self.new)) }
+        ensures end { IfOk result (λ c. c ≡ slice_index (cursor_of self.new).rest 0) }
+        ensures loaded { OnOk result (1 ≤ loaded self.new) }
     {
         let mut count = 0;
-        loop {
+        let end = loop {
             count += self.fetch_plain_words(in_flow, text)?;
             let c = self.look();
-            if !self.is_in_plain_word(c, in_flow) {
-                break;
+            let colons = self.fetch_plain_colons(c, in_flow, text)?;
+            if colons == 0 {
+                break c;
             }
-            text.push(c)?;
-            self.input.skip();
-            count += 1;
-        }
+            count += colons;
+        };
         self.mark = self.mark.along(count);
         self.blank_so_far = false;
-        Ok(())
+        Ok(end)
     }
 
     // Moves blanks on this line and the words behind them to the end of a text, and returns how many characters. It
@@ -215,7 +243,8 @@ impl<T: Input> Reader<T> {
             return Ok(());
         }
         self.mark = self.mark.along(count);
-        self.read_plain_words(in_flow, text)
+        self.read_plain_words(in_flow, text)?;
+        Ok(())
     }
 
     // Moves the words behind a gap to the end of a text. Behind a tab or several blanks there may be more such gaps.
@@ -231,7 +260,8 @@ impl<T: Input> Reader<T> {
     {
         let bytes = gap.as_bytes();
         if bytes.is_empty() || bytes.len() == 1 && bytes[0] != b'\t' {
-            return self.read_plain_words(in_flow, text);
+            self.read_plain_words(in_flow, text)?;
+            return Ok(());
         }
         self.read_plain_blank_words(in_flow, text)
     }

@@ -1,4 +1,4 @@
-use Rattle.std.proofs.Common.{string_bytes, sym, ◌∙◌, subst}
+use Rattle.std.proofs.Common.{string_bytes, refl, sym, ◌∙◌, subst}
 use Rattle.saphyr_scalar.specs.Steps.Plain as spec
 use Rattle.saphyr_scalar.specs.Views.Reader.{cursor_of, Moves}
 use Rattle.saphyr_scalar.proofs.Plain.Pieces.{behind_no_text, started, words_and_rest, plain_refused, no_plain, moves_refused}
@@ -25,12 +25,10 @@ returns-then-is_break g c =
     let s = cursor_of c.args.self.now in
     let there = cursor_of c.plain_word_starts.new.self in
     let end = cursor_of c.read_plain_words.new.self in
-    let seen = cursor_of c.look-c.new.self in
     let text = string_bytes c.in_ok-text.text in
     let grown = string_bytes c.read_plain_words.new.text in
     let starts = started (spec.word_starts f) s there _ _ c.if-not-branch.false c.in_ok-plain_word_starts.ensures in
-    let same = words_and_rest f i s there end seen text grown starts c.in_ok-read_plain_words.ensures
-    c.look-c.ensures.same
+    let same = words_and_rest f i s there end end text grown starts c.in_ok-c.ensures.words refl
     ∙ behind_no_text text (spec.plain f i s) c.in_ok-text.ensures in
     subst (λ (r : spec.PlainScalarRead). Moves (λ x. spec.seen_plain_scalar x (cursor_of c.read_plain_break.new.self))
     c.read_plain_break.result r) same c.read_plain_break.ensures
@@ -42,13 +40,12 @@ returns-then-not-is_blank g c =
     let s = cursor_of c.args.self.now in
     let there = cursor_of c.plain_word_starts.new.self in
     let end = cursor_of c.read_plain_words.new.self in
-    let seen = cursor_of c.look-c.new.self in
     let text = string_bytes c.in_ok-text.text in
     let grown = string_bytes c.read_plain_words.new.text in
     let starts = started (spec.word_starts f) s there _ _ c.if-not-branch.false c.in_ok-plain_word_starts.ensures in
     sym (behind_no_text text (spec.plain f i s) c.in_ok-text.ensures)
-    ∙ words_end f i s there end seen text grown c.look-c.result starts c.in_ok-read_plain_words.ensures
-    c.look-c.ensures.same c.look-c.ensures.value (sym c.is_blank.ensures.test ∙ c.if-not-is_blank.true)
+    ∙ words_end f i s there end end text grown _ starts c.in_ok-c.ensures.words refl
+    c.in_ok-c.ensures.end (sym c.is_blank.ensures.test ∙ c.if-not-is_blank.true)
     (sym c.is_break.ensures.test ∙ c.if-is_break.false)
 
 pub returns : goal.returns
@@ -58,12 +55,10 @@ returns g c =
     let s = cursor_of c.args.self.now in
     let there = cursor_of c.plain_word_starts.new.self in
     let end = cursor_of c.read_plain_words.new.self in
-    let seen = cursor_of c.look-c.new.self in
     let text = string_bytes c.in_ok-text.text in
     let grown = string_bytes c.read_plain_words.new.text in
     let starts = started (spec.word_starts f) s there _ _ c.if-not-branch.false c.in_ok-plain_word_starts.ensures in
-    let same = words_and_rest f i s there end seen text grown starts c.in_ok-read_plain_words.ensures
-    c.look-c.ensures.same
+    let same = words_and_rest f i s there end end text grown starts c.in_ok-c.ensures.words refl
     ∙ behind_no_text text (spec.plain f i s) c.in_ok-text.ensures in
     subst (λ (r : spec.PlainScalarRead). Moves (λ x. spec.seen_plain_scalar x (cursor_of c.read_plain_rest.new.self))
     c.read_plain_rest.result r) same c.read_plain_rest.ensures

@@ -50,7 +50,7 @@ returns g c =
     let goes = started (spec.next_word_starts f i) behind there _ _ c.if-not-branch.false
     c.in_ok-next_plain_word_starts.ensures in
     let joined = joined_by f i behind there text feeds _ _ goes c.in_ok-push_gap.ensures c.as_str.ensures.value in
-    let same = c.in_ok-read_plain_words.ensures.same i start ∙ gap_turn f i start end text _ gap there goes joined
+    let same = c.in_ok-read_plain_words.ensures.words.same i start ∙ gap_turn f i start end text _ gap there goes joined
     ∙ sym (ap (λ (r : Result spec.PlainGap Refusal). spec.with_text text (r >>= plain_behind_gap f i start end))
     lines) in
     subst (λ (r : spec.PlainScalarRead). Moves (λ x. spec.seen_plain_scalar x (cursor_of c.read_plain_rest.new.self))

@@ -1,4 +1,4 @@
-use Rattle.std.proofs.Common.{string_bytes, sym, ap, ◌∙◌}
+use Rattle.std.proofs.Common.{string_bytes, refl, sym, ap, ◌∙◌}
 use Rattle.saphyr_scalar.specs.Steps.Plain as spec
 use Rattle.saphyr_scalar.specs.Views.Reader.{cursor_of}
 use Rattle.saphyr_scalar.proofs.Plain.Pieces.{started, words_and_rest, plain_refused, no_plain, moves_refused, moves_failed}
@@ -25,12 +25,11 @@ returns-then-not-is_blank g c =
     let s = cursor_of c.args.self.now in
     let there = cursor_of c.plain_word_starts.new.self in
     let end = cursor_of c.read_plain_words.new.self in
-    let seen = cursor_of c.look-c.new.self in
     let text = string_bytes c.args.text.now in
     let grown = string_bytes c.read_plain_words.new.text in
     let starts = started (spec.word_starts f) s there _ _ c.if-not-branch.false c.in_ok-plain_word_starts.ensures in
-    words_end f i s there end seen text grown c.look-c.result starts c.in_ok-read_plain_words.ensures
-    c.look-c.ensures.same c.look-c.ensures.value (sym c.is_blank.ensures.test ∙ c.if-not-is_blank.true)
+    words_end f i s there end end text grown _ starts c.in_ok-c.ensures.words refl
+    c.in_ok-c.ensures.end (sym c.is_blank.ensures.test ∙ c.if-not-is_blank.true)
     (sym c.is_break.ensures.test ∙ c.if-not-is_break.true)
 
 pub returns-in_err-scalar : goal.returns-in_err-scalar
@@ -40,13 +39,12 @@ returns-in_err-scalar g c =
     let s = cursor_of c.args.self.now in
     let there = cursor_of c.plain_word_starts.new.self in
     let end = cursor_of c.read_plain_words.new.self in
-    let seen = cursor_of c.look-c.new.self in
     let text = string_bytes c.args.text.now in
     let grown = string_bytes c.read_plain_words.new.text in
     let starts = started (spec.word_starts f) s there _ _ c.if-not-branch.false c.in_ok-plain_word_starts.ensures in
-    let same = ap (λ b. spec.with_text (string_bytes b) (spec.word f i s.mark seen.mark seen.rest))
+    let same = ap (λ b. spec.with_text (string_bytes b) (spec.word f i s.mark end.mark end.rest))
     c.replace-whole.ensures.value
-    ∙ words_and_rest f i s there end seen text grown starts c.in_ok-read_plain_words.ensures c.look-c.ensures.same in
+    ∙ words_and_rest f i s there end end text grown starts c.in_ok-c.ensures.words refl in
     moves_failed _ _ _ _ _ c.from_residual-in_err-scalar.ensures.1 c.in_err-scalar.ensures (λ r h. sym same ∙ h)
 
 pub returns : goal.returns
@@ -56,11 +54,10 @@ returns g c =
     let s = cursor_of c.args.self.now in
     let there = cursor_of c.plain_word_starts.new.self in
     let end = cursor_of c.read_plain_words.new.self in
-    let seen = cursor_of c.look-c.new.self in
     let text = string_bytes c.args.text.now in
     let grown = string_bytes c.read_plain_words.new.text in
     let starts = started (spec.word_starts f) s there _ _ c.if-not-branch.false c.in_ok-plain_word_starts.ensures in
-    let same = ap (λ b. spec.with_text (string_bytes b) (spec.word f i s.mark seen.mark seen.rest))
+    let same = ap (λ b. spec.with_text (string_bytes b) (spec.word f i s.mark end.mark end.rest))
     c.replace-whole.ensures.value
-    ∙ words_and_rest f i s there end seen text grown starts c.in_ok-read_plain_words.ensures c.look-c.ensures.same in
+    ∙ words_and_rest f i s there end end text grown starts c.in_ok-c.ensures.words refl in
     sym same ∙ c.in_ok-scalar.ensures
