@@ -1,5 +1,5 @@
 -- A text whose first bytes are ASCII begins with these bytes as characters.
-use Rattle.std.proofs.Common.{◌≡◌, ℕ, ◌+◌, ◌<◌, ◌≤◌, Bool, true, false, List, [], ◌∷◌, ◌++◌, length, take, drop, get_or, IsUtf8, refl, sym, ap, ◌∙◌, subst, arith, add-one, inl, inr, ◌&&◌, ◌==◌, encode_utf8, encode_utf8_all, zero, suc, lit<, add-zero, rules, length-append}
+use Rattle.std.proofs.Common.{◌≡◌, ℕ, ◌+◌, ◌<◌, ◌≤◌, Bool, true, false, List, [], ◌∷◌, ◌++◌, length, take, drop, get_or, IsUtf8, refl, sym, ap, ◌∙◌, subst, arith, add-one, inl, inr, ◌&&◌, ◌==◌, encode_utf8, encode_utf8_all, zero, suc, lit<, add-zero, rules, length-append, length-drop}
 use Rattle.std.specs.List.{prefix_len}
 use Rattle.std.specs.Str.{chars, IsAscii, IsCharBoundary}
 use Rattle.std.proofs.lemmas.Bool.{cases_lt, eqb-true}
@@ -8,9 +8,10 @@ use Rattle.std.proofs.lemmas.List.{append-nil, get_or_append_left, take-append-d
 use Rattle.std.proofs.lemmas.List.Sums.{prefix_len-le-length, prefix_len_passes, prefix_len_stops}
 use Rattle.std.proofs.lemmas.Str.{chars-nil, chars-append, chars-IsAscii, IsUtf8-from_ascii, IsUtf8-drop, IsCharBoundary-start, IsCharBoundary-after_ascii, byte_from_char, char_from_byte, chars_from_encodes, length-encode, len_utf8_bounds}
 use Rattle.std.proofs.lemmas.Str.Ascii.{IsAscii-from_reads}
-use Rattle.std.specs.Prelude.{nat_lt, not}
+use Rattle.std.specs.Prelude.{nat_lt, not, Option, Some, None, if◌then◌else◌}
 use Rattle.std.proofs.lemmas.Bool.{false≢true}
 use Rattle.saphyr_input.specs.Fronts.{ascii_in, IsAsciiClass, StandsFor, IsFirstByte, is_marker}
+use Rattle.saphyr_input.specs.Places.{ascii_behind, is_ascii_but_nul}
 use Rattle.saphyr_input.specs.Classes.{is_blank_or_breakz, is_yaml_non_break, is_yaml_non_space}
 use Rattle.saphyr_input.proofs.Basics.Booleans.{and_true_left, and_true_right}
 
@@ -217,6 +218,60 @@ same_marker mark bs u l some =
     (λ t. test_at p bs 1 mark u a l some (one_mark bs mark t)))
     (λ t. test_at p bs 2 mark u a l some (two_marks bs mark t)))
     (λ t. test_at is_blank_or_breakz bs 3 mark u b l some (three_marks bs mark t))
+
+-- the same character behind another, in the bytes and in the characters
+
+if_same : (a b : Bool) (x y : ℕ) → a ≡ b → (a ≡ true → x ≡ y)
+    → ◌≡◌ {A = Option ℕ} (if a then Some x else None) (if b then Some y else None)
+if_same true b x y e h = rw (← e, h refl) refl
+if_same false b x y e h = rw (← e) refl
+
+pub same_behind : (first : ℕ) (bs : List ℕ) → IsUtf8 bs → first < 128 → 0 < first
+    → ascii_behind bs first ≡ ascii_behind (chars bs) first
+same_behind first bs u l some =
+    let p : ℕ → Bool = λ x. x == first in
+    let a : IsAsciiClass p = λ c h. grind (arith, nat_tests) in
+    let b : IsAsciiClass is_ascii_but_nul = λ c h. grind (arith, nat_tests) in
+    if_same _ _ _ _
+    (and_same _ _ _ _
+    (test_at p bs 0 first u a l some (λ k lt. absurd (omega (arith, lt))))
+    (λ t. test_at is_ascii_but_nul bs 1 first u b l some (one_mark bs first t)))
+    (λ t. same_second (and_true_left _ _ t) (and_true_right (get_or bs 0 0 == first) _ t))
+  where
+    same_second : (get_or bs 0 0 == first) ≡ true → is_ascii_but_nul (get_or bs 1 0) ≡ true
+        → get_or bs 1 0 ≡ get_or (chars bs) 1 0
+    same_second t h =
+        let small : get_or bs 1 0 < 128 = grind (arith, nat_tests) in
+        let q : ℕ → Bool = λ x. x == get_or bs 1 0 in
+        let d : IsAsciiClass q = λ c h. grind (arith, nat_tests) in
+        let same : (get_or bs 1 0 == get_or bs 1 0) ≡ (get_or (chars bs) 1 0 == get_or bs 1 0) =
+        test_at q bs 1 first u d l some (one_mark bs first t) in
+        grind (arith, nat_tests)
+
+-- two ASCII characters come first
+
+small_byte : (b c : ℕ) → StandsFor b c → c < 128 → b < 128
+small_byte b c (inl e) l = rw e l
+small_byte b c (inr d) l = absurd (omega (arith, d.1, l))
+
+bytes_left : (bs : List ℕ) → 0 < length (chars bs) → 0 < length bs
+bytes_left [] h = absurd (omega (arith, h, ap length chars-nil))
+bytes_left (b ∷ bs) h = omega arith
+
+first_one : (bs : List ℕ) → get_or bs 0 0 < 128 → (k : ℕ) → k < 1 → get_or bs k 0 < 128
+first_one bs a zero l = a
+first_one bs a (suc k) l = absurd (omega arith)
+
+pub past_two : (bs : List ℕ) → IsUtf8 bs → 2 ≤ length (chars bs) → get_or (chars bs) 0 0 < 128
+    → get_or (chars bs) 1 0 < 128 → PastAscii bs 2
+past_two bs u l a b =
+    let first = small_byte _ _ (first_stands bs u) a in
+    let s = past_ascii bs 1 u (bytes_left bs (omega (arith, l))) (first_one bs first) in
+    let c : get_or (chars (drop 1 bs)) 0 0 < 128 = rw (s.rest, at_drop (chars bs) 1) b in
+    let second : get_or bs 1 0 < 128 = rw (← at_drop bs 1)
+    (small_byte (get_or (drop 1 bs) 0 0) _ (first_stands (drop 1 bs) s.utf8) c) in
+    let more : 0 < length (chars (drop 1 bs)) = rw (s.rest, length-drop) (omega (arith, l)) in
+    past_ascii bs 2 u (omega (arith, length-drop 1 bs, bytes_left (drop 1 bs) more)) (first_two bs first second)
 
 prefix_same : (p q : ℕ → Bool) (xs : List ℕ) → ((c : ℕ) → p c ≡ q c) → prefix_len p xs ≡ prefix_len q xs
 prefix_same p q [] h = refl

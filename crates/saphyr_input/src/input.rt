@@ -105,6 +105,31 @@ pub trait Input {
         requires { 1 ≤ loaded self.now }
         ensures { result ≡ slice_get (rest self.now) 0 };
 
+    /// The second character, if the first place reads as `first`, and this one is ASCII and not NUL.
+    fn ascii_behind(&self, first: char) -> Option<char>
+        requires loaded { 2 ≤ loaded self.now }
+        requires ascii { (0 < first) × (first < 128) }
+        ensures { result ≡ spec.ascii_behind (rest self.now) first }
+    {
+        let second = self.peek_nth(1);
+        if self.next_char_is(first) && second > '\0' && second < '\u{80}' {
+            Some(second)
+        } else {
+            None
+        }
+    }
+
+    /// Takes two characters off, both of them ASCII.
+    fn skip_two_ascii(&mut self)
+        requires loaded { 2 ≤ loaded self.old }
+        requires some { 2 ≤ length (rest self.old) }
+        requires ascii { (slice_index (rest self.old) 0 < 128) × (slice_index (rest self.old) 1 < 128) }
+        ensures rest { rest self.new ≡ drop 2 (rest self.old) }
+        ensures loaded { loaded self.old ≤ loaded self.new + 2 }
+    {
+        self.skip_n(2);
+    }
+
     /// Loads one place, and returns what [`peek`](Input::peek) returns.
     fn look_ch(&mut self) -> char
         ensures value { result ≡ slice_index (rest self.old) 0 }

@@ -7,7 +7,7 @@ mod text;
 mod wide;
 
 use self::text::{
-    ascii_run, begins_with_2, behind, blank_words, first_byte, is_marker, nth_char, run, run_here,
+    ascii_behind, ascii_run, begins_with_2, behind, behind_two_ascii, blank_words, first_byte, is_marker, nth_char, run, run_here,
     second_char, spaces, split_blanks, split_first, words,
 };
 use crate::char_set::{Alpha, Blank, CharSet, NonBreak, NonSpace, SpacedSet};
@@ -163,6 +163,16 @@ impl Input for StrInput<'_> {
     #[inline]
     fn peek_opt(&self) -> Option<char> {
         self.rest.chars().next()
+    }
+
+    #[inline(always)]
+    fn ascii_behind(&self, first: char) -> Option<char> {
+        ascii_behind(self.rest, first)
+    }
+
+    #[inline(always)]
+    fn skip_two_ascii(&mut self) {
+        self.rest = behind_two_ascii(self.rest);
     }
 
     #[inline]

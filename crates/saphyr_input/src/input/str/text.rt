@@ -1,5 +1,5 @@
 //! Reads the front of a text, by bytes as far as these are ASCII.
-ghost use Rattle.std.specs.Prelude.{◌≡◌, ℕ, ◌+◌, ◌<◌, ◌≤◌, Bool, false, ◌==◌, ◌↔◌, IsTrue, IfNone, IfSome, refl, take, drop, slice_index};
+ghost use Rattle.std.specs.Prelude.{◌≡◌, ℕ, ◌+◌, ◌<◌, ◌≤◌, Bool, false, ◌==◌, ◌↔◌, IsTrue, IfNone, IfSome, refl, length, take, drop, slice_index};
 ghost use Rattle.std.specs.List.{prefix_len, list_any};
 ghost use Rattle.std.specs.Char.{len_utf8};
 ghost use Rattle.std.specs.Str.{chars};
@@ -63,6 +63,39 @@ pub(super) fn second_char(text: &str) -> char
         return bytes[1] as char;
     }
     split_first(split_first(text).1).0
+}
+
+// The second byte, if the first one is `first`, and this one is ASCII and not NUL.
+#[inline(always)]
+fn byte_behind(bytes: &[u8], first: char) -> Option<char>
+    ensures { result ≡ places.ascii_behind bytes.now first }
+{
+    if bytes.len() > 1 && bytes[0] as char == first && bytes[1] > 0 && bytes[1] < 0x80 {
+        Some(bytes[1] as char)
+    } else {
+        None
+    }
+}
+
+// The second character, if the first one is `first`, and this one is ASCII and not NUL.
+#[inline(always)]
+pub(super) fn ascii_behind(text: &str, first: char) -> Option<char>
+    requires some { 0 < first }
+    requires ascii { first < 128 }
+    ensures { result ≡ places.ascii_behind (chars text.now) first }
+{
+    byte_behind(text.as_bytes(), first)
+}
+
+// What follows two characters, both of them ASCII.
+#[inline(always)]
+pub(super) fn behind_two_ascii(text: &str) -> &str
+    requires some { 2 ≤ length (chars text.now) }
+    requires first { slice_index (chars text.now) 0 < 128 }
+    requires second { slice_index (chars text.now) 1 < 128 }
+    ensures { chars result.now ≡ drop 2 (chars text.now) }
+{
+    &text[2..]
 }
 
 // The character at place `n`, or NUL past the end.
