@@ -1,6 +1,7 @@
 pub mod Given
-pub mod RecentNames
+pub mod ListedNames
 pub mod Names
+pub mod NameTable
 pub mod Passing
 pub mod Walk
 pub mod Sizes

@@ -15,9 +15,9 @@ use Rattle.std.specs.declared.cmp.Ordering.{Ordering}
 use Rattle.std.specs.declared.cmp.Ordering.TheVariants.{Less, Equal, Greater}
 use Rattle.saphyr_scalar.specs.declared.scalar.fault.Refusal.{Refusal}
 use Rattle.saphyr_machine.specs.Steps.Machine.{Names, Anchors, meaning, with_meaning, is_listed, with_name, next_id, with_anchor}
-use Rattle.saphyr_machine.specs.declared.recent.Name.{Name}
-use Rattle.saphyr_machine.specs.RecentNames.{text_of, with_id}
-use Rattle.saphyr_machine.specs.Names.{ids_of, with_recent, texts_of, names_of}
+use Rattle.saphyr_machine.specs.declared.name_list.Name.{Name}
+use Rattle.saphyr_machine.specs.ListedNames.{text_of, with_id}
+use Rattle.saphyr_machine.specs.Names.{ids_of, with_listed, texts_of, names_of}
 
 abbrev pub seen : {A X Z : Type 0} → (X → Z) → List (String A × X) → Names Z
 seen {A} {X} {Z} f es = map (λ (e : String A × X). (string_bytes e.0, f e.1)) es
@@ -63,10 +63,10 @@ pub ids_meaning : {A : Type 0} (m : BTreeMap (String A) ℕ) (name : List ℕ)
     → get_by (λ (k : String A). slice_cmp nat_cmp name (string_bytes k)) m ≡ meaning name (ids_of m)
 ids_meaning m name = sym (kept _) ∙ found_by_bytes (λ (x : ℕ). x) name m.entries
 
--- ## Names that wait for an alias
+-- ## Names of anchors
 
 -- what a name means after a name was given a meaning
-meaning_with : {Z : Type 0} (name given : List ℕ) (z : Z) (names : Names Z) → meaning name (with_meaning given z names)
+pub meaning_with : {Z : Type 0} (name given : List ℕ) (z : Z) (names : Names Z) → meaning name (with_meaning given z names)
     ≡ cond (is_at (slice_cmp nat_cmp name) given) (Some z) (meaning name names)
 meaning_with name given z [] = refl
 meaning_with {Z} name given z (e ∷ es) = by (slice_cmp nat_cmp given e.0) refl (meaning_with name given z es)
@@ -99,40 +99,40 @@ meaning_with {Z} name given z (e ∷ es) = by (slice_cmp nat_cmp given e.0) refl
         ap (λ (m : Option Z). cond (is_at (slice_cmp nat_cmp name) e.0) (Some e.1) m) later
         ∙ swapped (slice_cmp nat_cmp name given) (slice_cmp nat_cmp name e.0) refl refl p (meaning name es)
 
--- one more of the names that wait
+-- one more of the names
 pub next_given : (bytes : List ℕ) (ns : List Name) (n : ℕ) (x : Name) (names : Names ℕ)
     → n < length ns → x ≡ get_or ns n x
-    → with_recent (map (with_id bytes) (take (n + 1) ns)) names
-    ≡ with_meaning (text_of bytes x) x.id (with_recent (map (with_id bytes) (take n ns)) names)
+    → with_listed (map (with_id bytes) (take (n + 1) ns)) names
+    ≡ with_meaning (text_of bytes x) x.id (with_listed (map (with_id bytes) (take n ns)) names)
 next_given bytes ns n x names h is =
-    ap (λ (xs : List Name). with_recent (map (with_id bytes) xs) names)
+    ap (λ (xs : List Name). with_listed (map (with_id bytes) xs) names)
     (take_more ns n x h ∙ ap (λ (y : Name). take n ns ++ y ∷ []) (sym is))
-    ∙ ap (λ (es : List (List ℕ × ℕ)). with_recent es names) (map-append (with_id bytes) (take n ns) (x ∷ []))
+    ∙ ap (λ (es : List (List ℕ × ℕ)). with_listed es names) (map-append (with_id bytes) (take n ns) (x ∷ []))
     ∙ fold-append _ names (map (with_id bytes) (take n ns)) (with_id bytes x ∷ [])
 
 -- what a name means after one more of them, which is compared by its bytes
 pub one_more : (name bytes : List ℕ) (ns : List Name) (n : ℕ) (x : Name) (names : Names ℕ) (same : Bool)
     → n < length ns → x ≡ get_or ns n x → same ≡ pointwise nat_eq name (text_of bytes x)
-    → meaning name (with_recent (map (with_id bytes) (take (n + 1) ns)) names)
-    ≡ cond same (Some x.id) (meaning name (with_recent (map (with_id bytes) (take n ns)) names))
+    → meaning name (with_listed (map (with_id bytes) (take (n + 1) ns)) names)
+    ≡ cond same (Some x.id) (meaning name (with_listed (map (with_id bytes) (take n ns)) names))
 one_more name bytes ns n x names same h is c =
-    let before : Names ℕ = with_recent (map (with_id bytes) (take n ns)) names in
+    let before : Names ℕ = with_listed (map (with_id bytes) (take n ns)) names in
     ap (λ (ms : Names ℕ). meaning name ms) (next_given bytes ns n x names h is)
     ∙ meaning_with name (text_of bytes x) x.id before
     ∙ ap (λ (b : Bool). cond b (Some x.id) (meaning name before))
     (is_eq-slice_cmp name (text_of bytes x) ∙ sym c)
 
--- a name that is noted behind the recent ones has its id
+-- a name that is noted behind the others has its id
 pub registered : (a : Anchors) (es fs : List (List ℕ × ℕ)) (ids : Names ℕ) (id : ℕ) (bytes : List ℕ)
-    → with_recent es ids ≡ a.ids → id ≡ next_id a → fs ≡ es ++ ((bytes, id) ∷ [])
+    → with_listed es ids ≡ a.ids → id ≡ next_id a → fs ≡ es ++ ((bytes, id) ∷ [])
     → (let r : Result (ℕ × Anchors) Refusal = Ok (next_id a, with_anchor bytes a) in r)
-    ≡ Ok (id, record { ids = with_recent fs ids; last = id })
+    ≡ Ok (id, record { ids = with_listed fs ids; last = id })
 registered a es fs ids id bytes before next more =
-    let names : with_meaning bytes (next_id a) a.ids ≡ with_recent fs ids =
+    let names : with_meaning bytes (next_id a) a.ids ≡ with_listed fs ids =
     ap (λ (n : ℕ). with_meaning bytes n a.ids) (sym next)
     ∙ ap (λ (ns : Names ℕ). with_meaning bytes id ns) (sym before)
     ∙ sym (fold-append _ ids es ((bytes, id) ∷ []))
-    ∙ ap (λ (xs : List (List ℕ × ℕ)). with_recent xs ids) (sym more) in
+    ∙ ap (λ (xs : List (List ℕ × ℕ)). with_listed xs ids) (sym more) in
     λ i. Ok (sym next i, record { ids = names i; last = sym next i })
 
 -- ## Maps to texts

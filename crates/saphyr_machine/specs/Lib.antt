@@ -1,6 +1,7 @@
 pub mod Events
-pub mod RecentNames
+pub mod ListedNames
 pub mod Names
+pub mod NameTable
 pub mod Views
 pub mod Steps
 pub mod Answer

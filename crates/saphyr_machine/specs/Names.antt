@@ -3,20 +3,20 @@ use Rattle.std.specs.Prelude.{ℕ, List, map, String, string_bytes}
 use Rattle.std.specs.List.{fold}
 use Rattle.std.specs.BTreeMap.{BTreeMap}
 use Rattle.std.specs.BTreeSet.{BTreeSet}
-use Rattle.saphyr_machine.specs.declared.recent.Recent.{Recent}
-use Rattle.saphyr_machine.specs.RecentNames.{with_id}
+use Rattle.saphyr_machine.specs.declared.name_list.NameList.{NameList}
+use Rattle.saphyr_machine.specs.ListedNames.{with_id}
 use Rattle.saphyr_machine.specs.Steps.Machine.{Names, with_meaning}
 
 abbrev pub ids_of : {A : Type 0} → BTreeMap (String A) ℕ → Names ℕ
 ids_of {A} m = map (λ (e : String A × ℕ). (string_bytes e.0, e.1)) m.entries
 
 -- names with those that were given ids after them, the latest last
-abbrev pub with_recent : List (List ℕ × ℕ) → Names ℕ → Names ℕ
-with_recent recent names = fold (λ (ns : Names ℕ) (e : List ℕ × ℕ). with_meaning e.0 e.1 ns) names recent
+abbrev pub with_listed : List (List ℕ × ℕ) → Names ℕ → Names ℕ
+with_listed listed names = fold (λ (ns : Names ℕ) (e : List ℕ × ℕ). with_meaning e.0 e.1 ns) names listed
 
--- the names that wait for an alias, the latest last
-abbrev pub recent_names : Recent → List (List ℕ × ℕ)
-recent_names r = map (with_id r.bytes.items) r.names.items
+-- the names of anchors, the latest last
+abbrev pub listed_names : NameList → List (List ℕ × ℕ)
+listed_names r = map (with_id r.bytes.items) r.names.items
 
 abbrev pub texts_of : {A : Type 0} → BTreeMap (String A) (String A) → Names (List ℕ)
 texts_of {A} m = map (λ (e : String A × String A). (string_bytes e.0, string_bytes e.1)) m.entries

@@ -1,38 +1,31 @@
 //! The ids of anchors, and which of them an alias means (YAML 1.2.2, 3.2.2.2, 6.9.2 and 7.1).
 
-ghost use Rattle.std.specs.Prelude.{◌≡◌, ℕ, Ok};
+ghost use Rattle.std.specs.Prelude.{◌≡◌, ℕ, Ok, Option};
 ghost use Rattle.saphyr_scalar.specs.Views.Reader.{Moves};
 ghost use Rattle.saphyr_machine.specs.Steps.Machine as spec;
 
-use crate::recent::Recent;
+use crate::name_table::NameTable;
 use saphyr_scalar::Stop;
 use std::alloc::{AllocError, Global};
-use std::collections::BTreeMap;
 use std::marker::Model;
-
-/// How many recent anchors an alias may look through one by one. The map is faster for more.
-const MOST_RECENT: usize = 8;
 
 /// The anchors of a document by their names, and the id that was given last.
 ///
 /// Ids go on counting over all documents.
 #[derive(Drop)]
 pub struct Anchors {
-    // The ids by the names, without those that were given since.
-    ids: BTreeMap<String, usize>,
-    // The names that were given ids since, with these, the latest last. Most anchors have no alias, and to put a name
-    // into the map costs most of what it costs to read an anchor. So that waits for an alias.
-    recent: Recent,
+    names: NameTable,
     last: usize,
 }
 
 impl Model for Anchors {
     ghost use Rattle.saphyr_machine.specs.Steps.Machine.{Anchors as Seen};
-    ghost use Rattle.saphyr_machine.specs.Names.{ids_of, recent_names, with_recent};
+    ghost use Rattle.std.specs.Prelude.{[]};
+    ghost use Rattle.saphyr_machine.specs.Names.{listed_names, with_listed};
 
     ghost Value = { Seen };
 
-    ghost view = { λ a. record { ids = with_recent (recent_names a.recent) (ids_of a.ids); last = a.last } };
+    ghost view = { λ a. record { ids = with_listed (listed_names a.names.names) []; last = a.last } };
 }
 
 impl Anchors {
@@ -43,8 +36,7 @@ impl Anchors {
         ensures { result ≡ spec.no_anchors }
     {
         Anchors {
-            ids: BTreeMap::new(alloc),
-            recent: Recent::new(alloc),
+            names: NameTable::new(alloc),
             last: 0,
         }
     }
@@ -53,8 +45,7 @@ impl Anchors {
     pub fn forget(&mut self)
         ensures { self.new ≡ spec.without_ids self.old }
     {
-        self.ids.clear();
-        self.recent.clear();
+        self.names.clear();
     }
 
     /// Gives the next id to the name, which may already have one.
@@ -63,30 +54,18 @@ impl Anchors {
             (Ok (spec.next_id self.old, spec.with_anchor name.now self.old)) }
     {
         let id = self.last.saturating_add(1);
-        self.recent.push(name, id)?;
+        self.names.push(name, id)?;
         self.last = id;
         Ok(id)
     }
 
-    /// Puts the recent names into the map, if they are many. To be called before an alias looks for its name.
-    pub fn settle(&mut self) -> Result<(), Stop>
-        ensures { Moves (λ _. self.new) result (Ok self.old) }
-    {
-        if self.recent.len() <= MOST_RECENT {
-            return Ok(());
-        }
-        self.recent.move_into(&mut self.ids)?;
-        Ok(())
-    }
-
     /// The id that the name has.
-    pub fn id_of(&self, name: &str) -> Option<usize>
-        ensures { result ≡ spec.meaning name.now self.now.ids }
+    #[inline(always)]
+    pub fn id_of(&mut self, name: &str) -> Result<Option<usize>, Stop>
+        ensures { Moves {Y = Option ℕ × spec.Anchors} (λ id. (id, self.new)) result
+            (Ok (spec.meaning name.now self.old.ids, self.old)) }
     {
-        match self.recent.latest_id(name) {
-            Some(id) => Some(id),
-            None => self.ids.get(name).copied(),
-        }
+        Ok(self.names.id_of(name)?)
     }
 
     /// The same names with the same ids.
@@ -94,8 +73,7 @@ impl Anchors {
         ensures { IfOk result (λ copy. copy ≡ self.now) }
     {
         Ok(Anchors {
-            ids: self.ids.clone()?,
-            recent: self.recent.try_clone()?,
+            names: self.names.try_clone()?,
             last: self.last,
         })
     }

@@ -227,8 +227,7 @@ impl<T: Input> Machine<T> {
         ensures { TellsBy (spec.alias_node (string_bytes name) span)
             self.old result next.new self.new }
     {
-        self.anchors.settle()?;
-        match self.anchors.id_of(name.as_str()) {
+        match self.anchors.id_of(name.as_str())? {
             Some(id) => {
                 self.scanner.give_back(name);
                 self.pop();

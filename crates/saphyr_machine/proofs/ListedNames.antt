@@ -1,11 +1,11 @@
 -- Names stay as they are when others are put after them.
 use Rattle.std.proofs.Common.{◌≡◌, ℕ, ◌+◌, ◌-◌, ◌<◌, ◌≤◌, List, [], ◌∷◌, ◌++◌, drop, length, get_or, take, refl, sym, ap, subst, arith, ◌∙◌}
-use Rattle.std.specs.Prelude.{map, slice_range, IsUtf8}
+use Rattle.std.specs.Prelude.{Result, Ok, Err, OnErr, map, slice_range, IsUtf8}
 use Rattle.std.specs.List.{All, AllZip}
 use Rattle.std.proofs.lemmas.List.{drop-append-le, length-append, length-drop, map-append, take-append-drop, take-append-le}
 use Rattle.std.proofs.lemmas.List.Elements.{All-head, All-push, All-tail}
-use Rattle.saphyr_machine.specs.declared.recent.Name.{Name}
-use Rattle.saphyr_machine.specs.RecentNames.{GrowsBehind, HasName, text_of, with_id}
+use Rattle.saphyr_machine.specs.declared.name_list.Name.{Name}
+use Rattle.saphyr_machine.specs.ListedNames.{GrowsBehind, HasName, text_of, with_id}
 
 range_of_append : (old more : List ℕ) (a b : ℕ) → a ≤ b → b ≤ length old
     → slice_range (old ++ more) a b ≡ slice_range old a b
@@ -56,3 +56,8 @@ copied [] [] e = refl
 copied [] (y ∷ ys) e = absurd e
 copied (x ∷ xs) [] e = absurd e
 copied (x ∷ xs) (y ∷ ys) e = λ i. e.0 i ∷ copied xs ys e.1 i
+
+-- what holds anyway holds of a call that failed
+pub on_err : {T E P : Type 0} (r : Result T E) → P → OnErr r P
+on_err (Ok x) p = tt
+on_err (Err e) p = p

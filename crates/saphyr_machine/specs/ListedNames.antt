@@ -1,6 +1,6 @@
--- What contracts see of a name that waits for an alias.
+-- What contracts see of the name of an anchor.
 use Rattle.std.specs.Prelude.{◌+◌, ◌≤◌, ◌≡◌, length, slice_range, take, List, ℕ, IsUtf8}
-use Rattle.saphyr_machine.specs.declared.recent.Name.{Name}
+use Rattle.saphyr_machine.specs.declared.name_list.Name.{Name}
 
 -- its bytes among those of all names
 abbrev pub text_of : List ℕ → Name → List ℕ

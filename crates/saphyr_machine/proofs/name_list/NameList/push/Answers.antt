@@ -2,9 +2,9 @@
 use Rattle.std.proofs.Common.{◌∷◌, [], ◌++◌, ap, ◌∙◌}
 use Rattle.std.specs.Prelude.{map}
 use Rattle.std.proofs.lemmas.List.Elements.{All-same}
-use Rattle.saphyr_machine.specs.RecentNames.{HasName, with_id}
-use Rattle.saphyr_machine.proofs.RecentNames.{name_put, names_stay}
-use Rattle.saphyr_machine.proofs.recent.Recent.push.Goals as goal
+use Rattle.saphyr_machine.specs.ListedNames.{HasName, with_id}
+use Rattle.saphyr_machine.proofs.ListedNames.{name_put, names_stay, on_err}
+use Rattle.saphyr_machine.proofs.name_list.NameList.push.Goals as goal
 
 pub invariant_of-self : goal.invariant_of-self
 invariant_of-self c = record {
@@ -35,8 +35,14 @@ invariant_of-self-2 c =
           after.0;
     }
 
-pub returns : goal.returns
-returns c =
+pub returns-in_err-noted-clause-err : goal.returns-in_err-noted-clause-err
+returns-in_err-noted-clause-err c =
+    let old = c.args.self.now in
+    on_err c.from_residual-in_err-noted.result (ap (map (with_id c.append.new.bytes.items)) c.reserve.ensures.items
+    ∙ (names_stay old.bytes.items c.append.new.bytes.items old.names.items c.append.ensures.grows old.have_texts).1)
+
+pub returns-clause-ok : goal.returns-clause-ok
+returns-clause-ok c =
     let old = c.args.self.now in
     let bytes = c.append.new.bytes.items in
     let after = name_put old.bytes.items bytes old.names.items c.in_ok-noted.noted

@@ -1,10 +1,10 @@
 use Rattle.std.proofs.Common.{ℕ, List, sym, subst}
 use Rattle.std.specs.Prelude.{map}
 use Rattle.std.specs.List.{All}
-use Rattle.saphyr_machine.specs.declared.recent.Name.{Name}
-use Rattle.saphyr_machine.specs.RecentNames.{HasName, with_id}
-use Rattle.saphyr_machine.proofs.RecentNames.{copied}
-use Rattle.saphyr_machine.proofs.recent.Recent.try_clone.Goals as goal
+use Rattle.saphyr_machine.specs.declared.name_list.Name.{Name}
+use Rattle.saphyr_machine.specs.ListedNames.{HasName, with_id}
+use Rattle.saphyr_machine.proofs.ListedNames.{copied}
+use Rattle.saphyr_machine.proofs.name_list.NameList.try_clone.Goals as goal
 
 pub invariant_of-result : goal.invariant_of-result
 invariant_of-result c =

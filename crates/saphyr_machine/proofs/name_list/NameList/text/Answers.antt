@@ -2,7 +2,7 @@
 use Rattle.std.proofs.Common.{List, ℕ, ◌+◌, sym, subst}
 use Rattle.std.specs.Prelude.{slice_range, IsUtf8}
 use Rattle.std.proofs.lemmas.Str.{IsUtf8-had}
-use Rattle.saphyr_machine.proofs.recent.Recent.text.Goals as goal
+use Rattle.saphyr_machine.proofs.name_list.NameList.text.Goals as goal
 
 pub from_utf8_unchecked-requires : goal.from_utf8_unchecked-requires
 from_utf8_unchecked-requires c =
