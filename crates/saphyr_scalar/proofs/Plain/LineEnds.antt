@@ -12,7 +12,7 @@ use Rattle.saphyr_scalar.specs.declared.scalar.fault.Stop.{Stop}
 use Rattle.saphyr_scalar.specs.Views.Reader.{Moves}
 use Rattle.saphyr_scalar.proofs.Plain.Gaps.{lines_read}
 use Rattle.saphyr_scalar.specs.Views.Cursor.{Cursor, ◌>>=◌, pass_break, pass_spaces}
-use Rattle.saphyr_scalar.specs.Steps.Plain.{is_in_word, PlainGap, seen_gap, reached_gap, gap_text, line_front, lines, folded_gap, next_lines, gap_from, gap, next_word_starts, comment_of, with_text, scalar_end, word, content_behind_tab}
+use Rattle.saphyr_scalar.specs.Steps.Plain.{is_in_word, PlainGap, seen_gap, gap_text, line_front, lines, folded_gap, next_lines, gap_from, gap, next_word_starts, comment_of, with_text, scalar_end, word, content_behind_tab}
 use Rattle.saphyr_scalar.specs.Steps.Quoted.{with_run}
 use Rattle.saphyr_scalar.specs.Steps.PlainLines.{scalar_behind_line, is_left_of_scalar}
 use Rattle.saphyr_scalar.proofs.NoSeparation.{no_run}
@@ -106,16 +106,33 @@ left_ends f i a end text u blank left =
     ∙ gap_no_turn f i a end text g u (not_on f i u blank all.0 all.1)
     ∙ ap (λ x. Ok (text, end, x, u)) (no_comment f u blank)
 
--- what the call that reads such a gap leaves
-pub break_gap_read : (i : ℕ) (a : Marker) (cleared feeds : List ℕ) (s u v w : Cursor) (r : Result Bool Stop)
-    → s.blank_so_far ≡ false → u ≡ s → is_break (slice_index s.rest 0) ≡ true → v ≡ pass_break u → cleared ≡ []
-    → Moves (λ t. seen_gap t feeds w) r (lines i a false cleared v.mark v.rest)
-    → Moves (λ t. seen_gap t (gap_text w.blank_so_far feeds) w) r (gap i a s)
-break_gap_read i a cleared feeds s u v w r line same breaks on empty h =
-    let from : gap i a s ≡ next_lines i a v = cc (break_gap i a s line breaks) in
-    rw from (lines_read i a v.mark v.rest feeds w r (rw empty at h))
+-- A gap of a break, spaces and maybe more lines: u looked at the break, v is behind the spaces.
 
--- where no tab is in the indentation, nothing is refused
-pub reached_without_tab : (a : Marker) (f : List ℕ) (s : Cursor) → reached_gap a false f s ≡ Ok (seen_gap false f s)
-unfolding content_behind_tab
-reached_without_tab a f s = refl
+pub break_gap_read : (i : ℕ) (a : Marker) (cleared feeds : List ℕ) (most : ℕ) (s u v w : Cursor) (r : Result Bool Stop)
+    → s.blank_so_far ≡ false → u ≡ s → is_break (slice_index s.rest 0) ≡ true → v ≡ pass_spaces most (pass_break u)
+    → cleared ≡ [] → Moves (λ t. seen_gap t feeds w) r (lines i a false cleared v.mark v.rest)
+    → Moves (λ t. seen_gap t (gap_text w.blank_so_far feeds) w) r (gap i a s)
+break_gap_read i a cleared feeds most s u v w r line same breaks spaces empty h =
+    let from : gap i a s ≡ next_lines i a (pass_break u) = cc (break_gap i a s line breaks) in
+    let over = lines_over i a false [] most (pass_break u) v spaces in
+    let there : Moves (λ t. seen_gap t feeds w) r (lines i a false [] v.mark v.rest) = rw empty at h in
+    rw from (lines_read i a (pass_break u).mark (pass_break u).rest feeds w r (rw over at there))
+
+pub blank_behind_break : (most : ℕ) (s u v : Cursor) → u ≡ s → is_break (slice_index s.rest 0) ≡ true
+    → v ≡ pass_spaces most (pass_break u) → v.blank_so_far ≡ true
+blank_behind_break most s u v same breaks spaces = ap (λ (x : Cursor). x.blank_so_far) spaces
+    ∙ ap (λ (x : Cursor). (pass_break x).blank_so_far) same ∙ break_begins s breaks
+
+-- where no other line is passed
+pub single_gap_read : (i : ℕ) (a : Marker) (cleared : List ℕ) (most : ℕ) (s u v : Cursor) → s.blank_so_far ≡ false
+    → u ≡ s → is_break (slice_index s.rest 0) ≡ true → v ≡ pass_spaces most (pass_break u) → cleared ≡ []
+    → is_blank_or_break (slice_index v.rest 0) ≡ false
+    → gap i a s ≡ Ok (seen_gap false (gap_text v.blank_so_far cleared) v)
+single_gap_read i a cleared most s u v line same breaks spaces empty ink =
+    break_gap_read i a cleared cleared most s u v v (Ok false) line same breaks spaces empty
+    (ap (λ b. lines i a false b v.mark v.rest) empty ∙ line_there i a v.mark v.rest ink
+    ∙ ap (found []) (same_line_front v (blank_behind_break most s u v same breaks spaces))
+    ∙ ap (λ b. found b v) (sym empty))
+  where
+    found : List ℕ → Cursor → Result PlainGap Refusal
+    found b x = Ok (seen_gap false b x)

@@ -3,7 +3,7 @@
 mod gap;
 mod words;
 
-ghost use Rattle.std.specs.Prelude.{◌≡◌, slice_index, string_bytes, false, true};
+ghost use Rattle.std.specs.Prelude.{◌≡◌, ◌≤◌, slice_index, string_bytes, false, true};
 ghost use Rattle.saphyr_input.specs.Classes as class;
 ghost use Rattle.saphyr_scalar.specs.Steps.Plain as spec;
 ghost use Rattle.saphyr_scalar.specs.Steps.PlainLines as lines;
@@ -36,7 +36,7 @@ pub struct PlainEnd {
 }
 
 impl<T: Input> Reader<T> {
-    ghost use Rattle.saphyr_scalar.specs.Views.Reader.{cursor_of, GivesBy, ReadsBy, WritesBy};
+    ghost use Rattle.saphyr_scalar.specs.Views.Reader.{cursor_of, loaded, GivesBy, ReadsBy, WritesBy};
 
     // Whether another word of a plain scalar begins after a gap.
     #[inline(always)]
@@ -83,7 +83,15 @@ impl<T: Input> Reader<T> {
         let mut gap = String::new(alloc);
         loop {
             let end = self.mark;
-            let tabbed = self.read_plain_gap(indent, start, &mut gap)?;
+            let c = self.look();
+            gap.clear();
+            let tabbed = if !is_break(c) {
+                self.read_spaced_gap(indent, start, &mut gap)?
+            } else if self.skip_plain_break(c) {
+                false
+            } else {
+                self.skip_empty_lines(indent, start, &mut gap)?
+            };
             if !self.next_plain_word_starts(in_flow, indent)? {
                 let comment = self.plain_comment(in_flow, tabbed);
                 return Ok(PlainScalar { text, end, comment });
@@ -125,17 +133,17 @@ impl<T: Input> Reader<T> {
         self.read_plain_rest(alloc, in_flow, indent, start, text)
     }
 
-    // Whether this place is left of where a scalar outside flow can go on.
+    // Whether this place, where `c` is, is left of where a scalar outside flow can go on.
     #[inline(always)]
-    fn is_left_of_plain(&mut self, in_flow: bool, indent: usize) -> bool
-        ensures value { result ≡ lines.is_left_of_scalar in_flow indent (cursor_of self.old) }
-        ensures same { cursor_of self.new ≡ cursor_of self.old }
+    fn is_left_of_plain(&self, c: char, in_flow: bool, indent: usize) -> bool
+        requires { c ≡ slice_index (cursor_of self.now).rest 0 }
+        ensures { result ≡ lines.is_left_of_scalar in_flow indent (cursor_of self.now) }
     {
-        !in_flow && self.mark.col < indent && !is_blank_or_break(self.look())
+        !in_flow && self.mark.col < indent && !is_blank_or_break(c)
     }
 
-    // Moves what is left of a plain scalar after a word at a line's end, as `read_plain_rest` does. Mostly
-    // the next line begins left of `indent`: then nothing is left.
+    // Moves what is left of a plain scalar after a word that ends at the break `c`, as `read_plain_rest` does.
+    // Mostly the next line begins left of `indent`: then nothing is left.
     #[inline(always)]
     fn read_plain_break(
         &mut self,
@@ -143,18 +151,21 @@ impl<T: Input> Reader<T> {
         in_flow: bool,
         indent: usize,
         start: Marker,
+        c: char,
         text: String,
     ) -> Result<PlainScalar, Stop>
         requires ended { spec.is_in_word in_flow (cursor_of self.old).rest ≡ false }
         requires on_line { (cursor_of self.old).blank_so_far ≡ false }
-        requires breaks { class.is_break (slice_index (cursor_of self.old).rest 0) ≡ true }
+        requires first { c ≡ slice_index (cursor_of self.old).rest 0 }
+        requires breaks { class.is_break c ≡ true }
+        requires loaded { 1 ≤ loaded self.old }
         ensures { ReadsBy spec.seen_plain_scalar (λ s. spec.with_text (string_bytes text)
             (spec.word in_flow indent start s.mark s.rest)) self.old result self.new }
     {
         let behind_word = self.mark;
-        self.skip_line_break();
-        self.skip_spaces(usize::MAX);
-        if self.is_left_of_plain(in_flow, indent) {
+        self.skip_seen_break(c);
+        let next = self.look_behind_spaces();
+        if self.is_left_of_plain(next, in_flow, indent) {
             let comment = None;
             return Ok(PlainScalar {
                 text,
@@ -196,7 +207,7 @@ impl<T: Input> Reader<T> {
         let mut text = self.spare.begin(alloc)?;
         let c = self.read_plain_words(in_flow, &mut text)?;
         if is_break(c) {
-            return self.read_plain_break(alloc, in_flow, indent, start, text);
+            return self.read_plain_break(alloc, in_flow, indent, start, c, text);
         }
         // Most others end right before a colon, a comma or a bracket.
         if !is_blank(c) {

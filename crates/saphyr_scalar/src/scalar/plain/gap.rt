@@ -1,9 +1,10 @@
 //! What is between two words of a plain scalar: blanks, or line breaks and empty lines, which are folded (YAML
 //! 1.2.2, 7.3.3 and 6.5).
 
-ghost use Rattle.std.specs.Prelude.{◌≡◌, ◌≤◌, ◌++◌, slice_index, string_bytes, OnOk, false, true};
+ghost use Rattle.std.specs.Prelude.{◌≡◌, ◌≤◌, ◌-◌, ◌^◌, ◌++◌, not, slice_index, string_bytes, OnOk, false, true};
 ghost use Rattle.saphyr_input.specs.Places as place;
 ghost use Rattle.saphyr_scalar.specs.Steps.Plain as spec;
+ghost use Rattle.saphyr_scalar.specs.Views.Cursor as cursor;
 
 use crate::scalar::fault::{FaultText, Refusal, Stop};
 use crate::scalar::position::Marker;
@@ -103,8 +104,7 @@ impl<T: Input> Reader<T> {
     {
         let mut tabbed = false;
         loop {
-            self.skip_spaces(usize::MAX);
-            let c = self.look();
+            let c = self.look_behind_spaces();
             if !is_blank_or_break(c) {
                 break;
             }
@@ -114,25 +114,26 @@ impl<T: Input> Reader<T> {
         Ok(tabbed)
     }
 
-    // The same. Mostly there is no such line: then spaces are all that is taken off.
+    // Takes off a break `c` and the spaces after it. Whether the line that is reached goes on with neither a
+    // blank nor a break, as mostly: then nothing else is between two words.
     #[inline(always)]
-    fn skip_lines(&mut self, indent: usize, start: Marker, feeds: &mut String) -> Result<bool, Stop>
-        requires { (cursor_of self.old).blank_so_far ≡ true }
-        ensures { WritesBy spec.seen_gap (spec.feeds_onto indent start) feeds.old self.old result
-            feeds.new self.new }
+    pub(super) fn skip_plain_break(&mut self, c: char) -> bool
+        requires first { c ≡ slice_index (cursor_of self.old).rest 0 }
+        requires loaded { 1 ≤ loaded self.old }
+        ensures passed { cursor_of self.new
+            ≡ cursor.pass_spaces (2 ^ 64 - 1) (cursor.pass_break (cursor_of self.old)) }
+        ensures value { result
+            ≡ not (place.is_blank_or_break (slice_index (cursor_of self.new).rest 0)) }
     {
-        self.skip_spaces(usize::MAX);
-        if !is_blank_or_break(self.look()) {
-            return Ok(false);
-        }
-        self.skip_empty_lines(indent, start, feeds)
+        self.skip_seen_break(c);
+        !is_blank_or_break(self.look_behind_spaces())
     }
 
     // Takes off what follows a word, and replaces a text by it: by the blanks, or a line feed for each
     // empty line. Returns whether a tab is in the indentation of the line that is reached.
     #[inline(always)]
     #[tactic(auto, unfolding(crate::specs::Steps::Plain::gap, crate::specs::Steps::Plain::gap_from))]
-    fn read_spaced_gap(
+    pub(super) fn read_spaced_gap(
         &mut self,
         indent: usize,
         start: Marker,
@@ -149,26 +150,5 @@ impl<T: Input> Reader<T> {
         gap.clear();
         self.skip_line_break();
         self.skip_empty_lines(indent, start, gap)
-    }
-
-    // The same. Mostly the word ends its line.
-    #[inline(always)]
-    pub(super) fn read_plain_gap(
-        &mut self,
-        indent: usize,
-        start: Marker,
-        gap: &mut String,
-    ) -> Result<bool, Stop>
-        requires { (cursor_of self.old).blank_so_far ≡ false }
-        ensures { WritesBy spec.seen_word_gap (λ _. spec.gap indent start) gap.old self.old result
-            gap.new self.new }
-    {
-        let c = self.look();
-        if is_break(c) {
-            gap.clear();
-            self.skip_seen_break(c);
-            return self.skip_lines(indent, start, gap);
-        }
-        self.read_spaced_gap(indent, start, gap)
     }
 }

@@ -3,8 +3,8 @@ use Rattle.saphyr_scalar.specs.Steps.Plain.{is_in_word, with_text, word}
 use Rattle.saphyr_scalar.specs.Views.Reader.{cursor_of}
 use Rattle.saphyr_scalar.proofs.scalar.reader.Reader.read_plain_rest.Given as goal
 
-abbrev pub invariant-loop-gap : goal.invariant-loop-gap
-invariant-loop-gap g l = record {
+abbrev pub invariant-loop-c : goal.invariant-loop-c
+invariant-loop-c g l = record {
   same : with_text (string_bytes l.text)
       (word l.in_flow l.indent l.start (cursor_of l.self).mark (cursor_of l.self).rest)
       ≡ with_text (string_bytes l.fn.text)
@@ -13,5 +13,5 @@ invariant-loop-gap g l = record {
   on_line : (cursor_of l.self).blank_so_far ≡ false;
 }
 
-abbrev pub decreases-loop-gap : goal.decreases-loop-gap
-decreases-loop-gap g l = length (cursor_of l.self).rest
+abbrev pub decreases-loop-c : goal.decreases-loop-c
+decreases-loop-c g l = length (cursor_of l.self).rest
