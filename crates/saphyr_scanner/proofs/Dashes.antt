@@ -1,16 +1,19 @@
 -- What mostly follows a `-`: a line feed, or a space and then content.
-use Rattle.std.proofs.Common.{◌≡◌, ℕ, true, false, List, [], ◌∷◌, slice_index, Ok, refl, arith}
-use Rattle.std.specs.Prelude.{◌+◌, ◌==◌, nat_lt}
-use Rattle.saphyr_input.proofs.Basics.Booleans.{and_false}
+use Rattle.std.proofs.Common.{◌≡◌, ℕ, ◌+◌, Bool, true, false, List, [], ◌∷◌, drop, slice_index, Ok, refl, sym, ap, ◌∙◌, arith}
+use Rattle.std.specs.Prelude.{◌==◌, ◌&&◌, nat_lt, if◌then◌else◌}
+use Rattle.saphyr_input.proofs.Basics.Booleans.{and_false, and_true_left, and_true_right}
+use Rattle.std.proofs.lemmas.Bool.{eqb-true}
 use Rattle.std.proofs.lemmas.Bool.Decides.{nat_tests}
+use Rattle.std.proofs.lemmas.Grind.{common_steps}
 use Rattle.saphyr_input.specs.Classes.{is_blank, is_bom, is_break, is_flow}
 use Rattle.saphyr_input.specs.Indicators.{number_sign}
 use Rattle.saphyr_input.specs.declared.input.SkipTabs.TheVariants as tabs
-use Rattle.saphyr_scalar.specs.Views.Cursor.{Cursor, pass_blanks, separation, behind_separation}
+use Rattle.saphyr_scalar.specs.Views.Cursor.{Cursor, pass, pass_blanks, separation, behind_separation}
 use Rattle.saphyr_scalar.proofs.NoSeparation.{nothing_separates}
 use Rattle.saphyr_scanner.specs.Steps.Block.{pass_dash}
-use Rattle.saphyr_scanner.specs.Steps.Core.{Core, go_deeper}
-use Rattle.saphyr_scanner.specs.Steps.Passing.{with_cursor}
+use Rattle.saphyr_scanner.specs.Steps.Core.{Core, enter_block, go_deeper, is_further, roll}
+use Rattle.saphyr_scanner.specs.Steps.Passing.{pass_on, with_cursor}
+use Rattle.saphyr_scanner.specs.Steps.State.{State, on_core, with_core}
 use Rattle.saphyr_scanner.specs.Views.Ahead.{may_begin_entry}
 
 -- content is on a later line
@@ -50,3 +53,58 @@ spaced c e begins = go c.cursor.rest e begins
     go (x ∷ y ∷ ys) f b =
         rw (f, is_no_blank y b, is_no_sign y b, is_no_bom y b, and_false (nat_lt 0 (c.cursor.mark.col + 1)))
         (rw (is_no_break y b, is_no_flow y b) refl)
+
+-- ## From the `-` on, where a sequence may begin at its column
+
+rolled : (column : ℕ) (s : Cursor) (c : Core) → roll column (with_cursor s c) ≡ with_cursor s (roll column c)
+rolled column s c = go (is_further column c)
+  where
+    go : (b : Bool) → (if b then enter_block column (with_cursor s c) else with_cursor s c)
+        ≡ with_cursor s (if b then enter_block column c else c)
+    go true = refl
+    go false = refl
+
+one_further : (t : List ℕ) (n : ℕ) → slice_index (drop 1 t) n ≡ slice_index t (1 + n)
+one_further t n = grind (arith, common_steps)
+
+twice : (s : Cursor) → pass_blanks 1 (pass 1 s) ≡ pass 2 s
+twice s = go s.rest
+  where
+    go : (t : List ℕ) → let r : Cursor = record s { rest = t } in pass_blanks 1 (pass 1 r) ≡ pass 2 r
+    go t =
+        let i : s.mark.index + 1 + 1 ≡ s.mark.index + 2 = omega arith in
+        let k : s.mark.col + 1 + 1 ≡ s.mark.col + 2 = omega arith in
+        rw (i, k, two t) refl
+      where
+        two : (xs : List ℕ) → drop 1 (drop 1 xs) ≡ drop 2 xs
+        two [] = refl
+        two (x ∷ []) = refl
+        two (x ∷ y ∷ ys) = refl
+
+pub entry_fed : (column : ℕ) (c : Core) → slice_index c.cursor.rest 1 ≡ 10
+    → pass_dash (roll column (pass_on 1 c)) ≡ Ok (go_deeper (roll column (pass_on 1 c)))
+entry_fed column c e =
+    let s : Cursor = pass 1 c.cursor in
+    rw (rolled column s c) (fed (with_cursor s (roll column c)) (one_further c.cursor.rest 0 ∙ e))
+
+entry_spaced : (column : ℕ) (c : Core) → slice_index c.cursor.rest 1 ≡ 32
+    → may_begin_entry (slice_index c.cursor.rest 2) ≡ true
+    → pass_dash (roll column (pass_on 1 c)) ≡ Ok (roll column (pass_on 2 c))
+entry_spaced column c e begins =
+    let s : Cursor = pass 1 c.cursor in
+    let second : may_begin_entry (slice_index s.rest 1) ≡ true = rw (one_further c.cursor.rest 1) begins in
+    ap pass_dash (rolled column s c)
+    ∙ spaced (with_cursor s (roll column c)) (one_further c.cursor.rest 0 ∙ e) second
+    ∙ ap (λ (t : Cursor). Ok (with_cursor t (roll column c))) (twice c.cursor)
+    ∙ ap Ok (sym (rolled column (pass 2 c.cursor) c))
+
+-- the same on the whole state, where the two characters were passed before
+pub entered_spaced : (column : ℕ) (s t : State) → ((slice_index s.core.cursor.rest 1 == 32)
+    && may_begin_entry (slice_index s.core.cursor.rest 2)) ≡ true → t ≡ with_core (pass_on 2 s.core) s
+    → on_core (Ok (roll column t.core)) t.queue ≡ on_core (pass_dash (roll column (pass_on 1 s.core))) s.queue
+entered_spaced column s t told passed =
+    let x = slice_index s.core.cursor.rest 1 in
+    let begins = may_begin_entry (slice_index s.core.cursor.rest 2) in
+    let whole = entry_spaced column s.core (eqb-true x 32 (and_true_left (x == 32) begins told))
+    (and_true_right (x == 32) begins told) in
+    rw (passed, whole) refl

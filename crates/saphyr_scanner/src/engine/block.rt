@@ -1,8 +1,11 @@
 //! The indicators `-` and `?`: entries of block sequences, and explicit keys (YAML 1.2.2,
 //! 8.2.1, 8.2.2 and 7.4.2).
 
-ghost use Rattle.std.specs.Prelude.{◌≡◌, Ok, ◌<◌, length};
+ghost use Rattle.std.specs.Prelude.{◌≡◌, ◌+◌, ◌^◌, ◌==◌, ◌&&◌, false, IsTrue, Ok, ◌<◌, length, slice_index};
+ghost use Rattle.saphyr_input.specs.Classes.{space};
 ghost use Rattle.saphyr_scanner.specs.Steps.Block as block;
+ghost use Rattle.saphyr_scanner.specs.Steps.Core as spec;
+ghost use Rattle.saphyr_scanner.specs.Steps.Passing as passing;
 ghost use Rattle.saphyr_scanner.specs.Steps.State as spec_state;
 ghost use Rattle.saphyr_scanner.specs.Views.Ahead.{may_begin_entry};
 
@@ -49,7 +52,7 @@ impl<T: Input> Engine<T> {
     // Passes what follows `-` on its line.
     #[inline(always)]
     #[tactic(auto, unfolding(crate::specs::Steps::Block::pass_dash))]
-    fn pass_separation(&mut self) -> Result<(), Stop>
+    fn pass_dash(&mut self) -> Result<(), Stop>
         ensures { CarriesBy block.pass_dash self.old result self.new }
     {
         let found = self.separate()?;
@@ -57,22 +60,57 @@ impl<T: Input> Engine<T> {
         Ok(())
     }
 
-    // The same. For speed it looks first for what mostly is there: a line feed, or a space and then content.
-    #[inline(always)]
-    fn pass_dash(&mut self) -> Result<(), Stop>
-        ensures { CarriesBy block.pass_dash self.old result self.new }
+    // Passes `-` and one character behind it, if that is followed by what most entries begin with. It is separate for
+    // speed: this way the steps over characters are inlined.
+    #[inline(never)]
+    fn passes_spaced_dash(&mut self) -> bool
+        ensures told { result ≡ may_begin_entry (slice_index (state self.old).core.cursor.rest 2) }
+        ensures passed { IsTrue result → state self.new
+            ≡ spec_state.with_core (passing.pass_on 2 (state self.old).core) (state self.old) }
+        ensures same { result ≡ false → state self.new ≡ state self.old }
     {
-        self.reader.load(2);
-        let c = self.reader.input().peek();
-        if c == '\n' {
+        self.reader.load(3);
+        if may_begin_entry(self.reader.input().peek_nth(2)) {
+            self.reader.skip_n_non_blank(2);
+            return true;
+        }
+        false
+    }
+
+    // Passes `-` and the space behind it, if that is followed by what most entries begin with.
+    #[inline(always)]
+    fn passes_dash_and_space(&mut self, next: char) -> bool
+        requires { next ≡ slice_index (state self.old).core.cursor.rest 1 }
+        ensures told { result ≡ ((slice_index (state self.old).core.cursor.rest 1 == space)
+            && may_begin_entry (slice_index (state self.old).core.cursor.rest 2)) }
+        ensures passed { IsTrue result → state self.new
+            ≡ spec_state.with_core (passing.pass_on 2 (state self.old).core) (state self.old) }
+        ensures same { result ≡ false → state self.new ≡ state self.old }
+    {
+        next == ' ' && self.passes_spaced_dash()
+    }
+
+    // Passes `-` and what follows it on its line, and a block sequence begins at its column, if one does.
+    //
+    // For speed the character behind `-` is used, which is known: mostly it is a space before content, or a line feed.
+    #[inline(always)]
+    fn begin_entry(&mut self, next: char, column: usize) -> Result<(), Stop>
+        requires some { 0 < length (state self.old).core.cursor.rest }
+        requires second { next ≡ slice_index (state self.old).core.cursor.rest 1 }
+        requires near { column + 1 < 2 ^ 64 }
+        ensures { CarriesBy (λ c. block.pass_dash (spec.roll column (passing.pass_on 1 c)))
+            self.old result self.new }
+    {
+        if self.passes_dash_and_space(next) {
+            return self.roll(column);
+        }
+        self.reader.skip_non_blank();
+        self.roll(column)?;
+        if next == '\n' {
             self.go_deeper();
             return Ok(());
         }
-        if c == ' ' && may_begin_entry(self.reader.input().peek_nth(1)) {
-            self.reader.skip_blank();
-            return Ok(());
-        }
-        self.pass_separation()
+        self.pass_dash()
     }
 
     // Content on a later line, and flow collections, must be right of the `-`.
@@ -89,8 +127,9 @@ impl<T: Input> Engine<T> {
     // `-`.
     #[inline(always)]
     #[tactic(auto, unfolding(crate::specs::Steps::Block::block_entry_steps, crate::specs::Steps::Block::next_entry))]
-    pub(super) fn fetch_block_entry(&mut self) -> Result<(), Stop>
-        requires { 0 < length (state self.old).core.cursor.rest }
+    pub(super) fn fetch_block_entry(&mut self, next: char) -> Result<(), Stop>
+        requires some { 0 < length (state self.old).core.cursor.rest }
+        requires second { next ≡ slice_index (state self.old).core.cursor.rest 1 }
         ensures { ActsBy block.block_entry_steps self.old result self.new }
     {
         if !self.in_block() {
@@ -103,9 +142,7 @@ impl<T: Input> Engine<T> {
         if self.is_further(start.col) {
             self.put_empty_indicator(start, Indicator::BlockSequenceStart)?;
         }
-        self.reader.skip_non_blank();
-        self.roll(start.col)?;
-        self.pass_dash()?;
+        self.begin_entry(next, start.col)?;
         self.remove_key()?;
         self.key_allowed = true;
         let end = self.reader.mark();

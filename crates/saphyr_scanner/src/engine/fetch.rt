@@ -219,7 +219,7 @@ impl<T: Input> Engine<T> {
             ']' => self.fetch_sequence_end()?,
             '}' => self.fetch_mapping_end()?,
             ',' => self.fetch_flow_entry()?,
-            '-' if is_blank_or_breakz(next) => self.fetch_block_entry()?,
+            '-' if is_blank_or_breakz(next) => self.fetch_block_entry(next)?,
             ':' if is_blank_or_breakz(next) => self.fetch_value()?,
             ':' if self.is_value_adjacent(next) => {
                 if !self.fetches_flow_value(next) {
