@@ -15,4 +15,5 @@ pub mod SpelledWords
 pub mod Spellings
 pub mod Clean
 pub mod Words
+pub mod PairRuns
 pub mod BlankWords

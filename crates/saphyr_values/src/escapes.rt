@@ -9,6 +9,7 @@ use saphyr_input::char_traits::{as_hex, is_hex};
 const LARGEST_CHARACTER: u32 = 0x10FFFF;
 
 /// What a character after a backslash stands for, if the two are a whole escape.
+#[inline(always)]
 #[tactic(auto, unfolding(crate::specs::Escapes::short_escape))]
 pub fn short_escape(name: char) -> Option<char>
     ensures { result ≡ spec.short_escape name }

@@ -7,8 +7,8 @@ mod text;
 mod wide;
 
 use self::text::{
-    ascii_behind, ascii_run, begins_with_2, behind, behind_two_ascii, blank_words, first_byte, is_marker, nth_char, run, run_here,
-    second_char, spaces, split_blanks, split_first, words,
+    ascii_behind, ascii_run, begins_with_2, behind, behind_two_ascii, blank_words, first_byte,
+    is_marker, nth_char, run, run_here, second_char, spaces, split_blanks, split_first, words,
 };
 use crate::char_set::{Alpha, Blank, CharSet, NonBreak, NonSpace, SpacedSet};
 use crate::char_traits::{

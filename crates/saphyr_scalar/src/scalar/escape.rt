@@ -1,15 +1,16 @@
 //! The escapes of double quoted scalars, taken off a text (YAML 1.2.2, 5.7).
 
-ghost use Rattle.std.specs.Prelude.{◌≡◌, ◌≤◌, slice_index};
+ghost use Rattle.std.specs.Prelude.{◌≡◌, ◌≤◌, None, slice_index};
 ghost use Rattle.saphyr_input.specs.Indicators.{backslash};
 ghost use Rattle.saphyr_scalar.specs.Steps.Quoted as spec;
+ghost use Rattle.saphyr_values.specs.Escapes.{short_escape};
 
 use crate::scalar::fault::{FaultText, Refusal};
 use crate::scalar::position::Marker;
 use crate::scalar::reader::Reader;
 use saphyr_input::char_traits::{as_hex, is_hex};
 use saphyr_input::input::Input;
-use saphyr_values::{digit_count, short_escape};
+use saphyr_values::digit_count;
 
 impl<T: Input> Reader<T> {
     ghost use Rattle.saphyr_scalar.specs.Views.Reader.{cursor_of, GivesBy};
@@ -34,17 +35,15 @@ impl<T: Input> Reader<T> {
         Ok(value)
     }
 
-    // Takes an escape off, from its backslash on, and returns its character. Its letter was looked at.
+    // Takes off an escape by number, from its backslash on, and returns its character. Its letter was looked at.
+    #[inline(always)]
     #[tactic(auto, unfolding(crate::specs::Steps::Quoted::escaped_character, crate::specs::Steps::Quoted::escape_of, crate::specs::Steps::Quoted::escape_by_number, crate::specs::Steps::Quoted::character))]
-    pub(crate) fn read_escape(&mut self, letter: char, start: Marker) -> Result<char, Refusal>
+    pub(crate) fn read_long_escape(&mut self, letter: char, start: Marker) -> Result<char, Refusal>
         requires first { slice_index (cursor_of self.old).rest 0 ≡ backslash }
         requires second { letter ≡ slice_index (cursor_of self.old).rest 1 }
+        requires long { short_escape letter ≡ None }
         ensures { GivesBy (spec.escaped_character start) self.old result self.new }
     {
-        if let Some(c) = short_escape(letter) {
-            self.skip_n_non_blank(2);
-            return Ok(c);
-        }
         let Some(count) = digit_count(letter) else {
             return Err(Refusal {
                 text: FaultText::UnknownEscape,

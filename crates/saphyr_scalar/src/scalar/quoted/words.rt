@@ -1,21 +1,22 @@
 //! The words of quoted scalars: characters that stand for themselves, single spaces between them, escapes and doubled
 //! quotes (YAML 1.2.2, 7.3.1, 7.3.2 and 5.7).
 
-ghost use Rattle.std.specs.Prelude.{◌≡◌, ℕ, ◌≤◌, ◌++◌, false, drop, slice_index, string_bytes, IfNone, IfSome, IfOk, None, Ok, OnOk, IsTrue};
+ghost use Rattle.std.specs.Prelude.{◌≡◌, ℕ, ◌≤◌, ◌++◌, false, drop, slice_index, string_bytes, IfSome, IfOk, None, Some, Ok, OnOk, IsTrue, ◌==◌};
 ghost use Rattle.saphyr_input.specs.Places.{TransfersBlankWords, TransfersWords};
+ghost use Rattle.saphyr_input.specs.Indicators.{backslash};
 ghost use Rattle.saphyr_scalar.specs.Steps.Quoted as spec;
 ghost use Rattle.saphyr_scalar.specs.Steps.Sets as sets;
 ghost use Rattle.saphyr_scalar.specs.Views.Cursor.{Cursor};
 ghost use Rattle.saphyr_values.specs.declared.flow.Quote.TheVariants.{Single, Double};
 
 use crate::scalar::byte_sets::{is_in_double, is_in_single};
-use crate::scalar::fault::{Refusal, Stop};
+use crate::scalar::fault::{FaultText, Refusal, Stop};
 use crate::scalar::position::Marker;
 use crate::scalar::reader::Reader;
 use saphyr_input::char_set::{CharSet, SpacedSet};
 use saphyr_input::char_traits::{is_blank_or_breakz, is_break};
 use saphyr_input::input::Input;
-use saphyr_values::Quote;
+use saphyr_values::{Quote, short_escape};
 use std::alloc::AllocError;
 
 // Whether a character between the quotes stands for itself and is no blank.
@@ -34,7 +35,8 @@ fn is_literal(quote: Quote, c: char) -> bool
 // If this is false, neither an escape begins with the character, nor two quotes that stand for one.
 #[inline(always)]
 fn begins_special(quote: Quote, c: char) -> bool
-    ensures { result ≡ false → (start : Marker) (s : Cursor) → c ≡ slice_index s.rest 0
+    ensures mark { result ≡ (c == spec.special_mark quote) }
+    ensures none { result ≡ false → (start : Marker) (s : Cursor) → c ≡ slice_index s.rest 0
         → spec.special quote start s ≡ Ok (None, s) }
 {
     match quote {
@@ -106,7 +108,7 @@ impl SpacedSet for InDouble {
 }
 
 impl<T: Input> Reader<T> {
-    ghost use Rattle.saphyr_scalar.specs.Views.Reader.{cursor_of, loaded, GivesBy, ReadsOn, IsNoLonger};
+    ghost use Rattle.saphyr_scalar.specs.Views.Reader.{cursor_of, loaded, ReadsOn, IsNoLonger, IsShorter};
 
     // Moves words, and single spaces between them, to the end of a text, and returns how many
     // characters. The place stays.
@@ -234,63 +236,126 @@ impl<T: Input> Reader<T> {
         Ok(self.look())
     }
 
-    // Takes off two single quotes that stand for one, if they come next: `c` is the next character.
+    // The character that the next two stand for: an escape of one letter, or two single quotes.
     #[inline(always)]
-    #[tactic(auto, unfolding(crate::specs::Steps::Quoted::special))]
-    fn read_doubled_quote(&mut self, c: char, start: Marker) -> Option<char>
-        requires first { c ≡ slice_index (cursor_of self.old).rest 0 }
-        requires loaded { 1 ≤ loaded self.old }
-        ensures taken { spec.special Single start (cursor_of self.old)
-            ≡ Ok (result, cursor_of self.new) }
-        ensures loaded { IfNone result (1 ≤ loaded self.new) }
+    #[tactic(auto, unfolding(crate::specs::Steps::Quoted::pair))]
+    fn next_pair(&mut self, quote: Quote) -> Option<char>
+        ensures value { result ≡ spec.pair quote (cursor_of self.old).rest }
+        ensures same { cursor_of self.new ≡ cursor_of self.old }
+        ensures loaded { 2 ≤ loaded self.new }
     {
-        if c != '\'' {
-            return None;
-        }
         self.load(2);
-        if !self.input.nth_char_is(1, '\'') {
-            return None;
+        match quote {
+            Quote::Single => match self.input.ascii_behind('\'') {
+                Some('\'') => Some('\''),
+                _ => None,
+            },
+            Quote::Double => match self.input.ascii_behind('\\') {
+                Some(letter) => short_escape(letter),
+                None => None,
+            },
         }
-        self.skip_n_non_blank(2);
-        Some('\'')
     }
 
-    // Takes off an escape, if one comes next: `c` is the next character.
+    // Takes off the next two characters, which stand for `first`, and such pairs right behind them, and moves the
+    // characters that they stand for to the end of a text.
     #[inline(always)]
-    #[tactic(auto, unfolding(crate::specs::Steps::Quoted::special))]
-    fn read_next_escape(&mut self, c: char, start: Marker) -> Result<Option<char>, Refusal>
-        requires first { c ≡ slice_index (cursor_of self.old).rest 0 }
-        requires loaded { 1 ≤ loaded self.old }
-        ensures taken { GivesBy (spec.special Double start) self.old result self.new }
-        ensures loaded { IfOk result (λ read. IfNone read (1 ≤ loaded self.new)) }
+    fn read_pairs(&mut self, quote: Quote, first: char, text: &mut String) -> Result<(), AllocError>
+        requires pair { spec.pair quote (cursor_of self.old).rest ≡ Some first }
+        requires loaded { 2 ≤ loaded self.old }
+        ensures { OnOk result
+            (spec.PairsMoved quote (string_bytes text.old) (string_bytes text.new)
+            (cursor_of self.old) (cursor_of self.new)) }
     {
-        if c != '\\' {
-            return Ok(None);
+        self.input.skip_two_ascii();
+        text.push(first)?;
+        let mut count = 2;
+        while let Some(c) = self.next_pair(quote) {
+            self.input.skip_two_ascii();
+            text.push(c)?;
+            count += 2;
         }
+        self.mark = self.mark.along(count);
+        self.blank_so_far = false;
+        Ok(())
+    }
+
+    // Takes off pairs of single quotes, each of which stands for one, and moves these to the end of a text. Returns
+    // whether there are some.
+    #[inline(always)]
+    fn read_doubled_quotes(&mut self, text: &mut String) -> Result<bool, AllocError>
+        ensures moved { IfOk result (λ some. IsTrue some
+            → spec.PairsMoved Single (string_bytes text.old) (string_bytes text.new)
+            (cursor_of self.old) (cursor_of self.new)) }
+        ensures none { IfOk result (λ some. some ≡ false
+            → (spec.pair Single (cursor_of self.old).rest ≡ None) × (cursor_of self.new ≡ cursor_of self.old)
+            × (string_bytes text.new ≡ string_bytes text.old) × (2 ≤ loaded self.new)) }
+    {
+        let Some(c) = self.next_pair(Quote::Single) else {
+            return Ok(false);
+        };
+        self.read_pairs(Quote::Single, c, text)?;
+        Ok(true)
+    }
+
+    // Takes off an escape, and those of one letter right behind it, and moves the characters that they stand for to the
+    // end of a text. Returns false if a break is escaped, which is left to the gap between two words.
+    #[inline(always)]
+    fn read_escapes(&mut self, start: Marker, text: &mut String) -> Result<bool, Stop>
+        requires { slice_index (cursor_of self.old).rest 0 ≡ backslash }
+        ensures same { (indent : ℕ) → ReadsOn result
+            (spec.with_front (string_bytes text.old)
+            (spec.inner_text_at Double indent start spec.no_gap (cursor_of self.old)))
+            (spec.with_front (string_bytes text.new)
+            (spec.inner_text_at Double indent start spec.no_gap (cursor_of self.new))) }
+        ensures some { IfOk result (λ some. IsTrue some → IsShorter self.old self.new) }
+        ensures none { IfOk result (λ some. some ≡ false
+            → spec.special Double start (cursor_of self.old) ≡ Ok (None, cursor_of self.new)) }
+        ensures loaded { IfOk result (λ some. some ≡ false → 1 ≤ loaded self.new) }
+    {
         self.load(2);
-        let letter = self.input.peek_nth(1);
+        // No escape has another letter.
+        let Some(letter) = self.input.ascii_behind('\\') else {
+            return Err(Stop::Refused(Refusal {
+                text: FaultText::UnknownEscape,
+                mark: start,
+            }));
+        };
         if is_break(letter) {
-            return Ok(None);
+            return Ok(false);
         }
-        Ok(Some(self.read_escape(letter, start)?))
+        if let Some(c) = short_escape(letter) {
+            self.read_pairs(Quote::Double, c, text)?;
+        } else {
+            let c = self.read_long_escape(letter, start)?;
+            text.push(c)?;
+        }
+        Ok(true)
     }
 
-    // Takes off an escape, or two single quotes that stand for one, if they come next: `c` is the next character.
+    // Takes off what stands for other characters, an escape or two single quotes, and more of the kind right behind it,
+    // and moves these characters to the end of a text. Returns whether there is some.
     #[inline(always)]
-    fn read_quoted_special(
+    fn read_specials(
         &mut self,
         quote: Quote,
-        c: char,
         start: Marker,
-    ) -> Result<Option<char>, Refusal>
-        requires first { c ≡ slice_index (cursor_of self.old).rest 0 }
-        requires loaded { 1 ≤ loaded self.old }
-        ensures taken { GivesBy (spec.special quote start) self.old result self.new }
-        ensures loaded { IfOk result (λ read. IfNone read (1 ≤ loaded self.new)) }
+        text: &mut String,
+    ) -> Result<bool, Stop>
+        requires { slice_index (cursor_of self.old).rest 0 ≡ spec.special_mark quote }
+        ensures same { (indent : ℕ) → ReadsOn result
+            (spec.with_front (string_bytes text.old)
+            (spec.inner_text_at quote indent start spec.no_gap (cursor_of self.old)))
+            (spec.with_front (string_bytes text.new)
+            (spec.inner_text_at quote indent start spec.no_gap (cursor_of self.new))) }
+        ensures some { IfOk result (λ some. IsTrue some → IsShorter self.old self.new) }
+        ensures none { IfOk result (λ some. some ≡ false
+            → spec.special quote start (cursor_of self.old) ≡ Ok (None, cursor_of self.new)) }
+        ensures loaded { IfOk result (λ some. some ≡ false → 1 ≤ loaded self.new) }
     {
         match quote {
-            Quote::Single => Ok(self.read_doubled_quote(c, start)),
-            Quote::Double => self.read_next_escape(c, start),
+            Quote::Single => Ok(self.read_doubled_quotes(text)?),
+            Quote::Double => self.read_escapes(start, text),
         }
     }
 
@@ -318,14 +383,13 @@ impl<T: Input> Reader<T> {
         let mut escaped = escaped;
         loop {
             let next = self.read_literal_words(quote, escaped, text)?;
-            // For speed: here the two results of the call below are not needed.
             if !begins_special(quote, next) {
                 return Ok(next);
             }
-            let Some(c) = self.read_quoted_special(quote, next, start)? else {
+            let taken = self.read_specials(quote, start, text)?;
+            if !taken {
                 return Ok(next);
-            };
-            text.push(c)?;
+            }
             escaped = true;
         }
     }
