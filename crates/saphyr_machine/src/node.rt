@@ -52,7 +52,7 @@ impl<T: Input> Machine<T> {
     ghost use Rattle.std.specs.Prelude.{ℕ, Ok};
     ghost use Rattle.saphyr_scalar.specs.Views.Reader.{Moves};
     ghost use Rattle.saphyr_scanner.specs.Views.Tokens.{piece};
-    ghost use Rattle.saphyr_machine.specs.Views.Machines.{machine_of, told_event_of, TellsBy};
+    ghost use Rattle.saphyr_machine.specs.Views.Machines.{machine_of, resolved_tag, told_event_of, TellsBy};
     ghost use Rattle.saphyr_machine.specs.Views.Nodes.{properties as seen};
     ghost use Rattle.saphyr_machine.specs.Steps.Machine.{Machine as Seen, next_id};
 
@@ -118,6 +118,26 @@ impl<T: Input> Machine<T> {
         tell(next, Event::MappingStart(anchor, tag), span);
     }
 
+    // A scalar with these properties.
+    #[inline(always)]
+    fn tell_scalar<'input>(
+        &mut self,
+        text: String,
+        style: ScalarStyle,
+        properties: Properties,
+        end: Marker,
+        next: &mut (Event<'input>, Span),
+    )
+        ensures { told_event_of (machine_of self.new) next.new
+            ≡ spec.told_scalar (string_bytes text) style (seen properties) end (machine_of self.old) }
+    {
+        self.pop();
+        let span = properties.up_to(end);
+        let Properties { anchor, tag, .. } = properties;
+        let event = Event::Scalar(CowStr::Owned(text), style, anchor, tag);
+        tell(next, event, span);
+    }
+
     // The content of a node begins with the token.
     #[inline(always)]
     #[tactic(auto, unfolding(crate::specs::Steps::Nodes::node_content))]
@@ -135,14 +155,7 @@ impl<T: Input> Machine<T> {
         let Token { span, kind } = token;
         match kind {
             TokenType::Scalar(style, text) => {
-                self.pop();
-                let span = properties.up_to(span.end);
-                let Properties { anchor, tag, .. } = properties;
-                tell(
-                    next,
-                    Event::Scalar(CowStr::Owned(text), style, anchor, tag),
-                    span,
-                );
+                self.tell_scalar(text, style, properties, span.end, next);
                 Ok(())
             }
             TokenType::FlowSequenceStart => {
@@ -171,7 +184,7 @@ impl<T: Input> Machine<T> {
     }
 
     // The content of a node after its properties.
-    #[tactic(auto, unfolding(crate::specs::Steps::Nodes::next_content))]
+    #[tactic(auto, unfolding(crate::specs::Steps::Nodes::next_content, crate::specs::Steps::Nodes::node_content))]
     fn next_content<'input>(
         &mut self,
         properties: Properties,
@@ -181,12 +194,19 @@ impl<T: Input> Machine<T> {
         ensures { TellsBy (spec.next_content (seen properties) context)
             self.old result next.new self.new }
     {
-        match self.take() {
-            Ok(token) => self.content(properties, context, token, next),
+        let Token { span, kind } = match self.take() {
+            Ok(token) => token,
             Err(stop) => {
                 drop(properties);
-                Err(stop)
+                return Err(stop);
             }
+        };
+        match kind {
+            TokenType::Scalar(style, text) => {
+                self.tell_scalar(text, style, properties, span.end, next);
+                Ok(())
+            }
+            kind => self.content(properties, context, Token { span, kind }, next),
         }
     }
 
@@ -217,6 +237,16 @@ impl<T: Input> Machine<T> {
         Ok(id)
     }
 
+    // The alias of the node that has this id.
+    #[inline(always)]
+    fn tell_alias<'input>(&mut self, id: usize, span: Span, next: &mut (Event<'input>, Span))
+        ensures { told_event_of (machine_of self.new) next.new
+            ≡ spec.told_alias id span (machine_of self.old) }
+    {
+        self.pop();
+        tell(next, Event::Alias(id), span);
+    }
+
     #[tactic(auto, unfolding(crate::specs::Steps::Nodes::alias_node))]
     fn alias<'input>(
         &mut self,
@@ -230,8 +260,7 @@ impl<T: Input> Machine<T> {
         match self.anchors.id_of(name.as_str())? {
             Some(id) => {
                 self.scanner.give_back(name);
-                self.pop();
-                tell(next, Event::Alias(id), span);
+                self.tell_alias(id, span, next);
                 Ok(())
             }
             None => Err(refuse(FaultText::UnknownAnchor, span.start)),
@@ -251,7 +280,58 @@ impl<T: Input> Machine<T> {
             self.old result next.new self.new }
     {
         let id = self.id_for(name)?;
-        let Token { span, kind } = self.take()?;
+        let token = self.take()?;
+        self.behind_id(id, anchor, context, token, next)
+    }
+
+    // A node whose anchor has this id, and that goes on with the token. Mostly that is a scalar, for which no
+    // `Properties` are made.
+    #[inline(always)]
+    #[tactic(auto, unfolding(crate::specs::Steps::Nodes::node_content))]
+    fn behind_id<'input>(
+        &mut self,
+        id: usize,
+        anchor: Span,
+        context: NodeContext,
+        token: Token,
+        next: &mut (Event<'input>, Span),
+    ) -> Result<(), Stop>
+        requires { self.old.token ≡ None }
+        ensures { TellsBy
+            (spec.node_behind_anchor_at (piece token).kind id anchor context (piece token))
+            self.old result next.new self.new }
+    {
+        let Token { span, kind } = token;
+        match kind {
+            TokenType::Scalar(style, text) => {
+                let event = Event::Scalar(CowStr::Owned(text), style, id, None);
+                let start = anchor.start;
+                let end = span.end;
+                self.pop();
+                tell(next, event, Span { start, end });
+                Ok(())
+            }
+            kind => self.rare_behind_id(id, anchor, context, Token { span, kind }, next),
+        }
+    }
+
+    // The same for any token. It is separate for speed: the places for the results of its calls are not cleared for a
+    // scalar.
+    #[inline(always)]
+    fn rare_behind_id<'input>(
+        &mut self,
+        id: usize,
+        anchor: Span,
+        context: NodeContext,
+        token: Token,
+        next: &mut (Event<'input>, Span),
+    ) -> Result<(), Stop>
+        requires { self.old.token ≡ None }
+        ensures { TellsBy
+            (spec.node_behind_anchor_at (piece token).kind id anchor context (piece token))
+            self.old result next.new self.new }
+    {
+        let Token { span, kind } = token;
         match kind {
             TokenType::Tag(tag) => {
                 let tag = self.unboxed(tag);
@@ -290,13 +370,62 @@ impl<T: Input> Machine<T> {
             self.old result next.new self.new }
     {
         let tag = self.resolve(tag, place.start)?;
-        let Token { span, kind } = match self.take() {
-            Ok(token) => token,
+        match self.take() {
+            Ok(token) => self.behind_resolved(tag, place, context, token, next),
             Err(stop) => {
                 drop(tag);
-                return Err(stop);
+                Err(stop)
             }
-        };
+        }
+    }
+
+    // A node whose tag is resolved, and that goes on with the token. Mostly that is a scalar, for which no
+    // `Properties` are made.
+    #[inline(always)]
+    #[tactic(auto, unfolding(crate::specs::Steps::Nodes::node_content))]
+    fn behind_resolved<'input>(
+        &mut self,
+        tag: Tag,
+        place: Span,
+        context: NodeContext,
+        token: Token,
+        next: &mut (Event<'input>, Span),
+    ) -> Result<(), Stop>
+        requires { self.old.token ≡ None }
+        ensures { TellsBy
+            (spec.node_behind_tag_at (piece token).kind (resolved_tag tag) place context (piece token))
+            self.old result next.new self.new }
+    {
+        let Token { span, kind } = token;
+        match kind {
+            TokenType::Scalar(style, text) => {
+                let event = Event::Scalar(CowStr::Owned(text), style, 0, Some(tag));
+                let start = place.start;
+                let end = span.end;
+                self.pop();
+                tell(next, event, Span { start, end });
+                Ok(())
+            }
+            kind => self.rare_behind_resolved(tag, place, context, Token { span, kind }, next),
+        }
+    }
+
+    // The same for any token, separate for speed.
+    #[inline(always)]
+    fn rare_behind_resolved<'input>(
+        &mut self,
+        tag: Tag,
+        place: Span,
+        context: NodeContext,
+        token: Token,
+        next: &mut (Event<'input>, Span),
+    ) -> Result<(), Stop>
+        requires { self.old.token ≡ None }
+        ensures { TellsBy
+            (spec.node_behind_tag_at (piece token).kind (resolved_tag tag) place context (piece token))
+            self.old result next.new self.new }
+    {
+        let Token { span, kind } = token;
         match kind {
             TokenType::Anchor(name) => match self.id_for(name) {
                 Ok(anchor) => {

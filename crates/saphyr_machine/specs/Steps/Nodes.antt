@@ -2,6 +2,7 @@
 use Rattle.std.specs.Prelude.{ℕ, Bool, nat_lt, ◌||◌, is_some, if◌then◌else◌, List, [], Option, Some, None, Result, Ok, Err}
 use Rattle.saphyr_scalar.specs.declared.scalar.position.Marker.{Marker}
 use Rattle.saphyr_scalar.specs.declared.scalar.position.Span.{Span}
+use Rattle.saphyr_scalar.specs.declared.scalar.style.ScalarStyle.{ScalarStyle}
 use Rattle.saphyr_scalar.specs.declared.scalar.style.ScalarStyle.TheVariants.{Plain}
 use Rattle.saphyr_scalar.specs.declared.scalar.fault.Refusal.{Refusal}
 use Rattle.saphyr_scalar.specs.declared.scalar.fault.FaultText.TheVariants as fault
@@ -54,6 +55,13 @@ sequence_opening s p t m = Ok (opened_sequence s p t.span.end m)
 
 abbrev pub mapping_opening : State → NodeProperties → Piece → Machine → Result Told Refusal
 mapping_opening s p t m = Ok (opened_mapping s p t.span.end m)
+
+abbrev pub told_scalar : List ℕ → ScalarStyle → NodeProperties → Marker → Machine → Told
+told_scalar text style p place m =
+    record { what = events.Scalar text style p.anchor p.tag; span = span_up_to p place; machine = pop m }
+
+abbrev pub told_alias : ℕ → Span → Machine → Told
+told_alias id s m = record { what = events.Alias id; span = s; machine = pop m }
 
 -- the content of a node begins with the token
 abbrev pub node_content_at : Kind → NodeProperties → NodeContext → Piece → Machine → Result Told Refusal
