@@ -1,11 +1,11 @@
 -- Words of a plain scalar, and single spaces between them, taken off in one piece.
 use Rattle.std.proofs.Common.{◌≡◌, ◌≢◌, add-zero, ℕ, zero, suc, ◌+◌, ◌^◌, ◌<◌, ◌≤◌, Bool, true, false, List, [], ◌∷◌, ◌++◌, length, length-drop, take, drop, slice_index, Result, Ok, refl, sym, ap, ◌∙◌, arith, encode_utf8_all, cond}
-use Rattle.std.specs.Prelude.{◌&&◌, ◌||◌, ◌==◌, not, encode_utf8}
+use Rattle.std.specs.Prelude.{◌&&◌, ◌||◌, ◌==◌, not, nat_lt, encode_utf8}
 use Rattle.std.specs.List.{prefix_len}
 use Rattle.std.proofs.lemmas.Bool.Decides.{nat_tests}
 use Rattle.std.proofs.lemmas.List.{append-nil, drop-drop}
 use Rattle.std.proofs.lemmas.Bool.{not-true}
-use Rattle.saphyr_input.specs.Indicators.{hyphen, number_sign}
+use Rattle.saphyr_input.specs.Indicators.{full_stop, hyphen, number_sign}
 use Rattle.saphyr_input.specs.Classes.{is_blank, is_break, is_bom, is_flow, is_blank_or_breakz}
 use Rattle.saphyr_input.specs.Places.{is_document_indicator, words_len, Transfers, TransfersWords}
 use Rattle.saphyr_input.proofs.WordRuns.{words_within}
@@ -14,13 +14,13 @@ use Rattle.saphyr_scalar.specs.declared.scalar.fault.Refusal.{Refusal}
 use Rattle.saphyr_scalar.specs.Views.Cursor.{Cursor, along}
 use Rattle.saphyr_scalar.specs.Steps.Plain.{is_in_word, word_starts, next_word_starts, gap_from, gap, PlainGap, with_text, word, colons_len, TransfersColons, PlainWordsMoved, seen_gap}
 use Rattle.saphyr_scalar.specs.Steps.Quoted.{mid_line}
-use Rattle.saphyr_scalar.specs.Steps.Sets.{in_plain, leads_plain}
+use Rattle.saphyr_scalar.specs.Steps.Sets.{in_plain, leads_plain, begins_any_plain}
 use Rattle.saphyr_scalar.proofs.Moving.{along_none, along_more}
 use Rattle.saphyr_scalar.proofs.Plain.Pieces.{word_over, word_on, text_twice, WordPart, no_part}
 use Rattle.saphyr_scalar.proofs.Plain.Colons.{colons_within, colons_piece, word_over_set}
 use Rattle.saphyr_scalar.proofs.Quoted.Inside.{Moved, IsQuotedInk, content_of}
 use Rattle.saphyr_scalar.proofs.Quoted.Words.{both_true}
-use Rattle.saphyr_input.proofs.Basics.Booleans.{by_test, either}
+use Rattle.saphyr_input.proofs.Basics.Booleans.{and_false, by_test, either}
 
 -- a character of the set goes on with a word
 pub set_in_word : (f : Bool) (xs : List ℕ) → in_plain f (slice_index xs 0) ≡ true → is_in_word f xs ≡ true
@@ -99,6 +99,35 @@ word_goes f i m cs l s =
 space_goes : (f : Bool) (i : ℕ) (m : Marker) (cs : List ℕ) → LeadsWord f cs
     → next_word_starts f i (mid_line (along m 1) cs) ≡ answer true (mid_line (along m 1) cs)
 space_goes f i m cs s = word_goes f i (along m 1) cs (omega arith) s
+
+-- Where a word begins with such a character, nothing else about the place matters.
+
+no_marker : (xs : List ℕ) → (slice_index xs 0 == hyphen) ≡ false → (slice_index xs 0 == full_stop) ≡ false
+    → is_document_indicator xs ≡ false
+no_marker xs dash stop = rw (dash, stop) refl
+
+in_any : (f : Bool) (c : ℕ) → in_plain true c ≡ true → in_plain f c ≡ true
+in_any f c h = all (c == 58) (is_blank_or_breakz c) (is_bom c) (is_flow c) h
+  where
+    all : (a b d e : Bool) → (not a && not b && not d && not (true && e)) ≡ true
+        → (not a && not b && not d && not (f && e)) ≡ true
+    all a b d e h = grind arith
+
+pub any_word_begins : (f : Bool) (s t : Cursor) (c : ℕ) (b : Bool) → c ≡ slice_index t.rest 0 → t ≡ s
+    → b ≡ begins_any_plain c → b ≡ true → word_starts f s ≡ answer true t
+unfolding word_starts
+any_word_begins f s t c b read same is goes =
+    let two = both_true (nat_lt 47 c && nat_lt c 128) (in_plain true c) (sym is ∙ goes) in
+    let above = both_true (nat_lt 47 c) (nat_lt c 128) two.0 in
+    let first : c ≡ slice_index s.rest 0 = read ∙ ap (λ (x : Cursor). slice_index x.rest 0) same in
+    let hash : (c == 35) ≡ false = grind (arith, nat_tests) in
+    let dash : (c == 45) ≡ false = grind (arith, nat_tests) in
+    let stop : (c == 46) ≡ false = grind (arith, nat_tests) in
+    let hash_there : (slice_index s.rest 0 == 35) ≡ false = rw first at hash in
+    let dash_there : (slice_index s.rest 0 == 45) ≡ false = rw first at dash in
+    let marker = no_marker s.rest dash_there (rw first at stop) in
+    let on = set_in_word f s.rest (rw first at (in_any f c two.1)) in
+    rw (hash_there, marker, and_false (s.mark.col == 0), dash_there, and_false f, on, same) refl
 
 -- a character is passed
 abbrev pub PassesCharacter : Bool → ℕ → Marker → Marker → ℕ → List ℕ → Type 0

@@ -1,5 +1,5 @@
 -- Sets of characters whose runs scalars, names and tags take off in one piece.
-use Rattle.std.specs.Prelude.{◌≡◌, ℕ, Bool, false, ◌&&◌, ◌==◌, not, refl}
+use Rattle.std.specs.Prelude.{◌≡◌, ℕ, Bool, true, false, ◌&&◌, ◌==◌, not, nat_lt, refl}
 use Rattle.saphyr_input.specs.Classes.{is_blank_or_breakz, is_bom, is_flow}
 use Rattle.saphyr_input.specs.Indicators.{colon, hyphen, number_sign, percent_sign}
 use Rattle.saphyr_scalar.specs.declared.scalar.tag.UriSet.{UriSet}
@@ -19,6 +19,11 @@ in_plain in_flow c = not (c == colon) && not (is_blank_or_breakz c) && not (is_b
 -- and with such a one after a space: neither a comment nor a lone `-` begins there
 abbrev pub leads_plain : Bool → ℕ → Bool
 leads_plain in_flow c = in_plain in_flow c && not (c == number_sign) && not (c == hyphen)
+
+-- With such a one a word begins wherever it is, inside flow and outside: an ASCII character above `/`, where `#`, `-`
+-- and `.` are not.
+abbrev pub begins_any_plain : ℕ → Bool
+begins_any_plain c = nat_lt 47 c && nat_lt c 128 && in_plain true c
 
 -- a character of a URI, and of a tag's suffix, that begins no escape
 abbrev pub is_bare : UriSet → ℕ → Bool

@@ -78,6 +78,14 @@ impl SpacedSet for PlainInFlow {
     }
 }
 
+// Whether this is one of the characters with which a word begins wherever it is. Most words begin with one.
+#[inline(always)]
+fn begins_any_word(c: char) -> bool
+    ensures { result ≡ sets.begins_any_plain c }
+{
+    c > '/' && c <= '\x7F' && is_in_plain_in_flow(c as u8)
+}
+
 // Whether a word goes on with a colon before this character.
 #[inline(always)]
 fn is_colon_in_word(next: char, in_flow: bool) -> bool
@@ -106,6 +114,9 @@ impl<T: Input> Reader<T> {
     {
         self.load(4);
         let c = self.input.peek();
+        if begins_any_word(c) {
+            return Ok(true);
+        }
         if c == '#' || self.mark.col == 0 && self.input.next_is_document_indicator() {
             return Ok(false);
         }
