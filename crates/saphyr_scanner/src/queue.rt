@@ -57,7 +57,7 @@ impl Queue {
     ghost use Rattle.saphyr_scanner.specs.Views.Tokens.{piece};
     ghost use Rattle.saphyr_scanner.specs.Views.Places.{indicator_kind};
     ghost use Rattle.saphyr_scanner.specs.Views.Reads.{flow_double_quoted, queue_with_scalar};
-    ghost use Rattle.saphyr_scanner.specs.Views.Queue.{queue, with_block_ends, TakesOffBy};
+    ghost use Rattle.saphyr_scanner.specs.Views.Queue.{queue, with_block_ends, HoldsNone, TakesOffBy};
     ghost use Rattle.std.specs.Prelude.{◌<◌};
 
     pub(crate) fn new(alloc: Global) -> Self
@@ -143,6 +143,19 @@ impl Queue {
         if self.second.count > 0 || !self.held.is_empty() {
             return self.put_scalar_behind(&span, style, text, spare);
         }
+        self.put_scalar_in_front(span, style, text);
+        Ok(())
+    }
+
+    /// The same where no token is held.
+    #[inline(always)]
+    #[tactic(auto, using(crate::proofs::Rows::put_in_second))]
+    pub(crate) fn put_scalar_in_front(&mut self, span: Span, style: ScalarStyle, text: String)
+        requires { HoldsNone self.old }
+        ensures { queue self.new ≡ spec.with_piece
+            (record { span = span; kind = tokens.Scalar style (string_bytes text) })
+            (queue self.old) }
+    {
         let kind = TokenType::Scalar(style, text);
         let token = Token { span, kind };
         if self.first.count > 0 {
@@ -150,7 +163,6 @@ impl Queue {
         } else {
             self.first.put(token);
         }
-        Ok(())
     }
 
     // The same after tokens that are held.
@@ -172,7 +184,9 @@ impl Queue {
 
     /// Whether the next token will be held after others. Then a scalar is best read where its text is held.
     #[inline(always)]
-    pub(crate) fn is_holding(&self) -> bool {
+    pub(crate) fn is_holding(&self) -> bool
+        ensures { result ≡ false → HoldsNone self.now }
+    {
         self.second.count > 0 || !self.held.is_empty()
     }
 

@@ -1,5 +1,5 @@
 -- What contracts see of the queue.
-use Rattle.std.specs.Prelude.{drop, List, ◌∷◌, ℕ, zero, suc, Bool, Option, option_map, Result, Ok}
+use Rattle.std.specs.Prelude.{◌≡◌, [], drop, List, ◌∷◌, ℕ, zero, suc, Bool, Option, option_map, Result, Ok}
 use Rattle.saphyr_scalar.specs.declared.scalar.fault.Stop.{Stop}
 use Rattle.saphyr_scalar.specs.declared.scalar.position.Marker.{Marker}
 use Rattle.saphyr_scanner.specs.declared.queue.held.Held.{Held}
@@ -33,6 +33,10 @@ held_places h = places_at (drop h.spent h.places.items) h.aside
 
 abbrev pub queue : declared_queue.Queue → Queue
 queue q = record { places = in_row q.first (in_row q.second (held_places q.held)); handed = q.handed }
+
+-- No token is held but one in the first row.
+abbrev pub HoldsNone : declared_queue.Queue → Type 0
+HoldsNone q = (q.second.count ≡ 0) × (held_places q.held ≡ [])
 
 -- the queue after so many block collections ended at a place
 abbrev pub with_block_ends : ℕ → Marker → Queue → Queue

@@ -11,7 +11,7 @@ use crate::engine::Engine;
 use crate::token::TokenType;
 use saphyr_input::char_traits::is_breakz;
 use saphyr_input::input::Input;
-use saphyr_scalar::{FaultText, Marker, ScalarStyle, Stop};
+use saphyr_scalar::{FaultText, Marker, ScalarStyle, Span, Stop};
 use saphyr_values::BlockStyle;
 
 impl<T: Input> Engine<T> {
@@ -169,7 +169,9 @@ impl<T: Input> Engine<T> {
         let scalar = self.reader.read_plain(self.alloc, in_flow, self.indent)?;
         self.key_allowed = self.reader.blank_so_far();
         self.comment = scalar.comment;
-        self.put_scalar(start, scalar.end, ScalarStyle::Plain, scalar.text)?;
+        let span = Span::new(start, scalar.end);
+        self.queue
+            .put_scalar_in_front(span, ScalarStyle::Plain, scalar.text);
         Ok(())
     }
 
