@@ -58,6 +58,20 @@ pub(super) fn write_number<W: Write>(out: &mut W, number: u128) -> Result<(), Un
     write_all(out, &digit)
 }
 
+// The letter that follows the backslash for each byte that is escaped, and 0 for each other one. A look at a table takes
+// fewer instructions than comparisons.
+const LETTERS: [u8; 256] = [
+    0, 0, 0, 0, 0, 0, 0, 0, 98, 116, 110, 0, 0, 114, 0, 0, 0, 0, 0, 0, 0, 0, 0, 0, 0, 0, 0, 0, 0,
+    0, 0, 0, 0, 0, 0, 0, 0, 0, 0, 0, 0, 0, 0, 0, 0, 0, 0, 0, 0, 0, 0, 0, 0, 0, 0, 0, 0, 0, 0, 0, 0,
+    0, 0, 0, 0, 0, 0, 0, 0, 0, 0, 0, 0, 0, 0, 0, 0, 0, 0, 0, 0, 0, 0, 0, 0, 0, 0, 0, 0, 0, 0, 0,
+    92, 0, 0, 0, 0, 0, 0, 0, 0, 0, 0, 0, 0, 0, 0, 0, 0, 0, 0, 0, 0, 0, 0, 0, 0, 0, 0, 0, 0, 0, 0,
+    0, 0, 0, 0, 0, 0, 0, 0, 0, 0, 0, 0, 0, 0, 0, 0, 0, 0, 0, 0, 0, 0, 0, 0, 0, 0, 0, 0, 0, 0, 0, 0,
+    0, 0, 0, 0, 0, 0, 0, 0, 0, 0, 0, 0, 0, 0, 0, 0, 0, 0, 0, 0, 0, 0, 0, 0, 0, 0, 0, 0, 0, 0, 0, 0,
+    0, 0, 0, 0, 0, 0, 0, 0, 0, 0, 0, 0, 0, 0, 0, 0, 0, 0, 0, 0, 0, 0, 0, 0, 0, 0, 0, 0, 0, 0, 0, 0,
+    0, 0, 0, 0, 0, 0, 0, 0, 0, 0, 0, 0, 0, 0, 0, 0, 0, 0, 0, 0, 0, 0, 0, 0, 0, 0, 0, 0, 0, 0, 0, 0,
+    0, 0, 0, 0, 0,
+];
+
 // Whether a byte of a scalar's text may need an escape. It is also true for some rare bytes that need none.
 #[inline]
 fn is_escaped(byte: u8) -> bool
@@ -138,14 +152,8 @@ fn letter_of(byte: u8) -> Option<u8>
     ensures letter { IfSome result (λ letter. printed_byte byte ≡ backslash ∷ (letter ∷ [])) }
     ensures none { IfNone result (printed_byte byte ≡ byte ∷ []) }
 {
-    match byte {
-        b'\\' => Some(b'\\'),
-        b'\n' => Some(b'n'),
-        b'\r' => Some(b'r'),
-        b'\t' => Some(b't'),
-        8 => Some(b'b'),
-        _ => None,
-    }
+    let letter = LETTERS[byte as usize];
+    if letter == 0 { None } else { Some(letter) }
 }
 
 // Puts the escapes of the first bytes into the room, with up to 8 bytes behind each that aren't escaped. Returns of
