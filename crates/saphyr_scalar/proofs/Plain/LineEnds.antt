@@ -1,5 +1,5 @@
 -- Where a word of a plain scalar ends its line, and what is left after that.
-use Rattle.std.proofs.Common.{◌≡◌, ℕ, Bool, true, false, List, [], ◌∷◌, ◌++◌, slice_index, Result, Ok, refl, sym, ap, ◌∙◌}
+use Rattle.std.proofs.Common.{◌≡◌, ℕ, ◌-◌, ◌^◌, Bool, true, false, List, [], ◌∷◌, ◌++◌, slice_index, Result, Ok, refl, sym, ap, ◌∙◌}
 use Rattle.std.specs.Prelude.{◌&&◌, ◌==◌, not, nat_lt, None, if◌then◌else◌}
 use Rattle.std.proofs.lemmas.List.{append-nil}
 use Rattle.std.proofs.lemmas.Bool.{not-true}
@@ -14,13 +14,13 @@ use Rattle.saphyr_scalar.proofs.Plain.Gaps.{lines_read}
 use Rattle.saphyr_scalar.specs.Views.Cursor.{Cursor, ◌>>=◌, pass_break, pass_spaces}
 use Rattle.saphyr_scalar.specs.Steps.Plain.{is_in_word, PlainGap, seen_gap, gap_text, line_front, lines, folded_gap, next_lines, gap_from, gap, next_word_starts, comment_of, with_text, scalar_end, word, content_behind_tab}
 use Rattle.saphyr_scalar.specs.Steps.Quoted.{with_run}
-use Rattle.saphyr_scalar.specs.Steps.PlainLines.{scalar_behind_line, is_left_of_scalar}
+use Rattle.saphyr_scalar.specs.Steps.PlainLines.{scalar_behind_line, is_left_of_scalar, behind_break, ends_at_once}
 use Rattle.saphyr_scalar.proofs.NoSeparation.{no_run}
 use Rattle.saphyr_scalar.proofs.Quoted.Inside.{break_cases}
 use Rattle.saphyr_scalar.proofs.Quoted.Gaps.{by_break_len}
 use Rattle.saphyr_scalar.proofs.SpaceRuns.{lines_over}
 use Rattle.saphyr_scalar.proofs.Plain.Pieces.{plain_behind_gap, moved_behind_word, goes_says, text_twice}
-use Rattle.saphyr_scalar.proofs.Plain.WordEnds.{none_moved, none_passed}
+use Rattle.saphyr_scalar.proofs.Plain.WordEnds.{none_moved, none_passed, scalar_ends}
 
 no_blanks : (s : Cursor) → s.blank_so_far ≡ false → is_blank (slice_index s.rest 0) ≡ false
     → with_run is_blank [] s ≡ ([], s)
@@ -105,6 +105,46 @@ left_ends f i a end text u blank left =
     (line_there i a u.mark u.rest ink ∙ ap (λ x. Ok (seen_gap false [] x)) (same_line_front u blank))
     ∙ gap_no_turn f i a end text g u (not_on f i u blank all.0 all.1)
     ∙ ap (λ x. Ok (text, end, x, u)) (no_comment f u blank)
+
+-- Where a word ended at s, u is behind a break that comes there, and the spaces after it.
+
+pub stays_there : (s u : Cursor) → is_break (slice_index s.rest 0) ≡ false → u ≡ behind_break s → u ≡ s
+stays_there s u none at = at ∙ ap (λ (d : Bool). if d then pass_spaces (2 ^ 64 - 1) (pass_break s) else s) none
+
+pub passes_break : (s u : Cursor) → is_break (slice_index s.rest 0) ≡ true → u ≡ behind_break s
+    → u ≡ pass_spaces (2 ^ 64 - 1) (pass_break s)
+passes_break s u breaks at =
+    at ∙ ap (λ (d : Bool). if d then pass_spaces (2 ^ 64 - 1) (pass_break s) else s) breaks
+
+pub blank_there : (s u : Cursor) → is_break (slice_index s.rest 0) ≡ true → u ≡ behind_break s → u.blank_so_far ≡ true
+blank_there s u breaks at = ap (λ (x : Cursor). x.blank_so_far) (passes_break s u breaks at) ∙ break_begins s breaks
+
+pub word_to_break : (f : Bool) (i : ℕ) (a : Marker) (text : List ℕ) (s u : Cursor) → is_in_word f s.rest ≡ false
+    → s.blank_so_far ≡ false → is_break (slice_index s.rest 0) ≡ true → u ≡ behind_break s
+    → with_text text (scalar_behind_line f i a s.mark u) ≡ with_text text (word f i a s.mark s.rest)
+word_to_break f i a text s u ends line breaks at =
+    word_to_line f i a text _ s (pass_break s) u ends line breaks refl (passes_break s u breaks at)
+
+pub ended_at_once : (f : Bool) (i : ℕ) (a : Marker) (text : List ℕ) (s u : Cursor) (b : Bool)
+    → is_in_word f s.rest ≡ false → s.blank_so_far ≡ false → b ≡ ends_at_once f i s → b ≡ true → u ≡ behind_break s
+    → with_text text (word f i a s.mark s.rest) ≡ Ok (text, s.mark, None, u)
+ended_at_once f i a text s u b ends line is over at = by_break (is_break (slice_index s.rest 0)) refl
+  where
+    ends_by : Bool → Bool
+    ends_by d = if d then is_left_of_scalar f i (behind_break s) else not (is_blank (slice_index s.rest 0))
+
+    left : is_break (slice_index s.rest 0) ≡ true → is_left_of_scalar f i (behind_break s) ≡ true
+    left e = sym (ap ends_by e) ∙ sym is ∙ over
+
+    ink : is_break (slice_index s.rest 0) ≡ false → is_blank_or_break (slice_index s.rest 0) ≡ false
+    ink e = rw (e, not-true (is_blank (slice_index s.rest 0)) (sym (ap ends_by e) ∙ sym is ∙ over)) refl
+
+    by_break : (d : Bool) → is_break (slice_index s.rest 0) ≡ d
+        → with_text text (word f i a s.mark s.rest) ≡ Ok (text, s.mark, None, u)
+    by_break true e = sym (word_to_break f i a text s u ends line e at)
+        ∙ left_ends f i a s.mark text u (blank_there s u e at) (ap (is_left_of_scalar f i) at ∙ left e)
+    by_break false e = scalar_ends f i a text s ends line (ink e)
+        ∙ ap (λ x. Ok (text, s.mark, None, x)) (sym (stays_there s u e at))
 
 -- A gap of a break, spaces and maybe more lines: u looked at the break, v is behind the spaces.
 

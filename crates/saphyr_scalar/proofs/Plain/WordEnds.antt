@@ -47,7 +47,7 @@ unfolding comment_of
 no_comment f s ends = by_test (slice_index s.rest 0 == 35) true false (λ _. comment_of f false s ≡ None) (λ is.
     let goes = hash_in_word f s.rest (grind (arith, nat_tests)) in absurd (cc)) (λ is. rw (is, and_false (not f)) refl)
 
-scalar_ends : (f : Bool) (i : ℕ) (a : Marker) (text : List ℕ) (s : Cursor) → is_in_word f s.rest ≡ false
+pub scalar_ends : (f : Bool) (i : ℕ) (a : Marker) (text : List ℕ) (s : Cursor) → is_in_word f s.rest ≡ false
     → s.blank_so_far ≡ false → is_blank_or_break (slice_index s.rest 0) ≡ false
     → with_text text (word f i a s.mark s.rest) ≡ Ok (text, s.mark, None, s)
 scalar_ends f i a text s ends line ink =

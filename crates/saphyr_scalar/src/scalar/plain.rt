@@ -4,7 +4,6 @@ mod gap;
 mod words;
 
 ghost use Rattle.std.specs.Prelude.{◌≡◌, ◌≤◌, slice_index, string_bytes, false, true};
-ghost use Rattle.saphyr_input.specs.Classes as class;
 ghost use Rattle.saphyr_scalar.specs.Steps.Plain as spec;
 ghost use Rattle.saphyr_scalar.specs.Steps.PlainLines as lines;
 
@@ -142,38 +141,21 @@ impl<T: Input> Reader<T> {
         !in_flow && self.mark.col < indent && !is_blank_or_break(c)
     }
 
-    // Moves what is left of a plain scalar after a word that ends at the break `c`, as `read_plain_rest` does.
-    // Mostly the next line begins left of `indent`: then nothing is left.
+    // Whether a plain scalar ends with the word before `c`, the first character, as most do: `c` is neither a blank nor
+    // a break, or it is a break and the next line begins left of `indent`. Takes off a break and the spaces after it.
     #[inline(always)]
-    fn read_plain_break(
-        &mut self,
-        alloc: Global,
-        in_flow: bool,
-        indent: usize,
-        start: Marker,
-        c: char,
-        text: String,
-    ) -> Result<PlainScalar, Stop>
-        requires ended { spec.is_in_word in_flow (cursor_of self.old).rest ≡ false }
-        requires on_line { (cursor_of self.old).blank_so_far ≡ false }
+    fn ends_plain(&mut self, c: char, in_flow: bool, indent: usize) -> bool
         requires first { c ≡ slice_index (cursor_of self.old).rest 0 }
-        requires breaks { class.is_break c ≡ true }
         requires loaded { 1 ≤ loaded self.old }
-        ensures { ReadsBy spec.seen_plain_scalar (λ s. spec.with_text (string_bytes text)
-            (spec.word in_flow indent start s.mark s.rest)) self.old result self.new }
+        ensures value { result ≡ lines.ends_at_once in_flow indent (cursor_of self.old) }
+        ensures passed { cursor_of self.new ≡ lines.behind_break (cursor_of self.old) }
     {
-        let behind_word = self.mark;
+        if !is_break(c) {
+            return !is_blank(c);
+        }
         self.skip_seen_break(c);
         let next = self.look_behind_spaces();
-        if self.is_left_of_plain(next, in_flow, indent) {
-            let comment = None;
-            return Ok(PlainScalar {
-                text,
-                end: behind_word,
-                comment,
-            });
-        }
-        self.read_plain_lines(alloc, in_flow, indent, start, behind_word, text)
+        self.is_left_of_plain(next, in_flow, indent)
     }
 
     /// Takes off a plain scalar, inside flow or outside, and the blanks and breaks after it (YAML
@@ -206,16 +188,14 @@ impl<T: Input> Reader<T> {
         }
         let mut text = self.spare.begin(alloc)?;
         let c = self.read_plain_words(in_flow, &mut text)?;
-        if is_break(c) {
-            return self.read_plain_break(alloc, in_flow, indent, start, c, text);
+        let end = self.mark;
+        // Most end right before a colon, a comma or a bracket, or with their line.
+        if self.ends_plain(c, in_flow, indent) {
+            let comment = None;
+            return Ok(PlainScalar { text, end, comment });
         }
-        // Most others end right before a colon, a comma or a bracket.
-        if !is_blank(c) {
-            return Ok(PlainScalar {
-                text,
-                end: self.mark,
-                comment: None,
-            });
+        if is_break(c) {
+            return self.read_plain_lines(alloc, in_flow, indent, start, end, text);
         }
         self.read_plain_rest(alloc, in_flow, indent, start, text)
     }

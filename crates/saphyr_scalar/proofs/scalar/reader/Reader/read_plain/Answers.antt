@@ -1,8 +1,11 @@
-use Rattle.std.proofs.Common.{string_bytes, refl, sym, ◌∙◌, subst}
+use Rattle.std.proofs.Common.{string_bytes, refl, sym, ap, ◌∙◌, subst}
+use Rattle.saphyr_input.specs.Classes.{is_break}
+use Rattle.saphyr_scalar.specs.Views.Cursor.{Cursor}
 use Rattle.saphyr_scalar.specs.Steps.Plain as spec
 use Rattle.saphyr_scalar.specs.Views.Reader.{cursor_of, Moves}
+use Rattle.saphyr_scalar.proofs.Choices.{shows}
+use Rattle.saphyr_scalar.proofs.Plain.LineEnds.{stays_there, blank_there, word_to_break, ended_at_once}
 use Rattle.saphyr_scalar.proofs.Plain.Pieces.{behind_no_text, started, words_and_rest, plain_refused, no_plain, moves_refused}
-use Rattle.saphyr_scalar.proofs.Plain.WordEnds.{words_end}
 use Rattle.saphyr_scalar.proofs.scalar.reader.Reader.read_plain.Goals as goal
 
 pub returns-in_err-plain_word_starts : goal.returns-in_err-plain_word_starts
@@ -18,6 +21,29 @@ returns-then-not-branch g c =
     no_plain f c.args.indent s there
     (started (spec.word_starts f) s there _ _ c.if-not-branch.true c.in_ok-plain_word_starts.ensures)
 
+pub returns-then-ends_plain : goal.returns-then-ends_plain
+returns-then-ends_plain g c =
+    let f = c.args.in_flow in
+    let i = c.args.indent in
+    let s = cursor_of c.args.self.now in
+    let there = cursor_of c.plain_word_starts.new.self in
+    let end = cursor_of c.read_plain_words.new.self in
+    let text = string_bytes c.in_ok-text.text in
+    let grown = string_bytes c.read_plain_words.new.text in
+    let starts = started (spec.word_starts f) s there _ _ c.if-not-branch.false c.in_ok-plain_word_starts.ensures in
+    let words = c.in_ok-c.ensures.words in
+    sym (words_and_rest f i s there end end text grown starts words refl
+    ∙ behind_no_text text (spec.plain f i s) c.in_ok-text.ensures)
+    ∙ ended_at_once f i s.mark grown end (cursor_of c.ends_plain.new.self) _ words.stops words.on_line
+    c.ends_plain.ensures.value c.if-ends_plain.true c.ends_plain.ensures.passed
+
+pub read_plain_lines-requires : goal.read_plain_lines-requires
+read_plain_lines-requires g c =
+    let end = cursor_of c.read_plain_words.new.self in
+    blank_there end (cursor_of c.ends_plain.new.self)
+    (shows is_break end.rest _ _ _ c.in_ok-c.ensures.end c.is_break.ensures.test c.if-is_break.true)
+    c.ends_plain.ensures.passed
+
 pub returns-then-is_break : goal.returns-then-is_break
 returns-then-is_break g c =
     let f = c.args.in_flow in
@@ -28,25 +54,26 @@ returns-then-is_break g c =
     let text = string_bytes c.in_ok-text.text in
     let grown = string_bytes c.read_plain_words.new.text in
     let starts = started (spec.word_starts f) s there _ _ c.if-not-branch.false c.in_ok-plain_word_starts.ensures in
-    let same = words_and_rest f i s there end end text grown starts c.in_ok-c.ensures.words refl
+    let words = c.in_ok-c.ensures.words in
+    let breaks = shows is_break end.rest _ _ _ c.in_ok-c.ensures.end c.is_break.ensures.test c.if-is_break.true in
+    let same = word_to_break f i s.mark grown end (cursor_of c.ends_plain.new.self) words.stops words.on_line breaks
+    c.ends_plain.ensures.passed
+    ∙ words_and_rest f i s there end end text grown starts words refl
     ∙ behind_no_text text (spec.plain f i s) c.in_ok-text.ensures in
-    subst (λ (r : spec.PlainScalarRead). Moves (λ x. spec.seen_plain_scalar x (cursor_of c.read_plain_break.new.self))
-    c.read_plain_break.result r) same c.read_plain_break.ensures
+    subst (λ (r : spec.PlainScalarRead). Moves (λ x. spec.seen_plain_scalar x (cursor_of c.read_plain_lines.new.self))
+    c.read_plain_lines.result r) same c.read_plain_lines.ensures
 
-pub returns-then-not-is_blank : goal.returns-then-not-is_blank
-returns-then-not-is_blank g c =
-    let f = c.args.in_flow in
-    let i = c.args.indent in
-    let s = cursor_of c.args.self.now in
-    let there = cursor_of c.plain_word_starts.new.self in
+pub read_plain_rest-requires : goal.read_plain_rest-requires
+read_plain_rest-requires g c =
     let end = cursor_of c.read_plain_words.new.self in
-    let text = string_bytes c.in_ok-text.text in
-    let grown = string_bytes c.read_plain_words.new.text in
-    let starts = started (spec.word_starts f) s there _ _ c.if-not-branch.false c.in_ok-plain_word_starts.ensures in
-    sym (behind_no_text text (spec.plain f i s) c.in_ok-text.ensures)
-    ∙ words_end f i s there end end text grown _ starts c.in_ok-c.ensures.words refl
-    c.in_ok-c.ensures.end (sym c.is_blank.ensures.test ∙ c.if-not-is_blank.true)
-    (sym c.is_break.ensures.test ∙ c.if-is_break.false)
+    let words = c.in_ok-c.ensures.words in
+    let stays = stays_there end (cursor_of c.ends_plain.new.self)
+    (shows is_break end.rest _ _ _ c.in_ok-c.ensures.end c.is_break.ensures.test c.if-is_break.false)
+    c.ends_plain.ensures.passed in
+    record {
+      ended = ap (λ (x : Cursor). spec.is_in_word c.args.in_flow x.rest) stays ∙ words.stops;
+      on_line = ap (λ (x : Cursor). x.blank_so_far) stays ∙ words.on_line;
+    }
 
 pub returns : goal.returns
 returns g c =
@@ -55,10 +82,14 @@ returns g c =
     let s = cursor_of c.args.self.now in
     let there = cursor_of c.plain_word_starts.new.self in
     let end = cursor_of c.read_plain_words.new.self in
+    let here = cursor_of c.ends_plain.new.self in
     let text = string_bytes c.in_ok-text.text in
     let grown = string_bytes c.read_plain_words.new.text in
     let starts = started (spec.word_starts f) s there _ _ c.if-not-branch.false c.in_ok-plain_word_starts.ensures in
-    let same = words_and_rest f i s there end end text grown starts c.in_ok-c.ensures.words refl
+    let stays = stays_there end here
+    (shows is_break end.rest _ _ _ c.in_ok-c.ensures.end c.is_break.ensures.test c.if-is_break.false)
+    c.ends_plain.ensures.passed in
+    let same = words_and_rest f i s there end here text grown starts c.in_ok-c.ensures.words stays
     ∙ behind_no_text text (spec.plain f i s) c.in_ok-text.ensures in
     subst (λ (r : spec.PlainScalarRead). Moves (λ x. spec.seen_plain_scalar x (cursor_of c.read_plain_rest.new.self))
     c.read_plain_rest.result r) same c.read_plain_rest.ensures
