@@ -14,7 +14,6 @@ impl<T: Input> Machine<T> {
     ghost use Rattle.saphyr_machine.specs.Views.Machines.{TellsBy};
 
     // A node that begins with the next token.
-    #[inline(always)]
     #[tactic(auto, unfolding(crate::specs::Steps::Block::block_node))]
     pub(super) fn block_node<'input>(
         &mut self,

@@ -15,10 +15,21 @@ impl<T: Input> Machine<T> {
     ghost use Rattle.saphyr_scanner.specs.Views.Tokens.{piece};
     ghost use Rattle.saphyr_machine.specs.Views.Machines.{machine_of, told_event_of, TellsBy};
 
+    // The first entry of a flow sequence, or the end of the sequence. It is separate from entries after a comma for speed:
+    // a function that would grow too large is not inlined, and `event` is to be.
+    pub(super) fn flow_sequence_first_entry<'input>(
+        &mut self,
+        next: &mut (Event<'input>, Span),
+    ) -> Result<(), Stop>
+        ensures { TellsBy spec.flow_sequence_first_entry self.old result next.new self.new }
+    {
+        self.flow_sequence_item(next)
+    }
+
     // The first entry of a flow sequence, or the one after a comma, or the end of the sequence.
     #[inline(always)]
     #[tactic(auto, unfolding(crate::specs::Steps::Flow::flow_sequence_first_entry))]
-    pub(super) fn flow_sequence_first_entry<'input>(
+    fn flow_sequence_item<'input>(
         &mut self,
         next: &mut (Event<'input>, Span),
     ) -> Result<(), Stop>
@@ -56,7 +67,7 @@ impl<T: Input> Machine<T> {
             }
             TokenType::FlowEntry => {
                 let _ = place_of(token);
-                self.flow_sequence_first_entry(next)?
+                self.flow_sequence_item(next)?
             }
             _ => return Err(refuse(FaultText::FlowSequenceEndExpected, place_of(token).start)),
         }
