@@ -1,17 +1,21 @@
 -- The steps of a tag with a handle and a suffix, where each place is told again.
-use Rattle.std.proofs.Common.{◌≡◌, ℕ, ◌<◌, true, false, List, [], ◌∷◌, length, slice_index, Result, Ok, Err, refl, sym, ap, ◌∙◌, arith}
-use Rattle.std.specs.Prelude.{◌==◌, codes}
+use Rattle.std.proofs.Common.{◌≡◌, ℕ, ◌<◌, true, false, List, [], ◌∷◌, ◌++◌, drop, length, slice_index, take, Result, Ok, Err, refl, sym, ap, ◌∙◌, arith}
+use Rattle.std.specs.Prelude.{◌==◌, codes, encode_utf8_all}
 use Rattle.std.specs.Result.{IsErrAnd}
 use Rattle.std.proofs.lemmas.Bool.{eqb-true}
+use Rattle.std.proofs.lemmas.List.{get_or-drop}
 use Rattle.saphyr_input.specs.Classes.{is_alpha}
 use Rattle.saphyr_input.specs.Indicators.{exclamation_mark}
 use Rattle.saphyr_scalar.specs.declared.scalar.fault.Refusal.{Refusal}
 use Rattle.saphyr_scalar.specs.declared.scalar.fault.Stop.{Stop}
 use Rattle.saphyr_scalar.specs.declared.scalar.tag.UriSet.TheVariants.{Suffix}
-use Rattle.saphyr_scalar.specs.Views.Cursor.{Cursor, pass}
+use Rattle.saphyr_scalar.specs.declared.scalar.position.Marker.{Marker}
+use Rattle.saphyr_scalar.specs.Views.Cursor.{Cursor, along, pass}
 use Rattle.saphyr_scalar.specs.Views.Reader.{Moves, Fails}
-use Rattle.saphyr_scalar.specs.Steps.Quoted.{TextRead, with_run}
+use Rattle.saphyr_scalar.specs.Steps.Quoted.{TextRead, mid_line, with_run}
 use Rattle.saphyr_scalar.specs.Steps.Tag.{TagRead, decoded_onto, named_tail, primary_tag, tag_behind_word, shorthand_tag}
+use Rattle.saphyr_scalar.proofs.Moving.{along_more, along_none, drop_more}
+use Rattle.saphyr_scalar.proofs.NoSeparation.{no_run}
 use Rattle.saphyr_scalar.proofs.Plain.Pieces.{moves_failed}
 use Rattle.saphyr_scalar.proofs.Properties.TagsRead.{then_primary}
 
@@ -48,6 +52,26 @@ pub named_from : (s look behind : Cursor) (word : List ℕ) (c : ℕ) → Behind
     → behind ≡ pass 1 look → named_tail s.mark word behind ≡ shorthand_tag s
 unfolding shorthand_tag tag_behind_word
 named_from s look behind word c b is on = grind arith
+
+-- Two `!` are a handle whose word is empty.
+pub without_word : (s there : Cursor) (word : List ℕ) → slice_index s.rest 1 ≡ exclamation_mark → there ≡ pass 2 s
+    → word ≡ [] → named_tail s.mark word there ≡ shorthand_tag s
+without_word s there word second passed empty =
+    ap (λ (w : List ℕ). named_tail s.mark w there) empty
+    ∙ named_from s (pass 1 s) there [] (slice_index (drop 1 s.rest) 0) (record { is = no_word; read = refl }) next
+    (passed ∙ both)
+  where
+    next : slice_index (drop 1 s.rest) 0 ≡ exclamation_mark
+    next = get_or-drop 1 s.rest 0 0 ∙ second
+
+    no_word : with_run is_alpha [] (pass 1 s) ≡ ([], pass 1 s)
+    no_word =
+        ap (λ (n : ℕ). ([] ++ encode_utf8_all (take n (drop 1 s.rest)), pass n (pass 1 s)))
+        (no_run is_alpha (drop 1 s.rest) (ap (λ (c : ℕ). is_alpha c) next))
+        ∙ ap (λ (m : Marker). ([], mid_line m (drop 1 s.rest))) (along_none (along s.mark 1))
+
+    both : pass 2 s ≡ pass 1 (pass 1 s)
+    both = λ i. mid_line (sym (along_more s.mark 1 1 2 refl) i) (sym (drop_more 1 1 2 s.rest refl) i)
 
 -- none does
 primary_from : (s look : Cursor) (word : List ℕ) (c : ℕ) → BehindWord s look word c → (c ≡ exclamation_mark → ⊥)

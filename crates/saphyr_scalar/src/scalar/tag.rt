@@ -291,6 +291,7 @@ impl<T: Input> Reader<T> {
     }
 
     // Takes off the suffix of a tag after `!!` or `!word!`. It begins in the memory of the word.
+    #[inline(always)]
     #[tactic(auto, unfolding(crate::specs::Steps::Tag::named_tail, crate::specs::Steps::Tag::named_tag))]
     fn read_named_suffix(
         &mut self,
@@ -343,6 +344,17 @@ impl<T: Input> Reader<T> {
         })
     }
 
+    // Takes off a tag whose handle is `!!`, which has no word. Most tags have it.
+    fn read_secondary_tag(&mut self, alloc: Global) -> Result<TagParts, Stop>
+        requires { slice_index (cursor_of self.old).rest 1 ≡ exclamation_mark }
+        ensures { ReadsBy spec.seen_tag spec.shorthand_tag self.old result self.new }
+    {
+        let start = self.mark;
+        let word = self.spare.begin_suffix(alloc)?;
+        self.skip_n_non_blank(2);
+        self.read_named_suffix(alloc, word, start)
+    }
+
     /// Takes off a tag (YAML 1.2.2, 6.9.1), from its `!` on, inside flow or outside.
     ///
     /// All faults are refused at the `!`: a verbatim tag without its `>`, a handle `!!` or
@@ -355,10 +367,10 @@ impl<T: Input> Reader<T> {
     {
         let start = self.mark;
         self.load(2);
-        let tag = if self.input.nth_char_is(1, '<') {
-            self.read_verbatim_tag(alloc)?
-        } else {
-            self.read_shorthand_tag(alloc)?
+        let tag = match self.input.peek_nth(1) {
+            '<' => self.read_verbatim_tag(alloc)?,
+            '!' => self.read_secondary_tag(alloc)?,
+            _ => self.read_shorthand_tag(alloc)?,
         };
         let c = self.look();
         if is_blank_or_breakz(c) || in_flow && is_flow(c) {
