@@ -5,7 +5,9 @@ ghost use Rattle.std.specs.Prelude.{◌≡◌, ℕ, Bool, false, ◌==◌, ◌<�
 ghost use Rattle.saphyr_input.specs.Classes as class;
 ghost use Rattle.saphyr_input.specs.Indicators.{backslash, full_stop};
 ghost use Rattle.saphyr_scalar.specs.Steps.Quoted as spec;
+ghost use Rattle.saphyr_scalar.specs.Views.Cursor.{pass, pass_break};
 ghost use Rattle.saphyr_values.specs.Flow as flow;
+ghost use Rattle.saphyr_values.specs.declared.flow.Quote.TheVariants.{Double};
 
 use crate::scalar::block::push_line_feeds;
 use crate::scalar::fault::{FaultText, Refusal, Stop};
@@ -75,8 +77,7 @@ impl<T: Input> Reader<T> {
     {
         let mut count = 0;
         loop {
-            self.skip_spaces(usize::MAX);
-            let c = self.look();
+            let c = self.look_behind_spaces();
             if is_break(c) {
                 self.skip_seen_break(c);
                 count += 1;
@@ -163,6 +164,23 @@ impl<T: Input> Reader<T> {
         Ok(())
     }
 
+    // Takes off a backslash and the break behind it, which mostly is a line feed.
+    #[inline(always)]
+    fn skip_escaped_break(&mut self)
+        requires { IsTrue (spec.is_escaped_break Double (cursor_of self.old).rest) }
+        ensures { cursor_of self.new ≡ pass_break (pass 1 (cursor_of self.old)) }
+    {
+        self.load(2);
+        if let Some('\n') = self.input.ascii_behind('\\') {
+            self.input.skip_two_ascii();
+            self.mark = self.mark.next_line(2);
+            self.blank_so_far = true;
+            return;
+        }
+        self.skip_non_blank();
+        self.skip_line_break();
+    }
+
     // Takes off an escaped break and what follows it, up to the next word or the closing quote. Appends
     // what this reads as to a text.
     #[inline(always)]
@@ -180,9 +198,7 @@ impl<T: Input> Reader<T> {
             (spec.inner_text_at quote indent start spec.no_gap (cursor_of self.new))) }
         ensures shorter { OnOk result (IsShorter self.old self.new) }
     {
-        self.skip_non_blank();
-        let c = self.look();
-        self.skip_seen_break(c);
+        self.skip_escaped_break();
         if self.look() == quote.mark() {
             return Ok(());
         }
