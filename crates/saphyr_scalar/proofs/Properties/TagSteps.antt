@@ -1,10 +1,10 @@
 -- The steps of a tag with a handle and a suffix, where each place is told again.
-use Rattle.std.proofs.Common.{◌≡◌, ℕ, ◌<◌, true, false, List, [], ◌∷◌, ◌++◌, drop, length, slice_index, take, Result, Ok, Err, refl, sym, ap, ◌∙◌, arith}
+use Rattle.std.proofs.Common.{◌≡◌, append-nil, Bool, ℕ, ◌<◌, true, false, List, [], ◌∷◌, ◌++◌, drop, length, slice_index, take, Result, Ok, Err, refl, sym, ap, ◌∙◌, arith}
 use Rattle.std.specs.Prelude.{◌==◌, codes, encode_utf8_all}
 use Rattle.std.specs.Result.{IsErrAnd}
 use Rattle.std.proofs.lemmas.Bool.{eqb-true}
 use Rattle.std.proofs.lemmas.List.{get_or-drop}
-use Rattle.saphyr_input.specs.Classes.{is_alpha}
+use Rattle.saphyr_input.specs.Classes.{is_alpha, is_tag_char}
 use Rattle.saphyr_input.specs.Indicators.{exclamation_mark}
 use Rattle.saphyr_scalar.specs.declared.scalar.fault.Refusal.{Refusal}
 use Rattle.saphyr_scalar.specs.declared.scalar.fault.Stop.{Stop}
@@ -12,8 +12,8 @@ use Rattle.saphyr_scalar.specs.declared.scalar.tag.UriSet.TheVariants.{Suffix}
 use Rattle.saphyr_scalar.specs.declared.scalar.position.Marker.{Marker}
 use Rattle.saphyr_scalar.specs.Views.Cursor.{Cursor, along, pass}
 use Rattle.saphyr_scalar.specs.Views.Reader.{Moves, Fails}
-use Rattle.saphyr_scalar.specs.Steps.Quoted.{TextRead, mid_line, with_run}
-use Rattle.saphyr_scalar.specs.Steps.Tag.{TagRead, decoded_onto, named_tail, primary_tag, tag_behind_word, shorthand_tag}
+use Rattle.saphyr_scalar.specs.Steps.Quoted.{TextRead, mid_line, with_front, with_run}
+use Rattle.saphyr_scalar.specs.Steps.Tag.{TagRead, decoded_characters, decoded_onto, named_tail, primary_tag, tag_behind_word, shorthand_tag}
 use Rattle.saphyr_scalar.proofs.Moving.{along_more, along_none, drop_more}
 use Rattle.saphyr_scalar.proofs.NoSeparation.{no_run}
 use Rattle.saphyr_scalar.proofs.Plain.Pieces.{moves_failed}
@@ -72,6 +72,26 @@ without_word s there word second passed empty =
 
     both : pass 2 s ≡ pass 1 (pass 1 s)
     both = λ i. mid_line (sym (along_more s.mark 1 1 2 refl) i) (sym (drop_more 1 1 2 s.rest refl) i)
+
+-- nothing is left of a suffix
+pub no_suffix_left : (start : Marker) (text : List ℕ) (s : Cursor) (c : ℕ) → c ≡ slice_index s.rest 0
+    → s.blank_so_far ≡ false → is_tag_char c ≡ false → decoded_onto Suffix start text s ≡ Ok (text, s)
+unfolding decoded_characters
+no_suffix_left start text s c first inside none =
+    ap (with_front text) (at_end s.rest (ap (λ (k : ℕ). is_tag_char k) (sym first) ∙ none))
+    ∙ ap (λ (w : List ℕ). text_read w (mid_line s.mark s.rest)) (append-nil text)
+    ∙ ap (λ (b : Bool). text_read text (record { rest = s.rest; mark = s.mark; blank_so_far = b })) (sym inside)
+  where
+    text_read : List ℕ → Cursor → Result (List ℕ × Cursor) Refusal
+    text_read w t = Ok (w, t)
+
+    at_end : (xs : List ℕ) → is_tag_char (slice_index xs 0) ≡ false
+        → decoded_characters Suffix start 0 s.mark xs ≡ text_read [] (mid_line s.mark xs)
+    at_end [] h = ap (λ (m : Marker). text_read [] (mid_line m [])) (along_none s.mark)
+    at_end (x ∷ xs) h = rw h refl
+
+pub left_inside : (s look : Cursor) (word : List ℕ) (c : ℕ) → BehindWord s look word c → look.blank_so_far ≡ false
+left_inside s look word c b = sym (ap (λ (x : List ℕ × Cursor). x.1.blank_so_far) b.is)
 
 -- none does
 primary_from : (s look : Cursor) (word : List ℕ) (c : ℕ) → BehindWord s look word c → (c ≡ exclamation_mark → ⊥)

@@ -1,6 +1,6 @@
 //! Tags, taken off a text, with their percent escapes decoded (YAML 1.2.2, 6.9.1 and 5.6).
 
-ghost use Rattle.std.specs.Prelude.{◌≡◌, ℕ, ◌+◌, ◌*◌, ◌<◌, ◌≤◌, ◌^◌, List, [], length, slice_index, string_bytes, Ok, IfOk, codes, refl};
+ghost use Rattle.std.specs.Prelude.{◌≡◌, false, ℕ, ◌+◌, ◌*◌, ◌<◌, ◌≤◌, ◌^◌, List, [], length, slice_index, string_bytes, Ok, IfOk, codes, refl};
 ghost use Rattle.saphyr_input.specs.Indicators.{exclamation_mark};
 ghost use Rattle.saphyr_input.specs.Classes as class;
 ghost use Rattle.saphyr_scalar.specs.Steps.Quoted as run;
@@ -315,6 +315,20 @@ impl<T: Input> Reader<T> {
         Ok(TagParts { handle, suffix })
     }
 
+    // Moves what is left of a suffix behind a word to the end of a text. Mostly nothing is.
+    #[inline(always)]
+    fn read_rest_of_suffix(&mut self, c: char, start: Marker, text: &mut String) -> Result<(), Stop>
+        requires first { c ≡ slice_index (cursor_of self.old).rest 0 }
+        requires inside { (cursor_of self.old).blank_so_far ≡ false }
+        ensures { WritesBy text_alone (spec.decoded_onto UriSet.Suffix start) text.old self.old
+            result text.new self.new }
+    {
+        if !is_tag_char(c) {
+            return Ok(());
+        }
+        self.read_uri_characters(UriSet::Suffix, start, text)
+    }
+
     // Takes off a tag of a handle and a suffix.
     #[tactic(auto, unfolding(crate::specs::Steps::Tag::shorthand_tag, crate::specs::Steps::Tag::tag_behind_word, crate::specs::Steps::Tag::primary_tag))]
     fn read_shorthand_tag(&mut self, alloc: Global) -> Result<TagParts, Stop>
@@ -325,12 +339,13 @@ impl<T: Input> Reader<T> {
         self.skip_non_blank();
         let mut word = self.spare.begin_suffix(alloc)?;
         self.read_run::<Alpha>(&mut word)?;
-        if self.look() == '!' {
+        let c = self.look();
+        if c == '!' {
             self.skip_non_blank();
             return self.read_named_suffix(alloc, word, start);
         }
         let mut suffix = word;
-        self.read_uri_characters(UriSet::Suffix, start, &mut suffix)?;
+        self.read_rest_of_suffix(c, start, &mut suffix)?;
         let mark = primary_handle(self.spare.begin_handle(alloc)?)?;
         if suffix.is_empty() {
             return Ok(TagParts {
