@@ -9,7 +9,7 @@ mod place;
 mod row;
 
 ghost use Rattle.std.specs.Prelude.{◌≡◌, ◌⊎◌, false, Ok, OnErr, OnOk, length, slice_index, string_bytes};
-ghost use Rattle.saphyr_input.specs.Indicators.{quotation_mark};
+ghost use Rattle.saphyr_values.specs.Flow as flow;
 ghost use Rattle.saphyr_scalar.specs.Steps.Plain.{plain};
 ghost use Rattle.saphyr_scanner.specs.Grammar.Tokens as tokens;
 ghost use Rattle.saphyr_scanner.specs.Steps.Queue as spec;
@@ -20,6 +20,7 @@ use crate::queue::row::Row;
 use crate::token::{Token, TokenType};
 use saphyr_input::input::Input;
 use saphyr_scalar::{Marker, Reader, ScalarStyle, Span, Spare, Stop};
+use saphyr_values::Quote;
 use std::alloc::{AllocError, Global};
 
 /// What comes in front of a token: nothing, or the tokens that make it a key.
@@ -52,11 +53,11 @@ pub(crate) struct Queue {
 }
 
 impl Queue {
-    ghost use Rattle.saphyr_scalar.specs.declared.scalar.style.ScalarStyle.TheVariants.{DoubleQuoted, Plain};
+    ghost use Rattle.saphyr_scalar.specs.declared.scalar.style.ScalarStyle.TheVariants.{Plain};
     ghost use Rattle.saphyr_scalar.specs.Views.Reader.{Moves, cursor_of};
     ghost use Rattle.saphyr_scanner.specs.Views.Tokens.{piece};
     ghost use Rattle.saphyr_scanner.specs.Views.Places.{indicator_kind};
-    ghost use Rattle.saphyr_scanner.specs.Views.Reads.{flow_double_quoted, queue_with_scalar};
+    ghost use Rattle.saphyr_scanner.specs.Views.Reads.{flow_quoted, queue_with_scalar, quote_style};
     ghost use Rattle.saphyr_scanner.specs.Views.Queue.{queue, with_block_ends, HoldsNone, TakesOffBy};
     ghost use Rattle.std.specs.Prelude.{◌<◌};
 
@@ -207,21 +208,22 @@ impl Queue {
         self.held.read_plain(alloc, reader, in_flow, indent)
     }
 
-    /// Reads a double quoted scalar inside flow in the same way, passes what separates it from what comes after it, and
+    /// Reads a quoted scalar inside flow in the same way, passes what separates it from what comes after it, and
     /// puts its token at the end. Returns whether an indicator is there.
     #[inline(always)]
-    pub(crate) fn read_double_quoted<T: Input>(
+    pub(crate) fn read_quoted<T: Input>(
         &mut self,
         alloc: Global,
         reader: &mut Reader<T>,
+        quote: Quote,
         indent: usize,
     ) -> Result<bool, Stop>
-        requires { slice_index (cursor_of reader.old).rest 0 ≡ quotation_mark }
+        requires { slice_index (cursor_of reader.old).rest 0 ≡ flow.mark quote }
         ensures { Moves (λ told. (queue self.new, told, cursor_of reader.new)) result
-            (queue_with_scalar DoubleQuoted (queue self.old) (cursor_of reader.old).mark
-            (flow_double_quoted indent (cursor_of reader.old))) }
+            (queue_with_scalar (quote_style quote) (queue self.old) (cursor_of reader.old).mark
+            (flow_quoted quote indent (cursor_of reader.old))) }
     {
-        self.held.read_double_quoted(alloc, reader, indent)
+        self.held.read_quoted(alloc, reader, quote, indent)
     }
 
     /// Puts an indicator at the end.

@@ -155,7 +155,7 @@ impl<T: Input> Reader<T> {
 
     // The same, with its text put behind another.
     #[inline(always)]
-    fn read_quoted_onto(
+    fn read_behind(
         &mut self,
         alloc: Global,
         quote: Quote,
@@ -186,8 +186,9 @@ impl<T: Input> Reader<T> {
         self.read_quoted(alloc, Quote::Double, indent)
     }
 
-    /// The same, with its text put behind another. If it fails, nothing is known of what is left of that text.
-    pub fn read_double_quoted_onto(
+    // The same of a double quoted scalar.
+    #[inline(never)]
+    fn read_double_behind(
         &mut self,
         alloc: Global,
         indent: usize,
@@ -195,10 +196,47 @@ impl<T: Input> Reader<T> {
     ) -> Result<(), Stop>
         requires { slice_index (cursor_of self.old).rest 0 ≡ quotation_mark }
         ensures { WritesBy text_alone
-            (λ before s. spec.with_front before (spec.double_quoted indent s))
+            (λ before s. spec.with_front before (spec.quoted Double indent s))
             text.old self.old result text.new self.new }
     {
-        self.read_quoted_onto(alloc, Quote::Double, indent, text)
+        self.read_behind(alloc, Quote::Double, indent, text)
+    }
+
+    // The same of a single quoted scalar.
+    #[inline(never)]
+    fn read_single_behind(
+        &mut self,
+        alloc: Global,
+        indent: usize,
+        text: &mut String,
+    ) -> Result<(), Stop>
+        requires { slice_index (cursor_of self.old).rest 0 ≡ apostrophe }
+        ensures { WritesBy text_alone
+            (λ before s. spec.with_front before (spec.quoted Single indent s))
+            text.old self.old result text.new self.new }
+    {
+        self.read_behind(alloc, Quote::Single, indent, text)
+    }
+
+    /// Takes off a quoted scalar, from its opening quote to its closing one, and puts its text behind another. If it
+    /// fails, nothing is known of what is left of that text.
+    #[inline(always)]
+    pub fn read_quoted_onto(
+        &mut self,
+        alloc: Global,
+        quote: Quote,
+        indent: usize,
+        text: &mut String,
+    ) -> Result<(), Stop>
+        requires { slice_index (cursor_of self.old).rest 0 ≡ flow.mark quote }
+        ensures { WritesBy text_alone
+            (λ before s. spec.with_front before (spec.quoted quote indent s))
+            text.old self.old result text.new self.new }
+    {
+        match quote {
+            Quote::Double => self.read_double_behind(alloc, indent, text),
+            Quote::Single => self.read_single_behind(alloc, indent, text),
+        }
     }
 
     /// Takes off a single quoted scalar, from its opening quote to its closing one, and returns its

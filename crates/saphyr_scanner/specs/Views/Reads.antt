@@ -8,13 +8,19 @@ use Rattle.saphyr_scalar.specs.declared.scalar.fault.Refusal.{Refusal}
 use Rattle.saphyr_scalar.specs.declared.scalar.fault.Stop.{Stop}
 use Rattle.saphyr_scalar.specs.declared.scalar.position.Marker.{Marker}
 use Rattle.saphyr_scalar.specs.declared.scalar.style.ScalarStyle.{ScalarStyle}
-use Rattle.saphyr_scalar.specs.Steps.Quoted.{double_quoted}
+use Rattle.saphyr_scalar.specs.declared.scalar.style.ScalarStyle.TheVariants.{DoubleQuoted, SingleQuoted}
+use Rattle.saphyr_scalar.specs.Steps.Quoted.{quoted}
 use Rattle.saphyr_scalar.specs.Views.Cursor.{Cursor, ◌>>=◌, refuse, separation}
 use Rattle.saphyr_scalar.specs.Views.Reader.{Fails}
+use Rattle.saphyr_values.specs.declared.flow.Quote.{Quote}
+use Rattle.saphyr_values.specs.declared.flow.Quote.TheVariants.{Single, Double}
 use Rattle.saphyr_scanner.specs.declared.queue.place.Place as declared_place
 use Rattle.saphyr_scanner.specs.Grammar.Tokens as tokens
 use Rattle.saphyr_scanner.specs.Grammar.Tokens.{Kind}
+use Rattle.saphyr_scanner.specs.Steps.Core.{Core, StepResult, least_column}
+use Rattle.saphyr_scanner.specs.Steps.Passing.{with_cursor}
 use Rattle.saphyr_scanner.specs.Steps.Queue.{Place, Queue, bare_place, with_piece}
+use Rattle.saphyr_scanner.specs.Steps.Scalar.{behind_quotes}
 use Rattle.saphyr_scanner.specs.Views.Asides.{Asides}
 use Rattle.saphyr_scanner.specs.Views.Places.{AddsBehind}
 use Rattle.saphyr_scanner.specs.Views.Tokens.{Piece}
@@ -66,7 +72,16 @@ behind_flow_quotes s =
     if is_entry_end y then Ok (true, x.1)
     else if is_breakz y then Ok (false, x.1) else refuse fault.ContentAfterQuotes x.1.mark)
 
--- A double quoted scalar inside flow is read, with what separates it from what comes after it, where its token ends.
-unfoldable pub flow_double_quoted : ℕ → Cursor → ScalarRead Bool
-flow_double_quoted indent s =
-    double_quoted indent s >>= λ x. (behind_flow_quotes x.1 >>= λ d. Ok (x.0, d.1.mark, d.0, d.1))
+abbrev pub quote_style : Quote → ScalarStyle
+quote_style Single = SingleQuoted
+quote_style Double = DoubleQuoted
+
+-- A quoted scalar inside flow is read, with what separates it from what comes after it, where its token ends.
+unfoldable pub flow_quoted : Quote → ℕ → Cursor → ScalarRead Bool
+flow_quoted quote indent s =
+    quoted quote indent s >>= λ x. (behind_flow_quotes x.1 >>= λ d. Ok (x.0, d.1.mark, d.0, d.1))
+
+-- a quoted scalar of either kind, and what comes after it
+abbrev pub quoted_step : Quote → Core → StepResult
+quoted_step quote c = quoted quote (least_column c) c.cursor >>= λ x. behind_quotes c.cursor.mark (quote_style quote)
+    x.0 (with_cursor x.1 c)

@@ -5,14 +5,15 @@ ghost use Rattle.saphyr_input.specs.Indicators.{apostrophe, quotation_mark};
 ghost use Rattle.saphyr_scanner.specs.Steps.Core as spec;
 ghost use Rattle.saphyr_scanner.specs.Steps.Passing as passing;
 ghost use Rattle.saphyr_scanner.specs.Steps.Scalar as scalar;
-ghost use Rattle.saphyr_scanner.specs.Views.Reads.{is_entry_end};
+ghost use Rattle.saphyr_scanner.specs.Views.Reads.{is_entry_end, quoted_step};
+ghost use Rattle.saphyr_values.specs.Flow as flow;
 
 use crate::engine::Engine;
 use crate::token::TokenType;
 use saphyr_input::char_traits::is_breakz;
 use saphyr_input::input::Input;
 use saphyr_scalar::{FaultText, Marker, ScalarStyle, Span, Stop};
-use saphyr_values::BlockStyle;
+use saphyr_values::{BlockStyle, Quote};
 
 impl<T: Input> Engine<T> {
     ghost use Rattle.saphyr_scanner.specs.Views.Engine.{state, ActsBy, CarriesBy, answer_of};
@@ -103,6 +104,21 @@ impl<T: Input> Engine<T> {
         Ok(())
     }
 
+    // Reads a quoted scalar inside flow, puts its token behind those that are held, and passes what follows it.
+    #[inline(always)]
+    fn hold_quoted(&mut self, quote: Quote, least: usize) -> Result<(), Stop>
+        requires flow { spec.in_block (state self.old).core ≡ false }
+        requires least { least ≡ spec.least_column (state self.old).core }
+        requires sign { slice_index (state self.old).core.cursor.rest 0 ≡ flow.mark quote }
+        ensures { ActsBy (quoted_step quote) self.old result self.new }
+    {
+        let reader = &mut self.reader;
+        let is_at_indicator = self.queue.read_quoted(self.alloc, reader, quote, least)?;
+        self.pass_gap_to(is_at_indicator)?;
+        self.adjacent = self.reader.mark().index;
+        Ok(())
+    }
+
     // A double quoted scalar.
     #[inline(always)]
     #[tactic(auto, unfolding(crate::specs::Steps::Scalar::double_quoted_steps, crate::specs::Steps::Scalar::read_double_quoted))]
@@ -120,11 +136,7 @@ impl<T: Input> Engine<T> {
             self.fetch_behind_quotes(start, ScalarStyle::DoubleQuoted, text)?;
             return Ok(());
         }
-        let reader = &mut self.reader;
-        let is_at_indicator = self.queue.read_double_quoted(self.alloc, reader, least)?;
-        self.pass_gap_to(is_at_indicator)?;
-        self.adjacent = self.reader.mark().index;
-        Ok(())
+        self.hold_quoted(Quote::Double, least)
     }
 
     // A single quoted scalar.
@@ -138,9 +150,12 @@ impl<T: Input> Engine<T> {
         self.key_allowed = false;
         let start = self.reader.mark();
         let least = self.least_column();
-        let text = self.reader.read_single_quoted(self.alloc, least)?;
-        self.fetch_behind_quotes(start, ScalarStyle::SingleQuoted, text)?;
-        Ok(())
+        if self.in_block() || !self.queue.is_holding() {
+            let text = self.reader.read_single_quoted(self.alloc, least)?;
+            self.fetch_behind_quotes(start, ScalarStyle::SingleQuoted, text)?;
+            return Ok(());
+        }
+        self.hold_quoted(Quote::Single, least)
     }
 
     // A plain scalar.

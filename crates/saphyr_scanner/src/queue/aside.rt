@@ -1,16 +1,17 @@
 //! What the places of held tokens have beside them.
 
 ghost use Rattle.std.specs.Prelude.{◌≡◌, ◌≤◌, [], length, take, IfNone, IfOk, IfSome, OnErr, OnOk, slice_index, string_bytes};
-ghost use Rattle.saphyr_input.specs.Indicators.{quotation_mark};
 ghost use Rattle.saphyr_scalar.specs.Steps.Plain.{plain, seen_plain_end};
-ghost use Rattle.saphyr_scalar.specs.Steps.Quoted.{double_quoted};
+ghost use Rattle.saphyr_scalar.specs.Steps.Quoted.{quoted};
 ghost use Rattle.saphyr_scalar.specs.Views.Reader.{Moves, cursor_of};
+ghost use Rattle.saphyr_values.specs.Flow as flow;
 ghost use Rattle.saphyr_scanner.specs.Views.Asides as spec;
 ghost use Rattle.saphyr_scanner.specs.Views.Tokens.{piece};
 
 use crate::token::Token;
 use saphyr_input::input::Input;
 use saphyr_scalar::{Marker, PlainEnd, Reader, Stop};
+use saphyr_values::Quote;
 use std::alloc::{AllocError, Global};
 use std::collections::VecDeque;
 use std::marker::Model;
@@ -93,24 +94,25 @@ impl Aside {
         }
     }
 
-    /// Reads a double quoted scalar in the same way. Returns how many bytes its text has.
+    /// Reads a quoted scalar in the same way. Returns how many bytes its text has.
     #[inline(always)]
-    pub(super) fn read_double_quoted<T: Input>(
+    pub(super) fn read_quoted<T: Input>(
         &mut self,
         alloc: Global,
         reader: &mut Reader<T>,
+        quote: Quote,
         indent: usize,
     ) -> Result<usize, Stop>
-        requires { slice_index (cursor_of reader.old).rest 0 ≡ quotation_mark }
+        requires { slice_index (cursor_of reader.old).rest 0 ≡ flow.mark quote }
         ensures read { Moves (λ _. (spec.added self.old self.new, cursor_of reader.new)) result
-            (double_quoted indent (cursor_of reader.old)) }
+            (quoted quote indent (cursor_of reader.old)) }
         ensures kept { IfOk result
             (λ _. self.new ≡ spec.with_text_aside (spec.added self.old self.new) self.old) }
         ensures count { IfOk result
             (λ count. spec.IsTextOf count (spec.added self.old self.new)) }
     {
         let before = self.texts.len();
-        match reader.read_double_quoted_onto(alloc, indent, &mut self.texts) {
+        match reader.read_quoted_onto(alloc, quote, indent, &mut self.texts) {
             Ok(()) => Ok(self.texts.len() - before),
             Err(stop) => {
                 self.texts.clear();

@@ -3,10 +3,12 @@
 ghost use Rattle.std.specs.Prelude.{◌≡◌, List, ℕ, IfSome, string_bytes};
 ghost use Rattle.saphyr_scanner.specs.Grammar.Tokens as tokens;
 ghost use Rattle.saphyr_scanner.specs.Views.Places.{indicator_kind, text_kind};
+ghost use Rattle.saphyr_scanner.specs.Views.Reads.{quote_style};
 ghost use Rattle.saphyr_scanner.specs.Views.Tokens.{kind_of};
 
 use crate::token::TokenType;
 use saphyr_scalar::ScalarStyle;
+use saphyr_values::Quote;
 
 /// The kinds of tokens of collections, which have no text.
 #[derive(Clone, Copy)]
@@ -67,6 +69,17 @@ impl TextKind {
             ScalarStyle::SingleQuoted => Some(TextKind::SingleQuoted),
             ScalarStyle::DoubleQuoted => Some(TextKind::DoubleQuoted),
             ScalarStyle::Literal | ScalarStyle::Folded => None,
+        }
+    }
+
+    /// The kind of a quoted scalar on one line.
+    #[inline(always)]
+    pub(super) fn of_quote(quote: Quote) -> TextKind
+        ensures { (text : List ℕ) → text_kind result text ≡ tokens.Scalar (quote_style quote) text }
+    {
+        match quote {
+            Quote::Single => TextKind::SingleQuoted,
+            Quote::Double => TextKind::DoubleQuoted,
         }
     }
 

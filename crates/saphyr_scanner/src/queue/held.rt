@@ -3,12 +3,12 @@
 ghost use Rattle.std.specs.Prelude.{◌≡◌, ◌<◌, ◌≤◌, ◌^◌, ◌+◌, [], ◌∷◌, ◌++◌, drop, length, IfOk, IfSome, Ok, OnOk, slice_index, string_bytes, vec_len, vec_capacity};
 ghost use Rattle.saphyr_scanner.specs.Grammar.Tokens as tokens;
 ghost use Rattle.saphyr_scanner.specs.Steps.Queue as spec;
-ghost use Rattle.saphyr_input.specs.Indicators.{quotation_mark};
+ghost use Rattle.saphyr_values.specs.Flow as flow;
 ghost use Rattle.saphyr_scalar.specs.Steps.Plain.{plain};
-ghost use Rattle.saphyr_scalar.specs.declared.scalar.style.ScalarStyle.TheVariants.{DoubleQuoted, Plain};
+ghost use Rattle.saphyr_scalar.specs.declared.scalar.style.ScalarStyle.TheVariants.{Plain};
 ghost use Rattle.saphyr_scalar.specs.Views.Reader.{Moves, cursor_of};
 ghost use Rattle.saphyr_scanner.specs.Views.Places.{Fit, Fit-prop, indicator_kind, near_span};
-ghost use Rattle.saphyr_scanner.specs.Views.Reads.{flow_double_quoted, with_scalar};
+ghost use Rattle.saphyr_scanner.specs.Views.Reads.{flow_quoted, quote_style, with_scalar};
 
 use crate::queue::Opening;
 use crate::queue::aside::Aside;
@@ -18,6 +18,7 @@ use crate::queue::place::Place;
 use crate::token::{Token, TokenType};
 use saphyr_input::input::Input;
 use saphyr_scalar::{Marker, Reader, ScalarStyle, Span, Spare, Stop};
+use saphyr_values::Quote;
 use std::alloc::{AllocError, Global};
 
 // How many places that were handed out may stay before others, so that few are moved for each.
@@ -202,22 +203,23 @@ impl Held {
         }
     }
 
-    /// Reads a double quoted scalar inside flow in the same way, passes what separates it from what comes after it, and
+    /// Reads a quoted scalar inside flow in the same way, passes what separates it from what comes after it, and
     /// puts its token at the end. Returns whether an indicator is there.
     #[inline(always)]
-    pub(super) fn read_double_quoted<T: Input>(
+    pub(super) fn read_quoted<T: Input>(
         &mut self,
         alloc: Global,
         reader: &mut Reader<T>,
+        quote: Quote,
         indent: usize,
     ) -> Result<bool, Stop>
-        requires { slice_index (cursor_of reader.old).rest 0 ≡ quotation_mark }
+        requires { slice_index (cursor_of reader.old).rest 0 ≡ flow.mark quote }
         ensures { Moves (λ told. (held_places self.new, told, cursor_of reader.new)) result
-            (with_scalar DoubleQuoted (held_places self.old) (cursor_of reader.old).mark
-            (flow_double_quoted indent (cursor_of reader.old))) }
+            (with_scalar (quote_style quote) (held_places self.old) (cursor_of reader.old).mark
+            (flow_quoted quote indent (cursor_of reader.old))) }
     {
         self.make_room()?;
-        match Place::read_double_quoted(alloc, reader, indent, &mut self.aside) {
+        match Place::read_quoted(alloc, reader, quote, indent, &mut self.aside) {
             Ok((place, is_at_indicator)) => {
                 self.places.push_reserved(place);
                 Ok(is_at_indicator)

@@ -1,9 +1,9 @@
 //! A token that is held, and what comes in front of it, in a small form, since the queue may hold all tokens of a text.
 
 ghost use Rattle.std.specs.Prelude.{◌≡◌, List, ℕ, IfOk, OnErr, OnOk, slice_index};
-ghost use Rattle.saphyr_input.specs.Indicators.{quotation_mark};
+ghost use Rattle.saphyr_values.specs.Flow as flow;
 ghost use Rattle.saphyr_scalar.specs.Steps.Plain.{plain};
-ghost use Rattle.saphyr_scalar.specs.declared.scalar.style.ScalarStyle.TheVariants.{DoubleQuoted, Plain};
+ghost use Rattle.saphyr_scalar.specs.declared.scalar.style.ScalarStyle.TheVariants.{Plain};
 ghost use Rattle.saphyr_scalar.specs.Views.Reader.{GivesBy, cursor_of};
 ghost use Rattle.saphyr_scanner.specs.Views.Asides.{EndsWithText, IsTextOf, with_text_aside, with_token};
 ghost use Rattle.saphyr_scanner.specs.Views.Places.{
@@ -16,7 +16,7 @@ ghost use Rattle.saphyr_scanner.specs.Views.Places.{
   text_kind,
 };
 ghost use Rattle.saphyr_scanner.specs.Views.Reads as spec;
-ghost use Rattle.saphyr_scanner.specs.Views.Reads.{PlacesScalar, flow_double_quoted};
+ghost use Rattle.saphyr_scanner.specs.Views.Reads.{PlacesScalar, quote_style, flow_quoted};
 ghost use Rattle.saphyr_scanner.specs.Views.Tokens.{Piece, kind_of, piece};
 
 use crate::queue::Opening;
@@ -27,6 +27,7 @@ use crate::token::{Token, TokenType};
 use saphyr_input::char_traits::is_breakz;
 use saphyr_input::input::{Input, SkipTabs};
 use saphyr_scalar::{FaultText, Marker, Reader, Refusal, ScalarStyle, Span, Spare, Stop};
+use saphyr_values::Quote;
 use std::alloc::{AllocError, Global};
 
 /// A token, and what is handed out before it.
@@ -151,25 +152,26 @@ impl Place {
         Ok((place, scalar.comment))
     }
 
-    /// Reads a double quoted scalar inside flow in the same way, and passes what separates it from what comes after it.
+    /// Reads a quoted scalar inside flow in the same way, and passes what separates it from what comes after it.
     /// Returns whether that is an indicator.
     #[inline(always)]
-    #[tactic(auto, unfolding(crate::specs::Views::Reads::flow_double_quoted))]
-    pub(super) fn read_double_quoted<T: Input>(
+    #[tactic(auto, unfolding(crate::specs::Views::Reads::flow_quoted))]
+    pub(super) fn read_quoted<T: Input>(
         alloc: Global,
         reader: &mut Reader<T>,
+        quote: Quote,
         indent: usize,
         aside: &mut Aside,
     ) -> Result<(Place, bool), Stop>
-        requires { slice_index (cursor_of reader.old).rest 0 ≡ quotation_mark }
-        ensures { PlacesScalar DoubleQuoted (cursor_of reader.old).mark aside.old aside.new
-            (cursor_of reader.new) result (flow_double_quoted indent (cursor_of reader.old)) }
+        requires { slice_index (cursor_of reader.old).rest 0 ≡ flow.mark quote }
+        ensures { PlacesScalar (quote_style quote) (cursor_of reader.old).mark aside.old aside.new
+            (cursor_of reader.new) result (flow_quoted quote indent (cursor_of reader.old)) }
     {
         let start = reader.mark();
-        let count = aside.read_double_quoted(alloc, reader, indent)?;
+        let count = aside.read_quoted(alloc, reader, quote, indent)?;
         let is_at_indicator = pass_behind_quotes(reader)?;
         let span = Span::new(start, reader.mark());
-        let place = Place::of_last_text(&span, TextKind::DoubleQuoted, count, aside)?;
+        let place = Place::of_last_text(&span, TextKind::of_quote(quote), count, aside)?;
         Ok((place, is_at_indicator))
     }
 

@@ -3,7 +3,7 @@ use Rattle.saphyr_scalar.specs.Steps.Quoted as spec
 use Rattle.saphyr_scalar.specs.Views.Reader.{cursor_of}
 use Rattle.saphyr_scalar.proofs.Plain.Pieces.{moves_failed}
 use Rattle.saphyr_scalar.proofs.Quoted.Inside.{quoted_inside}
-use Rattle.saphyr_scalar.proofs.scalar.reader.Reader.read_quoted_onto.Goals as goal
+use Rattle.saphyr_scalar.proofs.scalar.reader.Reader.read_behind.Goals as goal
 
 pub returns-in_err-read_quoted_inside : goal.returns-in_err-read_quoted_inside
 returns-in_err-read_quoted_inside g c =

@@ -1,20 +1,20 @@
--- The text of a double quoted scalar is kept behind the others.
+-- The text of a quoted scalar is kept behind the others.
 use Rattle.std.proofs.Common.{drop, length, subst, ◌∙◌, ◌-◌}
 use Rattle.std.specs.Prelude.{string_bytes}
 use Rattle.std.proofs.lemmas.Str.{IsUtf8-string_bytes}
-use Rattle.saphyr_scalar.specs.Steps.Quoted.{double_quoted}
+use Rattle.saphyr_scalar.specs.Steps.Quoted.{quoted}
 use Rattle.saphyr_scalar.specs.Views.Reader.{cursor_of}
 use Rattle.saphyr_scanner.specs.Views.Asides.{Asides, IsTextOf}
 use Rattle.saphyr_scanner.proofs.HeldReads.{is_text_added, quoted_behind}
-use Rattle.saphyr_scanner.proofs.queue.aside.Aside.read_double_quoted.Goals as goal
+use Rattle.saphyr_scanner.proofs.queue.aside.Aside.read_quoted.Goals as goal
 
 pub returns-in-Ok-clause-count : goal.returns-in-Ok-clause-count
 returns-in-Ok-clause-count g c =
     let old = c.self.inside in
     let before = string_bytes old.texts in
-    let new = c.read_double_quoted_onto.new.text in
-    let behind = quoted_behind before (string_bytes new) (double_quoted c.args.indent (cursor_of c.args.reader.now))
-    (cursor_of c.read_double_quoted_onto.new.self) c.in-Ok.ensures in
+    let new = c.read_quoted_onto.new.text in
+    let behind = quoted_behind before (string_bytes new) (quoted c.args.quote c.args.indent (cursor_of c.args.reader.now))
+    (cursor_of c.read_quoted_onto.new.self) c.in-Ok.ensures in
     subst (λ (s : Asides). IsTextOf (c.len.result - c.len-before.result)
     (drop (length s.bytes) (drop old.spent (string_bytes new)))) c.self.view_is
     (is_text_added c.len.result c.len-before.result old.spent before (string_bytes new)
