@@ -239,6 +239,10 @@ impl<T: Input> Reader<T> {
         ensures { AppendsBy (run.with_front_run (sets.is_bare set)) text.old self.old result
             text.new self.new }
     {
+        // Often an escape follows another.
+        if self.look() == '%' {
+            return Ok(());
+        }
         match set {
             UriSet::Uri => self.move_run::<PlainUri>(text),
             UriSet::Suffix => self.move_run::<PlainSuffix>(text),
