@@ -1,5 +1,5 @@
 -- Escapes of double quoted scalars, a step at a time.
-use Rattle.std.proofs.Common.{◌≡◌, ℕ, zero, suc, ◌+◌, ◌-◌, ◌*◌, ◌^◌, ◌<◌, ◌≤◌, true, false, List, [], ◌∷◌, length, drop, slice_index, Ok, refl, sym, ap, ◌∙◌, arith, subst, nat_eq, ◌==◌, lit<}
+use Rattle.std.proofs.Common.{◌≡◌, ℕ, zero, suc, ◌+◌, ◌-◌, ◌*◌, ◌^◌, ◌<◌, ◌≤◌, Bool, true, false, List, [], ◌∷◌, length, length-drop, drop, slice_index, Ok, refl, sym, ap, ◌∙◌, arith, subst, nat_eq, ◌==◌, lit<}
 use Rattle.std.proofs.lemmas.Option.{none-some}
 use Rattle.std.proofs.lemmas.Bool.{false≢true}
 use Rattle.std.proofs.lemmas.Bool.Decides.{nat_tests}
@@ -42,6 +42,30 @@ pub digits_on : (start : Marker) (n i v c d : ℕ) (s t u : Cursor) → i < n �
 digits_on start n i v c d s t u lt read hex value same on =
     let h : is_hex (slice_index s.rest 0) ≡ true = rw (← read) hex in
     rw (on, same, value, read) (sym (digits_more start n i v s h lt))
+
+-- The same where the place is told alone: i digits were taken off, and m is the place before them.
+
+pub digits_begin : (start : Marker) (n : ℕ) (s : Cursor) → s.blank_so_far ≡ false
+    → digits start (n - 0) 0 (mid_line (along s.mark 0) s.rest) ≡ digits start n 0 s
+digits_begin start n s line =
+    let all : n - 0 ≡ n = omega arith in rw (all, along_none s.mark) (on_line s.blank_so_far line)
+  where
+    on_line : (b : Bool) → b ≡ false → digits start n 0 (mid_line s.mark s.rest)
+        ≡ digits start n 0 (record { rest = s.rest; mark = s.mark; blank_so_far = b })
+    on_line b e = rw e refl
+
+pub digit_passed : (m : Marker) (i : ℕ) (xs ys : List ℕ) → ys ≡ drop 1 xs
+    → mid_line (along m (i + 1)) ys ≡ pass 1 (mid_line (along m i) xs)
+digit_passed m i xs ys taken = rw (taken, ← along_more m i 1 (i + 1) refl) refl
+
+pub digit_counted : (i total : ℕ) (xs ys : List ℕ) → 0 < length xs → ys ≡ drop 1 xs → i + length xs ≤ total
+    → (i + 1) + length ys ≤ total
+digit_counted i total xs ys some taken counted = rw (taken, length-drop) (omega (arith, some, counted))
+
+pub digits_done : (start m t : Marker) (n i v : ℕ) (xs : List ℕ) (b : Bool) → i ≡ n → t ≡ along m n → b ≡ false
+    → digits start (n - i) v (mid_line (along m i) xs) ≡ Ok (v, record { rest = xs; mark = t; blank_so_far = b })
+digits_done start m t n i v xs b all place line =
+    rw (place, line, all) (digits_none start n n v (mid_line (along m n) xs) (omega arith))
 
 -- one digit more
 pub digits_below : (i v d : ℕ) → v < 16 ^ i → d < 16 → v * 16 + d < 16 ^ (i + 1)

@@ -1,6 +1,6 @@
 //! The escapes of double quoted scalars, taken off a text (YAML 1.2.2, 5.7).
 
-ghost use Rattle.std.specs.Prelude.{◌≡◌, ◌≤◌, None, slice_index};
+ghost use Rattle.std.specs.Prelude.{◌≡◌, ◌≤◌, None, false, slice_index};
 ghost use Rattle.saphyr_input.specs.Indicators.{backslash};
 ghost use Rattle.saphyr_scalar.specs.Steps.Quoted as spec;
 ghost use Rattle.saphyr_values.specs.Escapes.{short_escape};
@@ -15,9 +15,11 @@ use saphyr_values::digit_count;
 impl<T: Input> Reader<T> {
     ghost use Rattle.saphyr_scalar.specs.Views.Reader.{cursor_of, GivesBy};
 
-    // Takes off this many hexadecimal digits, and returns their value.
+    // Takes off this many hexadecimal digits, and returns their value. The place moves once behind them.
+    #[inline(always)]
     fn read_digits(&mut self, count: usize, start: Marker) -> Result<u32, Refusal>
-        requires { count ≤ 8 }
+        requires few { count ≤ 8 }
+        requires on_line { (cursor_of self.old).blank_so_far ≡ false }
         ensures { GivesBy (spec.digits start count 0) self.old result self.new }
     {
         let mut value = 0;
@@ -29,9 +31,10 @@ impl<T: Input> Reader<T> {
                     mark: start,
                 });
             }
-            self.skip_non_blank();
+            self.input.skip();
             value = value * 16 + as_hex(c);
         }
+        self.mark = self.mark.along(count);
         Ok(value)
     }
 
