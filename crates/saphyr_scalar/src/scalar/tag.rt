@@ -120,6 +120,15 @@ fn primary_handle(mut text: String) -> Result<String, AllocError>
     Ok(text)
 }
 
+// The handle `!!`, in the memory of an empty text.
+fn secondary_handle(mut text: String) -> Result<String, AllocError>
+    requires { string_bytes text ≡ [] }
+    ensures ok { IfOk result (λ handle. string_bytes handle ≡ codes "!!") }
+{
+    text.push_str("!!")?;
+    Ok(text)
+}
+
 // The handle `!word!`, or `!!` if the word is empty, in the memory of an empty text.
 fn handle_in(mut text: String, word: &str) -> Result<String, AllocError>
     requires { string_bytes text ≡ [] }
@@ -294,19 +303,19 @@ impl<T: Input> Reader<T> {
         })
     }
 
-    // Takes off the suffix of a tag after `!!` or `!word!`. It begins in the memory of the word.
+    // Takes off the suffix of a tag after its handle. It begins in the memory of the handle's word.
     #[inline(always)]
     #[tactic(auto, unfolding(crate::specs::Steps::Tag::named_tail, crate::specs::Steps::Tag::named_tag))]
-    fn read_named_suffix(
+    fn read_suffix_behind(
         &mut self,
-        alloc: Global,
+        handle: String,
         word: String,
         start: Marker,
     ) -> Result<TagParts, Stop>
+        requires { string_bytes handle ≡ spec.handle_of (string_bytes word) }
         ensures { ReadsBy spec.seen_tag (spec.named_tail start (string_bytes word)) self.old
             result self.new }
     {
-        let handle = handle_in(self.spare.begin_handle(alloc)?, word.as_str())?;
         let mut suffix = word;
         suffix.clear();
         self.read_uri_characters(UriSet::Suffix, start, &mut suffix)?;
@@ -317,6 +326,21 @@ impl<T: Input> Reader<T> {
             }));
         }
         Ok(TagParts { handle, suffix })
+    }
+
+    // Takes off the suffix of a tag after `!word!`.
+    #[inline(always)]
+    fn read_named_suffix(
+        &mut self,
+        alloc: Global,
+        word: String,
+        start: Marker,
+    ) -> Result<TagParts, Stop>
+        ensures { ReadsBy spec.seen_tag (spec.named_tail start (string_bytes word)) self.old
+            result self.new }
+    {
+        let handle = handle_in(self.spare.begin_handle(alloc)?, word.as_str())?;
+        self.read_suffix_behind(handle, word, start)
     }
 
     // Moves what is left of a suffix behind a word to the end of a text. Mostly nothing is.
@@ -370,8 +394,9 @@ impl<T: Input> Reader<T> {
     {
         let start = self.mark;
         let word = self.spare.begin_suffix(alloc)?;
+        let handle = secondary_handle(self.spare.begin_handle(alloc)?)?;
         self.skip_n_non_blank(2);
-        self.read_named_suffix(alloc, word, start)
+        self.read_suffix_behind(handle, word, start)
     }
 
     /// Takes off a tag (YAML 1.2.2, 6.9.1), from its `!` on, inside flow or outside.
