@@ -52,12 +52,13 @@ impl<T: Input> Reader<T> {
     {
         let mut blanks = String::new(alloc);
         let mut escaped = false;
+        let mut next = self.look();
         loop {
-            let c = self.read_quoted_word(quote, escaped, start, &mut text)?;
+            let c = self.read_quoted_word(next, quote, escaped, start, &mut text)?;
             if c == quote.mark() {
                 break;
             }
-            self.read_quoted_gap(c, quote, indent, start, &mut blanks, &mut text)?;
+            next = self.read_quoted_gap(c, quote, indent, start, &mut blanks, &mut text)?;
             escaped = c == '\\';
         }
         self.skip_non_blank();

@@ -1,7 +1,7 @@
 //! What is between two words of a quoted scalar: blanks, or a line break, escaped or not, and the empty lines after it
 //! (YAML 1.2.2, 7.3.1, 7.3.2 and 6.5).
 
-ghost use Rattle.std.specs.Prelude.{◌≡◌, ℕ, Bool, false, ◌==◌, ◌<◌, ◌≤◌, ◌++◌, slice_index, string_bytes, encode_utf8_all, OnOk, IsTrue};
+ghost use Rattle.std.specs.Prelude.{◌≡◌, ℕ, Bool, false, ◌==◌, ◌<◌, ◌≤◌, ◌++◌, slice_index, string_bytes, encode_utf8_all, IfOk, OnOk, IsTrue};
 ghost use Rattle.saphyr_input.specs.Classes as class;
 ghost use Rattle.saphyr_input.specs.Indicators.{backslash, full_stop};
 ghost use Rattle.saphyr_scalar.specs.Steps.Quoted as spec;
@@ -115,7 +115,7 @@ impl<T: Input> Reader<T> {
     }
 
     // Takes off the empty lines after a break, and the blanks before what follows them. Appends what the
-    // break and these lines read as to a text.
+    // break and these lines read as to a text, and returns the character that comes next.
     #[inline(never)]
     fn read_empty_quoted_lines(
         &mut self,
@@ -123,7 +123,7 @@ impl<T: Input> Reader<T> {
         indent: usize,
         start: Marker,
         text: &mut String,
-    ) -> Result<(), Stop>
+    ) -> Result<char, Stop>
         ensures same { (quote : Quote) → ReadsOn result
             (spec.with_front (string_bytes text.old)
             (spec.inner_text_at quote indent start (spec.over_lines escaped 0)
@@ -131,11 +131,13 @@ impl<T: Input> Reader<T> {
             (spec.with_front (string_bytes text.new)
             (spec.inner_text_at quote indent start spec.no_gap (cursor_of self.new))) }
         ensures shorter { OnOk result (IsNoLonger self.old self.new) }
+        ensures next { IfOk result (λ c. c ≡ slice_index (cursor_of self.new).rest 0) }
+        ensures loaded { OnOk result (1 ≤ loaded self.new) }
     {
         let empty_lines = self.skip_quoted_lines(indent)?;
         self.check_quoted_line(indent, start)?;
         push_folded_break(text, escaped, empty_lines)?;
-        Ok(())
+        Ok(self.look())
     }
 
     // The same. Mostly there is no empty line: then spaces are all that is taken off, and a look at one character tells
@@ -147,7 +149,7 @@ impl<T: Input> Reader<T> {
         indent: usize,
         start: Marker,
         text: &mut String,
-    ) -> Result<(), Stop>
+    ) -> Result<char, Stop>
         ensures same { (quote : Quote) → ReadsOn result
             (spec.with_front (string_bytes text.old)
             (spec.inner_text_at quote indent start (spec.over_lines escaped 0)
@@ -155,13 +157,15 @@ impl<T: Input> Reader<T> {
             (spec.with_front (string_bytes text.new)
             (spec.inner_text_at quote indent start spec.no_gap (cursor_of self.new))) }
         ensures shorter { OnOk result (IsNoLonger self.old self.new) }
+        ensures next { IfOk result (λ c. c ≡ slice_index (cursor_of self.new).rest 0) }
+        ensures loaded { OnOk result (1 ≤ loaded self.new) }
     {
         let c = self.look_behind_spaces();
         if !is_later_word(c, self.mark.col, indent) {
             return self.read_empty_quoted_lines(escaped, indent, start, text);
         }
         push_folded_break(text, escaped, 0)?;
-        Ok(())
+        Ok(c)
     }
 
     // Takes off a backslash and the break behind it, which mostly is a line feed.
@@ -182,7 +186,7 @@ impl<T: Input> Reader<T> {
     }
 
     // Takes off an escaped break and what follows it, up to the next word or the closing quote. Appends
-    // what this reads as to a text.
+    // what this reads as to a text, and returns the character that comes next.
     #[inline(always)]
     fn read_escaped_break(
         &mut self,
@@ -190,17 +194,20 @@ impl<T: Input> Reader<T> {
         indent: usize,
         start: Marker,
         text: &mut String,
-    ) -> Result<(), Stop>
+    ) -> Result<char, Stop>
         requires { IsTrue (spec.is_escaped_break quote (cursor_of self.old).rest) }
         ensures same { ReadsOn result (spec.with_front (string_bytes text.old)
             (spec.inner_text_at quote indent start spec.no_gap (cursor_of self.old)))
             (spec.with_front (string_bytes text.new)
             (spec.inner_text_at quote indent start spec.no_gap (cursor_of self.new))) }
         ensures shorter { OnOk result (IsShorter self.old self.new) }
+        ensures next { IfOk result (λ c. c ≡ slice_index (cursor_of self.new).rest 0) }
+        ensures loaded { OnOk result (1 ≤ loaded self.new) }
     {
         self.skip_escaped_break();
-        if self.look() == quote.mark() {
-            return Ok(());
+        let c = self.look();
+        if c == quote.mark() {
+            return Ok(c);
         }
         self.read_quoted_lines(true, indent, start, text)
     }
@@ -215,7 +222,7 @@ impl<T: Input> Reader<T> {
         start: Marker,
         blanks: &mut String,
         text: &mut String,
-    ) -> Result<(), Stop>
+    ) -> Result<char, Stop>
         requires ended { IsTrue (spec.ends_word quote (cursor_of self.old).rest) }
         requires open { (slice_index (cursor_of self.old).rest 0 == flow.mark quote) ≡ false }
         requires plain { (slice_index (cursor_of self.old).rest 0 == backslash) ≡ false }
@@ -224,6 +231,8 @@ impl<T: Input> Reader<T> {
             (spec.with_front (string_bytes text.new)
             (spec.inner_text_at quote indent start spec.no_gap (cursor_of self.new))) }
         ensures shorter { OnOk result (IsShorter self.old self.new) }
+        ensures next { IfOk result (λ c. c ≡ slice_index (cursor_of self.new).rest 0) }
+        ensures loaded { OnOk result (1 ≤ loaded self.new) }
     {
         blanks.clear();
         self.read_blanks(blanks)?;
@@ -239,7 +248,7 @@ impl<T: Input> Reader<T> {
             }));
         }
         text.push_str(blanks.as_str())?;
-        Ok(())
+        Ok(c)
     }
 
     // The same of what begins with neither a break nor a backslash. Mostly these are blanks before a word: then the
@@ -252,7 +261,7 @@ impl<T: Input> Reader<T> {
         start: Marker,
         blanks: &mut String,
         text: &mut String,
-    ) -> Result<(), Stop>
+    ) -> Result<char, Stop>
         requires ended { IsTrue (spec.ends_word quote (cursor_of self.old).rest) }
         requires open { (slice_index (cursor_of self.old).rest 0 == flow.mark quote) ≡ false }
         requires plain { (slice_index (cursor_of self.old).rest 0 == backslash) ≡ false }
@@ -261,17 +270,19 @@ impl<T: Input> Reader<T> {
             (spec.with_front (string_bytes text.new)
             (spec.inner_text_at quote indent start spec.no_gap (cursor_of self.new))) }
         ensures shorter { OnOk result (IsShorter self.old self.new) }
+        ensures next { IfOk result (λ c. c ≡ slice_index (cursor_of self.new).rest 0) }
+        ensures loaded { OnOk result (1 ≤ loaded self.new) }
     {
         let count = self.fetch_literal_blank_words(quote, text)?;
         if count == 0 {
             return self.read_blanks_alone(quote, indent, start, blanks, text);
         }
         self.mark = self.mark.along(count);
-        Ok(())
+        Ok(self.look())
     }
 
     // Takes off what is between two words, up to the next word or the closing quote. Appends what it
-    // reads as to a text. `c` is its first character.
+    // reads as to a text, and returns the character that comes next. `c` is its first character.
     #[inline(always)]
     pub(super) fn read_quoted_gap(
         &mut self,
@@ -281,7 +292,7 @@ impl<T: Input> Reader<T> {
         start: Marker,
         blanks: &mut String,
         text: &mut String,
-    ) -> Result<(), Stop>
+    ) -> Result<char, Stop>
         requires first { c ≡ slice_index (cursor_of self.old).rest 0 }
         requires loaded { 1 ≤ loaded self.old }
         requires ended { IsTrue (spec.ends_word quote (cursor_of self.old).rest) }
@@ -291,6 +302,8 @@ impl<T: Input> Reader<T> {
             (spec.with_front (string_bytes text.new)
             (spec.inner_text_at quote indent start spec.no_gap (cursor_of self.new))) }
         ensures shorter { OnOk result (IsShorter self.old self.new) }
+        ensures next { IfOk result (λ c. c ≡ slice_index (cursor_of self.new).rest 0) }
+        ensures loaded { OnOk result (1 ≤ loaded self.new) }
     {
         if is_break(c) {
             self.skip_seen_break(c);

@@ -208,23 +208,25 @@ impl<T: Input> Reader<T> {
         Some(second)
     }
 
-    // Moves such words after an escape or a gap, and returns the character that comes next. `escaped` tells whether an
-    // escape or an escaped break came before. After an escape mostly another one or the closing quote follows, and to
-    // look is cheaper than to move nothing.
+    // Moves such words after an escape or a gap, and returns the character that comes next. `c` is the first one, and
+    // `escaped` tells whether an escape or an escaped break came before. After an escape mostly another one or the
+    // closing quote follows, and to look is cheaper than to move nothing.
     #[inline(always)]
     fn read_literal_words(
         &mut self,
+        c: char,
         quote: Quote,
         escaped: bool,
         text: &mut String,
     ) -> Result<char, AllocError>
+        requires first { c ≡ slice_index (cursor_of self.old).rest 0 }
+        requires loaded { 1 ≤ loaded self.old }
         ensures moved { OnOk result
             (spec.QuotedWordsMoved quote (string_bytes text.old) (string_bytes text.new)
             (cursor_of self.old) (cursor_of self.new)) }
         ensures next { IfOk result (λ c. c ≡ slice_index (cursor_of self.new).rest 0) }
         ensures loaded { OnOk result (1 ≤ loaded self.new) }
     {
-        let c = self.look();
         if !is_literal(quote, c) {
             return Ok(c);
         }
@@ -361,15 +363,19 @@ impl<T: Input> Reader<T> {
 
     // Moves words, and the single spaces between them, to the end of a text, with their escapes
     // resolved: up to a blank, a break, escaped or not, the closing quote, NUL or the end. Returns
-    // the character that ends them. `escaped` tells whether an escaped break came before.
+    // the character that ends them. `first` is the next character, and `escaped` tells whether an
+    // escaped break came before.
     #[inline(always)]
     pub(super) fn read_quoted_word(
         &mut self,
+        first: char,
         quote: Quote,
         escaped: bool,
         start: Marker,
         text: &mut String,
     ) -> Result<char, Stop>
+        requires first { first ≡ slice_index (cursor_of self.old).rest 0 }
+        requires loaded { 1 ≤ loaded self.old }
         ensures same { (indent : ℕ) → ReadsOn result
             (spec.with_front (string_bytes text.old)
             (spec.inner_text_at quote indent start spec.no_gap (cursor_of self.old)))
@@ -381,8 +387,9 @@ impl<T: Input> Reader<T> {
         ensures loaded { OnOk result (1 ≤ loaded self.new) }
     {
         let mut escaped = escaped;
+        let mut first = first;
         loop {
-            let next = self.read_literal_words(quote, escaped, text)?;
+            let next = self.read_literal_words(first, quote, escaped, text)?;
             if !begins_special(quote, next) {
                 return Ok(next);
             }
@@ -391,6 +398,7 @@ impl<T: Input> Reader<T> {
                 return Ok(next);
             }
             escaped = true;
+            first = self.look();
         }
     }
 }

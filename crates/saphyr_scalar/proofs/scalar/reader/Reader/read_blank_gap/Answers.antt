@@ -1,3 +1,6 @@
+use Rattle.std.proofs.Common.{length, string_bytes, ap, ◌∙◌, arith}
+use Rattle.saphyr_scalar.specs.Steps.Quoted as spec
+use Rattle.saphyr_scalar.specs.Views.Cursor.{Cursor}
 use Rattle.saphyr_scalar.specs.Steps.Quoted.{is_literal}
 use Rattle.saphyr_scalar.specs.Steps.Sets.{is_content}
 use Rattle.saphyr_scalar.specs.Views.Reader.{cursor_of}
@@ -13,10 +16,13 @@ along-self-requires-clause-index g c =
 
 pub returns-clause-same : goal.returns-clause-same
 returns-clause-same g c =
-    blank_words_moved c.args.quote c.args.indent c.args.start _ _ (cursor_of c.args.self.now)
+    ap (λ (s : Cursor). spec.with_front (string_bytes c.fetch_literal_blank_words.new.text)
+    (spec.inner_text_at c.args.quote c.args.indent c.args.start spec.no_gap s)) c.look.ensures.same
+    ∙ blank_words_moved c.args.quote c.args.indent c.args.start _ _ (cursor_of c.args.self.now)
     (cursor_of c.fetch_literal_blank_words.new.self) _ _ c.in_ok-count.ensures.words c.in_ok-count.ensures.mark
     c.along-self.ensures
 
 pub returns-clause-shorter : goal.returns-clause-shorter
 returns-clause-shorter g c =
-    blank_words_shorter c.args.quote _ _ _ _ _ c.in_ok-count.ensures.words c.if-count-eq0.false
+    let less = blank_words_shorter c.args.quote _ _ _ _ _ c.in_ok-count.ensures.words c.if-count-eq0.false in
+    omega (arith, less, ap (λ (s : Cursor). length s.rest) c.look.ensures.same)

@@ -27,7 +27,9 @@ returns-clause-same g c = λ quote.
     let word = begins_word quote a.indent a.start a.escaped lines.empty_lines (string_bytes a.text.now)
     (cursor_of c.skip_quoted_lines.new.self) there lines.ensures.no_blank lines.ensures.no_break
     c.in_ok-check_quoted_line.ensures in
-    ap (λ b. spec.with_front b (spec.inner_text_at quote a.indent a.start spec.no_gap there))
+    ap (λ (s : Cursor). spec.with_front (string_bytes c.push_folded_break.new.text)
+    (spec.inner_text_at quote a.indent a.start spec.no_gap s)) c.look.ensures.same
+    ∙ ap (λ b. spec.with_front b (spec.inner_text_at quote a.indent a.start spec.no_gap there))
     c.in_ok-push_folded_break.ensures
     ∙ word.1 ∙ ap (spec.with_front (string_bytes a.text.now)) (lines.ensures.same quote a.start a.escaped)
 
@@ -38,4 +40,9 @@ returns-clause-shorter g c =
     let word = begins_word Double a.indent a.start a.escaped lines.empty_lines (string_bytes a.text.now)
     (cursor_of c.skip_quoted_lines.new.self) (cursor_of c.check_quoted_line.new.self) lines.ensures.no_blank
     lines.ensures.no_break c.in_ok-check_quoted_line.ensures in
-    omega (arith, ap (λ (s : Cursor). length s.rest) word.0, lines.ensures.shorter)
+    omega (
+      arith,
+      ap (λ (s : Cursor). length s.rest) word.0,
+      lines.ensures.shorter,
+      ap (λ (s : Cursor). length s.rest) c.look.ensures.same,
+    )

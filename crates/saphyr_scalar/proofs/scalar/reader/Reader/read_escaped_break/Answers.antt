@@ -5,26 +5,26 @@ use Rattle.saphyr_scalar.specs.Views.Reader.{cursor_of}
 use Rattle.saphyr_scalar.proofs.Quoted.Gaps.{behind_escaped, escaped_double, escaped_to_quote, escaped_to_line, reads_from}
 use Rattle.saphyr_scalar.proofs.scalar.reader.Reader.read_escaped_break.Goals as goal
 
-pub returns-then-look-mark-clause-same : goal.returns-then-look-mark-clause-same
-returns-then-look-mark-clause-same g c =
+pub returns-then-c-mark-clause-same : goal.returns-then-c-mark-clause-same
+returns-then-c-mark-clause-same g c =
     let a = c.args in
-    let there = cursor_of c.look.new.self in
-    let on : there ≡ behind_escaped (cursor_of a.self.now) = c.look.ensures.same
+    let there = cursor_of c.look-c.new.self in
+    let on : there ≡ behind_escaped (cursor_of a.self.now) = c.look-c.ensures.same
     ∙ c.skip_escaped_break.ensures in
     let quote : slice_index there.rest 0 ≡ flow.mark a.quote = ap (λ (s : Cursor). slice_index s.rest 0)
-    c.look.ensures.same ∙ sym c.look.ensures.value ∙ c.if-look-mark.true ∙ c.mark.ensures in
+    c.look-c.ensures.same ∙ sym c.look-c.ensures.value ∙ c.if-c-mark.true ∙ c.mark.ensures in
     escaped_to_quote a.quote a.indent a.start (string_bytes a.text.now) (cursor_of a.self.now) there c.requires on quote
 
 pub returns-clause-same : goal.returns-clause-same
 returns-clause-same g c =
     let a = c.args in
-    let there = cursor_of c.look.new.self in
-    let on : there ≡ behind_escaped (cursor_of a.self.now) = c.look.ensures.same
+    let there = cursor_of c.look-c.new.self in
+    let on : there ≡ behind_escaped (cursor_of a.self.now) = c.look-c.ensures.same
     ∙ c.skip_escaped_break.ensures in
     let line = escaped_to_line a.quote a.indent a.start (string_bytes a.text.now)
     (cursor_of a.self.now) there c.requires on
-    (λ e. c.if-look-mark.false
-    (c.look.ensures.value ∙ ap (λ (s : Cursor). slice_index s.rest 0) (sym c.look.ensures.same) ∙ e
+    (λ e. c.if-c-mark.false
+    (c.look-c.ensures.value ∙ ap (λ (s : Cursor). slice_index s.rest 0) (sym c.look-c.ensures.same) ∙ e
     ∙ sym c.mark.ensures)) in
     reads_from c.read_quoted_lines.result _ _ _ line (c.read_quoted_lines.ensures.same a.quote)
 

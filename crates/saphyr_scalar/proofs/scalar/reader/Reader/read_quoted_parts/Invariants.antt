@@ -1,12 +1,16 @@
-use Rattle.std.proofs.Common.{◌≡◌, length, string_bytes}
+use Rattle.std.proofs.Common.{◌≡◌, ◌≤◌, length, slice_index, string_bytes}
 use Rattle.saphyr_scalar.specs.Steps.Quoted.{with_front, inner_text_at, no_gap}
-use Rattle.saphyr_scalar.specs.Views.Reader.{cursor_of}
+use Rattle.saphyr_scalar.specs.Views.Reader.{cursor_of, loaded}
 use Rattle.saphyr_scalar.proofs.scalar.reader.Reader.read_quoted_parts.Given as goal
 
 abbrev pub invariant-loop-blanks : goal.invariant-loop-blanks
-invariant-loop-blanks g l =
-    with_front (string_bytes l.text) (inner_text_at l.fn.quote l.fn.indent l.fn.start no_gap (cursor_of l.self))
-    ≡ with_front (string_bytes l.fn.text) (inner_text_at l.fn.quote l.fn.indent l.fn.start no_gap (cursor_of l.fn.self))
+invariant-loop-blanks g l = record {
+  same : with_front (string_bytes l.text) (inner_text_at l.fn.quote l.fn.indent l.fn.start no_gap (cursor_of l.self))
+      ≡ with_front (string_bytes l.fn.text)
+      (inner_text_at l.fn.quote l.fn.indent l.fn.start no_gap (cursor_of l.fn.self));
+  next : l.next ≡ slice_index (cursor_of l.self).rest 0;
+  loaded : 1 ≤ loaded l.self;
+}
 
 abbrev pub decreases-loop-blanks : goal.decreases-loop-blanks
 decreases-loop-blanks g l = length (cursor_of l.self).rest

@@ -1,5 +1,6 @@
-use Rattle.std.proofs.Common.{length, slice_index, sym, ap, ◌∙◌, arith}
+use Rattle.std.proofs.Common.{length, slice_index, string_bytes, sym, ap, ◌∙◌, arith}
 use Rattle.saphyr_scalar.specs.Views.Cursor.{Cursor}
+use Rattle.saphyr_scalar.specs.Steps.Quoted as spec
 use Rattle.saphyr_scalar.specs.Views.Reader.{cursor_of}
 use Rattle.saphyr_scalar.proofs.Quoted.Parts.{special_none, word_ends}
 use Rattle.saphyr_scalar.proofs.scalar.reader.Reader.read_quoted_word.Goals as goal
@@ -35,18 +36,28 @@ returns-then-not-taken-clause-next g c =
 
 pub loop-next-smaller : goal.loop-next-smaller
 loop-next-smaller g c =
-    omega (arith, c.in_ok-taken.ensures.some c.if-not-taken.false, c.in_ok-next.ensures.moved.shorter)
+    omega (
+      arith,
+      c.in_ok-taken.ensures.some c.if-not-taken.false,
+      c.in_ok-next.ensures.moved.shorter,
+      ap (λ (x : Cursor). length x.rest) c.look-first.ensures.same,
+    )
 
 pub loop-next-preserved : goal.loop-next-preserved
 loop-next-preserved g c = record {
-  same = λ indent. c.in_ok-taken.ensures.same indent ∙ c.in_ok-next.ensures.moved.same indent c.args.start
+  same = λ indent. ap (λ (x : Cursor). spec.with_front (string_bytes c.read_specials.new.text)
+      (spec.inner_text_at c.args.quote indent c.args.start spec.no_gap x)) c.look-first.ensures.same
+      ∙ c.in_ok-taken.ensures.same indent ∙ c.in_ok-next.ensures.moved.same indent c.args.start
       ∙ c.loop-next.invariant.same indent;
   shorter = omega (
     arith,
     c.in_ok-taken.ensures.some c.if-not-taken.false,
     c.in_ok-next.ensures.moved.shorter,
     c.loop-next.invariant.shorter,
+    ap (λ (x : Cursor). length x.rest) c.look-first.ensures.same,
   );
+  first = c.look-first.ensures.value ∙ sym (ap (λ (x : Cursor). slice_index x.rest 0) c.look-first.ensures.same);
+  loaded = c.look-first.ensures.loaded;
 }
 
 pub returns-then-not-begins_special-clause-same : goal.returns-then-not-begins_special-clause-same
