@@ -28,6 +28,7 @@ pub mod PlainBehind
 pub mod QuotedEnds
 pub mod RightHere
 pub mod Dashes
+pub mod Feeds
 pub mod GapPlaces
 pub mod Told
 pub mod Steps

@@ -1,15 +1,16 @@
 -- What contracts see of the way to the next token.
-use Rattle.std.specs.Prelude.{ℕ, ◌≡◌, ◌<◌, ◌==◌, ◌&&◌, ◌||◌, Bool, true, false, nat_lt, length, slice_index, Result, Ok, Err}
+use Rattle.std.specs.Prelude.{ℕ, ◌≡◌, ◌-◌, ◌^◌, ◌<◌, ◌==◌, ◌&&◌, ◌||◌, Bool, true, false, nat_lt, length, slice_index, Result, Ok, Err}
 use Rattle.saphyr_input.specs.declared.input.Input.{Ghosts}
 use Rattle.saphyr_input.specs.Classes.{is_from}
 use Rattle.saphyr_input.specs.Indicators.{full_stop, hyphen, number_sign, percent_sign, quotation_mark}
 use Rattle.saphyr_scalar.specs.declared.scalar.fault.Refusal.{Refusal}
 use Rattle.saphyr_scalar.specs.declared.scalar.fault.Stop.{Stop}
-use Rattle.saphyr_scalar.specs.Views.Cursor.{◌>>=◌}
+use Rattle.saphyr_scalar.specs.Views.Cursor.{◌>>=◌, pass_break, pass_spaces}
 use Rattle.saphyr_scalar.specs.Views.Reader.{Fails}
 use Rattle.saphyr_scanner.specs.declared.engine.Engine.{Engine}
 use Rattle.saphyr_scanner.specs.declared.engine.fetch.Ahead.{Ahead}
 use Rattle.saphyr_scanner.specs.declared.engine.fetch.Ahead.TheVariants as ahead
+use Rattle.saphyr_scanner.specs.Steps.Core.{Core, in_block}
 use Rattle.saphyr_scanner.specs.Steps.State.{State}
 use Rattle.saphyr_scanner.specs.Steps.Fetch.{arrive, fetch_here, state_behind_content}
 use Rattle.saphyr_scanner.specs.Views.Engine.{state}
@@ -47,3 +48,11 @@ may_begin_mark first second =
 -- others from `$` to `z`
 abbrev pub may_begin_entry : ℕ → Bool
 may_begin_entry c = (c == quotation_mark) || is_from 36 43 c || is_from 45 90 c || is_from 94 122 c
+
+-- behind a line feed and the spaces after it, outside flow where a key may be
+abbrev pub behind_feed : Core → Core
+behind_feed c =
+    record c {
+      cursor = pass_spaces (2 ^ 64 - 1) (pass_break c.cursor);
+      key_allowed = in_block c || c.key_allowed;
+    }

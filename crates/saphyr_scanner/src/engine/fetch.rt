@@ -16,7 +16,8 @@ ghost use Rattle.saphyr_scanner.specs.Steps.Fetch as fetch;
 ghost use Rattle.saphyr_scanner.specs.Steps.Queue as spec_queue;
 ghost use Rattle.saphyr_scanner.specs.Steps.Remaining.{remaining};
 ghost use Rattle.saphyr_scanner.specs.Steps.Scalar as scalar;
-ghost use Rattle.saphyr_scanner.specs.Views.Ahead.{may_begin, may_begin_mark};
+ghost use Rattle.saphyr_scanner.specs.Steps.State.{with_core};
+ghost use Rattle.saphyr_scanner.specs.Views.Ahead.{behind_feed, may_begin, may_begin_mark};
 
 use crate::engine::{Context, Engine};
 use crate::law::takes_characters_off;
@@ -94,7 +95,7 @@ impl<T: Input> Engine<T> {
         self.reader.load(2);
         let mut c = self.reader.input().peek();
         if !(self.has_arrived(c) && self.is_content(c)) {
-            match self.arrives() {
+            match self.arrives(c) {
                 Ahead::Content => {}
                 Ahead::Nothing => return Ok(()),
                 Ahead::Stop => return Err(self.stop),
@@ -133,10 +134,57 @@ impl<T: Input> Engine<T> {
         column > 0 || !may_begin_mark(c, self.reader.input().peek_nth(1))
     }
 
+    // Passes a line feed and the spaces behind it, and loads two places.
+    #[inline(always)]
+    fn pass_feed(&mut self, c: char)
+        requires first { c ≡ slice_index (state self.old).core.cursor.rest 0 }
+        requires loaded { 1 ≤ loaded self.old.reader }
+        ensures passed { state self.new
+            ≡ with_core (behind_feed (state self.old).core) (state self.old) }
+        ensures loaded { 2 ≤ loaded self.new.reader }
+    {
+        self.reader.skip_seen_break(c);
+        self.reader.skip_spaces(usize::MAX);
+        if self.in_block() {
+            self.key_allowed = true;
+        }
+        self.reader.load(2);
+    }
+
+    // Goes on behind a line feed, where nothing may be a key. Returns whether a token that is told by its first
+    // character begins there, and nothing ends before it.
+    #[inline(always)]
+    fn passes_feed(&mut self, c: char) -> bool
+        requires first { c ≡ slice_index (state self.old).core.cursor.rest 0 }
+        requires loaded { 2 ≤ loaded self.old.reader }
+        ensures told { IsTrue result → LeadsOn (Ok true) (fetched (state self.old)) self.new }
+        ensures same { result ≡ false → fetched (state self.new) ≡ fetched (state self.old) }
+    {
+        if c != '\n' || self.level.key.is_some() {
+            return false;
+        }
+        self.pass_feed(c);
+        let next = self.reader.input().peek();
+        self.has_arrived(next) && self.is_content(next)
+    }
+
     // Goes on to where the next token begins, and puts it into the queue if its first character alone does not tell it.
-    // It is separate for speed.
+    // It is separate for speed. Mostly a line feed and spaces are all that is passed.
     #[inline(never)]
-    fn arrives(&mut self) -> Ahead
+    fn arrives(&mut self, c: char) -> Ahead
+        requires first { c ≡ slice_index (state self.old).core.cursor.rest 0 }
+        requires loaded { 2 ≤ loaded self.old.reader }
+        ensures { Leads result (fetched (state self.old)) self.new }
+    {
+        if self.passes_feed(c) {
+            return Ahead::Content;
+        }
+        self.arrives_further()
+    }
+
+    // The same for all that may be passed, and where something ends.
+    #[inline(never)]
+    fn arrives_further(&mut self) -> Ahead
         ensures { Leads result (fetched (state self.old)) self.new }
     {
         let ended = self.arrive();

@@ -1,0 +1,89 @@
+-- Behind a line feed and spaces the way to the next token goes on.
+use Rattle.std.proofs.Common.{◌≡◌, ℕ, Bool, true, false, List, [], ◌∷◌, slice_index, Result, Ok, Err, refl, sym, ap, ◌∙◌}
+use Rattle.std.specs.Prelude.{◌||◌, ◌&&◌, ◌==◌, not, if◌then◌else◌}
+use Rattle.saphyr_input.specs.Classes.{is_blank, is_bom, is_break, is_yaml_non_break, is_z}
+use Rattle.saphyr_input.specs.Indicators.{number_sign}
+use Rattle.saphyr_scalar.specs.declared.scalar.position.Marker.{Marker}
+use Rattle.saphyr_scalar.specs.declared.scalar.fault.Refusal.{Refusal}
+use Rattle.saphyr_scalar.specs.Views.Cursor.{Cursor, ◌>>=◌, along, next_line, pass_break}
+use Rattle.saphyr_scanner.specs.Steps.Core.{Core, in_block, least_column}
+use Rattle.saphyr_scanner.specs.Steps.Fetch.{arrive, fetch_here}
+use Rattle.saphyr_scanner.specs.Steps.Gap.{GapEnd, stop, end_of_gap, end_of_gap_in_comment, is_tab_indentation, whole_gap}
+use Rattle.saphyr_scanner.specs.Steps.Passing.{behind_gap, check_comment, pass_gap}
+use Rattle.saphyr_scanner.specs.Steps.State.{State, with_core}
+use Rattle.saphyr_scanner.specs.Views.Ahead.{behind_feed, fetched, with_content}
+use Rattle.saphyr_scanner.proofs.Gaps.{break_passed, spaces_passed}
+
+-- a break was met
+abbrev with_break : GapEnd → Result GapEnd Refusal
+with_break g = Ok (record { cursor = g.cursor; broke = true })
+
+either_way : (f : GapEnd → Result GapEnd Refusal) (a : Bool) (x y u v : Result GapEnd Refusal) → x ≡ (u >>= f)
+    → y ≡ (v >>= f) → (if a then x else y) ≡ ((if a then u else v) >>= f)
+either_way f true x y u v d e = d
+either_way f false x y u v d e = e
+
+stop_kept : (m : Marker) (blank broke tabbed : Bool) (t : List ℕ)
+    → stop m blank true tabbed t ≡ (stop m blank broke tabbed t >>= with_break)
+unfolding stop
+stop_kept m blank broke tabbed t =
+    either_way with_break (tabbed && is_bom (slice_index t 0)) _ _ _ _ refl
+    (either_way with_break (tabbed && not (is_z (slice_index t 0))) _ _ _ _ refl refl)
+
+mutual
+  -- it is known from then on
+  kept : (l : ℕ) (m : Marker) (blank broke tabbed : Bool) (t : List ℕ)
+      → end_of_gap l m blank true tabbed t ≡ (end_of_gap l m blank broke tabbed t >>= with_break)
+  kept l m blank broke tabbed [] = stop_kept m blank broke tabbed []
+  kept l m blank broke tabbed (c ∷ cs) =
+      either_way with_break (is_blank c || ((c == 13) && (slice_index cs 0 == 10))) _ _ _ _
+      (kept l (along m 1) blank broke (is_tab_indentation l m blank c || tabbed) cs)
+      (either_way with_break (is_break c) _ _ _ _ (kept l (next_line m 1) true true false cs)
+      (either_way with_break (c == number_sign) _ _ _ _ (kept_in_comment l (along m 1) blank broke tabbed cs)
+      (stop_kept m blank broke tabbed (c ∷ cs))))
+
+  kept_in_comment : (l : ℕ) (m : Marker) (blank broke tabbed : Bool) (t : List ℕ)
+      → end_of_gap_in_comment l m blank true tabbed t
+      ≡ (end_of_gap_in_comment l m blank broke tabbed t >>= with_break)
+  kept_in_comment l m blank broke tabbed [] = stop_kept m blank broke tabbed []
+  kept_in_comment l m blank broke tabbed (c ∷ cs) =
+      either_way with_break (is_yaml_non_break c) _ _ _ _ (kept_in_comment l (along m 1) blank broke tabbed cs)
+      (either_way with_break ((c == 13) && (slice_index cs 0 == 10)) _ _ _ _
+      (kept l (along m 1) blank broke tabbed cs)
+      (either_way with_break (is_break c) _ _ _ _ (kept l (next_line m 1) true true false cs)
+      (stop_kept m blank broke tabbed (c ∷ cs))))
+
+absorbed : (a b k : Bool) → ((true && b) || k) ≡ ((a && b) || (b || k))
+absorbed true true k = refl
+absorbed true false k = refl
+absorbed false b k = refl
+
+behind_break : (c : Core) (r : Result GapEnd Refusal)
+    → ((r >>= with_break) >>= λ g. check_comment (behind_gap c g))
+    ≡ (r >>= λ g. check_comment (behind_gap (behind_feed c) g))
+behind_break c (Ok g) =
+    ap (λ (b : Bool). check_comment (record c { cursor = g.cursor; key_allowed = b }))
+    (absorbed g.broke (in_block c) c.key_allowed)
+behind_break c (Err e) = refl
+
+gap_fed : (c : Core) → slice_index c.cursor.rest 0 ≡ 10 → pass_gap c ≡ pass_gap (behind_feed c)
+unfolding pass_gap
+gap_fed c e =
+    let l = least_column c in let s = c.cursor in let u : Cursor = pass_break s in
+    let t : Cursor = (behind_feed c).cursor in
+    let broken = break_passed l false false s s u (whole_gap l s) (slice_index s.rest 0) refl refl refl
+    (ap is_break e) refl in
+    let passed = spaces_passed l _ true false u u t (whole_gap l s) refl refl broken in
+    ap (λ (r : Result GapEnd Refusal). r >>= λ g. check_comment (behind_gap c g))
+    (sym passed ∙ kept l t.mark t.blank_so_far false false t.rest)
+    ∙ behind_break c (whole_gap l t)
+
+pub fed_ahead : (s : State) → slice_index s.core.cursor.rest 0 ≡ 10
+    → fetched (with_core (behind_feed s.core) s) ≡ fetched s
+unfolding arrive
+fed_ahead s e = rw (gap_fed s.core e) refl
+
+pub told_behind : (s t : State) → fetched t ≡ fetched s → arrive t ≡ Ok t → fetch_here t ≡ with_content t
+    → fetched s ≡ with_content t
+told_behind s t same arrived here =
+    sym same ∙ ap (λ (r : Result State Refusal). r >>= fetch_here) arrived ∙ here
