@@ -45,7 +45,8 @@ at_some names place h =
     let later : nat_eq place 0 ≡ false = grind (arith, nat_tests) in
     ap (λ (b : Bool). cond b None (Some (get_or names (place - 1) ([], 0)))) later
 
-still_at : (names more : Listed) (place : ℕ) → place ≤ length names → at_place (names ++ more) place ≡ at_place names place
+still_at : (names more : Listed) (place : ℕ) → place ≤ length names
+    → at_place (names ++ more) place ≡ at_place names place
 still_at names more place h = by (eq-zero-or-pos place)
   where
     by : (place ≡ 0) ⊎ (0 < place) → at_place (names ++ more) place ≡ at_place names place
@@ -141,7 +142,8 @@ one_settled names slots others n slot e f h is slot_is lt = record {
   room = λ _. omega (arith, lt, same_length);
   places = places;
   own = λ s x at. ap (λ (k : ℕ). slot_of x.0 k) same_length ∙ own s x at;
-  ids = λ text. ap (λ (k : ℕ). id_by (in_slot names new (slot_of text k)) text (meaning text left)) same_length ∙ ids text;
+  ids = λ text. ap (λ (k : ℕ). id_by (in_slot names new (slot_of text k)) text (meaning text left)) same_length
+      ∙ ids text;
 }
   where
     new : List ℕ

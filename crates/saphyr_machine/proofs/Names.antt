@@ -66,7 +66,8 @@ ids_meaning m name = sym (kept _) ∙ found_by_bytes (λ (x : ℕ). x) name m.en
 -- ## Names of anchors
 
 -- what a name means after a name was given a meaning
-pub meaning_with : {Z : Type 0} (name given : List ℕ) (z : Z) (names : Names Z) → meaning name (with_meaning given z names)
+pub meaning_with : {Z : Type 0} (name given : List ℕ) (z : Z) (names : Names Z)
+    → meaning name (with_meaning given z names)
     ≡ cond (is_at (slice_cmp nat_cmp name) given) (Some z) (meaning name names)
 meaning_with name given z [] = refl
 meaning_with {Z} name given z (e ∷ es) = by (slice_cmp nat_cmp given e.0) refl (meaning_with name given z es)

@@ -19,10 +19,11 @@ filled false n old new m none e slot = ap (λ (xs : List ℕ). get_or xs slot 0)
 
 pub invariant_of-self : goal.invariant_of-self
 invariant_of-self c =
+    let names = listed_names c.args.self.now.names in
     record {
-      finds = subst (λ (os : List (List ℕ × ℕ)). Finds (listed_names c.args.self.now.names) c.resize.new.self.items os 0)
+      finds = subst (λ (os : List (List ℕ × ℕ)). Finds names c.resize.new.self.items os 0)
           (sym (ap (map (λ (e : String Global × ℕ). (string_bytes e.0, e.1))) c.clear.ensures.empty))
-          (empty_table (listed_names c.args.self.now.names) c.resize.new.self.items
+          (empty_table names c.resize.new.self.items
           (filled (is_ok c.resize.result) c.saturating_mul.result c.clear-2.new.self.items c.resize.new.self.items
           (c.saturating_mul.result - vec_len c.clear-2.new.self) c.clear-2.ensures.items c.resize.ensures.items));
     }
