@@ -186,14 +186,16 @@ quoted_held quote c q flow =
   where
     read : (f : TextRead)
         → (f >>= λ x. behind_quotes c.cursor.mark (quote_style quote) x.0 (with_cursor x.1 c))
-        ≡ ((f >>= λ x. (behind_flow_quotes x.1 >>= λ d. Ok (scalar_told x.0 d))) >>= told_step (quote_style quote) c.cursor.mark c)
+        ≡ ((f >>= λ x. (behind_flow_quotes x.1 >>= λ d. Ok (scalar_told x.0 d)))
+        >>= told_step (quote_style quote) c.cursor.mark c)
     read (Err e) = refl
     read (Ok x) = step_told (quote_style quote) c.cursor.mark x.0 c x.1 flow
 
     passed : (x : List ℕ × Marker × Bool × Cursor) (f : Result Core Refusal)
         → after_step (f >>= λ d. completed_step (from_to c.cursor.mark x.1 (tokens.Scalar (quote_style quote) x.0) ∷ [])
         (adjacent_here d)) q
-        ≡ (f >>= λ d. Ok (record { core = adjacent_here d; queue = with_piece (scalar_piece (quote_style quote) c.cursor.mark x) q }))
+        ≡ (f >>= λ d. Ok (record
+        { core = adjacent_here d; queue = with_piece (scalar_piece (quote_style quote) c.cursor.mark x) q }))
     passed x (Err e) = refl
     passed x (Ok d) = refl
 

@@ -9,5 +9,6 @@ pub returns : goal.returns
 returns g c =
     let old = c.args.self.now in
     scalar_queued old.first old.second (held_places old.held) (held_places c.read_quoted.new.self) old.handed
-    (quote_style c.args.quote) c.args.reader.now.mark (flow_quoted c.args.quote c.args.indent (cursor_of c.args.reader.now))
+    (quote_style c.args.quote) c.args.reader.now.mark
+    (flow_quoted c.args.quote c.args.indent (cursor_of c.args.reader.now))
     c.read_quoted.result (cursor_of c.read_quoted.new.reader) c.read_quoted.ensures

@@ -13,7 +13,8 @@ returns-in-Ok-clause-count g c =
     let old = c.self.inside in
     let before = string_bytes old.texts in
     let new = c.read_quoted_onto.new.text in
-    let behind = quoted_behind before (string_bytes new) (quoted c.args.quote c.args.indent (cursor_of c.args.reader.now))
+    let behind = quoted_behind before (string_bytes new)
+    (quoted c.args.quote c.args.indent (cursor_of c.args.reader.now))
     (cursor_of c.read_quoted_onto.new.self) c.in-Ok.ensures in
     subst (λ (s : Asides). IsTextOf (c.len.result - c.len-before.result)
     (drop (length s.bytes) (drop old.spent (string_bytes new)))) c.self.view_is

@@ -16,8 +16,8 @@ invariant_of-self g c =
     let count = length-append old.places.items (c.in-Ok.place ∷ []) in
     let within = old.within in record {
       within = omega (arith, longer, count, within);
-      fit = (scalar_put old.spent old.places.items c.push_reserved.new.self.items c.in-Ok.place Plain c.args.reader.now.mark
-          old.aside c.read_plain.new.aside (cursor_of c.read_plain.new.reader) c.in-Ok.comment
+      fit = (scalar_put old.spent old.places.items c.push_reserved.new.self.items c.in-Ok.place Plain
+          c.args.reader.now.mark old.aside c.read_plain.new.aside (cursor_of c.read_plain.new.reader) c.in-Ok.comment
           (plain c.args.in_flow c.args.indent (cursor_of c.args.reader.now)) old.within
           c.push_reserved.ensures.items old.fit
           c.in-Ok.ensures).0;

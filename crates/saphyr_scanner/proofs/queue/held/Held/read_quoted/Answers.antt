@@ -14,8 +14,8 @@ invariant_of-self g c =
     let count = length-append old.places.items (c.in-Ok.place ∷ []) in
     let within = old.within in record {
       within = omega (arith, longer, count, within);
-      fit = (scalar_put old.spent old.places.items c.push_reserved.new.self.items c.in-Ok.place (quote_style c.args.quote) c.args.reader.now.mark
-          old.aside c.read_quoted.new.aside (cursor_of c.read_quoted.new.reader) c.in-Ok.is_at_indicator
+      fit = (scalar_put old.spent old.places.items c.push_reserved.new.self.items c.in-Ok.place
+          (quote_style c.args.quote) c.args.reader.now.mark old.aside c.read_quoted.new.aside (cursor_of c.read_quoted.new.reader) c.in-Ok.is_at_indicator
           (flow_quoted c.args.quote c.args.indent (cursor_of c.args.reader.now)) old.within
           c.push_reserved.ensures.items old.fit
           c.in-Ok.ensures).0;
@@ -28,6 +28,7 @@ returns-in-Ok g c =
     let start = c.args.reader.now.mark in
     let read = flow_quoted c.args.quote c.args.indent (cursor_of c.args.reader.now) in
     ap (λ ps. with_scalar (quote_style c.args.quote) ps start read) (sym c.make_room.ensures.same)
-    ∙ (scalar_put old.spent old.places.items c.push_reserved.new.self.items c.in-Ok.place (quote_style c.args.quote) start
+    ∙ (scalar_put old.spent old.places.items c.push_reserved.new.self.items c.in-Ok.place
+    (quote_style c.args.quote) start
     old.aside c.read_quoted.new.aside (cursor_of c.read_quoted.new.reader) c.in-Ok.is_at_indicator
     read old.within c.push_reserved.ensures.items old.fit c.in-Ok.ensures).1
