@@ -1,18 +1,20 @@
 -- Behind a line feed and spaces the way to the next token goes on.
-use Rattle.std.proofs.Common.{◌≡◌, ℕ, Bool, true, false, List, [], ◌∷◌, slice_index, Result, Ok, Err, refl, sym, ap, ◌∙◌}
+use Rattle.std.proofs.Common.{◌≡◌, ℕ, Bool, true, false, List, [], ◌∷◌, slice_index, Result, Ok, Err, None, refl, sym, ap, ◌∙◌}
 use Rattle.std.specs.Prelude.{◌||◌, ◌&&◌, ◌==◌, not, if◌then◌else◌}
 use Rattle.saphyr_input.specs.Classes.{is_blank, is_bom, is_break, is_yaml_non_break, is_z}
 use Rattle.saphyr_input.specs.Indicators.{number_sign}
 use Rattle.saphyr_scalar.specs.declared.scalar.position.Marker.{Marker}
 use Rattle.saphyr_scalar.specs.declared.scalar.fault.Refusal.{Refusal}
 use Rattle.saphyr_scalar.specs.Views.Cursor.{Cursor, ◌>>=◌, along, next_line, pass_break}
-use Rattle.saphyr_scanner.specs.Steps.Core.{Core, in_block, least_column}
+use Rattle.saphyr_scanner.specs.Steps.Core.{Core, drop_far_key, in_block, is_too_far, least_column, with_key}
 use Rattle.saphyr_scanner.specs.Steps.Fetch.{arrive, fetch_here}
 use Rattle.saphyr_scanner.specs.Steps.Gap.{GapEnd, stop, end_of_gap, end_of_gap_in_comment, is_tab_indentation, whole_gap}
 use Rattle.saphyr_scanner.specs.Steps.Passing.{behind_gap, check_comment, pass_gap}
 use Rattle.saphyr_scanner.specs.Steps.State.{State, with_core}
-use Rattle.saphyr_scanner.specs.Views.Ahead.{behind_feed, fetched, with_content}
+use Rattle.saphyr_scanner.specs.Views.Ahead.{behind_feed, fetched, may_begin, with_content}
 use Rattle.saphyr_scanner.proofs.Gaps.{break_passed, spaces_passed}
+use Rattle.saphyr_scanner.proofs.RightHere.{no_gap}
+use Rattle.saphyr_input.proofs.Basics.Booleans.{and_false}
 
 -- a break was met
 abbrev with_break : GapEnd → Result GapEnd Refusal
@@ -87,3 +89,13 @@ pub told_behind : (s t : State) → fetched t ≡ fetched s → arrive t ≡ Ok 
     → fetched s ≡ with_content t
 told_behind s t same arrived here =
     sym same ∙ ap (λ (r : Result State Refusal). r >>= fetch_here) arrived ∙ here
+
+-- a candidate that is too far is dropped where a token begins
+pub dropped_ahead : (s : State) → may_begin (slice_index s.core.cursor.rest 0) ≡ true → s.core.comment ≡ None
+    → (in_block s.core && is_too_far s.core.level.key s.core.cursor.mark) ≡ true → s.core.required ≡ false
+    → fetched (with_core (with_key None s.core) s) ≡ fetched s
+unfolding arrive drop_far_key
+dropped_ahead s begins none far free =
+    let c = s.core in let d = with_key None c in
+    rw (no_gap c begins none, no_gap d begins none, far, free, and_false (in_block c), and_false (not (in_block c)))
+    refl

@@ -24,7 +24,7 @@ is_no_break x e = grind (arith, nat_tests)
 is_no_sign : (x : ℕ) → may_begin x ≡ true → (x == number_sign) ≡ false
 is_no_sign x e = grind (arith, nat_tests)
 
-no_gap : (c : Core) → may_begin (slice_index c.cursor.rest 0) ≡ true → c.comment ≡ None → pass_gap c ≡ Ok c
+pub no_gap : (c : Core) → may_begin (slice_index c.cursor.rest 0) ≡ true → c.comment ≡ None → pass_gap c ≡ Ok c
 unfolding pass_gap check_comment
 no_gap c begins none =
     let x = slice_index c.cursor.rest 0 in

@@ -151,8 +151,20 @@ impl<T: Input> Engine<T> {
         self.reader.load(2);
     }
 
-    // Goes on behind a line feed, where nothing may be a key. Returns whether a token that is told by its first
-    // character begins there, and nothing ends before it.
+    // A candidate outside flow that is too far is none any more where a token begins, unless it must be a key.
+    #[inline(always)]
+    fn lets_key_go(&mut self, c: char)
+        requires { c ≡ slice_index (state self.old).core.cursor.rest 0 }
+        ensures ahead { fetched (state self.new) ≡ fetched (state self.old) }
+        ensures reader { self.new.reader ≡ self.old.reader }
+    {
+        if self.has_far_key() && may_begin(c) && self.comment.is_none() && !self.required {
+            self.level.key = None;
+        }
+    }
+
+    // Goes on behind a line feed. Returns whether a token that is told by its first character begins there, and nothing
+    // ends before it.
     #[inline(always)]
     fn passes_feed(&mut self, c: char) -> bool
         requires first { c ≡ slice_index (state self.old).core.cursor.rest 0 }
@@ -160,11 +172,12 @@ impl<T: Input> Engine<T> {
         ensures told { IsTrue result → LeadsOn (Ok true) (fetched (state self.old)) self.new }
         ensures same { result ≡ false → fetched (state self.new) ≡ fetched (state self.old) }
     {
-        if c != '\n' || self.level.key.is_some() {
+        if c != '\n' {
             return false;
         }
         self.pass_feed(c);
         let next = self.reader.input().peek();
+        self.lets_key_go(next);
         self.has_arrived(next) && self.is_content(next)
     }
 
