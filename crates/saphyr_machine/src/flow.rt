@@ -245,8 +245,7 @@ impl<T: Input> Machine<T> {
         Ok(())
     }
 
-    // The node after a key's token.
-    #[inline(always)]
+    // The node after a key's token. It has no hint, so that `flow_mapping_pair` is small enough for its own.
     #[tactic(auto, unfolding(crate::specs::Steps::Flow::flow_key_node))]
     fn flow_key_node<'input>(&mut self, next: &mut (Event<'input>, Span)) -> Result<(), Stop>
         ensures { TellsBy spec.flow_key_node self.old result next.new self.new }
