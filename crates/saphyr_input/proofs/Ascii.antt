@@ -262,6 +262,9 @@ first_one : (bs : List ℕ) → get_or bs 0 0 < 128 → (k : ℕ) → k < 1 → 
 first_one bs a zero l = a
 first_one bs a (suc k) l = absurd (omega arith)
 
+pub past_one : (bs : List ℕ) → IsUtf8 bs → 0 < length (chars bs) → get_or (chars bs) 0 0 < 128 → PastAscii bs 1
+past_one bs u l a = past_ascii bs 1 u (bytes_left bs l) (first_one bs (small_byte _ _ (first_stands bs u) a))
+
 pub past_two : (bs : List ℕ) → IsUtf8 bs → 2 ≤ length (chars bs) → get_or (chars bs) 0 0 < 128
     → get_or (chars bs) 1 0 < 128 → PastAscii bs 2
 past_two bs u l a b =

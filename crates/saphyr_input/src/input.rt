@@ -119,6 +119,17 @@ pub trait Input {
         }
     }
 
+    /// Takes a character off that is ASCII.
+    fn skip_ascii(&mut self)
+        requires loaded { 1 ≤ loaded self.old }
+        requires some { 0 < length (rest self.old) }
+        requires ascii { slice_index (rest self.old) 0 < 128 }
+        ensures rest { rest self.new ≡ drop 1 (rest self.old) }
+        ensures loaded { loaded self.old ≤ loaded self.new + 1 }
+    {
+        self.skip();
+    }
+
     /// Takes two characters off, both of them ASCII.
     fn skip_two_ascii(&mut self)
         requires loaded { 2 ≤ loaded self.old }

@@ -7,8 +7,9 @@ mod text;
 mod wide;
 
 use self::text::{
-    ascii_behind, ascii_run, begins_with_2, behind, behind_two_ascii, blank_words, first_byte,
-    is_marker, nth_char, run, run_here, second_char, spaces, split_blanks, split_first, words,
+    ascii_behind, ascii_run, begins_with_2, behind, behind_ascii, behind_two_ascii, blank_words,
+    first_byte, is_marker, nth_char, run, run_here, second_char, spaces, split_blanks, split_first,
+    words,
 };
 use crate::char_set::{Alpha, Blank, CharSet, NonBreak, NonSpace, SpacedSet};
 use crate::char_traits::{
@@ -168,6 +169,11 @@ impl Input for StrInput<'_> {
     #[inline(always)]
     fn ascii_behind(&self, first: char) -> Option<char> {
         ascii_behind(self.rest, first)
+    }
+
+    #[inline(always)]
+    fn skip_ascii(&mut self) {
+        self.rest = behind_ascii(self.rest);
     }
 
     #[inline(always)]

@@ -204,7 +204,7 @@ impl<T: Input> Reader<T> {
         // Most breaks are line feeds, for which one look is enough.
         match self.input.look_ch() {
             '\n' => {
-                self.input.skip();
+                self.input.skip_ascii();
                 self.start_line(1);
             }
             '\r' => self.skip_carriage_return(),
@@ -220,7 +220,7 @@ impl<T: Input> Reader<T> {
         ensures { cursor_of self.new ≡ spec.pass_break (cursor_of self.old) }
     {
         if c == '\n' {
-            self.input.skip();
+            self.input.skip_ascii();
             self.start_line(1);
         } else {
             self.skip_line_break();

@@ -87,6 +87,16 @@ pub(super) fn ascii_behind(text: &str, first: char) -> Option<char>
     byte_behind(text.as_bytes(), first)
 }
 
+// What follows a character that is ASCII.
+#[inline(always)]
+pub(super) fn behind_ascii(text: &str) -> &str
+    requires some { 0 < length (chars text.now) }
+    requires ascii { slice_index (chars text.now) 0 < 128 }
+    ensures { chars result.now ≡ drop 1 (chars text.now) }
+{
+    &text[1..]
+}
+
 // What follows two characters, both of them ASCII.
 #[inline(always)]
 pub(super) fn behind_two_ascii(text: &str) -> &str
