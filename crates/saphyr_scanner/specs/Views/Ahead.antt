@@ -44,10 +44,11 @@ abbrev pub may_begin_mark : ℕ → ℕ → Bool
 may_begin_mark first second =
     (first == percent_sign) || (first == full_stop) || ((first == hyphen) && (second == hyphen))
 
--- a character that most entries begin with, and no blank, break, `#`, flow indicator or byte order mark: `"`, and
--- others from `$` to `z`
+-- a character that most entries begin with, and no blank, break, `#`, flow indicator or byte order mark: `"`, others
+-- from `$` to `z`, and most that are not ASCII
 abbrev pub may_begin_entry : ℕ → Bool
 may_begin_entry c = (c == quotation_mark) || is_from 36 43 c || is_from 45 90 c || is_from 94 122 c
+    || is_from 160 55295 c
 
 -- behind a line feed and the spaces after it, outside flow where a key may be
 abbrev pub behind_feed : Core → Core

@@ -22,7 +22,7 @@ use saphyr_scalar::{FaultText, Stop};
 fn may_begin_entry(c: char) -> bool
     ensures { result ≡ may_begin_entry c }
 {
-    matches!(c, '"' | '$'..='+' | '-'..='Z' | '^'..='z')
+    matches!(c, '"' | '$'..='+' | '-'..='Z' | '^'..='z' | '\u{A0}'..='\u{D7FF}')
 }
 
 impl<T: Input> Engine<T> {
