@@ -51,7 +51,6 @@ impl<T: Input> Machine<T> {
     }
 
     // The comma before an entry of a flow sequence, with the entry, or the end of the sequence.
-    #[inline(always)]
     #[tactic(auto, unfolding(crate::specs::Steps::Flow::flow_sequence_entry))]
     pub(super) fn flow_sequence_entry<'input>(
         &mut self,
@@ -179,7 +178,6 @@ impl<T: Input> Machine<T> {
     }
 
     // The comma before a pair of a flow mapping, with its key, or the end of the mapping.
-    #[inline(always)]
     #[tactic(auto, unfolding(crate::specs::Steps::Flow::flow_mapping_key))]
     pub(super) fn flow_mapping_key<'input>(
         &mut self,
@@ -262,7 +260,6 @@ impl<T: Input> Machine<T> {
     }
 
     // The value of a pair of a flow mapping.
-    #[inline(always)]
     #[tactic(auto, unfolding(crate::specs::Steps::Flow::flow_mapping_value))]
     pub(super) fn flow_mapping_value<'input>(
         &mut self,
