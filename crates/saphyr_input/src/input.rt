@@ -134,7 +134,8 @@ pub trait Input {
     fn skip_two_ascii(&mut self)
         requires loaded { 2 ≤ loaded self.old }
         requires some { 2 ≤ length (rest self.old) }
-        requires ascii { (slice_index (rest self.old) 0 < 128) × (slice_index (rest self.old) 1 < 128) }
+        requires ascii { (slice_index (rest self.old) 0 < 128)
+            × (slice_index (rest self.old) 1 < 128) }
         ensures rest { rest self.new ≡ drop 2 (rest self.old) }
         ensures loaded { loaded self.old ≤ loaded self.new + 2 }
     {

@@ -15,8 +15,8 @@ impl<T: Input> Machine<T> {
     ghost use Rattle.saphyr_scanner.specs.Views.Tokens.{piece};
     ghost use Rattle.saphyr_machine.specs.Views.Machines.{machine_of, told_event_of, TellsBy};
 
-    // The first entry of a flow sequence, or the end of the sequence. It is separate from entries after a comma for speed:
-    // a function that would grow too large is not inlined, and `event` is to be.
+    // The first entry of a flow sequence, or the end of the sequence. It is separate from entries after a comma for
+    // speed: a function that would grow too large is not inlined, and `event` is to be.
     pub(super) fn flow_sequence_first_entry<'input>(
         &mut self,
         next: &mut (Event<'input>, Span),
@@ -29,10 +29,7 @@ impl<T: Input> Machine<T> {
     // The first entry of a flow sequence, or the one after a comma, or the end of the sequence.
     #[inline(always)]
     #[tactic(auto, unfolding(crate::specs::Steps::Flow::flow_sequence_first_entry))]
-    fn flow_sequence_item<'input>(
-        &mut self,
-        next: &mut (Event<'input>, Span),
-    ) -> Result<(), Stop>
+    fn flow_sequence_item<'input>(&mut self, next: &mut (Event<'input>, Span)) -> Result<(), Stop>
         ensures { TellsBy spec.flow_sequence_first_entry self.old result next.new self.new }
     {
         let token = self.take()?;

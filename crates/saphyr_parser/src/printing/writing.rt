@@ -58,8 +58,8 @@ pub(super) fn write_number<W: Write>(out: &mut W, number: u128) -> Result<(), Un
     write_all(out, &digit)
 }
 
-// The letter that follows the backslash for each byte that is escaped, and 0 for each other one. A look at a table takes
-// fewer instructions than comparisons.
+// The letter that follows the backslash for each byte that is escaped, and 0 for each other one. A look at a table
+// takes fewer instructions than comparisons.
 const LETTERS: [u8; 256] = [
     0, 0, 0, 0, 0, 0, 0, 0, 98, 116, 110, 0, 0, 114, 0, 0, 0, 0, 0, 0, 0, 0, 0, 0, 0, 0, 0, 0, 0,
     0, 0, 0, 0, 0, 0, 0, 0, 0, 0, 0, 0, 0, 0, 0, 0, 0, 0, 0, 0, 0, 0, 0, 0, 0, 0, 0, 0, 0, 0, 0, 0,

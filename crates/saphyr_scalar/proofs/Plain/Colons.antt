@@ -73,15 +73,6 @@ pub record ColonsRan (f : Bool) (start now text grown : List ℕ) (n c : ℕ) : 
   pub count : n + colons_len f now ≡ colons_len f start
   pub read : c ≡ slice_index now 0
 
-pub no_colons_ran : (f : Bool) (start text : List ℕ) (c : ℕ) → c ≡ slice_index start 0
-    → ColonsRan f start start text text 0 c
-no_colons_ran f start text c read = record {
-  ran = record { run = omega arith; left = refl; total = omega arith };
-  appended = sym (append-nil text);
-  count = omega arith;
-  read = read;
-}
-
 -- what the look at the character after a colon tells
 pub colon_goes : (f : Bool) (start now seen text grown : List ℕ) (n c next : ℕ) (b : Bool)
     → ColonsRan f start now text grown n c → c ≡ colon → seen ≡ now → next ≡ slice_index seen 1
@@ -104,7 +95,8 @@ colons_more f start now seen after text grown pushed n c next r is goes same sec
       appended = text_more (λ d. d == 58) start now text grown pushed n refl here r.ran r.appended
           (e ∙ ap (λ (d : ℕ). grown ++ encode_utf8 d) (sym first));
       count = rw taken (omega (arith, r.count, more));
-      read = second ∙ ap (λ (xs : List ℕ). slice_index xs 1) same ∙ sym (get_or-drop 1 now 0 0) ∙ ap (λ (xs : List ℕ). slice_index xs 0) (sym taken);
+      read = second ∙ ap (λ (xs : List ℕ). slice_index xs 1) same ∙ sym (get_or-drop 1 now 0 0) ∙ ap (λ (xs : List
+          ℕ). slice_index xs 0) (sym taken);
     }
 
 -- the loop ends at a colon after which the word does not go on, or at another character

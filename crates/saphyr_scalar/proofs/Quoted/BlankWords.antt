@@ -55,7 +55,8 @@ character_passed : (q : Quote) (indent : ℕ) (start m : Marker) (c : ℕ) (cs :
     → PassesQuotedCharacter q indent start m c cs
 character_passed q indent start m c cs h =
     let next = drop (prefix_len is_blank cs) cs in
-    either (is_literal q c) (is_blank c && is_content (slice_index next 0)) (PassesQuotedCharacter q indent start m c cs)
+    either (is_literal q c) (is_blank c && is_content (slice_index next 0)) (PassesQuotedCharacter q indent start m
+    c cs)
     h (λ is. stands q indent start m c cs is) (λ is.
     let two = both_true (is_blank c) (is_content (slice_index next 0)) is in
     blank_passed q indent start m c cs two.0 two.1)
@@ -69,12 +70,16 @@ blank_words_piece q indent start m (suc n) (c ∷ cs) l =
     by_test (is_literal q c || (is_blank c && is_content (slice_index (drop (prefix_len is_blank cs) cs) 0)))
     (1 + blank_words_len (is_literal q) is_content cs) 0 (λ k. suc n ≤ k → WordPiece q indent start m (c ∷ cs) (suc n))
     (λ h less. piece_on q indent start m c cs n (character_passed q indent start m c cs h)
-    (blank_words_piece q indent start (along m 1) n cs (omega (arith, less)))) (λ _ less. absurd (omega (arith, less))) l
+    (blank_words_piece q indent start (along m 1) n cs (omega (arith, less)))) (λ _ less. absurd (omega (
+      arith,
+      less,
+    ))) l
 
 -- What the calls that take such a piece leave.
 
 -- n characters were taken
-pub blank_words_moved : (q : Quote) (indent : ℕ) (start : Marker) (text grown : List ℕ) (s t : Cursor) (m : Marker) (n : ℕ)
+pub blank_words_moved : (q : Quote) (indent : ℕ) (start : Marker) (text grown : List ℕ) (s t : Cursor) (m : Marker)
+    (n : ℕ)
     → TransfersBlankWords (is_literal q) is_content n s.rest t.rest text grown → t.mark ≡ s.mark → m ≡ along t.mark n
     → with_front grown (inner_text q indent start no_gap 0 m t.rest)
     ≡ with_front text (inner_text_at q indent start no_gap s)

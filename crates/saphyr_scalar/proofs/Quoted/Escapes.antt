@@ -98,15 +98,6 @@ two_left (x ∷ y ∷ xs) a b = omega arith
 no_nul_digits : (n : ℕ) → digit_count 0 ≡ Some n → ⊥
 no_nul_digits n e = absurd (cc)
 
-no_nul_escape : (c : ℕ) → short_escape 0 ≡ Some c → ⊥
-unfolding short_escape
-no_nul_escape c e = none-some c e
-
--- an escape of one letter has its letter
-pub letter_left : (xs : List ℕ) (c : ℕ) → slice_index xs 0 ≡ backslash → short_escape (slice_index xs 1) ≡ Some c
-    → 2 ≤ length xs
-letter_left xs c slash e = two_left xs (λ z. absurd (omega arith)) (λ z. no_nul_escape c (rw z at e))
-
 -- an escape of digits has its letter
 pub digits_left : (xs : List ℕ) (n : ℕ) → slice_index xs 0 ≡ backslash → digit_count (slice_index xs 1) ≡ Some n
     → 2 ≤ length xs

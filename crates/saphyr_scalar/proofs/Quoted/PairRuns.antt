@@ -134,7 +134,8 @@ pair_ran q text grown more s rest now n m c ran e taken longer count =
     let is = pair_is q rest c e in
     record {
       same = λ indent start. rw (taken, longer, count, ← along_more s.mark n 2 (n + 2) refl)
-          (special_moved q indent start grown (mid_line (along s.mark n) rest) (pass 2 (mid_line (along s.mark n) rest)) c
+          (special_moved q indent start grown (mid_line (along s.mark n) rest) (pass 2 (mid_line (along s.mark n)
+          rest)) c
           (is.special_is start (mid_line (along s.mark n) rest) refl)
           ∙ ran.same indent start);
       left = rw (taken, ran.left) (drop_more 2 n m s.rest count);
@@ -149,15 +150,6 @@ pairs_fit q text grown s rest n c ran e fits =
 
 pub pair_shorter : (q : Quote) (xs now : List ℕ) (c : ℕ) → pair q xs ≡ Some c → now ≡ drop 2 xs → length now < length xs
 pair_shorter q xs now c e taken = let is = pair_is q xs c e in rw (taken, length-drop) (omega (arith, is.long))
-
-pub pairs_moved : (q : Quote) (text grown : List ℕ) (s : Cursor) (rest : List ℕ) (n : ℕ) (m t : Marker)
-    → PairsRan q text grown s rest n → m ≡ s.mark → t ≡ along m n → 0 < n
-    → PairsMoved q text grown s (mid_line t rest)
-pairs_moved q text grown s rest n m t ran same place some =
-    record {
-      same = λ indent start. rw (place, same) (ran.same indent start);
-      shorter = rw (ran.left, length-drop) (omega (arith, ran.within));
-    }
 
 -- escapes as the steps of a scalar see them
 pub special_of_escape : (start : Marker) (s : Cursor) (r : Result (ℕ × Cursor) Refusal)
@@ -176,7 +168,8 @@ special_of_break start s t same h = rw (same, h) (no_test (slice_index s.rest 0 
     no_test true = refl
     no_test false = refl
 
-pub special_unknown : (start : Marker) (s : Cursor) → slice_index s.rest 0 ≡ backslash → IsNoLetter (slice_index s.rest 1)
+pub special_unknown : (start : Marker) (s : Cursor) → slice_index s.rest 0 ≡ backslash → IsNoLetter (slice_index
+    s.rest 1)
     → special Double start s ≡ refuse fault.UnknownEscape start
 unfolding special escaped_character escape_of escape_by_number
 special_unknown start s first none = rw (first, none.break, none.short, none.long) refl

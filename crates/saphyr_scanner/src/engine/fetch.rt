@@ -333,8 +333,8 @@ impl<T: Input> Engine<T> {
         Ok(())
     }
 
-    // The same with the stop kept, as `reads_on` does. It is separate for speed: the places for the results of its calls
-    // are cleared here, and not for each token.
+    // The same with the stop kept, as `reads_on` does. It is separate for speed: the places for the results of its
+    // calls are cleared here, and not for each token.
     #[inline(never)]
     fn fetches_rare(&mut self, c: char, next: char) -> bool
         requires some { 0 < length (state self.old).core.cursor.rest }

@@ -9,7 +9,8 @@ pub returns-then-has_arrived-clause-told : goal.returns-then-has_arrived-clause-
 returns-then-has_arrived-clause-told g c right =
     let s = state c.args.self.now in let t = state c.lets_key_go.new.self in
     let first : slice_index s.core.cursor.rest 0 ≡ 10 = search rules in
-    let same : fetched t ≡ fetched s = c.lets_key_go.ensures.ahead ∙ ap fetched c.pass_feed.ensures.passed ∙ fed_ahead s first in
+    let same : fetched t ≡ fetched s = c.lets_key_go.ensures.ahead ∙ ap fetched c.pass_feed.ensures.passed ∙
+    fed_ahead s first in
     let content = c.is_content.ensures right in
     (told_behind s t same (c.has_arrived.ensures c.if-has_arrived.true) content.0, content.1)
 

@@ -50,7 +50,8 @@ loop-preserved g c =
       mark = ap (λ (s : Cursor). s.mark) c.look-c.ensures.same ∙ c.loop.invariant.mark;
       line = ap (λ (s : Cursor). s.blank_so_far) c.look-c.ensures.same ∙ c.loop.invariant.line;
       counted = digit_counted i _ (cursor_of c.loop.self).rest _
-          (digit_is_left c.look-c.result (cursor_of c.loop.self) (cursor_of c.loop.self) c.look-c.ensures.value refl hex)
+          (digit_is_left c.look-c.result (cursor_of c.loop.self) (cursor_of c.loop.self) c.look-c.ensures.value
+          refl hex)
           taken c.loop.invariant.counted;
     }
 

@@ -34,8 +34,10 @@ returns-in_err-tabbed-2 g c =
     let here = cursor_of c.loop-c.self in
     let text = string_bytes c.loop-c.text in
     let inv = c.loop-c.invariant in
-    let breaks = shows is_break here.rest _ _ _ c.look-c.ensures.value c.is_break.ensures.test c.if-not-is_break.false in
-    let failed = break_gap_read i start _ (string_bytes c.skip_empty_lines.new.feeds) _ here (cursor_of c.look-c.new.self)
+    let breaks = shows is_break here.rest _ _ _ c.look-c.ensures.value c.is_break.ensures.test
+    c.if-not-is_break.false in
+    let failed = break_gap_read i start _ (string_bytes c.skip_empty_lines.new.feeds) _ here (cursor_of
+    c.look-c.new.self)
     (cursor_of c.skip_plain_break.new.self) (cursor_of c.skip_empty_lines.new.self) (Err c.in_err-tabbed-2.field-0.0)
     inv.on_line c.look-c.ensures.same breaks c.skip_plain_break.ensures.passed c.clear.ensures.bytes
     c.in_err-tabbed-2.ensures in
@@ -46,8 +48,10 @@ returns-in_err-tabbed-2 g c =
 pub skip_empty_lines-requires : goal.skip_empty_lines-requires
 skip_empty_lines-requires g c =
     let here = cursor_of c.loop-c.self in
-    let breaks = shows is_break here.rest _ _ _ c.look-c.ensures.value c.is_break.ensures.test c.if-not-is_break.false in
-    blank_behind_break _ here (cursor_of c.look-c.new.self) (cursor_of c.skip_plain_break.new.self) c.look-c.ensures.same
+    let breaks = shows is_break here.rest _ _ _ c.look-c.ensures.value c.is_break.ensures.test
+    c.if-not-is_break.false in
+    blank_behind_break _ here (cursor_of c.look-c.new.self) (cursor_of c.skip_plain_break.new.self)
+    c.look-c.ensures.same
     breaks c.skip_plain_break.ensures.passed
 
 pub returns-in_err-next_plain_word_starts : goal.returns-in_err-next_plain_word_starts

@@ -10,7 +10,8 @@ loop-c-smaller g c =
     let front = line_front c.args.indent c.args.start c.loop-c.tabbed (string_bytes c.loop-c.feeds) _
     (cursor_of c.loop-c.self) (cursor_of c.look_behind_spaces-c.new.self) (cursor_of c.look_behind_spaces-c.new.self)
     _ _ c.look_behind_spaces-c.ensures.passed c.look_behind_spaces-c.ensures.value refl c.is_blank_or_break.ensures in
-    let past = past_of c.args.indent c.loop-c.tabbed (string_bytes c.loop-c.feeds) (cursor_of c.look_behind_spaces-c.new.self) _
+    let past = past_of c.args.indent c.loop-c.tabbed (string_bytes c.loop-c.feeds) (cursor_of
+    c.look_behind_spaces-c.new.self) _
     (string_bytes c.skip_plain_white.new.feeds) (cursor_of c.skip_plain_white.new.self) c.in_ok-tabbed.ensures in
     front.shorter _ (white_shorter _ _ _ _ _ _ _ (front.white ∙ c.if-not-is_blank_or_break.false) past)
 
@@ -19,7 +20,8 @@ loop-c-preserved g c =
     let front = line_front c.args.indent c.args.start c.loop-c.tabbed (string_bytes c.loop-c.feeds) _
     (cursor_of c.loop-c.self) (cursor_of c.look_behind_spaces-c.new.self) (cursor_of c.look_behind_spaces-c.new.self)
     _ _ c.look_behind_spaces-c.ensures.passed c.look_behind_spaces-c.ensures.value refl c.is_blank_or_break.ensures in
-    let past = past_of c.args.indent c.loop-c.tabbed (string_bytes c.loop-c.feeds) (cursor_of c.look_behind_spaces-c.new.self) _
+    let past = past_of c.args.indent c.loop-c.tabbed (string_bytes c.loop-c.feeds) (cursor_of
+    c.look_behind_spaces-c.new.self) _
     (string_bytes c.skip_plain_white.new.feeds) (cursor_of c.skip_plain_white.new.self) c.in_ok-tabbed.ensures in
     record {
       blank = white_blank _ _ _ _ _ _ _ (front.blank ∙ c.loop-c.invariant.blank) past;

@@ -14,7 +14,8 @@ overflow_add-count g c =
     let breaks : class.is_break (slice_index (cursor_of c.look_behind_spaces-c.new.self).rest 0) ≡ true =
     ap class.is_break (sym c.look_behind_spaces-c.ensures.value) ∙ sym c.is_break.ensures.test ∙ c.if-is_break.true in
     let less = break_turn_shorter _ (cursor_of c.loop-self.self) (cursor_of c.look_behind_spaces-c.new.self)
-    (cursor_of c.look_behind_spaces-c.new.self) (cursor_of c.skip_seen_break.new.self) c.look_behind_spaces-c.ensures.passed breaks
+    (cursor_of c.look_behind_spaces-c.new.self) (cursor_of c.skip_seen_break.new.self)
+    c.look_behind_spaces-c.ensures.passed breaks
     refl c.skip_seen_break.ensures in
     record { fits = count_fits c.loop-self.count _ _ _ _ c.loop-self.invariant.counted less c.args.self.now.fits }
 
@@ -22,14 +23,16 @@ pub loop-self-smaller-then-is_break : goal.loop-self-smaller-then-is_break
 loop-self-smaller-then-is_break g c =
     let breaks : class.is_break (slice_index (cursor_of c.look_behind_spaces-c.new.self).rest 0) ≡ true =
     ap class.is_break (sym c.look_behind_spaces-c.ensures.value) ∙ sym c.is_break.ensures.test ∙ c.if-is_break.true in
-    break_turn_shorter _ (cursor_of c.loop-self.self) (cursor_of c.look_behind_spaces-c.new.self) (cursor_of c.look_behind_spaces-c.new.self)
+    break_turn_shorter _ (cursor_of c.loop-self.self) (cursor_of c.look_behind_spaces-c.new.self) (cursor_of
+    c.look_behind_spaces-c.new.self)
     (cursor_of c.skip_seen_break.new.self) c.look_behind_spaces-c.ensures.passed breaks refl c.skip_seen_break.ensures
 
 pub loop-self-smaller : goal.loop-self-smaller
 loop-self-smaller g c =
     let blank : class.is_blank (slice_index (cursor_of c.look_behind_spaces-c.new.self).rest 0) ≡ true =
     ap class.is_blank (sym c.look_behind_spaces-c.ensures.value) ∙ sym c.is_blank.ensures.test ∙ c.if-is_blank.true in
-    blank_turn_shorter _ (cursor_of c.loop-self.self) (cursor_of c.look_behind_spaces-c.new.self) (cursor_of c.look_behind_spaces-c.new.self)
+    blank_turn_shorter _ (cursor_of c.loop-self.self) (cursor_of c.look_behind_spaces-c.new.self) (cursor_of
+    c.look_behind_spaces-c.new.self)
     (cursor_of c.skip_blank.new.self) c.look_behind_spaces-c.ensures.passed blank refl c.skip_blank.ensures
 
 pub skip_blank-requires : goal.skip_blank-requires
@@ -49,7 +52,8 @@ loop-self-preserved-then-is_break g c =
     record {
       same = λ q start escaped. break_on q c.args.indent start escaped c.loop-self.count here there behind breaks
           refl c.skip_seen_break.ensures
-          ∙ inside_over_spaces q c.args.indent start escaped c.loop-self.count _ first here c.look_behind_spaces-c.ensures.passed
+          ∙ inside_over_spaces q c.args.indent start escaped c.loop-self.count _ first here
+          c.look_behind_spaces-c.ensures.passed
           ∙ c.loop-self.invariant.same q start escaped;
       counted = counted_less c.loop-self.count _ _ _ c.loop-self.invariant.counted
           (break_turn_shorter _ first here there behind c.look_behind_spaces-c.ensures.passed breaks refl
@@ -62,7 +66,8 @@ returns-then-self-indent-clause-same g c = λ quote start escaped.
     let here = cursor_of c.look_behind_spaces-c.new.self in
     let tab : slice_index here.rest 0 ≡ 9 = sym c.look_behind_spaces-c.ensures.value ∙ c.if-c-eq9.true in
     sym (c.loop-self.invariant.same quote start escaped)
-    ∙ sym (inside_over_spaces quote c.args.indent start escaped c.loop-self.count _ first here c.look_behind_spaces-c.ensures.passed)
+    ∙ sym (inside_over_spaces quote c.args.indent start escaped c.loop-self.count _ first here
+    c.look_behind_spaces-c.ensures.passed)
     ∙ tab_on quote c.args.indent start escaped c.loop-self.count here (cursor_of c.look_behind_spaces-c.new.self) tab
     refl
     c.if-self-indent.true
@@ -85,7 +90,8 @@ loop-self-preserved g c =
     record {
       same = λ q start escaped. blank_on q c.args.indent start escaped c.loop-self.count here there behind blank fits
           refl c.skip_blank.ensures
-          ∙ inside_over_spaces q c.args.indent start escaped c.loop-self.count _ first here c.look_behind_spaces-c.ensures.passed
+          ∙ inside_over_spaces q c.args.indent start escaped c.loop-self.count _ first here
+          c.look_behind_spaces-c.ensures.passed
           ∙ c.loop-self.invariant.same q start escaped;
       counted = counted_on c.loop-self.count _ _ _ c.loop-self.invariant.counted
           (blank_turn_shorter _ first here there behind c.look_behind_spaces-c.ensures.passed blank refl

@@ -15,7 +15,8 @@ invariant_of-self g c =
     let within = old.within in record {
       within = omega (arith, longer, count, within);
       fit = (scalar_put old.spent old.places.items c.push_reserved.new.self.items c.in-Ok.place
-          (quote_style c.args.quote) c.args.reader.now.mark old.aside c.read_quoted.new.aside (cursor_of c.read_quoted.new.reader) c.in-Ok.is_at_indicator
+          (quote_style c.args.quote) c.args.reader.now.mark old.aside c.read_quoted.new.aside (cursor_of
+          c.read_quoted.new.reader) c.in-Ok.is_at_indicator
           (flow_quoted c.args.quote c.args.indent (cursor_of c.args.reader.now)) old.within
           c.push_reserved.ensures.items old.fit
           c.in-Ok.ensures).0;
