@@ -15,7 +15,7 @@ use Rattle.saphyr_scalar.specs.declared.scalar.fault.FaultText.TheVariants as fa
 use Rattle.saphyr_scalar.specs.Views.Cursor.{Cursor, refuse, along, pass}
 use Rattle.saphyr_scalar.proofs.Moving.{along_none, along_more, drop_more}
 use Rattle.saphyr_scalar.specs.Steps.Quoted.{mid_line, digits, hex_digit_count, character, escape_by_number, escape_of, escaped_character}
-use Rattle.saphyr_input.proofs.Basics.Booleans.{by_test, either}
+use Rattle.saphyr_input.proofs.Basics.Booleans.{by_test}
 use Rattle.saphyr_input.proofs.Basics.Lists.{shows_character}
 use Rattle.saphyr_scalar.proofs.EscapeEnds.{EscapeEnds, refused_ends, read, then_ends}
 
@@ -208,10 +208,3 @@ no_letter_nul = record { short = refl; long = refl; break = refl }
 pub no_letter : (c : ℕ) → is_ascii_but_nul c ≡ false → IsNoLetter c
 no_letter zero h = no_letter_nul
 no_letter (suc c) h = no_letter_wide (suc c) (grind (arith, nat_tests))
-
--- a break is none either
-pub no_short_break : (c : ℕ) → is_break c ≡ true → short_escape c ≡ None
-unfolding short_escape
-no_short_break c h = either (c == 10) (c == 13) (short_escape c ≡ None) h
-    (λ is. let e : c ≡ 10 = grind (arith, nat_tests) in rw e refl)
-    (λ is. let e : c ≡ 13 = grind (arith, nat_tests) in rw e refl)

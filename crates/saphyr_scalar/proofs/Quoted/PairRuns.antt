@@ -15,10 +15,11 @@ use Rattle.saphyr_scalar.specs.declared.scalar.position.Marker.{Marker}
 use Rattle.saphyr_scalar.specs.declared.scalar.fault.Refusal.{Refusal}
 use Rattle.saphyr_scalar.specs.declared.scalar.fault.FaultText.TheVariants as fault
 use Rattle.saphyr_scalar.specs.Views.Cursor.{Cursor, ◌>>=◌, refuse, along, pass}
-use Rattle.saphyr_scalar.specs.Steps.Quoted.{escape_by_number, escape_of, escaped_character, with_front, mid_line, special, pair, no_gap, inner_text, inner_text_at, PairsMoved}
+use Rattle.saphyr_scalar.specs.Steps.Quoted.{escape_by_number, escape_of, escaped_character, with_front, mid_line, special, pair, no_gap, inner_text, inner_text_at}
 use Rattle.saphyr_scalar.proofs.Moving.{along_none, along_more, drop_more}
-use Rattle.saphyr_scalar.proofs.Quoted.Escapes.{IsNoLetter, no_letter, no_short_break, two_left}
+use Rattle.saphyr_scalar.proofs.Quoted.Escapes.{IsNoLetter, no_letter, two_left}
 use Rattle.saphyr_scalar.proofs.Quoted.Parts.{special_moved}
+use Rattle.saphyr_scalar.proofs.Quoted.Spellings.{no_break_simple}
 
 -- what is known of the two characters of such a spelling
 pub record IsPair (q : Quote) (xs : List ℕ) (c : ℕ) : Type 0 where
@@ -51,19 +52,12 @@ letter_ascii x c e = told (is_ascii_but_nul x) refl
     told true h = refl
     told false h = let none = no_letter x h in absurd (none-some c (sym none.short ∙ e))
 
-letter_no_break : (x c : ℕ) → short_escape x ≡ Some c → is_break x ≡ false
-letter_no_break x c e = told (is_break x) refl
-  where
-    told : (b : Bool) → is_break x ≡ b → b ≡ false
-    told false h = refl
-    told true h = absurd (none-some c (sym (no_short_break x h) ∙ e))
-
 escaped : (xs : List ℕ) (c : ℕ) → slice_index xs 0 ≡ backslash → short_escape (slice_index xs 1) ≡ Some c
     → IsPair Double xs c
 unfolding special escaped_character escape_of
 escaped xs c first e =
     let ascii = letter_ascii (slice_index xs 1) c e in
-    let no_break = letter_no_break (slice_index xs 1) c e in
+    let no_break = no_break_simple (slice_index xs 1) c e in
     let some : 0 < slice_index xs 1 = grind (arith, nat_tests) in
     record {
       special_is = λ start s same. rw (same, first, no_break, e) refl;
