@@ -435,8 +435,9 @@ impl<T: Input> Engine<T> {
     pub(crate) fn read_token(&mut self, limit: usize) -> Result<(), Stop>
         ensures { MovesBy (fetch.state_behind_token limit) self.old result self.new }
     {
-        self.fetch_within(limit)?;
-        self.drop_far_key()?;
+        if !self.reads_on(limit, true) {
+            return Err(self.stop);
+        }
         Ok(())
     }
 
@@ -449,18 +450,25 @@ impl<T: Input> Engine<T> {
     }
 
     // Reads tokens until the head of the queue can be handed out, unless all were. To be called where the next token
-    // must be read.
+    // must be read. With `once` it reads one token, and may be called anywhere: this is for speed, since with one more
+    // caller `fetch_within` would not be inlined.
     #[inline(always)]
-    fn read_on(&mut self, limit: usize) -> Result<(), Stop>
-        requires needed { fetch.needs_token (state self.old) ≡ true }
-        requires settled { fetch.without_far_key (state self.old) ≡ Ok (state self.old) }
-        ensures { MovesBy (fetch.fill limit) self.old result self.new }
+    fn read_on(&mut self, limit: usize, once: bool) -> Result<(), Stop>
+        requires needed { once ≡ false → fetch.needs_token (state self.old) ≡ true }
+        requires settled { once ≡ false
+            → fetch.without_far_key (state self.old) ≡ Ok (state self.old) }
+        ensures all { once ≡ false → MovesBy (fetch.fill limit) self.old result self.new }
+        ensures one { once ≡ true
+            → MovesBy (fetch.state_behind_token limit) self.old result self.new }
     {
         // A law. It does nothing when it runs.
         takes_characters_off();
         loop {
             self.fetch_within(limit)?;
             self.drop_far_key()?;
+            if once {
+                return Ok(());
+            }
             if !self.needs_token() {
                 return Ok(());
             }
@@ -470,12 +478,16 @@ impl<T: Input> Engine<T> {
     // The same, with the stop kept, as a call of its own. The place of a result is cleared before such a call and
     // copied after it, but a result of one byte isn't.
     #[inline(never)]
-    fn reads_on(&mut self, limit: usize) -> bool
-        requires needed { fetch.needs_token (state self.old) ≡ true }
-        requires settled { fetch.without_far_key (state self.old) ≡ Ok (state self.old) }
-        ensures { MovesBy (fetch.fill limit) self.old (answer_of result self.new.stop) self.new }
+    fn reads_on(&mut self, limit: usize, once: bool) -> bool
+        requires needed { once ≡ false → fetch.needs_token (state self.old) ≡ true }
+        requires settled { once ≡ false
+            → fetch.without_far_key (state self.old) ≡ Ok (state self.old) }
+        ensures all { once ≡ false
+            → MovesBy (fetch.fill limit) self.old (answer_of result self.new.stop) self.new }
+        ensures one { once ≡ true → MovesBy (fetch.state_behind_token limit) self.old
+            (answer_of result self.new.stop) self.new }
     {
-        let ended = self.read_on(limit);
+        let ended = self.read_on(limit, once);
         self.keep(ended)
     }
 
@@ -521,7 +533,7 @@ impl<T: Input> Engine<T> {
             return false;
         }
         if self.needs_token() {
-            return self.reads_on(limit);
+            return self.reads_on(limit, false);
         }
         true
     }
@@ -538,7 +550,7 @@ impl<T: Input> Engine<T> {
             }
             return Err(self.stop);
         }
-        if self.queue.is_empty() && !self.ended && !self.reads_on(limit) {
+        if self.queue.is_empty() && !self.ended && !self.reads_on(limit, false) {
             return Err(self.stop);
         }
         Ok(())
