@@ -47,7 +47,7 @@ impl<'input, T: Input> EventReader<'input, T> {
     {
         self.look();
         let (event, span) = self.current.take()?;
-        self.remember(&event, span);
+        self.remember(&event, &span);
         Some((event, span))
     }
 

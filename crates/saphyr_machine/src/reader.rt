@@ -3,7 +3,10 @@
 ghost use Rattle.std.specs.Prelude.{◌≡◌, None, Some, true, false, IfNone, IfOk};
 ghost use Rattle.saphyr_scanner.specs.Views.Tokens.{piece};
 ghost use Rattle.saphyr_machine.specs.Answer.{OutOfMemory};
+ghost use Rattle.saphyr_scalar.specs.declared.scalar.position.Span.{Span as Place};
+ghost use Rattle.saphyr_machine.specs.Cursor.{EventCursor as Cursor, with_event_handed};
 ghost use Rattle.saphyr_machine.specs.Faults.{is_own};
+ghost use Rattle.saphyr_machine.specs.Views.Machines.{happening};
 ghost use Rattle.saphyr_machine.specs.Steps.Documents as documents;
 ghost use Rattle.saphyr_machine.specs.Steps.Machine as steps;
 
@@ -24,6 +27,18 @@ use std::mem::replace;
 pub fn no_event<'input>() -> (Event<'input>, Span) {
     let start = Marker::new(0, 0, 0);
     (Event::Nothing, Span::empty(start))
+}
+
+// Whether something is remembered of the event. Most are others, and one test tells that.
+#[inline(always)]
+fn is_remembered(event: &Event<'_>) -> bool
+    ensures { result ≡ false → (span : Place) → (c : Cursor)
+        → with_event_handed (happening event.now) span c ≡ c }
+{
+    matches!(
+        event,
+        Event::StreamEnd | Event::DocumentStart(_) | Event::DocumentEnd
+    )
 }
 
 /// A machine, with what was read ahead and what is remembered of the events that were handed out.
@@ -168,14 +183,25 @@ impl<'input, T: Input> EventReader<'input, T> {
 
     // Remembers what an event says of the place after it.
     #[inline(always)]
-    pub(super) fn remember(&mut self, event: &Event<'input>, span: Span)
+    pub(super) fn remember(&mut self, event: &Event<'input>, span: &Span)
         ensures { cursor self.new
-            ≡ spec.with_event_handed (happening event.now) span (cursor self.old) }
+            ≡ spec.with_event_handed (happening event.now) span.now (cursor self.old) }
+    {
+        if is_remembered(event) {
+            self.remember_place(event, span);
+        }
+    }
+
+    // The same. It is separate for speed, since most events say nothing of it.
+    #[inline(never)]
+    fn remember_place(&mut self, event: &Event<'input>, span: &Span)
+        ensures { cursor self.new
+            ≡ spec.with_event_handed (happening event.now) span.now (cursor self.old) }
     {
         match event {
             Event::DocumentStart(_) => self.inside = true,
             Event::DocumentEnd => self.inside = false,
-            Event::StreamEnd => self.finished = Some(span),
+            Event::StreamEnd => self.finished = Some(*span),
             _ => {}
         }
     }
@@ -214,7 +240,7 @@ impl<'input, T: Input> EventReader<'input, T> {
             (cursor self.new) }
     {
         if let Some(item) = self.current.take() {
-            self.remember(&item.0, item.1);
+            self.remember(&item.0, &item.1);
             drop(replace(next, item));
             return Progress::Event;
         }
@@ -242,7 +268,7 @@ impl<'input, T: Input> EventReader<'input, T> {
         }
         let progress = self.machine.advance(next, fault);
         match progress {
-            Progress::Event => self.remember(&next.0, next.1),
+            Progress::Event => self.remember(&next.0, &next.1),
             Progress::Fault => self.keep_copy(fault),
             Progress::Over => {}
         }
