@@ -1,6 +1,5 @@
 -- Texts that are looked at in blocks of some bytes.
-use Rattle.std.proofs.Common.{◌≡◌, ℕ, zero, suc, ◌+◌, ◌%◌, ◌^◌, ◌<◌, ◌≤◌, Bool, false, cond, eqb, leb, List, [], ◌∷◌, length, take, map, get_or, replicate, w8, refl, sym, ap, ◌∙◌, arith, rules}
-use Rattle.std.proofs.Math.Seq.{take-length}
+use Rattle.std.proofs.Common.{◌≡◌, ℕ, zero, suc, ◌+◌, ◌%◌, ◌^◌, ◌<◌, ◌≤◌, Bool, false, cond, eqb, leb, List, [], ◌∷◌, length, take, map, get_or, replicate, w8, refl, sym, ◌∙◌, arith, rules}
 use Rattle.std.proofs.lemmas.Simd.{bitmask_splat, length-chunk, none_from_empty_mask}
 use lib.Lanes.{chunk, mask_l, top, zip2}
 use Rattle.saphyr_parser.specs.Printed.{ArePlain, printed_byte, printed_bytes}
@@ -34,7 +33,3 @@ plain_up_to text (suc n) l p =
     let more : suc n ≡ n + 1 = omega arith in
     rw more (plain_more text n (omega arith) (p n (omega arith) (omega arith))
     (plain_up_to text n (omega arith) (λ i a b. p i a (omega arith))))
-
-pub plain_through : (text : List ℕ) → ArePlain text 0 (length text) → printed_bytes text ≡ text
-plain_through text p =
-    ap printed_bytes (sym (take-length text)) ∙ plain_up_to text (length text) (omega arith) p ∙ take-length text

@@ -27,12 +27,6 @@ printed_behind_plain : (rest plain others : List ℕ) → rest ≡ plain ++ othe
 printed_behind_plain rest plain others e p =
     ap printed_bytes e ∙ escaped-append plain others ∙ ap (λ l. l ++ printed_bytes others) p
 
--- nothing needs an escape
-pub plain_whole : (text plain others : List ℕ) → text ≡ plain ++ others → printed_bytes plain ≡ plain → others ≡ []
-    → printed_bytes text ≡ text
-plain_whole text plain others e p n =
-    let whole : text ≡ plain = e ∙ ap (λ l. plain ++ l) n ∙ append-nil plain in rw whole p
-
 pub plain_written : (a b c : Option (List ℕ)) (text rest plain others : List ℕ) → rest ≡ plain ++ others
     → printed_bytes plain ≡ plain → TakesUpTo a b (printed_bytes text) (printed_bytes rest) → Appends b c plain
     → TakesUpTo a c (printed_bytes text) (printed_bytes others)

@@ -6,7 +6,9 @@ ghost use Rattle.saphyr_machine.specs.Views.Events.{happening, resolved_tag};
 ghost use Rattle.saphyr_parser.specs.Written.{Takes};
 ghost use Rattle.saphyr_parser.specs.Printed as printed;
 
-use crate::printing::writing::{Unwritten, is_plain, write_all, write_escaped, write_number};
+use crate::printing::writing::{
+    Unwritten, copies_plain, copy, is_plain_up_to, write_all, write_escaped, write_number,
+};
 use saphyr_machine::{Event, Tag};
 use saphyr_scalar::ScalarStyle;
 use std::io::Write;
@@ -68,17 +70,37 @@ fn write_bare_scalar<W: Write>(out: &mut W, text: &str, style: ScalarStyle) -> R
     write_text(out, bare_mark(style), text.as_bytes())
 }
 
-// Writes a line of at most 64 bytes in one piece: what comes before a text, and the text.
+// Writes a line of at most 16 bytes in one piece, if its text has no escapes.
+#[inline(always)]
+fn write_few<W: Write>(out: &mut W, front: &[u8], text: &[u8]) -> Result<(), Unwritten>
+    requires { length front.now + length text.now < 16 }
+    ensures { Takes result (W.contents out.old) (W.contents out.new)
+        (front.now ++ (printed.printed_bytes text.now ++ codes "\n")) }
+{
+    let mut line = [0; 16];
+    let end = front.len() + text.len();
+    line[..front.len()].copy_from_slice(front);
+    if !copies_plain(text, &mut line[front.len()..end]) {
+        return write_pieces(out, front, text);
+    }
+    line[end] = b'\n';
+    write_all(out, &line[..end + 1])
+}
+
+// The same for a line of at most 64 bytes. It is filled with spaces first, so that all of a block can be looked at.
 #[inline(always)]
 fn write_short<W: Write>(out: &mut W, front: &[u8], text: &[u8]) -> Result<(), Unwritten>
     requires { length front.now + length text.now < 64 }
     ensures { Takes result (W.contents out.old) (W.contents out.new)
-        (front.now ++ (text.now ++ codes "\n")) }
+        (front.now ++ (printed.printed_bytes text.now ++ codes "\n")) }
 {
-    let mut line = [0; 64];
+    let mut line = [b' '; 64];
     let end = front.len() + text.len();
     line[..front.len()].copy_from_slice(front);
-    line[front.len()..end].copy_from_slice(text);
+    copy(text, &mut line[front.len()..end]);
+    if !is_plain_up_to(&line, end) {
+        return write_pieces(out, front, text);
+    }
     line[end] = b'\n';
     write_all(out, &line[..end + 1])
 }
@@ -90,10 +112,13 @@ fn write_text<W: Write>(out: &mut W, front: &[u8], text: &[u8]) -> Result<(), Un
         (front.now ++ (printed.printed_bytes text.now ++ codes "\n")) }
 {
     // For speed: a short line in one piece, since each write costs more than most texts.
-    if front.len() + text.len() < 64 && is_plain(text) {
-        return write_short(out, front, text);
+    if text.len() < 4 && front.len() < 12 {
+        write_few(out, front, text)
+    } else if front.len() + text.len() < 64 {
+        write_short(out, front, text)
+    } else {
+        write_pieces(out, front, text)
     }
-    write_pieces(out, front, text)
 }
 
 // The same for a line that is long or has escapes.

@@ -107,43 +107,60 @@ fn split_plain(text: &[u8]) -> (&[u8], &[u8])
     text.split_at(count)
 }
 
-// If this is true, none of at most 2 * N bytes is escaped: neither the first N nor the last.
+// If this is true, none of the first bytes of a line is escaped.
 #[inline(always)]
-fn are_ends_plain<const N: usize>(text: &[u8]) -> bool
-    requires { (N ≤ 32) × (N ≤ length text.now) × (length text.now ≤ N + N) }
-    ensures { result ≡ true → ArePlain text.now 0 (length text.now) }
+pub(super) fn is_plain_up_to(line: &[u8; 64], end: usize) -> bool
+    requires { end ≤ 64 }
+    ensures { result ≡ true → ArePlain line.now 0 end }
 {
-    is_plain_block::<N>(text, 0) && is_plain_block::<N>(text, text.len() - N)
+    is_plain_block::<16>(line, 0)
+        && (end <= 16 || is_plain_block::<16>(line, 16))
+        && (end <= 32 || is_plain_block::<32>(line, 32))
 }
 
-// If this is true, none of 16 or more bytes is escaped. The last block may overlap the one before it.
+// Copies a text of N to 2 * N bytes: its first N and its last N, which may overlap.
 #[inline(always)]
-fn are_blocks_plain(text: &[u8]) -> bool
-    requires { 16 ≤ length text.now }
-    ensures { result ≡ true → ArePlain text.now 0 (length text.now) }
+fn copy_ends<const N: usize>(text: &[u8], room: &mut [u8])
+    requires count { (N ≤ length text.now) × (length text.now ≤ N + N) }
+    requires room { length room.old ≡ length text.now }
+    ensures { room.new ≡ text.now }
 {
-    let last = text.len() - 16;
-    let mut start = 0;
-    while start < last {
-        if !is_plain_block::<16>(text, start) {
-            return false;
-        }
-        start += 16;
-    }
-    is_plain_block::<16>(text, last)
+    let last = text.len() - N;
+    room[..N].copy_from_slice(&text[..N]);
+    room[last..].copy_from_slice(&text[last..]);
 }
 
-// If this is true, no byte of a scalar's text is escaped.
+// Copies a text of some bytes. A short one is copied by words that may overlap, which costs less than a call.
 #[inline(always)]
-pub(super) fn is_plain(text: &[u8]) -> bool
-    ensures { result ≡ true → printed_bytes text.now ≡ text.now }
+pub(super) fn copy(text: &[u8], room: &mut [u8])
+    requires { length room.old ≡ length text.now }
+    ensures { room.new ≡ text.now }
 {
     match text.len() {
-        0..4 => split_plain(text).1.is_empty(),
-        4..8 => are_ends_plain::<4>(text),
-        8..16 => are_ends_plain::<8>(text),
-        _ => are_blocks_plain(text),
+        4..8 => copy_ends::<4>(text, room),
+        8..16 => copy_ends::<8>(text, room),
+        16..32 => copy_ends::<16>(text, room),
+        _ => room.copy_from_slice(text),
     }
+}
+
+// Copies a text of few bytes one by one, and returns whether none is escaped. After `false` the room has some of them.
+#[inline(always)]
+pub(super) fn copies_plain(text: &[u8], room: &mut [u8]) -> bool
+    requires { length room.old ≡ length text.now }
+    ensures same { length room.new ≡ length text.now }
+    ensures copied { result ≡ true → room.new ≡ text.now }
+    ensures plain { result ≡ true → printed_bytes text.now ≡ text.now }
+{
+    let mut count = 0;
+    while count < text.len() {
+        if is_escaped(text[count]) {
+            return false;
+        }
+        room[count] = text[count];
+        count += 1;
+    }
+    true
 }
 
 // The letter that follows the backslash for a byte that is escaped.

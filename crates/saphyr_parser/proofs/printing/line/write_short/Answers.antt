@@ -1,6 +1,7 @@
-use Rattle.std.proofs.Common.{arith}
+use Rattle.std.proofs.Common.{◌≡◌, true, [], ◌∷◌, ◌++◌, ◌∙◌, ap, sym, rules, arith}
+use Rattle.saphyr_parser.specs.Printed.{printed_bytes}
 use Rattle.saphyr_parser.proofs.Printed.Written.{takes_same}
-use Rattle.saphyr_parser.proofs.Printed.Lines.{line_filled}
+use Rattle.saphyr_parser.proofs.Printed.Lines.{line_filled, plain_filled}
 use Rattle.saphyr_parser.proofs.printing.line.write_short.Goals as goal
 
 pub overflow_add-end : goal.overflow_add-end
@@ -20,7 +21,10 @@ overflow_add-line g c = omega (arith, c.requires)
 
 pub returns : goal.returns
 returns g c =
-    let filled =
-    line_filled c.args.front.now c.args.text.now _ _ _ c.copy_from_slice.ensures.after
-    c.copy_from_slice-2.ensures.after c.requires in
-    takes_same _ _ _ _ _ filled c.write_all.ensures
+    let front = c.args.front.now in
+    let text = c.args.text.now in
+    let looked : c.is_plain_up_to.result ≡ true = search rules in
+    let plain : printed_bytes text ≡ text = plain_filled front text _ _ _ c.copy_from_slice.ensures.after
+    c.copy.ensures c.requires (c.is_plain_up_to.ensures looked) in
+    let filled = line_filled front text _ _ _ c.copy_from_slice.ensures.after c.copy.ensures c.requires in
+    takes_same _ _ _ _ _ (filled ∙ ap (λ xs. front ++ (xs ++ (10 ∷ []))) (sym plain)) c.write_all.ensures
