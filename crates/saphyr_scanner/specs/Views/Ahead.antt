@@ -15,9 +15,13 @@ use Rattle.saphyr_scanner.specs.Steps.State.{State}
 use Rattle.saphyr_scanner.specs.Steps.Fetch.{arrive, fetch_here, state_behind_content}
 use Rattle.saphyr_scanner.specs.Views.Engine.{state}
 
+-- what a character begins, with the second of the rest at hand
+abbrev pub with_second : ℕ → State → Result State Refusal
+with_second c s = state_behind_content c (slice_index s.core.cursor.rest 1) s
+
 -- what the first character of the rest begins, with the second at hand
 abbrev pub with_content : State → Result State Refusal
-with_content s = state_behind_content (slice_index s.core.cursor.rest 0) (slice_index s.core.cursor.rest 1) s
+with_content s = with_second (slice_index s.core.cursor.rest 0) s
 
 -- What was to be reached is reached, or it is what the first character begins, unless memory ran out.
 abbrev pub LeadsOn : {T : Type 0} {g : Ghosts T} → Result Bool Stop → Result State Refusal → Engine T g → Type 0

@@ -57,7 +57,7 @@ fn may_begin_mark(c: char, next: char) -> bool
 
 impl<T: Input> Engine<T> {
     ghost use Rattle.saphyr_scalar.specs.Views.Reader.{Moves, loaded};
-    ghost use Rattle.saphyr_scanner.specs.Views.Ahead.{Leads, LeadsOn, fetched};
+    ghost use Rattle.saphyr_scanner.specs.Views.Ahead.{Leads, LeadsOn, fetched, with_second};
     ghost use Rattle.saphyr_scanner.specs.Views.Engine.{state, MovesBy, ActsBy, answer_of};
     ghost use Rattle.saphyr_scanner.specs.Views.Tokens.{GivesLast, piece, written_token};
 
@@ -103,8 +103,7 @@ impl<T: Input> Engine<T> {
             self.reader.load(2);
             c = self.reader.input().peek();
         }
-        let next = self.reader.input().peek_nth(1);
-        self.fetch_content(c, next)?;
+        self.fetch_content(c)?;
         Ok(())
     }
 
@@ -266,13 +265,60 @@ impl<T: Input> Engine<T> {
         Ok(true)
     }
 
+    // The second character. Few tokens need it, so only those look at it.
+    #[inline(always)]
+    fn second(&self) -> char
+        requires { 2 ≤ loaded self.now.reader }
+        ensures { result ≡ slice_index (state self.now).core.cursor.rest 1 }
+    {
+        self.reader.input().peek_nth(1)
+    }
+
+    // An entry of a block sequence, or a plain scalar that begins with `-`.
+    #[inline(always)]
+    #[tactic(auto, unfolding(crate::specs::Steps::Fetch::state_behind_content, crate::specs::Steps::Fetch::step))]
+    fn fetch_dash(&mut self) -> Result<(), Stop>
+        requires some { 0 < length (state self.old).core.cursor.rest }
+        requires loaded { 2 ≤ loaded self.old.reader }
+        ensures { MovesBy (with_second hyphen) self.old result self.new }
+    {
+        let next = self.second();
+        if is_blank_or_breakz(next) {
+            self.fetch_block_entry(next)?;
+        } else if !self.fetches_plain() {
+            return Err(self.stop);
+        }
+        Ok(())
+    }
+
+    // What a colon begins: a value, or a plain scalar.
+    #[inline(always)]
+    #[tactic(auto, unfolding(crate::specs::Steps::Fetch::state_behind_content, crate::specs::Steps::Fetch::step))]
+    fn fetch_colon(&mut self) -> Result<(), Stop>
+        requires some { 0 < length (state self.old).core.cursor.rest }
+        requires loaded { 2 ≤ loaded self.old.reader }
+        ensures { MovesBy (with_second colon) self.old result self.new }
+    {
+        let next = self.second();
+        if is_blank_or_breakz(next) {
+            self.fetch_value()?;
+        } else if self.is_value_adjacent(next) {
+            if !self.fetches_flow_value(next) {
+                return Err(self.stop);
+            }
+        } else if !self.fetches_plain() {
+            return Err(self.stop);
+        }
+        Ok(())
+    }
+
     // Puts the token that the first character begins into the queue.
     #[tactic(auto, unfolding(crate::specs::Steps::Fetch::state_behind_content, crate::specs::Steps::Fetch::step))]
-    fn fetch_content(&mut self, c: char, next: char) -> Result<(), Stop>
+    fn fetch_content(&mut self, c: char) -> Result<(), Stop>
         requires some { 0 < length (state self.old).core.cursor.rest }
         requires first { c ≡ slice_index (state self.old).core.cursor.rest 0 }
-        requires second { next ≡ slice_index (state self.old).core.cursor.rest 1 }
-        ensures { MovesBy (fetch.state_behind_content c next) self.old result self.new }
+        requires loaded { 2 ≤ loaded self.old.reader }
+        ensures { MovesBy (with_second c) self.old result self.new }
     {
         match c {
             '[' => self.fetch_flow_start(Context::FlowSequence, Indicator::SequenceStart)?,
@@ -280,15 +326,11 @@ impl<T: Input> Engine<T> {
             ']' => self.fetch_sequence_end()?,
             '}' => self.fetch_mapping_end()?,
             ',' => self.fetch_flow_entry()?,
-            '-' if is_blank_or_breakz(next) => self.fetch_block_entry(next)?,
-            ':' if is_blank_or_breakz(next) => self.fetch_value()?,
-            ':' if self.is_value_adjacent(next) => {
-                if !self.fetches_flow_value(next) {
-                    return Err(self.stop);
-                }
-            }
+            '-' => self.fetch_dash()?,
+            ':' => self.fetch_colon()?,
             '"' => self.fetch_double_quoted()?,
             '?' | '\'' | '*' | '&' | '!' | '|' | '>' | '%' | '@' | '`' => {
+                let next = self.second();
                 if !self.fetches_rare(c, next) {
                     return Err(self.stop);
                 }
