@@ -40,20 +40,16 @@ any_reverse p (x ∷ xs) =
     ∙ or_comm (any_holds p (map level xs)) (holds p (level x))
 
 -- one of those from i on does
-pub one_holds : (p i : ℕ) (xs : List declared.Level) (x : declared.Level) (b : Bool) → i < length xs → x ≡ get_or xs i x
+pub one_holds : (p i : ℕ) (xs : List declared.Level) (x : declared.Level) → i < length xs → x ≡ get_or xs i x
     → holds p (level x) ≡ true → any_holds p (map level (drop i xs)) ≡ any_holds p (map level xs)
-    → true ≡ (b || any_holds p (map level (reverse xs)))
-one_holds p i xs x b h item told others = sym (from_any b (any_reverse p xs ∙ sym others ∙ head))
+    → true ≡ any_holds p (map level (reverse xs))
+one_holds p i xs x h item told others = sym (any_reverse p xs ∙ sym others ∙ head)
   where
     front : drop i xs ≡ x ∷ drop (suc i) xs
     front = drop-cons xs i x h ∙ ap (λ y. y ∷ drop (suc i) xs) (sym item)
 
     head : any_holds p (map level (drop i xs)) ≡ true
     head = ap (λ ys. any_holds p (map level ys)) front ∙ ap (λ c. c || any_holds p (map level (drop (suc i) xs))) told
-
-    from_any : (a : Bool) → any_holds p (map level (reverse xs)) ≡ true
-        → (a || any_holds p (map level (reverse xs))) ≡ true
-    from_any a e = grind arith
 
 drop_nothing : {X : Type 0} → (n : ℕ) → drop {A = X} n [] ≡ []
 drop_nothing n = grind arith
@@ -64,12 +60,12 @@ past_end zero (x ∷ xs) h = absurd (omega (arith, h))
 past_end (suc i) (x ∷ xs) h = past_end i xs (omega (arith, h))
 
 -- none does
-pub none_holds : (p i : ℕ) (xs : List declared.Level) (innermost : Level) → length xs ≤ i → holds p innermost ≡ false
+pub none_holds : (p i : ℕ) (xs : List declared.Level) → length xs ≤ i
     → any_holds p (map level (drop i xs)) ≡ any_holds p (map level xs)
-    → false ≡ (holds p innermost || any_holds p (map level (reverse xs)))
-none_holds p i xs innermost h told others =
+    → false ≡ any_holds p (map level (reverse xs))
+none_holds p i xs h others =
     let rest : any_holds p (map level (drop i xs)) ≡ false = ap (λ ys. any_holds p (map level ys)) (past_end i xs h) in
-    sym (ap (λ c. c || any_holds p (map level (reverse xs))) told ∙ any_reverse p xs ∙ sym others ∙ rest)
+    sym (any_reverse p xs ∙ sym others ∙ rest)
 
 -- ## Keys, and how many levels there are
 

@@ -116,7 +116,7 @@ impl<T: Input> Engine<T> {
         if !may_begin(c) || self.comment.is_some() || self.has_far_key() {
             return false;
         }
-        self.reader.mark().col >= self.least_column()
+        self.is_far_enough(self.reader.mark().col)
     }
 
     // Whether the token that begins here is told by its first character.
@@ -127,7 +127,7 @@ impl<T: Input> Engine<T> {
         ensures { IsTrue result → LeadsOn (Ok true) (fetch.fetch_here (state self.now)) self.now }
     {
         let column = self.reader.mark().col;
-        if is_z(c) || is_bom(c) || column < self.least_column() {
+        if is_z(c) || is_bom(c) || !self.is_far_enough(column) {
             return false;
         }
         column > 0 || !may_begin_mark(c, self.reader.input().peek_nth(1))
@@ -434,16 +434,11 @@ impl<T: Input> Engine<T> {
         self.keep(ended)
     }
 
-    // Whether the first token of the queue may still become a key, in anything that is open. Then neither it nor
-    // what follows it can be handed out: a mapping's start and a key may have to come before it.
+    // Whether the token at a place may still become a key in what is open around the level.
     #[inline(always)]
-    fn is_held(&self) -> bool
-        ensures { result ≡ fetch.is_held (state self.now) }
+    fn is_held_around(&self, place: usize) -> bool
+        ensures { result ≡ fetch.any_holds place (state self.now).core.outer }
     {
-        let place = self.queue.first();
-        if self.level.holds(place) {
-            return true;
-        }
         for level in &self.outer {
             if level.holds(place) {
                 return true;
@@ -452,12 +447,24 @@ impl<T: Input> Engine<T> {
         false
     }
 
+    // Whether the first token of the queue may still become a key, in anything that is open. Then neither it nor
+    // what follows it can be handed out: a mapping's start and a key may have to come before it.
+    //
+    // For speed the outermost is asked first. Inside flow it holds the token most often.
+    #[inline(always)]
+    fn is_held(&self) -> bool
+        ensures { result ≡ fetch.is_held (state self.now) }
+    {
+        let place = self.queue.first();
+        self.is_held_around(place) || self.level.holds(place)
+    }
+
     /// Whether the next token must be read.
     #[inline(always)]
     pub(crate) fn needs_token(&self) -> bool
         ensures { result ≡ fetch.needs_token (state self.now) }
     {
-        !self.ended && (self.queue.is_empty() || self.is_held())
+        !self.ended && (self.is_held() || self.queue.is_empty())
     }
 
     // Puts the next token into the queue, if the text is not too long.

@@ -1,6 +1,6 @@
 //! Indentation: where block collections begin and end, which no characters mark (YAML 1.2.2, 6.1 and 8.2).
 
-ghost use Rattle.std.specs.Prelude.{◌≡◌, Ok, ◌+◌, ◌<◌, ◌^◌};
+ghost use Rattle.std.specs.Prelude.{◌≡◌, Ok, ◌+◌, ◌<◌, ◌^◌, nat_lt, not};
 ghost use Rattle.saphyr_scanner.specs.Steps.Core as spec;
 ghost use Rattle.saphyr_scanner.specs.Steps.Unrolling as unrolling;
 ghost use Rattle.saphyr_scanner.specs.Steps.State as spec_state;
@@ -21,6 +21,15 @@ impl<T: Input> Engine<T> {
         } else {
             self.indent.saturating_sub(1)
         }
+    }
+
+    // Whether a column is not left of the least one. For speed the usual case is tested first, and no column is
+    // computed.
+    #[inline(always)]
+    pub(super) fn is_far_enough(&self, column: usize) -> bool
+        ensures { result ≡ not (nat_lt column (spec.least_column (state self.now).core)) }
+    {
+        column >= self.indent || !self.deeper && column + 1 == self.indent
     }
 
     // Content must be at least one column further right than the block collection.
