@@ -1,15 +1,15 @@
--- Behind a line feed and spaces the way to the next token goes on.
+-- Behind a line feed and spaces, and behind spaces, the way to the next token goes on.
 use Rattle.std.proofs.Common.{◌≡◌, ℕ, Bool, true, false, List, [], ◌∷◌, slice_index, Result, Ok, Err, None, refl, sym, ap, ◌∙◌}
-use Rattle.std.specs.Prelude.{◌||◌, ◌&&◌, ◌==◌, not, if◌then◌else◌}
+use Rattle.std.specs.Prelude.{◌||◌, ◌&&◌, ◌==◌, ◌-◌, ◌^◌, not, if◌then◌else◌}
 use Rattle.saphyr_input.specs.Classes.{is_blank, is_bom, is_break, is_yaml_non_break, is_z}
 use Rattle.saphyr_input.specs.Indicators.{number_sign}
 use Rattle.saphyr_scalar.specs.declared.scalar.position.Marker.{Marker}
 use Rattle.saphyr_scalar.specs.declared.scalar.fault.Refusal.{Refusal}
-use Rattle.saphyr_scalar.specs.Views.Cursor.{Cursor, ◌>>=◌, along, next_line, pass_break}
+use Rattle.saphyr_scalar.specs.Views.Cursor.{Cursor, ◌>>=◌, along, next_line, pass_break, pass_spaces}
 use Rattle.saphyr_scanner.specs.Steps.Core.{Core, drop_far_key, in_block, is_too_far, least_column, with_key}
 use Rattle.saphyr_scanner.specs.Steps.Fetch.{arrive, fetch_here}
 use Rattle.saphyr_scanner.specs.Steps.Gap.{GapEnd, stop, end_of_gap, end_of_gap_in_comment, is_tab_indentation, whole_gap}
-use Rattle.saphyr_scanner.specs.Steps.Passing.{behind_gap, check_comment, pass_gap}
+use Rattle.saphyr_scanner.specs.Steps.Passing.{behind_gap, check_comment, pass_gap, with_cursor}
 use Rattle.saphyr_scanner.specs.Steps.State.{State, with_core}
 use Rattle.saphyr_scanner.specs.Views.Ahead.{behind_feed, fetched, may_begin, with_content}
 use Rattle.saphyr_scanner.proofs.Gaps.{break_passed, spaces_passed}
@@ -84,6 +84,18 @@ pub fed_ahead : (s : State) → slice_index s.core.cursor.rest 0 ≡ 10
     → fetched (with_core (behind_feed s.core) s) ≡ fetched s
 unfolding arrive
 fed_ahead s e = rw (gap_fed s.core e) refl
+
+gap_spaced : (c : Core) → pass_gap (with_cursor (pass_spaces (2 ^ 64 - 1) c.cursor) c) ≡ pass_gap c
+unfolding pass_gap
+gap_spaced c =
+    let l = least_column c in let s = c.cursor in
+    ap (λ (r : Result GapEnd Refusal). r >>= λ g. check_comment (behind_gap c g))
+    (spaces_passed l _ false false s s (pass_spaces (2 ^ 64 - 1) s) (whole_gap l s) refl refl refl)
+
+pub spaced_ahead : (s : State)
+    → fetched (with_core (with_cursor (pass_spaces (2 ^ 64 - 1) s.core.cursor) s.core) s) ≡ fetched s
+unfolding arrive
+spaced_ahead s = rw (gap_spaced s.core) refl
 
 pub told_behind : (s t : State) → fetched t ≡ fetched s → arrive t ≡ Ok t → fetch_here t ≡ with_content t
     → fetched s ≡ with_content t

@@ -162,33 +162,53 @@ impl<T: Input> Engine<T> {
         }
     }
 
-    // Goes on behind a line feed. Returns whether a token that is told by its first character begins there, and nothing
-    // ends before it.
+    // Passes a line feed and the spaces behind it, or spaces on the line, and loads two places. Returns whether one of
+    // these was there.
     #[inline(always)]
-    fn passes_feed(&mut self, c: char) -> bool
+    fn pass_spaces(&mut self, c: char) -> bool
+        requires first { c ≡ slice_index (state self.old).core.cursor.rest 0 }
+        requires loaded { 2 ≤ loaded self.old.reader }
+        ensures ahead { fetched (state self.new) ≡ fetched (state self.old) }
+        ensures loaded { 2 ≤ loaded self.new.reader }
+    {
+        if c == '\n' {
+            self.pass_feed(c);
+            return true;
+        }
+        if c != ' ' {
+            return false;
+        }
+        self.reader.skip_spaces(usize::MAX);
+        self.reader.load(2);
+        true
+    }
+
+    // Goes on behind a line feed and spaces, or behind spaces. Returns whether a token that is told by its first
+    // character begins there, and nothing ends before it.
+    #[inline(always)]
+    fn passes_spaces(&mut self, c: char) -> bool
         requires first { c ≡ slice_index (state self.old).core.cursor.rest 0 }
         requires loaded { 2 ≤ loaded self.old.reader }
         ensures told { IsTrue result → LeadsOn (Ok true) (fetched (state self.old)) self.new }
         ensures same { result ≡ false → fetched (state self.new) ≡ fetched (state self.old) }
     {
-        if c != '\n' {
+        if !self.pass_spaces(c) {
             return false;
         }
-        self.pass_feed(c);
         let next = self.reader.input().peek();
         self.lets_key_go(next);
         self.has_arrived(next) && self.is_content(next)
     }
 
     // Goes on to where the next token begins, and puts it into the queue if its first character alone does not tell it.
-    // It is separate for speed. Mostly a line feed and spaces are all that is passed.
+    // It is separate for speed. Mostly spaces, or a line feed and spaces, are all that is passed.
     #[inline(never)]
     fn arrives(&mut self, c: char) -> Ahead
         requires first { c ≡ slice_index (state self.old).core.cursor.rest 0 }
         requires loaded { 2 ≤ loaded self.old.reader }
         ensures { Leads result (fetched (state self.old)) self.new }
     {
-        if self.passes_feed(c) {
+        if self.passes_spaces(c) {
             return Ahead::Content;
         }
         self.arrives_further()
