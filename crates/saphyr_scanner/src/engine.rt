@@ -222,8 +222,7 @@ impl<T: Input> Engine<T> {
         ensures { OnOk result (state self.new ≡ spec_state.with_action
             (spec.from_to start end (indicator_kind indicator)) (state self.old)) }
     {
-        let span = Span::new(start, end);
-        self.queue.put_indicator(span, indicator)
+        self.queue.put_indicator(&start, &end, indicator)
     }
 
     // Puts an indicator without characters into the queue.
@@ -232,7 +231,7 @@ impl<T: Input> Engine<T> {
         ensures { OnOk result (state self.new ≡ spec_state.with_action
             (spec.at_mark mark (indicator_kind indicator)) (state self.old)) }
     {
-        self.put_indicator(mark, mark, indicator)
+        self.queue.put_indicator(&mark, &mark, indicator)
     }
 
     // Puts an indicator that ends here into the queue.

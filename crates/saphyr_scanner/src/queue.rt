@@ -56,7 +56,7 @@ impl Queue {
     ghost use Rattle.saphyr_scalar.specs.declared.scalar.style.ScalarStyle.TheVariants.{Plain};
     ghost use Rattle.saphyr_scalar.specs.Views.Reader.{Moves, cursor_of};
     ghost use Rattle.saphyr_scanner.specs.Views.Tokens.{piece};
-    ghost use Rattle.saphyr_scanner.specs.Views.Places.{indicator_kind};
+    ghost use Rattle.saphyr_scanner.specs.Views.Places.{indicator_piece};
     ghost use Rattle.saphyr_scanner.specs.Views.Reads.{flow_quoted, queue_with_scalar, quote_style};
     ghost use Rattle.saphyr_scanner.specs.Views.Queue.{queue, with_block_ends, HoldsNone, TakesOffBy};
     ghost use Rattle.std.specs.Prelude.{◌<◌};
@@ -226,26 +226,25 @@ impl Queue {
         self.held.read_quoted(alloc, reader, quote, indent)
     }
 
-    /// Puts an indicator at the end.
+    /// Puts an indicator at the end. For speed it takes its places by reference: a span would be built anew for each.
     #[inline(always)]
     #[tactic(auto, using(crate::proofs::Rows::put_in_second))]
     pub(crate) fn put_indicator(
         &mut self,
-        span: Span,
+        start: &Marker,
+        end: &Marker,
         indicator: Indicator,
     ) -> Result<(), AllocError>
         ensures { OnOk result (queue self.new ≡ spec.with_piece
-            (record { span = span; kind = indicator_kind indicator }) (queue self.old)) }
+            (indicator_piece start.now end.now indicator) (queue self.old)) }
     {
         if self.second.count > 0 || !self.held.is_empty() {
-            return self.put_indicator_behind(&span, indicator);
+            return self.put_indicator_behind(start, end, indicator);
         }
-        let kind = indicator.kind();
-        let token = Token { span, kind };
         if self.first.count > 0 {
-            self.second.put(token);
+            self.second.put_indicator(start, end, indicator);
         } else {
-            self.first.put(token);
+            self.first.put_indicator(start, end, indicator);
         }
         Ok(())
     }
@@ -253,11 +252,16 @@ impl Queue {
     // The same after tokens that are held.
     #[inline(never)]
     #[tactic(auto, using(crate::proofs::Rows::behind_rows))]
-    fn put_indicator_behind(&mut self, span: &Span, indicator: Indicator) -> Result<(), AllocError>
+    fn put_indicator_behind(
+        &mut self,
+        start: &Marker,
+        end: &Marker,
+        indicator: Indicator,
+    ) -> Result<(), AllocError>
         ensures { OnOk result (queue self.new ≡ spec.with_piece
-            (record { span = span.now; kind = indicator_kind indicator }) (queue self.old)) }
+            (indicator_piece start.now end.now indicator) (queue self.old)) }
     {
-        self.held.put_indicator(span, indicator)
+        self.held.put_indicator(start, end, indicator)
     }
 
     /// Puts so many ends of block collections at the end, all at one place of the text.
@@ -286,9 +290,8 @@ impl Queue {
     fn put_block_ends_behind(&mut self, mark: Marker, count: usize) -> Result<(), AllocError>
         ensures { OnOk result (queue self.new ≡ with_block_ends count mark (queue self.old)) }
     {
-        let span = Span::empty(mark);
         for _done in 0..count {
-            self.put_indicator_behind(&span, Indicator::BlockEnd)?;
+            self.put_indicator_behind(&mark, &mark, Indicator::BlockEnd)?;
         }
         Ok(())
     }

@@ -42,6 +42,9 @@ indicator_kind indicator.BlockMappingStart = tokens.BlockMappingStart
 indicator_kind indicator.BlockEntry = tokens.BlockEntry
 indicator_kind indicator.BlockEnd = tokens.BlockEnd
 
+abbrev pub indicator_piece : Marker → Marker → declared_indicator.Indicator → Piece
+indicator_piece a b what = record { span = record { start = a; end = b }; kind = indicator_kind what }
+
 abbrev pub text_kind : TextKind → List ℕ → Kind
 text_kind text.Alias bs = tokens.Alias bs
 text_kind text.Anchor bs = tokens.Anchor bs

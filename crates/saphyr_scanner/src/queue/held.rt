@@ -7,7 +7,7 @@ ghost use Rattle.saphyr_values.specs.Flow as flow;
 ghost use Rattle.saphyr_scalar.specs.Steps.Plain.{plain};
 ghost use Rattle.saphyr_scalar.specs.declared.scalar.style.ScalarStyle.TheVariants.{Plain};
 ghost use Rattle.saphyr_scalar.specs.Views.Reader.{Moves, cursor_of};
-ghost use Rattle.saphyr_scanner.specs.Views.Places.{Fit, Fit-prop, indicator_kind, near_span};
+ghost use Rattle.saphyr_scanner.specs.Views.Places.{Fit, Fit-prop, indicator_piece, near_span};
 ghost use Rattle.saphyr_scanner.specs.Views.Reads.{flow_quoted, quote_style, with_scalar};
 
 use crate::queue::Opening;
@@ -111,15 +111,16 @@ impl Held {
     // The place where a span begins and the number of its characters, if it is as `near` says, and a place can be put
     // at the end at once.
     #[inline(always)]
-    fn near_with_room(&self, span: &Span) -> Option<(NearMarker, u8)>
-        ensures near { IfSome result (λ found. near_span found.0 found.1 ≡ span.now) }
+    fn near_with_room(&self, start: &Marker, end: &Marker) -> Option<(NearMarker, u8)>
+        ensures near { IfSome result
+            (λ found. near_span found.0 found.1 ≡ record { start = start.now; end = end.now }) }
         ensures room { IfSome result
             (λ found. vec_len self.now.places < vec_capacity self.now.places) }
     {
         if self.spent != 0 || self.places.len() >= self.places.capacity() {
             return None;
         }
-        near(span)
+        near(start, end)
     }
 
     /// Puts a scalar at the end. Mostly it is on one line, and its place can be put there at once: then no room is
@@ -139,7 +140,7 @@ impl Held {
         let Some(what) = TextKind::of_style(style) else {
             return self.put_scalar_rarely(span, style, text, spare);
         };
-        let Some((start, length)) = self.near_with_room(span) else {
+        let Some((start, length)) = self.near_with_room(&span.start, &span.end) else {
             return self.put_scalar_rarely(span, style, text, spare);
         };
         let Some(count) = self.aside.keep_text(&text)? else {
@@ -253,14 +254,15 @@ impl Held {
     #[inline(always)]
     pub(super) fn put_indicator(
         &mut self,
-        span: &Span,
+        start: &Marker,
+        end: &Marker,
         indicator: Indicator,
     ) -> Result<(), AllocError>
         ensures { OnOk result (held_places self.new ≡ held_places self.old
-            ++ spec.bare_place (record { span = span.now; kind = indicator_kind indicator }) ∷ []) }
+            ++ spec.bare_place (indicator_piece start.now end.now indicator) ∷ []) }
     {
-        let Some((start, length)) = self.near_with_room(span) else {
-            return self.put_indicator_rarely(span, indicator);
+        let Some((start, length)) = self.near_with_room(start, end) else {
+            return self.put_indicator_rarely(start, end, indicator);
         };
         self.places
             .push_reserved(Place::bare(start, length, indicator));
@@ -269,11 +271,17 @@ impl Held {
 
     // The same for any place and any room.
     #[inline(never)]
-    fn put_indicator_rarely(&mut self, span: &Span, indicator: Indicator) -> Result<(), AllocError>
+    fn put_indicator_rarely(
+        &mut self,
+        start: &Marker,
+        end: &Marker,
+        indicator: Indicator,
+    ) -> Result<(), AllocError>
         ensures { OnOk result (held_places self.new ≡ held_places self.old
-            ++ spec.bare_place (record { span = span.now; kind = indicator_kind indicator }) ∷ []) }
+            ++ spec.bare_place (indicator_piece start.now end.now indicator) ∷ []) }
     {
-        self.put(span, indicator.kind(), &mut Spare::new())
+        let span = Span::new(*start, *end);
+        self.put(&span, indicator.kind(), &mut Spare::new())
     }
 
     /// Sets what comes in front of the nth of the tokens, if there are that many.

@@ -75,15 +75,16 @@ impl NearMarker {
 /// The place where a span begins and the number of its characters, if they are on one line and their number
 /// fits into a byte.
 #[inline(always)]
-pub(super) fn near(span: &Span) -> Option<(NearMarker, u8)>
-    ensures { IfSome result (λ found. near_span found.0 found.1 ≡ span.now) }
+pub(super) fn near(start: &Marker, end: &Marker) -> Option<(NearMarker, u8)>
+    ensures { IfSome result
+        (λ found. near_span found.0 found.1 ≡ record { start = start.now; end = end.now }) }
 {
     // For speed a difference below 0 is not told apart: it is a large number, as the start is near.
-    let count = span.end.index.wrapping_sub(span.start.index);
-    let width = span.end.col.wrapping_sub(span.start.col);
-    if count > MOST_LENGTH || width != count || span.end.line != span.start.line {
+    let count = end.index.wrapping_sub(start.index);
+    let width = end.col.wrapping_sub(start.col);
+    if count > MOST_LENGTH || width != count || end.line != start.line {
         return None;
     }
-    let start = NearMarker::new(span.start)?;
+    let start = NearMarker::new(*start)?;
     Some((start, count as u8))
 }

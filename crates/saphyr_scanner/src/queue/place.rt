@@ -124,7 +124,7 @@ impl Place {
             (record { span = span.now; kind = text_kind what text }) p s aside.new) }
     {
         if let Ok(count) = u8::try_from(count)
-            && let Some((start, length)) = near(span)
+            && let Some((start, length)) = near(&span.start, &span.end)
         {
             return Ok(Place::text(start, length, what, count));
         }
@@ -200,7 +200,7 @@ impl Place {
             (record { span = span.now; kind = kind_of kind }) p aside.old aside.new) }
         ensures failed { OnErr result (aside.new ≡ aside.old) }
     {
-        let Some((start, length)) = near(span) else {
+        let Some((start, length)) = near(&span.start, &span.end) else {
             return Place::whole(span, kind, aside);
         };
         let indicator = match kind {

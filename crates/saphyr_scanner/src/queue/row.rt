@@ -4,9 +4,10 @@
 ghost use Rattle.std.specs.Prelude.{◌≡◌, ◌+◌, ◌<◌, ◌^◌, ◌∷◌, List, Some, IfOk, OnErr, OnOk};
 ghost use Rattle.saphyr_scanner.specs.Grammar.Tokens as tokens;
 ghost use Rattle.saphyr_scanner.specs.Steps.Queue as spec;
+ghost use Rattle.saphyr_scanner.specs.Views.Places.{indicator_piece};
 ghost use Rattle.saphyr_scanner.specs.Views.Tokens.{kind_of};
 
-use crate::queue::Opening;
+use crate::queue::{Indicator, Opening};
 use crate::token::{Token, TokenType};
 use saphyr_scalar::{Marker, Span};
 use std::alloc::AllocError;
@@ -63,6 +64,20 @@ impl Row {
             → in_row self.new behind ≡ spec.bare_place (piece token) ∷ behind }
     {
         self.write(token, 1);
+    }
+
+    /// Puts an indicator here. For speed its token is written in place: its places are copied once.
+    #[inline(always)]
+    pub(super) fn put_indicator(&mut self, start: &Marker, end: &Marker, indicator: Indicator)
+        ensures { (behind : List spec.Place) → in_row self.new behind
+            ≡ spec.bare_place (indicator_piece start.now end.now indicator) ∷ behind }
+    {
+        self.token.span.start = *start;
+        self.token.span.end = *end;
+        // There is no code to drop what was here.
+        forget(replace(&mut self.token.kind, indicator.kind()));
+        self.opening = Opening::Nothing;
+        self.count = 1;
     }
 
     /// Puts so many ends of block collections here, all at one place of the text.
