@@ -88,10 +88,7 @@ impl<T: Input> Engine<T> {
         Engine {
             reader: Reader::new(input),
             queue: Queue::new(alloc),
-            level: Level {
-                context: Context::Block,
-                key: None,
-            },
+            level: Level::new(Context::Block),
             outer: Vec::new(alloc),
             required: false,
             key_allowed: true,

@@ -1,5 +1,5 @@
 -- What contracts see of the engine.
-use Rattle.std.specs.Prelude.{map, reverse, option_map, Bool, true, false, Result, Ok, Err}
+use Rattle.std.specs.Prelude.{map, reverse, Bool, true, false, Option, Some, None, Result, Ok, Err}
 use Rattle.saphyr_input.specs.declared.input.Input.{Ghosts}
 use Rattle.saphyr_scalar.specs.declared.scalar.fault.Refusal.{Refusal}
 use Rattle.saphyr_scalar.specs.declared.scalar.fault.Stop.{Stop}
@@ -15,8 +15,13 @@ use Rattle.saphyr_scanner.specs.Steps.State.{State, after_step, on_core}
 abbrev pub candidate : declared_candidate.Candidate → Candidate
 candidate k = record { mark = k.mark; place = k.place }
 
+-- the token that may be a key, if there is one
+abbrev pub key : Bool → declared_candidate.Candidate → Option Candidate
+key true k = Some (candidate k)
+key false k = None
+
 abbrev pub level : declared_level.Level → Level
-level l = record { context = l.context; key = option_map candidate l.key }
+level l = record { context = l.context; key = key l.has_key l.key }
 
 abbrev pub core : {T : Type 0} {g : Ghosts T} → Engine T g → Core
 core {T} {g} e =

@@ -158,7 +158,7 @@ impl<T: Input> Engine<T> {
         ensures reader { self.new.reader ≡ self.old.reader }
     {
         if self.has_far_key() && may_begin(c) && self.comment.is_none() && !self.required {
-            self.level.key = None;
+            self.level.has_key = false;
         }
     }
 
@@ -588,7 +588,7 @@ impl<T: Input> Engine<T> {
             → fetch.without_far_key (state self.now) ≡ Ok (state self.now) }
         ensures free { IsTrue result → fetch.is_held (state self.now) ≡ false }
     {
-        self.level.key.is_none() && self.outer.is_empty()
+        !self.level.has_key && self.outer.is_empty()
     }
 
     // Reads until a token at the head of the queue can be handed out, where a candidate may be far or hold it, with

@@ -26,7 +26,8 @@ impl<T: Input> Engine<T> {
     {
         self.outer.reserve(1)?;
         self.outer.push_reserved(self.level);
-        self.level = Level { context, key: None };
+        self.level.context = context;
+        self.level.has_key = false;
         self.key_allowed = true;
         Ok(())
     }
@@ -40,10 +41,7 @@ impl<T: Input> Engine<T> {
     {
         self.level = match self.outer.pop() {
             Some(level) => level,
-            None => Level {
-                context: Context::Block,
-                key: None,
-            },
+            None => Level::new(Context::Block),
         };
         self.key_allowed = false;
     }

@@ -31,7 +31,8 @@ impl<T: Input> Engine<T> {
         if self.in_block() {
             self.required = !self.deeper && self.indent == mark.col + 1;
         }
-        self.level.key = Some(Candidate { mark, place });
+        self.level.key = Candidate { mark, place };
+        self.level.has_key = true;
         Ok(())
     }
 
@@ -41,7 +42,7 @@ impl<T: Input> Engine<T> {
         ensures { state self.new ≡ spec_state.with_core (spec.forget_key (state self.old).core)
             (state self.old) }
     {
-        self.level.key = None;
+        self.level.has_key = false;
         if self.in_block() {
             self.required = false;
         }
@@ -53,10 +54,11 @@ impl<T: Input> Engine<T> {
     pub(super) fn remove_key(&mut self) -> Result<(), Stop>
         ensures { CarriesBy spec.remove_key self.old result self.new }
     {
-        if self.in_block() && self.required {
+        if self.required && self.in_block() {
             return Err(self.refuse_here(FaultText::KeyExpected));
         }
-        self.forget_key();
+        // Outside flow no key is required here, and inside flow what is stays so.
+        self.level.has_key = false;
         Ok(())
     }
 
@@ -66,12 +68,9 @@ impl<T: Input> Engine<T> {
             (state self.now).core.cursor.mark }
     {
         let mark = self.reader.mark();
-        match self.level.key {
-            None => false,
-            Some(key) => {
-                key.mark.line < mark.line || mark.index.saturating_sub(key.mark.index) > LONGEST_KEY
-            }
-        }
+        let key = &self.level.key.mark;
+        self.level.has_key
+            && (key.line < mark.line || mark.index.saturating_sub(key.index) > LONGEST_KEY)
     }
 
     // The same of a candidate outside flow, which then is none any more.

@@ -113,20 +113,34 @@ pub(crate) struct Candidate {
 pub(crate) struct Level {
     // What is open.
     pub(super) context: Context,
-    // The first token of the last node, if that may be a key, until its colon comes or can't come any more.
-    pub(super) key: Option<Candidate>,
+    // Whether the first token of the last node may be a key, until its colon comes or can't come any more.
+    pub(super) has_key: bool,
+    // That token, or any other. For speed this is no `Option`, of which the whole would be cleared with each token.
+    pub(super) key: Candidate,
 }
 
 impl Level {
+    ghost use Rattle.std.specs.Prelude.{None};
     ghost use Rattle.saphyr_scanner.specs.Views.Engine.{level};
+
+    // What is open, with no token that may be a key.
+    pub(super) fn new(context: Context) -> Level
+        ensures { level result ≡ record { context = context; key = None } }
+    {
+        Level {
+            context,
+            has_key: false,
+            key: Candidate {
+                mark: Marker::new(0, 0, 0),
+                place: 0,
+            },
+        }
+    }
 
     // Whether the token at a place may be a key.
     pub(super) fn holds(&self, place: usize) -> bool
         ensures { result ≡ spec.holds place (level self.now) }
     {
-        match self.key {
-            None => false,
-            Some(key) => key.place == place,
-        }
+        self.has_key && self.key.place == place
     }
 }

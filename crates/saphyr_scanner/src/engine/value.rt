@@ -53,9 +53,10 @@ impl<T: Input> Engine<T> {
         self.level.context = self.level.context.behind_colon();
         self.reader.skip_non_blank();
         self.check_tab()?;
-        match self.level.key {
-            Some(key) => self.fetch_value_of(key, begins_pair, start)?,
-            None => self.fetch_value_alone(begins_pair, start)?,
+        if self.level.has_key {
+            self.fetch_value_of(self.level.key, begins_pair, start)?;
+        } else {
+            self.fetch_value_alone(begins_pair, start)?;
         }
         Ok(())
     }

@@ -3,7 +3,7 @@ use Rattle.saphyr_scanner.specs.Views.Engine.{state}
 use Rattle.saphyr_scanner.proofs.Filling.{no_key_settles}
 use Rattle.saphyr_scanner.proofs.engine.Engine.has_no_candidate.Goals as goal
 
-pub returns-then-is_none-clause-settled : goal.returns-then-is_none-clause-settled
-returns-then-is_none-clause-settled g c =
+pub returns-then-not-self-clause-settled : goal.returns-then-not-self-clause-settled
+returns-then-not-self-clause-settled g c =
     let none : (state c.args.self.now).core.level.key ≡ None = search rules in
     λ _. no_key_settles (state c.args.self.now) none
