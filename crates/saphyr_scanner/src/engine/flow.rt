@@ -1,7 +1,9 @@
 //! Flow collections: their brackets, and the commas between their entries (YAML 1.2.2, 7.4).
 
-ghost use Rattle.std.specs.Prelude.{◌≡◌, Ok, false, ◌<◌, length, nat_le};
+ghost use Rattle.std.specs.Prelude.{◌≡◌, Ok, OnOk, false, ◌<◌, length, nat_le};
+ghost use Rattle.saphyr_scanner.specs.Grammar.Tokens as tokens;
 ghost use Rattle.saphyr_scanner.specs.Limits.{most_open};
+ghost use Rattle.saphyr_scanner.specs.Steps.Core as spec;
 ghost use Rattle.saphyr_scanner.specs.Steps.Flow as flow;
 ghost use Rattle.saphyr_scanner.specs.Steps.State as spec_state;
 
@@ -9,6 +11,7 @@ use crate::engine::{Context, Engine, Level};
 use crate::queue::Indicator;
 use saphyr_input::input::Input;
 use saphyr_scalar::{FaultText, Stop};
+use std::alloc::AllocError;
 
 // How many flow collections may be open at once.
 const MOST_OPEN: usize = 255;
@@ -109,6 +112,17 @@ impl<T: Input> Engine<T> {
         Ok(())
     }
 
+    // An open pair without brackets of its own ends here. It is separate for speed: few pairs are open.
+    #[inline(never)]
+    fn put_pair_end(&mut self) -> Result<(), AllocError>
+        ensures { OnOk result (state self.new ≡ spec_state.with_action
+            (spec.at_mark (state self.old).core.cursor.mark tokens.FlowMappingEnd)
+            (state self.old)) }
+    {
+        let mark = self.reader.mark();
+        self.put_empty_indicator(mark, Indicator::MappingEnd)
+    }
+
     // `]`. An open pair without brackets of its own ends before it.
     #[inline(always)]
     #[tactic(auto, unfolding(crate::specs::Steps::Flow::closing_steps, crate::specs::Steps::Flow::close_collection))]
@@ -120,8 +134,7 @@ impl<T: Input> Engine<T> {
             return Err(self.refuse_here(FaultText::MisplacedBracket));
         }
         if self.level.context.ends_pair() {
-            let end = self.reader.mark();
-            self.put_empty_indicator(end, Indicator::MappingEnd)?;
+            self.put_pair_end()?;
         }
         self.close_collection(Indicator::SequenceEnd)?;
         Ok(())
@@ -150,10 +163,12 @@ impl<T: Input> Engine<T> {
     {
         self.key_allowed = true;
         let start = self.reader.mark();
-        if self.level.context.ends_pair() {
-            self.put_empty_indicator(start, Indicator::MappingEnd)?;
+        if self.level.context.is_pair() {
+            if self.level.context.ends_pair() {
+                self.put_pair_end()?;
+            }
+            self.level.context = self.level.context.behind_entry();
         }
-        self.level.context = self.level.context.behind_entry();
         self.reader.skip_non_blank();
         self.separate()?;
         self.put_indicator_from(start, Indicator::Entry)?;

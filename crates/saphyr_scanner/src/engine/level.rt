@@ -1,6 +1,6 @@
 //! What is open at a place of the text, and which token in it may be a key.
 
-ghost use Rattle.std.specs.Prelude.{◌≡◌, ◌<◌, ◌+◌, ◌^◌};
+ghost use Rattle.std.specs.Prelude.{◌≡◌, ◌<◌, ◌+◌, ◌^◌, false};
 ghost use Rattle.saphyr_scanner.specs.Steps.Level as spec;
 
 use saphyr_scalar::Marker;
@@ -46,6 +46,17 @@ impl Context {
             | Context::FlowMapping
             | Context::FlowSequence
             | Context::ExplicitFlowPair => false,
+        }
+    }
+
+    // Whether a pair without brackets of its own is open.
+    pub(super) fn is_pair(self) -> bool
+        ensures end { result ≡ false → spec.ends_pair self ≡ false }
+        ensures entry { result ≡ false → spec.behind_entry self ≡ self }
+    {
+        match self {
+            Context::FlowPair | Context::ExplicitFlowPair | Context::MarkedFlowPair => true,
+            Context::Block | Context::FlowMapping | Context::FlowSequence => false,
         }
     }
 
