@@ -8,9 +8,10 @@ use crate::machine::{Machine, place_of, refuse, tell};
 use crate::state::State;
 use saphyr_input::input::Input;
 use saphyr_scalar::{FaultText, Span, Stop};
-use saphyr_scanner::TokenType;
+use saphyr_scanner::{Indicator, TokenType};
 
 impl<T: Input> Machine<T> {
+    ghost use Rattle.saphyr_scanner.specs.Views.Engine.{answer_of};
     ghost use Rattle.saphyr_machine.specs.Views.Machines.{TellsBy};
 
     // A node that begins with the next token.
@@ -25,12 +26,41 @@ impl<T: Input> Machine<T> {
         self.node(NodeContext::Block, token, next)
     }
 
-    // An entry of a block sequence, or its end.
+    // An entry of a block sequence, or its end. For speed no token is made of the first indicator.
     #[tactic(auto, unfolding(crate::specs::Steps::Block::block_sequence_entry))]
     pub(super) fn block_sequence_entry<'input>(
         &mut self,
         next: &mut (Event<'input>, Span),
     ) -> Result<(), Stop>
+        ensures { TellsBy spec.block_sequence_entry self.old result next.new self.new }
+    {
+        if let Some(dash) = self.pass(Indicator::BlockEntry)? {
+            self.block_sequence_node(dash, next)?;
+            return Ok(());
+        }
+        if let Some(span) = self.pass(Indicator::BlockEnd)? {
+            self.pop();
+            tell(next, Event::SequenceEnd, span);
+            return Ok(());
+        }
+        if !self.tells_block_entry(next) {
+            return Err(self.stop);
+        }
+        Ok(())
+    }
+
+    // The same with the stop kept, as a call of its own: such tokens are rare.
+    #[inline(never)]
+    fn tells_block_entry<'input>(&mut self, next: &mut (Event<'input>, Span)) -> bool
+        ensures { TellsBy spec.block_sequence_entry self.old (answer_of result self.new.stop) next.new self.new }
+    {
+        let ended = self.any_block_entry(next);
+        self.keep(ended)
+    }
+
+    // The same for any token.
+    #[tactic(auto, unfolding(crate::specs::Steps::Block::block_sequence_entry))]
+    fn any_block_entry<'input>(&mut self, next: &mut (Event<'input>, Span)) -> Result<(), Stop>
         ensures { TellsBy spec.block_sequence_entry self.old result next.new self.new }
     {
         let token = self.take()?;
@@ -65,7 +95,7 @@ impl<T: Input> Machine<T> {
         Ok(())
     }
 
-    // An entry of a sequence at the column of the mapping around it, or its end.
+    // An entry of a sequence at the column of the mapping around it, or its end. For speed no token is made of the `-`.
     #[tactic(auto, unfolding(crate::specs::Steps::Block::indentless_sequence_entry))]
     pub(super) fn indentless_sequence_entry<'input>(
         &mut self,
@@ -73,19 +103,39 @@ impl<T: Input> Machine<T> {
     ) -> Result<(), Stop>
         ensures { TellsBy spec.indentless_sequence_entry self.old result next.new self.new }
     {
-        let token = self.take()?;
-        match token.kind {
-            TokenType::BlockEntry => self.indentless_sequence_node(place_of(token), next)?,
-            _ => {
-                let span = token.span;
-                self.put_back(token);
-                self.pop();
-                tell(next, Event::SequenceEnd, span);
-            }
+        if let Some(dash) = self.pass(Indicator::BlockEntry)? {
+            self.indentless_sequence_node(dash, next)?;
+            return Ok(());
         }
+        let token = self.take()?;
+        if matches!(token.kind, TokenType::BlockEntry) {
+            if !self.tells_indentless_node(place_of(token), next) {
+                return Err(self.stop);
+            }
+            return Ok(());
+        }
+        let span = token.span;
+        self.put_back(token);
+        self.pop();
+        tell(next, Event::SequenceEnd, span);
         Ok(())
     }
 
+    // The node after a `-` of which a token was made, with the stop kept, as a call of its own: such tokens are rare.
+    #[inline(never)]
+    fn tells_indentless_node<'input>(
+        &mut self,
+        dash: Span,
+        next: &mut (Event<'input>, Span),
+    ) -> bool
+        ensures { TellsBy (spec.indentless_sequence_node dash) self.old
+            (answer_of result self.new.stop) next.new self.new }
+    {
+        let ended = self.indentless_sequence_node(dash, next);
+        self.keep(ended)
+    }
+
+    #[inline(always)]
     #[tactic(auto, unfolding(crate::specs::Steps::Block::indentless_sequence_node))]
     fn indentless_sequence_node<'input>(
         &mut self,
@@ -109,12 +159,41 @@ impl<T: Input> Machine<T> {
         Ok(())
     }
 
-    // A key of a block mapping, or its end.
+    // A key of a block mapping, or its end. For speed no token is made of the first indicator.
     #[tactic(auto, unfolding(crate::specs::Steps::Block::block_mapping_key))]
     pub(super) fn block_mapping_key<'input>(
         &mut self,
         next: &mut (Event<'input>, Span),
     ) -> Result<(), Stop>
+        ensures { TellsBy spec.block_mapping_key self.old result next.new self.new }
+    {
+        if self.pass(Indicator::Key)?.is_some() {
+            self.block_key_node(next)?;
+            return Ok(());
+        }
+        if let Some(span) = self.pass(Indicator::BlockEnd)? {
+            self.pop();
+            tell(next, Event::MappingEnd, span);
+            return Ok(());
+        }
+        if !self.tells_block_key(next) {
+            return Err(self.stop);
+        }
+        Ok(())
+    }
+
+    // The same with the stop kept, as a call of its own: such tokens are rare.
+    #[inline(never)]
+    fn tells_block_key<'input>(&mut self, next: &mut (Event<'input>, Span)) -> bool
+        ensures { TellsBy spec.block_mapping_key self.old (answer_of result self.new.stop) next.new self.new }
+    {
+        let ended = self.any_block_key(next);
+        self.keep(ended)
+    }
+
+    // The same for any token.
+    #[tactic(auto, unfolding(crate::specs::Steps::Block::block_mapping_key))]
+    fn any_block_key<'input>(&mut self, next: &mut (Event<'input>, Span)) -> Result<(), Stop>
         ensures { TellsBy spec.block_mapping_key self.old result next.new self.new }
     {
         let token = self.take()?;
@@ -137,6 +216,7 @@ impl<T: Input> Machine<T> {
     }
 
     // The node after a key's token.
+    #[inline(always)]
     #[tactic(auto, unfolding(crate::specs::Steps::Block::block_key_node))]
     fn block_key_node<'input>(&mut self, next: &mut (Event<'input>, Span)) -> Result<(), Stop>
         ensures { TellsBy spec.block_key_node self.old result next.new self.new }
@@ -157,12 +237,36 @@ impl<T: Input> Machine<T> {
         Ok(())
     }
 
-    // The value of a pair of a block mapping.
+    // The value of a pair of a block mapping. For speed no token is made of the colon.
     #[tactic(auto, unfolding(crate::specs::Steps::Block::block_mapping_value))]
     pub(super) fn block_mapping_value<'input>(
         &mut self,
         next: &mut (Event<'input>, Span),
     ) -> Result<(), Stop>
+        ensures { TellsBy spec.block_mapping_value self.old result next.new self.new }
+    {
+        if let Some(colon) = self.pass(Indicator::Value)? {
+            self.block_value_node(colon, next)?;
+            return Ok(());
+        }
+        if !self.tells_block_value(next) {
+            return Err(self.stop);
+        }
+        Ok(())
+    }
+
+    // The same with the stop kept, as a call of its own: such tokens are rare.
+    #[inline(never)]
+    fn tells_block_value<'input>(&mut self, next: &mut (Event<'input>, Span)) -> bool
+        ensures { TellsBy spec.block_mapping_value self.old (answer_of result self.new.stop) next.new self.new }
+    {
+        let ended = self.any_block_value(next);
+        self.keep(ended)
+    }
+
+    // The same for any token.
+    #[tactic(auto, unfolding(crate::specs::Steps::Block::block_mapping_value))]
+    fn any_block_value<'input>(&mut self, next: &mut (Event<'input>, Span)) -> Result<(), Stop>
         ensures { TellsBy spec.block_mapping_value self.old result next.new self.new }
     {
         let token = self.take()?;
@@ -177,6 +281,7 @@ impl<T: Input> Machine<T> {
     }
 
     // The node after a value's token.
+    #[inline(always)]
     #[tactic(auto, unfolding(crate::specs::Steps::Block::block_value_node))]
     fn block_value_node<'input>(
         &mut self,

@@ -72,6 +72,7 @@ impl<T: CloneInput> Machine<T> {
                 prefixes,
                 keep_tags: self.keep_tags,
                 alloc: self.alloc,
+                stop: self.stop,
             }),
             Err(e) => {
                 drop(token);

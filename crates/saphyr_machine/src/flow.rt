@@ -9,9 +9,10 @@ use crate::machine::{Machine, place_of, refuse, tell};
 use crate::state::State;
 use saphyr_input::input::Input;
 use saphyr_scalar::{FaultText, Marker, Span, Stop};
-use saphyr_scanner::{Token, TokenType};
+use saphyr_scanner::{Indicator, Token, TokenType};
 
 impl<T: Input> Machine<T> {
+    ghost use Rattle.saphyr_scanner.specs.Views.Engine.{answer_of};
     ghost use Rattle.saphyr_scanner.specs.Views.Tokens.{piece};
     ghost use Rattle.saphyr_machine.specs.Views.Machines.{machine_of, told_event_of, TellsBy};
 
@@ -47,12 +48,42 @@ impl<T: Input> Machine<T> {
         Ok(())
     }
 
-    // The comma before an entry of a flow sequence, with the entry, or the end of the sequence.
+    // The comma before an entry of a flow sequence, with the entry, or the end of the sequence. For speed no token is
+    // made of the first indicator.
     #[tactic(auto, unfolding(crate::specs::Steps::Flow::flow_sequence_entry))]
     pub(super) fn flow_sequence_entry<'input>(
         &mut self,
         next: &mut (Event<'input>, Span),
     ) -> Result<(), Stop>
+        ensures { TellsBy spec.flow_sequence_entry self.old result next.new self.new }
+    {
+        if self.pass(Indicator::Entry)?.is_some() {
+            self.flow_sequence_item(next)?;
+            return Ok(());
+        }
+        if let Some(span) = self.pass(Indicator::SequenceEnd)? {
+            self.pop();
+            tell(next, Event::SequenceEnd, span);
+            return Ok(());
+        }
+        if !self.tells_flow_entry(next) {
+            return Err(self.stop);
+        }
+        Ok(())
+    }
+
+    // The same with the stop kept, as a call of its own: such tokens are rare.
+    #[inline(never)]
+    fn tells_flow_entry<'input>(&mut self, next: &mut (Event<'input>, Span)) -> bool
+        ensures { TellsBy spec.flow_sequence_entry self.old (answer_of result self.new.stop) next.new self.new }
+    {
+        let ended = self.any_flow_entry(next);
+        self.keep(ended)
+    }
+
+    // The same for any token.
+    #[tactic(auto, unfolding(crate::specs::Steps::Flow::flow_sequence_entry))]
+    fn any_flow_entry<'input>(&mut self, next: &mut (Event<'input>, Span)) -> Result<(), Stop>
         ensures { TellsBy spec.flow_sequence_entry self.old result next.new self.new }
     {
         let token = self.take()?;
@@ -160,12 +191,36 @@ impl<T: Input> Machine<T> {
         tell(next, Event::MappingEnd, span);
     }
 
-    // The first pair of a flow mapping, or its end.
+    // The first pair of a flow mapping, or its end. For speed no token is made of a key's indicator.
     #[tactic(auto, unfolding(crate::specs::Steps::Flow::flow_mapping_first_key))]
     pub(super) fn flow_mapping_first_key<'input>(
         &mut self,
         next: &mut (Event<'input>, Span),
     ) -> Result<(), Stop>
+        ensures { TellsBy spec.flow_mapping_first_key self.old result next.new self.new }
+    {
+        if self.pass(Indicator::Key)?.is_some() {
+            self.flow_key_node(next)?;
+            return Ok(());
+        }
+        if !self.tells_first_flow_key(next) {
+            return Err(self.stop);
+        }
+        Ok(())
+    }
+
+    // The same with the stop kept, as a call of its own: such tokens are rare.
+    #[inline(never)]
+    fn tells_first_flow_key<'input>(&mut self, next: &mut (Event<'input>, Span)) -> bool
+        ensures { TellsBy spec.flow_mapping_first_key self.old (answer_of result self.new.stop) next.new self.new }
+    {
+        let ended = self.any_first_flow_key(next);
+        self.keep(ended)
+    }
+
+    // The same for any token.
+    #[tactic(auto, unfolding(crate::specs::Steps::Flow::flow_mapping_first_key))]
+    fn any_first_flow_key<'input>(&mut self, next: &mut (Event<'input>, Span)) -> Result<(), Stop>
         ensures { TellsBy spec.flow_mapping_first_key self.old result next.new self.new }
     {
         let token = self.take()?;
@@ -174,12 +229,42 @@ impl<T: Input> Machine<T> {
         Ok(())
     }
 
-    // The comma before a pair of a flow mapping, with its key, or the end of the mapping.
+    // The comma before a pair of a flow mapping, with its key, or the end of the mapping. For speed no token is made of
+    // the first indicators.
     #[tactic(auto, unfolding(crate::specs::Steps::Flow::flow_mapping_key))]
     pub(super) fn flow_mapping_key<'input>(
         &mut self,
         next: &mut (Event<'input>, Span),
     ) -> Result<(), Stop>
+        ensures { TellsBy spec.flow_mapping_key self.old result next.new self.new }
+    {
+        if let Some(comma) = self.pass(Indicator::Entry)? {
+            self.flow_mapping_pair_behind_comma(comma, next)?;
+            return Ok(());
+        }
+        if let Some(span) = self.pass(Indicator::MappingEnd)? {
+            self.pop();
+            tell(next, Event::MappingEnd, span);
+            return Ok(());
+        }
+        if !self.tells_flow_key(next) {
+            return Err(self.stop);
+        }
+        Ok(())
+    }
+
+    // The same with the stop kept, as a call of its own: such tokens are rare.
+    #[inline(never)]
+    fn tells_flow_key<'input>(&mut self, next: &mut (Event<'input>, Span)) -> bool
+        ensures { TellsBy spec.flow_mapping_key self.old (answer_of result self.new.stop) next.new self.new }
+    {
+        let ended = self.any_flow_key(next);
+        self.keep(ended)
+    }
+
+    // The same for any token.
+    #[tactic(auto, unfolding(crate::specs::Steps::Flow::flow_mapping_key))]
+    fn any_flow_key<'input>(&mut self, next: &mut (Event<'input>, Span)) -> Result<(), Stop>
         ensures { TellsBy spec.flow_mapping_key self.old result next.new self.new }
     {
         let token = self.take()?;
@@ -197,6 +282,39 @@ impl<T: Input> Machine<T> {
     #[inline(always)]
     #[tactic(auto, unfolding(crate::specs::Steps::Flow::flow_mapping_pair_behind_comma))]
     fn flow_mapping_pair_behind_comma<'input>(
+        &mut self,
+        comma: Span,
+        next: &mut (Event<'input>, Span),
+    ) -> Result<(), Stop>
+        ensures { TellsBy (spec.flow_mapping_pair_behind_comma comma) self.old result next.new
+            self.new }
+    {
+        if self.pass(Indicator::Key)?.is_some() {
+            self.flow_key_node(next)?;
+            return Ok(());
+        }
+        if !self.tells_flow_pair_behind_comma(comma, next) {
+            return Err(self.stop);
+        }
+        Ok(())
+    }
+
+    // The same for any token, with the stop kept, as a call of its own: such tokens are rare.
+    #[inline(never)]
+    fn tells_flow_pair_behind_comma<'input>(
+        &mut self,
+        comma: Span,
+        next: &mut (Event<'input>, Span),
+    ) -> bool
+        ensures { TellsBy (spec.flow_mapping_pair_behind_comma comma) self.old
+            (answer_of result self.new.stop) next.new self.new }
+    {
+        let ended = self.any_flow_pair_behind_comma(comma, next);
+        self.keep(ended)
+    }
+
+    #[tactic(auto, unfolding(crate::specs::Steps::Flow::flow_mapping_pair_behind_comma))]
+    fn any_flow_pair_behind_comma<'input>(
         &mut self,
         comma: Span,
         next: &mut (Event<'input>, Span),
@@ -240,7 +358,8 @@ impl<T: Input> Machine<T> {
         Ok(())
     }
 
-    // The node after a key's token. It has no hint, so that `flow_mapping_pair` is small enough for its own.
+    // The node after a key's token.
+    #[inline(always)]
     #[tactic(auto, unfolding(crate::specs::Steps::Flow::flow_key_node))]
     fn flow_key_node<'input>(&mut self, next: &mut (Event<'input>, Span)) -> Result<(), Stop>
         ensures { TellsBy spec.flow_key_node self.old result next.new self.new }
@@ -256,12 +375,36 @@ impl<T: Input> Machine<T> {
         Ok(())
     }
 
-    // The value of a pair of a flow mapping.
+    // The value of a pair of a flow mapping. For speed no token is made of the colon.
     #[tactic(auto, unfolding(crate::specs::Steps::Flow::flow_mapping_value))]
     pub(super) fn flow_mapping_value<'input>(
         &mut self,
         next: &mut (Event<'input>, Span),
     ) -> Result<(), Stop>
+        ensures { TellsBy spec.flow_mapping_value self.old result next.new self.new }
+    {
+        if let Some(colon) = self.pass(Indicator::Value)? {
+            self.flow_value_node(colon, next)?;
+            return Ok(());
+        }
+        if !self.tells_flow_value(next) {
+            return Err(self.stop);
+        }
+        Ok(())
+    }
+
+    // The same with the stop kept, as a call of its own: such tokens are rare.
+    #[inline(never)]
+    fn tells_flow_value<'input>(&mut self, next: &mut (Event<'input>, Span)) -> bool
+        ensures { TellsBy spec.flow_mapping_value self.old (answer_of result self.new.stop) next.new self.new }
+    {
+        let ended = self.any_flow_value(next);
+        self.keep(ended)
+    }
+
+    // The same for any token.
+    #[tactic(auto, unfolding(crate::specs::Steps::Flow::flow_mapping_value))]
+    fn any_flow_value<'input>(&mut self, next: &mut (Event<'input>, Span)) -> Result<(), Stop>
         ensures { TellsBy spec.flow_mapping_value self.old result next.new self.new }
     {
         let token = self.take()?;

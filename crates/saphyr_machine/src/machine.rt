@@ -14,7 +14,7 @@ use crate::state::State;
 use crate::states::States;
 use saphyr_input::input::Input;
 use saphyr_scalar::{FaultText, Marker, Refusal, ScalarStyle, Span, Stop};
-use saphyr_scanner::{Scanner, Token};
+use saphyr_scanner::{Indicator, Scanner, Token};
 use std::alloc::Global;
 use std::borrow::CowStr;
 use std::mem::forget;
@@ -43,6 +43,8 @@ pub struct Machine<T: Input> {
     pub(super) keep_tags: bool,
     // Where the memory of events comes from.
     pub(super) alloc: Global,
+    // What ended the reading, once a call has returned `false`.
+    pub(super) stop: Stop,
 }
 
 // A refusal at a place.
@@ -72,7 +74,9 @@ pub(super) fn tell<'input>(next: &mut (Event<'input>, Span), event: Event<'input
 impl<T: Input> Machine<T> {
     ghost use Rattle.std.specs.Prelude.{IfOk, IfNone, IfSome, Ok};
     ghost use Rattle.saphyr_scalar.specs.Views.Reader.{Moves};
-    ghost use Rattle.saphyr_machine.specs.Views.Machines.{machine_of, happening, told_event_of, TakesBy};
+    ghost use Rattle.saphyr_scanner.specs.Views.Engine.{answer_of};
+    ghost use Rattle.saphyr_scanner.specs.Views.Places.{indicator_kind};
+    ghost use Rattle.saphyr_machine.specs.Views.Machines.{machine_of, happening, told_event_of, PassesBy, TakesBy};
 
     // A machine that has read nothing.
     pub(super) fn new(alloc: Global, scanner: Scanner<T>) -> Self
@@ -88,6 +92,7 @@ impl<T: Input> Machine<T> {
             prefixes: Prefixes::new(alloc),
             keep_tags: false,
             alloc,
+            stop: Stop::OutOfMemory,
         }
     }
 
@@ -128,6 +133,38 @@ impl<T: Input> Machine<T> {
             Err(stop) => {
                 drop(token);
                 Err(stop)
+            }
+        }
+    }
+
+    // Passes the next token, if it is seen to be this indicator, and returns its span. For speed no token is made.
+    #[inline(always)]
+    pub(super) fn pass(&mut self, indicator: Indicator) -> Result<Option<Span>, Stop>
+        ensures { PassesBy (indicator_kind indicator) self.old result self.new }
+    {
+        if let Some(token) = &self.token {
+            if !indicator.is(&token.kind) {
+                return Ok(None);
+            }
+            let span = token.span;
+            // An indicator holds no memory.
+            forget(self.token.take());
+            return Ok(Some(span));
+        }
+        self.scanner.pass(indicator)
+    }
+
+    // Keeps what ended the reading. Returns whether nothing did.
+    #[inline(always)]
+    pub(super) fn keep(&mut self, ended: Result<(), Stop>) -> bool
+        ensures told { answer_of result self.new.stop ≡ ended }
+        ensures same { machine_of self.new ≡ machine_of self.old }
+    {
+        match ended {
+            Ok(()) => true,
+            Err(stop) => {
+                self.stop = stop;
+                false
             }
         }
     }

@@ -51,6 +51,7 @@ impl Properties {
 impl<T: Input> Machine<T> {
     ghost use Rattle.std.specs.Prelude.{ℕ, Ok};
     ghost use Rattle.saphyr_scalar.specs.Views.Reader.{Moves};
+    ghost use Rattle.saphyr_scanner.specs.Views.Engine.{answer_of};
     ghost use Rattle.saphyr_scanner.specs.Views.Tokens.{piece};
     ghost use Rattle.saphyr_machine.specs.Views.Machines.{machine_of, resolved_tag, told_event_of, TellsBy};
     ghost use Rattle.saphyr_machine.specs.Views.Nodes.{properties as seen};
@@ -454,9 +455,8 @@ impl<T: Input> Machine<T> {
         }
     }
 
-    // A node that begins with an alias, an anchor or a tag, or that is left out. These are rare, so they have a
-    // function of their own.
-    #[inline(never)]
+    // A node that begins with an alias, an anchor or a tag, or that is left out. These are rare.
+    #[inline(always)]
     #[tactic(auto, unfolding(crate::specs::Steps::Nodes::node))]
     fn rare_node<'input>(
         &mut self,
@@ -485,6 +485,23 @@ impl<T: Input> Machine<T> {
                 self.content(properties, context, Token { span, kind }, next)
             }
         }
+    }
+
+    // The same with the stop kept, as a call of its own. The place of a result is cleared before such a call and
+    // copied after it, but a result of one byte isn't.
+    #[inline(never)]
+    fn tells_rare_node<'input>(
+        &mut self,
+        context: NodeContext,
+        token: Token,
+        next: &mut (Event<'input>, Span),
+    ) -> bool
+        requires { self.old.token ≡ None }
+        ensures { TellsBy (spec.node context (piece token)) self.old
+            (answer_of result self.new.stop) next.new self.new }
+    {
+        let ended = self.rare_node(context, token, next);
+        self.keep(ended)
     }
 
     // A node begins with the token. Most nodes have no properties. Their content is read here and not by `content`,
@@ -528,7 +545,11 @@ impl<T: Input> Machine<T> {
                 self.state = State::IndentlessSequenceEntry;
                 tell(next, Event::SequenceStart(0, None), span);
             }
-            kind => self.rare_node(context, Token { span, kind }, next)?,
+            kind => {
+                if !self.tells_rare_node(context, Token { span, kind }, next) {
+                    return Err(self.stop);
+                }
+            }
         }
         Ok(())
     }

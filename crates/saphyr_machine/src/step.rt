@@ -21,12 +21,12 @@ impl<T: Input> Machine<T> {
     ghost use Rattle.saphyr_machine.specs.Faults.{IsFaultOf, is_foreign};
     ghost use Rattle.saphyr_machine.specs.declared.state.State.TheVariants.{End};
 
-    // The fault in place of an event.
+    // The fault in place of an event, by the stop that was kept.
     #[inline(never)]
-    fn fail(&self, stop: Stop, fault: &mut Fault)
-        ensures { IsFaultOf stop fault.new }
+    fn fail(&self, fault: &mut Fault)
+        ensures { IsFaultOf self.now.stop fault.new }
     {
-        drop(replace(fault, Fault::new(self.alloc, stop)));
+        drop(replace(fault, Fault::new(self.alloc, self.stop)));
     }
 
     // Gives back the text and the tag of the event that is overwritten, so the next one uses their memory.
@@ -76,7 +76,9 @@ impl<T: Input> Machine<T> {
         match self.event(next) {
             Ok(()) => Progress::Event,
             Err(stop) => {
-                self.fail(stop, fault);
+                // For speed the stop goes by a field: the place of an argument would be cleared at each event.
+                self.stop = stop;
+                self.fail(fault);
                 Progress::Fault
             }
         }

@@ -1,13 +1,15 @@
 -- The tokens in a row: none, one, or ends of block collections.
-use Rattle.std.proofs.Common.{◌≡◌, ◌+◌, ◌-◌, ◌<◌, ◌≤◌, ℕ, zero, suc, List, [], ◌∷◌, ◌++◌, length, refl, sym, ap, ◌∙◌, arith, true, append_assoc, append-nil}
+use Rattle.std.proofs.Common.{◌≡◌, ◌+◌, ◌-◌, ◌<◌, ◌≤◌, ℕ, zero, suc, List, [], ◌∷◌, ◌++◌, length, refl, sym, ap, ◌∙◌, arith, true, append_assoc, append-nil, Result, Ok, Err}
+use Rattle.std.specs.Prelude.{Option, Some, None}
+use Rattle.saphyr_scalar.specs.declared.scalar.fault.Stop.{Stop}
 use Rattle.saphyr_scalar.specs.declared.scalar.position.Marker.{Marker}
 use Rattle.saphyr_scalar.specs.declared.scalar.position.Span.{Span}
 use Rattle.saphyr_scanner.specs.declared.queue.Opening.{Opening}
 use Rattle.saphyr_scanner.specs.declared.queue.Opening.TheVariants as opening
 use Rattle.saphyr_scanner.specs.declared.queue.row.Row.{Row}
 use Rattle.saphyr_scanner.specs.Grammar.Tokens.{BlockEnd, Kind}
-use Rattle.saphyr_scanner.specs.Steps.Queue.{Place, Queue, bare_place, empty_piece, is_empty_list, places_with_opening, with_piece}
-use Rattle.saphyr_scanner.specs.Views.Queue.{bare_places, row_places, in_row, with_block_ends}
+use Rattle.saphyr_scanner.specs.Steps.Queue.{Place, Queue, bare_place, empty_piece, is_empty_list, places_with_opening, take, take_place, with_piece}
+use Rattle.saphyr_scanner.specs.Views.Queue.{bare_places, row_places, in_row, with_block_ends, PassesBy}
 use Rattle.saphyr_scanner.specs.Views.Tokens.{Piece, piece}
 use Rattle.saphyr_scanner.proofs.Queues.{place_with_front}
 
@@ -28,6 +30,28 @@ end_taken zero o t u ps h e f = absurd (omega (arith, h))
 end_taken (suc n) o t u ps h e f =
     let same : suc n - 1 ≡ n = omega arith in
     rw (e, sym f, same) (ap (λ rs. bare_place t ∷ rs) (sym (bare_row n t ps)))
+
+abbrev queue_at : List Place → ℕ → Queue
+queue_at ps n = record { places = ps; handed = n }
+
+-- the first of a row is taken, with nothing in front of it
+pub row_taken : (n : ℕ) (o : Opening) (t u : Piece) (ps : List Place) (k : ℕ) → 0 < n → o ≡ opening.Nothing → t ≡ u
+    → take (queue_at (row_places n o t ps) k) ≡ (Some u, queue_at (row_places (n - 1) o t ps) (k + 1))
+row_taken zero o t u ps k h e f = absurd (omega (arith, h))
+row_taken (suc n) o t u ps k h e f =
+    let same : suc n - 1 ≡ n = omega arith in
+    rw (e, sym f, same) (ap (λ rs. (Some t, queue_at rs (k + 1))) (sym (bare_row n t ps)))
+
+-- With nothing in front, the first token is what comes next.
+pub place_passed : (kind : Kind) (r : Result (Option Span) Stop) (ps qs : List Place) (p : Place) (k : ℕ) (new : Queue)
+    → ps ≡ p ∷ qs → p.opening ≡ opening.Nothing → PassesBy kind take_place r (queue_at ps k) new
+    → PassesBy kind take r (queue_at ps k) new
+place_passed kind (Ok (Some span)) ps qs p k new e f h =
+    let place : p ≡ bare_place p.piece = ap (λ o. record { opening = o; piece = p.piece }) f in
+    let same : take (queue_at ps k) ≡ take_place (queue_at ps k) = rw (e, place) refl in
+    same ∙ h
+place_passed kind (Ok None) ps qs p k new e f h = h
+place_passed kind (Err s) ps qs p k new e f h = h
 
 -- ## What is behind rows
 
@@ -95,9 +119,6 @@ one_more (suc n) t = ap (λ rs. bare_place t ∷ rs) (one_more n t)
 pub next_end : (n : ℕ) (m : Marker) (q : Queue)
     → with_block_ends (n + 1) m q ≡ with_piece (empty_piece m BlockEnd) (with_block_ends n m q)
 next_end n m q = let same : n + 1 ≡ suc n = omega arith in rw same refl
-
-abbrev queue_at : List Place → ℕ → Queue
-queue_at ps n = record { places = ps; handed = n }
 
 -- their ends come behind what is in the queue
 pub ends_behind : (n : ℕ) (m : Marker) (q : Queue)

@@ -3,11 +3,14 @@ use Rattle.std.proofs.Common.{◌≡◌, ℕ, suc, ◌+◌, Bool, true, false, L
 use Rattle.std.specs.Prelude.{◌&&◌, not, Option, Some, None, option_map}
 use Rattle.saphyr_scalar.specs.declared.scalar.fault.Stop.{Stop}
 use Rattle.saphyr_scalar.specs.declared.scalar.fault.Stop.TheVariants as stops
+use Rattle.saphyr_scalar.specs.declared.scalar.position.Span.{Span}
 use Rattle.saphyr_scalar.specs.Views.Reader.{Fails, Moves}
 use Rattle.saphyr_scanner.specs.declared.token.Token.{Token}
 use Rattle.saphyr_scanner.specs.declared.queue.Opening.{Opening}
 use Rattle.saphyr_scanner.specs.declared.queue.Opening.TheVariants as opening
-use Rattle.saphyr_scanner.specs.Views.Tokens.{Piece, Remaining, none, before, piece, written_token, handed_token, Hands}
+use Rattle.saphyr_scanner.specs.Grammar.Tokens.{Kind}
+use Rattle.saphyr_scanner.specs.Views.Queue.{PassesBy}
+use Rattle.saphyr_scanner.specs.Views.Tokens.{Piece, Remaining, none, before, piece, written_token, handed_token, Hands, Passes}
 use Rattle.saphyr_scanner.specs.Steps.Queue.{Place}
 use Rattle.saphyr_scanner.specs.Steps.Core.{Core}
 use Rattle.saphyr_scanner.specs.Steps.State.{State}
@@ -106,3 +109,18 @@ handed_over laws limit s t u token (Ok x) old e took is =
     hands_out laws limit s t u (written_token x token) old e (cc) is
 handed_over laws limit s t u token (Err stops.OutOfMemory) old e took is = tt
 handed_over laws limit s t u token (Err (stops.Refused f)) old e took is = absurd (cc)
+
+pub passed_over : Readers → (limit : ℕ) (s t u : State) (kind : Kind) (r : Result (Option Span) Stop) (old : Remaining)
+    → fill limit s ≡ Ok t → PassesBy kind take_token r t u → remaining limit s ≡ old
+    → Passes kind r old (remaining limit u)
+passed_over laws limit s t u kind (Ok (Some span)) old e took is =
+    let f = filled laws limit s t e in
+    let second : (take_token t).1 ≡ u = ap (λ x. x.1) took in
+    let gone = rw (ap (λ x. x.0) took) at (first_taken limit t.core t.queue.places t.queue.handed f.1) in
+    sym is ∙ f.0 ∙ gone ∙ ap (before (record { span = span; kind = kind }))
+    (sym (remaining_of limit (take_token t).1 (taken_settles t f.2)) ∙ ap (remaining limit) second)
+passed_over laws limit s t u kind (Ok None) old e same is =
+    let f = filled laws limit s t e in
+    ap (remaining limit) same ∙ remaining_of limit t f.2 ∙ sym f.0 ∙ is
+passed_over laws limit s t u kind (Err stops.OutOfMemory) old e failed is = tt
+passed_over laws limit s t u kind (Err (stops.Refused f)) old e failed is = absurd (cc)

@@ -9,6 +9,7 @@ mod scanner;
 mod stepping;
 mod token;
 
+pub use queue::Indicator;
 pub use scanner::Scanner;
 pub use stepping::StepScanner;
 pub use token::{TagPrefix, Token, TokenType};

@@ -8,13 +8,13 @@ mod near;
 mod place;
 mod row;
 
-ghost use Rattle.std.specs.Prelude.{◌≡◌, ◌⊎◌, false, Ok, OnErr, OnOk, length, slice_index, string_bytes};
+ghost use Rattle.std.specs.Prelude.{◌≡◌, ◌⊎◌, List, false, IfSome, IsTrue, Ok, OnErr, OnOk, length, slice_index, string_bytes};
 ghost use Rattle.saphyr_values.specs.Flow as flow;
 ghost use Rattle.saphyr_scalar.specs.Steps.Plain.{plain};
 ghost use Rattle.saphyr_scanner.specs.Grammar.Tokens as tokens;
 ghost use Rattle.saphyr_scanner.specs.Steps.Queue as spec;
 
-pub(crate) use crate::queue::content::Indicator;
+pub use crate::queue::content::Indicator;
 use crate::queue::held::Held;
 use crate::queue::row::Row;
 use crate::token::{Token, TokenType};
@@ -33,6 +33,32 @@ pub(crate) enum Opening {
     BlockMappingAndKey,
     /// The same for a pair in a flow sequence, as in `[a: b]`, which is a mapping of its own.
     FlowMappingAndKey,
+}
+
+impl Opening {
+    ghost use Rattle.saphyr_scanner.specs.declared.queue.Opening.TheVariants.{Nothing};
+    ghost use Rattle.saphyr_scanner.specs.Views.Places.{indicator_kind};
+
+    #[inline(always)]
+    fn is_nothing(self) -> bool
+        ensures { IsTrue result → self ≡ Nothing }
+    {
+        matches!(self, Opening::Nothing)
+    }
+
+    // What is still in front once this indicator was handed out, if it comes first.
+    #[inline(always)]
+    fn behind(self, indicator: Indicator) -> Option<Opening>
+        ensures { IfSome result (λ left. (p : spec.Place) (ps : List spec.Place) (q : spec.Queue)
+            → spec.take_of self p ps q ≡ spec.take_front (indicator_kind indicator) left p ps q) }
+    {
+        match (self, indicator) {
+            (Opening::Key, Indicator::Key) => Some(Opening::Nothing),
+            (Opening::BlockMappingAndKey, Indicator::BlockMappingStart) => Some(Opening::Key),
+            (Opening::FlowMappingAndKey, Indicator::MappingStart) => Some(Opening::Key),
+            _ => None,
+        }
+    }
 }
 
 /// The tokens that were read and not handed out, in places that are numbered from the text's start.
@@ -56,9 +82,9 @@ impl Queue {
     ghost use Rattle.saphyr_scalar.specs.declared.scalar.style.ScalarStyle.TheVariants.{Plain};
     ghost use Rattle.saphyr_scalar.specs.Views.Reader.{Moves, cursor_of};
     ghost use Rattle.saphyr_scanner.specs.Views.Tokens.{piece};
-    ghost use Rattle.saphyr_scanner.specs.Views.Places.{indicator_piece};
+    ghost use Rattle.saphyr_scanner.specs.Views.Places.{indicator_kind, indicator_piece};
     ghost use Rattle.saphyr_scanner.specs.Views.Reads.{flow_quoted, queue_with_scalar, quote_style};
-    ghost use Rattle.saphyr_scanner.specs.Views.Queue.{queue, with_block_ends, HoldsNone, TakesOffBy};
+    ghost use Rattle.saphyr_scanner.specs.Views.Queue.{queue, with_block_ends, HoldsNone, PassesBy, TakesOffBy};
     ghost use Rattle.std.specs.Prelude.{◌<◌};
 
     pub(crate) fn new(alloc: Global) -> Self
@@ -339,5 +365,24 @@ impl Queue {
             self.second.take_into(token, &mut self.handed);
         }
         Ok(true)
+    }
+
+    /// Takes the first token off, if it is this indicator, and returns its span. No token is made for it.
+    #[inline(always)]
+    pub(crate) fn pass(&mut self, indicator: Indicator) -> Result<Option<Span>, Stop>
+        ensures { PassesBy (indicator_kind indicator) spec.take result (queue self.old)
+            (queue self.new) }
+    {
+        if self.first.count == 0 && self.second.count == 0 {
+            return self.held.pass(indicator, &mut self.handed);
+        }
+        if self.handed == usize::MAX {
+            return Err(Stop::OutOfMemory);
+        }
+        if self.first.count > 0 {
+            Ok(self.first.pass(indicator, &mut self.handed))
+        } else {
+            Ok(self.second.pass(indicator, &mut self.handed))
+        }
     }
 }

@@ -2,15 +2,17 @@
 
 ghost use Rattle.std.specs.Prelude.{◌≡◌, IfOk, length};
 ghost use Rattle.saphyr_scanner.specs.Steps.Remaining.{scan};
-ghost use Rattle.saphyr_scanner.specs.Views.Tokens.{GivesLast, Hands, handed_token, piece};
+ghost use Rattle.saphyr_scanner.specs.Views.Places.{indicator_kind};
+ghost use Rattle.saphyr_scanner.specs.Views.Tokens.{GivesLast, Hands, Passes, handed_token, piece};
 ghost use Rattle.saphyr_scanner.specs.SpansInOrder.{AreInOrder};
 ghost use Rattle.saphyr_scanner.specs.TokensTaken.{AreTakenFrom};
 
 use crate::engine::Engine;
 use crate::law::{orders_spans, takes_all_tokens, takes_characters_off};
+use crate::queue::Indicator;
 use crate::token::Token;
 use saphyr_input::input::{CloneInput, Input};
-use saphyr_scalar::{Stop, TagParts};
+use saphyr_scalar::{Span, Stop, TagParts};
 use std::alloc::{AllocError, Global};
 use std::marker::Model;
 
@@ -94,6 +96,18 @@ impl<T: Input> Scanner<T> {
         takes_characters_off();
         self.engine.fill(self.limit)?;
         self.engine.take_into(token)
+    }
+
+    /// Passes the next token, if it is this indicator, and returns its span. `None`: it is not, and nothing changes.
+    /// No token is made for it, which is faster where one isn't needed.
+    #[inline(always)]
+    pub fn pass(&mut self, indicator: Indicator) -> Result<Option<Span>, Stop>
+        ensures { Passes (indicator_kind indicator) result self.old self.new }
+    {
+        // A law. It does nothing when it runs.
+        takes_characters_off();
+        self.engine.fill(self.limit)?;
+        self.engine.pass(indicator)
     }
 
     /// Puts a token after all that come, where all tokens of the text were read. So a scanner of an empty text, once

@@ -1,15 +1,16 @@
 -- What contracts see of a machine and of events.
-use Rattle.std.specs.Prelude.{Option, Some, None, Result}
+use Rattle.std.specs.Prelude.{◌≡◌, Option, Some, None, Result, Ok, Err}
 use Rattle.saphyr_scalar.specs.declared.scalar.fault.Refusal.{Refusal}
 use Rattle.saphyr_scalar.specs.declared.scalar.fault.Stop.{Stop}
 use Rattle.saphyr_scalar.specs.declared.scalar.position.Span.{Span}
-use Rattle.saphyr_scalar.specs.Views.Reader.{Moves}
+use Rattle.saphyr_scalar.specs.Views.Reader.{Fails, Moves}
 use Rattle.saphyr_scanner.specs.declared.token.Token.{Token}
+use Rattle.saphyr_scanner.specs.Grammar.Tokens.{Kind}
 use Rattle.saphyr_scanner.specs.Views.Tokens.{Remaining, Piece, piece, before}
 use Rattle.saphyr_machine.specs.declared.event.Event.{Event}
 use Rattle.saphyr_machine.specs.declared.machine.Machine as declared
 pub use Rattle.saphyr_machine.specs.Views.Events.{happening, resolved_tag}
-use Rattle.saphyr_machine.specs.Steps.Machine.{Machine, Told}
+use Rattle.saphyr_machine.specs.Steps.Machine.{Machine, Told, taken_token}
 
 -- the tokens still to be read, of which one may be read already
 abbrev pub with_token_ahead : Option Token → Remaining → Remaining
@@ -52,3 +53,11 @@ abbrev pub TellsBy
     → (Machine → Result Told Refusal) → declared.Machine T → Result Unit Stop → Event × Span
     → declared.Machine T → Type 0
 TellsBy f old result next new = Moves (λ _. told_event_of (machine_of new) next) result (f (machine_of old))
+
+-- What a call that passes the next token if it has this kind returned, and the machine that it left. `None` says that it
+-- passed none.
+abbrev pub PassesBy : {T : Type 0} → Kind → declared.Machine T → Result (Option Span) Stop → declared.Machine T → Type 0
+PassesBy kind old (Ok (Some span)) new =
+    taken_token (machine_of old) ≡ Ok (record { span = span; kind = kind }, machine_of new)
+PassesBy kind old (Ok None) new = machine_of new ≡ machine_of old
+PassesBy kind old (Err e) new = Fails e (taken_token (machine_of old))

@@ -1,7 +1,9 @@
 -- What contracts see of the queue.
-use Rattle.std.specs.Prelude.{◌≡◌, [], drop, List, ◌∷◌, ℕ, zero, suc, Bool, Option, option_map, Result, Ok}
+use Rattle.std.specs.Prelude.{◌≡◌, [], drop, List, ◌∷◌, ℕ, zero, suc, Bool, Option, Some, None, option_map, Result, Ok, Err}
 use Rattle.saphyr_scalar.specs.declared.scalar.fault.Stop.{Stop}
+use Rattle.saphyr_scalar.specs.declared.scalar.fault.Stop.TheVariants.{OutOfMemory}
 use Rattle.saphyr_scalar.specs.declared.scalar.position.Marker.{Marker}
+use Rattle.saphyr_scalar.specs.declared.scalar.position.Span.{Span}
 use Rattle.saphyr_scanner.specs.declared.queue.held.Held.{Held}
 use Rattle.saphyr_scanner.specs.declared.queue.Queue as declared_queue
 use Rattle.saphyr_scanner.specs.declared.queue.Opening.{Opening}
@@ -10,7 +12,7 @@ use Rattle.saphyr_scanner.specs.declared.token.Token.{Token}
 use Rattle.saphyr_scalar.specs.Views.Reader.{Moves}
 use Rattle.saphyr_scanner.specs.Views.Places.{places_at}
 use Rattle.saphyr_scanner.specs.Views.Tokens.{Piece, piece, written_token}
-use Rattle.saphyr_scanner.specs.Grammar.Tokens.{BlockEnd}
+use Rattle.saphyr_scanner.specs.Grammar.Tokens.{BlockEnd, Kind}
 use Rattle.saphyr_scanner.specs.Steps.Queue.{Place, Queue, bare_place, empty_piece, with_piece}
 
 -- so many tokens with nothing in front of them, and the places after them
@@ -61,3 +63,13 @@ abbrev pub TakesOffBy
     : (Queue → Option Piece × Queue) → declared_queue.Queue → Result Bool Stop → Token → declared_queue.Queue → Type 0
 TakesOffBy f old result token new =
     Moves (λ taken. (option_map piece (written_token taken token), queue new)) result (Ok (f (queue old)))
+
+-- What was taken off is a token of this kind with this span, as the function does it. Without a span nothing changed.
+abbrev pub Passed : {X : Type 0} → Kind → (X → Option Piece × X) → Option Span → X → X → Type 0
+Passed kind f (Some span) old new = f old ≡ (Some (record { span = span; kind = kind }), new)
+Passed kind f None old new = new ≡ old
+
+-- the same of a call, unless memory ran out
+abbrev pub PassesBy : {X : Type 0} → Kind → (X → Option Piece × X) → Result (Option Span) Stop → X → X → Type 0
+PassesBy kind f (Ok span) old new = Passed kind f span old new
+PassesBy kind f (Err e) old new = e ≡ OutOfMemory

@@ -82,3 +82,9 @@ Hands (Ok (Some t)) old new = old ≡ before (piece t) new
 Hands (Ok None) old new = (old ≡ none) × (new ≡ none)
 Hands (Err stop.OutOfMemory) old new = Unit {0}
 Hands (Err (stop.Refused e)) old new = old ≡ refusal_alone e
+
+-- What a call that passes the next token if it has this kind returns, and what remains: `None` says that it passed none.
+abbrev pub Passes : Kind → Result (Option Span) Stop → Remaining → Remaining → Type 0
+Passes kind (Ok (Some span)) old new = old ≡ before (record { span = span; kind = kind }) new
+Passes kind (Ok None) old new = new ≡ old
+Passes kind (Err e) old new = Hands (Err e) old new

@@ -25,7 +25,7 @@ use crate::queue::Indicator;
 use crate::token::{Token, TokenType};
 use saphyr_input::char_traits::{is_blank_or_breakz, is_bom, is_flow, is_z};
 use saphyr_input::input::Input;
-use saphyr_scalar::{FaultText, Stop, TagParts};
+use saphyr_scalar::{FaultText, Span, Stop, TagParts};
 use saphyr_values::BlockStyle;
 use std::alloc::AllocError;
 
@@ -59,6 +59,8 @@ impl<T: Input> Engine<T> {
     ghost use Rattle.saphyr_scalar.specs.Views.Reader.{Moves, loaded};
     ghost use Rattle.saphyr_scanner.specs.Views.Ahead.{Leads, LeadsOn, fetched, with_second};
     ghost use Rattle.saphyr_scanner.specs.Views.Engine.{state, MovesBy, ActsBy, answer_of};
+    ghost use Rattle.saphyr_scanner.specs.Views.Places.{indicator_kind};
+    ghost use Rattle.saphyr_scanner.specs.Views.Queue.{PassesBy};
     ghost use Rattle.saphyr_scanner.specs.Views.Tokens.{GivesLast, piece, written_token};
 
     // Goes on to where the next token begins.
@@ -634,6 +636,15 @@ impl<T: Input> Engine<T> {
     {
         self.queue
             .take_into(self.alloc, token, &mut self.reader.spare)
+    }
+
+    /// Takes the first token off the queue, if it is this indicator, and returns its span.
+    #[inline(always)]
+    pub(crate) fn pass(&mut self, indicator: Indicator) -> Result<Option<Span>, Stop>
+        ensures { PassesBy (indicator_kind indicator) fetch.take_token result (state self.old)
+            (state self.new) }
+    {
+        self.queue.pass(indicator)
     }
 
     // Whether all tokens of the text were read, and none is held.

@@ -1,6 +1,6 @@
 //! What a place holds of its token, in a byte.
 
-ghost use Rattle.std.specs.Prelude.{◌≡◌, List, ℕ, IfSome, string_bytes};
+ghost use Rattle.std.specs.Prelude.{◌≡◌, List, ℕ, IfSome, IsTrue, string_bytes};
 ghost use Rattle.saphyr_scanner.specs.Grammar.Tokens as tokens;
 ghost use Rattle.saphyr_scanner.specs.Views.Places.{indicator_kind, text_kind};
 ghost use Rattle.saphyr_scanner.specs.Views.Reads.{quote_style};
@@ -12,7 +12,7 @@ use saphyr_values::Quote;
 
 /// The kinds of tokens of collections, which have no text.
 #[derive(Clone, Copy)]
-pub(crate) enum Indicator {
+pub enum Indicator {
     SequenceStart,
     SequenceEnd,
     MappingStart,
@@ -43,6 +43,27 @@ impl Indicator {
             Indicator::BlockMappingStart => TokenType::BlockMappingStart,
             Indicator::BlockEntry => TokenType::BlockEntry,
             Indicator::BlockEnd => TokenType::BlockEnd,
+        }
+    }
+
+    /// Whether a token is this indicator.
+    #[must_use]
+    #[inline(always)]
+    pub fn is(self, kind: &TokenType) -> bool
+        ensures { IsTrue result → kind_of kind.now ≡ indicator_kind self }
+    {
+        match self {
+            Indicator::SequenceStart => matches!(kind, TokenType::FlowSequenceStart),
+            Indicator::SequenceEnd => matches!(kind, TokenType::FlowSequenceEnd),
+            Indicator::MappingStart => matches!(kind, TokenType::FlowMappingStart),
+            Indicator::MappingEnd => matches!(kind, TokenType::FlowMappingEnd),
+            Indicator::Entry => matches!(kind, TokenType::FlowEntry),
+            Indicator::Key => matches!(kind, TokenType::Key),
+            Indicator::Value => matches!(kind, TokenType::Value),
+            Indicator::BlockSequenceStart => matches!(kind, TokenType::BlockSequenceStart),
+            Indicator::BlockMappingStart => matches!(kind, TokenType::BlockMappingStart),
+            Indicator::BlockEntry => matches!(kind, TokenType::BlockEntry),
+            Indicator::BlockEnd => matches!(kind, TokenType::BlockEnd),
         }
     }
 }
@@ -131,6 +152,7 @@ pub(super) enum Packed {
 
 impl Packed {
     ghost use Rattle.saphyr_scanner.specs.Views.Contents.{content_of};
+    ghost use Rattle.saphyr_scanner.specs.declared.queue.content.Content.TheVariants.{Indicator as Holds};
 
     #[inline(always)]
     pub(super) fn new(content: Content) -> Self
@@ -179,6 +201,26 @@ impl Packed {
             Packed::SingleQuoted => Content::Text(TextKind::SingleQuoted),
             Packed::DoubleQuoted => Content::Text(TextKind::DoubleQuoted),
             Packed::Aside => Content::Aside,
+        }
+    }
+
+    /// Whether the place holds this indicator.
+    #[inline(always)]
+    pub(super) fn is(self, indicator: Indicator) -> bool
+        ensures { IsTrue result → content_of self ≡ Holds indicator }
+    {
+        match indicator {
+            Indicator::SequenceStart => matches!(self, Packed::SequenceStart),
+            Indicator::SequenceEnd => matches!(self, Packed::SequenceEnd),
+            Indicator::MappingStart => matches!(self, Packed::MappingStart),
+            Indicator::MappingEnd => matches!(self, Packed::MappingEnd),
+            Indicator::Entry => matches!(self, Packed::Entry),
+            Indicator::Key => matches!(self, Packed::Key),
+            Indicator::Value => matches!(self, Packed::Value),
+            Indicator::BlockSequenceStart => matches!(self, Packed::BlockSequenceStart),
+            Indicator::BlockMappingStart => matches!(self, Packed::BlockMappingStart),
+            Indicator::BlockEntry => matches!(self, Packed::BlockEntry),
+            Indicator::BlockEnd => matches!(self, Packed::BlockEnd),
         }
     }
 }

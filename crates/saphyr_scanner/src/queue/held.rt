@@ -7,7 +7,7 @@ ghost use Rattle.saphyr_values.specs.Flow as flow;
 ghost use Rattle.saphyr_scalar.specs.Steps.Plain.{plain};
 ghost use Rattle.saphyr_scalar.specs.declared.scalar.style.ScalarStyle.TheVariants.{Plain};
 ghost use Rattle.saphyr_scalar.specs.Views.Reader.{Moves, cursor_of};
-ghost use Rattle.saphyr_scanner.specs.Views.Places.{Fit, Fit-prop, indicator_piece, near_span};
+ghost use Rattle.saphyr_scanner.specs.Views.Places.{Fit, Fit-prop, indicator_kind, indicator_piece, near_span};
 ghost use Rattle.saphyr_scanner.specs.Views.Reads.{flow_quoted, quote_style, with_scalar};
 
 use crate::queue::Opening;
@@ -41,7 +41,7 @@ pub(super) struct Held {
 
 impl Held {
     ghost use Rattle.saphyr_scanner.specs.Views.Tokens.{kind_of};
-    ghost use Rattle.saphyr_scanner.specs.Views.Queue.{held_places, TakesHeldBy};
+    ghost use Rattle.saphyr_scanner.specs.Views.Queue.{held_places, held_queue, PassesBy, TakesHeldBy};
 
     #[tactic(auto, unfolding(crate::specs::Views::Queue::held_places))]
     pub(super) fn new(alloc: Global) -> Self
@@ -345,6 +345,50 @@ impl Held {
         token.set(Span::empty(place.start(&self.aside)), kind);
         self.open(0, left);
         Ok(true)
+    }
+
+    // Takes the first token off, if it is this indicator, and returns its span.
+    #[inline(always)]
+    fn pass_place(&mut self, indicator: Indicator, handed: &mut usize) -> Result<Option<Span>, Stop>
+        ensures { PassesBy (indicator_kind indicator) spec.take_place result
+            (held_queue self.old handed.old) (held_queue self.new handed.new) }
+    {
+        let Some(count) = handed.checked_add(1) else {
+            return Err(Stop::OutOfMemory);
+        };
+        let Some(place) = self.places.get(self.spent) else {
+            return Ok(None);
+        };
+        let Some(span) = place.span_of(indicator) else {
+            return Ok(None);
+        };
+        *handed = count;
+        self.spent += 1;
+        Ok(Some(span))
+    }
+
+    /// Takes off what is handed out next, if it is this indicator, and returns its span.
+    #[inline(always)]
+    pub(super) fn pass(
+        &mut self,
+        indicator: Indicator,
+        handed: &mut usize,
+    ) -> Result<Option<Span>, Stop>
+        ensures { PassesBy (indicator_kind indicator) spec.take result
+            (held_queue self.old handed.old) (held_queue self.new handed.new) }
+    {
+        let Some(place) = self.places.get(self.spent) else {
+            return Ok(None);
+        };
+        if place.opening.is_nothing() {
+            return self.pass_place(indicator, handed);
+        }
+        let Some(left) = place.opening.behind(indicator) else {
+            return Ok(None);
+        };
+        let span = Span::empty(place.start(&self.aside));
+        self.open(0, left);
+        Ok(Some(span))
     }
 
     /// The same tokens, unless memory runs out.

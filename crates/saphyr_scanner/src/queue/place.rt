@@ -1,6 +1,6 @@
 //! A token that is held, and what comes in front of it, in a small form, since the queue may hold all tokens of a text.
 
-ghost use Rattle.std.specs.Prelude.{◌≡◌, List, ℕ, IfOk, OnErr, OnOk, slice_index};
+ghost use Rattle.std.specs.Prelude.{◌≡◌, List, ℕ, IfOk, IfSome, OnErr, OnOk, slice_index};
 ghost use Rattle.saphyr_values.specs.Flow as flow;
 ghost use Rattle.saphyr_scalar.specs.Steps.Plain.{plain};
 ghost use Rattle.saphyr_scalar.specs.declared.scalar.style.ScalarStyle.TheVariants.{Plain};
@@ -256,6 +256,19 @@ impl Place {
     {
         aside.keep_token(Token { span: *span, kind })?;
         Ok(Place::of_aside())
+    }
+
+    /// The span of the token, if it is this indicator. It has nothing aside.
+    #[inline(always)]
+    pub(super) fn span_of(self, indicator: Indicator) -> Option<Span>
+        ensures token { (s : Asides) → IfSome result (λ span. (place_at self s).piece
+            ≡ record { span = span; kind = indicator_kind indicator }) }
+        ensures nothing_aside { (s : Asides) → IfSome result (λ span. beside_behind self s ≡ s) }
+    {
+        if self.content.is(indicator) {
+            return Some(self.start.span(self.length));
+        }
+        None
     }
 
     /// Where the token begins.

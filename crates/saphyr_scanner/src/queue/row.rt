@@ -29,7 +29,8 @@ pub(super) struct Row {
 
 impl Row {
     ghost use Rattle.saphyr_scanner.specs.declared.queue.Opening.TheVariants as opening;
-    ghost use Rattle.saphyr_scanner.specs.Views.Queue.{bare_places, in_row};
+    ghost use Rattle.saphyr_scanner.specs.Views.Places.{indicator_kind};
+    ghost use Rattle.saphyr_scanner.specs.Views.Queue.{bare_places, in_row, Passed};
     ghost use Rattle.saphyr_scanner.specs.Views.Tokens.{piece};
 
     pub(super) fn new() -> Self
@@ -133,6 +134,29 @@ impl Row {
         };
         token.set(Span::empty(self.token.span.start), kind);
         self.opening = left;
+    }
+
+    /// Takes off what is handed out next, if it is this indicator, and returns its span.
+    #[inline(always)]
+    pub(super) fn pass(&mut self, indicator: Indicator, handed: &mut usize) -> Option<Span>
+        requires some { 0 < self.old.count }
+        requires countable { handed.old + 1 < 2 ^ 64 }
+        ensures { (behind : List spec.Place)
+            → Passed (indicator_kind indicator) spec.take result
+            (record { places = in_row self.old behind; handed = handed.old })
+            (record { places = in_row self.new behind; handed = handed.new }) }
+    {
+        if !self.opening.is_nothing() {
+            let left = self.opening.behind(indicator)?;
+            self.opening = left;
+            return Some(Span::empty(self.token.span.start));
+        }
+        if !indicator.is(&self.token.kind) {
+            return None;
+        }
+        self.count -= 1;
+        *handed += 1;
+        Some(self.token.span)
     }
 
     // Takes the first token, with nothing in front of it, and writes it into `token`.
