@@ -115,7 +115,7 @@ passing_front p bs n l h s =
     let e = run_append p (take n bs) (chars (drop n bs)) all in
     ap (λ (m : ℕ). m + prefix_len p (chars (drop n bs))) (sym len) ∙ sym e ∙ ap (prefix_len p) (sym s.split)
 
-ascii_in_class : (p : ℕ → Bool) → IsAsciiClass (ascii_in p)
+pub ascii_in_class : (p : ℕ → Bool) → IsAsciiClass (ascii_in p)
 ascii_in_class p c h = grind (arith, nat_tests)
 
 failing_char : (p : ℕ → Bool) (c : ℕ) → IsAsciiClass p → ascii_in p c ≡ false → p c ≡ false
@@ -353,3 +353,16 @@ wide_non_break b c wide other first =
 pub wide_non_space : (b c : ℕ) → 128 ≤ b → not (b == 239) ≡ true → IsFirstByte b c → is_yaml_non_space c ≡ true
 wide_non_space b c wide other first =
     let high : 128 ≤ c = wide_first b c wide first in rw (no_mark b c other first) (grind (arith, nat_tests))
+
+-- where the first byte is no ASCII character of a class, so is the first character, if it is ASCII
+pub ascii_stops : (p : ℕ → Bool) (bs : List ℕ) (b : ℕ) → IsUtf8 bs → b ≡ get_or bs 0 0
+    → ascii_in p (get_or bs 0 0) ≡ false → b < 128 → (b ≡ get_or (chars bs) 0 0) × (p b ≡ false)
+ascii_stops p bs b u e h l = elim (first_stands bs u) [
+  | inl same ↦ (e ∙ same, fails e h)
+  | inr wide ↦ absurd (omega (arith, e, l, wide.0))
+]
+  where
+    fails : b ≡ get_or bs 0 0 → ascii_in p (get_or bs 0 0) ≡ false → p b ≡ false
+    fails is f =
+        let f' : ascii_in p b ≡ false = ap (ascii_in p) is ∙ f in
+        grind (arith, nat_tests)

@@ -134,6 +134,34 @@ words_more p q start now next last n k z a b c d e f =
 pub words_less : (n k now last all : ℕ) → n + now ≡ all → n + (1 + k) + last ≡ all → last < now
 words_less n k now last all a b = omega arith
 
+-- the same where no run is looked at up to its end
+
+-- words go on behind a part of a run
+words_past : (p q : Set) (n : ℕ) (xs rest : List ℕ) → n + prefix_len p rest ≡ prefix_len p xs → rest ≡ drop n xs
+    → words_len p q xs ≡ n + words_len p q rest
+words_past p q n xs rest e b =
+    let same : drop (prefix_len p rest) rest ≡ drop (prefix_len p xs) xs = ap (drop (prefix_len p rest)) b
+    ∙ drop-drop (prefix_len p rest) n xs ∙ ap (λ (k : ℕ). drop k xs) e in
+    omega (arith, words_on p q xs, words_on p q rest, e, ap (words_len p q) same)
+
+-- n characters of the words were passed
+pub record WordsPast (p q : Set) (start now : List ℕ) (n : ℕ) : Type 0 where
+  pub run : n + words_len p q now ≡ words_len p q start
+  pub behind : now ≡ drop n start
+
+pub front_begins : (p q : Set) (start now : List ℕ) (n : ℕ) → n + prefix_len p now ≡ prefix_len p start
+    → now ≡ drop n start → WordsPast p q start now n
+front_begins p q start now n e b = record { run = sym (words_past p q n start now e b); behind = b }
+
+-- then a space, and a part of a run
+pub front_more : (p q : Set) (start now next last : List ℕ) (n k : ℕ) → WordsPast p q start now n
+    → words_len p q now ≡ 1 + words_len p q next → next ≡ drop 1 now → k + prefix_len p last ≡ prefix_len p next
+    → last ≡ drop k next → WordsPast p q start last (n + (1 + k))
+front_more p q start now next last n k r c d e f = record {
+  run = omega (arith, r.run, c, words_past p q k next last e f);
+  behind = f ∙ ap (drop k) d ∙ drop-drop k 1 now ∙ ap (drop (1 + k)) r.behind ∙ drop-drop (1 + k) n start;
+}
+
 -- blanks and words behind them
 
 blank_word_step : (p q : Set) (c : ℕ) (cs : List ℕ) → p c ≡ true

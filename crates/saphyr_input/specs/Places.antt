@@ -68,6 +68,11 @@ pub record TransfersWords (p q : ℕ → Bool) (n : ℕ) (before after text grow
   pub stops : p (slice_index after 0) ≡ false
   pub transfers : Transfers n before after text grown
 
+-- such a beginning was taken off and appended: n characters, up to any place
+pub record TransfersFront (p q : ℕ → Bool) (n : ℕ) (before after text grown : List ℕ) : Type 0 where
+  pub within : n ≤ words_len p q before
+  pub transfers : Transfers n before after text grown
+
 -- How many characters come first that are of a set, or are blanks of a run before a character of a second set.
 unfoldable pub blank_words_len : (ℕ → Bool) → (ℕ → Bool) → List ℕ → ℕ
 blank_words_len p q [] = 0

@@ -1,5 +1,5 @@
 //! The characters of a text, read from the front through a window.
-ghost use Rattle.std.specs.Prelude.{◌≡◌, ℕ, ◌+◌, ◌<◌, ◌≤◌, ◌^◌, ◌==◌, ◌↔◌, List, length, take, drop, max, slice_get, slice_index, codes, string_bytes, IsTrue, IsErr, IfErr, IfOk, IfNone, IfSome, OnErr, is_some};
+ghost use Rattle.std.specs.Prelude.{◌≡◌, ℕ, ◌+◌, ◌<◌, ◌≤◌, ◌^◌, ◌==◌, ◌↔◌, false, List, length, take, drop, max, slice_get, slice_index, codes, string_bytes, IsTrue, IsErr, IfErr, IfOk, IfNone, IfSome, OnErr, is_some};
 ghost use Rattle.std.specs.List.{prefix_len};
 ghost use Rattle.saphyr_input.specs.Classes as class;
 ghost use Rattle.saphyr_input.specs.Places as spec;
@@ -437,6 +437,22 @@ pub trait Input {
         ensures err { OnErr result (rest self.new ≡ rest self.old) }
     {
         Ok(0)
+    }
+
+    /// Moves words to the end of `out` as `fetch_words` does, but only ASCII characters. It may stop anywhere, and may
+    /// move nothing. Returns how many, and maybe the character behind them, which is not of the set: one that isn't ASCII
+    /// tells nothing.
+    fn fetch_front_words<C: SpacedSet>(
+        &mut self,
+        _out: &mut String,
+    ) -> Result<(usize, char), AllocError>
+        ensures ok { IfOk result (λ moved. spec.TransfersFront C.CharSet.test C.lead moved.0
+            (rest self.old) (rest self.new) (string_bytes _out.old) (string_bytes _out.new)) }
+        ensures next { IfOk result (λ moved. moved.1 < 128
+            → (moved.1 ≡ slice_index (rest self.new) 0) × (C.CharSet.test moved.1 ≡ false)) }
+        ensures err { OnErr result (rest self.new ≡ rest self.old) }
+    {
+        Ok((0, char::MAX))
     }
 
     /// Takes spaces off, but no more than `most`. Returns how many.

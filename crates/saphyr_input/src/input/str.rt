@@ -8,8 +8,8 @@ mod wide;
 
 use self::text::{
     ascii_behind, ascii_run, begins_with_2, behind, behind_ascii, behind_two_ascii, blank_words,
-    first_byte, is_marker, nth_char, run, run_here, second_char, spaces, split_blanks, split_first,
-    words,
+    first_byte, front_words, is_marker, nth_char, run, run_here, second_char, spaces, split_blanks,
+    split_first, words,
 };
 use crate::char_set::{Alpha, Blank, CharSet, NonBreak, NonSpace, SpacedSet};
 use crate::char_traits::{
@@ -65,7 +65,7 @@ impl<'a> StrInput<'a> {
     }
 
     // Moves the first `count` characters to the end of `out`, in one piece. `rest` is what follows them.
-    #[inline]
+    #[inline(always)]
     fn fetch(&mut self, count: usize, rest: &'a str, out: &mut String) -> Result<usize, AllocError>
         requires { chars rest.now ≡ drop count (chars self.old.rest.now) }
         ensures ok { IfOk result (λ n. (n ≡ count)
@@ -81,6 +81,30 @@ impl<'a> StrInput<'a> {
         out.push_str(front)?;
         self.rest = rest;
         Ok(count)
+    }
+}
+
+impl<'a> StrInput<'a> {
+    // The same before a character that isn't ASCII, or nothing. A few characters are looked at once more for less than
+    // it costs to move them in two pieces. Returns how many were moved.
+    #[inline(never)]
+    fn fetch_before_wide(
+        &mut self,
+        count: usize,
+        rest: &'a str,
+        out: &mut String,
+    ) -> Result<usize, AllocError>
+        requires { chars rest.now ≡ drop count (chars self.old.rest.now) }
+        ensures ok { IfOk result (λ n. (n ≤ count)
+            × spec.Transfers n (chars self.old.rest.now) (chars self.new.rest.now)
+            (string_bytes out.old) (string_bytes out.new)) }
+        ensures err { OnErr result ((chars self.new.rest.now ≡ chars self.old.rest.now)
+            × (string_bytes out.new ≡ string_bytes out.old)) }
+    {
+        if count < 16 {
+            return Ok(0);
+        }
+        self.fetch(count, rest, out)
     }
 }
 
@@ -348,6 +372,20 @@ impl Input for StrInput<'_> {
             return Ok(0);
         }
         self.fetch(count, rest, out)
+    }
+
+    #[inline(always)]
+    fn fetch_front_words<C: SpacedSet>(
+        &mut self,
+        out: &mut String,
+    ) -> Result<(usize, char), AllocError> {
+        let (count, rest, next) = front_words::<C>(self.rest);
+        let count = if next < '\u{80}' {
+            self.fetch(count, rest, out)?
+        } else {
+            self.fetch_before_wide(count, rest, out)?
+        };
+        Ok((count, next))
     }
 
     #[inline(always)]

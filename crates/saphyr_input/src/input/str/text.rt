@@ -140,7 +140,7 @@ pub(super) fn is_marker(text: &str, mark: u8) -> bool
 }
 
 // How many of the first bytes are ASCII characters of the class.
-#[inline]
+#[inline(always)]
 fn ascii_len<C: CharSet>(bytes: &[u8]) -> usize
     ensures { result ≡ prefix_len (spec.ascii_in C.test) bytes.now }
 {
@@ -171,7 +171,7 @@ fn ascii_len<C: CharSet>(bytes: &[u8]) -> usize
 }
 
 // The run of the class up to its first character that isn't ASCII: how long it is, and what follows it.
-#[inline]
+#[inline(always)]
 pub(super) fn ascii_run<C: CharSet>(text: &str) -> (usize, &str)
     ensures part { result.0 + prefix_len C.test (chars result.1.now)
         ≡ prefix_len C.test (chars text.now) }
@@ -255,6 +255,27 @@ pub(super) fn words<C: SpacedSet>(text: &str) -> (usize, &str)
         rest = behind;
     }
     (count, rest)
+}
+
+// Words of ASCII characters of a set, with single spaces between them: how many characters, what follows them, and the
+// byte behind them, or NUL at the end.
+#[inline(always)]
+pub(super) fn front_words<C: SpacedSet>(text: &str) -> (usize, &str, char)
+    ensures count { result.0 ≤ places.words_len C.CharSet.test C.lead (chars text.now) }
+    ensures next { result.2 < 128 → (result.2 ≡ slice_index (chars result.1.now) 0)
+        × (C.CharSet.test result.2 ≡ false) }
+    ensures rest { chars result.1.now ≡ drop result.0 (chars text.now) }
+{
+    // There are fewer than 2^64 bytes, and no more characters than bytes.
+    let _ = text.as_bytes();
+    let (mut count, mut rest) = ascii_run::<C>(text);
+    while let Some(after) = strip_space::<C>(rest) {
+        let (word, behind) = ascii_run::<C>(after);
+        count += 1 + word;
+        rest = behind;
+    }
+    let next = rest.as_bytes().first().copied().unwrap_or(0) as char;
+    (count, rest, next)
 }
 
 // Whether a character of the set for which a test is known comes first.
