@@ -5,6 +5,7 @@ pub mod Lines
 pub mod Runs
 pub mod Pieces
 pub mod Colons
+pub mod FrontWords
 pub mod SingleSpaces
 pub mod BlankRuns
 pub mod Words

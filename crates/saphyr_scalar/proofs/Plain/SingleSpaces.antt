@@ -181,7 +181,7 @@ none_ran f text s = record {
 }
 
 -- a piece of k characters more
-piece_ran : (f : Bool) (text grown more : List ℕ) (s t u : Cursor) (n k : ℕ) → WordsRan f text grown s t n
+pub piece_ran : (f : Bool) (text grown more : List ℕ) (s t u : Cursor) (n k : ℕ) → WordsRan f text grown s t n
     → k ≤ length t.rest → ((i : ℕ) (a m : Marker) → WordPart f i a m t.rest k)
     → Transfers k t.rest u.rest grown more → u.mark ≡ t.mark → WordsRan f text more s u (n + k)
 piece_ran f text grown more s t u n k r within part w place =

@@ -1,8 +1,9 @@
 //! The words of plain scalars, with the single spaces between them (YAML 1.2.2, 7.3.3).
 
-ghost use Rattle.std.specs.Prelude.{◌≡◌, ◌≤◌, ◌&&◌, ◌||◌, not, slice_index, string_bytes, IfOk, OnOk, false, true, refl};
+ghost use Rattle.std.specs.Prelude.{◌≡◌, ◌<◌, ◌≤◌, ◌&&◌, ◌||◌, not, slice_index, string_bytes, IfOk, IsTrue, OnOk, false, true, refl};
 ghost use Rattle.saphyr_input.specs.Classes as class;
-ghost use Rattle.saphyr_input.specs.Places.{TransfersBlankWords, TransfersWords};
+ghost use Rattle.saphyr_input.specs.Indicators.{colon};
+ghost use Rattle.saphyr_input.specs.Places.{TransfersBlankWords, TransfersFront, TransfersWords};
 ghost use Rattle.saphyr_scalar.specs.Steps.Plain as spec;
 ghost use Rattle.saphyr_scalar.specs.Steps.Sets as sets;
 
@@ -218,6 +219,88 @@ impl<T: Input> Reader<T> {
         self.mark = self.mark.along(count);
         self.blank_so_far = false;
         Ok(end)
+    }
+
+    // Whether words end before `c`, which no input moved on with: it is ASCII and not of the set, or is not told. A
+    // colon before a blank is most often no character of a word.
+    #[inline(always)]
+    fn ends_words(&mut self, c: char, in_flow: bool) -> bool
+        requires told { c < 128 → (c ≡ slice_index (cursor_of self.old).rest 0)
+            × (sets.in_plain in_flow c ≡ false) }
+        requires loaded { 1 ≤ loaded self.old }
+        ensures value { IsTrue result → spec.is_in_word in_flow (cursor_of self.old).rest ≡ false }
+        ensures end { IsTrue result → c ≡ slice_index (cursor_of self.old).rest 0 }
+        ensures same { cursor_of self.new ≡ cursor_of self.old }
+        ensures loaded { 1 ≤ loaded self.new }
+    {
+        if c == ':' {
+            self.load(2);
+            return is_blank_or_breakz(self.input.peek_nth(1));
+        }
+        c < '\u{80}'
+    }
+
+    // The same where a colon comes first: colons are moved before words are looked for.
+    #[inline(never)]
+    fn read_colon_words(&mut self, in_flow: bool, text: &mut String) -> Result<char, AllocError>
+        requires first { slice_index (cursor_of self.old).rest 0 ≡ colon }
+        requires loaded { 1 ≤ loaded self.old }
+        ensures words { OnOk result (spec.PlainWordsMoved in_flow (string_bytes text.old)
+            (string_bytes text.new) (cursor_of self.old) (cursor_of self.new)) }
+        ensures end { IfOk result (λ c. c ≡ slice_index (cursor_of self.new).rest 0) }
+        ensures loaded { OnOk result (1 ≤ loaded self.new) }
+    {
+        let count = self.fetch_plain_colons(':', in_flow, text)?;
+        self.mark = self.mark.along(count);
+        self.read_plain_words(in_flow, text)
+    }
+
+    // The same where mostly one look at ASCII characters tells all words, and one more that they end.
+    #[inline(always)]
+    pub(super) fn read_first_words(
+        &mut self,
+        in_flow: bool,
+        text: &mut String,
+    ) -> Result<char, AllocError>
+        ensures words { OnOk result (spec.PlainWordsMoved in_flow (string_bytes text.old)
+            (string_bytes text.new) (cursor_of self.old) (cursor_of self.new)) }
+        ensures end { IfOk result (λ c. c ≡ slice_index (cursor_of self.new).rest 0) }
+        ensures loaded { OnOk result (1 ≤ loaded self.new) }
+    {
+        let (count, c) = self.fetch_front_words(in_flow, text)?;
+        self.mark = self.mark.along(count);
+        self.blank_so_far = false;
+        self.load(1);
+        if self.ends_words(c, in_flow) {
+            return Ok(c);
+        }
+        if c == ':' {
+            return self.read_colon_words(in_flow, text);
+        }
+        self.read_plain_words(in_flow, text)
+    }
+
+    // Moves words of ASCII without colons, and single spaces between them, to the end of a text, as far as the input
+    // takes them at once. Returns how many characters, and maybe the one behind them. The place stays.
+    #[inline(always)]
+    fn fetch_front_words(
+        &mut self,
+        in_flow: bool,
+        text: &mut String,
+    ) -> Result<(usize, char), AllocError>
+        ensures words { IfOk result (λ moved. TransfersFront (sets.in_plain in_flow)
+            (sets.leads_plain in_flow) moved.0 (cursor_of self.old).rest (cursor_of self.new).rest
+            (string_bytes text.old) (string_bytes text.new)) }
+        ensures next { IfOk result (λ moved. moved.1 < 128
+            → (moved.1 ≡ slice_index (cursor_of self.new).rest 0)
+            × (sets.in_plain in_flow moved.1 ≡ false)) }
+        ensures mark { (cursor_of self.new).mark ≡ (cursor_of self.old).mark }
+    {
+        if in_flow {
+            self.input.fetch_front_words::<PlainInFlow>(text)
+        } else {
+            self.input.fetch_front_words::<PlainOutside>(text)
+        }
     }
 
     // Moves blanks on this line and the words behind them to the end of a text, and returns how many characters. It

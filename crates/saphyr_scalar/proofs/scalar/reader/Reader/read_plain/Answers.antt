@@ -27,9 +27,9 @@ returns-then-ends_plain g c =
     let i = c.args.indent in
     let s = cursor_of c.args.self.now in
     let there = cursor_of c.plain_word_starts.new.self in
-    let end = cursor_of c.read_plain_words.new.self in
+    let end = cursor_of c.read_first_words.new.self in
     let text = string_bytes c.in_ok-text.text in
-    let grown = string_bytes c.read_plain_words.new.text in
+    let grown = string_bytes c.read_first_words.new.text in
     let starts = started (spec.word_starts f) s there _ _ c.if-not-branch.false c.in_ok-plain_word_starts.ensures in
     let words = c.in_ok-c.ensures.words in
     sym (words_and_rest f i s there end end text grown starts words refl
@@ -39,7 +39,7 @@ returns-then-ends_plain g c =
 
 pub read_plain_lines-requires : goal.read_plain_lines-requires
 read_plain_lines-requires g c =
-    let end = cursor_of c.read_plain_words.new.self in
+    let end = cursor_of c.read_first_words.new.self in
     blank_there end (cursor_of c.ends_plain.new.self)
     (shows is_break end.rest _ _ _ c.in_ok-c.ensures.end c.is_break.ensures.test c.if-is_break.true)
     c.ends_plain.ensures.passed
@@ -50,9 +50,9 @@ returns-then-is_break g c =
     let i = c.args.indent in
     let s = cursor_of c.args.self.now in
     let there = cursor_of c.plain_word_starts.new.self in
-    let end = cursor_of c.read_plain_words.new.self in
+    let end = cursor_of c.read_first_words.new.self in
     let text = string_bytes c.in_ok-text.text in
-    let grown = string_bytes c.read_plain_words.new.text in
+    let grown = string_bytes c.read_first_words.new.text in
     let starts = started (spec.word_starts f) s there _ _ c.if-not-branch.false c.in_ok-plain_word_starts.ensures in
     let words = c.in_ok-c.ensures.words in
     let breaks = shows is_break end.rest _ _ _ c.in_ok-c.ensures.end c.is_break.ensures.test c.if-is_break.true in
@@ -65,7 +65,7 @@ returns-then-is_break g c =
 
 pub read_plain_rest-requires : goal.read_plain_rest-requires
 read_plain_rest-requires g c =
-    let end = cursor_of c.read_plain_words.new.self in
+    let end = cursor_of c.read_first_words.new.self in
     let words = c.in_ok-c.ensures.words in
     let stays = stays_there end (cursor_of c.ends_plain.new.self)
     (shows is_break end.rest _ _ _ c.in_ok-c.ensures.end c.is_break.ensures.test c.if-is_break.false)
@@ -81,10 +81,10 @@ returns g c =
     let i = c.args.indent in
     let s = cursor_of c.args.self.now in
     let there = cursor_of c.plain_word_starts.new.self in
-    let end = cursor_of c.read_plain_words.new.self in
+    let end = cursor_of c.read_first_words.new.self in
     let here = cursor_of c.ends_plain.new.self in
     let text = string_bytes c.in_ok-text.text in
-    let grown = string_bytes c.read_plain_words.new.text in
+    let grown = string_bytes c.read_first_words.new.text in
     let starts = started (spec.word_starts f) s there _ _ c.if-not-branch.false c.in_ok-plain_word_starts.ensures in
     let stays = stays_there end here
     (shows is_break end.rest _ _ _ c.in_ok-c.ensures.end c.is_break.ensures.test c.if-is_break.false)

@@ -24,9 +24,9 @@ returns-then-not-is_blank g c =
     let i = c.args.indent in
     let s = cursor_of c.args.self.now in
     let there = cursor_of c.plain_word_starts.new.self in
-    let end = cursor_of c.read_plain_words.new.self in
+    let end = cursor_of c.read_first_words.new.self in
     let text = string_bytes c.args.text.now in
-    let grown = string_bytes c.read_plain_words.new.text in
+    let grown = string_bytes c.read_first_words.new.text in
     let starts = started (spec.word_starts f) s there _ _ c.if-not-branch.false c.in_ok-plain_word_starts.ensures in
     words_end f i s there end end text grown _ starts c.in_ok-c.ensures.words refl
     c.in_ok-c.ensures.end (sym c.is_blank.ensures.test ∙ c.if-not-is_blank.true)
@@ -38,9 +38,9 @@ returns-in_err-scalar g c =
     let i = c.args.indent in
     let s = cursor_of c.args.self.now in
     let there = cursor_of c.plain_word_starts.new.self in
-    let end = cursor_of c.read_plain_words.new.self in
+    let end = cursor_of c.read_first_words.new.self in
     let text = string_bytes c.args.text.now in
-    let grown = string_bytes c.read_plain_words.new.text in
+    let grown = string_bytes c.read_first_words.new.text in
     let starts = started (spec.word_starts f) s there _ _ c.if-not-branch.false c.in_ok-plain_word_starts.ensures in
     let same = ap (λ b. spec.with_text (string_bytes b) (spec.word f i s.mark end.mark end.rest))
     c.replace-whole.ensures.value
@@ -53,9 +53,9 @@ returns g c =
     let i = c.args.indent in
     let s = cursor_of c.args.self.now in
     let there = cursor_of c.plain_word_starts.new.self in
-    let end = cursor_of c.read_plain_words.new.self in
+    let end = cursor_of c.read_first_words.new.self in
     let text = string_bytes c.args.text.now in
-    let grown = string_bytes c.read_plain_words.new.text in
+    let grown = string_bytes c.read_first_words.new.text in
     let starts = started (spec.word_starts f) s there _ _ c.if-not-branch.false c.in_ok-plain_word_starts.ensures in
     let same = ap (λ b. spec.with_text (string_bytes b) (spec.word f i s.mark end.mark end.rest))
     c.replace-whole.ensures.value
