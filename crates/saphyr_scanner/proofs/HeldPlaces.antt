@@ -7,7 +7,8 @@ use Rattle.std.proofs.Math.ListN.{drop_of_length-le}
 use Rattle.std.proofs.Math.Seq.{take-length, drop-length}
 use Rattle.std.proofs.lemmas.List.{length-append, length-drop, take-append-le, drop-append-le, drop-set-add, get_or-drop}
 use Rattle.saphyr_scanner.specs.declared.queue.content.Content.{Content}
-use Rattle.saphyr_scanner.specs.declared.queue.content.Content.TheVariants.{Indicator, Text, Aside}
+use Rattle.saphyr_scanner.specs.declared.queue.content.Content.TheVariants.{Indicator, Text, Tag, Aside}
+use Rattle.saphyr_scanner.specs.declared.queue.content.Handle.{Handle}
 use Rattle.saphyr_scanner.specs.declared.queue.content.Indicator as indicators
 use Rattle.saphyr_scanner.specs.declared.queue.content.TextKind.{TextKind}
 use Rattle.saphyr_scanner.specs.declared.queue.near.NearMarker.{NearMarker}
@@ -15,12 +16,13 @@ use Rattle.saphyr_scanner.specs.declared.queue.place.Place.{Place}
 use Rattle.saphyr_scanner.specs.declared.queue.Opening.{Opening}
 use Rattle.saphyr_scanner.specs.declared.queue.Opening.TheVariants as opening
 use Rattle.saphyr_scanner.specs.declared.token.Token.{Token}
+use Rattle.saphyr_scanner.specs.Grammar.Tokens as tokens
 use Rattle.saphyr_scanner.specs.Grammar.Tokens.{Kind}
 use Rattle.saphyr_scanner.specs.Steps.Queue as seen
 use Rattle.saphyr_scanner.specs.Steps.Queue.{bare_place, is_empty_list, places_with_opening}
-use Rattle.saphyr_scanner.specs.Views.Asides.{Asides, IsTextOf, first_aside, nothing, with_text_aside, with_token}
+use Rattle.saphyr_scanner.specs.Views.Asides.{Asides, BeginsWithText, IsTextOf, first_aside, nothing, with_text_aside, with_token}
 use Rattle.saphyr_scanner.specs.Views.Contents.{content_of}
-use Rattle.saphyr_scanner.specs.Views.Places.{AddsBehind, Fit, HasTokenOf, behind_token_of, beside_behind, indicator_kind, near_span, place_at, places_at, text_kind, token_of}
+use Rattle.saphyr_scanner.specs.Views.Places.{AddsBehind, Fit, HasTokenOf, behind_token_of, beside_behind, handle_text, indicator_kind, near_span, place_at, places_at, text_kind, token_of}
 use Rattle.saphyr_scanner.specs.Views.Tokens.{Piece, piece}
 
 -- ## More is put aside
@@ -32,18 +34,24 @@ first_stays : (ts us : List Piece) → 1 ≤ length ts → first_aside (ts ++ us
 first_stays [] us h = absurd (omega (arith, h))
 first_stays (t ∷ ts) us h = refl
 
-has_more : (what : Content) (k : ℕ) (s t : Asides) → HasTokenOf what k s → HasTokenOf what k (joined s t)
-has_more (Indicator i) k s t h = h
-has_more (Text w) k s t h =
+text_more : (k : ℕ) (s t : Asides) → BeginsWithText k s → BeginsWithText k (joined s t)
+text_more k s t h =
     let count = length-append s.bytes t.bytes in
     let within = h.0 in
     (omega (arith, count, within), subst (λ bs. ∥ IsUtf8 bs ∥₁) (sym (take-append-le k s.bytes t.bytes h.0)) h.1)
+
+has_more : (what : Content) (k : ℕ) (s t : Asides) → HasTokenOf what k s → HasTokenOf what k (joined s t)
+has_more (Indicator i) k s t h = h
+has_more (Text w) k s t h = text_more k s t h
+has_more (Tag w) k s t h = text_more k s t h
 has_more Aside k s t h = let count = length-append s.tokens t.tokens in omega (arith, count, h)
 
 behind_more : (what : Content) (k : ℕ) (s t : Asides) → HasTokenOf what k s
     → behind_token_of what k (joined s t) ≡ joined (behind_token_of what k s) t
 behind_more (Indicator i) k s t h = refl
 behind_more (Text w) k s t h =
+    ap (λ bs. record { bytes = bs; tokens = s.tokens ++ t.tokens }) (drop-append-le k s.bytes t.bytes h.0)
+behind_more (Tag w) k s t h =
     ap (λ bs. record { bytes = bs; tokens = s.tokens ++ t.tokens }) (drop-append-le k s.bytes t.bytes h.0)
 behind_more Aside k s t h =
     ap (λ ts. record { bytes = s.bytes ++ t.bytes; tokens = ts }) (drop-append-le 1 s.tokens t.tokens h)
@@ -56,6 +64,8 @@ token_stays : (what : Content) (m : NearMarker) (n k : ℕ) (s t : Asides) → H
 token_stays (Indicator i) m n k s t h = refl
 token_stays (Text w) m n k s t h =
     ap (λ bs. on_line m n (text_kind w bs)) (take-append-le k s.bytes t.bytes h.0)
+token_stays (Tag w) m n k s t h =
+    ap (λ bs. on_line m n (tokens.Tag (handle_text w) bs)) (take-append-le k s.bytes t.bytes h.0)
 token_stays Aside m n k s t h = first_stays s.tokens t.tokens h
 
 fit_more : (ps qs : List Place) (s t : Asides) → Fit ps s → Fit qs t
@@ -117,6 +127,20 @@ adds_text p what text s is bare h =
     (alone p (Text what) more is bare (omega (arith, count), subst (λ bs. ∥ IsUtf8 bs ∥₁) (sym whole) h.1)
     (ap (λ bs. record { bytes = bs; tokens = [] }) none)))
     (λ i. record { bytes = s.bytes ++ text; tokens = append-nil s.tokens i })
+
+pub adds_tag : (p : Place) (what : Handle) (suffix : List ℕ) (s : Asides)
+    → content_of p.content ≡ Tag what → p.opening ≡ opening.Nothing → IsTextOf p.count suffix
+    → AddsBehind (on_line p.start p.length (tokens.Tag (handle_text what) suffix)) p s (with_text_aside suffix s)
+adds_tag p what suffix s is bare h =
+    let more : Asides = record { bytes = suffix; tokens = [] } in
+    let whole = ap (λ n. take n suffix) h.0 ∙ take-length suffix in
+    let none = ap (λ n. drop n suffix) h.0 ∙ drop-length suffix in
+    let count = h.0 in
+    adds (on_line p.start p.length (tokens.Tag (handle_text what) suffix)) p s more (with_text_aside suffix s)
+    (subst (λ bs. AddsAlone (on_line p.start p.length (tokens.Tag (handle_text what) bs)) p more) whole
+    (alone p (Tag what) more is bare (omega (arith, count), subst (λ bs. ∥ IsUtf8 bs ∥₁) (sym whole) h.1)
+    (ap (λ bs. record { bytes = bs; tokens = [] }) none)))
+    (λ i. record { bytes = s.bytes ++ suffix; tokens = append-nil s.tokens i })
 
 pub adds_token : (p : Place) (t : Piece) (s : Asides)
     → content_of p.content ≡ Aside → p.opening ≡ opening.Nothing → AddsBehind t p s (with_token t s)

@@ -19,7 +19,7 @@ use crate::queue::held::Held;
 use crate::queue::row::Row;
 use crate::token::{Token, TokenType};
 use saphyr_input::input::Input;
-use saphyr_scalar::{Marker, Reader, ScalarStyle, Span, Spare, Stop};
+use saphyr_scalar::{Marker, Reader, ScalarStyle, Span, Spare, Stop, TagParts};
 use saphyr_values::Quote;
 use std::alloc::{AllocError, Global};
 
@@ -82,7 +82,7 @@ impl Queue {
     ghost use Rattle.saphyr_scalar.specs.declared.scalar.style.ScalarStyle.TheVariants.{Plain};
     ghost use Rattle.saphyr_scalar.specs.Views.Reader.{Moves, cursor_of};
     ghost use Rattle.saphyr_scanner.specs.Views.Tokens.{piece};
-    ghost use Rattle.saphyr_scanner.specs.Views.Places.{indicator_kind, indicator_piece};
+    ghost use Rattle.saphyr_scanner.specs.Views.Places.{indicator_kind, indicator_piece, tag_kind};
     ghost use Rattle.saphyr_scanner.specs.Views.Reads.{flow_quoted, queue_with_scalar, quote_style};
     ghost use Rattle.saphyr_scanner.specs.Views.Queue.{queue, with_block_ends, HoldsNone, PassesBy, TakesOffBy};
     ghost use Rattle.std.specs.Prelude.{◌<◌};
@@ -250,6 +250,22 @@ impl Queue {
             (flow_quoted quote indent (cursor_of reader.old))) }
     {
         self.held.read_quoted(alloc, reader, quote, indent)
+    }
+
+    /// Puts a tag after tokens that are held.
+    #[inline(never)]
+    #[tactic(auto, using(crate::proofs::Rows::behind_rows))]
+    pub(crate) fn put_tag_behind(
+        &mut self,
+        alloc: Global,
+        span: &Span,
+        tag: TagParts,
+        spare: &mut Spare,
+    ) -> Result<(), AllocError>
+        ensures { OnOk result (queue self.new ≡ spec.with_piece
+            (record { span = span.now; kind = tag_kind tag }) (queue self.old)) }
+    {
+        self.held.put_tag(alloc, span, tag, spare)
     }
 
     /// Puts an indicator at the end. For speed it takes its places by reference: a span would be built anew for each.

@@ -71,6 +71,7 @@ impl Spare {
     }
 
     /// Keeps the memory of the texts of a tag for the next one in the same way.
+    #[inline(always)]
     pub fn keep_tag(&mut self, tag: TagParts) {
         let TagParts { handle, suffix } = tag;
         if is_kept(&handle) {

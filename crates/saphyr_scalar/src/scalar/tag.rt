@@ -10,6 +10,7 @@ ghost use Rattle.saphyr_scalar.specs.Steps.Tag as spec;
 use crate::scalar::fault::{FaultText, Refusal, Stop};
 use crate::scalar::position::Marker;
 use crate::scalar::reader::Reader;
+use crate::scalar::spare::Spare;
 use saphyr_input::char_set::{Alpha, CharSet};
 use saphyr_input::char_traits::{
     as_hex, is_blank_or_breakz, is_flow, is_hex, is_tag_char, is_uri_char,
@@ -25,6 +26,23 @@ use std::alloc::{AllocError, Global};
 pub struct TagParts {
     pub handle: String,
     pub suffix: String,
+}
+
+impl TagParts {
+    /// A tag of empty texts, in the memory that is kept or in new memory.
+    pub fn begin(spare: &mut Spare, alloc: Global) -> Result<TagParts, AllocError>
+        ensures handle { IfOk result (λ tag. string_bytes tag.handle ≡ []) }
+        ensures suffix { IfOk result (λ tag. string_bytes tag.suffix ≡ []) }
+    {
+        let handle = spare.begin_handle(alloc)?;
+        match spare.begin_suffix(alloc) {
+            Ok(suffix) => Ok(TagParts { handle, suffix }),
+            Err(e) => {
+                drop(handle);
+                Err(e)
+            }
+        }
+    }
 }
 
 // The characters that may occur in a uri, or in the suffix of a tag.

@@ -17,6 +17,9 @@ with_text_aside text s = record { bytes = s.bytes ++ text; tokens = s.tokens }
 abbrev pub with_token : Piece → Asides → Asides
 with_token t s = record { bytes = s.bytes; tokens = s.tokens ++ t ∷ [] }
 
+abbrev pub with_first_token : Piece → Asides → Asides
+with_first_token t s = record { bytes = s.bytes; tokens = t ∷ s.tokens }
+
 abbrev pub behind_text : ℕ → Asides → Asides
 behind_text n s = record { bytes = drop n s.bytes; tokens = s.tokens }
 

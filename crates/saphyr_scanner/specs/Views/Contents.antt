@@ -1,6 +1,7 @@
 -- What a place of the queue holds, by the byte that it is packed in.
 use Rattle.saphyr_scanner.specs.declared.queue.content.Content.{Content}
-use Rattle.saphyr_scanner.specs.declared.queue.content.Content.TheVariants.{Indicator, Text, Aside}
+use Rattle.saphyr_scanner.specs.declared.queue.content.Content.TheVariants.{Indicator, Text, Tag, Aside}
+use Rattle.saphyr_scanner.specs.declared.queue.content.Handle.TheVariants as handle
 use Rattle.saphyr_scanner.specs.declared.queue.content.Indicator.TheVariants as indicator
 use Rattle.saphyr_scanner.specs.declared.queue.content.Packed.{Packed}
 use Rattle.saphyr_scanner.specs.declared.queue.content.Packed.TheVariants as packed
@@ -23,4 +24,7 @@ content_of packed.Anchor = Text text.Anchor
 content_of packed.Plain = Text text.Plain
 content_of packed.SingleQuoted = Text text.SingleQuoted
 content_of packed.DoubleQuoted = Text text.DoubleQuoted
+content_of packed.EmptyTag = Tag handle.Empty
+content_of packed.PrimaryTag = Tag handle.Primary
+content_of packed.SecondaryTag = Tag handle.Secondary
 content_of packed.Aside = Aside

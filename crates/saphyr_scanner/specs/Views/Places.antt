@@ -1,11 +1,14 @@
 -- What contracts see of the tokens that are held.
 use Rattle.std.proofs.Props.{props}
-use Rattle.std.specs.Prelude.{take, length, ⊤, [], ◌∷◌, ◌++◌, ◌+◌, ◌≤◌, ◌≡◌, List, ℕ}
+use Rattle.std.specs.Prelude.{take, length, ⊤, [], ◌∷◌, ◌++◌, ◌+◌, ◌≤◌, ◌≡◌, List, ℕ, Bool, true, false, codes, string_bytes}
 use Rattle.saphyr_scalar.specs.declared.scalar.position.Marker.{Marker}
 use Rattle.saphyr_scalar.specs.declared.scalar.position.Span.{Span}
 use Rattle.saphyr_scalar.specs.declared.scalar.style.ScalarStyle.TheVariants as style
+use Rattle.saphyr_scalar.specs.declared.scalar.tag.TagParts.{TagParts}
 use Rattle.saphyr_scanner.specs.declared.queue.content.Content.{Content}
-use Rattle.saphyr_scanner.specs.declared.queue.content.Content.TheVariants.{Indicator, Text, Aside}
+use Rattle.saphyr_scanner.specs.declared.queue.content.Content.TheVariants.{Indicator, Text, Tag, Aside}
+use Rattle.saphyr_scanner.specs.declared.queue.content.Handle.{Handle}
+use Rattle.saphyr_scanner.specs.declared.queue.content.Handle.TheVariants as handle
 use Rattle.saphyr_scanner.specs.declared.queue.content.Indicator as declared_indicator
 use Rattle.saphyr_scanner.specs.declared.queue.content.Indicator.TheVariants as indicator
 use Rattle.saphyr_scanner.specs.declared.queue.content.TextKind.{TextKind}
@@ -52,25 +55,44 @@ text_kind text.Plain bs = tokens.Scalar style.Plain bs
 text_kind text.SingleQuoted bs = tokens.Scalar style.SingleQuoted bs
 text_kind text.DoubleQuoted bs = tokens.Scalar style.DoubleQuoted bs
 
+abbrev pub handle_text : Handle → List ℕ
+handle_text handle.Empty = []
+handle_text handle.Primary = codes "!"
+handle_text handle.Secondary = codes "!!"
+
+-- the token of a tag of these parts
+abbrev pub tag_kind : TagParts → Kind
+tag_kind tag = tokens.Tag (string_bytes tag.handle) (string_bytes tag.suffix)
+
 -- ## Places
 
 -- the token of a place, over what it and those after it have beside them
 abbrev pub token_of : Content → NearMarker → ℕ → ℕ → Asides → Piece
 token_of (Indicator what) m n k s = record { span = near_span m n; kind = indicator_kind what }
 token_of (Text what) m n k s = record { span = near_span m n; kind = text_kind what (take k s.bytes) }
+token_of (Tag h) m n k s = record { span = near_span m n; kind = tokens.Tag (handle_text h) (take k s.bytes) }
 token_of Aside m n k s = first_aside s.tokens
 
 -- what those after it have beside them
 abbrev pub behind_token_of : Content → ℕ → Asides → Asides
 behind_token_of (Indicator what) k s = s
 behind_token_of (Text what) k s = behind_text k s
+behind_token_of (Tag h) k s = behind_text k s
 behind_token_of Aside k s = behind_token s
 
 -- What the token needs is there.
 abbrev pub HasTokenOf : Content → ℕ → Asides → Type 0
 HasTokenOf (Indicator what) k s = ⊤
 HasTokenOf (Text what) k s = BeginsWithText k s
+HasTokenOf (Tag h) k s = BeginsWithText k s
 HasTokenOf Aside k s = 1 ≤ length s.tokens
+
+-- whether its token is aside, or will be put there
+abbrev pub is_apart : Content → Bool
+is_apart (Indicator what) = false
+is_apart (Text what) = false
+is_apart (Tag h) = true
+is_apart Aside = true
 
 abbrev pub place_at : declared_place.Place → Asides → Place
 place_at p s = record { opening = p.opening; piece = token_of (content_of p.content) p.start p.length p.count s }
@@ -93,6 +115,7 @@ Fit (p ∷ ps) s = HasBeside p s × Fit ps (beside_behind p s)
 HasTokenOf-prop : (what : Content) (k : ℕ) (s : Asides) → IsProp (HasTokenOf what k s)
 HasTokenOf-prop (Indicator what) k s = hlevel props
 HasTokenOf-prop (Text what) k s = hlevel props
+HasTokenOf-prop (Tag h) k s = hlevel props
 HasTokenOf-prop Aside k s = hlevel props
 
 -- A fact of structs has one proof.

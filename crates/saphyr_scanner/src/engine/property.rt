@@ -7,7 +7,7 @@ ghost use Rattle.saphyr_scanner.specs.Steps.Property as property;
 use crate::engine::Engine;
 use crate::token::TokenType;
 use saphyr_input::input::Input;
-use saphyr_scalar::Stop;
+use saphyr_scalar::{Span, Stop};
 
 impl<T: Input> Engine<T> {
     ghost use Rattle.saphyr_scanner.specs.Views.Engine.{state, ActsBy};
@@ -55,6 +55,12 @@ impl<T: Input> Engine<T> {
         let start = self.reader.mark();
         let in_flow = !self.in_block();
         let tag = self.reader.read_tag(self.alloc, in_flow)?;
+        if self.queue.is_holding() {
+            let span = Span::new(start, self.reader.mark());
+            self.queue
+                .put_tag_behind(self.alloc, &span, tag, &mut self.reader.spare)?;
+            return Ok(());
+        }
         let tag = self.reader.spare.boxed(self.alloc, tag)?;
         self.put_from(start, TokenType::Tag(tag))?;
         Ok(())

@@ -142,6 +142,15 @@ impl Aside {
         Ok(())
     }
 
+    /// Keeps a token before the others.
+    pub(super) fn keep_first(&mut self, token: Token) -> Result<(), AllocError>
+        ensures kept { OnOk result (self.new ≡ spec.with_first_token (piece token) self.old) }
+        ensures failed { OnErr result (self.new ≡ self.old) }
+    {
+        self.tokens.push_front(token)?;
+        Ok(())
+    }
+
     /// The first text, which has so many bytes.
     #[inline(always)]
     pub(super) fn first_text(&self, count: u8) -> &str

@@ -1,14 +1,15 @@
 //! What a place holds of its token, in a byte.
 
-ghost use Rattle.std.specs.Prelude.{◌≡◌, List, ℕ, IfSome, IsTrue, string_bytes};
+ghost use Rattle.std.specs.Prelude.{◌≡◌, [], List, ℕ, IfOk, IfSome, IsTrue, string_bytes};
 ghost use Rattle.saphyr_scanner.specs.Grammar.Tokens as tokens;
-ghost use Rattle.saphyr_scanner.specs.Views.Places.{indicator_kind, text_kind};
+ghost use Rattle.saphyr_scanner.specs.Views.Places.{handle_text, indicator_kind, text_kind};
 ghost use Rattle.saphyr_scanner.specs.Views.Reads.{quote_style};
 ghost use Rattle.saphyr_scanner.specs.Views.Tokens.{kind_of};
 
 use crate::token::TokenType;
-use saphyr_scalar::ScalarStyle;
+use saphyr_scalar::{ScalarStyle, TagParts};
 use saphyr_values::Quote;
+use std::alloc::AllocError;
 
 /// The kinds of tokens of collections, which have no text.
 #[derive(Clone, Copy)]
@@ -118,12 +119,74 @@ impl TextKind {
     }
 }
 
+/// The handles that most tags have.
+#[derive(Clone, Copy)]
+pub(super) enum Handle {
+    /// That of `!` alone and of `!<uri>`, which is empty.
+    Empty,
+    /// The handle `!`.
+    Primary,
+    /// The handle `!!`.
+    Secondary,
+}
+
+impl Handle {
+    /// Which of them a handle is, if it is one.
+    #[inline(always)]
+    pub(super) fn of(handle: &str) -> Option<Handle>
+        ensures { IfSome result (λ found. handle_text found ≡ handle.now) }
+    {
+        match handle.as_bytes() {
+            [] => Some(Handle::Empty),
+            [b'!'] => Some(Handle::Primary),
+            [b'!', b'!'] => Some(Handle::Secondary),
+            _ => None,
+        }
+    }
+
+    // The handle, in the memory of an empty text.
+    #[inline(always)]
+    fn written_in(self, mut text: String) -> Result<String, AllocError>
+        requires { string_bytes text ≡ [] }
+        ensures { IfOk result (λ handle. string_bytes handle ≡ handle_text self) }
+    {
+        match self {
+            Handle::Empty => {}
+            Handle::Primary => text.push('!')?,
+            Handle::Secondary => text.push_str("!!")?,
+        }
+        Ok(text)
+    }
+
+    /// The tag of this handle and a suffix, in the memory of a tag of empty texts.
+    #[inline(always)]
+    pub(super) fn tag(self, memory: TagParts, suffix: &str) -> Result<TagParts, AllocError>
+        requires handle { string_bytes memory.handle ≡ [] }
+        requires suffix { string_bytes memory.suffix ≡ [] }
+        ensures handle { IfOk result (λ tag. string_bytes tag.handle ≡ handle_text self) }
+        ensures suffix { IfOk result (λ tag. string_bytes tag.suffix ≡ suffix.now) }
+    {
+        let TagParts {
+            handle,
+            suffix: mut text,
+        } = memory;
+        text.push_str(suffix)?;
+        let handle = self.written_in(handle)?;
+        Ok(TagParts {
+            handle,
+            suffix: text,
+        })
+    }
+}
+
 /// What a place holds of its token.
 #[derive(Clone, Copy)]
 pub(super) enum Content {
     Indicator(Indicator),
     /// The token has a text, which is aside.
     Text(TextKind),
+    /// The token is a tag with this handle, and its suffix is aside.
+    Tag(Handle),
     /// The whole token is aside.
     Aside,
 }
@@ -147,6 +210,9 @@ pub(super) enum Packed {
     Plain,
     SingleQuoted,
     DoubleQuoted,
+    EmptyTag,
+    PrimaryTag,
+    SecondaryTag,
     Aside,
 }
 
@@ -175,6 +241,9 @@ impl Packed {
             Content::Text(TextKind::Plain) => Packed::Plain,
             Content::Text(TextKind::SingleQuoted) => Packed::SingleQuoted,
             Content::Text(TextKind::DoubleQuoted) => Packed::DoubleQuoted,
+            Content::Tag(Handle::Empty) => Packed::EmptyTag,
+            Content::Tag(Handle::Primary) => Packed::PrimaryTag,
+            Content::Tag(Handle::Secondary) => Packed::SecondaryTag,
             Content::Aside => Packed::Aside,
         }
     }
@@ -200,6 +269,9 @@ impl Packed {
             Packed::Plain => Content::Text(TextKind::Plain),
             Packed::SingleQuoted => Content::Text(TextKind::SingleQuoted),
             Packed::DoubleQuoted => Content::Text(TextKind::DoubleQuoted),
+            Packed::EmptyTag => Content::Tag(Handle::Empty),
+            Packed::PrimaryTag => Content::Tag(Handle::Primary),
+            Packed::SecondaryTag => Content::Tag(Handle::Secondary),
             Packed::Aside => Content::Aside,
         }
     }

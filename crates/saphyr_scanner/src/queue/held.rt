@@ -7,17 +7,17 @@ ghost use Rattle.saphyr_values.specs.Flow as flow;
 ghost use Rattle.saphyr_scalar.specs.Steps.Plain.{plain};
 ghost use Rattle.saphyr_scalar.specs.declared.scalar.style.ScalarStyle.TheVariants.{Plain};
 ghost use Rattle.saphyr_scalar.specs.Views.Reader.{Moves, cursor_of};
-ghost use Rattle.saphyr_scanner.specs.Views.Places.{Fit, Fit-prop, indicator_kind, indicator_piece, near_span};
+ghost use Rattle.saphyr_scanner.specs.Views.Places.{Fit, Fit-prop, indicator_kind, indicator_piece, near_span, tag_kind};
 ghost use Rattle.saphyr_scanner.specs.Views.Reads.{flow_quoted, quote_style, with_scalar};
 
 use crate::queue::Opening;
 use crate::queue::aside::Aside;
-use crate::queue::content::{Indicator, TextKind};
+use crate::queue::content::{Handle, Indicator, TextKind};
 use crate::queue::near::{NearMarker, near};
 use crate::queue::place::Place;
 use crate::token::{Token, TokenType};
 use saphyr_input::input::Input;
-use saphyr_scalar::{Marker, Reader, ScalarStyle, Span, Spare, Stop};
+use saphyr_scalar::{Marker, Reader, ScalarStyle, Span, Spare, Stop, TagParts};
 use saphyr_values::Quote;
 use std::alloc::{AllocError, Global};
 
@@ -248,6 +248,49 @@ impl Held {
             { span = span.now; kind = tokens.Scalar style (string_bytes text) }) ∷ []) }
     {
         self.put(span, TokenType::Scalar(style, text), spare)
+    }
+
+    /// Puts a tag at the end, mostly at once, as `put_scalar` does.
+    #[inline(always)]
+    pub(super) fn put_tag(
+        &mut self,
+        alloc: Global,
+        span: &Span,
+        tag: TagParts,
+        spare: &mut Spare,
+    ) -> Result<(), AllocError>
+        ensures { OnOk result (held_places self.new ≡ held_places self.old
+            ++ spec.bare_place (record { span = span.now; kind = tag_kind tag }) ∷ []) }
+    {
+        let Some(handle) = Handle::of(&tag.handle) else {
+            return self.put_tag_rarely(alloc, span, tag, spare);
+        };
+        let Some((start, length)) = self.near_with_room(&span.start, &span.end) else {
+            return self.put_tag_rarely(alloc, span, tag, spare);
+        };
+        let Some(count) = self.aside.keep_text(&tag.suffix)? else {
+            return self.put_tag_rarely(alloc, span, tag, spare);
+        };
+        spare.keep_tag(tag);
+        self.places
+            .push_reserved(Place::tag(start, length, handle, count));
+        Ok(())
+    }
+
+    // The same for any tag.
+    #[inline(never)]
+    fn put_tag_rarely(
+        &mut self,
+        alloc: Global,
+        span: &Span,
+        tag: TagParts,
+        spare: &mut Spare,
+    ) -> Result<(), AllocError>
+        ensures { OnOk result (held_places self.new ≡ held_places self.old
+            ++ spec.bare_place (record { span = span.now; kind = tag_kind tag }) ∷ []) }
+    {
+        let tag = spare.boxed(alloc, tag)?;
+        self.put(span, TokenType::Tag(tag), spare)
     }
 
     /// Puts an indicator at the end, mostly at once, as `put_scalar` does.

@@ -1,14 +1,18 @@
 //! A token that is held, and what comes in front of it, in a small form, since the queue may hold all tokens of a text.
 
-ghost use Rattle.std.specs.Prelude.{◌≡◌, List, ℕ, IfOk, IfSome, OnErr, OnOk, slice_index};
+ghost use Rattle.std.specs.Prelude.{◌≡◌, ◌≤◌, true, length, List, ℕ, IfOk, IfSome, OnErr, OnOk, slice_index};
 ghost use Rattle.saphyr_values.specs.Flow as flow;
 ghost use Rattle.saphyr_scalar.specs.Steps.Plain.{plain};
 ghost use Rattle.saphyr_scalar.specs.declared.scalar.style.ScalarStyle.TheVariants.{Plain};
 ghost use Rattle.saphyr_scalar.specs.Views.Reader.{GivesBy, cursor_of};
-ghost use Rattle.saphyr_scanner.specs.Views.Asides.{EndsWithText, IsTextOf, with_text_aside, with_token};
+ghost use Rattle.saphyr_scanner.specs.Grammar.Tokens as tokens;
+ghost use Rattle.saphyr_scanner.specs.Views.Asides.{EndsWithText, IsTextOf, behind_token, first_aside, with_text_aside, with_token};
+ghost use Rattle.saphyr_scanner.specs.Views.Contents.{content_of};
 ghost use Rattle.saphyr_scanner.specs.Views.Places.{
   AddsBehind,
   beside_behind,
+  handle_text,
+  is_apart,
   indicator_kind,
   near_span,
   place_at,
@@ -21,12 +25,12 @@ ghost use Rattle.saphyr_scanner.specs.Views.Tokens.{Piece, kind_of, piece};
 
 use crate::queue::Opening;
 use crate::queue::aside::Aside;
-use crate::queue::content::{Content, Indicator, Packed, TextKind};
+use crate::queue::content::{Content, Handle, Indicator, Packed, TextKind};
 use crate::queue::near::{NearMarker, near};
 use crate::token::{Token, TokenType};
 use saphyr_input::char_traits::is_breakz;
 use saphyr_input::input::{Input, SkipTabs};
-use saphyr_scalar::{FaultText, Marker, Reader, Refusal, ScalarStyle, Span, Spare, Stop};
+use saphyr_scalar::{FaultText, Marker, Reader, Refusal, ScalarStyle, Span, Spare, Stop, TagParts};
 use saphyr_values::Quote;
 use std::alloc::{AllocError, Global};
 
@@ -104,6 +108,22 @@ impl Place {
         Place {
             opening: Opening::Nothing,
             content: Packed::new(Content::Text(what)),
+            length,
+            count,
+            start,
+        }
+    }
+
+    /// The same for a tag, whose suffix is aside, and has so many bytes.
+    #[inline(always)]
+    pub(super) fn tag(start: NearMarker, length: u8, handle: Handle, count: u8) -> Place
+        ensures { (suffix : List ℕ) (s : Asides) → IsTextOf count suffix → AddsBehind
+            (record { span = near_span start length; kind = tokens.Tag (handle_text handle) suffix })
+            result s (with_text_aside suffix s) }
+    {
+        Place {
+            opening: Opening::Nothing,
+            content: Packed::new(Content::Tag(handle)),
             length,
             count,
             start,
@@ -277,7 +297,7 @@ impl Place {
         ensures { result ≡ (place_at self aside.now).piece.span.start }
     {
         match self.content.content() {
-            Content::Indicator(_) | Content::Text(_) => self.start.marker(),
+            Content::Indicator(_) | Content::Text(_) | Content::Tag(_) => self.start.marker(),
             Content::Aside => aside.first_start(),
         }
     }
@@ -306,10 +326,41 @@ impl Place {
                 aside.pass_text(self.count);
                 token.set(self.start.span(self.length), what.kind(text));
             }
-            Content::Aside => {
+            Content::Tag(_) | Content::Aside => {
+                self.make_whole(alloc, aside, spare)?;
                 let Token { span, kind } = aside.take_token();
                 token.set(span, kind);
             }
+        }
+        Ok(())
+    }
+
+    // Puts the token of a tag before those that are aside. Any other token is there already.
+    //
+    // For speed the token isn't written into the caller's: a token whose place is given to a call that is not inlined
+    // stays in memory, in each state that takes one.
+    #[inline(never)]
+    fn make_whole(
+        self,
+        alloc: Global,
+        aside: &mut Aside,
+        spare: &mut Spare,
+    ) -> Result<(), AllocError>
+        requires apart { is_apart (content_of self.content) ≡ true }
+        requires beside { HasBeside self aside.old }
+        ensures some { OnOk result (1 ≤ length aside.new.tokens) }
+        ensures token { OnOk result
+            (first_aside aside.new.tokens ≡ (place_at self aside.old).piece) }
+        ensures left { OnOk result (behind_token aside.new ≡ beside_behind self aside.old) }
+        ensures failed { OnErr result (aside.new ≡ aside.old) }
+    {
+        if let Content::Tag(handle) = self.content.content() {
+            let tag = TagParts::begin(spare, alloc)?;
+            let tag = handle.tag(tag, aside.first_text(self.count))?;
+            let kind = TokenType::Tag(spare.boxed(alloc, tag)?);
+            let span = self.start.span(self.length);
+            aside.keep_first(Token { span, kind })?;
+            aside.pass_text(self.count);
         }
         Ok(())
     }
