@@ -166,6 +166,20 @@ second_is bs u l a b =
     sym (get_or-take 2 (chars bs) 1 0 (lit< tt)) ∙ ap (λ (xs : List ℕ). get_or xs 1 0) s.front
     ∙ get_or-take 2 bs 1 0 (lit< tt)
 
+first_three : (bs : List ℕ) → get_or bs 0 0 < 128 → get_or bs 1 0 < 128 → get_or bs 2 0 < 128 → (k : ℕ) → k < 3
+    → get_or bs k 0 < 128
+first_three bs a b c zero l = a
+first_three bs a b c (suc zero) l = b
+first_three bs a b c (suc (suc zero)) l = c
+first_three bs a b c (suc (suc (suc k))) l = absurd (omega arith)
+
+pub third_is : (bs : List ℕ) → IsUtf8 bs → 2 < length bs → get_or bs 0 0 < 128 → get_or bs 1 0 < 128
+    → get_or bs 2 0 < 128 → get_or (chars bs) 2 0 ≡ get_or bs 2 0
+third_is bs u l a b c =
+    let s = past_ascii bs 3 u (omega (arith, l)) (first_three bs a b c) in
+    sym (get_or-take 3 (chars bs) 2 0 (lit< tt)) ∙ ap (λ (xs : List ℕ). get_or xs 2 0) s.front
+    ∙ get_or-take 3 bs 2 0 (lit< tt)
+
 marks_fit : (bs : List ℕ) (n mark : ℕ) → 0 < mark → ((k : ℕ) → k < n → get_or bs k 0 ≡ mark) → n ≤ length bs
 marks_fit bs zero mark some h = search rules
 marks_fit bs (suc n) mark some h = elim (cases_lt n (length bs)) [

@@ -9,7 +9,7 @@ mod wide;
 use self::text::{
     ascii_behind, ascii_run, begins_with_2, behind, behind_ascii, behind_two_ascii, blank_words,
     first_byte, front_words, is_marker, nth_char, run, run_here, second_char, spaces, split_blanks,
-    split_first, words,
+    split_first, third_char, words,
 };
 use crate::char_set::{Alpha, Blank, CharSet, NonBreak, NonSpace, SpacedSet};
 use crate::char_traits::{
@@ -177,10 +177,13 @@ impl Input for StrInput<'_> {
         self.rest.chars().next().unwrap_or('\0')
     }
 
-    #[inline]
+    #[inline(always)]
     fn peek_nth(&self, n: usize) -> char {
         if n == 1 {
             return second_char(self.rest);
+        }
+        if n == 2 {
+            return third_char(self.rest);
         }
         nth_char(self.rest, n)
     }

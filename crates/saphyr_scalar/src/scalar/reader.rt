@@ -140,6 +140,20 @@ impl<T: Input> Reader<T> {
         self.blank_so_far = false;
     }
 
+    /// Takes off two characters that are ASCII, of which the first is no blank.
+    #[inline(always)]
+    pub fn skip_two_ascii(&mut self)
+        requires loaded { 2 ≤ loaded self.old }
+        requires some { 2 ≤ length (cursor_of self.old).rest }
+        requires ascii { (slice_index (cursor_of self.old).rest 0 < 128)
+            × (slice_index (cursor_of self.old).rest 1 < 128) }
+        ensures { cursor_of self.new ≡ spec.pass 2 (cursor_of self.old) }
+    {
+        self.input.skip_two_ascii();
+        self.mark = self.mark.along(2);
+        self.blank_so_far = false;
+    }
+
     /// Takes off a blank.
     #[inline]
     pub fn skip_blank(&mut self)

@@ -3,6 +3,7 @@
 
 ghost use Rattle.std.specs.Prelude.{◌≡◌, ◌+◌, ◌^◌, ◌==◌, ◌&&◌, false, IsTrue, Ok, ◌<◌, length, slice_index};
 ghost use Rattle.saphyr_input.specs.Classes.{space};
+ghost use Rattle.saphyr_input.specs.Indicators.{hyphen};
 ghost use Rattle.saphyr_scanner.specs.Steps.Block as block;
 ghost use Rattle.saphyr_scanner.specs.Steps.Core as spec;
 ghost use Rattle.saphyr_scanner.specs.Steps.Passing as passing;
@@ -60,10 +61,12 @@ impl<T: Input> Engine<T> {
         Ok(())
     }
 
-    // Passes `-` and one character behind it, if that is followed by what most entries begin with. It is separate for
+    // Passes `-` and the space behind it, if that is followed by what most entries begin with. It is separate for
     // speed: this way the steps over characters are inlined.
     #[inline(never)]
     fn passes_spaced_dash(&mut self) -> bool
+        requires first { slice_index (state self.old).core.cursor.rest 0 ≡ hyphen }
+        requires second { slice_index (state self.old).core.cursor.rest 1 ≡ space }
         ensures told { result ≡ may_begin_entry (slice_index (state self.old).core.cursor.rest 2) }
         ensures passed { IsTrue result → state self.new
             ≡ spec_state.with_core (passing.pass_on 2 (state self.old).core) (state self.old) }
@@ -71,7 +74,7 @@ impl<T: Input> Engine<T> {
     {
         self.reader.load(3);
         if may_begin_entry(self.reader.input().peek_nth(2)) {
-            self.reader.skip_n_non_blank(2);
+            self.reader.skip_two_ascii();
             return true;
         }
         false
@@ -80,7 +83,8 @@ impl<T: Input> Engine<T> {
     // Passes `-` and the space behind it, if that is followed by what most entries begin with.
     #[inline(always)]
     fn passes_dash_and_space(&mut self, next: char) -> bool
-        requires { next ≡ slice_index (state self.old).core.cursor.rest 1 }
+        requires first { slice_index (state self.old).core.cursor.rest 0 ≡ hyphen }
+        requires second { next ≡ slice_index (state self.old).core.cursor.rest 1 }
         ensures told { result ≡ ((slice_index (state self.old).core.cursor.rest 1 == space)
             && may_begin_entry (slice_index (state self.old).core.cursor.rest 2)) }
         ensures passed { IsTrue result → state self.new
@@ -96,6 +100,7 @@ impl<T: Input> Engine<T> {
     #[inline(always)]
     fn begin_entry(&mut self, next: char, column: usize) -> Result<(), Stop>
         requires some { 0 < length (state self.old).core.cursor.rest }
+        requires first { slice_index (state self.old).core.cursor.rest 0 ≡ hyphen }
         requires second { next ≡ slice_index (state self.old).core.cursor.rest 1 }
         requires near { column + 1 < 2 ^ 64 }
         ensures { CarriesBy (λ c. block.pass_dash (spec.roll column (passing.pass_on 1 c)))
@@ -129,6 +134,7 @@ impl<T: Input> Engine<T> {
     #[tactic(auto, unfolding(crate::specs::Steps::Block::block_entry_steps, crate::specs::Steps::Block::next_entry))]
     pub(super) fn fetch_block_entry(&mut self, next: char) -> Result<(), Stop>
         requires some { 0 < length (state self.old).core.cursor.rest }
+        requires first { slice_index (state self.old).core.cursor.rest 0 ≡ hyphen }
         requires second { next ≡ slice_index (state self.old).core.cursor.rest 1 }
         ensures { ActsBy block.block_entry_steps self.old result self.new }
     {

@@ -301,6 +301,7 @@ impl<T: Input> Engine<T> {
     #[tactic(auto, unfolding(crate::specs::Steps::Fetch::state_behind_content, crate::specs::Steps::Fetch::step))]
     fn fetch_dash(&mut self) -> Result<(), Stop>
         requires some { 0 < length (state self.old).core.cursor.rest }
+        requires first { slice_index (state self.old).core.cursor.rest 0 ≡ hyphen }
         requires loaded { 2 ≤ loaded self.old.reader }
         ensures { MovesBy (with_second hyphen) self.old result self.new }
     {

@@ -87,6 +87,18 @@ pub(super) fn ascii_behind(text: &str, first: char) -> Option<char>
     byte_behind(text.as_bytes(), first)
 }
 
+// The third character, or NUL past the end.
+#[inline]
+pub(super) fn third_char(text: &str) -> char
+    ensures { result ≡ slice_index (chars text.now) 2 }
+{
+    let bytes = text.as_bytes();
+    if bytes.len() > 2 && bytes[0] < 0x80 && bytes[1] < 0x80 && bytes[2] < 0x80 {
+        return bytes[2] as char;
+    }
+    nth_char(text, 2)
+}
+
 // What follows a character that is ASCII.
 #[inline(always)]
 pub(super) fn behind_ascii(text: &str) -> &str
@@ -109,7 +121,7 @@ pub(super) fn behind_two_ascii(text: &str) -> &str
 }
 
 // The character at place `n`, or NUL past the end.
-#[inline]
+#[inline(never)]
 pub(super) fn nth_char(text: &str, n: usize) -> char
     ensures { result ≡ slice_index (chars text.now) n }
 {
