@@ -255,13 +255,37 @@ impl<T: Input> Reader<T> {
         self.read_plain_words(in_flow, text)
     }
 
-    // The same where mostly one look at ASCII characters tells all words, and one more that they end.
+    // Whether the first character is ASCII.
     #[inline(always)]
-    pub(super) fn read_first_words(
+    pub(super) fn begins_ascii(&mut self) -> bool
+        ensures { cursor_of self.new ≡ cursor_of self.old }
+    {
+        self.load(1);
+        self.input.peek() < '\u{80}'
+    }
+
+    // The same for words of which it is told whether the first character is ASCII.
+    #[inline(always)]
+    pub(super) fn read_begun_words(
         &mut self,
+        is_ascii: bool,
         in_flow: bool,
         text: &mut String,
     ) -> Result<char, AllocError>
+        ensures words { OnOk result (spec.PlainWordsMoved in_flow (string_bytes text.old)
+            (string_bytes text.new) (cursor_of self.old) (cursor_of self.new)) }
+        ensures end { IfOk result (λ c. c ≡ slice_index (cursor_of self.new).rest 0) }
+        ensures loaded { OnOk result (1 ≤ loaded self.new) }
+    {
+        if is_ascii {
+            return self.read_first_words(in_flow, text);
+        }
+        self.read_plain_words(in_flow, text)
+    }
+
+    // The same where mostly one look at ASCII characters tells all words, and one more that they end.
+    #[inline(always)]
+    fn read_first_words(&mut self, in_flow: bool, text: &mut String) -> Result<char, AllocError>
         ensures words { OnOk result (spec.PlainWordsMoved in_flow (string_bytes text.old)
             (string_bytes text.new) (cursor_of self.old) (cursor_of self.new)) }
         ensures end { IfOk result (λ c. c ≡ slice_index (cursor_of self.new).rest 0) }
