@@ -7,7 +7,7 @@ ghost use Rattle.saphyr_parser.specs.Written.{Takes};
 ghost use Rattle.saphyr_parser.specs.Printed as printed;
 
 use crate::printing::writing::{
-    Unwritten, copies_plain, copy, is_plain_up_to, write_all, write_escaped, write_number,
+    Unwritten, copies_plain, copy, is_plain_up_to, write_all, write_escaped, write_id,
 };
 use saphyr_machine::{Event, Tag};
 use saphyr_scalar::ScalarStyle;
@@ -40,8 +40,13 @@ fn write_alias<W: Write>(out: &mut W, id: usize) -> Result<(), Unwritten>
     ensures { Takes result (W.contents out.old) (W.contents out.new)
         (codes "=ALI *" ++ (decimal id ++ codes "\n")) }
 {
+    // For speed: one write costs less than three, and few anchors have aliases.
+    if id < 10 {
+        let digit = b'0' + (id % 10) as u8;
+        return write_all(out, &[b'=', b'A', b'L', b'I', b' ', b'*', digit, b'\n']);
+    }
     write_all(out, b"=ALI *")?;
-    write_number(out, id as u128)?;
+    write_id(out, id)?;
     write_all(out, b"\n")
 }
 
@@ -198,7 +203,7 @@ fn write_anchor<W: Write>(out: &mut W, id: usize) -> Result<(), Unwritten>
         return Ok(());
     }
     write_all(out, b" &")?;
-    write_number(out, id as u128)
+    write_id(out, id)
 }
 
 fn write_tag<W: Write>(out: &mut W, tag: &Tag) -> Result<(), Unwritten>

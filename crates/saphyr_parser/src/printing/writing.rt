@@ -58,6 +58,21 @@ pub(super) fn write_number<W: Write>(out: &mut W, number: u128) -> Result<(), Un
     write_all(out, &digit)
 }
 
+// Writes the id of an anchor in decimal, two digits at a time, since each write costs more than a digit.
+pub(super) fn write_id<W: Write>(out: &mut W, id: usize) -> Result<(), Unwritten>
+    ensures { Takes result (W.contents out.old) (W.contents out.new) (decimal id) }
+{
+    let digits = [b'0' + (id / 10 % 10) as u8, b'0' + (id % 10) as u8];
+    if id < 10 {
+        return write_all(out, &digits[1..]);
+    }
+    if id < 100 {
+        return write_all(out, &digits);
+    }
+    write_id(out, id / 100)?;
+    write_all(out, &digits)
+}
+
 // The letter that follows the backslash for each byte that is escaped, and 0 for each other one. A look at a table
 // takes fewer instructions than comparisons.
 const LETTERS: [u8; 256] = [

@@ -12,4 +12,4 @@ returns-in_err-write_all g c =
 pub returns : goal.returns
 returns g c =
     let e : anchor_text c.args.id ≡ codes " &" ++ decimal c.args.id = search rules in
-    takes_two _ _ _ _ _ _ _ c.in_ok-write_all.ensures c.write_number.ensures e
+    takes_two _ _ _ _ _ _ _ c.in_ok-write_all.ensures c.write_id.ensures e
