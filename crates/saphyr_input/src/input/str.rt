@@ -82,9 +82,7 @@ impl<'a> StrInput<'a> {
         self.rest = rest;
         Ok(count)
     }
-}
 
-impl<'a> StrInput<'a> {
     // The same before a character that isn't ASCII, or nothing. A few characters are looked at once more for less than
     // it costs to move them in two pieces. Returns how many were moved.
     #[inline(never)]
