@@ -319,6 +319,7 @@ impl<T: Input> Machine<T> {
     // The same for any token. It is separate for speed: the places for the results of its calls are not cleared for a
     // scalar.
     #[inline(always)]
+    #[tactic(auto, unfolding(crate::specs::Steps::Tags::resolved_tag_at))]
     fn rare_behind_id<'input>(
         &mut self,
         id: usize,
@@ -335,13 +336,13 @@ impl<T: Input> Machine<T> {
         let Token { span, kind } = token;
         match kind {
             TokenType::Tag(tag) => {
-                let tag = self.unboxed(tag);
-                let tag = self.resolve(tag, anchor.start)?;
+                let TagParts { mut handle, suffix } = self.unboxed(tag);
+                self.write_prefix(&mut handle, anchor.start)?;
                 let properties = Properties {
                     start: anchor.start,
                     behind: span.end,
                     anchor: id,
-                    tag: Some(tag),
+                    tag: Some(Tag { handle, suffix }),
                 };
                 self.next_content(properties, context, next)
             }
@@ -358,7 +359,7 @@ impl<T: Input> Machine<T> {
     }
 
     // A node that begins with a tag.
-    #[tactic(auto, unfolding(crate::specs::Steps::Nodes::node_behind_tag))]
+    #[tactic(auto, unfolding(crate::specs::Steps::Nodes::node_behind_tag, crate::specs::Steps::Tags::resolved_tag_at))]
     fn behind_tag<'input>(
         &mut self,
         tag: TagParts,
@@ -370,7 +371,9 @@ impl<T: Input> Machine<T> {
             (spec.node_behind_tag (string_bytes tag.handle) (string_bytes tag.suffix) place context)
             self.old result next.new self.new }
     {
-        let tag = self.resolve(tag, place.start)?;
+        let TagParts { mut handle, suffix } = tag;
+        self.write_prefix(&mut handle, place.start)?;
+        let tag = Tag { handle, suffix };
         match self.take() {
             Ok(token) => self.behind_resolved(tag, place, context, token, next),
             Err(stop) => {
