@@ -62,9 +62,7 @@ fn write_scalar<W: Write>(
         ++ ((codes " " ++ printed.style_mark style) ++ (printed.printed_bytes text.now ++ codes "\n"))) }
 {
     write_node(out, b"=VAL", id, tag)?;
-    write_all(out, mark(style))?;
-    write_escaped(out, text.as_bytes())?;
-    write_all(out, b"\n")
+    write_text(out, mark(style), text.as_bytes())
 }
 
 // Writes the line of a scalar without properties.
