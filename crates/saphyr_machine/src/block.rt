@@ -1,10 +1,11 @@
 //! The states inside block collections (YAML 1.2.2, 8.2).
 
+ghost use Rattle.std.specs.Prelude.{◌≡◌, false};
 ghost use Rattle.saphyr_machine.specs.Steps.Block as spec;
 
 use crate::context::NodeContext;
 use crate::event::Event;
-use crate::machine::{Machine, place_of, refuse, tell};
+use crate::machine::{Machine, place_of, refuse, tell_over};
 use crate::state::State;
 use saphyr_input::input::Input;
 use saphyr_scalar::{FaultText, Span, Stop};
@@ -12,6 +13,7 @@ use saphyr_scanner::{Indicator, TokenType};
 
 impl<T: Input> Machine<T> {
     ghost use Rattle.saphyr_scanner.specs.Views.Engine.{answer_of};
+    ghost use Rattle.saphyr_machine.specs.Views.Events.{has_tag};
     ghost use Rattle.saphyr_machine.specs.Views.Machines.{TellsBy};
 
     // A node that begins with the next token.
@@ -20,6 +22,7 @@ impl<T: Input> Machine<T> {
         &mut self,
         next: &mut (Event<'input>, Span),
     ) -> Result<(), Stop>
+        requires { has_tag next.old.0 ≡ false }
         ensures { TellsBy spec.block_node self.old result next.new self.new }
     {
         let token = self.take()?;
@@ -32,6 +35,7 @@ impl<T: Input> Machine<T> {
         &mut self,
         next: &mut (Event<'input>, Span),
     ) -> Result<(), Stop>
+        requires { has_tag next.old.0 ≡ false }
         ensures { TellsBy spec.block_sequence_entry self.old result next.new self.new }
     {
         if let Some(dash) = self.pass(Indicator::BlockEntry)? {
@@ -40,7 +44,7 @@ impl<T: Input> Machine<T> {
         }
         if let Some(span) = self.pass(Indicator::BlockEnd)? {
             self.pop();
-            tell(next, Event::SequenceEnd, span);
+            tell_over(next, Event::SequenceEnd, span);
             return Ok(());
         }
         if !self.tells_block_entry(next) {
@@ -52,6 +56,7 @@ impl<T: Input> Machine<T> {
     // The same with the stop kept, as a call of its own: such tokens are rare.
     #[inline(never)]
     fn tells_block_entry<'input>(&mut self, next: &mut (Event<'input>, Span)) -> bool
+        requires { has_tag next.old.0 ≡ false }
         ensures { TellsBy spec.block_sequence_entry self.old (answer_of result self.new.stop) next.new self.new }
     {
         let ended = self.any_block_entry(next);
@@ -61,13 +66,14 @@ impl<T: Input> Machine<T> {
     // The same for any token.
     #[tactic(auto, unfolding(crate::specs::Steps::Block::block_sequence_entry))]
     fn any_block_entry<'input>(&mut self, next: &mut (Event<'input>, Span)) -> Result<(), Stop>
+        requires { has_tag next.old.0 ≡ false }
         ensures { TellsBy spec.block_sequence_entry self.old result next.new self.new }
     {
         let token = self.take()?;
         match token.kind {
             TokenType::BlockEnd => {
                 self.pop();
-                tell(next, Event::SequenceEnd, place_of(token));
+                tell_over(next, Event::SequenceEnd, place_of(token));
             }
             TokenType::BlockEntry => self.block_sequence_node(place_of(token), next)?,
             _ => return Err(refuse(FaultText::SequenceEntryExpected, place_of(token).start)),
@@ -83,6 +89,7 @@ impl<T: Input> Machine<T> {
         dash: Span,
         next: &mut (Event<'input>, Span),
     ) -> Result<(), Stop>
+        requires { has_tag next.old.0 ≡ false }
         ensures { TellsBy (spec.block_sequence_node dash) self.old result next.new self.new }
     {
         let token = self.take()?;
@@ -101,6 +108,7 @@ impl<T: Input> Machine<T> {
         &mut self,
         next: &mut (Event<'input>, Span),
     ) -> Result<(), Stop>
+        requires { has_tag next.old.0 ≡ false }
         ensures { TellsBy spec.indentless_sequence_entry self.old result next.new self.new }
     {
         if let Some(dash) = self.pass(Indicator::BlockEntry)? {
@@ -117,7 +125,7 @@ impl<T: Input> Machine<T> {
         let span = token.span;
         self.put_back(token);
         self.pop();
-        tell(next, Event::SequenceEnd, span);
+        tell_over(next, Event::SequenceEnd, span);
         Ok(())
     }
 
@@ -128,6 +136,7 @@ impl<T: Input> Machine<T> {
         dash: Span,
         next: &mut (Event<'input>, Span),
     ) -> bool
+        requires { has_tag next.old.0 ≡ false }
         ensures { TellsBy (spec.indentless_sequence_node dash) self.old
             (answer_of result self.new.stop) next.new self.new }
     {
@@ -142,6 +151,7 @@ impl<T: Input> Machine<T> {
         dash: Span,
         next: &mut (Event<'input>, Span),
     ) -> Result<(), Stop>
+        requires { has_tag next.old.0 ≡ false }
         ensures { TellsBy (spec.indentless_sequence_node dash) self.old result next.new self.new }
     {
         let token = self.take()?;
@@ -165,6 +175,7 @@ impl<T: Input> Machine<T> {
         &mut self,
         next: &mut (Event<'input>, Span),
     ) -> Result<(), Stop>
+        requires { has_tag next.old.0 ≡ false }
         ensures { TellsBy spec.block_mapping_key self.old result next.new self.new }
     {
         if self.pass(Indicator::Key)?.is_some() {
@@ -173,7 +184,7 @@ impl<T: Input> Machine<T> {
         }
         if let Some(span) = self.pass(Indicator::BlockEnd)? {
             self.pop();
-            tell(next, Event::MappingEnd, span);
+            tell_over(next, Event::MappingEnd, span);
             return Ok(());
         }
         if !self.tells_block_key(next) {
@@ -185,6 +196,7 @@ impl<T: Input> Machine<T> {
     // The same with the stop kept, as a call of its own: such tokens are rare.
     #[inline(never)]
     fn tells_block_key<'input>(&mut self, next: &mut (Event<'input>, Span)) -> bool
+        requires { has_tag next.old.0 ≡ false }
         ensures { TellsBy spec.block_mapping_key self.old (answer_of result self.new.stop) next.new self.new }
     {
         let ended = self.any_block_key(next);
@@ -194,6 +206,7 @@ impl<T: Input> Machine<T> {
     // The same for any token.
     #[tactic(auto, unfolding(crate::specs::Steps::Block::block_mapping_key))]
     fn any_block_key<'input>(&mut self, next: &mut (Event<'input>, Span)) -> Result<(), Stop>
+        requires { has_tag next.old.0 ≡ false }
         ensures { TellsBy spec.block_mapping_key self.old result next.new self.new }
     {
         let token = self.take()?;
@@ -208,7 +221,7 @@ impl<T: Input> Machine<T> {
             }
             TokenType::BlockEnd => {
                 self.pop();
-                tell(next, Event::MappingEnd, place_of(token));
+                tell_over(next, Event::MappingEnd, place_of(token));
             }
             _ => return Err(refuse(FaultText::BlockMappingKeyExpected, place_of(token).start)),
         }
@@ -219,6 +232,7 @@ impl<T: Input> Machine<T> {
     #[inline(always)]
     #[tactic(auto, unfolding(crate::specs::Steps::Block::block_key_node))]
     fn block_key_node<'input>(&mut self, next: &mut (Event<'input>, Span)) -> Result<(), Stop>
+        requires { has_tag next.old.0 ≡ false }
         ensures { TellsBy spec.block_key_node self.old result next.new self.new }
     {
         let token = self.take()?;
@@ -243,6 +257,7 @@ impl<T: Input> Machine<T> {
         &mut self,
         next: &mut (Event<'input>, Span),
     ) -> Result<(), Stop>
+        requires { has_tag next.old.0 ≡ false }
         ensures { TellsBy spec.block_mapping_value self.old result next.new self.new }
     {
         if let Some(colon) = self.pass(Indicator::Value)? {
@@ -258,6 +273,7 @@ impl<T: Input> Machine<T> {
     // The same with the stop kept, as a call of its own: such tokens are rare.
     #[inline(never)]
     fn tells_block_value<'input>(&mut self, next: &mut (Event<'input>, Span)) -> bool
+        requires { has_tag next.old.0 ≡ false }
         ensures { TellsBy spec.block_mapping_value self.old (answer_of result self.new.stop) next.new self.new }
     {
         let ended = self.any_block_value(next);
@@ -267,6 +283,7 @@ impl<T: Input> Machine<T> {
     // The same for any token.
     #[tactic(auto, unfolding(crate::specs::Steps::Block::block_mapping_value))]
     fn any_block_value<'input>(&mut self, next: &mut (Event<'input>, Span)) -> Result<(), Stop>
+        requires { has_tag next.old.0 ≡ false }
         ensures { TellsBy spec.block_mapping_value self.old result next.new self.new }
     {
         let token = self.take()?;
@@ -288,6 +305,7 @@ impl<T: Input> Machine<T> {
         colon: Span,
         next: &mut (Event<'input>, Span),
     ) -> Result<(), Stop>
+        requires { has_tag next.old.0 ≡ false }
         ensures { TellsBy (spec.block_value_node colon) self.old result next.new self.new }
     {
         let token = self.take()?;

@@ -66,7 +66,7 @@ impl<T: CloneInput> Machine<T> {
                 scanner,
                 token,
                 end: self.end,
-                state: self.state,
+                state: self.state.copied(),
                 states,
                 anchors,
                 prefixes,

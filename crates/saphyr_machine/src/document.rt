@@ -1,7 +1,7 @@
 //! The states at the beginnings and the ends of the stream and of documents, with the directives
 //! (YAML 1.2.2, 6.8 and chapter 9).
 
-ghost use Rattle.std.specs.Prelude.{◌≡◌, ℕ, List, None, string_bytes};
+ghost use Rattle.std.specs.Prelude.{◌≡◌, ℕ, List, None, false, string_bytes};
 ghost use Rattle.saphyr_scanner.specs.Views.Tokens.{kind_of};
 ghost use Rattle.saphyr_machine.specs.Steps.Documents as spec;
 
@@ -91,6 +91,7 @@ impl<T: Input> Machine<T> {
     ghost use Rattle.std.specs.Prelude.{IfOk};
     ghost use Rattle.saphyr_scalar.specs.Views.Reader.{Moves};
     ghost use Rattle.saphyr_scanner.specs.Views.Tokens.{piece};
+    ghost use Rattle.saphyr_machine.specs.Views.Events.{has_tag};
     ghost use Rattle.saphyr_machine.specs.Views.Machines.{machine_of, TellsBy, TakesBy};
     ghost use Rattle.saphyr_machine.specs.Steps.Machine as machine;
     ghost use Rattle.saphyr_machine.specs.Events as events;
@@ -185,7 +186,7 @@ impl<T: Input> Machine<T> {
         let token = self.take()?;
         match token.kind {
             TokenType::StreamStart => {
-                self.state = State::ImplicitDocumentStart;
+                self.state.set(State::ImplicitDocumentStart);
                 tell(next, Event::StreamStart, place_of(token));
                 Ok(())
             }
@@ -208,7 +209,7 @@ impl<T: Input> Machine<T> {
     {
         self.anchors.forget();
         self.push(State::DocumentEnd)?;
-        self.state = state;
+        self.state.set(state);
         tell(next, Event::DocumentStart(explicit), span);
         Ok(())
     }
@@ -262,7 +263,7 @@ impl<T: Input> Machine<T> {
         let token = self.pass_marks(true)?;
         match token.kind {
             TokenType::StreamEnd => {
-                self.state = State::End;
+                self.state.set(State::End);
                 tell(next, Event::StreamEnd, place_of(token));
                 Ok(())
             }
@@ -285,7 +286,7 @@ impl<T: Input> Machine<T> {
         let token = self.pass_marks(true)?;
         match token.kind {
             TokenType::StreamEnd => {
-                self.state = State::End;
+                self.state.set(State::End);
                 tell(next, Event::StreamEnd, place_of(token));
                 Ok(())
             }
@@ -299,6 +300,7 @@ impl<T: Input> Machine<T> {
         &mut self,
         next: &mut (Event<'input>, Span),
     ) -> Result<(), Stop>
+        requires { has_tag next.old.0 ≡ false }
         ensures { TellsBy spec.document_content self.old result next.new self.new }
     {
         let token = self.take()?;
@@ -366,7 +368,7 @@ impl<T: Input> Machine<T> {
         match token.kind {
             TokenType::DocumentEnd => {
                 let _ = place_of(token);
-                self.state = State::ImplicitDocumentStart;
+                self.state.set(State::ImplicitDocumentStart);
             }
             TokenType::VersionDirective(..)
             | TokenType::TagDirective(..)
@@ -375,7 +377,7 @@ impl<T: Input> Machine<T> {
             }
             _ => {
                 self.put_back(token);
-                self.state = State::DocumentStart;
+                self.state.set(State::DocumentStart);
             }
         }
         tell(next, Event::DocumentEnd, span);

@@ -147,15 +147,32 @@ impl<'input> Event<'input> {
         drop(replace(self, Event::Nothing));
     }
 
+    // Drops a tag, with the rest.
+    #[inline(always)]
+    pub(super) fn clear_tagged(&mut self)
+        ensures { has_tag self.new ≡ false }
+    {
+        if self.is_tagged() {
+            self.clear();
+        }
+    }
+
+    // Writes an event over one that has no tag, and whose text was taken out before.
+    #[inline(always)]
+    pub(super) fn write_over_untagged(&mut self, event: Event<'input>)
+        requires { has_tag self.old ≡ false }
+        ensures { self.new ≡ event.entry }
+    {
+        replace(self, event).let_go();
+    }
+
     // Writes an event into this place, whose text was taken out before. For speed it only checks for a tag.
     #[inline(always)]
     pub(super) fn write_over(&mut self, event: Event<'input>)
         ensures { self.new ≡ event.entry }
     {
-        if self.is_tagged() {
-            self.clear();
-        }
-        replace(self, event).let_go();
+        self.clear_tagged();
+        self.write_over_untagged(event);
     }
 }
 

@@ -1,11 +1,11 @@
 //! The states inside flow collections (YAML 1.2.2, 7.4).
 
-ghost use Rattle.std.specs.Prelude.{◌≡◌, None, Ok};
+ghost use Rattle.std.specs.Prelude.{◌≡◌, None, Ok, false};
 ghost use Rattle.saphyr_machine.specs.Steps.Flow as spec;
 
 use crate::context::NodeContext;
 use crate::event::Event;
-use crate::machine::{Machine, place_of, refuse, tell};
+use crate::machine::{Machine, place_of, refuse, tell_over};
 use crate::state::State;
 use saphyr_input::input::Input;
 use saphyr_scalar::{FaultText, Marker, Span, Stop};
@@ -14,6 +14,7 @@ use saphyr_scanner::{Indicator, Token, TokenType};
 impl<T: Input> Machine<T> {
     ghost use Rattle.saphyr_scanner.specs.Views.Engine.{answer_of};
     ghost use Rattle.saphyr_scanner.specs.Views.Tokens.{piece};
+    ghost use Rattle.saphyr_machine.specs.Views.Events.{has_tag};
     ghost use Rattle.saphyr_machine.specs.Views.Machines.{machine_of, told_event_of, TellsBy};
 
     // The first entry of a flow sequence, or the end of the sequence. It is separate from entries after a comma for
@@ -22,6 +23,7 @@ impl<T: Input> Machine<T> {
         &mut self,
         next: &mut (Event<'input>, Span),
     ) -> Result<(), Stop>
+        requires { has_tag next.old.0 ≡ false }
         ensures { TellsBy spec.flow_sequence_first_entry self.old result next.new self.new }
     {
         self.flow_sequence_item(next)
@@ -31,17 +33,18 @@ impl<T: Input> Machine<T> {
     #[inline(always)]
     #[tactic(auto, unfolding(crate::specs::Steps::Flow::flow_sequence_first_entry))]
     fn flow_sequence_item<'input>(&mut self, next: &mut (Event<'input>, Span)) -> Result<(), Stop>
+        requires { has_tag next.old.0 ≡ false }
         ensures { TellsBy spec.flow_sequence_first_entry self.old result next.new self.new }
     {
         let token = self.take()?;
         match token.kind {
             TokenType::FlowSequenceEnd => {
                 self.pop();
-                tell(next, Event::SequenceEnd, place_of(token));
+                tell_over(next, Event::SequenceEnd, place_of(token));
             }
             TokenType::Key => {
-                self.state = State::FlowSequenceEntryMappingKey;
-                tell(next, Event::MappingStart(0, None), place_of(token));
+                self.state.set(State::FlowSequenceEntryMappingKey);
+                tell_over(next, Event::MappingStart(0, None), place_of(token));
             }
             _ => self.inside(State::FlowSequenceEntry, NodeContext::Flow, token, next)?,
         }
@@ -55,6 +58,7 @@ impl<T: Input> Machine<T> {
         &mut self,
         next: &mut (Event<'input>, Span),
     ) -> Result<(), Stop>
+        requires { has_tag next.old.0 ≡ false }
         ensures { TellsBy spec.flow_sequence_entry self.old result next.new self.new }
     {
         if self.pass(Indicator::Entry)?.is_some() {
@@ -63,7 +67,7 @@ impl<T: Input> Machine<T> {
         }
         if let Some(span) = self.pass(Indicator::SequenceEnd)? {
             self.pop();
-            tell(next, Event::SequenceEnd, span);
+            tell_over(next, Event::SequenceEnd, span);
             return Ok(());
         }
         if !self.tells_flow_entry(next) {
@@ -75,6 +79,7 @@ impl<T: Input> Machine<T> {
     // The same with the stop kept, as a call of its own: such tokens are rare.
     #[inline(never)]
     fn tells_flow_entry<'input>(&mut self, next: &mut (Event<'input>, Span)) -> bool
+        requires { has_tag next.old.0 ≡ false }
         ensures { TellsBy spec.flow_sequence_entry self.old (answer_of result self.new.stop) next.new self.new }
     {
         let ended = self.any_flow_entry(next);
@@ -84,13 +89,14 @@ impl<T: Input> Machine<T> {
     // The same for any token.
     #[tactic(auto, unfolding(crate::specs::Steps::Flow::flow_sequence_entry))]
     fn any_flow_entry<'input>(&mut self, next: &mut (Event<'input>, Span)) -> Result<(), Stop>
+        requires { has_tag next.old.0 ≡ false }
         ensures { TellsBy spec.flow_sequence_entry self.old result next.new self.new }
     {
         let token = self.take()?;
         match token.kind {
             TokenType::FlowSequenceEnd => {
                 self.pop();
-                tell(next, Event::SequenceEnd, place_of(token));
+                tell_over(next, Event::SequenceEnd, place_of(token));
             }
             TokenType::FlowEntry => {
                 let _ = place_of(token);
@@ -107,6 +113,7 @@ impl<T: Input> Machine<T> {
         &mut self,
         next: &mut (Event<'input>, Span),
     ) -> Result<(), Stop>
+        requires { has_tag next.old.0 ≡ false }
         ensures { TellsBy spec.flow_sequence_entry_mapping_key self.old result next.new self.new }
     {
         let token = self.take()?;
@@ -131,6 +138,7 @@ impl<T: Input> Machine<T> {
         &mut self,
         next: &mut (Event<'input>, Span),
     ) -> Result<(), Stop>
+        requires { has_tag next.old.0 ≡ false }
         ensures { TellsBy spec.flow_sequence_entry_mapping_value self.old result next.new self.new }
     {
         let token = self.take()?;
@@ -159,6 +167,7 @@ impl<T: Input> Machine<T> {
         &mut self,
         next: &mut (Event<'input>, Span),
     ) -> Result<(), Stop>
+        requires { has_tag next.old.0 ≡ false }
         ensures { TellsBy spec.flow_sequence_entry_mapping_node self.old result next.new self.new }
     {
         let token = self.take()?;
@@ -180,15 +189,16 @@ impl<T: Input> Machine<T> {
         place: Marker,
         next: &mut (Event<'input>, Span),
     )
+        requires { has_tag next.old.0 ≡ false }
         ensures { spec.flow_sequence_entry_mapping_end place (machine_of self.old)
             ≡ Ok (told_event_of (machine_of self.new) next.new) }
     {
-        self.state = State::FlowSequenceEntry;
+        self.state.set(State::FlowSequenceEntry);
         let span = Span {
             start: place,
             end: place,
         };
-        tell(next, Event::MappingEnd, span);
+        tell_over(next, Event::MappingEnd, span);
     }
 
     // The first pair of a flow mapping, or its end. For speed no token is made of a key's indicator.
@@ -197,6 +207,7 @@ impl<T: Input> Machine<T> {
         &mut self,
         next: &mut (Event<'input>, Span),
     ) -> Result<(), Stop>
+        requires { has_tag next.old.0 ≡ false }
         ensures { TellsBy spec.flow_mapping_first_key self.old result next.new self.new }
     {
         if self.pass(Indicator::Key)?.is_some() {
@@ -212,6 +223,7 @@ impl<T: Input> Machine<T> {
     // The same with the stop kept, as a call of its own: such tokens are rare.
     #[inline(never)]
     fn tells_first_flow_key<'input>(&mut self, next: &mut (Event<'input>, Span)) -> bool
+        requires { has_tag next.old.0 ≡ false }
         ensures { TellsBy spec.flow_mapping_first_key self.old (answer_of result self.new.stop) next.new self.new }
     {
         let ended = self.any_first_flow_key(next);
@@ -221,6 +233,7 @@ impl<T: Input> Machine<T> {
     // The same for any token.
     #[tactic(auto, unfolding(crate::specs::Steps::Flow::flow_mapping_first_key))]
     fn any_first_flow_key<'input>(&mut self, next: &mut (Event<'input>, Span)) -> Result<(), Stop>
+        requires { has_tag next.old.0 ≡ false }
         ensures { TellsBy spec.flow_mapping_first_key self.old result next.new self.new }
     {
         let token = self.take()?;
@@ -236,6 +249,7 @@ impl<T: Input> Machine<T> {
         &mut self,
         next: &mut (Event<'input>, Span),
     ) -> Result<(), Stop>
+        requires { has_tag next.old.0 ≡ false }
         ensures { TellsBy spec.flow_mapping_key self.old result next.new self.new }
     {
         if let Some(comma) = self.pass(Indicator::Entry)? {
@@ -244,7 +258,7 @@ impl<T: Input> Machine<T> {
         }
         if let Some(span) = self.pass(Indicator::MappingEnd)? {
             self.pop();
-            tell(next, Event::MappingEnd, span);
+            tell_over(next, Event::MappingEnd, span);
             return Ok(());
         }
         if !self.tells_flow_key(next) {
@@ -256,6 +270,7 @@ impl<T: Input> Machine<T> {
     // The same with the stop kept, as a call of its own: such tokens are rare.
     #[inline(never)]
     fn tells_flow_key<'input>(&mut self, next: &mut (Event<'input>, Span)) -> bool
+        requires { has_tag next.old.0 ≡ false }
         ensures { TellsBy spec.flow_mapping_key self.old (answer_of result self.new.stop) next.new self.new }
     {
         let ended = self.any_flow_key(next);
@@ -265,13 +280,14 @@ impl<T: Input> Machine<T> {
     // The same for any token.
     #[tactic(auto, unfolding(crate::specs::Steps::Flow::flow_mapping_key))]
     fn any_flow_key<'input>(&mut self, next: &mut (Event<'input>, Span)) -> Result<(), Stop>
+        requires { has_tag next.old.0 ≡ false }
         ensures { TellsBy spec.flow_mapping_key self.old result next.new self.new }
     {
         let token = self.take()?;
         match token.kind {
             TokenType::FlowMappingEnd => {
                 self.pop();
-                tell(next, Event::MappingEnd, place_of(token));
+                tell_over(next, Event::MappingEnd, place_of(token));
             }
             TokenType::FlowEntry => self.flow_mapping_pair_behind_comma(place_of(token), next)?,
             _ => return Err(refuse(FaultText::FlowMappingEndExpected, place_of(token).start)),
@@ -286,6 +302,7 @@ impl<T: Input> Machine<T> {
         comma: Span,
         next: &mut (Event<'input>, Span),
     ) -> Result<(), Stop>
+        requires { has_tag next.old.0 ≡ false }
         ensures { TellsBy (spec.flow_mapping_pair_behind_comma comma) self.old result next.new
             self.new }
     {
@@ -306,6 +323,7 @@ impl<T: Input> Machine<T> {
         comma: Span,
         next: &mut (Event<'input>, Span),
     ) -> bool
+        requires { has_tag next.old.0 ≡ false }
         ensures { TellsBy (spec.flow_mapping_pair_behind_comma comma) self.old
             (answer_of result self.new.stop) next.new self.new }
     {
@@ -319,6 +337,7 @@ impl<T: Input> Machine<T> {
         comma: Span,
         next: &mut (Event<'input>, Span),
     ) -> Result<(), Stop>
+        requires { has_tag next.old.0 ≡ false }
         ensures { TellsBy (spec.flow_mapping_pair_behind_comma comma) self.old result next.new
             self.new }
     {
@@ -335,7 +354,8 @@ impl<T: Input> Machine<T> {
         token: Token,
         next: &mut (Event<'input>, Span),
     ) -> Result<(), Stop>
-        requires { self.old.token ≡ None }
+        requires room { self.old.token ≡ None }
+        requires untagged { has_tag next.old.0 ≡ false }
         ensures { TellsBy (spec.flow_mapping_pair_at (piece token).kind end (piece token))
             self.old result next.new self.new }
     {
@@ -350,7 +370,7 @@ impl<T: Input> Machine<T> {
             }
             TokenType::FlowMappingEnd => {
                 self.pop();
-                tell(next, Event::MappingEnd, end);
+                tell_over(next, Event::MappingEnd, end);
                 let _ = place_of(token);
             }
             _ => self.inside(State::FlowMappingEmptyValue, NodeContext::Flow, token, next)?,
@@ -362,6 +382,7 @@ impl<T: Input> Machine<T> {
     #[inline(always)]
     #[tactic(auto, unfolding(crate::specs::Steps::Flow::flow_key_node))]
     fn flow_key_node<'input>(&mut self, next: &mut (Event<'input>, Span)) -> Result<(), Stop>
+        requires { has_tag next.old.0 ≡ false }
         ensures { TellsBy spec.flow_key_node self.old result next.new self.new }
     {
         let token = self.take()?;
@@ -381,6 +402,7 @@ impl<T: Input> Machine<T> {
         &mut self,
         next: &mut (Event<'input>, Span),
     ) -> Result<(), Stop>
+        requires { has_tag next.old.0 ≡ false }
         ensures { TellsBy spec.flow_mapping_value self.old result next.new self.new }
     {
         if let Some(colon) = self.pass(Indicator::Value)? {
@@ -396,6 +418,7 @@ impl<T: Input> Machine<T> {
     // The same with the stop kept, as a call of its own: such tokens are rare.
     #[inline(never)]
     fn tells_flow_value<'input>(&mut self, next: &mut (Event<'input>, Span)) -> bool
+        requires { has_tag next.old.0 ≡ false }
         ensures { TellsBy spec.flow_mapping_value self.old (answer_of result self.new.stop) next.new self.new }
     {
         let ended = self.any_flow_value(next);
@@ -405,6 +428,7 @@ impl<T: Input> Machine<T> {
     // The same for any token.
     #[tactic(auto, unfolding(crate::specs::Steps::Flow::flow_mapping_value))]
     fn any_flow_value<'input>(&mut self, next: &mut (Event<'input>, Span)) -> Result<(), Stop>
+        requires { has_tag next.old.0 ≡ false }
         ensures { TellsBy spec.flow_mapping_value self.old result next.new self.new }
     {
         let token = self.take()?;
@@ -426,6 +450,7 @@ impl<T: Input> Machine<T> {
         colon: Span,
         next: &mut (Event<'input>, Span),
     ) -> Result<(), Stop>
+        requires { has_tag next.old.0 ≡ false }
         ensures { TellsBy (spec.flow_value_node colon) self.old result next.new self.new }
     {
         let token = self.take()?;
@@ -444,6 +469,7 @@ impl<T: Input> Machine<T> {
         &mut self,
         next: &mut (Event<'input>, Span),
     ) -> Result<(), Stop>
+        requires { has_tag next.old.0 ≡ false }
         ensures { TellsBy spec.flow_mapping_empty_value self.old result next.new self.new }
     {
         let token = self.take()?;

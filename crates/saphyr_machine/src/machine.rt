@@ -2,16 +2,17 @@
 //! `block` and `flow` have the functions of the states, `node` reads the nodes, and `step` chooses the state's
 //! function.
 
-ghost use Rattle.std.specs.Prelude.{◌≡◌, None};
+ghost use Rattle.std.specs.Prelude.{◌≡◌, None, false};
 ghost use Rattle.saphyr_scanner.specs.Views.Tokens.{piece};
 ghost use Rattle.saphyr_machine.specs.Events.{empty_scalar};
 ghost use Rattle.saphyr_machine.specs.Steps.Machine as spec;
+ghost use Rattle.saphyr_machine.specs.Views.Events.{has_tag};
 
 use crate::anchors::Anchors;
 use crate::event::Event;
 use crate::prefixes::Prefixes;
 use crate::state::State;
-use crate::states::States;
+use crate::states::{Expected, States};
 use saphyr_input::input::Input;
 use saphyr_scalar::{FaultText, Marker, Refusal, ScalarStyle, Span, Stop};
 use saphyr_scanner::{Indicator, Scanner, Token};
@@ -32,7 +33,7 @@ pub struct Machine<T: Input> {
     // What ends the tokens of the scanner, where its caller says so.
     pub(super) end: Option<Refusal>,
     // What is expected next.
-    pub(super) state: State,
+    pub(super) state: Expected,
     // What is expected after each node that is open.
     pub(super) states: States,
     // The anchors of the document, which its aliases name.
@@ -71,6 +72,16 @@ pub(super) fn tell<'input>(next: &mut (Event<'input>, Span), event: Event<'input
     next.1 = span;
 }
 
+// The same over an event that has no tag. For speed that isn't tested.
+#[inline(always)]
+pub(super) fn tell_over<'input>(next: &mut (Event<'input>, Span), event: Event<'input>, span: Span)
+    requires { has_tag next.old.0 ≡ false }
+    ensures { next.new ≡ (event.entry, span) }
+{
+    next.0.write_over_untagged(event);
+    next.1 = span;
+}
+
 impl<T: Input> Machine<T> {
     ghost use Rattle.std.specs.Prelude.{IfOk, IfNone, IfSome, Ok};
     ghost use Rattle.saphyr_scalar.specs.Views.Reader.{Moves};
@@ -86,7 +97,7 @@ impl<T: Input> Machine<T> {
             scanner,
             token: None,
             end: None,
-            state: State::StreamStart,
+            state: Expected::new(),
             states: States::new(alloc),
             anchors: Anchors::new(alloc),
             prefixes: Prefixes::new(alloc),
@@ -185,10 +196,11 @@ impl<T: Input> Machine<T> {
         ensures moved { machine_of self.new ≡ spec.pop (machine_of self.old) }
         ensures room { self.new.token ≡ self.old.token }
     {
-        self.state = match self.states.pop() {
+        let state = match self.states.pop() {
             Some(state) => state,
             None => State::End,
         };
+        self.state.set(state);
     }
 
     // What is expected after the node that begins.
@@ -224,12 +236,13 @@ impl<T: Input> Machine<T> {
         span: Span,
         next: &mut (Event<'input>, Span),
     )
-        requires { self.old.token ≡ None }
+        requires room { self.old.token ≡ None }
+        requires untagged { has_tag next.old.0 ≡ false }
         ensures { spec.left_out_event (piece token) state span (machine_of self.old)
             ≡ Ok (told_event_of (machine_of self.new) next.new) }
     {
         self.put_back(token);
-        self.state = state;
-        tell(next, self.empty_scalar(), span);
+        self.state.set(state);
+        tell_over(next, self.empty_scalar(), span);
     }
 }

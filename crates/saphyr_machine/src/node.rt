@@ -1,12 +1,12 @@
 //! The event with which a node begins: an alias, or properties and the content after them (YAML
 //! 1.2.2, 6.9, 7.1, 7.5 and 8.2.3).
 
-ghost use Rattle.std.specs.Prelude.{◌≡◌, None, string_bytes};
+ghost use Rattle.std.specs.Prelude.{◌≡◌, None, false, string_bytes};
 ghost use Rattle.saphyr_machine.specs.Steps.Nodes as spec;
 
 use crate::context::NodeContext;
 use crate::event::Event;
-use crate::machine::{Machine, place_of, refuse, tell};
+use crate::machine::{Machine, place_of, refuse, tell, tell_over};
 use crate::state::State;
 use crate::tag::Tag;
 use saphyr_input::input::Input;
@@ -53,6 +53,7 @@ impl<T: Input> Machine<T> {
     ghost use Rattle.saphyr_scalar.specs.Views.Reader.{Moves};
     ghost use Rattle.saphyr_scanner.specs.Views.Engine.{answer_of};
     ghost use Rattle.saphyr_scanner.specs.Views.Tokens.{piece};
+    ghost use Rattle.saphyr_machine.specs.Views.Events.{has_tag};
     ghost use Rattle.saphyr_machine.specs.Views.Machines.{machine_of, resolved_tag, told_event_of, TellsBy};
     ghost use Rattle.saphyr_machine.specs.Views.Nodes.{properties as seen};
     ghost use Rattle.saphyr_machine.specs.Steps.Machine.{Machine as Seen, next_id};
@@ -96,7 +97,7 @@ impl<T: Input> Machine<T> {
         ensures { told_event_of (machine_of self.new) next.new
             ≡ spec.opened_sequence state (seen properties) place (machine_of self.old) }
     {
-        self.state = state;
+        self.state.set(state);
         let span = properties.up_to(place);
         let Properties { anchor, tag, .. } = properties;
         tell(next, Event::SequenceStart(anchor, tag), span);
@@ -113,7 +114,7 @@ impl<T: Input> Machine<T> {
         ensures { told_event_of (machine_of self.new) next.new
             ≡ spec.opened_mapping state (seen properties) place (machine_of self.old) }
     {
-        self.state = state;
+        self.state.set(state);
         let span = properties.up_to(place);
         let Properties { anchor, tag, .. } = properties;
         tell(next, Event::MappingStart(anchor, tag), span);
@@ -517,7 +518,8 @@ impl<T: Input> Machine<T> {
         token: Token,
         next: &mut (Event<'input>, Span),
     ) -> Result<(), Stop>
-        requires { self.old.token ≡ None }
+        requires room { self.old.token ≡ None }
+        requires untagged { has_tag next.old.0 ≡ false }
         ensures { TellsBy (spec.node context (piece token)) self.old result next.new self.new }
     {
         let Token { span, kind } = token;
@@ -525,28 +527,28 @@ impl<T: Input> Machine<T> {
             TokenType::Scalar(style, text) => {
                 let event = Event::Scalar(CowStr::Owned(text), style, 0, None);
                 self.pop();
-                tell(next, event, span);
+                tell_over(next, event, span);
             }
             TokenType::FlowSequenceStart => {
-                self.state = State::FlowSequenceFirstEntry;
-                tell(next, Event::SequenceStart(0, None), span);
+                self.state.set(State::FlowSequenceFirstEntry);
+                tell_over(next, Event::SequenceStart(0, None), span);
             }
             TokenType::FlowMappingStart => {
-                self.state = State::FlowMappingFirstKey;
-                tell(next, Event::MappingStart(0, None), span);
+                self.state.set(State::FlowMappingFirstKey);
+                tell_over(next, Event::MappingStart(0, None), span);
             }
             TokenType::BlockSequenceStart if context.allows_block() => {
-                self.state = State::BlockSequenceEntry;
-                tell(next, Event::SequenceStart(0, None), span);
+                self.state.set(State::BlockSequenceEntry);
+                tell_over(next, Event::SequenceStart(0, None), span);
             }
             TokenType::BlockMappingStart if context.allows_block() => {
-                self.state = State::BlockMappingKey;
-                tell(next, Event::MappingStart(0, None), span);
+                self.state.set(State::BlockMappingKey);
+                tell_over(next, Event::MappingStart(0, None), span);
             }
             TokenType::BlockEntry if context.allows_indentless() => {
                 self.put_back(Token { span, kind });
-                self.state = State::IndentlessSequenceEntry;
-                tell(next, Event::SequenceStart(0, None), span);
+                self.state.set(State::IndentlessSequenceEntry);
+                tell_over(next, Event::SequenceStart(0, None), span);
             }
             kind => {
                 if !self.tells_rare_node(context, Token { span, kind }, next) {
@@ -568,7 +570,8 @@ impl<T: Input> Machine<T> {
         token: Token,
         next: &mut (Event<'input>, Span),
     ) -> Result<(), Stop>
-        requires { self.old.token ≡ None }
+        requires room { self.old.token ≡ None }
+        requires untagged { has_tag next.old.0 ≡ false }
         ensures { TellsBy (spec.node_inside state context (piece token))
             self.old result next.new self.new }
     {
@@ -576,8 +579,8 @@ impl<T: Input> Machine<T> {
         match kind {
             TokenType::Scalar(style, text) => {
                 let event = Event::Scalar(CowStr::Owned(text), style, 0, None);
-                self.state = state;
-                tell(next, event, span);
+                self.state.set(state);
+                tell_over(next, event, span);
             }
             kind => match self.push(state) {
                 Ok(()) => self.node(context, Token { span, kind }, next)?,

@@ -121,7 +121,7 @@ impl<'input, T: Input> EventReader<'input, T> {
         ensures { result ≡ documents.is_outside (cursor self.now).machine.state }
     {
         matches!(
-            self.machine.state,
+            self.machine.state.get(),
             State::ImplicitDocumentStart | State::DocumentStart
         )
     }
@@ -130,7 +130,7 @@ impl<'input, T: Input> EventReader<'input, T> {
     pub fn is_over(&self) -> bool
         ensures { result ≡ documents.is_over (cursor self.now).machine.state }
     {
-        matches!(self.machine.state, State::End)
+        matches!(self.machine.state.get(), State::End)
     }
 
     /// Sets whether prefixes of tags hold for later documents too. The setting takes effect from the next end of a

@@ -102,6 +102,107 @@ impl StateKind {
     }
 }
 
+/// What is expected next. Contracts see the state. For speed its kind is a byte, and the place that one kind has stands
+/// beside it, so that mostly a byte is written.
+#[derive(Drop)]
+pub(super) struct Expected {
+    kind: StateKind,
+    place: Marker,
+}
+
+impl Model for Expected {
+    ghost use Rattle.saphyr_machine.specs.declared.state.State.{State};
+    ghost use Rattle.saphyr_machine.specs.Views.States.{state_at};
+
+    ghost Value = { State };
+
+    ghost view = { λ e. state_at e.kind e.place };
+}
+
+impl Expected {
+    ghost use Rattle.saphyr_machine.specs.declared.state.State.TheVariants.{StreamStart};
+
+    pub(super) fn new() -> Self
+        ensures { result ≡ StreamStart }
+    {
+        Expected {
+            kind: StateKind::StreamStart,
+            place: Marker::new(0, 0, 0),
+        }
+    }
+
+    /// The same.
+    pub(super) fn copied(&self) -> Self
+        ensures { result ≡ self.now }
+    {
+        Expected {
+            kind: self.kind,
+            place: self.place,
+        }
+    }
+
+    #[inline(always)]
+    pub(super) fn set(&mut self, state: State)
+        ensures { self.new ≡ state }
+    {
+        self.kind = match state {
+            State::StreamStart => StateKind::StreamStart,
+            State::ImplicitDocumentStart => StateKind::ImplicitDocumentStart,
+            State::DocumentStart => StateKind::DocumentStart,
+            State::DocumentContent => StateKind::DocumentContent,
+            State::DocumentEnd => StateKind::DocumentEnd,
+            State::BlockNode => StateKind::BlockNode,
+            State::BlockSequenceEntry => StateKind::BlockSequenceEntry,
+            State::IndentlessSequenceEntry => StateKind::IndentlessSequenceEntry,
+            State::BlockMappingKey => StateKind::BlockMappingKey,
+            State::BlockMappingValue => StateKind::BlockMappingValue,
+            State::FlowSequenceFirstEntry => StateKind::FlowSequenceFirstEntry,
+            State::FlowSequenceEntry => StateKind::FlowSequenceEntry,
+            State::FlowSequenceEntryMappingKey => StateKind::FlowSequenceEntryMappingKey,
+            State::FlowSequenceEntryMappingValue => StateKind::FlowSequenceEntryMappingValue,
+            State::FlowSequenceEntryMappingEnd(place) => {
+                self.place = place;
+                StateKind::FlowSequenceEntryMappingEnd
+            }
+            State::FlowMappingFirstKey => StateKind::FlowMappingFirstKey,
+            State::FlowMappingKey => StateKind::FlowMappingKey,
+            State::FlowMappingValue => StateKind::FlowMappingValue,
+            State::FlowMappingEmptyValue => StateKind::FlowMappingEmptyValue,
+            State::End => StateKind::End,
+        };
+    }
+
+    #[inline(always)]
+    pub(super) fn get(&self) -> State
+        ensures { result ≡ self.now }
+    {
+        match self.kind {
+            StateKind::StreamStart => State::StreamStart,
+            StateKind::ImplicitDocumentStart => State::ImplicitDocumentStart,
+            StateKind::DocumentStart => State::DocumentStart,
+            StateKind::DocumentContent => State::DocumentContent,
+            StateKind::DocumentEnd => State::DocumentEnd,
+            StateKind::BlockNode => State::BlockNode,
+            StateKind::BlockSequenceEntry => State::BlockSequenceEntry,
+            StateKind::IndentlessSequenceEntry => State::IndentlessSequenceEntry,
+            StateKind::BlockMappingKey => State::BlockMappingKey,
+            StateKind::BlockMappingValue => State::BlockMappingValue,
+            StateKind::FlowSequenceFirstEntry => State::FlowSequenceFirstEntry,
+            StateKind::FlowSequenceEntry => State::FlowSequenceEntry,
+            StateKind::FlowSequenceEntryMappingKey => State::FlowSequenceEntryMappingKey,
+            StateKind::FlowSequenceEntryMappingValue => State::FlowSequenceEntryMappingValue,
+            StateKind::FlowSequenceEntryMappingEnd => {
+                State::FlowSequenceEntryMappingEnd(self.place)
+            }
+            StateKind::FlowMappingFirstKey => State::FlowMappingFirstKey,
+            StateKind::FlowMappingKey => State::FlowMappingKey,
+            StateKind::FlowMappingValue => State::FlowMappingValue,
+            StateKind::FlowMappingEmptyValue => State::FlowMappingEmptyValue,
+            StateKind::End => State::End,
+        }
+    }
+}
+
 /// What is expected after each node that is open. For example after `[a, {`: the document's end, and the next entry of
 /// the sequence.
 ///

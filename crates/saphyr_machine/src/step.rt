@@ -1,6 +1,6 @@
 //! One step of the machine: the next event, by the machine's state, or the fault in its place.
 
-ghost use Rattle.std.specs.Prelude.{◌≡◌, ◌≢◌, false};
+ghost use Rattle.std.specs.Prelude.{◌≡◌, ◌≢◌, None, false};
 ghost use Rattle.saphyr_machine.specs.Steps.Expected as spec;
 
 use crate::event::Event;
@@ -16,6 +16,7 @@ use std::borrow::CowStr;
 use std::mem::replace;
 
 impl<T: Input> Machine<T> {
+    ghost use Rattle.saphyr_machine.specs.Views.Events.{has_tag};
     ghost use Rattle.saphyr_machine.specs.Views.Machines.{machine_of, TellsBy};
     ghost use Rattle.saphyr_machine.specs.Calls.{Reads, item_at};
     ghost use Rattle.saphyr_machine.specs.Faults.{IsFaultOf, is_foreign};
@@ -32,7 +33,8 @@ impl<T: Input> Machine<T> {
     // Gives back the text and the tag of the event that is overwritten, so the next one uses their memory.
     #[inline(always)]
     fn give_back<'input>(&mut self, place: &mut Event<'input>)
-        ensures { machine_of self.new ≡ machine_of self.old }
+        ensures same { machine_of self.new ≡ machine_of self.old }
+        ensures untagged { has_tag place.new ≡ false }
     {
         if let Event::Scalar(CowStr::Owned(text), _, _, _) = place {
             self.scanner
@@ -43,13 +45,16 @@ impl<T: Input> Machine<T> {
             if tag.is_some() {
                 self.give_back_tag(tag);
             }
+            return;
         }
+        place.clear_tagged();
     }
 
     // The same for the tag. It is separate for speed, since few scalars have one.
     #[inline(never)]
     fn give_back_tag(&mut self, tag: &mut Option<Tag>)
-        ensures { machine_of self.new ≡ machine_of self.old }
+        ensures same { machine_of self.new ≡ machine_of self.old }
+        ensures taken { tag.new ≡ None }
     {
         if let Some(Tag { handle, suffix }) = tag.take() {
             self.scanner.give_back_tag(TagParts { handle, suffix });
@@ -69,7 +74,7 @@ impl<T: Input> Machine<T> {
             (machine_of self.new) }
         ensures own { is_foreign (item_at next.new fault.new result) ≡ false }
     {
-        if matches!(self.state, State::End) {
+        if matches!(self.state.get(), State::End) {
             return Progress::Over;
         }
         self.give_back(&mut next.0);
@@ -89,10 +94,11 @@ impl<T: Input> Machine<T> {
     #[inline(always)]
     #[tactic(auto, unfolding(crate::specs::Steps::Expected::event_step))]
     pub(super) fn event<'input>(&mut self, next: &mut (Event<'input>, Span)) -> Result<(), Stop>
-        requires { (machine_of self.old).state ≢ End }
+        requires more { (machine_of self.old).state ≢ End }
+        requires untagged { has_tag next.old.0 ≡ false }
         ensures { TellsBy spec.event_step self.old result next.new self.new }
     {
-        match self.state {
+        match self.state.get() {
             State::StreamStart => return self.stream_start(next),
             State::ImplicitDocumentStart => return self.implicit_document_start(next),
             State::DocumentStart => return self.document_start(next),

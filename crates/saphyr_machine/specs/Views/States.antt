@@ -32,6 +32,10 @@ next_state kind.FlowMappingValue ps = (state.FlowMappingValue, ps)
 next_state kind.FlowMappingEmptyValue ps = (state.FlowMappingEmptyValue, ps)
 next_state kind.End ps = (state.End, ps)
 
+-- the state of a kind, with this place if it has one
+abbrev pub state_at : StateKind → Marker → State
+state_at k p = (next_state k (p ∷ [])).0
+
 -- the states of these kinds, with these places
 abbrev pub states_of : List StateKind → List Marker → List State
 states_of [] ps = []

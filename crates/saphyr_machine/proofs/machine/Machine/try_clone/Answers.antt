@@ -10,7 +10,7 @@ returns-in-Ok g c =
     (with_end end c.args.self.now.scanner) c.in_ok-token.ensures (ap (with_end end) c.in-Ok.ensures) in
     λ i. record {
       tokens = tokens i;
-      state = c.args.self.now.state;
+      state = c.copied.ensures i;
       states = c.in_ok-states.ensures i;
       anchors = c.in_ok-anchors.ensures i;
       prefixes = c.in_ok-prefixes.ensures i;
