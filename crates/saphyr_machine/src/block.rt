@@ -57,7 +57,8 @@ impl<T: Input> Machine<T> {
     #[inline(never)]
     fn tells_block_entry<'input>(&mut self, next: &mut (Event<'input>, Span)) -> bool
         requires { has_tag next.old.0 ≡ false }
-        ensures { TellsBy spec.block_sequence_entry self.old (answer_of result self.new.stop) next.new self.new }
+        ensures { TellsBy spec.block_sequence_entry self.old (answer_of result self.new.stop)
+            next.new self.new }
     {
         let ended = self.any_block_entry(next);
         self.keep(ended)
@@ -197,7 +198,8 @@ impl<T: Input> Machine<T> {
     #[inline(never)]
     fn tells_block_key<'input>(&mut self, next: &mut (Event<'input>, Span)) -> bool
         requires { has_tag next.old.0 ≡ false }
-        ensures { TellsBy spec.block_mapping_key self.old (answer_of result self.new.stop) next.new self.new }
+        ensures { TellsBy spec.block_mapping_key self.old (answer_of result self.new.stop)
+            next.new self.new }
     {
         let ended = self.any_block_key(next);
         self.keep(ended)
@@ -274,7 +276,8 @@ impl<T: Input> Machine<T> {
     #[inline(never)]
     fn tells_block_value<'input>(&mut self, next: &mut (Event<'input>, Span)) -> bool
         requires { has_tag next.old.0 ≡ false }
-        ensures { TellsBy spec.block_mapping_value self.old (answer_of result self.new.stop) next.new self.new }
+        ensures { TellsBy spec.block_mapping_value self.old (answer_of result self.new.stop)
+            next.new self.new }
     {
         let ended = self.any_block_value(next);
         self.keep(ended)

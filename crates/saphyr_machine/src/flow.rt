@@ -80,7 +80,8 @@ impl<T: Input> Machine<T> {
     #[inline(never)]
     fn tells_flow_entry<'input>(&mut self, next: &mut (Event<'input>, Span)) -> bool
         requires { has_tag next.old.0 ≡ false }
-        ensures { TellsBy spec.flow_sequence_entry self.old (answer_of result self.new.stop) next.new self.new }
+        ensures { TellsBy spec.flow_sequence_entry self.old (answer_of result self.new.stop)
+            next.new self.new }
     {
         let ended = self.any_flow_entry(next);
         self.keep(ended)
@@ -224,7 +225,8 @@ impl<T: Input> Machine<T> {
     #[inline(never)]
     fn tells_first_flow_key<'input>(&mut self, next: &mut (Event<'input>, Span)) -> bool
         requires { has_tag next.old.0 ≡ false }
-        ensures { TellsBy spec.flow_mapping_first_key self.old (answer_of result self.new.stop) next.new self.new }
+        ensures { TellsBy spec.flow_mapping_first_key self.old (answer_of result self.new.stop)
+            next.new self.new }
     {
         let ended = self.any_first_flow_key(next);
         self.keep(ended)
@@ -271,7 +273,8 @@ impl<T: Input> Machine<T> {
     #[inline(never)]
     fn tells_flow_key<'input>(&mut self, next: &mut (Event<'input>, Span)) -> bool
         requires { has_tag next.old.0 ≡ false }
-        ensures { TellsBy spec.flow_mapping_key self.old (answer_of result self.new.stop) next.new self.new }
+        ensures { TellsBy spec.flow_mapping_key self.old (answer_of result self.new.stop)
+            next.new self.new }
     {
         let ended = self.any_flow_key(next);
         self.keep(ended)
@@ -419,7 +422,8 @@ impl<T: Input> Machine<T> {
     #[inline(never)]
     fn tells_flow_value<'input>(&mut self, next: &mut (Event<'input>, Span)) -> bool
         requires { has_tag next.old.0 ≡ false }
-        ensures { TellsBy spec.flow_mapping_value self.old (answer_of result self.new.stop) next.new self.new }
+        ensures { TellsBy spec.flow_mapping_value self.old (answer_of result self.new.stop)
+            next.new self.new }
     {
         let ended = self.any_flow_value(next);
         self.keep(ended)

@@ -98,8 +98,8 @@ impl<T: Input> Scanner<T> {
         self.engine.take_into(token)
     }
 
-    /// Passes the next token, if it is this indicator, and returns its span. `None`: it is not, and nothing changes.
-    /// No token is made for it, which is faster where one isn't needed.
+    /// Passes the next token, if it is seen to be this indicator, and returns its span. `None`: none was passed, and the
+    /// tokens to come are the same. No token is made for it, which is faster where one isn't needed.
     #[inline(always)]
     pub fn pass(&mut self, indicator: Indicator) -> Result<Option<Span>, Stop>
         ensures { Passes (indicator_kind indicator) result self.old self.new }

@@ -7,7 +7,14 @@ ghost use Rattle.saphyr_values.specs.Flow as flow;
 ghost use Rattle.saphyr_scalar.specs.Steps.Plain.{plain};
 ghost use Rattle.saphyr_scalar.specs.declared.scalar.style.ScalarStyle.TheVariants.{Plain};
 ghost use Rattle.saphyr_scalar.specs.Views.Reader.{Moves, cursor_of};
-ghost use Rattle.saphyr_scanner.specs.Views.Places.{Fit, Fit-prop, indicator_kind, indicator_piece, near_span, tag_kind};
+ghost use Rattle.saphyr_scanner.specs.Views.Places.{
+  Fit,
+  Fit-prop,
+  indicator_kind,
+  indicator_piece,
+  near_span,
+  tag_kind,
+};
 ghost use Rattle.saphyr_scanner.specs.Views.Reads.{flow_quoted, quote_style, with_scalar};
 
 use crate::queue::Opening;
