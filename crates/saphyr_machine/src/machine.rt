@@ -87,7 +87,7 @@ impl<T: Input> Machine<T> {
     ghost use Rattle.saphyr_scalar.specs.Views.Reader.{Moves};
     ghost use Rattle.saphyr_scanner.specs.Views.Engine.{answer_of};
     ghost use Rattle.saphyr_scanner.specs.Views.Places.{indicator_kind};
-    ghost use Rattle.saphyr_machine.specs.Views.Machines.{machine_of, happening, told_event_of, PassesBy, TakesBy};
+    ghost use Rattle.saphyr_machine.specs.Views.Machines.{machine_of, happening, told_event_of, PassesTokenBy, TakesBy};
 
     // A machine that has read nothing.
     pub(super) fn new(alloc: Global, scanner: Scanner<T>) -> Self
@@ -151,7 +151,7 @@ impl<T: Input> Machine<T> {
     // Passes the next token, if it is seen to be this indicator, and returns its span. For speed no token is made.
     #[inline(always)]
     pub(super) fn pass(&mut self, indicator: Indicator) -> Result<Option<Span>, Stop>
-        ensures { PassesBy (indicator_kind indicator) self.old result self.new }
+        ensures { PassesTokenBy (indicator_kind indicator) self.old result self.new }
     {
         if let Some(token) = &self.token {
             if !indicator.is(&token.kind) {

@@ -9,7 +9,7 @@ use Rattle.saphyr_scanner.specs.declared.queue.Opening.TheVariants as opening
 use Rattle.saphyr_scanner.specs.declared.queue.row.Row.{Row}
 use Rattle.saphyr_scanner.specs.Grammar.Tokens.{BlockEnd, Kind}
 use Rattle.saphyr_scanner.specs.Steps.Queue.{Place, Queue, bare_place, empty_piece, is_empty_list, places_with_opening, take, take_place, with_piece}
-use Rattle.saphyr_scanner.specs.Views.Queue.{bare_places, row_places, in_row, with_block_ends, PassesBy}
+use Rattle.saphyr_scanner.specs.Views.Queue.{bare_places, row_places, in_row, with_block_ends, PassesOffBy}
 use Rattle.saphyr_scanner.specs.Views.Tokens.{Piece, piece}
 use Rattle.saphyr_scanner.proofs.Queues.{place_with_front}
 
@@ -44,8 +44,8 @@ row_taken (suc n) o t u ps k h e f =
 
 -- With nothing in front, the first token is what comes next.
 pub place_passed : (kind : Kind) (r : Result (Option Span) Stop) (ps qs : List Place) (p : Place) (k : ℕ) (new : Queue)
-    → ps ≡ p ∷ qs → p.opening ≡ opening.Nothing → PassesBy kind take_place r (queue_at ps k) new
-    → PassesBy kind take r (queue_at ps k) new
+    → ps ≡ p ∷ qs → p.opening ≡ opening.Nothing → PassesOffBy kind take_place r (queue_at ps k) new
+    → PassesOffBy kind take r (queue_at ps k) new
 place_passed kind (Ok (Some span)) ps qs p k new e f h =
     let place : p ≡ bare_place p.piece = ap (λ o. record { opening = o; piece = p.piece }) f in
     let same : take (queue_at ps k) ≡ take_place (queue_at ps k) = rw (e, place) refl in

@@ -9,7 +9,7 @@ use Rattle.saphyr_scanner.specs.declared.token.Token.{Token}
 use Rattle.saphyr_scanner.specs.declared.queue.Opening.{Opening}
 use Rattle.saphyr_scanner.specs.declared.queue.Opening.TheVariants as opening
 use Rattle.saphyr_scanner.specs.Grammar.Tokens.{Kind}
-use Rattle.saphyr_scanner.specs.Views.Queue.{PassesBy}
+use Rattle.saphyr_scanner.specs.Views.Queue.{PassesOffBy}
 use Rattle.saphyr_scanner.specs.Views.Tokens.{Piece, Remaining, none, before, piece, written_token, handed_token, Hands, Passes}
 use Rattle.saphyr_scanner.specs.Steps.Queue.{Place}
 use Rattle.saphyr_scanner.specs.Steps.Core.{Core}
@@ -111,7 +111,7 @@ handed_over laws limit s t u token (Err stops.OutOfMemory) old e took is = tt
 handed_over laws limit s t u token (Err (stops.Refused f)) old e took is = absurd (cc)
 
 pub passed_over : Readers → (limit : ℕ) (s t u : State) (kind : Kind) (r : Result (Option Span) Stop) (old : Remaining)
-    → fill limit s ≡ Ok t → PassesBy kind take_token r t u → remaining limit s ≡ old
+    → fill limit s ≡ Ok t → PassesOffBy kind take_token r t u → remaining limit s ≡ old
     → Passes kind r old (remaining limit u)
 passed_over laws limit s t u kind (Ok (Some span)) old e took is =
     let f = filled laws limit s t e in

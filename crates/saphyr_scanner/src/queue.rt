@@ -84,7 +84,7 @@ impl Queue {
     ghost use Rattle.saphyr_scanner.specs.Views.Tokens.{piece};
     ghost use Rattle.saphyr_scanner.specs.Views.Places.{indicator_kind, indicator_piece, tag_kind};
     ghost use Rattle.saphyr_scanner.specs.Views.Reads.{flow_quoted, queue_with_scalar, quote_style};
-    ghost use Rattle.saphyr_scanner.specs.Views.Queue.{queue, with_block_ends, HoldsNone, PassesBy, TakesOffBy};
+    ghost use Rattle.saphyr_scanner.specs.Views.Queue.{queue, with_block_ends, HoldsNone, PassesOffBy, TakesOffBy};
     ghost use Rattle.std.specs.Prelude.{◌<◌};
 
     pub(crate) fn new(alloc: Global) -> Self
@@ -386,7 +386,7 @@ impl Queue {
     /// Takes the first token off, if it is this indicator, and returns its span. No token is made for it.
     #[inline(always)]
     pub(crate) fn pass(&mut self, indicator: Indicator) -> Result<Option<Span>, Stop>
-        ensures { PassesBy (indicator_kind indicator) spec.take result (queue self.old)
+        ensures { PassesOffBy (indicator_kind indicator) spec.take result (queue self.old)
             (queue self.new) }
     {
         if self.first.count == 0 && self.second.count == 0 {

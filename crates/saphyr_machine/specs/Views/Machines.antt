@@ -56,8 +56,9 @@ TellsBy f old result next new = Moves (λ _. told_event_of (machine_of new) next
 
 -- What a call that passes the next token if it has this kind returned, and the machine that it left. `None` says that it
 -- passed none.
-abbrev pub PassesBy : {T : Type 0} → Kind → declared.Machine T → Result (Option Span) Stop → declared.Machine T → Type 0
-PassesBy kind old (Ok (Some span)) new =
+abbrev pub PassesTokenBy
+    : {T : Type 0} → Kind → declared.Machine T → Result (Option Span) Stop → declared.Machine T → Type 0
+PassesTokenBy kind old (Ok (Some span)) new =
     taken_token (machine_of old) ≡ Ok (record { span = span; kind = kind }, machine_of new)
-PassesBy kind old (Ok None) new = machine_of new ≡ machine_of old
-PassesBy kind old (Err e) new = Fails e (taken_token (machine_of old))
+PassesTokenBy kind old (Ok None) new = machine_of new ≡ machine_of old
+PassesTokenBy kind old (Err e) new = Fails e (taken_token (machine_of old))

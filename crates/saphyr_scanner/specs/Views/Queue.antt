@@ -70,6 +70,7 @@ Passed kind f (Some span) old new = f old ≡ (Some (record { span = span; kind 
 Passed kind f None old new = new ≡ old
 
 -- the same of a call, unless memory ran out
-abbrev pub PassesBy : {X : Type 0} → Kind → (X → Option Piece × X) → Result (Option Span) Stop → X → X → Type 0
-PassesBy kind f (Ok span) old new = Passed kind f span old new
-PassesBy kind f (Err e) old new = e ≡ OutOfMemory
+abbrev pub PassesOffBy
+    : {X : Type 0} → Kind → (X → Option Piece × X) → Result (Option Span) Stop → X → X → Type 0
+PassesOffBy kind f (Ok span) old new = Passed kind f span old new
+PassesOffBy kind f (Err e) old new = e ≡ OutOfMemory

@@ -60,7 +60,7 @@ impl<T: Input> Engine<T> {
     ghost use Rattle.saphyr_scanner.specs.Views.Ahead.{Leads, LeadsOn, fetched, with_second};
     ghost use Rattle.saphyr_scanner.specs.Views.Engine.{state, MovesBy, ActsBy, answer_of};
     ghost use Rattle.saphyr_scanner.specs.Views.Places.{indicator_kind};
-    ghost use Rattle.saphyr_scanner.specs.Views.Queue.{PassesBy};
+    ghost use Rattle.saphyr_scanner.specs.Views.Queue.{PassesOffBy};
     ghost use Rattle.saphyr_scanner.specs.Views.Tokens.{GivesLast, piece, written_token};
 
     // Goes on to where the next token begins.
@@ -642,7 +642,7 @@ impl<T: Input> Engine<T> {
     /// Takes the first token off the queue, if it is this indicator, and returns its span.
     #[inline(always)]
     pub(crate) fn pass(&mut self, indicator: Indicator) -> Result<Option<Span>, Stop>
-        ensures { PassesBy (indicator_kind indicator) fetch.take_token result (state self.old)
+        ensures { PassesOffBy (indicator_kind indicator) fetch.take_token result (state self.old)
             (state self.new) }
     {
         self.queue.pass(indicator)

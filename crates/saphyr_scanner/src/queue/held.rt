@@ -48,7 +48,7 @@ pub(super) struct Held {
 
 impl Held {
     ghost use Rattle.saphyr_scanner.specs.Views.Tokens.{kind_of};
-    ghost use Rattle.saphyr_scanner.specs.Views.Queue.{held_places, held_queue, PassesBy, TakesHeldBy};
+    ghost use Rattle.saphyr_scanner.specs.Views.Queue.{held_places, held_queue, PassesOffBy, TakesHeldBy};
 
     #[tactic(auto, unfolding(crate::specs::Views::Queue::held_places))]
     pub(super) fn new(alloc: Global) -> Self
@@ -400,7 +400,7 @@ impl Held {
     // Takes the first token off, if it is this indicator, and returns its span.
     #[inline(always)]
     fn pass_place(&mut self, indicator: Indicator, handed: &mut usize) -> Result<Option<Span>, Stop>
-        ensures { PassesBy (indicator_kind indicator) spec.take_place result
+        ensures { PassesOffBy (indicator_kind indicator) spec.take_place result
             (held_queue self.old handed.old) (held_queue self.new handed.new) }
     {
         let Some(count) = handed.checked_add(1) else {
@@ -424,7 +424,7 @@ impl Held {
         indicator: Indicator,
         handed: &mut usize,
     ) -> Result<Option<Span>, Stop>
-        ensures { PassesBy (indicator_kind indicator) spec.take result
+        ensures { PassesOffBy (indicator_kind indicator) spec.take result
             (held_queue self.old handed.old) (held_queue self.new handed.new) }
     {
         let Some(place) = self.places.get(self.spent) else {
