@@ -9,10 +9,13 @@
 ghost use Rattle.std.specs.Prelude.{◌≡◌};
 ghost use Rattle.std.specs.Process.{exit_status};
 
+mod line_buffer;
+
+use line_buffer::LineBuffer;
 use saphyr_parser::{refuse_source, run_dump};
 use std::env::{Env, FillError};
 use std::fs::File;
-use std::io::{BufWriter, Read};
+use std::io::Read;
 use std::process::ExitCode;
 
 /// The most bytes of an argument. Linux allows no longer one.
@@ -55,11 +58,6 @@ fn dump_file(rt: &HostRuntime, path: &str) -> u8 {
 }
 
 fn dump_from<R: Read>(rt: &HostRuntime, name: &str, source: &mut R) -> u8 {
-    let alloc = rt.alloc();
-    let mut err = rt.stderr();
-    match BufWriter::new(alloc, rt.stdout()) {
-        Ok(mut out) => run_dump(alloc, name, source, &mut out, &mut err),
-        // If there is no memory for a buffer, the lines are written as they come.
-        Err(_) => run_dump(alloc, name, source, &mut rt.stdout(), &mut err),
-    }
+    let mut out = LineBuffer::new(rt.stdout());
+    run_dump(rt.alloc(), name, source, &mut out, &mut rt.stderr())
 }
