@@ -7,7 +7,8 @@ use Rattle.saphyr_scalar.specs.declared.scalar.position.Span.{Span}
 use Rattle.saphyr_scanner.specs.declared.queue.Opening.{Opening}
 use Rattle.saphyr_scanner.specs.declared.queue.Opening.TheVariants as opening
 use Rattle.saphyr_scanner.specs.declared.queue.row.Row.{Row}
-use Rattle.saphyr_scanner.specs.Grammar.Tokens.{BlockEnd, Kind}
+use Rattle.saphyr_scalar.specs.declared.scalar.style.ScalarStyle.{ScalarStyle}
+use Rattle.saphyr_scanner.specs.Grammar.Tokens.{BlockEnd, Kind, Scalar}
 use Rattle.saphyr_scanner.specs.Steps.Queue.{Place, Queue, bare_place, empty_piece, is_empty_list, places_with_opening, take, take_place, with_piece}
 use Rattle.saphyr_scanner.specs.Views.Queue.{bare_places, row_places, in_row, with_block_ends, PassesOffBy}
 use Rattle.saphyr_scanner.specs.Views.Tokens.{Piece, piece}
@@ -41,6 +42,19 @@ row_taken zero o t u ps k h e f = absurd (omega (arith, h))
 row_taken (suc n) o t u ps k h e f =
     let same : suc n - 1 ≡ n = omega arith in
     rw (e, sym f, same) (ap (λ rs. (Some t, queue_at rs (k + 1))) (sym (bare_row n t ps)))
+
+-- the same of a scalar, which is the only token of its row
+pub scalar_taken : (n : ℕ) (o : Opening) (s : Span) (kind : Kind) (style : ScalarStyle) (text : List ℕ)
+    (ps : List Place) (k : ℕ) → 0 < n → (1 < n → kind ≡ BlockEnd) → o ≡ opening.Nothing → kind ≡ Scalar style text
+    → take (queue_at (row_places n o (piece_of s kind) ps) k)
+    ≡ (Some (piece_of s (Scalar style text)), queue_at ps (k + 1))
+scalar_taken zero o s kind style text ps k h ends e f = absurd (omega (arith, h))
+scalar_taken (suc zero) o s kind style text ps k h ends e f =
+    row_taken (suc zero) o (piece_of s kind) (piece_of s (Scalar style text)) ps k h e (ap (piece_of s) f)
+scalar_taken (suc (suc n)) o s kind style text ps k h ends e f =
+    let many : kind ≡ BlockEnd = ends (omega arith) in
+    let both : Scalar style text ≡ BlockEnd = sym f ∙ many in
+    absurd (cc)
 
 -- With nothing in front, the first token is what comes next.
 pub place_passed : (kind : Kind) (r : Result (Option Span) Stop) (ps qs : List Place) (p : Place) (k : ℕ) (new : Queue)

@@ -9,8 +9,8 @@ use Rattle.saphyr_scanner.specs.declared.token.Token.{Token}
 use Rattle.saphyr_scanner.specs.declared.queue.Opening.{Opening}
 use Rattle.saphyr_scanner.specs.declared.queue.Opening.TheVariants as opening
 use Rattle.saphyr_scanner.specs.Grammar.Tokens.{Kind}
-use Rattle.saphyr_scanner.specs.Views.Queue.{PassesOffBy}
-use Rattle.saphyr_scanner.specs.Views.Tokens.{Piece, Remaining, none, before, piece, written_token, handed_token, Hands, Passes}
+use Rattle.saphyr_scanner.specs.Views.Queue.{PassesOffBy, TakenOff, TakesOffSome}
+use Rattle.saphyr_scanner.specs.Views.Tokens.{Piece, Remaining, none, before, piece, written_token, handed_token, CameFirst, Hands, Passes, TakesSome}
 use Rattle.saphyr_scanner.specs.Steps.Queue.{Place}
 use Rattle.saphyr_scanner.specs.Steps.Core.{Core}
 use Rattle.saphyr_scanner.specs.Steps.State.{State}
@@ -124,3 +124,23 @@ passed_over laws limit s t u kind (Ok None) old e same is =
     ap (remaining limit) same ∙ remaining_of limit t f.2 ∙ sym f.0 ∙ is
 passed_over laws limit s t u kind (Err stops.OutOfMemory) old e failed is = tt
 passed_over laws limit s t u kind (Err (stops.Refused f)) old e failed is = absurd (cc)
+
+-- the same of a call whose result shows which token it took off
+first_off : Readers → (limit : ℕ) (s t u : State) (r : Option Piece) (old : Remaining) → fill limit s ≡ Ok t
+    → TakenOff take_token r t u → remaining limit s ≡ old → CameFirst r old (remaining limit u)
+first_off laws limit s t u (Some x) old e took is =
+    let f = filled laws limit s t e in
+    let second : (take_token t).1 ≡ u = ap (λ x. x.1) took in
+    let gone = rw (ap (λ x. x.0) took) at (first_taken limit t.core t.queue.places t.queue.handed f.1) in
+    sym is ∙ f.0 ∙ gone ∙ ap (before x)
+    (sym (remaining_of limit (take_token t).1 (taken_settles t f.2)) ∙ ap (remaining limit) second)
+first_off laws limit s t u None old e same is =
+    let f = filled laws limit s t e in
+    ap (remaining limit) same ∙ remaining_of limit t f.2 ∙ sym f.0 ∙ is
+
+pub some_off : {A : Type 0} → Readers → (limit : ℕ) (s t u : State) (shown : A → Option Piece) (r : Result A Stop)
+    (old : Remaining) → fill limit s ≡ Ok t → TakesOffSome shown take_token r t u → remaining limit s ≡ old
+    → TakesSome shown r old (remaining limit u)
+some_off laws limit s t u shown (Ok x) old e took is = first_off laws limit s t u (shown x) old e took is
+some_off laws limit s t u shown (Err stops.OutOfMemory) old e failed is = tt
+some_off laws limit s t u shown (Err (stops.Refused f)) old e failed is = absurd (cc)

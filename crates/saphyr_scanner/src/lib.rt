@@ -9,7 +9,7 @@ mod scanner;
 mod stepping;
 mod token;
 
-pub use queue::Indicator;
+pub use queue::{Indicator, NodeStart, Which};
 pub use scanner::Scanner;
 pub use stepping::StepScanner;
 pub use token::{TagPrefix, Token, TokenType};

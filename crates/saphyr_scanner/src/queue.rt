@@ -35,6 +35,38 @@ pub(crate) enum Opening {
     FlowMappingAndKey,
 }
 
+/// Which of two indicators was passed.
+#[derive(Clone, Copy)]
+pub enum Which {
+    First,
+    Second,
+    /// None was seen to be next.
+    Neither,
+}
+
+/// What a node begins with, where that is seen at once.
+#[derive(Drop)]
+pub enum NodeStart {
+    Scalar(ScalarStyle, String),
+    /// The start of a block sequence.
+    Sequence,
+    /// The start of a block mapping.
+    Mapping,
+    /// Something else, or it isn't seen.
+    Other,
+}
+
+/// Where the first token of a queue is.
+#[derive(Clone, Copy)]
+pub(crate) enum Head {
+    /// In the first row.
+    First,
+    /// In the second row.
+    Second,
+    /// Behind the rows, if there is one.
+    Behind,
+}
+
 impl Opening {
     ghost use Rattle.saphyr_scanner.specs.declared.queue.Opening.TheVariants.{Nothing};
     ghost use Rattle.saphyr_scanner.specs.Views.Places.{indicator_kind};
@@ -52,10 +84,15 @@ impl Opening {
         ensures { IfSome result (λ left. (p : spec.Place) (ps : List spec.Place) (q : spec.Queue)
             → spec.take_of self p ps q ≡ spec.take_front (indicator_kind indicator) left p ps q) }
     {
-        match (self, indicator) {
-            (Opening::Key, Indicator::Key) => Some(Opening::Nothing),
-            (Opening::BlockMappingAndKey, Indicator::BlockMappingStart) => Some(Opening::Key),
-            (Opening::FlowMappingAndKey, Indicator::MappingStart) => Some(Opening::Key),
+        // For speed one test each: the indicator is known where this is inlined.
+        match indicator {
+            Indicator::Key if matches!(self, Opening::Key) => Some(Opening::Nothing),
+            Indicator::BlockMappingStart if matches!(self, Opening::BlockMappingAndKey) => {
+                Some(Opening::Key)
+            }
+            Indicator::MappingStart if matches!(self, Opening::FlowMappingAndKey) => {
+                Some(Opening::Key)
+            }
             _ => None,
         }
     }
@@ -81,10 +118,10 @@ pub(crate) struct Queue {
 impl Queue {
     ghost use Rattle.saphyr_scalar.specs.declared.scalar.style.ScalarStyle.TheVariants.{Plain};
     ghost use Rattle.saphyr_scalar.specs.Views.Reader.{Moves, cursor_of};
-    ghost use Rattle.saphyr_scanner.specs.Views.Tokens.{piece};
+    ghost use Rattle.saphyr_scanner.specs.Views.Tokens.{piece, start_piece, which_piece, KeepsSpan};
     ghost use Rattle.saphyr_scanner.specs.Views.Places.{indicator_kind, indicator_piece, tag_kind};
     ghost use Rattle.saphyr_scanner.specs.Views.Reads.{flow_quoted, queue_with_scalar, quote_style};
-    ghost use Rattle.saphyr_scanner.specs.Views.Queue.{queue, with_block_ends, HoldsNone, PassesOffBy, TakesOffBy};
+    ghost use Rattle.saphyr_scanner.specs.Views.Queue.{queue, with_block_ends, HoldsNone, IsHead, PassesOffBy, TakesOffBy, TakesOffSome};
     ghost use Rattle.std.specs.Prelude.{◌<◌};
 
     pub(crate) fn new(alloc: Global) -> Self
@@ -103,6 +140,20 @@ impl Queue {
         ensures { result ≡ spec.is_empty (queue self.now) }
     {
         self.first.count == 0 && self.second.count == 0 && self.held.is_empty()
+    }
+
+    /// Where the first token is.
+    #[inline(always)]
+    pub(crate) fn head(&self) -> Head
+        ensures { IsHead result self.now }
+    {
+        if self.first.count > 0 {
+            return Head::First;
+        }
+        if self.second.count > 0 {
+            return Head::Second;
+        }
+        Head::Behind
     }
 
     /// The number of the first place.
@@ -363,19 +414,21 @@ impl Queue {
     #[inline(always)]
     pub(crate) fn take_into(
         &mut self,
+        head: Head,
         alloc: Global,
         token: &mut Token,
         spare: &mut Spare,
     ) -> Result<bool, Stop>
+        requires { IsHead head self.old }
         ensures { TakesOffBy spec.take self.old result token.new self.new }
     {
-        if self.first.count == 0 && self.second.count == 0 {
+        if matches!(head, Head::Behind) {
             return self.held.take_into(alloc, token, &mut self.handed, spare);
         }
         if self.handed == usize::MAX {
             return Err(Stop::OutOfMemory);
         }
-        if self.first.count > 0 {
+        if matches!(head, Head::First) {
             self.first.take_into(token, &mut self.handed);
         } else {
             self.second.take_into(token, &mut self.handed);
@@ -385,20 +438,67 @@ impl Queue {
 
     /// Takes the first token off, if it is this indicator, and returns its span. No token is made for it.
     #[inline(always)]
-    pub(crate) fn pass(&mut self, indicator: Indicator) -> Result<Option<Span>, Stop>
+    pub(crate) fn pass(&mut self, head: Head, indicator: Indicator) -> Result<Option<Span>, Stop>
+        requires { IsHead head self.old }
         ensures { PassesOffBy (indicator_kind indicator) spec.take result (queue self.old)
             (queue self.new) }
     {
-        if self.first.count == 0 && self.second.count == 0 {
+        if matches!(head, Head::Behind) {
             return self.held.pass(indicator, &mut self.handed);
         }
         if self.handed == usize::MAX {
             return Err(Stop::OutOfMemory);
         }
-        if self.first.count > 0 {
+        if matches!(head, Head::First) {
             Ok(self.first.pass(indicator, &mut self.handed))
         } else {
             Ok(self.second.pass(indicator, &mut self.handed))
+        }
+    }
+
+    /// Takes the first token off, if it is seen to be one of these indicators, and writes its span into `span`. Only the
+    /// rows are looked at.
+    #[inline(always)]
+    pub(crate) fn pass_either(
+        &mut self,
+        head: Head,
+        first: Indicator,
+        second: Indicator,
+        span: &mut Span,
+    ) -> Result<Which, Stop>
+        requires { IsHead head self.old }
+        ensures { TakesOffSome
+            (which_piece (indicator_kind first) (indicator_kind second) span.new) spec.take result
+            (queue self.old) (queue self.new) }
+    {
+        match head {
+            Head::First => self
+                .first
+                .pass_either(first, second, &mut self.handed, span),
+            Head::Second => self
+                .second
+                .pass_either(first, second, &mut self.handed, span),
+            Head::Behind => Ok(Which::Neither),
+        }
+    }
+
+    /// Takes the first token off, if it is seen to be a scalar or the start of a block collection, and writes its span
+    /// into `span`. Only the first row is looked at, where mostly it is.
+    #[inline(always)]
+    pub(crate) fn take_node_start(
+        &mut self,
+        head: Head,
+        alloc: Global,
+        span: &mut Span,
+    ) -> Result<NodeStart, Stop>
+        requires { IsHead head self.old }
+        ensures taken { TakesOffSome (start_piece span.new) spec.take result (queue self.old)
+            (queue self.new) }
+        ensures kept { KeepsSpan result span.old span.new }
+    {
+        match head {
+            Head::First => self.first.take_node_start(alloc, &mut self.handed, span),
+            Head::Second | Head::Behind => Ok(NodeStart::Other),
         }
     }
 }

@@ -3,13 +3,13 @@
 ghost use Rattle.std.specs.Prelude.{◌≡◌, IfOk, length};
 ghost use Rattle.saphyr_scanner.specs.Steps.Remaining.{scan};
 ghost use Rattle.saphyr_scanner.specs.Views.Places.{indicator_kind};
-ghost use Rattle.saphyr_scanner.specs.Views.Tokens.{GivesLast, Hands, Passes, handed_token, piece};
+ghost use Rattle.saphyr_scanner.specs.Views.Tokens.{GivesLast, Hands, KeepsSpan, Passes, TakesSome, handed_token, piece, start_piece, which_piece};
 ghost use Rattle.saphyr_scanner.specs.SpansInOrder.{AreInOrder};
 ghost use Rattle.saphyr_scanner.specs.TokensTaken.{AreTakenFrom};
 
 use crate::engine::Engine;
 use crate::law::{orders_spans, takes_all_tokens, takes_characters_off};
-use crate::queue::Indicator;
+use crate::queue::{Indicator, NodeStart, Which};
 use crate::token::Token;
 use saphyr_input::input::{CloneInput, Input};
 use saphyr_scalar::{Span, Stop, TagParts};
@@ -94,8 +94,8 @@ impl<T: Input> Scanner<T> {
     {
         // A law. It does nothing when it runs.
         takes_characters_off();
-        self.engine.fill(self.limit)?;
-        self.engine.take_into(token)
+        let head = self.engine.fill(self.limit)?;
+        self.engine.take_into(head, token)
     }
 
     /// Passes the next token, if it is seen to be this indicator, and returns its span. `None`: none was passed, and the
@@ -106,8 +106,40 @@ impl<T: Input> Scanner<T> {
     {
         // A law. It does nothing when it runs.
         takes_characters_off();
-        self.engine.fill(self.limit)?;
-        self.engine.pass(indicator)
+        let head = self.engine.fill(self.limit)?;
+        self.engine.pass(head, indicator)
+    }
+
+    /// Passes the next token, if it is seen to be one of these indicators, says which, and writes its span into `span`.
+    /// `Which::Neither`: none was passed, and the tokens to come are the same. That is one look for two calls of `pass`.
+    #[inline(always)]
+    pub fn pass_either(
+        &mut self,
+        first: Indicator,
+        second: Indicator,
+        span: &mut Span,
+    ) -> Result<Which, Stop>
+        ensures { TakesSome
+            (which_piece (indicator_kind first) (indicator_kind second) span.new) result
+            self.old self.new }
+    {
+        // A law. It does nothing when it runs.
+        takes_characters_off();
+        let head = self.engine.fill(self.limit)?;
+        self.engine.pass_either(head, first, second, span)
+    }
+
+    /// Takes the next token, if it is seen to be a scalar or the start of a block collection, and writes its span into
+    /// `span`. `NodeStart::Other`: none was taken, the tokens to come are the same, and so is `span`. No token is made.
+    #[inline(always)]
+    pub fn take_node_start(&mut self, span: &mut Span) -> Result<NodeStart, Stop>
+        ensures taken { TakesSome (start_piece span.new) result self.old self.new }
+        ensures kept { KeepsSpan result span.old span.new }
+    {
+        // A law. It does nothing when it runs.
+        takes_characters_off();
+        let head = self.engine.fill(self.limit)?;
+        self.engine.take_node_start(head, span)
     }
 
     /// Puts a token after all that come, where all tokens of the text were read. So a scanner of an empty text, once

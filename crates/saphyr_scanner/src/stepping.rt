@@ -85,7 +85,8 @@ impl<T: Input> StepScanner<T> {
         )) result (Ok (fetch.take_token self.old.state)) }
         ensures limit { self.new.limit ≡ self.old.limit }
     {
-        self.engine.take_into(token)
+        let head = self.engine.head();
+        self.engine.take_into(head, token)
     }
 
     /// The input, from the place that is reached.

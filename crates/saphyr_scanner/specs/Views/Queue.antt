@@ -1,11 +1,13 @@
 -- What contracts see of the queue.
-use Rattle.std.specs.Prelude.{◌≡◌, [], drop, List, ◌∷◌, ℕ, zero, suc, Bool, Option, Some, None, option_map, Result, Ok, Err}
+use Rattle.std.specs.Prelude.{◌≡◌, ◌<◌, [], drop, List, ◌∷◌, ℕ, zero, suc, Bool, Option, Some, None, option_map, Result, Ok, Err}
 use Rattle.saphyr_scalar.specs.declared.scalar.fault.Stop.{Stop}
 use Rattle.saphyr_scalar.specs.declared.scalar.fault.Stop.TheVariants.{OutOfMemory}
 use Rattle.saphyr_scalar.specs.declared.scalar.position.Marker.{Marker}
 use Rattle.saphyr_scalar.specs.declared.scalar.position.Span.{Span}
 use Rattle.saphyr_scanner.specs.declared.queue.held.Held.{Held}
 use Rattle.saphyr_scanner.specs.declared.queue.Queue as declared_queue
+use Rattle.saphyr_scanner.specs.declared.queue.Head.{Head}
+use Rattle.saphyr_scanner.specs.declared.queue.Head.TheVariants as head
 use Rattle.saphyr_scanner.specs.declared.queue.Opening.{Opening}
 use Rattle.saphyr_scanner.specs.declared.queue.row.Row.{Row}
 use Rattle.saphyr_scanner.specs.declared.token.Token.{Token}
@@ -35,6 +37,12 @@ held_places h = places_at (drop h.spent h.places.items) h.aside
 
 abbrev pub queue : declared_queue.Queue → Queue
 queue q = record { places = in_row q.first (in_row q.second (held_places q.held)); handed = q.handed }
+
+-- where the first token of a queue is
+abbrev pub IsHead : Head → declared_queue.Queue → Type 0
+IsHead head.First q = 0 < q.first.count
+IsHead head.Second q = (q.first.count ≡ 0) × (0 < q.second.count)
+IsHead head.Behind q = (q.first.count ≡ 0) × (q.second.count ≡ 0)
 
 -- No token is held but one in the first row.
 abbrev pub HoldsNone : declared_queue.Queue → Type 0
@@ -74,3 +82,14 @@ abbrev pub PassesOffBy
     : {X : Type 0} → Kind → (X → Option Piece × X) → Result (Option Span) Stop → X → X → Type 0
 PassesOffBy kind f (Ok span) old new = Passed kind f span old new
 PassesOffBy kind f (Err e) old new = e ≡ OutOfMemory
+
+-- This token was taken off, as the function does it. Without one nothing changed.
+abbrev pub TakenOff : {X : Type 0} → (X → Option Piece × X) → Option Piece → X → X → Type 0
+TakenOff f (Some t) old new = f old ≡ (Some t, new)
+TakenOff f None old new = new ≡ old
+
+-- The same of a call whose result shows which token it took off, unless memory ran out.
+abbrev pub TakesOffSome
+    : {A X : Type 0} → (A → Option Piece) → (X → Option Piece × X) → Result A Stop → X → X → Type 0
+TakesOffSome shown f (Ok x) old new = TakenOff f (shown x) old new
+TakesOffSome shown f (Err e) old new = e ≡ OutOfMemory

@@ -4,6 +4,10 @@ use Rattle.saphyr_scalar.specs.declared.scalar.position.Span.{Span}
 use Rattle.saphyr_scalar.specs.declared.scalar.fault.Refusal.{Refusal}
 use Rattle.saphyr_scalar.specs.declared.scalar.fault.Stop.{Stop}
 use Rattle.saphyr_scalar.specs.declared.scalar.fault.Stop.TheVariants as stop
+use Rattle.saphyr_scanner.specs.declared.queue.NodeStart.{NodeStart}
+use Rattle.saphyr_scanner.specs.declared.queue.NodeStart.TheVariants as start
+use Rattle.saphyr_scanner.specs.declared.queue.Which.{Which}
+use Rattle.saphyr_scanner.specs.declared.queue.Which.TheVariants as which
 use Rattle.saphyr_scanner.specs.declared.token.Token.{Token}
 use Rattle.saphyr_scanner.specs.declared.token.TokenType.{TokenType}
 use Rattle.saphyr_scanner.specs.declared.token.TokenType.TheVariants as code
@@ -88,3 +92,32 @@ abbrev pub Passes : Kind → Result (Option Span) Stop → Remaining → Remaini
 Passes kind (Ok (Some span)) old new = old ≡ before (record { span = span; kind = kind }) new
 Passes kind (Ok None) old new = new ≡ old
 Passes kind (Err e) old new = Hands (Err e) old new
+
+-- the token that was passed, if one was: it has one of two kinds, and this span
+abbrev pub which_piece : Kind → Kind → Span → Which → Option Piece
+which_piece first second s which.First = Some (record { span = s; kind = first })
+which_piece first second s which.Second = Some (record { span = s; kind = second })
+which_piece first second s which.Neither = None
+
+-- the token with which a node begins, if one was taken, and which has this span
+abbrev pub start_piece : Span → NodeStart → Option Piece
+start_piece s (start.Scalar style text) = Some (record { span = s; kind = tokens.Scalar style (string_bytes text) })
+start_piece s start.Sequence = Some (record { span = s; kind = tokens.BlockSequenceStart })
+start_piece s start.Mapping = Some (record { span = s; kind = tokens.BlockMappingStart })
+start_piece s start.Other = None
+
+-- Where nothing was taken, a span is as it was.
+abbrev pub KeepsSpan : Result NodeStart Stop → Span → Span → Type 0
+KeepsSpan (Ok start.Other) old new = new ≡ old
+KeepsSpan _ old new = Unit {0}
+
+-- This token came first. Without one the tokens are the same.
+abbrev pub CameFirst : Option Piece → Remaining → Remaining → Type 0
+CameFirst (Some t) old new = old ≡ before t new
+CameFirst None old new = new ≡ old
+
+-- What a call that takes the next token only if it is seen to be of some kinds returns, by which token that shows, and
+-- what remains.
+abbrev pub TakesSome : {A : Type 0} → (A → Option Piece) → Result A Stop → Remaining → Remaining → Type 0
+TakesSome shown (Ok x) old new = CameFirst (shown x) old new
+TakesSome shown (Err e) old new = Hands (Err e) old new

@@ -21,7 +21,7 @@ ghost use Rattle.saphyr_scanner.specs.Views.Ahead.{behind_feed, may_begin, may_b
 
 use crate::engine::{Context, Engine};
 use crate::law::takes_characters_off;
-use crate::queue::Indicator;
+use crate::queue::{Head, Indicator, NodeStart, Which};
 use crate::token::{Token, TokenType};
 use saphyr_input::char_traits::{is_blank_or_breakz, is_bom, is_flow, is_z};
 use saphyr_input::input::Input;
@@ -60,8 +60,8 @@ impl<T: Input> Engine<T> {
     ghost use Rattle.saphyr_scanner.specs.Views.Ahead.{Leads, LeadsOn, fetched, with_second};
     ghost use Rattle.saphyr_scanner.specs.Views.Engine.{state, MovesBy, ActsBy, answer_of};
     ghost use Rattle.saphyr_scanner.specs.Views.Places.{indicator_kind};
-    ghost use Rattle.saphyr_scanner.specs.Views.Queue.{PassesOffBy};
-    ghost use Rattle.saphyr_scanner.specs.Views.Tokens.{GivesLast, piece, written_token};
+    ghost use Rattle.saphyr_scanner.specs.Views.Queue.{IsHead, PassesOffBy, TakesOffSome};
+    ghost use Rattle.saphyr_scanner.specs.Views.Tokens.{GivesLast, KeepsSpan, piece, start_piece, which_piece, written_token};
 
     // Goes on to where the next token begins.
     #[tactic(auto, unfolding(crate::specs::Steps::Fetch::arrive))]
@@ -611,41 +611,80 @@ impl<T: Input> Engine<T> {
     }
 
     /// Reads until a token at the head of the queue can be handed out, unless all were. Mostly there is no candidate,
-    /// and then this looks at the queue alone.
+    /// and then this looks at the queue alone. Returns where its first token is, so that this is found once.
     #[inline(always)]
-    pub(crate) fn fill(&mut self, limit: usize) -> Result<(), Stop>
-        ensures { MovesBy (fetch.fill limit) self.old result self.new }
+    pub(crate) fn fill(&mut self, limit: usize) -> Result<Head, Stop>
+        ensures filled { Moves (λ _. state self.new) result (fetch.fill limit (state self.old)) }
+        ensures head { IfOk result (λ head. IsHead head self.new.queue) }
     {
         if !self.has_no_candidate() {
             if self.fills(limit) {
-                return Ok(());
+                return Ok(self.queue.head());
             }
             return Err(self.stop);
         }
         if self.queue.is_empty() && !self.ended && !self.reads_on(limit, false) {
             return Err(self.stop);
         }
-        Ok(())
+        Ok(self.queue.head())
+    }
+
+    /// Where the first token of the queue is.
+    pub(crate) fn head(&self) -> Head
+        ensures { IsHead result self.now.queue }
+    {
+        self.queue.head()
     }
 
     /// Takes the first token off the queue, if there is one, and writes it into `token`.
     #[inline(always)]
-    pub(crate) fn take_into(&mut self, token: &mut Token) -> Result<bool, Stop>
+    pub(crate) fn take_into(&mut self, head: Head, token: &mut Token) -> Result<bool, Stop>
+        requires { IsHead head self.old.queue }
         ensures { Moves
             (λ taken. (option_map piece (written_token taken token.new), state self.new))
             result (Ok (fetch.take_token (state self.old))) }
     {
         self.queue
-            .take_into(self.alloc, token, &mut self.reader.spare)
+            .take_into(head, self.alloc, token, &mut self.reader.spare)
     }
 
     /// Takes the first token off the queue, if it is this indicator, and returns its span.
     #[inline(always)]
-    pub(crate) fn pass(&mut self, indicator: Indicator) -> Result<Option<Span>, Stop>
+    pub(crate) fn pass(&mut self, head: Head, indicator: Indicator) -> Result<Option<Span>, Stop>
+        requires { IsHead head self.old.queue }
         ensures { PassesOffBy (indicator_kind indicator) fetch.take_token result (state self.old)
             (state self.new) }
     {
-        self.queue.pass(indicator)
+        self.queue.pass(head, indicator)
+    }
+
+    /// Takes the first token off the queue, if it is seen to be one of these indicators, and writes its span.
+    #[inline(always)]
+    pub(crate) fn pass_either(
+        &mut self,
+        head: Head,
+        first: Indicator,
+        second: Indicator,
+        span: &mut Span,
+    ) -> Result<Which, Stop>
+        requires { IsHead head self.old.queue }
+        ensures { TakesOffSome
+            (which_piece (indicator_kind first) (indicator_kind second) span.new)
+            fetch.take_token result (state self.old) (state self.new) }
+    {
+        self.queue.pass_either(head, first, second, span)
+    }
+
+    /// Takes the first token off the queue, if it is seen to be a scalar or the start of a block collection, and writes
+    /// its span into `span`.
+    #[inline(always)]
+    pub(crate) fn take_node_start(&mut self, head: Head, span: &mut Span) -> Result<NodeStart, Stop>
+        requires { IsHead head self.old.queue }
+        ensures taken { TakesOffSome (start_piece span.new) fetch.take_token result
+            (state self.old) (state self.new) }
+        ensures kept { KeepsSpan result span.old span.new }
+    {
+        self.queue.take_node_start(head, self.alloc, span)
     }
 
     // Whether all tokens of the text were read, and none is held.

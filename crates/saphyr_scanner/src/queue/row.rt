@@ -1,16 +1,16 @@
 //! A place for a token that is held only briefly, or for the ends of several block collections. Nothing is allocated
 //! for it, and its span is kept as it is.
 
-ghost use Rattle.std.specs.Prelude.{◌≡◌, ◌+◌, ◌<◌, ◌^◌, ◌∷◌, List, Some, IfOk, OnErr, OnOk};
+ghost use Rattle.std.specs.Prelude.{◌≡◌, ◌+◌, ◌<◌, ◌^◌, ◌∷◌, ℕ, List, Some, false, IfOk, IsTrue, OnErr, OnOk};
 ghost use Rattle.saphyr_scanner.specs.Grammar.Tokens as tokens;
 ghost use Rattle.saphyr_scanner.specs.Steps.Queue as spec;
 ghost use Rattle.saphyr_scanner.specs.Views.Places.{indicator_piece};
 ghost use Rattle.saphyr_scanner.specs.Views.Tokens.{kind_of};
 
-use crate::queue::{Indicator, Opening};
+use crate::queue::{Indicator, NodeStart, Opening, Which};
 use crate::token::{Token, TokenType};
-use saphyr_scalar::{Marker, Span};
-use std::alloc::AllocError;
+use saphyr_scalar::{Marker, Span, Stop};
+use std::alloc::{AllocError, Global};
 use std::mem::{forget, replace};
 
 /// A place for a token, or for the ends of all block collections that end at one place of the text.
@@ -30,8 +30,8 @@ pub(super) struct Row {
 impl Row {
     ghost use Rattle.saphyr_scanner.specs.declared.queue.Opening.TheVariants as opening;
     ghost use Rattle.saphyr_scanner.specs.Views.Places.{indicator_kind};
-    ghost use Rattle.saphyr_scanner.specs.Views.Queue.{bare_places, in_row, Passed};
-    ghost use Rattle.saphyr_scanner.specs.Views.Tokens.{piece};
+    ghost use Rattle.saphyr_scanner.specs.Views.Queue.{bare_places, in_row, Passed, TakesOffSome};
+    ghost use Rattle.saphyr_scanner.specs.Views.Tokens.{piece, start_piece, which_piece, KeepsSpan};
 
     pub(super) fn new() -> Self
         ensures { result.count ≡ 0 }
@@ -157,6 +157,136 @@ impl Row {
         self.count -= 1;
         *handed += 1;
         Some(self.token.span)
+    }
+
+    // Takes off the token that comes before the first token's own, if it is this indicator.
+    #[inline(always)]
+    fn pass_opening(&mut self, indicator: Indicator, span: &mut Span) -> bool
+        requires some { 0 < self.old.count }
+        ensures passed { IsTrue result → (behind : List spec.Place) → (handed : ℕ)
+            → spec.take (record { places = in_row self.old behind; handed = handed })
+            ≡ (
+              Some (record { span = span.new; kind = indicator_kind indicator }),
+              record { places = in_row self.new behind; handed = handed },
+            ) }
+        ensures same { result ≡ false → (self.new ≡ self.old) × (span.new ≡ span.old) }
+    {
+        let Some(left) = self.opening.behind(indicator) else {
+            return false;
+        };
+        self.opening = left;
+        *span = Span::empty(self.token.span.start);
+        true
+    }
+
+    // Takes the first token off, with nothing in front of it. For speed its span is copied right into its place.
+    #[inline(always)]
+    fn pass_token(&mut self, handed: &mut usize, span: &mut Span) -> Result<(), AllocError>
+        requires some { 0 < self.old.count }
+        requires bare { self.old.opening ≡ opening.Nothing }
+        ensures { OnOk result ((behind : List spec.Place)
+            → spec.take (record { places = in_row self.old behind; handed = handed.old })
+            ≡ (
+              Some (record { span = span.new; kind = kind_of self.old.token.kind }),
+              record { places = in_row self.new behind; handed = handed.new },
+            )) }
+    {
+        let Some(count) = handed.checked_add(1) else {
+            return Err(AllocError);
+        };
+        *handed = count;
+        self.count -= 1;
+        *span = self.token.span;
+        Ok(())
+    }
+
+    /// Takes off what is handed out next, if it is seen to be one of these indicators, and writes its span into `span`.
+    #[inline(always)]
+    pub(super) fn pass_either(
+        &mut self,
+        first: Indicator,
+        second: Indicator,
+        handed: &mut usize,
+        span: &mut Span,
+    ) -> Result<Which, Stop>
+        requires { 0 < self.old.count }
+        ensures { (behind : List spec.Place) → TakesOffSome
+            (which_piece (indicator_kind first) (indicator_kind second) span.new) spec.take result
+            (record { places = in_row self.old behind; handed = handed.old })
+            (record { places = in_row self.new behind; handed = handed.new }) }
+    {
+        if !self.opening.is_nothing() {
+            if self.pass_opening(first, span) {
+                return Ok(Which::First);
+            }
+            return Ok(Which::Neither);
+        }
+        if first.is(&self.token.kind) {
+            self.pass_token(handed, span)?;
+            return Ok(Which::First);
+        }
+        if second.is(&self.token.kind) {
+            self.pass_token(handed, span)?;
+            return Ok(Which::Second);
+        }
+        Ok(Which::Neither)
+    }
+
+    /// Takes off what is handed out next, if it is seen to be a scalar or the start of a block collection, and writes
+    /// its span into `span`.
+    #[inline(always)]
+    pub(super) fn take_node_start(
+        &mut self,
+        alloc: Global,
+        handed: &mut usize,
+        span: &mut Span,
+    ) -> Result<NodeStart, Stop>
+        requires { 0 < self.old.count }
+        ensures taken { (behind : List spec.Place) → TakesOffSome (start_piece span.new) spec.take
+            result (record { places = in_row self.old behind; handed = handed.old })
+            (record { places = in_row self.new behind; handed = handed.new }) }
+        ensures kept { KeepsSpan result span.old span.new }
+    {
+        if !self.opening.is_nothing() {
+            if self.pass_opening(Indicator::BlockMappingStart, span) {
+                return Ok(NodeStart::Mapping);
+            }
+            return Ok(NodeStart::Other);
+        }
+        if Indicator::BlockSequenceStart.is(&self.token.kind) {
+            self.pass_token(handed, span)?;
+            return Ok(NodeStart::Sequence);
+        }
+        self.take_scalar(alloc, handed, span)
+    }
+
+    // The same of a scalar, with nothing in front of it.
+    #[inline(always)]
+    fn take_scalar(
+        &mut self,
+        alloc: Global,
+        handed: &mut usize,
+        span: &mut Span,
+    ) -> Result<NodeStart, Stop>
+        requires some { 0 < self.old.count }
+        requires bare { self.old.opening ≡ opening.Nothing }
+        ensures taken { (behind : List spec.Place) → TakesOffSome (start_piece span.new) spec.take
+            result (record { places = in_row self.old behind; handed = handed.old })
+            (record { places = in_row self.new behind; handed = handed.new }) }
+        ensures kept { KeepsSpan result span.old span.new }
+    {
+        let TokenType::Scalar(style, text) = &mut self.token.kind else {
+            return Ok(NodeStart::Other);
+        };
+        let Some(count) = handed.checked_add(1) else {
+            return Err(Stop::OutOfMemory);
+        };
+        let style = *style;
+        let text = replace(text, String::new(alloc));
+        *handed = count;
+        self.count = 0;
+        *span = self.token.span;
+        Ok(NodeStart::Scalar(style, text))
     }
 
     // Takes the first token, with nothing in front of it, and writes it into `token`.

@@ -6,8 +6,8 @@ use Rattle.saphyr_scanner.proofs.Filling.{ended_needs_none, free_needs_none, fil
 use Rattle.saphyr_scanner.proofs.engine.Engine.fill.Goals as goal
 use Rattle.saphyr_scanner.proofs.engine.Engine.fill.Goals.{else-is_empty-via-then-is_empty+then-not-self+else-not-reads_on, else-is_empty-via-then-is_empty+else-not-self, else-is_empty-via-else-is_empty}
 
-pub returns : goal.returns
-returns g c =
+pub returns-clause-filled : goal.returns-clause-filled
+returns-clause-filled g c =
     let settled : without_far_key (state c.args.self.now) ≡ Ok (state c.args.self.now) = search rules in
     elim c.else-is_empty.branch [
       | else-is_empty-via-then-is_empty+then-not-self+else-not-reads_on w ↦
