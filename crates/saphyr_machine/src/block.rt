@@ -1,7 +1,9 @@
 //! The states inside block collections (YAML 1.2.2, 8.2).
 
-ghost use Rattle.std.specs.Prelude.{◌≡◌, false};
+ghost use Rattle.std.specs.Prelude.{◌≡◌, None, false, true};
 ghost use Rattle.saphyr_machine.specs.Steps.Block as spec;
+ghost use Rattle.saphyr_machine.specs.Steps.Contexts.{allows_block};
+ghost use Rattle.saphyr_machine.specs.Steps.Nodes.{node_inside};
 
 use crate::context::NodeContext;
 use crate::event::Event;
@@ -9,11 +11,14 @@ use crate::machine::{Machine, place_of, refuse, tell_over};
 use crate::state::State;
 use saphyr_input::input::Input;
 use saphyr_scalar::{FaultText, Span, Stop};
-use saphyr_scanner::{Indicator, TokenType};
+use saphyr_scanner::{Indicator, NodeStart, TokenType, Which};
+use std::borrow::CowStr;
 
 impl<T: Input> Machine<T> {
     ghost use Rattle.saphyr_scanner.specs.Views.Engine.{answer_of};
     ghost use Rattle.saphyr_machine.specs.Views.Events.{has_tag};
+    ghost use Rattle.std.specs.Prelude.{IfSome};
+    ghost use Rattle.saphyr_scanner.specs.Views.Tokens.{start_piece};
     ghost use Rattle.saphyr_machine.specs.Views.Machines.{TellsBy};
 
     // A node that begins with the next token.
@@ -29,6 +34,42 @@ impl<T: Input> Machine<T> {
         self.node(NodeContext::Block, token, next)
     }
 
+    // A node that begins so inside a block collection, which goes on in the given state after it. Its span is there.
+    #[inline(always)]
+    #[tactic(auto, unfolding(crate::specs::Steps::Nodes::node, crate::specs::Steps::Nodes::node_content))]
+    fn begin_inside<'input>(
+        &mut self,
+        state: State,
+        context: NodeContext,
+        start: NodeStart,
+        next: &mut (Event<'input>, Span),
+    ) -> Result<(), Stop>
+        requires untagged { has_tag next.old.0 ≡ false }
+        requires block { allows_block context ≡ true }
+        ensures { IfSome (start_piece next.old.1 start)
+            (λ t. TellsBy (node_inside state context t) self.old result next.new self.new) }
+    {
+        match start {
+            NodeStart::Scalar(style, text) => {
+                self.state.set(state);
+                next.0
+                    .write_over_untagged(Event::Scalar(CowStr::Owned(text), style, 0, None));
+            }
+            NodeStart::Sequence => {
+                self.push(state)?;
+                self.state.set(State::BlockSequenceEntry);
+                next.0.write_over_untagged(Event::SequenceStart(0, None));
+            }
+            NodeStart::Mapping => {
+                self.push(state)?;
+                self.state.set(State::BlockMappingKey);
+                next.0.write_over_untagged(Event::MappingStart(0, None));
+            }
+            NodeStart::Other => {}
+        }
+        Ok(())
+    }
+
     // An entry of a block sequence, or its end. For speed no token is made of the first indicator.
     #[tactic(auto, unfolding(crate::specs::Steps::Block::block_sequence_entry))]
     pub(super) fn block_sequence_entry<'input>(
@@ -38,17 +79,17 @@ impl<T: Input> Machine<T> {
         requires { has_tag next.old.0 ≡ false }
         ensures { TellsBy spec.block_sequence_entry self.old result next.new self.new }
     {
-        if let Some(dash) = self.pass(Indicator::BlockEntry)? {
-            self.block_sequence_node(dash, next)?;
-            return Ok(());
-        }
-        if let Some(span) = self.pass(Indicator::BlockEnd)? {
-            self.pop();
-            tell_over(next, Event::SequenceEnd, span);
-            return Ok(());
-        }
-        if !self.tells_block_entry(next) {
-            return Err(self.stop);
+        match self.pass_either(Indicator::BlockEntry, Indicator::BlockEnd, &mut next.1)? {
+            Which::First => self.block_sequence_node(next)?,
+            Which::Second => {
+                self.pop();
+                next.0.write_over_untagged(Event::SequenceEnd);
+            }
+            Which::Neither => {
+                if !self.tells_block_entry(next) {
+                    return Err(self.stop);
+                }
+            }
         }
         Ok(())
     }
@@ -76,26 +117,61 @@ impl<T: Input> Machine<T> {
                 self.pop();
                 tell_over(next, Event::SequenceEnd, place_of(token));
             }
-            TokenType::BlockEntry => self.block_sequence_node(place_of(token), next)?,
+            TokenType::BlockEntry => {
+                next.1 = place_of(token);
+                if !self.tells_block_sequence_node(next) {
+                    return Err(self.stop);
+                }
+            }
             _ => return Err(refuse(FaultText::SequenceEntryExpected, place_of(token).start)),
         }
         Ok(())
     }
 
-    // The node after a `-`.
+    // The node after a `-`, whose span is there. For speed no token is made of what most nodes begin with.
     #[inline(always)]
     #[tactic(auto, unfolding(crate::specs::Steps::Block::block_sequence_node))]
-    fn block_sequence_node<'input>(
+    fn block_sequence_node<'input>(&mut self, next: &mut (Event<'input>, Span)) -> Result<(), Stop>
+        requires room { self.old.token ≡ None }
+        requires untagged { has_tag next.old.0 ≡ false }
+        ensures { TellsBy (spec.block_sequence_node next.old.1) self.old result next.new self.new }
+    {
+        match self.take_node_start(&mut next.1)? {
+            NodeStart::Other => {
+                if !self.tells_block_sequence_node(next) {
+                    return Err(self.stop);
+                }
+            }
+            start => self.begin_inside(State::BlockSequenceEntry, NodeContext::Block, start, next)?,
+        }
+        Ok(())
+    }
+
+    // The same with the stop kept, as a call of its own: such nodes are rare.
+    #[inline(never)]
+    fn tells_block_sequence_node<'input>(&mut self, next: &mut (Event<'input>, Span)) -> bool
+        requires { has_tag next.old.0 ≡ false }
+        ensures { TellsBy (spec.block_sequence_node next.old.1) self.old
+            (answer_of result self.new.stop) next.new self.new }
+    {
+        let ended = self.any_block_sequence_node(next);
+        self.keep(ended)
+    }
+
+    // The same for any token.
+    #[inline(always)]
+    #[tactic(auto, unfolding(crate::specs::Steps::Block::block_sequence_node))]
+    fn any_block_sequence_node<'input>(
         &mut self,
-        dash: Span,
         next: &mut (Event<'input>, Span),
     ) -> Result<(), Stop>
         requires { has_tag next.old.0 ≡ false }
-        ensures { TellsBy (spec.block_sequence_node dash) self.old result next.new self.new }
+        ensures { TellsBy (spec.block_sequence_node next.old.1) self.old result next.new self.new }
     {
         let token = self.take()?;
         match token.kind {
             TokenType::BlockEntry | TokenType::BlockEnd => {
+                let dash = next.1;
                 self.left_out(token, State::BlockSequenceEntry, dash, next)
             }
             _ => self.inside(State::BlockSequenceEntry, NodeContext::Block, token, next)?,
@@ -179,17 +255,17 @@ impl<T: Input> Machine<T> {
         requires { has_tag next.old.0 ≡ false }
         ensures { TellsBy spec.block_mapping_key self.old result next.new self.new }
     {
-        if self.pass(Indicator::Key)?.is_some() {
-            self.block_key_node(next)?;
-            return Ok(());
-        }
-        if let Some(span) = self.pass(Indicator::BlockEnd)? {
-            self.pop();
-            tell_over(next, Event::MappingEnd, span);
-            return Ok(());
-        }
-        if !self.tells_block_key(next) {
-            return Err(self.stop);
+        match self.pass_either(Indicator::Key, Indicator::BlockEnd, &mut next.1)? {
+            Which::First => self.block_key_node(next)?,
+            Which::Second => {
+                self.pop();
+                next.0.write_over_untagged(Event::MappingEnd);
+            }
+            Which::Neither => {
+                if !self.tells_block_key(next) {
+                    return Err(self.stop);
+                }
+            }
         }
         Ok(())
     }
@@ -215,7 +291,9 @@ impl<T: Input> Machine<T> {
         match token.kind {
             TokenType::Key => {
                 let _ = place_of(token);
-                self.block_key_node(next)?
+                if !self.tells_block_key_node(next) {
+                    return Err(self.stop);
+                }
             }
             TokenType::Value => {
                 let span = token.span;
@@ -230,10 +308,45 @@ impl<T: Input> Machine<T> {
         Ok(())
     }
 
-    // The node after a key's token.
+    // The node after a key's token. For speed no token is made of what most nodes begin with.
     #[inline(always)]
     #[tactic(auto, unfolding(crate::specs::Steps::Block::block_key_node))]
     fn block_key_node<'input>(&mut self, next: &mut (Event<'input>, Span)) -> Result<(), Stop>
+        requires room { self.old.token ≡ None }
+        requires untagged { has_tag next.old.0 ≡ false }
+        ensures { TellsBy spec.block_key_node self.old result next.new self.new }
+    {
+        match self.take_node_start(&mut next.1)? {
+            NodeStart::Other => {
+                if !self.tells_block_key_node(next) {
+                    return Err(self.stop);
+                }
+            }
+            start => self.begin_inside(
+                State::BlockMappingValue,
+                NodeContext::BlockMapping,
+                start,
+                next,
+            )?,
+        }
+        Ok(())
+    }
+
+    // The same with the stop kept, as a call of its own: such nodes are rare.
+    #[inline(never)]
+    fn tells_block_key_node<'input>(&mut self, next: &mut (Event<'input>, Span)) -> bool
+        requires { has_tag next.old.0 ≡ false }
+        ensures { TellsBy spec.block_key_node self.old (answer_of result self.new.stop)
+            next.new self.new }
+    {
+        let ended = self.any_block_key_node(next);
+        self.keep(ended)
+    }
+
+    // The same for any token.
+    #[inline(always)]
+    #[tactic(auto, unfolding(crate::specs::Steps::Block::block_key_node))]
+    fn any_block_key_node<'input>(&mut self, next: &mut (Event<'input>, Span)) -> Result<(), Stop>
         requires { has_tag next.old.0 ≡ false }
         ensures { TellsBy spec.block_key_node self.old result next.new self.new }
     {
@@ -263,7 +376,8 @@ impl<T: Input> Machine<T> {
         ensures { TellsBy spec.block_mapping_value self.old result next.new self.new }
     {
         if let Some(colon) = self.pass(Indicator::Value)? {
-            self.block_value_node(colon, next)?;
+            next.1 = colon;
+            self.block_value_node(next)?;
             return Ok(());
         }
         if !self.tells_block_value(next) {
@@ -291,7 +405,12 @@ impl<T: Input> Machine<T> {
     {
         let token = self.take()?;
         match token.kind {
-            TokenType::Value => self.block_value_node(place_of(token), next)?,
+            TokenType::Value => {
+                next.1 = place_of(token);
+                if !self.tells_block_value_node(next) {
+                    return Err(self.stop);
+                }
+            }
             _ => {
                 let span = token.span;
                 self.left_out(token, State::BlockMappingKey, span, next)
@@ -300,20 +419,52 @@ impl<T: Input> Machine<T> {
         Ok(())
     }
 
-    // The node after a value's token.
+    // The node after a value's token, whose span is there. For speed no token is made of what most nodes begin with.
     #[inline(always)]
     #[tactic(auto, unfolding(crate::specs::Steps::Block::block_value_node))]
-    fn block_value_node<'input>(
-        &mut self,
-        colon: Span,
-        next: &mut (Event<'input>, Span),
-    ) -> Result<(), Stop>
+    fn block_value_node<'input>(&mut self, next: &mut (Event<'input>, Span)) -> Result<(), Stop>
+        requires room { self.old.token ≡ None }
+        requires untagged { has_tag next.old.0 ≡ false }
+        ensures { TellsBy (spec.block_value_node next.old.1) self.old result next.new self.new }
+    {
+        match self.take_node_start(&mut next.1)? {
+            NodeStart::Other => {
+                if !self.tells_block_value_node(next) {
+                    return Err(self.stop);
+                }
+            }
+            start => self.begin_inside(
+                State::BlockMappingKey,
+                NodeContext::BlockMapping,
+                start,
+                next,
+            )?,
+        }
+        Ok(())
+    }
+
+    // The same with the stop kept, as a call of its own: such nodes are rare.
+    #[inline(never)]
+    fn tells_block_value_node<'input>(&mut self, next: &mut (Event<'input>, Span)) -> bool
         requires { has_tag next.old.0 ≡ false }
-        ensures { TellsBy (spec.block_value_node colon) self.old result next.new self.new }
+        ensures { TellsBy (spec.block_value_node next.old.1) self.old
+            (answer_of result self.new.stop) next.new self.new }
+    {
+        let ended = self.any_block_value_node(next);
+        self.keep(ended)
+    }
+
+    // The same for any token.
+    #[inline(always)]
+    #[tactic(auto, unfolding(crate::specs::Steps::Block::block_value_node))]
+    fn any_block_value_node<'input>(&mut self, next: &mut (Event<'input>, Span)) -> Result<(), Stop>
+        requires { has_tag next.old.0 ≡ false }
+        ensures { TellsBy (spec.block_value_node next.old.1) self.old result next.new self.new }
     {
         let token = self.take()?;
         match token.kind {
             TokenType::Key | TokenType::Value | TokenType::BlockEnd => {
+                let colon = next.1;
                 self.left_out(token, State::BlockMappingKey, colon, next)
             }
             _ => self.inside(

@@ -15,7 +15,7 @@ use crate::state::State;
 use crate::states::{Expected, States};
 use saphyr_input::input::Input;
 use saphyr_scalar::{FaultText, Marker, Refusal, ScalarStyle, Span, Stop};
-use saphyr_scanner::{Indicator, Scanner, Token};
+use saphyr_scanner::{Indicator, NodeStart, Scanner, Token, Which};
 use std::alloc::Global;
 use std::borrow::CowStr;
 use std::mem::forget;
@@ -87,7 +87,17 @@ impl<T: Input> Machine<T> {
     ghost use Rattle.saphyr_scalar.specs.Views.Reader.{Moves};
     ghost use Rattle.saphyr_scanner.specs.Views.Engine.{answer_of};
     ghost use Rattle.saphyr_scanner.specs.Views.Places.{indicator_kind};
-    ghost use Rattle.saphyr_machine.specs.Views.Machines.{machine_of, happening, told_event_of, PassesTokenBy, TakesBy};
+    ghost use Rattle.saphyr_scanner.specs.Views.Tokens.{start_piece, which_piece, KeepsSpan};
+    ghost use Rattle.saphyr_machine.specs.Views.Machines.{
+      machine_of,
+      happening,
+      told_event_of,
+      HasRoom,
+      IsTaken,
+      PassesTokenBy,
+      TakesBy,
+      TakesSomeBy,
+    };
 
     // A machine that has read nothing.
     pub(super) fn new(alloc: Global, scanner: Scanner<T>) -> Self
@@ -151,7 +161,8 @@ impl<T: Input> Machine<T> {
     // Passes the next token, if it is seen to be this indicator, and returns its span. For speed no token is made.
     #[inline(always)]
     pub(super) fn pass(&mut self, indicator: Indicator) -> Result<Option<Span>, Stop>
-        ensures { PassesTokenBy (indicator_kind indicator) self.old result self.new }
+        ensures passed { PassesTokenBy (indicator_kind indicator) self.old result self.new }
+        ensures room { IfOk result (λ span. IfSome span (λ _. self.new.token ≡ None)) }
     {
         if let Some(token) = &self.token {
             if !indicator.is(&token.kind) {
@@ -163,6 +174,61 @@ impl<T: Input> Machine<T> {
             return Ok(Some(span));
         }
         self.scanner.pass(indicator)
+    }
+
+    // Passes the token that was put back, if it is one of these indicators, says which, and writes its span into `span`.
+    #[inline(never)]
+    fn pass_back(&mut self, first: Indicator, second: Indicator, span: &mut Span) -> Which
+        ensures passed { IsTaken
+            (which_piece (indicator_kind first) (indicator_kind second) span.new result)
+            (machine_of self.old) (machine_of self.new) }
+        ensures room { HasRoom (Ok result) self.new.token }
+    {
+        let Some(token) = &self.token else {
+            return Which::Neither;
+        };
+        let which = if first.is(&token.kind) {
+            Which::First
+        } else if second.is(&token.kind) {
+            Which::Second
+        } else {
+            return Which::Neither;
+        };
+        *span = token.span;
+        // An indicator holds no memory.
+        forget(self.token.take());
+        which
+    }
+
+    // Passes the next token, if it is seen to be one of these indicators, says which, and writes its span into `span`.
+    #[inline(always)]
+    pub(super) fn pass_either(
+        &mut self,
+        first: Indicator,
+        second: Indicator,
+        span: &mut Span,
+    ) -> Result<Which, Stop>
+        ensures passed { TakesSomeBy
+            (which_piece (indicator_kind first) (indicator_kind second) span.new)
+            self.old result self.new }
+        ensures room { HasRoom result self.new.token }
+    {
+        if self.token.is_some() {
+            return Ok(self.pass_back(first, second, span));
+        }
+        self.scanner.pass_either(first, second, span)
+    }
+
+    // Takes the next token, if it is seen to be a scalar or the start of a block collection, and writes its span into
+    // `span`. To be called where no token was put back.
+    #[inline(always)]
+    pub(super) fn take_node_start(&mut self, span: &mut Span) -> Result<NodeStart, Stop>
+        requires { self.old.token ≡ None }
+        ensures taken { TakesSomeBy (start_piece span.new) self.old result self.new }
+        ensures kept { KeepsSpan result span.old span.new }
+        ensures room { self.new.token ≡ None }
+    {
+        self.scanner.take_node_start(span)
     }
 
     // Keeps what ended the reading. Returns whether nothing did.

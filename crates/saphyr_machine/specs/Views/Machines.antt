@@ -4,6 +4,8 @@ use Rattle.saphyr_scalar.specs.declared.scalar.fault.Refusal.{Refusal}
 use Rattle.saphyr_scalar.specs.declared.scalar.fault.Stop.{Stop}
 use Rattle.saphyr_scalar.specs.declared.scalar.position.Span.{Span}
 use Rattle.saphyr_scalar.specs.Views.Reader.{Fails, Moves}
+use Rattle.saphyr_scanner.specs.declared.queue.Which.{Which}
+use Rattle.saphyr_scanner.specs.declared.queue.Which.TheVariants as which
 use Rattle.saphyr_scanner.specs.declared.token.Token.{Token}
 use Rattle.saphyr_scanner.specs.Grammar.Tokens.{Kind}
 use Rattle.saphyr_scanner.specs.Views.Tokens.{Remaining, Piece, piece, before}
@@ -62,3 +64,21 @@ PassesTokenBy kind old (Ok (Some span)) new =
     taken_token (machine_of old) ≡ Ok (record { span = span; kind = kind }, machine_of new)
 PassesTokenBy kind old (Ok None) new = machine_of new ≡ machine_of old
 PassesTokenBy kind old (Err e) new = Fails e (taken_token (machine_of old))
+
+-- This token came first. Without one the machine is the same.
+abbrev pub IsTaken : Option Piece → Machine → Machine → Type 0
+IsTaken (Some t) m n = taken_token m ≡ Ok (t, n)
+IsTaken None m n = n ≡ m
+
+-- What a call that takes the next token only if it is seen to be of some kinds returned, by which token that shows, and
+-- the machine that it left.
+abbrev pub TakesSomeBy
+    : {A T : Type 0} → (A → Option Piece) → declared.Machine T → Result A Stop → declared.Machine T → Type 0
+TakesSomeBy shown old (Ok x) new = IsTaken (shown x) (machine_of old) (machine_of new)
+TakesSomeBy shown old (Err e) new = Fails e (taken_token (machine_of old))
+
+-- Where an indicator was passed, no token is put back.
+abbrev pub HasRoom : Result Which Stop → Option Token → Type 0
+HasRoom (Ok which.First) t = t ≡ None
+HasRoom (Ok which.Second) t = t ≡ None
+HasRoom _ t = Unit {0}
