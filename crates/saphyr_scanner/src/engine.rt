@@ -231,6 +231,31 @@ impl<T: Input> Engine<T> {
         self.queue.put_indicator(&mark, &mark, indicator)
     }
 
+    // The same where the reader is. For speed the place is not copied in between, as it would be for a call.
+    #[inline(always)]
+    fn put_here(&mut self, indicator: Indicator) -> Result<(), AllocError>
+        ensures { OnOk result (state self.new ≡ spec_state.with_action
+            (spec.at_mark (state self.old).core.cursor.mark (indicator_kind indicator))
+            (state self.old)) }
+    {
+        if self.queue.is_holding() {
+            return self.put_here_behind(indicator);
+        }
+        let mark = self.reader.mark();
+        self.put_empty_indicator(mark, indicator)
+    }
+
+    // The same after tokens that are held.
+    #[inline(never)]
+    fn put_here_behind(&mut self, indicator: Indicator) -> Result<(), AllocError>
+        ensures { OnOk result (state self.new ≡ spec_state.with_action
+            (spec.at_mark (state self.old).core.cursor.mark (indicator_kind indicator))
+            (state self.old)) }
+    {
+        let mark = self.reader.mark();
+        self.put_empty_indicator(mark, indicator)
+    }
+
     // Puts an indicator that ends here into the queue.
     #[inline(always)]
     fn put_indicator_from(&mut self, start: Marker, indicator: Indicator) -> Result<(), AllocError>

@@ -18,12 +18,13 @@ use saphyr_input::input::{Input, SkipTabs};
 use saphyr_scalar::{FaultText, Stop};
 
 // Whether the character is one that most entries begin with, and no blank, break, `#`, flow indicator or byte order
-// mark.
+// mark. For speed the most frequent ones are tested first.
 #[inline(always)]
 fn may_begin_entry(c: char) -> bool
     ensures { result ≡ may_begin_entry c }
 {
-    matches!(c, '"' | '$'..='+' | '-'..='Z' | '^'..='z' | '\u{A0}'..='\u{D7FF}')
+    let is_frequent = c >= '-' && c <= 'z' && !(c >= '[' && c <= ']');
+    is_frequent || matches!(c, '"' | '$'..='+' | '\u{A0}'..='\u{D7FF}')
 }
 
 impl<T: Input> Engine<T> {
@@ -144,15 +145,14 @@ impl<T: Input> Engine<T> {
         if !self.key_allowed {
             return Err(self.refuse_here(FaultText::SequenceEntryNotAllowed));
         }
-        let start = self.reader.mark();
-        if self.is_further(start.col) {
-            self.put_empty_indicator(start, Indicator::BlockSequenceStart)?;
+        let column = self.reader.mark().col;
+        if self.is_further(column) {
+            self.put_here(Indicator::BlockSequenceStart)?;
         }
-        self.begin_entry(next, start.col)?;
+        self.begin_entry(next, column)?;
         self.remove_key()?;
         self.key_allowed = true;
-        let end = self.reader.mark();
-        self.put_empty_indicator(end, Indicator::BlockEntry)?;
+        self.put_here(Indicator::BlockEntry)?;
         Ok(())
     }
 
