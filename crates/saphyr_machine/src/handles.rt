@@ -1,26 +1,28 @@
 //! The handles that a document's directives have declared. None may be declared twice (YAML 1.2.2, 6.8.2).
 
-ghost use Rattle.std.specs.Prelude.{◌≡◌, Bool, ℕ, List, not, Ok, string_bytes};
+ghost use Rattle.std.specs.Prelude.{◌≡◌, Ok};
 ghost use Rattle.saphyr_machine.specs.Steps.Machine as spec;
 
+use crate::prefix_table::PrefixTable;
 use saphyr_scalar::Stop;
 use std::alloc::Global;
-use std::collections::BTreeSet;
 use std::marker::Model;
 
 /// The handles that the directives of a document declare.
 #[derive(Drop)]
 pub struct Handles {
-    declared: BTreeSet<String>,
+    // Each has an empty prefix: the table takes little more memory than the texts of the handles.
+    declared: PrefixTable,
 }
 
 impl Model for Handles {
     ghost use Rattle.std.specs.Prelude.{ℕ, List};
-    ghost use Rattle.saphyr_machine.specs.Names.{names_of};
+    ghost use Rattle.std.specs.Map.{keys_of};
+    ghost use Rattle.saphyr_machine.specs.PrefixTable.{declared_prefixes};
 
     ghost Value = { List (List ℕ) };
 
-    ghost view = { λ h. names_of h.declared };
+    ghost view = { λ h. keys_of (declared_prefixes h.declared) };
 }
 
 impl Handles {
@@ -31,22 +33,21 @@ impl Handles {
         ensures { result ≡ [] }
     {
         Handles {
-            declared: BTreeSet::new(alloc),
+            declared: PrefixTable::new(alloc),
         }
     }
 
     pub fn contains(&self, handle: &str) -> bool
         ensures { result ≡ spec.is_listed handle.now self.now }
     {
-        self.declared.contains(handle)
+        self.declared.prefix_of(handle).is_some()
     }
 
-    #[tactic(auto, using(crate::proofs::Names::names_listed))]
-    pub fn insert(&mut self, handle: String) -> Result<(), Stop>
-        ensures { Moves (λ _. self.new) result
-            (Ok (spec.with_name (string_bytes handle) self.old)) }
+    #[tactic(auto, using(crate::proofs::Names::given_names))]
+    pub fn insert(&mut self, handle: &str) -> Result<(), Stop>
+        ensures { Moves (λ _. self.new) result (Ok (spec.with_name handle.now self.old)) }
     {
-        self.declared.insert(handle)?;
+        self.declared.declare(handle, "")?;
         Ok(())
     }
 }

@@ -1,8 +1,13 @@
-use Rattle.std.proofs.Common.{◌∙◌, ap, List, ℕ}
+use Rattle.std.proofs.Common.{◌∙◌, ap, List, ℕ, Option}
+use Rattle.std.specs.Prelude.{is_some}
+use Rattle.saphyr_machine.specs.PrefixTable.{declared_prefixes}
 use Rattle.saphyr_machine.specs.Steps.Machine.{is_listed}
-use Rattle.saphyr_machine.proofs.Names.{name_listed}
+use Rattle.saphyr_machine.proofs.Names.{has_meaning, still_some}
 use Rattle.saphyr_machine.proofs.handles.Handles.contains.Goals as goal
 
 pub returns : goal.returns
-returns c = c.contains.ensures ∙ name_listed c.self.inside.declared c.args.handle.now
+returns c =
+    c.is_some.ensures ∙ still_some (λ prefix. prefix.now) c.prefix_of.result
+    ∙ ap (λ (o : Option (List ℕ)). is_some o) c.prefix_of.ensures
+    ∙ has_meaning c.args.handle.now (declared_prefixes c.self.inside.declared)
     ∙ ap (λ (names : List (List ℕ)). is_listed c.args.handle.now names) c.self.view_is
