@@ -83,7 +83,10 @@ impl<T: Input> Machine<T> {
             Which::First => self.block_sequence_node(next)?,
             Which::Second => {
                 self.pop();
-                next.0.write_over_untagged(Event::SequenceEnd);
+                // Many may end at one place. For speed the event is then there already.
+                if !matches!(next.0, Event::SequenceEnd) {
+                    next.0.write_over_untagged(Event::SequenceEnd);
+                }
             }
             Which::Neither => {
                 if !self.tells_block_entry(next) {
@@ -259,7 +262,10 @@ impl<T: Input> Machine<T> {
             Which::First => self.block_key_node(next)?,
             Which::Second => {
                 self.pop();
-                next.0.write_over_untagged(Event::MappingEnd);
+                // Many may end at one place. For speed the event is then there already.
+                if !matches!(next.0, Event::MappingEnd) {
+                    next.0.write_over_untagged(Event::MappingEnd);
+                }
             }
             Which::Neither => {
                 if !self.tells_block_key(next) {

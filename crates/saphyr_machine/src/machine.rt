@@ -177,7 +177,7 @@ impl<T: Input> Machine<T> {
     }
 
     // Passes the token that was put back, if it is one of these indicators, says which, and writes its span into `span`.
-    #[inline(never)]
+    #[inline(always)]
     fn pass_back(&mut self, first: Indicator, second: Indicator, span: &mut Span) -> Which
         ensures passed { IsTaken
             (which_piece (indicator_kind first) (indicator_kind second) span.new result)
