@@ -174,8 +174,7 @@ impl<T: Input> Machine<T> {
         let token = self.take()?;
         match token.kind {
             TokenType::BlockEntry | TokenType::BlockEnd => {
-                let dash = next.1;
-                self.left_out(token, State::BlockSequenceEntry, dash, next)
+                self.left_out_there(token, State::BlockSequenceEntry, next)
             }
             _ => self.inside(State::BlockSequenceEntry, NodeContext::Block, token, next)?,
         }
@@ -470,8 +469,7 @@ impl<T: Input> Machine<T> {
         let token = self.take()?;
         match token.kind {
             TokenType::Key | TokenType::Value | TokenType::BlockEnd => {
-                let colon = next.1;
-                self.left_out(token, State::BlockMappingKey, colon, next)
+                self.left_out_there(token, State::BlockMappingKey, next)
             }
             _ => self.inside(
                 State::BlockMappingKey,

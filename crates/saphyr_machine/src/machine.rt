@@ -311,4 +311,21 @@ impl<T: Input> Machine<T> {
         self.state.set(state);
         tell_over(next, self.empty_scalar(), span);
     }
+    // The same where the span of the event is there already.
+    #[inline(always)]
+    pub(super) fn left_out_there<'input>(
+        &mut self,
+        token: Token,
+        state: State,
+        next: &mut (Event<'input>, Span),
+    )
+        requires room { self.old.token ≡ None }
+        requires untagged { has_tag next.old.0 ≡ false }
+        ensures { spec.left_out_event (piece token) state next.old.1 (machine_of self.old)
+            ≡ Ok (told_event_of (machine_of self.new) next.new) }
+    {
+        self.put_back(token);
+        self.state.set(state);
+        next.0.write_over_untagged(self.empty_scalar());
+    }
 }
