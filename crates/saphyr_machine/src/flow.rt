@@ -12,24 +12,66 @@ use saphyr_scalar::{FaultText, Marker, Span, Stop};
 use saphyr_scanner::{Indicator, Token, TokenType};
 
 impl<T: Input> Machine<T> {
+    ghost use Rattle.saphyr_scalar.specs.Views.Reader.{ReadsOn};
     ghost use Rattle.saphyr_scanner.specs.Views.Engine.{answer_of};
     ghost use Rattle.saphyr_scanner.specs.Views.Tokens.{piece};
     ghost use Rattle.saphyr_machine.specs.Views.Events.{has_tag};
     ghost use Rattle.saphyr_machine.specs.Views.Machines.{machine_of, told_event_of, TellsBy};
 
-    // The first entry of a flow sequence, or the end of the sequence. It is separate from entries after a comma for
-    // speed: a function that would grow too large is not inlined, and `event` is to be.
-    pub(super) fn flow_sequence_first_entry<'input>(
+    // An entry of a flow sequence, which is the first or comes after a comma, or the end of the sequence. For speed no
+    // token is made of the first indicator. These are two states with one function, so that what tells an entry has one
+    // caller: a function that is large is inlined only there.
+    #[tactic(auto, unfolding(crate::specs::Steps::Flow::flow_sequence_entry))]
+    pub(super) fn flow_sequence_entry<'input>(
         &mut self,
+        first: bool,
         next: &mut (Event<'input>, Span),
     ) -> Result<(), Stop>
         requires { has_tag next.old.0 ≡ false }
-        ensures { TellsBy spec.flow_sequence_first_entry self.old result next.new self.new }
+        ensures { TellsBy (spec.flow_sequence_turn first) self.old result next.new self.new }
     {
-        self.flow_sequence_item(next)
+        if !first && self.pass(Indicator::Entry)?.is_none() {
+            if let Some(span) = self.pass(Indicator::SequenceEnd)? {
+                self.end_sequence(span, next);
+                return Ok(());
+            }
+            if !self.passes_comma() {
+                return Err(self.stop);
+            }
+        }
+        self.flow_sequence_item(next)?;
+        Ok(())
     }
 
-    // The first entry of a flow sequence, or the one after a comma, or the end of the sequence.
+    // Passes the comma before an entry, or leaves the end of the sequence to be read again. `false`: something else
+    // comes, or nothing, and the stop is kept. It is a call of its own, since such tokens are rare.
+    #[inline(never)]
+    fn passes_comma(&mut self) -> bool
+        ensures { ReadsOn (answer_of result self.new.stop)
+            (spec.flow_sequence_entry (machine_of self.old))
+            (spec.flow_sequence_first_entry (machine_of self.new)) }
+    {
+        let passed = self.pass_comma();
+        self.keep(passed)
+    }
+
+    #[tactic(auto, unfolding(crate::specs::Steps::Flow::flow_sequence_entry, crate::specs::Steps::Flow::flow_sequence_first_entry))]
+    fn pass_comma(&mut self) -> Result<(), Stop>
+        ensures { ReadsOn result (spec.flow_sequence_entry (machine_of self.old))
+            (spec.flow_sequence_first_entry (machine_of self.new)) }
+    {
+        let token = self.take()?;
+        match token.kind {
+            TokenType::FlowEntry => {
+                let _ = place_of(token);
+            }
+            TokenType::FlowSequenceEnd => self.put_back(token),
+            _ => return Err(refuse(FaultText::FlowSequenceEndExpected, place_of(token).start)),
+        }
+        Ok(())
+    }
+
+    // The entry, or the end of the sequence.
     #[inline(always)]
     #[tactic(auto, unfolding(crate::specs::Steps::Flow::flow_sequence_first_entry))]
     fn flow_sequence_item<'input>(&mut self, next: &mut (Event<'input>, Span)) -> Result<(), Stop>
@@ -38,72 +80,11 @@ impl<T: Input> Machine<T> {
     {
         let token = self.take()?;
         match token.kind {
-            TokenType::FlowSequenceEnd => {
-                self.pop();
-                tell_over(next, Event::SequenceEnd, place_of(token));
-            }
+            TokenType::FlowSequenceEnd => self.end_sequence(place_of(token), next),
             TokenType::Key => {
-                self.state.set(State::FlowSequenceEntryMappingKey);
-                tell_over(next, Event::MappingStart(0, None), place_of(token));
+                self.begin_mapping(State::FlowSequenceEntryMappingKey, place_of(token), next)
             }
             _ => self.inside(State::FlowSequenceEntry, NodeContext::Flow, token, next)?,
-        }
-        Ok(())
-    }
-
-    // The comma before an entry of a flow sequence, with the entry, or the end of the sequence. For speed no token is
-    // made of the first indicator.
-    #[tactic(auto, unfolding(crate::specs::Steps::Flow::flow_sequence_entry))]
-    pub(super) fn flow_sequence_entry<'input>(
-        &mut self,
-        next: &mut (Event<'input>, Span),
-    ) -> Result<(), Stop>
-        requires { has_tag next.old.0 ≡ false }
-        ensures { TellsBy spec.flow_sequence_entry self.old result next.new self.new }
-    {
-        if self.pass(Indicator::Entry)?.is_some() {
-            self.flow_sequence_item(next)?;
-            return Ok(());
-        }
-        if let Some(span) = self.pass(Indicator::SequenceEnd)? {
-            self.pop();
-            tell_over(next, Event::SequenceEnd, span);
-            return Ok(());
-        }
-        if !self.tells_flow_entry(next) {
-            return Err(self.stop);
-        }
-        Ok(())
-    }
-
-    // The same with the stop kept, as a call of its own: such tokens are rare.
-    #[inline(never)]
-    fn tells_flow_entry<'input>(&mut self, next: &mut (Event<'input>, Span)) -> bool
-        requires { has_tag next.old.0 ≡ false }
-        ensures { TellsBy spec.flow_sequence_entry self.old (answer_of result self.new.stop)
-            next.new self.new }
-    {
-        let ended = self.any_flow_entry(next);
-        self.keep(ended)
-    }
-
-    // The same for any token.
-    #[tactic(auto, unfolding(crate::specs::Steps::Flow::flow_sequence_entry))]
-    fn any_flow_entry<'input>(&mut self, next: &mut (Event<'input>, Span)) -> Result<(), Stop>
-        requires { has_tag next.old.0 ≡ false }
-        ensures { TellsBy spec.flow_sequence_entry self.old result next.new self.new }
-    {
-        let token = self.take()?;
-        match token.kind {
-            TokenType::FlowSequenceEnd => {
-                self.pop();
-                tell_over(next, Event::SequenceEnd, place_of(token));
-            }
-            TokenType::FlowEntry => {
-                let _ = place_of(token);
-                self.flow_sequence_item(next)?
-            }
-            _ => return Err(refuse(FaultText::FlowSequenceEndExpected, place_of(token).start)),
         }
         Ok(())
     }
@@ -233,14 +214,17 @@ impl<T: Input> Machine<T> {
     }
 
     // The same for any token.
-    #[tactic(auto, unfolding(crate::specs::Steps::Flow::flow_mapping_first_key))]
+    #[tactic(auto, unfolding(crate::specs::Steps::Flow::flow_mapping_first_key, crate::specs::Steps::Flow::flow_mapping_pair_behind_comma))]
     fn any_first_flow_key<'input>(&mut self, next: &mut (Event<'input>, Span)) -> Result<(), Stop>
         requires { has_tag next.old.0 ≡ false }
         ensures { TellsBy spec.flow_mapping_first_key self.old result next.new self.new }
     {
         let token = self.take()?;
         let span = token.span;
-        self.flow_mapping_pair(span, token, next)?;
+        self.put_back(token);
+        if !self.tells_flow_pair_behind_comma(span, next) {
+            return Err(self.stop);
+        }
         Ok(())
     }
 
@@ -259,8 +243,7 @@ impl<T: Input> Machine<T> {
             return Ok(());
         }
         if let Some(span) = self.pass(Indicator::MappingEnd)? {
-            self.pop();
-            tell_over(next, Event::MappingEnd, span);
+            self.end_mapping(span, next);
             return Ok(());
         }
         if !self.tells_flow_key(next) {
@@ -288,11 +271,12 @@ impl<T: Input> Machine<T> {
     {
         let token = self.take()?;
         match token.kind {
-            TokenType::FlowMappingEnd => {
-                self.pop();
-                tell_over(next, Event::MappingEnd, place_of(token));
+            TokenType::FlowMappingEnd => { self.end_mapping(place_of(token), next) }
+            TokenType::FlowEntry => {
+                if !self.tells_flow_pair_behind_comma(place_of(token), next) {
+                    return Err(self.stop);
+                }
             }
-            TokenType::FlowEntry => self.flow_mapping_pair_behind_comma(place_of(token), next)?,
             _ => return Err(refuse(FaultText::FlowMappingEndExpected, place_of(token).start)),
         }
         Ok(())
@@ -372,8 +356,7 @@ impl<T: Input> Machine<T> {
                 self.left_out(token, State::FlowMappingValue, span, next)
             }
             TokenType::FlowMappingEnd => {
-                self.pop();
-                tell_over(next, Event::MappingEnd, end);
+                self.end_mapping(end, next);
                 let _ = place_of(token);
             }
             _ => self.inside(State::FlowMappingEmptyValue, NodeContext::Flow, token, next)?,

@@ -120,6 +120,56 @@ impl<T: Input> Machine<T> {
         tell(next, Event::MappingStart(anchor, tag), span);
     }
 
+    // The sequence that is open ends. For speed this is a function of its own, as the next ones are: the place of an
+    // event is cleared where the function that makes it begins.
+    #[inline(always)]
+    pub(super) fn end_sequence<'input>(&mut self, span: Span, next: &mut (Event<'input>, Span))
+        requires { has_tag next.old.0 ≡ false }
+        ensures { spec.ended_sequence span (machine_of self.old)
+            ≡ Ok (told_event_of (machine_of self.new) next.new) }
+    {
+        self.pop();
+        tell_over(next, Event::SequenceEnd, span);
+    }
+
+    // The mapping that is open ends.
+    #[inline(always)]
+    pub(super) fn end_mapping<'input>(&mut self, span: Span, next: &mut (Event<'input>, Span))
+        requires { has_tag next.old.0 ≡ false }
+        ensures { spec.ended_mapping span (machine_of self.old)
+            ≡ Ok (told_event_of (machine_of self.new) next.new) }
+    {
+        self.pop();
+        tell_over(next, Event::MappingEnd, span);
+    }
+
+    // A sequence without properties begins.
+    #[inline(always)]
+    fn begin_sequence<'input>(&mut self, state: State, span: Span, next: &mut (Event<'input>, Span))
+        requires { has_tag next.old.0 ≡ false }
+        ensures { spec.begun_sequence state span (machine_of self.old)
+            ≡ Ok (told_event_of (machine_of self.new) next.new) }
+    {
+        self.state.set(state);
+        tell_over(next, Event::SequenceStart(0, None), span);
+    }
+
+    // A mapping without properties begins.
+    #[inline(always)]
+    pub(super) fn begin_mapping<'input>(
+        &mut self,
+        state: State,
+        span: Span,
+        next: &mut (Event<'input>, Span),
+    )
+        requires { has_tag next.old.0 ≡ false }
+        ensures { spec.begun_mapping state span (machine_of self.old)
+            ≡ Ok (told_event_of (machine_of self.new) next.new) }
+    {
+        self.state.set(state);
+        tell_over(next, Event::MappingStart(0, None), span);
+    }
+
     // A scalar with these properties.
     #[inline(always)]
     fn tell_scalar<'input>(
@@ -508,8 +558,8 @@ impl<T: Input> Machine<T> {
         self.keep(ended)
     }
 
-    // A node begins with the token. Most nodes have no properties. Their content is read here and not by `content`,
-    // so no `Properties` are made for them.
+    // A node begins with the token. Most nodes have no properties. Their content is read here and by `collection`, and
+    // not by `content`, so no `Properties` are made for them.
     #[inline(always)]
     #[tactic(auto, unfolding(crate::specs::Steps::Nodes::node, crate::specs::Steps::Nodes::node_content))]
     pub(super) fn node<'input>(
@@ -529,26 +579,41 @@ impl<T: Input> Machine<T> {
                 self.pop();
                 tell_over(next, event, span);
             }
+            kind => self.collection(context, Token { span, kind }, next)?,
+        }
+        Ok(())
+    }
+
+    // The same, but mostly it is a collection.
+    #[inline(always)]
+    #[tactic(auto, unfolding(crate::specs::Steps::Nodes::node, crate::specs::Steps::Nodes::node_content))]
+    fn collection<'input>(
+        &mut self,
+        context: NodeContext,
+        token: Token,
+        next: &mut (Event<'input>, Span),
+    ) -> Result<(), Stop>
+        requires room { self.old.token ≡ None }
+        requires untagged { has_tag next.old.0 ≡ false }
+        ensures { TellsBy (spec.node context (piece token)) self.old result next.new self.new }
+    {
+        let Token { span, kind } = token;
+        match kind {
             TokenType::FlowSequenceStart => {
-                self.state.set(State::FlowSequenceFirstEntry);
-                tell_over(next, Event::SequenceStart(0, None), span);
+                self.begin_sequence(State::FlowSequenceFirstEntry, span, next)
             }
             TokenType::FlowMappingStart => {
-                self.state.set(State::FlowMappingFirstKey);
-                tell_over(next, Event::MappingStart(0, None), span);
+                self.begin_mapping(State::FlowMappingFirstKey, span, next)
             }
             TokenType::BlockSequenceStart if context.allows_block() => {
-                self.state.set(State::BlockSequenceEntry);
-                tell_over(next, Event::SequenceStart(0, None), span);
+                self.begin_sequence(State::BlockSequenceEntry, span, next)
             }
             TokenType::BlockMappingStart if context.allows_block() => {
-                self.state.set(State::BlockMappingKey);
-                tell_over(next, Event::MappingStart(0, None), span);
+                self.begin_mapping(State::BlockMappingKey, span, next)
             }
             TokenType::BlockEntry if context.allows_indentless() => {
                 self.put_back(Token { span, kind });
-                self.state.set(State::IndentlessSequenceEntry);
-                tell_over(next, Event::SequenceStart(0, None), span);
+                self.begin_sequence(State::IndentlessSequenceEntry, span, next)
             }
             kind => {
                 if !self.tells_rare_node(context, Token { span, kind }, next) {
@@ -583,7 +648,7 @@ impl<T: Input> Machine<T> {
                 tell_over(next, event, span);
             }
             kind => match self.push(state) {
-                Ok(()) => self.node(context, Token { span, kind }, next)?,
+                Ok(()) => self.collection(context, Token { span, kind }, next)?,
                 Err(stop) => {
                     drop(kind);
                     return Err(stop);

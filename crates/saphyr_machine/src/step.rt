@@ -36,18 +36,19 @@ impl<T: Input> Machine<T> {
         ensures same { machine_of self.new ≡ machine_of self.old }
         ensures untagged { has_tag place.new ≡ false }
     {
-        if let Event::Scalar(CowStr::Owned(text), _, _, _) = place {
-            self.scanner
-                .give_back(replace(text, String::new(self.alloc)));
-        }
         if let Event::Scalar(_, _, _, tag) = place {
             // Mostly there is none, and a test costs less than a move.
             if tag.is_some() {
                 self.give_back_tag(tag);
             }
+        } else {
+            place.clear_tagged();
             return;
         }
-        place.clear_tagged();
+        if let Event::Scalar(CowStr::Owned(text), _, _, _) = place {
+            self.scanner
+                .give_back(replace(text, String::new(self.alloc)));
+        }
     }
 
     // The same for the tag. It is separate for speed, since few scalars have one.
@@ -74,10 +75,10 @@ impl<T: Input> Machine<T> {
             (machine_of self.new) }
         ensures own { is_foreign (item_at next.new fault.new result) ≡ false }
     {
+        self.give_back(&mut next.0);
         if matches!(self.state.get(), State::End) {
             return Progress::Over;
         }
-        self.give_back(&mut next.0);
         match self.event(next) {
             Ok(()) => Progress::Event,
             Err(stop) => {
@@ -98,7 +99,8 @@ impl<T: Input> Machine<T> {
         requires untagged { has_tag next.old.0 ≡ false }
         ensures { TellsBy spec.event_step self.old result next.new self.new }
     {
-        match self.state.get() {
+        let state = self.state.get();
+        match state {
             State::StreamStart => return self.stream_start(next),
             State::ImplicitDocumentStart => return self.implicit_document_start(next),
             State::DocumentStart => return self.document_start(next),
@@ -109,8 +111,10 @@ impl<T: Input> Machine<T> {
             State::IndentlessSequenceEntry => self.indentless_sequence_entry(next)?,
             State::BlockMappingKey => self.block_mapping_key(next)?,
             State::BlockMappingValue => self.block_mapping_value(next)?,
-            State::FlowSequenceFirstEntry => self.flow_sequence_first_entry(next)?,
-            State::FlowSequenceEntry => self.flow_sequence_entry(next)?,
+            State::FlowSequenceFirstEntry | State::FlowSequenceEntry => {
+                let first = matches!(state, State::FlowSequenceFirstEntry);
+                self.flow_sequence_entry(first, next)?
+            }
             State::FlowSequenceEntryMappingKey => return self.flow_sequence_entry_mapping_key(next),
             State::FlowSequenceEntryMappingValue => return self.flow_sequence_entry_mapping_value(
                 next,

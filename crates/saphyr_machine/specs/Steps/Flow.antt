@@ -1,5 +1,5 @@
 -- The steps inside flow collections (YAML 1.2.2, 7.4).
-use Rattle.std.specs.Prelude.{None, Result}
+use Rattle.std.specs.Prelude.{Bool, true, false, None, Result}
 use Rattle.saphyr_scalar.specs.declared.scalar.position.Marker.{Marker}
 use Rattle.saphyr_scalar.specs.declared.scalar.position.Span.{Span}
 use Rattle.saphyr_scalar.specs.declared.scalar.fault.Refusal.{Refusal}
@@ -35,6 +35,11 @@ unfoldable pub flow_sequence_entry : Machine → Result Told Refusal
 flow_sequence_entry m = do
   t ← taken_token m
   flow_sequence_entry_at t.0.kind t.0 t.1
+
+-- an entry, which is the first or comes after a comma
+abbrev pub flow_sequence_turn : Bool → Machine → Result Told Refusal
+flow_sequence_turn true m = flow_sequence_first_entry m
+flow_sequence_turn false m = flow_sequence_entry m
 
 -- ## Pairs of a sequence that begin with `?`
 

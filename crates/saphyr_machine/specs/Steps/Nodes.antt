@@ -63,6 +63,20 @@ told_scalar text style p place m =
 abbrev pub told_alias : ℕ → Span → Machine → Told
 told_alias id s m = record { what = events.Alias id; span = s; machine = pop m }
 
+-- ## Collections that begin without properties, or end
+
+abbrev pub begun_sequence : State → Span → Machine → Result Told Refusal
+begun_sequence s span m = told_event (events.SequenceStart 0 None) span (with_state s m)
+
+abbrev pub begun_mapping : State → Span → Machine → Result Told Refusal
+begun_mapping s span m = told_event (events.MappingStart 0 None) span (with_state s m)
+
+abbrev pub ended_sequence : Span → Machine → Result Told Refusal
+ended_sequence span m = told_event events.SequenceEnd span (pop m)
+
+abbrev pub ended_mapping : Span → Machine → Result Told Refusal
+ended_mapping span m = told_event events.MappingEnd span (pop m)
+
 -- the content of a node begins with the token
 abbrev pub node_content_at : Kind → NodeProperties → NodeContext → Piece → Machine → Result Told Refusal
 node_content_at (tokens.Scalar style text) p c t m =
