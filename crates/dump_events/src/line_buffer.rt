@@ -90,7 +90,11 @@ impl<W: Write + Drop> LineBuffer<W> {
             return 0;
         }
         let count = bytes.len().min(ROOM);
-        if self.gathers(&bytes[..count]) { count } else { 0 }
+        if self.gathers(&bytes[..count]) {
+            count
+        } else {
+            0
+        }
     }
 }
 

@@ -1,7 +1,19 @@
 use Rattle.std.proofs.Common.{
-  ◌≡◌, ◌≤◌, ◌-◌, ◌+◌, ◌++◌,
-  length, take, drop, sym, ap, ◌∙◌, arith,
-  take-append-drop, length-take, length-drop,
+  ◌≡◌,
+  ◌≤◌,
+  ◌-◌,
+  ◌+◌,
+  ◌++◌,
+  length,
+  take,
+  drop,
+  sym,
+  ap,
+  ◌∙◌,
+  arith,
+  take-append-drop,
+  length-take,
+  length-drop,
 }
 use lib.Seq.{paste, take-paste}
 use Rattle.std.proofs.KnownBytes.{append_known-moved}
@@ -18,14 +30,14 @@ returns-clause-bytes g c =
     let bound = c.write_out-written.ensures.bound in
     let few : n ≤ filled = omega (arith, length-take filled room, bound) in
     let fits : left ≤ length (drop n room) =
-        omega (arith, length-drop n room, length-take filled room, bound) in
+    omega (arith, length-drop n room, length-take filled room, bound) in
     let same : left ≡ 0 + left = omega arith in
     let moved : take left c.copy_within.new.self ≡ take left (drop n room) =
-        ap (take left) c.copy_within.ensures.after ∙ ap (λ k. take k (paste room 0 (drop n room) left)) same
-        ∙ take-paste room 0 (drop n room) left (omega arith) fits in
+    ap (take left) c.copy_within.ensures.after ∙ ap (λ k. take k (paste room 0 (drop n room) left)) same
+    ∙ take-paste room 0 (drop n room) left (omega arith) fits in
     let rest : drop n (take filled room) ≡ take left c.copy_within.new.self =
-        ap (λ k. drop n (take k room)) (omega (arith, few)) ∙ drop-take n left room ∙ sym moved in
+    ap (λ k. drop n (take k room)) (omega (arith, few)) ∙ drop-take n left room ∙ sym moved in
     let all : take c.args.self.now.filled room ≡ take filled room =
-        sym (take_min c.args.self.now.filled room) ∙ ap (λ k. take k room) (omega (arith, c.min-filled.ensures)) in
+    sym (take_min c.args.self.now.filled room) ∙ ap (λ k. take k room) (omega (arith, c.min-filled.ensures)) in
     append_known-moved _ _ _ _ _ c.write_out-written.ensures.bytes
     (all ∙ sym (take-append-drop n (take filled room)) ∙ ap (λ l. take n (take filled room) ++ l) rest)
