@@ -35,7 +35,8 @@ as_put {Z} name z (e ∷ es) =
     same Equal a b c = refl
     same Greater a b c = refl
 
-pub sorted_with : {Z : Type 0} (name : List ℕ) (z : Z) (names : Names Z) → Sorted names → Sorted (with_meaning name z names)
+pub sorted_with : {Z : Type 0} (name : List ℕ) (z : Z) (names : Names Z) → Sorted names
+    → Sorted (with_meaning name z names)
 sorted_with {Z} name z names h =
     subst (λ (ns : Names Z). Sorted ns) (sym (as_put name z names))
     (is_sorted-put (slice_cmp nat_cmp) nat_list_cmp_total name z names h)
@@ -119,7 +120,8 @@ put_below {Z} name z es old new none is =
     ∙ by n (is_at (slice_cmp nat_cmp n) name) refl
     ∙ ap (λ (m : Option Z). cond (is_at (slice_cmp nat_cmp n) name) (Some z) (option_or (meaning n es) m))
     (sym (meaning_alone n old))
-    ∙ ap (λ (m : Option Z). cond (is_at (slice_cmp nat_cmp n) name) (Some z) m) (sym (meaning_all n es (with_all old [])))
+    ∙ ap (λ (m : Option Z). cond (is_at (slice_cmp nat_cmp n) name) (Some z) m)
+    (sym (meaning_all n es (with_all old [])))
     ∙ sym (meaning_with n name z (with_all es (with_all old []))))
   where
     by : (n : List ℕ) (b : Bool) → is_at (slice_cmp nat_cmp n) name ≡ b

@@ -20,7 +20,7 @@ use Rattle.std.proofs.lemmas.Map.Text.{is_eq-slice_cmp}
 use Rattle.std.specs.FinMap.{nat_cmp-IsAntisymmetric}
 use Rattle.saphyr_machine.specs.declared.prefix_table.Place.{Place}
 use Rattle.saphyr_machine.specs.ListedNames.{GrowsBehind}
-use Rattle.saphyr_machine.specs.PlacedTexts.{hash_of, handle_at, prefix_at, placed, HasTexts, IsPlaced}
+use Rattle.saphyr_machine.specs.PlacedTexts.{hash_of, handle_at, prefix_at, placed, LiesWhole, IsPlaced}
 use Rattle.saphyr_machine.specs.Names.{texts_of}
 use Rattle.saphyr_machine.specs.PrefixTable.{with_all}
 use Rattle.saphyr_machine.specs.Steps.Machine.{Names, meaning, with_meaning}
@@ -70,7 +70,9 @@ missed bytes (e ∷ es) handle h none =
     by false p later none =
         ap (λ (b : Bool). cond b (Some (prefix_at bytes e.1)) (meaning handle (placed bytes es)))
         (apart handle there (λ same. true≢false
-        (sym (ap is_eq (tied_itself nat_cmp_total (hash_of handle))) ∙ ap (λ (n : ℕ). is_at (nat_cmp (hash_of handle)) n) (same ∙ number) ∙ p)))
+        (sym (ap is_eq (tied_itself nat_cmp_total (hash_of handle)))
+        ∙ ap (λ (n : ℕ). is_at (nat_cmp (hash_of handle)) n) (same ∙ number)
+        ∙ p)))
         ∙ later none
 
 -- the prefix at a place, if the handle there is this one
@@ -113,17 +115,20 @@ looked_up bytes (e ∷ es) handle h sorted =
     by false p later =
         ap (λ (b : Bool). cond b (Some (prefix_at bytes e.1)) (meaning handle (placed bytes es)))
         (apart handle there (λ same. true≢false
-        (sym (ap is_eq (tied_itself nat_cmp_total (hash_of handle))) ∙ ap (λ (n : ℕ). is_at (nat_cmp (hash_of handle)) n) (same ∙ number) ∙ p)))
+        (sym (ap is_eq (tied_itself nat_cmp_total (hash_of handle)))
+        ∙ ap (λ (n : ℕ). is_at (nat_cmp (hash_of handle)) n) (same ∙ number)
+        ∙ p)))
         ∙ later
 
 -- what is found has texts
 pub texts_found : (bytes : List ℕ) (es : Places) (k : ℕ) (p : Place) → All (IsPlaced bytes) es
-    → lookup (is_at (nat_cmp k)) es ≡ Some p → HasTexts bytes p
+    → lookup (is_at (nat_cmp k)) es ≡ Some p → LiesWhole bytes p
 texts_found bytes es k p h is =
-    subst (λ (o : Option Place). IfSome o (HasTexts bytes)) is
-    (All-lookup (HasTexts bytes) (is_at (nat_cmp k)) es (λ i d lt. (h i d lt).0))
+    subst (λ (o : Option Place). IfSome o (LiesWhole bytes)) is
+    (All-lookup (LiesWhole bytes) (is_at (nat_cmp k)) es (λ i d lt. (h i d lt).0))
 
-pub none_placed : (bytes : List ℕ) (es : Places) (handle : List ℕ) → length es ≡ 0 → meaning handle (placed bytes es) ≡ None
+pub none_placed : (bytes : List ℕ) (es : Places) (handle : List ℕ) → length es ≡ 0
+    → meaning handle (placed bytes es) ≡ None
 none_placed bytes [] handle e = refl
 none_placed bytes (x ∷ es) handle e = absurd (omega (arith, e))
 
@@ -179,8 +184,10 @@ one_placed bytes (e ∷ es) k p handle h none number =
         → (lookup (is_at (nat_cmp k)) es ≡ None → meaning handle (placed bytes (insert_entry nat_cmp es k p))
         ≡ cond (is_at (slice_cmp nat_cmp handle) new) (Some (prefix_at bytes p)) rest)
         → cond (is_eq o) (Some e.1) (lookup (is_at (nat_cmp k)) es) ≡ None
-        → meaning handle (placed bytes (match_ordering o ((k, p) ∷ e ∷ es) ((e.0, p) ∷ es) (e ∷ insert_entry nat_cmp es k p)))
-        ≡ cond (is_at (slice_cmp nat_cmp handle) new) (Some (prefix_at bytes p)) (meaning handle (placed bytes (e ∷ es)))
+        → meaning handle
+        (placed bytes (match_ordering o ((k, p) ∷ e ∷ es) ((e.0, p) ∷ es) (e ∷ insert_entry nat_cmp es k p)))
+        ≡ cond (is_at (slice_cmp nat_cmp handle) new) (Some (prefix_at bytes p))
+        (meaning handle (placed bytes (e ∷ es)))
     by Less is later none = refl
     by Equal is later none = absurd (not_some e.1 none)
     by Greater is later none =
@@ -199,8 +206,8 @@ longer : (old new : List ℕ) → GrowsBehind old new → length old ≤ length 
 longer old new g =
     let both = ap length (grown old new g) ∙ length-append old (drop (length old) new) in omega (arith, both)
 
-texts_stay : (old new : List ℕ) (p : Place) → GrowsBehind old new → HasTexts old p
-    → HasTexts new p × (handle_at new p ≡ handle_at old p) × (prefix_at new p ≡ prefix_at old p)
+texts_stay : (old new : List ℕ) (p : Place) → GrowsBehind old new → LiesWhole old p
+    → LiesWhole new p × (handle_at new p ≡ handle_at old p) × (prefix_at new p ≡ prefix_at old p)
 texts_stay old new p g h =
     let ordered = h.0 in
     let later = h.1 in

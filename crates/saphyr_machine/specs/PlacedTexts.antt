@@ -15,14 +15,14 @@ handle_at bytes p = slice_range bytes p.start p.middle
 abbrev pub prefix_at : List ℕ → Place → List ℕ
 prefix_at bytes p = slice_range bytes p.middle p.end
 
-abbrev pub HasTexts : List ℕ → Place → Type 0
-HasTexts bytes p =
+abbrev pub LiesWhole : List ℕ → Place → Type 0
+LiesWhole bytes p =
     (p.start ≤ p.middle) × (p.middle ≤ p.end) × (p.end ≤ length bytes)
     × ∥ IsUtf8 (handle_at bytes p) ∥₁ × ∥ IsUtf8 (prefix_at bytes p) ∥₁
 
 -- A place has texts, and its number is that of its handle.
 abbrev pub IsPlaced : List ℕ → ℕ × Place → Type 0
-IsPlaced bytes e = HasTexts bytes e.1 × (hash_of (handle_at bytes e.1) ≡ e.0)
+IsPlaced bytes e = LiesWhole bytes e.1 × (hash_of (handle_at bytes e.1) ≡ e.0)
 
 -- the handles at the places, with their prefixes
 abbrev pub placed : List ℕ → List (ℕ × Place) → Names (List ℕ)

@@ -93,7 +93,7 @@ impl<T: Input> Machine<T> {
       happening,
       told_event_of,
       HasRoom,
-      IsTaken,
+      IsTakenOff,
       PassesTokenBy,
       TakesBy,
       TakesSomeBy,
@@ -176,10 +176,11 @@ impl<T: Input> Machine<T> {
         self.scanner.pass(indicator)
     }
 
-    // Passes the token that was put back, if it is one of these indicators, says which, and writes its span into `span`.
+    // Passes the token that was put back, if it is one of these indicators, says which, and writes its span into
+    // `span`.
     #[inline(always)]
     fn pass_back(&mut self, first: Indicator, second: Indicator, span: &mut Span) -> Which
-        ensures passed { IsTaken
+        ensures passed { IsTakenOff
             (which_piece (indicator_kind first) (indicator_kind second) span.new result)
             (machine_of self.old) (machine_of self.new) }
         ensures room { HasRoom (Ok result) self.new.token }

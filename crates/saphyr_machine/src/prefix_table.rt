@@ -52,7 +52,7 @@ fn hash_of(handle: &str) -> u64
 // Puts a handle and its prefix after the others, unless they would end where a `u32` does not reach.
 fn append(bytes: &mut Vec<u8>, handle: &str, prefix: &str) -> Result<Option<Place>, AllocError>
     ensures grows { GrowsBehind bytes.old.items bytes.new.items }
-    ensures texts { IfOk result (λ place. IfSome place (spec.HasTexts bytes.new.items)) }
+    ensures texts { IfOk result (λ place. IfSome place (spec.LiesWhole bytes.new.items)) }
     ensures handle { IfOk result (λ place. IfSome place (λ p.
         spec.handle_at bytes.new.items p ≡ handle.now)) }
     ensures prefix { IfOk result (λ place. IfSome place (λ p.
@@ -154,7 +154,7 @@ impl PrefixTable {
     // The handle at a place.
     #[inline(always)]
     fn handle_at(&self, place: Place) -> &str
-        requires { spec.HasTexts self.now.bytes.items place }
+        requires { spec.LiesWhole self.now.bytes.items place }
         ensures { result.now ≡ spec.handle_at self.now.bytes.items place }
     {
         let bytes = &self.bytes[place.start as usize..place.middle as usize];
@@ -165,7 +165,7 @@ impl PrefixTable {
     // The prefix at a place.
     #[inline(always)]
     fn prefix_at(&self, place: Place) -> &str
-        requires { spec.HasTexts self.now.bytes.items place }
+        requires { spec.LiesWhole self.now.bytes.items place }
         ensures { result.now ≡ spec.prefix_at self.now.bytes.items place }
     {
         let bytes = &self.bytes[place.middle as usize..place.end as usize];

@@ -1,5 +1,6 @@
 -- Comments that are passed between two tokens, with the breaks behind them.
 use Rattle.std.proofs.Common.{◌≡◌, ℕ, ◌+◌, suc, ◌≤◌, ◌<◌, Result, Bool, true, false, List, [], ◌∷◌, drop, length, slice_index, refl, sym, ap, ◌∙◌, arith, Some}
+use Rattle.std.proofs.lemmas.Option.{same_Some}
 use Rattle.std.specs.Prelude.{◌==◌, ◌||◌, ◌&&◌, not, Option}
 use Rattle.std.specs.List.{prefix_len}
 use Rattle.std.proofs.lemmas.Bool.{eqb-true}
@@ -53,15 +54,12 @@ comment_part false s t first passed ends =
       shorter = λ _. omega (arith, less, here);
     }
 
-some_same : (c d : ℕ) → ◌≡◌ {A = Option ℕ} (Some c) (Some d) → c ≡ d
-some_same c d e = cc
-
 -- the character that is seen behind a `#`
 seen_is : (xs : List ℕ) (second : ℕ) → Some second ≡ ascii_behind xs 35
     → (slice_index xs 0 ≡ number_sign) × (second ≡ slice_index xs 1)
 seen_is xs second = by_test ((slice_index xs 0 == 35) && is_ascii_but_nul (slice_index xs 1)) _ _
     (λ (o : Option ℕ). Some second ≡ o → (slice_index xs 0 ≡ number_sign) × (second ≡ slice_index xs 1))
-    (λ h e. (eqb-true (slice_index xs 0) 35 (and_true_left _ _ h), some_same second (slice_index xs 1) e))
+    (λ h e. (eqb-true (slice_index xs 0) 35 (and_true_left _ _ h), same_Some second (slice_index xs 1) e))
     (λ h e. absurd (none-some second (sym e)))
 
 pub seen_part : (b : Bool) (second : ℕ) (s t u : Cursor) → Some second ≡ ascii_behind s.rest 35 → t ≡ s
@@ -120,7 +118,9 @@ pub spaces_part : (most : ℕ) (s r t : Cursor) (c : ℕ) → c ≡ slice_index 
 spaces_part most s r t c first same passed none =
     let here : t ≡ pass_spaces most s = same ∙ passed in
     let behind : (slice_index (pass_spaces most s).rest 0 == number_sign) ≡ false =
-    ap (λ (u : Cursor). slice_index u.rest 0 == number_sign) (sym passed) ∙ ap (λ x. x == number_sign) (sym first) ∙ none in
+    ap (λ (u : Cursor). slice_index u.rest 0 == number_sign) (sym passed)
+    ∙ ap (λ x. x == number_sign) (sym first)
+    ∙ none in
     let less : length t.rest ≤ length s.rest = rw here (drop_shorter (spaces_within most s.rest) s.rest) in
     record {
       same = λ l broke tabbed. spaces_passed l most broke tabbed s s t _ refl here refl;
@@ -133,7 +133,8 @@ pub spaced_part : (b : Bool) (most : ℕ) (s r t u : Cursor) (c : ℕ) → c ≡
     → (b ≡ true → is_break (slice_index (pass_comment t).rest 0) ≡ true) → PassesPart b s u
 spaced_part b most s r t u c first same behind sign passed ends =
     let here : t ≡ pass_spaces most s = same ∙ behind in
-    let signed : slice_index t.rest 0 ≡ number_sign = ap (λ (v : Cursor). slice_index v.rest 0) same ∙ sym first ∙ sign in
+    let signed : slice_index t.rest 0 ≡ number_sign =
+    ap (λ (v : Cursor). slice_index v.rest 0) same ∙ sym first ∙ sign in
     let part : PassesPart b t u = comment_part b t u signed passed ends in
     let less : length t.rest ≤ length s.rest = rw here (drop_shorter (spaces_within most s.rest) s.rest) in
     let least : length u.rest < length t.rest = part.shorter (rw signed refl) in
@@ -201,8 +202,8 @@ last_part true s t u first later part = further_part true false s t u (later ref
 
 -- ## In the loop over all that is between two tokens
 
-pub part_passed : (b : Bool) (least : ℕ) (broke tabbed : Bool) (before read after : Cursor) (all : Result GapEnd Refusal)
-    → read ≡ before → PassesPart b read after → gap_at least broke tabbed before ≡ all
+pub part_passed : (b : Bool) (least : ℕ) (broke tabbed : Bool) (before read after : Cursor)
+    (all : Result GapEnd Refusal) → read ≡ before → PassesPart b read after → gap_at least broke tabbed before ≡ all
     → gap_at least (b || broke) (not b && tabbed) after ≡ all
 part_passed b least broke tabbed before read after all same part known =
     part.same least broke tabbed ∙ ap (gap_at least broke tabbed) same ∙ known
@@ -210,5 +211,6 @@ part_passed b least broke tabbed before read after all same part known =
 pub sign_passed : (b : Bool) (c : ℕ) (before read after : Cursor) → c ≡ slice_index before.rest 0 → read ≡ before
     → c ≡ number_sign → PassesPart b read after → length after.rest < length before.rest
 sign_passed b c before read after first same sign part =
-    let signed : slice_index read.rest 0 ≡ number_sign = ap (λ (v : Cursor). slice_index v.rest 0) same ∙ sym first ∙ sign in
+    let signed : slice_index read.rest 0 ≡ number_sign =
+    ap (λ (v : Cursor). slice_index v.rest 0) same ∙ sym first ∙ sign in
     rw (sym same) (part.shorter (rw signed refl))

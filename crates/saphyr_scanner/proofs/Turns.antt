@@ -10,7 +10,7 @@ use Rattle.saphyr_scanner.specs.declared.queue.Opening.{Opening}
 use Rattle.saphyr_scanner.specs.declared.queue.Opening.TheVariants as opening
 use Rattle.saphyr_scanner.specs.Grammar.Tokens.{Kind}
 use Rattle.saphyr_scanner.specs.Views.Queue.{PassesOffBy, TakenOff, TakesOffSome}
-use Rattle.saphyr_scanner.specs.Views.Tokens.{Piece, Remaining, none, before, piece, written_token, handed_token, CameFirst, Hands, Passes, TakesSome}
+use Rattle.saphyr_scanner.specs.Views.Tokens.{Piece, Remaining, none, before, piece, written_token, handed_token, CameFirst, Hands, PassesNext, TakesOneOf}
 use Rattle.saphyr_scanner.specs.Steps.Queue.{Place}
 use Rattle.saphyr_scanner.specs.Steps.Core.{Core}
 use Rattle.saphyr_scanner.specs.Steps.State.{State}
@@ -112,7 +112,7 @@ handed_over laws limit s t u token (Err (stops.Refused f)) old e took is = absur
 
 pub passed_over : Readers → (limit : ℕ) (s t u : State) (kind : Kind) (r : Result (Option Span) Stop) (old : Remaining)
     → fill limit s ≡ Ok t → PassesOffBy kind take_token r t u → remaining limit s ≡ old
-    → Passes kind r old (remaining limit u)
+    → PassesNext kind r old (remaining limit u)
 passed_over laws limit s t u kind (Ok (Some span)) old e took is =
     let f = filled laws limit s t e in
     let second : (take_token t).1 ≡ u = ap (λ x. x.1) took in
@@ -140,7 +140,7 @@ first_off laws limit s t u None old e same is =
 
 pub some_off : {A : Type 0} → Readers → (limit : ℕ) (s t u : State) (shown : A → Option Piece) (r : Result A Stop)
     (old : Remaining) → fill limit s ≡ Ok t → TakesOffSome shown take_token r t u → remaining limit s ≡ old
-    → TakesSome shown r old (remaining limit u)
+    → TakesOneOf shown r old (remaining limit u)
 some_off laws limit s t u shown (Ok x) old e took is = first_off laws limit s t u (shown x) old e took is
 some_off laws limit s t u shown (Err stops.OutOfMemory) old e failed is = tt
 some_off laws limit s t u shown (Err (stops.Refused f)) old e failed is = absurd (cc)

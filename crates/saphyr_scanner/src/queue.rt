@@ -4,7 +4,7 @@ mod aside;
 mod cloning;
 mod content;
 mod held;
-mod near;
+mod origin;
 mod place;
 mod row;
 
@@ -456,8 +456,8 @@ impl Queue {
         }
     }
 
-    /// Takes the first token off, if it is seen to be one of these indicators, and writes its span into `span`. Only the
-    /// rows are looked at.
+    /// Takes the first token off, if it is seen to be one of these indicators, and writes its span into `span`. Only
+    /// the rows are looked at.
     #[inline(always)]
     pub(crate) fn pass_either(
         &mut self,

@@ -3,7 +3,7 @@
 ghost use Rattle.std.specs.Prelude.{◌≡◌, IfOk, length};
 ghost use Rattle.saphyr_scanner.specs.Steps.Remaining.{scan};
 ghost use Rattle.saphyr_scanner.specs.Views.Places.{indicator_kind};
-ghost use Rattle.saphyr_scanner.specs.Views.Tokens.{GivesLast, Hands, KeepsSpan, Passes, TakesSome, handed_token, piece, start_piece, which_piece};
+ghost use Rattle.saphyr_scanner.specs.Views.Tokens.{GivesLast, Hands, KeepsSpan, PassesNext, TakesOneOf, handed_token, piece, start_piece, which_piece};
 ghost use Rattle.saphyr_scanner.specs.SpansInOrder.{AreInOrder};
 ghost use Rattle.saphyr_scanner.specs.TokensTaken.{AreTakenFrom};
 
@@ -98,11 +98,11 @@ impl<T: Input> Scanner<T> {
         self.engine.take_into(head, token)
     }
 
-    /// Passes the next token, if it is seen to be this indicator, and returns its span. `None`: none was passed, and the
-    /// tokens to come are the same. No token is made for it, which is faster where one isn't needed.
+    /// Passes the next token, if it is seen to be this indicator, and returns its span. `None`: none was passed, and
+    /// the tokens to come are the same. No token is made for it, which is faster where one isn't needed.
     #[inline(always)]
     pub fn pass(&mut self, indicator: Indicator) -> Result<Option<Span>, Stop>
-        ensures { Passes (indicator_kind indicator) result self.old self.new }
+        ensures { PassesNext (indicator_kind indicator) result self.old self.new }
     {
         // A law. It does nothing when it runs.
         takes_characters_off();
@@ -111,7 +111,8 @@ impl<T: Input> Scanner<T> {
     }
 
     /// Passes the next token, if it is seen to be one of these indicators, says which, and writes its span into `span`.
-    /// `Which::Neither`: none was passed, and the tokens to come are the same. That is one look for two calls of `pass`.
+    /// `Which::Neither`: none was passed, and the tokens to come are the same. That is one look for two calls of
+    /// `pass`.
     #[inline(always)]
     pub fn pass_either(
         &mut self,
@@ -119,7 +120,7 @@ impl<T: Input> Scanner<T> {
         second: Indicator,
         span: &mut Span,
     ) -> Result<Which, Stop>
-        ensures { TakesSome
+        ensures { TakesOneOf
             (which_piece (indicator_kind first) (indicator_kind second) span.new) result
             self.old self.new }
     {
@@ -133,7 +134,7 @@ impl<T: Input> Scanner<T> {
     /// `span`. `NodeStart::Other`: none was taken, the tokens to come are the same, and so is `span`. No token is made.
     #[inline(always)]
     pub fn take_node_start(&mut self, span: &mut Span) -> Result<NodeStart, Stop>
-        ensures taken { TakesSome (start_piece span.new) result self.old self.new }
+        ensures taken { TakesOneOf (start_piece span.new) result self.old self.new }
         ensures kept { KeepsSpan result span.old span.new }
     {
         // A law. It does nothing when it runs.

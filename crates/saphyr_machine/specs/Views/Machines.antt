@@ -56,8 +56,8 @@ abbrev pub TellsBy
     → declared.Machine T → Type 0
 TellsBy f old result next new = Moves (λ _. told_event_of (machine_of new) next) result (f (machine_of old))
 
--- What a call that passes the next token if it has this kind returned, and the machine that it left. `None` says that it
--- passed none.
+-- What a call that passes the next token if it has this kind returned, and the machine that it left. `None` says that
+-- it passed none.
 abbrev pub PassesTokenBy
     : {T : Type 0} → Kind → declared.Machine T → Result (Option Span) Stop → declared.Machine T → Type 0
 PassesTokenBy kind old (Ok (Some span)) new =
@@ -66,15 +66,15 @@ PassesTokenBy kind old (Ok None) new = machine_of new ≡ machine_of old
 PassesTokenBy kind old (Err e) new = Fails e (taken_token (machine_of old))
 
 -- This token came first. Without one the machine is the same.
-abbrev pub IsTaken : Option Piece → Machine → Machine → Type 0
-IsTaken (Some t) m n = taken_token m ≡ Ok (t, n)
-IsTaken None m n = n ≡ m
+abbrev pub IsTakenOff : Option Piece → Machine → Machine → Type 0
+IsTakenOff (Some t) m n = taken_token m ≡ Ok (t, n)
+IsTakenOff None m n = n ≡ m
 
 -- What a call that takes the next token only if it is seen to be of some kinds returned, by which token that shows, and
 -- the machine that it left.
 abbrev pub TakesSomeBy
     : {A T : Type 0} → (A → Option Piece) → declared.Machine T → Result A Stop → declared.Machine T → Type 0
-TakesSomeBy shown old (Ok x) new = IsTaken (shown x) (machine_of old) (machine_of new)
+TakesSomeBy shown old (Ok x) new = IsTakenOff (shown x) (machine_of old) (machine_of new)
 TakesSomeBy shown old (Err e) new = Fails e (taken_token (machine_of old))
 
 -- Where an indicator was passed, no token is put back.

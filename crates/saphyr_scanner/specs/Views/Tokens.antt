@@ -87,11 +87,12 @@ Hands (Ok None) old new = (old ≡ none) × (new ≡ none)
 Hands (Err stop.OutOfMemory) old new = Unit {0}
 Hands (Err (stop.Refused e)) old new = old ≡ refusal_alone e
 
--- What a call that passes the next token if it has this kind returns, and what remains: `None` says that it passed none.
-abbrev pub Passes : Kind → Result (Option Span) Stop → Remaining → Remaining → Type 0
-Passes kind (Ok (Some span)) old new = old ≡ before (record { span = span; kind = kind }) new
-Passes kind (Ok None) old new = new ≡ old
-Passes kind (Err e) old new = Hands (Err e) old new
+-- What a call that passes the next token if it has this kind returns, and what remains: `None` says that it passed
+-- none.
+abbrev pub PassesNext : Kind → Result (Option Span) Stop → Remaining → Remaining → Type 0
+PassesNext kind (Ok (Some span)) old new = old ≡ before (record { span = span; kind = kind }) new
+PassesNext kind (Ok None) old new = new ≡ old
+PassesNext kind (Err e) old new = Hands (Err e) old new
 
 -- the token that was passed, if one was: it has one of two kinds, and this span
 abbrev pub which_piece : Kind → Kind → Span → Which → Option Piece
@@ -118,6 +119,6 @@ CameFirst None old new = new ≡ old
 
 -- What a call that takes the next token only if it is seen to be of some kinds returns, by which token that shows, and
 -- what remains.
-abbrev pub TakesSome : {A : Type 0} → (A → Option Piece) → Result A Stop → Remaining → Remaining → Type 0
-TakesSome shown (Ok x) old new = CameFirst (shown x) old new
-TakesSome shown (Err e) old new = Hands (Err e) old new
+abbrev pub TakesOneOf : {A : Type 0} → (A → Option Piece) → Result A Stop → Remaining → Remaining → Type 0
+TakesOneOf shown (Ok x) old new = CameFirst (shown x) old new
+TakesOneOf shown (Err e) old new = Hands (Err e) old new

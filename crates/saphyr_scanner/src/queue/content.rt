@@ -2,7 +2,7 @@
 
 ghost use Rattle.std.specs.Prelude.{◌≡◌, [], List, ℕ, IfOk, IfSome, IsTrue, string_bytes};
 ghost use Rattle.saphyr_scanner.specs.Grammar.Tokens as tokens;
-ghost use Rattle.saphyr_scanner.specs.Views.Places.{handle_text, indicator_kind, text_kind};
+ghost use Rattle.saphyr_scanner.specs.Views.Places.{held_handle, indicator_kind, text_kind};
 ghost use Rattle.saphyr_scanner.specs.Views.Reads.{quote_style};
 ghost use Rattle.saphyr_scanner.specs.Views.Tokens.{kind_of};
 
@@ -134,7 +134,7 @@ impl Handle {
     /// Which of them a handle is, if it is one.
     #[inline(always)]
     pub(super) fn of(handle: &str) -> Option<Handle>
-        ensures { IfSome result (λ found. handle_text found ≡ handle.now) }
+        ensures { IfSome result (λ found. held_handle found ≡ handle.now) }
     {
         match handle.as_bytes() {
             [] => Some(Handle::Empty),
@@ -148,7 +148,7 @@ impl Handle {
     #[inline(always)]
     fn written_in(self, mut text: String) -> Result<String, AllocError>
         requires { string_bytes text ≡ [] }
-        ensures { IfOk result (λ handle. string_bytes handle ≡ handle_text self) }
+        ensures { IfOk result (λ handle. string_bytes handle ≡ held_handle self) }
     {
         match self {
             Handle::Empty => {}
@@ -163,7 +163,7 @@ impl Handle {
     pub(super) fn tag(self, memory: TagParts, suffix: &str) -> Result<TagParts, AllocError>
         requires handle { string_bytes memory.handle ≡ [] }
         requires suffix { string_bytes memory.suffix ≡ [] }
-        ensures handle { IfOk result (λ tag. string_bytes tag.handle ≡ handle_text self) }
+        ensures handle { IfOk result (λ tag. string_bytes tag.handle ≡ held_handle self) }
         ensures suffix { IfOk result (λ tag. string_bytes tag.suffix ≡ suffix.now) }
     {
         let TagParts {

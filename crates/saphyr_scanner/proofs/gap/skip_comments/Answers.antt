@@ -1,4 +1,4 @@
-use Rattle.std.proofs.Common.{◌≡◌, true, false, refl}
+use Rattle.std.proofs.Common.{refl}
 use Rattle.saphyr_scanner.proofs.Comments.{last_part, later_part, part_shorter}
 use Rattle.saphyr_scanner.proofs.gap.skip_comments.Goals as goal
 

@@ -3,7 +3,7 @@ use Rattle.std.proofs.Common.{◌≡◌, ◌∙◌, ap, subst, sym, List, ℕ, [
 use Rattle.std.specs.Prelude.{IfSome}
 use Rattle.saphyr_machine.specs.declared.prefix_table.Place.{Place}
 use Rattle.saphyr_machine.specs.Names.{texts_of}
-use Rattle.saphyr_machine.specs.PlacedTexts.{handle_at, hash_of, prefix_at, HasTexts, IsPlaced}
+use Rattle.saphyr_machine.specs.PlacedTexts.{handle_at, hash_of, prefix_at, LiesWhole, IsPlaced}
 use Rattle.saphyr_machine.specs.PrefixTable.{with_all}
 use Rattle.saphyr_machine.specs.Steps.Machine.{Names}
 use Rattle.saphyr_machine.proofs.PrefixTable.{one_put, places_after, places_stay}
@@ -36,12 +36,12 @@ invariant_of-self-2 c =
     let old = c.args.self.now in
     let bytes = c.append.new.bytes.items in
     let stay = places_stay old.bytes.items bytes old.places.entries c.append.ensures.grows old.are_placed in
-    let texts = subst (λ (o : Option Place). IfSome o (HasTexts bytes)) c.in-Some.is c.in_ok-place.ensures.texts in
+    let texts = subst (λ (o : Option Place). IfSome o (LiesWhole bytes)) c.in-Some.is c.in_ok-place.ensures.texts in
     let handle = subst (λ (o : Option Place). IfSome o (λ p. handle_at bytes p ≡ c.args.handle.now)) c.in-Some.is
     c.in_ok-place.ensures.handle in
     record {
-      are_placed = places_after c.insert.result (IsPlaced bytes) old.places.entries c.insert.new.self.entries c.args.hash
-          c.in-Some.place c.insert.ensures.entries c.insert.ensures.err c.requires.free stay.0
+      are_placed = places_after c.insert.result (IsPlaced bytes) old.places.entries c.insert.new.self.entries
+          c.args.hash c.in-Some.place c.insert.ensures.entries c.insert.ensures.err c.requires.free stay.0
           (texts, ap hash_of handle ∙ sym c.requires.hash);
     }
 

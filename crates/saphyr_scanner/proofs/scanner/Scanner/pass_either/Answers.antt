@@ -14,5 +14,6 @@ returns-in_err-head g c =
 pub returns : goal.returns
 returns g c =
     some_off c.takes_characters_off.ensures c.self.inside.limit _ _ (state c.pass_either.new.self)
-    (which_piece (indicator_kind c.args.first) (indicator_kind c.args.second) c.pass_either.new.span) c.pass_either.result _
+    (which_piece (indicator_kind c.args.first) (indicator_kind c.args.second) c.pass_either.new.span)
+    c.pass_either.result _
     c.in_ok-head.ensures.filled c.pass_either.ensures c.self.view_is
