@@ -10,6 +10,7 @@ ghost use Rattle.saphyr_parser.specs.Runs as spec;
 use crate::cursor::Parser;
 use crate::printing::dump;
 use crate::printing::fault::DumpFault;
+use crate::printing::utf8::{StdTest, Utf8Test};
 use crate::printing::writing::{Unwritten, write_all, write_number};
 use saphyr_machine::Fault;
 use saphyr_scalar::{Marker, ScanError};
@@ -29,7 +30,6 @@ pub enum RunFault {
 ///
 /// Returns the program's status: 0 if all lines were written, otherwise 1. Then one line of `err` says
 /// why, and `name` names the source in it. If that line can't be written, the status is still 1.
-#[tactic(auto, using(crate::proofs::Printed::Running::says))]
 pub fn run_dump<R: Read, W: Write, E: Write>(
     alloc: Global,
     name: &str,
@@ -40,7 +40,22 @@ pub fn run_dump<R: Read, W: Write, E: Write>(
     ensures { spec.Runs result name.now (R.remaining source.old) (R.remaining source.new)
         (W.contents out.old) (W.contents out.new) (E.contents err.old) (E.contents err.new) }
 {
-    match print_source(alloc, source, out) {
+    run_dump_by::<StdTest, R, W, E>(alloc, name, source, out, err)
+}
+
+/// The same with another test for UTF-8, which may be faster.
+#[tactic(auto, using(crate::proofs::Printed::Running::says))]
+pub fn run_dump_by<U: Utf8Test, R: Read, W: Write, E: Write>(
+    alloc: Global,
+    name: &str,
+    source: &mut R,
+    out: &mut W,
+    err: &mut E,
+) -> u8
+    ensures { spec.Runs result name.now (R.remaining source.old) (R.remaining source.new)
+        (W.contents out.old) (W.contents out.new) (E.contents err.old) (E.contents err.new) }
+{
+    match print_source::<U, R, W>(alloc, source, out) {
         Ok(()) => 0,
         Err(fault) => {
             let _ = complain(err, name.as_bytes(), &fault);
@@ -61,7 +76,7 @@ pub fn refuse_source<E: Write>(err: &mut E, name: &[u8]) -> u8
 }
 
 // Reads all bytes, and prints the events of their text.
-fn print_source<R: Read, W: Write>(
+fn print_source<U: Utf8Test, R: Read, W: Write>(
     alloc: Global,
     source: &mut R,
     out: &mut W,
@@ -73,9 +88,9 @@ fn print_source<R: Read, W: Write>(
     if source.read_to_end(&mut bytes).is_err() {
         return Err(RunFault::CantRead);
     }
-    match str::from_utf8(&bytes) {
-        Ok(text) => print_text(alloc, text, out),
-        Err(_) => Err(RunFault::NotUtf8),
+    match U::text(&bytes) {
+        Some(text) => print_text(alloc, text, out),
+        None => Err(RunFault::NotUtf8),
     }
 }
 
