@@ -2,8 +2,6 @@ pub mod Given
 pub mod ListedNames
 pub mod Names
 pub mod NameTable
-pub mod Meanings
-pub mod PrefixTable
 pub mod Passing
 pub mod Walk
 pub mod Sizes

@@ -7,14 +7,14 @@ use Rattle.std.proofs.lemmas.List.Elements.{All-head, All-push, All-tail}
 use Rattle.saphyr_machine.specs.declared.name_list.Name.{Name}
 use Rattle.saphyr_machine.specs.ListedNames.{GrowsBehind, HasName, text_of, with_id}
 
-pub range_of_append : (old more : List ℕ) (a b : ℕ) → a ≤ b → b ≤ length old
+range_of_append : (old more : List ℕ) (a b : ℕ) → a ≤ b → b ≤ length old
     → slice_range (old ++ more) a b ≡ slice_range old a b
 range_of_append old more a b h k =
     let behind = length-drop a old in
     ap (take (b - a)) (drop-append-le a old more (omega (arith, h, k)))
     ∙ take-append-le (b - a) (drop a old) more (omega (arith, h, k, behind))
 
-pub grown : (old new : List ℕ) → GrowsBehind old new → new ≡ old ++ drop (length old) new
+grown : (old new : List ℕ) → GrowsBehind old new → new ≡ old ++ drop (length old) new
 grown old new g = sym (take-append-drop (length old) new) ∙ ap (λ r. r ++ drop (length old) new) g
 
 stays : (old new : List ℕ) (n : Name) → GrowsBehind old new → HasName old n

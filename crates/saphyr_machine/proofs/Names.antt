@@ -2,6 +2,8 @@
 use Rattle.std.proofs.Common.{◌≡◌, arith, ℕ, length, List, [], ◌∷◌, Option, Some, None, Result, Ok, refl, sym, ap, ◌∙◌, cond, Bool, true, false, true≢false, ◌||◌, nat_eq, ◌+◌, ◌<◌, ◌++◌, take, get_or}
 use Rattle.std.specs.Prelude.{map, String, string_bytes, string_cmp, option_map, is_some}
 use Rattle.std.specs.BTreeMap.{BTreeMap, get_by, insert_entry, is_at}
+use Rattle.std.specs.BTreeSet.{BTreeSet, contains_by, insert_key}
+use Rattle.std.specs.List.{list_any}
 use Rattle.std.specs.Cmp.Lexicographic.{slice_cmp, pointwise}
 use Rattle.std.proofs.lemmas.List.{map-append, take_more}
 use Rattle.std.proofs.lemmas.List.Sums.{fold-append}
@@ -15,7 +17,7 @@ use Rattle.saphyr_scalar.specs.declared.scalar.fault.Refusal.{Refusal}
 use Rattle.saphyr_machine.specs.Steps.Machine.{Names, Anchors, meaning, with_meaning, is_listed, with_name, next_id, with_anchor}
 use Rattle.saphyr_machine.specs.declared.name_list.Name.{Name}
 use Rattle.saphyr_machine.specs.ListedNames.{text_of, with_id}
-use Rattle.saphyr_machine.specs.Names.{ids_of, with_listed, texts_of}
+use Rattle.saphyr_machine.specs.Names.{ids_of, with_listed, texts_of, names_of}
 
 abbrev pub seen : {A X Z : Type 0} → (X → Z) → List (String A × X) → Names Z
 seen {A} {X} {Z} f es = map (λ (e : String A × X). (string_bytes e.0, f e.1)) es
@@ -146,6 +148,13 @@ pub texts_meaning : {A : Type 0} (m : BTreeMap (String A) (String A)) (handle : 
     ≡ meaning handle (texts_of m)
 texts_meaning m handle = found_by_bytes string_bytes handle m.entries
 
+pub texts_empty : {A : Type 0} (m : BTreeMap (String A) (String A)) → length m.entries ≡ 0 → texts_of m ≡ []
+texts_empty m e = none m.entries e
+  where
+    none : {A : Type 0} (es : List (String A × String A)) → length es ≡ 0 → seen string_bytes es ≡ []
+    none [] e = refl
+    none (x ∷ es) e = absurd (omega (arith, e))
+
 names_with : {Z : Type 0} (o : Ordering) (a b c : Names Z)
     → keys_of (match_ordering o a b c) ≡ match_ordering o (keys_of a) (keys_of b) (keys_of c)
 names_with Less a b c = refl
@@ -173,6 +182,45 @@ has_meaning {Z} name (e ∷ es) =
     some true z o = refl
     some false z o = refl
 
-pub still_some : {X Z : Type 0} (f : X → Z) (o : Option X) → is_some o ≡ is_some (option_map f o)
-still_some f None = refl
-still_some f (Some x) = refl
+pub texts_listed : {A : Type 0} (m : BTreeMap (String A) (String A)) (handle : List ℕ)
+    → is_some (get_by (λ (k : String A). slice_cmp nat_cmp handle (string_bytes k)) m)
+    ≡ is_listed handle (keys_of (texts_of m))
+texts_listed m handle =
+    still_some string_bytes _ ∙ ap (λ (o : Option (List ℕ)). is_some o) (texts_meaning m handle)
+    ∙ has_meaning handle (texts_of m)
+  where
+    still_some : {X Z : Type 0} (f : X → Z) (o : Option X) → is_some o ≡ is_some (option_map f o)
+    still_some f None = refl
+    still_some f (Some x) = refl
+
+-- ## Sets
+
+abbrev texts : {A : Type 0} → List (String A) → List (List ℕ)
+texts {A} ks = map (λ (k : String A). string_bytes k) ks
+
+among : {A : Type 0} (o : Ordering) (a b c : List (String A))
+    → texts (match_ordering o a b c) ≡ match_ordering o (texts a) (texts b) (texts c)
+among Less a b c = refl
+among Equal a b c = refl
+among Greater a b c = refl
+
+added : {A : Type 0} (ks : List (String A)) (k : String A)
+    → texts (insert_key string_cmp ks k) ≡ with_name (string_bytes k) (texts ks)
+added [] k = refl
+added (x ∷ ks) k =
+    among (string_cmp k x) (k ∷ x ∷ ks) (x ∷ ks) (x ∷ insert_key string_cmp ks k)
+    ∙ ap (λ (r : List (List ℕ)). match_ordering (slice_cmp nat_cmp (string_bytes k) (string_bytes x))
+    (string_bytes k ∷ texts (x ∷ ks)) (texts (x ∷ ks)) (string_bytes x ∷ r)) (added ks k)
+
+has : {A : Type 0} (ks : List (String A)) (name : List ℕ)
+    → list_any (is_at (λ (k : String A). slice_cmp nat_cmp name (string_bytes k))) ks ≡ is_listed name (texts ks)
+has [] name = refl
+has (x ∷ ks) name = ap (λ b. is_at (slice_cmp nat_cmp name) (string_bytes x) || b) (has ks name)
+
+pub names_listed : {A : Type 0} (s n : BTreeSet (String A)) (name : String A)
+    → n.keys ≡ insert_key string_cmp s.keys name → names_of n ≡ with_name (string_bytes name) (names_of s)
+names_listed s n name e = rw e (added s.keys name)
+
+pub name_listed : {A : Type 0} (s : BTreeSet (String A)) (name : List ℕ)
+    → contains_by (λ (k : String A). slice_cmp nat_cmp name (string_bytes k)) s ≡ is_listed name (names_of s)
+name_listed s name = has s.keys name

@@ -2,8 +2,6 @@ pub mod Events
 pub mod ListedNames
 pub mod Names
 pub mod NameTable
-pub mod PlacedTexts
-pub mod PrefixTable
 pub mod Views
 pub mod Steps
 pub mod Answer

@@ -2,6 +2,7 @@
 use Rattle.std.specs.Prelude.{ℕ, List, map, String, string_bytes}
 use Rattle.std.specs.List.{fold}
 use Rattle.std.specs.BTreeMap.{BTreeMap}
+use Rattle.std.specs.BTreeSet.{BTreeSet}
 use Rattle.saphyr_machine.specs.declared.name_list.NameList.{NameList}
 use Rattle.saphyr_machine.specs.ListedNames.{with_id}
 use Rattle.saphyr_machine.specs.Steps.Machine.{Names, with_meaning}
@@ -19,3 +20,6 @@ listed_names r = map (with_id r.bytes.items) r.names.items
 
 abbrev pub texts_of : {A : Type 0} → BTreeMap (String A) (String A) → Names (List ℕ)
 texts_of {A} m = map (λ (e : String A × String A). (string_bytes e.0, string_bytes e.1)) m.entries
+
+abbrev pub names_of : {A : Type 0} → BTreeSet (String A) → List (List ℕ)
+names_of {A} s = map (λ (k : String A). string_bytes k) s.keys

@@ -130,7 +130,7 @@ impl<T: Input> Machine<T> {
             return Err(refuse(FaultText::DuplicateTagDirective, place));
         }
         if declared.apart {
-            declared.handles.insert(tag.handle.as_str())?;
+            declared.handles.insert(tag.handle.clone()?)?;
         }
         self.prefixes.declare(tag)
     }

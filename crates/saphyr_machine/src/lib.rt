@@ -17,7 +17,6 @@ mod machine;
 mod name_list;
 mod name_table;
 mod node;
-mod prefix_table;
 mod prefixes;
 mod progress;
 mod reader;

@@ -3,26 +3,26 @@
 ghost use Rattle.std.specs.Prelude.{◌≡◌, [], Ok, string_bytes, option_map};
 ghost use Rattle.saphyr_machine.specs.Steps.Machine as spec;
 
-use crate::prefix_table::PrefixTable;
 use saphyr_scalar::Stop;
 use saphyr_scanner::TagPrefix;
 use std::alloc::{AllocError, Global};
+use std::collections::BTreeMap;
 use std::marker::Model;
 
 /// The prefixes that are declared for the handles of tags.
 #[derive(Drop)]
 pub struct Prefixes {
-    declared: PrefixTable,
+    declared: BTreeMap<String, String>,
 }
 
 impl Model for Prefixes {
     ghost use Rattle.std.specs.Prelude.{ℕ, List};
     ghost use Rattle.saphyr_machine.specs.Steps.Machine.{Names};
-    ghost use Rattle.saphyr_machine.specs.PrefixTable.{declared_prefixes};
+    ghost use Rattle.saphyr_machine.specs.Names.{texts_of};
 
     ghost Value = { Names (List ℕ) };
 
-    ghost view = { λ p. declared_prefixes p.declared };
+    ghost view = { λ p. texts_of p.declared };
 }
 
 impl Prefixes {
@@ -34,7 +34,7 @@ impl Prefixes {
         ensures { result ≡ [] }
     {
         Prefixes {
-            declared: PrefixTable::new(alloc),
+            declared: BTreeMap::new(alloc),
         }
     }
 
@@ -54,34 +54,40 @@ impl Prefixes {
     pub fn contains(&self, handle: &str) -> bool
         ensures { result ≡ spec.is_listed handle.now (keys_of self.now) }
     {
-        self.declared.prefix_of(handle).is_some()
+        self.declared.contains_key(handle)
     }
 
+    #[tactic(auto, using(crate::proofs::Names::texts_given))]
     /// Declares the prefix for the handle. It replaces an earlier one.
     pub fn declare(&mut self, tag: &TagPrefix) -> Result<(), Stop>
         ensures { Moves (λ _. self.new) result
             (Ok (spec.with_meaning (string_bytes tag.now.handle) (string_bytes tag.now.prefix)
             self.old)) }
     {
+        // Copies are kept: the texts that were read have more room than they need, and a text may declare a million of
+        // them.
         let TagPrefix { handle, prefix } = tag;
-        self.declared.declare(handle.as_str(), prefix.as_str())?;
+        self.declared.insert(handle.clone()?, prefix.clone()?)?;
         Ok(())
     }
 
     /// The prefix that is declared for the handle.
-    #[inline(always)]
     pub fn prefix_of(&self, handle: &str) -> Option<&str>
         ensures { option_map (λ prefix. prefix.now) result ≡ spec.meaning handle.now self.now }
     {
-        self.declared.prefix_of(handle)
+        match self.declared.get(handle) {
+            Some(prefix) => Some(prefix.as_str()),
+            None => None,
+        }
     }
 
+    #[tactic(auto, using(crate::proofs::Copies::texts_copied))]
     /// The same prefixes for the same handles.
     pub fn try_clone(&self) -> Result<Prefixes, AllocError>
         ensures { IfOk result (λ copy. copy ≡ self.now) }
     {
         Ok(Prefixes {
-            declared: self.declared.try_clone()?,
+            declared: self.declared.clone()?,
         })
     }
 }
