@@ -1,7 +1,6 @@
 pub mod Given
 pub mod ListedNames
 pub mod Names
-pub mod NameTable
 pub mod Passing
 pub mod Walk
 pub mod Sizes

@@ -1,7 +1,6 @@
 pub mod Events
 pub mod ListedNames
 pub mod Names
-pub mod NameTable
 pub mod Views
 pub mod Steps
 pub mod Answer

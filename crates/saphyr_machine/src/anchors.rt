@@ -4,28 +4,35 @@ ghost use Rattle.std.specs.Prelude.{◌≡◌, ℕ, Ok, Option};
 ghost use Rattle.saphyr_scalar.specs.Views.Reader.{Moves};
 ghost use Rattle.saphyr_machine.specs.Steps.Machine as spec;
 
-use crate::name_table::NameTable;
+use crate::name_list::NameList;
 use saphyr_scalar::Stop;
 use std::alloc::{AllocError, Global};
+use std::collections::BTreeMap;
 use std::marker::Model;
+
+/// How many of the latest names an alias is compared with one by one. For more of them a map is faster.
+const LATEST: usize = 8;
 
 /// The anchors of a document by their names, and the id that was given last.
 ///
 /// Ids go on counting over all documents.
 #[derive(Drop)]
 pub struct Anchors {
-    names: NameTable,
+    // The ids by the names, without those that were given since.
+    ids: BTreeMap<String, usize>,
+    // The names that were given ids since. Most anchors have no alias, and to put a name into the map costs most of what
+    // it costs to read an anchor. So that waits for an alias that means an earlier one.
+    recent: NameList,
     last: usize,
 }
 
 impl Model for Anchors {
     ghost use Rattle.saphyr_machine.specs.Steps.Machine.{Anchors as Seen};
-    ghost use Rattle.std.specs.Prelude.{[]};
-    ghost use Rattle.saphyr_machine.specs.Names.{listed_names, with_listed};
+    ghost use Rattle.saphyr_machine.specs.Names.{ids_of, listed_names, with_listed};
 
     ghost Value = { Seen };
 
-    ghost view = { λ a. record { ids = with_listed (listed_names a.names.names) []; last = a.last } };
+    ghost view = { λ a. record { ids = with_listed (listed_names a.recent) (ids_of a.ids); last = a.last } };
 }
 
 impl Anchors {
@@ -36,7 +43,8 @@ impl Anchors {
         ensures { result ≡ spec.no_anchors }
     {
         Anchors {
-            names: NameTable::new(alloc),
+            ids: BTreeMap::new(alloc),
+            recent: NameList::new(alloc),
             last: 0,
         }
     }
@@ -45,7 +53,8 @@ impl Anchors {
     pub fn forget(&mut self)
         ensures { self.new ≡ spec.without_ids self.old }
     {
-        self.names.clear();
+        self.ids.clear();
+        self.recent.clear();
     }
 
     /// Gives the next id to the name, which may already have one.
@@ -54,18 +63,24 @@ impl Anchors {
             (Ok (spec.next_id self.old, spec.with_anchor name.now self.old)) }
     {
         let id = self.last.saturating_add(1);
-        self.names.push(name, id)?;
+        self.recent.push(name, id)?;
         self.last = id;
         Ok(id)
     }
 
     /// The id that the name has.
-    #[inline(always)]
     pub fn id_of(&mut self, name: &str) -> Result<Option<usize>, Stop>
         ensures { Moves {Y = Option ℕ × spec.Anchors} (λ id. (id, self.new)) result
             (Ok (spec.meaning name.now self.old.ids, self.old)) }
     {
-        Ok(self.names.id_of(name)?)
+        let first = self.recent.len().saturating_sub(LATEST);
+        if let Some(id) = self.recent.latest_id(name, first) {
+            return Ok(Some(id));
+        }
+        if first > 0 {
+            self.recent.move_into(&mut self.ids)?;
+        }
+        Ok(self.ids.get(name).copied())
     }
 
     /// The same names with the same ids.
@@ -73,7 +88,8 @@ impl Anchors {
         ensures { IfOk result (λ copy. copy ≡ self.now) }
     {
         Ok(Anchors {
-            names: self.names.try_clone()?,
+            ids: self.ids.clone()?,
+            recent: self.recent.try_clone()?,
             last: self.last,
         })
     }

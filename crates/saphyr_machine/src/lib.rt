@@ -15,7 +15,6 @@ mod kept;
 mod loading;
 mod machine;
 mod name_list;
-mod name_table;
 mod node;
 mod prefixes;
 mod progress;

@@ -7,6 +7,7 @@ ghost use Rattle.saphyr_machine.specs.ListedNames.{GrowsBehind, HasName, text_of
 ghost use Rattle.saphyr_machine.specs.Steps.Machine as spec;
 
 use std::alloc::{AllocError, Global};
+use std::collections::BTreeMap;
 use std::str;
 
 /// Where the bytes of a name are among those of all names, how many they are, and its id.
@@ -14,7 +15,7 @@ use std::str;
 pub struct Name {
     start: usize,
     count: usize,
-    pub id: usize,
+    id: usize,
 }
 
 /// Names with the ids that they were given, the latest last. Memory for each would cost more than all else that is done
@@ -40,7 +41,7 @@ fn append(bytes: &mut Vec<u8>, name: &str, id: usize) -> Result<Name, AllocError
 }
 
 impl NameList {
-    ghost use Rattle.saphyr_machine.specs.Names.{listed_names, with_listed};
+    ghost use Rattle.saphyr_machine.specs.Names.{ids_of, listed_names, with_listed};
 
     pub fn new(alloc: Global) -> NameList
         ensures { listed_names result ≡ [] }
@@ -79,34 +80,15 @@ impl NameList {
         Ok(())
     }
 
-    /// The name at a place.
+    // The text of one of the names.
     #[inline(always)]
-    pub fn name_at(&self, place: usize) -> Name
-        requires { place < length (listed_names self.now) }
-        ensures has { HasName self.now.bytes.items result }
-        ensures name { with_id self.now.bytes.items result
-            ≡ slice_index_or (listed_names self.now) place ([], 0) }
-    {
-        self.names[place]
-    }
-
-    /// The text of one of the names.
-    #[inline(always)]
-    pub fn text(&self, name: Name) -> &str
+    fn text(&self, name: Name) -> &str
         requires { HasName self.now.bytes.items name }
         ensures { result.now ≡ text_of self.now.bytes.items name }
     {
         let bytes = &self.bytes[name.start..name.start + name.count];
         // What was noted is a text.
         unsafe { str::from_utf8_unchecked(bytes) }
-    }
-
-    /// A copy of the text of one of the names.
-    pub fn copy_of(&self, name: Name) -> Result<String, AllocError>
-        requires { HasName self.now.bytes.items name }
-        ensures { IfOk result (λ copy. string_bytes copy ≡ text_of self.now.bytes.items name) }
-    {
-        String::from_str(*self.bytes.allocator(), self.text(name))
     }
 
     /// The id that the name was given last, if it is among those after the first ones, of which there are this many. An
@@ -127,6 +109,32 @@ impl NameList {
             }
         }
         None
+    }
+
+    // Gives the ids to the names in a map, in their order.
+    fn put_into(&self, ids: &mut BTreeMap<String, usize>) -> Result<(), AllocError>
+        ensures { OnOk result
+            (ids_of ids.new ≡ with_listed (listed_names self.now) (ids_of ids.old)) }
+    {
+        let alloc = *self.bytes.allocator();
+        let mut next = 0;
+        while next < self.names.len() {
+            let name = self.names[next];
+            ids.insert(String::from_str(alloc, self.text(name))?, name.id)?;
+            next += 1;
+        }
+        Ok(())
+    }
+
+    /// Moves the names with their ids into a map.
+    pub fn move_into(&mut self, ids: &mut BTreeMap<String, usize>) -> Result<(), AllocError>
+        ensures moved { OnOk result
+            (ids_of ids.new ≡ with_listed (listed_names self.old) (ids_of ids.old)) }
+        ensures empty { OnOk result (listed_names self.new ≡ []) }
+    {
+        self.put_into(ids)?;
+        self.clear();
+        Ok(())
     }
 
     /// The same names with the same ids.
