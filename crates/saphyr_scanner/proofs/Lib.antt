@@ -6,7 +6,6 @@ pub mod Unroll
 pub mod Filling
 pub mod Blocks
 pub mod Gaps
-pub mod Comments
 pub mod Leads
 pub mod Root
 pub mod Taken

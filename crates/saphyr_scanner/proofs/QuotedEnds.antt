@@ -49,16 +49,6 @@ separated_at_indicator s sign =
     rw (nothing_separates tabs.Yes s s x refl refl (is_not_skipped x sign) (is_no_sign x sign) (is_no_bom x sign))
     (rw sign refl)
 
-one_of_more : (z a b d e : Bool) → (a || b || d || e) ≡ true → (z || a || b || d || e) ≡ true
-one_of_more z a b d e h = grind arith
-
-goes_on : (start : Marker) (c : Core) → in_block c ≡ false → is_entry_end (slice_index c.cursor.rest 0) ≡ true
-    → goes_on_behind_quotes start c ≡ true
-unfolding goes_on_behind_quotes
-goes_on start c flow sign =
-    let x = slice_index c.cursor.rest 0 in
-    rw flow (one_of_more (is_breakz x) (x == colon) (x == comma) (x == right_bracket) (x == right_brace) sign)
-
 -- Nothing is passed then.
 pub gap_at_indicator : (c : Core) → is_entry_end (slice_index c.cursor.rest 0) ≡ true → pass_gap c ≡ check_comment c
 unfolding pass_gap
@@ -66,19 +56,6 @@ gap_at_indicator c sign =
     let x = slice_index c.cursor.rest 0 in
     rw (nothing_passed (least_column c) c.cursor c.cursor x refl refl (is_no_blank x sign) (is_no_break x sign)
     (is_no_sign x sign)) refl
-
--- the scalar's token is told at once
-pub quoted_at_indicator : (start : Marker) (style : ScalarStyle) (text : List ℕ) (c : Core)
-    → in_block c ≡ false → is_entry_end (slice_index c.cursor.rest 0) ≡ true
-    → behind_quotes start style text c
-    ≡ (check_comment c >>= λ d. completed_step (from_to start c.cursor.mark (tokens.Scalar style text) ∷ [])
-    (adjacent_here d))
-unfolding behind_quotes
-quoted_at_indicator start style text c flow sign =
-    let x = slice_index c.cursor.rest 0 in
-    let apart = nothing_separates tabs.Yes c.cursor c.cursor x refl refl (is_not_skipped x sign) (is_no_sign x sign)
-    (is_no_bom x sign) in
-    rw (apart, goes_on start c flow sign, gap_at_indicator c sign) refl
 
 -- ## Scalars that are held
 

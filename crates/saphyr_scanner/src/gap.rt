@@ -2,11 +2,9 @@
 
 ghost use Rattle.std.specs.Prelude.{◌≡◌, ◌||◌, true, false, slice_index};
 ghost use Rattle.saphyr_input.specs.Classes.{is_break};
-ghost use Rattle.saphyr_input.specs.Indicators.{number_sign};
 ghost use Rattle.saphyr_scalar.specs.Views.Cursor.{pass_comment};
 ghost use Rattle.saphyr_scalar.specs.Views.Reader.{cursor_of, GivesAs};
 ghost use Rattle.saphyr_scanner.specs.Steps.Gap as spec;
-ghost use Rattle.saphyr_scanner.specs.Steps.Gap.{PassesPart};
 
 use saphyr_input::char_traits::{is_blank, is_bom, is_break, is_z};
 use saphyr_input::input::Input;
@@ -43,7 +41,7 @@ fn end_gap<T: Input>(
     Ok(broke)
 }
 
-// Passes a comment, and returns whether it also passed a break behind it. Most comments end with one, so this saves
+// Passes a comment, and returns whether it also passed a line feed behind it. Most comments end with one, so this saves
 // their loops a turn.
 #[inline(always)]
 fn skip_comment_line<T: Input>(reader: &mut Reader<T>) -> bool
@@ -53,65 +51,10 @@ fn skip_comment_line<T: Input>(reader: &mut Reader<T>) -> bool
 {
     reader.skip_comment();
     let c = reader.look();
-    reader.skip_seen_break(c);
-    is_break(c)
-}
-
-// Passes spaces, and a comment after them with the break behind it. Returns whether it passed a break.
-#[inline(always)]
-fn skip_spaced_comment<T: Input>(reader: &mut Reader<T>) -> bool
-    ensures { PassesPart result (cursor_of reader.old) (cursor_of reader.new) }
-{
-    reader.skip_spaces(usize::MAX);
-    if reader.look() != '#' {
-        return false;
+    if c == '\n' {
+        reader.skip_seen_break(c);
     }
-    skip_comment_line(reader)
-}
-
-// The same. For speed a `#` is looked for first, and one that is alone on its line needs no search for its comment's
-// end.
-#[inline(always)]
-fn skip_later_comment<T: Input>(reader: &mut Reader<T>) -> bool
-    ensures { PassesPart result (cursor_of reader.old) (cursor_of reader.new) }
-{
-    reader.load(2);
-    match reader.input().ascii_behind('#') {
-        Some('\n') => {
-            reader.skip_blank();
-            reader.skip_line_break();
-            true
-        }
-        Some(_) => skip_comment_line(reader),
-        None => skip_spaced_comment(reader),
-    }
-}
-
-// Passes lines of comments, and returns whether it passed a break. It is separate for speed: a comment behind a token
-// mostly is the only one.
-#[inline(never)]
-fn skip_comments<T: Input>(reader: &mut Reader<T>) -> bool
-    requires { slice_index (cursor_of reader.old).rest 0 ≡ number_sign }
-    ensures { PassesPart result (cursor_of reader.old) (cursor_of reader.new) }
-{
-    let mut broke = false;
-    while skip_later_comment(reader) {
-        broke = true;
-    }
-    broke
-}
-
-// Passes a comment, and returns whether it also passed a break behind it. Behind a break mostly more comments follow:
-// these are passed too.
-#[inline(always)]
-fn skip_comment<T: Input>(reader: &mut Reader<T>, broke: bool) -> bool
-    requires { slice_index (cursor_of reader.old).rest 0 ≡ number_sign }
-    ensures { PassesPart result (cursor_of reader.old) (cursor_of reader.new) }
-{
-    if broke {
-        return skip_comments(reader);
-    }
-    skip_comment_line(reader)
+    c == '\n'
 }
 
 // Passes blanks, breaks and comments one after the other, as `skip_gap` says. Spaces, comments, and a tab with the
@@ -134,7 +77,7 @@ fn skip_gap_characters<T: Input>(reader: &mut Reader<T>, least: usize) -> Result
             broke = true;
             tabbed = false;
         } else if c == '#' {
-            if skip_comment(reader, broke) {
+            if skip_comment_line(reader) {
                 broke = true;
                 tabbed = false;
             }

@@ -1,5 +1,5 @@
 -- What is between two tokens: blanks, breaks and comments (YAML 1.2.2, 6.7).
-use Rattle.std.specs.Prelude.{ℕ, ◌≡◌, ◌<◌, ◌≤◌, length, Bool, true, false, ◌||◌, ◌&&◌, ◌==◌, not, nat_lt, List, [], ◌∷◌, slice_index, Result, Ok, if◌then◌else◌}
+use Rattle.std.specs.Prelude.{ℕ, Bool, true, false, ◌||◌, ◌&&◌, ◌==◌, not, nat_lt, List, [], ◌∷◌, slice_index, Result, Ok, if◌then◌else◌}
 use Rattle.saphyr_input.specs.Classes.{is_blank, is_break, is_bom, is_z, is_yaml_non_break, carriage_return, line_feed, space, tab}
 use Rattle.saphyr_input.specs.Indicators.{number_sign}
 use Rattle.saphyr_scalar.specs.declared.scalar.position.Marker.{Marker}
@@ -58,13 +58,6 @@ behind_comment false s = pass_comment s
 
 abbrev pub gap_at : ℕ → Bool → Bool → Cursor → Result GapEnd Refusal
 gap_at least broke tabbed s = end_of_gap least s.mark s.blank_so_far broke tabbed s.rest
-
--- A part of what is between two tokens was passed, and `now` tells that a break is in it. A comment is passed whole.
-pub record PassesPart (now : Bool) (s t : Cursor) : Type 0 where
-  pub same : (least : ℕ) (broke tabbed : Bool)
-      → gap_at least (now || broke) (not now && tabbed) t ≡ gap_at least broke tabbed s
-  pub no_longer : length t.rest ≤ length s.rest
-  pub shorter : ((slice_index s.rest 0 == number_sign) || now) ≡ true → length t.rest < length s.rest
 
 -- what is between two tokens is passed, where content has to reach a column
 abbrev pub whole_gap : ℕ → Cursor → Result GapEnd Refusal

@@ -34,18 +34,6 @@ impl<T: Input> Engine<T> {
         }
     }
 
-    // Whether an indicator that may follow a quoted scalar inside flow is here.
-    #[inline(always)]
-    fn ends_at_indicator(&mut self) -> bool
-        ensures flow { IsTrue result → spec.in_block (state self.old).core ≡ false }
-        ensures sign { (c : ℕ) → c ≡ slice_index (state self.old).core.cursor.rest 0 → IsTrue result
-            → is_entry_end c ≡ true }
-        ensures same { state self.new ≡ state self.old }
-    {
-        let c = self.reader.look();
-        !self.in_block() && (c == ':' || c == ',' || c == ']' || c == '}')
-    }
-
     // Passes what is between a quoted scalar and the next token, with the stop kept, as `reads_on` does.
     #[inline(never)]
     fn passes_gap(&mut self) -> bool
@@ -83,14 +71,6 @@ impl<T: Input> Engine<T> {
         ensures { ActsBy (scalar.behind_quotes start style (string_bytes text))
             self.old result self.new }
     {
-        if self.ends_at_indicator() {
-            // For speed: often one look shows that nothing is between the two.
-            let end = self.reader.mark();
-            self.check_comment()?;
-            self.adjacent = self.reader.mark().index;
-            self.put_scalar(start, end, style, text)?;
-            return Ok(());
-        }
         self.separate()?;
         if !self.goes_on_behind_quotes(start) {
             return Err(self.refuse_here(FaultText::ContentAfterQuotes));

@@ -1,9 +1,8 @@
-use Rattle.std.proofs.Common.{◌≡◌, true, false, slice_index, sym, ap, ◌∙◌}
+use Rattle.std.proofs.Common.{◌≡◌, true, slice_index, sym, ap, ◌∙◌}
 use Rattle.saphyr_input.specs.Classes.{is_break}
 use Rattle.saphyr_scalar.specs.Views.Reader.{cursor_of}
 use Rattle.saphyr_scalar.proofs.Quoted.Lines.{break_on_shorter}
-use Rattle.saphyr_scanner.proofs.Comments.{part_passed, sign_passed}
-use Rattle.saphyr_scanner.proofs.Gaps.{break_passed, spaces_passed, tab_passed}
+use Rattle.saphyr_scanner.proofs.Gaps.{break_passed, comment_line_passed, comment_passed, spaces_passed, tab_passed}
 use Rattle.saphyr_scanner.proofs.gap.skip_gap_characters.Goals as goal
 
 pub loop-c-preserved-then-c-eq32 : goal.loop-c-preserved-then-c-eq32
@@ -29,22 +28,14 @@ loop-c-smaller-then-is_break g c =
     break_on_shorter first (cursor_of c.look-c.new.self) (cursor_of c.skip_seen_break.new.self) breaks
     c.look-c.ensures.same c.skip_seen_break.ensures
 
-pub loop-c-preserved-then-skip_comment : goal.loop-c-preserved-then-skip_comment
-loop-c-preserved-then-skip_comment g c =
-    let breaks = c.if-skip_comment.true in
-    part_passed true c.args.least c.loop-c.broke c.loop-c.tabbed _ _ _ _ c.look-c.ensures.same
-    (rw breaks at c.skip_comment.ensures) c.loop-c.invariant
-
-pub loop-c-smaller-then-skip_comment : goal.loop-c-smaller-then-skip_comment
-loop-c-smaller-then-skip_comment g c =
-    sign_passed _ _ _ _ _ c.look-c.ensures.value c.look-c.ensures.same c.if-c-eq35.true c.skip_comment.ensures
+pub loop-c-preserved-then-skip_comment_line : goal.loop-c-preserved-then-skip_comment_line
+loop-c-preserved-then-skip_comment_line g c =
+    comment_line_passed c.args.least c.loop-c.broke c.loop-c.tabbed _ _ _ _ _ _ c.look-c.ensures.value
+    c.look-c.ensures.same c.skip_comment_line.ensures.passed c.skip_comment_line.ensures.ends
+    c.if-skip_comment_line.true c.if-c-eq35.true c.loop-c.invariant
 
 pub loop-c-preserved : goal.loop-c-preserved
 loop-c-preserved g c =
-    let none = c.if-skip_comment.false in
-    part_passed false c.args.least c.loop-c.broke c.loop-c.tabbed _ _ _ _ c.look-c.ensures.same
-    (rw none at c.skip_comment.ensures) c.loop-c.invariant
-
-pub loop-c-smaller : goal.loop-c-smaller
-loop-c-smaller g c =
-    sign_passed _ _ _ _ _ c.look-c.ensures.value c.look-c.ensures.same c.if-c-eq35.true c.skip_comment.ensures
+    let none = c.if-skip_comment_line.false in
+    comment_passed c.args.least c.loop-c.broke c.loop-c.tabbed _ _ _ _ _ c.look-c.ensures.value c.look-c.ensures.same
+    (rw none at c.skip_comment_line.ensures.passed) c.if-c-eq35.true c.loop-c.invariant
