@@ -11,7 +11,7 @@ use Rattle.saphyr_scanner.specs.declared.queue.content.Content.TheVariants.{Indi
 use Rattle.saphyr_scanner.specs.declared.queue.content.Handle.{Handle}
 use Rattle.saphyr_scanner.specs.declared.queue.content.Indicator as indicators
 use Rattle.saphyr_scanner.specs.declared.queue.content.TextKind.{TextKind}
-use Rattle.saphyr_scanner.specs.declared.queue.origin.NearSpan.{NearSpan}
+use Rattle.saphyr_scanner.specs.declared.queue.near.NearMarker.{NearMarker}
 use Rattle.saphyr_scanner.specs.declared.queue.place.Place.{Place}
 use Rattle.saphyr_scanner.specs.declared.queue.Opening.{Opening}
 use Rattle.saphyr_scanner.specs.declared.queue.Opening.TheVariants as opening
@@ -20,33 +20,19 @@ use Rattle.saphyr_scanner.specs.Grammar.Tokens as tokens
 use Rattle.saphyr_scanner.specs.Grammar.Tokens.{Kind}
 use Rattle.saphyr_scanner.specs.Steps.Queue as seen
 use Rattle.saphyr_scanner.specs.Steps.Queue.{bare_place, is_empty_list, places_with_opening}
-use Rattle.saphyr_scalar.specs.declared.scalar.position.Marker.{Marker}
-use Rattle.saphyr_scalar.specs.declared.scalar.position.Span.{Span}
-use Rattle.saphyr_scanner.specs.Views.Asides.{Asides, BeginsWithText, HasStart, IsEmptyAside, IsTextOf, TellsStart, behind_origin, start_passed, behind_token, first_aside, first_origin, moved, nothing, start_at, with_text_aside, with_token}
+use Rattle.saphyr_scanner.specs.Views.Asides.{Asides, BeginsWithText, IsTextOf, first_aside, nothing, with_text_aside, with_token}
 use Rattle.saphyr_scanner.specs.Views.Contents.{content_of}
-use Rattle.saphyr_scanner.specs.Views.Places.{AddsBehind, Fit, HasBeside, HasNear, HasTokenOf, TellsSpan, behind_near, behind_token_of, beside_behind, held_handle, indicator_kind, line_span, near_token, place_at, places_at, settled_place, text_kind, token_of}
-use Rattle.saphyr_scanner.specs.Views.Queue.{IsSettledFirst}
+use Rattle.saphyr_scanner.specs.Views.Places.{AddsBehind, Fit, HasTokenOf, behind_token_of, beside_behind, held_handle, indicator_kind, near_span, place_at, places_at, text_kind, token_of}
 use Rattle.saphyr_scanner.specs.Views.Tokens.{Piece, piece}
 
 -- ## More is put aside
 
--- What is aside, and what comes behind it. This begins where that ends.
 abbrev joined : Asides → Asides → Asides
-joined s t = record {
-  bytes = s.bytes ++ t.bytes;
-  tokens = s.tokens ++ t.tokens;
-  origin = s.origin;
-  origins = s.origins ++ t.origins;
-  last = t.last;
-}
+joined s t = record { bytes = s.bytes ++ t.bytes; tokens = s.tokens ++ t.tokens }
 
 first_stays : (ts us : List Piece) → 1 ≤ length ts → first_aside (ts ++ us) ≡ first_aside ts
 first_stays [] us h = absurd (omega (arith, h))
 first_stays (t ∷ ts) us h = refl
-
-origin_stays : (ms ns : List Marker) → 1 ≤ length ms → first_origin (ms ++ ns) ≡ first_origin ms
-origin_stays [] ns h = absurd (omega (arith, h))
-origin_stays (m ∷ ms) ns h = refl
 
 text_more : (k : ℕ) (s t : Asides) → BeginsWithText k s → BeginsWithText k (joined s t)
 text_more k s t h =
@@ -60,46 +46,20 @@ has_more (Text w) k s t h = text_more k s t h
 has_more (Tag w) k s t h = text_more k s t h
 has_more Aside k s t h = let count = length-append s.tokens t.tokens in omega (arith, count, h)
 
-start_more : (n : ℕ) (s t : Asides) → HasStart n s → HasStart n (joined s t)
-start_more zero s t h = let count = length-append s.origins t.origins in omega (arith, count, h)
-start_more (suc n) s t h = h
-
--- the same once a token is taken off
-token_behind_more : (what : Content) (k : ℕ) (s t : Asides) → HasTokenOf what k s
+behind_more : (what : Content) (k : ℕ) (s t : Asides) → HasTokenOf what k s
     → behind_token_of what k (joined s t) ≡ joined (behind_token_of what k s) t
-token_behind_more (Indicator i) k s t h = refl
-token_behind_more (Text w) k s t h =
-    ap (λ bs. record (joined s t) { bytes = bs }) (drop-append-le k s.bytes t.bytes h.0)
-token_behind_more (Tag w) k s t h =
-    ap (λ bs. record (joined s t) { bytes = bs }) (drop-append-le k s.bytes t.bytes h.0)
-token_behind_more Aside k s t h = ap (λ ts. record (joined s t) { tokens = ts }) (drop-append-le 1 s.tokens t.tokens h)
+behind_more (Indicator i) k s t h = refl
+behind_more (Text w) k s t h =
+    ap (λ bs. record { bytes = bs; tokens = s.tokens ++ t.tokens }) (drop-append-le k s.bytes t.bytes h.0)
+behind_more (Tag w) k s t h =
+    ap (λ bs. record { bytes = bs; tokens = s.tokens ++ t.tokens }) (drop-append-le k s.bytes t.bytes h.0)
+behind_more Aside k s t h =
+    ap (λ ts. record { bytes = s.bytes ++ t.bytes; tokens = ts }) (drop-append-le 1 s.tokens t.tokens h)
 
-start_behind_more : (n : ℕ) (s t : Asides) → HasStart n s → start_passed n (joined s t) ≡ joined (start_passed n s) t
-start_behind_more zero s t h = λ i. record (joined s t) {
-  origin = origin_stays s.origins t.origins h i;
-  origins = drop-append-le 1 s.origins t.origins h i;
-}
-start_behind_more (suc n) s t h = refl
+abbrev pub on_line : NearMarker → ℕ → Kind → Piece
+on_line m n kind = record { span = near_span m n; kind = kind }
 
-has_behind : (what : Content) (k n : ℕ) (s : Asides) → HasTokenOf what k s → HasTokenOf what k (start_passed n s)
-has_behind (Indicator i) k n s h = h
-has_behind (Text w) k zero s h = h
-has_behind (Text w) k (suc n) s h = h
-has_behind (Tag w) k zero s h = h
-has_behind (Tag w) k (suc n) s h = h
-has_behind Aside k zero s h = h
-has_behind Aside k (suc n) s h = h
-
-behind_more : (p : Place) (s t : Asides) → HasBeside p s → beside_behind p (joined s t) ≡ joined (beside_behind p s) t
-behind_more p s t h =
-    let what = content_of p.content in
-    ap (behind_token_of what p.count) (start_behind_more p.offset s t h.0)
-    ∙ token_behind_more what p.count (start_passed p.offset s) t (has_behind what p.count p.offset s h.1)
-
-abbrev pub on_line : Marker → ℕ → Kind → Piece
-on_line m n kind = record { span = line_span m n; kind = kind }
-
-token_stays : (what : Content) (m : Marker) (n k : ℕ) (s t : Asides) → HasTokenOf what k s
+token_stays : (what : Content) (m : NearMarker) (n k : ℕ) (s t : Asides) → HasTokenOf what k s
     → token_of what m n k (joined s t) ≡ token_of what m n k s
 token_stays (Indicator i) m n k s t h = refl
 token_stays (Text w) m n k s t h =
@@ -108,199 +68,86 @@ token_stays (Tag w) m n k s t h =
     ap (λ bs. on_line m n (tokens.Tag (held_handle w) bs)) (take-append-le k s.bytes t.bytes h.0)
 token_stays Aside m n k s t h = first_stays s.tokens t.tokens h
 
-start_stays : (n : ℕ) (s t : Asides) → HasStart n s → start_at n (joined s t) ≡ start_at n s
-start_stays zero s t h = origin_stays s.origins t.origins h
-start_stays (suc n) s t h = refl
-
-place_stays : (p : Place) (s t : Asides) → HasBeside p s → place_at p (joined s t) ≡ place_at p s
-place_stays p s t h =
-    let what = content_of p.content in
-    ap (λ m. of_place (token_of what m p.length p.count (joined s t))) (start_stays p.offset s t h.0)
-    ∙ ap of_place (token_stays what (start_at p.offset s) p.length p.count s t h.1)
-  where
-    of_place : Piece → seen.Place
-    of_place t = record { opening = p.opening; piece = t }
-
-token_last : (what : Content) (k : ℕ) (s : Asides) → (behind_token_of what k s).last ≡ s.last
-token_last (Indicator i) k s = refl
-token_last (Text w) k s = refl
-token_last (Tag w) k s = refl
-token_last Aside k s = refl
-
-start_last : (n : ℕ) (s : Asides) → (start_passed n s).last ≡ s.last
-start_last zero s = refl
-start_last (suc n) s = refl
-
-last_stays : (p : Place) (s : Asides) → (beside_behind p s).last ≡ s.last
-last_stays p s = token_last (content_of p.content) p.count (start_passed p.offset s) ∙ start_last p.offset s
-
-fit_more : (ps qs : List Place) (s t : Asides) → s.last ≡ t.origin → Fit ps s → Fit qs t
+fit_more : (ps qs : List Place) (s t : Asides) → Fit ps s → Fit qs t
     → Fit (ps ++ qs) (joined s t) × (places_at (ps ++ qs) (joined s t) ≡ places_at ps s ++ places_at qs t)
-fit_more [] qs s t e h k =
-    let same : joined s t ≡ t = ap (λ r. joined r t) h ∙ ap (λ m. record t { origin = m }) e in
-    (subst (Fit qs) (sym same) k, ap (places_at qs) same)
-fit_more (p ∷ ps) qs s t e h k =
-    let later = fit_more ps qs (beside_behind p s) t (last_stays p s ∙ e) h.1 k in
-    let same = behind_more p s t h.0 in (
-      (
-        (start_more p.offset s t h.0.0, has_more (content_of p.content) p.count s t h.0.1),
-        subst (Fit (ps ++ qs)) (sym same) later.0,
-      ),
-      (λ i. place_stays p s t h.0 i ∷ places_at (ps ++ qs) (same i)) ∙ ap (λ rs. place_at p s ∷ rs) later.1,
+fit_more [] qs s t h k =
+    subst (λ r. Fit qs (joined r t) × (places_at qs (joined r t) ≡ places_at qs t)) (sym h) (k, refl)
+fit_more (p ∷ ps) qs s t h k =
+    let what = content_of p.content in
+    let later = fit_more ps qs (beside_behind p s) t h.1 k in
+    let same = behind_more what p.count s t h.0 in (
+      (has_more what p.count s t h.0, subst (Fit (ps ++ qs)) (sym same) later.0),
+      (λ i. place_of p (token_stays what p.start p.length p.count s t h.0 i) ∷ places_at (ps ++ qs) (same i))
+          ∙ ap (λ rs. place_at p s ∷ rs) later.1,
     )
+  where
+    place_of : Place → Piece → seen.Place
+    place_of p t = record { opening = p.opening; piece = t }
 
 -- a place that stands alone over what is put aside with it
 abbrev AddsAlone : Piece → Place → Asides → Type 0
 AddsAlone t p s = Fit (p ∷ []) s × (places_at (p ∷ []) s ≡ bare_place t ∷ [])
 
-adds : (t : Piece) (p : Place) (old more new : Asides) → old.last ≡ more.origin → AddsAlone t p more
-    → joined old more ≡ new
+adds : (t : Piece) (p : Place) (old more new : Asides) → AddsAlone t p more → joined old more ≡ new
     → AddsBehind t p old new
-adds t p old more new at alone is =
+adds t p old more new alone is =
     subst (AddsBehind t p old) is (λ ps h.
-    let both = fit_more ps (p ∷ []) old more at h alone.0 in
+    let both = fit_more ps (p ∷ []) old more h alone.0 in
     (both.0, both.1 ∙ ap (λ qs. places_at ps old ++ qs) alone.1))
 
-is_nothing : (s : Asides) (m : Marker) → s ≡ nothing m → IsEmptyAside s
-is_nothing s m is = is ∙ sym (ap (λ r. nothing r.last) is)
+nothing_more : (s : Asides) → joined s nothing ≡ s
+nothing_more s = λ i. record { bytes = append-nil s.bytes i; tokens = append-nil s.tokens i }
 
-alone : (p : Place) (what : Content) (m last : Marker) (s : Asides) → content_of p.content ≡ what
-    → p.opening ≡ opening.Nothing → start_at p.offset s ≡ m → HasStart p.offset s → HasTokenOf what p.count s
-    → behind_token_of what p.count (start_passed p.offset s) ≡ nothing last
-    → AddsAlone (token_of what m p.length p.count s) p s
-alone p what m last s is bare at begins has left = (
-  (
-    (begins, subst (λ w. HasTokenOf w p.count s) (sym is) has),
-    is_nothing (beside_behind p s) last (ap (λ w. behind_token_of w p.count (start_passed p.offset s)) is ∙ left),
-  ),
-  λ i. record { opening = bare i; piece = token_of (is i) (at i) p.length p.count s } ∷ [],
+alone : (p : Place) (what : Content) (s : Asides) → content_of p.content ≡ what → p.opening ≡ opening.Nothing
+    → HasTokenOf what p.count s → behind_token_of what p.count s ≡ nothing
+    → AddsAlone (token_of what p.start p.length p.count s) p s
+alone p what s is bare has left = (
+  (subst (λ w. HasTokenOf w p.count s) (sym is) has, ap (λ w. behind_token_of w p.count s) is ∙ left),
+  λ i. record { opening = bare i; piece = token_of (is i) p.start p.length p.count s } ∷ [],
 )
 
--- ## Where the token begins is told
-
-abbrev pub near_of : Place → NearSpan
-near_of p = record { offset = p.offset; length = p.length }
-
-abbrev told_origins : ℕ → Marker → List Marker
-told_origins zero m = m ∷ []
-told_origins (suc n) m = []
-
-abbrev told_last : ℕ → Marker → Marker → Marker
-told_last zero m last = m
-told_last (suc n) m last = last
-
--- what is put aside for a token with this text, behind what ends with this origin
-abbrev told : ℕ → Marker → Marker → List ℕ → Asides
-told n m last text = record {
-  bytes = text;
-  tokens = [];
-  origin = last;
-  origins = told_origins n m;
-  last = told_last n m last;
-}
-
-told_start : (n : ℕ) (m : Marker) (text : List ℕ) (old new : Asides) → TellsStart n m old new
-    → start_at n (told n m old.last text) ≡ m
-told_start zero m text old new h = refl
-told_start (suc n) m text old new h = h.0
-
-told_begins : (n : ℕ) (m last : Marker) (text : List ℕ) → HasStart n (told n m last text)
-told_begins zero m last text = omega arith
-told_begins (suc n) m last text = tt
-
-told_left : (n : ℕ) (m last : Marker) (text : List ℕ)
-    → start_passed n (told n m last text) ≡ record (nothing (told_last n m last)) { bytes = text }
-told_left zero m last text = refl
-told_left (suc n) m last text = refl
-
-told_behind : (n : ℕ) (m : Marker) (text : List ℕ) (old new : Asides) → TellsStart n m old new
-    → joined old (told n m old.last text) ≡ with_text_aside text new
-told_behind zero m text old new h =
-    (λ i. record (joined old (told zero m old.last text)) { tokens = append-nil old.tokens i })
-    ∙ ap (with_text_aside text) (sym h)
-told_behind (suc n) m text old new h =
-    (λ i. record (joined old (told (suc n) m old.last text)) {
-      tokens = append-nil old.tokens i;
-      origins = append-nil old.origins i;
-    })
-    ∙ ap (with_text_aside text) (sym h.1)
-
--- Such a token is put behind others.
-adds_told : (p : Place) (what : Content) (kind : Kind) (text : List ℕ) (span : Span) (old new : Asides)
-    → content_of p.content ≡ what → p.opening ≡ opening.Nothing → TellsSpan (near_of p) span old new
-    → HasTokenOf what p.count (told p.offset span.start old.last text)
-    → token_of what span.start p.length p.count (told p.offset span.start old.last text)
-    ≡ on_line span.start p.length kind
-    → behind_token_of what p.count (record (nothing (told_last p.offset span.start old.last)) { bytes = text })
-    ≡ nothing (told_last p.offset span.start old.last)
-    → AddsBehind (record { span = span; kind = kind }) p old (with_text_aside text new)
-adds_told p what kind text span old new is bare tells has token left =
-    let more = told p.offset span.start old.last text in
-    let last = told_last p.offset span.start old.last in
-    adds (record { span = span; kind = kind }) p old more (with_text_aside text new) refl
-    (subst (λ t. AddsAlone t p more) (token ∙ ap (λ r. record { span = r; kind = kind }) tells.1)
-    (alone p what span.start last more is bare (told_start p.offset span.start text old new tells.0)
-    (told_begins p.offset span.start old.last text) has
-    (ap (behind_token_of what p.count) (told_left p.offset span.start old.last text) ∙ left)))
-    (told_behind p.offset span.start text old new tells.0)
-
-nothing_more : (s : Asides) → with_text_aside [] s ≡ s
-nothing_more s = λ i. record s { bytes = append-nil s.bytes i }
-
-pub adds_indicator : (p : Place) (what : indicators.Indicator) (span : Span) (old new : Asides)
+pub adds_indicator : (p : Place) (what : indicators.Indicator) (s : Asides)
     → content_of p.content ≡ Indicator what → p.opening ≡ opening.Nothing
-    → TellsSpan (near_of p) span old new
-    → AddsBehind (record { span = span; kind = indicator_kind what }) p old new
-adds_indicator p what span old new is bare tells =
-    subst (AddsBehind (record { span = span; kind = indicator_kind what }) p old) (nothing_more new)
-    (adds_told p (Indicator what) (indicator_kind what) [] span old new is bare tells tt refl refl)
+    → AddsBehind (on_line p.start p.length (indicator_kind what)) p s s
+adds_indicator p what s is bare =
+    adds (on_line p.start p.length (indicator_kind what)) p s nothing s
+    (alone p (Indicator what) nothing is bare tt refl)
+    (nothing_more s)
 
-begins_with : (k n : ℕ) (m last : Marker) (text : List ℕ) → IsTextOf k text → BeginsWithText k (told n m last text)
-begins_with k n m last text h =
-    let count = h.0 in
+pub adds_text : (p : Place) (what : TextKind) (text : List ℕ) (s : Asides)
+    → content_of p.content ≡ Text what → p.opening ≡ opening.Nothing → IsTextOf p.count text
+    → AddsBehind (on_line p.start p.length (text_kind what text)) p s (with_text_aside text s)
+adds_text p what text s is bare h =
+    let more : Asides = record { bytes = text; tokens = [] } in
     let whole = ap (λ n. take n text) h.0 ∙ take-length text in
-    (omega (arith, count), subst (λ bs. ∥ IsUtf8 bs ∥₁) (sym whole) h.1)
+    let none = ap (λ n. drop n text) h.0 ∙ drop-length text in
+    let count = h.0 in
+    adds (on_line p.start p.length (text_kind what text)) p s more (with_text_aside text s)
+    (subst (λ bs. AddsAlone (on_line p.start p.length (text_kind what bs)) p more) whole
+    (alone p (Text what) more is bare (omega (arith, count), subst (λ bs. ∥ IsUtf8 bs ∥₁) (sym whole) h.1)
+    (ap (λ bs. record { bytes = bs; tokens = [] }) none)))
+    (λ i. record { bytes = s.bytes ++ text; tokens = append-nil s.tokens i })
 
--- The whole text is taken.
-whole_text : (k : ℕ) (text : List ℕ) → IsTextOf k text → take k text ≡ text
-whole_text k text h = ap (λ n. take n text) h.0 ∙ take-length text
+pub adds_tag : (p : Place) (what : Handle) (suffix : List ℕ) (s : Asides)
+    → content_of p.content ≡ Tag what → p.opening ≡ opening.Nothing → IsTextOf p.count suffix
+    → AddsBehind (on_line p.start p.length (tokens.Tag (held_handle what) suffix)) p s (with_text_aside suffix s)
+adds_tag p what suffix s is bare h =
+    let more : Asides = record { bytes = suffix; tokens = [] } in
+    let whole = ap (λ n. take n suffix) h.0 ∙ take-length suffix in
+    let none = ap (λ n. drop n suffix) h.0 ∙ drop-length suffix in
+    let count = h.0 in
+    adds (on_line p.start p.length (tokens.Tag (held_handle what) suffix)) p s more (with_text_aside suffix s)
+    (subst (λ bs. AddsAlone (on_line p.start p.length (tokens.Tag (held_handle what) bs)) p more) whole
+    (alone p (Tag what) more is bare (omega (arith, count), subst (λ bs. ∥ IsUtf8 bs ∥₁) (sym whole) h.1)
+    (ap (λ bs. record { bytes = bs; tokens = [] }) none)))
+    (λ i. record { bytes = s.bytes ++ suffix; tokens = append-nil s.tokens i })
 
-none_left : (k : ℕ) (text : List ℕ) → IsTextOf k text → drop k text ≡ []
-none_left k text h = ap (λ n. drop n text) h.0 ∙ drop-length text
-
-pub adds_text : (p : Place) (what : TextKind) (span : Span) (text : List ℕ) (old new : Asides)
-    → content_of p.content ≡ Text what → p.opening ≡ opening.Nothing
-    → TellsSpan (near_of p) span old new → IsTextOf p.count text
-    → AddsBehind (record { span = span; kind = text_kind what text }) p old (with_text_aside text new)
-adds_text p what span text old new is bare tells h =
-    adds_told p (Text what) (text_kind what text) text span old new is bare tells
-    (begins_with p.count p.offset span.start old.last text h)
-    (ap (λ bs. on_line span.start p.length (text_kind what bs)) (whole_text p.count text h))
-    (ap (λ bs. record (nothing (told_last p.offset span.start old.last)) { bytes = bs }) (none_left p.count text h))
-
-pub adds_tag : (p : Place) (what : Handle) (span : Span) (suffix : List ℕ) (old new : Asides)
-    → content_of p.content ≡ Tag what → p.opening ≡ opening.Nothing
-    → TellsSpan (near_of p) span old new → IsTextOf p.count suffix
-    → AddsBehind (record { span = span; kind = tokens.Tag (held_handle what) suffix }) p
-    old (with_text_aside suffix new)
-adds_tag p what span suffix old new is bare tells h =
-    adds_told p (Tag what) (tokens.Tag (held_handle what) suffix) suffix span old new is bare tells
-    (begins_with p.count p.offset span.start old.last suffix h)
-    (ap (λ bs. on_line span.start p.length (tokens.Tag (held_handle what) bs)) (whole_text p.count suffix h))
-    (ap (λ bs. record (nothing (told_last p.offset span.start old.last)) { bytes = bs }) (none_left p.count suffix h))
-
-pub adds_token : (p : Place) (n : ℕ) (t : Piece) (s : Asides)
-    → content_of p.content ≡ Aside → p.opening ≡ opening.Nothing → p.offset ≡ suc n → AddsBehind t p s (with_token t s)
-adds_token p n t s is bare near =
-    let more : Asides = record { bytes = []; tokens = t ∷ []; origin = s.last; origins = []; last = s.last } in
-    adds t p s more (with_token t s) refl
-    (alone p Aside (start_at p.offset more) s.last more is bare refl (subst (λ k. HasStart k more) (sym near) tt)
-    (omega arith) (ap (λ k. behind_token (start_passed k more)) near))
-    (λ i. record s {
-      bytes = append-nil s.bytes i;
-      tokens = s.tokens ++ t ∷ [];
-      origins = append-nil s.origins i;
-    })
+pub adds_token : (p : Place) (t : Piece) (s : Asides)
+    → content_of p.content ≡ Aside → p.opening ≡ opening.Nothing → AddsBehind t p s (with_token t s)
+adds_token p t s is bare =
+    let more : Asides = record { bytes = []; tokens = t ∷ [] } in
+    adds t p s more (with_token t s) (alone p Aside more is bare (omega arith) refl)
+    (λ i. record { bytes = append-nil s.bytes i; tokens = s.tokens ++ t ∷ [] })
 
 -- after those that are held comes that of a token
 pub put_behind : (n : ℕ) (ps qs : List Place) (p : Place) (t : Piece) (old new : Asides) → n ≤ length ps
@@ -326,7 +173,7 @@ is_none (p ∷ ps) = eqb-suc-zero (length ps)
 
 -- where none is held nothing is beside
 pub nothing_held : (ps : List Place) (s : Asides) → true ≡ is_empty_list (places_at ps s) → Fit ps s
-    → IsEmptyAside s × (places_at ps s ≡ [])
+    → (s ≡ nothing) × (places_at ps s ≡ [])
 nothing_held [] s e h = (h, refl)
 nothing_held (p ∷ ps) s e h = absurd (cc)
 
@@ -343,102 +190,10 @@ first_behind zero m (q ∷ ps) p is lt e = rw is (ap (λ r. r ∷ ps) (sym e))
 first_behind (suc n) m (q ∷ ps) p is lt e =
     rw is (first_behind n (suc n) ps p refl (omega (arith, lt)) e)
 
--- ## Where the first begins
-
--- One that is told from the origin has beside it only what its token has.
-near_first : (p : Place) (s : Asides) → 0 < p.offset
-    → (place_at p s ≡ record { opening = p.opening; piece = near_token p s }) × (beside_behind p s ≡ behind_near p s)
-near_first p s h = near p.offset refl
-  where
-    what : Content
-    what = content_of p.content
-
-    place_of : Piece → seen.Place
-    place_of t = record { opening = p.opening; piece = t }
-
-    near : (n : ℕ) → p.offset ≡ n
-        → (place_at p s ≡ place_of (near_token p s)) × (beside_behind p s ≡ behind_near p s)
-    near zero e = absurd (omega (arith, e, h))
-    near (suc n) e = (
-      ap (λ k. place_of (token_of what (start_at k s) p.length p.count s)) e
-          ∙ ap (λ k. place_of (token_of what (moved k s.origin) p.length p.count s)) (omega (arith, e)),
-      ap (λ k. behind_token_of what p.count (start_passed k s)) e,
-    )
-
 pub first_held : (n m : ℕ) (ps : List Place) (p : Place) (s : Asides) → m ≡ suc n → n < length ps
-    → p ≡ slice_index_or ps n p → 0 < p.offset
-    → places_at (drop n ps) s
-    ≡ record { opening = p.opening; piece = near_token p s } ∷ places_at (drop m ps) (behind_near p s)
-first_held n m ps p s is lt e near =
-    let same = near_first p s near in
-    ap (λ qs. places_at qs s) (first_behind n m ps p is lt e)
-    ∙ (λ i. same.0 i ∷ places_at (drop m ps) (same.1 i))
-
--- what the first has beside it, and that the others have theirs
-pub first_fits : (n m : ℕ) (ps : List Place) (p : Place) (s : Asides) → m ≡ suc n → n < length ps
-    → p ≡ slice_index_or ps n p → 0 < p.offset → Fit (drop n ps) s
-    → HasNear p s × Fit (drop m ps) (behind_near p s)
-first_fits n m ps p s is lt e near fit =
-    let has = subst (λ qs. Fit qs s) (first_behind n m ps p is lt e) fit in
-    (has.0.1, subst (Fit (drop m ps)) (near_first p s near).1 has.1)
-
-moved_none : (m : Marker) → moved 0 m ≡ m
-moved_none m = λ i. record m {
-  index = plus_none m.index i;
-  col = plus_none m.col i;
-}
-  where
-    plus_none : (n : ℕ) → n + 0 ≡ n
-    plus_none n = omega arith
-
-token_same : (what : Content) (m : Marker) (n k : ℕ) (s : Asides)
-    → token_of what m n k (behind_origin s) ≡ token_of what m n k s
-token_same (Indicator i) m n k s = refl
-token_same (Text w) m n k s = refl
-token_same (Tag w) m n k s = refl
-token_same Aside m n k s = refl
-
-origin_passed_first : (p : Place) (ps : List Place) (s : Asides) → p.offset ≡ 0 → Fit (p ∷ ps) s
-    → (1 ≤ length s.origins)
-    × Fit (settled_place p ∷ ps) (behind_origin s)
-    × (places_at (settled_place p ∷ ps) (behind_origin s) ≡ places_at (p ∷ ps) s)
-origin_passed_first p ps s far fit =
-    let what = content_of p.content in
-    let begins = subst (λ n. HasStart n s) far fit.0.0 in
-    let left : beside_behind p s ≡ behind_token_of what p.count (behind_origin s) =
-    ap (λ n. behind_token_of what p.count (start_passed n s)) far in
-    let here = ap (λ n. start_at n s) far in
-    let piece : near_token (settled_place p) (behind_origin s) ≡ (place_at p s).piece =
-    ap (λ m. token_of what m p.length p.count (behind_origin s)) (moved_none (first_origin s.origins) ∙ sym here)
-    ∙ token_same what (start_at p.offset s) p.length p.count s in (
-      begins,
-      ((tt, has_behind what p.count zero s fit.0.1), subst (Fit ps) left fit.1),
-      λ i. record { opening = p.opening; piece = piece i } ∷ places_at ps (sym left i),
-    )
-
-set_behind : (n : ℕ) (ps : List Place) (p : Place) → n < length ps → drop n (set ps n p) ≡ p ∷ drop (suc n) ps
-set_behind n [] p lt = absurd (omega (arith, lt))
-set_behind zero (q ∷ ps) p lt = refl
-set_behind (suc n) (q ∷ ps) p lt = set_behind n ps p (omega (arith, lt))
-
--- the same places once the origin of the first is the origin
-pub origin_passed : (n : ℕ) (ps : List Place) (p : Place) (s : Asides) → n < length ps → p ≡ slice_index_or ps n p
-    → p.offset ≡ 0 → Fit (drop n ps) s
-    → (1 ≤ length s.origins)
-    × Fit (drop n (set ps n (settled_place p))) (behind_origin s)
-    × (places_at (drop n (set ps n (settled_place p))) (behind_origin s) ≡ places_at (drop n ps) s)
-origin_passed n ps p s lt e far fit =
-    let first = first_behind n (suc n) ps p refl lt e in
-    let new = set_behind n ps (settled_place p) lt in
-    let both = origin_passed_first p (drop (suc n) ps) s far (subst (λ qs. Fit qs s) first fit) in (
-      both.0,
-      subst (λ qs. Fit qs (behind_origin s)) (sym new) both.1,
-      ap (λ qs. places_at qs (behind_origin s)) new ∙ both.2 ∙ ap (λ qs. places_at qs s) (sym first),
-    )
-
-pub is_near : (n : ℕ) (ps : List Place) (p : Place) → n < length ps → p ≡ slice_index_or ps n p
-    → IsSettledFirst (drop n ps) → 0 < p.offset
-is_near n ps p lt e settled = subst IsSettledFirst (first_behind n (suc n) ps p refl lt e) settled
+    → p ≡ slice_index_or ps n p
+    → places_at (drop n ps) s ≡ place_at p s ∷ places_at (drop m ps) (beside_behind p s)
+first_held n m ps p s is lt e = ap (λ qs. places_at qs s) (first_behind n m ps p is lt e)
 
 -- ## One is opened
 

@@ -1,5 +1,5 @@
 -- Scalars that are read right where their texts are held.
-use Rattle.std.proofs.Common.{◌≡◌, ◌+◌, ◌-◌, ◌≤◌, ℕ, zero, suc, List, [], ◌∷◌, ◌++◌, Ok, Err, drop, length, take, refl, sym, ap, subst, arith, ◌∙◌}
+use Rattle.std.proofs.Common.{◌≡◌, ◌+◌, ◌-◌, ◌≤◌, ℕ, List, [], ◌∷◌, ◌++◌, Ok, Err, drop, length, take, sym, ap, subst, arith, ◌∙◌}
 use Rattle.std.specs.Prelude.{Option, Result, IsUtf8}
 use Rattle.std.specs.String.Boundary.{IsSplitPoint}
 use Rattle.std.proofs.Math.Seq.{drop-append_seam, take-append_seam}
@@ -7,7 +7,6 @@ use Rattle.std.proofs.lemmas.List.{drop-append-le, drop-drop, length-append, len
 use Rattle.std.proofs.lemmas.Str.{IsCharBoundary-from_drop, IsCharBoundary-from_take, IsUtf8-drop}
 use Rattle.saphyr_scalar.specs.declared.scalar.fault.Refusal.{Refusal}
 use Rattle.saphyr_scalar.specs.declared.scalar.position.Marker.{Marker}
-use Rattle.saphyr_scalar.specs.declared.scalar.position.Span.{Span}
 use Rattle.saphyr_scalar.specs.declared.scalar.style.ScalarStyle.{ScalarStyle}
 use Rattle.saphyr_scalar.specs.Steps.Plain.{PlainScalarRead, with_text}
 use Rattle.saphyr_scalar.specs.Steps.Quoted.{TextRead, with_front}
@@ -15,17 +14,16 @@ use Rattle.saphyr_scalar.specs.Views.Cursor.{Cursor}
 use Rattle.saphyr_scalar.specs.declared.scalar.fault.Stop.{Stop}
 use Rattle.saphyr_scalar.specs.declared.scalar.fault.Stop.TheVariants as stop
 use Rattle.saphyr_scalar.specs.Views.Reader.{Moves}
-use Rattle.saphyr_scanner.specs.declared.queue.origin.NearSpan.{NearSpan}
 use Rattle.saphyr_scanner.specs.declared.queue.place.Place.{Place}
 use Rattle.saphyr_scanner.specs.declared.queue.row.Row.{Row}
 use Rattle.saphyr_scanner.specs.Steps.Queue as seen
 use Rattle.saphyr_scanner.specs.Steps.Queue.{bare_place}
-use Rattle.saphyr_scanner.specs.Views.Places.{Fit, TellsSpan, places_at}
+use Rattle.saphyr_scanner.specs.Views.Places.{Fit, places_at}
 use Rattle.saphyr_scanner.specs.Views.Queue.{in_row}
 use Rattle.saphyr_scanner.specs.Views.Reads.{PlacesScalar, ScalarRead, queue_with_scalar, scalar_piece, with_scalar}
 use Rattle.saphyr_scanner.proofs.HeldPlaces.{put_behind}
 use Rattle.saphyr_scanner.proofs.Rows.{behind_rows}
-use Rattle.saphyr_scanner.specs.Views.Asides.{Asides, EndsWithText, IsTextOf, TellsStart, moved, with_origin, with_text_aside}
+use Rattle.saphyr_scanner.specs.Views.Asides.{Asides, EndsWithText, IsTextOf, with_text_aside}
 
 abbrev pub value_or : {X : Type 0} → X → Result X Refusal → X
 value_or d (Ok x) = x
@@ -125,27 +123,7 @@ pub same_text : (whole old s : Asides) (last text : List ℕ) → whole ≡ with
 same_text whole old s last text e f h =
     let both = sym e ∙ f in
     let parts = same_parts old.bytes last s.bytes text (ap (λ b. b.bytes) both) h in
-    ((λ i. record (both i) { bytes = parts.0 i }), parts.1)
-
--- what is aside once a token's start is told there
-abbrev pub with_start : ℕ → Marker → Asides → Asides
-with_start zero m s = with_origin m s
-with_start (suc n) m s = s
-
--- A start that is told behind a text is told before it too.
-start_before : (n : ℕ) (m : Marker) (text : List ℕ) (s whole new : Asides) → whole ≡ with_text_aside text s
-    → TellsStart n m whole new
-    → TellsStart n m s (with_start n m s) × (with_text_aside text (with_start n m s) ≡ new)
-start_before zero m text s whole new is tells = (refl, ap (with_origin m) (sym is) ∙ sym tells)
-start_before (suc n) m text s whole new is tells =
-    ((ap (λ r. moved n r.last) (sym is) ∙ tells.0, refl), sym is ∙ sym tells.1)
-
-pub told_before : (near : NearSpan) (span : Span) (text : List ℕ) (s whole new : Asides) → whole ≡ with_text_aside text s
-    → TellsSpan near span whole new
-    → TellsSpan near span s (with_start near.offset span.start s)
-    × (with_text_aside text (with_start near.offset span.start s) ≡ new)
-told_before near span text s whole new is tells =
-    let both = start_before near.offset span.start text s whole new is tells.0 in ((both.0, tells.1), both.1)
+    ((λ i. record { bytes = parts.0 i; tokens = (both i).tokens }), parts.1)
 
 -- where a text may be cut, of which some bytes were handed out
 pub may_cut : (at n spent : ℕ) (bs : List ℕ) → spent ≤ length bs → n ≤ length (drop spent bs) → at ≡ length bs - n

@@ -4,7 +4,7 @@ mod aside;
 mod cloning;
 mod content;
 mod held;
-mod origin;
+mod near;
 mod place;
 mod row;
 

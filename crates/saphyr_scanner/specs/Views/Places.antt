@@ -1,6 +1,6 @@
 -- What contracts see of the tokens that are held.
 use Rattle.std.proofs.Props.{props}
-use Rattle.std.specs.Prelude.{take, length, ⊤, [], ◌∷◌, ◌++◌, ◌-◌, ◌≤◌, ◌≡◌, List, ℕ, zero, suc, Bool, true, false, codes, string_bytes}
+use Rattle.std.specs.Prelude.{take, length, ⊤, [], ◌∷◌, ◌++◌, ◌+◌, ◌≤◌, ◌≡◌, List, ℕ, Bool, true, false, codes, string_bytes}
 use Rattle.saphyr_scalar.specs.declared.scalar.position.Marker.{Marker}
 use Rattle.saphyr_scalar.specs.declared.scalar.position.Span.{Span}
 use Rattle.saphyr_scalar.specs.declared.scalar.style.ScalarStyle.TheVariants as style
@@ -13,26 +13,24 @@ use Rattle.saphyr_scanner.specs.declared.queue.content.Indicator as declared_ind
 use Rattle.saphyr_scanner.specs.declared.queue.content.Indicator.TheVariants as indicator
 use Rattle.saphyr_scanner.specs.declared.queue.content.TextKind.{TextKind}
 use Rattle.saphyr_scanner.specs.declared.queue.content.TextKind.TheVariants as text
-use Rattle.saphyr_scanner.specs.declared.queue.origin.NearSpan.{NearSpan}
-use Rattle.saphyr_scanner.specs.declared.queue.origin.Origin.{Origin}
+use Rattle.saphyr_scanner.specs.declared.queue.near.NearMarker.{NearMarker}
 use Rattle.saphyr_scanner.specs.declared.queue.place.Place as declared_place
 use Rattle.saphyr_scanner.specs.Grammar.Tokens as tokens
 use Rattle.saphyr_scanner.specs.Grammar.Tokens.{Kind}
-use Rattle.saphyr_scanner.specs.Views.Asides.{Asides, BeginsWithText, HasStart, IsEmptyAside, start_passed, behind_text, behind_token, first_aside, moved, start_at, TellsStart}
+use Rattle.saphyr_scanner.specs.Views.Asides.{Asides, BeginsWithText, behind_text, behind_token, first_aside, nothing}
 use Rattle.saphyr_scanner.specs.Views.Contents.{content_of}
 use Rattle.saphyr_scanner.specs.Views.Tokens.{Piece}
 use Rattle.saphyr_scanner.specs.Steps.Queue.{Place, bare_place}
 
+abbrev pub near_marker : NearMarker → Marker
+near_marker m = record { index = m.index; line = m.line; col = m.col }
+
 -- the span on one line that begins at a place and has so many characters
-abbrev pub line_span : Marker → ℕ → Span
-line_span m n = record { start = m; end = moved n m }
-
-abbrev pub origin_marker : Origin → Marker
-origin_marker o = record { index = o.index; line = o.line; col = o.col }
-
--- This is the span of a token behind the others, once this is aside.
-abbrev pub TellsSpan : NearSpan → Span → Asides → Asides → Type 0
-TellsSpan near span old new = TellsStart near.offset span.start old new × (line_span span.start near.length ≡ span)
+abbrev pub near_span : NearMarker → ℕ → Span
+near_span m n = record {
+  start = near_marker m;
+  end = record { index = m.index + n; line = m.line; col = m.col + n };
+}
 
 abbrev pub indicator_kind : declared_indicator.Indicator → Kind
 indicator_kind indicator.SequenceStart = tokens.FlowSequenceStart
@@ -68,11 +66,11 @@ tag_kind tag = tokens.Tag (string_bytes tag.handle) (string_bytes tag.suffix)
 
 -- ## Places
 
--- the token of a place, over where it begins, and what it and those after it have beside them
-abbrev pub token_of : Content → Marker → ℕ → ℕ → Asides → Piece
-token_of (Indicator what) m n k s = record { span = line_span m n; kind = indicator_kind what }
-token_of (Text what) m n k s = record { span = line_span m n; kind = text_kind what (take k s.bytes) }
-token_of (Tag h) m n k s = record { span = line_span m n; kind = tokens.Tag (held_handle h) (take k s.bytes) }
+-- the token of a place, over what it and those after it have beside them
+abbrev pub token_of : Content → NearMarker → ℕ → ℕ → Asides → Piece
+token_of (Indicator what) m n k s = record { span = near_span m n; kind = indicator_kind what }
+token_of (Text what) m n k s = record { span = near_span m n; kind = text_kind what (take k s.bytes) }
+token_of (Tag h) m n k s = record { span = near_span m n; kind = tokens.Tag (held_handle h) (take k s.bytes) }
 token_of Aside m n k s = first_aside s.tokens
 
 -- what those after it have beside them
@@ -97,30 +95,13 @@ is_apart (Tag h) = true
 is_apart Aside = true
 
 abbrev pub place_at : declared_place.Place → Asides → Place
-place_at p s = record {
-  opening = p.opening;
-  piece = token_of (content_of p.content) (start_at p.offset s) p.length p.count s;
-}
+place_at p s = record { opening = p.opening; piece = token_of (content_of p.content) p.start p.length p.count s }
 
 abbrev pub beside_behind : declared_place.Place → Asides → Asides
-beside_behind p s = behind_token_of (content_of p.content) p.count (start_passed p.offset s)
+beside_behind p s = behind_token_of (content_of p.content) p.count s
 
 abbrev pub HasBeside : declared_place.Place → Asides → Type 0
-HasBeside p s = HasStart p.offset s × HasTokenOf (content_of p.content) p.count s
-
--- the same of a place that is told from the first origin
-abbrev pub near_token : declared_place.Place → Asides → Piece
-near_token p s = token_of (content_of p.content) (moved (p.offset - 1) s.origin) p.length p.count s
-
--- its token where the place where it begins is the origin
-abbrev pub settled_place : declared_place.Place → declared_place.Place
-settled_place p = record p { offset = 1 }
-
-abbrev pub behind_near : declared_place.Place → Asides → Asides
-behind_near p s = behind_token_of (content_of p.content) p.count s
-
-abbrev pub HasNear : declared_place.Place → Asides → Type 0
-HasNear p s = HasTokenOf (content_of p.content) p.count s
+HasBeside p s = HasTokenOf (content_of p.content) p.count s
 
 abbrev pub places_at : List declared_place.Place → Asides → List Place
 places_at [] s = []
@@ -128,7 +109,7 @@ places_at (p ∷ ps) s = place_at p s ∷ places_at ps (beside_behind p s)
 
 -- The places have all that they need beside them, and nothing more is there.
 abbrev pub Fit : List declared_place.Place → Asides → Type 0
-Fit [] s = IsEmptyAside s
+Fit [] s = s ≡ nothing
 Fit (p ∷ ps) s = HasBeside p s × Fit ps (beside_behind p s)
 
 HasTokenOf-prop : (what : Content) (k : ℕ) (s : Asides) → IsProp (HasTokenOf what k s)
@@ -137,15 +118,11 @@ HasTokenOf-prop (Text what) k s = hlevel props
 HasTokenOf-prop (Tag h) k s = hlevel props
 HasTokenOf-prop Aside k s = hlevel props
 
-HasStart-prop : (n : ℕ) (s : Asides) → IsProp (HasStart n s)
-HasStart-prop zero s = hlevel props
-HasStart-prop (suc n) s = hlevel props
-
 -- A fact of structs has one proof.
 pub Fit-prop : (ps : List declared_place.Place) (s : Asides) → IsProp (Fit ps s)
 Fit-prop [] s = hlevel props
 Fit-prop (p ∷ ps) s = λ u v i. (
-  (HasStart-prop p.offset s u.0.0 v.0.0 i, HasTokenOf-prop (content_of p.content) p.count s u.0.1 v.0.1 i),
+  HasTokenOf-prop (content_of p.content) p.count s u.0 v.0 i,
   Fit-prop ps (beside_behind p s) u.1 v.1 i,
 )
 

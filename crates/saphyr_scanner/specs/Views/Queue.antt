@@ -1,11 +1,10 @@
 -- What contracts see of the queue.
-use Rattle.std.specs.Prelude.{◌≡◌, ◌<◌, ⊤, [], drop, List, ◌∷◌, ℕ, zero, suc, Bool, Option, Some, None, option_map, Result, Ok, Err}
+use Rattle.std.specs.Prelude.{◌≡◌, ◌<◌, [], drop, List, ◌∷◌, ℕ, zero, suc, Bool, Option, Some, None, option_map, Result, Ok, Err}
 use Rattle.saphyr_scalar.specs.declared.scalar.fault.Stop.{Stop}
 use Rattle.saphyr_scalar.specs.declared.scalar.fault.Stop.TheVariants.{OutOfMemory}
 use Rattle.saphyr_scalar.specs.declared.scalar.position.Marker.{Marker}
 use Rattle.saphyr_scalar.specs.declared.scalar.position.Span.{Span}
 use Rattle.saphyr_scanner.specs.declared.queue.held.Held.{Held}
-use Rattle.saphyr_scanner.specs.declared.queue.place.Place as declared_place
 use Rattle.saphyr_scanner.specs.declared.queue.Queue as declared_queue
 use Rattle.saphyr_scanner.specs.declared.queue.Head.{Head}
 use Rattle.saphyr_scanner.specs.declared.queue.Head.TheVariants as head
@@ -35,14 +34,6 @@ in_row r ps = row_places r.count r.opening (piece r.token) ps
 -- the places that are held, without those that were handed out
 unfoldable pub held_places : Held → List Place
 held_places h = places_at (drop h.spent h.places.items) h.aside
-
--- The first of them, if there is one, is told from the origin.
-abbrev pub IsSettledFirst : List declared_place.Place → Type 0
-IsSettledFirst [] = ⊤
-IsSettledFirst (p ∷ ps) = 0 < p.offset
-
-abbrev pub IsSettled : Held → Type 0
-IsSettled h = IsSettledFirst (drop h.spent h.places.items)
 
 abbrev pub queue : declared_queue.Queue → Queue
 queue q = record { places = in_row q.first (in_row q.second (held_places q.held)); handed = q.handed }

@@ -1,26 +1,23 @@
 //! What the places of held tokens have beside them.
 
-ghost use Rattle.std.specs.Prelude.{◌≡◌, ◌<◌, ◌≤◌, ◌-◌, length, take, IfNone, IfOk, IfSome, OnErr, OnOk, slice_index, string_bytes};
+ghost use Rattle.std.specs.Prelude.{◌≡◌, ◌≤◌, [], length, take, IfNone, IfOk, IfSome, OnErr, OnOk, slice_index, string_bytes};
 ghost use Rattle.saphyr_scalar.specs.Steps.Plain.{plain, seen_plain_end};
 ghost use Rattle.saphyr_scalar.specs.Steps.Quoted.{quoted};
 ghost use Rattle.saphyr_scalar.specs.Views.Reader.{Moves, cursor_of};
 ghost use Rattle.saphyr_values.specs.Flow as flow;
 ghost use Rattle.saphyr_scanner.specs.Views.Asides as spec;
-ghost use Rattle.saphyr_scanner.specs.Views.Places.{line_span, TellsSpan};
 ghost use Rattle.saphyr_scanner.specs.Views.Tokens.{piece};
 
-use crate::queue::origin::{NearSpan, Origin};
 use crate::token::Token;
 use saphyr_input::input::Input;
-use saphyr_scalar::{Marker, PlainEnd, Reader, Span, Stop};
+use saphyr_scalar::{Marker, PlainEnd, Reader, Stop};
 use saphyr_values::Quote;
 use std::alloc::{AllocError, Global};
 use std::collections::VecDeque;
 use std::marker::Model;
 use std::str;
 
-/// The texts of the tokens that are held, the tokens that are held as they are, and the origins from which the others'
-/// places are told, all in the order of the text.
+/// The texts of the tokens that are held, and the tokens that are held as they are, both in the order of the text.
 ///
 /// A box for each text would cost more than the text. So they are one after another in one piece of memory.
 #[derive(Drop)]
@@ -29,128 +26,44 @@ pub(super) struct Aside {
     // How many bytes of the texts were handed out.
     spent: usize,
     tokens: VecDeque<Token>,
-    // The origin of the first token, those after it, and the last of all, from which the next token may be told.
-    origin: Origin,
-    origins: VecDeque<Origin>,
-    last: Origin,
     ghost within: { spent ≤ length (string_bytes texts) },
 }
 
 impl Model for Aside {
     ghost use Rattle.std.specs.Prelude.{drop, map, string_bytes};
     ghost use Rattle.saphyr_scanner.specs.Views.Asides.{Asides};
-    ghost use Rattle.saphyr_scanner.specs.Views.Places.{origin_marker};
     ghost use Rattle.saphyr_scanner.specs.Views.Tokens.{piece};
 
     ghost Value = { Asides };
 
-    ghost view = { λ a. record {
-      bytes = drop a.spent (string_bytes a.texts);
-      tokens = map piece a.tokens.items;
-      origin = origin_marker a.origin;
-      origins = map origin_marker a.origins.items;
-      last = origin_marker a.last;
-    } };
+    ghost view = { λ a. record { bytes = drop a.spent (string_bytes a.texts); tokens = map piece a.tokens.items } };
 }
 
 impl Aside {
     pub(super) fn new(alloc: Global) -> Self
-        ensures { spec.IsEmptyAside result }
+        ensures { result ≡ spec.nothing }
     {
         Aside {
             texts: String::new(alloc),
             spent: 0,
             tokens: VecDeque::new(alloc),
-            origin: Origin::zero(),
-            origins: VecDeque::new(alloc),
-            last: Origin::zero(),
         }
     }
 
-    /// The span of a token behind the others, if it is near the last origin.
+    /// Keeps a text behind the others, and returns the number of its bytes, if that fits into a byte.
     #[inline(always)]
-    pub(super) fn near(&self, start: &Marker, end: &Marker) -> Option<NearSpan>
-        ensures { IfSome result (λ near. TellsSpan near
-            (record { start = start.now; end = end.now }) self.now self.now) }
-    {
-        self.last.near(start, end)
-    }
-
-    /// The span of a token behind the others, if it is on one line and short. If it isn't near the last origin, its
-    /// start is the next one.
-    #[inline(always)]
-    pub(super) fn tell(
-        &mut self,
-        start: &Marker,
-        end: &Marker,
-    ) -> Result<Option<NearSpan>, AllocError>
-        ensures told { IfOk result (λ found. IfSome found (λ near. TellsSpan near
-            (record { start = start.now; end = end.now }) self.old self.new)) }
+    pub(super) fn keep_text(&mut self, text: &str) -> Result<Option<u8>, AllocError>
+        ensures count { IfOk result (λ found. IfSome found (λ count. count ≡ length text.now)) }
+        ensures kept { IfOk result (λ found. IfSome found
+            (λ _. self.new ≡ spec.with_text_aside text.now self.old)) }
         ensures none { IfOk result (λ found. IfNone found (self.new ≡ self.old)) }
         ensures failed { OnErr result (self.new ≡ self.old) }
     {
-        if let Some(near) = self.near(start, end) {
-            return Ok(Some(near));
-        }
-        self.put_origin(start, end)
-    }
-
-    /// The same with its start as the next origin.
-    #[inline(always)]
-    pub(super) fn put_origin(
-        &mut self,
-        start: &Marker,
-        end: &Marker,
-    ) -> Result<Option<NearSpan>, AllocError>
-        ensures told { IfOk result (λ found. IfSome found (λ near. TellsSpan near
-            (record { start = start.now; end = end.now }) self.old self.new)) }
-        ensures none { IfOk result (λ found. IfNone found (self.new ≡ self.old)) }
-        ensures failed { OnErr result (self.new ≡ self.old) }
-    {
-        let Some(origin) = Origin::new(start) else {
+        let Ok(count) = u8::try_from(text.len()) else {
             return Ok(None);
         };
-        let Some(NearSpan { length, .. }) = origin.near(start, end) else {
-            return Ok(None);
-        };
-        self.origins.push_back(origin)?;
-        self.last = origin;
-        Ok(Some(NearSpan { offset: 0, length }))
-    }
-
-    /// Goes on to the next origin.
-    pub(super) fn pass_origin(&mut self)
-        requires { 1 ≤ length self.old.origins }
-        ensures { self.new ≡ spec.behind_origin self.old }
-    {
-        self.origin = self.origins.pop_front().unwrap();
-    }
-
-    /// The place of an offset from the origin.
-    #[inline(always)]
-    pub(super) fn at(&self, offset: u16) -> Marker
-        requires { 0 < offset }
-        ensures { result ≡ spec.moved (offset - 1) self.now.origin }
-    {
-        self.origin.at(offset)
-    }
-
-    /// The span of so many characters that begins there.
-    #[inline(always)]
-    pub(super) fn span_at(&self, offset: u16, length: u8) -> Span
-        requires { 0 < offset }
-        ensures { result ≡ line_span (spec.moved (offset - 1) self.now.origin) length }
-    {
-        self.origin.span_at(offset, length)
-    }
-
-    /// Keeps a text behind the others.
-    #[inline(always)]
-    pub(super) fn keep_text(&mut self, text: &str) -> Result<(), AllocError>
-        ensures kept { OnOk result (self.new ≡ spec.with_text_aside text.now self.old) }
-        ensures failed { OnErr result (self.new ≡ self.old) }
-    {
-        self.texts.push_str(text)
+        self.texts.push_str(text)?;
+        Ok(Some(count))
     }
 
     /// Reads a plain scalar, and keeps its text behind the others. Returns how the scalar ended, and how many bytes its
@@ -277,30 +190,22 @@ impl Aside {
         self.tokens.pop_front().unwrap()
     }
 
-    /// Forgets all texts, where nothing is held. Their memory is kept for others. The origin is where the next token
-    /// begins.
+    /// Forgets all texts, where there are no tokens. Their memory is kept for others.
     #[inline(always)]
-    pub(super) fn clear(&mut self, start: &Marker)
-        requires { spec.IsEmptyAside self.old }
-        ensures { spec.IsEmptyAside self.new }
+    pub(super) fn clear(&mut self)
+        requires { self.old.tokens ≡ [] }
+        ensures { self.new ≡ spec.nothing }
     {
         self.texts.clear();
         self.spent = 0;
-        if let Some(origin) = Origin::new(start) {
-            self.origin = origin;
-            self.last = origin;
-        }
     }
 
-    /// Forgets all texts, tokens and origins.
+    /// Forgets all texts and tokens.
     pub(super) fn forget(&mut self)
-        ensures { spec.IsEmptyAside self.new }
+        ensures { self.new ≡ spec.nothing }
     {
-        self.texts.clear();
-        self.spent = 0;
         self.tokens.clear();
-        self.origins.clear();
-        self.origin = self.last;
+        self.clear();
     }
 
     /// The same texts and tokens, unless memory runs out.
@@ -311,9 +216,6 @@ impl Aside {
             texts: self.texts.clone()?,
             spent: self.spent,
             tokens: self.tokens.clone()?,
-            origin: self.origin,
-            origins: self.origins.clone()?,
-            last: self.last,
         })
     }
 }

@@ -12,15 +12,15 @@ ghost use Rattle.saphyr_scanner.specs.Views.Places.{
   Fit-prop,
   indicator_kind,
   indicator_piece,
+  near_span,
   tag_kind,
-  TellsSpan,
 };
 ghost use Rattle.saphyr_scanner.specs.Views.Reads.{flow_quoted, quote_style, with_scalar};
 
 use crate::queue::Opening;
 use crate::queue::aside::Aside;
 use crate::queue::content::{Handle, Indicator, TextKind};
-use crate::queue::origin::NearSpan;
+use crate::queue::near::{NearMarker, near};
 use crate::queue::place::Place;
 use crate::token::{Token, TokenType};
 use saphyr_input::input::Input;
@@ -48,7 +48,7 @@ pub(super) struct Held {
 
 impl Held {
     ghost use Rattle.saphyr_scanner.specs.Views.Tokens.{kind_of};
-    ghost use Rattle.saphyr_scanner.specs.Views.Queue.{held_places, held_queue, IsSettled, PassesOffBy, TakesHeldBy};
+    ghost use Rattle.saphyr_scanner.specs.Views.Queue.{held_places, held_queue, PassesOffBy, TakesHeldBy};
 
     #[tactic(auto, unfolding(crate::specs::Views::Queue::held_places))]
     pub(super) fn new(alloc: Global) -> Self
@@ -83,22 +83,21 @@ impl Held {
         self.spent = 0;
     }
 
-    // Forgets the places that were handed out, and their texts too if no others are held. `start` is where the next
-    // token begins.
+    // Forgets the places that were handed out, and their texts too if no others are held.
     #[inline(always)]
-    fn clear_spent(&mut self, start: &Marker)
+    fn clear_spent(&mut self)
         ensures { held_places self.new ≡ held_places self.old }
     {
         if self.is_empty() {
             self.places.clear();
             self.spent = 0;
-            self.aside.clear(start);
+            self.aside.clear();
         } else if self.spent > MOST_SPENT && self.spent > self.places.len() / 2 {
             self.forget_spent();
         }
     }
 
-    /// Puts a token at the end. After an error no token is held.
+    /// Puts a token at the end.
     #[inline(always)]
     pub(super) fn put(
         &mut self,
@@ -109,34 +108,26 @@ impl Held {
         ensures { OnOk result (held_places self.new ≡ held_places self.old
             ++ spec.bare_place (record { span = span.now; kind = kind_of kind }) ∷ []) }
     {
-        self.clear_spent(&span.start);
+        self.clear_spent();
         self.places.reserve(1)?;
-        match Place::new(span, kind, &mut self.aside, spare) {
-            Ok(place) => {
-                self.places.push_reserved(place);
-                Ok(())
-            }
-            Err(error) => {
-                self.places.clear();
-                self.spent = 0;
-                self.aside.forget();
-                Err(error)
-            }
-        }
+        let place = Place::new(span, kind, &mut self.aside, spare)?;
+        self.places.push_reserved(place);
+        Ok(())
     }
 
-    // A span, if it is near, and a place can be put at the end at once.
+    // The place where a span begins and the number of its characters, if it is as `near` says, and a place can be put
+    // at the end at once.
     #[inline(always)]
-    fn near_with_room(&self, start: &Marker, end: &Marker) -> Option<NearSpan>
-        ensures near { IfSome result (λ near. TellsSpan near
-            (record { start = start.now; end = end.now }) self.now.aside self.now.aside) }
+    fn near_with_room(&self, start: &Marker, end: &Marker) -> Option<(NearMarker, u8)>
+        ensures near { IfSome result
+            (λ found. near_span found.0 found.1 ≡ record { start = start.now; end = end.now }) }
         ensures room { IfSome result
             (λ found. vec_len self.now.places < vec_capacity self.now.places) }
     {
         if self.spent != 0 || self.places.len() >= self.places.capacity() {
             return None;
         }
-        self.aside.near(start, end)
+        near(start, end)
     }
 
     /// Puts a scalar at the end. Mostly it is on one line, and its place can be put there at once: then no room is
@@ -156,37 +147,37 @@ impl Held {
         let Some(what) = TextKind::of_style(style) else {
             return self.put_scalar_rarely(span, style, text, spare);
         };
-        let Some(near) = self.near_with_room(&span.start, &span.end) else {
+        let Some((start, length)) = self.near_with_room(&span.start, &span.end) else {
             return self.put_scalar_rarely(span, style, text, spare);
         };
-        let Ok(count) = u8::try_from(text.len()) else {
+        let Some(count) = self.aside.keep_text(&text)? else {
             return self.put_scalar_rarely(span, style, text, spare);
         };
-        self.aside.keep_text(&text)?;
         spare.keep(text);
-        self.places.push_reserved(Place::text(near, what, count));
+        self.places
+            .push_reserved(Place::text(start, length, what, count));
         Ok(())
     }
 
-    // Makes room for one more place, of a token that begins where the reader is.
+    // Makes room for one more place.
     #[inline(always)]
-    fn make_room<T: Input>(&mut self, reader: &Reader<T>) -> Result<(), AllocError>
+    fn make_room(&mut self) -> Result<(), AllocError>
         ensures same { held_places self.new ≡ held_places self.old }
         ensures room { OnOk result (vec_len self.new.places < vec_capacity self.new.places) }
     {
         if self.spent != 0 || self.places.len() >= self.places.capacity() {
-            self.make_room_rarely(reader)?;
+            self.make_room_rarely()?;
         }
         Ok(())
     }
 
     // The same where places were handed out, or there is no room.
     #[inline(never)]
-    fn make_room_rarely<T: Input>(&mut self, reader: &Reader<T>) -> Result<(), AllocError>
+    fn make_room_rarely(&mut self) -> Result<(), AllocError>
         ensures same { held_places self.new ≡ held_places self.old }
         ensures room { OnOk result (vec_len self.new.places < vec_capacity self.new.places) }
     {
-        self.clear_spent(&reader.mark());
+        self.clear_spent();
         self.places.reserve(1)?;
         Ok(())
     }
@@ -205,7 +196,7 @@ impl Held {
             (with_scalar Plain (held_places self.old) (cursor_of reader.old).mark
             (plain in_flow indent (cursor_of reader.old))) }
     {
-        self.make_room(reader)?;
+        self.make_room()?;
         match Place::read_plain(alloc, reader, in_flow, indent, &mut self.aside) {
             Ok((place, comment)) => {
                 self.places.push_reserved(place);
@@ -235,7 +226,7 @@ impl Held {
             (with_scalar (quote_style quote) (held_places self.old) (cursor_of reader.old).mark
             (flow_quoted quote indent (cursor_of reader.old))) }
     {
-        self.make_room(reader)?;
+        self.make_room()?;
         match Place::read_quoted(alloc, reader, quote, indent, &mut self.aside) {
             Ok((place, is_at_indicator)) => {
                 self.places.push_reserved(place);
@@ -281,15 +272,15 @@ impl Held {
         let Some(handle) = Handle::of(&tag.handle) else {
             return self.put_tag_rarely(alloc, span, tag, spare);
         };
-        let Some(near) = self.near_with_room(&span.start, &span.end) else {
+        let Some((start, length)) = self.near_with_room(&span.start, &span.end) else {
             return self.put_tag_rarely(alloc, span, tag, spare);
         };
-        let Ok(count) = u8::try_from(tag.suffix.len()) else {
+        let Some(count) = self.aside.keep_text(&tag.suffix)? else {
             return self.put_tag_rarely(alloc, span, tag, spare);
         };
-        self.aside.keep_text(&tag.suffix)?;
         spare.keep_tag(tag);
-        self.places.push_reserved(Place::tag(near, handle, count));
+        self.places
+            .push_reserved(Place::tag(start, length, handle, count));
         Ok(())
     }
 
@@ -320,14 +311,15 @@ impl Held {
         ensures { OnOk result (held_places self.new ≡ held_places self.old
             ++ spec.bare_place (indicator_piece start.now end.now indicator) ∷ []) }
     {
-        let Some(near) = self.near_with_room(start, end) else {
+        let Some((start, length)) = self.near_with_room(start, end) else {
             return self.put_indicator_rarely(start, end, indicator);
         };
-        self.places.push_reserved(Place::bare(near, indicator));
+        self.places
+            .push_reserved(Place::bare(start, length, indicator));
         Ok(())
     }
 
-    // The same for any place and any room. After an error no token is held.
+    // The same for any place and any room.
     #[inline(never)]
     fn put_indicator_rarely(
         &mut self,
@@ -355,33 +347,6 @@ impl Held {
         }
     }
 
-    // Goes on to the next origin, if the first token begins there.
-    #[inline(always)]
-    fn settle(&mut self)
-        ensures same { held_places self.new ≡ held_places self.old }
-        ensures near { IsSettled self.new }
-    {
-        if let Some(place) = self.places.get(self.spent)
-            && place.is_at_origin()
-        {
-            self.pass_origin();
-        }
-    }
-
-    // The same where it begins there.
-    #[inline(never)]
-    fn pass_origin(&mut self)
-        ensures same { held_places self.new ≡ held_places self.old }
-        ensures near { IsSettled self.new }
-    {
-        if let Some(place) = self.places.get_mut(self.spent)
-            && place.is_at_origin()
-        {
-            place.settle();
-            self.aside.pass_origin();
-        }
-    }
-
     // Takes the first token off, if there is one, and writes it into `token`.
     #[inline(always)]
     fn take_place(
@@ -391,7 +356,6 @@ impl Held {
         handed: &mut usize,
         spare: &mut Spare,
     ) -> Result<bool, Stop>
-        requires { IsSettled self.old }
         ensures { TakesHeldBy spec.take_place self.old handed.old
             result token.new self.new handed.new }
     {
@@ -419,7 +383,6 @@ impl Held {
     ) -> Result<bool, Stop>
         ensures { TakesHeldBy spec.take self.old handed.old result token.new self.new handed.new }
     {
-        self.settle();
         let Some(place) = self.places.get(self.spent) else {
             return Ok(false);
         };
@@ -437,7 +400,6 @@ impl Held {
     // Takes the first token off, if it is this indicator, and returns its span.
     #[inline(always)]
     fn pass_place(&mut self, indicator: Indicator, handed: &mut usize) -> Result<Option<Span>, Stop>
-        requires { IsSettled self.old }
         ensures { PassesOffBy (indicator_kind indicator) spec.take_place result
             (held_queue self.old handed.old) (held_queue self.new handed.new) }
     {
@@ -447,7 +409,7 @@ impl Held {
         let Some(place) = self.places.get(self.spent) else {
             return Ok(None);
         };
-        let Some(span) = place.span_of(indicator, &self.aside) else {
+        let Some(span) = place.span_of(indicator) else {
             return Ok(None);
         };
         *handed = count;
@@ -465,7 +427,6 @@ impl Held {
         ensures { PassesOffBy (indicator_kind indicator) spec.take result
             (held_queue self.old handed.old) (held_queue self.new handed.new) }
     {
-        self.settle();
         let Some(place) = self.places.get(self.spent) else {
             return Ok(None);
         };

@@ -1,6 +1,6 @@
 //! A token that is held, and what comes in front of it, in a small form, since the queue may hold all tokens of a text.
 
-ghost use Rattle.std.specs.Prelude.{◌≡◌, ◌<◌, ◌≤◌, true, false, length, List, ℕ, IfOk, IfSome, OnErr, OnOk, slice_index, string_bytes};
+ghost use Rattle.std.specs.Prelude.{◌≡◌, ◌≤◌, true, length, List, ℕ, IfOk, IfSome, OnErr, OnOk, slice_index};
 ghost use Rattle.saphyr_values.specs.Flow as flow;
 ghost use Rattle.saphyr_scalar.specs.Steps.Plain.{plain};
 ghost use Rattle.saphyr_scalar.specs.declared.scalar.style.ScalarStyle.TheVariants.{Plain};
@@ -10,14 +10,13 @@ ghost use Rattle.saphyr_scanner.specs.Views.Asides.{EndsWithText, IsTextOf, behi
 ghost use Rattle.saphyr_scanner.specs.Views.Contents.{content_of};
 ghost use Rattle.saphyr_scanner.specs.Views.Places.{
   AddsBehind,
-  behind_near,
+  beside_behind,
   held_handle,
   is_apart,
   indicator_kind,
-  near_token,
-  settled_place,
-  HasNear,
-  TellsSpan,
+  near_span,
+  place_at,
+  HasBeside,
   text_kind,
 };
 ghost use Rattle.saphyr_scanner.specs.Views.Reads as spec;
@@ -27,7 +26,7 @@ ghost use Rattle.saphyr_scanner.specs.Views.Tokens.{Piece, kind_of, piece};
 use crate::queue::Opening;
 use crate::queue::aside::Aside;
 use crate::queue::content::{Content, Handle, Indicator, Packed, TextKind};
-use crate::queue::origin::NearSpan;
+use crate::queue::near::{NearMarker, near};
 use crate::token::{Token, TokenType};
 use saphyr_input::char_traits::is_breakz;
 use saphyr_input::input::{Input, SkipTabs};
@@ -41,13 +40,12 @@ use std::alloc::{AllocError, Global};
 /// of any other token.
 #[derive(Clone, Copy)]
 pub(super) struct Place {
-    // Where it begins, told from the origin: 0 says at the next one. The origins are aside.
-    offset: u16,
+    pub(super) opening: Opening,
+    content: Packed,
     // How many characters the token has, and how many bytes its text.
     length: u8,
     count: u8,
-    content: Packed,
-    pub(super) opening: Opening,
+    start: NearMarker,
 }
 
 // Whether a character is an indicator that may come after a quoted scalar inside flow.
@@ -87,53 +85,48 @@ impl Place {
 
     /// The place of an indicator on one line, with nothing in front of it.
     #[inline(always)]
-    pub(super) fn bare(near: NearSpan, indicator: Indicator) -> Place
-        ensures { (span : Span) (old new : Asides) → TellsSpan near span old new → AddsBehind
-            (record { span = span; kind = indicator_kind indicator }) result old new }
+    pub(super) fn bare(start: NearMarker, length: u8, indicator: Indicator) -> Place
+        ensures { (s : Asides) → AddsBehind
+            (record { span = near_span start length; kind = indicator_kind indicator }) result s s }
     {
-        let NearSpan { offset, length } = near;
         Place {
             opening: Opening::Nothing,
             content: Packed::new(Content::Indicator(indicator)),
             length,
             count: 0,
-            offset,
+            start,
         }
     }
 
     /// The same for a token with a text, which is aside, and has so many bytes.
     #[inline(always)]
-    pub(super) fn text(near: NearSpan, what: TextKind, count: u8) -> Place
-        ensures { (span : Span) (text : List ℕ) (old new : Asides) → TellsSpan near span old new
-            → IsTextOf count text → AddsBehind
-            (record { span = span; kind = text_kind what text }) result
-            old (with_text_aside text new) }
+    pub(super) fn text(start: NearMarker, length: u8, what: TextKind, count: u8) -> Place
+        ensures { (text : List ℕ) (s : Asides) → IsTextOf count text → AddsBehind
+            (record { span = near_span start length; kind = text_kind what text }) result
+            s (with_text_aside text s) }
     {
-        let NearSpan { offset, length } = near;
         Place {
             opening: Opening::Nothing,
             content: Packed::new(Content::Text(what)),
             length,
             count,
-            offset,
+            start,
         }
     }
 
     /// The same for a tag, whose suffix is aside, and has so many bytes.
     #[inline(always)]
-    pub(super) fn tag(near: NearSpan, handle: Handle, count: u8) -> Place
-        ensures { (span : Span) (suffix : List ℕ) (old new : Asides) → TellsSpan near span old new
-            → IsTextOf count suffix → AddsBehind
-            (record { span = span; kind = tokens.Tag (held_handle handle) suffix })
-            result old (with_text_aside suffix new) }
+    pub(super) fn tag(start: NearMarker, length: u8, handle: Handle, count: u8) -> Place
+        ensures { (suffix : List ℕ) (s : Asides) → IsTextOf count suffix → AddsBehind
+            (record { span = near_span start length; kind = tokens.Tag (held_handle handle) suffix })
+            result s (with_text_aside suffix s) }
     {
-        let NearSpan { offset, length } = near;
         Place {
             opening: Opening::Nothing,
             content: Packed::new(Content::Tag(handle)),
             length,
             count,
-            offset,
+            start,
         }
     }
 
@@ -151,47 +144,10 @@ impl Place {
             (record { span = span.now; kind = text_kind what text }) p s aside.new) }
     {
         if let Ok(count) = u8::try_from(count)
-            && let Some(near) = aside.near(&span.start, &span.end)
+            && let Some((start, length)) = near(&span.start, &span.end)
         {
-            return Ok(Place::text(near, what, count));
+            return Ok(Place::text(start, length, what, count));
         }
-        Place::of_last_text_rarely(span, what, count, aside)
-    }
-
-    // The same where it isn't near.
-    #[inline(never)]
-    fn of_last_text_rarely(
-        span: &Span,
-        what: TextKind,
-        count: usize,
-        aside: &mut Aside,
-    ) -> Result<Place, AllocError>
-        requires { EndsWithText count aside.old }
-        ensures { (text : List ℕ) (s : Asides) → aside.old ≡ with_text_aside text s
-            → IsTextOf count text → IfOk result (λ p. AddsBehind
-            (record { span = span.now; kind = text_kind what text }) p s aside.new) }
-    {
-        let Ok(bytes) = u8::try_from(count) else {
-            return Place::whole_of_last_text(span, what, count, aside);
-        };
-        let Some(near) = aside.put_origin(&span.start, &span.end)? else {
-            return Place::whole_of_last_text(span, what, count, aside);
-        };
-        Ok(Place::text(near, what, bytes))
-    }
-
-    // The same for any token.
-    fn whole_of_last_text(
-        span: &Span,
-        what: TextKind,
-        count: usize,
-        aside: &mut Aside,
-    ) -> Result<Place, AllocError>
-        requires { EndsWithText count aside.old }
-        ensures { (text : List ℕ) (s : Asides) → aside.old ≡ with_text_aside text s
-            → IsTextOf count text → IfOk result (λ p. AddsBehind
-            (record { span = span.now; kind = text_kind what text }) p s aside.new) }
-    {
         let text = aside.take_last_text(count)?;
         Place::whole(span, what.kind(text), aside)
     }
@@ -248,12 +204,11 @@ impl Place {
             content: Packed::new(Content::Aside),
             length: 0,
             count: 0,
-            offset: 1,
+            start: NearMarker::zero(),
         }
     }
 
-    /// The place of a token, with nothing in front of it. What it has beside it is put behind what is aside. After an
-    /// error nothing is known of what is aside.
+    /// The place of a token, with nothing in front of it. What it has beside it is put behind what is aside.
     #[inline(always)]
     pub(super) fn new(
         span: &Span,
@@ -261,9 +216,13 @@ impl Place {
         aside: &mut Aside,
         spare: &mut Spare,
     ) -> Result<Place, AllocError>
-        ensures { IfOk result (λ p. AddsBehind
+        ensures place { IfOk result (λ p. AddsBehind
             (record { span = span.now; kind = kind_of kind }) p aside.old aside.new) }
+        ensures failed { OnErr result (aside.new ≡ aside.old) }
     {
+        let Some((start, length)) = near(&span.start, &span.end) else {
+            return Place::whole(span, kind, aside);
+        };
         let indicator = match kind {
             TokenType::FlowSequenceStart => Indicator::SequenceStart,
             TokenType::FlowSequenceEnd => Indicator::SequenceEnd,
@@ -276,36 +235,23 @@ impl Place {
             TokenType::BlockMappingStart => Indicator::BlockMappingStart,
             TokenType::BlockEntry => Indicator::BlockEntry,
             TokenType::BlockEnd => Indicator::BlockEnd,
-            kind => return Place::with_text(span, kind, aside, spare),
+            kind => return Place::with_text(start, length, kind, aside, spare),
         };
-        Place::of_indicator(span, indicator, aside)
+        Ok(Place::bare(start, length, indicator))
     }
 
-    /// The same for an indicator.
-    pub(super) fn of_indicator(
-        span: &Span,
-        indicator: Indicator,
-        aside: &mut Aside,
-    ) -> Result<Place, AllocError>
-        ensures { IfOk result (λ p. AddsBehind
-            (record { span = span.now; kind = indicator_kind indicator }) p aside.old aside.new) }
-    {
-        let Some(near) = aside.tell(&span.start, &span.end)? else {
-            return Place::whole(span, indicator.kind(), aside);
-        };
-        Ok(Place::bare(near, indicator))
-    }
-
-    // The same for a token that is none of the indicators.
+    // The same for a token on one line that is none of the indicators.
     #[inline(always)]
     fn with_text(
-        span: &Span,
+        start: NearMarker,
+        length: u8,
         kind: TokenType,
         aside: &mut Aside,
         spare: &mut Spare,
     ) -> Result<Place, AllocError>
-        ensures { IfOk result (λ p. AddsBehind
-            (record { span = span.now; kind = kind_of kind }) p aside.old aside.new) }
+        ensures place { IfOk result (λ p. AddsBehind
+            (record { span = near_span start length; kind = kind_of kind }) p aside.old aside.new) }
+        ensures failed { OnErr result (aside.new ≡ aside.old) }
     {
         let (what, text) = match kind {
             TokenType::Alias(name) => (TextKind::Alias, name),
@@ -313,69 +259,34 @@ impl Place {
             TokenType::Scalar(ScalarStyle::Plain, text) => (TextKind::Plain, text),
             TokenType::Scalar(ScalarStyle::SingleQuoted, text) => (TextKind::SingleQuoted, text),
             TokenType::Scalar(ScalarStyle::DoubleQuoted, text) => (TextKind::DoubleQuoted, text),
-            kind => return Place::whole(span, kind, aside),
+            kind => return Place::whole(&start.span(length), kind, aside),
         };
-        Place::of_text(span, what, text, aside, spare)
-    }
-
-    // The same for a token with a text.
-    fn of_text(
-        span: &Span,
-        what: TextKind,
-        text: String,
-        aside: &mut Aside,
-        spare: &mut Spare,
-    ) -> Result<Place, AllocError>
-        ensures { IfOk result (λ p. AddsBehind (record
-            { span = span.now; kind = text_kind what (string_bytes text) })
-            p aside.old aside.new) }
-    {
-        let Ok(count) = u8::try_from(text.len()) else {
-            return Place::whole(span, what.kind(text), aside);
+        let Some(count) = aside.keep_text(&text)? else {
+            return Place::whole(&start.span(length), what.kind(text), aside);
         };
-        let Some(near) = aside.tell(&span.start, &span.end)? else {
-            return Place::whole(span, what.kind(text), aside);
-        };
-        aside.keep_text(&text)?;
         spare.keep(text);
-        Ok(Place::text(near, what, count))
+        Ok(Place::text(start, length, what, count))
     }
 
     // The same for any token.
     fn whole(span: &Span, kind: TokenType, aside: &mut Aside) -> Result<Place, AllocError>
-        ensures { IfOk result (λ p. AddsBehind
+        ensures place { IfOk result (λ p. AddsBehind
             (record { span = span.now; kind = kind_of kind }) p aside.old aside.new) }
+        ensures failed { OnErr result (aside.new ≡ aside.old) }
     {
         aside.keep_token(Token { span: *span, kind })?;
         Ok(Place::of_aside())
     }
 
-    /// Whether the token begins at the next origin.
-    #[inline(always)]
-    pub(super) fn is_at_origin(self) -> bool
-        ensures there { result ≡ true → self.offset ≡ 0 }
-        ensures behind { result ≡ false → 0 < self.offset }
-    {
-        self.offset == 0
-    }
-
-    /// Says that this is the origin now, and not the next one.
-    pub(super) fn settle(&mut self)
-        ensures { self.new ≡ settled_place self.old }
-    {
-        self.offset = 1;
-    }
-
     /// The span of the token, if it is this indicator. It has nothing aside.
     #[inline(always)]
-    pub(super) fn span_of(self, indicator: Indicator, aside: &Aside) -> Option<Span>
-        requires { 0 < self.offset }
-        ensures token { IfSome result (λ span. near_token self aside.now
+    pub(super) fn span_of(self, indicator: Indicator) -> Option<Span>
+        ensures token { (s : Asides) → IfSome result (λ span. (place_at self s).piece
             ≡ record { span = span; kind = indicator_kind indicator }) }
-        ensures nothing_aside { IfSome result (λ span. behind_near self aside.now ≡ aside.now) }
+        ensures nothing_aside { (s : Asides) → IfSome result (λ span. beside_behind self s ≡ s) }
     {
         if self.content.is(indicator) {
-            return Some(aside.span_at(self.offset, self.length));
+            return Some(self.start.span(self.length));
         }
         None
     }
@@ -383,11 +294,10 @@ impl Place {
     /// Where the token begins.
     #[inline(always)]
     pub(super) fn start(self, aside: &Aside) -> Marker
-        requires { 0 < self.offset }
-        ensures { result ≡ (near_token self aside.now).span.start }
+        ensures { result ≡ (place_at self aside.now).piece.span.start }
     {
         match self.content.content() {
-            Content::Indicator(_) | Content::Text(_) | Content::Tag(_) => aside.at(self.offset),
+            Content::Indicator(_) | Content::Text(_) | Content::Tag(_) => self.start.marker(),
             Content::Aside => aside.first_start(),
         }
     }
@@ -401,21 +311,20 @@ impl Place {
         token: &mut Token,
         spare: &mut Spare,
     ) -> Result<(), AllocError>
-        requires near { 0 < self.offset }
-        requires beside { HasNear self aside.old }
-        ensures written { OnOk result (piece token.new ≡ near_token self aside.old) }
-        ensures left { OnOk result (aside.new ≡ behind_near self aside.old) }
+        requires { HasBeside self aside.old }
+        ensures written { OnOk result (piece token.new ≡ (place_at self aside.old).piece) }
+        ensures left { OnOk result (aside.new ≡ beside_behind self aside.old) }
         ensures failed { OnErr result (aside.new ≡ aside.old) }
     {
         match self.content.content() {
             Content::Indicator(indicator) => {
-                token.set(aside.span_at(self.offset, self.length), indicator.kind());
+                token.set(self.start.span(self.length), indicator.kind());
             }
             Content::Text(what) => {
                 let mut text = spare.begin(alloc)?;
                 text.push_str(aside.first_text(self.count))?;
                 aside.pass_text(self.count);
-                token.set(aside.span_at(self.offset, self.length), what.kind(text));
+                token.set(self.start.span(self.length), what.kind(text));
             }
             Content::Tag(_) | Content::Aside => {
                 self.make_whole(alloc, aside, spare)?;
@@ -437,19 +346,19 @@ impl Place {
         aside: &mut Aside,
         spare: &mut Spare,
     ) -> Result<(), AllocError>
-        requires near { 0 < self.offset }
         requires apart { is_apart (content_of self.content) ≡ true }
-        requires beside { HasNear self aside.old }
+        requires beside { HasBeside self aside.old }
         ensures some { OnOk result (1 ≤ length aside.new.tokens) }
-        ensures token { OnOk result (first_aside aside.new.tokens ≡ near_token self aside.old) }
-        ensures left { OnOk result (behind_token aside.new ≡ behind_near self aside.old) }
+        ensures token { OnOk result
+            (first_aside aside.new.tokens ≡ (place_at self aside.old).piece) }
+        ensures left { OnOk result (behind_token aside.new ≡ beside_behind self aside.old) }
         ensures failed { OnErr result (aside.new ≡ aside.old) }
     {
         if let Content::Tag(handle) = self.content.content() {
             let tag = TagParts::begin(spare, alloc)?;
             let tag = handle.tag(tag, aside.first_text(self.count))?;
             let kind = TokenType::Tag(spare.boxed(alloc, tag)?);
-            let span = aside.span_at(self.offset, self.length);
+            let span = self.start.span(self.length);
             aside.keep_first(Token { span, kind })?;
             aside.pass_text(self.count);
         }
@@ -458,4 +367,4 @@ impl Place {
 }
 
 // Texts whose tokens are all held have one for each byte or two.
-const _: () = prove!(size_of::<Place>() == 6);
+const _: () = prove!(size_of::<Place>() == 16);

@@ -9,7 +9,7 @@ pub clear-requires-then-is_empty : goal.clear-requires-then-is_empty
 unfolding held_places
 clear-requires-then-is_empty c =
     let old = c.args.self.now in
-    (nothing_held (drop old.spent old.places.items) old.aside c.if-is_empty.ensures old.fit).0
+    ap (λ s. s.tokens) (nothing_held (drop old.spent old.places.items) old.aside c.if-is_empty.ensures old.fit).0
 
 pub returns-then-is_empty : goal.returns-then-is_empty
 unfolding held_places

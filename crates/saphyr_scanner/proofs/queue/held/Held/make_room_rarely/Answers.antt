@@ -6,12 +6,12 @@ use Rattle.saphyr_scanner.proofs.queue.held.Held.make_room_rarely.Goals as goal
 
 pub returns-in_err-reserve-clause-same : goal.returns-in_err-reserve-clause-same
 unfolding held_places
-returns-in_err-reserve-clause-same g c =
+returns-in_err-reserve-clause-same c =
     let old = c.clear_spent.new.self in
     ap (λ ps. places_at (drop old.spent ps) old.aside) c.reserve.ensures.items ∙ c.clear_spent.ensures
 
 pub returns-clause-same : goal.returns-clause-same
 unfolding held_places
-returns-clause-same g c =
+returns-clause-same c =
     let old = c.clear_spent.new.self in
     ap (λ ps. places_at (drop old.spent ps) old.aside) c.reserve.ensures.items ∙ c.clear_spent.ensures

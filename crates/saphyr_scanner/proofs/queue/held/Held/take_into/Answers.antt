@@ -1,45 +1,38 @@
 -- What is handed out next is taken off the tokens that are held.
-use Rattle.std.proofs.Common.{rules, ap, arith, sym, length, suc, refl, ◌<◌, ◌∙◌}
+use Rattle.std.proofs.Common.{rules, ap, arith, sym, length, suc, refl, ◌∙◌}
 use Rattle.std.proofs.lemmas.Bool.{ltb-false, ltb-true}
 use Rattle.std.specs.Prelude.{slice_index_or}
 use Rattle.saphyr_scanner.specs.Views.Queue.{held_places}
-use Rattle.saphyr_scanner.proofs.HeldPlaces.{first_held, is_near, none_behind}
+use Rattle.saphyr_scanner.proofs.HeldPlaces.{first_held, none_behind}
 use Rattle.saphyr_scanner.proofs.queue.held.Held.take_into.Goals as goal
 
 pub returns-in_default : goal.returns-in_default
 unfolding held_places
 returns-in_default c =
-    let old = c.settle.new.self in
+    let old = c.args.self.now in
     let none = ltb-false old.spent (length c.deref.result.now) (sym c.in_default.ensures.lookup.0) in
     let same = ap length c.deref.ensures.value in
     let nothing = none_behind old.spent old.places.items old.aside (omega (arith, none, same)) in
-    let settled = c.settle.ensures.same in
-    search (rules, nothing, settled)
+    search (rules, nothing)
 
 pub returns-in-Nothing : goal.returns-in-Nothing
 unfolding held_places
 returns-in-Nothing c =
-    let old = c.settle.new.self in
+    let old = c.args.self.now in
     let some = ltb-true old.spent (length c.deref.result.now) (sym c.in-Some.ensures.lookup.0) in
     let same = ap length c.deref.ensures.value in
-    let place = c.in-Some.place.now in
-    let there : old.spent < length old.places.items = omega (arith, some, same) in
-    let is = c.in-Some.ensures.lookup.1 ∙ ap (λ ps. slice_index_or ps old.spent place) c.deref.ensures.value in
-    let near = is_near old.spent old.places.items place there is c.settle.ensures.near in
-    let first = first_held old.spent (suc old.spent) old.places.items place old.aside refl there is near in
-    let settled = c.settle.ensures.same in
-    search (rules, first, settled)
+    let first = first_held old.spent (suc old.spent) old.places.items c.in-Some.place.now old.aside refl
+    (omega (arith, some, same))
+    (c.in-Some.ensures.lookup.1 ∙ ap (λ ps. slice_index_or ps old.spent c.in-Some.place.now) c.deref.ensures.value) in
+    search (rules, first)
 
 pub returns : goal.returns
 unfolding held_places
 returns c =
-    let old = c.settle.new.self in
+    let old = c.args.self.now in
     let some = ltb-true old.spent (length c.deref.result.now) (sym c.in-Some.ensures.lookup.0) in
     let same = ap length c.deref.ensures.value in
-    let place = c.in-Some.place.now in
-    let there : old.spent < length old.places.items = omega (arith, some, same) in
-    let is = c.in-Some.ensures.lookup.1 ∙ ap (λ ps. slice_index_or ps old.spent place) c.deref.ensures.value in
-    let near = is_near old.spent old.places.items place there is c.settle.ensures.near in
-    let first = first_held old.spent (suc old.spent) old.places.items place old.aside refl there is near in
-    let settled = c.settle.ensures.same in
-    search (rules, first, settled)
+    let first = first_held old.spent (suc old.spent) old.places.items c.in-Some.place.now old.aside refl
+    (omega (arith, some, same))
+    (c.in-Some.ensures.lookup.1 ∙ ap (λ ps. slice_index_or ps old.spent c.in-Some.place.now) c.deref.ensures.value) in
+    search (rules, first)

@@ -1,9 +1,9 @@
 -- The first place is taken off.
-use Rattle.std.proofs.Common.{rules, ap, arith, sym, length, ◌<◌, ◌∙◌, ◌+◌}
+use Rattle.std.proofs.Common.{rules, ap, arith, sym, length, ◌∙◌, ◌+◌}
 use Rattle.std.proofs.lemmas.Bool.{ltb-false, ltb-true}
 use Rattle.std.specs.Prelude.{slice_index_or}
 use Rattle.saphyr_scanner.specs.Views.Queue.{held_places}
-use Rattle.saphyr_scanner.proofs.HeldPlaces.{first_held, is_near, none_behind}
+use Rattle.saphyr_scanner.proofs.HeldPlaces.{first_held, none_behind}
 use Rattle.saphyr_scanner.proofs.queue.held.Held.take_place.Goals as goal
 
 pub returns-in_default-get : goal.returns-in_default-get
@@ -21,9 +21,8 @@ returns c =
     let old = c.args.self.now in
     let some = ltb-true old.spent (length c.deref.result.now) (sym c.in-Some-get.ensures.lookup.0) in
     let same = ap length c.deref.ensures.value in
-    let place = c.in-Some-get.place.now in
-    let there : old.spent < length old.places.items = omega (arith, some, same) in
-    let is = c.in-Some-get.ensures.lookup.1 ∙ ap (λ ps. slice_index_or ps old.spent place) c.deref.ensures.value in
-    let near = is_near old.spent old.places.items place there is c.requires in
-    let first = first_held old.spent (old.spent + 1) old.places.items place old.aside (omega arith) there is near in
+    let first = first_held old.spent (old.spent + 1) old.places.items c.in-Some-get.place.now old.aside (omega arith)
+    (omega (arith, some, same))
+    (c.in-Some-get.ensures.lookup.1
+    ∙ ap (λ ps. slice_index_or ps old.spent c.in-Some-get.place.now) c.deref.ensures.value) in
     search (rules, first)

@@ -4,4 +4,4 @@ use Rattle.saphyr_scanner.proofs.HeldPlaces.{adds_indicator}
 use Rattle.saphyr_scanner.proofs.queue.place.Place.bare.Goals as goal
 
 pub returns : goal.returns
-returns c span old new tells = adds_indicator _ c.args.indicator span old new c.new.ensures refl tells
+returns c s = adds_indicator _ c.args.indicator s c.new.ensures refl

@@ -4,4 +4,4 @@ use Rattle.saphyr_scanner.proofs.HeldPlaces.{adds_tag}
 use Rattle.saphyr_scanner.proofs.queue.place.Place.tag.Goals as goal
 
 pub returns : goal.returns
-returns c span suffix old new tells h = adds_tag _ c.args.handle span suffix old new c.new.ensures refl tells h
+returns c suffix s h = adds_tag _ c.args.handle suffix s c.new.ensures refl h

@@ -4,4 +4,4 @@ use Rattle.saphyr_scanner.proofs.HeldPlaces.{adds_text}
 use Rattle.saphyr_scanner.proofs.queue.place.Place.text.Goals as goal
 
 pub returns : goal.returns
-returns c span text old new tells h = adds_text _ c.args.what span text old new c.new.ensures refl tells h
+returns c text s h = adds_text _ c.args.what text s c.new.ensures refl h
