@@ -1,4 +1,4 @@
 -- Plain scalars: each spelled one is read.
 pub mod White
-pub mod OneWord
+pub mod Ends
 pub mod Texts

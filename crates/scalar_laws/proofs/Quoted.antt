@@ -1,6 +1,4 @@
 -- Quoted scalars: each spelled one is read.
-pub mod Counted
 pub mod IndentedLines
-pub mod OnLine
 pub mod Reads
 pub mod WordsRead

@@ -19,7 +19,7 @@ use Rattle.saphyr_scalar.proofs.Plain.Pieces.{no_text, text_twice, word_on, word
 use Rattle.saphyr_scalar.proofs.Plain.Sound.{plain_reads}
 use Rattle.scalar_laws.specs.Spelling.Plain.{behind_blanks, past_white, reaches_tabbed, is_tabbed, EndsPlain, is_word_ink, AreInkBefore, IsWordBefore, has_line_end, IsPlainGap, words_text, IsNoMarker, AreFurtherWords, IsPlainText}
 use Rattle.scalar_laws.proofs.Plain.White.{flag_on, tabbed_on, tabbed_stop, past_on, past_stop, gap_past}
-use Rattle.scalar_laws.proofs.Plain.OneWord.{word_ends, white_stops}
+use Rattle.scalar_laws.proofs.Plain.Ends.{word_ends, white_stops}
 use Rattle.saphyr_input.proofs.Basics.Lists.{some_length}
 use Rattle.saphyr_input.proofs.Basics.Booleans.{none_of_three, or_assoc}
 use Rattle.std.proofs.Math.Bool.{or-false}

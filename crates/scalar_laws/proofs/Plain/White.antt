@@ -49,22 +49,6 @@ pub tabbed_stop : (i k : ℕ) (t : Bool) (xs : List ℕ) → is_blank_or_break (
 tabbed_stop i k t [] h = refl
 tabbed_stop i k t (c ∷ cs) h = rw h refl
 
--- nothing is left of the first column
-off : (a b : Bool) → (a && (false || (b && false))) ≡ false
-off a b = grind arith
-
-root_kind : (k c : ℕ) (cs : List ℕ) (white : Bool) → is_blank_or_break c ≡ white
-    → ((n : ℕ) → reaches_tabbed 0 n false cs ≡ false) → reaches_tabbed 0 k false (c ∷ cs) ≡ false
-root_kind k c cs white e on = grind arith
-
-root_untabbed : (k : ℕ) (xs : List ℕ) → reaches_tabbed 0 k false xs ≡ false
-root_untabbed k [] = refl
-root_untabbed k (c ∷ cs) = root_kind k c cs (is_blank_or_break c) refl (λ n. root_untabbed n cs)
-
--- where nothing encloses a scalar no tab is in its indentation
-pub untabbed_root : (xs : List ℕ) → is_tabbed 0 xs ≡ false
-untabbed_root xs = root_untabbed 0 (behind_blanks xs)
-
 step_col : (b : Bool) (m : Marker) → (cond b 0 (m.col + 1)) ≡ (cond b (next_line m 1) (along m 1)).col
 step_col b m = grind arith
 
@@ -215,35 +199,3 @@ unfolding gap
 gap_past i a m xs h = leaves_on _ _ _ _ _ _ refl refl (past_blanks m false xs)
     (from_past i a _ (along m (prefix_len is_blank xs)) (behind_blanks xs) (run_ends is_blank xs refl)
     (rw (past_blanks m false xs) at h))
-
--- how much is passed
-pub past_rest : (m : Marker) (b : Bool) (xs : List ℕ)
-    → (past_white m b xs).rest ≡ drop (prefix_len is_blank_or_break xs) xs
-past_rest m b [] = refl
-past_rest m b (c ∷ cs) = by_case (is_blank_or_break c) refl
-    (past_rest (if ends_line c cs then next_line m 1 else along m 1) (b || is_break c) cs)
-  where
-    Rest : Type 0
-    Rest = (past_white (if ends_line c cs then next_line m 1 else along m 1) (b || is_break c) cs).rest
-        ≡ drop (prefix_len is_blank_or_break cs) cs
-
-    by_case : (t : Bool) → is_blank_or_break c ≡ t → Rest
-        → (past_white m b (c ∷ cs)).rest ≡ drop (prefix_len is_blank_or_break (c ∷ cs)) (c ∷ cs)
-    by_case t white rest = grind arith
-
-one_further : (e : Bool) (m : Marker) → (cond e (next_line m 1) (along m 1)).index ≡ m.index + 1
-one_further e m = grind arith
-
-pub past_index : (m : Marker) (b : Bool) (xs : List ℕ)
-    → (past_white m b xs).mark.index ≡ m.index + prefix_len is_blank_or_break xs
-past_index m b [] = omega arith
-past_index m b (c ∷ cs) = by_case (is_blank_or_break c) refl
-    (past_index (if ends_line c cs then next_line m 1 else along m 1) (b || is_break c) cs)
-  where
-    Rest : Type 0
-    Rest = (past_white (if ends_line c cs then next_line m 1 else along m 1) (b || is_break c) cs).mark.index
-        ≡ (if ends_line c cs then next_line m 1 else along m 1).index + prefix_len is_blank_or_break cs
-
-    by_case : (t : Bool) → is_blank_or_break c ≡ t → Rest
-        → (past_white m b (c ∷ cs)).mark.index ≡ m.index + prefix_len is_blank_or_break (c ∷ cs)
-    by_case t white rest = grind arith

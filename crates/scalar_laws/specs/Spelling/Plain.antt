@@ -15,16 +15,6 @@ use Rattle.saphyr_scalar.specs.Reading.Plain.{end_of_text}
 abbrev pub is_plain_safe : ℕ → Bool
 is_plain_safe c = not (is_blank_or_breakz c) && not (c == colon) && not (is_bom c) && not (is_flow c)
 
--- a word that begins with no `#`, dash or dot, or with a dash before a character that is no dash
-pub record IsPlainWord (w : List ℕ) : Type 0 where
-  pub first : ℕ
-  pub others : List ℕ
-  pub is : w ≡ first ∷ others
-  pub safe : AreIn is_plain_safe w
-  pub no_comment : first ≢ number_sign
-  pub no_dot : first ≢ full_stop
-  pub dash : first ≡ hyphen → (second : ℕ) × (more : List ℕ) × (others ≡ second ∷ more) × (second ≢ hyphen)
-
 -- the characters after the blanks
 abbrev pub behind_blanks : List ℕ → List ℕ
 behind_blanks xs = drop (prefix_len is_blank xs) xs

@@ -1,0 +1,87 @@
+-- Where a plain scalar ends.
+use Rattle.std.proofs.Common.{◌≡◌, ◌≢◌, ℕ, suc, ◌<◌, Bool, true, false, List, [], ◌∷◌, ◌++◌, length, slice_index, Ok, refl, sym, ap, ◌∙◌, arith, subst, encode_utf8_all, IsTrue, ⊎_elim, drop, inl}
+use Rattle.std.specs.Prelude.{◌||◌, ◌&&◌, ◌==◌, not, nat_lt, encode_utf8}
+use Rattle.std.specs.List.{prefix_len}
+use Rattle.std.proofs.lemmas.Bool.Decides.{nat_tests}
+use Rattle.std.proofs.lemmas.List.{append-nil}
+use Rattle.saphyr_input.specs.Classes.{is_blank, is_break, is_blank_or_breakz, is_flow, is_bom}
+use Rattle.saphyr_input.specs.Places.{is_blank_or_break, is_document_indicator, can_be_plain}
+use Rattle.saphyr_scalar.specs.Spelling.Tag.{AreIn}
+use Rattle.saphyr_scalar.specs.declared.scalar.position.Marker.{Marker}
+use Rattle.saphyr_scalar.specs.Views.Cursor.{Cursor, along}
+use Rattle.saphyr_scalar.specs.Steps.Quoted.{mid_line}
+use Rattle.saphyr_scalar.specs.Steps.Plain.{is_in_word, word_starts, next_word_starts, comment_of, with_text, word, plain}
+use Rattle.saphyr_scalar.proofs.Moving.{along_none, along_more}
+use Rattle.saphyr_scalar.proofs.Plain.Pieces.{no_text, text_twice, word_on, word_over, goes_not, plain_starts}
+use Rattle.scalar_laws.specs.Spelling.Plain.{past_white, is_tabbed, StopsPlain, EndsPlain}
+use Rattle.scalar_laws.proofs.Plain.White.{past_stop, gap_past}
+use Rattle.std.proofs.lemmas.Bool.{ne_eqb, false≢true}
+use Rattle.saphyr_input.proofs.Basics.Booleans.{and_false, by_test}
+use Rattle.std.proofs.Math.Bool.{or-true}
+use Rattle.saphyr_input.specs.Indicators.{hyphen, number_sign, full_stop}
+use Rattle.saphyr_input.proofs.Basics.Characters.{no_marker_at}
+use Rattle.saphyr_scalar.proofs.Given.{cursor_at}
+
+-- no word goes on with a blank or a break
+pub white_stops : (f : Bool) (xs : List ℕ) → is_blank_or_break (slice_index xs 0) ≡ true → is_in_word f xs ≡ false
+unfolding is_in_word
+white_stops f xs h = by_white (is_blank (slice_index xs 0)) (is_break (slice_index xs 0)) h
+  where
+    by_white : (a b : Bool) → (a || b) ≡ true → (not (a || (b || (slice_index xs 0 == 0))) && can_be_plain f xs) ≡ false
+    by_white a b h = grind arith
+
+comment_starts_not : (f : Bool) (s : Cursor) → slice_index s.rest 0 ≡ number_sign → word_starts f s ≡ Ok (false, s)
+unfolding word_starts
+comment_starts_not f s e = rw e refl
+
+comment_stops : (f : Bool) (i : ℕ) (s : Cursor) → slice_index s.rest 0 ≡ number_sign
+    → next_word_starts f i s ≡ Ok (false, s)
+unfolding next_word_starts
+comment_stops f i s h = by_test (s.blank_so_far && not f && nat_lt s.mark.col i) _ _ (λ r. r ≡ Ok (false, s))
+    (λ _. refl) (λ _. comment_starts_not f s h)
+
+marker_starts_not : (f : Bool) (s : Cursor) → s.mark.col ≡ 0 → is_document_indicator s.rest ≡ true
+    → word_starts f s ≡ Ok (false, s)
+unfolding word_starts
+marker_starts_not f s col is =
+    let first : (s.mark.col == 0) ≡ true = grind (arith, nat_tests) in
+    let there : ((slice_index s.rest 0 == 35) || ((s.mark.col == 0) && is_document_indicator s.rest)) ≡ true =
+    rw (first, is) (or-true (slice_index s.rest 0 == 35)) in
+    rw there refl
+
+marker_stops : (f : Bool) (i : ℕ) (s : Cursor) → s.mark.col ≡ 0 → is_document_indicator s.rest ≡ true
+    → next_word_starts f i s ≡ Ok (false, s)
+unfolding next_word_starts
+marker_stops f i s col is =
+    by_test (s.blank_so_far && not f && nat_lt s.mark.col i) _ _ (λ r. r ≡ Ok (false, s)) (λ _. refl)
+    (λ _. marker_starts_not f s col is)
+
+left_stops : (f : Bool) (i : ℕ) (s : Cursor) → f ≡ false → s.blank_so_far ≡ true → s.mark.col < i
+    → next_word_starts f i s ≡ Ok (false, s)
+unfolding next_word_starts
+left_stops f i s out blank left =
+    let less : nat_lt s.mark.col i ≡ true = grind (arith, nat_tests) in rw (out, blank, less) refl
+
+pub stops_plain : (f : Bool) (i : ℕ) (s : Cursor) → StopsPlain f i s → next_word_starts f i s ≡ Ok (false, s)
+stops_plain f i s h = ⊎_elim (λ e. goes_not f i s e)
+    (λ h. ⊎_elim (λ e. comment_stops f i s e)
+    (λ h. ⊎_elim (λ e. marker_stops f i s e.0 e.1) (λ e. left_stops f i s e.0 e.1 e.2) h) h) h
+
+-- the character after the word is not of it
+word_stops : (f : Bool) (i : ℕ) (e : Marker) (x : List ℕ) → 0 < e.col → EndsPlain f i e x → is_in_word f x ≡ false
+word_stops f i e x some h = test (is_blank_or_break (slice_index x 0)) refl
+  where
+    test : (b : Bool) → is_blank_or_break (slice_index x 0) ≡ b → is_in_word f x ≡ false
+    test true white = white_stops f x white
+    test false other =
+        let stops : StopsPlain f i (mid_line e x) = subst (StopsPlain f i) (past_stop e false x other) h.stops in
+        ⊎_elim (λ g. g) (λ g. ⊎_elim (λ g. absurd (h.apart g))
+        (λ g. ⊎_elim (λ g. absurd (omega (arith, g.0))) (λ g. absurd (false≢true g.1)) g) g) stops
+
+-- the end of the last word, after which blanks and breaks and what ends the scalar are
+pub word_ends : (f : Bool) (i : ℕ) (a e : Marker) (x : List ℕ) → 0 < e.col → EndsPlain f i e x
+    → let behind = past_white e false x in word f i a e x ≡ Ok ([], e, comment_of f (is_tabbed i x) behind, behind)
+word_ends f i a e x some ends =
+    let behind = past_white e false x in
+    let gap_is = gap_past i a e x ends.tabs in
+    cc (word_over f i a e x (word_stops f i e x some ends), stops_plain f i behind ends.stops)
