@@ -24,8 +24,8 @@ use std::alloc::AllocError;
 /// loaded. Places past the end of the list can be loaded too, and read as NUL. To take characters
 /// off there leaves the list empty. All counts are counts of characters.
 ///
-/// The first ten calls have no default body. An implementation that meets their contracts gets the
-/// other calls by their default bodies, and may override these for speed.
+/// Ten of the first eleven calls have no default body. An implementation that meets their contracts gets
+/// all other calls by default bodies, and may override these for speed.
 pub trait Input {
     ghost use Rattle.saphyr_input.specs.Separation as separation;
 
@@ -430,18 +430,19 @@ pub trait Input {
 
     /// Moves blanks to the end of `out`, and characters of a set among them, where each run of blanks
     /// is before some of the set's characters. Returns how many. It may stop at any blank, and may
-    /// move nothing.
+    /// move nothing. If `out` can't grow, nothing is moved.
     fn fetch_blank_words<C: SpacedSet>(&mut self, _out: &mut String) -> Result<usize, AllocError>
         ensures ok { IfOk result (λ n. spec.TransfersBlankWords C.CharSet.test C.lead n
             (rest self.old) (rest self.new) (string_bytes _out.old) (string_bytes _out.new)) }
-        ensures err { OnErr result (rest self.new ≡ rest self.old) }
+        ensures err { OnErr result ((rest self.new ≡ rest self.old)
+            × (string_bytes _out.new ≡ string_bytes _out.old)) }
     {
         Ok(0)
     }
 
-    /// Moves words to the end of `out` as `fetch_words` does, but only ASCII characters. It may stop anywhere, and may
-    /// move nothing. Returns how many, and maybe the character behind them, which is not of the set: one that isn't ASCII
-    /// tells nothing.
+    /// Moves words to the end of `out` as `fetch_words` does. It may stop anywhere, and may move nothing. Returns how
+    /// many, and maybe the character behind them, which is not of the set: one that isn't ASCII tells nothing. If `out`
+    /// can't grow, nothing is moved.
     fn fetch_front_words<C: SpacedSet>(
         &mut self,
         _out: &mut String,
@@ -450,7 +451,8 @@ pub trait Input {
             (rest self.old) (rest self.new) (string_bytes _out.old) (string_bytes _out.new)) }
         ensures next { IfOk result (λ moved. moved.1 < 128
             → (moved.1 ≡ slice_index (rest self.new) 0) × (C.CharSet.test moved.1 ≡ false)) }
-        ensures err { OnErr result (rest self.new ≡ rest self.old) }
+        ensures err { OnErr result ((rest self.new ≡ rest self.old)
+            × (string_bytes _out.new ≡ string_bytes _out.old)) }
     {
         Ok((0, char::MAX))
     }

@@ -35,8 +35,8 @@ impl FaithfulClone for Chars<'_> {
 
 /// The characters of an iterator, up to its first `None`, as an [`Input`].
 ///
-/// At most 4,294,967,296 items are taken from the iterator, and it is never called after its
-/// first `None`. What it would give later is no part of the text.
+/// The text ends after 4,294,967,296 items at the latest. The iterator is never called after its first
+/// `None`: what it would give later is no part of the text.
 pub struct BufferedInput<I: Iterator<Item = char>> {
     source: Source<I>,
     // The characters of the loaded places, as far as the text goes.
@@ -72,8 +72,8 @@ impl<I: Iterator<Item = char>> BufferedInput<I> {
         BufferedInput::with_limit(alloc, iter, MOST_ITEMS)
     }
 
-    /// The same with your own limit, which is at most 4,294,967,296. At most that many items are taken from the
-    /// iterator, and the text ends after them, as at a `None`.
+    /// The same with your own limit, which is at most 4,294,967,296. The text ends after that many items, as at a
+    /// `None`.
     pub fn with_limit(alloc: Global, iter: I, limit: u64) -> Result<Self, AllocError>
         requires bounded { limit ≤ 4294967296 }
         requires listed { Listed I.can_next I.next_gives iter }

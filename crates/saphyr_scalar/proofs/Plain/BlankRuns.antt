@@ -154,10 +154,10 @@ blank_words_moved_on f start text grown more s t u v w m n a x place moved is z 
 
 -- what remains where such words were taken off, or memory ran out before
 pub blank_words_fit : {E : Type 0} → (p q : ℕ → Bool) (xs now text grown : List ℕ) (r : Result ℕ E) (at : ℕ)
-    → IfOk r (λ n. TransfersBlankWords p q n xs now text grown) → OnErr r (now ≡ xs)
+    → IfOk r (λ n. TransfersBlankWords p q n xs now text grown) → OnErr r ((now ≡ xs) × (grown ≡ text))
     → at + length xs < 2 ^ 64 → at + length now < 2 ^ 64
 blank_words_fit p q xs now text grown (Ok n) at ok err fits = part_left xs now at n fits ok.transfers.taken
-blank_words_fit p q xs now text grown (Err e) at ok err fits = rw err fits
+blank_words_fit p q xs now text grown (Err e) at ok err fits = rw err.0 fits
 
 pub blank_words_place_fits : (p q : ℕ → Bool) (xs : List ℕ) (n : ℕ) (m t : Marker) → m.index + length xs < 2 ^ 64
     → n ≤ blank_words_len p q xs → t ≡ m → t.index + n < 2 ^ 64

@@ -78,10 +78,10 @@ ran_on f text grown more s u t w n r left place z = record {
 
 -- what remains where they were taken off, or memory ran out before
 pub front_fits : {X E : Type 0} → (p q : ℕ → Bool) (xs now text grown : List ℕ) (r : Result (ℕ × X) E) (at : ℕ)
-    → IfOk r (λ x. TransfersFront p q x.0 xs now text grown) → OnErr r (now ≡ xs)
+    → IfOk r (λ x. TransfersFront p q x.0 xs now text grown) → OnErr r ((now ≡ xs) × (grown ≡ text))
     → at + length xs < 2 ^ 64 → at + length now < 2 ^ 64
 front_fits p q xs now text grown (Ok x) at ok err fits = part_left xs now at x.0 fits ok.transfers.taken
-front_fits p q xs now text grown (Err e) at ok err fits = rw err fits
+front_fits p q xs now text grown (Err e) at ok err fits = rw err.0 fits
 
 pub ran_on_ok : {X E : Type 0} → (r : Result X E) (f : Bool) (text grown more : List ℕ) (s u t w : Cursor) (n : ℕ)
     → WordsRan f text grown s u n → t.rest ≡ u.rest → t.mark ≡ along u.mark n
