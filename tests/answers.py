@@ -112,7 +112,7 @@ def way(yields):
     return found
 
 
-# ## saphyr_values: Folding.antt, Flow.antt, Lines.antt and Block.antt
+# ## saphyr_scalar, Values: Folding.antt, Flow.antt, Lines.antt and Block.antt
 def folded(items):
     """Items are pairs of a kind ("blank", "raw", "escaped", "break" or "escaped break") and a character."""
     text, at_start = "", False

@@ -6,9 +6,9 @@ use Rattle.saphyr_input.specs.Classes.{is_break, is_breakz, is_blank, is_z, is_d
 use Rattle.saphyr_input.specs.Places.{is_document_indicator}
 use Rattle.saphyr_input.specs.declared.input.SkipTabs.{SkipTabs}
 use Rattle.saphyr_input.specs.declared.input.SkipTabs.TheVariants as skip
-use Rattle.saphyr_values.specs.declared.block.BlockStyle.{BlockStyle}
-use Rattle.saphyr_values.specs.declared.block.Chomping.{Chomping}
-use Rattle.saphyr_values.specs.declared.block.Chomping.TheVariants.{Strip, Clip, Keep}
+use Rattle.saphyr_scalar.specs.declared.values.BlockStyle.{BlockStyle}
+use Rattle.saphyr_scalar.specs.declared.values.Chomping.{Chomping}
+use Rattle.saphyr_scalar.specs.declared.values.Chomping.TheVariants.{Strip, Clip, Keep}
 use Rattle.saphyr_scalar.specs.declared.scalar.position.Marker.{Marker}
 use Rattle.saphyr_scalar.specs.declared.scalar.fault.FaultText.TheVariants as fault
 use Rattle.saphyr_scalar.specs.Steps.Block.{BlockHeaderRead, EmptyLinesRead, chomping, indicator, header_break, header_end, last_chomping, header_behind, header, is_indentation, is_cr_lf, inside_break, line_cursor, with_empty_line, pass_empty_lines, line_starts, break_before, LinesRead, lines_behind_text, between, line, is_unfinished, tail_alone, given_indentation, chomped_lines, content, behind_leading_lines, no_lines, behind_header, block_scalar}

@@ -10,11 +10,11 @@ ghost use Rattle.saphyr_scalar.specs.Views.Cursor.{Cursor, start_cursor, pass_br
 ghost use Rattle.saphyr_scalar.specs.Steps.Anchor.{anchor};
 ghost use Rattle.saphyr_scalar.specs.Steps.Tag.{tag};
 ghost use Rattle.saphyr_scalar.specs.Steps.Directive.{directive};
-ghost use Rattle.saphyr_values.specs.declared.flow.Quote.{Quote};
+ghost use Rattle.saphyr_scalar.specs.declared.values.Quote.{Quote};
 ghost use Rattle.saphyr_scalar.specs.Steps.Quoted.{quoted};
 ghost use Rattle.saphyr_scalar.specs.Steps.Plain.{plain};
 ghost use Rattle.saphyr_scalar.specs.Steps.Block.{block_scalar};
-ghost use Rattle.saphyr_values.specs.declared.block.BlockStyle.{BlockStyle};
+ghost use Rattle.saphyr_scalar.specs.declared.values.BlockStyle.{BlockStyle};
 ghost use Rattle.saphyr_scanner.specs.Grammar.Tokens.{StreamStart, StreamEnd, DocumentStart, FlowSequenceStart};
 ghost use Rattle.saphyr_scanner.specs.Steps.Fetch.{fetch_within, needs_token};
 ghost use Rattle.saphyr_scanner.specs.Steps.Queue.{empty_piece};

@@ -1,3 +1,4 @@
+pub mod Readings
 pub mod Properties
 pub mod Directives
 pub mod ByteSets

@@ -10,7 +10,7 @@ use Rattle.saphyr_input.specs.Places.{spaces_within, is_blank_or_break}
 use Rattle.saphyr_input.proofs.WordRuns.{run_ends}
 use Rattle.saphyr_scalar.specs.declared.scalar.position.Marker.{Marker}
 use Rattle.saphyr_scalar.specs.declared.scalar.block.lines.EmptyLines.{EmptyLines}
-use Rattle.saphyr_values.specs.declared.flow.Quote.{Quote}
+use Rattle.saphyr_scalar.specs.declared.values.Quote.{Quote}
 use Rattle.saphyr_scalar.specs.Views.Cursor.{Cursor, along, pass_spaces}
 use Rattle.saphyr_scalar.specs.Steps.Plain.{lines}
 use Rattle.saphyr_scalar.specs.Steps.Quoted.{mid_line, over_lines, inner_text, inner_text_at}

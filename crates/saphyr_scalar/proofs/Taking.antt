@@ -9,8 +9,8 @@ use Rattle.saphyr_scalar.specs.declared.scalar.position.Marker.{Marker}
 use Rattle.saphyr_scalar.specs.Views.Cursor.{Cursor, refuse, pass, pass_break, along}
 use Rattle.saphyr_scalar.specs.declared.scalar.fault.FaultText.TheVariants as fault
 use Rattle.saphyr_input.specs.Breaks.{normalized}
-use Rattle.saphyr_values.specs.declared.flow.Quote.{Quote}
-use Rattle.saphyr_values.specs.Flow as flow
+use Rattle.saphyr_scalar.specs.declared.values.Quote.{Quote}
+use Rattle.saphyr_scalar.specs.Values.Flow as flow
 use Rattle.saphyr_scalar.specs.Steps.Quoted.{mid_line, quoted}
 use Rattle.saphyr_scalar.proofs.Quoted.Pieces.{quoted_reading}
 use Rattle.saphyr_scalar.specs.Steps.Plain.{PlainGap, lines, reached_gap, content_behind_tab, line_front, gap_from, gap, next_word_starts, word_starts, is_in_word, word_behind_gap, word, plain, gap_len}

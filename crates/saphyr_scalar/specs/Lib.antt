@@ -1,3 +1,4 @@
+pub mod Values
 pub mod Spelling
 pub mod Reading
 pub mod Steps

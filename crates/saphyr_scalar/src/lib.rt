@@ -2,6 +2,7 @@
 #![tactic(auto)]
 
 pub mod scalar;
+pub mod values;
 
 pub use scalar::{
     BlockScalar, Directive, DirectiveLine, FaultText, Marker, PlainEnd, PlainScalar, Reader,

@@ -9,7 +9,7 @@ mod place;
 mod row;
 
 ghost use Rattle.std.specs.Prelude.{◌≡◌, ◌⊎◌, List, false, IfSome, IsTrue, Ok, OnErr, OnOk, length, slice_index, string_bytes};
-ghost use Rattle.saphyr_values.specs.Flow as flow;
+ghost use Rattle.saphyr_scalar.specs.Values.Flow as flow;
 ghost use Rattle.saphyr_scalar.specs.Steps.Plain.{plain};
 ghost use Rattle.saphyr_scanner.specs.Grammar.Tokens as tokens;
 ghost use Rattle.saphyr_scanner.specs.Steps.Queue as spec;
@@ -19,8 +19,8 @@ use crate::queue::held::Held;
 use crate::queue::row::Row;
 use crate::token::{Token, TokenType};
 use saphyr_input::input::Input;
+use saphyr_scalar::values::Quote;
 use saphyr_scalar::{Marker, Reader, ScalarStyle, Span, Spare, Stop, TagParts};
-use saphyr_values::Quote;
 use std::alloc::{AllocError, Global};
 
 /// What comes in front of a token: nothing, or the tokens that make it a key.

@@ -5,11 +5,11 @@ ghost use Rattle.std.specs.Prelude.{◌≡◌, ℕ, List, Ok};
 ghost use Rattle.saphyr_scalar.specs.Views.Cursor.{Cursor};
 ghost use Rattle.saphyr_scalar.specs.Steps.Block.{block_scalar};
 ghost use Rattle.saphyr_scalar.specs.Steps.BlockRead.{IsRead};
-ghost use Rattle.saphyr_values.specs.Block.{Line};
+ghost use Rattle.saphyr_scalar.specs.Values.Block.{Line};
 ghost use Rattle.scalar_laws.specs.Spelling.Block.{IsBlockScalar, IsTaken};
 
 use saphyr_scalar::Span;
-use saphyr_values::{BlockStyle, Chomping};
+use saphyr_scalar::values::{BlockStyle, Chomping};
 
 /// A block scalar that is read is the value of the lines that are taken off after its header.
 pub fn reads_values_of_lines()

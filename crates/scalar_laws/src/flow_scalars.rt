@@ -6,18 +6,18 @@ ghost use Rattle.saphyr_scalar.specs.declared.scalar.position.Marker.{Marker};
 ghost use Rattle.saphyr_scalar.specs.Views.Cursor.{Cursor};
 ghost use Rattle.saphyr_scalar.specs.Steps.Quoted.{quoted, mid_line};
 ghost use Rattle.saphyr_scalar.specs.Spelling.Quoted.{IsQuotedText};
-ghost use Rattle.saphyr_values.specs.Flow as flow;
-ghost use Rattle.saphyr_values.specs.Flow.{plain_value};
+ghost use Rattle.saphyr_scalar.specs.Values.Flow as flow;
+ghost use Rattle.saphyr_scalar.specs.Values.Flow.{plain_value};
 ghost use Rattle.saphyr_scalar.specs.Passing.{IsPassed};
 ghost use Rattle.scalar_laws.specs.Spelling.QuotedLines.{LinesFit};
 ghost use Rattle.saphyr_input.specs.Breaks.{normalized};
-ghost use Rattle.saphyr_values.specs.Folding.{folded};
+ghost use Rattle.saphyr_scalar.specs.Values.Folding.{folded};
 ghost use Rattle.saphyr_scalar.specs.Steps.Plain.{plain, comment_of};
 ghost use Rattle.saphyr_scalar.specs.Reading.Plain.{end_of_text};
 ghost use Rattle.scalar_laws.specs.Spelling.Plain.{IsPlainText, is_tabbed, past_white};
 
 use saphyr_scalar::Marker;
-use saphyr_values::{Item, Quote};
+use saphyr_scalar::values::{Item, Quote};
 
 /// If a quoted scalar is spelled, and its later lines are indented as they must be, it is read, without a
 /// fault: its value is the reading of what it spells, and the reader is at the place and the text after

@@ -1,9 +1,9 @@
 -- Near misses of YAML's grammar in scalars: what is where another character must be.
 use Rattle.std.proofs.Common.{◌≡◌, ◌≢◌, ℕ, zero, suc, ◌≤◌, ◌⊎◌, Bool, true, false, List, [], ◌∷◌, ◌++◌, IsTrue, inl, inr, refl, sym, ◌∙◌, arith, codes, ap}
 use Rattle.saphyr_input.specs.Classes.{is_blank, line_feed}
-use Rattle.saphyr_values.specs.declared.block.Chomping.{Chomping}
+use Rattle.saphyr_scalar.specs.declared.values.Chomping.{Chomping}
 use Rattle.saphyr_scalar.specs.Reading.BlockLines.{spaces}
-use Rattle.saphyr_values.specs.Block.{Line}
+use Rattle.saphyr_scalar.specs.Values.Block.{Line}
 use Rattle.scalar_laws.specs.Spelling.Block.{IsIndicator, no_digit, digit, IsChomping, strip, clip, keep, no_comment, comment, no_comment_at_end, comment_at_end, IsHeader, digit_first, chomping_first, IsBlockScalar}
 use Rattle.scalar_laws.specs.Spelling.Block as block
 use Rattle.scalar_laws.specs.Spelling.Plain.{is_word_ink, IsWordIn}

@@ -2,7 +2,7 @@
 -- An answer opens them by the line `unfolding scanner_on_literals`.
 use Rattle.std.specs.Prelude.{⊤}
 use Rattle.saphyr_input.specs.Places.{words_len}
-use Rattle.saphyr_values.specs.Escapes.{short_escape}
+use Rattle.saphyr_scalar.specs.Values.Escapes.{short_escape}
 use Rattle.saphyr_scalar.specs.Steps.Directive.{directive_name_of, name, number_end, number_from, behind_major, version_directive, handle_behind_word, handle, prefix, behind_prefix, tag_directive, value, line_end, directive}
 use Rattle.saphyr_scalar.specs.Steps.Anchor.{anchor_name_of, anchor}
 use Rattle.saphyr_scalar.specs.Steps.Quoted.{is_literal, digits, character, escape_by_number, escape_of, escaped_character, special, blank_in, quoted_line, end_gap, inner_text, quoted}

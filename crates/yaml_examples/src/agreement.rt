@@ -10,7 +10,7 @@ ghost use Rattle.yaml_laws.specs.Grammar.BlockNodes.{IsBlockScalarText};
 
 use saphyr_scalar::Marker;
 use saphyr_scalar::scalar::reads_block_texts;
-use saphyr_values::BlockStyle;
+use saphyr_scalar::values::BlockStyle;
 use scalar_laws::reads_each_block_scalar;
 
 /// A block scalar of YAML's grammar, which describes its lines by the standard's productions, is also one by the

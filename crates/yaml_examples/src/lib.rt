@@ -7,8 +7,8 @@ pub mod agreement;
 pub mod exceptions;
 
 ghost use Rattle.std.specs.Prelude.{codes, ◌≡◌, ◌∷◌, ◌++◌, [], ℕ, suc, Bool, true, false, List, Some, None};
-ghost use Rattle.saphyr_values.specs.declared.block.Chomping.{Chomping};
-ghost use Rattle.saphyr_values.specs.Block.{Line};
+ghost use Rattle.saphyr_scalar.specs.declared.values.Chomping.{Chomping};
+ghost use Rattle.saphyr_scalar.specs.Values.Block.{Line};
 ghost use Rattle.scalar_laws.specs.Spelling.Block.{IsBlockScalar, IsEmptyBody};
 ghost use Rattle.scalar_laws.specs.Spelling.Spaces.{IsEol};
 ghost use Rattle.saphyr_scanner.specs.Examples.Forests.{plain_node, double_quoted_node};

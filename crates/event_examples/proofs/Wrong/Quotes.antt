@@ -3,9 +3,9 @@ use Rattle.std.proofs.Common.{◌≡◌, ◌⊎◌, ℕ, Bool, true, false, List
 use Rattle.saphyr_input.specs.Indicators.{quotation_mark}
 use Rattle.saphyr_input.specs.Classes.{is_break}
 use Rattle.saphyr_input.specs.Places.{is_document_indicator}
-use Rattle.saphyr_values.specs.declared.folding.Item.{Item}
-use Rattle.saphyr_values.specs.declared.flow.Quote.{Quote}
-use Rattle.saphyr_values.specs.declared.flow.Quote.TheVariants.{Double}
+use Rattle.saphyr_scalar.specs.declared.values.Item.{Item}
+use Rattle.saphyr_scalar.specs.declared.values.Quote.{Quote}
+use Rattle.saphyr_scalar.specs.declared.values.Quote.TheVariants.{Double}
 use Rattle.saphyr_scalar.specs.declared.scalar.style.ScalarStyle.TheVariants.{DoubleQuoted}
 use Rattle.saphyr_scalar.specs.Views.Cursor.{start_cursor}
 use Rattle.saphyr_scalar.specs.Spelling.QuotedMarkers.{HasNoMarker}

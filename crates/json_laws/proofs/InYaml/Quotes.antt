@@ -5,11 +5,11 @@ use Rattle.std.proofs.lemmas.Bool.Decides.{nat_tests}
 use Rattle.saphyr_input.specs.Classes.{IsHex, is_blank}
 use Rattle.saphyr_scalar.specs.Spelling.Quoted.{stands_for_itself, IsText, closed, itself, escaped, numbered}
 use Rattle.saphyr_scalar.specs.Spelling.Tag.{AreIn}
-use Rattle.saphyr_values.specs.declared.flow.Quote.TheVariants.{Double}
-use Rattle.saphyr_values.specs.declared.folding.Item.{Item}
-use Rattle.saphyr_values.specs.declared.folding.Item.TheVariants.{Blank, Raw, Escaped, Break, EscapedBreak}
-use Rattle.saphyr_values.specs.Flow.{raw_item}
-use Rattle.saphyr_values.specs.Folding.{folded, is_before_break}
+use Rattle.saphyr_scalar.specs.declared.values.Quote.TheVariants.{Double}
+use Rattle.saphyr_scalar.specs.declared.values.Item.{Item}
+use Rattle.saphyr_scalar.specs.declared.values.Item.TheVariants.{Blank, Raw, Escaped, Break, EscapedBreak}
+use Rattle.saphyr_scalar.specs.Values.Flow.{raw_item}
+use Rattle.saphyr_scalar.specs.Values.Folding.{folded, is_before_break}
 use Rattle.scalar_laws.specs.Spelling.QuotedLines.{AreOnLine}
 use Rattle.scalar_laws.proofs.Beginnings.{both_in}
 use Rattle.scalar_laws.proofs.Quoted.Reads.{line_fits}

@@ -6,7 +6,7 @@ use Rattle.saphyr_input.specs.Classes.{IsDigit, is_blank, is_blank_or_breakz, is
 use Rattle.saphyr_input.specs.Indicators.{colon, hyphen, number_sign}
 use Rattle.saphyr_input.specs.Places.{is_document_indicator}
 use Rattle.saphyr_scalar.specs.Spelling.Tag.{AreIn}
-use Rattle.saphyr_values.specs.Flow.{plain_value}
+use Rattle.saphyr_scalar.specs.Values.Flow.{plain_value}
 use Rattle.scalar_laws.specs.Spelling.Plain.{is_plain_safe, is_word_ink, AreWordInk, IsWordIn}
 use Rattle.yaml_laws.specs.Grammar.FlowScalars.{begins_plain, IsFirstWord, IsFlowScalar}
 use Rattle.saphyr_scanner.specs.Grammar.Forest.{Plain}

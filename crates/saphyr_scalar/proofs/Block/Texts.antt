@@ -6,13 +6,13 @@ use Rattle.std.proofs.lemmas.Bool.Decides.{nat_tests}
 use Rattle.std.proofs.lemmas.List.{length-replicate}
 use Rattle.saphyr_input.specs.Breaks.{normalized}
 use Rattle.saphyr_input.specs.Classes.{is_break, space, line_feed}
-use Rattle.saphyr_values.specs.declared.block.BlockStyle.{BlockStyle}
-use Rattle.saphyr_values.specs.declared.block.Chomping.{Chomping}
-use Rattle.saphyr_values.specs.declared.block.Ending.{Ending}
-use Rattle.saphyr_values.specs.Block.{Line, Empty, Content, is_empty_line, line_of, contents_behind, empty_at_end, chomped, is_at_end, is_broken}
+use Rattle.saphyr_scalar.specs.declared.values.BlockStyle.{BlockStyle}
+use Rattle.saphyr_scalar.specs.declared.values.Chomping.{Chomping}
+use Rattle.saphyr_scalar.specs.declared.values.Ending.{Ending}
+use Rattle.saphyr_scalar.specs.Values.Block.{Line, Empty, Content, is_empty_line, line_of, contents_behind, empty_at_end, chomped, is_at_end, is_broken}
 pub use Rattle.saphyr_scalar.specs.Reading.BlockLines.{spaces}
 use Rattle.saphyr_scalar.specs.Reading.BlockLines.{HasLines}
-use Rattle.saphyr_values.specs.Lines.{ended_lines, last_line, has_break}
+use Rattle.saphyr_scalar.specs.Values.Lines.{ended_lines, last_line, has_break}
 use Rattle.saphyr_scalar.specs.Steps.Block.{is_cr_lf}
 use Rattle.saphyr_input.proofs.Basics.Booleans.{or_false_left, or_false_right}
 use Rattle.saphyr_scalar.proofs.Quoted.Inside.{break_cases}

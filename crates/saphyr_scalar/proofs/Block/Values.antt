@@ -5,14 +5,14 @@ use Rattle.std.proofs.lemmas.Bool.Decides.{nat_tests}
 use Rattle.std.proofs.lemmas.List.{append-nil, length-replicate}
 use Rattle.saphyr_input.specs.Breaks.{normalized}
 use Rattle.saphyr_input.specs.Classes.{is_break, is_blank, is_z, is_yaml_non_break, line_feed, space}
-use Rattle.saphyr_values.specs.declared.block.BlockStyle.{BlockStyle}
-use Rattle.saphyr_values.specs.declared.block.Chomping.{Chomping}
-use Rattle.saphyr_values.specs.declared.block.Ending.{Ending}
-use Rattle.saphyr_values.specs.declared.block.Ending.TheVariants.{AtEnd, AtMark}
+use Rattle.saphyr_scalar.specs.declared.values.BlockStyle.{BlockStyle}
+use Rattle.saphyr_scalar.specs.declared.values.Chomping.{Chomping}
+use Rattle.saphyr_scalar.specs.declared.values.Ending.{Ending}
+use Rattle.saphyr_scalar.specs.declared.values.Ending.TheVariants.{AtEnd, AtMark}
 use Rattle.saphyr_scalar.specs.declared.scalar.position.Marker.{Marker}
 use Rattle.saphyr_scalar.specs.Views.Cursor.{Cursor, along, next_line}
-use Rattle.saphyr_values.specs.Block as reading
-use Rattle.saphyr_values.specs.Block.{Line, Empty, is_more_indented, break_between, contents_behind, empty_at_end, is_at_end}
+use Rattle.saphyr_scalar.specs.Values.Block as reading
+use Rattle.saphyr_scalar.specs.Values.Block.{Line, Empty, is_more_indented, break_between, contents_behind, empty_at_end, is_at_end}
 use Rattle.saphyr_scalar.specs.Steps.BlockRead.{EndsLines}
 use Rattle.saphyr_scalar.specs.Reading.BlockLines.{ending, HasLines}
 use Rattle.saphyr_scalar.specs.Steps.Block.{line_cursor, is_indentation, is_cr_lf, inside_break, line_starts, break_before, LinesRead, lines_behind_text, lines_ended, between, line, tail, is_unfinished}

@@ -5,17 +5,17 @@ use Rattle.std.proofs.lemmas.Bool.Decides.{nat_tests}
 use Rattle.std.proofs.lemmas.List.{append-nil, length-replicate}
 use Rattle.saphyr_input.specs.Breaks.{normalized}
 use Rattle.saphyr_input.specs.Classes.{is_break, is_blank, is_z, is_yaml_non_break, line_feed}
-use Rattle.saphyr_values.specs.declared.block.BlockStyle.{BlockStyle}
-use Rattle.saphyr_values.specs.declared.block.Chomping.{Chomping}
-use Rattle.saphyr_values.specs.declared.block.Chomping.TheVariants.{Strip, Clip, Keep}
-use Rattle.saphyr_values.specs.declared.block.Ending.{Ending}
-use Rattle.saphyr_values.specs.declared.block.Ending.TheVariants.{AtEnd, AtMark}
+use Rattle.saphyr_scalar.specs.declared.values.BlockStyle.{BlockStyle}
+use Rattle.saphyr_scalar.specs.declared.values.Chomping.{Chomping}
+use Rattle.saphyr_scalar.specs.declared.values.Chomping.TheVariants.{Strip, Clip, Keep}
+use Rattle.saphyr_scalar.specs.declared.values.Ending.{Ending}
+use Rattle.saphyr_scalar.specs.declared.values.Ending.TheVariants.{AtEnd, AtMark}
 use Rattle.saphyr_scalar.specs.declared.scalar.position.Marker.{Marker}
 use Rattle.saphyr_scalar.specs.Views.Cursor.{Cursor, along}
-use Rattle.saphyr_values.specs.Folding.{line_feeds}
-use Rattle.saphyr_values.specs.Block as reading
-use Rattle.saphyr_values.specs.Block.{Line, Empty, Content, line_of, lines_of, contents, contents_behind, has_content, empty_at_end, is_at_end, is_counted, is_broken, lines_value, block_value}
-use Rattle.saphyr_values.specs.Lines.{last_line}
+use Rattle.saphyr_scalar.specs.Values.Folding.{line_feeds}
+use Rattle.saphyr_scalar.specs.Values.Block as reading
+use Rattle.saphyr_scalar.specs.Values.Block.{Line, Empty, Content, line_of, lines_of, contents, contents_behind, has_content, empty_at_end, is_at_end, is_counted, is_broken, lines_value, block_value}
+use Rattle.saphyr_scalar.specs.Values.Lines.{last_line}
 use Rattle.saphyr_scalar.specs.Steps.BlockRead.{EndsLines}
 use Rattle.saphyr_scalar.specs.Reading.BlockLines.{ending, HasLines}
 use Rattle.saphyr_scalar.specs.Steps.Block.{line_cursor, is_indentation, line_starts, LinesRead, lines_behind_text, lines_ended, between, line, tail, tail_alone, is_unfinished}

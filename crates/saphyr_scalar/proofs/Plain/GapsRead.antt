@@ -13,7 +13,7 @@ use Rattle.saphyr_scalar.specs.declared.scalar.position.Marker.{Marker}
 use Rattle.saphyr_scalar.specs.declared.scalar.fault.Refusal.{Refusal}
 use Rattle.saphyr_scalar.specs.Views.Cursor.{Cursor, ◌>>=◌, along, next_line, pass, pass_break}
 use Rattle.saphyr_scalar.specs.Steps.Quoted.{mid_line}
-use Rattle.saphyr_values.specs.Folding.{folded, line_feeds, raw_break}
+use Rattle.saphyr_scalar.specs.Values.Folding.{folded, line_feeds, raw_break}
 use Rattle.saphyr_scalar.specs.Steps.Plain as spec
 use Rattle.saphyr_scalar.specs.Steps.Plain.{seen_gap, PlainGap, ends_line, reached_gap, line_front, lines, next_lines, gap_from, gap}
 use Rattle.saphyr_scalar.specs.Reading.Plain.{end_of_text}

@@ -8,7 +8,7 @@ use Rattle.saphyr_input.specs.Places.{can_be_plain, is_blank_or_break}
 use Rattle.saphyr_scalar.specs.Spelling.Tag.{AreIn}
 use Rattle.saphyr_scalar.specs.declared.scalar.position.Marker.{Marker}
 use Rattle.saphyr_scalar.specs.Views.Cursor.{Cursor, along}
-use Rattle.saphyr_values.specs.Folding.{folded}
+use Rattle.saphyr_scalar.specs.Values.Folding.{folded}
 use Rattle.saphyr_scalar.specs.Steps.Plain.{is_in_word, word_len, comment_of, PlainGap}
 use Rattle.saphyr_scalar.specs.Reading.Plain.{end_of_text, IsSpelledPlain, IsSafeInFlow, ends_piece}
 use Rattle.saphyr_scalar.proofs.Plain.Words.{word_left}

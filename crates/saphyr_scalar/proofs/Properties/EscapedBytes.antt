@@ -3,7 +3,7 @@ use Rattle.std.proofs.Common.{◌≡◌, ℕ, suc, ◌+◌, ◌-◌, ◌*◌, �
 use Rattle.std.specs.Prelude.{nat_lt, encode_utf8}
 use Rattle.std.proofs.Math.Utf8.{encode}
 use Rattle.std.proofs.lemmas.Bool.Decides.{nat_tests}
-use Rattle.saphyr_values.specs.Escapes.{IsScalarValue, is_scalar_value}
+use Rattle.saphyr_scalar.specs.Values.Escapes.{IsScalarValue, is_scalar_value}
 use Rattle.saphyr_scalar.specs.Steps.Tag.{utf8_width, leading_bits, is_trailing, is_encoded}
 use Rattle.saphyr_input.proofs.Basics.Booleans.{by_test}
 use Rattle.std.proofs.lemmas.Bool.{lt-ltb, le-ltb, le-leb}

@@ -6,7 +6,7 @@ use Rattle.std.proofs.Math.Utf8.{encode}
 use Rattle.std.proofs.lemmas.Bool.{lt-ltb, le-ltb}
 use Rattle.std.proofs.lemmas.Bool.Decides.{nat_tests}
 use Rattle.std.proofs.lemmas.Str.{encode_ascii}
-use Rattle.saphyr_values.specs.Escapes.{IsScalarValue, is_scalar_value}
+use Rattle.saphyr_scalar.specs.Values.Escapes.{IsScalarValue, is_scalar_value}
 use Rattle.saphyr_scalar.specs.Steps.Tag.{utf8_width, leading_bits, is_trailing, is_encoded}
 use Rattle.saphyr_scalar.proofs.Properties.EscapedBytes.{AreTrailing, joined_bytes, bits_one, bits_two, bits_three, bits_four}
 use Rattle.saphyr_input.proofs.Basics.Booleans.{by_test, either}

@@ -8,7 +8,7 @@ use Rattle.saphyr_input.specs.Places.{blank_words_len, TransfersBlankWords}
 use Rattle.saphyr_input.proofs.Basics.Booleans.{by_test, either}
 use Rattle.saphyr_input.proofs.WordRuns.{blank_words_within}
 use Rattle.saphyr_scalar.specs.declared.scalar.position.Marker.{Marker}
-use Rattle.saphyr_values.specs.declared.flow.Quote.{Quote}
+use Rattle.saphyr_scalar.specs.declared.values.Quote.{Quote}
 use Rattle.saphyr_scalar.specs.Views.Cursor.{Cursor, along}
 use Rattle.saphyr_scalar.specs.Steps.Quoted.{is_literal, with_front, on_line, no_gap, inner_text, inner_text_at}
 use Rattle.saphyr_scalar.specs.Steps.Sets.{is_content}

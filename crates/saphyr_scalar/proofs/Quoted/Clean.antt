@@ -4,8 +4,8 @@ use Rattle.saphyr_input.specs.Indicators.{quotation_mark}
 use Rattle.std.proofs.Common.{◌≡◌, ℕ, List, [], ◌∷◌, ◌++◌, drop, slice_index, Some, IsTrue, IsFalse}
 use Rattle.saphyr_input.specs.Classes.{is_break}
 use Rattle.saphyr_input.specs.Places.{is_document_indicator}
-use Rattle.saphyr_values.specs.Flow.{mark, raw_item, apostrophe, backslash}
-use Rattle.saphyr_values.specs.Escapes.{short_escape}
+use Rattle.saphyr_scalar.specs.Values.Flow.{mark, raw_item, apostrophe, backslash}
+use Rattle.saphyr_scalar.specs.Values.Escapes.{short_escape}
 use Rattle.saphyr_scalar.specs.Spelling.OneLine.{IsNumber}
 use Rattle.saphyr_scalar.specs.Steps.Quoted.{break_len, is_closing}
 use Rattle.saphyr_scalar.specs.Spelling.LaterLines.{is_quoted_line}
@@ -13,10 +13,10 @@ use Rattle.saphyr_scalar.specs.Spelling.IndentedQuotes.{HasIndentedLines}
 use Rattle.saphyr_scalar.specs.Spelling.QuotedMarkers.{HasNoMarker}
 use Rattle.saphyr_scalar.specs.Spelling.Quoted as quotes
 pub use Rattle.saphyr_scalar.specs.Spelling.Quoted.{stands_for_itself, IsQuotedText}
-use Rattle.saphyr_values.specs.declared.folding.Item.{Item}
-use Rattle.saphyr_values.specs.declared.folding.Item.TheVariants.{Raw, Escaped, Break, EscapedBreak}
-use Rattle.saphyr_values.specs.declared.flow.Quote.{Quote}
-use Rattle.saphyr_values.specs.declared.flow.Quote.TheVariants.{Single, Double}
+use Rattle.saphyr_scalar.specs.declared.values.Item.{Item}
+use Rattle.saphyr_scalar.specs.declared.values.Item.TheVariants.{Raw, Escaped, Break, EscapedBreak}
+use Rattle.saphyr_scalar.specs.declared.values.Quote.{Quote}
+use Rattle.saphyr_scalar.specs.declared.values.Quote.TheVariants.{Single, Double}
 
 abbrev pub IsCleanText : ℕ → Quote → List ℕ → List Item → List ℕ → Type 0
 IsCleanText n q t items x =

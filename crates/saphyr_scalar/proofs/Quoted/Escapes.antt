@@ -9,7 +9,7 @@ use Rattle.std.proofs.lemmas.Grind.{pow_more}
 use Rattle.saphyr_input.specs.Indicators.{backslash}
 use Rattle.saphyr_input.specs.Classes.{is_break, is_hex, hex_value}
 use Rattle.saphyr_input.specs.Places.{is_ascii_but_nul}
-use Rattle.saphyr_values.specs.Escapes.{digit_count, is_scalar_value, short_escape}
+use Rattle.saphyr_scalar.specs.Values.Escapes.{digit_count, is_scalar_value, short_escape}
 use Rattle.saphyr_scalar.specs.declared.scalar.position.Marker.{Marker}
 use Rattle.saphyr_scalar.specs.declared.scalar.fault.FaultText.TheVariants as fault
 use Rattle.saphyr_scalar.specs.Views.Cursor.{Cursor, refuse, along, pass}

@@ -9,11 +9,11 @@ use Rattle.saphyr_scalar.specs.declared.scalar.position.Marker.{Marker}
 use Rattle.saphyr_scalar.specs.declared.scalar.fault.Refusal.{Refusal}
 use Rattle.saphyr_scalar.specs.declared.scalar.fault.FaultText.TheVariants as fault
 use Rattle.saphyr_scalar.specs.declared.scalar.fault.Stop.{Stop}
-use Rattle.saphyr_values.specs.declared.flow.Quote.{Quote}
-use Rattle.saphyr_values.specs.declared.flow.Quote.TheVariants.{Single, Double}
+use Rattle.saphyr_scalar.specs.declared.values.Quote.{Quote}
+use Rattle.saphyr_scalar.specs.declared.values.Quote.TheVariants.{Single, Double}
 use Rattle.saphyr_scalar.specs.Views.Reader.{ReadsOn}
 use Rattle.saphyr_scalar.specs.Views.Cursor.{Cursor, refuse, along, pass, pass_break, pass_line, next_line}
-use Rattle.saphyr_values.specs.Flow as flow
+use Rattle.saphyr_scalar.specs.Values.Flow as flow
 use Rattle.saphyr_scalar.proofs.NoBreaks.{mark_no_nul}
 use Rattle.saphyr_scalar.proofs.Quoted.Inside.{front_twice, passed_over, behind_no_gap, at_break, at_end, flushed, Moved, moved_stops, SameRun, moved_of}
 use Rattle.saphyr_scalar.proofs.Quoted.Parts.{blanks_moved}

@@ -11,10 +11,10 @@ use Rattle.saphyr_scalar.specs.declared.scalar.fault.FaultText.TheVariants as fa
 use Rattle.std.specs.Result.{IsErrAnd}
 use Rattle.saphyr_scalar.specs.declared.scalar.fault.Stop.{Stop}
 use Rattle.saphyr_scalar.specs.declared.scalar.fault.Stop.TheVariants as stop
-use Rattle.saphyr_values.specs.declared.flow.Quote.{Quote}
+use Rattle.saphyr_scalar.specs.declared.values.Quote.{Quote}
 use Rattle.saphyr_scalar.specs.Views.Reader.{ReadsOn}
 use Rattle.saphyr_scalar.specs.Views.Cursor.{Cursor, ◌>>=◌, refuse, along, pass, pass_break, next_line}
-use Rattle.saphyr_values.specs.Flow as flow
+use Rattle.saphyr_scalar.specs.Values.Flow as flow
 use Rattle.saphyr_scalar.proofs.Moving.{along_none, along_more}
 use Rattle.saphyr_scalar.specs.Steps.Quoted.{TextRead, is_literal, with_front, mid_line, special, special_len, QuotedGap, on_line, no_gap, blank_in, break_in, end_gap, escaped_gap, break_len, if_some, inner_text, inner_text_at, quoted, with_run}
 use Rattle.saphyr_input.proofs.Basics.Lists.{run_ends}

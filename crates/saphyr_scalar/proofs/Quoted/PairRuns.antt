@@ -8,9 +8,9 @@ use Rattle.saphyr_input.specs.Classes.{is_break}
 use Rattle.saphyr_input.specs.Indicators.{backslash}
 use Rattle.saphyr_input.specs.Places.{next_2_are, ascii_behind, is_ascii_but_nul}
 use Rattle.saphyr_input.proofs.Basics.Booleans.{and_true_left, and_true_right, by_test}
-use Rattle.saphyr_values.specs.Escapes.{short_escape}
-use Rattle.saphyr_values.specs.declared.flow.Quote.{Quote}
-use Rattle.saphyr_values.specs.declared.flow.Quote.TheVariants.{Single, Double}
+use Rattle.saphyr_scalar.specs.Values.Escapes.{short_escape}
+use Rattle.saphyr_scalar.specs.declared.values.Quote.{Quote}
+use Rattle.saphyr_scalar.specs.declared.values.Quote.TheVariants.{Single, Double}
 use Rattle.saphyr_scalar.specs.declared.scalar.position.Marker.{Marker}
 use Rattle.saphyr_scalar.specs.declared.scalar.fault.Refusal.{Refusal}
 use Rattle.saphyr_scalar.specs.declared.scalar.fault.FaultText.TheVariants as fault

@@ -3,11 +3,11 @@ use Rattle.std.proofs.Common.{◌≡◌, ℕ, suc, ◌+◌, ◌<◌, Bool, true,
 use Rattle.std.specs.Prelude.{◌||◌, ◌&&◌, ◌==◌, not, encode_utf8, Option, Some, None}
 use Rattle.saphyr_input.specs.Classes.{is_blank, is_break, is_blank_or_breakz}
 use Rattle.saphyr_input.specs.Places.{next_2_are}
-use Rattle.saphyr_values.specs.Escapes.{digit_count, short_escape}
+use Rattle.saphyr_scalar.specs.Values.Escapes.{digit_count, short_escape}
 use Rattle.saphyr_scalar.specs.declared.scalar.position.Marker.{Marker}
 use Rattle.saphyr_scalar.specs.declared.scalar.fault.Refusal.{Refusal}
-use Rattle.saphyr_values.specs.declared.flow.Quote.{Quote}
-use Rattle.saphyr_values.specs.declared.flow.Quote.TheVariants.{Single, Double}
+use Rattle.saphyr_scalar.specs.declared.values.Quote.{Quote}
+use Rattle.saphyr_scalar.specs.declared.values.Quote.TheVariants.{Single, Double}
 use Rattle.saphyr_scalar.specs.Views.Cursor.{Cursor, ◌>>=◌, along, pass}
 use Rattle.saphyr_scalar.proofs.Moving.{bind_same}
 use Rattle.saphyr_scalar.proofs.Quoted.Escapes.{escape_place}

@@ -4,23 +4,23 @@ use Rattle.std.specs.Prelude.{◌||◌, ◌&&◌, ◌==◌, not, option_map, IsF
 use Rattle.std.proofs.lemmas.Bool.Decides.{nat_tests}
 use Rattle.saphyr_input.specs.Classes.{is_break, is_hex, hex_value, carriage_return, line_feed}
 use Rattle.saphyr_input.specs.Breaks.{normalized}
-use Rattle.saphyr_values.specs.declared.folding.Item.{Item}
-use Rattle.saphyr_values.specs.declared.folding.Item.TheVariants.{Raw, Escaped, Break, EscapedBreak}
-use Rattle.saphyr_values.specs.declared.flow.Quote.{Quote}
-use Rattle.saphyr_values.specs.declared.flow.Quote.TheVariants.{Single, Double}
-use Rattle.saphyr_values.specs.Escapes.{digit_count, hex_character, is_scalar_value, short_escape}
+use Rattle.saphyr_scalar.specs.declared.values.Item.{Item}
+use Rattle.saphyr_scalar.specs.declared.values.Item.TheVariants.{Raw, Escaped, Break, EscapedBreak}
+use Rattle.saphyr_scalar.specs.declared.values.Quote.{Quote}
+use Rattle.saphyr_scalar.specs.declared.values.Quote.TheVariants.{Single, Double}
+use Rattle.saphyr_scalar.specs.Values.Escapes.{digit_count, hex_character, is_scalar_value, short_escape}
 use Rattle.saphyr_scalar.specs.Spelling.Tag.{AreIn}
 use Rattle.saphyr_scalar.specs.Views.Cursor.{Cursor}
-use Rattle.saphyr_values.specs.Flow as flow
-use Rattle.saphyr_values.specs.Folding.{folded}
+use Rattle.saphyr_scalar.specs.Values.Flow as flow
+use Rattle.saphyr_scalar.specs.Values.Folding.{folded}
 use Rattle.saphyr_scalar.specs.Spelling.OneLine as line
 use Rattle.saphyr_scalar.specs.Steps.Quoted.{break_len, quoted}
 use Rattle.saphyr_scalar.specs.Spelling.Quoted as quotes
-use Rattle.saphyr_values.specs.Items.{IsSpelling, Spells}
+use Rattle.saphyr_scalar.specs.Values.Items.{IsSpelling, Spells}
 use Rattle.saphyr_scalar.proofs.Quoted.Inside.{break_cases}
 use Rattle.saphyr_scalar.proofs.Quoted.SpelledLines.{quoted_spelled}
 use Rattle.saphyr_scalar.proofs.Quoted.SpelledEscapes.{GaveText}
-use Rattle.saphyr_values.proofs.ItemsRead.{quoted_read}
+use Rattle.saphyr_scalar.proofs.Readings.ItemsRead.{quoted_read}
 use Rattle.saphyr_input.proofs.Basics.Characters.{normalized_other}
 
 digits_number : (v : ℕ) (ds : List ℕ) → AreIn is_hex ds → IsTrue (is_scalar_value (line.hexadecimal_from v ds))

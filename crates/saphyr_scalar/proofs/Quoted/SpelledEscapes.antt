@@ -4,13 +4,13 @@ use Rattle.std.proofs.lemmas.Bool.{false≢true}
 use Rattle.std.specs.Prelude.{Option, Some, None}
 use Rattle.saphyr_input.specs.Indicators.{backslash}
 use Rattle.saphyr_input.specs.Classes.{is_hex, hex_value}
-use Rattle.saphyr_values.specs.Escapes.{digit_count, is_scalar_value, short_escape}
+use Rattle.saphyr_scalar.specs.Values.Escapes.{digit_count, is_scalar_value, short_escape}
 use Rattle.saphyr_scalar.specs.Spelling.Tag.{AreIn}
 use Rattle.saphyr_scalar.specs.declared.scalar.position.Marker.{Marker}
 use Rattle.saphyr_scalar.specs.declared.scalar.fault.Refusal.{Refusal}
-use Rattle.saphyr_values.specs.declared.folding.Item.{Item}
-use Rattle.saphyr_values.specs.declared.folding.Item.TheVariants.{Escaped}
-use Rattle.saphyr_values.specs.declared.flow.Quote.TheVariants.{Double}
+use Rattle.saphyr_scalar.specs.declared.values.Item.{Item}
+use Rattle.saphyr_scalar.specs.declared.values.Item.TheVariants.{Escaped}
+use Rattle.saphyr_scalar.specs.declared.values.Quote.TheVariants.{Double}
 use Rattle.saphyr_scalar.specs.Views.Cursor.{Cursor, ◌>>=◌, along, pass}
 use Rattle.saphyr_scalar.specs.Steps.Quoted.{digits, character, escape_by_number, escape_of, escaped_character, with_front, mid_line}
 use Rattle.saphyr_scalar.specs.Spelling.OneLine as spelling

@@ -5,12 +5,12 @@ use Rattle.std.proofs.lemmas.Bool.{le-leb, leb-true, ltb-false, or_left, or_righ
 use Rattle.saphyr_input.specs.Classes.{is_blank, is_break, space, tab}
 use Rattle.saphyr_scalar.specs.declared.scalar.position.Marker.{Marker}
 use Rattle.saphyr_scalar.specs.declared.scalar.fault.Refusal.{Refusal}
-use Rattle.saphyr_values.specs.declared.folding.Item.{Item}
-use Rattle.saphyr_values.specs.declared.folding.Item.TheVariants.{Blank, Break}
-use Rattle.saphyr_values.specs.declared.flow.Quote.{Quote}
-use Rattle.saphyr_values.specs.declared.flow.Quote.TheVariants.{Single, Double}
+use Rattle.saphyr_scalar.specs.declared.values.Item.{Item}
+use Rattle.saphyr_scalar.specs.declared.values.Item.TheVariants.{Blank, Break}
+use Rattle.saphyr_scalar.specs.declared.values.Quote.{Quote}
+use Rattle.saphyr_scalar.specs.declared.values.Quote.TheVariants.{Single, Double}
 use Rattle.saphyr_scalar.specs.Views.Cursor.{Cursor, ◌>>=◌, along, pass_line}
-use Rattle.saphyr_values.specs.Flow as flow
+use Rattle.saphyr_scalar.specs.Values.Flow as flow
 use Rattle.saphyr_scalar.specs.Steps.Quoted.{mid_line, QuotedGap, on_line, over_lines, is_left, blank_in, break_in, break_len, inner_text, inner_text_at}
 use Rattle.saphyr_scalar.proofs.Quoted.Clean as quotes
 use Rattle.saphyr_scalar.proofs.Quoted.Clean.{IsClear}

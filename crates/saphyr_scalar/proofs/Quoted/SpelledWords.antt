@@ -3,12 +3,12 @@ use Rattle.std.proofs.Common.{◌≡◌, ℕ, ◌-◌, ◌≤◌, Bool, true, fa
 use Rattle.std.specs.Prelude.{◌==◌, encode_utf8}
 use Rattle.saphyr_input.specs.Classes.{is_break}
 use Rattle.saphyr_scalar.specs.declared.scalar.position.Marker.{Marker}
-use Rattle.saphyr_values.specs.declared.folding.Item.{Item}
-use Rattle.saphyr_values.specs.declared.folding.Item.TheVariants.{Raw, Escaped, EscapedBreak}
-use Rattle.saphyr_values.specs.declared.flow.Quote.{Quote}
-use Rattle.saphyr_values.specs.declared.flow.Quote.TheVariants.{Single, Double}
+use Rattle.saphyr_scalar.specs.declared.values.Item.{Item}
+use Rattle.saphyr_scalar.specs.declared.values.Item.TheVariants.{Raw, Escaped, EscapedBreak}
+use Rattle.saphyr_scalar.specs.declared.values.Quote.{Quote}
+use Rattle.saphyr_scalar.specs.declared.values.Quote.TheVariants.{Single, Double}
 use Rattle.saphyr_scalar.specs.Views.Cursor.{Cursor, along, next_line}
-use Rattle.saphyr_values.specs.Flow as flow
+use Rattle.saphyr_scalar.specs.Values.Flow as flow
 use Rattle.saphyr_scalar.specs.Steps.Quoted.{is_literal, mid_line, QuotedGap, over_lines, no_gap, escaped_gap, break_len, is_closing, escaped_character, inner_text, inner_text_at}
 use Rattle.saphyr_scalar.specs.Spelling.LaterLines.{is_quoted_line}
 use Rattle.saphyr_scalar.proofs.Quoted.Clean as quotes

@@ -4,10 +4,10 @@ use Rattle.std.proofs.lemmas.Option.{none-some}
 use Rattle.std.specs.Prelude.{◌||◌, ◌&&◌, ◌==◌, not, encode_utf8, Option, Some, None}
 use Rattle.saphyr_input.specs.Indicators.{backslash, quotation_mark}
 use Rattle.saphyr_input.specs.Classes.{is_blank, is_break, is_breakz, is_hex}
-use Rattle.saphyr_values.specs.Escapes.{digit_count, short_escape}
+use Rattle.saphyr_scalar.specs.Values.Escapes.{digit_count, short_escape}
 use Rattle.saphyr_scalar.specs.Spelling.Tag.{AreIn}
 use Rattle.saphyr_scalar.specs.declared.scalar.position.Marker.{Marker}
-use Rattle.saphyr_values.specs.declared.flow.Quote.TheVariants.{Double}
+use Rattle.saphyr_scalar.specs.declared.values.Quote.TheVariants.{Double}
 use Rattle.saphyr_scalar.specs.Views.Cursor.{Cursor, along}
 use Rattle.saphyr_scalar.specs.Steps.Quoted.{is_literal, digits, character, escape_by_number, escape_of, escaped_character, with_front, mid_line, on_line, no_gap, inner_text, quoted, double_quoted}
 use Rattle.saphyr_scalar.specs.Spelling.OneLine as spelling

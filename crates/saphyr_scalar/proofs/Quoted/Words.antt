@@ -7,8 +7,8 @@ use Rattle.std.proofs.lemmas.List.{append-nil}
 use Rattle.saphyr_input.specs.Classes.{is_blank_or_breakz}
 use Rattle.saphyr_input.specs.Places.{words_len, TransfersWords}
 use Rattle.saphyr_scalar.specs.declared.scalar.position.Marker.{Marker}
-use Rattle.saphyr_values.specs.declared.flow.Quote.{Quote}
-use Rattle.saphyr_values.specs.declared.flow.Quote.TheVariants.{Single, Double}
+use Rattle.saphyr_scalar.specs.declared.values.Quote.{Quote}
+use Rattle.saphyr_scalar.specs.declared.values.Quote.TheVariants.{Single, Double}
 use Rattle.saphyr_scalar.specs.Views.Cursor.{Cursor, along}
 use Rattle.saphyr_scalar.specs.Steps.Quoted.{is_literal, with_front, mid_line, no_gap, inner_text, QuotedWordsMoved}
 use Rattle.saphyr_scalar.specs.Steps.Sets.{is_content}

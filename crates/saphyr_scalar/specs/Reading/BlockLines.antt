@@ -1,11 +1,11 @@
 -- The lines of a block scalar (YAML 1.2.2, 8.1), and what ends them.
 use Rattle.std.specs.Prelude.{◌≡◌, ℕ, true, List, [], ◌∷◌, ◌++◌, slice_index, replicate, ◌⊎◌, if◌then◌else◌}
 use Rattle.saphyr_input.specs.Classes.{is_z, space}
-use Rattle.saphyr_values.specs.declared.block.Ending.{Ending}
-use Rattle.saphyr_values.specs.declared.block.Ending.TheVariants.{AtEnd, AtMark}
+use Rattle.saphyr_scalar.specs.declared.values.Ending.{Ending}
+use Rattle.saphyr_scalar.specs.declared.values.Ending.TheVariants.{AtEnd, AtMark}
 use Rattle.saphyr_scalar.specs.Views.Cursor.{Cursor}
-use Rattle.saphyr_values.specs.Block.{is_empty_line}
-use Rattle.saphyr_values.specs.Lines.{ended_lines, last_line}
+use Rattle.saphyr_scalar.specs.Values.Block.{is_empty_line}
+use Rattle.saphyr_scalar.specs.Values.Lines.{ended_lines, last_line}
 
 -- what ends the lines before a place
 abbrev pub ending : Cursor → Ending

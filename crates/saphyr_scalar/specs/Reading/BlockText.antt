@@ -3,15 +3,15 @@ use Rattle.std.specs.Prelude.{◌≡◌, ◌≢◌, ℕ, zero, suc, ◌+◌, ◌
 use Rattle.saphyr_input.specs.Breaks.{normalized}
 use Rattle.saphyr_input.specs.Classes.{is_break, is_yaml_non_break, is_z, line_feed, space, tab}
 use Rattle.saphyr_input.specs.Places.{is_document_indicator}
-use Rattle.saphyr_values.specs.declared.block.BlockStyle.{BlockStyle}
-use Rattle.saphyr_values.specs.declared.block.Chomping.{Chomping}
-use Rattle.saphyr_values.specs.declared.block.Chomping.TheVariants.{Strip, Clip, Keep}
+use Rattle.saphyr_scalar.specs.declared.values.BlockStyle.{BlockStyle}
+use Rattle.saphyr_scalar.specs.declared.values.Chomping.{Chomping}
+use Rattle.saphyr_scalar.specs.declared.values.Chomping.TheVariants.{Strip, Clip, Keep}
 use Rattle.saphyr_scalar.specs.declared.scalar.position.Marker.{Marker}
 use Rattle.saphyr_scalar.specs.Views.Cursor.{Cursor}
 use Rattle.saphyr_scalar.specs.Reading.BlockLines.{ending, HasLines}
-use Rattle.saphyr_values.specs.Block.{has_content, line_of, block_value}
+use Rattle.saphyr_scalar.specs.Values.Block.{has_content, line_of, block_value}
 use Rattle.saphyr_scalar.specs.Spelling.Directive.{IsLineTail}
-use Rattle.saphyr_values.specs.Lines.{ended_lines, last_line}
+use Rattle.saphyr_scalar.specs.Values.Lines.{ended_lines, last_line}
 use Rattle.saphyr_scalar.specs.Passing.{IsPassed}
 use Rattle.saphyr_scalar.specs.Spelling.Tag.{AreIn}
 

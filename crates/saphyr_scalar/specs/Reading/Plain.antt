@@ -7,7 +7,7 @@ use Rattle.saphyr_input.specs.Indicators.{colon, number_sign}
 use Rattle.saphyr_scalar.specs.Spelling.Tag.{AreIn}
 use Rattle.saphyr_scalar.specs.declared.scalar.position.Marker.{Marker}
 use Rattle.saphyr_scalar.specs.Views.Cursor.{Cursor, along, next_line}
-use Rattle.saphyr_values.specs.Flow.{plain_value}
+use Rattle.saphyr_scalar.specs.Values.Flow.{plain_value}
 use Rattle.saphyr_scalar.specs.Spelling.LineBreaks.{ends_line}
 
 -- the place after a text that begins at a place: a line more after each break, and else a column more

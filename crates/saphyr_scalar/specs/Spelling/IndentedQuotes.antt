@@ -4,8 +4,8 @@ use Rattle.saphyr_input.specs.Indicators.{quotation_mark}
 use Rattle.saphyr_scalar.specs.Spelling.LineBreaks.{break_len}
 use Rattle.saphyr_scalar.specs.Spelling.LaterLines.{is_quoted_line}
 use Rattle.saphyr_scalar.specs.Spelling.Quoted.{IsText, closed, itself, broken, two_quotes, escaped, numbered, escaped_break}
-use Rattle.saphyr_values.specs.declared.folding.Item.{Item}
-use Rattle.saphyr_values.specs.declared.flow.Quote.{Quote}
+use Rattle.saphyr_scalar.specs.declared.values.Item.{Item}
+use Rattle.saphyr_scalar.specs.declared.values.Quote.{Quote}
 
 -- Each later line of a scalar begins with `least` spaces at least, or has fewer and nothing else. After an escaped
 -- break the closing quote may come first.

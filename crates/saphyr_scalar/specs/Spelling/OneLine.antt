@@ -4,7 +4,7 @@ use Rattle.std.specs.Prelude.{◌≡◌, ℕ, ◌+◌, ◌*◌, Bool, ◌&&◌, 
 use Rattle.saphyr_input.specs.Classes.{is_breakz, is_hex, hex_value}
 use Rattle.saphyr_input.specs.Indicators.{backslash, quotation_mark}
 use Rattle.saphyr_scalar.specs.Spelling.Tag.{AreIn}
-use Rattle.saphyr_values.specs.Escapes.{short_escape, digit_count, is_scalar_value}
+use Rattle.saphyr_scalar.specs.Values.Escapes.{short_escape, digit_count, is_scalar_value}
 
 -- a character that stands for itself between double quotes: no break, NUL, quote or backslash
 abbrev pub stands_in_double_quotes : ℕ → Bool

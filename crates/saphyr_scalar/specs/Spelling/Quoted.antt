@@ -2,15 +2,15 @@
 -- Each relation is between what is at a place, the items that it spells, and what comes after it.
 use Rattle.std.specs.Prelude.{◌≡◌, ℕ, Bool, ◌&&◌, not, List, [], ◌∷◌, ◌++◌, drop, slice_index, Some, IsTrue}
 use Rattle.saphyr_input.specs.Classes.{is_break, is_breakz}
-use Rattle.saphyr_values.specs.Flow.{mark, is_special, raw_item, apostrophe, backslash}
+use Rattle.saphyr_scalar.specs.Values.Flow.{mark, is_special, raw_item, apostrophe, backslash}
 use Rattle.saphyr_scalar.specs.Spelling.OneLine.{IsNumber}
 use Rattle.saphyr_scalar.specs.Spelling.LineBreaks.{break_len}
 use Rattle.saphyr_scalar.specs.Spelling.ClosingQuote.{is_closing}
-use Rattle.saphyr_values.specs.Escapes.{short_escape}
-use Rattle.saphyr_values.specs.declared.folding.Item.{Item}
-use Rattle.saphyr_values.specs.declared.folding.Item.TheVariants.{Raw, Escaped, Break, EscapedBreak}
-use Rattle.saphyr_values.specs.declared.flow.Quote.{Quote}
-use Rattle.saphyr_values.specs.declared.flow.Quote.TheVariants.{Single, Double}
+use Rattle.saphyr_scalar.specs.Values.Escapes.{short_escape}
+use Rattle.saphyr_scalar.specs.declared.values.Item.{Item}
+use Rattle.saphyr_scalar.specs.declared.values.Item.TheVariants.{Raw, Escaped, Break, EscapedBreak}
+use Rattle.saphyr_scalar.specs.declared.values.Quote.{Quote}
+use Rattle.saphyr_scalar.specs.declared.values.Quote.TheVariants.{Single, Double}
 
 -- a character that stands for itself and is no break
 abbrev pub stands_for_itself : Quote → ℕ → Bool

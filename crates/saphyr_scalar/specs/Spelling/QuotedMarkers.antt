@@ -3,8 +3,8 @@ use Rattle.std.specs.Prelude.{ℕ, List, drop, IsFalse}
 use Rattle.saphyr_input.specs.Places.{is_document_indicator}
 use Rattle.saphyr_scalar.specs.Spelling.LineBreaks.{break_len}
 use Rattle.saphyr_scalar.specs.Spelling.Quoted.{IsText, closed, itself, broken, two_quotes, escaped, numbered, escaped_break}
-use Rattle.saphyr_values.specs.declared.folding.Item.{Item}
-use Rattle.saphyr_values.specs.declared.flow.Quote.{Quote}
+use Rattle.saphyr_scalar.specs.declared.values.Item.{Item}
+use Rattle.saphyr_scalar.specs.declared.values.Quote.{Quote}
 
 -- no later line of a scalar begins with a document marker
 abbrev pub HasNoMarker : (q : Quote) (t : List ℕ) (items : List Item) (x : List ℕ) → IsText q t items x → Type 0

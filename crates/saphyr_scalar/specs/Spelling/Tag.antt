@@ -3,7 +3,7 @@ use Rattle.std.specs.Prelude.{◌≡◌, ◌≢◌, ℕ, ◌+◌, ◌*◌, Bool,
 use Rattle.std.specs.Char.{encode_utf8}
 use Rattle.saphyr_input.specs.Classes.{is_alpha, is_anchor_char, is_tag_char, is_uri_char, is_blank_or_breakz, is_flow, hex_value, IsHex}
 use Rattle.saphyr_input.specs.Indicators.{exclamation_mark, percent_sign}
-use Rattle.saphyr_values.specs.Escapes.{IsScalarValue}
+use Rattle.saphyr_scalar.specs.Values.Escapes.{IsScalarValue}
 
 -- a character of the set, each
 abbrev pub AreIn : (ℕ → Bool) → List ℕ → Type 0

@@ -4,10 +4,10 @@ use Rattle.saphyr_input.specs.Classes.{is_z, is_break, is_breakz, is_blank, is_d
 use Rattle.saphyr_input.specs.Places.{is_document_indicator}
 use Rattle.saphyr_input.specs.declared.input.SkipTabs.TheVariants.{Yes}
 use Rattle.saphyr_input.specs.Indicators.{hyphen, plus_sign}
-use Rattle.saphyr_values.specs.declared.block.BlockStyle.{BlockStyle}
-use Rattle.saphyr_values.specs.declared.block.BlockStyle.TheVariants.{Literal, Folded}
-use Rattle.saphyr_values.specs.declared.block.Chomping.{Chomping}
-use Rattle.saphyr_values.specs.declared.block.Chomping.TheVariants.{Strip, Clip, Keep}
+use Rattle.saphyr_scalar.specs.declared.values.BlockStyle.{BlockStyle}
+use Rattle.saphyr_scalar.specs.declared.values.BlockStyle.TheVariants.{Literal, Folded}
+use Rattle.saphyr_scalar.specs.declared.values.Chomping.{Chomping}
+use Rattle.saphyr_scalar.specs.declared.values.Chomping.TheVariants.{Strip, Clip, Keep}
 use Rattle.saphyr_scalar.specs.declared.scalar.position.Marker.{Marker}
 use Rattle.saphyr_scalar.specs.declared.scalar.position.Span.{Span}
 use Rattle.saphyr_scalar.specs.declared.scalar.fault.Refusal.{Refusal}
@@ -18,7 +18,7 @@ use Rattle.saphyr_scalar.specs.declared.scalar.block.lines.EmptyLines.{EmptyLine
 use Rattle.saphyr_scalar.specs.declared.scalar.block.breaks.BlockEnd.{BlockEnd}
 use Rattle.saphyr_scalar.specs.Views.Cursor.{Cursor, ◌>>=◌, refuse, along, next_line, pass, pass_break, separation}
 use Rattle.saphyr_scalar.specs.Steps.Quoted.{with_front_run}
-use Rattle.saphyr_values.specs.Folding.{line_feeds, raw_break}
+use Rattle.saphyr_scalar.specs.Values.Folding.{line_feeds, raw_break}
 
 -- 8.1.1.2: the chomping indicator at the front, if there is one, and what comes after it
 unfoldable pub chomping : Cursor → Option Chomping × Cursor

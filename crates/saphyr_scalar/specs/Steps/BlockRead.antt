@@ -2,10 +2,10 @@
 use Rattle.std.specs.Prelude.{◌≡◌, ◌<◌, ℕ, max, false, List, ◌++◌, slice_index, Some, unwrap_or, Ok, encode_utf8_all}
 use Rattle.saphyr_input.specs.Breaks.{normalized}
 use Rattle.saphyr_input.specs.Classes.{is_break, is_yaml_non_break}
-use Rattle.saphyr_values.specs.declared.block.BlockStyle.{BlockStyle}
+use Rattle.saphyr_scalar.specs.declared.values.BlockStyle.{BlockStyle}
 use Rattle.saphyr_scalar.specs.declared.scalar.block.header.BlockHeader.{BlockHeader}
 use Rattle.saphyr_scalar.specs.Views.Cursor.{Cursor}
-use Rattle.saphyr_values.specs.Block.{block_value}
+use Rattle.saphyr_scalar.specs.Values.Block.{block_value}
 use Rattle.saphyr_scalar.specs.Reading.BlockLines.{ending, HasLines}
 use Rattle.saphyr_scalar.specs.Steps.Block as block
 

@@ -7,14 +7,14 @@ use Rattle.saphyr_input.specs.Indicators.{apostrophe, backslash}
 use Rattle.saphyr_scalar.specs.declared.scalar.position.Marker.{Marker}
 use Rattle.saphyr_scalar.specs.declared.scalar.fault.Refusal.{Refusal}
 use Rattle.saphyr_scalar.specs.declared.scalar.fault.FaultText.TheVariants as fault
-use Rattle.saphyr_values.specs.declared.flow.Quote.{Quote}
-use Rattle.saphyr_values.specs.declared.flow.Quote.TheVariants.{Single, Double}
+use Rattle.saphyr_scalar.specs.declared.values.Quote.{Quote}
+use Rattle.saphyr_scalar.specs.declared.values.Quote.TheVariants.{Single, Double}
 use Rattle.saphyr_scalar.specs.Views.Cursor.{Cursor, ◌>>=◌, refuse, along, next_line, pass, pass_blanks}
-use Rattle.saphyr_values.specs.Flow as flow
+use Rattle.saphyr_scalar.specs.Values.Flow as flow
 pub use Rattle.saphyr_scalar.specs.Spelling.LineBreaks.{break_len}
 pub use Rattle.saphyr_scalar.specs.Spelling.ClosingQuote.{is_closing}
-use Rattle.saphyr_values.specs.Escapes.{short_escape, digit_count, is_scalar_value}
-use Rattle.saphyr_values.specs.Folding.{raw_break, line_feeds}
+use Rattle.saphyr_scalar.specs.Values.Escapes.{short_escape, digit_count, is_scalar_value}
+use Rattle.saphyr_scalar.specs.Values.Folding.{raw_break, line_feeds}
 
 -- a character that stands for itself between the quotes and is no blank
 unfoldable pub is_literal : Quote → ℕ → Bool

@@ -4,7 +4,7 @@ use Rattle.saphyr_input.specs.Classes.{is_blank_or_breakz, is_bom, is_flow}
 use Rattle.saphyr_input.specs.Indicators.{colon, hyphen, number_sign, percent_sign}
 use Rattle.saphyr_scalar.specs.declared.scalar.tag.UriSet.{UriSet}
 use Rattle.saphyr_scalar.specs.declared.scalar.tag.UriSet.TheVariants.{Uri, Suffix}
-use Rattle.saphyr_values.specs.declared.flow.Quote.TheVariants.{Single, Double}
+use Rattle.saphyr_scalar.specs.declared.values.Quote.TheVariants.{Single, Double}
 use Rattle.saphyr_scalar.specs.Steps.Quoted.{is_literal}
 use Rattle.saphyr_scalar.specs.Steps.Tag as tag
 

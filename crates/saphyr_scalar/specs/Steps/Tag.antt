@@ -10,7 +10,7 @@ use Rattle.saphyr_scalar.specs.declared.scalar.tag.TagParts.{TagParts}
 use Rattle.saphyr_scalar.specs.declared.scalar.tag.UriSet.{UriSet}
 use Rattle.saphyr_scalar.specs.declared.scalar.tag.UriSet.TheVariants.{Uri, Suffix}
 use Rattle.saphyr_scalar.specs.Views.Cursor.{Cursor, ◌>>=◌, refuse, along, pass}
-use Rattle.saphyr_values.specs.Escapes.{is_scalar_value}
+use Rattle.saphyr_scalar.specs.Values.Escapes.{is_scalar_value}
 use Rattle.saphyr_scalar.specs.Steps.Quoted.{with_front, with_run, mid_line}
 
 -- a set of characters, under a name that crates above may use

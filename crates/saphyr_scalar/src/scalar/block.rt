@@ -14,11 +14,11 @@ use crate::scalar::block::lines::EmptyLines;
 use crate::scalar::fault::{FaultText, Refusal, Stop};
 use crate::scalar::position::Span;
 use crate::scalar::reader::Reader;
+use crate::values::{BlockStyle, Chomping};
 pub(crate) use breaks::push_line_feeds;
 pub use law::reads_block_texts;
 use saphyr_input::char_traits::is_z;
 use saphyr_input::input::Input;
-use saphyr_values::{BlockStyle, Chomping};
 use std::alloc::{AllocError, Global};
 
 /// The text of a block scalar, and its place.

@@ -3,14 +3,14 @@
 ghost use Rattle.std.specs.Prelude.{◌≡◌, ◌≤◌, None, false, slice_index};
 ghost use Rattle.saphyr_input.specs.Indicators.{backslash};
 ghost use Rattle.saphyr_scalar.specs.Steps.Quoted as spec;
-ghost use Rattle.saphyr_values.specs.Escapes.{short_escape};
+ghost use Rattle.saphyr_scalar.specs.Values.Escapes.{short_escape};
 
 use crate::scalar::fault::{FaultText, Refusal};
 use crate::scalar::position::Marker;
 use crate::scalar::reader::Reader;
+use crate::values::digit_count;
 use saphyr_input::char_traits::{as_hex, is_hex};
 use saphyr_input::input::Input;
-use saphyr_values::digit_count;
 
 impl<T: Input> Reader<T> {
     ghost use Rattle.saphyr_scalar.specs.Views.Reader.{cursor_of, GivesBy};

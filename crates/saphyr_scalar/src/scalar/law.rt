@@ -6,7 +6,7 @@ ghost use Rattle.saphyr_input.specs.Indicators.{exclamation_mark, percent_sign};
 ghost use Rattle.saphyr_input.specs.Classes.{is_break, is_z};
 ghost use Rattle.saphyr_input.specs.Places.{is_blank_or_break};
 ghost use Rattle.saphyr_scalar.specs.declared.scalar.position.Marker.{Marker};
-ghost use Rattle.saphyr_values.specs.declared.block.BlockStyle.{BlockStyle};
+ghost use Rattle.saphyr_scalar.specs.declared.values.BlockStyle.{BlockStyle};
 ghost use Rattle.saphyr_scalar.specs.declared.scalar.position.Span.{Span};
 ghost use Rattle.saphyr_scalar.specs.Steps.Anchor.{anchor};
 ghost use Rattle.saphyr_scalar.specs.Steps.Block.{block_scalar};
@@ -16,17 +16,17 @@ ghost use Rattle.saphyr_scalar.specs.Steps.Tag.{tag};
 ghost use Rattle.saphyr_scalar.specs.Views.Cursor.{Cursor};
 ghost use Rattle.saphyr_scalar.specs.Steps.Quoted.{quoted};
 ghost use Rattle.saphyr_scalar.specs.Spelling.Quoted.{IsQuotedText};
-ghost use Rattle.saphyr_values.specs.Flow as flow;
+ghost use Rattle.saphyr_scalar.specs.Values.Flow as flow;
 ghost use Rattle.saphyr_scalar.specs.Spelling.LaterLines.{ArePlainLines};
 ghost use Rattle.saphyr_scalar.specs.Spelling.IndentedQuotes.{HasIndentedLines};
 ghost use Rattle.saphyr_scalar.specs.Spelling.QuotedMarkers.{HasNoMarker};
 ghost use Rattle.saphyr_scalar.specs.Passing.{IsPassed};
-ghost use Rattle.saphyr_values.specs.Folding.{folded};
+ghost use Rattle.saphyr_scalar.specs.Values.Folding.{folded};
 ghost use Rattle.saphyr_scalar.specs.Steps.Plain.{plain};
 ghost use Rattle.saphyr_scalar.specs.Reading.Plain.{IsPlainReading};
 
 use crate::scalar::position::Marker;
-use saphyr_values::{Item, Quote};
+use crate::values::{Item, Quote};
 
 /// What is read as a quoted scalar is spelled so, and what is left follows it. Its text is the reading of
 /// what it spells, with lines folded, and each character and break counts for its place.

@@ -7,15 +7,15 @@ mod words;
 ghost use Rattle.std.specs.Prelude.{◌≡◌, slice_index, string_bytes};
 ghost use Rattle.saphyr_input.specs.Indicators.{apostrophe, quotation_mark};
 ghost use Rattle.saphyr_scalar.specs.Steps.Quoted as spec;
-ghost use Rattle.saphyr_values.specs.Flow as flow;
-ghost use Rattle.saphyr_values.specs.declared.flow.Quote.TheVariants.{Single, Double};
+ghost use Rattle.saphyr_scalar.specs.Values.Flow as flow;
+ghost use Rattle.saphyr_scalar.specs.declared.values.Quote.TheVariants.{Single, Double};
 
 use crate::scalar::fault::Stop;
 use crate::scalar::position::Marker;
 use crate::scalar::reader::Reader;
 use crate::scalar::spare::FIRST_ROOM;
+use crate::values::Quote;
 use saphyr_input::input::Input;
-use saphyr_values::Quote;
 use std::alloc::Global;
 use std::mem::replace;
 

@@ -7,13 +7,13 @@ ghost use Rattle.saphyr_input.specs.declared.input.SkipTabs.{SkipTabs};
 ghost use Rattle.saphyr_scalar.specs.declared.scalar.fault.Refusal.{Refusal};
 ghost use Rattle.saphyr_scalar.specs.Steps.Anchor.{anchor};
 ghost use Rattle.saphyr_scalar.specs.Steps.Block.{block_scalar};
-ghost use Rattle.saphyr_values.specs.declared.block.BlockStyle.{BlockStyle};
+ghost use Rattle.saphyr_scalar.specs.declared.values.BlockStyle.{BlockStyle};
 ghost use Rattle.saphyr_scalar.specs.Views.Cursor.{Cursor, separation};
 ghost use Rattle.saphyr_scalar.specs.Steps.Directive.{directive};
 ghost use Rattle.saphyr_scalar.specs.Steps.Plain.{plain};
 ghost use Rattle.saphyr_scalar.specs.Steps.Quoted.{quoted};
-ghost use Rattle.saphyr_values.specs.Flow as flow;
-ghost use Rattle.saphyr_values.specs.declared.flow.Quote.{Quote};
+ghost use Rattle.saphyr_scalar.specs.Values.Flow as flow;
+ghost use Rattle.saphyr_scalar.specs.declared.values.Quote.{Quote};
 ghost use Rattle.saphyr_scalar.specs.RefusedInside.{IsRefusedInside};
 ghost use Rattle.saphyr_scalar.specs.Steps.Tag.{tag};
 

@@ -3,7 +3,7 @@
 use Rattle.std.proofs.Common.{◌≡◌, ℕ, Bool, true, false, refl, ap}
 use Rattle.std.specs.Prelude.{◌&&◌, ◌||◌, ◌==◌}
 use Rattle.saphyr_input.specs.Classes.{is_blank_or_breakz}
-use Rattle.saphyr_values.specs.declared.block.BlockStyle.TheVariants as block_style
+use Rattle.saphyr_scalar.specs.declared.values.BlockStyle.TheVariants as block_style
 use Rattle.saphyr_scalar.specs.declared.scalar.fault.FaultText.TheVariants as fault
 use Rattle.saphyr_scalar.specs.Views.Cursor.{refuse}
 use Rattle.saphyr_scalar.proofs.Choices.{both_by}

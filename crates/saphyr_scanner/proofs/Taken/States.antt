@@ -2,7 +2,7 @@
 use Rattle.std.proofs.Common.{◌≡◌, ℕ, ◌^◌, ◌≤◌, ◌<◌, ◌⊎◌, Bool, true, false, List, [], ◌∷◌, length, Option, Ok, Some, None, refl, sym, ap, ◌∙◌, arith, subst, inl, inr, IsTrue}
 use Rattle.std.specs.Prelude.{◌-◌, ◌&&◌, slice_index}
 use Rattle.saphyr_input.specs.Classes.{is_z}
-use Rattle.saphyr_values.specs.declared.block.BlockStyle.{BlockStyle}
+use Rattle.saphyr_scalar.specs.declared.values.BlockStyle.{BlockStyle}
 use Rattle.saphyr_scalar.specs.declared.scalar.position.Marker.{Marker}
 use Rattle.saphyr_scalar.specs.declared.scalar.position.Span.{Span}
 use Rattle.saphyr_scalar.specs.Steps.Block as blocks

@@ -1,6 +1,6 @@
 -- Words on characters that the grammars share.
 use Rattle.std.specs.Prelude.{ℕ, ◌≤◌, List, [], ◌∷◌}
-pub use Rattle.saphyr_values.specs.Escapes.{IsScalarValue}
+pub use Rattle.saphyr_scalar.specs.Values.Escapes.{IsScalarValue}
 
 -- P holds of each character
 abbrev pub AreAll : (ℕ → Type 0) → List ℕ → Type 0

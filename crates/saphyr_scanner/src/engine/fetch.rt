@@ -25,8 +25,8 @@ use crate::queue::{Head, Indicator, NodeStart, Which};
 use crate::token::{Token, TokenType};
 use saphyr_input::char_traits::{is_blank_or_breakz, is_bom, is_flow, is_z};
 use saphyr_input::input::Input;
+use saphyr_scalar::values::BlockStyle;
 use saphyr_scalar::{FaultText, Span, Stop, TagParts};
-use saphyr_values::BlockStyle;
 use std::alloc::AllocError;
 
 /// What is left to do where the next token begins.

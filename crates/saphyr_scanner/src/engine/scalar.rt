@@ -6,14 +6,14 @@ ghost use Rattle.saphyr_scanner.specs.Steps.Core as spec;
 ghost use Rattle.saphyr_scanner.specs.Steps.Passing as passing;
 ghost use Rattle.saphyr_scanner.specs.Steps.Scalar as scalar;
 ghost use Rattle.saphyr_scanner.specs.Views.Reads.{is_entry_end, quoted_step};
-ghost use Rattle.saphyr_values.specs.Flow as flow;
+ghost use Rattle.saphyr_scalar.specs.Values.Flow as flow;
 
 use crate::engine::Engine;
 use crate::token::TokenType;
 use saphyr_input::char_traits::is_breakz;
 use saphyr_input::input::Input;
+use saphyr_scalar::values::{BlockStyle, Quote};
 use saphyr_scalar::{FaultText, Marker, ScalarStyle, Span, Stop};
-use saphyr_values::{BlockStyle, Quote};
 
 impl<T: Input> Engine<T> {
     ghost use Rattle.saphyr_scanner.specs.Views.Engine.{state, ActsBy, CarriesBy, answer_of};

@@ -4,14 +4,14 @@ ghost use Rattle.std.specs.Prelude.{◌≡◌, ◌≤◌, [], length, take, IfNo
 ghost use Rattle.saphyr_scalar.specs.Steps.Plain.{plain, seen_plain_end};
 ghost use Rattle.saphyr_scalar.specs.Steps.Quoted.{quoted};
 ghost use Rattle.saphyr_scalar.specs.Views.Reader.{Moves, cursor_of};
-ghost use Rattle.saphyr_values.specs.Flow as flow;
+ghost use Rattle.saphyr_scalar.specs.Values.Flow as flow;
 ghost use Rattle.saphyr_scanner.specs.Views.Asides as spec;
 ghost use Rattle.saphyr_scanner.specs.Views.Tokens.{piece};
 
 use crate::token::Token;
 use saphyr_input::input::Input;
+use saphyr_scalar::values::Quote;
 use saphyr_scalar::{Marker, PlainEnd, Reader, Stop};
-use saphyr_values::Quote;
 use std::alloc::{AllocError, Global};
 use std::collections::VecDeque;
 use std::marker::Model;

@@ -7,8 +7,8 @@ ghost use Rattle.saphyr_scanner.specs.Views.Reads.{quote_style};
 ghost use Rattle.saphyr_scanner.specs.Views.Tokens.{kind_of};
 
 use crate::token::TokenType;
+use saphyr_scalar::values::Quote;
 use saphyr_scalar::{ScalarStyle, TagParts};
-use saphyr_values::Quote;
 use std::alloc::AllocError;
 
 /// The kinds of tokens of collections, which have no text.

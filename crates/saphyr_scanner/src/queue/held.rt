@@ -3,7 +3,7 @@
 ghost use Rattle.std.specs.Prelude.{◌≡◌, ◌<◌, ◌≤◌, ◌^◌, ◌+◌, [], ◌∷◌, ◌++◌, drop, length, IfOk, IfSome, Ok, OnOk, slice_index, string_bytes, vec_len, vec_capacity};
 ghost use Rattle.saphyr_scanner.specs.Grammar.Tokens as tokens;
 ghost use Rattle.saphyr_scanner.specs.Steps.Queue as spec;
-ghost use Rattle.saphyr_values.specs.Flow as flow;
+ghost use Rattle.saphyr_scalar.specs.Values.Flow as flow;
 ghost use Rattle.saphyr_scalar.specs.Steps.Plain.{plain};
 ghost use Rattle.saphyr_scalar.specs.declared.scalar.style.ScalarStyle.TheVariants.{Plain};
 ghost use Rattle.saphyr_scalar.specs.Views.Reader.{Moves, cursor_of};
@@ -24,8 +24,8 @@ use crate::queue::near::{NearMarker, near};
 use crate::queue::place::Place;
 use crate::token::{Token, TokenType};
 use saphyr_input::input::Input;
+use saphyr_scalar::values::Quote;
 use saphyr_scalar::{Marker, Reader, ScalarStyle, Span, Spare, Stop, TagParts};
-use saphyr_values::Quote;
 use std::alloc::{AllocError, Global};
 
 // How many places that were handed out may stay before others, so that few are moved for each.

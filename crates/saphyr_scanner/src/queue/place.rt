@@ -1,7 +1,7 @@
 //! A token that is held, and what comes in front of it, in a small form, since the queue may hold all tokens of a text.
 
 ghost use Rattle.std.specs.Prelude.{◌≡◌, ◌≤◌, true, length, List, ℕ, IfOk, IfSome, OnErr, OnOk, slice_index};
-ghost use Rattle.saphyr_values.specs.Flow as flow;
+ghost use Rattle.saphyr_scalar.specs.Values.Flow as flow;
 ghost use Rattle.saphyr_scalar.specs.Steps.Plain.{plain};
 ghost use Rattle.saphyr_scalar.specs.declared.scalar.style.ScalarStyle.TheVariants.{Plain};
 ghost use Rattle.saphyr_scalar.specs.Views.Reader.{GivesBy, cursor_of};
@@ -30,8 +30,8 @@ use crate::queue::near::{NearMarker, near};
 use crate::token::{Token, TokenType};
 use saphyr_input::char_traits::is_breakz;
 use saphyr_input::input::{Input, SkipTabs};
+use saphyr_scalar::values::Quote;
 use saphyr_scalar::{FaultText, Marker, Reader, Refusal, ScalarStyle, Span, Spare, Stop, TagParts};
-use saphyr_values::Quote;
 use std::alloc::{AllocError, Global};
 
 /// A token, and what is handed out before it.

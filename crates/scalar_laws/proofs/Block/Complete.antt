@@ -4,17 +4,17 @@ use Rattle.std.specs.Prelude.{◌||◌, ◌&&◌, ◌==◌, not, Option, Some, N
 use Rattle.std.proofs.lemmas.Bool.Decides.{nat_tests}
 use Rattle.saphyr_input.specs.Classes.{is_break, is_z, is_yaml_non_break}
 use Rattle.saphyr_input.specs.Places.{is_document_indicator}
-use Rattle.saphyr_values.specs.declared.block.BlockStyle.{BlockStyle}
-use Rattle.saphyr_values.specs.declared.block.Chomping.{Chomping}
-use Rattle.saphyr_values.specs.declared.block.Chomping.TheVariants.{Strip, Clip, Keep}
+use Rattle.saphyr_scalar.specs.declared.values.BlockStyle.{BlockStyle}
+use Rattle.saphyr_scalar.specs.declared.values.Chomping.{Chomping}
+use Rattle.saphyr_scalar.specs.declared.values.Chomping.TheVariants.{Strip, Clip, Keep}
 use Rattle.saphyr_scalar.specs.declared.scalar.position.Marker.{Marker}
 use Rattle.saphyr_scalar.specs.declared.scalar.position.Span.{Span}
 use Rattle.saphyr_scalar.specs.Steps.Block.{BlockHeaderRead, EmptyLinesRead, pass_empty_lines, pass_empty_lines_at, between_at, tail, tail_alone, is_unfinished, is_indentation, line_starts, line_cursor, with_column, lines_ended, chomped_lines, content, behind_leading_lines, behind_header, block_scalar, header, no_lines, given_indentation, BlockScalarRead}
 use Rattle.saphyr_scalar.specs.Views.Cursor.{Cursor, along}
 use Rattle.saphyr_scalar.specs.Reading.BlockLines.{spaces}
 use Rattle.scalar_laws.specs.Spelling.Block.{IsIndentation, found, given, IsBehind, IsBody, leading, first, first_and_last, AreEmptyLines, no_empty_lines, empty_line, empty_line_and_spaces, IsEmptyBody, empty_lines, spaces_alone, IsBlockScalar, IsTaken}
-use Rattle.saphyr_values.specs.Block.{Line, Empty, has_content, chomped_alone, lines_value}
-use Rattle.saphyr_values.specs.Folding.{line_feeds}
+use Rattle.saphyr_scalar.specs.Values.Block.{Line, Empty, has_content, chomped_alone, lines_value}
+use Rattle.saphyr_scalar.specs.Values.Folding.{line_feeds}
 use Rattle.saphyr_scalar.proofs.Block.Reads.{same_gift}
 use Rattle.saphyr_scalar.proofs.Block.Law.{values_of_lines}
 use Rattle.saphyr_scalar.proofs.Block.Turns.{no_line_at}

@@ -11,7 +11,7 @@ use Rattle.saphyr_scalar.specs.Steps.Block.{EmptyLinesRead, line_cursor, is_inde
 use Rattle.saphyr_scalar.specs.Views.Cursor.{Cursor, along, next_line}
 use Rattle.saphyr_scalar.specs.Reading.BlockLines.{spaces}
 use Rattle.saphyr_scalar.proofs.Block.Lines.{stops}
-use Rattle.saphyr_values.specs.Block.{Line, Empty, has_content}
+use Rattle.saphyr_scalar.specs.Values.Block.{Line, Empty, has_content}
 use Rattle.scalar_laws.specs.Spelling.Block.{AreEmptyLines, no_empty_lines, empty_line, empty_line_and_spaces, IsBehind}
 use Rattle.scalar_laws.proofs.Block.PlacedValues.{nothing_behind, no_break_at}
 use Rattle.scalar_laws.proofs.Block.LeadingLines.{IsLimit, e_spaces, e_feed}

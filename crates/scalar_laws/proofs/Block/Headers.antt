@@ -10,8 +10,8 @@ use Rattle.saphyr_input.specs.Places.{next_2_are}
 use Rattle.saphyr_input.specs.Separation.{blank_len, comment_len, separation_len, is_bare_comment, found_blanks}
 use Rattle.saphyr_input.specs.declared.input.SkipTabs.{SkipTabs}
 use Rattle.saphyr_input.specs.declared.input.SkipTabs.TheVariants.{Yes}
-use Rattle.saphyr_values.specs.declared.block.Chomping.{Chomping}
-use Rattle.saphyr_values.specs.declared.block.Chomping.TheVariants.{Strip, Clip, Keep}
+use Rattle.saphyr_scalar.specs.declared.values.Chomping.{Chomping}
+use Rattle.saphyr_scalar.specs.declared.values.Chomping.TheVariants.{Strip, Clip, Keep}
 use Rattle.saphyr_scalar.specs.Spelling.Tag.{AreIn}
 use Rattle.saphyr_scalar.specs.declared.scalar.position.Marker.{Marker}
 use Rattle.saphyr_scalar.specs.declared.scalar.fault.Refusal.{Refusal}

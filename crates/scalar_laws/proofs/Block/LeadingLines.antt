@@ -4,7 +4,7 @@ use Rattle.std.proofs.Common.{◌≡◌, ◌≢◌, ℕ, zero, suc, ◌+◌, ◌
 use Rattle.std.specs.Prelude.{max, Option, Some, None}
 use Rattle.std.proofs.lemmas.Bool.Decides.{nat_tests}
 use Rattle.saphyr_input.specs.Classes.{is_blank, is_yaml_non_break, line_feed, space}
-use Rattle.saphyr_values.specs.declared.block.BlockStyle.{BlockStyle}
+use Rattle.saphyr_scalar.specs.declared.values.BlockStyle.{BlockStyle}
 use Rattle.saphyr_scalar.specs.declared.scalar.position.Marker.{Marker}
 use Rattle.saphyr_scalar.specs.Steps.Block.{EmptyLinesRead, line_cursor, is_indentation, with_column, with_empty_line, pass_empty_lines, between}
 use Rattle.saphyr_scalar.specs.Views.Cursor.{Cursor, along, next_line}
@@ -12,10 +12,10 @@ use Rattle.saphyr_scalar.specs.Reading.BlockLines.{spaces}
 use Rattle.saphyr_scalar.proofs.Moving.{along_none, along_more}
 use Rattle.saphyr_scalar.proofs.Block.Lines.{stops}
 use Rattle.scalar_laws.specs.Spelling.Block.{IsBehind, IsBody, leading, first, first_and_last}
-use Rattle.saphyr_values.specs.declared.block.Chomping.{Chomping}
-use Rattle.saphyr_values.specs.Block as reading
-use Rattle.saphyr_values.specs.Block.{Line, Empty, Content, contents, contents_behind, empty_at_end, has_content}
-use Rattle.saphyr_values.specs.Folding.{line_feeds}
+use Rattle.saphyr_scalar.specs.declared.values.Chomping.{Chomping}
+use Rattle.saphyr_scalar.specs.Values.Block as reading
+use Rattle.saphyr_scalar.specs.Values.Block.{Line, Empty, Content, contents, contents_behind, empty_at_end, has_content}
+use Rattle.saphyr_scalar.specs.Values.Folding.{line_feeds}
 use Rattle.saphyr_input.proofs.Basics.Booleans.{and_false}
 use Rattle.std.proofs.lemmas.Bool.{ne_eqb}
 use Rattle.saphyr_input.proofs.Basics.Characters.{non_break_no_break}

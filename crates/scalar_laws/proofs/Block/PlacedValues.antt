@@ -4,17 +4,17 @@ use Rattle.std.specs.Prelude.{◌&&◌, max, Option, Some, not, is_some, ◌⊎�
 use Rattle.std.proofs.lemmas.Bool.Decides.{nat_tests}
 use Rattle.std.proofs.lemmas.List.{append-nil}
 use Rattle.saphyr_input.specs.Classes.{is_blank, line_feed, is_z, is_break, is_yaml_non_break, carriage_return}
-use Rattle.saphyr_values.specs.declared.block.BlockStyle.{BlockStyle}
+use Rattle.saphyr_scalar.specs.declared.values.BlockStyle.{BlockStyle}
 use Rattle.saphyr_scalar.specs.declared.scalar.position.Marker.{Marker}
 use Rattle.saphyr_scalar.specs.Views.Cursor.{Cursor, along, next_line}
 use Rattle.saphyr_scalar.specs.Steps.Block.{line_cursor, break_before, LinesRead, lines_behind_text, between, tail, is_unfinished, is_indentation, line_starts, lines_ended, line}
 use Rattle.saphyr_scalar.specs.Reading.BlockLines.{spaces}
 use Rattle.saphyr_scalar.proofs.Block.Values.{cut_tail, same_break}
 use Rattle.scalar_laws.specs.Spelling.Block.{IsContent, AreLines, no_lines, empty, content, last, last_empty, left_of, IsBehind}
-use Rattle.saphyr_values.specs.declared.block.Chomping.{Chomping}
-use Rattle.saphyr_values.specs.declared.block.Chomping.TheVariants.{Strip, Clip, Keep}
-use Rattle.saphyr_values.specs.Block as reading
-use Rattle.saphyr_values.specs.Block.{Line, is_more_indented, contents_behind, empty_at_end}
+use Rattle.saphyr_scalar.specs.declared.values.Chomping.{Chomping}
+use Rattle.saphyr_scalar.specs.declared.values.Chomping.TheVariants.{Strip, Clip, Keep}
+use Rattle.saphyr_scalar.specs.Values.Block as reading
+use Rattle.saphyr_scalar.specs.Values.Block.{Line, is_more_indented, contents_behind, empty_at_end}
 use Rattle.saphyr_input.specs.Places.{is_document_indicator}
 use Rattle.saphyr_scalar.specs.Spelling.Tag.{AreIn}
 use Rattle.saphyr_scalar.proofs.Moving.{along_none, along_more}

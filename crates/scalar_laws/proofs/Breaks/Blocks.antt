@@ -3,9 +3,9 @@ use Rattle.std.proofs.Common.{◌≡◌, ℕ, ◌+◌, Bool, true, false, List, 
 use Rattle.std.specs.Prelude.{◌&&◌, ◌==◌, nat_lt, not, Option, Some, None, unwrap_or}
 use Rattle.saphyr_input.specs.Classes.{is_breakz, is_blank, is_z, is_digit, is_yaml_non_break, tab, space}
 use Rattle.saphyr_input.specs.declared.input.SkipTabs.TheVariants as skip
-use Rattle.saphyr_values.specs.declared.block.BlockStyle.{BlockStyle}
-use Rattle.saphyr_values.specs.declared.block.Chomping.{Chomping}
-use Rattle.saphyr_values.specs.declared.block.Chomping.TheVariants.{Strip, Clip, Keep}
+use Rattle.saphyr_scalar.specs.declared.values.BlockStyle.{BlockStyle}
+use Rattle.saphyr_scalar.specs.declared.values.Chomping.{Chomping}
+use Rattle.saphyr_scalar.specs.declared.values.Chomping.TheVariants.{Strip, Clip, Keep}
 use Rattle.saphyr_scalar.specs.declared.scalar.position.Marker.{Marker}
 use Rattle.saphyr_scalar.specs.Steps.Block.{BlockHeaderRead, EmptyLinesRead, chomping, indicator, header_break, header_end, last_chomping, header_behind, header, is_indentation, inside_break, with_empty_line, pass_empty_lines, line_starts, break_before, LinesRead, lines_behind_text, between, line, is_unfinished, tail_alone, given_indentation, chomped_lines, content, behind_leading_lines, no_lines, behind_header, block_scalar}
 use Rattle.saphyr_scalar.specs.Views.Cursor.{Cursor, along, next_line, pass_break}

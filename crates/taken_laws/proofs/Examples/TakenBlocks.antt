@@ -1,11 +1,11 @@
 -- The tokens of small texts with block scalars are taken from them.
 use Rattle.std.proofs.Common.{ℕ, true, false, List, ◌∷◌, ◌++◌, [], refl, inl, inr, arith, codes}
 use lib.Utf8.{encode}
-use Rattle.saphyr_values.specs.declared.block.Chomping.TheVariants.{Strip, Clip}
+use Rattle.saphyr_scalar.specs.declared.values.Chomping.TheVariants.{Strip, Clip}
 use Rattle.saphyr_scalar.specs.Passing as passing
 use Rattle.saphyr_scalar.specs.Reading.BlockText.{AreIndicators, EndsHeader, IsHeaderLine, AreInside}
 use Rattle.saphyr_scalar.specs.Spelling.Directive.{IsLineTail}
-use Rattle.saphyr_values.specs.declared.block.Chomping.{Chomping}
+use Rattle.saphyr_scalar.specs.declared.values.Chomping.{Chomping}
 use Rattle.saphyr_scanner.specs.Grammar.Forest.{Literal, Folded}
 use Rattle.saphyr_scanner.specs.Grammar.Tokens as tokens
 use Rattle.saphyr_scanner.specs.TokensTaken.{AreTakenFrom}

@@ -7,7 +7,7 @@ use lib.Utf8.{encode}
 use Rattle.saphyr_input.specs.Classes.{is_blank, is_break}
 use Rattle.saphyr_input.specs.Breaks.{normalized}
 use Rattle.saphyr_scalar.specs.declared.scalar.position.Marker.{Marker}
-use Rattle.saphyr_values.specs.Flow.{plain_value}
+use Rattle.saphyr_scalar.specs.Values.Flow.{plain_value}
 use Rattle.scalar_laws.proofs.Beginnings.{heads, tails}
 use Rattle.saphyr_scanner.specs.TokensTaken.{IsPassedOver, nothing, blank, line_break, comment, AreTakenFrom, IsPlaceOf}
 use Rattle.taken_laws.specs.Examples.TakenTexts as texts

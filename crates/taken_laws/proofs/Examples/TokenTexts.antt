@@ -6,10 +6,10 @@ use Rattle.saphyr_input.specs.Indicators.{ampersand, apostrophe, asterisk, colon
 use Rattle.saphyr_input.specs.Breaks.{normalized}
 use Rattle.saphyr_input.specs.Classes.{is_break, is_breakz, is_blank_or_breakz, is_anchor_char, is_flow, is_one_of, line_feed, space}
 use Rattle.saphyr_input.specs.Places.{is_blank_or_break, is_document_indicator, is_document_start, is_document_end}
-use Rattle.saphyr_values.specs.declared.flow.Quote.{Quote}
-use Rattle.saphyr_values.specs.declared.flow.Quote.TheVariants.{Single, Double}
-use Rattle.saphyr_values.specs.Flow.{mark, raw_item, plain_value}
-use Rattle.saphyr_values.specs.Folding.{folded}
+use Rattle.saphyr_scalar.specs.declared.values.Quote.{Quote}
+use Rattle.saphyr_scalar.specs.declared.values.Quote.TheVariants.{Single, Double}
+use Rattle.saphyr_scalar.specs.Values.Flow.{mark, raw_item, plain_value}
+use Rattle.saphyr_scalar.specs.Values.Folding.{folded}
 use Rattle.saphyr_scalar.specs.declared.scalar.position.Marker.{Marker}
 use Rattle.saphyr_scalar.specs.declared.scalar.position.Span.{Span}
 use Rattle.saphyr_scalar.specs.Views.Cursor.{Cursor, along, next_line}

@@ -5,7 +5,7 @@ use Rattle.std.proofs.lemmas.List.{append_cancel_left}
 use Rattle.saphyr_input.specs.Breaks.{normalized}
 use Rattle.saphyr_input.specs.Classes.{is_yaml_non_break}
 use Rattle.saphyr_input.proofs.Basics.Booleans.{and_true_right}
-use Rattle.saphyr_values.specs.declared.block.BlockStyle.TheVariants as block_style
+use Rattle.saphyr_scalar.specs.declared.values.BlockStyle.TheVariants as block_style
 use Rattle.saphyr_scalar.specs.declared.scalar.position.Marker.{Marker}
 use Rattle.saphyr_scalar.specs.declared.scalar.position.Span.{Span}
 use Rattle.saphyr_scalar.specs.Reading.BlockLines.{spaces, IsReadLine, HasLines}

@@ -2,11 +2,11 @@
 use Rattle.std.proofs.Common.{◌≡◌, ℕ, ◌<◌, true, false, List, [], ◌∷◌, ◌++◌, length, drop, refl, sym, ap, ◌∙◌, arith, subst, codes}
 use Rattle.std.specs.Prelude.{IsTrue, slice_index}
 use Rattle.saphyr_input.specs.Classes.{is_break, line_feed}
-use Rattle.saphyr_values.specs.declared.folding.Item.{Item}
-use Rattle.saphyr_values.specs.declared.flow.Quote.{Quote}
-use Rattle.saphyr_values.specs.declared.flow.Quote.TheVariants.{Single, Double}
-use Rattle.saphyr_values.specs.Flow.{mark, raw_item}
-use Rattle.saphyr_values.specs.declared.folding.Item.TheVariants.{Break}
+use Rattle.saphyr_scalar.specs.declared.values.Item.{Item}
+use Rattle.saphyr_scalar.specs.declared.values.Quote.{Quote}
+use Rattle.saphyr_scalar.specs.declared.values.Quote.TheVariants.{Single, Double}
+use Rattle.saphyr_scalar.specs.Values.Flow.{mark, raw_item}
+use Rattle.saphyr_scalar.specs.declared.values.Item.TheVariants.{Break}
 use Rattle.saphyr_scalar.specs.declared.scalar.position.Marker.{Marker}
 use Rattle.saphyr_scalar.specs.Reading.Plain.{end_of_text}
 use Rattle.saphyr_scalar.specs.Spelling.IndentedQuotes.{HasIndentedLines}

@@ -5,8 +5,8 @@ use Rattle.saphyr_input.specs.Breaks.{normalized}
 use Rattle.saphyr_input.specs.Places.{is_blank_or_break}
 use Rattle.saphyr_scalar.specs.declared.scalar.position.Span.{Span}
 use Rattle.saphyr_scalar.specs.Views.Cursor.{Cursor}
-use Rattle.saphyr_values.specs.Flow.{plain_value}
-use Rattle.saphyr_values.specs.Folding.{folded}
+use Rattle.saphyr_scalar.specs.Values.Flow.{plain_value}
+use Rattle.saphyr_scalar.specs.Values.Folding.{folded}
 use Rattle.saphyr_scalar.proofs.Directives.LowBytes.{begins}
 use Rattle.saphyr_scalar.proofs.Plain.Runs.{items_of, folded_word}
 use Rattle.saphyr_scanner.specs.TokensTaken.{IsPlainToken}

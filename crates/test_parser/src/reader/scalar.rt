@@ -1,4 +1,4 @@
-//! The tests of the reader of scalars, of the values of their spellings, and of faults and places.
+//! The tests of the reader of scalars, and of faults and places.
 
 mod block;
 mod directive;
@@ -6,4 +6,3 @@ mod plain;
 mod printed;
 mod property;
 mod quoted;
-mod values;

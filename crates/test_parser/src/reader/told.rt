@@ -15,10 +15,10 @@ use crate::helpers::expect;
 use saphyr_input::StrInput;
 use saphyr_input::input::{Input, SkipTabs};
 use saphyr_scalar::scalar::TagParts;
+use saphyr_scalar::values::BlockStyle;
 use saphyr_scalar::{
     BlockScalar, Directive, DirectiveLine, Marker, PlainScalar, Reader, Refusal, Stop,
 };
-use saphyr_values::BlockStyle;
 use std::alloc::Global;
 use std::process::Abort;
 

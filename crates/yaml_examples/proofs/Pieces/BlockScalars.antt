@@ -3,10 +3,10 @@ use Rattle.std.proofs.Common.{◌≡◌, ◌≢◌, ℕ, zero, suc, ◌<◌, ◌
 use Rattle.std.proofs.lemmas.List.{append-nil, append_assoc}
 use Rattle.saphyr_input.specs.Indicators.{greater_than, vertical_bar}
 use Rattle.saphyr_input.specs.Classes.{is_one_of, is_z, line_feed, tab}
-use Rattle.saphyr_values.specs.declared.block.BlockStyle.TheVariants as block
-use Rattle.saphyr_values.specs.declared.block.Chomping.{Chomping}
-use Rattle.saphyr_values.specs.declared.block.Chomping.TheVariants.{Clip}
-use Rattle.saphyr_values.specs.Block.{Line, Content, lines_value}
+use Rattle.saphyr_scalar.specs.declared.values.BlockStyle.TheVariants as block
+use Rattle.saphyr_scalar.specs.declared.values.Chomping.{Chomping}
+use Rattle.saphyr_scalar.specs.declared.values.Chomping.TheVariants.{Clip}
+use Rattle.saphyr_scalar.specs.Values.Block.{Line, Content, lines_value}
 use Rattle.saphyr_scalar.specs.Reading.BlockLines.{spaces}
 use Rattle.scalar_laws.specs.Spelling.Block.{no_digit, clip, no_comment, IsBehind, digit_first, first, no_lines, found, IsBlockScalar}
 use Rattle.scalar_laws.specs.Spelling.Spaces.{IsNextLine}

@@ -4,7 +4,7 @@ use Rattle.std.specs.List.{list_all}
 use Rattle.std.proofs.lemmas.List.{append-nil}
 use Rattle.saphyr_input.specs.Indicators.{colon, left_brace, left_bracket, question_mark, number_sign}
 use Rattle.saphyr_input.specs.Classes.{line_feed, space}
-use Rattle.saphyr_values.specs.Flow.{plain_value}
+use Rattle.saphyr_scalar.specs.Values.Flow.{plain_value}
 use Rattle.scalar_laws.specs.Spelling.Plain.{is_word_ink}
 use Rattle.saphyr_scanner.specs.Grammar.Forest.{no_properties, Node, Seq, Map, Nodes, NoNode, MoreNodes, Pairs, NoPair, MorePairs, left_out}
 use Rattle.saphyr_scanner.specs.Examples.Forests.{plain_node}

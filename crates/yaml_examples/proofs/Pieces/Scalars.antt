@@ -1,10 +1,10 @@
 -- Nodes in flow style that are no collections: aliases, properties and scalars.
 use Rattle.std.proofs.Common.{◌≡◌, ◌≢◌, ℕ, ◌<◌, ◌≤◌, Bool, true, false, not, ◌==◌, List, [], ◌∷◌, ◌++◌, Some, None, inl, inr, refl, sym, arith, codes, ap, IsTrue}
 use Rattle.std.specs.List.{list_all}
-use Rattle.saphyr_values.specs.declared.folding.Item.{Item}
-use Rattle.saphyr_values.specs.declared.flow.Quote.TheVariants.{Single, Double}
-use Rattle.saphyr_values.specs.Folding.{folded}
-use Rattle.saphyr_values.specs.Flow.{raw_item, plain_value}
+use Rattle.saphyr_scalar.specs.declared.values.Item.{Item}
+use Rattle.saphyr_scalar.specs.declared.values.Quote.TheVariants.{Single, Double}
+use Rattle.saphyr_scalar.specs.Values.Folding.{folded}
+use Rattle.saphyr_scalar.specs.Values.Flow.{raw_item, plain_value}
 use Rattle.std.proofs.lemmas.List.{append-nil}
 use Rattle.saphyr_input.specs.Indicators.{apostrophe, quotation_mark}
 use Rattle.saphyr_input.specs.Classes.{is_blank, is_anchor_char, is_tag_char, is_uri_char, line_feed}

@@ -1,7 +1,7 @@
 use Rattle.std.proofs.Common.{◌∷◌, [], true, false, not, inl, inr, refl, arith, codes, ap}
 use Rattle.std.proofs.lemmas.Bool.{false≢true}
-use Rattle.saphyr_values.specs.declared.block.Chomping.TheVariants.{Strip, Clip, Keep}
-use Rattle.saphyr_values.specs.Block.{Empty, Content}
+use Rattle.saphyr_scalar.specs.declared.values.Chomping.TheVariants.{Strip, Clip, Keep}
+use Rattle.saphyr_scalar.specs.Values.Block.{Empty, Content}
 use Rattle.scalar_laws.specs.Spelling.Block.{digit, strip, no_comment, comment, no_lines, empty, content, first, digit_first, chomping_first, given, no_digit, clip, keep, found, last_empty, no_empty_lines, empty_line, empty_lines, no_comment_at_end}
 use Rattle.scalar_laws.specs.Spelling.Spaces.{IsLastFiller}
 use Rattle.saphyr_scanner.specs.Limits.{most_open}

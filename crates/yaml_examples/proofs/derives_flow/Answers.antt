@@ -1,8 +1,8 @@
 use Rattle.std.proofs.Common.{◌∷◌, [], inl, inr, refl, arith, codes}
 use Rattle.saphyr_input.specs.Indicators.{apostrophe}
 use Rattle.saphyr_input.specs.Classes.{space}
-use Rattle.saphyr_values.specs.declared.folding.Item.TheVariants.{Blank, Raw, Break}
-use Rattle.saphyr_values.specs.declared.flow.Quote.TheVariants.{Single, Double}
+use Rattle.saphyr_scalar.specs.declared.values.Item.TheVariants.{Blank, Raw, Break}
+use Rattle.saphyr_scalar.specs.declared.values.Quote.TheVariants.{Single, Double}
 use Rattle.saphyr_scalar.specs.Spelling.Quoted.{IsText, closed, itself, broken, two_quotes}
 use Rattle.scalar_laws.specs.Spelling.QuotedLines.{IsLine}
 use Rattle.saphyr_scanner.specs.Limits.{most_open}

@@ -1,8 +1,8 @@
 use Rattle.std.proofs.Common.{◌∷◌, [], false, inl, inr, refl, arith, codes, ap}
 use Rattle.std.proofs.lemmas.Bool.{false≢true}
 use lib.Utf8.{encode}
-use Rattle.saphyr_values.specs.declared.block.Chomping.TheVariants.{Keep}
-use Rattle.saphyr_values.specs.Block.{Empty, Content}
+use Rattle.saphyr_scalar.specs.declared.values.Chomping.TheVariants.{Keep}
+use Rattle.saphyr_scalar.specs.Values.Block.{Empty, Content}
 use Rattle.scalar_laws.specs.Spelling.Block.{no_digit, keep, no_comment, no_lines, empty, first, digit_first, found}
 use Rattle.saphyr_scanner.specs.Limits.{most_open}
 use Rattle.yaml_examples.proofs.Pieces.Spaces.{feed, text_end, feed_behind, blanks, comment, blank_line, comment_line, no_filler, filler, last_filler_line, no_more, tight, lines_apart, no_gap, space, lines_down}

@@ -22,7 +22,7 @@ use Rattle.yaml_laws.proofs.Breaks.Places.{even_here, choose, both_choose}
 use Rattle.yaml_laws.proofs.Breaks.States.{SamePlaces, SameQueues, States, holding, same_act, same_next, SameSteps, unroll_same, after_step_same, on_core_same}
 use Rattle.saphyr_input.specs.Classes.{is_break, is_z, is_bom, is_flow, is_blank_or_breakz}
 use Rattle.saphyr_input.specs.Places.{is_document_start, is_document_end}
-use Rattle.saphyr_values.specs.declared.block.BlockStyle.TheVariants as block_style
+use Rattle.saphyr_scalar.specs.declared.values.BlockStyle.TheVariants as block_style
 use Rattle.saphyr_scalar.specs.Views.Cursor.{◌>>=◌}
 use Rattle.scalar_laws.proofs.Breaks.Results.{both_then}
 use Rattle.saphyr_scanner.specs.declared.engine.level.Context.TheVariants as context

@@ -5,13 +5,13 @@ use Rattle.std.proofs.lemmas.Bool.Decides.{nat_tests}
 use Rattle.saphyr_input.specs.Classes.{is_blank_or_breakz}
 use Rattle.saphyr_input.specs.Indicators.{apostrophe, colon}
 use Rattle.saphyr_scalar.specs.declared.scalar.position.Marker.{Marker}
-use Rattle.saphyr_values.specs.declared.flow.Quote.{Quote}
-use Rattle.saphyr_values.specs.declared.flow.Quote.TheVariants.{Single, Double}
+use Rattle.saphyr_scalar.specs.declared.values.Quote.{Quote}
+use Rattle.saphyr_scalar.specs.declared.values.Quote.TheVariants.{Single, Double}
 use Rattle.scalar_laws.specs.Spelling.Spaces.{IsSeparation}
 use Rattle.saphyr_scanner.specs.Grammar.Tokens.{scalar_token}
 use Rattle.saphyr_scanner.specs.Steps.Level.{is_block}
 use Rattle.saphyr_scanner.specs.Grammar.Forest.{Style, Plain, SingleQuoted, DoubleQuoted, Literal, Folded, Properties, Node, Scalar}
-use Rattle.saphyr_values.specs.Flow.{plain_value}
+use Rattle.saphyr_scalar.specs.Values.Flow.{plain_value}
 use Rattle.yaml_laws.specs.Grammar.FlowScalars.{IsPlainKey, IsQuoted, IsFlowScalar}
 use Rattle.scalar_laws.specs.Spelling.Plain.{is_tabbed, past_white, EndsPlain}
 use Rattle.saphyr_scanner.specs.declared.engine.level.Context.{Context}

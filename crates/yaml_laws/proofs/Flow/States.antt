@@ -18,14 +18,14 @@ use Rattle.saphyr_scalar.specs.Steps.Quoted.{mid_line}
 use Rattle.saphyr_scalar.specs.Spelling.Quoted.{IsQuotedText}
 use Rattle.scalar_laws.specs.Spelling.Plain.{IsPlainText, is_tabbed, past_white}
 use Rattle.scalar_laws.specs.Spelling.QuotedLines.{LinesFit}
-use Rattle.saphyr_values.specs.Flow.{plain_value}
-use Rattle.saphyr_values.specs.Folding.{folded}
+use Rattle.saphyr_scalar.specs.Values.Flow.{plain_value}
+use Rattle.saphyr_scalar.specs.Values.Folding.{folded}
 use Rattle.saphyr_scalar.specs.Passing.{IsPassed}
 use Rattle.saphyr_scalar.specs.Steps.Directive as directives
 use Rattle.saphyr_scalar.specs.Spelling.Directive as spelling
 use Rattle.saphyr_scalar.specs.Spelling.Directive.{ReadDirective, IsDirectiveText, IsReservedDirective, IsLineTail}
-use Rattle.saphyr_values.specs.declared.folding.Item.{Item}
-use Rattle.saphyr_values.specs.declared.flow.Quote.{Quote}
+use Rattle.saphyr_scalar.specs.declared.values.Item.{Item}
+use Rattle.saphyr_scalar.specs.declared.values.Quote.{Quote}
 use Rattle.saphyr_scalar.specs.Spelling.Tag.{AreIn, IsAnchorName, IsTagText, EndsTag}
 use Rattle.scalar_laws.specs.Spelling.Spaces.{IsSeparation, IsLineRest}
 use Rattle.saphyr_scanner.specs.declared.engine.level.Context.{Context}

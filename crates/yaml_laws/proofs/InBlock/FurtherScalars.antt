@@ -3,12 +3,12 @@ use Rattle.std.proofs.Common.{◌≡◌, ℕ, zero, suc, Bool, true, false, List
 use Rattle.saphyr_input.specs.Classes.{is_z, is_yaml_non_break, line_feed, is_bom}
 use Rattle.saphyr_input.specs.Places.{is_document_indicator}
 use Rattle.saphyr_scalar.specs.Reading.BlockLines.{spaces}
-use Rattle.saphyr_values.specs.Block.{Line}
+use Rattle.saphyr_scalar.specs.Values.Block.{Line}
 use Rattle.scalar_laws.specs.Spelling.Block as spelling
 use Rattle.scalar_laws.specs.Spelling.Block.{IsIndicator, no_digit, digit, IsChomping, strip, clip, keep, no_comment, comment, no_comment_at_end, comment_at_end, IsContent, AreLines, no_lines, empty, content, last, last_empty, left_of, IsBody, leading, first, first_and_last, AreEmptyLines, no_empty_lines, empty_line, empty_line_and_spaces, IsEmptyBody, empty_lines, spaces_alone, IsHeader, digit_first, chomping_first, IsBehind, IsBlockScalar}
-use Rattle.saphyr_values.specs.declared.block.BlockStyle.{BlockStyle}
-use Rattle.saphyr_values.specs.declared.block.BlockStyle.TheVariants as block
-use Rattle.saphyr_values.specs.declared.block.Chomping.{Chomping}
+use Rattle.saphyr_scalar.specs.declared.values.BlockStyle.{BlockStyle}
+use Rattle.saphyr_scalar.specs.declared.values.BlockStyle.TheVariants as block
+use Rattle.saphyr_scalar.specs.declared.values.Chomping.{Chomping}
 use Rattle.saphyr_scanner.specs.Grammar.Forest.{Style, Literal, Folded, Plain, SingleQuoted, DoubleQuoted}
 use Rattle.yaml_laws.specs.Grammar.BlockNodes.{IsBehindScalar, IsBlockScalarText, IsStyled, EndsContent}
 use Rattle.yaml_laws.proofs.InBlock.LineStarts.{fed_marker}

@@ -5,13 +5,13 @@ use Rattle.std.proofs.lemmas.Bool.{false≢true}
 use Rattle.scalar_laws.proofs.Breaks.Sides.{no_feed}
 use Rattle.std.proofs.lemmas.Bool.Decides.{nat_tests}
 use Rattle.saphyr_input.specs.Classes.{is_break, is_hex, space, line_feed, carriage_return}
-use Rattle.saphyr_values.proofs.ItemsRead.{short_escape_no_feed}
+use Rattle.saphyr_scalar.proofs.Readings.ItemsRead.{short_escape_no_feed}
 use Rattle.saphyr_scalar.specs.declared.scalar.position.Marker.{Marker}
-use Rattle.saphyr_values.specs.declared.folding.Item.{Item}
-use Rattle.saphyr_values.specs.declared.flow.Quote.{Quote}
-use Rattle.saphyr_values.specs.declared.flow.Quote.TheVariants.{Single, Double}
+use Rattle.saphyr_scalar.specs.declared.values.Item.{Item}
+use Rattle.saphyr_scalar.specs.declared.values.Quote.{Quote}
+use Rattle.saphyr_scalar.specs.declared.values.Quote.TheVariants.{Single, Double}
 use Rattle.saphyr_scalar.specs.Views.Cursor.{along, next_line}
-use Rattle.saphyr_values.specs.Flow.{mark, backslash, apostrophe}
+use Rattle.saphyr_scalar.specs.Values.Flow.{mark, backslash, apostrophe}
 use Rattle.saphyr_scalar.specs.Spelling.OneLine.{IsNumber}
 use Rattle.saphyr_scalar.specs.Steps.Quoted.{break_len}
 use Rattle.saphyr_scalar.specs.Spelling.Quoted.{stands_for_itself, IsText, closed, itself, broken, two_quotes, escaped, numbered, escaped_break}

@@ -6,10 +6,10 @@ use Rattle.std.specs.List.{list_all}
 use Rattle.saphyr_input.specs.Classes.{is_alpha, is_blank, is_bom, is_break, is_blank_or_breakz, tab, space, line_feed}
 use Rattle.saphyr_input.specs.Places.{is_document_indicator}
 use Rattle.saphyr_input.specs.Indicators.{colon, number_sign}
-use Rattle.saphyr_values.specs.declared.block.BlockStyle.{BlockStyle}
-use Rattle.saphyr_values.specs.declared.block.BlockStyle.TheVariants as block
-use Rattle.saphyr_values.specs.declared.block.Chomping.{Chomping}
-use Rattle.saphyr_values.specs.Block.{Line, lines_value}
+use Rattle.saphyr_scalar.specs.declared.values.BlockStyle.{BlockStyle}
+use Rattle.saphyr_scalar.specs.declared.values.BlockStyle.TheVariants as block
+use Rattle.saphyr_scalar.specs.declared.values.Chomping.{Chomping}
+use Rattle.saphyr_scalar.specs.Values.Block.{Line, lines_value}
 use Rattle.saphyr_scalar.specs.Reading.BlockLines.{spaces}
 use Rattle.saphyr_scalar.specs.Spelling.Tag.{AreIn}
 use Rattle.scalar_laws.specs.Spelling.Block.{IsBlockScalar}

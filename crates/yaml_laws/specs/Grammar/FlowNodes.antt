@@ -9,7 +9,7 @@ use Rattle.saphyr_scalar.specs.Spelling.Tag.{AreIn, IsAnchorName}
 use Rattle.scalar_laws.specs.Spelling.Spaces.{IsGap, IsSeparation}
 use Rattle.saphyr_scanner.specs.Grammar.Forest.{Style, Plain, SingleQuoted, DoubleQuoted, Tag, Properties, no_properties, Node, Alias, Scalar, Seq, Map, Nodes, NoNode, MoreNodes, Pairs, NoPair, MorePairs, left_out}
 use Rattle.yaml_laws.specs.Grammar.TagSpelling.{IsTag}
-use Rattle.saphyr_values.specs.Flow.{plain_value}
+use Rattle.saphyr_scalar.specs.Values.Flow.{plain_value}
 use Rattle.yaml_laws.specs.Grammar.FlowScalars.{IsPlainKey, IsFlowScalar}
 
 -- ## Properties and aliases

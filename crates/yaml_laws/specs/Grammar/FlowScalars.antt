@@ -3,11 +3,11 @@
 use Rattle.std.specs.Prelude.{◌≡◌, ◌≢◌, ℕ, Bool, not, ◌⊎◌, List, [], ◌∷◌, ◌++◌, slice_index, IsTrue, codes}
 use Rattle.saphyr_input.specs.Classes.{is_one_of, is_blank}
 use Rattle.saphyr_input.specs.Indicators.{number_sign}
-use Rattle.saphyr_values.specs.declared.folding.Item.{Item}
-use Rattle.saphyr_values.specs.declared.flow.Quote.{Quote}
-use Rattle.saphyr_values.specs.declared.flow.Quote.TheVariants.{Single, Double}
-use Rattle.saphyr_values.specs.Folding.{folded}
-use Rattle.saphyr_values.specs.Flow.{mark, plain_value}
+use Rattle.saphyr_scalar.specs.declared.values.Item.{Item}
+use Rattle.saphyr_scalar.specs.declared.values.Quote.{Quote}
+use Rattle.saphyr_scalar.specs.declared.values.Quote.TheVariants.{Single, Double}
+use Rattle.saphyr_scalar.specs.Values.Folding.{folded}
+use Rattle.saphyr_scalar.specs.Values.Flow.{mark, plain_value}
 use Rattle.saphyr_scalar.specs.Spelling.Quoted.{IsText}
 use Rattle.saphyr_scalar.specs.Spelling.Tag.{AreIn}
 use Rattle.scalar_laws.specs.Spelling.Plain.{is_word_ink, IsWordIn}

@@ -3,7 +3,7 @@ use Rattle.std.proofs.Common.{◌≡◌, ◌⊎◌, ℕ, ◌+◌, Bool, true, fa
 use Rattle.std.specs.Prelude.{◌||◌, ◌&&◌, ◌==◌, not, Option, Some, IsTrue, IsFalse}
 use Rattle.saphyr_input.specs.Classes.{is_blank, is_break, is_yaml_non_break, line_feed, space}
 use Rattle.saphyr_input.specs.Places.{is_document_indicator}
-use Rattle.saphyr_values.specs.declared.block.BlockStyle.{BlockStyle}
+use Rattle.saphyr_scalar.specs.declared.values.BlockStyle.{BlockStyle}
 use Rattle.saphyr_scalar.specs.declared.scalar.block.lines.EmptyLines.{EmptyLines}
 use Rattle.saphyr_scalar.specs.declared.scalar.position.Marker.{Marker}
 use Rattle.saphyr_scalar.specs.Steps.Block.{is_indentation, is_cr_lf, inside_break, with_empty_line, pass_empty_lines, line_starts, LinesRead, between, line}

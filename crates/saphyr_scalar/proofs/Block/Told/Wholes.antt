@@ -6,19 +6,19 @@ use Rattle.std.proofs.lemmas.List.{append-nil, append_cancel_right}
 use Rattle.saphyr_input.specs.Breaks.{normalized}
 use Rattle.saphyr_input.specs.Classes.{is_break, is_yaml_non_break, is_z, line_feed, space}
 use Rattle.saphyr_input.specs.Places.{is_document_indicator}
-use Rattle.saphyr_values.specs.declared.block.BlockStyle.{BlockStyle}
-use Rattle.saphyr_values.specs.declared.block.Chomping.{Chomping}
+use Rattle.saphyr_scalar.specs.declared.values.BlockStyle.{BlockStyle}
+use Rattle.saphyr_scalar.specs.declared.values.Chomping.{Chomping}
 use Rattle.saphyr_scalar.specs.declared.scalar.block.header.BlockHeader.{BlockHeader}
 use Rattle.saphyr_scalar.specs.declared.scalar.block.lines.EmptyLines.{EmptyLines}
 use Rattle.saphyr_scalar.specs.declared.scalar.position.Marker.{Marker}
 use Rattle.saphyr_scalar.specs.declared.scalar.position.Span.{Span}
 use Rattle.saphyr_scalar.specs.Steps.BlockRead as step
 use Rattle.saphyr_scalar.specs.Steps.BlockRead.{indentation_of}
-use Rattle.saphyr_values.specs.Block.{Line, Empty, has_content, line_of, lines_of}
+use Rattle.saphyr_scalar.specs.Values.Block.{Line, Empty, has_content, line_of, lines_of}
 use Rattle.saphyr_scalar.specs.Steps.Block.{line_starts, pass_empty_lines_at, no_lines, given_indentation, chomped_lines, content, behind_leading_lines, behind_header, block_scalar, header}
 use Rattle.saphyr_scalar.specs.Reading.BlockText.{AreInside, AreNotWider, HasNoContent, IsIndentationFrom, IsBehindLines, IsBlockText, IsHeaderLine}
 use Rattle.saphyr_scalar.specs.Views.Cursor.{Cursor}
-use Rattle.saphyr_values.specs.Lines.{ended_lines, last_line}
+use Rattle.saphyr_scalar.specs.Values.Lines.{ended_lines, last_line}
 use Rattle.saphyr_scalar.specs.Passing as passing
 use Rattle.saphyr_scalar.specs.Passing.{IsPassed}
 use Rattle.saphyr_scalar.proofs.Block.Law.{Behind, Led, Read, led, nothing_led, behind_begun, behind_cut}

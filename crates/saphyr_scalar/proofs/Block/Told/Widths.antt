@@ -8,7 +8,7 @@ use Rattle.saphyr_input.specs.Classes.{is_break, is_z, line_feed, space}
 use Rattle.saphyr_scalar.specs.declared.scalar.block.lines.EmptyLines.{EmptyLines}
 use Rattle.saphyr_scalar.specs.declared.scalar.position.Marker.{Marker}
 use Rattle.saphyr_scalar.specs.Steps.Block.{line_cursor, is_cr_lf, inside_break, with_column, with_empty_line, pass_empty_lines, pass_empty_lines_at, no_lines, given_indentation}
-use Rattle.saphyr_values.specs.Lines.{last_line}
+use Rattle.saphyr_scalar.specs.Values.Lines.{last_line}
 use Rattle.saphyr_scalar.specs.Reading.BlockText.{all_lines, widest, is_space_or_break, AreNotWider, IsIndentationFrom}
 use Rattle.saphyr_scalar.specs.Views.Cursor.{Cursor, along, next_line}
 use Rattle.saphyr_scalar.specs.Spelling.Tag.{AreIn}

@@ -3,9 +3,9 @@
 
 ghost use Rattle.std.specs.Prelude.{◌≡◌, ◌+◌, ◌++◌, string_bytes, OnOk, encode_utf8_all};
 ghost use Rattle.saphyr_scalar.specs.Steps.Block as spec;
-ghost use Rattle.saphyr_values.specs.Folding.{line_feeds};
+ghost use Rattle.saphyr_scalar.specs.Values.Folding.{line_feeds};
 
-use saphyr_values::{BlockStyle, Chomping};
+use crate::values::{BlockStyle, Chomping};
 use std::alloc::AllocError;
 
 // What follows the last content: whether a break ends its line, and the empty lines.

@@ -6,9 +6,9 @@ ghost use Rattle.saphyr_scalar.specs.Steps.Block as spec;
 use crate::scalar::fault::{FaultText, Refusal};
 use crate::scalar::position::Marker;
 use crate::scalar::reader::Reader;
+use crate::values::Chomping;
 use saphyr_input::char_traits::{is_breakz, is_digit};
 use saphyr_input::input::{Input, SkipTabs};
-use saphyr_values::Chomping;
 
 // What a header says. The indentation indicator is 0 if there is none.
 #[derive(Clone, Copy)]

@@ -7,7 +7,7 @@ ghost use Rattle.saphyr_scalar.specs.Steps.Block.{block_scalar};
 ghost use Rattle.saphyr_scalar.specs.Reading.BlockText.{IsBlockText};
 
 use crate::scalar::position::Span;
-use saphyr_values::BlockStyle;
+use crate::values::BlockStyle;
 
 /// What is read as a block scalar is one: a header's line and lines whose value is its text. No
 /// content comes before its span.

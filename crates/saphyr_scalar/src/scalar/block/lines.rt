@@ -8,10 +8,10 @@ ghost use Rattle.saphyr_scalar.specs.Steps.Block as spec;
 use crate::scalar::block::breaks::{BlockEnd, push_break_before};
 use crate::scalar::fault::Stop;
 use crate::scalar::reader::Reader;
+use crate::values::BlockStyle;
 use saphyr_input::char_set::NonBreak;
 use saphyr_input::char_traits::{is_break, is_yaml_non_break};
 use saphyr_input::input::Input;
-use saphyr_values::BlockStyle;
 
 // Lines with only spaces: how many breaks end them, and the column that the longest reaches.
 #[derive(Clone, Copy)]

@@ -6,16 +6,16 @@ ghost use Rattle.saphyr_input.specs.Classes as class;
 ghost use Rattle.saphyr_input.specs.Indicators.{backslash, full_stop};
 ghost use Rattle.saphyr_scalar.specs.Steps.Quoted as spec;
 ghost use Rattle.saphyr_scalar.specs.Views.Cursor.{pass, pass_break};
-ghost use Rattle.saphyr_values.specs.Flow as flow;
-ghost use Rattle.saphyr_values.specs.declared.flow.Quote.TheVariants.{Double};
+ghost use Rattle.saphyr_scalar.specs.Values.Flow as flow;
+ghost use Rattle.saphyr_scalar.specs.declared.values.Quote.TheVariants.{Double};
 
 use crate::scalar::block::push_line_feeds;
 use crate::scalar::fault::{FaultText, Refusal, Stop};
 use crate::scalar::position::Marker;
 use crate::scalar::reader::Reader;
+use crate::values::Quote;
 use saphyr_input::char_traits::{is_blank, is_break, is_z};
 use saphyr_input::input::Input;
-use saphyr_values::Quote;
 use std::alloc::AllocError;
 
 // Appends what a line break and the empty lines after it read as to a text.

@@ -7,16 +7,16 @@ ghost use Rattle.saphyr_input.specs.Indicators.{backslash};
 ghost use Rattle.saphyr_scalar.specs.Steps.Quoted as spec;
 ghost use Rattle.saphyr_scalar.specs.Steps.Sets as sets;
 ghost use Rattle.saphyr_scalar.specs.Views.Cursor.{Cursor};
-ghost use Rattle.saphyr_values.specs.declared.flow.Quote.TheVariants.{Single, Double};
+ghost use Rattle.saphyr_scalar.specs.declared.values.Quote.TheVariants.{Single, Double};
 
 use crate::scalar::byte_sets::{is_in_double, is_in_single};
 use crate::scalar::fault::{FaultText, Refusal, Stop};
 use crate::scalar::position::Marker;
 use crate::scalar::reader::Reader;
+use crate::values::{Quote, short_escape};
 use saphyr_input::char_set::{CharSet, SpacedSet};
 use saphyr_input::char_traits::{is_blank_or_breakz, is_break};
 use saphyr_input::input::Input;
-use saphyr_values::{Quote, short_escape};
 use std::alloc::AllocError;
 
 // Whether a character between the quotes stands for itself and is no blank.

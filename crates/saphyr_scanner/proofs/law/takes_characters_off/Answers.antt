@@ -1,4 +1,4 @@
-use Rattle.saphyr_values.specs.declared.flow.Quote.TheVariants.{Single, Double}
+use Rattle.saphyr_scalar.specs.declared.values.Quote.TheVariants.{Single, Double}
 use Rattle.saphyr_scanner.proofs.law.takes_characters_off.Goals as goal
 
 pub returns : goal.returns

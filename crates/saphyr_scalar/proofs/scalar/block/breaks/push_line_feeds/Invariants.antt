@@ -1,5 +1,5 @@
 use Rattle.std.proofs.Common.{◌≡◌, ◌++◌, string_bytes, encode_utf8_all}
-use Rattle.saphyr_values.specs.Folding.{line_feeds}
+use Rattle.saphyr_scalar.specs.Values.Folding.{line_feeds}
 use Rattle.saphyr_scalar.proofs.scalar.block.breaks.push_line_feeds.Given as goal
 
 abbrev pub invariant-loop : goal.invariant-loop

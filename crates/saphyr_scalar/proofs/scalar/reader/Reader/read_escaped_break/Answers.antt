@@ -1,6 +1,6 @@
 use Rattle.std.proofs.Common.{◌≡◌, slice_index, string_bytes, sym, ap, ◌∙◌}
 use Rattle.saphyr_scalar.specs.Views.Cursor.{Cursor}
-use Rattle.saphyr_values.specs.Flow as flow
+use Rattle.saphyr_scalar.specs.Values.Flow as flow
 use Rattle.saphyr_scalar.specs.Views.Reader.{cursor_of}
 use Rattle.saphyr_scalar.proofs.Quoted.Gaps.{behind_escaped, escaped_double, escaped_to_quote, escaped_to_line, reads_from}
 use Rattle.saphyr_scalar.proofs.scalar.reader.Reader.read_escaped_break.Goals as goal

@@ -1,7 +1,7 @@
 use Rattle.std.proofs.Common.{Ok, Err, sym, ap, ◌∙◌, string_bytes}
 use Rattle.saphyr_input.specs.Classes as class
 use Rattle.saphyr_input.specs.Places.{ascii_behind}
-use Rattle.saphyr_values.specs.declared.flow.Quote.TheVariants.{Double}
+use Rattle.saphyr_scalar.specs.declared.values.Quote.TheVariants.{Double}
 use Rattle.saphyr_scalar.specs.Steps.Quoted as spec
 use Rattle.saphyr_scalar.specs.Views.Cursor.{Cursor}
 use Rattle.saphyr_scalar.specs.Views.Reader.{cursor_of}

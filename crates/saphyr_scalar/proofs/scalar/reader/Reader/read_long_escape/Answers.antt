@@ -1,5 +1,5 @@
 use Rattle.std.proofs.Common.{sym, ap, ◌∙◌}
-use Rattle.saphyr_values.specs.Escapes.{digit_count}
+use Rattle.saphyr_scalar.specs.Values.Escapes.{digit_count}
 use Rattle.saphyr_scalar.specs.Views.Reader.{cursor_of}
 use Rattle.saphyr_scalar.proofs.Quoted.Escapes.{digits_left}
 use Rattle.saphyr_scalar.proofs.scalar.reader.Reader.read_long_escape.Goals as goal

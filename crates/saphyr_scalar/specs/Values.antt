@@ -1,6 +1,6 @@
-pub mod Block
+pub mod Folding
 pub mod Escapes
 pub mod Flow
-pub mod Folding
 pub mod Items
 pub mod Lines
+pub mod Block

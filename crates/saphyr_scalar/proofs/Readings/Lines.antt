@@ -5,8 +5,8 @@ use Rattle.std.specs.List.{prefix_len}
 use Rattle.std.proofs.lemmas.Bool.Decides.{nat_tests}
 use Rattle.std.proofs.lemmas.List.{map-append}
 use Rattle.saphyr_input.specs.Classes.{line_feed}
-use Rattle.saphyr_values.specs.Block.{line_of, lines_of}
-use Rattle.saphyr_values.specs.Lines.{before_first_line, ended_lines, last_line, has_break, HasNoBreak, IsFirstLine}
+use Rattle.saphyr_scalar.specs.Values.Block.{line_of, lines_of}
+use Rattle.saphyr_scalar.specs.Values.Lines.{before_first_line, ended_lines, last_line, has_break, HasNoBreak, IsFirstLine}
 
 -- how many characters come before the first break
 abbrev pub line_len : List ℕ → ℕ

@@ -2,14 +2,14 @@
 use Rattle.std.specs.Prelude.{ℕ, zero, suc, ◌+◌, Bool, true, false, nat_le, not, ◌&&◌, ◌||◌, ◌==◌, if◌then◌else◌, List, [], ◌∷◌, ◌++◌, map, drop, length, slice_index}
 use Rattle.std.specs.List.{list_all}
 use Rattle.saphyr_input.specs.Classes.{line_feed, space, is_blank}
-use Rattle.saphyr_values.specs.Folding.{line_feeds, raw_break}
-pub use Rattle.saphyr_values.specs.Lines.{ended_lines, last_line}
-use Rattle.saphyr_values.specs.declared.block.BlockStyle.{BlockStyle}
-use Rattle.saphyr_values.specs.declared.block.BlockStyle.TheVariants.{Literal, Folded}
-use Rattle.saphyr_values.specs.declared.block.Chomping.{Chomping}
-use Rattle.saphyr_values.specs.declared.block.Chomping.TheVariants.{Strip, Clip, Keep}
-use Rattle.saphyr_values.specs.declared.block.Ending.{Ending}
-use Rattle.saphyr_values.specs.declared.block.Ending.TheVariants.{AtEnd, AtMark}
+use Rattle.saphyr_scalar.specs.Values.Folding.{line_feeds, raw_break}
+pub use Rattle.saphyr_scalar.specs.Values.Lines.{ended_lines, last_line}
+use Rattle.saphyr_scalar.specs.declared.values.BlockStyle.{BlockStyle}
+use Rattle.saphyr_scalar.specs.declared.values.BlockStyle.TheVariants.{Literal, Folded}
+use Rattle.saphyr_scalar.specs.declared.values.Chomping.{Chomping}
+use Rattle.saphyr_scalar.specs.declared.values.Chomping.TheVariants.{Strip, Clip, Keep}
+use Rattle.saphyr_scalar.specs.declared.values.Ending.{Ending}
+use Rattle.saphyr_scalar.specs.declared.values.Ending.TheVariants.{AtEnd, AtMark}
 
 -- A line of a block scalar: empty, or content, which is told without its indentation. (A content line has that many
 -- spaces before it, or more.)

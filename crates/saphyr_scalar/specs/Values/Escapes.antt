@@ -1,8 +1,8 @@
 -- The escapes of double quoted scalars (YAML 1.2.2, 5.7).
 use Rattle.std.specs.Prelude.{ℕ, ◌+◌, ◌*◌, ◌<◌, ◌≤◌, ◌⊎◌, Bool, ◌||◌, ◌==◌, nat_lt, nat_le, if◌then◌else◌, Option, Some, None, option_map, option_and_then, List, [], ◌∷◌, length, take}
 use Rattle.saphyr_input.specs.Classes.{line_feed, is_from, is_hex, hex_value}
-use Rattle.saphyr_values.specs.declared.folding.Item.{Item}
-use Rattle.saphyr_values.specs.declared.folding.Item.TheVariants.{Escaped, EscapedBreak}
+use Rattle.saphyr_scalar.specs.declared.values.Item.{Item}
+use Rattle.saphyr_scalar.specs.declared.values.Item.TheVariants.{Escaped, EscapedBreak}
 
 -- what a character after a backslash stands for, where it is a whole escape
 unfoldable pub short_escape : ℕ → Option ℕ

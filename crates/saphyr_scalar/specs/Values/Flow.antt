@@ -2,12 +2,12 @@
 use Rattle.std.specs.Prelude.{ℕ, zero, suc, pred, ◌+◌, ◌==◌, Bool, false, ◌||◌, if◌then◌else◌, Option, Some, None, option_map, option_and_then, List, [], ◌∷◌, map, slice_index}
 use Rattle.saphyr_input.specs.Classes.{line_feed, is_blank}
 pub use Rattle.saphyr_input.specs.Indicators.{quotation_mark, apostrophe, backslash}
-use Rattle.saphyr_values.specs.Escapes.{escape}
-use Rattle.saphyr_values.specs.Folding.{folded}
-use Rattle.saphyr_values.specs.declared.folding.Item.{Item}
-use Rattle.saphyr_values.specs.declared.folding.Item.TheVariants.{Blank, Raw, Break}
-use Rattle.saphyr_values.specs.declared.flow.Quote.{Quote}
-use Rattle.saphyr_values.specs.declared.flow.Quote.TheVariants.{Single, Double}
+use Rattle.saphyr_scalar.specs.Values.Escapes.{escape}
+use Rattle.saphyr_scalar.specs.Values.Folding.{folded}
+use Rattle.saphyr_scalar.specs.declared.values.Item.{Item}
+use Rattle.saphyr_scalar.specs.declared.values.Item.TheVariants.{Blank, Raw, Break}
+use Rattle.saphyr_scalar.specs.declared.values.Quote.{Quote}
+use Rattle.saphyr_scalar.specs.declared.values.Quote.TheVariants.{Single, Double}
 
 -- a character that stands for itself
 abbrev pub raw_item : ℕ → Item

@@ -5,14 +5,14 @@ use Rattle.std.proofs.Math.Seq.{take-append_seam, drop-append_seam}
 use Rattle.std.proofs.lemmas.List.{length-append}
 use Rattle.std.proofs.lemmas.Bool.Decides.{nat_tests}
 use Rattle.saphyr_input.specs.Classes.{line_feed}
-use Rattle.saphyr_values.specs.Escapes.{short_escape, digit_count, hex_character, long_escape, escape_named, escape}
-use Rattle.saphyr_values.specs.Flow.{raw_item, apostrophe, backslash, mark, is_special, special_item, first_item, is_closing_at_end, items_to_quote, quoted_items}
-use Rattle.saphyr_values.specs.Items.{IsItself, IsEscape, IsSpelling, Spells, IsSpelledQuote}
-use Rattle.saphyr_values.specs.declared.folding.Item.{Item}
-use Rattle.saphyr_values.specs.declared.folding.Item.TheVariants.{Blank, Raw, Escaped, Break, EscapedBreak}
-use Rattle.saphyr_values.specs.declared.flow.Quote.{Quote}
-use Rattle.saphyr_values.specs.declared.flow.Quote.TheVariants.{Single, Double}
-use Rattle.saphyr_values.proofs.Items.{one_item}
+use Rattle.saphyr_scalar.specs.Values.Escapes.{short_escape, digit_count, hex_character, long_escape, escape_named, escape}
+use Rattle.saphyr_scalar.specs.Values.Flow.{raw_item, apostrophe, backslash, mark, is_special, special_item, first_item, is_closing_at_end, items_to_quote, quoted_items}
+use Rattle.saphyr_scalar.specs.Values.Items.{IsItself, IsEscape, IsSpelling, Spells, IsSpelledQuote}
+use Rattle.saphyr_scalar.specs.declared.values.Item.{Item}
+use Rattle.saphyr_scalar.specs.declared.values.Item.TheVariants.{Blank, Raw, Escaped, Break, EscapedBreak}
+use Rattle.saphyr_scalar.specs.declared.values.Quote.{Quote}
+use Rattle.saphyr_scalar.specs.declared.values.Quote.TheVariants.{Single, Double}
+use Rattle.saphyr_scalar.proofs.Readings.Items.{one_item}
 use Rattle.std.proofs.lemmas.Bool.{cond-false}
 use Rattle.saphyr_input.proofs.Basics.Numbers.{equal_by_test}
 

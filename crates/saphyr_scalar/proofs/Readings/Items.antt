@@ -1,9 +1,9 @@
 -- The items of a quoted scalar, one after another.
 use Rattle.std.proofs.Common.{◌≡◌, ℕ, zero, suc, ◌<◌, false, List, [], ◌∷◌, ◌++◌, drop, Option, Some, None, refl, sym, ◌∙◌, ap, arith, append_assoc, pred}
 use Rattle.std.specs.Prelude.{option_map, option_and_then}
-use Rattle.saphyr_values.specs.declared.folding.Item.{Item}
-use Rattle.saphyr_values.specs.declared.flow.Quote.{Quote}
-use Rattle.saphyr_values.specs.Flow.{is_closing_at_end, first_item, items_to_quote}
+use Rattle.saphyr_scalar.specs.declared.values.Item.{Item}
+use Rattle.saphyr_scalar.specs.declared.values.Quote.{Quote}
+use Rattle.saphyr_scalar.specs.Values.Flow.{is_closing_at_end, first_item, items_to_quote}
 use Rattle.std.proofs.lemmas.Bool.{cond-false}
 
 -- what belongs to an item that was read is passed over

@@ -2,12 +2,12 @@
 -- normalized.
 use Rattle.std.specs.Prelude.{◌≡◌, ℕ, ◌⊎◌, IsFalse, Some, List, [], ◌∷◌, ◌++◌, length}
 use Rattle.saphyr_input.specs.Classes.{line_feed}
-use Rattle.saphyr_values.specs.Escapes.{short_escape, digit_count, hex_character}
-use Rattle.saphyr_values.specs.Flow.{raw_item, apostrophe, backslash, mark, is_special}
-use Rattle.saphyr_values.specs.declared.folding.Item.{Item}
-use Rattle.saphyr_values.specs.declared.folding.Item.TheVariants.{Blank, Raw, Escaped, Break, EscapedBreak}
-use Rattle.saphyr_values.specs.declared.flow.Quote.{Quote}
-use Rattle.saphyr_values.specs.declared.flow.Quote.TheVariants.{Single, Double}
+use Rattle.saphyr_scalar.specs.Values.Escapes.{short_escape, digit_count, hex_character}
+use Rattle.saphyr_scalar.specs.Values.Flow.{raw_item, apostrophe, backslash, mark, is_special}
+use Rattle.saphyr_scalar.specs.declared.values.Item.{Item}
+use Rattle.saphyr_scalar.specs.declared.values.Item.TheVariants.{Blank, Raw, Escaped, Break, EscapedBreak}
+use Rattle.saphyr_scalar.specs.declared.values.Quote.{Quote}
+use Rattle.saphyr_scalar.specs.declared.values.Quote.TheVariants.{Single, Double}
 
 -- a character that stands for itself
 abbrev pub IsItself : Quote → Item → List ℕ → Type 0

@@ -1,8 +1,8 @@
 -- Line folding in flow scalars (YAML 1.2.2, 6.5), over the items of a scalar.
 use Rattle.std.specs.Prelude.{◌≡◌, ℕ, zero, suc, Bool, true, false, ◌||◌, if◌then◌else◌, List, [], ◌∷◌, ◌++◌, replicate}
 use Rattle.saphyr_input.specs.Classes.{line_feed, space}
-use Rattle.saphyr_values.specs.declared.folding.Item.{Item}
-use Rattle.saphyr_values.specs.declared.folding.Item.TheVariants.{Blank, Raw, Escaped, Break, EscapedBreak}
+use Rattle.saphyr_scalar.specs.declared.values.Item.{Item}
+use Rattle.saphyr_scalar.specs.declared.values.Item.TheVariants.{Blank, Raw, Escaped, Break, EscapedBreak}
 
 -- whether a raw break comes first, after blanks or none
 abbrev pub is_before_break : List Item → Bool

@@ -1,0 +1,4 @@
+pub mod Foldings
+pub mod Items
+pub mod ItemsRead
+pub mod Lines
