@@ -12,12 +12,14 @@ use yaml_laws::scans_each_yaml_text;
 /// out of YAML's grammar by one condition, so its smallest text has no forest:
 ///
 /// - E1 `tab_behind_colon`: only tabs between the colon of a block mapping and a letter, a digit, `-` or `_`;
-/// - E2 `tab_behind_question`, `tab_behind_question_in_flow`: a tab in the separation after a `?`;
+/// - E2 `tab_behind_question`, `tab_behind_question_in_flow`: a tab between a `?` and the next token, except in
+///   comments;
 /// - E3 `value_at_colon_on_next_line`: inside flow a flow collection as a key, with its colon on a later line and its
 ///   value right after the colon;
 /// - E4 `dash_before_bracket`: a word `-` before a flow indicator, after another word;
-/// - E5 `marker_left_of_empty_scalar`, `comment_left_of_empty_scalar`: after a block scalar without content a document
-///   marker or a comment, left of the scalar's indentation and not left of the first column that it may have;
+/// - E5 `marker_left_of_empty_scalar`, `comment_left_of_empty_scalar`: after a block scalar without content a line that
+///   isn't empty and that begins, after its spaces, left of the scalar's indentation and not left of the first column
+///   that it may have;
 /// - E6 `tab_behind_header`: a tab right after the line of a block scalar's header;
 /// - E7 `colon_behind_verbatim_tag`: a colon right after a verbatim tag;
 /// - E8 `question_at_end`: a `?` as the last character of the text.
