@@ -21,7 +21,7 @@ pub struct LineBuffer<W: Write + Drop> {
 }
 
 // Writes bytes until all are written or the writer takes no more. Returns how many were written.
-fn write_out<W: Write>(bytes: &[u8], out: &mut W) -> usize
+pub fn write_out<W: Write>(bytes: &[u8], out: &mut W) -> usize
     ensures bound { result ≤ length bytes.now }
     ensures bytes { Appends (W.contents out.old) (W.contents out.new) (take result bytes.now) }
 {

@@ -10,9 +10,11 @@ ghost use Rattle.std.specs.Prelude.{◌≡◌};
 ghost use Rattle.std.specs.Process.{exit_status};
 
 mod line_buffer;
+mod refusal;
 
 use line_buffer::LineBuffer;
-use saphyr_parser::{Utf8Test, refuse_source, run_dump_by};
+use refusal::refuse_source;
+use saphyr_parser::run_dump;
 use std::env::{Env, FillError};
 use std::fs::File;
 use std::io::Read;
@@ -59,15 +61,5 @@ fn dump_file(rt: &HostRuntime, path: &str) -> u8 {
 
 fn dump_from<R: Read>(rt: &HostRuntime, name: &str, source: &mut R) -> u8 {
     let mut out = LineBuffer::new(rt.stdout());
-    run_dump_by::<BlockTest, _, _, _>(rt.alloc(), name, source, &mut out, &mut rt.stderr())
-}
-
-/// The test for UTF-8 that takes 64 bytes a step. On texts that aren't English it is four times as fast as the
-/// library's, which would take as long there as the parser.
-struct BlockTest;
-
-impl Utf8Test for BlockTest {
-    fn text(bytes: &[u8]) -> Option<&str> {
-        simdutf8::basic::from_utf8(bytes).ok()
-    }
+    run_dump(rt.alloc(), name, source, &mut out, &mut rt.stderr())
 }

@@ -6,7 +6,7 @@ pub mod law;
 mod printing;
 
 pub use cursor::Parser;
-pub use printing::{DumpFault, Utf8Test, dump, refuse_source, run_dump, run_dump_by};
+pub use printing::{DumpFault, dump, run_dump};
 pub use saphyr_input::law::lists_characters;
 pub use saphyr_input::{BufferedInput, CloneInput, FaithfulClone, Input, StrInput, input};
 pub use saphyr_machine::{

@@ -6,18 +6,16 @@ ghost use Rattle.saphyr_parser.specs.Dumps.{Dumps, Leaves};
 mod fault;
 mod line;
 mod run;
-mod utf8;
 mod writing;
 
 use crate::cursor::Parser;
 pub use fault::DumpFault;
 use line::write_line;
-pub use run::{refuse_source, run_dump, run_dump_by};
+pub use run::run_dump;
 use saphyr_input::input::Input;
 use saphyr_machine::{Event, Fault, Progress, no_event};
 use saphyr_scalar::Span;
 use std::io::Write;
-pub use utf8::Utf8Test;
 
 /// Writes a line for each event that is still to come. It keeps no text of its own.
 ///

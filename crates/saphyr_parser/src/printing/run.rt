@@ -10,7 +10,6 @@ ghost use Rattle.saphyr_parser.specs.Runs as spec;
 use crate::cursor::Parser;
 use crate::printing::dump;
 use crate::printing::fault::DumpFault;
-use crate::printing::utf8::{StdTest, Utf8Test};
 use crate::printing::writing::{Unwritten, write_all, write_number};
 use saphyr_machine::Fault;
 use saphyr_scalar::{Marker, ScanError};
@@ -30,6 +29,7 @@ pub enum RunFault {
 ///
 /// Returns the program's status: 0 if all lines were written, otherwise 1. Then one line of `err` says
 /// why, and `name` names the source in it. If that line can't be written, the status is still 1.
+#[tactic(auto, using(crate::proofs::Printed::Running::says))]
 pub fn run_dump<R: Read, W: Write, E: Write>(
     alloc: Global,
     name: &str,
@@ -40,22 +40,7 @@ pub fn run_dump<R: Read, W: Write, E: Write>(
     ensures { spec.Runs result name.now (R.remaining source.old) (R.remaining source.new)
         (W.contents out.old) (W.contents out.new) (E.contents err.old) (E.contents err.new) }
 {
-    run_dump_by::<StdTest, R, W, E>(alloc, name, source, out, err)
-}
-
-/// The same with another test for UTF-8, which may be faster.
-#[tactic(auto, using(crate::proofs::Printed::Running::says))]
-pub fn run_dump_by<U: Utf8Test, R: Read, W: Write, E: Write>(
-    alloc: Global,
-    name: &str,
-    source: &mut R,
-    out: &mut W,
-    err: &mut E,
-) -> u8
-    ensures { spec.Runs result name.now (R.remaining source.old) (R.remaining source.new)
-        (W.contents out.old) (W.contents out.new) (E.contents err.old) (E.contents err.new) }
-{
-    match print_source::<U, R, W>(alloc, source, out) {
+    match print_source(alloc, source, out) {
         Ok(()) => 0,
         Err(fault) => {
             let _ = complain(err, name.as_bytes(), &fault);
@@ -64,19 +49,8 @@ pub fn run_dump_by<U: Utf8Test, R: Read, W: Write, E: Write>(
     }
 }
 
-/// Says that a source can't be read, as `run_dump` does, and returns its status, 1. `name` names the source, whatever
-/// bytes it has.
-pub fn refuse_source<E: Write>(err: &mut E, name: &[u8]) -> u8
-    ensures status { result ≡ 1 }
-    ensures says { spec.TakesBeginning (E.contents err.old) (E.contents err.new)
-        (codes "dump_events: can't read " ++ (name.now ++ codes "\n")) }
-{
-    let _ = write_named(err, b"dump_events: can't read ", name, b"\n");
-    1
-}
-
 // Reads all bytes, and prints the events of their text.
-fn print_source<U: Utf8Test, R: Read, W: Write>(
+fn print_source<R: Read, W: Write>(
     alloc: Global,
     source: &mut R,
     out: &mut W,
@@ -88,9 +62,9 @@ fn print_source<U: Utf8Test, R: Read, W: Write>(
     if source.read_to_end(&mut bytes).is_err() {
         return Err(RunFault::CantRead);
     }
-    match U::text(&bytes) {
-        Some(text) => print_text(alloc, text, out),
-        None => Err(RunFault::NotUtf8),
+    match str::from_utf8(&bytes) {
+        Ok(text) => print_text(alloc, text, out),
+        Err(_) => Err(RunFault::NotUtf8),
     }
 }
 

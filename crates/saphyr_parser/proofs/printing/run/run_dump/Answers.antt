@@ -1,6 +1,6 @@
 use Rattle.std.proofs.Common.{Err, refl}
 use Rattle.saphyr_parser.proofs.Printed.Running.{says}
-use Rattle.saphyr_parser.proofs.printing.run.run_dump_by.Goals as goal
+use Rattle.saphyr_parser.proofs.printing.run.run_dump.Goals as goal
 
 pub returns-in-Err : goal.returns-in-Err
 returns-in-Err g c =
