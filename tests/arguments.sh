@@ -33,6 +33,7 @@ expect 1 "dump_events: can't read missing\n" missing
 expect 1 "dump_events: can't read \n" ''
 expect 1 "dump_events: can't read .\n" .
 expect 1 "dump_events: can't read \377\n" $'\377'
+expect 1 "dump_events: can't read a\nb\n" $'a\nb'
 expect 1 "dump_events: can't read $(printf 'a%.0s' {1..5000})\n" "$(printf 'a%.0s' {1..5000})"
 expect 1 "dump_events: bytes is not UTF-8\n" bytes
 expect 1 "':' may not precede any of \`[{\` in flow mapping at byte 2 line 1 column 3\n" refused

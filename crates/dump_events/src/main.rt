@@ -20,6 +20,9 @@ use std::fs::File;
 use std::io::Read;
 use std::process::ExitCode;
 
+/// The most bytes of a path. Linux opens no longer one.
+const LONGEST_PATH: usize = 4096;
+
 /// The most bytes of an argument. Linux allows no longer one.
 const LONGEST_ARGUMENT: usize = 131_072;
 
@@ -28,13 +31,23 @@ fn main(rt: HostRuntime) -> ExitCode {
     if !matches!(rt.arg(2, &mut []), Err(FillError::NotPresent)) {
         return usage(&rt);
     }
-    let mut bytes = [0; LONGEST_ARGUMENT];
-    let status = match rt.arg(1, &mut bytes) {
-        Ok(count) => dump_named(&rt, &bytes[..count]),
+    let mut path = [0; LONGEST_PATH];
+    let status = match rt.arg(1, &mut path) {
+        Ok(count) => dump_named(&rt, &path[..count]),
         Err(FillError::NotPresent) => dump_from(&rt, "-", &mut rt.stdin()),
-        Err(FillError::TooLong) => refuse_source(&mut rt.stderr(), b"FILE"),
+        Err(FillError::TooLong) => refuse_long(&rt),
     };
     ExitCode::from(status)
+}
+
+// Here is the room for an argument that is no path, which other runs need not clear.
+#[inline(never)]
+fn refuse_long(rt: &HostRuntime) -> u8 {
+    let mut name = [0; LONGEST_ARGUMENT];
+    match rt.arg(1, &mut name) {
+        Ok(count) => refuse_source(&mut rt.stderr(), &name[..count]),
+        Err(_) => refuse_source(&mut rt.stderr(), b"FILE"),
+    }
 }
 
 fn usage(rt: &HostRuntime) -> ExitCode
