@@ -3,7 +3,7 @@
 ghost use Rattle.std.specs.Prelude.{◌≡◌, IfOk};
 ghost use Rattle.saphyr_machine.specs.Faults.{IsFaultOf, IsCopy};
 
-use saphyr_scalar::{ScanError, Stop};
+use saphyr_scalar::{ScanError, Stop, error_of_refusal};
 use std::alloc::{AllocError, AllocFailed, Global};
 use thiserror::Error;
 
@@ -49,7 +49,7 @@ impl Fault {
         ensures { IsFaultOf stop result }
     {
         match stop {
-            Stop::Refused(refusal) => match ScanError::from_refusal(alloc, refusal) {
+            Stop::Refused(refusal) => match error_of_refusal(alloc, refusal) {
                 Ok(error) => Fault::Scan(error),
                 Err(_) => Fault::OutOfMemory,
             },

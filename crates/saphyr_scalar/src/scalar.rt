@@ -21,7 +21,7 @@ mod tag;
 pub use block::{BlockScalar, reads_block_texts};
 pub use directive::{Directive, DirectiveLine};
 pub use directive_law::spells_each_directive;
-pub use fault::{FaultText, Refusal, ScanError, Stop};
+pub use fault::{FaultText, Refusal, ScanError, Stop, error_of_refusal};
 pub use law::{
     begins_plain_scalars_with_ink, counts_each_block_scalar, indents_plain_lines,
     places_each_block_scalar, reads_plain_values, spells_each_quoted, spells_quoted_lines,

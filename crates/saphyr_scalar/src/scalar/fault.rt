@@ -241,14 +241,6 @@ impl ScanError {
         Ok(ScanError::new(loc, info))
     }
 
-    /// The fault of a refusal, with its text.
-    pub fn from_refusal(alloc: Global, refusal: Refusal) -> Result<ScanError, AllocError>
-        ensures { IfOk result (Says refusal.mark (fault_text refusal.text)) }
-    {
-        let info = refusal.text.to_string(alloc)?;
-        Ok(ScanError::new(refusal.mark, info))
-    }
-
     /// Where the text is refused.
     #[inline]
     pub fn marker(&self) -> &Marker
@@ -272,6 +264,14 @@ impl ScanError {
         let info = self.info.clone()?;
         Ok(ScanError::new(self.mark, info))
     }
+}
+
+/// The fault of a refusal, with its text. It is no method of `ScanError`, whose users can't name a `Refusal`.
+pub fn error_of_refusal(alloc: Global, refusal: Refusal) -> Result<ScanError, AllocError>
+    ensures { IfOk result (Says refusal.mark (fault_text refusal.text)) }
+{
+    let info = refusal.text.to_string(alloc)?;
+    Ok(ScanError::new(refusal.mark, info))
 }
 
 impl fmt::Display for ScanError {

@@ -1,7 +1,7 @@
 //! What no clause says: the printed texts, against the lists that they were taken from.
 
 use crate::helpers::{Place, expect, is_text, marker};
-use saphyr_scalar::{FaultText, Marker, Refusal, ScalarStyle, ScanError, Span};
+use saphyr_scalar::{FaultText, Marker, Refusal, ScalarStyle, ScanError, Span, error_of_refusal};
 use std::alloc::Global;
 use std::process::Abort;
 
@@ -79,7 +79,7 @@ fn makes_and_prints_an_error(rt: HostRuntime) {
 // Whether the error of a misplaced bracket there is this.
 fn is_misplaced(alloc: Global, mark: Marker, info: &str) -> bool {
     let text = FaultText::MisplacedBracket;
-    match ScanError::from_refusal(alloc, Refusal { text, mark }) {
+    match error_of_refusal(alloc, Refusal { text, mark }) {
         Ok(error) => is_error(&error, info, mark),
         Err(_) => false,
     }
