@@ -2,6 +2,7 @@
 """All small texts, held against YAML's grammar and `dump_events`.
 
     tests/recognizer.py [--most N] [--program PROGRAM] TOKEN..
+    tests/recognizer.py --small | --all [--program PROGRAM]
     tests/recognizer.py --text TEXT..
     tests/recognizer.py --derivations COUNT
 
@@ -9,9 +10,10 @@ Makes all texts of up to N (5) TOKENs, in which \\n and \\t stand for a line fee
 each by the grammar's definitions. What `dump_events`, as `rt ci` or `rt run` in crates/dump_events left it in out/,
 prints of a text of the grammar has to be the events of its forest. Told are the texts of the grammar that are read
 otherwise, those with two forests, and those that the program reads though they have a forest only where the exceptions
-E1 to E8 of docs/PRODUCTIONS.md are no conditions. With `--text` the events of each forest of each TEXT are printed.
-With `--derivations` the texts of up to 60 characters among the first COUNT of derivations.py are held against this:
-each has to have the forest of which it was made, and no other.
+E1 to E8 of docs/PRODUCTIONS.md are no conditions. With `--all` the TOKENs are each of `ALPHABETS` in turn, and with
+`--small` so with up to three tokens. With `--text` the events of each forest of each TEXT are printed. With
+`--derivations` the texts of up to 60 characters among the first COUNT of derivations.py are held against this: each has
+to have the forest of which it was made, and no other.
 
 A method of `Grammar` is a definition of the specs/ of yaml_laws, scalar_laws and saphyr_scalar. Given where a piece
 begins it finds each end of such a piece, with what that stands for. Flow collections are not counted.
@@ -29,6 +31,14 @@ from derivations import Derivation, is_value_ahead
 
 ALL = frozenset(f"E{number}" for number in range(1, 9))
 BLANK, FLOW, HEX = " \t", ",[]{}", "0123456789abcdefABCDEF"
+# Tokens, and how many of them the texts of docs/TESTS.md have.
+ALPHABETS = (
+    (5, list("a:-?[,|# \n")),
+    (4, list("a:-?[],&|# \n\t")),
+    (4, [*"[]{},:?a", '"a"', "- ", " ", "\n"]),
+    (4, ["&a", "!", "!<a>", "*a", ":", "- ", "? ", "a", "|", '"', " ", "\n"]),
+    (3, ["---", "...", "%a\n", "#", "a", "|", "- ", MARK, " ", "\n"]),
+)
 AMBIGUOUS, OTHERWISE = "with two forests", "read otherwise"
 LEFT_OUT_AND_READ = "read, and of the grammar without the exceptions alone"
 NO_PROPERTIES = (None, None)
@@ -750,11 +760,25 @@ def find_again(count):
     return bool(lost)
 
 
+def judge_all(alphabets, program):
+    """Tells what is found among the texts of up to so many tokens of each alphabet, and whether one is a fault."""
+    counts, told = collections.Counter(), {name: [] for name in (AMBIGUOUS, OTHERWISE, LEFT_OUT_AND_READ)}
+    for most, tokens in alphabets:
+        for text in texts(tokens, most):
+            judge(text, program, counts, told)
+    for name, found in told.items():
+        print(*sorted(found, key=len)[:20], f"{len(found):,} {name}", sep="\n")
+    print(", ".join(f"{number:,} {name}" for name, number in counts.items()))
+    return bool(told[AMBIGUOUS] or told[OTHERWISE])
+
+
 def main():
     words = argparse.ArgumentParser(description=__doc__, formatter_class=argparse.RawDescriptionHelpFormatter)
     words.add_argument("--most", type=int, default=5)
     words.add_argument("--program", default=PROGRAM)
     words.add_argument("--text", action="store_true")
+    words.add_argument("--small", action="store_true")
+    words.add_argument("--all", action="store_true")
     words.add_argument("--derivations", type=int, default=0)
     words.add_argument("tokens", nargs="*")
     given = words.parse_args()
@@ -767,13 +791,9 @@ def main():
         return 0
     if not os.path.isfile(given.program):
         sys.exit(f"{given.program} is not built: run rt ci at the top of the repository, or rt run in the crate")
-    counts, told = collections.Counter(), {name: [] for name in (AMBIGUOUS, OTHERWISE, LEFT_OUT_AND_READ)}
-    for text in texts(tokens, given.most):
-        judge(text, given.program, counts, told)
-    for name, found in told.items():
-        print(*sorted(found, key=len)[:20], f"{len(found):,} {name}", sep="\n")
-    print(", ".join(f"{number:,} {name}" for name, number in counts.items()))
-    return 1 if told[AMBIGUOUS] or told[OTHERWISE] else 0
+    if given.small or given.all:
+        return judge_all([(most if given.all else 3, alphabet) for most, alphabet in ALPHABETS], given.program)
+    return judge_all([(given.most, tokens)], given.program)
 
 
 if __name__ == "__main__":

@@ -1,3 +1,1 @@
-pub mod AllTokens
-pub mod Examples
 pub mod InYaml

@@ -15,9 +15,7 @@ ghost use Rattle.saphyr_scalar.specs.Steps.Quoted.{quoted};
 ghost use Rattle.saphyr_scalar.specs.Steps.Plain.{plain};
 ghost use Rattle.saphyr_scalar.specs.Steps.Block.{block_scalar};
 ghost use Rattle.saphyr_scalar.specs.declared.values.BlockStyle.{BlockStyle};
-ghost use Rattle.saphyr_scanner.specs.Grammar.Tokens.{StreamStart, StreamEnd, DocumentStart, FlowSequenceStart};
 ghost use Rattle.saphyr_scanner.specs.Steps.Fetch.{fetch_within, needs_token};
-ghost use Rattle.saphyr_scanner.specs.Steps.Queue.{empty_piece};
 ghost use Rattle.saphyr_scanner.specs.Views.Tokens.{Piece, Remaining, refusal_alone};
 ghost use Rattle.saphyr_scalar.specs.declared.scalar.fault.Refusal.{Refusal};
 ghost use Rattle.saphyr_scanner.specs.Steps.Remaining.{remaining, scan, Scans};
@@ -180,32 +178,7 @@ pub fn waits_behind_markers()
         × ArePassed m.tokens.pieces) }
 {}
 
-/// What begins with a marker, and what not: behind `---` a character is known, and behind `...` the
-/// rest of a line with its break, as a comment. A byte order mark ends no line, so the laws say
-/// nothing of a marker behind it. A text that begins with a marker does so with more characters.
+/// A text that begins with a marker does so with more characters behind it.
 pub fn tells_markers()
     ensures goes_on { (r more : List ℕ) → Marked r r → Marked (r ++ more) (r ++ more) }
-    ensures start { (x y : List ℕ) → Marked (codes "---\n" ++ x) (codes "---\n" ++ y) }
-    ensures end { (x y : List ℕ) → Marked (codes "...\n" ++ x) (codes "...\n" ++ y) }
-    ensures comment { (x y : List ℕ) → Marked (codes "... # c\n" ++ x) (codes "... # c\n" ++ y) }
-    ensures start_alone { (q : List ℕ) → ¬ Marked (codes "---") q }
-    ensures longer { (q : List ℕ) → ¬ Marked (codes "----\n") q }
-    ensures line_alone { (q : List ℕ) → ¬ Marked (codes "... # c") q }
-    ensures byte_order_mark { begins_line true (codes "\u{feff}") ≡ false }
-{}
-
-/// A scanner that may read up to a marker hands out the marker's token, and then needs the next one.
-pub fn comes_to_markers()
-    ensures { (ts : List Piece) × (s : State) × ScansTo 9 0 (codes "---\n") ts s
-        × (needs_token s ≡ true)
-        × (map (λ (t : Piece). t.kind) ts ≡ StreamStart ∷ DocumentStart ∷ []) }
-{}
-
-/// Behind a bracket the token of a marker waits, so that what follows decides whether it comes: it
-/// does where the text ends, and it doesn't where `@` follows, which begins no token.
-pub fn waits_behind_brackets()
-    ensures comes { Scans (StreamStart ∷ FlowSequenceStart ∷ DocumentStart ∷ StreamEnd ∷ [])
-        (scan 9 (codes "[\n---\n")) }
-    ensures waits { (scan 9 (codes "[\n---\n@")).pieces
-        ≡ empty_piece (start_cursor []).mark StreamStart ∷ [] }
 {}

@@ -1,5 +1,4 @@
 pub mod InBlock
-pub mod Examples
 pub mod InFlow
 pub mod Flow
 pub mod Documents

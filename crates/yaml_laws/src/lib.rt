@@ -3,34 +3,35 @@
 //! The functions are laws: they do nothing, and what matters is their proved clauses.
 #![tactic(auto)]
 
-ghost use Rattle.std.specs.Prelude.{◌≡◌, ◌≤◌, List, codes, ◌∷◌, ◌++◌, [], ℕ, length, ◌<◌, ◌^◌};
+ghost use Rattle.std.specs.Prelude.{◌≡◌, ◌≤◌, ◌<◌, ◌^◌, ◌++◌, ℕ, List, length, false, slice_index, encode_utf8_all};
 ghost use Rattle.saphyr_input.specs.Breaks.{normalized};
+ghost use Rattle.saphyr_input.specs.Classes.{is_break};
+ghost use Rattle.saphyr_scalar.specs.Reading.BlockLines.{spaces};
+ghost use Rattle.saphyr_scalar.specs.Reading.BlockText.{IsBlockText};
+ghost use Rattle.saphyr_scalar.specs.Views.Cursor.{Cursor};
 ghost use Rattle.scalar_laws.specs.Spelling.Spaces.{IsLineRest};
-ghost use Rattle.saphyr_scanner.specs.Grammar.Forest.{Forest, Primary, Shorthand};
+ghost use Rattle.saphyr_scanner.specs.Grammar.Forest.{Forest};
 ghost use Rattle.saphyr_scanner.specs.Limits.{most_open};
 ghost use Rattle.saphyr_scanner.specs.Grammar.TokenGrammar.{Yields};
 ghost use Rattle.saphyr_scanner.specs.Grammar.Tokens.{Kind};
 ghost use Rattle.saphyr_scanner.specs.Steps.Remaining.{Scans, scan};
-ghost use Rattle.yaml_laws.specs.Grammar.TagSpelling.{IsTag};
+ghost use Rattle.yaml_laws.specs.Grammar.BlockNodes.{IsBlockScalarText};
 ghost use Rattle.yaml_laws.specs.Grammar.ClosedTexts.{DocumentMarker, EndsWithMarker, HandsOut};
 ghost use Rattle.yaml_laws.specs.Grammar.Yaml.{IsYamlText};
 ghost use Rattle.yaml_laws.specs.SameKinds.{HaveSameKinds};
 
+use saphyr_scalar::Marker;
 use saphyr_scalar::scalar::{
-    places_each_block_scalar, reads_plain_values, spells_each_anchor, spells_each_directive,
-    spells_each_quoted, spells_each_tag,
+    places_each_block_scalar, reads_block_texts, reads_plain_values, spells_each_anchor,
+    spells_each_directive, spells_each_quoted, spells_each_tag,
 };
 use saphyr_scanner::law::takes_characters_off;
+use saphyr_scalar::values::BlockStyle;
 use scalar_laws::{
     passes_to_one_place, reads_breaks_alike, reads_each_anchor, reads_each_block_scalar,
     reads_each_directive, reads_each_plain_text, reads_each_quoted, reads_each_reserved_directive,
     reads_each_tag,
 };
-
-/// In a tag, the percent escapes of a character's UTF-8 are read as the character.
-pub fn reads_tags()
-    ensures { IsTag (Shorthand Primary (0xE9 ∷ [])) (codes "!%C3%A9") }
-{}
 
 /// A text and its normalized text have tokens of the same kinds, and a refusal with the same text ends both
 /// or none, whatever their limits at or above the text's length.
@@ -87,4 +88,19 @@ pub fn hands_out_markers()
     reads_each_directive();
     reads_each_reserved_directive();
     takes_characters_off();
+}
+
+/// A block scalar of YAML's grammar, which describes its lines by the standard's productions, is also one by the
+/// definition for any text (`IsBlockText`), with the same value. There the spaces that begin the line after it belong
+/// to it.
+pub fn agrees_on_block_scalars()
+    ensures { (style : BlockStyle) (value : List ℕ) (indent : ℕ) (s : Cursor) (t behind : List ℕ)
+        → IsBlockScalarText style value indent t behind → s.rest ≡ t ++ behind
+        → is_break (slice_index s.rest 0) ≡ false
+        → (n : ℕ) × (start : Marker) × (left : Cursor)
+        × IsBlockText style indent s (encode_utf8_all value) start left
+        × (behind ≡ spaces n ++ left.rest) }
+{
+    reads_each_block_scalar();
+    reads_block_texts();
 }

@@ -1,3 +1,0 @@
--- Examples of what the definitions say.
-pub mod Tags
-pub mod MarkerAlone
