@@ -1,8 +1,9 @@
--- After a plain scalar no break is, and a comment that keeps it from going on is there.
-use Rattle.std.proofs.Common.{◌≡◌, ℕ, zero, suc, ◌⊎◌, Bool, false, List, [], ◌∷◌, ◌++◌, Option, Some, None, Result, Ok, Err, refl, inl, inr, cond}
+-- After a plain scalar no break is, and a comment that keeps it from going on is there. Where blanks alone come before
+-- on the line, that is a later one, and else outside flow the text goes on right of the block collection's column.
+use Rattle.std.proofs.Common.{◌≡◌, ℕ, zero, suc, ◌+◌, ◌≤◌, ◌<◌, ◌⊎◌, Bool, true, false, List, [], ◌∷◌, ◌++◌, Option, Some, None, Result, Ok, Err, refl, sym, arith, subst, inl, inr, cond}
 use Rattle.std.specs.Prelude.{◌&&◌, ◌||◌, ◌==◌, not, nat_lt, pred, slice_index}
-use Rattle.saphyr_input.specs.Classes.{is_break, is_blank, is_bom, is_z, tab}
-use Rattle.saphyr_input.specs.Places.{is_blank_or_break}
+use Rattle.saphyr_input.specs.Classes.{is_break, is_blank, is_bom, is_flow, is_z, tab}
+use Rattle.saphyr_input.specs.Places.{is_blank_or_break, is_document_indicator, next_2_are}
 use Rattle.saphyr_scalar.specs.declared.scalar.position.Marker.{Marker}
 use Rattle.saphyr_scalar.specs.declared.scalar.fault.Refusal.{Refusal}
 use Rattle.saphyr_scalar.specs.Views.Cursor.{Cursor, ◌>>=◌, along, next_line, pass_break}
@@ -10,91 +11,203 @@ use Rattle.saphyr_scalar.specs.Steps.Plain.{PlainGap, PlainScalarRead, plain, wo
 use Rattle.saphyr_scalar.specs.Steps.Quoted.{mid_line}
 use Rattle.saphyr_input.proofs.Basics.Booleans.{by_test, or_false_right}
 use Rattle.saphyr_scalar.proofs.Given.{Given}
+use Rattle.saphyr_scanner.proofs.Taken.Later.{top}
+use Rattle.saphyr_scanner.proofs.Taken.Separated.{given_map}
+use Rattle.std.proofs.lemmas.Bool.{ltb-false}
 
 abbrev pub StopsUnbroken : Cursor → Type 0
 StopsUnbroken s = is_break (slice_index s.rest 0) ≡ false
 
-abbrev StopsGap : PlainGap → Type 0
-StopsGap g = StopsUnbroken g.behind
+-- from the column n of a line on, where not too many lines were counted
+abbrev StopsFrom : ℕ → ℕ → Cursor → Type 0
+StopsFrom n line s = (s.blank_so_far ≡ false → n ≤ s.mark.col) × (s.mark.line < top → line ≤ s.mark.line)
+    × (s.blank_so_far ≡ true → s.mark.line < top → line < s.mark.line)
+
+abbrev StopsGap : Marker → PlainGap → Type 0
+StopsGap m g = StopsUnbroken g.behind × StopsFrom m.col m.line g.behind
 
 abbrev pub IsNoted : Option Marker → Cursor → Type 0
 IsNoted comment s = (comment ≡ None) ⊎ (comment ≡ Some s.mark)
 
-abbrev pub EndsUnbroken : List ℕ × Marker × Option Marker × Cursor → Type 0
-EndsUnbroken x = IsNoted x.2 x.3 × StopsUnbroken x.3
+-- and outside flow right of the indentation, if it was before
+abbrev pub EndsPlain : Bool → ℕ → ℕ → ℕ → List ℕ × Marker × Option Marker × Cursor → Type 0
+EndsPlain in_flow indent n line x = IsNoted x.2 x.3 × StopsUnbroken x.3
+    × (in_flow ≡ false → indent ≤ n → x.3.blank_so_far ≡ false → indent ≤ x.3.mark.col)
+    × (x.3.mark.line < top → line ≤ x.3.mark.line)
+    × (x.3.blank_so_far ≡ true → x.3.mark.line < top → line < x.3.mark.line)
 
 pub given_then : {X Y : Type 0} → (P : X → Type 0) (Q : Y → Type 0) (r : Result X Refusal) (f : X → Result Y Refusal)
     → Given P r → ((x : X) → P x → Given Q (f x)) → Given Q (r >>= f)
 given_then P Q (Ok x) f h go = go x h
 given_then P Q (Err e) f h go = tt
 
-line_stops : (start : Marker) (tabbed : Bool) (feeds : List ℕ) (s : Cursor) → StopsUnbroken s
-    → Given StopsGap (reached_gap start tabbed feeds s)
+line_stops : (Q : Cursor → Type 0) (start : Marker) (tabbed : Bool) (feeds : List ℕ) (s : Cursor) → Q s
+    → Given (λ (g : PlainGap). Q g.behind) (reached_gap start tabbed feeds s)
 unfolding content_behind_tab
-line_stops start tabbed feeds s h = by_test (tabbed && is_bom (slice_index s.rest 0)) _ _
-    (λ r. Given StopsGap (r >>= λ t. Ok (record { text = feeds; tabbed = tabbed; behind = t }))) (λ _. tt)
+line_stops Q start tabbed feeds s h = by_test (tabbed && is_bom (slice_index s.rest 0)) _ _
+    (λ r. Given (λ (g : PlainGap). Q g.behind)
+    (r >>= λ t. Ok (record { text = feeds; tabbed = tabbed; behind = t }))) (λ _. tt)
     (λ _. by_test (tabbed && not ((slice_index s.rest 0 == 35) || is_z (slice_index s.rest 0))) _ _
-    (λ r. Given StopsGap (r >>= λ t. Ok (record { text = feeds; tabbed = tabbed; behind = t }))) (λ _. tt) (λ _. h))
+    (λ r. Given (λ (g : PlainGap). Q g.behind)
+    (r >>= λ t. Ok (record { text = feeds; tabbed = tabbed; behind = t }))) (λ _. tt) (λ _. h))
+
+-- after blanks alone, on a line or a later one
+abbrev StopsInFront : ℕ → Cursor → Type 0
+StopsInFront line s = StopsUnbroken s × (s.blank_so_far ≡ true) × (s.mark.line < top → line ≤ s.mark.line)
 
 lines_stop : (indent : ℕ) (start : Marker) (tabbed : Bool) (feeds : List ℕ) (m : Marker) (xs : List ℕ)
-    → Given StopsGap (lines indent start tabbed feeds m xs)
+    → Given (λ (g : PlainGap). StopsInFront m.line g.behind) (lines indent start tabbed feeds m xs)
 unfolding lines
-lines_stop indent start tabbed feeds m [] = line_stops start tabbed feeds (line_front m []) refl
-lines_stop indent start tabbed feeds m (c ∷ cs) = by_test (is_blank_or_break c) _ _ (Given StopsGap)
-    (λ _. lines_stop indent start (is_blank c && (tabbed || ((c == tab) && nat_lt m.col indent)))
+lines_stop indent start tabbed feeds m [] =
+    line_stops (StopsInFront m.line) start tabbed feeds (line_front m []) (refl, refl, λ _. omega arith)
+lines_stop indent start tabbed feeds m (c ∷ cs) = by_test (is_blank_or_break c) _ _
+    (Given (λ (g : PlainGap). StopsInFront m.line g.behind))
+    (λ _. given_map _ _ (lines indent start (is_blank c && (tabbed || ((c == tab) && nat_lt m.col indent)))
     (cond (ends_line c cs) (feeds ++ 10 ∷ []) feeds) (cond (ends_line c cs) (next_line m 1) (along m 1)) cs)
-    (λ e. line_stops start tabbed feeds (line_front m (c ∷ cs)) (or_false_right (is_blank c) (is_break c) e))
+    (λ g h. (h.0, h.1, λ small. later (ends_line c cs) g.behind.mark.line (h.2 small) small))
+    (lines_stop indent start (is_blank c && (tabbed || ((c == tab) && nat_lt m.col indent)))
+    (cond (ends_line c cs) (feeds ++ 10 ∷ []) feeds) (cond (ends_line c cs) (next_line m 1) (along m 1)) cs))
+    (λ e. line_stops (StopsInFront m.line) start tabbed feeds (line_front m (c ∷ cs))
+    (or_false_right (is_blank c) (is_break c) e, refl, λ _. omega arith))
+  where
+    later : (b : Bool) (n : ℕ) → (cond b (next_line m 1) (along m 1)).line ≤ n → n < top → m.line ≤ n
+    later true n l small = omega (arith, l, small)
+    later false n l small = l
 
-gap_stops : (indent : ℕ) (start : Marker) (blanks : List ℕ) (s : Cursor)
-    → Given StopsGap (gap_from indent start blanks s)
+break_ends_line : (s : Cursor) → is_break (slice_index s.rest 0) ≡ true
+    → (pass_break s).mark.line ≡ (next_line s.mark 1).line
+break_ends_line s e = by_test (next_2_are s.rest 13 10) _ _ (λ (t : Cursor). t.mark.line ≡ (next_line s.mark 1).line)
+    (λ _. refl) (λ _. rw e refl)
+
+-- after blanks, which come after a word that ended at m
+gap_stops : (indent : ℕ) (start : Marker) (blanks : List ℕ) (m : Marker) (s : Cursor) → s.blank_so_far ≡ false
+    → m.col ≤ s.mark.col → s.mark.line ≡ m.line → Given (StopsGap m) (gap_from indent start blanks s)
 unfolding gap_from
-gap_stops indent start blanks s = by_test (is_break (slice_index s.rest 0)) _ _ (Given StopsGap)
-    (λ _. let t = pass_break s in
-    given_then StopsGap StopsGap (lines indent start false [] t.mark t.rest) _
-    (lines_stop indent start false [] t.mark t.rest) (λ g h. h)) (λ e. e)
+gap_stops indent start blanks m s ink col line = by_test (is_break (slice_index s.rest 0)) _ _ (Given (StopsGap m))
+    (λ e. let t = pass_break s in
+    let ends = break_ends_line s e in
+    given_then (λ (g : PlainGap). StopsInFront t.mark.line g.behind) (StopsGap m) (lines indent start false [] t.mark t.rest)
+    _ (lines_stop indent start false [] t.mark t.rest) (λ g h. (
+      h.0,
+      (
+        (λ f. absurd (let b = h.1 in cc)),
+        (λ small. let l = h.2 small in omega (arith, l, ends, line, small)),
+        λ _ small. let l = h.2 small in omega (arith, l, ends, line, small),
+      ),
+    )))
+    (λ e. (e, ((λ _. col), (λ _. omega (arith, line)), λ b. absurd (cc))))
 
-ended_ends : (in_flow : Bool) (end : Marker) (g : PlainGap) → StopsGap g → Given EndsUnbroken (scalar_end in_flow end g)
+ended_ends : (in_flow : Bool) (indent : ℕ) (m end : Marker) (g : PlainGap) → StopsGap m g
+    → Given (EndsPlain in_flow indent m.col m.line) (scalar_end in_flow end g)
 unfolding comment_of
-ended_ends in_flow end g h = (
+ended_ends in_flow indent m end g h = (
   by_test (not in_flow && (slice_index g.behind.rest 0 == 35) && (g.tabbed || not g.behind.blank_so_far))
       (Some g.behind.mark) None (λ o. IsNoted o g.behind) (λ _. inr refl) (λ _. inl refl),
-  h,
+  h.0,
+  (λ _ i b. let n = h.1.0 b in omega (arith, i, n)),
+  h.1.1,
+  h.1.2,
 )
 
-text_ends : (text : List ℕ) (r : PlainScalarRead) → Given EndsUnbroken r → Given EndsUnbroken (with_text text r)
-text_ends text (Ok x) h = h
-text_ends text (Err e) h = tt
+text_ends : (in_flow : Bool) (indent n line k more : ℕ) (text : List ℕ) (r : PlainScalarRead)
+    → (in_flow ≡ false → indent ≤ n → indent ≤ k) → (more < top → line ≤ more)
+    → Given (EndsPlain in_flow indent k more) r → Given (EndsPlain in_flow indent n line) (with_text text r)
+text_ends in_flow indent n line k more text (Ok x) col later h = (
+  h.0,
+  h.1,
+  (λ f i b. h.2 f (col f i) b),
+  (λ small. let l = h.3 small in let d = later (omega (arith, l, small)) in omega (arith, l, d)),
+  λ b small. let l = h.4 b small in let d = later (omega (arith, l, small)) in omega (arith, l, d),
+)
+text_ends in_flow indent n line k more text (Err e) col later h = tt
 
-any : (r : Result (Bool × Cursor) Refusal) → Given (λ (b : Bool × Cursor). Unit {0}) r
-any (Ok x) = tt
-any (Err e) = tt
+always : {X : Type 0} → (P : Type 0) (r : Result X Refusal) → P → Given (λ (x : X). P) r
+always P (Ok x) p = p
+always P (Err e) p = tt
+
+-- outside flow another word on a later line begins right of the indentation
+next_word_right : (in_flow : Bool) (indent : ℕ) (s : Cursor)
+    → Given (λ (b : Bool × Cursor). b.0 ≡ true → in_flow ≡ false → s.blank_so_far ≡ true → indent ≤ s.mark.col)
+    (next_word_starts in_flow indent s)
+unfolding next_word_starts
+next_word_right in_flow indent s = by_test (s.blank_so_far && not in_flow && nat_lt s.mark.col indent) _ _
+    (Given (λ (b : Bool × Cursor). b.0 ≡ true → in_flow ≡ false → s.blank_so_far ≡ true → indent ≤ s.mark.col))
+    (λ _ e. absurd (cc))
+    (λ e. given_map _ _ (word_starts in_flow s) (λ b h _. h)
+    (always (in_flow ≡ false → s.blank_so_far ≡ true → indent ≤ s.mark.col) (word_starts in_flow s)
+    (λ f b. right s.blank_so_far in_flow (nat_lt s.mark.col indent) e f b (ltb-false s.mark.col indent))))
+  where
+    right : (blank flow left : Bool) → (blank && not flow && left) ≡ false → flow ≡ false → blank ≡ true
+        → (left ≡ false → indent ≤ s.mark.col) → indent ≤ s.mark.col
+    right true false false e f b go = go refl
+    right true false true e f b go = absurd (cc)
+    right true true left e f b go = absurd (cc)
+    right false flow left e f b go = absurd (cc)
+
+either : (blank : Bool) (indent n k : ℕ) → indent ≤ n → (blank ≡ false → n ≤ k) → (blank ≡ true → indent ≤ k)
+    → indent ≤ k + 1
+either true indent n k i on front = let l = front refl in omega (arith, l)
+either false indent n k i on front = let l = on refl in omega (arith, i, l)
 
 mutual
   unfolding word_behind_gap word gap
 
-  between_ends : (in_flow : Bool) (indent : ℕ) (start end : Marker) (g : PlainGap) (left : ℕ) (xs : List ℕ) → StopsGap g
-      → Given EndsUnbroken (word_behind_gap in_flow indent start end g left xs)
-  between_ends in_flow indent start end g left [] h = ended_ends in_flow end g h
-  between_ends in_flow indent start end g zero (c ∷ cs) h =
-      given_then (λ (b : Bool × Cursor). Unit {0}) EndsUnbroken (next_word_starts in_flow indent g.behind) _
-      (any (next_word_starts in_flow indent g.behind))
-      (λ b _. by_test b.0 _ _ (Given EndsUnbroken)
-      (λ _. text_ends _ (word in_flow indent start (along g.behind.mark 1) cs)
-      (word_ends in_flow indent start (along g.behind.mark 1) cs)) (λ _. ended_ends in_flow end g h))
-  between_ends in_flow indent start end g (suc left) (c ∷ cs) h = between_ends in_flow indent start end g left cs h
+  between_ends : (in_flow : Bool) (indent : ℕ) (start m end : Marker) (g : PlainGap) (left : ℕ) (xs : List ℕ)
+      → StopsGap m g
+      → Given (EndsPlain in_flow indent m.col m.line) (word_behind_gap in_flow indent start end g left xs)
+  between_ends in_flow indent start m end g left [] h = ended_ends in_flow indent m end g h
+  between_ends in_flow indent start m end g zero (c ∷ cs) h =
+      given_then (λ (b : Bool × Cursor). b.0 ≡ true → in_flow ≡ false → g.behind.blank_so_far ≡ true
+      → indent ≤ g.behind.mark.col) (EndsPlain in_flow indent m.col m.line)
+      (next_word_starts in_flow indent g.behind) _ (next_word_right in_flow indent g.behind)
+      (λ b right. by_test b.0 _ _ (Given (EndsPlain in_flow indent m.col m.line))
+      (λ e. text_ends in_flow indent m.col m.line (g.behind.mark.col + 1) g.behind.mark.line _
+      (word in_flow indent start (along g.behind.mark 1) cs)
+      (λ f i. either g.behind.blank_so_far indent m.col g.behind.mark.col i h.1.0 (right e f)) h.1.1
+      (word_ends in_flow indent start (along g.behind.mark 1) cs)) (λ _. ended_ends in_flow indent m end g h))
+  between_ends in_flow indent start m end g (suc left) (c ∷ cs) h =
+      between_ends in_flow indent start m end g left cs h
 
   word_ends : (in_flow : Bool) (indent : ℕ) (start m : Marker) (xs : List ℕ)
-      → Given EndsUnbroken (word in_flow indent start m xs)
-  word_ends in_flow indent start m [] =
-      ended_ends in_flow m (record { text = []; tabbed = false; behind = mid_line m [] }) refl
-  word_ends in_flow indent start m (c ∷ cs) = by_test (is_in_word in_flow (c ∷ cs)) _ _ (Given EndsUnbroken)
-      (λ _. text_ends _ (word in_flow indent start (along m 1) cs) (word_ends in_flow indent start (along m 1) cs))
-      (λ _. given_then StopsGap EndsUnbroken (gap indent start (mid_line m (c ∷ cs))) _ (gap_stops indent start _ _)
-      (λ g h. by_test (gap_len (c ∷ cs) g == 0) _ _ (Given EndsUnbroken) (λ _. ended_ends in_flow m g h)
-      (λ _. between_ends in_flow indent start m g (pred (gap_len (c ∷ cs) g)) cs h)))
+      → Given (EndsPlain in_flow indent m.col m.line) (word in_flow indent start m xs)
+  word_ends in_flow indent start m [] = ended_ends in_flow indent m m
+      (record { text = []; tabbed = false; behind = mid_line m [] })
+      (refl, ((λ _. omega arith), (λ _. omega arith), λ b. absurd (cc)))
+  word_ends in_flow indent start m (c ∷ cs) = by_test (is_in_word in_flow (c ∷ cs)) _ _
+      (Given (EndsPlain in_flow indent m.col m.line))
+      (λ _. text_ends in_flow indent m.col m.line (m.col + 1) m.line _ (word in_flow indent start (along m 1) cs)
+      (λ _ i. omega (arith, i)) (λ _. omega arith) (word_ends in_flow indent start (along m 1) cs))
+      (λ _. given_then (StopsGap m) (EndsPlain in_flow indent m.col m.line) (gap indent start (mid_line m (c ∷ cs))) _
+      (gap_stops indent start _ m _ refl (omega arith) refl)
+      (λ g h. by_test (gap_len (c ∷ cs) g == 0) _ _ (Given (EndsPlain in_flow indent m.col m.line))
+      (λ _. ended_ends in_flow indent m m g h)
+      (λ _. between_ends in_flow indent start m m g (pred (gap_len (c ∷ cs) g)) cs h)))
 
-pub plain_ends : (in_flow : Bool) (indent : ℕ) (s : Cursor) → Given EndsUnbroken (plain in_flow indent s)
-unfolding plain
+-- a word begins here
+word_begins : (in_flow : Bool) (s : Cursor)
+    → Given (λ (b : Bool × Cursor). (b.1 ≡ s) × (b.0 ≡ true → is_in_word in_flow s.rest ≡ true)) (word_starts in_flow s)
+unfolding word_starts
+word_begins in_flow s =
+    let P : Bool × Cursor → Type 0 = λ b. (b.1 ≡ s) × (b.0 ≡ true → is_in_word in_flow s.rest ≡ true) in
+    by_test ((slice_index s.rest 0 == 35) || ((s.mark.col == 0) && is_document_indicator s.rest)) _ _ (Given P)
+    (λ _. (refl, λ e. absurd (cc)))
+    (λ _. by_test (in_flow && (slice_index s.rest 0 == 45) && is_flow (slice_index s.rest 1)) _ _ (Given P) (λ _. tt)
+    (λ _. (refl, λ e. e)))
+
+pub plain_ends : (in_flow : Bool) (indent : ℕ) (s : Cursor)
+    → Given (EndsPlain in_flow indent (s.mark.col + 1) s.mark.line) (plain in_flow indent s)
+unfolding plain word is_in_word
 plain_ends in_flow indent s =
-    given_then (λ (b : Bool × Cursor). Unit {0}) EndsUnbroken (word_starts in_flow s) _ (any (word_starts in_flow s))
-    (λ b _. by_test b.0 _ _ (Given EndsUnbroken) (λ _. word_ends in_flow indent s.mark b.1.mark b.1.rest) (λ _. tt))
+    let Q = EndsPlain in_flow indent (s.mark.col + 1) s.mark.line in
+    given_then (λ (b : Bool × Cursor). (b.1 ≡ s) × (b.0 ≡ true → is_in_word in_flow s.rest ≡ true)) Q
+    (word_starts in_flow s) _ (word_begins in_flow s)
+    (λ b w. by_test b.0 _ _ (Given Q)
+    (λ e. subst (λ (t : Cursor). Given Q (word in_flow indent s.mark t.mark t.rest)) (sym w.0)
+    (first s.rest (w.1 e))) (λ _. tt))
+  where
+    first : (xs : List ℕ) → is_in_word in_flow xs ≡ true
+        → Given (EndsPlain in_flow indent (s.mark.col + 1) s.mark.line) (word in_flow indent s.mark s.mark xs)
+    first [] e = absurd (cc)
+    first (c ∷ cs) e = rw e (text_ends in_flow indent (s.mark.col + 1) s.mark.line (s.mark.col + 1) s.mark.line _
+        (word in_flow indent s.mark (along s.mark 1) cs) (λ _ i. i) (λ _. omega arith)
+        (word_ends in_flow indent s.mark (along s.mark 1) cs))

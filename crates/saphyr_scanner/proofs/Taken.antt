@@ -5,6 +5,7 @@ pub mod InPlace
 pub mod Parts
 pub mod Later
 pub mod OnLine
+pub mod Indented
 pub mod Held
 pub mod Keys
 pub mod Neutral

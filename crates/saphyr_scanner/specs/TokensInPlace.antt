@@ -1,9 +1,12 @@
 -- Which tokens may be where, told of the tokens alone: a single pair of a flow sequence has its start, its colon and
 -- its end, an implicit key has its colon, a block collection has an entry, and its properties are on a line before it
--- (YAML 1.2.2, 7.4, 7.5 and 8.2). A colon without an implicit key is at its mapping's column.
+-- (YAML 1.2.2, 7.4, 7.5 and 8.2). A colon without an implicit key is at its mapping's column, and the first line of a
+-- flow node begins right of the column of the collection that it is in.
 use Rattle.std.specs.Prelude.{ℕ, ◌+◌, ◌==◌, Bool, true, false, not, nat_le, nat_lt, ◌||◌, ◌&&◌, if◌then◌else◌, List, [], ◌∷◌, Option, Some, None, IsTrue}
 use Rattle.saphyr_scalar.specs.declared.scalar.position.Marker.{Marker}
 use Rattle.saphyr_scalar.specs.declared.scalar.position.Span.{Span}
+use Rattle.saphyr_scalar.specs.declared.scalar.style.ScalarStyle.{ScalarStyle}
+use Rattle.saphyr_scalar.specs.declared.scalar.style.ScalarStyle.TheVariants as style
 use Rattle.saphyr_scanner.specs.Grammar.Tokens as tokens
 use Rattle.saphyr_scanner.specs.Grammar.Tokens.{Kind}
 use Rattle.saphyr_scanner.specs.Views.Tokens.{Piece}
@@ -176,13 +179,19 @@ fits e columns tokens.Key span = has_text span || may_begin_key e
 fits e columns tokens.Value span = is_in_brackets e || is_at_column span.start.col columns
 fits e columns _ span = true
 
--- 7.4: a token of a node that may be an implicit key: properties, an alias, a scalar, or the start of a flow
--- collection, which encloses what is in it
+-- 8.1: no block scalar
+abbrev pub is_flow_style : ScalarStyle → Bool
+is_flow_style style.Literal = false
+is_flow_style style.Folded = false
+is_flow_style _ = true
+
+-- 7: a token of a flow node, which may be an implicit key: properties, an alias, a plain or a quoted scalar, or the
+-- start of a flow collection, which encloses what is in it
 abbrev pub is_of_flow_node : Kind → Span → Bool
 is_of_flow_node (tokens.Alias name) span = true
 is_of_flow_node (tokens.Anchor name) span = true
 is_of_flow_node (tokens.Tag handle suffix) span = true
-is_of_flow_node (tokens.Scalar style value) span = true
+is_of_flow_node (tokens.Scalar style value) span = is_flow_style style
 is_of_flow_node tokens.FlowSequenceStart span = true
 is_of_flow_node tokens.FlowMappingStart span = has_text span
 is_of_flow_node _ span = false
@@ -224,7 +233,35 @@ abbrev pub may_stand : Enclosures → Kind → Span → Bool
 may_stand all kind span =
     may_follow all.begun kind span && fits_at all.inner.enclosure all.inner.key all.columns kind span
 
+-- the first column right of the innermost open block collection, 0 at the root
+abbrev pub least_column_in : List ℕ → ℕ
+least_column_in [] = 0
+least_column_in (column ∷ columns) = column + 1
+
+abbrev pub is_in_key : Option Marker → Bool
+is_in_key None = false
+is_in_key (Some key) = true
+
+-- in an implicit key, or in brackets
+abbrev pub is_covered : Enclosed → Bool
+is_covered e = is_in_key e.key || is_in_brackets e.enclosure
+
+-- 8.2: Outside brackets a token of a flow node begins right of the column of the innermost open block collection,
+-- unless it is of an implicit key.
+abbrev pub is_indented : Enclosures → Kind → Span → Bool
+is_indented all kind span =
+    not (is_of_flow_node kind span) || (is_covered all.inner || nat_le (least_column_in all.columns) span.start.col)
+
+-- This holds of each token and what encloses it.
+abbrev pub AreEach : (Enclosures → Kind → Span → Bool) → Enclosures → List Piece → Type 0
+AreEach holds all [] = Unit {0}
+AreEach holds all (p ∷ ps) =
+    IsTrue (holds all p.kind p.span) × AreEach holds (enclosures_behind p.kind p.span all) ps
+
 -- each token may be where it is
 abbrev pub AreInPlace : Enclosures → List Piece → Type 0
-AreInPlace all [] = Unit {0}
-AreInPlace all (p ∷ ps) = IsTrue (may_stand all p.kind p.span) × AreInPlace (enclosures_behind p.kind p.span all) ps
+AreInPlace all ps = AreEach may_stand all ps
+
+-- and is right of the column of its collection, if it is of a flow node
+abbrev pub AreIndented : Enclosures → List Piece → Type 0
+AreIndented all ps = AreEach is_indented all ps

@@ -30,7 +30,8 @@ use Rattle.saphyr_scalar.specs.Spelling.Directive.{ReadDirective, version, tag_p
 use Rattle.saphyr_scanner.specs.Grammar.Tokens as tokens
 use Rattle.saphyr_scanner.specs.Grammar.Tokens.{Kind}
 use Rattle.saphyr_scanner.specs.Views.Tokens.{Piece, Remaining}
-use Rattle.saphyr_scanner.specs.TokensInPlace.{has_text, without_innermost, not_enclosed, AreInPlace}
+use Rattle.saphyr_scanner.specs.TokensInPlace.{has_text, without_innermost, not_enclosed, AreInPlace, AreIndented}
+pub use Rattle.saphyr_scanner.specs.TokensInPlace.{least_column_in}
 
 -- ## Places (5.4)
 
@@ -338,10 +339,6 @@ abbrev pub open_behind : Kind → Span → Collections → Collections
 open_behind kind span opened =
     with_ends_json (ends_json_behind kind span opened.ends_json) (collections_behind kind span opened)
 
-abbrev pub least_column_in : List ℕ → ℕ
-least_column_in [] = 0
-least_column_in (column ∷ columns) = column + 1
-
 abbrev pub surroundings_in : Collections → Surroundings
 surroundings_in opened = record {
   in_flow = nat_lt 0 opened.brackets;
@@ -365,4 +362,4 @@ IsEndOf text (Some e) u = IsPlaceOf text e.mark
 abbrev pub AreTakenFrom : List ℕ → Remaining → Type 0
 AreTakenFrom text r =
     (end : Cursor) × AreTokens no_collections r.pieces (start_cursor text) end × AreInPlace not_enclosed r.pieces
-    × IsEndOf text r.refusal end
+    × AreIndented not_enclosed r.pieces × IsEndOf text r.refusal end

@@ -19,13 +19,13 @@ use Rattle.saphyr_scanner.specs.TokensTaken as taken
 use Rattle.saphyr_scanner.specs.TokensTaken.{AreApart, IsAtColumn}
 use Rattle.saphyr_scanner.specs.TokensInPlace as place
 use Rattle.saphyr_scanner.specs.TokensInPlace.{Begun, with_begun, turned_to, awaiting_colon, has_text, enclosures_behind, may_follow}
-use Rattle.saphyr_scanner.proofs.Effects.Moves.{DoesWithin, encloses, and_then, Same, lesser, further}
+use Rattle.saphyr_scanner.proofs.Effects.Moves.{DoesWithin, encloses, and_then, Same, lesser, further, allows_right}
 use Rattle.saphyr_scanner.proofs.Effects.Puts.{passes, indicated, freed, quiet_within, block_begins, loud}
 use Rattle.saphyr_scanner.proofs.Effects.Walked.{Premises, Walked, walked_then, at_most, Doing, at_reach, separate_walked}
 use Rattle.saphyr_scanner.proofs.LineTails.{OnLine}
 use Rattle.saphyr_scanner.proofs.Reached.{apart_reached}
 use Rattle.saphyr_scanner.proofs.Taken.Keys.{IsDeep}
-use Rattle.saphyr_scanner.proofs.Taken.Cores.{by_bool, further_block, further_right}
+use Rattle.saphyr_scanner.proofs.Taken.Cores.{by_bool, further_block, further_right, forget_requires}
 use Rattle.saphyr_scanner.proofs.Taken.Held.{enclosure_of, outside_of, enclosures_of}
 use Rattle.saphyr_scanner.proofs.Taken.InPlace.{Outside, free}
 use Rattle.saphyr_scanner.proofs.Effects.Flow.{has_some}
@@ -44,7 +44,7 @@ reaches_on s t u a p = reaches_reaches s t u a (apart_reached t.mark t.rest u.ma
 
 -- after what follows a `-` on its line, where no key is left
 abbrev Behind : Core → Core → Type 0
-Behind c d = Same (forget_key c) d × OnLine c.cursor d.cursor
+Behind c d = Same (forget_key c) d × OnLine c.cursor d.cursor × ((in_block c && c.required) ≡ false)
 
 dash_walked : (b : Core) (s : Cursor) (c : Core) → Reaches s c.cursor
     → Walked (Premises b) (Behind c) s (block.pass_dash c >>= remove_key)
@@ -61,27 +61,37 @@ dash_walked b s c a =
     (λ _. (g.0, g.1)) (λ _. (g.0, g.1)))))
     (λ d g. by_test (in_block d && d.required) _ _ (Walked (Premises b) (Behind c) s)
     (λ _ _. at_reach s d.cursor (there d g.1))
-    (λ _. ((ap (λ (l : Level). record { context = l.context; key = None }) g.0.0, g.0.1, g.0.2), g.1)))
+    (λ e. (
+      (
+        ap (λ (l : Level). record { context = l.context; key = None }) g.0.0,
+        g.0.1,
+        g.0.2,
+        cc (ap (λ (l : Level). is_block l.context) g.0.0, g.0.3),
+      ),
+      g.1,
+      cc (ap (λ (l : Level). is_block l.context) g.0.0, g.0.3),
+    )))
 
 -- from c, which comes before the `-`, at the column of its collection, which may have begun
 dash : {A : Type 0} (g : Begun) (c d : Core) → slice_index c.cursor.rest 0 ≡ hyphen
     → is_blank_or_breakz (slice_index c.cursor.rest 1) ≡ true → in_block c ≡ true → c.key_allowed ≡ true
     → IsAtColumn c.indent c.cursor.mark
-    → Same (forget_key c) d → OnLine (pass 1 c.cursor) d.cursor
+    → Same (forget_key c) d → d.key_allowed ≡ true → OnLine (pass 1 c.cursor) d.cursor
     → ((p : Span) → IsTrue (may_follow g tokens.BlockEntry p))
     → DoesWithin A (with_begun g (enclosures_of c)) (enclosures_of d) None 1 1 (forget_key c) d
     (at_mark d.cursor.mark tokens.BlockEntry ∷ [])
-dash g c d first second b allowed column s o follows =
+dash g c d first second b allowed column s free o follows =
     let r : Core = forget_key c in
     let u = d.cursor in
     let later = apart_later (pass 1 c.cursor).mark (pass 1 c.cursor).rest u.mark u.rest o.apart in
     and_then (λ n. n) (loud (with_begun g (enclosures_of c)) 1 r (empty_piece u.mark tokens.BlockEntry) u (λ x. refl)
-    (rw (follows (empty_piece u.mark tokens.BlockEntry).span) refl) (λ i. absurd (cc)) refl
+    (rw (follows (empty_piece u.mark tokens.BlockEntry).span) refl) (λ i. absurd (cc)) refl refl
     ((λ _. (allowed, ap (λ (m : Marker). m.line) o.on_line.4)), λ no. absurd (cc)) b refl
     (indicated 45 r u (empty_piece u.mark tokens.BlockEntry) (record { some = refl; unbroken = refl; is = first })
     o.apart (omega (arith, later.index)) (omega arith) (omega arith)
     (λ t _ _. (t, ap is_blank_or_breakz (second_is c.cursor.rest) ∙ second, o.on_line, refl, column))))
-    (further (freed (with_cursor u r)) d s (taken.nothing u.mark u.rest) (λ _. inl refl))
+    (further (freed (with_cursor u r)) d s (taken.nothing u.mark u.rest)
+    (λ _. allows_right (freed (with_cursor u r)) d (λ _. inl refl) (λ _. free)))
 
 -- where no block collection begins the innermost is at this column
 at_column : (i column : ℕ) (b : Bool) → b ≡ true → (b && nat_le i column) ≡ false → i ≤ column + 1 → i ≡ column + 1
@@ -102,19 +112,18 @@ next_entry_does c e allowed deep first second =
     (λ f. let r : Core = enter_block s.mark.col (pass_on 1 c) in
     walked_then (Premises c) (Behind r) (Doing None c) s (block.pass_dash r >>= remove_key) _ (dash_walked c s r a)
     (λ d g. at_most (omega arith) (and_then (λ n. n)
-    (block_begins (enclosure_of c.level.context) c tokens.BlockSequenceStart place.BlockSequence
-    (λ i. absurd (cc)) refl refl allowed (λ i p u t h. h) (λ x y. refl) (λ p all. refl) (λ p columns. refl) e
+    (block_begins (enclosure_of c.level.context) c _ tokens.BlockSequenceStart place.BlockSequence
+    (λ i. absurd (cc)) refl refl allowed (λ f. absurd (let no = g.2 in cc)) (λ f. absurd (cc)) (λ p. refl) (λ i p u t h. h) (λ x y. refl) (λ p all. refl) (λ p columns. refl) e
     (further_right s.mark.col c f) (ap taken.begins_text first))
     (dash place.BlockSequence (enter_block s.mark.col c) (record d { key_allowed = true }) first second e allowed refl
-    g.0 g.1
-    (λ p. refl)))))
+    g.0 refl g.1 (λ p. refl)))))
     (λ f. walked_then (Premises c) (Behind (pass_on 1 c)) (Doing None c) s
     (block.pass_dash (pass_on 1 c) >>= remove_key) _ (dash_walked c s (pass_on 1 c) a)
     (λ d g. at_most (omega arith) (and_then (λ n. n)
     (lesser (enclosures_of c) c (forget_key c) (record { block = refl; key = inr refl }) refl (λ n. n)
-    (taken.nothing s.mark s.rest) (λ a. inl a))
+    (taken.nothing s.mark s.rest) (λ _. ((λ a. inl a), λ r. r)) (forget_requires c g.2))
     (dash place.Nothing c (record d { key_allowed = true }) first second e allowed
-    (at_column c.indent s.mark.col (in_block c) e f (deep e)) g.0 g.1 (λ p. refl)))))
+    (at_column c.indent s.mark.col (in_block c) e f (deep e)) g.0 refl g.1 (λ p. refl)))))
 
 -- a key may begin outside flow
 pub allowed_in : (block allowed : Bool) → (block && not allowed) ≡ false → block ≡ true → allowed ≡ true
@@ -134,7 +143,8 @@ block_entry_does c deep first second =
 
 -- after what follows a `?`, where no key is left
 abbrev Asked : Core → Core → Type 0
-Asked c d = Same (forget_key c) d × AreApart (pass 1 c.cursor) d.cursor
+Asked c d = Same (forget_key c) d × AreApart (pass 1 c.cursor) d.cursor × (d.key_allowed ≡ in_block d)
+    × ((in_block c && c.required) ≡ false)
 
 question_walked : (A : Type 0) (c : Core) → Reaches c.cursor (pass 1 c.cursor)
     → Walked A (Asked c) c.cursor (remove_key c >>= λ d. block.pass_question (record d { key_allowed = in_block d }))
@@ -146,8 +156,9 @@ question_walked A c a =
     let P = Walked A (Asked c) c.cursor in
     by_test (in_block c && c.required) _ _
     (λ r. P (r >>= λ d. block.pass_question (record d { key_allowed = in_block d }))) (λ _ _. at_here c.cursor)
-    (λ _. by_test (not t.space) _ _ P (λ _ _. there)
-    (λ _. by_test (slice_index t.cursor.rest 0 == 9) _ _ P (λ _ _. there) (λ _. ((refl, refl, λ n. n), p))))
+    (λ free. by_test (not t.space) _ _ P (λ _ _. there)
+    (λ _. by_test (slice_index t.cursor.rest 0 == 9) _ _ P (λ _ _. there)
+    (λ _. ((refl, refl, (λ n. n), refl), p, refl, free))))
 
 -- what encloses the tokens after a `?`
 question_encloses : (x : Context) (outside : Outside)
@@ -160,10 +171,10 @@ question : {A : Type 0} (g : Begun) (x : Context) (c d : Core) → c.level.conte
     → c.level.key ≡ None → slice_index c.cursor.rest 0 ≡ question_mark
     → is_blank_or_breakz (slice_index c.cursor.rest 1) ≡ true
     → (in_block c ≡ true → IsAtColumn c.indent c.cursor.mark) → Same c d → AreApart (pass 1 c.cursor) d.cursor
-    → ((p : Span) → IsTrue (may_follow g tokens.Key p))
+    → d.key_allowed ≡ in_block d → ((p : Span) → IsTrue (may_follow g tokens.Key p))
     → DoesWithin A (with_begun g (free (enclosure_of x) (outside_of c))) (enclosures_of d) None 1 1 c d
     (up_to_here c.cursor.mark tokens.Key d ∷ [])
-question g x c d turned none first second column s a follows =
+question g x c d turned none first second column s a allowed follows =
     let u = d.cursor in
     let within = with_begun g (free (enclosure_of x) (outside_of c)) in
     let later = apart_later (pass 1 c.cursor).mark (pass 1 c.cursor).rest u.mark u.rest a in
@@ -171,7 +182,7 @@ question g x c d turned none first second column s a follows =
     let some = has_some t.span (omega (arith, later.index)) in
     let behind : enclosures_of c ≡ enclosures_behind tokens.Key t.span within =
     cc (question_encloses x (outside_of c), marked (has_text t.span) some) in
-    and_then (λ n. n) (encloses behind (quiet_within within 1 c t u refl (λ y. refl) (λ y. refl) (inl none)
+    and_then (λ n. n) (encloses behind (quiet_within within 1 c t u refl (λ y. refl) (λ y. refl) refl none
     (λ _. rw (follows t.span, some) refl) (λ i. absurd (cc)) refl
     (indicated 63 c u t (record { some = refl; unbroken = refl; is = first }) a (omega arith)
     (omega (arith, later.index)) (omega arith)
@@ -182,7 +193,8 @@ question g x c d turned none first second column s a follows =
       (u.rest, a),
       λ f. column (not-false (in_block c) f),
     )))))
-    (further (freed (with_cursor u c)) d s (taken.nothing u.mark u.rest) (λ _. inl refl))
+    (further (freed (with_cursor u c)) d s (taken.nothing u.mark u.rest)
+    (λ _. allows_right (freed (with_cursor u c)) d (λ _. inl refl) (λ e. allowed ∙ e)))
   where
     marked : (b : Bool) → b ≡ true → (if b then turned_to (place.behind_question (enclosure_of x))
         (free (enclosure_of x) (outside_of c)) else awaiting_colon c.cursor.mark
@@ -210,21 +222,30 @@ key_does c deep first second =
     (λ f. let r : Core = with_context x (enter_block s.mark.col c) in
     walked_then (Premises c) (Asked r) (Doing None c) s _ _ (question_walked (Premises c) r a)
     (λ d g. at_most (omega arith) (and_then (λ n. n)
-    (block_begins (enclosure_of c.level.context) c tokens.BlockMappingStart place.BlockMapping
+    (block_begins (enclosure_of c.level.context) c _ tokens.BlockMappingStart place.BlockMapping
     (λ i. absurd (cc)) refl refl (allowed_in (in_block c) c.key_allowed w (further_block s.mark.col c f))
-    (λ i p u t h. h) (λ j y. refl) (λ p all. refl) (λ p columns. refl)
+    (λ yes. absurd (let no = same_free (in_block c) (in_block r) c.required (question_block c.level.context) g.3 in
+    let b = further_block s.mark.col c f in cc)) (λ yes. absurd (let b = further_block s.mark.col c f in cc)) (λ p. refl) (λ i p u t h. h) (λ j y. refl) (λ p all. refl) (λ p columns. refl)
     (further_block s.mark.col c f) (further_right s.mark.col c f) (ap taken.begins_text first)) (and_then (λ n. n)
     (lesser (with_begun place.BlockMapping (enclosures_of (enter_block s.mark.col c)))
     (forget_key (enter_block s.mark.col c)) (forget_key r)
     (record { block = question_block c.level.context; key = inr refl }) refl (λ n. n) (taken.nothing s.mark s.rest)
-    (λ a. inl a))
-    (question place.BlockMapping c.level.context (forget_key r) d refl refl first second (λ _. refl) g.0 g.1
+    (λ _. ((λ a. inl a), λ h b. h (sym (question_block c.level.context) ∙ b)))
+    (record { required = rw (question_block c.level.context) refl; key = λ _ _. refl }))
+    (question place.BlockMapping c.level.context (forget_key r) d refl refl first second (λ _. refl) g.0 g.1 g.2
     (λ p. refl))))))
     (λ f. let r : Core = with_context x c in
     walked_then (Premises c) (Asked r) (Doing None c) s _ _ (question_walked (Premises c) r a)
     (λ d g. at_most (omega arith) (and_then (λ n. n)
     (lesser (enclosures_of c) c (forget_key r) (record { block = question_block c.level.context; key = inr refl }) refl
-    (λ n. n) (taken.nothing s.mark s.rest) (λ a. inl a))
+    (λ n. n) (taken.nothing s.mark s.rest) (λ _. ((λ a. inl a), λ h b. h (sym (question_block c.level.context) ∙ b)))
+    (record {
+      required = (forget_requires r g.3).required;
+      key = λ b. (forget_requires r g.3).key (question_block c.level.context ∙ b);
+    }))
     (question place.Nothing c.level.context (forget_key r) d refl refl first second
     (λ e. let b = sym (question_block c.level.context) ∙ e in
-    at_column c.indent s.mark.col (in_block c) b f (deep b)) g.0 g.1 (λ p. refl))))))
+    at_column c.indent s.mark.col (in_block c) b f (deep b)) g.0 g.1 g.2 (λ p. refl))))))
+  where
+    same_free : (b x r : Bool) → x ≡ b → (x && r) ≡ false → (b && r) ≡ false
+    same_free b x r e f = rw e at f

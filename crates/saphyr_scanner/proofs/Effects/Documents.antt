@@ -1,5 +1,5 @@
 -- What each step of documents does: markers, byte order marks and directives.
-use Rattle.std.proofs.Common.{◌≡◌, ℕ, ◌+◌, ◌<◌, Bool, true, false, List, [], ◌∷◌, ◌++◌, length, drop, None, Result, Ok, Err, refl, sym, ap, ◌∙◌, arith, subst, inl, inr}
+use Rattle.std.proofs.Common.{◌≡◌, ℕ, ◌+◌, ◌≤◌, ◌<◌, ◌⊎◌, Bool, true, false, List, [], ◌∷◌, ◌++◌, length, drop, None, Result, Ok, Err, refl, sym, ap, ◌∙◌, arith, subst, inl, inr}
 use Rattle.std.specs.Prelude.{◌&&◌, ◌||◌, ◌==◌, slice_index, not, nat_lt, codes}
 use Rattle.saphyr_input.specs.Classes.{is_bom, is_break, is_breakz, is_blank_or_breakz, byte_order_mark}
 use Rattle.saphyr_input.specs.Places.{is_document_end, next_3_are}
@@ -20,12 +20,14 @@ use Rattle.saphyr_scanner.specs.Steps.Passing.{separate, with_cursor}
 use Rattle.saphyr_scanner.specs.Steps.State.{State, on_core, on_core_with, after_step}
 use Rattle.saphyr_scanner.specs.Steps.Unrolling.{unroll}
 use Rattle.saphyr_scanner.specs.Steps.Document as document
+use Rattle.saphyr_scanner.specs.Steps.Level.{Level, is_block}
+use Rattle.saphyr_scanner.specs.TokensInPlace.{is_of_flow_node}
 use Rattle.saphyr_scanner.specs.TokensTaken as taken
 use Rattle.saphyr_scanner.specs.TokensTaken.{AreApart, IsReached, IsToken, IsContentEnd}
 use Rattle.saphyr_scanner.proofs.Added.Queue.{IsNoEnd}
 use Rattle.saphyr_scanner.proofs.Blocks.{unrolled_cursor, unrolled_comment}
 use Rattle.saphyr_scanner.proofs.Counted.{stays, text_passed}
-use Rattle.saphyr_scanner.proofs.Effects.Moves.{Does, and_then, NoComment, Same, still, further}
+use Rattle.saphyr_scanner.proofs.Effects.Moves.{Around, Does, and_then, NoComment, Same, still, further}
 use Rattle.saphyr_scanner.proofs.Effects.Puts.{Reading, freed, quiet}
 use Rattle.saphyr_scanner.proofs.Effects.Walked.{Premises, Walked, walked_then, at_most, resting, unsaved_step, at_reach}
 use Rattle.saphyr_scanner.proofs.Effects.Walked.{at_inside, read_walked, separate_walked}
@@ -34,11 +36,12 @@ use Rattle.saphyr_scanner.proofs.Effects.States.{FetchesTokens, advances_advance
 use Rattle.saphyr_scanner.proofs.Effects.Steps.{begins_none, begins_forgotten}
 use Rattle.saphyr_scanner.proofs.LineTails.{OnLine, tail_apart}
 use Rattle.saphyr_scanner.proofs.Reached.{along_reached, apart_reached}
-use Rattle.saphyr_scanner.proofs.Taken.Documents.{HoldsState, forgotten_unrolled, three_at, Marking, end_marking, break_apart, directive_is_token, directive_keeps, quiet_directive, unbound_directive}
+use Rattle.saphyr_scanner.proofs.Taken.Documents.{HoldsState, unrolled_indent, forgotten_unrolled, three_at, Marking, end_marking, break_apart, directive_is_token, directive_keeps, quiet_directive, no_node_directive, unbound_directive}
 use Rattle.saphyr_scanner.proofs.Taken.Cores.{surroundings}
 use Rattle.saphyr_scanner.proofs.Taken.Neutral.{Neutral, neutral}
 use Rattle.saphyr_scanner.proofs.Taken.Held.{Setting, is_unbound}
 use Rattle.saphyr_scanner.proofs.Taken.Later.{apart_later}
+use Rattle.saphyr_scanner.proofs.Taken.Indented.{BeginsNoNode, IsRight, stays_no_node}
 use Rattle.saphyr_scanner.proofs.Taken.Parts.{is_quiet}
 use Rattle.saphyr_scanner.proofs.Taken.Places.{Reaches, reaches_reaches, At, at_here}
 use Rattle.saphyr_scanner.proofs.Taken.Separated.{apart_apart}
@@ -55,6 +58,7 @@ record Content (s t : State) : Type 0 where
   cursor : t.core.cursor ≡ s.core.cursor
   comment : NoComment s.core t.core
   no_key : t.core.level.key ≡ None
+  indent : in_block t.core ≡ true → t.core.indent ≡ 0
   holds : (opened : Setting) (from : Cursor) → HoldsState opened from s → HoldsState opened from t
 
 content_walked : (s : State) → IsContentEnd s.core.cursor
@@ -66,14 +70,15 @@ content_walked s end =
     by_test (in_block u.core && u.core.required) _ _
     (λ r. Walked (Premises s.core) (Content s) s.core.cursor (on_core r u.queue))
     (λ _ _. let P : Cursor → Type 0 = λ v. At s.core.cursor v.mark in subst P (sym there) (at_here s.core.cursor))
-    (λ _. record {
+    (λ free. record {
       advances = advances_advances 0 0 s u _ (unroll_advances None s.core.cursor.mark s refl)
           (on_core_fetches u (Ok (forget_key u.core))
           (stays u.core.cursor u.core.cursor refl, begins_forgotten 0 u.core u.core (begins_none u.core)));
       cursor = there;
       comment = λ n. unrolled_comment None s.core.cursor.mark s ∙ n;
       no_key = refl;
-      holds = λ opened from h. forgotten_unrolled opened from s end h;
+      indent = unrolled_indent s.core.cursor.mark s;
+      holds = λ opened from h. forgotten_unrolled opened from s end free h;
     })
 
 -- from s to t a token is put, which is taken from the text
@@ -97,22 +102,38 @@ documented s t x c m d = record {
 spelled : {A : Type 0} (c d : Core) → c.level.key ≡ None → (kind : Kind) (text : List ℕ)
     → c.cursor.rest ≡ text ++ d.cursor.rest
     → d.cursor.mark.index ≡ c.cursor.mark.index + length text → 0 < length text → is_quiet kind ≡ true
-    → ((span : Span) → Neutral (record { span = span; kind = kind })) → IsNoEnd kind → is_unbound kind ≡ true
-    → Same c d → ((b : Bool)
+    → ((span : Span) → Neutral (record { span = span; kind = kind }))
+    → ((span : Span) → is_of_flow_node kind span ≡ false) → IsNoEnd kind → is_unbound kind ≡ true
+    → Same c d → IsRight d → ((b : Bool)
     → IsToken (surroundings b c) kind (record { start = c.cursor.mark; end = d.cursor.mark }) c.cursor d.cursor)
     → Does A None 1 5 c d (up_to_here c.cursor.mark kind d ∷ [])
-spelled c d none kind text is i some q b e unbound s token =
+spelled c d none kind text is i some q b node e unbound s right token =
     let u = d.cursor in
     let a = text_passed c.cursor u text is i in
     at_most (omega arith) (and_then (λ n. n)
     (quiet 1 c (record { span = record { start = c.cursor.mark; end = u.mark }; kind = kind }) u q
-    (b (record { start = c.cursor.mark; end = u.mark })) (inl none) e unbound
+    (b (record { start = c.cursor.mark; end = u.mark })) (node (record { start = c.cursor.mark; end = u.mark })) none e
+    unbound
     (record {
       less = λ _. omega (arith, a.counted, i, some);
       span = λ _. record { ahead = a; begins = omega arith; inside = a.later; ends = omega arith };
       token = λ _. (u, (λ b _. token b), taken.nothing u.mark u.rest);
     }))
-    (still (freed (with_cursor u c)) d s refl (λ _. inl refl)))
+    (still (freed (with_cursor u c)) d s refl (λ _. ((λ _. inl refl), λ _. right))))
+
+-- after blanks and a comment the text goes on as far right, or there is no node still
+tail_right : (c d : Core) → Same c d → OnLine c.cursor d.cursor → d.key_allowed ≡ c.key_allowed → IsRight c → IsRight d
+tail_right c d s o allowed h b f small =
+    let line = ap (λ (m : Marker). m.line) o.on_line.4 in
+    let column = ap (λ (m : Marker). m.col) o.on_line.4 in
+    let indent = ap (λ (x : Around). x.indent) s.1 in
+    let before = h (ap (λ (l : Level). is_block l.context) (sym s.0) ∙ b) (sym allowed ∙ f)
+    (omega (arith, line, small)) in by before column indent
+  where
+    by : (c.indent ≤ c.cursor.mark.col) ⊎ BeginsNoNode c.cursor.rest → d.cursor.mark.col ≡ c.cursor.mark.col + length o.on_line.0
+        → d.indent ≡ c.indent → (d.indent ≤ d.cursor.mark.col) ⊎ BeginsNoNode d.cursor.rest
+    by (inl l) column indent = inl (omega (arith, l, column, indent))
+    by (inr w) column indent = inr (stays_no_node c.cursor d.cursor o.apart w)
 
 -- ## Markers
 
@@ -136,8 +157,8 @@ marker_walked stands text kind marking no_end s col e = walked_then (Premises s.
     ) in (
       documented s t (record { core = d; actions = up_to_here t.core.cursor.mark kind d ∷ [] }) c (λ n. n)
           (spelled t.core d c.no_key kind text three (let k = marking.count in omega (arith, k))
-          (let k = marking.count in omega (arith, k)) marking.quiet marking.keeps no_end marking.unbound
-          (refl, refl, λ n. n)
+          (let k = marking.count in omega (arith, k)) marking.quiet marking.keeps marking.no_node no_end marking.unbound
+          (refl, refl, (λ n. n), refl) (λ i _ _. inl (let left = c.indent i in omega (arith, left)))
           (λ b. marking.is (surroundings b t.core) _ t.core.cursor d.cursor token)),
       ap (pass 3) c.cursor,
     ))
@@ -188,7 +209,7 @@ end_marker_walked s col e =
         let u = x.1.cursor in
         let later = apart_later c.mark c.rest u.mark u.rest h.1.apart in
         let f : Does (Unit {0}) None 0 0 t.core x.1 [] = further t.core x.1 h.0 h.1.apart
-        (λ a. inl (sym h.2 ∙ a)) in
+        (λ _. ((λ a. inl (sym h.2 ∙ a)), tail_right t.core x.1 h.0 h.1 h.2)) in
         by_test (is_breakz (slice_index u.rest 0)) _ _ (Walked (Premises s.core) (Documented s) s.core.cursor)
         (λ _. record {
           advances = advances_advances 1 0 s t _ d.advances
@@ -224,7 +245,7 @@ mark_walked s e =
     documented s t (record { core = d; actions = up_to_here here.mark tokens.ByteOrderMark d ∷ [] }) c (λ n. n)
     (subst P c.cursor (spelled t.core d c.no_key tokens.ByteOrderMark (byte_order_mark ∷ []) is (omega arith)
     (omega arith) refl
-    (λ p. neutral _ p refl) (λ i. absurd (cc)) refl (refl, refl, λ n. n)
+    (λ p. neutral _ p refl) (λ p. refl) (λ i. absurd (cc)) refl (refl, refl, (λ n. n), refl) (λ _ f. absurd (cc))
     (λ _. record { is = is; at_start = col; start = refl; end = refl; goes_on = refl })))))
   where
     no_column : (n : ℕ) (b : Bool) → (nat_lt 0 n || b) ≡ false → n ≡ 0
@@ -306,9 +327,11 @@ directive_walked s col f =
         documented s t (record { core = d; actions = from_to t.core.cursor.mark x.1 kind ∷ [] }) c (λ n. n)
         (at_most (omega arith) (and_then (λ n. n)
         (quiet 1 t.core (record { span = record { start = t.core.cursor.mark; end = x.1 }; kind = kind }) x.2
-        (quiet_directive x.0) (directive_keeps x.0 (record { start = t.core.cursor.mark; end = x.1 })) (inl c.no_key)
+        (quiet_directive x.0) (directive_keeps x.0 (record { start = t.core.cursor.mark; end = x.1 }))
+        (no_node_directive x.0 (record { start = t.core.cursor.mark; end = x.1 })) c.no_key
         (directive_is_no_end x.0) (unbound_directive x.0) (directive_reading t.core x col first e))
-        (still (freed (with_cursor x.2 t.core)) d (refl, refl, λ n. n) refl (λ _. inl refl))))
+        (still (freed (with_cursor x.2 t.core)) d (refl, refl, (λ n. n), refl) refl
+        (λ _. ((λ _. inl refl), λ _ i _ _. inl (let left = c.indent i in omega (arith, left)))))))
     by t c (Err e) col first h = h
 
 -- ## What follows

@@ -1,8 +1,9 @@
 -- What each step of flow collections does.
-use Rattle.std.proofs.Common.{◌≡◌, ℕ, ◌+◌, ◌-◌, ◌<◌, Bool, true, false, List, [], ◌∷◌, length, suc, ◌∙◌, Some, None, refl, sym, ap, arith, subst, inl, inr, IsTrue}
+use Rattle.std.proofs.Common.{◌≡◌, ℕ, ◌+◌, ◌-◌, ◌≤◌, ◌<◌, Bool, true, false, List, [], ◌∷◌, length, suc, ◌∙◌, Some, None, refl, sym, ap, arith, subst, inl, inr, IsTrue}
 use Rattle.std.specs.Prelude.{◌&&◌, ◌==◌, slice_index, nat_le, if◌then◌else◌}
-use Rattle.saphyr_input.specs.Indicators.{comma}
+use Rattle.saphyr_input.specs.Indicators.{colon, comma}
 use Rattle.saphyr_input.specs.Classes.{is_break}
+use Rattle.saphyr_scalar.specs.declared.scalar.position.Marker.{Marker}
 use Rattle.saphyr_scalar.specs.declared.scalar.position.Span.{Span}
 use Rattle.saphyr_scalar.specs.Views.Cursor.{Cursor, ◌>>=◌, pass}
 use Rattle.saphyr_scanner.specs.declared.engine.level.Context.{Context}
@@ -21,12 +22,13 @@ use Rattle.saphyr_scanner.specs.TokensInPlace as place
 use Rattle.saphyr_scanner.specs.TokensInPlace.{Enclosure, Enclosures, has_text, enclosures_behind, may_end_pair, is_of_flow_node, fits}
 use Rattle.saphyr_scanner.specs.Limits.{most_open}
 use Rattle.saphyr_scanner.proofs.Added.Queue.{IsNoEnd}
-use Rattle.saphyr_scanner.proofs.Effects.Moves.{Around, around, DoesWithin, Does, encloses, NoComment, and_then, Same, same, lesser, further, still_within, leaving}
+use Rattle.saphyr_scanner.proofs.Effects.Moves.{Around, around, DoesWithin, Does, encloses, NoComment, and_then, Same, same, lesser, further, still_within, allows_right, same_right, leaving}
 use Rattle.saphyr_scanner.proofs.Effects.Puts.{freed, Reading, empty_reading, IndicatorStands, passes, indicated, quiet_within, saving, entered, left}
 use Rattle.saphyr_scanner.proofs.Effects.Walked.{Premises, Walked, walked_then, at_most, Doing}
 use Rattle.saphyr_scanner.proofs.Effects.Walked.{separate_walked}
 use Rattle.saphyr_scanner.proofs.LineTails.{OnLine}
-use Rattle.saphyr_scanner.proofs.Taken.Cores.{apart_same, by_bool, surroundings}
+use Rattle.saphyr_scanner.proofs.Taken.Cores.{apart_same, by_bool, surroundings, forget_requires}
+use Rattle.saphyr_scanner.proofs.Taken.Indented.{other_than_colon}
 use Rattle.saphyr_scanner.proofs.Taken.Keys.{IsArrival}
 use Rattle.saphyr_scanner.proofs.Taken.Held.{is_unbound, enclosure_of, outside_of, enclosures_of, Adjoins, FitsWithin}
 use Rattle.saphyr_scanner.proofs.Taken.InPlace.{deeper, no_text, Outside, free}
@@ -39,6 +41,7 @@ use Rattle.std.proofs.lemmas.Bool.{lt-ltb}
 -- a bracket or a comma
 pub record Bracket (x : ℕ) (kind : Kind) : Type 0 where
   pub some : (x == 0) ≡ false
+  pub other : (x == colon) ≡ false
   pub unbroken : is_break x ≡ false
   pub quiet : is_quiet kind ≡ true
   pub no_end : IsNoEnd kind
@@ -93,17 +96,24 @@ pub record Leaves (kind : Kind) (span : Span) : Type 0 where
   pub encloses : (all : Enclosures) → enclosures_behind kind span all ≡ place.left_for all.outer all.columns
   pub depth : (d : ℕ) → deeper kind span (suc d) ≡ d
   pub ends_json : (b : Bool) → ends_json_behind kind span b ≡ true
+  pub no_node : is_of_flow_node kind span ≡ false
 
 abbrev pub LeavesAll : Kind → Type 0
 LeavesAll kind = (span : Span) → span.start.index < span.end.index → Leaves kind span
 
 pub sequence_leaves : LeavesAll tokens.FlowSequenceEnd
-sequence_leaves span l = record { encloses = λ all. refl; depth = λ d. omega arith; ends_json = λ b. refl }
+sequence_leaves span l =
+    record { encloses = λ all. refl; depth = λ d. omega arith; ends_json = λ b. refl; no_node = refl }
 
 pub mapping_leaves : LeavesAll tokens.FlowMappingEnd
 mapping_leaves span l =
     let some = has_some span l in
-    record { encloses = λ all. rw some refl; depth = λ d. rw some (omega arith); ends_json = λ b. rw some refl }
+    record {
+      encloses = λ all. rw some refl;
+      depth = λ d. rw some (omega arith);
+      ends_json = λ b. rw some refl;
+      no_node = refl;
+    }
 
 -- a single pair may have ended before
 abbrev pub ended : Bool → Enclosures → Enclosures
@@ -153,6 +163,7 @@ pub open_sequence : Bracket 91 tokens.FlowSequenceStart
 open_sequence =
     record {
       some = refl;
+      other = refl;
       unbroken = refl;
       quiet = refl;
       no_end = λ i. absurd (cc);
@@ -164,6 +175,7 @@ pub open_mapping : Bracket 123 tokens.FlowMappingStart
 open_mapping =
     record {
       some = refl;
+      other = refl;
       unbroken = refl;
       quiet = refl;
       no_end = λ i. absurd (cc);
@@ -175,6 +187,7 @@ pub close_sequence : Bracket 93 tokens.FlowSequenceEnd
 close_sequence =
     record {
       some = refl;
+      other = refl;
       unbroken = refl;
       quiet = refl;
       no_end = λ i. absurd (cc);
@@ -186,6 +199,7 @@ pub close_mapping : Bracket 125 tokens.FlowMappingEnd
 close_mapping =
     record {
       some = refl;
+      other = refl;
       unbroken = refl;
       quiet = refl;
       no_end = λ i. absurd (cc);
@@ -197,6 +211,7 @@ comma_is_bracket : Bracket 44 tokens.FlowEntry
 comma_is_bracket =
     record {
       some = refl;
+      other = refl;
       unbroken = refl;
       quiet = refl;
       no_end = λ i. absurd (cc);
@@ -251,8 +266,10 @@ start_does i kind x b starts counts enters flows n c f =
     let into = enters span some in
     and_then (λ n. n) (entered n x c behind (bracket_piece kind c u) flows s refl (λ n. n) b.quiet (counts span some)
     into.encloses into.depth into.of_node into.fits b.no_end b.unbound (starts span some) refl
-    (bracket_read i kind c u b f g.1))
-    (further (flow.enter x behind) e.1 g.0 (taken.nothing u.mark u.rest) (λ _. inl refl)))))
+    (other_than_colon i c.cursor.rest b.other f) (bracket_read i kind c u b f g.1))
+    (further (flow.enter x behind) e.1 g.0 (taken.nothing u.mark u.rest)
+    (λ _. allows_right (flow.enter x behind) e.1 (λ _. inl refl)
+    (λ no. absurd (let same = ap (λ (l : Level). is_block l.context) g.0.0 in cc)))))))
 
 -- ## The end of a collection or an entry
 
@@ -263,6 +280,7 @@ record Respected (x y v w : Core) : Type 0 where
   behind : w.cursor ≡ y.cursor
   silent : NoComment x v
   allows : v.key_allowed ≡ x.key_allowed
+  allows_behind : w.key_allowed ≡ y.key_allowed
 
 adjacent_respected : (x y : Core) → Same x y → y.cursor ≡ x.cursor
     → Respected x y (flow.allow_adjacent x) (flow.allow_adjacent y)
@@ -272,7 +290,8 @@ adjacent_respected x y s e = by (in_block x) (in_block y) (ap (λ (l : Level). i
     allowed b c = if b then c else record c { adjacent = c.cursor.mark.index }
 
     by : (a b : Bool) → b ≡ a → Respected x y (allowed a x) (allowed b y)
-    by true true f = record { same = s; before = refl; behind = refl; silent = λ n. n; allows = refl }
+    by true true f =
+        record { same = s; before = refl; behind = refl; silent = λ n. n; allows = refl; allows_behind = refl }
     by true false f = absurd (cc)
     by false true f = absurd (cc)
     by false false f = record {
@@ -281,25 +300,28 @@ adjacent_respected x y s e = by (in_block x) (in_block y) (ap (λ (l : Level). i
         ap (λ (a : Around). record a { adjacent = y.cursor.mark.index }) s.1
             ∙ ap (λ (u : Cursor). record (around x) { adjacent = u.mark.index }) e,
         s.2,
+        s.3,
       );
       before = refl;
       behind = refl;
       silent = λ n. n;
       allows = refl;
+      allows_behind = refl;
     }
 
 -- after a bracket or a comma, which leaves d after c, and before it the end of a pair
 bracket_walked : (x : ℕ) (kind : Kind) → Bracket x kind → (c d : Core) (ends : Bool) → slice_index c.cursor.rest 0 ≡ x
-    → d.cursor ≡ c.cursor → NoComment c d → EndsPair ends c.level.context
+    → (in_block c && c.required) ≡ false → d.cursor ≡ c.cursor → NoComment c d → EndsPair ends c.level.context
     → (f : Core → Core) → ((x y : Core) → Same x y → y.cursor ≡ x.cursor → Respected x y (f x) (f y))
-    → ((u : Cursor) → c.cursor.mark.index < u.mark.index → Reading 1 (with_key None c) (bracket_piece kind c u) u
-    → DoesWithin (IsArrival c) (ended ends (enclosures_of c)) (enclosures_of (f (freed (with_cursor u d)))) None 1 1
-    (with_key None c) (f (freed (with_cursor u d))) (Put (bracket_piece kind c u) ∷ []))
+    → ((u : Cursor) → c.cursor.mark.index < u.mark.index → c.cursor.mark.col < u.mark.col
+    → Reading 1 (with_key None c) (bracket_piece kind c u) u
+    → DoesWithin (IsArrival c) (ended ends (enclosures_of c)) (enclosures_of (f (with_cursor u d))) None 1 1
+    (with_key None c) (f (with_cursor u d)) (Put (bracket_piece kind c u) ∷ []))
     → Walked (Premises c) (Doing None c) c.cursor
     (separate (pass_on 1 d) >>= λ e. completed_step
     (flow.behind_pair ends c.cursor.mark (up_to_here c.cursor.mark kind e.1))
     (f e.1))
-bracket_walked x kind bracket c d ends first there silent may f alike put =
+bracket_walked x kind bracket c d ends first free there silent may f alike put =
     let on : (pass_on 1 d).cursor ≡ pass 1 c.cursor = ap (pass 1) there in
     let R : Cursor → Type 0 = λ v. Reaches c.cursor v in
     let b : Core = with_key None c in
@@ -307,16 +329,22 @@ bracket_walked x kind bracket c d ends first there silent may f alike put =
     (separate_walked c c.cursor (pass_on 1 d)
     (λ _. subst R (sym on) (passes x c.cursor (stands x kind c.cursor bracket first)))) (λ e g.
     let u : Cursor = e.1.cursor in
-    let k = alike (freed (with_cursor u d)) e.1 g.0 refl in
+    let r : Core = with_cursor u d in
+    let k = alike r e.1 g.0 refl in
     let o : OnLine (pass 1 c.cursor) u = rw on at g.1 in
     let later = apart_later (pass 1 c.cursor).mark (pass 1 c.cursor).rest u.mark u.rest o.apart in
     let token = and_then (λ n. k.silent (silent n))
-    (put u (omega (arith, later.index)) (bracket_read x kind b u bracket first o))
-    (further (f (freed (with_cursor u d))) (f e.1) k.same
-    (apart_same (f (freed (with_cursor u d))).cursor (f e.1).cursor (k.behind ∙ sym k.before)) (λ _. inl k.allows)) in
+    (put u (omega (arith, later.index)) (let col = ap (λ (m : Marker). m.col) o.on_line.4 in omega (arith, col))
+    (bracket_read x kind b u bracket first o))
+    (further (f r) (f e.1) k.same (apart_same (f r).cursor (f e.1).cursor (k.behind ∙ sym k.before))
+    (λ _. let allowed = k.allows_behind ∙ g.2 ∙ sym k.allows in (
+      (λ a. inl (sym allowed ∙ a)),
+      same_right (f r) (f e.1) k.same (k.behind ∙ sym k.before) allowed,
+    ))) in
     let forgets : Does (IsArrival c) None 0 0 c b [] =
     lesser (enclosures_of c) c b (record { block = refl; key = inr refl }) refl (λ n. n)
-    (taken.nothing c.cursor.mark c.cursor.rest) (λ a. inl a) in
+    (taken.nothing c.cursor.mark c.cursor.rest) (λ _. ((λ a. inl a), λ h. h))
+    (record { required = refl; key = λ e r. absurd (cc) }) in
     by_bool ends
     (λ b2. EndsPair b2 c.level.context → DoesWithin (IsArrival c) (ended b2 (enclosures_of c)) (enclosures_of (f e.1))
     None 1 1 b (f e.1) (up_to_here c.cursor.mark kind e.1 ∷ []) → Does (IsArrival c) None 1 5 c (f e.1)
@@ -324,6 +352,9 @@ bracket_walked x kind bracket c d ends first there silent may f alike put =
     (λ _ pair last. at_most (omega arith) (and_then (λ n. n) forgets (and_then (λ n. n) (pair_end c (pair refl)) last)))
     (λ _ _ last. at_most (omega arith) (and_then (λ n. n) forgets last)) may token)
   where
+    pair_flows : (x : Context) → IsTrue (may_end_pair (enclosure_of x)) → is_block x ≡ false
+    pair_flows x e = grind arith
+
     pair_end : (c : Core) → IsTrue (may_end_pair (enclosure_of c.level.context))
         → DoesWithin (IsArrival c) (enclosures_of c) (place.turned_to place.Sequence (enclosures_of c)) None 0 1
         (with_key None c) (with_key None c) (at_mark c.cursor.mark tokens.FlowMappingEnd ∷ [])
@@ -332,10 +363,16 @@ bracket_walked x kind bracket c d ends first there silent may f alike put =
         let t = empty_piece c.cursor.mark tokens.FlowMappingEnd in
         let no = no_text c.cursor.mark.index in
         and_then (λ n. n) (encloses (rw no refl) (quiet_within (enclosures_of c) 0 b t c.cursor refl
-        (λ y. ap (λ (z : Collections). z.brackets) (pair_ends c.cursor.mark y)) (λ d. rw no refl) (inl refl)
+        (λ y. ap (λ (z : Collections). z.brackets) (pair_ends c.cursor.mark y)) (λ d. rw no refl) refl refl
         (λ _. rw no may) (λ i. absurd (cc)) refl
         (empty_reading b tokens.FlowMappingEnd (λ _. inr (refl, inl refl, refl)))))
-        (still_within (place.turned_to place.Sequence (enclosures_of c)) (freed b) b (same b) refl (λ _. inl refl))
+        (still_within (place.turned_to place.Sequence (enclosures_of c)) (freed b) b (same b) refl
+        (λ _. allows_right (freed b) b (λ _. inl refl)
+        (λ e. absurd (let no = pair_flows c.level.context may in cc))))
+
+least_reached : (deeper : Bool) (i m : ℕ) → (if deeper then i else i - 1) ≤ m → i ≤ m + 1
+least_reached true i m l = omega (arith, l)
+least_reached false i m l = omega (arith, l)
 
 pub end_does : (i : ℕ) (kind : Kind) → Bracket i kind → Counts (λ n. n - 1) kind → LeavesAll kind
     → (ends : Bool) (c : Core) → EndsPair ends c.level.context → MayClose kind ends c.level.context
@@ -347,20 +384,21 @@ end_does i kind b counts leaves ends c may close first =
     (λ d. Walked (Premises c) (Doing None c) c.cursor (separate (pass_on 1 d) >>= λ e. completed_step
     (flow.behind_pair ends c.cursor.mark (up_to_here c.cursor.mark kind e.1)) (flow.allow_adjacent e.1)))
     (λ l ls m.
-    bracket_walked i kind b c (record c { level = l; outer = ls; key_allowed = false }) ends first refl (λ n. n) may
-    flow.allow_adjacent adjacent_respected (λ u some r.
+    bracket_walked i kind b c (record c { level = l; outer = ls; key_allowed = false }) ends first (rw inside refl) refl
+    (λ n. n) may flow.allow_adjacent adjacent_respected (λ u some right r.
     let span : Span = record { start = c.cursor.mark; end = u.mark } in
     let out = leaves span some in
     let within = ended ends (enclosures_of c) in
     let t = bracket_piece kind c u in
-    let d : ℕ → Core = λ n. record c { cursor = u; level = l; outer = ls; key_allowed = true; adjacent = n } in
+    let d : ℕ → Core = λ n. record c { cursor = u; level = l; outer = ls; key_allowed = false; adjacent = n } in
     let Closes : Core → Type 0 =
     λ e. DoesWithin (IsArrival c) within (enclosures_of e) None 1 1 (with_key None c) e (Put t ∷ []) in
     let closes : (n : ℕ) → Adjoins t c (d n) → Closes (d n) = λ n j.
     encloses (m.encloses (outside_of c).columns ∙ sym (left_ended ends (enclosures_of c)) ∙ sym (out.encloses within))
     (left within (with_key None c) l ls t u n j
-    (record { above = m.above; keys = m.keys; fewer = m.fewer; encloses = m.encloses }) b.quiet
-    (counts span some) out.depth (close span some (outside_of c) inside) b.no_end b.unbound r) in
+    (record { above = m.above; keys = m.keys; root = m.root; fewer = m.fewer; encloses = m.encloses }) b.quiet
+    (counts span some) out.depth (close span some (outside_of c) inside) b.no_end b.unbound out.no_node inside
+    (λ a. let i = least_reached c.deeper c.indent c.cursor.mark.col a.3 in omega (arith, i, right)) r) in
     by_test (is_block l.context) _ _ Closes (λ _. closes c.adjacent (inl refl))
     (λ _. closes u.mark.index (inr (refl, out.ends_json))))))
 
@@ -392,11 +430,19 @@ entry_does c first =
     let within = ended (ends_pair x) (enclosures_of c) in
     by_test (in_block c && c.required) _ _
     (λ r. Walked (Premises c) (Doing None c) c.cursor (r >>= flow.next_flow_entry)) (λ _ _. at_here c.cursor)
-    (λ _. bracket_walked 44 tokens.FlowEntry comma_is_bracket c d (ends_pair x) first refl (λ n. n) (pair_may_end x)
-    (λ e. e) (λ v w s e. record { same = s; before = refl; behind = refl; silent = λ n. n; allows = refl })
-    (λ u some r. encloses (entry_encloses x (outside_of c) (bracket_piece tokens.FlowEntry c u).span) (and_then (λ n. n)
-    (quiet_within within 1 b (bracket_piece tokens.FlowEntry c u) u refl (λ y. refl) (λ e. refl) (inl refl)
+    (λ free. bracket_walked 44 tokens.FlowEntry comma_is_bracket c d (ends_pair x) first free refl (λ n. n)
+    (pair_may_end x) (λ e. e) (λ v w s e. record {
+      same = s;
+      before = refl;
+      behind = refl;
+      silent = λ n. n;
+      allows = refl;
+      allows_behind = refl;
+    })
+    (λ u some _ r. encloses (entry_encloses x (outside_of c) (bracket_piece tokens.FlowEntry c u).span) (and_then (λ n. n)
+    (quiet_within within 1 b (bracket_piece tokens.FlowEntry c u) u refl (λ y. refl) (λ e. refl) refl refl
     (λ _. entry_fits x (outside_of c) (bracket_piece tokens.FlowEntry c u).span) (λ i. absurd (cc)) refl r)
     (lesser (enclosures_behind tokens.FlowEntry (bracket_piece tokens.FlowEntry c u).span within)
-    (freed (with_cursor u b)) (freed (with_cursor u d)) (record { block = entry_block x; key = inr refl }) refl
-    (λ n. n) (taken.nothing u.mark u.rest) (λ _. inl refl)))))
+    (freed (with_cursor u b)) (with_cursor u d) (record { block = entry_block x; key = inr refl }) refl
+    (λ n. n) (taken.nothing u.mark u.rest) (λ _. ((λ _. inl refl), λ _ _ f. absurd (cc)))
+    (record { required = (forget_requires c free).required; key = λ _ _. refl })))))

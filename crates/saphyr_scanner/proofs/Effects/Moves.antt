@@ -1,10 +1,10 @@
 -- What a step does, in one statement, and the moves of which each step is put together. From the statement follow what
 -- is taken off the text, the order of the tokens, how many they are, what may be a key, and that each is a token of the
 -- text.
-use Rattle.std.proofs.Common.{◌≡◌, ℕ, ◌+◌, ◌-◌, ◌≤◌, ◌⊎◌, Bool, true, false, List, [], ◌∷◌, ◌++◌, length, Option, Some, None}
+use Rattle.std.proofs.Common.{◌≡◌, ℕ, ◌+◌, ◌-◌, ◌≤◌, ◌<◌, ◌⊎◌, Bool, true, false, List, [], ◌∷◌, ◌++◌, length, Option, Some, None}
 use Rattle.std.proofs.Common.{refl, sym, ap, ◌∙◌, arith, subst, inl, inr}
 use Rattle.saphyr_scalar.specs.Views.Cursor.{Cursor}
-use Rattle.saphyr_scanner.specs.Steps.Queue.{Queue, next}
+use Rattle.saphyr_scanner.specs.Steps.Queue.{Queue, is_empty_list, next}
 use Rattle.saphyr_scanner.specs.Steps.Core.{Core, Action, Put, Open, act, perform}
 use Rattle.saphyr_scanner.specs.Steps.Level.{Candidate, Level, is_block, at_root}
 use Rattle.saphyr_scanner.specs.Steps.Core.{in_block}
@@ -18,7 +18,8 @@ use Rattle.saphyr_scanner.proofs.Effects.Readers.{Readers, ReaderEnds, TextLaws}
 use Rattle.saphyr_scanner.proofs.Ordered.Queue.{PutsInOrder}
 use Rattle.saphyr_scanner.proofs.PlainBehind.{IsNoted}
 use Rattle.saphyr_scanner.proofs.Taken.Candidates.{KeyAbove, LevelsAbove, Above, ActionsAbove}
-use Rattle.saphyr_scanner.proofs.Taken.Cores.{HoldsWithin, Lesser, holds_lesser}
+use Rattle.saphyr_scanner.proofs.Taken.Cores.{HoldsWithin, Lesser, Requires, holds_lesser}
+use Rattle.saphyr_scanner.proofs.Taken.Indented.{BeginsNoNode, IsRight, root_key}
 use Rattle.saphyr_scanner.proofs.Taken.Held.{enclosure_of, enclosed_by, enclosures_of, Setting, AllowsKey}
 use Rattle.saphyr_scanner.proofs.Taken.Keys.{Keys}
 use Rattle.saphyr_scanner.proofs.Taken.InPlace.{free}
@@ -143,10 +144,10 @@ around c = record {
 }
 
 abbrev pub Same : Core → Core → Type 0
-Same c d = (d.level ≡ c.level) × (around d ≡ around c) × NoComment c d
+Same c d = (d.level ≡ c.level) × (around d ≡ around c) × NoComment c d × (d.required ≡ c.required)
 
 pub same : (c : Core) → Same c c
-same c = (refl, refl, λ n. n)
+same c = (refl, refl, (λ n. n), refl)
 
 lesser_above : (h : ℕ) (l m : Level) → Lesser l m → KeyAbove h l.key → KeyAbove h m.key
 lesser_above h l m e a = by e.key
@@ -157,8 +158,9 @@ lesser_above h l m e a = by e.key
 
 -- separation is passed, and the key may be forgotten
 pub lesser : {A : Type 0} (within : Enclosures) (c d : Core) → Lesser c.level d.level → around d ≡ around c
-    → NoComment c d → AreApart c.cursor d.cursor → AllowsKey c d → DoesWithin A within within None 0 0 c d []
-lesser within c d l a m p allows =
+    → NoComment c d → AreApart c.cursor d.cursor → (A → AllowsKey c d) → Requires c d
+    → DoesWithin A within within None 0 0 c d []
+lesser within c d l a m p allows r =
     let later = apart_later c.cursor.mark c.cursor.rest d.cursor.mark d.cursor.rest p in
     record {
       less = λ _. omega (arith, later.index, later.counted);
@@ -173,38 +175,54 @@ lesser within c d l a m p allows =
             (lesser_above h c.level d.level l x.0, subst P (sym (ap (λ (y : Around). y.outer) a)) x.1),
             tt,
           );
-      holds = λ _ _ opened from q _ h.
+      holds = λ premise _ opened from q _ h.
           holds_lesser within opened from c d q l (ap (λ (x : Around). x.outer) a) (ap (λ (x : Around). x.indent) a)
-          (ap (λ (x : Around). x.outer_indents) a) (ap (λ (x : Around). x.adjacent) a) p allows h;
+          (ap (λ (x : Around). x.outer_indents) a) (ap (λ (x : Around). x.adjacent) a) p (allows premise) r
+          h;
       noted = λ f. inl (m f);
     }
 
 pub further_within : {A : Type 0} (within : Enclosures) (c d : Core) → Same c d → AreApart c.cursor d.cursor
-    → AllowsKey c d → DoesWithin A within within None 0 0 c d []
+    → (A → AllowsKey c d) → DoesWithin A within within None 0 0 c d []
 further_within within c d s p allows = lesser within c d
     (record { block = ap (λ (l : Level). is_block l.context) s.0; key = inl (ap (λ (l : Level). l.key) s.0) }) s.1 s.2
-    p allows
+    p allows (record { required = s.3; key = λ _ _. ap (λ (l : Level). l.key) s.0 })
+
+-- where a key may begin it is not asked how far right the text goes on
+pub allows_right : (c d : Core) → ((d.key_allowed ≡ true → (c.key_allowed ≡ true)
+    ⊎ (c.cursor.mark.line < d.cursor.mark.line))) → (in_block d ≡ true → d.key_allowed ≡ true) → AllowsKey c d
+allows_right c d begins free = (begins, λ _ b f. absurd (let e = free b in cc))
+
+-- the text goes on at the same place
+pub same_right : (c d : Core) → Same c d → d.cursor ≡ c.cursor → d.key_allowed ≡ c.key_allowed → IsRight c → IsRight d
+same_right c d s e k h b f l =
+    let P : Cursor → ℕ → Type 0 = λ u i. (i ≤ u.mark.col) ⊎ BeginsNoNode u.rest in
+    subst (λ u. P u d.indent) (sym e) (subst (λ i. P c.cursor i) (sym (ap (λ (x : Around). x.indent) s.1))
+    (h (ap (λ (m : Level). is_block m.context) (sym s.0) ∙ b) (sym k ∙ f)
+    (let line = ap (λ (u : Cursor). u.mark.line) e in omega (arith, line, l))))
 
 pub same_around : (c d : Core) → Same c d → enclosures_of d ≡ enclosures_of c
 same_around c d s = grind arith
 
-pub further : {A : Type 0} (c d : Core) → Same c d → AreApart c.cursor d.cursor → AllowsKey c d → Does A None 0 0 c d []
+pub further : {A : Type 0} (c d : Core) → Same c d → AreApart c.cursor d.cursor → (A → AllowsKey c d)
+    → Does A None 0 0 c d []
 further c d s p allows = encloses (same_around c d s) (further_within (enclosures_of c) c d s p allows)
 
 -- what is known stays, where the text doesn't go on
-pub still_within : {A : Type 0} (within : Enclosures) (c d : Core) → Same c d → d.cursor ≡ c.cursor → AllowsKey c d
-    → DoesWithin A within within None 0 0 c d []
+pub still_within : {A : Type 0} (within : Enclosures) (c d : Core) → Same c d → d.cursor ≡ c.cursor
+    → (A → AllowsKey c d) → DoesWithin A within within None 0 0 c d []
 still_within within c d s e allows =
     further_within within c d s (let P : Cursor → Type 0 = λ u. AreApart c.cursor u in subst P (sym e)
     (taken.nothing c.cursor.mark c.cursor.rest)) allows
 
-pub still : {A : Type 0} (c d : Core) → Same c d → d.cursor ≡ c.cursor → AllowsKey c d → Does A None 0 0 c d []
+pub still : {A : Type 0} (c d : Core) → Same c d → d.cursor ≡ c.cursor → (A → AllowsKey c d) → Does A None 0 0 c d []
 still c d s e allows = encloses (same_around c d s) (still_within (enclosures_of c) c d s e allows)
 
 -- a flow collection is left for the level around it
 pub record Left (c : Core) (l : Level) (ls : List Level) : Type 0 where
   pub above : (h : ℕ) → LevelsAbove h c.outer → KeyAbove h l.key × LevelsAbove h ls
   pub keys : (all : Enclosures) (b : ℕ) (q : Queue) → Keys all b q c.indent c.outer → Keys all b q c.indent (l ∷ ls)
+  pub root : is_empty_list c.outer ≡ false → root_key (l ∷ ls) ≡ root_key c.outer
   pub fewer : length ls ≡ length c.outer - 1
   pub encloses : (columns : List ℕ)
       → free (enclosure_of l.context) (record { enclosed = enclosed_by ls; columns = columns })
@@ -213,23 +231,26 @@ pub record Left (c : Core) (l : Level) (ls : List Level) : Type 0 where
 pub leaving : (c : Core) (P : Core → Type 0)
     → ((l : Level) (ls : List Level) → Left c l ls → P (record c { level = l; outer = ls; key_allowed = false }))
     → P (flow.leave c)
-leaving c P f = by c.outer (λ h a. a) (λ x b q k. k) refl (λ columns. refl)
+leaving c P f = by c.outer (λ h a. a) (λ x b q k. k) (λ e. e) refl refl (λ columns. refl)
   where
     by : (ls : List Level) → ((h : ℕ) → LevelsAbove h c.outer → LevelsAbove h ls)
         → ((all : Enclosures) (b : ℕ) (q : Queue) → Keys all b q c.indent c.outer → Keys all b q c.indent ls)
+        → (is_empty_list c.outer ≡ false → is_empty_list ls ≡ false) → root_key ls ≡ root_key c.outer
         → length c.outer ≡ length ls
         → ((columns : List ℕ) → left_for (enclosed_by c.outer) columns ≡ left_for (enclosed_by ls) columns)
         → P (flow.leave_to ls c)
-    by [] above keys n e = f at_root [] (record {
+    by [] above keys some root n e = f at_root [] (record {
       above = λ h a. (tt, tt);
       keys = λ x b q k. (refl, tt, tt);
+      root = λ e. absurd (let no = some e in cc);
       fewer = omega (arith, n);
       encloses = λ columns. sym (e columns);
     })
-    by (l ∷ ls) above keys n e =
+    by (l ∷ ls) above keys some root n e =
         f l ls (record {
           above = above;
           keys = keys;
+          root = λ _. root;
           fewer = omega (arith, n);
           encloses = λ columns. sym (e columns);
         })

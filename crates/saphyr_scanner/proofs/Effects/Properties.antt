@@ -1,7 +1,7 @@
 -- What each step of anchors, aliases and tags does, by the laws of the readers.
-use Rattle.std.proofs.Common.{◌≡◌, ℕ, ◌+◌, ◌<◌, Bool, true, List, ◌∷◌, ◌++◌, length, Some, refl, sym, ap, ◌∙◌, arith, subst, inl, inr, IsTrue}
-use Rattle.std.specs.Prelude.{slice_index, not}
-use Rattle.saphyr_input.specs.Indicators.{exclamation_mark}
+use Rattle.std.proofs.Common.{◌≡◌, ℕ, ◌+◌, ◌<◌, Bool, true, false, List, [], ◌∷◌, ◌++◌, length, Some, refl, sym, ap, ◌∙◌, arith, subst, inl, inr, IsTrue}
+use Rattle.std.specs.Prelude.{◌==◌, slice_index, not}
+use Rattle.saphyr_input.specs.Indicators.{colon, exclamation_mark}
 use Rattle.saphyr_scalar.specs.declared.scalar.position.Span.{Span}
 use Rattle.saphyr_scalar.specs.Spelling.Tag.{IsHandleText, IsTagText, EndsTag}
 use Rattle.saphyr_scalar.specs.Steps.Anchor as anchors
@@ -18,11 +18,12 @@ use Rattle.saphyr_scanner.specs.TokensTaken.{Surroundings, IsToken, begins_text}
 use Rattle.saphyr_scanner.specs.TokensInPlace.{is_of_flow_node}
 use Rattle.saphyr_scanner.proofs.Added.Queue.{IsNoEnd}
 use Rattle.saphyr_scanner.proofs.Counted.{Ahead}
-use Rattle.saphyr_scanner.proofs.Effects.Puts.{saving, saved, same_flow, Reading}
+use Rattle.saphyr_scanner.proofs.Effects.Puts.{saving, saved, same_block, same_flow, Reading}
 use Rattle.saphyr_scanner.proofs.Effects.Walked.{Premises, Walked, walked_then, Doing, read_walked}
 use Rattle.saphyr_scanner.proofs.Effects.Scalars.{Starts}
 use Rattle.saphyr_scanner.proofs.Effects.Readers.{Readers, ReaderEnds, Less, TextLaws}
 use Rattle.saphyr_scanner.proofs.Taken.Cores.{surroundings}
+use Rattle.saphyr_scanner.proofs.Taken.Indented.{other_than_colon}
 use Rattle.saphyr_scanner.proofs.Taken.Neutral.{Neutral, neutral}
 use Rattle.saphyr_scanner.proofs.Taken.Parts.{is_quiet}
 use Rattle.saphyr_scanner.proofs.Taken.Places.{here_at}
@@ -40,6 +41,7 @@ token_read c kind u less ahead is = record {
 }
 
 pub record Named (token_of : List ℕ → Kind) (x : ℕ) : Type 0 where
+  pub other : (x == colon) ≡ false
   pub no_end : (name : List ℕ) → IsNoEnd (token_of name)
   pub quiet : (name : List ℕ) → is_quiet (token_of name) ≡ true
   pub keeps : (name : List ℕ) (span : Span) → Neutral (record { span = span; kind = token_of name })
@@ -51,6 +53,7 @@ pub record Named (token_of : List ℕ → Kind) (x : ℕ) : Type 0 where
 
 pub an_alias : Named tokens.Alias 42
 an_alias = record {
+  other = refl;
   no_end = λ n i. absurd (cc);
   quiet = λ n. refl;
   keeps = λ n p. neutral _ p refl;
@@ -61,6 +64,7 @@ an_alias = record {
 
 pub an_anchor : Named tokens.Anchor 38
 an_anchor = record {
+  other = refl;
   no_end = λ n i. absurd (cc);
   quiet = λ n. refl;
   keeps = λ n p. neutral _ p refl;
@@ -79,6 +83,10 @@ tag_begins text behind handle suffix (inr (inr h)) = ap (λ t. slice_index (t ++
     by : IsHandleText handle → slice_index ((handle ++ h.0) ++ behind) 0 ≡ exclamation_mark
     by h = grind arith
 
+tag_has_some : (text handle suffix : List ℕ) → IsTagText text handle suffix → 0 < length text
+tag_has_some [] handle suffix h = absurd (let e = tag_begins [] [] handle suffix h in omega (arith, e))
+tag_has_some (c ∷ cs) handle suffix h = omega arith
+
 pub name_does : (token_of : List ℕ → Kind) (x : ℕ) → Named token_of x → (n : ℕ) (c : Core) → 0 < length c.cursor.rest
     → slice_index c.cursor.rest 0 ≡ x
     → Walked (Premises c) (Doing (Some n) c) c.cursor (property.name_steps token_of n c)
@@ -91,11 +99,14 @@ name_does token_of x named n c some f =
     walked_then (Premises c) _ Q here (anchors.anchor here) _
     (read_walked (Premises c) here (anchors.anchor here) (λ e q laws. here_at here e.mark (laws.0.name here e q)))
     (λ y e.
+    let e0 = e in
     let span : Span = record { start = here.mark; end = y.1.mark } in
     let kind : Kind = token_of y.0 in
     saved n c (with_cursor y.1 d) (record { span = span; kind = kind }) s refl (inl refl) (λ m. inl m) (named.quiet y.0)
     (named.keeps y.0 span) (named.of_node y.0 span) (named.no_end y.0) (λ _. refl)
-    (λ i. named.of i y.0 span) refl
+    (λ i. named.of i y.0 span) refl (other_than_colon x here.rest named.other f) (λ a laws e _ _.
+    let place = ap (λ (u : Cursor). u.mark.col) (laws.name here y.1 y.0 some e0).5 in
+    let deep = a.0 (sym (same_block n c l r s) ∙ e) in inl (omega (arith, place, deep))) (λ _ _ _ allowed. absurd (cc))
     (token_read c kind y.1 (λ laws. laws.name here y.1 y.0 some e) (λ laws. laws.name here y.1 y.0 some e) (λ laws b.
     let w = laws.name here y.1 y.0 some e in
     let first : w.0 ≡ x = sym (ap (λ t. slice_index t 0) w.2) ∙ f in
@@ -122,7 +133,12 @@ tag_does n c first =
     (λ i a b k. (
       k.6.start,
       ap (λ t. begins_text (slice_index t 0)) k.6.is ∙ ap begins_text (tag_begins k.0 b.rest k.1 k.2 k.3),
-    )) refl
+    )) refl (other_than_colon 33 here.rest refl first) (λ a laws b _ _.
+    let w = laws.tag f here y.2 y.0 y.1 first e in
+    let place = ap (λ (u : Cursor). u.mark.col) w.6 in
+    let some = tag_has_some w.0 w.1 w.2 w.4 in
+    let deep = a.0 (sym (same_block n c l r s) ∙ b) in inl (omega (arith, place, deep, some)))
+    (λ _ _ _ allowed. absurd (cc))
     (token_read c (tokens.Tag y.0 y.1) y.2 (λ laws. laws.tag f here y.2 y.0 y.1 first e)
     (λ laws. laws.tag f here y.2 y.0 y.1 first e) (λ laws _.
     let w = laws.tag f here y.2 y.0 y.1 first e in
@@ -134,5 +150,5 @@ tag_does n c first =
       sym w.7,
       sym w.8,
       record { is = w.3; start = refl; end = refl; goes_on = ap (λ (u : Cursor). u.mark) w.6 },
-      subst E (same_flow n c l s) w.5,
+      subst E (same_flow n c l r s) w.5,
     )))))

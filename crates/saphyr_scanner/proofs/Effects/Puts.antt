@@ -1,7 +1,7 @@
 -- The moves that put a token, save a key, or turn a candidate into a key.
 use Rattle.std.proofs.Common.{◌<◌, ◌≡◌, ℕ, ◌+◌, ◌≤◌, ◌⊎◌, Bool, true, false, List, [], ◌∷◌, length, Option, Some, None}
 use Rattle.std.proofs.Common.{refl, sym, ap, ◌∙◌, arith, subst, inl, inr, IsTrue}
-use Rattle.std.specs.Prelude.{◌-◌, ◌==◌, slice_index, not, suc}
+use Rattle.std.specs.Prelude.{◌-◌, ◌&&◌, ◌==◌, slice_index, not, suc}
 use Rattle.saphyr_input.specs.Classes.{is_break}
 use Rattle.saphyr_scalar.specs.declared.scalar.position.Span.{Span}
 use Rattle.saphyr_scalar.specs.Views.Cursor.{Cursor, pass}
@@ -10,10 +10,10 @@ use Rattle.saphyr_scanner.specs.declared.queue.Opening.{Opening}
 use Rattle.saphyr_scanner.specs.declared.queue.Opening.TheVariants as opening
 use Rattle.saphyr_scanner.specs.Grammar.Tokens.{Kind}
 use Rattle.saphyr_scanner.specs.Views.Tokens.{Piece}
-use Rattle.saphyr_scanner.specs.Steps.Queue.{Queue, next, with_piece, with_opening, empty_piece}
+use Rattle.saphyr_scanner.specs.Steps.Queue.{Queue, is_empty_list, next, with_piece, with_opening, empty_piece}
 use Rattle.saphyr_scanner.specs.Steps.Core.{Core, Put, Open, at_mark}
 use Rattle.saphyr_scanner.specs.Steps.Level.{Candidate, Level, is_block}
-use Rattle.saphyr_scanner.specs.Steps.Core.{in_block, save_key, forget_key, enter_block}
+use Rattle.saphyr_scanner.specs.Steps.Core.{in_block, save_key, forget_key, with_key, enter_block}
 use Rattle.saphyr_scanner.specs.Steps.Flow as flow
 use Rattle.saphyr_scanner.specs.Steps.Passing.{with_cursor}
 use Rattle.saphyr_scanner.specs.TokensTaken as taken
@@ -23,11 +23,12 @@ use Rattle.saphyr_scanner.proofs.Effects.Readers.{Readers, ReaderEnds, ReadsSpan
 use Rattle.saphyr_scanner.proofs.Effects.Moves.{Around, DoesWithin, Does, encloses, IsBeforePlace, IsNextPlace, Left, NoComment, around}
 use Rattle.saphyr_scanner.proofs.PlainBehind.{IsNoted}
 use Rattle.saphyr_scanner.proofs.Taken.Candidates.{KeyAbove, LevelsAbove, Above}
-use Rattle.saphyr_scanner.proofs.Taken.Cores.{HoldsWithin, surroundings, IsTokenThere, outermost, holds_put, next_put, quiet_opens, quiet_put, loud_put}
+use Rattle.saphyr_scanner.proofs.Taken.Cores.{HoldsWithin, surroundings, IsTokenThere, outermost, holds_put, next_put, quiet_opens, quiet_put, loud_put, IsSaved, Saved, saved_indented}
+use Rattle.saphyr_scanner.proofs.Taken.Indented.{BeginsNoNode, HasNoColon, IsRight, IsPastLine, root_inner, no_node_fits, indented_then, waits_then}
 use Rattle.saphyr_scanner.proofs.Taken.Neutral.{KeepsBrackets, Neutral}
 use Rattle.saphyr_scanner.proofs.Taken.Cores.{saved_keys, open_quiet, open_loud, indicator_is_passed}
 use Rattle.saphyr_scanner.proofs.Taken.Held.{enclosure_of, outside_of, enclosures_of, began_at, Setting, FitsWithin, Adjoins, is_property, IsParted, is_unbound, unbound_parted, same_calm, unbound_calm, node_parted}
-use Rattle.saphyr_scanner.proofs.Taken.Keys.{KeepsDepth, IsFreeOr, keeps_depth, leads_in, leads_out, lower, below_key, keys_put, keys_weaken}
+use Rattle.saphyr_scanner.proofs.Taken.Keys.{KeepsDepth, IsArrival, keeps_depth, leads_in, leads_out, lower, below_key, keys_put, keys_weaken}
 use Rattle.saphyr_scanner.proofs.Taken.InPlace.{deeper, in_key, awaited, MayOpen, Outside, free, calmed, calm}
 use Rattle.saphyr_scanner.specs.TokensInPlace as place
 use Rattle.saphyr_scanner.specs.TokensInPlace.{Enclosure, Begun, Enclosures, with_begun, begun_at, enclosures_behind, may_begin_key, is_of_flow_node, fits}
@@ -115,31 +116,39 @@ freed c = record c { key_allowed = true }
 
 -- one that doesn't change which block collections and brackets are open
 pub quiet_within : {A : Type 0} (within : Enclosures) (k : ℕ) (c : Core) (t : Piece) (u : Cursor)
-    → is_quiet t.kind ≡ true → KeepsBrackets t → KeepsDepth t → IsFreeOr t c.level.key → (A → FitsWithin within t)
-    → IsNoEnd t.kind → is_unbound t.kind ≡ true → Reading k c t u
+    → is_quiet t.kind ≡ true → KeepsBrackets t → KeepsDepth t → is_of_flow_node t.kind t.span ≡ false
+    → c.level.key ≡ None → (A → FitsWithin within t) → IsNoEnd t.kind → is_unbound t.kind ≡ true → Reading k c t u
     → DoesWithin A within (enclosures_behind t.kind t.span within) None k 1 c (freed (with_cursor u c)) (Put t ∷ [])
-quiet_within within k c t u q b depth own fit e unbound r =
+quiet_within within k c t u q b depth other none fit e unbound r =
     let d : Core = freed (with_cursor u c) in
     encloses (sym (unbound_calm t.kind t.span within unbound))
     (putting within (calm (enclosures_behind t.kind t.span within)) None k 0 c d t r e refl refl (λ m. inl m)
     (omega arith) (λ h _ a. a) (λ premise laws opened from p _ h.
     let w = r.token laws in
-    quiet_put within opened from c d p t c.cursor w.0 q b depth own (fit premise) (unbound_parted t c d unbound)
-    (taken.nothing c.cursor.mark c.cursor.rest) w.1 w.2
-    (record { level = refl; outer = refl; indent = refl; outer_indents = refl; adjacent = refl }) h))
+    quiet_put within opened from c d p t c.cursor w.0 q b depth other none (fit premise)
+    (unbound_parted t c d unbound) (λ _ f. absurd (cc)) (taken.nothing c.cursor.mark c.cursor.rest) w.1 w.2
+    (record {
+      level = refl;
+      outer = refl;
+      indent = refl;
+      outer_indents = refl;
+      adjacent = refl;
+      required = refl;
+    }) h))
 
 -- one that changes nothing
 pub quiet : {A : Type 0} (k : ℕ) (c : Core) (t : Piece) (u : Cursor) → is_quiet t.kind ≡ true → Neutral t
-    → IsFreeOr t c.level.key → IsNoEnd t.kind → is_unbound t.kind ≡ true → Reading k c t u
-    → Does A None k 1 c (freed (with_cursor u c)) (Put t ∷ [])
-quiet k c t u q b own e unbound r = encloses (sym (b.encloses (enclosure_of c.level.context) (outside_of c))
+    → is_of_flow_node t.kind t.span ≡ false → c.level.key ≡ None → IsNoEnd t.kind → is_unbound t.kind ≡ true
+    → Reading k c t u → Does A None k 1 c (freed (with_cursor u c)) (Put t ∷ [])
+quiet k c t u q b other none e unbound r = encloses (sym (b.encloses (enclosure_of c.level.context) (outside_of c))
     ∙ unbound_calm t.kind t.span (enclosures_of c) unbound)
-    (quiet_within (enclosures_of c) k c t u q b.brackets b.depth own
+    (quiet_within (enclosures_of c) k c t u q b.brackets b.depth other none
     (λ _. b.fits (enclosure_of c.level.context) (outside_of c).columns) e unbound r)
 
--- a block collection begins, where no token may be a key any more
-pub block_begins : {A : Type 0} (e : Enclosure) (c : Core) (kind : Kind) (g : Begun) → IsNoEnd kind
-    → is_property kind ≡ false → calmed g ≡ g → c.key_allowed ≡ true
+-- a block collection begins, where no token may be a key any more, nor has to be
+pub block_begins : {A : Type 0} (e : Enclosure) (c : Core) (r : Bool) (kind : Kind) (g : Begun) → IsNoEnd kind
+    → is_property kind ≡ false → calmed g ≡ g → c.key_allowed ≡ true → (c.required ≡ true → c.level.key ≡ None)
+    → (r ≡ true → c.required ≡ true) → ((span : Span) → is_of_flow_node kind span ≡ false)
     → ((i : Surroundings) (span : Span) (s t : Cursor) → IsBlockStart i.indent span s t → IsToken i kind span s t)
     → ((span : Span) (opened : Collections) → collections_behind kind span opened ≡ with_column span.start.col opened)
     → ((span : Span) (all : Enclosures) → enclosures_behind kind span all ≡ begun_at g span.start.col all)
@@ -147,9 +156,9 @@ pub block_begins : {A : Type 0} (e : Enclosure) (c : Core) (kind : Kind) (g : Be
     → in_block c ≡ true → c.indent ≤ c.cursor.mark.col → IsTrue (begins_text (slice_index c.cursor.rest 0))
     → DoesWithin A (free e (outside_of c))
     (with_begun g (free e (outside_of (enter_block c.cursor.mark.col c)))) None 0 3 c
-    (forget_key (enter_block c.cursor.mark.col c)) (at_mark c.cursor.mark kind ∷ [])
-block_begins e c kind g n other same allowed is opens begins fit b right first =
-    let d : Core = forget_key (enter_block c.cursor.mark.col c) in
+    (record (with_key None (enter_block c.cursor.mark.col c)) { required = r }) (at_mark c.cursor.mark kind ∷ [])
+block_begins e c r kind g n other same allowed unasked required node is opens begins fit b right first =
+    let d : Core = record (with_key None (enter_block c.cursor.mark.col c)) { required = r } in
     let within = free e (outside_of c) in
     let none : AreApart c.cursor c.cursor = taken.nothing c.cursor.mark c.cursor.rest in
     let t = empty_piece c.cursor.mark kind in
@@ -164,61 +173,60 @@ block_begins e c kind g n other same allowed is opens begins fit b right first =
     (let y = one_at_most (c.cursor.mark.col + 1) in omega (arith, y)) (λ h _ a. (tt, a.1)) (λ _ _ opened from q _ h.
     loud_put within opened from c d q t c.cursor c.cursor none (λ i _. token i) none
     (λ x k. rw (opens (record { start = c.cursor.mark; end = c.cursor.mark }) x) ((refl, k.0), k.1)) refl
-    (fit t.span within.columns) ((λ _. (allowed, refl)), λ no. absurd (cc)) refl
-    (outermost within opened from c q h b) b h))
+    (fit t.span within.columns) ((λ _. (allowed, refl)), λ no. absurd (cc)) (λ _ f. absurd (let a = allowed in cc))
+    (node t.span) b unasked required refl (outermost within opened from c q h b) b h))
 
 -- outside flow a token that changes nothing that is open, where no token may be a key
 pub loud : {A : Type 0} (within : Enclosures) (k : ℕ) (c : Core) (t : Piece) (u : Cursor)
     → ((opened : Collections) → collections_behind t.kind t.span opened ≡ opened) → FitsWithin within t → IsNoEnd t.kind
-    → is_property t.kind ≡ false → IsParted t c (freed (with_cursor u c)) → in_block c ≡ true → c.level.key ≡ None
-    → Reading k c t u
+    → is_property t.kind ≡ false → is_of_flow_node t.kind t.span ≡ false → IsParted t c (freed (with_cursor u c))
+    → in_block c ≡ true → c.level.key ≡ None → Reading k c t u
     → DoesWithin A within (enclosures_behind t.kind t.span within) None k 1 c (freed (with_cursor u c)) (Put t ∷ [])
-loud within k c t u same fit e other parted b none r =
+loud within k c t u same fit e other node parted b none r =
     let d : Core = freed (with_cursor u c) in
     encloses (sym (same_calm t.kind t.span within other))
     (putting within (calm (enclosures_behind t.kind t.span within)) None k 0 c d t r e refl refl (λ m. inl m)
     (omega arith) (λ h _ a. a) (λ _ laws opened from q _ h.
     let w = r.token laws in
     loud_put within opened from c d q t c.cursor w.0 (taken.nothing c.cursor.mark c.cursor.rest) w.1 w.2
-    (λ x k. rw (same x) k) refl fit parted none (outermost within opened from c q h b) b h))
+    (λ x k. rw (same x) k) refl fit parted (λ _ f. absurd (cc)) node b (λ _. none) (λ e. e) none
+    (outermost within opened from c q h b) b h))
 
 -- ## A key is saved
 
-abbrev pub IsSaved : ℕ → Core → Level → Type 0
-IsSaved n c l = (l ≡ c.level)
-    ⊎ (
-    (l ≡ record { context = c.level.context; key = Some (record { mark = c.cursor.mark; place = n }) })
-    × (c.key_allowed ≡ true)
-    )
-
 pub saving : (n : ℕ) (c : Core) (P : Core → Type 0)
-    → ((l : Level) (r : Bool) → IsSaved n c l → P (record c { level = l; required = r })) → P (save_key n c)
-saving n c P f = by_test c.key_allowed _ _ P (λ e. f _ _ (inr (refl, e))) (λ _. f c.level c.required (inl refl))
+    → ((l : Level) (r : Bool) → IsSaved n c l r → P (record c { level = l; required = r })) → P (save_key n c)
+saving n c P f = by_test c.key_allowed _ _ P (λ e. f _ _ (inr (refl, e, refl)))
+    (λ e. f c.level c.required (inl (refl, e, refl)))
 
 -- the level is as much inside flow
-pub same_block : (n : ℕ) (c : Core) (l : Level) → IsSaved n c l → is_block l.context ≡ in_block c
-same_block n c l h = grind arith
+pub same_block : (n : ℕ) (c : Core) (l : Level) (r : Bool) → IsSaved n c l r → is_block l.context ≡ in_block c
+same_block n c l r (inl e) = ap (λ (x : Level). is_block x.context) e.0
+same_block n c l r (inr e) = ap (λ (x : Level). is_block x.context) e.0
 
-pub same_flow : (n : ℕ) (c : Core) (l : Level) → IsSaved n c l → not (is_block l.context) ≡ not (in_block c)
-same_flow n c l s = ap not (same_block n c l s)
+pub same_flow : (n : ℕ) (c : Core) (l : Level) (r : Bool) → IsSaved n c l r → not (is_block l.context) ≡ not (in_block c)
+same_flow n c l r s = ap not (same_block n c l r s)
 
-pub saved_above : (h n : ℕ) (c : Core) (l : Level) → IsSaved n c l → h ≤ n → KeyAbove h c.level.key → KeyAbove h l.key
-saved_above h n c l (inl e) i a = let P : Level → Type 0 = λ x. KeyAbove h x.key in subst P (sym e) a
-saved_above h n c l (inr e) i a = let P : Level → Type 0 = λ x. KeyAbove h x.key in subst P (sym e.0) i
+pub saved_above : (h n : ℕ) (c : Core) (l : Level) (r : Bool) → IsSaved n c l r → h ≤ n → KeyAbove h c.level.key
+    → KeyAbove h l.key
+saved_above h n c l r (inl e) i a = let P : Level → Type 0 = λ x. KeyAbove h x.key in subst P (sym e.0) a
+saved_above h n c l r (inr e) i a = let P : Level → Type 0 = λ x. KeyAbove h x.key in subst P (sym e.0) i
 
 -- what is around stays, but for the place that is kept for a colon
 abbrev pub Stays : Core → Core → Type 0
 Stays c d = around (record d { adjacent = c.adjacent }) ≡ around c
 
-pub saved_around : (n : ℕ) (c d : Core) → IsSaved n c d.level → Stays c d → enclosures_of d ≡ enclosures_of c
+pub saved_around : (n : ℕ) (c d : Core) → IsSaved n c d.level d.required → Stays c d → enclosures_of d ≡ enclosures_of c
 saved_around n c d s a = grind arith
 
 -- the token that may be a key
-pub saved : {A : Type 0} (n : ℕ) (c d : Core) (t : Piece) → IsSaved n c d.level → Stays c d → Adjoins t c d
+pub saved : (n : ℕ) (c d : Core) (t : Piece) → IsSaved n c d.level d.required → Stays c d → Adjoins t c d
     → (c.comment ≡ None → IsNoted d.comment d.cursor) → is_quiet t.kind ≡ true → Neutral t
     → IsTrue (is_of_flow_node t.kind t.span) → IsNoEnd t.kind → (is_property t.kind ≡ true → d.key_allowed ≡ false)
-    → Begins t → t.span.start ≡ c.cursor.mark → Reading 1 c t d.cursor → Does A (Some n) 1 5 c d (Put t ∷ [])
-saved n c d t s a j m q b node e closes begins start h =
+    → Begins t → t.span.start ≡ c.cursor.mark → HasNoColon c.cursor.rest → (IsArrival c → TextLaws → IsRight d)
+    → (IsArrival c → TextLaws → IsPastLine c.cursor.mark.line d) → Reading 1 c t d.cursor
+    → Does (IsArrival c) (Some n) 1 5 c d (Put t ∷ [])
+saved n c d t s a j m q b node e closes begins start some right past h =
     let outer = ap (λ (x : Around). x.outer) a in
     let indent = ap (λ (x : Around). x.indent) a in
     let indents = ap (λ (x : Around). x.outer_indents) a in
@@ -228,31 +236,34 @@ saved n c d t s a j m q b node e closes begins start h =
     (putting within (calm (enclosures_behind t.kind t.span within)) (Some n) 1 4 c d t h e
     (ap (λ (x : Around). x.started) a) (ap (λ (x : Around). x.ended) a) m (omega (arith, blocks))
     (λ i l x. let P : List Level → Type 0 = λ ls. LevelsAbove i ls in
-    (saved_above i n c d.level s l x.0, subst P (sym outer) x.1)) (λ _ laws opened from p i k.
+    (saved_above i n c d.level d.required s l x.0, subst P (sym outer) x.1)) (λ arrival laws opened from p i k.
     let w = h.token laws in
-    let Q : ℕ → Type 0 = λ j. IsSaved j c d.level in
+    let Q : ℕ → Type 0 = λ j. IsSaved j c d.level d.required in
+    let key : Saved (next p) c (with_cursor c.cursor d) =
+    record { level = subst Q i.0 s; cursor = refl; outer = outer; indent = indent; outer_indents = indents } in
     record {
       taken = holds_put within opened from c d p t c.cursor w.0 (taken.nothing c.cursor.mark c.cursor.rest) w.1 w.2
           (quiet_opens t c d q indent indents (λ x z. b.brackets x ∙ z ∙ sym (ap length outer))) j
-          (b.fits (enclosure_of c.level.context) within.columns) (node_parted t c d node closes) k;
+          (b.fits (enclosure_of c.level.context) within.columns) (node_parted t c d node closes) (right arrival laws)
+          (saved_indented opened from c (with_cursor c.cursor d) d p t key refl refl arrival (λ _. (start, some))
+          (past arrival laws) k) k;
       keys = saved_keys opened.enclosures 0 c p t (with_cursor c.cursor d) q node (b.depth 0)
-          (keeps_depth t c.level c.outer (inr node) b.depth) begins start i.1
-          (record { level = subst Q i.0 s; cursor = refl; outer = outer; indent = indent; outer_indents = indents })
-          k.taken.past k.keys;
+          (keeps_depth t c.level c.outer (inr node) b.depth) begins start i.1 key k.taken.past k.keys;
     }))
 
 -- ## A bracket
 
 -- the token that opens a flow collection, and may be a key
-pub entered : {A : Type 0} (n : ℕ) (x : Context) (c d : Core) (t : Piece) → is_block x ≡ false → IsSaved n c d.level
+pub entered : (n : ℕ) (x : Context) (c d : Core) (t : Piece) → is_block x ≡ false → IsSaved n c d.level d.required
     → around d ≡ around c → (c.comment ≡ None → d.comment ≡ None) → is_quiet t.kind ≡ true
     → ((opened : Collections) → (open_behind t.kind t.span opened).brackets ≡ opened.brackets + 1)
     → ((all : Enclosures) → enclosures_behind t.kind t.span all ≡ place.entered (enclosure_of x) all)
     → ((e : ℕ) → deeper t.kind t.span e ≡ suc e) → IsTrue (is_of_flow_node t.kind t.span)
     → ((e : Enclosure) (columns : List ℕ) → IsTrue (fits e columns t.kind t.span))
-    → IsNoEnd t.kind → is_unbound t.kind ≡ true → Begins t → t.span.start ≡ c.cursor.mark → Reading 1 c t d.cursor
-    → Does A (Some n) 1 5 c (flow.enter x d) (Put t ∷ [])
-entered n x c d t flows s a m q b enters depth node fit e unbound begins start h =
+    → IsNoEnd t.kind → is_unbound t.kind ≡ true → Begins t → t.span.start ≡ c.cursor.mark
+    → HasNoColon c.cursor.rest → Reading 1 c t d.cursor
+    → Does (IsArrival c) (Some n) 1 5 c (flow.enter x d) (Put t ∷ [])
+entered n x c d t flows s a m q b enters depth node fit e unbound begins start some h =
     let r : Core = flow.enter x d in
     let outer = ap (λ (x : Around). x.outer) a in
     let indent = ap (λ (x : Around). x.indent) a in
@@ -266,25 +277,25 @@ entered n x c d t flows s a m q b enters depth node fit e unbound begins start h
     (ap (λ (x : Around). x.started) a) (ap (λ (x : Around). x.ended) a)
     (λ f. inl (m f)) (omega (arith, blocks))
     (λ i l y. let P : List Level → Type 0 = λ ls. LevelsAbove i ls in
-    (tt, (saved_above i n c d.level s l y.0, subst P (sym outer) y.1))) (λ _ laws opened from p i k.
+    (tt, (saved_above i n c d.level d.required s l y.0, subst P (sym outer) y.1)))
+    (λ arrival laws opened from p i k.
     let w = h.token laws in
+    let Q : ℕ → Type 0 = λ j. IsSaved j c d.level d.required in
+    let key : Saved (next p) c (with_cursor c.cursor d) =
+    record { level = subst Q i.0 s; cursor = refl; outer = outer; indent = indent; outer_indents = indents } in
     record {
       taken = holds_put within opened from c r p t c.cursor w.0 (taken.nothing c.cursor.mark c.cursor.rest) w.1 w.2
           (quiet_opens t c r q indent indents (λ y z. b y ∙ (let l = ap length outer in omega (arith, z, l))))
           (inl (ap (λ (x : Around). x.adjacent) a))
-          (fit (enclosure_of c.level.context) within.columns) (unbound_parted t c r unbound) k;
+          (fit (enclosure_of c.level.context) within.columns) (unbound_parted t c r unbound)
+          (λ no. absurd (cc))
+          (saved_indented opened from c (with_cursor c.cursor d) r p t key refl refl arrival (λ _. (start, some))
+          (λ no. absurd (cc)) k) k;
       keys = (
         flows,
         tt,
         saved_keys opened.enclosures 1 c p t (with_cursor c.cursor d) q node (depth 0)
-            (leads_in t (c.level ∷ c.outer) 0 node depth) begins start i.1
-            (record {
-              level = rw i.0 at s;
-              cursor = refl;
-              outer = outer;
-              indent = indent;
-              outer_indents = indents;
-            }) k.taken.past k.keys,
+            (leads_in t (c.level ∷ c.outer) 0 node depth) begins start i.1 key k.taken.past k.keys,
       );
     }))
 
@@ -294,23 +305,31 @@ pub left : {A : Type 0} (within : Enclosures) (c : Core) (l : Level) (ls : List 
     → Left c l ls → is_quiet t.kind ≡ true
     → ((opened : Collections) → (open_behind t.kind t.span opened).brackets ≡ opened.brackets - 1)
     → ((e : ℕ) → deeper t.kind t.span (suc e) ≡ e) → FitsWithin within t
-    → IsNoEnd t.kind → is_unbound t.kind ≡ true → Reading 1 c t u
+    → IsNoEnd t.kind → is_unbound t.kind ≡ true → is_of_flow_node t.kind t.span ≡ false → in_block c ≡ false
+    → (A → c.indent ≤ u.mark.col) → Reading 1 c t u
     → DoesWithin A within (enclosures_behind t.kind t.span within) None 1 1 c
-    (record c { cursor = u; level = l; outer = ls; key_allowed = true; adjacent = n }) (Put t ∷ [])
-left within c l ls t u n j z q b depth fit e unbound h =
-    let d : Core = record c { cursor = u; level = l; outer = ls; key_allowed = true; adjacent = n } in
+    (record c { cursor = u; level = l; outer = ls; key_allowed = false; adjacent = n }) (Put t ∷ [])
+left within c l ls t u n j z q b depth fit e unbound node flows right h =
+    let d : Core = record c { cursor = u; level = l; outer = ls; key_allowed = false; adjacent = n } in
     encloses (sym (unbound_calm t.kind t.span within unbound))
     (putting within (calm (enclosures_behind t.kind t.span within)) None 1 0 c d t h e refl refl (λ m. inl m)
-    (omega arith) (λ i _ a. z.above i a.1) (λ _ laws opened from p _ k.
+    (omega arith) (λ i _ a. z.above i a.1) (λ premise laws opened from p _ k.
     let w = h.token laws in
     let r = with_piece t p in
+    let all = opened.enclosures in
+    let some : is_empty_list c.outer ≡ false = sym k.keys.0 ∙ flows in
+    let fits = no_node_fits all p t node in
     let outers = keys_weaken opened.enclosures 1 (lower (next p) c.level.key) (next r) p c.indent c.outer
     (let low = below_key opened.enclosures 0 (next p) p (is_block c.level.context) c.indent c.level.key k.keys.1 in
     omega (arith, next_put t p, low)) k.keys.2 in
     record {
       taken = holds_put within opened from c d p t c.cursor w.0 (taken.nothing c.cursor.mark c.cursor.rest) w.1 w.2
           (quiet_opens t c d q refl refl (λ y v. b y ∙ ap (λ i. i - 1) v ∙ sym z.fewer)) j fit
-          (unbound_parted t c d unbound) k;
+          (unbound_parted t c d unbound) (λ _ _ _. inl (right premise)) (λ line y. record {
+            free = λ no. indented_then all p t fits (y.free no);
+            waits = λ yes. waits_then all c d p t (z.root some ∙ sym (root_inner c.level c.outer some)) line
+                (y.waits yes) (λ _ allowed. absurd (cc));
+          }) k;
       keys = z.keys opened.enclosures (next r) r
           (keys_put opened.enclosures 1 0 (next r) p c.indent c.outer t q (leads_out t c.outer 0 depth) outers);
     }))
@@ -353,12 +372,13 @@ key_opens e outside c k o n m left is =
 
 -- a block mapping and a key
 pub mapping_opens : {A : Type 0} (e : Enclosure) (c : Core) (k : Candidate) → in_block c ≡ true
-    → IsTrue (may_begin_key e) → (A → EndsOnLine k.mark c.cursor) → c.indent ≤ k.mark.col → c.level.key ≡ Some k
+    → IsTrue (may_begin_key e) → (A → EndsOnLine k.mark c.cursor) → c.indent ≤ k.mark.col
+    → BeginsNoNode c.cursor.rest → c.level.key ≡ Some k
     → DoesWithin A (free e (outside_of c)) (in_key k.mark (free e (outside_of (enter_block k.mark.col c))))
     None 0 4 c (forget_key (enter_block k.mark.col c)) (Open k.place opening.BlockMappingAndKey ∷ [])
-mapping_opens e c k b may near right is =
+mapping_opens e c k b may near right other is =
     encloses (ap (in_key k.mark) (sym (began_at place.BlockMapping e k.mark.col c)))
     (opens (free e (outside_of c)) (awaited opening.BlockMappingAndKey k.mark (free e (outside_of c))) 2 c
     (forget_key (enter_block k.mark.col c)) k opening.BlockMappingAndKey refl is refl refl refl refl (λ n. n)
     (let y = one_at_most (k.mark.col + 1) in omega (arith, y))
-    (λ premise opened from q h. open_loud e (outside_of c) opened from c q k b may (near premise) right is h))
+    (λ premise opened from q h. open_loud e (outside_of c) opened from c q k b may (near premise) right other is h))

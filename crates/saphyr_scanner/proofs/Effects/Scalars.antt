@@ -1,7 +1,7 @@
 -- What each step of scalars does, by the laws of the readers.
-use Rattle.std.proofs.Common.{◌≡◌, ◌≢◌, ℕ, ◌-◌, ◌≤◌, ◌<◌, Bool, true, false, List, [], ◌∷◌, ◌++◌, length, Some, Ok, IsTrue, IsFalse, refl, sym, ap, ◌∙◌, arith, subst, inl, inr}
+use Rattle.std.proofs.Common.{◌≡◌, ◌≢◌, ℕ, ◌+◌, ◌-◌, ◌≤◌, ◌<◌, ◌⊎◌, Bool, true, false, List, [], ◌∷◌, ◌++◌, length, drop, Some, Ok, IsTrue, IsFalse, refl, sym, ap, ◌∙◌, arith, subst, inl, inr}
 use Rattle.std.specs.Prelude.{◌&&◌, ◌||◌, ◌==◌, slice_index, not, nat_lt, codes}
-use Rattle.saphyr_input.specs.Classes.{is_break, is_blank_or_breakz, is_one_of}
+use Rattle.saphyr_input.specs.Classes.{is_blank, is_break, is_breakz, is_z, is_blank_or_breakz, is_one_of}
 use Rattle.saphyr_input.specs.Places.{is_blank_or_break}
 use Rattle.saphyr_scalar.specs.declared.values.BlockStyle.{BlockStyle}
 use Rattle.saphyr_scalar.specs.declared.values.Quote.{Quote}
@@ -15,34 +15,42 @@ use Rattle.saphyr_scalar.specs.Reading.Plain.{IsSpelledPlain, IsPlainReading}
 use Rattle.saphyr_scalar.specs.Steps.Block as blocks
 use Rattle.saphyr_scalar.specs.Steps.Plain as words
 use Rattle.saphyr_scalar.specs.Steps.Quoted as quoted
-use Rattle.saphyr_scalar.specs.Views.Cursor.{Cursor, ◌>>=◌}
+use Rattle.saphyr_scalar.specs.Views.Cursor.{Cursor, ◌>>=◌, along, next_line}
+use Rattle.saphyr_scalar.specs.Passing as passing
+use Rattle.saphyr_scalar.specs.Passing.{IsPassed}
+use Rattle.saphyr_scalar.specs.Steps.Quoted.{break_len}
 use Rattle.saphyr_scanner.specs.Grammar.Tokens as tokens
 use Rattle.saphyr_scanner.specs.Views.Tokens.{Piece}
 use Rattle.saphyr_scanner.specs.Steps.Core.{Core, in_block, least_column}
-use Rattle.saphyr_scanner.specs.Steps.Level.{Level}
+use Rattle.saphyr_scanner.specs.Steps.Level.{Level, is_block}
 use Rattle.saphyr_scanner.specs.Steps.Passing.{separate, pass_gap, with_cursor}
 use Rattle.saphyr_scanner.specs.Steps.Scalar as scalar
+use Rattle.saphyr_scanner.specs.TokensInPlace.{is_flow_style}
 use Rattle.saphyr_scanner.specs.TokensTaken as taken
-use Rattle.saphyr_scanner.specs.TokensTaken.{Surroundings, IsToken, IsQuotedToken, may_begin_plain, begins_text, ends_json_behind}
+use Rattle.saphyr_scanner.specs.TokensTaken.{Surroundings, AreApart, IsPassedOver, IsToken, IsQuotedToken, may_begin_plain, begins_text, ends_json_behind}
 use Rattle.saphyr_scanner.proofs.Counted.{Ahead}
 use Rattle.saphyr_scanner.proofs.Effects.Moves.{Around}
-use Rattle.saphyr_scanner.proofs.Effects.Puts.{IsSaved, saving, saved_above, saved, same_block, same_flow}
+use Rattle.saphyr_scanner.proofs.Effects.Puts.{saving, saved_above, saved, same_block, same_flow}
 use Rattle.saphyr_scanner.proofs.Effects.Walked.{Premises, Walked, walked_then, Doing, Stepped, at_inside, read_walked}
 use Rattle.saphyr_scanner.proofs.Effects.Walked.{at_reach, separate_walked, gap_walked}
-use Rattle.saphyr_scanner.proofs.Effects.Readers.{Readers, ReaderEnds, Less}
-use Rattle.saphyr_scanner.proofs.PlainBehind.{EndsUnbroken, plain_ends}
+use Rattle.saphyr_scanner.proofs.Effects.Readers.{Readers, ReaderEnds, TextLaws, Less}
+use Rattle.saphyr_scanner.proofs.LineTails.{OnLine}
+use Rattle.saphyr_scanner.proofs.PlainBehind.{EndsPlain, plain_ends}
 use Rattle.saphyr_scanner.proofs.LessIndented.{less_indented}
 use Rattle.saphyr_scanner.proofs.Reached.{apart_reached, passed_reached}
 use Rattle.saphyr_scanner.proofs.Steps.Choice.{NoIndicator}
-use Rattle.saphyr_scanner.proofs.Taken.Cores.{surroundings}
+use Rattle.saphyr_scanner.proofs.Taken.Cores.{surroundings, IsSaved}
+use Rattle.saphyr_scanner.proofs.Taken.Indented.{BeginsNoNode, IsRight, other_than_colon}
+use Rattle.saphyr_scanner.proofs.Taken.Keys.{IsArrival}
 use Rattle.saphyr_scanner.proofs.Taken.Neutral.{neutral}
-use Rattle.saphyr_scanner.proofs.Taken.Later.{apart_later}
+use Rattle.saphyr_scanner.proofs.Taken.Later.{top, apart_later, passed_later, end_stays}
+use Rattle.saphyr_scanner.proofs.Taken.OnLine.{quoted_shorter}
 use Rattle.saphyr_scanner.proofs.Taken.Parts.{is_quiet}
 use Rattle.saphyr_scanner.proofs.Taken.Places.{Reaches, reaches_reaches, at_here}
 use Rattle.saphyr_scanner.proofs.Taken.Separated.{apart_apart}
 use Rattle.saphyr_scanner.proofs.Taken.States.{block_fetched}
-use Rattle.std.proofs.lemmas.Bool.{or_parts, ne_eqb}
-use Rattle.saphyr_input.specs.Indicators.{ampersand, apostrophe, asterisk, at_sign, exclamation_mark, grave_accent, left_brace, left_bracket, number_sign, percent_sign, quotation_mark, right_brace, right_bracket}
+use Rattle.std.proofs.lemmas.Bool.{or_parts, or_cases, and_parts, eqb-true, ne_eqb}
+use Rattle.saphyr_input.specs.Indicators.{ampersand, apostrophe, asterisk, at_sign, colon, exclamation_mark, grave_accent, left_brace, left_bracket, number_sign, percent_sign, quotation_mark, right_brace, right_bracket}
 use Rattle.saphyr_input.proofs.Basics.Booleans.{by_test}
 use Rattle.saphyr_scalar.proofs.Given.{given_of}
 
@@ -54,6 +62,9 @@ Starts span s = (span.start ≡ s.mark) × IsTrue (begins_text (slice_index s.re
 
 -- the style of a quote, and what the reader takes off
 record Quoting (quote : Quote) (style : ScalarStyle) : Type 0 where
+  other : (mark quote == colon) ≡ false
+  unbroken : is_break (mark quote) ≡ false
+  flow : is_flow_style style ≡ true
   quiet : (value : List ℕ) → is_quiet (tokens.Scalar style value) ≡ true
   ends_json : (value : List ℕ) (span : Span) (b : Bool) → ends_json_behind (tokens.Scalar style value) span b ≡ true
   is : (i : Surroundings) (value : List ℕ) (span : Span) (s t : Cursor) → IsQuotedToken quote i.indent value span s t
@@ -67,6 +78,9 @@ record Quoting (quote : Quote) (style : ScalarStyle) : Type 0 where
 
 double_quoting : Quoting Double DoubleQuoted
 double_quoting = record {
+  other = refl;
+  unbroken = refl;
+  flow = refl;
   quiet = λ v. refl;
   ends_json = λ v p b. refl;
   is = λ i v p s t k. k;
@@ -77,6 +91,9 @@ double_quoting = record {
 
 single_quoting : Quoting Single SingleQuoted
 single_quoting = record {
+  other = refl;
+  unbroken = refl;
+  flow = refl;
   quiet = λ v. refl;
   ends_json = λ v p b. refl;
   is = λ i v p s t k. k;
@@ -89,8 +106,68 @@ single_quoting = record {
 least_right : (c : Core) → c.indent - 1 ≤ least_column c
 least_right c = by_test c.deeper _ _ (λ n. c.indent - 1 ≤ n) (λ _. omega arith) (λ _. omega arith)
 
+on_line_same : (s t : Cursor) → OnLine s t → t.mark.line ≡ s.mark.line
+on_line_same s t o = ap (λ (m : Marker). m.line) o.on_line.4
+
+-- outside flow a break, the end, or on the scalar's line a colon is behind quotes
+goes_on_outside : (start : Marker) (c : Core) → in_block c ≡ true → scalar.goes_on_behind_quotes start c ≡ true
+    → IsTrue (is_breakz (slice_index c.cursor.rest 0)) ⊎ (start.line ≡ c.cursor.mark.line)
+unfolding scalar.goes_on_behind_quotes
+goes_on_outside start c b h =
+    let x = slice_index c.cursor.rest 0 in
+    elim (or_cases (is_breakz x) ((x == 58) && (start.line == c.cursor.mark.line)) (rw b at h)) [
+      | inl e ↦ inl e
+      | inr e ↦ inr (eqb-true start.line c.cursor.mark.line (and_parts (x == 58) _ e).1)
+    ]
+
+-- a separation from a break on goes on to a later line
+break_passed : (m : Marker) (t : List ℕ) (n : Marker) (u : List ℕ) → IsPassedOver m t n u → is_break (slice_index t 0) ≡ true
+    → IsTrue (begins_text (slice_index u 0)) → m.line ≤ top → n.line < top → m.line < n.line
+break_passed _ _ _ _ (taken.nothing m t) e b low small = absurd (no (slice_index t 0) e b)
+  where
+    no : (c : ℕ) → is_break c ≡ true → begins_text c ≡ true → ⊥
+    no c e b = grind arith
+break_passed _ _ _ _ (taken.blank m c t n u f p) e b low small = absurd (no c f e)
+  where
+    no : (c : ℕ) → is_blank c ≡ true → is_break c ≡ true → ⊥
+    no c f e = grind arith
+break_passed _ _ _ _ (taken.line_break m t n u f p) e b low small =
+    let l = (apart_later (next_line m (break_len t)) (drop (break_len t) t) n u p).kept small in omega (arith, l, small)
+break_passed _ _ _ _ (taken.comment m words t n u a f p) e b low small = absurd (cc)
+
+-- from a character on the text goes on right of it, on its line
+character_right : (c : ℕ) (m : Marker) (t : List ℕ) (n : Marker) (u : List ℕ) → IsPassed m t n u
+    → slice_index t 0 ≡ c → is_break c ≡ false → length u < length t → m.line ≤ top → n.line < top → n.line ≤ m.line
+    → m.col < n.col
+character_right c _ _ _ _ (passing.nothing m t) e k less low small line = absurd (omega (arith, less))
+character_right c _ _ _ _ (passing.character m d t n u f p) e k less low small line =
+    let l = (passed_later (along m 1) t n u p).columns low small line in omega (arith, l)
+character_right c _ _ _ _ (passing.line_break m t n u f p) e k less low small line =
+    absurd (let same = ap is_break e in cc)
+
+-- behind quotes that end on a line the text goes on right of them, or no node begins
+quotes_end : (i : ℕ) (s x u v : Cursor) (j : ℕ) (quote : Quote) → slice_index s.rest 0 ≡ mark quote
+    → is_break (mark quote) ≡ false → IsPassed s.mark s.rest x.mark x.rest → length x.rest < length s.rest → OnLine x u → AreApart u v
+    → IsTrue (begins_text (slice_index v.rest 0)) → j ≡ i → i ≤ s.mark.col + 1 → s.mark.line < top → v.mark.line < top
+    → v.mark.line ≡ u.mark.line → IsTrue (is_breakz (slice_index u.rest 0)) ⊎ (s.mark.line ≡ u.mark.line)
+    → (j ≤ v.mark.col) ⊎ BeginsNoNode v.rest
+quotes_end i s x u v j quote first unbroken passed less o apart begins same deep low small line (inr on) =
+    let more = (apart_later u.mark u.rest v.mark v.rest apart).columns in
+    let ends = on_line_same x u o in
+    let tail = (apart_later x.mark x.rest u.mark u.rest o.apart).columns in
+    let a = character_right (mark quote) s.mark s.rest x.mark x.rest passed first unbroken less (omega (arith, low))
+    (omega (arith, ends, on, low)) (omega (arith, ends, on)) in
+    let b = tail (omega (arith, ends, on, low)) (omega (arith, on, low)) (omega (arith, ends)) in
+    let d = more (omega (arith, on, low)) small (omega (arith, line)) in inl (omega (arith, a, b, d, same, deep))
+quotes_end i s x u v j quote first unbroken passed less o apart begins same deep low small line (inl e) =
+    elim (or_cases (is_break (slice_index u.rest 0)) (is_z (slice_index u.rest 0)) e) [
+      | inl b ↦ absurd (let l = break_passed u.mark u.rest v.mark v.rest apart b begins (omega (arith, line, small)) small in
+          omega (arith, l, line))
+      | inr z ↦ inr (inl (end_stays u v apart z))
+    ]
+
 quotes_do : (quote : Quote) (style : ScalarStyle) → Quoting quote style → (n : ℕ) (c : Core)
-    → slice_index c.cursor.rest 0 ≡ mark quote → (l : Level) (r : Bool) → IsSaved n c l
+    → slice_index c.cursor.rest 0 ≡ mark quote → (l : Level) (r : Bool) → IsSaved n c l r
     → let d = scalar.disallow_key (record c { level = l; required = r }) in
     Walked (Premises c) (Doing (Some n) c) c.cursor
     (quoted.quoted quote (least_column d) d.cursor >>= λ x. scalar.behind_quotes d.cursor.mark style x.0
@@ -116,16 +193,38 @@ quotes_do quote style quoting n c first l r s =
       kind = tokens.Scalar style x.0;
     } in
     by_test (scalar.goes_on_behind_quotes here.mark y.1) _ _ (Walked (Premises c) Q here)
-    (λ _. walked_then (Premises c) _ Q here (pass_gap y.1) _ (gap_walked c here y.1 reach (λ laws. g.0.2 laws.2))
+    (λ goes. walked_then (Premises c) _ Q here (pass_gap y.1) _ (gap_walked c here y.1 reach (λ laws. g.0.2 laws.2))
     (λ f k.
     let v : Cursor = f.cursor in
     let a = apart_later x.1.mark x.1.rest u.mark u.rest g.1.apart in
     let b = apart_later u.mark u.rest v.mark v.rest k.1 in
-    saved n c (scalar.adjacent_here f) t (rw (k.0.0 ∙ g.0.0) s)
+    let same = k.0.0 ∙ g.0.0 in
+    let past : IsArrival c → TextLaws → (x.1.mark.line ≤ top) × (here.mark.line ≤ x.1.mark.line) = λ arrival laws.
+    let p = passed_later here.mark here.rest x.1.mark x.1.rest (laws.quotes quote low here x.1 x.0 first e).3 in
+    let z = p.lines (let small = arrival.2 in omega (arith, small)) in (z.1, z.0) in
+    saved n c (scalar.adjacent_here f) t (rw (same, k.0.3 ∙ g.0.3) s)
     (ap (λ (a : Around). record a { adjacent = c.adjacent }) (k.0.1 ∙ g.0.1)) (inr (refl, quoting.ends_json x.0 t.span))
-    (λ m. inl (k.0.2 (g.0.2 m))) (quoting.quiet x.0) (neutral _ t.span refl) refl (λ i. absurd (cc))
+    (λ m. inl (k.0.2 (g.0.2 m))) (quoting.quiet x.0) (neutral _ t.span refl) quoting.flow (λ i. absurd (cc))
     (λ no. absurd (cc))
-    (λ i. quoting.of i x.0 t.span) refl
+    (λ i. quoting.of i x.0 t.span) refl (other_than_colon (mark quote) here.rest quoting.other first)
+    (λ arrival laws i allowed small.
+    let p = past arrival laws in
+    let line = on_line_same x.1 u g.1 in
+    let ends = k.3.ends i allowed (omega (arith, p.0, line)) in
+    let block = ap (λ (m : Level). is_block m.context) (sym same) ∙ i in
+    let indent = ap (λ (z : Around). z.indent) (k.0.1 ∙ g.0.1) in
+    let w = laws.quotes quote low here x.1 x.0 first e in
+    quotes_end c.indent here x.1 u v f.indent quote first quoting.unbroken w.3
+    (quoted_shorter quote w.0 here.rest x.1.rest w.1) g.1 k.1 k.2 indent
+    (arrival.0 (sym (same_block n c l r s) ∙ block)) arrival.2 small ends.1
+    (goes_on_outside here.mark y.1 (ap (λ (m : Level). is_block m.context) (sym k.0.0) ∙ i) goes))
+    (λ arrival laws i allowed small.
+    let p = past arrival laws in
+    let line = on_line_same x.1 u g.1 in
+    elim (k.3.begins allowed) [
+      | inl before ↦ absurd (let same = g.2 in cc)
+      | inr later ↦ inl (let z = later (omega (arith, p.0, line)) small in omega (arith, p.1, line, z))
+    ])
     (record {
       less = λ laws. let z = quoting.less laws low here x.1 x.0 first e in
           omega (arith, z, a.index, a.counted, b.index, b.counted);
@@ -246,17 +345,21 @@ plain_does n c starts =
     (λ _. walked_then (Premises c) _ Q here (words.plain f c.indent here) _
     (read_walked (Premises c) here (words.plain f c.indent here)
     (λ e q laws. at_inside here e (laws.0.plain f c.indent here e q))) (λ x e.
-    let ends = given_of EndsUnbroken (words.plain f c.indent here) x (plain_ends f c.indent here) e in
+    let ends = given_of (EndsPlain f c.indent (here.mark.col + 1) here.mark.line) (words.plain f c.indent here) x
+    (plain_ends f c.indent here) e in
     let t : Piece = record { span = record { start = here.mark; end = x.1 }; kind = tokens.Scalar Plain x.0 } in
     saved n c (scalar.behind_plain x.2 x.3 d) t s refl (inl refl) (λ _. ends.0) refl (neutral _ t.span refl) refl
     (λ i. absurd (cc)) (λ no. absurd (cc))
     (λ i a b k. (k.start, plain_begins (slice_index a.rest 0) k.begins k.is_ink)) refl
+    (λ colon blank. absurd (let no = starts.no_indicator (ap (λ x. is_one_of (codes "-?:") x) colon) in cc))
+    (λ arrival _ i allowed _. inl (ends.2 (rw i refl) (arrival.0 (sym (same_block n c l r s) ∙ i)) allowed))
+    (λ _ _ _ allowed small. inl (ends.4 allowed small))
     (record {
       less = λ laws. let z = laws.plain f c.indent here x.3 x.0 x.1 x.2 e in omega (arith, z);
       span = λ laws. let z = laws.plain f c.indent here x.3 x.0 x.1 x.2 e in
           record { ahead = z.ahead; begins = omega arith; inside = z.begins; ends = z.ends };
       token = λ laws. let z = laws.plain f c.indent here x.3 x.0 x.1 x.2 e in
-          let read = rw (same_flow n c l s) at z in (
+          let read = rw (same_flow n c l r s) at z in (
             x.3,
             (λ _ _. record {
               start = refl;
@@ -301,12 +404,12 @@ block_does style n c b some f =
         ended = refl;
         goes_on = ((λ i. absurd (cc)), tt);
         few = omega arith;
-        keeps = λ h a. ((saved_above h n c l s a.0 a.1.0, a.1.1), tt);
+        keeps = λ h a. ((saved_above h n c l r s a.0 a.1.0, a.1.1), tt);
       };
       fetched = λ laws text small opened from q later g arrival k.
-          let Q : ℕ → Type 0 = λ j. IsSaved j c l in
+          let Q : ℕ → Type 0 = λ j. IsSaved j c l r in
           block_fetched laws text small opened from q style c d later
-          (record { level = subst Q g s; cursor = refl; outer = refl; indent = refl; outer_indents = refl }) refl k b
-          (same_block n c l s ∙ b) f x e;
+          (record { level = subst Q g s; cursor = refl; outer = refl; indent = refl; outer_indents = refl }) refl refl
+          arrival k b (same_block n c l r s ∙ b) f x e;
       noted = λ m. inl m;
     }))

@@ -12,7 +12,7 @@ use Rattle.saphyr_scanner.specs.declared.queue.Opening.{Opening}
 use Rattle.saphyr_scanner.specs.declared.queue.Opening.TheVariants as opening
 use Rattle.saphyr_scanner.specs.Grammar.Tokens as tokens
 use Rattle.saphyr_scanner.specs.Steps.Queue.{empty_piece}
-use Rattle.saphyr_scanner.specs.Steps.Core.{Core, Action, Step, Open, at_mark, in_block, is_too_far, forget_key, go_deeper, is_further, enter_block, with_context}
+use Rattle.saphyr_scanner.specs.Steps.Core.{Core, Action, Step, Open, at_mark, in_block, is_too_far, forget_key, with_key, go_deeper, is_further, enter_block, with_context}
 use Rattle.saphyr_scanner.specs.Steps.Level.{Candidate, Level, is_block, begins_pair, behind_colon}
 use Rattle.saphyr_scanner.specs.Steps.Passing.{separate, pass_on, with_cursor}
 use Rattle.saphyr_scanner.specs.Steps.Value as value
@@ -21,7 +21,7 @@ use Rattle.saphyr_scanner.specs.TokensTaken as taken
 use Rattle.saphyr_scanner.specs.TokensTaken.{AreApart, Collections, parts_colon}
 use Rattle.saphyr_scanner.specs.TokensInPlace as place
 use Rattle.saphyr_scanner.specs.TokensInPlace.{Enclosure, Enclosures, turned_to, behind_pair_colon, may_begin_pair, may_begin_key, with_begun, is_in_brackets, is_at_column, is_near}
-use Rattle.saphyr_scanner.proofs.Effects.Moves.{DoesWithin, encloses, and_then, Around, Same, same, same_around, lesser, still_within}
+use Rattle.saphyr_scanner.proofs.Effects.Moves.{DoesWithin, encloses, and_then, Around, Same, same, same_around, lesser, still_within, allows_right}
 use Rattle.saphyr_scanner.proofs.Effects.Puts.{empty_reading, IndicatorStands, passes, indicated, freed, quiet_within, block_begins, key_opens}
 use Rattle.saphyr_scanner.proofs.Effects.Puts.{mapping_opens}
 use Rattle.saphyr_scanner.proofs.Effects.Blocks.{allowed_in}
@@ -29,7 +29,8 @@ use Rattle.saphyr_scanner.proofs.Effects.Walked.{Premises, Walked, walked_then, 
 use Rattle.saphyr_scanner.proofs.Effects.Walked.{separate_walked}
 use Rattle.saphyr_scanner.proofs.Reached.{apart_reached}
 use Rattle.saphyr_scanner.proofs.Taken.Cores.{by_bool, further_block}
-use Rattle.saphyr_scanner.proofs.Taken.Keys.{IsDeep, IsArrival}
+use Rattle.saphyr_scanner.proofs.Taken.Keys.{IsDeep, IsBehindKey, IsArrival}
+use Rattle.saphyr_scanner.proofs.Taken.Indented.{IsRight}
 use Rattle.saphyr_scanner.proofs.Taken.Held.{enclosure_of, columns_of, outside_of, enclosures_of, FitsWithin}
 use Rattle.saphyr_scanner.proofs.Taken.InPlace.{no_text, Outside, free, in_key}
 use Rattle.saphyr_scanner.proofs.Taken.Later.{apart_later, top}
@@ -42,6 +43,7 @@ use Rattle.std.proofs.lemmas.Bool.{not-false, not-true}
 -- after the colon, where what is known stays
 abbrev Behind : Core → Core → Type 0
 Behind c d = Same c d × AreApart (pass 1 c.cursor) d.cursor × (d.key_allowed ≡ c.key_allowed)
+    × (c.cursor.mark.col + 1 ≤ d.cursor.mark.col)
 
 tab_walked : (b c : Core) → Reaches c.cursor (pass 1 c.cursor)
     → Walked (Premises b) (Behind c) c.cursor (value.check_tab (pass_on 1 c))
@@ -55,12 +57,18 @@ tab_walked b c a =
     && ((slice_index x.1.cursor.rest 0 == 45) || is_alpha (slice_index x.1.cursor.rest 0))) _ _ P
     (λ _ _. at_reach c.cursor x.1.cursor (reaches_reaches c.cursor (pass 1 c.cursor) x.1.cursor a
     (apart_reached (pass 1 c.cursor).mark (pass 1 c.cursor).rest x.1.cursor.mark x.1.cursor.rest g.1.apart)))
-    (λ _. (g.0, g.1.apart, g.2)))) (λ _. (same c, taken.nothing (pass 1 c.cursor).mark (pass 1 c.cursor).rest, refl))
+    (λ _. (g.0, g.1.apart, g.2, (let col = ap (λ (m : Marker). m.col) g.1.on_line.4 in omega (arith, col))))))
+    (λ _. (same c, taken.nothing (pass 1 c.cursor).mark (pass 1 c.cursor).rest, refl, omega arith))
 
 -- ## What stays alike
 
 same_forgotten : (c d : Core) → Same c d → Same (forget_key c) (forget_key d)
-same_forgotten c d s = (ap (λ (l : Level). record { context = l.context; key = None }) s.0, s.1, s.2)
+same_forgotten c d s = (
+  ap (λ (l : Level). record { context = l.context; key = None }) s.0,
+  s.1,
+  s.2,
+  cc (ap (λ (l : Level). is_block l.context) s.0, s.3),
+)
 
 same_blocks : (column : ℕ) (c d : Core) → Same c d → Same (enter_block column c) (enter_block column d)
 same_blocks column c d s = (
@@ -74,6 +82,7 @@ same_blocks column c d s = (
     adjacent = x.adjacent;
   }) s.1,
   s.2,
+  s.3,
 )
 
 no_key : (l : Level) → l.key ≡ None → l ≡ record { context = l.context; key = None }
@@ -104,13 +113,13 @@ IsParted c = (in_block c ≡ true → is_blank_or_breakz (slice_index c.cursor.r
 
 -- from e, which comes before the colon, where no key is a candidate
 colon_does : {A : Type 0} (within : Enclosures) (e d : Core) (u : Cursor) → slice_index e.cursor.rest 0 ≡ colon
-    → IsParted e → AreApart (pass 1 e.cursor) u → Same e d → d.cursor ≡ u → e.level.key ≡ None
+    → IsParted e → AreApart (pass 1 e.cursor) u → Same e d → d.cursor ≡ u → e.level.key ≡ None → (A → IsRight d)
     → (A → FitsWithin within (empty_piece e.cursor.mark tokens.Value))
     → DoesWithin A within (behind_value within) None 1 1 e d (at_mark e.cursor.mark tokens.Value ∷ [])
-colon_does within e d u first parted a s there none fit =
+colon_does within e d u first parted a s there none right fit =
     let later = apart_later (pass 1 e.cursor).mark (pass 1 e.cursor).rest u.mark u.rest a in
     let t = empty_piece e.cursor.mark tokens.Value in
-    and_then (λ n. n) (quiet_within within 1 e t u refl (λ x. refl) (λ x. refl) (inl none) fit (λ i. absurd (cc)) refl
+    and_then (λ n. n) (quiet_within within 1 e t u refl (λ x. refl) (λ x. refl) refl none fit (λ i. absurd (cc)) refl
     (indicated 58 e u t (record { some = refl; unbroken = refl; is = first }) a
     (omega arith) (omega arith) (omega (arith, later.index)) (λ t b told. (
       t,
@@ -123,7 +132,7 @@ colon_does within e d u first parted a s there none fit =
             | inr parts ↦ inr (ap parts_colon (second_is e.cursor.rest) ∙ parts)
           ],
     ))))
-    (still_within (behind_value within) (freed (with_cursor u e)) d s there (λ _. inl refl))
+    (still_within (behind_value within) (freed (with_cursor u e)) d s there (λ p. ((λ _. inl refl), λ _. right p)))
 
 -- where a key is open the colon is near it
 near_colon : (x : Context) (k : Candidate) (m : Marker) → (is_block x && is_too_far (Some k) m) ≡ false
@@ -180,6 +189,7 @@ record Turned (b : Core) (x : Context) (c d : Core) : Type 0 where
   deep : IsArrival b → IsDeep c
   flows : begins_pair x ≡ true → in_block d ≡ false
   small : IsArrival b → c.cursor.mark.line < top
+  key : IsArrival b → IsBehindKey c
 
 turned_encloses : (b : Core) (x : Context) (c d : Core) (e : Enclosure) → Turned b x c d
     → enclosure_of (behind_colon x) ≡ e → enclosures_of d ≡ free e (outside_of c)
@@ -208,6 +218,11 @@ key_does b c d x k t is =
     let Into : Bool → Core = λ f. record (forget_key (go_deeper (if f then enter_block k.mark.col d else d))) {
       key_allowed = false;
     } in
+    let right : IsArrival b → IsRight (Into false) = λ a e _ _.
+    let deep = t.deep a (block_same c d g.0 e) in
+    let indent = ap (λ (x : Around). x.indent) g.0.1 in inl (omega (arith, deep, indent, g.3)) in
+    let right_of_key : IsArrival b → IsRight (Into true) = λ a e _ _.
+    let column = t.key a (block_same c d g.0 e) k known in inl (omega (arith, column, g.3)) in
     let From : Bool → Opening → Type 0 = λ f o. DoesWithin (IsArrival b) (free own outside) (enclosures_of (Into f))
     None 1 5 c (Into f) (Open k.place o ∷ at_mark s.mark tokens.Value ∷ []) in
     by_test (begins && nat_lt k.mark.line s.mark.line) _ _ (Walked (Premises b) (Valued b x c) s)
@@ -224,23 +239,23 @@ key_does b c d x k t is =
           (ap (λ o. is_block x && is_too_far o s.mark) (sym known) ∙ t.near a),
       t.small a,
     ))
-    (right_same k.mark.col c d g.0 f) known)
+    (right_same k.mark.col c d g.0 f) (inr (t.first, t.parted.0 (block_same c d g.0 inside))) known)
     (colon_does (in_key k.mark (free own (outside_of (enter_block k.mark.col c))))
     (forget_key (enter_block k.mark.col c)) (Into true) u t.first t.parted g.1
     (same_forgotten (enter_block k.mark.col c) (enter_block k.mark.col d) (same_blocks k.mark.col c d g.0)) refl refl
-    (near e)))))
+    right_of_key (near e)))))
     (λ f. let left = left_same k.mark.col c d g.0 f in
     by_test begins opening.FlowMappingAndKey opening.Key (From false)
     (λ e. encloses (turned_encloses b x c d place.PairValue t (behind_pair x e))
     (at_most (omega arith) (and_then (λ n. n)
     (key_opens own outside c k opening.FlowMappingAndKey refl (pair_may_begin x e) left known)
     (colon_does (in_key k.mark (free place.PairKey outside)) (forget_key c) (Into false) u t.first t.parted g.1
-    (same_forgotten c d g.0) refl refl (λ _. pair_near begins k.mark s.mark line e)))))
+    (same_forgotten c d g.0) refl refl right (λ _. pair_near begins k.mark s.mark line e)))))
     (λ e. encloses (turned_encloses b x c d (behind_pair_colon own) t (behind_alone x e))
     (at_most (omega arith) (and_then (λ n. n)
     (key_opens own outside c k opening.Key refl (alone_may_begin x e) left known)
     (colon_does (in_key k.mark (free own outside)) (forget_key c) (Into false) u t.first t.parted g.1
-    (same_forgotten c d g.0) refl refl (near e)))))))
+    (same_forgotten c d g.0) refl refl right (near e)))))))
 
 -- ## Without a key
 
@@ -295,37 +310,44 @@ alone_does b c d x t none =
     (λ f. let r = same_blocks column c d g.0 in
     let allowed = sym g.2 ∙ allowed_in (in_block d) d.key_allowed w (further_block column d f) in
     encloses (turned_in_block b x c d (behind_pair_colon e) column t same) (and_then (λ n. n)
-    (block_begins e c tokens.BlockMappingStart place.BlockMapping (λ i. absurd (cc)) refl refl allowed
-    (λ i p v t h. h) (λ x y. refl) (λ p all. refl) (λ p columns. refl)
+    (block_begins e c c.required tokens.BlockMappingStart place.BlockMapping (λ i. absurd (cc)) refl refl allowed
+    (λ _. free_key) (λ r. r) (λ p. refl) (λ i p v t h. h) (λ x y. refl) (λ p all. refl) (λ p columns. refl)
     (block_same c d g.0 (further_block column d f)) (right_same column c d g.0 f) (ap taken.begins_text t.first))
     (colon_does (with_begun place.BlockMapping (free e (outside_of (enter_block column c))))
-    (forget_key (enter_block column c)) (Into true) u t.first t.parted g.1
-    (no_key d.level none ∙ ap (λ (l : Level). record { context = l.context; key = None }) g.0.0, r.1, r.2) refl refl
+    (with_key None (enter_block column c)) (Into true) u t.first t.parted g.1
+    (
+      no_key d.level none ∙ ap (λ (l : Level). record { context = l.context; key = None }) g.0.0,
+      r.1,
+      r.2,
+      r.3,
+    ) refl refl (λ _ b f. absurd (cc))
     (λ _. or_right (is_in_brackets e) (is_at_column column (outside_of (enter_block column c)).columns)
     (innermost_column column (column + 1) (c.indent ∷ c.outer_indents) refl)))))
     (λ f. encloses (turned_encloses b x c d (behind_pair_colon e) t same) (at_most (omega arith)
-    (colon_does (free e outside) c (Into false) u t.first t.parted g.1 g.0 refl free_key
+    (colon_does (free e outside) c (Into false) u t.first t.parted g.1 g.0 refl free_key (λ _ b f. absurd (cc))
     (λ a. alone_fits b x c d e t bracketed f (t.deep a))))) in
     by_test (in_block d && not d.key_allowed) _ _ (Walked (Premises b) (Valued b x c) s) (λ _ _. at_here s)
     (λ w. by_bool (begins_pair x)
     (λ f. DoesWithin (IsArrival b) (free own outside) (enclosures_of (Into further)) None 1 5 c (Into further)
     ((if f then at_mark s.mark tokens.FlowMappingStart ∷ [] else []) ++ Starts further))
     (λ e. and_then (λ n. n)
-    (pair_begins own outside c free_key (pair_may_begin x e)) (value w place.PairKey (behind_pair x e) (λ _. refl)))
+    (pair_begins own outside c free_key (ap (λ (l : Level). is_block l.context) (sym g.0.0) ∙ t.flows e)
+    (pair_may_begin x e)) (value w place.PairKey (behind_pair x e) (λ _. refl)))
     (λ e. at_most (omega arith) (value w own (behind_alone x e) (flow_brackets x))))
   where
-    pair_begins : (e : Enclosure) (outside : Outside) (c : Core) → c.level.key ≡ None
+    pair_begins : (e : Enclosure) (outside : Outside) (c : Core) → c.level.key ≡ None → in_block c ≡ false
         → IsTrue (may_begin_pair e)
         → DoesWithin (IsArrival b) (free e outside) (free place.PairKey outside) None 0 1 c c
         (at_mark c.cursor.mark tokens.FlowMappingStart ∷ [])
-    pair_begins e outside c none may =
+    pair_begins e outside c none flows may =
         let t = empty_piece c.cursor.mark tokens.FlowMappingStart in
         let no = no_text c.cursor.mark.index in
         and_then (λ n. n) (encloses (rw no refl) (quiet_within (free e outside) 0 c t c.cursor refl
-        (λ x. ap (λ (y : Collections). y.brackets) (pair_starts c.cursor.mark x)) (λ x. rw no refl) (inl none)
+        (λ x. ap (λ (y : Collections). y.brackets) (pair_starts c.cursor.mark x)) (λ x. rw no refl) no none
         (λ _. rw no may) (λ i. absurd (cc)) refl
         (empty_reading c tokens.FlowMappingStart (λ _. inr (refl, inl refl, refl)))))
-        (still_within (free place.PairKey outside) (freed c) c (same c) refl (λ _. inl refl))
+        (still_within (free place.PairKey outside) (freed c) c (same c) refl
+        (λ _. allows_right (freed c) c (λ _. inl refl) (λ b. absurd (cc))))
 
 either_does : (b c d : Core) (x : Context) (o : Option Candidate) → d.level.key ≡ o → Turned b x c d
     → Walked (Premises b) (Valued b x c) c.cursor (value.behind_key o (begins_pair x) c.cursor.mark d)
@@ -348,7 +370,8 @@ value_does c first parted =
     walked_map (Premises c) (Valued c x v) (Doing None c) c.cursor _
     (λ y k. and_then (λ n. n)
     (lesser (enclosures_of c) c v (record { block = colon_block x; key = inl refl }) refl (λ n. n)
-    (taken.nothing c.cursor.mark c.cursor.rest) (λ a. inl a)) k)
+    (taken.nothing c.cursor.mark c.cursor.rest) (λ _. ((λ a. inl a), λ h b. h (sym (colon_block x) ∙ b)))
+    (record { required = refl; key = λ _ _. refl })) k)
     (either_does c v d x d.level.key refl (record {
       first = first;
       parted = ((λ e. parted.0 (sym (colon_block x) ∙ e)), λ e. parted.1 (sym (colon_block x) ∙ e));
@@ -358,6 +381,7 @@ value_does c first parted =
       deep = λ a e. a.0 (sym (colon_block x) ∙ e);
       flows = λ e. ap (λ (l : Level). is_block l.context) g.0.0 ∙ pair_flows x e;
       small = λ a. a.2;
+      key = λ a e. a.4 (sym (colon_block x) ∙ e);
     })))
 
 pub flow_value_does : (second : ℕ) (c : Core) → slice_index c.cursor.rest 0 ≡ colon → IsParted c

@@ -1,6 +1,7 @@
 -- What is known of each step, told with the place of its refusal: of what it passes, and of all that it does.
 use Rattle.std.proofs.Common.{◌≡◌, ℕ, ◌^◌, ◌≤◌, ◌<◌, false, List, length, Option, Some, None, Result, Ok}
-use Rattle.std.proofs.Common.{Err, refl, arith}
+use Rattle.std.proofs.Common.{Err, refl, arith, IsTrue}
+use Rattle.std.specs.Prelude.{slice_index}
 use Rattle.saphyr_input.specs.declared.input.SkipTabs.{SkipTabs}
 use Rattle.saphyr_input.specs.declared.input.SkipTabs.TheVariants as tabs
 use Rattle.saphyr_scalar.specs.declared.scalar.position.Marker.{Marker}
@@ -12,7 +13,7 @@ use Rattle.saphyr_scanner.specs.Steps.Core.{Core, Action, Step, StepResult, perf
 use Rattle.saphyr_scanner.specs.Steps.Gap as gaps
 use Rattle.saphyr_scanner.specs.Steps.Passing.{separate, with_cursor, pass_gap, check_comment, goes_on_behind}
 use Rattle.saphyr_scanner.specs.Steps.Passing.{behind_gap, check_comment_of}
-use Rattle.saphyr_scanner.specs.TokensTaken.{AreApart}
+use Rattle.saphyr_scanner.specs.TokensTaken.{AreApart, begins_text}
 use Rattle.saphyr_scanner.specs.TokensInPlace.{Enclosures}
 use Rattle.saphyr_scanner.proofs.Effects.Readers.{TextLaws, RefusalLaws}
 use Rattle.saphyr_scanner.proofs.Effects.Steps.{EffectAt}
@@ -26,7 +27,8 @@ use Rattle.saphyr_scanner.proofs.Taken.Keys.{IsArrival}
 use Rattle.saphyr_scanner.proofs.Taken.Held.{Setting}
 use Rattle.saphyr_scanner.proofs.Taken.Later.{LaterThan}
 use Rattle.saphyr_scanner.proofs.Taken.Places.{Reaches, At, at_here, at_further, at_reached}
-use Rattle.saphyr_scanner.proofs.Taken.Separated.{gap_apart}
+use Rattle.saphyr_scanner.proofs.Taken.Separated.{gap_apart, BeginsText, gap_begins, Breaks, gap_breaks}
+use Rattle.saphyr_scanner.proofs.Taken.Arrivals.{AllowsBehind, gap_allows}
 use Rattle.saphyr_scanner.proofs.Taken.States.{FetchedStep, holds_fetched}
 use Rattle.saphyr_input.proofs.Basics.Booleans.{by_test}
 use Rattle.saphyr_scalar.proofs.Given.{Given}
@@ -151,24 +153,34 @@ separate_walked b s c a = by (separation tabs.Yes c.cursor) refl (separation_pas
     by (Err e) f h =
         λ laws. at_further s c.cursor e.mark (a laws) (at_inside c.cursor e (laws.0.separation tabs.Yes c.cursor e f))
 
+-- after a gap, where a text begins
+abbrev pub Gapped : Core → Core → Type 0
+Gapped c d = Same c d × AreApart c.cursor d.cursor × IsTrue (begins_text (slice_index d.cursor.rest 0))
+    × AllowsBehind c d
+
 pub gap_walked : (b : Core) (s : Cursor) (c : Core) → (Premises b → Reaches s c.cursor)
     → (Premises b → c.comment ≡ None)
-    → Walked (Premises b) (λ (d : Core). Same c d × AreApart c.cursor d.cursor) s (pass_gap c)
+    → Walked (Premises b) (Gapped c) s (pass_gap c)
 unfolding pass_gap check_comment
 gap_walked b s c a none =
     by (gaps.whole_gap (least_column c) c.cursor) (gap_apart (least_column c) false false c.cursor)
+    (gap_begins (least_column c) false false c.cursor) (gap_breaks (least_column c) false false c.cursor)
     (gap_refused (least_column c) c.cursor.mark c.cursor.blank_so_far false false c.cursor.rest)
   where
-    checked : (o : Option Marker) (d : Core) → Same c d → AreApart c.cursor d.cursor → (Premises b → o ≡ None)
-        → Walked (Premises b) (λ (e : Core). Same c e × AreApart c.cursor e.cursor) s (check_comment_of o d)
-    checked None d m p n = (m, p)
-    checked (Some k) d m p n = by_test (goes_on_behind k (record d { comment = None })) _ _
-        (Walked (Premises b) (λ (e : Core). Same c e × AreApart c.cursor e.cursor) s)
-        (λ _ laws. absurd (let no = n laws in cc)) (λ _. ((m.0, m.1, λ _. refl), p))
+    checked : (o : Option Marker) (d : Core) → Gapped c d → (Premises b → o ≡ None)
+        → Walked (Premises b) (Gapped c) s (check_comment_of o d)
+    checked None d g n = g
+    checked (Some k) d g n = by_test (goes_on_behind k (record d { comment = None })) _ _
+        (Walked (Premises b) (Gapped c) s) (λ _ laws. absurd (let no = n laws in cc))
+        (λ _. (
+          (g.0.0, g.0.1, (λ _. refl), g.0.3),
+          g.1,
+          g.2,
+          record { begins = g.3.begins; ends = g.3.ends },
+        ))
 
     by : (r : Result gaps.GapEnd Refusal) → Given (λ (p : gaps.GapEnd). AreApart c.cursor p.cursor) r
-        → Refused c.cursor.mark c.cursor.rest r
-        → Walked (Premises b) (λ (d : Core). Same c d × AreApart c.cursor d.cursor) s
-        (r >>= λ g. check_comment_of (behind_gap c g).comment (behind_gap c g))
-    by (Ok g) h k = checked c.comment (behind_gap c g) (refl, refl, λ n. n) h none
-    by (Err e) h k = λ laws. at_further s c.cursor e.mark (a laws) (at_reached c.cursor e.mark k.0 k.1)
+        → Given BeginsText r → Given (Breaks c.cursor.mark false) r → Refused c.cursor.mark c.cursor.rest r
+        → Walked (Premises b) (Gapped c) s (r >>= λ g. check_comment_of (behind_gap c g).comment (behind_gap c g))
+    by (Ok g) h t l k = checked c.comment (behind_gap c g) ((refl, refl, (λ n. n), refl), h, t, gap_allows c g l) none
+    by (Err e) h t l k = λ laws. at_further s c.cursor e.mark (a laws) (at_reached c.cursor e.mark k.0 k.1)

@@ -18,11 +18,12 @@ use Rattle.saphyr_scanner.specs.TokensTaken.{AreApart, IsPassedOver, begins_text
 use Rattle.saphyr_scanner.specs.TokensInPlace.{Enclosures}
 use Rattle.saphyr_scanner.proofs.Blocks.{none_ends, unrolled_cursor, blocks_cursor, go_less_deep_cursor}
 use Rattle.saphyr_scanner.proofs.Taken.Separated.{gap_apart, BeginsText, gap_begins, Breaks, gap_breaks}
-use Rattle.saphyr_scanner.proofs.Taken.Later.{top, LaterThan, later_later, apart_later}
+use Rattle.saphyr_scanner.proofs.Taken.Later.{top, Later, LaterThan, later_later, apart_later, end_stays}
 use Rattle.saphyr_scanner.proofs.Taken.Held.{enclosures_of, Setting, Taken, taken_within, AllowsKey, taken_further}
+use Rattle.saphyr_scanner.proofs.Taken.Indented.{BeginsNoNode, stays_no_node, IsRight, root_key}
 use Rattle.saphyr_scanner.proofs.Taken.Keys.{Keys}
 use Rattle.saphyr_scanner.proofs.Taken.Cores.{Alike, alike_enclosures, keys_of, keys_lesser, no_keys, outermost_level}
-use Rattle.saphyr_scanner.proofs.Taken.Keys.{IsNear}
+use Rattle.saphyr_scanner.proofs.Taken.Keys.{IsNear, IsBehindKey}
 use Rattle.saphyr_scanner.proofs.Taken.Cores.{key_known}
 use Rattle.saphyr_scanner.proofs.Taken.States.{line_small, taken_later, key_stands, Live, TakenState, unroll_taken, blocks_levels}
 use Rattle.saphyr_input.proofs.Basics.Booleans.{by_test, and_false}
@@ -31,14 +32,24 @@ use Rattle.std.proofs.lemmas.Bool.{not-true, le-ltb}
 
 -- ## What is passed
 
--- a key may begin only where one might before, or after a break, which ends a line
-abbrev AllowsBehind : Core → Core → Type 0
-AllowsBehind c d = d.key_allowed ≡ true → (c.key_allowed ≡ true)
-    ⊎ (c.cursor.mark.line ≤ top → d.cursor.mark.line < top → c.cursor.mark.line < d.cursor.mark.line)
+-- A key may begin only where one might before, or after a break, which ends a line. Where none may no line has ended.
+pub record AllowsBehind (c d : Core) : Type 0 where
+  pub begins : d.key_allowed ≡ true → (c.key_allowed ≡ true)
+      ⊎ (c.cursor.mark.line ≤ top → d.cursor.mark.line < top → c.cursor.mark.line < d.cursor.mark.line)
+  pub ends : in_block d ≡ true → d.key_allowed ≡ false → c.cursor.mark.line ≤ top
+      → (c.key_allowed ≡ false) × (d.cursor.mark.line ≡ c.cursor.mark.line)
 
-gap_allows : (c : Core) (g : gaps.GapEnd) → Breaks c.cursor.mark false g → AllowsBehind c (behind_gap c g)
-gap_allows c g h e = by g.broke (in_block c) c.key_allowed e refl refl
+pub gap_allows : (c : Core) (g : gaps.GapEnd) → Breaks c.cursor.mark false g → AllowsBehind c (behind_gap c g)
+gap_allows c g h = record {
+  begins = λ e. by g.broke (in_block c) c.key_allowed e refl refl;
+  ends = λ b f low.
+      let w = none g.broke (in_block c) c.key_allowed b f in (w.1, (h low).4 w.0);
+}
   where
+    none : (broke block allowed : Bool) → block ≡ true → ((broke && block) || allowed) ≡ false
+        → (broke ≡ false) × (allowed ≡ false)
+    none broke block allowed b e = grind arith
+
     by : (broke block allowed : Bool) → ((broke && block) || allowed) ≡ true → broke ≡ g.broke
         → allowed ≡ c.key_allowed → (c.key_allowed ≡ true)
         ⊎ (c.cursor.mark.line ≤ top → g.cursor.mark.line < top → c.cursor.mark.line < g.cursor.mark.line)
@@ -66,30 +77,53 @@ behind_gap_of P c f go = by (gaps.whole_gap (least_column c) c.cursor)
           indent = a.indent;
           outer_indents = a.outer_indents;
           adjacent = a.adjacent;
-        }) p b k)
+          required = a.required;
+        }) p b (record { begins = k.begins; ends = k.ends }))
 
     by : (r : Result gaps.GapEnd Refusal) → Given (λ (p : gaps.GapEnd). AreApart c.cursor p.cursor) r
         → Given BeginsText r → Given (Breaks c.cursor.mark false) r
         → Given P ((r >>= λ g. check_comment_of (behind_gap c g).comment (behind_gap c g)) >>= f)
     by (Ok g) h b k = checked c.comment (behind_gap c g)
-        (record { level = refl; outer = refl; indent = refl; outer_indents = refl; adjacent = refl }) h b
+        (record {
+          level = refl;
+          outer = refl;
+          indent = refl;
+          outer_indents = refl;
+          adjacent = refl;
+          required = refl;
+        }) h b
         (gap_allows c g k)
     by (Err e) h b k = tt
 
--- ## To where the next token begins
+-- on the line the text goes on as far right, or there is no node still
+pub line_right : (c d : Core) → AreApart c.cursor d.cursor → d.indent ≡ c.indent → c.cursor.mark.line ≤ top
+    → d.cursor.mark.line ≡ c.cursor.mark.line → d.cursor.mark.line < top
+    → (c.indent ≤ c.cursor.mark.col) ⊎ BeginsNoNode c.cursor.rest
+    → (d.indent ≤ d.cursor.mark.col) ⊎ BeginsNoNode d.cursor.rest
+line_right c d p i low same small h = by h
+  where
+    goes : Later c.cursor.mark c.cursor.rest d.cursor.mark d.cursor.rest
+    goes = apart_later c.cursor.mark c.cursor.rest d.cursor.mark d.cursor.rest p
 
--- at NUL and at the end nothing is passed
-z_stays : (m : Marker) (t : List ℕ) (n : Marker) (u : List ℕ) → IsPassedOver m t n u → is_z (slice_index t 0) ≡ true
-    → u ≡ t
-z_stays m t n u h z = grind arith
+    by : (c.indent ≤ c.cursor.mark.col) ⊎ BeginsNoNode c.cursor.rest
+        → (d.indent ≤ d.cursor.mark.col) ⊎ BeginsNoNode d.cursor.rest
+    by (inl l) = let k = goes.columns low small (omega (arith, same)) in inl (omega (arith, l, k, i))
+    by (inr w) = inr (stays_no_node c.cursor d.cursor p w)
+
+behind_right : (c d : Core) → AreApart c.cursor d.cursor → d.indent ≡ c.indent → in_block d ≡ in_block c
+    → AllowsBehind c d → c.cursor.mark.line ≤ top → IsRight c → IsRight d
+behind_right c d p i block k low h b f small =
+    let e = k.ends b f low in
+    line_right c d p i low e.1 small (h (sym block ∙ b) e.0 (let s = e.1 in omega (arith, s, small)))
+
+-- ## To where the next token begins
 
 further_live : (all : Enclosures) (c d : Core) (q : Queue) → Alike c d → AreApart c.cursor d.cursor → Live all c q
     → Live all d q
 further_live all c d q a p h nz = by (is_z (slice_index c.cursor.rest 0)) refl
   where
     by : (b : Bool) → is_z (slice_index c.cursor.rest 0) ≡ b → Keys all (next q) q d.indent (d.level ∷ d.outer)
-    by true z = absurd (let e = z_stays c.cursor.mark c.cursor.rest d.cursor.mark d.cursor.rest p z in
-        cc)
+    by true z = absurd (let e = end_stays c.cursor d.cursor p z in cc)
     by false z = keys_of all (next q) q c.indent d.indent c.level d.level c.outer d.outer a.indent a.level a.outer (h z)
 
 record Near (opened : Setting) (from : Cursor) (q : Queue) (c : Core) : Type 0 where
@@ -103,11 +137,15 @@ forgotten_live all c q h nz =
     keys_lesser all (next q) q c.indent c.level (forget_key c).level c.outer (record { block = refl; key = inr refl })
     (h nz)
 
-pub forgotten_taken : (opened : Setting) (from : Cursor) (c : Core) (q : Queue) → Taken opened from c q
-    → Taken opened from (forget_key c) q
-forgotten_taken opened from c q h =
+pub forgotten_taken : (opened : Setting) (from : Cursor) (c : Core) (q : Queue) → c.required ≡ false
+    → Taken opened from c q → Taken opened from (forget_key c) q
+forgotten_taken opened from c q free h =
     taken_further (enclosures_of c) opened from c (forget_key c) q (taken.nothing _ _) refl refl refl refl
-    (λ a. inl a) h
+    ((λ a. inl a), λ r. r) (record {
+      required = rw free (and_false (not (in_block c)));
+      root = λ e. absurd (cc);
+      block = refl;
+    }) h
 
 dropped_near : (opened : Setting) (from : Cursor) (q : Queue) (c : Core)
     → IsTrue (begins_text (slice_index c.cursor.rest 0)) → Taken opened from c q
@@ -122,8 +160,8 @@ dropped_near opened from q c b h l =
       begins = b;
     })
     (λ _. by_test c.required _ _ (Given (Near opened from q)) (λ _. tt)
-    (λ _. record {
-      taken = forgotten_taken opened from c q h;
+    (λ free. record {
+      taken = forgotten_taken opened from c q free h;
       live = forgotten_live opened.enclosures c q l;
       near = and_false (in_block c);
       begins = b;
@@ -139,15 +177,39 @@ gapped text small opened from q c l h k =
     behind_gap_of (Near opened from q) c drop_far_key (λ d a p b allows.
     let there = later_later (start_cursor text).mark text c.cursor.mark c.cursor.rest d.cursor.mark d.cursor.rest here
     (apart_later c.cursor.mark c.cursor.rest d.cursor.mark d.cursor.rest p) in
-    let lines : AllowsKey c d = λ e. elim (allows e)
-    [ inl f ↦ inl f | inr f ↦ inr (f (omega (arith, low)) (line_small text d.cursor small there)) ] in
+    let block = ap (λ (l : Level). is_block l.context) a.level in
+    let lines : AllowsKey c d = (
+      (λ e. elim (allows.begins e) [
+        | inl f ↦ inl f
+        | inr f ↦ inr (f (omega (arith, low)) (line_small text d.cursor small there))
+      ]),
+      behind_right c d p a.indent block allows (omega (arith, low)),
+    ) in
     dropped_near opened from q d b
     (taken_within (enclosures_of c) (enclosures_of d) opened from d q (alike_enclosures c d a)
     (taken_further (enclosures_of c) opened from c d q p a.indent a.outer_indents (ap length a.outer) a.adjacent
-    lines h)) (further_live opened.enclosures c d q a p k))
+    lines (record {
+      required = a.required;
+      root = λ _. ap (λ m. root_key (m ∷ d.outer)) a.level ∙ ap (λ ls. root_key (c.level ∷ ls)) a.outer;
+      block = block;
+    }) h)) (further_live opened.enclosures c d q a p k))
 
 line_near : (k : Candidate) (m : Marker) → is_too_far (Some k) m ≡ false → m.line ≤ k.mark.line
 line_near k m e = grind arith
+
+-- a candidate that is not too far is on the line, and not right of what is here
+pub key_column : (text : List ℕ) → length text < 2 ^ 63 → (opened : Setting) (from : Cursor) (q : Queue) (c : Core)
+    → LaterThan (start_cursor text) from → Taken opened from c q
+    → Keys opened.enclosures (next q) q c.indent (c.level ∷ c.outer) → IsNear c → IsBehindKey c
+key_column text small opened from q c l h keys near b k i =
+    let known = key_known opened.enclosures (next q) q (is_block c.level.context) c.indent c.level.key k c.outer i
+    keys.1 keys.2 in
+    let from_small : from.mark.line ≤ top = (l.lines (omega arith)).1 in
+    let stands = key_stands opened from c q (next q) (is_block c.level.context) c.indent k from_small h known.0 in
+    let here = later_later (start_cursor text).mark text from.mark from.rest c.cursor.mark c.cursor.rest l
+    (taken_later opened from c q h) in
+    let far : is_too_far (Some k) c.cursor.mark ≡ false = cc in
+    stands.later.columns stands.small (line_small text c.cursor small here) (line_near k c.cursor.mark far)
 
 -- where a key is a candidate no block collection ends
 unrolled_keys : (text : List ℕ) → length text < 2 ^ 63 → (opened : Setting) (from : Cursor) (q : Queue) (c : Core)
@@ -183,14 +245,7 @@ unrolled_keys text small opened from q c l h nz =
         let s : State = with_core (go_less_deep (Some m.col) c) (record { core = c; queue = q }) in
         let known = key_known opened.enclosures (next q) q (is_block c.level.context) c.indent c.level.key k c.outer i
         keys.1 keys.2 in
-        let from_small : from.mark.line ≤ top = (l.lines (omega arith)).1 in
-        let stands = key_stands opened from c q (next q) (is_block c.level.context) c.indent k from_small h.taken
-        known.0 in
-        let here = later_later (start_cursor text).mark text from.mark from.rest c.cursor.mark c.cursor.rest l
-        (taken_later opened from c q h.taken) in
-        let far : is_too_far (Some k) m ≡ false = cc in
-        let column : k.mark.col ≤ m.col = stands.later.columns stands.small (line_small text c.cursor small here)
-        (line_near k m far) in
+        let column = key_column text small opened from q c l h.taken keys h.near e k i in
         let deep : c.indent ≤ k.mark.col + 1 = known.0.deep e in
         let not_right : is_right_of (Some m.col) c.indent ≡ false = le-ltb m.col (c.indent - 1)
         (omega (arith, column, deep)) in

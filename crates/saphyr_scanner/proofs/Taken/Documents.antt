@@ -1,8 +1,9 @@
 -- What is held after a document's content and at the stream's end, and which texts are tokens of markers and
 -- directives.
 use Rattle.std.proofs.Common.{◌≡◌, ℕ, Bool, true, false, List, [], ◌∷◌, ◌++◌, length, drop, None, refl, ap, ◌∙◌, arith, inl, inr, IsTrue}
-use Rattle.std.specs.Prelude.{◌&&◌, ◌==◌, slice_index, codes}
-use Rattle.saphyr_input.specs.Classes.{is_break, is_blank_or_breakz}
+use Rattle.std.specs.Prelude.{◌&&◌, ◌==◌, nat_lt, slice_index, codes}
+use Rattle.std.proofs.lemmas.Bool.Decides.{nat_tests}
+use Rattle.saphyr_input.specs.Classes.{is_break, is_blank_or_breakz, is_z}
 use Rattle.saphyr_input.specs.Places.{is_document_start, is_document_end, is_document_indicator, next_2_are, next_3_are}
 use Rattle.saphyr_scalar.specs.declared.scalar.position.Marker.{Marker}
 use Rattle.saphyr_scalar.specs.declared.scalar.position.Span.{Span}
@@ -15,14 +16,16 @@ use Rattle.saphyr_scanner.specs.Steps.Queue.{next, empty_piece}
 use Rattle.saphyr_scanner.specs.Steps.Core.{in_block, forget_key}
 use Rattle.saphyr_scanner.specs.Steps.Level.{Level, is_block}
 use Rattle.saphyr_scanner.specs.Steps.State.{State, with_core}
-use Rattle.saphyr_scanner.specs.Steps.Unrolling.{unroll, end_blocks, go_less_deep}
+use Rattle.saphyr_scanner.specs.Steps.Unrolling.{unroll, end_blocks, end_block, with_outer_indent, go_less_deep}
 use Rattle.saphyr_scanner.specs.Steps.Document as document
+use Rattle.saphyr_scanner.specs.TokensInPlace.{is_of_flow_node}
 use Rattle.saphyr_scanner.specs.TokensTaken as taken
 use Rattle.saphyr_scanner.specs.TokensTaken.{Surroundings, AreApart, IsToken, IsPlaceOrEnd, begins_text, BeginsNoContent, IsContentEnd}
 use Rattle.saphyr_scanner.proofs.Blocks.{unrolled_cursor}
 use Rattle.saphyr_scanner.proofs.Taken.Parts.{is_quiet}
 use Rattle.saphyr_scanner.proofs.Taken.Held.{enclosures_of, Setting, taken_further, is_unbound, unbound_parted, taken_put}
-use Rattle.saphyr_scanner.proofs.Taken.Cores.{HoldsTaken, holds_forgotten, no_keys, outermost}
+use Rattle.saphyr_scanner.proofs.Taken.Cores.{HoldsTaken, holds_forgotten, forget_requires, no_keys, outermost}
+use Rattle.saphyr_scanner.proofs.Taken.Indented.{no_node_fits, indented_put}
 use Rattle.saphyr_scanner.proofs.Taken.Neutral.{Neutral, neutral}
 use Rattle.saphyr_scanner.proofs.Taken.States.{Fetched, TakenState, unroll_taken, blocks_levels, BlocksEnd}
 use Rattle.std.proofs.lemmas.Bool.{eqb-true, and_parts, or_cases}
@@ -53,26 +56,49 @@ pub content_ends : (s : Cursor) → IsContentEnd s → BlocksEnd None s.mark s
 content_ends s (inl e) = (inl refl, ap (λ l. begins_text (slice_index l 0)) e, inl e)
 content_ends s (inr e) = (inl refl, no_content_begins s.rest e.1, inr e)
 
+-- all block collections end
+pub unrolled_indent : (m : Marker) (s : State) → in_block (unroll None m s).core ≡ true
+    → (unroll None m s).core.indent ≡ 0
+unfolding unroll
+unrolled_indent m s = by_test (in_block s.core) _ _ (λ (t : State). in_block t.core ≡ true → t.core.indent ≡ 0)
+    (λ _ _. all_end s.core.outer_indents (with_core (go_less_deep None s.core) s) refl) (λ e b. absurd (cc))
+  where
+    none_open : (n : ℕ) → nat_lt 0 n ≡ false → n ≡ 0
+    none_open n e = grind (arith, nat_tests)
+
+    all_end : (is : List ℕ) (t : State) → t.core.outer_indents ≡ is → (end_blocks None m is t).core.indent ≡ 0
+    all_end [] t o = by_test (nat_lt 0 t.core.indent) _ _ (λ (u : State). u.core.indent ≡ 0)
+        (λ _. ap (λ l. (with_outer_indent l t.core).indent) o) (λ e. none_open t.core.indent e)
+    all_end (i ∷ is) t o = by_test (nat_lt 0 t.core.indent) _ _ (λ (u : State). u.core.indent ≡ 0)
+        (λ _. all_end is (end_block m t) (ap (λ l. (with_outer_indent l t.core).outer_indents) o))
+        (λ e. none_open t.core.indent e)
+
 -- all block collections end, and no key is left
 pub forgotten_unrolled : (opened : Setting) (from : Cursor) (s : State) → IsContentEnd s.core.cursor
+    → (in_block (unroll None s.core.cursor.mark s).core && (unroll None s.core.cursor.mark s).core.required) ≡ false
     → HoldsState opened from s
     → HoldsTaken opened from (forget_key (unroll None s.core.cursor.mark s).core)
     (unroll None s.core.cursor.mark s).queue
 unfolding unroll
-forgotten_unrolled opened from s end h =
+forgotten_unrolled opened from s end free h =
     let m = s.core.cursor.mark in
     by_test (in_block s.core) (end_blocks None m s.core.outer_indents (with_core (go_less_deep None s.core) s)) s
-    (λ t. TakenState opened from t → HoldsTaken opened from (forget_key t.core) t.queue) (λ e k.
+    (λ t. (in_block t.core && t.core.required) ≡ false → TakenState opened from t
+    → HoldsTaken opened from (forget_key t.core) t.queue) (λ e f k.
     let t : State = end_blocks None m s.core.outer_indents (with_core (go_less_deep None s.core) s) in
     let l = blocks_levels None m s.core.outer_indents (with_core (go_less_deep None s.core) s) in
     record {
       taken = taken_further (enclosures_of t.core) opened from t.core (forget_key t.core) t.queue (taken.nothing _ _)
-          refl refl refl refl (λ a. inl a) k;
+          refl refl refl refl ((λ a. inl a), λ r. r) (record {
+        required = (forget_requires t.core f).required;
+        root = λ r. absurd (let b = ap (λ (y : Level). is_block y.context) l.level ∙ e in cc);
+        block = refl;
+      }) k;
       keys = no_keys opened.enclosures (next t.queue) t.queue t.core.indent (forget_key t.core).level t.core.outer refl
           (l.outer ∙ outermost (enclosures_of s.core) opened from s.core s.queue h e)
           (ap (λ (y : Level). is_block y.context) l.level ∙ e);
     })
-    (λ _ k. holds_forgotten opened from s.core s.queue h)
+    (λ _ f k. holds_forgotten opened from s.core s.queue f h) free
     (unroll_taken opened from None m s (content_ends s.core.cursor end) h.taken)
 
 -- ## Markers
@@ -89,6 +115,7 @@ pub record Marking (stands : List ℕ → Bool) (text : List ℕ) (kind : Kind) 
   pub three : (xs : List ℕ) → stands xs ≡ true → xs ≡ text ++ drop 3 xs
   pub ends : (xs : List ℕ) → stands xs ≡ true → is_document_indicator xs ≡ true
   pub count : length text ≡ 3
+  pub no_node : (span : Span) → is_of_flow_node kind span ≡ false
   pub unbound : is_unbound kind ≡ true
 
 pub start_marking : Marking is_document_start (codes "---") tokens.DocumentStart
@@ -99,6 +126,7 @@ start_marking = record {
   three = λ xs e. three_at 45 xs refl (and_parts (next_3_are xs 45 45 45) (is_blank_or_breakz (slice_index xs 3)) e).0;
   ends = λ xs e. rw e refl;
   count = refl;
+  no_node = λ span. refl;
   unbound = refl;
 }
 
@@ -110,6 +138,7 @@ end_marking = record {
   three = λ xs e. three_at 46 xs refl (and_parts (next_3_are xs 46 46 46) (is_blank_or_breakz (slice_index xs 3)) e).0;
   ends = λ xs e. rw e (or-true (is_document_start xs));
   count = refl;
+  no_node = λ span. refl;
   unbound = refl;
 }
 
@@ -133,6 +162,9 @@ quiet_directive d = grind arith
 
 pub unbound_directive : (d : ReadDirective) → is_unbound (document.directive_kind d) ≡ true
 unbound_directive d = grind arith
+
+pub no_node_directive : (d : ReadDirective) (span : Span) → is_of_flow_node (document.directive_kind d) span ≡ false
+no_node_directive d span = grind arith
 
 pub directive_keeps : (d : ReadDirective) (span : Span)
     → Neutral (record { span = span; kind = document.directive_kind d })
@@ -162,6 +194,7 @@ end_fetched opened from s h =
     let first = ap (λ l. begins_text (slice_index l 0)) empty in
     let same : t.core.cursor ≡ s.core.cursor = unrolled_cursor None m s in
     let there : IsPlaceOrEnd t.core.cursor m = rw same place in
+    let over = ap (λ (c : Cursor). is_z (slice_index c.rest 0)) same ∙ ap (λ l. is_z (slice_index l 0)) empty in
     by_test s.core.required _ _ (Given P) (λ _. tt)
     (λ _. record {
       taken = taken_put (enclosures_of t.core) opened from t.core (document.core_at_end t.core) t.queue
@@ -169,6 +202,10 @@ end_fetched opened from s h =
           (ap (λ (c : Cursor). c.rest) same ∙ empty, (refl, there, refl))) (taken.nothing _ _)
           (λ cs k. k) (inl refl) refl
           (unbound_parted (empty_piece m tokens.StreamEnd) t.core (document.core_at_end t.core) refl)
+          (λ _ _ _. inr (inl over)) (indented_put opened.enclosures t.core (document.core_at_end t.core) t.queue
+          (empty_piece m tokens.StreamEnd)
+          (no_node_fits opened.enclosures t.queue (empty_piece m tokens.StreamEnd) refl)
+          (record { required = refl; root = λ _. refl; block = refl }) (λ _ _ _ _. inr over))
           (unroll_taken opened from None m s (place, first, inl empty) h);
       live = λ f. absurd (cc);
     }))

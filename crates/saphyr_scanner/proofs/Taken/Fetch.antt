@@ -23,16 +23,17 @@ use Rattle.saphyr_scanner.proofs.Effects.Fetch.{some_character_left, deep_here, 
 use Rattle.saphyr_scanner.proofs.Taken.Later.{LaterThan, later_later}
 use Rattle.saphyr_scanner.proofs.Taken.Parts.{tokens_part}
 use Rattle.saphyr_scanner.proofs.Taken.Held.{enclosures_of, Setting, unbound_parted, taken_put}
+use Rattle.saphyr_scanner.proofs.Taken.Indented.{no_node_fits, indented_put}
 use Rattle.saphyr_scanner.proofs.Taken.Cores.{no_keys, quiet_put}
 use Rattle.saphyr_scanner.proofs.Effects.Walked.{Premises, Walked, walked_given, Stepped}
 use Rattle.saphyr_scanner.proofs.Effects.Documents.{Documented, start_walked, end_marker_walked, mark_walked, directive_walked, documents_advance, documents_hold}
-use Rattle.saphyr_scanner.proofs.Taken.States.{line_small, taken_later, Live, Fetched, holds_fetched, FetchedStep, TakenState}
+use Rattle.saphyr_scanner.proofs.Taken.States.{line_small, taken_later, unrolled_required, Live, Fetched, holds_fetched, FetchedStep, TakenState}
 use Rattle.saphyr_scanner.proofs.Taken.Documents.{HoldsState, start_marking, end_fetched}
-use Rattle.saphyr_input.proofs.Basics.Booleans.{by_test}
+use Rattle.saphyr_input.proofs.Basics.Booleans.{by_test, and_false}
 use Rattle.saphyr_scalar.proofs.Given.{Given, given_bind, given_of}
-use Rattle.std.proofs.lemmas.Bool.{and_parts, not-true, eqb-true}
+use Rattle.std.proofs.lemmas.Bool.{and_parts, not-true, eqb-true, ltb-false}
 use Rattle.saphyr_scanner.proofs.Queues.{flat_append}
-use Rattle.saphyr_scanner.proofs.Taken.Arrivals.{forgotten_live, forgotten_taken, Arrived, arrived}
+use Rattle.saphyr_scanner.proofs.Taken.Arrivals.{key_column, forgotten_live, forgotten_taken, Arrived, arrived}
 
 -- ## The end of the stream is the last token
 
@@ -48,13 +49,16 @@ over_put opened from m q u h =
     ap (λ (c : Cursor). c.rest) (r.back.4 ∙ r.back.3.1.2) ∙ r.back.3.0
 
 end_over : (opened : Setting) (from : Cursor) (s : State)
-    → Given (λ (t : State). OverAt opened from t.queue × (t.core.ended ≡ true)) (document.state_behind_end s)
+    → Given (λ (t : State). OverAt opened from t.queue × (t.core.ended ≡ true) × (t.core.required ≡ false))
+    (document.state_behind_end s)
 unfolding document.state_behind_end document.end_at
 end_over opened from s =
-    let P : State → Type 0 = λ t. OverAt opened from t.queue × (t.core.ended ≡ true) in
+    let P : State → Type 0 =
+    λ t. OverAt opened from t.queue × (t.core.ended ≡ true) × (t.core.required ≡ false) in
     let m : Marker = document.end_mark s.core.cursor.mark in
     by_test (length s.core.cursor.rest == 0) _ _ (Given P)
-    (λ _. by_test s.core.required _ _ (Given P) (λ _. tt) (λ _. (over_put opened from m (unroll None m s).queue, refl)))
+    (λ _. by_test s.core.required _ _ (Given P) (λ _. tt)
+    (λ free. (over_put opened from m (unroll None m s).queue, refl, unrolled_required None m s ∙ free)))
     (λ _. tt)
 
 -- ## A token is fetched
@@ -66,6 +70,7 @@ IsFresh t = t.core.ended ≡ false → t.core.started ≡ false → t.core.level
 pub record Read (opened : Setting) (from : Cursor) (t : State) : Type 0 where
   pub fetched : Fetched opened from t.core t.queue
   pub over : t.core.ended ≡ true → OverAt opened from t.queue
+  pub settled : t.core.ended ≡ true → t.core.required ≡ false
   pub fresh : IsFresh t
 
 both_given : (opened : Setting) (from : Cursor) (s : State) (r : Result State Refusal) → s.core.ended ≡ false
@@ -75,15 +80,21 @@ both_given opened from s (Ok t) going begun a b =
     record {
       fetched = a;
       over = λ e. absurd (let f : t.core.ended ≡ false = b.ended ∙ going in cc);
+      settled = λ e. absurd (let f : t.core.ended ≡ false = b.ended ∙ going in cc);
       fresh = λ _ e. absurd (let f : t.core.started ≡ true = b.started ∙ begun in cc);
     }
 both_given opened from s (Err e) going begun a b = tt
 
 end_given : (opened : Setting) (from : Cursor) (r : Result State Refusal)
     → Given (λ (t : State). Fetched opened from t.core t.queue) r
-    → Given (λ (t : State). OverAt opened from t.queue × (t.core.ended ≡ true)) r → Given (Read opened from) r
-end_given opened from (Ok t) a b =
-    record { fetched = a; over = λ _. b.0; fresh = λ e. absurd (let f : t.core.ended ≡ true = b.1 in cc) }
+    → Given (λ (t : State). OverAt opened from t.queue × (t.core.ended ≡ true) × (t.core.required ≡ false)) r
+    → Given (Read opened from) r
+end_given opened from (Ok t) a b = record {
+  fetched = a;
+  over = λ _. b.0;
+  settled = λ _. b.2;
+  fresh = λ e. absurd (let f : t.core.ended ≡ true = b.1 in cc);
+}
 end_given opened from (Err e) a b = tt
 
 held : (opened : Setting) (from : Cursor) (r : Result State Refusal) → Given (HoldsState opened from) r
@@ -135,6 +146,9 @@ here_read laws text small opened from s l going begun a =
       line_small text s.core.cursor small
           (later_later (start_cursor text).mark text from.mark from.rest s.core.cursor.mark s.core.cursor.rest l
           (taken_later opened from s.core s.queue a.taken)),
+      ltb-false s.core.cursor.mark.col (least_column s.core) e,
+      key_column text small opened from s.queue s.core l a.taken h.keys a.near,
+      z,
     ) h)
     (step_does (slice_index t 0) (slice_index t 1) (next s.queue) s.core some refl refl deep)))
     (after_step_fetches _ s r (step_effect (slice_index t 0) (slice_index t 1) (next s.queue) s.core some refl refl
@@ -147,11 +161,17 @@ begin_live : (opened : Setting) (from : Cursor) (s : State) → s.core.level.key
 begin_live opened from s none h l nz =
     (quiet_put (enclosures_of s.core) opened from s.core (record s.core { started = true }) s.queue
     (empty_piece s.core.cursor.mark tokens.StreamStart) s.core.cursor s.core.cursor refl (λ x. refl)
-    (λ d. refl) (inl none) refl
+    (λ d. refl) refl none refl
     (unbound_parted (empty_piece s.core.cursor.mark tokens.StreamStart) s.core (record s.core { started = true }) refl)
-    (taken.nothing _ _)
-    (λ _ _. (refl, inl refl, refl)) (taken.nothing _ _)
-    (record { level = refl; outer = refl; indent = refl; outer_indents = refl; adjacent = refl })
+    h.right (taken.nothing _ _) (λ _ _. (refl, inl refl, refl)) (taken.nothing _ _)
+    (record {
+      level = refl;
+      outer = refl;
+      indent = refl;
+      outer_indents = refl;
+      adjacent = refl;
+      required = refl;
+    })
     (record { taken = h; keys = l nz })).keys
 
 begin_read : (opened : Setting) (from : Cursor) (s : State) → s.core.ended ≡ false → s.core.level.key ≡ None
@@ -162,10 +182,14 @@ begin_read opened from s going none h l = record {
         (empty_piece s.core.cursor.mark tokens.StreamStart) s.core.cursor s.core.cursor (taken.nothing _ _)
         (λ _ _. (refl, inl refl, refl)) (taken.nothing _ _) (λ cs k. (k.0, k.1)) (inl refl) refl
         (unbound_parted (empty_piece s.core.cursor.mark tokens.StreamStart) s.core (record s.core { started = true })
-        refl) h;
+        refl) h.right (indented_put opened.enclosures s.core (record s.core { started = true }) s.queue
+        (empty_piece s.core.cursor.mark tokens.StreamStart)
+        (no_node_fits opened.enclosures s.queue (empty_piece s.core.cursor.mark tokens.StreamStart) refl)
+        (record { required = refl; root = λ _. refl; block = refl }) (λ w. w.past)) h;
     live = λ _. inl (begin_live opened from s none h l);
   };
   over = λ e. absurd (let f : s.core.ended ≡ true = e in cc);
+  settled = λ e. absurd (let f : s.core.ended ≡ true = e in cc);
   fresh = λ _ e. absurd (cc);
 }
 
@@ -186,6 +210,7 @@ pub record Ready (opened : Setting) (from : Cursor) (t : State) : Type 0 where
   pub taken : TakenState opened from t
   pub live : t.core.ended ≡ false → Live opened.enclosures t.core t.queue
   pub over : t.core.ended ≡ true → OverAt opened from t.queue
+  pub settled : t.core.ended ≡ true → t.core.required ≡ false
   pub fresh : IsFresh t
 
 pub settled_ready : (opened : Setting) (from : Cursor) (s : State) → Read opened from s
@@ -202,11 +227,12 @@ settled_ready opened from s h =
         | inr w ↦ absurd (let n = not-true (in_block c && is_too_far c.level.key c.cursor.mark) e in cc)
       ];
       over = h.over;
+      settled = h.settled;
       fresh = h.fresh;
     })
     (λ _. by_test c.required _ _ (λ r. Given (Ready opened from) (on_core r s.queue)) (λ _. tt)
-    (λ _. record {
-      taken = forgotten_taken opened from c s.queue h.fetched.taken;
+    (λ free. record {
+      taken = forgotten_taken opened from c s.queue free h.fetched.taken;
       live = λ g. elim (h.fetched.live g) [
         | inl k ↦ forgotten_live opened.enclosures c s.queue k
         | inr w ↦
@@ -214,6 +240,7 @@ settled_ready opened from s h =
             (and_parts (in_block c) (is_too_far c.level.key c.cursor.mark) w.0).0)
       ];
       over = h.over;
+      settled = λ e. rw (h.settled e) (and_false (not (in_block c)));
       fresh = λ _ _. refl;
     }))
 

@@ -16,8 +16,9 @@ use Rattle.saphyr_scanner.specs.TokensInPlace as place
 use Rattle.saphyr_scanner.specs.TokensInPlace.{Enclosure, Enclosed, Begun, Enclosures, with_begun, begun_at, enclosures_behind, may_stand, AreInPlace, has_text, is_of_flow_node, fits_at, may_follow}
 use Rattle.saphyr_scanner.specs.TokensTaken.{Collections, Surroundings, AreApart, IsToken, AreTokens, open_behind, least_column_in, surroundings_in, ends_json_behind}
 use Rattle.saphyr_scanner.proofs.Leads.{flat}
-use Rattle.saphyr_scanner.proofs.Taken.InPlace.{all_behind, behind_append, in_place_append, Outside, free, calmed, calm, IsPast, EndsOn, past_later, past_end, begun_by, begun_behind}
-use Rattle.saphyr_scanner.proofs.Taken.Later.{top, apart_later, tokens_later}
+use Rattle.saphyr_scanner.proofs.Taken.InPlace.{all_behind, behind_append, each_append, Outside, free, calmed, calm, IsPast, EndsOn, past_later, past_end, begun_by, begun_behind}
+use Rattle.saphyr_scanner.proofs.Taken.Indented.{IsRight, Indented, KeepsRequired, indented_further}
+use Rattle.saphyr_scanner.proofs.Taken.Later.{top, apart_later, tokens_later, end_stays}
 use Rattle.saphyr_scanner.proofs.Taken.Separated.{apart_apart}
 use Rattle.saphyr_scanner.proofs.Taken.Later.{apart_later, token_later}
 use Rattle.saphyr_scanner.proofs.Taken.JsonEnds.{GoesOn, token_goes_on}
@@ -167,6 +168,8 @@ pub record TakenWithin (within : Enclosures) (opened : Setting) (from : Cursor) 
   pub small : from.mark.line ≤ top
   pub ends : EndsOn (all_behind (flat q.places) opened.enclosures).begun last.mark.line
   pub past : c.key_allowed ≡ true → IsPast (all_behind (flat q.places) opened.enclosures).begun c.cursor.mark.line
+  pub indented : Indented opened.enclosures c q
+  pub right : IsRight c
   pub place : KeepsPlace (open_all (flat q.places) opened.collections).ends_json c
 
 abbrev pub Taken : Setting → Cursor → Core → Queue → Type 0
@@ -176,16 +179,17 @@ pub taken_within : (v w : Enclosures) (opened : Setting) (from : Cursor) (c : Co
     → TakenWithin v opened from c q → TakenWithin w opened from c q
 taken_within v w opened from c q e h = rw e h
 
--- a key may begin only where one might before, or on a later line
+-- A key may begin only where one might before, or on a later line. Where none may the text goes on as far right.
 abbrev pub AllowsKey : Core → Core → Type 0
-AllowsKey c d = d.key_allowed ≡ true → (c.key_allowed ≡ true) ⊎ (c.cursor.mark.line < d.cursor.mark.line)
+AllowsKey c d = (d.key_allowed ≡ true → (c.key_allowed ≡ true) ⊎ (c.cursor.mark.line < d.cursor.mark.line))
+    × (IsRight c → IsRight d)
 
 -- the text goes on after separation
 pub taken_further : (within : Enclosures) (opened : Setting) (from : Cursor) (c d : Core) (q : Queue)
     → AreApart c.cursor d.cursor → d.indent ≡ c.indent → d.outer_indents ≡ c.outer_indents
-    → length d.outer ≡ length c.outer → d.adjacent ≡ c.adjacent → AllowsKey c d → TakenWithin within opened from c q
-    → TakenWithin within opened from d q
-taken_further within opened from c d q a i o n e allows h =
+    → length d.outer ≡ length c.outer → d.adjacent ≡ c.adjacent → AllowsKey c d → KeepsRequired c d
+    → TakenWithin within opened from c q → TakenWithin within opened from d q
+taken_further within opened from c d q a i o n e allows kept h =
     let now = all_behind (flat q.places) opened.enclosures in
     let first = (tokens_later opened.collections (flat q.places) from h.last h.tokens).lines h.small in
     let here = (apart_later h.last.mark h.last.rest c.cursor.mark c.cursor.rest h.apart).lines first.1 in
@@ -199,10 +203,13 @@ taken_further within opened from c d q a i o n e allows h =
       encloses = h.encloses;
       small = h.small;
       ends = h.ends;
-      past = λ g. elim (allows g) [
+      past = λ g. elim (allows.0 g) [
         | inl f ↦ past_later now.begun c.cursor.mark.line d.cursor.mark.line there.0 (h.past f)
         | inr l ↦ past_end now.begun h.last.mark.line d.cursor.mark.line (omega (arith, here.0, l)) h.ends
       ];
+      indented = indented_further opened.enclosures c d q kept there.0 allows.0 (end_stays c.cursor d.cursor a)
+          h.indented;
+      right = allows.1 h.right;
       place = keeps_further (open_all (flat q.places) opened.collections).ends_json c d
           (apart_later c.cursor.mark c.cursor.rest d.cursor.mark d.cursor.rest a).index e n h.place;
     }
@@ -289,15 +296,20 @@ begun_past : (kind : Kind) (span : Span) (n : ℕ) (allowed : Bool) → (is_prop
     → allowed ≡ true → IsPast (begun_by kind span) n
 begun_past kind span n allowed f e = grind arith
 
+-- where lines count up, the tokens stay right of their collections' columns
+abbrev pub PutsIndented : Setting → Core → Core → Queue → Piece → Type 0
+PutsIndented opened c d q t = c.cursor.mark.line ≤ d.cursor.mark.line → Indented opened.enclosures c q
+    → Indented opened.enclosures d (with_piece t q)
+
 -- a token is put after the others
 pub taken_put : (within : Enclosures) (opened : Setting) (from : Cursor) (c d : Core) (q : Queue) (t : Piece)
     (here behind : Cursor)
     → AreApart c.cursor here
     → ((b : Bool) → KeepsPlace b c → IsToken (surroundings_of b c) t.kind t.span here behind)
-    → AreApart behind d.cursor → Opens t c d → Adjoins t c d → FitsWithin within t → IsParted t c d
-    → TakenWithin within opened from c q
+    → AreApart behind d.cursor → Opens t c d → Adjoins t c d → FitsWithin within t → IsParted t c d → IsRight d
+    → PutsIndented opened c d q t → TakenWithin within opened from c q
     → TakenWithin (calm (enclosures_behind t.kind t.span within)) opened from d (with_piece t q)
-taken_put within opened from c d q t here behind a told b o adjoins f parted h =
+taken_put within opened from c d q t here behind a told b o adjoins f parted right puts h =
     let open_now = open_all (flat q.places) opened.collections in
     let around = surroundings_of open_now.ends_json c in
     let is = told open_now.ends_json h.place in
@@ -313,17 +325,25 @@ taken_put within opened from c d q t here behind a told b o adjoins f parted h =
     let then : all_behind (flat (with_piece t q).places) opened.enclosures ≡ enclosures_behind t.kind t.span now =
     cc (flat_put t q, behind_append (flat q.places) (t ∷ []) opened.enclosures) in
     let begun = ap (λ (x : Enclosures). x.begun) then ∙ begun_behind t.kind t.span now in
+    let first = (tokens_later opened.collections (flat q.places) from h.last h.tokens).lines h.small in
+    let last = (apart_later h.last.mark h.last.rest here.mark here.rest apart).lines first.1 in
+    let own = (apart_later c.cursor.mark c.cursor.rest here.mark here.rest a).lines
+    ((apart_later h.last.mark h.last.rest c.cursor.mark c.cursor.rest h.apart).lines first.1).1 in
+    let token = (token_later around t.kind t.span here behind is).lines last.1 in
+    let ends = (apart_later behind.mark behind.rest d.cursor.mark d.cursor.rest b).lines token.1 in
     record {
       last = behind;
       tokens = rw same at all;
       apart = b;
       stands = rw open_then stands_then;
-      in_place = rw same at (in_place_append (flat q.places) (t ∷ []) opened.enclosures h.in_place
+      in_place = rw same at (each_append may_stand (flat q.places) (t ∷ []) opened.enclosures h.in_place
           (put_fits within now t c d h.encloses f parted h.past, tt));
       encloses = cc (behind_begun t.kind t.span (calmed now.begun) now);
       small = h.small;
       ends = rw begun (begun_ends around t.kind t.span here behind is);
       past = λ e. rw begun (begun_past t.kind t.span d.cursor.mark.line d.key_allowed parted.1 e);
+      indented = puts (omega (arith, own.0, token.0, ends.0)) h.indented;
+      right = right;
       place = rw open_then (keeps_put around c d t here behind open_now a is b refl h.stands.1 stands_then.1 adjoins
           h.place);
     }

@@ -1,8 +1,9 @@
 -- Tokens that may be where they are, one part after the other, and the same tokens within other enclosures.
 use Rattle.std.proofs.Common.{◌≡◌, ℕ, zero, suc, ◌+◌, ◌-◌, Bool, true, false, List, [], ◌∷◌, ◌++◌, length, Option, Some, None, refl, sym, ap, ◌∙◌, arith, subst, IsTrue, ◌≤◌, ◌<◌}
-use Rattle.std.specs.Prelude.{◌||◌, ◌&&◌, nat_lt, if◌then◌else◌}
+use Rattle.std.specs.Prelude.{◌||◌, ◌&&◌, nat_lt, not, if◌then◌else◌}
 use Rattle.std.proofs.lemmas.Bool.Decides.{nat_tests}
 use Rattle.std.proofs.lemmas.Bool.{and_parts}
+use Rattle.std.proofs.Math.Bool.{or-true}
 use Rattle.saphyr_input.proofs.Basics.Booleans.{by_test}
 use Rattle.saphyr_scalar.specs.declared.scalar.position.Marker.{Marker}
 use Rattle.saphyr_scalar.specs.declared.scalar.position.Span.{Span}
@@ -14,7 +15,7 @@ use Rattle.saphyr_scanner.specs.Grammar.Tokens.{Kind}
 use Rattle.saphyr_scanner.specs.Views.Tokens.{Piece}
 use Rattle.saphyr_scanner.specs.Steps.Queue.{empty_piece}
 use Rattle.saphyr_scanner.specs.TokensInPlace as place
-use Rattle.saphyr_scanner.specs.TokensInPlace.{Enclosure, Enclosed, Begun, Enclosures, with_begun, begun_at, turned_to, awaiting_colon, has_text, enclosures_behind, may_begin_pair, may_begin_key, is_in_brackets, is_of_flow_node, fits_at, may_follow, may_stand, AreInPlace}
+use Rattle.saphyr_scanner.specs.TokensInPlace.{Enclosure, Enclosed, Begun, Enclosures, with_begun, begun_at, turned_to, awaiting_colon, has_text, enclosures_behind, may_begin_pair, may_begin_key, is_in_brackets, is_of_flow_node, fits_at, may_follow, may_stand, is_in_key, is_covered, is_indented, AreEach, AreInPlace, AreIndented}
 use Rattle.saphyr_scanner.proofs.Leads.{place_pieces}
 
 -- ## One part after the other
@@ -29,16 +30,20 @@ pub behind_append : (ps qs : List Piece) (all : Enclosures)
 behind_append [] qs all = refl
 behind_append (p ∷ ps) qs all = behind_append ps qs (enclosures_behind p.kind p.span all)
 
-pub in_place_append : (ps qs : List Piece) (all : Enclosures) → AreInPlace all ps → AreInPlace (all_behind ps all) qs
-    → AreInPlace all (ps ++ qs)
-in_place_append [] qs all h k = k
-in_place_append (p ∷ ps) qs all h k = (h.0, in_place_append ps qs (enclosures_behind p.kind p.span all) h.1 k)
+-- what a token has to do with what encloses it
+abbrev pub Holds : Type 0
+Holds = Enclosures → Kind → Span → Bool
 
-pub in_place_parts : (ps qs : List Piece) (all : Enclosures) → AreInPlace all (ps ++ qs)
-    → AreInPlace all ps × AreInPlace (all_behind ps all) qs
-in_place_parts [] qs all h = (tt, h)
-in_place_parts (p ∷ ps) qs all h =
-    let r = in_place_parts ps qs (enclosures_behind p.kind p.span all) h.1 in ((h.0, r.0), r.1)
+pub each_append : (holds : Holds) (ps qs : List Piece) (all : Enclosures) → AreEach holds all ps
+    → AreEach holds (all_behind ps all) qs → AreEach holds all (ps ++ qs)
+each_append holds [] qs all h k = k
+each_append holds (p ∷ ps) qs all h k = (h.0, each_append holds ps qs (enclosures_behind p.kind p.span all) h.1 k)
+
+pub each_parts : (holds : Holds) (ps qs : List Piece) (all : Enclosures) → AreEach holds all (ps ++ qs)
+    → AreEach holds all ps × AreEach holds (all_behind ps all) qs
+each_parts holds [] qs all h = (tt, h)
+each_parts holds (p ∷ ps) qs all h =
+    let r = each_parts holds ps qs (enclosures_behind p.kind p.span all) h.1 in ((h.0, r.0), r.1)
 
 -- ## How deep tokens lead
 
@@ -127,6 +132,11 @@ of_node_fits e key columns kind span h = grind arith
 fits_in_brackets : (e : Enclosure) (key : Option Marker) (columns others : List ℕ) (kind : Kind) (span : Span)
     → IsTrue (is_in_brackets e) → fits_at e key others kind span ≡ fits_at e key columns kind span
 fits_in_brackets e key columns others kind span h = grind arith
+
+-- in brackets and in an implicit key no token has to be right of a column
+covered_indented : (all : Enclosures) (kind : Kind) (span : Span) → IsTrue (is_covered all.inner)
+    → IsTrue (is_indented all kind span)
+covered_indented all kind span h = rw h (or-true (not (is_of_flow_node kind span)))
 
 -- no block collection has begun right in front
 abbrev pub takes_node : Begun → Bool
@@ -302,12 +312,14 @@ record Retold (ps : List Piece) (ts : List Enclosed) (g : Begun) (e : ℕ) (b c 
   last : Begun
   depth : length top ≡ e
   in_place : AreInPlace (on_top ts g c) ps
+  indented : IsTrue (is_covered c.inner) → AreIndented (on_top ts g c) ps
   before : all_behind ps (on_top ts g b) ≡ on_top top last b
   behind : all_behind ps (on_top ts g c) ≡ on_top top last c
 
 retell : (ps : List Piece) (ts : List Enclosed) (g : Begun) (e : ℕ) (b c : Enclosures) → AreBrackets ts → AreQuiet ps
     → AreInside (length ts) ps e → AreInPlace (on_top ts g b) ps → Retold ps ts g e b c
-retell [] ts g e b c w q h k = record { top = ts; last = g; depth = h; in_place = tt; before = refl; behind = refl }
+retell [] ts g e b c w q h k =
+    record { top = ts; last = g; depth = h; in_place = tt; indented = λ _. tt; before = refl; behind = refl }
 retell (p ∷ ps) ts g e b c w q h k = by ts w h k (λ us v. retell ps us (begun_by p.kind p.span) e b c v q.1)
   where
     Others : Type 0
@@ -315,16 +327,19 @@ retell (p ∷ ps) ts g e b c w q h k = by ts w h k (λ us v. retell ps us (begun
         → AreInPlace (on_top us (begun_by p.kind p.span) b) ps → Retold ps us (begun_by p.kind p.span) e b c
 
     further : (ts : List Enclosed) (u : Top p.kind p.span ts) → IsTrue (may_stand (on_top ts g c) p.kind p.span)
+        → (IsTrue (is_covered c.inner) → IsTrue (is_indented (on_top ts g c) p.kind p.span))
         → AreInside (deeper p.kind p.span (length ts)) ps e
         → AreInPlace (enclosures_behind p.kind p.span (on_top ts g b)) ps → Others → Retold (p ∷ ps) ts g e b c
-    further ts u f h k go =
+    further ts u f i h k go =
         let P : ℕ → Type 0 = λ n. AreInside n ps e in
         let Q : Enclosures → Type 0 = λ all. AreInPlace all ps in
+        let R : Enclosures → Type 0 = λ all. AreIndented all ps in
         let r = go u.top u.brackets (subst P (sym u.depth) h) (subst Q (u.behind g b) k) in record {
           top = r.top;
           last = r.last;
           depth = r.depth;
           in_place = (f, subst Q (sym (u.behind g c)) r.in_place);
+          indented = λ x. (i x, subst R (sym (u.behind g c)) (r.indented x));
           before = ap (all_behind ps) (u.behind g b) ∙ r.before;
           behind = ap (all_behind ps) (u.behind g c) ∙ r.behind;
         }
@@ -335,10 +350,12 @@ retell (p ∷ ps) ts g e b c w q h k = by ts w h k (λ us v. retell ps us (begun
         let x = and_parts (may_follow g p.kind p.span)
         (fits_at b.inner.enclosure b.inner.key b.columns p.kind p.span) k.0 in
         let fit = of_node_fits c.inner.enclosure c.inner.key c.columns p.kind p.span h.0 in
-        further [] (top_of_node p.kind p.span h.0) (rw (x.0, fit) refl) h.1 k.1 go
+        further [] (top_of_node p.kind p.span h.0) (rw (x.0, fit) refl)
+        (covered_indented (on_top [] g c) p.kind p.span) h.1 k.1 go
     by (t ∷ ts) w h k go =
         let same = fits_in_brackets t.enclosure t.key (stacked ts b).columns (stacked ts c).columns p.kind p.span w.0 in
         further (t ∷ ts) (top_behind p.kind p.span t ts q.0 w) (ap (λ x. may_follow g p.kind p.span && x) same ∙ k.0)
+        (λ _. covered_indented (on_top (t ∷ ts) g c) p.kind p.span (rw w.0 (or-true (is_in_key t.key))))
         (inside_rest (length (t ∷ ts)) p ps e h) k.1 go
 
 no_top : (ts : List Enclosed) (g : Begun) (all : Enclosures) → length ts ≡ 0 → on_top ts g all ≡ with_begun g all
@@ -350,6 +367,7 @@ no_top (t ∷ ts) g all e = absurd (omega (arith, e))
 pub record NodeRetold (ps : List Piece) (g f : Begun) (b c : Enclosures) : Type 0 where
   pub last : Begun
   pub in_place : AreInPlace (with_begun f c) ps
+  pub indented : IsTrue (is_covered c.inner) → AreIndented (with_begun f c) ps
   pub before : all_behind ps (with_begun g b) ≡ with_begun last b
   pub behind : all_behind ps (with_begun f c) ≡ with_begun last c
 
@@ -358,12 +376,17 @@ pub node_retold : (t : Piece) (ps : List Piece) (g f : Begun) (b c : Enclosures)
 node_retold t ps g f b c takes q h k =
     let u = top_of_node t.kind t.span h.0 in
     let Q : Enclosures → Type 0 = λ all. AreInPlace all ps in
+    let R : Enclosures → Type 0 = λ all. AreIndented all ps in
     let r = retell ps u.top (begun_by t.kind t.span) 0 b c u.brackets q.1
     (rw u.depth h.1) (subst Q (u.behind g b) k.1) in
     let fit = of_node_fits c.inner.enclosure c.inner.key c.columns t.kind t.span h.0 in
     let follows = node_may_follow f t.kind t.span takes (node_begins t.kind t.span h.0) in record {
       last = r.last;
       in_place = (rw (follows, fit) refl, subst Q (sym (u.behind f c)) r.in_place);
+      indented = λ x. (
+        covered_indented (with_begun f c) t.kind t.span x,
+        subst R (sym (u.behind f c)) (r.indented x),
+      );
       before = ap (all_behind ps) (u.behind g b) ∙ r.before ∙ no_top r.top r.last b r.depth;
       behind = ap (all_behind ps) (u.behind f c) ∙ r.behind ∙ no_top r.top r.last c r.depth;
     }
@@ -419,7 +442,7 @@ awaited opening.BlockMappingAndKey m all = in_key m (begun_at place.BlockMapping
 awaited opening.FlowMappingAndKey m all = in_key m (turned_to place.PairKey all)
 
 abbrev pub MayOpen : Opening → Enclosure → Type 0
-MayOpen opening.Nothing e = Unit {0}
+MayOpen opening.Nothing e = ⊥
 MayOpen opening.FlowMappingAndKey e = IsTrue (may_begin_pair e)
 MayOpen _ e = IsTrue (may_begin_key e)
 
@@ -442,20 +465,25 @@ pub record Opened (o : Opening) (t : Piece) (back : List Piece) (g : Begun) (all
   pub last : Begun
   pub before : all_behind (t ∷ back) (with_begun g all) ≡ with_begun last all
   pub in_place : AreInPlace (with_begun g all) (place_pieces o t ++ back)
+  pub indented : AreIndented (with_begun g all) (place_pieces o t ++ back)
   pub behind : all_behind (place_pieces o t ++ back) (with_begun g all) ≡ with_begun last (awaited o t.span.start all)
 
 pub opened_in_place : (o : Opening) (t : Piece) (back : List Piece) (g : Begun) (e : Enclosure) (outside : Outside)
     → MayOpen o e → takes_node g ≡ true → IsPast g t.span.start.line → AreQuiet (t ∷ back) → AreInside 0 (t ∷ back) 0
     → AreInPlace (with_begun g (free e outside)) (t ∷ back) → Opened o t back g (free e outside)
-opened_in_place opening.Nothing t back g e outside m f l q h k =
-    let r = node_retold t back g g (free e outside) (free e outside) f q h k in
-    record { last = r.last; before = r.before; in_place = k; behind = r.before }
+opened_in_place opening.Nothing t back g e outside m f l q h k = absurd m
 opened_in_place opening.Key t back g e outside m f l q h k =
     let all = awaiting_colon t.span.start (free e outside) in
     let r = node_retold t back g all.begun (free e outside) all refl q h k in
     let no = no_text t.span.start.index in
     let key = node_may_follow g tokens.Key (empty_piece t.span.start tokens.Key).span f refl in
-    record { last = r.last; before = r.before; in_place = rw (no, m, key) (refl, r.in_place); behind = rw no r.behind }
+    record {
+      last = r.last;
+      before = r.before;
+      in_place = rw (no, m, key) (refl, r.in_place);
+      indented = rw no (refl, r.indented refl);
+      behind = rw no r.behind;
+    }
 opened_in_place opening.BlockMappingAndKey t back g e outside m f l q h k =
     let all = awaiting_colon t.span.start (begun_at place.BlockMapping t.span.start.col (free e outside)) in
     let r = node_retold t back g all.begun (free e outside) all refl q h k in
@@ -465,6 +493,7 @@ opened_in_place opening.BlockMappingAndKey t back g e outside m f l q h k =
       last = r.last;
       before = r.before;
       in_place = rw (no, m, start) (refl, (refl, r.in_place));
+      indented = rw no (refl, (refl, r.indented refl));
       behind = rw no r.behind;
     }
 opened_in_place opening.FlowMappingAndKey t back g e outside m f l q h k =
@@ -478,6 +507,7 @@ opened_in_place opening.FlowMappingAndKey t back g e outside m f l q h k =
       last = r.last;
       before = r.before;
       in_place = rw (no, m, start) (refl, (key, r.in_place));
+      indented = rw no (refl, (refl, r.indented refl));
       behind = rw no r.behind;
     }
   where

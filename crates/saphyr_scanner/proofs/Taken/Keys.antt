@@ -1,18 +1,20 @@
 -- Candidates for keys: each is a token that the scanner holds, from which the tokens lead as deep as brackets enclose.
 use Rattle.std.proofs.Common.{◌≡◌, ℕ, zero, suc, ◌+◌, ◌-◌, ◌≤◌, ◌<◌, Bool, true, false, List, [], ◌∷◌, ◌++◌, length, drop, ◌⊎◌, Option, Some, None, refl, sym, ap, ◌∙◌, arith, subst, inl, inr, append_assoc, IsTrue}
-use Rattle.std.specs.Prelude.{◌&&◌, nat_lt}
+use Rattle.std.specs.Prelude.{◌&&◌, nat_lt, slice_index}
+use Rattle.saphyr_input.specs.Classes.{is_z}
 use Rattle.saphyr_scalar.specs.declared.scalar.position.Marker.{Marker}
 use Rattle.saphyr_scalar.specs.Views.Cursor.{Cursor}
 use Rattle.saphyr_scanner.specs.declared.queue.Opening.{Opening}
 use Rattle.saphyr_scanner.specs.Views.Tokens.{Piece}
 use Rattle.saphyr_scanner.specs.Steps.Queue.{Place, Queue, is_empty_list, bare_place, places_with_opening, with_piece, with_opening}
-use Rattle.saphyr_scanner.specs.Steps.Core.{Core, in_block, is_too_far}
+use Rattle.saphyr_scanner.specs.Steps.Core.{Core, in_block, is_too_far, least_column}
 use Rattle.saphyr_scanner.specs.Steps.Level.{Candidate, Level, is_block}
-use Rattle.saphyr_scanner.specs.TokensInPlace.{Enclosure, Enclosures, is_of_flow_node, AreInPlace, Begun, with_begun}
+use Rattle.saphyr_scanner.specs.TokensInPlace.{Enclosure, Enclosures, is_of_flow_node, may_stand, AreInPlace, is_indented, AreIndented, Begun, with_begun}
 use Rattle.saphyr_scanner.specs.TokensTaken.{Collections, AreApart, AreTokens, least_column_in, IsAtColumn}
 use Rattle.std.proofs.lemmas.Bool.{ltb-false}
 use Rattle.saphyr_scanner.proofs.Leads.{flat, place_pieces}
-use Rattle.saphyr_scanner.proofs.Taken.InPlace.{all_behind, behind_append, in_place_append, in_place_parts, deeper, AreInside, inside_of, inside_append, inside_parts, inside_shift, node_retold, awaited, MayOpen, Outside, free, opened_in_place, node_taken, calm, IsPast, EndsOn}
+use Rattle.saphyr_scanner.proofs.Taken.InPlace.{all_behind, behind_append, each_append, each_parts, deeper, AreInside, inside_of, inside_append, inside_parts, inside_shift, node_retold, awaited, MayOpen, Outside, free, opened_in_place, node_taken, calm, IsPast, EndsOn}
+use Rattle.saphyr_scanner.proofs.Taken.Indented.{IsRight, root_key, OpensKey, indented_open}
 use Rattle.saphyr_scanner.proofs.Taken.Later.{apart_later, top}
 use Rattle.saphyr_scanner.proofs.Taken.Parts.{open_all, open_append, is_quiet, AreQuiet, quiet_columns, quiet_append, same_brackets, with_opening_there, with_opening_behind, Begins, opens_block, column_of, place_tokens, place_open, EndsOnLine}
 use Rattle.saphyr_scanner.proofs.Queues.{flat_append, place_with_front}
@@ -261,6 +263,15 @@ keys_open all d a q block i k z e b j (l ∷ ls) w f h deep x =
       keys_open all d a q block i k z (suc e) (lower b l.key) j ls w f (omega (arith, n, h)) (omega (arith, deep)) x.2,
     )
 
+-- the candidate outside flow is before those inside
+pub root_below : (all : Enclosures) (d b : ℕ) (q : Queue) (i : ℕ) (ls : List Level) (r : Candidate)
+    → KeysFrom all d b q i ls → root_key ls ≡ Some r → r.place < b
+root_below all d b q i [] r x e = absurd (cc)
+root_below all d b q i (l ∷ []) r x e = let k = rw e at x.1 in k.below
+root_below all d b q i (l ∷ m ∷ ls) r x e =
+    let low = below_key all d b q (is_block l.context) i l.key x.1 in
+    let first = root_below all (suc d) (lower b l.key) q i (m ∷ ls) r x.2 e in omega (arith, low, first)
+
 -- The tokens after a candidate of the innermost level leave its enclosures as they are, and those after the key's
 -- start await its colon.
 record InPlaceOpened (e : Enclosure) (outside : Outside) (all : Enclosures) (o : Opening) (front : List Place)
@@ -269,6 +280,7 @@ record InPlaceOpened (e : Enclosure) (outside : Outside) (all : Enclosures) (o :
   behind : calm (all_behind (flat (front ++ place_with_front o t ∷ back)) all) ≡ awaited o t.span.start (free e outside)
   begun : (all_behind (flat (front ++ place_with_front o t ∷ back)) all).begun
       ≡ (all_behind (flat (front ++ bare_place t ∷ back)) all).begun
+  indented : AreIndented all (flat front) → AreIndented all (flat (front ++ place_with_front o t ∷ back))
 
 calm_awaited : (o : Opening) (m : Marker) (e : Enclosure) (outside : Outside) (last : Begun)
     → calm (with_begun last (free e outside)) ≡ free e outside
@@ -283,7 +295,7 @@ place_in_place : (e : Enclosure) (outside : Outside) (all : Enclosures) (o : Ope
 place_in_place e outside all o front t back m past quiet inside h i =
     let P : List Piece → Type 0 = λ l. AreInPlace all l in
     let mid = all_behind (flat front) all in
-    let parts = in_place_parts (flat front) (t ∷ flat back) all (subst P (flat_append front (bare_place t ∷ back)) h) in
+    let parts = each_parts may_stand (flat front) (t ∷ flat back) all (subst P (flat_append front (bare_place t ∷ back)) h) in
     let takes = node_taken t (flat back) 0 mid inside parts.1 in
     let stays = node_retold t (flat back) mid.begun mid.begun mid mid takes quiet inside parts.1 in
     let here : mid ≡ with_begun mid.begun (free e outside) = ap (with_begun mid.begun)
@@ -300,10 +312,13 @@ place_in_place e outside all o front t back m past quiet inside h i =
     ap (λ l. all_behind l all) same ∙ behind_append (flat front) (place_pieces o t ++ flat back) all
     ∙ ap (all_behind (place_pieces o t ++ flat back)) here ∙ now.behind in
     record {
-      in_place = subst P (sym same) (in_place_append (flat front) (place_pieces o t ++ flat back) all parts.0
+      in_place = subst P (sym same) (each_append may_stand (flat front) (place_pieces o t ++ flat back) all parts.0
           (subst (λ x. AreInPlace x (place_pieces o t ++ flat back)) (sym here) now.in_place));
       behind = ap calm then ∙ calm_awaited o t.span.start e outside now.last (sym (ap calm ends) ∙ i);
       begun = ap (λ (x : Enclosures). x.begun) then ∙ sym (ap (λ (x : Enclosures). x.begun) ends);
+      indented = λ k. subst (λ l. AreIndented all l) (sym same)
+          (each_append is_indented (flat front) (place_pieces o t ++ flat back) all k
+          (subst (λ x. AreIndented x (place_pieces o t ++ flat back)) (sym here) now.indented));
     }
 
 column_ends_json : (o : Opening) (column : ℕ) (opened : Collections)
@@ -319,9 +334,9 @@ pub taken_open : (e : Enclosure) (outside : Outside) (opened : Setting) (from : 
     → (block ≡ false → 0 < length c.outer) → MayOpen o e → d.cursor ≡ c.cursor → d.key_allowed ≡ c.key_allowed
     → length d.outer ≡ length c.outer → d.adjacent ≡ c.adjacent
     → ((open_now : Collections) → Stands open_now c → Stands (column_of o k.mark.col open_now) d)
-    → TakenWithin (free e outside) opened from c q
+    → (IsRight c → IsRight d) → OpensKey c d k → TakenWithin (free e outside) opened from c q
     → TakenWithin (awaited o k.mark (free e outside)) opened from d (with_opening k.place o q)
-taken_open e outside opened from c d q b block k o x f near right left outer m there allowed levels stays s h =
+taken_open e outside opened from c d q b block k o x f near right left outer m there allowed levels stays s on opens h =
     let n : k.place - q.handed ≡ length x.front = omega (arith, x.at) in
     let now : (with_opening k.place o q).places ≡ x.front ++ place_with_front o x.token ∷ x.back =
     cc (with_opening_there o x.front (bare_place x.token) x.back) in
@@ -392,13 +407,18 @@ taken_open e outside opened from c d q b block k o x f near right left outer m t
           (keeps_further (open_all (flat q.places) opened.collections).ends_json c d
           (omega (arith, ap (λ (u : Cursor). u.mark.index) there)) stays levels h.place);
       small = h.small;
+      indented = indented_open opened.enclosures c d q (with_opening k.place o q) k x.front x.back
+          (bare_place x.token) (place_with_front o x.token) x.places now refl x.at
+          (λ l. subst (λ ps. AreIndented opened.enclosures (flat ps)) (sym now) (places.indented l))
+          (let line = ap (λ (u : Cursor). u.mark.line) there in omega (arith, line)) opens h.indented;
+      right = on h.right;
       ends = subst (λ g. EndsOn g h.last.mark.line) (sym begun) h.ends;
       past = λ i. subst (λ g. IsPast g d.cursor.mark.line) (sym begun) (subst
           (λ (u : Cursor). IsPast (all_behind (flat q.places) opened.enclosures).begun u.mark.line) (sym there)
           (h.past (sym allowed ∙ i)));
     }
 
--- ## Where the next token begins
+-- ## Where the next token begins, which is not the end
 
 -- not too far after the candidate outside flow
 abbrev pub IsNear : Core → Type 0
@@ -412,5 +432,10 @@ IsDeep c = in_block c ≡ true → c.indent ≤ c.cursor.mark.col + 1
 abbrev pub IsSmall : Core → Type 0
 IsSmall c = c.cursor.mark.line < top
 
+-- no column left of which nothing may be, nor left of a key's outside flow
+abbrev pub IsBehindKey : Core → Type 0
+IsBehindKey c = in_block c ≡ true → (k : Candidate) → c.level.key ≡ Some k → k.mark.col ≤ c.cursor.mark.col
+
 abbrev pub IsArrival : Core → Type 0
-IsArrival c = IsDeep c × IsNear c × IsSmall c
+IsArrival c = IsDeep c × IsNear c × IsSmall c × (least_column c ≤ c.cursor.mark.col) × IsBehindKey c
+    × (is_z (slice_index c.cursor.rest 0) ≡ false)

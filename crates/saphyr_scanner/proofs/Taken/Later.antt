@@ -1,8 +1,9 @@
 -- What tokens are taken of a text moves the place on: its lines count up, and no more than its characters do.
-use Rattle.std.proofs.Common.{◌≡◌, ℕ, Bool, ◌+◌, ◌≤◌, ◌<◌, true, List, [], ◌∷◌, ◌++◌, length, drop, refl, sym, ap, arith, subst, inl, inr}
+use Rattle.std.proofs.Common.{◌≡◌, ℕ, Bool, ◌+◌, ◌≤◌, ◌<◌, true, false, List, [], ◌∷◌, ◌++◌, length, drop, refl, sym, ap, ◌∙◌, arith, subst, inl, inr, IsTrue}
 use Rattle.std.specs.Prelude.{slice_index}
+use Rattle.std.proofs.lemmas.Bool.{eqb-true}
 use Rattle.std.proofs.lemmas.List.{length-append, length-drop}
-use Rattle.saphyr_input.specs.Classes.{is_break}
+use Rattle.saphyr_input.specs.Classes.{is_blank, is_break, is_z}
 use Rattle.saphyr_input.specs.Places.{next_2_are}
 use Rattle.saphyr_scalar.specs.declared.scalar.position.Marker.{Marker}
 use Rattle.saphyr_scalar.specs.declared.scalar.position.Span.{Span}
@@ -18,7 +19,7 @@ use Rattle.saphyr_scanner.specs.Grammar.Tokens as tokens
 use Rattle.saphyr_scanner.specs.Grammar.Tokens.{Kind}
 use Rattle.saphyr_scanner.specs.Views.Tokens.{Piece}
 use Rattle.saphyr_scanner.specs.TokensTaken as taken
-use Rattle.saphyr_scanner.specs.TokensTaken.{Collections, Surroundings, IsPassedOver, HasNoText, IsSpan, IsMark, TakesCharacter, IsToken, AreTokens, open_behind}
+use Rattle.saphyr_scanner.specs.TokensTaken.{Collections, Surroundings, IsPassedOver, HasNoText, IsSpan, IsMark, TakesCharacter, IsToken, AreTokens, begins_text, open_behind}
 use Rattle.saphyr_input.proofs.Basics.Lists.{shows_character}
 use Rattle.saphyr_input.proofs.Basics.Booleans.{by_test}
 
@@ -108,6 +109,27 @@ apart_later _ _ _ _ (taken.comment m words t n u a e p) =
     later_later m (35 ∷ (words ++ t)) (along m (1 + length words)) t n u
     (along_later m (1 + length words) (35 ∷ (words ++ t)) t (omega (arith, length-append words t)))
     (apart_later (along m (1 + length words)) t n u p)
+
+-- Where a text goes on nothing is passed.
+pub text_stays : (m : Marker) (t : List ℕ) (n : Marker) (u : List ℕ) → IsPassedOver m t n u
+    → IsTrue (begins_text (slice_index t 0)) → (n ≡ m) × (u ≡ t)
+text_stays _ _ _ _ (taken.nothing m t) b = (refl, refl)
+text_stays _ _ _ _ (taken.blank m c t n u e p) b = absurd (no c e b)
+  where
+    no : (c : ℕ) → is_blank c ≡ true → begins_text c ≡ true → ⊥
+    no c e b = grind arith
+text_stays _ _ _ _ (taken.line_break m t n u e p) b = absurd (no (slice_index t 0) e b)
+  where
+    no : (c : ℕ) → is_break c ≡ true → begins_text c ≡ true → ⊥
+    no c e b = grind arith
+text_stays _ _ _ _ (taken.comment m words t n u a e p) b = absurd (let no : false ≡ true = b in cc)
+
+-- Neither is at NUL and at the end.
+pub end_stays : (s t : Cursor) → IsPassedOver s.mark s.rest t.mark t.rest → is_z (slice_index s.rest 0) ≡ true
+    → is_z (slice_index t.rest 0) ≡ true
+end_stays s t p z =
+    let e = text_stays s.mark s.rest t.mark t.rest p (ap begins_text (eqb-true (slice_index s.rest 0) 0 z)) in
+    ap (λ l. is_z (slice_index l 0)) e.1 ∙ z
 
 pub passed_later : (m : Marker) (t : List ℕ) (n : Marker) (u : List ℕ) → IsPassed m t n u → Later m t n u
 passed_later _ _ _ _ (passing.nothing m t) = later_here m t

@@ -113,6 +113,14 @@ quotes_on_line k _ _ _ _ (escaped_break t items x h r) m =
       lines = λ le small. absurd (let more = later.kept small in omega (arith, more, le, small));
     }
 
+-- between quotes characters are taken off
+pub quoted_shorter : (q : Quote) (items : List Item) (s t : List ℕ) → IsQuotedText q s items t → length t < length s
+quoted_shorter q items s t is =
+    let m : Marker = record { index = 0; line = 0; col = 0 } in
+    let o = quotes_on_line 0 q is.0 items t is.2 m in
+    let l = passed_later m is.0 o.place t o.passed in
+    let e = ap length is.1 in omega (arith, l.index, l.counted, e)
+
 pub quoted_on_line : (k : ℕ) (q : Quote) (items : List Item) (s t : Cursor) (is : IsQuotedText q s.rest items t.rest)
     → IsPassed s.mark s.rest t.mark t.rest → t.mark.line ≤ s.mark.line → t.mark.line < top
     → HasIndentedLines k q is.0 items t.rest is.2

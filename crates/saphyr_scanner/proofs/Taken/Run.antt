@@ -22,8 +22,9 @@ use Rattle.saphyr_scanner.proofs.Taken.Later.{LaterThan, later_here, later_later
 use Rattle.saphyr_scanner.proofs.Taken.Parts.{open_append, tokens_append, tokens_part}
 use Rattle.saphyr_scanner.proofs.Taken.Held.{Setting, setting_behind}
 use Rattle.saphyr_scanner.proofs.Taken.Keys.{Key, KeyOf, lower, KeysFrom, keys_weaken}
-use Rattle.saphyr_scanner.proofs.Taken.InPlace.{all_behind, behind_append, in_place_append, in_place_parts, calm, IsPast}
-use Rattle.saphyr_scanner.specs.TokensInPlace.{Enclosures, not_enclosed, AreInPlace}
+use Rattle.saphyr_scanner.proofs.Taken.InPlace.{all_behind, behind_append, each_append, each_parts, calm, IsPast}
+use Rattle.saphyr_scanner.specs.TokensInPlace.{Enclosures, may_stand, is_indented, not_enclosed, AreInPlace, AreIndented}
+use Rattle.saphyr_scanner.proofs.Taken.Indented.{root_key, indented_handed}
 use Rattle.saphyr_scanner.proofs.Taken.Fetch.{Read, Ready, settled_ready, read_ready}
 use Rattle.saphyr_scanner.proofs.Taken.Places.{Reaches, reaches_reaches, place_of, tokens_reached}
 use Rattle.saphyr_scanner.proofs.Told.Documents.{NotedState}
@@ -82,6 +83,20 @@ keys_handed all d b n p ps i (l ∷ ls) e x =
 not_held : (ended held : Bool) → ended ≡ false → (not ended && held) ≡ false → held ≡ false
 not_held ended held e f = grind arith
 
+-- no place is handed out that may be a key outside flow, while the stream goes on
+waits_elsewhere : (ended : Bool) (n : ℕ) (ls : List Level) (k : Candidate) → (ended ≡ true → ⊥)
+    → (not ended && any_holds n ls) ≡ false → root_key ls ≡ Some k → k.place ≡ n → ⊥
+waits_elsewhere true n ls k going e is at = going refl
+waits_elsewhere false n ls k going e is at = held ls e is
+  where
+    held : (ls : List Level) → any_holds n ls ≡ false → root_key ls ≡ Some k → ⊥
+    held [] e is = absurd (cc)
+    held (l ∷ []) e is =
+        let f = (or_parts (holds n l) false e).0 in
+        let g : is_place n (Some k) ≡ true = ap (λ m. m == n) at ∙ eq-eqb n n refl in
+        let same = ap (is_place n) is in absurd (cc)
+    held (l ∷ m ∷ ls) e is = held (m ∷ ls) (or_parts (holds n l) (any_holds n (m ∷ ls)) e).1 is
+
 abbrev From : List ℕ → Cursor → Type 0
 From text u = LaterThan (start_cursor text) u × Reaches (start_cursor text) u
 
@@ -91,6 +106,7 @@ record Left (text : List ℕ) (opened : Setting) (from : Cursor) (c : Core) (p :
   between : Cursor
   tokens : AreTokens opened.collections (place_pieces p.opening p.piece) from between
   in_place : AreInPlace opened.enclosures (place_pieces p.opening p.piece)
+  indented : AreIndented opened.enclosures (place_pieces p.opening p.piece)
   later : From text between
   ready : Ready (setting_behind (place_pieces p.opening p.piece) opened) between (holding c ps (n + 1))
 
@@ -100,14 +116,17 @@ one_left : (text : List ℕ) (opened : Setting) (from : Cursor) (c : Core) (p : 
 one_left text opened from c p ps n l h e =
     let ts = place_pieces p.opening p.piece in
     let r = tokens_part opened.collections ts (flat ps) from h.taken.last h.taken.tokens in
-    let w = in_place_parts ts (flat ps) opened.enclosures h.taken.in_place in
+    let w = each_parts may_stand ts (flat ps) opened.enclosures h.taken.in_place in
     let further = tokens_later opened.collections ts from r.between r.front in
     let same = behind_append ts (flat ps) opened.enclosures in
     let reached = tokens_reached opened.collections ts from r.between r.front in
+    let i = indented_handed opened.enclosures c n p ps (λ f k is at. waits_elsewhere c.ended n (c.level ∷ c.outer) k
+    (λ over. absurd (let no = h.settled over in cc)) e is at) h.taken.indented in
     record {
       between = r.between;
       tokens = r.front;
       in_place = w.0;
+      indented = i.0;
       later = (
         later_later (start_cursor text).mark text from.mark from.rest r.between.mark r.between.rest l.0 further,
         reaches_reaches (start_cursor text) from r.between l.1 reached,
@@ -123,6 +142,8 @@ one_left text opened from c p ps n l h e =
           small = (further.lines h.taken.small).1;
           ends = rw same at h.taken.ends;
           past = λ a. rw same at (h.taken.past a);
+          indented = i.1;
+          right = h.taken.right;
           place = rw (open_append ts (flat ps) opened.collections) at h.taken.place;
         };
         live = λ f nz.
@@ -131,6 +152,7 @@ one_left text opened from c p ps n l h e =
             keys_weaken (all_behind ts opened.enclosures) 0 (n + length (p ∷ ps)) (n + 1 + length ps)
             (record { places = ps; handed = n + 1 }) c.indent (c.level ∷ c.outer) (omega arith) k;
         over = λ f u v. h.over f u (tokens_append opened.collections ts (flat ps) from r.between u r.front v);
+        settled = h.settled;
         fresh = h.fresh;
       };
     }
@@ -140,23 +162,27 @@ one_left text opened from c p ps n l h e =
 abbrev FollowsTaken : List ℕ → Setting → Cursor → Remaining → Type 0
 FollowsTaken text opened from r =
     (end : Cursor) × AreTokens opened.collections r.pieces from end × AreInPlace opened.enclosures r.pieces
+    × AreIndented opened.enclosures r.pieces
     × (r.refusal ≡ None → end.rest ≡ []) × ((e : Refusal) → r.refusal ≡ Some e → IsPlaceOf text e.mark)
 
 place_follows : (text : List ℕ) (opened : Setting) (from between : Cursor) (o : Opening) (t : Piece) (r : Remaining)
     → AreTokens opened.collections (place_pieces o t) from between → AreInPlace opened.enclosures (place_pieces o t)
+    → AreIndented opened.enclosures (place_pieces o t)
     → FollowsTaken text (setting_behind (place_pieces o t) opened) between r
     → FollowsTaken text opened from (before_place o t r)
-place_follows text opened from between o t r h i k =
+place_follows text opened from between o t r h i j k =
     by o (tokens_append opened.collections (place_pieces o t) r.pieces from between k.0 h k.1)
-    (in_place_append (place_pieces o t) r.pieces opened.enclosures i k.2)
+    (each_append may_stand (place_pieces o t) r.pieces opened.enclosures i k.2)
+    (each_append is_indented (place_pieces o t) r.pieces opened.enclosures j k.3)
   where
     by : (w : Opening) → AreTokens opened.collections (place_pieces w t ++ r.pieces) from k.0
         → AreInPlace opened.enclosures (place_pieces w t ++ r.pieces)
+        → AreIndented opened.enclosures (place_pieces w t ++ r.pieces)
         → FollowsTaken text opened from (before_place w t r)
-    by opening.Nothing x y = (k.0, x, y, k.3, k.4)
-    by opening.Key x y = (k.0, x, y, k.3, k.4)
-    by opening.BlockMappingAndKey x y = (k.0, x, y, k.3, k.4)
-    by opening.FlowMappingAndKey x y = (k.0, x, y, k.3, k.4)
+    by opening.Nothing x y z = (k.0, x, y, z, k.4, k.5)
+    by opening.Key x y z = (k.0, x, y, z, k.4, k.5)
+    by opening.BlockMappingAndKey x y z = (k.0, x, y, z, k.4, k.5)
+    by opening.FlowMappingAndKey x y z = (k.0, x, y, z, k.4, k.5)
 
 handed_follow : (text : List ℕ) (go : State → Remaining) (c : Core)
     → ((opened : Setting) (from : Cursor) (n : ℕ) (ps : List Place) → From text from → (c.ended ≡ true → ps ≡ [])
@@ -168,7 +194,7 @@ handed_follow text go c others opened from n (p ∷ ps) l h =
     by_test (needs_token (holding c (p ∷ ps) n)) _ _ (FollowsTaken text opened from)
     (λ e. others opened from n (p ∷ ps) l (λ f. absurd (let g = going c.ended _ e in cc)) h) (λ e.
     let w = one_left text opened from c p ps n l h e in
-    place_follows text opened from w.between p.opening p.piece _ w.tokens w.in_place
+    place_follows text opened from w.between p.opening p.piece _ w.tokens w.in_place w.indented
     (handed_follow text go c others (setting_behind (place_pieces p.opening p.piece) opened) w.between (n + 1) ps
     w.later w.ready))
 
@@ -177,7 +203,7 @@ delivers_taken : (text : List ℕ) (opened : Setting) (from : Cursor) (r : Resul
     → ((e : Refusal) → r ≡ Err e → IsPlaceOf text e.mark) → FollowsTaken text opened from (remaining_after r go)
 delivers_taken text opened from (Ok t) go h k = h t refl
 delivers_taken text opened from (Err e) go h k =
-    (from, refl, tt, (λ i. absurd (cc)), (λ f i. k f (let same : e ≡ f = cc in ap (λ (x : Refusal). Err x) same)))
+    (from, refl, tt, tt, (λ i. absurd (cc)), (λ f i. k f (let same : e ≡ f = cc in ap (λ (x : Refusal). Err x) same)))
 
 -- the laws of the readers
 pub record AllLaws : Type 0 where
@@ -194,7 +220,7 @@ run_follows laws text small limit (suc fuel) opened from s l f h m = handed_foll
     let r = fetch_within limit t >>= without_far_key in
     by_test t.core.ended _ _ (FollowsTaken text cs u)
     (λ e. let P : List Place → Type 0 = λ qs. AreTokens cs.collections (flat qs) u u in
-    (u, refl, tt, (λ _. w.over e u (subst P (sym (over e)) refl)), (λ f i. absurd (cc))))
+    (u, refl, tt, tt, (λ _. w.over e u (subst P (sym (over e)) refl)), (λ f i. absurd (cc))))
     (λ e. let told = read_told laws.texts laws.refusals text small limit cs u t k.0 k.1 e w m in
     delivers_taken text cs u r (run fuel limit)
     (λ v q. let less = (given_of (Fetched t) r v (read_fetched limit t e) q).smaller laws.readers in
@@ -221,11 +247,14 @@ start_read text = record {
       small = omega arith;
       ends = tt;
       past = λ _. tt;
+      indented = record { free = λ _. tt; waits = λ e. absurd (cc) };
+      right = λ _ e. absurd (cc);
       place = (omega arith, λ _ some. absurd (omega (arith, some)));
     };
     live = λ _. inl (λ nz. (refl, tt, tt));
   };
   over = λ e. absurd (cc);
+  settled = λ e. absurd (cc);
   fresh = λ _ _. refl;
 }
 
@@ -247,7 +276,7 @@ scan_follows laws limit text small =
 pub scan_taken : AllLaws → (limit : ℕ) (text : List ℕ) → length text < 2 ^ 63 → AreTakenFrom text (scan limit text)
 scan_taken laws limit text small =
     let h = scan_follows laws limit text small in
-    (h.0, h.1, h.2, by (scan limit text).refusal h.0 h.3 h.4)
+    (h.0, h.1, h.2, h.3, by (scan limit text).refusal h.0 h.4 h.5)
   where
     by : (o : Option Refusal) (end : Cursor) → (o ≡ None → end.rest ≡ [])
         → ((e : Refusal) → o ≡ Some e → IsPlaceOf text e.mark) → IsEndOf text o end

@@ -217,19 +217,20 @@ pub gap_begins : (l : ℕ) (broke tabbed : Bool) (s : Cursor)
     → Given BeginsText (end_of_gap l s.mark s.blank_so_far broke tabbed s.rest)
 gap_begins l broke tabbed s = (all_begin l s.rest s.mark s.blank_so_far broke tabbed).between
 
--- ## Where a break is passed the line is a later one
+-- ## Where a break is passed the line is a later one, and else the same
 
 -- of a place that is reached, where not too many lines were counted
 abbrev pub Breaks : Marker → Bool → GapEnd → Type 0
 Breaks m broke p = m.line ≤ top → (m.line ≤ p.cursor.mark.line) × (p.cursor.mark.line ≤ top)
     × (p.broke ≡ true → p.cursor.mark.line < top → (broke ≡ true) ⊎ (m.line < p.cursor.mark.line))
+    × (broke ≡ true → p.broke ≡ true) × (p.broke ≡ false → p.cursor.mark.line ≡ m.line)
 
 stop_breaks : (m : Marker) (blank broke tabbed : Bool) (t : List ℕ)
     → Given (Breaks m broke) (stop m blank broke tabbed t)
 unfolding stop
 stop_breaks m blank broke tabbed t = by_test (tabbed && is_bom (slice_index t 0)) _ _ (Given (Breaks m broke)) (λ _. tt)
     (λ _. by_test (tabbed && not (is_z (slice_index t 0))) _ _ (Given (Breaks m broke)) (λ _. tt)
-    (λ _ l. (omega arith, l, λ e s. inl e)))
+    (λ _ l. (omega arith, l, (λ e s. inl e), (λ e. e), λ _. refl)))
 
 -- between tokens, and in a comment
 record Breaking (l : ℕ) (t : List ℕ) (m : Marker) (blank broke tabbed : Bool) : Type 0 where
@@ -243,7 +244,13 @@ all_break l (c ∷ cs) m blank broke tabbed =
     let P = Given (Breaks m broke) in
     let line = given_map _ _ (end_of_gap l (next_line m 1) true true false cs) (λ p h small.
     let k = h (omega arith) in
-    (omega (arith, k.0, small), k.1, λ _ s. inr (omega (arith, k.0, s))))
+    (
+      omega (arith, k.0, small),
+      k.1,
+      (λ _ s. inr (omega (arith, k.0, s))),
+      (λ _. k.3 refl),
+      λ f. absurd (let e = k.3 refl in cc),
+    ))
     (all_break l cs (next_line m 1) true true false).between in
     record {
       between = by_test (is_blank c || ((c == 13) && (slice_index cs 0 == 10))) _ _ P

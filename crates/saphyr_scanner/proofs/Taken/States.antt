@@ -18,15 +18,16 @@ use Rattle.saphyr_scanner.specs.Steps.State.{State, with_core}
 use Rattle.saphyr_scanner.specs.Steps.Unrolling.{unroll, end_blocks, end_block, is_right_of, with_outer_indent, go_less_deep}
 use Rattle.saphyr_scanner.specs.TokensTaken as taken
 use Rattle.saphyr_scanner.specs.TokensTaken.{AreTokens, IsToken, IsBlockScalarToken, IsPlaceOrEnd, begins_text, IsContentEnd, IsBlockEnd}
-use Rattle.saphyr_scanner.specs.TokensInPlace.{Enclosures, without_innermost, block_ended}
+use Rattle.saphyr_scanner.specs.TokensInPlace.{Enclosures, is_flow_style, without_innermost, block_ended}
 use Rattle.saphyr_scanner.proofs.Blocks.{block_cursor, go_less_deep_cursor}
 use Rattle.saphyr_scanner.proofs.Leads.{flat}
 use Rattle.saphyr_scanner.proofs.Taken.Later.{top, Later, LaterThan, later_later, apart_later, token_later, tokens_later}
 use Rattle.saphyr_scanner.proofs.Taken.Parts.{tokens_part}
-use Rattle.saphyr_scanner.proofs.Taken.Held.{Stack, enclosures_of, Setting, Taken, taken_within, taken_further, unbound_parted, taken_put}
-use Rattle.saphyr_scanner.proofs.Taken.Keys.{Key, Keys}
-use Rattle.saphyr_scanner.proofs.Taken.Cores.{HoldsTaken, Saved, no_keys, outermost}
-use Rattle.saphyr_scanner.proofs.Taken.Cores.{saved_taken, first_at, apart_same}
+use Rattle.saphyr_scanner.proofs.Taken.Held.{Stack, stands_same, enclosures_of, Setting, Taken, taken_within, taken_further, unbound_parted, taken_put}
+use Rattle.saphyr_scanner.proofs.Taken.Indented.{BeginsNoNode, IsRight, IsPastLine, root_key, KeepsRequired, no_node_fits, indented_put}
+use Rattle.saphyr_scanner.proofs.Taken.Keys.{Key, Keys, IsArrival}
+use Rattle.saphyr_scanner.proofs.Taken.Cores.{HoldsTaken, IsSaved, Saved, saved_indented, saved_enclosures, no_keys, outermost}
+use Rattle.saphyr_scanner.proofs.Taken.Cores.{apart_same}
 use Rattle.saphyr_scanner.proofs.Taken.Cores.{key_known}
 use Rattle.saphyr_scanner.proofs.Effects.Readers.{TextLaws}
 use Rattle.saphyr_input.proofs.Basics.Booleans.{by_test}
@@ -125,89 +126,79 @@ key_line opened from q c d l s h k i = by s.level
         let stands = key_stands opened from c q (next q) (is_block c.level.context) c.indent k l h.taken known.0 in
         let u = same in omega (arith, (stands.later.lines stands.small).0, u)
 
-    by : (d.level ≡ c.level)
-        ⊎ (
-        (d.level ≡ record { context = c.level.context; key = Some (record { mark = c.cursor.mark; place = next q }) })
-        × (c.key_allowed ≡ true)
-        )
-        → k.mark.line ≤ d.cursor.mark.line
-    by (inl g) = old d.level.key (ap (λ (y : Level). y.key) (sym g)) i
-    by (inr (g, _)) =
+    by : IsSaved (next q) c d.level d.required → k.mark.line ≤ d.cursor.mark.line
+    by (inl (g, _, _)) = old d.level.key (ap (λ (y : Level). y.key) (sym g)) i
+    by (inr (g, _, _)) =
         let m : Some (record { mark = c.cursor.mark; place = next q }) ≡ Some k =
         sym (ap (λ (y : Level). y.key) g) ∙ i in
         let line : Option Candidate → ℕ = λ o. elim o [ None ↦ 0 | Some y ↦ y.mark.line ] in
         let n : c.cursor.mark.line ≡ k.mark.line = ap line m in
         let u = same in omega (arith, n, u)
 
+no_flow_style : (style : BlockStyle) → is_flow_style (scalar.style_of style) ≡ false
+no_flow_style style = grind arith
+
 pub block_fetched : TextLaws → (text : List ℕ) → length text < 2 ^ 63
     → (opened : Setting) (from : Cursor) (q : Queue) (style : BlockStyle) (c d : Core)
     → LaterThan (start_cursor text) from
-    → Saved (next q) c d → d.adjacent ≡ c.adjacent → HoldsTaken opened from c q → in_block c ≡ true
-    → in_block d ≡ true
-    → slice_index c.cursor.rest 0 ≡ taken.block_indicator style → (x : List ℕ × Span × Cursor)
-    → blocks.block_scalar style d.indent d.cursor ≡ Ok x
+    → Saved (next q) c d → d.adjacent ≡ c.adjacent → d.key_allowed ≡ true → IsArrival c → HoldsTaken opened from c q
+    → in_block c ≡ true → in_block d ≡ true → slice_index c.cursor.rest 0 ≡ taken.block_indicator style
+    → (x : List ℕ × Span × Cursor) → blocks.block_scalar style c.indent c.cursor ≡ Ok x
     → Fetched opened from (with_cursor x.2 d) (with_piece (record {
       span = record { start = x.1.start; end = x.1.end };
       kind = tokens.Scalar (scalar.style_of style) x.0;
     }) q)
-block_fetched laws text small opened from q style c d l s stays h b bd f x e =
-    let first = first_at (taken.block_indicator style) c.cursor d.cursor s.cursor f in
-    let p = laws.block_place style d.indent d.cursor x.2 x.0 x.1 first e in
+block_fetched laws text small opened from q style c d l s stays allowed arrival h b bd first x e =
+    let p = laws.block_place style c.indent c.cursor x.2 x.0 x.1 first e in
     let piece : Piece = record {
       span = record { start = x.1.start; end = x.1.end };
       kind = tokens.Scalar (scalar.style_of style) x.0;
     } in
-    let is : IsBlockScalarToken style d.indent x.0 x.1 d.cursor x.2 =
+    let is : IsBlockScalarToken style c.indent x.0 x.1 c.cursor x.2 =
     record {
       begins = first;
-      reading = laws.block_text style d.indent d.cursor x.2 x.0 x.1 first e;
+      reading = laws.block_text style c.indent c.cursor x.2 x.0 x.1 first e;
       passes = p.passes;
       end = p.end;
     } in
-    let before : Core = record d { key_allowed = false } in
-    let held = saved_taken opened from (next q) c before q
-    (record {
-      level = s.level;
-      cursor = s.cursor;
-      outer = s.outer;
-      indent = s.indent;
-      outer_indents = s.outer_indents;
-    }) stays (λ no. absurd (cc)) h.taken in
     let e2 : Core = with_cursor x.2 d in
     let from_small : from.mark.line ≤ top = (l.lines (omega arith)).1 in
-    let l2 : from.mark.line ≤ top = from_small in
-    let r = later_later (start_cursor text).mark text from.mark from.rest d.cursor.mark d.cursor.rest l
-    (taken_later opened from before q held) in
     let none : c.outer ≡ [] = outermost (enclosures_of c) opened from c q h b in
-    let by : (o : Option Candidate) → d.level.key ≡ o → d.cursor.mark.line < x.2.mark.line
+    let by : (o : Option Candidate) → d.level.key ≡ o → c.cursor.mark.line < x.2.mark.line
     → (Live opened.enclosures e2 (with_piece piece q)) ⊎ (IsFar e2) =
     λ o g less. elim o as (λ y. d.level.key ≡ y → (Live opened.enclosures e2 (with_piece piece q)) ⊎ (IsFar e2)) [
       | None ↦ λ i. inl (λ nz. no_keys opened.enclosures (next (with_piece piece q)) (with_piece piece q) d.indent
           d.level d.outer i (s.outer ∙ none) bd)
       | Some k ↦ λ i. inr (
         far_of e2 (Some k) i bd k refl
-            (let w = key_line opened from q c d l2 s h k i in omega (arith, w, less)),
+            (let w = key_line opened from q c d from_small s h k i in
+            let line = ap (λ (u : Cursor). u.mark.line) s.cursor in omega (arith, w, line, less)),
         s.outer ∙ none,
       )
     ] g in
     record {
-      taken = taken_put (enclosures_of d) opened from before e2 q piece d.cursor x.2 (taken.nothing _ _)
-          (λ i _. rw (s.outer ∙ none) (block_token style d.indent i x.0 x.1 d.cursor x.2 is))
-          (taken.nothing _ _) (λ cs k. k) (inl refl) refl (unbound_parted piece before e2 refl) held;
-      live = λ _. elim (p.line (line_small text d.cursor small r))
-          [ inl less ↦ by d.level.key refl less | inr z ↦ inl (λ nz. absurd (cc)) ];
+      taken = taken_within (enclosures_of c) (enclosures_of e2) opened from e2 (with_piece piece q)
+          (saved_enclosures (next q) c d s)
+          (taken_put (enclosures_of c) opened from c e2 q piece c.cursor x.2 (taken.nothing _ _)
+          (λ i _. rw none (block_token style c.indent i x.0 x.1 c.cursor x.2 is)) (taken.nothing _ _)
+          (λ cs k. stands_same cs c e2 s.indent s.outer_indents (ap length s.outer) k) (inl stays) refl
+          (unbound_parted piece c e2 refl) (λ _ f. absurd (cc))
+          (saved_indented opened from c d e2 q piece s refl refl arrival
+          (λ n. absurd (let f = no_flow_style style in cc)) (λ _ _ _. p.line arrival.2) h) h.taken);
+      live = λ _. elim (p.line arrival.2) [ inl less ↦ by d.level.key refl less | inr z ↦ inl (λ nz. absurd (cc)) ];
     }
 
 -- ## Block collections end
 
--- the levels stay
+-- the levels stay, and whether a key has to be one
 pub record Levels (c d : Core) : Type 0 where
   pub level : d.level ≡ c.level
   pub outer : d.outer ≡ c.outer
+  pub required : d.required ≡ c.required
 
 outer_indent_levels : (is : List ℕ) (c : Core) → Levels c (with_outer_indent is c)
-outer_indent_levels [] c = record { level = refl; outer = refl }
-outer_indent_levels (i ∷ is) c = record { level = refl; outer = refl }
+outer_indent_levels [] c = record { level = refl; outer = refl; required = refl }
+outer_indent_levels (i ∷ is) c = record { level = refl; outer = refl; required = refl }
 
 outer_indent_stays : (is : List ℕ) (c : Core) → (with_outer_indent is c).adjacent ≡ c.adjacent
 outer_indent_stays is c = grind arith
@@ -245,6 +236,36 @@ block_end None m i s e (p, b, w) = ((refl, p, refl), b, inr (ltb-true 0 i e, w))
 block_end (Some column) m i s e (p, b, w) =
     let l = ltb-true column (i - 1) e in ((refl, p, refl), b, inl (omega (arith, l, w)))
 
+levels_kept : (c d : Core) → Levels c d → KeepsRequired c d
+levels_kept c d l = record {
+  required = l.required;
+  root = λ _. ap (λ m. root_key (m ∷ d.outer)) l.level ∙ ap (λ ls. root_key (c.level ∷ ls)) l.outer;
+  block = ap (λ (m : Level). is_block m.context) l.level;
+}
+
+outer_indent_past : (n : ℕ) (is : List ℕ) (c : Core) → IsPastLine n c → IsPastLine n (with_outer_indent is c)
+outer_indent_past n [] c h = h
+outer_indent_past n (i ∷ is) c h = h
+
+-- where a block collection ends the text doesn't go on right of its column
+block_ends_right : (column : Option ℕ) (m : Marker) (is : List ℕ) (c : Core) → is_right_of column c.indent ≡ true
+    → BlocksEnd column m c.cursor → IsRight c → IsRight (with_outer_indent is c)
+block_ends_right column m is c e (_, _, ends) h = by is
+  where
+    left : (o : Option ℕ) → is_right_of o c.indent ≡ true → EndsBlocks o c.cursor → c.indent ≤ c.cursor.mark.col
+        → BeginsNoNode c.cursor.rest
+    left None e (inl w) i = inl (ap (λ l. is_z (slice_index l 0)) w)
+    left None e (inr w) i = absurd (let l = ltb-true 0 c.indent e in let col = w.0 in omega (arith, l, col, i))
+    left (Some column) e w i = absurd (let l = ltb-true column (c.indent - 1) e in omega (arith, l, w, i))
+
+    right : (c.indent ≤ c.cursor.mark.col) ⊎ BeginsNoNode c.cursor.rest → BeginsNoNode c.cursor.rest
+    right (inl i) = left column e ends i
+    right (inr w) = w
+
+    by : (is : List ℕ) → IsRight (with_outer_indent is c)
+    by [] = λ b a l. inr (right (h b a l))
+    by (i ∷ is) = λ b a l. inr (right (h b a l))
+
 block_taken : (opened : Setting) (from : Cursor) (column : Option ℕ) (m : Marker) (s : State)
     → is_right_of column s.core.indent ≡ true → BlocksEnd column m s.core.cursor → TakenState opened from s
     → TakenState opened from (end_block m s)
@@ -258,7 +279,12 @@ block_taken opened from column m s e p h =
       outer_indent_stack s.core.outer_indents x.columns s.core k.0,
       k.1 ∙ sym (ap length (outer_indent_levels s.core.outer_indents s.core).outer),
     )) (inl (outer_indent_stays s.core.outer_indents s.core)) refl
-    (unbound_parted (empty_piece m tokens.BlockEnd) s.core (end_block m s).core refl) h)
+    (unbound_parted (empty_piece m tokens.BlockEnd) s.core (end_block m s).core refl)
+    (block_ends_right column m s.core.outer_indents s.core e p h.right)
+    (indented_put opened.enclosures s.core (end_block m s).core s.queue (empty_piece m tokens.BlockEnd)
+    (no_node_fits opened.enclosures s.queue (empty_piece m tokens.BlockEnd) refl)
+    (levels_kept s.core (end_block m s).core (outer_indent_levels s.core.outer_indents s.core))
+    (λ w. outer_indent_past w.key.mark.line s.core.outer_indents s.core w.past)) h)
 
 blocks_taken : (opened : Setting) (from : Cursor) (column : Option ℕ) (m : Marker) (is : List ℕ) (s : State)
     → BlocksEnd column m s.core.cursor → TakenState opened from s → TakenState opened from (end_blocks column m is s)
@@ -274,10 +300,12 @@ go_less_deep_taken : (opened : Setting) (from : Cursor) (column : Option ℕ) (s
     → TakenState opened from (with_core (go_less_deep column s.core) s)
 go_less_deep_taken opened from None s h =
     taken_further (enclosures_of s.core) opened from s.core (go_less_deep None s.core) s.queue
-    (taken.nothing _ _) refl refl refl refl (λ a. inl a) h
+    (taken.nothing _ _) refl refl refl refl ((λ a. inl a), λ k. k)
+    (record { required = refl; root = λ _. refl; block = refl }) h
 go_less_deep_taken opened from (Some column) s h =
     taken_further (enclosures_of s.core) opened from s.core (go_less_deep (Some column) s.core) s.queue
-    (taken.nothing _ _) refl refl refl refl (λ a. inl a) h
+    (taken.nothing _ _) refl refl refl refl ((λ a. inl a), λ k. k)
+    (record { required = refl; root = λ _. refl; block = refl }) h
 
 pub unroll_taken : (opened : Setting) (from : Cursor) (column : Option ℕ) (m : Marker) (s : State)
     → BlocksEnd column m s.core.cursor → TakenState opened from s → TakenState opened from (unroll column m s)
@@ -290,13 +318,24 @@ unroll_taken opened from column m s p h =
     (go_less_deep_taken opened from column s h)) (λ _. h)
 
 levels_levels : (c d e : Core) → Levels c d → Levels d e → Levels c e
-levels_levels c d e a b = record { level = b.level ∙ a.level; outer = b.outer ∙ a.outer }
+levels_levels c d e a b =
+    record { level = b.level ∙ a.level; outer = b.outer ∙ a.outer; required = b.required ∙ a.required }
 
 pub blocks_levels : (column : Option ℕ) (m : Marker) (is : List ℕ) (s : State)
     → Levels s.core (end_blocks column m is s).core
 blocks_levels column m [] s = by_test (is_right_of column s.core.indent) _ _ (λ (t : State). Levels s.core t.core)
-    (λ _. outer_indent_levels s.core.outer_indents s.core) (λ _. record { level = refl; outer = refl })
+    (λ _. outer_indent_levels s.core.outer_indents s.core) (λ _. record { level = refl; outer = refl; required = refl })
 blocks_levels column m (i ∷ is) s = by_test (is_right_of column s.core.indent) _ _ (λ (t : State). Levels s.core t.core)
     (λ _. levels_levels s.core (end_block m s).core (end_blocks column m is (end_block m s)).core
     (outer_indent_levels s.core.outer_indents s.core) (blocks_levels column m is (end_block m s)))
-    (λ _. record { level = refl; outer = refl })
+    (λ _. record { level = refl; outer = refl; required = refl })
+
+pub unrolled_required : (column : Option ℕ) (m : Marker) (s : State)
+    → (unroll column m s).core.required ≡ s.core.required
+unfolding unroll
+unrolled_required column m s = by_test (in_block s.core) _ _ (λ (t : State). t.core.required ≡ s.core.required)
+    (λ _. (blocks_levels column m s.core.outer_indents (with_core (go_less_deep column s.core) s)).required
+    ∙ less_required column s.core) (λ _. refl)
+  where
+    less_required : (column : Option ℕ) (c : Core) → (go_less_deep column c).required ≡ c.required
+    less_required column c = grind arith
