@@ -1,41 +1,55 @@
 #!/usr/bin/env python3
 """How many answers a text has: all lists of events without a fault that are taken from it and are not the parser's.
 
-    tests/answers.py [--length N] [--random COUNT] [--longest N] [--seed SEED] [--alphabet CHARACTERS] [--most N]
-    tests/answers.py [--most N] TEXT..
+    tests/answers.py [--length N] [--random COUNT] [--longest N] [--seed SEED] [--alphabet CHARACTERS]
+    tests/answers.py --tokens [--length N]
+    tests/answers.py --small
+    tests/answers.py TEXT..
     tests/answers.py --cases [--longest N] [FILE..]
 
 The definitions say when a list of events is taken from a text (`AreTaken`), and many lists may be. This searches them
-all, for each TEXT, or for all texts of up to N characters (3) of an alphabet and COUNT random ones (0) of up to
-`--longest` (12). Texts that the parser refuses are left out. What it answers is what the program prints, as `rt ci` or
-`rt run` in crates/dump_events left it in out/, or another that `--program` names.
+all, for each TEXT; or for all texts of up to N characters (3) of an alphabet and COUNT random ones (0) of up to
+`--longest` (12); or for all texts of up to N tokens (7) of each alphabet of `TOKENS`. `--small` has a few thousand of
+both. Texts that the parser refuses count too: a parser that gave such a list for one would meet the definitions.
+
+What the parser answers is what the program prints, as `rt ci` or `rt run` in crates/dump_events left it in out/, or
+another that `--program` names. `--against PROGRAM` names a program over the Rust crate (see tests/against_crate.py),
+which is asked in its place, many texts at once; of what is found the program is asked again. `--jobs N` has N
+processors.
 
 A method of `Search` is a definition: given a place, it yields each way in which tokens from there on meet it, with what
-they tell, the place behind them, and the open conditions that they break. `OPEN` names these: what no definition asks.
-An answer that isn't the parser's is counted under the fewest conditions that it breaks; one that breaks more than N (1)
-isn't searched. `-` stands for an answer that breaks none: a class without a name, which wants a condition. A definition
-that comes to ask a condition takes its name out of `OPEN`, and what breaks it is no answer any more.
+they tell and the place behind them. `OPEN` names what is known that no definition asks: the search keeps to these
+conditions too, and an answer that is taken for the want of one is counted under its name. `-` stands for an answer that
+keeps to all: a class without a name, which wants a condition. A definition that comes to ask a condition takes its name
+out of `OPEN`. A list of a refused text that the grammar of YAML has without E1 to E8 is the right one; such lists are
+counted under `of YAML`.
+
+A list that a fault ends may end anywhere, and differ from the parser's before. What matters most is counted: whole
+documents, from the text's start, that are given before a fault, and that the parser doesn't give. The definitions take
+some of them, each with the tokens that it needs: the end of a collection is never made up.
 
 With `--cases` what the files of test_cases store, or FILEs like them, is held against the definitions, for texts of up
-to 700 characters: each answer without a fault has to be taken from its text by tokens that break no condition. One that
-a fault ends has to begin so, but for `WAIVED`: the parser may tell a value before it finds that a key's colon is
-missing, and end a single pair by a brace before a bracket is one too many. (An alias may name any anchor there, and a
-tag is compared up to its prefix.)
+to 700 characters: each answer without a fault has to be taken from its text. One that a fault ends has to begin so, but
+for `WAIVED`: the parser may tell a value before it finds that a key's colon is missing, and end a single pair by a
+brace before a bracket is one too many. (An alias may name any anchor there, and a tag is compared up to its prefix.)
 
-What it doesn't tell: other lists that end in a fault; spans, of which each list has many; texts whose answers break
-several conditions at once; and answers with more than `--bare` (2) starts and keys without a text at one place, of
-which the definitions take two at most.
+What it doesn't tell: spans, of which each list has many; and answers with more than `--bare` (2) starts and keys
+without a text at one place, of which the definitions take two at most.
 """
 import argparse
 import collections
 import functools
 import itertools
+import multiprocessing
 import os
 import random
 import re
 import subprocess
 import sys
+import tempfile
 import threading
+
+from recognizer import Grammar, printed as printed_forest
 
 TOP = os.path.dirname(os.path.dirname(os.path.abspath(__file__)))
 PROGRAM, DATA = TOP + "/crates/dump_events/out/dump_events", TOP + "/crates/test_cases/data/"
@@ -43,6 +57,13 @@ ALPHABET = "a:-?#[]{},&!*|>\"' \n"
 PIECES = ["a", "a ", "a: ", ": ", ":\n", "- ", "-\n", "? ", "\n ", "\n  ", "\n- ", "\n: ", "\n? ", "\na: ", "&a ",
           "&a\n", "!a ", "*a ", "|\n", ">\n", "--- ", "\n...\n", " #", "[a", "{a", ", ", "a\n", '"a"', "'a'", "%TAG ",
           "%a\n"]
+# alphabets of tokens
+TOKENS = [
+    ["- ", "a", "\n", " "], ["? ", ": ", "a", "\n"], [": ", "a", "\n", " "], ["[", "]", "a", "\n"],
+    ["[", ", ", ": ", "]"], ["{", "}", "a", ": "], ["[", "? ", ": ", "a"], ["|", "\n", " ", "a"],
+    ["#", " ", "\n", "a"], ['"', "\n", " ", "a"], ["&a ", "a", "\n", ": "], ["- ", "? ", ": ", "\n"],
+    ["---", "\n", "a", " "], ["- ", "&a\n", ": ", "a"], ["!a ", "*a", "&a ", "\n"],
+]
 END, MARK, BLANK, BREAK, FLOW = "\0", "\ufeff", " \t", "\n\r", ",[]{}"
 WHITE, BREAKZ, BLANK_OR_BREAKZ = BLANK + BREAK, BREAK + END, BLANK + BREAK + END
 WORD = "0123456789abcdefghijklmnopqrstuvwxyzABCDEFGHIJKLMNOPQRSTUVWXYZ-"
@@ -58,6 +79,8 @@ ROOT = -1
 # What stands at a place: white space and comments, a name, percent escapes, a handle, the parts of directives, and of a
 # block scalar its header and the lines of spaces before its content.
 APART = re.compile(r"(?:[ \t\n\r]|#[^\0\n\r\ufeff]*)*")
+TIGHT = re.compile(r"(?<![ \t\n\r:\ufeff])(?!\A)#")
+BEFORE_BLOCK = re.compile(r"(?:[ \t\ufeff]|[-?:](?=[ \t]))*")
 NAME = re.compile(r"[^\0 \t\n\r\ufeff,\[\]{}]+")
 BYTES = re.compile("(?:%[0-9a-fA-F]{2})+")
 NAMED_HANDLE = re.compile("![0-9A-Za-z_-]*!")
@@ -70,17 +93,26 @@ RESERVED = re.compile(r"%([^\0 \t\n\r\ufeff]+)(?:[ \t][^\0\n\r\ufeff]*)?")
 HEADER = re.compile(r"[|>]([1-9]?)([-+]?)([1-9]?)[ \t]*(?:(?<=[ \t])#[^\0\n\r\ufeff]*)?(\r\n|\r|\n)?")
 LEADING = re.compile(r"[ \n\r]*")
 
-# What no definition asks, by a name: what it says, with a smallest text and an answer of it that is taken for the want of
-# this alone. Today the definitions ask everything that is known.
-OPEN = {}
+# What no definition asks, by a name: a smallest text, an answer of it that is taken for the want of this alone, and what
+# a text has where it may be wanted.
+OPEN = {
+    # 6.6: it is asked of what is inside a token's span alone
+    "a blank before a comment": ("[]#", "+SEQ / -SEQ", r"\S#"),
+    # [126], of `-` alone
+    "no indicator behind a dash": ("[-]", "+SEQ / =VAL :- / -SEQ", r"-[,\[\]{}]"),
+    # E8: of YAML, unless the mapping is on the line of a colon
+    "something behind a question mark": ("?", "+MAP / =VAL : / =VAL : / -MAP", r"\?\Z"),
+    # [183], [187]: it begins on a line of its own, or behind `-`, `?` or the colon of no key
+    "the line of a block collection": ("a: -", "+MAP / =VAL :a / +SEQ / =VAL : / -SEQ / -MAP", r"\S[ \t]+[^\s#]"),
+}
 WAIVED = "key with a colon", "own braces"
-BITS = {name: 1 << number for number, name in enumerate(OPEN)}
-REFUSED = (1 << 64) - 1
+ASKED, REFUSED = 0, 1
 
 # A place: its index and column; whether the last token that has a text is a quoted scalar or the end of a flow
 # collection; how many starts and keys without a text stand there; and how many events were told before, where they are
 # known (`Search.known`).
 Place = collections.namedtuple("Place", "index col ends_json bare told")
+START = Place(0, 0, False, 0, 0)
 Leaf = collections.namedtuple("Leaf", "name anchor tag style value")
 Opening = collections.namedtuple("Opening", "name anchor tag")
 Reference = collections.namedtuple("Reference", "name anchor_name")
@@ -88,26 +120,14 @@ Document = collections.namedtuple("Document", "name explicit prefixes")
 Bracket = collections.namedtuple("Bracket", "name")
 
 
-@functools.lru_cache(None)
-def count_of(broken):
-    return bin(broken).count("1")
-
-
 def way(yields):
-    """A definition whose ways are found once for each place, each with the fewest open conditions that it breaks."""
+    """A definition whose ways are found once for each place."""
     @functools.wraps(yields)
     def found(self, *given):
         key = yields, given
         if key not in self.known_ways:
-            least = {}
-            for told, behind, broken in yields(self, *given):
-                if self.may(broken):
-                    others = least.get((told, behind))
-                    if others is None:
-                        least[told, behind] = [broken]
-                    elif not any(it & broken == it for it in others):
-                        others[:] = [it for it in others if it & broken != broken] + [broken]
-            self.known_ways[key] = [(*it, broken) for it, others in least.items() for broken in others]
+            ways = dict.fromkeys(it[:2] for it in yields(self, *given) if self.may(it[2]))
+            self.known_ways[key] = [(*it, ASKED) for it in ways]
         return self.known_ways[key]
     return found
 
@@ -186,23 +206,24 @@ def block_value(style, chomping, indentation, text, is_at_end):
 
 
 class Search:
-    """The answers of a text, or with the events `known`, whether these are one."""
+    """The answers of a text, or with the events `known`, whether these are one. What is waived isn't asked."""
 
-    def __init__(self, text, most, bare, known=None, waived=()):
-        self.text, self.most, self.most_bare, self.known, self.waived = text, most, bare, known, waived
+    def __init__(self, text, bare, waived=(), known=None):
+        self.text, self.most_bare, self.waived, self.known = text, bare, waived, known
         self.known_ways, self.furthest = {}, 0
         self.line_starts, self.behind_white = [0], []
         for index in range(len(text)):
             self.line_starts.append(index + 1 if self.ends_line(index) else self.line_starts[-1])
         for index in range(len(text) + 1):
-            self.behind_white.append(APART.match(text, index).end())
+            is_tight = TIGHT.match(text, index) and "a blank before a comment" not in waived
+            self.behind_white.append(index if is_tight else APART.match(text, index).end())
 
     def at(self, index):
         return self.text[index] if index < len(self.text) else END
 
     def unless(self, name, holds):
         """What a way breaks that should meet a condition."""
-        return 0 if holds or name in self.waived else BITS.get(name, REFUSED)
+        return ASKED if holds or name in self.waived else REFUSED
 
     def tell(self, place, part):
         """The part as what is told, if it may be told at a place."""
@@ -214,8 +235,8 @@ class Search:
         return [((), place._replace(told=place.told + 1))]
 
     def may(self, broken):
-        """Whether a way may break so much."""
-        return count_of(broken) <= self.most
+        """Whether a way breaks nothing."""
+        return not broken
 
     # ## saphyr_input: Places.antt, and saphyr_scalar: Spelling/LineBreaks.antt, Passing.antt
     def is_document_indicator(self, index):
@@ -273,7 +294,8 @@ class Search:
         """Whether a `?` begins a key, and the place behind that (IsQuestionMark, IsKeyStart)."""
         if context != IN_FLOW and place.col != column:
             return
-        if self.at(place.index) == "?" and self.at(place.index + 1) in BLANK_OR_BREAKZ:
+        is_last = place.index + 1 == len(self.text) and not self.may(self.unless("something behind a question mark", False))
+        if self.at(place.index) == "?" and self.at(place.index + 1) in BLANK_OR_BREAKZ and not is_last:
             yield True, self.along(place, 1)
         yield from ((False, t) for t in self.without_text(place))
 
@@ -394,6 +416,8 @@ class Search:
         """Whether a piece has no indicator that ends it inside flow (IsSafeInFlow), or begins none outside."""
         if context != IN_FLOW:
             return piece[0] not in "|>"
+        if piece == "-" and following in FLOW and not self.may(self.unless("no indicator behind a dash", False)):
+            return False
         return not set(piece) & set(FLOW) and not (piece[-1] == ":" and following in FLOW)
 
     # ## Spelling/Quoted.antt, Spelling/QuotedMarkers.antt and Spelling/IndentedQuotes.antt
@@ -496,16 +520,23 @@ class Search:
     # ## Grammar/TokenGrammar.antt. `column` is that of the innermost open block collection. A context says where a node
     # stands.
     @way
-    def properties(self, place, context):
+    def properties(self, place, context, column):
         """No property, an anchor, a tag or both (YieldProperties)."""
         yield (None, None), place, 0
         here = self.apart(place)
-        for anchor, t in self.name_tokens(here, "&"):
+        for anchor, t in self.name_tokens(here, "&") if self.is_indented(here, context, column) else []:
             yield (anchor, None), t, 0
-            yield from (((anchor, tag), u, 0) for tag, u in self.tag_tokens(self.apart(t), context))
-        for tag, t in self.tag_tokens(here, context):
+            tags = self.tag_tokens(self.apart(t), context) if self.is_indented(self.apart(t), context, column) else []
+            yield from (((anchor, tag), u, 0) for tag, u in tags)
+        for tag, t in self.tag_tokens(here, context) if self.is_indented(here, context, column) else []:
             yield (None, tag), t, 0
-            yield from (((anchor, tag), u, 0) for anchor, u in self.name_tokens(self.apart(t), "&"))
+            names = self.name_tokens(self.apart(t), "&") if self.is_indented(self.apart(t), context, column) else []
+            yield from (((anchor, tag), u, 0) for anchor, u in names)
+
+    def is_indented(self, place, context, column):
+        """Whether a token of a flow node may begin here: outside brackets right of the innermost block collection,
+        unless it is of an implicit key (AreIndented)."""
+        return context in (IN_FLOW, AS_BLOCK_KEY) or place.col > column
 
     def left_out(self, place):
         return [(told, t, 0) for told, t in self.tell(place, Leaf("=VAL", None, None, "plain", ""))]
@@ -519,9 +550,9 @@ class Search:
     def node(self, place, context, column):
         """A node (YieldsNode)."""
         here = self.apart(place)
-        for name, t in self.name_tokens(here, "*"):
+        for name, t in self.name_tokens(here, "*") if self.is_indented(here, context, column) else []:
             yield from ((told, u, 0) for told, u in self.tell(t, Reference("=ALI", name)))
-        for (anchor, tag), t, broken in self.properties(place, context):
+        for (anchor, tag), t, broken in self.properties(place, context, column):
             content, has_property = self.apart(t), (anchor, tag) != (None, None)
             if self.may(broken):
                 ways = self.flow_content(t, context, column, anchor, tag)
@@ -534,10 +565,12 @@ class Search:
     def flow_content(self, place, context, column, anchor, tag):
         """What no block collection is: a scalar, which may be left out behind a property, or a flow collection."""
         content = self.apart(place)
-        for style, value, t in self.scalar_tokens(content, context, column):
-            yield from ((told, u, 0) for told, u in self.tell(t, Leaf("=VAL", anchor, tag, style, value)))
         if (anchor, tag) != (None, None):
             yield from ((told, t, 0) for told, t in self.tell(place, Leaf("=VAL", anchor, tag, "plain", "")))
+        if not self.is_indented(content, context, column):
+            return
+        for style, value, t in self.scalar_tokens(content, context, column):
+            yield from ((told, u, 0) for told, u in self.tell(t, Leaf("=VAL", anchor, tag, style, value)))
         for name, collection in (("+SEQ", self.flow_sequence), ("+MAP", self.flow_mapping)):
             if name == "+MAP" or self.at(content.index) == "[":
                 for told, t in self.tell(content, Opening(name, anchor, tag)):
@@ -660,7 +693,9 @@ class Search:
     def block_collection(self, place, context, column, anchor, tag):
         """A block sequence or mapping, from its start on (YieldsSequence, YieldsMapping)."""
         key = self.unless("flow key", context != AS_BLOCK_KEY)
-        for t in self.without_text(place) if place.col > column and self.may(key) else []:
+        front = self.text[self.line_starts[place.index]:place.index]
+        starts = key | self.unless("the line of a block collection", BEFORE_BLOCK.fullmatch(front))
+        for t in self.without_text(place) if place.col > column and self.may(starts) else []:
             for name in ("SEQ", "MAP"):
                 for told, u in self.tell(t, Opening("+" + name, anchor, tag)):
                     ways = self.block_entries(u, place.col) if name == "SEQ" else self.block_pairs(u, place.col, False)
@@ -750,15 +785,18 @@ class Search:
                 yield told + others, u, broken | more
 
     def answers(self):
-        """The parts of each answer, and the fewest conditions that it breaks (Yields, AreTakenFrom)."""
-        start = Place(0, 0, False, 0, 0)
-        for told, t in self.tell(start, Bracket("+STR")):
-            for others, _, broken in self.documents(self.marks(t, True), True):
-                yield told + others, broken
+        """The parts of each answer (Yields, AreTakenFrom)."""
+        for told, t in self.tell(START, Bracket("+STR")):
+            for others, _, _ in self.documents(self.marks(t, True), True):
+                yield told + others
 
+    def first_documents(self):
+        """The parts of each document that may come first, whatever follows it."""
+        for told, _, _ in self.document(self.marks(START, True), True):
+            yield told
 
     def reached(self):
-        """How many of the known events begin an answer, as far as this breaks no condition by then."""
+        """How many of the known events begin an answer."""
         collections.deque(self.answers(), maxlen=0)
         return self.furthest
 
@@ -810,72 +848,170 @@ def is_line_of(line, part):
 
 # ## The parser's own answers
 def answer_of(program, text):
-    """What the program prints of a text, or None where it refuses it."""
+    """The lines that the program prints of a text, and whether a fault ends them."""
     ran = subprocess.run([program], input=text.encode(), capture_output=True)
-    return None if ran.returncode else ran.stdout.decode()
+    return tuple(ran.stdout.decode().split("\n")[:-1]), bool(ran.returncode)
 
 
-def names_of(broken):
-    return " and ".join(name for name, bit in BITS.items() if broken & bit) or "-"
+def answers_by_crate(program, texts):
+    """The same of many texts, by a program over the Rust crate."""
+    with tempfile.NamedTemporaryFile() as file:
+        for text in texts:
+            file.write(b"%d\n%b" % (len(text.encode()), text.encode()))
+        file.flush()
+        said = subprocess.run([program, "--batch", file.name], capture_output=True, check=True).stdout
+    at = 0
+    while at < len(said):
+        begin = said.index(b"\n", at) + 1
+        at = begin + int(said[at:begin])
+        *lines, last = said[begin:at].decode().split("\n")[:-1]
+        is_cut = last.startswith("!! ")
+        yield tuple(lines if is_cut else [*lines, last]), is_cut
+
+
+def own_answers(words, texts):
+    if words.against:
+        return answers_by_crate(words.against, texts)
+    return (answer_of(words.program, text) for text in texts)
+
+
+# ## What is found
+def lines_of(told):
+    """The printed lines of the parts of each answer that has events."""
+    lists = (events(parts) for parts in told)
+    return {tuple("+DOC" if it[:4] == "+DOC" else it for it in lines) for lines in lists if lines is not None}
+
+
+class Finds(collections.defaultdict):
+    """Of each class its texts, its answers, and a smallest text with an answer."""
+
+    def __init__(self):
+        super().__init__(lambda: [0, 0, None])
+
+    def add(self, name, text, answers):
+        find = self[name]
+        find[0] += 1
+        find[1] += len(answers)
+        self.keep(name, (len(text), text, min(answers, key=lambda it: (len(it), it))))
+
+    def keep(self, name, smallest):
+        self[name][2] = min(it for it in (self[name][2], smallest) if it)
+
+    def __iadd__(self, other):
+        for name, (texts, answers, smallest) in other.items():
+            self[name][0] += texts
+            self[name][1] += answers
+            self.keep(name, smallest)
+        return self
+
+    def show(self, what):
+        for name, (texts, answers, (_, text, answer)) in sorted(self.items(), key=lambda it: (it[0] != "-", -it[1][0])):
+            print(f"{texts:9,} {what}, {answers:9,} answers  {name}\n{'':11}{text!r} as {' / '.join(answer)}")
 
 
 class Count:
-    """What was found: of each class its answers, its texts, and a smallest text with an answer."""
+    """What was found of texts that the parser reads, of those that it refuses, and of documents before a fault."""
 
     def __init__(self):
-        self.texts, self.read, self.several, self.not_taken = 0, 0, 0, []
-        self.found, self.having, self.smallest = collections.Counter(), collections.Counter(), {}
+        self.texts, self.read, self.not_taken = 0, 0, []
+        self.second, self.refused, self.documents = Finds(), Finds(), Finds()
 
-    def add(self, text, own, most, bare):
+    def __iadd__(self, other):
+        self.texts += other.texts
+        self.read += other.read
+        self.not_taken += other.not_taken
+        self.second += other.second
+        self.refused += other.refused
+        self.documents += other.documents
+        return self
+
+    def add(self, text, words, own=None):
+        """Counts a text with the parser's own answer. If there is a find, that is the program's."""
+        lines, is_cut = own or answer_of(words.program, text)
+        search = Search(text, words.bare)
+        strict, first = lines_of(search.answers()), lines_of(search.first_documents())
+        is_open = any(re.search(pattern, text) for _, _, pattern in OPEN.values())
+        wide = lines_of(Search(text, words.bare, OPEN).answers()) if is_open else strict
+        others = wide if is_cut else wide - {lines}
+        first.discard(lines[1:lines.index("-DOC") + 1] if "-DOC" in lines else ())
+        if own and words.against and (others or first or not is_cut and lines not in strict):
+            return self.add(text, words)
         self.texts += 1
-        if own is None:
-            return
-        self.read += 1
-        taken, others = False, {}
-        for parts, broken in Search(text, most, bare).answers():
-            answer = events(parts)
-            if answer is None:
-                continue
-            if own == "".join(("+DOC" if line[:4] == "+DOC" else line) + "\n" for line in answer):
-                taken = taken or not broken
-            else:
-                others.setdefault(answer, set()).add(broken)
-        if not taken:
+        self.read += not is_cut
+        if not is_cut and lines not in strict:
             self.not_taken.append(text)
-        self.several += bool(others)
-        classes = collections.defaultdict(list)
-        for answer, breaks in others.items():
-            least = min(count_of(it) for it in breaks)
-            for broken in breaks:
-                if bin(broken).count("1") == least:
-                    classes[names_of(broken)].append(answer)
-        for name, answers in classes.items():
-            self.found[name] += len(answers)
-            self.having[name] += 1
-            if name not in self.smallest or len(text) < len(self.smallest[name][0]):
-                self.smallest[name] = text, min(answers, key=len)
+        finds = self.refused if is_cut else self.second
+        for name, answers in self.classes(text, others, strict, words.bare) if others else []:
+            finds.add(name, text, answers)
+        if first:
+            self.documents.add("before a fault", text, first)
+
+    @staticmethod
+    def classes(text, others, strict, bare):
+        """The other answers by names: what YAML has, what keeps to all conditions, and what breaks one or several."""
+        left = others - {tuple((it or "").split("\n")[:-1]) for it in map(printed_forest, forests_of(text))}
+        found = {"of YAML": others - left, "-": left & strict}
+        for name in OPEN if left - strict else []:
+            found[name] = (left - strict) & lines_of(Search(text, bare, [name]).answers())
+        found["several"] = left.difference(*found.values())
+        return ((name, answers) for name, answers in found.items() if answers)
 
     def show(self):
-        for name, number in sorted(self.having.items(), key=lambda it: (it[0] != "-", -it[1])):
-            text, answer = self.smallest[name]
-            print(f"{number:9,} texts, {self.found[name]:9,} answers  {name}")
-            print(f"{'':21}{text!r} as {' / '.join(answer[1:-1])}")
+        self.second.show("texts that are read")
+        self.refused.show("refused texts")
+        self.documents.show("texts with other first documents")
         for text in self.not_taken[:20]:
             print(f"the parser's answer breaks a condition, or is not taken: {text!r}")
-        print(f"{self.texts:,} texts, of which the parser reads {self.read:,}: {self.several:,} have other answers, "
-              f"and of {len(self.not_taken):,} its own is not taken")
+        print(f"{self.texts:,} texts, of which the parser reads {self.read:,}: of {len(self.not_taken):,} its own answer "
+              f"is not taken")
+
+    def is_wrong(self):
+        return bool(self.not_taken or "-" in self.second or "-" in self.refused)
+
+
+def forests_of(text):
+    """The forests of a text by YAML's grammar without E1 to E8."""
+    return Grammar(text, frozenset()).forests()
+
+
+def small_texts(words):
+    """All texts of a few characters of the alphabet, and of a few tokens of each of the others, each once."""
+    if not words.tokens:
+        for length in range((words.length or 3) + 1):
+            yield from map("".join, itertools.product(words.alphabet, repeat=length))
+    if words.tokens or words.small:
+        most = words.length or (4 if words.small else 7)
+        lists = (itertools.product(it, repeat=count) for it in TOKENS for count in range(most + 1))
+        yield from map("".join, itertools.chain.from_iterable(lists))
 
 
 def texts_of(words):
-    alphabet, drawn = words.alphabet, random.Random(words.seed)
-    for length in range(words.length + 1):
-        yield from map("".join, itertools.product(alphabet, repeat=length))
-    pieces = [it for it in PIECES if set(it) <= set(alphabet)] + list(alphabet)
+    yield from dict.fromkeys(small_texts(words))
+    drawn = random.Random(words.seed)
+    pieces = [it for it in PIECES if set(it) <= set(words.alphabet)] + list(words.alphabet)
     for number in range(words.random):
-        text, length = "", drawn.randrange(words.length + 1, (words.longest or 12) + 1)
+        text, length = "", drawn.randrange((words.length or 3) + 1, (words.longest or 12) + 1)
         while len(text) < length:
-            text += drawn.choice(pieces if number % 2 else alphabet)
+            text += drawn.choice(pieces if number % 2 else words.alphabet)
         yield text[:length]
+
+
+def count_of(words, texts):
+    count = Count()
+    for text, own in zip(texts, own_answers(words, texts)):
+        count.add(text, words, own)
+    return count
+
+
+def counts(words):
+    """The counts of some texts after the other."""
+    texts = texts_of(words)
+    parts = iter(lambda: list(itertools.islice(texts, 500)), [])
+    go = functools.partial(count_of, words)
+    if words.jobs == 1:
+        return map(go, parts)
+    # a process that is forked here has this thread's stack
+    return multiprocessing.get_context("fork").Pool(words.jobs).imap_unordered(go, parts)
 
 
 # ## The stored answers
@@ -900,11 +1036,10 @@ def check_cases(words):
             if len(text) > (words.longest or 700):
                 continue
             count[is_cut] += 1
-            if is_cut and Search(text, 0, words.bare, told, WAIVED).reached() < len(told):
+            if is_cut and Search(text, words.bare, WAIVED, told).reached() < len(told):
                 wrong["a beginning"].append((len(text), name, text))
-            elif not is_cut and not any(Search(text, 0, words.bare, told).answers()):
-                breaks = [broken for _, broken in Search(text, words.most, words.bare, told).answers()]
-                wrong[names_of(min(breaks)) if breaks else "not taken"].append((len(text), name, text))
+            elif not is_cut and not any(Search(text, words.bare, (), told).answers()):
+                wrong["not taken"].append((len(text), name, text))
     for name, cases in sorted(wrong.items()):
         print(f"{len(cases):9,}  {name}")
         for _, case, text in sorted(cases)[:5]:
@@ -915,24 +1050,26 @@ def check_cases(words):
 
 
 def check_open(words):
-    """Whether each open condition is one: its text has its answer, by tokens that break this alone."""
+    """Whether each open condition is one: its text has its answer for the want of this alone."""
     wrong = []
-    for name, (_, text, answer) in OPEN.items():
-        known = ["+STR", *(answer if "DOC" in answer else f"+DOC / {answer} / -DOC").split(" / "), "-STR"]
-        breaks = [broken for parts, broken in Search(text, 1, words.bare).answers() if events(parts) == tuple(known)]
-        if BITS[name] not in breaks:
-            wrong.append(f"{name} lets no answer {answer!r} of {text!r} through, but {[names_of(it) for it in breaks]}")
+    for name, (text, answer, _) in OPEN.items():
+        known = ("+STR", "+DOC", *answer.split(" / "), "-DOC", "-STR")
+        has = [known in lines_of(Search(text, words.bare, waived).answers()) for waived in ((), (name,))]
+        if has != [False, True]:
+            wrong.append(f"{name}: {answer!r} is not an answer of {text!r} for the want of this alone")
     print(*wrong, sep="\n", end="\n" * bool(wrong))
     return bool(wrong)
 
 
 def main():
-    words = argparse.ArgumentParser()
-    for name, number in dict(length=3, random=0, longest=0, seed=1, most=1, bare=2).items():
+    words = argparse.ArgumentParser(description=__doc__, formatter_class=argparse.RawDescriptionHelpFormatter)
+    for name, number in dict(length=0, random=0, longest=0, seed=1, bare=2, jobs=1).items():
         words.add_argument("--" + name, type=int, default=number)
     words.add_argument("--alphabet", default=ALPHABET)
     words.add_argument("--program", default=PROGRAM)
-    words.add_argument("--cases", action="store_true")
+    words.add_argument("--against")
+    for name in ("tokens", "small", "cases"):
+        words.add_argument("--" + name, action="store_true")
     words.add_argument("texts", nargs="*")
     words = words.parse_args()
     if check_open(words):
@@ -942,13 +1079,14 @@ def main():
     if not os.path.isfile(words.program):
         sys.exit(f"{words.program} is not built: run rt ci at the top of the repository, or rt run in the crate")
     count = Count()
-    for text in words.texts or texts_of(words):
-        own = answer_of(words.program, text)
-        count.add(text, own, words.most, words.bare)
-        if words.texts:
-            print(own or "refused")
+    for text in words.texts:
+        lines, is_cut = answer_of(words.program, text)
+        print(*lines, *["refused"] * is_cut, sep="\n")
+        count.add(text, words)
+    for part in [] if words.texts else counts(words):
+        count += part
     count.show()
-    return 1 if count.not_taken else 0
+    return 1 if count.is_wrong() else 0
 
 
 if __name__ == "__main__":

@@ -1,15 +1,21 @@
--- Whatever is open can be closed: a shortest completion of each state, whose events depend on nothing before them.
-use Rattle.std.proofs.Common.{◌≡◌, ◌≢◌, List, [], ◌∷◌, Some, refl, inl, inr}
+-- Whatever is open can be closed: a shortest completion of each state, whose events depend on nothing before them, and
+-- have its tokens.
+use Rattle.std.proofs.Common.{◌≡◌, ◌≢◌, List, [], ◌∷◌, ◌++◌, Some, refl, inl, inr}
+use Rattle.saphyr_scalar.specs.declared.scalar.position.Span.{Span}
 use Rattle.saphyr_scalar.specs.declared.scalar.style.ScalarStyle.TheVariants.{Plain}
 use Rattle.saphyr_scanner.specs.Grammar.Forest as forest
 use Rattle.saphyr_scanner.specs.Grammar.Forest.{NoNode, NoPair}
 use Rattle.saphyr_scanner.specs.Grammar.Tokens.{Kind, StreamStart, StreamEnd, BlockEnd, BlockEntry, FlowSequenceEnd, FlowMappingEnd, Value, scalar_token}
+use Rattle.saphyr_scanner.specs.Views.Tokens.{Piece}
 use Rattle.saphyr_scanner.specs.Grammar.TokenGrammar.{InFlow, InBlock, InBlockMapping}
 use Rattle.saphyr_machine.specs.declared.state.State.{State}
 use Rattle.saphyr_machine.specs.declared.state.State.TheVariants as state
-use Rattle.event_laws.proofs.BareParts.{IsBarePart, AreBare}
-use Rattle.event_laws.specs.Preorder.{Part, OpenStream, CloseStream, CloseDocument, Reference, Leaf, OpenSequence, CloseSequence, OpenMapping, CloseMapping}
-use Rattle.saphyr_machine.specs.Events.{Happening}
+use Rattle.event_laws.proofs.BareParts.{AreBare}
+use Rattle.event_laws.specs.EventsTaken.{BelongsToNone, IsOf, HaveTokens, nowhere, unplaced_events, unplaced_tokens}
+use Rattle.event_laws.specs.EventsTaken as taking
+use Rattle.event_laws.specs.Preorder.{Part, OpenStream, CloseStream, CloseDocument, Leaf, CloseSequence, CloseMapping}
+use Rattle.saphyr_machine.specs.Events.{Happening, empty_scalar}
+use Rattle.saphyr_machine.specs.Events as events
 use Rattle.event_laws.proofs.Told.Telling.{Memory}
 use Rattle.event_laws.proofs.Remembering.{after, event_in, events_in}
 use Rattle.event_laws.proofs.Turned.Following.{Claim, Then, Exactly, IsNodeOf, IsOptionalOf, IsSkipped, IsAnyValueOf, FirstEntries, OtherEntries, FirstPairs, OtherPairs, BlockEntries, BlockPairs, InSequence, AtPairEnd, AtPairValue, InMapping, InBlockPairs, FollowsStates, IsOutside, IsInsideDocument, IsAlive, Starts}
@@ -17,61 +23,93 @@ use Rattle.event_laws.proofs.Turned.Turning.{put}
 use Rattle.event_laws.proofs.Turned.Entries.{marked_value, any_value, collection_ends}
 use Rattle.event_laws.proofs.Turned.Block.{one_entry}
 
--- ## Parts that always have their events
+-- ## Events of parts, whatever was remembered before them
 
-bare_event : (p : Part) (e : Memory) → IsBarePart p → (w : Happening) × (event_in e p ≡ Some w)
-bare_event (Reference name) e b = elim b [ ]
-bare_event (Leaf p style value) e b = rw b (_, refl)
-bare_event (OpenSequence p) e b = rw b (_, refl)
-bare_event (OpenMapping p) e b = rw b (_, refl)
-bare_event _ e b = (_, refl)
+abbrev TellsAlways : List Part → List Happening → Type 0
+TellsAlways ps es = (e : Memory) → events_in e ps ≡ Some es
 
-pub bare_events : (ps : List Part) (e : Memory) → AreBare ps → (es : List Happening) × (events_in e ps ≡ Some es)
-bare_events [] e b = ([], refl)
-bare_events (p ∷ ps) e b =
-    let one : (w : Happening) × (event_in e p ≡ Some w) = bare_event p e b.0 in
-    let others : (es : List Happening) × (events_in (after p e) ps ≡ Some es) = bare_events ps (after p e) b.1 in (
-      one.0 ∷ others.0,
-      cc,
-    )
-
-pub some_events : (ps : List Part) (e : Memory) (b : AreBare ps) → ps ≢ [] → (bare_events ps e b).0 ≢ []
-unfolding bare_events
-some_events [] e b h = absurd (h refl)
-some_events (p ∷ ps) e b h = λ k. cc
+behind_part : (p : Part) (ps : List Part) (w : Happening) (es : List Happening)
+    → ((e : Memory) → event_in e p ≡ Some w) → TellsAlways ps es → TellsAlways (p ∷ ps) (w ∷ es)
+behind_part p ps w es h k e = cc (h e, k (after p e))
 
 -- ## Completions
+
+abbrev Have : List (Happening × Span) → List Piece → Type 0
+Have es ts = HaveTokens [] es ts
 
 pub record Completion (s : State) (ss : List State) : Type 0 where
   pub kinds : List Kind
   pub parts : List Part
+  pub told : List Happening
   pub follows : FollowsStates s ss kinds parts
   pub starts : (ahead : List Kind) → Starts s ahead kinds
   pub bare : AreBare parts
-  pub some : parts ≢ []
+  pub tells : (e : Memory) → events_in e parts ≡ Some told
+  pub have : HaveTokens [] (unplaced_events told) (unplaced_tokens kinds)
+  pub some : told ≢ []
 
-complete : (s : State) (ss : List State) (kinds : List Kind) (first : Part) (parts : List Part)
-    → FollowsStates s ss kinds (first ∷ parts) → ((ahead : List Kind) → Starts s ahead kinds)
-    → AreBare (first ∷ parts) → Completion s ss
-complete s ss kinds first parts follows starts bare = record {
+complete : (s : State) (ss : List State) (kinds : List Kind) (first : Part) (parts : List Part) (what : Happening)
+    (told : List Happening) → FollowsStates s ss kinds (first ∷ parts)
+    → ((ahead : List Kind) → Starts s ahead kinds) → AreBare (first ∷ parts)
+    → ((e : Memory) → event_in e first ≡ Some what) → TellsAlways parts told
+    → Have (unplaced_events (what ∷ told)) (unplaced_tokens kinds)
+    → Completion s ss
+complete s ss kinds first parts what told follows starts bare is others have = record {
   kinds = kinds;
   parts = first ∷ parts;
+  told = what ∷ told;
   follows = follows;
   starts = starts;
   bare = bare;
+  tells = behind_part first parts what told is others;
+  have = have;
   some = λ e. cc;
 }
 
+-- an event without a token
+alone : (what : Happening) {es : List (Happening × Span)} {ts : List Piece} → IsOf what nowhere [] (ts ++ [])
+    → Have es ts → Have ((what, nowhere) ∷ es) ts
+alone what {es} {ts} i h = taking.event what nowhere es [] ts i h
+
+-- an event with a token
+with_token : (what : Happening) (k : Kind) {es : List (Happening × Span)} {ts : List Piece}
+    → IsOf what nowhere (record { span = nowhere; kind = k } ∷ []) (ts ++ []) → Have es ts
+    → Have ((what, nowhere) ∷ es) (record { span = nowhere; kind = k } ∷ ts)
+with_token what k {es} {ts} i h = taking.event what nowhere es (record { span = nowhere; kind = k } ∷ []) ts i h
+
+passing : (k : Kind) {es : List (Happening × Span)} {ts : List Piece} → BelongsToNone k → Have es ts
+    → Have es (record { span = nowhere; kind = k } ∷ ts)
+passing k {es} {ts} b h = taking.passed es (record { span = nowhere; kind = k }) ts b h
+
+left_out : {es : List (Happening × Span)} {ts : List Piece} → Have es ts → Have ((empty_scalar, nowhere) ∷ es) ts
+left_out h = alone empty_scalar (inr (inr (refl, refl, refl, refl, refl))) h
+
 outside : (s : State) → IsOutside s → Completion s []
 outside state.StreamStart i = complete _ _ (StreamStart ∷ StreamEnd ∷ []) OpenStream (CloseStream ∷ [])
-    ([], ([], StreamEnd ∷ [], tt, refl, refl), refl) (λ ahead. tt) (tt, (tt, tt))
+    events.StreamStart (events.StreamEnd ∷ []) ([], ([], StreamEnd ∷ [], tt, refl, refl), refl) (λ ahead. tt)
+    (tt, (tt, tt)) (λ e. refl) (λ e. refl) (alone events.StreamStart refl (alone events.StreamEnd refl (taking.nothing _)))
 outside state.ImplicitDocumentStart i =
-    complete _ _ (StreamEnd ∷ []) CloseStream [] ([], [], StreamEnd ∷ [], tt, refl, refl, refl) (λ ahead. tt) (tt, tt)
+    complete _ _ (StreamEnd ∷ []) CloseStream [] events.StreamEnd [] ([], [], StreamEnd ∷ [], tt, refl, refl, refl)
+    (λ ahead. tt) (tt, tt) (λ e. refl) (λ e. refl) (alone events.StreamEnd refl (taking.nothing _))
 outside state.DocumentStart i =
-    complete _ _ (StreamEnd ∷ []) CloseStream [] ([], [], StreamEnd ∷ [], tt, refl, refl, refl) (λ ahead b. tt) (tt, tt)
-outside state.DocumentEnd i = complete _ _ (StreamEnd ∷ []) CloseDocument (CloseStream ∷ [])
-    ([], ([], [], StreamEnd ∷ [], tt, inl (refl, refl), refl), refl) (λ ahead. tt) (tt, (tt, tt))
+    complete _ _ (StreamEnd ∷ []) CloseStream [] events.StreamEnd [] ([], [], StreamEnd ∷ [], tt, refl, refl, refl)
+    (λ ahead b. tt) (tt, tt) (λ e. refl) (λ e. refl) (alone events.StreamEnd refl (taking.nothing _))
+outside state.DocumentEnd i = complete _ _ (StreamEnd ∷ []) CloseDocument (CloseStream ∷ []) events.DocumentEnd
+    (events.StreamEnd ∷ []) ([], ([], [], StreamEnd ∷ [], tt, inl (refl, refl), refl), refl) (λ ahead. tt)
+    (tt, (tt, tt)) (λ e. refl) (λ e. refl) (alone events.DocumentEnd refl (alone events.StreamEnd refl (taking.nothing _)))
 outside _ i = elim i [ ]
+
+mapping_closes : (ps : List Part) (es : List Happening) → TellsAlways ps es
+    → TellsAlways (CloseMapping ∷ ps) (events.MappingEnd ∷ es)
+mapping_closes ps es = behind_part CloseMapping ps events.MappingEnd es (λ e. refl)
+
+sequence_closes : (ps : List Part) (es : List Happening) → TellsAlways ps es
+    → TellsAlways (CloseSequence ∷ ps) (events.SequenceEnd ∷ es)
+sequence_closes ps es = behind_part CloseSequence ps events.SequenceEnd es (λ e. refl)
+
+pair_closes : (ps : List Part) (es : List Happening) → TellsAlways ps es
+    → TellsAlways (CloseMapping ∷ CloseSequence ∷ ps) (events.MappingEnd ∷ events.SequenceEnd ∷ es)
+pair_closes ps es h = mapping_closes (CloseSequence ∷ ps) (events.SequenceEnd ∷ es) (sequence_closes ps es h)
 
 abbrev leaf : Part
 leaf = Leaf forest.no_properties Plain []
@@ -106,58 +144,103 @@ pair_value R ks ps r = put (IsAnyValueOf InFlow) (AtPairEnd R) [] (leaf ∷ []) 
     (pair_ends R ks ps r)
 
 inside : (s other : State) (ss : List State) → IsInsideDocument s → Completion other ss → Completion s (other ∷ ss)
-inside state.DocumentContent o ss i c = complete _ _ c.kinds leaf c.parts
+inside state.DocumentContent o ss i c = complete _ _ c.kinds leaf c.parts empty_scalar c.told
     (put (IsOptionalOf InBlock) (FollowsStates o ss) [] (leaf ∷ []) c.kinds c.parts
     (forest.left_out, inl (refl, refl), refl) c.follows) (λ ahead. tt) (refl, c.bare)
-inside state.BlockNode o ss i c = complete _ _ (scalar_token Plain [] ∷ c.kinds) leaf c.parts
+    (λ e. refl) c.tells
+    (left_out c.have)
+
+inside state.BlockNode o ss i c = complete _ _ (scalar_token Plain [] ∷ c.kinds) leaf c.parts empty_scalar c.told
     (put (IsNodeOf InBlock) (FollowsStates o ss) (scalar_token Plain [] ∷ []) (leaf ∷ []) c.kinds c.parts
     (forest.left_out, ([], scalar_token Plain [] ∷ [], refl, inl refl, refl), refl) c.follows) (λ ahead. tt)
     (refl, c.bare)
-inside state.BlockSequenceEntry o ss i c = complete _ _ (BlockEnd ∷ c.kinds) CloseSequence c.parts
+    (λ e. refl) c.tells
+    (with_token empty_scalar (scalar_token Plain []) (inl (([], _, inl refl, refl, refl), refl)) c.have)
+
+inside state.BlockSequenceEntry o ss i c = complete _ _ (BlockEnd ∷ c.kinds) CloseSequence c.parts events.SequenceEnd c.told
     (collection_ends BlockEntries (FollowsStates o ss) (BlockEnd ∷ []) CloseSequence c.kinds c.parts
     (NoNode, refl, refl) c.follows) (λ ahead. tt) (tt, c.bare)
-inside state.IndentlessSequenceEntry o ss i c = complete _ _ (BlockEntry ∷ c.kinds) leaf (CloseSequence ∷ c.parts)
+    (λ e. refl) c.tells
+    (with_token events.SequenceEnd BlockEnd (inr (_, inr refl, refl)) c.have)
+
+inside state.IndentlessSequenceEntry o ss i c = complete _ _ (BlockEntry ∷ c.kinds) leaf (CloseSequence ∷ c.parts) empty_scalar (events.SequenceEnd ∷ c.told)
     (one_entry (Then (Exactly [] (CloseSequence ∷ [])) (FollowsStates o ss)) c.kinds (leaf ∷ CloseSequence ∷ c.parts)
     (put (IsOptionalOf InBlock) _ [] (leaf ∷ []) c.kinds (CloseSequence ∷ c.parts)
     (forest.left_out, inl (refl, refl), refl)
     (collection_ends BlockEntries (FollowsStates o ss) [] CloseSequence c.kinds c.parts (NoNode, refl, refl)
     c.follows))) (λ ahead b. tt) (refl, (tt, c.bare))
-inside state.BlockMappingKey o ss i c = complete _ _ (BlockEnd ∷ c.kinds) CloseMapping c.parts
+    (λ e. refl) (sequence_closes c.parts c.told c.tells)
+    (passing BlockEntry tt (left_out (alone events.SequenceEnd (inl refl) c.have)))
+
+inside state.BlockMappingKey o ss i c = complete _ _ (BlockEnd ∷ c.kinds) CloseMapping c.parts events.MappingEnd c.told
     (block_pairs_end (FollowsStates o ss) c.kinds c.parts c.follows) (λ ahead b. absurd b) (tt, c.bare)
-inside state.BlockMappingValue o ss i c = complete _ _ (Value ∷ BlockEnd ∷ c.kinds) leaf (CloseMapping ∷ c.parts) (inl
+    (λ e. refl) c.tells
+    (with_token events.MappingEnd BlockEnd (inr (_, inr refl, refl)) c.have)
+
+inside state.BlockMappingValue o ss i c = complete _ _ (Value ∷ BlockEnd ∷ c.kinds) leaf (CloseMapping ∷ c.parts) empty_scalar (events.MappingEnd ∷ c.told) (inl
     (marked_value InBlockMapping (InBlockPairs (FollowsStates o ss)) (BlockEnd ∷ c.kinds)
     (leaf ∷ CloseMapping ∷ c.parts)
     (put (IsOptionalOf InBlockMapping) (InBlockPairs (FollowsStates o ss)) [] (leaf ∷ []) _ _
     (forest.left_out, inl (refl, refl), refl) (block_pairs_end (FollowsStates o ss) c.kinds c.parts c.follows))))
     (λ ahead b. tt) (refl, (tt, c.bare))
-inside state.FlowSequenceFirstEntry o ss i c = complete _ _ (FlowSequenceEnd ∷ c.kinds) CloseSequence c.parts
+    (λ e. refl) (mapping_closes c.parts c.told c.tells)
+    (passing Value tt (left_out (with_token events.MappingEnd BlockEnd (inr (_, inr refl, refl)) c.have)))
+
+inside state.FlowSequenceFirstEntry o ss i c = complete _ _ (FlowSequenceEnd ∷ c.kinds) CloseSequence c.parts events.SequenceEnd c.told
     (collection_ends FirstEntries (FollowsStates o ss) (FlowSequenceEnd ∷ []) CloseSequence c.kinds c.parts
     (NoNode, refl, refl) c.follows) (λ ahead. tt) (tt, c.bare)
-inside state.FlowSequenceEntry o ss i c = complete _ _ (FlowSequenceEnd ∷ c.kinds) CloseSequence c.parts
+    (λ e. refl) c.tells
+    (with_token events.SequenceEnd FlowSequenceEnd (inr (_, inl refl, refl)) c.have)
+
+inside state.FlowSequenceEntry o ss i c = complete _ _ (FlowSequenceEnd ∷ c.kinds) CloseSequence c.parts events.SequenceEnd c.told
     (entries_end (FollowsStates o ss) c.kinds c.parts c.follows) (λ ahead. tt) (tt, c.bare)
+    (λ e. refl) c.tells
+    (with_token events.SequenceEnd FlowSequenceEnd (inr (_, inl refl, refl)) c.have)
+
 inside state.FlowSequenceEntryMappingKey o ss i c =
-    complete _ _ (FlowSequenceEnd ∷ c.kinds) leaf (leaf ∷ CloseMapping ∷ CloseSequence ∷ c.parts)
+    complete _ _ (FlowSequenceEnd ∷ c.kinds) leaf (leaf ∷ CloseMapping ∷ CloseSequence ∷ c.parts) empty_scalar (empty_scalar ∷ events.MappingEnd ∷ events.SequenceEnd ∷ c.told)
     (maybe (AtPairValue (FollowsStates o ss)) _ _ (pair_value (FollowsStates o ss) c.kinds c.parts c.follows))
     (λ ahead. tt) (refl, (refl, (tt, (tt, c.bare))))
+    (λ e. refl) (behind_part leaf (CloseMapping ∷ CloseSequence ∷ c.parts) empty_scalar
+    (events.MappingEnd ∷ events.SequenceEnd ∷ c.told) (λ e. refl) (pair_closes c.parts c.told c.tells))
+    (left_out (left_out (alone events.MappingEnd (inl refl) (with_token events.SequenceEnd FlowSequenceEnd (inr (_, inl refl, refl)) c.have))))
+
 inside state.FlowSequenceEntryMappingValue o ss i c =
-    complete _ _ (FlowSequenceEnd ∷ c.kinds) leaf (CloseMapping ∷ CloseSequence ∷ c.parts)
+    complete _ _ (FlowSequenceEnd ∷ c.kinds) leaf (CloseMapping ∷ CloseSequence ∷ c.parts) empty_scalar (events.MappingEnd ∷ events.SequenceEnd ∷ c.told)
     (pair_value (FollowsStates o ss) c.kinds c.parts c.follows) (λ ahead. tt) (refl, (tt, (tt, c.bare)))
+    (λ e. refl) (pair_closes c.parts c.told c.tells)
+    (left_out (alone events.MappingEnd (inl refl) (with_token events.SequenceEnd FlowSequenceEnd (inr (_, inl refl, refl)) c.have)))
+
 inside (state.FlowSequenceEntryMappingEnd place) o ss i c =
-    complete _ _ (FlowSequenceEnd ∷ c.kinds) CloseMapping (CloseSequence ∷ c.parts)
+    complete _ _ (FlowSequenceEnd ∷ c.kinds) CloseMapping (CloseSequence ∷ c.parts) events.MappingEnd (events.SequenceEnd ∷ c.told)
     (pair_ends (FollowsStates o ss) c.kinds c.parts c.follows) (λ ahead. tt) (tt, (tt, c.bare))
-inside state.FlowMappingFirstKey o ss i c = complete _ _ (FlowMappingEnd ∷ c.kinds) CloseMapping c.parts
+    (λ e. refl) (sequence_closes c.parts c.told c.tells)
+    (alone events.MappingEnd (inl refl) (with_token events.SequenceEnd FlowSequenceEnd (inr (_, inl refl, refl)) c.have))
+
+inside state.FlowMappingFirstKey o ss i c = complete _ _ (FlowMappingEnd ∷ c.kinds) CloseMapping c.parts events.MappingEnd c.told
     (collection_ends FirstPairs (FollowsStates o ss) (FlowMappingEnd ∷ []) CloseMapping c.kinds c.parts
     (NoPair, refl, refl) c.follows) (λ ahead. tt) (tt, c.bare)
-inside state.FlowMappingKey o ss i c = complete _ _ (FlowMappingEnd ∷ c.kinds) CloseMapping c.parts
+    (λ e. refl) c.tells
+    (with_token events.MappingEnd FlowMappingEnd (inr (_, inl refl, refl)) c.have)
+
+inside state.FlowMappingKey o ss i c = complete _ _ (FlowMappingEnd ∷ c.kinds) CloseMapping c.parts events.MappingEnd c.told
     (pairs_end (FollowsStates o ss) c.kinds c.parts c.follows) (λ ahead. tt) (tt, c.bare)
-inside state.FlowMappingValue o ss i c = complete _ _ (Value ∷ FlowMappingEnd ∷ c.kinds) leaf (CloseMapping ∷ c.parts)
+    (λ e. refl) c.tells
+    (with_token events.MappingEnd FlowMappingEnd (inr (_, inl refl, refl)) c.have)
+
+inside state.FlowMappingValue o ss i c = complete _ _ (Value ∷ FlowMappingEnd ∷ c.kinds) leaf (CloseMapping ∷ c.parts) empty_scalar (events.MappingEnd ∷ c.told)
     (any_value InFlow (InMapping (FollowsStates o ss)) _ _
     (marked_value InFlow (InMapping (FollowsStates o ss)) (FlowMappingEnd ∷ c.kinds) (leaf ∷ CloseMapping ∷ c.parts)
     (maybe (InMapping (FollowsStates o ss)) _ _ (pairs_end (FollowsStates o ss) c.kinds c.parts c.follows))))
     (λ ahead b. tt) (refl, (tt, c.bare))
-inside state.FlowMappingEmptyValue o ss i c = complete _ _ (FlowMappingEnd ∷ c.kinds) leaf (CloseMapping ∷ c.parts)
+    (λ e. refl) (mapping_closes c.parts c.told c.tells)
+    (passing Value tt (left_out (with_token events.MappingEnd FlowMappingEnd (inr (_, inl refl, refl)) c.have)))
+
+inside state.FlowMappingEmptyValue o ss i c = complete _ _ (FlowMappingEnd ∷ c.kinds) leaf (CloseMapping ∷ c.parts) empty_scalar (events.MappingEnd ∷ c.told)
     (skip (InMapping (FollowsStates o ss)) _ _ (pairs_end (FollowsStates o ss) c.kinds c.parts c.follows))
     (λ ahead. tt) (refl, (tt, c.bare))
+    (λ e. refl) (mapping_closes c.parts c.told c.tells)
+    (left_out (with_token events.MappingEnd FlowMappingEnd (inr (_, inl refl, refl)) c.have))
 inside _ o ss i c = elim i [ ]
 
 pub completed : (ss : List State) (s : State) → IsAlive s ss → Completion s ss

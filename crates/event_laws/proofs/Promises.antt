@@ -6,6 +6,7 @@ pub mod JsonEvents
 pub mod ReadsJson
 pub mod ReadsYaml
 pub mod CommonBeginnings
+pub mod EachForest
 pub mod ClosedTokens
 pub mod ReadsClosedYaml
 pub mod TakesEvents

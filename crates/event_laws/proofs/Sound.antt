@@ -1,5 +1,5 @@
 -- The events of any tokens are a beginning of some forest's.
-use Rattle.event_laws.specs.EventsTaken.{BeginsSomeForest, HaveTokens, IsAllUnless, IsCut}
+use Rattle.event_laws.specs.EventsTaken.{BeginsSomeForest, HaveTokens, IsAllUnless, IsCut, unplaced_events, unplaced_tokens}
 use Rattle.event_laws.specs.EventsTaken as taking
 use Rattle.event_laws.proofs.OwnTokens.{own_more}
 use Rattle.std.proofs.Common.{◌≡◌, ◌≢◌, ℕ, zero, suc, ◌+◌, ◌<◌, ◌≤◌, ◌^◌, Bool, true, false, List, [], ◌∷◌, ◌++◌, length, Option, Some, Result, Ok, Err, refl, sym, ap, ◌∙◌, inl, inr, append_assoc, append-nil, arith, length-append}
@@ -34,7 +34,7 @@ use Rattle.event_laws.proofs.Turned.Block as block
 use Rattle.event_laws.proofs.Turned.Documents.{Over, MovesOn, moves}
 use Rattle.event_laws.proofs.Turned.Documents as document
 use Rattle.event_laws.proofs.Turned.DocumentEnds as behind
-use Rattle.event_laws.proofs.Completions.{Completion, completed, bare_events, some_events}
+use Rattle.event_laws.proofs.Completions.{Completion, completed}
 use Rattle.event_laws.proofs.BareParts.{bare_anchors}
 use Rattle.event_laws.proofs.Happenings.{happenings_of}
 
@@ -98,6 +98,7 @@ pub record BeginsSomeParts (s : State) (ss : List State) (ts : List Piece) (e : 
   pub told : events_in e parts ≡ Some (happenings_of a ++ missing)
   pub few : anchors parts ≤ length read
   pub places : HaveTokens unread a.events read
+  pub have_expected : HaveTokens [] (unplaced_events missing) (unplaced_tokens expected)
   pub all_read : IsAllUnless a.fault unread
   pub all_expected : IsAllUnless a.fault expected
   pub all_given : IsCut a.fault missing
@@ -106,21 +107,21 @@ finishes_at_fault : (s : State) (ss : List State) (ts : List Piece) (e : Memory)
     → BeginsSomeParts s ss ts e (fault_alone (ending_of f))
 finishes_at_fault s ss ts e f a =
     let c : Completion s ss = completed ss s a in
-    let es : (es : List Happening) × (events_in e c.parts ≡ Some es) = bare_events c.parts e c.bare in
     record {
       read = [];
       unread = ts;
       expected = c.kinds;
       parts = c.parts;
-      missing = es.0;
+      missing = c.told;
       are_read = refl;
       wanted = (c.follows, c.starts (kinds ts));
-      told = es.1;
+      told = c.tells e;
       few = (let n = bare_anchors c.parts c.bare in omega (arith, n));
       places = taking.nothing [];
+      have_expected = c.have;
       all_read = tt;
       all_expected = tt;
-      all_given = some_events c.parts e c.bare c.some;
+      all_given = c.some;
     }
 
 events_joined : (part : Part) (ps : List Part) (e : Memory) (w : Happening) (es : List Happening)
@@ -148,6 +149,7 @@ finishes_behind_event s ss ts e x a g h = record {
       more_anchors (anchor_of g.part) (anchors h.parts) (length g.used) (length h.read) g.few h.few in
       omega (arith, l, m));
   places = own_more g.used h.read h.unread x.what x.span a.events (rw h.are_read at g.places) h.places;
+  have_expected = h.have_expected;
   all_read = h.all_read;
   all_expected = h.all_expected;
   all_given = h.all_given;
@@ -166,6 +168,7 @@ is_over s ss ts e x o = record {
   told = events_joined o.part [] e x.what [] o.tells refl;
   few = o.few;
   places = rw (append-nil ts) at (own_more ts [] [] x.what x.span [] o.places (taking.nothing []));
+  have_expected = taking.nothing [];
   all_read = refl;
   all_expected = refl;
   all_given = refl;
@@ -223,6 +226,7 @@ from_start tokens keep a l h =
         missing = h.missing;
         are_events = sym same ∙ rw are at h.told;
         places = h.places;
+        have_expected = h.have_expected;
         all_read = h.all_read;
         all_expected = h.all_expected;
         all_given = h.all_given;

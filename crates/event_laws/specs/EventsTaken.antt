@@ -1,6 +1,7 @@
 -- Which events are taken from a text (YAML 1.2.2, chapter 3): those of a forest, or a beginning of them and one fault,
--- where tokens that are taken from the text are those of the forest, or a beginning of them.
-use Rattle.std.specs.Prelude.{◌≡◌, ◌≢◌, ◌⊎◌, ℕ, Bool, true, List, [], ◌∷◌, ◌++◌, map, Option, Some, None}
+-- where tokens that are taken from the text are those of the forest, or a beginning of them. Before a fault they are a
+-- beginning of the events of each forest whose tokens begin with those.
+use Rattle.std.specs.Prelude.{◌≡◌, ◌≢◌, ◌⊎◌, ◌<◌, ◌^◌, ℕ, Bool, true, List, [], ◌∷◌, ◌++◌, map, Option, Some, None}
 use Rattle.saphyr_scalar.specs.declared.scalar.position.Span.{Span}
 use Rattle.saphyr_scalar.specs.declared.scalar.fault.FaultText.{FaultText}
 use Rattle.saphyr_scalar.specs.Texts.{fault_text}
@@ -11,14 +12,16 @@ use Rattle.saphyr_scanner.specs.Grammar.Tokens.{Kind}
 use Rattle.saphyr_scanner.specs.Views.Tokens.{Piece, Remaining}
 use Rattle.saphyr_scanner.specs.Grammar.TokenGrammar.{Yields}
 use Rattle.saphyr_scanner.specs.TokensTaken.{IsPlaceOf, AreTakenFrom}
-use Rattle.saphyr_machine.specs.Events.{Happening, DocumentStart, Alias, Scalar, SequenceStart, MappingStart}
+use Rattle.saphyr_machine.specs.Events.{Happening, DocumentStart, Alias, Scalar, SequenceStart, SequenceEnd, MappingStart, MappingEnd}
+use Rattle.event_laws.specs.Anchors.{anchors}
+use Rattle.event_laws.specs.Preorder.{parts}
 use Rattle.event_laws.specs.ForestEvents.{events}
 use Rattle.saphyr_machine.specs.Answer.{Ending, Refused, Answer}
 use Rattle.event_laws.specs.Exactly.{kinds}
 
 -- ## The spans of events
 
--- tokens that an event has for itself: nodes, properties, brackets and starts of documents
+-- tokens that an event has for itself: nodes, properties, starts and ends of collections, and starts of documents
 abbrev pub BelongsToNone : Kind → Type 0
 BelongsToNone (tokens.Alias name) = ⊥
 BelongsToNone (tokens.Anchor name) = ⊥
@@ -29,6 +32,9 @@ BelongsToNone tokens.FlowSequenceStart = ⊥
 BelongsToNone tokens.FlowMappingStart = ⊥
 BelongsToNone tokens.BlockSequenceStart = ⊥
 BelongsToNone tokens.BlockMappingStart = ⊥
+BelongsToNone tokens.FlowSequenceEnd = ⊥
+BelongsToNone tokens.FlowMappingEnd = ⊥
+BelongsToNone tokens.BlockEnd = ⊥
 BelongsToNone _ = Unit {0}
 
 -- an anchor, a tag, or both in either order
@@ -74,8 +80,14 @@ BeginsEntries ts span (entry ∷ others) =
 abbrev pub ArePairTokens : List Piece → Type 0
 ArePairTokens ts = (mark : Piece) × (mark.kind ≡ tokens.Key) × (ts ≡ mark ∷ [])
 
--- The tokens ts are the event's own, after which others come, and it has their span. An explicit document's is its
--- `---`.
+-- The token that ends a collection: this bracket, or the end of a block collection. A sequence that has no start of its
+-- own ends without one, and so does a pair in brackets that its `?` begins.
+abbrev pub AreEndTokens : Kind → List Piece → Type 0
+AreEndTokens bracket ts =
+    (ts ≡ []) ⊎ ((own : Piece) × ((own.kind ≡ bracket) ⊎ (own.kind ≡ tokens.BlockEnd)) × (ts ≡ own ∷ []))
+
+-- The tokens ts are the event's own, after which others come, and it has their span, unless it is an end's. An explicit
+-- document's is its `---`.
 abbrev pub IsOf : Happening → Span → List Piece → List Piece → Type 0
 IsOf (DocumentStart true) span ts others =
     (own : Piece) × (own.kind ≡ tokens.DocumentStart) × (own.span ≡ span) × (ts ≡ own ∷ [])
@@ -91,10 +103,12 @@ IsOf (SequenceStart id tag) span ts others =
 IsOf (MappingStart id tag) span ts others =
     (AreContentTokens tokens.FlowMappingStart ts ⊎ (AreContentTokens tokens.BlockMappingStart ts ⊎ ArePairTokens ts))
     × SpansAll ts span
+IsOf SequenceEnd span ts others = AreEndTokens tokens.FlowSequenceEnd ts
+IsOf MappingEnd span ts others = AreEndTokens tokens.FlowMappingEnd ts
 IsOf _ span ts others = ts ≡ []
 
--- The events have their tokens, in order, and no token of a node is passed over before the last of these. After them
--- all are the tokens `unread`.
+-- The events have their tokens, in order, and no token of a node is passed over before the last of these, nor one that
+-- ends a collection. After them all are the tokens `unread`.
 pub data HaveTokens (unread : List Piece) : List (Happening × Span) → List Piece → Type 0 where
   nothing : (ts : List Piece) → HaveTokens unread [] ts
   passed : (es : List (Happening × Span)) (t : Piece) (ts : List Piece) → BelongsToNone t.kind → HaveTokens unread es ts
@@ -114,9 +128,20 @@ abbrev pub IsCut : {X : Type 0} → Option Ending → List X → Type 0
 IsCut None more = more ≡ []
 IsCut (Some fault) more = more ≢ []
 
+-- tokens and events whose places don't matter
+abbrev pub nowhere : Span
+nowhere = record { start = record { index = 0; line = 0; col = 0 }; end = record { index = 0; line = 0; col = 0 } }
+
+abbrev pub unplaced_tokens : List Kind → List Piece
+unplaced_tokens ks = map (λ k. record { span = nowhere; kind = k }) ks
+
+abbrev pub unplaced_events : List Happening → List (Happening × Span)
+unplaced_events es = map (λ e. (e, nowhere)) es
+
 -- The answer's events are a beginning of the forest's: all of them where no fault ends them, and with a fault not all.
 -- The tokens begin as the forest's do, and are all of them where there is no fault. Each event has its tokens, and
--- their span.
+-- their span. The tokens of the forest that were not read are those of the events that are missing: no event has come
+-- that needs one of them, such as the end of a collection whose bracket was not read.
 pub record IsBeginningOf (forest : Forest) (keep : Bool) (pieces : List Piece) (a : Answer) : Type 0 where
   pub read : List Piece
   pub unread : List Piece
@@ -126,12 +151,24 @@ pub record IsBeginningOf (forest : Forest) (keep : Bool) (pieces : List Piece) (
   pub missing : List Happening
   pub are_events : events forest keep ≡ Some (map (λ (e : Happening × Span). e.0) a.events ++ missing)
   pub places : HaveTokens unread a.events read
+  pub have_expected : HaveTokens [] (unplaced_events missing) (unplaced_tokens expected)
   pub all_read : IsAllUnless a.fault unread
   pub all_expected : IsAllUnless a.fault expected
   pub all_given : IsCut a.fault missing
 
 abbrev pub BeginsSomeForest : Bool → Remaining → Answer → Type 0
 BeginsSomeForest keep tokens a = (forest : Forest) × IsBeginningOf forest keep tokens.pieces a
+
+-- these events begin with the answer's
+abbrev pub Continue : List Happening → Answer → Type 0
+Continue es a = (others : List Happening) × (es ≡ map (λ (e : Happening × Span). e.0) a.events ++ others)
+
+-- Nothing is made up before a fault: whatever tokens come after these, the events of each forest that all of them are
+-- the tokens of begin with the answer's.
+abbrev pub BeginsEachForest : Bool → List Piece → Answer → Type 0
+BeginsEachForest keep pieces a =
+    (forest : Forest) (others : List Kind) (told : List Happening) → Yields forest (kinds pieces ++ others)
+    → anchors (parts forest) < 2 ^ 64 → events forest keep ≡ Some told → Continue told a
 
 -- ## The same of a text
 
@@ -145,11 +182,13 @@ abbrev pub HasPlaceIn : List ℕ → Option Ending → Type 0
 HasPlaceIn text (Some (Refused place info)) = IsPlaceOf text place × IsFaultText info
 HasPlaceIn text _ = Unit {0}
 
--- The answer is a beginning of the forest's events, by tokens that are taken from the text.
+-- The answer is a beginning of the forest's events, by tokens that are taken from the text, and of the events of each
+-- other forest whose tokens begin with these.
 pub record IsTakenBy (forest : Forest) (keep : Bool) (text : List ℕ) (a : Answer) : Type 0 where
   pub tokens : Remaining
   pub taken : AreTakenFrom text tokens
   pub begins : IsBeginningOf forest keep tokens.pieces a
+  pub begins_each : BeginsEachForest keep tokens.pieces a
   pub refused_at : HasPlaceIn text a.fault
 
 abbrev pub AreTaken : Bool → List ℕ → Answer → Type 0

@@ -23,7 +23,7 @@ ghost use Rattle.saphyr_scanner.specs.Grammar.Tokens.{Kind};
 ghost use Rattle.saphyr_scanner.specs.Grammar.Tokens as tokens;
 ghost use Rattle.event_laws.specs.Exactly.{GivesExactly, TellTheSame, kinds, answer_of_tokens};
 ghost use Rattle.saphyr_machine.specs.Events.{DocumentEnd, Happening};
-ghost use Rattle.event_laws.specs.EventsTaken.{AreTaken, BeginsSomeForest, HasPlaceIn};
+ghost use Rattle.event_laws.specs.EventsTaken.{AreTaken, BeginsEachForest, BeginsSomeForest, HasPlaceIn};
 ghost use Rattle.event_laws.specs.Premises.{DocumentMarker, GivesFirst, HasOneMeaning, MeanTheSame, events_behind_marker};
 ghost use Rattle.event_laws.specs.Promises.{IsShallowJson, KeepsSpans, TakesEvents};
 ghost use Rattle.saphyr_scalar.specs.declared.scalar.position.Span.{Span};
@@ -126,11 +126,14 @@ pub fn has_one_meaning()
 }
 
 /// The events of any tokens are a beginning of some forest's, whose tokens begin as those do. If no fault ends
-/// them, they are all of that forest's.
-pub fn begins_some_forest()
-    ensures { (tokens : Remaining) (keep : Bool) → AreWellFormed tokens.pieces
+/// them, they are all of that forest's. They are also a beginning of the events of each forest whose tokens begin with
+/// all of those.
+pub fn begins_forests()
+    ensures some { (tokens : Remaining) (keep : Bool) → AreWellFormed tokens.pieces
         → length tokens.pieces < 2 ^ 64
         → BeginsSomeForest keep tokens (to_come (keeping_tags keep (at_start tokens))) }
+    ensures each { (tokens : Remaining) (keep : Bool)
+        → BeginsEachForest keep tokens.pieces (to_come (keeping_tags keep (at_start tokens))) }
 {}
 
 /// Let tokens begin at places of a text, and end with the end of the stream or with a refusal at a place of the text.

@@ -7,6 +7,7 @@ use Rattle.saphyr_scanner.specs.Grammar.Tokens.{Kind, DocumentEnd}
 use Rattle.saphyr_scanner.specs.Grammar.TokenGrammar.{YieldsDocument, AreEndsAndMarks, YieldDocuments, Yields}
 use Rattle.saphyr_scanner.specs.Views.Tokens.{Piece, Remaining}
 use Rattle.event_laws.specs.Anchors.{anchors}
+use Rattle.event_laws.specs.EventsTaken.{nowhere}
 use Rattle.event_laws.specs.Preorder.{Part, OpenStream, CloseStream, OpenDocument, CloseDocument, node_parts, document_parts, parts}
 use Rattle.saphyr_machine.specs.Events.{Happening}
 use Rattle.event_laws.specs.ForestEvents.{events}
@@ -64,9 +65,6 @@ none_kept keep = grind arith
 
 pub fits_start : (keep : Bool) → FitsBetween keep [] (at_first keep)
 fits_start keep = record { keeps = refl; count = refl; prefixes = λ handle. none_kept keep }
-
-nowhere : Span
-nowhere = record { start = record { index = 0; line = 0; col = 0 }; end = record { index = 0; line = 0; col = 0 } }
 
 pub each_gives : (f : Forest) (keep : Bool) (ts : List Piece) (es : List Happening) → Yields f (kinds ts)
     → anchors (parts f) < 2 ^ 64 → events f keep ≡ Some es → GivesExactly es (answer_of_tokens keep ts)

@@ -13,6 +13,7 @@ use Rattle.saphyr_scanner.specs.AtPlaces.{AreAtPlaces}
 use Rattle.saphyr_machine.specs.Cursor.{EventCursor, at_start}
 use Rattle.event_laws.specs.Promises.{TakesEvents}
 use Rattle.event_laws.proofs.Refusing.{IsRefusedAt, IsLastOr, AreEnded, refused_at}
+use Rattle.event_laws.proofs.Promises.EachForest.{begins_each}
 use Rattle.event_laws.proofs.Sound.{begins}
 use Rattle.event_laws.proofs.TokensForm.{tokens_form}
 
@@ -47,7 +48,16 @@ takes text r t a e l keep =
     let formed = tokens_form (IsPlaceOf text) r.refusal no_collections r.pieces (scalar.start_cursor text) t.0 t.1
     (inr ends) in
     let begun = begins r keep formed l in
-    (begun.0, record { tokens = r; taken = t; begins = begun.1; refused_at = refused_at text r keep a ends })
+    (
+      begun.0,
+      record {
+        tokens = r;
+        taken = t;
+        begins = begun.1;
+        begins_each = begins_each r keep;
+        refused_at = refused_at text r keep a ends;
+      },
+    )
 
 -- ## Parsers
 

@@ -48,7 +48,7 @@ node_turned span = by_token (λ _. AtNode) (λ k. block_sequence_node_at k span)
 
 sequence_entry_at_turned : TurnsAt (λ _. InEntries) block_sequence_entry_at
 sequence_entry_at_turned BlockEnd sp = closes (λ _. InEntries) BlockEntries BlockEnd SequenceEnd CloseSequence
-    (λ e. (refl, refl)) refl tt (λ span ts. refl) (NoNode, refl, refl) (λ _ R ks ps f. f) sp sp
+    (λ e. (refl, refl)) refl (λ t span ts k. inr (t, inr k, refl)) (NoNode, refl, refl) (λ _ R ks ps f. f) sp sp
 sequence_entry_at_turned BlockEntry sp = passes (λ _. AtNode) (λ _. InEntries) BlockEntry (block_sequence_node sp) tt
     (λ _ R. one_entry (Then (Exactly (BlockEnd ∷ []) (CloseSequence ∷ [])) R)) (node_turned sp) sp
 sequence_entry_at_turned _ sp = λ ts r x s ss e w a. tt
@@ -85,7 +85,7 @@ indentless_entry_at_turned k sp = λ ts r x s ss e w a. record {
   tells = refl;
   remembers = refl;
   few = omega arith;
-  places = whole [] _ _ refl;
+  places = whole [] _ _ (inl refl);
   alive = a;
   makes = λ ks ps f b. (
     collection_ends BlockEntries (FollowsStates s ss) [] CloseSequence ks ps (NoNode, refl, refl) f,
@@ -205,7 +205,7 @@ mapping_key_at_turned Key sp = passes (λ _. AtKey) (WantedIn state.BlockMapping
 mapping_key_at_turned Value sp = leaves_out (WantedIn state.BlockMappingKey) state.BlockMappingValue Value tt
     (λ _ R ks ps f b. (keyless R ks ps f (b tt), λ c. tt)) sp sp
 mapping_key_at_turned BlockEnd sp = closes (WantedIn state.BlockMappingKey) BlockPairs BlockEnd MappingEnd CloseMapping
-    (λ e. (refl, refl)) refl tt (λ span ts. refl) (NoPair, refl, refl) (λ _ R ks ps f. (f, λ c. absurd c)) sp sp
+    (λ e. (refl, refl)) refl (λ t span ts k. inr (t, inr k, refl)) (NoPair, refl, refl) (λ _ R ks ps f. (f, λ c. absurd c)) sp sp
 mapping_key_at_turned _ sp = λ ts r x s ss e w a. tt
 
 pub mapping_key_turned : Turns (WantedIn state.BlockMappingKey) block_mapping_key

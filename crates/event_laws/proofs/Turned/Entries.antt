@@ -1,5 +1,5 @@
 -- Entries of collections are turned: nodes, nodes that are left out, and the ends of collections.
-use Rattle.event_laws.proofs.OwnTokens.{whole, passed_one}
+use Rattle.event_laws.proofs.OwnTokens.{whole}
 use Rattle.event_laws.specs.EventsTaken.{BelongsToNone, IsOf}
 use Rattle.std.proofs.Common.{◌≡◌, List, [], ◌∷◌, ◌++◌, Option, Result, refl, sym, inl, inr, arith}
 use Rattle.saphyr_scalar.specs.declared.scalar.position.Span.{Span}
@@ -141,11 +141,11 @@ enters_optional c o k z i = enters (λ _ R. Then (IsOptionalOf (place_of c)) (Be
 -- a collection of no more entries ends with the token
 pub closes : (F : List Kind → Claim → Claim) (A : Claim) (k : Kind) (what : Happening) (closing : Part)
     → ((e : Memory) → (event_in e closing ≡ Some what) × (after closing e ≡ e)) → anchors (closing ∷ []) ≡ 0
-    → BelongsToNone k → ((span : Span) (ts : List Piece) → IsOf what span [] ts) → A [] []
+    → ((t : Piece) (span : Span) (ts : List Piece) → t.kind ≡ k → IsOf what span (t ∷ []) ts) → A [] []
     → ((ahead : List Kind) (R : Claim) (ks : List Kind) (ps : List Part)
     → Then A (Then (Exactly (k ∷ []) (closing ∷ [])) R) (k ∷ ks) ps → F (k ∷ ahead) R (k ∷ ks) ps) → (span : Span)
     → TurnsBehind F k (λ t m. told_event what span (pop m))
-closes F A k what closing tells none b own no_more go span sp ts r x s ss e w a =
+closes F A k what closing tells none own no_more go span sp ts r x s ss e w a =
     record {
       used = piece_of k sp ∷ [];
       part = closing;
@@ -153,7 +153,7 @@ closes F A k what closing tells none b own no_more go span sp ts r x s ss e w a 
       tells = (tells e).0;
       remembers = sym (tells e).1;
       few = omega (arith, none);
-      places = passed_one (piece_of k sp) what span b (own span ts);
+      places = whole (piece_of k sp ∷ []) what span (own (piece_of k sp) span ts refl);
       alive = a;
       makes = λ ks ps f c. go (kinds ts) (FollowsStates s ss) ks (closing ∷ ps)
           (collection_ends A (FollowsStates s ss) (k ∷ []) closing ks ps no_more f);

@@ -134,7 +134,7 @@ pair_at_turned span Key sp = passes (λ _. AtKey) (λ _. AtFirst) Key flow_key_n
 pair_at_turned span Value sp = leaves_out (λ _. AtFirst) state.FlowMappingValue Value tt
     (λ _ R ks ps f b. keyless_first R ks ps f (b tt)) sp sp
 pair_at_turned span FlowMappingEnd sp = closes (λ _. AtFirst) FirstPairs FlowMappingEnd MappingEnd CloseMapping
-    (λ e. (refl, refl)) refl tt (λ span ts. refl) (NoPair, refl, refl) (λ _ R ks ps f. f)
+    (λ e. (refl, refl)) refl (λ t span ts k. inr (t, inl k, refl)) (NoPair, refl, refl) (λ _ R ks ps f. f)
     (span (record { span = sp; kind = FlowMappingEnd })) sp
 pair_at_turned span k sp = enters (λ _. AtFirst) Flow state.FlowMappingEmptyValue k tt tt (λ _. alone_first) sp
 
@@ -148,7 +148,7 @@ behind_comma_turned span = by_token (λ _. AtFirst) (λ k. flow_mapping_pair_at 
 
 other_pair_at_turned : TurnsAt (λ _. InMapping) flow_mapping_key_at
 other_pair_at_turned FlowMappingEnd sp = closes (λ _. InMapping) OtherPairs FlowMappingEnd MappingEnd CloseMapping
-    (λ e. (refl, refl)) refl tt (λ span ts. refl) (NoPair, inl refl, refl) (λ _ R ks ps f. f) sp sp
+    (λ e. (refl, refl)) refl (λ t span ts k. inr (t, inl k, refl)) (NoPair, inl refl, refl) (λ _ R ks ps f. f) sp sp
 other_pair_at_turned FlowEntry sp = passes (λ _. AtFirst) (λ _. InMapping) FlowEntry (flow_mapping_pair_behind_comma sp)
     tt (λ _. behind_comma) (behind_comma_turned sp) sp
 other_pair_at_turned _ sp = λ ts r x s ss e w a. tt

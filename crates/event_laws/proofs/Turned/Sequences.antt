@@ -87,7 +87,7 @@ pair_first R ks ps h = entry_first R (Key ∷ ks) (OpenMapping forest.no_propert
 
 first_entry_at_turned : TurnsAt (λ _. AtFirst) flow_sequence_first_entry_at
 first_entry_at_turned FlowSequenceEnd sp = closes (λ _. AtFirst) FirstEntries FlowSequenceEnd SequenceEnd CloseSequence
-    (λ e. (refl, refl)) refl tt (λ span ts. refl) (NoNode, refl, refl) (λ _ R ks ps f. f) sp sp
+    (λ e. (refl, refl)) refl (λ t span ts k. inr (t, inl k, refl)) (NoNode, refl, refl) (λ _ R ks ps f. f) sp sp
 first_entry_at_turned Key sp = λ ts r x s ss e w a. record {
   used = record { span = sp; kind = Key } ∷ [];
   part = OpenMapping forest.no_properties;
@@ -108,7 +108,7 @@ first_entry_turned = by_token (λ _. AtFirst) flow_sequence_first_entry_at first
 
 other_entry_at_turned : TurnsAt (λ _. InSequence) flow_sequence_entry_at
 other_entry_at_turned FlowSequenceEnd sp = closes (λ _. InSequence) OtherEntries FlowSequenceEnd SequenceEnd
-    CloseSequence (λ e. (refl, refl)) refl tt (λ span ts. refl) (NoNode, inl refl, refl) (λ _ R ks ps f. f) sp sp
+    CloseSequence (λ e. (refl, refl)) refl (λ t span ts k. inr (t, inl k, refl)) (NoNode, inl refl, refl) (λ _ R ks ps f. f) sp sp
 other_entry_at_turned FlowEntry sp = passes (λ _. AtFirst) (λ _. InSequence) FlowEntry flow_sequence_first_entry tt
     (λ _. behind_comma) first_entry_turned sp
 other_entry_at_turned _ sp = λ ts r x s ss e w a. tt
@@ -164,7 +164,7 @@ pair_end_turned place ts r x s ss e w a = record {
   tells = refl;
   remembers = refl;
   few = omega arith;
-  places = whole [] _ _ refl;
+  places = whole [] _ _ (inl refl);
   alive = (tt, a);
   makes = λ ks ps f b. put (Exactly [] (CloseMapping ∷ [])) (InSequence (FollowsStates s ss)) [] (CloseMapping ∷ []) ks
       ps (refl, refl) f;
