@@ -5,7 +5,7 @@
 
 The programs of tests/release print the events of a small text: in C99 and C++17 with the archive, in C through
 `pkg-config` and through CMake with the shared library, in Python through ctypes; and the crate's example in a cargo
-project with a `[patch]`. Their lines are to be those of `dump_events`. The shared library exports the ten calls
+project with a `[patch]`. Their lines are to be those of `dump_events`. The shared library exports the eleven calls
 alone. The version is the same wherever it stands, and so is the address of the repository, if one is given. Where
 there is no compiler of C, the script says so, and tests nothing; what else is missing it says, and tests the rest.
 """

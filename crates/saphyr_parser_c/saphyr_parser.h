@@ -30,8 +30,9 @@
  *  - Change a saphyr_parser only by these calls. Don't copy it as a struct: saphyr_clone makes a copy.
  *  - Use a saphyr_parser in one call at a time, and a saphyr_event too. Between calls a parser may go from one
  *    thread to another, if a lock or the thread's start or end orders the calls.
- *  - Keep the text where it is, unchanged, until every parser over it is freed: that of saphyr_new, and its
- *    clones. The bytes that saphyr_add was given are copied.
+ *  - Keep the text where it is, unchanged, until every parser over it is freed: that of saphyr_new or saphyr_new_utf8,
+ *    and its clones. The bytes that saphyr_add was given are copied.
+ *  - Give saphyr_new_utf8 only a text in UTF-8.
  *  - malloc, realloc and free belong to one allocator. Make no call from a signal handler, or from the forked
  *    child of a process with threads.
  *
@@ -59,7 +60,7 @@ extern "C" {
 
 /* What a call returns. Below 0, the call failed. */
 enum saphyr_status {
-    /* saphyr_new, saphyr_new_pieces, saphyr_add, saphyr_clone, saphyr_keep_tags: done. */
+    /* saphyr_new, saphyr_new_utf8, saphyr_new_pieces, saphyr_add, saphyr_clone, saphyr_keep_tags: done. */
     SAPHYR_OK = 0,
     /* saphyr_next, saphyr_peek: no event is left. The end of the stream or a fault was handed out before. */
     SAPHYR_END = 0,
@@ -81,8 +82,8 @@ enum saphyr_status {
        two bytes of 0 after it. With these it is that of UTF-32. saphyr_add: the text's first bytes, all in this call,
        begin so. Nothing is added. */
     SAPHYR_UTF16 = -5,
-    /* saphyr_add: all of the text is there already, since saphyr_new was given it or its end was told. Nothing is
-       added. */
+    /* saphyr_add: all of the text is there already, since saphyr_new or saphyr_new_utf8 was given it or its end was
+       told. Nothing is added. */
     SAPHYR_WHOLE = -6
 };
 
@@ -184,6 +185,13 @@ typedef struct saphyr_event {
  * Returns SAPHYR_OK; or SAPHYR_NOT_UTF8, SAPHYR_UTF16 or SAPHYR_NO_MEMORY, and then `parser` is empty.
  */
 int32_t saphyr_new(const uint8_t *text, size_t len, bool keep_tags, saphyr_parser *parser);
+
+/*
+ * The same of a text that you know to be UTF-8, for example since another library has tested it: it is not tested here.
+ *
+ * Returns SAPHYR_OK; or SAPHYR_NO_MEMORY, and then `parser` is empty.
+ */
+int32_t saphyr_new_utf8(const uint8_t *text, size_t len, bool keep_tags, saphyr_parser *parser);
 
 /*
  * Makes a parser of a text that comes in pieces, of which nothing came yet, and puts it into `parser`. Frees what

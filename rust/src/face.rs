@@ -1,11 +1,11 @@
 //! Safe functions over the calls of the static library.
 //!
 //! This is the crate's only file with `unsafe` in it. `saphyr_parser.h`, next to the library's sources, says what a
-//! caller must do: zero a parser and an event first, pass no null pointer, use a parser in one call at a time, and keep
-//! the text unchanged where it is until the parser over it is freed. Of a text that comes in pieces the library has a
-//! copy. In return, the texts of an event are UTF-8, and may be read until the next call with the same parser. They are
-//! copied here right after the call that wrote them, so none is left when the next call comes. If the caller's text
-//! contains such a text as it is, it is borrowed from there instead.
+//! caller must do: zero a parser and an event first, pass no null pointer, use a parser in one call at a time, keep the
+//! text unchanged where it is until the parser over it is freed, and give `saphyr_new_utf8` only UTF-8. Of a text that
+//! comes in pieces the library has a copy. In return, the texts of an event are UTF-8, and may be read until the next
+//! call with the same parser. They are copied here right after the call that wrote them, so none is left when the next
+//! call comes. If the caller's text contains such a text as it is, it is borrowed from there instead.
 
 use crate::encoding::NotUtf8;
 use crate::event::{Event, Tag};
@@ -72,6 +72,7 @@ struct Record {
 
 extern "C" {
     fn saphyr_new(text: *const u8, len: usize, keep_tags: bool, parser: *mut Handle) -> i32;
+    fn saphyr_new_utf8(text: *const u8, len: usize, keep_tags: bool, parser: *mut Handle) -> i32;
     fn saphyr_new_pieces(keep_tags: bool, parser: *mut Handle) -> i32;
     fn saphyr_add(parser: *mut Handle, bytes: *const u8, len: usize) -> i32;
     fn saphyr_valid_up_to(text: *const u8, len: usize) -> usize;
@@ -144,10 +145,10 @@ impl<'input> Face<'input> {
     /// A parser of a text.
     pub fn new(text: &'input str, keep_tags: bool) -> Self {
         check_version();
-        let (mut handle, bytes) = (EMPTY, text.as_bytes());
-        // SAFETY: the bytes may be read for their length. They stay where they are, unchanged, until `drop` frees the
-        // parser, since the text is borrowed for longer. The handle is zeroed.
-        let status = unsafe { saphyr_new(bytes.as_ptr(), bytes.len(), keep_tags, &mut handle) };
+        let mut handle = EMPTY;
+        // SAFETY: the bytes may be read for their length, and are UTF-8. They stay where they are, unchanged, until
+        // `drop` frees the parser, since the text is borrowed for longer. The handle is zeroed.
+        let status = unsafe { saphyr_new_utf8(text.as_ptr(), text.len(), keep_tags, &mut handle) };
         expect(status, OK);
         Face::with(handle, Some(text))
     }

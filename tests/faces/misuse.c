@@ -117,6 +117,11 @@ static void replaces(void) {
         expect(events, 8, "events of the second text");
         expect(saphyr_next(&parser, &event), SAPHYR_END, "behind the end");
         expect(event.kind, SAPHYR_NOTHING, "behind the end");
+        const uint8_t *known = (const uint8_t *)"[b]";
+        expect(saphyr_new_utf8(known, 3, false, &parser), SAPHYR_OK, "a text in UTF-8 over a live parser");
+        for (events = 0; saphyr_next(&parser, &event) == SAPHYR_EVENT; events++) {
+        }
+        expect(events, 7, "events of the text in UTF-8");
         for (events = 0; saphyr_next(&copy, &event) == SAPHYR_EVENT; events++) {
         }
         expect(events, 9 - taken, "events of the clone, whose parser is gone");

@@ -12,24 +12,6 @@ use Rattle.saphyr_machine.specs.Answer.{Ending, Answer}
 use Rattle.event_laws.specs.EventsTaken.{IsCut, AreTaken}
 use Rattle.event_laws.specs.Nesting.{NestPlace, InStream, BeforeRoot, BehindRoot, InSequence, BeforeKey, BeforeValue, Nest, nest_before_stream, nest_behind_stream, place_behind_node, with_next_place, nest_inside, nest_behind_event, nest_behind_all, happenings, IsWhole, IsNested, BeginsStream, IsAtStart}
 
--- ## Longer lists
-
-option_and_then-twice : {A B C : Type 0} (f : B → Option C) (g : A → Option B) (o : Option A)
-    → option_and_then (λ x. option_and_then f (g x)) o ≡ option_and_then f (option_and_then g o)
-option_and_then-twice f g None = refl
-option_and_then-twice f g (Some x) = refl
-
-and_then_along : {A B : Type 0} (f g : A → Option B) (o : Option A) → ((x : A) → f x ≡ g x)
-    → option_and_then f o ≡ option_and_then g o
-and_then_along f g None h = refl
-and_then_along f g (Some x) h = h x
-
-pub nest_behind_all-append : (xs ys : List Happening) (n : Nest)
-    → nest_behind_all (xs ++ ys) n ≡ option_and_then (nest_behind_all ys) (nest_behind_all xs n)
-nest_behind_all-append [] ys n = refl
-nest_behind_all-append (x ∷ xs) ys n = and_then_along _ _ (nest_behind_event x n) (λ m. nest_behind_all-append xs ys m)
-    ∙ option_and_then-twice (nest_behind_all ys) (nest_behind_all xs) (nest_behind_event x n)
-
 -- ## Steps
 
 record Begins (e : Option Happening) (o : Option (List Happening)) (es : List Happening) : Type 0 where
@@ -179,18 +161,25 @@ forest_nests forest keep es p =
 
 -- ## Beginnings
 
-pub whole_at_end : (ending : Option Ending) (o : Option Nest) (missing : List Happening) → IsCut ending missing
-    → option_and_then (nest_behind_all missing) o ≡ Some nest_behind_stream → IsWhole ending o
-whole_at_end ending None missing h e = absurd (cc)
-whole_at_end (Some f) (Some n) missing h e = tt
-whole_at_end None (Some n) missing h e = cc
+whole_along : (ending : Option Ending) (o : Option Nest) (f g : Nest → Option Nest)
+    → ((n : Nest) → f n ≡ Some nest_behind_stream → IsWhole ending (g n))
+    → option_and_then f o ≡ Some nest_behind_stream → IsWhole ending (option_and_then g o)
+whole_along ending None f g each e = absurd (cc)
+whole_along ending (Some n) f g each e = each n e
+
+-- A beginning of events that lead to the stream's end nests too, and is all of them if no fault cuts it off.
+pub whole_before : (ending : Option Ending) (told missing : List Happening) (n : Nest) → IsCut ending missing
+    → nest_behind_all (told ++ missing) n ≡ Some nest_behind_stream → IsWhole ending (nest_behind_all told n)
+whole_before (Some f) [] missing n h e = tt
+whole_before None [] missing n h e = cc
+whole_before ending (x ∷ told) missing n h e = whole_along ending (nest_behind_event x n)
+    (nest_behind_all (told ++ missing)) (nest_behind_all told) (λ m. whole_before ending told missing m h) e
 
 pub nests : (keep : Bool) (text : List ℕ) (a : Answer) → AreTaken keep text a → IsNested a
 nests keep text a (forest, t) =
     let b = t.begins in
-    whole_at_end a.fault (nest_behind_all (happenings a.events) nest_before_stream) b.missing b.all_given
-    (sym (nest_behind_all-append (happenings a.events) b.missing nest_before_stream)
-    ∙ forest_nests forest keep (happenings a.events ++ b.missing) b.are_events)
+    whole_before a.fault (happenings a.events) b.missing nest_before_stream b.all_given
+    (forest_nests forest keep (happenings a.events ++ b.missing) b.are_events)
 
 -- ## Starts
 

@@ -6,7 +6,7 @@
 
 ghost use Rattle.std.specs.Prelude.{Bool, List, [], ◌∷◌, ◌++◌, true, ℕ, ◌≡◌, ◌≢◌, ◌<◌, ◌≤◌, ◌^◌, length, None, Ok, Option, Some};
 ghost use Rattle.event_laws.specs.Limits.{most_characters};
-ghost use Rattle.event_laws.specs.Nesting.{IsAtStart, IsNested, nest_before_stream, nest_behind_all, nest_behind_stream};
+ghost use Rattle.event_laws.specs.Nesting.{IsAtStart, IsNested, IsWhole, Nest, nest_before_stream, nest_behind_all, nest_behind_stream};
 ghost use Rattle.event_laws.specs.Anchors.{IsLatest, anchors, latest_id};
 ghost use Rattle.event_laws.specs.Preorder.{Part, parts};
 ghost use Rattle.event_laws.specs.ForestEvents.{events};
@@ -23,7 +23,7 @@ ghost use Rattle.saphyr_scanner.specs.Grammar.Tokens.{Kind};
 ghost use Rattle.saphyr_scanner.specs.Grammar.Tokens as tokens;
 ghost use Rattle.event_laws.specs.Exactly.{GivesExactly, TellTheSame, kinds, answer_of_tokens};
 ghost use Rattle.saphyr_machine.specs.Events.{DocumentEnd, Happening};
-ghost use Rattle.event_laws.specs.EventsTaken.{AreTaken, BeginsEachForest, BeginsSomeForest, HasPlaceIn};
+ghost use Rattle.event_laws.specs.EventsTaken.{AreTaken, BeginsEachForest, BeginsSomeForest, HasPlaceIn, IsCut};
 ghost use Rattle.event_laws.specs.Premises.{DocumentMarker, GivesFirst, HasOneMeaning, MeanTheSame, events_behind_marker};
 ghost use Rattle.event_laws.specs.Promises.{IsShallowJson, KeepsSpans, TakesEvents};
 ghost use Rattle.saphyr_scalar.specs.declared.scalar.position.Span.{Span};
@@ -36,7 +36,7 @@ ghost use Rattle.yaml_laws.specs.Grammar.Yaml.{IsYamlText};
 ghost use Rattle.event_laws.specs.WellFormed.{AreWellFormed};
 ghost use Rattle.saphyr_machine.specs.Steps.Machine.{Machine, Told, ending_refusal};
 ghost use Rattle.saphyr_machine.specs.Steps.Expected.{event_step};
-ghost use Rattle.saphyr_machine.specs.Answer.{Answer, with_first_event, remaining_answer};
+ghost use Rattle.saphyr_machine.specs.Answer.{Answer, Ending, with_first_event, remaining_answer};
 ghost use Rattle.saphyr_machine.specs.Calls.{Advances};
 ghost use Rattle.event_laws.specs.Settings.{with_keep_tags, with_setting};
 ghost use Rattle.saphyr_machine.specs.declared.state.State.TheVariants.{DocumentEnd as AtDocumentEnd};
@@ -46,11 +46,16 @@ use json_laws::is_yaml_text;
 use saphyr_scanner::law::bounds_tokens;
 use yaml_laws::{scans_breaks_alike, scans_each_yaml_text};
 
-/// The events of each forest nest, from before the stream to after it.
+/// The events of each forest nest, from before the stream to after it. Of events that lead to the stream's end a
+/// beginning nests too, and if no fault cuts it off, it is all of them.
 pub fn nests_each_forest()
-    ensures { (forest : Forest) (keep : Bool) (told : List Happening)
+    ensures whole { (forest : Forest) (keep : Bool) (told : List Happening)
         → events forest keep ≡ Some told
         → nest_behind_all told nest_before_stream ≡ Some nest_behind_stream }
+    ensures cut { (ending : Option Ending) (told missing : List Happening) (nest : Nest)
+        → IsCut ending missing
+        → nest_behind_all (told ++ missing) nest ≡ Some nest_behind_stream
+        → IsWhole ending (nest_behind_all told nest) }
 {}
 
 /// Events that are taken from a text, as those of a new parser are, nest: each end belongs to what has begun last, and

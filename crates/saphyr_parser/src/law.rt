@@ -4,7 +4,10 @@ mod calling;
 mod comparing;
 mod later;
 
-pub use calling::{hands_out_what_was_peeked, keeps_no_prefixes_at_first, loads_the_end_again};
+pub use calling::{
+    hands_out_what_comes, hands_out_what_was_peeked, keeps_no_prefixes_at_first,
+    loads_the_end_again,
+};
 pub use comparing::{
     hashes_alike, orders_places, orders_styles, orders_tags, reads_inputs_alike, starts_at_zero,
 };

@@ -71,11 +71,24 @@ impl Inner {
         let Ok(text) = str::from_utf8(text) else {
             return Err(unreadable(text));
         };
-        let parser = Parser::new_from_str(alloc, text).keep_tags(keep_tags);
-        match Inner::fresh(alloc, Source::Whole(parser)) {
+        match Inner::over_text(alloc, text, keep_tags) {
             Ok(inner) => Ok(inner),
             Err(_) => Err(Status::NoMemory),
         }
+    }
+
+    /// The same of bytes that are known to be a text.
+    pub fn over_text(
+        alloc: Global,
+        text: &'static str,
+        keep_tags: bool,
+    ) -> Result<Box<Inner, Global>, AllocError>
+        requires { IsUtf8 text.now }
+        ensures { IfOk result (λ b. spec.IsOverText text.now keep_tags b.value) }
+    {
+        let parser = Parser::new_from_str(alloc, text).keep_tags(keep_tags);
+        let inner = Inner::fresh(alloc, Source::Whole(parser))?;
+        Ok(inner)
     }
 
     /// A parser of a text that comes in pieces, of which nothing came, on the heap.

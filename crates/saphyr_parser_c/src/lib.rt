@@ -86,6 +86,32 @@ pub extern "C" fn saphyr_new(
     }
 }
 
+/// Makes a parser of a text that the caller knows to be UTF-8, so this isn't tested. What `out` held is freed.
+#[unsafe(no_mangle)]
+pub extern "C" fn saphyr_new_utf8(
+    alloc: Global,
+    text: &'static [u8],
+    keep_tags: bool,
+    out: &mut Handle,
+) -> i32
+    requires { IsUtf8 text.now }
+    ensures made { result ≡ pos 0 → spec.IsMade text.now keep_tags out.new.value }
+    ensures empty { (result ≡ pos 0 → ⊥) → out.new.value ≡ none }
+    ensures others { spec.HasMemoryOrNot result }
+{
+    let text = unsafe { str::from_utf8_unchecked(text) };
+    match Inner::over_text(alloc, text, keep_tags) {
+        Ok(inner) => {
+            put(out, Handle::of_parts(Parts::of(inner)));
+            Status::Done.code()
+        }
+        Err(_) => {
+            put(out, Handle::none(alloc));
+            Status::NoMemory.code()
+        }
+    }
+}
+
 /// Makes a parser of a text that comes in pieces, of which nothing came. What `out` held is freed.
 #[unsafe(no_mangle)]
 pub extern "C" fn saphyr_new_pieces(alloc: Global, keep_tags: bool, out: &mut Handle) -> i32

@@ -18,7 +18,7 @@ use Rattle.yaml_tree.specs.Loading.{Stops, RunsOut, FailsToLoad, TakesAll}
 use Rattle.yaml_tree.specs.DocumentLoading.{EndNoDocument}
 use Rattle.yaml_tree.specs.DocumentSeen.{TakesToEnd, TakesRest, StopsBehind, RunsOutBehind, FailsBehind}
 use Rattle.yaml_tree.proofs.Loads.{no_nest}
-use Rattle.event_laws.proofs.Nesting.{nest_behind_all-append}
+use Rattle.yaml_tree.proofs.Nests.{nest_behind_all-append}
 
 -- ## Event after event
 

@@ -1,12 +1,11 @@
 -- Which parser loading leaves: event after event was handed out.
-use Rattle.std.proofs.Common.{◌≡◌, ℕ, ◌<◌, ◌++◌, List, [], ◌∷◌, Result, Ok, Err, Vec, Global, refl, sym, ap, subst, ◌∙◌, append-nil, length-append, arith, inr}
+use Rattle.std.proofs.Common.{◌≡◌, ◌<◌, ◌++◌, List, [], ◌∷◌, Result, Ok, Err, Vec, Global, refl, sym, ap, subst, ◌∙◌, append-nil, length-append, arith, inr}
 use Rattle.saphyr_scalar.specs.declared.scalar.position.Marker.{Marker}
 use Rattle.saphyr_scalar.specs.declared.scalar.position.Span.{Span}
 use Rattle.saphyr_parser.specs.Events.{Happening}
-use Rattle.saphyr_parser.specs.Answer.{Answer}
+use Rattle.saphyr_parser.specs.Answer.{Answer, empty_answer}
 use Rattle.saphyr_parser.specs.Cursor.{EventCursor, count, to_come}
 use Rattle.saphyr_parser.specs.Calls.{Advances, AdvancesOver, IsOver, Looks}
-use Rattle.saphyr_machine.proofs.Calls.Handing.{advances_less, nothing_left, over_more, over_splits}
 use Rattle.yaml_tree.specs.declared.fault.TreeFault.{TreeFault}
 use Rattle.yaml_tree.specs.declared.fault.TreeFault.TheVariants as fault
 use Rattle.yaml_tree.specs.declared.tally.Limits.{Limits}
@@ -17,18 +16,31 @@ use Rattle.saphyr_parser.specs.Nesting.{IsAtStart}
 use Rattle.yaml_tree.specs.LoaderSeen.{Forbids}
 use Rattle.yaml_tree.specs.Leaving.{HasHandedOut, LeavesFrom, LeavesParser}
 
+-- What the parser's law `hands_out_what_comes` says of events that were handed out, and of the end.
+abbrev pub Splits : Type 0
+Splits = (es : List (Happening × Span)) (old new : EventCursor) → AdvancesOver es old new
+    → ((to_come old).events ≡ es ++ (to_come new).events) × ((to_come old).fault ≡ (to_come new).fault)
+
+abbrev pub HasNoMore : Type 0
+HasNoMore = (c : EventCursor) → IsOver c → to_come c ≡ empty_answer
+
+over_both : (es fs : List (Happening × Span)) (a b c : EventCursor) → AdvancesOver es a b → AdvancesOver fs b c
+    → AdvancesOver (es ++ fs) a c
+over_both [] fs a b c same others = subst (λ (x : EventCursor). AdvancesOver fs x c) same others
+over_both (e ∷ es) fs a b c (m, first, more) others = (m, first, over_both es fs m b c more others)
+
 pub hands_none : (c : EventCursor) → HasHandedOut c c
 hands_none c = record { handed = []; over = refl }
 
 pub hands_more : (a b c : EventCursor) (e : Happening × Span) → HasHandedOut a b → Advances e b c → HasHandedOut a c
-hands_more a b c e h next = record { handed = h.handed ++ (e ∷ []); over = over_more h.handed e a b c h.over next }
+hands_more a b c e h next =
+    record { handed = h.handed ++ (e ∷ []); over = over_both h.handed (e ∷ []) a b c h.over (c, next, refl) }
 
-pub leaves_all : {X : Type 0} (x : X) (a b c : EventCursor) → HasHandedOut a b → IsOver b × (c ≡ b)
-    → LeavesFrom {X = X} (Ok x) a c
-leaves_all x a b c h (over, same) =
-    let split = over_splits h.handed a b h.over in
-    let all : (to_come a).events ≡ h.handed = split.0 ∙ ap (λ (y : Answer). h.handed ++ y.events)
-    (nothing_left b over) ∙ append-nil h.handed in
+pub leaves_all : {X : Type 0} (x : X) (a b c : EventCursor) → Splits → HasNoMore → HasHandedOut a b
+    → IsOver b × (c ≡ b) → LeavesFrom {X = X} (Ok x) a c
+leaves_all x a b c splits none h (over, same) =
+    let all : (to_come a).events ≡ h.handed = (splits h.handed a b h.over).0
+    ∙ ap (λ (y : Answer). h.handed ++ y.events) (none b over) ∙ append-nil h.handed in
     subst (λ (y : EventCursor). AdvancesOver (to_come a).events a y × IsOver y) (sym same)
     (subst (λ (l : List (Happening × Span)). AdvancesOver l a b) (sym all) h.over, over)
 
@@ -55,37 +67,31 @@ leaves_behind (Err _) b old looked new l s h f = absurd f
 
 -- ## Document after document
 
-over_both : (es fs : List (Happening × Span)) (a b c : EventCursor) → AdvancesOver es a b → AdvancesOver fs b c
-    → AdvancesOver (es ++ fs) a c
-over_both [] fs a b c same others = subst (λ (x : EventCursor). AdvancesOver fs x c) same others
-over_both (e ∷ es) fs a b c (m, first, more) others = (m, first, over_both es fs m b c more others)
-
 pub hands_both : (a b c : EventCursor) → HasHandedOut a b → HasHandedOut b c → HasHandedOut a c
 hands_both a b c h k =
     record { handed = h.handed ++ k.handed; over = over_both h.handed k.handed a b c h.over k.over }
 
-pub leaves_rest : {X Y : Type 0} (x : X) (y : Y) (a b c : EventCursor) → HasHandedOut a b
+pub leaves_rest : {X Y : Type 0} (x : X) (y : Y) (a b c : EventCursor) → Splits → HasHandedOut a b
     → LeavesFrom {X = X} (Ok x) b c → LeavesFrom {X = Y} (Ok y) a c
-leaves_rest x y a b c h (all, over) =
-    let split = over_splits h.handed a b h.over in (
-      subst (λ (l : List (Happening × Span)). AdvancesOver l a c) (sym split.0)
-          (over_both h.handed (to_come b).events a b c h.over all),
-      over,
-    )
+leaves_rest x y a b c splits h (all, over) = (
+  subst (λ (l : List (Happening × Span)). AdvancesOver l a c) (sym (splits h.handed a b h.over).0)
+      (over_both h.handed (to_come b).events a b c h.over all),
+  over,
+)
 
 pub leaves_fault : (X Y : Type 0) (f : TreeFault) (a b c : EventCursor) → HasHandedOut a b
     → LeavesFrom {X = X} (Err f) b c → LeavesFrom {X = Y} (Err f) a c
 leaves_fault X Y (fault.Parse f) a b c h (m, k, fails) = (m, hands_both a b m h k, fails)
 leaves_fault X Y _ a b c h k = hands_both a b c h k
 
-less_before : (es : List (Happening × Span)) (a b : Answer) (n : ℕ) → a.events ≡ es ++ b.events
-    → a.fault ≡ b.fault → n < count b → n < count a
-less_before es a b n split same h = rw (split, same) (omega (arith, length-append es b.events, h))
+less_behind : (es : List (Happening × Span)) (e : Happening × Span) (a b : Answer)
+    → a.events ≡ (es ++ e ∷ []) ++ b.events → a.fault ≡ b.fault → count b < count a
+less_behind es e a b split same =
+    rw (split, same) (omega (arith, length-append (es ++ e ∷ []) b.events, length-append es (e ∷ [])))
 
 -- after an event less is left
-pub hands_less : (a b c : EventCursor) (e : Happening × Span) → HasHandedOut a b → Advances e b c
+pub hands_less : (a b c : EventCursor) (e : Happening × Span) → Splits → HasHandedOut a b → Advances e b c
     → count (to_come c) < count (to_come a)
-hands_less a b c e h next =
-    let split = over_splits h.handed a b h.over in
-    let less = advances_less e b c next in
-    less_before h.handed (to_come a) (to_come b) (count (to_come c)) split.0 split.1 less
+hands_less a b c e splits h next =
+    let more = hands_more a b c e h next in
+    let split = splits more.handed a c more.over in less_behind h.handed e (to_come a) (to_come c) split.0 split.1

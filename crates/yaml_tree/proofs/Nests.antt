@@ -2,8 +2,20 @@
 use Rattle.std.proofs.Common.{◌≡◌, List, [], ◌∷◌, ◌++◌, Option, Some, None, option_map, option_and_then, refl, sym, ap, subst, ◌∙◌}
 use Rattle.saphyr_parser.specs.Events.{Happening, Nothing, StreamStart, StreamEnd, DocumentStart, DocumentEnd, Alias, Scalar, SequenceStart, SequenceEnd, MappingStart, MappingEnd}
 use Rattle.saphyr_parser.specs.Nesting.{NestPlace, BeforeStream, InStream, BehindStream, BeforeRoot, BehindRoot, InSequence, BeforeKey, BeforeValue, Nest, nest_behind_stream, nest_inside, place_behind_node, place_behind_document, place_behind_stream_start, place_behind_stream_end, with_next_place, nest_of_outer, end_document, end_sequence, end_mapping, nest_behind_event, nest_behind_all}
-use Rattle.event_laws.proofs.Nesting.{nest_behind_all-append}
 use Rattle.yaml_tree.specs.DocumentSeen.{nest_in_stream}
+
+-- ## Longer lists
+
+append_along : (o : Option Nest) (f g h : Nest → Option Nest) → ((n : Nest) → f n ≡ option_and_then h (g n))
+    → option_and_then f o ≡ option_and_then h (option_and_then g o)
+append_along None f g h each = refl
+append_along (Some n) f g h each = each n
+
+pub nest_behind_all-append : (xs ys : List Happening) (n : Nest)
+    → nest_behind_all (xs ++ ys) n ≡ option_and_then (nest_behind_all ys) (nest_behind_all xs n)
+nest_behind_all-append [] ys n = refl
+nest_behind_all-append (x ∷ xs) ys n = append_along (nest_behind_event x n) (nest_behind_all (xs ++ ys))
+    (nest_behind_all xs) (nest_behind_all ys) (nest_behind_all-append xs ys)
 
 -- ## Places
 

@@ -8,20 +8,19 @@ use Rattle.saphyr_parser.specs.Events.{Happening, StreamStart, StreamEnd, Docume
 use Rattle.saphyr_parser.specs.Answer.{Answer, Ending}
 use Rattle.saphyr_parser.specs.EventsTaken.{IsCut, AreTaken}
 use Rattle.saphyr_parser.specs.Nesting.{Nest, nest_before_stream, nest_behind_stream, nest_behind_all, happenings, IsStreamStart, BeginsStream, IsAtStart, IsWhole, IsNested}
-use Rattle.event_laws.proofs.Nesting.{nest_behind_all-append, forest_nests, whole_at_end, nests, starts}
 use Rattle.yaml_tree.specs.declared.fault.TreeFault.TheVariants as fault
 use Rattle.yaml_tree.specs.declared.tally.Limits.{Limits}
 use Rattle.yaml_tree.specs.declared.document.Document.{Document}
 use Rattle.yaml_tree.specs.Unloading.{node_events, document_events, unload}
 use Rattle.yaml_tree.specs.DocumentLoading.{GoOnBetween, NestOn, AtMost, PassesDocument, PassesNoDocument, LoadsDocument, LoadsEach}
 use Rattle.yaml_tree.specs.DocumentSeen.{nest_in_stream}
-use Rattle.yaml_tree.proofs.Nests.{leaves_stream, never_ends}
+use Rattle.yaml_tree.proofs.Nests.{nest_behind_all-append, leaves_stream, never_ends}
 use Rattle.yaml_tree.proofs.DocumentFound.{two_nests}
 
 -- ## After a document
 
 -- from inside the stream these events lead to its end
-abbrev AreComplete : List Happening → Type 0
+abbrev pub AreComplete : List Happening → Type 0
 AreComplete hs = nest_behind_all hs nest_in_stream ≡ Some nest_behind_stream
 
 complete_behind : (d : Document) (o : Option Nest) (hs : List Happening)
@@ -146,18 +145,16 @@ passes_all missing limits d ds all mid left first others = record {
       (passes_each missing limits ds mid left others first.passed.complete);
 }
 
--- what is known of a new parser's events: with those that a fault cuts off they are complete
-record Begun (all : Answer) : Type 0 where
+-- What is known of a new parser's events. With those that a fault cuts off they are complete, and so are those that
+-- are left.
+pub record Begun (all : Answer) : Type 0 where
   pub missing : List Happening
   pub cut : IsCut all.fault missing
   pub complete : nest_behind_all (happenings all.events ++ missing) nest_before_stream ≡ Some nest_behind_stream
-
-begun : (keep : Bool) (text : List ℕ) (all : Answer) → AreTaken keep text all → Begun all
-begun keep text all (forest, t) = record {
-  missing = t.begins.missing;
-  cut = t.begins.all_given;
-  complete = forest_nests forest keep (happenings all.events ++ t.begins.missing) t.begins.are_events;
-}
+  pub start : IsAtStart all
+  pub nested : IsNested all
+  pub whole : (f : Option Ending) (hs : List Happening) → IsCut f missing → AreComplete (hs ++ missing)
+      → IsWhole f (nest_behind_all hs nest_in_stream)
 
 -- ## All documents
 
@@ -215,19 +212,15 @@ stream_of_none all start end (inr a) (inl b) at nested e is = absurd (whole_stre
 stream_of_none all start end (inr a) (inr b) at nested e is =
     sym (is ∙ ap (λ (hs : List Happening). hs ++ end) a ∙ ap (λ (hs : List Happening). StreamStart ∷ hs) b)
 
-pub gives_all : (keep : Bool) (text : List ℕ) (limits : Limits) (documents : List Document) (all left behind : Answer)
-    → AreTaken keep text all → LoadsEach limits documents all left → LoadsDocument limits (Ok None) left behind
+pub gives_all : (limits : Limits) (documents : List Document) (all left behind : Answer) → Begun all
+    → LoadsEach limits documents all left → LoadsDocument limits (Ok None) left behind
     → (unload documents ≡ happenings all.events) × (all.fault ≡ None)
-gives_all keep text limits [] all left behind taken same n =
-    let m = subst (λ (a : Answer). PassesNoDocument a behind) same n in (
-      stream_of_none all m.start m.end m.first m.last (starts keep text all taken) (nests keep text all taken)
-          m.fault m.events,
-      m.fault,
-    )
-gives_all keep text limits (d ∷ ds) all left behind taken (mid, one, others) n =
-    let b = begun keep text all taken in
+gives_all limits [] all left behind b same n =
+    let m = subst (λ (a : Answer). PassesNoDocument a behind) same n in
+    (stream_of_none all m.start m.end m.first m.last b.start b.nested m.fault m.events, m.fault)
+gives_all limits (d ∷ ds) all left behind b (mid, one, others) n =
     unloads_all all left behind (d ∷ ds) b (passes_all b.missing limits d ds all mid left
-    (passes_first b.missing limits d all mid one one.first (starts keep text all taken) b.complete) others) n
+    (passes_first b.missing limits d all mid one one.first b.start b.complete) others) n
 
 -- ## Never inside a document
 
@@ -241,11 +234,6 @@ next_at_start : (es : List (Happening × Span)) (f : Option Ending) → BeginsSt
 next_at_start [] f b w = record { between = tt; nests = tt }
 next_at_start ((StreamStart, span) ∷ es) f b w = record { between = tt; nests = w }
 next_at_start ((_, span) ∷ es) f b w = absurd b
-
-whole_from : (f : Option Ending) (hs missing : List Happening) → IsCut f missing → AreComplete (hs ++ missing)
-    → IsWhole f (nest_behind_all hs nest_in_stream)
-whole_from f hs missing cut e = whole_at_end f (nest_behind_all hs nest_in_stream) missing cut
-    (sym (nest_behind_all-append hs missing nest_in_stream) ∙ e)
 
 next_in_stream : (es : List (Happening × Span)) (f : Option Ending) (missing : List Happening)
     → AreComplete (happenings es ++ missing) → IsWhole f (nest_behind_all (happenings es) nest_in_stream)
@@ -269,15 +257,13 @@ next_behind : (all left : Answer) (ds : List Document) (b : Begun all) → Passe
 next_behind all left ds b p =
     let cut = subst (λ (f : Option Ending). IsCut f b.missing) p.passed.fault b.cut in
     next_in_stream left.events left.fault b.missing p.passed.complete
-    (whole_from left.fault (happenings left.events) b.missing cut p.passed.complete)
+    (b.whole left.fault (happenings left.events) cut p.passed.complete)
 
-pub goes_on_between : (keep : Bool) (text : List ℕ) (limits : Limits) (documents : List Document)
-    (all left behind : Answer) → AreTaken keep text all → LoadsEach limits documents all left
-    → LoadsDocument limits (Err fault.NotFresh) left behind → ⊥
-goes_on_between keep text limits [] all left behind taken same l = never_inside limits all behind
-    (next_at_start all.events all.fault (starts keep text all taken) (nests keep text all taken))
+pub goes_on_between : (limits : Limits) (documents : List Document) (all left behind : Answer) → Begun all
+    → LoadsEach limits documents all left → LoadsDocument limits (Err fault.NotFresh) left behind → ⊥
+goes_on_between limits [] all left behind b same l = never_inside limits all behind
+    (next_at_start all.events all.fault b.start b.nested)
     (subst (λ (a : Answer). LoadsDocument limits (Err fault.NotFresh) a behind) same l)
-goes_on_between keep text limits (d ∷ ds) all left behind taken (mid, one, others) l =
-    let b = begun keep text all taken in
+goes_on_between limits (d ∷ ds) all left behind b (mid, one, others) l =
     never_inside limits left behind (next_behind all left (d ∷ ds) b (passes_all b.missing limits d ds all mid left
-    (passes_first b.missing limits d all mid one one.first (starts keep text all taken) b.complete) others)) l
+    (passes_first b.missing limits d all mid one one.first b.start b.complete) others)) l

@@ -12,7 +12,7 @@ use Rattle.yaml_tree.specs.Counting.{Counts, counts_behind, counts_behind_all, n
 use Rattle.yaml_tree.specs.TallySeen.{counts_of, Exceeds, Tallies}
 use Rattle.yaml_tree.specs.BuilderSeen.{nest_of, Grows}
 use Rattle.yaml_tree.specs.LoaderSeen.{HasTaken, Forbids, TakesLast}
-use Rattle.event_laws.proofs.Nesting.{nest_behind_all-append}
+use Rattle.yaml_tree.proofs.Nests.{nest_behind_all-append}
 
 -- ## Longer lists
 

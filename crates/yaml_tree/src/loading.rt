@@ -12,6 +12,7 @@ use crate::builder::Builder;
 use crate::document::Document;
 use crate::fault::TreeFault;
 use crate::tally::{Limits, Tally};
+use saphyr_parser::law::hands_out_what_comes;
 use saphyr_parser::{Event, Input, Marker, Parser};
 use std::alloc::Global;
 
@@ -99,6 +100,7 @@ impl Loader {
         ensures leaves { (limits : Limits) → HasTaken limits [] self.old
             → LeavesFrom result parser.old parser.new }
     {
+        hands_out_what_comes();
         while self.take_document(parser)? {}
         Ok(())
     }
@@ -115,6 +117,7 @@ impl Loader {
         ensures leaves { (limits : Limits) (before : List Happening)
             → HasTaken limits before self.old → LeavesPart result parser.old parser.new }
     {
+        hands_out_what_comes();
         while let Some(read) = parser.next_event() {
             match read {
                 Ok((event, span)) => {

@@ -12,6 +12,7 @@ use crate::fault::TreeFault;
 use crate::loading::{Loader, is_at_start};
 use crate::spans::{SpanKeeper, SpannedDocuments};
 use crate::tally::Limits;
+use saphyr_parser::law::hands_out_what_comes;
 use saphyr_parser::{Event, Input, Parser, Span};
 use std::alloc::Global;
 
@@ -78,6 +79,7 @@ impl SpannedLoader {
         ensures leaves { (limits : Limits) → HasTaken limits [] self.old.loader
             → LeavesFrom result parser.old parser.new }
     {
+        hands_out_what_comes();
         while let Some(read) = parser.next_event() {
             match read {
                 Ok((event, span)) => self.take(event, span)?,

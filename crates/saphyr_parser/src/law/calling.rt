@@ -1,10 +1,11 @@
 //! Callers of a parser. Their contracts follow only from those of its calls.
-ghost use Rattle.std.specs.Prelude.{◌≡◌, ◌↔◌, None, IfSome, IsTrue, false};
+ghost use Rattle.std.specs.Prelude.{◌≡◌, ◌↔◌, ◌++◌, List, None, IfSome, IsTrue, false};
 ghost use Rattle.saphyr_scalar.specs.declared.scalar.position.Span.{Span as PlaceSpan};
-ghost use Rattle.saphyr_machine.specs.Calls.{GivesNext};
-ghost use Rattle.saphyr_machine.specs.Cursor.{at_start, keeping_tags};
+ghost use Rattle.saphyr_machine.specs.Answer.{empty_answer};
+ghost use Rattle.saphyr_machine.specs.Calls.{AdvancesOver, GivesNext, IsOver};
+ghost use Rattle.saphyr_machine.specs.Cursor.{EventCursor, at_start, keeping_tags, to_come};
 ghost use Rattle.saphyr_machine.specs.Views.Events.{happening};
-ghost use Rattle.saphyr_machine.specs.Events.{StreamEnd};
+ghost use Rattle.saphyr_machine.specs.Events.{Happening, StreamEnd};
 ghost use Rattle.saphyr_machine.specs.Loading.{SendsOne};
 ghost use Rattle.saphyr_scanner.specs.Views.Tokens.{Remaining};
 
@@ -23,6 +24,16 @@ fn ends_the_stream(event: Event<'_>) -> bool
 {
     matches!(event, Event::StreamEnd)
 }
+
+/// Events that are handed out one after the other are the first of those that were to come, and leave the others. If
+/// nothing is handed out any more, nothing is to come.
+pub fn hands_out_what_comes()
+    ensures events { (handed : List (Happening × PlaceSpan)) (old new : EventCursor)
+        → AdvancesOver handed old new
+        → ((to_come old).events ≡ handed ++ (to_come new).events)
+        × ((to_come old).fault ≡ (to_come new).fault) }
+    ensures over { (parser : EventCursor) → IsOver parser → to_come parser ≡ empty_answer }
+{}
 
 /// After iteration up to the end of the stream, `load` hands over only that end. The result is `None` if a fault ends
 /// the events, or if the end was handed out before.

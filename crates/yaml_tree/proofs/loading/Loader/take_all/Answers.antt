@@ -28,7 +28,7 @@ returns-clause-leaves g c = λ limits h.
     let before = c.loop.invariant limits h in
     let events = happenings before.0.taken in
     let leaves = rw c.if-branch.false at (c.in_ok-take_document.ensures.leaves limits events before.0.loader) in
-    leaves_rest {X = Bool} {Y = Unit {0}} false tt _ _ _ before.1 leaves
+    leaves_rest {X = Bool} {Y = Unit {0}} false tt _ _ _ c.hands_out_what_comes.ensures.events before.1 leaves
 
 pub returns-in_err-take_document-clause-takes : goal.returns-in_err-take_document-clause-takes
 returns-in_err-take_document-clause-takes g c = λ limits h.

@@ -32,7 +32,7 @@ returns-then-last-clause-takes g c = λ limits before h.
 
 pub returns-then-last-clause-shrinks : goal.returns-then-last-clause-shrinks
 returns-then-last-clause-shrinks g c = hands_less _ _ _ (event_of (c.in-Ok.event, c.in-Ok.span))
-    c.loop-read.invariant.1 (rw c.in-Ok.is at c.in-Some.ensures.leaves)
+    c.hands_out_what_comes.ensures.events c.loop-read.invariant.1 (rw c.in-Ok.is at c.in-Some.ensures.leaves)
 
 pub returns-then-last-clause-leaves : goal.returns-then-last-clause-leaves
 returns-then-last-clause-leaves g c = λ limits before h.
@@ -75,4 +75,5 @@ returns-clause-takes g c = λ limits before h.
 
 pub returns-clause-leaves : goal.returns-clause-leaves
 returns-clause-leaves g c = λ limits before h.
-    leaves_all {X = Bool} false _ _ _ c.loop-read.invariant.1 c.in_default.ensures.leaves
+    let laws = c.hands_out_what_comes.ensures in
+    leaves_all {X = Bool} false _ _ _ laws.events laws.over c.loop-read.invariant.1 c.in_default.ensures.leaves

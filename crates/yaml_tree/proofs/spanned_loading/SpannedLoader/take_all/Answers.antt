@@ -70,4 +70,5 @@ returns-clause-keeps g c = λ limits h.
 
 pub returns-clause-leaves : goal.returns-clause-leaves
 returns-clause-leaves g c = λ limits h.
-    leaves_all {X = Unit {0}} tt _ _ _ c.loop-read.invariant.1 c.in_default.ensures.leaves
+    let laws = c.hands_out_what_comes.ensures in
+    leaves_all {X = Unit {0}} tt _ _ _ laws.events laws.over c.loop-read.invariant.1 c.in_default.ensures.leaves
