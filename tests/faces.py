@@ -21,9 +21,11 @@ import tempfile
 from refused_memory import DATA, ROOT, cases_of, judge_lines, program, refuser, sweep, unescaped
 
 CRATE = f"{ROOT}/crates/saphyr_parser_c"
-PROGRAMS = ("cases", "dump_events", "misuse", "pieces")
+PROGRAMS = ("cases", "dump_events", "misuse", "pieces", "refusals")
 PIECES = (1, 2, 3, 4096)
+REFUSED_PIECES = (0, 2, 4096)  # 0: the whole text
 HOW = ["-std=c11", "-D_GNU_SOURCE", "-O2", "-Wall", "-Wextra", f"-I{CRATE}"]
+WRAP = [f"-Wl,--wrap={name}" for name in ("malloc", "realloc", "free")]  # `refusals` refuses by functions of its own
 VALGRIND = ["valgrind", "-q", "--error-exitcode=99", "--leak-check=full", "--errors-for-leak-kinds=definite,indirect"]
 FAILED = []
 
@@ -75,7 +77,8 @@ def built(folder, compiler):
     made, to_link = {}, libraries()
     for name in PROGRAMS:
         made[name] = f"{folder}/{name}"
-        call([compiler, *HOW, f"{ROOT}/tests/faces/{name}.c", *to_link, "-o", made[name]], ROOT)
+        wrap = WRAP if name == "refusals" else []
+        call([compiler, *HOW, *wrap, f"{ROOT}/tests/faces/{name}.c", *to_link, "-o", made[name]], ROOT)
     cargo("build", "--example", "dump_events")
     made["rust"] = os.environ.get("CARGO_TARGET_DIR", f"{ROOT}/rust/target") + "/release/examples/dump_events"
     return made
@@ -159,6 +162,16 @@ def refuse_each(made, library, case):
     return refused
 
 
+def refuse_in_process(made, count, cases):
+    """Refuses each request in turn of texts whose events are peeked, with clones, in pieces of so many bytes."""
+    ran = subprocess.run([made["refusals"], str(count)], input=b"".join(map(framed, cases)), capture_output=True)
+    *wrong, refused = ran.stdout.decode().splitlines() or [""]
+    if wrong or ran.returncode or not refused.isdigit():
+        fail(f"refusals {count}, status {ran.returncode}: {wrong or refused}")
+        return 0
+    return int(refused)
+
+
 def look_for_leaks(made, cases):
     """Runs the programs under valgrind."""
     texts = [case for case in cases if case.name in ("worked 001", "worked 004", "worked 043")]
@@ -192,6 +205,7 @@ def main():
         library = refuser(folder)
         swept = [case for case in worked if not case.keeps_tags]
         refused = sum(pool.map(lambda case: refuse_each(made, library, case), swept))
+        refused += sum(pool.map(lambda count: refuse_in_process(made, count, worked), REFUSED_PIECES))
         leaks = "no valgrind"
         if shutil.which("valgrind"):
             look_for_leaks(made, worked)

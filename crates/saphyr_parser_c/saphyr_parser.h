@@ -66,11 +66,13 @@ enum saphyr_status {
     SAPHYR_END = 0,
     /* saphyr_next, saphyr_peek: the event is written. */
     SAPHYR_EVENT = 1,
-    /* saphyr_next, saphyr_peek: the next event depends on bytes that did not come. No event is written. */
+    /* saphyr_next, saphyr_peek: the next event waits for bytes that did not come. No event is written. A text is read
+       up to its last line of `---` or `...` that came. So also a fault waits for the next such line, or the end. */
     SAPHYR_MORE = 2,
     /* saphyr_next, saphyr_peek: the text is refused. `value` says why, and `start` where. No event follows. */
     SAPHYR_REFUSED = -1,
-    /* Out of memory. From saphyr_next and saphyr_peek: no event follows. From saphyr_add: only saphyr_free helps. */
+    /* Out of memory. From saphyr_next and saphyr_peek: no event follows, whatever is added. From saphyr_add: the text
+       is lost, and saphyr_next says so too. From saphyr_new, saphyr_new_pieces and saphyr_clone: no parser is made. */
     SAPHYR_NO_MEMORY = -2,
     /* saphyr_new: the text is not UTF-8. saphyr_valid_up_to returns the index of the first wrong byte. saphyr_add: the
        bytes, behind those that came before, are not, whatever follows; or the text ends inside a character. Nothing is
@@ -83,7 +85,7 @@ enum saphyr_status {
        begin so. Nothing is added. */
     SAPHYR_UTF16 = -5,
     /* saphyr_add: all of the text is there already, since saphyr_new or saphyr_new_utf8 was given it or its end was
-       told. Nothing is added. */
+       told; or saphyr_add ran out of memory before. Nothing is added. */
     SAPHYR_WHOLE = -6
 };
 
@@ -202,14 +204,18 @@ int32_t saphyr_new_utf8(const uint8_t *text, size_t len, bool keep_tags, saphyr_
 int32_t saphyr_new_pieces(bool keep_tags, saphyr_parser *parser);
 
 /*
- * Adds the next `len` bytes of a text that comes in pieces. They may be cut anywhere, even inside a character. A `len`
- * of 0 says that no more come. The events are those of all bytes, one behind the other, wherever they are cut: those of
- * a document come once a line of `---` or `...` behind it has come, or the end, but what follows a bracket that such a
- * line leaves open may come later. Bytes that are not needed any more, since the text is refused, are not parsed.
+ * Adds the next `len` bytes of a text that comes in pieces. They may be cut anywhere, even inside a character. The
+ * events are those of all bytes, one behind the other, wherever they are cut: those of a document come once a line of
+ * `---` or `...` behind it has come, or the end, but what follows a bracket that such a line leaves open may come
+ * later. Bytes that are not needed any more, since the text is refused, are not parsed.
+ *
+ * A `len` of 0 says that no more come: nothing can be added after it. So do not pass on the 0 of a read that failed, or
+ * of one that has no bytes yet. `bytes` is not NULL then either.
  *
  * Returns SAPHYR_OK; SAPHYR_NOT_UTF8, SAPHYR_UTF16, SAPHYR_WHOLE or SAPHYR_NO_PARSER, and then nothing is added, and
- * the parser stays as it was; or SAPHYR_NO_MEMORY, and then saphyr_next hands out that fault too, once.
- * What it gives after that is not told.
+ * the parser stays as it was; or SAPHYR_NO_MEMORY. Then the text is lost, also what came of it before: saphyr_next
+ * hands out what saphyr_peek showed last, if it was not handed out yet, then that fault, once, and nothing more.
+ * saphyr_add returns SAPHYR_WHOLE from then on. Only a text that is refused needs no more bytes, and loses nothing.
  */
 int32_t saphyr_add(saphyr_parser *parser, const uint8_t *bytes, size_t len);
 
@@ -224,7 +230,7 @@ size_t saphyr_valid_up_to(const uint8_t *text, size_t len);
  * or a fault nothing is left.
  *
  * Returns SAPHYR_EVENT, SAPHYR_END, SAPHYR_REFUSED, SAPHYR_NO_MEMORY or SAPHYR_NO_PARSER. If the text comes in pieces
- * and the next event depends on bytes that did not come, returns SAPHYR_MORE, and the parser stays where it was.
+ * and the next event waits for bytes that did not come, returns SAPHYR_MORE, and the parser stays where it was.
  */
 int32_t saphyr_next(saphyr_parser *parser, saphyr_event *event);
 

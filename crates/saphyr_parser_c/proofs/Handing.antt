@@ -1,5 +1,5 @@
 -- What is handed out or shown of what is kept, wherever its texts are.
-use Rattle.std.proofs.Common.{◌≡◌, ◌∙◌, ℕ, Bool, true, false, List, Option, None, Some, Result, Ok, Err, ◌++◌, ap, sym, subst, refl}
+use Rattle.std.proofs.Common.{◌≡◌, ◌∙◌, ℕ, Bool, true, false, List, Option, None, Some, Result, Ok, Err, ◌++◌, ap, sym, subst, refl, true≢false}
 use Rattle.std.specs.Prelude.{string_bytes}
 use Rattle.std.specs.Str.{chars}
 use Rattle.std.specs.declared.boxed.Box.{Box}
@@ -23,8 +23,8 @@ use Rattle.saphyr_parser_c.specs.declared.source.Source.{Source}
 use Rattle.saphyr_parser_c.specs.declared.source.Source.TheVariants as source
 use Rattle.saphyr_parser_c.specs.declared.status.Status.{Status}
 use Rattle.saphyr_parser_c.specs.declared.status.Status.TheVariants as status
-use Rattle.saphyr_parser_c.specs.Coming.{at_bytes}
-use Rattle.saphyr_parser_c.specs.Inner.{HandsFrom, HandsOfComing, HandsOfPieces, HandsToC, HasSameBytes, IsAt, IsAtFrom, IsSameItem, ShowsFrom, ShowsOfComing, ShowsOfPieces, ShowsToC, TellsKept, Waits, WaitsForMore, handed}
+use Rattle.saphyr_parser_c.specs.Coming.{KeepsRest, at_bytes}
+use Rattle.saphyr_parser_c.specs.Inner.{HandsFrom, HandsOfComing, HandsOfPieces, HandsToC, IsAt, IsAtFrom, IsSameItem, ShowsFrom, ShowsOfComing, ShowsOfPieces, ShowsToC, TellsKept, Waits, WaitsForMore, handed}
 use Rattle.saphyr_parser_c.specs.Same.{IsSameFault}
 use Rattle.saphyr_parser_c.specs.Shown.{TellsC}
 
@@ -110,11 +110,11 @@ told_so Q end event refused memory (Some (Err fault.InsideDocument)) s c told = 
 
 -- ## A text that comes in pieces
 
-same_place : (old new : Coming) → HasSameBytes old new → (later : List ℕ)
+same_place : (old new : Coming) → KeepsRest old new → (later : List ℕ)
     → at_bytes new later ≡ at new.parser (chars (old.waiting.items ++ later))
-same_place old new same later = ap (λ (n : Coming). at_bytes n later) same
+same_place old new same later = ap (λ (n : Coming). at_bytes n later) same.0
 
-gives_place : (item : Item) (old new : Coming) → HasSameBytes old new
+gives_place : (item : Item) (old new : Coming) → KeepsRest old new
     → ((later : List ℕ) → GivesNext item (at old.parser later) (at new.parser later))
     → (later : List ℕ) → GivesNext item (at_bytes old later) (at_bytes new later)
 gives_place item old new same gives later =
@@ -122,8 +122,8 @@ gives_place item old new same gives later =
     (gives (chars (old.waiting.items ++ later)))
 
 -- what a call does to a value that is lent from a box
-pub same_lent : (lent old new : Coming) → lent ≡ old → HasSameBytes lent new → HasSameBytes old new
-same_lent lent old new is same = subst (λ (m : Coming). HasSameBytes m new) is same
+pub same_lent : (lent old new : Coming) → lent ≡ old → KeepsRest lent new → KeepsRest old new
+same_lent lent old new is same = subst (λ (m : Coming). KeepsRest m new) is same
 
 pub hands_lent : (p : Option Progress) (next : Event × Span) (f : Fault) (lent old new : Coming) → lent ≡ old
     → HandsOutOrWaits p next f lent.parser new.parser → HandsOutOrWaits p next f old.parser new.parser
@@ -151,10 +151,11 @@ hands_shown before after s c box from shown told =
     subst (λ (x : Source). HandsFrom x before s c after) (sym from) (
       box,
       told.others.0,
-      refl,
+      (refl, λ enough. enough),
       as_hands before after s c old old told.tells (record {
         gives = λ later here is. gives_same (handed before) (handed after) here (at_bytes old later) told.same
             (subst (λ (b : Bool). IsAtFrom b old before later here) shown is);
+        again = λ was. (told.same, refl);
         shown = told.others.1;
         tells = told.tells;
       }),
@@ -169,11 +170,12 @@ shows_shown before after s c box from shown told =
     subst (λ (x : Source). ShowsFrom x before s c after) (sym from) (
       box,
       told.others.0,
-      refl,
+      (refl, λ enough. enough),
       as_shows before after s c old old told.tells (record {
         place = λ later here is. subst (λ (b : Bool). IsAtFrom b old after later here) (sym (told.others.1 ∙ shown))
             (gives_same (handed before) (handed after) here (at_bytes old later) told.same
             (subst (λ (b : Bool). IsAtFrom b old before later here) shown is));
+        again = λ was. (told.same, refl);
         shown = told.others.1 ∙ shown;
         tells = told.tells;
       }),
@@ -181,7 +183,7 @@ shows_shown before after s c box from shown told =
 
 module _ (before : Inner) (s : Status) (c : CEvent) (from_box to_box : Box Coming Global) (next : Event × Span)
     (f : Fault) (from : before.source ≡ source.Pieces from_box) (shown : before.shown ≡ false)
-    (same : HasSameBytes from_box.value to_box.value) where
+    (same : KeepsRest from_box.value to_box.value) where
   abbrev old : Coming
   old = from_box.value
 
@@ -211,6 +213,7 @@ module _ (before : Inner) (s : Status) (c : CEvent) (from_box to_box : Box Comin
         same,
         as_hands before after s c old new told.tells (record {
           gives = behind p false after hands told;
+          again = λ was. absurd (true≢false (sym was ∙ shown));
           shown = told.others.1;
           tells = told.tells;
         }),
@@ -227,6 +230,7 @@ module _ (before : Inner) (s : Status) (c : CEvent) (from_box to_box : Box Comin
         as_shows before after s c old new told.tells (record {
           place = λ later here is. subst (λ (b : Bool). IsAtFrom b new after later here) (sym told.others.1)
               (behind p true after hands told later here is);
+          again = λ was. absurd (true≢false (sym was ∙ shown));
           shown = told.others.1;
           tells = told.tells;
         }),
@@ -237,6 +241,7 @@ module _ (before : Inner) (s : Status) (c : CEvent) (from_box to_box : Box Comin
       → WaitsForMore old before status.More c new (read progress.Over before.shown)
   waiting after hands waits = record {
     status = refl;
+    not_shown = shown;
     blank = waits.1;
     event = (refl, shown);
     wants = hands.0;
@@ -251,10 +256,10 @@ module _ (before : Inner) (s : Status) (c : CEvent) (from_box to_box : Box Comin
       → HandsOutOrWaits None next f old.parser new.parser → Waits (read before.progress before.shown) s c after
       → (WaitsForMore old before status.More c new (read progress.Over before.shown)
       → Of status.More c old before new (read progress.Over before.shown))
-      → (n : Box Coming Global) × (after.source ≡ source.Pieces n) × HasSameBytes old n.value
+      → (n : Box Coming Global) × (after.source ≡ source.Pieces n) × KeepsRest old n.value
       × Of s c old before n.value after
   none_comes Of after hands waits is =
-      subst (λ (a : Inner). (n : Box Coming Global) × (a.source ≡ source.Pieces n) × HasSameBytes old n.value
+      subst (λ (a : Inner). (n : Box Coming Global) × (a.source ≡ source.Pieces n) × KeepsRest old n.value
       × Of s c old before n.value a) (sym waits.2) (
         to_box,
         refl,

@@ -10,8 +10,8 @@ use Rattle.saphyr_parser_c.specs.declared.inner.Inner.{Inner}
 use Rattle.saphyr_parser_c.specs.declared.source.Source.{Source}
 use Rattle.saphyr_parser_c.specs.declared.source.Source.TheVariants as source
 use Rattle.saphyr_parser_c.specs.Coming.{IsOfNothing, at_bytes}
-use Rattle.saphyr_parser_c.specs.Coming.{IsCopyOfPieces}
-use Rattle.saphyr_parser_c.specs.Inner.{HasSameBytes, IsCopyOfParser, IsFresh, IsOfPieces, IsShownCopy, IsSourceCopy, IsSourceOf, KeepsFrom}
+use Rattle.saphyr_parser_c.specs.Coming.{IsCopyOfPieces, KeepsRest}
+use Rattle.saphyr_parser_c.specs.Inner.{IsCopyOfParser, IsFresh, IsOfPieces, IsShownCopy, IsSourceCopy, IsSourceOf, KeepsFrom}
 
 pub made_of_pieces : (keep : Bool) (coming : Coming) (s : Source) (inner : Inner) → IsOfNothing keep coming
     → IsSourceOf coming s → inner.source ≡ s → IsFresh inner → IsOfPieces keep inner
@@ -23,15 +23,15 @@ made_of_pieces keep coming s inner nothing (box, boxed, holds) is fresh = record
 }
 
 pub place_kept : (keep : Bool) (old new : Coming)
-    → ((later : List ℕ) → at new.parser later ≡ keeping_tags keep (at old.parser later)) → HasSameBytes old new
+    → ((later : List ℕ) → at new.parser later ≡ keeping_tags keep (at old.parser later)) → KeepsRest old new
     → (later : List ℕ) → at_bytes new later ≡ keeping_tags keep (at_bytes old later)
 place_kept keep old new kept same later =
-    ap (λ (c : Coming). at new.parser (chars (c.waiting.items ++ later))) same
+    ap (λ (c : Coming). at new.parser (chars (c.waiting.items ++ later))) same.0
     ∙ kept (chars (old.waiting.items ++ later))
 
 pub keeps_from_pieces : (keep : Bool) (old : Source) (coming new : Box Coming Global) → old ≡ source.Pieces coming
     → ((later : List ℕ) → at new.value.parser later ≡ keeping_tags keep (at coming.value.parser later))
-    → HasSameBytes coming.value new.value
+    → KeepsRest coming.value new.value
     → KeepsFrom old keep (source.Pieces new)
 keeps_from_pieces keep old coming new is kept same =
     subst (λ (s : Source). KeepsFrom s keep (source.Pieces new)) (sym is)

@@ -4,7 +4,7 @@ use Rattle.std.specs.Str.{chars}
 use Rattle.saphyr_scanner.specs.Steps.Remaining.{scan}
 use Rattle.saphyr_parser.specs.Cursor.{EventCursor, at_start, keeping_tags}
 use Rattle.saphyr_parser.specs.Limits.{most_characters}
-use Rattle.saphyr_pieces.specs.Pieces.{at, wants_more}
+use Rattle.saphyr_pieces.specs.Pieces.{LosesText, NeedsNoMore, at, wants_more}
 use Rattle.saphyr_parser_c.specs.declared.coming.Coming.{Coming}
 use Rattle.saphyr_parser_c.specs.declared.coming.Extent.{Extent}
 use Rattle.saphyr_parser_c.specs.declared.coming.Extent.TheVariants as extent
@@ -35,14 +35,19 @@ IsRefusal bytes c s = IsRefusalFrom c.extent bytes s
 abbrev pub WaitsForRest : Coming → Type 0
 WaitsForRest c = (length c.waiting.items ≤ 3) × IsCutCharacter c.waiting.items
 
+-- Memory ran out for bytes that came. If more of the text was wanted, nothing but that fault is left, whatever comes.
+-- Nothing is added any more.
+abbrev pub LosesRest : Coming → Coming → Type 0
+LosesRest old new = LosesText old.parser new.parser × (new.extent ≡ extent.All)
+
 -- These bytes came in place of those that waited: whole characters of them are the parser's, and a cut one waits. They
 -- are refused only if no bytes that may come later make them UTF-8, and taken in only if some do. If they are refused,
--- nothing changes. After a want of memory nothing is known of the parser.
+-- nothing changes.
 abbrev pub TakesIn : List ℕ → Coming → Status → Coming → Type 0
 TakesIn bytes old status.Done new =
     ((later : List ℕ) → at_bytes new later ≡ at old.parser (chars (bytes ++ later)))
-    × IsUtf8SoFar bytes × WaitsForRest new × (new.extent ≡ extent.Part)
-TakesIn bytes old status.NoMemory new = Unit {0}
+    × IsUtf8SoFar bytes × WaitsForRest new × (new.extent ≡ extent.Part) × NeedsNoMore old.parser new.parser
+TakesIn bytes old status.NoMemory new = LosesRest old new
 TakesIn bytes old s new = (IsUtf8SoFar bytes → ⊥) × IsRefusal bytes old s × (new ≡ old)
 
 -- No more comes. If a character is cut off, nothing changes.
@@ -50,7 +55,7 @@ abbrev pub EndsPieces : Coming → Status → Coming → Type 0
 EndsPieces old status.Done new =
     (old.waiting.items ≡ []) × ((later : List ℕ) → at new.parser later ≡ at old.parser [])
     × (wants_more new.parser ≡ false) × (new.extent ≡ extent.All)
-EndsPieces old status.NoMemory new = wants_more new.parser ≡ false
+EndsPieces old status.NoMemory new = LosesRest old new
 EndsPieces old s new = (s ≡ status.NotUtf8) × ((old.waiting.items ≡ []) → ⊥) × (new ≡ old)
 
 -- These bytes come next: the parser is that of all that came, one behind the other, whatever comes after them. They are
@@ -59,11 +64,12 @@ abbrev pub AddsSome : List ℕ → Coming → Status → Coming → Type 0
 AddsSome bytes old status.Done new =
     ((later : List ℕ) → at_bytes new later ≡ at_bytes old (bytes ++ later))
     × IsUtf8SoFar (old.waiting.items ++ bytes) × WaitsForRest new × (new.extent ≡ extent.Part)
-AddsSome bytes old status.NoMemory new = Unit {0}
+    × NeedsNoMore old.parser new.parser
+AddsSome bytes old status.NoMemory new = LosesRest old new
 AddsSome bytes old s new =
     (IsUtf8SoFar (old.waiting.items ++ bytes) → ⊥) × IsRefusal (old.waiting.items ++ bytes) old s × (new ≡ old)
 
--- No bytes say that no more come. After that nothing is added.
+-- No bytes say that no more come. After that, and after a want of memory, nothing is added.
 abbrev pub AddsBytes : Extent → List ℕ → Coming → Status → Coming → Type 0
 AddsBytes extent.All bytes old s new = (s ≡ status.Whole) × (new ≡ old)
 AddsBytes _ [] old s new = EndsPieces old s new
@@ -71,6 +77,10 @@ AddsBytes _ bytes old s new = AddsSome bytes old s new
 
 abbrev pub Adds : List ℕ → Coming → Status → Coming → Type 0
 Adds bytes old s new = AddsBytes old.extent bytes old s new
+
+-- What waits and how much came stay, and where no more of the text was wanted, none is.
+abbrev pub KeepsRest : Coming → Coming → Type 0
+KeepsRest old new = (new ≡ record old { parser = new.parser }) × NeedsNoMore old.parser new.parser
 
 abbrev pub IsCopyOfPieces : Coming → Coming → Type 0
 IsCopyOfPieces old copy =

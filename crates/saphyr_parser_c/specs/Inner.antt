@@ -24,7 +24,7 @@ use Rattle.saphyr_parser_c.specs.declared.source.Source.TheVariants as source
 use Rattle.saphyr_parser_c.specs.declared.status.Status.{Status}
 use Rattle.saphyr_parser_c.specs.declared.status.Status.TheVariants as status
 use Rattle.saphyr_parser_c.specs.Coming.{Adds, IsOfNothing, at_bytes}
-use Rattle.saphyr_parser_c.specs.Coming.{IsCopyOfPieces}
+use Rattle.saphyr_parser_c.specs.Coming.{IsCopyOfPieces, KeepsRest}
 use Rattle.saphyr_parser_c.specs.Encoding.{BeginsAsUtf16}
 use Rattle.saphyr_parser_c.specs.Same.{IsSameFault}
 use Rattle.saphyr_parser_c.specs.Shown.{HasFields, TellsC, TellsLent, no_fields, nowhere}
@@ -102,23 +102,37 @@ IsAt coming inner later c = IsAtFrom inner.shown coming inner later c
 pub record WaitsForMore (old : Coming) (before : Inner) (s : Status) (c : CEvent) (new : Coming) (after : Inner)
     : Type 0 where
   pub status : s ≡ status.More
+  pub not_shown : before.shown ≡ false
   pub blank : HasFields no_fields nowhere nowhere c
   pub event : IsFresh after
   pub wants : wants_more new.parser ≡ true
   pub place : (later : List ℕ) (at : EventCursor) → IsAt old before later at → IsAt new after later at
 
+-- the same item, wherever its texts are
+abbrev pub IsSameItem : Option (Result (Event × Span) Fault) → Option (Result (Event × Span) Fault) → Type 0
+IsSameItem None copy = copy ≡ None
+IsSameItem (Some (Ok e)) copy = (f : Event × Span) × (copy ≡ Some (Ok f)) × (event_of f ≡ event_of e)
+IsSameItem (Some (Err f)) copy = (g : Fault) × (copy ≡ Some (Err g)) × IsSameFault f g
+
+-- what was shown, the same again
+abbrev pub ShowsAgain : Coming → Inner → Coming → Inner → Type 0
+ShowsAgain old before new after = before.shown ≡ true → IsSameItem (handed before) (handed after) × (new ≡ old)
+
 -- Whatever comes later, what is handed out comes next in the whole text, and is told; it is kept until the next call.
+-- What was shown is handed out.
 pub record HandsOfPieces (old : Coming) (before : Inner) (s : Status) (c : CEvent) (new : Coming) (after : Inner)
     : Type 0 where
   pub gives : (later : List ℕ) (at : EventCursor) → IsAt old before later at
       → GivesNext (handed after) at (at_bytes new later)
+  pub again : ShowsAgain old before new after
   pub shown : after.shown ≡ false
   pub tells : TellsC (handed after) s c
 
--- The same is shown, and stays to be handed out.
+-- The same is shown, also where it was before, and stays to be handed out.
 pub record ShowsOfPieces (old : Coming) (before : Inner) (s : Status) (c : CEvent) (new : Coming) (after : Inner)
     : Type 0 where
   pub place : (later : List ℕ) (at : EventCursor) → IsAt old before later at → IsAt new after later at
+  pub again : ShowsAgain old before new after
   pub shown : after.shown ≡ true
   pub tells : TellsC (handed after) s c
 
@@ -130,10 +144,6 @@ abbrev pub ShowsOfComing : Status → CEvent → Coming → Inner → Coming →
 ShowsOfComing status.More c old before new after = WaitsForMore old before status.More c new after
 ShowsOfComing s c old before new after = ShowsOfPieces old before s c new after
 
--- the bytes that wait, and how much came, stay
-abbrev pub HasSameBytes : Coming → Coming → Type 0
-HasSameBytes old new = new ≡ record old { parser = new.parser }
-
 -- ## Each call
 
 abbrev pub HandsFrom : Source → Inner → Status → CEvent → Inner → Type 0
@@ -141,7 +151,7 @@ HandsFrom (source.Whole old) before s c after =
     (new : EventCursor) × (after.source ≡ source.Whole new) × (after.shown ≡ before.shown)
     × HandsOfWhole old new after s c
 HandsFrom (source.Pieces old) before s c after =
-    (new : Box Coming Global) × (after.source ≡ source.Pieces new) × HasSameBytes old.value new.value
+    (new : Box Coming Global) × (after.source ≡ source.Pieces new) × KeepsRest old.value new.value
     × HandsOfComing s c old.value before new.value after
 
 -- what comes next is handed out, or it waits for more of the text
@@ -153,25 +163,20 @@ ShowsFrom (source.Whole old) before s c after =
     (new : EventCursor) × (after.source ≡ source.Whole new) × (after.shown ≡ before.shown) × ShowsOfWhole old new s c
     × (handed after ≡ handed before)
 ShowsFrom (source.Pieces old) before s c after =
-    (new : Box Coming Global) × (after.source ≡ source.Pieces new) × HasSameBytes old.value new.value
+    (new : Box Coming Global) × (after.source ≡ source.Pieces new) × KeepsRest old.value new.value
     × ShowsOfComing s c old.value before new.value after
 
 -- what comes next is shown, or it waits for more of the text
 abbrev pub ShowsToC : Inner → Status → CEvent → Inner → Type 0
 ShowsToC before s c after = ShowsFrom before.source before s c after
 
--- After a want of memory the next call says so.
-abbrev pub StaysBut : Status → Inner → Inner → Type 0
-StaysBut status.NoMemory before after = (handed after ≡ Some (Err fault.OutOfMemory)) × (after.shown ≡ true)
-StaysBut s before after = after ≡ record before { source = after.source }
-
 abbrev pub AddsFrom : Source → List ℕ → Inner → Status → Inner → Type 0
 AddsFrom (source.Whole old) bytes before s after = (s ≡ status.Whole) × (after ≡ before)
 AddsFrom (source.Pieces old) bytes before s after =
     (new : Box Coming Global) × (after.source ≡ source.Pieces new) × Adds bytes old.value s new.value
-    × StaysBut s before after
+    × (after ≡ record before { source = after.source })
 
--- the next bytes of a text in pieces are added
+-- The next bytes of a text in pieces are added. What was shown stays to be handed out.
 abbrev pub AddsToC : List ℕ → Inner → Status → Inner → Type 0
 AddsToC bytes before s after = AddsFrom before.source bytes before s after
 
@@ -179,12 +184,6 @@ abbrev pub IsSourceCopy : Source → Source → Type 0
 IsSourceCopy (source.Whole old) copy = copy ≡ source.Whole old
 IsSourceCopy (source.Pieces old) copy =
     (new : Box Coming Global) × (copy ≡ source.Pieces new) × IsCopyOfPieces old.value new.value
-
--- the same item, wherever its texts are
-abbrev pub IsSameItem : Option (Result (Event × Span) Fault) → Option (Result (Event × Span) Fault) → Type 0
-IsSameItem None copy = copy ≡ None
-IsSameItem (Some (Ok e)) copy = (f : Event × Span) × (copy ≡ Some (Ok f)) × (event_of f ≡ event_of e)
-IsSameItem (Some (Err f)) copy = (g : Fault) × (copy ≡ Some (Err g)) × IsSameFault f g
 
 abbrev pub IsShownCopy : Bool → Inner → Inner → Type 0
 IsShownCopy false inner copy = IsFresh copy
@@ -197,7 +196,7 @@ IsCopyOfParser inner copy = IsSourceCopy inner.source copy.source × IsShownCopy
 abbrev pub KeepsFrom : Source → Bool → Source → Type 0
 KeepsFrom (source.Whole old) keep new = new ≡ source.Whole (keeping_tags keep old)
 KeepsFrom (source.Pieces old) keep new =
-    (coming : Box Coming Global) × (new ≡ source.Pieces coming) × HasSameBytes old.value coming.value
+    (coming : Box Coming Global) × (new ≡ source.Pieces coming) × KeepsRest old.value coming.value
     × ((later : List ℕ) → at_bytes coming.value later ≡ keeping_tags keep (at_bytes old.value later))
 
 -- it has that setting, and nothing else changes

@@ -4,6 +4,7 @@ ghost use Rattle.std.specs.Prelude.{◌≡◌, ◌++◌, List, ℕ, IfOk};
 ghost use Rattle.saphyr_parser.specs.Cursor.{keeping_tags};
 ghost use Rattle.saphyr_pieces.specs.Pieces.{HandsOutOrWaits, at};
 ghost use Rattle.saphyr_parser_c.specs.Coming as spec;
+ghost use Rattle.saphyr_parser_c.specs.declared.status.Status.TheVariants as status;
 
 use crate::encoding::{begins_as_utf16, whole_front};
 use crate::status::Status;
@@ -55,7 +56,7 @@ impl Coming {
         } else {
             match self.with_waiting(alloc, bytes) {
                 Ok(bytes) => self.take_in(alloc, &bytes),
-                Err(_) => Status::NoMemory,
+                Err(_) => self.lose(),
             }
         }
     }
@@ -78,15 +79,25 @@ impl Coming {
         };
         let (front, rest) = bytes.split_at(count);
         let Ok(waiting) = Vec::from_slice(alloc, rest) else {
-            return Status::NoMemory;
+            return self.lose();
         };
         let front = unsafe { str::from_utf8_unchecked(front) };
         let Ok(()) = self.parser.add(front) else {
-            return Status::NoMemory;
+            return self.lose();
         };
         self.waiting = waiting;
         self.extent = Extent::Part;
         Status::Done
+    }
+
+    // Ends the text after memory ran out for more of it: what follows would not be what comes next.
+    fn lose(&mut self) -> Status
+        ensures lost { spec.LosesRest self.old self.new }
+        ensures says { result ≡ status.NoMemory }
+    {
+        self.parser.run_out_of_memory();
+        self.extent = Extent::All;
+        Status::NoMemory
     }
 
     // Why bytes are refused that aren't UTF-8.
@@ -121,7 +132,7 @@ impl Coming {
         fault: &mut Fault,
     ) -> Option<Progress>
         ensures next { HandsOutOrWaits result next.new fault.new self.old.parser self.new.parser }
-        ensures same { self.new ≡ record self.old { parser = self.new.parser } }
+        ensures same { spec.KeepsRest self.old self.new }
     {
         self.parser.next_event_into(next, fault)
     }
@@ -142,7 +153,7 @@ impl Coming {
     pub fn keep_tags(&mut self, value: bool)
         ensures at { (later : List ℕ)
             → at self.new.parser later ≡ keeping_tags value (at self.old.parser later) }
-        ensures same { self.new ≡ record self.old { parser = self.new.parser } }
+        ensures same { spec.KeepsRest self.old self.new }
     {
         self.parser.keep_tags(value);
     }

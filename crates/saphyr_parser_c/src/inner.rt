@@ -104,17 +104,10 @@ impl Inner {
     pub fn add(&mut self, alloc: Global, bytes: &[u8]) -> Status
         ensures { spec.AddsToC bytes.now self.old result self.new }
     {
-        let Source::Pieces(coming) = &mut self.source else {
-            return Status::Whole;
-        };
-        let status = coming.add(alloc, bytes);
-        if matches!(status, Status::NoMemory) {
-            // The next call says so, in place of an event.
-            self.fault = Fault::OutOfMemory;
-            self.progress = Progress::Fault;
-            self.shown = true;
+        match &mut self.source {
+            Source::Whole(_) => Status::Whole,
+            Source::Pieces(coming) => coming.add(alloc, bytes),
         }
-        status
     }
 
     /// Hands out what comes next, and keeps it here until the next call.

@@ -24,30 +24,36 @@ SoundFrom (source.Text s) marker lines x =
     × (HasCome most_characters false marker text (with_rest x.rest s.state) × IsLastLineOf lines text))
 SoundFrom (source.Read e) marker lines x = x.tokens.refusal ≡ None
 SoundFrom source.Given marker lines x = Unit {0}
+SoundFrom source.Lost marker lines x = Unit {0}
 
 abbrev TokensFrom : Source → Readiness → EventCursor → Type 0
 TokensFrom source.Given readiness c = IsGivenOrNone c.kept
+TokensFrom source.Lost readiness c = Unit {0}
 TokensFrom _ readiness c = (c.kept ≡ None) × (c.machine.tokens.refusal ≡ None) × IsKnown readiness c.machine
 
 seen : (s : Source) (p : PieceReader) → IsSoundFrom s p → SoundFrom s p.marker p.lines (pieces_of p)
 seen (source.Text s) p h = h
 seen (source.Read e) p h = h
 seen source.Given p h = h
+seen source.Lost p h = h
 
 unseen : (s : Source) (p : PieceReader) → SoundFrom s p.marker p.lines (pieces_of p) → IsSoundFrom s p
 unseen (source.Text s) p h = h
 unseen (source.Read e) p h = h
 unseen source.Given p h = h
+unseen source.Lost p h = h
 
 tokens_seen : (s : Source) (p : PieceReader) → HasTokens s p → TokensFrom s p.readiness (pieces_of p).reader
 tokens_seen (source.Text s) p h = h
 tokens_seen (source.Read e) p h = h
 tokens_seen source.Given p h = h
+tokens_seen source.Lost p h = h
 
 tokens_unseen : (s : Source) (p : PieceReader) → TokensFrom s p.readiness (pieces_of p).reader → HasTokens s p
 tokens_unseen (source.Text s) p h = h
 tokens_unseen (source.Read e) p h = h
 tokens_unseen source.Given p h = h
+tokens_unseen source.Lost p h = h
 
 pub same_pieces : (x y : Pieces) → x.source ≡ y.source → x.rest ≡ y.rest → x.tokens ≡ y.tokens → x.reader ≡ y.reader
     → x ≡ y

@@ -67,10 +67,12 @@ module _ (p : PieceReader) (ts : Remaining) (e : EventReader StrInput) (r : Read
   sound_from (source.Text st) h = (h.0, refusal_behind t p.tokens ts first h.1, h.2)
   sound_from (source.Read o) h = refusal_behind t p.tokens ts first h
   sound_from source.Given h = tt
+  sound_from source.Lost h = tt
 
   has_from : (s : Source) → is_ready_from s p.readiness (cursor p.reader).machine.state ≡ false → HasTokens s p
       → HasTokens s fed
   has_from source.Given w h = absurd (true_is_not_false w)
+  has_from source.Lost w h = absurd (true_is_not_false w)
   has_from _ w h =
       let c : EventCursor = cursor p.reader in
       let waits = (neither (is_over c.machine.state) (is_ready p.readiness) w).1 in
@@ -85,6 +87,7 @@ module _ (p : PieceReader) (ts : Remaining) (e : EventReader StrInput) (r : Read
   at_from : (s : Source) (later : List ℕ) → is_ready_from s p.readiness (cursor p.reader).machine.state ≡ false
       → cursor_from s (pieces_of fed) later ≡ cursor_from s (pieces_of p) later
   at_from source.Given later w = absurd (true_is_not_false w)
+  at_from source.Lost later w = absurd (true_is_not_false w)
   at_from (source.Text st) later w =
       let after : Remaining = tokens_with false later (resumed (chars (string_bytes p.text)) st) in
       ap (with_others (before_all ts.pieces after)) given
@@ -97,6 +100,8 @@ module _ (p : PieceReader) (ts : Remaining) (e : EventReader StrInput) (r : Read
   pub gives_one : IsSoundReader p → is_ready_now p ≡ false → GivesTokens p fed
   gives_one i w = record {
     at = λ later. at_from p.source later w;
+    wants = refl;
+    found = refl;
     sound = record {
       source = sound_from p.source i.source;
       tokens = has_from p.source w i.tokens;
@@ -109,11 +114,14 @@ module _ (p : PieceReader) (ts : Remaining) (e : EventReader StrInput) (r : Read
 -- ## All of it
 
 pub gives_same : (p : PieceReader) → IsSoundReader p → GivesTokens p p
-gives_same p i = record { at = λ later. refl; sound = i; machine = refl; state = refl }
+gives_same p i =
+    record { at = λ later. refl; wants = refl; found = refl; sound = i; machine = refl; state = refl }
 
 pub gives_then : (p q r : PieceReader) → GivesTokens p q → GivesTokens q r → GivesTokens p r
 gives_then p q r g h = record {
   at = λ later. h.at later ∙ g.at later;
+  wants = h.wants ∙ g.wants;
+  found = h.found ∙ g.found;
   sound = h.sound;
   machine = h.machine ∙ ap (λ (d : EventCursor). record d { machine = (cursor r.reader).machine }) g.machine;
   state = h.state ∙ g.state;

@@ -11,7 +11,7 @@ use Rattle.saphyr_pieces.specs.declared.pieces.Source.{Source}
 use Rattle.saphyr_pieces.specs.declared.pieces.Source.TheVariants as source
 use Rattle.saphyr_pieces.specs.declared.readiness.Readiness.{Readiness}
 use Rattle.saphyr_pieces.specs.declared.readiness.Readiness.TheVariants as readiness
-use Rattle.saphyr_pieces.specs.Pieces.{at, cursor_from, with_others}
+use Rattle.saphyr_pieces.specs.Pieces.{at, cursor_from, out_of_memory, with_others}
 use Rattle.saphyr_pieces.specs.Readiness.{IsKnown}
 use Rattle.saphyr_pieces.specs.Views.{HasTokens, IsSoundReader, IsSoundFrom, pieces_of}
 
@@ -28,6 +28,7 @@ module _ (p : PieceReader) (e : EventReader StrInput) (v : Bool) (is : cursor e 
     at_from (source.Text st) later = ap (with_others _) is
     at_from (source.Read o) later = ap (with_others _) is
     at_from source.Given later = is
+    at_from source.Lost later = ap out_of_memory is
 
     pub keeps_at : (later : List ℕ)
         → at (pieces_of (record p { reader = e })) later ≡ keeping_tags v (at (pieces_of p) later)
@@ -37,9 +38,11 @@ module _ (p : PieceReader) (e : EventReader StrInput) (v : Bool) (is : cursor e 
     sound_from (source.Text st) h = h
     sound_from (source.Read o) h = h
     sound_from source.Given h = tt
+    sound_from source.Lost h = tt
 
     has_from : (s : Source) → HasTokens s p → HasTokens s (record p { reader = e })
     has_from source.Given t = subst (λ (d : EventCursor). IsGivenOrNone d.kept) (sym is) t
+    has_from source.Lost t = tt
     has_from _ t =
         subst (λ (d : EventCursor). (d.kept ≡ None) × (d.machine.tokens.refusal ≡ None) × IsKnown p.readiness d.machine)
         (sym is) (t.0, t.1, holds_still p.readiness (cursor p.reader).machine v t.2)

@@ -134,16 +134,14 @@ pub takes_in : (x : Source) (rest more new : List ℕ) (tokens : Remaining) (rea
 takes_in (source.Text s) rest more new tokens reader w e later =
     ap (λ x. with_others (before_all tokens.pieces (remaining s.limit (with_rest x s.state))) reader)
     (ap (λ x. x ++ later) e ∙ append_assoc rest more later)
-takes_in (source.Read r) rest more new tokens reader w e later = absurd (cc)
-takes_in source.Given rest more new tokens reader w e later = absurd (cc)
+takes_in _ rest more new tokens reader w e later = absurd (cc)
 
 -- what is known of the tokens that a reader has, where only others of its parts change
 tokens_stay : (x : Source) (p q : PieceReader) → cursor q.reader ≡ cursor p.reader → q.readiness ≡ p.readiness
     → wants_more_from x ≡ true → HasTokens x p → HasTokens x q
 tokens_stay (source.Text s) p q e r w h =
     subst (λ c. HoldsOf c q.readiness) (sym e) (subst (HoldsOf (cursor p.reader)) (sym r) h)
-tokens_stay (source.Read n) p q e r w h = absurd (cc)
-tokens_stay source.Given p q e r w h = absurd (cc)
+tokens_stay _ p q e r w h = absurd (cc)
 
 -- the marker that is remembered is one that came
 abbrev pub Remembers : PieceReader → PieceReader → List ℕ → Type 0
@@ -167,8 +165,7 @@ source_stays laws (source.Text s) p q more w t e follows remembers h =
         (remembers text h.2.1.1 (with_rest (chars (string_bytes q.text)) s.state) there, follows text h.2.1.1),
       ),
     )
-source_stays laws (source.Read n) p q more w t e follows remembers h = absurd (cc)
-source_stays laws source.Given p q more w t e follows remembers h = absurd (cc)
+source_stays laws _ p q more w t e follows remembers h = absurd (cc)
 
 pub stays_sound : Laws → (p q : PieceReader) (more : List ℕ) → wants_more_from p.source ≡ true → IsSoundReader p
     → q.source ≡ p.source → q.tokens ≡ p.tokens → cursor q.reader ≡ cursor p.reader → q.readiness ≡ p.readiness

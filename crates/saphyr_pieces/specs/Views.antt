@@ -4,6 +4,10 @@ use Rattle.std.specs.Str.{chars}
 use Rattle.saphyr_scanner.specs.Steps.State.{with_rest}
 use Rattle.saphyr_scanner.specs.Views.Stepping.{Stepping}
 use Rattle.saphyr_scanner.specs.Views.Tokens.{Piece}
+use Rattle.saphyr_machine.specs.declared.fault.Fault.{Fault}
+use Rattle.saphyr_machine.specs.declared.fault.Fault.TheVariants as fault
+use Rattle.saphyr_machine.specs.declared.progress.Progress.{Progress}
+use Rattle.saphyr_machine.specs.declared.progress.Progress.TheVariants as progress
 use Rattle.saphyr_machine.specs.declared.state.State.{State}
 use Rattle.saphyr_machine.specs.declared.state.State.TheVariants.{End}
 use Rattle.saphyr_machine.specs.Calls.{IsGivenOrNone}
@@ -17,7 +21,7 @@ use Rattle.saphyr_pieces.specs.declared.pieces.Source.TheVariants as source
 use Rattle.saphyr_pieces.specs.declared.readiness.Readiness.{Readiness}
 use Rattle.saphyr_pieces.specs.Comes.{HasCome}
 use Rattle.saphyr_pieces.specs.Lines.{IsLastLineOf}
-use Rattle.saphyr_pieces.specs.Pieces.{Pieces, at, wants_more}
+use Rattle.saphyr_pieces.specs.Pieces.{Pieces, at, is_lost, wants_more}
 use Rattle.saphyr_pieces.specs.Readiness.{IsKnown, is_ready}
 
 abbrev pub pieces_of : PieceReader → Pieces
@@ -31,6 +35,7 @@ pieces_of p = record {
 -- whether the reader has all tokens that its next event depends on
 abbrev pub is_ready_from : Source → Readiness → State → Bool
 is_ready_from source.Given r s = true
+is_ready_from source.Lost r s = true
 is_ready_from _ r s = is_over s || is_ready r
 
 abbrev pub is_ready_now : PieceReader → Bool
@@ -51,10 +56,12 @@ IsSoundFrom (source.Text s) p =
     (s.limit ≡ most_characters) × (p.tokens.refusal ≡ None) × ((text : List ℕ) × IsOfText p s text)
 IsSoundFrom (source.Read e) p = p.tokens.refusal ≡ None
 IsSoundFrom source.Given p = Unit {0}
+IsSoundFrom source.Lost p = Unit {0}
 
 -- what holds of the tokens that the reader has; a fault that it keeps was handed out
 abbrev pub HasTokens : Source → PieceReader → Type 0
 HasTokens source.Given p = IsGivenOrNone (cursor p.reader).kept
+HasTokens source.Lost p = Unit {0}
 HasTokens _ p =
     ((cursor p.reader).kept ≡ None) × ((cursor p.reader).machine.tokens.refusal ≡ None)
     × IsKnown p.readiness (cursor p.reader).machine
@@ -72,6 +79,8 @@ ChangesMachine old new = new ≡ record old { machine = new.machine }
 -- tokens were given to the reader, and nothing was read
 pub record GivesTokens (old new : PieceReader) : Type 0 where
   pub at : (later : List ℕ) → at (pieces_of new) later ≡ at (pieces_of old) later
+  pub wants : wants_more (pieces_of new) ≡ wants_more (pieces_of old)
+  pub found : is_lost (pieces_of new) ≡ is_lost (pieces_of old)
   pub sound : IsSoundReader new
   pub machine : ChangesMachine (cursor old.reader) (cursor new.reader)
   pub state : (cursor new.reader).machine.state ≡ (cursor old.reader).machine.state
@@ -81,6 +90,10 @@ pub record LosesTokens (old new : PieceReader) : Type 0 where
   pub kept : (cursor old.reader).kept ≡ None
   pub goes_on : (cursor old.reader).machine.state ≢ End
   pub machine : ChangesMachine (cursor old.reader) (cursor new.reader)
+
+-- a call says that memory ran out
+abbrev pub IsLack : Progress → Fault → Type 0
+IsLack p f = (p ≡ progress.Fault) × (f ≡ fault.OutOfMemory)
 
 -- how many tokens may still be given to the reader, and what ends them
 abbrev pub left_to_give_from : Source → List Piece → ℕ

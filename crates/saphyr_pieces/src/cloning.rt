@@ -15,6 +15,7 @@ impl Source {
             Source::Text(scanner) => Ok(Source::Text(scanner.try_clone()?)),
             Source::Read(refusal) => Ok(Source::Read(*refusal)),
             Source::Given => Ok(Source::Given),
+            Source::Lost => Ok(Source::Lost),
         }
     }
 }

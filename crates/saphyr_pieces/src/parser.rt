@@ -1,11 +1,11 @@
 //! The parser of a text that comes in pieces, as its callers see it.
 
-ghost use Rattle.std.specs.Prelude.{◌≡◌, ◌++◌, ℕ, List, [], IfOk, true, false};
+ghost use Rattle.std.specs.Prelude.{◌≡◌, ◌++◌, ℕ, List, [], IfOk, OnErr, true, false};
 ghost use Rattle.std.specs.Str.{chars};
 ghost use Rattle.saphyr_scanner.specs.Steps.Remaining.{scan};
 ghost use Rattle.saphyr_machine.specs.Cursor.{at_start, keeping_tags};
 ghost use Rattle.event_laws.specs.Limits.{most_characters};
-ghost use Rattle.saphyr_pieces.specs.Pieces.{HandsOutOrWaits, at, wants_more};
+ghost use Rattle.saphyr_pieces.specs.Pieces.{HandsOutOrWaits, LosesText, NeedsNoMore, at, wants_more};
 
 use crate::pieces::PieceReader;
 use saphyr_machine::{Event, Fault, Progress};
@@ -54,22 +54,32 @@ impl PieceParser {
 
     /// Adds the next characters of the text. Once `wants_more` is false they are not read.
     ///
-    /// If memory runs out, no event comes any more.
+    /// If memory runs out, the text is lost: `next_event_into` says so, once, and no event comes any more.
     pub fn add(&mut self, more: &str) -> Result<(), AllocError>
-        ensures { IfOk result (λ _. (later : List ℕ)
+        ensures at { IfOk result (λ _. (later : List ℕ)
             → at self.new later ≡ at self.old (chars more.now ++ later)) }
+        ensures enough { NeedsNoMore self.old self.new }
+        ensures lost { OnErr result (LosesText self.old self.new) }
     {
         self.reader.add(more)
     }
 
     /// Says that no more of the text comes. After it `next_event_into` gives all that is left.
     ///
-    /// If memory runs out, no event comes any more.
+    /// If memory runs out, the text is lost, as in `add`.
     pub fn end(&mut self) -> Result<(), AllocError>
         ensures at { IfOk result (λ _. (later : List ℕ) → at self.new later ≡ at self.old []) }
         ensures all { wants_more self.new ≡ false }
+        ensures lost { OnErr result (LosesText self.old self.new) }
     {
         self.reader.end()
+    }
+
+    /// Loses the text, if more of it is wanted: for a caller that has no memory for what it was to add.
+    pub fn run_out_of_memory(&mut self)
+        ensures { LosesText self.old self.new }
+    {
+        self.reader.run_out_of_memory();
     }
 
     /// Whether more of the text is wanted: its end did not come, and nothing that came is refused.
@@ -87,7 +97,8 @@ impl PieceParser {
         next: &mut (Event<'static>, Span),
         fault: &mut Fault,
     ) -> Option<Progress>
-        ensures { HandsOutOrWaits result next.new fault.new self.old self.new }
+        ensures next { HandsOutOrWaits result next.new fault.new self.old self.new }
+        ensures enough { NeedsNoMore self.old self.new }
     {
         self.reader.next_event_into(next, fault)
     }

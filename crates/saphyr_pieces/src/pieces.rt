@@ -10,7 +10,7 @@ ghost use Rattle.saphyr_machine.specs.Answer.{OutOfMemory};
 ghost use Rattle.saphyr_machine.specs.Cursor.{at_start, keeping_tags};
 ghost use Rattle.event_laws.specs.Limits.{most_characters};
 ghost use Rattle.saphyr_pieces.specs.Comes.{begun_state, first_token, is_latest, until_ended};
-ghost use Rattle.saphyr_pieces.specs.Pieces.{HandsOutOrWaits, at, wants_more};
+ghost use Rattle.saphyr_pieces.specs.Pieces.{HandsOutOrWaits, IsLost, LosesText, NeedsNoMore, at, is_lost, wants_more};
 ghost use Rattle.saphyr_pieces.specs.Views as spec;
 
 use crate::lines::Lines;
@@ -35,6 +35,8 @@ pub(crate) enum Source {
     Read(Option<Refusal>),
     /// The reader has all tokens.
     Given,
+    /// Memory ran out while the text came. The next call for an event says so.
+    Lost,
 }
 
 /// A reader of events, with what came of the text.
@@ -176,33 +178,58 @@ impl PieceReader {
         Ok(())
     }
 
-    // Gives up after memory ran out.
-    fn fail(&mut self)
+    // Says that memory ran out. Nothing is left after that.
+    fn fail(&mut self, fault: &mut Fault) -> Progress
         requires { (spec.pieces_of self.old).reader.current ≡ None }
         ensures at { (later : List ℕ)
             → at (spec.pieces_of self.new) later ≡ record (spec.pieces_of self.old).reader
             { kept = Some (record { fault = OutOfMemory; given = true }) } }
-        ensures sound { spec.IsSoundReader self.new }
+        ensures says { spec.IsLack result fault.new }
         ensures all { wants_more (spec.pieces_of self.new) ≡ false }
+        ensures sound { spec.IsSoundReader self.new }
     {
         self.source = Source::Given;
         self.reader.run_out_of_memory();
+        drop(replace(fault, Fault::OutOfMemory));
+        Progress::Fault
+    }
+
+    // Loses the text after memory ran out. The next call for an event says so.
+    fn lose(&mut self)
+        requires { (spec.pieces_of self.old).reader.current ≡ None }
+        ensures lost { IsLost (spec.pieces_of self.new) }
+        ensures sound { spec.IsSoundReader self.new }
+    {
+        self.source = Source::Lost;
+    }
+
+    /// Loses the text after memory ran out, if more of it is wanted. The next call for an event says so.
+    pub(crate) fn run_out_of_memory(&mut self)
+        requires { spec.IsSoundReader self.old }
+        ensures loses { LosesText (spec.pieces_of self.old) (spec.pieces_of self.new) }
+        ensures sound { spec.IsSoundReader self.new }
+    {
+        if self.wants_more() {
+            self.lose();
+        }
     }
 
     /// Adds the next characters of the text. They are ignored where none is wanted.
     ///
-    /// If memory runs out, the next call for an event gives nothing but the end.
+    /// If memory runs out, the text is lost, and the next call for an event says so.
     pub(crate) fn add(&mut self, more: &str) -> Result<(), AllocError>
         requires { spec.IsSoundReader self.old }
         ensures at { IfOk result (λ _. (later : List ℕ)
             → at (spec.pieces_of self.new) later ≡ at (spec.pieces_of self.old) (chars more.now ++ later)) }
+        ensures enough { NeedsNoMore (spec.pieces_of self.old) (spec.pieces_of self.new) }
+        ensures lost { OnErr result (LosesText (spec.pieces_of self.old) (spec.pieces_of self.new)) }
         ensures sound { spec.IsSoundReader self.new }
     {
         if !self.wants_more() {
             return Ok(());
         }
         if self.try_add(more).is_err() {
-            self.fail();
+            self.lose();
             return Err(AllocError);
         }
         Ok(())
@@ -253,19 +280,20 @@ impl PieceReader {
 
     /// Says that no more of the text comes.
     ///
-    /// If memory runs out, the next call for an event gives nothing but the end.
+    /// If memory runs out, the text is lost, and the next call for an event says so.
     pub(crate) fn end(&mut self) -> Result<(), AllocError>
         requires { spec.IsSoundReader self.old }
         ensures at { IfOk result (λ _. (later : List ℕ)
             → at (spec.pieces_of self.new) later ≡ at (spec.pieces_of self.old) []) }
         ensures all { wants_more (spec.pieces_of self.new) ≡ false }
+        ensures lost { OnErr result (LosesText (spec.pieces_of self.old) (spec.pieces_of self.new)) }
         ensures sound { spec.IsSoundReader self.new }
     {
         if !self.wants_more() {
             return Ok(());
         }
         if self.read_on(true).is_err() {
-            self.fail();
+            self.lose();
             return Err(AllocError);
         }
         Ok(())
@@ -282,7 +310,16 @@ impl PieceReader {
     fn is_ready(&self) -> bool
         ensures { result ≡ spec.is_ready_now self.now }
     {
-        matches!(self.source, Source::Given) || self.reader.is_over() || self.readiness.is_ready()
+        matches!(self.source, Source::Given | Source::Lost)
+            || self.reader.is_over()
+            || self.readiness.is_ready()
+    }
+
+    // Whether memory ran out while the text came, which is still to be said.
+    fn is_lost(&self) -> bool
+        ensures { result ≡ is_lost (spec.pieces_of self.now) }
+    {
+        matches!(self.source, Source::Lost)
     }
 
     // Gives the next token to the reader, or what ends them all. `false`: it waits for more of the text.
@@ -340,9 +377,11 @@ impl PieceReader {
     // Hands out the next event of a reader that is ready.
     fn advance(&mut self, next: &mut (Event<'static>, Span), fault: &mut Fault) -> Progress
         requires sound { spec.IsSoundReader self.old }
+        requires found { is_lost (spec.pieces_of self.old) ≡ false }
         requires ready { spec.is_ready_now self.old ≡ true }
         ensures next { HandsOutOrWaits (Some result) next.new fault.new (spec.pieces_of self.old)
             (spec.pieces_of self.new) }
+        ensures enough { NeedsNoMore (spec.pieces_of self.old) (spec.pieces_of self.new) }
         ensures sound { spec.IsSoundReader self.new }
     {
         match self.reader.advance(next, fault) {
@@ -368,16 +407,16 @@ impl PieceReader {
         requires { spec.IsSoundReader self.old }
         ensures next { HandsOutOrWaits result next.new fault.new (spec.pieces_of self.old)
             (spec.pieces_of self.new) }
+        ensures enough { NeedsNoMore (spec.pieces_of self.old) (spec.pieces_of self.new) }
         ensures sound { spec.IsSoundReader self.new }
     {
+        if self.is_lost() {
+            return Some(self.fail(fault));
+        }
         match self.give_tokens() {
             Ok(true) => Some(self.advance(next, fault)),
             Ok(false) => None,
-            Err(_) => {
-                self.fail();
-                drop(replace(fault, Fault::OutOfMemory));
-                Some(Progress::Fault)
-            }
+            Err(_) => Some(self.fail(fault)),
         }
     }
 

@@ -17,4 +17,5 @@ returns c =
       is_utf8_so_far n bytes c.in-Some.ensures.front.1 c.in-Some.ensures.waits,
       rest_is_cut n back rest bytes halves.back c.in-Ok.ensures.items c.in-Some.ensures.cut c.in-Some.ensures.waits,
       refl,
+      c.add.ensures.enough,
     )

@@ -2,7 +2,7 @@ use Rattle.std.proofs.Common.{◌≡◌, List, ℕ, refl, subst}
 use Rattle.saphyr_parser.specs.Cursor.{keeping_tags}
 use Rattle.saphyr_pieces.specs.Pieces.{at}
 use Rattle.saphyr_parser_c.specs.declared.coming.Coming.{Coming}
-use Rattle.saphyr_parser_c.specs.Inner.{HasSameBytes}
+use Rattle.saphyr_parser_c.specs.Coming.{KeepsRest}
 use Rattle.saphyr_parser_c.proofs.OfPieces.{keeps_from_pieces}
 use Rattle.saphyr_parser_c.proofs.inner.Inner.keep_tags.Goals as goal
 
@@ -15,6 +15,6 @@ returns-in-Pieces c =
       keeps_from_pieces value _ c.in-Pieces.coming _ c.in-Pieces.is
           (subst (λ (m : Coming). (later : List ℕ) → at new.parser later ≡ keeping_tags value (at m.parser later)) is
           kept.at)
-          (subst (λ (m : Coming). HasSameBytes m new) is kept.same),
+          (subst (λ (m : Coming). KeepsRest m new) is kept.same),
       refl,
     )
