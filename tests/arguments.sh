@@ -77,6 +77,8 @@ answers 0 "$events" --events text
 answers 0 "$events" --events
 answers 1 '-:1:1: warning: the text has more than 0 nodes\na: b\n^\n' --max-nodes 0
 answers 1 '-:1:1: warning: more than 0 collections are open here\na: b\n^\n' --max-depth 0 -
+printf -- '---\n' >$'two\nlines'
+answers 1 'two\\nlines:1:1: warning: this document has no content\n---\n^\n' $'two\nlines'
 answers 0 "$(sed -n 's/^const VERSION: &str = "\(.*\)";$/\1/p' "$crates/check_yaml/src/main.rt")\n" --version
 
 usage=$("$program" --help)
@@ -90,6 +92,8 @@ esac
 answers 0 "$usage\n" --help
 complaint="check_yaml: there is no option --wrong\n$usage\n"
 answers 2 '' --wrong empty
+complaint="check_yaml: there is no option --two\\\\nlines\n$usage\n"
+answers 2 '' $'--two\nlines'
 complaint="check_yaml: --max-depth asks for a number\n$usage\n"
 answers 2 '' --max-depth
 answers 2 '' --max-depth -1
@@ -98,6 +102,8 @@ answers 2 '' --max-nodes empty
 complaint="check_yaml: missing: can't read\n"
 answers 2 '' missing
 answers 2 "$warned$refused" empty missing refused
+complaint="check_yaml: no\\\\nfile: can't read\n"
+answers 2 '' $'no\nfile'
 complaint="check_yaml: .: can't read\n"
 answers 2 '' . --quiet empty
 

@@ -9,12 +9,14 @@
 ghost use Rattle.std.specs.Prelude.{◌≡◌};
 ghost use Rattle.std.specs.Process.{exit_status};
 
-use std::alloc::AllocError;
+use std::alloc::{AllocError, Global};
 use std::env;
 use std::fs::File;
+use std::io::{BufWriter, Write};
 use std::process::ExitCode;
 use yaml_check::{
     Call, CheckFault, HELP, Options, Verdict, WrongCall, check_source, parse_arguments, status_of,
+    visible,
 };
 
 const VERSION: &str = "check_yaml 0.3.3+rattle.2";
@@ -48,8 +50,21 @@ fn say(rt: &HostRuntime, text: &str) -> ExitCode {
 fn misused(rt: &HostRuntime, wrong: &WrongCall) -> ExitCode
     ensures { exit_status result ≡ 2 }
 {
-    let _ = eprintln!(rt; "check_yaml: {wrong}\n{HELP}");
-    ExitCode::from(2)
+    match wrong_call(rt.alloc(), wrong) {
+        Ok(text) => {
+            let _ = eprintln!(rt; "check_yaml: {text}\n{HELP}");
+            ExitCode::from(2)
+        }
+        Err(_) => refuse(rt, "out of memory"),
+    }
+}
+
+// Why a call is refused, with the words of the call as they are shown.
+fn wrong_call(alloc: Global, wrong: &WrongCall) -> Result<String, AllocError> {
+    let text = format!(in alloc; "{wrong}")?;
+    let shown = visible(alloc, text.as_str());
+    drop(text);
+    shown
 }
 
 fn refuse(rt: &HostRuntime, text: &str) -> ExitCode
@@ -65,7 +80,7 @@ fn check_files(rt: &HostRuntime, options: Options, files: &[&str]) -> ExitCode {
     for name in files {
         let answer = check_file(rt, options, name);
         if let Err(fault) = answer {
-            let _ = eprintln!(rt; "check_yaml: {name}: {fault}");
+            say_unchecked(rt, name, fault);
         }
         if answers.push(answer).is_err() {
             return refuse(rt, "out of memory");
@@ -74,14 +89,45 @@ fn check_files(rt: &HostRuntime, options: Options, files: &[&str]) -> ExitCode {
     ExitCode::from(status_of(&answers))
 }
 
+// Says why a file was not checked.
+fn say_unchecked(rt: &HostRuntime, name: &str, fault: CheckFault) {
+    match visible(rt.alloc(), name) {
+        Ok(name) => {
+            let _ = eprintln!(rt; "check_yaml: {name}: {fault}");
+        }
+        Err(_) => {
+            let _ = eprintln!(rt; "check_yaml: {fault}");
+        }
+    }
+}
+
+// Checks a file. What is printed is gathered, since each event is a line of its own.
 fn check_file(rt: &HostRuntime, options: Options, name: &str) -> Result<Verdict, CheckFault> {
+    let Ok(mut out) = BufWriter::new(rt.alloc(), rt.stdout()) else {
+        return Err(CheckFault::OutOfMemory);
+    };
+    let answer = check_named(rt, options, name, &mut out);
+    let flushed = out.flush();
+    drop(out);
+    match flushed {
+        Ok(()) => answer,
+        Err(_) => Err(CheckFault::CantWrite),
+    }
+}
+
+// Checks the file of this name, or standard input.
+fn check_named<W: Write>(
+    rt: &HostRuntime,
+    options: Options,
+    name: &str,
+    out: &mut W,
+) -> Result<Verdict, CheckFault> {
     let alloc = rt.alloc();
-    let mut out = rt.stdout();
     if name == "-" {
-        return check_source(alloc, name, &mut rt.stdin(), options, &mut out);
+        return check_source(alloc, name, &mut rt.stdin(), options, out);
     }
     match File::open(rt, name) {
-        Ok(mut file) => check_source(alloc, name, &mut file, options, &mut out),
+        Ok(mut file) => check_source(alloc, name, &mut file, options, out),
         Err(_) => Err(CheckFault::CantRead),
     }
 }

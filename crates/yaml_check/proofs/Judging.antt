@@ -23,6 +23,7 @@ use Rattle.yaml_check.specs.declared.run.CheckFault.TheVariants as fault
 use Rattle.yaml_check.specs.declared.run.Verdict.{Verdict}
 use Rattle.yaml_check.specs.Checked.{NamesFault, NamesWarnings}
 use Rattle.yaml_check.specs.Reports.{IsReport}
+use Rattle.yaml_check.specs.Shown.{shown_text}
 use Rattle.yaml_check.specs.Checks.{Checks, IsCutShort, Judges, JudgesBytes, WritesLines, WritesTold, events_asked, told_unless_quiet}
 
 pub judges_text : (r : Result Verdict CheckFault) (name : List ℕ) (options : Options) (text bytes : List ℕ)
@@ -86,7 +87,7 @@ cut_lines name options bytes old new t =
 pub cut_report : (name : List ℕ) (options : Options) (bytes told : List ℕ) (old middle new : Option (List ℕ))
     (found : Findings) → NamesFault (answer_of_text bytes) found
     → NamesWarnings options.limits (answer_of_text bytes) found
-    → IsReport name (chars bytes) found told
+    → IsReport (shown_text name) (chars bytes) found told
     → Appends old middle (events_asked options (answer_of_text bytes))
     → TakesBeginning middle new (told_unless_quiet options told) → IsCutShort name options bytes old new
 cut_report name options bytes told old middle new found names warns report lines t = record {
@@ -177,7 +178,7 @@ pub told_cut : (f : CheckFault) (name : List ℕ) (options : Options) (bytes tol
     Option (List ℕ))
     (found : Findings) → NamesFault (answer_of_text bytes) found
     → NamesWarnings options.limits (answer_of_text bytes) found
-    → IsReport name (chars bytes) found told
+    → IsReport (shown_text name) (chars bytes) found told
     → Appends old middle (events_asked options (answer_of_text bytes))
     → WritesTold (Err f) (told_unless_quiet options told) middle new → Judges (Err f) name options bytes old new
 told_cut fault.CantRead name options bytes told old middle new found names warns report lines h = absurd h

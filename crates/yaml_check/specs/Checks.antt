@@ -14,6 +14,7 @@ use Rattle.yaml_check.specs.declared.run.Verdict.TheVariants as verdict
 use Rattle.yaml_check.specs.Checked.{NamesFault, NamesWarnings}
 use Rattle.yaml_check.specs.Warned.{nothing_seen, warnings_on}
 use Rattle.yaml_check.specs.Reports.{IsReport}
+use Rattle.yaml_check.specs.Shown.{shown_text}
 
 -- nothing was found
 abbrev pub IsClean : Findings → Type 0
@@ -41,7 +42,7 @@ pub record IsWrong (name : List ℕ) (options : Options) (bytes : List ℕ) (old
   pub names : NamesFault (answer_of_text bytes) found
   pub warns : NamesWarnings options.limits (answer_of_text bytes) found
   pub told : List ℕ
-  pub report : IsReport name (chars bytes) found told
+  pub report : IsReport (shown_text name) (chars bytes) found told
   pub middle : Option (List ℕ)
   pub events : Appends old middle (events_asked options (answer_of_text bytes))
   pub written : Appends middle new (told_unless_quiet options told)
@@ -51,7 +52,7 @@ pub record IsWrong (name : List ℕ) (options : Options) (bytes : List ℕ) (old
 pub record IsCutShort (name : List ℕ) (options : Options) (bytes : List ℕ) (old new : Option (List ℕ)) : Type 0 where
   pub told : List ℕ
   pub report : (told ≡ []) ⊎ ((found : Findings) × NamesFault (answer_of_text bytes) found
-      × NamesWarnings options.limits (answer_of_text bytes) found × IsReport name (chars bytes) found told)
+      × NamesWarnings options.limits (answer_of_text bytes) found × IsReport (shown_text name) (chars bytes) found told)
   pub taken : TakesBeginning old new (events_asked options (answer_of_text bytes) ++ told_unless_quiet options told)
 
 -- What the verdict on a text says of it.

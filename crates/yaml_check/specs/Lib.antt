@@ -4,11 +4,8 @@ pub mod CheckerSeen
 pub mod Checks
 pub mod Contents
 pub mod Counting
-pub mod EqualKeys
 pub mod Keys
 pub mod KeysSeen
-pub mod Meant
-pub mod Nodes
 pub mod Reports
 pub mod Shown
 pub mod Sizes
@@ -17,4 +14,3 @@ pub mod Statuses
 pub mod Texts
 pub mod Views
 pub mod Warned
-pub mod WideAliases

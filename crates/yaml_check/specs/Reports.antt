@@ -9,7 +9,8 @@ use Rattle.yaml_check.specs.Texts.{error_line, name_and_place, warning_line}
 use Rattle.yaml_check.specs.Shown.{place_index}
 use Rattle.yaml_check.specs.Views.{IsView, excerpt}
 
--- One thing is told after what was: its place, a line of text, and the line of the place with a caret.
+-- One thing is told after what was: its place, with the text's name as it is shown, a line of text, and the line of the
+-- place with a caret.
 pub record AddsReport (name text : List ℕ) (place : Marker) (line old new : List ℕ) : Type 0 where
   pub view : View
   pub is_view : IsView text (place_index text place.index) place.col view

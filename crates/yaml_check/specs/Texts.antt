@@ -20,6 +20,6 @@ warning_line w = codes "warning: " ++ (warning_text w ++ codes "\n")
 abbrev pub error_line : List ℕ → List ℕ
 error_line text = codes "error: " ++ (text ++ codes "\n")
 
--- the name of a text and a place in it
+-- the name of a text, as it is shown, and a place in it
 abbrev pub name_and_place : List ℕ → Marker → List ℕ
 name_and_place name place = name ++ (codes ":" ++ (line_and_column place ++ codes ": "))

@@ -1,14 +1,16 @@
 -- What is shown of a line round a place.
-use Rattle.std.specs.Prelude.{◌≡◌, ℕ, ◌+◌, ◌-◌, ◌≤◌, min, nat_lt, List, ◌++◌, length, drop, slice_range, replicate, codes}
+use Rattle.std.specs.Prelude.{◌≡◌, ℕ, ◌+◌, ◌-◌, ◌≤◌, min, true, nat_lt, List, ◌++◌, length, drop, slice_index, slice_range, replicate, codes}
 use Rattle.yaml_check.specs.declared.view.View.{View}
-use Rattle.yaml_check.specs.Shown.{shown_columns, cut, line_goes_on, visible, StaysOnLine}
+use Rattle.yaml_check.specs.Shown.{shown_columns, cut, line_goes_on, visible, IsFull, StaysOnLine}
 
 -- the characters of a line that come before a place in this column
 abbrev pub front_of : List ℕ → ℕ → ℕ → List ℕ
 front_of text at col = slice_range text (at - min col at) at
 
--- What is shown round a place. Of what comes before it on its line the end is shown, and of what comes after it the
--- beginning, up to a break at most. In all that takes 200 columns at most, and the caret is under the place.
+-- What is shown round a place. Of what comes before it on its line the end is shown, in 120 columns at most, and of what
+-- comes after it the beginning, up to a break at most. In all that takes 200 columns at most, and on either side 200
+-- characters at most. Where a side is cut, one more of its characters doesn't fit, with three columns for what is in
+-- place of the others. The caret is under the place.
 pub record IsView (text : List ℕ) (at col : ℕ) (v : View) : Type 0 where
   pub left : List ℕ
   pub front : front_of text at col ≡ left ++ v.front.now
@@ -18,7 +20,11 @@ pub record IsView (text : List ℕ) (at col : ℕ) (v : View) : Type 0 where
   pub line : StaysOnLine v.back.now
   pub cut_behind : v.cut_behind ≡ line_goes_on right
   pub caret : v.caret ≡ length (cut v.cut_before) + shown_columns v.front.now
+  pub before_fits : v.caret ≤ 120
   pub fits : v.caret + shown_columns v.back.now + length (cut v.cut_behind) ≤ 200
+  pub few : (length v.front.now ≤ 200) × (length v.back.now ≤ 200)
+  pub full_before : v.cut_before ≡ true → IsFull 117 v.front.now (slice_index left (length left - 1))
+  pub full_behind : v.cut_behind ≡ true → IsFull (197 - v.caret) v.back.now (slice_index right 0)
 
 -- how it is shown, in UTF-8
 abbrev pub excerpt : View → List ℕ

@@ -1,16 +1,45 @@
 //! The findings as people read them: the place, the message, the line and a caret.
 ghost use Rattle.std.specs.Prelude.{◌≡◌, ◌++◌, [], IfOk, OnOk, string_bytes};
 ghost use Rattle.std.specs.Str.{chars};
+ghost use Rattle.yaml_check.specs.Shown.{shown_text};
 ghost use Rattle.yaml_check.specs.Texts.{error_line, name_and_place, warning_line};
 ghost use Rattle.yaml_check.specs.Reports.{AddsFault, AddsReport, AddsWarnings, IsReport};
 
 use crate::finding::{Finding, Findings, Warning};
-use crate::view::View;
+use crate::view::{View, push_visible};
 use saphyr_parser::{Marker, ScanError};
 use std::alloc::{AllocError, Global};
 
+/// A text as it is shown, on one line: what breaks a line, steers a terminal or can't be seen is an escape.
+pub fn visible(alloc: Global, text: &str) -> Result<String, AllocError>
+    ensures { IfOk result (λ shown. string_bytes shown ≡ shown_text text.now) }
+{
+    let text = characters(alloc, text)?;
+    let mut out = String::new(alloc);
+    let pushed = push_visible(&mut out, &text);
+    drop(text);
+    match pushed {
+        Ok(()) => Ok(out),
+        Err(fault) => {
+            drop(out);
+            Err(fault)
+        }
+    }
+}
+
 /// What is printed for the findings in a text of this name: the warnings, and the fault after them.
 pub fn report(alloc: Global, name: &str, text: &str, found: &Findings) -> Result<String, AllocError>
+    ensures { IfOk result (λ told. IsReport (shown_text name.now) (chars text.now) found.now
+        (string_bytes told)) }
+{
+    let shown = visible(alloc, name)?;
+    let told = report_as(alloc, shown.as_str(), text, found);
+    drop(shown);
+    told
+}
+
+/// The same, where the name is as it is shown.
+fn report_as(alloc: Global, name: &str, text: &str, found: &Findings) -> Result<String, AllocError>
     ensures { IfOk result (λ told. IsReport name.now (chars text.now) found.now
         (string_bytes told)) }
 {
@@ -152,6 +181,14 @@ pub(crate) fn report_not_utf8(
     name: &str,
     front: &str,
 ) -> Result<String, AllocError> {
+    let shown = visible(alloc, name)?;
+    let told = report_not_utf8_as(alloc, shown.as_str(), front);
+    drop(shown);
+    told
+}
+
+/// The same, where the name is as it is shown.
+fn report_not_utf8_as(alloc: Global, name: &str, front: &str) -> Result<String, AllocError> {
     let text = characters(alloc, front)?;
     let mut out = String::new(alloc);
     let told = tell_error(

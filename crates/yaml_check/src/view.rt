@@ -1,16 +1,19 @@
 //! The part of a line that is shown around a place: at most 200 columns, in which each character is visible.
-ghost use Rattle.std.specs.Prelude.{◌≡◌, ◌+◌, ◌-◌, ◌<◌, ◌≤◌, ◌++◌, true, false, length, nat_lt, take, drop, replicate, OnOk, string_bytes};
+ghost use Rattle.std.specs.Prelude.{◌≡◌, ◌+◌, ◌-◌, ◌<◌, ◌≤◌, ◌++◌, ◌⊎◌, true, false, length, nat_lt, slice_index, take, drop, replicate, OnOk, IsTrue, string_bytes};
 ghost use Rattle.std.specs.Char.Escape.{escape_default};
 ghost use Rattle.yaml_check.specs.Shown as shown;
 
 use saphyr_parser::Marker;
 use std::alloc::AllocError;
+use ucd_derived::is_default_ignorable_code_point;
 use unicode_width::UnicodeWidthChar;
 
 /// The most columns that are shown, including those of a cut.
 const COLUMNS: usize = 200;
 /// The most of them that are before the place.
 const FRONT: usize = 120;
+/// The most characters that are shown on either side of the place: some take no column.
+const CHARACTERS: usize = 200;
 /// What replaces the part that is cut off, on either side.
 const CUT: &str = "...";
 
@@ -25,16 +28,13 @@ pub(crate) struct View<'a> {
     caret: usize,
 }
 
-/// Whether a character is shown by an escape: a control character, or an invisible one that moves others.
+/// Whether a character is shown by an escape: a control character, a separator of lines, or an invisible one, as those
+/// are that change the direction of text.
 #[tactic(auto, unfolding(crate::specs::Shown::is_hidden))]
 fn is_hidden(c: char) -> bool
     ensures { result ≡ shown.is_hidden c }
 {
-    c.is_control()
-        || ('\u{200b}' <= c && c <= '\u{200f}')
-        || ('\u{2028}' <= c && c <= '\u{202e}')
-        || ('\u{2060}' <= c && c <= '\u{206f}')
-        || c == '\u{feff}'
+    c.is_control() || ('\u{2028}' <= c && c <= '\u{2029}') || is_default_ignorable_code_point(c)
 }
 
 /// How many columns the escape of a character takes.
@@ -67,20 +67,30 @@ fn is_end_of_line(c: char) -> bool
     c == '\n' || c == '\r'
 }
 
+/// Whether one more character, the one at this place, fits beside so many, into so many columns.
+fn fits(characters: &[char], at: usize, count: usize, left: usize) -> bool
+    requires { at < length characters.now }
+    ensures yes { IsTrue result → (count < 200)
+        × (shown.columns_of (slice_index characters.now at) ≤ left) }
+    ensures no { result ≡ false
+        → (200 ≤ count) ⊎ (left < shown.columns_of (slice_index characters.now at)) }
+{
+    count < CHARACTERS && columns_of(characters[at]) <= left
+}
+
 /// The last of some characters that fit into this many columns: where they begin, and how many columns they leave.
 fn last_that_fit(characters: &[char], most: usize) -> (usize, usize)
     ensures within { result.0 ≤ length characters.now }
     ensures left { result.1 + shown.shown_columns (drop result.0 characters.now) ≡ most }
+    ensures few { length characters.now ≤ 200 + result.0 }
+    ensures full { 0 < result.0 → shown.IsFull most (drop result.0 characters.now)
+        (slice_index characters.now (result.0 - 1)) }
 {
     let mut start = characters.len();
     let mut left = most;
-    while start > 0 {
-        let wide = columns_of(characters[start - 1]);
-        if wide > left {
-            break;
-        }
-        left -= wide;
+    while start > 0 && fits(characters, start - 1, characters.len() - start, left) {
         start -= 1;
+        left -= columns_of(characters[start]);
     }
     (start, left)
 }
@@ -91,6 +101,9 @@ fn fit_front(line: &[char]) -> (usize, usize)
     ensures caret { result.1 ≡ length (shown.cut (nat_lt 0 result.0))
         + shown.shown_columns (drop result.0 line.now) }
     ensures fits { result.1 ≤ 120 }
+    ensures few { length line.now ≤ 200 + result.0 }
+    ensures full { 0 < result.0 → shown.IsFull 117 (drop result.0 line.now)
+        (slice_index line.now (result.0 - 1)) }
 {
     let most = FRONT - CUT.len();
     let (start, left) = last_that_fit(line, most);
@@ -110,21 +123,35 @@ fn line_goes_on(rest: &[char]) -> bool
     }
 }
 
+/// Whether one more character of a line is shown behind this many, in this many columns.
+fn one_more_fits(characters: &[char], count: usize, left: usize) -> bool
+    ensures yes { IsTrue result → (count < length characters.now) × (count < 200)
+        × (shown.is_end_of_line (slice_index characters.now count) ≡ false)
+        × (shown.columns_of (slice_index characters.now count) ≤ left) }
+    ensures no { result ≡ false → count < length characters.now
+        → shown.is_end_of_line (slice_index characters.now count) ≡ false
+        → (200 ≤ count) ⊎ (left < shown.columns_of (slice_index characters.now count)) }
+{
+    if count >= characters.len() || is_end_of_line(characters[count]) {
+        return false;
+    }
+    fits(characters, count, count, left)
+}
+
 /// How many characters of a line, up to its break, fit into this many columns.
 fn count_that_fit(characters: &[char], most: usize) -> usize
     ensures within { result ≤ length characters.now }
     ensures fits { shown.shown_columns (take result characters.now) ≤ most }
     ensures line { shown.StaysOnLine (take result characters.now) }
+    ensures few { result ≤ 200 }
+    ensures full { result < length characters.now
+        → shown.is_end_of_line (slice_index characters.now result) ≡ false
+        → shown.IsFull most (take result characters.now) (slice_index characters.now result) }
 {
     let mut count = 0;
     let mut left = most;
-    while count < characters.len() {
-        let c = characters[count];
-        let wide = columns_of(c);
-        if wide > left || is_end_of_line(c) {
-            break;
-        }
-        left -= wide;
+    while one_more_fits(characters, count, left) {
+        left -= columns_of(characters[count]);
         count += 1;
     }
     count
@@ -142,7 +169,7 @@ fn push_escape(out: &mut String, c: char) -> Result<(), AllocError>
 }
 
 /// Appends characters as they are shown.
-fn push_visible(out: &mut String, characters: &[char]) -> Result<(), AllocError>
+pub(crate) fn push_visible(out: &mut String, characters: &[char]) -> Result<(), AllocError>
     ensures { OnOk result (string_bytes out.new
         ≡ string_bytes out.old ++ shown.visible characters.now) }
 {

@@ -164,7 +164,7 @@ turn_leaves old new r h none none_new e end own = (
 
 -- ## The parts of a collection
 
-none_left : {X : Type 0} (xs : List X) → length xs ≡ 0 → xs ≡ []
+pub none_left : {X : Type 0} (xs : List X) → length xs ≡ 0 → xs ≡ []
 none_left [] e = refl
 none_left (x ∷ xs) e = absurd (omega arith)
 

@@ -163,9 +163,10 @@ Enters (Enter entered depth) node old new around =
 Enters _ node old new around = ⊥
 
 -- A visit of the next node: only ends of collections are passed before its event, whose span it has, and the path leads
--- to it. Where no visit comes, no node is left; after lack of memory nothing more comes.
+-- to it. Where no visit comes, no node is left. Then, and after lack of memory, no span is left, so that nothing more
+-- comes.
 abbrev pub Visits : Walk → Option (Result Visit AllocError) → Walk → Type 0
-Visits old None new = AreCollectionEnds (left_to_visit old)
+Visits old None new = AreCollectionEnds (left_to_visit old) × (new.spans.now ≡ [])
 Visits old (Some (Err e)) new = new.spans.now ≡ []
 Visits old (Some (Ok visit)) new =
     (passed : List (Happening × Span)) × (events : List Happening) × AreCollectionEnds passed

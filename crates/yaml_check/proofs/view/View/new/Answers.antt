@@ -8,4 +8,6 @@ returns c =
     c.count_that_fit-count.result _ _ _ c.min-at.ensures (search (rules, c.min-at.ensures, c.min.ensures)) refl
     refl c.fit_front-start.ensures.within refl
     refl c.count_that_fit-count.ensures.line refl c.line_goes_on.ensures c.fit_front-start.ensures.caret
-    c.fit_front-start.ensures.fits c.count_that_fit-count.ensures.fits
+    c.fit_front-start.ensures.fits c.count_that_fit-count.ensures.fits c.fit_front-start.ensures.few
+    c.count_that_fit-count.ensures.few c.count_that_fit-count.ensures.within c.fit_front-start.ensures.full
+    c.count_that_fit-count.ensures.full

@@ -1,6 +1,6 @@
 use Rattle.std.proofs.Common.{ap, arith, length}
 use Rattle.yaml_tree.specs.declared.walk.Visit.{Visit}
-use Rattle.yaml_tree.proofs.Walks.{passes_end, visits_node, ends_without_spans}
+use Rattle.yaml_tree.proofs.Walks.{passes_end, visits_node, ends_without_spans, none_left}
 use Rattle.yaml_tree.proofs.walk.WalkIterator.next.Goals as goal
 
 pub loop-span-preserved : goal.loop-span-preserved
@@ -14,8 +14,10 @@ loop-span-preserved c =
     )
 
 pub returns-clause-steps : goal.returns-clause-steps
-returns-clause-steps c = ends_without_spans c.args.self.now c.loop-span.self c.loop-span.invariant.0
-    c.in_default.ensures.cases
+returns-clause-steps c = (
+  ends_without_spans c.args.self.now c.loop-span.self c.loop-span.invariant.0 c.in_default.ensures.cases,
+  none_left c.loop-span.self.spans.now c.in_default.ensures.cases,
+)
 
 pub returns-in-Ok-Enter-clause-steps : goal.returns-in-Ok-Enter-clause-steps
 returns-in-Ok-Enter-clause-steps c =
