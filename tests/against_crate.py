@@ -10,7 +10,8 @@ each behind a line with its length in bytes, and prints for each the length of i
 written as `crates/test_events/src/lib.rt` says. In TEXT `\\n`, `\\r`, `\\t`, `\\\\` and `\\u{HEX}` stand for characters.
 
 A list is to be the crate's, but where `docs/DIFFERENCES.md` says otherwise. Each list that differs is counted under the
-words of that page that tell of it; one under which no words fall fails the script, and so do words that the page lacks.
+words of that page that explain it (`tests/reasons.py` says how); one that none explain fails the script, and so do words
+that the page lacks.
 """
 
 import collections
@@ -20,49 +21,13 @@ import subprocess
 import sys
 import tempfile
 
+import reasons
+
 ROOT = pathlib.Path(__file__).resolve().parents[1]
 DATA = ROOT / "crates/test_cases/data"
 ESCAPE = re.compile(r"\\(\\|n|r|t|u\{([0-9a-f]+)\})")
 NAMED = {"\\": "\\", "n": "\n", "r": "\r", "t": "\t"}
 NAMES = {character: f"\\{name}" for name, character in NAMED.items()}
-
-# Words of the page, and the texts and lists that they are about: the text, the crate's list and ours.
-KNOWN = [
-    (
-        "Anchors are forgotten at each document's start, also in iteration.",
-        lambda text, theirs, ours: "unknown anchor" in ours[-1] and "unknown anchor" not in theirs[-1],
-    ),
-    (
-        "In a flow sequence, after a pair with `?`, a pair without `?` has the spans of such pairs",
-        lambda text, theirs, ours: re.search(r"[\[,]\s*(#[^\n]*\n\s*)*\?(\s|$)", text),
-    ),
-    (
-        "Percent escapes in tags stand for the characters whose UTF-8 they are",
-        lambda text, theirs, ours: "%" in text and "!" in text,
-    ),
-    (
-        "Inside flow a tab may stand between a colon and its value.",
-        lambda text, theirs, ours: re.search(r":\s*\t", text) and "':' must be followed" in theirs[-1],
-    ),
-    (
-        "A block scalar at indentation 0 ends at `---` too",
-        lambda text, theirs, ours: re.search(r"[|>]", text) and re.search(r"(^|[\r\n])(---|\.\.\.)", text),
-    ),
-    (
-        "Clip keeps one break where the text ends in a line of spaces",
-        lambda text, theirs, ours: re.search(r"[|>]", text) and re.search(r"\n *(\0.*)?$", text, re.S),
-    ),
-    (
-        "After a tab too, a comment ends a plain scalar.",
-        lambda text, theirs, ours: re.search(r"\t *#", text),
-    ),
-    (
-        "`fetch_while_is_yaml_non_space` counts characters in every input, not bytes.",
-        lambda text, theirs, ours: re.search(r"^%[^\n]*[^\0-\x7f]", text, re.M)
-        and without_places(theirs) == without_places(ours),
-    ),
-]
-
 
 def unescaped(text):
     return ESCAPE.sub(lambda found: NAMED.get(found[1]) or chr(int(found[2], 16)), text)
@@ -75,10 +40,6 @@ def escaped(text):
         is_shown = it.isprintable() and it != "\ufeff"
         told.append(NAMES.get(it) or (it if is_shown else f"\\u{{{ord(it):x}}}"))
     return "".join(told)
-
-
-def without_places(lines):
-    return [re.sub(r" (@ [\d, ]+|at byte \d+ line \d+ column \d+)$", "", line) for line in lines]
 
 
 def cases(path):
@@ -121,42 +82,38 @@ def run(program, texts, keeps=False):
     return lists
 
 
-def words_for(text, theirs, ours):
-    """Returns the words of the page that tell of two lists of a text which differ, or None."""
-    return next((words for words, fits in KNOWN if fits(text, theirs, ours)), None)
-
-
 def compare(program):
-    """Counts the lists that differ by the words that tell of them, and returns those of which none do."""
-    counts, untold, number = collections.Counter(), [], 0
-    for path in sorted(DATA.glob("*.txt")):
-        for keeps in (False, True):
-            found = [it for it in cases(path) if it[2] == keeps]
-            for (name, text, _, ours), theirs in zip(found, run(program, [it[1] for it in found], keeps)):
-                number += 1
-                if ours == theirs:
-                    continue
-                told = words_for(text, theirs, ours)
-                if told:
-                    counts[told] += 1
-                else:
-                    untold.append((name, text, theirs, ours))
-    print(f"{number} cases, {counts.total() + len(untold)} of them with another list than the crate's:")
+    """Counts the lists that differ by the words that explain them, and returns those that none do."""
+    number, partly, counts, unexplained = 0, 0, collections.Counter(), []
+    for keeps in (False, True):
+        found = [it for path in sorted(DATA.glob("*.txt")) for it in cases(path) if it[2] == keeps]
+        lists = [it[3] for it in found]
+        explained = reasons.explain([it[1] for it in found], lists, lambda texts: run(program, texts, keeps))
+        number += len(found)
+        partly += sum(not it.is_whole for it in explained)
+        counts.update(it.words[0] if it.words else "without a reason" for it in explained)
+        unexplained += [(found[it.number][0], it) for it in explained if not it.is_explained]
+    print(f"{number} cases, {counts.total()} of them with another list than the crate's:")
+    print_counts(counts, partly)
+    return unexplained
+
+
+def print_counts(counts, partly):
     for words, count in counts.most_common():
         print(f"{count:6} {words}")
-    return untold
+    print(f"{partly:6} of them are compared only up to a pair with `?`, which the crate doesn't read as one")
 
 
 def main(words):
     if len(words) == 1:
         page = " ".join((ROOT / "docs/DIFFERENCES.md").read_text(encoding="utf-8").split())
-        lacking = [told for told, _ in KNOWN if told not in page]
-        untold = compare(words[0])
-        for name, text, theirs, ours in untold:
-            print(f"{name}: {escaped(text)}\n  the crate: {theirs}\n  here:      {ours}")
+        lacking = [told for told, _ in reasons.REASONS if told not in page]
+        unexplained = compare(words[0])
+        for name, it in unexplained:
+            print(f"{name}: {it.shown()}")
         for told in lacking:
             print(f"docs/DIFFERENCES.md doesn't say: {told}")
-        sys.exit(1 if untold or lacking else 0)
+        sys.exit(1 if unexplained or lacking else 0)
     if len(words) > 2 and words[1] == "--new":
         texts = [unescaped(it) for it in words[2:]]
         for text, lines in zip(texts, run(words[0], texts)):

@@ -6,7 +6,7 @@
 Makes N texts (20,000) from the seed S (1), and reads them by tests/faces/fuzz.c, which says what has to hold. Where
 clang has libFuzzer, that tries N texts more, which need not be UTF-8. With PROGRAM, a program over the Rust crate as
 `tests/against_crate.py` wants it, the events and places of the N texts are compared with the crate's: each difference has
-to fall under words of `docs/DIFFERENCES.md`. The text that goes wrong is shown.
+to be explained by words of `docs/DIFFERENCES.md`, as `tests/reasons.py` says. The text that goes wrong is shown.
 
 The library is the one that `rt lib` or `rt ci` left in crates/saphyr_parser_c/out, as for `tests/faces.py`.
 """
@@ -22,6 +22,7 @@ import tempfile
 
 import against_crate
 import faces
+import reasons
 
 SOURCE = f"{faces.ROOT}/tests/faces/fuzz.c"
 # What texts are changed by: the words of YAML, and what the standard treats apart.
@@ -84,17 +85,11 @@ def lists_by(program, texts):
 
 
 def compare(program, peer, texts):
-    """Returns the texts that the Rust crate reads otherwise, where no words tell of it."""
-    counts, untold = collections.Counter(), []
-    for text, ours, theirs in zip(texts, lists_by(program, texts), against_crate.run(peer, texts)):
-        told = None if ours == theirs else against_crate.words_for(text, theirs, ours)
-        if told:
-            counts[told] += 1
-        elif ours != theirs:
-            untold.append((text, theirs, ours))
-    for words, count in counts.most_common():
-        print(f"{count:6} {words}")
-    return untold
+    """Returns the texts that the Rust crate reads otherwise, where no words of the page explain it."""
+    explained = reasons.explain(texts, lists_by(program, texts), lambda asked: against_crate.run(peer, asked))
+    counts = collections.Counter(it.words[0] if it.words else "without a reason" for it in explained)
+    against_crate.print_counts(counts, sum(not it.is_whole for it in explained))
+    return [it for it in explained if not it.is_explained]
 
 
 def run_libfuzzer(folder, library, runs, seed):
@@ -134,12 +129,12 @@ def main():
             print(f"whole and in pieces: {wrong!r}")
         went_well = run_libfuzzer(folder, library, given.runs, given.seed)
         failed += went_well is False
-        untold = compare(f"{folder}/cases", given.against, texts) if given.against else []
-    for text, theirs, ours in untold[:20]:
-        print(f"{against_crate.escaped(text)}\n  the crate: {theirs}\n  here:      {ours}")
+        unexplained = compare(f"{folder}/cases", given.against, texts) if given.against else []
+    for it in unexplained[:20]:
+        print(it.shown())
     by = "" if went_well is None else f", as many by libFuzzer"
-    print(f"fuzz: {len(texts)} texts{by}; {failed + len(untold)} read otherwise")
-    return 1 if failed or untold else 0
+    print(f"fuzz: {len(texts)} texts{by}; {failed + len(unexplained)} read otherwise")
+    return 1 if failed or unexplained else 0
 
 
 if __name__ == "__main__":

@@ -267,7 +267,7 @@ class Reader:
             return ("no lines", (end, end)) if self.c(end) else ("header", (own, end))
         line = self.text[start : self.line_end(start)]
         begins = event.properties or event.value.lstrip("\n").startswith(line)
-        closes = self.column(end) == 0 or not self.c(end) or self.c(end) not in BLANK + BREAK
+        closes = self.column(end) == 0 or not self.c(end) or self.c(end) not in " " + BREAK
         lines = self.text[self.line_end(own) : end]
         breaks = re.findall("\r\n|\r|\n", lines[len(lines.rstrip(BLANK + BREAK)) :])
         row = "empty lines" if len(breaks) > 1 else "lines"

@@ -21,6 +21,7 @@ const TEXTS: &[&str] = &[
     "|\n a\n ",
     "|+\n a\n ",
     "--- |\na\n---\nb\n",
+    "a\n---\nb\n",
     "&a x\n--- *a",
     "- &a x\n- *a\n- &a y\n- *a",
     "a\u{0}b",
@@ -149,20 +150,32 @@ fn refuses_a_text_past_the_limit(rt: HostRuntime) {
     expect_by_each(&rt, rt.alloc(), "abcd", start, true);
 }
 
-// The lines are all lines of the text, or a beginning of them and then that the text is too long.
-fn are_beginning(told: String, all: &str) -> bool {
+// The lines are all lines of the text, or, where not all of it may be read, a beginning of them and then that the text
+// is too long.
+fn are_within(told: String, all: &str, is_whole: bool) -> bool {
     let holds = match before_too_long(told.as_str()) {
-        Some(before) => all.starts_with(before),
+        Some(before) => !is_whole && all.starts_with(before),
         None => told.as_str() == all,
     };
     drop(told);
     holds
 }
 
+// With this limit each input gives all these lines of a text, or a beginning of them.
+fn gives_within(alloc: Global, text: &str, limit: usize, all: &str) -> bool {
+    let is_whole = limit == text.len();
+    let by_str = told_by_str(alloc, text, Some(limit), NO_CALLS);
+    let holds_by_str = are_within(by_str, all, is_whole);
+    let by_iter = told_by_iter(alloc, text, Some(limit), NO_CALLS);
+    let holds_by_iter = are_within(by_iter, all, is_whole);
+    let by_list = told_by_list(alloc, text, Some(limit), NO_CALLS);
+    holds_by_str && holds_by_iter && are_within(by_list, all, is_whole)
+}
+
 // With each limit up to its length a text gives all these lines, or a beginning of them.
 fn gives_beginnings_of(alloc: Global, text: &str, all: &str) -> bool {
-    for limit in 0..text.len() {
-        if !are_beginning(told_by_str(alloc, text, Some(limit), NO_CALLS), all) {
+    for limit in 0..=text.len() {
+        if !gives_within(alloc, text, limit, all) {
             return false;
         }
     }
