@@ -198,8 +198,7 @@ def derived(text, exceptions=recognizer.ALL):
 
 def is_taken(text, answer):
     """Whether tokens that meet each condition give the answer."""
-    found = answers.Search(text, 0, 2).answers()
-    return any(answers.events(parts) == lines_of(answer) and not broken for parts, broken in found)
+    return any(answers.events(parts) == lines_of(answer) for parts in answers.Search(text, 2).answers())
 
 
 def wrong_rows():
