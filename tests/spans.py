@@ -44,10 +44,10 @@ ROWS = {
     "quoted": ("`Scalar`, quoted", "both quotes, and blanks and a comment after them on the line"),
     "lines": (
         "`Scalar`, literal or folded",
-        "from its first content to the first line that does not belong to it",
+        "from its first content to the first line that does not belong to it, after the spaces of that line",
     ),
     "empty lines": ("`Scalar`, literal or folded", "including the empty lines after it"),
-    "no lines": ("`Scalar`, literal or folded", "without content: nothing, at the line after it"),
+    "no lines": ("`Scalar`, literal or folded", "without content: nothing, after the spaces of the line after it"),
     "header": (
         "`Scalar`, literal or folded",
         "without content, at the end of the text: the header and everything after it",
@@ -260,18 +260,18 @@ class Reader:
         return self.block_scalar(event, own)
 
     def block_scalar(self, event, own):
-        """Where it begins and ends is for its indentation to say. So its first line has to begin its value, and a line
-        that begins where it ends or before has to follow."""
+        """Which lines it has is for its indentation to say. So its first line has to begin its value, and its span has
+        to end at the text's end or after the spaces of a line that goes on."""
         start, end = event.span
+        is_line = not self.text[end - self.column(end) : end].strip(" ") and self.c(end) not in " " + BREAK
+        closes = end if is_line or not self.c(end) else None
         if not event.value.strip("\n"):
-            return ("no lines", (end, end)) if self.c(end) else ("header", (own, end))
+            return ("no lines", (closes, closes)) if self.c(end) else ("header", (own, end))
         line = self.text[start : self.line_end(start)]
         begins = event.properties or event.value.lstrip("\n").startswith(line)
-        closes = self.column(end) == 0 or not self.c(end) or self.c(end) not in " " + BREAK
         lines = self.text[self.line_end(own) : end]
         breaks = re.findall("\r\n|\r|\n", lines[len(lines.rstrip(BLANK + BREAK)) :])
-        row = "empty lines" if len(breaks) > 1 else "lines"
-        return row, (start if begins else None, end if closes else None)
+        return "empty lines" if len(breaks) > 1 else "lines", (start if begins else None, closes)
 
     # ## Collections
 

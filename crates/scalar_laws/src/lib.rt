@@ -13,9 +13,7 @@ mod properties;
 pub use block_scalars::{reads_each_block_scalar, reads_values_of_lines};
 pub use directive_lines::{reads_each_directive, reads_each_reserved_directive};
 pub use flow_scalars::{
-    counts_each_double_quoted, ends_each_plain_scalar, passes_blanks_and_breaks,
-    passes_to_one_place, reads_each_double_quoted, reads_each_plain_text, reads_each_plain_word,
-    reads_each_quoted, reads_each_quoted_on_line, reads_quoted_values,
+    passes_to_one_place, reads_each_plain_text, reads_each_quoted, reads_quoted_values,
 };
 pub use line_breaks::reads_breaks_alike;
 pub use properties::{reads_each_anchor, reads_each_tag};
