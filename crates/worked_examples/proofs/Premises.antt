@@ -1,5 +1,6 @@
 -- Two texts with the premises of the promises: one of JSON, and the line `---` as a closed beginning.
 use Rattle.std.proofs.Common.{◌≡◌, ◌≤◌, ℕ, Bool, true, false, List, [], ◌∷◌, Some, refl, inl, inr, arith, codes}
+use lib.Utf8.{encode}
 use Rattle.scalar_laws.specs.Spelling.Spaces.{IsFiller, IsLineRest}
 use Rattle.saphyr_scanner.specs.Grammar.Forest.{Forest, open_in_forest}
 use Rattle.saphyr_scanner.specs.Limits.{most_open}
@@ -68,6 +69,7 @@ json_example : IsJson json_forest json_text
 json_example = (refl, ([], json_text, [], tt, object, tt, refl))
 
 have_events : (keep : Bool) → events json_forest keep ≡ Some json_events
+unfolding encode
 have_events true = refl
 have_events false = refl
 

@@ -63,17 +63,6 @@ reached_behind _ t n u (taken.line_break m _ _ _ e p) =
           ∙ sym (append_assoc (take (break_len t) t) r.0 u),
     )
 
--- at the text's start all of it is
-pub at_origin : (text : List ℕ) (u : Cursor) → Reaches (start_cursor text) u → u.mark.index ≡ 0 → u.rest ≡ text
-at_origin text u r e =
-    let b = reached_behind _ text u.mark u.rest r in
-    let count = reached_counted (start_cursor text).mark text u.mark u.rest r in
-    by b.0 b.1 (let l = length-append b.0 u.rest in let k = ap length b.1 in omega (arith, l, k, count, e))
-  where
-    by : (front : List ℕ) → text ≡ front ++ u.rest → length front ≡ 0 → u.rest ≡ text
-    by [] h l = sym h
-    by (c ∷ cs) h l = absurd (omega (arith, l))
-
 -- at an index is what is after so many characters
 pub at_index : (text : List ℕ) (u : Cursor) (n : ℕ) → Reaches (start_cursor text) u → u.mark.index ≡ n
     → u.rest ≡ drop n text

@@ -1,5 +1,5 @@
 -- Wrong tokens and wrong spans, each with what refuses it.
-use Rattle.std.proofs.Common.{◌≡◌, ◌≢◌, ◌≤◌, ℕ, true, false, List, [], ◌∷◌, refl, sym, ap, ◌∙◌, arith, codes, slice_index}
+use Rattle.std.proofs.Common.{◌≡◌, ◌≢◌, ◌≤◌, ℕ, Bool, true, false, List, [], ◌∷◌, refl, sym, ap, ◌∙◌, arith, codes, slice_index}
 use Rattle.std.specs.Prelude.{◌||◌, ◌&&◌, IsFalse}
 use Rattle.saphyr_input.specs.Classes.{is_blank, is_blank_or_breakz, is_break, is_flow}
 use Rattle.saphyr_input.specs.Indicators.{number_sign}
