@@ -1,9 +1,9 @@
 -- What a parser is after bytes were added to the text that comes in pieces, and what it is with its event.
-use Rattle.std.proofs.Common.{◌≡◌, ◌∙◌, ◌<◌, ℕ, Bool, true, false, List, [], ◌∷◌, ◌++◌, length, ap, append_assoc, arith, refl, subst, sym, true≢false}
+use Rattle.std.proofs.Common.{◌≡◌, ◌∙◌, ◌<◌, ℕ, List, [], ◌∷◌, ◌++◌, length, ap, append_assoc, arith, refl, subst, sym}
 use Rattle.std.specs.Str.{chars}
 use Rattle.std.specs.declared.boxed.Box.{Box}
 use Rattle.std.specs.Global.{Global}
-use Rattle.saphyr_pieces.specs.Pieces.{IsLost, LosesFrom, LosesText, Pieces, at, wants_more}
+use Rattle.saphyr_pieces.specs.Pieces.{at}
 use Rattle.saphyr_parser_c.specs.declared.coming.Coming.{Coming}
 use Rattle.saphyr_parser_c.specs.declared.coming.Extent.{Extent}
 use Rattle.saphyr_parser_c.specs.declared.coming.Extent.TheVariants as extent
@@ -12,7 +12,7 @@ use Rattle.saphyr_parser_c.specs.declared.source.Source.{Source}
 use Rattle.saphyr_parser_c.specs.declared.source.Source.TheVariants as source
 use Rattle.saphyr_parser_c.specs.declared.status.Status.{Status}
 use Rattle.saphyr_parser_c.specs.declared.status.Status.TheVariants as status
-use Rattle.saphyr_parser_c.specs.Coming.{Adds, AddsBytes, AddsSome, LosesRest, TakesIn}
+use Rattle.saphyr_parser_c.specs.Coming.{Adds, AddsBytes, AddsSome, TakesIn}
 use Rattle.saphyr_parser_c.specs.Inner.{AddsFrom, AddsToC}
 
 -- the text that comes in pieces has the bytes
@@ -21,25 +21,6 @@ pub adds_to_pieces : (bytes : List ℕ) (before after : Inner) (old new : Box Co
     → after ≡ record before { source = after.source } → AddsToC bytes before s after
 adds_to_pieces bytes before after old new s is_old is_new adds stays =
     subst (λ (from : Source). AddsFrom from bytes before s after) (sym is_old) (new, is_new, adds, stays)
-
--- ## Memory ran out
-
-loses_from : (x y : Bool) (a b c : Pieces) → wants_more a ≡ x → wants_more b ≡ y → LosesFrom x a b → LosesFrom y b c
-    → LosesFrom x a c
-loses_from true true a b c wants still first then = absurd (true≢false (sym still ∙ first.0))
-loses_from true false a b c wants still first then = subst IsLost (sym then) first
-loses_from false true a b c wants still first then = absurd (true≢false (sym still ∙ ap wants_more first ∙ wants))
-loses_from false false a b c wants still first then = then ∙ first
-
--- what was lost stays lost
-pub loses_both : (a b c : Pieces) → LosesText a b → LosesText b c → LosesText a c
-loses_both a b c = loses_from (wants_more a) (wants_more b) a b c refl refl
-
-pub lost_is_taken : (bytes : List ℕ) (old new : Coming) (s : Status) → s ≡ status.NoMemory → LosesRest old new
-    → TakesIn bytes old s new
-lost_is_taken bytes old new s is lost = subst (λ (t : Status). TakesIn bytes old t new) (sym is) lost
-
--- ## Bytes are added
 
 -- bytes that are taken in behind those that wait are added
 taken_are_added : (bytes : List ℕ) (old new : Coming) (s : Status) → TakesIn (old.waiting.items ++ bytes) old s new
@@ -61,7 +42,7 @@ taken_are_added bytes old new status.Utf16 taken = taken
 taken_are_added bytes old new status.More taken = taken
 taken_are_added bytes old new status.Whole taken = taken
 
-pub not_all : (e : Extent) (bytes : List ℕ) (old new : Coming) (s : Status) → (e ≡ extent.All → ⊥) → 0 < length bytes
+not_all : (e : Extent) (bytes : List ℕ) (old new : Coming) (s : Status) → (e ≡ extent.All → ⊥) → 0 < length bytes
     → AddsSome bytes old s new → AddsBytes e bytes old s new
 not_all e [] old new s goes_on some added = absurd (omega arith)
 not_all extent.Nothing (b ∷ bs) old new s goes_on some added = added

@@ -4,7 +4,6 @@ ghost use Rattle.std.specs.Prelude.{◌≡◌, ◌++◌, List, ℕ, IfOk};
 ghost use Rattle.saphyr_parser.specs.Cursor.{keeping_tags};
 ghost use Rattle.saphyr_pieces.specs.Pieces.{HandsOutOrWaits, at};
 ghost use Rattle.saphyr_parser_c.specs.Coming as spec;
-ghost use Rattle.saphyr_parser_c.specs.declared.status.Status.TheVariants as status;
 
 use crate::encoding::{begins_as_utf16, whole_front};
 use crate::status::Status;
@@ -56,7 +55,10 @@ impl Coming {
         } else {
             match self.with_waiting(alloc, bytes) {
                 Ok(bytes) => self.take_in(alloc, &bytes),
-                Err(_) => self.lose(),
+                Err(_) => {
+                    self.lose();
+                    Status::NoMemory
+                }
             }
         }
     }
@@ -79,25 +81,25 @@ impl Coming {
         };
         let (front, rest) = bytes.split_at(count);
         let Ok(waiting) = Vec::from_slice(alloc, rest) else {
-            return self.lose();
+            self.lose();
+            return Status::NoMemory;
         };
         let front = unsafe { str::from_utf8_unchecked(front) };
         let Ok(()) = self.parser.add(front) else {
-            return self.lose();
+            self.extent = Extent::All;
+            return Status::NoMemory;
         };
         self.waiting = waiting;
         self.extent = Extent::Part;
         Status::Done
     }
 
-    // Ends the text after memory ran out for more of it: what follows would not be what comes next.
-    fn lose(&mut self) -> Status
-        ensures lost { spec.LosesRest self.old self.new }
-        ensures says { result ≡ status.NoMemory }
+    // Ends the text after memory ran out for more of it: what comes later would not be what follows.
+    fn lose(&mut self)
+        ensures { spec.LosesRest self.old self.new }
     {
         self.parser.run_out_of_memory();
         self.extent = Extent::All;
-        Status::NoMemory
     }
 
     // Why bytes are refused that aren't UTF-8.

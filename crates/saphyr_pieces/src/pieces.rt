@@ -204,6 +204,7 @@ impl PieceReader {
     }
 
     /// Loses the text after memory ran out, if more of it is wanted. The next call for an event says so.
+    #[tactic(auto, using(crate::proofs::Advancing::loses_so, crate::proofs::Advancing::stays_so))]
     pub(crate) fn run_out_of_memory(&mut self)
         requires { spec.IsSoundReader self.old }
         ensures loses { LosesText (spec.pieces_of self.old) (spec.pieces_of self.new) }
@@ -217,6 +218,7 @@ impl PieceReader {
     /// Adds the next characters of the text. They are ignored where none is wanted.
     ///
     /// If memory runs out, the text is lost, and the next call for an event says so.
+    #[tactic(auto, using(crate::proofs::Advancing::loses_so))]
     pub(crate) fn add(&mut self, more: &str) -> Result<(), AllocError>
         requires { spec.IsSoundReader self.old }
         ensures at { IfOk result (λ _. (later : List ℕ)
@@ -281,6 +283,7 @@ impl PieceReader {
     /// Says that no more of the text comes.
     ///
     /// If memory runs out, the text is lost, and the next call for an event says so.
+    #[tactic(auto, using(crate::proofs::Advancing::loses_so))]
     pub(crate) fn end(&mut self) -> Result<(), AllocError>
         requires { spec.IsSoundReader self.old }
         ensures at { IfOk result (λ _. (later : List ℕ)

@@ -13,9 +13,9 @@ returns c =
     let back = c.split_at.result.1.now in
     let rest = c.in-Ok.waiting.items in (
       front_taken old c.add.new.self n front back rest bytes (c.from_utf8_unchecked-front.ensures ∙ halves.front)
-          halves.back c.in-Ok.ensures.items c.in-Some.ensures.front.1 c.in-Ok-add.ensures,
+          halves.back c.in-Ok.ensures.items c.in-Some.ensures.front.1 c.in-Ok-add.ensures.at,
       is_utf8_so_far n bytes c.in-Some.ensures.front.1 c.in-Some.ensures.waits,
       rest_is_cut n back rest bytes halves.back c.in-Ok.ensures.items c.in-Some.ensures.cut c.in-Some.ensures.waits,
       refl,
-      c.add.ensures.enough,
+      c.in-Ok-add.ensures.enough,
     )

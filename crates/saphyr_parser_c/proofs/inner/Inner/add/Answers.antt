@@ -7,6 +7,7 @@ use Rattle.saphyr_parser_c.proofs.inner.Inner.add.Goals as goal
 
 pub returns-in-Pieces : goal.returns-in-Pieces
 returns-in-Pieces c =
-    adds_to_pieces c.args.bytes.now c.args.self.now _ c.in-Pieces.coming _ _ c.in-Pieces.is refl
+    adds_to_pieces c.args.bytes.now c.args.self.now _ c.in-Pieces.coming
+    (record c.in-Pieces.coming { value = c.add.new.self }) c.add.result c.in-Pieces.is refl
     (subst (λ (m : Coming). Adds c.args.bytes.now m c.add.result c.add.new.self) c.deref_mut.ensures.value
     c.add.ensures) refl
