@@ -1,8 +1,8 @@
 /*
  * Reads texts from standard input, and parses each with every request for memory refused in turn: as a whole if COUNT
  * is 0, otherwise in pieces of COUNT bytes. Now and then the next event is peeked, the parser cloned, and a piece added
- * before it is needed. Events are those of the first run, in which nothing is refused, up to where a call says that there
- * is no memory; nothing follows that, and nothing is left out without it. All memory is to be freed.
+ * before it is needed. Events are those of the first run, in which nothing is refused, up to where a call says that
+ * there is no memory; nothing follows that, and nothing is left out without it. All memory is to be freed.
  *
  *     refusals COUNT
  *
