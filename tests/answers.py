@@ -26,7 +26,7 @@ counted under `of YAML`.
 
 A list that a fault ends may end anywhere, and differ from the parser's before. What matters most is counted: whole
 documents, from the text's start, that are given before a fault, and that the parser doesn't give. The definitions take
-some of them, each with the tokens that it needs: the end of a collection is never made up.
+some of them: the ends of its collections are in the text, but a scalar that is a key may be one.
 
 With `--cases` what the files of test_cases store, or FILEs like them, is held against the definitions, for texts of up
 to 700 characters: each answer without a fault has to be taken from its text. One that a fault ends has to begin so, but
@@ -93,8 +93,8 @@ RESERVED = re.compile(r"%([^\0 \t\n\r\ufeff]+)(?:[ \t][^\0\n\r\ufeff]*)?")
 HEADER = re.compile(r"[|>]([1-9]?)([-+]?)([1-9]?)[ \t]*(?:(?<=[ \t])#[^\0\n\r\ufeff]*)?(\r\n|\r|\n)?")
 LEADING = re.compile(r"[ \n\r]*")
 
-# What no definition asks, by a name: a smallest text, an answer of it that is taken for the want of this alone, and what
-# a text has where it may be wanted.
+# What no definition asks, by a name: a smallest text, an answer of it that is taken for the want of this alone, and a
+# pattern that a text has where it may be wanted.
 OPEN = {
     # 6.6: it is asked of what is inside a token's span alone
     "a blank before a comment": ("[]#", "+SEQ / -SEQ", r"\S#"),
@@ -294,8 +294,9 @@ class Search:
         """Whether a `?` begins a key, and the place behind that (IsQuestionMark, IsKeyStart)."""
         if context != IN_FLOW and place.col != column:
             return
-        is_last = place.index + 1 == len(self.text) and not self.may(self.unless("something behind a question mark", False))
-        if self.at(place.index) == "?" and self.at(place.index + 1) in BLANK_OR_BREAKZ and not is_last:
+        is_mark = self.at(place.index) == "?" and self.at(place.index + 1) in BLANK_OR_BREAKZ
+        is_last = place.index + 1 == len(self.text)
+        if is_mark and self.may(self.unless("something behind a question mark", not is_last)):
             yield True, self.along(place, 1)
         yield from ((False, t) for t in self.without_text(place))
 
@@ -882,11 +883,11 @@ def lines_of(told):
     return {tuple("+DOC" if it[:4] == "+DOC" else it for it in lines) for lines in lists if lines is not None}
 
 
-class Finds(collections.defaultdict):
+class Finds(dict):
     """Of each class its texts, its answers, and a smallest text with an answer."""
 
-    def __init__(self):
-        super().__init__(lambda: [0, 0, None])
+    def __missing__(self, name):
+        return self.setdefault(name, [0, 0, None])
 
     def add(self, name, text, answers):
         find = self[name]
@@ -941,15 +942,17 @@ class Count:
         if not is_cut and lines not in strict:
             self.not_taken.append(text)
         finds = self.refused if is_cut else self.second
-        for name, answers in self.classes(text, others, strict, words.bare) if others else []:
+        for name, answers in self.classes(text, others, strict, is_cut, words.bare) if others else []:
             finds.add(name, text, answers)
         if first:
             self.documents.add("before a fault", text, first)
 
     @staticmethod
-    def classes(text, others, strict, bare):
-        """The other answers by names: what YAML has, what keeps to all conditions, and what breaks one or several."""
-        left = others - {tuple((it or "").split("\n")[:-1]) for it in map(printed_forest, forests_of(text))}
+    def classes(text, others, strict, is_cut, bare):
+        """The other answers by names: what YAML has of a refused text, what keeps to all conditions, and what breaks one
+        or several."""
+        shown = map(printed_forest, Grammar(text, frozenset()).forests() if is_cut else ())
+        left = others - {tuple((it or "").split("\n")[:-1]) for it in shown}
         found = {"of YAML": others - left, "-": left & strict}
         for name in OPEN if left - strict else []:
             found[name] = (left - strict) & lines_of(Search(text, bare, [name]).answers())
@@ -962,16 +965,11 @@ class Count:
         self.documents.show("texts with other first documents")
         for text in self.not_taken[:20]:
             print(f"the parser's answer breaks a condition, or is not taken: {text!r}")
-        print(f"{self.texts:,} texts, of which the parser reads {self.read:,}: of {len(self.not_taken):,} its own answer "
-              f"is not taken")
+        print(f"{self.texts:,} texts, of which the parser reads {self.read:,}: "
+              f"of {len(self.not_taken):,} its own answer is not taken")
 
     def is_wrong(self):
         return bool(self.not_taken or "-" in self.second or "-" in self.refused)
-
-
-def forests_of(text):
-    """The forests of a text by YAML's grammar without E1 to E8."""
-    return Grammar(text, frozenset()).forests()
 
 
 def small_texts(words):
@@ -1038,7 +1036,7 @@ def check_cases(words):
             count[is_cut] += 1
             if is_cut and Search(text, words.bare, WAIVED, told).reached() < len(told):
                 wrong["a beginning"].append((len(text), name, text))
-            elif not is_cut and not any(Search(text, words.bare, (), told).answers()):
+            elif not is_cut and next(Search(text, words.bare, (), told).answers(), None) is None:
                 wrong["not taken"].append((len(text), name, text))
     for name, cases in sorted(wrong.items()):
         print(f"{len(cases):9,}  {name}")

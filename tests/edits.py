@@ -3,17 +3,17 @@
 
     tests/edits.py [--jobs N] [--rows] [CRATE | EDIT]..
 
-A row of the table of docs/TESTS.md has an edit of crates/*/must-fail, the program and the call that show it, a text, and
-the wrong answer. The script makes a copy of the tree for each of N jobs (2), puts the edit in, and runs the program on the
-text by `rt try`. The unchanged tree answers the same texts; its answers are kept in out/edits.json. With --rows nothing is
-run: each edit has a row, each row an edit, and each old text is in its file once.
+A row of the table of docs/TESTS.md has an edit of crates/*/must-fail, the program and the call that show it, a text,
+and the wrong answer. The script makes a copy of the tree for each of N jobs (2), puts the edit in, and runs the program
+on the text by `rt try`. The unchanged tree answers the same texts; its answers are kept in out/edits.json. With --rows
+nothing is run: each edit has a row, each row an edit, and each old text is in its file once.
 
-- The program is `dump_events` or `check_yaml`, with its arguments, or one of tests/edits, with its calls. In place of it
-  a row may say in words what shows the edit. Such rows are counted, and not run.
-- In the text `\\n`, `\\r`, `\\t`, `\\\\` and `\\u{HEX}` stand for characters. `1,010 times` before a part repeats it. Parts
-  follow each other; `piece_calls` gets each as a piece.
-- The wrong answer is a line that comes more often than it should, `no` and a line that comes less often, or `nothing`.
-  A line is told whole, or an event without its places. `status 0` is the line of the exit status.
+- The program is `dump_events` or `check_yaml`, with its arguments, or one of tests/edits, with its calls. In place of
+  it a row may say in words what shows the edit. Such rows are counted, and not run.
+- In the text `\\n`, `\\r`, `\\t`, `\\\\` and `\\u{HEX}` stand for characters. `1,010 times` before a part repeats it.
+  Parts follow each other; `piece_calls` gets each as a piece.
+- The wrong answer is a line that comes more often than it should, `no` and a line that comes less often, or
+  `nothing`. A line is told whole, or an event without its places. `status=0` is the line of the exit status.
 """
 
 import argparse
@@ -200,7 +200,8 @@ def check_rows(table, known):
     names = [(it.crate, it.edit) for it in table]
     yield from (f"{crate}, {edit}: no row" for crate, edit in known if (crate, edit) not in names)
     yield from (f"{crate}, {edit}: no such edit" for crate, edit in names if (crate, edit) not in known)
-    yield from (f"{crate}, {edit}: {count} rows" for (crate, edit), count in collections.Counter(names).items() if count > 1)
+    counts = collections.Counter(names)
+    yield from (f"{crate}, {edit}: {count} rows" for (crate, edit), count in counts.items() if count > 1)
     for (crate, edit), path in known.items():
         texts = {}
         for file, old, new in pairs(path):

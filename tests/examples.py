@@ -182,6 +182,9 @@ WRONG = [
     ("[a\n:]", "+SEQ / +MAP / =VAL :a / =VAL : / -MAP / -SEQ"),
     ("[a:]", "+SEQ / =VAL :a / -SEQ"),
     ("&a x\n--- *a\n", "=VAL &1 :x / -DOC / +DOC --- / =ALI *1"),
+    (": :\na :", "+MAP / =VAL : / +MAP / =VAL : / =VAL :a / =VAL : / =VAL : / -MAP / -MAP"),
+    ("a:\n b:\nc: d", "+MAP / =VAL :a / +MAP / =VAL :b / =VAL :c / =VAL : / =VAL :d / -MAP / -MAP"),
+    (":\na", "+MAP / =VAL : / =VAL :a / -MAP"),
 ]
 
 

@@ -71,8 +71,8 @@ class Difference:
         return f"{self.text!r}\n  changed to: {self.changed!r}\n  the crate:  {self.theirs}\n  here:       {self.ours}"
 
 
-# Each reason takes a difference, and returns None where it is not that. Else it returns the text without the reason, and
-# what is to be done to the crate's list of it, or None if that is all.
+# Each reason takes a difference, and returns None where it is not that. Else it returns the text without the reason,
+# and what is to be done to the crate's list of it, or None if that is all.
 
 
 def unknown_anchor(it):
@@ -117,8 +117,8 @@ def escaped_tag(it):
 
 def with_fault_of(run, it, theirs):
     """Escapes that stand for no characters are refused here, at their tag."""
-    fault = FAULT.match(it.ours[-1])
-    if fault and fault[1].startswith("while parsing a tag") and re.match(rf"\S*{run}", it.text[int(fault[2]) :]):
+    is_fault = words_of(it.ours[-1]) == "while parsing a tag, found an invalid UTF-8 codepoint"
+    if is_fault and len(it.ours) > 1 and re.match(rf"\S*{run}", it.text[place_of(it.ours[-1]) :]):
         return [*theirs[: len(it.ours) - 1], it.ours[-1]]
     return theirs
 
@@ -169,8 +169,9 @@ def wide_directive(it):
 def clip(it):
     """The scalar has a break less where the text ends in a line of spaces."""
     theirs, ours = it.lines()
-    fewer = re.sub(r"\\n(?= @ )|\n(?= @ )", "", theirs, count=1)
-    if fewer != ours or not re.search(r"^> =VAL .*[|>]", ours) or not re.search(rf"{BREAK} *(\0.*)?$", it.changed, re.S):
+    fewer = re.sub(r"\\n(?= @ )", "", theirs, count=1)
+    ends_in_spaces = re.search(rf"{BREAK} *(\0.*)?$", it.changed, re.S)
+    if fewer != ours or not re.search(r"^> =VAL .*[|>]", ours) or not ends_in_spaces:
         return None
     return it.changed, lambda lines: [ours if line == theirs else line for line in lines]
 
@@ -204,7 +205,7 @@ def block_at_0(it):
 
 
 def with_our_ends(ours, marks):
-    """Takes the places of these marks of pairs and of values that are left out from ours, where all lines tell the same."""
+    """Takes the places of these marks and of values that are left out from ours, where all lines tell the same."""
     may = re.compile(rf"{marks}$|{LEFT_OUT}")
 
     def mend(theirs):

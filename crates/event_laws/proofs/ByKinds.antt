@@ -17,7 +17,8 @@ use Rattle.saphyr_machine.specs.Cursor.{at_start, keeping_tags, to_come}
 use Rattle.event_laws.specs.Exactly.{GivesExactly, TellTheSame, kinds, answer_of_tokens}
 use Rattle.event_laws.specs.More.{marker_token}
 use Rattle.saphyr_machine.proofs.Unroll.{unroll, over, shrinks_at}
-use Rattle.event_laws.proofs.Placeless.{no_span, placeless_piece, placeless_state, placeless, Same, steps_same}
+use Rattle.event_laws.specs.EventsTaken.{no_span}
+use Rattle.event_laws.proofs.Placeless.{placeless_piece, placeless_state, placeless, Same, steps_same}
 use Rattle.event_laws.proofs.Promises.CommonBeginnings.{ended}
 use Rattle.event_laws.proofs.Promises.ClosedTokens.{closed_tokens}
 use Rattle.event_laws.proofs.Happenings.{happenings_of}

@@ -11,7 +11,7 @@ use Rattle.saphyr_scanner.specs.Grammar.TokenGrammar.{InFlow, InBlock, InBlockMa
 use Rattle.saphyr_machine.specs.declared.state.State.{State}
 use Rattle.saphyr_machine.specs.declared.state.State.TheVariants as state
 use Rattle.event_laws.proofs.BareParts.{AreBare}
-use Rattle.event_laws.specs.EventsTaken.{BelongsToNone, IsOf, HaveTokens, nowhere, unplaced_events, unplaced_tokens}
+use Rattle.event_laws.specs.EventsTaken.{BelongsToNone, IsOf, HaveTokens, no_span, unplaced_events, unplaced_tokens}
 use Rattle.event_laws.specs.EventsTaken as taking
 use Rattle.event_laws.specs.Preorder.{Part, OpenStream, CloseStream, CloseDocument, Leaf, CloseSequence, CloseMapping}
 use Rattle.saphyr_machine.specs.Events.{Happening, empty_scalar}
@@ -33,6 +33,9 @@ behind_part : (p : Part) (ps : List Part) (w : Happening) (es : List Happening)
 behind_part p ps w es h k e = cc (h e, k (after p e))
 
 -- ## Completions
+
+abbrev unplaced : Kind → Piece
+unplaced k = record { span = no_span; kind = k }
 
 abbrev Have : List (Happening × Span) → List Piece → Type 0
 Have es ts = HaveTokens [] es ts
@@ -67,36 +70,56 @@ complete s ss kinds first parts what told follows starts bare is others have = r
 }
 
 -- an event without a token
-alone : (what : Happening) {es : List (Happening × Span)} {ts : List Piece} → IsOf what nowhere [] (ts ++ [])
-    → Have es ts → Have ((what, nowhere) ∷ es) ts
-alone what {es} {ts} i h = taking.event what nowhere es [] ts i h
+alone : (what : Happening) {es : List (Happening × Span)} {ts : List Piece} → IsOf what no_span [] (ts ++ [])
+    → Have es ts → Have ((what, no_span) ∷ es) ts
+alone what {es} {ts} i h = taking.event what no_span es [] ts i h
 
 -- an event with a token
 with_token : (what : Happening) (k : Kind) {es : List (Happening × Span)} {ts : List Piece}
-    → IsOf what nowhere (record { span = nowhere; kind = k } ∷ []) (ts ++ []) → Have es ts
-    → Have ((what, nowhere) ∷ es) (record { span = nowhere; kind = k } ∷ ts)
-with_token what k {es} {ts} i h = taking.event what nowhere es (record { span = nowhere; kind = k } ∷ []) ts i h
+    → IsOf what no_span (unplaced k ∷ []) (ts ++ []) → Have es ts
+    → Have ((what, no_span) ∷ es) (unplaced k ∷ ts)
+with_token what k {es} {ts} i h = taking.event what no_span es (unplaced k ∷ []) ts i h
 
 passing : (k : Kind) {es : List (Happening × Span)} {ts : List Piece} → BelongsToNone k → Have es ts
-    → Have es (record { span = nowhere; kind = k } ∷ ts)
-passing k {es} {ts} b h = taking.passed es (record { span = nowhere; kind = k }) ts b h
+    → Have es (unplaced k ∷ ts)
+passing k {es} {ts} b h = taking.passed es (unplaced k) ts b h
 
-left_out : {es : List (Happening × Span)} {ts : List Piece} → Have es ts → Have ((empty_scalar, nowhere) ∷ es) ts
+left_out : {es : List (Happening × Span)} {ts : List Piece} → Have es ts → Have ((empty_scalar, no_span) ∷ es) ts
 left_out h = alone empty_scalar (inr (inr (refl, refl, refl, refl, refl))) h
+
+bracket_ended : {es : List (Happening × Span)} {ts : List Piece} → Have es ts
+    → Have ((events.SequenceEnd, no_span) ∷ es) (unplaced FlowSequenceEnd ∷ ts)
+bracket_ended h = with_token events.SequenceEnd FlowSequenceEnd (inr (_, inl refl, refl)) h
+
+brace_ended : {es : List (Happening × Span)} {ts : List Piece} → Have es ts
+    → Have ((events.MappingEnd, no_span) ∷ es) (unplaced FlowMappingEnd ∷ ts)
+brace_ended h = with_token events.MappingEnd FlowMappingEnd (inr (_, inl refl, refl)) h
+
+block_mapping_ended : {es : List (Happening × Span)} {ts : List Piece} → Have es ts
+    → Have ((events.MappingEnd, no_span) ∷ es) (unplaced BlockEnd ∷ ts)
+block_mapping_ended h = with_token events.MappingEnd BlockEnd (inr (_, inr refl, refl)) h
+
+-- a pair in brackets, and these
+pair_ended : {es : List (Happening × Span)} {ts : List Piece} → Have es ts
+    → Have ((events.MappingEnd, no_span) ∷ (events.SequenceEnd, no_span) ∷ es) (unplaced FlowSequenceEnd ∷ ts)
+pair_ended h = alone events.MappingEnd (inl refl) (bracket_ended h)
+
+stream_ends : Have (unplaced_events (events.StreamEnd ∷ [])) (unplaced_tokens (StreamEnd ∷ []))
+stream_ends = alone events.StreamEnd refl (passing StreamEnd tt taking.nothing)
 
 outside : (s : State) → IsOutside s → Completion s []
 outside state.StreamStart i = complete _ _ (StreamStart ∷ StreamEnd ∷ []) OpenStream (CloseStream ∷ [])
     events.StreamStart (events.StreamEnd ∷ []) ([], ([], StreamEnd ∷ [], tt, refl, refl), refl) (λ ahead. tt)
-    (tt, (tt, tt)) (λ e. refl) (λ e. refl) (alone events.StreamStart refl (alone events.StreamEnd refl (taking.nothing _)))
+    (tt, (tt, tt)) (λ e. refl) (λ e. refl) (alone events.StreamStart refl (passing StreamStart tt stream_ends))
 outside state.ImplicitDocumentStart i =
     complete _ _ (StreamEnd ∷ []) CloseStream [] events.StreamEnd [] ([], [], StreamEnd ∷ [], tt, refl, refl, refl)
-    (λ ahead. tt) (tt, tt) (λ e. refl) (λ e. refl) (alone events.StreamEnd refl (taking.nothing _))
+    (λ ahead. tt) (tt, tt) (λ e. refl) (λ e. refl) stream_ends
 outside state.DocumentStart i =
     complete _ _ (StreamEnd ∷ []) CloseStream [] events.StreamEnd [] ([], [], StreamEnd ∷ [], tt, refl, refl, refl)
-    (λ ahead b. tt) (tt, tt) (λ e. refl) (λ e. refl) (alone events.StreamEnd refl (taking.nothing _))
+    (λ ahead b. tt) (tt, tt) (λ e. refl) (λ e. refl) stream_ends
 outside state.DocumentEnd i = complete _ _ (StreamEnd ∷ []) CloseDocument (CloseStream ∷ []) events.DocumentEnd
     (events.StreamEnd ∷ []) ([], ([], [], StreamEnd ∷ [], tt, inl (refl, refl), refl), refl) (λ ahead. tt)
-    (tt, (tt, tt)) (λ e. refl) (λ e. refl) (alone events.DocumentEnd refl (alone events.StreamEnd refl (taking.nothing _)))
+    (tt, (tt, tt)) (λ e. refl) (λ e. refl) (alone events.DocumentEnd refl stream_ends)
 outside _ i = elim i [ ]
 
 mapping_closes : (ps : List Part) (es : List Happening) → TellsAlways ps es
@@ -149,21 +172,20 @@ inside state.DocumentContent o ss i c = complete _ _ c.kinds leaf c.parts empty_
     (forest.left_out, inl (refl, refl), refl) c.follows) (λ ahead. tt) (refl, c.bare)
     (λ e. refl) c.tells
     (left_out c.have)
-
 inside state.BlockNode o ss i c = complete _ _ (scalar_token Plain [] ∷ c.kinds) leaf c.parts empty_scalar c.told
     (put (IsNodeOf InBlock) (FollowsStates o ss) (scalar_token Plain [] ∷ []) (leaf ∷ []) c.kinds c.parts
     (forest.left_out, ([], scalar_token Plain [] ∷ [], refl, inl refl, refl), refl) c.follows) (λ ahead. tt)
     (refl, c.bare)
     (λ e. refl) c.tells
     (with_token empty_scalar (scalar_token Plain []) (inl (([], _, inl refl, refl, refl), refl)) c.have)
-
-inside state.BlockSequenceEntry o ss i c = complete _ _ (BlockEnd ∷ c.kinds) CloseSequence c.parts events.SequenceEnd c.told
+inside state.BlockSequenceEntry o ss i c = complete _ _ (BlockEnd ∷ c.kinds) CloseSequence c.parts
+    events.SequenceEnd c.told
     (collection_ends BlockEntries (FollowsStates o ss) (BlockEnd ∷ []) CloseSequence c.kinds c.parts
     (NoNode, refl, refl) c.follows) (λ ahead. tt) (tt, c.bare)
     (λ e. refl) c.tells
     (with_token events.SequenceEnd BlockEnd (inr (_, inr refl, refl)) c.have)
-
-inside state.IndentlessSequenceEntry o ss i c = complete _ _ (BlockEntry ∷ c.kinds) leaf (CloseSequence ∷ c.parts) empty_scalar (events.SequenceEnd ∷ c.told)
+inside state.IndentlessSequenceEntry o ss i c = complete _ _ (BlockEntry ∷ c.kinds) leaf (CloseSequence ∷ c.parts)
+    empty_scalar (events.SequenceEnd ∷ c.told)
     (one_entry (Then (Exactly [] (CloseSequence ∷ [])) (FollowsStates o ss)) c.kinds (leaf ∷ CloseSequence ∷ c.parts)
     (put (IsOptionalOf InBlock) _ [] (leaf ∷ []) c.kinds (CloseSequence ∷ c.parts)
     (forest.left_out, inl (refl, refl), refl)
@@ -171,76 +193,75 @@ inside state.IndentlessSequenceEntry o ss i c = complete _ _ (BlockEntry ∷ c.k
     c.follows))) (λ ahead b. tt) (refl, (tt, c.bare))
     (λ e. refl) (sequence_closes c.parts c.told c.tells)
     (passing BlockEntry tt (left_out (alone events.SequenceEnd (inl refl) c.have)))
-
 inside state.BlockMappingKey o ss i c = complete _ _ (BlockEnd ∷ c.kinds) CloseMapping c.parts events.MappingEnd c.told
     (block_pairs_end (FollowsStates o ss) c.kinds c.parts c.follows) (λ ahead b. absurd b) (tt, c.bare)
     (λ e. refl) c.tells
-    (with_token events.MappingEnd BlockEnd (inr (_, inr refl, refl)) c.have)
-
-inside state.BlockMappingValue o ss i c = complete _ _ (Value ∷ BlockEnd ∷ c.kinds) leaf (CloseMapping ∷ c.parts) empty_scalar (events.MappingEnd ∷ c.told) (inl
+    (block_mapping_ended c.have)
+inside state.BlockMappingValue o ss i c = complete _ _ (Value ∷ BlockEnd ∷ c.kinds) leaf (CloseMapping ∷ c.parts)
+    empty_scalar (events.MappingEnd ∷ c.told) (inl
     (marked_value InBlockMapping (InBlockPairs (FollowsStates o ss)) (BlockEnd ∷ c.kinds)
     (leaf ∷ CloseMapping ∷ c.parts)
     (put (IsOptionalOf InBlockMapping) (InBlockPairs (FollowsStates o ss)) [] (leaf ∷ []) _ _
     (forest.left_out, inl (refl, refl), refl) (block_pairs_end (FollowsStates o ss) c.kinds c.parts c.follows))))
     (λ ahead b. tt) (refl, (tt, c.bare))
     (λ e. refl) (mapping_closes c.parts c.told c.tells)
-    (passing Value tt (left_out (with_token events.MappingEnd BlockEnd (inr (_, inr refl, refl)) c.have)))
-
-inside state.FlowSequenceFirstEntry o ss i c = complete _ _ (FlowSequenceEnd ∷ c.kinds) CloseSequence c.parts events.SequenceEnd c.told
+    (passing Value tt (left_out (block_mapping_ended c.have)))
+inside state.FlowSequenceFirstEntry o ss i c = complete _ _ (FlowSequenceEnd ∷ c.kinds) CloseSequence c.parts
+    events.SequenceEnd c.told
     (collection_ends FirstEntries (FollowsStates o ss) (FlowSequenceEnd ∷ []) CloseSequence c.kinds c.parts
     (NoNode, refl, refl) c.follows) (λ ahead. tt) (tt, c.bare)
     (λ e. refl) c.tells
-    (with_token events.SequenceEnd FlowSequenceEnd (inr (_, inl refl, refl)) c.have)
-
-inside state.FlowSequenceEntry o ss i c = complete _ _ (FlowSequenceEnd ∷ c.kinds) CloseSequence c.parts events.SequenceEnd c.told
+    (bracket_ended c.have)
+inside state.FlowSequenceEntry o ss i c = complete _ _ (FlowSequenceEnd ∷ c.kinds) CloseSequence c.parts
+    events.SequenceEnd c.told
     (entries_end (FollowsStates o ss) c.kinds c.parts c.follows) (λ ahead. tt) (tt, c.bare)
     (λ e. refl) c.tells
-    (with_token events.SequenceEnd FlowSequenceEnd (inr (_, inl refl, refl)) c.have)
-
+    (bracket_ended c.have)
 inside state.FlowSequenceEntryMappingKey o ss i c =
-    complete _ _ (FlowSequenceEnd ∷ c.kinds) leaf (leaf ∷ CloseMapping ∷ CloseSequence ∷ c.parts) empty_scalar (empty_scalar ∷ events.MappingEnd ∷ events.SequenceEnd ∷ c.told)
+    complete _ _ (FlowSequenceEnd ∷ c.kinds) leaf (leaf ∷ CloseMapping ∷ CloseSequence ∷ c.parts)
+    empty_scalar (empty_scalar ∷ events.MappingEnd ∷ events.SequenceEnd ∷ c.told)
     (maybe (AtPairValue (FollowsStates o ss)) _ _ (pair_value (FollowsStates o ss) c.kinds c.parts c.follows))
     (λ ahead. tt) (refl, (refl, (tt, (tt, c.bare))))
     (λ e. refl) (behind_part leaf (CloseMapping ∷ CloseSequence ∷ c.parts) empty_scalar
     (events.MappingEnd ∷ events.SequenceEnd ∷ c.told) (λ e. refl) (pair_closes c.parts c.told c.tells))
-    (left_out (left_out (alone events.MappingEnd (inl refl) (with_token events.SequenceEnd FlowSequenceEnd (inr (_, inl refl, refl)) c.have))))
-
+    (left_out (left_out (pair_ended c.have)))
 inside state.FlowSequenceEntryMappingValue o ss i c =
-    complete _ _ (FlowSequenceEnd ∷ c.kinds) leaf (CloseMapping ∷ CloseSequence ∷ c.parts) empty_scalar (events.MappingEnd ∷ events.SequenceEnd ∷ c.told)
+    complete _ _ (FlowSequenceEnd ∷ c.kinds) leaf (CloseMapping ∷ CloseSequence ∷ c.parts)
+    empty_scalar (events.MappingEnd ∷ events.SequenceEnd ∷ c.told)
     (pair_value (FollowsStates o ss) c.kinds c.parts c.follows) (λ ahead. tt) (refl, (tt, (tt, c.bare)))
     (λ e. refl) (pair_closes c.parts c.told c.tells)
-    (left_out (alone events.MappingEnd (inl refl) (with_token events.SequenceEnd FlowSequenceEnd (inr (_, inl refl, refl)) c.have)))
-
+    (left_out (pair_ended c.have))
 inside (state.FlowSequenceEntryMappingEnd place) o ss i c =
-    complete _ _ (FlowSequenceEnd ∷ c.kinds) CloseMapping (CloseSequence ∷ c.parts) events.MappingEnd (events.SequenceEnd ∷ c.told)
+    complete _ _ (FlowSequenceEnd ∷ c.kinds) CloseMapping (CloseSequence ∷ c.parts)
+    events.MappingEnd (events.SequenceEnd ∷ c.told)
     (pair_ends (FollowsStates o ss) c.kinds c.parts c.follows) (λ ahead. tt) (tt, (tt, c.bare))
     (λ e. refl) (sequence_closes c.parts c.told c.tells)
-    (alone events.MappingEnd (inl refl) (with_token events.SequenceEnd FlowSequenceEnd (inr (_, inl refl, refl)) c.have))
-
-inside state.FlowMappingFirstKey o ss i c = complete _ _ (FlowMappingEnd ∷ c.kinds) CloseMapping c.parts events.MappingEnd c.told
+    (pair_ended c.have)
+inside state.FlowMappingFirstKey o ss i c = complete _ _ (FlowMappingEnd ∷ c.kinds) CloseMapping c.parts
+    events.MappingEnd c.told
     (collection_ends FirstPairs (FollowsStates o ss) (FlowMappingEnd ∷ []) CloseMapping c.kinds c.parts
     (NoPair, refl, refl) c.follows) (λ ahead. tt) (tt, c.bare)
     (λ e. refl) c.tells
-    (with_token events.MappingEnd FlowMappingEnd (inr (_, inl refl, refl)) c.have)
-
-inside state.FlowMappingKey o ss i c = complete _ _ (FlowMappingEnd ∷ c.kinds) CloseMapping c.parts events.MappingEnd c.told
+    (brace_ended c.have)
+inside state.FlowMappingKey o ss i c = complete _ _ (FlowMappingEnd ∷ c.kinds) CloseMapping c.parts
+    events.MappingEnd c.told
     (pairs_end (FollowsStates o ss) c.kinds c.parts c.follows) (λ ahead. tt) (tt, c.bare)
     (λ e. refl) c.tells
-    (with_token events.MappingEnd FlowMappingEnd (inr (_, inl refl, refl)) c.have)
-
-inside state.FlowMappingValue o ss i c = complete _ _ (Value ∷ FlowMappingEnd ∷ c.kinds) leaf (CloseMapping ∷ c.parts) empty_scalar (events.MappingEnd ∷ c.told)
+    (brace_ended c.have)
+inside state.FlowMappingValue o ss i c = complete _ _ (Value ∷ FlowMappingEnd ∷ c.kinds) leaf (CloseMapping ∷ c.parts)
+    empty_scalar (events.MappingEnd ∷ c.told)
     (any_value InFlow (InMapping (FollowsStates o ss)) _ _
     (marked_value InFlow (InMapping (FollowsStates o ss)) (FlowMappingEnd ∷ c.kinds) (leaf ∷ CloseMapping ∷ c.parts)
     (maybe (InMapping (FollowsStates o ss)) _ _ (pairs_end (FollowsStates o ss) c.kinds c.parts c.follows))))
     (λ ahead b. tt) (refl, (tt, c.bare))
     (λ e. refl) (mapping_closes c.parts c.told c.tells)
-    (passing Value tt (left_out (with_token events.MappingEnd FlowMappingEnd (inr (_, inl refl, refl)) c.have)))
-
-inside state.FlowMappingEmptyValue o ss i c = complete _ _ (FlowMappingEnd ∷ c.kinds) leaf (CloseMapping ∷ c.parts) empty_scalar (events.MappingEnd ∷ c.told)
+    (passing Value tt (left_out (brace_ended c.have)))
+inside state.FlowMappingEmptyValue o ss i c = complete _ _ (FlowMappingEnd ∷ c.kinds) leaf (CloseMapping ∷ c.parts)
+    empty_scalar (events.MappingEnd ∷ c.told)
     (skip (InMapping (FollowsStates o ss)) _ _ (pairs_end (FollowsStates o ss) c.kinds c.parts c.follows))
     (λ ahead. tt) (refl, (tt, c.bare))
     (λ e. refl) (mapping_closes c.parts c.told c.tells)
-    (left_out (with_token events.MappingEnd FlowMappingEnd (inr (_, inl refl, refl)) c.have))
+    (left_out (brace_ended c.have))
 inside _ o ss i c = elim i [ ]
 
 pub completed : (ss : List State) (s : State) → IsAlive s ss → Completion s ss

@@ -1,7 +1,6 @@
 -- Where tokens are changes nothing of the events but their spans.
 use Rattle.std.proofs.Common.{◌≡◌, ◌≢◌, map, None, Result, Ok, Err, refl, ap, inl, inr}
 use Rattle.saphyr_scalar.specs.declared.scalar.position.Marker.{Marker}
-use Rattle.saphyr_scalar.specs.declared.scalar.position.Span.{Span}
 use Rattle.saphyr_scalar.specs.declared.scalar.fault.Refusal.{Refusal}
 use Rattle.saphyr_scanner.specs.Grammar.Tokens as tokens
 use Rattle.saphyr_scanner.specs.Grammar.Tokens.{Kind}
@@ -13,6 +12,7 @@ use Rattle.saphyr_machine.specs.Steps.Expected.{event_step, event_step_at}
 use Rattle.saphyr_machine.specs.Calls.{LeavesEnd}
 use Rattle.saphyr_machine.specs.Events.{Happening}
 use Rattle.saphyr_machine.proofs.Calls.Handing.{goes_on}
+use Rattle.event_laws.specs.EventsTaken.{no_span}
 use Rattle.event_laws.proofs.Beside.Machines.{Beside, Behind, Left, TellsAlike}
 use Rattle.event_laws.proofs.Beside.Documents.{steps_alike}
 use Rattle.event_laws.proofs.Beside.Maps.{placed, expected, puts, becomes, tells_so}
@@ -21,9 +21,6 @@ use Rattle.event_laws.proofs.Beside.Maps.{placed, expected, puts, becomes, tells
 
 abbrev pub no_place : Marker
 no_place = record { index = 0; line = 0; col = 0 }
-
-abbrev pub no_span : Span
-no_span = record { start = no_place; end = no_place }
 
 abbrev pub placeless_piece : Piece → Piece
 placeless_piece t = record { span = no_span; kind = t.kind }

@@ -107,10 +107,10 @@ IsOf SequenceEnd span ts others = AreEndTokens tokens.FlowSequenceEnd ts
 IsOf MappingEnd span ts others = AreEndTokens tokens.FlowMappingEnd ts
 IsOf _ span ts others = ts ≡ []
 
--- The events have their tokens, in order, and no token of a node is passed over before the last of these, nor one that
--- ends a collection. After them all are the tokens `unread`.
+-- The events have their tokens, in order, and no token of a node is passed over, nor one that ends a collection. After
+-- them all are the tokens `unread`.
 pub data HaveTokens (unread : List Piece) : List (Happening × Span) → List Piece → Type 0 where
-  nothing : (ts : List Piece) → HaveTokens unread [] ts
+  nothing : HaveTokens unread [] []
   passed : (es : List (Happening × Span)) (t : Piece) (ts : List Piece) → BelongsToNone t.kind → HaveTokens unread es ts
       → HaveTokens unread es (t ∷ ts)
   event : (what : Happening) (span : Span) (es : List (Happening × Span)) (own ts : List Piece)
@@ -129,19 +129,19 @@ IsCut None more = more ≡ []
 IsCut (Some fault) more = more ≢ []
 
 -- tokens and events whose places don't matter
-abbrev pub nowhere : Span
-nowhere = record { start = record { index = 0; line = 0; col = 0 }; end = record { index = 0; line = 0; col = 0 } }
+abbrev pub no_span : Span
+no_span = record { start = record { index = 0; line = 0; col = 0 }; end = record { index = 0; line = 0; col = 0 } }
 
 abbrev pub unplaced_tokens : List Kind → List Piece
-unplaced_tokens ks = map (λ k. record { span = nowhere; kind = k }) ks
+unplaced_tokens ks = map (λ k. record { span = no_span; kind = k }) ks
 
 abbrev pub unplaced_events : List Happening → List (Happening × Span)
-unplaced_events es = map (λ e. (e, nowhere)) es
+unplaced_events es = map (λ e. (e, no_span)) es
 
 -- The answer's events are a beginning of the forest's: all of them where no fault ends them, and with a fault not all.
 -- The tokens begin as the forest's do, and are all of them where there is no fault. Each event has its tokens, and
--- their span. The tokens of the forest that were not read are those of the events that are missing: no event has come
--- that needs one of them, such as the end of a collection whose bracket was not read.
+-- their span. The tokens of the forest that were not read are those of the events that are missing, ends of collections
+-- included: no document has ended in which a collection's end was not read.
 pub record IsBeginningOf (forest : Forest) (keep : Bool) (pieces : List Piece) (a : Answer) : Type 0 where
   pub read : List Piece
   pub unread : List Piece

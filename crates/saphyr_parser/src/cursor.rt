@@ -77,9 +77,9 @@ impl<'input, T: Input> Parser<'input, T> {
     /// follows.
     ///
     /// The events of every text are taken from it: all events of a forest, or a beginning of them and one
-    /// fault. The text spells the forest's tokens in order, or a beginning of them. Before a fault a collection
-    /// ends only where the text has its bracket, or the lines that end it. The place of a refusal is in the
-    /// text, and so are both ends of each event's span.
+    /// fault. The text spells the forest's tokens in order, or a beginning of them. Before a fault a document
+    /// ends only where the text has ended all of its collections. The place of a refusal is in the text, and so
+    /// are both ends of each event's span.
     #[must_use]
     pub fn new(alloc: Global, src: T) -> Self
         ensures decided { result ≡ spec.at_start (scan most_characters (T.rest src)) }

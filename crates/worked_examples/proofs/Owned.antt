@@ -77,7 +77,7 @@ event_owned text _ span opened own others h s = tt
 
 all_owned : (text : List ℕ) (unread : List Piece) (es : List (Happening × Span)) (opened : Collections)
     (ts : List Piece) → HaveTokens unread es ts → AllStand text opened ts → AllOwned text es
-all_owned text unread _ opened _ (taking.nothing ts) s = tt
+all_owned text unread _ opened _ taking.nothing s = tt
 all_owned text unread _ opened _ (taking.passed es t ts b h) s = all_owned text unread es _ ts h s.1
 all_owned text unread _ opened _ (taking.event what span es own ts i h) s =
     let rest = rest_stands text opened own ts s in (

@@ -1,9 +1,8 @@
 -- The events of tokens are a beginning of those of each forest whose tokens begin with them.
-use Rattle.std.proofs.Common.{◌≡◌, Bool, List, [], ◌∷◌, ◌++◌, None, refl, sym, ap, ◌∙◌, inl, inr, append-nil}
+use Rattle.std.proofs.Common.{◌≡◌, Bool, List, [], ◌++◌, None, refl, sym, ap, ◌∙◌, inl, inr, append-nil}
 use Rattle.std.proofs.lemmas.List.{map-append}
 use Rattle.saphyr_scalar.specs.declared.scalar.position.Span.{Span}
 use Rattle.saphyr_scalar.specs.declared.scalar.fault.Refusal.{Refusal}
-use Rattle.saphyr_scanner.specs.Grammar.Tokens.{Kind}
 use Rattle.saphyr_scanner.specs.Views.Tokens.{Piece, Remaining}
 use Rattle.saphyr_machine.specs.Answer.{Answer}
 use Rattle.saphyr_machine.specs.Cursor.{at_start, keeping_tags, to_come}
@@ -13,13 +12,10 @@ use Rattle.event_laws.specs.EventsTaken.{Continue, BeginsEachForest, unplaced_to
 use Rattle.event_laws.specs.Exactly.{GivesExactly, kinds}
 use Rattle.event_laws.specs.More.{BeginsAs}
 use Rattle.event_laws.specs.Nesting.{happenings}
+use Rattle.event_laws.proofs.ByKinds.{kinds_of}
 use Rattle.event_laws.proofs.Promises.CommonBeginnings.{begins_as}
 use Rattle.event_laws.proofs.Promises.Forests.{each_parsed}
 use Rattle.event_laws.proofs.Turned.Turning.{kinds_append}
-
-same_kinds : (ks : List Kind) → kinds (unplaced_tokens ks) ≡ ks
-same_kinds [] = refl
-same_kinds (k ∷ ks) = ap (λ l. k ∷ l) (same_kinds ks)
 
 -- events that begin as the answer does go on with it
 continues : (e : Refusal) (a b : Answer) (told : List Happening) → BeginsAs e a b → GivesExactly told b
@@ -35,7 +31,7 @@ begins_each tokens keep forest others told y l e =
     let more : List Piece = unplaced_tokens others in
     let all : Remaining = record { pieces = tokens.pieces ++ more; refusal = None } in
     let same : kinds all.pieces ≡ kinds tokens.pieces ++ others =
-    kinds_append tokens.pieces more ∙ ap (λ l. kinds tokens.pieces ++ l) (same_kinds others) in
+    kinds_append tokens.pieces more ∙ ap (λ l. kinds tokens.pieces ++ l) (kinds_of others) in
     continues (ending_refusal tokens.refusal) (to_come (keeping_tags keep (at_start tokens)))
     (to_come (keeping_tags keep (at_start all))) told
     (begins_as (keeping_tags keep (at_start tokens)).machine more None)

@@ -1,13 +1,12 @@
 -- The tokens of a forest give its events.
 use Rattle.std.proofs.Common.{◌≡◌, ◌<◌, ◌^◌, ℕ, Bool, true, false, List, [], ◌∷◌, ◌++◌, Some, None, refl, ◌∙◌, ◌⊎◌, append_assoc, arith}
 use Rattle.std.specs.Prelude.{if◌then◌else◌, Option}
-use Rattle.saphyr_scalar.specs.declared.scalar.position.Span.{Span}
 use Rattle.saphyr_scanner.specs.Grammar.Forest.{Node, Document, AreCompatible, Forest}
 use Rattle.saphyr_scanner.specs.Grammar.Tokens.{Kind, DocumentEnd}
 use Rattle.saphyr_scanner.specs.Grammar.TokenGrammar.{YieldsDocument, AreEndsAndMarks, YieldDocuments, Yields}
 use Rattle.saphyr_scanner.specs.Views.Tokens.{Piece, Remaining}
 use Rattle.event_laws.specs.Anchors.{anchors}
-use Rattle.event_laws.specs.EventsTaken.{nowhere}
+use Rattle.event_laws.specs.EventsTaken.{no_span}
 use Rattle.event_laws.specs.Preorder.{Part, OpenStream, CloseStream, OpenDocument, CloseDocument, node_parts, document_parts, parts}
 use Rattle.saphyr_machine.specs.Events.{Happening}
 use Rattle.event_laws.specs.ForestEvents.{events}
@@ -69,7 +68,7 @@ fits_start keep = record { keeps = refl; count = refl; prefixes = λ handle. non
 pub each_gives : (f : Forest) (keep : Bool) (ts : List Piece) (es : List Happening) → Yields f (kinds ts)
     → anchors (parts f) < 2 ^ 64 → events f keep ≡ Some es → GivesExactly es (answer_of_tokens keep ts)
 each_gives f keep ts es y l e =
-    let any : (g : SpansByKinds) × (ts ≡ dressed g (kinds ts)) = dress nowhere ts in
+    let any : (g : SpansByKinds) × (ts ≡ dressed g (kinds ts)) = dress no_span ts in
     let within : Within false (parts f) = (tt, documents_within f (all_compatible f true y.1 y.3)) in
     let same = same_events (parts f) false keep [] (at_first keep) within (fits_start keep) (omega (arith, l)) in
     rw any.1 (stream_says f (kinds ts) y any.0 (at_first keep) es (same ∙ e))

@@ -47,8 +47,7 @@ takes text r t a e l keep =
     let ends : AreEnded (IsPlaceOf text) r.refusal r.pieces = ended (IsPlaceOf text) r e (λ f is. rw is at t.3) in
     let formed = tokens_form (IsPlaceOf text) r.refusal no_collections r.pieces (scalar.start_cursor text) t.0 t.1
     (inr ends) in
-    let begun = begins r keep formed l in
-    (
+    let begun = begins r keep formed l in (
       begun.0,
       record {
         tokens = r;

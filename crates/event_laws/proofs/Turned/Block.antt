@@ -205,7 +205,8 @@ mapping_key_at_turned Key sp = passes (λ _. AtKey) (WantedIn state.BlockMapping
 mapping_key_at_turned Value sp = leaves_out (WantedIn state.BlockMappingKey) state.BlockMappingValue Value tt
     (λ _ R ks ps f b. (keyless R ks ps f (b tt), λ c. tt)) sp sp
 mapping_key_at_turned BlockEnd sp = closes (WantedIn state.BlockMappingKey) BlockPairs BlockEnd MappingEnd CloseMapping
-    (λ e. (refl, refl)) refl (λ t span ts k. inr (t, inr k, refl)) (NoPair, refl, refl) (λ _ R ks ps f. (f, λ c. absurd c)) sp sp
+    (λ e. (refl, refl)) refl (λ t span ts k. inr (t, inr k, refl)) (NoPair, refl, refl)
+    (λ _ R ks ps f. (f, λ c. absurd c)) sp sp
 mapping_key_at_turned _ sp = λ ts r x s ss e w a. tt
 
 pub mapping_key_turned : Turns (WantedIn state.BlockMappingKey) block_mapping_key

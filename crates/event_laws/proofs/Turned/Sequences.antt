@@ -108,7 +108,8 @@ first_entry_turned = by_token (λ _. AtFirst) flow_sequence_first_entry_at first
 
 other_entry_at_turned : TurnsAt (λ _. InSequence) flow_sequence_entry_at
 other_entry_at_turned FlowSequenceEnd sp = closes (λ _. InSequence) OtherEntries FlowSequenceEnd SequenceEnd
-    CloseSequence (λ e. (refl, refl)) refl (λ t span ts k. inr (t, inl k, refl)) (NoNode, inl refl, refl) (λ _ R ks ps f. f) sp sp
+    CloseSequence (λ e. (refl, refl)) refl (λ t span ts k. inr (t, inl k, refl)) (NoNode, inl refl, refl)
+    (λ _ R ks ps f. f) sp sp
 other_entry_at_turned FlowEntry sp = passes (λ _. AtFirst) (λ _. InSequence) FlowEntry flow_sequence_first_entry tt
     (λ _. behind_comma) first_entry_turned sp
 other_entry_at_turned _ sp = λ ts r x s ss e w a. tt
