@@ -169,6 +169,9 @@ WRONG = [
     (":\n:", "+MAP / =VAL : / +MAP / =VAL : / =VAL : / -MAP / -MAP"),
     ("-\n- a", "+SEQ / +SEQ / =VAL :a / -SEQ / -SEQ"),
     ("a:\n b: c\n d: e", "+MAP / =VAL :a / +MAP / =VAL :b / =VAL :c / -MAP / =VAL :d / =VAL :e / -MAP"),
+    (": :\na :", "+MAP / =VAL : / +MAP / =VAL : / =VAL :a / =VAL : / =VAL : / -MAP / -MAP"),
+    ("a:\n b:\nc: d", "+MAP / =VAL :a / +MAP / =VAL :b / =VAL :c / =VAL : / =VAL :d / -MAP / -MAP"),
+    (":\na", "+MAP / =VAL : / =VAL :a / -MAP"),
     ('- - "a\nb"', '+SEQ / +SEQ / =VAL "a b / -SEQ / -SEQ'),
     ("a\n: b", "+MAP / =VAL :a / =VAL :b / -MAP"),
     ("?\n:", "+MAP / =VAL : / =VAL : / =VAL : / =VAL : / -MAP"),
@@ -200,8 +203,8 @@ def derived(text, exceptions=recognizer.ALL):
 
 
 def is_taken(text, answer):
-    """Whether tokens that meet each condition give the answer."""
-    return any(answers.events(parts) == lines_of(answer) for parts in answers.Search(text, 2).answers())
+    """Whether tokens that meet the definitions give the answer, whatever no definition asks."""
+    return any(answers.events(parts) == lines_of(answer) for parts in answers.Search(text, 2, answers.OPEN).answers())
 
 
 def wrong_rows():

@@ -61,6 +61,10 @@ other_nesting (end, tokens, place, fin) =
     let right : 1 ≤ starts.here.mark.col = starts.is.4 in
     omega (arith, col, right)
 
+-- outside brackets a node's first line is right of its collection's column
+pub other_mapping : AreTakenFrom (codes ": :\na :") wrong.other_mapping → ⊥
+other_mapping t = let left : false ≡ true = t.3.1.1.1.1.1.0 in cc
+
 -- what may come after a tag outside flow
 abbrev ends_tag : List ℕ → Bool
 ends_tag l = is_blank_or_breakz (slice_index l 0) || (false && is_flow (slice_index l 0))

@@ -55,6 +55,21 @@ other_nesting =
     []
     ) (marker_at 5 3 0)
 
+-- `: :` LF `a :` with the `a` as the value of the inner mapping's first entry
+abbrev pub other_mapping : Remaining
+other_mapping =
+    stream (
+    empty_at (marker_at 0 1 0) tokens.BlockMappingStart ∷
+    empty_at (marker_at 0 1 0) tokens.Value ∷
+    empty_at (marker_at 2 1 2) tokens.BlockMappingStart ∷
+    empty_at (marker_at 2 1 2) tokens.Value ∷
+    piece_from_to (marker_at 4 2 0) (marker_at 5 2 1) (tokens.Scalar Plain (codes "a")) ∷
+    empty_at (marker_at 6 2 2) tokens.Value ∷
+    empty_at (marker_at 7 3 0) tokens.BlockEnd ∷
+    empty_at (marker_at 7 3 0) tokens.BlockEnd ∷
+    []
+    ) (marker_at 7 3 0)
+
 -- `!a` as the tag `!` and the scalar `a`
 abbrev pub short_tag : Remaining
 short_tag =

@@ -5,6 +5,7 @@ pub returns : goal.returns
 returns c = record {
   dropped_text = wrong.dropped_text;
   other_nesting = wrong.other_nesting;
+  other_mapping = wrong.other_mapping;
   short_tag = wrong.short_tag;
   other_anchor = wrong.other_anchor;
 }
