@@ -86,8 +86,8 @@ unfolding gap_from
 gap_stops indent start blanks m s ink col line = by_test (is_break (slice_index s.rest 0)) _ _ (Given (StopsGap m))
     (λ e. let t = pass_break s in
     let ends = break_ends_line s e in
-    given_then (λ (g : PlainGap). StopsInFront t.mark.line g.behind) (StopsGap m) (lines indent start false [] t.mark t.rest)
-    _ (lines_stop indent start false [] t.mark t.rest) (λ g h. (
+    given_then (λ (g : PlainGap). StopsInFront t.mark.line g.behind) (StopsGap m)
+    (lines indent start false [] t.mark t.rest) _ (lines_stop indent start false [] t.mark t.rest) (λ g h. (
       h.0,
       (
         (λ f. absurd (let b = h.1 in cc)),

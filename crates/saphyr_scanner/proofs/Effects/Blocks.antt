@@ -113,7 +113,8 @@ next_entry_does c e allowed deep first second =
     walked_then (Premises c) (Behind r) (Doing None c) s (block.pass_dash r >>= remove_key) _ (dash_walked c s r a)
     (λ d g. at_most (omega arith) (and_then (λ n. n)
     (block_begins (enclosure_of c.level.context) c _ tokens.BlockSequenceStart place.BlockSequence
-    (λ i. absurd (cc)) refl refl allowed (λ f. absurd (let no = g.2 in cc)) (λ f. absurd (cc)) (λ p. refl) (λ i p u t h. h) (λ x y. refl) (λ p all. refl) (λ p columns. refl) e
+    (λ i. absurd (cc)) refl refl allowed (λ f. absurd (let no = g.2 in cc)) (λ f. absurd (cc)) (λ p. refl)
+    (λ i p u t h. h) (λ x y. refl) (λ p all. refl) (λ p columns. refl) e
     (further_right s.mark.col c f) (ap taken.begins_text first))
     (dash place.BlockSequence (enter_block s.mark.col c) (record d { key_allowed = true }) first second e allowed refl
     g.0 refl g.1 (λ p. refl)))))
@@ -225,7 +226,8 @@ key_does c deep first second =
     (block_begins (enclosure_of c.level.context) c _ tokens.BlockMappingStart place.BlockMapping
     (λ i. absurd (cc)) refl refl (allowed_in (in_block c) c.key_allowed w (further_block s.mark.col c f))
     (λ yes. absurd (let no = same_free (in_block c) (in_block r) c.required (question_block c.level.context) g.3 in
-    let b = further_block s.mark.col c f in cc)) (λ yes. absurd (let b = further_block s.mark.col c f in cc)) (λ p. refl) (λ i p u t h. h) (λ j y. refl) (λ p all. refl) (λ p columns. refl)
+    let b = further_block s.mark.col c f in cc)) (λ yes. absurd (let b = further_block s.mark.col c f in cc)) (λ p. refl)
+    (λ i p u t h. h) (λ j y. refl) (λ p all. refl) (λ p columns. refl)
     (further_block s.mark.col c f) (further_right s.mark.col c f) (ap taken.begins_text first)) (and_then (λ n. n)
     (lesser (with_begun place.BlockMapping (enclosures_of (enter_block s.mark.col c)))
     (forget_key (enter_block s.mark.col c)) (forget_key r)

@@ -1,7 +1,7 @@
 -- The moves that put a token, save a key, or turn a candidate into a key.
-use Rattle.std.proofs.Common.{◌<◌, ◌≡◌, ℕ, ◌+◌, ◌≤◌, ◌⊎◌, Bool, true, false, List, [], ◌∷◌, length, Option, Some, None}
+use Rattle.std.proofs.Common.{◌<◌, ◌≡◌, ℕ, ◌+◌, ◌≤◌, Bool, true, false, List, [], ◌∷◌, length, Option, Some, None}
 use Rattle.std.proofs.Common.{refl, sym, ap, ◌∙◌, arith, subst, inl, inr, IsTrue}
-use Rattle.std.specs.Prelude.{◌-◌, ◌&&◌, ◌==◌, slice_index, not, suc}
+use Rattle.std.specs.Prelude.{◌-◌, ◌==◌, slice_index, not, suc}
 use Rattle.saphyr_input.specs.Classes.{is_break}
 use Rattle.saphyr_scalar.specs.declared.scalar.position.Span.{Span}
 use Rattle.saphyr_scalar.specs.Views.Cursor.{Cursor, pass}
@@ -204,7 +204,8 @@ pub same_block : (n : ℕ) (c : Core) (l : Level) (r : Bool) → IsSaved n c l r
 same_block n c l r (inl e) = ap (λ (x : Level). is_block x.context) e.0
 same_block n c l r (inr e) = ap (λ (x : Level). is_block x.context) e.0
 
-pub same_flow : (n : ℕ) (c : Core) (l : Level) (r : Bool) → IsSaved n c l r → not (is_block l.context) ≡ not (in_block c)
+pub same_flow : (n : ℕ) (c : Core) (l : Level) (r : Bool) → IsSaved n c l r
+    → not (is_block l.context) ≡ not (in_block c)
 same_flow n c l r s = ap not (same_block n c l r s)
 
 pub saved_above : (h n : ℕ) (c : Core) (l : Level) (r : Bool) → IsSaved n c l r → h ≤ n → KeyAbove h c.level.key

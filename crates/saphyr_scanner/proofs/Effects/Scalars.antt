@@ -40,7 +40,7 @@ use Rattle.saphyr_scanner.proofs.LessIndented.{less_indented}
 use Rattle.saphyr_scanner.proofs.Reached.{apart_reached, passed_reached}
 use Rattle.saphyr_scanner.proofs.Steps.Choice.{NoIndicator}
 use Rattle.saphyr_scanner.proofs.Taken.Cores.{surroundings, IsSaved}
-use Rattle.saphyr_scanner.proofs.Taken.Indented.{BeginsNoNode, IsRight, other_than_colon}
+use Rattle.saphyr_scanner.proofs.Taken.Indented.{BeginsNoNode, other_than_colon}
 use Rattle.saphyr_scanner.proofs.Taken.Keys.{IsArrival}
 use Rattle.saphyr_scanner.proofs.Taken.Neutral.{neutral}
 use Rattle.saphyr_scanner.proofs.Taken.Later.{top, apart_later, passed_later, end_stays}
@@ -121,8 +121,8 @@ goes_on_outside start c b h =
     ]
 
 -- a separation from a break on goes on to a later line
-break_passed : (m : Marker) (t : List ℕ) (n : Marker) (u : List ℕ) → IsPassedOver m t n u → is_break (slice_index t 0) ≡ true
-    → IsTrue (begins_text (slice_index u 0)) → m.line ≤ top → n.line < top → m.line < n.line
+break_passed : (m : Marker) (t : List ℕ) (n : Marker) (u : List ℕ) → IsPassedOver m t n u
+    → is_break (slice_index t 0) ≡ true → IsTrue (begins_text (slice_index u 0)) → m.line ≤ top → n.line < top → m.line < n.line
 break_passed _ _ _ _ (taken.nothing m t) e b low small = absurd (no (slice_index t 0) e b)
   where
     no : (c : ℕ) → is_break c ≡ true → begins_text c ≡ true → ⊥
@@ -147,8 +147,8 @@ character_right c _ _ _ _ (passing.line_break m t n u f p) e k less low small li
 
 -- behind quotes that end on a line the text goes on right of them, or no node begins
 quotes_end : (i : ℕ) (s x u v : Cursor) (j : ℕ) (quote : Quote) → slice_index s.rest 0 ≡ mark quote
-    → is_break (mark quote) ≡ false → IsPassed s.mark s.rest x.mark x.rest → length x.rest < length s.rest → OnLine x u → AreApart u v
-    → IsTrue (begins_text (slice_index v.rest 0)) → j ≡ i → i ≤ s.mark.col + 1 → s.mark.line < top → v.mark.line < top
+    → is_break (mark quote) ≡ false → IsPassed s.mark s.rest x.mark x.rest → length x.rest < length s.rest
+    → OnLine x u → AreApart u v → IsTrue (begins_text (slice_index v.rest 0)) → j ≡ i → i ≤ s.mark.col + 1 → s.mark.line < top → v.mark.line < top
     → v.mark.line ≡ u.mark.line → IsTrue (is_breakz (slice_index u.rest 0)) ⊎ (s.mark.line ≡ u.mark.line)
     → (j ≤ v.mark.col) ⊎ BeginsNoNode v.rest
 quotes_end i s x u v j quote first unbroken passed less o apart begins same deep low small line (inr on) =
@@ -161,8 +161,8 @@ quotes_end i s x u v j quote first unbroken passed less o apart begins same deep
     let d = more (omega (arith, on, low)) small (omega (arith, line)) in inl (omega (arith, a, b, d, same, deep))
 quotes_end i s x u v j quote first unbroken passed less o apart begins same deep low small line (inl e) =
     elim (or_cases (is_break (slice_index u.rest 0)) (is_z (slice_index u.rest 0)) e) [
-      | inl b ↦ absurd (let l = break_passed u.mark u.rest v.mark v.rest apart b begins (omega (arith, line, small)) small in
-          omega (arith, l, line))
+      | inl b ↦ absurd (let l = break_passed u.mark u.rest v.mark v.rest apart b begins (omega (arith, line, small))
+          small in omega (arith, l, line))
       | inr z ↦ inr (inl (end_stays u v apart z))
     ]
 

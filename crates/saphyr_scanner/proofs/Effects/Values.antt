@@ -314,8 +314,7 @@ alone_does b c d x t none =
     (λ _. free_key) (λ r. r) (λ p. refl) (λ i p v t h. h) (λ x y. refl) (λ p all. refl) (λ p columns. refl)
     (block_same c d g.0 (further_block column d f)) (right_same column c d g.0 f) (ap taken.begins_text t.first))
     (colon_does (with_begun place.BlockMapping (free e (outside_of (enter_block column c))))
-    (with_key None (enter_block column c)) (Into true) u t.first t.parted g.1
-    (
+    (with_key None (enter_block column c)) (Into true) u t.first t.parted g.1 (
       no_key d.level none ∙ ap (λ (l : Level). record { context = l.context; key = None }) g.0.0,
       r.1,
       r.2,

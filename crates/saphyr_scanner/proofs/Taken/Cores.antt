@@ -24,7 +24,7 @@ use Rattle.saphyr_scanner.proofs.Taken.Held.{Stack, enclosure_of, columns_of, en
 use Rattle.saphyr_scanner.proofs.Taken.Indented.{BeginsNoNode, HasNoColon, IsRight, IsPastLine, root_key, own_root, root_inner, root_outer, Waits, Indented, never_waits, KeepsRequired, FitsIndented, past_before, no_node_fits, indented_then, waits_then, indented_put, indented_alone, OpensKey}
 use Rattle.saphyr_scanner.proofs.Leads.{flat}
 use Rattle.saphyr_scanner.proofs.Taken.Neutral.{KeepsBrackets}
-use Rattle.saphyr_scanner.proofs.Taken.Keys.{taken_open, Key, KeyOf, lower, KeysFrom, Keys, keys_weaken, KeepsDepth, IsFreeOr, LeadsDeeper, keeps_depth, keys_put, keys_open, below_key, root_below, IsArrival}
+use Rattle.saphyr_scanner.proofs.Taken.Keys.{taken_open, Key, KeyOf, lower, KeysFrom, Keys, keys_weaken, KeepsDepth, LeadsDeeper, keeps_depth, keys_put, keys_open, below_key, root_below, IsArrival}
 
 pub record HoldsWithin (within : Enclosures) (opened : Setting) (from : Cursor) (c : Core) (q : Queue) : Type 0 where
   pub taken : TakenWithin within opened from c q
@@ -278,9 +278,6 @@ pub record Saved (n : ℕ) (c d : Core) : Type 0 where
   pub indent : d.indent ≡ c.indent
   pub outer_indents : d.outer_indents ≡ c.outer_indents
 
-pub first_at : (x : ℕ) (s t : Cursor) → t ≡ s → slice_index s.rest 0 ≡ x → slice_index t.rest 0 ≡ x
-first_at x s t e f = ap (λ (u : Cursor). slice_index u.rest 0) e ∙ f
-
 pub apart_same : (s t : Cursor) → t ≡ s → AreApart s t
 apart_same s t e = let P : Cursor → Type 0 = λ u. AreApart s u in subst P (sym e) (taken.nothing s.mark s.rest)
 
@@ -424,7 +421,8 @@ saved_keys all e c q t d quiet node depth leads b m deep s past h = by s.level
         subst P (sym s.indent) (subst Q (sym f) (subst R (sym s.outer) k))
 
     by : IsSaved (next q) c d.level d.required → KeysFrom all e (next r) r d.indent (d.level ∷ d.outer)
-    by (inl (f, _, _)) = of c.level f (keys_weaken all e (next q) (next r) r c.indent (c.level ∷ c.outer) (omega (arith, more))
+    by (inl (f, _, _)) = of c.level f
+        (keys_weaken all e (next q) (next r) r c.indent (c.level ∷ c.outer) (omega (arith, more))
         (keys_put all 0 e (next q) q c.indent (c.level ∷ c.outer) t quiet leads h))
     by (inr (f, allowed, _)) =
         let outers = keys_weaken all 1 (lower (next q) c.level.key) (next q) q c.indent c.outer

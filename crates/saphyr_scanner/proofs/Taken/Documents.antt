@@ -90,10 +90,10 @@ forgotten_unrolled opened from s end free h =
     record {
       taken = taken_further (enclosures_of t.core) opened from t.core (forget_key t.core) t.queue (taken.nothing _ _)
           refl refl refl refl ((λ a. inl a), λ r. r) (record {
-        required = (forget_requires t.core f).required;
-        root = λ r. absurd (let b = ap (λ (y : Level). is_block y.context) l.level ∙ e in cc);
-        block = refl;
-      }) k;
+            required = (forget_requires t.core f).required;
+            root = λ r. absurd (let b = ap (λ (y : Level). is_block y.context) l.level ∙ e in cc);
+            block = refl;
+          }) k;
       keys = no_keys opened.enclosures (next t.queue) t.queue t.core.indent (forget_key t.core).level t.core.outer refl
           (l.outer ∙ outermost (enclosures_of s.core) opened from s.core s.queue h e)
           (ap (λ (y : Level). is_block y.context) l.level ∙ e);

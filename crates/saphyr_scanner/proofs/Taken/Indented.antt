@@ -1,10 +1,9 @@
 -- Which tokens of flow nodes are right of their collection's column: all that are held, or where a key has to be one,
 -- those before it.
 use Rattle.std.proofs.Common.{◌≡◌, ℕ, ◌+◌, ◌≤◌, ◌<◌, ◌⊎◌, Bool, true, false, List, [], ◌∷◌, ◌++◌, length, drop, Option, Some, None, refl, sym, ap, ◌∙◌, arith, subst, inl, inr, append_assoc, IsTrue}
-use Rattle.std.specs.Prelude.{◌&&◌, ◌==◌, not, slice_index, if◌then◌else◌}
+use Rattle.std.specs.Prelude.{◌==◌, slice_index}
 use Rattle.saphyr_input.specs.Classes.{is_z, is_blank_or_breakz}
 use Rattle.saphyr_input.specs.Indicators.{colon}
-use Rattle.saphyr_scalar.specs.declared.scalar.position.Marker.{Marker}
 use Rattle.saphyr_scalar.specs.Views.Cursor.{Cursor}
 use Rattle.saphyr_scanner.specs.Views.Tokens.{Piece}
 use Rattle.saphyr_scanner.specs.Steps.Queue.{Place, Queue, bare_place, with_piece, is_empty_list}
@@ -16,7 +15,6 @@ use Rattle.saphyr_scanner.proofs.Leads.{flat, place_pieces}
 use Rattle.saphyr_scanner.proofs.Queues.{flat_append}
 use Rattle.saphyr_scanner.proofs.Taken.InPlace.{all_behind, each_append, each_parts}
 use Rattle.saphyr_scanner.proofs.Taken.Later.{top, text_stays, end_stays}
-use Rattle.saphyr_input.proofs.Basics.Booleans.{by_test}
 
 -- ## Where no key may begin outside flow
 
@@ -126,7 +124,7 @@ indented_further all c d q k l allows ends h =
       past = λ b a s. elim (allows a) [
         | inl g ↦
             elim (w.past (sym k.block ∙ b) g (omega (arith, l, s)))
-                [ inl x ↦ inl (omega (arith, l, x)) | inr z ↦ inr (ends z) ]
+            [ inl x ↦ inl (omega (arith, l, x)) | inr z ↦ inr (ends z) ]
         | inr x ↦ inl (omega (arith, w.line, x))
       ];
     }

@@ -295,7 +295,8 @@ place_in_place : (e : Enclosure) (outside : Outside) (all : Enclosures) (o : Ope
 place_in_place e outside all o front t back m past quiet inside h i =
     let P : List Piece → Type 0 = λ l. AreInPlace all l in
     let mid = all_behind (flat front) all in
-    let parts = each_parts may_stand (flat front) (t ∷ flat back) all (subst P (flat_append front (bare_place t ∷ back)) h) in
+    let parts = each_parts may_stand (flat front) (t ∷ flat back) all
+    (subst P (flat_append front (bare_place t ∷ back)) h) in
     let takes = node_taken t (flat back) 0 mid inside parts.1 in
     let stays = node_retold t (flat back) mid.begun mid.begun mid mid takes quiet inside parts.1 in
     let here : mid ≡ with_begun mid.begun (free e outside) = ap (with_begun mid.begun)
@@ -418,7 +419,7 @@ taken_open e outside opened from c d q b block k o x f near right left outer m t
           (h.past (sym allowed ∙ i)));
     }
 
--- ## Where the next token begins, which is not the end
+-- ## Where the next token begins
 
 -- not too far after the candidate outside flow
 abbrev pub IsNear : Core → Type 0
@@ -432,10 +433,11 @@ IsDeep c = in_block c ≡ true → c.indent ≤ c.cursor.mark.col + 1
 abbrev pub IsSmall : Core → Type 0
 IsSmall c = c.cursor.mark.line < top
 
--- no column left of which nothing may be, nor left of a key's outside flow
+-- not left of the candidate outside flow
 abbrev pub IsBehindKey : Core → Type 0
 IsBehindKey c = in_block c ≡ true → (k : Candidate) → c.level.key ≡ Some k → k.mark.col ≤ c.cursor.mark.col
 
+-- nor of the column that content has to reach, and before the end
 abbrev pub IsArrival : Core → Type 0
 IsArrival c = IsDeep c × IsNear c × IsSmall c × (least_column c ≤ c.cursor.mark.col) × IsBehindKey c
     × (is_z (slice_index c.cursor.rest 0) ≡ false)

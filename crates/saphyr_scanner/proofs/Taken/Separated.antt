@@ -243,8 +243,7 @@ all_break l [] m blank broke tabbed =
 all_break l (c ∷ cs) m blank broke tabbed =
     let P = Given (Breaks m broke) in
     let line = given_map _ _ (end_of_gap l (next_line m 1) true true false cs) (λ p h small.
-    let k = h (omega arith) in
-    (
+    let k = h (omega arith) in (
       omega (arith, k.0, small),
       k.1,
       (λ _ s. inr (omega (arith, k.0, s))),
