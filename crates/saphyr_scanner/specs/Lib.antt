@@ -1,5 +1,4 @@
 pub mod Grammar
-pub mod Examples
 pub mod Views
 pub mod Limits
 pub mod Steps

@@ -1,2 +1,0 @@
--- Small texts, with their forests and tokens.
-pub mod Forests
