@@ -7,4 +7,4 @@ pub returns : goal.returns
 returns c = λ limit text small e is.
     let h = c.takes_all_tokens.ensures limit text small in
     let P : Option Refusal → Type 0 = λ o. IsEndOf text o h.0 in
-    subst P is h.3
+    subst P is h.4
