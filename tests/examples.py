@@ -169,6 +169,7 @@ WRONG = [
     (":\n:", "+MAP / =VAL : / +MAP / =VAL : / =VAL : / -MAP / -MAP"),
     ("-\n- a", "+SEQ / +SEQ / =VAL :a / -SEQ / -SEQ"),
     ("a:\n b: c\n d: e", "+MAP / =VAL :a / +MAP / =VAL :b / =VAL :c / -MAP / =VAL :d / =VAL :e / -MAP"),
+    ("- a: b", "+MAP / +SEQ / =VAL :a / -SEQ / =VAL :b / -MAP"),
     (": :\na :", "+MAP / =VAL : / +MAP / =VAL : / =VAL :a / =VAL : / =VAL : / -MAP / -MAP"),
     ("a:\n b:\nc: d", "+MAP / =VAL :a / +MAP / =VAL :b / =VAL :c / =VAL : / =VAL :d / -MAP / -MAP"),
     (":\na", "+MAP / =VAL : / =VAL :a / -MAP"),
@@ -185,9 +186,6 @@ WRONG = [
     ("[a\n:]", "+SEQ / +MAP / =VAL :a / =VAL : / -MAP / -SEQ"),
     ("[a:]", "+SEQ / =VAL :a / -SEQ"),
     ("&a x\n--- *a\n", "=VAL &1 :x / -DOC / +DOC --- / =ALI *1"),
-    (": :\na :", "+MAP / =VAL : / +MAP / =VAL : / =VAL :a / =VAL : / =VAL : / -MAP / -MAP"),
-    ("a:\n b:\nc: d", "+MAP / =VAL :a / +MAP / =VAL :b / =VAL :c / =VAL : / =VAL :d / -MAP / -MAP"),
-    (":\na", "+MAP / =VAL : / =VAL :a / -MAP"),
 ]
 
 
