@@ -1,22 +1,18 @@
 -- An escape that is spelled is read, without a fault, and gives its character.
-use Rattle.std.proofs.Common.{◌≡◌, ℕ, suc, append_assoc, ◌+◌, Bool, true, false, List, [], ◌∷◌, ◌++◌, length, drop, Ok, refl, sym, ap, ◌∙◌, arith, encode_utf8_all, IsTrue}
+use Rattle.std.proofs.Common.{◌≡◌, ℕ, suc, Bool, true, false, List, [], ◌∷◌, ◌++◌, length, Ok, refl, sym, ap, ◌∙◌, arith}
 use Rattle.std.proofs.lemmas.Option.{none-some}
-use Rattle.std.specs.Prelude.{◌||◌, ◌&&◌, ◌==◌, not, encode_utf8, Option, Some, None}
-use Rattle.saphyr_input.specs.Indicators.{backslash, quotation_mark}
-use Rattle.saphyr_input.specs.Classes.{is_blank, is_break, is_breakz, is_hex}
+use Rattle.std.specs.Prelude.{Option, Some, None}
+use Rattle.saphyr_input.specs.Indicators.{backslash}
+use Rattle.saphyr_input.specs.Classes.{is_break, is_hex}
 use Rattle.saphyr_scalar.specs.Values.Escapes.{digit_count, short_escape}
 use Rattle.saphyr_scalar.specs.Spelling.Tag.{AreIn}
 use Rattle.saphyr_scalar.specs.declared.scalar.position.Marker.{Marker}
-use Rattle.saphyr_scalar.specs.declared.values.Quote.TheVariants.{Double}
-use Rattle.saphyr_scalar.specs.Views.Cursor.{Cursor, along}
-use Rattle.saphyr_scalar.specs.Steps.Quoted.{is_literal, digits, character, escape_by_number, escape_of, escaped_character, with_front, mid_line, on_line, no_gap, inner_text, quoted, double_quoted}
+use Rattle.saphyr_scalar.specs.Views.Cursor.{along}
+use Rattle.saphyr_scalar.specs.Steps.Quoted.{digits, character, escape_by_number, escape_of, escaped_character, mid_line}
 use Rattle.saphyr_scalar.specs.Spelling.OneLine as spelling
 use Rattle.saphyr_scalar.proofs.Moving.{along_none, along_more}
 use Rattle.saphyr_scalar.proofs.Quoted.Escapes.{simple_no_digits}
-use Rattle.saphyr_scalar.proofs.Quoted.Inside.{IsQuotedInk, content_of, stands, one_blank, flushed, break_cases}
-use Rattle.saphyr_scalar.proofs.Quoted.Parts.{at_escape}
-use Rattle.saphyr_scalar.proofs.Quoted.Gaps.{at_closing}
-use Rattle.saphyr_scalar.proofs.Given.{text_given_at}
+use Rattle.saphyr_scalar.proofs.Quoted.Inside.{IsQuotedInk, break_cases}
 
 -- where digits are, they are read
 digits_read : (start m : Marker) (v : ℕ) (ds t : List ℕ) → AreIn is_hex ds

@@ -1,8 +1,7 @@
 -- Where a block scalar has no content, its empty lines are taken off, and no more.
 use Rattle.std.proofs.Common.{◌≡◌, ◌≢◌, ℕ, ◌+◌, ◌<◌, ◌≤◌, Bool, true, false, List, [], ◌∷◌, ◌++◌, length, slice_index, refl, sym, ap, ◌∙◌, arith, subst, nat_lt, inl, inr}
-use Rattle.std.specs.Prelude.{max, Option, Some, None, ◌⊎◌}
+use Rattle.std.specs.Prelude.{max, Option, ◌⊎◌}
 use Rattle.std.proofs.lemmas.Bool.Decides.{nat_tests}
-use Rattle.std.proofs.lemmas.Bool.{ne_eqb}
 use Rattle.std.proofs.lemmas.List.{append-nil}
 use Rattle.saphyr_input.specs.Classes.{is_break, is_yaml_non_break}
 use Rattle.saphyr_input.specs.Places.{is_document_indicator}

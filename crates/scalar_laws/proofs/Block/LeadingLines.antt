@@ -1,8 +1,7 @@
 -- Where the leading empty lines of a block scalar are, they are taken off, with the indentation of its first content
 -- line.
-use Rattle.std.proofs.Common.{◌≡◌, ◌≢◌, ℕ, zero, suc, ◌+◌, ◌<◌, ◌≤◌, Bool, true, false, List, [], ◌∷◌, ◌++◌, slice_index, refl, sym, ap, ◌∙◌, arith, subst, nat_eq, nat_lt, append_assoc}
+use Rattle.std.proofs.Common.{◌≡◌, ◌≢◌, ℕ, zero, suc, ◌+◌, ◌<◌, ◌≤◌, Bool, true, false, List, [], ◌∷◌, ◌++◌, slice_index, refl, sym, ap, ◌∙◌, arith, subst, append_assoc}
 use Rattle.std.specs.Prelude.{max, Option, Some, None}
-use Rattle.std.proofs.lemmas.Bool.Decides.{nat_tests}
 use Rattle.saphyr_input.specs.Classes.{is_blank, is_yaml_non_break, line_feed, space}
 use Rattle.saphyr_scalar.specs.declared.values.BlockStyle.{BlockStyle}
 use Rattle.saphyr_scalar.specs.declared.scalar.position.Marker.{Marker}
@@ -16,10 +15,8 @@ use Rattle.saphyr_scalar.specs.declared.values.Chomping.{Chomping}
 use Rattle.saphyr_scalar.specs.Values.Block as reading
 use Rattle.saphyr_scalar.specs.Values.Block.{Line, Empty, Content, contents, contents_behind, empty_at_end, has_content}
 use Rattle.saphyr_scalar.specs.Values.Folding.{line_feeds}
-use Rattle.saphyr_input.proofs.Basics.Booleans.{and_false}
-use Rattle.std.proofs.lemmas.Bool.{ne_eqb}
 use Rattle.saphyr_input.proofs.Basics.Characters.{non_break_no_break}
-use Rattle.scalar_laws.proofs.Block.PlacedValues.{space_left, Left, nothing_behind, content_left, last_left, lines_left, Value, content_value, last_value, lines_value_left}
+use Rattle.scalar_laws.proofs.Block.PlacedValues.{Left, nothing_behind, content_left, last_left, lines_left, Value, content_value, last_value, lines_value_left}
 
 -- the indentation that is given, or is to be found
 abbrev pub IsLimit : ℕ → Bool → Option ℕ → Type 0

@@ -1,5 +1,5 @@
 -- Where the lines of a block scalar are, what is read has their value, with the breaks at their end.
-use Rattle.std.proofs.Common.{◌≡◌, ℕ, suc, ◌+◌, ◌<◌, ◌≤◌, Bool, true, false, List, [], ◌∷◌, ◌++◌, length, slice_index, refl, sym, ap, ◌∙◌, arith, nat_le, append_assoc, add-one, ◌≢◌, zero, subst, nat_eq, nat_lt, inl, inr}
+use Rattle.std.proofs.Common.{◌≡◌, ℕ, suc, ◌+◌, ◌<◌, ◌≤◌, Bool, true, false, List, [], ◌∷◌, ◌++◌, length, slice_index, refl, sym, ap, ◌∙◌, arith, nat_le, append_assoc, add-one, ◌≢◌, zero, nat_eq, nat_lt, inl, inr}
 use Rattle.std.specs.Prelude.{◌&&◌, max, Option, Some, not, is_some, ◌⊎◌}
 use Rattle.std.proofs.lemmas.Bool.Decides.{nat_tests}
 use Rattle.std.proofs.lemmas.List.{append-nil}
@@ -12,7 +12,6 @@ use Rattle.saphyr_scalar.specs.Reading.BlockLines.{spaces}
 use Rattle.saphyr_scalar.proofs.Block.Values.{cut_tail, same_break}
 use Rattle.scalar_laws.specs.Spelling.Block.{IsContent, AreLines, no_lines, empty, content, last, last_empty, left_of, IsBehind}
 use Rattle.saphyr_scalar.specs.declared.values.Chomping.{Chomping}
-use Rattle.saphyr_scalar.specs.declared.values.Chomping.TheVariants.{Strip, Clip, Keep}
 use Rattle.saphyr_scalar.specs.Values.Block as reading
 use Rattle.saphyr_scalar.specs.Values.Block.{Line, is_more_indented, contents_behind, empty_at_end}
 use Rattle.saphyr_input.specs.Places.{is_document_indicator}

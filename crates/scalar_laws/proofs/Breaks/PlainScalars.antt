@@ -1,5 +1,5 @@
 -- Plain scalars are read alike.
-use Rattle.std.proofs.Common.{◌≡◌, ℕ, zero, suc, ◌<◌, Bool, true, false, List, [], ◌∷◌, ◌++◌, length, drop, slice_index, refl, sym, ap, ◌∙◌, arith, encode_utf8}
+use Rattle.std.proofs.Common.{◌≡◌, ℕ, ◌<◌, Bool, true, false, List, [], ◌∷◌, ◌++◌, length, slice_index, refl, sym, ◌∙◌, arith, encode_utf8}
 use Rattle.std.specs.Prelude.{◌&&◌, ◌||◌, ◌==◌, not, nat_lt}
 use Rattle.saphyr_input.specs.Indicators.{hyphen}
 use Rattle.saphyr_input.specs.Classes.{is_break, is_blank, is_blank_or_breakz, is_z, is_bom, is_flow, tab}

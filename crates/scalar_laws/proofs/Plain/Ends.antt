@@ -1,26 +1,20 @@
 -- Where a plain scalar ends.
-use Rattle.std.proofs.Common.{◌≡◌, ◌≢◌, ℕ, suc, ◌<◌, Bool, true, false, List, [], ◌∷◌, ◌++◌, length, slice_index, Ok, refl, sym, ap, ◌∙◌, arith, subst, encode_utf8_all, IsTrue, ⊎_elim, drop, inl}
-use Rattle.std.specs.Prelude.{◌||◌, ◌&&◌, ◌==◌, not, nat_lt, encode_utf8}
-use Rattle.std.specs.List.{prefix_len}
+use Rattle.std.proofs.Common.{◌≡◌, ℕ, ◌<◌, Bool, true, false, List, [], slice_index, Ok, refl, arith, subst, ⊎_elim}
+use Rattle.std.specs.Prelude.{◌||◌, ◌&&◌, ◌==◌, not, nat_lt}
 use Rattle.std.proofs.lemmas.Bool.Decides.{nat_tests}
-use Rattle.std.proofs.lemmas.List.{append-nil}
-use Rattle.saphyr_input.specs.Classes.{is_blank, is_break, is_blank_or_breakz, is_flow, is_bom}
+use Rattle.saphyr_input.specs.Classes.{is_blank, is_break}
 use Rattle.saphyr_input.specs.Places.{is_blank_or_break, is_document_indicator, can_be_plain}
-use Rattle.saphyr_scalar.specs.Spelling.Tag.{AreIn}
 use Rattle.saphyr_scalar.specs.declared.scalar.position.Marker.{Marker}
-use Rattle.saphyr_scalar.specs.Views.Cursor.{Cursor, along}
+use Rattle.saphyr_scalar.specs.Views.Cursor.{Cursor}
 use Rattle.saphyr_scalar.specs.Steps.Quoted.{mid_line}
-use Rattle.saphyr_scalar.specs.Steps.Plain.{is_in_word, word_starts, next_word_starts, comment_of, with_text, word, plain}
-use Rattle.saphyr_scalar.proofs.Moving.{along_none, along_more}
-use Rattle.saphyr_scalar.proofs.Plain.Pieces.{no_text, text_twice, word_on, word_over, goes_not, plain_starts}
+use Rattle.saphyr_scalar.specs.Steps.Plain.{is_in_word, word_starts, next_word_starts, comment_of, word}
+use Rattle.saphyr_scalar.proofs.Plain.Pieces.{word_over, goes_not}
 use Rattle.scalar_laws.specs.Spelling.Plain.{past_white, is_tabbed, StopsPlain, EndsPlain}
 use Rattle.scalar_laws.proofs.Plain.White.{past_stop, gap_past}
-use Rattle.std.proofs.lemmas.Bool.{ne_eqb, false≢true}
-use Rattle.saphyr_input.proofs.Basics.Booleans.{and_false, by_test}
+use Rattle.std.proofs.lemmas.Bool.{false≢true}
+use Rattle.saphyr_input.proofs.Basics.Booleans.{by_test}
 use Rattle.std.proofs.Math.Bool.{or-true}
-use Rattle.saphyr_input.specs.Indicators.{hyphen, number_sign, full_stop}
-use Rattle.saphyr_input.proofs.Basics.Characters.{no_marker_at}
-use Rattle.saphyr_scalar.proofs.Given.{cursor_at}
+use Rattle.saphyr_input.specs.Indicators.{number_sign}
 
 -- no word goes on with a blank or a break
 pub white_stops : (f : Bool) (xs : List ℕ) → is_blank_or_break (slice_index xs 0) ≡ true → is_in_word f xs ≡ false

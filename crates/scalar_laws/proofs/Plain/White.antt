@@ -1,9 +1,9 @@
 -- The blanks and breaks after a plain scalar's last word.
-use Rattle.std.proofs.Common.{◌≡◌, ℕ, suc, ◌+◌, Bool, true, false, List, [], ◌∷◌, ◌++◌, drop, slice_index, Result, Ok, refl, sym, ap, ◌∙◌, arith, subst, ◌⊎◌, inl, inr, cond}
+use Rattle.std.proofs.Common.{◌≡◌, ℕ, suc, ◌+◌, Bool, true, false, List, [], ◌∷◌, ◌++◌, drop, slice_index, Result, Ok, refl, sym, ap, ◌∙◌, arith, subst, ◌⊎◌, inr, cond}
 use Rattle.std.specs.Prelude.{◌||◌, ◌&&◌, ◌==◌, nat_lt, if◌then◌else◌}
 use Rattle.std.specs.List.{prefix_len}
 use Rattle.std.proofs.lemmas.Bool.Decides.{nat_tests}
-use Rattle.saphyr_input.specs.Classes.{is_blank, is_break, is_bom, is_z, tab, line_feed, carriage_return}
+use Rattle.saphyr_input.specs.Classes.{is_blank, is_break, tab, line_feed, carriage_return}
 use Rattle.saphyr_input.specs.Places.{is_blank_or_break}
 use Rattle.saphyr_scalar.specs.declared.scalar.position.Marker.{Marker}
 use Rattle.saphyr_scalar.specs.declared.scalar.fault.Refusal.{Refusal}
@@ -14,9 +14,7 @@ use Rattle.saphyr_scalar.proofs.Moving.{along_none, along_more}
 use Rattle.saphyr_scalar.proofs.Quoted.Inside.{break_cases}
 use Rattle.scalar_laws.specs.Spelling.Plain.{behind_blanks, past_white, reaches_tabbed, is_tabbed, stands_behind_tab}
 use Rattle.std.proofs.Math.Bool.{or-true}
-use Rattle.saphyr_input.proofs.Basics.Numbers.{none_below_zero}
 use Rattle.std.proofs.lemmas.Bool.{or_from}
-use Rattle.saphyr_input.specs.Indicators.{number_sign}
 use Rattle.saphyr_input.proofs.Basics.Lists.{run_ends}
 use Rattle.saphyr_input.proofs.Basics.Booleans.{by_test}
 use Rattle.saphyr_input.proofs.Basics.Characters.{blank_no_break}

@@ -22,7 +22,6 @@ use Rattle.saphyr_scalar.proofs.Quoted.Gaps.{at_escaped_break, at_closing, by_br
 use Rattle.saphyr_scalar.proofs.Quoted.Spellings.{escape_content}
 use Rattle.saphyr_scalar.proofs.Quoted.GapBytes.{gap_bytes, gap_front, closed_bytes, raw_bytes, escaped_bytes, escaped_break_bytes, blank_bytes, break_bytes}
 use Rattle.saphyr_input.proofs.Basics.Characters.{ink_no_space, blank_cases, blank_no_break}
-use Rattle.saphyr_scalar.proofs.Given.{text_given_at}
 use Rattle.scalar_laws.proofs.Quoted.IndentedLines.{Indented, GapFits, right_of, line_indented, behind_space, behind_tab}
 use Rattle.saphyr_scalar.proofs.Quoted.Lines.{fits_right}
 use Rattle.saphyr_scalar.proofs.Quoted.SpelledWords.{content_item}

@@ -3,7 +3,7 @@ use Rattle.std.specs.Prelude.{◌≡◌, ◌≢◌, ℕ, ◌+◌, ◌<◌, ◌�
 use Rattle.std.specs.List.{prefix_len}
 use Rattle.saphyr_input.specs.Classes.{is_blank, is_break, is_blank_or_breakz, is_flow, is_bom, is_z, tab}
 use Rattle.saphyr_input.specs.Places.{is_blank_or_break, is_document_indicator}
-use Rattle.saphyr_input.specs.Indicators.{colon, full_stop, hyphen, number_sign}
+use Rattle.saphyr_input.specs.Indicators.{colon, hyphen, number_sign}
 use Rattle.saphyr_scalar.specs.Spelling.Tag.{AreIn}
 use Rattle.saphyr_scalar.specs.declared.scalar.position.Marker.{Marker}
 use Rattle.saphyr_scalar.specs.Views.Cursor.{Cursor, along, next_line}
