@@ -136,6 +136,38 @@ registered a es fs ids id bytes before next more =
     ∙ ap (λ (xs : List (List ℕ × ℕ)). with_listed xs ids) (sym more) in
     λ i. Ok (sym next i, record { ids = names i; last = sym next i })
 
+-- where the name of an alias is none of the latest, the others are in the map
+pub settled : (a : Anchors) (name : List ℕ) (es fs : List (List ℕ × ℕ)) (ids new : Names ℕ) (last now : ℕ)
+    (found : Option ℕ)
+    → record { ids = with_listed es ids; last = last } ≡ a → new ≡ with_listed es ids → fs ≡ [] → now ≡ last
+    → found ≡ meaning name new
+    → (let r : Result (Option ℕ × Anchors) Refusal = Ok (meaning name a.ids, a) in r)
+    ≡ Ok (found, record { ids = with_listed fs new; last = now })
+settled a name es fs ids new last now found is moved none same f =
+    let names : with_listed es ids ≡ with_listed fs new =
+    sym moved ∙ ap (λ (l : List (List ℕ × ℕ)). with_listed l new) (sym none) in
+    let value : meaning name a.ids ≡ found =
+    ap (λ (x : Anchors). meaning name x.ids) (sym is) ∙ ap (λ (n : Names ℕ). meaning name n) (sym moved) ∙ sym f in
+    let whole : a ≡ record { ids = with_listed fs new; last = now } =
+    sym is ∙ (λ i. record { ids = names i; last = sym same i }) in
+    λ i. Ok (value i, whole i)
+
+-- where only the latest names are listed, and its own is none of them, the map has its meaning
+pub unlisted : (a : Anchors) (name : List ℕ) (es fs : List (List ℕ × ℕ)) (ids new : Names ℕ) (last now first : ℕ)
+    (found : Option ℕ)
+    → record { ids = with_listed es ids; last = last } ≡ a → new ≡ ids → fs ≡ es → now ≡ last → first ≡ 0
+    → meaning name (with_listed es ids) ≡ meaning name (with_listed (take first es) ids) → found ≡ meaning name new
+    → (let r : Result (Option ℕ × Anchors) Refusal = Ok (meaning name a.ids, a) in r)
+    ≡ Ok (found, record { ids = with_listed fs new; last = now })
+unlisted a name es fs ids new last now first found is kept listed same none others f =
+    let value : meaning name a.ids ≡ found =
+    ap (λ (x : Anchors). meaning name x.ids) (sym is) ∙ others
+    ∙ ap (λ (n : ℕ). meaning name (with_listed (take n es) ids)) none
+    ∙ ap (λ (n : Names ℕ). meaning name n) (sym kept) ∙ sym f in
+    let whole : a ≡ record { ids = with_listed fs new; last = now } =
+    sym is ∙ (λ i. record { ids = with_listed (sym listed i) (sym kept i); last = sym same i }) in
+    λ i. Ok (value i, whole i)
+
 -- ## Maps to texts
 
 pub texts_given : {A : Type 0} (m n : BTreeMap (String A) (String A)) (handle prefix : String A)

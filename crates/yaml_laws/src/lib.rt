@@ -25,8 +25,8 @@ use saphyr_scalar::scalar::{
     places_each_block_scalar, reads_block_texts, reads_plain_values, spells_each_anchor,
     spells_each_directive, spells_each_quoted, spells_each_tag,
 };
-use saphyr_scanner::law::takes_characters_off;
 use saphyr_scalar::values::BlockStyle;
+use saphyr_scanner::law::takes_characters_off;
 use scalar_laws::{
     passes_to_one_place, reads_breaks_alike, reads_each_anchor, reads_each_block_scalar,
     reads_each_directive, reads_each_plain_text, reads_each_quoted, reads_each_reserved_directive,
