@@ -935,7 +935,7 @@ class Count:
         wide = lines_of(Search(text, words.bare, OPEN).answers()) if is_open else strict
         others = wide if is_cut else wide - {lines}
         first.discard(lines[1:lines.index("-DOC") + 1] if "-DOC" in lines else ())
-        if own and words.against and (others or first or not is_cut and lines not in strict):
+        if own and words.against and (others or not is_cut and lines not in strict):
             return self.add(text, words)
         self.texts += 1
         self.read += not is_cut
