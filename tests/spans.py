@@ -444,14 +444,14 @@ def compiled(folder):
     made, compiler = f"{folder}/cases", shutil.which("cc") or shutil.which("clang")
     if compiler:
         faces.call([compiler, *faces.HOW, f"{ROOT}/tests/faces/cases.c", *faces.libraries(), "-o", made], ROOT)
-        return made
-    print("spans: the examples are not tested, since there is no compiler of C")
-    return None
+    return made if compiler else None
 
 
 def main(words):
     with tempfile.TemporaryDirectory() as folder:
         program = words[0] if words else compiled(folder)
+        if not program:
+            print("spans: the examples are not tested, since there is no compiler of C")
         wrong = check_page(program)
     of_cases, counts = check_cases()
     wrong += of_cases
