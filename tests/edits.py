@@ -33,7 +33,7 @@ from against_crate import ROOT, unescaped
 
 PAGE, PROGRAMS, KEPT = ROOT / "docs/TESTS.md", ROOT / "tests/edits", ROOT / "out/edits.json"
 # What the programs of tests/edits use, as in crates.txt.
-USED = "test_events yaml_tree saphyr_parser event_laws saphyr_scanner saphyr_scalar saphyr_values saphyr_input"
+USED = "test_events yaml_tree saphyr_parser event_laws saphyr_scanner saphyr_scalar saphyr_input"
 USES = {
     "input_calls": "saphyr_input",
     "parser_calls": USED,

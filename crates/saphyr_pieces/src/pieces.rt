@@ -224,7 +224,8 @@ impl PieceReader {
         ensures at { IfOk result (λ _. (later : List ℕ)
             → at (spec.pieces_of self.new) later ≡ at (spec.pieces_of self.old) (chars more.now ++ later)) }
         ensures enough { NeedsNoMore (spec.pieces_of self.old) (spec.pieces_of self.new) }
-        ensures lost { OnErr result (LosesText (spec.pieces_of self.old) (spec.pieces_of self.new)) }
+        ensures lost { OnErr result
+            (LosesText (spec.pieces_of self.old) (spec.pieces_of self.new)) }
         ensures sound { spec.IsSoundReader self.new }
     {
         if !self.wants_more() {
@@ -289,7 +290,8 @@ impl PieceReader {
         ensures at { IfOk result (λ _. (later : List ℕ)
             → at (spec.pieces_of self.new) later ≡ at (spec.pieces_of self.old) []) }
         ensures all { wants_more (spec.pieces_of self.new) ≡ false }
-        ensures lost { OnErr result (LosesText (spec.pieces_of self.old) (spec.pieces_of self.new)) }
+        ensures lost { OnErr result
+            (LosesText (spec.pieces_of self.old) (spec.pieces_of self.new)) }
         ensures sound { spec.IsSoundReader self.new }
     {
         if !self.wants_more() {

@@ -42,6 +42,7 @@ dropped_text (
     (h, b, a, ((e, m), s, o), (i, d, f, ((g, n), r, q), rest)),
   ),
   place,
+  right,
   fin,
 ) =
     let first : here.rest ≡ codes "[a]"
@@ -55,7 +56,7 @@ dropped_text (
 
 -- no block collection begins at the column of the one around it
 pub other_nesting : AreTakenFrom (codes "-\n- a") wrong.other_nesting → ⊥
-other_nesting (end, tokens, place, fin) =
+other_nesting (end, tokens, place, right, fin) =
     let starts = (tokens_stand (codes "-\n- a") wrong.other_nesting.pieces end tokens).1.1.1.0 in
     let col : 0 ≡ starts.here.mark.col = ap (λ (m : Marker). m.col) starts.is.1 in
     let right : 1 ≤ starts.here.mark.col = starts.is.4 in
@@ -70,7 +71,7 @@ abbrev ends_tag : List ℕ → Bool
 ends_tag l = is_blank_or_breakz (slice_index l 0) || (false && is_flow (slice_index l 0))
 
 pub short_tag : AreTakenFrom (codes "!a") wrong.short_tag → ⊥
-short_tag (end, tokens, place, fin) =
+short_tag (end, tokens, place, right, fin) =
     let tag = (tokens_stand (codes "!a") wrong.short_tag.pieces end tokens).1.0 in
     let index : tag.behind.mark.index ≡ 1 = sym (ap (λ (m : Marker). m.index) tag.is.6.end) in
     let rest = at_index (codes "!a") tag.behind 1 tag.left index in
@@ -84,7 +85,7 @@ other_anchor t = let beside : false ≡ true = t.2.1.1.0 in cc
 -- ## Spans
 
 pub other_start : AreTakenFrom (codes "[]") wrong.other_start → ⊥
-other_start (end, (here, behind, apart, (x, y, is), (h, b, a, (c, start, o), rest)), place, fin) =
+other_start (end, (here, behind, apart, (x, y, is), (h, b, a, (c, start, o), rest)), place, right, fin) =
     let first = refusal_stays _ _ _ _ 91 (codes "]") apart refl refl refl (λ v. omega arith) in
     let second = refusal_stays _ _ _ _ 91 (codes "]") a (ap (λ v. v.rest) is ∙ first.1) refl refl (λ v. omega arith) in
     let same : marker_at 1 1 1 ≡ marker_at 0 1 0 = start ∙ second.0 ∙ ap (λ v. v.mark) is ∙ first.0 in
