@@ -110,7 +110,7 @@ def copied(folder):
     lines = (ROOT / "crates.txt").read_text(encoding="utf-8")
     for name, used in USES.items():
         (tree / "crates" / name / "src").mkdir(parents=True)
-        shutil.copy(PROGRAMS / f"{name}.rt", tree / "crates" / name / "src/main.rt")
+        shutil.copy(PROGRAMS / f"{name}.rt.in", tree / "crates" / name / "src/main.rt")
         lines += f"{name}: {used}\n"
     (tree / "crates.txt").write_text(lines, encoding="utf-8")
     shutil.copy(ROOT / "HANDLES", tree)
@@ -139,7 +139,7 @@ def answers(tree, program, questions):
 
 def right_answers(questions):
     """What the unchanged tree answers, as kept from an earlier run or from a new one."""
-    paths = [*ROOT.glob("crates/*/src/**/*.rt"), *PROGRAMS.glob("*.rt"), ROOT / "crates.txt"]
+    paths = [*ROOT.glob("crates/*/src/**/*.rt"), *PROGRAMS.glob("*.rt.in"), ROOT / "crates.txt"]
     sums = hashlib.sha256(b"".join(it.read_bytes() for it in sorted(paths))).hexdigest()
     kept = json.loads(KEPT.read_text()) if KEPT.is_file() else {}
     known = kept.get("answers", {}) if kept.get("tree") == sums else {}

@@ -92,6 +92,7 @@ less_behind es e a b split same =
 -- after an event less is left
 pub hands_less : (a b c : EventCursor) (e : Happening × Span) → Splits → HasHandedOut a b → Advances e b c
     → count (to_come c) < count (to_come a)
+unfolding hands_more
 hands_less a b c e splits h next =
     let more = hands_more a b c e h next in
     let split = splits more.handed a c more.over in less_behind h.handed e (to_come a) (to_come c) split.0 split.1
