@@ -237,7 +237,8 @@ int32_t saphyr_next(saphyr_parser *parser, saphyr_event *event);
 /*
  * Shows what saphyr_next hands out next, without handing it out. Until it is handed out, the same is shown again.
  *
- * Returns what saphyr_next returns.
+ * Returns what saphyr_next returns. If that is SAPHYR_REFUSED, of a whole text, and there is no memory for a copy of
+ * the refusal, saphyr_next then returns SAPHYR_NO_MEMORY.
  */
 int32_t saphyr_peek(saphyr_parser *parser, saphyr_event *event);
 
