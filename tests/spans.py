@@ -25,14 +25,15 @@ from against_crate import DATA, ROOT, cases
 PAGE = ROOT / "docs/SPANS.md"
 BLANK, BREAK, MARK = " \t", "\r\n", "\ufeff"
 EVENT = re.compile(r"([+=-][A-Z]{3})( ---)?( &\d+)?( <.*?>)?(?: ([:'\"|>])(.*)| \*\d+)?", re.S)
+EXAMPLE = re.compile(r"`([^`]*)`: (`\d+\.\.\d+`)")
 ESCAPED, NAMED = re.compile(r"\\(.)"), {"n": "\n", "r": "\r", "t": "\t", "b": "\b", "\\": "\\"}
 NOTHING = "nothing, at the next token"
-COMMA = "what the comma or the bracket after it covers, with blanks and a comment"
+COMMA = "the comma or the bracket after it, and its tail"
 
 # The rows of the page: the first column, or that of the row above where it is empty, and the second.
 ROWS = {
     "stream start": ("`StreamStart`", "nothing, at the start of the text"),
-    "stream end": ("`StreamEnd`", "nothing, at the end of the text, at the start of a new line"),
+    "stream end": ("`StreamEnd`", "nothing, at the start of a line after the text"),
     "explicit": ("`DocumentStart(true)`", "the `---`"),
     "implicit": ("`DocumentStart(false)`", "what the document's first token covers"),
     "before a block": ("`DocumentStart(false)`", "nothing, if a block collection comes first"),
@@ -41,10 +42,10 @@ ROWS = {
     "end": ("`DocumentEnd`", "otherwise nothing, at the end of the text"),
     "alias": ("`Alias`", "the `*` and the name"),
     "plain": ("`Scalar`, plain", "its first character to its last"),
-    "quoted": ("`Scalar`, quoted", "both quotes, and blanks and a comment after them on the line"),
+    "quoted": ("`Scalar`, quoted", "both quotes and their tail"),
     "lines": (
         "`Scalar`, literal or folded",
-        "from its first content to the first line that does not belong to it, after the spaces of that line",
+        "its first content to the next other line, after the spaces of that line",
     ),
     "empty lines": ("`Scalar`, literal or folded", "including the empty lines after it"),
     "no lines": ("`Scalar`, literal or folded", "without content: nothing, after the spaces of the line after it"),
@@ -54,15 +55,15 @@ ROWS = {
     ),
     "with properties": ("a scalar with properties", "the first property to the end of the scalar"),
     "properties": ("a scalar of properties alone", "the first to the last"),
-    "[": ("`SequenceStart`, `[`", "the bracket, and blanks and a comment after it on the line"),
+    "[": ("`SequenceStart`, `[`", "the bracket and its tail"),
     "{": ("`MappingStart`, `{`", "the same"),
     "]": ("`SequenceEnd`, `]`", "the same"),
     "}": ("`MappingEnd`, `}`", "the same"),
-    ",}": ("`MappingEnd`, `}`", "if a comma is before the `}`: the comma with what follows it on its line"),
+    ",}": ("`MappingEnd`, `}`", "after a comma: that comma and its tail"),
     "sequence": ("`SequenceStart`, block", "nothing, at the first `-`"),
     "at its key": (
         "`SequenceStart`, block",
-        "if the first `-` is at its key's column: nothing, after it and the blanks and the comment on its line",
+        "if that is at its key's column: nothing, after it and its tail",
     ),
     "mapping": ("`MappingStart`, block", "nothing, at the first key or its first property"),
     "collection": ("a collection with properties", "the first property to the end of what its start covers"),
@@ -78,7 +79,7 @@ ROWS = {
         "`MappingEnd` of such a pair",
         "with a `?`: nothing, where the value's first token ends, or the token in its place",
     ),
-    "entry": ("an entry after `-`", "nothing, after the dash and the blanks and the comment on its line"),
+    "entry": ("an entry after `-`", "nothing, after the dash and its tail"),
     "value": ("a value after `:`", "nothing, at the colon"),
     "? pair value": ("a value after `:`", f"in a pair in `[]` with a `?`: {COMMA}"),
     "no value": ("a value without `:`, in block", NOTHING),
@@ -97,7 +98,7 @@ class Event:
         words, _, span = line[2:].rpartition(" @ ")
         found = EVENT.fullmatch(words)
         self.kind, self.explicit, *properties, self.style, value = found.groups()
-        self.value = value and ESCAPED.sub(lambda it: NAMED[it[1]], value)
+        self.value = value and unescaped(value)
         self.properties = sum(map(bool, properties))
         self.start, self.end = (tuple(map(int, place.split(","))) for place in span.split(" "))
         self.span = self.start[0], self.end[0]
@@ -377,15 +378,14 @@ def page_rows():
     first = words = ""
     for line in PAGE.read_text(encoding="utf-8").split("\n"):
         cells = [cell.strip() for cell in re.split(r"(?<!\\)\|", line)]
-        if len(cells) == 6 and cells[3] != "text" and not cells[3].startswith("---"):
+        if len(cells) == 5:
             first, words = cells[1] or first, cells[2] or words
-            yield first, words, text_of(cells[3]), cells[4]
+            for text, span in EXAMPLE.findall(cells[3]):
+                yield first, words, unescaped(text.replace("\\|", "|")), span
 
 
-def text_of(cell):
-    named = {"LF": "\n", "TAB": "\t", "BOM": MARK}
-    found = re.finditer(r"`([^`]*)`|LF|TAB|BOM", cell.replace("\\|", "|"))
-    return "".join(named.get(it[0], it[1]) for it in found)
+def unescaped(text):
+    return ESCAPED.sub(lambda it: NAMED[it[1]], text)
 
 
 def given(program, texts):
@@ -405,7 +405,7 @@ def check_page(program):
     for (first, words, text, span), lines in zip(rows, answers):
         spans = {f"`{event.span[0]}..{event.span[1]}`" for event, row, _ in read(text, lines)
                  if ROWS[row] == (first, words)}
-        if span.split(",")[0] not in spans:
+        if span not in spans:
             wrong.append(f"{text!r}: {first}, {words}: {span} isn't in {sorted(spans)}")
     return wrong
 
