@@ -3,17 +3,18 @@
 
     tests/edits.py [--jobs N] [--rows] [CRATE | EDIT]..
 
-A row of the table of docs/TESTS.md has an edit of crates/*/must-fail, the program and the call that show it, a text,
-and the wrong answer. The script makes a copy of the tree for each of N jobs (2), puts the edit in, and runs the program
-on the text by `rt try`. The unchanged tree answers the same texts; its answers are kept in out/edits.json. With --rows
-nothing is run: each edit has a row, each row an edit, and each old text is in its file once.
+A row of tests/edits.txt has an edit of crates/*/must-fail, the program and the call that show it, a text, and the wrong
+answer. The script makes a copy of the tree for each of N jobs (2), puts the edit in, and runs the program on the text
+by `rt try`. The unchanged tree answers the same texts; its answers are kept in out/edits.json. With --rows nothing is
+run: each edit has a row, each row an edit and an answer, and each old text is in its file once.
 
-- The program is `dump_events` or `check_yaml`, with its arguments, or one of tests/edits, with its calls. In place of
-  it a row may say in words what shows the edit. Such rows are counted, and not run.
+- The program of `run` is `dump_events` or `check_yaml`, with its arguments, or one of tests/edits, which makes the
+  calls that follow, prints what each answers, and then the events that are left. A row with `seen` in place of it is
+  counted, and not run.
 - In the text `\\n`, `\\r`, `\\t`, `\\\\` and `\\u{HEX}` stand for characters. `1,010 times` before a part repeats it.
   Parts follow each other; `piece_calls` gets each as a piece.
-- The wrong answer is a line that comes more often than it should, `no` and a line that comes less often, or
-  `nothing`. A line is told whole, or an event without its places. `status=0` is the line of the exit status.
+- A line of `more` comes more often than it should, and one of `fewer` less often. A line is told whole, or an event
+  without its places. `status=0` is the line of the exit status.
 """
 
 import argparse
@@ -31,7 +32,7 @@ import tempfile
 
 from against_crate import ROOT, unescaped
 
-PAGE, PROGRAMS, KEPT = ROOT / "docs/TESTS.md", ROOT / "tests/edits", ROOT / "out/edits.json"
+ROWS, PROGRAMS, KEPT = ROOT / "tests/edits.txt", ROOT / "tests/edits", ROOT / "out/edits.json"
 # What the programs of tests/edits use, as in crates.txt.
 USED = "test_events yaml_tree saphyr_parser event_laws saphyr_scanner saphyr_scalar saphyr_input"
 USES = {
@@ -43,20 +44,22 @@ USES = {
 PROVED_PROGRAMS = ("dump_events", "check_yaml")
 CODE = re.compile(r"(?:([\d,]+) times )?`([^`]*)`")
 
-Row = collections.namedtuple("Row", "crate edit shown text wrong")
+KEYS = ("run", "seen", "text", "more", "fewer", "gives")
+
+Row = collections.namedtuple("Row", ("crate", "edit", *KEYS))
 
 
 def rows():
-    """The rows of the table, in its order."""
+    """The rows, in their order. In each the lines of a key are one text."""
     crate = None
-    for line in PAGE.read_text(encoding="utf-8").split("\n"):
-        cells = [it.strip().replace("\\|", "|") for it in re.split(r"(?<!\\)\|", line)[1:-1]]
-        if len(cells) != 4 or cells[0].startswith(("edit", "---")):
-            continue
-        if cells[0].startswith("**"):
-            crate = cells[0].strip("*")
-        elif crate and cells[0].startswith("`"):
-            yield Row(crate, cells[0].strip("`"), *cells[1:])
+    for block in ROWS.read_text(encoding="utf-8").split("\n\n"):
+        lines = [it.partition(": ") for it in block.strip("\n").split("\n") if not it.startswith("#")]
+        told = {key: "\n".join(value for it, _, value in lines if it == key) for key, _, _ in lines}
+        crate = told.pop("crate", crate)
+        if told:
+            yield Row(crate, told.pop("edit"), *(told.pop(key, "") for key in KEYS))
+        if told:
+            raise ValueError(f"{ROWS} has another key: {', '.join(told)}")
 
 
 def edits():
@@ -92,10 +95,9 @@ def changed(tree, crate, edit):
 
 def asked(row):
     """The program of a row, its arguments and its input, or None if words say what shows the edit."""
-    shown = CODE.match(row.shown)
-    words = shown[2].split(" ") if shown else [""]
-    if words[0] not in (*PROVED_PROGRAMS, *USES):
+    if row.seen:
         return None
+    words = row.run.split(" ")
     parts = [unescaped(it[2]) * int((it[1] or "1").replace(",", "")) for it in CODE.finditer(row.text)]
     if words[0] in PROVED_PROGRAMS:
         return words[0], tuple(words[1:]), "".join(parts)
@@ -166,11 +168,9 @@ def judged(row, right, wrong):
     """What is wrong with the answer of a wrong body, or None: it has to be wrong, and as told."""
     if wrong == right:
         return "gives the right answer"
-    if row.wrong == "nothing":
+    if row.fewer == "every line":
         return None if not wrong[:-1] and right[:-1] else "prints something"
-    told = [(it.start() and row.wrong[: it.start()].endswith("no "), it[2]) for it in CODE.finditer(row.wrong)]
-    if not told:
-        return "has no wrong answer in its row"
+    told = [(False, it[2]) for it in CODE.finditer(row.more)] + [(True, it[2]) for it in CODE.finditer(row.fewer)]
     for is_less, line in told:
         here, there = often(wrong, line), often(right, line)
         if not (here < there if is_less else here > there):
@@ -196,10 +196,14 @@ def tried(trees, row, edit, right):
 
 
 def check_rows(table, known):
-    """What is wrong with the table and the files of the edits."""
+    """What is wrong with the rows and the files of the edits."""
     names = [(it.crate, it.edit) for it in table]
     yield from (f"{crate}, {edit}: no row" for crate, edit in known if (crate, edit) not in names)
     yield from (f"{crate}, {edit}: no such edit" for crate, edit in names if (crate, edit) not in known)
+    for row in table:
+        program = row.run.split(" ")[0]
+        if not (row.seen and row.gives or program in (*PROVED_PROGRAMS, *USES) and row.more + row.fewer):
+            yield f"{row.crate}, {row.edit}: its row has no program of the script, or no wrong answer"
     counts = collections.Counter(names)
     yield from (f"{crate}, {edit}: {count} rows" for (crate, edit), count in counts.items() if count > 1)
     for (crate, edit), path in known.items():
@@ -241,7 +245,7 @@ def main():
     shown = [it for it in chosen if asked(it)]
     for row in chosen:
         if not asked(row):
-            print(f"{row.crate}, {row.edit}: not run, but seen by {row.shown}")
+            print(f"{row.crate}, {row.edit}: not run, but seen by {row.seen}")
     failed = len(faults) + (0 if given.rows else run(shown, known, given.jobs))
     print(f"edits: {len(chosen)} rows, {len(chosen) - len(shown)} of them told in words; {failed} failed")
     return 1 if failed or not chosen else 0
