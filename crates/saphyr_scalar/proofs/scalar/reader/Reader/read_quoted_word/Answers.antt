@@ -3,7 +3,7 @@ use Rattle.saphyr_scalar.specs.Views.Cursor.{Cursor}
 use Rattle.saphyr_scalar.specs.Steps.Quoted as spec
 use Rattle.saphyr_scalar.specs.Views.Reader.{cursor_of}
 use Rattle.saphyr_scalar.proofs.Quoted.Inside.{reads_refused}
-use Rattle.saphyr_scalar.proofs.Quoted.Parts.{gives, special_moved, special_none, special_refused, special_shorter, word_ends}
+use Rattle.saphyr_scalar.proofs.Quoted.Parts.{special_moved, special_shorter, special_refused, special_ends}
 use Rattle.saphyr_scalar.proofs.scalar.reader.Reader.read_quoted_word.Goals as goal
 
 pub returns-in_err-c-clause-same : goal.returns-in_err-c-clause-same
@@ -17,70 +17,56 @@ returns-in_err-c-clause-same g c = λ indent.
 
 pub returns-in_default-clause-same : goal.returns-in_default-clause-same
 returns-in_default-clause-same g c = λ indent.
-    let here = cursor_of c.read_literal_words.new.self in
-    let there = cursor_of c.read_special.new.self in
-    let none = gives _ c.in_ok-c.field-0 _ there c.in_ok-c.ensures.special c.in_default.is in
+    let ends = special_ends c.args.quote c.args.start _ _ _ c.in_ok-c.ensures.special c.in_default.is
+    c.in_ok-next.ensures.moved.stops in
     ap (λ (x : Cursor). spec.with_front (string_bytes c.read_literal_words.new.text)
-    (spec.inner_text_at c.args.quote indent c.args.start spec.no_gap x))
-    (special_none c.args.quote c.args.start here there none)
+    (spec.inner_text_at c.args.quote indent c.args.start spec.no_gap x)) ends.0
     ∙ c.in_ok-next.ensures.moved.same indent c.args.start ∙ c.loop-next.invariant.same indent
 
 pub returns-in_default-clause-ended : goal.returns-in_default-clause-ended
 returns-in_default-clause-ended g c =
-    let q = c.args.quote in
-    let here = cursor_of c.read_literal_words.new.self in
-    let there = cursor_of c.read_special.new.self in
-    let none = gives _ c.in_ok-c.field-0 _ there c.in_ok-c.ensures.special c.in_default.is in
-    rw (ap (λ (x : Cursor). x.rest) (special_none q c.args.start here there none))
-    (word_ends q c.args.start here there none c.in_ok-next.ensures.moved.stops)
+    let ends = special_ends c.args.quote c.args.start _ _ _ c.in_ok-c.ensures.special c.in_default.is
+    c.in_ok-next.ensures.moved.stops in
+    rw (ap (λ (x : Cursor). x.rest) ends.0) ends.1
 
 pub returns-in_default-clause-shorter : goal.returns-in_default-clause-shorter
 returns-in_default-clause-shorter g c =
-    let here = cursor_of c.read_literal_words.new.self in
-    let there = cursor_of c.read_special.new.self in
-    let none = gives _ c.in_ok-c.field-0 _ there c.in_ok-c.ensures.special c.in_default.is in
+    let ends = special_ends c.args.quote c.args.start _ _ _ c.in_ok-c.ensures.special c.in_default.is
+    c.in_ok-next.ensures.moved.stops in
     omega (
       arith,
-      ap (λ (x : Cursor). length x.rest) (special_none c.args.quote c.args.start here there none),
+      ap (λ (x : Cursor). length x.rest) ends.0,
       c.in_ok-next.ensures.moved.shorter,
       c.loop-next.invariant.shorter,
     )
 
 pub returns-in_default-clause-next : goal.returns-in_default-clause-next
 returns-in_default-clause-next g c =
-    let here = cursor_of c.read_literal_words.new.self in
-    let there = cursor_of c.read_special.new.self in
-    let none = gives _ c.in_ok-c.field-0 _ there c.in_ok-c.ensures.special c.in_default.is in
-    c.in_ok-next.ensures.next
-    ∙ ap (λ (x : Cursor). slice_index x.rest 0) (sym (special_none c.args.quote c.args.start here there none))
+    let ends = special_ends c.args.quote c.args.start _ _ _ c.in_ok-c.ensures.special c.in_default.is
+    c.in_ok-next.ensures.moved.stops in
+    c.in_ok-next.ensures.next ∙ ap (λ (x : Cursor). slice_index x.rest 0) (sym ends.0)
 
 pub loop-next-smaller : goal.loop-next-smaller
 loop-next-smaller g c =
-    let here = cursor_of c.read_literal_words.new.self in
-    let there = cursor_of c.read_special.new.self in
-    let some = gives _ c.in_ok-c.field-0 _ there c.in_ok-c.ensures.special c.in-Some.is in
     omega (
       arith,
-      special_shorter c.args.quote c.args.start here there c.in-Some.c some,
+      special_shorter c.args.quote c.args.start _ _ _ c.in-Some.c c.in_ok-c.ensures.special c.in-Some.is,
       c.in_ok-next.ensures.moved.shorter,
       ap (λ (x : Cursor). length x.rest) c.look-first.ensures.same,
     )
 
 pub loop-next-preserved : goal.loop-next-preserved
 loop-next-preserved g c =
-    let here = cursor_of c.read_literal_words.new.self in
-    let there = cursor_of c.read_special.new.self in
     let text = string_bytes c.read_literal_words.new.text in
-    let some = gives _ c.in_ok-c.field-0 _ there c.in_ok-c.ensures.special c.in-Some.is in
     record {
       same = λ indent. ap (λ (x : Cursor). spec.with_front (string_bytes c.push.new.self)
           (spec.inner_text_at c.args.quote indent c.args.start spec.no_gap x)) c.look-first.ensures.same
           ∙ rw c.in_ok-push.ensures.bytes
-          (special_moved c.args.quote indent c.args.start text here there c.in-Some.c some)
+          (special_moved c.args.quote indent c.args.start text _ _ _ c.in-Some.c c.in_ok-c.ensures.special c.in-Some.is)
           ∙ c.in_ok-next.ensures.moved.same indent c.args.start ∙ c.loop-next.invariant.same indent;
       shorter = omega (
         arith,
-        special_shorter c.args.quote c.args.start here there c.in-Some.c some,
+        special_shorter c.args.quote c.args.start _ _ _ c.in-Some.c c.in_ok-c.ensures.special c.in-Some.is,
         c.in_ok-next.ensures.moved.shorter,
         c.loop-next.invariant.shorter,
         ap (λ (x : Cursor). length x.rest) c.look-first.ensures.same,
