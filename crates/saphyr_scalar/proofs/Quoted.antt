@@ -15,5 +15,4 @@ pub mod SpelledWords
 pub mod Spellings
 pub mod Clean
 pub mod Words
-pub mod PairRuns
 pub mod BlankWords

@@ -1,7 +1,7 @@
 //! The styles and the parts of scalars by which their values are told (YAML 1.2.2, chapters 5 to 8), and the table of
 //! escapes. What each spelling reads as stands in the definitions of `specs/Values`.
 
-ghost use Rattle.std.specs.Prelude.{◌≡◌, ◌≤◌, IfSome};
+ghost use Rattle.std.specs.Prelude.{◌≡◌, ◌<◌, ◌≤◌, IfSome};
 ghost use Rattle.saphyr_scalar.specs.Values.Escapes as escapes;
 ghost use Rattle.saphyr_scalar.specs.Values.Flow as flow;
 
@@ -69,7 +69,8 @@ pub enum Ending {
 #[inline(always)]
 #[tactic(auto, unfolding(crate::specs::Values::Escapes::short_escape))]
 pub fn short_escape(name: char) -> Option<char>
-    ensures { result ≡ escapes.short_escape name }
+    ensures value { result ≡ escapes.short_escape name }
+    ensures ascii { IfSome result (λ _. (0 < name) × (name < 128)) }
 {
     match name {
         '0' => Some('\0'),

@@ -1,5 +1,5 @@
 -- Escapes of double quoted scalars, a step at a time.
-use Rattle.std.proofs.Common.{◌≡◌, ℕ, zero, suc, ◌+◌, ◌-◌, ◌*◌, ◌^◌, ◌<◌, ◌≤◌, Bool, true, false, List, [], ◌∷◌, length, length-drop, drop, slice_index, Ok, refl, sym, ap, ◌∙◌, arith, subst, nat_eq, ◌==◌, lit<}
+use Rattle.std.proofs.Common.{◌≡◌, ℕ, zero, suc, ◌+◌, ◌-◌, ◌*◌, ◌^◌, ◌<◌, ◌≤◌, Bool, true, false, List, [], ◌∷◌, length, length-drop, drop, slice_index, Ok, refl, sym, ap, ◌∙◌, arith, subst, nat_eq}
 use Rattle.std.proofs.lemmas.Option.{none-some}
 use Rattle.std.proofs.lemmas.Bool.{false≢true}
 use Rattle.std.proofs.lemmas.Bool.Decides.{nat_tests}
@@ -7,8 +7,7 @@ use Rattle.std.specs.Prelude.{Option, Some, None, unwrap_or}
 use Rattle.std.proofs.Math.Nat.{pow-le-pow_right}
 use Rattle.std.proofs.lemmas.Grind.{pow_more}
 use Rattle.saphyr_input.specs.Indicators.{backslash}
-use Rattle.saphyr_input.specs.Classes.{is_break, is_hex, hex_value}
-use Rattle.saphyr_input.specs.Places.{is_ascii_but_nul}
+use Rattle.saphyr_input.specs.Classes.{is_hex, hex_value}
 use Rattle.saphyr_scalar.specs.Values.Escapes.{digit_count, is_scalar_value, short_escape}
 use Rattle.saphyr_scalar.specs.declared.scalar.position.Marker.{Marker}
 use Rattle.saphyr_scalar.specs.declared.scalar.fault.FaultText.TheVariants as fault
@@ -163,48 +162,3 @@ pub escape_place : (start m : Marker) (xs : List ℕ)
     → EscapeEnds m xs (2 + hex_digit_count (slice_index xs 1)) (escaped_character start (mid_line m xs))
 unfolding escaped_character
 escape_place start m xs = of_place start m xs (slice_index xs 1) (short_escape (slice_index xs 1)) refl
-
--- a character that is no ASCII, or NUL, is no letter of an escape
-
--- the characters from which no escape's letter is
-pub record IsNoLetter (c : ℕ) : Type 0 where
-  pub short : short_escape c ≡ None
-  pub long : digit_count c ≡ None
-  pub break : is_break c ≡ false
-
-no_letter_wide : (c : ℕ) → 128 ≤ c → IsNoLetter c
-unfolding short_escape
-no_letter_wide c h =
-    let other : (k : ℕ) → k < 128 → (c == k) ≡ false = λ k l. grind (arith, nat_tests) in
-    record {
-      short = rw (
-        other 48 (lit< tt),
-        other 97 (lit< tt),
-        other 98 (lit< tt),
-        other 116 (lit< tt),
-        other 9 (lit< tt),
-        other 110 (lit< tt),
-        other 118 (lit< tt),
-        other 102 (lit< tt),
-        other 114 (lit< tt),
-        other 101 (lit< tt),
-        other 32 (lit< tt),
-        other 34 (lit< tt),
-        other 47 (lit< tt),
-        other 92 (lit< tt),
-        other 78 (lit< tt),
-        other 95 (lit< tt),
-        other 76 (lit< tt),
-        other 80 (lit< tt),
-      ) refl;
-      long = rw (other 120 (lit< tt), other 117 (lit< tt), other 85 (lit< tt)) refl;
-      break = rw (other 10 (lit< tt), other 13 (lit< tt)) refl;
-    }
-
-no_letter_nul : IsNoLetter 0
-unfolding short_escape
-no_letter_nul = record { short = refl; long = refl; break = refl }
-
-pub no_letter : (c : ℕ) → is_ascii_but_nul c ≡ false → IsNoLetter c
-no_letter zero h = no_letter_nul
-no_letter (suc c) h = no_letter_wide (suc c) (grind (arith, nat_tests))

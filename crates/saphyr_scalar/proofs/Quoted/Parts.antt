@@ -162,25 +162,27 @@ special_reads Double indent start s =
     (ReadsSpecial Double indent start s)
     (λ h. escape_reads indent start s (escaped_character start s) (escape_of_test s.rest h) refl) (λ h. refl)
 
-pub special_moved : (q : Quote) (indent : ℕ) (start : Marker) (text : List ℕ) (s t : Cursor) (d : ℕ)
-    → special q start s ≡ Ok (Some d, t)
+-- a result whose character is told again
+gives : (r : Result (Option ℕ × Cursor) Refusal) (a b : Option ℕ) (t : Cursor) → r ≡ Ok (a, t) → a ≡ b → r ≡ Ok (b, t)
+gives r a b t e is = subst (λ (x : Option ℕ). r ≡ Ok (x, t)) is e
+
+pub special_moved : (q : Quote) (indent : ℕ) (start : Marker) (text : List ℕ) (s t : Cursor) (o : Option ℕ) (d : ℕ)
+    → special q start s ≡ Ok (o, t) → o ≡ Some d
     → with_front (text ++ encode_utf8 d) (inner_text_at q indent start no_gap t)
     ≡ with_front text (inner_text_at q indent start no_gap s)
-special_moved q indent start text s t d e =
-    let r = subst (ReadsSpecial q indent start s) e (special_reads q indent start s) in
+special_moved q indent start text s t o d e is =
+    let r = subst (ReadsSpecial q indent start s) (gives _ o (Some d) t e is) (special_reads q indent start s) in
     sym (ap (with_front text) r.0 ∙ front_twice text (encode_utf8 d) _)
 
-pub special_shorter : (q : Quote) (start : Marker) (s t : Cursor) (d : ℕ) → special q start s ≡ Ok (Some d, t)
-    → length t.rest < length s.rest
-special_shorter q start s t d e = let r = subst (ReadsSpecial q 0 start s) e (special_reads q 0 start s) in r.1
+pub special_shorter : (q : Quote) (start : Marker) (s t : Cursor) (o : Option ℕ) (d : ℕ) → special q start s ≡ Ok (o, t)
+    → o ≡ Some d → length t.rest < length s.rest
+special_shorter q start s t o d e is =
+    let r = subst (ReadsSpecial q 0 start s) (gives _ o (Some d) t e is) (special_reads q 0 start s) in r.1
 
 pub special_refused : (q : Quote) (indent : ℕ) (start : Marker) (text : List ℕ) (s : Cursor) (refusal : Refusal)
     → special q start s ≡ Err refusal → with_front text (inner_text_at q indent start no_gap s) ≡ Err refusal
 special_refused q indent start text s refusal e =
     ap (with_front text) (subst (ReadsSpecial q indent start s) e (special_reads q indent start s))
-
-pub special_none : (q : Quote) (start : Marker) (s t : Cursor) → special q start s ≡ Ok (None, t) → t ≡ s
-special_none q start s t e = subst (ReadsSpecial q 0 start s) e (special_reads q 0 start s)
 
 -- what is neither a literal nor begins such a spelling ends a word
 word_ends_single : (a b d : Bool) → (not a && not b) ≡ false → (b && d) ≡ false → IsTrue (a || (b && not d) || false)
@@ -202,7 +204,7 @@ some_none d s t e =
     let pair : ◌≡◌ {A = Option ℕ × Cursor} (Some d, s) (None, t) = cc in
     let first : Some d ≡ None = ap (λ (x : Option ℕ × Cursor). x.0) pair in absurd (cc)
 
-pub word_ends : (q : Quote) (start : Marker) (s t : Cursor) → special q start s ≡ Ok (None, t)
+word_ends : (q : Quote) (start : Marker) (s t : Cursor) → special q start s ≡ Ok (None, t)
     → is_literal q (slice_index s.rest 0) ≡ false → IsTrue (ends_word q s.rest)
 unfolding special is_literal
 word_ends Single start s t = by_test (next_2_are s.rest 39 39) _ _
@@ -224,10 +226,12 @@ word_ends Double start s t = by_test ((slice_index s.rest 0 == 92) && not (is_br
     never (Ok x) e = some_none x.0 x.1 t e
     never (Err r) e = absurd (cc)
 
--- the same, where the character is told again
-pub gives : (r : Result (Option ℕ × Cursor) Refusal) (a b : Option ℕ) (t : Cursor) → r ≡ Ok (a, t) → a ≡ b
-    → r ≡ Ok (b, t)
-gives r a b t e is = subst (λ (x : Option ℕ). r ≡ Ok (x, t)) is e
+-- where no such spelling is, nothing is taken off
+pub special_ends : (q : Quote) (start : Marker) (s t : Cursor) (o : Option ℕ) → special q start s ≡ Ok (o, t) → o ≡ None
+    → is_literal q (slice_index s.rest 0) ≡ false → (t ≡ s) × IsTrue (ends_word q s.rest)
+special_ends q start s t o e is l =
+    let none = gives _ o None t e is in
+    (subst (ReadsSpecial q 0 start s) none (special_reads q 0 start s), word_ends q start s t none l)
 
 -- what begins with another character is no such spelling
 

@@ -1,20 +1,18 @@
 -- Words between quotes, and single spaces between them, taken off in one piece.
-use Rattle.std.proofs.Common.{◌≡◌, ℕ, zero, suc, ◌+◌, ◌≤◌, Bool, true, List, [], ◌∷◌, length-drop, take, slice_index, refl, sym, ap, ◌∙◌, arith, encode_utf8_all, false, drop, ◌++◌}
+use Rattle.std.proofs.Common.{◌≡◌, ℕ, zero, suc, ◌+◌, ◌≤◌, Bool, true, List, [], ◌∷◌, length-drop, take, slice_index, refl, sym, ap, ◌∙◌, arith, encode_utf8_all}
 use Rattle.std.specs.Prelude.{◌||◌, ◌&&◌, ◌==◌, encode_utf8}
 use Rattle.std.proofs.lemmas.Bool.Decides.{nat_tests}
 use Rattle.std.proofs.lemmas.Bool.{not-true}
-use Rattle.std.proofs.lemmas.List.{append-nil}
 use Rattle.saphyr_input.specs.Classes.{is_blank_or_breakz}
 use Rattle.saphyr_input.specs.Places.{words_len, TransfersWords}
 use Rattle.saphyr_scalar.specs.declared.scalar.position.Marker.{Marker}
 use Rattle.saphyr_scalar.specs.declared.values.Quote.{Quote}
-use Rattle.saphyr_scalar.specs.declared.values.Quote.TheVariants.{Single, Double}
 use Rattle.saphyr_scalar.specs.Views.Cursor.{Cursor, along}
 use Rattle.saphyr_scalar.specs.Steps.Quoted.{is_literal, with_front, mid_line, no_gap, inner_text, QuotedWordsMoved}
 use Rattle.saphyr_scalar.specs.Steps.Sets.{is_content}
 use Rattle.saphyr_scalar.proofs.Moving.{along_more}
 use Rattle.saphyr_scalar.proofs.Quoted.Inside.{front_twice, content_of, stands, WordPiece, no_piece, one_blank, flushed}
-use Rattle.saphyr_input.proofs.Basics.Booleans.{by_test, clash, either}
+use Rattle.saphyr_input.proofs.Basics.Booleans.{by_test, either}
 
 pub both_true : (a b : Bool) → (a && b) ≡ true → (a ≡ true) × (b ≡ true)
 both_true a b h = grind arith
@@ -67,35 +65,3 @@ words_moved q text grown n s left m t place =
       stops = t.stops;
       shorter = rw (t.transfers.taken, length-drop) (omega arith);
     }
-
--- a single character, before one that does not stand for itself
-
-no_literal : (q : Quote) → is_literal q 0 ≡ false
-unfolding is_literal
-no_literal Single = refl
-no_literal Double = refl
-
-first_word : (q : Quote) (xs left text grown : List ℕ) (c : ℕ) → c ≡ slice_index xs 0 → is_literal q c ≡ true
-    → is_literal q (slice_index xs 1) ≡ false → left ≡ drop 1 xs → grown ≡ text ++ encode_utf8 c
-    → TransfersWords (is_literal q) is_content 1 xs left text grown
-unfolding words_len
-first_word q [] left text grown c read is ends taken more =
-    clash (is_literal q c) is (ap (is_literal q) read ∙ no_literal q)
-first_word q (d ∷ ds) left text grown c read is ends taken more =
-    let first : is_literal q d ≡ true = ap (is_literal q) (sym read) ∙ is in
-    record {
-      within = rw first (omega arith);
-      stops = rw taken ends;
-      transfers = record {
-        taken = taken;
-        appended =
-            more ∙ ap (λ x. text ++ encode_utf8 x) read ∙ ap (λ xs. text ++ xs) (sym (append-nil (encode_utf8 d)));
-      };
-    }
-
-pub character_moved : (q : Quote) (text grown : List ℕ) (s : Cursor) (left : List ℕ) (m : Marker) (c : ℕ)
-    → c ≡ slice_index s.rest 0 → is_literal q c ≡ true → is_literal q (slice_index s.rest 1) ≡ false
-    → left ≡ drop 1 s.rest → grown ≡ text ++ encode_utf8 c → m ≡ along s.mark 1
-    → QuotedWordsMoved q text grown s (mid_line m left)
-character_moved q text grown s left m c read is ends taken more place =
-    words_moved q text grown 1 s left m (first_word q s.rest left text grown c read is ends taken more) place

@@ -1,5 +1,5 @@
 -- Quoted scalars (YAML 1.2.2, 7.3.1 and 7.3.2), and the escapes of double quoted ones (5.7).
-use Rattle.std.specs.Prelude.{ℕ, zero, suc, pred, ◌+◌, ◌*◌, Bool, true, false, ◌||◌, ◌&&◌, ◌==◌, not, nat_lt, List, [], ◌∷◌, ◌++◌, take, drop, length, ◌<◌, ◌≤◌, slice_index, Option, Some, None, unwrap_or, Result, Ok, Err, ◌≡◌, if◌then◌else◌, encode_utf8, encode_utf8_all}
+use Rattle.std.specs.Prelude.{ℕ, zero, suc, pred, ◌+◌, ◌*◌, Bool, true, false, ◌||◌, ◌&&◌, ◌==◌, not, nat_lt, List, [], ◌∷◌, ◌++◌, take, drop, length, ◌≤◌, slice_index, Option, Some, None, unwrap_or, Result, Ok, Err, ◌≡◌, if◌then◌else◌, encode_utf8, encode_utf8_all}
 use Rattle.std.specs.List.{prefix_len}
 use Rattle.saphyr_input.specs.Classes.{is_z, is_break, is_blank, is_blank_or_breakz, is_hex, hex_value, tab}
 use Rattle.saphyr_input.specs.Places.{next_2_are, is_document_indicator}
@@ -70,12 +70,6 @@ special Double start s =
 abbrev pub special_mark : Quote → ℕ
 special_mark Single = apostrophe
 special_mark Double = backslash
-
--- The character of a spelling of just two characters, where one comes first: an escape of one letter between double
--- quotes, two single quotes between single ones.
-unfoldable pub pair : Quote → List ℕ → Option ℕ
-pair Single xs = if next_2_are xs apostrophe apostrophe then Some apostrophe else None
-pair Double xs = if slice_index xs 0 == backslash then short_escape (slice_index xs 1) else None
 
 -- how many hexadecimal digits follow the letter of an escape, 0 where none do
 abbrev pub hex_digit_count : ℕ → ℕ
@@ -193,13 +187,6 @@ ends_word quote xs = is_blank_or_breakz (slice_index xs 0) || is_closing quote x
 abbrev pub ReadsFurther : {X : Type 0} → Result X Refusal → (X → TextRead) → TextRead → Type 0
 ReadsFurther (Ok x) now before = now x ≡ before
 ReadsFurther (Err e) now before = before ≡ Err e
-
--- spellings of two characters each were taken off, and their characters were put after a text
-pub record PairsMoved (quote : Quote) (text grown : List ℕ) (s t : Cursor) : Type 0 where
-  pub same : (indent : ℕ) (start : Marker)
-      → with_front grown (inner_text_at quote indent start no_gap t)
-      ≡ with_front text (inner_text_at quote indent start no_gap s)
-  pub shorter : length t.rest < length s.rest
 
 -- Words were put after a text, up to a character that does not stand for itself.
 pub record QuotedWordsMoved (quote : Quote) (text grown : List ℕ) (s t : Cursor) : Type 0 where

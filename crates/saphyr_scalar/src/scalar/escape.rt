@@ -1,19 +1,18 @@
 //! The escapes of double quoted scalars, taken off a text (YAML 1.2.2, 5.7).
 
-ghost use Rattle.std.specs.Prelude.{◌≡◌, ◌≤◌, None, false, slice_index};
+ghost use Rattle.std.specs.Prelude.{◌≡◌, ◌≤◌, false, slice_index};
 ghost use Rattle.saphyr_input.specs.Indicators.{backslash};
 ghost use Rattle.saphyr_scalar.specs.Steps.Quoted as spec;
-ghost use Rattle.saphyr_scalar.specs.Values.Escapes.{short_escape};
 
 use crate::scalar::fault::{FaultText, Refusal};
 use crate::scalar::position::Marker;
 use crate::scalar::reader::Reader;
-use crate::values::digit_count;
+use crate::values::{digit_count, short_escape};
 use saphyr_input::char_traits::{as_hex, is_hex};
 use saphyr_input::input::Input;
 
 impl<T: Input> Reader<T> {
-    ghost use Rattle.saphyr_scalar.specs.Views.Reader.{cursor_of, GivesBy};
+    ghost use Rattle.saphyr_scalar.specs.Views.Reader.{cursor_of, loaded, GivesBy};
 
     // Takes off this many hexadecimal digits, and returns their value. The place moves once behind them.
     #[inline(always)]
@@ -38,15 +37,19 @@ impl<T: Input> Reader<T> {
         Ok(value)
     }
 
-    // Takes off an escape by number, from its backslash on, and returns its character. Its letter was looked at.
+    // Takes off an escape, from its backslash on, and returns its character. `letter` comes behind the backslash.
     #[inline(always)]
     #[tactic(auto, unfolding(crate::specs::Steps::Quoted::escaped_character, crate::specs::Steps::Quoted::escape_of, crate::specs::Steps::Quoted::escape_by_number, crate::specs::Steps::Quoted::character))]
-    pub(crate) fn read_long_escape(&mut self, letter: char, start: Marker) -> Result<char, Refusal>
+    pub(super) fn read_escape(&mut self, letter: char, start: Marker) -> Result<char, Refusal>
         requires first { slice_index (cursor_of self.old).rest 0 ≡ backslash }
         requires second { letter ≡ slice_index (cursor_of self.old).rest 1 }
-        requires long { short_escape letter ≡ None }
+        requires loaded { 2 ≤ loaded self.old }
         ensures { GivesBy (spec.escaped_character start) self.old result self.new }
     {
+        if let Some(c) = short_escape(letter) {
+            self.skip_two_ascii();
+            return Ok(c);
+        }
         let Some(count) = digit_count(letter) else {
             return Err(Refusal {
                 text: FaultText::UnknownEscape,

@@ -51,15 +51,13 @@ impl<T: Input> Reader<T> {
             (spec.inner_text_at quote indent start spec.no_gap s)) self.old result self.new }
     {
         let mut blanks = String::new(alloc);
-        let mut escaped = false;
         let mut next = self.look();
         loop {
-            let c = self.read_quoted_word(next, quote, escaped, start, &mut text)?;
+            let c = self.read_quoted_word(next, quote, start, &mut text)?;
             if c == quote.mark() {
                 break;
             }
             next = self.read_quoted_gap(c, quote, indent, start, &mut blanks, &mut text)?;
-            escaped = c == '\\';
         }
         self.skip_non_blank();
         Ok(text)
