@@ -4,7 +4,6 @@ pub mod Gaps
 pub mod Lines
 pub mod Runs
 pub mod Pieces
-pub mod Colons
 pub mod FrontWords
 pub mod SingleSpaces
 pub mod BlankRuns

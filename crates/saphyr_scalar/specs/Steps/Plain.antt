@@ -1,8 +1,8 @@
 -- Plain scalars (YAML 1.2.2, 7.3.3).
 use Rattle.std.specs.Prelude.{◌≡◌, ◌<◌, ◌≤◌, ℕ, zero, suc, pred, ◌+◌, ◌-◌, Bool, true, false, ◌||◌, ◌&&◌, ◌==◌, not, nat_lt, List, [], ◌∷◌, ◌++◌, length, slice_index, Result, Ok, Option, Some, None, if◌then◌else◌, encode_utf8, string_bytes}
 use Rattle.saphyr_input.specs.Classes.{is_z, is_break, is_blank, is_blank_or_breakz, is_flow, is_bom, tab, line_feed, space}
-use Rattle.saphyr_input.specs.Places.{can_be_plain, is_document_indicator, is_blank_or_break, Transfers}
-use Rattle.saphyr_input.specs.Indicators.{colon, hyphen, number_sign}
+use Rattle.saphyr_input.specs.Places.{can_be_plain, is_document_indicator, is_blank_or_break}
+use Rattle.saphyr_input.specs.Indicators.{hyphen, number_sign}
 use Rattle.saphyr_scalar.specs.declared.scalar.position.Marker.{Marker}
 use Rattle.saphyr_scalar.specs.declared.scalar.fault.Refusal.{Refusal}
 use Rattle.saphyr_scalar.specs.declared.scalar.fault.FaultText.TheVariants as fault
@@ -20,16 +20,6 @@ is_in_word in_flow xs = not (is_blank_or_breakz (slice_index xs 0)) && can_be_pl
 abbrev pub word_len : Bool → List ℕ → ℕ
 word_len in_flow [] = 0
 word_len in_flow (c ∷ cs) = if is_in_word in_flow (c ∷ cs) then 1 + word_len in_flow cs else 0
-
--- how many colons come first with which a word goes on
-unfoldable pub colons_len : Bool → List ℕ → ℕ
-colons_len in_flow [] = 0
-colons_len in_flow (c ∷ cs) = if (c == colon) && is_in_word in_flow (c ∷ cs) then 1 + colons_len in_flow cs else 0
-
--- these colons were taken off and appended, and n is how many
-pub record TransfersColons (in_flow : Bool) (n : ℕ) (before after text grown : List ℕ) : Type 0 where
-  pub count : n ≡ colons_len in_flow before
-  pub transfers : Transfers n before after text grown
 
 -- whether a word of the scalar begins: neither a comment nor a document marker does, and in flow no lone `-`
 unfoldable pub word_starts : Bool → Cursor → Result (Bool × Cursor) Refusal
