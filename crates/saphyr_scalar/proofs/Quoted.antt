@@ -16,4 +16,3 @@ pub mod Spellings
 pub mod Clean
 pub mod Words
 pub mod PairRuns
-pub mod BlankWords

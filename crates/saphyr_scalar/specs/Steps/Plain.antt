@@ -1,5 +1,5 @@
 -- Plain scalars (YAML 1.2.2, 7.3.3).
-use Rattle.std.specs.Prelude.{◌≡◌, ◌<◌, ◌≤◌, ℕ, zero, suc, pred, ◌+◌, ◌-◌, Bool, true, false, ◌||◌, ◌&&◌, ◌==◌, not, nat_lt, List, [], ◌∷◌, ◌++◌, length, slice_index, Result, Ok, Option, Some, None, if◌then◌else◌, encode_utf8, string_bytes}
+use Rattle.std.specs.Prelude.{◌≡◌, ◌<◌, ◌≤◌, ℕ, zero, suc, pred, ◌+◌, ◌-◌, Bool, true, false, ◌||◌, ◌&&◌, ◌==◌, not, nat_lt, List, [], ◌∷◌, ◌++◌, length, take, slice_index, Result, Ok, Option, Some, None, if◌then◌else◌, encode_utf8, string_bytes}
 use Rattle.saphyr_input.specs.Classes.{is_z, is_break, is_blank, is_blank_or_breakz, is_flow, is_bom, tab, line_feed, space}
 use Rattle.saphyr_input.specs.Places.{can_be_plain, is_document_indicator, is_blank_or_break}
 use Rattle.saphyr_input.specs.Indicators.{hyphen, number_sign}
@@ -88,13 +88,9 @@ feeds_onto indent start feeds s = lines indent start false feeds s.mark s.rest
 abbrev pub folded_gap : PlainGap → PlainGap
 folded_gap g = record g { text = if length g.text == 0 then space ∷ [] else g.text }
 
--- what is between two words reads as: a break before no empty line as a space
-abbrev pub gap_text : Bool → List ℕ → List ℕ
-gap_text over_lines text = if over_lines && (length text == 0) then space ∷ [] else text
-
--- what contracts see of a gap after a word: its blanks, or a line feed for each empty line
-abbrev pub seen_word_gap : Bool → List ℕ → Cursor → PlainGap
-seen_word_gap tabbed text s = seen_gap tabbed (gap_text s.blank_so_far text) s
+-- a text before what a gap reads as
+abbrev pub gap_onto : List ℕ → Result PlainGap Refusal → Result PlainGap Refusal
+gap_onto text read = read >>= λ g. Ok (record g { text = text ++ g.text })
 
 -- a line after a word's line begins
 abbrev pub next_lines : ℕ → Marker → Cursor → Result PlainGap Refusal
@@ -163,6 +159,13 @@ unfoldable mutual
       else gap indent start (mid_line m (c ∷ cs)) >>= λ g.
       if gap_len (c ∷ cs) g == 0 then scalar_end in_flow m g else word_behind_gap in_flow indent start m g
       (pred (gap_len (c ∷ cs) g)) cs
+
+-- What is read of a scalar behind a gap: its text has what the gap reads as at its end, and had so many bytes at the
+-- end of the word before.
+abbrev pub scalar_behind_gap : Bool → ℕ → Marker → ℕ → Marker → Bool → List ℕ → Cursor → PlainScalarRead
+scalar_behind_gap in_flow indent start len end tabbed text s = next_word_starts in_flow indent s >>= λ b.
+    if b.0 then with_text text (word in_flow indent start b.1.mark b.1.rest)
+    else Ok (take len text, end, comment_of in_flow tabbed b.1, b.1)
 
 -- A plain scalar: its text, the place after its last word, a comment that keeps it from going on, and what is
 -- after it. `indent` is the first column to the right of the enclosing block collection.

@@ -2,7 +2,7 @@
 
 ghost use Rattle.std.specs.Prelude.{◌≡◌, ◌<◌, ◌≤◌, ◌&&◌, ◌||◌, not, slice_index, string_bytes, IfOk, IsTrue, OnOk, false, true, refl};
 ghost use Rattle.saphyr_input.specs.Classes as class;
-ghost use Rattle.saphyr_input.specs.Places.{TransfersBlankWords, TransfersFront, TransfersWords};
+ghost use Rattle.saphyr_input.specs.Places.{TransfersFront, TransfersWords};
 ghost use Rattle.saphyr_scalar.specs.Steps.Plain as spec;
 ghost use Rattle.saphyr_scalar.specs.Steps.Sets as sets;
 
@@ -277,62 +277,5 @@ impl<T: Input> Reader<T> {
         } else {
             self.input.fetch_front_words::<PlainOutside>(text)
         }
-    }
-
-    // Moves blanks on this line and the words behind them to the end of a text, and returns how many characters. It
-    // may be none. The place stays.
-    #[inline(always)]
-    fn fetch_plain_blank_words(
-        &mut self,
-        in_flow: bool,
-        text: &mut String,
-    ) -> Result<usize, AllocError>
-        ensures words { IfOk result (λ n. TransfersBlankWords (sets.in_plain in_flow)
-            (sets.leads_plain in_flow) n (cursor_of self.old).rest (cursor_of self.new).rest
-            (string_bytes text.old) (string_bytes text.new)) }
-        ensures mark { (cursor_of self.new).mark ≡ (cursor_of self.old).mark }
-        ensures line { (cursor_of self.new).blank_so_far ≡ (cursor_of self.old).blank_so_far }
-    {
-        if in_flow {
-            self.input.fetch_blank_words::<PlainInFlow>(text)
-        } else {
-            self.input.fetch_blank_words::<PlainOutside>(text)
-        }
-    }
-
-    // Moves the rest of a word and the words after it to the end of a text, with any blanks between these as far as
-    // the input takes them at once.
-    #[inline(never)]
-    fn read_plain_blank_words(&mut self, in_flow: bool, text: &mut String) -> Result<(), AllocError>
-        ensures { OnOk result (spec.PlainWordsMoved in_flow (string_bytes text.old)
-            (string_bytes text.new) (cursor_of self.old) (cursor_of self.new)) }
-    {
-        self.read_plain_words(in_flow, text)?;
-        let count = self.fetch_plain_blank_words(in_flow, text)?;
-        if count == 0 {
-            return Ok(());
-        }
-        self.mark = self.mark.along(count);
-        self.read_plain_words(in_flow, text)?;
-        Ok(())
-    }
-
-    // Moves the words behind a gap to the end of a text. Behind a tab or several blanks there may be more such gaps.
-    #[inline(always)]
-    pub(super) fn read_words_behind(
-        &mut self,
-        in_flow: bool,
-        gap: &str,
-        text: &mut String,
-    ) -> Result<(), AllocError>
-        ensures { OnOk result (spec.PlainWordsMoved in_flow (string_bytes text.old)
-            (string_bytes text.new) (cursor_of self.old) (cursor_of self.new)) }
-    {
-        let bytes = gap.as_bytes();
-        if bytes.is_empty() || bytes.len() == 1 && bytes[0] != b'\t' {
-            self.read_plain_words(in_flow, text)?;
-            return Ok(());
-        }
-        self.read_plain_blank_words(in_flow, text)
     }
 }
