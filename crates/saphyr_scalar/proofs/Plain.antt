@@ -1,13 +1,12 @@
 -- Plain scalars: each spelled one is read, and what is read is the reading of its text.
 pub mod Refused
 pub mod Gaps
+pub mod BehindGaps
 pub mod Lines
 pub mod Runs
 pub mod Pieces
-pub mod Colons
 pub mod FrontWords
 pub mod SingleSpaces
-pub mod BlankRuns
 pub mod Words
 pub mod Spelled
 pub mod Indented

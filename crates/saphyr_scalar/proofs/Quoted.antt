@@ -15,4 +15,3 @@ pub mod SpelledWords
 pub mod Spellings
 pub mod Clean
 pub mod Words
-pub mod BlankWords

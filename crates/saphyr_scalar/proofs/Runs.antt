@@ -1,14 +1,18 @@
 -- A run that was put after a text.
-use Rattle.std.proofs.Common.{◌≡◌, ℕ, suc, ◌+◌, Bool, false, List, [], ◌∷◌, ◌++◌, length, take, slice_index, Result, Ok, refl, ap, ◌∙◌, arith, encode_utf8_all}
+use Rattle.std.proofs.Common.{◌≡◌, ℕ, suc, ◌+◌, ◌<◌, Bool, false, List, [], ◌∷◌, ◌++◌, length, take, get_or, slice_index, refl, sym, ap, ◌∙◌, arith, add-zero, encode_utf8_all}
+use Rattle.std.specs.String.Boundary.{IsSplitPoint}
 use Rattle.std.specs.List.{prefix_len}
 use Rattle.std.proofs.Math.Seq.{take-append_seam, drop-append_seam}
-use Rattle.saphyr_input.proofs.Runs.{run_stops, TakesRun, runs_all}
+use Rattle.std.proofs.lemmas.List.{length-append, get_or-append-add}
+use Rattle.std.proofs.lemmas.Str.{encode_ascii}
+use Rattle.saphyr_input.specs.Classes.{is_blank}
+use Rattle.saphyr_input.proofs.Runs.{run_stops}
 use Rattle.saphyr_scalar.specs.Spelling.Tag.{AreIn}
 use Rattle.saphyr_scalar.specs.declared.scalar.position.Marker.{Marker}
-use Rattle.saphyr_scalar.specs.Views.Cursor.{Cursor, along, pass}
-use Rattle.saphyr_scalar.specs.declared.scalar.fault.Refusal.{Refusal}
+use Rattle.saphyr_scalar.specs.Views.Cursor.{along, pass}
 use Rattle.saphyr_scalar.specs.Steps.Quoted.{mid_line, with_run}
 use Rattle.saphyr_input.proofs.Basics.Booleans.{by_test}
+use Rattle.saphyr_input.proofs.Basics.Characters.{blank_cases}
 use Rattle.saphyr_scalar.proofs.Given.{together}
 
 -- a spelled run, before a character that ends it
@@ -22,18 +26,33 @@ run_read p m w y are ends =
     ap (λ n. together (encode_utf8_all (take n (w ++ y))) (pass n (mid_line m (w ++ y)))) (run_len p w y are ends)
     ∙ rw (take-append_seam w y, drop-append_seam w y) refl
 
--- a run that was moved a character at a time
-pub run_moved : (p : ℕ → Bool) (text grown : List ℕ) (s : Cursor) (now : List ℕ) (u : Marker) (n c loaded : ℕ)
-    → p c ≡ false → TakesRun p s.rest now n c loaded → grown ≡ text ++ encode_utf8_all (take n s.rest)
-    → u ≡ along s.mark n
-    → ◌≡◌ {A = Result (List ℕ × Cursor) Refusal} (Ok (with_run p text s))
-    (Ok (grown, record { rest = now; mark = u; blank_so_far = false }))
-run_moved p text grown s now u n c loaded stops r e moved =
-    let count = runs_all p s.rest now n c loaded stops r in rw (e, r.ran.left, moved, ← count) refl
-
 -- what is taken as a run is one
 pub run_is_in : (p : ℕ → Bool) (xs : List ℕ) → AreIn p (take (prefix_len p xs) xs)
 run_is_in p [] = tt
 run_is_in p (c ∷ cs) =
     let one : 1 + prefix_len p cs ≡ suc (prefix_len p cs) = omega arith in
     by_test (p c) (1 + prefix_len p cs) 0 (λ n. AreIn p (take n (c ∷ cs))) (λ h. rw one (h, run_is_in p cs)) (λ _. tt)
+
+-- Where a text is cut again: before what begins with ASCII, such as blanks.
+
+pub cuts_before : (text more : List ℕ) → slice_index more 0 < 128 → IsSplitPoint (text ++ more) (length text)
+cuts_before text more low =
+    let there : slice_index (text ++ more) (length text) ≡ slice_index more 0 =
+    ap (λ (n : ℕ). get_or (text ++ more) n 0) (sym (add-zero (length text))) ∙ get_or-append-add text more 0 0 in
+    (rw length-append (omega arith), λ _ _ high. absurd (omega (arith, low, high, there)))
+
+first_low : (c : ℕ) (ys : List ℕ) → c < 128 → slice_index (encode_utf8_all (c ∷ ys)) 0 < 128
+first_low c ys low = rw (encode_ascii c low) low
+
+pub blanks_low : (xs : List ℕ) → slice_index (encode_utf8_all (take (prefix_len is_blank xs) xs)) 0 < 128
+blanks_low [] = omega arith
+blanks_low (c ∷ cs) =
+    let one : 1 + prefix_len is_blank cs ≡ suc (prefix_len is_blank cs) = omega arith in
+    by_test (is_blank c) (1 + prefix_len is_blank cs) 0
+    (λ n. slice_index (encode_utf8_all (take n (c ∷ cs))) 0 < 128)
+    (λ h. rw one (first_low c (take (prefix_len is_blank cs) cs) (blank_cases c h (λ x. x < 128) (omega arith)
+    (omega arith)))) (λ _. omega arith)
+
+pub cuts_before_blanks : (text xs : List ℕ)
+    → IsSplitPoint (text ++ encode_utf8_all (take (prefix_len is_blank xs) xs)) (length text)
+cuts_before_blanks text xs = cuts_before text _ (blanks_low xs)

@@ -7,10 +7,9 @@ use Rattle.saphyr_input.specs.Places.{TransfersFront}
 use Rattle.saphyr_input.proofs.WordRuns.{words_within}
 use Rattle.saphyr_scalar.specs.declared.scalar.position.Marker.{Marker}
 use Rattle.saphyr_scalar.specs.Views.Cursor.{Cursor, along}
-use Rattle.saphyr_scalar.specs.Steps.Plain.{is_in_word, with_text, word, TransfersColons, PlainWordsMoved}
+use Rattle.saphyr_scalar.specs.Steps.Plain.{is_in_word, with_text, word, PlainWordsMoved}
 use Rattle.saphyr_scalar.specs.Steps.Sets.{in_plain, leads_plain}
 use Rattle.saphyr_scalar.proofs.Lengths.{part_left}
-use Rattle.saphyr_scalar.proofs.Plain.Colons.{colons_within, colons_piece}
 use Rattle.saphyr_scalar.proofs.Plain.SingleSpaces.{WordsRan, none_ran, piece_ran, words_piece}
 
 pub front_ran : (f : Bool) (text grown : List ℕ) (s u : Cursor) (n : ℕ)
@@ -21,14 +20,6 @@ front_ran f text grown s u n w place =
     let none : 0 + n ≡ n = omega arith in
     rw none at (piece_ran f text text grown s s u 0 n (none_ran f text s) within
     (λ i a m. words_piece f i a m n s.rest w.within) w.transfers place)
-
-pub colons_ran : (f : Bool) (text grown : List ℕ) (s u : Cursor) (n : ℕ)
-    → TransfersColons f n s.rest u.rest text grown → u.mark ≡ s.mark → WordsRan f text grown s u n
-colons_ran f text grown s u n w place =
-    let within : n ≤ length s.rest = rw w.count (colons_within f s.rest) in
-    let none : 0 + n ≡ n = omega arith in
-    rw none at (piece_ran f text text grown s s u 0 n (none_ran f text s) within
-    (λ i a m. colons_piece f i a m n s.rest w.count) w.transfers place)
 
 -- the place behind them
 ran_word : (f : Bool) (text grown : List ℕ) (s u t : Cursor) (n : ℕ) → WordsRan f text grown s u n

@@ -1,5 +1,5 @@
 -- What comes after a plain scalar's word, and how much of the text it takes.
-use Rattle.std.proofs.Common.{◌≡◌, ℕ, suc, ◌+◌, ◌≤◌, Bool, true, false, List, [], ◌∷◌, ◌++◌, length, drop, length-drop, slice_index, Result, Ok, Err, refl, sym, ap, ◌∙◌, arith}
+use Rattle.std.proofs.Common.{◌≡◌, ℕ, suc, ◌+◌, ◌≤◌, Bool, true, false, List, [], ◌∷◌, ◌++◌, length, drop, length-drop, slice_index, Result, Ok, Err, refl, ap, ◌∙◌, arith}
 use Rattle.std.specs.Prelude.{◌||◌, ◌&&◌, ◌==◌, nat_lt, if◌then◌else◌}
 use Rattle.std.specs.List.{prefix_len}
 use Rattle.std.proofs.lemmas.List.{drop-drop}
@@ -8,11 +8,7 @@ use Rattle.saphyr_input.specs.Places.{is_blank_or_break, next_2_are}
 use Rattle.saphyr_scalar.specs.declared.scalar.position.Marker.{Marker}
 use Rattle.saphyr_scalar.specs.declared.scalar.fault.Refusal.{Refusal}
 use Rattle.saphyr_scalar.specs.Views.Cursor.{Cursor, ◌>>=◌, along, next_line, pass, pass_break}
-use Rattle.saphyr_scalar.specs.declared.scalar.fault.Stop.{Stop}
-use Rattle.saphyr_scalar.specs.declared.scalar.fault.Stop.TheVariants as stop
-use Rattle.saphyr_scalar.specs.Views.Reader.{Moves}
-use Rattle.saphyr_scalar.specs.Steps.Plain.{PlainGap, seen_gap, content_behind_tab, reached_gap, line_front, ends_line, lines, folded_gap, gap_text, next_lines, gap_from, gap}
-use Rattle.saphyr_scalar.proofs.Quoted.Inside.{Moved}
+use Rattle.saphyr_scalar.specs.Steps.Plain.{PlainGap, seen_gap, content_behind_tab, reached_gap, line_front, ends_line, lines, folded_gap, next_lines, gap_from, gap}
 use Rattle.saphyr_input.proofs.Basics.Booleans.{by_test}
 use Rattle.std.proofs.lemmas.List.Sums.{prefix_len-le-length}
 
@@ -104,39 +100,3 @@ gap_end i a s g =
     (λ (r : Result PlainGap Refusal). r ≡ Ok g → IsEnd s.rest g.behind.rest)
     (λ _ e. end_of_end _ _ _ start (end_of_end _ _ _ (break_end t) (next_lines_end i a (pass_break t) g e)))
     (λ _ e. let is = same_gap _ g e in rw is start)
-
--- What the call that reads a gap leaves.
-
--- only blanks come before the place that is reached over lines
-lines_blank : (i : ℕ) (a : Marker) (t : Bool) (f : List ℕ) (m : Marker) (xs : List ℕ) (g : PlainGap)
-    → lines i a t f m xs ≡ Ok g → g.behind.blank_so_far ≡ true
-unfolding lines
-lines_blank i a t f m [] g e = ap (λ (x : PlainGap). x.behind.blank_so_far) (may_stand_same a t f (line_front m []) g e)
-lines_blank i a t f m (c ∷ cs) g e =
-    by_test (is_blank_or_break c) _ _ (λ (r : Result PlainGap Refusal). r ≡ Ok g → g.behind.blank_so_far ≡ true)
-    (λ _ e. lines_blank i a (is_blank c && (t || ((c == tab) && nat_lt m.col i)))
-    (if ends_line c cs then f ++ line_feed ∷ [] else f) (if ends_line c cs then next_line m 1 else along m 1) cs g e)
-    (λ _ e. ap (λ (x : PlainGap). x.behind.blank_so_far) (may_stand_same a t f (line_front m (c ∷ cs)) g e)) e
-
-pub lines_read : (i : ℕ) (a m : Marker) (xs feeds : List ℕ) (w : Cursor) (r : Result Bool Stop)
-    → Moves (λ t. seen_gap t feeds w) r (lines i a false [] m xs)
-    → Moves (λ t. seen_gap t (gap_text w.blank_so_far feeds) w) r (lines i a false [] m xs >>= λ g. Ok (folded_gap g))
-lines_read i a m xs feeds w (Ok t) e = cc (lines_blank i a false [] m xs (seen_gap t feeds w) e)
-lines_read i a m xs feeds w (Err stop.OutOfMemory) e = tt
-lines_read i a m xs feeds w (Err (stop.Refused r)) e = ap
-    (λ (x : Result PlainGap Refusal). x >>= λ g. Ok (folded_gap g)) e
-
-gap_over_break : (i : ℕ) (a : Marker) (grown : List ℕ) (s t : Cursor) → Moved is_blank [] grown s t
-    → is_break (slice_index t.rest 0) ≡ true → gap i a s ≡ next_lines i a (pass_break t)
-unfolding gap gap_from
-gap_over_break i a grown s t m h = grind arith
-
--- a gap over lines
-pub gap_read : (i : ℕ) (a : Marker) (grown cleared feeds : List ℕ) (s t u v w : Cursor) (r : Result Bool Stop)
-    → Moved is_blank [] grown s t → u ≡ t → is_break (slice_index t.rest 0) ≡ true → v ≡ pass_break u → cleared ≡ []
-    → Moves (λ t. seen_gap t feeds w) r (lines i a false cleared v.mark v.rest)
-    → Moves (λ t. seen_gap t (gap_text w.blank_so_far feeds) w) r (gap i a s)
-gap_read i a grown cleared feeds s t u v w r m same breaks on empty h =
-    let there : v ≡ pass_break t = on ∙ ap pass_break same in
-    let from : gap i a s ≡ next_lines i a v = gap_over_break i a grown s t m breaks ∙ ap (next_lines i a) (sym there) in
-    rw from (lines_read i a v.mark v.rest feeds w r (rw empty at h))

@@ -1,5 +1,5 @@
 -- Where a word of a plain scalar ends its line, and what is left after that.
-use Rattle.std.proofs.Common.{◌≡◌, ℕ, ◌-◌, ◌^◌, Bool, true, false, List, [], ◌∷◌, ◌++◌, slice_index, Result, Ok, refl, sym, ap, ◌∙◌}
+use Rattle.std.proofs.Common.{◌≡◌, ℕ, ◌-◌, ◌^◌, Bool, true, false, List, [], ◌∷◌, slice_index, Result, Ok, refl, sym, ap, ◌∙◌}
 use Rattle.std.specs.Prelude.{◌&&◌, ◌==◌, not, nat_lt, None, if◌then◌else◌}
 use Rattle.std.proofs.lemmas.List.{append-nil}
 use Rattle.std.proofs.lemmas.Bool.{not-true}
@@ -8,28 +8,25 @@ use Rattle.saphyr_input.specs.Places.{is_blank_or_break}
 use Rattle.saphyr_input.proofs.Basics.Booleans.{and_false, by_test}
 use Rattle.saphyr_scalar.specs.declared.scalar.position.Marker.{Marker}
 use Rattle.saphyr_scalar.specs.declared.scalar.fault.Refusal.{Refusal}
-use Rattle.saphyr_scalar.specs.declared.scalar.fault.Stop.{Stop}
-use Rattle.saphyr_scalar.specs.Views.Reader.{Moves}
-use Rattle.saphyr_scalar.proofs.Plain.Gaps.{lines_read}
 use Rattle.saphyr_scalar.specs.Views.Cursor.{Cursor, ◌>>=◌, pass_break, pass_spaces}
-use Rattle.saphyr_scalar.specs.Steps.Plain.{is_in_word, PlainGap, seen_gap, gap_text, line_front, lines, folded_gap, next_lines, gap_from, gap, next_word_starts, comment_of, with_text, scalar_end, word, content_behind_tab}
+use Rattle.saphyr_scalar.specs.Steps.Plain.{is_in_word, PlainGap, seen_gap, line_front, lines, folded_gap, next_lines, gap_from, gap, next_word_starts, comment_of, with_text, scalar_end, word, content_behind_tab}
 use Rattle.saphyr_scalar.specs.Steps.Quoted.{with_run}
 use Rattle.saphyr_scalar.specs.Steps.PlainLines.{scalar_behind_line, is_left_of_scalar, behind_break, ends_at_once}
 use Rattle.saphyr_scalar.proofs.NoSeparation.{no_run}
 use Rattle.saphyr_scalar.proofs.Quoted.Inside.{break_cases}
 use Rattle.saphyr_scalar.proofs.Quoted.Gaps.{by_break_len}
 use Rattle.saphyr_scalar.proofs.SpaceRuns.{lines_over}
-use Rattle.saphyr_scalar.proofs.Plain.Pieces.{plain_behind_gap, moved_behind_word, goes_says, text_twice}
+use Rattle.saphyr_scalar.proofs.Plain.Pieces.{plain_behind_gap, moved_behind_word, goes_says}
 use Rattle.saphyr_scalar.proofs.Plain.WordEnds.{none_moved, none_passed, scalar_ends}
 
 no_blanks : (s : Cursor) → s.blank_so_far ≡ false → is_blank (slice_index s.rest 0) ≡ false
     → with_run is_blank [] s ≡ ([], s)
 no_blanks s line h = rw (no_run is_blank s.rest h, none_passed s line) refl
 
-from_break : (i : ℕ) (a : Marker) (s : Cursor) → is_break (slice_index s.rest 0) ≡ true
-    → gap_from i a [] s ≡ next_lines i a (pass_break s)
+pub from_break : (i : ℕ) (a : Marker) (blanks : List ℕ) (s : Cursor) → is_break (slice_index s.rest 0) ≡ true
+    → gap_from i a blanks s ≡ next_lines i a (pass_break s)
 unfolding gap_from
-from_break i a s breaks =
+from_break i a blanks s breaks =
     by_test (is_break (slice_index s.rest 0)) _ _ (λ (r : Result PlainGap Refusal). r ≡ next_lines i a (pass_break s))
     (λ _. refl) (λ is. absurd (cc))
 
@@ -38,7 +35,7 @@ break_gap : (i : ℕ) (a : Marker) (s : Cursor) → s.blank_so_far ≡ false →
     → gap i a s ≡ next_lines i a (pass_break s)
 unfolding gap
 break_gap i a s line breaks = ap (λ (x : List ℕ × Cursor). gap_from i a x.0 x.1) (no_blanks s line
-    (break_cases (slice_index s.rest 0) breaks (λ c. is_blank c ≡ false) refl refl)) ∙ from_break i a s breaks
+    (break_cases (slice_index s.rest 0) breaks (λ c. is_blank c ≡ false) refl refl)) ∙ from_break i a [] s breaks
 
 -- after the break, and spaces after it
 pub word_to_line : (f : Bool) (i : ℕ) (a : Marker) (text : List ℕ) (most : ℕ) (s v u : Cursor)
@@ -87,12 +84,6 @@ gap_no_turn f i a end text g u h = ap (λ x. with_text text
     (x >>= λ b. if b.0 then with_text g.text (word f i a b.1.mark b.1.rest) else scalar_end f end g)) h
     ∙ ap (λ x. Ok (x, end, comment_of f g.tabbed g.behind, g.behind)) (append-nil text)
     ∙ ap (λ x. Ok (text, end, comment_of f g.tabbed x, x)) (sym (goes_says f i false g.behind u h).same)
-
--- and one begins
-pub gap_turn : (f : Bool) (i : ℕ) (a end : Marker) (text joined : List ℕ) (g : PlainGap) (u : Cursor)
-    → next_word_starts f i g.behind ≡ Ok (true, u) → joined ≡ text ++ g.text
-    → with_text joined (word f i a u.mark u.rest) ≡ with_text text (plain_behind_gap f i a end g)
-gap_turn f i a end text joined g u h j = cc (text_twice text g.text _)
 
 -- what is left of the indentation ends the scalar
 pub left_ends : (f : Bool) (i : ℕ) (a end : Marker) (text : List ℕ) (u : Cursor) → u.blank_so_far ≡ true
@@ -145,34 +136,3 @@ ended_at_once f i a text s u b ends line is over at = by_break (is_break (slice_
         ∙ left_ends f i a s.mark text u (blank_there s u e at) (ap (is_left_of_scalar f i) at ∙ left e)
     by_break false e = scalar_ends f i a text s ends line (ink e)
         ∙ ap (λ x. Ok (text, s.mark, None, x)) (sym (stays_there s u e at))
-
--- A gap of a break, spaces and maybe more lines: u looked at the break, v is behind the spaces.
-
-pub break_gap_read : (i : ℕ) (a : Marker) (cleared feeds : List ℕ) (most : ℕ) (s u v w : Cursor) (r : Result Bool Stop)
-    → s.blank_so_far ≡ false → u ≡ s → is_break (slice_index s.rest 0) ≡ true → v ≡ pass_spaces most (pass_break u)
-    → cleared ≡ [] → Moves (λ t. seen_gap t feeds w) r (lines i a false cleared v.mark v.rest)
-    → Moves (λ t. seen_gap t (gap_text w.blank_so_far feeds) w) r (gap i a s)
-break_gap_read i a cleared feeds most s u v w r line same breaks spaces empty h =
-    let from : gap i a s ≡ next_lines i a (pass_break u) = cc (break_gap i a s line breaks) in
-    let over = lines_over i a false [] most (pass_break u) v spaces in
-    let there : Moves (λ t. seen_gap t feeds w) r (lines i a false [] v.mark v.rest) = rw empty at h in
-    rw from (lines_read i a (pass_break u).mark (pass_break u).rest feeds w r (rw over at there))
-
-pub blank_behind_break : (most : ℕ) (s u v : Cursor) → u ≡ s → is_break (slice_index s.rest 0) ≡ true
-    → v ≡ pass_spaces most (pass_break u) → v.blank_so_far ≡ true
-blank_behind_break most s u v same breaks spaces = ap (λ (x : Cursor). x.blank_so_far) spaces
-    ∙ ap (λ (x : Cursor). (pass_break x).blank_so_far) same ∙ break_begins s breaks
-
--- where no other line is passed
-pub single_gap_read : (i : ℕ) (a : Marker) (cleared : List ℕ) (most : ℕ) (s u v : Cursor) → s.blank_so_far ≡ false
-    → u ≡ s → is_break (slice_index s.rest 0) ≡ true → v ≡ pass_spaces most (pass_break u) → cleared ≡ []
-    → is_blank_or_break (slice_index v.rest 0) ≡ false
-    → gap i a s ≡ Ok (seen_gap false (gap_text v.blank_so_far cleared) v)
-single_gap_read i a cleared most s u v line same breaks spaces empty ink =
-    break_gap_read i a cleared cleared most s u v v (Ok false) line same breaks spaces empty
-    (ap (λ b. lines i a false b v.mark v.rest) empty ∙ line_there i a v.mark v.rest ink
-    ∙ ap (found []) (same_line_front v (blank_behind_break most s u v same breaks spaces))
-    ∙ ap (λ b. found b v) (sym empty))
-  where
-    found : List ℕ → Cursor → Result PlainGap Refusal
-    found b x = Ok (seen_gap false b x)

@@ -15,7 +15,7 @@ use Rattle.saphyr_scalar.specs.declared.scalar.fault.Stop.TheVariants as stop
 use Rattle.saphyr_scalar.specs.Views.Reader.{Moves, Fails}
 use Rattle.saphyr_scalar.specs.Views.Cursor.{Cursor, ◌>>=◌, refuse, along}
 use Rattle.saphyr_scalar.specs.Steps.Quoted.{mid_line}
-use Rattle.saphyr_scalar.specs.Steps.Plain.{gap_text, is_in_word, word_len, PlainWordsMoved, word_starts, PlainGap, gap_from, gap, next_word_starts, comment_of, PlainScalarRead, with_text, scalar_end, gap_len, word_behind_gap, word, plain}
+use Rattle.saphyr_scalar.specs.Steps.Plain.{is_in_word, word_len, PlainWordsMoved, word_starts, PlainGap, gap_from, gap, next_word_starts, comment_of, PlainScalarRead, with_text, scalar_end, gap_len, word_behind_gap, word, plain}
 use Rattle.saphyr_scalar.proofs.Moving.{along_none, along_more, bind_same}
 use Rattle.saphyr_scalar.proofs.Plain.Gaps.{IsEnd, gap_end}
 use Rattle.saphyr_input.proofs.Basics.Booleans.{by_test}
@@ -255,13 +255,6 @@ pub record GapMoved (f : Bool) (i : ℕ) (a : Marker) (text grown : List ℕ) (s
 pub started : (starts : Cursor → Result (Bool × Cursor) Refusal) (s t : Cursor) (b d : Bool) → b ≡ d
     → starts s ≡ Ok (b, t) → starts s ≡ Ok (d, t)
 started starts s t b d is e = rw is at e
-
--- what is put between two words
-pub joined_by : (f : Bool) (i : ℕ) (s t : Cursor) (text feeds shown pushed : List ℕ)
-    → next_word_starts f i s ≡ Ok (true, t) → pushed ≡ text ++ gap_text t.blank_so_far shown → shown ≡ feeds
-    → pushed ≡ text ++ gap_text s.blank_so_far feeds
-joined_by f i s t text feeds shown pushed goes put is = put ∙ ap (λ b. text ++ gap_text t.blank_so_far b) is
-    ∙ ap (λ (x : Cursor). text ++ gap_text x.blank_so_far feeds) (goes_says f i true s t goes).same
 
 pub behind_both : (f : Bool) (i : ℕ) (a : Marker) (text grown : List ℕ) (s t : Cursor) (g : PlainGap)
     → GapMoved f i a text grown s t g

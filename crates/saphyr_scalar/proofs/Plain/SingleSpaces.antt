@@ -1,5 +1,5 @@
 -- Words of a plain scalar, and single spaces between them, taken off in one piece.
-use Rattle.std.proofs.Common.{◌≡◌, ◌≢◌, add-zero, ℕ, zero, suc, ◌+◌, ◌^◌, ◌<◌, ◌≤◌, Bool, true, false, List, [], ◌∷◌, ◌++◌, length, length-drop, take, drop, slice_index, Result, Ok, refl, sym, ap, ◌∙◌, arith, encode_utf8_all, cond}
+use Rattle.std.proofs.Common.{◌≡◌, ℕ, zero, suc, ◌+◌, ◌^◌, ◌<◌, ◌≤◌, Bool, true, false, List, [], ◌∷◌, ◌++◌, length, length-drop, take, drop, slice_index, Result, Ok, refl, sym, ap, ◌∙◌, arith, encode_utf8_all, cond}
 use Rattle.std.specs.Prelude.{◌&&◌, ◌||◌, ◌==◌, not, nat_lt, encode_utf8}
 use Rattle.std.specs.List.{prefix_len}
 use Rattle.std.proofs.lemmas.Bool.Decides.{nat_tests}
@@ -12,12 +12,12 @@ use Rattle.saphyr_input.proofs.WordRuns.{words_within}
 use Rattle.saphyr_scalar.specs.declared.scalar.position.Marker.{Marker}
 use Rattle.saphyr_scalar.specs.declared.scalar.fault.Refusal.{Refusal}
 use Rattle.saphyr_scalar.specs.Views.Cursor.{Cursor, along}
-use Rattle.saphyr_scalar.specs.Steps.Plain.{is_in_word, word_starts, next_word_starts, gap_from, gap, PlainGap, with_text, word, colons_len, TransfersColons, PlainWordsMoved, seen_gap}
+use Rattle.saphyr_scalar.specs.Steps.Plain.{is_in_word, word_starts, next_word_starts, gap_from, gap, PlainGap, with_text, word, seen_gap}
 use Rattle.saphyr_scalar.specs.Steps.Quoted.{mid_line}
 use Rattle.saphyr_scalar.specs.Steps.Sets.{in_plain, leads_plain, begins_any_plain}
 use Rattle.saphyr_scalar.proofs.Moving.{along_none, along_more}
-use Rattle.saphyr_scalar.proofs.Plain.Pieces.{word_over, word_on, text_twice, WordPart, no_part}
-use Rattle.saphyr_scalar.proofs.Plain.Colons.{colons_within, colons_piece, word_over_set}
+use Rattle.saphyr_scalar.proofs.Plain.Pieces.{word_over, word_on, text_twice, WordPart, no_part, more_part}
+use Rattle.saphyr_scalar.proofs.Plain.Words.{word_left}
 use Rattle.saphyr_scalar.proofs.Quoted.Inside.{Moved, IsQuotedInk, content_of}
 use Rattle.saphyr_scalar.proofs.Quoted.Words.{both_true}
 use Rattle.saphyr_input.proofs.Basics.Booleans.{and_false, by_test, either}
@@ -204,60 +204,58 @@ words_ran f text grown more s t u n k r w place =
     let within : k ≤ length t.rest = omega (arith, w.within, words_within (in_plain f) (leads_plain f) t.rest) in
     piece_ran f text grown more s t u n k r within (λ i a m. words_piece f i a m k t.rest w.within) w.transfers place
 
--- A turn: words of which m characters are told by then, and j colons behind them, where c comes first. Where there is
--- no colon, that is all.
-pub record WordsTurn (f : Bool) (text grown : List ℕ) (s t u : Cursor) (m j c : ℕ) : Type 0 where
-  pub ran : WordsRan f text grown s u (m + j)
-  pub done : j ≡ 0 → WordsRan f text grown s u m
-  pub ends : j ≡ 0 → is_in_word f u.rest ≡ false
-  pub read : j ≡ 0 → c ≡ slice_index u.rest 0
-  pub less : j ≢ 0 → length u.rest < length t.rest
+-- the same where the reader was looked at
+pub ran_seen : (f : Bool) (text grown : List ℕ) (s t v : Cursor) (n : ℕ) → v ≡ t → WordsRan f text grown s t n
+    → WordsRan f text grown s v n
+ran_seen f text grown s t v n same r = rw same r
 
-pub words_turn : (f : Bool) (text grown middle more : List ℕ) (s t u v w : Cursor) (n k j c : ℕ)
-    → WordsRan f text grown s t n → TransfersWords (in_plain f) (leads_plain f) k t.rest u.rest grown middle
-    → u.mark ≡ t.mark → c ≡ slice_index u.rest 0 → v ≡ u → TransfersColons f j v.rest w.rest middle more
-    → w.mark ≡ v.mark → WordsTurn f text more s t w (n + k) j c
-words_turn f text grown middle more s t u v w n k j c r moved place read same colons stays =
-    let words : WordsRan f text middle s v (n + k) = rw same (words_ran f text grown middle s t u n k r moved place) in
-    let within : j ≤ length v.rest = rw colons.count (colons_within f v.rest) in
-    let ran = piece_ran f text middle more s v w (n + k) j words within
-    (λ i a m. colons_piece f i a m j v.rest colons.count) colons.transfers stays in
-    let left : j ≡ 0 → w.rest ≡ u.rest = λ none. colons.transfers.taken ∙ ap (λ i. drop i v.rest) none
-    ∙ ap (λ (x : Cursor). x.rest) same in
-    let over : j ≡ 0 → is_in_word f u.rest ≡ false = λ none. word_over_set f u.rest moved.stops
-    (ap (λ (x : Cursor). colons_len f x.rest) (sym same) ∙ sym colons.count ∙ none) in
-    record {
-      ran = ran;
-      done = λ none. rw (ap (λ i. n + k + i) none ∙ add-zero (n + k)) at ran;
-      ends = λ none. rw (left none) (over none);
-      read = λ none. rw (left none) read;
-      less = λ some. omega (arith, some, r.total, ran.total);
-    }
-
--- the words end
-pub words_done : (f : Bool) (text grown : List ℕ) (s t u : Cursor) (n j c : ℕ) (m : Marker)
-    → WordsTurn f text grown s t u n j c → j ≡ 0 → m ≡ along u.mark n
-    → PlainWordsMoved f text grown s (mid_line m u.rest)
-words_done f text grown s t u n j c m turn none moved =
-    let r = turn.done none in
-    let place : m ≡ along s.mark n = moved ∙ ap (λ (x : Marker). along x n) r.mark in
-    record {
-      same = λ i a. ap (λ x. with_text grown (word f i a x u.rest)) place ∙ r.same i a;
-      on_line = refl;
-      stops = turn.ends none;
-      shorter = λ goes. some n r.left r.total goes;
-      within = omega (arith, r.total);
-    }
+-- one character more, with which a word goes on, where v looked at it
+pub character_ran : (f : Bool) (text grown more : List ℕ) (s t u v : Cursor) (n c : ℕ) → WordsRan f text grown s t n
+    → c ≡ slice_index t.rest 0 → is_in_word f t.rest ≡ true → v ≡ t → u.rest ≡ drop 1 v.rest → u.mark ≡ v.mark
+    → more ≡ grown ++ encode_utf8 c → WordsRan f text more s u (n + 1)
+character_ran f text grown more s t u v n c r read goes same taken place put =
+    piece_ran f text grown more s t u n 1 r (word_left f t.rest goes) (λ i a m. one_part f i a m t.rest goes)
+    (record {
+      taken = taken ∙ ap (λ (x : Cursor). drop 1 x.rest) same;
+      appended = put ∙ ap (λ xs. grown ++ xs) (first_bytes f t.rest c read goes);
+    }) (place ∙ ap (λ (x : Cursor). x.mark) same)
   where
-    some : (k : ℕ) → u.rest ≡ drop k s.rest → k + length u.rest ≡ length s.rest → is_in_word f s.rest ≡ true
-        → length u.rest < length s.rest
-    some k left total goes = grind (arith, turn.ends none)
+    one_part : (f : Bool) (i : ℕ) (a m : Marker) (xs : List ℕ) → is_in_word f xs ≡ true → WordPart f i a m xs 1
+    one_part f i a m [] goes = absurd (omega (arith, word_left f [] goes))
+    one_part f i a m (d ∷ ds) goes = more_part f i a m d ds 0 goes (no_part f i a (along m 1) ds)
+
+    first_bytes : (f : Bool) (xs : List ℕ) (c : ℕ) → c ≡ slice_index xs 0 → is_in_word f xs ≡ true
+        → encode_utf8 c ≡ encode_utf8_all (take 1 xs)
+    first_bytes f [] c read goes = absurd (omega (arith, word_left f [] goes))
+    first_bytes f (d ∷ ds) c read goes = ap encode_utf8 read ∙ sym (append-nil (encode_utf8 d))
+
+-- the same behind words that were taken off in one piece, after which u, v and w look at the character
+pub turn_ran : (f : Bool) (text grown middle more : List ℕ) (s t u v w x : Cursor) (n k c : ℕ)
+    → WordsRan f text grown s t n → TransfersWords (in_plain f) (leads_plain f) k t.rest u.rest grown middle
+    → u.mark ≡ t.mark → c ≡ slice_index u.rest 0 → v ≡ u → is_in_word f v.rest ≡ true → w ≡ v
+    → x.rest ≡ drop 1 w.rest → x.mark ≡ w.mark → more ≡ middle ++ encode_utf8 c
+    → WordsRan f text more s x (n + k + 1)
+turn_ran f text grown middle more s t u v w x n k c r words stays read seen goes same taken place put =
+    character_ran f text middle more s u x w (n + k) c (words_ran f text grown middle s t u n k r words stays) read
+    (ap (λ (y : Cursor). is_in_word f y.rest) (sym seen) ∙ goes) (same ∙ seen) taken place put
+
+-- less is left of the text then
+pub ran_shorter : (f : Bool) (text grown middle : List ℕ) (s t v w : Cursor) (n k : ℕ) (after : List ℕ)
+    → WordsRan f text grown s t n → WordsRan f text middle s v (n + k) → is_in_word f v.rest ≡ true → w ≡ v
+    → after ≡ drop 1 w.rest → length after < length t.rest
+ran_shorter f text grown middle s t v w n k after before r goes same taken =
+    rw (taken, same, length-drop) (omega (arith, before.total, r.total, word_left f v.rest goes))
 
 -- how many characters that is, the place after them and what is left
 
 pub ran_fits : (f : Bool) (text grown : List ℕ) (s t : Cursor) (n : ℕ) → WordsRan f text grown s t n
     → s.mark.index + length s.rest < 2 ^ 64 → n < 2 ^ 64
 ran_fits f text grown s t n r fits = omega (arith, r.total, fits)
+
+-- and one character more
+pub ran_more_fits : (f : Bool) (text grown : List ℕ) (s t : Cursor) (n : ℕ) → WordsRan f text grown s t n
+    → is_in_word f t.rest ≡ true → s.mark.index + length s.rest < 2 ^ 64 → n + 1 < 2 ^ 64
+ran_more_fits f text grown s t n r goes fits = omega (arith, r.total, word_left f t.rest goes, fits)
 
 pub ran_place_fits : (f : Bool) (text grown : List ℕ) (s t : Cursor) (n : ℕ) → WordsRan f text grown s t n
     → s.mark.index + length s.rest < 2 ^ 64 → t.mark.index + n < 2 ^ 64

@@ -15,8 +15,9 @@ use Rattle.saphyr_scalar.specs.declared.values.Quote.{Quote}
 use Rattle.saphyr_scalar.specs.Views.Reader.{ReadsOn}
 use Rattle.saphyr_scalar.specs.Views.Cursor.{Cursor, ◌>>=◌, refuse, along, pass, pass_break, next_line}
 use Rattle.saphyr_scalar.specs.Values.Flow as flow
+use Rattle.saphyr_scalar.proofs.Given.{together}
 use Rattle.saphyr_scalar.proofs.Moving.{along_none, along_more}
-use Rattle.saphyr_scalar.specs.Steps.Quoted.{TextRead, is_literal, with_front, mid_line, special, special_len, QuotedGap, on_line, no_gap, blank_in, break_in, end_gap, escaped_gap, break_len, if_some, inner_text, inner_text_at, quoted, with_run}
+use Rattle.saphyr_scalar.specs.Steps.Quoted.{TextRead, is_literal, with_front, mid_line, special, special_len, QuotedGap, on_line, no_gap, blank_in, break_in, end_gap, escaped_gap, break_len, if_some, inner_text, inner_text_at, quoted, with_run, with_blanks}
 use Rattle.saphyr_input.proofs.Basics.Lists.{run_ends}
 use Rattle.saphyr_input.proofs.Basics.Booleans.{neither_parts, by_test, either}
 use Rattle.std.proofs.lemmas.Bool.{or_parts}
@@ -199,6 +200,31 @@ SameRun p text grown s t = let r : Result (List ℕ × Cursor) Refusal = Ok (wit
 
 pub moved_of : (p : ℕ → Bool) (text grown : List ℕ) (s t : Cursor) → SameRun p text grown s t → Moved p text grown s t
 moved_of p text grown s t e = record { is = cc }
+
+-- blanks of a line that were put after a text
+abbrev pub SameBlanks : List ℕ → List ℕ → Cursor → Cursor → Type 0
+SameBlanks text grown s t = let r : Result (List ℕ × Cursor) Refusal = Ok (with_blanks text s) in r ≡ Ok (grown, t)
+
+abbrev pub line_blanks : Cursor → List ℕ
+line_blanks s = encode_utf8_all (take (prefix_len is_blank s.rest) s.rest)
+
+-- unless they end their line
+pub record BlanksMoved (text grown : List ℕ) (s t : Cursor) : Type 0 where
+  pub run : Moved is_blank [] (line_blanks s) s t
+  pub gone : is_break (slice_index t.rest 0) ≡ true → grown ≡ text
+  pub kept : is_break (slice_index t.rest 0) ≡ false → grown ≡ text ++ line_blanks s
+
+pub blanks_of : (text grown : List ℕ) (s t : Cursor) → SameBlanks text grown s t → BlanksMoved text grown s t
+blanks_of text grown s t e =
+    let both : with_blanks text s ≡ (grown, t) = cc in
+    let place : pass (prefix_len is_blank s.rest) s ≡ t = ap (λ (x : List ℕ × Cursor). x.1) both in
+    let less = sym (ap (λ (x : List ℕ × Cursor). x.0) both) in
+    let there = ap (λ (x : Cursor). is_break (slice_index x.rest 0)) place in
+    record {
+      run = record { is = ap (λ (x : Cursor). together (line_blanks s) x) place };
+      gone = λ h. less ∙ rw (there ∙ h) refl;
+      kept = λ h. less ∙ rw (there ∙ h) refl;
+    }
 
 -- a refusal that `?` hands on
 pub reads_refused : {X Y : Type 0} (r : Result X Stop) (before now : Result Y Refusal) (refusal : Refusal)

@@ -1,8 +1,8 @@
 -- Plain scalars (YAML 1.2.2, 7.3.3).
-use Rattle.std.specs.Prelude.{◌≡◌, ◌<◌, ◌≤◌, ℕ, zero, suc, pred, ◌+◌, ◌-◌, Bool, true, false, ◌||◌, ◌&&◌, ◌==◌, not, nat_lt, List, [], ◌∷◌, ◌++◌, length, slice_index, Result, Ok, Option, Some, None, if◌then◌else◌, encode_utf8, string_bytes}
+use Rattle.std.specs.Prelude.{◌≡◌, ◌<◌, ◌≤◌, ℕ, zero, suc, pred, ◌+◌, ◌-◌, Bool, true, false, ◌||◌, ◌&&◌, ◌==◌, not, nat_lt, List, [], ◌∷◌, ◌++◌, length, take, slice_index, Result, Ok, Option, Some, None, if◌then◌else◌, encode_utf8, string_bytes}
 use Rattle.saphyr_input.specs.Classes.{is_z, is_break, is_blank, is_blank_or_breakz, is_flow, is_bom, tab, line_feed, space}
-use Rattle.saphyr_input.specs.Places.{can_be_plain, is_document_indicator, is_blank_or_break, Transfers}
-use Rattle.saphyr_input.specs.Indicators.{colon, hyphen, number_sign}
+use Rattle.saphyr_input.specs.Places.{can_be_plain, is_document_indicator, is_blank_or_break}
+use Rattle.saphyr_input.specs.Indicators.{hyphen, number_sign}
 use Rattle.saphyr_scalar.specs.declared.scalar.position.Marker.{Marker}
 use Rattle.saphyr_scalar.specs.declared.scalar.fault.Refusal.{Refusal}
 use Rattle.saphyr_scalar.specs.declared.scalar.fault.FaultText.TheVariants as fault
@@ -20,16 +20,6 @@ is_in_word in_flow xs = not (is_blank_or_breakz (slice_index xs 0)) && can_be_pl
 abbrev pub word_len : Bool → List ℕ → ℕ
 word_len in_flow [] = 0
 word_len in_flow (c ∷ cs) = if is_in_word in_flow (c ∷ cs) then 1 + word_len in_flow cs else 0
-
--- how many colons come first with which a word goes on
-unfoldable pub colons_len : Bool → List ℕ → ℕ
-colons_len in_flow [] = 0
-colons_len in_flow (c ∷ cs) = if (c == colon) && is_in_word in_flow (c ∷ cs) then 1 + colons_len in_flow cs else 0
-
--- these colons were taken off and appended, and n is how many
-pub record TransfersColons (in_flow : Bool) (n : ℕ) (before after text grown : List ℕ) : Type 0 where
-  pub count : n ≡ colons_len in_flow before
-  pub transfers : Transfers n before after text grown
 
 -- whether a word of the scalar begins: neither a comment nor a document marker does, and in flow no lone `-`
 unfoldable pub word_starts : Bool → Cursor → Result (Bool × Cursor) Refusal
@@ -98,13 +88,9 @@ feeds_onto indent start feeds s = lines indent start false feeds s.mark s.rest
 abbrev pub folded_gap : PlainGap → PlainGap
 folded_gap g = record g { text = if length g.text == 0 then space ∷ [] else g.text }
 
--- what is between two words reads as: a break before no empty line as a space
-abbrev pub gap_text : Bool → List ℕ → List ℕ
-gap_text over_lines text = if over_lines && (length text == 0) then space ∷ [] else text
-
--- what contracts see of a gap after a word: its blanks, or a line feed for each empty line
-abbrev pub seen_word_gap : Bool → List ℕ → Cursor → PlainGap
-seen_word_gap tabbed text s = seen_gap tabbed (gap_text s.blank_so_far text) s
+-- a text before what a gap reads as
+abbrev pub gap_onto : List ℕ → Result PlainGap Refusal → Result PlainGap Refusal
+gap_onto text read = read >>= λ g. Ok (record g { text = text ++ g.text })
 
 -- a line after a word's line begins
 abbrev pub next_lines : ℕ → Marker → Cursor → Result PlainGap Refusal
@@ -173,6 +159,13 @@ unfoldable mutual
       else gap indent start (mid_line m (c ∷ cs)) >>= λ g.
       if gap_len (c ∷ cs) g == 0 then scalar_end in_flow m g else word_behind_gap in_flow indent start m g
       (pred (gap_len (c ∷ cs) g)) cs
+
+-- What is read of a scalar behind a gap: its text has what the gap reads as at its end, and had so many bytes at the
+-- end of the word before.
+abbrev pub scalar_behind_gap : Bool → ℕ → Marker → ℕ → Marker → Bool → List ℕ → Cursor → PlainScalarRead
+scalar_behind_gap in_flow indent start len end tabbed text s = next_word_starts in_flow indent s >>= λ b.
+    if b.0 then with_text text (word in_flow indent start b.1.mark b.1.rest)
+    else Ok (take len text, end, comment_of in_flow tabbed b.1, b.1)
 
 -- A plain scalar: its text, the place after its last word, a comment that keeps it from going on, and what is
 -- after it. `indent` is the first column to the right of the enclosing block collection.

@@ -174,6 +174,17 @@ with_front_run p text s =
 abbrev pub with_run : (ℕ → Bool) → List ℕ → Cursor → List ℕ × Cursor
 with_run p text s = (text ++ encode_utf8_all (take (prefix_len p s.rest) s.rest), pass (prefix_len p s.rest) s)
 
+-- blanks are put after a text, unless they end their line
+abbrev pub with_blanks : List ℕ → Cursor → List ℕ × Cursor
+with_blanks text s = (
+  if is_break (slice_index (drop (prefix_len is_blank s.rest) s.rest) 0) then text else (with_run is_blank text s).0,
+  (with_run is_blank text s).1,
+)
+
+-- what contracts see of blanks that were moved: the text and the reader
+abbrev pub seen_blanks : ℕ → List ℕ → Cursor → List ℕ × Cursor
+seen_blanks _ text s = (text, s)
+
 -- a break after a backslash
 abbrev pub is_escaped_break : Quote → List ℕ → Bool
 is_escaped_break Single xs = false

@@ -4,11 +4,12 @@ mod gap;
 mod words;
 
 ghost use Rattle.std.specs.Prelude.{◌≡◌, ◌≤◌, slice_index, string_bytes, false, true};
+ghost use Rattle.std.specs.String.Boundary.{IsSplitPoint};
 ghost use Rattle.saphyr_scalar.specs.Steps.Plain as spec;
 ghost use Rattle.saphyr_scalar.specs.Steps.PlainLines as lines;
 
 use crate::scalar::fault::{FaultText, Refusal, Stop};
-use crate::scalar::plain::gap::{is_blank_or_break, push_gap};
+use crate::scalar::plain::gap::is_blank_or_break;
 use crate::scalar::position::Marker;
 use crate::scalar::reader::Reader;
 use saphyr_input::char_traits::{is_blank, is_break};
@@ -32,6 +33,15 @@ pub struct PlainScalar {
 pub struct PlainEnd {
     pub end: Marker,
     pub comment: Option<Marker>,
+}
+
+// Where a word of a plain scalar ended: its place, and how many bytes the text had. Also whether a tab is in the
+// indentation of the line that the gap behind it reaches.
+#[derive(Clone, Copy)]
+struct WordEnd {
+    mark: Marker,
+    len: usize,
+    tabbed: bool,
 }
 
 impl<T: Input> Reader<T> {
@@ -63,12 +73,42 @@ impl<T: Input> Reader<T> {
         }
     }
 
+    // Moves what is left of a plain scalar behind a gap to the end of its text, which has what the gap reads as at its
+    // end. Takes that off the text again where no word follows.
+    #[inline(never)]
+    fn read_plain_behind(
+        &mut self,
+        in_flow: bool,
+        indent: usize,
+        start: Marker,
+        mut word_end: WordEnd,
+        mut text: String,
+    ) -> Result<PlainScalar, Stop>
+        requires { IsSplitPoint (string_bytes text) word_end.len }
+        ensures { ReadsBy spec.seen_plain_scalar (λ s. spec.scalar_behind_gap in_flow indent start
+            word_end.len word_end.mark word_end.tabbed (string_bytes text) s) self.old result
+            self.new }
+    {
+        loop {
+            if !self.next_plain_word_starts(in_flow, indent)? {
+                text.truncate(word_end.len);
+                let comment = self.plain_comment(in_flow, word_end.tabbed);
+                let end = word_end.mark;
+                return Ok(PlainScalar { text, end, comment });
+            }
+            self.read_plain_words(in_flow, &mut text)?;
+            let mark = self.mark;
+            let len = text.len();
+            let tabbed = self.read_word_gap(indent, start, &mut text)?;
+            word_end = WordEnd { mark, len, tabbed };
+        }
+    }
+
     // Moves what is left of a plain scalar after a word to the end of its text, and takes off the blanks
     // and breaks after it.
     #[inline(never)]
     fn read_plain_rest(
         &mut self,
-        alloc: Global,
         in_flow: bool,
         indent: usize,
         start: Marker,
@@ -79,25 +119,11 @@ impl<T: Input> Reader<T> {
         ensures { ReadsBy spec.seen_plain_scalar (λ s. spec.with_text (string_bytes text)
             (spec.word in_flow indent start s.mark s.rest)) self.old result self.new }
     {
-        let mut gap = String::new(alloc);
-        loop {
-            let end = self.mark;
-            let c = self.look();
-            gap.clear();
-            let tabbed = if !is_break(c) {
-                self.read_spaced_gap(indent, start, &mut gap)?
-            } else if self.skip_plain_break(c) {
-                false
-            } else {
-                self.skip_empty_lines(indent, start, &mut gap)?
-            };
-            if !self.next_plain_word_starts(in_flow, indent)? {
-                let comment = self.plain_comment(in_flow, tabbed);
-                return Ok(PlainScalar { text, end, comment });
-            }
-            push_gap(&mut text, self.blank_so_far, gap.as_str())?;
-            self.read_words_behind(in_flow, gap.as_str(), &mut text)?;
-        }
+        let mark = self.mark;
+        let len = text.len();
+        let tabbed = self.read_word_gap(indent, start, &mut text)?;
+        let word_end = WordEnd { mark, len, tabbed };
+        self.read_plain_behind(in_flow, indent, start, word_end, text)
     }
 
     // Moves what is left of a plain scalar after a line's break and maybe spaces to the end of its text,
@@ -105,31 +131,20 @@ impl<T: Input> Reader<T> {
     #[inline(never)]
     fn read_plain_lines(
         &mut self,
-        alloc: Global,
         in_flow: bool,
         indent: usize,
         start: Marker,
-        behind_word: Marker,
+        mark: Marker,
         mut text: String,
     ) -> Result<PlainScalar, Stop>
         requires { (cursor_of self.old).blank_so_far ≡ true }
         ensures { ReadsBy spec.seen_plain_scalar (λ s. spec.with_text (string_bytes text)
-            (lines.scalar_behind_line in_flow indent start behind_word s)) self.old result
-            self.new }
+            (lines.scalar_behind_line in_flow indent start mark s)) self.old result self.new }
     {
-        let mut feeds = String::new(alloc);
-        let tabbed = self.skip_empty_lines(indent, start, &mut feeds)?;
-        if !self.next_plain_word_starts(in_flow, indent)? {
-            let comment = self.plain_comment(in_flow, tabbed);
-            return Ok(PlainScalar {
-                text,
-                end: behind_word,
-                comment,
-            });
-        }
-        push_gap(&mut text, self.blank_so_far, feeds.as_str())?;
-        self.read_plain_words(in_flow, &mut text)?;
-        self.read_plain_rest(alloc, in_flow, indent, start, text)
+        let len = text.len();
+        let tabbed = self.read_folded_lines(indent, start, &mut text)?;
+        let word_end = WordEnd { mark, len, tabbed };
+        self.read_plain_behind(in_flow, indent, start, word_end, text)
     }
 
     // Whether this place, where `c` is, is left of where a scalar outside flow can go on.
@@ -196,9 +211,9 @@ impl<T: Input> Reader<T> {
             return Ok(PlainScalar { text, end, comment });
         }
         if is_break(c) {
-            return self.read_plain_lines(alloc, in_flow, indent, start, end, text);
+            return self.read_plain_lines(in_flow, indent, start, end, text);
         }
-        self.read_plain_rest(alloc, in_flow, indent, start, text)
+        self.read_plain_rest(in_flow, indent, start, text)
     }
 
     /// The same, with its text put behind another. If it fails, nothing is known of what is left of that text.
@@ -231,7 +246,7 @@ impl<T: Input> Reader<T> {
             });
         }
         let whole = replace(text, String::new(alloc));
-        let scalar = self.read_plain_rest(alloc, in_flow, indent, start, whole)?;
+        let scalar = self.read_plain_rest(in_flow, indent, start, whole)?;
         *text = scalar.text;
         Ok(PlainEnd {
             end: scalar.end,

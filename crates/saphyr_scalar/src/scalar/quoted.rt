@@ -41,7 +41,6 @@ impl<T: Input> Reader<T> {
     #[inline(always)]
     fn read_quoted_parts(
         &mut self,
-        alloc: Global,
         quote: Quote,
         indent: usize,
         start: Marker,
@@ -50,14 +49,13 @@ impl<T: Input> Reader<T> {
         ensures { ReadsTextBy (λ s. spec.with_front (string_bytes text)
             (spec.inner_text_at quote indent start spec.no_gap s)) self.old result self.new }
     {
-        let mut blanks = String::new(alloc);
         let mut next = self.look();
         loop {
             let c = self.read_quoted_word(next, quote, start, &mut text)?;
             if c == quote.mark() {
                 break;
             }
-            next = self.read_quoted_gap(c, quote, indent, start, &mut blanks, &mut text)?;
+            next = self.read_quoted_gap(c, quote, indent, start, &mut text)?;
         }
         self.skip_non_blank();
         Ok(text)
@@ -67,7 +65,6 @@ impl<T: Input> Reader<T> {
     #[inline(never)]
     fn read_double_rest(
         &mut self,
-        alloc: Global,
         indent: usize,
         start: Marker,
         text: String,
@@ -75,14 +72,13 @@ impl<T: Input> Reader<T> {
         ensures { ReadsTextBy (λ s. spec.with_front (string_bytes text)
             (spec.inner_text_at Double indent start spec.no_gap s)) self.old result self.new }
     {
-        self.read_quoted_parts(alloc, Quote::Double, indent, start, text)
+        self.read_quoted_parts(Quote::Double, indent, start, text)
     }
 
     // The same of a single quoted scalar.
     #[inline(never)]
     fn read_single_rest(
         &mut self,
-        alloc: Global,
         indent: usize,
         start: Marker,
         text: String,
@@ -90,14 +86,13 @@ impl<T: Input> Reader<T> {
         ensures { ReadsTextBy (λ s. spec.with_front (string_bytes text)
             (spec.inner_text_at Single indent start spec.no_gap s)) self.old result self.new }
     {
-        self.read_quoted_parts(alloc, Quote::Single, indent, start, text)
+        self.read_quoted_parts(Quote::Single, indent, start, text)
     }
 
     // The same of either kind. Each has a loop of its own, which doesn't ask again and again which kind it is.
     #[inline(always)]
     fn read_quoted_rest(
         &mut self,
-        alloc: Global,
         quote: Quote,
         indent: usize,
         start: Marker,
@@ -107,8 +102,8 @@ impl<T: Input> Reader<T> {
             (spec.inner_text_at quote indent start spec.no_gap s)) self.old result self.new }
     {
         match quote {
-            Quote::Double => self.read_double_rest(alloc, indent, start, text),
-            Quote::Single => self.read_single_rest(alloc, indent, start, text),
+            Quote::Double => self.read_double_rest(indent, start, text),
+            Quote::Single => self.read_single_rest(indent, start, text),
         }
     }
 
@@ -133,7 +128,7 @@ impl<T: Input> Reader<T> {
             return Ok(());
         }
         let whole = replace(text, String::new(alloc));
-        *text = self.read_quoted_rest(alloc, quote, indent, start, whole)?;
+        *text = self.read_quoted_rest(quote, indent, start, whole)?;
         Ok(())
     }
 

@@ -1,14 +1,16 @@
 //! Runs of a set of characters, moved from a text to the end of another.
 
+ghost use Rattle.std.specs.Prelude.{◌≡◌, ◌≤◌, slice_index, IfOk, OnOk, Ok};
 ghost use Rattle.saphyr_scalar.specs.Steps.Quoted as spec;
 
 use crate::scalar::fault::Stop;
 use crate::scalar::reader::Reader;
-use saphyr_input::char_set::CharSet;
+use saphyr_input::char_set::{Blank, CharSet};
+use saphyr_input::char_traits::is_break;
 use saphyr_input::input::Input;
 
 impl<T: Input> Reader<T> {
-    ghost use Rattle.saphyr_scalar.specs.Views.Reader.{AppendsBy};
+    ghost use Rattle.saphyr_scalar.specs.Views.Reader.{cursor_of, loaded, AppendsBy, WritesBy};
 
     // Moves a run of a set. Whether only blanks are before the place stays as it is.
     #[inline]
@@ -29,5 +31,23 @@ impl<T: Input> Reader<T> {
         self.move_run::<C>(text)?;
         self.blank_so_far = false;
         Ok(())
+    }
+
+    // Moves blanks to the end of a text, unless they end their line, and returns the character behind them.
+    #[inline]
+    pub(crate) fn read_blanks(&mut self, text: &mut String) -> Result<char, Stop>
+        ensures moved { WritesBy spec.seen_blanks (λ text s. Ok (spec.with_blanks text s)) text.old
+            self.old result text.new self.new }
+        ensures next { IfOk result (λ c. c ≡ slice_index (cursor_of self.new).rest 0) }
+        ensures loaded { OnOk result (1 ≤ loaded self.new) }
+    {
+        let before = text.len();
+        self.read_run::<Blank>(text)?;
+        let c = self.look();
+        if !is_break(c) {
+            return Ok(c);
+        }
+        text.truncate(before);
+        Ok(c)
     }
 }

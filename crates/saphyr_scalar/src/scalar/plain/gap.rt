@@ -1,17 +1,15 @@
 //! What is between two words of a plain scalar: blanks, or line breaks and empty lines, which are folded (YAML
 //! 1.2.2, 7.3.3 and 6.5).
 
-ghost use Rattle.std.specs.Prelude.{◌≡◌, ◌≤◌, ◌-◌, ◌^◌, ◌++◌, not, slice_index, string_bytes, OnOk, false, true};
+ghost use Rattle.std.specs.Prelude.{◌≡◌, ◌≤◌, slice_index, true};
 ghost use Rattle.saphyr_input.specs.Places as place;
 ghost use Rattle.saphyr_scalar.specs.Steps.Plain as spec;
-ghost use Rattle.saphyr_scalar.specs.Views.Cursor as cursor;
 
 use crate::scalar::fault::{FaultText, Refusal, Stop};
 use crate::scalar::position::Marker;
 use crate::scalar::reader::Reader;
 use saphyr_input::char_traits::{is_blank, is_bom, is_break, is_z};
 use saphyr_input::input::Input;
-use std::alloc::AllocError;
 
 // Whether a character is a blank or a break.
 #[inline]
@@ -19,19 +17,6 @@ pub(super) fn is_blank_or_break(c: char) -> bool
     ensures { result ≡ place.is_blank_or_break c }
 {
     is_blank(c) || is_break(c)
-}
-
-// Moves what a gap between two words reads as to the end of a text: a break before no empty line
-// is a space.
-#[inline]
-pub(super) fn push_gap(text: &mut String, over_lines: bool, gap: &str) -> Result<(), AllocError>
-    ensures { OnOk result (string_bytes text.new
-        ≡ string_bytes text.old ++ spec.gap_text over_lines gap.now) }
-{
-    if over_lines && gap.is_empty() {
-        return text.push(' ');
-    }
-    text.push_str(gap)
 }
 
 impl<T: Input> Reader<T> {
@@ -114,41 +99,47 @@ impl<T: Input> Reader<T> {
         Ok(tabbed)
     }
 
-    // Takes off a break `c` and the spaces after it. Whether the line that is reached goes on with neither a
-    // blank nor a break, as mostly: then nothing else is between two words.
+    // Takes off the lines after a break, from the start of the first on, up to what is on the line that is reached.
+    // Appends what the break and these lines read as to a text. Returns whether a tab is in the indentation there.
     #[inline(always)]
-    pub(super) fn skip_plain_break(&mut self, c: char) -> bool
-        requires first { c ≡ slice_index (cursor_of self.old).rest 0 }
-        requires loaded { 1 ≤ loaded self.old }
-        ensures passed { cursor_of self.new
-            ≡ cursor.pass_spaces (2 ^ 64 - 1) (cursor.pass_break (cursor_of self.old)) }
-        ensures value { result
-            ≡ not (place.is_blank_or_break (slice_index (cursor_of self.new).rest 0)) }
-    {
-        self.skip_seen_break(c);
-        !is_blank_or_break(self.look_behind_spaces())
-    }
-
-    // Takes off what follows a word, and replaces a text by it: by the blanks, or a line feed for each
-    // empty line. Returns whether a tab is in the indentation of the line that is reached.
-    #[inline(always)]
-    #[tactic(auto, unfolding(crate::specs::Steps::Plain::gap, crate::specs::Steps::Plain::gap_from))]
-    pub(super) fn read_spaced_gap(
+    pub(super) fn read_folded_lines(
         &mut self,
         indent: usize,
         start: Marker,
-        gap: &mut String,
+        text: &mut String,
     ) -> Result<bool, Stop>
-        ensures { WritesBy spec.seen_word_gap (λ _. spec.gap indent start) gap.old self.old result
-            gap.new self.new }
+        requires { (cursor_of self.old).blank_so_far ≡ true }
+        ensures { WritesBy spec.seen_gap (λ text s. spec.gap_onto text (spec.next_lines indent start s))
+            text.old self.old result text.new self.new }
     {
-        gap.clear();
-        self.read_blanks(gap)?;
-        if !is_break(self.look()) {
+        let before = text.len();
+        let tabbed = self.skip_empty_lines(indent, start, text)?;
+        if text.len() > before {
+            return Ok(tabbed);
+        }
+        // A break before no empty line reads as a space.
+        text.push(' ')?;
+        Ok(tabbed)
+    }
+
+    // Takes off what follows a word, and appends what it reads as to a text. Returns whether a tab is in the
+    // indentation of the line that is reached.
+    #[inline(always)]
+    #[tactic(auto, unfolding(crate::specs::Steps::Plain::gap, crate::specs::Steps::Plain::gap_from))]
+    pub(super) fn read_word_gap(
+        &mut self,
+        indent: usize,
+        start: Marker,
+        text: &mut String,
+    ) -> Result<bool, Stop>
+        ensures { WritesBy spec.seen_gap (λ text s. spec.gap_onto text (spec.gap indent start s))
+            text.old self.old result text.new self.new }
+    {
+        let c = self.read_blanks(text)?;
+        if !is_break(c) {
             return Ok(false);
         }
-        gap.clear();
-        self.skip_line_break();
-        self.skip_empty_lines(indent, start, gap)
+        self.skip_seen_break(c);
+        self.read_folded_lines(indent, start, text)
     }
 }

@@ -2,8 +2,7 @@
 
 ghost use Rattle.std.specs.Prelude.{◌≡◌, ◌<◌, ◌≤◌, ◌&&◌, ◌||◌, not, slice_index, string_bytes, IfOk, IsTrue, OnOk, false, true, refl};
 ghost use Rattle.saphyr_input.specs.Classes as class;
-ghost use Rattle.saphyr_input.specs.Indicators.{colon};
-ghost use Rattle.saphyr_input.specs.Places.{TransfersBlankWords, TransfersFront, TransfersWords};
+ghost use Rattle.saphyr_input.specs.Places.{TransfersFront, TransfersWords};
 ghost use Rattle.saphyr_scalar.specs.Steps.Plain as spec;
 ghost use Rattle.saphyr_scalar.specs.Steps.Sets as sets;
 
@@ -163,37 +162,6 @@ impl<T: Input> Reader<T> {
         }
     }
 
-    // Moves colons to the end of a text, as far as a word goes on with them, and returns how many. The first
-    // character is `c`. The place stays.
-    #[inline(always)]
-    fn fetch_plain_colons(
-        &mut self,
-        mut c: char,
-        in_flow: bool,
-        text: &mut String,
-    ) -> Result<usize, AllocError>
-        requires first { c ≡ slice_index (cursor_of self.old).rest 0 }
-        requires loaded { 1 ≤ loaded self.old }
-        ensures colons { IfOk result (λ n. spec.TransfersColons in_flow n (cursor_of self.old).rest
-            (cursor_of self.new).rest (string_bytes text.old) (string_bytes text.new)) }
-        ensures mark { (cursor_of self.new).mark ≡ (cursor_of self.old).mark }
-        ensures loaded { OnOk result (1 ≤ loaded self.new) }
-    {
-        let mut count = 0;
-        while c == ':' {
-            self.load(2);
-            let next = self.input.peek_nth(1);
-            if !is_colon_in_word(next, in_flow) {
-                return Ok(count);
-            }
-            self.input.skip();
-            text.push(':')?;
-            count += 1;
-            c = next;
-        }
-        Ok(count)
-    }
-
     // Moves the rest of a word to the end of a text, and the words after it, each with a single space
     // before it. Returns the character at which they end.
     pub(super) fn read_plain_words(
@@ -210,11 +178,13 @@ impl<T: Input> Reader<T> {
         let end = loop {
             count += self.fetch_plain_words(in_flow, text)?;
             let c = self.look();
-            let colons = self.fetch_plain_colons(c, in_flow, text)?;
-            if colons == 0 {
+            // A word goes on with a colon here, or ends.
+            if !self.is_in_plain_word(c, in_flow) {
                 break c;
             }
-            count += colons;
+            self.input.skip();
+            text.push(c)?;
+            count += 1;
         };
         self.mark = self.mark.along(count);
         self.blank_so_far = false;
@@ -238,21 +208,6 @@ impl<T: Input> Reader<T> {
             return is_blank_or_breakz(self.input.peek_nth(1));
         }
         c < '\u{80}'
-    }
-
-    // The same where a colon comes first: colons are moved before words are looked for.
-    #[inline(never)]
-    fn read_colon_words(&mut self, in_flow: bool, text: &mut String) -> Result<char, AllocError>
-        requires first { slice_index (cursor_of self.old).rest 0 ≡ colon }
-        requires loaded { 1 ≤ loaded self.old }
-        ensures words { OnOk result (spec.PlainWordsMoved in_flow (string_bytes text.old)
-            (string_bytes text.new) (cursor_of self.old) (cursor_of self.new)) }
-        ensures end { IfOk result (λ c. c ≡ slice_index (cursor_of self.new).rest 0) }
-        ensures loaded { OnOk result (1 ≤ loaded self.new) }
-    {
-        let count = self.fetch_plain_colons(':', in_flow, text)?;
-        self.mark = self.mark.along(count);
-        self.read_plain_words(in_flow, text)
     }
 
     // Whether the first character is ASCII.
@@ -298,9 +253,6 @@ impl<T: Input> Reader<T> {
         if self.ends_words(c, in_flow) {
             return Ok(c);
         }
-        if c == ':' {
-            return self.read_colon_words(in_flow, text);
-        }
         self.read_plain_words(in_flow, text)
     }
 
@@ -325,62 +277,5 @@ impl<T: Input> Reader<T> {
         } else {
             self.input.fetch_front_words::<PlainOutside>(text)
         }
-    }
-
-    // Moves blanks on this line and the words behind them to the end of a text, and returns how many characters. It
-    // may be none. The place stays.
-    #[inline(always)]
-    fn fetch_plain_blank_words(
-        &mut self,
-        in_flow: bool,
-        text: &mut String,
-    ) -> Result<usize, AllocError>
-        ensures words { IfOk result (λ n. TransfersBlankWords (sets.in_plain in_flow)
-            (sets.leads_plain in_flow) n (cursor_of self.old).rest (cursor_of self.new).rest
-            (string_bytes text.old) (string_bytes text.new)) }
-        ensures mark { (cursor_of self.new).mark ≡ (cursor_of self.old).mark }
-        ensures line { (cursor_of self.new).blank_so_far ≡ (cursor_of self.old).blank_so_far }
-    {
-        if in_flow {
-            self.input.fetch_blank_words::<PlainInFlow>(text)
-        } else {
-            self.input.fetch_blank_words::<PlainOutside>(text)
-        }
-    }
-
-    // Moves the rest of a word and the words after it to the end of a text, with any blanks between these as far as
-    // the input takes them at once.
-    #[inline(never)]
-    fn read_plain_blank_words(&mut self, in_flow: bool, text: &mut String) -> Result<(), AllocError>
-        ensures { OnOk result (spec.PlainWordsMoved in_flow (string_bytes text.old)
-            (string_bytes text.new) (cursor_of self.old) (cursor_of self.new)) }
-    {
-        self.read_plain_words(in_flow, text)?;
-        let count = self.fetch_plain_blank_words(in_flow, text)?;
-        if count == 0 {
-            return Ok(());
-        }
-        self.mark = self.mark.along(count);
-        self.read_plain_words(in_flow, text)?;
-        Ok(())
-    }
-
-    // Moves the words behind a gap to the end of a text. Behind a tab or several blanks there may be more such gaps.
-    #[inline(always)]
-    pub(super) fn read_words_behind(
-        &mut self,
-        in_flow: bool,
-        gap: &str,
-        text: &mut String,
-    ) -> Result<(), AllocError>
-        ensures { OnOk result (spec.PlainWordsMoved in_flow (string_bytes text.old)
-            (string_bytes text.new) (cursor_of self.old) (cursor_of self.new)) }
-    {
-        let bytes = gap.as_bytes();
-        if bytes.is_empty() || bytes.len() == 1 && bytes[0] != b'\t' {
-            self.read_plain_words(in_flow, text)?;
-            return Ok(());
-        }
-        self.read_plain_blank_words(in_flow, text)
     }
 }

@@ -40,26 +40,7 @@ fn is_later_word(c: char, col: usize, indent: usize) -> bool
 }
 
 impl<T: Input> Reader<T> {
-    ghost use Rattle.saphyr_scalar.specs.Views.Reader.{cursor_of, loaded, PassesBy, AppendsBy, ReadsOn, IsNoLonger, IsShorter};
-
-    // Moves the blanks inside a text to its end.
-    #[inline(always)]
-    pub(crate) fn read_blanks(&mut self, text: &mut String) -> Result<(), Stop>
-        ensures { AppendsBy (spec.with_run class.is_blank) text.old self.old result text.new
-            self.new }
-    {
-        let mut count = 0;
-        let mut c = self.input.look_ch();
-        while is_blank(c) {
-            text.push(c)?;
-            self.input.skip();
-            count += 1;
-            c = self.input.look_ch();
-        }
-        self.mark = self.mark.along(count);
-        self.blank_so_far = false;
-        Ok(())
-    }
+    ghost use Rattle.saphyr_scalar.specs.Views.Reader.{cursor_of, loaded, PassesBy, ReadsOn, IsNoLonger, IsShorter};
 
     // Takes off the empty lines, and the blanks before what follows them. Returns how many lines.
     #[inline(never)]
@@ -212,15 +193,13 @@ impl<T: Input> Reader<T> {
         self.read_quoted_lines(true, indent, start, text)
     }
 
-    // The same of blanks before a break or the end, and of a NUL. Other blanks are here where the input takes no blanks
-    // together with words.
+    // The same of blanks on a line.
     #[inline(always)]
-    fn read_blanks_alone(
+    fn read_blank_gap(
         &mut self,
         quote: Quote,
         indent: usize,
         start: Marker,
-        blanks: &mut String,
         text: &mut String,
     ) -> Result<char, Stop>
         requires ended { IsTrue (spec.ends_word quote (cursor_of self.old).rest) }
@@ -234,11 +213,9 @@ impl<T: Input> Reader<T> {
         ensures next { IfOk result (λ c. c ≡ slice_index (cursor_of self.new).rest 0) }
         ensures loaded { OnOk result (1 ≤ loaded self.new) }
     {
-        blanks.clear();
-        self.read_blanks(blanks)?;
-        let c = self.look();
+        let c = self.read_blanks(text)?;
         if is_break(c) {
-            self.skip_line_break();
+            self.skip_seen_break(c);
             return self.read_quoted_lines(false, indent, start, text);
         }
         if is_z(c) {
@@ -247,38 +224,7 @@ impl<T: Input> Reader<T> {
                 mark: start,
             }));
         }
-        text.push_str(blanks.as_str())?;
         Ok(c)
-    }
-
-    // The same of what begins with neither a break nor a backslash. Mostly these are blanks before a word: then the
-    // words behind them are taken off as well.
-    #[inline(always)]
-    fn read_blank_gap(
-        &mut self,
-        quote: Quote,
-        indent: usize,
-        start: Marker,
-        blanks: &mut String,
-        text: &mut String,
-    ) -> Result<char, Stop>
-        requires ended { IsTrue (spec.ends_word quote (cursor_of self.old).rest) }
-        requires open { (slice_index (cursor_of self.old).rest 0 == flow.mark quote) ≡ false }
-        requires plain { (slice_index (cursor_of self.old).rest 0 == backslash) ≡ false }
-        ensures same { ReadsOn result (spec.with_front (string_bytes text.old)
-            (spec.inner_text_at quote indent start spec.no_gap (cursor_of self.old)))
-            (spec.with_front (string_bytes text.new)
-            (spec.inner_text_at quote indent start spec.no_gap (cursor_of self.new))) }
-        ensures shorter { OnOk result (IsShorter self.old self.new) }
-        ensures next { IfOk result (λ c. c ≡ slice_index (cursor_of self.new).rest 0) }
-        ensures loaded { OnOk result (1 ≤ loaded self.new) }
-    {
-        let count = self.fetch_literal_blank_words(quote, text)?;
-        if count == 0 {
-            return self.read_blanks_alone(quote, indent, start, blanks, text);
-        }
-        self.mark = self.mark.along(count);
-        Ok(self.look())
     }
 
     // Takes off what is between two words, up to the next word or the closing quote. Appends what it
@@ -290,7 +236,6 @@ impl<T: Input> Reader<T> {
         quote: Quote,
         indent: usize,
         start: Marker,
-        blanks: &mut String,
         text: &mut String,
     ) -> Result<char, Stop>
         requires first { c ≡ slice_index (cursor_of self.old).rest 0 }
@@ -313,6 +258,6 @@ impl<T: Input> Reader<T> {
         if c == '\\' {
             return self.read_escaped_break(quote, indent, start, text);
         }
-        self.read_blank_gap(quote, indent, start, blanks, text)
+        self.read_blank_gap(quote, indent, start, text)
     }
 }

@@ -2,7 +2,7 @@
 //! quotes (YAML 1.2.2, 7.3.1, 7.3.2 and 5.7).
 
 ghost use Rattle.std.specs.Prelude.{◌≡◌, ℕ, ◌≤◌, false, slice_index, string_bytes, IfNone, IfOk, None, Ok, OnOk, IsTrue, ◌==◌};
-ghost use Rattle.saphyr_input.specs.Places.{TransfersBlankWords, TransfersWords};
+ghost use Rattle.saphyr_input.specs.Places.{TransfersWords};
 ghost use Rattle.saphyr_scalar.specs.Steps.Quoted as spec;
 ghost use Rattle.saphyr_scalar.specs.Steps.Sets as sets;
 ghost use Rattle.saphyr_scalar.specs.Views.Cursor.{Cursor};
@@ -120,25 +120,6 @@ impl<T: Input> Reader<T> {
         match quote {
             Quote::Single => self.input.fetch_words::<InSingle>(text),
             Quote::Double => self.input.fetch_words::<InDouble>(text),
-        }
-    }
-
-    // Moves blanks and the words behind them to the end of a text, and returns how many characters. It may be none.
-    // The place stays.
-    #[inline(always)]
-    pub(super) fn fetch_literal_blank_words(
-        &mut self,
-        quote: Quote,
-        text: &mut String,
-    ) -> Result<usize, AllocError>
-        ensures words { IfOk result (λ n. TransfersBlankWords (spec.is_literal quote)
-            sets.is_content n (cursor_of self.old).rest (cursor_of self.new).rest
-            (string_bytes text.old) (string_bytes text.new)) }
-        ensures mark { (cursor_of self.new).mark ≡ (cursor_of self.old).mark }
-    {
-        match quote {
-            Quote::Single => self.input.fetch_blank_words::<InSingle>(text),
-            Quote::Double => self.input.fetch_blank_words::<InDouble>(text),
         }
     }
 

@@ -1,54 +1,58 @@
-use Rattle.std.proofs.Common.{◌≡◌, true, false, refl, ◌∙◌, sym, ap, string_bytes}
-use Rattle.saphyr_input.specs.Classes as class
-use Rattle.saphyr_input.proofs.Runs.{runs_more, runs_text, run_counts, run_shorter, one_ready}
-use Rattle.saphyr_scalar.specs.declared.scalar.position.Marker.{Marker}
-use Rattle.saphyr_scalar.specs.Views.Cursor.{along}
+use Rattle.std.proofs.Common.{◌≡◌, ℕ, true, false, List, ◌++◌, length, take, slice_index, string_bytes, Ok, sym, ap, ◌∙◌, encode_utf8_all, rules}
+use Rattle.std.specs.List.{prefix_len}
+use Rattle.std.specs.String.Boundary.{IsSplitPoint}
+use Rattle.std.proofs.Math.Seq.{take-append_seam}
+use Rattle.saphyr_input.specs.Classes.{is_blank, is_break}
+use Rattle.saphyr_scalar.specs.Views.Cursor.{Cursor}
 use Rattle.saphyr_scalar.specs.Views.Reader.{cursor_of}
-use Rattle.saphyr_scalar.proofs.Runs.{run_moved}
-use Rattle.saphyr_scalar.proofs.Lengths.{run_place_fits, run_left, column_left}
+use Rattle.saphyr_scalar.proofs.Choices.{shows}
+use Rattle.saphyr_scalar.proofs.Quoted.Inside.{Moved, moved_of, SameBlanks}
+use Rattle.saphyr_scalar.proofs.Runs.{cuts_before_blanks}
 use Rattle.saphyr_scalar.proofs.scalar.reader.Reader.read_blanks.Goals as goal
 
-pub loop-c-preserved : goal.loop-c-preserved
-loop-c-preserved g c =
-    let passes : class.is_blank c.loop-c.c ≡ true = sym c.is_blank.ensures.test ∙ c.loop-c-test.true in
-    let next = c.look_ch-c-in-loop-c.ensures in
-    record {
-      runs = runs_more class.is_blank _ _ _ _ _ _ _ _ refl passes c.loop-c.invariant.runs
-          (next.rest ∙ c.skip.ensures.rest) (rw next.rest next.value) (one_ready _ _ next.loaded);
-      text = runs_text class.is_blank _ _ _ _ _ _ _ _ refl passes c.loop-c.invariant.runs c.loop-c.invariant.text
-          c.in_ok-push.ensures.bytes;
-      mark = c.loop-c.invariant.mark;
-    }
+grown_by : (text grown : List ℕ) (s t : Cursor) → Moved is_blank text grown s t
+    → grown ≡ text ++ encode_utf8_all (take (prefix_len is_blank s.rest) s.rest)
+grown_by text grown s t m = sym (ap (λ (x : List ℕ × Cursor). x.0) m.is)
 
-pub overflow_add-count : goal.overflow_add-count
-overflow_add-count g c =
-    let passes : class.is_blank c.loop-c.c ≡ true = sym c.is_blank.ensures.test ∙ c.loop-c-test.true in
-    record { fits = run_counts class.is_blank _ _ _ _ _ refl passes c.loop-c.invariant.runs }
+cut : (text grown : List ℕ) (s t : Cursor) (n : ℕ) → Moved is_blank text grown s t → n ≡ length text
+    → IsSplitPoint grown n
+cut text grown s t n m is = rw (is, grown_by text grown s t m) (cuts_before_blanks text s.rest)
 
-pub loop-c-smaller : goal.loop-c-smaller
-loop-c-smaller g c =
-    let passes : class.is_blank c.loop-c.c ≡ true = sym c.is_blank.ensures.test ∙ c.loop-c-test.true in
-    run_shorter class.is_blank _ _ _ _ _ _ refl passes c.loop-c.invariant.runs
-    (c.look_ch-c-in-loop-c.ensures.rest ∙ c.skip.ensures.rest)
+cut_off : (text grown less : List ℕ) (s t : Cursor) (n : ℕ) → Moved is_blank text grown s t → n ≡ length text
+    → less ≡ take n grown → less ≡ text
+cut_off text grown less s t n m is e =
+    e ∙ rw (is, grown_by text grown s t m) (take-append_seam text _)
 
-pub along-self-requires-clause-index : goal.along-self-requires-clause-index
-along-self-requires-clause-index g c =
-    run_place_fits class.is_blank _ _ _ _ _ c.args.self.now.mark _ c.loop-c.invariant.runs c.loop-c.invariant.mark
-    c.args.self.now.fits
+kept : (text grown : List ℕ) (s t u : Cursor) → Moved is_blank text grown s t → u ≡ t
+    → is_break (slice_index t.rest 0) ≡ false → SameBlanks text grown s u
+kept text grown s t u m same h =
+    let at = ap (λ (x : List ℕ × Cursor). is_break (slice_index x.1.rest 0)) m.is ∙ h in
+    rw (at, same) (ap (λ (x : List ℕ × Cursor). Ok x) m.is)
 
-pub along-self-requires-clause-col : goal.along-self-requires-clause-col
-along-self-requires-clause-col g c = c.loop-c.self.column
+gone : (text grown less : List ℕ) (s t u : Cursor) → Moved is_blank text grown s t → u ≡ t → less ≡ text
+    → is_break (slice_index t.rest 0) ≡ true → SameBlanks text less s u
+gone text grown less s t u m same cut h =
+    let at = ap (λ (x : List ℕ × Cursor). is_break (slice_index x.1.rest 0)) m.is ∙ h in
+    rw (at, same, cut) (ap (λ (x : List ℕ × Cursor). Ok (text, x.1)) m.is)
 
-pub invariant_of-self-2 : goal.invariant_of-self-2
-invariant_of-self-2 g c = record {
-  fits = run_left class.is_blank _ _ _ _ _ c.args.self.now.mark c.loop-c.self.mark _ c.loop-c.invariant.runs
-      c.loop-c.invariant.mark c.along-self.ensures c.args.self.now.fits;
-  column = column_left c.loop-c.self.mark _ _ c.loop-c.self.column c.along-self.ensures;
-}
+pub truncate-requires : goal.truncate-requires
+truncate-requires g c _ =
+    let m = moved_of is_blank _ _ (cursor_of c.args.self.now) _ c.in_ok-read_run.ensures in
+    cut (string_bytes c.args.text.now) _ (cursor_of c.args.self.now) (cursor_of c.read_run.new.self) _ m
+    (search rules)
 
-pub returns : goal.returns
-returns g c =
-    let stops : class.is_blank c.loop-c.c ≡ false = sym c.is_blank.ensures.test ∙ c.loop-c-test.false in
-    run_moved class.is_blank (string_bytes c.args.text.now) _ (cursor_of c.args.self.now) _ _ _ _ _ stops
-    c.loop-c.invariant.runs c.loop-c.invariant.text
-    (c.along-self.ensures ∙ ap (λ (m : Marker). along m c.loop-c.count) c.loop-c.invariant.mark)
+pub returns-then-not-is_break-clause-moved : goal.returns-then-not-is_break-clause-moved
+returns-then-not-is_break-clause-moved g c =
+    let m = moved_of is_blank _ _ (cursor_of c.args.self.now) _ c.in_ok-read_run.ensures in
+    let there = cursor_of c.read_run.new.self in
+    kept (string_bytes c.args.text.now) _ (cursor_of c.args.self.now) there _ m c.look-c.ensures.same
+    (shows is_break there.rest _ _ _ c.look-c.ensures.value c.is_break.ensures.test c.if-not-is_break.true)
+
+pub returns-clause-moved : goal.returns-clause-moved
+returns-clause-moved g c =
+    let before : c.len-before.result ≡ length (string_bytes c.args.text.now) = search rules in
+    let m = moved_of is_blank _ _ (cursor_of c.args.self.now) _ c.in_ok-read_run.ensures in
+    let there = cursor_of c.read_run.new.self in
+    gone (string_bytes c.args.text.now) _ _ (cursor_of c.args.self.now) there _ m c.look-c.ensures.same
+    (cut_off (string_bytes c.args.text.now) _ _ (cursor_of c.args.self.now) there _ m before c.truncate.ensures.bytes)
+    (shows is_break there.rest _ _ _ c.look-c.ensures.value c.is_break.ensures.test c.if-not-is_break.false)

@@ -23,16 +23,6 @@ returns-then-ends_words-clause-words g c =
     (ap (λ (x : Cursor). x.mark) same ∙ c.along-self.ensures) (ap (λ (x : Cursor). x.blank_so_far) same)
     (ap (λ (x : Cursor). is_in_word f x.rest) c.ends_words.ensures.same ∙ c.if-ends_words.ensures.value refl)
 
-pub returns-then-c-eq58-clause-words : goal.returns-then-c-eq58-clause-words
-returns-then-c-eq58-clause-words g c =
-    let f = c.args.in_flow in
-    let ran = front_ran f _ _ (cursor_of c.args.self.now) (cursor_of c.fetch_front_words.new.self) _
-    c.in_ok-count.ensures.words c.fetch_front_words.ensures.mark in
-    let same = c.ends_words.ensures.same ∙ c.load.ensures.same in
-    ran_on_ok c.read_colon_words.result f _ _ _ (cursor_of c.args.self.now) (cursor_of c.fetch_front_words.new.self)
-    (cursor_of c.ends_words.new.self) _ _ ran (ap (λ (x : Cursor). x.rest) same)
-    (ap (λ (x : Cursor). x.mark) same ∙ c.along-self.ensures) c.read_colon_words.ensures.words
-
 pub returns-clause-words : goal.returns-clause-words
 returns-clause-words g c =
     let f = c.args.in_flow in

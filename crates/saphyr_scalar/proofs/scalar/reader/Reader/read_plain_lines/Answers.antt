@@ -1,57 +1,33 @@
-use Rattle.std.proofs.Common.{◌≡◌, List, string_bytes, Result, Ok, sym, ap, ◌∙◌, subst}
+use Rattle.std.proofs.Common.{◌≡◌, length, string_bytes, ap, rules, subst, Result}
+use Rattle.saphyr_scalar.specs.Steps.Plain as spec
 use Rattle.saphyr_scalar.specs.declared.scalar.fault.Refusal.{Refusal}
 use Rattle.saphyr_scalar.specs.Views.Cursor.{◌>>=◌}
-use Rattle.saphyr_scalar.specs.Steps.Plain as spec
 use Rattle.saphyr_scalar.specs.Views.Reader.{cursor_of, Moves}
-use Rattle.saphyr_scalar.proofs.Plain.Gaps.{lines_read}
-use Rattle.saphyr_scalar.proofs.Plain.LineEnds.{gap_no_turn, gap_turn}
-use Rattle.saphyr_scalar.proofs.Plain.Pieces.{plain_behind_gap, started, joined_by}
+use Rattle.saphyr_scalar.proofs.Plain.BehindGaps.{onto_refused, lines_cut, read_behind}
+use Rattle.saphyr_scalar.proofs.Plain.Pieces.{plain_behind_gap, moves_failed}
 use Rattle.saphyr_scalar.proofs.scalar.reader.Reader.read_plain_lines.Goals as goal
 
-pub returns-then-not-branch : goal.returns-then-not-branch
-returns-then-not-branch g c =
-    let f = c.args.in_flow in
-    let i = c.args.indent in
-    let start = c.args.start in
-    let end = c.args.behind_word in
-    let s = cursor_of c.args.self.now in
+pub returns-in_err-tabbed : goal.returns-in_err-tabbed
+returns-in_err-tabbed g c =
     let text = string_bytes c.args.text in
-    let feeds = string_bytes c.skip_empty_lines.new.feeds in
-    let behind = cursor_of c.skip_empty_lines.new.self in
-    let there = cursor_of c.next_plain_word_starts.new.self in
-    let gap = spec.seen_word_gap c.in_ok-tabbed.tabbed feeds behind in
-    let lines : spec.next_lines i start s ≡ Ok gap =
-    lines_read i start s.mark s.rest feeds behind (Ok c.in_ok-tabbed.tabbed)
-    (subst (λ (b : List _). spec.feeds_onto i start b s ≡ Ok (spec.seen_gap c.in_ok-tabbed.tabbed feeds behind))
-    c.new-feeds.ensures.bytes c.in_ok-tabbed.ensures) in
-    let over = started (spec.next_word_starts f i) behind there _ _ c.if-not-branch.true
-    c.in_ok-next_plain_word_starts.ensures in
-    ap (λ (r : Result spec.PlainGap Refusal). spec.with_text text (r >>= plain_behind_gap f i start end)) lines
-    ∙ gap_no_turn f i start end text gap there over
-    ∙ ap (λ x. Ok (text, end, x, there)) (sym c.plain_comment-comment.ensures.value)
-    ∙ ap (λ x. Ok (text, end, c.plain_comment-comment.result, x)) (sym c.plain_comment-comment.ensures.same)
+    moves_failed _ _ _ _ _ c.from_residual.ensures.1 c.in_err-tabbed.ensures
+    (λ r h. ap (λ (x : Result spec.PlainGap Refusal). spec.with_text text
+    (x >>= plain_behind_gap c.args.in_flow c.args.indent c.args.start c.args.mark)) (onto_refused text _ r h))
+
+pub read_plain_behind-requires : goal.read_plain_behind-requires
+read_plain_behind-requires g c =
+    let len : c.len-len.result ≡ length (string_bytes c.args.text) = search rules in
+    lines_cut c.args.indent c.args.start (string_bytes c.args.text) _ (cursor_of c.args.self.now)
+    (cursor_of c.read_folded_lines.new.self) _ _ c.in_ok-tabbed.ensures len
 
 pub returns : goal.returns
 returns g c =
+    let len : c.len-len.result ≡ length (string_bytes c.args.text) = search rules in
     let f = c.args.in_flow in
     let i = c.args.indent in
     let start = c.args.start in
-    let end = c.args.behind_word in
     let s = cursor_of c.args.self.now in
-    let text = string_bytes c.args.text in
-    let feeds = string_bytes c.skip_empty_lines.new.feeds in
-    let behind = cursor_of c.skip_empty_lines.new.self in
-    let there = cursor_of c.next_plain_word_starts.new.self in
-    let gap = spec.seen_word_gap c.in_ok-tabbed.tabbed feeds behind in
-    let lines : spec.next_lines i start s ≡ Ok gap =
-    lines_read i start s.mark s.rest feeds behind (Ok c.in_ok-tabbed.tabbed)
-    (subst (λ (b : List _). spec.feeds_onto i start b s ≡ Ok (spec.seen_gap c.in_ok-tabbed.tabbed feeds behind))
-    c.new-feeds.ensures.bytes c.in_ok-tabbed.ensures) in
-    let goes = started (spec.next_word_starts f i) behind there _ _ c.if-not-branch.false
-    c.in_ok-next_plain_word_starts.ensures in
-    let joined = joined_by f i behind there text feeds _ _ goes c.in_ok-push_gap.ensures c.as_str.ensures.value in
-    let same = c.in_ok-read_plain_words.ensures.words.same i start ∙ gap_turn f i start end text _ gap there goes joined
-    ∙ sym (ap (λ (r : Result spec.PlainGap Refusal). spec.with_text text (r >>= plain_behind_gap f i start end))
-    lines) in
-    subst (λ (r : spec.PlainScalarRead). Moves (λ x. spec.seen_plain_scalar x (cursor_of c.read_plain_rest.new.self))
-    c.read_plain_rest.result r) same c.read_plain_rest.ensures
+    let same = read_behind f i start c.args.mark (string_bytes c.args.text) _ (spec.next_lines i start s) _
+    (cursor_of c.read_folded_lines.new.self) _ c.in_ok-tabbed.ensures len in
+    subst (λ (r : spec.PlainScalarRead). Moves (λ x. spec.seen_plain_scalar x (cursor_of c.read_plain_behind.new.self))
+    c.read_plain_behind.result r) same c.read_plain_behind.ensures

@@ -3,8 +3,8 @@ use Rattle.saphyr_scalar.specs.Steps.Quoted.{with_front, inner_text_at, no_gap}
 use Rattle.saphyr_scalar.specs.Views.Reader.{cursor_of, loaded}
 use Rattle.saphyr_scalar.proofs.scalar.reader.Reader.read_quoted_parts.Given as goal
 
-abbrev pub invariant-loop-blanks : goal.invariant-loop-blanks
-invariant-loop-blanks g l = record {
+abbrev pub invariant-loop-text : goal.invariant-loop-text
+invariant-loop-text g l = record {
   same : with_front (string_bytes l.text) (inner_text_at l.fn.quote l.fn.indent l.fn.start no_gap (cursor_of l.self))
       ≡ with_front (string_bytes l.fn.text)
       (inner_text_at l.fn.quote l.fn.indent l.fn.start no_gap (cursor_of l.fn.self));
@@ -12,5 +12,5 @@ invariant-loop-blanks g l = record {
   loaded : 1 ≤ loaded l.self;
 }
 
-abbrev pub decreases-loop-blanks : goal.decreases-loop-blanks
-decreases-loop-blanks g l = length (cursor_of l.self).rest
+abbrev pub decreases-loop-text : goal.decreases-loop-text
+decreases-loop-text g l = length (cursor_of l.self).rest
