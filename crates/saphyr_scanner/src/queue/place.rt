@@ -311,6 +311,7 @@ impl Place {
             Content::Plain(count) => (TextKind::Plain, count),
             Content::SingleQuoted(count) => (TextKind::SingleQuoted, count),
             Content::DoubleQuoted(count) => (TextKind::DoubleQuoted, count),
+            // The token is a tag, or aside as a whole.
             _ => {
                 self.make_whole(alloc, aside, spare)?;
                 let Token { span, kind } = aside.take_token();
