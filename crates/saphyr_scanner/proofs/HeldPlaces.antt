@@ -6,23 +6,16 @@ use Rattle.std.proofs.Math.Dec.{eqb, eqb-suc-zero}
 use Rattle.std.proofs.Math.ListN.{drop_of_length-le}
 use Rattle.std.proofs.Math.Seq.{take-length, drop-length}
 use Rattle.std.proofs.lemmas.List.{length-append, length-drop, take-append-le, drop-append-le, drop-set-add, get_or-drop}
-use Rattle.saphyr_scanner.specs.declared.queue.content.Content.{Content}
-use Rattle.saphyr_scanner.specs.declared.queue.content.Content.TheVariants.{Indicator, Text, Tag, Aside}
-use Rattle.saphyr_scanner.specs.declared.queue.content.Handle.{Handle}
-use Rattle.saphyr_scanner.specs.declared.queue.content.Indicator as indicators
-use Rattle.saphyr_scanner.specs.declared.queue.content.TextKind.{TextKind}
 use Rattle.saphyr_scanner.specs.declared.queue.near.NearMarker.{NearMarker}
 use Rattle.saphyr_scanner.specs.declared.queue.place.Place.{Place}
 use Rattle.saphyr_scanner.specs.declared.queue.Opening.{Opening}
 use Rattle.saphyr_scanner.specs.declared.queue.Opening.TheVariants as opening
 use Rattle.saphyr_scanner.specs.declared.token.Token.{Token}
-use Rattle.saphyr_scanner.specs.Grammar.Tokens as tokens
 use Rattle.saphyr_scanner.specs.Grammar.Tokens.{Kind}
 use Rattle.saphyr_scanner.specs.Steps.Queue as seen
 use Rattle.saphyr_scanner.specs.Steps.Queue.{bare_place, is_empty_list, places_with_opening}
 use Rattle.saphyr_scanner.specs.Views.Asides.{Asides, BeginsWithText, IsTextOf, first_aside, nothing, with_text_aside, with_token}
-use Rattle.saphyr_scanner.specs.Views.Contents.{content_of}
-use Rattle.saphyr_scanner.specs.Views.Places.{AddsBehind, Fit, HasTokenOf, behind_token_of, beside_behind, held_handle, indicator_kind, near_span, place_at, places_at, text_kind, token_of}
+use Rattle.saphyr_scanner.specs.Views.Places.{AddsBehind, Bare, Fit, HasTokenOf, Holding, Whole, WithText, behind_token_of, beside_behind, holding, near_span, place_at, places_at, token_of}
 use Rattle.saphyr_scanner.specs.Views.Tokens.{Piece, piece}
 
 -- ## More is put aside
@@ -40,44 +33,39 @@ text_more k s t h =
     let within = h.0 in
     (omega (arith, count, within), subst (λ bs. ∥ IsUtf8 bs ∥₁) (sym (take-append-le k s.bytes t.bytes h.0)) h.1)
 
-has_more : (what : Content) (k : ℕ) (s t : Asides) → HasTokenOf what k s → HasTokenOf what k (joined s t)
-has_more (Indicator i) k s t h = h
-has_more (Text w) k s t h = text_more k s t h
-has_more (Tag w) k s t h = text_more k s t h
-has_more Aside k s t h = let count = length-append s.tokens t.tokens in omega (arith, count, h)
+has_more : (how : Holding) (s t : Asides) → HasTokenOf how s → HasTokenOf how (joined s t)
+has_more (Bare kind) s t h = h
+has_more (WithText kind_with k) s t h = text_more k s t h
+has_more Whole s t h = let count = length-append s.tokens t.tokens in omega (arith, count, h)
 
-behind_more : (what : Content) (k : ℕ) (s t : Asides) → HasTokenOf what k s
-    → behind_token_of what k (joined s t) ≡ joined (behind_token_of what k s) t
-behind_more (Indicator i) k s t h = refl
-behind_more (Text w) k s t h =
+behind_more : (how : Holding) (s t : Asides) → HasTokenOf how s
+    → behind_token_of how (joined s t) ≡ joined (behind_token_of how s) t
+behind_more (Bare kind) s t h = refl
+behind_more (WithText kind_with k) s t h =
     ap (λ bs. record { bytes = bs; tokens = s.tokens ++ t.tokens }) (drop-append-le k s.bytes t.bytes h.0)
-behind_more (Tag w) k s t h =
-    ap (λ bs. record { bytes = bs; tokens = s.tokens ++ t.tokens }) (drop-append-le k s.bytes t.bytes h.0)
-behind_more Aside k s t h =
+behind_more Whole s t h =
     ap (λ ts. record { bytes = s.bytes ++ t.bytes; tokens = ts }) (drop-append-le 1 s.tokens t.tokens h)
 
 abbrev pub on_line : NearMarker → ℕ → Kind → Piece
 on_line m n kind = record { span = near_span m n; kind = kind }
 
-token_stays : (what : Content) (m : NearMarker) (n k : ℕ) (s t : Asides) → HasTokenOf what k s
-    → token_of what m n k (joined s t) ≡ token_of what m n k s
-token_stays (Indicator i) m n k s t h = refl
-token_stays (Text w) m n k s t h =
-    ap (λ bs. on_line m n (text_kind w bs)) (take-append-le k s.bytes t.bytes h.0)
-token_stays (Tag w) m n k s t h =
-    ap (λ bs. on_line m n (tokens.Tag (held_handle w) bs)) (take-append-le k s.bytes t.bytes h.0)
-token_stays Aside m n k s t h = first_stays s.tokens t.tokens h
+token_stays : (how : Holding) (m : NearMarker) (n : ℕ) (s t : Asides) → HasTokenOf how s
+    → token_of how m n (joined s t) ≡ token_of how m n s
+token_stays (Bare kind) m n s t h = refl
+token_stays (WithText kind_with k) m n s t h =
+    ap (λ bs. on_line m n (kind_with bs)) (take-append-le k s.bytes t.bytes h.0)
+token_stays Whole m n s t h = first_stays s.tokens t.tokens h
 
 fit_more : (ps qs : List Place) (s t : Asides) → Fit ps s → Fit qs t
     → Fit (ps ++ qs) (joined s t) × (places_at (ps ++ qs) (joined s t) ≡ places_at ps s ++ places_at qs t)
 fit_more [] qs s t h k =
     subst (λ r. Fit qs (joined r t) × (places_at qs (joined r t) ≡ places_at qs t)) (sym h) (k, refl)
 fit_more (p ∷ ps) qs s t h k =
-    let what = content_of p.content in
+    let how = holding p.content in
     let later = fit_more ps qs (beside_behind p s) t h.1 k in
-    let same = behind_more what p.count s t h.0 in (
-      (has_more what p.count s t h.0, subst (Fit (ps ++ qs)) (sym same) later.0),
-      (λ i. place_of p (token_stays what p.start p.length p.count s t h.0 i) ∷ places_at (ps ++ qs) (same i))
+    let same = behind_more how s t h.0 in (
+      (has_more how s t h.0, subst (Fit (ps ++ qs)) (sym same) later.0),
+      (λ i. place_of p (token_stays how p.start p.length s t h.0 i) ∷ places_at (ps ++ qs) (same i))
           ∙ ap (λ rs. place_at p s ∷ rs) later.1,
     )
   where
@@ -98,55 +86,38 @@ adds t p old more new alone is =
 nothing_more : (s : Asides) → joined s nothing ≡ s
 nothing_more s = λ i. record { bytes = append-nil s.bytes i; tokens = append-nil s.tokens i }
 
-alone : (p : Place) (what : Content) (s : Asides) → content_of p.content ≡ what → p.opening ≡ opening.Nothing
-    → HasTokenOf what p.count s → behind_token_of what p.count s ≡ nothing
-    → AddsAlone (token_of what p.start p.length p.count s) p s
-alone p what s is bare has left = (
-  (subst (λ w. HasTokenOf w p.count s) (sym is) has, ap (λ w. behind_token_of w p.count s) is ∙ left),
-  λ i. record { opening = bare i; piece = token_of (is i) p.start p.length p.count s } ∷ [],
+alone : (p : Place) (how : Holding) (s : Asides) → holding p.content ≡ how → p.opening ≡ opening.Nothing
+    → HasTokenOf how s → behind_token_of how s ≡ nothing
+    → AddsAlone (token_of how p.start p.length s) p s
+alone p how s is bare has left = (
+  (subst (λ w. HasTokenOf w s) (sym is) has, ap (λ w. behind_token_of w s) is ∙ left),
+  λ i. record { opening = bare i; piece = token_of (is i) p.start p.length s } ∷ [],
 )
 
-pub adds_indicator : (p : Place) (what : indicators.Indicator) (s : Asides)
-    → content_of p.content ≡ Indicator what → p.opening ≡ opening.Nothing
-    → AddsBehind (on_line p.start p.length (indicator_kind what)) p s s
-adds_indicator p what s is bare =
-    adds (on_line p.start p.length (indicator_kind what)) p s nothing s
-    (alone p (Indicator what) nothing is bare tt refl)
-    (nothing_more s)
+pub adds_bare : (p : Place) (kind : Kind) (s : Asides) → holding p.content ≡ Bare kind → p.opening ≡ opening.Nothing
+    → AddsBehind (on_line p.start p.length kind) p s s
+adds_bare p kind s is bare =
+    adds (on_line p.start p.length kind) p s nothing s (alone p (Bare kind) nothing is bare tt refl) (nothing_more s)
 
-pub adds_text : (p : Place) (what : TextKind) (text : List ℕ) (s : Asides)
-    → content_of p.content ≡ Text what → p.opening ≡ opening.Nothing → IsTextOf p.count text
-    → AddsBehind (on_line p.start p.length (text_kind what text)) p s (with_text_aside text s)
-adds_text p what text s is bare h =
+pub adds_with_text : (p : Place) (kind_with : List ℕ → Kind) (k : ℕ) (text : List ℕ) (s : Asides)
+    → holding p.content ≡ WithText kind_with k → p.opening ≡ opening.Nothing → IsTextOf k text
+    → AddsBehind (on_line p.start p.length (kind_with text)) p s (with_text_aside text s)
+adds_with_text p kind_with k text s is bare h =
     let more : Asides = record { bytes = text; tokens = [] } in
     let whole = ap (λ n. take n text) h.0 ∙ take-length text in
     let none = ap (λ n. drop n text) h.0 ∙ drop-length text in
     let count = h.0 in
-    adds (on_line p.start p.length (text_kind what text)) p s more (with_text_aside text s)
-    (subst (λ bs. AddsAlone (on_line p.start p.length (text_kind what bs)) p more) whole
-    (alone p (Text what) more is bare (omega (arith, count), subst (λ bs. ∥ IsUtf8 bs ∥₁) (sym whole) h.1)
+    adds (on_line p.start p.length (kind_with text)) p s more (with_text_aside text s)
+    (subst (λ bs. AddsAlone (on_line p.start p.length (kind_with bs)) p more) whole
+    (alone p (WithText kind_with k) more is bare (omega (arith, count), subst (λ bs. ∥ IsUtf8 bs ∥₁) (sym whole) h.1)
     (ap (λ bs. record { bytes = bs; tokens = [] }) none)))
     (λ i. record { bytes = s.bytes ++ text; tokens = append-nil s.tokens i })
 
-pub adds_tag : (p : Place) (what : Handle) (suffix : List ℕ) (s : Asides)
-    → content_of p.content ≡ Tag what → p.opening ≡ opening.Nothing → IsTextOf p.count suffix
-    → AddsBehind (on_line p.start p.length (tokens.Tag (held_handle what) suffix)) p s (with_text_aside suffix s)
-adds_tag p what suffix s is bare h =
-    let more : Asides = record { bytes = suffix; tokens = [] } in
-    let whole = ap (λ n. take n suffix) h.0 ∙ take-length suffix in
-    let none = ap (λ n. drop n suffix) h.0 ∙ drop-length suffix in
-    let count = h.0 in
-    adds (on_line p.start p.length (tokens.Tag (held_handle what) suffix)) p s more (with_text_aside suffix s)
-    (subst (λ bs. AddsAlone (on_line p.start p.length (tokens.Tag (held_handle what) bs)) p more) whole
-    (alone p (Tag what) more is bare (omega (arith, count), subst (λ bs. ∥ IsUtf8 bs ∥₁) (sym whole) h.1)
-    (ap (λ bs. record { bytes = bs; tokens = [] }) none)))
-    (λ i. record { bytes = s.bytes ++ suffix; tokens = append-nil s.tokens i })
-
-pub adds_token : (p : Place) (t : Piece) (s : Asides)
-    → content_of p.content ≡ Aside → p.opening ≡ opening.Nothing → AddsBehind t p s (with_token t s)
-adds_token p t s is bare =
+pub adds_whole : (p : Place) (t : Piece) (s : Asides)
+    → holding p.content ≡ Whole → p.opening ≡ opening.Nothing → AddsBehind t p s (with_token t s)
+adds_whole p t s is bare =
     let more : Asides = record { bytes = []; tokens = t ∷ [] } in
-    adds t p s more (with_token t s) (alone p Aside more is bare (omega arith) refl)
+    adds t p s more (with_token t s) (alone p Whole more is bare (omega arith) refl)
     (λ i. record { bytes = append-nil s.bytes i; tokens = s.tokens ++ t ∷ [] })
 
 -- after those that are held comes that of a token

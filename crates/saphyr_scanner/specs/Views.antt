@@ -1,7 +1,6 @@
 -- What contracts see of tokens, of the queue and of the engine.
 pub mod Tokens
 pub mod Asides
-pub mod Contents
 pub mod Places
 pub mod Reads
 pub mod Queue

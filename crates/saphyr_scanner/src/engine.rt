@@ -1,11 +1,13 @@
-//! The state of a scanner, and the steps that several kinds of tokens share. `fetch` chooses by the next
-//! characters. `block`, `flow`, `value`, `scalar`, `property` and `document` read the token. `level`, `key` and
-//! `indent` say what is open, and what may be a key.
+//! The state of a scanner, and the steps that several kinds of tokens share. `fill` says how many tokens are read.
+//! `arrive` goes to the next one, and `fetch` chooses by the characters there. `block`, `flow`, `value`, `scalar`,
+//! `property` and `document` read the token. `level`, `key` and `indent` say what is open, and what may be a key.
 
+mod arrive;
 mod block;
 mod cloning;
 mod document;
 mod fetch;
+mod fill;
 mod flow;
 mod indent;
 mod key;

@@ -7,20 +7,17 @@ mod held;
 mod near;
 mod place;
 mod row;
+mod scalar;
+mod take;
 
-ghost use Rattle.std.specs.Prelude.{◌≡◌, ◌⊎◌, List, false, IfSome, IsTrue, Ok, OnErr, OnOk, length, slice_index, string_bytes};
-ghost use Rattle.saphyr_scalar.specs.Values.Flow as flow;
-ghost use Rattle.saphyr_scalar.specs.Steps.Plain.{plain};
-ghost use Rattle.saphyr_scanner.specs.Grammar.Tokens as tokens;
+ghost use Rattle.std.specs.Prelude.{◌≡◌, ◌⊎◌, List, IfSome, IsTrue, Ok, OnErr, OnOk};
 ghost use Rattle.saphyr_scanner.specs.Steps.Queue as spec;
 
 pub use crate::queue::content::Indicator;
 use crate::queue::held::Held;
 use crate::queue::row::Row;
-use crate::token::{Token, TokenType};
-use saphyr_input::input::Input;
-use saphyr_scalar::values::Quote;
-use saphyr_scalar::{Marker, Reader, ScalarStyle, Span, Spare, Stop, TagParts};
+use crate::token::Token;
+use saphyr_scalar::{Marker, ScalarStyle, Span, Spare, Stop, TagParts};
 use std::alloc::{AllocError, Global};
 
 /// What comes in front of a token: nothing, or the tokens that make it a key.
@@ -116,12 +113,10 @@ pub(crate) struct Queue {
 }
 
 impl Queue {
-    ghost use Rattle.saphyr_scalar.specs.declared.scalar.style.ScalarStyle.TheVariants.{Plain};
-    ghost use Rattle.saphyr_scalar.specs.Views.Reader.{Moves, cursor_of};
-    ghost use Rattle.saphyr_scanner.specs.Views.Tokens.{piece, start_piece, which_piece, KeepsSpan};
-    ghost use Rattle.saphyr_scanner.specs.Views.Places.{indicator_kind, indicator_piece, tag_kind};
-    ghost use Rattle.saphyr_scanner.specs.Views.Reads.{flow_quoted, queue_with_scalar, quote_style};
-    ghost use Rattle.saphyr_scanner.specs.Views.Queue.{queue, with_block_ends, HoldsNone, IsHead, PassesOffBy, TakesOffBy, TakesOffSome};
+    ghost use Rattle.saphyr_scalar.specs.Views.Reader.{Moves};
+    ghost use Rattle.saphyr_scanner.specs.Views.Tokens.{piece};
+    ghost use Rattle.saphyr_scanner.specs.Views.Places.{indicator_piece, tag_kind};
+    ghost use Rattle.saphyr_scanner.specs.Views.Queue.{queue, with_block_ends, IsHead};
     ghost use Rattle.std.specs.Prelude.{◌<◌};
 
     pub(crate) fn new(alloc: Global) -> Self
@@ -202,105 +197,6 @@ impl Queue {
         // For speed the span is not moved: most of it isn't kept.
         let kind = token.kind;
         self.held.put(&token.span, kind, spare)
-    }
-
-    /// Puts a scalar at the end. It is separate from `put` for speed: there is no need to distinguish kinds.
-    #[inline(always)]
-    #[tactic(auto, using(crate::proofs::Rows::put_in_second))]
-    pub(crate) fn put_scalar(
-        &mut self,
-        span: Span,
-        style: ScalarStyle,
-        text: String,
-        spare: &mut Spare,
-    ) -> Result<(), AllocError>
-        ensures { OnOk result (queue self.new ≡ spec.with_piece
-            (record { span = span; kind = tokens.Scalar style (string_bytes text) })
-            (queue self.old)) }
-    {
-        if self.second.count > 0 || !self.held.is_empty() {
-            return self.put_scalar_behind(&span, style, text, spare);
-        }
-        self.put_scalar_in_front(span, style, text);
-        Ok(())
-    }
-
-    /// The same where no token is held.
-    #[inline(always)]
-    #[tactic(auto, using(crate::proofs::Rows::put_in_second))]
-    pub(crate) fn put_scalar_in_front(&mut self, span: Span, style: ScalarStyle, text: String)
-        requires { HoldsNone self.old }
-        ensures { queue self.new ≡ spec.with_piece
-            (record { span = span; kind = tokens.Scalar style (string_bytes text) })
-            (queue self.old) }
-    {
-        let kind = TokenType::Scalar(style, text);
-        let token = Token { span, kind };
-        if self.first.count > 0 {
-            self.second.put(token);
-        } else {
-            self.first.put(token);
-        }
-    }
-
-    // The same after tokens that are held.
-    #[inline(never)]
-    #[tactic(auto, using(crate::proofs::Rows::behind_rows))]
-    fn put_scalar_behind(
-        &mut self,
-        span: &Span,
-        style: ScalarStyle,
-        text: String,
-        spare: &mut Spare,
-    ) -> Result<(), AllocError>
-        ensures { OnOk result (queue self.new ≡ spec.with_piece
-            (record { span = span.now; kind = tokens.Scalar style (string_bytes text) })
-            (queue self.old)) }
-    {
-        self.held.put_scalar(span, style, text, spare)
-    }
-
-    /// Whether the next token will be held after others. Then a scalar is best read where its text is held.
-    #[inline(always)]
-    pub(crate) fn is_holding(&self) -> bool
-        ensures { result ≡ false → HoldsNone self.now }
-    {
-        self.second.count > 0 || !self.held.is_empty()
-    }
-
-    /// Reads a plain scalar, and puts its token at the end. Its text is read right where it is held. Returns a comment
-    /// that ended it. After an error no token is held.
-    #[inline(always)]
-    pub(crate) fn read_plain<T: Input>(
-        &mut self,
-        alloc: Global,
-        reader: &mut Reader<T>,
-        in_flow: bool,
-        indent: usize,
-    ) -> Result<Option<Marker>, Stop>
-        ensures { Moves (λ comment. (queue self.new, comment, cursor_of reader.new)) result
-            (queue_with_scalar Plain (queue self.old) (cursor_of reader.old).mark
-            (plain in_flow indent (cursor_of reader.old))) }
-    {
-        self.held.read_plain(alloc, reader, in_flow, indent)
-    }
-
-    /// Reads a quoted scalar inside flow in the same way, passes what separates it from what comes after it, and
-    /// puts its token at the end. Returns whether an indicator is there.
-    #[inline(always)]
-    pub(crate) fn read_quoted<T: Input>(
-        &mut self,
-        alloc: Global,
-        reader: &mut Reader<T>,
-        quote: Quote,
-        indent: usize,
-    ) -> Result<bool, Stop>
-        requires { slice_index (cursor_of reader.old).rest 0 ≡ flow.mark quote }
-        ensures { Moves (λ told. (queue self.new, told, cursor_of reader.new)) result
-            (queue_with_scalar (quote_style quote) (queue self.old) (cursor_of reader.old).mark
-            (flow_quoted quote indent (cursor_of reader.old))) }
-    {
-        self.held.read_quoted(alloc, reader, quote, indent)
     }
 
     /// Puts a tag after tokens that are held.
@@ -408,97 +304,5 @@ impl Queue {
         }
         self.held.open(nth - self.second.count, opening);
         Ok(())
-    }
-
-    /// Takes the first token off, if there is one, and writes it into `token`.
-    #[inline(always)]
-    pub(crate) fn take_into(
-        &mut self,
-        head: Head,
-        alloc: Global,
-        token: &mut Token,
-        spare: &mut Spare,
-    ) -> Result<bool, Stop>
-        requires { IsHead head self.old }
-        ensures { TakesOffBy spec.take self.old result token.new self.new }
-    {
-        if matches!(head, Head::Behind) {
-            return self.held.take_into(alloc, token, &mut self.handed, spare);
-        }
-        if self.handed == usize::MAX {
-            return Err(Stop::OutOfMemory);
-        }
-        if matches!(head, Head::First) {
-            self.first.take_into(token, &mut self.handed);
-        } else {
-            self.second.take_into(token, &mut self.handed);
-        }
-        Ok(true)
-    }
-
-    /// Takes the first token off, if it is this indicator, and returns its span. No token is made for it.
-    #[inline(always)]
-    pub(crate) fn pass(&mut self, head: Head, indicator: Indicator) -> Result<Option<Span>, Stop>
-        requires { IsHead head self.old }
-        ensures { PassesOffBy (indicator_kind indicator) spec.take result (queue self.old)
-            (queue self.new) }
-    {
-        if matches!(head, Head::Behind) {
-            return self.held.pass(indicator, &mut self.handed);
-        }
-        if self.handed == usize::MAX {
-            return Err(Stop::OutOfMemory);
-        }
-        if matches!(head, Head::First) {
-            Ok(self.first.pass(indicator, &mut self.handed))
-        } else {
-            Ok(self.second.pass(indicator, &mut self.handed))
-        }
-    }
-
-    /// Takes the first token off, if it is seen to be one of these indicators, and writes its span into `span`. Only
-    /// the rows are looked at.
-    #[inline(always)]
-    pub(crate) fn pass_either(
-        &mut self,
-        head: Head,
-        first: Indicator,
-        second: Indicator,
-        span: &mut Span,
-    ) -> Result<Which, Stop>
-        requires { IsHead head self.old }
-        ensures { TakesOffSome
-            (which_piece (indicator_kind first) (indicator_kind second) span.new) spec.take result
-            (queue self.old) (queue self.new) }
-    {
-        match head {
-            Head::First => self
-                .first
-                .pass_either(first, second, &mut self.handed, span),
-            Head::Second => self
-                .second
-                .pass_either(first, second, &mut self.handed, span),
-            Head::Behind => Ok(Which::Neither),
-        }
-    }
-
-    /// Takes the first token off, if it is seen to be a scalar or the start of a block collection, and writes its span
-    /// into `span`. Only the first row is looked at, where mostly it is.
-    #[inline(always)]
-    pub(crate) fn take_node_start(
-        &mut self,
-        head: Head,
-        alloc: Global,
-        span: &mut Span,
-    ) -> Result<NodeStart, Stop>
-        requires { IsHead head self.old }
-        ensures taken { TakesOffSome (start_piece span.new) spec.take result (queue self.old)
-            (queue self.new) }
-        ensures kept { KeepsSpan result span.old span.new }
-    {
-        match head {
-            Head::First => self.first.take_node_start(alloc, &mut self.handed, span),
-            Head::Second | Head::Behind => Ok(NodeStart::Other),
-        }
     }
 }

@@ -226,8 +226,8 @@ key_does c deep first second =
     (block_begins (enclosure_of c.level.context) c _ tokens.BlockMappingStart place.BlockMapping
     (λ i. absurd (cc)) refl refl (allowed_in (in_block c) c.key_allowed w (further_block s.mark.col c f))
     (λ yes. absurd (let no = same_free (in_block c) (in_block r) c.required (question_block c.level.context) g.3 in
-    let b = further_block s.mark.col c f in cc)) (λ yes. absurd (let b = further_block s.mark.col c f in cc)) (λ p. refl)
-    (λ i p u t h. h) (λ j y. refl) (λ p all. refl) (λ p columns. refl)
+    let b = further_block s.mark.col c f in cc)) (λ yes. absurd (let b = further_block s.mark.col c f in cc))
+    (λ p. refl) (λ i p u t h. h) (λ j y. refl) (λ p all. refl) (λ p columns. refl)
     (further_block s.mark.col c f) (further_right s.mark.col c f) (ap taken.begins_text first)) (and_then (λ n. n)
     (lesser (with_begun place.BlockMapping (enclosures_of (enter_block s.mark.col c)))
     (forget_key (enter_block s.mark.col c)) (forget_key r)

@@ -131,7 +131,8 @@ tail_right c d s o allowed h b f small =
     (omega (arith, line, small)) in by before column indent
   where
     by : (c.indent ≤ c.cursor.mark.col) ⊎ BeginsNoNode c.cursor.rest
-        → d.cursor.mark.col ≡ c.cursor.mark.col + length o.on_line.0 → d.indent ≡ c.indent → (d.indent ≤ d.cursor.mark.col) ⊎ BeginsNoNode d.cursor.rest
+        → d.cursor.mark.col ≡ c.cursor.mark.col + length o.on_line.0 → d.indent ≡ c.indent
+        → (d.indent ≤ d.cursor.mark.col) ⊎ BeginsNoNode d.cursor.rest
     by (inl l) column indent = inl (omega (arith, l, column, indent))
     by (inr w) column indent = inr (stays_no_node c.cursor d.cursor o.apart w)
 

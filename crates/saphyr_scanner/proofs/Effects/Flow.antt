@@ -440,8 +440,8 @@ entry_does c first =
       allows_behind = refl;
     })
     (λ u some _ r. encloses (entry_encloses x (outside_of c) (bracket_piece tokens.FlowEntry c u).span)
-    (and_then (λ n. n) (quiet_within within 1 b (bracket_piece tokens.FlowEntry c u) u refl (λ y. refl) (λ e. refl) refl refl
-    (λ _. entry_fits x (outside_of c) (bracket_piece tokens.FlowEntry c u).span) (λ i. absurd (cc)) refl r)
+    (and_then (λ n. n) (quiet_within within 1 b (bracket_piece tokens.FlowEntry c u) u refl (λ y. refl) (λ e. refl) refl
+    refl (λ _. entry_fits x (outside_of c) (bracket_piece tokens.FlowEntry c u).span) (λ i. absurd (cc)) refl r)
     (lesser (enclosures_behind tokens.FlowEntry (bracket_piece tokens.FlowEntry c u).span within)
     (freed (with_cursor u b)) (with_cursor u d) (record { block = entry_block x; key = inr refl }) refl
     (λ n. n) (taken.nothing u.mark u.rest) (λ _. ((λ _. inl refl), λ _ _ f. absurd (cc)))

@@ -122,7 +122,8 @@ goes_on_outside start c b h =
 
 -- a separation from a break on goes on to a later line
 break_passed : (m : Marker) (t : List ℕ) (n : Marker) (u : List ℕ) → IsPassedOver m t n u
-    → is_break (slice_index t 0) ≡ true → IsTrue (begins_text (slice_index u 0)) → m.line ≤ top → n.line < top → m.line < n.line
+    → is_break (slice_index t 0) ≡ true → IsTrue (begins_text (slice_index u 0)) → m.line ≤ top → n.line < top
+    → m.line < n.line
 break_passed _ _ _ _ (taken.nothing m t) e b low small = absurd (no (slice_index t 0) e b)
   where
     no : (c : ℕ) → is_break c ≡ true → begins_text c ≡ true → ⊥
@@ -148,8 +149,9 @@ character_right c _ _ _ _ (passing.line_break m t n u f p) e k less low small li
 -- behind quotes that end on a line the text goes on right of them, or no node begins
 quotes_end : (i : ℕ) (s x u v : Cursor) (j : ℕ) (quote : Quote) → slice_index s.rest 0 ≡ mark quote
     → is_break (mark quote) ≡ false → IsPassed s.mark s.rest x.mark x.rest → length x.rest < length s.rest
-    → OnLine x u → AreApart u v → IsTrue (begins_text (slice_index v.rest 0)) → j ≡ i → i ≤ s.mark.col + 1 → s.mark.line < top → v.mark.line < top
-    → v.mark.line ≡ u.mark.line → IsTrue (is_breakz (slice_index u.rest 0)) ⊎ (s.mark.line ≡ u.mark.line)
+    → OnLine x u → AreApart u v → IsTrue (begins_text (slice_index v.rest 0)) → j ≡ i → i ≤ s.mark.col + 1
+    → s.mark.line < top → v.mark.line < top → v.mark.line ≡ u.mark.line
+    → IsTrue (is_breakz (slice_index u.rest 0)) ⊎ (s.mark.line ≡ u.mark.line)
     → (j ≤ v.mark.col) ⊎ BeginsNoNode v.rest
 quotes_end i s x u v j quote first unbroken passed less o apart begins same deep low small line (inr on) =
     let more = (apart_later u.mark u.rest v.mark v.rest apart).columns in

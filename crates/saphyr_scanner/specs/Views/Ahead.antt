@@ -8,8 +8,8 @@ use Rattle.saphyr_scalar.specs.declared.scalar.fault.Stop.{Stop}
 use Rattle.saphyr_scalar.specs.Views.Cursor.{◌>>=◌, pass_break, pass_spaces}
 use Rattle.saphyr_scalar.specs.Views.Reader.{Fails}
 use Rattle.saphyr_scanner.specs.declared.engine.Engine.{Engine}
-use Rattle.saphyr_scanner.specs.declared.engine.fetch.Ahead.{Ahead}
-use Rattle.saphyr_scanner.specs.declared.engine.fetch.Ahead.TheVariants as ahead
+use Rattle.saphyr_scanner.specs.declared.engine.arrive.Ahead.{Ahead}
+use Rattle.saphyr_scanner.specs.declared.engine.arrive.Ahead.TheVariants as ahead
 use Rattle.saphyr_scanner.specs.Steps.Core.{Core, in_block}
 use Rattle.saphyr_scanner.specs.Steps.State.{State}
 use Rattle.saphyr_scanner.specs.Steps.Fetch.{arrive, fetch_here, state_behind_content}

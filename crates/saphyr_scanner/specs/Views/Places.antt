@@ -6,7 +6,7 @@ use Rattle.saphyr_scalar.specs.declared.scalar.position.Span.{Span}
 use Rattle.saphyr_scalar.specs.declared.scalar.style.ScalarStyle.TheVariants as style
 use Rattle.saphyr_scalar.specs.declared.scalar.tag.TagParts.{TagParts}
 use Rattle.saphyr_scanner.specs.declared.queue.content.Content.{Content}
-use Rattle.saphyr_scanner.specs.declared.queue.content.Content.TheVariants.{Indicator, Text, Tag, Aside}
+use Rattle.saphyr_scanner.specs.declared.queue.content.Content.TheVariants as content
 use Rattle.saphyr_scanner.specs.declared.queue.content.Handle.{Handle}
 use Rattle.saphyr_scanner.specs.declared.queue.content.Handle.TheVariants as handle
 use Rattle.saphyr_scanner.specs.declared.queue.content.Indicator as declared_indicator
@@ -18,7 +18,6 @@ use Rattle.saphyr_scanner.specs.declared.queue.place.Place as declared_place
 use Rattle.saphyr_scanner.specs.Grammar.Tokens as tokens
 use Rattle.saphyr_scanner.specs.Grammar.Tokens.{Kind}
 use Rattle.saphyr_scanner.specs.Views.Asides.{Asides, BeginsWithText, behind_text, behind_token, first_aside, nothing}
-use Rattle.saphyr_scanner.specs.Views.Contents.{content_of}
 use Rattle.saphyr_scanner.specs.Views.Tokens.{Piece}
 use Rattle.saphyr_scanner.specs.Steps.Queue.{Place, bare_place}
 
@@ -66,42 +65,58 @@ tag_kind tag = tokens.Tag (string_bytes tag.handle) (string_bytes tag.suffix)
 
 -- ## Places
 
+-- how a token is held: in its place alone, with a text of so many bytes aside, or as a whole aside
+pub data Holding : Type 0 where
+  Bare : Kind → Holding
+  WithText : (List ℕ → Kind) → ℕ → Holding
+  Whole : Holding
+
+abbrev pub holding : Content → Holding
+holding (content.Indicator what) = Bare (indicator_kind what)
+holding (content.Alias k) = WithText (text_kind text.Alias) k
+holding (content.Anchor k) = WithText (text_kind text.Anchor) k
+holding (content.Plain k) = WithText (text_kind text.Plain) k
+holding (content.SingleQuoted k) = WithText (text_kind text.SingleQuoted) k
+holding (content.DoubleQuoted k) = WithText (text_kind text.DoubleQuoted) k
+holding (content.EmptyTag k) = WithText (tokens.Tag (held_handle handle.Empty)) k
+holding (content.PrimaryTag k) = WithText (tokens.Tag (held_handle handle.Primary)) k
+holding (content.SecondaryTag k) = WithText (tokens.Tag (held_handle handle.Secondary)) k
+holding content.Aside = Whole
+
 -- the token of a place, over what it and those after it have beside them
-abbrev pub token_of : Content → NearMarker → ℕ → ℕ → Asides → Piece
-token_of (Indicator what) m n k s = record { span = near_span m n; kind = indicator_kind what }
-token_of (Text what) m n k s = record { span = near_span m n; kind = text_kind what (take k s.bytes) }
-token_of (Tag h) m n k s = record { span = near_span m n; kind = tokens.Tag (held_handle h) (take k s.bytes) }
-token_of Aside m n k s = first_aside s.tokens
+abbrev pub token_of : Holding → NearMarker → ℕ → Asides → Piece
+token_of (Bare kind) m n s = record { span = near_span m n; kind = kind }
+token_of (WithText kind_with k) m n s = record { span = near_span m n; kind = kind_with (take k s.bytes) }
+token_of Whole m n s = first_aside s.tokens
 
 -- what those after it have beside them
-abbrev pub behind_token_of : Content → ℕ → Asides → Asides
-behind_token_of (Indicator what) k s = s
-behind_token_of (Text what) k s = behind_text k s
-behind_token_of (Tag h) k s = behind_text k s
-behind_token_of Aside k s = behind_token s
+abbrev pub behind_token_of : Holding → Asides → Asides
+behind_token_of (Bare kind) s = s
+behind_token_of (WithText kind_with k) s = behind_text k s
+behind_token_of Whole s = behind_token s
 
 -- What the token needs is there.
-abbrev pub HasTokenOf : Content → ℕ → Asides → Type 0
-HasTokenOf (Indicator what) k s = ⊤
-HasTokenOf (Text what) k s = BeginsWithText k s
-HasTokenOf (Tag h) k s = BeginsWithText k s
-HasTokenOf Aside k s = 1 ≤ length s.tokens
+abbrev pub HasTokenOf : Holding → Asides → Type 0
+HasTokenOf (Bare kind) s = ⊤
+HasTokenOf (WithText kind_with k) s = BeginsWithText k s
+HasTokenOf Whole s = 1 ≤ length s.tokens
 
 -- whether its token is aside, or will be put there
 abbrev pub is_apart : Content → Bool
-is_apart (Indicator what) = false
-is_apart (Text what) = false
-is_apart (Tag h) = true
-is_apart Aside = true
+is_apart (content.EmptyTag k) = true
+is_apart (content.PrimaryTag k) = true
+is_apart (content.SecondaryTag k) = true
+is_apart content.Aside = true
+is_apart _ = false
 
 abbrev pub place_at : declared_place.Place → Asides → Place
-place_at p s = record { opening = p.opening; piece = token_of (content_of p.content) p.start p.length p.count s }
+place_at p s = record { opening = p.opening; piece = token_of (holding p.content) p.start p.length s }
 
 abbrev pub beside_behind : declared_place.Place → Asides → Asides
-beside_behind p s = behind_token_of (content_of p.content) p.count s
+beside_behind p s = behind_token_of (holding p.content) s
 
 abbrev pub HasBeside : declared_place.Place → Asides → Type 0
-HasBeside p s = HasTokenOf (content_of p.content) p.count s
+HasBeside p s = HasTokenOf (holding p.content) s
 
 abbrev pub places_at : List declared_place.Place → Asides → List Place
 places_at [] s = []
@@ -112,17 +127,16 @@ abbrev pub Fit : List declared_place.Place → Asides → Type 0
 Fit [] s = s ≡ nothing
 Fit (p ∷ ps) s = HasBeside p s × Fit ps (beside_behind p s)
 
-HasTokenOf-prop : (what : Content) (k : ℕ) (s : Asides) → IsProp (HasTokenOf what k s)
-HasTokenOf-prop (Indicator what) k s = hlevel props
-HasTokenOf-prop (Text what) k s = hlevel props
-HasTokenOf-prop (Tag h) k s = hlevel props
-HasTokenOf-prop Aside k s = hlevel props
+HasTokenOf-prop : (how : Holding) (s : Asides) → IsProp (HasTokenOf how s)
+HasTokenOf-prop (Bare kind) s = hlevel props
+HasTokenOf-prop (WithText kind_with k) s = hlevel props
+HasTokenOf-prop Whole s = hlevel props
 
 -- A fact of structs has one proof.
 pub Fit-prop : (ps : List declared_place.Place) (s : Asides) → IsProp (Fit ps s)
 Fit-prop [] s = hlevel props
 Fit-prop (p ∷ ps) s = λ u v i. (
-  HasTokenOf-prop (content_of p.content) p.count s u.0 v.0 i,
+  HasTokenOf-prop (holding p.content) s u.0 v.0 i,
   Fit-prop ps (beside_behind p s) u.1 v.1 i,
 )
 

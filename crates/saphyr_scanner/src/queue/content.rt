@@ -1,8 +1,8 @@
-//! What a place holds of its token, in a byte.
+//! What a place holds of its token, in two bytes.
 
 ghost use Rattle.std.specs.Prelude.{◌≡◌, [], List, ℕ, IfOk, IfSome, IsTrue, string_bytes};
 ghost use Rattle.saphyr_scanner.specs.Grammar.Tokens as tokens;
-ghost use Rattle.saphyr_scanner.specs.Views.Places.{held_handle, indicator_kind, text_kind};
+ghost use Rattle.saphyr_scanner.specs.Views.Places.{WithText, held_handle, holding, indicator_kind, text_kind};
 ghost use Rattle.saphyr_scanner.specs.Views.Reads.{quote_style};
 ghost use Rattle.saphyr_scanner.specs.Views.Tokens.{kind_of};
 
@@ -12,7 +12,7 @@ use saphyr_scalar::{ScalarStyle, TagParts};
 use std::alloc::AllocError;
 
 /// The kinds of tokens of collections, which have no text.
-#[derive(Clone, Copy)]
+#[derive(Clone, Copy, PartialEq)]
 pub enum Indicator {
     SequenceStart,
     SequenceEnd,
@@ -47,25 +47,34 @@ impl Indicator {
         }
     }
 
+    /// Which of them a token is, if it is one.
+    #[inline(always)]
+    pub(super) fn of(kind: &TokenType) -> Option<Indicator>
+        ensures { IfSome result (λ found. kind_of kind.now ≡ indicator_kind found) }
+    {
+        match kind {
+            TokenType::FlowSequenceStart => Some(Indicator::SequenceStart),
+            TokenType::FlowSequenceEnd => Some(Indicator::SequenceEnd),
+            TokenType::FlowMappingStart => Some(Indicator::MappingStart),
+            TokenType::FlowMappingEnd => Some(Indicator::MappingEnd),
+            TokenType::FlowEntry => Some(Indicator::Entry),
+            TokenType::Key => Some(Indicator::Key),
+            TokenType::Value => Some(Indicator::Value),
+            TokenType::BlockSequenceStart => Some(Indicator::BlockSequenceStart),
+            TokenType::BlockMappingStart => Some(Indicator::BlockMappingStart),
+            TokenType::BlockEntry => Some(Indicator::BlockEntry),
+            TokenType::BlockEnd => Some(Indicator::BlockEnd),
+            _ => None,
+        }
+    }
+
     /// Whether a token is this indicator.
     #[must_use]
     #[inline(always)]
     pub fn is(self, kind: &TokenType) -> bool
         ensures { IsTrue result → kind_of kind.now ≡ indicator_kind self }
     {
-        match self {
-            Indicator::SequenceStart => matches!(kind, TokenType::FlowSequenceStart),
-            Indicator::SequenceEnd => matches!(kind, TokenType::FlowSequenceEnd),
-            Indicator::MappingStart => matches!(kind, TokenType::FlowMappingStart),
-            Indicator::MappingEnd => matches!(kind, TokenType::FlowMappingEnd),
-            Indicator::Entry => matches!(kind, TokenType::FlowEntry),
-            Indicator::Key => matches!(kind, TokenType::Key),
-            Indicator::Value => matches!(kind, TokenType::Value),
-            Indicator::BlockSequenceStart => matches!(kind, TokenType::BlockSequenceStart),
-            Indicator::BlockMappingStart => matches!(kind, TokenType::BlockMappingStart),
-            Indicator::BlockEntry => matches!(kind, TokenType::BlockEntry),
-            Indicator::BlockEnd => matches!(kind, TokenType::BlockEnd),
-        }
+        matches!(Indicator::of(kind), Some(found) if found == self)
     }
 }
 
@@ -102,6 +111,20 @@ impl TextKind {
         match quote {
             Quote::Single => TextKind::SingleQuoted,
             Quote::Double => TextKind::DoubleQuoted,
+        }
+    }
+
+    /// What a place holds of a token of this kind, whose text has so many bytes.
+    #[inline(always)]
+    pub(super) fn content(self, count: u8) -> Content
+        ensures { holding result ≡ WithText (text_kind self) count }
+    {
+        match self {
+            TextKind::Alias => Content::Alias(count),
+            TextKind::Anchor => Content::Anchor(count),
+            TextKind::Plain => Content::Plain(count),
+            TextKind::SingleQuoted => Content::SingleQuoted(count),
+            TextKind::DoubleQuoted => Content::DoubleQuoted(count),
         }
     }
 
@@ -144,6 +167,18 @@ impl Handle {
         }
     }
 
+    /// What a place holds of a tag of this handle, whose suffix has so many bytes.
+    #[inline(always)]
+    pub(super) fn content(self, count: u8) -> Content
+        ensures { holding result ≡ WithText (tokens.Tag (held_handle self)) count }
+    {
+        match self {
+            Handle::Empty => Content::EmptyTag(count),
+            Handle::Primary => Content::PrimaryTag(count),
+            Handle::Secondary => Content::SecondaryTag(count),
+        }
+    }
+
     // The handle, in the memory of an empty text.
     #[inline(always)]
     fn written_in(self, mut text: String) -> Result<String, AllocError>
@@ -179,120 +214,23 @@ impl Handle {
     }
 }
 
-/// What a place holds of its token.
+/// What a place holds of its token. A text is aside, and here is how many bytes it has.
+///
+/// Texts have a variant for each kind, since a kind beside the number would take a third byte.
 #[derive(Clone, Copy)]
 pub(super) enum Content {
     Indicator(Indicator),
-    /// The token has a text, which is aside.
-    Text(TextKind),
-    /// The token is a tag with this handle, and its suffix is aside.
-    Tag(Handle),
+    Alias(u8),
+    Anchor(u8),
+    Plain(u8),
+    SingleQuoted(u8),
+    DoubleQuoted(u8),
+    /// A tag with an empty handle, whose suffix is the text.
+    EmptyTag(u8),
+    /// The same with the handle `!`.
+    PrimaryTag(u8),
+    /// The same with the handle `!!`.
+    SecondaryTag(u8),
     /// The whole token is aside.
     Aside,
-}
-
-/// The same in a byte.
-#[derive(Clone, Copy)]
-pub(super) enum Packed {
-    SequenceStart,
-    SequenceEnd,
-    MappingStart,
-    MappingEnd,
-    Entry,
-    Key,
-    Value,
-    BlockSequenceStart,
-    BlockMappingStart,
-    BlockEntry,
-    BlockEnd,
-    Alias,
-    Anchor,
-    Plain,
-    SingleQuoted,
-    DoubleQuoted,
-    EmptyTag,
-    PrimaryTag,
-    SecondaryTag,
-    Aside,
-}
-
-impl Packed {
-    ghost use Rattle.saphyr_scanner.specs.Views.Contents.{content_of};
-    ghost use Rattle.saphyr_scanner.specs.declared.queue.content.Content.TheVariants.{Indicator as Holds};
-
-    #[inline(always)]
-    pub(super) fn new(content: Content) -> Self
-        ensures { content_of result ≡ content }
-    {
-        match content {
-            Content::Indicator(Indicator::SequenceStart) => Packed::SequenceStart,
-            Content::Indicator(Indicator::SequenceEnd) => Packed::SequenceEnd,
-            Content::Indicator(Indicator::MappingStart) => Packed::MappingStart,
-            Content::Indicator(Indicator::MappingEnd) => Packed::MappingEnd,
-            Content::Indicator(Indicator::Entry) => Packed::Entry,
-            Content::Indicator(Indicator::Key) => Packed::Key,
-            Content::Indicator(Indicator::Value) => Packed::Value,
-            Content::Indicator(Indicator::BlockSequenceStart) => Packed::BlockSequenceStart,
-            Content::Indicator(Indicator::BlockMappingStart) => Packed::BlockMappingStart,
-            Content::Indicator(Indicator::BlockEntry) => Packed::BlockEntry,
-            Content::Indicator(Indicator::BlockEnd) => Packed::BlockEnd,
-            Content::Text(TextKind::Alias) => Packed::Alias,
-            Content::Text(TextKind::Anchor) => Packed::Anchor,
-            Content::Text(TextKind::Plain) => Packed::Plain,
-            Content::Text(TextKind::SingleQuoted) => Packed::SingleQuoted,
-            Content::Text(TextKind::DoubleQuoted) => Packed::DoubleQuoted,
-            Content::Tag(Handle::Empty) => Packed::EmptyTag,
-            Content::Tag(Handle::Primary) => Packed::PrimaryTag,
-            Content::Tag(Handle::Secondary) => Packed::SecondaryTag,
-            Content::Aside => Packed::Aside,
-        }
-    }
-
-    #[inline(always)]
-    pub(super) fn content(self) -> Content
-        ensures { result ≡ content_of self }
-    {
-        match self {
-            Packed::SequenceStart => Content::Indicator(Indicator::SequenceStart),
-            Packed::SequenceEnd => Content::Indicator(Indicator::SequenceEnd),
-            Packed::MappingStart => Content::Indicator(Indicator::MappingStart),
-            Packed::MappingEnd => Content::Indicator(Indicator::MappingEnd),
-            Packed::Entry => Content::Indicator(Indicator::Entry),
-            Packed::Key => Content::Indicator(Indicator::Key),
-            Packed::Value => Content::Indicator(Indicator::Value),
-            Packed::BlockSequenceStart => Content::Indicator(Indicator::BlockSequenceStart),
-            Packed::BlockMappingStart => Content::Indicator(Indicator::BlockMappingStart),
-            Packed::BlockEntry => Content::Indicator(Indicator::BlockEntry),
-            Packed::BlockEnd => Content::Indicator(Indicator::BlockEnd),
-            Packed::Alias => Content::Text(TextKind::Alias),
-            Packed::Anchor => Content::Text(TextKind::Anchor),
-            Packed::Plain => Content::Text(TextKind::Plain),
-            Packed::SingleQuoted => Content::Text(TextKind::SingleQuoted),
-            Packed::DoubleQuoted => Content::Text(TextKind::DoubleQuoted),
-            Packed::EmptyTag => Content::Tag(Handle::Empty),
-            Packed::PrimaryTag => Content::Tag(Handle::Primary),
-            Packed::SecondaryTag => Content::Tag(Handle::Secondary),
-            Packed::Aside => Content::Aside,
-        }
-    }
-
-    /// Whether the place holds this indicator.
-    #[inline(always)]
-    pub(super) fn is(self, indicator: Indicator) -> bool
-        ensures { IsTrue result → content_of self ≡ Holds indicator }
-    {
-        match indicator {
-            Indicator::SequenceStart => matches!(self, Packed::SequenceStart),
-            Indicator::SequenceEnd => matches!(self, Packed::SequenceEnd),
-            Indicator::MappingStart => matches!(self, Packed::MappingStart),
-            Indicator::MappingEnd => matches!(self, Packed::MappingEnd),
-            Indicator::Entry => matches!(self, Packed::Entry),
-            Indicator::Key => matches!(self, Packed::Key),
-            Indicator::Value => matches!(self, Packed::Value),
-            Indicator::BlockSequenceStart => matches!(self, Packed::BlockSequenceStart),
-            Indicator::BlockMappingStart => matches!(self, Packed::BlockMappingStart),
-            Indicator::BlockEntry => matches!(self, Packed::BlockEntry),
-            Indicator::BlockEnd => matches!(self, Packed::BlockEnd),
-        }
-    }
 }

@@ -1,5 +1,7 @@
 //! The tokens that are held, in their places.
 
+mod take;
+
 ghost use Rattle.std.specs.Prelude.{◌≡◌, ◌<◌, ◌≤◌, ◌^◌, ◌+◌, [], ◌∷◌, ◌++◌, drop, length, IfOk, IfSome, Ok, OnOk, slice_index, string_bytes, vec_len, vec_capacity};
 ghost use Rattle.saphyr_scanner.specs.Grammar.Tokens as tokens;
 ghost use Rattle.saphyr_scanner.specs.Steps.Queue as spec;
@@ -10,7 +12,6 @@ ghost use Rattle.saphyr_scalar.specs.Views.Reader.{Moves, cursor_of};
 ghost use Rattle.saphyr_scanner.specs.Views.Places.{
   Fit,
   Fit-prop,
-  indicator_kind,
   indicator_piece,
   near_span,
   tag_kind,
@@ -22,7 +23,7 @@ use crate::queue::aside::Aside;
 use crate::queue::content::{Handle, Indicator, TextKind};
 use crate::queue::near::{NearMarker, near};
 use crate::queue::place::Place;
-use crate::token::{Token, TokenType};
+use crate::token::TokenType;
 use saphyr_input::input::Input;
 use saphyr_scalar::values::Quote;
 use saphyr_scalar::{Marker, Reader, ScalarStyle, Span, Spare, Stop, TagParts};
@@ -48,7 +49,7 @@ pub(super) struct Held {
 
 impl Held {
     ghost use Rattle.saphyr_scanner.specs.Views.Tokens.{kind_of};
-    ghost use Rattle.saphyr_scanner.specs.Views.Queue.{held_places, held_queue, PassesOffBy, TakesHeldBy};
+    ghost use Rattle.saphyr_scanner.specs.Views.Queue.{held_places};
 
     #[tactic(auto, unfolding(crate::specs::Views::Queue::held_places))]
     pub(super) fn new(alloc: Global) -> Self
@@ -345,100 +346,6 @@ impl Held {
         if let Some(place) = self.places.get_mut(self.spent + nth) {
             place.opening = opening;
         }
-    }
-
-    // Takes the first token off, if there is one, and writes it into `token`.
-    #[inline(always)]
-    fn take_place(
-        &mut self,
-        alloc: Global,
-        token: &mut Token,
-        handed: &mut usize,
-        spare: &mut Spare,
-    ) -> Result<bool, Stop>
-        ensures { TakesHeldBy spec.take_place self.old handed.old
-            result token.new self.new handed.new }
-    {
-        let Some(count) = handed.checked_add(1) else {
-            return Err(Stop::OutOfMemory);
-        };
-        let Some(place) = self.places.get(self.spent) else {
-            return Ok(false);
-        };
-        *handed = count;
-        place.take_into(alloc, &mut self.aside, token, spare)?;
-        self.spent += 1;
-        Ok(true)
-    }
-
-    /// Takes off what is handed out next, and writes it into `token`: what comes in front of the first token, or that
-    /// token itself, which is counted.
-    #[inline(always)]
-    pub(super) fn take_into(
-        &mut self,
-        alloc: Global,
-        token: &mut Token,
-        handed: &mut usize,
-        spare: &mut Spare,
-    ) -> Result<bool, Stop>
-        ensures { TakesHeldBy spec.take self.old handed.old result token.new self.new handed.new }
-    {
-        let Some(place) = self.places.get(self.spent) else {
-            return Ok(false);
-        };
-        let (kind, left) = match place.opening {
-            Opening::Nothing => return self.take_place(alloc, token, handed, spare),
-            Opening::Key => (TokenType::Key, Opening::Nothing),
-            Opening::BlockMappingAndKey => (TokenType::BlockMappingStart, Opening::Key),
-            Opening::FlowMappingAndKey => (TokenType::FlowMappingStart, Opening::Key),
-        };
-        token.set(Span::empty(place.start(&self.aside)), kind);
-        self.open(0, left);
-        Ok(true)
-    }
-
-    // Takes the first token off, if it is this indicator, and returns its span.
-    #[inline(always)]
-    fn pass_place(&mut self, indicator: Indicator, handed: &mut usize) -> Result<Option<Span>, Stop>
-        ensures { PassesOffBy (indicator_kind indicator) spec.take_place result
-            (held_queue self.old handed.old) (held_queue self.new handed.new) }
-    {
-        let Some(count) = handed.checked_add(1) else {
-            return Err(Stop::OutOfMemory);
-        };
-        let Some(place) = self.places.get(self.spent) else {
-            return Ok(None);
-        };
-        let Some(span) = place.span_of(indicator) else {
-            return Ok(None);
-        };
-        *handed = count;
-        self.spent += 1;
-        Ok(Some(span))
-    }
-
-    /// Takes off what is handed out next, if it is this indicator, and returns its span.
-    #[inline(always)]
-    pub(super) fn pass(
-        &mut self,
-        indicator: Indicator,
-        handed: &mut usize,
-    ) -> Result<Option<Span>, Stop>
-        ensures { PassesOffBy (indicator_kind indicator) spec.take result
-            (held_queue self.old handed.old) (held_queue self.new handed.new) }
-    {
-        let Some(place) = self.places.get(self.spent) else {
-            return Ok(None);
-        };
-        if place.opening.is_nothing() {
-            return self.pass_place(indicator, handed);
-        }
-        let Some(left) = place.opening.behind(indicator) else {
-            return Ok(None);
-        };
-        let span = Span::empty(place.start(&self.aside));
-        self.open(0, left);
-        Ok(Some(span))
     }
 
     /// The same tokens, unless memory runs out.

@@ -7,7 +7,6 @@ ghost use Rattle.saphyr_scalar.specs.declared.scalar.style.ScalarStyle.TheVarian
 ghost use Rattle.saphyr_scalar.specs.Views.Reader.{GivesBy, cursor_of};
 ghost use Rattle.saphyr_scanner.specs.Grammar.Tokens as tokens;
 ghost use Rattle.saphyr_scanner.specs.Views.Asides.{EndsWithText, IsTextOf, behind_token, first_aside, with_text_aside, with_token};
-ghost use Rattle.saphyr_scanner.specs.Views.Contents.{content_of};
 ghost use Rattle.saphyr_scanner.specs.Views.Places.{
   AddsBehind,
   beside_behind,
@@ -25,7 +24,7 @@ ghost use Rattle.saphyr_scanner.specs.Views.Tokens.{Piece, kind_of, piece};
 
 use crate::queue::Opening;
 use crate::queue::aside::Aside;
-use crate::queue::content::{Content, Handle, Indicator, Packed, TextKind};
+use crate::queue::content::{Content, Handle, Indicator, TextKind};
 use crate::queue::near::{NearMarker, near};
 use crate::token::{Token, TokenType};
 use saphyr_input::char_traits::is_breakz;
@@ -33,6 +32,7 @@ use saphyr_input::input::{Input, SkipTabs};
 use saphyr_scalar::values::Quote;
 use saphyr_scalar::{FaultText, Marker, Reader, Refusal, ScalarStyle, Span, Spare, Stop, TagParts};
 use std::alloc::{AllocError, Global};
+use std::mem::forget;
 
 /// A token, and what is handed out before it.
 ///
@@ -41,10 +41,9 @@ use std::alloc::{AllocError, Global};
 #[derive(Clone, Copy)]
 pub(super) struct Place {
     pub(super) opening: Opening,
-    content: Packed,
-    // How many characters the token has, and how many bytes its text.
+    content: Content,
+    // How many characters the token has.
     length: u8,
-    count: u8,
     start: NearMarker,
 }
 
@@ -91,9 +90,8 @@ impl Place {
     {
         Place {
             opening: Opening::Nothing,
-            content: Packed::new(Content::Indicator(indicator)),
+            content: Content::Indicator(indicator),
             length,
-            count: 0,
             start,
         }
     }
@@ -107,9 +105,8 @@ impl Place {
     {
         Place {
             opening: Opening::Nothing,
-            content: Packed::new(Content::Text(what)),
+            content: what.content(count),
             length,
-            count,
             start,
         }
     }
@@ -123,9 +120,8 @@ impl Place {
     {
         Place {
             opening: Opening::Nothing,
-            content: Packed::new(Content::Tag(handle)),
+            content: handle.content(count),
             length,
-            count,
             start,
         }
     }
@@ -201,9 +197,8 @@ impl Place {
     {
         Place {
             opening: Opening::Nothing,
-            content: Packed::new(Content::Aside),
+            content: Content::Aside,
             length: 0,
-            count: 0,
             start: NearMarker::zero(),
         }
     }
@@ -223,20 +218,10 @@ impl Place {
         let Some((start, length)) = near(&span.start, &span.end) else {
             return Place::whole(span, kind, aside);
         };
-        let indicator = match kind {
-            TokenType::FlowSequenceStart => Indicator::SequenceStart,
-            TokenType::FlowSequenceEnd => Indicator::SequenceEnd,
-            TokenType::FlowMappingStart => Indicator::MappingStart,
-            TokenType::FlowMappingEnd => Indicator::MappingEnd,
-            TokenType::FlowEntry => Indicator::Entry,
-            TokenType::Key => Indicator::Key,
-            TokenType::Value => Indicator::Value,
-            TokenType::BlockSequenceStart => Indicator::BlockSequenceStart,
-            TokenType::BlockMappingStart => Indicator::BlockMappingStart,
-            TokenType::BlockEntry => Indicator::BlockEntry,
-            TokenType::BlockEnd => Indicator::BlockEnd,
-            kind => return Place::with_text(start, length, kind, aside, spare),
+        let Some(indicator) = Indicator::of(&kind) else {
+            return Place::with_text(start, length, kind, aside, spare);
         };
+        forget(kind);
         Ok(Place::bare(start, length, indicator))
     }
 
@@ -285,7 +270,7 @@ impl Place {
             ≡ record { span = span; kind = indicator_kind indicator }) }
         ensures nothing_aside { (s : Asides) → IfSome result (λ span. beside_behind self s ≡ s) }
     {
-        if self.content.is(indicator) {
+        if matches!(self.content, Content::Indicator(found) if found == indicator) {
             return Some(self.start.span(self.length));
         }
         None
@@ -296,9 +281,9 @@ impl Place {
     pub(super) fn start(self, aside: &Aside) -> Marker
         ensures { result ≡ (place_at self aside.now).piece.span.start }
     {
-        match self.content.content() {
-            Content::Indicator(_) | Content::Text(_) | Content::Tag(_) => self.start.marker(),
+        match self.content {
             Content::Aside => aside.first_start(),
+            _ => self.start.marker(),
         }
     }
 
@@ -316,22 +301,28 @@ impl Place {
         ensures left { OnOk result (aside.new ≡ beside_behind self aside.old) }
         ensures failed { OnErr result (aside.new ≡ aside.old) }
     {
-        match self.content.content() {
+        let (what, count) = match self.content {
             Content::Indicator(indicator) => {
                 token.set(self.start.span(self.length), indicator.kind());
+                return Ok(());
             }
-            Content::Text(what) => {
-                let mut text = spare.begin(alloc)?;
-                text.push_str(aside.first_text(self.count))?;
-                aside.pass_text(self.count);
-                token.set(self.start.span(self.length), what.kind(text));
-            }
-            Content::Tag(_) | Content::Aside => {
+            Content::Alias(count) => (TextKind::Alias, count),
+            Content::Anchor(count) => (TextKind::Anchor, count),
+            Content::Plain(count) => (TextKind::Plain, count),
+            Content::SingleQuoted(count) => (TextKind::SingleQuoted, count),
+            Content::DoubleQuoted(count) => (TextKind::DoubleQuoted, count),
+            // The token is a tag, or aside as a whole.
+            _ => {
                 self.make_whole(alloc, aside, spare)?;
                 let Token { span, kind } = aside.take_token();
                 token.set(span, kind);
+                return Ok(());
             }
-        }
+        };
+        let mut text = spare.begin(alloc)?;
+        text.push_str(aside.first_text(count))?;
+        aside.pass_text(count);
+        token.set(self.start.span(self.length), what.kind(text));
         Ok(())
     }
 
@@ -346,7 +337,7 @@ impl Place {
         aside: &mut Aside,
         spare: &mut Spare,
     ) -> Result<(), AllocError>
-        requires apart { is_apart (content_of self.content) ≡ true }
+        requires apart { is_apart self.content ≡ true }
         requires beside { HasBeside self aside.old }
         ensures some { OnOk result (1 ≤ length aside.new.tokens) }
         ensures token { OnOk result
@@ -354,14 +345,18 @@ impl Place {
         ensures left { OnOk result (behind_token aside.new ≡ beside_behind self aside.old) }
         ensures failed { OnErr result (aside.new ≡ aside.old) }
     {
-        if let Content::Tag(handle) = self.content.content() {
-            let tag = TagParts::begin(spare, alloc)?;
-            let tag = handle.tag(tag, aside.first_text(self.count))?;
-            let kind = TokenType::Tag(spare.boxed(alloc, tag)?);
-            let span = self.start.span(self.length);
-            aside.keep_first(Token { span, kind })?;
-            aside.pass_text(self.count);
-        }
+        let (handle, size) = match self.content {
+            Content::EmptyTag(size) => (Handle::Empty, size),
+            Content::PrimaryTag(size) => (Handle::Primary, size),
+            Content::SecondaryTag(size) => (Handle::Secondary, size),
+            _ => return Ok(()),
+        };
+        let tag = TagParts::begin(spare, alloc)?;
+        let tag = handle.tag(tag, aside.first_text(size))?;
+        let kind = TokenType::Tag(spare.boxed(alloc, tag)?);
+        let span = self.start.span(self.length);
+        aside.keep_first(Token { span, kind })?;
+        aside.pass_text(size);
         Ok(())
     }
 }
