@@ -24,20 +24,10 @@ fed c e =
     (rw e refl) (rw e refl) (rw e refl) in
     rw (none, e) refl
 
-is_no_blank : (x : ℕ) → may_begin_entry x ≡ true → is_blank x ≡ false
-is_no_blank x e = grind (arith, nat_tests)
-
-is_no_break : (x : ℕ) → may_begin_entry x ≡ true → is_break x ≡ false
-is_no_break x e = grind (arith, nat_tests)
-
-is_no_flow : (x : ℕ) → may_begin_entry x ≡ true → is_flow x ≡ false
-is_no_flow x e = grind (arith, nat_tests)
-
-is_no_sign : (x : ℕ) → may_begin_entry x ≡ true → (x == number_sign) ≡ false
-is_no_sign x e = grind (arith, nat_tests)
-
-is_no_bom : (x : ℕ) → may_begin_entry x ≡ true → is_bom x ≡ false
-is_no_bom x e = grind (arith, nat_tests)
+-- what begins an entry's text
+first_character : (x : ℕ) → may_begin_entry x ≡ true → (is_blank x ≡ false) × (is_break x ≡ false)
+    × (is_flow x ≡ false) × ((x == number_sign) ≡ false) × (is_bom x ≡ false)
+first_character x e = grind (arith, nat_tests)
 
 -- content is behind a space
 pub spaced : (c : Core) → slice_index c.cursor.rest 0 ≡ 32 → may_begin_entry (slice_index c.cursor.rest 1) ≡ true
@@ -51,8 +41,8 @@ spaced c e begins = go c.cursor.rest e begins
     go [] f b = absurd (cc)
     go (x ∷ []) f b = absurd (cc)
     go (x ∷ y ∷ ys) f b =
-        rw (f, is_no_blank y b, is_no_sign y b, is_no_bom y b, and_false (nat_lt 0 (c.cursor.mark.col + 1)))
-        (rw (is_no_break y b, is_no_flow y b) refl)
+        let is = first_character y b in
+        rw (f, is.0, is.3, is.4, and_false (nat_lt 0 (c.cursor.mark.col + 1))) (rw (is.1, is.2) refl)
 
 -- ## From the `-` on, where a sequence may begin at its column
 

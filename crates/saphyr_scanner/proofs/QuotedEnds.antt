@@ -25,20 +25,9 @@ use Rattle.saphyr_scanner.specs.Views.Reads.{ScalarRead, behind_flow_quotes, flo
 use Rattle.saphyr_scanner.proofs.Gaps.{nothing_passed}
 use Rattle.saphyr_scanner.proofs.HeldReads.{value_or}
 
-is_no_blank : (x : ℕ) → is_entry_end x ≡ true → is_blank x ≡ false
-is_no_blank x e = grind (arith, nat_tests)
-
-is_no_break : (x : ℕ) → is_entry_end x ≡ true → is_break x ≡ false
-is_no_break x e = grind (arith, nat_tests)
-
-is_no_sign : (x : ℕ) → is_entry_end x ≡ true → (x == number_sign) ≡ false
-is_no_sign x e = grind (arith, nat_tests)
-
-is_no_bom : (x : ℕ) → is_entry_end x ≡ true → is_bom x ≡ false
-is_no_bom x e = grind (arith, nat_tests)
-
-is_not_skipped : (x : ℕ) → is_entry_end x ≡ true → is_skipped tabs.Yes x ≡ false
-is_not_skipped x e = grind (arith, nat_tests)
+last_character : (x : ℕ) → is_entry_end x ≡ true → (is_blank x ≡ false) × (is_break x ≡ false)
+    × (is_skipped tabs.Yes x ≡ false) × ((x == number_sign) ≡ false) × (is_bom x ≡ false)
+last_character x e = grind (arith, nat_tests)
 
 -- where an indicator comes right after the scalar
 pub separated_at_indicator : (s : Cursor) → is_entry_end (slice_index s.rest 0) ≡ true
@@ -46,16 +35,16 @@ pub separated_at_indicator : (s : Cursor) → is_entry_end (slice_index s.rest 0
 unfolding behind_flow_quotes
 separated_at_indicator s sign =
     let x = slice_index s.rest 0 in
-    rw (nothing_separates tabs.Yes s s x refl refl (is_not_skipped x sign) (is_no_sign x sign) (is_no_bom x sign))
-    (rw sign refl)
+    let is = last_character x sign in
+    rw (nothing_separates tabs.Yes s s x refl refl is.2 is.3 is.4) (rw sign refl)
 
 -- Nothing is passed then.
 pub gap_at_indicator : (c : Core) → is_entry_end (slice_index c.cursor.rest 0) ≡ true → pass_gap c ≡ check_comment c
 unfolding pass_gap
 gap_at_indicator c sign =
     let x = slice_index c.cursor.rest 0 in
-    rw (nothing_passed (least_column c) c.cursor c.cursor x refl refl (is_no_blank x sign) (is_no_break x sign)
-    (is_no_sign x sign)) refl
+    let is = last_character x sign in
+    rw (nothing_passed (least_column c) c.cursor c.cursor x refl refl is.0 is.1 is.3) refl
 
 -- ## Scalars that are held
 

@@ -1,7 +1,8 @@
 -- What is passed leads from a place to a later one.
-use Rattle.std.proofs.Common.{◌≡◌, ℕ, ◌+◌, ◌⊎◌, Bool, true, false, List, [], ◌∷◌, ◌++◌, length, drop, refl, sym, ◌∙◌, arith, subst, inl, inr}
+use Rattle.std.proofs.Common.{◌≡◌, ℕ, ◌+◌, ◌≤◌, ◌⊎◌, Bool, true, false, List, [], ◌∷◌, ◌++◌, length, drop, refl, sym, arith, subst, inl, inr}
 use Rattle.std.specs.Prelude.{◌&&◌, ◌||◌, ◌==◌, not, slice_index}
 use Rattle.saphyr_input.specs.Classes.{is_break, is_blank, is_yaml_non_break, carriage_return, line_feed}
+use Rattle.saphyr_input.specs.Places.{next_2_are}
 use Rattle.saphyr_scalar.specs.declared.scalar.position.Marker.{Marker}
 use Rattle.saphyr_scalar.specs.Views.Cursor.{along, next_line}
 use Rattle.saphyr_scalar.specs.Passing as passing
@@ -10,12 +11,14 @@ use Rattle.saphyr_scalar.specs.Steps.Plain.{ends_line}
 use Rattle.saphyr_scalar.specs.Reading.Plain.{end_of_text}
 use Rattle.saphyr_scalar.specs.Steps.Quoted.{break_len}
 use Rattle.saphyr_scalar.proofs.NoBreaks.{NoBreaks, class_no_break, no_breaks_in}
+use Rattle.saphyr_scalar.proofs.Lengths.{two_shown}
 use Rattle.saphyr_scalar.proofs.Moving.{along_none, along_more}
 use Rattle.saphyr_scanner.specs.TokensTaken as taken
 use Rattle.saphyr_scanner.specs.TokensTaken.{IsReached, IsPassedOver, past_mark}
-use Rattle.saphyr_scanner.proofs.Taken.Later.{break_later}
 use Rattle.std.proofs.lemmas.Bool.{eqb-true, and_parts, not-true}
+use Rattle.std.proofs.lemmas.List.{length-drop}
 use Rattle.saphyr_input.proofs.Basics.Booleans.{by_test}
+use Rattle.saphyr_input.proofs.Basics.Lists.{shows_character}
 
 pub reached_reached : (m : Marker) (t : List ℕ) (n : Marker) (u : List ℕ) (k : Marker) (v : List ℕ) → IsReached m t n u
     → IsReached n u k v → IsReached m t k v
@@ -27,6 +30,11 @@ reached_reached _ _ _ _ k v (taken.mark m t n u e p) q =
 reached_reached _ _ _ _ k v (taken.line_break m t n u e p) q =
     taken.line_break m t k v e (reached_reached (next_line m (break_len t)) (drop (break_len t) t) n u k v p q)
 
+pub break_len_within : (t : List ℕ) → is_break (slice_index t 0) ≡ true → (1 ≤ break_len t) × (break_len t ≤ length t)
+break_len_within t e =
+    by_test (next_2_are t 13 10) 2 1 (λ n. (1 ≤ n) × (n ≤ length t)) (λ k. (omega arith, two_shown t k))
+    (λ _. (omega arith, shows_character t is_break true e (λ k. absurd (cc))))
+
 -- a place has as many characters before it as were passed
 pub reached_counted : (m : Marker) (t : List ℕ) (n : Marker) (u : List ℕ) → IsReached m t n u
     → n.index + length u ≡ m.index + length t
@@ -36,7 +44,7 @@ reached_counted _ _ _ _ (taken.character m c t n u e p) =
 reached_counted _ _ _ _ (taken.mark m t n u e p) = let h = reached_counted (past_mark m) t n u p in omega (arith, h)
 reached_counted _ _ _ _ (taken.line_break m t n u e p) =
     let h = reached_counted (next_line m (break_len t)) (drop (break_len t) t) n u p in
-    let b = break_later m t e in h ∙ b.counted
+    omega (arith, h, length-drop (break_len t) t, (break_len_within t e).1)
 
 -- characters of a line
 pub words_reached : (m : Marker) (ws t : List ℕ) (n : Marker) (u : List ℕ) → NoBreaks ws

@@ -15,21 +15,16 @@ use Rattle.saphyr_scanner.specs.Views.Ahead.{may_begin, may_begin_mark, with_con
 use Rattle.saphyr_scanner.proofs.Blocks.{none_ends}
 use Rattle.saphyr_scanner.proofs.Gaps.{nothing_passed}
 
-is_no_blank : (x : ℕ) → may_begin x ≡ true → is_blank x ≡ false
-is_no_blank x e = grind (arith, nat_tests)
-
-is_no_break : (x : ℕ) → may_begin x ≡ true → is_break x ≡ false
-is_no_break x e = grind (arith, nat_tests)
-
-is_no_sign : (x : ℕ) → may_begin x ≡ true → (x == number_sign) ≡ false
-is_no_sign x e = grind (arith, nat_tests)
+first_character : (x : ℕ) → may_begin x ≡ true
+    → (is_blank x ≡ false) × (is_break x ≡ false) × ((x == number_sign) ≡ false)
+first_character x e = grind (arith, nat_tests)
 
 pub no_gap : (c : Core) → may_begin (slice_index c.cursor.rest 0) ≡ true → c.comment ≡ None → pass_gap c ≡ Ok c
 unfolding pass_gap check_comment
 no_gap c begins none =
     let x = slice_index c.cursor.rest 0 in
-    let gap = nothing_passed (least_column c) c.cursor c.cursor x refl refl
-    (is_no_blank x begins) (is_no_break x begins) (is_no_sign x begins) in
+    let is = first_character x begins in
+    let gap = nothing_passed (least_column c) c.cursor c.cursor x refl refl is.0 is.1 is.2 in
     rw (gap, none) refl
 
 kept_key : (c : Core) → (in_block c && is_too_far c.level.key c.cursor.mark) ≡ false → drop_far_key c ≡ Ok c

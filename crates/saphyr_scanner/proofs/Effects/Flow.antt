@@ -159,65 +159,27 @@ mapping_may_close context.FlowMapping span l outside e = let some = has_some spa
 abbrev pub BeginsPiece : Kind → Type 0
 BeginsPiece kind = (span : Span) → span.start.index < span.end.index → Begins (record { span = span; kind = kind })
 
+bracket : {x : ℕ} {kind : Kind} → (x == 0) ≡ false → (x == colon) ≡ false → is_break x ≡ false → is_quiet kind ≡ true
+    → IsNoEnd kind → is_unbound kind ≡ true
+    → ((i : Surroundings) (span : Span) (s t : Cursor) → IsFlowIndicator x span s t → IsToken i kind span s t)
+    → Bracket x kind
+bracket a b c d e f g =
+    record { some = a; other = b; unbroken = c; quiet = d; no_end = e; unbound = f; is = g }
+
 pub open_sequence : Bracket 91 tokens.FlowSequenceStart
-open_sequence =
-    record {
-      some = refl;
-      other = refl;
-      unbroken = refl;
-      quiet = refl;
-      no_end = λ i. absurd (cc);
-      unbound = refl;
-      is = λ i span s t h. h;
-    }
+open_sequence = bracket refl refl refl refl (λ i. absurd (cc)) refl (λ i span s t h. h)
 
 pub open_mapping : Bracket 123 tokens.FlowMappingStart
-open_mapping =
-    record {
-      some = refl;
-      other = refl;
-      unbroken = refl;
-      quiet = refl;
-      no_end = λ i. absurd (cc);
-      unbound = refl;
-      is = λ i span s t h. inl h;
-    }
+open_mapping = bracket refl refl refl refl (λ i. absurd (cc)) refl (λ i span s t h. inl h)
 
 pub close_sequence : Bracket 93 tokens.FlowSequenceEnd
-close_sequence =
-    record {
-      some = refl;
-      other = refl;
-      unbroken = refl;
-      quiet = refl;
-      no_end = λ i. absurd (cc);
-      unbound = refl;
-      is = λ i span s t h. h;
-    }
+close_sequence = bracket refl refl refl refl (λ i. absurd (cc)) refl (λ i span s t h. h)
 
 pub close_mapping : Bracket 125 tokens.FlowMappingEnd
-close_mapping =
-    record {
-      some = refl;
-      other = refl;
-      unbroken = refl;
-      quiet = refl;
-      no_end = λ i. absurd (cc);
-      unbound = refl;
-      is = λ i span s t h. inl h;
-    }
+close_mapping = bracket refl refl refl refl (λ i. absurd (cc)) refl (λ i span s t h. inl h)
 
 comma_is_bracket : Bracket 44 tokens.FlowEntry
-comma_is_bracket =
-    record {
-      some = refl;
-      other = refl;
-      unbroken = refl;
-      quiet = refl;
-      no_end = λ i. absurd (cc);
-      unbound = refl;
-      is = λ i span s t h. h;
-    }
+comma_is_bracket = bracket refl refl refl refl (λ i. absurd (cc)) refl (λ i span s t h. h)
 
 pub sequence_starts : BeginsPiece tokens.FlowSequenceStart
 sequence_starts span l i s u h = (h.1, ap (λ t. begins_text (slice_index t 0)) h.0.0)

@@ -127,14 +127,7 @@ quiet_within within k c t u q b depth other none fit e unbound r =
     let w = r.token laws in
     quiet_put within opened from c d p t c.cursor w.0 q b depth other none (fit premise)
     (unbound_parted t c d unbound) (λ _ f. absurd (cc)) (taken.nothing c.cursor.mark c.cursor.rest) w.1 w.2
-    (record {
-      level = refl;
-      outer = refl;
-      indent = refl;
-      outer_indents = refl;
-      adjacent = refl;
-      required = refl;
-    }) h))
+    (record { level = refl; outer = refl; indent = refl; outer_indents = refl; adjacent = refl; required = refl }) h))
 
 -- one that changes nothing
 pub quiet : {A : Type 0} (k : ℕ) (c : Core) (t : Piece) (u : Cursor) → is_quiet t.kind ≡ true → Neutral t

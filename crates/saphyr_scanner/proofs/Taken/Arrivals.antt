@@ -84,14 +84,7 @@ behind_gap_of P c f go = by (gaps.whole_gap (least_column c) c.cursor)
         → Given BeginsText r → Given (Breaks c.cursor.mark false) r
         → Given P ((r >>= λ g. check_comment_of (behind_gap c g).comment (behind_gap c g)) >>= f)
     by (Ok g) h b k = checked c.comment (behind_gap c g)
-        (record {
-          level = refl;
-          outer = refl;
-          indent = refl;
-          outer_indents = refl;
-          adjacent = refl;
-          required = refl;
-        }) h b
+        (record { level = refl; outer = refl; indent = refl; outer_indents = refl; adjacent = refl; required = refl }) h b
         (gap_allows c g k)
     by (Err e) h b k = tt
 

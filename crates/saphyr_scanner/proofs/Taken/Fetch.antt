@@ -164,14 +164,7 @@ begin_live opened from s none h l nz =
     (λ d. refl) refl none refl
     (unbound_parted (empty_piece s.core.cursor.mark tokens.StreamStart) s.core (record s.core { started = true }) refl)
     h.right (taken.nothing _ _) (λ _ _. (refl, inl refl, refl)) (taken.nothing _ _)
-    (record {
-      level = refl;
-      outer = refl;
-      indent = refl;
-      outer_indents = refl;
-      adjacent = refl;
-      required = refl;
-    })
+    (record { level = refl; outer = refl; indent = refl; outer_indents = refl; adjacent = refl; required = refl })
     (record { taken = h; keys = l nz })).keys
 
 begin_read : (opened : Setting) (from : Cursor) (s : State) → s.core.ended ≡ false → s.core.level.key ≡ None

@@ -18,10 +18,10 @@ use Rattle.saphyr_scanner.specs.TokensTaken.{Collections, Surroundings, AreApart
 use Rattle.saphyr_scanner.proofs.Leads.{flat}
 use Rattle.saphyr_scanner.proofs.Taken.InPlace.{all_behind, behind_append, each_append, Outside, free, calmed, calm, IsPast, EndsOn, past_later, past_end, begun_by, begun_behind}
 use Rattle.saphyr_scanner.proofs.Taken.Indented.{IsRight, Indented, KeepsRequired, indented_further}
-use Rattle.saphyr_scanner.proofs.Taken.Later.{top, apart_later, tokens_later, end_stays}
+use Rattle.saphyr_scanner.proofs.Taken.Later.{top, apart_later, end_stays}
 use Rattle.saphyr_scanner.proofs.Taken.Separated.{apart_apart}
-use Rattle.saphyr_scanner.proofs.Taken.Later.{apart_later, token_later}
-use Rattle.saphyr_scanner.proofs.Taken.JsonEnds.{GoesOn, token_goes_on}
+use Rattle.saphyr_scanner.proofs.Taken.Places.{token_goes_on, token_later, tokens_later}
+use Rattle.saphyr_scanner.proofs.Taken.JsonEnds.{GoesOn}
 use Rattle.saphyr_scanner.proofs.Taken.Parts.{open_all, open_append, tokens_append}
 use Rattle.saphyr_scanner.proofs.Queues.{flat_append}
 use Rattle.std.proofs.lemmas.Bool.{ltb-false}

@@ -18,7 +18,8 @@ use Rattle.saphyr_scanner.specs.TokensTaken.{Collections, Surroundings, with_col
 use Rattle.saphyr_scanner.specs.TokensInPlace.{has_text, is_of_flow_node}
 use Rattle.saphyr_scanner.proofs.Leads.{flat, place_pieces}
 use Rattle.saphyr_scanner.proofs.Queues.{flat_append, place_with_front}
-use Rattle.saphyr_scanner.proofs.Taken.Later.{top, apart_later, token_later, tokens_later}
+use Rattle.saphyr_scanner.proofs.Taken.Later.{top, apart_later}
+use Rattle.saphyr_scanner.proofs.Taken.Places.{token_later, tokens_later}
 use Rattle.saphyr_scanner.proofs.Taken.OnLine.{plain_on_line, quoted_on_line}
 use Rattle.saphyr_scanner.proofs.Taken.InPlace.{no_text, deeper, AreInside, inside_first, inside_rest}
 pub use Rattle.saphyr_scanner.proofs.Taken.InPlace.{is_quiet, AreQuiet}

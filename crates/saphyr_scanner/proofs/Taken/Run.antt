@@ -18,7 +18,7 @@ use Rattle.saphyr_scanner.proofs.Effects.Fetch.{Fetched, read_fetched}
 use Rattle.saphyr_scanner.proofs.Filling.{going}
 use Rattle.saphyr_scanner.proofs.Leads.{flat, place_pieces}
 use Rattle.saphyr_scanner.proofs.Effects.Readers.{Readers, TextLaws, RefusalLaws}
-use Rattle.saphyr_scanner.proofs.Taken.Later.{LaterThan, later_here, later_later, tokens_later}
+use Rattle.saphyr_scanner.proofs.Taken.Later.{LaterThan, later_here, later_later}
 use Rattle.saphyr_scanner.proofs.Taken.Parts.{open_append, tokens_append, tokens_part}
 use Rattle.saphyr_scanner.proofs.Taken.Held.{Setting, setting_behind}
 use Rattle.saphyr_scanner.proofs.Taken.Keys.{Key, KeyOf, lower, KeysFrom, keys_weaken}
@@ -26,7 +26,7 @@ use Rattle.saphyr_scanner.proofs.Taken.InPlace.{all_behind, behind_append, each_
 use Rattle.saphyr_scanner.specs.TokensInPlace.{Enclosures, may_stand, is_indented, not_enclosed, AreInPlace, AreIndented}
 use Rattle.saphyr_scanner.proofs.Taken.Indented.{root_key, indented_handed}
 use Rattle.saphyr_scanner.proofs.Taken.Fetch.{Read, Ready, settled_ready, read_ready}
-use Rattle.saphyr_scanner.proofs.Taken.Places.{Reaches, reaches_reaches, place_of, tokens_reached}
+use Rattle.saphyr_scanner.proofs.Taken.Places.{Reaches, reaches_reaches, place_of, tokens_reached, tokens_later}
 use Rattle.saphyr_scanner.proofs.Told.Documents.{NotedState}
 use Rattle.saphyr_scanner.proofs.Told.Reads.{told_ok, told_err, settled_told, read_told}
 use Rattle.saphyr_input.proofs.Basics.Booleans.{by_test}

@@ -21,7 +21,8 @@ use Rattle.saphyr_scanner.specs.TokensTaken.{AreTokens, IsToken, IsBlockScalarTo
 use Rattle.saphyr_scanner.specs.TokensInPlace.{Enclosures, is_flow_style, without_innermost, block_ended}
 use Rattle.saphyr_scanner.proofs.Blocks.{block_cursor, go_less_deep_cursor}
 use Rattle.saphyr_scanner.proofs.Leads.{flat}
-use Rattle.saphyr_scanner.proofs.Taken.Later.{top, Later, LaterThan, later_later, apart_later, token_later, tokens_later}
+use Rattle.saphyr_scanner.proofs.Taken.Later.{top, Later, LaterThan, later_later, apart_later}
+use Rattle.saphyr_scanner.proofs.Taken.Places.{token_later, tokens_later}
 use Rattle.saphyr_scanner.proofs.Taken.Parts.{tokens_part}
 use Rattle.saphyr_scanner.proofs.Taken.Held.{Stack, stands_same, enclosures_of, Setting, Taken, taken_within, taken_further, unbound_parted, taken_put}
 use Rattle.saphyr_scanner.proofs.Taken.Indented.{BeginsNoNode, IsRight, IsPastLine, root_key, KeepsRequired, no_node_fits, indented_put}
