@@ -6,9 +6,9 @@ use Rattle.std.specs.Str.{chars}
 use Rattle.std.proofs.lemmas.Bool.Decides.{nat_tests}
 use Rattle.std.proofs.lemmas.List.{drop-drop}
 use Rattle.std.proofs.lemmas.List.Sums.{prefix_len-le-length, prefix_len_passes}
-use Rattle.saphyr_input.specs.Classes.{space, is_blank}
+use Rattle.saphyr_input.specs.Classes.{space}
 use Rattle.saphyr_input.specs.Fronts.{IsAsciiClass, StandsFor}
-use Rattle.saphyr_input.specs.Places.{words_len, blank_words_len, spaces_within, TransfersRun, TransfersWords}
+use Rattle.saphyr_input.specs.Places.{words_len, spaces_within, TransfersRun, TransfersWords}
 use Rattle.saphyr_input.proofs.Ascii.{PastAscii, past_ascii, ascii_class_run, first_stands, at_drop}
 use Rattle.saphyr_input.proofs.Texts.{length-chars}
 
@@ -161,101 +161,6 @@ front_more p q start now next last n k r c d e f = record {
   run = omega (arith, r.run, c, words_past p q k next last e f);
   behind = f ∙ ap (drop k) d ∙ drop-drop k 1 now ∙ ap (drop (1 + k)) r.behind ∙ drop-drop (1 + k) n start;
 }
-
--- blanks and words behind them
-
-blank_word_step : (p q : Set) (c : ℕ) (cs : List ℕ) → p c ≡ true
-    → blank_words_len p q (c ∷ cs) ≡ 1 + blank_words_len p q cs
-unfolding blank_words_len
-blank_word_step p q c cs h = rw h refl
-
-pub blank_words_on : (p q : Set) (xs : List ℕ)
-    → blank_words_len p q xs ≡ prefix_len p xs + blank_words_len p q (drop (prefix_len p xs) xs)
-unfolding blank_words_len
-blank_words_on p q [] = refl
-blank_words_on p q (c ∷ cs) =
-    let one : 1 + prefix_len p cs ≡ suc (prefix_len p cs) = omega arith in
-    by_test (p c) (1 + prefix_len p cs) 0
-    (λ n. blank_words_len p q (c ∷ cs) ≡ n + blank_words_len p q (drop n (c ∷ cs)))
-    (λ h. rw one (omega (arith, blank_word_step p q c cs h, blank_words_on p q cs)))
-    (λ h. omega arith)
-
--- what comes behind a run of blanks
-abbrev behind_blanks : List ℕ → ℕ
-behind_blanks xs = slice_index (drop (prefix_len is_blank xs) xs) 0
-
-blank_step : (p q : Set) (c : ℕ) (cs : List ℕ) → is_blank c ≡ true → q (behind_blanks cs) ≡ true
-    → blank_words_len p q (c ∷ cs) ≡ 1 + blank_words_len p q cs
-unfolding blank_words_len
-blank_step p q c cs b h =
-    ap (λ t. cond (p c || t) (1 + blank_words_len p q cs) 0) (both (is_blank c) (q (behind_blanks cs)) b h)
-    ∙ either (p c)
-  where
-    both : (a b : Bool) → a ≡ true → b ≡ true → (a && b) ≡ true
-    both true b h g = g
-    both false b h g = absurd (cc)
-
-    either : (b : Bool) → cond (b || true) (1 + blank_words_len p q cs) 0 ≡ 1 + blank_words_len p q cs
-    either true = refl
-    either false = refl
-
--- the run of blanks is passed
-pub blanks_on : (p q : Set) (xs : List ℕ) → q (behind_blanks xs) ≡ true
-    → blank_words_len p q xs ≡ prefix_len is_blank xs + blank_words_len p q (drop (prefix_len is_blank xs) xs)
-unfolding blank_words_len
-blanks_on p q [] h = refl
-blanks_on p q (c ∷ cs) h =
-    let one : 1 + prefix_len is_blank cs ≡ suc (prefix_len is_blank cs) = omega arith in
-    by_test (is_blank c) (1 + prefix_len is_blank cs) 0
-    (λ n. q (slice_index (drop n (c ∷ cs)) 0) ≡ true
-    → blank_words_len p q (c ∷ cs) ≡ n + blank_words_len p q (drop n (c ∷ cs)))
-    (λ b. rw one (λ k. omega (arith, blank_step p q c cs b k, blanks_on p q cs k)))
-    (λ _ _. omega arith) h
-
--- the same in a text, whose leading blanks are known from its bytes
-pub blanks_stripped : (p q : Set) (text rest : List ℕ) (n : ℕ) → (IsAsciiClass is_blank → n ≡ prefix_len is_blank text)
-    → rest ≡ drop n text → q (slice_index rest 0) ≡ true
-    → blank_words_len p q text ≡ n + blank_words_len p q rest
-blanks_stripped p q text rest n counts is h =
-    let e = counts blank_ascii in
-    let cut : rest ≡ drop (prefix_len is_blank text) text = is ∙ ap (λ k. drop k text) e in
-    let lead : q (behind_blanks text) ≡ true = ap (λ (xs : List ℕ). q (slice_index xs 0)) (sym cut) ∙ h in
-    rw (cut, e) (blanks_on p q text lead)
-  where
-    blank_ascii : IsAsciiClass is_blank
-    blank_ascii c l = grind (arith, nat_tests)
-
-pub blank_words_within : (p q : Set) (xs : List ℕ) → blank_words_len p q xs ≤ length xs
-unfolding blank_words_len
-blank_words_within p q [] = omega arith
-blank_words_within p q (c ∷ cs) =
-    by_test (p c || (is_blank c && q (behind_blanks cs))) (1 + blank_words_len p q cs) 0 (λ n. n ≤ length (c ∷ cs))
-    (λ _. omega (arith, blank_words_within p q cs)) (λ _. omega arith)
-
-pub blank_words_fit : (p q : Set) (bs : List ℕ) → IsUtf8 bs → blank_words_len p q (chars bs) ≤ length bs
-blank_words_fit p q bs u = omega (arith, blank_words_within p q (chars bs), length-chars bs u)
-
--- n characters of blanks and words were passed
-pub record BlankWordsRan (p q : Set) (start now : List ℕ) (n : ℕ) : Type 0 where
-  pub run : n + blank_words_len p q now ≡ blank_words_len p q start
-  pub behind : now ≡ drop n start
-
-pub blank_words_begin : (p q : Set) (start : List ℕ) → BlankWordsRan p q start start 0
-blank_words_begin p q start = record { run = omega arith; behind = refl }
-
--- then b blanks, and k characters of a run
-pub blank_words_more : (p q : Set) (start now next last : List ℕ) (n b k : ℕ) → BlankWordsRan p q start now n
-    → blank_words_len p q now ≡ b + blank_words_len p q next → next ≡ drop b now → k ≡ prefix_len p next
-    → last ≡ drop k next → BlankWordsRan p q start last (n + (b + k))
-blank_words_more p q start now next last n b k r c d e f =
-    let more : k + blank_words_len p q last ≡ blank_words_len p q next = rw (f, e) (sym (blank_words_on p q next)) in
-    record {
-      run = omega (arith, r.run, c, more);
-      behind = f ∙ ap (drop k) d ∙ drop-drop k b now ∙ ap (drop (b + k)) r.behind ∙ drop-drop (b + k) n start;
-    }
-
-pub blank_words_less : (n b k now last all : ℕ) → n + now ≡ all → n + (b + k) + last ≡ all → 0 < b → last < now
-blank_words_less n b k now last all r s l = omega arith
 
 -- spaces, in the bytes and in the characters
 

@@ -73,18 +73,6 @@ pub record TransfersFront (p q : ℕ → Bool) (n : ℕ) (before after text grow
   pub within : n ≤ words_len p q before
   pub transfers : Transfers n before after text grown
 
--- How many characters come first that are of a set, or are blanks of a run before a character of a second set.
-unfoldable pub blank_words_len : (ℕ → Bool) → (ℕ → Bool) → List ℕ → ℕ
-blank_words_len p q [] = 0
-blank_words_len p q (c ∷ cs) =
-    if p c || (is_blank c && q (slice_index (drop (prefix_len is_blank cs) cs) 0)) then 1 + blank_words_len p q cs
-    else 0
-
--- such a beginning was taken off and appended: n characters
-pub record TransfersBlankWords (p q : ℕ → Bool) (n : ℕ) (before after text grown : List ℕ) : Type 0 where
-  pub within : n ≤ blank_words_len p q before
-  pub transfers : Transfers n before after text grown
-
 -- how many spaces come first, but no more than `most`
 abbrev pub spaces_within : ℕ → List ℕ → ℕ
 spaces_within most xs = min most (prefix_len (λ c. c == space) xs)

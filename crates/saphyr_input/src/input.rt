@@ -428,18 +428,6 @@ pub trait Input {
         self.fetch_while::<C>(out)
     }
 
-    /// Moves blanks to the end of `out`, and characters of a set among them, where each run of blanks
-    /// is before some of the set's characters. Returns how many. It may stop at any blank, and may
-    /// move nothing. If `out` can't grow, nothing is moved.
-    fn fetch_blank_words<C: SpacedSet>(&mut self, _out: &mut String) -> Result<usize, AllocError>
-        ensures ok { IfOk result (λ n. spec.TransfersBlankWords C.CharSet.test C.lead n
-            (rest self.old) (rest self.new) (string_bytes _out.old) (string_bytes _out.new)) }
-        ensures err { OnErr result ((rest self.new ≡ rest self.old)
-            × (string_bytes _out.new ≡ string_bytes _out.old)) }
-    {
-        Ok(0)
-    }
-
     /// Moves words to the end of `out` as `fetch_words` does. It may stop anywhere, and may move nothing. Returns how
     /// many, and maybe the character behind them, which is not of the set: one that isn't ASCII tells nothing. If `out`
     /// can't grow, nothing is moved.

@@ -14,7 +14,6 @@ use Rattle.saphyr_scalar.specs.declared.scalar.position.Marker.{Marker}
 use Rattle.saphyr_scalar.specs.Views.Cursor.{Cursor, along}
 use Rattle.saphyr_input.proofs.Basics.Booleans.{clash, and_false}
 use Rattle.saphyr_input.proofs.WordRuns.{words_within}
-use Rattle.saphyr_input.proofs.Runs.{TakesRun}
 
 -- a run is no longer than the text
 pub run_within : (p : ℕ → Bool) (xs : List ℕ) → prefix_len p xs ≤ length xs
@@ -95,16 +94,6 @@ pub words_fit : {E : Type 0} → (p q : ℕ → Bool) (xs now text grown : List 
     → at + length xs < 2 ^ 64 → at + length now < 2 ^ 64
 words_fit p q xs now text grown (Ok n) at ok err fits = part_left xs now at n fits ok.transfers.taken
 words_fit p q xs now text grown (Err e) at ok err fits = part_left xs now at _ fits err.transfers.taken
-
--- a run that is taken off a character at a time
-
-pub run_place_fits : (p : ℕ → Bool) (start now : List ℕ) (n c loaded : ℕ) (m t : Marker)
-    → TakesRun p start now n c loaded → t ≡ m → m.index + length start < 2 ^ 64 → t.index + n < 2 ^ 64
-run_place_fits p start now n c loaded m t r same fits = rw same (omega (arith, r.ran.total, fits))
-
-pub run_left : (p : ℕ → Bool) (start now : List ℕ) (n c loaded : ℕ) (m t u : Marker) → TakesRun p start now n c loaded
-    → t ≡ m → u ≡ along t n → m.index + length start < 2 ^ 64 → u.index + length now < 2 ^ 64
-run_left p start now n c loaded m t u r same moved fits = rw (moved, same) (omega (arith, r.ran.total, fits))
 
 -- words that are taken off in one piece
 

@@ -7,8 +7,8 @@ mod text;
 mod wide;
 
 use self::text::{
-    ascii_behind, ascii_run, begins_with_2, behind, behind_ascii, behind_two_ascii, blank_words,
-    first_byte, front_words, is_marker, nth_char, run, run_here, second_char, spaces, split_blanks,
+    ascii_behind, ascii_run, begins_with_2, behind, behind_ascii, behind_two_ascii, first_byte,
+    front_words, is_marker, nth_char, run, run_here, second_char, spaces, split_blanks,
     split_first, third_char, words,
 };
 use crate::char_set::{Alpha, Blank, CharSet, NonBreak, NonSpace, SpacedSet};
@@ -364,14 +364,6 @@ impl Input for StrInput<'_> {
     fn fetch_words<C: SpacedSet>(&mut self, out: &mut String) -> Result<usize, AllocError> {
         self.load_one();
         let (count, rest) = words::<C>(self.rest);
-        self.fetch(count, rest, out)
-    }
-
-    fn fetch_blank_words<C: SpacedSet>(&mut self, out: &mut String) -> Result<usize, AllocError> {
-        let (count, rest) = blank_words::<C>(self.rest);
-        if count == 0 {
-            return Ok(0);
-        }
         self.fetch(count, rest, out)
     }
 

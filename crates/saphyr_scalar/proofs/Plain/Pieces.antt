@@ -261,11 +261,6 @@ pub behind_both : (f : Bool) (i : ℕ) (a : Marker) (text grown : List ℕ) (s t
     → with_text text (word f i a s.mark s.rest) ≡ with_text grown (plain_behind_gap f i a t.mark g)
 behind_both f i a text grown s t g m = cc (moved_behind_word f i a text grown s t m.moved)
 
-pub turn_refused : (f : Bool) (i : ℕ) (a : Marker) (text grown : List ℕ) (s t : Cursor) (g : PlainGap) (r : Refusal)
-    → GapMoved f i a text grown s t g → next_word_starts f i g.behind ≡ Err r
-    → with_text text (word f i a s.mark s.rest) ≡ Err r
-turn_refused f i a text grown s t g r m h = cc (behind_both f i a text grown s t g m)
-
 -- no word after the gap
 pub no_turn : (f : Bool) (i : ℕ) (a : Marker) (text grown : List ℕ) (s t : Cursor) (g : PlainGap) (u : Cursor)
     → GapMoved f i a text grown s t g → next_word_starts f i g.behind ≡ Ok (false, u)
@@ -274,16 +269,6 @@ no_turn f i a text grown s t g u m h = behind_both f i a text grown s t g m ∙ 
     (x >>= λ b. if b.0 then with_text g.text (word f i a b.1.mark b.1.rest) else scalar_end f t.mark g)) h
     ∙ ap (λ x. Ok (x, t.mark, comment_of f g.tabbed g.behind, g.behind)) (append-nil grown)
     ∙ ap (λ x. Ok (grown, t.mark, comment_of f g.tabbed x, x)) (sym (goes_says f i false g.behind u h).same)
-
--- another word after the gap
-pub turn : (f : Bool) (i : ℕ) (a : Marker) (text grown joined : List ℕ) (s t : Cursor) (g : PlainGap) (u : Cursor)
-    → GapMoved f i a text grown s t g → next_word_starts f i g.behind ≡ Ok (true, u)
-    → joined ≡ grown ++ g.text → with_text joined (word f i a u.mark u.rest) ≡ with_text text (word f i a s.mark s.rest)
-turn f i a text grown joined s t g u m h j = cc (behind_both f i a text grown s t g m, text_twice grown g.text _)
-
-pub turn_goes : (f : Bool) (i : ℕ) (g : PlainGap) (u : Cursor) → next_word_starts f i g.behind ≡ Ok (true, u)
-    → is_in_word f u.rest ≡ true
-turn_goes f i g u h = let says = goes_says f i true g.behind u h in cc (says.goes refl)
 
 -- the scalar
 

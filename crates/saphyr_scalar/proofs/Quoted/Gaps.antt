@@ -15,7 +15,7 @@ use Rattle.saphyr_scalar.specs.Views.Reader.{ReadsOn}
 use Rattle.saphyr_scalar.specs.Views.Cursor.{Cursor, refuse, along, pass, pass_break, pass_line, next_line}
 use Rattle.saphyr_scalar.specs.Values.Flow as flow
 use Rattle.saphyr_scalar.proofs.NoBreaks.{mark_no_nul}
-use Rattle.saphyr_scalar.proofs.Quoted.Inside.{front_twice, passed_over, behind_no_gap, at_break, at_end, flushed, Moved, moved_stops, SameRun, moved_of}
+use Rattle.saphyr_scalar.proofs.Quoted.Inside.{front_twice, passed_over, behind_no_gap, at_break, at_end, flushed, Moved, moved_stops}
 use Rattle.saphyr_scalar.proofs.Quoted.Parts.{blanks_moved}
 use Rattle.saphyr_input.specs.Indicators.{apostrophe, backslash}
 use Rattle.saphyr_scalar.specs.Steps.Quoted.{is_literal, is_escaped_break, is_closing, ends_word, with_front, mid_line, special, on_line, over_lines, no_gap, escaped_gap, break_len, inner_text, inner_text_at}
@@ -110,11 +110,6 @@ escaped_to_line q indent start text s t h on quote = cc (
 pub reads_from : {X Y : Type 0} (r : Result X Stop) (before begun now : Result Y Refusal) → begun ≡ before
     → ReadsOn r begun now → ReadsOn r before now
 reads_from r before begun now e h = rw e at h
-
-pub moved_on : (grown : List ℕ) (s u t : Cursor) (cleared : List ℕ) → u ≡ s → cleared ≡ []
-    → SameRun is_blank cleared grown u t → Moved is_blank [] grown s t
-moved_on grown s u t cleared same empty e =
-    let m = moved_of is_blank cleared grown u t e in rw same at (rw empty at m)
 
 -- after a run no more remains
 pub moved_no_longer : (p : ℕ → Bool) (text grown : List ℕ) (s t : Cursor) → Moved p text grown s t

@@ -8,7 +8,7 @@ ghost use Rattle.saphyr_input.specs.Fronts as spec;
 ghost use Rattle.saphyr_input.specs.Places as places;
 ghost use Rattle.saphyr_input.specs.Separation as separation;
 
-use crate::char_set::{Blank, CharSet, SpacedSet};
+use crate::char_set::{CharSet, SpacedSet};
 use crate::char_traits::is_blank_or_breakz;
 use crate::input::SkipTabs;
 use crate::input::str::wide::strip_wide;
@@ -269,49 +269,6 @@ pub(super) fn front_words<C: SpacedSet>(text: &str) -> (usize, &str, char)
     }
     let next = rest.as_bytes().first().copied().unwrap_or(0) as char;
     (count, rest, next)
-}
-
-// Whether a character of the set for which a test is known comes first.
-#[inline(always)]
-fn begins_word<C: SpacedSet>(text: &str) -> bool
-    ensures { IsTrue result → IsTrue (C.lead (slice_index (chars text.now) 0)) }
-{
-    C::leads(text.as_bytes().first().copied().unwrap_or(0))
-}
-
-// Leading blanks: how many, and what follows them, if that is a character of the set for which a test is known.
-#[inline]
-fn strip_blanks<C: SpacedSet>(text: &str) -> Option<(usize, &str)>
-    ensures some { IfSome result (λ blanks. 0 < blanks.0) }
-    ensures words { IfSome result (λ blanks.
-        places.blank_words_len C.CharSet.test C.lead (chars text.now)
-        ≡ blanks.0 + places.blank_words_len C.CharSet.test C.lead (chars blanks.1.now)) }
-    ensures rest { IfSome result (λ blanks. chars blanks.1.now ≡ drop blanks.0 (chars text.now)) }
-{
-    let (count, rest) = ascii_run::<Blank>(text);
-    if count > 0 && begins_word::<C>(rest) {
-        Some((count, rest))
-    } else {
-        None
-    }
-}
-
-// Blanks and words of a set behind them, with more blanks between: how many characters, and what follows them.
-#[inline]
-pub(super) fn blank_words<C: SpacedSet>(text: &str) -> (usize, &str)
-    ensures count { result.0 ≤ places.blank_words_len C.CharSet.test C.lead (chars text.now) }
-    ensures rest { chars result.1.now ≡ drop result.0 (chars text.now) }
-{
-    // There are fewer than 2^64 bytes, and no more characters than bytes.
-    let _ = text.as_bytes();
-    let mut count = 0;
-    let mut rest = text;
-    while let Some((blanks, after)) = strip_blanks::<C>(rest) {
-        let (word, behind) = run_here::<C>(after);
-        count += blanks + word;
-        rest = behind;
-    }
-    (count, rest)
 }
 
 // How many of the first bytes are spaces, but no more than `most`.
