@@ -5,7 +5,6 @@ use Rattle.std.proofs.lemmas.Bool.Decides.{nat_tests}
 use Rattle.saphyr_input.specs.Classes.{IsHex, is_hex, hex_value}
 use Rattle.saphyr_scalar.specs.Values.Escapes.{is_scalar_value, short_escape}
 use Rattle.saphyr_scalar.specs.Spelling.OneLine as spelling
-use Rattle.saphyr_scalar.specs.Spelling.OneLine.{stands_in_double_quotes, IsInside, closed, itself, escaped, numbered, IsDoubleQuoted}
 use Rattle.saphyr_scanner.specs.Grammar.Characters.{IsSurrogate}
 use Rattle.json_laws.specs.Grammar.Json.{IsJsonEscape, IsCode}
 
