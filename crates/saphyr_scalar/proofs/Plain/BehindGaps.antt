@@ -94,10 +94,10 @@ lines_said i a text s r e = sym (lines_onto i a false text [] s.mark s.rest)
     ∙ ap (λ (x : List ℕ). lines i a false x s.mark s.rest) (append-nil text) ∙ e
 
 -- some line is empty
-pub folded_lines : (i : ℕ) (a : Marker) (text grown : List ℕ) (tabbed : Bool) (s u : Cursor)
+pub next_lines_with_feeds : (i : ℕ) (a : Marker) (text grown : List ℕ) (tabbed : Bool) (s u : Cursor)
     → lines i a false text s.mark s.rest ≡ Ok (seen_gap tabbed grown u) → length text < length grown
     → gap_onto text (next_lines i a s) ≡ Ok (seen_gap tabbed grown u)
-folded_lines i a text grown tabbed s u e more =
+next_lines_with_feeds i a text grown tabbed s u e more =
     by (lines i a false [] s.mark s.rest) (onto_reads text grown _ tabbed u (lines_said i a text s _ e))
   where
     by : (r : Found) → ReadOnto text grown r tabbed u
@@ -108,11 +108,11 @@ folded_lines i a text grown tabbed s u e more =
         rw (o.is, some, o.grown_by, ← o.tabbed_is, ← o.behind) refl
 
 -- none is
-pub folded_break : (i : ℕ) (a : Marker) (text grown pushed : List ℕ) (tabbed : Bool) (s u : Cursor)
+pub next_lines_without_feed : (i : ℕ) (a : Marker) (text grown pushed : List ℕ) (tabbed : Bool) (s u : Cursor)
     → lines i a false text s.mark s.rest ≡ Ok (seen_gap tabbed grown u) → length grown ≤ length text
     → pushed ≡ grown ++ encode_utf8 space
     → gap_onto text (next_lines i a s) ≡ Ok (seen_gap tabbed pushed u)
-folded_break i a text grown pushed tabbed s u e less put =
+next_lines_without_feed i a text grown pushed tabbed s u e less put =
     by (lines i a false [] s.mark s.rest) (onto_reads text grown _ tabbed u (lines_said i a text s _ e))
   where
     nothing : (xs : List ℕ) → length (text ++ xs) ≤ length text → xs ≡ []
@@ -207,17 +207,18 @@ lines_cut i a text grown s u tabbed n e is =
 
 -- What is read behind the gap.
 
-pub read_behind : (f : Bool) (i : ℕ) (a end : Marker) (text grown : List ℕ) (r : Found) (tabbed : Bool) (u : Cursor)
+pub behind_gap_read : (f : Bool) (i : ℕ) (a end : Marker) (text grown : List ℕ) (r : Found) (tabbed : Bool) (u : Cursor)
     (n : ℕ)
     → gap_onto text r ≡ Ok (seen_gap tabbed grown u) → n ≡ length text
     → scalar_behind_gap f i a n end tabbed grown u ≡ with_text text (r >>= plain_behind_gap f i a end)
-read_behind f i a end text grown r tabbed u n e is =
+behind_gap_read f i a end text grown r tabbed u n e is =
     let o = onto_reads text grown r tabbed u e in same o.gap o.is o.grown_by o.tabbed_is o.behind
   where
     by : (g : PlainGap) (w : Result (Bool × Cursor) Refusal) → next_word_starts f i g.behind ≡ w
         → (w >>= λ b. if b.0 then with_text (text ++ g.text) (word f i a b.1.mark b.1.rest)
         else Ok (take (length text) (text ++ g.text), end, comment_of f g.tabbed b.1, b.1))
-        ≡ with_text text (w >>= λ b. if b.0 then with_text g.text (word f i a b.1.mark b.1.rest) else scalar_end f end g)
+        ≡ with_text text
+        (w >>= λ b. if b.0 then with_text g.text (word f i a b.1.mark b.1.rest) else scalar_end f end g)
     by g (Ok (true, t)) h = sym (text_twice text g.text (word f i a t.mark t.rest))
     by g (Ok (false, t)) h =
         let there : t ≡ g.behind = (goes_says f i false g.behind t h).same in

@@ -109,7 +109,8 @@ impl<T: Input> Reader<T> {
         text: &mut String,
     ) -> Result<bool, Stop>
         requires { (cursor_of self.old).blank_so_far ≡ true }
-        ensures { WritesBy spec.seen_gap (λ text s. spec.gap_onto text (spec.next_lines indent start s))
+        ensures { WritesBy spec.seen_gap
+            (λ text s. spec.gap_onto text (spec.next_lines indent start s))
             text.old self.old result text.new self.new }
     {
         let before = text.len();
@@ -125,7 +126,6 @@ impl<T: Input> Reader<T> {
     // Takes off what follows a word, and appends what it reads as to a text. Returns whether a tab is in the
     // indentation of the line that is reached.
     #[inline(always)]
-    #[tactic(auto, unfolding(crate::specs::Steps::Plain::gap, crate::specs::Steps::Plain::gap_from))]
     pub(super) fn read_word_gap(
         &mut self,
         indent: usize,

@@ -1,6 +1,6 @@
 use Rattle.std.proofs.Common.{string_bytes, rules}
 use Rattle.saphyr_scalar.specs.Views.Reader.{cursor_of}
-use Rattle.saphyr_scalar.proofs.Plain.BehindGaps.{folded_lines, folded_break, lines_refused}
+use Rattle.saphyr_scalar.proofs.Plain.BehindGaps.{next_lines_with_feeds, next_lines_without_feed, lines_refused}
 use Rattle.saphyr_scalar.proofs.Plain.Pieces.{moves_failed}
 use Rattle.saphyr_scalar.proofs.scalar.reader.Reader.read_folded_lines.Goals as goal
 
@@ -11,10 +11,10 @@ returns-in_err-tabbed g c =
 
 pub returns-then-len-before : goal.returns-then-len-before
 returns-then-len-before g c =
-    folded_lines c.args.indent c.args.start (string_bytes c.args.text.now) _ _ (cursor_of c.args.self.now)
+    next_lines_with_feeds c.args.indent c.args.start (string_bytes c.args.text.now) _ _ (cursor_of c.args.self.now)
     (cursor_of c.skip_empty_lines.new.self) c.in_ok-tabbed.ensures (search rules)
 
 pub returns : goal.returns
 returns g c =
-    folded_break c.args.indent c.args.start (string_bytes c.args.text.now) _ _ _ (cursor_of c.args.self.now)
+    next_lines_without_feed c.args.indent c.args.start (string_bytes c.args.text.now) _ _ _ (cursor_of c.args.self.now)
     (cursor_of c.skip_empty_lines.new.self) c.in_ok-tabbed.ensures (search rules) c.in_ok-push.ensures.bytes

@@ -1,7 +1,7 @@
 use Rattle.std.proofs.Common.{◌≡◌, length, string_bytes, refl, sym, ◌∙◌, rules}
 use Rattle.saphyr_scalar.specs.Steps.Plain as spec
 use Rattle.saphyr_scalar.specs.Views.Reader.{cursor_of}
-use Rattle.saphyr_scalar.proofs.Plain.BehindGaps.{gap_cuts, read_behind, behind_refused, behind_ends, behind_words, behind_words_refused, behind_shorter}
+use Rattle.saphyr_scalar.proofs.Plain.BehindGaps.{gap_cuts, behind_gap_read, behind_refused, behind_ends, behind_words, behind_words_refused, behind_shorter}
 use Rattle.saphyr_scalar.proofs.Plain.Pieces.{started, moves_refused, moves_failed}
 use Rattle.saphyr_scalar.proofs.scalar.reader.Reader.read_plain_behind.Goals as goal
 
@@ -62,7 +62,7 @@ loop-text-preserved g c =
     let goes = started (spec.next_word_starts f i) s there _ _ c.if-not-branch.false
     c.in_ok-next_plain_word_starts.ensures in
     record {
-      same = read_behind f i start behind.mark _ _ (spec.gap i start behind) _ (cursor_of c.read_word_gap.new.self) _
+      same = behind_gap_read f i start behind.mark _ _ (spec.gap i start behind) _ (cursor_of c.read_word_gap.new.self) _
           c.in_ok-tabbed.ensures len
           ∙ sym (behind_words f i start c.loop-text.word_end.mark (string_bytes c.loop-text.text) _
           c.loop-text.word_end.tabbed s there behind c.loop-text.word_end.len goes

@@ -3,7 +3,7 @@ use Rattle.saphyr_scalar.specs.Steps.Plain as spec
 use Rattle.saphyr_scalar.specs.declared.scalar.fault.Refusal.{Refusal}
 use Rattle.saphyr_scalar.specs.Views.Cursor.{◌>>=◌}
 use Rattle.saphyr_scalar.specs.Views.Reader.{cursor_of, Moves}
-use Rattle.saphyr_scalar.proofs.Plain.BehindGaps.{onto_refused, lines_cut, read_behind}
+use Rattle.saphyr_scalar.proofs.Plain.BehindGaps.{onto_refused, lines_cut, behind_gap_read}
 use Rattle.saphyr_scalar.proofs.Plain.Pieces.{plain_behind_gap, moves_failed}
 use Rattle.saphyr_scalar.proofs.scalar.reader.Reader.read_plain_lines.Goals as goal
 
@@ -27,7 +27,7 @@ returns g c =
     let i = c.args.indent in
     let start = c.args.start in
     let s = cursor_of c.args.self.now in
-    let same = read_behind f i start c.args.mark (string_bytes c.args.text) _ (spec.next_lines i start s) _
+    let same = behind_gap_read f i start c.args.mark (string_bytes c.args.text) _ (spec.next_lines i start s) _
     (cursor_of c.read_folded_lines.new.self) _ c.in_ok-tabbed.ensures len in
     subst (λ (r : spec.PlainScalarRead). Moves (λ x. spec.seen_plain_scalar x (cursor_of c.read_plain_behind.new.self))
     c.read_plain_behind.result r) same c.read_plain_behind.ensures

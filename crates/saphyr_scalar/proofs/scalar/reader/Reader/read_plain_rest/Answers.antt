@@ -1,7 +1,7 @@
 use Rattle.std.proofs.Common.{◌≡◌, length, string_bytes, sym, ◌∙◌, rules, subst}
 use Rattle.saphyr_scalar.specs.Steps.Plain as spec
 use Rattle.saphyr_scalar.specs.Views.Reader.{cursor_of, Moves}
-use Rattle.saphyr_scalar.proofs.Plain.BehindGaps.{onto_refused, gap_cuts, read_behind}
+use Rattle.saphyr_scalar.proofs.Plain.BehindGaps.{onto_refused, gap_cuts, behind_gap_read}
 use Rattle.saphyr_scalar.proofs.Plain.Pieces.{gap_refused, moved_behind_word, moves_failed}
 use Rattle.saphyr_scalar.proofs.Plain.WordEnds.{none_moved}
 use Rattle.saphyr_scalar.proofs.scalar.reader.Reader.read_plain_rest.Goals as goal
@@ -28,7 +28,7 @@ returns g c =
     let start = c.args.start in
     let s = cursor_of c.args.self.now in
     let text = string_bytes c.args.text in
-    let same = read_behind f i start s.mark text _ (spec.gap i start s) _ (cursor_of c.read_word_gap.new.self) _
+    let same = behind_gap_read f i start s.mark text _ (spec.gap i start s) _ (cursor_of c.read_word_gap.new.self) _
     c.in_ok-tabbed.ensures len
     ∙ sym (moved_behind_word f i start text text s s (none_moved f text s c.requires.ended c.requires.on_line)) in
     subst (λ (r : spec.PlainScalarRead). Moves (λ x. spec.seen_plain_scalar x (cursor_of c.read_plain_behind.new.self))
