@@ -4,7 +4,8 @@ use Rattle.std.specs.Prelude.{◌==◌, ◌&&◌, nat_lt, if◌then◌else◌}
 use Rattle.saphyr_input.proofs.Basics.Booleans.{and_false, and_true_left, and_true_right}
 use Rattle.std.proofs.lemmas.Bool.{eqb-true}
 use Rattle.std.proofs.lemmas.Bool.Decides.{nat_tests}
-use Rattle.std.proofs.lemmas.Grind.{common_steps}
+use Rattle.std.proofs.lemmas.Grind.{get_or_after_one}
+use Rattle.std.proofs.lemmas.List.{drop-drop}
 use Rattle.saphyr_input.specs.Classes.{is_blank, is_bom, is_break, is_flow}
 use Rattle.saphyr_input.specs.Indicators.{number_sign}
 use Rattle.saphyr_input.specs.declared.input.SkipTabs.TheVariants as tabs
@@ -54,9 +55,6 @@ rolled column s c = go (is_further column c)
     go true = refl
     go false = refl
 
-one_further : (t : List ℕ) (n : ℕ) → slice_index (drop 1 t) n ≡ slice_index t (1 + n)
-one_further t n = grind (arith, common_steps)
-
 twice : (s : Cursor) → pass_blanks 1 (pass 1 s) ≡ pass 2 s
 twice s = go s.rest
   where
@@ -64,27 +62,22 @@ twice s = go s.rest
     go t =
         let i : s.mark.index + 1 + 1 ≡ s.mark.index + 2 = omega arith in
         let k : s.mark.col + 1 + 1 ≡ s.mark.col + 2 = omega arith in
-        rw (i, k, two t) refl
-      where
-        two : (xs : List ℕ) → drop 1 (drop 1 xs) ≡ drop 2 xs
-        two [] = refl
-        two (x ∷ []) = refl
-        two (x ∷ y ∷ ys) = refl
+        let two : drop 1 (drop 1 t) ≡ drop 2 t = drop-drop 1 1 t in rw (i, k, two) refl
 
 pub entry_fed : (column : ℕ) (c : Core) → slice_index c.cursor.rest 1 ≡ 10
     → pass_dash (roll column (pass_on 1 c)) ≡ Ok (go_deeper (roll column (pass_on 1 c)))
 entry_fed column c e =
     let s : Cursor = pass 1 c.cursor in
-    rw (rolled column s c) (fed (with_cursor s (roll column c)) (one_further c.cursor.rest 0 ∙ e))
+    rw (rolled column s c) (fed (with_cursor s (roll column c)) (get_or_after_one c.cursor.rest 0 0 ∙ e))
 
 entry_spaced : (column : ℕ) (c : Core) → slice_index c.cursor.rest 1 ≡ 32
     → may_begin_entry (slice_index c.cursor.rest 2) ≡ true
     → pass_dash (roll column (pass_on 1 c)) ≡ Ok (roll column (pass_on 2 c))
 entry_spaced column c e begins =
     let s : Cursor = pass 1 c.cursor in
-    let second : may_begin_entry (slice_index s.rest 1) ≡ true = rw (one_further c.cursor.rest 1) begins in
+    let second : may_begin_entry (slice_index s.rest 1) ≡ true = rw (get_or_after_one c.cursor.rest 1 0) begins in
     ap pass_dash (rolled column s c)
-    ∙ spaced (with_cursor s (roll column c)) (one_further c.cursor.rest 0 ∙ e) second
+    ∙ spaced (with_cursor s (roll column c)) (get_or_after_one c.cursor.rest 0 0 ∙ e) second
     ∙ ap (λ (t : Cursor). Ok (with_cursor t (roll column c))) (twice c.cursor)
     ∙ ap Ok (sym (rolled column (pass 2 c.cursor) c))
 

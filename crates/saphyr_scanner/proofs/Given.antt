@@ -21,9 +21,7 @@ these ts = record { pieces = ts; refusal = None }
 before_these : (o : Opening) (t : Piece) (ts : List Piece)
     → before_place o t (these ts) ≡ these (place_pieces o t ++ ts)
 before_these opening.Nothing t ts = refl
-before_these opening.Key t ts = refl
-before_these opening.BlockMappingAndKey t ts = refl
-before_these opening.FlowMappingAndKey t ts = refl
+before_these _ t ts = refl
 
 -- where all tokens were read, those of the queue come
 handed_all : (go : State → Remaining) (c : Core) (ps : List Place) (n : ℕ) → c.ended ≡ true

@@ -1,5 +1,5 @@
 -- Where the next token begins right here, nothing is passed and nothing ends before it.
-use Rattle.std.proofs.Common.{◌≡◌, ◌<◌, ℕ, Bool, true, false, List, [], ◌∷◌, length, Some, None, Ok, refl, ap, arith, nat_lt, slice_index}
+use Rattle.std.proofs.Common.{◌≡◌, ℕ, Bool, true, false, List, Some, None, Ok, refl, ap, arith, nat_lt, slice_index}
 use Rattle.std.specs.Prelude.{◌-◌, ◌&&◌, ◌||◌, ◌==◌, nat_le, if◌then◌else◌}
 use Rattle.std.proofs.lemmas.Bool.Decides.{nat_tests}
 use Rattle.saphyr_input.proofs.Basics.Booleans.{by_test}
@@ -57,10 +57,6 @@ arrived s begins none right near = rw (no_gap s.core begins none, kept_key s.cor
 
 pub neither : (a b : Bool) → b ≡ false → (a && b) ≡ false
 neither a b e = grind arith
-
-pub not_over : (t : List ℕ) → is_z (slice_index t 0) ≡ false → 0 < length t
-not_over [] e = absurd (cc)
-not_over (c ∷ cs) e = omega arith
 
 -- no directive and no marker is at the start of a line
 no_mark : (start : Bool) (t : List ℕ) → (start && may_begin_mark (slice_index t 0) (slice_index t 1)) ≡ false

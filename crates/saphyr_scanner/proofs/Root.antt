@@ -59,11 +59,7 @@ drops_key e s context.Block k ls a ad = by_distance (is_too_far k s.mark) refl
     by_distance : (far : Bool) → is_too_far k s.mark ≡ far → DropsKey e s context.Block k ls a ad
     by_distance true h = record { left = None; is = rw h refl; same = λ e. absurd (none e); none = λ _. refl }
     by_distance false h = record { left = k; is = rw h refl; same = λ _. refl; none = λ e. e }
-drops_key e s context.FlowSequence k ls a ad = record { left = k; is = refl; same = λ _. refl; none = λ e. e }
-drops_key e s context.FlowMapping k ls a ad = record { left = k; is = refl; same = λ _. refl; none = λ e. e }
-drops_key e s context.FlowPair k ls a ad = record { left = k; is = refl; same = λ _. refl; none = λ e. e }
-drops_key e s context.ExplicitFlowPair k ls a ad = record { left = k; is = refl; same = λ _. refl; none = λ e. e }
-drops_key e s context.MarkedFlowPair k ls a ad = record { left = k; is = refl; same = λ _. refl; none = λ e. e }
+drops_key e s _ k ls a ad = record { left = k; is = refl; same = λ _. refl; none = λ e. e }
 
 -- no block collection ends
 pub none_unrolls : (col : ℕ) (m : Marker) (e : Bool) (s : Cursor) (x : Context) (k : Option Candidate) (ls : List Level)

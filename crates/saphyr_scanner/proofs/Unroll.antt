@@ -57,6 +57,10 @@ pub settled_is : (s : State) → IsSettled s → without_far_key s ≡ Ok s
 settled_is s e = rw e refl
 
 -- what is read first changes nothing
+hand_nothing : (s : State) (ps : List Place) (go : State → Remaining) → needs_token s ≡ true → hand_out ps go s ≡ go s
+hand_nothing s [] go needs = refl
+hand_nothing s (p ∷ ps) go needs = rw needs refl
+
 pub record Filled (limit : ℕ) (s t : State) : Type 0 where
   pub same : rest limit s ≡ rest limit t
   pub ready : needs_token t ≡ false
@@ -68,15 +72,11 @@ filled_in laws limit zero s t a k e = absurd (omega (arith, a))
 filled_in laws limit (suc n) s t a k e =
     by (needs_token s) refl e (λ u less settles f. filled_in laws limit n u t (omega (arith, less, a)) settles f)
   where
-    hand_nothing : (ps : List Place) (go : State → Remaining) → needs_token s ≡ true → hand_out ps go s ≡ go s
-    hand_nothing [] go needs = refl
-    hand_nothing (p ∷ ps) go needs = rw needs refl
-
     onward : (u : State) → needs_token s ≡ true → read limit s ≡ Ok u → Filled limit u t → Filled limit s t
     onward u needs q others =
         let less = smaller_read laws limit s u needs q in
         let over = going s.core.ended _ needs in
-        let first : rest limit s ≡ run (size s.core) limit u = hand_nothing s.queue.places (behind (size s.core) limit)
+        let first : rest limit s ≡ run (size s.core) limit u = hand_nothing s s.queue.places (behind (size s.core) limit)
         needs ∙ cond-false s.core.ended _ _ over ∙ ap (λ r. remaining_after r (run (size s.core) limit)) q in
         record {
           same = first ∙ enough laws limit (size s.core) (suc (size u.core)) u less (omega arith) ∙ others.same;
@@ -105,12 +105,8 @@ refused_in laws limit zero s e a k q = absurd (omega (arith, a))
 refused_in laws limit (suc n) s e a k q =
     by (needs_token s) refl (λ u less settles f. refused_in laws limit n u e (omega (arith, less, a)) settles f)
   where
-    hand_nothing : (ps : List Place) (go : State → Remaining) → needs_token s ≡ true → hand_out ps go s ≡ go s
-    hand_nothing [] go needs = refl
-    hand_nothing (p ∷ ps) go needs = rw needs refl
-
     first : needs_token s ≡ true → rest limit s ≡ remaining_after (read limit s) (run (size s.core) limit)
-    first needs = hand_nothing s.queue.places (behind (size s.core) limit) needs
+    first needs = hand_nothing s s.queue.places (behind (size s.core) limit) needs
         ∙ cond-false s.core.ended _ _ (going s.core.ended _ needs)
 
     read_so : (r : Result State Refusal) → read limit s ≡ r → needs_token s ≡ true → (r >>= fill_in n limit) ≡ Err e

@@ -1,8 +1,10 @@
 -- Tests, and what `&&`, `||` and `not` tell of their parts. Std has the others, in `lemmas.Bool` and `Math.Bool`.
 use Rattle.std.proofs.Common.{◌≡◌, ℕ, Bool, true, false, not, nat_eq, refl, sym, ◌∙◌, arith, subst}
 use Rattle.std.specs.Prelude.{◌||◌, ◌&&◌}
-use Rattle.std.proofs.lemmas.Bool.{false≢true, false_from_ne_true}
+use Rattle.std.proofs.Math.Bool.{or_comm}
+use Rattle.std.proofs.lemmas.Bool.{and_parts, false≢true, false_from_ne_true, or_parts}
 use Rattle.std.proofs.lemmas.Bool.Decides.{nat_tests}
+pub use Rattle.std.proofs.Math.Bool.{and-false as and_false, or_assoc}
 pub use Rattle.std.proofs.lemmas.Bool.{cond_both as by_test}
 
 -- a test does not both pass and fail
@@ -11,16 +13,10 @@ clash true pass fail = absurd (cc)
 clash false pass fail = absurd (cc)
 
 pub and_true_left : (a b : Bool) → (a && b) ≡ true → a ≡ true
-and_true_left true b h = refl
-and_true_left false b h = h
+and_true_left a b h = (and_parts a b h).0
 
 pub and_true_right : (a b : Bool) → (a && b) ≡ true → b ≡ true
-and_true_right true b h = h
-and_true_right false b h = absurd (cc)
-
-pub and_false : (b : Bool) → (b && false) ≡ false
-and_false true = refl
-and_false false = refl
+and_true_right a b h = (and_parts a b h).1
 
 pub and_or_false : (a b c : Bool) → (a && (b || c)) ≡ false → ((a && b) ≡ false) × ((a && c) ≡ false)
 and_or_false false b c e = (refl, refl)
@@ -28,22 +24,13 @@ and_or_false true true c e = absurd (cc)
 and_or_false true false c e = (refl, e)
 
 pub or_false_left : (a b : Bool) → (a || b) ≡ false → a ≡ false
-or_false_left true b h = absurd (cc)
-or_false_left false b h = refl
+or_false_left a b h = (or_parts a b h).0
 
 pub or_false_right : (a b : Bool) → (a || b) ≡ false → b ≡ false
-or_false_right true b h = absurd (cc)
-or_false_right false b h = h
-
-pub or_assoc : (a b c : Bool) → ((a || b) || c) ≡ (a || (b || c))
-or_assoc true b c = refl
-or_assoc false b c = refl
+or_false_right a b h = (or_parts a b h).1
 
 pub or_true_swap : (a b : Bool) → (a || b) ≡ true → (b || a) ≡ true
-or_true_swap true true h = refl
-or_true_swap true false h = refl
-or_true_swap false true h = refl
-or_true_swap false false h = h
+or_true_swap a b h = or_comm b a ∙ h
 
 -- by the one that passes
 pub either : (a b : Bool) (P : Type 0) → (a || b) ≡ true → (a ≡ true → P) → (b ≡ true → P) → P

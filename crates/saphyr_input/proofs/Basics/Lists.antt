@@ -1,7 +1,8 @@
 -- Texts as lists of numbers: what comes first, what is left after some, and runs. Std has the others, in
 -- `lemmas.List`.
-use Rattle.std.proofs.Common.{◌≡◌, ◌≢◌, ℕ, suc, ◌+◌, ◌<◌, ◌≤◌, Bool, false, List, [], ◌∷◌, length, drop, slice_index, refl, arith}
+use Rattle.std.proofs.Common.{◌≡◌, ◌≢◌, ℕ, suc, ◌+◌, ◌<◌, ◌≤◌, Bool, false, List, [], ◌∷◌, length, drop, slice_index, refl, ◌∙◌, arith}
 use Rattle.std.specs.List.{prefix_len}
+use Rattle.std.proofs.lemmas.Grind.{get_or_after_one}
 use Rattle.std.proofs.lemmas.List.{length-drop}
 use Rattle.saphyr_input.proofs.Basics.Booleans.{by_test}
 
@@ -30,23 +31,16 @@ pub drop_shorter : (n : ℕ) (xs : List ℕ) → length (drop n xs) ≤ length x
 drop_shorter n xs = let l = length-drop n xs in omega (arith, l)
 
 pub drop_one_shorter : (xs : List ℕ) → 0 < length xs → length (drop 1 xs) < length xs
-drop_one_shorter [] h = absurd (omega (arith, h))
-drop_one_shorter (c ∷ cs) h = omega arith
+drop_one_shorter xs h = let l = length-drop 1 xs in omega (arith, l, h)
 
 pub second_is : (xs : List ℕ) → slice_index (drop 1 xs) 0 ≡ slice_index xs 1
-second_is [] = refl
-second_is (c ∷ cs) = refl
+second_is xs = get_or_after_one xs 0 0
 
 pub third_is : (xs : List ℕ) → slice_index (drop 1 (drop 1 xs)) 0 ≡ slice_index xs 2
-third_is [] = refl
-third_is (c ∷ []) = refl
-third_is (c ∷ d ∷ cs) = refl
+third_is xs = get_or_after_one (drop 1 xs) 0 0 ∙ get_or_after_one xs 1 0
 
 pub fourth_is : (xs : List ℕ) → slice_index (drop 1 (drop 1 (drop 1 xs))) 0 ≡ slice_index xs 3
-fourth_is [] = refl
-fourth_is (c ∷ []) = refl
-fourth_is (c ∷ d ∷ []) = refl
-fourth_is (c ∷ d ∷ e ∷ cs) = refl
+fourth_is xs = third_is (drop 1 xs) ∙ get_or_after_one xs 2 0
 
 -- after a run is what is not in it
 pub run_ends : (p : ℕ → Bool) (xs : List ℕ) → p 0 ≡ false → p (slice_index (drop (prefix_len p xs) xs) 0) ≡ false

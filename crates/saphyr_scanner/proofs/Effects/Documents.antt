@@ -45,7 +45,7 @@ use Rattle.saphyr_scanner.proofs.Taken.Indented.{BeginsNoNode, IsRight, stays_no
 use Rattle.saphyr_scanner.proofs.Taken.Parts.{is_quiet}
 use Rattle.saphyr_scanner.proofs.Taken.Places.{Reaches, reaches_reaches, At, at_here}
 use Rattle.saphyr_scanner.proofs.Taken.Separated.{apart_apart}
-use Rattle.saphyr_input.proofs.Basics.Booleans.{by_test}
+use Rattle.saphyr_input.proofs.Basics.Booleans.{by_test, or_false_left}
 use Rattle.saphyr_input.proofs.Basics.Characters.{breakz_no_non_break}
 use Rattle.saphyr_scalar.proofs.Given.{Given}
 use Rattle.std.proofs.lemmas.Bool.{eqb-true, and_parts}
@@ -250,13 +250,7 @@ mark_walked s e =
     (λ _. record { is = is; at_start = col; start = refl; end = refl; goes_on = refl })))))
   where
     no_column : (n : ℕ) (b : Bool) → (nat_lt 0 n || b) ≡ false → n ≡ 0
-    no_column n b f = zero_of n (first (nat_lt 0 n) b f)
-      where
-        first : (a b : Bool) → (a || b) ≡ false → a ≡ false
-        first a b g = grind arith
-
-        zero_of : (n : ℕ) → nat_lt 0 n ≡ false → n ≡ 0
-        zero_of n g = grind (arith, nat_tests)
+    no_column n b f = let none = or_false_left (nat_lt 0 n) b f in grind (arith, nat_tests)
 
 -- ## Directives
 

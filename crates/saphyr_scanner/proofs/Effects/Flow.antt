@@ -135,26 +135,15 @@ MayClose kind ends x = (span : Span) → span.start.index < span.end.index → (
 pub pair_may_end : (x : Context) → EndsPair (ends_pair x) x
 pair_may_end context.FlowPair e = refl
 pair_may_end context.MarkedFlowPair e = refl
-pair_may_end context.Block e = absurd (cc)
-pair_may_end context.FlowSequence e = absurd (cc)
-pair_may_end context.ExplicitFlowPair e = absurd (cc)
-pair_may_end context.FlowMapping e = absurd (cc)
+pair_may_end _ e = absurd (cc)
 
 pub sequence_may_close : (x : Context) → MayClose tokens.FlowSequenceEnd (ends_pair x) x
 sequence_may_close context.Block span l outside e = absurd (cc)
-sequence_may_close context.FlowSequence span l outside e = refl
-sequence_may_close context.FlowPair span l outside e = refl
-sequence_may_close context.ExplicitFlowPair span l outside e = refl
-sequence_may_close context.MarkedFlowPair span l outside e = refl
-sequence_may_close context.FlowMapping span l outside e = refl
+sequence_may_close _ span l outside e = refl
 
 pub mapping_may_close : (x : Context) → MayClose tokens.FlowMappingEnd false x
 mapping_may_close context.Block span l outside e = absurd (cc)
-mapping_may_close context.FlowSequence span l outside e = let some = has_some span l in rw some refl
-mapping_may_close context.FlowPair span l outside e = let some = has_some span l in rw some refl
-mapping_may_close context.ExplicitFlowPair span l outside e = let some = has_some span l in rw some refl
-mapping_may_close context.MarkedFlowPair span l outside e = let some = has_some span l in rw some refl
-mapping_may_close context.FlowMapping span l outside e = let some = has_some span l in rw some refl
+mapping_may_close _ span l outside e = let some = has_some span l in rw some refl
 
 abbrev pub BeginsPiece : Kind → Type 0
 BeginsPiece kind = (span : Span) → span.start.index < span.end.index → Begins (record { span = span; kind = kind })
@@ -376,11 +365,7 @@ entry_encloses x outside span = grind arith
 entry_fits : (x : Context) (outside : Outside) (span : Span)
     → FitsWithin (ended (ends_pair x) (free (enclosure_of x) outside)) (record { span = span; kind = tokens.FlowEntry })
 entry_fits context.Block outside span = refl
-entry_fits context.FlowSequence outside span = refl
-entry_fits context.FlowPair outside span = refl
-entry_fits context.ExplicitFlowPair outside span = refl
-entry_fits context.MarkedFlowPair outside span = refl
-entry_fits context.FlowMapping outside span = refl
+entry_fits _ outside span = refl
 
 pub entry_does : (c : Core) → slice_index c.cursor.rest 0 ≡ comma
     → Walked (Premises c) (Doing None c) c.cursor (flow.flow_entry_steps c)

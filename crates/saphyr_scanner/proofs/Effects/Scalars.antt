@@ -1,7 +1,7 @@
 -- What each step of scalars does, by the laws of the readers.
 use Rattle.std.proofs.Common.{◌≡◌, ◌≢◌, ℕ, ◌+◌, ◌-◌, ◌≤◌, ◌<◌, ◌⊎◌, Bool, true, false, List, [], ◌∷◌, ◌++◌, length, drop, Some, Ok, IsTrue, IsFalse, refl, sym, ap, ◌∙◌, arith, subst, inl, inr}
 use Rattle.std.specs.Prelude.{◌&&◌, ◌||◌, ◌==◌, slice_index, not, nat_lt, codes}
-use Rattle.saphyr_input.specs.Classes.{is_blank, is_break, is_breakz, is_z, is_blank_or_breakz, is_one_of}
+use Rattle.saphyr_input.specs.Classes.{is_break, is_breakz, is_z, is_blank_or_breakz, is_one_of}
 use Rattle.saphyr_input.specs.Places.{is_blank_or_break}
 use Rattle.saphyr_scalar.specs.declared.values.BlockStyle.{BlockStyle}
 use Rattle.saphyr_scalar.specs.declared.values.Quote.{Quote}
@@ -43,7 +43,7 @@ use Rattle.saphyr_scanner.proofs.Taken.Cores.{surroundings, IsSaved}
 use Rattle.saphyr_scanner.proofs.Taken.Indented.{BeginsNoNode, other_than_colon}
 use Rattle.saphyr_scanner.proofs.Taken.Keys.{IsArrival}
 use Rattle.saphyr_scanner.proofs.Taken.Neutral.{neutral}
-use Rattle.saphyr_scanner.proofs.Taken.Later.{top, apart_later, passed_later, end_stays}
+use Rattle.saphyr_scanner.proofs.Taken.Later.{top, apart_later, break_begins_no_text, passed_later, end_stays}
 use Rattle.saphyr_scanner.proofs.Taken.OnLine.{quoted_shorter}
 use Rattle.saphyr_scanner.proofs.Taken.Parts.{is_quiet}
 use Rattle.saphyr_scanner.proofs.Taken.Places.{Reaches, reaches_reaches, at_here}
@@ -51,7 +51,8 @@ use Rattle.saphyr_scanner.proofs.Taken.Separated.{apart_apart}
 use Rattle.saphyr_scanner.proofs.Taken.States.{block_fetched}
 use Rattle.std.proofs.lemmas.Bool.{or_parts, or_cases, and_parts, eqb-true, ne_eqb}
 use Rattle.saphyr_input.specs.Indicators.{ampersand, apostrophe, asterisk, at_sign, colon, exclamation_mark, grave_accent, left_brace, left_bracket, number_sign, percent_sign, quotation_mark, right_brace, right_bracket}
-use Rattle.saphyr_input.proofs.Basics.Booleans.{by_test}
+use Rattle.saphyr_input.proofs.Basics.Booleans.{by_test, clash}
+use Rattle.saphyr_input.proofs.Basics.Characters.{blank_no_break}
 use Rattle.saphyr_scalar.proofs.Given.{given_of}
 
 -- a span begins where a text does
@@ -124,14 +125,8 @@ goes_on_outside start c b h =
 break_passed : (m : Marker) (t : List ℕ) (n : Marker) (u : List ℕ) → IsPassedOver m t n u
     → is_break (slice_index t 0) ≡ true → IsTrue (begins_text (slice_index u 0)) → m.line ≤ top → n.line < top
     → m.line < n.line
-break_passed _ _ _ _ (taken.nothing m t) e b low small = absurd (no (slice_index t 0) e b)
-  where
-    no : (c : ℕ) → is_break c ≡ true → begins_text c ≡ true → ⊥
-    no c e b = grind arith
-break_passed _ _ _ _ (taken.blank m c t n u f p) e b low small = absurd (no c f e)
-  where
-    no : (c : ℕ) → is_blank c ≡ true → is_break c ≡ true → ⊥
-    no c f e = grind arith
+break_passed _ _ _ _ (taken.nothing m t) e b low small = absurd (break_begins_no_text (slice_index t 0) e b)
+break_passed _ _ _ _ (taken.blank m c t n u f p) e b low small = clash (is_break c) e (blank_no_break c f)
 break_passed _ _ _ _ (taken.line_break m t n u f p) e b low small =
     let l = (apart_later (next_line m (break_len t)) (drop (break_len t) t) n u p).kept small in omega (arith, l, small)
 break_passed _ _ _ _ (taken.comment m words t n u a f p) e b low small = absurd (cc)

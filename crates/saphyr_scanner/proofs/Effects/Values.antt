@@ -145,9 +145,7 @@ near_colon context.Block k m far e =
     near a b f g h = grind arith
 near_colon context.FlowSequence k m far e = absurd (cc)
 near_colon context.FlowPair k m far e = absurd (cc)
-near_colon context.ExplicitFlowPair k m far e = refl
-near_colon context.MarkedFlowPair k m far e = refl
-near_colon context.FlowMapping k m far e = refl
+near_colon _ k m far e = refl
 
 near_line : (x : Context) (k : Candidate) (m : Marker) → is_block x ≡ true
     → (is_block x && is_too_far (Some k) m) ≡ false → m.line ≤ k.mark.line

@@ -14,7 +14,7 @@ use Rattle.saphyr_scanner.specs.Steps.State.{State, on_core, with_core}
 use Rattle.saphyr_scanner.specs.Steps.Unrolling.{unroll, end_blocks, is_right_of, go_less_deep}
 use Rattle.saphyr_scanner.specs.Steps.Fetch.{arrive}
 use Rattle.saphyr_scanner.specs.TokensTaken as taken
-use Rattle.saphyr_scanner.specs.TokensTaken.{AreApart, IsPassedOver, begins_text}
+use Rattle.saphyr_scanner.specs.TokensTaken.{AreApart, begins_text}
 use Rattle.saphyr_scanner.specs.TokensInPlace.{Enclosures}
 use Rattle.saphyr_scanner.proofs.Blocks.{none_ends, unrolled_cursor, blocks_cursor, go_less_deep_cursor}
 use Rattle.saphyr_scanner.proofs.Taken.Separated.{gap_apart, BeginsText, gap_begins, Breaks, gap_breaks}
@@ -22,7 +22,7 @@ use Rattle.saphyr_scanner.proofs.Taken.Later.{top, Later, LaterThan, later_later
 use Rattle.saphyr_scanner.proofs.Taken.Held.{enclosures_of, Setting, Taken, taken_within, AllowsKey, taken_further}
 use Rattle.saphyr_scanner.proofs.Taken.Indented.{BeginsNoNode, stays_no_node, IsRight, root_key}
 use Rattle.saphyr_scanner.proofs.Taken.Keys.{Keys}
-use Rattle.saphyr_scanner.proofs.Taken.Cores.{Alike, alike_enclosures, keys_of, keys_lesser, no_keys, outermost_level}
+use Rattle.saphyr_scanner.proofs.Taken.Cores.{line_near, Alike, alike_enclosures, keys_of, keys_lesser, no_keys, outermost_level}
 use Rattle.saphyr_scanner.proofs.Taken.Keys.{IsNear, IsBehindKey}
 use Rattle.saphyr_scanner.proofs.Taken.Cores.{key_known}
 use Rattle.saphyr_scanner.proofs.Taken.States.{line_small, taken_later, key_stands, Live, TakenState, unroll_taken, blocks_levels}
@@ -186,9 +186,6 @@ gapped text small opened from q c l h k =
       root = λ _. ap (λ m. root_key (m ∷ d.outer)) a.level ∙ ap (λ ls. root_key (c.level ∷ ls)) a.outer;
       block = block;
     }) h)) (further_live opened.enclosures c d q a p k))
-
-line_near : (k : Candidate) (m : Marker) → is_too_far (Some k) m ≡ false → m.line ≤ k.mark.line
-line_near k m e = grind arith
 
 -- a candidate that is not too far is on the line, and not right of what is here
 pub key_column : (text : List ℕ) → length text < 2 ^ 63 → (opened : Setting) (from : Cursor) (q : Queue) (c : Core)

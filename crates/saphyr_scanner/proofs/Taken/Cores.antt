@@ -284,14 +284,14 @@ apart_same s t e = let P : Cursor → Type 0 = λ u. AreApart s u in subst P (sy
 pub saved_enclosures : (n : ℕ) (c d : Core) → Saved n c d → enclosures_of d ≡ enclosures_of c
 saved_enclosures n c d s = grind arith
 
+pub line_near : (k : Candidate) (m : Marker) → is_too_far (Some k) m ≡ false → m.line ≤ k.mark.line
+line_near k m e = grind arith
+
 -- outside flow no key has to be one where another is saved, which is not too far after it
 none_required : (all : Enclosures) (c : Core) (q : Queue) → c.outer ≡ [] → in_block c ≡ true → c.key_allowed ≡ true
     → IsArrival c → Waits all c q → ⊥
 none_required all c q none b allowed arrival w = by (w.past b allowed arrival.2)
   where
-    near : (k : Candidate) (m : Marker) → is_too_far (Some k) m ≡ false → m.line ≤ k.mark.line
-    near k m e = grind arith
-
     known : c.level.key ≡ Some w.key
     known = sym (own_key c none) ∙ w.is
 
@@ -300,7 +300,7 @@ none_required all c q none b allowed arrival w = by (w.past b allowed arrival.2)
         ∙ sym (ap (λ x. x && is_too_far c.level.key c.cursor.mark) b) ∙ arrival.1
 
     by : (w.key.mark.line < c.cursor.mark.line) ⊎ (is_z (slice_index c.cursor.rest 0) ≡ true) → ⊥
-    by (inl l) = let m = near w.key c.cursor.mark kept in omega (arith, l, m)
+    by (inl l) = let m = line_near w.key c.cursor.mark kept in omega (arith, l, m)
     by (inr z) = let some = arrival.5 in cc
 
 -- what has not to be a key is right of the column of its collection

@@ -1,6 +1,6 @@
 -- Tokens that may be where they are, one part after the other, and the same tokens within other enclosures.
 use Rattle.std.proofs.Common.{◌≡◌, ℕ, zero, suc, ◌+◌, ◌-◌, Bool, true, false, List, [], ◌∷◌, ◌++◌, length, Option, Some, None, refl, sym, ap, ◌∙◌, arith, subst, IsTrue, ◌≤◌, ◌<◌}
-use Rattle.std.specs.Prelude.{◌||◌, ◌&&◌, nat_lt, not, if◌then◌else◌}
+use Rattle.std.specs.Prelude.{◌&&◌, nat_lt, not, if◌then◌else◌}
 use Rattle.std.proofs.lemmas.Bool.Decides.{nat_tests}
 use Rattle.std.proofs.lemmas.Bool.{and_parts}
 use Rattle.std.proofs.Math.Bool.{or-true}
@@ -502,7 +502,7 @@ opened_in_place opening.FlowMappingAndKey t back g e outside m f l q h k =
     let no = no_text t.span.start.index in
     let start = node_may_follow g tokens.FlowMappingStart (empty_piece t.span.start tokens.FlowMappingStart).span f
     refl in
-    let key = or_true (nat_lt t.span.start.index t.span.start.index) in
+    let key = or-true (nat_lt t.span.start.index t.span.start.index) in
     record {
       last = r.last;
       before = r.before;
@@ -510,6 +510,3 @@ opened_in_place opening.FlowMappingAndKey t back g e outside m f l q h k =
       indented = rw no (refl, (refl, r.indented refl));
       behind = rw no r.behind;
     }
-  where
-    or_true : (b : Bool) → (b || true) ≡ true
-    or_true b = grind (arith, nat_tests)

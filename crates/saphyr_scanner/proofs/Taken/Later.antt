@@ -105,6 +105,9 @@ apart_later m t n u p = reached_later m t n u (apart_reached m t n u p)
 pub passed_later : (m : Marker) (t : List ℕ) (n : Marker) (u : List ℕ) → IsPassed m t n u → Later m t n u
 passed_later m t n u p = reached_later m t n u (passed_reached m t n u p)
 
+pub break_begins_no_text : (c : ℕ) → is_break c ≡ true → begins_text c ≡ true → ⊥
+break_begins_no_text c e b = grind arith
+
 -- Where a text goes on nothing is passed.
 pub text_stays : (m : Marker) (t : List ℕ) (n : Marker) (u : List ℕ) → IsPassedOver m t n u
     → IsTrue (begins_text (slice_index t 0)) → (n ≡ m) × (u ≡ t)
@@ -113,10 +116,7 @@ text_stays _ _ _ _ (taken.blank m c t n u e p) b = absurd (no c e b)
   where
     no : (c : ℕ) → is_blank c ≡ true → begins_text c ≡ true → ⊥
     no c e b = grind arith
-text_stays _ _ _ _ (taken.line_break m t n u e p) b = absurd (no (slice_index t 0) e b)
-  where
-    no : (c : ℕ) → is_break c ≡ true → begins_text c ≡ true → ⊥
-    no c e b = grind arith
+text_stays _ _ _ _ (taken.line_break m t n u e p) b = absurd (break_begins_no_text (slice_index t 0) e b)
 text_stays _ _ _ _ (taken.comment m words t n u a e p) b = absurd (let no : false ≡ true = b in cc)
 
 -- Neither is at NUL and at the end.

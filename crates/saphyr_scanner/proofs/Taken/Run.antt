@@ -180,9 +180,7 @@ place_follows text opened from between o t r h i j k =
         → AreIndented opened.enclosures (place_pieces w t ++ r.pieces)
         → FollowsTaken text opened from (before_place w t r)
     by opening.Nothing x y z = (k.0, x, y, z, k.4, k.5)
-    by opening.Key x y z = (k.0, x, y, z, k.4, k.5)
-    by opening.BlockMappingAndKey x y z = (k.0, x, y, z, k.4, k.5)
-    by opening.FlowMappingAndKey x y z = (k.0, x, y, z, k.4, k.5)
+    by _ x y z = (k.0, x, y, z, k.4, k.5)
 
 handed_follow : (text : List ℕ) (go : State → Remaining) (c : Core)
     → ((opened : Setting) (from : Cursor) (n : ℕ) (ps : List Place) → From text from → (c.ended ≡ true → ps ≡ [])
