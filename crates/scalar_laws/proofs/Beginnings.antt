@@ -1,10 +1,7 @@
 -- How texts begin, and sets that all characters of a text are in.
-use Rattle.std.proofs.Common.{◌≡◌, ◌≢◌, ℕ, ◌⊎◌, Bool, true, false, List, [], ◌∷◌, ◌++◌, inl, inr, refl, sym, ◌∙◌, codes, ap, slice_index, IsTrue, append_assoc}
-use Rattle.std.specs.Prelude.{◌==◌, not}
-use Rattle.saphyr_input.specs.Indicators.{number_sign, percent_sign}
-use Rattle.saphyr_input.specs.Classes.{is_blank, line_feed}
-use Rattle.saphyr_input.proofs.Basics.Booleans.{clash}
-use Rattle.saphyr_scalar.specs.Spelling.Tag.{AreIn, IsDecoded}
+use Rattle.std.proofs.Common.{◌≡◌, ℕ, ◌⊎◌, Bool, true, false, List, [], ◌∷◌, ◌++◌, inl, inr, refl, sym, codes, ap, slice_index, IsTrue}
+use Rattle.saphyr_input.specs.Classes.{is_blank}
+use Rattle.saphyr_scalar.specs.Spelling.Tag.{AreIn}
 use Rattle.scalar_laws.specs.Spelling.Spaces.{joined_pieces, AreEach, IsFillerText, IsFillerLine, IsFiller}
 
 abbrev pub behind_first : List ℕ → List ℕ
@@ -41,27 +38,14 @@ both_in set (c ∷ cs) b h k = (h.0, both_in set cs b h.1 k)
 pub behind_in : (set : ℕ → Bool) (t a b : List ℕ) → t ≡ a ++ b → AreIn set t → AreIn set b
 behind_in set t a b e h = back_in set a b (rw e at h)
 
-pub before_in : (set : ℕ → Bool) (t a b : List ℕ) → t ≡ a ++ b → AreIn set t → AreIn set a
-before_in set t a b e h = front_in set a b (rw e at h)
-
 -- a character outside the set is nowhere
 pub lacks : (set : ℕ → Bool) (c : ℕ) (t a b : List ℕ) → set c ≡ false → t ≡ a ++ (c ∷ b) → AreIn set t → ⊥
 lacks set c t a b n e h = let f : set c ≡ true = (behind_in set t a (c ∷ b) e h).0 in cc
-
--- one character that stands for itself
-pub decodes_itself : (set : ℕ → Bool) (c : ℕ) → IsTrue (set c) → c ≢ percent_sign → IsDecoded set (c ∷ []) (c ∷ [])
-decodes_itself set c h n = (c ∷ [], [], inl (h, n, refl), refl, refl)
 
 -- ## Filler: a line of it begins with a blank, a `#` or a line feed
 
 abbrev pub IsFirst : ℕ → Type 0
 IsFirst c = IsTrue (is_blank c) ⊎ ((c ≡ 35) ⊎ (c ≡ 10))
-
-pub no_first : (d c : ℕ) (rest cs : List ℕ) → is_blank d ≡ false → d ≢ number_sign → d ≢ line_feed → IsFirst c
-    → d ∷ rest ≡ c ∷ cs → ⊥
-no_first d c rest cs x y z (inl e) f = absurd (clash (is_blank d) (ap is_blank (sym (heads d c rest cs f)) ∙ e) x)
-no_first d c rest cs x y z (inr (inl e)) f = y (sym (heads d c rest cs f) ∙ e)
-no_first d c rest cs x y z (inr (inr e)) f = z (sym (heads d c rest cs f) ∙ e)
 
 pub filler_text : (t : List ℕ) → IsFillerText t → (t ≡ []) ⊎ Begins IsFirst t
 filler_text t ([], words, are, inl g, e) = inl (rw (e, g) refl)
@@ -86,18 +70,3 @@ begins_along a b e h = rw e h
 
 pub filler : (t : List ℕ) → IsFiller t → (t ≡ []) ⊎ Begins IsFirst t
 filler t (pieces, h, f) = begins_along t (joined_pieces pieces) f (begins_lines pieces h)
-
--- a text after filler begins so, or there is none
-pub behind_filler : (t a b : List ℕ) → IsFiller a → t ≡ a ++ b → (t ≡ b) ⊎ Begins IsFirst t
-behind_filler t a b h d = split t a b d (filler a h)
-  where
-    split : (t a b : List ℕ) → t ≡ a ++ b → (a ≡ []) ⊎ Begins IsFirst a → (t ≡ b) ⊎ Begins IsFirst t
-    split t a b d (inl e) = inl (rw (d, e) refl)
-    split t a b d (inr h) = inr (front_of IsFirst a b t h d)
-
--- filler without a line feed is nothing
-pub no_feed_no_filler : (t : List ℕ) → AreIn (λ c. not (c == line_feed)) t → IsFiller t → t ≡ []
-no_feed_no_filler t h ([], each, e) = e
-no_feed_no_filler t h (piece ∷ pieces, (line, each), e) =
-    absurd (lacks (λ c. not (c == 10)) 10 t line.0 (joined_pieces pieces) refl
-    (cc (append_assoc line.0 (10 ∷ []) (joined_pieces pieces))) h)
