@@ -1,6 +1,6 @@
 -- Places of a text and of its normalized text, and how both go on together.
 use Rattle.std.proofs.Common.{◌≡◌, ℕ, ◌+◌, ◌^◌, ◌≤◌, ◌<◌, Bool, true, false, List, ◌∷◌, length, drop, refl, sym, ◌∙◌, arith, Result, cond}
-use Rattle.std.specs.Prelude.{◌==◌, ◌-◌, nat_lt, ◌^◌, min}
+use Rattle.std.specs.Prelude.{◌==◌, ◌-◌, ◌^◌, min}
 use Rattle.std.proofs.lemmas.Bool.Decides.{nat_tests}
 use Rattle.saphyr_input.specs.Breaks.{normalized}
 use Rattle.saphyr_scalar.specs.declared.scalar.position.Marker.{Marker}
