@@ -5,7 +5,7 @@ use Rattle.scalar_laws.specs.Spelling.Spaces.{IsLineRest}
 use Rattle.saphyr_scanner.specs.Grammar.Forest.{Forest, open_in_forest}
 use Rattle.saphyr_machine.specs.Cursor.{EventCursor, keeping_tags, to_come}
 use Rattle.saphyr_scanner.specs.Limits.{most_open}
-use Rattle.json_laws.specs.Grammar.Json.{IsJson}
+use Rattle.yaml_laws.specs.Grammar.Json.{IsJson}
 use Rattle.yaml_laws.specs.Grammar.Yaml.{IsYamlText}
 use Rattle.event_laws.specs.EventsTaken.{AreTaken}
 use Rattle.event_laws.specs.Premises.{ReadsEach, ReadsClosed}

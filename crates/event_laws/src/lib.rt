@@ -11,7 +11,7 @@ ghost use Rattle.event_laws.specs.Anchors.{IsLatest, anchors, latest_id};
 ghost use Rattle.event_laws.specs.Preorder.{Part, parts};
 ghost use Rattle.event_laws.specs.ForestEvents.{events};
 ghost use Rattle.saphyr_scanner.specs.Grammar.Forest.{Forest};
-ghost use Rattle.json_laws.specs.Grammar.Json.{IsJson};
+ghost use Rattle.yaml_laws.specs.Grammar.Json.{IsJson};
 ghost use Rattle.saphyr_input.specs.Breaks.{normalized};
 ghost use Rattle.saphyr_scanner.specs.Steps.Remaining.{scan};
 ghost use Rattle.saphyr_scanner.specs.Views.Tokens.{Piece, Remaining};
@@ -42,9 +42,8 @@ ghost use Rattle.event_laws.specs.Settings.{with_keep_tags, with_setting};
 ghost use Rattle.saphyr_machine.specs.declared.state.State.TheVariants.{DocumentEnd as AtDocumentEnd};
 ghost use Rattle.event_laws.specs.More.{BeginsAs, marker_token, with_more};
 
-use json_laws::is_yaml_text;
 use saphyr_scanner::law::bounds_tokens;
-use yaml_laws::{scans_breaks_alike, scans_each_yaml_text};
+use yaml_laws::{is_yaml_text, scans_breaks_alike, scans_each_yaml_text};
 
 /// The events of each forest nest, from before the stream to after it. Of events that lead to the stream's end a
 /// beginning nests too, and if no fault cuts it off, it is all of them.

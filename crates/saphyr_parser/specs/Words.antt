@@ -8,6 +8,6 @@ pub use Rattle.saphyr_scanner.specs.Grammar.TokenGrammar
 pub use Rattle.saphyr_scanner.specs.Limits.{most_open}
 pub use Rattle.saphyr_scanner.specs.Steps.Remaining
 pub use Rattle.saphyr_scanner.specs.TokensTaken
-pub use Rattle.json_laws.specs.Grammar.Json
+pub use Rattle.yaml_laws.specs.Grammar.Json
 pub use Rattle.yaml_laws.specs.Grammar.Yaml
 pub use Rattle.yaml_laws.specs.Grammar.ClosedTexts

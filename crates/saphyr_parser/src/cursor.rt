@@ -10,7 +10,6 @@ ghost use Rattle.saphyr_machine.specs.Calls as calls;
 ghost use Rattle.event_laws.specs.Promises.{KeepsSpans, ReadsClosedYaml, ReadsJson, ReadsYaml, TakesEvents};
 
 use event_laws::takes_all_events;
-use json_laws::is_yaml_text;
 use saphyr_input::input::{CloneInput, Input};
 use saphyr_input::{BufferedInput, StrInput};
 use saphyr_machine::{Event, EventReader, Fault, Progress, SpannedEventReceiver};
@@ -19,7 +18,7 @@ use saphyr_scanner::Scanner;
 use saphyr_scanner::law::{bounds_tokens, ends_with_the_stream, places_taken_tokens};
 use std::alloc::{AllocError, Global};
 use std::marker::Model;
-use yaml_laws::{hands_out_markers, scans_each_yaml_text};
+use yaml_laws::{hands_out_markers, is_yaml_text, scans_each_yaml_text};
 
 /// How many characters a text may have.
 const MOST_CHARACTERS: usize = 4294967295;

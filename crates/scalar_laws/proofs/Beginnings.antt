@@ -1,11 +1,6 @@
--- How texts begin, and sets that all characters of a text are in.
-use Rattle.std.proofs.Common.{◌≡◌, ◌≢◌, ℕ, ◌⊎◌, Bool, true, false, List, [], ◌∷◌, ◌++◌, inl, inr, refl, sym, ◌∙◌, codes, ap, slice_index, IsTrue, append_assoc}
-use Rattle.std.specs.Prelude.{◌==◌, not}
-use Rattle.saphyr_input.specs.Indicators.{number_sign, percent_sign}
-use Rattle.saphyr_input.specs.Classes.{is_blank, line_feed}
-use Rattle.saphyr_input.proofs.Basics.Booleans.{clash}
-use Rattle.saphyr_scalar.specs.Spelling.Tag.{AreIn, IsDecoded}
-use Rattle.scalar_laws.specs.Spelling.Spaces.{joined_pieces, AreEach, IsFillerText, IsFillerLine, IsFiller}
+-- The first character of a text, and sets that all characters of a text are in.
+use Rattle.std.proofs.Common.{◌≡◌, ℕ, Bool, List, [], ◌∷◌, ◌++◌, sym, ap, slice_index}
+use Rattle.saphyr_scalar.specs.Spelling.Tag.{AreIn}
 
 abbrev pub behind_first : List ℕ → List ℕ
 behind_first [] = []
@@ -16,13 +11,6 @@ heads a b s t e = let f : a ≡ b = ap (λ x. slice_index x 0) e in sym f
 
 pub tails : (a b : ℕ) (s t : List ℕ) → a ∷ s ≡ b ∷ t → s ≡ t
 tails a b s t e = ap (λ x. behind_first x) e
-
--- the first character is one of which P holds
-abbrev pub Begins : (ℕ → Type 0) → List ℕ → Type 0
-Begins P t = (c : ℕ) × (cs : List ℕ) × P c × (t ≡ c ∷ cs)
-
-pub front_of : (P : ℕ → Type 0) (a b t : List ℕ) → Begins P a → t ≡ a ++ b → Begins P t
-front_of P a b t (c, cs, n, e) d = (c, cs ++ b, n, rw (d, e) refl)
 
 -- ## Sets of characters
 
@@ -37,67 +25,3 @@ back_in set (c ∷ cs) b (h, hs) = back_in set cs b hs
 pub both_in : (set : ℕ → Bool) (a b : List ℕ) → AreIn set a → AreIn set b → AreIn set (a ++ b)
 both_in set [] b h k = k
 both_in set (c ∷ cs) b h k = (h.0, both_in set cs b h.1 k)
-
-pub behind_in : (set : ℕ → Bool) (t a b : List ℕ) → t ≡ a ++ b → AreIn set t → AreIn set b
-behind_in set t a b e h = back_in set a b (rw e at h)
-
-pub before_in : (set : ℕ → Bool) (t a b : List ℕ) → t ≡ a ++ b → AreIn set t → AreIn set a
-before_in set t a b e h = front_in set a b (rw e at h)
-
--- a character outside the set is nowhere
-pub lacks : (set : ℕ → Bool) (c : ℕ) (t a b : List ℕ) → set c ≡ false → t ≡ a ++ (c ∷ b) → AreIn set t → ⊥
-lacks set c t a b n e h = let f : set c ≡ true = (behind_in set t a (c ∷ b) e h).0 in cc
-
--- one character that stands for itself
-pub decodes_itself : (set : ℕ → Bool) (c : ℕ) → IsTrue (set c) → c ≢ percent_sign → IsDecoded set (c ∷ []) (c ∷ [])
-decodes_itself set c h n = (c ∷ [], [], inl (h, n, refl), refl, refl)
-
--- ## Filler: a line of it begins with a blank, a `#` or a line feed
-
-abbrev pub IsFirst : ℕ → Type 0
-IsFirst c = IsTrue (is_blank c) ⊎ ((c ≡ 35) ⊎ (c ≡ 10))
-
-pub no_first : (d c : ℕ) (rest cs : List ℕ) → is_blank d ≡ false → d ≢ number_sign → d ≢ line_feed → IsFirst c
-    → d ∷ rest ≡ c ∷ cs → ⊥
-no_first d c rest cs x y z (inl e) f = absurd (clash (is_blank d) (ap is_blank (sym (heads d c rest cs f)) ∙ e) x)
-no_first d c rest cs x y z (inr (inl e)) f = y (sym (heads d c rest cs f) ∙ e)
-no_first d c rest cs x y z (inr (inr e)) f = z (sym (heads d c rest cs f) ∙ e)
-
-pub filler_text : (t : List ℕ) → IsFillerText t → (t ≡ []) ⊎ Begins IsFirst t
-filler_text t ([], words, are, inl g, e) = inl (rw (e, g) refl)
-filler_text t ([], words, are, inr (w, h, g), e) = inr (35, w, inr (inl refl), rw (e, g) refl)
-filler_text t (b ∷ bs, words, are, h, e) = inr (b, bs ++ words, inl are.0, rw e refl)
-
-filler_line : (t : List ℕ) → IsFillerLine t → Begins IsFirst t
-filler_line t (text, h, e) = with_break text t e (filler_text text h)
-  where
-    with_break : (text t : List ℕ) → t ≡ text ++ codes "\n" → (text ≡ []) ⊎ Begins IsFirst text → Begins IsFirst t
-    with_break text t e (inl f) = (10, [], inr (inr refl), rw (e, f) refl)
-    with_break text t e (inr h) = front_of IsFirst text (codes "\n") t h e
-
-begins_lines : (pieces : List (List ℕ)) → AreEach IsFillerLine pieces
-    → (joined_pieces pieces ≡ []) ⊎ Begins IsFirst (joined_pieces pieces)
-begins_lines [] h = inl refl
-begins_lines (line ∷ others) (h, hs) =
-    inr (front_of IsFirst line (joined_pieces others) (line ++ joined_pieces others) (filler_line line h) refl)
-
-begins_along : (a b : List ℕ) → a ≡ b → (b ≡ []) ⊎ Begins IsFirst b → (a ≡ []) ⊎ Begins IsFirst a
-begins_along a b e h = rw e h
-
-pub filler : (t : List ℕ) → IsFiller t → (t ≡ []) ⊎ Begins IsFirst t
-filler t (pieces, h, f) = begins_along t (joined_pieces pieces) f (begins_lines pieces h)
-
--- a text after filler begins so, or there is none
-pub behind_filler : (t a b : List ℕ) → IsFiller a → t ≡ a ++ b → (t ≡ b) ⊎ Begins IsFirst t
-behind_filler t a b h d = split t a b d (filler a h)
-  where
-    split : (t a b : List ℕ) → t ≡ a ++ b → (a ≡ []) ⊎ Begins IsFirst a → (t ≡ b) ⊎ Begins IsFirst t
-    split t a b d (inl e) = inl (rw (d, e) refl)
-    split t a b d (inr h) = inr (front_of IsFirst a b t h d)
-
--- filler without a line feed is nothing
-pub no_feed_no_filler : (t : List ℕ) → AreIn (λ c. not (c == line_feed)) t → IsFiller t → t ≡ []
-no_feed_no_filler t h ([], each, e) = e
-no_feed_no_filler t h (piece ∷ pieces, (line, each), e) =
-    absurd (lacks (λ c. not (c == 10)) 10 t line.0 (joined_pieces pieces) refl
-    (cc (append_assoc line.0 (10 ∷ []) (joined_pieces pieces))) h)

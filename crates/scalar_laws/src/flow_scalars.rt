@@ -1,12 +1,11 @@
 //! Laws of the readers of plain and quoted scalars in the standard's words (YAML 1.2.2, 7.3): what is spelled so is
 //! read.
 
-ghost use Rattle.std.specs.Prelude.{◌≡◌, ℕ, Bool, Some, false, List, ◌++◌, Ok, encode_utf8_all, slice_index};
+ghost use Rattle.std.specs.Prelude.{◌≡◌, ℕ, Bool, false, List, ◌++◌, Ok, encode_utf8_all};
 ghost use Rattle.saphyr_scalar.specs.declared.scalar.position.Marker.{Marker};
 ghost use Rattle.saphyr_scalar.specs.Views.Cursor.{Cursor};
 ghost use Rattle.saphyr_scalar.specs.Steps.Quoted.{quoted, mid_line};
 ghost use Rattle.saphyr_scalar.specs.Spelling.Quoted.{IsQuotedText};
-ghost use Rattle.saphyr_scalar.specs.Values.Flow as flow;
 ghost use Rattle.saphyr_scalar.specs.Values.Flow.{plain_value};
 ghost use Rattle.saphyr_scalar.specs.Passing.{IsPassed};
 ghost use Rattle.scalar_laws.specs.Spelling.QuotedLines.{LinesFit};
@@ -33,16 +32,6 @@ pub fn reads_each_quoted()
 pub fn passes_to_one_place()
     ensures { (m : Marker) (s : List ℕ) (n : Marker) (u : List ℕ) → IsPassed m s n u → (k : Marker)
         → IsPassed m s k u → k ≡ n }
-{}
-
-/// A quoted scalar that is read is a piece of the text, with its quotes, and its value is the one that
-/// the standard gives the piece.
-pub fn reads_quoted_values()
-    ensures { (quote : Quote) (indent : ℕ) (s t : Cursor) (text : List ℕ)
-        → slice_index s.rest 0 ≡ flow.mark quote → quoted quote indent s ≡ Ok (text, t)
-        → (piece value : List ℕ) × (s.rest ≡ piece ++ t.rest)
-        × (flow.quoted_value quote (normalized piece) ≡ Some value)
-        × (encode_utf8_all value ≡ text) }
 {}
 
 /// If blanks, breaks and what ends it follow a plain scalar of words and lines, its value is read,

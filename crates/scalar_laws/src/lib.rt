@@ -10,10 +10,8 @@ mod flow_scalars;
 mod line_breaks;
 mod properties;
 
-pub use block_scalars::{reads_each_block_scalar, reads_values_of_lines};
+pub use block_scalars::reads_each_block_scalar;
 pub use directive_lines::{reads_each_directive, reads_each_reserved_directive};
-pub use flow_scalars::{
-    passes_to_one_place, reads_each_plain_text, reads_each_quoted, reads_quoted_values,
-};
+pub use flow_scalars::{passes_to_one_place, reads_each_plain_text, reads_each_quoted};
 pub use line_breaks::reads_breaks_alike;
 pub use properties::{reads_each_anchor, reads_each_tag};

@@ -5,7 +5,7 @@ use Rattle.scalar_laws.specs.Spelling.Spaces.{IsFiller, IsLineRest}
 use Rattle.saphyr_scanner.specs.Grammar.Forest.{Forest, open_in_forest}
 use Rattle.saphyr_scanner.specs.Limits.{most_open}
 use Rattle.yaml_laws.specs.Grammar.Yaml.{no_prefix, IsYamlText}
-use Rattle.json_laws.specs.Grammar.Json.{IsUnescaped, IsJsonNumber, IsString, IsValue, IsJson}
+use Rattle.yaml_laws.specs.Grammar.Json.{IsUnescaped, IsJsonNumber, IsString, IsValue, IsJson}
 use Rattle.saphyr_machine.specs.Events as events
 use Rattle.event_laws.specs.ForestEvents.{events}
 use Rattle.event_laws.specs.Premises.{IsClosed, IsPromised, Starts}

@@ -20,7 +20,7 @@ ghost use Rattle.worked_examples.specs.Forests as forests;
 ghost use Rattle.worked_examples.specs.Wrong as wrong;
 ghost use Rattle.worked_examples.specs.Wrong.{marker_at};
 
-use json_laws::is_yaml_text;
+use yaml_laws::is_yaml_text;
 
 /// The text `{"a":[1,true]}` has all that the promise on JSON asks of a text, and all that the one on YAML's grammar
 /// asks, with these events.

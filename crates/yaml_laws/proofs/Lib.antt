@@ -3,3 +3,4 @@ pub mod InFlow
 pub mod Flow
 pub mod Documents
 pub mod Breaks
+pub mod Json

@@ -1,4 +1,5 @@
-//! Laws of the texts of YAML's grammar: each gives tokens of its forest, and no fault, whatever its line breaks.
+//! Laws of the texts of YAML's grammar: each gives tokens of its forest, and no fault, whatever its line breaks. Texts
+//! of JSON are texts of this grammar.
 //!
 //! The functions are laws: they do nothing, and what matters is their proved clauses.
 #![tactic(auto)]
@@ -10,13 +11,14 @@ ghost use Rattle.saphyr_scalar.specs.Reading.BlockLines.{spaces};
 ghost use Rattle.saphyr_scalar.specs.Reading.BlockText.{IsBlockText};
 ghost use Rattle.saphyr_scalar.specs.Views.Cursor.{Cursor};
 ghost use Rattle.scalar_laws.specs.Spelling.Spaces.{IsLineRest};
-ghost use Rattle.saphyr_scanner.specs.Grammar.Forest.{Forest};
+ghost use Rattle.saphyr_scanner.specs.Grammar.Forest.{Forest, open_in_forest};
 ghost use Rattle.saphyr_scanner.specs.Limits.{most_open};
 ghost use Rattle.saphyr_scanner.specs.Grammar.TokenGrammar.{Yields};
 ghost use Rattle.saphyr_scanner.specs.Grammar.Tokens.{Kind};
 ghost use Rattle.saphyr_scanner.specs.Steps.Remaining.{Scans, scan};
 ghost use Rattle.yaml_laws.specs.Grammar.BlockNodes.{IsBlockScalarText};
 ghost use Rattle.yaml_laws.specs.Grammar.ClosedTexts.{DocumentMarker, EndsWithMarker, HandsOut};
+ghost use Rattle.yaml_laws.specs.Grammar.Json.{IsJson};
 ghost use Rattle.yaml_laws.specs.Grammar.Yaml.{IsYamlText};
 ghost use Rattle.yaml_laws.specs.SameKinds.{HaveSameKinds};
 
@@ -104,3 +106,10 @@ pub fn agrees_on_block_scalars()
     reads_each_block_scalar();
     reads_block_texts();
 }
+
+/// Each text of JSON is a text of YAML's grammar, with the same forest. At most `room` collections are
+/// open in it at once, all in flow style.
+pub fn is_yaml_text()
+    ensures { (room : ℕ) (forest : Forest) (text : List ℕ) → IsJson forest text
+        → open_in_forest forest ≤ room → IsYamlText room forest text }
+{}

@@ -8,8 +8,8 @@ use Rattle.saphyr_machine.specs.declared.state.State.{State}
 use Rattle.saphyr_machine.specs.declared.state.State.TheVariants as state
 use Rattle.saphyr_machine.specs.Events.{Happening}
 use Rattle.event_laws.specs.Premises.{DocumentMarker, Starts, Ends, marker_event}
-use Rattle.saphyr_machine.specs.Steps.Machine.{◌>>=◌, Machine, Told, ending_refusal, with_pieces}
-use Rattle.saphyr_machine.specs.Steps.Documents.{unpassed_token_from, unpassed_token, is_end_or_mark, implicit_start, document_content}
+use Rattle.saphyr_machine.specs.Steps.Machine.{Machine, Told, ending_refusal, with_pieces}
+use Rattle.saphyr_machine.specs.Steps.Documents.{unpassed_token, implicit_start, document_content}
 use Rattle.saphyr_machine.specs.Steps.Expected.{event_step, event_step_at}
 use Rattle.saphyr_machine.specs.Answer.{Answer, with_first_event, answer_of_step, fault_alone, ending_of, remaining_answer, machine_size}
 use Rattle.event_laws.specs.More.{with_more, BeginsAs}
@@ -32,10 +32,6 @@ early w us e (t ∷ ts) = or_last w _ ts t.kind (early w us e ts)
 pub ended : (s : State) → (s ≡ state.End) ⊎ (s ≢ state.End)
 ended state.End = inl refl
 ended _ = inr (λ e. absurd (cc))
-
-same_result : (z : More) (r : Option Refusal) (p q : Result Told Refusal) (x : Told) → AgreesOrEndsEarly z r p q
-    → p ≡ Ok x → q ≡ Ok (record x { machine = longer z x.machine })
-same_result z r p q x a e = grind arith
 
 step_given : (z : More) (m : Machine) (x : Told) → End z m.tokens.pieces → event_step m ≡ Ok x
     → event_step (longer z m) ≡ Ok (record x { machine = longer z x.machine })
@@ -116,10 +112,6 @@ delivers_longer z r m (Ok x) q a s h =
     rw a.2 (goes_on_behind_event z r x m _ _ a.0 (rw (← a.1) (h x refl (left_behind z x.what x.machine a.0))))
 delivers_longer z r m (Err f) q (inl e) s h = inr (rw e.1 refl, (m, inl e.0, s, inl (inl e.0)))
 delivers_longer z r m (Err f) q (inr e) s h = inl (rw e refl)
-
-passed_from : (ts : List Piece) (m : Machine) (go : Piece × Machine → Result Told Refusal) → ts ≡ []
-    → (unpassed_token_from is_end_or_mark ts m >>= go) ≡ Err (ending_refusal m.tokens.refusal)
-passed_from ts m go e = rw e refl
 
 -- what waits for a token after the marker gets none
 none_awaited : (w : DocumentMarker) (m : Machine) → m.tokens.pieces ≡ [] → Awaits w m

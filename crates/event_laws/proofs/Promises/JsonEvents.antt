@@ -2,7 +2,7 @@
 use Rattle.std.proofs.Common.{◌≡◌, ℕ, Bool, List, [], ◌∷◌, ◌++◌, Option, Some, None, option_map, encode_utf8_all, refl, ap}
 use Rattle.saphyr_scanner.specs.Grammar.Forest.{Plain, SingleQuoted, DoubleQuoted, Literal, Folded, Properties, no_properties, Node, Alias, Nodes, NoNode, MoreNodes, Pairs, NoPair, MorePairs, Forest}
 use Rattle.saphyr_scanner.specs.Grammar.Forest as forest
-use Rattle.json_laws.specs.Grammar.Json.{IsMemberName, IsValue, AreElements, AreOtherElements, AreMembers, AreOtherMembers, IsJson}
+use Rattle.yaml_laws.specs.Grammar.Json.{IsMemberName, IsValue, AreElements, AreOtherElements, AreMembers, AreOtherMembers, IsJson}
 use Rattle.event_laws.specs.Preorder.{Part, CloseStream, CloseDocument, Reference, Leaf, OpenSequence, CloseSequence, OpenMapping, CloseMapping, node_parts, entry_parts, pair_parts, parts}
 use Rattle.saphyr_machine.specs.Events.{Happening, Scalar, SequenceStart, MappingStart}
 use Rattle.event_laws.specs.Anchors.{anchors, own_id}

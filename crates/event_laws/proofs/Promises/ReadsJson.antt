@@ -5,7 +5,7 @@ use Rattle.saphyr_scanner.specs.Grammar.Forest.{Forest, open_in_forest}
 use Rattle.saphyr_scanner.specs.Grammar.TokenGrammar.{Yields}
 use Rattle.saphyr_scanner.specs.Limits.{most_open}
 use Rattle.saphyr_scanner.specs.Steps.Remaining.{scan}
-use Rattle.json_laws.specs.Grammar.Json.{IsJson}
+use Rattle.yaml_laws.specs.Grammar.Json.{IsJson}
 use Rattle.yaml_laws.specs.Grammar.Yaml.{IsYamlText}
 use Rattle.saphyr_machine.specs.Cursor.{EventCursor, at_start}
 use Rattle.event_laws.specs.Anchors.{anchors}

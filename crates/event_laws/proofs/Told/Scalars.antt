@@ -1,6 +1,5 @@
 -- Scalars are told.
 use Rattle.std.proofs.Common.{◌≡◌, ℕ, true, List, [], ◌∷◌, ◌++◌, Option, Some, option_map, encode_utf8_all, refl, ◌∙◌, inl, inr, arith, append_assoc}
-use Rattle.std.specs.Prelude.{is_some}
 use Rattle.saphyr_scalar.specs.declared.scalar.position.Span.{Span}
 use Rattle.saphyr_scanner.specs.Grammar.Forest.{Style, Tag, HasOne, HasProperty}
 use Rattle.saphyr_scanner.specs.Grammar.Forest as forest
@@ -9,7 +8,7 @@ use Rattle.saphyr_scanner.specs.Grammar.TokenGrammar as grammar
 use Rattle.saphyr_scanner.specs.Grammar.TokenGrammar.{YieldsNode}
 use Rattle.saphyr_scanner.specs.Views.Tokens.{Piece}
 use Rattle.event_laws.specs.Preorder.{Reference, Leaf}
-use Rattle.saphyr_machine.specs.Events.{Happening, ResolvedTag, Alias, Scalar}
+use Rattle.saphyr_machine.specs.Events.{Happening, Alias, Scalar}
 use Rattle.saphyr_machine.specs.Steps.Machine.{Machine, told_event, pop, put_back, meaning}
 use Rattle.saphyr_machine.specs.Steps.Nodes.{NodeProperties, has_property, span_up_to, node_without_content, alias_of, alias_node, node}
 use Rattle.event_laws.proofs.Told.Telling.{Memory, at}
@@ -18,10 +17,6 @@ use Rattle.event_laws.proofs.Told.Nodes.{Has, node_opens}
 use Rattle.event_laws.proofs.NodeStarts.{context_of, follow_is_content, follow_ends, NodeSays}
 
 -- ## A node that has properties
-
-is_tagged : (o : Option ResolvedTag) (found : Option ResolvedTag)
-    → option_map (λ v. let t : Option ResolvedTag = Some v in t) o ≡ Some found → is_some found ≡ true
-is_tagged o found h = grind arith
 
 has_one : (e : Memory) (anchor : Option (List ℕ)) (tag : Option Tag) (q : NodeProperties) → HasOne anchor tag
     → Has e anchor tag q → has_property q ≡ true

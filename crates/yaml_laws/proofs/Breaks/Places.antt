@@ -1,7 +1,6 @@
 -- Places of a text and of its normalized text, and how both go on together.
-use Rattle.std.proofs.Common.{◌≡◌, ℕ, ◌+◌, ◌^◌, ◌≤◌, ◌<◌, Bool, true, false, List, ◌∷◌, length, drop, refl, sym, ◌∙◌, arith, Result, cond}
-use Rattle.std.specs.Prelude.{◌==◌, ◌-◌, nat_lt, ◌^◌, min}
-use Rattle.std.proofs.lemmas.Bool.Decides.{nat_tests}
+use Rattle.std.proofs.Common.{◌≡◌, ℕ, ◌+◌, ◌^◌, ◌≤◌, Bool, true, false, List, ◌∷◌, length, drop, refl, sym, ◌∙◌, arith, Result, cond}
+use Rattle.std.specs.Prelude.{◌==◌, ◌-◌, ◌^◌, min}
 use Rattle.saphyr_input.specs.Breaks.{normalized}
 use Rattle.saphyr_scalar.specs.declared.scalar.position.Marker.{Marker}
 use Rattle.saphyr_scalar.specs.Views.Cursor.{Cursor, along}
@@ -41,12 +40,6 @@ even_even l a b k c d h e f x y = record {
       let u = x.even (omega (arith, q, x.lines, y.lines)) in
       let v = y.even (omega (arith, q, x.lines, y.lines)) in omega (arith, u, v);
 }
-
-same_test : (a b c d : ℕ) → c + b ≡ d + a → (c == a) ≡ (d == b)
-same_test a b c d e = grind (arith, nat_tests, e)
-
-differ : (a c : ℕ) → a < c → (c == a) ≡ false
-differ a c l = grind (arith, nat_tests, l)
 
 -- where an index is what it was
 pub even_index : (l a b k c d : ℕ) → Even l a b k c d → (d == b) ≡ (c == a)

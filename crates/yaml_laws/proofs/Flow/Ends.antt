@@ -107,10 +107,6 @@ behind_node_first indent node o h = by_separation h.separation h.is h.parts h.en
 
 -- ## What it ends
 
-ends_none : (blank breakz mark flow in_flow : Bool) → ((blank || breakz) || (in_flow && flow)) ≡ true
-    → ((((not breakz && not mark) && not blank) && not flow)) ≡ false
-ends_none blank breakz mark flow in_flow e = grind arith
-
 -- what ends a tag ends a name
 pub tag_ends_name : (in_flow : Bool) (o : List ℕ) → EndsTag in_flow o → is_anchor_char (slice_index o 0) ≡ false
 tag_ends_name in_flow o h = grind (arith, nat_tests)

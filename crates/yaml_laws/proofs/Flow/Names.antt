@@ -1,8 +1,8 @@
 -- The anchors, aliases and tags of a text in flow style are passed.
-use Rattle.std.proofs.Common.{◌≡◌, ℕ, ◌+◌, ◌≤◌, Bool, true, false, List, [], ◌∷◌, ◌++◌, length, slice_index, refl, sym, ap, ◌∙◌, arith, subst, encode_utf8_all, IsTrue, inl, inr}
+use Rattle.std.proofs.Common.{◌≡◌, ℕ, ◌+◌, ◌≤◌, Bool, true, false, List, [], ◌∷◌, ◌++◌, length, slice_index, refl, sym, ap, ◌∙◌, arith, subst, encode_utf8_all, inl, inr}
 use Rattle.std.specs.Prelude.{◌==◌, not, Option, None}
 use Rattle.saphyr_input.specs.Indicators.{exclamation_mark}
-use Rattle.saphyr_input.specs.Classes.{is_break, is_anchor_char, line_feed, is_alpha}
+use Rattle.saphyr_input.specs.Classes.{is_break, is_anchor_char, line_feed}
 use Rattle.saphyr_scalar.specs.declared.scalar.position.Marker.{Marker}
 use Rattle.saphyr_scalar.specs.Views.Cursor.{Cursor, ◌>>=◌, along}
 use Rattle.saphyr_scalar.specs.Steps.Quoted.{mid_line}
@@ -30,13 +30,8 @@ use Rattle.saphyr_scalar.proofs.Given.{cursor_at}
 use Rattle.saphyr_input.proofs.Basics.Characters.{no_break_no_feed}
 use Rattle.saphyr_scanner.proofs.Levels.{saved}
 use lib.Utf8.{encode}
-use Rattle.saphyr_scanner.specs.Grammar.Characters.{AreAll}
 use Rattle.yaml_laws.specs.Grammar.TagSpelling as spelling
 use Rattle.yaml_laws.proofs.Flow.Inks.{is_start, starts, tag_begins}
-
-letters_read : (word : List ℕ) → AreAll (λ c. IsTrue (is_alpha c)) word → AreIn is_alpha word
-letters_read [] h = tt
-letters_read (c ∷ others) h = (h.0, letters_read others h.1)
 
 pub handle_read : (handle : Handle) (t : List ℕ) → spelling.IsHandle handle t
     → IsHandleText t × (t ≡ handle_text handle)

@@ -1,6 +1,6 @@
 -- The colons of a text in flow style are read, after a key and without one, and passed as pieces.
 use Rattle.std.proofs.Common.{◌≡◌, ℕ, ◌≤◌, Bool, true, false, List, [], ◌∷◌, ◌++◌, length, slice_index, refl, sym, ap, ◌∙◌, arith, append_assoc, IsTrue, ◌⊎◌, inl, inr, Ok}
-use Rattle.std.specs.Prelude.{Option, Some, None, ◌||◌, ◌==◌, not, nat_lt}
+use Rattle.std.specs.Prelude.{Option, Some, None, ◌||◌, ◌==◌, not}
 use Rattle.saphyr_scalar.specs.declared.scalar.position.Marker.{Marker}
 use Rattle.saphyr_scalar.specs.Views.Cursor.{Cursor, along, ◌>>=◌}
 use Rattle.saphyr_scalar.proofs.Given.{cursor_at}
@@ -30,7 +30,6 @@ use Rattle.std.proofs.lemmas.Bool.{or_right, eq-eqb}
 use Rattle.saphyr_input.specs.Indicators.{colon, left_brace, left_bracket}
 use Rattle.saphyr_scanner.proofs.Queues.{place_kinds, queue_of, place_kinds_append, with_opening_seam}
 use Rattle.std.proofs.Math.Nat.{sub-zero}
-use Rattle.std.proofs.lemmas.Bool.Decides.{nat_tests}
 use Rattle.saphyr_input.specs.Classes.{is_blank_or_breakz, is_flow, tab}
 use Rattle.saphyr_input.specs.declared.input.SkipTabs.{SkipTabs}
 use Rattle.saphyr_scanner.specs.declared.queue.Opening.{Opening}
@@ -103,9 +102,6 @@ opened_key false = opening.Key
 abbrev pub key_kinds : Bool → List Kind
 key_kinds true = tokens.FlowMappingStart ∷ tokens.Key ∷ []
 key_kinds false = tokens.Key ∷ []
-
-no_later : (a b : ℕ) → a ≡ b → nat_lt a b ≡ false
-no_later a b e = grind (arith, nat_tests)
 
 pub opens_key : (around : Around) (d : Bool) (k : Candidate) (start : Marker) (there : Cursor) (y : Context)
     (ls : List Level) (a : Bool) (ad : ℕ) → is_block y ≡ false → (begins_pair y ≡ true → k.mark.line ≡ start.line)

@@ -1,6 +1,6 @@
 -- A block collection ends before a token to its left, and at the end of its document.
 use Rattle.std.proofs.Common.{◌≡◌, ℕ, ◌+◌, ◌<◌, ◌≤◌, Bool, true, false, List, [], ◌∷◌, ◌++◌, slice_index, refl, sym, ap, ◌∙◌, arith, subst, Ok, ◌⊎◌, inl, inr, IsTrue}
-use Rattle.std.specs.Prelude.{Result, ◌-◌, ◌||◌, ◌&&◌, ◌==◌, nat_le, nat_lt, Option, Some, None, if◌then◌else◌}
+use Rattle.std.specs.Prelude.{Result, ◌||◌, ◌&&◌, ◌==◌, nat_le, nat_lt, Option, Some, None, if◌then◌else◌}
 use Rattle.std.proofs.lemmas.Bool.Decides.{nat_tests}
 use Rattle.saphyr_input.specs.Classes.{is_z, is_bom, is_blank_or_breakz}
 use Rattle.saphyr_input.specs.Places.{is_document_start, is_document_end, is_document_indicator}
@@ -29,9 +29,6 @@ abbrev pub end_place : Marker → Place
 end_place m = bare_place (empty_piece m tokens.BlockEnd)
 
 -- ## Before a token to its left
-
-right_of : (c col : ℕ) → col < c → nat_lt col (c + 1 - 1) ≡ true
-right_of c col h = grind (arith, nat_tests)
 
 ends_left : (f : Frame) (c : ℕ) (m : Marker) (y : List ℕ) (blank : Bool) (key : Option Candidate) (a : Bool) (ad : ℕ)
     (deeper : Bool) (ps : List Place) → m.col < c

@@ -84,6 +84,3 @@ fits_back {limit} m a b o h =
 
 pub fits_so : {limit : ℕ} (m : Marker) (p q o : List ℕ) → p ≡ q → FitsOnLines limit m p o → FitsOnLines limit m q o
 fits_so {limit} m p q o e h = rw e at h
-
-pub fits_before : {limit : ℕ} (m : Marker) (p o q : List ℕ) → o ≡ q → FitsOnLines limit m p o → FitsOnLines limit m p q
-fits_before {limit} m p o q e h = rw e at h

@@ -26,9 +26,6 @@ use Rattle.scalar_laws.proofs.Beginnings.{back_in}
 abbrev pub Reaches : ℕ → Marker → List ℕ → Type 0
 Reaches column m t = (column ≤ m.col + space_count t) ⊎ IsTrue (is_break (slice_index (drop (space_count t) t) 0))
 
-no_space : (c : ℕ) (t : List ℕ) → (c == space) ≡ false → space_count (c ∷ t) ≡ 0
-no_space c t e = rw e refl
-
 -- after a character that is no space and no break
 from_ink : (column : ℕ) (m : Marker) (c : ℕ) (t : List ℕ) → (c == space) ≡ false → is_break c ≡ false
     → Reaches column m (c ∷ t) → column ≤ m.col

@@ -5,9 +5,9 @@ use Rattle.saphyr_scalar.specs.Spelling.Tag.{AreIn}
 use Rattle.saphyr_scanner.specs.Grammar.Forest.{Properties, no_properties, Node, Seq, Map, Nodes, MoreNodes, Pairs, MorePairs}
 use Rattle.scalar_laws.specs.Spelling.Spaces.{IsSeparation}
 use Rattle.yaml_laws.specs.Grammar.FlowNodes.{needs_separation, allows_adjacent, IsComma, IsPair, IsBeforeSeparation, IsFlowNode, AreItems, AreOtherItems, AreFlowPairs, AreOtherFlowPairs}
-use Rattle.json_laws.proofs.InYaml.White.{is_white, white_separates}
-use Rattle.json_laws.proofs.InYaml.Calm.{IsCalm, calm_both, calm_character, white_calm}
-use Rattle.json_laws.proofs.InYaml.Becomes.{white_both}
+use Rattle.yaml_laws.proofs.Json.White.{is_white, white_separates}
+use Rattle.yaml_laws.proofs.Json.Calm.{IsCalm, calm_both, calm_character, white_calm}
+use Rattle.yaml_laws.proofs.Json.Becomes.{white_both}
 
 -- a node with white space round it
 pub record IsPadded (room : ℕ) (node : Node) (in_flow : Bool) (t : List ℕ) : Type 0 where

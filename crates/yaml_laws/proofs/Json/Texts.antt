@@ -6,12 +6,12 @@ use Rattle.saphyr_scanner.specs.Grammar.Forest.{Node, Alias, Scalar, Seq, Map, b
 use Rattle.yaml_laws.specs.Grammar.BlockNodes.{AtStart, IsFlowInBlock, IsBlockNode}
 use Rattle.yaml_laws.specs.Grammar.FlowNodes.{IsFlowNode}
 use Rattle.yaml_laws.specs.Grammar.Yaml.{has_marker, no_prefix, IsYaml, IsYamlText}
-use Rattle.json_laws.specs.Grammar.Json.{IsJsonText, IsJson}
-use Rattle.json_laws.proofs.InYaml.White.{is_white, white_gap, white_ends}
-use Rattle.json_laws.proofs.InYaml.Calm.{IsCalm, calm_both, white_calm}
-use Rattle.json_laws.proofs.InYaml.Becomes.{Becomes, Both, become_both, white_both, white_becomes}
-use Rattle.json_laws.proofs.InYaml.Parts.{IsPadded, mark_regrouped}
-use Rattle.json_laws.proofs.InYaml.Nodes.{first_least, value_becomes}
+use Rattle.yaml_laws.specs.Grammar.Json.{IsJsonText, IsJson}
+use Rattle.yaml_laws.proofs.Json.White.{is_white, white_gap, white_ends}
+use Rattle.yaml_laws.proofs.Json.Calm.{IsCalm, calm_both, white_calm}
+use Rattle.yaml_laws.proofs.Json.Becomes.{Becomes, Both, become_both, white_both, white_becomes}
+use Rattle.yaml_laws.proofs.Json.Parts.{IsPadded, mark_regrouped}
+use Rattle.yaml_laws.proofs.Json.Nodes.{first_least, value_becomes}
 
 -- a node in flow style is one at block level
 flow_node : (room : ℕ) (node : Node) (t behind : List ℕ) → IsFlowInBlock room node AtStart t behind

@@ -6,7 +6,7 @@ use Rattle.saphyr_input.specs.Classes.{IsHex, is_hex, hex_value}
 use Rattle.saphyr_scalar.specs.Values.Escapes.{is_scalar_value, short_escape}
 use Rattle.saphyr_scalar.specs.Spelling.OneLine as spelling
 use Rattle.saphyr_scanner.specs.Grammar.Characters.{IsSurrogate}
-use Rattle.json_laws.specs.Grammar.Json.{IsJsonEscape, IsCode}
+use Rattle.yaml_laws.specs.Grammar.Json.{IsJsonEscape, IsCode}
 
 pub short_fits : (letter c : ℕ) → IsJsonEscape letter c → short_escape letter ≡ Some c
 unfolding short_escape

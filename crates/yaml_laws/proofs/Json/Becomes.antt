@@ -5,9 +5,9 @@ use Rattle.std.proofs.lemmas.Bool.Decides.{nat_tests}
 use Rattle.saphyr_input.specs.Breaks.{normal_break, normalized}
 use Rattle.saphyr_input.specs.Classes.{line_feed}
 use Rattle.saphyr_scalar.specs.Spelling.Tag.{AreIn}
-use Rattle.json_laws.specs.Grammar.Json.{IsWhite, IsWhiteSpace}
-use Rattle.json_laws.proofs.InYaml.White.{is_white}
-use Rattle.json_laws.proofs.InYaml.Calm.{is_no_break}
+use Rattle.yaml_laws.specs.Grammar.Json.{IsWhite, IsWhiteSpace}
+use Rattle.yaml_laws.proofs.Json.White.{is_white}
+use Rattle.yaml_laws.proofs.Json.Calm.{is_no_break}
 
 -- the piece t before x, of whose normalized text P holds
 pub record Becomes (P : List ℕ → Type 0) (t x : List ℕ) : Type 0 where

@@ -6,7 +6,7 @@ use Rattle.saphyr_input.specs.Classes.{is_break}
 use Rattle.saphyr_input.specs.Places.{is_document_indicator}
 use Rattle.saphyr_scalar.specs.Spelling.Tag.{AreIn}
 use Rattle.yaml_laws.specs.Grammar.Yaml.{has_marker}
-use Rattle.json_laws.proofs.InYaml.White.{is_white}
+use Rattle.yaml_laws.proofs.Json.White.{is_white}
 
 abbrev pub IsCalm : List ℕ → Type 0
 IsCalm t = (rest : List ℕ) → has_marker true rest ≡ false → has_marker true (t ++ rest) ≡ false

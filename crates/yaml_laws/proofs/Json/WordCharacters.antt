@@ -6,7 +6,7 @@ use Rattle.saphyr_input.specs.Classes.{IsDigit}
 use Rattle.saphyr_scalar.specs.Spelling.Tag.{AreIn}
 use Rattle.scalar_laws.specs.Spelling.Plain.{is_plain_safe}
 use Rattle.saphyr_scanner.specs.Grammar.Characters.{AreAll}
-use Rattle.json_laws.specs.Grammar.Json.{IsInteger, IsFraction, IsExponent, IsJsonNumber, IsWord}
+use Rattle.yaml_laws.specs.Grammar.Json.{IsInteger, IsFraction, IsExponent, IsJsonNumber, IsWord}
 
 -- ## A word's characters
 

@@ -10,9 +10,9 @@ use Rattle.saphyr_scalar.specs.Values.Flow.{plain_value}
 use Rattle.scalar_laws.specs.Spelling.Plain.{is_plain_safe, is_word_ink, AreWordInk, IsWordIn}
 use Rattle.yaml_laws.specs.Grammar.FlowScalars.{begins_plain, IsFirstWord, IsFlowScalar}
 use Rattle.saphyr_scanner.specs.Grammar.Forest.{Plain}
-use Rattle.json_laws.specs.Grammar.Json.{IsWord}
-use Rattle.json_laws.proofs.InYaml.WordCharacters.{BeginsWithDigit, word_safe, word_begins}
-use Rattle.json_laws.proofs.InYaml.Calm.{IsCalm, is_no_break, calm_line}
+use Rattle.yaml_laws.specs.Grammar.Json.{IsWord}
+use Rattle.yaml_laws.proofs.Json.WordCharacters.{BeginsWithDigit, word_safe, word_begins}
+use Rattle.yaml_laws.proofs.Json.Calm.{IsCalm, is_no_break, calm_line}
 
 -- ## Words
 

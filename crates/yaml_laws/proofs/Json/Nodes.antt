@@ -4,15 +4,15 @@ use Rattle.std.specs.Prelude.{max, zero}
 use Rattle.saphyr_scalar.specs.Spelling.Tag.{AreIn}
 use Rattle.saphyr_scanner.specs.Grammar.Forest.{Plain, SingleQuoted, DoubleQuoted, Literal, Folded, no_properties, Properties, Node, Alias, Scalar, Seq, Map, Nodes, NoNode, MoreNodes, Pairs, NoPair, MorePairs, open_collections, open_in_nodes, open_in_pairs}
 use Rattle.yaml_laws.specs.Grammar.FlowNodes.{IsFlowNode, AreItems, AreOtherItems, AreFlowPairs, AreOtherFlowPairs}
-use Rattle.json_laws.specs.Grammar.Json.{IsWhiteSpace, IsStructural, IsMemberName, IsValue, AreElements, AreOtherElements, AreMembers, AreOtherMembers, IsString, IsWord}
-use Rattle.json_laws.proofs.InYaml.WordCharacters.{word_safe}
-use Rattle.json_laws.proofs.InYaml.White.{is_white}
-use Rattle.json_laws.proofs.InYaml.Calm.{IsCalm, is_no_break}
-use Rattle.json_laws.proofs.InYaml.Becomes.{Becomes, Both, become_both, becomes_so, stays, white_becomes}
-use Rattle.json_laws.proofs.InYaml.Words.{word_plain, word_no_break, word_calm}
-use Rattle.json_laws.proofs.InYaml.Quotes.{string_quoted, string_no_break, string_calm}
+use Rattle.yaml_laws.specs.Grammar.Json.{IsWhiteSpace, IsStructural, IsMemberName, IsValue, AreElements, AreOtherElements, AreMembers, AreOtherMembers, IsString, IsWord}
+use Rattle.yaml_laws.proofs.Json.WordCharacters.{word_safe}
+use Rattle.yaml_laws.proofs.Json.White.{is_white}
+use Rattle.yaml_laws.proofs.Json.Calm.{IsCalm, is_no_break}
+use Rattle.yaml_laws.proofs.Json.Becomes.{Becomes, Both, become_both, becomes_so, stays, white_becomes}
+use Rattle.yaml_laws.proofs.Json.Words.{word_plain, word_no_break, word_calm}
+use Rattle.yaml_laws.proofs.Json.Quotes.{string_quoted, string_no_break, string_calm}
 use Rattle.yaml_laws.proofs.InBlock.Parts.{part_text}
-use Rattle.json_laws.proofs.InYaml.Parts.{IsPadded, IsName, IsTail, AreItemAndOthers, item_and_others, first_items, other_items, ArePairAndOthers, pair_and_others, first_pairs, other_pairs, sequence_padded, mapping_padded}
+use Rattle.yaml_laws.proofs.Json.Parts.{IsPadded, IsName, IsTail, AreItemAndOthers, item_and_others, first_items, other_items, ArePairAndOthers, pair_and_others, first_pairs, other_pairs, sequence_padded, mapping_padded}
 
 -- ## Room
 

@@ -14,9 +14,9 @@ use Rattle.scalar_laws.specs.Spelling.QuotedLines.{AreOnLine}
 use Rattle.scalar_laws.proofs.Beginnings.{both_in}
 use Rattle.scalar_laws.proofs.Quoted.Reads.{line_fits}
 use Rattle.yaml_laws.specs.Grammar.FlowScalars.{IsQuoted}
-use Rattle.json_laws.specs.Grammar.Json.{IsUnescaped, IsJsonEscape, IsJsonSpelling, AreSpellings, IsString}
-use Rattle.json_laws.proofs.InYaml.Escapes.{short_fits, code_fits}
-use Rattle.json_laws.proofs.InYaml.Calm.{IsCalm, is_no_break, calm_line}
+use Rattle.yaml_laws.specs.Grammar.Json.{IsUnescaped, IsJsonEscape, IsJsonSpelling, AreSpellings, IsString}
+use Rattle.yaml_laws.proofs.Json.Escapes.{short_fits, code_fits}
+use Rattle.yaml_laws.proofs.Json.Calm.{IsCalm, is_no_break, calm_line}
 
 unescaped_stands : (c : ℕ) → IsUnescaped c → stands_for_itself Double c ≡ true
 unescaped_stands c h = grind (arith, nat_tests)
