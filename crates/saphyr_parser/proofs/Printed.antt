@@ -2,7 +2,6 @@
 pub mod Written
 pub mod Numbers
 pub mod Escapes
-pub mod Letters
 pub mod Blocks
 pub mod Lines
 pub mod Dumping

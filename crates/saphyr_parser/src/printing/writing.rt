@@ -1,10 +1,8 @@
 //! Bytes, numbers and escaped texts, written whole, however few bytes a writer takes at a time.
 
-ghost use Rattle.std.specs.Prelude.{◌≡◌, ◌+◌, ◌<◌, ◌≤◌, true, false, [], ◌∷◌, ◌++◌, length, take, IfErr, IfNone, IfOk, IfSome};
-ghost use Rattle.saphyr_input.specs.Indicators.{backslash};
+ghost use Rattle.std.specs.Prelude.{◌≡◌, ◌+◌, ◌≤◌, true, false, [], ◌∷◌, ◌++◌, length};
 ghost use Rattle.std.specs.Fmt.{decimal};
-ghost use Rattle.std.specs.Io.KnownBytes.{Appends};
-ghost use Rattle.saphyr_parser.specs.Written.{Takes, TakesSome};
+ghost use Rattle.saphyr_parser.specs.Written.{Takes};
 ghost use Rattle.saphyr_parser.specs.Printed.{ArePlain, printed_byte, printed_bytes};
 
 use std::io::Write;
@@ -72,20 +70,6 @@ pub(super) fn write_id<W: Write>(out: &mut W, id: usize) -> Result<(), Unwritten
     write_id(out, id / 100)?;
     write_all(out, &digits)
 }
-
-// The letter that follows the backslash for each byte that is escaped, and 0 for each other one. A look at a table
-// takes fewer instructions than comparisons.
-const LETTERS: [u8; 256] = [
-    0, 0, 0, 0, 0, 0, 0, 0, 98, 116, 110, 0, 0, 114, 0, 0, 0, 0, 0, 0, 0, 0, 0, 0, 0, 0, 0, 0, 0,
-    0, 0, 0, 0, 0, 0, 0, 0, 0, 0, 0, 0, 0, 0, 0, 0, 0, 0, 0, 0, 0, 0, 0, 0, 0, 0, 0, 0, 0, 0, 0, 0,
-    0, 0, 0, 0, 0, 0, 0, 0, 0, 0, 0, 0, 0, 0, 0, 0, 0, 0, 0, 0, 0, 0, 0, 0, 0, 0, 0, 0, 0, 0, 0,
-    92, 0, 0, 0, 0, 0, 0, 0, 0, 0, 0, 0, 0, 0, 0, 0, 0, 0, 0, 0, 0, 0, 0, 0, 0, 0, 0, 0, 0, 0, 0,
-    0, 0, 0, 0, 0, 0, 0, 0, 0, 0, 0, 0, 0, 0, 0, 0, 0, 0, 0, 0, 0, 0, 0, 0, 0, 0, 0, 0, 0, 0, 0, 0,
-    0, 0, 0, 0, 0, 0, 0, 0, 0, 0, 0, 0, 0, 0, 0, 0, 0, 0, 0, 0, 0, 0, 0, 0, 0, 0, 0, 0, 0, 0, 0, 0,
-    0, 0, 0, 0, 0, 0, 0, 0, 0, 0, 0, 0, 0, 0, 0, 0, 0, 0, 0, 0, 0, 0, 0, 0, 0, 0, 0, 0, 0, 0, 0, 0,
-    0, 0, 0, 0, 0, 0, 0, 0, 0, 0, 0, 0, 0, 0, 0, 0, 0, 0, 0, 0, 0, 0, 0, 0, 0, 0, 0, 0, 0, 0, 0, 0,
-    0, 0, 0, 0, 0,
-];
 
 // Whether a byte of a scalar's text may need an escape. It is also true for some rare bytes that need none.
 #[inline]
@@ -178,72 +162,21 @@ pub(super) fn copies_plain(text: &[u8], room: &mut [u8]) -> bool
     true
 }
 
-// The letter that follows the backslash for a byte that is escaped.
-#[inline]
-fn letter_of(byte: u8) -> Option<u8>
-    ensures letter { IfSome result (λ letter. printed_byte byte ≡ backslash ∷ (letter ∷ [])) }
-    ensures none { IfNone result (printed_byte byte ≡ byte ∷ []) }
-{
-    let letter = LETTERS[byte as usize];
-    if letter == 0 { None } else { Some(letter) }
-}
-
-// Puts the escapes of the first bytes into the room, with up to 8 bytes behind each that aren't escaped. Returns of
-// how many bytes, and how many places they fill. The first byte may be one that isn't escaped.
-fn gather_escapes(text: &[u8], room: &mut [u8; 64]) -> (usize, usize)
-    ensures within { result.0 ≤ length text.now }
-    ensures some { 0 < length text.now → 0 < result.0 }
-    ensures filled { result.1 ≤ 64 }
-    ensures gathered { take result.1 room.new ≡ printed_bytes (take result.0 text.now) }
-{
-    let mut read = 0;
-    let mut filled = 0;
-    let mut last = 0;
-    let most = text.len().min(32);
-    while read < most {
-        if let Some(letter) = letter_of(text[read]) {
-            room[filled] = b'\\';
-            room[filled + 1] = letter;
-            filled += 2;
-            last = read;
-        } else if read - last < 8 {
-            room[filled] = text[read];
-            filled += 1;
-        } else {
-            break;
-        }
-        read += 1;
-    }
-    (read, filled)
-}
-
-// Writes one byte's escape.
+// Writes one byte's escape, or the byte if it has none.
 fn write_escape<W: Write>(out: &mut W, byte: u8) -> Result<(), Unwritten>
     ensures { Takes result (W.contents out.old) (W.contents out.new) (printed_byte byte) }
 {
-    match letter_of(byte) {
-        Some(letter) => write_all(out, &[b'\\', letter]),
-        None => write_all(out, &[byte]),
+    match byte {
+        b'\\' => write_all(out, b"\\\\"),
+        b'\n' => write_all(out, b"\\n"),
+        b'\r' => write_all(out, b"\\r"),
+        b'\x08' => write_all(out, b"\\b"),
+        b'\t' => write_all(out, b"\\t"),
+        _ => write_all(out, &[byte]),
     }
 }
 
-// Writes the escapes of the first bytes in one piece, and returns of how many bytes.
-#[tactic(auto, using(crate::proofs::Printed::Escapes::gathered_lost))]
-fn write_gathered<W: Write>(out: &mut W, text: &[u8]) -> Result<usize, Unwritten>
-    ensures within { IfOk result (λ read. read ≤ length text.now) }
-    ensures some { IfOk result (λ read. 0 < length text.now → 0 < read) }
-    ensures written { IfOk result (λ read.
-        Appends (W.contents out.old) (W.contents out.new) (printed_bytes (take read text.now))) }
-    ensures lost { IfErr result (λ _.
-        TakesSome (W.contents out.old) (W.contents out.new) (printed_bytes text.now)) }
-{
-    let mut room = [0; 64];
-    let (read, filled) = gather_escapes(text, &mut room);
-    write_all(out, &room[..filled])?;
-    Ok(read)
-}
-
-// Writes a scalar's text. A run without escapes is written in one piece, and so are escapes with few bytes between.
+// Writes a scalar's text. A run without escapes is written in one piece.
 #[tactic(auto, using(crate::proofs::Printed::Escapes::plain_written, crate::proofs::Printed::Escapes::plain_lost))]
 pub(super) fn write_escaped<W: Write>(out: &mut W, text: &[u8]) -> Result<(), Unwritten>
     ensures { Takes result (W.contents out.old) (W.contents out.new) (printed_bytes text.now) }
@@ -255,14 +188,8 @@ pub(super) fn write_escaped<W: Write>(out: &mut W, text: &[u8]) -> Result<(), Un
         let Some((byte, behind)) = others.split_first() else {
             return Ok(());
         };
-        // After a short run the next one is mostly short too.
-        if behind.is_empty() || plain.len() >= 8 && !is_escaped(behind[0]) {
-            write_escape(out, *byte)?;
-            rest = behind;
-        } else {
-            let read = write_gathered(out, others)?;
-            rest = &others[read..];
-        }
+        write_escape(out, *byte)?;
+        rest = behind;
     }
     Ok(())
 }

@@ -7,7 +7,7 @@ invariant-loop-count l = record {
   room : length l.room ≡ length l.text;
   within : l.count ≤ length l.text;
   plain : printed_bytes (take l.count l.text) ≡ take l.count l.text;
-  copied : take l.count l.room ≡ printed_bytes (take l.count l.text);
+  copied : take l.count l.room ≡ take l.count l.text;
 }
 
 abbrev pub decreases-loop-count : goal.decreases-loop-count

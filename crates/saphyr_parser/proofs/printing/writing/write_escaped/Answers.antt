@@ -1,4 +1,4 @@
-use Rattle.saphyr_parser.proofs.Printed.Escapes.{plain_written, plain_lost, escape_written, escape_lost, escapes_written, escapes_lost}
+use Rattle.saphyr_parser.proofs.Printed.Escapes.{plain_written, plain_lost, escape_written, escape_lost}
 use Rattle.saphyr_parser.proofs.Printed.Written.{takes_before_error, takes_first}
 use Rattle.saphyr_parser.proofs.printing.writing.write_escaped.Goals as goal
 
@@ -18,21 +18,8 @@ returns-in_err-write_escape g c =
     takes_before_error _ _ _ _ c.from_residual-in_err-write_escape.ensures.0
     (escape_lost _ _ _ c.args.text.now _ _ _ c.in-Some.ensures.cases.0 written c.in_err-write_escape.ensures)
 
-pub returns-in_err-read : goal.returns-in_err-read
-returns-in_err-read g c =
-    let written = plain_written _ _ _ c.args.text.now _ _ _ c.split_plain.ensures.text c.split_plain.ensures.plain
-    c.loop-rest.invariant c.in_ok-write_all.ensures in
-    takes_before_error _ _ _ _ c.from_residual-in_err-read.ensures.0
-    (escapes_lost _ _ _ c.args.text.now c.split_plain.result.1.now written c.in_err-read.ensures.lost)
-
-pub loop-rest-preserved-then-not-is_escaped : goal.loop-rest-preserved-then-not-is_escaped
-loop-rest-preserved-then-not-is_escaped g c =
-    let written = plain_written _ _ _ c.args.text.now _ _ _ c.split_plain.ensures.text c.split_plain.ensures.plain
-    c.loop-rest.invariant c.in_ok-write_all.ensures in
-    escape_written _ _ _ c.args.text.now _ _ _ c.in-Some.ensures.cases.0 written c.in_ok-write_escape.ensures
-
 pub loop-rest-preserved : goal.loop-rest-preserved
 loop-rest-preserved g c =
     let written = plain_written _ _ _ c.args.text.now _ _ _ c.split_plain.ensures.text c.split_plain.ensures.plain
     c.loop-rest.invariant c.in_ok-write_all.ensures in
-    escapes_written _ _ _ c.args.text.now _ c.in_ok-read.read written c.in_ok-read.ensures.written
+    escape_written _ _ _ c.args.text.now _ _ _ c.in-Some.ensures.cases.0 written c.in_ok-write_escape.ensures
