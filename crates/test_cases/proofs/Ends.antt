@@ -25,13 +25,6 @@ pub nothing_given : (given : Option (Result (Event × Span) Fault)) (old new : A
 nothing_given None old new is hands = hands.1
 nothing_given (Some x) old new is hands = absurd (cc)
 
--- After lack of memory nothing is left.
-pub want_ends : (given : Option (Result (Event × Span) Fault)) (old new : Answer) → given ≡ Some (Err fault.OutOfMemory)
-    → HandsOutNext given old new → new ≡ empty_answer
-want_ends None old new is hands = absurd (cc)
-want_ends (Some (Ok e)) old new is hands = absurd (cc)
-want_ends (Some (Err f)) old new is hands = hands.1
-
 -- Memory has run out, so not all is whole.
 pub not_whole : (r : Result Outcome Difference) → IfOk r (λ outcome. outcome ≡ Refused) → r ≡ Ok Whole → ⊥
 not_whole (Ok Whole) refused whole = absurd (cc)

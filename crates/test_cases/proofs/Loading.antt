@@ -180,21 +180,6 @@ load_some None None true u multi old new first last k_is f_is i_is ended at_end 
 load_some None None false u multi old new first last k_is f_is i_is ended at_end within between over some =
     finished_less multi old new first last (between k_is f_is i_is) some
 
-pub load_less : (r : Result (Unit {0}) Fault) (u : Unit {0}) (multi : Bool) (old new : EventCursor)
-    (first last : Comparing)
-    → r ≡ Ok u → (IsKept old.kept → Tells r old.kept × (last ≡ first) × (new ≡ old))
-    → (old.kept ≡ None → (span : Span) → old.finished ≡ Some span
-    → SendsOne takes r (events.StreamEnd, span) first last × (new ≡ old))
-    → (old.kept ≡ None → old.finished ≡ None → old.inside ≡ true
-    → (r ≡ Err fault.InsideDocument) × (last ≡ first) × (new ≡ old))
-    → (old.kept ≡ None → old.finished ≡ None → old.inside ≡ false
-    → Loads takes r (portion_to_send multi old) old first last new)
-    → EndsTheStream new → 0 < count (to_come old) → count (to_come new) < count (to_come old)
-load_less (Ok v) u multi old new first last is ended at_end within between over some =
-    load_some old.kept old.finished old.inside v multi old new first last refl refl refl ended at_end within between
-    over some
-load_less (Err f) u multi old new first last is ended at_end within between over some = absurd (cc)
-
 -- ## Where a call leaves the parser
 
 last_ends : (what : Happening) (b : Bool) → is_last false what ≡ true → inside_behind what b ≡ false
