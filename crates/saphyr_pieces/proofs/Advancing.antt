@@ -23,7 +23,7 @@ use Rattle.saphyr_machine.specs.Views.Machines.{happening}
 use Rattle.saphyr_machine.specs.Views.Readers.{cursor}
 use Rattle.saphyr_machine.proofs.Turns as turns
 use Rattle.event_laws.specs.Premises.{Ends}
-use Rattle.marker_laws.proofs.Waiting.{told_waits}
+use Rattle.saphyr_pieces.proofs.Markers.Waiting.{told_waits}
 use Rattle.saphyr_pieces.specs.declared.pieces.PieceReader.{PieceReader}
 use Rattle.saphyr_pieces.specs.declared.pieces.Source.{Source}
 use Rattle.saphyr_pieces.specs.declared.pieces.Source.TheVariants as source

@@ -19,10 +19,10 @@ use Rattle.saphyr_scanner.specs.Steps.Remaining.{remaining, scan}
 use Rattle.saphyr_scanner.proofs.Filling.{IsSettled, read_settles}
 use Rattle.saphyr_scanner.proofs.Queues.{holding}
 use Rattle.saphyr_scanner.proofs.Unroll.{remaining_is, rest, settled_is}
-use Rattle.marker_laws.specs.Beside.{Marked, begins_line}
-use Rattle.marker_laws.specs.EventsUpTo.{before_all}
-use Rattle.marker_laws.specs.GoesOn.{ScansTo, extended_by, reads, starts, takes}
-use Rattle.marker_laws.proofs.HandedTokens.{refusal_ends, regrouped, start_settled}
+use Rattle.saphyr_pieces.specs.Markers.Beside.{Marked, begins_line}
+use Rattle.saphyr_pieces.specs.Markers.EventsUpTo.{before_all}
+use Rattle.saphyr_pieces.specs.Markers.GoesOn.{ScansTo, extended_by, reads, starts, takes}
+use Rattle.saphyr_pieces.proofs.Markers.HandedTokens.{refusal_ends, regrouped, start_settled}
 use Rattle.saphyr_pieces.specs.Comes.{HasCome, Laws, at_end, at_marker, at_start, begun_state, first_token, is_latest, may_read, until_ended}
 use Rattle.saphyr_pieces.specs.Lines.{HasMarkerAt}
 

@@ -13,7 +13,7 @@ use Rattle.saphyr_machine.specs.Steps.Machine.{Machine, with_last_token}
 use Rattle.saphyr_machine.specs.Cursor.{EventCursor}
 use Rattle.saphyr_machine.specs.Calls.{IsGivenLast}
 use Rattle.saphyr_machine.specs.Views.Readers.{cursor}
-use Rattle.marker_laws.specs.EventsUpTo.{before_all}
+use Rattle.saphyr_pieces.specs.Markers.EventsUpTo.{before_all}
 use Rattle.saphyr_pieces.specs.declared.pieces.PieceReader.{PieceReader}
 use Rattle.saphyr_pieces.specs.declared.pieces.Source.{Source}
 use Rattle.saphyr_pieces.specs.declared.pieces.Source.TheVariants as source

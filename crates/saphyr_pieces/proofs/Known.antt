@@ -9,7 +9,7 @@ use Rattle.saphyr_machine.specs.Events.{Happening}
 use Rattle.saphyr_machine.specs.Steps.Machine.{Machine, with_last_token}
 use Rattle.saphyr_machine.specs.Steps.Documents.{is_end_or_mark, is_outside}
 use Rattle.event_laws.specs.Premises.{marker_event}
-use Rattle.marker_laws.specs.EventsAsTheyCome.{ArePassed, EndWithMarker, IsOutside}
+use Rattle.saphyr_pieces.specs.Markers.Waiting.{ArePassed, EndWithMarker, IsOutside}
 use Rattle.saphyr_pieces.specs.declared.readiness.Marker as code
 use Rattle.saphyr_pieces.specs.declared.readiness.Marker.TheVariants as marker
 use Rattle.saphyr_pieces.specs.declared.readiness.Readiness.{Readiness}

@@ -7,8 +7,8 @@ use Rattle.std.specs.Bool.{then_some}
 use Rattle.std.proofs.lemmas.Bool.{eqb-true}
 use Rattle.saphyr_input.specs.Classes.{is_break, is_blank_or_breakz}
 use Rattle.saphyr_input.specs.Indicators.{hyphen, full_stop}
-use Rattle.marker_laws.specs.Beside.{begins_line, Marked, dashes, dots}
-use Rattle.marker_laws.proofs.Longer.{same_marker, marker_goes_on}
+use Rattle.saphyr_pieces.specs.Markers.Beside.{begins_line, Marked, dashes, dots}
+use Rattle.saphyr_pieces.proofs.Markers.Longer.{same_marker, marker_goes_on}
 use Rattle.saphyr_pieces.specs.declared.lines.Front.{Front}
 use Rattle.saphyr_pieces.specs.declared.lines.Front.TheVariants as front
 use Rattle.saphyr_pieces.specs.Lines.{HasMarkerAt, IsLastMarker, HasLine, HasLineOrIsLong, front_with, front_with_all, front_behind, ends_marker, most_counted}

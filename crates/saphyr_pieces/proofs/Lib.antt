@@ -1,3 +1,4 @@
+pub mod Markers
 pub mod LastLine
 pub mod Comes
 pub mod ReadPieces

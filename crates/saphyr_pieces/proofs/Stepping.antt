@@ -22,9 +22,9 @@ use Rattle.event_laws.specs.Premises.{DocumentMarker, Ends}
 use Rattle.event_laws.proofs.Beside.Documents.{IsBetweenDocuments}
 use Rattle.event_laws.proofs.Longer.{More, AgreesOrEndsEarly, PassesAll, longer, steps_agree}
 use Rattle.event_laws.proofs.Promises.ClosedTokens.{ended_by}
-use Rattle.marker_laws.proofs.Waiting.{last_too}
-use Rattle.marker_laws.specs.EventsAsTheyCome.{ArePassed, EndWithMarker, IsOutside, before_others}
-use Rattle.marker_laws.proofs.Waiting.{refused_waits}
+use Rattle.saphyr_pieces.proofs.Markers.Waiting.{last_too}
+use Rattle.saphyr_pieces.specs.Markers.Waiting.{ArePassed, EndWithMarker, IsOutside, before_others}
+use Rattle.saphyr_pieces.proofs.Markers.Waiting.{refused_waits}
 use Rattle.saphyr_pieces.specs.Pieces.{with_others}
 
 -- ## Steps

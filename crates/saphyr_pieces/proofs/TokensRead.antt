@@ -10,9 +10,9 @@ use Rattle.saphyr_scanner.specs.Steps.Remaining.{remaining}
 use Rattle.saphyr_scanner.specs.Steps.State.{State}
 use Rattle.saphyr_scanner.specs.Views.Stepping.{Stepping}
 use Rattle.saphyr_scanner.specs.Views.Tokens.{Piece, Remaining, before, with_last}
-use Rattle.marker_laws.specs.EventsUpTo.{before_all}
-use Rattle.marker_laws.specs.GoesOn.{extended_by}
-use Rattle.marker_laws.proofs.HandedTokens.{regrouped}
+use Rattle.saphyr_pieces.specs.Markers.EventsUpTo.{before_all}
+use Rattle.saphyr_pieces.specs.Markers.GoesOn.{extended_by}
+use Rattle.saphyr_pieces.proofs.Markers.HandedTokens.{regrouped}
 use Rattle.saphyr_pieces.specs.Comes.{HasCome, Laws, may_read, until_ended}
 use Rattle.saphyr_pieces.specs.Scanning.{RefusesAll, StaysAt, all_tokens, ended_by, tokens_with}
 use Rattle.saphyr_pieces.proofs.Comes.{none_left, reads_on, refuses, takes_off}

@@ -10,9 +10,9 @@ use Rattle.saphyr_scanner.specs.Steps.State.{State}
 use Rattle.saphyr_scanner.specs.Steps.Fetch.{needs_token}
 use Rattle.saphyr_scanner.specs.Steps.Remaining.{remaining, scan}
 use Rattle.saphyr_scalar.specs.Views.Cursor.{start_cursor}
-use Rattle.marker_laws.specs.Beside.{begins_line, Marked}
-use Rattle.marker_laws.specs.EventsUpTo.{before_all}
-use Rattle.marker_laws.specs.GoesOn.{ScansTo, extended_by, state_behind_token}
+use Rattle.saphyr_pieces.specs.Markers.Beside.{begins_line, Marked}
+use Rattle.saphyr_pieces.specs.Markers.EventsUpTo.{before_all}
+use Rattle.saphyr_pieces.specs.Markers.GoesOn.{ScansTo, extended_by, state_behind_token}
 
 -- the token of the stream's start, which each text has
 abbrev pub first_token : Piece
@@ -50,7 +50,7 @@ until_ended false later = later
 
 -- ## What is known of it
 
--- what the laws of `marker_laws` and `saphyr_scanner` say, as they are called
+-- what the laws of this crate and of `saphyr_scanner` say, as they are called
 pub record Laws : Type 0 where
   pub readers : Readers
   pub longer : (limit : ℕ) (v r more : List ℕ) → begins_line true v ≡ true → Marked r r → (ts : List Piece) (s : State)

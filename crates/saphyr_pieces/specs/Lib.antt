@@ -1,3 +1,4 @@
+pub mod Markers
 pub mod Lines
 pub mod Comes
 pub mod Scanning

@@ -3,7 +3,7 @@ use Rattle.std.specs.Prelude.{◌≡◌, ◌≤◌, ◌⊎◌, ℕ, Bool, true, 
 use Rattle.std.specs.List.{list_any}
 use Rattle.saphyr_input.specs.Classes.{is_break, is_blank_or_breakz}
 use Rattle.saphyr_input.specs.Indicators.{hyphen, full_stop}
-use Rattle.marker_laws.specs.Beside.{begins_line, Marked}
+use Rattle.saphyr_pieces.specs.Markers.Beside.{begins_line, Marked}
 use Rattle.saphyr_pieces.specs.declared.lines.Front.{Front}
 use Rattle.saphyr_pieces.specs.declared.lines.Front.TheVariants as front
 use Rattle.saphyr_pieces.specs.declared.lines.Lines.{Lines}

@@ -10,7 +10,7 @@ use Rattle.saphyr_machine.specs.declared.progress.Progress.{Progress}
 use Rattle.saphyr_machine.specs.Answer.{OutOfMemory, fault_alone}
 use Rattle.saphyr_machine.specs.Calls.{GivesNext, item_at}
 use Rattle.saphyr_machine.specs.Cursor.{EventCursor, to_come}
-use Rattle.marker_laws.specs.EventsAsTheyCome.{before_others}
+use Rattle.saphyr_pieces.specs.Markers.Waiting.{before_others}
 use Rattle.saphyr_pieces.specs.declared.pieces.Source.{Source}
 use Rattle.saphyr_pieces.specs.declared.pieces.Source.TheVariants as source
 use Rattle.saphyr_pieces.specs.Scanning.{all_tokens, ended_by}

@@ -9,7 +9,7 @@ use Rattle.saphyr_machine.specs.Events.{Happening}
 use Rattle.saphyr_machine.specs.Steps.Machine.{Machine}
 use Rattle.event_laws.specs.Premises as markers
 use Rattle.event_laws.specs.Premises.{DocumentMarker}
-use Rattle.marker_laws.specs.EventsAsTheyCome.{ArePassed, EndWithMarker, IsOutside}
+use Rattle.saphyr_pieces.specs.Markers.Waiting.{ArePassed, EndWithMarker, IsOutside}
 use Rattle.saphyr_pieces.specs.declared.readiness.Marker as code
 use Rattle.saphyr_pieces.specs.declared.readiness.Marker.TheVariants as marker
 use Rattle.saphyr_pieces.specs.declared.readiness.Readiness.{Readiness}

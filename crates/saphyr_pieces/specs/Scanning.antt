@@ -6,8 +6,8 @@ use Rattle.saphyr_scalar.specs.declared.scalar.fault.Stop.TheVariants as stop
 use Rattle.saphyr_scanner.specs.Views.Tokens.{Remaining, refusal_alone}
 use Rattle.saphyr_scanner.specs.Views.Stepping.{Stepping}
 use Rattle.saphyr_scanner.specs.Steps.Remaining.{remaining}
-use Rattle.marker_laws.specs.EventsUpTo.{before_all}
-use Rattle.marker_laws.specs.GoesOn.{extended_by}
+use Rattle.saphyr_pieces.specs.Markers.EventsUpTo.{before_all}
+use Rattle.saphyr_pieces.specs.Markers.GoesOn.{extended_by}
 use Rattle.saphyr_pieces.specs.declared.scanning.Reading.{Reading}
 use Rattle.saphyr_pieces.specs.declared.scanning.Reading.TheVariants as reading
 use Rattle.saphyr_pieces.specs.Comes.{HasCome, until_ended}

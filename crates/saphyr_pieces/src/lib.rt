@@ -2,6 +2,7 @@
 #![tactic(auto)]
 
 mod cloning;
+pub mod law;
 mod lines;
 mod parser;
 mod pieces;

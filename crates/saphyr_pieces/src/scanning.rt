@@ -5,7 +5,7 @@ ghost use Rattle.saphyr_scanner.specs.Steps.Fetch.{needs_token};
 ghost use Rattle.saphyr_pieces.specs.Comes.{HasCome, Laws, may_read};
 ghost use Rattle.saphyr_pieces.specs.Scanning as spec;
 
-use marker_laws::{goes_on_behind_markers, tells_markers};
+use crate::law::{goes_on_behind_markers, tells_markers};
 use saphyr_input::StrInput;
 use saphyr_scalar::{Refusal, Stop};
 use saphyr_scanner::law::takes_characters_off;

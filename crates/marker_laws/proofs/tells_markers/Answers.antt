@@ -1,5 +1,0 @@
-use Rattle.marker_laws.proofs.Longer.{marker_goes_on, same_marker}
-use Rattle.marker_laws.proofs.tells_markers.Goals as goal
-
-pub returns : goal.returns
-returns c = record { goes_on = λ r more h. same_marker (marker_goes_on more h) }

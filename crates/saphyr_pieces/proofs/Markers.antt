@@ -1,0 +1,26 @@
+-- Texts with a document marker at the start of a line, and scanners that go on behind it.
+pub mod Ahead
+pub mod Results
+pub mod Separations
+pub mod Names
+pub mod Directives
+pub mod Lines
+pub mod Blocks
+pub mod Quotes
+pub mod Plains
+pub mod Gaps
+pub mod Dots
+pub mod Cores
+pub mod Indicators
+pub mod Tokens
+pub mod Fetches
+pub mod AtMarkers
+pub mod OpenFlows
+pub mod Runs
+pub mod Through
+pub mod Longer
+pub mod HandedTokens
+pub mod Between
+pub mod Events
+pub mod Outside
+pub mod Waiting
