@@ -193,7 +193,7 @@ impl<T: Input> Reader<T> {
         self.read_quoted_lines(true, indent, start, text)
     }
 
-    // The same of blanks on a line.
+    // The same of blanks on a line, and of a NUL.
     #[inline(always)]
     fn read_blank_gap(
         &mut self,
