@@ -10,22 +10,22 @@ use Rattle.saphyr_input.specs.Classes.{space, is_blank}
 use Rattle.saphyr_input.specs.Fronts.{IsAsciiClass, StandsFor}
 use Rattle.saphyr_input.specs.Places.{words_len, blank_words_len, spaces_within, TransfersRun, TransfersWords}
 use Rattle.saphyr_input.proofs.Ascii.{PastAscii, past_ascii, ascii_class_run, first_stands, at_drop}
+use Rattle.saphyr_input.proofs.Basics.Booleans.{by_test}
+pub use Rattle.saphyr_input.proofs.Basics.Lists.{run_ends}
 use Rattle.saphyr_input.proofs.Texts.{length-chars}
 
 abbrev Set : Type 0
 Set = ℕ → Bool
 
-by_test : (b : Bool) (x y : ℕ) (P : ℕ → Type 0) → (b ≡ true → P x) → (b ≡ false → P y) → P (cond b x y)
-by_test true x y P at_true at_false = at_true refl
-by_test false x y P at_true at_false = at_false refl
-
--- a run ends before what is not of its set
-pub run_ends : (p : Set) (xs : List ℕ) → p 0 ≡ false → p (slice_index (drop (prefix_len p xs) xs) 0) ≡ false
-run_ends p [] z = z
-run_ends p (c ∷ cs) z =
+-- what counts a run of a set, and goes on behind it
+run_first : (p : Set) (count : List ℕ → ℕ) → ((c : ℕ) (cs : List ℕ) → p c ≡ true → count (c ∷ cs) ≡ 1 + count cs)
+    → (xs : List ℕ) → count xs ≡ prefix_len p xs + count (drop (prefix_len p xs) xs)
+run_first p count step [] = omega arith
+run_first p count step (c ∷ cs) =
     let one : 1 + prefix_len p cs ≡ suc (prefix_len p cs) = omega arith in
-    by_test (p c) (1 + prefix_len p cs) 0 (λ n. p (slice_index (drop n (c ∷ cs)) 0) ≡ false)
-    (λ _. rw one (run_ends p cs z)) (λ h. h)
+    by_test (p c) (1 + prefix_len p cs) 0 (λ n. count (c ∷ cs) ≡ n + count (drop n (c ∷ cs)))
+    (λ h. rw one (omega (arith, step c cs h, run_first p count step cs)))
+    (λ h. omega arith)
 
 -- a character of the set is passed
 word_step : (p q : Set) (c : ℕ) (cs : List ℕ) → p c ≡ true → words_len p q (c ∷ cs) ≡ 1 + words_len p q cs
@@ -35,13 +35,7 @@ word_step p q c cs h = rw h refl
 -- words begin with the run of their set
 pub words_on : (p q : Set) (xs : List ℕ)
     → words_len p q xs ≡ prefix_len p xs + words_len p q (drop (prefix_len p xs) xs)
-unfolding words_len
-words_on p q [] = refl
-words_on p q (c ∷ cs) =
-    let one : 1 + prefix_len p cs ≡ suc (prefix_len p cs) = omega arith in
-    by_test (p c) (1 + prefix_len p cs) 0 (λ n. words_len p q (c ∷ cs) ≡ n + words_len p q (drop n (c ∷ cs)))
-    (λ h. rw one (omega (arith, word_step p q c cs h, words_on p q cs)))
-    (λ h. omega arith)
+words_on p q xs = run_first p (words_len p q) (word_step p q) xs
 
 -- and go on after a single space
 pub words_over_space : (p q : Set) (cs : List ℕ) → q (slice_index cs 0) ≡ true
@@ -171,14 +165,7 @@ blank_word_step p q c cs h = rw h refl
 
 pub blank_words_on : (p q : Set) (xs : List ℕ)
     → blank_words_len p q xs ≡ prefix_len p xs + blank_words_len p q (drop (prefix_len p xs) xs)
-unfolding blank_words_len
-blank_words_on p q [] = refl
-blank_words_on p q (c ∷ cs) =
-    let one : 1 + prefix_len p cs ≡ suc (prefix_len p cs) = omega arith in
-    by_test (p c) (1 + prefix_len p cs) 0
-    (λ n. blank_words_len p q (c ∷ cs) ≡ n + blank_words_len p q (drop n (c ∷ cs)))
-    (λ h. rw one (omega (arith, blank_word_step p q c cs h, blank_words_on p q cs)))
-    (λ h. omega arith)
+blank_words_on p q xs = run_first p (blank_words_len p q) (blank_word_step p q) xs
 
 -- what comes behind a run of blanks
 abbrev behind_blanks : List ℕ → ℕ
