@@ -1,6 +1,6 @@
 //! The inputs that a parser can have.
+use crate::characters::Characters;
 use crate::reading::{by_load, by_next_event, count_and_reach};
-use example_input::Characters;
 use saphyr_parser::{Fault, Parser, lists_characters};
 use std::alloc::Global;
 

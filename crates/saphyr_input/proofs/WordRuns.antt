@@ -10,22 +10,12 @@ use Rattle.saphyr_input.specs.Classes.{space}
 use Rattle.saphyr_input.specs.Fronts.{IsAsciiClass, StandsFor}
 use Rattle.saphyr_input.specs.Places.{words_len, spaces_within, TransfersRun, TransfersWords}
 use Rattle.saphyr_input.proofs.Ascii.{PastAscii, past_ascii, ascii_class_run, first_stands, at_drop}
+use Rattle.saphyr_input.proofs.Basics.Booleans.{by_test}
+pub use Rattle.saphyr_input.proofs.Basics.Lists.{run_ends}
 use Rattle.saphyr_input.proofs.Texts.{length-chars}
 
 abbrev Set : Type 0
 Set = ℕ → Bool
-
-by_test : (b : Bool) (x y : ℕ) (P : ℕ → Type 0) → (b ≡ true → P x) → (b ≡ false → P y) → P (cond b x y)
-by_test true x y P at_true at_false = at_true refl
-by_test false x y P at_true at_false = at_false refl
-
--- a run ends before what is not of its set
-pub run_ends : (p : Set) (xs : List ℕ) → p 0 ≡ false → p (slice_index (drop (prefix_len p xs) xs) 0) ≡ false
-run_ends p [] z = z
-run_ends p (c ∷ cs) z =
-    let one : 1 + prefix_len p cs ≡ suc (prefix_len p cs) = omega arith in
-    by_test (p c) (1 + prefix_len p cs) 0 (λ n. p (slice_index (drop n (c ∷ cs)) 0) ≡ false)
-    (λ _. rw one (run_ends p cs z)) (λ h. h)
 
 -- a character of the set is passed
 word_step : (p q : Set) (c : ℕ) (cs : List ℕ) → p c ≡ true → words_len p q (c ∷ cs) ≡ 1 + words_len p q cs

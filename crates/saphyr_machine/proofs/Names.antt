@@ -22,8 +22,8 @@ use Rattle.saphyr_machine.specs.Names.{ids_of, with_listed, texts_of, names_of}
 abbrev pub seen : {A X Z : Type 0} → (X → Z) → List (String A × X) → Names Z
 seen {A} {X} {Z} f es = map (λ (e : String A × X). (string_bytes e.0, f e.1)) es
 
-chosen : {A X Z : Type 0} (f : X → Z) (o : Ordering) (a b c : List (String A × X))
-    → seen f (match_ordering o a b c) ≡ match_ordering o (seen f a) (seen f b) (seen f c)
+chosen : {X Z : Type 0} (f : X → Z) (o : Ordering) (a b c : X)
+    → f (match_ordering o a b c) ≡ match_ordering o (f a) (f b) (f c)
 chosen f Less a b c = refl
 chosen f Equal a b c = refl
 chosen f Greater a b c = refl
@@ -32,7 +32,7 @@ inserted : {A X Z : Type 0} (f : X → Z) (es : List (String A × X)) (k : Strin
     → seen f (insert_entry string_cmp es k v) ≡ insert_entry (slice_cmp nat_cmp) (seen f es) (string_bytes k) (f v)
 inserted f [] k v = refl
 inserted {A} {X} {Z} f (e ∷ es) k v =
-    chosen f (string_cmp k e.0) ((k, v) ∷ e ∷ es) ((e.0, v) ∷ es) (e ∷ insert_entry string_cmp es k v)
+    chosen (seen f) (string_cmp k e.0) ((k, v) ∷ e ∷ es) ((e.0, v) ∷ es) (e ∷ insert_entry string_cmp es k v)
     ∙ ap (λ (r : Names Z). match_ordering (slice_cmp nat_cmp (string_bytes k) (string_bytes e.0))
     ((string_bytes k, f v) ∷ seen f (e ∷ es)) ((string_bytes e.0, f v) ∷ seen f es) ((string_bytes e.0, f e.1) ∷ r))
     (inserted f es k v)
@@ -187,18 +187,12 @@ texts_empty m e = none m.entries e
     none [] e = refl
     none (x ∷ es) e = absurd (omega (arith, e))
 
-names_with : {Z : Type 0} (o : Ordering) (a b c : Names Z)
-    → keys_of (match_ordering o a b c) ≡ match_ordering o (keys_of a) (keys_of b) (keys_of c)
-names_with Less a b c = refl
-names_with Equal a b c = refl
-names_with Greater a b c = refl
-
 -- a name that is given a meaning is listed among the names
 pub given_names : {Z : Type 0} (name : List ℕ) (z : Z) (names : Names Z)
     → keys_of (with_meaning name z names) ≡ with_name name (keys_of names)
 given_names name z [] = refl
 given_names {Z} name z (e ∷ es) =
-    names_with (slice_cmp nat_cmp name e.0) ((name, z) ∷ e ∷ es) ((e.0, z) ∷ es) (e ∷ with_meaning name z es)
+    chosen keys_of (slice_cmp nat_cmp name e.0) ((name, z) ∷ e ∷ es) ((e.0, z) ∷ es) (e ∷ with_meaning name z es)
     ∙ ap (λ (r : List (List ℕ)). match_ordering (slice_cmp nat_cmp name e.0) (name ∷ e.0 ∷ keys_of es)
     (e.0 ∷ keys_of es) (e.0 ∷ r)) (given_names name z es)
 
@@ -230,17 +224,11 @@ texts_listed m handle =
 abbrev texts : {A : Type 0} → List (String A) → List (List ℕ)
 texts {A} ks = map (λ (k : String A). string_bytes k) ks
 
-among : {A : Type 0} (o : Ordering) (a b c : List (String A))
-    → texts (match_ordering o a b c) ≡ match_ordering o (texts a) (texts b) (texts c)
-among Less a b c = refl
-among Equal a b c = refl
-among Greater a b c = refl
-
 added : {A : Type 0} (ks : List (String A)) (k : String A)
     → texts (insert_key string_cmp ks k) ≡ with_name (string_bytes k) (texts ks)
 added [] k = refl
 added (x ∷ ks) k =
-    among (string_cmp k x) (k ∷ x ∷ ks) (x ∷ ks) (x ∷ insert_key string_cmp ks k)
+    chosen texts (string_cmp k x) (k ∷ x ∷ ks) (x ∷ ks) (x ∷ insert_key string_cmp ks k)
     ∙ ap (λ (r : List (List ℕ)). match_ordering (slice_cmp nat_cmp (string_bytes k) (string_bytes x))
     (string_bytes k ∷ texts (x ∷ ks)) (texts (x ∷ ks)) (string_bytes x ∷ r)) (added ks k)
 

@@ -5,7 +5,7 @@ ghost use Rattle.saphyr_scanner.specs.Steps.Remaining.{scan};
 ghost use Rattle.saphyr_parser.specs.Limits.{most_characters};
 ghost use Rattle.saphyr_parser.specs.Cursor.{at_start, keeping_tags};
 
-use example_input::Characters;
+use example_count::Characters;
 use saphyr_parser::{CloneInput, Parser, StrInput, lists_characters};
 use std::alloc::Global;
 use test_events::{Case, Difference};

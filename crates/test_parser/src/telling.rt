@@ -4,7 +4,7 @@
 //! What owns much is let go by `drop`, a call that is cheaper to prove than the end of a function.
 //!
 //! Where memory is lacking a piece of the lines is missing, so that they are not those that a test wants.
-use example_input::Characters;
+use example_count::Characters;
 use saphyr_parser::{
     BufferedInput, Event, EventReceiver, Fault, Input, Marker, Parser, Refused, Span,
     SpannedEventReceiver, StrInput, lists_characters,

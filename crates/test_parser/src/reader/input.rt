@@ -4,7 +4,7 @@
 mod buffered;
 mod steps;
 
-use example_input::Characters;
+use example_count::Characters;
 use saphyr_input::StrInput;
 use saphyr_input::input::{Input, SkipTabs};
 use steps::{Ask, Row, Step, expect_steps};

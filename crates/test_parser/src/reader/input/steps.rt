@@ -1,7 +1,7 @@
 //! The calls of an input as values: a test is a table of texts and steps, and few functions hold an input.
 
 use crate::helpers::expect;
-use example_input::Characters;
+use example_count::Characters;
 use saphyr_input::input::{CloneInput, Input, SkipTabs};
 use saphyr_input::law::lists_characters;
 use saphyr_input::{BufferedInput, StrInput};

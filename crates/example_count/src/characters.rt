@@ -1,10 +1,9 @@
-//! An example of an input of your own, over the characters of a slice. `example_count` reads from it, and so do tests.
-//! It has the smallest window that an input may have, and overrides no default body of the trait.
-#![tactic(auto)]
+//! An example of an input of your own, over the characters of a slice. Tests read from it too. It has the smallest
+//! window that an input may have, and overrides no default body of the trait.
 
 ghost use Rattle.std.specs.Prelude.{◌≡◌, ◌≤◌};
 
-use saphyr_input::{CloneInput, Input};
+use saphyr_parser::{CloneInput, Input};
 
 /// How many places can be loaded at once.
 const WINDOW: usize = 8;
