@@ -2,7 +2,6 @@
 use Rattle.std.proofs.Common.{◌≡◌, ℕ, Bool, true, false, List, [], ◌∷◌, length, drop, Option, Some, None, Result, Ok, slice_index, refl, ap, ◌∙◌, arith, cond}
 use Rattle.std.specs.Prelude.{◌&&◌, ◌||◌, ◌==◌, not, nat_lt, nat_le}
 use Rattle.std.proofs.lemmas.Bool.{and_parts, eqb-true}
-use Rattle.std.proofs.lemmas.Bool.Decides.{nat_tests}
 use Rattle.saphyr_input.specs.Classes.{is_break, is_breakz, is_z, is_bom}
 use Rattle.saphyr_input.specs.Places.{is_document_start, is_document_end, next_3_are}
 use Rattle.saphyr_scalar.specs.declared.values.BlockStyle.TheVariants as block_style
@@ -24,7 +23,7 @@ use Rattle.saphyr_scanner.specs.Steps.Queue.{Queue, next}
 use Rattle.saphyr_scanner.specs.Steps.State.{State, on_core, on_core_with, after_step}
 use Rattle.saphyr_scanner.specs.Steps.Unrolling.{is_right_of, with_outer_indent, end_blocks, go_less_deep, unroll}
 use Rattle.saphyr_scanner.proofs.Steps.Choice.{both_cases}
-use Rattle.saphyr_pieces.specs.Markers.Beside.{Ahead, here, dashes, dots, character, reading, Gives, refused, given, Pairs, pairs, Cores, cores, Steps, steps, States, states}
+use Rattle.saphyr_pieces.specs.Markers.Beside.{Ahead, reading, Gives, refused, given, Pairs, pairs, Cores, cores, Steps, steps, States, states}
 use Rattle.saphyr_pieces.proofs.Markers.Ahead.{first_same, second_same, third_same, fourth_same, past_first, stands_before}
 use Rattle.saphyr_pieces.proofs.Markers.Results.{both_then, choose, by_first}
 use Rattle.saphyr_pieces.proofs.Markers.Cores.{Twins, twins, separate_same, drop_cores, gap_cores}

@@ -1,5 +1,5 @@
 -- What two readers give side by side, and the small words for it.
-use Rattle.std.proofs.Common.{◌≡◌, ℕ, Bool, true, false, Result, Ok, List, drop, slice_index, refl, cond, subst, ap, sym}
+use Rattle.std.proofs.Common.{◌≡◌, ℕ, Bool, true, false, Result, Ok, List, drop, slice_index, refl, cond, subst, ap}
 use Rattle.saphyr_scalar.specs.declared.scalar.fault.Refusal.{Refusal}
 use Rattle.saphyr_scalar.specs.Views.Cursor.{Cursor, ◌>>=◌, along, pass, pass_blanks}
 use Rattle.saphyr_scalar.proofs.Choices.{both_by}
