@@ -3,7 +3,6 @@ use Rattle.std.proofs.Common.{◌≡◌, ℕ, Bool, List, Result, Ok, Err, refl,
 use Rattle.saphyr_scalar.specs.declared.scalar.position.Marker.{Marker}
 use Rattle.saphyr_scalar.specs.declared.scalar.fault.Refusal.{Refusal}
 use Rattle.saphyr_scalar.specs.Views.Cursor.{Cursor, ◌>>=◌}
-use Rattle.saphyr_scalar.specs.Steps.Quoted.{TextRead, mid_line}
 
 -- what is given, if something is, has this property
 abbrev pub Given : {X : Type 0} → (X → Type 0) → Result X Refusal → Type 0
@@ -31,9 +30,6 @@ together text s = (text, s)
 
 abbrev pub text_given : List ℕ → Cursor → Result (List ℕ × Cursor) Refusal
 text_given text s = Ok (text, s)
-
-abbrev pub text_given_at : List ℕ → Marker → List ℕ → TextRead
-text_given_at text m xs = Ok (text, mid_line m xs)
 
 abbrev pub number_given : ℕ → Cursor → Result (ℕ × Cursor) Refusal
 number_given n s = Ok (n, s)

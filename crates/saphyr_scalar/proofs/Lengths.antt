@@ -52,9 +52,6 @@ at_most_below a b c most less = omega arith
 pub none_before : (n : ℕ) → 0 ≤ n
 none_before n = omega arith
 
-pub less_left : (k : ℕ) (s t u : Cursor) → k < length u.rest → u ≡ t → length t.rest ≤ length s.rest → k < length s.rest
-less_left k s t u less same most = below_at_most k (length t.rest) (length s.rest) (rw same at less) most
-
 -- a place that shows a character other than NUL is one
 pub seen_left : (s t : Cursor) (c d : ℕ) → c ≡ slice_index s.rest 0 → t ≡ s → (d == 0) ≡ false → c ≡ d
     → 0 < length t.rest

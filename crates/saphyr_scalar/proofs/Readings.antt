@@ -1,4 +1,3 @@
 pub mod Foldings
 pub mod Items
 pub mod ItemsRead
-pub mod Lines

@@ -2,10 +2,8 @@
 use Rattle.std.proofs.Common.{◌≡◌, ℕ, Bool, true, false, not, List, ◌∷◌, nat_eq, refl, arith, subst, IsTrue}
 use Rattle.std.specs.Prelude.{◌&&◌, ◌==◌}
 use Rattle.std.proofs.lemmas.Bool.Decides.{nat_tests}
-use Rattle.saphyr_input.specs.Indicators.{full_stop, hyphen}
 use Rattle.saphyr_input.specs.Breaks.{normalized}
 use Rattle.saphyr_input.specs.Classes.{line_feed, is_z, is_break, is_breakz, is_blank, is_yaml_non_break, carriage_return}
-use Rattle.saphyr_input.specs.Places.{is_document_indicator}
 use Rattle.saphyr_input.proofs.Basics.Booleans.{either}
 
 pub z_is_nul : (c : ℕ) → is_z c ≡ true → c ≡ 0
@@ -56,11 +54,6 @@ return_breaks c false h = absurd (none (c == 13) h)
     none : (a : Bool) → (a && false) ≡ true → ⊥
     none true e = cc
     none false e = cc
-
--- a line that begins with neither dash nor dot has no document marker there
-pub no_marker_at : (c : ℕ) (cs : List ℕ) → (c == hyphen) ≡ false → (c == full_stop) ≡ false
-    → is_document_indicator (c ∷ cs) ≡ false
-no_marker_at c cs dash dot = rw (dash, dot) refl
 
 pub normalized_other : (c : ℕ) (cs : List ℕ) → (c == carriage_return) ≡ false → normalized (c ∷ cs) ≡ c ∷ normalized cs
 normalized_other c cs h = rw h refl

@@ -8,9 +8,6 @@ one_and n = omega arith
 pub le_next : (a b : ℕ) → a ≤ b → a ≤ b + 1
 le_next a b h = omega (arith, h)
 
-pub none_below_zero : (n : ℕ) → nat_lt n 0 ≡ false
-none_below_zero n = grind (arith, nat_tests)
-
 pub zero_below_next : (n : ℕ) → nat_lt 0 (n + 1) ≡ true
 zero_below_next n = grind (arith, nat_tests)
 

@@ -98,9 +98,6 @@ stop_spaces st c i more k b m xs within ends =
 past : (i col x : ℕ) → i < col → is_indentation (Some i) col x ≡ false
 past i col x h = let right : nat_lt col i ≡ false = grind (arith, nat_tests) in rw right (and_false (nat_eq x 32))
 
-far : (i col : ℕ) → i < col → nat_le (max i 1) col ≡ true
-far i col h = grind (arith, nat_tests)
-
 unfinished_content : (i : ℕ) (s : Cursor) → i < s.mark.col → is_unfinished i s ≡ is_at_end (ending s)
 unfolding is_unfinished
 unfinished_content i s h = grind arith

@@ -1,6 +1,6 @@
 -- Words of a plain scalar whose first characters were taken off in one piece, up to any place.
-use Rattle.std.proofs.Common.{◌≡◌, ℕ, zero, suc, ◌+◌, ◌^◌, ◌<◌, ◌≤◌, Bool, true, false, List, length, drop, slice_index, refl, sym, ap, ◌∙◌, arith, cond}
-use Rattle.std.specs.Prelude.{◌≢◌, ◌&&◌, ◌||◌, ◌==◌, not, nat_lt, Result, Ok, Err, IfOk, OnErr, OnOk}
+use Rattle.std.proofs.Common.{◌≡◌, ℕ, zero, suc, ◌+◌, ◌<◌, ◌≤◌, Bool, true, false, List, length, drop, slice_index, refl, sym, ap, ◌∙◌, arith, cond}
+use Rattle.std.specs.Prelude.{◌≢◌, ◌&&◌, ◌||◌, ◌==◌, not, nat_lt, Result, Ok, Err, OnOk}
 use Rattle.std.proofs.lemmas.Bool.Decides.{nat_tests}
 use Rattle.saphyr_input.specs.Classes.{is_blank_or_breakz, is_bom, is_flow}
 use Rattle.saphyr_input.specs.Places.{TransfersFront}
@@ -9,7 +9,6 @@ use Rattle.saphyr_scalar.specs.declared.scalar.position.Marker.{Marker}
 use Rattle.saphyr_scalar.specs.Views.Cursor.{Cursor, along}
 use Rattle.saphyr_scalar.specs.Steps.Plain.{is_in_word, with_text, word, TransfersColons, PlainWordsMoved}
 use Rattle.saphyr_scalar.specs.Steps.Sets.{in_plain, leads_plain}
-use Rattle.saphyr_scalar.proofs.Lengths.{part_left}
 use Rattle.saphyr_scalar.proofs.Plain.Colons.{colons_within, colons_piece}
 use Rattle.saphyr_scalar.proofs.Plain.SingleSpaces.{WordsRan, none_ran, piece_ran, words_piece}
 
@@ -75,13 +74,6 @@ ran_on f text grown more s u t w n r left place z = record {
         let same : t.rest ≡ s.rest = left ∙ at in
         omega (arith, z.shorter (ap (is_in_word f) same ∙ goes), ap length same)
     some (suc k) at total goes = omega (arith, z.within, total, ap length left)
-
--- what remains where they were taken off, or memory ran out before
-pub front_fits : {X E : Type 0} → (p q : ℕ → Bool) (xs now text grown : List ℕ) (r : Result (ℕ × X) E) (at : ℕ)
-    → IfOk r (λ x. TransfersFront p q x.0 xs now text grown) → OnErr r ((now ≡ xs) × (grown ≡ text))
-    → at + length xs < 2 ^ 64 → at + length now < 2 ^ 64
-front_fits p q xs now text grown (Ok x) at ok err fits = part_left xs now at x.0 fits ok.transfers.taken
-front_fits p q xs now text grown (Err e) at ok err fits = rw err.0 fits
 
 pub ran_on_ok : {X E : Type 0} → (r : Result X E) (f : Bool) (text grown more : List ℕ) (s u t w : Cursor) (n : ℕ)
     → WordsRan f text grown s u n → t.rest ≡ u.rest → t.mark ≡ along u.mark n

@@ -1,7 +1,7 @@
 -- The later lines of a plain scalar that is read are indented.
 use Rattle.std.proofs.Common.{◌≡◌, ◌≢◌, ℕ, ◌+◌, ◌-◌, ◌≤◌, Bool, true, false, List, [], ◌∷◌, ◌++◌, slice_index, Result, Ok, refl, sym, ap, ◌∙◌, arith, IsTrue, append_assoc}
 use Rattle.std.specs.Prelude.{◌||◌, ◌&&◌, ◌==◌, not, nat_le, nat_lt, if◌then◌else◌}
-use Rattle.std.proofs.lemmas.Bool.{false≢true, eqb-true, le-leb, leb-true, or_left, or_right, or_parts}
+use Rattle.std.proofs.lemmas.Bool.{false≢true, eqb-true, le-leb, or_left, or_right, or_parts}
 use Rattle.saphyr_input.specs.Classes.{is_blank, is_break, is_z, tab, line_feed}
 use Rattle.saphyr_input.specs.Places.{is_blank_or_break, can_be_plain}
 use Rattle.saphyr_input.specs.Indicators.{number_sign}
@@ -72,15 +72,6 @@ enough f n xs h = or_left (nat_le n (indentation xs) || is_blank_line xs) (f && 
 
 blank : (f t : Bool) (n : ℕ) (xs : List ℕ) → is_blank_line xs ≡ true → IsOnLine f t n xs
 blank f t n xs h = grind arith
-
-space_on : (f : Bool) (n k : ℕ) (xs : List ℕ) → n ≤ k + 1 → IsOn f k xs → IsOn f n (32 ∷ xs)
-space_on f n k xs le h = either (nat_le k (indentation xs) || is_blank_line xs) (f && not (behind_indentation xs == 9))
-    (IsOn f n (32 ∷ xs)) h
-    (λ a. either (nat_le k (indentation xs)) (is_blank_line xs) (IsOn f n (32 ∷ xs)) a
-    (λ b. let e = leb-true k (indentation xs) b in enough f n (32 ∷ xs) (omega (arith, e, le)))
-    (λ b. blank f false n (32 ∷ xs) b))
-    (λ a. or_right (nat_le n (indentation (32 ∷ xs)) || is_blank_line (32 ∷ xs))
-    (f && not (behind_indentation (32 ∷ xs) == 9)) a)
 
 space_on_line : (f t : Bool) (n k : ℕ) (xs : List ℕ) → n ≤ k + 1 → IsOnLine f t k xs → IsOnLine f t n (32 ∷ xs)
 space_on_line f t n k xs le h = grind arith
@@ -182,10 +173,6 @@ line_begins i a t feeds m c cs g ends e =
     let there : Bool → Bool → Type 0 = λ b n.
     lines i a (b && (t || ((c == 9) && nat_lt m.col i))) feeds (if n then next_line m 1 else along m 1) cs ≡ Ok g in
     lines_is_line i a feeds (next_line m 1) cs g refl (rw ends at (rw no_blank at e))
-
--- after a gap a word begins
-not_left : (i col : ℕ) (x y : Bool) → (x && not y && nat_lt col i) ≡ false → y ≡ false → x ≡ true → i ≤ col
-not_left i col x y h g k = grind arith
 
 goes_right : (f : Bool) (i : ℕ) (s t : Cursor) → next_word_starts f i s ≡ Ok (true, t) → f ≡ false
     → s.blank_so_far ≡ true → i ≤ s.mark.col

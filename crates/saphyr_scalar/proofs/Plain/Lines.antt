@@ -12,10 +12,6 @@ use Rattle.saphyr_scalar.proofs.Quoted.Inside.{break_cases}
 use Rattle.saphyr_input.proofs.Basics.Booleans.{by_test}
 use Rattle.saphyr_input.proofs.Basics.Characters.{blank_cases}
 
-pub some_blank : (xs : List ℕ) → is_blank (slice_index xs 0) ≡ true → 0 < length xs
-some_blank [] h = absurd (cc)
-some_blank (c ∷ cs) h = omega arith
-
 -- whether a tab is in the indentation, once a character of the line more is read
 abbrev pub tabbed_by : ℕ → Bool → Marker → ℕ → Bool
 tabbed_by indent tabbed m c = tabbed || ((c == tab) && nat_lt m.col indent)

@@ -224,11 +224,6 @@ word_ends Double start s t = by_test ((slice_index s.rest 0 == 92) && not (is_br
     never (Ok x) e = some_none x.0 x.1 t e
     never (Err r) e = absurd (cc)
 
--- the same, where the character is told again
-pub gives : (r : Result (Option ℕ × Cursor) Refusal) (a b : Option ℕ) (t : Cursor) → r ≡ Ok (a, t) → a ≡ b
-    → r ≡ Ok (b, t)
-gives r a b t e is = subst (λ (x : Option ℕ). r ≡ Ok (x, t)) is e
-
 -- what begins with another character is no such spelling
 
 pub not_doubled : (start : Marker) (s : Cursor) (c : ℕ) → (c == apostrophe) ≡ false → c ≡ slice_index s.rest 0

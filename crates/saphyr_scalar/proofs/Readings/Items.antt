@@ -1,5 +1,5 @@
 -- The items of a quoted scalar, one after another.
-use Rattle.std.proofs.Common.{◌≡◌, ℕ, zero, suc, ◌<◌, false, List, [], ◌∷◌, ◌++◌, drop, Option, Some, None, refl, sym, ◌∙◌, ap, arith, append_assoc, pred}
+use Rattle.std.proofs.Common.{◌≡◌, ℕ, zero, suc, ◌<◌, false, List, [], ◌∷◌, drop, Option, Some, refl, ◌∙◌, ap, arith, pred}
 use Rattle.std.specs.Prelude.{option_map, option_and_then}
 use Rattle.saphyr_scalar.specs.declared.values.Item.{Item}
 use Rattle.saphyr_scalar.specs.declared.values.Quote.{Quote}
@@ -12,13 +12,6 @@ pub passed_over : (quote : Quote) (taken : ℕ) (text : List ℕ)
 passed_over quote zero text = refl
 passed_over quote (suc n) [] = refl
 passed_over quote (suc n) (c ∷ text) = passed_over quote n text
-
--- an item joins those before it
-pub items_joined : (front : List Item) (item : Item) (others : Option (List Item))
-    → option_map (λ more. (front ++ item ∷ []) ++ more) others
-    ≡ option_map (λ more. front ++ more) (option_map (λ items. item ∷ items) others)
-items_joined front item None = refl
-items_joined front item (Some others) = ap Some (append_assoc front (item ∷ []) others)
 
 -- the items from one that was looked for
 abbrev pub items_from : Quote → List ℕ → Option (Item × ℕ) → Option (List Item)
@@ -35,15 +28,3 @@ one_item quote c others item (suc n) unclosed first some =
     cond-false (is_closing_at_end quote c others) (Some [])
     (items_from quote others (first_item quote (c ∷ others))) unclosed
     ∙ ap (items_from quote others) first ∙ ap (option_map (λ items. item ∷ items)) (passed_over quote n others)
-
--- the same after the items before it
-pub next_item : (quote : Quote) (text : List ℕ) (c : ℕ) (others behind : List ℕ) (front : List Item) (item : Item)
-    (len : ℕ)
-    → text ≡ c ∷ others → is_closing_at_end quote c others ≡ false → first_item quote text ≡ Some (item, len) → 0 < len
-    → behind ≡ drop len text
-    → option_map (λ more. (front ++ item ∷ []) ++ more) (items_to_quote quote zero behind)
-    ≡ option_map (λ more. front ++ more) (items_to_quote quote zero text)
-next_item quote text c others behind front item len cut unclosed first some e =
-    let first_here : first_item quote (c ∷ others) ≡ Some (item, len) = ap (first_item quote) (sym cut) ∙ first in
-    rw (e, cut) (items_joined front item (items_to_quote quote zero (drop len (c ∷ others)))
-    ∙ ap (option_map (λ more. front ++ more)) (sym (one_item quote c others item len unclosed first_here some)))

@@ -111,9 +111,3 @@ counted_lines indentation text ending =
 abbrev pub block_value : BlockStyle → Chomping → ℕ → List ℕ → Ending → List ℕ
 block_value style chomping indentation text ending =
     lines_value style chomping (is_broken indentation (last_line text) ending) (counted_lines indentation text ending)
-
--- the lines without their indentation, each with its break
-abbrev pub each_line : List Line → List ℕ
-each_line [] = []
-each_line (Empty ∷ lines) = line_feed ∷ each_line lines
-each_line (Content text ∷ lines) = text ++ (line_feed ∷ each_line lines)

@@ -1,5 +1,5 @@
 -- The lines of a text whose breaks are normalized.
-use Rattle.std.specs.Prelude.{◌≡◌, ◌<◌, ℕ, ◌==◌, Bool, if◌then◌else◌, List, [], ◌∷◌, ◌++◌, length}
+use Rattle.std.specs.Prelude.{ℕ, ◌==◌, Bool, if◌then◌else◌, List, [], ◌∷◌, ◌++◌}
 use Rattle.std.specs.List.{list_any}
 use Rattle.saphyr_input.specs.Classes.{line_feed}
 
@@ -23,12 +23,3 @@ has_break text = list_any (λ c. c == line_feed) text
 abbrev pub last_line : List ℕ → List ℕ
 last_line [] = []
 last_line (c ∷ cs) = (if has_break (c ∷ cs) then [] else c ∷ []) ++ last_line cs
-
-abbrev pub HasNoBreak : List ℕ → Type 0
-HasNoBreak text = (ended_lines text ≡ []) × (last_line text ≡ text)
-
--- a text's first line, up to a break, and what comes after it
-pub record IsFirstLine (text line others : List ℕ) : Type 0 where
-  pub ended : ended_lines text ≡ line ∷ ended_lines others
-  pub last : last_line text ≡ last_line others
-  pub shorter : length others < length text
