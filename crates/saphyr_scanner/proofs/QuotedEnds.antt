@@ -104,14 +104,10 @@ told_step style start c x =
 
 line_told : (e b : Bool) (s : Cursor) (g : Cursor → StepResult)
     → (if b || e then g s else refuse fault.ContentAfterQuotes s.mark) ≡ (told_by e b s >>= λ d. g d.1)
-line_told true true s g = refl
-line_told true false s g = refl
-line_told false true s g = refl
-line_told false false s g = refl
+line_told e b s g = grind arith
 
 one_apart : (z a b d e : Bool) → (z || a || b || d || e) ≡ (z || (a || b || d || e))
-one_apart true a b d e = refl
-one_apart false a b d e = refl
+one_apart z a b d e = grind arith
 
 abbrev core_behind : Core → SkipTabs × Cursor → SkipTabs × Core
 core_behind c x = (x.0, with_cursor x.1 c)

@@ -19,9 +19,7 @@ pub and_true_right : (a b : Bool) → (a && b) ≡ true → b ≡ true
 and_true_right a b h = (and_parts a b h).1
 
 pub and_or_false : (a b c : Bool) → (a && (b || c)) ≡ false → ((a && b) ≡ false) × ((a && c) ≡ false)
-and_or_false false b c e = (refl, refl)
-and_or_false true true c e = absurd (cc)
-and_or_false true false c e = (refl, e)
+and_or_false a b c e = grind arith
 
 pub or_false_left : (a b : Bool) → (a || b) ≡ false → a ≡ false
 or_false_left a b h = (or_parts a b h).0
@@ -38,15 +36,10 @@ either true b P h left right = left refl
 either false b P h left right = right h
 
 pub neither_parts : (a b : Bool) → (not a && not b) ≡ true → (a ≡ false) × (b ≡ false)
-neither_parts false false h = (refl, refl)
-neither_parts true b h = absurd (cc)
-neither_parts false true h = absurd (cc)
+neither_parts a b h = grind arith
 
 pub none_of_three : (a b c : Bool) → (not a && not b && not c) ≡ true → (a ≡ false) × (b ≡ false) × (c ≡ false)
-none_of_three false false false h = (refl, refl, refl)
-none_of_three true b c h = absurd (cc)
-none_of_three false true c h = absurd (cc)
-none_of_three false false true h = absurd (cc)
+none_of_three a b c h = grind arith
 
 -- a test that fails at one number fails at a number that passes it
 pub other_than : (p : ℕ → Bool) (n c : ℕ) → p n ≡ false → p c ≡ true → nat_eq c n ≡ false

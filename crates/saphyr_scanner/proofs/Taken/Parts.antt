@@ -1,6 +1,6 @@
 -- Tokens that are taken from a text, one part after the other.
 use Rattle.std.proofs.Common.{◌≡◌, ℕ, zero, suc, ◌+◌, ◌⊎◌, Bool, true, false, List, [], ◌∷◌, ◌++◌, length, refl, sym, ap, ◌∙◌, arith, subst, inl, inr, IsTrue, ◌≤◌, ◌<◌}
-use Rattle.std.specs.Prelude.{◌-◌, slice_index, if◌then◌else◌, nat_lt}
+use Rattle.std.specs.Prelude.{◌-◌, slice_index, nat_lt}
 use Rattle.std.proofs.lemmas.Bool.{lt-ltb}
 use Rattle.saphyr_scalar.specs.declared.scalar.position.Marker.{Marker}
 use Rattle.saphyr_scalar.specs.declared.scalar.position.Span.{Span}
@@ -14,8 +14,8 @@ use Rattle.saphyr_scanner.specs.Grammar.Tokens.{Kind}
 use Rattle.saphyr_scanner.specs.Views.Tokens.{Piece}
 use Rattle.saphyr_scanner.specs.Steps.Queue.{Place, bare_place, places_with_opening, empty_piece}
 use Rattle.saphyr_scanner.specs.TokensTaken as taken
-use Rattle.saphyr_scanner.specs.TokensTaken.{Collections, Surroundings, with_columns, with_brackets, with_ends_json, surroundings_in, IsToken, AreTokens, begins_text, open_behind, least_column_in, IsAtColumn}
-use Rattle.saphyr_scanner.specs.TokensInPlace.{has_text, is_of_flow_node}
+use Rattle.saphyr_scanner.specs.TokensTaken.{Collections, Surroundings, with_columns, surroundings_in, IsToken, AreTokens, begins_text, open_behind, least_column_in, IsAtColumn}
+use Rattle.saphyr_scanner.specs.TokensInPlace.{is_of_flow_node}
 use Rattle.saphyr_scanner.proofs.Leads.{flat, place_pieces}
 use Rattle.saphyr_scanner.proofs.Queues.{flat_append, place_with_front}
 use Rattle.saphyr_scanner.proofs.Taken.Later.{top, apart_later}
@@ -98,24 +98,7 @@ quiet_open kind span opened q = grind arith
 -- a quiet token opens and closes the same brackets whichever columns are open
 quiet_column : (column : ℕ) (kind : Kind) (span : Span) (opened : Collections) → is_quiet kind ≡ true
     → open_behind kind span (with_column column opened) ≡ with_column column (open_behind kind span opened)
-quiet_column column tokens.BlockSequenceStart span opened q = absurd (cc)
-quiet_column column tokens.BlockMappingStart span opened q = absurd (cc)
-quiet_column column tokens.BlockEnd span opened q = absurd (cc)
-quiet_column column tokens.FlowMappingStart span opened q = by (has_text span)
-  where
-    by : (b : Bool) → with_ends_json (if b then false else opened.ends_json)
-        (if b then with_brackets (opened.brackets + 1) (with_column column opened) else with_column column opened)
-        ≡ with_column column (with_ends_json (if b then false else opened.ends_json)
-        (if b then with_brackets (opened.brackets + 1) opened else opened))
-    by b = grind arith
-quiet_column column tokens.FlowMappingEnd span opened q = by (has_text span)
-  where
-    by : (b : Bool) → with_ends_json (if b then true else opened.ends_json)
-        (if b then with_brackets (opened.brackets - 1) (with_column column opened) else with_column column opened)
-        ≡ with_column column (with_ends_json (if b then true else opened.ends_json)
-        (if b then with_brackets (opened.brackets - 1) opened else opened))
-    by b = grind arith
-quiet_column column _ span opened q = refl
+quiet_column column kind span opened q = grind arith
 
 pub quiet_columns : (ps : List Piece) (opened : Collections) → AreQuiet ps
     → (open_all ps opened).columns ≡ opened.columns
@@ -134,35 +117,15 @@ bracket_changes : (kind : Kind) (span : Span) (opened : Collections) (d : ℕ) �
 bracket_changes tokens.FlowSequenceStart span opened d l w = omega arith
 bracket_changes tokens.FlowSequenceEnd span opened zero l w = absurd (let no : false ≡ true = w refl in cc)
 bracket_changes tokens.FlowSequenceEnd span opened (suc d) l w = omega (arith, l)
-bracket_changes tokens.FlowMappingStart span opened d l w = by (has_text span)
-  where
-    by : (b : Bool) → (if b then with_brackets (opened.brackets + 1) opened else opened).brackets + d
-        ≡ opened.brackets + (if b then suc d else d)
-    by b = grind arith
+bracket_changes tokens.FlowMappingStart span opened d l w = grind arith
 bracket_changes tokens.FlowMappingEnd span opened zero l w = absurd (let no : false ≡ true = w refl in cc)
-bracket_changes tokens.FlowMappingEnd span opened (suc d) l w = by (has_text span)
-  where
-    by : (b : Bool) → (if b then with_brackets (opened.brackets - 1) opened else opened).brackets + suc d
-        ≡ opened.brackets + (if b then suc d - 1 else suc d)
-    by b = grind arith
+bracket_changes tokens.FlowMappingEnd span opened (suc d) l w = grind arith
 bracket_changes _ span opened d l w = refl
 
 -- brackets are open where tokens lead so deep
 brackets_deep : (kind : Kind) (span : Span) (opened : Collections) (d : ℕ) → d ≤ opened.brackets
     → deeper kind span d ≤ (open_behind kind span opened).brackets
-brackets_deep tokens.FlowSequenceStart span opened d l = omega (arith, l)
-brackets_deep tokens.FlowSequenceEnd span opened d l = omega (arith, l)
-brackets_deep tokens.FlowMappingStart span opened d l = by (has_text span)
-  where
-    by : (b : Bool) → (if b then suc d else d)
-        ≤ (if b then with_brackets (opened.brackets + 1) opened else opened).brackets
-    by b = grind arith
-brackets_deep tokens.FlowMappingEnd span opened d l = by (has_text span)
-  where
-    by : (b : Bool) → (if b then d - 1 else d)
-        ≤ (if b then with_brackets (opened.brackets - 1) opened else opened).brackets
-    by b = grind arith
-brackets_deep _ span opened d l = l
+brackets_deep kind span opened d l = grind arith
 
 pub same_brackets : (ps : List Piece) (opened : Collections) (d e : ℕ) → d ≤ opened.brackets → AreInside d ps e
     → (open_all ps opened).brackets + d ≡ opened.brackets + e
