@@ -29,3 +29,41 @@ counts_on p bs n w room h =
 pub stops_at : (p : ℕ → Bool) (bs : List ℕ) (n : ℕ) → Counted p bs n → p (get_or bs n 0) ≡ false
     → n ≡ prefix_len p bs
 stops_at p bs n w h = omega (arith, w.run, run_stops p (drop n bs) (shown p bs n false h))
+
+-- Where four bytes are left: each of them is there, and those before it are counted.
+
+pub first_of_4 : (n all : ℕ) → 4 ≤ all - n → n < all
+first_of_4 n all left = omega arith
+
+pub second_of_4 : (n all : ℕ) → 4 ≤ all - n → n + 1 < all
+second_of_4 n all left = omega arith
+
+pub third_of_4 : (n all : ℕ) → 4 ≤ all - n → n + 1 + 1 < all
+third_of_4 n all left = omega arith
+
+pub fourth_of_4 : (n all : ℕ) → 4 ≤ all - n → n + 1 + 1 + 1 < all
+fourth_of_4 n all left = omega arith
+
+pub four_fewer : (n all : ℕ) → 4 ≤ all - n → all - (n + 1 + 1 + 1 + 1) < all - n
+four_fewer n all left = omega arith
+
+pub counts_1 : (p : ℕ → Bool) (bs : List ℕ) (n : ℕ) → 4 ≤ length bs - n → Counted p bs n
+    → p (get_or bs n 0) ≡ true → Counted p bs (n + 1)
+counts_1 p bs n left w a = counts_on p bs n w (first_of_4 n (length bs) left) a
+
+pub counts_2 : (p : ℕ → Bool) (bs : List ℕ) (n : ℕ) → 4 ≤ length bs - n → Counted p bs n
+    → p (get_or bs n 0) ≡ true → p (get_or bs (n + 1) 0) ≡ true → Counted p bs (n + 1 + 1)
+counts_2 p bs n left w a b =
+    counts_on p bs (n + 1) (counts_1 p bs n left w a) (second_of_4 n (length bs) left) b
+
+pub counts_3 : (p : ℕ → Bool) (bs : List ℕ) (n : ℕ) → 4 ≤ length bs - n → Counted p bs n
+    → p (get_or bs n 0) ≡ true → p (get_or bs (n + 1) 0) ≡ true → p (get_or bs (n + 1 + 1) 0) ≡ true
+    → Counted p bs (n + 1 + 1 + 1)
+counts_3 p bs n left w a b c =
+    counts_on p bs (n + 1 + 1) (counts_2 p bs n left w a b) (third_of_4 n (length bs) left) c
+
+pub counts_4 : (p : ℕ → Bool) (bs : List ℕ) (n : ℕ) → 4 ≤ length bs - n → Counted p bs n
+    → p (get_or bs n 0) ≡ true → p (get_or bs (n + 1) 0) ≡ true → p (get_or bs (n + 1 + 1) 0) ≡ true
+    → p (get_or bs (n + 1 + 1 + 1) 0) ≡ true → Counted p bs (n + 1 + 1 + 1 + 1)
+counts_4 p bs n left w a b c d =
+    counts_on p bs (n + 1 + 1 + 1) (counts_3 p bs n left w a b c) (fourth_of_4 n (length bs) left) d

@@ -157,7 +157,26 @@ fn ascii_len<C: CharSet>(bytes: &[u8]) -> usize
     ensures { result ≡ prefix_len (spec.ascii_in C.test) bytes.now }
 {
     let mut len = 0;
-    while len < bytes.len() && C::has_ascii(bytes[len]) {
+    // Four bytes a turn, since a turn itself takes as many instructions as the test of a byte.
+    'fours: while bytes.len() - len >= 4 {
+        if !C::has_ascii(bytes[len]) {
+            return len;
+        }
+        len += 1;
+        if !C::has_ascii(bytes[len]) {
+            return len;
+        }
+        len += 1;
+        if !C::has_ascii(bytes[len]) {
+            return len;
+        }
+        len += 1;
+        if !C::has_ascii(bytes[len]) {
+            return len;
+        }
+        len += 1;
+    }
+    'ones: while len < bytes.len() && C::has_ascii(bytes[len]) {
         len += 1;
     }
     len
