@@ -56,6 +56,9 @@ HandleR = Handle.the_row
 abbrev pub PartsR : RattleType
 PartsR = Parts.the_row R Z ghosts
 
+abbrev pub FromParts : Slot 0
+FromParts = plain (λ _. PartsR)
+
 abbrev pub FromHandle : Slot 0
 FromHandle = plain (λ _. HandleR)
 
