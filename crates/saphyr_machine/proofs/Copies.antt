@@ -3,11 +3,8 @@ use Rattle.std.proofs.Common.{◌≡◌, ℕ, List, [], ◌∷◌, Option, Some,
 use Rattle.std.specs.Prelude.{String, string_bytes, option_map}
 use Rattle.std.specs.List.{AllZip}
 use Rattle.std.specs.BTreeMap.{BTreeMap, IsClone}
-use Rattle.saphyr_scanner.specs.declared.token.Token.{Token}
-use Rattle.saphyr_scanner.specs.Views.Tokens.{Remaining, Piece, piece, before}
 use Rattle.saphyr_machine.specs.Names.{ids_of, texts_of}
 use Rattle.saphyr_machine.specs.Cursor.{EventCursor}
-use Rattle.saphyr_machine.specs.Views.Machines.{with_token_ahead}
 use Rattle.saphyr_machine.proofs.Names.{seen}
 
 -- ## Maps from texts
@@ -28,22 +25,6 @@ pub texts_copied : {A : Type 0} (m n : BTreeMap (String A) (String A))
     → IsClone (λ s t. string_bytes t ≡ string_bytes s) (λ s t. string_bytes t ≡ string_bytes s) m n
     → texts_of n ≡ texts_of m
 texts_copied m n e = seen_copied string_bytes m.entries n.entries e
-
--- ## A token that was put back
-
-abbrev ahead_of : Option Piece → Remaining → Remaining
-ahead_of None r = r
-ahead_of (Some p) r = before p r
-
-ahead_seen : (t : Option Token) (r : Remaining) → with_token_ahead t r ≡ ahead_of (option_map piece t) r
-ahead_seen None r = refl
-ahead_seen (Some t) r = refl
-
-pub ahead_copied : (s t : Option Token) (q r : Remaining) → option_map piece s ≡ option_map piece t → q ≡ r
-    → with_token_ahead s q ≡ with_token_ahead t r
-ahead_copied s t q r e f =
-    ahead_seen s q ∙ ap (λ (p : Option Piece). ahead_of p q) e
-    ∙ ap (λ (rest : Remaining). ahead_of (option_map piece t) rest) f ∙ sym (ahead_seen t r)
 
 -- ## A reader, part by part
 

@@ -2,6 +2,7 @@ pub mod Given
 pub mod ListedNames
 pub mod Names
 pub mod Passing
+pub mod Properties
 pub mod Walk
 pub mod Sizes
 pub mod Unroll

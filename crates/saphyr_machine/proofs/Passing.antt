@@ -3,14 +3,18 @@ use Rattle.std.proofs.Common.{◌≡◌, ℕ, ◌<◌, Bool, true, false, List, 
 use Rattle.saphyr_scalar.specs.declared.scalar.position.Marker.{Marker}
 use Rattle.saphyr_scalar.specs.declared.scalar.fault.Refusal.{Refusal}
 use Rattle.saphyr_scalar.specs.declared.scalar.fault.FaultText.TheVariants as fault
-use Rattle.std.specs.Prelude.{if◌then◌else◌}
+use Rattle.std.specs.Prelude.{if◌then◌else◌, Option, Some}
 use Rattle.saphyr_scalar.specs.declared.scalar.fault.Stop.{Stop}
 use Rattle.saphyr_scalar.specs.declared.scalar.fault.Stop.TheVariants as stop
 use Rattle.saphyr_scalar.specs.Views.Reader.{Fails}
 use Rattle.saphyr_scanner.specs.Grammar.Tokens as tokens
 use Rattle.saphyr_scanner.specs.Grammar.Tokens.{Kind}
-use Rattle.saphyr_scanner.specs.Views.Tokens.{Piece, Remaining}
-use Rattle.saphyr_machine.specs.Steps.Machine.{◌>>=◌, Machine, taken_token, taken_token_from, with_pieces, Names, is_listed}
+use Rattle.saphyr_scalar.specs.declared.scalar.style.ScalarStyle.{ScalarStyle}
+use Rattle.saphyr_scanner.specs.declared.token.TokenKind.{TokenKind}
+use Rattle.saphyr_scanner.specs.Views.Tokens.{Parts, Piece, Remaining, before, kind_with, none, refusal_alone, style_of}
+use Rattle.saphyr_machine.specs.declared.state.State.{State}
+use Rattle.saphyr_machine.specs.Views.Machines.{with_end}
+use Rattle.saphyr_machine.specs.Steps.Machine.{◌>>=◌, Machine, ending_refusal, push, put_back, taken_token, taken_token_from, with_pieces, Names, is_listed}
 use Rattle.saphyr_machine.specs.Steps.Documents.{unpassed_token, unpassed_token_from, Declared, is_directive, directive_at, directives, directives_from}
 
 ok_inside : {A : Type 0} (x y : A) → (let r : Result A Refusal = Ok x in r) ≡ Ok y → x ≡ y
@@ -196,3 +200,81 @@ pub directives_fail : (d0 d : Declared) (first m : Machine) (f : Stop) → direc
 unfolding directives
 directives_fail d0 d first m stop.OutOfMemory i h = tt
 directives_fail d0 d first m (stop.Refused f) i h = sym i ∙ breaks_from m.tokens.pieces d m f h
+
+-- After a directive there are fewer tokens.
+pub shorter_behind : (m n k : Machine) (t : Piece) (d e : Declared) → taken_token m ≡ Ok (t, n)
+    → directive_at t.kind t d n ≡ Ok (e, k) → length k.tokens.pieces < length m.tokens.pieces
+shorter_behind m n k t d e h s =
+    subst (λ (r : Remaining). length r.pieces < length m.tokens.pieces) (sym (tokens_kept t.kind t d e n k s))
+    (shorter m n t h)
+
+-- ## A token that stays
+
+back_again : (ts : List Piece) (m n : Machine) (t : Piece) → m.tokens.pieces ≡ ts → taken_token_from ts m ≡ Ok (t, n)
+    → put_back t n ≡ m
+back_again [] m n t is e = absurd (cc)
+back_again (x ∷ ts) m n t is e =
+    let same : x ≡ t = first_is x t (with_pieces ts m) n e in
+    let left : with_pieces ts m ≡ n = same_machine x t (with_pieces ts m) n e in
+    (λ i. put_back (sym same i) (sym left i))
+    ∙ ap (λ (us : List Piece). record m { tokens = record { pieces = us; refusal = m.tokens.refusal } }) (sym is)
+
+-- What is taken and put back is as it was.
+pub put_back_again : (m n : Machine) (t : Piece) → taken_token m ≡ Ok (t, n) → put_back t n ≡ m
+put_back_again m n t e = back_again m.tokens.pieces m n t refl e
+
+-- ## The tokens of a scanner, and what ends them
+
+-- a machine with these tokens
+abbrev pub with_tokens : Option Refusal → Remaining → Machine → Machine
+with_tokens end r m = record m { tokens = with_end end r }
+
+-- the token that a machine takes, and the tokens that a scanner has left then
+abbrev pub TakesFirst : Option Refusal → Remaining → Machine → Piece → Machine → Type 0
+TakesFirst end r m t n = (left : Remaining) × (r ≡ before t left) × (n ≡ with_tokens end left m)
+
+pub takes_first : (end : Option Refusal) (r : Remaining) (m n : Machine) (t : Piece)
+    → taken_token (with_tokens end r m) ≡ Ok (t, n) → TakesFirst end r m t n
+takes_first end r m n t e = by r.pieces refl
+  where
+    by : (ps : List Piece) → r.pieces ≡ ps → TakesFirst end r m t n
+    by [] is = absurd (let none = rw is at e in cc)
+    by (x ∷ ts) is =
+        let took = ok_inside (x, with_tokens end (record { pieces = ts; refusal = r.refusal }) m) (t, n) (rw is at e) in
+        let same : x ≡ t = ap (λ (p : Piece × Machine). p.0) took in
+        let rest : with_tokens end (record { pieces = ts; refusal = r.refusal }) m ≡ n =
+        ap (λ (p : Piece × Machine). p.1) took in (
+          record { pieces = ts; refusal = r.refusal },
+          (λ i. record { pieces = is i; refusal = r.refusal })
+              ∙ ap (λ u. before u (record { pieces = ts; refusal = r.refusal })) same,
+          sym rest,
+        )
+
+pub first_taken : (end : Option Refusal) (r left : Remaining) (m : Machine) (t : Piece) → r ≡ before t left
+    → taken_token (with_tokens end r m) ≡ Ok (t, with_tokens end left m)
+first_taken end r left m t is = rw is refl
+
+-- Where the scanner has no token, its end or the caller's is told.
+pub none_taken : (end : Option Refusal) (r : Remaining) (m : Machine) → r ≡ none
+    → taken_token (with_tokens end r m) ≡ Err (ending_refusal end)
+none_taken end r m is = rw is refl
+
+pub refused_taken : (end : Option Refusal) (r : Remaining) (m : Machine) (e : Refusal) → r ≡ refusal_alone e
+    → taken_token (with_tokens end r m) ≡ Err e
+refused_taken end r m e is = rw is refl
+
+-- A token with a style is a scalar's.
+pub scalar_of : (kind : TokenKind) (style : ScalarStyle) (x : Parts) → style_of kind ≡ Some style
+    → kind_with kind x ≡ tokens.Scalar style x.text
+scalar_of kind style x e = grind arith
+
+-- What is expected later is apart from the tokens.
+pub pushed : (s : State) (m n : Machine) (t : Piece) → taken_token m ≡ Ok (t, n)
+    → taken_token (push s m) ≡ Ok (t, push s n)
+pushed s m n t e = by m.tokens.pieces refl
+  where
+    by : (ps : List Piece) → m.tokens.pieces ≡ ps → taken_token (push s m) ≡ Ok (t, push s n)
+    by [] is = absurd (let none = rw is at e in cc)
+    by (x ∷ ts) is =
+        let took = ok_inside (x, with_pieces ts m) (t, n) (rw is at e) in
+        rw is (ap (λ (p : Piece × Machine). Ok (p.0, push s p.1)) took)

@@ -1,7 +1,6 @@
 //! Copies of machines and of readers.
 
 ghost use Rattle.std.specs.Prelude.{◌≡◌, IfOk, option_map};
-ghost use Rattle.saphyr_scanner.specs.Views.Tokens.{piece};
 ghost use Rattle.saphyr_machine.specs.Cursor.{event_of};
 ghost use Rattle.saphyr_machine.specs.Views.Kept.{kept_of};
 
@@ -11,18 +10,7 @@ use crate::machine::Machine;
 use crate::reader::EventReader;
 use saphyr_input::input::CloneInput;
 use saphyr_scalar::Span;
-use saphyr_scanner::Token;
 use std::alloc::AllocError;
-
-// An equal token, if there is one.
-fn copy_token(token: &Option<Token>) -> Result<Option<Token>, AllocError>
-    ensures { IfOk result (λ copy. option_map piece copy ≡ option_map piece token.now) }
-{
-    match token {
-        Some(token) => Ok(Some(token.try_clone()?)),
-        None => Ok(None),
-    }
-}
 
 // An equal event at the same place, if there is one.
 fn copy_event<'input>(
@@ -59,12 +47,10 @@ impl<T: CloneInput> Machine<T> {
         let states = self.states.try_clone()?;
         let anchors = self.anchors.try_clone()?;
         let prefixes = self.prefixes.try_clone()?;
-        let token = copy_token(&self.token)?;
         // The scanner comes last. So no copy of a scanner is dropped here, which would be expensive to prove.
         match self.scanner.try_clone() {
             Ok(scanner) => Ok(Machine {
                 scanner,
-                token,
                 end: self.end,
                 state: self.state.copied(),
                 states,
@@ -72,12 +58,8 @@ impl<T: CloneInput> Machine<T> {
                 prefixes,
                 keep_tags: self.keep_tags,
                 alloc: self.alloc,
-                stop: self.stop,
             }),
-            Err(e) => {
-                drop(token);
-                Err(e)
-            }
+            Err(e) => Err(e),
         }
     }
 }

@@ -2,39 +2,37 @@
 //! (YAML 1.2.2, 6.8 and chapter 9).
 
 ghost use Rattle.std.specs.Prelude.{◌≡◌, ℕ, List, None, false, string_bytes};
-ghost use Rattle.saphyr_scanner.specs.Views.Tokens.{kind_of};
+ghost use Rattle.saphyr_scanner.specs.Views.Tokens.{Parts, kind_with};
 ghost use Rattle.saphyr_machine.specs.Steps.Documents as spec;
 
 use crate::context::NodeContext;
 use crate::event::Event;
 use crate::handles::Handles;
-use crate::machine::{Machine, place_of, refuse, tell};
+use crate::machine::{Machine, tell};
 use crate::prefixes::Prefixes;
 use crate::state::State;
 use saphyr_input::input::Input;
-use saphyr_scalar::{FaultText, Marker, Span, Stop};
-use saphyr_scanner::{TagPrefix, Token, TokenType};
+use saphyr_scalar::{FaultText, Marker, Span};
+use saphyr_scanner::{Stopped, TokenKind, TokenParts};
 use std::alloc::Global;
 
 // Whether a token of the kind is passed: a byte order mark or, where this is true, the end of a document.
-fn is_passable(kind: &TokenType, ends: bool) -> bool
-    ensures { result ≡ spec.is_passable ends (kind_of kind.now) }
+fn is_passable(kind: TokenKind, ends: bool) -> bool
+    ensures { (x : Parts) → result ≡ spec.is_passable ends (kind_with kind x) }
 {
     match kind {
-        TokenType::ByteOrderMark => true,
-        TokenType::DocumentEnd => ends,
+        TokenKind::ByteOrderMark => true,
+        TokenKind::DocumentEnd => ends,
         _ => false,
     }
 }
 
-fn is_directive(kind: &TokenType) -> bool
-    ensures { result ≡ spec.is_directive (kind_of kind.now) }
+fn is_directive(kind: TokenKind) -> bool
+    ensures { (x : Parts) → result ≡ spec.is_directive (kind_with kind x) }
 {
     matches!(
         kind,
-        TokenType::VersionDirective(..)
-            | TokenType::TagDirective(..)
-            | TokenType::ReservedDirective(_)
+        TokenKind::VersionDirective | TokenKind::TagDirective | TokenKind::ReservedDirective
     )
 }
 
@@ -50,7 +48,6 @@ pub struct Declared {
 
 impl Declared {
     ghost use Rattle.saphyr_machine.specs.Steps.Machine.{Names, is_listed};
-    ghost use Rattle.saphyr_scalar.specs.Views.Reader.{Moves};
     ghost use Rattle.saphyr_machine.specs.Views.Documents.{declared_of};
 
     fn nothing(alloc: Global, prefixes: &Prefixes) -> Declared
@@ -73,105 +70,113 @@ impl Declared {
             prefixes.contains(handle)
         }
     }
-
-    // A version may be declared once.
-    fn add_version(&mut self, place: Marker) -> Result<(), Stop>
-        ensures { (prefixes : Names (List ℕ)) → Moves (λ _. declared_of self.new prefixes) result
-            (spec.with_version place (declared_of self.old prefixes)) }
-    {
-        if self.version {
-            return Err(refuse(FaultText::DuplicateVersionDirective, place));
-        }
-        self.version = true;
-        Ok(())
-    }
 }
 
 impl<T: Input> Machine<T> {
-    ghost use Rattle.std.specs.Prelude.{IfOk};
+    ghost use Rattle.std.specs.Prelude.{Ok, List, ℕ, true};
     ghost use Rattle.saphyr_scalar.specs.Views.Reader.{Moves};
-    ghost use Rattle.saphyr_scanner.specs.Views.Tokens.{piece};
+    ghost use Rattle.saphyr_scanner.specs.Views.Engine.{stopped_by};
+    ghost use Rattle.saphyr_scanner.specs.Views.Scanning.{IsReady};
+    ghost use Rattle.saphyr_scanner.specs.Grammar.Tokens as tokens;
+    ghost use Rattle.saphyr_scanner.specs.Views.Tokens.{Piece};
     ghost use Rattle.saphyr_machine.specs.Views.Events.{has_tag};
-    ghost use Rattle.saphyr_machine.specs.Views.Machines.{machine_of, TellsBy, TakesBy};
+    ghost use Rattle.saphyr_machine.specs.Views.Machines.{machine_of, told_event_of, ComesTo, IsNext, TellsBy};
     ghost use Rattle.saphyr_machine.specs.Steps.Machine as machine;
+    ghost use Rattle.saphyr_machine.specs.Steps.Machine.{taken_token};
     ghost use Rattle.saphyr_machine.specs.Events as events;
-    ghost use Rattle.saphyr_machine.specs.declared.state.State.TheVariants.{DocumentEnd};
+    ghost use Rattle.saphyr_machine.specs.declared.state.State.TheVariants.{DocumentEnd, End};
     ghost use Rattle.saphyr_machine.specs.Views.Documents.{declared_of as seen};
 
-    // Takes the first token after byte order marks and, where this is true, ends of documents.
-    fn pass_marks(&mut self, ends: bool) -> Result<Token, Stop>
-        ensures taken { TakesBy (spec.unpassed_token (spec.is_passable ends))
-            self.old result self.new }
-        ensures room { IfOk result (λ t. self.new.token ≡ None) }
+    // Passes byte order marks and, where this is true, ends of documents. Returns the kind of the token that is next.
+    fn pass_marks(&mut self, ends: bool) -> Result<TokenKind, Stopped>
+        ensures { ComesTo (spec.unpassed_token (spec.is_passable ends)) self.old result self.new }
     {
         loop {
-            let token = self.take()?;
-            if !is_passable(&token.kind, ends) {
-                return Ok(token);
+            let kind = self.peek()?;
+            if !is_passable(kind, ends) {
+                return Ok(kind);
             }
-            let _ = place_of(token);
+            self.skip();
         }
     }
 
-    // Each handle may be declared once.
-    #[tactic(auto, using(crate::proofs::Names::given_names))]
-    fn tag_directive(
-        &mut self,
-        tag: &TagPrefix,
-        place: Marker,
-        declared: &mut Declared,
-    ) -> Result<(), Stop>
-        ensures { Moves {Y = spec.Declared × machine.Machine}
-            (λ _. (seen declared.new self.new.prefixes, machine_of self.new)) result
-            (spec.with_handle (string_bytes tag.now.handle) (string_bytes tag.now.prefix) place
-            (seen declared.old self.old.prefixes) (machine_of self.old)) }
+    // Takes a version directive. A version may be declared once.
+    fn version_directive(&mut self, declared: &mut Declared) -> Result<(), Stopped>
+        requires { IsReady self.old.scanner }
+        ensures { (t : Piece) (m : machine.Machine) → taken_token (machine_of self.old) ≡ Ok (t, m)
+            → Moves {Y = spec.Declared × machine.Machine}
+            (λ _. (seen declared.new self.new.prefixes, machine_of self.new))
+            (stopped_by result self.new.scanner.stop)
+            (spec.version_declared t.span.start (seen declared.old self.old.prefixes) m) }
     {
-        if declared.has(tag.handle.as_str(), &self.prefixes) {
-            return Err(refuse(FaultText::DuplicateTagDirective, place));
+        let place = self.pass().start;
+        if declared.version {
+            return Err(self.refuse(FaultText::DuplicateVersionDirective, place));
+        }
+        declared.version = true;
+        Ok(())
+    }
+
+    // Takes a tag directive. Each handle may be declared once.
+    #[tactic(auto, using(crate::proofs::Names::given_names))]
+    fn tag_directive(&mut self, declared: &mut Declared) -> Result<(), Stopped>
+        requires { IsReady self.old.scanner }
+        ensures { (t : Piece) (m : machine.Machine) (handle prefix : List ℕ)
+            → taken_token (machine_of self.old) ≡ Ok (t, m)
+            → t.kind ≡ tokens.TagDirective handle prefix
+            → Moves {Y = spec.Declared × machine.Machine}
+            (λ _. (seen declared.new self.new.prefixes, machine_of self.new))
+            (stopped_by result self.new.scanner.stop)
+            (spec.with_handle handle prefix t.span.start (seen declared.old self.old.prefixes) m) }
+    {
+        let place = self.span().start;
+        let TokenParts {
+            handle,
+            text: prefix,
+            ..
+        } = self.take_parts()?;
+        if declared.has(handle.as_str(), &self.prefixes) {
+            return Err(self.refuse(FaultText::DuplicateTagDirective, place));
         }
         if declared.apart {
-            declared.handles.insert(tag.handle.clone()?)?;
+            let noted = declared.handles.insert(&handle);
+            self.scanner.keep(noted)?;
         }
-        self.prefixes.declare(tag)
+        let declared = self.prefixes.declare(&handle, &prefix);
+        self.scanner.keep(declared)
     }
 
-    // What a directive declares. Reserved directives are ignored.
-    fn directive(&mut self, token: Token, declared: &mut Declared) -> Result<(), Stop>
-        ensures { Moves {Y = spec.Declared × machine.Machine}
-            (λ _. (seen declared.new self.new.prefixes, machine_of self.new)) result
-            (spec.directive_at (piece token).kind (piece token)
-            (seen declared.old self.old.prefixes) (machine_of self.old)) }
+    // Takes a directive. Reserved ones are ignored.
+    fn directive(&mut self, kind: TokenKind, declared: &mut Declared) -> Result<(), Stopped>
+        requires { IsNext kind self.old }
+        ensures { (t : Piece) (m : machine.Machine) → taken_token (machine_of self.old) ≡ Ok (t, m)
+            → spec.is_directive t.kind ≡ true
+            → Moves {Y = spec.Declared × machine.Machine}
+            (λ _. (seen declared.new self.new.prefixes, machine_of self.new))
+            (stopped_by result self.new.scanner.stop)
+            (spec.directive_at t.kind t (seen declared.old self.old.prefixes) m) }
     {
-        let Token { span, kind } = token;
         match kind {
-            TokenType::VersionDirective(_major, _minor) => {
-                drop(kind);
-                declared.add_version(span.start)
-            }
-            TokenType::TagDirective(tag) => {
-                let tag = Box::into_inner(tag);
-                let told = self.tag_directive(&tag, span.start, declared);
-                drop(tag);
-                told
-            }
-            kind => {
-                drop(kind);
+            TokenKind::VersionDirective => self.version_directive(declared),
+            TokenKind::TagDirective => self.tag_directive(declared),
+            _ => {
+                self.skip();
                 Ok(())
             }
         }
     }
 
-    // Takes the first token after the directives.
-    fn directives(&mut self) -> Result<Token, Stop>
-        ensures { TakesBy (spec.directives spec.none_declared) self.old result self.new }
+    // Takes the directives. Returns the kind of the token that is next.
+    fn directives(&mut self) -> Result<TokenKind, Stopped>
+        ensures { ComesTo (spec.directives spec.none_declared) self.old result self.new }
     {
         let mut declared = Declared::nothing(self.alloc, &self.prefixes);
         loop {
-            let token = self.take()?;
-            if !is_directive(&token.kind) {
-                return Ok(token);
+            let kind = self.peek()?;
+            if !is_directive(kind) {
+                return Ok(kind);
             }
-            self.directive(token, &mut declared)?;
+            self.directive(kind, &mut declared)?;
         }
     }
 
@@ -180,17 +185,17 @@ impl<T: Input> Machine<T> {
     pub(super) fn stream_start<'input>(
         &mut self,
         next: &mut (Event<'input>, Span),
-    ) -> Result<(), Stop>
+    ) -> Result<(), Stopped>
         ensures { TellsBy spec.stream_start self.old result next.new self.new }
     {
-        let token = self.take()?;
-        match token.kind {
-            TokenType::StreamStart => {
+        match self.peek()? {
+            TokenKind::StreamStart => {
+                let span = self.pass();
                 self.state.set(State::ImplicitDocumentStart);
-                tell(next, Event::StreamStart, place_of(token));
+                tell(next, Event::StreamStart, span);
                 Ok(())
             }
-            _ => Err(refuse(FaultText::DocumentStartExpected, place_of(token).start)),
+            _ => Err(self.refuse_next(FaultText::DocumentStartExpected)),
         }
     }
 
@@ -202,7 +207,7 @@ impl<T: Input> Machine<T> {
         state: State,
         span: Span,
         next: &mut (Event<'input>, Span),
-    ) -> Result<(), Stop>
+    ) -> Result<(), Stopped>
         ensures { TellsBy (λ m. machine.told_event (events.DocumentStart explicit) span
             (machine.with_state state (machine.push DocumentEnd (spec.without_anchors m))))
             self.old result next.new self.new }
@@ -214,171 +219,148 @@ impl<T: Input> Machine<T> {
         Ok(())
     }
 
-    // A document with `---`, whose directives begin with the token.
-    #[tactic(auto, unfolding(crate::specs::Steps::Documents::explicit_document))]
-    fn explicit_document<'input>(
-        &mut self,
-        token: Token,
-        next: &mut (Event<'input>, Span),
-    ) -> Result<(), Stop>
-        requires { self.old.token ≡ None }
-        ensures { TellsBy (spec.explicit_document (piece token)) self.old result next.new self.new }
+    // A document with `---`, whose directives begin with the next token.
+    fn explicit_document<'input>(&mut self, next: &mut (Event<'input>, Span)) -> Result<(), Stopped>
+        ensures { TellsBy spec.next_document self.old result next.new self.new }
     {
-        self.put_back(token);
-        let token = self.directives()?;
-        match token.kind {
-            TokenType::DocumentStart => {
-                self.begin_document(true, State::DocumentContent, place_of(token), next)
+        match self.directives()? {
+            TokenKind::DocumentStart => {
+                let span = self.pass();
+                self.begin_document(true, State::DocumentContent, span, next)
             }
-            TokenType::ByteOrderMark => {
-                Err(refuse(FaultText::MisplacedByteOrderMark, place_of(token).start))
-            }
-            _ => Err(refuse(FaultText::DocumentStartExpected, place_of(token).start)),
+            TokenKind::ByteOrderMark => Err(self.refuse_next(FaultText::MisplacedByteOrderMark)),
+            _ => Err(self.refuse_next(FaultText::DocumentStartExpected)),
         }
     }
 
-    // A document without `---`, whose content begins with the token.
-    #[tactic(auto, unfolding(crate::specs::Steps::Documents::bare_document))]
-    fn bare_document<'input>(
-        &mut self,
-        token: Token,
-        next: &mut (Event<'input>, Span),
-    ) -> Result<(), Stop>
-        requires { self.old.token ≡ None }
-        ensures { TellsBy (spec.bare_document (piece token)) self.old result next.new self.new }
+    // The end of the stream.
+    fn end_stream<'input>(&mut self, next: &mut (Event<'input>, Span))
+        requires { IsReady self.old.scanner }
+        ensures { (t : Piece) (m : machine.Machine) → taken_token (machine_of self.old) ≡ Ok (t, m)
+            → machine.told_event events.StreamEnd t.span (machine.with_state End m)
+            ≡ Ok (told_event_of (machine_of self.new) next.new) }
     {
-        let span = token.span;
-        self.put_back(token);
-        self.begin_document(false, State::BlockNode, span, next)
+        let span = self.pass();
+        self.state.set(State::End);
+        tell(next, Event::StreamEnd, span);
     }
 
     // The start of a document that may begin without `---`, or the end of the stream.
-    #[tactic(auto, unfolding(crate::specs::Steps::Documents::implicit_start))]
+    #[tactic(auto, unfolding(crate::specs::Steps::Documents::implicit_start, crate::specs::Steps::Documents::bare_document, crate::specs::Steps::Documents::explicit_document), using(crate::proofs::Passing::put_back_again))]
     pub(super) fn implicit_document_start<'input>(
         &mut self,
         next: &mut (Event<'input>, Span),
-    ) -> Result<(), Stop>
+    ) -> Result<(), Stopped>
         ensures { TellsBy spec.implicit_start self.old result next.new self.new }
     {
-        let token = self.pass_marks(true)?;
-        match token.kind {
-            TokenType::StreamEnd => {
-                self.state.set(State::End);
-                tell(next, Event::StreamEnd, place_of(token));
+        match self.pass_marks(true)? {
+            TokenKind::StreamEnd => {
+                self.end_stream(next);
                 Ok(())
             }
-            TokenType::VersionDirective(..)
-            | TokenType::TagDirective(..)
-            | TokenType::ReservedDirective(_)
-            | TokenType::DocumentStart => self.explicit_document(token, next),
-            _ => self.bare_document(token, next),
+            TokenKind::VersionDirective
+            | TokenKind::TagDirective
+            | TokenKind::ReservedDirective
+            | TokenKind::DocumentStart => self.explicit_document(next),
+            _ => {
+                let span = self.span();
+                self.begin_document(false, State::BlockNode, span, next)
+            }
         }
     }
 
     // The start of a document that begins with `---`, or the end of the stream.
-    #[tactic(auto, unfolding(crate::specs::Steps::Documents::explicit_start))]
+    #[tactic(auto, unfolding(crate::specs::Steps::Documents::explicit_start, crate::specs::Steps::Documents::explicit_document), using(crate::proofs::Passing::put_back_again))]
     pub(super) fn document_start<'input>(
         &mut self,
         next: &mut (Event<'input>, Span),
-    ) -> Result<(), Stop>
+    ) -> Result<(), Stopped>
         ensures { TellsBy spec.explicit_start self.old result next.new self.new }
     {
-        let token = self.pass_marks(true)?;
-        match token.kind {
-            TokenType::StreamEnd => {
-                self.state.set(State::End);
-                tell(next, Event::StreamEnd, place_of(token));
+        match self.pass_marks(true)? {
+            TokenKind::StreamEnd => {
+                self.end_stream(next);
                 Ok(())
             }
-            _ => self.explicit_document(token, next),
+            _ => self.explicit_document(next),
         }
     }
 
     // What follows `---`.
-    #[tactic(auto, unfolding(crate::specs::Steps::Documents::document_content))]
+    #[tactic(auto, unfolding(crate::specs::Steps::Documents::document_content), using(crate::proofs::Passing::put_back_again))]
     pub(super) fn document_content<'input>(
         &mut self,
         next: &mut (Event<'input>, Span),
-    ) -> Result<(), Stop>
+    ) -> Result<(), Stopped>
         requires { has_tag next.old.0 ≡ false }
         ensures { TellsBy spec.document_content self.old result next.new self.new }
     {
-        let token = self.take()?;
-        match token.kind {
-            TokenType::VersionDirective(..)
-            | TokenType::TagDirective(..)
-            | TokenType::ReservedDirective(_)
-            | TokenType::DocumentStart
-            | TokenType::DocumentEnd
-            | TokenType::ByteOrderMark
-            | TokenType::StreamEnd => {
-                let span = token.span;
-                self.put_back(token);
+        match self.peek()? {
+            TokenKind::VersionDirective
+            | TokenKind::TagDirective
+            | TokenKind::ReservedDirective
+            | TokenKind::DocumentStart
+            | TokenKind::DocumentEnd
+            | TokenKind::ByteOrderMark
+            | TokenKind::StreamEnd => {
+                let span = self.span();
                 self.pop();
                 tell(next, self.empty_scalar(), span);
                 Ok(())
             }
-            _ => self.node(NodeContext::Block, token, next),
+            kind => self.node(NodeContext::Block, kind, next),
         }
     }
 
-    // Takes the token after the byte order marks that end a document. The first of these has this place.
-    // Only a marker or the end may follow them.
+    // Passes the byte order marks that end a document. The first of these has this place. Only a marker or the end may
+    // follow them.
     #[tactic(auto, unfolding(crate::specs::Steps::Documents::token_behind_marks))]
-    fn behind_marks(&mut self, first: Marker) -> Result<Token, Stop>
-        ensures taken { TakesBy (spec.token_behind_marks first) self.old result self.new }
-        ensures room { IfOk result (λ t. self.new.token ≡ None) }
+    fn behind_marks(&mut self, first: Marker) -> Result<TokenKind, Stopped>
+        ensures { ComesTo (spec.token_behind_marks first) self.old result self.new }
     {
-        let token = self.pass_marks(false)?;
-        match token.kind {
-            TokenType::DocumentStart | TokenType::DocumentEnd | TokenType::StreamEnd => Ok(token),
-            _ => {
-                drop(token);
-                Err(refuse(FaultText::MisplacedByteOrderMark, first))
-            }
+        let kind = self.pass_marks(false)?;
+        match kind {
+            TokenKind::DocumentStart | TokenKind::DocumentEnd | TokenKind::StreamEnd => Ok(kind),
+            _ => Err(self.refuse(FaultText::MisplacedByteOrderMark, first)),
         }
     }
 
-    // Takes the token after a document and its byte order marks.
+    // Comes to the token after a document and its byte order marks.
     #[tactic(auto, unfolding(crate::specs::Steps::Documents::token_behind_document))]
-    fn behind_document(&mut self) -> Result<Token, Stop>
-        ensures taken { TakesBy spec.token_behind_document self.old result self.new }
-        ensures room { IfOk result (λ t. self.new.token ≡ None) }
+    fn behind_document(&mut self) -> Result<TokenKind, Stopped>
+        ensures { ComesTo spec.token_behind_document self.old result self.new }
     {
-        let token = self.take()?;
-        match token.kind {
-            TokenType::ByteOrderMark => self.behind_marks(place_of(token).start),
-            _ => Ok(token),
+        let kind = self.peek()?;
+        if !matches!(kind, TokenKind::ByteOrderMark) {
+            return Ok(kind);
         }
+        let first = self.pass().start;
+        self.behind_marks(first)
     }
 
     // The end of a document.
-    #[tactic(auto, unfolding(crate::specs::Steps::Documents::document_end))]
+    #[tactic(auto, unfolding(crate::specs::Steps::Documents::document_end), using(crate::proofs::Passing::put_back_again))]
     pub(super) fn document_end<'input>(
         &mut self,
         next: &mut (Event<'input>, Span),
-    ) -> Result<(), Stop>
+    ) -> Result<(), Stopped>
         ensures { TellsBy spec.document_end self.old result next.new self.new }
     {
-        let token = self.behind_document()?;
-        let span = token.span;
-        if !self.keep_tags {
-            self.prefixes.forget();
-        }
-        match token.kind {
-            TokenType::DocumentEnd => {
-                let _ = place_of(token);
+        let kind = self.behind_document()?;
+        let span = self.span();
+        match kind {
+            TokenKind::DocumentEnd => {
+                self.skip();
                 self.state.set(State::ImplicitDocumentStart);
             }
-            TokenType::VersionDirective(..)
-            | TokenType::TagDirective(..)
-            | TokenType::ReservedDirective(_) => {
-                return Err(refuse(FaultText::DocumentEndExpected, place_of(token).start));
-            }
-            _ => {
-                self.put_back(token);
-                self.state.set(State::DocumentStart);
-            }
+            TokenKind::VersionDirective | TokenKind::TagDirective | TokenKind::ReservedDirective =>
+                {
+                    return Err(self.refuse_next(FaultText::DocumentEndExpected));
+                }
+            _ => self.state.set(State::DocumentStart),
+        }
+        if !self.keep_tags {
+            self.prefixes.forget();
         }
         tell(next, Event::DocumentEnd, span);
         Ok(())

@@ -1,10 +1,9 @@
 //! The handles that a document's directives have declared. None may be declared twice (YAML 1.2.2, 6.8.2).
 
-ghost use Rattle.std.specs.Prelude.{◌≡◌, Bool, ℕ, List, not, Ok, string_bytes};
+ghost use Rattle.std.specs.Prelude.{◌≡◌, OnOk, string_bytes};
 ghost use Rattle.saphyr_machine.specs.Steps.Machine as spec;
 
-use saphyr_scalar::Stop;
-use std::alloc::Global;
+use std::alloc::{AllocError, Global};
 use std::collections::BTreeSet;
 use std::marker::Model;
 
@@ -25,7 +24,6 @@ impl Model for Handles {
 
 impl Handles {
     ghost use Rattle.std.specs.Prelude.{[]};
-    ghost use Rattle.saphyr_scalar.specs.Views.Reader.{Moves};
 
     pub fn new(alloc: Global) -> Handles
         ensures { result ≡ [] }
@@ -42,11 +40,11 @@ impl Handles {
     }
 
     #[tactic(auto, using(crate::proofs::Names::names_listed))]
-    pub fn insert(&mut self, handle: String) -> Result<(), Stop>
-        ensures { Moves (λ _. self.new) result
-            (Ok (spec.with_name (string_bytes handle) self.old)) }
+    pub fn insert(&mut self, handle: &String) -> Result<(), AllocError>
+        ensures { OnOk result
+            (self.new ≡ spec.with_name (string_bytes handle.now) self.old) }
     {
-        self.declared.insert(handle)?;
+        self.declared.insert(handle.clone()?)?;
         Ok(())
     }
 }

@@ -2,8 +2,7 @@
 //! `block` and `flow` have the functions of the states, `node` reads the nodes, and `step` chooses the state's
 //! function.
 
-ghost use Rattle.std.specs.Prelude.{◌≡◌, None, false};
-ghost use Rattle.saphyr_scanner.specs.Views.Tokens.{piece};
+ghost use Rattle.std.specs.Prelude.{◌≡◌, false, string_bytes};
 ghost use Rattle.saphyr_machine.specs.Events.{empty_scalar};
 ghost use Rattle.saphyr_machine.specs.Steps.Machine as spec;
 ghost use Rattle.saphyr_machine.specs.Views.Events.{has_tag};
@@ -15,21 +14,18 @@ use crate::state::State;
 use crate::states::{Expected, States};
 use saphyr_input::input::Input;
 use saphyr_scalar::{FaultText, Marker, Refusal, ScalarStyle, Span, Stop};
-use saphyr_scanner::{Indicator, NodeStart, Scanner, Token, Which};
+use saphyr_scanner::{Scanner, Stopped, TokenKind, TokenParts};
 use std::alloc::Global;
 use std::borrow::CowStr;
-use std::mem::forget;
 
 /// What turns tokens into events.
 ///
-/// Its steps are inlined, and write the event into a place that they are given, since tokens and events are
-/// large to move.
+/// Its steps are inlined, and write the event into a place that they are given, since events are large to move. What
+/// ended the reading, once a step has stopped, is kept by the scanner.
 #[derive(Drop)]
 pub struct Machine<T: Input> {
     // Where the tokens come from.
     pub(super) scanner: Scanner<T>,
-    // A token that was taken and put back. It comes before those of the scanner.
-    pub(super) token: Option<Token>,
     // What ends the tokens of the scanner, where its caller says so.
     pub(super) end: Option<Refusal>,
     // What is expected next.
@@ -44,23 +40,6 @@ pub struct Machine<T: Input> {
     pub(super) keep_tags: bool,
     // Where the memory of events comes from.
     pub(super) alloc: Global,
-    // What ended the reading, once a call has returned `false`.
-    pub(super) stop: Stop,
-}
-
-// A refusal at a place.
-pub(super) fn refuse(text: FaultText, mark: Marker) -> Stop
-    ensures { result ≡ Stop.Refused (record { text = text; mark = mark }) }
-{
-    Stop::Refused(Refusal { text, mark })
-}
-
-// Where the token stands, which is let go of.
-#[inline(always)]
-pub(super) fn place_of(token: Token) -> Span
-    ensures { result ≡ (piece token).span }
-{
-    token.span
 }
 
 // Writes an event and its span over an event whose text was taken out before.
@@ -72,7 +51,7 @@ pub(super) fn tell<'input>(next: &mut (Event<'input>, Span), event: Event<'input
     next.1 = span;
 }
 
-// The same over an event that has no tag. For speed that isn't tested.
+// Writes an event and its span over an event that has no tag, which for speed isn't tested.
 #[inline(always)]
 pub(super) fn tell_over<'input>(next: &mut (Event<'input>, Span), event: Event<'input>, span: Span)
     requires { has_tag next.old.0 ≡ false }
@@ -83,29 +62,21 @@ pub(super) fn tell_over<'input>(next: &mut (Event<'input>, Span), event: Event<'
 }
 
 impl<T: Input> Machine<T> {
-    ghost use Rattle.std.specs.Prelude.{IfOk, IfNone, IfSome, Ok};
+    ghost use Rattle.std.specs.Prelude.{List, ℕ, IfOk, OnErr, OnOk, Ok, Some};
     ghost use Rattle.saphyr_scalar.specs.Views.Reader.{Moves};
-    ghost use Rattle.saphyr_scanner.specs.Views.Engine.{answer_of};
-    ghost use Rattle.saphyr_scanner.specs.Views.Places.{indicator_kind};
-    ghost use Rattle.saphyr_scanner.specs.Views.Tokens.{start_piece, which_piece, KeepsSpan};
-    ghost use Rattle.saphyr_machine.specs.Views.Machines.{
-      machine_of,
-      happening,
-      told_event_of,
-      HasRoom,
-      IsTakenOff,
-      PassesTokenBy,
-      TakesBy,
-      TakesSomeBy,
-    };
+    ghost use Rattle.saphyr_scalar.specs.declared.scalar.fault.Stop.TheVariants.{OutOfMemory, Refused};
+    ghost use Rattle.saphyr_scanner.specs.Views.Engine.{stopped_by};
+    ghost use Rattle.saphyr_scanner.specs.Views.Scanning.{IsReady, tokens_of};
+    ghost use Rattle.saphyr_scanner.specs.Views.Tokens.{Piece, kind_with, parts, text_of, token_kind};
+    ghost use Rattle.saphyr_machine.specs.Steps.Machine.{Machine as Seen};
+    ghost use Rattle.saphyr_machine.specs.Views.Machines.{machine_of, happening, told_event_of, PeeksBy};
 
     // A machine that has read nothing.
     pub(super) fn new(alloc: Global, scanner: Scanner<T>) -> Self
-        ensures { machine_of result ≡ spec.fresh_machine scanner }
+        ensures { machine_of result ≡ spec.fresh_machine (tokens_of scanner) }
     {
         Machine {
             scanner,
-            token: None,
             end: None,
             state: Expected::new(),
             states: States::new(alloc),
@@ -113,155 +84,115 @@ impl<T: Input> Machine<T> {
             prefixes: Prefixes::new(alloc),
             keep_tags: false,
             alloc,
-            stop: Stop::OutOfMemory,
         }
     }
 
-    // Takes the token that was put back, if one was.
-    #[inline(always)]
-    fn take_back(&mut self) -> Option<Token>
-        ensures taken { IfSome result (λ t. spec.taken_token (machine_of self.old)
-            ≡ Ok (piece t, machine_of self.new)) }
-        ensures room { self.new.token ≡ None }
-        ensures same { IfNone result (self.new ≡ self.old) }
+    // The text is refused at a place.
+    pub(super) fn refuse(&mut self, text: FaultText, mark: Marker) -> Stopped
+        ensures { self.new.scanner.stop ≡ Refused (record { text = text; mark = mark }) }
     {
-        // Mostly there is none, and a test costs less than a move.
-        if self.token.is_none() {
-            return None;
+        self.scanner.stop_at(Stop::Refused(Refusal { text, mark }))
+    }
+
+    // The tokens are over.
+    #[inline(never)]
+    fn refuse_end(&mut self) -> Stopped
+        ensures { self.new.scanner.stop ≡ Refused (spec.ending_refusal self.old.end) }
+    {
+        match self.end {
+            Some(Refusal { text, mark }) => self.refuse(text, mark),
+            None => self.refuse(FaultText::DocumentStartExpected, Marker::new(0, 0, 0)),
         }
-        self.token.take()
+    }
+
+    // The kind of the next token, which stays.
+    #[inline(always)]
+    pub(super) fn peek(&mut self) -> Result<TokenKind, Stopped>
+        ensures { PeeksBy self.old result self.new }
+    {
+        match self.scanner.peek()? {
+            Some(kind) => Ok(kind),
+            None => Err(self.refuse_end()),
+        }
+    }
+
+    // The span of the next token.
+    #[inline(always)]
+    pub(super) fn span(&self) -> Span
+        requires { IsReady self.now.scanner }
+        ensures { (t : Piece) (m : Seen) → spec.taken_token (machine_of self.now) ≡ Ok (t, m)
+            → result ≡ t.span }
+    {
+        self.scanner.span()
     }
 
     // Takes the next token.
     #[inline(always)]
-    pub(super) fn take(&mut self) -> Result<Token, Stop>
-        ensures taken { TakesBy spec.taken_token self.old result self.new }
-        ensures room { IfOk result (λ t. self.new.token ≡ None) }
+    pub(super) fn skip(&mut self)
+        requires { IsReady self.old.scanner }
+        ensures { (t : Piece) (m : Seen) → spec.taken_token (machine_of self.old) ≡ Ok (t, m)
+            → machine_of self.new ≡ m }
     {
-        if let Some(token) = self.take_back() {
-            return Ok(token);
-        }
-        let mut token = Token::at_start();
-        match self.scanner.next_token_into(&mut token) {
-            Ok(true) => Ok(token),
-            Ok(false) => {
-                drop(token);
-                match self.end {
-                    Some(refusal) => Err(Stop::Refused(refusal)),
-                    None => Err(refuse(FaultText::DocumentStartExpected, Marker::new(0, 0, 0))),
-                }
-            }
-            Err(stop) => {
-                drop(token);
-                Err(stop)
-            }
-        }
+        self.scanner.skip();
     }
 
-    // Passes the next token, if it is seen to be this indicator, and returns its span. For speed no token is made.
+    // Takes the next token, and returns its span.
     #[inline(always)]
-    pub(super) fn pass(&mut self, indicator: Indicator) -> Result<Option<Span>, Stop>
-        ensures passed { PassesTokenBy (indicator_kind indicator) self.old result self.new }
-        ensures room { IfOk result (λ span. IfSome span (λ _. self.new.token ≡ None)) }
+    pub(super) fn pass(&mut self) -> Span
+        requires { IsReady self.old.scanner }
+        ensures span { (t : Piece) (m : Seen) → spec.taken_token (machine_of self.old) ≡ Ok (t, m)
+            → result ≡ t.span }
+        ensures left { (t : Piece) (m : Seen) → spec.taken_token (machine_of self.old) ≡ Ok (t, m)
+            → machine_of self.new ≡ m }
     {
-        if let Some(token) = &self.token {
-            if !indicator.is(&token.kind) {
-                return Ok(None);
-            }
-            let span = token.span;
-            // An indicator holds no memory.
-            forget(self.token.take());
-            return Ok(Some(span));
-        }
-        self.scanner.pass(indicator)
+        let span = self.span();
+        self.skip();
+        span
     }
 
-    // Passes the token that was put back, if it is one of these indicators, says which, and writes its span into
-    // `span`.
+    // Takes the next token, and returns its text.
     #[inline(always)]
-    fn pass_back(&mut self, first: Indicator, second: Indicator, span: &mut Span) -> Which
-        ensures passed { IsTakenOff
-            (which_piece (indicator_kind first) (indicator_kind second) span.new result)
-            (machine_of self.old) (machine_of self.new) }
-        ensures room { HasRoom (Ok result) self.new.token }
+    pub(super) fn take_text(&mut self) -> Result<String, Stopped>
+        requires { IsReady self.old.scanner }
+        ensures text { (t : Piece) (m : Seen) (text : List ℕ)
+            → spec.taken_token (machine_of self.old) ≡ Ok (t, m) → text_of t.kind ≡ Some text
+            → IfOk result (λ taken. string_bytes taken ≡ text) }
+        ensures left { (t : Piece) (m : Seen) → spec.taken_token (machine_of self.old) ≡ Ok (t, m)
+            → OnOk result (machine_of self.new ≡ m) }
+        ensures failed { OnErr result (self.new.scanner.stop ≡ OutOfMemory) }
     {
-        let Some(token) = &self.token else {
-            return Which::Neither;
-        };
-        let which = if first.is(&token.kind) {
-            Which::First
-        } else if second.is(&token.kind) {
-            Which::Second
-        } else {
-            return Which::Neither;
-        };
-        *span = token.span;
-        // An indicator holds no memory.
-        forget(self.token.take());
-        which
+        self.scanner.take_text()
     }
 
-    // Passes the next token, if it is seen to be one of these indicators, says which, and writes its span into `span`.
-    #[inline(always)]
-    pub(super) fn pass_either(
-        &mut self,
-        first: Indicator,
-        second: Indicator,
-        span: &mut Span,
-    ) -> Result<Which, Stop>
-        ensures passed { TakesSomeBy
-            (which_piece (indicator_kind first) (indicator_kind second) span.new)
-            self.old result self.new }
-        ensures room { HasRoom result self.new.token }
+    // Takes the next token, and returns its parts.
+    pub(super) fn take_parts(&mut self) -> Result<TokenParts, Stopped>
+        requires { IsReady self.old.scanner }
+        ensures parts { (t : Piece) (m : Seen)
+            → spec.taken_token (machine_of self.old) ≡ Ok (t, m)
+            → IfOk result (λ x. t.kind ≡ kind_with (token_kind t.kind) (parts x)) }
+        ensures left { (t : Piece) (m : Seen) → spec.taken_token (machine_of self.old) ≡ Ok (t, m)
+            → OnOk result (machine_of self.new ≡ m) }
+        ensures failed { OnErr result (self.new.scanner.stop ≡ OutOfMemory) }
     {
-        if self.token.is_some() {
-            return Ok(self.pass_back(first, second, span));
-        }
-        self.scanner.pass_either(first, second, span)
+        self.scanner.take_parts()
     }
 
-    // Takes the next token, if it is seen to be a scalar or the start of a block collection, and writes its span into
-    // `span`. To be called where no token was put back.
-    #[inline(always)]
-    pub(super) fn take_node_start(&mut self, span: &mut Span) -> Result<NodeStart, Stop>
-        requires { self.old.token ≡ None }
-        ensures taken { TakesSomeBy (start_piece span.new) self.old result self.new }
-        ensures kept { KeepsSpan result span.old span.new }
-        ensures room { self.new.token ≡ None }
+    // The text is refused at the next token.
+    #[inline(never)]
+    pub(super) fn refuse_next(&mut self, text: FaultText) -> Stopped
+        requires { IsReady self.old.scanner }
+        ensures { (t : Piece) (m : Seen) → spec.taken_token (machine_of self.old) ≡ Ok (t, m)
+            → self.new.scanner.stop ≡ Refused (record { text = text; mark = t.span.start }) }
     {
-        self.scanner.take_node_start(span)
-    }
-
-    // Keeps what ended the reading. Returns whether nothing did.
-    #[inline(always)]
-    pub(super) fn keep(&mut self, ended: Result<(), Stop>) -> bool
-        ensures told { answer_of result self.new.stop ≡ ended }
-        ensures same { machine_of self.new ≡ machine_of self.old }
-    {
-        match ended {
-            Ok(()) => true,
-            Err(stop) => {
-                self.stop = stop;
-                false
-            }
-        }
-    }
-
-    // Leaves the token to be read again.
-    #[inline(always)]
-    pub(super) fn put_back(&mut self, token: Token)
-        requires { self.old.token ≡ None }
-        ensures { machine_of self.new ≡ spec.put_back (piece token) (machine_of self.old) }
-    {
-        // There was none, so nothing is left behind.
-        forget(self.token.replace(token));
+        let mark = self.scanner.span().start;
+        self.refuse(text, mark)
     }
 
     // Goes back to what is expected after the node that has ended.
     #[inline(always)]
     pub(super) fn pop(&mut self)
         ensures moved { machine_of self.new ≡ spec.pop (machine_of self.old) }
-        ensures room { self.new.token ≡ self.old.token }
+        ensures scanner { self.new.scanner ≡ self.old.scanner }
     {
         let state = match self.states.pop() {
             Some(state) => state,
@@ -272,13 +203,14 @@ impl<T: Input> Machine<T> {
 
     // What is expected after the node that begins.
     #[inline(always)]
-    pub(super) fn push(&mut self, state: State) -> Result<(), Stop>
-        ensures moved { Moves (λ _. machine_of self.new) result
-            (Ok (spec.push state (machine_of self.old))) }
-        ensures room { self.new.token ≡ self.old.token }
+    pub(super) fn push(&mut self, state: State) -> Result<(), Stopped>
+        ensures moved { OnOk result
+            (machine_of self.new ≡ spec.push state (machine_of self.old)) }
+        ensures state { OnOk result (self.new.scanner.state ≡ self.old.scanner.state) }
+        ensures failed { OnErr result (self.new.scanner.stop ≡ OutOfMemory) }
     {
-        self.states.push(state)?;
-        Ok(())
+        let pushed = self.states.push(state);
+        self.scanner.keep(pushed)
     }
 
     // The event of a node that is left out.
@@ -294,39 +226,29 @@ impl<T: Input> Machine<T> {
         )
     }
 
-    // A node is left out before the token.
+    // A node is left out before the next token. The span of its event is there already.
     #[inline(always)]
-    pub(super) fn left_out<'input>(
-        &mut self,
-        token: Token,
-        state: State,
-        span: Span,
-        next: &mut (Event<'input>, Span),
-    )
-        requires room { self.old.token ≡ None }
-        requires untagged { has_tag next.old.0 ≡ false }
-        ensures { spec.left_out_event (piece token) state span (machine_of self.old)
+    #[tactic(auto, using(crate::proofs::Passing::put_back_again))]
+    pub(super) fn leave_out<'input>(&mut self, state: State, next: &mut (Event<'input>, Span))
+        requires { has_tag next.old.0 ≡ false }
+        ensures { (t : Piece) (m : Seen) → spec.taken_token (machine_of self.old) ≡ Ok (t, m)
+            → spec.left_out_event t state next.old.1 m
             ≡ Ok (told_event_of (machine_of self.new) next.new) }
     {
-        self.put_back(token);
-        self.state.set(state);
-        tell_over(next, self.empty_scalar(), span);
-    }
-    // The same where the span of the event is there already.
-    #[inline(always)]
-    pub(super) fn left_out_there<'input>(
-        &mut self,
-        token: Token,
-        state: State,
-        next: &mut (Event<'input>, Span),
-    )
-        requires room { self.old.token ≡ None }
-        requires untagged { has_tag next.old.0 ≡ false }
-        ensures { spec.left_out_event (piece token) state next.old.1 (machine_of self.old)
-            ≡ Ok (told_event_of (machine_of self.new) next.new) }
-    {
-        self.put_back(token);
         self.state.set(state);
         next.0.write_over_untagged(self.empty_scalar());
+    }
+
+    // A node is left out before the next token, whose span its event has.
+    #[inline(always)]
+    pub(super) fn leave_out_here<'input>(&mut self, state: State, next: &mut (Event<'input>, Span))
+        requires ready { IsReady self.old.scanner }
+        requires untagged { has_tag next.old.0 ≡ false }
+        ensures { (t : Piece) (m : Seen) → spec.taken_token (machine_of self.old) ≡ Ok (t, m)
+            → spec.left_out_event t state t.span m
+            ≡ Ok (told_event_of (machine_of self.new) next.new) }
+    {
+        next.1 = self.span();
+        self.leave_out(state, next);
     }
 }

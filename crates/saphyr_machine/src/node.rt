@@ -1,20 +1,18 @@
 //! The event with which a node begins: an alias, or properties and the content after them (YAML
 //! 1.2.2, 6.9, 7.1, 7.5 and 8.2.3).
 
-ghost use Rattle.std.specs.Prelude.{◌≡◌, None, false, string_bytes};
+ghost use Rattle.std.specs.Prelude.{◌≡◌, false, string_bytes};
 ghost use Rattle.saphyr_machine.specs.Steps.Nodes as spec;
 
 use crate::context::NodeContext;
 use crate::event::Event;
-use crate::machine::{Machine, place_of, refuse, tell, tell_over};
+use crate::machine::{Machine, tell, tell_over};
 use crate::state::State;
 use crate::tag::Tag;
 use saphyr_input::input::Input;
-use saphyr_scalar::scalar::TagParts;
-use saphyr_scalar::{FaultText, Marker, ScalarStyle, Span, Stop};
-use saphyr_scanner::{Token, TokenType};
+use saphyr_scalar::{FaultText, Marker, ScalarStyle, Span};
+use saphyr_scanner::{Stopped, TokenKind, TokenParts};
 use std::borrow::CowStr;
-use std::mem::replace;
 
 // What comes before the content of a node.
 #[derive(Drop)]
@@ -49,31 +47,35 @@ impl Properties {
 }
 
 impl<T: Input> Machine<T> {
-    ghost use Rattle.std.specs.Prelude.{ℕ, Ok};
+    ghost use Rattle.std.specs.Prelude.{List, ℕ, IfOk, Ok, OnErr, OnOk};
+    ghost use Rattle.saphyr_scalar.specs.declared.scalar.fault.Stop.TheVariants.{OutOfMemory};
     ghost use Rattle.saphyr_scalar.specs.Views.Reader.{Moves};
-    ghost use Rattle.saphyr_scanner.specs.Views.Engine.{answer_of};
-    ghost use Rattle.saphyr_scanner.specs.Views.Tokens.{piece};
+    ghost use Rattle.saphyr_scanner.specs.Views.Engine.{stopped_by};
+    ghost use Rattle.saphyr_scanner.specs.Views.Scanning.{IsReady};
+    ghost use Rattle.saphyr_scanner.specs.Views.Tokens.{Piece};
+    ghost use Rattle.saphyr_scanner.specs.Grammar.Tokens as tokens;
+    ghost use Rattle.saphyr_scanner.specs.declared.token.TokenKind.TheVariants as code;
     ghost use Rattle.saphyr_machine.specs.Views.Events.{has_tag};
-    ghost use Rattle.saphyr_machine.specs.Views.Machines.{machine_of, resolved_tag, told_event_of, TellsBy};
+    ghost use Rattle.saphyr_machine.specs.Views.Machines.{IsNext, machine_of, resolved_tag, told_event_of, TellsBy};
     ghost use Rattle.saphyr_machine.specs.Views.Nodes.{properties as seen};
-    ghost use Rattle.saphyr_machine.specs.Steps.Machine.{Machine as Seen, next_id};
+    ghost use Rattle.saphyr_machine.specs.Steps.Machine.{Machine as Seen, next_id, taken_token};
 
-    // Properties without content are those of an empty scalar.
+    // Properties without content are those of an empty scalar before the next token.
+    #[tactic(auto, using(crate::proofs::Passing::put_back_again))]
     fn without_content<'input>(
         &mut self,
         properties: Properties,
-        token: Token,
         next: &mut (Event<'input>, Span),
-    ) -> Result<(), Stop>
-        requires { self.old.token ≡ None }
-        ensures { TellsBy (spec.node_without_content (seen properties) (piece token))
-            self.old result next.new self.new }
+    ) -> Result<(), Stopped>
+        requires { IsReady self.old.scanner }
+        ensures { (t : Piece) (m : Seen) → taken_token (machine_of self.old) ≡ Ok (t, m)
+            → Moves (λ _. told_event_of (machine_of self.new) next.new)
+            (stopped_by result self.new.scanner.stop)
+            (spec.node_without_content (seen properties) t m) }
     {
         if !properties.has_any() {
-            drop(properties);
-            return Err(refuse(FaultText::NodeContentExpected, place_of(token).start));
+            return Err(self.refuse_next(FaultText::NodeContentExpected));
         }
-        self.put_back(token);
         self.pop();
         let span = properties.up_to(properties.behind);
         let text = CowStr::Owned(String::new(self.alloc));
@@ -170,491 +172,303 @@ impl<T: Input> Machine<T> {
         tell_over(next, Event::MappingStart(0, None), span);
     }
 
-    // A scalar with these properties.
-    #[inline(always)]
-    fn tell_scalar<'input>(
-        &mut self,
-        text: String,
-        style: ScalarStyle,
-        properties: Properties,
-        end: Marker,
-        next: &mut (Event<'input>, Span),
-    )
-        ensures { told_event_of (machine_of self.new) next.new
-            ≡ spec.told_scalar (string_bytes text) style (seen properties) end (machine_of self.old) }
-    {
-        self.pop();
-        let span = properties.up_to(end);
-        let Properties { anchor, tag, .. } = properties;
-        let event = Event::Scalar(CowStr::Owned(text), style, anchor, tag);
-        tell(next, event, span);
-    }
-
-    // The content of a node begins with the token.
-    #[inline(always)]
-    #[tactic(auto, unfolding(crate::specs::Steps::Nodes::node_content))]
+    // The content of a node after its properties begins with the next token.
+    #[tactic(auto, unfolding(crate::specs::Steps::Nodes::next_content, crate::specs::Steps::Nodes::node_content))]
     fn content<'input>(
         &mut self,
         properties: Properties,
         context: NodeContext,
-        token: Token,
         next: &mut (Event<'input>, Span),
-    ) -> Result<(), Stop>
-        requires { self.old.token ≡ None }
-        ensures { TellsBy (spec.node_content (seen properties) context (piece token))
-            self.old result next.new self.new }
-    {
-        let Token { span, kind } = token;
-        match kind {
-            TokenType::Scalar(style, text) => {
-                self.tell_scalar(text, style, properties, span.end, next);
-                Ok(())
-            }
-            TokenType::FlowSequenceStart => {
-                self.open_sequence(State::FlowSequenceFirstEntry, properties, span.end, next);
-                Ok(())
-            }
-            TokenType::FlowMappingStart => {
-                self.open_mapping(State::FlowMappingFirstKey, properties, span.end, next);
-                Ok(())
-            }
-            TokenType::BlockSequenceStart if context.allows_block() => {
-                self.open_sequence(State::BlockSequenceEntry, properties, span.end, next);
-                Ok(())
-            }
-            TokenType::BlockMappingStart if context.allows_block() => {
-                self.open_mapping(State::BlockMappingKey, properties, span.end, next);
-                Ok(())
-            }
-            TokenType::BlockEntry if context.allows_indentless() => {
-                self.put_back(Token { span, kind });
-                self.open_sequence(State::IndentlessSequenceEntry, properties, span.end, next);
-                Ok(())
-            }
-            kind => self.without_content(properties, Token { span, kind }, next),
-        }
-    }
-
-    // The content of a node after its properties.
-    #[tactic(auto, unfolding(crate::specs::Steps::Nodes::next_content, crate::specs::Steps::Nodes::node_content))]
-    fn next_content<'input>(
-        &mut self,
-        properties: Properties,
-        context: NodeContext,
-        next: &mut (Event<'input>, Span),
-    ) -> Result<(), Stop>
+    ) -> Result<(), Stopped>
         ensures { TellsBy (spec.next_content (seen properties) context)
             self.old result next.new self.new }
     {
-        let Token { span, kind } = match self.take() {
-            Ok(token) => token,
-            Err(stop) => {
-                drop(properties);
-                return Err(stop);
-            }
-        };
-        match kind {
-            TokenType::Scalar(style, text) => {
-                self.tell_scalar(text, style, properties, span.end, next);
+        match self.peek()? {
+            TokenKind::FlowSequenceStart => {
+                let end = self.pass().end;
+                self.open_sequence(State::FlowSequenceFirstEntry, properties, end, next);
                 Ok(())
             }
-            kind => self.content(properties, context, Token { span, kind }, next),
+            TokenKind::FlowMappingStart => {
+                let end = self.pass().end;
+                self.open_mapping(State::FlowMappingFirstKey, properties, end, next);
+                Ok(())
+            }
+            TokenKind::BlockSequenceStart if context.allows_block() => {
+                let end = self.pass().end;
+                self.open_sequence(State::BlockSequenceEntry, properties, end, next);
+                Ok(())
+            }
+            TokenKind::BlockMappingStart if context.allows_block() => {
+                let end = self.pass().end;
+                self.open_mapping(State::BlockMappingKey, properties, end, next);
+                Ok(())
+            }
+            TokenKind::BlockEntry if context.allows_indentless() => {
+                let end = self.span().end;
+                self.open_sequence(State::IndentlessSequenceEntry, properties, end, next);
+                Ok(())
+            }
+            kind => match kind.style() {
+                Some(style) => self.scalar(style, properties, next),
+                None => self.without_content(properties, next),
+            },
         }
     }
 
-    // The parts of a tag, whose token is given back.
-    #[inline(always)]
-    fn unboxed(&mut self, mut tag: Box<TagParts>) -> TagParts
-        ensures parts { result ≡ tag.value }
-        ensures same { machine_of self.new ≡ machine_of self.old }
+    // The next token is a scalar with these properties.
+    fn scalar<'input>(
+        &mut self,
+        style: ScalarStyle,
+        properties: Properties,
+        next: &mut (Event<'input>, Span),
+    ) -> Result<(), Stopped>
+        requires { IsReady self.old.scanner }
+        ensures { (t : Piece) (m : Seen) (text : List ℕ)
+            → taken_token (machine_of self.old) ≡ Ok (t, m) → t.kind ≡ tokens.Scalar style text
+            → Moves (λ _. told_event_of (machine_of self.new) next.new)
+            (stopped_by result self.new.scanner.stop)
+            (Ok (spec.told_scalar text style (seen properties) t.span.end m)) }
     {
-        let handle = String::new(self.alloc);
-        let suffix = String::new(self.alloc);
-        let parts = replace(&mut *tag, TagParts { handle, suffix });
-        self.scanner.give_back_box(tag);
-        parts
+        let span = properties.up_to(self.span().end);
+        let text = self.take_text()?;
+        self.pop();
+        let Properties { anchor, tag, .. } = properties;
+        let event = Event::Scalar(CowStr::Owned(text), style, anchor, tag);
+        tell(next, event, span);
+        Ok(())
     }
 
-    // The next id for an anchor's name, which is given back.
+    // Takes an anchor, and gives its name the next id.
     #[inline(always)]
-    fn id_for(&mut self, name: String) -> Result<usize, Stop>
-        ensures { Moves {Y = ℕ × Seen} (λ id. (id, machine_of self.new)) result
-            (Ok (
-              next_id (machine_of self.old).anchors,
-              spec.register (string_bytes name) (machine_of self.old),
-            )) }
+    fn take_anchor(&mut self) -> Result<usize, Stopped>
+        requires { IsReady self.old.scanner }
+        ensures id { (t : Piece) (m : Seen) (name : List ℕ)
+            → taken_token (machine_of self.old) ≡ Ok (t, m) → t.kind ≡ tokens.Anchor name
+            → IfOk result (λ id. id ≡ next_id m.anchors) }
+        ensures left { (t : Piece) (m : Seen) (name : List ℕ)
+            → taken_token (machine_of self.old) ≡ Ok (t, m) → t.kind ≡ tokens.Anchor name
+            → OnOk result (machine_of self.new ≡ spec.register name m) }
+        ensures failed { OnErr result (self.new.scanner.stop ≡ OutOfMemory) }
     {
-        let id = self.anchors.register(name.as_str())?;
-        self.scanner.give_back_name(name);
+        let name = self.take_text()?;
+        let id = self.anchors.register(name.as_str());
+        let id = self.scanner.keep(id)?;
+        self.scanner.give_back(name);
         Ok(id)
     }
 
-    // The alias of the node that has this id.
-    #[inline(always)]
-    fn tell_alias<'input>(&mut self, id: usize, span: Span, next: &mut (Event<'input>, Span))
-        ensures { told_event_of (machine_of self.new) next.new
-            ≡ spec.told_alias id span (machine_of self.old) }
+    // Takes a tag, and puts the prefix of its handle in the handle's place. If that is not declared, the text is refused
+    // at the place.
+    #[tactic(auto, unfolding(crate::specs::Steps::Tags::resolved_tag_at))]
+    fn take_tag(&mut self, place: Marker) -> Result<Tag, Stopped>
+        requires { IsReady self.old.scanner }
+        ensures { (t : Piece) (m : Seen) (handle suffix : List ℕ)
+            → taken_token (machine_of self.old) ≡ Ok (t, m) → t.kind ≡ tokens.Tag handle suffix
+            → Moves (λ tag. (resolved_tag tag, machine_of self.new))
+            (stopped_by result self.new.scanner.stop)
+            (spec.tag_taken m.prefixes handle suffix place m) }
     {
+        let TokenParts {
+            mut handle,
+            text: suffix,
+            ..
+        } = self.take_parts()?;
+        self.write_prefix(&mut handle, place)?;
+        Ok(Tag { handle, suffix })
+    }
+
+    // The next token is an alias.
+    #[tactic(auto, unfolding(crate::specs::Steps::Nodes::alias_node))]
+    fn alias<'input>(&mut self, next: &mut (Event<'input>, Span)) -> Result<(), Stopped>
+        requires { IsReady self.old.scanner }
+        ensures { (t : Piece) (m : Seen) (name : List ℕ)
+            → taken_token (machine_of self.old) ≡ Ok (t, m) → t.kind ≡ tokens.Alias name
+            → Moves (λ _. told_event_of (machine_of self.new) next.new)
+            (stopped_by result self.new.scanner.stop) (spec.alias_node name t.span m) }
+    {
+        let span = self.span();
+        let name = self.take_text()?;
+        let id = self.anchors.id_of(name.as_str());
+        let id = self.scanner.keep(id)?;
+        self.scanner.give_back(name);
+        let Some(id) = id else {
+            return Err(self.refuse(FaultText::UnknownAnchor, span.start));
+        };
         self.pop();
         tell(next, Event::Alias(id), span);
+        Ok(())
     }
 
-    #[tactic(auto, unfolding(crate::specs::Steps::Nodes::alias_node))]
-    fn alias<'input>(
-        &mut self,
-        name: String,
-        span: Span,
-        next: &mut (Event<'input>, Span),
-    ) -> Result<(), Stop>
-        ensures { TellsBy (spec.alias_node (string_bytes name) span)
-            self.old result next.new self.new }
-    {
-        match self.anchors.id_of(name.as_str())? {
-            Some(id) => {
-                self.scanner.give_back(name);
-                self.tell_alias(id, span, next);
-                Ok(())
-            }
-            None => Err(refuse(FaultText::UnknownAnchor, span.start)),
-        }
-    }
-
-    // A node that begins with an anchor.
+    // The next token is an anchor.
     #[tactic(auto, unfolding(crate::specs::Steps::Nodes::node_behind_anchor))]
-    fn behind_anchor<'input>(
+    fn anchored<'input>(
         &mut self,
-        name: String,
-        anchor: Span,
         context: NodeContext,
         next: &mut (Event<'input>, Span),
-    ) -> Result<(), Stop>
-        ensures { TellsBy (spec.node_behind_anchor (string_bytes name) anchor context)
-            self.old result next.new self.new }
+    ) -> Result<(), Stopped>
+        requires { IsReady self.old.scanner }
+        ensures { (t : Piece) (m : Seen) (name : List ℕ)
+            → taken_token (machine_of self.old) ≡ Ok (t, m) → t.kind ≡ tokens.Anchor name
+            → Moves (λ _. told_event_of (machine_of self.new) next.new)
+            (stopped_by result self.new.scanner.stop)
+            (spec.node_behind_anchor name t.span context m) }
     {
-        let id = self.id_for(name)?;
-        let token = self.take()?;
-        self.behind_id(id, anchor, context, token, next)
+        let Span { start, end } = self.span();
+        let anchor = self.take_anchor()?;
+        let TokenKind::Tag = self.peek()? else {
+            let properties = Properties {
+                start,
+                behind: end,
+                anchor,
+                tag: None,
+            };
+            return self.content(properties, context, next);
+        };
+        let behind = self.span().end;
+        let tag = self.take_tag(start)?;
+        let properties = Properties {
+            start,
+            behind,
+            anchor,
+            tag: Some(tag),
+        };
+        self.content(properties, context, next)
     }
 
-    // A node whose anchor has this id, and that goes on with the token. Mostly that is a scalar, for which no
-    // `Properties` are made.
-    #[inline(always)]
-    #[tactic(auto, unfolding(crate::specs::Steps::Nodes::node_content))]
-    fn behind_id<'input>(
+    // The next token is a tag.
+    #[tactic(auto, unfolding(crate::specs::Steps::Nodes::node_behind_tag))]
+    fn tagged<'input>(
         &mut self,
-        id: usize,
-        anchor: Span,
-        context: NodeContext,
-        token: Token,
-        next: &mut (Event<'input>, Span),
-    ) -> Result<(), Stop>
-        requires { self.old.token ≡ None }
-        ensures { TellsBy
-            (spec.node_behind_anchor_at (piece token).kind id anchor context (piece token))
-            self.old result next.new self.new }
-    {
-        let Token { span, kind } = token;
-        match kind {
-            TokenType::Scalar(style, text) => {
-                let event = Event::Scalar(CowStr::Owned(text), style, id, None);
-                let start = anchor.start;
-                let end = span.end;
-                self.pop();
-                tell(next, event, Span { start, end });
-                Ok(())
-            }
-            kind => self.rare_behind_id(id, anchor, context, Token { span, kind }, next),
-        }
-    }
-
-    // The same for any token. It is separate for speed: the places for the results of its calls are not cleared for a
-    // scalar.
-    #[inline(always)]
-    #[tactic(auto, unfolding(crate::specs::Steps::Tags::resolved_tag_at))]
-    fn rare_behind_id<'input>(
-        &mut self,
-        id: usize,
-        anchor: Span,
-        context: NodeContext,
-        token: Token,
-        next: &mut (Event<'input>, Span),
-    ) -> Result<(), Stop>
-        requires { self.old.token ≡ None }
-        ensures { TellsBy
-            (spec.node_behind_anchor_at (piece token).kind id anchor context (piece token))
-            self.old result next.new self.new }
-    {
-        let Token { span, kind } = token;
-        match kind {
-            TokenType::Tag(tag) => {
-                let TagParts { mut handle, suffix } = self.unboxed(tag);
-                self.write_prefix(&mut handle, anchor.start)?;
-                let properties = Properties {
-                    start: anchor.start,
-                    behind: span.end,
-                    anchor: id,
-                    tag: Some(Tag { handle, suffix }),
-                };
-                self.next_content(properties, context, next)
-            }
-            kind => {
-                let properties = Properties {
-                    start: anchor.start,
-                    behind: anchor.end,
-                    anchor: id,
-                    tag: None,
-                };
-                self.content(properties, context, Token { span, kind }, next)
-            }
-        }
-    }
-
-    // A node that begins with a tag.
-    #[tactic(auto, unfolding(crate::specs::Steps::Nodes::node_behind_tag, crate::specs::Steps::Tags::resolved_tag_at))]
-    fn behind_tag<'input>(
-        &mut self,
-        tag: TagParts,
-        place: Span,
         context: NodeContext,
         next: &mut (Event<'input>, Span),
-    ) -> Result<(), Stop>
-        ensures { TellsBy
-            (spec.node_behind_tag (string_bytes tag.handle) (string_bytes tag.suffix) place context)
-            self.old result next.new self.new }
+    ) -> Result<(), Stopped>
+        requires { IsReady self.old.scanner }
+        ensures { (t : Piece) (m : Seen) (handle suffix : List ℕ)
+            → taken_token (machine_of self.old) ≡ Ok (t, m) → t.kind ≡ tokens.Tag handle suffix
+            → Moves (λ _. told_event_of (machine_of self.new) next.new)
+            (stopped_by result self.new.scanner.stop)
+            (spec.node_behind_tag handle suffix t.span context m) }
     {
-        let TagParts { mut handle, suffix } = tag;
-        self.write_prefix(&mut handle, place.start)?;
-        let tag = Tag { handle, suffix };
-        match self.take() {
-            Ok(token) => self.behind_resolved(tag, place, context, token, next),
-            Err(stop) => {
-                drop(tag);
-                Err(stop)
-            }
-        }
-    }
-
-    // A node whose tag is resolved, and that goes on with the token. Mostly that is a scalar, for which no
-    // `Properties` are made.
-    #[inline(always)]
-    #[tactic(auto, unfolding(crate::specs::Steps::Nodes::node_content))]
-    fn behind_resolved<'input>(
-        &mut self,
-        tag: Tag,
-        place: Span,
-        context: NodeContext,
-        token: Token,
-        next: &mut (Event<'input>, Span),
-    ) -> Result<(), Stop>
-        requires { self.old.token ≡ None }
-        ensures { TellsBy
-            (spec.node_behind_tag_at (piece token).kind (resolved_tag tag) place context (piece token))
-            self.old result next.new self.new }
-    {
-        let Token { span, kind } = token;
-        match kind {
-            TokenType::Scalar(style, text) => {
-                let event = Event::Scalar(CowStr::Owned(text), style, 0, Some(tag));
-                let start = place.start;
-                let end = span.end;
-                self.pop();
-                tell(next, event, Span { start, end });
-                Ok(())
-            }
-            kind => self.rare_behind_resolved(tag, place, context, Token { span, kind }, next),
-        }
-    }
-
-    // The same for any token, separate for speed.
-    #[inline(always)]
-    fn rare_behind_resolved<'input>(
-        &mut self,
-        tag: Tag,
-        place: Span,
-        context: NodeContext,
-        token: Token,
-        next: &mut (Event<'input>, Span),
-    ) -> Result<(), Stop>
-        requires { self.old.token ≡ None }
-        ensures { TellsBy
-            (spec.node_behind_tag_at (piece token).kind (resolved_tag tag) place context (piece token))
-            self.old result next.new self.new }
-    {
-        let Token { span, kind } = token;
-        match kind {
-            TokenType::Anchor(name) => match self.id_for(name) {
-                Ok(anchor) => {
-                    let properties = Properties {
-                        start: place.start,
-                        behind: span.end,
-                        anchor,
-                        tag: Some(tag),
-                    };
-                    self.next_content(properties, context, next)
-                }
-                Err(stop) => {
-                    drop(tag);
-                    Err(stop)
-                }
-            },
-            kind => {
-                let properties = Properties {
-                    start: place.start,
-                    behind: place.end,
-                    anchor: 0,
-                    tag: Some(tag),
-                };
-                self.content(properties, context, Token { span, kind }, next)
-            }
-        }
+        let Span { start, end } = self.span();
+        let tag = Some(self.take_tag(start)?);
+        let TokenKind::Anchor = self.peek()? else {
+            let properties = Properties {
+                start,
+                behind: end,
+                anchor: 0,
+                tag,
+            };
+            return self.content(properties, context, next);
+        };
+        let behind = self.span().end;
+        let anchor = self.take_anchor()?;
+        let properties = Properties {
+            start,
+            behind,
+            anchor,
+            tag,
+        };
+        self.content(properties, context, next)
     }
 
     // A node that begins with an alias, an anchor or a tag, or that is left out. These are rare.
-    #[inline(always)]
-    #[tactic(auto, unfolding(crate::specs::Steps::Nodes::node))]
+    #[inline(never)]
+    #[tactic(auto, unfolding(crate::specs::Steps::Nodes::node, crate::specs::Steps::Nodes::next_content))]
     fn rare_node<'input>(
         &mut self,
         context: NodeContext,
-        token: Token,
+        kind: TokenKind,
         next: &mut (Event<'input>, Span),
-    ) -> Result<(), Stop>
-        requires { self.old.token ≡ None }
-        ensures { TellsBy (spec.node context (piece token)) self.old result next.new self.new }
+    ) -> Result<(), Stopped>
+        requires { IsNext kind self.old }
+        ensures { TellsBy (spec.next_node context) self.old result next.new self.new }
     {
-        let Token { span, kind } = token;
         match kind {
-            TokenType::Alias(name) => self.alias(name, span, next),
-            TokenType::Anchor(name) => self.behind_anchor(name, span, context, next),
-            TokenType::Tag(tag) => {
-                let tag = self.unboxed(tag);
-                self.behind_tag(tag, span, context, next)
-            }
-            kind => {
+            TokenKind::Alias => self.alias(next),
+            TokenKind::Anchor => self.anchored(context, next),
+            TokenKind::Tag => self.tagged(context, next),
+            _ => {
+                let start = self.span().start;
                 let properties = Properties {
-                    start: span.start,
-                    behind: span.start,
+                    start,
+                    behind: start,
                     anchor: 0,
                     tag: None,
                 };
-                self.content(properties, context, Token { span, kind }, next)
+                self.content(properties, context, next)
             }
         }
     }
 
-    // The same with the stop kept, as a call of its own. The place of a result is cleared before such a call and
-    // copied after it, but a result of one byte isn't.
-    #[inline(never)]
-    fn tells_rare_node<'input>(
-        &mut self,
-        context: NodeContext,
-        token: Token,
-        next: &mut (Event<'input>, Span),
-    ) -> bool
-        requires { self.old.token ≡ None }
-        ensures { TellsBy (spec.node context (piece token)) self.old
-            (answer_of result self.new.stop) next.new self.new }
-    {
-        let ended = self.rare_node(context, token, next);
-        self.keep(ended)
-    }
-
-    // A node begins with the token. Most nodes have no properties. Their content is read here and by `collection`, and
-    // not by `content`, so no `Properties` are made for them.
+    // A node begins with the next token, which is of this kind. Most nodes have no properties, and none are made here
+    // for them.
     #[inline(always)]
     #[tactic(auto, unfolding(crate::specs::Steps::Nodes::node, crate::specs::Steps::Nodes::node_content))]
     pub(super) fn node<'input>(
         &mut self,
         context: NodeContext,
-        token: Token,
+        kind: TokenKind,
         next: &mut (Event<'input>, Span),
-    ) -> Result<(), Stop>
-        requires room { self.old.token ≡ None }
+    ) -> Result<(), Stopped>
+        requires kind { IsNext kind self.old }
         requires untagged { has_tag next.old.0 ≡ false }
-        ensures { TellsBy (spec.node context (piece token)) self.old result next.new self.new }
+        ensures { TellsBy (spec.next_node context) self.old result next.new self.new }
     {
-        let Token { span, kind } = token;
         match kind {
-            TokenType::Scalar(style, text) => {
-                let event = Event::Scalar(CowStr::Owned(text), style, 0, None);
-                self.pop();
-                tell_over(next, event, span);
+            TokenKind::FlowSequenceStart => {
+                let span = self.pass();
+                self.begin_sequence(State::FlowSequenceFirstEntry, span, next);
+                Ok(())
             }
-            kind => self.collection(context, Token { span, kind }, next)?,
+            TokenKind::FlowMappingStart => {
+                let span = self.pass();
+                self.begin_mapping(State::FlowMappingFirstKey, span, next);
+                Ok(())
+            }
+            TokenKind::BlockSequenceStart if context.allows_block() => {
+                let span = self.pass();
+                self.begin_sequence(State::BlockSequenceEntry, span, next);
+                Ok(())
+            }
+            TokenKind::BlockMappingStart if context.allows_block() => {
+                let span = self.pass();
+                self.begin_mapping(State::BlockMappingKey, span, next);
+                Ok(())
+            }
+            TokenKind::BlockEntry if context.allows_indentless() => {
+                let span = self.span();
+                self.begin_sequence(State::IndentlessSequenceEntry, span, next);
+                Ok(())
+            }
+            kind => self.rare_node(context, kind, next),
         }
-        Ok(())
-    }
-
-    // The same, but mostly it is a collection.
-    #[inline(always)]
-    #[tactic(auto, unfolding(crate::specs::Steps::Nodes::node, crate::specs::Steps::Nodes::node_content))]
-    fn collection<'input>(
-        &mut self,
-        context: NodeContext,
-        token: Token,
-        next: &mut (Event<'input>, Span),
-    ) -> Result<(), Stop>
-        requires room { self.old.token ≡ None }
-        requires untagged { has_tag next.old.0 ≡ false }
-        ensures { TellsBy (spec.node context (piece token)) self.old result next.new self.new }
-    {
-        let Token { span, kind } = token;
-        match kind {
-            TokenType::FlowSequenceStart => {
-                self.begin_sequence(State::FlowSequenceFirstEntry, span, next)
-            }
-            TokenType::FlowMappingStart => {
-                self.begin_mapping(State::FlowMappingFirstKey, span, next)
-            }
-            TokenType::BlockSequenceStart if context.allows_block() => {
-                self.begin_sequence(State::BlockSequenceEntry, span, next)
-            }
-            TokenType::BlockMappingStart if context.allows_block() => {
-                self.begin_mapping(State::BlockMappingKey, span, next)
-            }
-            TokenType::BlockEntry if context.allows_indentless() => {
-                self.put_back(Token { span, kind });
-                self.begin_sequence(State::IndentlessSequenceEntry, span, next)
-            }
-            kind => {
-                if !self.tells_rare_node(context, Token { span, kind }, next) {
-                    return Err(self.stop);
-                }
-            }
-        }
-        Ok(())
     }
 
     // A node inside a collection, which goes on in the given state after the node. After a scalar without
     // properties it does so at once: the state need not be kept for later.
     #[inline(always)]
-    #[tactic(auto, unfolding(crate::specs::Steps::Nodes::node, crate::specs::Steps::Nodes::node_content))]
+    #[tactic(auto, unfolding(crate::specs::Steps::Nodes::node, crate::specs::Steps::Nodes::node_content), using(crate::proofs::Passing::scalar_of))]
     pub(super) fn inside<'input>(
         &mut self,
         state: State,
         context: NodeContext,
-        token: Token,
+        kind: TokenKind,
         next: &mut (Event<'input>, Span),
-    ) -> Result<(), Stop>
-        requires room { self.old.token ≡ None }
+    ) -> Result<(), Stopped>
+        requires kind { IsNext kind self.old }
         requires untagged { has_tag next.old.0 ≡ false }
-        ensures { TellsBy (spec.node_inside state context (piece token))
-            self.old result next.new self.new }
+        ensures { TellsBy (spec.next_inside state context) self.old result next.new self.new }
     {
-        let Token { span, kind } = token;
-        match kind {
-            TokenType::Scalar(style, text) => {
-                let event = Event::Scalar(CowStr::Owned(text), style, 0, None);
-                self.state.set(state);
-                tell_over(next, event, span);
-            }
-            kind => match self.push(state) {
-                Ok(()) => self.collection(context, Token { span, kind }, next)?,
-                Err(stop) => {
-                    drop(kind);
-                    return Err(stop);
-                }
-            },
-        }
+        let Some(style) = kind.style() else {
+            self.push(state)?;
+            return self.node(context, kind, next);
+        };
+        next.1 = self.span();
+        let text = self.take_text()?;
+        self.state.set(state);
+        next.0
+            .write_over_untagged(Event::Scalar(CowStr::Owned(text), style, 0, None));
         Ok(())
     }
 }

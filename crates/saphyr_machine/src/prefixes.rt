@@ -1,10 +1,8 @@
 //! The prefixes that `%TAG` directives declare for the handles of tags (YAML 1.2.2, 6.8.2).
 
-ghost use Rattle.std.specs.Prelude.{◌≡◌, [], Ok, string_bytes, option_map};
+ghost use Rattle.std.specs.Prelude.{◌≡◌, [], OnOk, string_bytes, option_map};
 ghost use Rattle.saphyr_machine.specs.Steps.Machine as spec;
 
-use saphyr_scalar::Stop;
-use saphyr_scanner::TagPrefix;
 use std::alloc::{AllocError, Global};
 use std::collections::BTreeMap;
 use std::marker::Model;
@@ -28,7 +26,6 @@ impl Model for Prefixes {
 impl Prefixes {
     ghost use Rattle.std.specs.Prelude.{IfOk, IsTrue};
     ghost use Rattle.std.specs.Map.{keys_of};
-    ghost use Rattle.saphyr_scalar.specs.Views.Reader.{Moves};
 
     pub fn new(alloc: Global) -> Prefixes
         ensures { result ≡ [] }
@@ -59,14 +56,12 @@ impl Prefixes {
 
     #[tactic(auto, using(crate::proofs::Names::texts_given))]
     /// Declares the prefix for the handle. It replaces an earlier one.
-    pub fn declare(&mut self, tag: &TagPrefix) -> Result<(), Stop>
-        ensures { Moves (λ _. self.new) result
-            (Ok (spec.with_meaning (string_bytes tag.now.handle) (string_bytes tag.now.prefix)
-            self.old)) }
+    pub fn declare(&mut self, handle: &String, prefix: &String) -> Result<(), AllocError>
+        ensures { OnOk result (self.new
+            ≡ spec.with_meaning (string_bytes handle.now) (string_bytes prefix.now) self.old) }
     {
         // Copies are kept: the texts that were read have more room than they need, and a text may declare a million of
         // them.
-        let TagPrefix { handle, prefix } = tag;
         self.declared.insert(handle.clone()?, prefix.clone()?)?;
         Ok(())
     }

@@ -1,6 +1,7 @@
 //! A machine with at most one event read ahead, so that an event can be shown before it is handed out.
 
 ghost use Rattle.std.specs.Prelude.{◌≡◌, None, Some, true, false, IfNone, IfOk};
+ghost use Rattle.saphyr_scanner.specs.Views.Scanning.{tokens_of};
 ghost use Rattle.saphyr_scanner.specs.Views.Tokens.{piece};
 ghost use Rattle.saphyr_machine.specs.Answer.{OutOfMemory};
 ghost use Rattle.saphyr_scalar.specs.declared.scalar.position.Span.{Span as Place};
@@ -18,7 +19,7 @@ use crate::progress::Progress;
 use crate::state::State;
 use saphyr_input::input::Input;
 use saphyr_scalar::{Marker, Refusal, Span};
-use saphyr_scanner::{Scanner, Token};
+use saphyr_scanner::{Scanner, Stopped, Token};
 use std::alloc::{AllocError, Global};
 use std::mem::replace;
 
@@ -75,7 +76,7 @@ impl<'input, T: Input> EventReader<'input, T> {
 
     /// A reader that has read nothing.
     pub fn new(alloc: Global, scanner: Scanner<T>) -> Self
-        ensures { cursor result ≡ spec.at_start scanner }
+        ensures { cursor result ≡ spec.at_start (tokens_of scanner) }
     {
         EventReader {
             machine: Machine::new(alloc, scanner),
@@ -95,7 +96,10 @@ impl<'input, T: Input> EventReader<'input, T> {
         ensures others { cursor self.new
             ≡ record (cursor self.old) { machine = (cursor self.new).machine } }
     {
-        Ok(self.machine.scanner.give(token)?)
+        match self.machine.scanner.give(token) {
+            Ok(given) => Ok(given),
+            Err(Stopped) => Err(AllocError),
+        }
     }
 
     /// Sets the refusal after all tokens that are still to be read, unless one ends these.

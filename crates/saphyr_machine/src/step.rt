@@ -10,8 +10,9 @@ use crate::progress::Progress;
 use crate::state::State;
 use crate::tag::Tag;
 use saphyr_input::input::Input;
+use saphyr_scalar::Span;
 use saphyr_scalar::scalar::TagParts;
-use saphyr_scalar::{Span, Stop};
+use saphyr_scanner::Stopped;
 use std::borrow::CowStr;
 use std::mem::replace;
 
@@ -22,12 +23,12 @@ impl<T: Input> Machine<T> {
     ghost use Rattle.saphyr_machine.specs.Faults.{IsFaultOf, is_foreign};
     ghost use Rattle.saphyr_machine.specs.declared.state.State.TheVariants.{End};
 
-    // The fault in place of an event, by the stop that was kept.
+    // The fault in place of an event, by what ended the reading.
     #[inline(never)]
     fn fail(&self, fault: &mut Fault)
-        ensures { IsFaultOf self.now.stop fault.new }
+        ensures { IsFaultOf self.now.scanner.stop fault.new }
     {
-        drop(replace(fault, Fault::new(self.alloc, self.stop)));
+        drop(replace(fault, Fault::new(self.alloc, self.scanner.stop())));
     }
 
     // Gives back the text and the tag of the event that is overwritten, so the next one uses their memory.
@@ -51,7 +52,7 @@ impl<T: Input> Machine<T> {
         }
     }
 
-    // The same for the tag. It is separate for speed, since few scalars have one.
+    // Gives back a tag. It is separate for speed, since few scalars have one.
     #[inline(never)]
     fn give_back_tag(&mut self, tag: &mut Option<Tag>)
         ensures same { machine_of self.new ≡ machine_of self.old }
@@ -81,53 +82,48 @@ impl<T: Input> Machine<T> {
         }
         match self.event(next) {
             Ok(()) => Progress::Event,
-            Err(stop) => {
-                // For speed the stop goes by a field: the place of an argument would be cleared at each event.
-                self.stop = stop;
+            Err(Stopped) => {
                 self.fail(fault);
                 Progress::Fault
             }
         }
     }
 
-    // The next event, which is written into its place. The states that are rarely expected return the result of their
-    // function as it is.
+    // The next event, which is written into its place.
     #[inline(always)]
     #[tactic(auto, unfolding(crate::specs::Steps::Expected::event_step))]
-    pub(super) fn event<'input>(&mut self, next: &mut (Event<'input>, Span)) -> Result<(), Stop>
+    pub(super) fn event<'input>(&mut self, next: &mut (Event<'input>, Span)) -> Result<(), Stopped>
         requires more { (machine_of self.old).state ≢ End }
         requires untagged { has_tag next.old.0 ≡ false }
         ensures { TellsBy spec.event_step self.old result next.new self.new }
     {
         let state = self.state.get();
         match state {
-            State::StreamStart => return self.stream_start(next),
-            State::ImplicitDocumentStart => return self.implicit_document_start(next),
-            State::DocumentStart => return self.document_start(next),
-            State::DocumentContent => return self.document_content(next),
-            State::DocumentEnd => return self.document_end(next),
-            State::BlockNode => return self.block_node(next),
-            State::BlockSequenceEntry => self.block_sequence_entry(next)?,
-            State::IndentlessSequenceEntry => self.indentless_sequence_entry(next)?,
-            State::BlockMappingKey => self.block_mapping_key(next)?,
-            State::BlockMappingValue => self.block_mapping_value(next)?,
+            State::StreamStart => self.stream_start(next),
+            State::ImplicitDocumentStart => self.implicit_document_start(next),
+            State::DocumentStart => self.document_start(next),
+            State::DocumentContent => self.document_content(next),
+            State::DocumentEnd => self.document_end(next),
+            State::BlockNode => self.block_node(next),
+            State::BlockSequenceEntry => self.block_sequence_entry(next),
+            State::IndentlessSequenceEntry => self.indentless_sequence_entry(next),
+            State::BlockMappingKey => self.block_mapping_key(next),
+            State::BlockMappingValue => self.block_mapping_value(next),
             State::FlowSequenceFirstEntry | State::FlowSequenceEntry => {
                 let first = matches!(state, State::FlowSequenceFirstEntry);
-                self.flow_sequence_entry(first, next)?
+                self.flow_sequence_entry(first, next)
             }
-            State::FlowSequenceEntryMappingKey => return self.flow_sequence_entry_mapping_key(next),
-            State::FlowSequenceEntryMappingValue => return self.flow_sequence_entry_mapping_value(
-                next,
-            ),
+            State::FlowSequenceEntryMappingKey => self.flow_sequence_entry_mapping_key(next),
+            State::FlowSequenceEntryMappingValue => self.flow_sequence_entry_mapping_value(next),
             State::FlowSequenceEntryMappingEnd(place) => {
-                self.flow_sequence_entry_mapping_end(place, next)
+                self.flow_sequence_entry_mapping_end(place, next);
+                Ok(())
             }
-            State::FlowMappingFirstKey => self.flow_mapping_first_key(next)?,
-            State::FlowMappingKey => self.flow_mapping_key(next)?,
-            State::FlowMappingValue => self.flow_mapping_value(next)?,
-            State::FlowMappingEmptyValue => return self.flow_mapping_empty_value(next),
+            State::FlowMappingFirstKey => self.flow_mapping_first_key(next),
+            State::FlowMappingKey => self.flow_mapping_key(next),
+            State::FlowMappingValue => self.flow_mapping_value(next),
+            State::FlowMappingEmptyValue => self.flow_mapping_empty_value(next),
             State::End => unreachable!(),
         }
-        Ok(())
     }
 }

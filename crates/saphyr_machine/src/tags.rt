@@ -3,9 +3,10 @@
 ghost use Rattle.std.specs.Prelude.{◌≡◌, OnOk, string_bytes};
 ghost use Rattle.saphyr_machine.specs.Steps.Tags as spec;
 
-use crate::machine::{Machine, refuse};
+use crate::machine::Machine;
 use saphyr_input::input::Input;
-use saphyr_scalar::{FaultText, Marker, Stop};
+use saphyr_scalar::{FaultText, Marker};
+use saphyr_scanner::Stopped;
 use std::alloc::AllocError;
 
 // Whether the handle has a word, and so must be declared.
@@ -27,34 +28,43 @@ fn write_over(text: &mut String, new: &str) -> Result<(), AllocError>
 
 impl<T: Input> Machine<T> {
     ghost use Rattle.saphyr_scalar.specs.Views.Reader.{Moves};
+    ghost use Rattle.saphyr_scanner.specs.Views.Engine.{stopped_by};
+    ghost use Rattle.saphyr_machine.specs.Views.Machines.{machine_of};
 
     // Writes the prefix of the handle of a tag at this place over the handle.
     #[inline(always)]
     #[tactic(auto, unfolding(crate::specs::Steps::Tags::declared_prefix))]
-    pub(super) fn write_prefix(&self, handle: &mut String, place: Marker) -> Result<(), Stop>
-        ensures { Moves (λ _. string_bytes handle.new) result
-            (spec.declared_prefix self.now.prefixes (string_bytes handle.old) place) }
+    pub(super) fn write_prefix(&mut self, handle: &mut String, place: Marker) -> Result<(), Stopped>
+        ensures written { Moves (λ _. string_bytes handle.new)
+            (stopped_by result self.new.scanner.stop)
+            (spec.declared_prefix self.old.prefixes (string_bytes handle.old) place) }
+        ensures same { OnOk result (machine_of self.new ≡ machine_of self.old) }
     {
         if handle.is_empty() {
             return Ok(());
         }
         match self.prefixes.prefix_of(handle.as_str()) {
-            Some(prefix) => Ok(write_over(handle, prefix)?),
+            Some(prefix) => {
+                let written = write_over(handle, prefix);
+                self.scanner.keep(written)
+            }
             None => self.write_undeclared_prefix(handle, place),
         }
     }
 
-    // The same for a handle that no directive declares.
-    #[inline(always)]
-    fn write_undeclared_prefix(&self, handle: &mut String, place: Marker) -> Result<(), Stop>
-        ensures { Moves (λ _. string_bytes handle.new) result
+    // Writes the prefix over a handle that no directive declares.
+    fn write_undeclared_prefix(&mut self, handle: &mut String, place: Marker) -> Result<(), Stopped>
+        ensures written { Moves (λ _. string_bytes handle.new)
+            (stopped_by result self.new.scanner.stop)
             (spec.undeclared_prefix (string_bytes handle.old) place) }
+        ensures same { OnOk result (machine_of self.new ≡ machine_of self.old) }
     {
         if handle.as_str() == "!!" {
-            return Ok(write_over(handle, "tag:yaml.org,2002:")?);
+            let written = write_over(handle, "tag:yaml.org,2002:");
+            return self.scanner.keep(written);
         }
         if is_named(handle.as_str()) {
-            return Err(refuse(FaultText::UndeclaredHandle, place));
+            return Err(self.refuse(FaultText::UndeclaredHandle, place));
         }
         Ok(())
     }

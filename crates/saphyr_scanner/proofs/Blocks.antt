@@ -8,7 +8,7 @@ use Rattle.saphyr_scanner.specs.Steps.State.{State, with_core}
 use Rattle.saphyr_scanner.specs.Steps.Core.{Core, in_block}
 use Rattle.saphyr_scanner.specs.Steps.Unrolling.{end_blocks, end_block, is_right_of, with_outer_indent, go_less_deep, unroll}
 use Rattle.saphyr_scanner.specs.Views.Queue.{with_block_ends}
-use Rattle.saphyr_scanner.proofs.Rows.{next_end}
+use Rattle.saphyr_scanner.proofs.Queues.{next_end}
 use Rattle.saphyr_input.proofs.Basics.Booleans.{by_test}
 
 pub none_ends : (column : Option ℕ) (m : Marker) (is : List ℕ) (s : State) → is_right_of column s.core.indent ≡ false

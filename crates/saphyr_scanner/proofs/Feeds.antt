@@ -7,11 +7,11 @@ use Rattle.saphyr_scalar.specs.declared.scalar.position.Marker.{Marker}
 use Rattle.saphyr_scalar.specs.declared.scalar.fault.Refusal.{Refusal}
 use Rattle.saphyr_scalar.specs.Views.Cursor.{Cursor, ◌>>=◌, along, next_line, pass_break, pass_spaces}
 use Rattle.saphyr_scanner.specs.Steps.Core.{Core, drop_far_key, in_block, is_too_far, least_column, with_key}
-use Rattle.saphyr_scanner.specs.Steps.Fetch.{arrive, fetch_here}
+use Rattle.saphyr_scanner.specs.Steps.Fetch.{arrive}
 use Rattle.saphyr_scanner.specs.Steps.Gap.{GapEnd, stop, end_of_gap, end_of_gap_in_comment, is_tab_indentation, whole_gap}
 use Rattle.saphyr_scanner.specs.Steps.Passing.{behind_gap, check_comment, pass_gap, with_cursor}
 use Rattle.saphyr_scanner.specs.Steps.State.{State, with_core}
-use Rattle.saphyr_scanner.specs.Views.Ahead.{behind_feed, fetched, may_begin, with_content}
+use Rattle.saphyr_scanner.specs.Views.Ahead.{behind_feed, fetched, may_begin}
 use Rattle.saphyr_scanner.proofs.Gaps.{break_passed, spaces_passed}
 use Rattle.saphyr_scanner.proofs.RightHere.{no_gap}
 use Rattle.saphyr_input.proofs.Basics.Booleans.{and_false}
@@ -96,11 +96,6 @@ pub spaced_ahead : (s : State)
     → fetched (with_core (with_cursor (pass_spaces (2 ^ 64 - 1) s.core.cursor) s.core) s) ≡ fetched s
 unfolding arrive
 spaced_ahead s = rw (gap_spaced s.core) refl
-
-pub told_behind : (s t : State) → fetched t ≡ fetched s → arrive t ≡ Ok t → fetch_here t ≡ with_content t
-    → fetched s ≡ with_content t
-told_behind s t same arrived here =
-    sym same ∙ ap (λ (r : Result State Refusal). r >>= fetch_here) arrived ∙ here
 
 -- a candidate that is too far is dropped where a token begins
 pub dropped_ahead : (s : State) → may_begin (slice_index s.core.cursor.rest 0) ≡ true → s.core.comment ≡ None

@@ -1,5 +1,5 @@
-pub mod Rows
 pub mod Queues
+pub mod Parts
 pub mod Given
 pub mod Turns
 pub mod Unroll
@@ -19,8 +19,8 @@ pub mod LineTails
 pub mod Added
 pub mod Effects
 pub mod ReadersCounted
-pub mod HeldPlaces
-pub mod HeldReads
+pub mod QueuedPlaces
+pub mod QueuedReads
 pub mod LineTexts
 pub mod Reached
 pub mod LessIndented

@@ -6,7 +6,3 @@ use Rattle.std.proofs.lemmas.List.{reverse-append}
 pub top_off : {X : Type 0} → (before after : List X) (x : X) → before ≡ after ++ x ∷ []
     → reverse before ≡ x ∷ reverse after
 top_off before after x e = rw (e, reverse-append) refl
-
-pub top_on : {X : Type 0} → (before after : List X) (x : X) → after ≡ before ++ x ∷ []
-    → reverse after ≡ x ∷ reverse before
-top_on before after x e = rw (e, reverse-append) refl

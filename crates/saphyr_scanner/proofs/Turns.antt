@@ -1,20 +1,23 @@
 -- A token is handed out, and what remains.
-use Rattle.std.proofs.Common.{◌≡◌, ℕ, suc, ◌+◌, Bool, true, false, List, [], ◌∷◌, Result, Ok, Err, refl, sym, ap, ◌∙◌, arith}
-use Rattle.std.specs.Prelude.{◌&&◌, not, Option, Some, None, option_map}
+use Rattle.std.proofs.Common.{◌≡◌, ℕ, suc, ◌+◌, ◌<◌, ◌^◌, Bool, true, false, List, [], ◌∷◌, Result, Ok, Err, refl, sym, ap, subst, ◌∙◌, arith}
+use Rattle.std.specs.Prelude.{◌&&◌, not, IfOk, OnOk, Option, Some, None}
 use Rattle.saphyr_scalar.specs.declared.scalar.fault.Stop.{Stop}
 use Rattle.saphyr_scalar.specs.declared.scalar.fault.Stop.TheVariants as stops
-use Rattle.saphyr_scalar.specs.declared.scalar.position.Span.{Span}
-use Rattle.saphyr_scalar.specs.Views.Reader.{Fails, Moves}
-use Rattle.saphyr_scanner.specs.declared.token.Token.{Token}
+use Rattle.saphyr_scalar.specs.Views.Reader.{Moves}
+use Rattle.saphyr_scanner.specs.declared.stopped.Stopped.{Stopped}
+use Rattle.saphyr_scanner.specs.declared.token.TokenKind.{TokenKind}
+use Rattle.saphyr_scanner.specs.Views.Engine.{stopped_by}
 use Rattle.saphyr_scanner.specs.declared.queue.Opening.{Opening}
 use Rattle.saphyr_scanner.specs.declared.queue.Opening.TheVariants as opening
+use Rattle.saphyr_scanner.specs.Grammar.Tokens as tokens
 use Rattle.saphyr_scanner.specs.Grammar.Tokens.{Kind}
-use Rattle.saphyr_scanner.specs.Views.Queue.{PassesOffBy, TakenOff, TakesOffSome}
-use Rattle.saphyr_scanner.specs.Views.Tokens.{Piece, Remaining, none, before, piece, written_token, handed_token, CameFirst, Hands, PassesNext, TakesOneOf}
+use Rattle.saphyr_scanner.specs.Views.Queue.{first_of, kind_shown}
+use Rattle.saphyr_scanner.specs.Views.Scanning.{Ends, Peeks, Scanning, tokens_of}
+use Rattle.saphyr_scanner.specs.Views.Tokens.{BeginsWith, Parts, Piece, Remaining, none, before, kind_with, no_parts, piece_with, text_alone, token_kind}
 use Rattle.saphyr_scanner.specs.Steps.Queue.{Place}
-use Rattle.saphyr_scanner.specs.Steps.Core.{Core}
+use Rattle.saphyr_scanner.specs.Steps.Core.{Core, drop_far_key}
 use Rattle.saphyr_scanner.specs.Steps.State.{State}
-use Rattle.saphyr_scanner.specs.Steps.Fetch.{size, without_far_key, needs_token, fill, take_token}
+use Rattle.saphyr_scanner.specs.Steps.Fetch.{size, without_far_key, is_ready, needs_token, fill, take_token}
 use Rattle.saphyr_scanner.specs.Steps.Remaining.{before_place, remaining}
 use Rattle.saphyr_scanner.proofs.Effects.Readers.{Readers}
 use Rattle.saphyr_scanner.proofs.Filling.{IsSettled, settled_once}
@@ -78,69 +81,108 @@ filled laws limit s t e =
     let f = filled_in laws limit (suc (size b.0.core)) b.0 t (omega arith) (settled_once s b.0 b.1) b.2 in
     (remaining_is limit s b.0 b.1 ∙ f.same, f.ready, f.settles)
 
-hands : (limit : ℕ) (t u : State) (r : Option Token) (old : Remaining) → old ≡ rest limit t → IsSettled t
-    → TakesToken limit t (take_token t) → (option_map piece r, u) ≡ take_token t → Hands (Ok r) old (remaining limit u)
-hands limit t u None old is settles taken e =
-    let first : (take_token t).0 ≡ None = ap (λ x. x.0) (sym e) in
-    let second : u ≡ (take_token t).1 = ap (λ x. x.1) e in
-    let gone = rw first at taken in
-    (is ∙ gone.0, ap (remaining limit) (second ∙ gone.1) ∙ remaining_of limit t settles ∙ gone.0)
-hands limit t u (Some x) old is settles taken e =
-    let second : u ≡ (take_token t).1 = ap (λ x. x.1) e in
-    let gone = rw (ap (λ x. x.0) (sym e)) at taken in
-    is ∙ gone ∙ ap (before (piece x))
-    (sym (remaining_of limit (take_token t).1 (taken_settles t settles)) ∙ ap (remaining limit) (sym second))
+-- a state whose first token can be handed out
+pub ready : (s : State) → is_ready s ≡ true → IsSettled s × (needs_token s ≡ false)
+unfolding drop_far_key
+ready s e = grind arith
 
-hands_out : Readers → (limit : ℕ) (s t u : State) (r : Option Token) (old : Remaining) → fill limit s ≡ Ok t
-    → take_token t ≡ (option_map piece r, u) → remaining limit s ≡ old → Hands (Ok r) old (remaining limit u)
-hands_out laws limit s t u r old e took is =
+pub filled_ready : (s : State) → IsSettled s → needs_token s ≡ false → is_ready s ≡ true
+unfolding drop_far_key
+filled_ready s h e = grind arith
+
+-- what was read first, where tokens were read until the first can be handed out
+pub peeked : Readers → (limit : ℕ) (s t : State) → fill limit s ≡ Ok t
+    → (remaining limit t ≡ remaining limit s) × (is_ready t ≡ true)
+peeked laws limit s t e =
     let f = filled laws limit s t e in
-    hands limit t u r old (sym is ∙ f.0) f.2 (first_taken limit t.core t.queue.places t.queue.handed f.1) (sym took)
+    (remaining_of limit t f.2 ∙ sym f.0, filled_ready t f.2 f.1)
 
-pub stopped : Readers → (limit : ℕ) (s : State) (end : Stop) (old new : Remaining) → Fails end (fill limit s)
-    → remaining limit s ≡ old → Hands (Err end) old new
-stopped laws limit s stops.OutOfMemory old new f is = tt
-stopped laws limit s (stops.Refused e) old new f is = sym is ∙ refused_first laws limit s e f
+-- the first token of a state comes first
+pub first_comes : (limit : ℕ) (s : State) (t : Piece) → is_ready s ≡ true → first_of s.queue ≡ Some t
+    → remaining limit s ≡ before t (remaining limit (take_token s).1)
+first_comes limit s t e is =
+    let r = ready s e in
+    let gone = rw is at (first_taken limit s.core s.queue.places s.queue.handed r.1) in
+    remaining_of limit s r.0 ∙ gone ∙ ap (before t) (sym (remaining_of limit (take_token s).1 (taken_settles s r.0)))
 
-pub handed_over : Readers → (limit : ℕ) (s t u : State) (token : Token) (r : Result Bool Stop) (old : Remaining)
-    → fill limit s ≡ Ok t → Moves (λ x. (option_map piece (written_token x token), u)) r (Ok (take_token t))
-    → remaining limit s ≡ old → Hands (handed_token token r) old (remaining limit u)
-handed_over laws limit s t u token (Ok x) old e took is =
-    hands_out laws limit s t u (written_token x token) old e (cc) is
-handed_over laws limit s t u token (Err stops.OutOfMemory) old e took is = tt
-handed_over laws limit s t u token (Err (stops.Refused f)) old e took is = absurd (cc)
+pub none_comes : (limit : ℕ) (s : State) → is_ready s ≡ true → first_of s.queue ≡ None → remaining limit s ≡ none
+none_comes limit s e is =
+    let r = ready s e in
+    let gone = rw is at (first_taken limit s.core s.queue.places s.queue.handed r.1) in
+    remaining_of limit s r.0 ∙ gone.0
 
-pub passed_over : Readers → (limit : ℕ) (s t u : State) (kind : Kind) (r : Result (Option Span) Stop) (old : Remaining)
-    → fill limit s ≡ Ok t → PassesOffBy kind take_token r t u → remaining limit s ≡ old
-    → PassesNext kind r old (remaining limit u)
-passed_over laws limit s t u kind (Ok (Some span)) old e took is =
-    let f = filled laws limit s t e in
-    let second : (take_token t).1 ≡ u = ap (λ x. x.1) took in
-    let gone = rw (ap (λ x. x.0) took) at (first_taken limit t.core t.queue.places t.queue.handed f.1) in
-    sym is ∙ f.0 ∙ gone ∙ ap (before (record { span = span; kind = kind }))
-    (sym (remaining_of limit (take_token t).1 (taken_settles t f.2)) ∙ ap (remaining limit) second)
-passed_over laws limit s t u kind (Ok None) old e same is =
-    let f = filled laws limit s t e in
-    ap (remaining limit) same ∙ remaining_of limit t f.2 ∙ sym f.0 ∙ is
-passed_over laws limit s t u kind (Err stops.OutOfMemory) old e failed is = tt
-passed_over laws limit s t u kind (Err (stops.Refused f)) old e failed is = absurd (cc)
+-- the parts of a kind
+abbrev parts_of : Kind → Parts
+parts_of (tokens.VersionDirective major minor) = record { handle = []; text = []; major = major; minor = minor }
+parts_of (tokens.TagDirective handle prefix) = record { handle = handle; text = prefix; major = 0; minor = 0 }
+parts_of (tokens.ReservedDirective name) = text_alone name
+parts_of (tokens.Alias name) = text_alone name
+parts_of (tokens.Anchor name) = text_alone name
+parts_of (tokens.Tag handle suffix) = record { handle = handle; text = suffix; major = 0; minor = 0 }
+parts_of (tokens.Scalar style text) = text_alone text
+parts_of _ = no_parts
 
--- the same of a call whose result shows which token it took off
-first_off : Readers → (limit : ℕ) (s t u : State) (r : Option Piece) (old : Remaining) → fill limit s ≡ Ok t
-    → TakenOff take_token r t u → remaining limit s ≡ old → CameFirst r old (remaining limit u)
-first_off laws limit s t u (Some x) old e took is =
-    let f = filled laws limit s t e in
-    let second : (take_token t).1 ≡ u = ap (λ x. x.1) took in
-    let gone = rw (ap (λ x. x.0) took) at (first_taken limit t.core t.queue.places t.queue.handed f.1) in
-    sym is ∙ f.0 ∙ gone ∙ ap (before x)
-    (sym (remaining_of limit (take_token t).1 (taken_settles t f.2)) ∙ ap (remaining limit) second)
-first_off laws limit s t u None old e same is =
-    let f = filled laws limit s t e in
-    ap (remaining limit) same ∙ remaining_of limit t f.2 ∙ sym f.0 ∙ is
+kind_again : (k : Kind) → kind_with (token_kind k) (parts_of k) ≡ k
+kind_again k = grind arith
 
-pub some_off : {A : Type 0} → Readers → (limit : ℕ) (s t u : State) (shown : A → Option Piece) (r : Result A Stop)
-    (old : Remaining) → fill limit s ≡ Ok t → TakesOffSome shown take_token r t u → remaining limit s ≡ old
-    → TakesOneOf shown r old (remaining limit u)
-some_off laws limit s t u shown (Ok x) old e took is = first_off laws limit s t u (shown x) old e took is
-some_off laws limit s t u shown (Err stops.OutOfMemory) old e failed is = tt
-some_off laws limit s t u shown (Err (stops.Refused f)) old e failed is = absurd (cc)
+-- What is told of the first token is so.
+pub begins : (limit : ℕ) (s : State) → is_ready s ≡ true
+    → BeginsWith (kind_shown (first_of s.queue)) (remaining limit s)
+begins limit s e = by (first_of s.queue) refl
+  where
+    by : (o : Option Piece) → first_of s.queue ≡ o → BeginsWith (kind_shown o) (remaining limit s)
+    by None is = none_comes limit s e is
+    by (Some t) is =
+        let same : piece_with t.span (token_kind t.kind) (parts_of t.kind) ≡ t =
+        λ i. record { span = t.span; kind = kind_again t.kind i } in (
+          t.span,
+          parts_of t.kind,
+          remaining limit (take_token s).1,
+          first_comes limit s t e is ∙ ap (λ u. before u (remaining limit (take_token s).1)) (sym same),
+        )
+
+-- the first of some tokens, and those after it
+abbrev head_or : Piece → List Piece → Piece
+head_or t [] = t
+head_or t (u ∷ us) = u
+
+abbrev tail : List Piece → List Piece
+tail [] = []
+tail (u ∷ us) = us
+
+-- There is only one first token.
+pub one_first : (limit : ℕ) (s : State) (t : Piece) (left : Remaining) → is_ready s ≡ true
+    → remaining limit s ≡ before t left
+    → (first_of s.queue ≡ Some t) × (remaining limit (take_token s).1 ≡ left)
+one_first limit s t left e is = by (first_of s.queue) refl
+  where
+    by : (o : Option Piece) → first_of s.queue ≡ o
+        → (first_of s.queue ≡ Some t) × (remaining limit (take_token s).1 ≡ left)
+    by None over =
+        let both : ◌≡◌ {A = List Piece} [] (t ∷ left.pieces) =
+        ap (λ (r : Remaining). r.pieces) (sym (none_comes limit s e over) ∙ is) in
+        absurd (cc)
+    by (Some u) some =
+        let both = sym (first_comes limit s u e some) ∙ is in
+        let same = ap (λ (r : Remaining). head_or u r.pieces) both in
+        let rest : remaining limit (take_token s).1 ≡ left =
+        λ i. record { pieces = tail (both i).pieces; refusal = (both i).refusal } in
+        (some ∙ ap Some same, rest)
+
+-- What a call shows of the first token, and what it leaves.
+pub peeks : Readers → (old new : Scanning) (r : Result (Option TokenKind) Stopped) → new.limit ≡ old.limit
+    → Moves (λ _. new.state) (stopped_by r new.stop) (fill old.limit old.state)
+    → IfOk r (λ kind. kind ≡ kind_shown (first_of new.state.queue))
+    → OnOk r (new.state.queue.handed + 1 < 2 ^ 64) → Peeks r old new
+peeks laws old new (Ok kind) limit filled shown counted =
+    let read : fill old.limit old.state ≡ Ok new.state = filled in
+    let p = peeked laws old.limit old.state new.state read in
+    let same : tokens_of new ≡ tokens_of old = ap (λ n. remaining n new.state) limit ∙ p.0 in
+    let first = begins new.limit new.state p.1 in
+    (subst (BeginsWith kind) same (subst (λ k. BeginsWith k (tokens_of new)) (sym shown) first), same, (p.1, counted))
+peeks laws old new (Err e) limit failed shown counted = by new.stop failed
+  where
+    by : (end : Stop) → Moves (λ _. new.state) (stopped_by {A = Option TokenKind} (Err e) end) (fill old.limit old.state)
+        → Ends end (tokens_of old)
+    by stops.OutOfMemory f = tt
+    by (stops.Refused d) f = refused_first laws old.limit old.state d f

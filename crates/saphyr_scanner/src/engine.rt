@@ -16,25 +16,26 @@ mod property;
 mod scalar;
 mod value;
 
-ghost use Rattle.std.specs.Prelude.{◌≡◌, ◌+◌, ◌<◌, ◌≤◌, ◌^◌, length, string_bytes, Ok, OnOk};
+ghost use Rattle.std.specs.Prelude.{◌≡◌, ◌+◌, ◌<◌, ◌≤◌, ◌^◌, length, string_bytes, Ok};
 ghost use Rattle.saphyr_scanner.specs.Grammar.Tokens as tokens;
 ghost use Rattle.saphyr_scanner.specs.Steps.Core as spec;
 ghost use Rattle.saphyr_scanner.specs.Steps.Passing as passing;
 ghost use Rattle.saphyr_scanner.specs.Steps.State as spec_state;
 
 use crate::gap::skip_gap;
-use crate::queue::{Indicator, Queue};
-use crate::token::{Token, TokenType};
+use crate::queue::{Extent, Queue};
+use crate::stopped::{Stopped, keep};
+use crate::token::TokenKind;
 pub(crate) use level::{Candidate, Context, Level};
 use saphyr_input::input::{Input, SkipTabs};
 use saphyr_scalar::{FaultText, Marker, Reader, Refusal, ScalarStyle, Span, Stop};
-use std::alloc::{AllocError, Global};
+use std::alloc::Global;
 
 /// The state of a scanner: the rest of the text, the tokens that were read and not handed out, and
 /// what is open.
 ///
-/// The steps for every token are inlined. A call clears the place of its result first and copies
-/// the result after, which costs more than most steps.
+/// The steps for every token are inlined, since a call costs more than most of them. What ended the reading is a field:
+/// a result with room for it would be cleared before each call and copied after it.
 #[derive(Drop)]
 pub(crate) struct Engine<T: Input> {
     // The rest of the text, and the place that is reached.
@@ -69,7 +70,7 @@ pub(crate) struct Engine<T: Input> {
     started: bool,
     // Whether the token of the stream's end was put into the queue.
     ended: bool,
-    // What ended the reading, once a call has returned `false`.
+    // What ended the reading, once a call has returned `Stopped`.
     stop: Stop,
     // Where the memory of tokens and their texts comes from.
     alloc: Global,
@@ -78,9 +79,8 @@ pub(crate) struct Engine<T: Input> {
 impl<T: Input> Engine<T> {
     ghost use Rattle.std.specs.Prelude.{Err, false};
     ghost use Rattle.saphyr_scalar.specs.Views.Reader.{Moves};
-    ghost use Rattle.saphyr_scanner.specs.Views.Engine.{state, CarriesBy, answer_of};
-    ghost use Rattle.saphyr_scanner.specs.Views.Places.{indicator_kind};
-    ghost use Rattle.saphyr_scanner.specs.Views.Tokens.{kind_of};
+    ghost use Rattle.saphyr_scanner.specs.Views.Engine.{state, stopped_by, CarriesBy, Keeps, Performs};
+    ghost use Rattle.saphyr_scanner.specs.Views.Tokens.{kind_with, no_parts};
     ghost use Rattle.saphyr_scalar.specs.declared.scalar.fault.Stop.TheVariants.{Refused};
 
     pub(crate) fn new(alloc: Global, input: T) -> Self
@@ -153,169 +153,136 @@ impl<T: Input> Engine<T> {
         self.level.context.is_block()
     }
 
-    // A refusal at a place.
-    fn refuse(text: FaultText, mark: Marker) -> Stop
-        ensures { result ≡ Refused (record { text = text; mark = mark }) }
+    /// What ended the reading, once a call has returned `Stopped`.
+    pub(crate) fn stop(&self) -> Stop
+        ensures { result ≡ self.now.stop }
     {
-        Stop::Refused(Refusal { text, mark })
+        self.stop
     }
 
-    // A refusal at the place that is reached.
-    fn refuse_here(&self, text: FaultText) -> Stop
-        ensures { result ≡ Refused (record
-            { text = text; mark = (state self.now).core.cursor.mark }) }
+    /// Keeps what ended the reading, for a caller that stops.
+    pub(crate) fn stop_at(&mut self, stop: Stop) -> Stopped
+        ensures { self.new.stop ≡ stop }
     {
-        Self::refuse(text, self.reader.mark())
+        self.stop = stop;
+        Stopped
     }
 
-    // Keeps what ended the reading. Returns whether nothing did.
+    /// Passes on what a call returned, and keeps what ended the reading, if something did.
     #[inline(always)]
-    fn keep(&mut self, ended: Result<(), Stop>) -> bool
-        ensures told { answer_of result self.new.stop ≡ ended }
+    pub(crate) fn keep<R, E: Into<Stop>>(&mut self, read: Result<R, E>) -> Result<R, Stopped>
+        ensures kept { Keeps E.converts read result self.new.stop }
         ensures same { state self.new ≡ state self.old }
     {
-        match ended {
-            Ok(()) => true,
-            Err(stop) => {
-                self.stop = stop;
-                false
-            }
-        }
+        keep(&mut self.stop, read)
     }
 
-    // Puts a token from one place to another into the queue.
-    #[inline(always)]
-    fn put(&mut self, start: Marker, end: Marker, kind: TokenType) -> Result<(), AllocError>
-        ensures { OnOk result (state self.new
-            ≡ spec_state.with_action (spec.from_to start end (kind_of kind)) (state self.old)) }
+    // The text is refused at a place.
+    fn refuse(&mut self, text: FaultText, mark: Marker) -> Stopped
+        ensures { self.new.stop ≡ Refused (record { text = text; mark = mark }) }
     {
-        let span = Span::new(start, end);
-        self.queue.put(Token { span, kind }, &mut self.reader.spare)
+        self.stop = Stop::Refused(Refusal { text, mark });
+        Stopped
     }
 
-    // Puts a scalar from one place to another into the queue.
-    #[inline(always)]
-    fn put_scalar(
-        &mut self,
-        start: Marker,
-        end: Marker,
-        style: ScalarStyle,
-        text: String,
-    ) -> Result<(), AllocError>
-        ensures { OnOk result (state self.new ≡ spec_state.with_action
-            (spec.from_to start end (tokens.Scalar style (string_bytes text))) (state self.old)) }
-    {
-        let span = Span::new(start, end);
-        self.queue
-            .put_scalar(span, style, text, &mut self.reader.spare)
-    }
-
-    // Puts an indicator from one place to another into the queue.
-    #[inline(always)]
-    fn put_indicator(
-        &mut self,
-        start: Marker,
-        end: Marker,
-        indicator: Indicator,
-    ) -> Result<(), AllocError>
-        ensures { OnOk result (state self.new ≡ spec_state.with_action
-            (spec.from_to start end (indicator_kind indicator)) (state self.old)) }
-    {
-        self.queue.put_indicator(&start, &end, indicator)
-    }
-
-    // Puts an indicator without characters into the queue.
-    #[inline(always)]
-    fn put_empty_indicator(&mut self, mark: Marker, indicator: Indicator) -> Result<(), AllocError>
-        ensures { OnOk result (state self.new ≡ spec_state.with_action
-            (spec.at_mark mark (indicator_kind indicator)) (state self.old)) }
-    {
-        self.queue.put_indicator(&mark, &mark, indicator)
-    }
-
-    // The same where the reader is. For speed the place is not copied in between, as it would be for a call.
-    #[inline(always)]
-    fn put_here(&mut self, indicator: Indicator) -> Result<(), AllocError>
-        ensures { OnOk result (state self.new ≡ spec_state.with_action
-            (spec.at_mark (state self.old).core.cursor.mark (indicator_kind indicator))
-            (state self.old)) }
-    {
-        if self.queue.is_holding() {
-            return self.put_here_behind(indicator);
-        }
-        let mark = self.reader.mark();
-        self.put_empty_indicator(mark, indicator)
-    }
-
-    // The same after tokens that are held.
-    #[inline(never)]
-    fn put_here_behind(&mut self, indicator: Indicator) -> Result<(), AllocError>
-        ensures { OnOk result (state self.new ≡ spec_state.with_action
-            (spec.at_mark (state self.old).core.cursor.mark (indicator_kind indicator))
-            (state self.old)) }
+    // The text is refused at the place that is reached.
+    fn refuse_here(&mut self, text: FaultText) -> Stopped
+        ensures { self.new.stop ≡ Refused (record
+            { text = text; mark = (state self.old).core.cursor.mark }) }
     {
         let mark = self.reader.mark();
-        self.put_empty_indicator(mark, indicator)
+        self.refuse(text, mark)
     }
 
-    // Puts an indicator that ends here into the queue.
+    // Puts a token without parts from one place to another into the queue.
     #[inline(always)]
-    fn put_indicator_from(&mut self, start: Marker, indicator: Indicator) -> Result<(), AllocError>
-        ensures { OnOk result (state self.new ≡ spec_state.with_action
-            (spec.up_to_here start (indicator_kind indicator) (state self.old).core)
-            (state self.old)) }
+    fn put(&mut self, start: Marker, end: Marker, kind: TokenKind) -> Result<(), Stopped>
+        ensures { Performs (spec.from_to start end (kind_with kind no_parts)) self.old result
+            self.new }
     {
-        let end = self.reader.mark();
-        self.put_indicator(start, end, indicator)
+        keep(&mut self.stop, self.queue.put(kind, &start, &end))
     }
 
     // Puts a token without characters into the queue.
     #[inline(always)]
-    fn put_empty(&mut self, mark: Marker, kind: TokenType) -> Result<(), AllocError>
-        ensures { OnOk result (state self.new
-            ≡ spec_state.with_action (spec.at_mark mark (kind_of kind)) (state self.old)) }
+    fn put_empty(&mut self, mark: Marker, kind: TokenKind) -> Result<(), Stopped>
+        ensures { Performs (spec.at_mark mark (kind_with kind no_parts)) self.old result self.new }
     {
         self.put(mark, mark, kind)
     }
 
-    // Puts a token that ends here into the queue.
+    // Puts a token without characters into the queue where the reader is.
     #[inline(always)]
-    fn put_from(&mut self, start: Marker, kind: TokenType) -> Result<(), AllocError>
-        ensures { OnOk result (state self.new
-            ≡ spec_state.with_action (spec.up_to_here start (kind_of kind) (state self.old).core)
-            (state self.old)) }
+    fn put_here(&mut self, kind: TokenKind) -> Result<(), Stopped>
+        ensures { Performs (spec.at_mark (state self.old).core.cursor.mark (kind_with kind no_parts))
+            self.old result self.new }
+    {
+        let mark = self.reader.mark();
+        self.put(mark, mark, kind)
+    }
+
+    // Puts a token without parts that ends here into the queue.
+    #[inline(always)]
+    fn put_from(&mut self, start: Marker, kind: TokenKind) -> Result<(), Stopped>
+        ensures { Performs (spec.up_to_here start (kind_with kind no_parts) (state self.old).core)
+            self.old result self.new }
     {
         let end = self.reader.mark();
         self.put(start, end, kind)
     }
 
+    // Puts a token with these parts into the queue.
+    #[tactic(auto, using(crate::proofs::Parts::all_parts))]
+    fn put_parts(
+        &mut self,
+        span: Span,
+        kind: TokenKind,
+        handle: &str,
+        text: &str,
+        major: u32,
+        minor: u32,
+    ) -> Result<(), Stopped>
+        ensures { Performs (spec.from_to span.start span.end (kind_with kind (record
+            { handle = handle.now; text = text.now; major = major; minor = minor })))
+            self.old result self.new }
+    {
+        let extent = Extent {
+            span,
+            handle: handle.len(),
+            text: text.len(),
+            major,
+            minor,
+        };
+        let put = self.queue.put_parts(kind, extent, handle, text);
+        keep(&mut self.stop, put)
+    }
+
     // Passes blanks and a comment, up to the end of the line.
     #[inline(always)]
-    fn separate(&mut self) -> Result<SkipTabs, Stop>
-        ensures { Moves (λ found. (found, state self.new)) result
+    fn separate(&mut self) -> Result<SkipTabs, Stopped>
+        ensures { Moves (λ found. (found, state self.new)) (stopped_by result self.new.stop)
             (spec_state.on_core_with (passing.separate (state self.old).core) (state self.old)) }
     {
-        Ok(self.reader.skip_ws_to_eol(SkipTabs::Yes)?)
+        keep(&mut self.stop, self.reader.skip_ws_to_eol(SkipTabs::Yes))
     }
 
     // Passes what is between two tokens.
-    #[inline(always)]
+    #[inline(never)]
     #[tactic(auto, unfolding(crate::specs::Steps::Passing::pass_gap))]
-    fn pass_gap(&mut self) -> Result<(), Stop>
+    fn pass_gap(&mut self) -> Result<(), Stopped>
         ensures { CarriesBy passing.pass_gap self.old result self.new }
     {
         let least = self.least_column();
-        if skip_gap(&mut self.reader, least)? && self.in_block() {
+        if keep(&mut self.stop, skip_gap(&mut self.reader, least))? && self.in_block() {
             self.key_allowed = true;
         }
-        self.check_comment()?;
-        Ok(())
+        self.check_comment()
     }
 
     // Refuses a comment that ended a plain scalar, if the next line could go on with the scalar.
     #[inline(always)]
     #[tactic(auto, unfolding(crate::specs::Steps::Passing::check_comment))]
-    fn check_comment(&mut self) -> Result<(), Stop>
+    fn check_comment(&mut self) -> Result<(), Stopped>
         ensures { CarriesBy passing.check_comment self.old result self.new }
     {
         let Some(comment) = self.comment else {
@@ -323,7 +290,7 @@ impl<T: Input> Engine<T> {
         };
         self.comment = None;
         if self.goes_on_behind(comment) {
-            return Err(Self::refuse(FaultText::CommentInsideText, comment));
+            return Err(self.refuse(FaultText::CommentInsideText, comment));
         }
         Ok(())
     }

@@ -7,9 +7,9 @@ pub mod law;
 mod queue;
 mod scanner;
 mod stepping;
+mod stopped;
 mod token;
 
-pub use queue::{Indicator, NodeStart, Which};
 pub use scanner::Scanner;
-pub use stepping::StepScanner;
-pub use token::{TagPrefix, Token, TokenType};
+pub use stopped::Stopped;
+pub use token::{Token, TokenKind, TokenParts};

@@ -1,36 +1,23 @@
 //! Tokens: the indicators, properties and scalars of a text in order, and among them tokens without characters, such as
 //! the starts and ends of block collections and a key without `?`.
 
-mod cloning;
-
 ghost use Rattle.std.specs.Prelude.{◌≡◌};
-ghost use Rattle.saphyr_scanner.specs.Views.Tokens.{kind_of, piece};
+ghost use Rattle.saphyr_scanner.specs.Views.Tokens.{no_parts, parts, style_of};
 
-use saphyr_scalar::scalar::TagParts;
-use saphyr_scalar::{Marker, ScalarStyle, Span};
-
-/// The handle of a tag directive, and its prefix.
-#[derive(Clone, Debug, Drop)]
-pub struct TagPrefix {
-    pub handle: String,
-    pub prefix: String,
-}
+use saphyr_scalar::{ScalarStyle, Span};
+use std::alloc::Global;
 
 /// What a token is.
-///
-/// A tag and a tag directive have the handle as it is written, which is empty for `!` and
-/// `!<uri>`. Percent escapes in suffixes and prefixes are decoded. Both are boxed to keep tokens
-/// small, since many may be held.
-#[derive(Debug, Drop)]
-pub enum TokenType {
+#[derive(Clone, Copy, Debug, PartialEq, Eq)]
+pub enum TokenKind {
     StreamStart,
     StreamEnd,
     /// The two numbers of a version directive.
-    VersionDirective(u32, u32),
+    VersionDirective,
     /// The handle and the prefix of a tag directive.
-    TagDirective(Box<TagPrefix>),
+    TagDirective,
     /// The name of a reserved directive.
-    ReservedDirective(String),
+    ReservedDirective,
     /// The marker `---`.
     DocumentStart,
     /// The marker `...`.
@@ -47,38 +34,72 @@ pub enum TokenType {
     FlowEntry,
     Key,
     Value,
-    Alias(String),
-    Anchor(String),
+    /// The name after `*`.
+    Alias,
+    /// The name after `&`.
+    Anchor,
     /// The handle and the suffix of a tag.
-    Tag(Box<TagParts>),
-    Scalar(ScalarStyle, String),
+    Tag,
+    /// The text of a plain scalar, and so for the other styles of scalars.
+    Plain,
+    SingleQuoted,
+    DoubleQuoted,
+    Literal,
+    Folded,
+}
+
+impl TokenKind {
+    /// The style of a scalar, if the token is one.
+    #[must_use]
+    #[inline(always)]
+    pub fn style(self) -> Option<ScalarStyle>
+        ensures { result ≡ style_of self }
+    {
+        match self {
+            TokenKind::Plain => Some(ScalarStyle::Plain),
+            TokenKind::SingleQuoted => Some(ScalarStyle::SingleQuoted),
+            TokenKind::DoubleQuoted => Some(ScalarStyle::DoubleQuoted),
+            TokenKind::Literal => Some(ScalarStyle::Literal),
+            TokenKind::Folded => Some(ScalarStyle::Folded),
+            _ => None,
+        }
+    }
+}
+
+/// What a token has besides its kind and its place. What its kind doesn't have is empty, or 0.
+///
+/// A tag and a tag directive have the handle as it is written, which is empty for `!` and
+/// `!<uri>`. Percent escapes in suffixes and prefixes are decoded.
+#[derive(Debug, Drop)]
+pub struct TokenParts {
+    pub handle: String,
+    pub text: String,
+    pub major: u32,
+    pub minor: u32,
+}
+
+impl TokenParts {
+    /// Those of most kinds of tokens.
+    #[must_use]
+    pub fn none(alloc: Global) -> TokenParts
+        ensures { parts result ≡ no_parts }
+    {
+        TokenParts {
+            handle: String::new(alloc),
+            text: String::new(alloc),
+            major: 0,
+            minor: 0,
+        }
+    }
 }
 
 /// A token and its place.
 #[derive(Debug, Drop)]
 pub struct Token {
     pub span: Span,
-    pub kind: TokenType,
+    pub kind: TokenKind,
+    pub parts: TokenParts,
 }
 
-impl Token {
-    /// The first token of each text, as a place for others.
-    #[must_use]
-    #[inline(always)]
-    pub fn at_start() -> Token {
-        let start = Marker::new(0, 0, 0);
-        Token {
-            span: Span::empty(start),
-            kind: TokenType::StreamStart,
-        }
-    }
-
-    // Writes another token over this one.
-    #[inline(always)]
-    pub(crate) fn set(&mut self, span: Span, kind: TokenType)
-        ensures { piece self.new ≡ record { span = span; kind = kind_of kind } }
-    {
-        self.span = span;
-        self.kind = kind;
-    }
-}
+// Each place of the queue has one.
+const _: () = prove!(size_of::<TokenKind>() == 1);

@@ -61,6 +61,9 @@ with_version place d =
     if d.version then Err (record { text = fault.DuplicateVersionDirective; mark = place })
     else Ok (record { version = true; handles = d.handles })
 
+abbrev pub version_declared : Marker → Declared → Machine → Result (Declared × Machine) Refusal
+version_declared place d m = with_version place d >>= (λ e. Ok (e, m))
+
 -- and so is each handle
 abbrev pub with_handle : List ℕ → List ℕ → Marker → Declared → Machine → Result (Declared × Machine) Refusal
 with_handle handle prefix place d m =
@@ -73,7 +76,7 @@ with_handle handle prefix place d m =
 
 -- reserved directives are ignored
 abbrev pub directive_at : Kind → Piece → Declared → Machine → Result (Declared × Machine) Refusal
-directive_at (tokens.VersionDirective major minor) t d m = with_version t.span.start d >>= (λ e. Ok (e, m))
+directive_at (tokens.VersionDirective major minor) t d m = version_declared t.span.start d m
 directive_at (tokens.TagDirective handle prefix) t d m = with_handle handle prefix t.span.start d m
 directive_at _ t d m = Ok (d, m)
 
@@ -120,11 +123,15 @@ explicit_document_at tokens.DocumentStart t m =
 explicit_document_at tokens.ByteOrderMark t m = refusal_at fault.MisplacedByteOrderMark t
 explicit_document_at _ t m = refusal_at fault.DocumentStartExpected t
 
+-- directives and `---` come next
+abbrev pub next_document : Machine → Result Told Refusal
+next_document m = do
+  u ← directives none_declared m
+  explicit_document_at u.0.kind u.0 u.1
+
 -- directives and `---` begin with the token
 unfoldable pub explicit_document : Piece → Machine → Result Told Refusal
-explicit_document t m = do
-  u ← directives none_declared (put_back t m)
-  explicit_document_at u.0.kind u.0 u.1
+explicit_document t m = next_document (put_back t m)
 
 -- a document without `---` begins with the token
 unfoldable pub bare_document : Piece → Machine → Result Told Refusal

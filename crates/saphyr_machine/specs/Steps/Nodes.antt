@@ -14,7 +14,7 @@ use Rattle.saphyr_machine.specs.declared.state.State.{State}
 use Rattle.saphyr_machine.specs.declared.state.State.TheVariants as state
 use Rattle.saphyr_machine.specs.Events as events
 use Rattle.saphyr_machine.specs.Events.{ResolvedTag}
-use Rattle.saphyr_machine.specs.Steps.Machine.{◌>>=◌, Machine, Told, told_event, refusal_at, taken_token, put_back, pop, with_state, push, meaning, with_anchor, next_id}
+use Rattle.saphyr_machine.specs.Steps.Machine.{◌>>=◌, Machine, Names, Told, told_event, refusal_at, taken_token, put_back, pop, with_state, push, meaning, with_anchor, next_id}
 use Rattle.saphyr_machine.specs.Steps.Contexts.{allows_block, allows_indentless}
 use Rattle.saphyr_machine.specs.Steps.Tags.{resolved_tag_at}
 
@@ -151,3 +151,21 @@ node c t m = node_at t.kind c t m
 -- a node inside a collection, which goes on in the state after it
 abbrev pub node_inside : State → NodeContext → Piece → Machine → Result Told Refusal
 node_inside s c t m = node c t (push s m)
+
+-- ## The same of the next token
+
+abbrev pub next_node : NodeContext → Machine → Result Told Refusal
+next_node c m = do
+  t ← taken_token m
+  node c t.0 t.1
+
+abbrev pub next_inside : State → NodeContext → Machine → Result Told Refusal
+next_inside s c m = do
+  t ← taken_token m
+  node_inside s c t.0 t.1
+
+-- the tag at a place, and the machine behind it
+abbrev pub tag_taken : Names (List ℕ) → List ℕ → List ℕ → Marker → Machine → Result (ResolvedTag × Machine) Refusal
+tag_taken prefixes handle suffix place m = do
+  tag ← resolved_tag_at prefixes handle suffix place
+  Ok (tag, m)

@@ -4,20 +4,15 @@ use Rattle.saphyr_scalar.specs.declared.scalar.fault.Refusal.{Refusal}
 use Rattle.saphyr_scalar.specs.declared.scalar.fault.Stop.{Stop}
 use Rattle.saphyr_scalar.specs.declared.scalar.position.Span.{Span}
 use Rattle.saphyr_scalar.specs.Views.Reader.{Fails, Moves}
-use Rattle.saphyr_scanner.specs.declared.queue.Which.{Which}
-use Rattle.saphyr_scanner.specs.declared.queue.Which.TheVariants as which
-use Rattle.saphyr_scanner.specs.declared.token.Token.{Token}
-use Rattle.saphyr_scanner.specs.Grammar.Tokens.{Kind}
-use Rattle.saphyr_scanner.specs.Views.Tokens.{Remaining, Piece, piece, before}
+use Rattle.saphyr_scanner.specs.declared.stopped.Stopped.{Stopped}
+use Rattle.saphyr_scanner.specs.declared.token.TokenKind.{TokenKind}
+use Rattle.saphyr_scanner.specs.Views.Engine.{stopped_by}
+use Rattle.saphyr_scanner.specs.Views.Scanning.{IsReady, tokens_of}
+use Rattle.saphyr_scanner.specs.Views.Tokens.{Parts, Remaining, Piece, piece_with}
 use Rattle.saphyr_machine.specs.declared.event.Event.{Event}
 use Rattle.saphyr_machine.specs.declared.machine.Machine as declared
 pub use Rattle.saphyr_machine.specs.Views.Events.{happening, resolved_tag}
 use Rattle.saphyr_machine.specs.Steps.Machine.{Machine, Told, taken_token}
-
--- the tokens still to be read, of which one may be read already
-abbrev pub with_token_ahead : Option Token → Remaining → Remaining
-with_token_ahead None r = r
-with_token_ahead (Some t) r = before (piece t) r
 
 -- the first refusal, if there is one, or else the second
 abbrev pub own_or : Option Refusal → Option Refusal → Option Refusal
@@ -30,7 +25,7 @@ with_end end r = record { pieces = r.pieces; refusal = own_or r.refusal end }
 
 abbrev pub machine_of : {T : Type 0} → declared.Machine T → Machine
 machine_of m = record {
-  tokens = with_token_ahead m.token (with_end m.end m.scanner);
+  tokens = with_end m.end (tokens_of m.scanner);
   state = m.state;
   states = m.states;
   anchors = m.anchors;
@@ -42,43 +37,29 @@ machine_of m = record {
 abbrev pub told_event_of : Machine → Event × Span → Told
 told_event_of m e = record { what = happening e.0; span = e.1; machine = m }
 
--- The token that a call returned, and the machine that it left, are what the function gives, unless memory ran out.
-abbrev pub TakesBy
-    : {T : Type 0}
-    → (Machine → Result (Piece × Machine) Refusal) → declared.Machine T → Result Token Stop → declared.Machine T
-    → Type 0
-TakesBy f old result new = Moves (λ t. (piece t, machine_of new)) result (f (machine_of old))
-
 -- What a call returned, and the event and the machine that it left, are what the function gives, unless memory ran out.
 abbrev pub TellsBy
     : {T : Type 0}
-    → (Machine → Result Told Refusal) → declared.Machine T → Result Unit Stop → Event × Span
+    → (Machine → Result Told Refusal) → declared.Machine T → Result Unit Stopped → Event × Span
     → declared.Machine T → Type 0
-TellsBy f old result next new = Moves (λ _. told_event_of (machine_of new) next) result (f (machine_of old))
+TellsBy f old result next new =
+    Moves (λ _. told_event_of (machine_of new) next) (stopped_by result new.scanner.stop) (f (machine_of old))
 
--- What a call that passes the next token if it has this kind returned, and the machine that it left. `None` says that
--- it passed none.
-abbrev pub PassesTokenBy
-    : {T : Type 0} → Kind → declared.Machine T → Result (Option Span) Stop → declared.Machine T → Type 0
-PassesTokenBy kind old (Ok (Some span)) new =
-    taken_token (machine_of old) ≡ Ok (record { span = span; kind = kind }, machine_of new)
-PassesTokenBy kind old (Ok None) new = machine_of new ≡ machine_of old
-PassesTokenBy kind old (Err e) new = Fails e (taken_token (machine_of old))
+-- The next token is of this kind, and can be taken.
+abbrev pub IsNext : {T : Type 0} → TokenKind → declared.Machine T → Type 0
+IsNext kind m =
+    ((span : Span) × (x : Parts) × (left : Machine) × (taken_token (machine_of m) ≡ Ok (piece_with span kind x, left)))
+    × IsReady m.scanner
 
--- This token came first. Without one the machine is the same.
-abbrev pub IsTakenOff : Option Piece → Machine → Machine → Type 0
-IsTakenOff (Some t) m n = taken_token m ≡ Ok (t, n)
-IsTakenOff None m n = n ≡ m
+-- What a call showed of the next token, which stays, unless there is none or memory ran out.
+abbrev pub PeeksBy : {T : Type 0} → declared.Machine T → Result TokenKind Stopped → declared.Machine T → Type 0
+PeeksBy old (Ok kind) new = IsNext kind new × (machine_of new ≡ machine_of old)
+PeeksBy old (Err e) new = Fails new.scanner.stop (taken_token (machine_of old))
 
--- What a call that takes the next token only if it is seen to be of some kinds returned, by which token that shows, and
--- the machine that it left.
-abbrev pub TakesSomeBy
-    : {A T : Type 0} → (A → Option Piece) → declared.Machine T → Result A Stop → declared.Machine T → Type 0
-TakesSomeBy shown old (Ok x) new = IsTakenOff (shown x) (machine_of old) (machine_of new)
-TakesSomeBy shown old (Err e) new = Fails e (taken_token (machine_of old))
-
--- Where an indicator was passed, no token is put back.
-abbrev pub HasRoom : Result Which Stop → Option Token → Type 0
-HasRoom (Ok which.First) t = t ≡ None
-HasRoom (Ok which.Second) t = t ≡ None
-HasRoom _ t = Unit {0}
+-- The token that comes next after a call is the one that the function takes, unless memory ran out.
+abbrev pub ComesTo
+    : {T : Type 0}
+    → (Machine → Result (Piece × Machine) Refusal) → declared.Machine T → Result TokenKind Stopped → declared.Machine T
+    → Type 0
+ComesTo f old (Ok kind) new = IsNext kind new × (f (machine_of old) ≡ taken_token (machine_of new))
+ComesTo f old (Err e) new = Fails new.scanner.stop (f (machine_of old))

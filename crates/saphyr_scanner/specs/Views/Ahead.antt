@@ -4,12 +4,10 @@ use Rattle.saphyr_input.specs.declared.input.Input.{Ghosts}
 use Rattle.saphyr_input.specs.Classes.{is_from}
 use Rattle.saphyr_input.specs.Indicators.{full_stop, hyphen, number_sign, percent_sign, quotation_mark}
 use Rattle.saphyr_scalar.specs.declared.scalar.fault.Refusal.{Refusal}
-use Rattle.saphyr_scalar.specs.declared.scalar.fault.Stop.{Stop}
 use Rattle.saphyr_scalar.specs.Views.Cursor.{◌>>=◌, pass_break, pass_spaces}
 use Rattle.saphyr_scalar.specs.Views.Reader.{Fails}
 use Rattle.saphyr_scanner.specs.declared.engine.Engine.{Engine}
-use Rattle.saphyr_scanner.specs.declared.engine.arrive.Ahead.{Ahead}
-use Rattle.saphyr_scanner.specs.declared.engine.arrive.Ahead.TheVariants as ahead
+use Rattle.saphyr_scanner.specs.declared.stopped.Stopped.{Stopped}
 use Rattle.saphyr_scanner.specs.Steps.Core.{Core, in_block}
 use Rattle.saphyr_scanner.specs.Steps.State.{State}
 use Rattle.saphyr_scanner.specs.Steps.Fetch.{arrive, fetch_here, state_behind_content}
@@ -24,16 +22,11 @@ abbrev pub with_content : State → Result State Refusal
 with_content s = with_second (slice_index s.core.cursor.rest 0) s
 
 -- What was to be reached is reached, or it is what the first character begins, unless memory ran out.
-abbrev pub LeadsOn : {T : Type 0} {g : Ghosts T} → Result Bool Stop → Result State Refusal → Engine T g → Type 0
+abbrev pub LeadsOn
+    : {T : Type 0} {g : Ghosts T} → Result Bool Stopped → Result State Refusal → Engine T g → Type 0
 LeadsOn (Ok true) whole e = (whole ≡ with_content (state e)) × (0 < length (state e).core.cursor.rest)
 LeadsOn (Ok false) whole e = whole ≡ Ok (state e)
-LeadsOn (Err stop) whole e = Fails stop whole
-
--- the same, with the stop that the engine keeps
-abbrev pub Leads : {T : Type 0} {g : Ghosts T} → Ahead → Result State Refusal → Engine T g → Type 0
-Leads ahead.Content whole e = LeadsOn (Ok true) whole e
-Leads ahead.Nothing whole e = LeadsOn (Ok false) whole e
-Leads ahead.Stop whole e = LeadsOn (Err e.stop) whole e
+LeadsOn (Err _) whole e = Fails e.stop whole
 
 -- the next token, once the stream has begun
 abbrev pub fetched : State → Result State Refusal

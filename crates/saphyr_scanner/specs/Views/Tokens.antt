@@ -1,51 +1,118 @@
 -- What contracts see of tokens, and the tokens that a scanner still has to give.
-use Rattle.std.specs.Prelude.{◌≡◌, Bool, true, false, List, [], ◌∷◌, ◌++◌, Option, Some, None, Result, Ok, Err, string_bytes}
+use Rattle.std.specs.Prelude.{◌≡◌, Bool, true, false, List, [], ◌∷◌, ◌++◌, ℕ, Option, Some, None, string_bytes}
 use Rattle.saphyr_scalar.specs.declared.scalar.position.Span.{Span}
 use Rattle.saphyr_scalar.specs.declared.scalar.fault.Refusal.{Refusal}
-use Rattle.saphyr_scalar.specs.declared.scalar.fault.Stop.{Stop}
-use Rattle.saphyr_scalar.specs.declared.scalar.fault.Stop.TheVariants as stop
-use Rattle.saphyr_scanner.specs.declared.queue.NodeStart.{NodeStart}
-use Rattle.saphyr_scanner.specs.declared.queue.NodeStart.TheVariants as start
-use Rattle.saphyr_scanner.specs.declared.queue.Which.{Which}
-use Rattle.saphyr_scanner.specs.declared.queue.Which.TheVariants as which
+use Rattle.saphyr_scalar.specs.declared.scalar.style.ScalarStyle.{ScalarStyle}
+use Rattle.saphyr_scalar.specs.declared.scalar.style.ScalarStyle.TheVariants as style
 use Rattle.saphyr_scanner.specs.declared.token.Token.{Token}
-use Rattle.saphyr_scanner.specs.declared.token.TokenType.{TokenType}
-use Rattle.saphyr_scanner.specs.declared.token.TokenType.TheVariants as code
+use Rattle.saphyr_scanner.specs.declared.token.TokenKind.{TokenKind}
+use Rattle.saphyr_scanner.specs.declared.token.TokenKind.TheVariants as code
+use Rattle.saphyr_scanner.specs.declared.token.TokenParts.{TokenParts}
 use Rattle.saphyr_scanner.specs.Grammar.Tokens as tokens
 use Rattle.saphyr_scanner.specs.Grammar.Tokens.{Kind}
 
-abbrev pub kind_of : TokenType → Kind
-kind_of code.StreamStart = tokens.StreamStart
-kind_of code.StreamEnd = tokens.StreamEnd
-kind_of (code.VersionDirective major minor) = tokens.VersionDirective major minor
-kind_of (code.TagDirective tag) = tokens.TagDirective (string_bytes tag.value.handle) (string_bytes tag.value.prefix)
-kind_of (code.ReservedDirective name) = tokens.ReservedDirective (string_bytes name)
-kind_of code.DocumentStart = tokens.DocumentStart
-kind_of code.DocumentEnd = tokens.DocumentEnd
-kind_of code.ByteOrderMark = tokens.ByteOrderMark
-kind_of code.BlockSequenceStart = tokens.BlockSequenceStart
-kind_of code.BlockMappingStart = tokens.BlockMappingStart
-kind_of code.BlockEnd = tokens.BlockEnd
-kind_of code.FlowSequenceStart = tokens.FlowSequenceStart
-kind_of code.FlowSequenceEnd = tokens.FlowSequenceEnd
-kind_of code.FlowMappingStart = tokens.FlowMappingStart
-kind_of code.FlowMappingEnd = tokens.FlowMappingEnd
-kind_of code.BlockEntry = tokens.BlockEntry
-kind_of code.FlowEntry = tokens.FlowEntry
-kind_of code.Key = tokens.Key
-kind_of code.Value = tokens.Value
-kind_of (code.Alias name) = tokens.Alias (string_bytes name)
-kind_of (code.Anchor name) = tokens.Anchor (string_bytes name)
-kind_of (code.Tag tag) = tokens.Tag (string_bytes tag.value.handle) (string_bytes tag.value.suffix)
-kind_of (code.Scalar style value) = tokens.Scalar style (string_bytes value)
+-- what a token has besides its kind and its place
+pub record Parts : Type 0 where
+  pub handle : List ℕ
+  pub text : List ℕ
+  pub major : ℕ
+  pub minor : ℕ
+
+abbrev pub text_alone : List ℕ → Parts
+text_alone text = record { handle = []; text = text; major = 0; minor = 0 }
+
+abbrev pub no_parts : Parts
+no_parts = text_alone []
+
+abbrev pub parts : TokenParts → Parts
+parts p = record { handle = string_bytes p.handle; text = string_bytes p.text; major = p.major; minor = p.minor }
+
+-- what a token of a kind is, with its parts
+abbrev pub kind_with : TokenKind → Parts → Kind
+kind_with code.StreamStart x = tokens.StreamStart
+kind_with code.StreamEnd x = tokens.StreamEnd
+kind_with code.VersionDirective x = tokens.VersionDirective x.major x.minor
+kind_with code.TagDirective x = tokens.TagDirective x.handle x.text
+kind_with code.ReservedDirective x = tokens.ReservedDirective x.text
+kind_with code.DocumentStart x = tokens.DocumentStart
+kind_with code.DocumentEnd x = tokens.DocumentEnd
+kind_with code.ByteOrderMark x = tokens.ByteOrderMark
+kind_with code.BlockSequenceStart x = tokens.BlockSequenceStart
+kind_with code.BlockMappingStart x = tokens.BlockMappingStart
+kind_with code.BlockEnd x = tokens.BlockEnd
+kind_with code.FlowSequenceStart x = tokens.FlowSequenceStart
+kind_with code.FlowSequenceEnd x = tokens.FlowSequenceEnd
+kind_with code.FlowMappingStart x = tokens.FlowMappingStart
+kind_with code.FlowMappingEnd x = tokens.FlowMappingEnd
+kind_with code.BlockEntry x = tokens.BlockEntry
+kind_with code.FlowEntry x = tokens.FlowEntry
+kind_with code.Key x = tokens.Key
+kind_with code.Value x = tokens.Value
+kind_with code.Alias x = tokens.Alias x.text
+kind_with code.Anchor x = tokens.Anchor x.text
+kind_with code.Tag x = tokens.Tag x.handle x.text
+kind_with code.Plain x = tokens.Scalar style.Plain x.text
+kind_with code.SingleQuoted x = tokens.Scalar style.SingleQuoted x.text
+kind_with code.DoubleQuoted x = tokens.Scalar style.DoubleQuoted x.text
+kind_with code.Literal x = tokens.Scalar style.Literal x.text
+kind_with code.Folded x = tokens.Scalar style.Folded x.text
+
+-- the style of a scalar of a kind
+abbrev pub style_of : TokenKind → Option ScalarStyle
+style_of code.Plain = Some style.Plain
+style_of code.SingleQuoted = Some style.SingleQuoted
+style_of code.DoubleQuoted = Some style.DoubleQuoted
+style_of code.Literal = Some style.Literal
+style_of code.Folded = Some style.Folded
+style_of _ = None
+
+-- the kind of a token, without its parts
+abbrev pub token_kind : Kind → TokenKind
+token_kind tokens.StreamStart = code.StreamStart
+token_kind tokens.StreamEnd = code.StreamEnd
+token_kind (tokens.VersionDirective major minor) = code.VersionDirective
+token_kind (tokens.TagDirective handle prefix) = code.TagDirective
+token_kind (tokens.ReservedDirective name) = code.ReservedDirective
+token_kind tokens.DocumentStart = code.DocumentStart
+token_kind tokens.DocumentEnd = code.DocumentEnd
+token_kind tokens.ByteOrderMark = code.ByteOrderMark
+token_kind tokens.BlockSequenceStart = code.BlockSequenceStart
+token_kind tokens.BlockMappingStart = code.BlockMappingStart
+token_kind tokens.BlockEnd = code.BlockEnd
+token_kind tokens.FlowSequenceStart = code.FlowSequenceStart
+token_kind tokens.FlowSequenceEnd = code.FlowSequenceEnd
+token_kind tokens.FlowMappingStart = code.FlowMappingStart
+token_kind tokens.FlowMappingEnd = code.FlowMappingEnd
+token_kind tokens.BlockEntry = code.BlockEntry
+token_kind tokens.FlowEntry = code.FlowEntry
+token_kind tokens.Key = code.Key
+token_kind tokens.Value = code.Value
+token_kind (tokens.Alias name) = code.Alias
+token_kind (tokens.Anchor name) = code.Anchor
+token_kind (tokens.Tag handle suffix) = code.Tag
+token_kind (tokens.Scalar style.Plain text) = code.Plain
+token_kind (tokens.Scalar style.SingleQuoted text) = code.SingleQuoted
+token_kind (tokens.Scalar style.DoubleQuoted text) = code.DoubleQuoted
+token_kind (tokens.Scalar style.Literal text) = code.Literal
+token_kind (tokens.Scalar style.Folded text) = code.Folded
+
+-- the text of a token that has one alone
+abbrev pub text_of : Kind → Option (List ℕ)
+text_of (tokens.Alias name) = Some name
+text_of (tokens.Anchor name) = Some name
+text_of (tokens.Scalar style text) = Some text
+text_of _ = None
 
 -- a token with its span
 pub record Piece : Type 0 where
   pub span : Span
   pub kind : Kind
 
+abbrev pub piece_with : Span → TokenKind → Parts → Piece
+piece_with span kind x = record { span = span; kind = kind_with kind x }
+
 abbrev pub piece : Token → Piece
-piece t = record { span = t.span; kind = kind_of t.kind }
+piece t = piece_with t.span t.kind (parts t.parts)
 
 -- the tokens still to come, and the refusal after them, if one ends them
 pub record Remaining : Type 0 where
@@ -70,55 +137,7 @@ abbrev pub GivesLast : Bool → Piece → Remaining → Remaining → Type 0
 GivesLast true t old new = new ≡ with_last t old
 GivesLast false t old new = new ≡ old
 
--- the token in a place, if one was written there
-abbrev pub written_token : Bool → Token → Option Token
-written_token false t = None
-written_token true t = Some t
-
--- the same of a call
-abbrev pub handed_token : Token → Result Bool Stop → Result (Option Token) Stop
-handed_token t (Ok is_written) = Ok (written_token is_written t)
-handed_token t (Err e) = Err e
-
--- what a call for the next token hands out, and what remains; after a refusal nothing is known
-abbrev pub Hands : Result (Option Token) Stop → Remaining → Remaining → Type 0
-Hands (Ok (Some t)) old new = old ≡ before (piece t) new
-Hands (Ok None) old new = (old ≡ none) × (new ≡ none)
-Hands (Err stop.OutOfMemory) old new = Unit {0}
-Hands (Err (stop.Refused e)) old new = old ≡ refusal_alone e
-
--- What a call that passes the next token if it has this kind returns, and what remains: `None` says that it passed
--- none.
-abbrev pub PassesNext : Kind → Result (Option Span) Stop → Remaining → Remaining → Type 0
-PassesNext kind (Ok (Some span)) old new = old ≡ before (record { span = span; kind = kind }) new
-PassesNext kind (Ok None) old new = new ≡ old
-PassesNext kind (Err e) old new = Hands (Err e) old new
-
--- the token that was passed, if one was: it has one of two kinds, and this span
-abbrev pub which_piece : Kind → Kind → Span → Which → Option Piece
-which_piece first second s which.First = Some (record { span = s; kind = first })
-which_piece first second s which.Second = Some (record { span = s; kind = second })
-which_piece first second s which.Neither = None
-
--- the token with which a node begins, if one was taken, and which has this span
-abbrev pub start_piece : Span → NodeStart → Option Piece
-start_piece s (start.Scalar style text) = Some (record { span = s; kind = tokens.Scalar style (string_bytes text) })
-start_piece s start.Sequence = Some (record { span = s; kind = tokens.BlockSequenceStart })
-start_piece s start.Mapping = Some (record { span = s; kind = tokens.BlockMappingStart })
-start_piece s start.Other = None
-
--- Where nothing was taken, a span is as it was.
-abbrev pub KeepsSpan : Result NodeStart Stop → Span → Span → Type 0
-KeepsSpan (Ok start.Other) old new = new ≡ old
-KeepsSpan _ old new = Unit {0}
-
--- This token came first. Without one the tokens are the same.
-abbrev pub CameFirst : Option Piece → Remaining → Remaining → Type 0
-CameFirst (Some t) old new = old ≡ before t new
-CameFirst None old new = new ≡ old
-
--- What a call that takes the next token only if it is seen to be of some kinds returns, by which token that shows, and
--- what remains.
-abbrev pub TakesOneOf : {A : Type 0} → (A → Option Piece) → Result A Stop → Remaining → Remaining → Type 0
-TakesOneOf shown (Ok x) old new = CameFirst (shown x) old new
-TakesOneOf shown (Err e) old new = Hands (Err e) old new
+-- A token of this kind comes first, or, without a kind, there is no token.
+abbrev pub BeginsWith : Option TokenKind → Remaining → Type 0
+BeginsWith (Some kind) r = (span : Span) × (x : Parts) × (left : Remaining) × (r ≡ before (piece_with span kind x) left)
+BeginsWith None r = r ≡ none

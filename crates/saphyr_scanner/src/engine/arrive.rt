@@ -7,19 +7,9 @@ ghost use Rattle.saphyr_scanner.specs.Steps.State.{with_core};
 ghost use Rattle.saphyr_scanner.specs.Views.Ahead.{behind_feed, may_begin, may_begin_mark};
 
 use crate::engine::Engine;
+use crate::stopped::Stopped;
 use saphyr_input::char_traits::{is_bom, is_z};
 use saphyr_input::input::Input;
-use saphyr_scalar::Stop;
-
-/// What is left to do where the next token begins.
-pub(crate) enum Ahead {
-    /// The token is told by its first character, and is to be put into the queue.
-    Content,
-    /// The token was put there.
-    Nothing,
-    /// There is none: the engine keeps what ended the reading.
-    Stop,
-}
 
 // Whether the character is one that most tokens begin with, and no blank, break or `#`.
 #[inline(always)]
@@ -39,19 +29,18 @@ fn may_begin_mark(c: char, next: char) -> bool
 
 impl<T: Input> Engine<T> {
     ghost use Rattle.saphyr_scalar.specs.Views.Reader.{loaded};
-    ghost use Rattle.saphyr_scanner.specs.Views.Ahead.{Leads, LeadsOn, fetched};
+    ghost use Rattle.saphyr_scanner.specs.Views.Ahead.{LeadsOn, fetched};
     ghost use Rattle.saphyr_scanner.specs.Views.Engine.{state, MovesBy};
 
     // Goes on to where the next token begins.
     #[tactic(auto, unfolding(crate::specs::Steps::Fetch::arrive))]
-    fn arrive(&mut self) -> Result<(), Stop>
+    fn arrive(&mut self) -> Result<(), Stopped>
         ensures { MovesBy fetch.arrive self.old result self.new }
     {
         self.pass_gap()?;
         self.drop_far_key()?;
         let mark = self.reader.mark();
-        self.unroll(Some(mark.col), mark)?;
-        Ok(())
+        self.unroll(Some(mark.col), mark)
     }
 
     // Whether nothing is to be passed, dropped or ended before the next token. So it is before most tokens.
@@ -133,7 +122,7 @@ impl<T: Input> Engine<T> {
     // Goes on behind a line feed and spaces, or behind spaces. Returns whether a token that is told by its first
     // character begins there, and nothing ends before it.
     #[inline(always)]
-    fn passes_spaces(&mut self, c: char) -> bool
+    fn reach_content(&mut self, c: char) -> bool
         requires first { c ≡ slice_index (state self.old).core.cursor.rest 0 }
         requires loaded { 2 ≤ loaded self.old.reader }
         ensures told { IsTrue result → LeadsOn (Ok true) (fetched (state self.old)) self.new }
@@ -148,33 +137,32 @@ impl<T: Input> Engine<T> {
     }
 
     // Goes on to where the next token begins, and puts it into the queue if its first character alone does not tell it.
+    // `true`: the token is told by its first character, and is to be put into the queue.
+    //
     // It is separate for speed. Mostly spaces, or a line feed and spaces, are all that is passed.
     #[inline(never)]
-    pub(super) fn arrives(&mut self, c: char) -> Ahead
+    pub(super) fn go_on(&mut self, c: char) -> Result<bool, Stopped>
         requires first { c ≡ slice_index (state self.old).core.cursor.rest 0 }
         requires loaded { 2 ≤ loaded self.old.reader }
-        ensures { Leads result (fetched (state self.old)) self.new }
+        ensures { LeadsOn result (fetched (state self.old)) self.new }
     {
-        if self.passes_spaces(c) {
-            return Ahead::Content;
+        if self.reach_content(c) {
+            return Ok(true);
         }
-        self.arrives_further()
+        self.go_further()
     }
 
-    // The same for all that may be passed, and where something ends.
+    // Goes on as `go_on` does, past all that may be passed, and ends what ends there.
     #[inline(never)]
-    fn arrives_further(&mut self) -> Ahead
-        ensures { Leads result (fetched (state self.old)) self.new }
+    fn go_further(&mut self) -> Result<bool, Stopped>
+        ensures { LeadsOn result (fetched (state self.old)) self.new }
     {
-        let ended = self.arrive();
-        if !self.keep(ended) {
-            return Ahead::Stop;
-        }
+        self.arrive()?;
         self.reader.load(4);
         let c = self.reader.input().peek();
         if self.is_content(c) {
-            return Ahead::Content;
+            return Ok(true);
         }
-        self.fetches_mark(c)
+        self.fetch_mark(c)
     }
 }

@@ -12,10 +12,11 @@ ghost use Rattle.saphyr_scanner.specs.Views.Ahead.{may_begin_entry};
 
 use crate::engine::Engine;
 use crate::gap::skip_spaces;
-use crate::queue::Indicator;
+use crate::stopped::Stopped;
+use crate::token::TokenKind;
 use saphyr_input::char_traits::{is_blank_or_breakz, is_break, is_flow};
 use saphyr_input::input::{Input, SkipTabs};
-use saphyr_scalar::{FaultText, Stop};
+use saphyr_scalar::FaultText;
 
 // Whether the character is one that most entries begin with, and no blank, break, `#`, flow indicator or byte order
 // mark. For speed the most frequent ones are tested first.
@@ -41,7 +42,7 @@ impl<T: Input> Engine<T> {
 
     // Only spaces may come before the `-` of a compact sequence.
     #[inline(always)]
-    fn refuse_tab(&mut self, found: SkipTabs) -> Result<(), Stop>
+    fn refuse_tab(&mut self, found: SkipTabs) -> Result<(), Stopped>
         ensures { CarriesBy (λ c. block.refuse_tab (found, c)) self.old result self.new }
     {
         if found.found_tabs() && self.is_dash_next() {
@@ -54,12 +55,11 @@ impl<T: Input> Engine<T> {
     // Passes what follows `-` on its line.
     #[inline(always)]
     #[tactic(auto, unfolding(crate::specs::Steps::Block::pass_dash))]
-    fn pass_dash(&mut self) -> Result<(), Stop>
+    fn pass_dash(&mut self) -> Result<(), Stopped>
         ensures { CarriesBy block.pass_dash self.old result self.new }
     {
         let found = self.separate()?;
-        self.refuse_tab(found)?;
-        Ok(())
+        self.refuse_tab(found)
     }
 
     // Passes `-` and the space behind it, if that is followed by what most entries begin with. It is separate for
@@ -99,7 +99,7 @@ impl<T: Input> Engine<T> {
     //
     // For speed the character behind `-` is used, which is known: mostly it is a space before content, or a line feed.
     #[inline(always)]
-    fn begin_entry(&mut self, next: char, column: usize) -> Result<(), Stop>
+    fn begin_entry(&mut self, next: char, column: usize) -> Result<(), Stopped>
         requires some { 0 < length (state self.old).core.cursor.rest }
         requires first { slice_index (state self.old).core.cursor.rest 0 ≡ hyphen }
         requires second { next ≡ slice_index (state self.old).core.cursor.rest 1 }
@@ -133,7 +133,7 @@ impl<T: Input> Engine<T> {
     // `-`.
     #[inline(always)]
     #[tactic(auto, unfolding(crate::specs::Steps::Block::block_entry_steps, crate::specs::Steps::Block::next_entry))]
-    pub(super) fn fetch_block_entry(&mut self, next: char) -> Result<(), Stop>
+    pub(super) fn fetch_block_entry(&mut self, next: char) -> Result<(), Stopped>
         requires some { 0 < length (state self.old).core.cursor.rest }
         requires first { slice_index (state self.old).core.cursor.rest 0 ≡ hyphen }
         requires second { next ≡ slice_index (state self.old).core.cursor.rest 1 }
@@ -147,19 +147,18 @@ impl<T: Input> Engine<T> {
         }
         let column = self.reader.mark().col;
         if self.is_further(column) {
-            self.put_here(Indicator::BlockSequenceStart)?;
+            self.put_here(TokenKind::BlockSequenceStart)?;
         }
         self.begin_entry(next, column)?;
         self.remove_key()?;
         self.key_allowed = true;
-        self.put_here(Indicator::BlockEntry)?;
-        Ok(())
+        self.put_here(TokenKind::BlockEntry)
     }
 
     // Passes `?` and the blanks behind it, without which it is no indicator.
     #[inline(always)]
     #[tactic(auto, unfolding(crate::specs::Steps::Block::behind_mark))]
-    fn pass_question(&mut self) -> Result<(), Stop>
+    fn pass_question(&mut self) -> Result<(), Stopped>
         requires { 0 < length (state self.old).core.cursor.rest }
         ensures { CarriesBy block.pass_question self.old result self.new }
     {
@@ -176,7 +175,7 @@ impl<T: Input> Engine<T> {
     // A key begins with the `?` that stands here.
     #[inline(always)]
     #[tactic(auto, unfolding(crate::specs::Steps::Block::begin_key, crate::specs::Steps::Core::remove_key))]
-    fn begin_key(&mut self, column: usize) -> Result<(), Stop>
+    fn begin_key(&mut self, column: usize) -> Result<(), Stopped>
         requires some { 0 < length (state self.old).core.cursor.rest }
         requires here { column ≡ (state self.old).core.cursor.mark.col }
         ensures { CarriesBy block.begin_key self.old result self.new }
@@ -185,13 +184,12 @@ impl<T: Input> Engine<T> {
         self.level.context = self.level.context.behind_question();
         self.remove_key()?;
         self.key_allowed = self.in_block();
-        self.pass_question()?;
-        Ok(())
+        self.pass_question()
     }
 
     // `?`.
     #[tactic(auto, unfolding(crate::specs::Steps::Block::key_steps))]
-    pub(super) fn fetch_key(&mut self) -> Result<(), Stop>
+    pub(super) fn fetch_key(&mut self) -> Result<(), Stopped>
         requires { 0 < length (state self.old).core.cursor.rest }
         ensures { ActsBy block.key_steps self.old result self.new }
     {
@@ -200,10 +198,9 @@ impl<T: Input> Engine<T> {
         }
         let start = self.reader.mark();
         if self.is_further(start.col) {
-            self.put_empty_indicator(start, Indicator::BlockMappingStart)?;
+            self.put_empty(start, TokenKind::BlockMappingStart)?;
         }
         self.begin_key(start.col)?;
-        self.put_indicator_from(start, Indicator::Key)?;
-        Ok(())
+        self.put_from(start, TokenKind::Key)
     }
 }

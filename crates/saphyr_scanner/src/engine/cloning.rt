@@ -34,7 +34,8 @@ impl<T: CloneInput> Engine<T> {
 
     // An independent engine at the same place with the same tokens.
     pub(crate) fn try_clone(&self) -> Result<Self, AllocError>
-        ensures { IfOk result (λ copy. state copy ≡ state self.now) }
+        ensures same { IfOk result (λ copy. state copy ≡ state self.now) }
+        ensures stop { IfOk result (λ copy. copy.stop ≡ self.now.stop) }
     {
         let (outer, outer_indents) = self.clone_outer()?;
         let (reader, queue) = self.clone_text()?;

@@ -1,26 +1,27 @@
 //! What comes between documents: directives, the markers `---` and `...`, and byte order marks; and the end of the
 //! text (YAML 1.2.2, 6.8 and chapter 9).
 
-ghost use Rattle.std.specs.Prelude.{◌≡◌, ◌≤◌, ◌<◌, length, slice_index, None, IfOk, OnOk};
+ghost use Rattle.std.specs.Prelude.{◌≡◌, ◌≤◌, ◌<◌, length, slice_index, None, OnOk};
 ghost use Rattle.saphyr_input.specs.Indicators.{percent_sign};
 ghost use Rattle.saphyr_scanner.specs.Grammar.Tokens as tokens;
 ghost use Rattle.saphyr_scanner.specs.Steps.Document as document;
-ghost use Rattle.saphyr_scanner.specs.Views.Tokens.{kind_of};
+ghost use Rattle.saphyr_scanner.specs.Steps.Core.{from_to};
+ghost use Rattle.saphyr_scanner.specs.Views.Tokens.{kind_with, no_parts};
 ghost use Rattle.saphyr_scalar.specs.Steps.Directive.{directive_of};
 
 use crate::engine::Engine;
-use crate::token::{TagPrefix, TokenType};
+use crate::stopped::{Stopped, keep};
+use crate::token::TokenKind;
 use saphyr_input::char_traits::is_breakz;
 use saphyr_input::input::Input;
-use saphyr_scalar::{Directive, FaultText, Marker, Stop};
-use std::alloc::{AllocError, Global};
+use saphyr_scalar::{Directive, FaultText, Marker, Span};
 
 impl<T: Input> Engine<T> {
-    ghost use Rattle.saphyr_scanner.specs.Views.Engine.{state, MovesBy};
+    ghost use Rattle.saphyr_scanner.specs.Views.Engine.{state, MovesBy, Performs};
 
     // Ends all block collections, and what may be a key.
     #[tactic(auto, using(crate::proofs::Blocks::unrolled_cursor), unfolding(crate::specs::Steps::Document::end_content, crate::specs::Steps::Core::remove_key))]
-    fn end_content(&mut self) -> Result<(), Stop>
+    fn end_content(&mut self) -> Result<(), Stopped>
         ensures content { MovesBy document.end_content self.old result self.new }
         ensures cursor { OnOk result
             ((state self.new).core.cursor ≡ (state self.old).core.cursor) }
@@ -33,7 +34,7 @@ impl<T: Input> Engine<T> {
     // NUL, or the end of the text.
     #[inline(never)]
     #[tactic(auto, unfolding(crate::specs::Steps::Document::state_behind_end, crate::specs::Steps::Document::end_at))]
-    pub(super) fn fetch_end(&mut self) -> Result<(), Stop>
+    pub(super) fn fetch_end(&mut self) -> Result<(), Stopped>
         requires { slice_index (state self.old).core.cursor.rest 0 ≡ 0 }
         ensures { MovesBy document.state_behind_end self.old result self.new }
     {
@@ -43,46 +44,44 @@ impl<T: Input> Engine<T> {
         }
         let mark = end_mark(self.reader.mark());
         if self.required {
-            return Err(Self::refuse(FaultText::KeyExpected, mark));
+            return Err(self.refuse(FaultText::KeyExpected, mark));
         }
         self.unroll(None, mark)?;
         self.key_allowed = false;
         self.ended = true;
-        self.put_empty(mark, TokenType::StreamEnd)?;
-        Ok(())
+        self.put_empty(mark, TokenKind::StreamEnd)
     }
 
     // `---` or `...`.
     #[tactic(auto, unfolding(crate::specs::Steps::Document::state_behind_marker))]
-    pub(super) fn fetch_document_marker(&mut self, kind: TokenType) -> Result<(), Stop>
+    pub(super) fn fetch_document_marker(&mut self, kind: TokenKind) -> Result<(), Stopped>
         requires { 3 ≤ length (state self.old).core.cursor.rest }
-        ensures { MovesBy (document.state_behind_marker (kind_of kind)) self.old result self.new }
+        ensures { MovesBy (document.state_behind_marker (kind_with kind no_parts)) self.old result self.new }
     {
         self.end_content()?;
         self.key_allowed = false;
         let start = self.reader.mark();
         self.reader.skip_n_non_blank(3);
-        self.put_from(start, kind)?;
-        Ok(())
+        self.put_from(start, kind)
     }
 
     // `---`.
     #[inline(always)]
-    pub(super) fn fetch_document_start(&mut self) -> Result<(), Stop>
+    pub(super) fn fetch_document_start(&mut self) -> Result<(), Stopped>
         requires { 3 ≤ length (state self.old).core.cursor.rest }
         ensures { MovesBy (document.state_behind_marker tokens.DocumentStart) self.old result
             self.new }
     {
-        self.fetch_document_marker(TokenType::DocumentStart)
+        self.fetch_document_marker(TokenKind::DocumentStart)
     }
 
     // `...` and what follows it on its line.
     #[tactic(auto, unfolding(crate::specs::Steps::Document::state_behind_document_end, crate::specs::Steps::Document::end_line))]
-    pub(super) fn fetch_document_end(&mut self) -> Result<(), Stop>
+    pub(super) fn fetch_document_end(&mut self) -> Result<(), Stopped>
         requires { 3 ≤ length (state self.old).core.cursor.rest }
         ensures { MovesBy document.state_behind_document_end self.old result self.new }
     {
-        self.fetch_document_marker(TokenType::DocumentEnd)?;
+        self.fetch_document_marker(TokenKind::DocumentEnd)?;
         self.separate()?;
         let c = self.reader.look();
         if !is_breakz(c) {
@@ -94,23 +93,39 @@ impl<T: Input> Engine<T> {
     // `%` and the rest of a directive's line.
     #[inline(never)]
     #[tactic(auto, unfolding(crate::specs::Steps::Document::state_behind_directive, crate::specs::Steps::Document::read_directive))]
-    pub(super) fn fetch_directive(&mut self) -> Result<(), Stop>
+    pub(super) fn fetch_directive(&mut self) -> Result<(), Stopped>
         requires { slice_index (state self.old).core.cursor.rest 0 ≡ percent_sign }
         ensures { MovesBy document.state_behind_directive self.old result self.new }
     {
         self.end_content()?;
         self.key_allowed = false;
         let start = self.reader.mark();
-        let line = self.reader.read_directive(self.alloc)?;
-        let kind = kind_of_directive(self.alloc, line.directive)?;
-        self.put(start, line.end, kind)?;
-        Ok(())
+        let line = keep(&mut self.stop, self.reader.read_directive(self.alloc))?;
+        self.put_directive(Span::new(start, line.end), line.directive)
+    }
+
+    // Puts the token of a directive into the queue.
+    fn put_directive(&mut self, span: Span, directive: Directive) -> Result<(), Stopped>
+        ensures { Performs (from_to span.start span.end
+            (document.directive_kind (directive_of directive))) self.old result self.new }
+    {
+        match directive {
+            Directive::Version(major, minor) => {
+                self.put_parts(span, TokenKind::VersionDirective, "", "", major, minor)
+            }
+            Directive::TagPrefix(handle, prefix) => {
+                self.put_parts(span, TokenKind::TagDirective, &handle, &prefix, 0, 0)
+            }
+            Directive::Reserved(name) => {
+                self.put_parts(span, TokenKind::ReservedDirective, "", &name, 0, 0)
+            }
+        }
     }
 
     // A byte order mark. It is allowed only at the start of a line outside flow.
     #[inline(never)]
     #[tactic(auto, unfolding(crate::specs::Steps::Document::state_behind_byte_order_mark))]
-    pub(super) fn fetch_byte_order_mark(&mut self) -> Result<(), Stop>
+    pub(super) fn fetch_byte_order_mark(&mut self) -> Result<(), Stopped>
         requires { 0 < length (state self.old).core.cursor.rest }
         ensures { MovesBy document.state_behind_byte_order_mark self.old result self.new }
     {
@@ -121,8 +136,7 @@ impl<T: Input> Engine<T> {
         self.end_content()?;
         self.reader.skip_byte_order_mark();
         self.key_allowed = true;
-        self.put_from(start, TokenType::ByteOrderMark)?;
-        Ok(())
+        self.put_from(start, TokenKind::ByteOrderMark)
     }
 }
 
@@ -134,18 +148,4 @@ fn end_mark(mark: Marker) -> Marker
         return mark;
     }
     Marker::new(mark.index, mark.line.saturating_add(1), 0)
-}
-
-// The token of a directive.
-fn kind_of_directive(alloc: Global, directive: Directive) -> Result<TokenType, AllocError>
-    ensures { IfOk result
-        (λ kind. kind_of kind ≡ document.directive_kind (directive_of directive)) }
-{
-    Ok(match directive {
-        Directive::Version(major, minor) => TokenType::VersionDirective(major, minor),
-        Directive::TagPrefix(handle, prefix) => {
-            TokenType::TagDirective(Box::new(alloc, TagPrefix { handle, prefix })?)
-        }
-        Directive::Reserved(name) => TokenType::ReservedDirective(name),
-    })
 }

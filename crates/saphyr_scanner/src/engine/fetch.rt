@@ -15,107 +15,75 @@ ghost use Rattle.saphyr_scanner.specs.Steps.Fetch as fetch;
 ghost use Rattle.saphyr_scanner.specs.Steps.Queue as spec_queue;
 ghost use Rattle.saphyr_scanner.specs.Steps.Scalar as scalar;
 
-use crate::engine::arrive::Ahead;
 use crate::engine::{Context, Engine};
-use crate::queue::Indicator;
-use crate::token::TokenType;
+use crate::stopped::Stopped;
+use crate::token::TokenKind;
 use saphyr_input::char_traits::{is_blank_or_breakz, is_bom, is_flow, is_z};
 use saphyr_input::input::Input;
+use saphyr_scalar::FaultText;
 use saphyr_scalar::values::BlockStyle;
-use saphyr_scalar::{FaultText, Stop};
-use std::alloc::AllocError;
 
 impl<T: Input> Engine<T> {
     ghost use Rattle.saphyr_scalar.specs.Views.Reader.{loaded};
-    ghost use Rattle.saphyr_scanner.specs.Views.Ahead.{Leads, LeadsOn, with_second};
-    ghost use Rattle.saphyr_scanner.specs.Views.Engine.{state, MovesBy, ActsBy, answer_of};
+    ghost use Rattle.saphyr_scanner.specs.Views.Ahead.{LeadsOn, with_second};
+    ghost use Rattle.saphyr_scanner.specs.Views.Engine.{state, MovesBy, ActsBy};
 
     // Puts the token of the stream's start into the queue. It is separate for speed, since it comes once.
     #[inline(never)]
-    fn start(&mut self) -> Result<(), AllocError>
-        ensures { OnOk result (state self.new ≡ fetch.begin (state self.old)) }
+    fn start(&mut self) -> Result<(), Stopped>
+        ensures { MovesBy (λ s. Ok (fetch.begin s)) self.old result self.new }
     {
         self.started = true;
         let mark = self.reader.mark();
-        self.put_empty(mark, TokenType::StreamStart)
+        self.put_empty(mark, TokenKind::StreamStart)
     }
 
     // Puts the next token into the queue.
     #[tactic(auto, unfolding(crate::specs::Steps::Fetch::fetch))]
-    pub(super) fn fetch(&mut self) -> Result<(), Stop>
+    pub(super) fn fetch(&mut self) -> Result<(), Stopped>
         ensures { MovesBy fetch.fetch self.old result self.new }
     {
         if !self.started {
-            self.start()?;
-            return Ok(());
+            return self.start();
         }
         self.reader.load(2);
         let mut c = self.reader.input().peek();
         if !(self.has_arrived(c) && self.is_content(c)) {
-            match self.arrives(c) {
-                Ahead::Content => {}
-                Ahead::Nothing => return Ok(()),
-                Ahead::Stop => return Err(self.stop),
+            if !self.go_on(c)? {
+                return Ok(());
             }
             self.reader.load(2);
             c = self.reader.input().peek();
         }
-        self.fetch_content(c)?;
-        Ok(())
-    }
-
-    // Puts the token that begins here into the queue, if its first character alone does not tell it. The stop is kept,
-    // as `reads_on` does.
-    #[inline(always)]
-    pub(super) fn fetches_mark(&mut self, c: char) -> Ahead
-        requires first { c ≡ slice_index (state self.old).core.cursor.rest 0 }
-        requires loaded { 4 ≤ loaded self.old.reader }
-        ensures { Leads result (fetch.fetch_here (state self.old)) self.new }
-    {
-        match self.fetch_mark(c) {
-            Ok(true) => Ahead::Content,
-            Ok(false) => Ahead::Nothing,
-            Err(stop) => {
-                self.stop = stop;
-                Ahead::Stop
-            }
-        }
+        self.fetch_content(c)
     }
 
     // Puts the token that begins here into the queue, if it is the end's, or one that is told by the start of its line.
     // `true`: it is another, which its first character tells.
     #[inline(always)]
     #[tactic(auto, unfolding(crate::specs::Steps::Fetch::fetch_here))]
-    fn fetch_mark(&mut self, c: char) -> Result<bool, Stop>
+    pub(super) fn fetch_mark(&mut self, c: char) -> Result<bool, Stopped>
         requires first { c ≡ slice_index (state self.old).core.cursor.rest 0 }
         requires loaded { 4 ≤ loaded self.old.reader }
         ensures { LeadsOn result (fetch.fetch_here (state self.old)) self.new }
     {
+        let column = self.reader.mark().col;
         if is_z(c) {
             self.fetch_end()?;
-            return Ok(false);
-        }
-        if is_bom(c) {
+        } else if is_bom(c) {
             self.fetch_byte_order_mark()?;
-            return Ok(false);
-        }
-        let column = self.reader.mark().col;
-        if column == 0 && c == '%' {
+        } else if column == 0 && c == '%' {
             self.fetch_directive()?;
-            return Ok(false);
-        }
-        if column == 0 && self.reader.input().next_is_document_start() {
+        } else if column == 0 && self.reader.input().next_is_document_start() {
             self.fetch_document_start()?;
-            return Ok(false);
-        }
-        if column == 0 && self.reader.input().next_is_document_end() {
+        } else if column == 0 && self.reader.input().next_is_document_end() {
             self.fetch_document_end()?;
-            return Ok(false);
-        }
-        if column < self.least_column() {
+        } else if column < self.least_column() {
             return Err(self.refuse_here(FaultText::InvalidIndentation));
+        } else {
+            return Ok(true);
         }
-        Ok(true)
+        Ok(false)
     }
 
     // The second character. Few tokens need it, so only those look at it.
@@ -130,7 +98,7 @@ impl<T: Input> Engine<T> {
     // An entry of a block sequence, or a plain scalar that begins with `-`.
     #[inline(always)]
     #[tactic(auto, unfolding(crate::specs::Steps::Fetch::state_behind_content, crate::specs::Steps::Fetch::step))]
-    fn fetch_dash(&mut self) -> Result<(), Stop>
+    fn fetch_dash(&mut self) -> Result<(), Stopped>
         requires some { 0 < length (state self.old).core.cursor.rest }
         requires first { slice_index (state self.old).core.cursor.rest 0 ≡ hyphen }
         requires loaded { 2 ≤ loaded self.old.reader }
@@ -138,70 +106,60 @@ impl<T: Input> Engine<T> {
     {
         let next = self.second();
         if is_blank_or_breakz(next) {
-            self.fetch_block_entry(next)?;
-        } else if !self.fetches_plain() {
-            return Err(self.stop);
+            self.fetch_block_entry(next)
+        } else {
+            self.fetch_plain()
         }
-        Ok(())
     }
 
     // What a colon begins: a value, or a plain scalar.
     #[inline(always)]
     #[tactic(auto, unfolding(crate::specs::Steps::Fetch::state_behind_content, crate::specs::Steps::Fetch::step))]
-    fn fetch_colon(&mut self) -> Result<(), Stop>
+    fn fetch_colon(&mut self) -> Result<(), Stopped>
         requires some { 0 < length (state self.old).core.cursor.rest }
         requires loaded { 2 ≤ loaded self.old.reader }
         ensures { MovesBy (with_second colon) self.old result self.new }
     {
         let next = self.second();
         if is_blank_or_breakz(next) {
-            self.fetch_value()?;
+            self.fetch_value()
         } else if self.is_value_adjacent(next) {
-            if !self.fetches_flow_value(next) {
-                return Err(self.stop);
-            }
-        } else if !self.fetches_plain() {
-            return Err(self.stop);
+            self.fetch_flow_value(next)
+        } else {
+            self.fetch_plain()
         }
-        Ok(())
     }
 
     // Puts the token that the first character begins into the queue.
     #[tactic(auto, unfolding(crate::specs::Steps::Fetch::state_behind_content, crate::specs::Steps::Fetch::step))]
-    fn fetch_content(&mut self, c: char) -> Result<(), Stop>
+    fn fetch_content(&mut self, c: char) -> Result<(), Stopped>
         requires some { 0 < length (state self.old).core.cursor.rest }
         requires first { c ≡ slice_index (state self.old).core.cursor.rest 0 }
         requires loaded { 2 ≤ loaded self.old.reader }
         ensures { MovesBy (with_second c) self.old result self.new }
     {
         match c {
-            '[' => self.fetch_flow_start(Context::FlowSequence, Indicator::SequenceStart)?,
-            '{' => self.fetch_flow_start(Context::FlowMapping, Indicator::MappingStart)?,
-            ']' => self.fetch_sequence_end()?,
-            '}' => self.fetch_mapping_end()?,
-            ',' => self.fetch_flow_entry()?,
-            '-' => self.fetch_dash()?,
-            ':' => self.fetch_colon()?,
-            '"' => self.fetch_double_quoted()?,
+            '[' => self.fetch_flow_start(Context::FlowSequence, TokenKind::FlowSequenceStart),
+            '{' => self.fetch_flow_start(Context::FlowMapping, TokenKind::FlowMappingStart),
+            ']' => self.fetch_sequence_end(),
+            '}' => self.fetch_mapping_end(),
+            ',' => self.fetch_flow_entry(),
+            '-' => self.fetch_dash(),
+            ':' => self.fetch_colon(),
+            '"' => self.fetch_double_quoted(),
             '?' | '\'' | '*' | '&' | '!' | '|' | '>' | '%' | '@' | '`' => {
                 let next = self.second();
-                if !self.fetches_rare(c, next) {
-                    return Err(self.stop);
-                }
+                self.fetch_rare(c, next)
             }
-            _ => {
-                if !self.fetches_plain() {
-                    return Err(self.stop);
-                }
-            }
+            _ => self.fetch_plain(),
         }
-        Ok(())
     }
 
-    // The same for characters with which few tokens begin.
-    #[inline(always)]
+    // Puts the token that begins here into the queue, if few tokens begin with its first character. It is separate for
+    // speed: the places for what its calls read are cleared here, and not for each token.
+    #[inline(never)]
     #[tactic(auto, unfolding(crate::specs::Steps::Fetch::state_behind_content, crate::specs::Steps::Fetch::step))]
-    fn fetch_rare(&mut self, c: char, next: char) -> Result<(), Stop>
+    fn fetch_rare(&mut self, c: char, next: char) -> Result<(), Stopped>
         requires some { 0 < length (state self.old).core.cursor.rest }
         requires first { c ≡ slice_index (state self.old).core.cursor.rest 0 }
         requires second { next ≡ slice_index (state self.old).core.cursor.rest 1 }
@@ -212,39 +170,16 @@ impl<T: Input> Engine<T> {
         ensures { MovesBy (fetch.state_behind_content c next) self.old result self.new }
     {
         match c {
-            '?' if is_blank_or_breakz(next) => self.fetch_key()?,
-            '\'' => self.fetch_single_quoted()?,
-            '*' => self.fetch_alias()?,
-            '&' => self.fetch_anchor()?,
-            '!' => self.fetch_tag()?,
-            '|' if self.in_block() => self.fetch_block_scalar(BlockStyle::Literal)?,
-            '>' if self.in_block() => self.fetch_block_scalar(BlockStyle::Folded)?,
-            '%' | '@' | '`' => return Err(self.refuse_here(FaultText::UnexpectedCharacter(c))),
-            _ => {
-                if !self.fetches_plain() {
-                    return Err(self.stop);
-                }
-            }
+            '?' if is_blank_or_breakz(next) => self.fetch_key(),
+            '\'' => self.fetch_single_quoted(),
+            '*' => self.fetch_alias(),
+            '&' => self.fetch_anchor(),
+            '!' => self.fetch_tag(),
+            '|' if self.in_block() => self.fetch_block_scalar(BlockStyle::Literal),
+            '>' if self.in_block() => self.fetch_block_scalar(BlockStyle::Folded),
+            '%' | '@' | '`' => Err(self.refuse_here(FaultText::UnexpectedCharacter(c))),
+            _ => self.fetch_plain(),
         }
-        Ok(())
-    }
-
-    // The same with the stop kept, as `reads_on` does. It is separate for speed: the places for the results of its
-    // calls are cleared here, and not for each token.
-    #[inline(never)]
-    fn fetches_rare(&mut self, c: char, next: char) -> bool
-        requires some { 0 < length (state self.old).core.cursor.rest }
-        requires first { c ≡ slice_index (state self.old).core.cursor.rest 0 }
-        requires second { next ≡ slice_index (state self.old).core.cursor.rest 1 }
-        requires outside_brackets { ((c == left_bracket) ≡ false) × ((c == left_brace) ≡ false)
-            × ((c == right_bracket) ≡ false) × ((c == right_brace) ≡ false) }
-        requires rare { ((c == comma) ≡ false) × ((c == hyphen) ≡ false) × ((c == colon) ≡ false)
-            × ((c == quotation_mark) ≡ false) }
-        ensures { MovesBy (fetch.state_behind_content c next) self.old
-            (answer_of result self.new.stop) self.new }
-    {
-        let ended = self.fetch_rare(c, next);
-        self.keep(ended)
     }
 
     // Whether a colon inside flow, with no blank after it, is between a key and its value.
@@ -255,8 +190,9 @@ impl<T: Input> Engine<T> {
     }
 
     // A colon inside flow with no blank after it.
+    #[inline(never)]
     #[tactic(auto, unfolding(crate::specs::Steps::Fetch::flow_value_steps))]
-    fn fetch_flow_value(&mut self, next: char) -> Result<(), Stop>
+    fn fetch_flow_value(&mut self, next: char) -> Result<(), Stopped>
         requires { 0 < length (state self.old).core.cursor.rest }
         ensures { ActsBy (fetch.flow_value_steps next) self.old result self.new }
     {
@@ -264,27 +200,5 @@ impl<T: Input> Engine<T> {
             return Err(self.refuse_here(FaultText::ColonBeforeFlow));
         }
         self.fetch_value()
-    }
-
-    // The same with the stop kept, as `reads_on` does.
-    #[inline(never)]
-    fn fetches_flow_value(&mut self, next: char) -> bool
-        requires { 0 < length (state self.old).core.cursor.rest }
-        ensures { ActsBy (fetch.flow_value_steps next) self.old (answer_of result self.new.stop)
-            self.new }
-    {
-        let ended = self.fetch_flow_value(next);
-        self.keep(ended)
-    }
-
-    // A plain scalar, with the stop kept, as `reads_on` does.
-    #[inline(never)]
-    fn fetches_plain(&mut self) -> bool
-        requires { 0 < length (state self.old).core.cursor.rest }
-        ensures { ActsBy (scalar.plain_steps (spec_queue.next (state self.old).queue)) self.old
-            (answer_of result self.new.stop) self.new }
-    {
-        let ended = self.fetch_plain();
-        self.keep(ended)
     }
 }

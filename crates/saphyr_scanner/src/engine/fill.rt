@@ -1,23 +1,22 @@
 //! How many tokens are read before the first of them is handed out, and handing it out.
 
-ghost use Rattle.std.specs.Prelude.{◌≡◌, ℕ, true, false, IfOk, IsTrue, Ok, option_map};
+ghost use Rattle.std.specs.Prelude.{◌≡◌, ◌+◌, ◌<◌, ◌^◌, List, ℕ, true, false, IfOk, IsTrue, Ok, OnErr, OnOk, Some, option_map, string_bytes};
+ghost use Rattle.saphyr_scalar.specs.declared.scalar.fault.Stop.TheVariants.{OutOfMemory};
 ghost use Rattle.saphyr_scanner.specs.Steps.Fetch as fetch;
 ghost use Rattle.saphyr_scanner.specs.Steps.Remaining.{remaining};
 
 use crate::engine::Engine;
 use crate::law::takes_characters_off;
-use crate::queue::{Head, Indicator, NodeStart, Which};
-use crate::token::Token;
+use crate::stopped::{Stopped, keep};
+use crate::token::{Token, TokenKind, TokenParts};
 use saphyr_input::input::Input;
 use saphyr_scalar::{FaultText, Span, Stop, TagParts};
-use std::alloc::AllocError;
 
 impl<T: Input> Engine<T> {
     ghost use Rattle.saphyr_scalar.specs.Views.Reader.{Moves};
-    ghost use Rattle.saphyr_scanner.specs.Views.Engine.{state, MovesBy, answer_of};
-    ghost use Rattle.saphyr_scanner.specs.Views.Places.{indicator_kind};
-    ghost use Rattle.saphyr_scanner.specs.Views.Queue.{IsHead, PassesOffBy, TakesOffSome};
-    ghost use Rattle.saphyr_scanner.specs.Views.Tokens.{GivesLast, KeepsSpan, piece, start_piece, which_piece, written_token};
+    ghost use Rattle.saphyr_scanner.specs.Views.Engine.{state, stopped_by, MovesBy};
+    ghost use Rattle.saphyr_scanner.specs.Views.Queue.{first_of, kind_shown};
+    ghost use Rattle.saphyr_scanner.specs.Views.Tokens.{Piece, GivesLast, kind_with, parts, piece, text_of, token_kind};
 
     // Whether the token at a place may still become a key in what is open around the level.
     #[inline(always)]
@@ -54,7 +53,7 @@ impl<T: Input> Engine<T> {
 
     // Puts the next token into the queue, if the text is not too long.
     #[tactic(auto, unfolding(crate::specs::Steps::Fetch::fetch_within))]
-    fn fetch_within(&mut self, limit: usize) -> Result<(), Stop>
+    fn fetch_within(&mut self, limit: usize) -> Result<(), Stopped>
         ensures { MovesBy (fetch.fetch_within limit) self.old result self.new }
     {
         self.fetch()?;
@@ -66,13 +65,10 @@ impl<T: Input> Engine<T> {
 
     /// Puts the next token into the queue, and drops a candidate that is too far. To be called where the next token
     /// must be read.
-    pub(crate) fn read_token(&mut self, limit: usize) -> Result<(), Stop>
+    pub(crate) fn read_token(&mut self, limit: usize) -> Result<(), Stopped>
         ensures { MovesBy (fetch.state_behind_token limit) self.old result self.new }
     {
-        if !self.reads_on(limit, true) {
-            return Err(self.stop);
-        }
-        Ok(())
+        self.read_on(limit, true)
     }
 
     // Whether the head of the queue can be handed out now, unless all were.
@@ -86,8 +82,8 @@ impl<T: Input> Engine<T> {
     // Reads tokens until the head of the queue can be handed out, unless all were. To be called where the next token
     // must be read. With `once` it reads one token, and may be called anywhere: this is for speed, since with one more
     // caller `fetch_within` would not be inlined.
-    #[inline(always)]
-    fn read_on(&mut self, limit: usize, once: bool) -> Result<(), Stop>
+    #[inline(never)]
+    fn read_on(&mut self, limit: usize, once: bool) -> Result<(), Stopped>
         requires needed { once ≡ false → fetch.needs_token (state self.old) ≡ true }
         requires settled { once ≡ false
             → fetch.without_far_key (state self.old) ≡ Ok (state self.old) }
@@ -109,43 +105,6 @@ impl<T: Input> Engine<T> {
         }
     }
 
-    // The same, with the stop kept, as a call of its own. The place of a result is cleared before such a call and
-    // copied after it, but a result of one byte isn't.
-    #[inline(never)]
-    fn reads_on(&mut self, limit: usize, once: bool) -> bool
-        requires needed { once ≡ false → fetch.needs_token (state self.old) ≡ true }
-        requires settled { once ≡ false
-            → fetch.without_far_key (state self.old) ≡ Ok (state self.old) }
-        ensures all { once ≡ false
-            → MovesBy (fetch.fill limit) self.old (answer_of result self.new.stop) self.new }
-        ensures one { once ≡ true → MovesBy (fetch.state_behind_token limit) self.old
-            (answer_of result self.new.stop) self.new }
-    {
-        let ended = self.read_on(limit, once);
-        self.keep(ended)
-    }
-
-    // Drops a candidate that is too far, with the stop kept, as `reads_on` does.
-    #[inline(never)]
-    fn drops_far_key(&mut self) -> bool
-        ensures { MovesBy fetch.without_far_key self.old (answer_of result self.new.stop) self.new }
-    {
-        let ended = self.drop_far_key();
-        self.keep(ended)
-    }
-
-    // The same, for speed inlined where there is none.
-    #[inline(always)]
-    #[tactic(auto, unfolding(crate::specs::Steps::Core::drop_far_key))]
-    fn lets_far_key_go(&mut self) -> bool
-        ensures { MovesBy fetch.without_far_key self.old (answer_of result self.new.stop) self.new }
-    {
-        if !self.has_far_key() {
-            return true;
-        }
-        self.drops_far_key()
-    }
-
     // Whether nothing that is open has a candidate. Then no token is held.
     #[inline(always)]
     fn has_no_candidate(&self) -> bool
@@ -156,97 +115,115 @@ impl<T: Input> Engine<T> {
         !self.level.has_key && self.outer.is_empty()
     }
 
-    // Reads until a token at the head of the queue can be handed out, where a candidate may be far or hold it, with
-    // the stop kept, as `reads_on` does.
+    // Reads until a token at the head of the queue can be handed out, where a candidate may be far or hold it.
     #[inline(never)]
     #[tactic(auto, unfolding(crate::specs::Steps::Fetch::fill))]
-    fn fills(&mut self, limit: usize) -> bool
-        ensures { MovesBy (fetch.fill limit) self.old (answer_of result self.new.stop) self.new }
+    fn fill_past_candidate(&mut self, limit: usize) -> Result<(), Stopped>
+        ensures { MovesBy (fetch.fill limit) self.old result self.new }
     {
-        if !self.lets_far_key_go() {
-            return false;
-        }
+        self.drop_far_key()?;
         if self.needs_token() {
-            return self.reads_on(limit, false);
+            return self.read_on(limit, false);
         }
-        true
+        Ok(())
     }
 
-    /// Reads until a token at the head of the queue can be handed out, unless all were. Mostly there is no candidate,
-    /// and then this looks at the queue alone. Returns where its first token is, so that this is found once.
+    // Reads until a token at the head of the queue can be handed out, unless all were. Mostly there is no candidate,
+    // and then this looks at the queue alone.
     #[inline(always)]
-    pub(crate) fn fill(&mut self, limit: usize) -> Result<Head, Stop>
-        ensures filled { Moves (λ _. state self.new) result (fetch.fill limit (state self.old)) }
-        ensures head { IfOk result (λ head. IsHead head self.new.queue) }
+    fn fill(&mut self, limit: usize) -> Result<(), Stopped>
+        ensures { MovesBy (fetch.fill limit) self.old result self.new }
     {
         if !self.has_no_candidate() {
-            if self.fills(limit) {
-                return Ok(self.queue.head());
-            }
-            return Err(self.stop);
+            return self.fill_past_candidate(limit);
         }
-        if self.queue.is_empty() && !self.ended && !self.reads_on(limit, false) {
-            return Err(self.stop);
+        if self.queue.is_empty() && !self.ended {
+            return self.read_on(limit, false);
         }
-        Ok(self.queue.head())
+        Ok(())
     }
 
-    /// Where the first token of the queue is.
-    pub(crate) fn head(&self) -> Head
-        ensures { IsHead result self.now.queue }
-    {
-        self.queue.head()
-    }
-
-    /// Takes the first token off the queue, if there is one, and writes it into `token`.
+    /// Reads until a token at the head of the queue can be handed out, and tells its kind, unless all were handed out.
     #[inline(always)]
-    pub(crate) fn take_into(&mut self, head: Head, token: &mut Token) -> Result<bool, Stop>
-        requires { IsHead head self.old.queue }
-        ensures { Moves
-            (λ taken. (option_map piece (written_token taken token.new), state self.new))
-            result (Ok (fetch.take_token (state self.old))) }
+    pub(crate) fn peek(&mut self, limit: usize) -> Result<Option<TokenKind>, Stopped>
+        ensures filled { Moves (λ _. state self.new) (stopped_by result self.new.stop)
+            (fetch.fill limit (state self.old)) }
+        ensures kind { IfOk result
+            (λ kind. kind ≡ kind_shown (first_of (state self.new).queue)) }
+        ensures counted { OnOk result ((state self.new).queue.handed + 1 < 2 ^ 64) }
     {
-        self.queue
-            .take_into(head, self.alloc, token, &mut self.reader.spare)
+        self.fill(limit)?;
+        if self.queue.first() == usize::MAX {
+            return Err(self.run_out_of_memory());
+        }
+        Ok(self.queue.peek())
     }
 
-    /// Takes the first token off the queue, if it is this indicator, and returns its span.
-    #[inline(always)]
-    pub(crate) fn pass(&mut self, head: Head, indicator: Indicator) -> Result<Option<Span>, Stop>
-        requires { IsHead head self.old.queue }
-        ensures { PassesOffBy (indicator_kind indicator) fetch.take_token result (state self.old)
-            (state self.new) }
+    // More tokens can't be counted.
+    #[inline(never)]
+    fn run_out_of_memory(&mut self) -> Stopped
+        ensures { self.new.stop ≡ OutOfMemory }
     {
-        self.queue.pass(head, indicator)
+        self.stop = Stop::OutOfMemory;
+        Stopped
     }
 
-    /// Takes the first token off the queue, if it is seen to be one of these indicators, and writes its span.
+    /// The span of the first token.
     #[inline(always)]
-    pub(crate) fn pass_either(
-        &mut self,
-        head: Head,
-        first: Indicator,
-        second: Indicator,
-        span: &mut Span,
-    ) -> Result<Which, Stop>
-        requires { IsHead head self.old.queue }
-        ensures { TakesOffSome
-            (which_piece (indicator_kind first) (indicator_kind second) span.new)
-            fetch.take_token result (state self.old) (state self.new) }
+    pub(crate) fn span(&self) -> Span
+        ensures { (t : Piece) → first_of (state self.now).queue ≡ Some t → result ≡ t.span }
     {
-        self.queue.pass_either(head, first, second, span)
+        self.queue.span()
     }
 
-    /// Takes the first token off the queue, if it is seen to be a scalar or the start of a block collection, and writes
-    /// its span into `span`.
+    /// Takes the first token off the queue.
     #[inline(always)]
-    pub(crate) fn take_node_start(&mut self, head: Head, span: &mut Span) -> Result<NodeStart, Stop>
-        requires { IsHead head self.old.queue }
-        ensures taken { TakesOffSome (start_piece span.new) fetch.take_token result
-            (state self.old) (state self.new) }
-        ensures kept { KeepsSpan result span.old span.new }
+    pub(crate) fn skip(&mut self)
+        requires { (state self.old).queue.handed + 1 < 2 ^ 64 }
+        ensures { state self.new ≡ (fetch.take_token (state self.old)).1 }
     {
-        self.queue.take_node_start(head, self.alloc, span)
+        self.queue.skip();
+    }
+
+    /// Takes the first token off the queue, and returns its text.
+    #[inline(always)]
+    pub(crate) fn take_text(&mut self) -> Result<String, Stopped>
+        requires { (state self.old).queue.handed + 1 < 2 ^ 64 }
+        ensures text { (t : Piece) (text : List ℕ) → first_of (state self.old).queue ≡ Some t
+            → text_of t.kind ≡ Some text → IfOk result (λ taken. string_bytes taken ≡ text) }
+        ensures left { OnOk result (state self.new ≡ (fetch.take_token (state self.old)).1) }
+        ensures failed { OnErr result (self.new.stop ≡ OutOfMemory) }
+    {
+        let taken = self.queue.take_text(self.alloc, &mut self.reader.spare);
+        keep(&mut self.stop, taken)
+    }
+
+    /// Takes the first token off the queue, and returns its parts.
+    pub(crate) fn take_parts(&mut self) -> Result<TokenParts, Stopped>
+        requires { (state self.old).queue.handed + 1 < 2 ^ 64 }
+        ensures parts { (t : Piece) → first_of (state self.old).queue ≡ Some t
+            → IfOk result (λ x. t.kind ≡ kind_with (token_kind t.kind) (parts x)) }
+        ensures left { OnOk result (state self.new ≡ (fetch.take_token (state self.old)).1) }
+        ensures failed { OnErr result (self.new.stop ≡ OutOfMemory) }
+    {
+        let taken = self.queue.take_parts(self.alloc, &mut self.reader.spare);
+        keep(&mut self.stop, taken)
+    }
+
+    /// Takes the first token off the queue, if there is one.
+    pub(crate) fn take_token(&mut self) -> Result<Option<Token>, Stopped>
+        ensures { Moves (λ taken. (option_map piece taken, state self.new))
+            (stopped_by result self.new.stop) (Ok (fetch.take_token (state self.old))) }
+    {
+        let Some(kind) = self.queue.peek() else {
+            return Ok(None);
+        };
+        if self.queue.first() == usize::MAX {
+            return Err(self.run_out_of_memory());
+        }
+        let span = self.span();
+        let parts = self.take_parts()?;
+        Ok(Some(Token { span, kind, parts }))
     }
 
     // Whether all tokens of the text were read, and none is held.
@@ -259,7 +236,8 @@ impl<T: Input> Engine<T> {
 
     /// Puts a token after all that come, where all tokens of the text were read. `false`: there are others, and the
     /// token is dropped.
-    pub(crate) fn give(&mut self, token: Token) -> Result<bool, AllocError>
+    #[tactic(auto, using(crate::proofs::Given::given_last))]
+    pub(crate) fn give(&mut self, token: Token) -> Result<bool, Stopped>
         ensures { (limit : ℕ) → IfOk result (λ given. GivesLast given (piece token)
             (remaining limit (state self.old)) (remaining limit (state self.new))) }
     {
@@ -267,37 +245,25 @@ impl<T: Input> Engine<T> {
             drop(token);
             return Ok(false);
         }
-        self.queue.put(token, &mut self.reader.spare)?;
+        let Token { span, kind, parts } = token;
+        let (major, minor) = (parts.major, parts.minor);
+        self.put_parts(span, kind, &parts.handle, &parts.text, major, minor)?;
         Ok(true)
     }
 
     /// Keeps the memory of a text that is no longer needed for the next one.
     #[inline(always)]
     pub(crate) fn give_back(&mut self, text: String)
-        ensures { state self.new ≡ state self.old }
+        ensures same { state self.new ≡ state self.old }
+        ensures stop { self.new.stop ≡ self.old.stop }
     {
         self.reader.spare.keep(text);
     }
 
-    /// Keeps the memory of an anchor's name for the next one.
-    #[inline(always)]
-    pub(crate) fn give_back_name(&mut self, name: String)
-        ensures { state self.new ≡ state self.old }
-    {
-        self.reader.spare.keep_name(name);
-    }
-
-    /// Keeps the memory of a tag's token for the next one.
-    #[inline(always)]
-    pub(crate) fn give_back_box(&mut self, tag: Box<TagParts>)
-        ensures { state self.new ≡ state self.old }
-    {
-        self.reader.spare.keep_box(tag);
-    }
-
     /// Keeps the memory of the texts of a tag for the next one.
     pub(crate) fn give_back_tag(&mut self, tag: TagParts)
-        ensures { state self.new ≡ state self.old }
+        ensures same { state self.new ≡ state self.old }
+        ensures stop { self.new.stop ≡ self.old.stop }
     {
         self.reader.spare.keep_tag(tag);
     }

@@ -8,26 +8,26 @@ ghost use Rattle.saphyr_scanner.specs.Steps.Flow as flow;
 ghost use Rattle.saphyr_scanner.specs.Steps.State as spec_state;
 
 use crate::engine::{Context, Engine, Level};
-use crate::queue::Indicator;
+use crate::stopped::{Stopped, keep};
+use crate::token::TokenKind;
 use saphyr_input::input::Input;
-use saphyr_scalar::{FaultText, Stop};
-use std::alloc::AllocError;
+use saphyr_scalar::FaultText;
 
 // How many flow collections may be open at once.
 const MOST_OPEN: usize = 255;
 
 impl<T: Input> Engine<T> {
-    ghost use Rattle.saphyr_scanner.specs.Views.Engine.{state, ActsBy, CarriesBy};
+    ghost use Rattle.saphyr_scanner.specs.Views.Engine.{state, ActsBy, CarriesBy, Performs};
     ghost use Rattle.saphyr_scanner.specs.Steps.Queue.{next};
-    ghost use Rattle.saphyr_scanner.specs.Views.Places.{indicator_kind};
+    ghost use Rattle.saphyr_scanner.specs.Views.Tokens.{kind_with, no_parts};
 
     // A flow collection is open.
     #[inline(always)]
     #[tactic(auto, using(crate::proofs::Levels::top_on))]
-    fn enter(&mut self, context: Context) -> Result<(), Stop>
+    fn enter(&mut self, context: Context) -> Result<(), Stopped>
         ensures { CarriesBy (λ c. Ok (flow.enter context c)) self.old result self.new }
     {
-        self.outer.reserve(1)?;
+        keep(&mut self.stop, self.outer.reserve(1))?;
         self.outer.push_reserved(self.level);
         self.level.context = context;
         self.level.has_key = false;
@@ -60,9 +60,9 @@ impl<T: Input> Engine<T> {
     // The bracket that stands here opens a flow collection.
     #[inline(always)]
     #[tactic(auto, unfolding(crate::specs::Steps::Flow::open_collection))]
-    fn open_collection(&mut self, context: Context, indicator: Indicator) -> Result<(), Stop>
+    fn open_collection(&mut self, context: Context, kind: TokenKind) -> Result<(), Stopped>
         requires { 0 < length (state self.old).core.cursor.rest }
-        ensures { ActsBy (flow.open_collection context (indicator_kind indicator))
+        ensures { ActsBy (flow.open_collection context (kind_with kind no_parts))
             self.old result self.new }
     {
         if self.is_full() {
@@ -72,8 +72,7 @@ impl<T: Input> Engine<T> {
         let start = self.reader.mark();
         self.reader.skip_non_blank();
         self.separate()?;
-        self.put_indicator_from(start, indicator)?;
-        Ok(())
+        self.put_from(start, kind)
     }
 
     // `[` or `{`.
@@ -82,23 +81,23 @@ impl<T: Input> Engine<T> {
     pub(super) fn fetch_flow_start(
         &mut self,
         context: Context,
-        indicator: Indicator,
-    ) -> Result<(), Stop>
+        kind: TokenKind,
+    ) -> Result<(), Stopped>
         requires { 0 < length (state self.old).core.cursor.rest }
-        ensures { ActsBy (flow.opening_steps context (indicator_kind indicator)
+        ensures { ActsBy (flow.opening_steps context (kind_with kind no_parts)
             (next (state self.old).queue)) self.old result self.new }
     {
         self.save_key()?;
         self.go_deeper();
-        self.open_collection(context, indicator)
+        self.open_collection(context, kind)
     }
 
     // The innermost flow collection ends with the bracket here.
     #[inline(always)]
     #[tactic(auto, unfolding(crate::specs::Steps::Flow::close_collection))]
-    fn close_collection(&mut self, indicator: Indicator) -> Result<(), Stop>
+    fn close_collection(&mut self, kind: TokenKind) -> Result<(), Stopped>
         requires { 0 < length (state self.old).core.cursor.rest }
-        ensures { ActsBy (flow.close_collection false (indicator_kind indicator))
+        ensures { ActsBy (flow.close_collection false (kind_with kind no_parts))
             self.old result self.new }
     {
         let start = self.reader.mark();
@@ -108,25 +107,23 @@ impl<T: Input> Engine<T> {
         if !self.in_block() {
             self.adjacent = self.reader.mark().index;
         }
-        self.put_indicator_from(start, indicator)?;
-        Ok(())
+        self.put_from(start, kind)
     }
 
     // An open pair without brackets of its own ends here. It is separate for speed: few pairs are open.
     #[inline(never)]
-    fn put_pair_end(&mut self) -> Result<(), AllocError>
-        ensures { OnOk result (state self.new ≡ spec_state.with_action
-            (spec.at_mark (state self.old).core.cursor.mark tokens.FlowMappingEnd)
-            (state self.old)) }
+    fn put_pair_end(&mut self) -> Result<(), Stopped>
+        ensures { Performs (spec.at_mark (state self.old).core.cursor.mark tokens.FlowMappingEnd)
+            self.old result self.new }
     {
         let mark = self.reader.mark();
-        self.put_empty_indicator(mark, Indicator::MappingEnd)
+        self.put_empty(mark, TokenKind::FlowMappingEnd)
     }
 
     // `]`. An open pair without brackets of its own ends before it.
     #[inline(always)]
     #[tactic(auto, unfolding(crate::specs::Steps::Flow::closing_steps, crate::specs::Steps::Flow::close_collection))]
-    pub(super) fn fetch_sequence_end(&mut self) -> Result<(), Stop>
+    pub(super) fn fetch_sequence_end(&mut self) -> Result<(), Stopped>
         requires { 0 < length (state self.old).core.cursor.rest }
         ensures { ActsBy flow.sequence_end_steps self.old result self.new }
     {
@@ -136,28 +133,26 @@ impl<T: Input> Engine<T> {
         if self.level.context.ends_pair() {
             self.put_pair_end()?;
         }
-        self.close_collection(Indicator::SequenceEnd)?;
-        Ok(())
+        self.close_collection(TokenKind::FlowSequenceEnd)
     }
 
     // `}`.
     #[inline(always)]
     #[tactic(auto, unfolding(crate::specs::Steps::Flow::closing_steps))]
-    pub(super) fn fetch_mapping_end(&mut self) -> Result<(), Stop>
+    pub(super) fn fetch_mapping_end(&mut self) -> Result<(), Stopped>
         requires { 0 < length (state self.old).core.cursor.rest }
         ensures { ActsBy flow.mapping_end_steps self.old result self.new }
     {
         if self.in_block() {
             return Err(self.refuse_here(FaultText::MisplacedBracket));
         }
-        self.close_collection(Indicator::MappingEnd)?;
-        Ok(())
+        self.close_collection(TokenKind::FlowMappingEnd)
     }
 
     // The comma that stands here ends an entry.
     #[inline(always)]
     #[tactic(auto, unfolding(crate::specs::Steps::Flow::next_flow_entry))]
-    fn next_flow_entry(&mut self) -> Result<(), Stop>
+    fn next_flow_entry(&mut self) -> Result<(), Stopped>
         requires { 0 < length (state self.old).core.cursor.rest }
         ensures { ActsBy flow.next_flow_entry self.old result self.new }
     {
@@ -171,14 +166,13 @@ impl<T: Input> Engine<T> {
         }
         self.reader.skip_non_blank();
         self.separate()?;
-        self.put_indicator_from(start, Indicator::Entry)?;
-        Ok(())
+        self.put_from(start, TokenKind::FlowEntry)
     }
 
     // `,`.
     #[inline(always)]
     #[tactic(auto, unfolding(crate::specs::Steps::Flow::flow_entry_steps, crate::specs::Steps::Core::remove_key))]
-    pub(super) fn fetch_flow_entry(&mut self) -> Result<(), Stop>
+    pub(super) fn fetch_flow_entry(&mut self) -> Result<(), Stopped>
         requires { 0 < length (state self.old).core.cursor.rest }
         ensures { ActsBy flow.flow_entry_steps self.old result self.new }
     {

@@ -6,8 +6,9 @@ ghost use Rattle.saphyr_scanner.specs.Steps.Unrolling as unrolling;
 ghost use Rattle.saphyr_scanner.specs.Steps.State as spec_state;
 
 use crate::engine::Engine;
+use crate::stopped::{Stopped, keep};
 use saphyr_input::input::Input;
-use saphyr_scalar::{Marker, Stop};
+use saphyr_scalar::Marker;
 
 impl<T: Input> Engine<T> {
     ghost use Rattle.saphyr_scanner.specs.Views.Engine.{state, MovesBy, CarriesBy};
@@ -51,14 +52,14 @@ impl<T: Input> Engine<T> {
 
     // A block collection begins at a column, if one does.
     #[inline(always)]
-    pub(super) fn roll(&mut self, column: usize) -> Result<(), Stop>
+    pub(super) fn roll(&mut self, column: usize) -> Result<(), Stopped>
         requires { column + 1 < 2 ^ 64 }
         ensures { CarriesBy (λ c. Ok (spec.roll column c)) self.old result self.new }
     {
         if !self.is_further(column) {
             return Ok(());
         }
-        self.outer_indents.reserve(1)?;
+        keep(&mut self.stop, self.outer_indents.reserve(1))?;
         self.outer_indents.push_reserved(self.indent);
         self.indent = column + 1;
         self.deeper = false;
@@ -104,7 +105,7 @@ impl<T: Input> Engine<T> {
     // The block collections to the right of a column end at a place, and all of them for `None`.
     #[inline(always)]
     #[tactic(auto, unfolding(crate::specs::Steps::Unrolling::unroll))]
-    pub(super) fn unroll(&mut self, column: Option<usize>, mark: Marker) -> Result<(), Stop>
+    pub(super) fn unroll(&mut self, column: Option<usize>, mark: Marker) -> Result<(), Stopped>
         ensures { MovesBy (λ s. Ok (unrolling.unroll column mark s)) self.old result self.new }
     {
         if !self.in_block() {
@@ -116,7 +117,7 @@ impl<T: Input> Engine<T> {
             self.leave_block();
             count += 1;
         }
-        self.queue.put_block_ends(mark, count)?;
+        keep(&mut self.stop, self.queue.put_block_ends(mark, count))?;
         Ok(())
     }
 }

@@ -6,8 +6,9 @@ ghost use Rattle.saphyr_scanner.specs.Steps.Core as spec;
 ghost use Rattle.saphyr_scanner.specs.Steps.State as spec_state;
 
 use crate::engine::{Candidate, Engine};
+use crate::stopped::{Stopped, keep};
 use saphyr_input::input::Input;
-use saphyr_scalar::{FaultText, Stop};
+use saphyr_scalar::FaultText;
 
 // How far after its start a key outside flow may have its colon.
 const LONGEST_KEY: usize = 1024;
@@ -18,7 +19,7 @@ impl<T: Input> Engine<T> {
 
     // The token that comes next may be a key, if one is allowed.
     #[inline(always)]
-    pub(super) fn save_key(&mut self) -> Result<(), Stop>
+    pub(super) fn save_key(&mut self) -> Result<(), Stopped>
         requires { 0 < length (state self.old).core.cursor.rest }
         ensures { CarriesBy (λ c. Ok (spec.save_key (next (state self.old).queue) c))
             self.old result self.new }
@@ -27,7 +28,7 @@ impl<T: Input> Engine<T> {
             return Ok(());
         }
         let mark = self.reader.mark();
-        let place = self.queue.next()?;
+        let place = keep(&mut self.stop, self.queue.next())?;
         if self.in_block() {
             self.required = !self.deeper && self.indent == mark.col + 1;
         }
@@ -48,10 +49,10 @@ impl<T: Input> Engine<T> {
         }
     }
 
-    // The same, but a candidate that must be a key is refused.
+    // No token of the level may be a key any more. A candidate that must be one is refused.
     #[inline(always)]
     #[tactic(auto, unfolding(crate::specs::Steps::Core::remove_key))]
-    pub(super) fn remove_key(&mut self) -> Result<(), Stop>
+    pub(super) fn remove_key(&mut self) -> Result<(), Stopped>
         ensures { CarriesBy spec.remove_key self.old result self.new }
     {
         if self.required && self.in_block() {
@@ -73,7 +74,7 @@ impl<T: Input> Engine<T> {
             && (key.line < mark.line || mark.index.saturating_sub(key.index) > LONGEST_KEY)
     }
 
-    // The same of a candidate outside flow, which then is none any more.
+    // Whether that is so of a candidate outside flow, which then is none any more.
     pub(super) fn has_far_key(&self) -> bool
         ensures { result ≡ (spec.in_block (state self.now).core
             && spec.is_too_far (state self.now).core.level.key (state self.now).core.cursor.mark) }
@@ -84,7 +85,7 @@ impl<T: Input> Engine<T> {
     // A candidate outside flow is dropped on the next line, and once its colon would be too far away.
     #[inline(always)]
     #[tactic(auto, unfolding(crate::specs::Steps::Core::drop_far_key))]
-    pub(super) fn drop_far_key(&mut self) -> Result<(), Stop>
+    pub(super) fn drop_far_key(&mut self) -> Result<(), Stopped>
         ensures { CarriesBy spec.drop_far_key self.old result self.new }
     {
         if !self.has_far_key() {

@@ -5,9 +5,10 @@ ghost use Rattle.saphyr_input.specs.Indicators.{exclamation_mark};
 ghost use Rattle.saphyr_scanner.specs.Steps.Property as property;
 
 use crate::engine::Engine;
-use crate::token::TokenType;
+use crate::stopped::{Stopped, keep};
+use crate::token::TokenKind;
 use saphyr_input::input::Input;
-use saphyr_scalar::{Span, Stop};
+use saphyr_scalar::Span;
 
 impl<T: Input> Engine<T> {
     ghost use Rattle.saphyr_scanner.specs.Views.Engine.{state, ActsBy};
@@ -15,7 +16,7 @@ impl<T: Input> Engine<T> {
 
     // `&` and an anchor's name.
     #[tactic(auto, unfolding(crate::specs::Steps::Property::name_steps, crate::specs::Steps::Property::read_name))]
-    pub(super) fn fetch_anchor(&mut self) -> Result<(), Stop>
+    pub(super) fn fetch_anchor(&mut self) -> Result<(), Stopped>
         requires { 0 < length (state self.old).core.cursor.rest }
         ensures { ActsBy (property.anchor_steps (next (state self.old).queue))
             self.old result self.new }
@@ -23,14 +24,16 @@ impl<T: Input> Engine<T> {
         self.save_key()?;
         self.key_allowed = false;
         let start = self.reader.mark();
-        let name = self.reader.read_anchor(self.alloc)?;
-        self.put_from(start, TokenType::Anchor(name))?;
+        let name = keep(&mut self.stop, self.reader.read_anchor(self.alloc))?;
+        let span = Span::new(start, self.reader.mark());
+        self.put_parts(span, TokenKind::Anchor, "", &name, 0, 0)?;
+        self.reader.spare.keep_name(name);
         Ok(())
     }
 
     // `*` and an alias's name.
     #[tactic(auto, unfolding(crate::specs::Steps::Property::name_steps, crate::specs::Steps::Property::read_name))]
-    pub(super) fn fetch_alias(&mut self) -> Result<(), Stop>
+    pub(super) fn fetch_alias(&mut self) -> Result<(), Stopped>
         requires { 0 < length (state self.old).core.cursor.rest }
         ensures { ActsBy (property.alias_steps (next (state self.old).queue))
             self.old result self.new }
@@ -38,14 +41,16 @@ impl<T: Input> Engine<T> {
         self.save_key()?;
         self.key_allowed = false;
         let start = self.reader.mark();
-        let name = self.reader.read_anchor(self.alloc)?;
-        self.put_from(start, TokenType::Alias(name))?;
+        let name = keep(&mut self.stop, self.reader.read_anchor(self.alloc))?;
+        let span = Span::new(start, self.reader.mark());
+        self.put_parts(span, TokenKind::Alias, "", &name, 0, 0)?;
+        self.reader.spare.keep_name(name);
         Ok(())
     }
 
     // `!` and the rest of a tag.
     #[tactic(auto, unfolding(crate::specs::Steps::Property::tag_steps, crate::specs::Steps::Property::read_tag))]
-    pub(super) fn fetch_tag(&mut self) -> Result<(), Stop>
+    pub(super) fn fetch_tag(&mut self) -> Result<(), Stopped>
         requires { slice_index (state self.old).core.cursor.rest 0 ≡ exclamation_mark }
         ensures { ActsBy (property.tag_steps (next (state self.old).queue)) self.old result
             self.new }
@@ -54,15 +59,10 @@ impl<T: Input> Engine<T> {
         self.key_allowed = false;
         let start = self.reader.mark();
         let in_flow = !self.in_block();
-        let tag = self.reader.read_tag(self.alloc, in_flow)?;
-        if self.queue.is_holding() {
-            let span = Span::new(start, self.reader.mark());
-            self.queue
-                .put_tag_behind(self.alloc, &span, tag, &mut self.reader.spare)?;
-            return Ok(());
-        }
-        let tag = self.reader.spare.boxed(self.alloc, tag)?;
-        self.put_from(start, TokenType::Tag(tag))?;
+        let tag = keep(&mut self.stop, self.reader.read_tag(self.alloc, in_flow))?;
+        let span = Span::new(start, self.reader.mark());
+        self.put_parts(span, TokenKind::Tag, &tag.handle, &tag.suffix, 0, 0)?;
+        self.reader.spare.keep_tag(tag);
         Ok(())
     }
 }

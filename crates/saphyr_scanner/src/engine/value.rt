@@ -5,17 +5,19 @@ ghost use Rattle.std.specs.Prelude.{◌≡◌, Ok, ◌+◌, ◌<◌, ◌^◌, le
 ghost use Rattle.saphyr_scanner.specs.Steps.Value as value;
 
 use crate::engine::{Candidate, Engine};
-use crate::queue::{Indicator, Opening};
+use crate::queue::Opening;
+use crate::stopped::{Stopped, keep};
+use crate::token::TokenKind;
 use saphyr_input::char_traits::is_alpha;
 use saphyr_input::input::{Input, SkipTabs};
-use saphyr_scalar::{FaultText, Marker, Stop};
+use saphyr_scalar::{FaultText, Marker};
 
 impl<T: Input> Engine<T> {
     ghost use Rattle.saphyr_scanner.specs.Views.Engine.{state, candidate, ActsBy, CarriesBy};
 
     // Outside flow there must be a space between a colon and a word, not a tab alone.
     #[inline(always)]
-    fn refuse_lone_tab(&mut self, found: SkipTabs) -> Result<(), Stop>
+    fn refuse_lone_tab(&mut self, found: SkipTabs) -> Result<(), Stopped>
         ensures { CarriesBy (λ c. value.refuse_lone_tab (found, c)) self.old result self.new }
     {
         if !self.in_block() || found.has_valid_yaml_ws() {
@@ -31,7 +33,7 @@ impl<T: Input> Engine<T> {
     // Passes what follows a colon, if that begins with a tab.
     #[inline(always)]
     #[tactic(auto, unfolding(crate::specs::Steps::Value::check_tab))]
-    fn check_tab(&mut self) -> Result<(), Stop>
+    fn check_tab(&mut self) -> Result<(), Stopped>
         ensures { CarriesBy value.check_tab self.old result self.new }
     {
         if self.reader.look() != '\t' {
@@ -44,7 +46,7 @@ impl<T: Input> Engine<T> {
     // `:`.
     #[inline(always)]
     #[tactic(auto, unfolding(crate::specs::Steps::Value::value_steps, crate::specs::Steps::Value::behind_key))]
-    pub(super) fn fetch_value(&mut self) -> Result<(), Stop>
+    pub(super) fn fetch_value(&mut self) -> Result<(), Stopped>
         requires { 0 < length (state self.old).core.cursor.rest }
         ensures { ActsBy value.value_steps self.old result self.new }
     {
@@ -54,11 +56,10 @@ impl<T: Input> Engine<T> {
         self.reader.skip_non_blank();
         self.check_tab()?;
         if self.level.has_key {
-            self.fetch_value_of(self.level.key, begins_pair, start)?;
+            self.fetch_value_of(self.level.key, begins_pair, start)
         } else {
-            self.fetch_value_alone(begins_pair, start)?;
+            self.fetch_value_alone(begins_pair, start)
         }
-        Ok(())
     }
 
     // The candidate is the colon's key.
@@ -69,12 +70,12 @@ impl<T: Input> Engine<T> {
         key: Candidate,
         begins_pair: bool,
         start: Marker,
-    ) -> Result<(), Stop>
+    ) -> Result<(), Stopped>
         ensures { ActsBy (value.value_of_key (candidate key) begins_pair start)
             self.old result self.new }
     {
         if begins_pair && key.mark.line < start.line {
-            return Err(Self::refuse(FaultText::MisplacedColon, start));
+            return Err(self.refuse(FaultText::MisplacedColon, start));
         }
         let opening = if begins_pair {
             Opening::FlowMappingAndKey
@@ -83,34 +84,32 @@ impl<T: Input> Engine<T> {
         } else {
             Opening::Key
         };
-        self.queue.set_opening(key.place, opening)?;
+        self.queue.set_opening(key.place, opening);
         self.roll(key.mark.col)?;
         self.go_deeper();
         self.forget_key();
         self.key_allowed = false;
-        self.put_empty_indicator(start, Indicator::Value)?;
-        Ok(())
+        self.put_empty(start, TokenKind::Value)
     }
 
     // The colon has no key on its line, or its key began with `?`.
     #[tactic(auto, unfolding(crate::specs::Steps::Value::value_alone, crate::specs::Steps::Value::opening_actions))]
-    fn fetch_value_alone(&mut self, begins_pair: bool, start: Marker) -> Result<(), Stop>
+    fn fetch_value_alone(&mut self, begins_pair: bool, start: Marker) -> Result<(), Stopped>
         requires { start.col + 1 < 2 ^ 64 }
         ensures { ActsBy (value.value_alone begins_pair start) self.old result self.new }
     {
         if begins_pair {
-            self.put_empty_indicator(start, Indicator::MappingStart)?;
+            self.put_empty(start, TokenKind::FlowMappingStart)?;
         }
         if self.in_block() && !self.key_allowed {
-            return Err(Self::refuse(FaultText::ValueNotAllowed, start));
+            return Err(self.refuse(FaultText::ValueNotAllowed, start));
         }
         if self.is_further(start.col) {
-            self.put_empty_indicator(start, Indicator::BlockMappingStart)?;
+            self.put_empty(start, TokenKind::BlockMappingStart)?;
         }
         self.roll(start.col)?;
         self.go_deeper();
         self.key_allowed = self.in_block();
-        self.put_empty_indicator(start, Indicator::Value)?;
-        Ok(())
+        self.put_empty(start, TokenKind::Value)
     }
 }

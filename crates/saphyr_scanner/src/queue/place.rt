@@ -1,73 +1,76 @@
-//! A token that is held, and what comes in front of it, in a small form, since the queue may hold all tokens of a text.
+//! A token of the queue, and what comes in front of it, in a small form, since the queue may hold all tokens of a text.
 
-ghost use Rattle.std.specs.Prelude.{◌≡◌, ◌≤◌, true, length, List, ℕ, IfOk, IfSome, OnErr, OnOk, slice_index};
+ghost use Rattle.std.specs.Prelude.{◌≡◌, ◌++◌, ◌<◌, List, ℕ, IfOk, OnErr, OnOk, Some, length, slice_index, string_bytes};
 ghost use Rattle.saphyr_scalar.specs.Values.Flow as flow;
 ghost use Rattle.saphyr_scalar.specs.Steps.Plain.{plain};
 ghost use Rattle.saphyr_scalar.specs.declared.scalar.style.ScalarStyle.TheVariants.{Plain};
 ghost use Rattle.saphyr_scalar.specs.Views.Reader.{GivesBy, cursor_of};
 ghost use Rattle.saphyr_scanner.specs.Grammar.Tokens as tokens;
-ghost use Rattle.saphyr_scanner.specs.Views.Asides.{EndsWithText, IsTextOf, behind_token, first_aside, with_text_aside, with_token};
-ghost use Rattle.saphyr_scanner.specs.Views.Places.{
-  AddsBehind,
-  beside_behind,
-  held_handle,
-  is_apart,
-  indicator_kind,
-  near_span,
-  place_at,
-  HasBeside,
-  text_kind,
-};
+ghost use Rattle.saphyr_scanner.specs.Views.Texts.{IsTextOf, with_last_extent, with_last_text};
+ghost use Rattle.saphyr_scanner.specs.Views.Places.{AddsBehind, HasTexts, extent_at, near_span, parts_at, place_at, texts_behind};
 ghost use Rattle.saphyr_scanner.specs.Views.Reads as spec;
-ghost use Rattle.saphyr_scanner.specs.Views.Reads.{PlacesScalar, quote_style, flow_quoted};
-ghost use Rattle.saphyr_scanner.specs.Views.Tokens.{Piece, kind_of, piece};
+ghost use Rattle.saphyr_scanner.specs.Views.Reads.{PlacesScalar, quote_style, quoted_whole};
+ghost use Rattle.saphyr_scanner.specs.Views.Tokens.{kind_with, no_parts, parts, piece_with, text_alone, text_of};
 
 use crate::queue::Opening;
-use crate::queue::aside::Aside;
-use crate::queue::content::{Content, Handle, Indicator, TextKind};
 use crate::queue::near::{NearMarker, near};
-use crate::token::{Token, TokenType};
+use crate::queue::texts::{Extent, Texts};
+use crate::token::{TokenKind, TokenParts};
 use saphyr_input::char_traits::is_breakz;
 use saphyr_input::input::{Input, SkipTabs};
 use saphyr_scalar::values::Quote;
-use saphyr_scalar::{FaultText, Marker, Reader, Refusal, ScalarStyle, Span, Spare, Stop, TagParts};
+use saphyr_scalar::{FaultText, Marker, Reader, Refusal, Span, Spare, Stop, TagParts};
 use std::alloc::{AllocError, Global};
-use std::mem::forget;
+
+// In place of a count of bytes: the token's extent is apart.
+const APART: u8 = u8::MAX;
 
 /// A token, and what is handed out before it.
 ///
-/// A token on one line is kept as its place and the number of its characters. Its text is aside, and so is the whole
-/// of any other token.
+/// Most tokens are on one line and have a short text or none. Their places have all but the text. Of others the place
+/// has the kind, and the extent is beside the texts.
 #[derive(Clone, Copy)]
 pub(super) struct Place {
     pub(super) opening: Opening,
-    content: Content,
+    pub(super) kind: TokenKind,
+    // How many bytes the text has, or `APART`.
+    count: u8,
     // How many characters the token has.
     length: u8,
     start: NearMarker,
 }
 
-// Whether a character is an indicator that may come after a quoted scalar inside flow.
+// Whether an indicator that may follow a quoted scalar is here. Outside flow that is a colon on the scalar's first line.
 #[inline(always)]
-fn is_entry_end(c: char) -> bool
-    ensures { result ≡ spec.is_entry_end c }
+fn is_at_end<T: Input>(reader: &Reader<T>, c: char, in_block: bool, line: usize) -> bool
+    requires { c ≡ slice_index (cursor_of reader.now).rest 0 }
+    ensures { result ≡ spec.is_at_end in_block line (cursor_of reader.now) }
 {
-    matches!(c, ':' | ',' | ']' | '}')
+    match c {
+        ':' => !in_block || reader.mark().line == line,
+        ',' | ']' | '}' => !in_block,
+        _ => false,
+    }
 }
 
-// Passes what separates a quoted scalar inside flow from what comes after it. Returns whether that is an indicator.
+// Passes what separates a quoted scalar from what comes after it. Returns whether that is an indicator.
 #[inline(always)]
-#[tactic(auto, unfolding(crate::specs::Views::Reads::behind_flow_quotes))]
-fn pass_behind_quotes<T: Input>(reader: &mut Reader<T>) -> Result<bool, Refusal>
-    ensures { GivesBy spec.behind_flow_quotes reader.old result reader.new }
+#[tactic(auto, unfolding(crate::specs::Views::Reads::behind_quoted))]
+fn pass_behind_quotes<T: Input>(
+    reader: &mut Reader<T>,
+    in_block: bool,
+    line: usize,
+) -> Result<bool, Refusal>
+    ensures { GivesBy (spec.behind_quoted in_block line) reader.old result reader.new }
 {
-    // For speed: mostly one look shows that nothing does.
-    if is_entry_end(reader.look()) {
+    // Mostly one look shows that nothing separates them.
+    let c = reader.look();
+    if is_at_end(reader, c, in_block, line) {
         return Ok(true);
     }
     reader.skip_ws_to_eol(SkipTabs::Yes)?;
     let c = reader.look();
-    if is_entry_end(c) {
+    if is_at_end(reader, c, in_block, line) {
         return Ok(true);
     }
     if is_breakz(c) {
@@ -80,284 +83,280 @@ fn pass_behind_quotes<T: Input>(reader: &mut Reader<T>) -> Result<bool, Refusal>
 }
 
 impl Place {
-    ghost use Rattle.saphyr_scanner.specs.Views.Asides.{Asides};
+    ghost use Rattle.saphyr_scanner.specs.Views.Texts.{Texts as Seen};
 
-    /// The place of an indicator on one line, with nothing in front of it.
+    // The place of a token on one line, whose text has so many bytes and comes behind the others.
     #[inline(always)]
-    pub(super) fn bare(start: NearMarker, length: u8, indicator: Indicator) -> Place
-        ensures { (s : Asides) → AddsBehind
-            (record { span = near_span start length; kind = indicator_kind indicator }) result s s }
+    fn here(kind: TokenKind, start: NearMarker, length: u8, count: u8) -> Place
+        requires { count < 255 }
+        ensures { (text : List ℕ) (s : Seen) → IsTextOf count text → AddsBehind
+            (piece_with (near_span start length) kind (text_alone text)) result
+            s (with_last_text text s) }
     {
         Place {
             opening: Opening::Nothing,
-            content: Content::Indicator(indicator),
+            kind,
+            count,
             length,
             start,
         }
     }
 
-    /// The same for a token with a text, which is aside, and has so many bytes.
-    #[inline(always)]
-    pub(super) fn text(start: NearMarker, length: u8, what: TextKind, count: u8) -> Place
-        ensures { (text : List ℕ) (s : Asides) → IsTextOf count text → AddsBehind
-            (record { span = near_span start length; kind = text_kind what text }) result
-            s (with_text_aside text s) }
+    // The place of a token whose extent is apart.
+    fn apart(kind: TokenKind) -> Place
+        ensures { (e : Extent) (handle text : List ℕ) (s : Seen)
+            → IsTextOf e.handle handle → IsTextOf e.text text → AddsBehind
+            (piece_with e.span kind (parts_at e (handle ++ text))) result
+            s (with_last_extent e (with_last_text text (with_last_text handle s))) }
     {
         Place {
             opening: Opening::Nothing,
-            content: what.content(count),
-            length,
-            start,
+            kind,
+            count: APART,
+            length: 0,
+            start: NearMarker::zero(),
         }
     }
 
-    /// The same for a tag, whose suffix is aside, and has so many bytes.
-    #[inline(always)]
-    pub(super) fn tag(start: NearMarker, length: u8, handle: Handle, count: u8) -> Place
-        ensures { (suffix : List ℕ) (s : Asides) → IsTextOf count suffix → AddsBehind
-            (record { span = near_span start length; kind = tokens.Tag (held_handle handle) suffix })
-            result s (with_text_aside suffix s) }
-    {
-        Place {
-            opening: Opening::Nothing,
-            content: handle.content(count),
-            length,
-            start,
-        }
-    }
-
-    // The same for a token whose text is the last one aside, and has so many bytes.
-    #[inline(always)]
-    fn of_last_text(
-        span: &Span,
-        what: TextKind,
-        count: usize,
-        aside: &mut Aside,
+    /// The place of a token of this extent, whose texts were put behind the others.
+    #[inline(never)]
+    pub(super) fn of_extent(
+        kind: TokenKind,
+        extent: Extent,
+        texts: &mut Texts,
     ) -> Result<Place, AllocError>
-        requires { EndsWithText count aside.old }
-        ensures { (text : List ℕ) (s : Asides) → aside.old ≡ with_text_aside text s
-            → IsTextOf count text → IfOk result (λ p. AddsBehind
-            (record { span = span.now; kind = text_kind what text }) p s aside.new) }
+        ensures place { (handle text : List ℕ) (s : Seen)
+            → texts.old ≡ with_last_text text (with_last_text handle s)
+            → IsTextOf extent.handle handle → IsTextOf extent.text text
+            → IfOk result (λ p. AddsBehind
+            (piece_with extent.span kind (parts_at extent (handle ++ text))) p s texts.new) }
+        ensures failed { OnErr result (texts.new ≡ texts.old) }
     {
-        if let Ok(count) = u8::try_from(count)
-            && let Some((start, length)) = near(&span.start, &span.end)
-        {
-            return Ok(Place::text(start, length, what, count));
-        }
-        let text = aside.take_last_text(count)?;
-        Place::whole(span, what.kind(text), aside)
+        texts.push_extent(extent)?;
+        Ok(Place::apart(kind))
     }
 
-    /// Reads a plain scalar, whose text is put behind those that are aside. Returns the place of its token, and a
-    /// comment that ended it. After an error nothing is known of what is aside.
+    /// The place of a token without parts.
+    #[inline(always)]
+    pub(super) fn bare(
+        kind: TokenKind,
+        start: &Marker,
+        end: &Marker,
+        texts: &mut Texts,
+    ) -> Result<Place, AllocError>
+        ensures place { IfOk result (λ p. AddsBehind
+            (piece_with (record { start = start.now; end = end.now }) kind no_parts) p
+            texts.old texts.new) }
+        ensures failed { OnErr result (texts.new ≡ texts.old) }
+    {
+        Place::of_text(kind, start, end, 0, texts)
+    }
+
+    /// The place of a token with a text alone, which is put behind the others. After an error nothing is known of the
+    /// texts.
+    pub(super) fn with_text(
+        kind: TokenKind,
+        span: &Span,
+        text: String,
+        texts: &mut Texts,
+        spare: &mut Spare,
+    ) -> Result<Place, AllocError>
+        ensures { IfOk result (λ p. AddsBehind
+            (piece_with span.now kind (text_alone (string_bytes text))) p texts.old texts.new) }
+    {
+        let count = text.len();
+        texts.take_over(text, spare)?;
+        Place::of_text(kind, &span.start, &span.end, count, texts)
+    }
+
+    /// The place of a token of this extent, whose texts are put behind the others. After an error nothing is known of
+    /// the texts.
+    pub(super) fn with_parts(
+        kind: TokenKind,
+        extent: Extent,
+        handle: &str,
+        text: &str,
+        texts: &mut Texts,
+    ) -> Result<Place, AllocError>
+        requires handle { extent.handle ≡ length handle.now }
+        requires text { extent.text ≡ length text.now }
+        ensures { IfOk result (λ p. AddsBehind
+            (piece_with extent.span kind (parts_at extent (handle.now ++ text.now))) p
+            texts.old texts.new) }
+    {
+        texts.push(handle)?;
+        texts.push(text)?;
+        if extent.handle == 0 && extent.major == 0 && extent.minor == 0 {
+            return Place::of_text(
+                kind,
+                &extent.span.start,
+                &extent.span.end,
+                extent.text,
+                texts,
+            );
+        }
+        Place::of_extent(kind, extent, texts)
+    }
+
+    /// The place of a token from one place to another, whose text of so many bytes was put behind the others.
+    #[inline(always)]
+    pub(super) fn of_text(
+        kind: TokenKind,
+        start: &Marker,
+        end: &Marker,
+        count: usize,
+        texts: &mut Texts,
+    ) -> Result<Place, AllocError>
+        ensures place { (text : List ℕ) (s : Seen)
+            → texts.old ≡ with_last_text text s → IsTextOf count text
+            → IfOk result (λ p. AddsBehind
+            (piece_with (record { start = start.now; end = end.now }) kind (text_alone text)) p
+            s texts.new) }
+        ensures failed { OnErr result (texts.new ≡ texts.old) }
+    {
+        if count < usize::from(APART)
+            && let Some((start, length)) = near(start, end)
+        {
+            return Ok(Place::here(kind, start, length, count as u8));
+        }
+        let span = Span::new(*start, *end);
+        Place::of_extent(kind, Extent::of_text(span, count), texts)
+    }
+
+    /// Reads a plain scalar, whose text is put behind the others. Returns the place of its token, and a comment that
+    /// ended it. After an error nothing is known of the texts.
     #[inline(always)]
     pub(super) fn read_plain<T: Input>(
         alloc: Global,
         reader: &mut Reader<T>,
         in_flow: bool,
         indent: usize,
-        aside: &mut Aside,
+        texts: &mut Texts,
     ) -> Result<(Place, Option<Marker>), Stop>
-        ensures { PlacesScalar Plain (cursor_of reader.old).mark aside.old aside.new
+        ensures { PlacesScalar Plain (cursor_of reader.old).mark texts.old texts.new
             (cursor_of reader.new) result (plain in_flow indent (cursor_of reader.old)) }
     {
         let start = reader.mark();
-        let (scalar, count) = aside.read_plain(alloc, reader, in_flow, indent)?;
-        let span = Span::new(start, scalar.end);
-        let place = Place::of_last_text(&span, TextKind::Plain, count, aside)?;
+        let (scalar, count) = texts.read_plain(alloc, reader, in_flow, indent)?;
+        let place = Place::of_text(TokenKind::Plain, &start, &scalar.end, count, texts)?;
         Ok((place, scalar.comment))
     }
 
-    /// Reads a quoted scalar inside flow in the same way, and passes what separates it from what comes after it.
-    /// Returns whether that is an indicator.
+    /// Reads a quoted scalar in the same way, and passes what separates it from what comes after it. Returns whether
+    /// that is an indicator.
     #[inline(always)]
-    #[tactic(auto, unfolding(crate::specs::Views::Reads::flow_quoted))]
+    #[tactic(auto, unfolding(crate::specs::Views::Reads::quoted_whole))]
     pub(super) fn read_quoted<T: Input>(
         alloc: Global,
         reader: &mut Reader<T>,
         quote: Quote,
+        in_block: bool,
         indent: usize,
-        aside: &mut Aside,
+        texts: &mut Texts,
     ) -> Result<(Place, bool), Stop>
         requires { slice_index (cursor_of reader.old).rest 0 ≡ flow.mark quote }
-        ensures { PlacesScalar (quote_style quote) (cursor_of reader.old).mark aside.old aside.new
-            (cursor_of reader.new) result (flow_quoted quote indent (cursor_of reader.old)) }
+        ensures { PlacesScalar (quote_style quote) (cursor_of reader.old).mark texts.old texts.new
+            (cursor_of reader.new) result
+            (quoted_whole in_block quote indent (cursor_of reader.old)) }
     {
         let start = reader.mark();
-        let count = aside.read_quoted(alloc, reader, quote, indent)?;
-        let is_at_indicator = pass_behind_quotes(reader)?;
-        let span = Span::new(start, reader.mark());
-        let place = Place::of_last_text(&span, TextKind::of_quote(quote), count, aside)?;
-        Ok((place, is_at_indicator))
+        let count = texts.read_quoted(alloc, reader, quote, indent)?;
+        let is_at_end = pass_behind_quotes(reader, in_block, start.line)?;
+        let place = Place::of_text(kind_of(quote), &start, &reader.mark(), count, texts)?;
+        Ok((place, is_at_end))
     }
 
-    // The same for a token that is aside.
-    fn of_aside() -> Place
-        ensures { (t : Piece) (s : Asides) → AddsBehind t result s (with_token t s) }
+    /// The span of the token.
+    #[inline(always)]
+    pub(super) fn span(self, texts: &Texts) -> Span
+        ensures { result ≡ (place_at self texts.now).piece.span }
     {
-        Place {
-            opening: Opening::Nothing,
-            content: Content::Aside,
-            length: 0,
-            start: NearMarker::zero(),
+        self.extent(texts).span
+    }
+
+    /// The extent of the token.
+    #[inline(always)]
+    pub(super) fn extent(self, texts: &Texts) -> Extent
+        ensures { result ≡ extent_at self texts.now }
+    {
+        if self.count == APART {
+            return texts.first_extent();
         }
+        Extent::of_text(self.start.span(self.length), usize::from(self.count))
     }
 
-    /// The place of a token, with nothing in front of it. What it has beside it is put behind what is aside.
+    /// Takes off the texts of the token.
     #[inline(always)]
-    pub(super) fn new(
-        span: &Span,
-        kind: TokenType,
-        aside: &mut Aside,
-        spare: &mut Spare,
-    ) -> Result<Place, AllocError>
-        ensures place { IfOk result (λ p. AddsBehind
-            (record { span = span.now; kind = kind_of kind }) p aside.old aside.new) }
-        ensures failed { OnErr result (aside.new ≡ aside.old) }
+    pub(super) fn pass_texts(self, texts: &mut Texts)
+        requires { HasTexts self texts.old }
+        ensures { texts.new ≡ texts_behind self texts.old }
     {
-        let Some((start, length)) = near(&span.start, &span.end) else {
-            return Place::whole(span, kind, aside);
-        };
-        let Some(indicator) = Indicator::of(&kind) else {
-            return Place::with_text(start, length, kind, aside, spare);
-        };
-        forget(kind);
-        Ok(Place::bare(start, length, indicator))
-    }
-
-    // The same for a token on one line that is none of the indicators.
-    #[inline(always)]
-    fn with_text(
-        start: NearMarker,
-        length: u8,
-        kind: TokenType,
-        aside: &mut Aside,
-        spare: &mut Spare,
-    ) -> Result<Place, AllocError>
-        ensures place { IfOk result (λ p. AddsBehind
-            (record { span = near_span start length; kind = kind_of kind }) p aside.old aside.new) }
-        ensures failed { OnErr result (aside.new ≡ aside.old) }
-    {
-        let (what, text) = match kind {
-            TokenType::Alias(name) => (TextKind::Alias, name),
-            TokenType::Anchor(name) => (TextKind::Anchor, name),
-            TokenType::Scalar(ScalarStyle::Plain, text) => (TextKind::Plain, text),
-            TokenType::Scalar(ScalarStyle::SingleQuoted, text) => (TextKind::SingleQuoted, text),
-            TokenType::Scalar(ScalarStyle::DoubleQuoted, text) => (TextKind::DoubleQuoted, text),
-            kind => return Place::whole(&start.span(length), kind, aside),
-        };
-        let Some(count) = aside.keep_text(&text)? else {
-            return Place::whole(&start.span(length), what.kind(text), aside);
-        };
-        spare.keep(text);
-        Ok(Place::text(start, length, what, count))
-    }
-
-    // The same for any token.
-    fn whole(span: &Span, kind: TokenType, aside: &mut Aside) -> Result<Place, AllocError>
-        ensures place { IfOk result (λ p. AddsBehind
-            (record { span = span.now; kind = kind_of kind }) p aside.old aside.new) }
-        ensures failed { OnErr result (aside.new ≡ aside.old) }
-    {
-        aside.keep_token(Token { span: *span, kind })?;
-        Ok(Place::of_aside())
-    }
-
-    /// The span of the token, if it is this indicator. It has nothing aside.
-    #[inline(always)]
-    pub(super) fn span_of(self, indicator: Indicator) -> Option<Span>
-        ensures token { (s : Asides) → IfSome result (λ span. (place_at self s).piece
-            ≡ record { span = span; kind = indicator_kind indicator }) }
-        ensures nothing_aside { (s : Asides) → IfSome result (λ span. beside_behind self s ≡ s) }
-    {
-        if matches!(self.content, Content::Indicator(found) if found == indicator) {
-            return Some(self.start.span(self.length));
+        if self.count == APART {
+            texts.pass_extent();
+            return;
         }
-        None
+        texts.pass_text(usize::from(self.count));
     }
 
-    /// Where the token begins.
+    /// Takes the text of the token off, which has no other parts.
     #[inline(always)]
-    pub(super) fn start(self, aside: &Aside) -> Marker
-        ensures { result ≡ (place_at self aside.now).piece.span.start }
-    {
-        match self.content {
-            Content::Aside => aside.first_start(),
-            _ => self.start.marker(),
-        }
-    }
-
-    /// Writes the token into `token`, and takes off what it has aside.
-    #[inline(always)]
-    pub(super) fn take_into(
+    pub(super) fn take_text(
         self,
         alloc: Global,
-        aside: &mut Aside,
-        token: &mut Token,
+        texts: &mut Texts,
         spare: &mut Spare,
-    ) -> Result<(), AllocError>
-        requires { HasBeside self aside.old }
-        ensures written { OnOk result (piece token.new ≡ (place_at self aside.old).piece) }
-        ensures left { OnOk result (aside.new ≡ beside_behind self aside.old) }
-        ensures failed { OnErr result (aside.new ≡ aside.old) }
+    ) -> Result<String, AllocError>
+        requires { HasTexts self texts.old }
+        ensures text { (text : List ℕ) → text_of (place_at self texts.old).piece.kind ≡ Some text
+            → IfOk result (λ taken. string_bytes taken ≡ text) }
+        ensures left { OnOk result (texts.new ≡ texts_behind self texts.old) }
+        ensures failed { OnErr result (texts.new ≡ texts.old) }
     {
-        let (what, count) = match self.content {
-            Content::Indicator(indicator) => {
-                token.set(self.start.span(self.length), indicator.kind());
-                return Ok(());
-            }
-            Content::Alias(count) => (TextKind::Alias, count),
-            Content::Anchor(count) => (TextKind::Anchor, count),
-            Content::Plain(count) => (TextKind::Plain, count),
-            Content::SingleQuoted(count) => (TextKind::SingleQuoted, count),
-            Content::DoubleQuoted(count) => (TextKind::DoubleQuoted, count),
-            // The token is a tag, or aside as a whole.
-            _ => {
-                self.make_whole(alloc, aside, spare)?;
-                let Token { span, kind } = aside.take_token();
-                token.set(span, kind);
-                return Ok(());
-            }
-        };
-        let mut text = spare.begin(alloc)?;
-        text.push_str(aside.first_text(count))?;
-        aside.pass_text(count);
-        token.set(self.start.span(self.length), what.kind(text));
-        Ok(())
+        if self.count == APART {
+            return texts.take_extent(alloc, spare);
+        }
+        texts.take_text(usize::from(self.count), alloc, spare)
     }
 
-    // Puts the token of a tag before those that are aside. Any other token is there already.
-    //
-    // For speed the token isn't written into the caller's: a token whose place is given to a call that is not inlined
-    // stays in memory, in each state that takes one.
-    #[inline(never)]
-    fn make_whole(
+    /// Takes all parts of the token off.
+    pub(super) fn take_parts(
         self,
         alloc: Global,
-        aside: &mut Aside,
+        texts: &mut Texts,
         spare: &mut Spare,
-    ) -> Result<(), AllocError>
-        requires apart { is_apart self.content ≡ true }
-        requires beside { HasBeside self aside.old }
-        ensures some { OnOk result (1 ≤ length aside.new.tokens) }
-        ensures token { OnOk result
-            (first_aside aside.new.tokens ≡ (place_at self aside.old).piece) }
-        ensures left { OnOk result (behind_token aside.new ≡ beside_behind self aside.old) }
-        ensures failed { OnErr result (aside.new ≡ aside.old) }
+    ) -> Result<TokenParts, AllocError>
+        requires { HasTexts self texts.old }
+        ensures parts { IfOk result (λ x. (place_at self texts.old).piece.kind
+            ≡ kind_with self.kind (parts x)) }
+        ensures left { OnOk result (texts.new ≡ texts_behind self texts.old) }
+        ensures failed { OnErr result (texts.new ≡ texts.old) }
     {
-        let (handle, size) = match self.content {
-            Content::EmptyTag(size) => (Handle::Empty, size),
-            Content::PrimaryTag(size) => (Handle::Primary, size),
-            Content::SecondaryTag(size) => (Handle::Secondary, size),
-            _ => return Ok(()),
-        };
-        let tag = TagParts::begin(spare, alloc)?;
-        let tag = handle.tag(tag, aside.first_text(size))?;
-        let kind = TokenType::Tag(spare.boxed(alloc, tag)?);
-        let span = self.start.span(self.length);
-        aside.keep_first(Token { span, kind })?;
-        aside.pass_text(size);
-        Ok(())
+        let extent = self.extent(texts);
+        let TagParts {
+            mut handle,
+            suffix: mut text,
+        } = TagParts::begin(spare, alloc)?;
+        handle.push_str(texts.text_at(0, extent.handle))?;
+        text.push_str(texts.text_at(extent.handle, extent.text))?;
+        self.pass_texts(texts);
+        Ok(TokenParts {
+            handle,
+            text,
+            major: extent.major,
+            minor: extent.minor,
+        })
+    }
+}
+
+// The kind of a quoted scalar.
+#[inline(always)]
+fn kind_of(quote: Quote) -> TokenKind
+    ensures { (text : List ℕ) → kind_with result (text_alone text)
+        ≡ tokens.Scalar (quote_style quote) text }
+{
+    match quote {
+        Quote::Single => TokenKind::SingleQuoted,
+        Quote::Double => TokenKind::DoubleQuoted,
     }
 }
 

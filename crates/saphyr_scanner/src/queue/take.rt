@@ -1,105 +1,140 @@
-//! Taking off the first token of a queue, or what comes in front of it.
+//! The first token of a queue, or what comes in front of it: it is looked at where it is, and taken off.
 
-ghost use Rattle.saphyr_scanner.specs.Steps.Queue as spec;
-ghost use Rattle.saphyr_scanner.specs.Views.Places.{indicator_kind};
-ghost use Rattle.saphyr_scanner.specs.Views.Queue.{queue, IsHead, PassesOffBy, TakesOffBy, TakesOffSome};
-ghost use Rattle.saphyr_scanner.specs.Views.Tokens.{start_piece, which_piece, KeepsSpan};
+#![tactic(auto, using(crate::proofs::QueuedPlaces::first_token), unfolding(crate::specs::Views::Queue::queue_places))]
 
-use crate::queue::{Head, Indicator, NodeStart, Queue, Which};
-use crate::token::Token;
-use saphyr_scalar::{Span, Spare, Stop};
-use std::alloc::Global;
+ghost use Rattle.std.specs.Prelude.{◌≡◌, ◌<◌, ◌+◌, ◌^◌, List, ℕ, IfOk, OnErr, OnOk, Some, string_bytes};
+ghost use Rattle.saphyr_scanner.specs.Views.Queue.{BeginsWithPlace, behind_first, first_of, kind_shown, queue};
+ghost use Rattle.saphyr_scanner.specs.Views.Tokens.{Piece, kind_with, parts, text_of, token_kind};
+
+use crate::queue::place::Place;
+use crate::queue::{Opening, Queue};
+use crate::token::{TokenKind, TokenParts};
+use saphyr_scalar::{Marker, Span, Spare};
+use std::alloc::{AllocError, Global};
 
 impl Queue {
-    /// Takes the first token off, if there is one, and writes it into `token`.
+    // The place of the token that is handed out next.
     #[inline(always)]
-    pub(crate) fn take_into(
+    fn first_place(&self) -> Option<Place>
+        ensures { BeginsWithPlace result self.now }
+    {
+        self.places.get(self.spent).copied()
+    }
+
+    /// The kind of the token that is handed out next, if there is one.
+    #[inline(always)]
+    pub(crate) fn peek(&self) -> Option<TokenKind>
+        ensures { result ≡ kind_shown (first_of (queue self.now)) }
+    {
+        let place = self.first_place()?;
+        Some(match place.opening {
+            Opening::Nothing => place.kind,
+            Opening::Key => TokenKind::Key,
+            Opening::BlockMappingAndKey => TokenKind::BlockMappingStart,
+            Opening::FlowMappingAndKey => TokenKind::FlowMappingStart,
+        })
+    }
+
+    /// The span of the token that is handed out next.
+    #[inline(always)]
+    pub(crate) fn span(&self) -> Span
+        ensures { (t : Piece) → first_of (queue self.now) ≡ Some t → result ≡ t.span }
+    {
+        let Some(place) = self.first_place() else {
+            return Span::empty(Marker::new(0, 0, 0));
+        };
+        let span = place.span(&self.texts);
+        match place.opening {
+            Opening::Nothing => span,
+            _ => Span::empty(span.start),
+        }
+    }
+
+    // Uses the memory of places and texts again, where all were handed out.
+    #[inline(always)]
+    fn clear_spent(&mut self)
+        ensures { queue self.new ≡ queue self.old }
+    {
+        if self.spent == self.places.len() {
+            self.places.clear();
+            self.spent = 0;
+            self.texts.clear();
+        }
+    }
+
+    /// Takes off the token that is handed out next.
+    #[inline(always)]
+    pub(crate) fn skip(&mut self)
+        requires { self.old.handed + 1 < 2 ^ 64 }
+        ensures { queue self.new ≡ behind_first (queue self.old) }
+    {
+        let Some(place) = self.places.get_mut(self.spent) else {
+            return;
+        };
+        match place.opening {
+            Opening::Nothing => {
+                place.pass_texts(&mut self.texts);
+                self.spent += 1;
+                self.handed += 1;
+                self.clear_spent();
+            }
+            Opening::Key => place.opening = Opening::Nothing,
+            Opening::BlockMappingAndKey | Opening::FlowMappingAndKey => {
+                place.opening = Opening::Key;
+            }
+        }
+    }
+
+    /// Takes off the token that is handed out next, and returns its text.
+    #[inline(always)]
+    pub(crate) fn take_text(
         &mut self,
-        head: Head,
         alloc: Global,
-        token: &mut Token,
         spare: &mut Spare,
-    ) -> Result<bool, Stop>
-        requires { IsHead head self.old }
-        ensures { TakesOffBy spec.take self.old result token.new self.new }
+    ) -> Result<String, AllocError>
+        requires { self.old.handed + 1 < 2 ^ 64 }
+        ensures text { (t : Piece) (text : List ℕ) → first_of (queue self.old) ≡ Some t
+            → text_of t.kind ≡ Some text → IfOk result (λ taken. string_bytes taken ≡ text) }
+        ensures left { OnOk result (queue self.new ≡ behind_first (queue self.old)) }
+        ensures failed { OnErr result (queue self.new ≡ queue self.old) }
     {
-        if matches!(head, Head::Behind) {
-            return self.held.take_into(alloc, token, &mut self.handed, spare);
-        }
-        if self.handed == usize::MAX {
-            return Err(Stop::OutOfMemory);
-        }
-        if matches!(head, Head::First) {
-            self.first.take_into(token, &mut self.handed);
-        } else {
-            self.second.take_into(token, &mut self.handed);
-        }
-        Ok(true)
+        let Some(place) = self.first_place() else {
+            return Ok(String::new(alloc));
+        };
+        let Opening::Nothing = place.opening else {
+            self.skip();
+            return Ok(String::new(alloc));
+        };
+        let text = place.take_text(alloc, &mut self.texts, spare)?;
+        self.spent += 1;
+        self.handed += 1;
+        self.clear_spent();
+        Ok(text)
     }
 
-    /// Takes the first token off, if it is this indicator, and returns its span. No token is made for it.
-    #[inline(always)]
-    pub(crate) fn pass(&mut self, head: Head, indicator: Indicator) -> Result<Option<Span>, Stop>
-        requires { IsHead head self.old }
-        ensures { PassesOffBy (indicator_kind indicator) spec.take result (queue self.old)
-            (queue self.new) }
-    {
-        if matches!(head, Head::Behind) {
-            return self.held.pass(indicator, &mut self.handed);
-        }
-        if self.handed == usize::MAX {
-            return Err(Stop::OutOfMemory);
-        }
-        if matches!(head, Head::First) {
-            Ok(self.first.pass(indicator, &mut self.handed))
-        } else {
-            Ok(self.second.pass(indicator, &mut self.handed))
-        }
-    }
-
-    /// Takes the first token off, if it is seen to be one of these indicators, and writes its span into `span`. Only
-    /// the rows are looked at.
-    #[inline(always)]
-    pub(crate) fn pass_either(
+    /// Takes off the token that is handed out next, and returns its parts.
+    pub(crate) fn take_parts(
         &mut self,
-        head: Head,
-        first: Indicator,
-        second: Indicator,
-        span: &mut Span,
-    ) -> Result<Which, Stop>
-        requires { IsHead head self.old }
-        ensures { TakesOffSome
-            (which_piece (indicator_kind first) (indicator_kind second) span.new) spec.take result
-            (queue self.old) (queue self.new) }
-    {
-        match head {
-            Head::First => self
-                .first
-                .pass_either(first, second, &mut self.handed, span),
-            Head::Second => self
-                .second
-                .pass_either(first, second, &mut self.handed, span),
-            Head::Behind => Ok(Which::Neither),
-        }
-    }
-
-    /// Takes the first token off, if it is seen to be a scalar or the start of a block collection, and writes its span
-    /// into `span`. Only the first row is looked at, where mostly it is.
-    #[inline(always)]
-    pub(crate) fn take_node_start(
-        &mut self,
-        head: Head,
         alloc: Global,
-        span: &mut Span,
-    ) -> Result<NodeStart, Stop>
-        requires { IsHead head self.old }
-        ensures taken { TakesOffSome (start_piece span.new) spec.take result (queue self.old)
-            (queue self.new) }
-        ensures kept { KeepsSpan result span.old span.new }
+        spare: &mut Spare,
+    ) -> Result<TokenParts, AllocError>
+        requires { self.old.handed + 1 < 2 ^ 64 }
+        ensures parts { (t : Piece) → first_of (queue self.old) ≡ Some t
+            → IfOk result (λ x. t.kind ≡ kind_with (token_kind t.kind) (parts x)) }
+        ensures left { OnOk result (queue self.new ≡ behind_first (queue self.old)) }
+        ensures failed { OnErr result (queue self.new ≡ queue self.old) }
     {
-        match head {
-            Head::First => self.first.take_node_start(alloc, &mut self.handed, span),
-            Head::Second | Head::Behind => Ok(NodeStart::Other),
-        }
+        let Some(place) = self.first_place() else {
+            return Ok(TokenParts::none(alloc));
+        };
+        let Opening::Nothing = place.opening else {
+            self.skip();
+            return Ok(TokenParts::none(alloc));
+        };
+        let parts = place.take_parts(alloc, &mut self.texts, spare)?;
+        self.spent += 1;
+        self.handed += 1;
+        self.clear_spent();
+        Ok(parts)
     }
 }

@@ -1,28 +1,43 @@
-use Rattle.std.proofs.Common.{rules}
-use Rattle.saphyr_scanner.specs.Views.Tokens.{piece}
-use Rattle.saphyr_machine.specs.Steps.Documents.{is_passable}
+-- Tokens are passed, one after the other.
+use Rattle.std.proofs.Common.{◌≡◌, ◌<◌, length, rules, refl, ap, sym, subst, ◌∙◌}
+use Rattle.saphyr_scanner.specs.Views.Tokens.{piece_with}
+use Rattle.saphyr_machine.specs.Steps.Documents.{is_passable, unpassed_token}
+use Rattle.saphyr_machine.specs.Steps.Machine.{Machine, taken_token}
 use Rattle.saphyr_machine.specs.Views.Machines.{machine_of}
 use Rattle.saphyr_machine.proofs.Passing.{passes_on, stops_at, fails_at, shorter}
 use Rattle.saphyr_machine.proofs.machine.Machine.pass_marks.Goals as goal
 
-pub returns-in_err-token-clause-taken : goal.returns-in_err-token-clause-taken
-returns-in_err-token-clause-taken g c =
-    let failed = fails_at (is_passable c.args.ends) (machine_of c.args.self.now) (machine_of c.loop-token.self)
-    c.in_err-token.field-0.0 c.loop-token.invariant c.in_err-token.ensures.taken in search rules
+pub returns-in_err-kind : goal.returns-in_err-kind
+returns-in_err-kind g c =
+    let failed = fails_at (is_passable c.args.ends) (machine_of c.args.self.now) (machine_of c.loop-kind.self)
+    c.peek.new.self.scanner.stop c.loop-kind.invariant c.in_err-kind.ensures in search (rules, failed)
 
-pub returns-then-not-is_passable-clause-taken : goal.returns-then-not-is_passable-clause-taken
-returns-then-not-is_passable-clause-taken g c =
-    stops_at (is_passable c.args.ends) (machine_of c.args.self.now) (machine_of c.loop-token.self)
-    (machine_of c.take.new.self) (piece c.in_ok-token.token) _ c.loop-token.invariant c.in_ok-token.ensures.taken
-    c.is_passable.ensures c.if-not-is_passable.true
+pub returns-then-not-is_passable : goal.returns-then-not-is_passable
+returns-then-not-is_passable g c =
+    let shown = c.in_ok-kind.ensures in
+    let next = shown.0.0 in (
+      shown.0,
+      stops_at (is_passable c.args.ends) (machine_of c.args.self.now) (machine_of c.loop-kind.self) next.2
+          (piece_with next.0 c.in_ok-kind.kind next.1) _ c.loop-kind.invariant (ap taken_token (sym shown.1) ∙ next.3)
+          (c.is_passable.ensures next.1) c.if-not-is_passable.true
+          ∙ sym next.3,
+    )
 
-pub loop-token-preserved : goal.loop-token-preserved
-loop-token-preserved g c =
-    passes_on (is_passable c.args.ends) (machine_of c.args.self.now) (machine_of c.loop-token.self)
-    (machine_of c.take.new.self) (piece c.in_ok-token.token) _ c.loop-token.invariant c.in_ok-token.ensures.taken
-    c.is_passable.ensures c.if-not-is_passable.false
+pub loop-kind-preserved : goal.loop-kind-preserved
+loop-kind-preserved g c =
+    let shown = c.in_ok-kind.ensures in
+    let next = shown.0.0 in
+    let t = piece_with next.0 c.in_ok-kind.kind next.1 in
+    ap (unpassed_token (is_passable c.args.ends)) (c.skip.ensures t next.2 next.3)
+    ∙ passes_on (is_passable c.args.ends) (machine_of c.args.self.now) (machine_of c.loop-kind.self) next.2 t _
+    c.loop-kind.invariant (ap taken_token (sym shown.1) ∙ next.3) (c.is_passable.ensures next.1)
+    c.if-not-is_passable.false
 
-pub loop-token-smaller : goal.loop-token-smaller
-loop-token-smaller g c =
-    shorter (machine_of c.loop-token.self) (machine_of c.take.new.self) (piece c.in_ok-token.token)
-    c.in_ok-token.ensures.taken
+pub loop-kind-smaller : goal.loop-kind-smaller
+loop-kind-smaller g c =
+    let shown = c.in_ok-kind.ensures in
+    let next = shown.0.0 in
+    let t = piece_with next.0 c.in_ok-kind.kind next.1 in
+    subst (λ (m : Machine). length m.tokens.pieces < length (machine_of c.loop-kind.self).tokens.pieces)
+    (sym (c.skip.ensures t next.2 next.3))
+    (shorter (machine_of c.loop-kind.self) next.2 t (ap taken_token (sym shown.1) ∙ next.3))

@@ -48,4 +48,4 @@ returns g c =
     ap Ok (sym c.loop-column.invariant.0
     ∙ none_ends c.args.column c.args.mark _ _
     (sym c.is_right_of.ensures ∙ c.loop-column-test.false)
-    ∙ ap (holds (core c.loop-column.self)) (sym c.in_ok-put_block_ends.ensures))
+    ∙ ap (holds (core c.loop-column.self)) (sym (rw c.in_ok-keep.ensures at c.put_block_ends.ensures)))

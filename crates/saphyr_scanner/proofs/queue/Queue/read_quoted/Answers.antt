@@ -1,14 +1,11 @@
 -- A quoted scalar is put behind the tokens of the queue.
 use Rattle.saphyr_scalar.specs.Views.Reader.{cursor_of}
-use Rattle.saphyr_scanner.specs.Views.Queue.{held_places}
-use Rattle.saphyr_scanner.specs.Views.Reads.{flow_quoted, quote_style}
-use Rattle.saphyr_scanner.proofs.HeldReads.{scalar_queued}
+use Rattle.saphyr_scanner.specs.Views.Reads.{quote_style, quoted_whole}
+use Rattle.saphyr_scanner.proofs.QueuedReads.{scalar_put}
 use Rattle.saphyr_scanner.proofs.queue.Queue.read_quoted.Goals as goal
 
-pub returns : goal.returns
-returns g c =
-    let old = c.args.self.now in
-    scalar_queued old.first old.second (held_places old.held) (held_places c.read_quoted.new.self) old.handed
-    (quote_style c.args.quote) c.args.reader.now.mark
-    (flow_quoted c.args.quote c.args.indent (cursor_of c.args.reader.now))
-    c.read_quoted.result (cursor_of c.read_quoted.new.reader) c.read_quoted.ensures
+pub invariant_of-self-clause-fit : goal.invariant_of-self-clause-fit
+invariant_of-self-clause-fit g c =
+    (scalar_put c.make_room.new.self c.push_reserved.new.self.items c.in-Ok.place (quote_style c.args.quote) c.args.reader.now.mark
+    c.read_quoted.new.texts (cursor_of c.read_quoted.new.reader) c.in-Ok.is_at_end
+    (quoted_whole c.args.in_block c.args.quote c.args.indent (cursor_of c.args.reader.now)) c.push_reserved.ensures.items c.in-Ok.ensures).0

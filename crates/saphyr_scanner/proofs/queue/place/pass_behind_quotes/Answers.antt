@@ -1,12 +1,11 @@
 -- Mostly an indicator comes right after the scalar.
-use Rattle.std.proofs.Common.{ap, rules, sym, ◌∙◌}
+use Rattle.std.proofs.Common.{ap, sym, ◌∙◌}
 use Rattle.saphyr_scalar.specs.Views.Reader.{cursor_of}
-use Rattle.saphyr_scanner.specs.Views.Reads.{is_entry_end}
-use Rattle.saphyr_scanner.proofs.QuotedEnds.{separated_at_indicator}
+use Rattle.saphyr_scanner.specs.Views.Reads.{behind_quoted}
+use Rattle.saphyr_scanner.proofs.QuotedEnds.{separated_at_end}
 use Rattle.saphyr_scanner.proofs.queue.place.pass_behind_quotes.Goals as goal
 
-pub returns-then-is_entry_end : goal.returns-then-is_entry_end
-returns-then-is_entry_end g c =
-    let sign = sym (c.if-is_entry_end.ensures ∙ ap is_entry_end c.look.ensures.value) in
-    let at_once = separated_at_indicator (cursor_of c.args.reader.now) sign in
-    search (rules, at_once)
+pub returns-then-is_at_end : goal.returns-then-is_at_end
+returns-then-is_at_end g c =
+    ap (behind_quoted c.args.in_block c.args.line) (sym c.look-c.ensures.same)
+    ∙ separated_at_end c.args.in_block c.args.line (cursor_of c.look-c.new.self) (sym c.if-is_at_end.ensures)

@@ -1,0 +1,19 @@
+-- The alias has the name that was taken.
+use Rattle.std.proofs.Common.{rules, ap}
+use Rattle.saphyr_scanner.specs.Views.Tokens.{text_of}
+use Rattle.saphyr_machine.specs.Steps.Nodes.{alias_node}
+use Rattle.saphyr_machine.proofs.machine.Machine.alias.Goals as goal
+
+pub returns-in_default : goal.returns-in_default
+unfolding alias_node
+returns-in_default g c t m name is of =
+    let told = c.take_text.ensures.text t m name is (ap text_of of) in
+    let left = c.take_text.ensures.left t m is in
+    search (rules, told, left, is)
+
+pub returns : goal.returns
+unfolding alias_node
+returns g c t m name is of =
+    let told = c.take_text.ensures.text t m name is (ap text_of of) in
+    let left = c.take_text.ensures.left t m is in
+    search (rules, told, left, is)

@@ -1,0 +1,12 @@
+-- The next token is taken.
+use Rattle.std.proofs.Common.{◌∙◌, sym, ap}
+use Rattle.saphyr_scanner.specs.Views.Scanning.{tokens_of}
+use Rattle.saphyr_machine.specs.Views.Machines.{machine_of}
+use Rattle.saphyr_machine.proofs.Passing.{takes_first, with_tokens}
+use Rattle.saphyr_machine.proofs.machine.Machine.skip.Goals as goal
+
+pub returns : goal.returns
+returns g c t m is =
+    let old = c.args.self.now in
+    let first = takes_first old.end (tokens_of old.scanner) (machine_of old) m t is in
+    ap (λ r. with_tokens old.end r (machine_of old)) (c.skip.ensures t first.0 first.1) ∙ sym first.2

@@ -1,0 +1,19 @@
+-- The parts of the first token are taken.
+use Rattle.std.proofs.Common.{rules, sym, ap, subst, ◌∙◌}
+use Rattle.saphyr_scanner.specs.Views.Engine.{state}
+use Rattle.saphyr_scanner.specs.Views.Scanning.{IsReady, tokens_of}
+use Rattle.saphyr_scanner.proofs.Turns.{one_first}
+use Rattle.saphyr_scanner.proofs.scanner.Scanner.take_parts.Goals as goal
+
+pub returns-clause-parts : goal.returns-clause-parts
+returns-clause-parts g c t left is =
+    let ready = subst IsReady (sym c.self.view_is) c.requires in
+    c.take_parts.ensures.parts t (one_first c.self.inside.limit (state c.self.inside.engine) t left ready.0
+    (ap tokens_of c.self.view_is ∙ is)).0
+
+pub returns-clause-left : goal.returns-clause-left
+returns-clause-left g c t left is =
+    let ready = subst IsReady (sym c.self.view_is) c.requires in
+    let first = one_first c.self.inside.limit (state c.self.inside.engine) t left ready.0
+    (ap tokens_of c.self.view_is ∙ is) in
+    search (rules, first)

@@ -1,0 +1,80 @@
+//! Reading scalars right where the queue keeps their texts.
+
+#![tactic(auto, using(crate::proofs::QueuedReads::scalar_put), unfolding(crate::specs::Views::Queue::queue_places))]
+
+ghost use Rattle.std.specs.Prelude.{◌≡◌, slice_index};
+ghost use Rattle.saphyr_scalar.specs.Steps.Plain.{plain};
+ghost use Rattle.saphyr_scalar.specs.Values.Flow as flow;
+ghost use Rattle.saphyr_scalar.specs.Views.Reader.{Moves, cursor_of};
+ghost use Rattle.saphyr_scalar.specs.declared.scalar.style.ScalarStyle.TheVariants.{Plain};
+ghost use Rattle.saphyr_scanner.specs.Views.Queue.{queue};
+ghost use Rattle.saphyr_scanner.specs.Views.Reads.{queue_with_scalar, quote_style, quoted_whole};
+
+use crate::queue::Queue;
+use crate::queue::place::Place;
+use saphyr_input::input::Input;
+use saphyr_scalar::values::Quote;
+use saphyr_scalar::{Marker, Reader, Stop};
+use std::alloc::Global;
+
+impl Queue {
+    /// Reads a plain scalar, and puts its token at the end. Returns a comment that ended it. After an error no token
+    /// is here.
+    #[inline(always)]
+    pub(crate) fn read_plain<T: Input>(
+        &mut self,
+        alloc: Global,
+        reader: &mut Reader<T>,
+        in_flow: bool,
+        indent: usize,
+    ) -> Result<Option<Marker>, Stop>
+        ensures { Moves (λ comment. (queue self.new, comment, cursor_of reader.new)) result
+            (queue_with_scalar Plain (queue self.old) (cursor_of reader.old).mark
+            (plain in_flow indent (cursor_of reader.old))) }
+    {
+        self.make_room()?;
+        match Place::read_plain(alloc, reader, in_flow, indent, &mut self.texts) {
+            Ok((place, comment)) => {
+                self.places.push_reserved(place);
+                Ok(comment)
+            }
+            Err(stop) => {
+                self.places.clear();
+                self.spent = 0;
+                self.texts.forget();
+                Err(stop)
+            }
+        }
+    }
+
+    /// Reads a quoted scalar in the same way, passes what separates it from what comes after it, and puts its token at
+    /// the end. Returns whether an indicator is there.
+    #[inline(always)]
+    pub(crate) fn read_quoted<T: Input>(
+        &mut self,
+        alloc: Global,
+        reader: &mut Reader<T>,
+        quote: Quote,
+        in_block: bool,
+        indent: usize,
+    ) -> Result<bool, Stop>
+        requires { slice_index (cursor_of reader.old).rest 0 ≡ flow.mark quote }
+        ensures { Moves (λ told. (queue self.new, told, cursor_of reader.new)) result
+            (queue_with_scalar (quote_style quote) (queue self.old) (cursor_of reader.old).mark
+            (quoted_whole in_block quote indent (cursor_of reader.old))) }
+    {
+        self.make_room()?;
+        match Place::read_quoted(alloc, reader, quote, in_block, indent, &mut self.texts) {
+            Ok((place, is_at_end)) => {
+                self.places.push_reserved(place);
+                Ok(is_at_end)
+            }
+            Err(stop) => {
+                self.places.clear();
+                self.spent = 0;
+                self.texts.forget();
+                Err(stop)
+            }
+        }
+    }
+}
