@@ -1,5 +1,6 @@
 use Rattle.std.proofs.Common.{ap, ◌≡◌, ◌∙◌, arith, List, ℕ, subst}
 use Rattle.saphyr_scanner.specs.Steps.Remaining.{scan}
+use Rattle.saphyr_scanner.specs.Views.Scanning.{tokens_of}
 use Rattle.saphyr_machine.specs.Cursor.{at_start}
 use Rattle.saphyr_machine.specs.Views.Readers.{cursor}
 use Rattle.event_laws.specs.Promises.{KeepsSpans, ReadsClosedYaml, ReadsJson, ReadsYaml, TakesEvents}
@@ -19,13 +20,13 @@ returns-clause-json g c =
 pub returns-clause-spans : goal.returns-clause-spans
 returns-clause-spans g c =
     subst (λ (cs : List ℕ). KeepsSpans cs (cursor c.new-2.result)) c.counted-src.ensures.same
-    (parser_keeps_spans _ c.new.result _ c.new-2.ensures c.new.ensures.spans
+    (parser_keeps_spans _ (tokens_of c.new.result) _ c.new-2.ensures c.new.ensures.spans
     (let t = c.new.ensures.taken in c.places_taken_tokens.ensures _ _ t.0 t.1))
 
 pub returns-clause-taken : goal.returns-clause-taken
 returns-clause-taken g c =
     λ few. subst (λ (cs : List ℕ). TakesEvents cs (cursor c.new-2.result)) c.counted-src.ensures.same
-    (parser_takes c.takes_all_events.ensures _ _ c.new.result _ c.new-2.ensures c.new.ensures.tokens
+    (parser_takes c.takes_all_events.ensures _ _ (tokens_of c.new.result) _ c.new-2.ensures c.new.ensures.tokens
     c.new.ensures.taken (c.ends_with_the_stream.ensures _ _) (c.bounds_tokens.ensures _ _) few)
 
 pub returns-clause-yaml : goal.returns-clause-yaml
