@@ -1,0 +1,5 @@
+-- Each reader gives the same where more of the text comes, unless it leaves an open rest.
+pub mod Rests
+pub mod Steps
+pub mod Names
+pub mod Plain

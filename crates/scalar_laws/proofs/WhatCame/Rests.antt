@@ -1,0 +1,112 @@
+-- A rest that is not open shows what it is, whatever comes behind it.
+use Rattle.std.proofs.Common.{◌≡◌, ℕ, zero, suc, ◌+◌, Bool, true, false, List, [], ◌∷◌, ◌++◌, take, drop, slice_index, refl, sym, ap, ◌∙◌, arith, cond}
+use Rattle.std.specs.Prelude.{◌&&◌, ◌==◌}
+use Rattle.std.specs.List.{prefix_len}
+use Rattle.std.proofs.lemmas.Bool.Decides.{nat_tests}
+use Rattle.std.proofs.lemmas.List.{append_assoc, take-append-drop}
+use Rattle.saphyr_input.specs.Classes.{is_flow}
+use Rattle.saphyr_input.specs.Places.{is_document_start, is_document_end, is_document_indicator, can_be_plain}
+use Rattle.saphyr_scalar.specs.Spelling.LineBreaks.{break_len}
+use Rattle.saphyr_input.proofs.Basics.Booleans.{by_test}
+use Rattle.scalar_laws.specs.Known.{is_open}
+
+-- what is left of a text once its front was taken off
+pub record IsLater (rest text : List ℕ) : Type 0 where
+  pub front : List ℕ
+  pub is : text ≡ front ++ rest
+
+pub later_here : (r : List ℕ) → IsLater r r
+later_here r = record { front = []; is = refl }
+
+pub later_on : {r t : List ℕ} (c : ℕ) → IsLater r t → IsLater r (c ∷ t)
+later_on c h = record { front = c ∷ h.front; is = ap (λ u. c ∷ u) h.is }
+
+pub later_drop : (n : ℕ) (t : List ℕ) → IsLater (drop n t) t
+later_drop n t = record { front = take n t; is = sym (take-append-drop n t) }
+
+pub later_than : {r t u : List ℕ} → IsLater r t → IsLater t u → IsLater r u
+later_than {r = r} h k =
+    record { front = k.front ++ h.front; is = k.is ∙ ap (λ x. k.front ++ x) h.is ∙ sym (append_assoc k.front h.front r) }
+
+-- ## A text of which a later part is not open is not open
+
+known_one : (c : ℕ) (r : List ℕ) → is_open r ≡ false → is_open (c ∷ r) ≡ false
+known_one c [] h = absurd (cc)
+known_one c (d ∷ []) h = grind (arith, nat_tests)
+known_one c (d ∷ e ∷ []) h = grind (arith, nat_tests)
+known_one c (d ∷ e ∷ f ∷ []) h = refl
+known_one c (d ∷ e ∷ f ∷ g ∷ r) h = refl
+
+known_behind : (front r : List ℕ) → is_open r ≡ false → is_open (front ++ r) ≡ false
+known_behind [] r h = h
+known_behind (c ∷ front) r h = known_one c (front ++ r) (known_behind front r h)
+
+pub known_before : {r t : List ℕ} → IsLater r t → is_open r ≡ false → is_open t ≡ false
+known_before {r = r} h known = ap is_open h.is ∙ known_behind h.front r known
+
+-- ## What is looked at
+
+module _ (more : List ℕ) where
+  pub first_known : (r : List ℕ) → is_open r ≡ false → slice_index (r ++ more) 0 ≡ slice_index r 0
+  first_known [] h = absurd (cc)
+  first_known (c ∷ cs) h = refl
+
+  pub start_known : (r : List ℕ) → is_open r ≡ false → is_document_start (r ++ more) ≡ is_document_start r
+  start_known [] h = absurd (cc)
+  start_known (c ∷ []) h = grind (arith, nat_tests)
+  start_known (c ∷ d ∷ []) h = grind (arith, nat_tests)
+  start_known (c ∷ d ∷ e ∷ []) h = grind (arith, nat_tests)
+  start_known (c ∷ d ∷ e ∷ f ∷ cs) h = refl
+
+  pub end_known : (r : List ℕ) → is_open r ≡ false → is_document_end (r ++ more) ≡ is_document_end r
+  end_known [] h = absurd (cc)
+  end_known (c ∷ []) h = grind (arith, nat_tests)
+  end_known (c ∷ d ∷ []) h = grind (arith, nat_tests)
+  end_known (c ∷ d ∷ e ∷ []) h = grind (arith, nat_tests)
+  end_known (c ∷ d ∷ e ∷ f ∷ cs) h = refl
+
+  pub plain_known : (f : Bool) (r : List ℕ) → is_open r ≡ false → can_be_plain f (r ++ more) ≡ can_be_plain f r
+  plain_known f [] h = absurd (cc)
+  plain_known f (c ∷ []) h = grind (arith, nat_tests)
+  plain_known f (c ∷ d ∷ cs) h = refl
+
+  pub indicator_known : (r : List ℕ) → is_open r ≡ false → is_document_indicator (r ++ more) ≡ is_document_indicator r
+  indicator_known r known = rw (start_known r known, end_known r known)
+
+  pub dash_known : (f : Bool) (r : List ℕ) → is_open r ≡ false
+      → (f && (slice_index (r ++ more) 0 == 45) && is_flow (slice_index (r ++ more) 1))
+      ≡ (f && (slice_index r 0 == 45) && is_flow (slice_index r 1))
+  dash_known f [] h = absurd (cc)
+  dash_known f (c ∷ []) h = grind (arith, nat_tests)
+  dash_known f (c ∷ d ∷ cs) h = refl
+
+  -- ## What is taken off
+
+  pub drop_known : (n : ℕ) (r : List ℕ) → is_open (drop n r) ≡ false → drop n (r ++ more) ≡ drop n r ++ more
+  drop_known zero r h = refl
+  drop_known (suc n) [] h = absurd (cc)
+  drop_known (suc n) (c ∷ cs) h = drop_known n cs h
+
+  pub take_known : (n : ℕ) (r : List ℕ) → is_open (drop n r) ≡ false → take n (r ++ more) ≡ take n r
+  take_known zero r h = refl
+  take_known (suc n) [] h = absurd (cc)
+  take_known (suc n) (c ∷ cs) h = ap (λ u. c ∷ u) (take_known n cs h)
+
+  pub run_known : (p : ℕ → Bool) (r : List ℕ) → is_open (drop (prefix_len p r) r) ≡ false
+      → prefix_len p (r ++ more) ≡ prefix_len p r
+  run_known p [] h = absurd (cc)
+  run_known p (c ∷ cs) h = by_test (p c) (1 + prefix_len p cs) 0
+      (λ n. is_open (drop n (c ∷ cs)) ≡ false → cond (p c) (1 + prefix_len p (cs ++ more)) 0 ≡ n)
+      (λ goes k. rw goes (ap (λ n. 1 + n) (run_known p cs (rw one at k)))) (λ stops k. rw stops refl) h
+    where
+      one : 1 + prefix_len p cs ≡ suc (prefix_len p cs)
+      one = omega arith
+
+  pub break_known : (r : List ℕ) → is_open (drop (break_len r) r) ≡ false → break_len (r ++ more) ≡ break_len r
+  break_known [] h = absurd (cc)
+  break_known (c ∷ []) h = absurd (by (c == 13) h)
+    where
+      by : (b : Bool) → is_open (drop (cond (b && false) 2 1) (c ∷ [])) ≡ false → ⊥
+      by true e = cc
+      by false e = cc
+  break_known (c ∷ d ∷ cs) h = refl

@@ -1,0 +1,85 @@
+-- Steps that give the same where more of the text comes, one after another.
+use Rattle.std.proofs.Common.{◌≡◌, ℕ, Bool, true, false, List, [], ◌++◌, slice_index, Result, Ok, Err, refl, ap, ◌∙◌, cond}
+use Rattle.saphyr_scalar.specs.declared.scalar.fault.Refusal.{Refusal}
+use Rattle.saphyr_scalar.specs.Views.Cursor.{Cursor, ◌>>=◌}
+use Rattle.scalar_laws.specs.Known.{is_open, longer}
+use Rattle.scalar_laws.proofs.WhatCame.Rests.{IsLater, later_here, later_than, known_before, first_known}
+
+-- what a value leaves of the text, and the value where more of the text comes
+pub record Left (X : Type 0) : Type 0 where
+  pub rest : X → List ℕ
+  pub with_more : List ℕ → X → X
+
+abbrev pub reader : Left Cursor
+reader = record { rest = λ s. s.rest; with_more = longer }
+
+abbrev pub beside : {X : Type 0} → Left (X × Cursor)
+beside = record { rest = λ x. x.1.rest; with_more = λ more x. (x.0, longer more x.1) }
+
+-- A step over a text leaves a later part of it. The second step is the same step where more comes: it gives the
+-- same, with more behind what is left, unless this is open.
+pub record Came {X : Type 0} (at : Left X) (more text : List ℕ) (r q : Result X Refusal) : Type 0 where
+  pub later : (x : X) → r ≡ Ok x → IsLater (at.rest x) text
+  pub same : (x : X) → r ≡ Ok x → is_open (at.rest x) ≡ false → q ≡ Ok (at.with_more more x)
+
+module _ {X : Type 0} {at : Left X} {more : List ℕ} where
+  pub refused : {text : List ℕ} {e : Refusal} {q : Result X Refusal} → Came at more text (Err e) q
+  refused = record { later = λ x e. absurd (cc); same = λ x e. absurd (cc) }
+
+  pub given : {text : List ℕ} {x : X} → IsLater (at.rest x) text
+      → Came at more text (Ok x) (Ok (at.with_more more x))
+  given {text = text} {x = x} h = record {
+    later = λ y e. let is : x ≡ y = cc in rw is at h;
+    same = λ y e known. let is : x ≡ y = cc in ap (λ z. Ok (at.with_more more z)) is;
+  }
+
+  -- a step over a later part, where the second is the same step unless that part is open
+  pub behind : {text rest : List ℕ} {r q p : Result X Refusal} → IsLater rest text → (is_open rest ≡ false → p ≡ q)
+      → Came at more rest r q → Came at more text r p
+  behind later is h = record {
+    later = λ x e. later_than (h.later x e) later;
+    same = λ x e known. is (known_before (h.later x e) known) ∙ h.same x e known;
+  }
+
+  pub same_step : {text : List ℕ} {r q p : Result X Refusal} → (is_open text ≡ false → p ≡ q) → Came at more text r q
+      → Came at more text r p
+  same_step {text = text} is h = behind (later_here text) is h
+
+  -- nothing is left
+  pub ended : {r q p : Result X Refusal} → Came at more [] r q → Came at more [] r p
+  ended h = same_step (λ e. absurd (cc)) h
+
+  -- a choice by a test
+  pub choose : {text : List ℕ} (a : Bool) {x y z w : Result X Refusal} → (a ≡ true → Came at more text x z)
+      → (a ≡ false → Came at more text y w) → Came at more text (cond a x y) (cond a z w)
+  choose true then else = then refl
+  choose false then else = else refl
+
+  -- a choice by what the text shows
+  pub choose_at : {text : List ℕ} (p : List ℕ → Bool) {x y z w : Result X Refusal}
+      → (is_open text ≡ false → p (text ++ more) ≡ p text) → (p text ≡ true → Came at more text x z)
+      → (p text ≡ false → Came at more text y w)
+      → Came at more text (cond (p text) x y) (cond (p (text ++ more)) z w)
+  choose_at {text = text} p {z = z} {w = w} is then else =
+      same_step (λ known. ap (λ t. cond t z w) (is known)) (choose (p text) then else)
+
+  pub choose_first : {text : List ℕ} (p : ℕ → Bool) {x y z w : Result X Refusal}
+      → (p (slice_index text 0) ≡ true → Came at more text x z)
+      → (p (slice_index text 0) ≡ false → Came at more text y w)
+      → Came at more text (cond (p (slice_index text 0)) x y) (cond (p (slice_index (text ++ more) 0)) z w)
+  choose_first {text = text} p then else =
+      choose_at (λ t. p (slice_index t 0)) (λ known. ap p (first_known more text known)) then else
+
+-- one step after another
+pub and_then : {X Y : Type 0} {at : Left X} {by : Left Y} {more text : List ℕ} {r q : Result X Refusal}
+    {f : X → Result Y Refusal} (g : X → Result Y Refusal) → Came at more text r q
+    → ((x : X) → r ≡ Ok x → Came by more (at.rest x) (f x) (g (at.with_more more x)))
+    → Came by more text (r >>= f) (q >>= g)
+and_then {r = Err e} g h next = refused
+and_then {r = Ok x} g h next = behind (h.later x refl) (λ known. ap (λ p. p >>= g) (h.same x refl known)) (next x refl)
+
+-- a step after something that is not refused
+pub on : {X Y : Type 0} {at : Left X} {by : Left Y} {more text : List ℕ} {x y : X} (f : X → Result Y Refusal)
+    → Came at more text (Ok x) (Ok y) → Came by more (at.rest x) (f x) (f (at.with_more more x))
+    → Came by more text (f x) (f y)
+on {x = x} f h next = and_then f h (λ z e. let is : x ≡ z = cc in rw is at next)

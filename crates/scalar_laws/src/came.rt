@@ -1,0 +1,22 @@
+//! Laws of the readers over a text of which more comes: what a reader gives is the same whatever comes, unless it leaves
+//! a rest that is open.
+
+ghost use Rattle.std.specs.Prelude.{◌≡◌, ℕ, Bool, false, List, Ok, Option};
+ghost use Rattle.saphyr_scalar.specs.declared.scalar.position.Marker.{Marker};
+ghost use Rattle.saphyr_scalar.specs.Views.Cursor.{Cursor};
+ghost use Rattle.saphyr_scalar.specs.Steps.Anchor.{anchor};
+ghost use Rattle.saphyr_scalar.specs.Steps.Plain.{plain};
+ghost use Rattle.scalar_laws.specs.Known.{is_open, longer};
+
+use saphyr_scalar::Marker;
+
+/// What each reader gives, where it leaves a rest that is not open, it gives with more behind the text too, and leaves
+/// that rest with more behind it: it has looked at nothing behind what came.
+pub fn reads_what_came()
+    ensures name { (s t : Cursor) (x more : List ℕ) → anchor s ≡ Ok (x, t) → is_open t.rest ≡ false
+        → anchor (longer more s) ≡ Ok (x, longer more t) }
+    ensures plain { (in_flow : Bool) (indent : ℕ) (s t : Cursor) (text : List ℕ) (end : Marker)
+        (comment : Option Marker) (more : List ℕ) → plain in_flow indent s ≡ Ok (text, end, comment, t)
+        → is_open t.rest ≡ false
+        → plain in_flow indent (longer more s) ≡ Ok (text, end, comment, longer more t) }
+{}
