@@ -3,3 +3,4 @@ pub mod Rests
 pub mod Steps
 pub mod Names
 pub mod Plain
+pub mod Quoted

@@ -6,9 +6,11 @@ ghost use Rattle.saphyr_scalar.specs.declared.scalar.position.Marker.{Marker};
 ghost use Rattle.saphyr_scalar.specs.Views.Cursor.{Cursor};
 ghost use Rattle.saphyr_scalar.specs.Steps.Anchor.{anchor};
 ghost use Rattle.saphyr_scalar.specs.Steps.Plain.{plain};
+ghost use Rattle.saphyr_scalar.specs.Steps.Quoted.{quoted};
 ghost use Rattle.scalar_laws.specs.Known.{is_open, longer};
 
 use saphyr_scalar::Marker;
+use saphyr_scalar::values::Quote;
 
 /// What each reader gives, where it leaves a rest that is not open, it gives with more behind the text too, and leaves
 /// that rest with more behind it: it has looked at nothing behind what came.
@@ -19,4 +21,7 @@ pub fn reads_what_came()
         (comment : Option Marker) (more : List ℕ) → plain in_flow indent s ≡ Ok (text, end, comment, t)
         → is_open t.rest ≡ false
         → plain in_flow indent (longer more s) ≡ Ok (text, end, comment, longer more t) }
+    ensures quoted { (quote : Quote) (indent : ℕ) (s t : Cursor) (text more : List ℕ)
+        → quoted quote indent s ≡ Ok (text, t) → is_open t.rest ≡ false
+        → quoted quote indent (longer more s) ≡ Ok (text, longer more t) }
 {}

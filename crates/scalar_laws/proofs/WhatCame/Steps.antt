@@ -16,6 +16,10 @@ reader = record { rest = λ s. s.rest; with_more = longer }
 abbrev pub beside : {X : Type 0} → Left (X × Cursor)
 beside = record { rest = λ x. x.1.rest; with_more = λ more x. (x.0, longer more x.1) }
 
+-- for a step that takes characters which all came, whatever it leaves
+abbrev pub whole : {X : Type 0} → List ℕ → Left (X × Cursor)
+whole text = record { rest = λ _. text; with_more = beside.with_more }
+
 -- A step over a text leaves a later part of it. The second step is the same step where more comes: it gives the
 -- same, with more behind what is left, unless this is open.
 pub record Came {X : Type 0} (at : Left X) (more text : List ℕ) (r q : Result X Refusal) : Type 0 where
@@ -48,6 +52,17 @@ module _ {X : Type 0} {at : Left X} {more : List ℕ} where
   -- nothing is left
   pub ended : {r q p : Result X Refusal} → Came at more [] r q → Came at more [] r p
   ended h = same_step (λ e. absurd (cc)) h
+
+  -- the same step over a later part
+  pub further : {text rest : List ℕ} {r q : Result X Refusal} → IsLater rest text → Came at more rest r q
+      → Came at more text r q
+  further later h = behind later (λ _. refl) h
+
+  -- what a test wants, where it is refused otherwise
+  pub only_if : {text : List ℕ} (a : Bool) {x q : Result X Refusal} (e : Refusal)
+      → (a ≡ true → Came at more text x q) → Came at more text (cond a x (Err e)) q
+  only_if true e h = h refl
+  only_if false e h = refused
 
   -- a choice by a test
   pub choose : {text : List ℕ} (a : Bool) {x y z w : Result X Refusal} → (a ≡ true → Came at more text x z)
@@ -83,3 +98,10 @@ pub on : {X Y : Type 0} {at : Left X} {by : Left Y} {more text : List ℕ} {x y 
     → Came at more text (Ok x) (Ok y) → Came by more (at.rest x) (f x) (f (at.with_more more x))
     → Came by more text (f x) (f y)
 on {x = x} f h next = and_then f h (λ z e. let is : x ≡ z = cc in rw is at next)
+
+-- a step after something that takes no characters off, and comes out alike
+pub and_so : {X Y : Type 0} {by : Left Y} {more text : List ℕ} {r q : Result X Refusal}
+    {f g : X → Result Y Refusal} → (is_open text ≡ false → q ≡ r)
+    → ((x : X) → r ≡ Ok x → Came by more text (f x) (g x)) → Came by more text (r >>= f) (q >>= g)
+and_so {r = Err e} is next = refused
+and_so {r = Ok x} {g = g} is next = same_step (λ known. ap (λ p. p >>= g) (is known)) (next x refl)
