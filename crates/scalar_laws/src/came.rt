@@ -7,6 +7,7 @@ ghost use Rattle.saphyr_scalar.specs.Views.Cursor.{Cursor};
 ghost use Rattle.saphyr_scalar.specs.Steps.Anchor.{anchor};
 ghost use Rattle.saphyr_scalar.specs.Steps.Plain.{plain};
 ghost use Rattle.saphyr_scalar.specs.Steps.Quoted.{quoted};
+ghost use Rattle.saphyr_scalar.specs.Steps.Tag.{tag};
 ghost use Rattle.scalar_laws.specs.Known.{is_open, longer};
 
 use saphyr_scalar::Marker;
@@ -17,6 +18,9 @@ use saphyr_scalar::values::Quote;
 pub fn reads_what_came()
     ensures name { (s t : Cursor) (x more : List ℕ) → anchor s ≡ Ok (x, t) → is_open t.rest ≡ false
         → anchor (longer more s) ≡ Ok (x, longer more t) }
+    ensures tag { (in_flow : Bool) (s t : Cursor) (handle suffix more : List ℕ)
+        → tag in_flow s ≡ Ok (handle, suffix, t) → is_open t.rest ≡ false
+        → tag in_flow (longer more s) ≡ Ok (handle, suffix, longer more t) }
     ensures plain { (in_flow : Bool) (indent : ℕ) (s t : Cursor) (text : List ℕ) (end : Marker)
         (comment : Option Marker) (more : List ℕ) → plain in_flow indent s ≡ Ok (text, end, comment, t)
         → is_open t.rest ≡ false

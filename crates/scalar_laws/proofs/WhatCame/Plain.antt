@@ -14,7 +14,7 @@ use Rattle.scalar_laws.proofs.Breaks.Results.{by_ends}
 use Rattle.scalar_laws.specs.Known.{is_open, longer}
 use Rattle.scalar_laws.proofs.WhatCame.Rests.{later_here, later_on, first_known, indicator_known, dash_known, plain_known}
 use Rattle.scalar_laws.proofs.WhatCame.Steps.{Left, Came, reader, beside, behind, refused, given, same_step, ended, choose, choose_at, choose_first, and_then, on}
-use Rattle.scalar_laws.proofs.WhatCame.Names.{run_came, break_came}
+use Rattle.scalar_laws.proofs.WhatCame.Runs.{run_came, break_came}
 
 abbrev gaps : Left PlainGap
 gaps = record { rest = λ g. g.behind.rest; with_more = λ more g. record g { behind = longer more g.behind } }

@@ -13,7 +13,7 @@ use Rattle.saphyr_scalar.specs.Steps.Quoted.{TextRead, mid_line, with_front, is_
 use Rattle.scalar_laws.specs.Known.{is_open, longer}
 use Rattle.scalar_laws.proofs.WhatCame.Rests.{later_here, later_on, later_drop, first_known, indicator_known, drop_known, break_known}
 use Rattle.scalar_laws.proofs.WhatCame.Steps.{Came, beside, whole, behind, further, refused, given, same_step, choose, and_then, and_so, on}
-use Rattle.scalar_laws.proofs.WhatCame.Names.{passed}
+use Rattle.scalar_laws.proofs.WhatCame.Runs.{passed}
 
 module _ (more : List ℕ) where
   -- ## Escapes

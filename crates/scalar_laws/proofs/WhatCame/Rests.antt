@@ -51,6 +51,11 @@ module _ (more : List ℕ) where
   first_known [] h = absurd (cc)
   first_known (c ∷ cs) h = refl
 
+  pub second_known : (r : List ℕ) → is_open (drop 1 r) ≡ false → slice_index (r ++ more) 1 ≡ slice_index r 1
+  second_known [] h = absurd (cc)
+  second_known (c ∷ []) h = absurd (cc)
+  second_known (c ∷ d ∷ cs) h = refl
+
   pub start_known : (r : List ℕ) → is_open r ≡ false → is_document_start (r ++ more) ≡ is_document_start r
   start_known [] h = absurd (cc)
   start_known (c ∷ []) h = grind (arith, nat_tests)

@@ -30,12 +30,16 @@ module _ {X : Type 0} {at : Left X} {more : List ℕ} where
   pub refused : {text : List ℕ} {e : Refusal} {q : Result X Refusal} → Came at more text (Err e) q
   refused = record { later = λ x e. absurd (cc); same = λ x e. absurd (cc) }
 
+  pub leaves : {text : List ℕ} {x : X} {q : Result X Refusal} → IsLater (at.rest x) text
+      → (is_open (at.rest x) ≡ false → q ≡ Ok (at.with_more more x)) → Came at more text (Ok x) q
+  leaves {x = x} later is = record {
+    later = λ y e. let same : x ≡ y = cc in rw same at later;
+    same = λ y e known. let same : x ≡ y = cc in (rw same at is) known;
+  }
+
   pub given : {text : List ℕ} {x : X} → IsLater (at.rest x) text
       → Came at more text (Ok x) (Ok (at.with_more more x))
-  given {text = text} {x = x} h = record {
-    later = λ y e. let is : x ≡ y = cc in rw is at h;
-    same = λ y e known. let is : x ≡ y = cc in ap (λ z. Ok (at.with_more more z)) is;
-  }
+  given later = leaves later (λ _. refl)
 
   -- a step over a later part, where the second is the same step unless that part is open
   pub behind : {text rest : List ℕ} {r q p : Result X Refusal} → IsLater rest text → (is_open rest ≡ false → p ≡ q)
@@ -70,13 +74,24 @@ module _ {X : Type 0} {at : Left X} {more : List ℕ} where
   choose true then else = then refl
   choose false then else = else refl
 
+  pub choose_given : {text : List ℕ} (a : Bool) {x y z w : X} → (a ≡ true → Came at more text (Ok x) (Ok z))
+      → (a ≡ false → Came at more text (Ok y) (Ok w)) → Came at more text (Ok (cond a x y)) (Ok (cond a z w))
+  choose_given true then else = then refl
+  choose_given false then else = else refl
+
+  -- a choice by tests that come out alike
+  pub choose_same : {text : List ℕ} (a b : Bool) {x y z w : Result X Refusal} → (is_open text ≡ false → b ≡ a)
+      → (a ≡ true → Came at more text x z) → (a ≡ false → Came at more text y w)
+      → Came at more text (cond a x y) (cond b z w)
+  choose_same a b {z = z} {w = w} is then else =
+      same_step (λ known. ap (λ t. cond t z w) (is known)) (choose a then else)
+
   -- a choice by what the text shows
   pub choose_at : {text : List ℕ} (p : List ℕ → Bool) {x y z w : Result X Refusal}
       → (is_open text ≡ false → p (text ++ more) ≡ p text) → (p text ≡ true → Came at more text x z)
       → (p text ≡ false → Came at more text y w)
       → Came at more text (cond (p text) x y) (cond (p (text ++ more)) z w)
-  choose_at {text = text} p {z = z} {w = w} is then else =
-      same_step (λ known. ap (λ t. cond t z w) (is known)) (choose (p text) then else)
+  choose_at {text = text} p = choose_same (p text) (p (text ++ more))
 
   pub choose_first : {text : List ℕ} (p : ℕ → Bool) {x y z w : Result X Refusal}
       → (p (slice_index text 0) ≡ true → Came at more text x z)

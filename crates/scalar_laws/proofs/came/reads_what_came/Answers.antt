@@ -1,4 +1,4 @@
-use Rattle.scalar_laws.proofs.WhatCame.Names.{anchor_came}
+use Rattle.scalar_laws.proofs.WhatCame.Names.{anchor_came, tag_came}
 use Rattle.scalar_laws.proofs.WhatCame.Plain.{plain_came}
 use Rattle.scalar_laws.proofs.WhatCame.Quoted.{quoted_came}
 use Rattle.scalar_laws.proofs.came.reads_what_came.Goals as goal
@@ -6,6 +6,7 @@ use Rattle.scalar_laws.proofs.came.reads_what_came.Goals as goal
 pub returns : goal.returns
 returns c = record {
   name = λ s t x more e known. (anchor_came more s).same (x, t) e known;
+  tag = λ in_flow s t handle suffix more e known. (tag_came more in_flow s).same (handle, suffix, t) e known;
   plain = λ f i s t text end comment more e known. (plain_came more f i s).same (text, end, comment, t) e known;
   quoted = λ quote indent s t text more e known. (quoted_came more quote indent s).same (text, t) e known;
 }
