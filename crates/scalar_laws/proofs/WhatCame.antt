@@ -5,3 +5,5 @@ pub mod Runs
 pub mod Names
 pub mod Plain
 pub mod Quoted
+pub mod Directives
+pub mod Blocks

@@ -3,15 +3,19 @@
 
 ghost use Rattle.std.specs.Prelude.{◌≡◌, ℕ, Bool, false, List, Ok, Option};
 ghost use Rattle.saphyr_scalar.specs.declared.scalar.position.Marker.{Marker};
-ghost use Rattle.saphyr_scalar.specs.Views.Cursor.{Cursor};
+ghost use Rattle.saphyr_scalar.specs.Views.Cursor.{Cursor, separation};
 ghost use Rattle.saphyr_scalar.specs.Steps.Anchor.{anchor};
 ghost use Rattle.saphyr_scalar.specs.Steps.Plain.{plain};
 ghost use Rattle.saphyr_scalar.specs.Steps.Quoted.{quoted};
 ghost use Rattle.saphyr_scalar.specs.Steps.Tag.{tag};
+ghost use Rattle.saphyr_scalar.specs.Steps.Block.{block_scalar};
+ghost use Rattle.saphyr_scalar.specs.Steps.Directive.{directive};
+ghost use Rattle.saphyr_scalar.specs.Spelling.Directive.{ReadDirective};
 ghost use Rattle.scalar_laws.specs.Known.{is_open, longer};
 
-use saphyr_scalar::Marker;
-use saphyr_scalar::values::Quote;
+use saphyr_input::SkipTabs;
+use saphyr_scalar::values::{BlockStyle, Quote};
+use saphyr_scalar::{Marker, Span};
 
 /// What each reader gives, where it leaves a rest that is not open, it gives with more behind the text too, and leaves
 /// that rest with more behind it: it has looked at nothing behind what came.
@@ -28,4 +32,13 @@ pub fn reads_what_came()
     ensures quoted { (quote : Quote) (indent : ℕ) (s t : Cursor) (text more : List ℕ)
         → quoted quote indent s ≡ Ok (text, t) → is_open t.rest ≡ false
         → quoted quote indent (longer more s) ≡ Ok (text, longer more t) }
+    ensures block { (style : BlockStyle) (indent : ℕ) (s t : Cursor) (text : List ℕ) (span : Span)
+        (more : List ℕ) → block_scalar style indent s ≡ Ok (text, span, t) → is_open t.rest ≡ false
+        → block_scalar style indent (longer more s) ≡ Ok (text, span, longer more t) }
+    ensures directive { (s t : Cursor) (d : ReadDirective) (end : Marker) (more : List ℕ)
+        → directive s ≡ Ok (d, end, t) → is_open t.rest ≡ false
+        → directive (longer more s) ≡ Ok (d, end, longer more t) }
+    ensures separation { (tabs found : SkipTabs) (s t : Cursor) (more : List ℕ)
+        → separation tabs s ≡ Ok (found, t) → is_open t.rest ≡ false
+        → separation tabs (longer more s) ≡ Ok (found, longer more t) }
 {}

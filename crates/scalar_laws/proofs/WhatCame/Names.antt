@@ -7,17 +7,13 @@ use Rattle.saphyr_scalar.specs.declared.scalar.position.Marker.{Marker}
 use Rattle.saphyr_scalar.specs.Views.Cursor.{Cursor, pass}
 use Rattle.saphyr_scalar.specs.Steps.Quoted.{TextRead, with_front, with_run, mid_line}
 use Rattle.saphyr_scalar.specs.Steps.Anchor.{anchor, anchor_name_of}
-use Rattle.saphyr_scalar.specs.Steps.Tag.{CharacterSet, is_in_set, byte_value, shows_byte, escaped_byte, utf8_width, leading_bits, trailing_byte, trailing_bytes, encoded_character, behind_leading_byte, percent_escape, uri_character, decoded_at, TagRead, verbatim_end, verbatim_tag, named_tag, named_tail, primary_tag, tag_behind_word, shorthand_tag, tag_end, tag}
+use Rattle.saphyr_scalar.specs.Steps.Tag.{CharacterSet, is_in_set, byte_value, shows_byte, escaped_byte, utf8_width, leading_bits, trailing_byte, trailing_bytes, encoded_character, behind_leading_byte, percent_escape, uri_character, decoded_at, verbatim_end, verbatim_tag, named_tag, named_tail, primary_tag, tag_behind_word, shorthand_tag, tag_end, tag}
 use Rattle.saphyr_scalar.proofs.Properties.PercentEscapes.{decoded_one_more, character_shorter, ends_at, has_left}
 use Rattle.scalar_laws.proofs.Breaks.Results.{by_ends}
 use Rattle.scalar_laws.specs.Known.{is_open, longer}
 use Rattle.scalar_laws.proofs.WhatCame.Rests.{later_here, later_drop, known_before, first_known, second_known, drop_known}
-use Rattle.scalar_laws.proofs.WhatCame.Steps.{Left, Came, beside, refused, given, leaves, same_step, choose, choose_first, choose_same, choose_given, only_if, further, and_then, on}
+use Rattle.scalar_laws.proofs.WhatCame.Steps.{Came, beside, beside_two, refused, given, leaves, same_step, choose, choose_first, choose_same, choose_given, only_if, further, and_then, on}
 use Rattle.scalar_laws.proofs.WhatCame.Runs.{taken, passed, run_came}
-
--- a tag
-abbrev pub tags : Left TagRead
-tags = record { rest = λ x. x.2.rest; with_more = λ more x. (x.0, x.1, longer more x.2) }
 
 module _ (more : List ℕ) where
   pub anchor_came : (s : Cursor) → Came beside more (drop 1 s.rest) (anchor s) (anchor (longer more s))
@@ -91,32 +87,32 @@ module _ (more : List ℕ) where
 
   -- ## Tags
 
-  verbatim_came : (s : Cursor) → Came tags more (drop 2 s.rest) (verbatim_tag s) (verbatim_tag (longer more s))
+  verbatim_came : (s : Cursor) → Came beside_two more (drop 2 s.rest) (verbatim_tag s) (verbatim_tag (longer more s))
   unfolding verbatim_tag verbatim_end
   verbatim_came s = and_then _ (on (decoded_at _ s.mark) (taken more 2 s) (decoded_came s.mark _ (pass 2 s)))
       (λ x _. choose_first (λ c. c == 62) (λ _. on (λ t. Ok ([], x.0, t)) (passed more 1 x.1) (given (later_here _)))
       (λ _. refused))
 
   named_came : (start : Marker) (word : List ℕ) (s : Cursor)
-      → Came tags more s.rest (named_tail start word s) (named_tail start word (longer more s))
+      → Came beside_two more s.rest (named_tail start word s) (named_tail start word (longer more s))
   unfolding named_tail named_tag
   named_came start word s =
       and_then _ (decoded_came start _ s) (λ x _. search (choose, refused, given, later_here))
 
   behind_word_came : (start : Marker) (w : List ℕ × Cursor)
-      → Came tags more w.1.rest (tag_behind_word start w) (tag_behind_word start (w.0, longer more w.1))
+      → Came beside_two more w.1.rest (tag_behind_word start w) (tag_behind_word start (w.0, longer more w.1))
   unfolding tag_behind_word primary_tag
   behind_word_came start w = choose_first (λ c. c == 33)
       (λ _. on (named_tail start w.0) (passed more 1 w.1) (named_came start w.0 (pass 1 w.1)))
       (λ _. and_then _ (front_came start w.0 _ _ _ (decoded_came start _ w.1))
       (λ x _. choose_given (length x.0 == 0) (λ _. given (later_here _)) (λ _. given (later_here _))))
 
-  shorthand_came : (s : Cursor) → Came tags more (drop 1 s.rest) (shorthand_tag s) (shorthand_tag (longer more s))
+  shorthand_came : (s : Cursor) → Came beside_two more (drop 1 s.rest) (shorthand_tag s) (shorthand_tag (longer more s))
   unfolding shorthand_tag
   shorthand_came s = on (λ t. tag_behind_word s.mark (with_run is_alpha [] t)) (taken more 1 s)
       (on (tag_behind_word s.mark) (run_came more is_alpha [] (pass 1 s)) (behind_word_came s.mark _))
 
-  pub tag_came : (in_flow : Bool) (s : Cursor) → Came tags more (drop 1 s.rest) (tag in_flow s) (tag in_flow (longer more s))
+  pub tag_came : (in_flow : Bool) (s : Cursor) → Came beside_two more (drop 1 s.rest) (tag in_flow s) (tag in_flow (longer more s))
   unfolding tag tag_end
   tag_came in_flow s = and_then _ (choose_same (slice_index s.rest 1 == 60) (slice_index (s.rest ++ more) 1 == 60)
       (λ known. ap (λ c. c == 60) (second_known more s.rest known))

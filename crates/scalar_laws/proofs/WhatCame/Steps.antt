@@ -1,9 +1,13 @@
 -- Steps that give the same where more of the text comes, one after another.
-use Rattle.std.proofs.Common.{◌≡◌, ℕ, Bool, true, false, List, [], ◌++◌, slice_index, Result, Ok, Err, refl, ap, ◌∙◌, cond}
+use Rattle.std.proofs.Common.{◌≡◌, ℕ, Bool, true, false, List, [], ◌∷◌, ◌++◌, slice_index, Result, Ok, Err, refl, ap, ◌∙◌, cond, arith}
+use Rattle.std.specs.Prelude.{◌||◌}
+use Rattle.std.proofs.lemmas.Bool.Decides.{nat_tests}
 use Rattle.saphyr_scalar.specs.declared.scalar.fault.Refusal.{Refusal}
 use Rattle.saphyr_scalar.specs.Views.Cursor.{Cursor, ◌>>=◌}
+use Rattle.saphyr_input.specs.Classes.{is_break}
+use Rattle.saphyr_scalar.specs.Steps.Block.{is_cr_lf}
 use Rattle.scalar_laws.specs.Known.{is_open, longer}
-use Rattle.scalar_laws.proofs.WhatCame.Rests.{IsLater, later_here, later_than, known_before, first_known}
+use Rattle.scalar_laws.proofs.WhatCame.Rests.{IsLater, later_here, later_on, later_than, known_before, first_known}
 
 -- what a value leaves of the text, and the value where more of the text comes
 pub record Left (X : Type 0) : Type 0 where
@@ -15,6 +19,9 @@ reader = record { rest = λ s. s.rest; with_more = longer }
 
 abbrev pub beside : {X : Type 0} → Left (X × Cursor)
 beside = record { rest = λ x. x.1.rest; with_more = λ more x. (x.0, longer more x.1) }
+
+abbrev pub beside_two : {X Y : Type 0} → Left (X × Y × Cursor)
+beside_two = record { rest = λ x. x.2.rest; with_more = λ more x. (x.0, x.1, longer more x.2) }
 
 -- for a step that takes characters which all came, whatever it leaves
 abbrev pub whole : {X : Type 0} → List ℕ → Left (X × Cursor)
@@ -68,23 +75,27 @@ module _ {X : Type 0} {at : Left X} {more : List ℕ} where
   only_if true e h = h refl
   only_if false e h = refused
 
-  -- a choice by a test
-  pub choose : {text : List ℕ} (a : Bool) {x y z w : Result X Refusal} → (a ≡ true → Came at more text x z)
-      → (a ≡ false → Came at more text y w) → Came at more text (cond a x y) (cond a z w)
-  choose true then else = then refl
-  choose false then else = else refl
+  -- a choice by tests that come out alike, and what is given by what was chosen
+  pub choose_of : {Y : Type 0} (k : Y → Result X Refusal) {text : List ℕ} (a b : Bool) {x y z w : Y}
+      → (is_open text ≡ false → b ≡ a) → (a ≡ true → Came at more text (k x) (k z))
+      → (a ≡ false → Came at more text (k y) (k w)) → Came at more text (k (cond a x y)) (k (cond b z w))
+  choose_of k true b {z = z} {w = w} is then else =
+      same_step (λ known. ap (λ t. k (cond t z w)) (is known)) (then refl)
+  choose_of k false b {z = z} {w = w} is then else =
+      same_step (λ known. ap (λ t. k (cond t z w)) (is known)) (else refl)
 
-  pub choose_given : {text : List ℕ} (a : Bool) {x y z w : X} → (a ≡ true → Came at more text (Ok x) (Ok z))
-      → (a ≡ false → Came at more text (Ok y) (Ok w)) → Came at more text (Ok (cond a x y)) (Ok (cond a z w))
-  choose_given true then else = then refl
-  choose_given false then else = else refl
-
-  -- a choice by tests that come out alike
   pub choose_same : {text : List ℕ} (a b : Bool) {x y z w : Result X Refusal} → (is_open text ≡ false → b ≡ a)
       → (a ≡ true → Came at more text x z) → (a ≡ false → Came at more text y w)
       → Came at more text (cond a x y) (cond b z w)
-  choose_same a b {z = z} {w = w} is then else =
-      same_step (λ known. ap (λ t. cond t z w) (is known)) (choose a then else)
+  choose_same a b is then else = choose_of (λ r. r) a b is then else
+
+  pub choose : {text : List ℕ} (a : Bool) {x y z w : Result X Refusal} → (a ≡ true → Came at more text x z)
+      → (a ≡ false → Came at more text y w) → Came at more text (cond a x y) (cond a z w)
+  choose a then else = choose_same a a (λ _. refl) then else
+
+  pub choose_given : {text : List ℕ} (a : Bool) {x y z w : X} → (a ≡ true → Came at more text (Ok x) (Ok z))
+      → (a ≡ false → Came at more text (Ok y) (Ok w)) → Came at more text (Ok (cond a x y)) (Ok (cond a z w))
+  choose_given a then else = choose_of (λ x. Ok x) a a (λ _. refl) then else
 
   -- a choice by what the text shows
   pub choose_at : {text : List ℕ} (p : List ℕ → Bool) {x y z w : Result X Refusal}
@@ -99,6 +110,24 @@ module _ {X : Type 0} {at : Left X} {more : List ℕ} where
       → Came at more text (cond (p (slice_index text 0)) x y) (cond (p (slice_index (text ++ more) 0)) z w)
   choose_first {text = text} p then else =
       choose_at (λ t. p (slice_index t 0)) (λ known. ap p (first_known more text known)) then else
+
+no_cr : (p : Bool) (c : ℕ) (r : List ℕ) → is_break c ≡ false → (p || is_cr_lf c r) ≡ p
+no_cr p c r e = grind (arith, nat_tests)
+
+-- at a break: whether CR ends its line is told by the next character
+module _ {X Y : Type 0} {at : Left X} {more : List ℕ} (k : Y → Result X Refusal) (p : Bool) (c : ℕ) (cs : List ℕ) where
+  pub at_break : {x y z u v w : Y} → Came at more cs (k x) (k u) → Came at more cs (k y) (k v)
+      → Came at more (c ∷ cs) (k z) (k w)
+      → Came at more (c ∷ cs) (k (cond (p || is_cr_lf c cs) x (cond (is_break c) y z)))
+      (k (cond (p || is_cr_lf c (cs ++ more)) u (cond (is_break c) v w)))
+  at_break {x} {y} {z} {u} {v} {w} first second third = by (is_break c) refl
+    where
+      by : (b : Bool) → is_break c ≡ b → Came at more (c ∷ cs) (k (cond (p || is_cr_lf c cs) x (cond b y z)))
+          (k (cond (p || is_cr_lf c (cs ++ more)) u (cond b v w)))
+      by true e = behind (later_on c (later_here cs)) (λ known. rw (first_known more cs known))
+          (choose_of k (p || is_cr_lf c cs) (p || is_cr_lf c cs) {y = y} {w = v} (λ _. refl) (λ _. first) (λ _. second))
+      by false e = rw (no_cr p c cs e, no_cr p c (cs ++ more) e) (choose_of k p p {y = z} {w = w} (λ _. refl)
+          (λ _. further (later_on c (later_here cs)) first) (λ _. third))
 
 -- one step after another
 pub and_then : {X Y : Type 0} {at : Left X} {by : Left Y} {more text : List ℕ} {r q : Result X Refusal}
