@@ -1,0 +1,5 @@
+use Rattle.yaml_laws.proofs.WhatCame.Fetches.{token_came}
+use Rattle.yaml_laws.proofs.came.steps_by_what_came.Goals as goal
+
+pub returns : goal.returns
+returns c = record { step = λ limit s t more e known. (token_came more limit s).same t e known }
