@@ -5,3 +5,4 @@ pub mod Indicators
 pub mod Scalars
 pub mod Documents
 pub mod Fetches
+pub mod Scans

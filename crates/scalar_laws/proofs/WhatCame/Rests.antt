@@ -44,6 +44,21 @@ known_behind (c ∷ front) r h = known_one c (front ++ r) (known_behind front r 
 pub known_before : {r t : List ℕ} → IsLater r t → is_open r ≡ false → is_open t ≡ false
 known_before {r = r} h known = ap is_open h.is ∙ known_behind h.front r known
 
+-- ## Nor is one that begins with such a text
+
+pub known_longer : (r more : List ℕ) → is_open r ≡ false → is_open (r ++ more) ≡ false
+known_longer [] more h = absurd (cc)
+known_longer (c ∷ []) [] h = h
+known_longer (c ∷ []) (d ∷ []) h = grind arith
+known_longer (c ∷ []) (d ∷ e ∷ []) h = grind arith
+known_longer (c ∷ []) (d ∷ e ∷ f ∷ others) h = refl
+known_longer (c ∷ d ∷ []) [] h = h
+known_longer (c ∷ d ∷ []) (e ∷ []) h = grind arith
+known_longer (c ∷ d ∷ []) (e ∷ f ∷ others) h = refl
+known_longer (c ∷ d ∷ e ∷ []) [] h = h
+known_longer (c ∷ d ∷ e ∷ []) (f ∷ others) h = refl
+known_longer (c ∷ d ∷ e ∷ f ∷ r) more h = refl
+
 -- ## What is looked at
 
 module _ (more : List ℕ) where

@@ -1,5 +1,9 @@
 use Rattle.yaml_laws.proofs.WhatCame.Fetches.{token_came}
+use Rattle.yaml_laws.proofs.WhatCame.Scans.{goes_on}
 use Rattle.yaml_laws.proofs.came.steps_by_what_came.Goals as goal
 
 pub returns : goal.returns
-returns c = record { step = λ limit s t more e known. (token_came more limit s).same t e known }
+returns c = record {
+  step = λ limit s t more e known. (token_came more limit s).same t e known;
+  goes_on = goes_on;
+}
