@@ -1,6 +1,8 @@
 -- A text of which more comes: what its end leaves open, and a reader with more behind its text.
 use Rattle.std.specs.Prelude.{ℕ, Bool, true, false, ◌||◌, ◌&&◌, ◌==◌, List, [], ◌∷◌, ◌++◌}
 use Rattle.saphyr_input.specs.Indicators.{colon, full_stop, hyphen}
+use Rattle.saphyr_scalar.specs.declared.scalar.fault.FaultText.{FaultText}
+use Rattle.saphyr_scalar.specs.declared.scalar.fault.FaultText.TheVariants.{UnprintableCharacter, MisplacedByteOrderMark, UnexpectedCharacter, TabInBlockIndentation, VersionNumberTooLong, MisplacedBracket, RecursionLimit, BlockScalarIndicatorZero, BlockScalarTabFirst, TabAsIndentation, PlainDashBeforeFlow, TabInsidePlain, TabNotAllowed, ColonBeforeFlow, CommentWithoutWhitespace}
 use Rattle.saphyr_scalar.specs.Views.Cursor.{Cursor}
 
 -- with which a document marker begins
@@ -18,3 +20,22 @@ is_open (c ∷ d ∷ e ∷ f ∷ others) = false
 -- the same place, with more behind the text
 abbrev pub longer : List ℕ → Cursor → Cursor
 longer more s = record s { rest = s.rest ++ more }
+
+-- a fault that is told by characters that were seen, whatever comes behind them
+abbrev pub is_seen : FaultText → Bool
+is_seen UnprintableCharacter = true
+is_seen MisplacedByteOrderMark = true
+is_seen (UnexpectedCharacter c) = true
+is_seen TabInBlockIndentation = true
+is_seen VersionNumberTooLong = true
+is_seen MisplacedBracket = true
+is_seen RecursionLimit = true
+is_seen BlockScalarIndicatorZero = true
+is_seen BlockScalarTabFirst = true
+is_seen TabAsIndentation = true
+is_seen PlainDashBeforeFlow = true
+is_seen TabInsidePlain = true
+is_seen TabNotAllowed = true
+is_seen ColonBeforeFlow = true
+is_seen CommentWithoutWhitespace = true
+is_seen _ = false

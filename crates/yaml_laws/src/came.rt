@@ -1,9 +1,10 @@
 //! Laws of the scanner over a text of which more comes.
 
-ghost use Rattle.std.specs.Prelude.{◌≡◌, ◌++◌, ℕ, false, List, Ok};
+ghost use Rattle.std.specs.Prelude.{◌≡◌, ◌++◌, ℕ, true, false, List, Ok, Err};
+ghost use Rattle.saphyr_scalar.specs.declared.scalar.fault.Refusal.{Refusal};
 ghost use Rattle.saphyr_scanner.specs.Steps.State.{State};
 ghost use Rattle.saphyr_scanner.specs.Views.Tokens.{Piece};
-ghost use Rattle.scalar_laws.specs.Known.{is_open};
+ghost use Rattle.scalar_laws.specs.Known.{is_open, is_seen};
 ghost use Rattle.yaml_laws.specs.Longer.{ScansTo, extended_by, state_behind_token};
 
 /// A token that is read, where a rest is left that is not open, is read with more behind the text too, and the scanner
@@ -12,6 +13,9 @@ pub fn steps_by_what_came()
     ensures step { (limit : ℕ) (s t : State) (more : List ℕ) → state_behind_token limit s ≡ Ok t
         → is_open t.core.cursor.rest ≡ false
         → state_behind_token limit (extended_by more s) ≡ Ok (extended_by more t) }
+    ensures seen { (limit : ℕ) (s : State) (e : Refusal) (more : List ℕ)
+        → state_behind_token limit s ≡ Err e → is_seen e.text ≡ true
+        → state_behind_token limit (extended_by more s) ≡ Err e }
     ensures goes_on { (limit : ℕ) (text more : List ℕ) (ts : List Piece) (s : State)
         → ScansTo limit text ts s → ScansTo limit (text ++ more) ts (extended_by more s) }
 {}

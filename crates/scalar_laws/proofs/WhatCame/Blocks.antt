@@ -7,11 +7,11 @@ use Rattle.saphyr_scalar.specs.declared.values.Chomping.{Chomping}
 use Rattle.saphyr_scalar.specs.declared.values.Chomping.TheVariants.{Strip, Clip, Keep}
 use Rattle.saphyr_scalar.specs.declared.scalar.position.Marker.{Marker}
 use Rattle.saphyr_scalar.specs.declared.scalar.fault.FaultText.TheVariants as fault
-use Rattle.saphyr_scalar.specs.Views.Cursor.{Cursor, ◌>>=◌, refuse, along, next_line, pass}
+use Rattle.saphyr_scalar.specs.Views.Cursor.{Cursor, ◌>>=◌, refuse, along, next_line, pass, pass_break}
 use Rattle.saphyr_scalar.specs.Steps.Block.{EmptyLinesRead, LinesRead, chomping, indicator, header_break, header_end, last_chomping, header_behind, header, is_indentation, inside_break, with_empty_line, pass_empty_lines, line_starts, break_before, lines_behind_text, between, line, is_unfinished, tail_alone, given_indentation, chomped_lines, content, behind_leading_lines, no_lines, behind_header, block_scalar}
 use Rattle.scalar_laws.specs.Known.{is_open, longer}
-use Rattle.scalar_laws.proofs.WhatCame.Rests.{later_here, later_on, later_drop, known_before, first_known, indicator_known, drop_known}
-use Rattle.scalar_laws.proofs.WhatCame.Steps.{Came, reader, beside, beside_two, further, refused, given, leaves, ended, choose, choose_first, choose_of, choose_given, at_break, and_then, on}
+use Rattle.scalar_laws.proofs.WhatCame.Rests.{later_here, later_on, later_drop, known_before, shown, first_known, indicator_known, drop_known}
+use Rattle.scalar_laws.proofs.WhatCame.Steps.{Came, reader, beside, beside_two, further, refused, tells, given, leaves, ended, choose, choose_first, choose_of, choose_given, at_break, and_then, on}
 use Rattle.scalar_laws.proofs.WhatCame.Runs.{taken, passed, break_came, separation_came}
 
 module _ (more : List ℕ) where
@@ -34,15 +34,15 @@ module _ (more : List ℕ) where
       → Came beside more s.rest (indicator start s) (indicator start (longer more s))
   unfolding indicator
   indicator_came start s = choose_first (λ c. not (is_digit c)) (λ _. given (later_here s.rest))
-      (λ _. choose_first (λ c. c == 48) (λ _. refused) (λ _. leaves (later_drop 1 s.rest) (λ known.
+      (λ _. choose_first (λ c. c == 48) (λ is. tells (shown 48 s.rest refl refl is)) (λ _. leaves (later_drop 1 s.rest) (λ known.
       rw (first_known more s.rest (known_before (later_drop 1 s.rest) known), drop_known more 1 s.rest known))))
 
   header_end_came : (start : Marker) (s : Cursor)
       → Came reader more s.rest (header_end start s) (header_end start (longer more s))
   unfolding header_end header_break
   header_end_came start s = and_then _ (separation_came more _ s) (λ x _. choose_first (λ c. not (is_breakz c))
-      (λ _. refused) (λ _. on (λ t. if slice_index t.rest 0 == 9 then refuse fault.BlockScalarTabFirst start else Ok t)
-      (break_came more x.1) (choose_first (λ c. c == 9) (λ _. refused) (λ _. given (later_here _)))))
+      (λ _. refused refl) (λ _. on (λ t. if slice_index t.rest 0 == 9 then refuse fault.BlockScalarTabFirst start else Ok t)
+      (break_came more x.1) (choose_first (λ c. c == 9) (λ is. tells (shown 9 (pass_break x.1).rest refl refl is)) (λ _. given (later_here _)))))
 
   last_came : (o : Option Chomping) (s : Cursor)
       → Came beside more s.rest (Ok (last_chomping o s)) (Ok (last_chomping o (longer more s)))
@@ -113,7 +113,7 @@ module _ (more : List ℕ) where
     content_came : (c : Chomping) (i lines : ℕ) (s : Cursor)
         → Came beside_two more s.rest (content style c indent i lines s) (content style c indent i lines (longer more s))
     unfolding content chomped_lines is_unfinished
-    content_came c i lines s = choose (nat_lt s.mark.col i && nat_le indent s.mark.col) (λ _. refused)
+    content_came c i lines s = choose (nat_lt s.mark.col i && nat_le indent s.mark.col) (λ _. refused refl)
         (λ _. on (chomped_lines c i s.mark) (between_came style i None lines s.blank_so_far s.mark s.rest)
         (leaves (later_here _) (λ known. rw (first_known more _ known))))
 

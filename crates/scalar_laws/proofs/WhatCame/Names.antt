@@ -35,7 +35,7 @@ module _ (more : List ℕ) where
   module _ (start : Marker) where
     byte_came : (s : Cursor) → Came beside more s.rest (escaped_byte start s) (escaped_byte start (longer more s))
     unfolding escaped_byte
-    byte_came s = only_if (shows_byte s.rest) _ (λ shown. leaves (later_drop 3 s.rest) (λ known.
+    byte_came s = only_if (shows_byte s.rest) _ refl (λ shown. leaves (later_drop 3 s.rest) (λ known.
         let three = three_known s.rest known in rw (three.0, three.1, drop_known more 3 s.rest known, shown)))
 
     trailing_came : (v : ℕ) (s : Cursor)
@@ -52,7 +52,7 @@ module _ (more : List ℕ) where
 
     percent_came : (s : Cursor) → Came beside more s.rest (percent_escape start s) (percent_escape start (longer more s))
     unfolding percent_escape behind_leading_byte encoded_character
-    percent_came s = and_then _ (byte_came s) (λ b _. choose (utf8_width b.0 == 0) (λ _. refused)
+    percent_came s = and_then _ (byte_came s) (λ b _. choose (utf8_width b.0 == 0) (λ _. refused refl)
         (λ _. and_then _ (bytes_came (utf8_width b.0 - 1) (leading_bits b.0) b.1)
         (λ x _. search (choose, given, refused, later_here))))
 
@@ -91,7 +91,7 @@ module _ (more : List ℕ) where
   unfolding verbatim_tag verbatim_end
   verbatim_came s = and_then _ (on (decoded_at _ s.mark) (taken more 2 s) (decoded_came s.mark _ (pass 2 s)))
       (λ x _. choose_first (λ c. c == 62) (λ _. on (λ t. Ok ([], x.0, t)) (passed more 1 x.1) (given (later_here _)))
-      (λ _. refused))
+      (λ _. refused refl))
 
   named_came : (start : Marker) (word : List ℕ) (s : Cursor)
       → Came beside_two more s.rest (named_tail start word s) (named_tail start word (longer more s))
@@ -117,4 +117,4 @@ module _ (more : List ℕ) where
   tag_came in_flow s = and_then _ (choose_same (slice_index s.rest 1 == 60) (slice_index (s.rest ++ more) 1 == 60)
       (λ known. ap (λ c. c == 60) (second_known more s.rest known))
       (λ _. further (rw (drop-drop 1 1 s.rest) at (later_drop 1 (drop 1 s.rest))) (verbatim_came s)) (λ _. shorthand_came s))
-      (λ p _. choose_first (λ c. is_blank_or_breakz c || (in_flow && is_flow c)) (λ _. given (later_here _)) (λ _. refused))
+      (λ p _. choose_first (λ c. is_blank_or_breakz c || (in_flow && is_flow c)) (λ _. given (later_here _)) (λ _. refused refl))

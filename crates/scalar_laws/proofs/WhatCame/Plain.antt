@@ -1,19 +1,21 @@
 -- Plain scalars.
-use Rattle.std.proofs.Common.{◌≡◌, ℕ, ◌<◌, Bool, true, false, List, [], ◌∷◌, ◌++◌, length, slice_index, refl, ◌∙◌, arith, encode_utf8}
+use Rattle.std.proofs.Common.{◌≡◌, ℕ, ◌<◌, Bool, true, false, List, [], ◌∷◌, ◌++◌, length, slice_index, Result, Ok, refl, ◌∙◌, arith, encode_utf8}
 use Rattle.std.specs.Prelude.{◌&&◌, ◌||◌, ◌==◌, not, nat_lt, Option, if◌then◌else◌}
 use Rattle.saphyr_input.specs.Classes.{is_break, is_blank, is_z, is_bom, is_flow, tab, line_feed}
 use Rattle.saphyr_input.specs.Places.{is_document_indicator, is_blank_or_break}
 use Rattle.saphyr_scalar.specs.declared.scalar.position.Marker.{Marker}
+use Rattle.saphyr_scalar.specs.declared.scalar.fault.Refusal.{Refusal}
+use Rattle.saphyr_input.proofs.Basics.Booleans.{and_true_left}
 use Rattle.saphyr_scalar.specs.Views.Cursor.{Cursor, along, next_line, pass_break}
 use Rattle.saphyr_scalar.specs.Steps.Quoted.{mid_line, with_run}
-use Rattle.saphyr_scalar.specs.Steps.Plain.{is_in_word, word_starts, PlainGap, content_behind_tab, reached_gap, line_front, ends_line, lines, next_lines, gap_from, gap, next_word_starts, comment_of, PlainScalarRead, with_text, scalar_end, word, plain}
+use Rattle.saphyr_scalar.specs.Steps.Plain.{seen_gap, is_in_word, word_starts, PlainGap, content_behind_tab, reached_gap, line_front, ends_line, lines, next_lines, gap_from, gap, next_word_starts, comment_of, PlainScalarRead, with_text, scalar_end, word, plain}
 use Rattle.saphyr_scalar.proofs.Plain.Gaps.{gap_end}
 use Rattle.saphyr_scalar.proofs.Plain.Pieces.{goes_says, word_on, plain_behind_gap, word_over, not_in_word}
 use Rattle.scalar_laws.proofs.Breaks.PlainScalars.{word_behind}
 use Rattle.scalar_laws.proofs.Breaks.Results.{by_ends}
 use Rattle.scalar_laws.specs.Known.{is_open, longer}
-use Rattle.scalar_laws.proofs.WhatCame.Rests.{later_here, later_on, first_known, indicator_known, dash_known, plain_known}
-use Rattle.scalar_laws.proofs.WhatCame.Steps.{Left, Came, reader, beside, behind, refused, given, same_step, ended, choose, choose_at, choose_first, and_then, on}
+use Rattle.scalar_laws.proofs.WhatCame.Rests.{InText, later_than, known_before, dash_shown, blank_shown, later_here, later_on, first_known, indicator_known, dash_known, plain_known}
+use Rattle.scalar_laws.proofs.WhatCame.Steps.{Left, Came, further, reader, beside, behind, refused, tells, given, same_step, ended, choose, choose_at, choose_first, and_then, on}
 use Rattle.scalar_laws.proofs.WhatCame.Runs.{run_came, break_came}
 
 abbrev gaps : Left PlainGap
@@ -33,7 +35,7 @@ module _ (more : List ℕ) where
       choose_at (λ t. (slice_index t 0 == 35) || ((s.mark.col == 0) && is_document_indicator t))
       (λ known. rw (indicator_known more s.rest known, first_known more s.rest known)) (λ _. given (later_here _))
       (λ _. choose_at (λ t. f && (slice_index t 0 == 45) && is_flow (slice_index t 1))
-      (dash_known more f s.rest) (λ _. refused)
+      (dash_known more f s.rest) (λ is. tells (dash_shown f s.rest is))
       (λ _. same_step (λ known. rw (in_word_known f s.rest known)) (given (later_here _))))
 
   goes_came : (f : Bool) (i : ℕ) (s : Cursor)
@@ -44,29 +46,55 @@ module _ (more : List ℕ) where
 
   -- ## Gaps
 
-  stands_came : (a : Marker) (u : Bool) (s : Cursor)
-      → Came reader more s.rest (content_behind_tab a u s) (content_behind_tab a u (longer more s))
+  -- at the end of what came nothing is refused
+  stands_end : (a m : Marker) (u : Bool) (q : Result Cursor Refusal)
+      → Came reader more [] (content_behind_tab a u (line_front m [])) q
   unfolding content_behind_tab
-  stands_came a u s = choose_first (λ c. u && is_bom c) (λ _. refused)
-      (λ _. choose_first (λ c. u && not ((c == 35) || is_z c)) (λ _. refused) (λ _. given (later_here _)))
+  stands_end a m true q = ended (given (later_here []))
+  stands_end a m false q = ended (given (later_here []))
 
-  reached_came : (a : Marker) (u : Bool) (feeds : List ℕ) (s : Cursor)
-      → Came gaps more s.rest (reached_gap a u feeds s) (reached_gap a u feeds (longer more s))
-  reached_came a u feeds s = and_then _ (stands_came a u s) (λ t _. given (later_here _))
+  reached_end : (a m : Marker) (u : Bool) (feeds : List ℕ) (q : Result PlainGap Refusal)
+      → Came gaps more [] (reached_gap a u feeds (line_front m [])) q
+  reached_end a m u feeds q = ended (and_then (λ t. Ok (seen_gap u feeds t)) (stands_end a m u (Ok (line_front m [])))
+      (λ t _. given (later_here _)))
 
-  lines_came : (i : ℕ) (a : Marker) (u : Bool) (feeds : List ℕ) (m : Marker) (r : List ℕ)
-      → Came gaps more r (lines i a u feeds m r) (lines i a u feeds m (r ++ more))
-  unfolding lines
-  lines_came i a u feeds m [] = ended (reached_came a u feeds (line_front m []))
-  lines_came i a u feeds m (c ∷ cs) = choose (is_blank_or_break c)
-      (λ _. behind (later_on c (later_here cs)) (λ known. rw (first_known more cs known))
-      (lines_came i a (is_blank c && (u || ((c == tab) && nat_lt m.col i)))
-      (if ends_line c cs then feeds ++ line_feed ∷ [] else feeds) (if ends_line c cs then next_line m 1 else along m 1) cs))
-      (λ _. reached_came a u feeds (line_front m (c ∷ cs)))
+  -- a tab in the indentation is in a text that is not open
+  module _ (text : List ℕ) where
+    stands_came : (a m : Marker) (u : Bool) (r : List ℕ) → InText text u r → Came reader more text
+        (content_behind_tab a u (line_front m r)) (content_behind_tab a u (line_front m (r ++ more)))
+    unfolding content_behind_tab
+    stands_came a m u [] h = further h.0 (stands_end a m u _)
+    stands_came a m u (c ∷ cs) h =
+        choose (u && is_bom c) (λ is. tells (h.1 (and_true_left u _ is)))
+        (λ _. choose (u && not ((c == 35) || is_z c)) (λ is. tells (h.1 (and_true_left u _ is))) (λ _. given h.0))
+
+    reached_came : (a m : Marker) (u : Bool) (feeds r : List ℕ) → InText text u r → Came gaps more text
+        (reached_gap a u feeds (line_front m r)) (reached_gap a u feeds (line_front m (r ++ more)))
+    reached_came a m u feeds r h = and_then _ (stands_came a m u r h) (λ t _. given (later_here _))
+
+    tab_in : (i : ℕ) (m : Marker) (u : Bool) (c : ℕ) (cs : List ℕ) → InText text u (c ∷ cs)
+        → InText text (is_blank c && (u || ((c == tab) && nat_lt m.col i))) cs
+    tab_in i m u c cs h = (
+      later_than (later_on c (later_here cs)) h.0,
+      λ is. known_before h.0 (blank_shown c cs (and_true_left (is_blank c) _ is)),
+    )
+
+    lines_came : (i : ℕ) (a : Marker) (u : Bool) (feeds : List ℕ) (m : Marker) (r : List ℕ) → InText text u r
+        → Came gaps more text (lines i a u feeds m r) (lines i a u feeds m (r ++ more))
+    unfolding lines
+    lines_came i a u feeds m [] h = further h.0 (reached_end a m u feeds _)
+    lines_came i a u feeds m (c ∷ []) h = choose (is_blank_or_break c)
+        (λ _. further (tab_in i m u c [] h).0 (reached_end a _ _ _ _)) (λ _. reached_came a m u feeds (c ∷ []) h)
+    lines_came i a u feeds m (c ∷ d ∷ cs) h = choose (is_blank_or_break c)
+        (λ _. lines_came i a (is_blank c && (u || ((c == tab) && nat_lt m.col i)))
+        (if ends_line c (d ∷ cs) then feeds ++ line_feed ∷ [] else feeds)
+        (if ends_line c (d ∷ cs) then next_line m 1 else along m 1) (d ∷ cs) (tab_in i m u c (d ∷ cs) h))
+        (λ _. reached_came a m u feeds (c ∷ d ∷ cs) h)
 
   next_came : (i : ℕ) (a : Marker) (s : Cursor)
       → Came gaps more s.rest (next_lines i a s) (next_lines i a (longer more s))
-  next_came i a s = and_then _ (lines_came i a false [] s.mark s.rest) (λ g _. given (later_here _))
+  next_came i a s = and_then _ (lines_came s.rest i a false [] s.mark s.rest (later_here s.rest, λ e. absurd (cc)))
+      (λ g _. given (later_here _))
 
   gap_came : (i : ℕ) (a : Marker) (s : Cursor) → Came gaps more s.rest (gap i a s) (gap i a (longer more s))
   unfolding gap gap_from
@@ -126,4 +154,4 @@ module _ (more : List ℕ) where
 
   pub plain_came : (f : Bool) (i : ℕ) (s : Cursor) → Came plains more s.rest (plain f i s) (plain f i (longer more s))
   unfolding plain
-  plain_came f i s = and_then _ (starts_came f s) (λ b e. choose b.0 (λ _. word_came f i s.mark b.1 b.1) (λ _. refused))
+  plain_came f i s = and_then _ (starts_came f s) (λ b e. choose b.0 (λ _. word_came f i s.mark b.1 b.1) (λ _. refused refl))

@@ -1,10 +1,10 @@
 -- A rest that is not open shows what it is, whatever comes behind it.
-use Rattle.std.proofs.Common.{◌≡◌, ℕ, zero, suc, ◌+◌, Bool, true, false, List, [], ◌∷◌, ◌++◌, take, drop, slice_index, refl, sym, ap, ◌∙◌, arith, cond}
-use Rattle.std.specs.Prelude.{◌&&◌, ◌==◌}
+use Rattle.std.proofs.Common.{◌≡◌, ℕ, zero, suc, ◌+◌, Bool, true, false, List, [], ◌∷◌, ◌++◌, length, take, drop, slice_index, refl, sym, ap, ◌∙◌, arith, cond, subst}
+use Rattle.std.specs.Prelude.{◌&&◌, ◌||◌, ◌==◌}
 use Rattle.std.specs.List.{prefix_len}
 use Rattle.std.proofs.lemmas.Bool.Decides.{nat_tests}
 use Rattle.std.proofs.lemmas.List.{append_assoc, take-append-drop}
-use Rattle.saphyr_input.specs.Classes.{is_flow}
+use Rattle.saphyr_input.specs.Classes.{is_z, is_blank, is_digit, is_flow}
 use Rattle.saphyr_input.specs.Places.{is_document_start, is_document_end, is_document_indicator, can_be_plain}
 use Rattle.saphyr_scalar.specs.Spelling.LineBreaks.{break_len}
 use Rattle.saphyr_input.proofs.Basics.Booleans.{by_test}
@@ -58,6 +58,43 @@ known_longer (c ∷ d ∷ []) (e ∷ f ∷ others) h = refl
 known_longer (c ∷ d ∷ e ∷ []) [] h = h
 known_longer (c ∷ d ∷ e ∷ []) (f ∷ others) h = refl
 known_longer (c ∷ d ∷ e ∷ f ∷ r) more h = refl
+
+-- ## What a text shows that is not open
+
+-- by its first character
+pub shown : (n : ℕ) (r : List ℕ) → is_open (n ∷ []) ≡ false → (0 == n) ≡ false → (slice_index r 0 == n) ≡ true
+    → is_open r ≡ false
+shown n [] known some is = absurd (cc)
+shown n (c ∷ cs) known some is = let same : c ≡ n = grind (arith, nat_tests) in
+    subst (λ x. is_open (x ∷ cs) ≡ false) (sym same) (known_longer (n ∷ []) cs known)
+
+pub dash_shown : (f : Bool) (r : List ℕ) → (f && (slice_index r 0 == 45) && is_flow (slice_index r 1)) ≡ true
+    → is_open r ≡ false
+dash_shown f [] is = grind arith
+dash_shown f (c ∷ []) is = grind arith
+dash_shown f (c ∷ d ∷ cs) is = known_longer (c ∷ d ∷ []) cs (grind (arith, nat_tests))
+
+pub blank_shown : (c : ℕ) (cs : List ℕ) → is_blank c ≡ true → is_open (c ∷ cs) ≡ false
+blank_shown c cs is = known_longer (c ∷ []) cs (grind (arith, nat_tests))
+
+-- by its first two characters, a colon and what begins a collection
+pub opening_shown : (r : List ℕ) → (slice_index r 0 == 58) ≡ true
+    → ((slice_index r 1 == 91) || (slice_index r 1 == 123)) ≡ true → is_open r ≡ false
+opening_shown [] first second = absurd (cc)
+opening_shown (c ∷ []) first second = absurd (cc)
+opening_shown (c ∷ d ∷ cs) first second = known_longer (c ∷ d ∷ []) cs (grind (arith, nat_tests))
+
+pub nul_shown : (r : List ℕ) → is_z (slice_index r 0) ≡ true → (length r == 0) ≡ false → is_open r ≡ false
+nul_shown [] first some = absurd (cc)
+nul_shown (c ∷ cs) first some = let same : c ≡ 0 = grind (arith, nat_tests) in
+    subst (λ x. is_open (x ∷ cs) ≡ false) (sym same) (known_longer (0 ∷ []) cs refl)
+
+pub digit_shown : (c : ℕ) (cs : List ℕ) → is_digit c ≡ true → is_open (c ∷ cs) ≡ false
+digit_shown c cs is = known_longer (c ∷ []) cs (grind (arith, nat_tests))
+
+-- a later part of a text that is not open where this is true
+abbrev pub InText : List ℕ → Bool → List ℕ → Type 0
+InText text u r = IsLater r text × (u ≡ true → is_open text ≡ false)
 
 -- ## What is looked at
 

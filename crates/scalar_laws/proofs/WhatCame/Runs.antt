@@ -1,5 +1,5 @@
 -- Characters that are taken off, runs, breaks, and white space with a comment.
-use Rattle.std.proofs.Common.{◌≡◌, ℕ, ◌+◌, Bool, false, List, ◌++◌, drop, slice_index, cond, arith, Result, Ok, ap}
+use Rattle.std.proofs.Common.{◌≡◌, ℕ, ◌+◌, Bool, true, false, List, ◌++◌, drop, slice_index, cond, arith, Result, Ok, refl, ap}
 use Rattle.std.specs.Prelude.{◌==◌, ◌&&◌, nat_lt}
 use Rattle.std.specs.List.{prefix_len}
 use Rattle.std.proofs.lemmas.List.{drop-drop}
@@ -7,14 +7,14 @@ use Rattle.std.proofs.lemmas.Bool.Decides.{nat_tests}
 use Rattle.saphyr_input.specs.Classes.{is_break, is_bom, is_yaml_non_break}
 use Rattle.saphyr_input.specs.Separation.{is_skipped, blank_len, comment_len, is_bare_comment, separation_len}
 use Rattle.saphyr_input.specs.declared.input.SkipTabs.{SkipTabs}
-use Rattle.saphyr_input.proofs.Basics.Booleans.{by_test}
+use Rattle.saphyr_input.proofs.Basics.Booleans.{by_test, and_true_left, and_true_right}
 use Rattle.saphyr_scalar.specs.Spelling.LineBreaks.{break_len}
 use Rattle.saphyr_scalar.specs.declared.scalar.fault.Refusal.{Refusal}
 use Rattle.saphyr_scalar.specs.Views.Cursor.{Cursor, pass, pass_blanks, pass_break, pass_line, behind_separation, separation}
 use Rattle.saphyr_scalar.specs.Steps.Quoted.{with_run}
 use Rattle.scalar_laws.specs.Known.{is_open, longer}
-use Rattle.scalar_laws.proofs.WhatCame.Rests.{later_here, later_drop, known_before, first_known, drop_known, take_known, run_known, break_known}
-use Rattle.scalar_laws.proofs.WhatCame.Steps.{Came, reader, beside, behind, further, refused, given, leaves, choose, choose_first}
+use Rattle.scalar_laws.proofs.WhatCame.Rests.{later_here, later_drop, known_before, shown, first_known, drop_known, take_known, run_known, break_known}
+use Rattle.scalar_laws.proofs.WhatCame.Steps.{Came, reader, beside, behind, further, tells, given, leaves, choose, choose_first}
 
 module _ (more : List ℕ) where
   pub taken : (n : ℕ) (s : Cursor) → Came reader more (drop n s.rest) (Ok (pass n s)) (Ok (pass n (longer more s)))
@@ -82,11 +82,17 @@ module _ (more : List ℕ) where
         first_known more r (known_before (later_drop b r) white),
       )
 
-  behind_came : (tabs : SkipTabs) (r : List ℕ) (t : Cursor)
+  behind_came : (tabs : SkipTabs) (r : List ℕ) (t : Cursor) → (is_bare_comment tabs r ≡ true → is_open t.rest ≡ false)
       → Came beside more t.rest (behind_separation tabs r t) (behind_separation tabs r (longer more t))
   unfolding behind_separation
-  behind_came tabs r t = choose_first (λ c. nat_lt 0 t.mark.col && is_bom c) (λ _. refused)
-      (λ _. choose (is_bare_comment tabs r) (λ _. refused) (λ _. given (later_here t.rest)))
+  behind_came tabs r t bare = choose_first (λ c. nat_lt 0 t.mark.col && is_bom c)
+      (λ is. tells (shown 65279 t.rest refl refl (and_true_right (nat_lt 0 t.mark.col) _ is)))
+      (λ _. choose (is_bare_comment tabs r) (λ is. tells (bare is)) (λ _. given (later_here t.rest)))
+
+  bare_known : (tabs : SkipTabs) (r : List ℕ) → is_bare_comment tabs r ≡ true
+      → is_open (drop (separation_len tabs r) r) ≡ false
+  bare_known tabs r bare = rw (and_true_left (blank_len tabs r == 0) _ bare)
+      (shown 35 r refl refl (and_true_right (blank_len tabs r == 0) _ bare))
 
   pub separation_came : (tabs : SkipTabs) (s : Cursor)
       → Came beside more s.rest (separation tabs s) (separation tabs (longer more s))
@@ -94,4 +100,5 @@ module _ (more : List ℕ) where
   separation_came tabs s =
       let n = separation_len tabs s.rest in
       behind (later_drop n s.rest) (λ known. rw (separation_known tabs s.rest known, drop_known more n s.rest known)
-      (white_seen tabs s.rest _ (white_known tabs s.rest known))) (behind_came tabs s.rest (pass_blanks n s))
+      (white_seen tabs s.rest _ (white_known tabs s.rest known)))
+      (behind_came tabs s.rest (pass_blanks n s) (bare_known tabs s.rest))

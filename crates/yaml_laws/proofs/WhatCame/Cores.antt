@@ -51,12 +51,12 @@ module _ (more : List ℕ) where
 
     pub remove_came : Stays (remove_key c) (remove_key (longer_core more c))
     unfolding remove_key
-    remove_came = choose (in_block c && c.required) (λ _. refused) (λ _. given (later_here _))
+    remove_came = choose (in_block c && c.required) (λ _. refused refl) (λ _. given (later_here _))
 
     pub far_came : Stays (drop_far_key c) (drop_far_key (longer_core more c))
     unfolding drop_far_key
     far_came = choose (not (in_block c && is_too_far c.level.key c.cursor.mark)) (λ _. given (later_here _))
-        (λ _. choose c.required (λ _. refused) (λ _. given (later_here _)))
+        (λ _. choose c.required (λ _. refused refl) (λ _. given (later_here _)))
 
   -- ## Characters that are passed
 

@@ -1,8 +1,8 @@
 -- Documents and the end of the stream.
-use Rattle.std.proofs.Common.{◌≡◌, ℕ, false, List, [], ◌∷◌, ◌++◌, drop, length, Option, Some, None, Ok, arith}
+use Rattle.std.proofs.Common.{true, slice_index, refl, ◌≡◌, ℕ, false, List, [], ◌∷◌, ◌++◌, drop, length, Option, Some, None, Ok, arith}
 use Rattle.std.proofs.lemmas.Bool.Decides.{nat_tests}
 use Rattle.std.specs.Prelude.{◌==◌, ◌||◌, not, nat_lt}
-use Rattle.saphyr_input.specs.Classes.{is_breakz}
+use Rattle.saphyr_input.specs.Classes.{is_breakz, is_bom, is_z}
 use Rattle.saphyr_scalar.specs.declared.scalar.position.Marker.{Marker}
 use Rattle.saphyr_scanner.specs.Grammar.Tokens as tokens
 use Rattle.saphyr_scanner.specs.Grammar.Tokens.{Kind}
@@ -11,8 +11,8 @@ use Rattle.saphyr_scanner.specs.Steps.State.{State}
 use Rattle.saphyr_scanner.specs.Steps.Unrolling.{is_right_of, with_outer_indent, end_block, end_blocks, unroll}
 use Rattle.saphyr_scanner.specs.Steps.Document.{end_content, end_mark, end_at, state_behind_end, put_passed, state_behind_marker, end_line, state_behind_document_end, pass_mark, state_behind_byte_order_mark, read_directive, state_behind_directive, finish, remove_key_of}
 use Rattle.scalar_laws.specs.Known.{is_open}
-use Rattle.scalar_laws.proofs.WhatCame.Rests.{later_here, later_drop, drop_known}
-use Rattle.scalar_laws.proofs.WhatCame.Steps.{Came, further, refused, given, leaves, choose, choose_first, choose_at, choose_given, and_then, on}
+use Rattle.scalar_laws.proofs.WhatCame.Rests.{shown, nul_shown, later_here, later_drop, drop_known}
+use Rattle.scalar_laws.proofs.WhatCame.Steps.{Came, further, refused, tells, given, leaves, choose, choose_first, choose_at, choose_given, and_then, on}
 use Rattle.scalar_laws.proofs.WhatCame.Directives.{directive_came}
 use Rattle.yaml_laws.specs.Longer.{extended_by}
 use Rattle.yaml_laws.proofs.WhatCame.Cores.{longer_core, cores, steps, states, remove_came, pass_came, separate_came, core_came, after_came, told_came}
@@ -53,18 +53,18 @@ module _ (more : List ℕ) where
 
   end_at_came : (m : Marker) (s : State) → Came states more s.core.cursor.rest (end_at m s) (end_at m (extended_by more s))
   unfolding end_at
-  end_at_came m s = choose s.core.required (λ _. refused)
+  end_at_came m s = choose s.core.required (λ _. refused refl)
       (λ _. on (λ t. Ok (finish m t)) (unroll_came None m s) (given (later_here _)))
 
   none_known : (r : List ℕ) → is_open r ≡ false → (length (r ++ more) == 0) ≡ (length r == 0)
   none_known [] known = absurd (cc)
   none_known (c ∷ cs) known = grind (arith, nat_tests)
 
-  pub stream_end_came : (s : State)
+  pub stream_end_came : (s : State) → is_z (slice_index s.core.cursor.rest 0) ≡ true
       → Came states more s.core.cursor.rest (state_behind_end s) (state_behind_end (extended_by more s))
   unfolding state_behind_end
-  stream_end_came s = choose_at (λ t. length t == 0) (none_known s.core.cursor.rest)
-      (λ _. end_at_came (end_mark s.core.cursor.mark) s) (λ _. refused)
+  stream_end_came s nul = choose_at (λ t. length t == 0) (none_known s.core.cursor.rest)
+      (λ _. end_at_came (end_mark s.core.cursor.mark) s) (λ some. tells (nul_shown s.core.cursor.rest nul some))
 
   -- ## Markers
 
@@ -80,15 +80,16 @@ module _ (more : List ℕ) where
   unfolding state_behind_document_end end_line
   document_end_came s = and_then _ (marker_came tokens.DocumentEnd s)
       (λ t _. and_then _ (told_came more _ _ t (separate_came more t.core))
-      (λ x _. choose_first is_breakz (λ _. given (later_here _)) (λ _. refused)))
+      (λ x _. choose_first is_breakz (λ _. given (later_here _)) (λ _. refused refl)))
 
   mark_came : (c : Core) → Came cores more c.cursor.rest (Ok (pass_mark c)) (Ok (pass_mark (longer_core more c)))
   mark_came c = leaves (later_drop 1 c.cursor.rest) (λ known. rw (drop_known more 1 c.cursor.rest known))
 
-  pub byte_order_came : (s : State) → Came states more s.core.cursor.rest (state_behind_byte_order_mark s)
+  pub byte_order_came : (s : State) → is_bom (slice_index s.core.cursor.rest 0) ≡ true → Came states more s.core.cursor.rest (state_behind_byte_order_mark s)
       (state_behind_byte_order_mark (extended_by more s))
   unfolding state_behind_byte_order_mark
-  byte_order_came s = choose (nat_lt 0 s.core.cursor.mark.col || not (in_block s.core)) (λ _. refused)
+  byte_order_came s mark = choose (nat_lt 0 s.core.cursor.mark.col || not (in_block s.core))
+      (λ _. tells (shown 65279 s.core.cursor.rest refl refl mark))
       (λ _. and_then _ (content_came s) (λ t _. on (λ c. Ok (put_passed s.core.cursor.mark tokens.ByteOrderMark c t))
       (mark_came t.core) (given (later_here _))))
 

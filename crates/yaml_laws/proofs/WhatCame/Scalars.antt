@@ -1,5 +1,5 @@
 -- Scalars, and properties.
-use Rattle.std.proofs.Common.{◌≡◌, ℕ, true, false, List}
+use Rattle.std.proofs.Common.{refl, ◌≡◌, ℕ, true, false, List}
 use Rattle.std.specs.Prelude.{◌&&◌, not, nat_lt}
 use Rattle.saphyr_scalar.specs.declared.values.BlockStyle.{BlockStyle}
 use Rattle.saphyr_scalar.specs.declared.scalar.style.ScalarStyle.{ScalarStyle}
@@ -56,7 +56,7 @@ module _ (more : List ℕ) where
   unfolding behind_quotes
   quotes_came start style text c = and_then _ (separate_came more c) (λ x _. let d = x.1 in
       choose_same (goes_on_behind_quotes start d) (goes_on_behind_quotes start (longer_core more d)) (goes_known start d)
-      (λ _. and_then _ (pass_gap_came more d) (λ e _. given (later_here _))) (λ _. refused))
+      (λ _. and_then _ (pass_gap_came more d) (λ e _. given (later_here _))) (λ _. refused refl))
 
   read_double_came : (c : Core) → Stepped c (read_double_quoted c) (read_double_quoted (longer_core more c))
   unfolding read_double_quoted
@@ -80,7 +80,7 @@ module _ (more : List ℕ) where
 
   read_plain_came : (c : Core) → Stepped c (read_plain c) (read_plain (longer_core more c))
   unfolding read_plain
-  read_plain_came c = choose (not (in_block c) && nat_lt c.cursor.mark.col c.indent) (λ _. refused)
+  read_plain_came c = choose (not (in_block c) && nat_lt c.cursor.mark.col c.indent) (λ _. refused refl)
       (λ _. and_then _ (plain_came more (not (in_block c)) c.indent c.cursor) (λ x _. given (later_here _)))
 
   pub plain_steps_came : (n : ℕ) (c : Core) → Stepped c (plain_steps n c) (plain_steps n (longer_core more c))

@@ -5,5 +5,6 @@ use Rattle.yaml_laws.proofs.came.steps_by_what_came.Goals as goal
 pub returns : goal.returns
 returns c = record {
   step = λ limit s t more e known. (token_came more limit s).same t e known;
+  seen = λ limit s e more is seen. (token_came more limit s).told e is seen;
   goes_on = goes_on;
 }
