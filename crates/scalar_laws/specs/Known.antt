@@ -2,7 +2,7 @@
 use Rattle.std.specs.Prelude.{ℕ, Bool, true, false, ◌||◌, ◌&&◌, ◌==◌, List, [], ◌∷◌, ◌++◌}
 use Rattle.saphyr_input.specs.Indicators.{colon, full_stop, hyphen}
 use Rattle.saphyr_scalar.specs.declared.scalar.fault.FaultText.{FaultText}
-use Rattle.saphyr_scalar.specs.declared.scalar.fault.FaultText.TheVariants.{UnprintableCharacter, MisplacedByteOrderMark, UnexpectedCharacter, TabInBlockIndentation, VersionNumberTooLong, MisplacedBracket, RecursionLimit, BlockScalarIndicatorZero, BlockScalarTabFirst, TabAsIndentation, PlainDashBeforeFlow, TabInsidePlain, TabNotAllowed, ColonBeforeFlow, CommentWithoutWhitespace}
+use Rattle.saphyr_scalar.specs.declared.scalar.fault.FaultText.TheVariants.{UnprintableCharacter, MisplacedByteOrderMark, UnexpectedCharacter, TabInBlockIndentation, DirectiveNameCharacter, VersionNumberTooLong, MisplacedBracket, RecursionLimit, BlockScalarIndicatorZero, BlockScalarTabFirst, TabAsIndentation, EscapedCodePoint, PlainDashBeforeFlow, TabInsidePlain, TabNotAllowed, ColonBeforeFlow, CommentWithoutWhitespace}
 use Rattle.saphyr_scalar.specs.Views.Cursor.{Cursor}
 
 -- with which a document marker begins
@@ -27,12 +27,14 @@ is_seen UnprintableCharacter = true
 is_seen MisplacedByteOrderMark = true
 is_seen (UnexpectedCharacter c) = true
 is_seen TabInBlockIndentation = true
+is_seen DirectiveNameCharacter = true
 is_seen VersionNumberTooLong = true
 is_seen MisplacedBracket = true
 is_seen RecursionLimit = true
 is_seen BlockScalarIndicatorZero = true
 is_seen BlockScalarTabFirst = true
 is_seen TabAsIndentation = true
+is_seen EscapedCodePoint = true
 is_seen PlainDashBeforeFlow = true
 is_seen TabInsidePlain = true
 is_seen TabNotAllowed = true

@@ -2,6 +2,7 @@
 use Rattle.std.proofs.Common.{refl, ℕ, suc, ◌+◌, ◌-◌, ◌*◌, List, [], ◌∷◌, ◌++◌, length, drop, Ok, encode_utf8, codes}
 use Rattle.std.specs.Prelude.{◌==◌, ◌||◌, nat_lt, bytes_eq}
 use Rattle.saphyr_input.specs.Classes.{is_blank, is_breakz, is_blank_or_breakz, is_digit, is_alpha, is_tag_char, is_yaml_non_space, is_yaml_non_break}
+use Rattle.saphyr_input.proofs.Basics.Lists.{run_ends}
 use Rattle.saphyr_scalar.specs.declared.scalar.position.Marker.{Marker}
 use Rattle.saphyr_scalar.specs.Views.Cursor.{Cursor, along, pass}
 use Rattle.saphyr_scalar.specs.Steps.Quoted.{mid_line, with_run}
@@ -9,7 +10,7 @@ use Rattle.saphyr_scalar.specs.Steps.Tag.{handle_of}
 use Rattle.saphyr_scalar.specs.Steps.Directive.{directive_name_of, name, number_end, number_from, number, behind_major, version_directive, handle_behind_word, handle, prefix, behind_prefix, tag_directive, value, line_end, directive}
 use Rattle.saphyr_scalar.specs.Spelling.Directive.{reserved}
 use Rattle.scalar_laws.specs.Known.{longer}
-use Rattle.scalar_laws.proofs.WhatCame.Rests.{later_here, later_on, digit_shown}
+use Rattle.scalar_laws.proofs.WhatCame.Rests.{later_here, later_on, digit_shown, mark_shown}
 use Rattle.scalar_laws.proofs.WhatCame.Steps.{Came, reader, beside, beside_two, further, refused, tells, given, ended, choose, choose_first, and_then, on}
 use Rattle.scalar_laws.proofs.WhatCame.Runs.{taken, passed, run_passed, run_came, break_came, separation_came}
 use Rattle.scalar_laws.proofs.WhatCame.Names.{uri_came, front_came, decoded_came}
@@ -17,8 +18,11 @@ use Rattle.scalar_laws.proofs.WhatCame.Names.{uri_came, front_came, decoded_came
 module _ (more : List ℕ) where
   name_came : (s : Cursor) → Came beside more s.rest (name s) (name (longer more s))
   unfolding name directive_name_of
-  name_came s = on (directive_name_of s.mark) (run_came more is_yaml_non_space [] s) (choose (length (with_run is_yaml_non_space [] s).0 == 0)
-      (λ _. refused refl) (λ _. choose_first is_blank_or_breakz (λ _. given (later_here _)) (λ _. refused refl)))
+  name_came s = on (directive_name_of s.mark) (run_came more is_yaml_non_space [] s)
+      (choose (length (with_run is_yaml_non_space [] s).0 == 0) (λ _. refused refl)
+      (λ _. choose_first is_blank_or_breakz (λ _. given (later_here _))
+      (λ no. tells (mark_shown (with_run is_yaml_non_space [] s).1.rest
+      (run_ends is_yaml_non_space s.rest refl) no))))
 
   -- what a directive says is read from a place on
   module _ (start : Marker) where

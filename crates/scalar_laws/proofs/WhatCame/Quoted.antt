@@ -9,10 +9,10 @@ use Rattle.saphyr_scalar.specs.declared.values.Quote.TheVariants.{Single, Double
 use Rattle.saphyr_scalar.specs.declared.scalar.position.Marker.{Marker}
 use Rattle.saphyr_scalar.specs.Views.Cursor.{Cursor, along, next_line}
 use Rattle.saphyr_scalar.specs.Values.Flow as flow
-use Rattle.saphyr_scalar.specs.Values.Escapes.{short_escape, digit_count}
+use Rattle.saphyr_scalar.specs.Values.Escapes.{short_escape, digit_count, is_scalar_value}
 use Rattle.saphyr_scalar.specs.Steps.Quoted.{TextRead, mid_line, with_front, is_literal, digits, character, escape_by_number, escape_of, escaped_character, special, special_len, QuotedGap, on_line, over_lines, blank_in, break_in, break_len, end_gap, quoted_line, is_left, escaped_gap, if_some, no_gap, inner_text, quoted}
-use Rattle.scalar_laws.specs.Known.{longer}
-use Rattle.scalar_laws.proofs.WhatCame.Rests.{later_here, later_on, later_drop, first_known, indicator_known, blank_shown, drop_known, break_known}
+use Rattle.scalar_laws.specs.Known.{is_open, longer}
+use Rattle.scalar_laws.proofs.WhatCame.Rests.{later_here, later_on, later_drop, first_known, indicator_known, blank_shown, letter_shown, drop_known, break_known}
 use Rattle.scalar_laws.proofs.WhatCame.Steps.{Came, beside, kept, whole, behind, further, tells, refused, given, same_step, ended, choose, choose_same, choose_at, choose_first, and_then, on}
 use Rattle.scalar_laws.proofs.WhatCame.Runs.{passed}
 
@@ -29,13 +29,14 @@ module _ (more : List ℕ) where
         choose (is_hex c) (λ _. digits_came n (v * 16 + hex_value c) (along m 1) cs) (λ _. refused refl)
 
     escape_came : (short long : Option ℕ) (letter : ℕ) (m : Marker) (c d : ℕ) (r : List ℕ) → digit_count letter ≡ long
+        → ((n : ℕ) → digit_count letter ≡ Some n → is_open text ≡ false)
         → Came (whole text) more text (escape_of start short letter (mid_line m (c ∷ d ∷ r)))
         (escape_of start short letter (mid_line m (c ∷ d ∷ (r ++ more))))
     unfolding escape_of escape_by_number character
-    escape_came (Some e) long letter m c d r is = given (later_here text)
-    escape_came None None letter m c d r is = rw is (refused refl)
-    escape_came None (Some n) letter m c d r is =
-        rw is (and_then _ (digits_came n 0 (along m 2) r) (λ x _. search (choose, refused, given, later_here)))
+    escape_came (Some e) long letter m c d r is known = given (later_here text)
+    escape_came None None letter m c d r is known = rw is (refused refl)
+    escape_came None (Some n) letter m c d r is known = rw is (and_then _ (digits_came n 0 (along m 2) r)
+        (λ x _. choose (is_scalar_value x.0) (λ _. given (later_here _)) (λ _. tells (known n is))))
 
   special_came : (quote : Quote) (start m : Marker) (c : ℕ) (cs : List ℕ) → Came (whole cs) more cs
       (special quote start (mid_line m (c ∷ cs))) (special quote start (mid_line m (c ∷ (cs ++ more))))
@@ -46,7 +47,7 @@ module _ (more : List ℕ) where
       (λ known. absurd (cc)) (λ _. refused refl) (λ _. given (later_here []))
   special_came Single start m c (d ∷ ds) = choose ((c == 39) && (d == 39)) (λ _. given (later_here _)) (λ _. given (later_here _))
   special_came Double start m c (d ∷ ds) = choose ((c == backslash) && not (is_break d))
-      (λ _. and_then _ (escape_came (d ∷ ds) start (short_escape d) (digit_count d) d m c d ds refl) (λ e _. given (later_here _)))
+      (λ _. and_then _ (escape_came (d ∷ ds) start (short_escape d) (digit_count d) d m c d ds refl (letter_shown d ds)) (λ e _. given (later_here _)))
       (λ _. given (later_here _))
 
   -- ## Gaps

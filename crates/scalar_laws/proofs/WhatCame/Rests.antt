@@ -1,11 +1,12 @@
 -- A rest that is not open shows what it is, whatever comes behind it.
 use Rattle.std.proofs.Common.{◌≡◌, ℕ, zero, suc, ◌+◌, Bool, true, false, List, [], ◌∷◌, ◌++◌, length, take, drop, slice_index, refl, sym, ap, ◌∙◌, arith, cond, subst}
-use Rattle.std.specs.Prelude.{◌&&◌, ◌||◌, ◌==◌}
+use Rattle.std.specs.Prelude.{Some, ◌&&◌, ◌||◌, ◌==◌}
 use Rattle.std.specs.List.{prefix_len}
 use Rattle.std.proofs.lemmas.Bool.Decides.{nat_tests}
 use Rattle.std.proofs.lemmas.List.{append_assoc, take-append-drop}
-use Rattle.saphyr_input.specs.Classes.{is_z, is_blank, is_digit, is_flow}
+use Rattle.saphyr_input.specs.Classes.{is_yaml_non_space, is_blank_or_breakz, is_z, is_blank, is_digit, is_flow}
 use Rattle.saphyr_input.specs.Places.{is_document_start, is_document_end, is_document_indicator, can_be_plain}
+use Rattle.saphyr_scalar.specs.Values.Escapes.{digit_count}
 use Rattle.saphyr_scalar.specs.Spelling.LineBreaks.{break_len}
 use Rattle.saphyr_input.proofs.Basics.Booleans.{by_test}
 use Rattle.scalar_laws.specs.Known.{is_open}
@@ -88,6 +89,16 @@ pub nul_shown : (r : List ℕ) → is_z (slice_index r 0) ≡ true → (length r
 nul_shown [] first some = absurd (cc)
 nul_shown (c ∷ cs) first some = let same : c ≡ 0 = grind (arith, nat_tests) in
     subst (λ x. is_open (x ∷ cs) ≡ false) (sym same) (known_longer (0 ∷ []) cs refl)
+
+-- by what is neither of a name nor behind it
+pub mark_shown : (r : List ℕ) → is_yaml_non_space (slice_index r 0) ≡ false
+    → is_blank_or_breakz (slice_index r 0) ≡ false → is_open r ≡ false
+mark_shown [] inside behind = absurd (cc)
+mark_shown (c ∷ cs) inside behind = known_longer (c ∷ []) cs (grind (arith, nat_tests))
+
+-- by the letter of an escape that asks for digits
+pub letter_shown : (c : ℕ) (cs : List ℕ) (n : ℕ) → digit_count c ≡ Some n → is_open (c ∷ cs) ≡ false
+letter_shown c cs n is = known_longer (c ∷ []) cs (grind (arith, nat_tests))
 
 pub digit_shown : (c : ℕ) (cs : List ℕ) → is_digit c ≡ true → is_open (c ∷ cs) ≡ false
 digit_shown c cs is = known_longer (c ∷ []) cs (grind (arith, nat_tests))
