@@ -1,5 +1,5 @@
-//! Laws of the readers over a text of which more comes: what a reader gives is the same whatever comes, unless it leaves
-//! a rest that is open.
+//! Laws of the readers over a text of which more comes: what a reader gives is the same whatever comes,
+//! unless it leaves a rest that is open.
 
 ghost use Rattle.std.specs.Prelude.{◌≡◌, ℕ, Bool, false, List, Ok, Option};
 ghost use Rattle.saphyr_scalar.specs.declared.scalar.position.Marker.{Marker};
@@ -17,8 +17,8 @@ use saphyr_input::SkipTabs;
 use saphyr_scalar::values::{BlockStyle, Quote};
 use saphyr_scalar::{Marker, Span};
 
-/// What each reader gives, where it leaves a rest that is not open, it gives with more behind the text too, and leaves
-/// that rest with more behind it: it has looked at nothing behind what came.
+/// Where a reader leaves a rest that is not open, it gives the same with more behind the text, and
+/// leaves that rest with more behind it: it has looked at nothing behind what came.
 pub fn reads_what_came()
     ensures name { (s t : Cursor) (x more : List ℕ) → anchor s ≡ Ok (x, t) → is_open t.rest ≡ false
         → anchor (longer more s) ≡ Ok (x, longer more t) }
@@ -26,8 +26,8 @@ pub fn reads_what_came()
         → tag in_flow s ≡ Ok (handle, suffix, t) → is_open t.rest ≡ false
         → tag in_flow (longer more s) ≡ Ok (handle, suffix, longer more t) }
     ensures plain { (in_flow : Bool) (indent : ℕ) (s t : Cursor) (text : List ℕ) (end : Marker)
-        (comment : Option Marker) (more : List ℕ) → plain in_flow indent s ≡ Ok (text, end, comment, t)
-        → is_open t.rest ≡ false
+        (comment : Option Marker) (more : List ℕ)
+        → plain in_flow indent s ≡ Ok (text, end, comment, t) → is_open t.rest ≡ false
         → plain in_flow indent (longer more s) ≡ Ok (text, end, comment, longer more t) }
     ensures quoted { (quote : Quote) (indent : ℕ) (s t : Cursor) (text more : List ℕ)
         → quoted quote indent s ≡ Ok (text, t) → is_open t.rest ≡ false

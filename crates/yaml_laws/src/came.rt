@@ -4,15 +4,19 @@ ghost use Rattle.std.specs.Prelude.{◌≡◌, ◌++◌, ℕ, true, false, List,
 ghost use Rattle.saphyr_scalar.specs.declared.scalar.fault.Refusal.{Refusal};
 ghost use Rattle.saphyr_scanner.specs.Steps.State.{State};
 ghost use Rattle.saphyr_scanner.specs.Views.Tokens.{Piece};
-ghost use Rattle.scalar_laws.specs.Known.{is_open, is_seen};
+ghost use Rattle.scalar_laws.specs.Known.{IsLater, is_open, is_seen};
 ghost use Rattle.yaml_laws.specs.Longer.{ScansTo, extended_by, state_behind_token};
 
-/// A token that is read, where a rest is left that is not open, is read with more behind the text too, and the scanner
-/// comes to the same, with more behind its rest: it has looked at nothing behind what came.
+/// Where a scanner reads a token and leaves a rest that is not open, it does so with more behind the text
+/// too, and comes to the same, with more behind its rest: it has looked at nothing behind what came. What
+/// it refuses by characters that it has seen, it refuses whatever comes. So a scanner that has read what
+/// is decided goes on where more of its text comes.
 pub fn steps_by_what_came()
     ensures step { (limit : ℕ) (s t : State) (more : List ℕ) → state_behind_token limit s ≡ Ok t
         → is_open t.core.cursor.rest ≡ false
         → state_behind_token limit (extended_by more s) ≡ Ok (extended_by more t) }
+    ensures later { (limit : ℕ) (s t : State) → state_behind_token limit s ≡ Ok t
+        → IsLater t.core.cursor.rest s.core.cursor.rest }
     ensures seen { (limit : ℕ) (s : State) (e : Refusal) (more : List ℕ)
         → state_behind_token limit s ≡ Err e → is_seen e.text ≡ true
         → state_behind_token limit (extended_by more s) ≡ Err e }

@@ -1,20 +1,14 @@
 -- A rest that is not open shows what it is, whatever comes behind it.
-use Rattle.std.proofs.Common.{◌≡◌, ℕ, zero, suc, ◌+◌, Bool, true, false, List, [], ◌∷◌, ◌++◌, length, take, drop, slice_index, refl, sym, ap, ◌∙◌, arith, cond, subst}
-use Rattle.std.specs.Prelude.{Some, ◌&&◌, ◌||◌, ◌==◌}
+use Rattle.std.proofs.Common.{◌≡◌, ℕ, zero, suc, ◌+◌, Bool, true, false, List, [], ◌∷◌, ◌++◌, take, drop, slice_index, refl, sym, ap, ◌∙◌, arith, cond, subst}
+use Rattle.std.specs.Prelude.{◌&&◌, ◌==◌}
 use Rattle.std.specs.List.{prefix_len}
 use Rattle.std.proofs.lemmas.Bool.Decides.{nat_tests}
 use Rattle.std.proofs.lemmas.List.{append_assoc, take-append-drop}
-use Rattle.saphyr_input.specs.Classes.{is_yaml_non_space, is_blank_or_breakz, is_z, is_blank, is_digit, is_flow}
-use Rattle.saphyr_input.specs.Places.{is_document_start, is_document_end, is_document_indicator, can_be_plain}
-use Rattle.saphyr_scalar.specs.Values.Escapes.{digit_count}
+use Rattle.saphyr_input.specs.Classes.{is_blank_or_breakz, is_z, is_blank, is_flow}
+use Rattle.saphyr_input.specs.Places.{next_3_are, is_document_start, is_document_end, is_document_indicator, can_be_plain}
 use Rattle.saphyr_scalar.specs.Spelling.LineBreaks.{break_len}
 use Rattle.saphyr_input.proofs.Basics.Booleans.{by_test}
-use Rattle.scalar_laws.specs.Known.{is_open}
-
--- what is left of a text once its front was taken off
-pub record IsLater (rest text : List ℕ) : Type 0 where
-  pub front : List ℕ
-  pub is : text ≡ front ++ rest
+use Rattle.scalar_laws.specs.Known.{is_open, begins_marker, IsLater}
 
 pub later_here : (r : List ℕ) → IsLater r r
 later_here r = record { front = []; is = refl }
@@ -27,7 +21,8 @@ later_drop n t = record { front = take n t; is = sym (take-append-drop n t) }
 
 pub later_than : {r t u : List ℕ} → IsLater r t → IsLater t u → IsLater r u
 later_than {r = r} h k =
-    record { front = k.front ++ h.front; is = k.is ∙ ap (λ x. k.front ++ x) h.is ∙ sym (append_assoc k.front h.front r) }
+    let same = sym (append_assoc k.front h.front r) in
+    record { front = k.front ++ h.front; is = k.is ∙ ap (λ x. k.front ++ x) h.is ∙ same }
 
 -- ## A text of which a later part is not open is not open
 
@@ -60,6 +55,66 @@ known_longer (c ∷ d ∷ e ∷ []) [] h = h
 known_longer (c ∷ d ∷ e ∷ []) (f ∷ others) h = refl
 known_longer (c ∷ d ∷ e ∷ f ∷ r) more h = refl
 
+-- ## How much has to be there
+
+-- a character
+abbrev pub is_nothing : List ℕ → Bool
+is_nothing [] = true
+is_nothing (c ∷ r) = false
+
+-- where this is true, what is not open, and else a character
+abbrev pub lacks : Bool → List ℕ → Bool
+lacks true r = is_open r
+lacks false r = is_nothing r
+
+pub some : (r : List ℕ) → is_open r ≡ false → is_nothing r ≡ false
+some [] known = absurd (cc)
+some (c ∷ r) known = refl
+
+pub some_of : (b : Bool) (r : List ℕ) → lacks b r ≡ false → is_nothing r ≡ false
+some_of true r known = some r known
+some_of false r known = known
+
+pub enough_of : (b : Bool) (r : List ℕ) → is_open r ≡ false → lacks b r ≡ false
+enough_of true r known = known
+enough_of false r known = some r known
+
+pub nothing_lacks : (b : Bool) → lacks b [] ≡ true
+nothing_lacks true = refl
+nothing_lacks false = refl
+
+pub enough_before : (b : Bool) {r t : List ℕ} → IsLater r t → lacks b r ≡ false → lacks b t ≡ false
+enough_before true h known = known_before h known
+enough_before false {r = r} h known = rw h.is (by h.front)
+  where
+    by : (front : List ℕ) → is_nothing (front ++ r) ≡ false
+    by [] = known
+    by (c ∷ front) = refl
+
+pub left_enough : (a b : Bool) (r : List ℕ) → lacks a r ≡ false → lacks (a && b) r ≡ false
+left_enough true true r known = known
+left_enough true false r known = some r known
+left_enough false b r known = known
+
+pub right_enough : (a b : Bool) (r : List ℕ) → lacks b r ≡ false → lacks (a && b) r ≡ false
+right_enough true b r known = known
+right_enough false b r known = some_of b r known
+
+-- a text shows a second character, where a test of it comes out as one of NUL does not
+pub shows_second : (p : ℕ → Bool) (b : Bool) (r : List ℕ) → p (slice_index r 1) ≡ b → (p 0 ≡ b → ⊥)
+    → is_nothing (drop 1 r) ≡ false
+shows_second p b [] is not = absurd (not is)
+shows_second p b (c ∷ []) is not = absurd (not is)
+shows_second p b (c ∷ d ∷ r) is not = refl
+
+-- a text shows a character, where a test of it comes out as one of NUL does not
+pub shows : (p : ℕ → Bool) (b : Bool) (r : List ℕ) → p (slice_index r 0) ≡ b → (p 0 ≡ b → ⊥) → is_nothing r ≡ false
+shows p b [] is not = absurd (not is)
+shows p b (c ∷ r) is not = refl
+
+pub shows_is : (n : ℕ) (r : List ℕ) → (0 == n) ≡ false → (slice_index r 0 == n) ≡ true → is_nothing r ≡ false
+shows_is n r other is = shows (λ c. c == n) true r is (λ e. absurd (cc))
+
 -- ## What a text shows that is not open
 
 -- by its first character
@@ -78,30 +133,31 @@ dash_shown f (c ∷ d ∷ cs) is = known_longer (c ∷ d ∷ []) cs (grind (arit
 pub blank_shown : (c : ℕ) (cs : List ℕ) → is_blank c ≡ true → is_open (c ∷ cs) ≡ false
 blank_shown c cs is = known_longer (c ∷ []) cs (grind (arith, nat_tests))
 
--- by its first two characters, a colon and what begins a collection
-pub opening_shown : (r : List ℕ) → (slice_index r 0 == 58) ≡ true
-    → ((slice_index r 1 == 91) || (slice_index r 1 == 123)) ≡ true → is_open r ≡ false
-opening_shown [] first second = absurd (cc)
-opening_shown (c ∷ []) first second = absurd (cc)
-opening_shown (c ∷ d ∷ cs) first second = known_longer (c ∷ d ∷ []) cs (grind (arith, nat_tests))
-
-pub nul_shown : (r : List ℕ) → is_z (slice_index r 0) ≡ true → (length r == 0) ≡ false → is_open r ≡ false
-nul_shown [] first some = absurd (cc)
-nul_shown (c ∷ cs) first some = let same : c ≡ 0 = grind (arith, nat_tests) in
+pub nul_shown : (r : List ℕ) → is_z (slice_index r 0) ≡ true → is_nothing r ≡ false → is_open r ≡ false
+nul_shown [] first left = absurd (cc)
+nul_shown (c ∷ cs) first left = let same : c ≡ 0 = grind (arith, nat_tests) in
     subst (λ x. is_open (x ∷ cs) ≡ false) (sym same) (known_longer (0 ∷ []) cs refl)
 
--- by what is neither of a name nor behind it
-pub mark_shown : (r : List ℕ) → is_yaml_non_space (slice_index r 0) ≡ false
-    → is_blank_or_breakz (slice_index r 0) ≡ false → is_open r ≡ false
-mark_shown [] inside behind = absurd (cc)
-mark_shown (c ∷ cs) inside behind = known_longer (c ∷ []) cs (grind (arith, nat_tests))
+-- by a colon and what comes behind it
+pub colon_shown : (r : List ℕ) → (slice_index r 0 == 58) ≡ true → is_nothing (drop 1 r) ≡ false → is_open r ≡ false
+colon_shown [] first left = absurd (cc)
+colon_shown (c ∷ []) first left = absurd (cc)
+colon_shown (c ∷ d ∷ cs) first left = known_longer (c ∷ d ∷ []) cs (grind (arith, nat_tests))
 
--- by the letter of an escape that asks for digits
-pub letter_shown : (c : ℕ) (cs : List ℕ) (n : ℕ) → digit_count c ≡ Some n → is_open (c ∷ cs) ≡ false
-letter_shown c cs n is = known_longer (c ∷ []) cs (grind (arith, nat_tests))
+-- by a hyphen and the blank behind it
+pub entry_shown : (r : List ℕ) → ((slice_index r 0 == 45) && is_blank_or_breakz (slice_index r 1)) ≡ true
+    → is_nothing (drop 1 r) ≡ false → is_open r ≡ false
+entry_shown [] is left = absurd (cc)
+entry_shown (c ∷ []) is left = absurd (cc)
+entry_shown (c ∷ d ∷ cs) is left = known_longer (c ∷ d ∷ []) cs (grind (arith, nat_tests))
 
-pub digit_shown : (c : ℕ) (cs : List ℕ) → is_digit c ≡ true → is_open (c ∷ cs) ≡ false
-digit_shown c cs is = known_longer (c ∷ []) cs (grind (arith, nat_tests))
+-- by what comes behind three characters
+pub four_shown : (r : List ℕ) → is_nothing (drop 3 r) ≡ false → is_open r ≡ false
+four_shown [] left = absurd (cc)
+four_shown (a ∷ []) left = absurd (cc)
+four_shown (a ∷ b ∷ []) left = absurd (cc)
+four_shown (a ∷ b ∷ c ∷ []) left = absurd (cc)
+four_shown (a ∷ b ∷ c ∷ d ∷ r) left = refl
 
 -- a later part of a text that is not open where this is true
 abbrev pub InText : List ℕ → Bool → List ℕ → Type 0
@@ -110,28 +166,29 @@ InText text u r = IsLater r text × (u ≡ true → is_open text ≡ false)
 -- ## What is looked at
 
 module _ (more : List ℕ) where
-  pub first_known : (r : List ℕ) → is_open r ≡ false → slice_index (r ++ more) 0 ≡ slice_index r 0
+  pub first_known : (r : List ℕ) → is_nothing r ≡ false → slice_index (r ++ more) 0 ≡ slice_index r 0
   first_known [] h = absurd (cc)
   first_known (c ∷ cs) h = refl
 
-  pub second_known : (r : List ℕ) → is_open (drop 1 r) ≡ false → slice_index (r ++ more) 1 ≡ slice_index r 1
+  pub second_known : (r : List ℕ) → is_nothing (drop 1 r) ≡ false → slice_index (r ++ more) 1 ≡ slice_index r 1
   second_known [] h = absurd (cc)
   second_known (c ∷ []) h = absurd (cc)
   second_known (c ∷ d ∷ cs) h = refl
 
+  marker_known : (n : ℕ) (r : List ℕ) → begins_marker n ≡ true → is_open r ≡ false
+      → (next_3_are (r ++ more) n n n && is_blank_or_breakz (slice_index (r ++ more) 3))
+      ≡ (next_3_are r n n n && is_blank_or_breakz (slice_index r 3))
+  marker_known n [] is h = absurd (cc)
+  marker_known n (c ∷ []) is h = grind (arith, nat_tests)
+  marker_known n (c ∷ d ∷ []) is h = grind (arith, nat_tests)
+  marker_known n (c ∷ d ∷ e ∷ []) is h = grind (arith, nat_tests)
+  marker_known n (c ∷ d ∷ e ∷ f ∷ cs) is h = refl
+
   pub start_known : (r : List ℕ) → is_open r ≡ false → is_document_start (r ++ more) ≡ is_document_start r
-  start_known [] h = absurd (cc)
-  start_known (c ∷ []) h = grind (arith, nat_tests)
-  start_known (c ∷ d ∷ []) h = grind (arith, nat_tests)
-  start_known (c ∷ d ∷ e ∷ []) h = grind (arith, nat_tests)
-  start_known (c ∷ d ∷ e ∷ f ∷ cs) h = refl
+  start_known r = marker_known 45 r refl
 
   pub end_known : (r : List ℕ) → is_open r ≡ false → is_document_end (r ++ more) ≡ is_document_end r
-  end_known [] h = absurd (cc)
-  end_known (c ∷ []) h = grind (arith, nat_tests)
-  end_known (c ∷ d ∷ []) h = grind (arith, nat_tests)
-  end_known (c ∷ d ∷ e ∷ []) h = grind (arith, nat_tests)
-  end_known (c ∷ d ∷ e ∷ f ∷ cs) h = refl
+  end_known r = marker_known 46 r refl
 
   pub plain_known : (f : Bool) (r : List ℕ) → is_open r ≡ false → can_be_plain f (r ++ more) ≡ can_be_plain f r
   plain_known f [] h = absurd (cc)
@@ -150,31 +207,31 @@ module _ (more : List ℕ) where
 
   -- ## What is taken off
 
-  pub drop_known : (n : ℕ) (r : List ℕ) → is_open (drop n r) ≡ false → drop n (r ++ more) ≡ drop n r ++ more
+  pub drop_known : (n : ℕ) (r : List ℕ) → is_nothing (drop n r) ≡ false → drop n (r ++ more) ≡ drop n r ++ more
   drop_known zero r h = refl
   drop_known (suc n) [] h = absurd (cc)
   drop_known (suc n) (c ∷ cs) h = drop_known n cs h
 
-  pub take_known : (n : ℕ) (r : List ℕ) → is_open (drop n r) ≡ false → take n (r ++ more) ≡ take n r
+  pub take_known : (n : ℕ) (r : List ℕ) → is_nothing (drop n r) ≡ false → take n (r ++ more) ≡ take n r
   take_known zero r h = refl
   take_known (suc n) [] h = absurd (cc)
   take_known (suc n) (c ∷ cs) h = ap (λ u. c ∷ u) (take_known n cs h)
 
-  pub run_known : (p : ℕ → Bool) (r : List ℕ) → is_open (drop (prefix_len p r) r) ≡ false
+  pub run_known : (p : ℕ → Bool) (r : List ℕ) → is_nothing (drop (prefix_len p r) r) ≡ false
       → prefix_len p (r ++ more) ≡ prefix_len p r
   run_known p [] h = absurd (cc)
   run_known p (c ∷ cs) h = by_test (p c) (1 + prefix_len p cs) 0
-      (λ n. is_open (drop n (c ∷ cs)) ≡ false → cond (p c) (1 + prefix_len p (cs ++ more)) 0 ≡ n)
+      (λ n. is_nothing (drop n (c ∷ cs)) ≡ false → cond (p c) (1 + prefix_len p (cs ++ more)) 0 ≡ n)
       (λ goes k. rw goes (ap (λ n. 1 + n) (run_known p cs (rw one at k)))) (λ stops k. rw stops refl) h
     where
       one : 1 + prefix_len p cs ≡ suc (prefix_len p cs)
       one = omega arith
 
-  pub break_known : (r : List ℕ) → is_open (drop (break_len r) r) ≡ false → break_len (r ++ more) ≡ break_len r
+  pub break_known : (r : List ℕ) → is_nothing (drop (break_len r) r) ≡ false → break_len (r ++ more) ≡ break_len r
   break_known [] h = absurd (cc)
   break_known (c ∷ []) h = absurd (by (c == 13) h)
     where
-      by : (b : Bool) → is_open (drop (cond (b && false) 2 1) (c ∷ [])) ≡ false → ⊥
+      by : (b : Bool) → is_nothing (drop (cond (b && false) 2 1) (c ∷ [])) ≡ false → ⊥
       by true e = cc
       by false e = cc
   break_known (c ∷ d ∷ cs) h = refl

@@ -9,8 +9,7 @@ use Rattle.saphyr_scanner.specs.Steps.Queue.{Queue}
 use Rattle.saphyr_scanner.specs.Steps.Passing.{with_cursor, pass_on, separate}
 use Rattle.saphyr_scanner.specs.Steps.State.{State, on_core, on_core_with, after_step}
 use Rattle.scalar_laws.specs.Known.{is_open, longer}
-use Rattle.scalar_laws.proofs.WhatCame.Rests.{later_here}
-use Rattle.scalar_laws.proofs.WhatCame.Steps.{Left, Came, given, refused, choose, choose_given, and_then, on}
+use Rattle.scalar_laws.proofs.WhatCame.Steps.{Left, CameAs, Sure, refused, stays, choose, choose_given, and_then, on, mapped}
 use Rattle.scalar_laws.proofs.WhatCame.Runs.{taken, separation_came}
 use Rattle.yaml_laws.specs.Longer.{extended_by}
 
@@ -30,8 +29,11 @@ cores_beside = record { rest = λ x. x.1.cursor.rest; with_more = λ more x. (x.
 abbrev pub steps : Left Step
 steps = record { rest = λ x. x.core.cursor.rest; with_more = λ more x. record x { core = longer_core more x.core } }
 
+abbrev pub states_at : ℕ → Left State
+states_at n = record { rest = λ s. drop n s.core.cursor.rest; with_more = extended_by }
+
 abbrev pub states : Left State
-states = record { rest = λ s. s.core.cursor.rest; with_more = extended_by }
+states = states_at 0
 
 abbrev pub states_beside : {X : Type 0} → Left (X × State)
 states_beside = record { rest = λ x. x.1.core.cursor.rest; with_more = λ more x. (x.0, extended_by more x.1) }
@@ -39,34 +41,35 @@ states_beside = record { rest = λ x. x.1.core.cursor.rest; with_more = λ more 
 module _ (more : List ℕ) where
   -- ## Changes that leave the text
 
-  module _ (n : ℕ) (c : Core) where
-    abbrev Stays : Result Core Refusal → Result Core Refusal → Type 0
-    Stays r q = Came (cores_at n) more (drop n c.cursor.rest) r q
+  module _ (n : ℕ) (c : Core) {asks says : Bool} where
+    pub save_came : (place : ℕ) → CameAs asks says (cores_at n) more (drop n c.cursor.rest)
+        (Ok (save_key place c)) (Ok (save_key place (longer_core more c)))
+    save_came place = choose_given c.key_allowed (λ _. stays) (λ _. stays)
 
-    pub save_came : (place : ℕ) → Stays (Ok (save_key place c)) (Ok (save_key place (longer_core more c)))
-    save_came place = choose_given c.key_allowed (λ _. given (later_here _)) (λ _. given (later_here _))
+    pub roll_came : (column : ℕ) → CameAs asks says (cores_at n) more (drop n c.cursor.rest)
+        (Ok (roll column c)) (Ok (roll column (longer_core more c)))
+    roll_came column = choose_given (is_further column c) (λ _. stays) (λ _. stays)
 
-    pub roll_came : (column : ℕ) → Stays (Ok (roll column c)) (Ok (roll column (longer_core more c)))
-    roll_came column = choose_given (is_further column c) (λ _. given (later_here _)) (λ _. given (later_here _))
-
-    pub remove_came : Stays (remove_key c) (remove_key (longer_core more c))
+    pub remove_came : CameAs asks says (cores_at n) more (drop n c.cursor.rest)
+        (remove_key c) (remove_key (longer_core more c))
     unfolding remove_key
-    remove_came = choose (in_block c && c.required) (λ _. refused refl) (λ _. given (later_here _))
+    remove_came = choose (in_block c && c.required) (λ _. refused refl) (λ _. stays)
 
-    pub far_came : Stays (drop_far_key c) (drop_far_key (longer_core more c))
+    pub far_came : CameAs asks says (cores_at n) more (drop n c.cursor.rest)
+        (drop_far_key c) (drop_far_key (longer_core more c))
     unfolding drop_far_key
-    far_came = choose (not (in_block c && is_too_far c.level.key c.cursor.mark)) (λ _. given (later_here _))
-        (λ _. choose c.required (λ _. refused refl) (λ _. given (later_here _)))
+    far_came = choose (not (in_block c && is_too_far c.level.key c.cursor.mark)) (λ _. stays)
+        (λ _. choose c.required (λ _. refused refl) (λ _. stays))
 
   -- ## Characters that are passed
 
-  pub pass_came : (n : ℕ) (c : Core)
-      → Came cores more (drop n c.cursor.rest) (Ok (pass_on n c)) (Ok (pass_on n (longer_core more c)))
-  pass_came n c = on (λ s. Ok (with_cursor s c)) (taken more n c.cursor) (given (later_here _))
+  pub pass_came : {says : Bool} (n : ℕ) (c : Core)
+      → CameAs false says cores more (drop n c.cursor.rest) (Ok (pass_on n c)) (Ok (pass_on n (longer_core more c)))
+  pass_came n c = on (λ s. Ok (with_cursor s c)) (taken more n c.cursor) stays
 
   pub separate_came : (c : Core)
-      → Came cores_beside more c.cursor.rest (separate c) (separate (longer_core more c))
-  separate_came c = and_then _ (separation_came more _ c.cursor) (λ x _. given (later_here _))
+      → Sure cores_beside more c.cursor.rest (separate c) (separate (longer_core more c))
+  separate_came c = and_then _ (separation_came more _ c.cursor) (λ x _. stays)
 
   -- ## States
 
@@ -74,28 +77,29 @@ module _ (more : List ℕ) where
   core_is (Ok c) q = refl
   core_is (Err e) q = refl
 
-  pub core_came : {text : List ℕ} (r p : Result Core Refusal) (q : Queue) → Came cores more text r p
-      → Came states more text (on_core r q) (on_core p q)
-  core_came r p q h = rw (core_is r q, core_is p q) (and_then _ h (λ c _. given (later_here _)))
-
   step_is : (r : StepResult) (q : Queue)
       → after_step r q ≡ (r >>= λ x. Ok (record { core = x.core; queue = perform x.actions q }))
   step_is (Ok x) q = refl
   step_is (Err e) q = refl
-
-  pub after_came : {text : List ℕ} (r p : StepResult) (q : Queue) → Came steps more text r p
-      → Came states more text (after_step r q) (after_step p q)
-  after_came r p q h = rw (step_is r q, step_is p q) (and_then _ h (λ x _. given (later_here _)))
 
   told_is : {X : Type 0} (r : Result (X × Core) Refusal) (s : State)
       → on_core_with r s ≡ (r >>= λ x. Ok (x.0, record { core = x.1; queue = s.queue }))
   told_is (Ok x) s = refl
   told_is (Err e) s = refl
 
-  pub told_came : {X : Type 0} {text : List ℕ} (r p : Result (X × Core) Refusal) (s : State)
-      → Came cores_beside more text r p
-      → Came states_beside more text (on_core_with r s) (on_core_with p (extended_by more s))
-  told_came r p s h = rw (told_is r s, told_is p (extended_by more s)) (and_then _ h (λ x _. given (later_here _)))
+  module _ {asks says : Bool} {text : List ℕ} where
+    pub core_came : (n : ℕ) (r p : Result Core Refusal) (q : Queue) → CameAs asks says (cores_at n) more text r p
+        → CameAs asks says (states_at n) more text (on_core r q) (on_core p q)
+    core_came n r p q h = rw (core_is r q, core_is p q) (mapped _ r p (λ _. refl) (λ _. refl) h)
+
+    pub after_came : (r p : StepResult) (q : Queue) → CameAs asks says steps more text r p
+        → CameAs asks says states more text (after_step r q) (after_step p q)
+    after_came r p q h = rw (step_is r q, step_is p q) (mapped _ r p (λ _. refl) (λ _. refl) h)
+
+    pub told_came : {X : Type 0} (r p : Result (X × Core) Refusal) (s : State)
+        → CameAs asks says cores_beside more text r p
+        → CameAs asks says states_beside more text (on_core_with r s) (on_core_with p (extended_by more s))
+    told_came r p s h = rw (told_is r s, told_is p (extended_by more s)) (mapped _ r p (λ _. refl) (λ _. refl) h)
 
   -- ## A character that a marker or a value begins with, and the next one
 

@@ -10,8 +10,8 @@ use Rattle.saphyr_scanner.specs.Steps.Core.{Core, least_column}
 use Rattle.saphyr_scanner.specs.Steps.Gap.{GapEnd, stop, is_tab_indentation, end_of_gap, end_of_gap_in_comment, SpacesEnd, end_of_spaces, end_of_spaces_in_comment}
 use Rattle.saphyr_scanner.specs.Steps.Passing.{goes_on_behind, check_comment_of, check_comment, behind_gap, pass_gap}
 use Rattle.scalar_laws.specs.Known.{is_open, longer}
-use Rattle.scalar_laws.proofs.WhatCame.Rests.{InText, later_than, known_before, shown, later_here, later_on, first_known, indicator_known, plain_known}
-use Rattle.scalar_laws.proofs.WhatCame.Steps.{Left, Came, further, refused, given, ended, choose, choose_same, choose_given, at_break, at_break_in, tells, and_then}
+use Rattle.scalar_laws.proofs.WhatCame.Rests.{some, InText, later_than, known_before, shown, later_here, later_on, first_known, indicator_known, plain_known}
+use Rattle.scalar_laws.proofs.WhatCame.Steps.{Left, Came, Sure, further, refused, stays, given, past, ended, choose, choose_same, choose_given, at_break, at_break_in, tells, and_known}
 use Rattle.yaml_laws.proofs.WhatCame.Cores.{longer_core, cores}
 
 abbrev gap_ends : Left GapEnd
@@ -49,7 +49,8 @@ module _ (more : List ℕ) where
           (λ tab. known_before h.0 (shown 9 (c ∷ cs) refl refl (and_true_left (c == 9) _ (and_true_left _ _ tab)))) h.1,
     )
 
-    on_line : (text : List ℕ) (tabbed : Bool) (c : ℕ) (cs : List ℕ) → InText text tabbed (c ∷ cs) → InText text tabbed cs
+    on_line : (text : List ℕ) (tabbed : Bool) (c : ℕ) (cs : List ℕ) → InText text tabbed (c ∷ cs)
+        → InText text tabbed cs
     on_line text tabbed c cs h = (later_than (later_on c (later_here cs)) h.0, h.1)
 
     mutual
@@ -75,21 +76,21 @@ module _ (more : List ℕ) where
           (gap_came cs (next_line m 1) true true false cs (fresh cs)) (stop_came text m blank broke tabbed (c ∷ cs) h))
 
   mutual
-    pub spaces_came : (m : Marker) (blank found : Bool) (r : List ℕ) → Came spaces_ends more r
+    pub spaces_came : (m : Marker) (blank found : Bool) (r : List ℕ) → Sure spaces_ends more r
         (Ok (end_of_spaces m blank found r)) (Ok (end_of_spaces m blank found (r ++ more)))
     spaces_came m blank found [] = ended (given (later_here []))
     spaces_came m blank found (c ∷ cs) = at_break (λ x. Ok x) (c == 32) c cs (spaces_came (along m 1) blank true cs)
         (spaces_came (next_line m 1) true true cs) (choose_given (c == 35)
-        (λ _. further (later_on c (later_here cs)) (spaces_comment_came (along m 1) blank found cs))
-        (λ _. given (later_here (c ∷ cs))))
+        (λ _. past c (spaces_comment_came (along m 1) blank found cs))
+        (λ _. stays))
 
-    spaces_comment_came : (m : Marker) (blank found : Bool) (r : List ℕ) → Came spaces_ends more r
+    spaces_comment_came : (m : Marker) (blank found : Bool) (r : List ℕ) → Sure spaces_ends more r
         (Ok (end_of_spaces_in_comment m blank found r)) (Ok (end_of_spaces_in_comment m blank found (r ++ more)))
     spaces_comment_came m blank found [] = ended (given (later_here []))
     spaces_comment_came m blank found (c ∷ cs) = choose_given (is_yaml_non_break c)
-        (λ _. further (later_on c (later_here cs)) (spaces_comment_came (along m 1) blank found cs))
+        (λ _. past c (spaces_comment_came (along m 1) blank found cs))
         (λ _. at_break (λ x. Ok x) false c cs (spaces_came (along m 1) blank true cs)
-        (spaces_came (next_line m 1) true true cs) (given (later_here (c ∷ cs))))
+        (spaces_came (next_line m 1) true true cs) stays)
 
   -- ## A comment before a token
 
@@ -97,17 +98,17 @@ module _ (more : List ℕ) where
       → goes_on_behind m (longer_core more c) ≡ goes_on_behind m c
   unfolding goes_on_behind
   goes_known m c known = let r = c.cursor.rest in
-      rw (indicator_known more r known, plain_known more false r known, first_known more r known)
+      rw (indicator_known more r known, plain_known more false r known, first_known more r (some r known))
 
   check_came : (o : Option Marker) (c : Core)
       → Came cores more c.cursor.rest (check_comment_of o c) (check_comment_of o (longer_core more c))
-  check_came None c = given (later_here _)
+  check_came None c = stays
   check_came (Some m) c = let d : Core = record c { comment = None } in
       choose_same (goes_on_behind m d) (goes_on_behind m (longer_core more d)) (goes_known m d) (λ _. refused refl)
-      (λ _. given (later_here _))
+      (λ _. stays)
 
   pub pass_gap_came : (c : Core) → Came cores more c.cursor.rest (pass_gap c) (pass_gap (longer_core more c))
   unfolding pass_gap check_comment
   pass_gap_came c = let s = c.cursor in
-      and_then _ (gap_came (least_column c) s.rest s.mark s.blank_so_far false false s.rest (fresh s.rest))
+      and_known _ (gap_came (least_column c) s.rest s.mark s.blank_so_far false false s.rest (fresh s.rest))
       (λ g _. check_came c.comment (behind_gap c g))
