@@ -6,3 +6,4 @@ pub mod Scalars
 pub mod Documents
 pub mod Fetches
 pub mod Scans
+pub mod HandedTokens

@@ -1,6 +1,6 @@
 -- A scanner of a text of which more comes: what it has read for good.
 use Rattle.std.specs.Prelude.{◌≡◌, ℕ, true, false, List, [], ◌∷◌, ◌++◌, Some, Ok}
-use Rattle.saphyr_scanner.specs.Views.Tokens.{Piece}
+use Rattle.saphyr_scanner.specs.Views.Tokens.{Piece, Remaining}
 pub use Rattle.saphyr_scanner.specs.Steps.Fetch.{state_behind_token}
 use Rattle.saphyr_scanner.specs.Steps.Fetch.{needs_token, take_token}
 use Rattle.saphyr_scanner.specs.Steps.State.{State, start, with_rest}
@@ -18,3 +18,7 @@ pub data ScansTo (limit : ℕ) (text : List ℕ) : List Piece → State → Type
       → state_behind_token limit s ≡ Ok t → is_open t.core.cursor.rest ≡ false → ScansTo limit text ts t
   takes : (ts : List Piece) (s t : State) (x : Piece) → ScansTo limit text ts s → needs_token s ≡ false
       → take_token s ≡ (Some x, t) → ScansTo limit text (ts ++ x ∷ []) t
+
+-- tokens before others
+abbrev pub before_all : List Piece → Remaining → Remaining
+before_all ts r = record { pieces = ts ++ r.pieces; refusal = r.refusal }

@@ -1,6 +1,7 @@
 use Rattle.std.proofs.Common.{[]}
 use Rattle.yaml_laws.proofs.WhatCame.Fetches.{token_came}
-use Rattle.yaml_laws.proofs.WhatCame.Scans.{goes_on}
+use Rattle.yaml_laws.proofs.WhatCame.Scans.{goes_on, ends_so}
+use Rattle.yaml_laws.proofs.WhatCame.HandedTokens.{all_tokens}
 use Rattle.yaml_laws.proofs.came.steps_by_what_came.Goals as goal
 
 pub returns : goal.returns
@@ -9,4 +10,6 @@ returns c = record {
   later = λ limit s t e. (token_came [] limit s).later t e;
   seen = λ limit s e more is seen. (token_came more limit s).told e is seen;
   goes_on = goes_on;
+  tokens = all_tokens c.takes_characters_off.ensures;
+  refused = ends_so c.takes_characters_off.ensures;
 }
