@@ -1,6 +1,6 @@
 -- Directives.
-use Rattle.std.proofs.Common.{false, refl, ℕ, suc, ◌+◌, ◌-◌, ◌*◌, List, [], ◌∷◌, ◌++◌, length, drop, Ok, encode_utf8, codes}
-use Rattle.std.specs.Prelude.{◌==◌, ◌||◌, nat_lt, bytes_eq}
+use Rattle.std.proofs.Common.{ℕ, suc, ◌+◌, ◌-◌, ◌*◌, false, List, [], ◌∷◌, ◌++◌, length, drop, Ok, refl, encode_utf8, codes}
+use Rattle.std.specs.Prelude.{◌||◌, ◌==◌, nat_lt, bytes_eq}
 use Rattle.saphyr_input.specs.Classes.{is_blank, is_breakz, is_blank_or_breakz, is_digit, is_alpha, is_tag_char, is_yaml_non_space, is_yaml_non_break}
 use Rattle.saphyr_scalar.specs.declared.scalar.position.Marker.{Marker}
 use Rattle.saphyr_scalar.specs.Views.Cursor.{Cursor, along, pass}

@@ -1,10 +1,10 @@
 -- Quoted scalars.
-use Rattle.std.proofs.Common.{arith, subst, sym, ◌≡◌, ℕ, zero, suc, ◌+◌, ◌*◌, true, false, List, [], ◌∷◌, ◌++◌, drop, slice_index, Option, Some, None, Ok, refl, encode_utf8}
+use Rattle.std.proofs.Common.{◌≡◌, ℕ, zero, suc, ◌+◌, ◌*◌, true, false, List, [], ◌∷◌, ◌++◌, drop, slice_index, Option, Some, None, Ok, refl, sym, subst, arith, encode_utf8}
 use Rattle.std.specs.Prelude.{◌&&◌, ◌==◌, not, pred, if◌then◌else◌}
+use Rattle.std.proofs.lemmas.Bool.Decides.{nat_tests}
 use Rattle.saphyr_input.specs.Classes.{is_blank, is_z, is_break, is_hex, hex_value}
 use Rattle.saphyr_input.specs.Places.{is_document_indicator}
 use Rattle.saphyr_input.proofs.Basics.Booleans.{and_true_left}
-use Rattle.std.proofs.lemmas.Bool.Decides.{nat_tests}
 use Rattle.saphyr_input.specs.Indicators.{backslash}
 use Rattle.saphyr_scalar.specs.declared.values.Quote.{Quote}
 use Rattle.saphyr_scalar.specs.declared.values.Quote.TheVariants.{Single, Double}

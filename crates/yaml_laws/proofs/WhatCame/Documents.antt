@@ -1,7 +1,7 @@
 -- Documents and the end of the stream.
-use Rattle.std.proofs.Common.{Bool, true, slice_index, refl, ◌≡◌, ℕ, false, List, [], ◌∷◌, ◌++◌, drop, length, Option, Some, None, Ok, arith}
+use Rattle.std.proofs.Common.{◌≡◌, ℕ, Bool, true, false, List, [], ◌∷◌, ◌++◌, length, drop, slice_index, Option, Some, None, Ok, refl, arith}
 use Rattle.std.proofs.lemmas.Bool.Decides.{nat_tests}
-use Rattle.std.specs.Prelude.{◌==◌, ◌||◌, not, nat_lt}
+use Rattle.std.specs.Prelude.{◌||◌, ◌==◌, not, nat_lt}
 use Rattle.saphyr_input.specs.Classes.{is_breakz, is_bom}
 use Rattle.saphyr_scalar.specs.declared.scalar.position.Marker.{Marker}
 use Rattle.saphyr_scanner.specs.Grammar.Tokens as tokens

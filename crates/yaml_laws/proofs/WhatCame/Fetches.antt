@@ -1,8 +1,8 @@
 -- The next token.
-use Rattle.std.proofs.Common.{◌≡◌, ℕ, Bool, true, false, List, [], ◌∷◌, ◌++◌, drop, slice_index, Some, refl, ap, cond, arith}
-use Rattle.saphyr_input.proofs.Basics.Booleans.{and_true_left, and_true_right}
+use Rattle.std.proofs.Common.{◌≡◌, ℕ, Bool, true, false, List, [], ◌∷◌, ◌++◌, drop, slice_index, Some, refl, ap, arith, cond}
 use Rattle.std.proofs.lemmas.Bool.Decides.{nat_tests}
-use Rattle.std.specs.Prelude.{◌==◌, ◌&&◌, ◌||◌, not, nat_lt, nat_le}
+use Rattle.std.specs.Prelude.{◌&&◌, ◌||◌, ◌==◌, not, nat_lt, nat_le}
+use Rattle.saphyr_input.proofs.Basics.Booleans.{and_true_left, and_true_right}
 use Rattle.saphyr_input.specs.Classes.{is_bom, is_z, is_blank_or_breakz}
 use Rattle.saphyr_input.specs.Places.{is_document_start, is_document_end}
 use Rattle.saphyr_scanner.specs.Grammar.Tokens as tokens

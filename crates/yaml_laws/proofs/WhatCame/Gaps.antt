@@ -1,10 +1,10 @@
 -- What is between two tokens.
-use Rattle.std.proofs.Common.{Result, refl, ◌≡◌, ℕ, Bool, true, false, List, [], ◌∷◌, ◌++◌, Option, Some, None, Ok}
-use Rattle.std.specs.Prelude.{◌==◌, ◌&&◌, ◌||◌, not}
+use Rattle.std.proofs.Common.{◌≡◌, ℕ, Bool, true, false, List, [], ◌∷◌, ◌++◌, Option, Some, None, Result, Ok, refl}
+use Rattle.std.specs.Prelude.{◌&&◌, ◌||◌, ◌==◌, not}
 use Rattle.saphyr_input.specs.Classes.{is_blank, is_bom, is_z, is_yaml_non_break}
+use Rattle.saphyr_input.proofs.Basics.Booleans.{and_true_left, either}
 use Rattle.saphyr_scalar.specs.declared.scalar.position.Marker.{Marker}
 use Rattle.saphyr_scalar.specs.declared.scalar.fault.Refusal.{Refusal}
-use Rattle.saphyr_input.proofs.Basics.Booleans.{and_true_left, either}
 use Rattle.saphyr_scalar.specs.Views.Cursor.{along, next_line}
 use Rattle.saphyr_scanner.specs.Steps.Core.{Core, least_column}
 use Rattle.saphyr_scanner.specs.Steps.Gap.{GapEnd, stop, is_tab_indentation, end_of_gap, end_of_gap_in_comment, SpacesEnd, end_of_spaces, end_of_spaces_in_comment}

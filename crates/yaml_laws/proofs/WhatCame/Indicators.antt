@@ -1,6 +1,6 @@
 -- The indicators of block and flow collections, and the colon.
-use Rattle.std.proofs.Common.{◌≡◌, ℕ, Bool, true, false, List, [], ◌∷◌, ◌++◌, drop, length, slice_index, Option, Some, None, Ok, refl, ap, ◌∙◌}
-use Rattle.std.specs.Prelude.{◌==◌, ◌&&◌, ◌||◌, not, nat_lt, nat_le}
+use Rattle.std.proofs.Common.{◌≡◌, ℕ, Bool, true, false, List, [], ◌∷◌, ◌++◌, length, drop, slice_index, Option, Some, None, Ok, refl, ap, ◌∙◌}
+use Rattle.std.specs.Prelude.{◌&&◌, ◌||◌, ◌==◌, not, nat_lt, nat_le}
 use Rattle.saphyr_input.proofs.Basics.Booleans.{by_test, and_true_right}
 use Rattle.saphyr_input.specs.Classes.{is_break, is_flow, is_alpha, is_blank_or_breakz}
 use Rattle.saphyr_input.specs.declared.input.SkipTabs.{SkipTabs}
