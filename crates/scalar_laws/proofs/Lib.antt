@@ -1,4 +1,5 @@
 pub mod Beginnings
+pub mod WhatCame
 pub mod Directives
 pub mod Breaks
 pub mod Block

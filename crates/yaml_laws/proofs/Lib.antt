@@ -4,3 +4,4 @@ pub mod Flow
 pub mod Documents
 pub mod Breaks
 pub mod Json
+pub mod WhatCame
