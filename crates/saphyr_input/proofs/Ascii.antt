@@ -272,7 +272,7 @@ bytes_left : (bs : List ℕ) → 0 < length (chars bs) → 0 < length bs
 bytes_left [] h = absurd (omega (arith, h, ap length chars-nil))
 bytes_left (b ∷ bs) h = omega arith
 
-first_one : (bs : List ℕ) → get_or bs 0 0 < 128 → (k : ℕ) → k < 1 → get_or bs k 0 < 128
+pub first_one : (bs : List ℕ) → get_or bs 0 0 < 128 → (k : ℕ) → k < 1 → get_or bs k 0 < 128
 first_one bs a zero l = a
 first_one bs a (suc k) l = absurd (omega arith)
 
@@ -308,7 +308,7 @@ second : (a b : Bool) → (a && b) ≡ false → a ≡ true → b ≡ false
 second true b h e = h
 second false b h e = absurd (cc)
 
-not_in : (p : ℕ → Bool) (b c : ℕ) → StandsFor b c → ascii_in p b ≡ false → b < 128 → p c ≡ false
+pub not_in : (p : ℕ → Bool) (b c : ℕ) → StandsFor b c → ascii_in p b ≡ false → b < 128 → p c ≡ false
 not_in p b c (inl same) h less =
     let ascii : nat_lt b 128 ≡ true = grind (arith, nat_tests) in ap p (sym same) ∙ second (nat_lt b 128) (p b) h ascii
 not_in p b c (inr wide) h less = absurd (omega (arith, wide.0, less))
@@ -367,16 +367,3 @@ wide_non_break b c wide other first =
 pub wide_non_space : (b c : ℕ) → 128 ≤ b → not (b == 239) ≡ true → IsFirstByte b c → is_yaml_non_space c ≡ true
 wide_non_space b c wide other first =
     let high : 128 ≤ c = wide_first b c wide first in rw (no_mark b c other first) (grind (arith, nat_tests))
-
--- where the first byte is no ASCII character of a class, so is the first character, if it is ASCII
-pub ascii_stops : (p : ℕ → Bool) (bs : List ℕ) (b : ℕ) → IsUtf8 bs → b ≡ get_or bs 0 0
-    → ascii_in p (get_or bs 0 0) ≡ false → b < 128 → (b ≡ get_or (chars bs) 0 0) × (p b ≡ false)
-ascii_stops p bs b u e h l = elim (first_stands bs u) [
-  | inl same ↦ (e ∙ same, fails e h)
-  | inr wide ↦ absurd (omega (arith, e, l, wide.0))
-]
-  where
-    fails : b ≡ get_or bs 0 0 → ascii_in p (get_or bs 0 0) ≡ false → p b ≡ false
-    fails is f =
-        let f' : ascii_in p b ≡ false = ap (ascii_in p) is ∙ f in
-        grind (arith, nat_tests)

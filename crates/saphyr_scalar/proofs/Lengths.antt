@@ -86,19 +86,20 @@ pub part_left : (xs now : List ℕ) (at n : ℕ) → at + length xs < 2 ^ 64 →
 part_left xs now at n fits left = rw (left, length-drop) (omega arith)
 
 -- what remains where words were taken off, or memory ran out before
-pub words_fit : {E : Type 0} → (p q : ℕ → Bool) (xs now text grown : List ℕ) (r : Result ℕ E) (at : ℕ)
-    → IfOk r (λ n. TransfersWords p q n xs now text grown) → OnErr r (TransfersPart p xs now text grown)
-    → at + length xs < 2 ^ 64 → at + length now < 2 ^ 64
-words_fit p q xs now text grown (Ok n) at ok err fits = part_left xs now at n fits ok.transfers.taken
+pub words_fit : {E : Type 0} → (p : ℕ → Bool) (q : ℕ → ℕ → Bool) (xs now text grown : List ℕ) (r : Result (ℕ × ℕ) E)
+    (at : ℕ) → IfOk r (λ moved. TransfersWords p q moved.0 xs now text grown)
+    → OnErr r (TransfersPart (words_len p q xs) xs now text grown) → at + length xs < 2 ^ 64 → at + length now < 2 ^ 64
+words_fit p q xs now text grown (Ok n) at ok err fits = part_left xs now at n.0 fits ok.transfers.taken
 words_fit p q xs now text grown (Err e) at ok err fits = part_left xs now at _ fits err.transfers.taken
 
 -- words that are taken off in one piece
 
-pub words_place_fits : (p q : ℕ → Bool) (xs : List ℕ) (n : ℕ) (m t : Marker) → m.index + length xs < 2 ^ 64
-    → n ≤ words_len p q xs → t ≡ m → t.index + n < 2 ^ 64
-words_place_fits p q xs n m t fits within same = rw same (omega (arith, words_within p q xs))
+pub words_place_fits : (p : ℕ → Bool) (q : ℕ → ℕ → Bool) (xs now text grown : List ℕ) (n : ℕ) (m t : Marker)
+    → m.index + length xs < 2 ^ 64 → TransfersWords p q n xs now text grown → t ≡ m → t.index + n < 2 ^ 64
+words_place_fits p q xs now text grown n m t fits w same = rw same (omega (arith, words_within p q xs, w.count))
 
-pub words_left : (p q : ℕ → Bool) (xs now : List ℕ) (n : ℕ) (m t u : Marker) → m.index + length xs < 2 ^ 64
-    → n ≤ words_len p q xs → now ≡ drop n xs → t ≡ m → u ≡ along t n → u.index + length now < 2 ^ 64
-words_left p q xs now n m t u fits within left same moved =
-    rw (moved, same, left, length-drop) (omega (arith, words_within p q xs))
+pub words_left : (p : ℕ → Bool) (q : ℕ → ℕ → Bool) (xs now text grown : List ℕ) (n : ℕ) (m t u : Marker)
+    → m.index + length xs < 2 ^ 64 → TransfersWords p q n xs now text grown → t ≡ m → u ≡ along t n
+    → u.index + length now < 2 ^ 64
+words_left p q xs now text grown n m t u fits w same moved =
+    rw (moved, same, w.transfers.taken, length-drop) (omega (arith, words_within p q xs, w.count))

@@ -8,10 +8,10 @@ mod wide;
 
 use self::text::{
     ascii_behind, ascii_run, begins_with_2, behind, behind_ascii, behind_two_ascii, first_byte,
-    front_words, is_marker, nth_char, run, run_here, second_char, spaces, split_blanks,
-    split_first, third_char, words,
+    first_char, is_marker, nth_char, run, run_here, second_char, spaces, split_blanks, split_first,
+    third_char, words,
 };
-use crate::char_set::{Alpha, Blank, CharSet, NonBreak, NonSpace, SpacedSet};
+use crate::char_set::{Alpha, Blank, CharSet, NonBreak, NonSpace, WordSet};
 use crate::char_traits::{
     is_alpha, is_blank, is_blank_or_breakz, is_break, is_breakz, is_digit, is_flow,
     is_yaml_non_break, is_z,
@@ -81,28 +81,6 @@ impl<'a> StrInput<'a> {
         out.push_str(front)?;
         self.rest = rest;
         Ok(count)
-    }
-
-    // The same before a character that isn't ASCII, or nothing. A few characters are looked at once more for less than
-    // it costs to move them in two pieces. Returns how many were moved.
-    #[inline(never)]
-    fn fetch_before_wide(
-        &mut self,
-        count: usize,
-        rest: &'a str,
-        out: &mut String,
-    ) -> Result<usize, AllocError>
-        requires { chars rest.now ≡ drop count (chars self.old.rest.now) }
-        ensures ok { IfOk result (λ n. (n ≤ count)
-            × spec.Transfers n (chars self.old.rest.now) (chars self.new.rest.now)
-            (string_bytes out.old) (string_bytes out.new)) }
-        ensures err { OnErr result ((chars self.new.rest.now ≡ chars self.old.rest.now)
-            × (string_bytes out.new ≡ string_bytes out.old)) }
-    {
-        if count < 16 {
-            return Ok(0);
-        }
-        self.fetch(count, rest, out)
     }
 }
 
@@ -361,24 +339,11 @@ impl Input for StrInput<'_> {
     }
 
     #[inline(always)]
-    fn fetch_words<C: SpacedSet>(&mut self, out: &mut String) -> Result<usize, AllocError> {
+    fn fetch_words<C: WordSet>(&mut self, out: &mut String) -> Result<(usize, char), AllocError> {
         self.load_one();
         let (count, rest) = words::<C>(self.rest);
-        self.fetch(count, rest, out)
-    }
-
-    #[inline(always)]
-    fn fetch_front_words<C: SpacedSet>(
-        &mut self,
-        out: &mut String,
-    ) -> Result<(usize, char), AllocError> {
-        let (count, rest, next) = front_words::<C>(self.rest);
-        let count = if next < '\u{80}' {
-            self.fetch(count, rest, out)?
-        } else {
-            self.fetch_before_wide(count, rest, out)?
-        };
-        Ok((count, next))
+        self.fetch(count, rest, out)?;
+        Ok((count, first_char(rest)))
     }
 
     #[inline(always)]

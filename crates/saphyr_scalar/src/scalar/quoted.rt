@@ -22,18 +22,19 @@ use std::mem::replace;
 impl<T: Input> Reader<T> {
     ghost use Rattle.saphyr_scalar.specs.Views.Reader.{cursor_of, ReadsTextBy, WritesBy, text_alone};
 
-    // Whether the closing quote is here, and not the first of two single quotes.
+    // Whether the closing quote is here, and not the first of two single quotes. `c` is the first character.
     #[inline(always)]
-    fn is_at_closing_quote(&mut self, quote: Quote) -> bool
+    fn is_at_closing_quote(&mut self, c: char, quote: Quote) -> bool
+        requires { c ≡ slice_index (cursor_of self.old).rest 0 }
         ensures value { result ≡ spec.is_closing quote (cursor_of self.old).rest }
         ensures same { cursor_of self.new ≡ cursor_of self.old }
     {
         match quote {
             Quote::Single => {
                 self.load(2);
-                self.input.next_char_is('\'') && !self.input.nth_char_is(1, '\'')
+                c == '\'' && !self.input.nth_char_is(1, '\'')
             }
-            Quote::Double => self.look() == '"',
+            Quote::Double => c == '"',
         }
     }
 
@@ -122,8 +123,8 @@ impl<T: Input> Reader<T> {
             (spec.inner_text_at quote indent start spec.no_gap s))
             text.old self.old result text.new self.new }
     {
-        self.take_literal_words(quote, text)?;
-        if self.is_at_closing_quote(quote) {
+        let c = self.take_literal_words(quote, text)?;
+        if self.is_at_closing_quote(c, quote) {
             self.skip_non_blank();
             return Ok(());
         }
