@@ -1,20 +1,12 @@
 -- What the calls of an input answer and take, over the list of its remaining characters.
 -- Past the end of the list every place reads as NUL, as `slice_index` does.
-use Rattle.std.specs.Prelude.{◌≡◌, ℕ, ◌+◌, ◌≤◌, min, Bool, ◌||◌, ◌&&◌, ◌==◌, not, nat_lt, Option, Some, None, List, [], ◌∷◌, ◌++◌, take, drop, slice_index, if◌then◌else◌, encode_utf8_all}
+use Rattle.std.specs.Prelude.{◌≡◌, ℕ, ◌+◌, ◌≤◌, min, Bool, ◌||◌, ◌&&◌, ◌==◌, not, List, [], ◌∷◌, ◌++◌, take, drop, slice_index, if◌then◌else◌, encode_utf8_all}
 use Rattle.std.specs.List.{prefix_len}
 use Rattle.saphyr_input.specs.Classes.{is_blank, is_break, is_blank_or_breakz, is_flow, byte_order_mark, space}
 use Rattle.saphyr_input.specs.Indicators.{colon, full_stop, hyphen}
 
-abbrev pub is_ascii_but_nul : ℕ → Bool
-is_ascii_but_nul c = nat_lt 0 c && nat_lt c 128
-
 abbrev pub next_2_are : List ℕ → ℕ → ℕ → Bool
 next_2_are xs a b = (slice_index xs 0 == a) && (slice_index xs 1 == b)
-
--- the character at place 1, where this one is at place 0, and that one is ASCII and not NUL
-abbrev pub ascii_behind : List ℕ → ℕ → Option ℕ
-ascii_behind xs first =
-    if (slice_index xs 0 == first) && is_ascii_but_nul (slice_index xs 1) then Some (slice_index xs 1) else None
 
 abbrev pub next_3_are : List ℕ → ℕ → ℕ → ℕ → Bool
 next_3_are xs a b c = (slice_index xs 0 == a) && (slice_index xs 1 == b) && (slice_index xs 2 == c)

@@ -105,20 +105,6 @@ pub trait Input {
         requires { 1 ≤ loaded self.now }
         ensures { result ≡ slice_get (rest self.now) 0 };
 
-    /// The second character, if the first place reads as `first`, and this one is ASCII and not NUL.
-    fn ascii_behind(&self, first: char) -> Option<char>
-        requires loaded { 2 ≤ loaded self.now }
-        requires ascii { (0 < first) × (first < 128) }
-        ensures { result ≡ spec.ascii_behind (rest self.now) first }
-    {
-        let second = self.peek_nth(1);
-        if self.next_char_is(first) && second > '\0' && second < '\u{80}' {
-            Some(second)
-        } else {
-            None
-        }
-    }
-
     /// Takes a character off that is ASCII.
     fn skip_ascii(&mut self)
         requires loaded { 1 ≤ loaded self.old }

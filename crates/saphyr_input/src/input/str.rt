@@ -7,15 +7,12 @@ mod text;
 mod wide;
 
 use self::text::{
-    ascii_behind, ascii_run, begins_with_2, behind, behind_ascii, behind_two_ascii, first_byte,
-    first_char, is_marker, nth_char, run, run_here, second_char, spaces, split_blanks, split_first,
-    third_char, words,
+    ascii_run, begins_with_2, behind, behind_ascii, behind_two_ascii, first_byte, first_char,
+    is_marker, nth_char, run, run_here, second_char, spaces, split_blanks, split_first, third_char,
+    words,
 };
-use crate::char_set::{Alpha, Blank, CharSet, NonBreak, NonSpace, WordSet};
-use crate::char_traits::{
-    is_alpha, is_blank, is_blank_or_breakz, is_break, is_breakz, is_digit, is_flow,
-    is_yaml_non_break, is_z,
-};
+use crate::char_set::{Blank, CharSet, NonBreak, WordSet};
+use crate::char_traits::{is_blank, is_yaml_non_break};
 use crate::input::{Input, SkipTabs};
 use std::alloc::AllocError;
 
@@ -51,17 +48,6 @@ impl<'a> StrInput<'a> {
         ensures { chars result.now ≡ ⟦<StrInput<'a> as Input>⟧.rest self.now }
     {
         self.rest
-    }
-
-    // Loads one place, unless one is loaded, as mostly: for speed nothing is written then.
-    #[inline(always)]
-    fn load_one(&mut self)
-        ensures rest { self.new.rest ≡ self.old.rest }
-        ensures loaded { self.new.loaded ≡ max 1 self.old.loaded }
-    {
-        if self.loaded == 0 {
-            self.loaded = 1;
-        }
     }
 
     // Moves the first `count` characters to the end of `out`, in one piece. `rest` is what follows them.
@@ -117,11 +103,6 @@ impl Input for StrInput<'_> {
     }
 
     #[inline]
-    fn buf_is_empty(&self) -> bool {
-        self.loaded == 0
-    }
-
-    #[inline]
     fn raw_read_ch(&mut self) -> char {
         let (c, rest) = split_first(self.rest);
         self.rest = rest;
@@ -170,11 +151,6 @@ impl Input for StrInput<'_> {
     }
 
     #[inline(always)]
-    fn ascii_behind(&self, first: char) -> Option<char> {
-        ascii_behind(self.rest, first)
-    }
-
-    #[inline(always)]
     fn skip_ascii(&mut self) {
         self.rest = behind_ascii(self.rest);
     }
@@ -185,30 +161,8 @@ impl Input for StrInput<'_> {
     }
 
     #[inline]
-    fn look_ch(&mut self) -> char {
-        self.lookahead(1);
-        self.peek()
-    }
-
-    #[inline]
-    fn next_char_is(&self, c: char) -> bool {
-        self.peek() == c
-    }
-
-    #[inline]
-    fn nth_char_is(&self, n: usize, c: char) -> bool {
-        self.peek_nth(n) == c
-    }
-
-    #[inline]
     fn next_2_are(&self, c1: char, c2: char) -> bool {
         begins_with_2(self.rest, c1, c2)
-    }
-
-    #[inline]
-    fn next_3_are(&self, c1: char, c2: char, c3: char) -> bool {
-        let (first, rest) = split_first(self.rest);
-        first == c1 && begins_with_2(rest, c2, c3)
     }
 
     #[inline]
@@ -231,7 +185,7 @@ impl Input for StrInput<'_> {
         // There are fewer than 2^64 bytes, and no more characters than bytes.
         let _ = self.rest.as_bytes();
         let (blanks, rest) = split_blanks(self.rest, skip_tabs);
-        self.load_one();
+        self.lookahead(1);
         let found = SkipTabs::Result(blanks.tabs, blanks.spaces);
         if first_byte(rest) != '#' {
             self.rest = rest;
@@ -247,65 +201,12 @@ impl Input for StrInput<'_> {
     }
 
     #[inline]
-    fn next_can_be_plain_scalar(&self, in_flow: bool) -> bool {
-        match self.peek() {
-            ':' => {
-                let next = self.peek_nth(1);
-                !(is_blank_or_breakz(next) || in_flow && is_flow(next))
-            }
-            '\u{FEFF}' => false,
-            c => !(in_flow && is_flow(c)),
-        }
-    }
-
-    #[inline]
-    fn next_is_blank_or_break(&self) -> bool {
-        let c = first_byte(self.rest);
-        is_blank(c) || is_break(c)
-    }
-
-    #[inline]
-    fn next_is_blank_or_breakz(&self) -> bool {
-        is_blank_or_breakz(first_byte(self.rest))
-    }
-
-    #[inline]
     fn next_is_blank(&self) -> bool {
         is_blank(first_byte(self.rest))
     }
 
-    #[inline]
-    fn next_is_break(&self) -> bool {
-        is_break(first_byte(self.rest))
-    }
-
-    #[inline]
-    fn next_is_breakz(&self) -> bool {
-        is_breakz(first_byte(self.rest))
-    }
-
-    #[inline]
-    fn next_is_z(&self) -> bool {
-        is_z(first_byte(self.rest))
-    }
-
-    #[inline]
-    fn next_is_flow(&self) -> bool {
-        is_flow(first_byte(self.rest))
-    }
-
-    #[inline]
-    fn next_is_digit(&self) -> bool {
-        is_digit(first_byte(self.rest))
-    }
-
-    #[inline]
-    fn next_is_alpha(&self) -> bool {
-        is_alpha(first_byte(self.rest))
-    }
-
     fn skip_while_non_breakz(&mut self) -> usize {
-        self.load_one();
+        self.lookahead(1);
         let (count, rest) = run::<NonBreak>(self.rest);
         self.rest = rest;
         count
@@ -313,34 +214,21 @@ impl Input for StrInput<'_> {
 
     #[inline]
     fn skip_while_blank(&mut self) -> usize {
-        self.load_one();
+        self.lookahead(1);
         let (count, rest) = ascii_run::<Blank>(self.rest);
         self.rest = rest;
         count
     }
 
-    #[inline]
-    fn fetch_while_is_alpha(&mut self, out: &mut String) -> Result<usize, AllocError> {
-        self.load_one();
-        let (count, rest) = ascii_run::<Alpha>(self.rest);
-        self.fetch(count, rest, out)
-    }
-
-    fn fetch_while_is_yaml_non_space(&mut self, out: &mut String) -> Result<usize, AllocError> {
-        self.load_one();
-        let (count, rest) = run::<NonSpace>(self.rest);
-        self.fetch(count, rest, out)
-    }
-
     fn fetch_while<C: CharSet>(&mut self, out: &mut String) -> Result<usize, AllocError> {
-        self.load_one();
+        self.lookahead(1);
         let (count, rest) = run_here::<C>(self.rest);
         self.fetch(count, rest, out)
     }
 
     #[inline(always)]
     fn fetch_words<C: WordSet>(&mut self, out: &mut String) -> Result<(usize, char), AllocError> {
-        self.load_one();
+        self.lookahead(1);
         let (count, rest) = words::<C>(self.rest);
         self.fetch(count, rest, out)?;
         Ok((count, first_char(rest)))

@@ -78,28 +78,6 @@ pub(super) fn second_char(text: &str) -> char
     split_first(split_first(text).1).0
 }
 
-// The second byte, if the first one is `first`, and this one is ASCII and not NUL.
-#[inline(always)]
-fn byte_behind(bytes: &[u8], first: char) -> Option<char>
-    ensures { result ≡ places.ascii_behind bytes.now first }
-{
-    if bytes.len() > 1 && bytes[0] as char == first && bytes[1] > 0 && bytes[1] < 0x80 {
-        Some(bytes[1] as char)
-    } else {
-        None
-    }
-}
-
-// The second character, if the first one is `first`, and this one is ASCII and not NUL.
-#[inline(always)]
-pub(super) fn ascii_behind(text: &str, first: char) -> Option<char>
-    requires some { 0 < first }
-    requires ascii { first < 128 }
-    ensures { result ≡ places.ascii_behind (chars text.now) first }
-{
-    byte_behind(text.as_bytes(), first)
-}
-
 // The third character, or NUL past the end.
 #[inline]
 pub(super) fn third_char(text: &str) -> char

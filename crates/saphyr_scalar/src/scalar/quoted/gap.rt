@@ -156,7 +156,7 @@ impl<T: Input> Reader<T> {
         ensures { cursor_of self.new ≡ pass_break (pass 1 (cursor_of self.old)) }
     {
         self.load(2);
-        if let Some('\n') = self.input.ascii_behind('\\') {
+        if self.input.peek_nth(1) == '\n' {
             self.input.skip_two_ascii();
             self.mark = self.mark.next_line(2);
             self.blank_so_far = true;
