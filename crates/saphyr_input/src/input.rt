@@ -8,8 +8,7 @@ mod buffered;
 mod cloning;
 pub(crate) mod str;
 
-use crate::char_set::{Alpha, CharSet, NonSpace, WordSet, goes_on};
-use crate::char_traits::is_yaml_non_break;
+use crate::char_set::{Alpha, Blank, CharSet, NonBreak, NonSpace, WordSet, goes_on};
 pub use crate::char_traits::{
     is_alpha, is_blank, is_blank_or_breakz, is_break, is_breakz, is_digit, is_flow, is_z,
 };
@@ -328,14 +327,7 @@ pub trait Input {
         ensures rest { rest self.new ≡ drop result (rest self.old) }
         ensures loaded { 1 ≤ loaded self.new }
     {
-        let mut count = 0;
-        let mut c = self.look_ch();
-        while is_yaml_non_break(c) {
-            self.skip();
-            count += 1;
-            c = self.look_ch();
-        }
-        count
+        self.skip_while::<NonBreak>()
     }
 
     /// Takes blanks off. Returns how many.
@@ -344,9 +336,18 @@ pub trait Input {
         ensures rest { rest self.new ≡ drop result (rest self.old) }
         ensures loaded { 1 ≤ loaded self.new }
     {
+        self.skip_while::<Blank>()
+    }
+
+    /// Takes characters of a set off. Returns how many.
+    fn skip_while<C: CharSet>(&mut self) -> usize
+        ensures count { result ≡ prefix_len C.test (rest self.old) }
+        ensures rest { rest self.new ≡ drop result (rest self.old) }
+        ensures loaded { 1 ≤ loaded self.new }
+    {
         let mut count = 0;
         let mut c = self.look_ch();
-        while is_blank(c) {
+        while C::has(c) {
             self.skip();
             count += 1;
             c = self.look_ch();

@@ -7,11 +7,10 @@ mod text;
 mod wide;
 
 use self::text::{
-    ascii_run, begins_with_2, behind, behind_ascii, behind_two_ascii, first_byte, first_char,
-    is_marker, nth_char, run, run_here, second_char, spaces, split_blanks, split_first, third_char,
-    words,
+    behind, behind_ascii, behind_two_ascii, first_byte, first_char, is_marker, nth_char, run,
+    run_here, second_char, spaces, split_blanks, split_first, third_char, words,
 };
-use crate::char_set::{Blank, CharSet, NonBreak, WordSet};
+use crate::char_set::{CharSet, NonBreak, WordSet};
 use crate::char_traits::{is_blank, is_yaml_non_break};
 use crate::input::{Input, SkipTabs};
 use std::alloc::AllocError;
@@ -161,11 +160,6 @@ impl Input for StrInput<'_> {
     }
 
     #[inline]
-    fn next_2_are(&self, c1: char, c2: char) -> bool {
-        begins_with_2(self.rest, c1, c2)
-    }
-
-    #[inline]
     fn next_is_document_indicator(&self) -> bool {
         is_marker(self.rest, b'-') || is_marker(self.rest, b'.')
     }
@@ -205,17 +199,9 @@ impl Input for StrInput<'_> {
         is_blank(first_byte(self.rest))
     }
 
-    fn skip_while_non_breakz(&mut self) -> usize {
+    fn skip_while<C: CharSet>(&mut self) -> usize {
         self.lookahead(1);
-        let (count, rest) = run::<NonBreak>(self.rest);
-        self.rest = rest;
-        count
-    }
-
-    #[inline]
-    fn skip_while_blank(&mut self) -> usize {
-        self.lookahead(1);
-        let (count, rest) = ascii_run::<Blank>(self.rest);
+        let (count, rest) = run::<C>(self.rest);
         self.rest = rest;
         count
     }

@@ -57,15 +57,6 @@ pub(super) fn behind(text: &str, count: usize) -> &str
     rest
 }
 
-// Whether the first two places read as these characters.
-#[inline]
-pub(super) fn begins_with_2(text: &str, c1: char, c2: char) -> bool
-    ensures { result ≡ places.next_2_are (chars text.now) c1 c2 }
-{
-    let (first, rest) = split_first(text);
-    first == c1 && split_first(rest).0 == c2
-}
-
 // The second character, or NUL past the end.
 #[inline]
 pub(super) fn second_char(text: &str) -> char
