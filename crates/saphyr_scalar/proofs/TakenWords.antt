@@ -1,5 +1,6 @@
 -- What is read behind words that were taken off in one piece, where it is told behind each character of them.
 use Rattle.std.proofs.Common.{◌≡◌, ℕ, zero, suc, ◌+◌, ◌≤◌, Bool, true, List, [], ◌∷◌, ◌++◌, take, drop, sym, ap, ◌∙◌, arith, encode_utf8, encode_utf8_all}
+use Rattle.std.specs.Prelude.{Result, Ok, Err, OnOk}
 use Rattle.saphyr_input.specs.Places.{goes_on, words_len, TransfersWords}
 use Rattle.saphyr_input.proofs.Basics.Booleans.{by_test}
 use Rattle.saphyr_scalar.specs.declared.scalar.position.Marker.{Marker}
@@ -37,3 +38,8 @@ pub words_behind : {Y : Type 0} (p : ℕ → Bool) (q : ℕ → ℕ → Bool) (b
 words_behind p q behind read r n m xs left text grown t = rw (t.transfers.taken, t.transfers.appended)
     (sym (ap (behind text) (words_read p q behind read r n m xs (omega (arith, t.count)))
     ∙ r.twice text (encode_utf8_all (take n xs)) _))
+
+-- what follows where a call succeeded
+pub on_ok : {X E P Q : Type 0} (r : Result X E) → (P → Q) → OnOk r P → OnOk r Q
+on_ok (Ok x) f h = f h
+on_ok (Err e) f h = h

@@ -8,13 +8,13 @@ use Rattle.std.proofs.lemmas.Bool.{not-true, false_from_ne_true}
 use Rattle.saphyr_input.specs.Indicators.{full_stop, hyphen, number_sign}
 use Rattle.saphyr_input.specs.Classes.{is_blank, is_break, is_bom, is_flow, is_blank_or_breakz}
 use Rattle.saphyr_input.specs.Fronts.{ascii_in}
-use Rattle.saphyr_input.specs.Places.{is_document_indicator, goes_on, TransfersWords}
+use Rattle.saphyr_input.specs.Places.{is_document_indicator, goes_on}
 use Rattle.saphyr_input.proofs.WordRuns.{words_some, words_stop}
 use Rattle.saphyr_scalar.specs.declared.scalar.position.Marker.{Marker}
 use Rattle.saphyr_scalar.specs.declared.scalar.fault.Refusal.{Refusal}
 use Rattle.saphyr_scalar.specs.Views.Cursor.{Cursor, along}
 use Rattle.saphyr_scalar.specs.Steps.Plain.{is_in_word, word_starts, next_word_starts, gap_from, gap, PlainGap, with_text, word, seen_gap, PlainWordsMoved}
-use Rattle.saphyr_scalar.specs.Steps.Quoted.{mid_line}
+use Rattle.saphyr_scalar.specs.Steps.Quoted.{mid_line, WordsMoved}
 use Rattle.saphyr_scalar.specs.Steps.Sets.{in_plain, leads_plain, joins_plain, begins_any_plain}
 use Rattle.saphyr_scalar.proofs.Plain.Pieces.{word_over, word_on, no_text, text_twice}
 use Rattle.saphyr_scalar.proofs.Plain.Words.{word_left}
@@ -174,20 +174,22 @@ in_word_goes f xs h =
         → ((not a && not b && not e && not g) || (k || (x && a))) ≡ true
     all a b e g x k h = grind arith
 
-pub words_moved : (f : Bool) (text grown : List ℕ) (n : ℕ) (s : Cursor) (left : List ℕ) (m : Marker)
-    → TransfersWords (in_plain f) (joins_plain f) n s.rest left text grown → m ≡ along s.mark n
-    → PlainWordsMoved f text grown s (mid_line m left)
-words_moved f text grown n s left m t place =
+pub words_moved : (f : Bool) (text grown : List ℕ) (s t : Cursor)
+    → WordsMoved (in_plain f) (joins_plain f) text grown s t → PlainWordsMoved f text grown s t
+words_moved f text grown s t w =
     let p = in_plain f in
     let q = joins_plain f in
-    let stop : goes_on p q left ≡ false = rw (t.transfers.taken, t.count) (words_stop p q s.rest refl) in
+    let taken = w.words.transfers.taken in
+    let stop : goes_on p q t.rest ≡ false = rw (taken, w.words.count) (words_stop p q s.rest refl) in
     record {
-      same = λ i a. rw place (words_behind p q with_text (word f i a)
-          (record { none = no_text; twice = text_twice; passes = word_passed f i a }) n s.mark s.rest left text grown t);
-      on_line = refl;
-      stops = false_from_ne_true (is_in_word f left) (λ goes. clash (goes_on p q left) (in_word_goes f left goes) stop);
+      same = λ i a. rw w.place (words_behind p q with_text (word f i a)
+          (record { none = no_text; twice = text_twice; passes = word_passed f i a }) w.count s.mark s.rest t.rest text
+          grown w.words);
+      on_line = w.line;
+      stops = false_from_ne_true (is_in_word f t.rest)
+          (λ goes. clash (goes_on p q t.rest) (in_word_goes f t.rest goes) stop);
       shorter = λ goes. (let some = word_left f s.rest goes in
           let more = words_some p q s.rest some (in_word_goes f s.rest goes) in
-          rw (t.transfers.taken, length-drop) (omega (arith, t.count, more, some)));
-      within = rw (t.transfers.taken, length-drop) (omega arith);
+          rw (taken, length-drop) (omega (arith, w.words.count, more, some)));
+      within = rw (taken, length-drop) (omega arith);
     }

@@ -4,13 +4,13 @@ use Rattle.std.specs.Prelude.{◌&&◌, ◌==◌, encode_utf8}
 use Rattle.std.proofs.lemmas.Bool.Decides.{nat_tests}
 use Rattle.std.proofs.lemmas.Bool.{not-true}
 use Rattle.saphyr_input.specs.Classes.{is_blank_or_breakz}
-use Rattle.saphyr_input.specs.Places.{goes_on, TransfersWords}
+use Rattle.saphyr_input.specs.Places.{goes_on}
 use Rattle.saphyr_input.proofs.WordRuns.{words_stop}
 use Rattle.saphyr_input.proofs.Basics.Booleans.{either, or_false_left}
 use Rattle.saphyr_scalar.specs.declared.scalar.position.Marker.{Marker}
 use Rattle.saphyr_scalar.specs.declared.values.Quote.{Quote}
 use Rattle.saphyr_scalar.specs.Views.Cursor.{Cursor, along}
-use Rattle.saphyr_scalar.specs.Steps.Quoted.{is_literal, with_front, mid_line, no_gap, inner_text, QuotedWordsMoved}
+use Rattle.saphyr_scalar.specs.Steps.Quoted.{is_literal, with_front, no_gap, inner_text, WordsMoved, QuotedWordsMoved}
 use Rattle.saphyr_scalar.specs.Steps.Sets.{is_content, joins_quoted}
 use Rattle.saphyr_scalar.proofs.Quoted.Inside.{front_twice, no_front, content_of, stands, one_blank, flushed}
 use Rattle.saphyr_scalar.proofs.TakenWords.{words_behind}
@@ -41,16 +41,17 @@ none_at_end : (q : Quote) → goes_on (is_literal q) joins_quoted [] ≡ false
 unfolding is_literal
 none_at_end q = refl
 
-pub words_moved : (q : Quote) (text grown : List ℕ) (n : ℕ) (s : Cursor) (left : List ℕ) (m : Marker)
-    → TransfersWords (is_literal q) joins_quoted n s.rest left text grown → m ≡ along s.mark n
-    → QuotedWordsMoved q text grown s (mid_line m left)
-words_moved q text grown n s left m t place =
+pub words_moved : (q : Quote) (text grown : List ℕ) (s t : Cursor)
+    → WordsMoved (is_literal q) joins_quoted text grown s t → QuotedWordsMoved q text grown s t
+words_moved q text grown s t w =
     let p = is_literal q in
+    let left = t.rest in
     record {
-      same = λ indent start. rw place (words_behind p joins_quoted with_front (inner_text q indent start no_gap 0)
-          (record { none = no_front; twice = front_twice; passes = word_passed q indent start }) n s.mark s.rest left text
-          grown t);
+      same = λ indent start. rw w.place
+          (words_behind p joins_quoted with_front (inner_text q indent start no_gap 0)
+          (record { none = no_front; twice = front_twice; passes = word_passed q indent start }) w.count s.mark s.rest left
+          text grown w.words);
       stops = or_false_left (p (slice_index left 0)) (joins_quoted (slice_index left 0) (slice_index left 1))
-          (rw (t.transfers.taken, t.count) (words_stop p joins_quoted s.rest (none_at_end q)));
-      shorter = rw (t.transfers.taken, length-drop) (omega arith);
+          (rw (w.words.transfers.taken, w.words.count) (words_stop p joins_quoted s.rest (none_at_end q)));
+      shorter = rw (w.words.transfers.taken, length-drop) (omega arith);
     }

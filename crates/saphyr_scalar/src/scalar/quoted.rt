@@ -62,7 +62,7 @@ impl<T: Input> Reader<T> {
         Ok(text)
     }
 
-    // The same of a double quoted scalar.
+    // What is left of a double quoted scalar.
     #[inline(never)]
     fn read_double_rest(
         &mut self,
@@ -76,7 +76,7 @@ impl<T: Input> Reader<T> {
         self.read_quoted_parts(Quote::Double, indent, start, text)
     }
 
-    // The same of a single quoted scalar.
+    // What is left of a single quoted scalar.
     #[inline(never)]
     fn read_single_rest(
         &mut self,
@@ -90,7 +90,8 @@ impl<T: Input> Reader<T> {
         self.read_quoted_parts(Quote::Single, indent, start, text)
     }
 
-    // The same of either kind. Each has a loop of its own, which doesn't ask again and again which kind it is.
+    // What is left of a scalar of either kind. Each has a loop of its own, which doesn't ask again and again which kind
+    // it is.
     #[inline(always)]
     fn read_quoted_rest(
         &mut self,
@@ -148,7 +149,7 @@ impl<T: Input> Reader<T> {
         Ok(text)
     }
 
-    // The same, with its text put behind another.
+    // Takes off a quoted scalar as well, and puts its text behind another.
     #[inline(always)]
     fn read_behind(
         &mut self,
@@ -181,7 +182,7 @@ impl<T: Input> Reader<T> {
         self.read_quoted(alloc, Quote::Double, indent)
     }
 
-    // The same of a double quoted scalar.
+    // Puts the text of a double quoted scalar behind another.
     #[inline(never)]
     fn read_double_behind(
         &mut self,
@@ -197,7 +198,7 @@ impl<T: Input> Reader<T> {
         self.read_behind(alloc, Quote::Double, indent, text)
     }
 
-    // The same of a single quoted scalar.
+    // Puts the text of a single quoted scalar behind another.
     #[inline(never)]
     fn read_single_behind(
         &mut self,

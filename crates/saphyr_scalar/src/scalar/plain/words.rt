@@ -3,7 +3,6 @@
 ghost use Rattle.std.specs.Prelude.{◌≡◌, ℕ, ◌<◌, ◌≤◌, ◌&&◌, ◌||◌, not, slice_index, string_bytes, IfOk, IsTrue, OnOk, false, true, refl};
 ghost use Rattle.saphyr_input.specs.Classes as class;
 ghost use Rattle.saphyr_input.specs.Fronts.{StandsFor, ascii_in};
-ghost use Rattle.saphyr_input.specs.Places.{TransfersWords};
 ghost use Rattle.saphyr_scalar.specs.Steps.Plain as spec;
 ghost use Rattle.saphyr_scalar.specs.Steps.Sets as sets;
 
@@ -93,7 +92,7 @@ impl WordSet for PlainOutside {
     }
 }
 
-// The same inside flow.
+// The characters, without the colon, with which a word of a plain scalar inside flow always goes on.
 pub(crate) struct PlainInFlow;
 
 impl CharSet for PlainInFlow {
@@ -180,28 +179,6 @@ impl<T: Input> Reader<T> {
         is_ink_in_word(c, in_flow)
     }
 
-    // Moves words, and single spaces between them, to the end of a text, and returns how many characters, and the
-    // one that comes next. The place stays.
-    #[inline(always)]
-    fn fetch_plain_words(
-        &mut self,
-        in_flow: bool,
-        text: &mut String,
-    ) -> Result<(usize, char), AllocError>
-        ensures words { IfOk result (λ moved. TransfersWords (sets.in_plain in_flow)
-            (sets.joins_plain in_flow) moved.0 (cursor_of self.old).rest (cursor_of self.new).rest
-            (string_bytes text.old) (string_bytes text.new)) }
-        ensures next { IfOk result (λ moved. moved.1 ≡ slice_index (cursor_of self.new).rest 0) }
-        ensures mark { (cursor_of self.new).mark ≡ (cursor_of self.old).mark }
-        ensures loaded { 1 ≤ loaded self.new }
-    {
-        if in_flow {
-            self.input.fetch_words::<PlainInFlow>(text)
-        } else {
-            self.input.fetch_words::<PlainOutside>(text)
-        }
-    }
-
     // Moves the rest of a word to the end of a text, and the words after it, each with a single space
     // before it. Returns the character at which they end.
     #[inline(always)]
@@ -215,9 +192,10 @@ impl<T: Input> Reader<T> {
         ensures end { IfOk result (λ c. c ≡ slice_index (cursor_of self.new).rest 0) }
         ensures loaded { OnOk result (1 ≤ loaded self.new) }
     {
-        let (count, c) = self.fetch_plain_words(in_flow, text)?;
-        self.mark = self.mark.along(count);
-        self.blank_so_far = false;
-        Ok(c)
+        if in_flow {
+            self.move_words::<PlainInFlow>(text)
+        } else {
+            self.move_words::<PlainOutside>(text)
+        }
     }
 }

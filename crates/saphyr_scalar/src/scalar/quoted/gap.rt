@@ -121,8 +121,8 @@ impl<T: Input> Reader<T> {
         Ok(self.look())
     }
 
-    // The same. Mostly there is no empty line: then spaces are all that is taken off, and a look at one character tells
-    // that the scalar goes on.
+    // Takes off the lines after a break, which mostly are none: then spaces are all that is taken off, and a look at one
+    // character tells that the scalar goes on.
     #[inline(always)]
     fn read_quoted_lines(
         &mut self,
@@ -177,7 +177,7 @@ impl<T: Input> Reader<T> {
         self.read_quoted_lines(true, indent, start, text)
     }
 
-    // The same of blanks on a line, and of a NUL.
+    // Takes off blanks on a line, and a break behind them with what follows it. Refuses a NUL.
     #[inline(always)]
     fn read_blank_gap(
         &mut self,

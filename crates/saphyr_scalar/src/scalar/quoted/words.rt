@@ -3,7 +3,6 @@
 
 ghost use Rattle.std.specs.Prelude.{◌≡◌, ℕ, ◌<◌, ◌≤◌, false, slice_index, string_bytes, IfNone, IfOk, None, Ok, OnOk, IsTrue, ◌==◌, refl};
 ghost use Rattle.saphyr_input.specs.Fronts.{StandsFor};
-ghost use Rattle.saphyr_input.specs.Places.{TransfersWords};
 ghost use Rattle.saphyr_scalar.specs.Steps.Quoted as spec;
 ghost use Rattle.saphyr_scalar.specs.Steps.Sets as sets;
 ghost use Rattle.saphyr_scalar.specs.Views.Cursor.{Cursor};
@@ -125,27 +124,6 @@ impl WordSet for InDouble {
 impl<T: Input> Reader<T> {
     ghost use Rattle.saphyr_scalar.specs.Views.Reader.{cursor_of, loaded, GivesBy, ReadsOn, IsNoLonger};
 
-    // Moves words, and single spaces between them, to the end of a text, and returns how many
-    // characters, and the one that comes next. The place stays.
-    #[inline(always)]
-    fn fetch_literal_words(
-        &mut self,
-        quote: Quote,
-        text: &mut String,
-    ) -> Result<(usize, char), AllocError>
-        ensures words { IfOk result (λ moved. TransfersWords (spec.is_literal quote)
-            sets.joins_quoted moved.0 (cursor_of self.old).rest (cursor_of self.new).rest
-            (string_bytes text.old) (string_bytes text.new)) }
-        ensures next { IfOk result (λ moved. moved.1 ≡ slice_index (cursor_of self.new).rest 0) }
-        ensures mark { (cursor_of self.new).mark ≡ (cursor_of self.old).mark }
-        ensures loaded { 1 ≤ loaded self.new }
-    {
-        match quote {
-            Quote::Single => self.input.fetch_words::<InSingle>(text),
-            Quote::Double => self.input.fetch_words::<InDouble>(text),
-        }
-    }
-
     // Moves words, and single spaces between them, to the end of a text: up to what does not stand
     // for itself. Returns the character that comes next.
     #[inline(always)]
@@ -160,10 +138,10 @@ impl<T: Input> Reader<T> {
         ensures next { IfOk result (λ c. c ≡ slice_index (cursor_of self.new).rest 0) }
         ensures loaded { 1 ≤ loaded self.new }
     {
-        let (count, c) = self.fetch_literal_words(quote, text)?;
-        self.mark = self.mark.along(count);
-        self.blank_so_far = false;
-        Ok(c)
+        match quote {
+            Quote::Single => self.move_words::<InSingle>(text),
+            Quote::Double => self.move_words::<InDouble>(text),
+        }
     }
 
     // Moves such words after an escape or a gap, and returns the character that comes next. `c` is the first one. After
