@@ -8,10 +8,9 @@ use Rattle.std.proofs.lemmas.List.{append-nil, get_or_append_left, take-append-d
 use Rattle.std.proofs.lemmas.List.Sums.{prefix_len-le-length, prefix_len_passes, prefix_len_stops}
 use Rattle.std.proofs.lemmas.Str.{chars-nil, chars-append, chars-IsAscii, IsUtf8-from_ascii, IsUtf8-drop, IsCharBoundary-start, IsCharBoundary-after_ascii, byte_from_char, char_from_byte, chars_from_encodes, length-encode, len_utf8_bounds}
 use Rattle.std.proofs.lemmas.Str.Ascii.{IsAscii-from_reads}
-use Rattle.std.specs.Prelude.{nat_lt, not, Option, Some, None, if◌then◌else◌}
+use Rattle.std.specs.Prelude.{nat_lt, not}
 use Rattle.std.proofs.lemmas.Bool.{false≢true}
 use Rattle.saphyr_input.specs.Fronts.{ascii_in, IsAsciiClass, StandsFor, IsFirstByte, is_marker}
-use Rattle.saphyr_input.specs.Places.{ascii_behind, is_ascii_but_nul}
 use Rattle.saphyr_input.specs.Classes.{is_blank_or_breakz, is_yaml_non_break, is_yaml_non_space}
 use Rattle.saphyr_input.proofs.Basics.Booleans.{and_true_left, and_true_right}
 
@@ -233,35 +232,6 @@ same_marker mark bs u l some =
     (λ t. test_at p bs 2 mark u a l some (two_marks bs mark t)))
     (λ t. test_at is_blank_or_breakz bs 3 mark u b l some (three_marks bs mark t))
 
--- the same character behind another, in the bytes and in the characters
-
-if_same : (a b : Bool) (x y : ℕ) → a ≡ b → (a ≡ true → x ≡ y)
-    → ◌≡◌ {A = Option ℕ} (if a then Some x else None) (if b then Some y else None)
-if_same true b x y e h = rw (← e, h refl) refl
-if_same false b x y e h = rw (← e) refl
-
-pub same_behind : (first : ℕ) (bs : List ℕ) → IsUtf8 bs → first < 128 → 0 < first
-    → ascii_behind bs first ≡ ascii_behind (chars bs) first
-same_behind first bs u l some =
-    let p : ℕ → Bool = λ x. x == first in
-    let a : IsAsciiClass p = λ c h. grind (arith, nat_tests) in
-    let b : IsAsciiClass is_ascii_but_nul = λ c h. grind (arith, nat_tests) in
-    if_same _ _ _ _
-    (and_same _ _ _ _
-    (test_at p bs 0 first u a l some (λ k lt. absurd (omega (arith, lt))))
-    (λ t. test_at is_ascii_but_nul bs 1 first u b l some (one_mark bs first t)))
-    (λ t. same_second (and_true_left _ _ t) (and_true_right (get_or bs 0 0 == first) _ t))
-  where
-    same_second : (get_or bs 0 0 == first) ≡ true → is_ascii_but_nul (get_or bs 1 0) ≡ true
-        → get_or bs 1 0 ≡ get_or (chars bs) 1 0
-    same_second t h =
-        let small : get_or bs 1 0 < 128 = grind (arith, nat_tests) in
-        let q : ℕ → Bool = λ x. x == get_or bs 1 0 in
-        let d : IsAsciiClass q = λ c h. grind (arith, nat_tests) in
-        let same : (get_or bs 1 0 == get_or bs 1 0) ≡ (get_or (chars bs) 1 0 == get_or bs 1 0) =
-        test_at q bs 1 first u d l some (one_mark bs first t) in
-        grind (arith, nat_tests)
-
 -- two ASCII characters come first
 
 small_byte : (b c : ℕ) → StandsFor b c → c < 128 → b < 128
@@ -272,7 +242,7 @@ bytes_left : (bs : List ℕ) → 0 < length (chars bs) → 0 < length bs
 bytes_left [] h = absurd (omega (arith, h, ap length chars-nil))
 bytes_left (b ∷ bs) h = omega arith
 
-first_one : (bs : List ℕ) → get_or bs 0 0 < 128 → (k : ℕ) → k < 1 → get_or bs k 0 < 128
+pub first_one : (bs : List ℕ) → get_or bs 0 0 < 128 → (k : ℕ) → k < 1 → get_or bs k 0 < 128
 first_one bs a zero l = a
 first_one bs a (suc k) l = absurd (omega arith)
 
@@ -308,7 +278,7 @@ second : (a b : Bool) → (a && b) ≡ false → a ≡ true → b ≡ false
 second true b h e = h
 second false b h e = absurd (cc)
 
-not_in : (p : ℕ → Bool) (b c : ℕ) → StandsFor b c → ascii_in p b ≡ false → b < 128 → p c ≡ false
+pub not_in : (p : ℕ → Bool) (b c : ℕ) → StandsFor b c → ascii_in p b ≡ false → b < 128 → p c ≡ false
 not_in p b c (inl same) h less =
     let ascii : nat_lt b 128 ≡ true = grind (arith, nat_tests) in ap p (sym same) ∙ second (nat_lt b 128) (p b) h ascii
 not_in p b c (inr wide) h less = absurd (omega (arith, wide.0, less))
@@ -367,16 +337,3 @@ wide_non_break b c wide other first =
 pub wide_non_space : (b c : ℕ) → 128 ≤ b → not (b == 239) ≡ true → IsFirstByte b c → is_yaml_non_space c ≡ true
 wide_non_space b c wide other first =
     let high : 128 ≤ c = wide_first b c wide first in rw (no_mark b c other first) (grind (arith, nat_tests))
-
--- where the first byte is no ASCII character of a class, so is the first character, if it is ASCII
-pub ascii_stops : (p : ℕ → Bool) (bs : List ℕ) (b : ℕ) → IsUtf8 bs → b ≡ get_or bs 0 0
-    → ascii_in p (get_or bs 0 0) ≡ false → b < 128 → (b ≡ get_or (chars bs) 0 0) × (p b ≡ false)
-ascii_stops p bs b u e h l = elim (first_stands bs u) [
-  | inl same ↦ (e ∙ same, fails e h)
-  | inr wide ↦ absurd (omega (arith, e, l, wide.0))
-]
-  where
-    fails : b ≡ get_or bs 0 0 → ascii_in p (get_or bs 0 0) ≡ false → p b ≡ false
-    fails is f =
-        let f' : ascii_in p b ≡ false = ap (ascii_in p) is ∙ f in
-        grind (arith, nat_tests)

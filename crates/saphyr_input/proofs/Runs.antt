@@ -42,15 +42,12 @@ pub ran_all : (p : ℕ → Bool) (start now : List ℕ) (n : ℕ) → p (get_or 
     → n ≡ prefix_len p start
 ran_all p start now n h r = omega (arith, run_stops p now h, r.run)
 
--- the text grows by each character of the run
-pub text_more : (p : ℕ → Bool) (start now text grown pushed : List ℕ) (n : ℕ) → p 0 ≡ false → p (get_or now 0 0) ≡ true
-    → Ran p start now n
+-- the text grows by each character that is taken off
+pub text_on : (start now text grown pushed : List ℕ) (n : ℕ) → now ≡ drop n start → n < length start
     → grown ≡ text ++ encode_utf8_all (take n start) → pushed ≡ grown ++ encode_utf8 (get_or now 0 0)
     → pushed ≡ text ++ encode_utf8_all (take (n + 1) start)
-text_more p start now text grown pushed n z h r e f =
-    let one = goes p now z h in
-    let lt : n < length start = omega (arith, one.total, r.total) in
-    let same : get_or now 0 0 ≡ get_or start n 0 = ap (λ (xs : List ℕ). get_or xs 0 0) r.left ∙ get_or-drop n start 0 0
+text_on start now text grown pushed n left lt e f =
+    let same : get_or now 0 0 ≡ get_or start n 0 = ap (λ (xs : List ℕ). get_or xs 0 0) left ∙ get_or-drop n start 0 0
     ∙ ap (λ (i : ℕ). get_or start i 0) (add-zero n) in
     let more : take (n + 1) start ≡ take n start ++ (get_or now 0 0 ∷ []) =
     rw (add-one, same) (take-suc start n 0 lt) in
@@ -80,9 +77,8 @@ pub runs_text : (p : ℕ → Bool) (start now text grown pushed : List ℕ) (n c
     → grown ≡ text ++ encode_utf8_all (take n start) → pushed ≡ grown ++ encode_utf8 c
     → pushed ≡ text ++ encode_utf8_all (take (n + 1) start)
 runs_text p start now text grown pushed n c loaded z h r e f =
-    let here : p (get_or now 0 0) ≡ true = rw (← r.read) h in
-    let same : pushed ≡ grown ++ encode_utf8 (get_or now 0 0) = rw (← r.read) f in
-    text_more p start now text grown pushed n z here r.ran e same
+    let one = goes p now z (rw (← r.read) h) in
+    text_on start now text grown pushed n r.ran.left (omega (arith, one.total, r.ran.total)) e (rw (← r.read) f)
 
 -- where the loop ends, the run was moved to the text
 pub transfers_all : (p : ℕ → Bool) (start now text grown : List ℕ) (n c loaded : ℕ) → p c ≡ false

@@ -73,11 +73,3 @@ ran_wide p start now mid last n w k a b c d e f = record {
   run = omega (arith, a, c, e);
   behind = f ∙ ap (drop k) d ∙ drop-drop k w now ∙ ap (drop (w + k)) b ∙ drop-drop (w + k) n start;
 }
-
--- n characters of a run were passed, and then one more
-pub ran_one : (p : ℕ → Bool) (start now next : List ℕ) (n : ℕ) → n + prefix_len p now ≡ prefix_len p start
-    → now ≡ drop n start → prefix_len p now ≡ 1 + prefix_len p next → next ≡ drop 1 now → Ran p start next (n + 1)
-ran_one p start now next n a b c d = record {
-  run = omega (arith, a, c);
-  behind = d ∙ ap (drop 1) b ∙ drop-drop 1 n start;
-}

@@ -1,20 +1,12 @@
 -- What the calls of an input answer and take, over the list of its remaining characters.
 -- Past the end of the list every place reads as NUL, as `slice_index` does.
-use Rattle.std.specs.Prelude.{◌≡◌, ℕ, ◌+◌, ◌≤◌, min, Bool, false, ◌||◌, ◌&&◌, ◌==◌, not, nat_lt, Option, Some, None, List, [], ◌∷◌, ◌++◌, take, drop, slice_index, if◌then◌else◌, encode_utf8_all}
+use Rattle.std.specs.Prelude.{◌≡◌, ℕ, ◌+◌, ◌≤◌, min, Bool, ◌||◌, ◌&&◌, ◌==◌, not, List, [], ◌∷◌, ◌++◌, take, drop, slice_index, if◌then◌else◌, encode_utf8_all}
 use Rattle.std.specs.List.{prefix_len}
 use Rattle.saphyr_input.specs.Classes.{is_blank, is_break, is_blank_or_breakz, is_flow, byte_order_mark, space}
 use Rattle.saphyr_input.specs.Indicators.{colon, full_stop, hyphen}
 
-abbrev pub is_ascii_but_nul : ℕ → Bool
-is_ascii_but_nul c = nat_lt 0 c && nat_lt c 128
-
 abbrev pub next_2_are : List ℕ → ℕ → ℕ → Bool
 next_2_are xs a b = (slice_index xs 0 == a) && (slice_index xs 1 == b)
-
--- the character at place 1, where this one is at place 0, and that one is ASCII and not NUL
-abbrev pub ascii_behind : List ℕ → ℕ → Option ℕ
-ascii_behind xs first =
-    if (slice_index xs 0 == first) && is_ascii_but_nul (slice_index xs 1) then Some (slice_index xs 1) else None
 
 abbrev pub next_3_are : List ℕ → ℕ → ℕ → ℕ → Bool
 next_3_are xs a b c = (slice_index xs 0 == a) && (slice_index xs 1 == b) && (slice_index xs 2 == c)
@@ -51,26 +43,24 @@ pub record TransfersRun (p : ℕ → Bool) (n : ℕ) (before after text grown : 
   pub count : n ≡ prefix_len p before
   pub transfers : Transfers n before after text grown
 
--- a beginning of the longest run of p was taken off and appended
-pub record TransfersPart (p : ℕ → Bool) (before after text grown : List ℕ) : Type 0 where
+-- a beginning of at most so many characters was taken off and appended
+pub record TransfersPart (most : ℕ) (before after text grown : List ℕ) : Type 0 where
   pub count : ℕ
-  pub within : count ≤ prefix_len p before
+  pub within : count ≤ most
   pub transfers : Transfers count before after text grown
 
--- How many characters come first that are of a set, or are single spaces before a character of a second set.
-unfoldable pub words_len : (ℕ → Bool) → (ℕ → Bool) → List ℕ → ℕ
+-- words go on with the first character: it is of a set, or joins a run of it to what follows
+abbrev pub goes_on : (ℕ → Bool) → (ℕ → ℕ → Bool) → List ℕ → Bool
+goes_on p q xs = p (slice_index xs 0) || q (slice_index xs 0) (slice_index xs 1)
+
+-- how many characters come first with which words go on
+unfoldable pub words_len : (ℕ → Bool) → (ℕ → ℕ → Bool) → List ℕ → ℕ
 words_len p q [] = 0
-words_len p q (c ∷ cs) = if p c || ((c == space) && q (slice_index cs 0)) then 1 + words_len p q cs else 0
+words_len p q (c ∷ cs) = if goes_on p q (c ∷ cs) then 1 + words_len p q cs else 0
 
--- such a beginning was taken off and appended: n characters, up to one that is not of the first set
-pub record TransfersWords (p q : ℕ → Bool) (n : ℕ) (before after text grown : List ℕ) : Type 0 where
-  pub within : n ≤ words_len p q before
-  pub stops : p (slice_index after 0) ≡ false
-  pub transfers : Transfers n before after text grown
-
--- such a beginning was taken off and appended: n characters, up to any place
-pub record TransfersFront (p q : ℕ → Bool) (n : ℕ) (before after text grown : List ℕ) : Type 0 where
-  pub within : n ≤ words_len p q before
+-- the longest beginning of words was taken off and appended, and n is its length
+pub record TransfersWords (p : ℕ → Bool) (q : ℕ → ℕ → Bool) (n : ℕ) (before after text grown : List ℕ) : Type 0 where
+  pub count : n ≡ words_len p q before
   pub transfers : Transfers n before after text grown
 
 -- how many spaces come first, but no more than `most`

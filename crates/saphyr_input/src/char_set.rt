@@ -1,5 +1,5 @@
 //! Sets of characters. An input takes off a run of such characters in one piece.
-ghost use Rattle.std.specs.Prelude.{◌≡◌, ℕ, ◌≤◌, Bool, false, IsTrue, refl};
+ghost use Rattle.std.specs.Prelude.{◌≡◌, ℕ, ◌<◌, ◌≤◌, ◌||◌, Bool, false, IsTrue, refl};
 ghost use Rattle.saphyr_input.specs.Classes as class;
 ghost use Rattle.saphyr_input.specs.Fronts as spec;
 
@@ -31,14 +31,36 @@ pub trait CharSet {
     ghost without_nul: { test 0 ≡ false };
 }
 
-/// A set whose runs may contain single spaces, each before some of its characters.
-pub trait SpacedSet: CharSet {
-    /// Whether a run goes on with the character after a space.
-    ghost lead: { ℕ → Bool };
+/// A set whose runs may be joined by other characters, by single spaces for example.
+pub trait WordSet: CharSet {
+    /// Whether the first of two characters, which is not of the set, joins a run to what begins with the second.
+    ghost joint: { ℕ → ℕ → Bool };
 
-    /// Whether a run goes on with each character whose UTF-8 begins with the byte.
-    fn leads(byte: u8) -> bool
-        ensures { IsTrue result → (c : ℕ) → spec.StandsFor byte c → IsTrue (lead c) };
+    /// Whether a character joins a run to what follows. Both are told by bytes that stand for them.
+    fn joins(byte: u8, next: u8) -> bool
+        ensures value { (c d : ℕ) → spec.StandsFor byte c → (byte < 128 → spec.StandsFor next d)
+            → result ≡ joint c d }
+        ensures ascii { IsTrue result → (0 < byte) × (byte < 128) };
+
+    /// Nothing is joined to the end, which reads as NUL.
+    ghost without_end: { (c : ℕ) → joint c 0 ≡ false };
+}
+
+// A byte that stands for the character.
+#[inline]
+fn byte_for(c: char) -> u8
+    ensures { spec.StandsFor result c }
+{
+    if c < '\u{80}' { c as u8 } else { 0x80 }
+}
+
+// Whether words go on with `c`, where `next` follows.
+#[inline]
+pub(crate) fn goes_on<C: WordSet>(c: char, next: char) -> bool
+    ensures value { result ≡ (C.CharSet.test c || C.joint c next) }
+    ensures some { IsTrue result → 0 < c }
+{
+    C::has(c) || C::joins(byte_for(c), byte_for(next))
 }
 
 /// White space: spaces and tabs.

@@ -8,8 +8,7 @@ mod buffered;
 mod cloning;
 pub(crate) mod str;
 
-use crate::char_set::{Alpha, CharSet, NonSpace, SpacedSet};
-use crate::char_traits::is_yaml_non_break;
+use crate::char_set::{Alpha, Blank, CharSet, NonBreak, NonSpace, WordSet, goes_on};
 pub use crate::char_traits::{
     is_alpha, is_blank, is_blank_or_breakz, is_break, is_breakz, is_digit, is_flow, is_z,
 };
@@ -104,20 +103,6 @@ pub trait Input {
     fn peek_opt(&self) -> Option<char>
         requires { 1 ≤ loaded self.now }
         ensures { result ≡ slice_get (rest self.now) 0 };
-
-    /// The second character, if the first place reads as `first`, and this one is ASCII and not NUL.
-    fn ascii_behind(&self, first: char) -> Option<char>
-        requires loaded { 2 ≤ loaded self.now }
-        requires ascii { (0 < first) × (first < 128) }
-        ensures { result ≡ spec.ascii_behind (rest self.now) first }
-    {
-        let second = self.peek_nth(1);
-        if self.next_char_is(first) && second > '\0' && second < '\u{80}' {
-            Some(second)
-        } else {
-            None
-        }
-    }
 
     /// Takes a character off that is ASCII.
     fn skip_ascii(&mut self)
@@ -342,14 +327,7 @@ pub trait Input {
         ensures rest { rest self.new ≡ drop result (rest self.old) }
         ensures loaded { 1 ≤ loaded self.new }
     {
-        let mut count = 0;
-        let mut c = self.look_ch();
-        while is_yaml_non_break(c) {
-            self.skip();
-            count += 1;
-            c = self.look_ch();
-        }
-        count
+        self.skip_while::<NonBreak>()
     }
 
     /// Takes blanks off. Returns how many.
@@ -358,9 +336,18 @@ pub trait Input {
         ensures rest { rest self.new ≡ drop result (rest self.old) }
         ensures loaded { 1 ≤ loaded self.new }
     {
+        self.skip_while::<Blank>()
+    }
+
+    /// Takes characters of a set off. Returns how many.
+    fn skip_while<C: CharSet>(&mut self) -> usize
+        ensures count { result ≡ prefix_len C.test (rest self.old) }
+        ensures rest { rest self.new ≡ drop result (rest self.old) }
+        ensures loaded { 1 ≤ loaded self.new }
+    {
         let mut count = 0;
         let mut c = self.look_ch();
-        while is_blank(c) {
+        while C::has(c) {
             self.skip();
             count += 1;
             c = self.look_ch();
@@ -374,8 +361,8 @@ pub trait Input {
     fn fetch_while_is_alpha(&mut self, out: &mut String) -> Result<usize, AllocError>
         ensures ok { IfOk result (λ n. spec.TransfersRun class.is_alpha n (rest self.old)
             (rest self.new) (string_bytes out.old) (string_bytes out.new)) }
-        ensures err { OnErr result (spec.TransfersPart class.is_alpha (rest self.old)
-            (rest self.new) (string_bytes out.old) (string_bytes out.new)) }
+        ensures err { OnErr result (spec.TransfersPart (prefix_len class.is_alpha (rest self.old))
+            (rest self.old) (rest self.new) (string_bytes out.old) (string_bytes out.new)) }
         ensures loaded { 1 ≤ loaded self.new }
     {
         self.fetch_while::<Alpha>(out)
@@ -388,8 +375,8 @@ pub trait Input {
     fn fetch_while_is_yaml_non_space(&mut self, out: &mut String) -> Result<usize, AllocError>
         ensures ok { IfOk result (λ n. spec.TransfersRun class.is_yaml_non_space n (rest self.old)
             (rest self.new) (string_bytes out.old) (string_bytes out.new)) }
-        ensures err { OnErr result (spec.TransfersPart class.is_yaml_non_space (rest self.old)
-            (rest self.new) (string_bytes out.old) (string_bytes out.new)) }
+        ensures err { OnErr result (spec.TransfersPart
+            (prefix_len class.is_yaml_non_space (rest self.old)) (rest self.old) (rest self.new) (string_bytes out.old) (string_bytes out.new)) }
         ensures loaded { 1 ≤ loaded self.new }
     {
         self.fetch_while::<NonSpace>(out)
@@ -401,8 +388,8 @@ pub trait Input {
     fn fetch_while<C: CharSet>(&mut self, out: &mut String) -> Result<usize, AllocError>
         ensures ok { IfOk result (λ n. spec.TransfersRun C.test n (rest self.old) (rest self.new)
             (string_bytes out.old) (string_bytes out.new)) }
-        ensures err { OnErr result (spec.TransfersPart C.test (rest self.old) (rest self.new)
-            (string_bytes out.old) (string_bytes out.new)) }
+        ensures err { OnErr result (spec.TransfersPart (prefix_len C.test (rest self.old)) (rest self.old)
+            (rest self.new) (string_bytes out.old) (string_bytes out.new)) }
         ensures loaded { 1 ≤ loaded self.new }
     {
         let mut count = 0;
@@ -416,33 +403,29 @@ pub trait Input {
         Ok(count)
     }
 
-    /// Moves characters of a set to the end of `out`, and single spaces among them before some of
-    /// the set's characters. Returns how many. It may stop at any space.
-    fn fetch_words<C: SpacedSet>(&mut self, out: &mut String) -> Result<usize, AllocError>
-        ensures ok { IfOk result (λ n. spec.TransfersWords C.CharSet.test C.lead n (rest self.old)
-            (rest self.new) (string_bytes out.old) (string_bytes out.new)) }
-        ensures err { OnErr result (spec.TransfersPart C.CharSet.test (rest self.old)
-            (rest self.new) (string_bytes out.old) (string_bytes out.new)) }
+    /// Moves characters of a set to the end of `out`, and those that join them. Returns how many, and what follows them.
+    ///
+    /// If `out` can't grow, exactly the characters that were appended have been taken off.
+    fn fetch_words<C: WordSet>(&mut self, out: &mut String) -> Result<(usize, char), AllocError>
+        ensures ok { IfOk result (λ moved. spec.TransfersWords C.CharSet.test C.joint moved.0
+            (rest self.old) (rest self.new) (string_bytes out.old) (string_bytes out.new)) }
+        ensures next { IfOk result (λ moved. moved.1 ≡ slice_index (rest self.new) 0) }
+        ensures err { OnErr result (spec.TransfersPart
+            (spec.words_len C.CharSet.test C.joint (rest self.old)) (rest self.old) (rest self.new)
+            (string_bytes out.old) (string_bytes out.new)) }
         ensures loaded { 1 ≤ loaded self.new }
     {
-        self.fetch_while::<C>(out)
-    }
-
-    /// Moves words to the end of `out` as `fetch_words` does. It may stop anywhere, and may move nothing. Returns how
-    /// many, and maybe the character behind them, which is not of the set: one that isn't ASCII tells nothing. If `out`
-    /// can't grow, nothing is moved.
-    fn fetch_front_words<C: SpacedSet>(
-        &mut self,
-        _out: &mut String,
-    ) -> Result<(usize, char), AllocError>
-        ensures ok { IfOk result (λ moved. spec.TransfersFront C.CharSet.test C.lead moved.0
-            (rest self.old) (rest self.new) (string_bytes _out.old) (string_bytes _out.new)) }
-        ensures next { IfOk result (λ moved. moved.1 < 128
-            → (moved.1 ≡ slice_index (rest self.new) 0) × (C.CharSet.test moved.1 ≡ false)) }
-        ensures err { OnErr result ((rest self.new ≡ rest self.old)
-            × (string_bytes _out.new ≡ string_bytes _out.old)) }
-    {
-        Ok((0, char::MAX))
+        let mut count = 0;
+        self.lookahead(2);
+        let mut c = self.peek();
+        while goes_on::<C>(c, self.peek_nth(1)) {
+            out.push(c)?;
+            self.skip();
+            count += 1;
+            self.lookahead(2);
+            c = self.peek();
+        }
+        Ok((count, c))
     }
 
     /// Takes spaces off, but no more than `most`. Returns how many.

@@ -6,6 +6,6 @@ pub mod char_traits;
 pub mod input;
 pub mod law;
 
-pub use char_set::{CharSet, NonBreak, SpacedSet};
+pub use char_set::{CharSet, NonBreak, WordSet};
 pub use input::str::StrInput;
 pub use input::{BufferedInput, CloneInput, FaithfulClone, Input, SkipTabs};

@@ -1,19 +1,18 @@
 -- What is taken off a text is no longer than the text.
 use Rattle.std.proofs.Common.{◌≡◌, ℕ, ◌+◌, ◌^◌, ◌<◌, ◌≤◌, Bool, true, false, List, [], ◌∷◌, length, drop, slice_index, ap, sym, ◌∙◌, arith}
-use Rattle.std.specs.Prelude.{◌&&◌, ◌==◌, Result, Ok, Err, IfOk, OnErr}
+use Rattle.std.specs.Prelude.{◌&&◌, ◌==◌}
 use Rattle.std.specs.List.{prefix_len}
 use Rattle.std.proofs.lemmas.List.{length-drop}
 use Rattle.std.proofs.lemmas.List.Sums.{prefix_len-le-length}
 use Rattle.std.proofs.lemmas.Bool.{false≢true}
 use Rattle.std.proofs.lemmas.Bool.Decides.{nat_tests}
 use Rattle.saphyr_input.specs.Classes.{is_yaml_non_break}
-use Rattle.saphyr_input.specs.Places.{next_2_are, words_len, TransfersWords, TransfersPart}
+use Rattle.saphyr_input.specs.Places.{next_2_are}
 use Rattle.saphyr_input.specs.Separation.{blank_len, comment_len, separation_len, is_skipped}
 use Rattle.saphyr_input.specs.declared.input.SkipTabs.{SkipTabs}
 use Rattle.saphyr_scalar.specs.declared.scalar.position.Marker.{Marker}
 use Rattle.saphyr_scalar.specs.Views.Cursor.{Cursor, along}
 use Rattle.saphyr_input.proofs.Basics.Booleans.{clash, and_false}
-use Rattle.saphyr_input.proofs.WordRuns.{words_within}
 
 -- a run is no longer than the text
 pub run_within : (p : ℕ → Bool) (xs : List ℕ) → prefix_len p xs ≤ length xs
@@ -84,21 +83,3 @@ within_separation tabs xs n is = rw is (separation_within tabs xs)
 -- where a part of a text was taken off, and memory ran out
 pub part_left : (xs now : List ℕ) (at n : ℕ) → at + length xs < 2 ^ 64 → now ≡ drop n xs → at + length now < 2 ^ 64
 part_left xs now at n fits left = rw (left, length-drop) (omega arith)
-
--- what remains where words were taken off, or memory ran out before
-pub words_fit : {E : Type 0} → (p q : ℕ → Bool) (xs now text grown : List ℕ) (r : Result ℕ E) (at : ℕ)
-    → IfOk r (λ n. TransfersWords p q n xs now text grown) → OnErr r (TransfersPart p xs now text grown)
-    → at + length xs < 2 ^ 64 → at + length now < 2 ^ 64
-words_fit p q xs now text grown (Ok n) at ok err fits = part_left xs now at n fits ok.transfers.taken
-words_fit p q xs now text grown (Err e) at ok err fits = part_left xs now at _ fits err.transfers.taken
-
--- words that are taken off in one piece
-
-pub words_place_fits : (p q : ℕ → Bool) (xs : List ℕ) (n : ℕ) (m t : Marker) → m.index + length xs < 2 ^ 64
-    → n ≤ words_len p q xs → t ≡ m → t.index + n < 2 ^ 64
-words_place_fits p q xs n m t fits within same = rw same (omega (arith, words_within p q xs))
-
-pub words_left : (p q : ℕ → Bool) (xs now : List ℕ) (n : ℕ) (m t u : Marker) → m.index + length xs < 2 ^ 64
-    → n ≤ words_len p q xs → now ≡ drop n xs → t ≡ m → u ≡ along t n → u.index + length now < 2 ^ 64
-words_left p q xs now n m t u fits within left same moved =
-    rw (moved, same, left, length-drop) (omega (arith, words_within p q xs))

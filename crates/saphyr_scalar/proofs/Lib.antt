@@ -23,3 +23,4 @@ pub mod Places
 pub mod Runs
 pub mod SpaceRuns
 pub mod Steps
+pub mod TakenWords

@@ -5,7 +5,6 @@ pub mod BehindGaps
 pub mod Lines
 pub mod Runs
 pub mod Pieces
-pub mod FrontWords
 pub mod SingleSpaces
 pub mod Words
 pub mod Spelled

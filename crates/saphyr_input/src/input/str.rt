@@ -7,15 +7,11 @@ mod text;
 mod wide;
 
 use self::text::{
-    ascii_behind, ascii_run, begins_with_2, behind, behind_ascii, behind_two_ascii, first_byte,
-    front_words, is_marker, nth_char, run, run_here, second_char, spaces, split_blanks,
-    split_first, third_char, words,
+    behind, behind_ascii, behind_two_ascii, first_byte, first_char, is_marker, nth_char, run,
+    run_here, second_char, spaces, split_blanks, split_first, third_char, words,
 };
-use crate::char_set::{Alpha, Blank, CharSet, NonBreak, NonSpace, SpacedSet};
-use crate::char_traits::{
-    is_alpha, is_blank, is_blank_or_breakz, is_break, is_breakz, is_digit, is_flow,
-    is_yaml_non_break, is_z,
-};
+use crate::char_set::{CharSet, NonBreak, WordSet};
+use crate::char_traits::{is_blank, is_yaml_non_break};
 use crate::input::{Input, SkipTabs};
 use std::alloc::AllocError;
 
@@ -53,17 +49,6 @@ impl<'a> StrInput<'a> {
         self.rest
     }
 
-    // Loads one place, unless one is loaded, as mostly: for speed nothing is written then.
-    #[inline(always)]
-    fn load_one(&mut self)
-        ensures rest { self.new.rest ≡ self.old.rest }
-        ensures loaded { self.new.loaded ≡ max 1 self.old.loaded }
-    {
-        if self.loaded == 0 {
-            self.loaded = 1;
-        }
-    }
-
     // Moves the first `count` characters to the end of `out`, in one piece. `rest` is what follows them.
     #[inline(always)]
     fn fetch(&mut self, count: usize, rest: &'a str, out: &mut String) -> Result<usize, AllocError>
@@ -81,28 +66,6 @@ impl<'a> StrInput<'a> {
         out.push_str(front)?;
         self.rest = rest;
         Ok(count)
-    }
-
-    // The same before a character that isn't ASCII, or nothing. A few characters are looked at once more for less than
-    // it costs to move them in two pieces. Returns how many were moved.
-    #[inline(never)]
-    fn fetch_before_wide(
-        &mut self,
-        count: usize,
-        rest: &'a str,
-        out: &mut String,
-    ) -> Result<usize, AllocError>
-        requires { chars rest.now ≡ drop count (chars self.old.rest.now) }
-        ensures ok { IfOk result (λ n. (n ≤ count)
-            × spec.Transfers n (chars self.old.rest.now) (chars self.new.rest.now)
-            (string_bytes out.old) (string_bytes out.new)) }
-        ensures err { OnErr result ((chars self.new.rest.now ≡ chars self.old.rest.now)
-            × (string_bytes out.new ≡ string_bytes out.old)) }
-    {
-        if count < 16 {
-            return Ok(0);
-        }
-        self.fetch(count, rest, out)
     }
 }
 
@@ -136,11 +99,6 @@ impl Input for StrInput<'_> {
     #[inline]
     fn bufmaxlen(&self) -> usize {
         WINDOW
-    }
-
-    #[inline]
-    fn buf_is_empty(&self) -> bool {
-        self.loaded == 0
     }
 
     #[inline]
@@ -192,11 +150,6 @@ impl Input for StrInput<'_> {
     }
 
     #[inline(always)]
-    fn ascii_behind(&self, first: char) -> Option<char> {
-        ascii_behind(self.rest, first)
-    }
-
-    #[inline(always)]
     fn skip_ascii(&mut self) {
         self.rest = behind_ascii(self.rest);
     }
@@ -204,33 +157,6 @@ impl Input for StrInput<'_> {
     #[inline(always)]
     fn skip_two_ascii(&mut self) {
         self.rest = behind_two_ascii(self.rest);
-    }
-
-    #[inline]
-    fn look_ch(&mut self) -> char {
-        self.lookahead(1);
-        self.peek()
-    }
-
-    #[inline]
-    fn next_char_is(&self, c: char) -> bool {
-        self.peek() == c
-    }
-
-    #[inline]
-    fn nth_char_is(&self, n: usize, c: char) -> bool {
-        self.peek_nth(n) == c
-    }
-
-    #[inline]
-    fn next_2_are(&self, c1: char, c2: char) -> bool {
-        begins_with_2(self.rest, c1, c2)
-    }
-
-    #[inline]
-    fn next_3_are(&self, c1: char, c2: char, c3: char) -> bool {
-        let (first, rest) = split_first(self.rest);
-        first == c1 && begins_with_2(rest, c2, c3)
     }
 
     #[inline]
@@ -253,7 +179,7 @@ impl Input for StrInput<'_> {
         // There are fewer than 2^64 bytes, and no more characters than bytes.
         let _ = self.rest.as_bytes();
         let (blanks, rest) = split_blanks(self.rest, skip_tabs);
-        self.load_one();
+        self.lookahead(1);
         let found = SkipTabs::Result(blanks.tabs, blanks.spaces);
         if first_byte(rest) != '#' {
             self.rest = rest;
@@ -269,116 +195,29 @@ impl Input for StrInput<'_> {
     }
 
     #[inline]
-    fn next_can_be_plain_scalar(&self, in_flow: bool) -> bool {
-        match self.peek() {
-            ':' => {
-                let next = self.peek_nth(1);
-                !(is_blank_or_breakz(next) || in_flow && is_flow(next))
-            }
-            '\u{FEFF}' => false,
-            c => !(in_flow && is_flow(c)),
-        }
-    }
-
-    #[inline]
-    fn next_is_blank_or_break(&self) -> bool {
-        let c = first_byte(self.rest);
-        is_blank(c) || is_break(c)
-    }
-
-    #[inline]
-    fn next_is_blank_or_breakz(&self) -> bool {
-        is_blank_or_breakz(first_byte(self.rest))
-    }
-
-    #[inline]
     fn next_is_blank(&self) -> bool {
         is_blank(first_byte(self.rest))
     }
 
-    #[inline]
-    fn next_is_break(&self) -> bool {
-        is_break(first_byte(self.rest))
-    }
-
-    #[inline]
-    fn next_is_breakz(&self) -> bool {
-        is_breakz(first_byte(self.rest))
-    }
-
-    #[inline]
-    fn next_is_z(&self) -> bool {
-        is_z(first_byte(self.rest))
-    }
-
-    #[inline]
-    fn next_is_flow(&self) -> bool {
-        is_flow(first_byte(self.rest))
-    }
-
-    #[inline]
-    fn next_is_digit(&self) -> bool {
-        is_digit(first_byte(self.rest))
-    }
-
-    #[inline]
-    fn next_is_alpha(&self) -> bool {
-        is_alpha(first_byte(self.rest))
-    }
-
-    fn skip_while_non_breakz(&mut self) -> usize {
-        self.load_one();
-        let (count, rest) = run::<NonBreak>(self.rest);
+    fn skip_while<C: CharSet>(&mut self) -> usize {
+        self.lookahead(1);
+        let (count, rest) = run::<C>(self.rest);
         self.rest = rest;
         count
-    }
-
-    #[inline]
-    fn skip_while_blank(&mut self) -> usize {
-        self.load_one();
-        let (count, rest) = ascii_run::<Blank>(self.rest);
-        self.rest = rest;
-        count
-    }
-
-    #[inline]
-    fn fetch_while_is_alpha(&mut self, out: &mut String) -> Result<usize, AllocError> {
-        self.load_one();
-        let (count, rest) = ascii_run::<Alpha>(self.rest);
-        self.fetch(count, rest, out)
-    }
-
-    fn fetch_while_is_yaml_non_space(&mut self, out: &mut String) -> Result<usize, AllocError> {
-        self.load_one();
-        let (count, rest) = run::<NonSpace>(self.rest);
-        self.fetch(count, rest, out)
     }
 
     fn fetch_while<C: CharSet>(&mut self, out: &mut String) -> Result<usize, AllocError> {
-        self.load_one();
+        self.lookahead(1);
         let (count, rest) = run_here::<C>(self.rest);
         self.fetch(count, rest, out)
     }
 
     #[inline(always)]
-    fn fetch_words<C: SpacedSet>(&mut self, out: &mut String) -> Result<usize, AllocError> {
-        self.load_one();
+    fn fetch_words<C: WordSet>(&mut self, out: &mut String) -> Result<(usize, char), AllocError> {
+        self.lookahead(1);
         let (count, rest) = words::<C>(self.rest);
-        self.fetch(count, rest, out)
-    }
-
-    #[inline(always)]
-    fn fetch_front_words<C: SpacedSet>(
-        &mut self,
-        out: &mut String,
-    ) -> Result<(usize, char), AllocError> {
-        let (count, rest, next) = front_words::<C>(self.rest);
-        let count = if next < '\u{80}' {
-            self.fetch(count, rest, out)?
-        } else {
-            self.fetch_before_wide(count, rest, out)?
-        };
-        Ok((count, next))
+        self.fetch(count, rest, out)?;
+        Ok((count, first_char(rest)))
     }
 
     #[inline(always)]

@@ -1,26 +1,27 @@
 -- Words of a plain scalar, and single spaces between them, taken off in one piece.
-use Rattle.std.proofs.Common.{◌≡◌, ℕ, zero, suc, ◌+◌, ◌^◌, ◌<◌, ◌≤◌, Bool, true, false, List, [], ◌∷◌, ◌++◌, length, length-drop, take, drop, slice_index, Result, Ok, refl, sym, ap, ◌∙◌, arith, encode_utf8_all, cond}
+use Rattle.std.proofs.Common.{◌≡◌, ℕ, ◌<◌, Bool, true, false, List, [], ◌∷◌, length-drop, slice_index, Result, Ok, refl, sym, ap, ◌∙◌, arith, cond}
 use Rattle.std.specs.Prelude.{◌&&◌, ◌||◌, ◌==◌, not, nat_lt, encode_utf8}
 use Rattle.std.specs.List.{prefix_len}
 use Rattle.std.proofs.lemmas.Bool.Decides.{nat_tests}
-use Rattle.std.proofs.lemmas.List.{append-nil, drop-drop}
-use Rattle.std.proofs.lemmas.Bool.{not-true}
+use Rattle.std.proofs.lemmas.List.{append-nil}
+use Rattle.std.proofs.lemmas.Bool.{not-true, false_from_ne_true}
 use Rattle.saphyr_input.specs.Indicators.{full_stop, hyphen, number_sign}
 use Rattle.saphyr_input.specs.Classes.{is_blank, is_break, is_bom, is_flow, is_blank_or_breakz}
-use Rattle.saphyr_input.specs.Places.{is_document_indicator, words_len, Transfers, TransfersWords}
-use Rattle.saphyr_input.proofs.WordRuns.{words_within}
+use Rattle.saphyr_input.specs.Fronts.{ascii_in}
+use Rattle.saphyr_input.specs.Places.{is_document_indicator, goes_on}
+use Rattle.saphyr_input.proofs.WordRuns.{words_some, words_stop}
 use Rattle.saphyr_scalar.specs.declared.scalar.position.Marker.{Marker}
 use Rattle.saphyr_scalar.specs.declared.scalar.fault.Refusal.{Refusal}
 use Rattle.saphyr_scalar.specs.Views.Cursor.{Cursor, along}
-use Rattle.saphyr_scalar.specs.Steps.Plain.{is_in_word, word_starts, next_word_starts, gap_from, gap, PlainGap, with_text, word, seen_gap}
-use Rattle.saphyr_scalar.specs.Steps.Quoted.{mid_line}
-use Rattle.saphyr_scalar.specs.Steps.Sets.{in_plain, leads_plain, begins_any_plain}
-use Rattle.saphyr_scalar.proofs.Moving.{along_none, along_more}
-use Rattle.saphyr_scalar.proofs.Plain.Pieces.{word_over, word_on, text_twice, WordPart, no_part, more_part}
+use Rattle.saphyr_scalar.specs.Steps.Plain.{is_in_word, word_starts, next_word_starts, gap_from, gap, PlainGap, with_text, word, seen_gap, PlainWordsMoved}
+use Rattle.saphyr_scalar.specs.Steps.Quoted.{mid_line, WordsMoved}
+use Rattle.saphyr_scalar.specs.Steps.Sets.{in_plain, leads_plain, joins_plain, begins_any_plain}
+use Rattle.saphyr_scalar.proofs.Plain.Pieces.{word_over, word_on, no_text, text_twice}
 use Rattle.saphyr_scalar.proofs.Plain.Words.{word_left}
 use Rattle.saphyr_scalar.proofs.Quoted.Inside.{Moved, IsQuotedInk, content_of}
 use Rattle.saphyr_scalar.proofs.Quoted.Words.{both_true}
-use Rattle.saphyr_input.proofs.Basics.Booleans.{and_false, by_test, either}
+use Rattle.saphyr_scalar.proofs.TakenWords.{words_behind}
+use Rattle.saphyr_input.proofs.Basics.Booleans.{and_false, by_test, clash, either}
 
 -- a character of the set goes on with a word
 pub set_in_word : (f : Bool) (xs : List ℕ) → in_plain f (slice_index xs 0) ≡ true → is_in_word f xs ≡ true
@@ -141,126 +142,54 @@ space_passed : (f : Bool) (i : ℕ) (a m : Marker) (cs : List ℕ) → LeadsWord
 space_passed f i a m cs s =
     cc (word_over f i a m (32 ∷ cs) (space_ends f cs), gap_is_space f i a m cs s, space_goes f i m cs s)
 
+colon_in_word : (f : Bool) (cs : List ℕ)
+    → is_in_word f (58 ∷ cs) ≡ not (is_blank_or_breakz (slice_index cs 0) || (f && is_flow (slice_index cs 0)))
+unfolding is_in_word
+colon_in_word f cs = refl
+
 word_passed : (f : Bool) (i : ℕ) (a m : Marker) (c : ℕ) (cs : List ℕ)
-    → (in_plain f c || ((c == 32) && leads_plain f (slice_index cs 0))) ≡ true → PassesCharacter f i a m c cs
+    → goes_on (in_plain f) (joins_plain f) (c ∷ cs) ≡ true → PassesCharacter f i a m c cs
 word_passed f i a m c cs h =
-    either (in_plain f c) ((c == 32) && leads_plain f (slice_index cs 0)) (PassesCharacter f i a m c cs) h
+    let d = slice_index cs 0 in
+    either (in_plain f c) (joins_plain f c d) (PassesCharacter f i a m c cs) h
     (λ is. word_on f i a m c cs (set_in_word f (c ∷ cs) is)) (λ is.
-    let space : c ≡ 32 = grind (arith, nat_tests) in
-    rw space (space_passed f i a m cs (leads f cs (both_true (c == 32) (leads_plain f (slice_index cs 0)) is).1)))
+    either (ascii_in (leads_plain f) d && (c == 32)) _ (PassesCharacter f i a m c cs) is (λ space.
+    let two = both_true (ascii_in (leads_plain f) d) (c == 32) space in
+    let same : c ≡ 32 = grind (arith, nat_tests) in
+    rw same (space_passed f i a m cs (leads f cs (both_true (nat_lt d 128) (leads_plain f d) two.0).1))) (λ colon.
+    let two = both_true (not (is_blank_or_breakz d || (f && is_flow d))) (c == 58) colon in
+    let same : c ≡ 58 = grind (arith, nat_tests) in
+    rw same (word_on f i a m 58 cs (colon_in_word f cs ∙ two.0))))
 
-pub piece_on : (f : Bool) (i : ℕ) (a m : Marker) (c : ℕ) (cs : List ℕ) (n : ℕ) → PassesCharacter f i a m c cs
-    → WordPart f i a (along m 1) cs n → WordPart f i a m (c ∷ cs) (suc n)
-piece_on f i a m c cs n h r =
-    cc (text_twice (encode_utf8 c) (encode_utf8_all (take n cs)) _, along_more m 1 n (suc n) (omega arith))
-
-pub words_piece : (f : Bool) (i : ℕ) (a m : Marker) (n : ℕ) (xs : List ℕ)
-    → n ≤ words_len (in_plain f) (leads_plain f) xs → WordPart f i a m xs n
-unfolding words_len
-words_piece f i a m zero xs l = no_part f i a m xs
-words_piece f i a m (suc n) [] l = absurd (omega (arith, l))
-words_piece f i a m (suc n) (c ∷ cs) l = by_test (in_plain f c || ((c == 32) && leads_plain f (slice_index cs 0)))
-    (1 + words_len (in_plain f) (leads_plain f) cs) 0 (λ k. suc n ≤ k → WordPart f i a m (c ∷ cs) (suc n))
-    (λ h less. piece_on f i a m c cs n (word_passed f i a m c cs h)
-    (words_piece f i a (along m 1) n cs (omega (arith, less)))) (λ _ less. absurd (omega (arith, less))) l
-
--- n characters of words at s were put after a text, and t is left, whose place is not told yet
-pub record WordsRan (f : Bool) (text grown : List ℕ) (s t : Cursor) (n : ℕ) : Type 0 where
-  pub same : (i : ℕ) (a : Marker)
-      → with_text grown (word f i a (along s.mark n) t.rest) ≡ with_text text (word f i a s.mark s.rest)
-  pub left : t.rest ≡ drop n s.rest
-  pub total : n + length t.rest ≡ length s.rest
-  pub mark : t.mark ≡ s.mark
-
-pub none_ran : (f : Bool) (text : List ℕ) (s : Cursor) → WordsRan f text text s s 0
-none_ran f text s = record {
-  same = λ i a. ap (λ x. with_text text (word f i a x s.rest)) (along_none s.mark);
-  left = refl;
-  total = omega arith;
-  mark = refl;
-}
-
--- a piece of k characters more
-pub piece_ran : (f : Bool) (text grown more : List ℕ) (s t u : Cursor) (n k : ℕ) → WordsRan f text grown s t n
-    → k ≤ length t.rest → ((i : ℕ) (a m : Marker) → WordPart f i a m t.rest k)
-    → Transfers k t.rest u.rest grown more → u.mark ≡ t.mark → WordsRan f text more s u (n + k)
-piece_ran f text grown more s t u n k r within part w place =
-    let on = λ (i : ℕ) (a : Marker). sym (ap (with_text grown) (part i a (along s.mark n))
-    ∙ text_twice grown (encode_utf8_all (take k t.rest)) _) in
-    record {
-      same = λ i a. rw (w.appended, w.taken)
-          (ap (λ x. with_text (grown ++ encode_utf8_all (take k t.rest)) (word f i a x (drop k t.rest)))
-          (sym (along_more s.mark n k (n + k) refl)) ∙ on i a ∙ r.same i a);
-      left = w.taken ∙ ap (drop k) r.left ∙ drop-drop k n s.rest;
-      total = rw (w.taken, length-drop) (omega (arith, r.total, within));
-      mark = place ∙ r.mark;
-    }
-
--- words of k characters more, up to a character that is of the set no longer
-pub words_ran : (f : Bool) (text grown more : List ℕ) (s t u : Cursor) (n k : ℕ) → WordsRan f text grown s t n
-    → TransfersWords (in_plain f) (leads_plain f) k t.rest u.rest grown more → u.mark ≡ t.mark
-    → WordsRan f text more s u (n + k)
-words_ran f text grown more s t u n k r w place =
-    let within : k ≤ length t.rest = omega (arith, w.within, words_within (in_plain f) (leads_plain f) t.rest) in
-    piece_ran f text grown more s t u n k r within (λ i a m. words_piece f i a m k t.rest w.within) w.transfers place
-
--- the same where the reader was looked at
-pub ran_seen : (f : Bool) (text grown : List ℕ) (s t v : Cursor) (n : ℕ) → v ≡ t → WordsRan f text grown s t n
-    → WordsRan f text grown s v n
-ran_seen f text grown s t v n same r = rw same r
-
--- one character more, with which a word goes on, where v looked at it
-pub character_ran : (f : Bool) (text grown more : List ℕ) (s t u v : Cursor) (n c : ℕ) → WordsRan f text grown s t n
-    → c ≡ slice_index t.rest 0 → is_in_word f t.rest ≡ true → v ≡ t → u.rest ≡ drop 1 v.rest → u.mark ≡ v.mark
-    → more ≡ grown ++ encode_utf8 c → WordsRan f text more s u (n + 1)
-character_ran f text grown more s t u v n c r read goes same taken place put =
-    piece_ran f text grown more s t u n 1 r (word_left f t.rest goes) (λ i a m. one_part f i a m t.rest goes)
-    (record {
-      taken = taken ∙ ap (λ (x : Cursor). drop 1 x.rest) same;
-      appended = put ∙ ap (λ xs. grown ++ xs) (first_bytes f t.rest c read goes);
-    }) (place ∙ ap (λ (x : Cursor). x.mark) same)
+-- where a word goes on, words do
+in_word_goes : (f : Bool) (xs : List ℕ) → is_in_word f xs ≡ true → goes_on (in_plain f) (joins_plain f) xs ≡ true
+unfolding is_in_word
+in_word_goes f xs h =
+    let c = slice_index xs 0 in
+    let d = slice_index xs 1 in
+    all (c == 58) (is_blank_or_breakz c) (is_bom c) (f && is_flow c)
+    (not (is_blank_or_breakz d || (f && is_flow d))) (ascii_in (leads_plain f) d && (c == 32)) h
   where
-    one_part : (f : Bool) (i : ℕ) (a m : Marker) (xs : List ℕ) → is_in_word f xs ≡ true → WordPart f i a m xs 1
-    one_part f i a m [] goes = absurd (omega (arith, word_left f [] goes))
-    one_part f i a m (d ∷ ds) goes = more_part f i a m d ds 0 goes (no_part f i a (along m 1) ds)
+    all : (a b e g x k : Bool) → (not b && cond a x (not (e || g))) ≡ true
+        → ((not a && not b && not e && not g) || (k || (x && a))) ≡ true
+    all a b e g x k h = grind arith
 
-    first_bytes : (f : Bool) (xs : List ℕ) (c : ℕ) → c ≡ slice_index xs 0 → is_in_word f xs ≡ true
-        → encode_utf8 c ≡ encode_utf8_all (take 1 xs)
-    first_bytes f [] c read goes = absurd (omega (arith, word_left f [] goes))
-    first_bytes f (d ∷ ds) c read goes = ap encode_utf8 read ∙ sym (append-nil (encode_utf8 d))
-
--- the same behind words that were taken off in one piece, after which u, v and w look at the character
-pub turn_ran : (f : Bool) (text grown middle more : List ℕ) (s t u v w x : Cursor) (n k c : ℕ)
-    → WordsRan f text grown s t n → TransfersWords (in_plain f) (leads_plain f) k t.rest u.rest grown middle
-    → u.mark ≡ t.mark → c ≡ slice_index u.rest 0 → v ≡ u → is_in_word f v.rest ≡ true → w ≡ v
-    → x.rest ≡ drop 1 w.rest → x.mark ≡ w.mark → more ≡ middle ++ encode_utf8 c
-    → WordsRan f text more s x (n + k + 1)
-turn_ran f text grown middle more s t u v w x n k c r words stays read seen goes same taken place put =
-    character_ran f text middle more s u x w (n + k) c (words_ran f text grown middle s t u n k r words stays) read
-    (ap (λ (y : Cursor). is_in_word f y.rest) (sym seen) ∙ goes) (same ∙ seen) taken place put
-
--- less is left of the text then
-pub ran_shorter : (f : Bool) (text grown middle : List ℕ) (s t v w : Cursor) (n k : ℕ) (after : List ℕ)
-    → WordsRan f text grown s t n → WordsRan f text middle s v (n + k) → is_in_word f v.rest ≡ true → w ≡ v
-    → after ≡ drop 1 w.rest → length after < length t.rest
-ran_shorter f text grown middle s t v w n k after before r goes same taken =
-    rw (taken, same, length-drop) (omega (arith, before.total, r.total, word_left f v.rest goes))
-
--- how many characters that is, the place after them and what is left
-
-pub ran_fits : (f : Bool) (text grown : List ℕ) (s t : Cursor) (n : ℕ) → WordsRan f text grown s t n
-    → s.mark.index + length s.rest < 2 ^ 64 → n < 2 ^ 64
-ran_fits f text grown s t n r fits = omega (arith, r.total, fits)
-
--- and one character more
-pub ran_more_fits : (f : Bool) (text grown : List ℕ) (s t : Cursor) (n : ℕ) → WordsRan f text grown s t n
-    → is_in_word f t.rest ≡ true → s.mark.index + length s.rest < 2 ^ 64 → n + 1 < 2 ^ 64
-ran_more_fits f text grown s t n r goes fits = omega (arith, r.total, word_left f t.rest goes, fits)
-
-pub ran_place_fits : (f : Bool) (text grown : List ℕ) (s t : Cursor) (n : ℕ) → WordsRan f text grown s t n
-    → s.mark.index + length s.rest < 2 ^ 64 → t.mark.index + n < 2 ^ 64
-ran_place_fits f text grown s t n r fits = omega (arith, r.total, fits, ap (λ (m : Marker). m.index) r.mark)
-
-pub ran_left : (f : Bool) (text grown : List ℕ) (s t : Cursor) (n : ℕ) (m : Marker) → WordsRan f text grown s t n
-    → s.mark.index + length s.rest < 2 ^ 64 → m ≡ along t.mark n → m.index + length t.rest < 2 ^ 64
-ran_left f text grown s t n m r fits moved = grind arith
+pub words_moved : (f : Bool) (text grown : List ℕ) (s t : Cursor)
+    → WordsMoved (in_plain f) (joins_plain f) text grown s t → PlainWordsMoved f text grown s t
+words_moved f text grown s t w =
+    let p = in_plain f in
+    let q = joins_plain f in
+    let taken = w.words.transfers.taken in
+    let stop : goes_on p q t.rest ≡ false = rw (taken, w.words.count) (words_stop p q s.rest refl) in
+    record {
+      same = λ i a. rw w.place (words_behind p q with_text (word f i a)
+          (record { none = no_text; twice = text_twice; passes = word_passed f i a }) w.count s.mark s.rest t.rest text
+          grown w.words);
+      on_line = w.line;
+      stops = false_from_ne_true (is_in_word f t.rest)
+          (λ goes. clash (goes_on p q t.rest) (in_word_goes f t.rest goes) stop);
+      shorter = λ goes. (let some = word_left f s.rest goes in
+          let more = words_some p q s.rest some (in_word_goes f s.rest goes) in
+          rw (taken, length-drop) (omega (arith, w.words.count, more, some)));
+      within = rw (taken, length-drop) (omega arith);
+    }

@@ -81,10 +81,14 @@ gap_at_quote q c e = let is : (c == flow.mark q) ≡ true = grind (arith, nat_te
 gap_elsewhere : (q : Quote) (c : ℕ) → (c ≡ flow.mark q → ⊥) → escaped_gap q c ≡ over_lines true 0
 gap_elsewhere q c e = let is : (c == flow.mark q) ≡ false = grind (arith, nat_tests) in rw is refl
 
--- only between double quotes breaks are escaped
-pub escaped_double : (q : Quote) (xs : List ℕ) → IsTrue (is_escaped_break q xs) → IsTrue (is_escaped_break Double xs)
-escaped_double Single xs h = absurd (cc)
-escaped_double Double xs h = h
+-- an escaped break is there
+pub escaped_left : (q : Quote) (xs : List ℕ) → IsTrue (is_escaped_break q xs) → 0 < length xs
+escaped_left q [] h = absurd (none_escaped q h)
+  where
+    none_escaped : (q : Quote) → IsTrue (is_escaped_break q []) → ⊥
+    none_escaped Single h = cc
+    none_escaped Double h = cc
+escaped_left q (c ∷ cs) h = omega arith
 
 -- an escaped break right before the closing quote, and elsewhere
 pub escaped_to_quote : (q : Quote) (indent : ℕ) (start : Marker) (text : List ℕ) (s t : Cursor)

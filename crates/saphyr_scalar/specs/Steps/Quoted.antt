@@ -2,7 +2,7 @@
 use Rattle.std.specs.Prelude.{ℕ, zero, suc, pred, ◌+◌, ◌*◌, Bool, true, false, ◌||◌, ◌&&◌, ◌==◌, not, nat_lt, List, [], ◌∷◌, ◌++◌, take, drop, length, ◌≤◌, slice_index, Option, Some, None, unwrap_or, Result, Ok, Err, ◌≡◌, if◌then◌else◌, encode_utf8, encode_utf8_all}
 use Rattle.std.specs.List.{prefix_len}
 use Rattle.saphyr_input.specs.Classes.{is_z, is_break, is_blank, is_blank_or_breakz, is_hex, hex_value, tab}
-use Rattle.saphyr_input.specs.Places.{next_2_are, is_document_indicator}
+use Rattle.saphyr_input.specs.Places.{next_2_are, is_document_indicator, TransfersWords}
 use Rattle.saphyr_input.specs.Indicators.{apostrophe, backslash}
 use Rattle.saphyr_scalar.specs.declared.scalar.position.Marker.{Marker}
 use Rattle.saphyr_scalar.specs.declared.scalar.fault.Refusal.{Refusal}
@@ -173,6 +173,13 @@ with_front_run p text s =
 -- the longest run of p is put after a text
 abbrev pub with_run : (ℕ → Bool) → List ℕ → Cursor → List ℕ × Cursor
 with_run p text s = (text ++ encode_utf8_all (take (prefix_len p s.rest) s.rest), pass (prefix_len p s.rest) s)
+
+-- words of the set p, which q joins, were put after a text: all that came first
+pub record WordsMoved (p : ℕ → Bool) (q : ℕ → ℕ → Bool) (text grown : List ℕ) (s t : Cursor) : Type 0 where
+  pub count : ℕ
+  pub words : TransfersWords p q count s.rest t.rest text grown
+  pub place : t.mark ≡ along s.mark count
+  pub line : t.blank_so_far ≡ false
 
 -- blanks are put after a text, unless they end their line
 abbrev pub with_blanks : List ℕ → Cursor → List ℕ × Cursor

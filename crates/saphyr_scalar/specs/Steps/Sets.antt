@@ -1,6 +1,7 @@
 -- Sets of characters whose runs scalars, names and tags take off in one piece.
-use Rattle.std.specs.Prelude.{◌≡◌, ℕ, Bool, true, false, ◌&&◌, ◌==◌, not, nat_lt, refl}
-use Rattle.saphyr_input.specs.Classes.{is_blank_or_breakz, is_bom, is_flow}
+use Rattle.std.specs.Prelude.{◌≡◌, ℕ, Bool, true, false, ◌&&◌, ◌||◌, ◌==◌, not, nat_lt, refl}
+use Rattle.saphyr_input.specs.Classes.{is_blank_or_breakz, is_bom, is_flow, space}
+use Rattle.saphyr_input.specs.Fronts.{ascii_in}
 use Rattle.saphyr_input.specs.Indicators.{colon, hyphen, number_sign, percent_sign}
 use Rattle.saphyr_scalar.specs.declared.scalar.tag.UriSet.{UriSet}
 use Rattle.saphyr_scalar.specs.declared.scalar.tag.UriSet.TheVariants.{Uri, Suffix}
@@ -19,6 +20,17 @@ in_plain in_flow c = not (c == colon) && not (is_blank_or_breakz c) && not (is_b
 -- and with such a one after a space: neither a comment nor a lone `-` begins there
 abbrev pub leads_plain : Bool → ℕ → Bool
 leads_plain in_flow c = in_plain in_flow c && not (c == number_sign) && not (c == hyphen)
+
+-- the first character joins words of a plain scalar, where the second follows: a single space before an ASCII character
+-- that begins a word there, or a colon in a word
+abbrev pub joins_plain : Bool → ℕ → ℕ → Bool
+joins_plain in_flow c d =
+    (ascii_in (leads_plain in_flow) d && (c == space))
+    || (not (is_blank_or_breakz d || (in_flow && is_flow d)) && (c == colon))
+
+-- and of a quoted scalar: a single space before what is on its line
+abbrev pub joins_quoted : ℕ → ℕ → Bool
+joins_quoted c d = is_content d && (c == space)
 
 -- With such a one a word begins wherever it is, inside flow and outside: an ASCII character above `/`, where `#`, `-`
 -- and `.` are not.

@@ -27,7 +27,7 @@ pub(super) fn is_in_single(byte: u8) -> bool
     SETS_OF_BYTES[byte as usize] & 1 != 0
 }
 
-// The same between double quotes.
+// Whether the byte is an ASCII character that stands for itself between double quotes and is no blank.
 #[inline(always)]
 pub(super) fn is_in_double(byte: u8) -> bool
     ensures { result ≡ ascii_in sets.in_double byte }
@@ -43,7 +43,7 @@ pub(super) fn is_in_plain_outside(byte: u8) -> bool
     SETS_OF_BYTES[byte as usize] & 4 != 0
 }
 
-// The same inside flow.
+// Whether a word of a plain scalar inside flow always goes on with the byte, an ASCII character other than the colon.
 #[inline(always)]
 pub(super) fn is_in_plain_in_flow(byte: u8) -> bool
     ensures { result ≡ ascii_in (sets.in_plain true) byte }

@@ -201,9 +201,8 @@ impl<T: Input> Reader<T> {
                 mark: start,
             }));
         }
-        let is_ascii = self.begins_ascii();
         let mut text = self.spare.begin(alloc)?;
-        let c = self.read_begun_words(is_ascii, in_flow, &mut text)?;
+        let c = self.read_plain_words(in_flow, &mut text)?;
         let end = self.mark;
         // Most end right before a colon, a comma or a bracket, or with their line.
         if self.ends_plain(c, in_flow, indent) {
@@ -236,8 +235,7 @@ impl<T: Input> Reader<T> {
                 mark: start,
             }));
         }
-        let is_ascii = self.begins_ascii();
-        let c = self.read_begun_words(is_ascii, in_flow, text)?;
+        let c = self.read_plain_words(in_flow, text)?;
         // Most end right before a colon, a comma or a bracket.
         if !is_break(c) && !is_blank(c) {
             return Ok(PlainEnd {

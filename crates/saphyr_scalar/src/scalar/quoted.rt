@@ -22,18 +22,19 @@ use std::mem::replace;
 impl<T: Input> Reader<T> {
     ghost use Rattle.saphyr_scalar.specs.Views.Reader.{cursor_of, ReadsTextBy, WritesBy, text_alone};
 
-    // Whether the closing quote is here, and not the first of two single quotes.
+    // Whether the closing quote is here, and not the first of two single quotes. `c` is the first character.
     #[inline(always)]
-    fn is_at_closing_quote(&mut self, quote: Quote) -> bool
+    fn is_at_closing_quote(&mut self, c: char, quote: Quote) -> bool
+        requires { c ≡ slice_index (cursor_of self.old).rest 0 }
         ensures value { result ≡ spec.is_closing quote (cursor_of self.old).rest }
         ensures same { cursor_of self.new ≡ cursor_of self.old }
     {
         match quote {
             Quote::Single => {
                 self.load(2);
-                self.input.next_char_is('\'') && !self.input.nth_char_is(1, '\'')
+                c == '\'' && !self.input.nth_char_is(1, '\'')
             }
-            Quote::Double => self.look() == '"',
+            Quote::Double => c == '"',
         }
     }
 
@@ -61,7 +62,7 @@ impl<T: Input> Reader<T> {
         Ok(text)
     }
 
-    // The same of a double quoted scalar.
+    // What is left of a double quoted scalar.
     #[inline(never)]
     fn read_double_rest(
         &mut self,
@@ -75,7 +76,7 @@ impl<T: Input> Reader<T> {
         self.read_quoted_parts(Quote::Double, indent, start, text)
     }
 
-    // The same of a single quoted scalar.
+    // What is left of a single quoted scalar.
     #[inline(never)]
     fn read_single_rest(
         &mut self,
@@ -89,7 +90,8 @@ impl<T: Input> Reader<T> {
         self.read_quoted_parts(Quote::Single, indent, start, text)
     }
 
-    // The same of either kind. Each has a loop of its own, which doesn't ask again and again which kind it is.
+    // What is left of a scalar of either kind. Each has a loop of its own, which doesn't ask again and again which kind
+    // it is.
     #[inline(always)]
     fn read_quoted_rest(
         &mut self,
@@ -122,8 +124,8 @@ impl<T: Input> Reader<T> {
             (spec.inner_text_at quote indent start spec.no_gap s))
             text.old self.old result text.new self.new }
     {
-        self.take_literal_words(quote, text)?;
-        if self.is_at_closing_quote(quote) {
+        let c = self.take_literal_words(quote, text)?;
+        if self.is_at_closing_quote(c, quote) {
             self.skip_non_blank();
             return Ok(());
         }
@@ -147,7 +149,7 @@ impl<T: Input> Reader<T> {
         Ok(text)
     }
 
-    // The same, with its text put behind another.
+    // Takes off a quoted scalar as well, and puts its text behind another.
     #[inline(always)]
     fn read_behind(
         &mut self,
@@ -180,7 +182,7 @@ impl<T: Input> Reader<T> {
         self.read_quoted(alloc, Quote::Double, indent)
     }
 
-    // The same of a double quoted scalar.
+    // Puts the text of a double quoted scalar behind another.
     #[inline(never)]
     fn read_double_behind(
         &mut self,
@@ -196,7 +198,7 @@ impl<T: Input> Reader<T> {
         self.read_behind(alloc, Quote::Double, indent, text)
     }
 
-    // The same of a single quoted scalar.
+    // Puts the text of a single quoted scalar behind another.
     #[inline(never)]
     fn read_single_behind(
         &mut self,

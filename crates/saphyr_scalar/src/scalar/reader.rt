@@ -57,7 +57,7 @@ impl<T: Input> Reader<T> {
         }
     }
 
-    /// The same place, before the characters of another input.
+    /// This place, before the characters of another input.
     pub fn over<U: Input>(self, mut input: U) -> Reader<U>
     where
         T: Drop,
@@ -186,7 +186,7 @@ impl<T: Input> Reader<T> {
         }
     }
 
-    // The same where mostly there are some.
+    // Takes off spaces, but no more than `most`, where mostly there are some.
     #[inline(always)]
     pub(crate) fn skip_indentation(&mut self, most: usize)
         ensures { cursor_of self.new ≡ spec.pass_spaces most (cursor_of self.old) }
@@ -226,7 +226,7 @@ impl<T: Input> Reader<T> {
         }
     }
 
-    /// The same for the first character, which was looked at.
+    /// Takes off a break, if `c` begins one: the first character, which was looked at.
     #[inline(always)]
     pub fn skip_seen_break(&mut self, c: char)
         requires first { c ≡ slice_index (cursor_of self.old).rest 0 }

@@ -1,13 +1,14 @@
 //! Runs of a set of characters, moved from a text to the end of another.
 
-ghost use Rattle.std.specs.Prelude.{◌≡◌, ◌≤◌, slice_index, IfOk, OnOk, Ok};
+ghost use Rattle.std.specs.Prelude.{◌≡◌, ◌≤◌, slice_index, string_bytes, IfOk, OnOk, Ok};
 ghost use Rattle.saphyr_scalar.specs.Steps.Quoted as spec;
 
 use crate::scalar::fault::Stop;
 use crate::scalar::reader::Reader;
-use saphyr_input::char_set::{Blank, CharSet};
+use saphyr_input::char_set::{Blank, CharSet, WordSet};
 use saphyr_input::char_traits::is_break;
 use saphyr_input::input::Input;
+use std::alloc::AllocError;
 
 impl<T: Input> Reader<T> {
     ghost use Rattle.saphyr_scalar.specs.Views.Reader.{cursor_of, loaded, AppendsBy, WritesBy};
@@ -31,6 +32,20 @@ impl<T: Input> Reader<T> {
         self.move_run::<C>(text)?;
         self.blank_so_far = false;
         Ok(())
+    }
+
+    // Moves words of a set to the end of a text, and returns the character that comes next.
+    #[inline(always)]
+    pub(crate) fn move_words<C: WordSet>(&mut self, text: &mut String) -> Result<char, AllocError>
+        ensures moved { OnOk result (spec.WordsMoved C.CharSet.test C.joint (string_bytes text.old)
+            (string_bytes text.new) (cursor_of self.old) (cursor_of self.new)) }
+        ensures next { IfOk result (λ c. c ≡ slice_index (cursor_of self.new).rest 0) }
+        ensures loaded { 1 ≤ loaded self.new }
+    {
+        let (count, c) = self.input.fetch_words::<C>(text)?;
+        self.mark = self.mark.along(count);
+        self.blank_so_far = false;
+        Ok(c)
     }
 
     // Moves blanks to the end of a text, unless they end their line, and returns the character behind them.

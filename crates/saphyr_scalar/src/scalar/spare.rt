@@ -118,7 +118,7 @@ impl Spare {
         self.begin_with(alloc, FIRST_ROOM)
     }
 
-    // The same, with this much room in new memory.
+    // An empty text, with this much room where its memory is new.
     #[inline(always)]
     pub(super) fn begin_with(&mut self, alloc: Global, room: usize) -> Result<String, AllocError>
         ensures { IfOk result (λ text. string_bytes text ≡ []) }
@@ -126,21 +126,21 @@ impl Spare {
         begin_in(&mut self.text, alloc, room)
     }
 
-    // The same for a tag's handle.
+    // An empty text for a tag's handle.
     pub(super) fn begin_handle(&mut self, alloc: Global) -> Result<String, AllocError>
         ensures { IfOk result (λ text. string_bytes text ≡ []) }
     {
         begin_in(&mut self.handle, alloc, FIRST_ROOM)
     }
 
-    // The same for a tag's suffix.
+    // An empty text for a tag's suffix.
     pub(super) fn begin_suffix(&mut self, alloc: Global) -> Result<String, AllocError>
         ensures { IfOk result (λ text. string_bytes text ≡ []) }
     {
         begin_in(&mut self.suffix, alloc, FIRST_ROOM)
     }
 
-    // The same for the name of an anchor.
+    // An empty text for the name of an anchor.
     #[inline(always)]
     pub(super) fn begin_name(&mut self, alloc: Global) -> Result<String, AllocError>
         ensures { IfOk result (λ text. string_bytes text ≡ []) }

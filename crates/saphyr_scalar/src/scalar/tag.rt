@@ -158,7 +158,7 @@ fn handle_in(mut text: String, word: &str) -> Result<String, AllocError>
     Ok(text)
 }
 
-// The same in new memory.
+// The handle `!word!`, or `!!` if the word is empty, in new memory.
 pub(crate) fn named_handle(alloc: Global, word: &str) -> Result<String, AllocError>
     ensures { IfOk result (λ handle. string_bytes handle ≡ spec.handle_of word.now) }
 {

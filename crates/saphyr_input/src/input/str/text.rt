@@ -8,7 +8,7 @@ ghost use Rattle.saphyr_input.specs.Fronts as spec;
 ghost use Rattle.saphyr_input.specs.Places as places;
 ghost use Rattle.saphyr_input.specs.Separation as separation;
 
-use crate::char_set::{CharSet, SpacedSet};
+use crate::char_set::{CharSet, WordSet};
 use crate::char_traits::is_blank_or_breakz;
 use crate::input::SkipTabs;
 use crate::input::str::wide::strip_wide;
@@ -32,6 +32,19 @@ pub(super) fn split_first(text: &str) -> (char, &str)
     (first, rest.as_str())
 }
 
+// The first character, or NUL at the end. For speed there is a call only if it isn't ASCII.
+#[inline(always)]
+pub(super) fn first_char(text: &str) -> char
+    ensures { result ≡ slice_index (chars text.now) 0 }
+{
+    let first = first_byte(text);
+    if first < '\u{80}' {
+        first
+    } else {
+        nth_char(text, 0)
+    }
+}
+
 // What follows the first `count` characters.
 #[inline]
 pub(super) fn behind(text: &str, count: usize) -> &str
@@ -44,15 +57,6 @@ pub(super) fn behind(text: &str, count: usize) -> &str
     rest
 }
 
-// Whether the first two places read as these characters.
-#[inline]
-pub(super) fn begins_with_2(text: &str, c1: char, c2: char) -> bool
-    ensures { result ≡ places.next_2_are (chars text.now) c1 c2 }
-{
-    let (first, rest) = split_first(text);
-    first == c1 && split_first(rest).0 == c2
-}
-
 // The second character, or NUL past the end.
 #[inline]
 pub(super) fn second_char(text: &str) -> char
@@ -63,28 +67,6 @@ pub(super) fn second_char(text: &str) -> char
         return bytes[1] as char;
     }
     split_first(split_first(text).1).0
-}
-
-// The second byte, if the first one is `first`, and this one is ASCII and not NUL.
-#[inline(always)]
-fn byte_behind(bytes: &[u8], first: char) -> Option<char>
-    ensures { result ≡ places.ascii_behind bytes.now first }
-{
-    if bytes.len() > 1 && bytes[0] as char == first && bytes[1] > 0 && bytes[1] < 0x80 {
-        Some(bytes[1] as char)
-    } else {
-        None
-    }
-}
-
-// The second character, if the first one is `first`, and this one is ASCII and not NUL.
-#[inline(always)]
-pub(super) fn ascii_behind(text: &str, first: char) -> Option<char>
-    requires some { 0 < first }
-    requires ascii { first < 128 }
-    ensures { result ≡ places.ascii_behind (chars text.now) first }
-{
-    byte_behind(text.as_bytes(), first)
 }
 
 // The third character, or NUL past the end.
@@ -236,58 +218,54 @@ pub(super) fn run_here<C: CharSet>(text: &str) -> (usize, &str)
     (ascii + more, behind)
 }
 
-// What follows a leading space, if that is a character of the set for which a test is known.
-#[inline]
-fn strip_space<C: SpacedSet>(text: &str) -> Option<&str>
-    ensures some { IfSome result (λ rest. places.words_len C.CharSet.test C.lead (chars text.now)
-        ≡ 1 + places.words_len C.CharSet.test C.lead (chars rest.now)) }
-    ensures rest { IfSome result (λ rest. chars rest.now ≡ drop 1 (chars text.now)) }
+// Whether the first character joins words.
+#[inline(always)]
+fn begins_joint<C: WordSet>(text: &str) -> bool
+    ensures value { result ≡ C.joint (slice_index (chars text.now) 0)
+        (slice_index (chars text.now) 1) }
+    ensures ascii { IsTrue result → (0 < slice_index text.now 0) × (slice_index text.now 0 < 128) }
 {
     let bytes = text.as_bytes();
-    if bytes.len() > 1 && bytes[0] == b' ' && C::leads(bytes[1]) {
-        Some(&text[1..])
-    } else {
-        None
-    }
+    bytes.len() > 1 && C::joins(bytes[0], bytes[1])
 }
 
-// Words of a set, with single spaces between them: how many characters, and what follows them.
-#[inline]
-pub(super) fn words<C: SpacedSet>(text: &str) -> (usize, &str)
-    ensures count { result.0 ≤ places.words_len C.CharSet.test C.lead (chars text.now) }
-    ensures stops { C.CharSet.test (slice_index (chars result.1.now) 0) ≡ false }
-    ensures rest { chars result.1.now ≡ drop result.0 (chars text.now) }
-{
-    // There are fewer than 2^64 bytes, and no more characters than bytes.
-    let _ = text.as_bytes();
-    let (mut count, mut rest) = run_here::<C>(text);
-    while let Some(after) = strip_space::<C>(rest) {
-        let (word, behind) = run_here::<C>(after);
-        count += 1 + word;
-        rest = behind;
-    }
-    (count, rest)
-}
-
-// Words of ASCII characters of a set, with single spaces between them: how many characters, what follows them, and the
-// byte behind them, or NUL at the end.
+// Takes off a character that joins words, or characters of the set of which the first isn't ASCII: how many, and what
+// follows them.
 #[inline(always)]
-pub(super) fn front_words<C: SpacedSet>(text: &str) -> (usize, &str, char)
-    ensures count { result.0 ≤ places.words_len C.CharSet.test C.lead (chars text.now) }
-    ensures next { result.2 < 128 → (result.2 ≡ slice_index (chars result.1.now) 0)
-        × (C.CharSet.test result.2 ≡ false) }
+fn strip_piece<C: WordSet>(text: &str) -> Option<(usize, &str)>
+    ensures none { IfNone result (spec.ascii_in C.CharSet.test (slice_index text.now 0) ≡ false
+        → places.words_len C.CharSet.test C.joint (chars text.now) ≡ 0) }
+    ensures some { IfSome result (λ piece. 0 < piece.0) }
+    ensures part { IfSome result (λ piece.
+        piece.0 + places.words_len C.CharSet.test C.joint (chars piece.1.now)
+        ≡ places.words_len C.CharSet.test C.joint (chars text.now)) }
+    ensures rest { IfSome result (λ piece. chars piece.1.now ≡ drop piece.0 (chars text.now)) }
+{
+    if begins_joint::<C>(text) {
+        return Some((1, &text[1..]));
+    }
+    if !begins_wide(text) {
+        return None;
+    }
+    let (count, rest) = run::<C>(text);
+    if count > 0 { Some((count, rest)) } else { None }
+}
+
+// Words of a set, with what joins them: how many characters, and what follows them.
+#[inline(always)]
+pub(super) fn words<C: WordSet>(text: &str) -> (usize, &str)
+    ensures count { result.0 ≡ places.words_len C.CharSet.test C.joint (chars text.now) }
     ensures rest { chars result.1.now ≡ drop result.0 (chars text.now) }
 {
     // There are fewer than 2^64 bytes, and no more characters than bytes.
     let _ = text.as_bytes();
     let (mut count, mut rest) = ascii_run::<C>(text);
-    while let Some(after) = strip_space::<C>(rest) {
-        let (word, behind) = ascii_run::<C>(after);
-        count += 1 + word;
+    while let Some((piece, beyond)) = strip_piece::<C>(rest) {
+        let (ascii, behind) = ascii_run::<C>(beyond);
+        count += piece + ascii;
         rest = behind;
     }
-    let next = rest.as_bytes().first().copied().unwrap_or(0) as char;
-    (count, rest, next)
+    (count, rest)
 }
 
 // How many of the first bytes are spaces, but no more than `most`.

@@ -56,39 +56,6 @@ fn sized_run<C: CharSet>(text: &str, size: usize) -> (usize, &str)
     (count, &text[at..])
 }
 
-// What follows the first character, if this is in the class and not ASCII, but its first byte does not tell that.
-#[inline]
-fn strip_decoded<C: CharSet>(text: &str) -> Option<&str>
-    ensures some { IfSome result (λ rest. prefix_len C.test (chars text.now)
-        ≡ 1 + prefix_len C.test (chars rest.now)) }
-    ensures rest { IfSome result (λ rest. chars rest.now ≡ drop 1 (chars text.now)) }
-{
-    let byte = text.as_bytes().first().copied().unwrap_or(0);
-    if byte < 0x80 || C::has_wide(byte) {
-        return None;
-    }
-    let (first, rest) = split_first(text);
-    if C::has(first) { Some(rest) } else { None }
-}
-
-// Such characters that come first: how many, and what follows them.
-#[inline]
-fn decoded_run<C: CharSet>(text: &str) -> (usize, &str)
-    ensures part { result.0 + prefix_len C.test (chars result.1.now)
-        ≡ prefix_len C.test (chars text.now) }
-    ensures rest { chars result.1.now ≡ drop result.0 (chars text.now) }
-{
-    // There are fewer than 2^64 bytes, and no more characters than bytes.
-    let _ = text.as_bytes();
-    let mut count = 0;
-    let mut rest = text;
-    while let Some(after) = strip_decoded::<C>(rest) {
-        count += 1;
-        rest = after;
-    }
-    (count, rest)
-}
-
 // Characters of the class that come first and are not ASCII: how many, and what follows them.
 #[inline(always)]
 pub(super) fn strip_wide<C: CharSet>(text: &str) -> Option<(usize, &str)>
@@ -108,8 +75,7 @@ pub(super) fn strip_wide<C: CharSet>(text: &str) -> Option<(usize, &str)>
         if !C::has(first) {
             return None;
         }
-        let (more, rest) = decoded_run::<C>(rest);
-        return Some((1 + more, rest));
+        return Some((1, rest));
     }
     // For speed: most characters need not be put together from their bytes, and a loop for characters of one
     // length has few instructions.

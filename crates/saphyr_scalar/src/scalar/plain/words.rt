@@ -1,18 +1,61 @@
 //! The words of plain scalars, with the single spaces between them (YAML 1.2.2, 7.3.3).
 
-ghost use Rattle.std.specs.Prelude.{◌≡◌, ◌<◌, ◌≤◌, ◌&&◌, ◌||◌, not, slice_index, string_bytes, IfOk, IsTrue, OnOk, false, true, refl};
+ghost use Rattle.std.specs.Prelude.{◌≡◌, ℕ, ◌<◌, ◌≤◌, ◌&&◌, ◌||◌, not, slice_index, string_bytes, IfOk, IsTrue, OnOk, false, true, refl};
 ghost use Rattle.saphyr_input.specs.Classes as class;
-ghost use Rattle.saphyr_input.specs.Places.{TransfersFront, TransfersWords};
+ghost use Rattle.saphyr_input.specs.Fronts.{StandsFor, ascii_in};
 ghost use Rattle.saphyr_scalar.specs.Steps.Plain as spec;
 ghost use Rattle.saphyr_scalar.specs.Steps.Sets as sets;
 
 use crate::scalar::byte_sets::{is_in_plain_in_flow, is_in_plain_outside};
 use crate::scalar::fault::{FaultText, Refusal};
 use crate::scalar::reader::Reader;
-use saphyr_input::char_set::{CharSet, SpacedSet};
+use saphyr_input::char_set::{CharSet, WordSet};
 use saphyr_input::char_traits::{is_blank_or_breakz, is_bom, is_flow};
 use saphyr_input::input::Input;
 use std::alloc::AllocError;
+
+// Whether this is one of the characters with which a word begins wherever it is. Most words begin with one.
+#[inline(always)]
+fn begins_any_word(c: char) -> bool
+    ensures { result ≡ sets.begins_any_plain c }
+{
+    c > '/' && c <= '\x7F' && is_in_plain_in_flow(c as u8)
+}
+
+// Whether a word always goes on with the byte, an ASCII character other than the colon.
+#[inline(always)]
+fn is_ascii_in_word(byte: u8, in_flow: bool) -> bool
+    ensures { result ≡ ascii_in (sets.in_plain in_flow) byte }
+{
+    if in_flow {
+        is_in_plain_in_flow(byte)
+    } else {
+        is_in_plain_outside(byte)
+    }
+}
+
+// Whether a word goes on with a colon before this character.
+#[inline(always)]
+fn is_colon_in_word(next: char, in_flow: bool) -> bool
+    ensures { result ≡ not (class.is_blank_or_breakz next || (in_flow && class.is_flow next)) }
+{
+    !(is_blank_or_breakz(next) || in_flow && is_flow(next))
+}
+
+// Whether a single space comes first, before an ASCII character with which a word begins wherever it is on a line, or a
+// colon in a word.
+#[inline(always)]
+fn joins_plain(byte: u8, next: u8, in_flow: bool) -> bool
+    ensures value { (c d : ℕ) → StandsFor byte c → (byte < 128 → StandsFor next d)
+        → result ≡ sets.joins_plain in_flow c d }
+    ensures ascii { IsTrue result → (0 < byte) × (byte < 128) }
+{
+    match byte {
+        b' ' => next != b'#' && next != b'-' && is_ascii_in_word(next, in_flow),
+        b':' => is_colon_in_word(next as char, in_flow),
+        _ => false,
+    }
+}
 
 // The characters, without the colon, with which a word of a plain scalar outside flow always goes on.
 pub(crate) struct PlainOutside;
@@ -38,15 +81,18 @@ impl CharSet for PlainOutside {
     }
 }
 
-impl SpacedSet for PlainOutside {
-    ghost lead = { sets.leads_plain false };
+impl WordSet for PlainOutside {
+    ghost joint = { sets.joins_plain false };
 
-    fn leads(byte: u8) -> bool {
-        byte != b'#' && byte != b'-' && PlainOutside::has_ascii(byte)
+    ghost without_end = { λ _. refl };
+
+    #[inline(always)]
+    fn joins(byte: u8, next: u8) -> bool {
+        joins_plain(byte, next, false)
     }
 }
 
-// The same inside flow.
+// The characters, without the colon, with which a word of a plain scalar inside flow always goes on.
 pub(crate) struct PlainInFlow;
 
 impl CharSet for PlainInFlow {
@@ -70,28 +116,15 @@ impl CharSet for PlainInFlow {
     }
 }
 
-impl SpacedSet for PlainInFlow {
-    ghost lead = { sets.leads_plain true };
+impl WordSet for PlainInFlow {
+    ghost joint = { sets.joins_plain true };
 
-    fn leads(byte: u8) -> bool {
-        byte != b'#' && byte != b'-' && PlainInFlow::has_ascii(byte)
+    ghost without_end = { λ _. refl };
+
+    #[inline(always)]
+    fn joins(byte: u8, next: u8) -> bool {
+        joins_plain(byte, next, true)
     }
-}
-
-// Whether this is one of the characters with which a word begins wherever it is. Most words begin with one.
-#[inline(always)]
-fn begins_any_word(c: char) -> bool
-    ensures { result ≡ sets.begins_any_plain c }
-{
-    c > '/' && c <= '\x7F' && is_in_plain_in_flow(c as u8)
-}
-
-// Whether a word goes on with a colon before this character.
-#[inline(always)]
-fn is_colon_in_word(next: char, in_flow: bool) -> bool
-    ensures { result ≡ not (class.is_blank_or_breakz next || (in_flow && class.is_flow next)) }
-{
-    !(is_blank_or_breakz(next) || in_flow && is_flow(next))
 }
 
 // Whether a word goes on with this character, which is no colon.
@@ -146,24 +179,9 @@ impl<T: Input> Reader<T> {
         is_ink_in_word(c, in_flow)
     }
 
-    // Moves characters of words without colons, and single spaces between them, to the end of a
-    // text, and returns how many. The place stays.
-    #[inline(always)]
-    fn fetch_plain_words(&mut self, in_flow: bool, text: &mut String) -> Result<usize, AllocError>
-        ensures words { IfOk result (λ n. TransfersWords (sets.in_plain in_flow)
-            (sets.leads_plain in_flow) n (cursor_of self.old).rest (cursor_of self.new).rest
-            (string_bytes text.old) (string_bytes text.new)) }
-        ensures mark { (cursor_of self.new).mark ≡ (cursor_of self.old).mark }
-    {
-        if in_flow {
-            self.input.fetch_words::<PlainInFlow>(text)
-        } else {
-            self.input.fetch_words::<PlainOutside>(text)
-        }
-    }
-
     // Moves the rest of a word to the end of a text, and the words after it, each with a single space
     // before it. Returns the character at which they end.
+    #[inline(always)]
     pub(super) fn read_plain_words(
         &mut self,
         in_flow: bool,
@@ -174,108 +192,10 @@ impl<T: Input> Reader<T> {
         ensures end { IfOk result (λ c. c ≡ slice_index (cursor_of self.new).rest 0) }
         ensures loaded { OnOk result (1 ≤ loaded self.new) }
     {
-        let mut count = 0;
-        let end = loop {
-            count += self.fetch_plain_words(in_flow, text)?;
-            let c = self.look();
-            // A word goes on with a colon here, or ends.
-            if !self.is_in_plain_word(c, in_flow) {
-                break c;
-            }
-            self.input.skip();
-            text.push(c)?;
-            count += 1;
-        };
-        self.mark = self.mark.along(count);
-        self.blank_so_far = false;
-        Ok(end)
-    }
-
-    // Whether words end before `c`, which no input moved on with: it is ASCII and not of the set, or is not told. A
-    // colon before a blank is most often no character of a word.
-    #[inline(always)]
-    fn ends_words(&mut self, c: char, in_flow: bool) -> bool
-        requires told { c < 128 → (c ≡ slice_index (cursor_of self.old).rest 0)
-            × (sets.in_plain in_flow c ≡ false) }
-        requires loaded { 1 ≤ loaded self.old }
-        ensures value { IsTrue result → spec.is_in_word in_flow (cursor_of self.old).rest ≡ false }
-        ensures end { IsTrue result → c ≡ slice_index (cursor_of self.old).rest 0 }
-        ensures same { cursor_of self.new ≡ cursor_of self.old }
-        ensures loaded { 1 ≤ loaded self.new }
-    {
-        if c == ':' {
-            self.load(2);
-            return is_blank_or_breakz(self.input.peek_nth(1));
-        }
-        c < '\u{80}'
-    }
-
-    // Whether the first character is ASCII.
-    #[inline(always)]
-    pub(super) fn begins_ascii(&mut self) -> bool
-        ensures { cursor_of self.new ≡ cursor_of self.old }
-    {
-        self.load(1);
-        self.input.peek() < '\u{80}'
-    }
-
-    // The same for words of which it is told whether the first character is ASCII.
-    #[inline(always)]
-    pub(super) fn read_begun_words(
-        &mut self,
-        is_ascii: bool,
-        in_flow: bool,
-        text: &mut String,
-    ) -> Result<char, AllocError>
-        ensures words { OnOk result (spec.PlainWordsMoved in_flow (string_bytes text.old)
-            (string_bytes text.new) (cursor_of self.old) (cursor_of self.new)) }
-        ensures end { IfOk result (λ c. c ≡ slice_index (cursor_of self.new).rest 0) }
-        ensures loaded { OnOk result (1 ≤ loaded self.new) }
-    {
-        if is_ascii {
-            return self.read_first_words(in_flow, text);
-        }
-        self.read_plain_words(in_flow, text)
-    }
-
-    // The same where mostly one look at ASCII characters tells all words, and one more that they end.
-    #[inline(always)]
-    fn read_first_words(&mut self, in_flow: bool, text: &mut String) -> Result<char, AllocError>
-        ensures words { OnOk result (spec.PlainWordsMoved in_flow (string_bytes text.old)
-            (string_bytes text.new) (cursor_of self.old) (cursor_of self.new)) }
-        ensures end { IfOk result (λ c. c ≡ slice_index (cursor_of self.new).rest 0) }
-        ensures loaded { OnOk result (1 ≤ loaded self.new) }
-    {
-        let (count, c) = self.fetch_front_words(in_flow, text)?;
-        self.mark = self.mark.along(count);
-        self.blank_so_far = false;
-        self.load(1);
-        if self.ends_words(c, in_flow) {
-            return Ok(c);
-        }
-        self.read_plain_words(in_flow, text)
-    }
-
-    // Moves words of ASCII without colons, and single spaces between them, to the end of a text, as far as the input
-    // takes them at once. Returns how many characters, and maybe the one behind them. The place stays.
-    #[inline(always)]
-    fn fetch_front_words(
-        &mut self,
-        in_flow: bool,
-        text: &mut String,
-    ) -> Result<(usize, char), AllocError>
-        ensures words { IfOk result (λ moved. TransfersFront (sets.in_plain in_flow)
-            (sets.leads_plain in_flow) moved.0 (cursor_of self.old).rest (cursor_of self.new).rest
-            (string_bytes text.old) (string_bytes text.new)) }
-        ensures next { IfOk result (λ moved. moved.1 < 128
-            → (moved.1 ≡ slice_index (cursor_of self.new).rest 0)
-            × (sets.in_plain in_flow moved.1 ≡ false)) }
-        ensures mark { (cursor_of self.new).mark ≡ (cursor_of self.old).mark }
-    {
         if in_flow {
-            self.input.fetch_front_words::<PlainInFlow>(text)
+            self.move_words::<PlainInFlow>(text)
         } else {
-            self.input.fetch_front_words::<PlainOutside>(text)
+            self.move_words::<PlainOutside>(text)
         }
     }
 }

@@ -121,8 +121,8 @@ impl<T: Input> Reader<T> {
         Ok(self.look())
     }
 
-    // The same. Mostly there is no empty line: then spaces are all that is taken off, and a look at one character tells
-    // that the scalar goes on.
+    // Takes off the lines after a break, which mostly are none: then spaces are all that is taken off, and a look at one
+    // character tells that the scalar goes on.
     #[inline(always)]
     fn read_quoted_lines(
         &mut self,
@@ -149,23 +149,6 @@ impl<T: Input> Reader<T> {
         Ok(c)
     }
 
-    // Takes off a backslash and the break behind it, which mostly is a line feed.
-    #[inline(always)]
-    fn skip_escaped_break(&mut self)
-        requires { IsTrue (spec.is_escaped_break Double (cursor_of self.old).rest) }
-        ensures { cursor_of self.new ≡ pass_break (pass 1 (cursor_of self.old)) }
-    {
-        self.load(2);
-        if let Some('\n') = self.input.ascii_behind('\\') {
-            self.input.skip_two_ascii();
-            self.mark = self.mark.next_line(2);
-            self.blank_so_far = true;
-            return;
-        }
-        self.skip_non_blank();
-        self.skip_line_break();
-    }
-
     // Takes off an escaped break and what follows it, up to the next word or the closing quote. Appends
     // what this reads as to a text, and returns the character that comes next.
     #[inline(always)]
@@ -185,7 +168,8 @@ impl<T: Input> Reader<T> {
         ensures next { IfOk result (λ c. c ≡ slice_index (cursor_of self.new).rest 0) }
         ensures loaded { OnOk result (1 ≤ loaded self.new) }
     {
-        self.skip_escaped_break();
+        self.skip_non_blank();
+        self.skip_line_break();
         let c = self.look();
         if c == quote.mark() {
             return Ok(c);
@@ -193,7 +177,7 @@ impl<T: Input> Reader<T> {
         self.read_quoted_lines(true, indent, start, text)
     }
 
-    // The same of blanks on a line, and of a NUL.
+    // Takes off blanks on a line, and a break behind them with what follows it. Refuses a NUL.
     #[inline(always)]
     fn read_blank_gap(
         &mut self,

@@ -1,8 +1,8 @@
 //! The words of quoted scalars: characters that stand for themselves, single spaces between them, escapes and doubled
 //! quotes (YAML 1.2.2, 7.3.1, 7.3.2 and 5.7).
 
-ghost use Rattle.std.specs.Prelude.{◌≡◌, ℕ, ◌≤◌, false, slice_index, string_bytes, IfNone, IfOk, None, Ok, OnOk, IsTrue, ◌==◌};
-ghost use Rattle.saphyr_input.specs.Places.{TransfersWords};
+ghost use Rattle.std.specs.Prelude.{◌≡◌, ℕ, ◌<◌, ◌≤◌, false, slice_index, string_bytes, IfNone, IfOk, None, Ok, OnOk, IsTrue, ◌==◌, refl};
+ghost use Rattle.saphyr_input.specs.Fronts.{StandsFor};
 ghost use Rattle.saphyr_scalar.specs.Steps.Quoted as spec;
 ghost use Rattle.saphyr_scalar.specs.Steps.Sets as sets;
 ghost use Rattle.saphyr_scalar.specs.Views.Cursor.{Cursor};
@@ -12,7 +12,7 @@ use crate::scalar::fault::{Refusal, Stop};
 use crate::scalar::position::Marker;
 use crate::scalar::reader::Reader;
 use crate::values::Quote;
-use saphyr_input::char_set::{CharSet, SpacedSet};
+use saphyr_input::char_set::{CharSet, WordSet};
 use saphyr_input::char_traits::{is_blank_or_breakz, is_break};
 use saphyr_input::input::Input;
 use std::alloc::AllocError;
@@ -43,6 +43,16 @@ fn begins_special(quote: Quote, c: char) -> bool
     }
 }
 
+// Whether a single space comes first, before what is on its line.
+#[inline(always)]
+fn joins_quoted(byte: u8, next: u8) -> bool
+    ensures value { (c d : ℕ) → StandsFor byte c → (byte < 128 → StandsFor next d)
+        → result ≡ sets.joins_quoted c d }
+    ensures ascii { IsTrue result → (0 < byte) × (byte < 128) }
+{
+    byte == b' ' && !is_blank_or_breakz(next as char)
+}
+
 // The characters that stand for themselves between single quotes and are no blank.
 pub(crate) struct InSingle;
 
@@ -66,11 +76,14 @@ impl CharSet for InSingle {
     }
 }
 
-impl SpacedSet for InSingle {
-    ghost lead = { sets.is_content };
+impl WordSet for InSingle {
+    ghost joint = { sets.joins_quoted };
 
-    fn leads(byte: u8) -> bool {
-        InDouble::leads(byte)
+    ghost without_end = { λ _. refl };
+
+    #[inline(always)]
+    fn joins(byte: u8, next: u8) -> bool {
+        joins_quoted(byte, next)
     }
 }
 
@@ -97,48 +110,38 @@ impl CharSet for InDouble {
     }
 }
 
-impl SpacedSet for InDouble {
-    ghost lead = { sets.is_content };
+impl WordSet for InDouble {
+    ghost joint = { sets.joins_quoted };
 
-    fn leads(byte: u8) -> bool {
-        !is_blank_or_breakz(byte as char)
+    ghost without_end = { λ _. refl };
+
+    #[inline(always)]
+    fn joins(byte: u8, next: u8) -> bool {
+        joins_quoted(byte, next)
     }
 }
 
 impl<T: Input> Reader<T> {
     ghost use Rattle.saphyr_scalar.specs.Views.Reader.{cursor_of, loaded, GivesBy, ReadsOn, IsNoLonger};
 
-    // Moves words, and single spaces between them, to the end of a text, and returns how many
-    // characters. The place stays.
-    #[inline(always)]
-    fn fetch_literal_words(&mut self, quote: Quote, text: &mut String) -> Result<usize, AllocError>
-        ensures words { IfOk result (λ n. TransfersWords (spec.is_literal quote) sets.is_content n
-            (cursor_of self.old).rest (cursor_of self.new).rest (string_bytes text.old)
-            (string_bytes text.new)) }
-        ensures mark { (cursor_of self.new).mark ≡ (cursor_of self.old).mark }
-    {
-        match quote {
-            Quote::Single => self.input.fetch_words::<InSingle>(text),
-            Quote::Double => self.input.fetch_words::<InDouble>(text),
-        }
-    }
-
     // Moves words, and single spaces between them, to the end of a text: up to what does not stand
-    // for itself.
+    // for itself. Returns the character that comes next.
     #[inline(always)]
     pub(super) fn take_literal_words(
         &mut self,
         quote: Quote,
         text: &mut String,
-    ) -> Result<(), AllocError>
-        ensures { OnOk result
+    ) -> Result<char, AllocError>
+        ensures moved { OnOk result
             (spec.QuotedWordsMoved quote (string_bytes text.old) (string_bytes text.new)
             (cursor_of self.old) (cursor_of self.new)) }
+        ensures next { IfOk result (λ c. c ≡ slice_index (cursor_of self.new).rest 0) }
+        ensures loaded { 1 ≤ loaded self.new }
     {
-        let count = self.fetch_literal_words(quote, text)?;
-        self.mark = self.mark.along(count);
-        self.blank_so_far = false;
-        Ok(())
+        match quote {
+            Quote::Single => self.move_words::<InSingle>(text),
+            Quote::Double => self.move_words::<InDouble>(text),
+        }
     }
 
     // Moves such words after an escape or a gap, and returns the character that comes next. `c` is the first one. After
@@ -161,8 +164,7 @@ impl<T: Input> Reader<T> {
         if !is_literal(quote, c) {
             return Ok(c);
         }
-        self.take_literal_words(quote, text)?;
-        Ok(self.look())
+        self.take_literal_words(quote, text)
     }
 
     // Takes off an escape, or two single quotes, and returns the character that this stands for. Returns `None` where

@@ -1,4 +1,4 @@
-use Rattle.std.proofs.Common.{string_bytes, true, refl, sym, ap, ◌∙◌, subst}
+use Rattle.std.proofs.Common.{string_bytes, refl, sym, ap, ◌∙◌, subst}
 use Rattle.saphyr_input.specs.Classes.{is_break}
 use Rattle.saphyr_scalar.specs.Views.Cursor.{Cursor}
 use Rattle.saphyr_scalar.specs.Steps.Plain as spec
@@ -6,7 +6,6 @@ use Rattle.saphyr_scalar.specs.Views.Reader.{cursor_of, Moves}
 use Rattle.saphyr_scalar.proofs.Choices.{shows}
 use Rattle.saphyr_scalar.proofs.Plain.LineEnds.{stays_there, blank_there, word_to_break, ended_at_once}
 use Rattle.saphyr_scalar.proofs.Plain.Pieces.{behind_no_text, started, words_and_rest, plain_refused, no_plain, moves_refused}
-use Rattle.saphyr_scalar.proofs.Plain.SingleSpaces.{answer}
 use Rattle.saphyr_scalar.proofs.scalar.reader.Reader.read_plain.Goals as goal
 
 pub returns-in_err-plain_word_starts : goal.returns-in_err-plain_word_starts
@@ -27,12 +26,12 @@ returns-then-ends_plain g c =
     let f = c.args.in_flow in
     let i = c.args.indent in
     let s = cursor_of c.args.self.now in
-    let there = cursor_of c.begins_ascii-is_ascii.new.self in
-    let end = cursor_of c.read_begun_words.new.self in
+    let there = cursor_of c.plain_word_starts.new.self in
+    let end = cursor_of c.read_plain_words.new.self in
     let text = string_bytes c.in_ok-text.text in
-    let grown = string_bytes c.read_begun_words.new.text in
+    let grown = string_bytes c.read_plain_words.new.text in
     let starts = started (spec.word_starts f) s (cursor_of c.plain_word_starts.new.self) _ _ c.if-not-branch.false
-    c.in_ok-plain_word_starts.ensures ∙ ap (answer true) (sym c.begins_ascii-is_ascii.ensures) in
+    c.in_ok-plain_word_starts.ensures in
     let words = c.in_ok-c.ensures.words in
     sym (words_and_rest f i s there end end text grown starts words refl
     ∙ behind_no_text text (spec.plain f i s) c.in_ok-text.ensures)
@@ -41,7 +40,7 @@ returns-then-ends_plain g c =
 
 pub read_plain_lines-requires : goal.read_plain_lines-requires
 read_plain_lines-requires g c =
-    let end = cursor_of c.read_begun_words.new.self in
+    let end = cursor_of c.read_plain_words.new.self in
     blank_there end (cursor_of c.ends_plain.new.self)
     (shows is_break end.rest _ _ _ c.in_ok-c.ensures.end c.is_break.ensures.test c.if-is_break.true)
     c.ends_plain.ensures.passed
@@ -51,12 +50,12 @@ returns-then-is_break g c =
     let f = c.args.in_flow in
     let i = c.args.indent in
     let s = cursor_of c.args.self.now in
-    let there = cursor_of c.begins_ascii-is_ascii.new.self in
-    let end = cursor_of c.read_begun_words.new.self in
+    let there = cursor_of c.plain_word_starts.new.self in
+    let end = cursor_of c.read_plain_words.new.self in
     let text = string_bytes c.in_ok-text.text in
-    let grown = string_bytes c.read_begun_words.new.text in
+    let grown = string_bytes c.read_plain_words.new.text in
     let starts = started (spec.word_starts f) s (cursor_of c.plain_word_starts.new.self) _ _ c.if-not-branch.false
-    c.in_ok-plain_word_starts.ensures ∙ ap (answer true) (sym c.begins_ascii-is_ascii.ensures) in
+    c.in_ok-plain_word_starts.ensures in
     let words = c.in_ok-c.ensures.words in
     let breaks = shows is_break end.rest _ _ _ c.in_ok-c.ensures.end c.is_break.ensures.test c.if-is_break.true in
     let same = word_to_break f i s.mark grown end (cursor_of c.ends_plain.new.self) words.stops words.on_line breaks
@@ -68,7 +67,7 @@ returns-then-is_break g c =
 
 pub read_plain_rest-requires : goal.read_plain_rest-requires
 read_plain_rest-requires g c =
-    let end = cursor_of c.read_begun_words.new.self in
+    let end = cursor_of c.read_plain_words.new.self in
     let words = c.in_ok-c.ensures.words in
     let stays = stays_there end (cursor_of c.ends_plain.new.self)
     (shows is_break end.rest _ _ _ c.in_ok-c.ensures.end c.is_break.ensures.test c.if-is_break.false)
@@ -83,13 +82,13 @@ returns g c =
     let f = c.args.in_flow in
     let i = c.args.indent in
     let s = cursor_of c.args.self.now in
-    let there = cursor_of c.begins_ascii-is_ascii.new.self in
-    let end = cursor_of c.read_begun_words.new.self in
+    let there = cursor_of c.plain_word_starts.new.self in
+    let end = cursor_of c.read_plain_words.new.self in
     let here = cursor_of c.ends_plain.new.self in
     let text = string_bytes c.in_ok-text.text in
-    let grown = string_bytes c.read_begun_words.new.text in
+    let grown = string_bytes c.read_plain_words.new.text in
     let starts = started (spec.word_starts f) s (cursor_of c.plain_word_starts.new.self) _ _ c.if-not-branch.false
-    c.in_ok-plain_word_starts.ensures ∙ ap (answer true) (sym c.begins_ascii-is_ascii.ensures) in
+    c.in_ok-plain_word_starts.ensures in
     let stays = stays_there end here
     (shows is_break end.rest _ _ _ c.in_ok-c.ensures.end c.is_break.ensures.test c.if-is_break.false)
     c.ends_plain.ensures.passed in

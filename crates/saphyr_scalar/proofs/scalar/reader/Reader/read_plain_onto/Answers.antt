@@ -1,9 +1,8 @@
-use Rattle.std.proofs.Common.{string_bytes, true, refl, sym, ap, ◌∙◌}
+use Rattle.std.proofs.Common.{string_bytes, refl, sym, ap, ◌∙◌}
 use Rattle.saphyr_scalar.specs.Steps.Plain as spec
 use Rattle.saphyr_scalar.specs.Views.Reader.{cursor_of}
 use Rattle.saphyr_scalar.proofs.Plain.Pieces.{started, words_and_rest, plain_refused, no_plain, moves_refused, moves_failed}
 use Rattle.saphyr_scalar.proofs.Plain.WordEnds.{words_end}
-use Rattle.saphyr_scalar.proofs.Plain.SingleSpaces.{answer}
 use Rattle.saphyr_scalar.proofs.scalar.reader.Reader.read_plain_onto.Goals as goal
 
 pub returns-in_err-plain_word_starts : goal.returns-in_err-plain_word_starts
@@ -24,12 +23,12 @@ returns-then-not-is_blank g c =
     let f = c.args.in_flow in
     let i = c.args.indent in
     let s = cursor_of c.args.self.now in
-    let there = cursor_of c.begins_ascii-is_ascii.new.self in
-    let end = cursor_of c.read_begun_words.new.self in
+    let there = cursor_of c.plain_word_starts.new.self in
+    let end = cursor_of c.read_plain_words.new.self in
     let text = string_bytes c.args.text.now in
-    let grown = string_bytes c.read_begun_words.new.text in
+    let grown = string_bytes c.read_plain_words.new.text in
     let starts = started (spec.word_starts f) s (cursor_of c.plain_word_starts.new.self) _ _ c.if-not-branch.false
-    c.in_ok-plain_word_starts.ensures ∙ ap (answer true) (sym c.begins_ascii-is_ascii.ensures) in
+    c.in_ok-plain_word_starts.ensures in
     words_end f i s there end end text grown _ starts c.in_ok-c.ensures.words refl
     c.in_ok-c.ensures.end (sym c.is_blank.ensures.test ∙ c.if-not-is_blank.true)
     (sym c.is_break.ensures.test ∙ c.if-not-is_break.true)
@@ -39,12 +38,12 @@ returns-in_err-scalar g c =
     let f = c.args.in_flow in
     let i = c.args.indent in
     let s = cursor_of c.args.self.now in
-    let there = cursor_of c.begins_ascii-is_ascii.new.self in
-    let end = cursor_of c.read_begun_words.new.self in
+    let there = cursor_of c.plain_word_starts.new.self in
+    let end = cursor_of c.read_plain_words.new.self in
     let text = string_bytes c.args.text.now in
-    let grown = string_bytes c.read_begun_words.new.text in
+    let grown = string_bytes c.read_plain_words.new.text in
     let starts = started (spec.word_starts f) s (cursor_of c.plain_word_starts.new.self) _ _ c.if-not-branch.false
-    c.in_ok-plain_word_starts.ensures ∙ ap (answer true) (sym c.begins_ascii-is_ascii.ensures) in
+    c.in_ok-plain_word_starts.ensures in
     let same = ap (λ b. spec.with_text (string_bytes b) (spec.word f i s.mark end.mark end.rest))
     c.replace-whole.ensures.value
     ∙ words_and_rest f i s there end end text grown starts c.in_ok-c.ensures.words refl in
@@ -55,12 +54,12 @@ returns g c =
     let f = c.args.in_flow in
     let i = c.args.indent in
     let s = cursor_of c.args.self.now in
-    let there = cursor_of c.begins_ascii-is_ascii.new.self in
-    let end = cursor_of c.read_begun_words.new.self in
+    let there = cursor_of c.plain_word_starts.new.self in
+    let end = cursor_of c.read_plain_words.new.self in
     let text = string_bytes c.args.text.now in
-    let grown = string_bytes c.read_begun_words.new.text in
+    let grown = string_bytes c.read_plain_words.new.text in
     let starts = started (spec.word_starts f) s (cursor_of c.plain_word_starts.new.self) _ _ c.if-not-branch.false
-    c.in_ok-plain_word_starts.ensures ∙ ap (answer true) (sym c.begins_ascii-is_ascii.ensures) in
+    c.in_ok-plain_word_starts.ensures in
     let same = ap (λ b. spec.with_text (string_bytes b) (spec.word f i s.mark end.mark end.rest))
     c.replace-whole.ensures.value
     ∙ words_and_rest f i s there end end text grown starts c.in_ok-c.ensures.words refl in

@@ -12,7 +12,7 @@ returns-then-is_at_closing_quote g c =
     let text = string_bytes c.take_literal_words.new.text in
     let closing : IsTrue (spec.is_closing a.quote there.rest) = sym c.is_at_closing_quote.ensures.value
     ∙ c.if-is_at_closing_quote.true in
-    sym (c.in_ok-take_literal_words.ensures.same a.indent a.start)
+    sym (c.in_ok-c.ensures.moved.same a.indent a.start)
     ∙ closing_closes a.quote a.indent a.start text there closing
     ∙ ap (λ s. let r : spec.TextRead = Ok (text, s) in r)
     (ap (pass 1) (sym c.is_at_closing_quote.ensures.same) ∙ sym c.skip_non_blank.ensures)

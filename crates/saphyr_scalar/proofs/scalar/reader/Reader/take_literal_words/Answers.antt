@@ -1,27 +1,12 @@
-use Rattle.std.proofs.Common.{ap, ◌∙◌}
-use Rattle.saphyr_scalar.specs.Views.Cursor.{along}
-use Rattle.saphyr_scalar.specs.Steps.Quoted.{is_literal}
-use Rattle.saphyr_scalar.specs.Steps.Sets.{is_content}
-use Rattle.saphyr_scalar.specs.Views.Reader.{cursor_of}
-use Rattle.saphyr_scalar.proofs.Lengths.{words_place_fits, words_left, column_left}
+use Rattle.saphyr_scalar.specs.declared.values.Quote.TheVariants.{Single, Double}
+use Rattle.saphyr_scalar.proofs.TakenWords.{on_ok}
 use Rattle.saphyr_scalar.proofs.Quoted.Words.{words_moved}
 use Rattle.saphyr_scalar.proofs.scalar.reader.Reader.take_literal_words.Goals as goal
 
-pub along-self-requires-clause-index : goal.along-self-requires-clause-index
-along-self-requires-clause-index g c =
-    words_place_fits (is_literal c.args.quote) is_content _ _ c.args.self.now.mark _ c.args.self.now.fits
-    c.in_ok-count.ensures.words.within c.fetch_literal_words.ensures.mark
+pub returns-in-Single-clause-moved : goal.returns-in-Single-clause-moved
+returns-in-Single-clause-moved g c =
+    rw c.in-Single.is (on_ok c.move_words.result (words_moved Single _ _ _ _) c.move_words.ensures.moved)
 
-pub invariant_of-self : goal.invariant_of-self
-invariant_of-self g c = record {
-  fits = words_left (is_literal c.args.quote) is_content _ _ _ c.args.self.now.mark _ _ c.args.self.now.fits
-      c.in_ok-count.ensures.words.within c.in_ok-count.ensures.words.transfers.taken
-      c.fetch_literal_words.ensures.mark c.along-self.ensures;
-  column = column_left _ _ _ c.fetch_literal_words.new.self.column c.along-self.ensures;
-}
-
-pub returns : goal.returns
-returns g c =
-    words_moved c.args.quote _ _ c.in_ok-count.count (cursor_of c.args.self.now) _ c.along-self.result
-    c.in_ok-count.ensures.words
-    (c.along-self.ensures ∙ ap (λ m. along m c.in_ok-count.count) c.fetch_literal_words.ensures.mark)
+pub returns-in-Double-clause-moved : goal.returns-in-Double-clause-moved
+returns-in-Double-clause-moved g c = rw c.in-Double.is
+    (on_ok c.move_words-in-Double.result (words_moved Double _ _ _ _) c.move_words-in-Double.ensures.moved)
