@@ -174,7 +174,7 @@ impl<T: Input> Reader<T> {
     }
 
     /// Takes off a plain scalar, inside flow or outside, and the blanks and breaks after it (YAML
-    /// 1.2.2, 7.3.3), and returns its text with its lines folded (6.5).
+    /// 1.2.2, 7.3.3). Its text has its lines folded (6.5).
     ///
     /// `indent` is the first column to the right of the enclosing block collection, or 0 if there
     /// is none. The scalar ends before `: `, a comment, a document marker, NUL, a byte order mark
@@ -185,37 +185,8 @@ impl<T: Input> Reader<T> {
     /// first, only a comment or nothing may follow a tab left of `indent`: other text is refused at
     /// the scalar's start, and a byte order mark at its own place. If no word of a scalar begins
     /// here, that is refused.
-    pub fn read_plain(
-        &mut self,
-        alloc: Global,
-        in_flow: bool,
-        indent: usize,
-    ) -> Result<PlainScalar, Stop>
-        ensures { ReadsBy spec.seen_plain_scalar (spec.plain in_flow indent) self.old result
-            self.new }
-    {
-        let start = self.mark;
-        if !self.plain_word_starts(in_flow)? {
-            return Err(Stop::Refused(Refusal {
-                text: FaultText::PlainEnd,
-                mark: start,
-            }));
-        }
-        let mut text = self.spare.begin(alloc)?;
-        let c = self.read_plain_words(in_flow, &mut text)?;
-        let end = self.mark;
-        // Most end right before a colon, a comma or a bracket, or with their line.
-        if self.ends_plain(c, in_flow, indent) {
-            let comment = None;
-            return Ok(PlainScalar { text, end, comment });
-        }
-        if is_break(c) {
-            return self.read_plain_lines(in_flow, indent, start, end, text);
-        }
-        self.read_plain_rest(in_flow, indent, start, text)
-    }
-
-    /// The same, with its text put behind another. If it fails, nothing is known of what is left of that text.
+    ///
+    /// The text is put behind another. After an error nothing is known of what is left of that text.
     #[inline(always)]
     pub fn read_plain_onto(
         &mut self,
@@ -236,14 +207,21 @@ impl<T: Input> Reader<T> {
             }));
         }
         let c = self.read_plain_words(in_flow, text)?;
-        // Most end right before a colon, a comma or a bracket.
-        if !is_break(c) && !is_blank(c) {
-            return Ok(PlainEnd {
-                end: self.mark,
-                comment: None,
-            });
+        let end = self.mark;
+        // Most end right before a colon, a comma or a bracket, or with their line.
+        if self.ends_plain(c, in_flow, indent) {
+            let comment = None;
+            return Ok(PlainEnd { end, comment });
         }
         let whole = replace(text, String::new(alloc));
+        if is_break(c) {
+            let folded = self.read_plain_lines(in_flow, indent, start, end, whole)?;
+            *text = folded.text;
+            return Ok(PlainEnd {
+                end: folded.end,
+                comment: folded.comment,
+            });
+        }
         let scalar = self.read_plain_rest(in_flow, indent, start, whole)?;
         *text = scalar.text;
         Ok(PlainEnd {

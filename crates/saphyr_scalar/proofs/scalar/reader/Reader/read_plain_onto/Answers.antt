@@ -1,8 +1,13 @@
+-- A plain scalar is put behind a text.
 use Rattle.std.proofs.Common.{string_bytes, refl, sym, ap, ◌∙◌}
+use Rattle.saphyr_input.specs.Classes.{is_break}
+use Rattle.saphyr_scalar.specs.Views.Cursor.{Cursor}
 use Rattle.saphyr_scalar.specs.Steps.Plain as spec
+use Rattle.saphyr_scalar.specs.Steps.PlainLines as lines
 use Rattle.saphyr_scalar.specs.Views.Reader.{cursor_of}
+use Rattle.saphyr_scalar.proofs.Choices.{shows}
+use Rattle.saphyr_scalar.proofs.Plain.LineEnds.{stays_there, blank_there, word_to_break, ended_at_once}
 use Rattle.saphyr_scalar.proofs.Plain.Pieces.{started, words_and_rest, plain_refused, no_plain, moves_refused, moves_failed}
-use Rattle.saphyr_scalar.proofs.Plain.WordEnds.{words_end}
 use Rattle.saphyr_scalar.proofs.scalar.reader.Reader.read_plain_onto.Goals as goal
 
 pub returns-in_err-plain_word_starts : goal.returns-in_err-plain_word_starts
@@ -18,20 +23,81 @@ returns-then-not-branch g c =
     ap (spec.with_text (string_bytes c.args.text.now)) (no_plain f c.args.indent s there
     (started (spec.word_starts f) s there _ _ c.if-not-branch.true c.in_ok-plain_word_starts.ensures))
 
-pub returns-then-not-is_blank : goal.returns-then-not-is_blank
-returns-then-not-is_blank g c =
+pub returns-then-ends_plain : goal.returns-then-ends_plain
+returns-then-ends_plain g c =
     let f = c.args.in_flow in
     let i = c.args.indent in
     let s = cursor_of c.args.self.now in
     let there = cursor_of c.plain_word_starts.new.self in
     let end = cursor_of c.read_plain_words.new.self in
+    let here = cursor_of c.ends_plain.new.self in
     let text = string_bytes c.args.text.now in
     let grown = string_bytes c.read_plain_words.new.text in
     let starts = started (spec.word_starts f) s (cursor_of c.plain_word_starts.new.self) _ _ c.if-not-branch.false
     c.in_ok-plain_word_starts.ensures in
-    words_end f i s there end end text grown _ starts c.in_ok-c.ensures.words refl
-    c.in_ok-c.ensures.end (sym c.is_blank.ensures.test ∙ c.if-not-is_blank.true)
-    (sym c.is_break.ensures.test ∙ c.if-not-is_break.true)
+    let words = c.in_ok-c.ensures.words in
+    sym (words_and_rest f i s there end end text grown starts words refl)
+    ∙ ended_at_once f i s.mark grown end here _ words.stops words.on_line
+    c.ends_plain.ensures.value c.if-ends_plain.true c.ends_plain.ensures.passed
+
+pub read_plain_lines-requires : goal.read_plain_lines-requires
+read_plain_lines-requires g c =
+    let end = cursor_of c.read_plain_words.new.self in
+    blank_there end (cursor_of c.ends_plain.new.self)
+    (shows is_break end.rest _ _ _ c.in_ok-c.ensures.end c.is_break.ensures.test c.if-is_break.true)
+    c.ends_plain.ensures.passed
+
+pub returns-in_err-folded : goal.returns-in_err-folded
+returns-in_err-folded g c =
+    let f = c.args.in_flow in
+    let i = c.args.indent in
+    let s = cursor_of c.args.self.now in
+    let there = cursor_of c.plain_word_starts.new.self in
+    let end = cursor_of c.read_plain_words.new.self in
+    let here = cursor_of c.ends_plain.new.self in
+    let text = string_bytes c.args.text.now in
+    let grown = string_bytes c.read_plain_words.new.text in
+    let starts = started (spec.word_starts f) s (cursor_of c.plain_word_starts.new.self) _ _ c.if-not-branch.false
+    c.in_ok-plain_word_starts.ensures in
+    let words = c.in_ok-c.ensures.words in
+    let breaks = shows is_break end.rest _ _ _ c.in_ok-c.ensures.end c.is_break.ensures.test c.if-is_break.true in
+    let same = ap (λ b. spec.with_text (string_bytes b) (lines.scalar_behind_line f i s.mark end.mark here))
+    c.replace-whole.ensures.value
+    ∙ word_to_break f i s.mark grown end here words.stops words.on_line breaks c.ends_plain.ensures.passed
+    ∙ words_and_rest f i s there end end text grown starts words refl in
+    moves_failed _ _ _ _ _ c.from_residual-in_err-folded.ensures.1 c.in_err-folded.ensures (λ r h. sym same ∙ h)
+
+pub returns-then-is_break : goal.returns-then-is_break
+returns-then-is_break g c =
+    let f = c.args.in_flow in
+    let i = c.args.indent in
+    let s = cursor_of c.args.self.now in
+    let there = cursor_of c.plain_word_starts.new.self in
+    let end = cursor_of c.read_plain_words.new.self in
+    let here = cursor_of c.ends_plain.new.self in
+    let text = string_bytes c.args.text.now in
+    let grown = string_bytes c.read_plain_words.new.text in
+    let starts = started (spec.word_starts f) s (cursor_of c.plain_word_starts.new.self) _ _ c.if-not-branch.false
+    c.in_ok-plain_word_starts.ensures in
+    let words = c.in_ok-c.ensures.words in
+    let breaks = shows is_break end.rest _ _ _ c.in_ok-c.ensures.end c.is_break.ensures.test c.if-is_break.true in
+    let same = ap (λ b. spec.with_text (string_bytes b) (lines.scalar_behind_line f i s.mark end.mark here))
+    c.replace-whole.ensures.value
+    ∙ word_to_break f i s.mark grown end here words.stops words.on_line breaks c.ends_plain.ensures.passed
+    ∙ words_and_rest f i s there end end text grown starts words refl in
+    sym same ∙ c.in_ok-folded.ensures
+
+pub read_plain_rest-requires : goal.read_plain_rest-requires
+read_plain_rest-requires g c =
+    let end = cursor_of c.read_plain_words.new.self in
+    let words = c.in_ok-c.ensures.words in
+    let stays = stays_there end (cursor_of c.ends_plain.new.self)
+    (shows is_break end.rest _ _ _ c.in_ok-c.ensures.end c.is_break.ensures.test c.if-is_break.false)
+    c.ends_plain.ensures.passed in
+    record {
+      ended = ap (λ (x : Cursor). spec.is_in_word c.args.in_flow x.rest) stays ∙ words.stops;
+      on_line = ap (λ (x : Cursor). x.blank_so_far) stays ∙ words.on_line;
+    }
 
 pub returns-in_err-scalar : goal.returns-in_err-scalar
 returns-in_err-scalar g c =
@@ -40,13 +106,18 @@ returns-in_err-scalar g c =
     let s = cursor_of c.args.self.now in
     let there = cursor_of c.plain_word_starts.new.self in
     let end = cursor_of c.read_plain_words.new.self in
+    let here = cursor_of c.ends_plain.new.self in
     let text = string_bytes c.args.text.now in
     let grown = string_bytes c.read_plain_words.new.text in
     let starts = started (spec.word_starts f) s (cursor_of c.plain_word_starts.new.self) _ _ c.if-not-branch.false
     c.in_ok-plain_word_starts.ensures in
-    let same = ap (λ b. spec.with_text (string_bytes b) (spec.word f i s.mark end.mark end.rest))
+    let words = c.in_ok-c.ensures.words in
+    let stays = stays_there end here
+    (shows is_break end.rest _ _ _ c.in_ok-c.ensures.end c.is_break.ensures.test c.if-is_break.false)
+    c.ends_plain.ensures.passed in
+    let same = ap (λ b. spec.with_text (string_bytes b) (spec.word f i s.mark here.mark here.rest))
     c.replace-whole.ensures.value
-    ∙ words_and_rest f i s there end end text grown starts c.in_ok-c.ensures.words refl in
+    ∙ words_and_rest f i s there end here text grown starts words stays in
     moves_failed _ _ _ _ _ c.from_residual-in_err-scalar.ensures.1 c.in_err-scalar.ensures (λ r h. sym same ∙ h)
 
 pub returns : goal.returns
@@ -56,11 +127,16 @@ returns g c =
     let s = cursor_of c.args.self.now in
     let there = cursor_of c.plain_word_starts.new.self in
     let end = cursor_of c.read_plain_words.new.self in
+    let here = cursor_of c.ends_plain.new.self in
     let text = string_bytes c.args.text.now in
     let grown = string_bytes c.read_plain_words.new.text in
     let starts = started (spec.word_starts f) s (cursor_of c.plain_word_starts.new.self) _ _ c.if-not-branch.false
     c.in_ok-plain_word_starts.ensures in
-    let same = ap (λ b. spec.with_text (string_bytes b) (spec.word f i s.mark end.mark end.rest))
+    let words = c.in_ok-c.ensures.words in
+    let stays = stays_there end here
+    (shows is_break end.rest _ _ _ c.in_ok-c.ensures.end c.is_break.ensures.test c.if-is_break.false)
+    c.ends_plain.ensures.passed in
+    let same = ap (λ b. spec.with_text (string_bytes b) (spec.word f i s.mark here.mark here.rest))
     c.replace-whole.ensures.value
-    ∙ words_and_rest f i s there end end text grown starts c.in_ok-c.ensures.words refl in
+    ∙ words_and_rest f i s there end here text grown starts words stays in
     sym same ∙ c.in_ok-scalar.ensures
