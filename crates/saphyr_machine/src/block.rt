@@ -39,11 +39,11 @@ impl<T: Input> Machine<T> {
     {
         match self.peek()? {
             TokenKind::BlockEntry => {
-                next.1 = self.pass();
+                next.1 = self.skip();
                 self.block_sequence_node(next)
             }
             TokenKind::BlockEnd => {
-                let span = self.pass();
+                let span = self.skip();
                 self.end_sequence(span, next);
                 Ok(())
             }
@@ -81,7 +81,7 @@ impl<T: Input> Machine<T> {
     {
         match self.peek()? {
             TokenKind::BlockEntry => {
-                next.1 = self.pass();
+                next.1 = self.skip();
                 self.indentless_sequence_node(next)
             }
             _ => {
@@ -137,7 +137,7 @@ impl<T: Input> Machine<T> {
                 Ok(())
             }
             TokenKind::BlockEnd => {
-                let span = self.pass();
+                let span = self.skip();
                 self.end_mapping(span, next);
                 Ok(())
             }
@@ -177,7 +177,7 @@ impl<T: Input> Machine<T> {
     {
         match self.peek()? {
             TokenKind::Value => {
-                next.1 = self.pass();
+                next.1 = self.skip();
                 self.block_value_node(next)
             }
             _ => {

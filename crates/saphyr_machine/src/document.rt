@@ -109,7 +109,7 @@ impl<T: Input> Machine<T> {
             (stopped_by result self.new.scanner.stop)
             (spec.version_declared t.span.start (seen declared.old self.old.prefixes) m) }
     {
-        let place = self.pass().start;
+        let place = self.skip().start;
         if declared.version {
             return Err(self.refuse(FaultText::DuplicateVersionDirective, place));
         }
@@ -190,7 +190,7 @@ impl<T: Input> Machine<T> {
     {
         match self.peek()? {
             TokenKind::StreamStart => {
-                let span = self.pass();
+                let span = self.skip();
                 self.state.set(State::ImplicitDocumentStart);
                 tell(next, Event::StreamStart, span);
                 Ok(())
@@ -225,7 +225,7 @@ impl<T: Input> Machine<T> {
     {
         match self.directives()? {
             TokenKind::DocumentStart => {
-                let span = self.pass();
+                let span = self.skip();
                 self.begin_document(true, State::DocumentContent, span, next)
             }
             TokenKind::ByteOrderMark => Err(self.refuse_next(FaultText::MisplacedByteOrderMark)),
@@ -240,7 +240,7 @@ impl<T: Input> Machine<T> {
             → machine.told_event events.StreamEnd t.span (machine.with_state End m)
             ≡ Ok (told_event_of (machine_of self.new) next.new) }
     {
-        let span = self.pass();
+        let span = self.skip();
         self.state.set(State::End);
         tell(next, Event::StreamEnd, span);
     }
@@ -334,7 +334,7 @@ impl<T: Input> Machine<T> {
         if !matches!(kind, TokenKind::ByteOrderMark) {
             return Ok(kind);
         }
-        let first = self.pass().start;
+        let first = self.skip().start;
         self.behind_marks(first)
     }
 

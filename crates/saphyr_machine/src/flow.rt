@@ -29,9 +29,11 @@ impl<T: Input> Machine<T> {
     {
         if !first {
             match self.peek()? {
-                TokenKind::FlowEntry => self.skip(),
+                TokenKind::FlowEntry => {
+                    self.skip();
+                }
                 TokenKind::FlowSequenceEnd => {
-                    let span = self.pass();
+                    let span = self.skip();
                     self.end_sequence(span, next);
                     return Ok(());
                 }
@@ -53,12 +55,12 @@ impl<T: Input> Machine<T> {
     {
         match self.peek()? {
             TokenKind::FlowSequenceEnd => {
-                let span = self.pass();
+                let span = self.skip();
                 self.end_sequence(span, next);
                 Ok(())
             }
             TokenKind::Key => {
-                let span = self.pass();
+                let span = self.skip();
                 self.begin_mapping(State::FlowSequenceEntryMappingKey, span, next);
                 Ok(())
             }
@@ -172,12 +174,12 @@ impl<T: Input> Machine<T> {
     {
         match self.peek()? {
             TokenKind::FlowEntry => {
-                next.1 = self.pass();
+                next.1 = self.skip();
                 let kind = self.peek()?;
                 self.flow_mapping_pair(kind, next)
             }
             TokenKind::FlowMappingEnd => {
-                let span = self.pass();
+                let span = self.skip();
                 self.end_mapping(span, next);
                 Ok(())
             }
@@ -244,7 +246,7 @@ impl<T: Input> Machine<T> {
     {
         match self.peek()? {
             TokenKind::Value => {
-                next.1 = self.pass();
+                next.1 = self.skip();
                 self.flow_value_node(next)
             }
             _ => {

@@ -126,28 +126,16 @@ impl<T: Input> Machine<T> {
         self.scanner.span()
     }
 
-    // Takes the next token.
-    #[inline(always)]
-    pub(super) fn skip(&mut self)
-        requires { IsReady self.old.scanner }
-        ensures { (t : Piece) (m : Seen) → spec.taken_token (machine_of self.old) ≡ Ok (t, m)
-            → machine_of self.new ≡ m }
-    {
-        self.scanner.skip();
-    }
-
     // Takes the next token, and returns its span.
     #[inline(always)]
-    pub(super) fn pass(&mut self) -> Span
+    pub(super) fn skip(&mut self) -> Span
         requires { IsReady self.old.scanner }
         ensures span { (t : Piece) (m : Seen) → spec.taken_token (machine_of self.old) ≡ Ok (t, m)
             → result ≡ t.span }
         ensures left { (t : Piece) (m : Seen) → spec.taken_token (machine_of self.old) ≡ Ok (t, m)
             → machine_of self.new ≡ m }
     {
-        let span = self.span();
-        self.skip();
-        span
+        self.scanner.skip()
     }
 
     // Takes the next token, and returns its text.

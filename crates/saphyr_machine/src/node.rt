@@ -131,7 +131,11 @@ impl<T: Input> Machine<T> {
             ≡ Ok (told_event_of (machine_of self.new) next.new) }
     {
         self.pop();
-        tell_over(next, Event::SequenceEnd, span);
+        next.1 = span;
+        // Many may end at one place. The event is then there already.
+        if !matches!(next.0, Event::SequenceEnd) {
+            next.0.write_over_untagged(Event::SequenceEnd);
+        }
     }
 
     // The mapping that is open ends.
@@ -142,7 +146,10 @@ impl<T: Input> Machine<T> {
             ≡ Ok (told_event_of (machine_of self.new) next.new) }
     {
         self.pop();
-        tell_over(next, Event::MappingEnd, span);
+        next.1 = span;
+        if !matches!(next.0, Event::MappingEnd) {
+            next.0.write_over_untagged(Event::MappingEnd);
+        }
     }
 
     // A sequence without properties begins.
@@ -185,22 +192,22 @@ impl<T: Input> Machine<T> {
     {
         match self.peek()? {
             TokenKind::FlowSequenceStart => {
-                let end = self.pass().end;
+                let end = self.skip().end;
                 self.open_sequence(State::FlowSequenceFirstEntry, properties, end, next);
                 Ok(())
             }
             TokenKind::FlowMappingStart => {
-                let end = self.pass().end;
+                let end = self.skip().end;
                 self.open_mapping(State::FlowMappingFirstKey, properties, end, next);
                 Ok(())
             }
             TokenKind::BlockSequenceStart if context.allows_block() => {
-                let end = self.pass().end;
+                let end = self.skip().end;
                 self.open_sequence(State::BlockSequenceEntry, properties, end, next);
                 Ok(())
             }
             TokenKind::BlockMappingStart if context.allows_block() => {
-                let end = self.pass().end;
+                let end = self.skip().end;
                 self.open_mapping(State::BlockMappingKey, properties, end, next);
                 Ok(())
             }
@@ -417,22 +424,22 @@ impl<T: Input> Machine<T> {
     {
         match kind {
             TokenKind::FlowSequenceStart => {
-                let span = self.pass();
+                let span = self.skip();
                 self.begin_sequence(State::FlowSequenceFirstEntry, span, next);
                 Ok(())
             }
             TokenKind::FlowMappingStart => {
-                let span = self.pass();
+                let span = self.skip();
                 self.begin_mapping(State::FlowMappingFirstKey, span, next);
                 Ok(())
             }
             TokenKind::BlockSequenceStart if context.allows_block() => {
-                let span = self.pass();
+                let span = self.skip();
                 self.begin_sequence(State::BlockSequenceEntry, span, next);
                 Ok(())
             }
             TokenKind::BlockMappingStart if context.allows_block() => {
-                let span = self.pass();
+                let span = self.skip();
                 self.begin_mapping(State::BlockMappingKey, span, next);
                 Ok(())
             }

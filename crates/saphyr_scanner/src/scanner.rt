@@ -95,14 +95,16 @@ impl<T: Input> Scanner<T> {
         self.engine.span()
     }
 
-    /// Takes the next token. To be called where it was peeked.
+    /// Takes the next token, and returns its span. To be called where it was peeked.
     #[inline(always)]
-    pub fn skip(&mut self)
+    pub fn skip(&mut self) -> Span
         requires { IsReady self.old }
-        ensures { (t : Piece) (left : Remaining) → tokens_of self.old ≡ before t left
+        ensures span { (t : Piece) (left : Remaining) → tokens_of self.old ≡ before t left
+            → result ≡ t.span }
+        ensures left { (t : Piece) (left : Remaining) → tokens_of self.old ≡ before t left
             → tokens_of self.new ≡ left }
     {
-        self.engine.skip();
+        self.engine.skip()
     }
 
     /// Takes the next token, and returns its text, which is empty where its kind has none. To be called where it was

@@ -176,13 +176,14 @@ impl<T: Input> Engine<T> {
         self.queue.span()
     }
 
-    /// Takes the first token off the queue.
+    /// Takes the first token off the queue, and returns its span.
     #[inline(always)]
-    pub(crate) fn skip(&mut self)
+    pub(crate) fn skip(&mut self) -> Span
         requires { (state self.old).queue.handed + 1 < 2 ^ 64 }
-        ensures { state self.new ≡ (fetch.take_token (state self.old)).1 }
+        ensures span { (t : Piece) → first_of (state self.old).queue ≡ Some t → result ≡ t.span }
+        ensures left { state self.new ≡ (fetch.take_token (state self.old)).1 }
     {
-        self.queue.skip();
+        self.queue.skip()
     }
 
     /// Takes the first token off the queue, and returns its text.

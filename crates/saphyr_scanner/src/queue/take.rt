@@ -62,25 +62,32 @@ impl Queue {
         }
     }
 
-    /// Takes off the token that is handed out next.
+    /// Takes off the token that is handed out next, and returns its span.
     #[inline(always)]
-    pub(crate) fn skip(&mut self)
+    pub(crate) fn skip(&mut self) -> Span
         requires { self.old.handed + 1 < 2 ^ 64 }
-        ensures { queue self.new ≡ behind_first (queue self.old) }
+        ensures span { (t : Piece) → first_of (queue self.old) ≡ Some t → result ≡ t.span }
+        ensures left { queue self.new ≡ behind_first (queue self.old) }
     {
         let Some(place) = self.places.get_mut(self.spent) else {
-            return;
+            return Span::empty(Marker::new(0, 0, 0));
         };
+        let span = place.span(&self.texts);
         match place.opening {
             Opening::Nothing => {
                 place.pass_texts(&mut self.texts);
                 self.spent += 1;
                 self.handed += 1;
                 self.clear_spent();
+                span
             }
-            Opening::Key => place.opening = Opening::Nothing,
+            Opening::Key => {
+                place.opening = Opening::Nothing;
+                Span::empty(span.start)
+            }
             Opening::BlockMappingAndKey | Opening::FlowMappingAndKey => {
                 place.opening = Opening::Key;
+                Span::empty(span.start)
             }
         }
     }

@@ -16,8 +16,8 @@ use std::marker::Model;
 use std::mem::replace;
 use std::str;
 
-// A text of this many bytes is handed out in the memory where it is, if no other is there. To copy a shorter one costs
-// little, and its memory may be much larger than it.
+// A text that has this many bytes, or whose memory has no more, is handed out in the memory where it is, if no other is
+// there. The memory of another may be much larger than it.
 const LONG: usize = 4096;
 
 /// The span of a token, how many bytes its handle and its text have, and the numbers of a version directive.
@@ -188,6 +188,12 @@ impl Texts {
         self.spent += count;
     }
 
+    // Whether a text of so many bytes, which is alone, is handed out in the memory where it is.
+    #[inline(always)]
+    fn is_handed_over(&self, count: usize) -> bool {
+        count >= LONG || self.texts.capacity() <= LONG
+    }
+
     /// Takes the first text off, which has so many bytes, and returns it.
     #[inline(always)]
     pub(super) fn take_text(
@@ -202,6 +208,9 @@ impl Texts {
         ensures failed { OnErr result (self.new ≡ self.old) }
     {
         let mut text = spare.begin(alloc)?;
+        if self.spent == 0 && count == self.texts.len() && self.is_handed_over(count) {
+            return Ok(replace(&mut self.texts, text));
+        }
         text.push_str(self.text_at(0, count))?;
         self.spent += count;
         Ok(text)
@@ -244,7 +253,7 @@ impl Texts {
         let extent = self.first_extent();
         let mut text = spare.begin(alloc)?;
         let is_alone = self.spent + extent.handle == 0 && extent.text == self.texts.len();
-        if is_alone && extent.text >= LONG {
+        if is_alone && self.is_handed_over(extent.text) {
             let text = replace(&mut self.texts, text);
             drop(self.extents.pop_front());
             return Ok(text);

@@ -28,7 +28,7 @@ loop-kind-preserved g c =
     let shown = c.in_ok-kind.ensures in
     let next = shown.0.0 in
     let t = piece_with next.0 c.in_ok-kind.kind next.1 in
-    ap (unpassed_token (is_passable c.args.ends)) (c.skip.ensures t next.2 next.3)
+    ap (unpassed_token (is_passable c.args.ends)) (c.skip.ensures.left t next.2 next.3)
     ∙ passes_on (is_passable c.args.ends) (machine_of c.args.self.now) (machine_of c.loop-kind.self) next.2 t _
     c.loop-kind.invariant (ap taken_token (sym shown.1) ∙ next.3) (c.is_passable.ensures next.1)
     c.if-not-is_passable.false
@@ -39,5 +39,5 @@ loop-kind-smaller g c =
     let next = shown.0.0 in
     let t = piece_with next.0 c.in_ok-kind.kind next.1 in
     subst (λ (m : Machine). length m.tokens.pieces < length (machine_of c.loop-kind.self).tokens.pieces)
-    (sym (c.skip.ensures t next.2 next.3))
+    (sym (c.skip.ensures.left t next.2 next.3))
     (shorter (machine_of c.loop-kind.self) next.2 t (ap taken_token (sym shown.1) ∙ next.3))

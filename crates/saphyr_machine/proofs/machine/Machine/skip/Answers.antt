@@ -5,8 +5,14 @@ use Rattle.saphyr_machine.specs.Views.Machines.{machine_of}
 use Rattle.saphyr_machine.proofs.Passing.{takes_first, with_tokens}
 use Rattle.saphyr_machine.proofs.machine.Machine.skip.Goals as goal
 
-pub returns : goal.returns
-returns g c t m is =
+pub returns-clause-span : goal.returns-clause-span
+returns-clause-span g c t m is =
     let old = c.args.self.now in
     let first = takes_first old.end (tokens_of old.scanner) (machine_of old) m t is in
-    ap (λ r. with_tokens old.end r (machine_of old)) (c.skip.ensures t first.0 first.1) ∙ sym first.2
+    c.skip.ensures.span t first.0 first.1
+
+pub returns-clause-left : goal.returns-clause-left
+returns-clause-left g c t m is =
+    let old = c.args.self.now in
+    let first = takes_first old.end (tokens_of old.scanner) (machine_of old) m t is in
+    ap (λ r. with_tokens old.end r (machine_of old)) (c.skip.ensures.left t first.0 first.1) ∙ sym first.2

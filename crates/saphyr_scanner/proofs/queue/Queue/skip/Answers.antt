@@ -6,9 +6,9 @@ use Rattle.saphyr_scanner.specs.Views.Queue.{queue_places}
 use Rattle.saphyr_scanner.proofs.QueuedPlaces.{begins_at, first_queued, with_front}
 use Rattle.saphyr_scanner.proofs.queue.Queue.skip.Goals as goal
 
-pub returns-in-Key : goal.returns-in-Key
+pub returns-in-Key-clause-left : goal.returns-in-Key-clause-left
 unfolding queue_places
-returns-in-Key c =
+returns-in-Key-clause-left c =
     let old = c.args.self.now in
     let place = c.in-Some.place.now in
     let some = c.in-Some.ensures.item.3.0 in
@@ -16,9 +16,9 @@ returns-in-Key c =
     let opened = drop-set old.places.items old.spent (with_front opening.Nothing place) some in
     search (rules, first, opened)
 
-pub returns-in-BlockMappingAndKey : goal.returns-in-BlockMappingAndKey
+pub returns-in-BlockMappingAndKey-clause-left : goal.returns-in-BlockMappingAndKey-clause-left
 unfolding queue_places
-returns-in-BlockMappingAndKey c =
+returns-in-BlockMappingAndKey-clause-left c =
     let old = c.args.self.now in
     let place = c.in-Some.place.now in
     let some = c.in-Some.ensures.item.3.0 in

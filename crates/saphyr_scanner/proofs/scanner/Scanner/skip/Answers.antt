@@ -6,8 +6,14 @@ use Rattle.saphyr_scanner.proofs.Turns.{one_first}
 use Rattle.saphyr_scanner.specs.Steps.Remaining.{remaining}
 use Rattle.saphyr_scanner.proofs.scanner.Scanner.skip.Goals as goal
 
-pub returns : goal.returns
-returns g c t left is =
+pub returns-clause-span : goal.returns-clause-span
+returns-clause-span g c t left is =
     let ready = subst IsReady (sym c.self.view_is) c.requires in
-    ap (remaining c.self.inside.limit) c.skip.ensures
+    c.skip.ensures.span t (one_first c.self.inside.limit (state c.self.inside.engine) t left ready.0
+    (ap tokens_of c.self.view_is ∙ is)).0
+
+pub returns-clause-left : goal.returns-clause-left
+returns-clause-left g c t left is =
+    let ready = subst IsReady (sym c.self.view_is) c.requires in
+    ap (remaining c.self.inside.limit) c.skip.ensures.left
     ∙ (one_first c.self.inside.limit (state c.self.inside.engine) t left ready.0 (ap tokens_of c.self.view_is ∙ is)).1
