@@ -1,11 +1,11 @@
 -- Tokens that a reader is given change nothing of where the parser is.
-use Rattle.std.proofs.Common.{◌≡◌, ℕ, Bool, true, false, List, [], ◌∷◌, Option, None, Ok, refl, sym, ap, ◌∙◌, subst}
+use Rattle.std.proofs.Common.{◌≡◌, ℕ, Bool, true, false, List, [], ◌∷◌, Option, None, refl, sym, ap, ◌∙◌, subst}
 use Rattle.std.specs.Prelude.{◌||◌, string_bytes}
 use Rattle.std.specs.Str.{chars}
 use Rattle.std.proofs.lemmas.List.{append_assoc}
 use Rattle.saphyr_scalar.specs.declared.scalar.fault.Refusal.{Refusal}
-use Rattle.saphyr_scanner.specs.Views.Tokens.{Hands, Piece, Remaining, before, piece, written_token}
-use Rattle.saphyr_scanner.specs.declared.token.Token.{Token}
+use Rattle.saphyr_scanner.specs.Views.Scanning.{Scanning, tokens_of}
+use Rattle.saphyr_scanner.specs.Views.Tokens.{Piece, Remaining, before}
 use Rattle.saphyr_input.specs.declared.input.str.StrInput.{StrInput}
 use Rattle.saphyr_machine.specs.declared.reader.EventReader.{EventReader}
 use Rattle.saphyr_machine.specs.Steps.Documents.{is_over}
@@ -44,11 +44,6 @@ neither false b e = (refl, e)
 
 -- ## One more token
 
-pub first_handed : (b : Bool) (t : Token) (r q : Remaining) → b ≡ true → Hands (Ok (written_token b t)) r q
-    → r ≡ before (piece t) q
-first_handed true t r q is h = h
-first_handed false t r q is h = absurd (true_is_not_false (sym is))
-
 pub given_last : (b : Bool) (t : Piece) (c d : EventCursor) → b ≡ true → IsGivenLast b t c d
     → d ≡ record c { machine = with_last_token t c.machine }
 given_last true t c d is h = h
@@ -57,15 +52,18 @@ given_last false t c d is h = absurd (true_is_not_false (sym is))
 refusal_behind : (t : Piece) (r q : Remaining) → r ≡ before t q → r.refusal ≡ None → q.refusal ≡ None
 refusal_behind t r q e h = sym (ap (λ (v : Remaining). v.refusal) e) ∙ h
 
-module _ (p : PieceReader) (ts : Remaining) (e : EventReader StrInput) (r : Readiness) (t : Piece)
-    (first : p.tokens ≡ before t ts) (more : r ≡ with_kind t.kind p.readiness)
+module _ (p : PieceReader) (q : Scanning) (e : EventReader StrInput) (r : Readiness) (t : Piece)
+    (first : tokens_of p.tokens ≡ before t (tokens_of q)) (more : r ≡ with_kind t.kind p.readiness)
     (given : cursor e ≡ record (cursor p.reader) { machine = with_last_token t (cursor p.reader).machine }) where
+  abbrev ts : Remaining
+  ts = tokens_of q
+
   abbrev fed : PieceReader
-  fed = record p { tokens = ts; reader = e; readiness = r }
+  fed = record p { tokens = q; reader = e; readiness = r }
 
   sound_from : (s : Source) → IsSoundFrom s p → IsSoundFrom s fed
-  sound_from (source.Text st) h = (h.0, refusal_behind t p.tokens ts first h.1, h.2)
-  sound_from (source.Read o) h = refusal_behind t p.tokens ts first h
+  sound_from (source.Text st) h = (h.0, refusal_behind t (tokens_of p.tokens) ts first h.1, h.2)
+  sound_from (source.Read o) h = refusal_behind t (tokens_of p.tokens) ts first h
   sound_from source.Given h = tt
   sound_from source.Lost h = tt
 

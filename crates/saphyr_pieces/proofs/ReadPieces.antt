@@ -5,12 +5,16 @@ use Rattle.std.specs.Str.{chars}
 use Rattle.std.proofs.lemmas.List.{append_assoc}
 use Rattle.std.proofs.lemmas.Str.{chars-append}
 use Rattle.saphyr_scalar.specs.declared.scalar.fault.Refusal.{Refusal}
+use Rattle.saphyr_scalar.specs.declared.scalar.fault.Stop.{Stop}
+use Rattle.saphyr_scalar.specs.declared.scalar.position.Span.{Span}
 use Rattle.saphyr_scanner.specs.declared.token.Token.{Token}
+use Rattle.saphyr_scanner.specs.declared.token.TokenKind.{TokenKind}
+use Rattle.saphyr_scanner.proofs.QueuedPlaces.{kind_told}
 use Rattle.saphyr_scanner.specs.Steps.Fetch.{state_behind_token, take_token}
 use Rattle.saphyr_scanner.specs.Steps.Remaining.{scan, remaining}
 use Rattle.saphyr_scanner.specs.Steps.State.{State, start, with_rest}
-use Rattle.saphyr_scanner.specs.Views.Stepping.{Stepping}
-use Rattle.saphyr_scanner.specs.Views.Tokens.{Hands, Piece, Remaining, none, piece, written_token}
+use Rattle.saphyr_scanner.specs.Views.Scanning.{Scanning, tokens_of}
+use Rattle.saphyr_scanner.specs.Views.Tokens.{BeginsWith, Parts, Piece, Remaining, before, kind_with, none, piece, piece_with, token_kind}
 use Rattle.saphyr_machine.specs.Calls.{IsGivenLast}
 use Rattle.saphyr_machine.specs.Cursor.{EventCursor, at_start}
 use Rattle.saphyr_machine.specs.Steps.Machine.{with_last_token}
@@ -33,13 +37,22 @@ use Rattle.saphyr_pieces.specs.Scanning.{ReadsTokens, all_tokens, ended_by}
 use Rattle.saphyr_pieces.specs.Views.{HasTokens, IsSoundReader, IsSoundFrom, pieces_of}
 use Rattle.saphyr_pieces.proofs.Comes.{came_all, came_more, first_read, first_token_comes, near, started}
 
--- a token that is taken off is one less
-pub fewer : (written : Bool) (t : Token) (old new : Remaining) → written ≡ true
-    → Hands (Ok (written_token written t)) old new → length new.pieces < length old.pieces
-fewer true t old new e h =
-    let one : length old.pieces ≡ length (piece t ∷ new.pieces) = ap (λ (r : Remaining). length r.pieces) h in
-    omega (arith, one)
-fewer false t old new e h = absurd (cc)
+-- what is shown of the first token, and what is taken of it, is that token
+pub told_first : (o : Option TokenKind) (kind : TokenKind) (old shown new : Remaining) (span : Span) (x : Parts)
+    → o ≡ Some kind → BeginsWith o old → shown ≡ old
+    → ((t : Piece) (left : Remaining) → shown ≡ before t left → span ≡ t.span)
+    → ((t : Piece) (left : Remaining) → shown ≡ before t left → t.kind ≡ kind_with (token_kind t.kind) x)
+    → ((t : Piece) (left : Remaining) → shown ≡ before t left → new ≡ left)
+    → old ≡ before (piece_with span kind x) new
+told_first None kind old shown new span x is first same spans kinds news = absurd (cc)
+told_first (Some k) kind old shown new span x is first same spans kinds news =
+    let t : Piece = piece_with first.0 k first.1 in
+    let there = same ∙ first.3 in
+    let one : k ≡ kind = cc in
+    let what = kinds t first.2 there ∙ ap (λ j. kind_with j x) (kind_told k first.1 ∙ one) in
+    let place = sym (spans t first.2 there) in
+    let left = sym (news t first.2 there) in
+    first.3 ∙ λ i. before (record { span = place i; kind = what i }) (left i)
 
 -- ## The first token
 
@@ -67,13 +80,16 @@ takes_first limit s t u x p q r =
     first_taken_from : (v : State) → v ≡ started [] → take_token v ≡ (Some first_token, begun_state [])
     first_taken_from v e = ap take_token e
 
-pub written_first : (written : Bool) (t : Token) (x : Piece) → option_map piece (written_token written t) ≡ Some x
-    → piece t ≡ x
-written_first true t x e = cc
-written_first false t x e = absurd (cc)
+-- the token that is taken off
+pub taken_first : (o : Option Token) (t : Token) (x : Piece) → o ≡ Some t → option_map piece o ≡ Some x → piece t ≡ x
+taken_first (Some u) t x is e =
+    let same : u ≡ t = cc in
+    let first : piece u ≡ x = cc in
+    ap piece (sym same) ∙ first
+taken_first None t x is e = absurd (cc)
 
 -- a reader of pieces whose tokens come from a scanner
-abbrev pub of_text : Stepping → List ℕ → Remaining → EventCursor → Pieces
+abbrev pub of_text : Scanning → List ℕ → Remaining → EventCursor → Pieces
 of_text s rest tokens reader = record { source = source.Text s; rest = rest; tokens = tokens; reader = reader }
 
 -- a reader of events that has the first token
@@ -89,27 +105,32 @@ gives_first false x tokens old new is p q e h = absurd (cc)
 
 -- ## At the start
 
-begins_so : Laws → (text : List ℕ)
-    → at (of_text (record { state = begun_state []; limit = most_characters }) [] none with_first_token) text
+-- a scanner that has handed out the first token of a text of which nothing came
+abbrev begun : Stop → Scanning
+begun end = record { state = begun_state []; limit = most_characters; stop = end }
+
+begins_so : Laws → (end : Stop) (text : List ℕ) → at (of_text (begun end) [] none with_first_token) text
     ≡ at_start (scan most_characters text)
-begins_so laws text = ap at_start (sym (first_token_comes laws most_characters text))
+begins_so laws end text = ap at_start (sym (first_token_comes laws most_characters text))
 
-same_stepping : (s t : Stepping) → s.state ≡ t.state → s.limit ≡ t.limit → s ≡ t
-same_stepping s t p q =
-    ap (λ x. let v : Stepping = record { state = x; limit = s.limit } in v) p
-    ∙ ap (λ n. let v : Stepping = record { state = t.state; limit = n } in v) q
+-- the same scanner, whatever ended its reading
+abbrev pub IsSameScanner : Scanning → Scanning → Type 0
+IsSameScanner s t = record s { stop = t.stop } ≡ t
 
-pub begins : Laws → (s : Stepping) (rest : List ℕ) (tokens : Remaining) (reader : EventCursor)
+same_scanner : (s t : Scanning) → s.state ≡ t.state → s.limit ≡ t.limit → IsSameScanner s t
+same_scanner s t p q = λ i. record { state = p i; limit = q i; stop = t.stop }
+
+pub begins : Laws → (s : Scanning) (rest : List ℕ) (tokens : Remaining) (reader : EventCursor)
     → s.state ≡ begun_state [] → s.limit ≡ most_characters → rest ≡ [] → tokens ≡ none → reader ≡ with_first_token
     → (text : List ℕ) → at (of_text s rest tokens reader) text ≡ at_start (scan most_characters text)
 begins laws s rest tokens reader p q a b c text =
-    let first : Stepping = record { state = begun_state []; limit = most_characters } in
-    let e : s ≡ first = same_stepping s first p q in
+    let first = begun s.stop in
+    let e : s ≡ first = same_scanner s first p q in
     ap (λ x. at (of_text x rest tokens reader) text) e
     ∙ ap (λ x. at (of_text first x tokens reader) text) a
     ∙ ap (λ x. at (of_text first [] x reader) text) b
     ∙ ap (λ x. at (of_text first [] none x) text) c
-    ∙ begins_so laws text
+    ∙ begins_so laws s.stop text
 
 pub begins_there : (s : State) (rest : List ℕ) → s ≡ begun_state [] → rest ≡ []
     → HasCome most_characters false None [] (with_rest rest s)
@@ -159,7 +180,7 @@ source_stays laws (source.Text s) p q more w t e follows remembers h =
     let Came : List ℕ → Type 0 = λ r. HasCome most_characters false p.marker (text ++ more) (with_rest r s.state) in
     let there = subst Came (sym e) came in (
       h.0,
-      ap (λ (r : Remaining). r.refusal) t ∙ h.1,
+      ap (λ r. (tokens_of r).refusal) t ∙ h.1,
       (
         text ++ more,
         (remembers text h.2.1.1 (with_rest (chars (string_bytes q.text)) s.state) there, follows text h.2.1.1),
@@ -185,18 +206,18 @@ grown old more new h e = ap chars e ∙ chars-append old more h
 
 -- ## Tokens are read
 
-resumes : (s t : Stepping) (rest : List ℕ) → t.state ≡ with_rest rest s.state → t.limit ≡ s.limit
-    → t ≡ resumed rest s
-resumes s t rest p q = same_stepping t (resumed rest s) p q
+resumes : (s t : Scanning) (rest : List ℕ) → t.state ≡ with_rest rest s.state → t.limit ≡ s.limit
+    → IsSameScanner t (resumed rest s)
+resumes s t rest p q = same_scanner t (resumed rest s) p q
 
 -- before the rest of its own text
-rested : (t u : Stepping) (rest : List ℕ) → rest ≡ t.state.core.cursor.rest → u.state ≡ with_rest [] t.state
-    → u.limit ≡ t.limit → resumed rest u ≡ t
+rested : (t u : Scanning) (rest : List ℕ) → rest ≡ t.state.core.cursor.rest → u.state ≡ with_rest [] t.state
+    → u.limit ≡ t.limit → IsSameScanner (resumed rest u) t
 rested t u rest p q r =
-    same_stepping (resumed rest u) t (ap (with_rest rest) q ∙ ap (λ x. with_rest x t.state) p) r
+    same_scanner (resumed rest u) t (ap (with_rest rest) q ∙ ap (λ x. with_rest x t.state) p) r
 
-stops : (ended : Bool) (s t u v : Stepping) (rest left later : List ℕ) (tokens read : Remaining)
-    (reader : EventCursor) → ended ≡ false → t ≡ resumed rest s → resumed left v ≡ u
+stops : (ended : Bool) (s t u v : Scanning) (rest left later : List ℕ) (tokens read : Remaining)
+    (reader : EventCursor) → ended ≡ false → IsSameScanner t (resumed rest s) → IsSameScanner (resumed left v) u
     → all_tokens ended later t tokens ≡ all_tokens ended later u read
     → at (of_text v left read reader) later ≡ at (of_text s rest tokens reader) (until_ended ended later)
 stops true s t u v rest left later tokens read reader over e f h = absurd (cc)
@@ -205,19 +226,19 @@ stops false s t u v rest left later tokens read reader over e f h =
     ∙ ap (λ x. with_others x reader) (sym h)
     ∙ ap (λ x. with_others (all_tokens false later x tokens) reader) e
 
-ends : (ended : Bool) (s t : Stepping) (rest later : List ℕ) (tokens : Remaining) (all : Remaining)
-    (reader : EventCursor) → t ≡ resumed rest s → all_tokens ended later t tokens ≡ all
+ends : (ended : Bool) (s t : Scanning) (rest later : List ℕ) (tokens : Remaining) (all : Remaining)
+    (reader : EventCursor) → IsSameScanner t (resumed rest s) → all_tokens ended later t tokens ≡ all
     → with_others all reader ≡ at (of_text s rest tokens reader) (until_ended ended later)
 ends ended s t rest later tokens all reader e h =
     ap (λ x. with_others x reader) (sym h)
     ∙ ap (λ x. with_others (all_tokens ended later x tokens) reader) e
 
 -- where the scanner goes on
-pub comes_on : Laws → (ended : Bool) (marker : Option ℕ) (text : List ℕ) (s t : Stepping) (rest : List ℕ)
-    → s.limit ≡ most_characters → t ≡ resumed rest s
+pub comes_on : Laws → (ended : Bool) (marker : Option ℕ) (text : List ℕ) (s t : Scanning) (rest : List ℕ)
+    → s.limit ≡ most_characters → IsSameScanner t (resumed rest s)
     → HasCome most_characters false marker text (with_rest rest s.state) → HasCome t.limit ended marker text t.state
 comes_on laws ended marker text s t rest p e h =
-    subst (λ (x : Stepping). HasCome x.limit ended marker text x.state) (sym e)
+    subst (λ (x : Scanning). HasCome x.limit ended marker text x.state) (sym e)
     (subst (λ n. HasCome n ended marker text (with_rest rest s.state)) (sym p) (by ended))
   where
     by : (b : Bool) → HasCome most_characters b marker text (with_rest rest s.state)
@@ -235,12 +256,12 @@ abbrev pub rest_of : PieceReader → List ℕ
 rest_of p = chars (string_bytes p.text)
 
 -- the reader's scanner is the first, and the second goes on over what came
-pub record Scans (p : PieceReader) (s t : Stepping) : Type 0 where
+pub record Scans (p : PieceReader) (s t : Scanning) : Type 0 where
   pub is : p.source ≡ source.Text s
   pub sound : IsSoundReader p
-  pub over : t ≡ resumed (rest_of p) s
+  pub over : IsSameScanner t (resumed (rest_of p) s)
 
-pub scans : (p : PieceReader) (s t : Stepping) (rest : List ℕ) → p.source ≡ source.Text s → IsSoundReader p
+pub scans : (p : PieceReader) (s t : Scanning) (rest : List ℕ) → p.source ≡ source.Text s → IsSoundReader p
     → rest ≡ rest_of p → t.state ≡ with_rest rest s.state → t.limit ≡ s.limit → Scans p s t
 scans p s t rest e h q state limit = record {
   is = e;
@@ -249,7 +270,7 @@ scans p s t rest e h q state limit = record {
 }
 
 -- the reader's place is not far in the text
-pub is_near : (p : PieceReader) (s : Stepping) (rest : List ℕ) → p.source ≡ source.Text s → IsSoundReader p
+pub is_near : (p : PieceReader) (s : Scanning) (rest : List ℕ) → p.source ≡ source.Text s → IsSoundReader p
     → rest ≡ rest_of p → length (rest_of p) < 2 ^ 63 → s.state.core.cursor.mark.index + length rest < 2 ^ 64
 is_near p s rest e h q fits =
     let at = sound_from p (source.Text s) e h in
@@ -258,42 +279,42 @@ is_near p s rest e h q fits =
     let same : length rest ≡ length (rest_of p) = ap length q in
     omega (arith, low, same, fits)
 
-pub comes_so : Laws → (ended : Bool) (p : PieceReader) (s t : Stepping) → Scans p s t
+pub comes_so : Laws → (ended : Bool) (p : PieceReader) (s t : Scanning) → Scans p s t
     → (text : List ℕ) × HasCome t.limit ended p.marker text t.state
 comes_so laws ended p s t w =
     let at = sound_from p (source.Text s) w.is w.sound in
     (at.0.2.0, comes_on laws ended p.marker at.0.2.0 s t (rest_of p) at.0.0 w.over at.0.2.1.0)
 
 -- what the reading gives of the text that came
-abbrev pub ReadsAll : Bool → PieceReader → Stepping → Reading → Stepping → Remaining → Type 0
+abbrev pub ReadsAll : Bool → PieceReader → Scanning → Reading → Scanning → Remaining → Type 0
 ReadsAll ended p t r u read = (text : List ℕ) → HasCome t.limit ended p.marker text t.state
-    → ReadsTokens ended p.marker text t p.tokens r u read
+    → ReadsTokens ended p.marker text t (tokens_of p.tokens) r u read
 
-of_source : (p : PieceReader) (s : Stepping) (later : List ℕ) → p.source ≡ source.Text s
-    → at (of_text s (rest_of p) p.tokens (cursor p.reader)) later ≡ at (pieces_of p) later
+of_source : (p : PieceReader) (s : Scanning) (later : List ℕ) → p.source ≡ source.Text s
+    → at (of_text s (rest_of p) (tokens_of p.tokens) (cursor p.reader)) later ≡ at (pieces_of p) later
 of_source p s later e =
-    ap (λ x. at (record { source = x; rest = rest_of p; tokens = p.tokens; reader = cursor p.reader }) later) (sym e)
+    ap (λ x. at (record { source = x; rest = rest_of p; tokens = tokens_of p.tokens; reader = cursor p.reader }) later) (sym e)
 
 -- ## The scanner stopped
 
 -- the scanner stopped before the next token may be read
-pub record StopsAt (ended : Bool) (p : PieceReader) (t u : Stepping) (read : Remaining) : Type 0 where
+pub record StopsAt (ended : Bool) (p : PieceReader) (t u : Scanning) (read : Remaining) : Type 0 where
   pub text : List ℕ
   pub goes_on : ended ≡ false
   pub limit : u.limit ≡ most_characters
   pub comes : HasCome u.limit false p.marker text u.state
   pub follows : IsLastLineOf p.lines text
   pub none : read.refusal ≡ None
-  pub same : (later : List ℕ) → all_tokens ended later t p.tokens ≡ all_tokens ended later u read
+  pub same : (later : List ℕ) → all_tokens ended later t (tokens_of p.tokens) ≡ all_tokens ended later u read
 
-stops_at : Laws → (ended : Bool) (p : PieceReader) (s t u : Stepping) (read : Remaining) (r : Reading) → Scans p s t
+stops_at : Laws → (ended : Bool) (p : PieceReader) (s t u : Scanning) (read : Remaining) (r : Reading) → Scans p s t
     → r ≡ reading.Stopped → ReadsAll ended p t r u read → StopsAt ended p t u read
 stops_at laws ended p s t u read r w e h =
     let at = sound_from p (source.Text s) w.is w.sound in
     let text = at.0.2.0 in
     let comes = comes_on laws ended p.marker text s t (rest_of p) at.0.0 w.over at.0.2.1.0 in
-    let x = subst (λ y. ReadsTokens ended p.marker text t p.tokens y u read) e (h text comes) in
-    let limit : t.limit ≡ most_characters = ap (λ (y : Stepping). y.limit) w.over ∙ at.0.0 in
+    let x = subst (λ y. ReadsTokens ended p.marker text t (tokens_of p.tokens) y u read) e (h text comes) in
+    let limit : t.limit ≡ most_characters = ap (λ (y : Scanning). y.limit) w.over ∙ at.0.0 in
     record {
       text = text;
       goes_on = x.0;
@@ -304,7 +325,7 @@ stops_at laws ended p s t u read r w e h =
       same = x.4;
     }
 
-stop_is_near : (ended : Bool) (p : PieceReader) (t u : Stepping) (read : Remaining) (rest : List ℕ)
+stop_is_near : (ended : Bool) (p : PieceReader) (t u : Scanning) (read : Remaining) (rest : List ℕ)
     → StopsAt ended p t u read → rest ≡ [] → u.state.core.cursor.mark.index + length rest < 2 ^ 64
 stop_is_near ended p t u read rest w e =
     let low : u.state.core.cursor.mark.index ≤ u.limit = near u.limit false p.marker w.text u.state w.comes in
@@ -312,24 +333,24 @@ stop_is_near ended p t u read rest w e =
     let limit : u.limit ≡ 4294967295 = w.limit in
     omega (arith, low, same, limit)
 
-at_stop : (ended : Bool) (p : PieceReader) (s t u v : Stepping) (read : Remaining) (left : List ℕ) → Scans p s t
+at_stop : (ended : Bool) (p : PieceReader) (s t u v : Scanning) (read : Remaining) (left : List ℕ) → Scans p s t
     → StopsAt ended p t u read → left ≡ u.state.core.cursor.rest → v.state ≡ with_rest [] u.state → v.limit ≡ u.limit
     → (later : List ℕ)
     → at (of_text v left read (cursor p.reader)) later ≡ at (pieces_of p) (until_ended ended later)
 at_stop ended p s t u v read left w x e state limit later =
-    stops ended s t u v (rest_of p) left later p.tokens read (cursor p.reader) x.goes_on w.over
+    stops ended s t u v (rest_of p) left later (tokens_of p.tokens) read (cursor p.reader) x.goes_on w.over
     (rested u v left e state limit) (x.same later)
     ∙ of_source p s (until_ended ended later) w.is
 
-sound_at_stop : (ended : Bool) (p q : PieceReader) (s t u v : Stepping) (read : Remaining) → Scans p s t
+sound_at_stop : (ended : Bool) (p q : PieceReader) (s t u v : Scanning) (read : Remaining) → Scans p s t
     → StopsAt ended p t u read → rest_of q ≡ u.state.core.cursor.rest → v.state ≡ with_rest [] u.state
-    → v.limit ≡ u.limit → q.source ≡ source.Text v → q.tokens ≡ read → q.marker ≡ p.marker → q.lines ≡ p.lines
+    → v.limit ≡ u.limit → q.source ≡ source.Text v → tokens_of q.tokens ≡ read → q.marker ≡ p.marker → q.lines ≡ p.lines
     → cursor q.reader ≡ cursor p.reader → q.readiness ≡ p.readiness → IsSoundReader q
 sound_at_stop ended p q s t u v read w x e state limit is tokens marker lines reader ready =
-    let back : resumed (rest_of q) v ≡ u = rested u v (rest_of q) e state limit in
+    let back : IsSameScanner (resumed (rest_of q) v) u = rested u v (rest_of q) e state limit in
     let there : HasCome most_characters false p.marker x.text (with_rest (rest_of q) v.state) =
     subst (λ (y : State). HasCome most_characters false p.marker x.text y)
-    (sym (ap (λ (y : Stepping). y.state) back))
+    (sym (ap (λ (y : Scanning). y.state) back))
     (subst (λ n. HasCome n false p.marker x.text u.state) x.limit x.comes) in
     let known = (sound_from p (source.Text s) w.is w.sound).1 in
     record {
@@ -352,37 +373,37 @@ sound_at_stop ended p q s t u v read w x e state limit is tokens marker lines re
 -- ## All tokens were read
 
 -- all tokens were read, and this ends them
-pub record EndsWith (n : Option Refusal) (ended : Bool) (p : PieceReader) (t : Stepping) (read : Remaining) : Type 0
+pub record EndsWith (n : Option Refusal) (ended : Bool) (p : PieceReader) (t : Scanning) (read : Remaining) : Type 0
   where
     pub none : read.refusal ≡ None
-    pub same : (later : List ℕ) → all_tokens ended later t p.tokens ≡ ended_by n read
+    pub same : (later : List ℕ) → all_tokens ended later t (tokens_of p.tokens) ≡ ended_by n read
 
-ends_over : Laws → (ended : Bool) (p : PieceReader) (s t u : Stepping) (read : Remaining) (r : Reading)
+ends_over : Laws → (ended : Bool) (p : PieceReader) (s t u : Scanning) (read : Remaining) (r : Reading)
     → Scans p s t → r ≡ reading.Over → ReadsAll ended p t r u read → EndsWith None ended p t read
 ends_over laws ended p s t u read r w e h =
     let there = comes_so laws ended p s t w in
-    let x = subst (λ y. ReadsTokens ended p.marker there.0 t p.tokens y u read) e (h there.0 there.1) in
+    let x = subst (λ y. ReadsTokens ended p.marker there.0 t (tokens_of p.tokens) y u read) e (h there.0 there.1) in
     record { none = x.0; same = x.1 }
 
-ends_refused : Laws → (ended : Bool) (p : PieceReader) (s t u : Stepping) (read : Remaining) (r : Reading)
+ends_refused : Laws → (ended : Bool) (p : PieceReader) (s t u : Scanning) (read : Remaining) (r : Reading)
     (n : Refusal) → Scans p s t → r ≡ reading.Refused n → ReadsAll ended p t r u read
     → EndsWith (Some n) ended p t read
 ends_refused laws ended p s t u read r n w e h =
     let there = comes_so laws ended p s t w in
-    let x = subst (λ y. ReadsTokens ended p.marker there.0 t p.tokens y u read) e (h there.0 there.1) in
+    let x = subst (λ y. ReadsTokens ended p.marker there.0 t (tokens_of p.tokens) y u read) e (h there.0 there.1) in
     record { none = x.0; same = x.1 }
 
-at_end : (n : Option Refusal) (ended : Bool) (p : PieceReader) (s t : Stepping) (read : Remaining) (x : Source)
+at_end : (n : Option Refusal) (ended : Bool) (p : PieceReader) (s t : Scanning) (read : Remaining) (x : Source)
     (rest : List ℕ) → Scans p s t → EndsWith n ended p t read → x ≡ source.Read n → (later : List ℕ)
     → at (record { source = x; rest = rest; tokens = read; reader = cursor p.reader }) later
     ≡ at (pieces_of p) (until_ended ended later)
 at_end n ended p s t read x rest w ends_so is later =
     ap (λ y. at (record { source = y; rest = rest; tokens = read; reader = cursor p.reader }) later) is
-    ∙ ends ended s t (rest_of p) later p.tokens (ended_by n read) (cursor p.reader) w.over (ends_so.same later)
+    ∙ ends ended s t (rest_of p) later (tokens_of p.tokens) (ended_by n read) (cursor p.reader) w.over (ends_so.same later)
     ∙ of_source p s (until_ended ended later) w.is
 
-sound_at_end : (n : Option Refusal) (ended : Bool) (p q : PieceReader) (s t : Stepping) (read : Remaining)
-    → Scans p s t → EndsWith n ended p t read → q.source ≡ source.Read n → q.tokens ≡ read
+sound_at_end : (n : Option Refusal) (ended : Bool) (p q : PieceReader) (s t : Scanning) (read : Remaining)
+    → Scans p s t → EndsWith n ended p t read → q.source ≡ source.Read n → tokens_of q.tokens ≡ read
     → cursor q.reader ≡ cursor p.reader → q.readiness ≡ p.readiness → IsSoundReader q
 sound_at_end n ended p q s t read w x is tokens reader ready =
     let known = (sound_from p (source.Text s) w.is w.sound).1 in
@@ -396,7 +417,7 @@ sound_at_end n ended p q s t read w x is tokens reader ready =
 -- ## As the code has it
 
 -- the tokens of the reader's text were read, and this ended the reading
-module _ (laws : Laws) (ended : Bool) (p : PieceReader) (s t u : Stepping) (read : Remaining) (r : Reading)
+module _ (laws : Laws) (ended : Bool) (p : PieceReader) (s t u : Scanning) (read : Remaining) (r : Reading)
     (w : Scans p s t) (h : ReadsAll ended p t r u read)
   where
     -- ### The scanner stopped
@@ -412,7 +433,7 @@ module _ (laws : Laws) (ended : Bool) (p : PieceReader) (s t u : Stepping) (read
       stopped_near rest none = stop_is_near ended p t u read rest stop none
 
       -- its input is over, and what it did not pass is kept
-      module _ (v : Stepping) (over : List ℕ) (none : over ≡ []) (state : v.state ≡ with_rest over u.state)
+      module _ (v : Scanning) (over : List ℕ) (none : over ≡ []) (state : v.state ≡ with_rest over u.state)
           (limit : v.limit ≡ u.limit)
         where
           left_over : v.state ≡ with_rest [] u.state
@@ -423,7 +444,7 @@ module _ (laws : Laws) (ended : Bool) (p : PieceReader) (s t u : Stepping) (read
           stopped_at left is = at_stop ended p s t u v read left w stop is left_over limit
 
           pub stopped_sound : (q : PieceReader) → rest_of q ≡ u.state.core.cursor.rest → q.source ≡ source.Text v
-              → q.tokens ≡ read → q.marker ≡ p.marker → q.lines ≡ p.lines → cursor q.reader ≡ cursor p.reader
+              → tokens_of q.tokens ≡ read → q.marker ≡ p.marker → q.lines ≡ p.lines → cursor q.reader ≡ cursor p.reader
               → q.readiness ≡ p.readiness → IsSoundReader q
           stopped_sound q is = sound_at_stop ended p q s t u v read w stop is left_over limit
 
@@ -434,7 +455,7 @@ module _ (laws : Laws) (ended : Bool) (p : PieceReader) (s t u : Stepping) (read
         ≡ at (pieces_of p) (until_ended ended later)
     over_at e x rest = at_end None ended p s t read x rest w (ends_over laws ended p s t u read r w e h)
 
-    pub over_sound : r ≡ reading.Over → (q : PieceReader) → q.source ≡ source.Read None → q.tokens ≡ read
+    pub over_sound : r ≡ reading.Over → (q : PieceReader) → q.source ≡ source.Read None → tokens_of q.tokens ≡ read
         → cursor q.reader ≡ cursor p.reader → q.readiness ≡ p.readiness → IsSoundReader q
     over_sound e q = sound_at_end None ended p q s t read w (ends_over laws ended p s t u read r w e h)
 
@@ -445,7 +466,7 @@ module _ (laws : Laws) (ended : Bool) (p : PieceReader) (s t u : Stepping) (read
     refused_at n e x rest = at_end (Some n) ended p s t read x rest w (ends_refused laws ended p s t u read r n w e h)
 
     pub refused_sound : (n : Refusal) → r ≡ reading.Refused n → (q : PieceReader) → q.source ≡ source.Read (Some n)
-        → q.tokens ≡ read → cursor q.reader ≡ cursor p.reader → q.readiness ≡ p.readiness → IsSoundReader q
+        → tokens_of q.tokens ≡ read → cursor q.reader ≡ cursor p.reader → q.readiness ≡ p.readiness → IsSoundReader q
     refused_sound n e q = sound_at_end (Some n) ended p q s t read w (ends_refused laws ended p s t u read r n w e h)
 
 -- what holds unless memory ran out

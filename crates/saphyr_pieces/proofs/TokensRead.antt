@@ -8,7 +8,7 @@ use Rattle.saphyr_scalar.specs.Views.Reader.{Fails}
 use Rattle.saphyr_scanner.specs.Steps.Fetch.{needs_token, state_behind_token, take_token}
 use Rattle.saphyr_scanner.specs.Steps.Remaining.{remaining}
 use Rattle.saphyr_scanner.specs.Steps.State.{State}
-use Rattle.saphyr_scanner.specs.Views.Stepping.{Stepping}
+use Rattle.saphyr_scanner.specs.Views.Scanning.{Scanning}
 use Rattle.saphyr_scanner.specs.Views.Tokens.{Piece, Remaining, before, with_last}
 use Rattle.saphyr_pieces.specs.Markers.EventsUpTo.{before_all}
 use Rattle.saphyr_pieces.specs.Markers.GoesOn.{extended_by}
@@ -23,11 +23,11 @@ pub not_ended : (ended : Bool) (stop : Option ℕ) (index : ℕ) → may_read en
 not_ended true stop index e = e
 not_ended false stop index e = refl
 
-module _ (laws : Laws) (ended : Bool) (stop : Option ℕ) (text : List ℕ) (old s : Stepping)
+module _ (laws : Laws) (ended : Bool) (stop : Option ℕ) (text : List ℕ) (old s : Scanning)
     (stays : StaysAt ended stop text old s) (needs : needs_token s.state ≡ true)
     (may : may_read ended stop s.state.core.cursor.mark.index ≡ true)
   where
-    pub read_stays : (t : Stepping) → t.limit ≡ s.limit → state_behind_token s.limit s.state ≡ Ok t.state
+    pub read_stays : (t : Scanning) → t.limit ≡ s.limit → state_behind_token s.limit s.state ≡ Ok t.state
         → StaysAt ended stop text old t
     read_stays t limit e =
         let on = reads_on laws s.limit ended stop text s.state t.state stays.0 needs may e in
@@ -44,13 +44,13 @@ module _ (laws : Laws) (ended : Bool) (stop : Option ℕ) (text : List ℕ) (old
 -- ## One token after the other
 
 -- the scanner goes on over the text, and what was read comes before what it still has to hand out
-abbrev pub ReadsSoFar : Bool → Option ℕ → List ℕ → Stepping → Remaining → Stepping → Remaining → Type 0
+abbrev pub ReadsSoFar : Bool → Option ℕ → List ℕ → Scanning → Remaining → Scanning → Remaining → Type 0
 ReadsSoFar ended stop text s tokens t read =
     HasCome t.limit ended stop text t.state
     × ((later : List ℕ) → all_tokens ended later s tokens ≡ all_tokens ended later t read)
 
 -- this is taken off
-abbrev pub TakesOff : Stepping → Option Piece → Stepping → Type 0
+abbrev pub TakesOff : Scanning → Option Piece → Scanning → Type 0
 TakesOff s taken t =
     ◌≡◌ {A = Result (Option Piece × State) Refusal} (Ok (take_token s.state)) (Ok (taken, t.state))
 
@@ -60,27 +60,13 @@ nothing_after : (read : Remaining) (e : Option Refusal)
 nothing_after read e =
     ap (λ ts. let r : Remaining = record { pieces = ts; refusal = e } in r) (append-nil read.pieces)
 
--- what follows, where the scanner is refused
-pub refused_so : (ended : Bool) (stop : Option ℕ) (text : List ℕ) (s t : Stepping) (tokens read : Remaining) (e : Stop)
-    (r : Refusal) → ReadsSoFar ended stop text s tokens t read → e ≡ stops.Refused r
-    → RefusesAll {X = Bool} ended t (Err e) → (later : List ℕ)
-    → all_tokens ended later s tokens ≡ ended_by (Some r) read
-refused_so ended stop text s t tokens read stops.OutOfMemory r so_far i h later = absurd (cc)
-refused_so ended stop text s t tokens read (stops.Refused e) r so_far i h later =
-    let same : e ≡ r = cc in
-    so_far.1 later ∙ ap (before_all read.pieces) (h later) ∙ nothing_after read (Some e)
-    ∙ ap (λ x. ended_by (Some x) read) same
-
-module _ (laws : Laws) (ended : Bool) (stop : Option ℕ) (text : List ℕ) (s t u : Stepping) (tokens read : Remaining)
+module _ (laws : Laws) (ended : Bool) (stop : Option ℕ) (text : List ℕ) (s t u : Scanning) (tokens read : Remaining)
     (so_far : ReadsSoFar ended stop text s tokens t read) (stays : StaysAt ended stop text t u)
   where
-    pub filled_so : ReadsSoFar ended stop text s tokens u read
+    filled_so : ReadsSoFar ended stop text s tokens u read
     filled_so = (stays.0, λ later. so_far.1 later ∙ ap (before_all read.pieces) (stays.1 later))
 
-    pub stopped_so : ended ≡ false → HasCome u.limit false stop text u.state
-    stopped_so e = subst (λ b. HasCome u.limit b stop text u.state) e stays.0
-
-    pub over_so : (v : Stepping) → needs_token u.state ≡ false → TakesOff u None v
+    pub over_so : (v : Scanning) → needs_token u.state ≡ false → TakesOff u None v
         → (later : List ℕ) → all_tokens ended later s tokens ≡ ended_by None read
     over_so v ready e later =
         let is : take_token u.state ≡ (None, v.state) = cc in
@@ -88,7 +74,7 @@ module _ (laws : Laws) (ended : Bool) (stop : Option ℕ) (text : List ℕ) (s t
         ∙ ap (before_all read.pieces) (none_left laws u.limit ended stop text u.state v.state stays.0 ready is later)
         ∙ nothing_after read None
 
-    module _ (v : Stepping) (x : Piece) (limit : v.limit ≡ u.limit) (ready : needs_token u.state ≡ false)
+    module _ (v : Scanning) (x : Piece) (limit : v.limit ≡ u.limit) (ready : needs_token u.state ≡ false)
         (e : TakesOff u (Some x) v)
       where
         taken : HasCome v.limit ended stop text v.state

@@ -2,7 +2,7 @@
 use Rattle.std.specs.Prelude.{◌≡◌, ℕ, Bool, true, false, List, Option, Some, None}
 use Rattle.saphyr_scalar.specs.declared.scalar.position.Span.{Span}
 use Rattle.saphyr_scanner.specs.Steps.State.{with_rest}
-use Rattle.saphyr_scanner.specs.Views.Stepping.{Stepping}
+use Rattle.saphyr_scanner.specs.Views.Scanning.{Scanning}
 use Rattle.saphyr_scanner.specs.Views.Tokens.{Remaining}
 use Rattle.saphyr_machine.specs.declared.event.Event.{Event}
 use Rattle.saphyr_machine.specs.declared.fault.Fault.{Fault}
@@ -28,7 +28,7 @@ abbrev pub with_others : Remaining → EventCursor → EventCursor
 with_others r c = record c { machine = before_others r c.machine }
 
 -- the scanner, before the rest of the text that came
-abbrev pub resumed : List ℕ → Stepping → Stepping
+abbrev pub resumed : List ℕ → Scanning → Scanning
 resumed rest s = record s { state = with_rest rest s.state }
 
 -- memory ran out, which the next call says

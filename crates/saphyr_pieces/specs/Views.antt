@@ -1,9 +1,10 @@
 -- What contracts see of a reader of events over a text that comes in pieces.
-use Rattle.std.specs.Prelude.{◌≡◌, ◌≢◌, ◌||◌, ◌+◌, Bool, true, false, List, length, ℕ, None, string_bytes}
+use Rattle.std.specs.Prelude.{◌≡◌, ◌≢◌, ◌||◌, ◌+◌, Bool, true, false, List, length, ℕ, Option, Some, None, string_bytes}
 use Rattle.std.specs.Str.{chars}
 use Rattle.saphyr_scanner.specs.Steps.State.{with_rest}
-use Rattle.saphyr_scanner.specs.Views.Stepping.{Stepping}
-use Rattle.saphyr_scanner.specs.Views.Tokens.{Piece}
+use Rattle.saphyr_scanner.specs.declared.token.Token.{Token}
+use Rattle.saphyr_scanner.specs.Views.Scanning.{Scanning, tokens_of}
+use Rattle.saphyr_scanner.specs.Views.Tokens.{Piece, Remaining, before, none, piece}
 use Rattle.saphyr_machine.specs.declared.fault.Fault.{Fault}
 use Rattle.saphyr_machine.specs.declared.fault.Fault.TheVariants as fault
 use Rattle.saphyr_machine.specs.declared.progress.Progress.{Progress}
@@ -28,9 +29,14 @@ abbrev pub pieces_of : PieceReader → Pieces
 pieces_of p = record {
   source = p.source;
   rest = chars (string_bytes p.text);
-  tokens = p.tokens;
+  tokens = tokens_of p.tokens;
   reader = cursor p.reader;
 }
+
+-- The first of the tokens is taken, or there is none.
+abbrev pub TakesFirst : Option Token → Remaining → Remaining → Type 0
+TakesFirst (Some t) old new = old ≡ before (piece t) new
+TakesFirst None old new = (old ≡ none) × (new ≡ none)
 
 -- whether the reader has all tokens that its next event depends on
 abbrev pub is_ready_from : Source → Readiness → State → Bool
@@ -46,15 +52,15 @@ IsReadyOrWaits true p = is_ready_now p ≡ true
 IsReadyOrWaits false p = wants_more (pieces_of p) ≡ true
 
 -- this came of the text, and the scanner is there
-abbrev pub IsOfText : PieceReader → Stepping → List ℕ → Type 0
+abbrev pub IsOfText : PieceReader → Scanning → List ℕ → Type 0
 IsOfText p s text =
     HasCome most_characters false p.marker text (with_rest (chars (string_bytes p.text)) s.state)
     × IsLastLineOf p.lines text
 
 abbrev pub IsSoundFrom : Source → PieceReader → Type 0
 IsSoundFrom (source.Text s) p =
-    (s.limit ≡ most_characters) × (p.tokens.refusal ≡ None) × ((text : List ℕ) × IsOfText p s text)
-IsSoundFrom (source.Read e) p = p.tokens.refusal ≡ None
+    (s.limit ≡ most_characters) × ((tokens_of p.tokens).refusal ≡ None) × ((text : List ℕ) × IsOfText p s text)
+IsSoundFrom (source.Read e) p = (tokens_of p.tokens).refusal ≡ None
 IsSoundFrom source.Given p = Unit {0}
 IsSoundFrom source.Lost p = Unit {0}
 
@@ -101,4 +107,4 @@ left_to_give_from source.Given ts = 0
 left_to_give_from _ ts = length ts + 1
 
 abbrev pub left_to_give : PieceReader → ℕ
-left_to_give p = left_to_give_from p.source p.tokens.pieces
+left_to_give p = left_to_give_from p.source (tokens_of p.tokens).pieces

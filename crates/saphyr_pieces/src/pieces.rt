@@ -5,6 +5,7 @@ ghost use Rattle.std.specs.Prelude.{◌≡◌, ◌<◌, ◌^◌, length, ℕ, Li
 ghost use Rattle.std.specs.Str.{chars};
 ghost use Rattle.saphyr_scanner.specs.Steps.Remaining.{scan};
 ghost use Rattle.saphyr_scanner.specs.Steps.State as state;
+ghost use Rattle.saphyr_scanner.specs.Views.Scanning.{tokens_of};
 ghost use Rattle.saphyr_scanner.specs.Views.Tokens.{none, piece};
 ghost use Rattle.saphyr_machine.specs.Answer.{OutOfMemory};
 ghost use Rattle.saphyr_machine.specs.Cursor.{at_start, keeping_tags};
@@ -19,7 +20,7 @@ use crate::scanning::{Gate, Reading, goes_on_over_pieces, read_tokens};
 use saphyr_input::StrInput;
 use saphyr_machine::{Event, EventReader, Fault, Progress};
 use saphyr_scalar::{Refusal, Span};
-use saphyr_scanner::{Scanner, StepScanner, Token};
+use saphyr_scanner::{Scanner, Token};
 use std::alloc::{AllocError, Global};
 use std::mem::replace;
 
@@ -30,7 +31,7 @@ const MOST_CHARACTERS: usize = 4294967295;
 #[derive(Drop)]
 pub(crate) enum Source {
     /// The text, of which more may come. The scanner is before `PieceReader::text`.
-    Text(StepScanner<StrInput<'static>>),
+    Text(Scanner<StrInput<'static>>),
     /// All tokens were read, and the refusal ends them, if there is one.
     Read(Option<Refusal>),
     /// The reader has all tokens.
@@ -57,25 +58,31 @@ pub(crate) struct PieceReader {
     pub(crate) alloc: Global,
 }
 
+// Takes the first of the tokens, if there is one.
+fn take_first(tokens: &mut Scanner<StrInput<'static>>) -> Result<Option<Token>, AllocError>
+    ensures { IfOk result
+        (λ first. spec.TakesFirst first (tokens_of tokens.old) (tokens_of tokens.new)) }
+{
+    let Ok(kind) = tokens.peek() else {
+        return Err(AllocError);
+    };
+    let Some(kind) = kind else {
+        return Ok(None);
+    };
+    let span = tokens.span();
+    match tokens.take_parts() {
+        Ok(parts) => Ok(Some(Token { span, kind, parts })),
+        Err(_) => Err(AllocError),
+    }
+}
+
 // A scanner of an empty text, whose tokens were handed out: a queue of tokens.
 fn no_tokens(alloc: Global) -> Result<Scanner<StrInput<'static>>, AllocError>
-    ensures { IfOk result (λ tokens. tokens ≡ none) }
+    ensures { IfOk result (λ tokens. tokens_of tokens ≡ none) }
 {
     let mut tokens = Scanner::new(alloc, StrInput::new(""), 0);
-    let mut token = Token::at_start();
-    loop {
-        match tokens.next_token_into(&mut token) {
-            Ok(true) => {}
-            Ok(false) => {
-                drop(token);
-                return Ok(tokens);
-            }
-            Err(_) => {
-                drop(token);
-                return Err(AllocError);
-            }
-        }
-    }
+    while take_first(&mut tokens)?.is_some() {}
+    Ok(tokens)
 }
 
 // A text has fewer than 2^63 bytes, and no more characters than bytes. Like a law it does nothing when it runs.
@@ -86,21 +93,18 @@ fn counts_characters(text: &str)
 }
 
 // Takes the token of the stream's start, which each text has.
-fn take_first_token(
-    scanner: &mut StepScanner<StrInput<'static>>,
-    token: &mut Token,
-) -> Result<(), AllocError>
+fn take_first_token(scanner: &mut Scanner<StrInput<'static>>) -> Result<Token, AllocError>
     requires { scanner.old.state ≡ state.start [] }
     ensures begun { IfOk result (λ _. scanner.new.state ≡ begun_state []) }
-    ensures token { IfOk result (λ _. piece token.new ≡ first_token) }
+    ensures token { IfOk result (λ token. piece token ≡ first_token) }
     ensures limit { scanner.new.limit ≡ scanner.old.limit }
 {
     let Ok(()) = scanner.read_token() else {
         return Err(AllocError);
     };
-    match scanner.take_token_into(token) {
-        Ok(_) => Ok(()),
-        Err(_) => Err(AllocError),
+    match scanner.take_token() {
+        Ok(Some(token)) => Ok(token),
+        _ => Err(AllocError),
     }
 }
 
@@ -124,9 +128,8 @@ impl PieceReader {
     {
         // A law. It does nothing when it runs.
         goes_on_over_pieces();
-        let mut scanner = StepScanner::new(alloc, StrInput::new(""), MOST_CHARACTERS);
-        let mut token = Token::at_start();
-        take_first_token(&mut scanner, &mut token)?;
+        let mut scanner = Scanner::new(alloc, StrInput::new(""), MOST_CHARACTERS);
+        let token = take_first_token(&mut scanner)?;
         let mut reader = EventReader::new(alloc, no_tokens(alloc)?);
         if !reader.give(token)? {
             return Err(AllocError);
@@ -338,16 +341,14 @@ impl PieceReader {
             → spec.left_to_give self.new < spec.left_to_give self.old) }
         ensures loses { OnErr result (spec.LosesTokens self.old self.new) }
     {
-        let mut token = Token::at_start();
-        match self.tokens.next_token_into(&mut token) {
-            Ok(true) => {
-                self.readiness = self.readiness.with_token(&token.kind);
+        match take_first(&mut self.tokens)? {
+            Some(token) => {
+                self.readiness = self.readiness.with_token(token.kind);
                 if !self.reader.give(token)? {
                     return Err(AllocError);
                 }
             }
-            Ok(false) => {
-                drop(token);
+            None => {
                 let Source::Read(end) = self.source else {
                     return Ok(false);
                 };
@@ -355,10 +356,6 @@ impl PieceReader {
                 if let Some(refusal) = end {
                     self.reader.end_with(refusal);
                 }
-            }
-            Err(_) => {
-                drop(token);
-                return Err(AllocError);
             }
         }
         Ok(true)

@@ -1,12 +1,12 @@
 //! Whether a reader of events has all tokens that its next event depends on.
 
 ghost use Rattle.std.specs.Prelude.{◌≡◌};
-ghost use Rattle.saphyr_scanner.specs.Views.Tokens.{kind_of};
+ghost use Rattle.saphyr_scanner.specs.Views.Tokens.{Parts, kind_with};
 ghost use Rattle.saphyr_machine.specs.Views.Machines.{happening};
 ghost use Rattle.saphyr_pieces.specs.Readiness as spec;
 
 use saphyr_machine::Event;
-use saphyr_scanner::TokenType;
+use saphyr_scanner::TokenKind;
 
 /// A document marker: `---` or `...`.
 #[derive(Clone, Copy, PartialEq, Eq)]
@@ -37,13 +37,13 @@ impl Readiness {
     }
 
     /// With one more token.
-    pub(crate) fn with_token(self, kind: &TokenType) -> Readiness
-        ensures { result ≡ spec.with_kind (kind_of kind.now) self }
+    pub(crate) fn with_token(self, kind: TokenKind) -> Readiness
+        ensures { (x : Parts) → result ≡ spec.with_kind (kind_with kind x) self }
     {
         match (self, kind) {
-            (_, TokenType::DocumentStart) => Readiness::Ready(Marker::Starts),
-            (Readiness::Holding, TokenType::DocumentEnd) => Readiness::Ready(Marker::Ends),
-            (_, TokenType::DocumentEnd | TokenType::ByteOrderMark) => self,
+            (_, TokenKind::DocumentStart) => Readiness::Ready(Marker::Starts),
+            (Readiness::Holding, TokenKind::DocumentEnd) => Readiness::Ready(Marker::Ends),
+            (_, TokenKind::DocumentEnd | TokenKind::ByteOrderMark) => self,
             _ => Readiness::Holding,
         }
     }

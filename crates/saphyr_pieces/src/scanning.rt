@@ -2,6 +2,8 @@
 
 ghost use Rattle.std.specs.Prelude.{◌≡◌, ℕ, List, true, false, None, IfOk};
 ghost use Rattle.saphyr_scanner.specs.Steps.Fetch.{needs_token};
+ghost use Rattle.saphyr_scanner.specs.Views.Engine.{stopped_by};
+ghost use Rattle.saphyr_scanner.specs.Views.Scanning.{tokens_of};
 ghost use Rattle.saphyr_pieces.specs.Comes.{HasCome, Laws, may_read};
 ghost use Rattle.saphyr_pieces.specs.Scanning as spec;
 
@@ -9,7 +11,7 @@ use crate::law::{goes_on_behind_markers, tells_markers};
 use saphyr_input::StrInput;
 use saphyr_scalar::{Refusal, Stop};
 use saphyr_scanner::law::takes_characters_off;
-use saphyr_scanner::{Scanner, StepScanner, Token};
+use saphyr_scanner::{Scanner, Stopped};
 use std::alloc::AllocError;
 
 /// What is known of a scanner of a text of which more comes. Like all laws it does nothing when it runs.
@@ -51,7 +53,7 @@ pub(crate) enum Reading {
 }
 
 // Reads tokens until the first can be handed out. `false`: the next token may not be read yet.
-fn fill(scanner: &mut StepScanner<StrInput<'_>>, gate: Gate) -> Result<bool, Stop>
+fn fill(scanner: &mut Scanner<StrInput<'_>>, gate: Gate) -> Result<bool, Stopped>
     ensures limit { scanner.new.limit ≡ scanner.old.limit }
     ensures ready { IfOk result (λ ready. ready ≡ true → needs_token scanner.new.state ≡ false) }
     ensures stopped { IfOk result (λ ready. ready ≡ false → gate.ended ≡ false) }
@@ -60,7 +62,7 @@ fn fill(scanner: &mut StepScanner<StrInput<'_>>, gate: Gate) -> Result<bool, Sto
         → IfOk result (λ _. spec.StaysAt gate.ended gate.marker text scanner.old scanner.new) }
     ensures refused { (text : List ℕ)
         → HasCome scanner.old.limit gate.ended gate.marker text scanner.old.state
-        → spec.RefusesAll gate.ended scanner.old result }
+        → spec.RefusesAll gate.ended scanner.old (stopped_by result scanner.new.stop) }
 {
     // A law. It does nothing when it runs.
     goes_on_over_pieces();
@@ -75,17 +77,17 @@ fn fill(scanner: &mut StepScanner<StrInput<'_>>, gate: Gate) -> Result<bool, Sto
 
 /// Reads tokens, and puts them after those of `tokens`, as far as they may be read.
 pub(crate) fn read_tokens(
-    scanner: &mut StepScanner<StrInput<'_>>,
+    scanner: &mut Scanner<StrInput<'_>>,
     tokens: &mut Scanner<StrInput<'static>>,
     gate: Gate,
 ) -> Result<Reading, AllocError>
-    requires none_refused { tokens.old.refusal ≡ None }
+    requires none_refused { (tokens_of tokens.old).refusal ≡ None }
     requires comes { (text : List ℕ)
         × HasCome scanner.old.limit gate.ended gate.marker text scanner.old.state }
     ensures { (text : List ℕ)
         → HasCome scanner.old.limit gate.ended gate.marker text scanner.old.state
         → IfOk result (λ reading. spec.ReadsTokens gate.ended gate.marker text scanner.old
-        tokens.old reading scanner.new tokens.new) }
+        (tokens_of tokens.old) reading scanner.new (tokens_of tokens.new)) }
 {
     // A law. It does nothing when it runs.
     goes_on_over_pieces();
@@ -93,25 +95,21 @@ pub(crate) fn read_tokens(
         match fill(scanner, gate) {
             Ok(true) => {}
             Ok(false) => return Ok(Reading::Stopped),
-            Err(Stop::OutOfMemory) => return Err(AllocError),
-            Err(Stop::Refused(refusal)) => return Ok(Reading::Refused(refusal)),
-        }
-        let mut token = Token::at_start();
-        match scanner.take_token_into(&mut token) {
-            Ok(true) => {
-                // A queue of tokens takes each.
-                if !tokens.give(token)? {
-                    return Err(AllocError);
-                }
-            }
-            Ok(false) => {
-                drop(token);
-                return Ok(Reading::Over);
-            }
-            Err(_) => {
-                drop(token);
-                return Err(AllocError);
+            Err(Stopped) => {
+                return match scanner.stop() {
+                    Stop::OutOfMemory => Err(AllocError),
+                    Stop::Refused(refusal) => Ok(Reading::Refused(refusal)),
+                };
             }
         }
+        let token = match scanner.take_token() {
+            Ok(Some(token)) => token,
+            Ok(None) => return Ok(Reading::Over),
+            Err(_) => return Err(AllocError),
+        };
+        // A queue of tokens takes each.
+        let Ok(true) = tokens.give(token) else {
+            return Err(AllocError);
+        };
     }
 }

@@ -4,7 +4,7 @@ use crate::helpers::expect;
 use crate::reader::told::{push_place, push_stop};
 use saphyr_input::StrInput;
 use saphyr_input::input::Input;
-use saphyr_scanner::{Scanner, TokenType};
+use saphyr_scanner::{Scanner, TokenKind};
 use std::alloc::Global;
 use std::process::Abort;
 
@@ -12,21 +12,32 @@ use std::process::Abort;
 // ends, or a fault and its place.
 type Row<'a> = (usize, &'a str, &'a str);
 
-// Adds what is told of the next token. Whether there is one. A token is handed to no function, not even to `drop`,
-// since its kind is dear to prove as a parameter's.
-fn push_next<T: Input>(line: &mut String, scanner: &mut Scanner<T>) -> bool {
-    match scanner.next_token() {
-        Ok(Some(token)) => {
-            let _ = write!(line, "{:?} ", token.kind);
-            if let TokenType::StreamEnd = token.kind {
-                push_place(line, "@ ", token.span.start);
-                push_place(line, " ", token.span.end);
-            }
-            true
-        }
-        Ok(None) => false,
-        Err(stop) => push_stop(line, stop),
+// Adds the text of a token, if it has one.
+fn push_word(line: &mut String, text: &str) {
+    if !text.is_empty() {
+        let _ = write!(line, "{text} ");
     }
+}
+
+// Adds what is told of the next token. Whether there is one.
+fn push_next<T: Input>(line: &mut String, scanner: &mut Scanner<T>) -> bool {
+    let Ok(next) = scanner.peek() else {
+        return push_stop(line, scanner.stop());
+    };
+    let Some(kind) = next else {
+        return false;
+    };
+    let span = scanner.span();
+    let Ok(text) = scanner.take_text() else {
+        return push_stop(line, scanner.stop());
+    };
+    let _ = write!(line, "{kind:?} ");
+    push_word(line, &text);
+    if kind == TokenKind::StreamEnd {
+        push_place(line, "@ ", span.start);
+        push_place(line, " ", span.end);
+    }
+    true
 }
 
 // Adds what is told of all tokens.
@@ -79,7 +90,7 @@ const ROWS: &[Row] = &[
     (
         100,
         "*a : [*b : ]",
-        "StreamStart BlockMappingStart Key Alias(\"a\") Value FlowSequenceStart FlowMappingStart Key Alias(\"b\") \
+        "StreamStart BlockMappingStart Key Alias a Value FlowSequenceStart FlowMappingStart Key Alias b \
          Value FlowMappingEnd FlowSequenceEnd BlockEnd StreamEnd @ 12,2,0 12,2,0",
     ),
 ];

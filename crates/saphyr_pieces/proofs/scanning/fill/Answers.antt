@@ -36,11 +36,10 @@ returns-in_err-read_token-clause-limit c = c.read_token.ensures.limit ∙ c.loop
 
 pub returns-in_err-read_token-clause-refused : goal.returns-in_err-read_token-clause-refused
 returns-in_err-read_token-clause-refused c text comes =
-    let p = err_from_is_err_and c.from_residual.result c.from_residual.ensures.1 in
-    rw (p.1, p.2)
+    rw (err_from_is_err_and c.from_residual.result c.from_residual.ensures.1).1
     (read_refuses c.goes_on_over_pieces.ensures c.args.gate.ended c.args.gate.marker text c.args.scanner.now
     c.loop-gate.scanner (c.loop-gate.invariant.1 text comes) (sym c.needs_token.ensures ∙ c.loop-gate-test.true)
-    (rw c.index.ensures at (sym c.allows.ensures ∙ c.if-not-allows.false)) Bool c.in_err-read_token.field-0.0
+    (rw c.index.ensures at (sym c.allows.ensures ∙ c.if-not-allows.false)) Bool c.read_token.new.self.stop
     c.in_err-read_token.ensures.read)
 
 pub returns-clause-limit : goal.returns-clause-limit
