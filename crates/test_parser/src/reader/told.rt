@@ -17,7 +17,7 @@ use saphyr_input::input::{Input, SkipTabs};
 use saphyr_scalar::scalar::TagParts;
 use saphyr_scalar::values::BlockStyle;
 use saphyr_scalar::{
-    BlockScalar, Directive, DirectiveLine, Marker, PlainScalar, Reader, Refusal, Stop,
+    BlockScalar, Directive, DirectiveLine, Marker, PlainEnd, Reader, Refusal, Stop,
 };
 use std::alloc::Global;
 use std::process::Abort;
@@ -78,10 +78,10 @@ fn push_tag(line: &mut String, read: Result<TagParts, Stop>) -> bool {
     }
 }
 
-fn push_plain(line: &mut String, read: Result<PlainScalar, Stop>) -> bool {
+fn push_plain(line: &mut String, text: &str, read: Result<PlainEnd, Stop>) -> bool {
     match read {
         Ok(plain) => {
-            push(line, plain.text.as_str());
+            push(line, text);
             push_place(line, " @ ", plain.end);
             if let Some(comment) = plain.comment {
                 push_place(line, " # ", comment);
@@ -138,7 +138,11 @@ fn push_found<T: Input>(
             line,
             reader.read_block_scalar(alloc, BlockStyle::Folded, indent),
         ),
-        _ => push_plain(line, reader.read_plain(alloc, in_flow, indent)),
+        _ => {
+            let mut text = String::new(alloc);
+            let read = reader.read_plain_onto(alloc, in_flow, indent, &mut text);
+            push_plain(line, text.as_str(), read)
+        }
     }
 }
 
