@@ -22,7 +22,7 @@ use Rattle.saphyr_scanner.specs.Steps.Document.{end_content, end_at, state_behin
 use Rattle.saphyr_scanner.specs.Steps.Core.{remove_key, drop_far_key}
 use Rattle.saphyr_scanner.specs.Steps.Block.{pass_dash, next_entry, block_entry_steps, behind_mark, begin_key, key_steps}
 use Rattle.saphyr_scanner.specs.Steps.Passing.{goes_on_behind, check_comment, pass_gap}
-use Rattle.saphyr_scanner.specs.Views.Queue.{held_places}
+use Rattle.saphyr_scanner.specs.Views.Queue.{queue_places}
 
 -- what an answer unfolds to compute the tokens of a text
 unfoldable pub scanner_on_literals : ⊤
@@ -42,5 +42,5 @@ unfolding anchor_name_of anchor escaped_byte utf8_width leading_bits trailing_by
     behind_mark begin_key key_steps check_tab value_of_key opening_actions value_alone behind_key value_steps
     end_content end_at state_behind_end state_behind_marker end_line state_behind_document_end
     state_behind_byte_order_mark read_directive state_behind_directive flow_value_steps step state_behind_content
-    fetch_here arrive fetch fetch_within fill remaining held_places
+    fetch_here arrive fetch fetch_within fill remaining queue_places
 scanner_on_literals = tt
