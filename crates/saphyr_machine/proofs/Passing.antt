@@ -38,15 +38,6 @@ shorter_from (x ∷ ts) m n t e =
 pub shorter : (m n : Machine) (t : Piece) → taken_token m ≡ Ok (t, n) → length n.tokens.pieces < length m.tokens.pieces
 shorter m n t e = shorter_from m.tokens.pieces m n t e
 
-prefixes_from : (ts : List Piece) (m n : Machine) (t : Piece) → taken_token_from ts m ≡ Ok (t, n)
-    → n.prefixes ≡ m.prefixes
-prefixes_from [] m n t e = absurd (cc)
-prefixes_from (x ∷ ts) m n t e = ap (λ (k : Machine). k.prefixes) (sym (same_machine x t (with_pieces ts m) n e))
-
--- taking a token declares nothing
-pub prefixes_kept : (m n : Machine) (t : Piece) → taken_token m ≡ Ok (t, n) → n.prefixes ≡ m.prefixes
-prefixes_kept m n t e = prefixes_from m.tokens.pieces m n t e
-
 -- ## Passing by a test
 
 passes_from : (passed : Kind → Bool) (ts : List Piece) (m n : Machine) (t : Piece) → taken_token_from ts m ≡ Ok (t, n)
@@ -253,15 +244,6 @@ takes_first end r m n t e = by r.pieces refl
 pub first_taken : (end : Option Refusal) (r left : Remaining) (m : Machine) (t : Piece) → r ≡ before t left
     → taken_token (with_tokens end r m) ≡ Ok (t, with_tokens end left m)
 first_taken end r left m t is = rw is refl
-
--- Where the scanner has no token, its end or the caller's is told.
-pub none_taken : (end : Option Refusal) (r : Remaining) (m : Machine) → r ≡ none
-    → taken_token (with_tokens end r m) ≡ Err (ending_refusal end)
-none_taken end r m is = rw is refl
-
-pub refused_taken : (end : Option Refusal) (r : Remaining) (m : Machine) (e : Refusal) → r ≡ refusal_alone e
-    → taken_token (with_tokens end r m) ≡ Err e
-refused_taken end r m e is = rw is refl
 
 -- A token with a style is a scalar's.
 pub scalar_of : (kind : TokenKind) (style : ScalarStyle) (x : Parts) → style_of kind ≡ Some style

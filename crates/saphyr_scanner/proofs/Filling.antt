@@ -62,17 +62,6 @@ no_key_settles s e = go (in_block s.core) refl
     go true i = rw (i, e) refl
     go false i = rw i refl
 
--- ## Where the head of the queue can be handed out
-
-pub ended_needs_none : (s : State) → s.core.ended ≡ true → needs_token s ≡ false
-ended_needs_none s e = rw e refl
-
-pub free_needs_none : (s : State) → is_empty s.queue ≡ false → is_held s ≡ false → needs_token s ≡ false
-free_needs_none s e f = go s.core.ended (is_empty s.queue) (is_held s) e f
-  where
-    go : (ended empty held : Bool) → empty ≡ false → held ≡ false → (not ended && (empty || held)) ≡ false
-    go ended empty held e f = grind arith
-
 -- ## A candidate that was dropped stays so
 
 not_twice : (c d : Core) → drop_far_key c ≡ Ok d → drop_far_key d ≡ Ok d

@@ -214,8 +214,8 @@ impl<T: Input> Engine<T> {
     // Puts a token without characters into the queue where the reader is.
     #[inline(always)]
     fn put_here(&mut self, kind: TokenKind) -> Result<(), Stopped>
-        ensures { Performs (spec.at_mark (state self.old).core.cursor.mark (kind_with kind no_parts))
-            self.old result self.new }
+        ensures { Performs (spec.at_mark (state self.old).core.cursor.mark
+            (kind_with kind no_parts)) self.old result self.new }
     {
         let mark = self.reader.mark();
         self.put(mark, mark, kind)

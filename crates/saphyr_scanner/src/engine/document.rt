@@ -56,7 +56,8 @@ impl<T: Input> Engine<T> {
     #[tactic(auto, unfolding(crate::specs::Steps::Document::state_behind_marker))]
     pub(super) fn fetch_document_marker(&mut self, kind: TokenKind) -> Result<(), Stopped>
         requires { 3 ≤ length (state self.old).core.cursor.rest }
-        ensures { MovesBy (document.state_behind_marker (kind_with kind no_parts)) self.old result self.new }
+        ensures { MovesBy (document.state_behind_marker (kind_with kind no_parts)) self.old
+            result self.new }
     {
         self.end_content()?;
         self.key_allowed = false;
