@@ -1,33 +1,54 @@
 #!/usr/bin/env bash
-# Makes a release of the library that `rt lib` left in crates/saphyr_parser_c/out. With it, users of C and Rust need
-# neither the kit nor this repository.
-#
-#     ./release.sh [FOLDER]                     # FOLDER/saphyr_parser-VERSION-x86_64-linux and its .tar.gz, in out/
-#     PREFIX=/usr/local ./release.sh install    # the same files under a prefix, with DESTDIR before it
-#
-# SAPHYR_PARSER_LIB may name another folder with libsaphyr_parser_c.a and liblibc_c.a. If `rt ci`, or
-# `rt run` in its crate, left the program dump_events, the release has it too. REPOSITORY is the address at which this
-# repository is published, as https://HOST/NAME: the crate's manifest, the file for pkg-config and the pages for man say
-# it. Without it they name none.
+# Makes a release for users of C, Rust, Python and the programs, who then need neither the kit nor this repository.
+# It proves and builds nothing: it takes what `.ci/run` left.
 set -euo pipefail
+
+usage='usage: .ci/run && ./release.sh [--out FOLDER]
+       PREFIX=/usr/local ./release.sh install
+
+Without `install`, makes saphyr_parser-VERSION-x86_64-linux and its .tar.gz, in out/ or in FOLDER. With it, puts the
+same files under PREFIX, with DESTDIR before it. The library and the programs are those that `.ci/run` left. Without
+that gate, `rt lib` in crates/saphyr_parser_c makes the library, and `rt run` in crates/check_yaml and
+crates/dump_events the programs; those that are not built are left out.
+
+SAPHYR_PARSER_LIB   another folder with libsaphyr_parser_c.a and liblibc_c.a
+REPOSITORY          the address at which this repository is published, as https://HOST/NAME: the page README, the
+                    crate'\''s manifest, the file for pkg-config and the pages for man say it. Without it they name none
+SOURCE_DATE_EPOCH   the time of the files in the .tar.gz; if it is not set, that of the last commit'
+
+# Says what is wrong, and ends.
+stop() {
+    echo "release.sh: $1" >&2
+    exit "${2:-1}"
+}
+
 top=$(realpath "$(dirname "$0")")
-built=$(realpath -m "${SAPHYR_PARSER_LIB:-$top/crates/saphyr_parser_c/out}")
-if [ "${1:-}" = install ]; then
+folder=$top/out
+case "$#:${1:-}" in
+    0:) ;;
+    1:install) folder= ;;
+    2:--out) folder=$(realpath -m "${2:?names the folder to write into}") ;;
+    1:--help | 1:-h)
+        echo "$usage"
+        exit
+        ;;
+    *) stop "can't take these words: $*. ./release.sh --help says which there are" 2 ;;
+esac
+if [ -z "$folder" ]; then
     to=$(realpath -m "${DESTDIR:-}${PREFIX:?names the folder to install into}")
-else
-    to=$(realpath -m "${1:-$top/out}")
 fi
+built=$(realpath -m "${SAPHYR_PARSER_LIB:-$top/crates/saphyr_parser_c/out}")
 cd "$top"
 header=crates/saphyr_parser_c/saphyr_parser.h
 version=$(<VERSION)
 interface=$(sed -n 's/^#define SAPHYR_VERSION \([0-9]*\)u$/\1/p' "$header")
 shared=libsaphyr_parser.so.$interface
+calls=$(sed -n 's/^[a-z0-9_]* \(saphyr_[a-z0-9_]*\)(.*);$/\1/p' "$header")
 repository=${REPOSITORY:-}
 if [ -z "$repository" ]; then
     echo "release.sh: the package names no repository: REPOSITORY=https://HOST/NAME gives its address" >&2
 elif [[ ! $repository =~ ^https?://[A-Za-z0-9][A-Za-z0-9._~:/?=@+%-]*$ ]]; then
-    echo "release.sh: REPOSITORY is not an address that begins with http:// or https://: $repository" >&2
-    exit 1
+    stop "REPOSITORY is not an address that begins with http:// or https://: $repository"
 fi
 work=$(mktemp -d)
 trap 'rm -rf "$work"' EXIT
@@ -42,8 +63,7 @@ take() {
             return
         fi
     done
-    echo "release.sh: $file is not in $*: run rt lib in crates/saphyr_parser_c" >&2
-    exit 1
+    stop "$file is not in $*: run .ci/run first"
 }
 
 # Leaves in $work both forms of the library: an archive with the kit's calls for memory in it, and the shared one,
@@ -55,23 +75,32 @@ make_libraries() {
     take liblibc_c.a memory.a "$built" "$(dirname "$(dirname "$rt")")/c"
     cd "$work"
     printf '%s\n' 'create libsaphyr_parser.a' 'addlib parser.a' 'addlib memory.a' save end | ar -M
-    { echo '{ global:' && sed -n 's/^[a-z0-9_]* \(saphyr_[a-z_]*\)(.*/\1;/p' "$top/$header" && echo 'local: *; };'
-    } >exported
+    printf '{ global: %s local: *; };\n' "$(printf '%s; ' $calls)" >exported
     "${CC:-cc}" -shared -o "$shared" -Wl,--whole-archive libsaphyr_parser.a -Wl,--no-whole-archive \
         -Wl,--gc-sections,--version-script=exported,-soname="$shared",-z,defs,-z,relro,-z,now
     cd "$top"
 }
 
 # Puts FILE of release/ into a folder, and fills in what differs from release to release. A line that would name the
-# repository is left out where its address isn't given.
+# repository is left out where its address isn't given. From the page README, $beside leads to the other pages.
 fill_in() {
     local address=$repository named=d
     # a page for man would print a bare - as another character
     case $1 in *.[0-9]) address=${repository//-/\\\\-} ;; esac
     [ -z "$repository" ] || named="s|@REPOSITORY@|$address|"
-    sed "s/@VERSION@/$version/g; s/@INTERFACE@/$interface/g; s/@SHARED@/$shared/g; /@REPOSITORY@/$named" \
-        "release/$1.in" >"$work/$1"
+    sed "s/@VERSION@/$version/g; s/@INTERFACE@/$interface/g; s/@SHARED@/$shared/g; s|@BESIDE@|$beside|g
+        /@REPOSITORY@/$named" "release/$1.in" >"$work/$1"
     install -Dm644 -t "$2" "$work/$1"
+}
+
+# Puts pages into a folder, without the parts that are for readers of this repository.
+take_pages() {
+    local to=$1 page
+    shift
+    for page; do
+        sed '/^<!-- not in a release -->$/,/^<!-- until here -->$/d' "$page" | cat -s >"$work/$(basename "$page")"
+        install -Dm644 -t "$to" "$work/$(basename "$page")"
+    done
 }
 
 # Replaces a page's links to what a release doesn't have by their words.
@@ -85,9 +114,9 @@ cut_links() {
     done
 }
 
-# Puts all files under a folder.
-lay_out() {
-    local share=$1/share/saphyr_parser program=crates/dump_events/out/dump_events
+# The library, in each way to link it, and its page for man, by each name.
+lay_out_library() {
+    local call
     install -Dm644 -t "$1/include" "$header"
     install -Dm644 -t "$1/lib" "$work/libsaphyr_parser.a"
     install -Dm755 -t "$1/lib" "$work/$shared"
@@ -96,29 +125,53 @@ lay_out() {
     fill_in saphyr_parser-config.cmake "$1/lib/cmake/saphyr_parser"
     fill_in saphyr_parser-config-version.cmake "$1/lib/cmake/saphyr_parser"
     fill_in saphyr_parser.3 "$1/share/man/man3"
-    if [ -f "$program" ]; then
-        install -Dm755 -t "$1/bin" "$program"
-        fill_in dump_events.1 "$1/share/man/man1"
-    else
-        echo "release.sh: without dump_events, since $program is not built" >&2
-    fi
-    install -Dm644 -t "$share" LICENSE-MIT LICENSE-APACHE CHANGELOG.md
-    install -Dm644 -t "$share/docs" docs/{COMING_FROM,DIFFERENCES,FACES,SPANS,YAML}.md
-    install -Dm644 -t "$share/rust" rust/{Cargo.toml,build.rs,README.md,LICENSE-MIT,LICENSE-APACHE}
+    for call in $calls saphyr_status_text; do
+        echo '.so man3/saphyr_parser.3' >"$1/share/man/man3/$call.3"
+    done
+}
+
+# The programs that are built.
+lay_out_programs() {
+    local name
+    for name in check_yaml dump_events; do
+        if [ -f "crates/$name/out/$name" ]; then
+            install -Dm755 -t "$1/bin" "crates/$name/out/$name"
+            fill_in "$name.1" "$1/share/man/man1"
+        else
+            echo "release.sh: without $name, since crates/$name/out/$name is not built" >&2
+        fi
+    done
+}
+
+# Puts all files under a folder. The page README goes to its top or, where it stands beside the others, to them.
+lay_out() {
+    local share=$1/share/saphyr_parser
+    lay_out_library "$1"
+    lay_out_programs "$1"
+    install -Dm644 -t "$share" LICENSE-MIT LICENSE-APACHE
+    install -Dm644 -t "$share/python" python/saphyr_parser.py
+    install -Dm644 -t "$share/examples" release/examples/*
+    install -Dm644 -t "$share/rust" rust/{Cargo.toml,build.rs,LICENSE-MIT,LICENSE-APACHE}
     [ -z "$repository" ] || sed -i "/^license = /a repository = \"$repository\"" "$share/rust/Cargo.toml"
     find rust/src rust/examples -type f -exec install -Dm644 {} "$share/{}" \;
+    take_pages "$share" CHANGELOG.md
+    take_pages "$share/rust" rust/README.md
+    take_pages "$share/docs" docs/{CHECK_YAML,COMING_FROM,DIFFERENCES,FACES,SPANS,SPEED,YAML}.md
     cut_links "$share/CHANGELOG.md" "$share/rust/README.md" "$share"/docs/*.md
+    if [ -n "$beside" ]; then fill_in README.md "$1"; else fill_in README.md "$share"; fi
 }
 
 make_libraries
-if [ "${1:-}" = install ]; then
+if [ -z "$folder" ]; then
+    beside=
     lay_out "$to"
 else
     name=saphyr_parser-$version-x86_64-linux
-    rm -rf "${to:?}/$name"
-    lay_out "$to/$name"
+    beside=share/saphyr_parser/
+    rm -rf "${folder:?}/$name"
+    lay_out "$folder/$name"
     time=${SOURCE_DATE_EPOCH:-$(git log -1 --format=%ct 2>/dev/null || date +%s)}
-    tar -C "$to" --sort=name --owner=0 --group=0 --numeric-owner --mtime="@$time" -c "$name" |
-        gzip -9n >"$to/$name.tar.gz"
-    echo "$to/$name.tar.gz"
+    tar -C "$folder" --sort=name --owner=0 --group=0 --numeric-owner --mtime="@$time" -c "$name" |
+        gzip -9n >"$folder/$name.tar.gz"
+    echo "$folder/$name.tar.gz"
 fi

@@ -1,9 +1,10 @@
 /*
  * Counts the events of a YAML file by the C face, and prints their number alone.
  *
- *     count_events FILE [TIMES]
+ *     count_events FILE [TIMES [PIECE]]
  *
- * The file is parsed so many times, each with a parser of its own. The status is 1 where its text is refused.
+ * The file is parsed so many times, each with a parser of its own. With PIECE it is not read to memory, and its text
+ * comes to the parser in pieces of so many bytes. The status is 1 where the text is refused.
  */
 #include "printing.h"
 
@@ -19,9 +20,44 @@ static bool count(const uint8_t *text, size_t len, size_t *events) {
     return status == SAPHYR_END;
 }
 
+/* The same of a file, whose text comes in pieces. */
+static bool count_pieces(FILE *file, uint8_t *bytes, size_t piece, size_t *events) {
+    saphyr_parser parser = {0};
+    saphyr_event event = {0};
+    int32_t status = saphyr_new_pieces(false, 0, 0, &parser);
+    while (status >= 0 && (status = saphyr_next(&parser, &event)) > 0) {
+        if (status == SAPHYR_MORE) {
+            status = saphyr_add(&parser, bytes, fread(bytes, 1, piece, file));
+        } else {
+            ++*events;
+        }
+    }
+    saphyr_free(&parser);
+    return status == SAPHYR_END;
+}
+
+static int main_pieces(FILE *file, long times, size_t piece) {
+    size_t events = 0;
+    uint8_t *bytes = file ? malloc(piece) : NULL;
+    if (!bytes) {
+        return 2;
+    }
+    for (; times > 0; times--) {
+        rewind(file);
+        if (!count_pieces(file, bytes, piece, &events)) {
+            return 1;
+        }
+    }
+    printf("%zu\n", events);
+    return 0;
+}
+
 int main(int words, char **word) {
     FILE *file = words > 1 ? fopen(word[1], "rb") : stdin;
     size_t len, events = 0;
+    if (words > 3) {
+        return main_pieces(file, atol(word[2]), (size_t)atol(word[3]));
+    }
     uint8_t *text = file ? read_all(file, &len) : NULL;
     if (!text) {
         return 2;

@@ -1,12 +1,22 @@
 //! Counts the events of a YAML file, and prints their number alone.
 //!
-//!     count_events FILE [TIMES]
+//!     count_events FILE [TIMES [PIECE]]
 //!
-//! The file is parsed so many times, each with a parser of its own.
+//! The file is parsed so many times, each with a parser of its own. With PIECE, whatever it is, the parser is over an
+//! iterator of the text's characters.
 
-use saphyr_parser::Parser;
+use saphyr_parser::{Event, Parser, ScanError, Span};
 use std::error::Error;
 use std::{env, fs};
+
+fn count<'a>(items: impl Iterator<Item = Result<(Event<'a>, Span), ScanError>>) -> Result<usize, ScanError> {
+    let mut events = 0;
+    for item in items {
+        item?;
+        events += 1;
+    }
+    Ok(events)
+}
 
 fn main() -> Result<(), Box<dyn Error>> {
     let words: Vec<String> = env::args().collect();
@@ -14,10 +24,10 @@ fn main() -> Result<(), Box<dyn Error>> {
     let times: usize = words.get(2).map_or(Ok(1), |it| it.parse())?;
     let mut events = 0;
     for _ in 0..times {
-        for item in Parser::new_from_str(&text) {
-            item?;
-            events += 1;
-        }
+        events += match words.get(3) {
+            Some(_) => count(Parser::new_from_iter(text.chars()))?,
+            None => count(Parser::new_from_str(&text))?,
+        };
     }
     println!("{events}");
     Ok(())

@@ -1,7 +1,8 @@
 #!/usr/bin/env python3
 """Measures `dump_events` beside other programs that print the same lines, or faces and parsers without printing.
 
-    bench/run.py [--size MEGABYTES] [--instructions | --memory] [--parse-only] [--shapes] [PEERS] [KIND ..]
+    bench/run.py [--size MEGABYTES] [--instructions | --memory] [--parse-only | --pieces BYTES] [--shapes] [PEERS]
+                 [KIND ..]
     bench/run.py --small [PEERS]
 
 A table of processor time, in the ratio to the first program: above 1 the other takes so many times as long. The least
@@ -9,7 +10,8 @@ of nine runs counts, which take turns. With --instructions it is the instruction
 smaller files, beyond those of an empty text, and the last lines have the least ratio of each peer. With --memory it is
 the most memory at a time, in bytes for each byte of the text, beyond that of an empty text. The files are of
 `inputs.py`, or with --shapes those of `shapes.py`, which are small and stress one thing each. With --parse-only the
-programs count the events, and print nothing of them. --small takes the instructions for a text of 48 bytes, whose
+programs count the events, and print nothing of them. So they do with --pieces, where the C face and libyaml get the
+text in pieces of so many bytes, and the Rust parsers from an iterator of characters. --small takes the instructions for a text of 48 bytes, whose
 parser is made, read to its end and freed. A `-` says that the peer refuses the file.
 
 The peers are the faces for C and Rust of this repository, libyaml where its header is there, with --crate SOURCES the
@@ -90,9 +92,14 @@ def seconds(command):
     return used.ru_utime + used.ru_stime if child.returncode == 0 else None
 
 
+def of_nothing(command):
+    """The same run of an empty text."""
+    return [command[0], os.devnull, *command[2:]]
+
+
 def instructions(command):
     """How many instructions a run takes beyond those for an empty text, or None where it fails."""
-    found, started = (count_instructions([command[0], file]) for file in (command[1], os.devnull))
+    found, started = (count_instructions(words) for words in (command, of_nothing(command)))
     return found and found - started
 
 
@@ -105,7 +112,7 @@ def count_instructions(command):
 
 def memory(peak, command):
     """The most memory of a run at a time, in bytes, beyond that for an empty text, or None where it fails."""
-    found, started = (count_memory([peak, command[0], file]) for file in (command[1], os.devnull))
+    found, started = (count_memory([peak, *words]) for words in (command, of_nothing(command)))
     return None if found is None else found - started
 
 
@@ -114,12 +121,12 @@ def count_memory(command):
     return 1024 * int(ran.stdout) if ran.returncode == 0 else None
 
 
-def least(programs, file, measure, runs):
+def least(programs, words, measure, runs):
     """The least of the runs of each program, which take turns."""
     taken = {name: [] for name in programs}
     for _ in range(runs):
         for name, path in programs.items():
-            taken[name].append(measure([path, file]))
+            taken[name].append(measure([path, *words]))
     return {name: None if None in them else min(them) for name, them in taken.items()}
 
 
@@ -127,10 +134,10 @@ def shown(number):
     return f"{number:12.2f}" if number is not None else f"{'-':>12}"
 
 
-def report(programs, file, kind, measure):
-    """The line of a file. Returns how many times as much each peer takes, where that is measured."""
-    size = os.path.getsize(file)
-    found = least(programs, file, measure, RUNS if measure is seconds else 1)
+def report(programs, words, kind, measure):
+    """The line of a file, the first of the words. Returns how many times as much each peer takes, if it is measured."""
+    size = os.path.getsize(words[0])
+    found = least(programs, words, measure, RUNS if measure is seconds else 1)
     own, *others = found.values()
     ratios = [it and own and it / own for it in others]
     numbers = [own, *ratios] if measure is seconds else [it if it is None else it / size for it in found.values()]
@@ -164,6 +171,7 @@ def main():
     words.add_argument("--memory", action="store_true")
     words.add_argument("--shapes", action="store_true")
     words.add_argument("--parse-only", action="store_true")
+    words.add_argument("--pieces", type=int, metavar="BYTES")
     words.add_argument("--small", action="store_true")
     words.add_argument("kinds", nargs="*", metavar="KIND", choices=[[], *KINDS, *SHAPES])
     asked = words.parse_args()
@@ -179,7 +187,7 @@ def main():
         if asked.memory:
             peak = compiled(folder, "peak", [f"{ROOT}/bench/peak.c"])
             unit, measure = "bytes for each byte", functools.partial(memory, peak)
-        programs = peers(folder, asked.crate, asked.peer, not (asked.parse_only or asked.small))
+        programs = peers(folder, asked.crate, asked.peer, not (asked.parse_only or asked.pieces or asked.small))
         if asked.small:
             return report_small(programs, f"{folder}/small")
         print(f"{unit:37}" + "".join(f"{name:>12}" for name in programs))
@@ -187,7 +195,8 @@ def main():
         for kind in asked.kinds or texts:
             with open(f"{folder}/{kind}", "w", encoding="utf-8", newline="") as it:
                 it.write(texts[kind](size))
-            rows[kind] = report(programs, f"{folder}/{kind}", kind, measure)
+            pieces = ["1", str(asked.pieces)] if asked.pieces else []
+            rows[kind] = report(programs, [f"{folder}/{kind}", *pieces], kind, measure)
         if asked.instructions:
             report_least(rows)
 

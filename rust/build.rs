@@ -5,7 +5,8 @@
 //! repository there are two: the library, and the kit's small one for requests for memory, which is next to the command
 //! `rt`.
 //!
-//! Without the library it only warns, so that what needs no linking works: `cargo check`, `clippy` and `doc`.
+//! Without the library it only warns, so that what needs no linking works: `cargo check`, `clippy` and `doc`. It also
+//! warns where the target is not Linux on x86-64, for which alone the library is there.
 
 use std::env;
 use std::fs::read_link;
@@ -20,6 +21,7 @@ const OF_THE_KIT: &str = "liblibc_c.a";
 fn main() {
     println!("cargo:rerun-if-env-changed={VARIABLE}");
     println!("cargo:rerun-if-env-changed=PATH");
+    warn_of_target();
     let folders = folders();
     if let Some(archives) = folders.iter().find_map(|it| archives_of(it)) {
         archives.iter().for_each(|it| link(it));
@@ -35,6 +37,20 @@ fn main() {
     // The compiler says that it can't find this library. Cargo runs this program again, until the file is there.
     println!("cargo:rustc-link-lib=static=saphyr_parser");
     println!("cargo:rerun-if-changed={RELEASED}");
+}
+
+/// Warns if the library is not there for the target.
+fn warn_of_target() {
+    let variable = |name| env::var(name).unwrap_or_default();
+    if (variable("CARGO_CFG_TARGET_ARCH"), variable("CARGO_CFG_TARGET_OS"))
+        != ("x86_64".into(), "linux".into())
+    {
+        println!(
+            "cargo:warning=the proved library is there for Linux on x86-64 alone, as x86_64-unknown-linux-gnu. \
+             Nothing can be linked for {}",
+            variable("TARGET")
+        );
+    }
 }
 
 /// The folders to look in.

@@ -35,11 +35,11 @@ def unescaped(text):
 
 def escaped(text):
     """Returns the text as case files have it."""
-    told = []
+    listed = []
     for it in text:
         is_shown = it.isprintable() and it != "\ufeff"
-        told.append(NAMES.get(it) or (it if is_shown else f"\\u{{{ord(it):x}}}"))
-    return "".join(told)
+        listed.append(NAMES.get(it) or (it if is_shown else f"\\u{{{ord(it):x}}}"))
+    return "".join(listed)
 
 
 def cases(path):
@@ -57,11 +57,11 @@ def cases(path):
     yield name, text, name.endswith(" keep_tags"), lines
 
 
-def line_of(told):
+def line_of(listed):
     """Returns a line of the crate's as a case has it, without escapes of its own."""
-    if told.startswith("!! "):
-        return f"! {told[3:]}"
-    event, _, span = told.rpartition("\t")
+    if listed.startswith("!! "):
+        return f"! {listed[3:]}"
+    event, _, span = listed.rpartition("\t")
     start, _, end = span.partition("-")
     return f"> {event} @ {start} {end}"
 
@@ -107,12 +107,12 @@ def print_counts(counts, partly):
 def main(words):
     if len(words) == 1:
         page = " ".join((ROOT / "docs/DIFFERENCES.md").read_text(encoding="utf-8").split())
-        lacking = [told for told, _ in reasons.REASONS if told not in page]
+        lacking = [listed for listed, _ in reasons.REASONS if listed not in page]
         unexplained = compare(words[0])
         for name, it in unexplained:
             print(f"{name}: {it.shown()}")
-        for told in lacking:
-            print(f"docs/DIFFERENCES.md doesn't say: {told}")
+        for listed in lacking:
+            print(f"docs/DIFFERENCES.md doesn't say: {listed}")
         sys.exit(1 if unexplained or lacking else 0)
     if len(words) > 2 and words[1] == "--new":
         texts = [unescaped(it) for it in words[2:]]

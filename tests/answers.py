@@ -111,7 +111,7 @@ ASKED, REFUSED = 0, 1
 # A place: its index and column; whether the last token that has a text is a quoted scalar or the end of a flow
 # collection; how many starts and keys without a text stand there; and how many events were told before, where they are
 # known (`Search.known`).
-Place = collections.namedtuple("Place", "index col ends_json bare told")
+Place = collections.namedtuple("Place", "index col ends_json bare emitted")
 START = Place(0, 0, False, 0, 0)
 Leaf = collections.namedtuple("Leaf", "name anchor tag style value")
 Opening = collections.namedtuple("Opening", "name anchor tag")
@@ -225,14 +225,14 @@ class Search:
         """What a way breaks that should meet a condition."""
         return ASKED if holds or name in self.waived else REFUSED
 
-    def tell(self, place, part):
+    def emit(self, place, part):
         """The part as what is told, if it may be told at a place."""
         if self.known is None:
             return [((part,), place)]
-        if place.told == len(self.known) or not is_line_of(self.known[place.told], part):
+        if place.emitted == len(self.known) or not is_line_of(self.known[place.emitted], part):
             return []
-        self.furthest = max(self.furthest, place.told + 1)
-        return [((), place._replace(told=place.told + 1))]
+        self.furthest = max(self.furthest, place.emitted + 1)
+        return [((), place._replace(emitted=place.emitted + 1))]
 
     def may(self, broken):
         """Whether a way breaks nothing."""
@@ -249,16 +249,16 @@ class Search:
         """The place at an index behind (IsPassed, end_of_text)."""
         start = self.line_starts[index]
         col = index - start if start > place.index else place.col + index - place.index
-        return Place(index, col, place.ends_json, place.bare, place.told)
+        return Place(index, col, place.ends_json, place.bare, place.emitted)
 
     def along(self, place, count, ends_json=False):
         """The place behind so many characters of a token on its line."""
-        return Place(place.index + count, place.col + count, ends_json, 0, place.told)
+        return Place(place.index + count, place.col + count, ends_json, 0, place.emitted)
 
     def behind(self, place, index, ends_json=False):
         """The place behind a token that may go over several lines."""
         place = self.passed(place, index)
-        return Place(index, place.col, ends_json, 0, place.told)
+        return Place(index, place.col, ends_json, 0, place.emitted)
 
     def has_break(self, place, other):
         return any(c in BREAK for c in self.text[place.index:other.index])
@@ -271,7 +271,7 @@ class Search:
 
     def without_text(self, place):
         """The same place behind a start or a key that has no text (HasNoText, IsBlockStart)."""
-        more = Place(place.index, place.col, place.ends_json, place.bare + 1, place.told)
+        more = Place(place.index, place.col, place.ends_json, place.bare + 1, place.emitted)
         return [more] if place.bare < self.most_bare else []
 
     def stands(self, place, c):
@@ -540,7 +540,7 @@ class Search:
         return context in (IN_FLOW, AS_BLOCK_KEY) or place.col > column
 
     def left_out(self, place):
-        return [(told, t, 0) for told, t in self.tell(place, Leaf("=VAL", None, None, "plain", ""))]
+        return [(emitted, t, 0) for emitted, t in self.emit(place, Leaf("=VAL", None, None, "plain", ""))]
 
     @way
     def optional(self, place, context, column):
@@ -552,41 +552,41 @@ class Search:
         """A node (YieldsNode)."""
         here = self.apart(place)
         for name, t in self.name_tokens(here, "*") if self.is_indented(here, context, column) else []:
-            yield from ((told, u, 0) for told, u in self.tell(t, Reference("=ALI", name)))
+            yield from ((emitted, u, 0) for emitted, u in self.emit(t, Reference("=ALI", name)))
         for (anchor, tag), t, broken in self.properties(place, context, column):
             content, has_property = self.apart(t), (anchor, tag) != (None, None)
             if self.may(broken):
                 ways = self.flow_content(t, context, column, anchor, tag)
-                yield from ((told, u, broken | more) for told, u, more in ways)
+                yield from ((emitted, u, broken | more) for emitted, u, more in ways)
             broken |= self.unless("own line", not has_property or self.has_break(t, content))
             if context != IN_FLOW and self.may(broken):
                 ways = self.block_collection(content, context, column, anchor, tag)
-                yield from ((told, u, broken | more) for told, u, more in ways)
+                yield from ((emitted, u, broken | more) for emitted, u, more in ways)
 
     def flow_content(self, place, context, column, anchor, tag):
         """What no block collection is: a scalar, which may be left out behind a property, or a flow collection."""
         content = self.apart(place)
         if (anchor, tag) != (None, None):
-            yield from ((told, t, 0) for told, t in self.tell(place, Leaf("=VAL", anchor, tag, "plain", "")))
+            yield from ((emitted, t, 0) for emitted, t in self.emit(place, Leaf("=VAL", anchor, tag, "plain", "")))
         if not self.is_indented(content, context, column):
             return
         for style, value, t in self.scalar_tokens(content, context, column):
-            yield from ((told, u, 0) for told, u in self.tell(t, Leaf("=VAL", anchor, tag, style, value)))
+            yield from ((emitted, u, 0) for emitted, u in self.emit(t, Leaf("=VAL", anchor, tag, style, value)))
         for name, collection in (("+SEQ", self.flow_sequence), ("+MAP", self.flow_mapping)):
             if name == "+MAP" or self.at(content.index) == "[":
-                for told, t in self.tell(content, Opening(name, anchor, tag)):
-                    yield from ((told + others, u, broken) for others, u, broken in collection(t, column))
+                for emitted, t in self.emit(content, Opening(name, anchor, tag)):
+                    yield from ((emitted + others, u, broken) for others, u, broken in collection(t, column))
 
-    def closed(self, told, place, broken, name):
-        ends = self.tell(place, Bracket(name)) if self.may(broken) else []
-        return ((told + end, t, broken) for end, t in ends)
+    def closed(self, emitted, place, broken, name):
+        ends = self.emit(place, Bracket(name)) if self.may(broken) else []
+        return ((emitted + end, t, broken) for end, t in ends)
 
     @way
     def flow_sequence(self, place, column):
         for t in self.stands(place, "["):
-            for told, u, broken in self.flow_entries(t, column, self.flow_entry):
+            for emitted, u, broken in self.flow_entries(t, column, self.flow_entry):
                 for v in self.stands(self.apart(u), "]"):
-                    yield from self.closed(told, v, broken, "-SEQ")
+                    yield from self.closed(emitted, v, broken, "-SEQ")
 
     @way
     def flow_mapping(self, place, column):
@@ -595,18 +595,18 @@ class Search:
         starts = [(t, 0) for t in self.stands(place, "{")]
         starts += [(t, lacks) for t in self.without_text(place) if self.may(lacks)]
         for t, lacks_start in starts:
-            for told, u, broken in self.flow_entries(t, column, self.flow_pair):
+            for emitted, u, broken in self.flow_entries(t, column, self.flow_pair):
                 end = self.apart(u)
                 ends = [(v, 0) for v in self.stands(end, "}")] + [(end, lacks)] * self.may(lacks)
                 for v, lacks_end in ends:
-                    yield from self.closed(told, v, broken | lacks_start | lacks_end, "-MAP")
+                    yield from self.closed(emitted, v, broken | lacks_start | lacks_end, "-MAP")
 
     def flow_entries(self, place, column, entry):
         """Entries and the commas behind them (YieldFlowEntries, YieldFlowPairs)."""
         yield (), place, 0
-        for told, t, broken in entry(place, column):
+        for emitted, t, broken in entry(place, column):
             for others, u, more in self.other_flow_entries(t, column, entry.__name__):
-                yield told + others, u, broken | more
+                yield emitted + others, u, broken | more
 
     @way
     def other_flow_entries(self, place, column, name):
@@ -614,18 +614,18 @@ class Search:
         yield (), place, 0
         for t in self.stands(self.apart(place), ","):
             yield (), t, 0
-            for told, u, broken in getattr(self, name)(t, column):
+            for emitted, u, broken in getattr(self, name)(t, column):
                 for others, v, more in self.other_flow_entries(u, column, name):
-                    yield told + others, v, broken | more
+                    yield emitted + others, v, broken | more
 
     @way
     def flow_entry(self, place, column):
         """A node, or a mapping of a single pair. That has a start and an end without a text, but for a `?` in it."""
         yield from self.node(place, IN_FLOW, column)
         here = self.apart(place)
-        for told, t in self.tell(here, Opening("+MAP", None, None)):
+        for emitted, t in self.emit(here, Opening("+MAP", None, None)):
             for others, u, broken in self.single_pair(t, column):
-                yield from self.closed(told + others, u, broken, "-MAP")
+                yield from self.closed(emitted + others, u, broken, "-MAP")
 
     @way
     def single_pair(self, place, column):
@@ -641,43 +641,43 @@ class Search:
         yield from self.marked_pair(place, IN_FLOW, column, False)
         yield from self.key_alone(place, IN_FLOW, column)
         yield from self.value_alone(place, IN_FLOW, column)
-        for told, t, broken in self.node(place, IN_FLOW, column):
-            yield from ((told + others, u, broken) for others, u, _ in self.left_out(t))
+        for emitted, t, broken in self.node(place, IN_FLOW, column):
+            yield from ((emitted + others, u, broken) for others, u, _ in self.left_out(t))
 
     @way
     def value_alone(self, place, context, column):
         """A key that is left out, and its value."""
-        for told, t, _ in self.left_out(place):
+        for emitted, t, _ in self.left_out(place):
             for others, u, broken in self.marked_value(t, context, column):
-                yield told + others, u, broken
+                yield emitted + others, u, broken
 
     @way
     def marked_value(self, place, context, column):
         """A colon and a node (YieldsMarkedValue)."""
         for t, broken in self.value_tokens(self.apart(place), context):
-            for told, u, more in self.optional(t, context, column) if self.may(broken) else []:
-                yield told, u, broken | more
+            for emitted, u, more in self.optional(t, context, column) if self.may(broken) else []:
+                yield emitted, u, broken | more
 
     @way
     def key_alone(self, place, context, column):
         """A key without a value (YieldsMarkedKey)."""
         for has_mark, t in self.key_tokens(self.apart(place), context, column):
             lacks = self.unless("key with a colon", has_mark)
-            for told, u, broken in self.optional(t, self.key_context(has_mark, context), column):
+            for emitted, u, broken in self.optional(t, self.key_context(has_mark, context), column):
                 for others, v, _ in self.left_out(u) if self.may(lacks | broken) else []:
-                    yield told + others, v, lacks | broken
+                    yield emitted + others, v, lacks | broken
 
     @way
     def marked_pair(self, place, context, column, is_single):
         """A key and its value (YieldsMarkedPair)."""
         start = self.apart(place)
         for has_mark, t in self.key_tokens(start, context, column):
-            for told, u, broken in self.optional(t, self.key_context(has_mark, context), column):
+            for emitted, u, broken in self.optional(t, self.key_context(has_mark, context), column):
                 colon = self.apart(u)
                 broken |= self.key_breaks(has_mark, start, colon, context, column, is_single)
                 broken |= self.unless("some key", has_mark or u.index > t.index)
                 for others, v, more in self.marked_value(u, context, column) if self.may(broken) else []:
-                    yield told + others, v, broken | more
+                    yield emitted + others, v, broken | more
 
     def key_context(self, has_mark, context):
         """Where a key stands: a block mapping's that no `?` begins stands at the mapping's column."""
@@ -698,17 +698,17 @@ class Search:
         starts = key | self.unless("the line of a block collection", BEFORE_BLOCK.fullmatch(front))
         for t in self.without_text(place) if place.col > column and self.may(starts) else []:
             for name in ("SEQ", "MAP"):
-                for told, u in self.tell(t, Opening("+" + name, anchor, tag)):
+                for emitted, u in self.emit(t, Opening("+" + name, anchor, tag)):
                     ways = self.block_entries(u, place.col) if name == "SEQ" else self.block_pairs(u, place.col, False)
                     for others, v, broken in ways:
                         broken |= key | self.unless("some entry", v != u)
                         ends = self.ends_block(self.apart(v), place.col)
-                        yield from self.closed(told + others, v, broken, "-" + name) if ends else []
+                        yield from self.closed(emitted + others, v, broken, "-" + name) if ends else []
         if context in (IN_BLOCK_MAPPING, AS_BLOCK_KEY) and self.is_dash(place) and self.may(key):
-            for told, t in self.tell(place, Opening("+SEQ", anchor, tag)):
+            for emitted, t in self.emit(place, Opening("+SEQ", anchor, tag)):
                 for others, u, broken in self.block_entries(t, column):
                     if u != t:
-                        yield from self.closed(told + others, u, key | broken, "-SEQ")
+                        yield from self.closed(emitted + others, u, key | broken, "-SEQ")
 
     def ends_block(self, here, column):
         """Whether a block collection at a column may end before what stands here (IsBlockEnd)."""
@@ -721,9 +721,9 @@ class Search:
         yield (), place, 0
         dash = self.apart(place)
         for t in self.stands(dash, "-") if self.is_dash(dash) and dash.col == column else []:
-            for told, u, broken in self.optional(t, IN_BLOCK, column):
+            for emitted, u, broken in self.optional(t, IN_BLOCK, column):
                 for others, v, more in self.block_entries(u, column):
-                    yield told + others, v, broken | more
+                    yield emitted + others, v, broken | more
 
     @way
     def block_pairs(self, place, column, is_behind_key):
@@ -736,27 +736,27 @@ class Search:
         pairs = [(it, False) for it in self.marked_pair(here, IN_BLOCK_MAPPING, column, False)]
         pairs += [(it, False) for it in self.value_alone(here, IN_BLOCK_MAPPING, column) if not is_behind_key]
         pairs += [(it, True) for it in self.key_alone(here, IN_BLOCK_MAPPING, column)]
-        for (told, t, broken), is_key in pairs:
+        for (emitted, t, broken), is_key in pairs:
             for others, u, more in self.block_pairs(t, column, is_key):
-                yield told + others, u, at_column | broken | more
+                yield emitted + others, u, at_column | broken | more
 
     # ## Documents and streams
     @way
     def document(self, place, is_free):
         """A document (YieldsDocument)."""
         if is_free:
-            for told, t in self.tell(place, Document("+DOC", False, ())):
+            for emitted, t in self.emit(place, Document("+DOC", False, ())):
                 for others, u, broken in self.node(t, IN_BLOCK, ROOT):
-                    yield from self.closed(told + others, u, broken, "-DOC")
+                    yield from self.closed(emitted + others, u, broken, "-DOC")
         for directives, t, broken in self.directives(place) if is_free else [((), place, 0)]:
             if len({handle for handle, _ in directives}) == len(directives):
                 for u in self.marker(self.apart(t), "---"):
                     yield from self.explicit_document(u, directives, broken)
 
     def explicit_document(self, place, directives, broken):
-        for told, t in self.tell(place, Document("+DOC", True, directives)):
+        for emitted, t in self.emit(place, Document("+DOC", True, directives)):
             for others, u, more in self.optional(t, IN_BLOCK, ROOT):
-                yield from self.closed(told + others, u, broken | more, "-DOC")
+                yield from self.closed(emitted + others, u, broken | more, "-DOC")
 
     @way
     def directives(self, place):
@@ -779,22 +779,22 @@ class Search:
         """Documents up to the end (YieldDocuments, YieldsBehindDocument)."""
         if self.apart(place).index == len(self.text):
             yield from self.closed((), place, 0, "-STR")
-        for told, t, broken in self.document(place, is_free):
+        for emitted, t, broken in self.document(place, is_free):
             behind = self.marks(t, False)
             ends = self.marker(behind, "...")
             for others, u, more in self.documents(self.marks(ends[0], True) if ends else behind, bool(ends)):
-                yield told + others, u, broken | more
+                yield emitted + others, u, broken | more
 
     def answers(self):
         """The parts of each answer (Yields, AreTakenFrom)."""
-        for told, t in self.tell(START, Bracket("+STR")):
+        for emitted, t in self.emit(START, Bracket("+STR")):
             for others, _, _ in self.documents(self.marks(t, True), True):
-                yield told + others
+                yield emitted + others
 
     def first_documents(self):
         """The parts of each document that may come first, whatever follows it."""
-        for told, _, _ in self.document(self.marks(START, True), True):
-            yield told
+        for emitted, _, _ in self.document(self.marks(START, True), True):
+            yield emitted
 
     def reached(self):
         """How many of the known events begin an answer."""
@@ -877,9 +877,9 @@ def own_answers(words, texts):
 
 
 # ## What is found
-def lines_of(told):
+def lines_of(emitted):
     """The printed lines of the parts of each answer that has events."""
-    lists = (events(parts) for parts in told)
+    lists = (events(parts) for parts in emitted)
     return {tuple("+DOC" if it[:4] == "+DOC" else it for it in lines) for lines in lists if lines is not None}
 
 
@@ -1023,20 +1023,20 @@ def cases_of(path):
     for case in open(path, encoding="utf-8", newline="\n").read().split("\n= "):
         name, *lines = case.split("\n")
         text = next(line[2:] for line in lines if line[:2] == "< ")
-        told = [unescaped(line[2:].rsplit(" @ ", 1)[0]) for line in lines if line[:2] == "> "]
-        yield name.removeprefix("= "), unescaped(text), told, any(line[:2] == "! " for line in lines)
+        emitted = [unescaped(line[2:].rsplit(" @ ", 1)[0]) for line in lines if line[:2] == "> "]
+        yield name.removeprefix("= "), unescaped(text), emitted, any(line[:2] == "! " for line in lines)
 
 
 def check_cases(words):
     wrong, count = collections.defaultdict(list), collections.Counter()
     for path in words.texts or sorted(DATA + name for name in os.listdir(DATA)):
-        for name, text, told, is_cut in cases_of(path):
+        for name, text, emitted, is_cut in cases_of(path):
             if len(text) > (words.longest or 700):
                 continue
             count[is_cut] += 1
-            if is_cut and Search(text, words.bare, WAIVED, told).reached() < len(told):
+            if is_cut and Search(text, words.bare, WAIVED, emitted).reached() < len(emitted):
                 wrong["a beginning"].append((len(text), name, text))
-            elif not is_cut and next(Search(text, words.bare, (), told).answers(), None) is None:
+            elif not is_cut and next(Search(text, words.bare, (), emitted).answers(), None) is None:
                 wrong["not taken"].append((len(text), name, text))
     for name, cases in sorted(wrong.items()):
         print(f"{len(cases):9,}  {name}")

@@ -65,31 +65,40 @@ answers() {
 
 warned='empty:1:1: warning: this document has no content\n---\n^\n'
 refused="refused:1:3: error: ':' may not precede any of \`[{\` in flow mapping\n[a:[]]\n  ^\n"
+refused+='refused:1:1: note: the sequence that begins here is not closed yet\n[a:[]]\n^\n'
 events='+STR\n+DOC\n+MAP\n=VAL :a\n=VAL :b\n-MAP\n-DOC\n-STR\n'
 answers 0 ''
 answers 0 '' -
 answers 0 '' text - text
-answers 1 "$warned" empty
+answers 0 "$warned" empty
+answers 1 "$warned" --strict empty
+answers 0 '' --disable empty-document --strict empty
 answers 1 "$refused" text refused
 answers 1 "$warned$refused" empty refused
 answers 1 '' --quiet empty refused
 answers 0 "$events" --events text
 answers 0 "$events" --events
-answers 1 '-:1:1: warning: the text has more than 0 nodes\na: b\n^\n' --max-nodes 0
-answers 1 '-:1:1: warning: more than 0 collections are open here\na: b\n^\n' --max-depth 0 -
+answers 0 '-:1:1: warning: the text has more than 0 nodes\na: b\n^\n' --max-nodes 0
+answers 0 '-:1:1: warning: more than 0 collections are open here\na: b\n^\n' --max-depth=0 -
+cp empty ./-q
+answers 0 '-q:1:1: warning: this document has no content\n---\n^\n' -- -q
 printf -- '---\n' >$'two\nlines'
-answers 1 'two\\nlines:1:1: warning: this document has no content\n---\n^\n' $'two\nlines'
+answers 0 'two\\nlines:1:1: warning: this document has no content\n---\n^\n' $'two\nlines'
+told='"rule":"empty-document","severity":"warning","message":"this document has no content"}\n'
+answers 0 '{"file":"two\\u000alines","line":1,"column":1,"end":{"line":1,"column":4},'"$told" --format=json $'two\nlines'
 answers 0 "$(sed -n 's/^const VERSION: &str = "\(.*\)";$/\1/p' "$crates/check_yaml/src/main.rt")\n" --version
+answers 0 "$(cat lines)\n" -V
 
 usage=$("$program" --help)
 case $usage in
-'usage: check_yaml [--events] [--quiet] [--max-depth N] [--max-nodes N] [FILE..]'*) ;;
+'usage: check_yaml [OPTION..] [--] [FILE..]'*) ;;
 *)
     echo "check_yaml --help: $usage"
     failed=1
     ;;
 esac
 answers 0 "$usage\n" --help
+answers 0 "$usage\n" -h
 complaint="check_yaml: there is no option --wrong\n$usage\n"
 answers 2 '' --wrong empty
 complaint="check_yaml: there is no option --two\\\\nlines\n$usage\n"
@@ -99,19 +108,26 @@ answers 2 '' --max-depth
 answers 2 '' --max-depth -1
 complaint="check_yaml: --max-nodes asks for a number\n$usage\n"
 answers 2 '' --max-nodes empty
-complaint="check_yaml: missing: can't read\n"
+complaint="check_yaml: --quiet takes no value\n$usage\n"
+answers 2 '' --quiet=yes empty
+complaint="check_yaml: --disable asks for the name of a rule\n$usage\n"
+answers 2 '' --disable syntax empty
+complaint="check_yaml: --format asks for text or json\n$usage\n"
+answers 2 '' --format
+complaint="check_yaml: missing: can't read: No such file or directory (os error 2)\n"
 answers 2 '' missing
 answers 2 "$warned$refused" empty missing refused
-complaint="check_yaml: no\\\\nfile: can't read\n"
+complaint="check_yaml: no\\\\nfile: can't read: No such file or directory (os error 2)\n"
 answers 2 '' $'no\nfile'
-complaint="check_yaml: .: can't read\n"
+complaint="check_yaml: .: can't read: Is a directory (os error 21)\n"
 answers 2 '' . --quiet empty
 
 status=0
-"$program" empty >/dev/full 2>errors || status=$?
+"$program" empty refused empty >/dev/full 2>errors || status=$?
 if [ "$status" != 2 ] || [ "$(cat errors)" != "check_yaml: empty: can't write" ]; then
     echo "check_yaml on a full device: status $status: $(cat errors)"
     failed=1
 fi
+"$crates/../tests/mistakes.py" || failed=1
 [ "$failed" = 1 ] || echo "arguments: as they are to be answered"
 exit "$failed"

@@ -19,8 +19,8 @@ import sys
 
 PROGRAM = os.path.dirname(os.path.dirname(os.path.abspath(__file__))) + "/crates/dump_events/out/dump_events"
 TABS, MOST_OPEN, LONGEST_KEY, MARK, ESCAPED, FLOW = "  \t", 255, 1024, "\ufeff", "\ue000\ue001\ue002", ",[]{}"
-INK = "aab1" * 6 + "-?:.#&*!|>'\"%@`\\/=_~" + FLOW + "\x01\x7f\x85\xa0é\u2028\ufffe\U0001f600"
-OPEN_INK = "".join(c for c in INK if c not in FLOW)
+CHARS = "aab1" * 6 + "-?:.#&*!|>'\"%@`\\/=_~" + FLOW + "\x01\x7f\x85\xa0é\u2028\ufffe\U0001f600"
+OPEN_CHARS = "".join(c for c in CHARS if c not in FLOW)
 URI, SUFFIX = "aab1-#;/?:@&=+$,_.!~*'()[]", "aab1-#;/?:@&=+$_.~*'()"
 ESCAPES = list(zip('0abt\tnvfre "/\\N_LP', "\0\a\b\t\t\n\v\f\r\x1b \"/\\\x85\xa0\u2028\u2029"))
 ESCAPES += [(form % ord(c), c) for form, most in (("x%02x", 0xff), ("u%04X", 0xffff), ("U%08x", 0x10ffff))
@@ -107,7 +107,7 @@ class Derivation:
     # ## Spelling/Spaces.antt. `indent` is None where no line may end.
     def comment(self):
         self.hits.append("comment")
-        return "#" + self.characters(INK + " \t", self.few())
+        return "#" + self.characters(CHARS + " \t", self.few())
 
     def line_end(self, blanks=TABS):
         front = self.characters(blanks)
@@ -157,7 +157,7 @@ class Derivation:
 
     # ## TagSpelling.antt, Spelling/Tag.antt and Spelling/Directive.antt
     def anchor_name(self, known="abc"):
-        return self.characters(OPEN_INK, 1) if self.rarely(4) else self.one_of(known)
+        return self.characters(OPEN_CHARS, 1) if self.rarely(4) else self.one_of(known)
 
     def decoded(self, among, least=0):
         text = value = ""
@@ -203,13 +203,13 @@ class Derivation:
             prefixes[handle] = value + prefix
             text += "%" + {
                 "version": "YAML" + blanks + ".".join(numbers) + end,
-                "reserved": self.characters(INK, 1) + self.one_of(("", blanks + self.characters(INK + more))) + "\n",
+                "reserved": self.characters(CHARS, 1) + self.one_of(("", blanks + self.characters(CHARS + more))) + "\n",
             }.get(handle, "TAG" + blanks + handle + more + first + others + end) + self.filler()
         return text, prefixes
 
     # ## FlowScalars.antt, Spelling/Plain.antt, Spelling/Quoted.antt and Spelling/QuotedLines.antt
     def word(self, in_flow, is_first):
-        word = self.characters(OPEN_INK if in_flow else INK, 1).rstrip(":") or "a"
+        word = self.characters(OPEN_CHARS if in_flow else CHARS, 1).rstrip(":") or "a"
         word *= self.random.randrange(1, 1100) if self.rarely(500) else 1
         is_refused = word[0] in FLOW + "&*!|>'\"%@`" or word in ("-", "?") if is_first else in_flow and word == "-"
         return "a" + word if is_refused or word[0] == "#" else word
@@ -228,9 +228,9 @@ class Derivation:
         return text, ":" + folded(text)
 
     def plain_key(self, in_flow, indent):
-        """A plain scalar that is a key, right before its colon, and its node: any ink may stand in its last word."""
+        """A plain scalar that is a key, right before its colon, and its node: its last word has any character."""
         front = self.plain(in_flow, indent)[0] + self.characters("   \t", 1) if self.rarely(2) else ""
-        word = self.characters(OPEN_INK if in_flow else INK, self.few()) + self.characters("::::-?", 1)
+        word = self.characters(OPEN_CHARS if in_flow else CHARS, self.few()) + self.characters("::::-?", 1)
         is_refused = not front and word[0] in FLOW + "&*!|>'\"%@`"
         text = front + ("a" + word if is_refused or word[0] == "#" else word)
         before, properties = self.before("a plain key", indent, self.separation(indent, 1))
@@ -240,7 +240,7 @@ class Derivation:
 
     def quoted(self, quote, indent):
         double, breaks, text, read = 2 * (quote == '"'), 4 * (indent is not None), "", ""
-        among = [c for c in INK + MARK + "     \t\t" if c != quote and (c != "\\" or not double)]
+        among = [c for c in CHARS + MARK + "     \t\t" if c != quote and (c != "\\" or not double)]
         for _ in range(self.one_of((0, 1, 2, 3, 4, 6))):
             kind = self.pick("in double quotes" if double else "in single quotes", itself=8, two_quotes=2 - double,
                              escaped=2 * double, broken=breaks, escaped_break=breaks * double // 2)
@@ -339,7 +339,7 @@ class Derivation:
     def block_scalar(self, behind, column, digit):
         first, lines = self.few(), []
         for at in range(first + 1 + self.few() + self.few()):
-            line = self.characters(INK + "    \t\t", 1)
+            line = self.characters(CHARS + "    \t\t", 1)
             line = line.lstrip(" ") or "a" if at == first and not digit else line
             line = "a" + line if column == 0 and (is_marker(line) or at == 0 and line[0] == "\t") else line
             lines.append(None if at < first or at > first and self.rarely(3) else line)
@@ -352,10 +352,10 @@ class Derivation:
             lines += [None] * (spaces == column > 0)
         else:
             body += "\n" * bool(behind or lines[-1] is None or self.rarely(2))
-        told = {"its indentation is given": digit, "at column 0": not column, "its last line is empty": not lines[-1],
+        noted = {"its indentation is given": digit, "at column 0": not column, "its last line is empty": not lines[-1],
                 "its last break lacks": body[-1] != "\n" and not cut, "spaces at the text's end": cut, "a comment left of it": behind.lstrip(" ")[:1] == "#",
                 "a tab left of it": behind.lstrip(" ")[:1] == "\t"}
-        self.hits += [f"block scalar: {it}" for it in told if told[it]]
+        self.hits += [f"block scalar: {it}" for it in noted if noted[it]]
         style, chomping, header = self.header(digit)
         return header + self.line_end(" \t") + body, style + block_value(style == ">", chomping, lines)
 
@@ -370,13 +370,13 @@ class Derivation:
         # no tab stands right behind the header's line
         end, count = self.line_end(" \t"), self.few() or int(behind[:1] == "\t")
         body = "".join(" " * self.random.randint(0, column) + "\n" for _ in range(count))
-        told = "no lines" if not count else "empty lines"
+        noted = "no lines" if not count else "empty lines"
         if not behind and self.rarely(2):
             spaces = self.random.randint(0, column)
-            told, count, body = "spaces at the text's end", count or int(spaces > 0), body + " " * spaces
+            noted, count, body = "spaces at the text's end", count or int(spaces > 0), body + " " * spaces
             if not body and self.rarely(2):
-                told, end = "a header at the text's end", end[:-1]
-        self.hits += [f"block scalar without content: {told}"]
+                noted, end = "a header at the text's end", end[:-1]
+        self.hits += [f"block scalar without content: {noted}"]
         return header + end + body, style + "\n" * (count if chomping == "keep" else 0)
 
     def block_collection(self, place, behind, kind):
@@ -498,8 +498,8 @@ def main(words):
         wanted, read = events(made.forest), (ran.stdout + ran.stderr).decode()
         if ran.returncode or wanted != read:
             wrong.append((len(made.text), f"seed {seed}: {made.text!r}\n  wanted {wanted!r}\n  read   {read!r}"))
-    told = [f"{number:9,}  {name}" for name, number in sorted(hits.items())]
-    print(*told, *(text for _, text in sorted(wrong)[:20]), sep="\n")
+    noted = [f"{number:9,}  {name}" for name, number in sorted(hits.items())]
+    print(*noted, *(text for _, text in sorted(wrong)[:20]), sep="\n")
     print(f"seeds {first} to {first + count - 1}: texts of {min(lengths)} to {max(lengths):,} characters, "
           f"{sum(lengths) // count} on average; {len(wrong)} read otherwise")
     return 1 if wrong else 0

@@ -54,12 +54,12 @@ def rows():
     crate = None
     for block in ROWS.read_text(encoding="utf-8").split("\n\n"):
         lines = [it.partition(": ") for it in block.strip("\n").split("\n") if not it.startswith("#")]
-        told = {key: "\n".join(value for it, _, value in lines if it == key) for key, _, _ in lines}
-        crate = told.pop("crate", crate)
-        if told:
-            yield Row(crate, told.pop("edit"), *(told.pop(key, "") for key in KEYS))
-        if told:
-            raise ValueError(f"{ROWS} has another key: {', '.join(told)}")
+        want = {key: "\n".join(value for it, _, value in lines if it == key) for key, _, _ in lines}
+        crate = want.pop("crate", crate)
+        if want:
+            yield Row(crate, want.pop("edit"), *(want.pop(key, "") for key in KEYS))
+        if want:
+            raise ValueError(f"{ROWS} has another key: {', '.join(want)}")
 
 
 def edits():
@@ -133,7 +133,7 @@ def answers(tree, program, questions):
         how = {"stdin": subprocess.DEVNULL, "stdout": subprocess.PIPE, "stderr": subprocess.STDOUT}
         said = subprocess.run(words, cwd=tree / "crates" / program, **how).stdout.decode(errors="replace")
     found = re.findall(r"((?:.*\n)*?)case=q(\d+) (run=\w+ ?(?:status=\d+)?).*\n", said)
-    lines = {int(number): [*told.removeprefix(f"== q{number}\n").split("\n")[:-1], run] for told, number, run in found}
+    lines = {int(number): [*want.removeprefix(f"== q{number}\n").split("\n")[:-1], run] for want, number, run in found}
     if len(lines) != len(questions):
         raise ValueError(f"{program} isn't built:\n{said[-2000:]}")
     return [[it.replace("run=ended ", "") for it in lines[number]] for number in range(len(questions))]
@@ -159,9 +159,9 @@ def right_answers(questions):
     return [known[repr(it)] for it in questions]
 
 
-def often(lines, told):
+def often(lines, want):
     """How often a line comes, whole or as an event without its places."""
-    return sum(told in (it, re.sub(r"^> (.*) @ [\d, ]+$", r"\1", it)) for it in lines)
+    return sum(want in (it, re.sub(r"^> (.*) @ [\d, ]+$", r"\1", it)) for it in lines)
 
 
 def judged(row, right, wrong):
@@ -170,8 +170,8 @@ def judged(row, right, wrong):
         return "gives the right answer"
     if row.fewer == "every line":
         return None if not wrong[:-1] and right[:-1] else "prints something"
-    told = [(False, it[2]) for it in CODE.finditer(row.more)] + [(True, it[2]) for it in CODE.finditer(row.fewer)]
-    for is_less, line in told:
+    want = [(False, it[2]) for it in CODE.finditer(row.more)] + [(True, it[2]) for it in CODE.finditer(row.fewer)]
+    for is_less, line in want:
         here, there = often(wrong, line), often(right, line)
         if not (here < there if is_less else here > there):
             return f"another wrong answer than told: {line!r} comes {here} times, and {there} times where all is right"

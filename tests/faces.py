@@ -4,10 +4,10 @@
     tests/faces.py
 
 Builds the C programs of tests/faces and the crate of rust/, and runs each case of crates/test_cases/data through
-both: their events and places are to be the case's, and its lines those that `dump_events` prints. The C face is
-misused, each request for memory over the worked texts is refused in turn, and where valgrind is there, it looks for
-leaks. Where there is no compiler of C or no cargo, it says so, and tests nothing. SAPHYR_PARSER_LIB may name another
-folder with the library, as an absolute path.
+both: their events and places are to be the case's, and its lines those that `dump_events` prints. Line by line each
+event has to be there when the rule of tests/prompt.py says. The C face is misused, each request for memory over the
+worked texts is refused in turn, and where valgrind is there, it looks for leaks. Where there is no compiler of C or no
+cargo, it says so, and tests nothing. SAPHYR_PARSER_LIB may name another folder with the library, as an absolute path.
 """
 import concurrent.futures
 import os
@@ -18,14 +18,15 @@ import subprocess
 import sys
 import tempfile
 
+from prompt import late
 from refused_memory import DATA, ROOT, cases_of, judge_lines, program, refuser, sweep, unescaped
 
 CRATE = f"{ROOT}/crates/saphyr_parser_c"
-PROGRAMS = ("cases", "dump_events", "misuse", "pieces", "refusals")
+PROGRAMS = ("cases", "dump_events", "misuse", "pieces", "refusals", "trees")
 PIECES = (1, 2, 3, 4096)
 REFUSED_PIECES = (0, 2, 4096)  # 0: the whole text
 HOW = ["-std=c11", "-D_GNU_SOURCE", "-O2", "-Wall", "-Wextra", f"-I{CRATE}"]
-WRAP = [f"-Wl,--wrap={name}" for name in ("malloc", "realloc", "free")]  # `refusals` refuses by functions of its own
+WRAP = [f"-Wl,--wrap={name}" for name in ("malloc", "realloc", "free")]  # two programs refuse by functions of their own
 VALGRIND = ["valgrind", "-q", "--error-exitcode=99", "--leak-check=full", "--errors-for-leak-kinds=definite,indirect"]
 FAILED = []
 
@@ -77,7 +78,7 @@ def built(folder, compiler):
     made, to_link = {}, libraries()
     for name in PROGRAMS:
         made[name] = f"{folder}/{name}"
-        wrap = WRAP if name == "refusals" else []
+        wrap = WRAP if name in ("refusals", "trees") else []
         call([compiler, *HOW, *wrap, f"{ROOT}/tests/faces/{name}.c", *to_link, "-o", made[name]], ROOT)
     cargo("build", "--example", "dump_events")
     made["rust"] = os.environ.get("CARGO_TARGET_DIR", f"{ROOT}/rust/target") + "/release/examples/dump_events"
@@ -128,6 +129,29 @@ def check_pieces(made, count, cases):
             fail(f"{case.name}, in C in pieces of {count}: {answer.decode()!r}")
 
 
+def check_prompt(made, cases):
+    """Each case through C in one process, line by line: each event is there when it is due."""
+    texts = b"".join(map(framed, cases))
+    answers = subprocess.run([made["pieces"], "lines"], input=texts, capture_output=True).stdout.split(b"\xff")[:-1]
+    if len(answers) != len(cases):
+        fail(f"C line by line stopped behind {len(answers)} of {len(cases)} cases")
+    for case, answer in zip(cases, answers):
+        lines = answer.decode().split("\n")
+        if "\n".join(line for line in lines if not line.startswith("~")).encode() != listed(case):
+            fail(f"{case.name}, in C line by line: {answer.decode()!r}")
+        found = late(case, lines)
+        if found:
+            fail(f"{case.name}, in C line by line: event {found[0]} is not there behind {found[1]} bytes")
+
+
+def check_trees(made, cases):
+    """Each case's trees through C in one process, beside its events, also where requests are refused; and misuse."""
+    ran = subprocess.run([made["trees"]], input=b"".join(map(framed, cases)), capture_output=True)
+    *wrong, count = ran.stdout.decode().splitlines() or [""]
+    if wrong or ran.returncode or not count.endswith(" refused"):
+        fail(f"trees, status {ran.returncode}: {wrong[:9] or count}")
+
+
 def check_lines(case):
     """What the program `dump_events` prints of a case are its lines."""
     ran = subprocess.run([program("dump_events")], input=case.text.encode(), capture_output=True, close_fds=False)
@@ -175,7 +199,7 @@ def refuse_in_process(made, count, cases):
 def look_for_leaks(made, cases):
     """Runs the programs under valgrind."""
     texts = [case for case in cases if case.name in ("worked 001", "worked 004", "worked 043")]
-    runs = [("misuse", b""), *((name, b"".join(map(framed, cases))) for name in ("cases", "pieces"))]
+    runs = [("misuse", b""), *((name, b"".join(map(framed, cases))) for name in ("cases", "pieces", "trees"))]
     runs += [(name, case.text.encode()) for name in ("dump_events", "rust") for case in texts]
     for name, text in runs:
         ran = subprocess.run([*VALGRIND, made[name]], input=text, capture_output=True)
@@ -184,6 +208,9 @@ def look_for_leaks(made, cases):
 
 
 def main():
+    if sys.argv[1:]:
+        print(__doc__)
+        return 0 if sys.argv[1:] == ["--help"] else 2
     compiler = shutil.which("cc") or shutil.which("clang")
     lacking = [name for name, found in (("compiler of C", compiler), ("cargo", shutil.which("cargo"))) if not found]
     if lacking:
@@ -196,7 +223,9 @@ def main():
     with tempfile.TemporaryDirectory() as folder, concurrent.futures.ThreadPoolExecutor(os.cpu_count()) as pool:
         made = built(folder, compiler)
         check_lists(made, cases)
+        check_trees(made, cases)
         list(pool.map(lambda count: check_pieces(made, count, cases), PIECES))
+        check_prompt(made, cases)
         list(pool.map(check_lines, (case for case in cases if not case.name.startswith("cut "))))
         cargo("test")
         said = subprocess.run([made["misuse"]], capture_output=True).stdout.decode()

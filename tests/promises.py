@@ -56,6 +56,7 @@ COMPUTED = {
     (("saphyr_machine", "Answer"), "remaining_answer"),
     (("saphyr_machine", "Cursor"), "to_come"),
     (("saphyr_machine", "Cursor"), "EventCursor"),
+    (("saphyr_pieces", "Pieces"), "Pieces"),
     (("saphyr_pieces", "Pieces"), "at"),
     (("saphyr_pieces", "Pieces"), "wants_more"),
 }

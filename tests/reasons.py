@@ -105,8 +105,8 @@ def escaped_tag(it):
     def mend(theirs):
         for mark, run in letters.items():
             try:
-                told = bytes.fromhex(run.replace("%", "")).decode()
-                theirs = [re.sub(r"<[^ >]*>", lambda tag: tag[0].replace(mark, told), line) for line in theirs]
+                decoded = bytes.fromhex(run.replace("%", "")).decode()
+                theirs = [re.sub(r"<[^ >]*>", lambda tag: tag[0].replace(mark, decoded), line) for line in theirs]
             except UnicodeDecodeError:
                 theirs = with_fault_of(run, it, theirs)
             theirs = [line.replace(mark, run) for line in theirs]

@@ -224,7 +224,7 @@ class Grammar:
                         yield end, (said, *others)
 
     # ## FlowScalars.antt, Spelling/Plain.antt, Spelling/Quoted.antt and Spelling/QuotedLines.antt
-    def is_ink(self, in_flow, i):
+    def is_plain_safe(self, in_flow, i):
         c = self.at(i)
         return c not in "\0\n \t" + MARK and not (in_flow and c in FLOW)
 
@@ -233,7 +233,7 @@ class Grammar:
         """A word whose last character may be a colon."""
         if self.at(i) != "#":
             j = i
-            while self.is_ink(in_flow, j):
+            while self.is_plain_safe(in_flow, j):
                 j += 1
                 yield j
 
@@ -328,7 +328,7 @@ class Grammar:
     # ## FlowNodes.antt
     @each
     def name(self, i):
-        while self.is_ink(True, i):
+        while self.is_plain_safe(True, i):
             i += 1
             yield i
 
@@ -697,14 +697,14 @@ class Grammar:
 
 def parts(node):
     """A node as the parts of its events."""
-    kind, *told = node
+    kind, *finds = node
     if kind == "Alias":
-        return [("=ALI", NO_PROPERTIES, told[0])]
+        return [("=ALI", NO_PROPERTIES, finds[0])]
     if kind == "Scalar":
-        return [("=VAL", told[0], told[1] + told[2])]
-    inside = told[1] if kind == "Seq" else [it for pair in told[1] for it in pair]
+        return [("=VAL", finds[0], finds[1] + finds[2])]
+    inside = finds[1] if kind == "Seq" else [it for pair in finds[1] for it in pair]
     name = kind.upper()
-    return [("+" + name, told[0], ""), *(it for n in inside for it in parts(n)), ("-" + name, NO_PROPERTIES, "")]
+    return [("+" + name, finds[0], ""), *(it for n in inside for it in parts(n)), ("-" + name, NO_PROPERTIES, "")]
 
 
 def printed(forest):
@@ -731,7 +731,7 @@ def texts(tokens, most):
                 is_short or seen.add(text)
 
 
-def judge(text, program, counts, told):
+def judge(text, program, counts, finds):
     """Counts a text, and tells of it where it is a find. Without the exceptions it has no fewer forests."""
     counts["texts"] += 1
     wide = Grammar(text, frozenset()).forests()
@@ -742,14 +742,14 @@ def judge(text, program, counts, told):
     if forests:
         counts["of the grammar"] += 1
         if len(forests) > 1:
-            told[AMBIGUOUS].append(f"{text!r}: {forests}")
+            finds[AMBIGUOUS].append(f"{text!r}: {forests}")
         wrong = [it for it in map(printed, forests) if it != lines]
-        told[OTHERWISE] += [f"{text!r}\n  wanted {it!r}\n  read   {lines!r}" for it in wrong]
+        finds[OTHERWISE] += [f"{text!r}\n  wanted {it!r}\n  read   {lines!r}" for it in wrong]
     else:
         counts["of the grammar without the exceptions"] += 1
         if lines is not None:
             how = "as" if lines in map(printed, wide) else "not as"
-            told[LEFT_OUT_AND_READ].append(f"{text!r}: {lines!r}, {how} its forest says")
+            finds[LEFT_OUT_AND_READ].append(f"{text!r}: {lines!r}, {how} its forest says")
 
 
 def find_again(count):
@@ -762,14 +762,14 @@ def find_again(count):
 
 def judge_all(alphabets, program):
     """Tells what is found among the texts of up to so many tokens of each alphabet, and whether one is a fault."""
-    counts, told = collections.Counter(), {name: [] for name in (AMBIGUOUS, OTHERWISE, LEFT_OUT_AND_READ)}
+    counts, finds = collections.Counter(), {name: [] for name in (AMBIGUOUS, OTHERWISE, LEFT_OUT_AND_READ)}
     for most, tokens in alphabets:
         for text in texts(tokens, most):
-            judge(text, program, counts, told)
-    for name, found in told.items():
+            judge(text, program, counts, finds)
+    for name, found in finds.items():
         print(*sorted(found, key=len)[:20], f"{len(found):,} {name}", sep="\n")
     print(", ".join(f"{number:,} {name}" for name, number in counts.items()))
-    return bool(told[AMBIGUOUS] or told[OTHERWISE])
+    return bool(finds[AMBIGUOUS] or finds[OTHERWISE])
 
 
 def main():

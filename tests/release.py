@@ -3,11 +3,13 @@
 
     tests/release.py
 
-The programs of tests/release print the events of a small text: in C99 and C++17 with the archive, in C through
-`pkg-config` and through CMake with the shared library, in Python through ctypes; and the crate's example in a cargo
-project with a `[patch]`. Their lines are to be those of `dump_events`. The shared library exports the eleven calls
-alone. The version is the same wherever it stands, and so is the address of the repository, if one is given. Where
-there is no compiler of C, the script says so, and tests nothing; what else is missing it says, and tests the rest.
+The examples of release/examples print the events of a small text: in C99 and C++17 with the archive, in C through
+`pkg-config` and through CMake with the shared library, and in Python; and the crate's example in a cargo project with a
+`[patch]`. Their lines are to be those of `dump_events`. The programs of the release's README, and the one of its page
+on the faces, print what they say. The Python module is run over all cases (tests/release/python_module.py), and the
+pages are read (release_pages.py). The shared library exports the header's calls alone. The version is the same wherever
+it stands, and so is the address of the repository, if one is given. Where there is no compiler of C, the script says
+so, and tests nothing; what else is missing it says, and tests the rest.
 """
 import json
 import os
@@ -18,13 +20,41 @@ import sys
 import tarfile
 import tempfile
 
-from faces import CRATE, call, libraries
+from faces import CRATE, libraries
 from refused_memory import ROOT, program
+from release_pages import block, files_below, read, wrong_links, wrong_manuals, wrong_words
 
-PROGRAMS = f"{ROOT}/tests/release"
 TEXT = b"name: &it !!str 'parser'\nports: [80, \"443\", *it]\n"
-CALLS = ["add", "clone", "free", "keep_tags", "new", "new_pieces", "next", "peek", "valid_up_to", "version"]
+SCALARS = b"1:1 name\n1:7 parser\n2:1 ports\n2:9 80\n2:13 443\n"
+FIRST = b"1:1 ports\n1:9 80\n1:13 443\n"  # what the programs of the README print
+CALLS = ["add", "anchored", "clone", "count", "describe", "expanded", "free", "get", "item", "keep_tags", "key", "load",
+         "new", "new_pieces", "new_utf8", "next", "peek", "root", "valid_up_to", "value", "version"]
+PATHS = b".name = parser (1:7)\n.ports[0] = 80 (2:9)\n.ports[1] = 443 (2:13)\n"  # what the example `config` prints
 STRICT = ["-Wall", "-Wextra", "-pedantic", "-Werror"]
+# Each call that takes NULL, at -O0 too, and `{}` in C++.
+NULLS = """#include <saphyr_parser.h>
+#ifdef __cplusplus
+#define NOTHING {}
+#else
+#define NOTHING {0}
+#endif
+int main(void) {
+    saphyr_parser parser = NOTHING;
+    saphyr_event event = NOTHING;
+    int32_t (*make)(const uint8_t *, size_t, bool, saphyr_parser *) = saphyr_new;
+    int32_t status = saphyr_new(NULL, 0, false, &parser);
+    int kinds = 0;
+    while (status >= 0 && (status = saphyr_next(&parser, &event)) == SAPHYR_EVENT) {
+        kinds = 10 * kinds + event.kind;
+    }
+    saphyr_free(NULL);
+    status |= saphyr_new_utf8(NULL, 0, false, &parser) | saphyr_new_pieces(false, 0, 0, &parser);
+    status |= saphyr_add(&parser, (const uint8_t *)"a", 1) | saphyr_add(&parser, NULL, 0);
+    status |= make((const uint8_t *)"a", 1, false, &parser);
+    saphyr_free(&parser);
+    return status || kinds != 12 || saphyr_valid_up_to(NULL, 0) || !*saphyr_status_text(SAPHYR_MORE);
+}
+"""
 PATCHED = """[package]
 name = "events"
 edition = "2021"
@@ -46,16 +76,19 @@ ADDRESS = "https://example.com/saphyr-parser"
 # Where the address of the repository stands: a file of the release, and what is around it there.
 ADDRESSES = {
     "lib/pkgconfig/saphyr_parser.pc": r"^URL: (.*)",
+    "share/man/man1/check_yaml.1": r"^and (http.*)",
     "share/man/man1/dump_events.1": r"^and (http.*)",
     "share/man/man3/saphyr_parser.3": r"^and (http.*)",
     "share/saphyr_parser/rust/Cargo.toml": r'^repository = "(.*)"',
 }
 # Where the version stands: a file of the release, and what is around it there.
 VERSIONS = {
+    "README.md": r"^# saphyr_parser (.*)",
     "include/saphyr_parser.h": r'^#define SAPHYR_PARSER_VERSION "(.*)"',
     "lib/pkgconfig/saphyr_parser.pc": r"^Version: (.*)",
     "lib/cmake/saphyr_parser/saphyr_parser-config-version.cmake": r'^set\(PACKAGE_VERSION "(.*)"\)',
     "share/saphyr_parser/CHANGELOG.md": r"^## (.*)",
+    "share/man/man1/check_yaml.1": r'^\.TH .*"saphyr_parser (.*)"',
     "share/man/man1/dump_events.1": r'^\.TH .*"saphyr_parser (.*)"',
     "share/man/man3/saphyr_parser.3": r'^\.TH .*"saphyr_parser (.*)"',
     "share/saphyr_parser/rust/Cargo.toml": r'^version = "(.*)"',
@@ -67,11 +100,6 @@ def fail(said):
     """Says what is wrong."""
     FAILED.append(said)
     print(said)
-
-
-def read(path):
-    with open(path, encoding="utf-8") as it:
-        return it.read()
 
 
 def write(path, text):
@@ -90,88 +118,162 @@ class Release:
     """A release, unpacked in a folder of its own, and what programs that use it are to print."""
 
     def __init__(self, folder):
-        call(["env", f"REPOSITORY={ADDRESS}", f"{ROOT}/release.sh", f"{folder}/made"], ROOT)
+        self.env = {**os.environ, "REPOSITORY": ADDRESS}
+        self.folder, dump, _ = folder, program("dump_events"), program("check_yaml")
+        self.call([f"{ROOT}/release.sh", "--out", f"{folder}/made"])
         (name,) = (it for it in os.listdir(f"{folder}/made") if not it.endswith(".gz"))
         with tarfile.open(f"{folder}/made/{name}.tar.gz") as it:
             it.extractall(folder)
         shutil.rmtree(f"{folder}/made")
-        self.folder, self.at, self.rust = folder, f"{folder}/{name}", f"{folder}/{name}/share/saphyr_parser/rust"
-        self.wanted = self.printed([program("dump_events")])
-        self.built = []
+        self.at, self.share = f"{folder}/{name}", f"{folder}/{name}/share/saphyr_parser"
+        self.rust, self.examples = f"{self.share}/rust", f"{self.share}/examples"
+        self.readme, self.faces = f"{self.at}/README.md", f"{self.share}/docs/FACES.md"
+        self.env, self.built = environment(folder), []
+        self.wanted = self.run([dump])
 
-    def printed(self, words, **variables):
-        ran = subprocess.run(words, input=TEXT, capture_output=True, env={**os.environ, **variables})
+    def run(self, words, text=TEXT, **variables):
+        """What a program prints, or all about it if it fails."""
+        ran = subprocess.run(words, input=text, capture_output=True, env={**self.env, **variables})
         return ran.stdout if ran.returncode == 0 else ran
 
-    def check(self, name, words):
+    def call(self, words, folder=None):
+        """Runs a command, which has to pass, and returns what it prints."""
+        ran = subprocess.run(words, cwd=folder or self.folder, env=self.env, capture_output=True, text=True)
+        if ran.returncode:
+            sys.exit(f"{' '.join(words)} fails:\n{ran.stdout}{ran.stderr}")
+        return ran.stdout
+
+    def check(self, name, words, wanted=None):
         """Runs a program that was built. A shared library is found in the release alone."""
         self.built.append(name)
-        printed = self.printed(words, LD_LIBRARY_PATH=f"{self.at}/lib")
-        if printed != self.wanted:
-            fail(f"{name} prints {printed!r}, and dump_events {self.wanted!r}")
+        printed = self.run(words, LD_LIBRARY_PATH=f"{self.at}/lib")
+        if wanted is None and isinstance(printed, bytes):
+            printed = re.sub(rb"^\d+:\d+-\d+:\d+ ", b"", printed, flags=re.M)
+        wanted = self.wanted if wanted is None else wanted
+        if printed != wanted:
+            fail(f"{name} prints {printed!r}, and not {wanted!r}")
 
 
-def leave_the_kit():
-    """What is built from here on finds no command `rt`, no library that is named, and nothing that cargo has."""
-    os.environ.pop("SAPHYR_PARSER_LIB", None)
+def environment(folder):
+    """What is built finds no command `rt`, no library that is named, nothing that cargo has, and no other variable."""
     paths = os.environ["PATH"].split(os.pathsep)
-    os.environ["PATH"] = os.pathsep.join(it for it in paths if not os.path.exists(f"{it}/rt"))
+    path = os.pathsep.join(it for it in paths if not os.path.exists(f"{it}/rt"))
+    kept = {name: os.environ[name] for name in ("RUSTUP_HOME", "RUSTUP_TOOLCHAIN") if name in os.environ}
+    if os.path.isdir(rustup := os.path.expanduser("~/.rustup")):
+        kept.setdefault("RUSTUP_HOME", rustup)
+    return {"PATH": path, "HOME": folder, "CARGO_HOME": f"{folder}/cargo", "LC_ALL": "C.UTF-8", **kept}
 
 
 def check_c(release, tools):
     """The archive alone, in C and in C++."""
+    write(f"{release.folder}/nulls.c", NULLS)
+    write(f"{release.folder}/first.c", block(release.readme, "c"))
+    programs = {"events": None, "pipe": SCALARS, "config": PATHS, "nulls": b"", "first": FIRST}
     for compiler, standard in ((tools["cc"], "c99"), (tools["c++"], "c++17")):
-        if compiler:
+        for name, wanted in programs.items() if compiler else ():
+            if name == "first" and standard != "c99":
+                continue
+            source = release.folder if name in ("nulls", "first") else release.examples
+            made = f"{release.folder}/{name}_{standard}"
             words = ["-x", standard.rstrip("0123456789"), f"-std={standard}", *STRICT, f"-I{release.at}/include"]
-            words += [f"{PROGRAMS}/events.c", "-x", "none", f"{release.at}/lib/libsaphyr_parser.a"]
-            call([compiler, *words, "-o", f"{release.folder}/{standard}"], release.folder)
-            release.check(standard, [f"{release.folder}/{standard}"])
+            words += [f"{source}/{name}.c", "-x", "none", f"{release.at}/lib/libsaphyr_parser.a", "-o", made]
+            release.call([compiler, *words])
+            release.check(f"{name} in {standard}", [made], wanted)
 
 
 def check_pkg_config(release, tools):
-    """The shared library, with the words that pkg-config says."""
-    os.environ["PKG_CONFIG_PATH"] = f"{release.at}/lib/pkgconfig"
+    """The shared library, with the words that pkg-config says, and the archive by `-static`."""
+    release.env["PKG_CONFIG_PATH"] = f"{release.at}/lib/pkgconfig"
     # An older one does as with `--shared`, and doesn't know the word.
-    knows = "--shared" in subprocess.run([tools["pkg-config"], "--help"], capture_output=True, text=True).stdout
+    knows = "--shared" in release.call([tools["pkg-config"], "--help"])
     words = [tools["pkg-config"], *["--shared"] * knows, "--cflags", "--libs", "saphyr_parser >= 0.3.3"]
-    said = subprocess.run(words, capture_output=True, text=True, check=True).stdout.split()
-    made = f"{release.folder}/shared"
-    call([tools["cc"], "-std=c99", *STRICT, f"{PROGRAMS}/events.c", *said, "-o", made], release.folder)
-    release.check("pkg-config", [made])
+    said = release.call(words).split()
+    write(f"{release.folder}/empty.c", "int main(void) { return 0; }\n")
+    # Not each system has the C library as an archive.
+    static = subprocess.run([tools["cc"], "-static", "empty.c"], cwd=release.folder, capture_output=True).returncode == 0
+    for name, words in (("pkg-config", []), *[("pkg-config with -static", ["-static"])] * static):
+        made = f"{release.folder}/{name.replace(' ', '_')}"
+        words = [tools["cc"], "-std=c99", *STRICT, *words, f"{release.examples}/events.c", *said, "-o", made]
+        release.call(words)
+        release.check(name, [made])
 
 
 def check_cmake(release, tools):
     """Both targets that the file for CMake has."""
     project = f"{release.folder}/cmake"
     write(f"{project}/CMakeLists.txt", LISTS)
-    shutil.copy(f"{PROGRAMS}/events.c", project)
-    call([tools["cmake"], "-S", project, "-B", f"{project}/out", f"-DCMAKE_PREFIX_PATH={release.at}"], project)
-    call([tools["cmake"], "--build", f"{project}/out"], project)
+    shutil.copy(f"{release.examples}/events.c", project)
+    release.call([tools["cmake"], "-S", project, "-B", f"{project}/out", f"-DCMAKE_PREFIX_PATH={release.at}"])
+    release.call([tools["cmake"], "--build", f"{project}/out"])
     for kind in ("saphyr_parser", "static"):
         release.check(f"CMake's {kind}", [f"{project}/out/{kind}"])
 
 
 def check_cargo(release, tools):
-    """A project whose `saphyr-parser` is the release's crate; one whose crate stands elsewhere and finds the library
-    by a relative path; and no library, where a check passes, and a build says what is missing."""
+    """The README's program; a project with a `[patch]`; one whose crate stands elsewhere and finds the library by a
+    relative path; and no library, where a check passes, and a build says what is missing."""
     alone = shutil.copytree(release.rust, f"{release.folder}/alone/crate/rust")
-    os.environ["CARGO_HOME"] = f"{release.folder}/cargo"
     check_manifest(release, tools)
+    build = [tools["cargo"], "build", "--offline", "--target-dir", "out"]
+    project = f"{release.folder}/first_project"
+    named = block(release.readme, "toml").replace("RELEASE", release.at)
+    write(f"{project}/Cargo.toml", f'[package]\nname = "first"\nedition = "2021"\n{named}[workspace]\n')
+    write(f"{project}/src/main.rs", block(release.readme, "rust"))
+    release.call(build, project)
+    release.check("the README's in Rust", [f"{project}/out/debug/first"], FIRST)
     for name, crate in (("cargo", release.rust), ("a relative path", alone)):
         project = f"{release.folder}/{name.replace(' ', '_')}_project"
         write(f"{project}/Cargo.toml", PATCHED.format(crate))
         os.makedirs(f"{project}/src")
         shutil.copy(f"{crate}/examples/dump_events.rs", f"{project}/src/main.rs")
-        words = [tools["cargo"], "build", "--offline", "--target-dir", "out"]
+        os.makedirs(f"{project}/src/bin")
+        shutil.copy(f"{crate}/examples/config.rs", f"{project}/src/bin/config.rs")
         if crate == alone:
-            call([tools["cargo"], "check", *words[2:]], project)
-            ran = subprocess.run(words, cwd=project, capture_output=True, text=True)
+            release.call([tools["cargo"], "check", *build[2:]], project)
+            ran = subprocess.run(build, cwd=project, env=release.env, capture_output=True, text=True)
             if ran.returncode == 0 or "set SAPHYR_PARSER_LIB to the folder `lib` of a release" not in ran.stderr:
                 fail(f"cargo without the library: {ran.stderr}")
-            os.environ["SAPHYR_PARSER_LIB"] = os.path.relpath(f"{release.at}/lib", project)
-        call(words, project)
+            release.env["SAPHYR_PARSER_LIB"] = os.path.relpath(f"{release.at}/lib", project)
+        release.call(build, project)
         release.check(name, [f"{project}/out/debug/events"])
-    del os.environ["SAPHYR_PARSER_LIB"]
+        release.check(f"the trees of {name}", [f"{project}/out/debug/config"], PATHS)
+    del release.env["SAPHYR_PARSER_LIB"]
+
+
+def check_python(release):
+    """The module, in the release and away from it: its examples, those of the pages, and all cases."""
+    away = f"{release.folder}/away"
+    os.makedirs(away)
+    shutil.copy(f"{release.share}/python/saphyr_parser.py", away)
+    ways = ({"PYTHONPATH": f"{release.share}/python"}, {"PYTHONPATH": away, "SAPHYR_PARSER_LIB": f"{release.at}/lib"})
+    for number, variables in enumerate(ways):
+        release.env.update(variables, PYTHONDONTWRITEBYTECODE="1")
+        release.check(f"Python, {number + 1}", [sys.executable, f"{release.examples}/events.py"])
+    for page, printed in ((release.readme, b"1:9 80\n1:13 443\n"), (release.faces, None)):
+        written = release.run([sys.executable, "-c", block(page, "python")])
+        wanted = printed or b"1:1 STREAM_START None\n"
+        if not isinstance(written, bytes) or not written.startswith(wanted):
+            fail(f"the program in Python of {page} prints {written!r}")
+    if not isinstance(written, bytes) or not written.endswith(b"1:13: x is no number\n"):
+        fail(f"the program in Python of {page} ends with {written!r}")
+    write(f"{release.folder}/config.yaml", "name: x\nports: [80, y]\n")
+    ran = subprocess.run([sys.executable, f"{release.examples}/config.py", "config.yaml"], cwd=release.folder,
+                         env=release.env, capture_output=True, text=True)
+    if (ran.returncode, ran.stderr) != (1, "config.yaml:2:13: y is no port\n"):
+        fail(f"config.py says {ran.stderr}")
+    ran = subprocess.run([sys.executable, f"{ROOT}/tests/release/python_module.py"], env=release.env,
+                         capture_output=True, text=True)
+    if ran.returncode:
+        fail(f"the Python module: {ran.stdout}{ran.stderr}")
+    for name in ways[1]:
+        del release.env[name]
+
+
+def check_checker(release):
+    """The checker runs alone."""
+    printed = release.run([f"{release.at}/bin/check_yaml", "--version"])
+    if printed != f"check_yaml {read(f'{ROOT}/VERSION')}".encode():
+        fail(f"check_yaml --version prints {printed!r}")
 
 
 def check_names(release):
@@ -200,19 +302,6 @@ def check_versions(release):
             fail(f"rust/{name} is another text than {name}")
 
 
-def files_below(folder):
-    return sorted(os.path.relpath(f"{at}/{it}", folder) for at, _, files in os.walk(folder) for it in files)
-
-
-def check_links(release):
-    """A link of a page leads to a file of the release."""
-    for page in files_below(release.at):
-        if page.endswith(".md"):
-            for target in re.findall(r"\]\(([^)#]+)[^)]*\)", read(f"{release.at}/{page}")):
-                if not target.startswith("http") and not os.path.exists(f"{release.at}/{os.path.dirname(page)}/{target}"):
-                    fail(f"{page} has a link to {target}, which the release hasn't")
-
-
 def check_addresses(folder, wanted):
     """The address of the repository, or that there is none."""
     for file, pattern in ADDRESSES.items():
@@ -224,8 +313,7 @@ def check_addresses(folder, wanted):
 def check_manifest(release, tools):
     """What cargo reads in the crate's manifest."""
     words = [tools["cargo"], "metadata", "--offline", "--no-deps", "--format-version", "1"]
-    ran = subprocess.run(words, cwd=release.rust, capture_output=True, text=True)
-    (package,) = json.loads(ran.stdout)["packages"]
+    (package,) = json.loads(release.call(words, release.rust))["packages"]
     if package["repository"] != ADDRESS:
         fail(f"cargo metadata names the repository {package['repository']}")
 
@@ -240,18 +328,37 @@ def check_install(release):
     """A prefix has the same files. Without an address they name no repository, and a wrong one is refused."""
     prefix = f"{release.folder}/prefix"
     ran = install(prefix)
-    if ran.returncode or files_below(prefix) != files_below(release.at):
+    # The page README stands with the other pages.
+    there = sorted(["share/saphyr_parser/README.md", *(it for it in files_below(release.at) if it != "README.md")])
+    if ran.returncode or files_below(prefix) != there:
         fail(f"release.sh install: {ran.stderr}")
+    for wrong in wrong_links(prefix):
+        fail(f"{wrong}, installed")
     if "names no repository" not in ran.stderr:
         fail(f"release.sh without an address says: {ran.stderr}")
     check_addresses(prefix, None)
+    if "The source" in read(f"{prefix}/share/saphyr_parser/README.md"):
+        fail("README.md has an address where none is given")
     for address in ("example.com/saphyr-parser", "ftp://example.com/it", "https://", 'https://example.com/"'):
         ran = install(f"{release.folder}/refused", REPOSITORY=address)
         if not ran.returncode or "REPOSITORY is not an address" not in ran.stderr:
             fail(f"release.sh takes the address {address}: {ran.stderr}")
 
 
+def check_words():
+    """What release.sh answers to `--help` and to wrong words, for which it makes nothing."""
+    for words, status, said in ((["--help"], 0, "usage: .ci/run && ./release.sh"), (["instal"], 2, "can't take"),
+                                (["install", "it"], 2, "can't take"), (["--out"], 2, "can't take"),
+                                (["it", "--out"], 2, "can't take")):
+        ran = subprocess.run([f"{ROOT}/release.sh", *words], cwd="/", capture_output=True, text=True)
+        if ran.returncode != status or said not in ran.stdout + ran.stderr:
+            fail(f"release.sh {' '.join(words)} has the status {ran.returncode}, and says {ran.stderr}")
+
+
 def main():
+    if sys.argv[1:]:
+        print(__doc__)
+        return 0 if sys.argv[1:] == ["--help"] else 2
     compiler = shutil.which("cc") or shutil.which("clang")
     if not compiler:
         print("release: not tested, since there is no compiler of C")
@@ -259,17 +366,22 @@ def main():
     os.environ.setdefault("CC", compiler)
     libraries()
     with tempfile.TemporaryDirectory() as folder:
+        check_words()
         release = Release(folder)
         check_versions(release)
         check_addresses(release.at, ADDRESS)
+        if (said := found("^The source and the proofs: (.*)", release.readme)) != ADDRESS:
+            fail(f"README.md has the address {said}")
         check_names(release)
-        check_links(release)
         check_install(release)
-        leave_the_kit()
-        tools = {name: shutil.which(name) for name in ("pkg-config", "cmake", "cargo")}
+        manuals = [f"saphyr_{it}" for it in CALLS + ["status_text", "parser"]]
+        for wrong in (*wrong_links(release.at), *wrong_words(release.at), *wrong_manuals(release.at, manuals)):
+            fail(wrong)
+        tools = {name: shutil.which(name, path=release.env["PATH"]) for name in ("pkg-config", "cmake", "cargo")}
         tools |= {"cc": compiler, "c++": shutil.which("c++") or shutil.which("clang++")}
         check_c(release, tools)
-        release.check("Python", [sys.executable, f"{PROGRAMS}/events.py", f"{release.at}/lib/libsaphyr_parser.so"])
+        check_checker(release)
+        check_python(release)
         for name, check in (("pkg-config", check_pkg_config), ("cmake", check_cmake), ("cargo", check_cargo)):
             if tools[name]:
                 check(release, tools)

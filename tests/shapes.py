@@ -98,146 +98,146 @@ def is_refused(put, at):
     return put == NUL or (put == MARK and at > 0) or (put == "]" and at == 0)
 
 
-def brackets(told, put, at):
+def brackets(listed, put, at):
     """`[` 255 times, and `]` as often. The outermost sequence may be a key, since its last bracket is less than 1,024
     characters after its first. So all brackets are read before the first event, and a text gives none if one of them or
     what is put in is refused. If a `]` is put in, the last one is."""
     if is_refused(put, at):
-        told.fault(REFUSED[put], at)
+        listed.fault(REFUSED[put], at)
     elif put == "]":
-        told.fault(REFUSED[put], 2 * MOST_OPEN)
+        listed.fault(REFUSED[put], 2 * MOST_OPEN)
     else:
-        told.bracket("+DOC", told.text.index("["))
-        for index, c in enumerate(told.text):
+        listed.bracket("+DOC", listed.text.index("["))
+        for index, c in enumerate(listed.text):
             if c in "[]":
-                told.bracket("+SEQ" if c == "[" else "-SEQ", index)
+                listed.bracket("+SEQ" if c == "[" else "-SEQ", index)
         if put or at == 2 * MOST_OPEN:
-            told.close()
+            listed.close()
         else:
-            told.fault(NO_NODE if at <= MOST_OPEN else NO_COMMA, END)
+            listed.fault(NO_NODE if at <= MOST_OPEN else NO_COMMA, END)
 
 
-def key(told, put, at, count):
+def key(listed, put, at, count):
     """`a` so many times, and `: b`. It is a key if the colon is at most 1,024 characters after its start, on the same
     line, and has a blank, a NUL or the text's end after it. Each character that is put into the key takes its colon too
     far. While a scalar may still be a key, the token after it is read before the first event. Outside brackets a `]` is
     a part of a scalar, if it doesn't begin one."""
     start, colon = int(put != "" and at == 0), count + (put != "" and at <= count)
     if put == "" and at <= count:
-        told.root(0, at)
-        told.close()
+        listed.root(0, at)
+        listed.close()
     elif is_refused(put, at) and at <= count + (put == MARK):
         if at > MOST_KEY:
-            told.root(0, at)
-        told.fault(REFUSED[put], at)
+            listed.root(0, at)
+        listed.fault(REFUSED[put], at)
     elif put == "]" and at == count + 1:
-        told.root(0, len(told.text))
-        told.close()
+        listed.root(0, len(listed.text))
+        listed.close()
     elif put == "\n" and at == count:  # The colon begins a line, and a mapping.
-        told.root(0, at)
-        told.refuse_node(colon, colon)
+        listed.root(0, at)
+        listed.refuse_node(colon, colon)
     elif colon - start > MOST_KEY:
-        told.root(start, colon)
-        told.fault(NO_KEY, colon)
+        listed.root(start, colon)
+        listed.fault(NO_KEY, colon)
     else:
-        pair(told, put, at, start, colon)
+        pair(listed, put, at, start, colon)
 
 
-def pair(told, put, at, start, colon):
+def pair(listed, put, at, start, colon):
     """A mapping of a key and the value `b`. What is put in behind the key is read after the event of the key, and what
     is put in behind the value after that of the value. Without its colon `b` is no key, where it begins a line."""
-    told.event("+DOC", start)
-    told.event("+MAP", start)
-    told.scalar(start, colon)
-    value = told.text.find("b")
+    listed.event("+DOC", start)
+    listed.event("+MAP", start)
+    listed.scalar(start, colon)
+    value = listed.text.find("b")
     if is_refused(put, at) or (put == "]" and at == colon + 2):
         if at > colon + 2:
-            told.scalar(value, at)
-        told.fault(REFUSED[put], at)
+            listed.scalar(value, at)
+        listed.fault(REFUSED[put], at)
     elif put == "\n" and at == colon + 2:
-        told.fault(NO_COLON, END)
+        listed.fault(NO_COLON, END)
     else:
         if value < 0:
-            told.event("=VAL :", colon)
+            listed.event("=VAL :", colon)
         else:
-            told.scalar(value, len(told.text))
-        told.event("-MAP", END)
-        told.close()
+            listed.scalar(value, len(listed.text))
+        listed.event("-MAP", END)
+        listed.close()
 
 
-def mappings(told, put, at):
+def mappings(listed, put, at):
     """`{a: ` 256 times. The last brace is refused. The outermost mapping may be a key up to its end, so no event is
     given before. But a `]` that is put in ends a mapping for the scanner, so no more than 255 are open. Then the events
     are given up to the `]`, as they are up to a cut."""
     last = 4 * MOST_OPEN
     if at > last:
-        told.fault(TOO_DEEP, last)
+        listed.fault(TOO_DEEP, last)
     elif is_refused(put, at):
-        told.fault(REFUSED[put], at)
+        listed.fault(REFUSED[put], at)
     elif put in ("", "]"):
-        open_mappings(told, put, at)
+        open_mappings(listed, put, at)
     else:
-        told.fault(TOO_DEEP, last + 1)
+        listed.fault(TOO_DEEP, last + 1)
 
 
-def open_mappings(told, put, at):
+def open_mappings(listed, put, at):
     """The mappings up to a place, with a token there that doesn't go on with them, or the text's end. In `{]a: ` and
     `{a]: ` what is before the colon is a key outside brackets. Behind a key the value may be left out, and has the span
     of that token."""
     is_key, token = put == "]" and at <= 2, (at, at + 1) if put else (END, END)
-    told.event("+DOC", 0, int(not is_key))
+    listed.event("+DOC", 0, int(not is_key))
     if is_key:
-        told.event("+MAP", 0)
+        listed.event("+MAP", 0)
     for index in range(0, at, 4):
-        told.event("+MAP", index, index + 1)
+        listed.event("+MAP", index, index + 1)
         if at > index + 1:
-            told.event("=VAL :a", index + 1, index + 2)
+            listed.event("=VAL :a", index + 1, index + 2)
     if at % 4 == 2:
-        told.event("=VAL :", *token)
-    told.fault(NO_COMMA_IN_MAPPING if at % 4 == 2 else NO_NODE, token[0])
+        listed.event("=VAL :", *token)
+    listed.fault(NO_COMMA_IN_MAPPING if at % 4 == 2 else NO_NODE, token[0])
 
 
-def sequence(told, put, at):
+def sequence(listed, put, at):
     """`[`, `a` 1,100 times, and `]: b`. Inside brackets a key may have any length, so all up to the `]` is read before
     the first event. Blanks behind a `]` are read together with it, and a mark that is there is refused by that."""
-    text = told.text
+    text = listed.text
     start, end = text.find("["), text.find("]")
     stop = end if end >= 0 else len(text)
     if is_refused(put, at) and at <= stop + (put == MARK):
-        told.fault(REFUSED[put], at)
+        listed.fault(REFUSED[put], at)
         return
-    told.bracket("+DOC", start)
-    told.bracket("+SEQ", start)
+    listed.bracket("+DOC", start)
+    listed.bracket("+SEQ", start)
     first = text.find("a", 0, stop)
     if first > 0:
-        told.scalar(first, stop)
+        listed.scalar(first, stop)
     if end >= 0:
-        told.bracket("-SEQ", end)
-        behind_sequence(told, end + 1)
+        listed.bracket("-SEQ", end)
+        behind_sequence(listed, end + 1)
     else:
-        told.fault(NO_COMMA if first > 0 else NO_NODE, END)
+        listed.fault(NO_COMMA if first > 0 else NO_NODE, END)
 
 
-def behind_sequence(told, at):
+def behind_sequence(listed, at):
     """What begins here, behind a sequence. It is too long for a key, or no colon comes next. So this is the text's end,
     what is refused, a colon without its key, or a node: a mapping by a colon that begins a line, or a scalar."""
-    rest = told.text[at:]
+    rest = listed.text[at:]
     if not rest:
-        told.close()
+        listed.close()
     elif rest[0] in REFUSED:
-        told.fault(REFUSED[rest[0]], at)
+        listed.fault(REFUSED[rest[0]], at)
     elif re.match(r"\t?:([ \t\n\0]|$)", rest):
-        told.fault(NO_KEY, told.text.index(":"))
+        listed.fault(NO_KEY, listed.text.index(":"))
     elif rest[0] == "\n":
-        told.refuse_node(at + 1, at + 1)
+        listed.refuse_node(at + 1, at + 1)
     else:
-        told.refuse_node(at, at + re.search(f": |{MARK}|$", rest).start())
+        listed.refuse_node(at, at + re.search(f": |{MARK}|$", rest).start())
 
 
 SHAPES = [
     ("[" * MOST_OPEN + "]" * MOST_OPEN, brackets),
-    ("a" * MOST_KEY + ": b", lambda told, put, at: key(told, put, at, MOST_KEY)),
-    ("a" * (MOST_KEY + 1) + ": b", lambda told, put, at: key(told, put, at, MOST_KEY + 1)),
+    ("a" * MOST_KEY + ": b", lambda listed, put, at: key(listed, put, at, MOST_KEY)),
+    ("a" * (MOST_KEY + 1) + ": b", lambda listed, put, at: key(listed, put, at, MOST_KEY + 1)),
     ("{a: " * (MOST_OPEN + 1), mappings),
     ("[" + "a" * 1100 + "]: b", sequence),
 ]
@@ -252,9 +252,9 @@ def expected():
     for text, shape in SHAPES:
         for put in ("", *PUT_IN):
             for at in range(put == "", len(text) + 1):
-                told = List(text[:at] + put + (text[at:] if put else ""))
-                shape(told, put, at)
-                lists[told.text] = "\n".join(told.lines)
+                listed = List(text[:at] + put + (text[at:] if put else ""))
+                shape(listed, put, at)
+                lists[listed.text] = "\n".join(listed.lines)
     return lists
 
 

@@ -398,9 +398,9 @@ def given(program, texts):
 def check_page(program):
     """What is wrong with the page's examples, and which rows it has and should not have, or lacks."""
     rows = list(page_rows())
-    told = {(first, words) for first, words, _, _ in rows}
-    wrong = [f"no rule for this row: {it}" for it in told - set(ROWS.values())]
-    wrong += [f"the page lacks this row: {it}" for it in set(ROWS.values()) - told]
+    stated = {(first, words) for first, words, _, _ in rows}
+    wrong = [f"no rule for this row: {it}" for it in stated - set(ROWS.values())]
+    wrong += [f"the page lacks this row: {it}" for it in set(ROWS.values()) - stated]
     answers = given(program, [it[2] for it in rows]) if program else []
     for (first, words, text, span), lines in zip(rows, answers):
         spans = {f"`{event.span[0]}..{event.span[1]}`" for event, row, _ in read(text, lines)

@@ -23,7 +23,7 @@ ANCHOR = re.compile(r"^(\+SEQ|\+MAP|=VAL) &(\S+)")
 
 def expected(lines):
     """Returns the lines of a case as ours tell them."""
-    ids, count, told = {}, 0, []
+    ids, count, listed = {}, 0, []
     for line in lines:
         line = STYLE.sub(r"\1", MARKS.sub(r"\1", line.lstrip(" ")))
         anchored = ANCHOR.match(line)
@@ -33,8 +33,8 @@ def expected(lines):
             line = f"{anchored[1]} &{count}{line[anchored.end():]}"
         elif line.startswith("=ALI *"):
             line = f"=ALI *{ids.get(line[6:])}"
-        told.append(line)
-    return told
+        listed.append(line)
+    return listed
 
 
 def cases(folder):
@@ -66,10 +66,10 @@ def main(words):
             events = (case / "test.event").read_text(encoding="utf-8").split("\n")[:-1]
             is_right = not is_refused and lines == expected(events)
         (right if is_right else wrong)[kind].append(name)
-    for kind, told in (("valid", "give other events or a fault"), ("refused", "are read")):
+    for kind, listed in (("valid", "give other events or a fault"), ("refused", "are read")):
         print(f"{kind}: {len(right[kind])} of {len(right[kind]) + len(wrong[kind])}")
         if wrong[kind]:
-            print(f"  these {told}: {' '.join(wrong[kind])}")
+            print(f"  these {listed}: {' '.join(wrong[kind])}")
     if not right["valid"]:
         sys.exit(f"{folder} has no cases")
 

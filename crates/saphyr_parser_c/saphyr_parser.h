@@ -15,18 +15,27 @@
  *
  * A text that comes in pieces, from a pipe for example:
  *
- *     int32_t status = saphyr_new_pieces(false, &parser);
+ *     int32_t status = saphyr_new_pieces(false, 0, 0, &parser);
  *     while (status >= 0 && (status = saphyr_next(&parser, &event)) > 0)
  *         if (status == SAPHYR_MORE)
  *             status = saphyr_add(&parser, bytes, fread(bytes, 1, sizeof bytes, file));
  *         else
  *             ... event.kind ...
  *
+ * The trees of a text. A node is a number, and a number that no node has leads nowhere, so calls can be nested:
+ *
+ *     saphyr_new(text, len, false, &parser);
+ *     if (saphyr_load(&parser, 100000, 100, &event) == SAPHYR_OK) {
+ *         saphyr_node port = saphyr_get(&parser, saphyr_root(&parser, 0), "port", 4);
+ *         if (saphyr_describe(&parser, port, &event) == SAPHYR_EVENT)
+ *             ... event.value is the port, and event.start its place ...
+ *     }
+ *
  * What the caller must do. Nothing checks these rules, and all that the library promises depends on them:
  *
- *  - Zero a saphyr_parser and a saphyr_event, as by {0}, before you first pass them to a call.
- *  - Pass no NULL. The pointer of a text may be read for the text's length, and is not NULL even if that is 0.
- *    No two pointers of one call point to the same memory.
+ *  - Zero a saphyr_parser and a saphyr_event, as by {0}, and in C++ by {}, before you first pass them to a call.
+ *  - Pass no NULL, but for bytes of which there are 0, and to saphyr_free. The pointer of a text may be read for the
+ *    text's length. No two pointers of one call point to the same memory.
  *  - Change a saphyr_parser only by these calls. Don't copy it as a struct: saphyr_clone makes a copy.
  *  - Use a saphyr_parser in one call at a time, and a saphyr_event too. Between calls a parser may go from one
  *    thread to another, if a lock or the thread's start or end orders the calls.
@@ -37,8 +46,10 @@
  *    child of a process with threads.
  *
  * What the library does. The texts of an event may be read until the next call with the same parser, and no
- * longer. For saphyr_next the contract says that their addresses are those of memory that the parser keeps until
- * then. Only the code shows the same of saphyr_peek, and that no call in between writes there.
+ * longer. Those that saphyr_describe gave may be read until saphyr_load or saphyr_free gets the parser, or a call that
+ * makes another parser in its handle. For saphyr_next the contract says that the addresses are those of memory that
+ * the parser keeps until then. Only the code shows the same of saphyr_peek and saphyr_describe, and that no call in
+ * between writes there.
  */
 #ifndef SAPHYR_PARSER_H
 #define SAPHYR_PARSER_H
@@ -53,26 +64,29 @@ extern "C" {
 
 /* The version of these declarations, which saphyr_version returns: 1,000,000 times the major number, plus 1,000 times
    the minor one, plus that of the patch. The shared library's name ends with it. */
-#define SAPHYR_VERSION 2000u
+#define SAPHYR_VERSION 3000u
 
 /* The release that this header came with. Before the `+` is the version of the Rust crate whose events these are. */
-#define SAPHYR_PARSER_VERSION "0.3.3+rattle.2"
+#define SAPHYR_PARSER_VERSION "0.3.3+rattle.3"
 
 /* What a call returns. Below 0, the call failed. */
 enum saphyr_status {
-    /* saphyr_new, saphyr_new_utf8, saphyr_new_pieces, saphyr_add, saphyr_clone, saphyr_keep_tags: done. */
+    /* saphyr_new, saphyr_new_utf8, saphyr_new_pieces, saphyr_add, saphyr_clone, saphyr_keep_tags, saphyr_load: done. */
     SAPHYR_OK = 0,
-    /* saphyr_next, saphyr_peek: no event is left. The end of the stream or a fault was handed out before. */
+    /* saphyr_next, saphyr_peek: no event is left. The end of the stream or a fault was handed out before.
+       saphyr_describe: there is no node with this number. */
     SAPHYR_END = 0,
-    /* saphyr_next, saphyr_peek: the event is written. */
+    /* saphyr_next, saphyr_peek, saphyr_describe: the event is written. */
     SAPHYR_EVENT = 1,
-    /* saphyr_next, saphyr_peek: the next event waits for bytes that did not come. No event is written. A text is read
-       up to its last line of `---` or `...` that came. So also a fault waits for the next such line, or the end. */
+    /* saphyr_next, saphyr_peek, of a text that comes in pieces: as far as the parser has looked, bytes that did not
+       come may change the next event. No event is written. */
     SAPHYR_MORE = 2,
-    /* saphyr_next, saphyr_peek: the text is refused. `value` says why, and `start` where. No event follows. */
+    /* saphyr_next, saphyr_peek, saphyr_load: the text is refused. `value` says why, and `start` where. No event
+       follows. */
     SAPHYR_REFUSED = -1,
     /* Out of memory. From saphyr_next and saphyr_peek: no event follows, whatever is added. From saphyr_add: the text
-       is lost, and saphyr_next says so too. From saphyr_new, saphyr_new_pieces and saphyr_clone: no parser is made. */
+       is lost, and saphyr_next says so too. From saphyr_new, saphyr_new_pieces and saphyr_clone: no parser is made. From
+       saphyr_load: there are no trees, and no event follows. */
     SAPHYR_NO_MEMORY = -2,
     /* saphyr_new: the text is not UTF-8. saphyr_valid_up_to returns the index of the first wrong byte. saphyr_add: the
        bytes, behind those that came before, are not, whatever follows; or the text ends inside a character. Nothing is
@@ -86,7 +100,14 @@ enum saphyr_status {
     SAPHYR_UTF16 = -5,
     /* saphyr_add: all of the text is there already, since saphyr_new or saphyr_new_utf8 was given it or its end was
        told; or saphyr_add ran out of memory before. Nothing is added. */
-    SAPHYR_WHOLE = -6
+    SAPHYR_WHOLE = -6,
+    /* saphyr_next, saphyr_peek: as SAPHYR_MORE, but more bytes wait for the next event than saphyr_new_pieces was told
+       that may. The parser stays where it was, and gives the rest of the events if the end of the text is told. */
+    SAPHYR_TOO_MUCH = -7,
+    /* saphyr_load: the trees would have more nodes than allowed, or be deeper. `start` says where. */
+    SAPHYR_TOO_LARGE = -8,
+    /* saphyr_load: the parser has handed out events already, or its text comes in pieces. */
+    SAPHYR_LATE = -9
 };
 
 /* What happens in the text. */
@@ -168,8 +189,8 @@ typedef struct saphyr_event {
     size_t anchor;
     /* Where it begins. Of a fault, where it is. */
     saphyr_marker start;
-    /* Where its span ends. The span of a quoted scalar or a bracket includes the blanks and the comment after it:
-       docs/SPANS.md of the repository says what the span of each event covers. Of a fault, the start again. */
+    /* Where its span ends. The span of a quoted scalar or a bracket includes the blanks and the comment after it: the
+       page SPANS.md says what the span of each event covers. Of a fault, the start again. */
     saphyr_marker end;
     /* The value of a scalar: folded and unescaped. Of a fault, why the text is refused. */
     saphyr_text value;
@@ -197,20 +218,27 @@ int32_t saphyr_new_utf8(const uint8_t *text, size_t len, bool keep_tags, saphyr_
 
 /*
  * Makes a parser of a text that comes in pieces, of which nothing came yet, and puts it into `parser`. Frees what
- * `parser` held, whatever it returns. saphyr_add takes the next bytes. `keep_tags` and the limit are as for saphyr_new.
+ * `parser` held, whatever it returns. saphyr_add takes the next bytes. `keep_tags` is as for saphyr_new.
+ *
+ * The limits are for texts that you don't trust, and 0 sets none. A text of more than `most_characters` characters is
+ * refused, and so is one of more than 4,294,967,295. If more than `most_waiting` bytes came of which no event can be
+ * told, as of a quote that is not closed, saphyr_next returns SAPHYR_TOO_MUCH.
  *
  * Returns SAPHYR_OK; or SAPHYR_NO_MEMORY, and then `parser` is empty.
  */
-int32_t saphyr_new_pieces(bool keep_tags, saphyr_parser *parser);
+int32_t saphyr_new_pieces(bool keep_tags, size_t most_characters, size_t most_waiting, saphyr_parser *parser);
 
 /*
  * Adds the next `len` bytes of a text that comes in pieces. They may be cut anywhere, even inside a character. The
- * events are those of all bytes, one behind the other, wherever they are cut: those of a document come once a line of
- * `---` or `...` behind it has come, or the end, but what follows a bracket that such a line leaves open may come
- * later. Bytes that are not needed any more, since the text is refused, are not parsed.
+ * events are those of all bytes, one behind the other, wherever they are cut. An event comes once no byte that may
+ * follow changes it, also before its document has ended. While less than 256 bytes wait, the parser looks for that when
+ * a line ends, a bracket closes or `---` comes; else when as many bytes came again as waited, so that a long scalar is
+ * not read again for each line, and as soon as more wait than may. The events of a collection in brackets at a
+ * document's root come with its last bracket. The stream's start comes before the first bytes. Bytes that are not
+ * needed any more, since the text is refused, are not parsed.
  *
- * A `len` of 0 says that no more come: nothing can be added after it. So do not pass on the 0 of a read that failed, or
- * of one that has no bytes yet. `bytes` is not NULL then either.
+ * A `len` of 0 says that no more come, with NULL or any other `bytes`: nothing can be added after it. So do not pass on
+ * the 0 of a read that failed, or of one that has no bytes yet.
  *
  * Returns SAPHYR_OK; SAPHYR_NOT_UTF8, SAPHYR_UTF16, SAPHYR_WHOLE or SAPHYR_NO_PARSER, and then nothing is added, and
  * the parser stays as it was; or SAPHYR_NO_MEMORY. Then the text is lost, also what came of it before: saphyr_next
@@ -230,7 +258,8 @@ size_t saphyr_valid_up_to(const uint8_t *text, size_t len);
  * or a fault nothing is left.
  *
  * Returns SAPHYR_EVENT, SAPHYR_END, SAPHYR_REFUSED, SAPHYR_NO_MEMORY or SAPHYR_NO_PARSER. If the text comes in pieces
- * and the next event waits for bytes that did not come, returns SAPHYR_MORE, and the parser stays where it was.
+ * and the next event waits for bytes that did not come, returns SAPHYR_MORE or, past the limit, SAPHYR_TOO_MUCH, and
+ * the parser stays where it was.
  */
 int32_t saphyr_next(saphyr_parser *parser, saphyr_event *event);
 
@@ -259,8 +288,69 @@ int32_t saphyr_clone(saphyr_parser *parser, saphyr_parser *copy);
  */
 int32_t saphyr_keep_tags(saphyr_parser *parser, bool keep_tags);
 
+/* A node of the trees that a parser loaded, by its number. It is that node's until saphyr_load is called again or the
+   parser is freed. */
+typedef size_t saphyr_node;
+
+/* The number of no node. */
+#define SAPHYR_NO_NODE SIZE_MAX
+
 /*
- * Frees the parser and the texts of its last event, and leaves the handle empty. Does nothing to an empty handle.
+ * Loads all documents of a parser as trees, which the parser keeps. It must have handed out no event; shown is allowed.
+ * The trees may have `nodes` nodes in all, where an alias counts as one, and `depth` collections open at once. Trees
+ * that were loaded before are freed, whatever it returns. The parser hands out no event of these documents any more. A
+ * clone has no trees.
+ *
+ * Returns SAPHYR_OK; or SAPHYR_REFUSED, SAPHYR_TOO_LARGE, SAPHYR_NO_MEMORY, SAPHYR_LATE or SAPHYR_NO_PARSER, and then
+ * there are no trees. `event` says why and where, and its text may be read until the next call with the parser.
+ */
+int32_t saphyr_load(saphyr_parser *parser, size_t nodes, size_t depth, saphyr_event *event);
+
+/* Returns the root of the document with this index, from 0, or SAPHYR_NO_NODE if there are fewer documents. */
+saphyr_node saphyr_root(saphyr_parser *parser, size_t index);
+
+/*
+ * Returns how many nodes the document with this index has if each alias is a copy of its node: UINT64_MAX if there are
+ * more, or if an alias is inside its own node. If there is no such document, returns 0. Nothing is copied.
+ */
+uint64_t saphyr_expanded(saphyr_parser *parser, size_t index);
+
+/*
+ * Tells what a node is, in the fields of its first event. So `kind` is SAPHYR_SCALAR, SAPHYR_SEQUENCE_START,
+ * SAPHYR_MAPPING_START or SAPHYR_ALIAS, and `anchor` the id of an anchor. `start` and `end` are the places of the whole
+ * node: a collection ends where the span of its last event does.
+ *
+ * Returns SAPHYR_EVENT; or SAPHYR_END or SAPHYR_NO_PARSER if there is no such node.
+ */
+int32_t saphyr_describe(saphyr_parser *parser, saphyr_node node, saphyr_event *event);
+
+/* Returns how many items a sequence has, or how many pairs a mapping; of any other node 0. */
+size_t saphyr_count(saphyr_parser *parser, saphyr_node node);
+
+/* Returns the item of a sequence with this index, from 0, or SAPHYR_NO_NODE. */
+saphyr_node saphyr_item(saphyr_parser *parser, saphyr_node node, size_t index);
+
+/* Returns the key of the pair with this index, from 0, of a mapping, or SAPHYR_NO_NODE. */
+saphyr_node saphyr_key(saphyr_parser *parser, saphyr_node node, size_t index);
+
+/* Returns the value of the pair with this index, from 0, of a mapping, or SAPHYR_NO_NODE. */
+saphyr_node saphyr_value(saphyr_parser *parser, saphyr_node node, size_t index);
+
+/*
+ * Returns the value in a mapping whose key is a scalar with the text of `len` bytes at `key`, whatever its style and
+ * tag: the first if there are several, and SAPHYR_NO_NODE if there is none. It looks at one key after the other.
+ */
+saphyr_node saphyr_get(saphyr_parser *parser, saphyr_node node, const char *key, size_t len);
+
+/*
+ * Returns the node whose anchor has this id, so the one that an alias names, or SAPHYR_NO_NODE. An alias may be inside
+ * the node that it names. It looks at one node after the other.
+ */
+saphyr_node saphyr_anchored(saphyr_parser *parser, size_t id);
+
+/*
+ * Frees the parser and the texts of its last event, and leaves the handle empty. Does nothing to an empty handle, and
+ * nothing if `parser` is NULL.
  */
 void saphyr_free(saphyr_parser *parser);
 
@@ -268,6 +358,71 @@ void saphyr_free(saphyr_parser *parser);
  * Returns the version of the library. Do not use it with a header that has another SAPHYR_VERSION.
  */
 uint32_t saphyr_version(void);
+
+/*
+ * Returns what a status means, in words that end in NUL. As SAPHYR_OK and SAPHYR_END are one number, so are their words.
+ */
+static inline const char *saphyr_status_text(int32_t status) {
+    switch (status) {
+    case SAPHYR_OK: return "done, or no event is left";
+    case SAPHYR_EVENT: return "an event";
+    case SAPHYR_MORE: return "the next event waits for bytes that did not come";
+    case SAPHYR_REFUSED: return "the text is refused";
+    case SAPHYR_NO_MEMORY: return "out of memory";
+    case SAPHYR_NOT_UTF8: return "the text is not UTF-8";
+    case SAPHYR_NO_PARSER: return "there is no parser";
+    case SAPHYR_UTF16: return "the text is UTF-16, and not UTF-8";
+    case SAPHYR_WHOLE: return "all of the text is there already";
+    case SAPHYR_TOO_MUCH: return "more bytes wait for the next event than may";
+    case SAPHYR_TOO_LARGE: return "the trees would be larger than allowed";
+    case SAPHYR_LATE: return "the parser has handed out events, or its text comes in pieces";
+    default: return "no status";
+    }
+}
+
+/*
+ * The library's own calls take no NULL. In C and C++ the compiler puts these functions into each call, and they pass on
+ * another address in its place. A tool that reads this header to make the calls from another language defines
+ * SAPHYR_NO_INLINE, and passes no NULL.
+ */
+#if defined(__GNUC__) && !defined(SAPHYR_NO_INLINE)
+#define SAPHYR_INLINE extern __inline __attribute__((__gnu_inline__, __always_inline__))
+
+extern int32_t saphyr_new_at(const uint8_t *, size_t, bool, saphyr_parser *) __asm__("saphyr_new");
+extern int32_t saphyr_new_utf8_at(const uint8_t *, size_t, bool, saphyr_parser *) __asm__("saphyr_new_utf8");
+extern int32_t saphyr_add_at(saphyr_parser *, const uint8_t *, size_t) __asm__("saphyr_add");
+extern size_t saphyr_valid_up_to_at(const uint8_t *, size_t) __asm__("saphyr_valid_up_to");
+extern void saphyr_free_at(saphyr_parser *) __asm__("saphyr_free");
+extern saphyr_node saphyr_get_at(saphyr_parser *, saphyr_node, const char *, size_t) __asm__("saphyr_get");
+
+SAPHYR_INLINE int32_t saphyr_new(const uint8_t *text, size_t len, bool keep_tags, saphyr_parser *parser) {
+    return saphyr_new_at(text ? text : (const uint8_t *)"", len, keep_tags, parser);
+}
+
+SAPHYR_INLINE int32_t saphyr_new_utf8(const uint8_t *text, size_t len, bool keep_tags, saphyr_parser *parser) {
+    return saphyr_new_utf8_at(text ? text : (const uint8_t *)"", len, keep_tags, parser);
+}
+
+SAPHYR_INLINE int32_t saphyr_add(saphyr_parser *parser, const uint8_t *bytes, size_t len) {
+    return saphyr_add_at(parser, bytes ? bytes : (const uint8_t *)"", len);
+}
+
+SAPHYR_INLINE size_t saphyr_valid_up_to(const uint8_t *text, size_t len) {
+    return saphyr_valid_up_to_at(text ? text : (const uint8_t *)"", len);
+}
+
+SAPHYR_INLINE saphyr_node saphyr_get(saphyr_parser *parser, saphyr_node node, const char *key, size_t len) {
+    return saphyr_get_at(parser, node, key ? key : "", len);
+}
+
+SAPHYR_INLINE void saphyr_free(saphyr_parser *parser) {
+    if (parser) {
+        saphyr_free_at(parser);
+    }
+}
+
+#undef SAPHYR_INLINE
+#endif
 
 #ifdef __cplusplus
 }

@@ -1,11 +1,13 @@
 //! Safe functions over the calls of the static library.
 //!
-//! This is the crate's only file with `unsafe` in it. `saphyr_parser.h`, next to the library's sources, says what a
+//! This file and `face/trees.rs` are the crate's only ones with `unsafe` in them. `saphyr_parser.h`, next to the library's sources, says what a
 //! caller must do: zero a parser and an event first, pass no null pointer, use a parser in one call at a time, keep the
 //! text unchanged where it is until the parser over it is freed, and give `saphyr_new_utf8` only UTF-8. Of a text that
 //! comes in pieces the library has a copy. In return, the texts of an event are UTF-8, and may be read until the next
 //! call with the same parser. They are copied here right after the call that wrote them, so none is left when the next
 //! call comes. If the caller's text contains such a text as it is, it is borrowed from there instead.
+
+pub mod trees;
 
 use crate::encoding::NotUtf8;
 use crate::event::{Event, Tag};
@@ -18,7 +20,7 @@ use std::ptr::{null, null_mut};
 use std::{slice, str};
 
 /// The version of the header that the declarations below follow.
-const VERSION: u32 = 2000;
+const VERSION: u32 = 3000;
 
 // The statuses. Those that no call of a live parser gives have no name here.
 const OK: i32 = 0;
@@ -28,6 +30,7 @@ const MORE: i32 = 2;
 const REFUSED: i32 = -1;
 const NO_MEMORY: i32 = -2;
 const UTF16: i32 = -5;
+const TOO_MUCH: i32 = -7;
 
 /// `saphyr_parser`: null, or a parser on the heap.
 #[repr(C)]
@@ -73,7 +76,12 @@ struct Record {
 extern "C" {
     fn saphyr_new(text: *const u8, len: usize, keep_tags: bool, parser: *mut Handle) -> i32;
     fn saphyr_new_utf8(text: *const u8, len: usize, keep_tags: bool, parser: *mut Handle) -> i32;
-    fn saphyr_new_pieces(keep_tags: bool, parser: *mut Handle) -> i32;
+    fn saphyr_new_pieces(
+        keep_tags: bool,
+        most_characters: usize,
+        most_waiting: usize,
+        parser: *mut Handle,
+    ) -> i32;
     fn saphyr_add(parser: *mut Handle, bytes: *const u8, len: usize) -> i32;
     fn saphyr_valid_up_to(text: *const u8, len: usize) -> usize;
     fn saphyr_next(parser: *mut Handle, event: *mut Record) -> i32;
@@ -95,6 +103,31 @@ pub fn checked(bytes: &[u8]) -> Result<&str, NotUtf8> {
     // SAFETY: the bytes may be read for their length, and the handle is zeroed. No parser of these bytes is made.
     let status = unsafe { saphyr_new(bytes.as_ptr(), bytes.len(), false, &mut handle) };
     Err(NotUtf8::new(index, status == UTF16))
+}
+
+/// The limits of a text that comes in pieces.
+#[derive(Clone, Copy)]
+pub struct Limits {
+    /// How many characters it may have.
+    pub characters: usize,
+    /// How many bytes may wait for an event.
+    pub waiting: usize,
+}
+
+impl Limits {
+    /// No limits.
+    pub const NONE: Limits = Limits {
+        characters: usize::MAX,
+        waiting: usize::MAX,
+    };
+}
+
+/// Why a parser of a text that comes in pieces gives nothing.
+pub enum Wait {
+    /// The next item depends on what did not come.
+    More,
+    /// It does, and more waits than may.
+    TooMuch,
 }
 
 /// What a parser gives: an event, the fault that ends the events, or `None` after them.
@@ -154,11 +187,13 @@ impl<'input> Face<'input> {
     }
 
     /// A parser of a text that comes in pieces, of which nothing came.
-    pub fn of_pieces() -> Self {
+    pub fn of_pieces(keep_tags: bool, limits: Limits) -> Self {
         check_version();
         let mut handle = EMPTY;
+        // The library takes 0 for no limit.
+        let (characters, waiting) = (limits.characters.max(1), limits.waiting.max(1));
         // SAFETY: the handle is zeroed.
-        let status = unsafe { saphyr_new_pieces(false, &mut handle) };
+        let status = unsafe { saphyr_new_pieces(keep_tags, characters, waiting, &mut handle) };
         expect(status, OK);
         Face::with(handle, None)
     }
@@ -188,11 +223,14 @@ impl<'input> Face<'input> {
         unsafe { self.item(status, progress) }
     }
 
-    /// The same of a text that comes in pieces. `None`: the item depends on what did not come.
-    pub fn next_or_more(&mut self, progress: &mut Progress) -> Option<Item<'input>> {
-        let status = self.step();
-        // SAFETY: this was the last call with the parser.
-        (status != MORE).then(|| unsafe { self.item(status, progress) })
+    /// The same of a text that comes in pieces, or why nothing comes.
+    pub fn next_or_wait(&mut self, progress: &mut Progress) -> Result<Item<'input>, Wait> {
+        match self.step() {
+            MORE => Err(Wait::More),
+            TOO_MUCH => Err(Wait::TooMuch),
+            // SAFETY: this was the last call with the parser.
+            status => Ok(unsafe { self.item(status, progress) }),
+        }
     }
 
     /// Calls the library for the next item, and returns the status.

@@ -12,6 +12,7 @@ pub use crate::char_traits::{
 pub use buffered::BufferedInput;
 
 use crate::char_traits::{is_yaml_non_break, is_yaml_non_space};
+use crate::parts::read_line;
 
 /// A source of characters, with a window on the next ones.
 ///
@@ -60,6 +61,12 @@ pub trait Input {
     /// The next character, or `None` after the last.
     #[must_use]
     fn peek_opt(&self) -> Option<char>;
+
+    /// Takes the next line, or a part of it, for a parser. Returns whether the text has ended.
+    #[doc(hidden)]
+    fn take_line(&mut self, line: &mut String) -> bool {
+        read_line(self, line)
+    }
 
     /// Loads the next character, and looks at it.
     #[must_use]

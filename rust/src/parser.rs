@@ -2,12 +2,13 @@
 
 use crate::encoding::NotUtf8;
 use crate::event::{Event, SpannedEventReceiver};
-use crate::face::{checked, Face, Item};
+use crate::face::{checked, Face, Item, Limits};
 use crate::input::{buffered::BufferedInput, str::StrInput, Input};
 use crate::parts::Parts;
 use crate::progress::{Progress, Stand};
 use crate::scanner::{ScanError, Span};
 use std::fmt;
+use std::iter::FusedIterator;
 
 /// What a parser hands out: an event with its place, or the fault that ends the events.
 pub type ParseResult<'input> = Result<(Event<'input>, Span), ScanError>;
@@ -25,8 +26,33 @@ enum Source<'input, T> {
 
 /// A parser of a text. It gives the events one after the other.
 ///
-/// `T` is the kind of input that the characters come from. A text in memory is read as far as each event needs. Before
-/// the events inside a document are given, an input is read up to the line of `---` or `...` that ends the document.
+/// `T` is the kind of input that the characters come from. A text in memory is read as far as each event needs. An input
+/// is read line by line, as far as the next event depends on it. What an iterator has for sure, by its `size_hint`, is
+/// read up to 64 KB at a time.
+///
+/// ```
+/// use saphyr_parser::{Event, Parser, ScanError};
+///
+/// // How deep collections are nested.
+/// fn depth(text: &str) -> Result<usize, ScanError> {
+///     let (mut open, mut deepest) = (0, 0);
+///     for item in Parser::new_from_str(text) {
+///         let (event, _span) = item?;
+///         match event {
+///             Event::SequenceStart(..) | Event::MappingStart(..) => {
+///                 open += 1;
+///                 deepest = deepest.max(open);
+///             }
+///             Event::SequenceEnd | Event::MappingEnd => open -= 1,
+///             _ => {}
+///         }
+///     }
+///     Ok(deepest)
+/// }
+///
+/// assert_eq!(depth("a: [b, {c: d}]"), Ok(3));
+/// assert!(depth("a: [b, {c: d}").is_err());
+/// ```
 pub struct Parser<'input, T: Input> {
     source: Source<'input, T>,
     keep_tags: bool,
@@ -57,6 +83,16 @@ where
     T: Iterator<Item = char> + 'input,
 {
     /// A parser of the characters that an iterator gives up to its first `None`.
+    ///
+    /// ```
+    /// use saphyr_parser::{Event, Parser};
+    ///
+    /// let lines = ["- a", "- b"];
+    /// let characters = lines.iter().flat_map(|line| line.chars().chain(['\n']));
+    /// let scalars = Parser::new_from_iter(characters)
+    ///     .filter(|item| matches!(item, Ok((Event::Scalar(..), _))));
+    /// assert_eq!(scalars.count(), 2);
+    /// ```
     #[must_use]
     pub fn new_from_iter(iter: T) -> Self {
         Parser::new(BufferedInput::new(iter))
@@ -81,6 +117,15 @@ impl<'input, T: Input> Parser<'input, T> {
     /// Sets whether the prefixes of tags hold for later documents too. In YAML they don't.
     ///
     /// The setting takes effect from the next end of a document that is read.
+    ///
+    /// ```
+    /// use saphyr_parser::Parser;
+    ///
+    /// let text = "%TAG !e! tag:example.com,2000:\n--- !e!a x\n--- !e!b y\n";
+    /// assert!(Parser::new_from_str(text).keep_tags(true).all(|item| item.is_ok()));
+    /// let fault = Parser::new_from_str(text).find_map(Result::err).unwrap();
+    /// assert_eq!(fault.marker().line(), 3);
+    /// ```
     #[must_use]
     pub fn keep_tags(mut self, value: bool) -> Self {
         self.keep_tags = value;
@@ -92,10 +137,43 @@ impl<'input, T: Input> Parser<'input, T> {
         self
     }
 
+    /// Sets limits for an input that you don't trust. A text of more than `characters` is refused, and these and one are
+    /// all that is parsed of it. It is refused too if more than `waiting` bytes of it were read, and no event can be
+    /// told of them, as of a quote that is not closed.
+    ///
+    /// To be called before the first event. A text in memory has no limits.
+    ///
+    /// ```
+    /// use saphyr_parser::Parser;
+    ///
+    /// let endless = "- 'a".chars().chain(std::iter::repeat('b'));
+    /// let fault = Parser::new_from_iter(endless).limits(usize::MAX, 10_000).find_map(Result::err).unwrap();
+    /// assert_eq!(fault.info(), "more bytes wait for the next event than may");
+    /// ```
+    #[must_use]
+    pub fn limits(mut self, characters: usize, waiting: usize) -> Self {
+        if let Source::Parts(parts) = &mut self.source {
+            parts.limit(Limits {
+                characters,
+                waiting,
+            });
+        }
+        self
+    }
+
     /// Shows the item that [`Parser::next_event`] hands out next, without handing it out.
     ///
     /// # Errors
     /// The fault that ends the events, until it is handed out.
+    ///
+    /// ```
+    /// use saphyr_parser::{Event, Parser};
+    ///
+    /// let mut parser = Parser::new_from_str("a");
+    /// assert!(matches!(parser.peek(), Some(Ok((Event::StreamStart, _span)))));
+    /// assert!(matches!(parser.next_event(), Some(Ok((Event::StreamStart, _span)))));
+    /// assert!(matches!(parser.peek(), Some(Ok((Event::DocumentStart(false), _span)))));
+    /// ```
     pub fn peek(&mut self) -> Option<Result<&(Event<'input>, Span), ScanError>> {
         if self.peeked.is_none() && !self.progress.has_ended() {
             let stand = self.progress.stand;
@@ -129,6 +207,28 @@ impl<'input, T: Input> Parser<'input, T> {
     /// # Errors
     /// The fault that ends the events, each time. If the parser is inside a document, the fault says that no document
     /// begins there, and nothing is handed over or passed.
+    ///
+    /// ```
+    /// use saphyr_parser::{Event, Parser, Span, SpannedEventReceiver};
+    ///
+    /// /// The lines of the scalars.
+    /// struct Lines(Vec<usize>);
+    ///
+    /// impl<'input> SpannedEventReceiver<'input> for Lines {
+    ///     fn on_event(&mut self, event: Event<'input>, span: Span) {
+    ///         if let Event::Scalar(..) = event {
+    ///             self.0.push(span.start.line());
+    ///         }
+    ///     }
+    /// }
+    ///
+    /// let mut parser = Parser::new_from_str("- a\n- b\n---\nc\n");
+    /// let mut lines = Lines(Vec::new());
+    /// parser.load(&mut lines, false).unwrap();
+    /// assert_eq!(lines.0, [1, 2]);
+    /// parser.load(&mut lines, true).unwrap();
+    /// assert_eq!(lines.0, [1, 2, 4]);
+    /// ```
     pub fn load<R: SpannedEventReceiver<'input>>(
         &mut self,
         recv: &mut R,
@@ -211,6 +311,9 @@ impl<'input, T: Input> Iterator for Parser<'input, T> {
         self.next_event()
     }
 }
+
+// After the end of the stream, or a fault, nothing is left.
+impl<T: Input> FusedIterator for Parser<'_, T> {}
 
 impl<T: Input + Clone> Clone for Parser<'_, T> {
     /// An independent parser at the same place. Its input is cloned.

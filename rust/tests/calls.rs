@@ -9,6 +9,7 @@ use saphyr_parser::{
 };
 use std::borrow::Cow;
 use std::error::Error;
+use std::iter::FusedIterator;
 use std::thread;
 
 /// The short names of the events that it receives.
@@ -48,6 +49,19 @@ fn loads_a_document_at_a_time() {
     }
     assert_eq!(parser.next_event(), None);
     assert!(parser.peek().is_none());
+}
+
+#[test]
+fn gives_nothing_after_the_end() {
+    fn counted(parser: impl FusedIterator) -> usize {
+        parser.count()
+    }
+    for text in ["a", "[a"] {
+        let mut parser = Parser::new_from_str(text);
+        let wanted = parser.by_ref().count();
+        assert_eq!(counted(&mut parser), 0);
+        assert_eq!(counted(Parser::new_from_iter(text.chars())), wanted);
+    }
 }
 
 #[test]
@@ -148,19 +162,19 @@ fn reads_nothing_before_the_first_event() {
 
 #[test]
 fn refuses_bytes() {
-    let told = |bytes: &[u8]| {
+    let refused = |bytes: &[u8]| {
         let fault = Parser::new_from_bytes(bytes).expect_err("bytes that are not UTF-8");
         (fault.index(), fault.is_utf16(), fault.to_string())
     };
     assert_eq!(
-        told(b"a\xff"),
+        refused(b"a\xff"),
         (1, false, "the text is not UTF-8 from byte 1 on".into())
     );
     assert_eq!(
-        told(b"\xff\xfea\0"),
+        refused(b"\xff\xfea\0"),
         (0, true, "the text is UTF-16, and has to be UTF-8".into())
     );
-    assert!(!told(b"\xff\xfe\0\0").1);
+    assert!(!refused(b"\xff\xfe\0\0").1);
     let marked: Vec<_> = Parser::new_from_bytes(b"\xef\xbb\xbfa").unwrap().collect();
     assert_eq!(
         marked,

@@ -275,6 +275,11 @@ fn compare_each_input(case: &Case) {
     compare(Parser::new_from_str(&case.text), case);
     compare(Parser::new_from_bytes(case.text.as_bytes()).unwrap(), case);
     compare(Parser::new_from_iter(case.text.chars()), case);
+    // It does not say that it has more, so it is read by lines.
+    compare(
+        Parser::new_from_iter(case.text.chars().filter(|_| true)),
+        case,
+    );
     compare(
         Parser::new(ListInput {
             rest: &characters,
@@ -300,7 +305,7 @@ fn all_cases() -> Vec<Case> {
     cases
 }
 
-/// An iterator is read a document at a time, and a string as a whole. What the text has before and after a marker is
+/// An iterator is read line by line, and a string as a whole. What the text has before and after a marker is
 /// that of any case.
 #[test]
 fn reads_documents_behind_one_another() {
@@ -319,7 +324,8 @@ fn reads_documents_behind_one_another() {
             let text = format!("{}{between}{}", pair[0].text, pair[1].text);
             for keeps_tags in [false, true] {
                 let whole = Parser::new_from_str(&text).keep_tags(keeps_tags);
-                let parts = Parser::new_from_iter(text.chars()).keep_tags(keeps_tags);
+                let parts =
+                    Parser::new_from_iter(text.chars().filter(|_| true)).keep_tags(keeps_tags);
                 assert_eq!(all(parts), all(whole), "{text:?}");
             }
         }

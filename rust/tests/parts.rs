@@ -1,4 +1,4 @@
-//! How far a parser reads its input: up to the end of a document.
+//! How far a parser reads its input: as far as an event needs.
 
 use saphyr_parser::{Event, EventReceiver, Input, Parser, ScanError, Span};
 use std::cell::Cell;
@@ -44,11 +44,16 @@ fn gives_documents_on_a_pipe_one_by_one() {
     }
 }
 
+/// The characters of a text that does not say that it has more, as that on a pipe. It is read by lines.
+fn pipe(text: &str) -> impl Iterator<Item = char> + Clone + '_ {
+    text.chars().filter(|_| true)
+}
+
 /// How many characters of a text were read when a document's end was handed out, for each document.
 fn read_at_ends(text: &str) -> Vec<usize> {
     let read = Cell::new(0);
     let mut ends = Vec::new();
-    for item in Parser::new_from_iter(text.chars().inspect(|_| read.set(read.get() + 1))) {
+    for item in Parser::new_from_iter(pipe(text).inspect(|_| read.set(read.get() + 1))) {
         if item.unwrap().0 == Event::DocumentEnd {
             ends.push(read.get());
         }
@@ -114,7 +119,7 @@ fn reads_long_lines() {
         let word = "é".repeat(len / 2) + &"a".repeat(len % 2);
         let text = format!("{word}--- x\r\n---\n- |\n {word}--- \r\n...\n\"{word}\\\n --- \"\n");
         let whole: Vec<_> = Parser::new_from_str(&text).collect();
-        let parts: Vec<_> = Parser::new_from_iter(text.chars()).collect();
+        let parts: Vec<_> = Parser::new_from_iter(pipe(&text)).collect();
         assert_eq!(parts, whole, "{len}");
         assert!(whole.iter().all(Result::is_ok));
     }
@@ -164,14 +169,14 @@ fn keeps_tags_of_an_iterator_from_an_end_on() {
     for text in [open, closed] {
         for (begun, peeks) in (0..12).flat_map(|it| [(it, false), (it, true)]) {
             let whole = switched(Parser::new_from_str(text), begun, peeks);
-            let parts = switched(Parser::new_from_iter(text.chars()), begun, peeks);
+            let parts = switched(Parser::new_from_iter(pipe(text)), begun, peeks);
             assert_eq!(parts, whole, "behind {begun} events");
         }
     }
-    assert!(switched(Parser::new_from_iter(open.chars()), 3, false)
+    assert!(switched(Parser::new_from_iter(pipe(open)), 3, false)
         .iter()
         .all(Result::is_ok));
-    assert!(switched(Parser::new_from_iter(open.chars()), 4, false)
+    assert!(switched(Parser::new_from_iter(pipe(open)), 4, false)
         .iter()
         .any(Result::is_err));
 }
@@ -196,7 +201,34 @@ fn reads_random_texts_alike() {
             .map(|_| words[below(words.len())])
             .collect();
         let whole: Vec<_> = Parser::new_from_str(&text).collect();
-        let parts: Vec<_> = Parser::new_from_iter(text.chars()).collect();
+        let parts: Vec<_> = Parser::new_from_iter(pipe(&text)).collect();
         assert_eq!(parts, whole, "{text:?}");
+        let at_once: Vec<_> = Parser::new_from_iter(text.chars()).collect();
+        assert_eq!(at_once, whole, "{text:?}");
     }
+}
+
+#[test]
+fn keeps_to_limits() {
+    let fault = |characters, waiting| {
+        let mut parser =
+            Parser::new_from_iter(pipe("- [a, b]\n- cd\n")).limits(characters, waiting);
+        parser.find_map(Result::err).map(|it| it.to_string())
+    };
+    assert_eq!(fault(usize::MAX, usize::MAX), None);
+    assert_eq!(fault(14, 9), None);
+    assert_eq!(
+        fault(13, 9).as_deref(),
+        Some("text longer than 4294967295 characters at byte 14 line 3 column 1")
+    );
+    let endless = "- a\n".chars().cycle();
+    for characters in 1..100 {
+        let mut parser = Parser::new_from_iter(endless.clone()).limits(characters, usize::MAX);
+        let fault = parser.find_map(Result::err).unwrap();
+        assert!(fault.info().starts_with("text longer than"), "{fault}");
+    }
+    assert_eq!(
+        fault(14, 2).as_deref(),
+        Some("more bytes wait for the next event than may at byte 0 line 1 column 1")
+    );
 }

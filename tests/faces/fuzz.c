@@ -167,7 +167,7 @@ int LLVMFuzzerTestOneInput(const uint8_t *text, size_t len) {
     struct pieces pieces = {.text = text ? text : none, .len = len, .seed = (uint32_t)len};
     saphyr_parser parser = {0};
     int32_t status = saphyr_new(pieces.text, len, false, &parser);
-    check(saphyr_new_pieces(false, &pieces.parser) == SAPHYR_OK, "no parser of pieces");
+    check(saphyr_new_pieces(false, 0, 0, &pieces.parser) == SAPHYR_OK, "no parser of pieces");
     check((status == SAPHYR_OK) == (saphyr_valid_up_to(pieces.text, len) == len), "a text is taken that is no UTF-8");
     if (status == SAPHYR_OK) {
         check_events(&parser, &pieces);

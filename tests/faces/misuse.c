@@ -67,7 +67,7 @@ static void expect_valid_up_to(const char *bytes, size_t len, size_t wanted) {
     expect((int32_t)saphyr_valid_up_to((const uint8_t *)bytes, len), (int32_t)wanted, "how many bytes are UTF-8");
 }
 
-static void tells_the_first_bad_byte(void) {
+static void gives_the_first_bad_byte(void) {
     expect_valid_up_to("", 0, 0);
     expect_valid_up_to("a: \xc3\xa9\n", 6, 6);
     expect_valid_up_to("\xef\xbb\xbf" "a", 4, 4);
@@ -85,7 +85,7 @@ static void expect_encoding(const char *bytes, size_t len, int32_t wanted) {
 }
 
 /* UTF-16 is told by its byte order mark. That of UTF-32 begins with the same two bytes. */
-static void tells_utf16(void) {
+static void knows_utf16(void) {
     expect_encoding("\xff\xfe" "a\0", 4, SAPHYR_UTF16);
     expect_encoding("\xfe\xff\0a", 4, SAPHYR_UTF16);
     expect_encoding("\xff\xfe", 2, SAPHYR_UTF16);
@@ -224,7 +224,7 @@ static int documents(saphyr_parser *parser, int32_t *status) {
     return ended;
 }
 
-/* A document's events come once the line of a marker behind it has come. */
+/* A document's end comes once the line of a marker behind it has come. */
 static void comes_at_once(void) {
     static const struct {
         const char *piece;
@@ -235,7 +235,7 @@ static void comes_at_once(void) {
                   {"...\n", 1},    {"k\n", 0},   {"", 1}};
     saphyr_parser parser = {0};
     int32_t status;
-    expect(saphyr_new_pieces(false, &parser), SAPHYR_OK, "a text in pieces");
+    expect(saphyr_new_pieces(false, 0, 0, &parser), SAPHYR_OK, "a text in pieces");
     for (size_t at = 0; at < sizeof pieces / sizeof *pieces; at++) {
         bool is_last = at + 1 == sizeof pieces / sizeof *pieces;
         expect(add(&parser, pieces[at].piece), SAPHYR_OK, pieces[at].piece);
@@ -270,7 +270,7 @@ static void refuses_pieces(void) {
     saphyr_parser parser = {0};
     saphyr_event event = {0};
     int32_t status;
-    expect(saphyr_new_pieces(false, &parser), SAPHYR_OK, "a text in pieces");
+    expect(saphyr_new_pieces(false, 0, 0, &parser), SAPHYR_OK, "a text in pieces");
     for (size_t at = 0; at < sizeof pieces / sizeof *pieces; at++) {
         expect(add(&parser, pieces[at].piece), pieces[at].status, pieces[at].piece);
     }
@@ -283,6 +283,39 @@ static void refuses_pieces(void) {
     saphyr_free(&parser);
 }
 
+/* NULL stands for no bytes, and for no parser to free. */
+static void takes_null(void) {
+    saphyr_parser parser = {0};
+    saphyr_event event = {0};
+    int32_t status;
+    saphyr_free(NULL);
+    expect(saphyr_valid_up_to(NULL, 0) == 0, true, "how many of no bytes are UTF-8");
+    expect(saphyr_new(NULL, 0, false, &parser), SAPHYR_OK, "no bytes");
+    expect(documents(&parser, &status), 0, "documents of no bytes");
+    expect(status, SAPHYR_END, "behind no bytes");
+    expect(saphyr_new_utf8(NULL, 0, false, &parser), SAPHYR_OK, "no bytes in UTF-8");
+    expect(documents(&parser, &status), 0, "documents of no bytes in UTF-8");
+    expect(saphyr_new_pieces(false, 0, 0, &parser), SAPHYR_OK, "a text in pieces");
+    expect(add(&parser, "a"), SAPHYR_OK, "a piece");
+    expect(saphyr_add(&parser, NULL, 0), SAPHYR_OK, "the end of a text, as no bytes");
+    expect(documents(&parser, &status), 1, "documents behind the end");
+    expect(status, SAPHYR_END, "behind the end");
+    expect(saphyr_next(&parser, &event), SAPHYR_END, "behind the end");
+    saphyr_free(&parser);
+}
+
+/* Each status has words of its own. */
+static void says_what_a_status_means(void) {
+    const int32_t statuses[] = {SAPHYR_OK, SAPHYR_EVENT, SAPHYR_MORE, SAPHYR_REFUSED, SAPHYR_NO_MEMORY,
+                                SAPHYR_NOT_UTF8, SAPHYR_NO_PARSER, SAPHYR_UTF16, SAPHYR_WHOLE, SAPHYR_TOO_MUCH, 99};
+    for (size_t one = 0; one < sizeof statuses / sizeof *statuses; one++) {
+        for (size_t other = 0; other < one; other++) {
+            bool is_same = !strcmp(saphyr_status_text(statuses[one]), saphyr_status_text(statuses[other]));
+            expect(is_same, false, saphyr_status_text(statuses[one]));
+        }
+    }
+}
+
 /* Nothing can be added to a whole text. Nothing is needed of a text that is refused. */
 static void adds_where_it_may(void) {
     saphyr_parser parser = {0};
@@ -292,11 +325,11 @@ static void adds_where_it_may(void) {
     expect(add(&parser, "b"), SAPHYR_WHOLE, "more of a whole text");
     expect(add(&parser, ""), SAPHYR_WHOLE, "the end of a whole text");
     expect(documents(&parser, &status), 1, "documents of a whole text");
-    expect(saphyr_new_pieces(false, &parser), SAPHYR_OK, "a text in pieces over a live parser");
-    expect(saphyr_peek(&parser, &event), SAPHYR_EVENT, "the start of a text of which nothing came");
+    expect(saphyr_new_pieces(false, 0, 0, &parser), SAPHYR_OK, "a text in pieces over a live parser");
+    expect(saphyr_next(&parser, &event), SAPHYR_EVENT, "the start of the stream, of which nothing came");
+    expect(event.kind, SAPHYR_STREAM_START, "the start of the stream");
+    expect(saphyr_peek(&parser, &event), SAPHYR_MORE, "a text of which nothing came");
     expect(add(&parser, "@\n--- b\n"), SAPHYR_OK, "a text that is refused");
-    expect(saphyr_next(&parser, &event), SAPHYR_EVENT, "what was shown");
-    expect(event.kind, SAPHYR_STREAM_START, "what was shown");
     expect(documents(&parser, &status), 0, "documents of a text that is refused");
     expect(status, SAPHYR_REFUSED, "a text that is refused");
     expect(add(&parser, "c"), SAPHYR_OK, "more of a text that is refused");
@@ -307,12 +340,67 @@ static void adds_where_it_may(void) {
     expect_empty(&parser, "a handle of a text in pieces that was freed");
 }
 
+/* Adds a text again and again, up to so many bytes, until a call does not ask for more. How many bytes came. */
+static size_t add_again(saphyr_parser *parser, const char *piece, size_t most, int32_t *status) {
+    size_t came = 0;
+    while ((documents(parser, status), *status == SAPHYR_MORE) && came < most) {
+        expect(add(parser, piece), SAPHYR_OK, piece);
+        came += strlen(piece);
+    }
+    return came;
+}
+
+/* Where more waits than may, that is said, and nothing is lost. A text of which little waits may have no end. */
+static void keeps_to_what_may_wait(void) {
+    static const struct {
+        const char *begins, *goes_on;
+    } waits[] = {{"[", "a, "}, {"\"", "a"}, {"# ", "a"}, {"- [", "a,\n"}, {"\n", "\n"}, {"? |\n", " a\n"}, {"a", "\n a"}};
+    static const char *const flows[] = {"- a\n", "a: b\n", "--- [a]\n", "'a':\n - b\n", "- |\n a\n"};
+    saphyr_parser parser = {0};
+    saphyr_event event = {0};
+    int32_t status;
+    for (size_t at = 0; at < sizeof waits / sizeof *waits; at++) {
+        expect(saphyr_new_pieces(false, 0, 1000, &parser), SAPHYR_OK, "a text of which little may wait");
+        expect(add(&parser, waits[at].begins), SAPHYR_OK, waits[at].begins);
+        size_t came = strlen(waits[at].begins) + add_again(&parser, waits[at].goes_on, 2000, &status);
+        expect(status, SAPHYR_TOO_MUCH, waits[at].begins);
+        expect(1000 < came && came < 1020, true, waits[at].begins);
+        expect(saphyr_peek(&parser, &event), SAPHYR_TOO_MUCH, "a peek where too much waits");
+        expect(event.kind == SAPHYR_NOTHING && is_bare(&event), true, "no event where too much waits");
+        expect(add(&parser, ""), SAPHYR_OK, "the end of a text of which too much waits");
+        documents(&parser, &status);
+        expect(status == SAPHYR_END || status == SAPHYR_REFUSED, true, "a text of which too much waited");
+    }
+    for (size_t at = 0; at < sizeof flows / sizeof *flows; at++) {
+        expect(saphyr_new_pieces(false, 0, 20, &parser), SAPHYR_OK, "a text of which very little may wait");
+        add_again(&parser, flows[at], 5000, &status);
+        expect(status, SAPHYR_MORE, flows[at]);
+    }
+    saphyr_free(&parser);
+}
+
+/* A text of more characters than may be is refused once its end is told, or before. */
+static void keeps_to_how_many_characters_may_come(void) {
+    saphyr_parser parser = {0};
+    saphyr_event event = {0};
+    int32_t status;
+    for (size_t limit = 1; limit < 10; limit++) {
+        expect(saphyr_new_pieces(false, limit, 0, &parser), SAPHYR_OK, "a text of few characters");
+        expect(add(&parser, "[\xc3\xa9, b, c]"), SAPHYR_OK, "a text of nine characters");
+        expect(add(&parser, ""), SAPHYR_OK, "the end of a text of nine characters");
+        while ((status = saphyr_next(&parser, &event)) == SAPHYR_EVENT) {
+        }
+        expect(status, limit < 9 ? SAPHYR_REFUSED : SAPHYR_END, "a text of nine characters");
+    }
+    saphyr_free(&parser);
+}
+
 int main(void) {
     expect((int32_t)saphyr_version(), (int32_t)SAPHYR_VERSION, "the version");
     frees_twice();
     refuses_bytes();
-    tells_the_first_bad_byte();
-    tells_utf16();
+    gives_the_first_bad_byte();
+    knows_utf16();
     replaces();
     writes_each_field();
     refuses_once();
@@ -320,6 +408,10 @@ int main(void) {
     keeps_tags();
     comes_at_once();
     refuses_pieces();
+    takes_null();
+    says_what_a_status_means();
+    keeps_to_what_may_wait();
+    keeps_to_how_many_characters_may_come();
     adds_where_it_may();
     return failed;
 }

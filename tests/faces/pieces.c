@@ -1,9 +1,10 @@
 /*
  * Reads texts from standard input, and prints the events of each with their places, as the cases of
  * crates/test_cases have them. Each comes in pieces of as many bytes as the argument says. Now and then the next event
- * is peeked before it is taken, and clones have to give it too.
+ * is peeked before it is taken, and clones have to give it too. With `lines` each piece is a line. Behind each comes a line
+ * with `~` and how many bytes came.
  *
- *     pieces COUNT
+ *     pieces COUNT | lines
  *
  * A text comes behind a line with `1` or `0`, for `keep_tags`, and how many bytes it has. Its lines end in the byte FF.
  */
@@ -53,11 +54,20 @@ static int32_t next_in_each_way(saphyr_parser *parser, saphyr_event *event) {
     return status;
 }
 
+/* How many bytes the next piece has. A `count` of 0 stands for a line. */
+static size_t piece_of(const uint8_t *text, size_t len, size_t count) {
+    size_t piece = 0;
+    while (piece < len && (count ? piece < count : !piece || text[piece - 1] != '\n')) {
+        piece++;
+    }
+    return piece;
+}
+
 static void print_case(const uint8_t *text, size_t len, bool keep_tags, size_t count) {
     saphyr_parser parser = {0};
     saphyr_event event = {0};
     size_t added = 0, calls = 0;
-    int32_t status = saphyr_new_pieces(keep_tags, &parser);
+    int32_t status = saphyr_new_pieces(keep_tags, 0, 0, &parser);
     while (status >= 0) {
         bool is_plain = len > 500 || calls++ % 4 > 0;
         status = is_plain ? saphyr_next(&parser, &event) : next_in_each_way(&parser, &event);
@@ -69,12 +79,15 @@ static void print_case(const uint8_t *text, size_t len, bool keep_tags, size_t c
             continue;
         }
         /* A copy, so that valgrind sees a read past the piece, or after the call. */
-        size_t piece = len - added < count ? len - added : count;
+        size_t piece = piece_of(text + added, len - added, count);
         uint8_t *bytes = malloc(piece + 1);
         memcpy(bytes, text + added, piece);
         status = saphyr_add(&parser, bytes, piece);
         free(bytes);
         added += piece;
+        if (!count) {
+            printf("~ %zu\n", added);
+        }
         if (status != SAPHYR_OK) {
             print_answer(status, &event);
         }
@@ -84,7 +97,7 @@ static void print_case(const uint8_t *text, size_t len, bool keep_tags, size_t c
 }
 
 int main(int argc, char **argv) {
-    size_t len, count = argc == 2 ? strtoul(argv[1], NULL, 10) : 1;
+    size_t len, count = argc == 2 ? strtoul(argv[1], NULL, 10) : 1; /* `lines` is no number, and so 0. */
     int keep_tags;
     line.file = stdout;
     while (scanf("%d %zu", &keep_tags, &len) == 2 && getchar() == '\n') {

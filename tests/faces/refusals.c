@@ -59,7 +59,7 @@ static void expect(bool holds, const char *said) {
 }
 
 /* The answer of a call as a line, which is kept in `into`. */
-static void tell(struct printer *into, int32_t status, const saphyr_event *event) {
+static void note_answer(struct printer *into, int32_t status, const saphyr_event *event) {
     into->used = 0;
     print_number(into, "", (size_t)(status + 10));
     print_number(into, " ", event->start.index);
@@ -104,7 +104,7 @@ static void clones(saphyr_parser *parser, const struct printer *shown) {
     int32_t status = saphyr_clone(parser, &copy);
     if (status == SAPHYR_OK) {
         status = saphyr_next(&copy, &event);
-        tell(&line, status, &event);
+        note_answer(&line, status, &event);
         expect(is_same(&line, shown) || (status == SAPHYR_NO_MEMORY && was_refused > refused_before), "a clone");
         if (status == SAPHYR_NO_MEMORY) {
             ends(&copy);
@@ -121,7 +121,7 @@ static void clones(saphyr_parser *parser, const struct printer *shown) {
 static int32_t next_as_shown(saphyr_parser *parser, saphyr_event *event, bool *lost) {
     static struct printer shown, again;
     int32_t status = saphyr_peek(parser, event);
-    tell(&shown, status, event);
+    note_answer(&shown, status, event);
     if (status == SAPHYR_MORE) {
         return status;
     }
@@ -132,14 +132,14 @@ static int32_t next_as_shown(saphyr_parser *parser, saphyr_event *event, bool *l
     expect(saphyr_peek(parser, event) == status, "another event is shown");
     bool is_refusal = status == SAPHYR_REFUSED && now.count == 0, refused_before = was_refused;
     status = saphyr_next(parser, event);
-    tell(&again, status, event);
+    note_answer(&again, status, event);
     bool has_no_copy = is_refusal && status == SAPHYR_NO_MEMORY && was_refused > refused_before;
     expect(is_same(&shown, &again) || has_no_copy, "what was shown is not handed out");
     return status;
 }
 
 static int32_t make(bool keep_tags, saphyr_parser *parser) {
-    return now.count ? saphyr_new_pieces(keep_tags, parser) : saphyr_new(now.text, now.len, keep_tags, parser);
+    return now.count ? saphyr_new_pieces(keep_tags, 0, 0, parser) : saphyr_new(now.text, now.len, keep_tags, parser);
 }
 
 /* Parses the text, and writes its events. Whether all of them came. */
@@ -161,7 +161,7 @@ static bool parses(bool keep_tags, FILE *events) {
             lost = added == SAPHYR_NO_MEMORY;
             expect(added == SAPHYR_OK || lost, "a piece isn't added");
         } else if (status != SAPHYR_NO_MEMORY) {
-            tell(&line, status, &event);
+            note_answer(&line, status, &event);
             fwrite(line.bytes, 1, line.used, events);
             is_whole = status != SAPHYR_EVENT;
         }

@@ -1,9 +1,9 @@
 //! Checks YAML files, and says what is wrong with them.
 //!
-//!     check_yaml [--events] [--quiet] [--max-depth N] [--max-nodes N] [FILE..]
+//!     check_yaml [OPTION..] [--] [FILE..]
 //!
-//! `-` names standard input. The status is 0 if all files are right and 1 if one has a fault or a warning. It is
-//! 2 if the call is wrong, a file can't be read or something can't be written.
+//! `-` names standard input. The status is 0 if no file has an error and 1 if one has. It is 2 if the call is wrong, a
+//! file can't be read or something can't be written.
 #![tactic(auto)]
 
 ghost use Rattle.std.specs.Prelude.{◌≡◌};
@@ -19,7 +19,7 @@ use yaml_check::{
     visible,
 };
 
-const VERSION: &str = "check_yaml 0.3.3+rattle.2";
+const VERSION: &str = "check_yaml 0.3.3+rattle.3";
 
 fn main(rt: HostRuntime) -> ExitCode {
     let alloc = rt.alloc();
@@ -74,7 +74,7 @@ fn refuse(rt: &HostRuntime, text: &str) -> ExitCode
     ExitCode::from(2)
 }
 
-// Checks each file. If one is not checked, says why.
+// Checks each file. If one is not checked, says why. Once something can't be written, no more is.
 fn check_files(rt: &HostRuntime, options: Options, files: &[&str]) -> ExitCode {
     let mut answers = Vec::new(rt.alloc());
     for name in files {
@@ -85,8 +85,11 @@ fn check_files(rt: &HostRuntime, options: Options, files: &[&str]) -> ExitCode {
         if answers.push(answer).is_err() {
             return refuse(rt, "out of memory");
         }
+        if let Err(CheckFault::CantWrite) = answer {
+            break;
+        }
     }
-    ExitCode::from(status_of(&answers))
+    ExitCode::from(status_of(&answers, options.strict))
 }
 
 // Says why a file was not checked.
@@ -128,6 +131,6 @@ fn check_named<W: Write>(
     }
     match File::open(rt, name) {
         Ok(mut file) => check_source(alloc, name, &mut file, options, out),
-        Err(_) => Err(CheckFault::CantRead),
+        Err(error) => Err(CheckFault::CantRead(error)),
     }
 }

@@ -1,6 +1,6 @@
 -- A claim on tokens and the parts that they stand for: where it holds of the pieces of a forest, it holds of the whole.
-use Rattle.std.proofs.Common.{◌≡◌, ◌⊎◌, ℕ, Bool, true, false, List, [], ◌∷◌, ◌++◌, map, Option, Some, None, option_map, encode_utf8_all, refl, sym, ap, subst, inl, inr, append_assoc, append-nil}
-use Rattle.saphyr_scanner.specs.Grammar.Forest.{Tag, NonSpecific, Directive, Version, Properties, no_properties, Style, Plain, Node, Alias, Scalar, Seq, Map, Nodes, NoNode, MoreNodes, Pairs, NoPair, MorePairs, left_out, Document, Forest}
+use Rattle.std.proofs.Common.{◌≡◌, ◌⊎◌, ℕ, Bool, true, false, List, [], ◌∷◌, ◌++◌, map, Option, Some, None, option_map, encode_utf8_all, refl, sym, ap, subst, inl, inr, append_assoc, append-nil, arith}
+use Rattle.saphyr_scanner.specs.Grammar.Forest.{Tag, Directive, Properties, no_properties, Style, Plain, Node, Alias, Scalar, Seq, Map, Nodes, NoNode, MoreNodes, Pairs, NoPair, MorePairs, left_out, Document, Forest}
 use Rattle.saphyr_scanner.specs.Grammar.Tokens as tokens
 use Rattle.saphyr_scanner.specs.Grammar.Tokens.{Kind, alias_token, anchor_token, tag_token, scalar_token, directive_token}
 use Rattle.saphyr_scanner.specs.Grammar.TokenGrammar as grammar
@@ -121,12 +121,10 @@ module _ (W : List Kind → List Part → Type 0) (a : AddsUp W) where
   -- ## Properties and scalars
 
   tag_single : (tag : Tag) → IsSingle (tag_token tag)
-  tag_single NonSpecific = tt
-  tag_single _ = tt
+  tag_single u0 = grind arith
 
   directive_single : (d : Directive) → IsSingle (directive_token d)
-  directive_single (Version major minor) = tt
-  directive_single _ = tt
+  directive_single u0 = grind arith
 
   properties : (anchor : Option (List ℕ)) (tag : Option Tag) (t : List Kind)
       → AreBoth (option_map anchor_token anchor) (option_map tag_token tag) t → W t []
@@ -139,8 +137,7 @@ module _ (W : List Kind → List Part → Type 0) (a : AddsUp W) where
       behind (tag_token tag) _ t [] h (tag_single tag) (a.single (anchor_token name) tt)
 
   scalar : (p : Properties) (style : Style) (value : List ℕ) (t : List Kind) → YieldsScalar p style value t → W t []
-  scalar p style value t (inl h) = alone (scalar_token style value) t h tt
-  scalar p style value t (inr h) = none t h.3
+  scalar p style value t u0 = grind arith
 
   -- ## Nodes that may be left out, and pairs
 
@@ -152,8 +149,7 @@ module _ (W : List Kind → List Part → Type 0) (a : AddsUp W) where
 
   optional : (n : Node) (N : List Kind → Type 0) (t : List Kind) → Holds N (node_parts n) → YieldsOptional n N t
       → W t (node_parts n)
-  optional n N t g (inl h) = put t [] (node_parts n) h.1 (is_left_out n h.0)
-  optional n N t g (inr h) = g t h
+  optional n u0 t g u1 = grind (arith, put, is_left_out)
 
   key : (n : Node) (N : List Kind → Type 0) (t : List Kind) → Holds N (node_parts n) → YieldsMarkedKey n N t
       → W t (node_parts n)
@@ -192,20 +188,16 @@ module _ (W : List Kind → List Part → Type 0) (a : AddsUp W) where
 
   pair_and_others : (m n : Node) (qs : Pairs) (s u t : List Kind) → t ≡ s ++ u → W s (node_parts m ++ node_parts n)
       → W u (pair_parts qs) → W t (pair_parts (MorePairs m n qs))
-  pair_and_others m n qs s u t e x y =
-      put t (s ++ u) (pair_parts (MorePairs m n qs)) e (rw (append_assoc (node_parts m) (node_parts n)
-      (pair_parts qs)) at (a.both s u (node_parts m ++ node_parts n) (pair_parts qs) x y))
+  pair_and_others m n qs s u t e x y = grind (arith, put, append_assoc)
 
   list_end : (t : List Kind) → IsListEnd t → W t []
-  list_end t (inl h) = none t h
-  list_end t (inr h) = alone tokens.FlowEntry t h tt
+  list_end t u0 = grind arith
 
   -- an entry of brackets, and those after it
   entry : (n : Node) (ns : Nodes) (s u : List Kind) → Holds (YieldsNode n InFlow) (node_parts n)
       → Holds (YieldsPairEntry n) (node_parts n) → YieldsNode n InFlow s ⊎ YieldsPairEntry n s → W u (entry_parts ns)
       → W (s ++ u) (entry_parts (MoreNodes n ns))
-  entry n ns s u f g (inl h) x = a.both s u (node_parts n) (entry_parts ns) (f s h) x
-  entry n ns s u f g (inr h) x = a.both s u (node_parts n) (entry_parts ns) (g s h) x
+  entry n ns s u f g u0 x = grind arith
 
   -- ## Collections
 
@@ -219,10 +211,7 @@ module _ (W : List Kind → List Part → Type 0) (a : AddsUp W) where
   between : (c : Collection) (p : Properties) (N : List Kind → Type 0) (ps : List Part) (front t : List Kind)
       → YieldProperties p front → Holds N ps → grammar.IsBetween (opening c) (closing c) N t
       → W (front ++ t) (opening_part c p ∷ (ps ++ closing_part c ∷ []))
-  between c p N ps front t y g h =
-      put (front ++ t) (front ++ (opening c ∷ (h.0 ++ closing c ∷ []))) (opening_part c p ∷ (ps ++ closing_part c ∷ []))
-      (ap (λ (l : List Kind). front ++ l) h.2)
-      (a.collection c p front h.0 ps y (properties p.anchor p.tag front y) (g h.0 h.1))
+  between c p u0 ps front t y g h = grind (arith, put, properties)
 
   sequence : (p : Properties) (ns : Nodes) (c : Context) (F B : List Kind → Type 0) (front t : List Kind)
       → YieldProperties p front → Holds F (entry_parts ns) → Holds B (entry_parts ns)

@@ -1,5 +1,5 @@
 -- Parts without aliases, anchors and tags: whatever comes before them, they have events.
-use Rattle.std.proofs.Common.{◌≡◌, List, [], ◌∷◌, None, refl}
+use Rattle.std.proofs.Common.{◌≡◌, List, [], ◌∷◌, None, refl, arith}
 use Rattle.saphyr_scanner.specs.Grammar.Forest.{no_properties}
 use Rattle.event_laws.specs.Anchors.{anchor_of, anchors}
 use Rattle.event_laws.specs.Preorder.{Part, Reference, Leaf, OpenSequence, OpenMapping}
@@ -16,10 +16,7 @@ AreBare [] = Unit {0}
 AreBare (p ∷ ps) = IsBarePart p × AreBare ps
 
 no_anchor : (p : Part) → IsBarePart p → anchor_of p ≡ None
-no_anchor (Leaf p s v) h = cc
-no_anchor (OpenSequence p) h = cc
-no_anchor (OpenMapping p) h = cc
-no_anchor _ h = refl
+no_anchor k h = grind arith
 
 pub bare_anchors : (ps : List Part) → AreBare ps → anchors ps ≡ 0
 bare_anchors [] h = refl

@@ -1,6 +1,6 @@
 -- The events, but for their spans, are decided by the kinds of the tokens.
 use Rattle.std.specs.Prelude.{is_some}
-use Rattle.std.proofs.Common.{◌≡◌, ◌≢◌, ℕ, zero, suc, ◌<◌, Bool, false, List, [], ◌∷◌, ◌++◌, map, Option, None, Result, Ok, Err, refl, sym, ap, ◌∙◌, arith, ◌⊎◌, inl, inr}
+use Rattle.std.proofs.Common.{◌≡◌, ◌≢◌, ℕ, zero, suc, ◌<◌, Bool, false, List, [], ◌∷◌, ◌++◌, map, Option, None, Result, Ok, refl, sym, ap, ◌∙◌, arith, ◌⊎◌, inl, inr}
 use Rattle.std.proofs.lemmas.List.{map-append}
 use Rattle.saphyr_scalar.specs.declared.scalar.fault.Refusal.{Refusal}
 use Rattle.saphyr_scanner.specs.Grammar.Tokens as tokens
@@ -10,11 +10,11 @@ use Rattle.saphyr_machine.specs.declared.state.State.{State}
 use Rattle.saphyr_machine.specs.declared.state.State.TheVariants as state
 use Rattle.saphyr_machine.specs.Events.{Happening}
 use Rattle.event_laws.specs.Premises.{DocumentMarker, GivesFirst, events_behind_marker}
-use Rattle.saphyr_machine.specs.Steps.Machine.{Machine, Told}
+use Rattle.saphyr_machine.specs.Steps.Machine.{Machine, Emitted}
 use Rattle.saphyr_machine.specs.Steps.Expected.{event_step, event_step_at}
 use Rattle.saphyr_machine.specs.Answer.{Answer, answer_of_step, remaining_answer, machine_size}
 use Rattle.saphyr_machine.specs.Cursor.{at_start, keeping_tags, to_come}
-use Rattle.event_laws.specs.Exactly.{GivesExactly, TellTheSame, kinds, answer_of_tokens}
+use Rattle.event_laws.specs.Exactly.{GivesExactly, EmitTheSame, kinds, answer_of_tokens}
 use Rattle.event_laws.specs.More.{marker_token}
 use Rattle.saphyr_machine.proofs.Unroll.{unroll, over, shrinks_at}
 use Rattle.event_laws.specs.EventsTaken.{no_span}
@@ -27,7 +27,7 @@ use Rattle.event_laws.proofs.Happenings.{happenings_of}
 
 -- the same events but for their spans, and a fault after both or none
 record Alike (a b : Answer) : Type 0 where
-  told : happenings_of b ≡ happenings_of a
+  emitted : happenings_of b ≡ happenings_of a
   fault : is_some b.fault ≡ is_some a.fault
 
 over_too : (s : State) → s ≡ state.End → placeless_state s ≡ state.End
@@ -36,25 +36,24 @@ over_too s e = rw e refl
 not_over : (s : State) → s ≢ state.End → placeless_state s ≢ state.End
 not_over s h = grind arith
 
-delivers_alike : (p q : Result Told Refusal) → Same p q
-    → ((x : Told) → p ≡ Ok x → Alike (remaining_answer x.machine) (remaining_answer (placeless x.machine)))
+delivers_alike : (p q : Result Emitted Refusal) → Same p q
+    → ((x : Emitted) → p ≡ Ok x → Alike (remaining_answer x.machine) (remaining_answer (placeless x.machine)))
     → Alike (answer_of_step p remaining_answer) (answer_of_step q remaining_answer)
-delivers_alike (Ok x) q e h = let behind =
-    h x refl in rw e (record { told = ap (λ es. x.what ∷ es) behind.told; fault = behind.fault })
-delivers_alike (Err f) q e h = rw e.1 (record { told = refl; fault = refl })
+delivers_alike u0 q e h = grind arith
 
 as_before : (a c b d : Answer) → a ≡ c → b ≡ d → Alike c d → Alike a b
-as_before a c b d e f h = record { told = ap happenings_of f ∙ h.told ∙ sym (ap happenings_of e); fault = cc }
+as_before a c b d e f h = record { emitted = ap happenings_of f ∙ h.emitted ∙ sym (ap happenings_of e); fault = cc }
 
 first_step : (m : Machine)
-    → ((x : Told) → event_step m ≡ Ok x → Alike (remaining_answer x.machine) (remaining_answer (placeless x.machine)))
+    → ((x : Emitted) → event_step m ≡ Ok x
+    → Alike (remaining_answer x.machine) (remaining_answer (placeless x.machine)))
     → Alike (remaining_answer m) (remaining_answer (placeless m))
 unfolding event_step
 first_step m next = by (ended m.state)
   where
     by : (m.state ≡ state.End) ⊎ (m.state ≢ state.End) → Alike (remaining_answer m) (remaining_answer (placeless m))
     by (inl e) = as_before _ _ _ _ (over m e) (over (placeless m) (over_too m.state e))
-        (record { told = refl; fault = refl })
+        (record { emitted = refl; fault = refl })
     by (inr h) = as_before _ _ _ _ (unroll m h) (unroll (placeless m) (not_over m.state h))
         (delivers_alike (event_step_at m.state m) (event_step_at (placeless_state m.state) (placeless m))
         (steps_same m.state m) next)
@@ -81,11 +80,11 @@ alike keep a b e =
     let x = runs (suc (machine_size (start keep a))) (start keep a) (omega arith) in
     let y = runs (suc (machine_size (start keep b))) (start keep b) (omega arith) in
     let same : placeless (start keep a) ≡ placeless (start keep b) = cc (same_pieces a.pieces b.pieces e) in
-    record { told = cc; fault = cc }
+    record { emitted = cc; fault = cc }
 
-pub tells_too : (keep : Bool) (a b : Remaining) → kinds a.pieces ≡ kinds b.pieces
-    → TellTheSame (to_come (keeping_tags keep (at_start a))) (to_come (keeping_tags keep (at_start b)))
-tells_too keep a b e = let same = alike keep b a (sym e) in record { told = same.told; fault = same.fault }
+pub emits_too : (keep : Bool) (a b : Remaining) → kinds a.pieces ≡ kinds b.pieces
+    → EmitTheSame (to_come (keeping_tags keep (at_start a))) (to_come (keeping_tags keep (at_start b)))
+emits_too keep a b e = let same = alike keep b a (sym e) in record { emitted = same.emitted; fault = same.fault }
 
 none_if : {X : Type 0} (o : Option X) → is_some o ≡ false → o ≡ None
 none_if o e = grind arith
@@ -95,12 +94,12 @@ pub exactly_too : (keep : Bool) (a b : Remaining) (es : List Happening) → kind
     → GivesExactly es (to_come (keeping_tags keep (at_start b)))
 exactly_too keep a b es e g =
     let same = alike keep a b e in
-    (none_if (to_come (keeping_tags keep (at_start b))).fault (same.fault ∙ ap is_some g.0), same.told ∙ g.1)
+    (none_if (to_come (keeping_tags keep (at_start b))).fault (same.fault ∙ ap is_some g.0), same.emitted ∙ g.1)
 
 pub first_too : (keep : Bool) (a b : Remaining) (es : List Happening) → kinds a.pieces ≡ kinds b.pieces
     → GivesFirst es (to_come (keeping_tags keep (at_start a)))
     → GivesFirst es (to_come (keeping_tags keep (at_start b)))
-first_too keep a b es e g = (g.0, (alike keep a b e).told ∙ g.1)
+first_too keep a b es e g = (g.0, (alike keep a b e).emitted ∙ g.1)
 
 -- ## Closed beginnings
 

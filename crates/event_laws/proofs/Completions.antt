@@ -1,6 +1,6 @@
 -- Whatever is open can be closed: a shortest completion of each state, whose events depend on nothing before them, and
 -- have its tokens.
-use Rattle.std.proofs.Common.{◌≡◌, ◌≢◌, List, [], ◌∷◌, ◌++◌, Some, refl, inl, inr}
+use Rattle.std.proofs.Common.{◌≡◌, ◌≢◌, List, [], ◌∷◌, ◌++◌, Some, refl, inl, inr, arith}
 use Rattle.saphyr_scalar.specs.declared.scalar.position.Span.{Span}
 use Rattle.saphyr_scalar.specs.declared.scalar.style.ScalarStyle.TheVariants.{Plain}
 use Rattle.saphyr_scanner.specs.Grammar.Forest as forest
@@ -16,7 +16,7 @@ use Rattle.event_laws.specs.EventsTaken as taking
 use Rattle.event_laws.specs.Preorder.{Part, OpenStream, CloseStream, CloseDocument, Leaf, CloseSequence, CloseMapping}
 use Rattle.saphyr_machine.specs.Events.{Happening, empty_scalar}
 use Rattle.saphyr_machine.specs.Events as events
-use Rattle.event_laws.proofs.Told.Telling.{Memory}
+use Rattle.event_laws.proofs.Emitted.Emitting.{Memory}
 use Rattle.event_laws.proofs.Remembering.{after, event_in, events_in}
 use Rattle.event_laws.proofs.Turned.Following.{Claim, Then, Exactly, IsNodeOf, IsOptionalOf, IsSkipped, IsAnyValueOf, FirstEntries, OtherEntries, FirstPairs, OtherPairs, BlockEntries, BlockPairs, InSequence, AtPairEnd, AtPairValue, InMapping, InBlockPairs, FollowsStates, IsOutside, IsInsideDocument, IsAlive, Starts}
 use Rattle.event_laws.proofs.Turned.Turning.{put}
@@ -25,11 +25,11 @@ use Rattle.event_laws.proofs.Turned.Block.{one_entry}
 
 -- ## Events of parts, whatever was remembered before them
 
-abbrev TellsAlways : List Part → List Happening → Type 0
-TellsAlways ps es = (e : Memory) → events_in e ps ≡ Some es
+abbrev EmitsAlways : List Part → List Happening → Type 0
+EmitsAlways ps es = (e : Memory) → events_in e ps ≡ Some es
 
 behind_part : (p : Part) (ps : List Part) (w : Happening) (es : List Happening)
-    → ((e : Memory) → event_in e p ≡ Some w) → TellsAlways ps es → TellsAlways (p ∷ ps) (w ∷ es)
+    → ((e : Memory) → event_in e p ≡ Some w) → EmitsAlways ps es → EmitsAlways (p ∷ ps) (w ∷ es)
 behind_part p ps w es h k e = cc (h e, k (after p e))
 
 -- ## Completions
@@ -43,28 +43,28 @@ Have es ts = HaveTokens [] es ts
 pub record Completion (s : State) (ss : List State) : Type 0 where
   pub kinds : List Kind
   pub parts : List Part
-  pub told : List Happening
+  pub emitted : List Happening
   pub follows : FollowsStates s ss kinds parts
   pub starts : (ahead : List Kind) → Starts s ahead kinds
   pub bare : AreBare parts
-  pub tells : (e : Memory) → events_in e parts ≡ Some told
-  pub have : HaveTokens [] (unplaced_events told) (unplaced_tokens kinds)
-  pub some : told ≢ []
+  pub emits : (e : Memory) → events_in e parts ≡ Some emitted
+  pub have : HaveTokens [] (unplaced_events emitted) (unplaced_tokens kinds)
+  pub some : emitted ≢ []
 
 complete : (s : State) (ss : List State) (kinds : List Kind) (first : Part) (parts : List Part) (what : Happening)
-    (told : List Happening) → FollowsStates s ss kinds (first ∷ parts)
+    (emitted : List Happening) → FollowsStates s ss kinds (first ∷ parts)
     → ((ahead : List Kind) → Starts s ahead kinds) → AreBare (first ∷ parts)
-    → ((e : Memory) → event_in e first ≡ Some what) → TellsAlways parts told
-    → Have (unplaced_events (what ∷ told)) (unplaced_tokens kinds)
+    → ((e : Memory) → event_in e first ≡ Some what) → EmitsAlways parts emitted
+    → Have (unplaced_events (what ∷ emitted)) (unplaced_tokens kinds)
     → Completion s ss
-complete s ss kinds first parts what told follows starts bare is others have = record {
+complete s ss kinds first parts what emitted follows starts bare is others have = record {
   kinds = kinds;
   parts = first ∷ parts;
-  told = what ∷ told;
+  emitted = what ∷ emitted;
   follows = follows;
   starts = starts;
   bare = bare;
-  tells = behind_part first parts what told is others;
+  emits = behind_part first parts what emitted is others;
   have = have;
   some = λ e. cc;
 }
@@ -122,16 +122,16 @@ outside state.DocumentEnd i = complete _ _ (StreamEnd ∷ []) CloseDocument (Clo
     (tt, (tt, tt)) (λ e. refl) (λ e. refl) (alone events.DocumentEnd refl stream_ends)
 outside _ i = elim i [ ]
 
-mapping_closes : (ps : List Part) (es : List Happening) → TellsAlways ps es
-    → TellsAlways (CloseMapping ∷ ps) (events.MappingEnd ∷ es)
+mapping_closes : (ps : List Part) (es : List Happening) → EmitsAlways ps es
+    → EmitsAlways (CloseMapping ∷ ps) (events.MappingEnd ∷ es)
 mapping_closes ps es = behind_part CloseMapping ps events.MappingEnd es (λ e. refl)
 
-sequence_closes : (ps : List Part) (es : List Happening) → TellsAlways ps es
-    → TellsAlways (CloseSequence ∷ ps) (events.SequenceEnd ∷ es)
+sequence_closes : (ps : List Part) (es : List Happening) → EmitsAlways ps es
+    → EmitsAlways (CloseSequence ∷ ps) (events.SequenceEnd ∷ es)
 sequence_closes ps es = behind_part CloseSequence ps events.SequenceEnd es (λ e. refl)
 
-pair_closes : (ps : List Part) (es : List Happening) → TellsAlways ps es
-    → TellsAlways (CloseMapping ∷ CloseSequence ∷ ps) (events.MappingEnd ∷ events.SequenceEnd ∷ es)
+pair_closes : (ps : List Part) (es : List Happening) → EmitsAlways ps es
+    → EmitsAlways (CloseMapping ∷ CloseSequence ∷ ps) (events.MappingEnd ∷ events.SequenceEnd ∷ es)
 pair_closes ps es h = mapping_closes (CloseSequence ∷ ps) (events.SequenceEnd ∷ es) (sequence_closes ps es h)
 
 abbrev leaf : Part
@@ -158,8 +158,7 @@ block_pairs_end R ks ps r = collection_ends BlockPairs R (BlockEnd ∷ []) Close
 
 pair_ends : (R : Claim) (ks : List Kind) (ps : List Part) → R ks ps
     → AtPairEnd R (FlowSequenceEnd ∷ ks) (CloseMapping ∷ CloseSequence ∷ ps)
-pair_ends R ks ps r = put (Exactly [] (CloseMapping ∷ [])) (InSequence R) [] (CloseMapping ∷ []) _ _ (refl, refl)
-    (entries_end R ks ps r)
+pair_ends u0 ks ps r = grind (arith, put, entries_end)
 
 pair_value : (R : Claim) (ks : List Kind) (ps : List Part) → R ks ps
     → AtPairValue R (FlowSequenceEnd ∷ ks) (leaf ∷ CloseMapping ∷ CloseSequence ∷ ps)
@@ -167,100 +166,101 @@ pair_value R ks ps r = put (IsAnyValueOf InFlow) (AtPairEnd R) [] (leaf ∷ []) 
     (pair_ends R ks ps r)
 
 inside : (s other : State) (ss : List State) → IsInsideDocument s → Completion other ss → Completion s (other ∷ ss)
-inside state.DocumentContent o ss i c = complete _ _ c.kinds leaf c.parts empty_scalar c.told
+inside state.DocumentContent o ss i c = complete _ _ c.kinds leaf c.parts empty_scalar c.emitted
     (put (IsOptionalOf InBlock) (FollowsStates o ss) [] (leaf ∷ []) c.kinds c.parts
     (forest.left_out, inl (refl, refl), refl) c.follows) (λ ahead. tt) (refl, c.bare)
-    (λ e. refl) c.tells
+    (λ e. refl) c.emits
     (left_out c.have)
-inside state.BlockNode o ss i c = complete _ _ (scalar_token Plain [] ∷ c.kinds) leaf c.parts empty_scalar c.told
+inside state.BlockNode o ss i c = complete _ _ (scalar_token Plain [] ∷ c.kinds) leaf c.parts empty_scalar c.emitted
     (put (IsNodeOf InBlock) (FollowsStates o ss) (scalar_token Plain [] ∷ []) (leaf ∷ []) c.kinds c.parts
     (forest.left_out, ([], scalar_token Plain [] ∷ [], refl, inl refl, refl), refl) c.follows) (λ ahead. tt)
     (refl, c.bare)
-    (λ e. refl) c.tells
+    (λ e. refl) c.emits
     (with_token empty_scalar (scalar_token Plain []) (inl (([], _, inl refl, refl, refl), refl)) c.have)
 inside state.BlockSequenceEntry o ss i c = complete _ _ (BlockEnd ∷ c.kinds) CloseSequence c.parts
-    events.SequenceEnd c.told
+    events.SequenceEnd c.emitted
     (collection_ends BlockEntries (FollowsStates o ss) (BlockEnd ∷ []) CloseSequence c.kinds c.parts
     (NoNode, refl, refl) c.follows) (λ ahead. tt) (tt, c.bare)
-    (λ e. refl) c.tells
+    (λ e. refl) c.emits
     (with_token events.SequenceEnd BlockEnd (inr (_, inr refl, refl)) c.have)
 inside state.IndentlessSequenceEntry o ss i c = complete _ _ (BlockEntry ∷ c.kinds) leaf (CloseSequence ∷ c.parts)
-    empty_scalar (events.SequenceEnd ∷ c.told)
+    empty_scalar (events.SequenceEnd ∷ c.emitted)
     (one_entry (Then (Exactly [] (CloseSequence ∷ [])) (FollowsStates o ss)) c.kinds (leaf ∷ CloseSequence ∷ c.parts)
     (put (IsOptionalOf InBlock) _ [] (leaf ∷ []) c.kinds (CloseSequence ∷ c.parts)
     (forest.left_out, inl (refl, refl), refl)
     (collection_ends BlockEntries (FollowsStates o ss) [] CloseSequence c.kinds c.parts (NoNode, refl, refl)
     c.follows))) (λ ahead b. tt) (refl, (tt, c.bare))
-    (λ e. refl) (sequence_closes c.parts c.told c.tells)
+    (λ e. refl) (sequence_closes c.parts c.emitted c.emits)
     (passing BlockEntry tt (left_out (alone events.SequenceEnd (inl refl) c.have)))
-inside state.BlockMappingKey o ss i c = complete _ _ (BlockEnd ∷ c.kinds) CloseMapping c.parts events.MappingEnd c.told
+inside state.BlockMappingKey o ss i c =
+    complete _ _ (BlockEnd ∷ c.kinds) CloseMapping c.parts events.MappingEnd c.emitted
     (block_pairs_end (FollowsStates o ss) c.kinds c.parts c.follows) (λ ahead b. absurd b) (tt, c.bare)
-    (λ e. refl) c.tells
+    (λ e. refl) c.emits
     (block_mapping_ended c.have)
 inside state.BlockMappingValue o ss i c = complete _ _ (Value ∷ BlockEnd ∷ c.kinds) leaf (CloseMapping ∷ c.parts)
-    empty_scalar (events.MappingEnd ∷ c.told) (inl
+    empty_scalar (events.MappingEnd ∷ c.emitted) (inl
     (marked_value InBlockMapping (InBlockPairs (FollowsStates o ss)) (BlockEnd ∷ c.kinds)
     (leaf ∷ CloseMapping ∷ c.parts)
     (put (IsOptionalOf InBlockMapping) (InBlockPairs (FollowsStates o ss)) [] (leaf ∷ []) _ _
     (forest.left_out, inl (refl, refl), refl) (block_pairs_end (FollowsStates o ss) c.kinds c.parts c.follows))))
     (λ ahead b. tt) (refl, (tt, c.bare))
-    (λ e. refl) (mapping_closes c.parts c.told c.tells)
+    (λ e. refl) (mapping_closes c.parts c.emitted c.emits)
     (passing Value tt (left_out (block_mapping_ended c.have)))
 inside state.FlowSequenceFirstEntry o ss i c = complete _ _ (FlowSequenceEnd ∷ c.kinds) CloseSequence c.parts
-    events.SequenceEnd c.told
+    events.SequenceEnd c.emitted
     (collection_ends FirstEntries (FollowsStates o ss) (FlowSequenceEnd ∷ []) CloseSequence c.kinds c.parts
     (NoNode, refl, refl) c.follows) (λ ahead. tt) (tt, c.bare)
-    (λ e. refl) c.tells
+    (λ e. refl) c.emits
     (bracket_ended c.have)
 inside state.FlowSequenceEntry o ss i c = complete _ _ (FlowSequenceEnd ∷ c.kinds) CloseSequence c.parts
-    events.SequenceEnd c.told
+    events.SequenceEnd c.emitted
     (entries_end (FollowsStates o ss) c.kinds c.parts c.follows) (λ ahead. tt) (tt, c.bare)
-    (λ e. refl) c.tells
+    (λ e. refl) c.emits
     (bracket_ended c.have)
 inside state.FlowSequenceEntryMappingKey o ss i c =
     complete _ _ (FlowSequenceEnd ∷ c.kinds) leaf (leaf ∷ CloseMapping ∷ CloseSequence ∷ c.parts)
-    empty_scalar (empty_scalar ∷ events.MappingEnd ∷ events.SequenceEnd ∷ c.told)
+    empty_scalar (empty_scalar ∷ events.MappingEnd ∷ events.SequenceEnd ∷ c.emitted)
     (maybe (AtPairValue (FollowsStates o ss)) _ _ (pair_value (FollowsStates o ss) c.kinds c.parts c.follows))
     (λ ahead. tt) (refl, (refl, (tt, (tt, c.bare))))
     (λ e. refl) (behind_part leaf (CloseMapping ∷ CloseSequence ∷ c.parts) empty_scalar
-    (events.MappingEnd ∷ events.SequenceEnd ∷ c.told) (λ e. refl) (pair_closes c.parts c.told c.tells))
+    (events.MappingEnd ∷ events.SequenceEnd ∷ c.emitted) (λ e. refl) (pair_closes c.parts c.emitted c.emits))
     (left_out (left_out (pair_ended c.have)))
 inside state.FlowSequenceEntryMappingValue o ss i c =
     complete _ _ (FlowSequenceEnd ∷ c.kinds) leaf (CloseMapping ∷ CloseSequence ∷ c.parts)
-    empty_scalar (events.MappingEnd ∷ events.SequenceEnd ∷ c.told)
+    empty_scalar (events.MappingEnd ∷ events.SequenceEnd ∷ c.emitted)
     (pair_value (FollowsStates o ss) c.kinds c.parts c.follows) (λ ahead. tt) (refl, (tt, (tt, c.bare)))
-    (λ e. refl) (pair_closes c.parts c.told c.tells)
+    (λ e. refl) (pair_closes c.parts c.emitted c.emits)
     (left_out (pair_ended c.have))
 inside (state.FlowSequenceEntryMappingEnd place) o ss i c =
     complete _ _ (FlowSequenceEnd ∷ c.kinds) CloseMapping (CloseSequence ∷ c.parts)
-    events.MappingEnd (events.SequenceEnd ∷ c.told)
+    events.MappingEnd (events.SequenceEnd ∷ c.emitted)
     (pair_ends (FollowsStates o ss) c.kinds c.parts c.follows) (λ ahead. tt) (tt, (tt, c.bare))
-    (λ e. refl) (sequence_closes c.parts c.told c.tells)
+    (λ e. refl) (sequence_closes c.parts c.emitted c.emits)
     (pair_ended c.have)
 inside state.FlowMappingFirstKey o ss i c = complete _ _ (FlowMappingEnd ∷ c.kinds) CloseMapping c.parts
-    events.MappingEnd c.told
+    events.MappingEnd c.emitted
     (collection_ends FirstPairs (FollowsStates o ss) (FlowMappingEnd ∷ []) CloseMapping c.kinds c.parts
     (NoPair, refl, refl) c.follows) (λ ahead. tt) (tt, c.bare)
-    (λ e. refl) c.tells
+    (λ e. refl) c.emits
     (brace_ended c.have)
 inside state.FlowMappingKey o ss i c = complete _ _ (FlowMappingEnd ∷ c.kinds) CloseMapping c.parts
-    events.MappingEnd c.told
+    events.MappingEnd c.emitted
     (pairs_end (FollowsStates o ss) c.kinds c.parts c.follows) (λ ahead. tt) (tt, c.bare)
-    (λ e. refl) c.tells
+    (λ e. refl) c.emits
     (brace_ended c.have)
 inside state.FlowMappingValue o ss i c = complete _ _ (Value ∷ FlowMappingEnd ∷ c.kinds) leaf (CloseMapping ∷ c.parts)
-    empty_scalar (events.MappingEnd ∷ c.told)
+    empty_scalar (events.MappingEnd ∷ c.emitted)
     (any_value InFlow (InMapping (FollowsStates o ss)) _ _
     (marked_value InFlow (InMapping (FollowsStates o ss)) (FlowMappingEnd ∷ c.kinds) (leaf ∷ CloseMapping ∷ c.parts)
     (maybe (InMapping (FollowsStates o ss)) _ _ (pairs_end (FollowsStates o ss) c.kinds c.parts c.follows))))
     (λ ahead b. tt) (refl, (tt, c.bare))
-    (λ e. refl) (mapping_closes c.parts c.told c.tells)
+    (λ e. refl) (mapping_closes c.parts c.emitted c.emits)
     (passing Value tt (left_out (brace_ended c.have)))
 inside state.FlowMappingEmptyValue o ss i c = complete _ _ (FlowMappingEnd ∷ c.kinds) leaf (CloseMapping ∷ c.parts)
-    empty_scalar (events.MappingEnd ∷ c.told)
+    empty_scalar (events.MappingEnd ∷ c.emitted)
     (skip (InMapping (FollowsStates o ss)) _ _ (pairs_end (FollowsStates o ss) c.kinds c.parts c.follows))
     (λ ahead. tt) (refl, (tt, c.bare))
-    (λ e. refl) (mapping_closes c.parts c.told c.tells)
+    (λ e. refl) (mapping_closes c.parts c.emitted c.emits)
     (left_out (brace_ended c.have))
 inside _ o ss i c = elim i [ ]
 

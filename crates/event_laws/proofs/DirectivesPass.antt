@@ -10,7 +10,7 @@ use Rattle.saphyr_scanner.specs.Grammar.TokenGrammar.{AreMarks, AreEndsAndMarks}
 use Rattle.saphyr_machine.specs.declared.state.State.{State}
 use Rattle.saphyr_machine.specs.Steps.Machine.{Machine, with_meaning, is_listed, with_name}
 use Rattle.saphyr_machine.specs.Steps.Documents.{is_mark, is_end_or_mark, unpassed_token_from, unpassed_token, Declared, none_declared, directives_from, directives}
-use Rattle.event_laws.proofs.Told.Telling.{SpansByKinds, Memory, dressed, at}
+use Rattle.event_laws.proofs.Emitted.Emitting.{SpansByKinds, Memory, dressed, at}
 use Rattle.event_laws.proofs.Remembering.{declaring}
 use Rattle.event_laws.proofs.NameLaws.{still_unlisted, was_unlisted}
 

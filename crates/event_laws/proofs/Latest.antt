@@ -1,28 +1,22 @@
 -- The step by step search for an anchor finds the latest one.
-use Rattle.std.proofs.Common.{◌≡◌, ◌≢◌, ℕ, suc, Bool, true, false, List, [], ◌∷◌, ◌++◌, Option, Some, None, if◌then◌else◌, refl, sym, ap}
+use Rattle.std.proofs.Common.{◌≡◌, ◌≢◌, ℕ, suc, Bool, true, false, List, [], ◌∷◌, ◌++◌, Option, Some, None, if◌then◌else◌, refl, sym, ap, arith}
 use Rattle.std.proofs.lemmas.Slice.Eq.{bytes_eq-Decides}
-use Rattle.event_laws.specs.Preorder.{Part, opens_document, OpenDocument}
+use Rattle.event_laws.specs.Preorder.{Part, opens_document}
 use Rattle.event_laws.specs.Anchors.{anchor_of, anchors, is_named, latest_id, AreWithout, IsLatest}
 
 -- a part that opens a document has no anchor
 opens_none : (p : Part) (name : List ℕ) → anchor_of p ≡ Some name → opens_document p ≡ false
-opens_none (OpenDocument e ds) name h = cc
-opens_none _ name h = refl
+opens_none u0 name h = grind arith
 
 pub named : (name : List ℕ) → is_named name (Some name) ≡ true
 named name = (bytes_eq-Decides name name).1 refl
 
 pub named_only : (name : List ℕ) (other : Option (List ℕ)) → is_named name other ≡ true → other ≡ Some name
-named_only name None h = cc
-named_only name (Some other) h = cc ((bytes_eq-Decides name other).0 h)
+named_only name u0 h = grind (arith, bytes_eq-Decides)
 
 -- no anchor of the name is none that is found
 pub not_named : (name : List ℕ) (other : Option (List ℕ)) → other ≢ Some name → is_named name other ≡ false
-not_named name other h = go (is_named name other) refl
-  where
-    go : (b : Bool) → is_named name other ≡ b → is_named name other ≡ false
-    go false e = e
-    go true e = absurd (h (named_only name other e))
+not_named name other h = grind (arith, named_only)
 
 pub each : (name : List ℕ) (later : List Part) (part : Part) (earlier : List Part) → AreWithout name later
     → anchor_of part ≡ Some name → latest_id name (later ++ part ∷ earlier) ≡ Some (suc (anchors earlier))

@@ -1,5 +1,5 @@
 pub mod Promises
-pub mod Told
+pub mod Emitted
 pub mod Remembering
 pub mod NodeStarts
 pub mod NameLaws
@@ -18,7 +18,7 @@ pub mod Completions
 pub mod Sound
 pub mod Refusing
 pub mod TokensForm
-pub mod Beside
+pub mod Maps
 pub mod Longer
 pub mod Placeless
 pub mod ByKinds

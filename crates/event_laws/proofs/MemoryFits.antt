@@ -13,7 +13,7 @@ use Rattle.event_laws.specs.TagResolution.{prefix_in, prefix_declared_for}
 use Rattle.event_laws.specs.TagResolution as tag
 use Rattle.event_laws.specs.ForestEvents.{event_of_part, events_behind}
 use Rattle.saphyr_machine.specs.Steps.Machine.{Names, meaning, with_meaning, next_id}
-use Rattle.event_laws.proofs.Told.Telling.{Memory}
+use Rattle.event_laws.proofs.Emitted.Emitting.{Memory}
 use Rattle.event_laws.proofs.Remembering.{noted, declaring, after, own_id_in, resolve_any, with_properties, event_in, events_in}
 use Rattle.event_laws.proofs.NameLaws.{different, given_meaning}
 
@@ -62,24 +62,13 @@ Within b (p ∷ ps) = May b p × Within (is_inside_behind p b) ps
 id_is : (e : Memory) (n more : ℕ) → e.anchors.last ≡ n → n + suc more < 2 ^ 64 → next_id e.anchors ≡ suc n
 id_is e n more h l = omega (arith, h, l)
 
-own_same : (e : Memory) (front : List Part) (anchor : Option (List ℕ)) (more : ℕ) → e.anchors.last ≡ anchors front
-    → anchors front + one_more_anchor (option_map encode_utf8_all anchor) more < 2 ^ 64
-    → own_id_in e anchor ≡ part.own_id front anchor
-own_same e front anchor more h l = grind arith
-
 -- ## Tags
-
-resolve_any_same : (keep : Bool) (front : List Part) (names : Names (List ℕ)) (g : Option Tag)
-    → ((handle : Handle) → meaning (handle_bytes handle) names ≡ prefix_declared_for keep handle front)
-    → resolve_any names g ≡ tag.any_resolution keep g front
-resolve_any_same keep front names g h = grind arith
 
 properties_same : (make : ℕ → Option ResolvedTag → Happening) (keep : Bool) (front : List Part) (e : Memory)
     (p : Properties) (more : ℕ) → FitsInside keep front e
     → anchors front + one_more_anchor (option_map encode_utf8_all p.anchor) more < 2 ^ 64
     → with_properties make e p ≡ option_map (make (part.own_id front p.anchor)) (tag.any_resolution keep p.tag front)
-properties_same make keep front e p more h l =
-    cc (own_same e front p.anchor more h.count l, resolve_any_same keep front e.prefixes p.tag h.prefixes)
+properties_same make keep front e p more h l = grind arith
 
 -- ## The event of a part
 

@@ -1,5 +1,5 @@
 -- What names stand for, once one of them got a meaning.
-use Rattle.std.proofs.Common.{Ordering, Less, Equal, Greater, ◌≡◌, ◌≢◌, ℕ, Bool, true, false, cond, List, [], ◌∷◌, Option, Some, refl, sym, ap, ◌∙◌}
+use Rattle.std.proofs.Common.{Ordering, Less, Equal, Greater, ◌≡◌, ◌≢◌, ℕ, Bool, true, false, cond, List, [], ◌∷◌, Option, Some, refl, sym, ap, ◌∙◌, arith}
 use Rattle.std.specs.Prelude.{◌||◌, if◌then◌else◌}
 use Rattle.std.specs.BTreeMap.{is_at}
 use Rattle.std.specs.Map.{lookup}
@@ -21,28 +21,21 @@ behind_is_other a b h = sym (is_eq-slice_cmp a b) ∙ ap is_eq h
 -- the tests of two names on a third are not both passed, where that one is not the first
 order : {X : Type 0} (a b : Bool) (x y : X) (o : Option X) → (a ≡ true → b ≡ true → ⊥)
     → cond a (Some x) (cond b (Some y) o) ≡ cond b (Some y) (cond a (Some x) o)
-order true true x y o h = absurd (h refl refl)
-order true false x y o h = refl
-order false true x y o h = refl
-order false false x y o h = refl
+order k a x y o h = grind arith
 
 twice : {X : Type 0} (b : Bool) (x y : X) (o : Option X) → cond b (Some x) o ≡ cond b (Some x) (cond b (Some y) o)
-twice true x y o = refl
-twice false x y o = refl
+twice u0 x y o = grind arith
 
 meaning_found : {X : Type 0} → List ℕ → Names X → Option X
 meaning_found name es = lookup (λ (k : List ℕ). bytes_eq name k) es
 
 found_meaning : {X : Type 0} (name : List ℕ) (es : Names X) → meaning name es ≡ meaning_found name es
 unfolding meaning_found
-found_meaning name [] = refl
-found_meaning {X} name (e ∷ es) = cc (is_eq-slice_cmp name e.0, found_meaning name es)
+found_meaning name u0 = grind (arith, is_eq-slice_cmp)
 
 not_both : (name other key : List ℕ) → bytes_eq other key ≡ false → bytes_eq name key ≡ true
     → bytes_eq name other ≡ true → ⊥
-not_both name other key h a b =
-    let x : name ≡ key = (bytes_eq-Decides name key).0 a in
-    let y : name ≡ other = (bytes_eq-Decides name other).0 b in cc
+not_both name other key h a b = grind (arith, bytes_eq-Decides)
 
 given_found : {X : Type 0} (name other : List ℕ) (x : X) (es : Names X)
     → meaning_found name (with_meaning other x es) ≡ cond (bytes_eq name other) (Some x) (meaning_found name es)
@@ -64,20 +57,15 @@ given_found {X} name other x (e ∷ es) = by (slice_cmp nat_cmp other e.0) refl 
 
 pub given_meaning : {X : Type 0} (name other : List ℕ) (x : X) (es : Names X)
     → meaning name (with_meaning other x es) ≡ (if bytes_eq name other then Some x else meaning name es)
-given_meaning {X} name other x es =
-    cc (found_meaning name (with_meaning other x es), given_found name other x es, found_meaning name es)
+given_meaning {X} name other x es = grind (arith, found_meaning, given_found)
 
 -- ## Lists of names
 
 or_swapped : (a b r : Bool) → (a || (b || r)) ≡ (b || (a || r))
-or_swapped true true r = refl
-or_swapped true false r = refl
-or_swapped false true r = refl
-or_swapped false false r = refl
+or_swapped a b r = grind arith
 
 once : (a r : Bool) → (a || r) ≡ (a || (a || r))
-once true r = refl
-once false r = refl
+once u0 r = grind arith
 
 pub listed_test : (name other : List ℕ) (names : List (List ℕ))
     → is_listed name (with_name other names) ≡ (is_at (slice_cmp nat_cmp name) other || is_listed name names)
@@ -94,26 +82,13 @@ listed_test name other (k ∷ ks) = by (slice_cmp nat_cmp other k) refl (listed_
         cc (or_swapped (is_at (slice_cmp nat_cmp name) k) (is_at (slice_cmp nat_cmp name) other) (is_listed name ks))
 
 pub different : (a b : List ℕ) → a ≢ b → bytes_eq a b ≡ false
-different a b h = by (bytes_eq a b) refl
-  where
-    by : (t : Bool) → bytes_eq a b ≡ t → t ≡ false
-    by false e = refl
-    by true e = absurd (h ((bytes_eq-Decides a b).0 e))
+different a b h = grind (arith, bytes_eq-Decides)
 
 -- another name is listed if it was
 pub still_unlisted : (name other : List ℕ) (names : List (List ℕ)) → other ≢ name → is_listed name names ≡ false
     → is_listed name (with_name other names) ≡ false
-still_unlisted name other names h u =
-    let test = is_eq-slice_cmp name other ∙ different name other (λ e. h (sym e)) in
-    listed_test name other names ∙ rw (test, u) refl
+still_unlisted name other names h u = grind (arith, is_eq-slice_cmp, different, listed_test)
 
 pub was_unlisted : (name other : List ℕ) (names : List (List ℕ)) → is_listed name (with_name other names) ≡ false
     → (other ≢ name) × (is_listed name names ≡ false)
-was_unlisted name other names h =
-    let both : (is_at (slice_cmp nat_cmp name) other ≡ false) × (is_listed name names ≡ false) =
-    or_parts (is_at (slice_cmp nat_cmp name) other) (is_listed name names) (sym (listed_test name other names) ∙ h) in
-    let differ : bytes_eq name other ≡ false = sym (is_eq-slice_cmp name other) ∙ both.0 in (
-      (λ e. let same : bytes_eq name other ≡ true =
-          (bytes_eq-Decides name other).1 (sym e) in cc),
-      both.1,
-    )
+was_unlisted name other names h = grind (arith, or_parts, listed_test, is_eq-slice_cmp, bytes_eq-Decides)

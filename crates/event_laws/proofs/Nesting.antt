@@ -1,5 +1,5 @@
 -- The events of a forest nest, and so do those that are taken from a text.
-use Rattle.std.proofs.Common.{◌≡◌, Bool, List, [], ◌∷◌, ◌++◌, Option, Some, None, option_map, option_and_then, refl, sym, ap, ◌∙◌, append_assoc, ℕ}
+use Rattle.std.proofs.Common.{◌≡◌, Bool, List, [], ◌∷◌, ◌++◌, Option, Some, None, option_map, option_and_then, refl, sym, ap, ◌∙◌, append_assoc, ℕ, arith}
 use Rattle.saphyr_scanner.specs.Grammar.Forest.{Node, Alias, Scalar, Seq, Map, Nodes, NoNode, MoreNodes, Pairs, NoPair, MorePairs, Forest}
 use Rattle.saphyr_scalar.specs.declared.scalar.position.Span.{Span}
 use Rattle.event_laws.specs.Preorder as parts
@@ -23,10 +23,7 @@ record Begins (e : Option Happening) (o : Option (List Happening)) (es : List Ha
 
 first_and_others_begins : (e : Option Happening) (o : Option (List Happening)) (es : List Happening)
     → first_and_others e o ≡ Some es → Begins e o es
-first_and_others_begins (Some h) (Some hs) es p = record { first = h; others = hs; is = refl; are = refl; joined = cc }
-first_and_others_begins (Some h) None es p = absurd (cc)
-first_and_others_begins None (Some hs) es p = absurd (cc)
-first_and_others_begins None None es p = absurd (cc)
+first_and_others_begins u0 u1 es p = grind arith
 
 -- parts are passed, and their events lead from a nest to another
 record PassesParts (keep : Bool) (rest : List Part) (es : List Happening) (n m : Nest) : Type 0 where
@@ -56,8 +53,7 @@ no_part keep front rest es n p = record { front = front; more = es; are = p; sam
 
 mapped : {A : Type 0} (f : A → Happening) (o : Option A) (h : Happening) (n : Nest) (m : Option Nest)
     → ((x : A) → nest_behind_event (f x) n ≡ m) → option_map f o ≡ Some h → nest_behind_event h n ≡ m
-mapped f None h n m each p = absurd (cc)
-mapped f (Some x) h n m each p = cc (each x)
+mapped f u0 h n m each p = grind arith
 
 given : (e h : Happening) (n : Nest) (m : Option Nest) → nest_behind_event e n ≡ m → Some e ≡ Some h
     → nest_behind_event h n ≡ m
@@ -164,37 +160,20 @@ forest_nests forest keep es p =
 whole_along : (ending : Option Ending) (o : Option Nest) (f g : Nest → Option Nest)
     → ((n : Nest) → f n ≡ Some nest_behind_stream → IsWhole ending (g n))
     → option_and_then f o ≡ Some nest_behind_stream → IsWhole ending (option_and_then g o)
-whole_along ending None f g each e = absurd (cc)
-whole_along ending (Some n) f g each e = each n e
+whole_along ending u0 f g each e = grind arith
 
 -- A beginning of events that lead to the stream's end nests too, and is all of them if no fault cuts it off.
-pub whole_before : (ending : Option Ending) (told missing : List Happening) (n : Nest) → IsCut ending missing
-    → nest_behind_all (told ++ missing) n ≡ Some nest_behind_stream → IsWhole ending (nest_behind_all told n)
+pub whole_before : (ending : Option Ending) (emitted missing : List Happening) (n : Nest) → IsCut ending missing
+    → nest_behind_all (emitted ++ missing) n ≡ Some nest_behind_stream → IsWhole ending (nest_behind_all emitted n)
 whole_before (Some f) [] missing n h e = tt
 whole_before None [] missing n h e = cc
-whole_before ending (x ∷ told) missing n h e = whole_along ending (nest_behind_event x n)
-    (nest_behind_all (told ++ missing)) (nest_behind_all told) (λ m. whole_before ending told missing m h) e
+whole_before ending (x ∷ emitted) missing n h e = whole_along ending (nest_behind_event x n)
+    (nest_behind_all (emitted ++ missing)) (nest_behind_all emitted) (λ m. whole_before ending emitted missing m h) e
 
 pub nests : (keep : Bool) (text : List ℕ) (a : Answer) → AreTaken keep text a → IsNested a
-nests keep text a (forest, t) =
-    let b = t.begins in
-    whole_before a.fault (happenings a.events) b.missing nest_before_stream b.all_given
-    (forest_nests forest keep (happenings a.events ++ b.missing) b.are_events)
+nests keep text a u0 = grind (arith, whole_before, forest_nests)
 
 -- ## Starts
 
-begins_stream : (es : List (Happening × Span)) (ending : Option Ending) (missing : List Happening) (h : Happening)
-    (others : List Happening) → IsCut ending missing
-    → happenings es ++ missing ≡ h ∷ others → events.StreamStart ≡ h → BeginsStream es ending
-begins_stream (e ∷ es) ending missing h others k p q = let same : events.StreamStart ≡ e.0 = cc in
-    rw (← same) tt
-begins_stream [] (Some f) missing h others k p q = tt
-begins_stream [] None missing h others k p q = absurd (cc)
-
 pub starts : (keep : Bool) (text : List ℕ) (a : Answer) → AreTaken keep text a → IsAtStart a
-starts keep text a (forest, t) =
-    let all = first_and_others_begins (Some events.StreamStart)
-    (events_behind keep (parts.OpenStream ∷ []) (document_parts forest))
-    (happenings a.events ++ t.begins.missing) t.begins.are_events in
-    let first : events.StreamStart ≡ all.first = cc all.is in
-    begins_stream a.events a.fault t.begins.missing all.first all.others t.begins.all_given all.joined first
+starts keep text a u0 = grind arith

@@ -1,5 +1,5 @@
 -- Which token a node begins with, and which may come after it.
-use Rattle.std.proofs.Common.{◌≡◌, ◌≢◌, ℕ, List, [], ◌∷◌, ◌++◌, Option, Some, None, option_map, refl, ap, ◌∙◌, ◌⊎◌, inl, inr, append_assoc}
+use Rattle.std.proofs.Common.{◌≡◌, ◌≢◌, ℕ, Bool, true, false, arith, List, [], ◌∷◌, ◌++◌, Option, option_map, refl, ◌∙◌, ◌⊎◌, inl, inr, append_assoc}
 use lib.Utf8.{encode}
 use Rattle.saphyr_scalar.specs.declared.scalar.position.Span.{Span}
 use Rattle.saphyr_scanner.specs.Grammar.Forest.{Tag, NonSpecific, HasOne, HasProperty, Properties, Node, Nodes, NoNode, MoreNodes}
@@ -14,19 +14,27 @@ use Rattle.saphyr_machine.specs.declared.context.NodeContext.TheVariants.{Flow, 
 use Rattle.saphyr_machine.specs.declared.state.State.{State}
 use Rattle.saphyr_machine.specs.declared.state.State.TheVariants.{End}
 use Rattle.event_laws.specs.Preorder.{Part, Leaf, node_parts}
-use Rattle.saphyr_machine.specs.Steps.Machine.{Machine, told_event}
+use Rattle.saphyr_machine.specs.Steps.Machine.{Machine, emit}
 use Rattle.saphyr_machine.specs.Events.{empty_scalar}
 use Rattle.saphyr_machine.specs.Steps.Nodes as steps
 use Rattle.saphyr_machine.specs.Steps.Nodes.{node_without_content, node_content_at}
 use Rattle.saphyr_machine.specs.Steps.Expected.{event_step}
-use Rattle.event_laws.proofs.Told.Telling.{SpansByKinds, Memory, at}
-use Rattle.event_laws.proofs.Remembering.{after_node, SaysParts, TellsParts, plainly}
-use Rattle.event_laws.proofs.Told.Nodes.{next_node, IsContentKind}
+use Rattle.event_laws.proofs.Emitted.Emitting.{SpansByKinds, Memory, at}
+use Rattle.event_laws.proofs.Remembering.{after_node, SaysParts, EmitsParts, plainly}
+use Rattle.event_laws.proofs.Emitted.Nodes.{next_node, IsContentKind}
 
 abbrev pub context_of : grammar.Context → NodeContext
 context_of InFlow = Flow
 context_of InBlock = Block
 context_of InBlockMapping = BlockMapping
+
+abbrev pub place_of : NodeContext → grammar.Context
+place_of Flow = InFlow
+place_of Block = InBlock
+place_of BlockMapping = InBlockMapping
+
+context_is : (d : NodeContext) → context_of (place_of d) ≡ d
+context_is d = grind arith
 
 -- ## The first token
 
@@ -48,38 +56,18 @@ pub record Head (c : grammar.Context) (t : List Kind) : Type 0 where
   pub is : t ≡ first ∷ others
   pub starts : Starts c first
 
-tag_starts : (c : grammar.Context) (tag : Tag) → Starts c (tag_token tag)
-tag_starts c NonSpecific = tt
-tag_starts c _ = tt
-
 -- tokens that begin with properties, or else with content
 property_head : (c : grammar.Context) (anchor : Option (List ℕ)) (tag : Option Tag) (front content t : List Kind)
     → AreBoth (option_map anchor_token anchor) (option_map tag_token tag) front → HasOne anchor tag ⊎ Head c content
     → t ≡ front ++ content → Head c t
-property_head c None None front content t h (inl z) e = absurd z
-property_head c None None front content t h (inr d) e =
-    record { first = d.first; others = d.others; is = e ∙ ap (λ l. l ++ content) h ∙ d.is; starts = d.starts }
-property_head c (Some a) None front content t h z e =
-    record { first = anchor_token a; others = content; is = e ∙ ap (λ l. l ++ content) h; starts = tt }
-property_head c None (Some g) front content t h z e =
-    record { first = tag_token g; others = content; is = e ∙ ap (λ l. l ++ content) h; starts = tag_starts c g }
-property_head c (Some a) (Some g) front content t (inl h) z e =
-    record { first = anchor_token a; others = tag_token g ∷ content; is = e ∙ ap (λ l. l ++ content) h; starts = tt }
-property_head c (Some a) (Some g) front content t (inr h) z e =
-    record {
-      first = tag_token g;
-      others = anchor_token a ∷ content;
-      is = e ∙ ap (λ l. l ++ content) h;
-      starts = tag_starts c g;
-    }
+property_head c u0 u1 front content t h u2 e = grind arith
 
 begins_with : (c : grammar.Context) (k : Kind) (ks t : List Kind) → t ≡ k ∷ ks → Starts c k → Head c t
 begins_with c k ks t e s = record { first = k; others = ks; is = e; starts = s }
 
 scalar_head : (c : grammar.Context) (p : Properties) (style : forest.Style) (value : List ℕ) (content : List Kind)
     → grammar.YieldsScalar p style value content → HasProperty p ⊎ Head c content
-scalar_head c p style value content (inl e) = inr (begins_with c (scalar_token style value) [] content e tt)
-scalar_head c p style value content (inr h) = inl h.0
+scalar_head c p style value content u0 = grind arith
 
 sequence_head : (c : grammar.Context) (nodes : Nodes) (content : List Kind)
     → grammar.YieldsSequence nodes c (grammar.YieldFlowEntries nodes) (grammar.YieldBlockEntries nodes) content
@@ -91,8 +79,7 @@ sequence_head c (MoreNodes node nodes) content (inr (inr h)) = begins_with c tok
 
 mapping_head : (c : grammar.Context) (pairs : forest.Pairs) (content : List Kind)
     → grammar.YieldsMapping c (grammar.YieldFlowPairs pairs) (grammar.YieldBlockPairs pairs) content → Head c content
-mapping_head c pairs content (inl h) = begins_with c tokens.FlowMappingStart _ content h.2 tt
-mapping_head c pairs content (inr h) = begins_with c tokens.BlockMappingStart _ content h.1.2 h.0
+mapping_head c pairs content u0 = grind arith
 
 pub node_head : (n : Node) (c : grammar.Context) (t : List Kind) → YieldsNode n c t → Head c t
 node_head (forest.Alias name) c t h = begins_with c (alias_token name) [] t h tt
@@ -124,36 +111,12 @@ MayFollow InBlockMapping tokens.BlockEnd = Unit {0}
 MayFollow _ _ = ⊥
 
 pub follow_is_content : (c : grammar.Context) (k : Kind) → MayFollow c k → IsContentKind k
-follow_is_content InFlow (tokens.Alias _) h = h
-follow_is_content InFlow (tokens.Anchor _) h = h
-follow_is_content InFlow (tokens.Tag _ _) h = h
-follow_is_content InBlock (tokens.Alias _) h = h
-follow_is_content InBlock (tokens.Anchor _) h = h
-follow_is_content InBlock (tokens.Tag _ _) h = h
-follow_is_content InBlockMapping (tokens.Alias _) h = h
-follow_is_content InBlockMapping (tokens.Anchor _) h = h
-follow_is_content InBlockMapping (tokens.Tag _ _) h = h
-follow_is_content _ _ h = tt
+follow_is_content k a h = grind arith
 
 -- after properties it shows that their node has no content
 pub follow_ends : (c : grammar.Context) (k : Kind) (q : steps.NodeProperties) (t : Piece) (m : Machine) → MayFollow c k
     → node_content_at k q (context_of c) t m ≡ node_without_content q t m
-follow_ends InFlow tokens.FlowEntry q t m h = refl
-follow_ends InFlow tokens.FlowSequenceEnd q t m h = refl
-follow_ends InFlow tokens.FlowMappingEnd q t m h = refl
-follow_ends InFlow tokens.Value q t m h = refl
-follow_ends InBlock tokens.BlockEntry q t m h = refl
-follow_ends InBlock tokens.BlockEnd q t m h = refl
-follow_ends InBlock tokens.Key q t m h = refl
-follow_ends InBlock tokens.Value q t m h = refl
-follow_ends InBlock tokens.StreamEnd q t m h = refl
-follow_ends InBlock tokens.DocumentStart q t m h = refl
-follow_ends InBlock tokens.DocumentEnd q t m h = refl
-follow_ends InBlock tokens.ByteOrderMark q t m h = refl
-follow_ends InBlockMapping tokens.Key q t m h = refl
-follow_ends InBlockMapping tokens.Value q t m h = refl
-follow_ends InBlockMapping tokens.BlockEnd q t m h = refl
-follow_ends _ _ q t m h = elim h [ ]
+follow_ends k a q t m h = grind arith
 
 -- ## Nodes that are told
 
@@ -162,7 +125,7 @@ pub record NodeSays (n : Node) (c : grammar.Context) (t : List Kind) : Type 0 wh
   pub by : (f : SpansByKinds) (k : Kind) (ks : List Kind) (m : Machine) (x s : State) (ss : List State) (e : Memory)
       (ps : List Part) → MayFollow c k → m.state ≢ End
       → event_step m ≡ next_node (context_of c) (at f (t ++ k ∷ ks) x (s ∷ ss) e)
-      → TellsParts f (k ∷ ks) s ss (after_node n e) ps → SaysParts e m (node_parts n ++ ps)
+      → EmitsParts f (k ∷ ks) s ss (after_node n e) ps → SaysParts e m (node_parts n ++ ps)
 
 -- so it is with any tokens that the node may yield
 abbrev pub EachSays : Node → grammar.Context → Type 0
@@ -174,7 +137,7 @@ pub enters : (n : Node) (c : grammar.Context) (t : List Kind) → YieldsNode n c
     (behind : List Kind → State) (ss : List State) (e : Memory) (ps : List Part)
     → MayFollow c k → ((l : List Kind) → (machine l).state ≢ End) → ((j : Kind) (l : List Kind) → Starts c j
     → event_step (machine (j ∷ l)) ≡ next_node (context_of c) (at f (j ∷ l) x (behind (j ∷ l) ∷ ss) e))
-    → TellsParts f (k ∷ ks) (behind (t ++ k ∷ ks)) ss (after_node n e) ps
+    → EmitsParts f (k ∷ ks) (behind (t ++ k ∷ ks)) ss (after_node n e) ps
     → SaysParts e (machine (t ++ k ∷ ks)) (node_parts n ++ ps)
 enters n c t h g f k ks machine x behind ss e ps z more go l =
     let d : Head c t = node_head n c t h in
@@ -183,7 +146,7 @@ enters n c t h g f k ks machine x behind ss e ps z more go l =
 
 -- one step tells a node that is left out
 pub skipped : (e : Memory) (m n : Machine) (ps : List Part) (span : Span) → m.state ≢ End
-    → event_step m ≡ told_event empty_scalar span n → SaysParts e n ps
+    → event_step m ≡ emit empty_scalar span n → SaysParts e n ps
     → SaysParts e m (node_parts forest.left_out ++ ps)
 unfolding encode
 skipped e m n ps span more q l =
@@ -191,9 +154,9 @@ skipped e m n ps span more q l =
 
 left_out_says : (n : Node) (t : List Kind) (k : Kind) (ks : List Kind) (f : SpansByKinds)
     (machine : List Kind → Machine) (behind : List Kind → State) (ss : List State) (e : Memory) (ps : List Part)
-    → n ≡ forest.left_out → t ≡ [] → (TellsParts f (k ∷ ks) (behind (k ∷ ks)) ss (after_node forest.left_out e) ps
+    → n ≡ forest.left_out → t ≡ [] → (EmitsParts f (k ∷ ks) (behind (k ∷ ks)) ss (after_node forest.left_out e) ps
     → SaysParts e (machine (k ∷ ks)) (node_parts forest.left_out ++ ps))
-    → TellsParts f (k ∷ ks) (behind (t ++ k ∷ ks)) ss (after_node n e) ps
+    → EmitsParts f (k ∷ ks) (behind (t ++ k ∷ ks)) ss (after_node n e) ps
     → SaysParts e (machine (t ++ k ∷ ks)) (node_parts n ++ ps)
 left_out_says n t k ks f machine behind ss e ps a b q = rw (a, b) q
 
@@ -203,10 +166,10 @@ pub enters_or_skips : (n : Node) (c : grammar.Context) (t : List Kind) → Yield
     → (f : SpansByKinds) (k : Kind) (ks : List Kind) (machine : List Kind → Machine) (x : State)
     (behind : List Kind → State) (ss : List State) (e : Memory) (ps : List Part)
     → MayFollow c k → ((l : List Kind) → (machine l).state ≢ End)
-    → (span : Span) → event_step (machine (k ∷ ks)) ≡ told_event empty_scalar span
+    → (span : Span) → event_step (machine (k ∷ ks)) ≡ emit empty_scalar span
     (at f (k ∷ ks) (behind (k ∷ ks)) ss e) → ((j : Kind) (l : List Kind) → Starts c j
     → event_step (machine (j ∷ l)) ≡ next_node (context_of c) (at f (j ∷ l) x (behind (j ∷ l) ∷ ss) e))
-    → TellsParts f (k ∷ ks) (behind (t ++ k ∷ ks)) ss (after_node n e) ps
+    → EmitsParts f (k ∷ ks) (behind (t ++ k ∷ ks)) ss (after_node n e) ps
     → SaysParts e (machine (t ++ k ∷ ks)) (node_parts n ++ ps)
 enters_or_skips n c t (inr h) g f k ks machine x behind ss e ps z more span skip go l =
     enters n c t h (g h) f k ks machine x behind ss e ps z more go l
@@ -214,32 +177,61 @@ enters_or_skips n c t (inl h) g f k ks machine x behind ss e ps z more span skip
     let q = skipped e (machine (k ∷ ks)) (at f (k ∷ ks) (behind (k ∷ ks)) ss e) ps span (more (k ∷ ks)) skip in
     left_out_says n t k ks f machine behind ss e ps h.0 h.1 q l
 
--- ## Nodes after a mark
+-- ## Nodes that may be left out, behind which a state is expected
 
--- After the token `mark`, in the state `x`, a node begins with its first token, and `y` is expected after it.
-abbrev pub BeginsBehind : Kind → grammar.Context → State → State → Type 0
-BeginsBehind mark c x y = (f : SpansByKinds) (j : Kind) (l : List Kind) (ss : List State) (e : Memory) → Starts c j
-    → event_step (at f (mark ∷ j ∷ l) x ss e) ≡ next_node (context_of c) (at f (j ∷ l) x (y ∷ ss) e)
+abbrev pub place_before : State → grammar.Context
+place_before o = place_of (steps.context_before o)
 
--- After these tokens, in the state `x`, a node is left out before a token that ends it, and `y` is expected.
-abbrev pub LeftOutBehind : List Kind → (Kind → Type 0) → (SpansByKinds → List Kind → Span) → State → State → Type 0
-LeftOutBehind front Ends span x y = (f : SpansByKinds) (k : Kind) (ks : List Kind) (ss : List State) (e : Memory)
-    → Ends k → event_step (at f (front ++ k ∷ ks) x ss e)
-    ≡ told_event empty_scalar (span f (k ∷ ks)) (at f (k ∷ ks) y ss e)
+-- a token before which the node is left out
+abbrev pub EndsAt : State → Kind → Type 0
+EndsAt o k = steps.is_left_out o k ≡ true
 
--- So a node after the mark is told, or one that is left out.
-abbrev pub SaysBehind : Kind → grammar.Context → (Kind → Type 0) → State → State → Type 0
-SaysBehind mark c Ends x y = (n : Node) (t : List Kind) → YieldsOptional n (YieldsNode n c) t
-    → (YieldsNode n c t → NodeSays n c t) → (f : SpansByKinds) (k : Kind) (ks : List Kind) (ss : List State)
-    (e : Memory) (ps : List Part) → Ends k → TellsParts f (k ∷ ks) y ss (after_node n e) ps
-    → TellsParts f (mark ∷ (t ++ k ∷ ks)) x ss e (node_parts n ++ ps)
+starts_there : (o : State) (j : Kind) → Starts (place_before o) j → steps.is_left_out o j ≡ false
+starts_there o j h = grind arith
 
-pub says_behind : (mark : Kind) (c : grammar.Context) (Ends : Kind → Type 0) (span : SpansByKinds → List Kind → Span)
-    (x y : State) → x ≢ End → ((k : Kind) → Ends k → MayFollow c k) → BeginsBehind mark c x y
-    → LeftOutBehind (mark ∷ []) Ends span x y → SaysBehind mark c Ends x y
-says_behind mark c Ends span x y more follows begins skips n t h g f k ks ss e ps z l =
-    enters_or_skips n c t h g f k ks (λ l. at f (mark ∷ l) x ss e) x (λ l. y) ss e ps (follows k z) (λ l. more)
-    (span f (k ∷ ks)) (skips f k ks ss e z) (λ j l s. begins f j l ss e s) l
+ends_there : (o : State) (k : Kind) → EndsAt o k → MayFollow (place_before o) k
+ends_there o k h = grind arith
+
+begins_at : (o x : State) (f : SpansByKinds) (j : Kind) (l : List Kind) (ss : List State) (e : Memory) (span : Span)
+    (b : Bool) → b ≡ false → steps.node_or_nothing_at b o span (record { span = f l; kind = j }) (at f l x ss e)
+    ≡ next_node (context_of (place_before o)) (at f (j ∷ l) x (o ∷ ss) e)
+begins_at o x f j l ss e span b h = rw (h, context_is (steps.context_before o)) refl
+
+ends_at : (o x : State) (f : SpansByKinds) (k : Kind) (ks : List Kind) (ss : List State) (e : Memory) (span : Span)
+    (b : Bool) → b ≡ true → steps.node_or_nothing_at b o span (record { span = f ks; kind = k }) (at f ks x ss e)
+    ≡ emit empty_scalar span (at f (k ∷ ks) o ss e)
+ends_at o x f k ks ss e span b h = rw h refl
+
+-- The machine comes to such a node, with whose tokens the state may change. Its span is told where it is left out.
+pub optional_says : (c : grammar.Context) (o : List Kind → State) → ((l : List Kind) → place_before (o l) ≡ c)
+    → (n : Node) (t : List Kind) → YieldsOptional n (YieldsNode n c) t → (YieldsNode n c t → NodeSays n c t)
+    → (f : SpansByKinds) (k : Kind) (ks : List Kind) (machine : List Kind → Machine) (x : State) (ss : List State)
+    (e : Memory) (ps : List Part) (span : List Kind → Span) → EndsAt (o (k ∷ ks)) k
+    → ((l : List Kind) → (machine l).state ≢ End) → ((j : Kind) (l : List Kind) → event_step (machine (j ∷ l))
+    ≡ steps.node_or_nothing (o (j ∷ l)) (span (j ∷ l)) (record { span = f l; kind = j }) (at f l x ss e))
+    → EmitsParts f (k ∷ ks) (o (t ++ k ∷ ks)) ss (after_node n e) ps
+    → SaysParts e (machine (t ++ k ∷ ks)) (node_parts n ++ ps)
+optional_says c o same n t h g f k ks machine x ss e ps span z more go l = enters_or_skips n c t h g f k ks machine x o
+    ss e ps (rw (same (k ∷ ks)) at (ends_there (o (k ∷ ks)) k z)) more (span (k ∷ ks))
+    (go k ks ∙ ends_at (o (k ∷ ks)) x f k ks ss e (span (k ∷ ks)) _ z)
+    (λ j l s. go j l ∙ rw (← same (j ∷ l)) (begins_at (o (j ∷ l)) x f j l ss e (span (j ∷ l)) _
+    (starts_there (o (j ∷ l)) j (rw (same (j ∷ l)) s)))) l
+
+-- After the token `mark`, in the state `x`, such a node is told, behind which `o` is expected.
+abbrev pub SaysBehind : Kind → State → State → Type 0
+SaysBehind mark x o = (n : Node) (t : List Kind) → YieldsOptional n (YieldsNode n (place_before o)) t
+    → (YieldsNode n (place_before o) t → NodeSays n (place_before o) t) → (f : SpansByKinds) (k : Kind) (ks : List Kind)
+    (ss : List State) (e : Memory) (ps : List Part) → EndsAt o k → EmitsParts f (k ∷ ks) o ss (after_node n e) ps
+    → EmitsParts f (mark ∷ (t ++ k ∷ ks)) x ss e (node_parts n ++ ps)
+
+pub says_behind : (mark : Kind) (x o : State) (span : SpansByKinds → List Kind → Span) → x ≢ End
+    → ((f : SpansByKinds) (j : Kind) (l : List Kind) (ss : List State) (e : Memory)
+    → event_step (at f (mark ∷ j ∷ l) x ss e)
+    ≡ steps.node_or_nothing o (span f (j ∷ l)) (record { span = f l; kind = j }) (at f l x ss e))
+    → SaysBehind mark x o
+says_behind mark x o span more go n t h g f k ks ss e ps z l =
+    optional_says (place_before o) (λ l. o) (λ l. refl) n t h g f k ks (λ l. at f (mark ∷ l) x ss e) x ss e ps (span f)
+    z (λ l. more) (λ j l. go f j l ss e) l
 
 -- ## Pairs
 

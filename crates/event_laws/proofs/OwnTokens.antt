@@ -1,5 +1,5 @@
 -- The tokens that a step uses: some are passed, and the others are its event's own.
-use Rattle.std.proofs.Common.{◌≡◌, List, [], ◌∷◌, ◌++◌, None, refl, ◌⊎◌, inl, inr}
+use Rattle.std.proofs.Common.{◌≡◌, List, [], ◌∷◌, ◌++◌, None, refl, ◌⊎◌, arith}
 use Rattle.saphyr_scalar.specs.declared.scalar.position.Marker.{Marker}
 use Rattle.saphyr_scalar.specs.declared.scalar.position.Span.{Span}
 use Rattle.saphyr_scalar.specs.declared.scalar.style.ScalarStyle.TheVariants.{Plain}
@@ -65,32 +65,19 @@ StartsAt _ m q = Unit {0}
 
 pub content_spans : (front : List Piece) (q : NodeProperties) (t : Piece) → Shape front q → StartsAt front t.span.start
     q → SpansAll (front ++ t ∷ []) (record { start = q.start; end = t.span.end })
-content_spans [] q t h s = cc
-content_spans (p ∷ []) q t h s = cc
-content_spans (p ∷ r ∷ []) q t h s = cc
-content_spans (p ∷ r ∷ z ∷ l) q t h s = absurd h
+content_spans k q t h s = grind arith
 
 properties_are : (front : List Piece) (q : NodeProperties) → Shape front q → (front ≡ []) ⊎ ArePropertyTokens front
-properties_are [] q h = inl refl
-properties_are (p ∷ []) q h = inr h.0
-properties_are (p ∷ r ∷ []) q h = inr h.0
-properties_are (p ∷ r ∷ z ∷ l) q h = absurd h
+properties_are k q h = grind arith
 
 pub content_is : (kind : Kind) (front : List Piece) (q : NodeProperties) (t : Piece) → t.kind ≡ kind → Shape front q
     → AreContentTokens kind (front ++ t ∷ [])
 content_is kind front q t k h = (front, t, properties_are front q h, k, refl)
 
-both_places : (a b c d : Marker) → a ≡ c → b ≡ d
-    → (let x : Span = record { start = a; end = b } in x) ≡ record { start = c; end = d }
-both_places a b c d h k = cc
-
 -- properties alone
 pub alone_is : (front : List Piece) (q : NodeProperties) → Shape front q
     → IsOf (Scalar [] Plain q.anchor q.tag) (record { start = q.start; end = q.behind }) (front ++ []) []
-alone_is [] q h = inr (inr (refl, refl, h.0, h.1, refl))
-alone_is (p ∷ []) q h = inr (inl (refl, refl, h.0, both_places q.start q.behind p.span.start p.span.end h.1 h.2))
-alone_is (p ∷ r ∷ []) q h = inr (inl (refl, refl, h.0, both_places q.start q.behind p.span.start r.span.end h.1 h.2))
-alone_is (p ∷ r ∷ z ∷ l) q h = absurd h
+alone_is k q h = grind arith
 
 -- a collection without a start of its own, before its first entry
 pub no_opening : (front : List Piece) (q : NodeProperties) (t : Piece) (others : List Piece) → t.kind ≡ BlockEntry

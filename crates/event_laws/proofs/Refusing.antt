@@ -14,8 +14,8 @@ use Rattle.saphyr_machine.specs.Steps.Machine.{Machine, ending_refusal}
 use Rattle.saphyr_machine.specs.Answer.{Ending, remaining_answer, machine_size}
 use Rattle.saphyr_machine.specs.Cursor.{at_start, keeping_tags, to_come}
 use Rattle.event_laws.specs.EventsTaken.{HasPlaceIn}
-use Rattle.saphyr_machine.proofs.Walk.Steps.{is_end, Walk}
-use Rattle.saphyr_machine.proofs.Walk.All.{Resumes, IsFailed, runs}
+use Rattle.saphyr_machine.proofs.Beside.Machines.{is_end}
+use Rattle.saphyr_machine.proofs.Walk.{Walk, between, Resumes, IsFailed, runs}
 
 -- a refusal with such a place
 abbrev pub IsRefusedAt : (Marker → Type 0) → Option Refusal → Type 0
@@ -33,12 +33,10 @@ AreEnded P r [] = IsRefusedAt P r
 AreEnded P r (t ∷ ts) = IsLastOr (AreEnded P r ts) ts t.kind
 
 refused_mark : (P : Marker → Type 0) (r : Option Refusal) → IsRefusedAt P r → P (ending_refusal r).mark
-refused_mark P None h = absurd h
-refused_mark P (Some e) h = h
+refused_mark u0 u1 h = grind arith
 
 known_before_last : (A : Type 0) (ts : List Piece) (k : Kind) → is_end k ≡ false → IsLastOr A ts k → A
-known_before_last A ts tokens.StreamEnd e h = absurd (cc)
-known_before_last A ts _ e h = h
+known_before_last u0 ts u1 e h = grind arith
 
 -- the tokens are at places of the text; after the end of the stream nothing is known of them
 abbrev placed : List ℕ → Walk
@@ -76,4 +74,4 @@ unfolding remaining_answer
 refused_at text tokens keep a e =
     let m : Machine = (keeping_tags keep (at_start tokens)).machine in
     failed text _ (runs (placed text) (resumes text) (suc (machine_size m)) m
-    (record { place = tt; places = tt; rests = inr (a, e) })).fault
+    (between (placed text) m refl refl (inr (a, e)))).fault

@@ -1,5 +1,5 @@
 -- The events of parts as a machine tells them that remembers anchors and prefixes.
-use Rattle.std.proofs.Common.{◌≡◌, ◌≢◌, ℕ, List, [], ◌∷◌, Option, Some, None, option_map, encode_utf8_all, codes, refl, sym, ap, ◌∙◌}
+use Rattle.std.proofs.Common.{◌≡◌, ◌≢◌, ℕ, List, [], ◌∷◌, Option, Some, None, option_map, encode_utf8_all, codes, sym, ap, ◌∙◌, arith}
 use Rattle.std.specs.Prelude.{if◌then◌else◌}
 use Rattle.std.specs.Option.{option_or}
 use Rattle.saphyr_scalar.specs.declared.scalar.position.Span.{Span}
@@ -12,11 +12,11 @@ use Rattle.event_laws.specs.Preorder.{Part, OpenStream, CloseStream, OpenDocumen
 use Rattle.saphyr_machine.specs.Events.{Happening, ResolvedTag, StreamStart, StreamEnd, DocumentStart, DocumentEnd, Alias, Scalar, SequenceStart, SequenceEnd, MappingStart, MappingEnd}
 use Rattle.event_laws.specs.ForestEvents.{first_and_others}
 use Rattle.event_laws.specs.TagResolution.{default_prefix}
-use Rattle.saphyr_machine.specs.Steps.Machine.{Names, meaning, with_meaning, without_ids, next_id, with_anchor, Machine, told_event}
+use Rattle.saphyr_machine.specs.Steps.Machine.{Names, meaning, with_meaning, without_ids, next_id, with_anchor, Machine, emit}
 use Rattle.saphyr_machine.specs.Steps.Expected.{event_step}
 use Rattle.saphyr_machine.specs.Answer.{remaining_answer}
 use Rattle.event_laws.specs.Exactly.{GivesExactly}
-use Rattle.event_laws.proofs.Told.Telling.{SpansByKinds, Memory, at, tells}
+use Rattle.event_laws.proofs.Emitted.Emitting.{SpansByKinds, Memory, at, emits}
 
 -- ## What is remembered
 
@@ -114,29 +114,27 @@ abbrev pub SaysParts : Memory → Machine → List Part → Type 0
 SaysParts e m ps = (es : List Happening) → events_in e ps ≡ Some es → GivesExactly es (remaining_answer m)
 
 -- the same of a machine that remembers just that
-abbrev pub TellsParts : SpansByKinds → List Kind → State → List State → Memory → List Part → Type 0
-TellsParts f ks s ss e ps = SaysParts e (at f ks s ss e) ps
+abbrev pub EmitsParts : SpansByKinds → List Kind → State → List State → Memory → List Part → Type 0
+EmitsParts f ks s ss e ps = SaysParts e (at f ks s ss e) ps
 
 first_and_others_parts : (a : Option Happening) (b : Option (List Happening)) (es : List Happening)
     → first_and_others a b ≡ Some es
     → (w : Happening) × (ws : List Happening) × (a ≡ Some w) × (b ≡ Some ws) × (w ∷ ws ≡ es)
-first_and_others_parts (Some w) (Some ws) es h = (w, ws, refl, refl, (cc))
-first_and_others_parts (Some w) None es h = absurd (cc)
-first_and_others_parts None b es h = absurd (cc)
+first_and_others_parts k b es h = grind arith
 
 -- one step tells the first part
 pub says : (e : Memory) (m n : Machine) (part : Part) (ps : List Part) → m.state ≢ End
-    → ((w : Happening) → event_in e part ≡ Some w → (span : Span) × (event_step m ≡ told_event w span n))
+    → ((w : Happening) → event_in e part ≡ Some w → (span : Span) × (event_step m ≡ emit w span n))
     → SaysParts (after part e) n ps → SaysParts e m (part ∷ ps)
 says e m n part ps more go h es q =
     let r = first_and_others_parts (event_in e part) (events_in (after part e) ps) es q in
-    let s : (span : Span) × (event_step m ≡ told_event r.0 span n) = go r.0 r.2 in
-    rw r.4 at (tells m (record { what = r.0; span = s.0; machine = n }) r.1 more s.1 (h r.1 r.3))
+    let s : (span : Span) × (event_step m ≡ emit r.0 span n) = go r.0 r.2 in
+    rw r.4 at (emits m (record { what = r.0; span = s.0; machine = n }) r.1 more s.1 (h r.1 r.3))
 
 -- the same of a part that always has its event
 pub plainly : (e : Memory) (m n : Machine) (part : Part) (ps : List Part) (w : Happening) (span : Span) → m.state ≢ End
-    → event_in e part ≡ Some w → event_step m ≡ told_event w span n → SaysParts (after part e) n ps
+    → event_in e part ≡ Some w → event_step m ≡ emit w span n → SaysParts (after part e) n ps
     → SaysParts e m (part ∷ ps)
 plainly e m n part ps w span more a q h = says e m n part ps more (λ v b.
-    (span, q ∙ ap (λ u. told_event u span n) (let same : w ≡ v = (let c : Some w ≡ Some v = sym a ∙ b in cc) in same)))
+    (span, q ∙ ap (λ u. emit u span n) (let same : w ≡ v = (let c : Some w ≡ Some v = sym a ∙ b in cc) in same)))
     h

@@ -2,30 +2,27 @@
 use Rattle.event_laws.specs.EventsTaken.{BeginsSomeForest, HaveTokens, IsAllUnless, IsCut, unplaced_events, unplaced_tokens}
 use Rattle.event_laws.specs.EventsTaken as taking
 use Rattle.event_laws.proofs.OwnTokens.{own_more}
-use Rattle.std.proofs.Common.{◌≡◌, ◌≢◌, ℕ, zero, suc, ◌+◌, ◌<◌, ◌≤◌, ◌^◌, Bool, true, false, List, [], ◌∷◌, ◌++◌, length, Option, Some, Result, Ok, Err, refl, sym, ap, ◌∙◌, inl, inr, append_assoc, append-nil, arith, length-append}
+use Rattle.std.proofs.Common.{◌≡◌, ◌≢◌, ℕ, zero, suc, ◌+◌, ◌<◌, ◌≤◌, ◌^◌, Bool, List, [], ◌∷◌, ◌++◌, length, Option, Some, Result, Ok, Err, refl, sym, ap, ◌∙◌, inl, inr, append_assoc, append-nil, arith, length-append}
 use Rattle.saphyr_scalar.specs.declared.scalar.fault.Refusal.{Refusal}
-use Rattle.saphyr_scanner.specs.Grammar.Forest.{Forest}
 use Rattle.saphyr_scanner.specs.Grammar.Tokens.{Kind}
 use Rattle.saphyr_scanner.specs.Views.Tokens.{Piece, Remaining}
-use Rattle.saphyr_scanner.specs.Grammar.TokenGrammar.{Yields}
 use Rattle.saphyr_machine.specs.declared.state.State.{State}
 use Rattle.saphyr_machine.specs.declared.state.State.TheVariants as state
 use Rattle.event_laws.specs.Anchors.{one_more_anchor, anchor_of, anchors}
-use Rattle.event_laws.specs.Preorder.{Part, parts}
+use Rattle.event_laws.specs.Preorder.{Part}
 use Rattle.saphyr_machine.specs.Events.{Happening}
-use Rattle.event_laws.specs.ForestEvents.{events}
 use Rattle.event_laws.specs.Exactly.{kinds}
-use Rattle.saphyr_machine.specs.Steps.Machine.{Machine, Told}
+use Rattle.saphyr_machine.specs.Steps.Machine.{Machine, Emitted}
 use Rattle.saphyr_machine.specs.Steps.Expected.{event_step, event_step_at}
 use Rattle.saphyr_machine.specs.Answer.{Answer, empty_answer, with_first_event, ending_of, fault_alone, answer_of_step, remaining_answer, machine_size}
 use Rattle.saphyr_machine.specs.Cursor.{at_start, keeping_tags, to_come}
 use Rattle.event_laws.specs.WellFormed.{AreWellFormed}
-use Rattle.event_laws.proofs.Told.Telling.{Memory}
+use Rattle.event_laws.proofs.Emitted.Emitting.{Memory}
 use Rattle.event_laws.proofs.Remembering.{after, event_in, events_in}
-use Rattle.event_laws.proofs.MemoryFits.{Within, same_events}
+use Rattle.event_laws.proofs.MemoryFits.{same_events}
 use Rattle.event_laws.proofs.Promises.Forests.{documents_within, all_compatible, at_first, fits_start}
 use Rattle.saphyr_machine.proofs.Unroll.{unroll, over, shrinks_at}
-use Rattle.event_laws.proofs.Turned.Following.{Behind, Outside, FollowsStates, IsAlive, IsOutside, IsInsideDocument}
+use Rattle.event_laws.proofs.Turned.Following.{Behind, Outside, IsAlive, IsOutside, IsInsideDocument}
 use Rattle.event_laws.proofs.Turned.Turning.{machine, memory, Goes, weaker, kinds_append}
 use Rattle.event_laws.proofs.Turned.Entries.{Wanted, WantedIn, Turns}
 use Rattle.event_laws.proofs.Turned.Sequences as sequence
@@ -54,8 +51,7 @@ outside_moves _ x ts r e w i = elim i [ ]
 -- a step inside a document, in a state before which any token may be
 any_before : (s : State) → Turns (λ _. Behind s) (event_step_at s)
     → Turns (λ _ R ks ps. Behind s R ks ps × Unit {0}) (event_step_at s)
-any_before s h ts r x o ss e w a = weaker (Behind s (FollowsStates o ss)) (λ ks ps. Behind s (FollowsStates o ss) ks ps
-    × Unit {0}) e ts _ (λ ks ps f. (f, tt)) (h ts r x o ss e w a)
+any_before s h ts r x o ss e w a = grind arith
 
 inside_turned : (s : State) → IsInsideDocument s → Turns (WantedIn s) (event_step_at s)
 inside_turned state.DocumentContent i = any_before state.DocumentContent behind.content_turned
@@ -95,7 +91,7 @@ pub record BeginsSomeParts (s : State) (ss : List State) (ts : List Piece) (e : 
   pub missing : List Happening
   pub are_read : ts ≡ read ++ unread
   pub wanted : Wanted s ss (kinds ts) (kinds read ++ expected) parts
-  pub told : events_in e parts ≡ Some (happenings_of a ++ missing)
+  pub emitted : events_in e parts ≡ Some (happenings_of a ++ missing)
   pub few : anchors parts ≤ length read
   pub places : HaveTokens unread a.events read
   pub have_expected : HaveTokens [] (unplaced_events missing) (unplaced_tokens expected)
@@ -112,10 +108,10 @@ finishes_at_fault s ss ts e f a =
       unread = ts;
       expected = c.kinds;
       parts = c.parts;
-      missing = c.told;
+      missing = c.emitted;
       are_read = refl;
       wanted = (c.follows, c.starts (kinds ts));
-      told = c.tells e;
+      emitted = c.emits e;
       few = (let n = bare_anchors c.parts c.bare in omega (arith, n));
       places = taking.nothing;
       have_expected = c.have;
@@ -131,7 +127,7 @@ events_joined part ps e w es h k = cc
 more_anchors : (o : Option (List ℕ)) (n a b : ℕ) → one_more_anchor o 0 ≤ a → n ≤ b → one_more_anchor o n ≤ a + b
 more_anchors o n a b h k = grind arith
 
-finishes_behind_event : (s : State) (ss : List State) (ts : List Piece) (e : Memory) (x : Told) (a : Answer)
+finishes_behind_event : (s : State) (ss : List State) (ts : List Piece) (e : Memory) (x : Emitted) (a : Answer)
     → Goes (Wanted s ss (kinds ts)) e ts x
     → BeginsSomeParts x.machine.state x.machine.states x.machine.tokens.pieces (memory x.machine) a
     → BeginsSomeParts s ss ts e (with_first_event (x.what, x.span) a)
@@ -144,7 +140,7 @@ finishes_behind_event s ss ts e x a g h = record {
   are_read = cc (append_assoc g.used h.read h.unread);
   wanted = rw (ap (λ (l : List Kind). l ++ h.expected) (kinds_append g.used h.read) ∙ append_assoc (kinds g.used)
       (kinds h.read) h.expected) (g.makes (kinds h.read ++ h.expected) h.parts h.wanted.0 h.wanted.1);
-  told = events_joined g.part h.parts e x.what (happenings_of a ++ h.missing) g.tells (rw g.remembers at h.told);
+  emitted = events_joined g.part h.parts e x.what (happenings_of a ++ h.missing) g.emits (rw g.remembers at h.emitted);
   few = (let l = length-append g.used h.read in let m =
       more_anchors (anchor_of g.part) (anchors h.parts) (length g.used) (length h.read) g.few h.few in
       omega (arith, l, m));
@@ -155,7 +151,8 @@ finishes_behind_event s ss ts e x a g h = record {
   all_given = h.all_given;
 }
 
-is_over : (s : State) (ss : List State) (ts : List Piece) (e : Memory) (x : Told) → Over (Wanted s ss (kinds ts)) e ts x
+is_over : (s : State) (ss : List State) (ts : List Piece) (e : Memory) (x : Emitted)
+    → Over (Wanted s ss (kinds ts)) e ts x
     → BeginsSomeParts s ss ts e (with_first_event (x.what, x.span) empty_answer)
 is_over s ss ts e x o = record {
   read = ts;
@@ -165,7 +162,7 @@ is_over s ss ts e x o = record {
   missing = [];
   are_read = sym (append-nil ts);
   wanted = rw (append-nil (kinds ts)) o.makes;
-  told = events_joined o.part [] e x.what [] o.tells refl;
+  emitted = events_joined o.part [] e x.what [] o.emits refl;
   few = o.few;
   places = rw (append-nil ts) at (own_more ts [] [] x.what x.span [] o.places taking.nothing);
   have_expected = taking.nothing;
@@ -190,7 +187,7 @@ finishes (suc n) m l w a = rw (unroll m (alive_is_no_end m.state m.states a))
     (by (event_step m) refl (step_moves m.state m.state m.states m.tokens.pieces m.tokens.refusal (memory m) w a)
     (λ k. finishes n k))
   where
-    by : (r : Result Told Refusal) → event_step m ≡ r
+    by : (r : Result Emitted Refusal) → event_step m ≡ r
         → MovesOn (Wanted m.state m.states (kinds m.tokens.pieces)) (memory m) m.tokens.pieces r
         → ((k : Machine) → machine_size k < n → AreWellFormed k.tokens.pieces → IsAlive k.state k.states
         → BeginsSomeParts k.state k.states k.tokens.pieces (memory k) (remaining_answer k))
@@ -206,32 +203,7 @@ finishes (suc n) m l w a = rw (unroll m (alive_is_no_end m.state m.states a))
 
 from_start : (tokens : Remaining) (keep : Bool) (a : Answer) → length tokens.pieces < 2 ^ 64
     → BeginsSomeParts state.StreamStart [] tokens.pieces (at_first keep) a → BeginsSomeForest keep tokens a
-from_start tokens keep a l h =
-    let f : Forest = h.wanted.0.0 in
-    let yielded : Yields f (kinds h.read ++ h.expected) = h.wanted.0.1 in
-    let are : h.parts ≡ parts f = h.wanted.0.2 in
-    let within : Within false (parts f) = (tt, documents_within f (all_compatible f true yielded.1 yielded.3)) in
-    let count : anchors (parts f) ≤ length h.read = rw are at h.few in
-    let few : anchors (parts f) < 2 ^ 64 =
-    (let b = ap length h.are_read in let c = length-append h.read h.unread in omega (arith, l, b, c, count)) in
-    let same : events_in (at_first keep) (parts f) ≡ events f keep =
-    same_events (parts f) false keep [] (at_first keep) within (fits_start keep) (omega (arith, few)) in (
-      f,
-      record {
-        read = h.read;
-        unread = h.unread;
-        are_read = h.are_read;
-        expected = h.expected;
-        yielded = yielded;
-        missing = h.missing;
-        are_events = sym same ∙ rw are at h.told;
-        places = h.places;
-        have_expected = h.have_expected;
-        all_read = h.all_read;
-        all_expected = h.all_expected;
-        all_given = h.all_given;
-      },
-    )
+from_start tokens keep a l h = grind (arith, documents_within, all_compatible, length-append, same_events, fits_start)
 
 pub begins : (tokens : Remaining) (keep : Bool) → AreWellFormed tokens.pieces → length tokens.pieces < 2 ^ 64
     → BeginsSomeForest keep tokens (to_come (keeping_tags keep (at_start tokens)))

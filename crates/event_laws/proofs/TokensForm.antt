@@ -1,5 +1,5 @@
 -- Tokens that are taken from a text are well formed: what they hold is in UTF-8, and handles are handles.
-use Rattle.std.proofs.Common.{◌≡◌, ℕ, List, [], ◌∷◌, Option, sym, ap, ◌∙◌, ◌⊎◌, inl, inr}
+use Rattle.std.proofs.Common.{◌≡◌, ℕ, List, [], ◌∷◌, Option, sym, ap, ◌∙◌, ◌⊎◌, inl, inr, arith}
 use Rattle.std.specs.Prelude.{codes, encode_utf8_all}
 use Rattle.saphyr_scalar.specs.declared.scalar.position.Marker.{Marker}
 use Rattle.saphyr_scalar.specs.declared.scalar.position.Span.{Span}
@@ -69,14 +69,12 @@ token_form _ at span s t i = tt
 
 -- no token comes after the end of the stream
 may_stand : (A : Type 0) (k : Kind) (ts : List Piece) → IsLastOr A ts k → MayStandBefore k ts
-may_stand A tokens.StreamEnd ts h = h
-may_stand A _ ts h = tt
+may_stand u0 u1 ts h = grind arith
 
 -- and after another the rest is ended
 ended_behind : (P : Marker → Type 0) (r : Option Refusal) (k : Kind) (ts : List Piece) → IsLastOr (AreEnded P r ts) ts k
     → (ts ≡ []) ⊎ AreEnded P r ts
-ended_behind P r tokens.StreamEnd ts h = inl h
-ended_behind P r _ ts h = inr h
+ended_behind u0 r u1 ts h = grind arith
 
 -- tokens that are taken from a text and that the end of the stream or a refusal ends are well formed
 pub tokens_form : (P : Marker → Type 0) (r : Option Refusal) (opened : Collections) (ps : List Piece) (s u : Cursor)

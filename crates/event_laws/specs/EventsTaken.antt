@@ -167,8 +167,8 @@ Continue es a = (others : List Happening) × (es ≡ map (λ (e : Happening × S
 -- the tokens of begin with the answer's.
 abbrev pub BeginsEachForest : Bool → List Piece → Answer → Type 0
 BeginsEachForest keep pieces a =
-    (forest : Forest) (others : List Kind) (told : List Happening) → Yields forest (kinds pieces ++ others)
-    → anchors (parts forest) < 2 ^ 64 → events forest keep ≡ Some told → Continue told a
+    (forest : Forest) (others : List Kind) (emitted : List Happening) → Yields forest (kinds pieces ++ others)
+    → anchors (parts forest) < 2 ^ 64 → events forest keep ≡ Some emitted → Continue emitted a
 
 -- ## The same of a text
 

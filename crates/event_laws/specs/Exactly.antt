@@ -12,8 +12,8 @@ abbrev pub GivesExactly : List Happening → Answer → Type 0
 GivesExactly es a = (a.fault ≡ None) × (map (λ (e : Happening × Span). e.0) a.events ≡ es)
 
 -- the same events, whatever their spans, and a fault after both or none
-pub record TellTheSame (a b : Answer) : Type 0 where
-  pub told : map (λ (e : Happening × Span). e.0) a.events ≡ map (λ (e : Happening × Span). e.0) b.events
+pub record EmitTheSame (a b : Answer) : Type 0 where
+  pub emitted : map (λ (e : Happening × Span). e.0) a.events ≡ map (λ (e : Happening × Span). e.0) b.events
   pub fault : is_some a.fault ≡ is_some b.fault
 
 -- tokens without their spans

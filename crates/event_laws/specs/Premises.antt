@@ -21,16 +21,16 @@ IsWithin limit text = length text ≤ limit
 -- ## Premises of the promise that a text gives exactly its forest's events
 
 pub record IsPromised (G : Grammar) (limit : ℕ) (keep : Bool) (forest : Forest) (text : List ℕ)
-    (told : List Happening) : Type 0 where
+    (emitted : List Happening) : Type 0 where
   pub stands_for : G forest text
   pub within : IsWithin limit text
-  pub has_events : events forest keep ≡ Some told
+  pub has_events : events forest keep ≡ Some emitted
 
 -- each text of the grammar gives exactly its forest's events, and no fault
 abbrev pub ReadsEach : Grammar → ℕ → List ℕ → EventCursor → Type 0
 ReadsEach G limit text parser =
-    (forest : Forest) (keep : Bool) (told : List Happening) → IsPromised G limit keep forest text told
-    → GivesExactly told (to_come (keeping_tags keep parser))
+    (forest : Forest) (keep : Bool) (emitted : List Happening) → IsPromised G limit keep forest text emitted
+    → GivesExactly emitted (to_come (keeping_tags keep parser))
 
 -- ## One meaning
 
@@ -68,11 +68,11 @@ pub record IsClosed (G : Grammar) (IsTail : List ℕ → Type 0) (limit : ℕ) (
   pub marker : DocumentMarker
   pub ends : EndsWithMarker IsTail marker (normalized front)
   pub forest : Forest
-  pub told : List Happening
-  pub promised : IsPromised G limit keep forest front told
+  pub emitted : List Happening
+  pub promised : IsPromised G limit keep forest front emitted
   pub earlier : List Happening
   pub is_first : first ≡ earlier ++ marker_event marker ∷ []
-  pub are_told : told ≡ first ++ events_behind_marker marker
+  pub are_emitted : emitted ≡ first ++ events_behind_marker marker
 
 -- the answer's events begin with these
 abbrev pub GivesFirst : List Happening → Answer → Type 0

@@ -21,7 +21,7 @@ ghost use Rattle.saphyr_machine.specs.Loading.{portion_to_send};
 ghost use Rattle.saphyr_scanner.specs.Grammar.TokenGrammar.{Yields};
 ghost use Rattle.saphyr_scanner.specs.Grammar.Tokens.{Kind};
 ghost use Rattle.saphyr_scanner.specs.Grammar.Tokens as tokens;
-ghost use Rattle.event_laws.specs.Exactly.{GivesExactly, TellTheSame, kinds, answer_of_tokens};
+ghost use Rattle.event_laws.specs.Exactly.{GivesExactly, EmitTheSame, kinds, answer_of_tokens};
 ghost use Rattle.saphyr_machine.specs.Events.{DocumentEnd, Happening};
 ghost use Rattle.event_laws.specs.EventsTaken.{AreTaken, BeginsEachForest, BeginsSomeForest, HasPlaceIn, IsCut};
 ghost use Rattle.event_laws.specs.Premises.{DocumentMarker, GivesFirst, HasOneMeaning, MeanTheSame, events_behind_marker};
@@ -34,7 +34,7 @@ ghost use Rattle.saphyr_scanner.specs.Ends.{EndsWithStream};
 ghost use Rattle.saphyr_scanner.specs.TokensTaken.{AreTakenFrom, IsPlaceOf};
 ghost use Rattle.yaml_laws.specs.Grammar.Yaml.{IsYamlText};
 ghost use Rattle.event_laws.specs.WellFormed.{AreWellFormed};
-ghost use Rattle.saphyr_machine.specs.Steps.Machine.{Machine, Told, ending_refusal};
+ghost use Rattle.saphyr_machine.specs.Steps.Machine.{Machine, Emitted, ending_refusal};
 ghost use Rattle.saphyr_machine.specs.Steps.Expected.{event_step};
 ghost use Rattle.saphyr_machine.specs.Answer.{Answer, Ending, with_first_event, remaining_answer};
 ghost use Rattle.saphyr_machine.specs.Calls.{Advances};
@@ -48,13 +48,13 @@ use yaml_laws::{is_yaml_text, scans_breaks_alike, scans_each_yaml_text};
 /// The events of each forest nest, from before the stream to after it. Of events that lead to the stream's end a
 /// beginning nests too, and if no fault cuts it off, it is all of them.
 pub fn nests_each_forest()
-    ensures whole { (forest : Forest) (keep : Bool) (told : List Happening)
-        → events forest keep ≡ Some told
-        → nest_behind_all told nest_before_stream ≡ Some nest_behind_stream }
-    ensures cut { (ending : Option Ending) (told missing : List Happening) (nest : Nest)
+    ensures whole { (forest : Forest) (keep : Bool) (emitted : List Happening)
+        → events forest keep ≡ Some emitted
+        → nest_behind_all emitted nest_before_stream ≡ Some nest_behind_stream }
+    ensures cut { (ending : Option Ending) (emitted missing : List Happening) (nest : Nest)
         → IsCut ending missing
-        → nest_behind_all (told ++ missing) nest ≡ Some nest_behind_stream
-        → IsWhole ending (nest_behind_all told nest) }
+        → nest_behind_all (emitted ++ missing) nest ≡ Some nest_behind_stream
+        → IsWhole ending (nest_behind_all emitted nest) }
 {}
 
 /// Events that are taken from a text, as those of a new parser are, nest: each end belongs to what has begun last, and
@@ -77,7 +77,7 @@ pub fn finds_the_latest_anchor()
 /// Each text of JSON has events.
 pub fn has_events()
     ensures { (forest : Forest) (text : List ℕ) (keep : Bool) → IsJson forest text
-        → (told : List Happening) × (events forest keep ≡ Some told) }
+        → (emitted : List Happening) × (events forest keep ≡ Some emitted) }
 {}
 
 /// A forest has no more anchors than tokens.
@@ -89,13 +89,13 @@ pub fn counts_anchors()
 /// The tokens of a forest give exactly its events, and no fault, and so does a parser that reads them. This
 /// includes the ids of anchors as long as there are fewer than 2^64 anchors.
 pub fn gives_each_forest()
-    ensures machine { (forest : Forest) (keep : Bool) (pieces : List Piece) (told : List Happening)
-        → Yields forest (kinds pieces) → anchors (parts forest) < 2 ^ 64
-        → events forest keep ≡ Some told → GivesExactly told (answer_of_tokens keep pieces) }
-    ensures parser { (forest : Forest) (keep : Bool) (tokens : Remaining) (told : List Happening)
+    ensures machine { (forest : Forest) (keep : Bool) (pieces : List Piece)
+        (emitted : List Happening) → Yields forest (kinds pieces) → anchors (parts forest) < 2 ^ 64
+        → events forest keep ≡ Some emitted → GivesExactly emitted (answer_of_tokens keep pieces) }
+    ensures parser { (forest : Forest) (keep : Bool) (tokens : Remaining) (emitted : List Happening)
         → Yields forest (kinds tokens.pieces) → tokens.refusal ≡ None
-        → anchors (parts forest) < 2 ^ 64 → events forest keep ≡ Some told
-        → GivesExactly told (to_come (keeping_tags keep (at_start tokens))) }
+        → anchors (parts forest) < 2 ^ 64 → events forest keep ≡ Some emitted
+        → GivesExactly emitted (to_come (keeping_tags keep (at_start tokens))) }
 {}
 
 /// If the spans of tokens come one after the other at places of a text, each event's span starts at or before its end,
@@ -162,7 +162,7 @@ pub fn takes_all_events()
 /// leaves those too. So the events of some tokens also come first when more tokens follow. If they end without a fault,
 /// or by another fault than the end of the tokens, nothing comes after them.
 pub fn begins_alike()
-    ensures step { (m : Machine) (more : List Piece) (refusal : Option Refusal) (x : Told)
+    ensures step { (m : Machine) (more : List Piece) (refusal : Option Refusal) (x : Emitted)
         → event_step m ≡ Ok x → event_step (with_more more refusal m)
         ≡ Ok (record x { machine = with_more more refusal x.machine }) }
     ensures machine { (m : Machine) (more : List Piece) (refusal : Option Refusal)
@@ -176,22 +176,22 @@ pub fn begins_alike()
 {}
 
 /// The kinds of tokens decide their events, except for the spans.
-pub fn tells_by_kinds()
-    ensures exactly { (keep : Bool) (one other : Remaining) (told : List Happening)
+pub fn emits_by_kinds()
+    ensures exactly { (keep : Bool) (one other : Remaining) (emitted : List Happening)
         → kinds one.pieces ≡ kinds other.pieces
-        → GivesExactly told (to_come (keeping_tags keep (at_start one)))
-        → GivesExactly told (to_come (keeping_tags keep (at_start other))) }
-    ensures first { (keep : Bool) (one other : Remaining) (told : List Happening)
+        → GivesExactly emitted (to_come (keeping_tags keep (at_start one)))
+        → GivesExactly emitted (to_come (keeping_tags keep (at_start other))) }
+    ensures first { (keep : Bool) (one other : Remaining) (emitted : List Happening)
         → kinds one.pieces ≡ kinds other.pieces
-        → GivesFirst told (to_come (keeping_tags keep (at_start one)))
-        → GivesFirst told (to_come (keeping_tags keep (at_start other))) }
+        → GivesFirst emitted (to_come (keeping_tags keep (at_start one)))
+        → GivesFirst emitted (to_come (keeping_tags keep (at_start other))) }
 {}
 
 /// CR LF, CR and LF are the same: each text gives the events of its normalized text, except for the spans, and
 /// a fault ends both or none.
-pub fn tells_breaks_alike()
+pub fn emits_breaks_alike()
     ensures { (limit : ℕ) (keep : Bool) (text : List ℕ) → length text < 2 ^ 63 → length text ≤ limit
-        → TellTheSame (to_come (keeping_tags keep (at_start (scan limit text))))
+        → EmitTheSame (to_come (keeping_tags keep (at_start (scan limit text))))
         (to_come (keeping_tags keep (at_start (scan limit (normalized text))))) }
 {
     scans_breaks_alike();

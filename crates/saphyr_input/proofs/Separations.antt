@@ -39,9 +39,9 @@ module _ (tabs : SkipTabs) (start now : List ℕ) (n c loaded : ℕ)
   ended : n ≡ separation.blank_len tabs start
   ended = runs_all (separation.is_skipped tabs) start now n c loaded stops runs
 
-  told : separation.separation_len tabs start
+  known : separation.separation_len tabs start
       ≡ cond (nat_eq n 0) 0 (n + cond (nat_eq c 35) (prefix_len class.is_yaml_non_break now) 0)
-  told = rw (← ended, ← runs.ran.left, ← runs.read) refl
+  known = rw (← ended, ← runs.ran.left, ← runs.read) refl
 
   -- a comment after the white space
   pub with_comment : (m : ℕ) → (n ≡ 0 → ⊥) → c ≡ number_sign → m ≡ prefix_len class.is_yaml_non_break now
@@ -49,13 +49,13 @@ module _ (tabs : SkipTabs) (start now : List ℕ) (n c loaded : ℕ)
   with_comment m some hash e =
       let many : nat_eq n 0 ≡ false = grind (arith, nat_tests) in
       let is : nat_eq c 35 ≡ true = rw hash refl in
-      rw (told, many, is, e) refl
+      rw (known, many, is, e) refl
 
   -- no comment after the white space
   pub without_comment : (c ≡ number_sign → ⊥) → n ≡ separation.separation_len tabs start
   without_comment none =
       let other : nat_eq c 35 ≡ false = grind (arith, nat_tests) in
-      rw (told, other) (none_added n)
+      rw (known, other) (none_added n)
     where
       none_added : (k : ℕ) → k ≡ cond (nat_eq k 0) 0 (k + 0)
       none_added k = grind (arith, nat_tests)

@@ -36,7 +36,8 @@ unfolding words_len
 words_end p q [] h = refl
 words_end p q (c ∷ cs) h = rw h refl
 
-pub neither : (p : Set) (q : Joint) (xs : List ℕ) → p (get_or xs 0 0) ≡ false → q (get_or xs 0 0) (get_or xs 1 0) ≡ false
+pub neither : (p : Set) (q : Joint) (xs : List ℕ) → p (get_or xs 0 0) ≡ false
+    → q (get_or xs 0 0) (get_or xs 1 0) ≡ false
     → words_len p q xs ≡ 0
 neither p q xs set join = words_end p q xs (rw (set, join) refl)
 
@@ -104,10 +105,10 @@ second_stands bs u l ascii =
     subst (StandsFor (get_or bs 1 0)) next
     (subst (λ (b : ℕ). StandsFor b (get_or (chars (drop 1 bs)) 0 0)) (at_drop bs 1) (first_stands (drop 1 bs) s.utf8))
 
-pub joint_told : (q : Joint) (bs : List ℕ) (told : Bool) → IsUtf8 bs → 1 < length bs
-    → ((c d : ℕ) → StandsFor (get_or bs 0 0) c → (get_or bs 0 0 < 128 → StandsFor (get_or bs 1 0) d) → told ≡ q c d)
-    → told ≡ q (get_or (chars bs) 0 0) (get_or (chars bs) 1 0)
-joint_told q bs told u l value =
+pub joint_known : (q : Joint) (bs : List ℕ) (known : Bool) → IsUtf8 bs → 1 < length bs
+    → ((c d : ℕ) → StandsFor (get_or bs 0 0) c → (get_or bs 0 0 < 128 → StandsFor (get_or bs 1 0) d) → known ≡ q c d)
+    → known ≡ q (get_or (chars bs) 0 0) (get_or (chars bs) 1 0)
+joint_known q bs known u l value =
     value (get_or (chars bs) 0 0) (get_or (chars bs) 1 0) (first_stands bs u) (second_stands bs u l)
 
 pub no_joint : (q : Joint) (bs : List ℕ) → IsUtf8 bs → length bs ≤ 1 → ((c : ℕ) → q c 0 ≡ false)

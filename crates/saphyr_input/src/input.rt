@@ -68,8 +68,8 @@ pub trait Input {
         ensures rest { rest self.new ≡ drop 1 (rest self.old) }
         ensures loaded { loaded self.new ≡ 0 };
 
-    /// The same, unless that character is NUL, a break or the byte order mark. Then nothing is taken, and one
-    /// place may be loaded.
+    /// Takes the first character off an input with no loaded place, unless it is NUL, a break or the byte order
+    /// mark. Then nothing is taken, and one place may be loaded.
     fn raw_read_non_breakz_ch(&mut self) -> Option<char>
         requires { loaded self.old ≡ 0 }
         ensures taken { is_some result ≡ class.is_yaml_non_break (slice_index (rest self.old) 0) }
@@ -376,7 +376,8 @@ pub trait Input {
         ensures ok { IfOk result (λ n. spec.TransfersRun class.is_yaml_non_space n (rest self.old)
             (rest self.new) (string_bytes out.old) (string_bytes out.new)) }
         ensures err { OnErr result (spec.TransfersPart
-            (prefix_len class.is_yaml_non_space (rest self.old)) (rest self.old) (rest self.new) (string_bytes out.old) (string_bytes out.new)) }
+            (prefix_len class.is_yaml_non_space (rest self.old)) (rest self.old) (rest self.new)
+            (string_bytes out.old) (string_bytes out.new)) }
         ensures loaded { 1 ≤ loaded self.new }
     {
         self.fetch_while::<NonSpace>(out)
@@ -388,8 +389,9 @@ pub trait Input {
     fn fetch_while<C: CharSet>(&mut self, out: &mut String) -> Result<usize, AllocError>
         ensures ok { IfOk result (λ n. spec.TransfersRun C.test n (rest self.old) (rest self.new)
             (string_bytes out.old) (string_bytes out.new)) }
-        ensures err { OnErr result (spec.TransfersPart (prefix_len C.test (rest self.old)) (rest self.old)
-            (rest self.new) (string_bytes out.old) (string_bytes out.new)) }
+        ensures err { OnErr result (spec.TransfersPart
+            (prefix_len C.test (rest self.old)) (rest self.old) (rest self.new)
+            (string_bytes out.old) (string_bytes out.new)) }
         ensures loaded { 1 ≤ loaded self.new }
     {
         let mut count = 0;
@@ -403,7 +405,7 @@ pub trait Input {
         Ok(count)
     }
 
-    /// Moves characters of a set to the end of `out`, and those that join them. Returns how many, and what follows them.
+    /// Moves characters of a set to the end of `out`, and those that join them. Returns how many, and what follows.
     ///
     /// If `out` can't grow, exactly the characters that were appended have been taken off.
     fn fetch_words<C: WordSet>(&mut self, out: &mut String) -> Result<(usize, char), AllocError>

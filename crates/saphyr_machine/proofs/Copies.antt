@@ -1,6 +1,6 @@
 -- Copies that contracts see as what they are copies of.
-use Rattle.std.proofs.Common.{◌≡◌, ℕ, List, [], ◌∷◌, Option, Some, None, refl, ap, sym, ◌∙◌}
-use Rattle.std.specs.Prelude.{String, string_bytes, option_map}
+use Rattle.std.proofs.Common.{◌≡◌, ℕ, List, [], ◌∷◌, refl, arith}
+use Rattle.std.specs.Prelude.{String, string_bytes}
 use Rattle.std.specs.List.{AllZip}
 use Rattle.std.specs.BTreeMap.{BTreeMap, IsClone}
 use Rattle.saphyr_machine.specs.Names.{ids_of, texts_of}
@@ -30,10 +30,4 @@ texts_copied m n e = seen_copied string_bytes m.entries n.entries e
 
 pub same_reader : (c d : EventCursor) → c.current ≡ d.current → c.kept ≡ d.kept → c.machine ≡ d.machine
     → c.inside ≡ d.inside → c.finished ≡ d.finished → c ≡ d
-same_reader c d current kept machine inside finished = λ i. record {
-  current = current i;
-  kept = kept i;
-  machine = machine i;
-  inside = inside i;
-  finished = finished i;
-}
+same_reader c d current kept machine inside finished = grind arith

@@ -9,11 +9,11 @@ use Rattle.saphyr_machine.specs.declared.receiver.Refused.{Refused}
 use Rattle.saphyr_machine.specs.Events.{Happening}
 use Rattle.saphyr_machine.specs.Answer as answer
 use Rattle.saphyr_machine.specs.Answer.{Answer, Ending, with_first_event, fault_alone}
-use Rattle.saphyr_machine.specs.Cursor.{EventCursor, Kept, IsKept, IsUnmoved, IsUntold, Stays, count, finished_behind, inside_behind, to_come, kept_answer}
+use Rattle.saphyr_machine.specs.Cursor.{EventCursor, Kept, IsKept, IsUnmoved, IsUnreported, Stays, count, finished_behind, inside_behind, to_come, kept_answer}
 use Rattle.saphyr_machine.specs.Calls.{Advances, AdvancesOver, Looks}
-use Rattle.saphyr_machine.specs.Loading.{Portion, is_last, with_event, portion, portion_to_send, inside_over, finished_over, Remembered, PassedOver, Keeps, Tells, Sends, SendsOne, Stopped, Lost, Finished, Faulted, Loads}
+use Rattle.saphyr_machine.specs.Loading.{Portion, is_last, with_event, portion, portion_to_send, inside_over, finished_over, Remembered, PassedOver, Keeps, ReportsFault, Sends, SendsOne, Stopped, Lost, Finished, Faulted, Loads}
 use Rattle.saphyr_machine.proofs.Calls.Handing.{advances, over_more, remembers}
-use Rattle.saphyr_machine.proofs.Calls.Looking.{looked, looked_over, looks_stays, untold}
+use Rattle.saphyr_machine.proofs.Calls.Looking.{looked, looked_over, looks_stays, unreported}
 
 -- ## Lists of events
 
@@ -42,9 +42,7 @@ with_events es p = record { sent = es ++ p.sent; fault = p.fault }
 
 with_one_more_event : (es : List (Happening × Span)) (e : Happening × Span) (p : Portion)
     → with_events (es ++ (e ∷ [])) p ≡ with_events es (with_event e p)
-with_one_more_event es e p = ap (λ (l : List (Happening × Span)). let q : Portion = record { sent = l; fault = p.fault }
-    in q)
-    (append_assoc es (e ∷ []) p.sent)
+with_one_more_event es e p = grind (arith, append_assoc)
 
 abbrev pub part_of : Bool → Answer → Portion
 part_of multi a = portion multi a.events a.fault
@@ -87,24 +85,13 @@ unmoved_too old mid new es so same = record { inside = same.0 ∙ so.inside; fin
 passed_still : (old mid new : EventCursor) (es : List (Happening × Span)) → PassedOver old es mid
     → to_come new ≡ to_come mid
     → IsUnmoved mid new → PassedOver old es new
-passed_still old mid new es so is same = record {
-  events = so.events ∙ ap (λ (a : Answer). es ++ a.events) (sym is);
-  fault = so.fault ∙ ap (λ (a : Answer). a.fault) (sym is);
-  remembered = unmoved_too old mid new es so.remembered same;
-}
+passed_still old mid new es so is same = grind arith
 
 -- ## Where nothing is next but a fault or the end
 
-with_kept : (k : Kept) → k.given ≡ false → Some k ≡ Some (record { fault = k.fault; given = false })
-with_kept k h = ap (λ (b : Bool). let x : Kept = record { fault = k.fault; given = b } in Some x) h
-
-settled : (new : EventCursor) (k : Kept) → new.kept ≡ Some k → new.current ≡ None → IsUntold new.current new.kept
+settled : (new : EventCursor) (k : Kept) → new.kept ≡ Some k → new.current ≡ None → IsUnreported new.current new.kept
     → to_come new ≡ kept_answer new.kept → Keeps k.fault new × (to_come new ≡ fault_alone k.fault)
-settled new k is nothing untold left =
-    let here : IsUntold None (Some k) = subst (λ (o : Option Kept). IsUntold None o) is
-    (subst (λ (o : Option (Happening × Span)). IsUntold o new.kept) nothing untold) in
-    let same : new.kept ≡ Some (record { fault = k.fault; given = false }) = is ∙ with_kept k here in
-    (record { current = nothing; kept = same }, left ∙ ap kept_answer same)
+settled new k is nothing unreported left = grind arith
 
 other : (m : _) (info : _) → (let o : Option Ending = Some (answer.Refused m info) in o) ≡ Some answer.OutOfMemory → ⊥
 other m info e = cc
@@ -148,14 +135,7 @@ module _ {R : Type 0} (receives : R → Happening × Span → Result (Unit {0}) 
     pub kept : new.kept ≡ None
 
   pub begins : (multi : Bool) (c : EventCursor) (r : R) → c.kept ≡ None → Going multi c r r c
-  begins multi c r none = record {
-    sent = [];
-    part = refl;
-    passed = record { events = refl; fault = refl; remembered = record { inside = refl; finished = refl } };
-    sends = refl;
-    leaves = refl;
-    kept = none;
-  }
+  begins multi c r none = grind arith
 
   pub goes_on : (multi : Bool) (old mid new : EventCursor) (first last next : R) (e : Happening × Span)
       → Going multi old first last mid → Advances e mid new × (new.kept ≡ None) → is_last multi e.0 ≡ false
@@ -225,10 +205,7 @@ module _ {R : Type 0} (receives : R → Happening × Span → Result (Unit {0}) 
   all_sent : (multi : Bool) (old mid : EventCursor) (first last : R) (f : Option Ending)
       (so : Going multi old first last mid) → to_come mid ≡ record { events = []; fault = f }
       → portion_to_send multi old ≡ record { sent = so.sent; fault = f }
-  all_sent multi old mid first last f so is =
-      so.part ∙ ap (λ (a : Answer). with_events so.sent (part_of multi a)) is
-      ∙ ap (λ (l : List (Happening × Span)). let q : Portion = record { sent = l; fault = f } in q)
-      (append-nil so.sent)
+  all_sent multi old mid first last f so is = grind (arith, append-nil)
 
   finished : (multi : Bool) (old mid new : EventCursor) (first last : R) → Going multi old first last mid → new ≡ mid
       → to_come new ≡ answer.empty_answer → new.kept ≡ None
@@ -265,34 +242,8 @@ module _ {R : Type 0} (receives : R → Happening × Span → Result (Unit {0}) 
       → Looks mid new → Stays (to_come mid) (to_come new) → to_come new ≡ fault_alone f
       → IsUnmoved mid new → Keeps f new
       → Lost receives (portion_to_send multi old) old first last new
-  lost multi old mid new first last f so looks (inl is) over same keeps =
-      let p = all_sent multi old mid first last (Some f) so (sym is ∙ over) in
-      record {
-        sent = so.sent;
-        unsent = [];
-        fault = f;
-        part = ap (λ (q : Portion). q.sent) p ∙ sym (append-nil so.sent);
-        left = rw (ap (λ (q : Portion). q.fault) p) (omega arith);
-        cause = inr (refl, ap (λ (q : Portion). q.fault) p);
-        sends = so.sends;
-        remembered = unmoved_too old mid new so.sent so.passed.remembered same;
-        leaves = (mid, so.leaves, looks);
-        keeps = keeps;
-      }
-  lost multi old mid new first last f so looks (inr (more, is)) over same keeps = record {
-    sent = so.sent;
-    unsent = (portion_to_send multi mid).sent;
-    fault = f;
-    part = ap (λ (q : Portion). q.sent) so.part;
-    left =
-        rw (ap (λ (q : Portion). q.fault) so.part)
-        (some_of_portion multi (to_come mid).events (to_come mid).fault more);
-    cause = inl (same_fault f answer.OutOfMemory (sym over ∙ is));
-    sends = so.sends;
-    remembered = unmoved_too old mid new so.sent so.passed.remembered same;
-    leaves = (mid, so.leaves, looks);
-    keeps = keeps;
-  }
+  lost multi old mid new first last f so looks u0 over same keeps =
+      grind (arith, all_sent, append-nil, unmoved_too, some_of_portion, same_fault)
 
   lost_with : (multi : Bool) (old mid new : EventCursor) (first last : R) (k : Option Kept) → new.kept ≡ k → IsKept k
       → Going multi old first last mid → Looks mid new → new.current ≡ None
@@ -300,11 +251,11 @@ module _ {R : Type 0} (receives : R → Happening × Span → Result (Unit {0}) 
   lost_with multi old mid new first last None is h so looks nothing = absurd h
   lost_with multi old mid new first last (Some k) is h so looks nothing =
       let stays = looks_stays mid new looks in
-      let s = settled new k is nothing (untold mid new so.kept looks) (looked mid new looks nothing) in
+      let s = settled new k is nothing (unreported mid new so.kept looks) (looked mid new looks nothing) in
       lost multi old mid new first last k.fault so looks stays.0 s.1 stays.1 s.0
 
   pub over : (r : Result (Unit {0}) Fault) (multi : Bool) (old mid new : EventCursor) (first last : R)
-      → Going multi old first last mid → Looks mid new × (new.current ≡ None) → Tells r new.kept
+      → Going multi old first last mid → Looks mid new × (new.current ≡ None) → ReportsFault r new.kept
       → Loads receives r (portion_to_send multi old) old first last new
   over (Ok u) multi old mid new first last so (looks, nothing) h =
       finished multi old mid new first last so (looked_over mid new looks nothing h)
@@ -312,7 +263,7 @@ module _ {R : Type 0} (receives : R → Happening × Span → Result (Unit {0}) 
   over (Err (faults.Scan e)) multi old mid new first last so (looks, nothing) (given, h) =
       let stays = looks_stays mid new looks in
       let s = settled new (record { fault = answer.Refused e.mark (string_bytes e.info); given = given }) h nothing
-      (untold mid new so.kept looks) (looked mid new looks nothing) in
+      (unreported mid new so.kept looks) (looked mid new looks nothing) in
       faulted multi old mid new first last (answer.Refused e.mark (string_bytes e.info)) so looks
       (still_refused (to_come mid) (to_come new) e.mark (string_bytes e.info) stays.0 s.1) s.1 stays.1 s.0
   over (Err faults.OutOfMemory) multi old mid new first last so (looks, nothing) h =

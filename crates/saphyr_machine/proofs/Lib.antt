@@ -1,8 +1,8 @@
-pub mod Given
 pub mod ListedNames
 pub mod Names
 pub mod Passing
 pub mod Properties
+pub mod Beside
 pub mod Walk
 pub mod Sizes
 pub mod Unroll

@@ -1,26 +1,23 @@
 -- Names stay as they are when others are put after them.
-use Rattle.std.proofs.Common.{◌≡◌, ℕ, ◌+◌, ◌-◌, ◌<◌, ◌≤◌, List, [], ◌∷◌, ◌++◌, drop, length, get_or, take, refl, sym, ap, subst, arith, ◌∙◌}
+use Rattle.std.proofs.Common.{◌≡◌, ℕ, ◌+◌, ◌<◌, ◌≤◌, List, [], ◌∷◌, ◌++◌, drop, length, get_or, take, refl, sym, ap, subst, arith, ◌∙◌}
 use Rattle.std.specs.Prelude.{Result, Ok, Err, OnErr, map, slice_range, IsUtf8}
 use Rattle.std.specs.List.{All, AllZip}
 use Rattle.std.proofs.lemmas.List.{drop-append-le, length-append, length-drop, map-append, take-append-drop, take-append-le}
 use Rattle.std.proofs.lemmas.List.Elements.{All-head, All-push, All-tail}
 use Rattle.saphyr_machine.specs.declared.name_list.Name.{Name}
-use Rattle.saphyr_machine.specs.ListedNames.{GrowsBehind, HasName, text_of, with_id}
+use Rattle.saphyr_machine.specs.ListedNames.{GrowsBehind, HasName, bytes_of_name, with_id}
 
 range_of_append : (old more : List ℕ) (a b : ℕ) → a ≤ b → b ≤ length old
     → slice_range (old ++ more) a b ≡ slice_range old a b
-range_of_append old more a b h k =
-    let behind = length-drop a old in
-    ap (take (b - a)) (drop-append-le a old more (omega (arith, h, k)))
-    ∙ take-append-le (b - a) (drop a old) more (omega (arith, h, k, behind))
+range_of_append old more a b h k = grind (arith, length-drop, take, drop-append-le, take-append-le, drop)
 
 grown : (old new : List ℕ) → GrowsBehind old new → new ≡ old ++ drop (length old) new
 grown old new g = sym (take-append-drop (length old) new) ∙ ap (λ r. r ++ drop (length old) new) g
 
 stays : (old new : List ℕ) (n : Name) → GrowsBehind old new → HasName old n
-    → HasName new n × (text_of new n ≡ text_of old n)
+    → HasName new n × (bytes_of_name new n ≡ bytes_of_name old n)
 stays old new n g h =
-    let e = ap (λ bs. text_of bs n) (grown old new g)
+    let e = ap (λ bs. bytes_of_name bs n) (grown old new g)
     ∙ range_of_append old (drop (length old) new) n.start (n.start + n.count) (omega arith) h.0 in
     let longer = ap length (grown old new g) ∙ length-append old (drop (length old) new) in
     let within = h.0 in

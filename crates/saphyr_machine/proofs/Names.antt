@@ -16,7 +16,7 @@ use Rattle.std.specs.declared.cmp.Ordering.TheVariants.{Less, Equal, Greater}
 use Rattle.saphyr_scalar.specs.declared.scalar.fault.Refusal.{Refusal}
 use Rattle.saphyr_machine.specs.Steps.Machine.{Names, Anchors, meaning, with_meaning, is_listed, with_name, next_id, with_anchor}
 use Rattle.saphyr_machine.specs.declared.name_list.Name.{Name}
-use Rattle.saphyr_machine.specs.ListedNames.{text_of, with_id}
+use Rattle.saphyr_machine.specs.ListedNames.{bytes_of_name, with_id}
 use Rattle.saphyr_machine.specs.Names.{ids_of, with_listed, texts_of, names_of}
 
 abbrev pub seen : {A X Z : Type 0} → (X → Z) → List (String A × X) → Names Z
@@ -24,9 +24,7 @@ seen {A} {X} {Z} f es = map (λ (e : String A × X). (string_bytes e.0, f e.1)) 
 
 chosen : {X Z : Type 0} (f : X → Z) (o : Ordering) (a b c : X)
     → f (match_ordering o a b c) ≡ match_ordering o (f a) (f b) (f c)
-chosen f Less a b c = refl
-chosen f Equal a b c = refl
-chosen f Greater a b c = refl
+chosen f u0 a b c = grind arith
 
 inserted : {A X Z : Type 0} (f : X → Z) (es : List (String A × X)) (k : String A) (v : X)
     → seen f (insert_entry string_cmp es k v) ≡ insert_entry (slice_cmp nat_cmp) (seen f es) (string_bytes k) (f v)
@@ -104,7 +102,7 @@ meaning_with {Z} name given z (e ∷ es) = by (slice_cmp nat_cmp given e.0) refl
 pub next_given : (bytes : List ℕ) (ns : List Name) (n : ℕ) (x : Name) (names : Names ℕ)
     → n < length ns → x ≡ get_or ns n x
     → with_listed (map (with_id bytes) (take (n + 1) ns)) names
-    ≡ with_meaning (text_of bytes x) x.id (with_listed (map (with_id bytes) (take n ns)) names)
+    ≡ with_meaning (bytes_of_name bytes x) x.id (with_listed (map (with_id bytes) (take n ns)) names)
 next_given bytes ns n x names h is =
     ap (λ (xs : List Name). with_listed (map (with_id bytes) xs) names)
     (take_more ns n x h ∙ ap (λ (y : Name). take n ns ++ y ∷ []) (sym is))
@@ -113,28 +111,22 @@ next_given bytes ns n x names h is =
 
 -- what a name means after one more of them, which is compared by its bytes
 pub one_more : (name bytes : List ℕ) (ns : List Name) (n : ℕ) (x : Name) (names : Names ℕ) (same : Bool)
-    → n < length ns → x ≡ get_or ns n x → same ≡ pointwise nat_eq name (text_of bytes x)
+    → n < length ns → x ≡ get_or ns n x → same ≡ pointwise nat_eq name (bytes_of_name bytes x)
     → meaning name (with_listed (map (with_id bytes) (take (n + 1) ns)) names)
     ≡ cond same (Some x.id) (meaning name (with_listed (map (with_id bytes) (take n ns)) names))
 one_more name bytes ns n x names same h is c =
     let before : Names ℕ = with_listed (map (with_id bytes) (take n ns)) names in
     ap (λ (ms : Names ℕ). meaning name ms) (next_given bytes ns n x names h is)
-    ∙ meaning_with name (text_of bytes x) x.id before
+    ∙ meaning_with name (bytes_of_name bytes x) x.id before
     ∙ ap (λ (b : Bool). cond b (Some x.id) (meaning name before))
-    (is_eq-slice_cmp name (text_of bytes x) ∙ sym c)
+    (is_eq-slice_cmp name (bytes_of_name bytes x) ∙ sym c)
 
 -- a name that is noted behind the others has its id
 pub registered : (a : Anchors) (es fs : List (List ℕ × ℕ)) (ids : Names ℕ) (id : ℕ) (bytes : List ℕ)
     → with_listed es ids ≡ a.ids → id ≡ next_id a → fs ≡ es ++ ((bytes, id) ∷ [])
     → (let r : Result (ℕ × Anchors) Refusal = Ok (next_id a, with_anchor bytes a) in r)
     ≡ Ok (id, record { ids = with_listed fs ids; last = id })
-registered a es fs ids id bytes before next more =
-    let names : with_meaning bytes (next_id a) a.ids ≡ with_listed fs ids =
-    ap (λ (n : ℕ). with_meaning bytes n a.ids) (sym next)
-    ∙ ap (λ (ns : Names ℕ). with_meaning bytes id ns) (sym before)
-    ∙ sym (fold-append _ ids es ((bytes, id) ∷ []))
-    ∙ ap (λ (xs : List (List ℕ × ℕ)). with_listed xs ids) (sym more) in
-    λ i. Ok (sym next i, record { ids = names i; last = sym next i })
+registered a es fs ids id bytes before next more = grind (arith, fold-append)
 
 -- where the name of an alias is none of the latest, the others are in the map
 pub settled : (a : Anchors) (name : List ℕ) (es fs : List (List ℕ × ℕ)) (ids new : Names ℕ) (last now : ℕ)
@@ -143,14 +135,7 @@ pub settled : (a : Anchors) (name : List ℕ) (es fs : List (List ℕ × ℕ)) (
     → found ≡ meaning name new
     → (let r : Result (Option ℕ × Anchors) Refusal = Ok (meaning name a.ids, a) in r)
     ≡ Ok (found, record { ids = with_listed fs new; last = now })
-settled a name es fs ids new last now found is moved none same f =
-    let names : with_listed es ids ≡ with_listed fs new =
-    sym moved ∙ ap (λ (l : List (List ℕ × ℕ)). with_listed l new) (sym none) in
-    let value : meaning name a.ids ≡ found =
-    ap (λ (x : Anchors). meaning name x.ids) (sym is) ∙ ap (λ (n : Names ℕ). meaning name n) (sym moved) ∙ sym f in
-    let whole : a ≡ record { ids = with_listed fs new; last = now } =
-    sym is ∙ (λ i. record { ids = names i; last = sym same i }) in
-    λ i. Ok (value i, whole i)
+settled a name es fs ids new last now found is moved none same f = grind arith
 
 -- where only the latest names are listed, and its own is none of them, the map has its meaning
 pub unlisted : (a : Anchors) (name : List ℕ) (es fs : List (List ℕ × ℕ)) (ids new : Names ℕ) (last now first : ℕ)
@@ -159,14 +144,7 @@ pub unlisted : (a : Anchors) (name : List ℕ) (es fs : List (List ℕ × ℕ)) 
     → meaning name (with_listed es ids) ≡ meaning name (with_listed (take first es) ids) → found ≡ meaning name new
     → (let r : Result (Option ℕ × Anchors) Refusal = Ok (meaning name a.ids, a) in r)
     ≡ Ok (found, record { ids = with_listed fs new; last = now })
-unlisted a name es fs ids new last now first found is kept listed same none others f =
-    let value : meaning name a.ids ≡ found =
-    ap (λ (x : Anchors). meaning name x.ids) (sym is) ∙ others
-    ∙ ap (λ (n : ℕ). meaning name (with_listed (take n es) ids)) none
-    ∙ ap (λ (n : Names ℕ). meaning name n) (sym kept) ∙ sym f in
-    let whole : a ≡ record { ids = with_listed fs new; last = now } =
-    sym is ∙ (λ i. record { ids = with_listed (sym listed i) (sym kept i); last = sym same i }) in
-    λ i. Ok (value i, whole i)
+unlisted a name es fs ids new last now first found is kept listed same none others f = grind arith
 
 -- ## Maps to texts
 

@@ -1,5 +1,5 @@
 -- Nodes with an anchor or a tag alone, and no other property.
-use Rattle.std.proofs.Common.{◌≡◌, ℕ, refl, ap, Result, Ok, Err}
+use Rattle.std.proofs.Common.{◌≡◌, ℕ, refl, Result, Ok, arith}
 use Rattle.saphyr_scalar.specs.declared.scalar.fault.Refusal.{Refusal}
 use Rattle.std.specs.Prelude.{Some, None}
 use Rattle.saphyr_scalar.specs.declared.scalar.position.Span.{Span}
@@ -18,7 +18,8 @@ pub anchor_alone : (kind : TokenKind) (at : Span) (x : Parts) (id : ℕ) (s : Sp
 anchor_alone code.Tag at x id s c m other = absurd (other refl)
 anchor_alone _ at x id s c m other = refl
 
-pub tag_alone : (kind : TokenKind) (at : Span) (x : Parts) (tag : ResolvedTag) (s : Span) (c : NodeContext) (m : Machine)
+pub tag_alone : (kind : TokenKind) (at : Span) (x : Parts) (tag : ResolvedTag) (s : Span) (c : NodeContext)
+    (m : Machine)
     → (kind ≡ code.Anchor → ⊥)
     → node_behind_tag_at (kind_with kind x) tag s c (piece_with at kind x) m
     ≡ node_content (record { start = s.start; behind = s.end; anchor = 0; tag = Some tag }) c (piece_with at kind x) m
@@ -31,11 +32,4 @@ with_machine m t = Ok (t, m)
 -- A tag that was taken is resolved.
 pub resolved : (r : Result ResolvedTag Refusal) (m n : Machine) (tag : ResolvedTag)
     → (r >>= with_machine m) ≡ Ok (tag, n) → (r ≡ Ok tag) × (m ≡ n)
-resolved (Err e) m n tag is = absurd (cc)
-resolved (Ok t) m n tag is =
-    let both = ap (value_or (tag, n)) is in
-    (ap (λ (x : ResolvedTag × Machine). Ok x.0) both, ap (λ (x : ResolvedTag × Machine). x.1) both)
-  where
-    value_or : ResolvedTag × Machine → Result (ResolvedTag × Machine) Refusal → ResolvedTag × Machine
-    value_or d (Ok x) = x
-    value_or d (Err e) = d
+resolved u0 m n tag is = grind arith

@@ -1,13 +1,13 @@
 -- Each step leaves less to do, so that all steps end.
-use Rattle.std.proofs.Common.{◌≡◌, ◌≢◌, ℕ, ◌+◌, ◌*◌, ◌≤◌, List, [], ◌∷◌, length, Ok, arith, subst}
+use Rattle.std.proofs.Common.{◌≡◌, ◌≢◌, ℕ, ◌+◌, ◌*◌, ◌≤◌, List, [], ◌∷◌, length, Ok, refl, arith, subst}
 use Rattle.saphyr_scalar.specs.declared.scalar.position.Marker.{Marker}
 use Rattle.saphyr_machine.specs.declared.state.State.{State}
 use Rattle.saphyr_machine.specs.declared.state.State.TheVariants as state
-use Rattle.saphyr_machine.specs.Steps.Machine.{Machine, Told}
+use Rattle.saphyr_machine.specs.Steps.Machine.{Machine, Emitted}
 use Rattle.saphyr_machine.specs.Steps.Expected.{event_step}
 use Rattle.saphyr_machine.specs.Answer.{machine_size}
-use Rattle.saphyr_machine.proofs.Walk.Steps.{Walk, HasPlace, HavePlaces, StepGives}
-use Rattle.saphyr_machine.proofs.Walk.All.{steps_at}
+use Rattle.saphyr_machine.proofs.Beside.Machines.{Expected, AllExpected}
+use Rattle.saphyr_machine.proofs.Walk.{Walk, beside_itself, StepGives, steps}
 
 -- no more than n is left to do
 abbrev measured : ℕ → Walk
@@ -29,23 +29,21 @@ measured n = record {
   over = λ low d c r t ts e l a. omega (arith, l, a);
 }
 
-any_place : (s : State) → HasPlace (λ a b. Unit {0}) s
-any_place (state.FlowSequenceEntryMappingEnd place) = tt
-any_place _ = tt
+any_state : (n : ℕ) (s : State) → Expected (beside_itself (measured n)) s s
+any_state n (state.FlowSequenceEntryMappingEnd place) = (place, tt, refl)
+any_state n _ = refl
 
-any_places : (ss : List State) → HavePlaces (λ a b. Unit {0}) ss
-any_places [] = tt
-any_places (s ∷ ss) = (any_place s, any_places ss)
+any_states : (n : ℕ) (ss : List State) → AllExpected (beside_itself (measured n)) ss ss
+any_states n [] = refl
+any_states n (s ∷ ss) = (any_state n s, any_states n ss)
 
-size_left : (n : ℕ) (x : Told) → StepGives (measured n) (Ok x) → machine_size x.machine ≤ n
-size_left n x g = let l : 10 * length x.machine.tokens.pieces + _ ≤ n + 10 = g.1.rests in omega (arith, l)
+size_left : (n : ℕ) (x : Emitted) → StepGives (measured n) (Ok x) → machine_size x.machine ≤ n
+size_left n x g = let l : 10 * length x.machine.tokens.pieces + _ ≤ n + 10 = g.1.rest.tokens.0 in omega (arith, l)
 
-pub step_leaves : (n : ℕ) (m : Machine) (x : Told) → m.state ≢ state.End → machine_size m ≤ n + 1 → event_step m ≡ Ok x
-    → machine_size x.machine ≤ n
-unfolding event_step
+pub step_leaves : (n : ℕ) (m : Machine) (x : Emitted) → m.state ≢ state.End → machine_size m ≤ n + 1
+    → event_step m ≡ Ok x → machine_size x.machine ≤ n
 step_leaves n m x alive l e =
     let place : Marker = record { index = 0; line = 0; col = 0 } in
     size_left n x
     (subst (StepGives (measured n)) e
-    (steps_at (measured n) {low = place} m.state m alive (any_place m.state)
-    (record { pieces = omega (arith, l); places = any_places m.states })))
+    (steps (measured n) place m alive (any_state n m.state) (any_states n m.states) (omega (arith, l))))

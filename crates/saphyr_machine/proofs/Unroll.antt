@@ -5,25 +5,19 @@ use Rattle.saphyr_scalar.specs.declared.scalar.fault.Refusal.{Refusal}
 use Rattle.saphyr_scanner.specs.Views.Tokens.{Piece}
 use Rattle.saphyr_machine.specs.declared.state.State.{State}
 use Rattle.saphyr_machine.specs.declared.state.State.TheVariants as state
-use Rattle.saphyr_machine.specs.Steps.Machine.{Machine, Told}
+use Rattle.saphyr_machine.specs.Steps.Machine.{Machine, Emitted}
 use Rattle.saphyr_machine.specs.Steps.Expected.{event_step, event_step_at}
-use Rattle.saphyr_machine.specs.Answer.{Answer, empty_answer, with_first_event, answer_of_step, answer_unless_ended, answer_of_steps, remaining_answer, machine_size, weight_before, begins_with_value}
+use Rattle.saphyr_machine.specs.Answer.{Answer, empty_answer, with_first_event, answer_of_step, answer_unless_ended, answer_of_steps, remaining_answer, machine_size, weight_before}
 use Rattle.saphyr_machine.proofs.Sizes.{step_leaves}
 
-key_is_positive : (b : Bool) → 0 < (if b then 3 else 1)
-key_is_positive true = omega arith
-key_is_positive false = omega arith
-
-alive_at : (s : State) (m : Machine) (x : Told) → event_step_at s m ≡ Ok x → 0 < weight_before s m.tokens.pieces
-alive_at state.End m x e = absurd (cc)
-alive_at state.BlockMappingKey m x e = key_is_positive (begins_with_value m.tokens.pieces)
-alive_at _ m x e = omega arith
+alive_at : (s : State) (m : Machine) (x : Emitted) → event_step_at s m ≡ Ok x → 0 < weight_before s m.tokens.pieces
+alive_at u0 m x e = grind arith
 
 going : (s : State) (ts : List Piece) → 0 < weight_before s ts → s ≢ state.End
 going s ts l e = let none = subst (λ s. 0 < weight_before s ts) e l in absurd (omega (arith, none))
 
 -- a step leaves less than there was
-pub shrinks_at : (n : ℕ) (m : Machine) (x : Told) → machine_size m ≤ n → event_step m ≡ Ok x
+pub shrinks_at : (n : ℕ) (m : Machine) (x : Emitted) → machine_size m ≤ n → event_step m ≡ Ok x
     → machine_size x.machine < n
 unfolding event_step
 shrinks_at n m x l e =
@@ -31,8 +25,8 @@ shrinks_at n m x l e =
     let less = step_leaves (n - 1) m x (going m.state m.tokens.pieces alive) (omega (arith, l, alive)) e in
     omega (arith, less, l, alive)
 
-same_delivery : (r : Result Told Refusal) (go ho : Machine → Answer)
-    → ((x : Told) → r ≡ Ok x → go x.machine ≡ ho x.machine) → answer_of_step r go ≡ answer_of_step r ho
+same_delivery : (r : Result Emitted Refusal) (go ho : Machine → Answer)
+    → ((x : Emitted) → r ≡ Ok x → go x.machine ≡ ho x.machine) → answer_of_step r go ≡ answer_of_step r ho
 same_delivery (Err e) go ho h = refl
 same_delivery (Ok x) go ho h = ap (with_first_event (x.what, x.span)) (h x refl)
 

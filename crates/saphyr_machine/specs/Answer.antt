@@ -10,7 +10,7 @@ use Rattle.saphyr_scanner.specs.Views.Tokens.{Piece}
 use Rattle.saphyr_machine.specs.declared.state.State.{State}
 use Rattle.saphyr_machine.specs.declared.state.State.TheVariants as state
 use Rattle.saphyr_machine.specs.Events.{Happening}
-use Rattle.saphyr_machine.specs.Steps.Machine.{Machine, Told}
+use Rattle.saphyr_machine.specs.Steps.Machine.{Machine, Emitted}
 use Rattle.saphyr_machine.specs.Steps.Expected.{event_step}
 
 -- what ends the events before their end: a refusal with its place and its text, or that memory ran out
@@ -35,7 +35,7 @@ with_first_event e a = record { events = e ∷ a.events; fault = a.fault }
 abbrev pub ending_of : Refusal → Ending
 ending_of e = Refused e.mark (fault_text e.text)
 
-abbrev pub answer_of_step : Result Told Refusal → (Machine → Answer) → Answer
+abbrev pub answer_of_step : Result Emitted Refusal → (Machine → Answer) → Answer
 answer_of_step (Ok x) go = with_first_event (x.what, x.span) (go x.machine)
 answer_of_step (Err e) go = fault_alone (ending_of e)
 

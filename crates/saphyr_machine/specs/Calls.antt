@@ -13,8 +13,7 @@ use Rattle.saphyr_machine.specs.Events as events
 use Rattle.saphyr_machine.specs.Events.{Happening}
 use Rattle.saphyr_machine.specs.Faults.{is_own}
 use Rattle.saphyr_machine.specs.Views.Machines.{happening}
-use Rattle.saphyr_scanner.specs.Views.Tokens.{Piece}
-use Rattle.saphyr_machine.specs.Steps.Machine.{Machine, told_event, with_last_token}
+use Rattle.saphyr_machine.specs.Steps.Machine.{Machine, emit}
 use Rattle.saphyr_machine.specs.Steps.Expected.{event_step}
 use Rattle.saphyr_machine.specs.Answer.{Answer, Ending, Refused, OutOfMemory, fault_alone, empty_answer, remaining_answer}
 use Rattle.saphyr_machine.specs.Cursor.{EventCursor, Kept, IsUnmoved, Refuses, Shows, Stays, count, ending_of_fault, event_of, keeping_tags, with_event_handed, to_come}
@@ -31,20 +30,13 @@ item_at next fault progress.Over = None
 -- which the machine isn't read again; or nothing, once the stream is over.
 abbrev pub Reads : Option (Result (Event × Span) Fault) → Machine → Machine → Type 0
 Reads None old new = (old.state ≡ state.End) × (new ≡ old)
-Reads (Some (Ok e)) old new = event_step old ≡ told_event (happening e.0) e.1 new
+Reads (Some (Ok e)) old new = event_step old ≡ emit (happening e.0) e.1 new
 Reads (Some (Err f)) old new = Refuses f (remaining_answer old)
 
 -- nothing but this is still to come; memory may run out before anything that is
-abbrev pub Ends : Ending → Answer → Type 0
-Ends (Refused mark text) a = a ≡ fault_alone (Refused mark text)
-Ends OutOfMemory a = 0 < count a
-
--- ## Tokens that are given
-
--- The token is put after all that are still to be read, or, where the answer is `false`, it is dropped.
-abbrev pub IsGivenLast : Bool → Piece → EventCursor → EventCursor → Type 0
-IsGivenLast true t old new = new ≡ record old { machine = with_last_token t old.machine }
-IsGivenLast false t old new = new ≡ old
+abbrev pub EndsEvents : Ending → Answer → Type 0
+EndsEvents (Refused mark text) a = a ≡ fault_alone (Refused mark text)
+EndsEvents OutOfMemory a = 0 < count a
 
 -- ## Events that are handed out
 
@@ -53,7 +45,7 @@ abbrev pub AdvancesFrom : Option (Happening × Span) → Option Kept → Happeni
 AdvancesFrom (Some next) kept e old new = (next ≡ e) × (new ≡ with_event_handed e.0 e.1 (record old { current = None }))
 AdvancesFrom None (Some k) e old new = ⊥
 AdvancesFrom None None e old new =
-    (event_step old.machine ≡ told_event e.0 e.1 new.machine)
+    (event_step old.machine ≡ emit e.0 e.1 new.machine)
     × (new ≡ with_event_handed e.0 e.1 (record old { machine = new.machine }))
 
 -- This event is handed out. It was read ahead, or the machine makes one step; nothing else changes but what is
@@ -69,18 +61,19 @@ AdvancesOver (e ∷ es) old new = (middle : EventCursor) × Advances e old middl
 -- ## The fault that ends the events
 
 -- the fault as it was kept, or the lack of memory for a copy of it
-abbrev pub IsToldAs : Ending → Fault → Type 0
-IsToldAs kept (fault.Scan e) = kept ≡ Refused e.mark (string_bytes e.info)
-IsToldAs kept fault.OutOfMemory = Unit {0}
-IsToldAs kept fault.Receiver = ⊥
-IsToldAs kept fault.InsideDocument = ⊥
+abbrev pub IsReportedAs : Ending → Fault → Type 0
+IsReportedAs kept (fault.Scan e) = kept ≡ Refused e.mark (string_bytes e.info)
+IsReportedAs kept fault.OutOfMemory = Unit {0}
+IsReportedAs kept fault.Receiver = ⊥
+IsReportedAs kept fault.InsideDocument = ⊥
 
 abbrev pub given_fault : Fault → Option Kept
 given_fault f = Some (record { fault = ending_of_fault f; given = true })
 
 abbrev pub FailsFrom : Option (Happening × Span) → Option Kept → Fault → EventCursor → EventCursor → Type 0
 FailsFrom (Some next) kept f old new = ⊥
-FailsFrom None (Some k) f old new = (k.given ≡ false) × IsToldAs k.fault f × (new ≡ record old { kept = given_fault f })
+FailsFrom None (Some k) f old new = (k.given ≡ false) × IsReportedAs k.fault f
+    × (new ≡ record old { kept = given_fault f })
 FailsFrom None None f old new =
     Refuses f (remaining_answer old.machine) × (new ≡ record old { kept = given_fault f; machine = new.machine })
 
@@ -114,10 +107,10 @@ EndsTheStream c = (span : Span) → c.finished ≡ Some span → (keep : Bool) �
 abbrev pub ReadsAhead : Option (Happening × Span) → Option Kept → EventCursor → EventCursor → Type 0
 ReadsAhead (Some e) (Some k) old new = ⊥
 ReadsAhead (Some e) None old new =
-    (event_step old.machine ≡ told_event e.0 e.1 new.machine)
+    (event_step old.machine ≡ emit e.0 e.1 new.machine)
     × (new ≡ record old { current = Some e; machine = new.machine })
 ReadsAhead None (Some k) old new =
-    (k.given ≡ false) × Ends k.fault (remaining_answer old.machine)
+    (k.given ≡ false) × EndsEvents k.fault (remaining_answer old.machine)
     × (new ≡ record old { kept = Some k; machine = new.machine })
 ReadsAhead None None old new = (old.machine.state ≡ state.End) × (new ≡ old)
 

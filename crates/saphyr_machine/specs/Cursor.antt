@@ -91,10 +91,10 @@ IsKept None = ⊥
 IsKept (Some k) = Unit {0}
 
 -- a fault that is kept wasn't given yet, and no event comes before it
-abbrev pub IsUntold : Option (Happening × Span) → Option Kept → Type 0
-IsUntold current None = Unit {0}
-IsUntold None (Some k) = k.given ≡ false
-IsUntold (Some e) (Some k) = ⊥
+abbrev pub IsUnreported : Option (Happening × Span) → Option Kept → Type 0
+IsUnreported current None = Unit {0}
+IsUnreported None (Some k) = k.given ≡ false
+IsUnreported (Some e) (Some k) = ⊥
 
 -- no event was handed out
 abbrev pub IsUnmoved : EventCursor → EventCursor → Type 0

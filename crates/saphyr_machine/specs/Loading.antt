@@ -67,14 +67,14 @@ pub record Keeps (fault : Ending) (c : EventCursor) : Type 0 where
   pub current : c.current ≡ None
   pub kept : c.kept ≡ Some (record { fault = fault; given = false })
 
--- the fault that ended the events, as it is told; memory may run out while it is copied
-abbrev pub Tells : Result (Unit {0}) Fault → Option Kept → Type 0
-Tells (Ok u) kept = kept ≡ None
-Tells (Err (faults.Scan e)) kept =
+-- the fault that ended the events, as it is reported; memory may run out while it is copied
+abbrev pub ReportsFault : Result (Unit {0}) Fault → Option Kept → Type 0
+ReportsFault (Ok u) kept = kept ≡ None
+ReportsFault (Err (faults.Scan e)) kept =
     (given : Bool) × (kept ≡ Some (record { fault = answer.Refused e.mark (string_bytes e.info); given = given }))
-Tells (Err faults.OutOfMemory) kept = IsKept kept
-Tells (Err faults.Receiver) kept = ⊥
-Tells (Err faults.InsideDocument) kept = ⊥
+ReportsFault (Err faults.OutOfMemory) kept = IsKept kept
+ReportsFault (Err faults.Receiver) kept = ⊥
+ReportsFault (Err faults.InsideDocument) kept = ⊥
 
 -- ## What the receiver took
 

@@ -20,8 +20,8 @@ const LATEST: usize = 8;
 pub struct Anchors {
     // The ids by the names, without those that were given since.
     ids: BTreeMap<String, usize>,
-    // The names that were given ids since. Most anchors have no alias, and to put a name into the map costs most of what
-    // it costs to read an anchor. So that waits for an alias that means an earlier one.
+    // The names that were given ids since. Most anchors have no alias, and to put a name into the map costs most of
+    // what it costs to read an anchor. So that waits for an alias that means an earlier one.
     recent: NameList,
     last: usize,
 }
@@ -83,7 +83,7 @@ impl Anchors {
         Ok(self.ids.get(name).copied())
     }
 
-    /// The same names with the same ids.
+    /// A copy, unless memory runs out.
     pub fn try_clone(&self) -> Result<Anchors, AllocError>
         ensures { IfOk result (λ copy. copy ≡ self.now) }
     {

@@ -1,6 +1,6 @@
 //! Copies of machines and of readers.
 
-ghost use Rattle.std.specs.Prelude.{◌≡◌, IfOk, option_map};
+ghost use Rattle.std.specs.Prelude.{◌≡◌, ℕ, List, IfOk, option_map};
 ghost use Rattle.saphyr_machine.specs.Cursor.{event_of};
 ghost use Rattle.saphyr_machine.specs.Views.Kept.{kept_of};
 
@@ -38,11 +38,9 @@ fn copy_kept(kept: &Option<Kept>) -> Result<Option<Kept>, AllocError>
 }
 
 impl<T: CloneInput> Machine<T> {
-    ghost use Rattle.saphyr_machine.specs.Views.Machines.{machine_of};
-
     // An independent machine that expects the same and reads the same tokens.
     fn try_clone(&self) -> Result<Self, AllocError>
-        ensures { IfOk result (λ copy. machine_of copy ≡ machine_of self.now) }
+        ensures { IfOk result (λ copy. copy ≡ self.now) }
     {
         let states = self.states.try_clone()?;
         let anchors = self.anchors.try_clone()?;
@@ -51,7 +49,6 @@ impl<T: CloneInput> Machine<T> {
         match self.scanner.try_clone() {
             Ok(scanner) => Ok(Machine {
                 scanner,
-                end: self.end,
                 state: self.state.copied(),
                 states,
                 anchors,
@@ -65,11 +62,15 @@ impl<T: CloneInput> Machine<T> {
 }
 
 impl<'input, T: CloneInput> EventReader<'input, T> {
-    ghost use Rattle.saphyr_machine.specs.Views.Readers.{cursor};
+    ghost use Rattle.saphyr_machine.specs.Views.Readers.{cursor_in, cursor_over, scanning_of};
 
     /// An independent reader at the same place.
     pub fn try_clone(&self) -> Result<Self, AllocError>
-        ensures { IfOk result (λ copy. cursor copy ≡ cursor self.now) }
+        ensures scanner { IfOk result (λ copy. scanning_of copy ≡ scanning_of self.now) }
+        ensures over { IfOk result
+            (λ copy. (rest : List ℕ) → cursor_over rest copy ≡ cursor_over rest self.now) }
+        ensures cursor { IfOk result
+            (λ copy. (more : List ℕ) → cursor_in more copy ≡ cursor_in more self.now) }
     {
         let kept = copy_kept(&self.kept)?;
         let current = match copy_event(&self.current) {

@@ -1,14 +1,14 @@
 //! The states at the beginnings and the ends of the stream and of documents, with the directives
 //! (YAML 1.2.2, 6.8 and chapter 9).
 
-ghost use Rattle.std.specs.Prelude.{◌≡◌, ℕ, List, None, false, string_bytes};
+ghost use Rattle.std.specs.Prelude.{◌≡◌, ℕ, List, None, string_bytes};
 ghost use Rattle.saphyr_scanner.specs.Views.Tokens.{Parts, kind_with};
 ghost use Rattle.saphyr_machine.specs.Steps.Documents as spec;
 
 use crate::context::NodeContext;
 use crate::event::Event;
 use crate::handles::Handles;
-use crate::machine::{Machine, tell};
+use crate::machine::Machine;
 use crate::prefixes::Prefixes;
 use crate::state::State;
 use saphyr_input::input::Input;
@@ -73,14 +73,13 @@ impl Declared {
 }
 
 impl<T: Input> Machine<T> {
-    ghost use Rattle.std.specs.Prelude.{Ok, List, ℕ, true};
+    ghost use Rattle.std.specs.Prelude.{IfOk, Ok, List, ℕ, true};
     ghost use Rattle.saphyr_scalar.specs.Views.Reader.{Moves};
     ghost use Rattle.saphyr_scanner.specs.Views.Engine.{stopped_by};
     ghost use Rattle.saphyr_scanner.specs.Views.Scanning.{IsReady};
     ghost use Rattle.saphyr_scanner.specs.Grammar.Tokens as tokens;
     ghost use Rattle.saphyr_scanner.specs.Views.Tokens.{Piece};
-    ghost use Rattle.saphyr_machine.specs.Views.Events.{has_tag};
-    ghost use Rattle.saphyr_machine.specs.Views.Machines.{machine_of, told_event_of, ComesTo, IsNext, TellsBy};
+    ghost use Rattle.saphyr_machine.specs.Views.Machines.{machine_in, emitted_of, ComesTo, IsNext, EmitsBy};
     ghost use Rattle.saphyr_machine.specs.Steps.Machine as machine;
     ghost use Rattle.saphyr_machine.specs.Steps.Machine.{taken_token};
     ghost use Rattle.saphyr_machine.specs.Events as events;
@@ -103,9 +102,10 @@ impl<T: Input> Machine<T> {
     // Takes a version directive. A version may be declared once.
     fn version_directive(&mut self, declared: &mut Declared) -> Result<(), Stopped>
         requires { IsReady self.old.scanner }
-        ensures { (t : Piece) (m : machine.Machine) → taken_token (machine_of self.old) ≡ Ok (t, m)
+        ensures { (more : List ℕ) (t : Piece) (m : machine.Machine)
+            → taken_token (machine_in more self.old) ≡ Ok (t, m)
             → Moves {Y = spec.Declared × machine.Machine}
-            (λ _. (seen declared.new self.new.prefixes, machine_of self.new))
+            (λ _. (seen declared.new self.new.prefixes, machine_in more self.new))
             (stopped_by result self.new.scanner.stop)
             (spec.version_declared t.span.start (seen declared.old self.old.prefixes) m) }
     {
@@ -121,11 +121,11 @@ impl<T: Input> Machine<T> {
     #[tactic(auto, using(crate::proofs::Names::given_names))]
     fn tag_directive(&mut self, declared: &mut Declared) -> Result<(), Stopped>
         requires { IsReady self.old.scanner }
-        ensures { (t : Piece) (m : machine.Machine) (handle prefix : List ℕ)
-            → taken_token (machine_of self.old) ≡ Ok (t, m)
+        ensures { (more : List ℕ) (t : Piece) (m : machine.Machine) (handle prefix : List ℕ)
+            → taken_token (machine_in more self.old) ≡ Ok (t, m)
             → t.kind ≡ tokens.TagDirective handle prefix
             → Moves {Y = spec.Declared × machine.Machine}
-            (λ _. (seen declared.new self.new.prefixes, machine_of self.new))
+            (λ _. (seen declared.new self.new.prefixes, machine_in more self.new))
             (stopped_by result self.new.scanner.stop)
             (spec.with_handle handle prefix t.span.start (seen declared.old self.old.prefixes) m) }
     {
@@ -149,10 +149,11 @@ impl<T: Input> Machine<T> {
     // Takes a directive. Reserved ones are ignored.
     fn directive(&mut self, kind: TokenKind, declared: &mut Declared) -> Result<(), Stopped>
         requires { IsNext kind self.old }
-        ensures { (t : Piece) (m : machine.Machine) → taken_token (machine_of self.old) ≡ Ok (t, m)
+        ensures { (more : List ℕ) (t : Piece) (m : machine.Machine)
+            → taken_token (machine_in more self.old) ≡ Ok (t, m)
             → spec.is_directive t.kind ≡ true
             → Moves {Y = spec.Declared × machine.Machine}
-            (λ _. (seen declared.new self.new.prefixes, machine_of self.new))
+            (λ _. (seen declared.new self.new.prefixes, machine_in more self.new))
             (stopped_by result self.new.scanner.stop)
             (spec.directive_at t.kind t (seen declared.old self.old.prefixes) m) }
     {
@@ -186,13 +187,13 @@ impl<T: Input> Machine<T> {
         &mut self,
         next: &mut (Event<'input>, Span),
     ) -> Result<(), Stopped>
-        ensures { TellsBy spec.stream_start self.old result next.new self.new }
+        ensures { EmitsBy spec.stream_start self.old result next.new self.new }
     {
         match self.peek()? {
             TokenKind::StreamStart => {
                 let span = self.skip();
                 self.state.set(State::ImplicitDocumentStart);
-                tell(next, Event::StreamStart, span);
+                self.emit(next, Event::StreamStart, span);
                 Ok(())
             }
             _ => Err(self.refuse_next(FaultText::DocumentStartExpected)),
@@ -208,20 +209,20 @@ impl<T: Input> Machine<T> {
         span: Span,
         next: &mut (Event<'input>, Span),
     ) -> Result<(), Stopped>
-        ensures { TellsBy (λ m. machine.told_event (events.DocumentStart explicit) span
+        ensures { EmitsBy (λ m. machine.emit (events.DocumentStart explicit) span
             (machine.with_state state (machine.push DocumentEnd (spec.without_anchors m))))
             self.old result next.new self.new }
     {
         self.anchors.forget();
         self.push(State::DocumentEnd)?;
         self.state.set(state);
-        tell(next, Event::DocumentStart(explicit), span);
+        self.emit(next, Event::DocumentStart(explicit), span);
         Ok(())
     }
 
     // A document with `---`, whose directives begin with the next token.
     fn explicit_document<'input>(&mut self, next: &mut (Event<'input>, Span)) -> Result<(), Stopped>
-        ensures { TellsBy spec.next_document self.old result next.new self.new }
+        ensures { EmitsBy spec.next_document self.old result next.new self.new }
     {
         match self.directives()? {
             TokenKind::DocumentStart => {
@@ -236,13 +237,13 @@ impl<T: Input> Machine<T> {
     // The end of the stream.
     fn end_stream<'input>(&mut self, next: &mut (Event<'input>, Span))
         requires { IsReady self.old.scanner }
-        ensures { (t : Piece) (m : machine.Machine) → taken_token (machine_of self.old) ≡ Ok (t, m)
-            → machine.told_event events.StreamEnd t.span (machine.with_state End m)
-            ≡ Ok (told_event_of (machine_of self.new) next.new) }
+        ensures { (more : List ℕ) → IfOk (taken_token (machine_in more self.old)) (λ taken.
+            machine.emit events.StreamEnd taken.0.span (machine.with_state End taken.1)
+            ≡ Ok (emitted_of (machine_in more self.new) next.new)) }
     {
         let span = self.skip();
         self.state.set(State::End);
-        tell(next, Event::StreamEnd, span);
+        self.emit(next, Event::StreamEnd, span);
     }
 
     // The start of a document that may begin without `---`, or the end of the stream.
@@ -251,7 +252,7 @@ impl<T: Input> Machine<T> {
         &mut self,
         next: &mut (Event<'input>, Span),
     ) -> Result<(), Stopped>
-        ensures { TellsBy spec.implicit_start self.old result next.new self.new }
+        ensures { EmitsBy spec.implicit_start self.old result next.new self.new }
     {
         match self.pass_marks(true)? {
             TokenKind::StreamEnd => {
@@ -275,7 +276,7 @@ impl<T: Input> Machine<T> {
         &mut self,
         next: &mut (Event<'input>, Span),
     ) -> Result<(), Stopped>
-        ensures { TellsBy spec.explicit_start self.old result next.new self.new }
+        ensures { EmitsBy spec.explicit_start self.old result next.new self.new }
     {
         match self.pass_marks(true)? {
             TokenKind::StreamEnd => {
@@ -292,8 +293,7 @@ impl<T: Input> Machine<T> {
         &mut self,
         next: &mut (Event<'input>, Span),
     ) -> Result<(), Stopped>
-        requires { has_tag next.old.0 ≡ false }
-        ensures { TellsBy spec.document_content self.old result next.new self.new }
+        ensures { EmitsBy spec.document_content self.old result next.new self.new }
     {
         match self.peek()? {
             TokenKind::VersionDirective
@@ -305,7 +305,8 @@ impl<T: Input> Machine<T> {
             | TokenKind::StreamEnd => {
                 let span = self.span();
                 self.pop();
-                tell(next, self.empty_scalar(), span);
+                let event = self.empty_scalar();
+                self.emit(next, event, span);
                 Ok(())
             }
             kind => self.node(NodeContext::Block, kind, next),
@@ -344,7 +345,7 @@ impl<T: Input> Machine<T> {
         &mut self,
         next: &mut (Event<'input>, Span),
     ) -> Result<(), Stopped>
-        ensures { TellsBy spec.document_end self.old result next.new self.new }
+        ensures { EmitsBy spec.document_end self.old result next.new self.new }
     {
         let kind = self.behind_document()?;
         let span = self.span();
@@ -362,7 +363,7 @@ impl<T: Input> Machine<T> {
         if !self.keep_tags {
             self.prefixes.forget();
         }
-        tell(next, Event::DocumentEnd, span);
+        self.emit(next, Event::DocumentEnd, span);
         Ok(())
     }
 }

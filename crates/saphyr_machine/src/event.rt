@@ -2,7 +2,7 @@
 
 ghost use Rattle.std.specs.Prelude.{◌≡◌, false, IfOk, option_map};
 ghost use Rattle.saphyr_machine.specs.EventParts as parts;
-ghost use Rattle.saphyr_machine.specs.Views.Events.{happening, resolved_tag, has_tag};
+ghost use Rattle.saphyr_machine.specs.Views.Events.{happening, resolved_tag, restyled, has_tag};
 
 use crate::tag::Tag;
 use saphyr_scalar::ScalarStyle;
@@ -157,6 +157,19 @@ impl<'input> Event<'input> {
         }
     }
 
+    // Gives a scalar another style, and no anchor.
+    #[inline(always)]
+    pub(super) fn restyle(&mut self, style: ScalarStyle)
+        ensures { self.new ≡ restyled style self.old }
+    {
+        if let Event::Scalar(_, old, _, _) = self {
+            *old = style;
+        }
+        if let Event::Scalar(_, _, id, _) = self {
+            *id = 0;
+        }
+    }
+
     // Writes an event over one that has no tag, and whose text was taken out before.
     #[inline(always)]
     pub(super) fn write_over_untagged(&mut self, event: Event<'input>)
@@ -164,15 +177,6 @@ impl<'input> Event<'input> {
         ensures { self.new ≡ event.entry }
     {
         replace(self, event).let_go();
-    }
-
-    // Writes an event into this place, whose text was taken out before. For speed it only checks for a tag.
-    #[inline(always)]
-    pub(super) fn write_over(&mut self, event: Event<'input>)
-        ensures { self.new ≡ event.entry }
-    {
-        self.clear_tagged();
-        self.write_over_untagged(event);
     }
 }
 

@@ -1,19 +1,18 @@
 //! The states inside flow collections (YAML 1.2.2, 7.4).
 
-ghost use Rattle.std.specs.Prelude.{◌≡◌, Ok, false};
+ghost use Rattle.std.specs.Prelude.{◌≡◌, ℕ, List, Ok};
 ghost use Rattle.saphyr_machine.specs.Steps.Flow as spec;
 
 use crate::context::NodeContext;
 use crate::event::Event;
-use crate::machine::{Machine, tell_over};
+use crate::machine::Machine;
 use crate::state::State;
 use saphyr_input::input::Input;
 use saphyr_scalar::{FaultText, Marker, Span};
 use saphyr_scanner::{Stopped, TokenKind};
 
 impl<T: Input> Machine<T> {
-    ghost use Rattle.saphyr_machine.specs.Views.Events.{has_tag};
-    ghost use Rattle.saphyr_machine.specs.Views.Machines.{IsNext, machine_of, told_event_of, TellsBy};
+    ghost use Rattle.saphyr_machine.specs.Views.Machines.{IsNext, machine_in, emitted_of, EmitsBy};
 
     // An entry of a flow sequence, which is the first or comes after a comma, or the end of the sequence. These are two
     // states with one function, so that what begins an entry has one caller: a function that is large is inlined only
@@ -24,8 +23,7 @@ impl<T: Input> Machine<T> {
         first: bool,
         next: &mut (Event<'input>, Span),
     ) -> Result<(), Stopped>
-        requires { has_tag next.old.0 ≡ false }
-        ensures { TellsBy (spec.flow_sequence_turn first) self.old result next.new self.new }
+        ensures { EmitsBy (spec.flow_sequence_turn first) self.old result next.new self.new }
     {
         if !first {
             match self.peek()? {
@@ -33,8 +31,8 @@ impl<T: Input> Machine<T> {
                     self.skip();
                 }
                 TokenKind::FlowSequenceEnd => {
-                    let span = self.skip();
-                    self.end_sequence(span, next);
+                    self.skip_into(&mut next.1);
+                    self.end_sequence(next);
                     return Ok(());
                 }
                 _ => return Err(self.refuse_next(FaultText::FlowSequenceEndExpected)),
@@ -50,18 +48,17 @@ impl<T: Input> Machine<T> {
         &mut self,
         next: &mut (Event<'input>, Span),
     ) -> Result<(), Stopped>
-        requires { has_tag next.old.0 ≡ false }
-        ensures { TellsBy spec.flow_sequence_first_entry self.old result next.new self.new }
+        ensures { EmitsBy spec.flow_sequence_first_entry self.old result next.new self.new }
     {
         match self.peek()? {
             TokenKind::FlowSequenceEnd => {
-                let span = self.skip();
-                self.end_sequence(span, next);
+                self.skip_into(&mut next.1);
+                self.end_sequence(next);
                 Ok(())
             }
             TokenKind::Key => {
-                let span = self.skip();
-                self.begin_mapping(State::FlowSequenceEntryMappingKey, span, next);
+                self.skip_into(&mut next.1);
+                self.begin_mapping(State::FlowSequenceEntryMappingKey, next);
                 Ok(())
             }
             kind => self.inside(State::FlowSequenceEntry, NodeContext::Flow, kind, next),
@@ -74,17 +71,9 @@ impl<T: Input> Machine<T> {
         &mut self,
         next: &mut (Event<'input>, Span),
     ) -> Result<(), Stopped>
-        requires { has_tag next.old.0 ≡ false }
-        ensures { TellsBy spec.flow_sequence_entry_mapping_key self.old result next.new self.new }
+        ensures { EmitsBy spec.flow_sequence_entry_mapping_key self.old result next.new self.new }
     {
-        let state = State::FlowSequenceEntryMappingValue;
-        match self.peek()? {
-            TokenKind::Value | TokenKind::FlowEntry | TokenKind::FlowSequenceEnd => {
-                self.leave_out_here(state, next);
-                Ok(())
-            }
-            kind => self.inside(state, NodeContext::Flow, kind, next),
-        }
+        self.node_here(State::FlowSequenceEntryMappingValue, next)
     }
 
     // The value of a pair of a flow sequence.
@@ -93,8 +82,7 @@ impl<T: Input> Machine<T> {
         &mut self,
         next: &mut (Event<'input>, Span),
     ) -> Result<(), Stopped>
-        requires { has_tag next.old.0 ≡ false }
-        ensures { TellsBy spec.flow_sequence_entry_mapping_value self.old result next.new self.new }
+        ensures { EmitsBy spec.flow_sequence_entry_mapping_value self.old result next.new self.new }
     {
         match self.peek()? {
             TokenKind::Value => {
@@ -116,18 +104,15 @@ impl<T: Input> Machine<T> {
         &mut self,
         next: &mut (Event<'input>, Span),
     ) -> Result<(), Stopped>
-        requires { has_tag next.old.0 ≡ false }
-        ensures { TellsBy spec.flow_sequence_entry_mapping_node self.old result next.new self.new }
+        ensures { EmitsBy spec.flow_sequence_entry_mapping_node self.old result next.new self.new }
     {
         let kind = self.peek()?;
         let state = State::FlowSequenceEntryMappingEnd(self.span().end);
-        match kind {
-            TokenKind::FlowEntry | TokenKind::FlowSequenceEnd => {
-                self.leave_out_here(state, next);
-                Ok(())
-            }
-            kind => self.inside(state, NodeContext::Flow, kind, next),
+        if state.is_left_out(kind) {
+            self.leave_out_here(state, next);
+            return Ok(());
         }
+        self.inside(state, NodeContext::Flow, kind, next)
     }
 
     // The end of a pair of a flow sequence.
@@ -137,16 +122,16 @@ impl<T: Input> Machine<T> {
         place: Marker,
         next: &mut (Event<'input>, Span),
     )
-        requires { has_tag next.old.0 ≡ false }
-        ensures { spec.flow_sequence_entry_mapping_end place (machine_of self.old)
-            ≡ Ok (told_event_of (machine_of self.new) next.new) }
+        ensures { (more : List ℕ)
+            → spec.flow_sequence_entry_mapping_end place (machine_in more self.old)
+            ≡ Ok (emitted_of (machine_in more self.new) next.new) }
     {
         self.state.set(State::FlowSequenceEntry);
         let span = Span {
             start: place,
             end: place,
         };
-        tell_over(next, Event::MappingEnd, span);
+        self.emit(next, Event::MappingEnd, span);
     }
 
     // The first pair of a flow mapping, or its end.
@@ -155,11 +140,10 @@ impl<T: Input> Machine<T> {
         &mut self,
         next: &mut (Event<'input>, Span),
     ) -> Result<(), Stopped>
-        requires { has_tag next.old.0 ≡ false }
-        ensures { TellsBy spec.flow_mapping_first_key self.old result next.new self.new }
+        ensures { EmitsBy spec.flow_mapping_first_key self.old result next.new self.new }
     {
         let kind = self.peek()?;
-        next.1 = self.span();
+        self.span_into(&mut next.1);
         self.flow_mapping_pair(kind, next)
     }
 
@@ -169,18 +153,17 @@ impl<T: Input> Machine<T> {
         &mut self,
         next: &mut (Event<'input>, Span),
     ) -> Result<(), Stopped>
-        requires { has_tag next.old.0 ≡ false }
-        ensures { TellsBy spec.flow_mapping_key self.old result next.new self.new }
+        ensures { EmitsBy spec.flow_mapping_key self.old result next.new self.new }
     {
         match self.peek()? {
             TokenKind::FlowEntry => {
-                next.1 = self.skip();
+                self.skip_into(&mut next.1);
                 let kind = self.peek()?;
                 self.flow_mapping_pair(kind, next)
             }
             TokenKind::FlowMappingEnd => {
-                let span = self.skip();
-                self.end_mapping(span, next);
+                self.skip_into(&mut next.1);
+                self.end_mapping(next);
                 Ok(())
             }
             _ => Err(self.refuse_next(FaultText::FlowMappingEndExpected)),
@@ -195,15 +178,14 @@ impl<T: Input> Machine<T> {
         kind: TokenKind,
         next: &mut (Event<'input>, Span),
     ) -> Result<(), Stopped>
-        requires kind { IsNext kind self.old }
-        requires untagged { has_tag next.old.0 ≡ false }
-        ensures { TellsBy (spec.flow_mapping_pair_behind_comma next.old.1) self.old result next.new
+        requires { IsNext kind self.old }
+        ensures { EmitsBy (spec.flow_mapping_pair_behind_comma next.old.1) self.old result next.new
             self.new }
     {
         match kind {
             TokenKind::Key => {
                 self.skip();
-                self.flow_key_node(next)
+                self.node_here(State::FlowMappingValue, next)
             }
             TokenKind::Value => {
                 self.leave_out_here(State::FlowMappingValue, next);
@@ -211,27 +193,10 @@ impl<T: Input> Machine<T> {
             }
             TokenKind::FlowMappingEnd => {
                 self.skip();
-                self.pop();
-                next.0.write_over_untagged(Event::MappingEnd);
+                self.end_mapping(next);
                 Ok(())
             }
             kind => self.inside(State::FlowMappingEmptyValue, NodeContext::Flow, kind, next),
-        }
-    }
-
-    // The node after a key's token.
-    #[inline(always)]
-    #[tactic(auto, unfolding(crate::specs::Steps::Flow::flow_key_node))]
-    fn flow_key_node<'input>(&mut self, next: &mut (Event<'input>, Span)) -> Result<(), Stopped>
-        requires { has_tag next.old.0 ≡ false }
-        ensures { TellsBy spec.flow_key_node self.old result next.new self.new }
-    {
-        match self.peek()? {
-            TokenKind::Value | TokenKind::FlowEntry | TokenKind::FlowMappingEnd => {
-                self.leave_out_here(State::FlowMappingValue, next);
-                Ok(())
-            }
-            kind => self.inside(State::FlowMappingValue, NodeContext::Flow, kind, next),
         }
     }
 
@@ -241,34 +206,17 @@ impl<T: Input> Machine<T> {
         &mut self,
         next: &mut (Event<'input>, Span),
     ) -> Result<(), Stopped>
-        requires { has_tag next.old.0 ≡ false }
-        ensures { TellsBy spec.flow_mapping_value self.old result next.new self.new }
+        ensures { EmitsBy spec.flow_mapping_value self.old result next.new self.new }
     {
         match self.peek()? {
             TokenKind::Value => {
-                next.1 = self.skip();
-                self.flow_value_node(next)
+                self.skip_into(&mut next.1);
+                self.node_behind(State::FlowMappingKey, next)
             }
             _ => {
                 self.leave_out_here(State::FlowMappingKey, next);
                 Ok(())
             }
-        }
-    }
-
-    // The node after a value's token, whose span is there.
-    #[inline(always)]
-    #[tactic(auto, unfolding(crate::specs::Steps::Flow::flow_value_node))]
-    fn flow_value_node<'input>(&mut self, next: &mut (Event<'input>, Span)) -> Result<(), Stopped>
-        requires { has_tag next.old.0 ≡ false }
-        ensures { TellsBy (spec.flow_value_node next.old.1) self.old result next.new self.new }
-    {
-        match self.peek()? {
-            TokenKind::FlowEntry | TokenKind::FlowMappingEnd => {
-                self.leave_out(State::FlowMappingKey, next);
-                Ok(())
-            }
-            kind => self.inside(State::FlowMappingKey, NodeContext::Flow, kind, next),
         }
     }
 
@@ -278,8 +226,7 @@ impl<T: Input> Machine<T> {
         &mut self,
         next: &mut (Event<'input>, Span),
     ) -> Result<(), Stopped>
-        requires { has_tag next.old.0 ≡ false }
-        ensures { TellsBy spec.flow_mapping_empty_value self.old result next.new self.new }
+        ensures { EmitsBy spec.flow_mapping_empty_value self.old result next.new self.new }
     {
         self.peek()?;
         self.leave_out_here(State::FlowMappingKey, next);

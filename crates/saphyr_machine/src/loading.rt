@@ -52,8 +52,8 @@ impl<'input, T: Input> EventReader<'input, T> {
     }
 
     // Returns the fault that ended the events, if one did.
-    fn told_fault(&self) -> Result<(), Fault>
-        ensures { spec.Tells result (cursor self.now).kept }
+    fn report_fault(&self) -> Result<(), Fault>
+        ensures { spec.ReportsFault result (cursor self.now).kept }
     {
         let Some(kept) = &self.kept else {
             return Ok(());
@@ -81,7 +81,7 @@ impl<'input, T: Input> EventReader<'input, T> {
                 return Ok(());
             }
         }
-        self.told_fault()
+        self.report_fault()
     }
 
     /// Hands the events to the receiver up to the end of a document, or all of them.
@@ -91,7 +91,7 @@ impl<'input, T: Input> EventReader<'input, T> {
         multi: bool,
     ) -> Result<(), Fault>
         ensures ended { IsKept (cursor self.old).kept
-            → spec.Tells result (cursor self.old).kept × (recv.new ≡ recv.old)
+            → spec.ReportsFault result (cursor self.old).kept × (recv.new ≡ recv.old)
             × (cursor self.new ≡ cursor self.old) }
         ensures finished { (cursor self.old).kept ≡ None → (span : PlaceSpan)
             → (cursor self.old).finished ≡ Some span
@@ -106,7 +106,7 @@ impl<'input, T: Input> EventReader<'input, T> {
             → spec.Loads R.receives result (spec.portion_to_send multi (cursor self.old))
             (cursor self.old) recv.old recv.new (cursor self.new) }
     {
-        self.told_fault()?;
+        self.report_fault()?;
         if let Some(span) = self.finished {
             return send(recv, Event::StreamEnd, span);
         }

@@ -2,7 +2,7 @@
 //! `block` and `flow` have the functions of the states, `node` reads the nodes, and `step` chooses the state's
 //! function.
 
-ghost use Rattle.std.specs.Prelude.{◌≡◌, false, string_bytes};
+ghost use Rattle.std.specs.Prelude.{◌≡◌, None, false, string_bytes};
 ghost use Rattle.saphyr_machine.specs.Events.{empty_scalar};
 ghost use Rattle.saphyr_machine.specs.Steps.Machine as spec;
 ghost use Rattle.saphyr_machine.specs.Views.Events.{has_tag};
@@ -12,11 +12,14 @@ use crate::event::Event;
 use crate::prefixes::Prefixes;
 use crate::state::State;
 use crate::states::{Expected, States};
+use crate::tag::Tag;
 use saphyr_input::input::Input;
+use saphyr_scalar::scalar::TagParts;
 use saphyr_scalar::{FaultText, Marker, Refusal, ScalarStyle, Span, Stop};
-use saphyr_scanner::{Scanner, Stopped, TokenKind, TokenParts};
+use saphyr_scanner::{Growth, Scanner, Stopped, TokenKind, TokenParts};
 use std::alloc::Global;
 use std::borrow::CowStr;
+use std::mem::replace;
 
 /// What turns tokens into events.
 ///
@@ -26,8 +29,6 @@ use std::borrow::CowStr;
 pub struct Machine<T: Input> {
     // Where the tokens come from.
     pub(super) scanner: Scanner<T>,
-    // What ends the tokens of the scanner, where its caller says so.
-    pub(super) end: Option<Refusal>,
     // What is expected next.
     pub(super) state: Expected,
     // What is expected after each node that is open.
@@ -42,42 +43,25 @@ pub struct Machine<T: Input> {
     pub(super) alloc: Global,
 }
 
-// Writes an event and its span over an event whose text was taken out before.
-#[inline(always)]
-pub(super) fn tell<'input>(next: &mut (Event<'input>, Span), event: Event<'input>, span: Span)
-    ensures { next.new ≡ (event.entry, span) }
-{
-    next.0.write_over(event);
-    next.1 = span;
-}
-
-// Writes an event and its span over an event that has no tag, which for speed isn't tested.
-#[inline(always)]
-pub(super) fn tell_over<'input>(next: &mut (Event<'input>, Span), event: Event<'input>, span: Span)
-    requires { has_tag next.old.0 ≡ false }
-    ensures { next.new ≡ (event.entry, span) }
-{
-    next.0.write_over_untagged(event);
-    next.1 = span;
-}
-
 impl<T: Input> Machine<T> {
-    ghost use Rattle.std.specs.Prelude.{List, ℕ, IfOk, OnErr, OnOk, Ok, Some};
+    ghost use Rattle.std.specs.Prelude.{◌+◌, ◌<◌, ◌^◌, List, ℕ, IfOk, OnErr, OnOk, Ok, Some, length};
     ghost use Rattle.saphyr_scalar.specs.Views.Reader.{Moves};
     ghost use Rattle.saphyr_scalar.specs.declared.scalar.fault.Stop.TheVariants.{OutOfMemory, Refused};
+    ghost use Rattle.saphyr_scanner.specs.Steps.State.{with_rest};
     ghost use Rattle.saphyr_scanner.specs.Views.Engine.{stopped_by};
-    ghost use Rattle.saphyr_scanner.specs.Views.Scanning.{IsReady, tokens_of};
-    ghost use Rattle.saphyr_scanner.specs.Views.Tokens.{Piece, kind_with, parts, text_of, token_kind};
+    ghost use Rattle.saphyr_scanner.specs.Views.Scanning.{IsReady, tokens_in};
+    ghost use Rattle.saphyr_scanner.specs.Views.Tokens.{Piece, kind_with, parts_view, text_of, token_kind};
     ghost use Rattle.saphyr_machine.specs.Steps.Machine.{Machine as Seen};
-    ghost use Rattle.saphyr_machine.specs.Views.Machines.{machine_of, happening, told_event_of, PeeksBy};
+    ghost use Rattle.saphyr_machine.specs.Views.Machines.{machine_in, machine_over, happening, emitted_of, PeeksBy};
 
     // A machine that has read nothing.
     pub(super) fn new(alloc: Global, scanner: Scanner<T>) -> Self
-        ensures { machine_of result ≡ spec.fresh_machine (tokens_of scanner) }
+        ensures machine { (more : List ℕ)
+            → machine_in more result ≡ spec.fresh_machine (tokens_in more scanner) }
+        ensures scanner { result.scanner ≡ scanner }
     {
         Machine {
             scanner,
-            end: None,
             state: Expected::new(),
             states: States::new(alloc),
             anchors: Anchors::new(alloc),
@@ -87,6 +71,84 @@ impl<T: Input> Machine<T> {
         }
     }
 
+    // The same machine, before the characters of another input, behind which more may come or not.
+    #[tactic(auto, unfolding(saphyr_scanner::specs::Views::Scanning::tokens_over))]
+    pub(super) fn over<U: Input>(self, input: U, growth: Growth) -> Machine<U>
+    where
+        T: Drop,
+        requires { self.scanner.state.core.cursor.mark.index + length (U.rest input) < 2 ^ 64 }
+        ensures scanner { result.scanner ≡ record self.scanner
+            { state = with_rest (U.rest input) self.scanner.state; growth = growth } }
+        ensures left { (rest : List ℕ) → machine_over rest result ≡ machine_over rest self }
+    {
+        Machine {
+            scanner: self.scanner.over(input, growth),
+            state: self.state,
+            states: self.states,
+            anchors: self.anchors,
+            prefixes: self.prefixes,
+            keep_tags: self.keep_tags,
+            alloc: self.alloc,
+        }
+    }
+
+    // Gives back the text and the tag of the event that is overwritten, so the next one uses their memory.
+    #[inline(always)]
+    pub(super) fn give_back<'input>(&mut self, place: &mut Event<'input>)
+        ensures same { self.new ≡ self.old }
+        ensures untagged { has_tag place.new ≡ false }
+    {
+        if let Event::Scalar(_, _, _, tag) = place {
+            // Mostly there is none, and a test costs less than a move.
+            if tag.is_some() {
+                self.give_back_tag(tag);
+            }
+        } else {
+            place.clear_tagged();
+            return;
+        }
+        if let Event::Scalar(CowStr::Owned(text), _, _, _) = place {
+            let empty = String::new(self.alloc);
+            self.scanner.give_back(replace(text, empty));
+        }
+    }
+
+    // Gives back a tag. It is separate for speed, since few scalars have one.
+    #[inline(never)]
+    fn give_back_tag(&mut self, tag: &mut Option<Tag>)
+        ensures same { self.new ≡ self.old }
+        ensures taken { tag.new ≡ None }
+    {
+        if let Some(Tag { handle, suffix }) = tag.take() {
+            self.scanner.give_back_tag(TagParts { handle, suffix });
+        }
+    }
+
+    // Writes an event over another, whose memory is given back.
+    #[inline(always)]
+    pub(super) fn write_over<'input>(&mut self, place: &mut Event<'input>, event: Event<'input>)
+        ensures same { self.new ≡ self.old }
+        ensures emitted { place.new ≡ event.entry }
+    {
+        self.give_back(place);
+        place.write_over_untagged(event);
+    }
+
+    // Writes an event and its span over another event.
+    #[inline(always)]
+    pub(super) fn emit<'input>(
+        &mut self,
+        next: &mut (Event<'input>, Span),
+        event: Event<'input>,
+        span: Span,
+    )
+        ensures same { self.new ≡ self.old }
+        ensures emitted { next.new ≡ (event.entry, span) }
+    {
+        self.write_over(&mut next.0, event);
+        next.1 = span;
+    }
+
     // The text is refused at a place.
     pub(super) fn refuse(&mut self, text: FaultText, mark: Marker) -> Stopped
         ensures { self.new.scanner.stop ≡ Refused (record { text = text; mark = mark }) }
@@ -94,15 +156,12 @@ impl<T: Input> Machine<T> {
         self.scanner.stop_at(Stop::Refused(Refusal { text, mark }))
     }
 
-    // The tokens are over.
+    // The tokens are over, where a refusal doesn't end them.
     #[inline(never)]
     fn refuse_end(&mut self) -> Stopped
-        ensures { self.new.scanner.stop ≡ Refused (spec.ending_refusal self.old.end) }
+        ensures { self.new.scanner.stop ≡ Refused (spec.ending_refusal None) }
     {
-        match self.end {
-            Some(Refusal { text, mark }) => self.refuse(text, mark),
-            None => self.refuse(FaultText::DocumentStartExpected, Marker::new(0, 0, 0)),
-        }
+        self.refuse(FaultText::DocumentStartExpected, Marker::new(0, 0, 0))
     }
 
     // The kind of the next token, which stays.
@@ -116,50 +175,91 @@ impl<T: Input> Machine<T> {
         }
     }
 
+    // The span of the next token goes into the place of another.
+    #[inline(always)]
+    pub(super) fn span_into(&self, span: &mut Span)
+        requires { IsReady self.now.scanner }
+        ensures { (more : List ℕ) → IfOk (spec.taken_token (machine_in more self.now))
+            (λ taken. span.new ≡ taken.0.span) }
+    {
+        self.scanner.span_into(span);
+    }
+
     // The span of the next token.
     #[inline(always)]
     pub(super) fn span(&self) -> Span
         requires { IsReady self.now.scanner }
-        ensures { (t : Piece) (m : Seen) → spec.taken_token (machine_of self.now) ≡ Ok (t, m)
-            → result ≡ t.span }
+        ensures { (more : List ℕ) → IfOk (spec.taken_token (machine_in more self.now))
+            (λ taken. result ≡ taken.0.span) }
     {
-        self.scanner.span()
+        let mut span = Span::empty(Marker::new(0, 0, 0));
+        self.span_into(&mut span);
+        span
+    }
+
+    // Takes the next token. Its span goes into the place of another.
+    #[inline(always)]
+    pub(super) fn skip_into(&mut self, span: &mut Span)
+        requires { IsReady self.old.scanner }
+        ensures span { (more : List ℕ) → IfOk (spec.taken_token (machine_in more self.old))
+            (λ taken. span.new ≡ taken.0.span) }
+        ensures left { (more : List ℕ) → IfOk (spec.taken_token (machine_in more self.old))
+            (λ taken. machine_in more self.new ≡ taken.1) }
+    {
+        self.scanner.skip_into(span);
     }
 
     // Takes the next token, and returns its span.
     #[inline(always)]
     pub(super) fn skip(&mut self) -> Span
         requires { IsReady self.old.scanner }
-        ensures span { (t : Piece) (m : Seen) → spec.taken_token (machine_of self.old) ≡ Ok (t, m)
-            → result ≡ t.span }
-        ensures left { (t : Piece) (m : Seen) → spec.taken_token (machine_of self.old) ≡ Ok (t, m)
-            → machine_of self.new ≡ m }
+        ensures span { (more : List ℕ) → IfOk (spec.taken_token (machine_in more self.old))
+            (λ taken. result ≡ taken.0.span) }
+        ensures left { (more : List ℕ) → IfOk (spec.taken_token (machine_in more self.old))
+            (λ taken. machine_in more self.new ≡ taken.1) }
     {
-        self.scanner.skip()
+        let mut span = Span::empty(Marker::new(0, 0, 0));
+        self.skip_into(&mut span);
+        span
+    }
+
+    // Takes the next token. Its text goes into the place of another.
+    #[inline(always)]
+    pub(super) fn take_text_into(&mut self, into: &mut String) -> Result<(), Stopped>
+        requires { IsReady self.old.scanner }
+        ensures text { (more text : List ℕ) → IfOk (spec.taken_token (machine_in more self.old))
+            (λ taken. text_of taken.0.kind ≡ Some text
+            → OnOk result (string_bytes into.new ≡ text)) }
+        ensures left { (more : List ℕ) → IfOk (spec.taken_token (machine_in more self.old))
+            (λ taken. OnOk result (machine_in more self.new ≡ taken.1)) }
+        ensures failed { OnErr result (self.new.scanner.stop ≡ OutOfMemory) }
+    {
+        self.scanner.take_text_into(into)
     }
 
     // Takes the next token, and returns its text.
     #[inline(always)]
     pub(super) fn take_text(&mut self) -> Result<String, Stopped>
         requires { IsReady self.old.scanner }
-        ensures text { (t : Piece) (m : Seen) (text : List ℕ)
-            → spec.taken_token (machine_of self.old) ≡ Ok (t, m) → text_of t.kind ≡ Some text
-            → IfOk result (λ taken. string_bytes taken ≡ text) }
-        ensures left { (t : Piece) (m : Seen) → spec.taken_token (machine_of self.old) ≡ Ok (t, m)
-            → OnOk result (machine_of self.new ≡ m) }
+        ensures text { (more text : List ℕ) → IfOk (spec.taken_token (machine_in more self.old))
+            (λ taken. text_of taken.0.kind ≡ Some text → IfOk result (λ x. string_bytes x ≡ text)) }
+        ensures left { (more : List ℕ) → IfOk (spec.taken_token (machine_in more self.old))
+            (λ taken. OnOk result (machine_in more self.new ≡ taken.1)) }
         ensures failed { OnErr result (self.new.scanner.stop ≡ OutOfMemory) }
     {
-        self.scanner.take_text()
+        let mut text = String::new(self.alloc);
+        self.take_text_into(&mut text)?;
+        Ok(text)
     }
 
     // Takes the next token, and returns its parts.
     pub(super) fn take_parts(&mut self) -> Result<TokenParts, Stopped>
         requires { IsReady self.old.scanner }
-        ensures parts { (t : Piece) (m : Seen)
-            → spec.taken_token (machine_of self.old) ≡ Ok (t, m)
-            → IfOk result (λ x. t.kind ≡ kind_with (token_kind t.kind) (parts x)) }
-        ensures left { (t : Piece) (m : Seen) → spec.taken_token (machine_of self.old) ≡ Ok (t, m)
-            → OnOk result (machine_of self.new ≡ m) }
+        ensures parts { (more : List ℕ) → IfOk (spec.taken_token (machine_in more self.old))
+            (λ taken. IfOk result
+            (λ x. taken.0.kind ≡ kind_with (token_kind taken.0.kind) (parts_view x))) }
+        ensures left { (more : List ℕ) → IfOk (spec.taken_token (machine_in more self.old))
+            (λ taken. OnOk result (machine_in more self.new ≡ taken.1)) }
         ensures failed { OnErr result (self.new.scanner.stop ≡ OutOfMemory) }
     {
         self.scanner.take_parts()
@@ -169,17 +269,18 @@ impl<T: Input> Machine<T> {
     #[inline(never)]
     pub(super) fn refuse_next(&mut self, text: FaultText) -> Stopped
         requires { IsReady self.old.scanner }
-        ensures { (t : Piece) (m : Seen) → spec.taken_token (machine_of self.old) ≡ Ok (t, m)
-            → self.new.scanner.stop ≡ Refused (record { text = text; mark = t.span.start }) }
+        ensures { (more : List ℕ) → IfOk (spec.taken_token (machine_in more self.old)) (λ taken.
+            self.new.scanner.stop ≡ Refused (record { text = text; mark = taken.0.span.start })) }
     {
-        let mark = self.scanner.span().start;
+        let mark = self.span().start;
         self.refuse(text, mark)
     }
 
     // Goes back to what is expected after the node that has ended.
     #[inline(always)]
     pub(super) fn pop(&mut self)
-        ensures moved { machine_of self.new ≡ spec.pop (machine_of self.old) }
+        ensures moved { (more : List ℕ)
+            → machine_in more self.new ≡ spec.pop (machine_in more self.old) }
         ensures scanner { self.new.scanner ≡ self.old.scanner }
     {
         let state = match self.states.pop() {
@@ -192,8 +293,8 @@ impl<T: Input> Machine<T> {
     // What is expected after the node that begins.
     #[inline(always)]
     pub(super) fn push(&mut self, state: State) -> Result<(), Stopped>
-        ensures moved { OnOk result
-            (machine_of self.new ≡ spec.push state (machine_of self.old)) }
+        ensures moved { (more : List ℕ) → OnOk result
+            (machine_in more self.new ≡ spec.push state (machine_in more self.old)) }
         ensures state { OnOk result (self.new.scanner.state ≡ self.old.scanner.state) }
         ensures failed { OnErr result (self.new.scanner.stop ≡ OutOfMemory) }
     {
@@ -218,25 +319,24 @@ impl<T: Input> Machine<T> {
     #[inline(always)]
     #[tactic(auto, using(crate::proofs::Passing::put_back_again))]
     pub(super) fn leave_out<'input>(&mut self, state: State, next: &mut (Event<'input>, Span))
-        requires { has_tag next.old.0 ≡ false }
-        ensures { (t : Piece) (m : Seen) → spec.taken_token (machine_of self.old) ≡ Ok (t, m)
-            → spec.left_out_event t state next.old.1 m
-            ≡ Ok (told_event_of (machine_of self.new) next.new) }
+        ensures { (more : List ℕ) → IfOk (spec.taken_token (machine_in more self.old)) (λ taken.
+            spec.left_out_event taken.0 state next.old.1 taken.1
+            ≡ Ok (emitted_of (machine_in more self.new) next.new)) }
     {
         self.state.set(state);
-        next.0.write_over_untagged(self.empty_scalar());
+        let event = self.empty_scalar();
+        self.write_over(&mut next.0, event);
     }
 
     // A node is left out before the next token, whose span its event has.
     #[inline(always)]
     pub(super) fn leave_out_here<'input>(&mut self, state: State, next: &mut (Event<'input>, Span))
-        requires ready { IsReady self.old.scanner }
-        requires untagged { has_tag next.old.0 ≡ false }
-        ensures { (t : Piece) (m : Seen) → spec.taken_token (machine_of self.old) ≡ Ok (t, m)
-            → spec.left_out_event t state t.span m
-            ≡ Ok (told_event_of (machine_of self.new) next.new) }
+        requires { IsReady self.old.scanner }
+        ensures { (more : List ℕ) → IfOk (spec.taken_token (machine_in more self.old)) (λ taken.
+            spec.left_out_event taken.0 state taken.0.span taken.1
+            ≡ Ok (emitted_of (machine_in more self.new) next.new)) }
     {
-        next.1 = self.span();
+        self.span_into(&mut next.1);
         self.leave_out(state, next);
     }
 }

@@ -3,7 +3,7 @@
 ghost use Rattle.std.specs.Prelude.{◌≡◌, ◌∷◌, ◌++◌, ◌<◌, ◌≤◌, ℕ, [], length, slice_index_or, string_bytes, take, IfOk, OnErr, OnOk};
 ghost use Rattle.std.specs.List.{All};
 ghost use Rattle.std.specs.Option.{option_or};
-ghost use Rattle.saphyr_machine.specs.ListedNames.{GrowsBehind, HasName, text_of, with_id};
+ghost use Rattle.saphyr_machine.specs.ListedNames.{GrowsBehind, HasName, bytes_of_name, with_id};
 ghost use Rattle.saphyr_machine.specs.Steps.Machine as spec;
 
 use std::alloc::{AllocError, Global};
@@ -84,7 +84,7 @@ impl NameList {
     #[inline(always)]
     fn text(&self, name: Name) -> &str
         requires { HasName self.now.bytes.items name }
-        ensures { result.now ≡ text_of self.now.bytes.items name }
+        ensures { result.now ≡ bytes_of_name self.now.bytes.items name }
     {
         let bytes = &self.bytes[name.start..name.start + name.count];
         // What was noted is a text.
@@ -137,7 +137,7 @@ impl NameList {
         Ok(())
     }
 
-    /// The same names with the same ids.
+    /// A copy, unless memory runs out.
     pub fn try_clone(&self) -> Result<NameList, AllocError>
         ensures { IfOk result (λ copy. listed_names copy ≡ listed_names self.now) }
     {

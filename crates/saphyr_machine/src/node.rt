@@ -1,12 +1,12 @@
 //! The event with which a node begins: an alias, or properties and the content after them (YAML
 //! 1.2.2, 6.9, 7.1, 7.5 and 8.2.3).
 
-ghost use Rattle.std.specs.Prelude.{◌≡◌, false, string_bytes};
+ghost use Rattle.std.specs.Prelude.{◌≡◌};
 ghost use Rattle.saphyr_machine.specs.Steps.Nodes as spec;
 
 use crate::context::NodeContext;
 use crate::event::Event;
-use crate::machine::{Machine, tell, tell_over};
+use crate::machine::Machine;
 use crate::state::State;
 use crate::tag::Tag;
 use saphyr_input::input::Input;
@@ -55,8 +55,7 @@ impl<T: Input> Machine<T> {
     ghost use Rattle.saphyr_scanner.specs.Views.Tokens.{Piece};
     ghost use Rattle.saphyr_scanner.specs.Grammar.Tokens as tokens;
     ghost use Rattle.saphyr_scanner.specs.declared.token.TokenKind.TheVariants as code;
-    ghost use Rattle.saphyr_machine.specs.Views.Events.{has_tag};
-    ghost use Rattle.saphyr_machine.specs.Views.Machines.{IsNext, machine_of, resolved_tag, told_event_of, TellsBy};
+    ghost use Rattle.saphyr_machine.specs.Views.Machines.{IsNext, machine_in, resolved_tag, emitted_of, EmitsBy};
     ghost use Rattle.saphyr_machine.specs.Views.Nodes.{properties as seen};
     ghost use Rattle.saphyr_machine.specs.Steps.Machine.{Machine as Seen, next_id, taken_token};
 
@@ -68,10 +67,10 @@ impl<T: Input> Machine<T> {
         next: &mut (Event<'input>, Span),
     ) -> Result<(), Stopped>
         requires { IsReady self.old.scanner }
-        ensures { (t : Piece) (m : Seen) → taken_token (machine_of self.old) ≡ Ok (t, m)
-            → Moves (λ _. told_event_of (machine_of self.new) next.new)
+        ensures { (more : List ℕ) → IfOk (taken_token (machine_in more self.old)) (λ taken.
+            Moves (λ _. emitted_of (machine_in more self.new) next.new)
             (stopped_by result self.new.scanner.stop)
-            (spec.node_without_content (seen properties) t m) }
+            (spec.node_without_content (seen properties) taken.0 taken.1)) }
     {
         if !properties.has_any() {
             return Err(self.refuse_next(FaultText::NodeContentExpected));
@@ -80,11 +79,8 @@ impl<T: Input> Machine<T> {
         let span = properties.up_to(properties.behind);
         let text = CowStr::Owned(String::new(self.alloc));
         let Properties { anchor, tag, .. } = properties;
-        tell(
-            next,
-            Event::Scalar(text, ScalarStyle::Plain, anchor, tag),
-            span,
-        );
+        let event = Event::Scalar(text, ScalarStyle::Plain, anchor, tag);
+        self.emit(next, event, span);
         Ok(())
     }
 
@@ -96,13 +92,13 @@ impl<T: Input> Machine<T> {
         place: Marker,
         next: &mut (Event<'input>, Span),
     )
-        ensures { told_event_of (machine_of self.new) next.new
-            ≡ spec.opened_sequence state (seen properties) place (machine_of self.old) }
+        ensures { (more : List ℕ) → emitted_of (machine_in more self.new) next.new
+            ≡ spec.opened_sequence state (seen properties) place (machine_in more self.old) }
     {
         self.state.set(state);
         let span = properties.up_to(place);
         let Properties { anchor, tag, .. } = properties;
-        tell(next, Event::SequenceStart(anchor, tag), span);
+        self.emit(next, Event::SequenceStart(anchor, tag), span);
     }
 
     #[inline(always)]
@@ -113,70 +109,59 @@ impl<T: Input> Machine<T> {
         place: Marker,
         next: &mut (Event<'input>, Span),
     )
-        ensures { told_event_of (machine_of self.new) next.new
-            ≡ spec.opened_mapping state (seen properties) place (machine_of self.old) }
+        ensures { (more : List ℕ) → emitted_of (machine_in more self.new) next.new
+            ≡ spec.opened_mapping state (seen properties) place (machine_in more self.old) }
     {
         self.state.set(state);
         let span = properties.up_to(place);
         let Properties { anchor, tag, .. } = properties;
-        tell(next, Event::MappingStart(anchor, tag), span);
+        self.emit(next, Event::MappingStart(anchor, tag), span);
     }
 
-    // The sequence that is open ends. For speed this is a function of its own, as the next ones are: the place of an
-    // event is cleared where the function that makes it begins.
+    // The sequence that is open ends. Its event has the span that is there. For speed this is a function of its own, as
+    // the next ones are: the place of an event is cleared where the function that makes it begins.
     #[inline(always)]
-    pub(super) fn end_sequence<'input>(&mut self, span: Span, next: &mut (Event<'input>, Span))
-        requires { has_tag next.old.0 ≡ false }
-        ensures { spec.ended_sequence span (machine_of self.old)
-            ≡ Ok (told_event_of (machine_of self.new) next.new) }
+    pub(super) fn end_sequence<'input>(&mut self, next: &mut (Event<'input>, Span))
+        ensures { (more : List ℕ) → spec.ended_sequence next.old.1 (machine_in more self.old)
+            ≡ Ok (emitted_of (machine_in more self.new) next.new) }
     {
         self.pop();
-        next.1 = span;
         // Many may end at one place. The event is then there already.
         if !matches!(next.0, Event::SequenceEnd) {
-            next.0.write_over_untagged(Event::SequenceEnd);
+            self.write_over(&mut next.0, Event::SequenceEnd);
         }
     }
 
-    // The mapping that is open ends.
+    // The mapping that is open ends. Its event has the span that is there.
     #[inline(always)]
-    pub(super) fn end_mapping<'input>(&mut self, span: Span, next: &mut (Event<'input>, Span))
-        requires { has_tag next.old.0 ≡ false }
-        ensures { spec.ended_mapping span (machine_of self.old)
-            ≡ Ok (told_event_of (machine_of self.new) next.new) }
+    pub(super) fn end_mapping<'input>(&mut self, next: &mut (Event<'input>, Span))
+        ensures { (more : List ℕ) → spec.ended_mapping next.old.1 (machine_in more self.old)
+            ≡ Ok (emitted_of (machine_in more self.new) next.new) }
     {
         self.pop();
-        next.1 = span;
         if !matches!(next.0, Event::MappingEnd) {
-            next.0.write_over_untagged(Event::MappingEnd);
+            self.write_over(&mut next.0, Event::MappingEnd);
         }
     }
 
-    // A sequence without properties begins.
+    // A sequence without properties begins. Its event has the span that is there.
     #[inline(always)]
-    fn begin_sequence<'input>(&mut self, state: State, span: Span, next: &mut (Event<'input>, Span))
-        requires { has_tag next.old.0 ≡ false }
-        ensures { spec.begun_sequence state span (machine_of self.old)
-            ≡ Ok (told_event_of (machine_of self.new) next.new) }
+    fn begin_sequence<'input>(&mut self, state: State, next: &mut (Event<'input>, Span))
+        ensures { (more : List ℕ) → spec.begun_sequence state next.old.1 (machine_in more self.old)
+            ≡ Ok (emitted_of (machine_in more self.new) next.new) }
     {
         self.state.set(state);
-        tell_over(next, Event::SequenceStart(0, None), span);
+        self.write_over(&mut next.0, Event::SequenceStart(0, None));
     }
 
-    // A mapping without properties begins.
+    // A mapping without properties begins. Its event has the span that is there.
     #[inline(always)]
-    pub(super) fn begin_mapping<'input>(
-        &mut self,
-        state: State,
-        span: Span,
-        next: &mut (Event<'input>, Span),
-    )
-        requires { has_tag next.old.0 ≡ false }
-        ensures { spec.begun_mapping state span (machine_of self.old)
-            ≡ Ok (told_event_of (machine_of self.new) next.new) }
+    pub(super) fn begin_mapping<'input>(&mut self, state: State, next: &mut (Event<'input>, Span))
+        ensures { (more : List ℕ) → spec.begun_mapping state next.old.1 (machine_in more self.old)
+            ≡ Ok (emitted_of (machine_in more self.new) next.new) }
     {
         self.state.set(state);
-        tell_over(next, Event::MappingStart(0, None), span);
+        self.write_over(&mut next.0, Event::MappingStart(0, None));
     }
 
     // The content of a node after its properties begins with the next token.
@@ -187,7 +172,7 @@ impl<T: Input> Machine<T> {
         context: NodeContext,
         next: &mut (Event<'input>, Span),
     ) -> Result<(), Stopped>
-        ensures { TellsBy (spec.next_content (seen properties) context)
+        ensures { EmitsBy (spec.next_content (seen properties) context)
             self.old result next.new self.new }
     {
         match self.peek()? {
@@ -231,18 +216,18 @@ impl<T: Input> Machine<T> {
         next: &mut (Event<'input>, Span),
     ) -> Result<(), Stopped>
         requires { IsReady self.old.scanner }
-        ensures { (t : Piece) (m : Seen) (text : List ℕ)
-            → taken_token (machine_of self.old) ≡ Ok (t, m) → t.kind ≡ tokens.Scalar style text
-            → Moves (λ _. told_event_of (machine_of self.new) next.new)
+        ensures { (more : List ℕ) (t : Piece) (m : Seen) (text : List ℕ)
+            → taken_token (machine_in more self.old) ≡ Ok (t, m) → t.kind ≡ tokens.Scalar style text
+            → Moves (λ _. emitted_of (machine_in more self.new) next.new)
             (stopped_by result self.new.scanner.stop)
-            (Ok (spec.told_scalar text style (seen properties) t.span.end m)) }
+            (Ok (spec.emitted_scalar text style (seen properties) t.span.end m)) }
     {
         let span = properties.up_to(self.span().end);
         let text = self.take_text()?;
         self.pop();
         let Properties { anchor, tag, .. } = properties;
         let event = Event::Scalar(CowStr::Owned(text), style, anchor, tag);
-        tell(next, event, span);
+        self.emit(next, event, span);
         Ok(())
     }
 
@@ -250,12 +235,12 @@ impl<T: Input> Machine<T> {
     #[inline(always)]
     fn take_anchor(&mut self) -> Result<usize, Stopped>
         requires { IsReady self.old.scanner }
-        ensures id { (t : Piece) (m : Seen) (name : List ℕ)
-            → taken_token (machine_of self.old) ≡ Ok (t, m) → t.kind ≡ tokens.Anchor name
+        ensures id { (more : List ℕ) (t : Piece) (m : Seen) (name : List ℕ)
+            → taken_token (machine_in more self.old) ≡ Ok (t, m) → t.kind ≡ tokens.Anchor name
             → IfOk result (λ id. id ≡ next_id m.anchors) }
-        ensures left { (t : Piece) (m : Seen) (name : List ℕ)
-            → taken_token (machine_of self.old) ≡ Ok (t, m) → t.kind ≡ tokens.Anchor name
-            → OnOk result (machine_of self.new ≡ spec.register name m) }
+        ensures left { (more : List ℕ) (t : Piece) (m : Seen) (name : List ℕ)
+            → taken_token (machine_in more self.old) ≡ Ok (t, m) → t.kind ≡ tokens.Anchor name
+            → OnOk result (machine_in more self.new ≡ spec.register name m) }
         ensures failed { OnErr result (self.new.scanner.stop ≡ OutOfMemory) }
     {
         let name = self.take_text()?;
@@ -265,14 +250,14 @@ impl<T: Input> Machine<T> {
         Ok(id)
     }
 
-    // Takes a tag, and puts the prefix of its handle in the handle's place. If that is not declared, the text is refused
-    // at the place.
+    // Takes a tag, and puts the prefix of its handle in the handle's place. If that is not declared, the text is
+    // refused at the place.
     #[tactic(auto, unfolding(crate::specs::Steps::Tags::resolved_tag_at))]
     fn take_tag(&mut self, place: Marker) -> Result<Tag, Stopped>
         requires { IsReady self.old.scanner }
-        ensures { (t : Piece) (m : Seen) (handle suffix : List ℕ)
-            → taken_token (machine_of self.old) ≡ Ok (t, m) → t.kind ≡ tokens.Tag handle suffix
-            → Moves (λ tag. (resolved_tag tag, machine_of self.new))
+        ensures { (more : List ℕ) (t : Piece) (m : Seen) (handle suffix : List ℕ)
+            → taken_token (machine_in more self.old) ≡ Ok (t, m) → t.kind ≡ tokens.Tag handle suffix
+            → Moves (λ tag. (resolved_tag tag, machine_in more self.new))
             (stopped_by result self.new.scanner.stop)
             (spec.tag_taken m.prefixes handle suffix place m) }
     {
@@ -289,9 +274,9 @@ impl<T: Input> Machine<T> {
     #[tactic(auto, unfolding(crate::specs::Steps::Nodes::alias_node))]
     fn alias<'input>(&mut self, next: &mut (Event<'input>, Span)) -> Result<(), Stopped>
         requires { IsReady self.old.scanner }
-        ensures { (t : Piece) (m : Seen) (name : List ℕ)
-            → taken_token (machine_of self.old) ≡ Ok (t, m) → t.kind ≡ tokens.Alias name
-            → Moves (λ _. told_event_of (machine_of self.new) next.new)
+        ensures { (more : List ℕ) (t : Piece) (m : Seen) (name : List ℕ)
+            → taken_token (machine_in more self.old) ≡ Ok (t, m) → t.kind ≡ tokens.Alias name
+            → Moves (λ _. emitted_of (machine_in more self.new) next.new)
             (stopped_by result self.new.scanner.stop) (spec.alias_node name t.span m) }
     {
         let span = self.span();
@@ -303,7 +288,7 @@ impl<T: Input> Machine<T> {
             return Err(self.refuse(FaultText::UnknownAnchor, span.start));
         };
         self.pop();
-        tell(next, Event::Alias(id), span);
+        self.emit(next, Event::Alias(id), span);
         Ok(())
     }
 
@@ -315,9 +300,9 @@ impl<T: Input> Machine<T> {
         next: &mut (Event<'input>, Span),
     ) -> Result<(), Stopped>
         requires { IsReady self.old.scanner }
-        ensures { (t : Piece) (m : Seen) (name : List ℕ)
-            → taken_token (machine_of self.old) ≡ Ok (t, m) → t.kind ≡ tokens.Anchor name
-            → Moves (λ _. told_event_of (machine_of self.new) next.new)
+        ensures { (more : List ℕ) (t : Piece) (m : Seen) (name : List ℕ)
+            → taken_token (machine_in more self.old) ≡ Ok (t, m) → t.kind ≡ tokens.Anchor name
+            → Moves (λ _. emitted_of (machine_in more self.new) next.new)
             (stopped_by result self.new.scanner.stop)
             (spec.node_behind_anchor name t.span context m) }
     {
@@ -351,9 +336,9 @@ impl<T: Input> Machine<T> {
         next: &mut (Event<'input>, Span),
     ) -> Result<(), Stopped>
         requires { IsReady self.old.scanner }
-        ensures { (t : Piece) (m : Seen) (handle suffix : List ℕ)
-            → taken_token (machine_of self.old) ≡ Ok (t, m) → t.kind ≡ tokens.Tag handle suffix
-            → Moves (λ _. told_event_of (machine_of self.new) next.new)
+        ensures { (more : List ℕ) (t : Piece) (m : Seen) (handle suffix : List ℕ)
+            → taken_token (machine_in more self.old) ≡ Ok (t, m) → t.kind ≡ tokens.Tag handle suffix
+            → Moves (λ _. emitted_of (machine_in more self.new) next.new)
             (stopped_by result self.new.scanner.stop)
             (spec.node_behind_tag handle suffix t.span context m) }
     {
@@ -389,8 +374,10 @@ impl<T: Input> Machine<T> {
         next: &mut (Event<'input>, Span),
     ) -> Result<(), Stopped>
         requires { IsNext kind self.old }
-        ensures { TellsBy (spec.next_node context) self.old result next.new self.new }
+        ensures { EmitsBy (spec.next_node context) self.old result next.new self.new }
     {
+        // A name or a tag is read first, and then uses the memory of the event that is overwritten.
+        self.give_back(&mut next.0);
         match kind {
             TokenKind::Alias => self.alias(next),
             TokenKind::Anchor => self.anchored(context, next),
@@ -418,34 +405,33 @@ impl<T: Input> Machine<T> {
         kind: TokenKind,
         next: &mut (Event<'input>, Span),
     ) -> Result<(), Stopped>
-        requires kind { IsNext kind self.old }
-        requires untagged { has_tag next.old.0 ≡ false }
-        ensures { TellsBy (spec.next_node context) self.old result next.new self.new }
+        requires { IsNext kind self.old }
+        ensures { EmitsBy (spec.next_node context) self.old result next.new self.new }
     {
         match kind {
             TokenKind::FlowSequenceStart => {
-                let span = self.skip();
-                self.begin_sequence(State::FlowSequenceFirstEntry, span, next);
+                self.skip_into(&mut next.1);
+                self.begin_sequence(State::FlowSequenceFirstEntry, next);
                 Ok(())
             }
             TokenKind::FlowMappingStart => {
-                let span = self.skip();
-                self.begin_mapping(State::FlowMappingFirstKey, span, next);
+                self.skip_into(&mut next.1);
+                self.begin_mapping(State::FlowMappingFirstKey, next);
                 Ok(())
             }
             TokenKind::BlockSequenceStart if context.allows_block() => {
-                let span = self.skip();
-                self.begin_sequence(State::BlockSequenceEntry, span, next);
+                self.skip_into(&mut next.1);
+                self.begin_sequence(State::BlockSequenceEntry, next);
                 Ok(())
             }
             TokenKind::BlockMappingStart if context.allows_block() => {
-                let span = self.skip();
-                self.begin_mapping(State::BlockMappingKey, span, next);
+                self.skip_into(&mut next.1);
+                self.begin_mapping(State::BlockMappingKey, next);
                 Ok(())
             }
             TokenKind::BlockEntry if context.allows_indentless() => {
-                let span = self.span();
-                self.begin_sequence(State::IndentlessSequenceEntry, span, next);
+                self.span_into(&mut next.1);
+                self.begin_sequence(State::IndentlessSequenceEntry, next);
                 Ok(())
             }
             kind => self.rare_node(context, kind, next),
@@ -463,19 +449,61 @@ impl<T: Input> Machine<T> {
         kind: TokenKind,
         next: &mut (Event<'input>, Span),
     ) -> Result<(), Stopped>
-        requires kind { IsNext kind self.old }
-        requires untagged { has_tag next.old.0 ≡ false }
-        ensures { TellsBy (spec.next_inside state context) self.old result next.new self.new }
+        requires { IsNext kind self.old }
+        ensures { EmitsBy (spec.next_inside state context) self.old result next.new self.new }
     {
         let Some(style) = kind.style() else {
             self.push(state)?;
             return self.node(context, kind, next);
         };
-        next.1 = self.span();
+        self.span_into(&mut next.1);
+        // Mostly the event that is there is a scalar too. Then its text is the place of this one's.
+        if let Event::Scalar(CowStr::Owned(text), _, _, None) = &mut next.0 {
+            self.take_text_into(text)?;
+            next.0.restyle(style);
+            self.state.set(state);
+            return Ok(());
+        }
         let text = self.take_text()?;
         self.state.set(state);
-        next.0
-            .write_over_untagged(Event::Scalar(CowStr::Owned(text), style, 0, None));
+        let event = Event::Scalar(CowStr::Owned(text), style, 0, None);
+        self.write_over(&mut next.0, event);
         Ok(())
+    }
+
+    // A node that begins with the next token, or that is left out before it and has the span that is there.
+    #[inline(always)]
+    #[tactic(auto, unfolding(crate::specs::Steps::Nodes::node_behind))]
+    pub(super) fn node_behind<'input>(
+        &mut self,
+        state: State,
+        next: &mut (Event<'input>, Span),
+    ) -> Result<(), Stopped>
+        ensures { EmitsBy (spec.node_behind state next.old.1) self.old result next.new self.new }
+    {
+        let kind = self.peek()?;
+        if state.is_left_out(kind) {
+            self.leave_out(state, next);
+            return Ok(());
+        }
+        self.inside(state, state.context_before(), kind, next)
+    }
+
+    // A node that begins with the next token, or that is left out before it and has its span.
+    #[inline(always)]
+    #[tactic(auto, unfolding(crate::specs::Steps::Nodes::node_here))]
+    pub(super) fn node_here<'input>(
+        &mut self,
+        state: State,
+        next: &mut (Event<'input>, Span),
+    ) -> Result<(), Stopped>
+        ensures { EmitsBy (spec.node_here state) self.old result next.new self.new }
+    {
+        let kind = self.peek()?;
+        if state.is_left_out(kind) {
+            self.leave_out_here(state, next);
+            return Ok(());
+        }
+        self.inside(state, state.context_before(), kind, next)
     }
 }

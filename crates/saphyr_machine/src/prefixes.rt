@@ -77,7 +77,7 @@ impl Prefixes {
     }
 
     #[tactic(auto, using(crate::proofs::Copies::texts_copied))]
-    /// The same prefixes for the same handles.
+    /// A copy, unless memory runs out.
     pub fn try_clone(&self) -> Result<Prefixes, AllocError>
         ensures { IfOk result (λ copy. copy ≡ self.now) }
     {

@@ -1,15 +1,14 @@
 //! A machine with at most one event read ahead, so that an event can be shown before it is handed out.
 
-ghost use Rattle.std.specs.Prelude.{◌≡◌, None, Some, true, false, IfNone, IfOk};
-ghost use Rattle.saphyr_scanner.specs.Views.Scanning.{tokens_of};
-ghost use Rattle.saphyr_scanner.specs.Views.Tokens.{piece};
+ghost use Rattle.std.specs.Prelude.{◌≡◌, ◌+◌, ◌<◌, ◌^◌, ℕ, List, None, Some, true, false, IfNone, length};
+ghost use Rattle.saphyr_scanner.specs.Steps.State.{with_rest};
+ghost use Rattle.saphyr_scanner.specs.Views.Scanning.{tokens_in};
 ghost use Rattle.saphyr_machine.specs.Answer.{OutOfMemory};
 ghost use Rattle.saphyr_scalar.specs.declared.scalar.position.Span.{Span as Place};
 ghost use Rattle.saphyr_machine.specs.Cursor.{EventCursor as Cursor, with_event_handed};
 ghost use Rattle.saphyr_machine.specs.Faults.{is_own};
 ghost use Rattle.saphyr_machine.specs.Views.Machines.{happening};
 ghost use Rattle.saphyr_machine.specs.Steps.Documents as documents;
-ghost use Rattle.saphyr_machine.specs.Steps.Machine as steps;
 
 use crate::event::Event;
 use crate::fault::Fault;
@@ -18,9 +17,9 @@ use crate::machine::Machine;
 use crate::progress::Progress;
 use crate::state::State;
 use saphyr_input::input::Input;
-use saphyr_scalar::{Marker, Refusal, Span};
-use saphyr_scanner::{Scanner, Stopped, Token};
-use std::alloc::{AllocError, Global};
+use saphyr_scalar::{Marker, Span};
+use saphyr_scanner::{Growth, Scanner};
+use std::alloc::Global;
 use std::mem::replace;
 
 /// A place for an event.
@@ -72,11 +71,13 @@ impl<'input, T: Input> EventReader<'input, T> {
     ghost use Rattle.saphyr_machine.specs.Views.Machines.{happening};
     ghost use Rattle.saphyr_machine.specs.Cursor as spec;
     ghost use Rattle.saphyr_machine.specs.Calls as calls;
-    ghost use Rattle.saphyr_machine.specs.Views.Readers.{cursor};
+    ghost use Rattle.saphyr_machine.specs.Views.Readers.{cursor, cursor_in, cursor_over, scanning_of};
 
     /// A reader that has read nothing.
     pub fn new(alloc: Global, scanner: Scanner<T>) -> Self
-        ensures { cursor result ≡ spec.at_start (tokens_of scanner) }
+        ensures cursor { (more : List ℕ)
+            → cursor_in more result ≡ spec.at_start (tokens_in more scanner) }
+        ensures scanner { scanning_of result ≡ scanner }
     {
         EventReader {
             machine: Machine::new(alloc, scanner),
@@ -87,47 +88,64 @@ impl<'input, T: Input> EventReader<'input, T> {
         }
     }
 
-    /// Puts a token after all that are still to be read, where the scanner has read its text. `false`: it has not, and
-    /// the token is dropped.
-    #[tactic(auto, using(crate::proofs::Given::given_last))]
-    pub fn give(&mut self, token: Token) -> Result<bool, AllocError>
-        ensures given { IfOk result (λ given. calls.IsGivenLast given (piece token)
-            (cursor self.old) (cursor self.new)) }
-        ensures others { cursor self.new
-            ≡ record (cursor self.old) { machine = (cursor self.new).machine } }
+    /// The same reader, before the characters of another input, behind which more may come or not.
+    pub fn over<U: Input>(self, input: U, growth: Growth) -> EventReader<'input, U>
+    where
+        T: Drop,
+        requires { (scanning_of self).state.core.cursor.mark.index + length (U.rest input)
+            < 2 ^ 64 }
+        ensures scanner { scanning_of result ≡ record (scanning_of self.entry)
+            { state = with_rest (U.rest input) (scanning_of self.entry).state; growth = growth } }
+        ensures cursor { (rest : List ℕ) → cursor_over rest result ≡ cursor_over rest self.entry }
     {
-        match self.machine.scanner.give(token) {
-            Ok(given) => Ok(given),
-            Err(Stopped) => Err(AllocError),
+        let EventReader {
+            machine,
+            current,
+            kept,
+            inside,
+            finished,
+        } = self;
+        EventReader {
+            machine: machine.over(input, growth),
+            current,
+            kept,
+            inside,
+            finished,
         }
     }
 
-    /// Sets the refusal after all tokens that are still to be read, unless one ends these.
-    #[tactic(auto, using(crate::proofs::Given::given_end))]
-    pub fn end_with(&mut self, refusal: Refusal)
-        ensures { (cursor self.old).machine.tokens.refusal ≡ None
-            → cursor self.new ≡ record (cursor self.old)
-            { machine = steps.ended_with refusal (cursor self.old).machine } }
+    /// What is known of the text's end.
+    pub fn growth(&self) -> Growth
+        ensures { result ≡ (scanning_of self.now).growth }
     {
-        self.machine.end = Some(refusal);
+        self.machine.scanner.growth()
+    }
+
+    /// The input, from the place that is reached.
+    pub fn input(&self) -> &T
+        ensures { T.rest result.now ≡ (scanning_of self.now).state.core.cursor.rest }
+    {
+        self.machine.scanner.input()
+    }
+
+    /// How many characters are before the place that is reached.
+    pub fn index(&self) -> usize
+        ensures { result ≡ (scanning_of self.now).state.core.cursor.mark.index }
+    {
+        self.machine.scanner.index()
     }
 
     /// Keeps the lack of memory as a fault that was handed out.
     pub fn run_out_of_memory(&mut self)
-        ensures { cursor self.new ≡ record (cursor self.old)
+        ensures cursor { (more : List ℕ)
+            → cursor_in more self.new ≡ record (cursor_in more self.old)
             { kept = Some (record { fault = OutOfMemory; given = true }) } }
+        ensures over { (rest : List ℕ)
+            → cursor_over rest self.new ≡ record (cursor_over rest self.old)
+            { kept = Some (record { fault = OutOfMemory; given = true }) } }
+        ensures scanner { scanning_of self.new ≡ scanning_of self.old }
     {
-        self.keep(Fault::OutOfMemory, true);
-    }
-
-    /// Whether no document is open, so that the next event is a document's start or the stream's end.
-    pub fn is_outside(&self) -> bool
-        ensures { result ≡ documents.is_outside (cursor self.now).machine.state }
-    {
-        matches!(
-            self.machine.state.get(),
-            State::ImplicitDocumentStart | State::DocumentStart
-        )
+        self.keep_fault(Fault::OutOfMemory, true);
     }
 
     /// Whether the end of the stream was read, so that no token is read any more.
@@ -141,7 +159,11 @@ impl<'input, T: Input> EventReader<'input, T> {
     /// document that is read.
     #[inline(always)]
     pub fn keep_tags(&mut self, value: bool)
-        ensures { cursor self.new ≡ spec.keeping_tags value (cursor self.old) }
+        ensures cursor { (more : List ℕ)
+            → cursor_in more self.new ≡ spec.keeping_tags value (cursor_in more self.old) }
+        ensures over { (rest : List ℕ)
+            → cursor_over rest self.new ≡ spec.keeping_tags value (cursor_over rest self.old) }
+        ensures scanner { scanning_of self.new ≡ scanning_of self.old }
     {
         self.machine.keep_tags = value;
     }
@@ -163,7 +185,7 @@ impl<'input, T: Input> EventReader<'input, T> {
             }
             Progress::Fault => {
                 drop(next);
-                self.keep(fault, false);
+                self.keep_fault(fault, false);
             }
             Progress::Over => {
                 drop(next);
@@ -188,19 +210,19 @@ impl<'input, T: Input> EventReader<'input, T> {
     // Remembers what an event says of the place after it.
     #[inline(always)]
     pub(super) fn remember(&mut self, event: &Event<'input>, span: &Span)
-        ensures { cursor self.new
-            ≡ spec.with_event_handed (happening event.now) span.now (cursor self.old) }
+        ensures { (more : List ℕ) → cursor_in more self.new
+            ≡ spec.with_event_handed (happening event.now) span.now (cursor_in more self.old) }
     {
         if is_remembered(event) {
             self.remember_place(event, span);
         }
     }
 
-    // The same. It is separate for speed, since most events say nothing of it.
+    // Remembers it for an event that says something. It is separate for speed, since most say nothing.
     #[inline(never)]
     fn remember_place(&mut self, event: &Event<'input>, span: &Span)
-        ensures { cursor self.new
-            ≡ spec.with_event_handed (happening event.now) span.now (cursor self.old) }
+        ensures { (more : List ℕ) → cursor_in more self.new
+            ≡ spec.with_event_handed (happening event.now) span.now (cursor_in more self.old) }
     {
         match event {
             Event::DocumentStart(_) => self.inside = true,
@@ -211,10 +233,11 @@ impl<'input, T: Input> EventReader<'input, T> {
     }
 
     // Keeps the fault that ended the events, which was given or not.
-    fn keep(&mut self, fault: Fault, given: bool)
+    fn keep_fault(&mut self, fault: Fault, given: bool)
         requires { is_own fault ≡ true }
-        ensures { cursor self.new ≡ record (cursor self.old)
+        ensures kept { (more : List ℕ) → cursor_in more self.new ≡ record (cursor_in more self.old)
             { kept = Some (record { fault = spec.ending_of_fault fault; given = given }) } }
+        ensures machine { self.new.machine ≡ self.old.machine }
     {
         drop(self.kept.replace(Kept { fault, given }));
     }
@@ -223,15 +246,15 @@ impl<'input, T: Input> EventReader<'input, T> {
     #[inline(never)]
     fn keep_copy(&mut self, fault: &mut Fault)
         requires { is_own fault.old ≡ true }
-        ensures told { calls.IsToldAs (spec.ending_of_fault fault.old) fault.new }
-        ensures kept { cursor self.new
-            ≡ record (cursor self.old) { kept = calls.given_fault fault.new } }
+        ensures reported { calls.IsReportedAs (spec.ending_of_fault fault.old) fault.new }
+        ensures kept { (more : List ℕ) → cursor_in more self.new
+            ≡ record (cursor_in more self.old) { kept = calls.given_fault fault.new } }
     {
         match fault.try_clone() {
-            Ok(copy) => self.keep(copy, true),
+            Ok(copy) => self.keep_fault(copy, true),
             Err(_) => {
                 drop(replace(fault, Fault::OutOfMemory));
-                self.keep(Fault::OutOfMemory, true);
+                self.keep_fault(Fault::OutOfMemory, true);
             }
         }
     }
@@ -240,8 +263,8 @@ impl<'input, T: Input> EventReader<'input, T> {
     #[inline(never)]
     fn advance_ahead(&mut self, next: &mut (Event<'input>, Span), fault: &mut Fault) -> Progress
         requires { IfNone self.old.current (spec.IsKept (cursor self.old).kept) }
-        ensures { calls.GivesNext (calls.item_at next.new fault.new result) (cursor self.old)
-            (cursor self.new) }
+        ensures { (more : List ℕ) → calls.GivesNext (calls.item_at next.new fault.new result)
+            (cursor_in more self.old) (cursor_in more self.new) }
     {
         if let Some(item) = self.current.take() {
             self.remember(&item.0, &item.1);
@@ -252,7 +275,7 @@ impl<'input, T: Input> EventReader<'input, T> {
             return Progress::Over;
         };
         if kept.given {
-            self.keep(kept.fault, true);
+            self.keep_fault(kept.fault, true);
             return Progress::Over;
         }
         drop(replace(fault, kept.fault));
@@ -264,8 +287,8 @@ impl<'input, T: Input> EventReader<'input, T> {
     /// result has no room for a fault, which would be cleared on each turn.
     #[inline(always)]
     pub fn advance(&mut self, next: &mut (Event<'input>, Span), fault: &mut Fault) -> Progress
-        ensures { calls.GivesNext (calls.item_at next.new fault.new result) (cursor self.old)
-            (cursor self.new) }
+        ensures { (more : List ℕ) → calls.GivesNext (calls.item_at next.new fault.new result)
+            (cursor_in more self.old) (cursor_in more self.new) }
     {
         if self.current.is_some() || self.kept.is_some() {
             return self.advance_ahead(next, fault);

@@ -1,6 +1,12 @@
 //! The states of the machine: where it is in the stream, a document or a collection.
 
+ghost use Rattle.std.specs.Prelude.{◌≡◌};
+ghost use Rattle.saphyr_scanner.specs.Views.Tokens.{Parts, kind_with};
+ghost use Rattle.saphyr_machine.specs.Steps.Nodes as spec;
+
+use crate::context::NodeContext;
 use saphyr_scalar::Marker;
+use saphyr_scanner::TokenKind;
 
 /// What the machine expects next.
 #[derive(Clone, Copy)]
@@ -45,4 +51,55 @@ pub enum State {
     FlowMappingEmptyValue,
     /// Nothing: the stream's end was given.
     End,
+}
+
+impl State {
+    /// Whether a node, behind which this is expected, is left out before a token.
+    #[inline(always)]
+    pub(super) fn is_left_out(self, kind: TokenKind) -> bool
+        ensures { (x : Parts) → result ≡ spec.is_left_out self (kind_with kind x) }
+    {
+        match self {
+            State::BlockSequenceEntry => {
+                matches!(kind, TokenKind::BlockEntry | TokenKind::BlockEnd)
+            }
+            State::IndentlessSequenceEntry => matches!(
+                kind,
+                TokenKind::BlockEntry | TokenKind::Key | TokenKind::Value | TokenKind::BlockEnd
+            ),
+            State::BlockMappingKey | State::BlockMappingValue => {
+                matches!(
+                    kind,
+                    TokenKind::Key | TokenKind::Value | TokenKind::BlockEnd
+                )
+            }
+            State::FlowSequenceEntryMappingValue => matches!(
+                kind,
+                TokenKind::Value | TokenKind::FlowEntry | TokenKind::FlowSequenceEnd
+            ),
+            State::FlowSequenceEntryMappingEnd(_) => {
+                matches!(kind, TokenKind::FlowEntry | TokenKind::FlowSequenceEnd)
+            }
+            State::FlowMappingKey => {
+                matches!(kind, TokenKind::FlowEntry | TokenKind::FlowMappingEnd)
+            }
+            State::FlowMappingValue => matches!(
+                kind,
+                TokenKind::Value | TokenKind::FlowEntry | TokenKind::FlowMappingEnd
+            ),
+            _ => false,
+        }
+    }
+
+    /// The context of a node, behind which this is expected.
+    #[inline(always)]
+    pub(super) fn context_before(self) -> NodeContext
+        ensures { result ≡ spec.context_before self }
+    {
+        match self {
+            State::BlockSequenceEntry | State::IndentlessSequenceEntry => NodeContext::Block,
+            State::BlockMappingKey | State::BlockMappingValue => NodeContext::BlockMapping,
+            _ => NodeContext::Flow,
+        }
+    }
 }

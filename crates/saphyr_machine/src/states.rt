@@ -131,7 +131,7 @@ impl Expected {
         }
     }
 
-    /// The same.
+    /// A copy.
     pub(super) fn copied(&self) -> Self
         ensures { result ≡ self.now }
     {
@@ -257,7 +257,7 @@ impl States {
         Some(kind.state(&mut self.places))
     }
 
-    /// The same states.
+    /// A copy, unless memory runs out.
     pub(super) fn try_clone(&self) -> Result<States, AllocError>
         ensures { IfOk result (λ copy. copy ≡ self.now) }
     {

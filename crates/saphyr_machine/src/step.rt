@@ -1,6 +1,6 @@
 //! One step of the machine: the next event, by the machine's state, or the fault in its place.
 
-ghost use Rattle.std.specs.Prelude.{◌≡◌, ◌≢◌, None, false};
+ghost use Rattle.std.specs.Prelude.{◌≡◌, ◌≢◌, ℕ, List, false};
 ghost use Rattle.saphyr_machine.specs.Steps.Expected as spec;
 
 use crate::event::Event;
@@ -8,17 +8,13 @@ use crate::fault::Fault;
 use crate::machine::Machine;
 use crate::progress::Progress;
 use crate::state::State;
-use crate::tag::Tag;
 use saphyr_input::input::Input;
 use saphyr_scalar::Span;
-use saphyr_scalar::scalar::TagParts;
 use saphyr_scanner::Stopped;
-use std::borrow::CowStr;
 use std::mem::replace;
 
 impl<T: Input> Machine<T> {
-    ghost use Rattle.saphyr_machine.specs.Views.Events.{has_tag};
-    ghost use Rattle.saphyr_machine.specs.Views.Machines.{machine_of, TellsBy};
+    ghost use Rattle.saphyr_machine.specs.Views.Machines.{machine_in, EmitsBy};
     ghost use Rattle.saphyr_machine.specs.Calls.{Reads, item_at};
     ghost use Rattle.saphyr_machine.specs.Faults.{IsFaultOf, is_foreign};
     ghost use Rattle.saphyr_machine.specs.declared.state.State.TheVariants.{End};
@@ -31,38 +27,6 @@ impl<T: Input> Machine<T> {
         drop(replace(fault, Fault::new(self.alloc, self.scanner.stop())));
     }
 
-    // Gives back the text and the tag of the event that is overwritten, so the next one uses their memory.
-    #[inline(always)]
-    fn give_back<'input>(&mut self, place: &mut Event<'input>)
-        ensures same { machine_of self.new ≡ machine_of self.old }
-        ensures untagged { has_tag place.new ≡ false }
-    {
-        if let Event::Scalar(_, _, _, tag) = place {
-            // Mostly there is none, and a test costs less than a move.
-            if tag.is_some() {
-                self.give_back_tag(tag);
-            }
-        } else {
-            place.clear_tagged();
-            return;
-        }
-        if let Event::Scalar(CowStr::Owned(text), _, _, _) = place {
-            self.scanner
-                .give_back(replace(text, String::new(self.alloc)));
-        }
-    }
-
-    // Gives back a tag. It is separate for speed, since few scalars have one.
-    #[inline(never)]
-    fn give_back_tag(&mut self, tag: &mut Option<Tag>)
-        ensures same { machine_of self.new ≡ machine_of self.old }
-        ensures taken { tag.new ≡ None }
-    {
-        if let Some(Tag { handle, suffix }) = tag.take() {
-            self.scanner.give_back_tag(TagParts { handle, suffix });
-        }
-    }
-
     // Reads the next event or fault into its place, if there is one. The step is inlined here, and this is not
     // inlined, so that only a byte is returned: the room for a stop would be written and read at each event.
     #[inline(never)]
@@ -72,11 +36,10 @@ impl<T: Input> Machine<T> {
         next: &mut (Event<'input>, Span),
         fault: &mut Fault,
     ) -> Progress
-        ensures reads { Reads (item_at next.new fault.new result) (machine_of self.old)
-            (machine_of self.new) }
+        ensures reads { (more : List ℕ) → Reads (item_at next.new fault.new result)
+            (machine_in more self.old) (machine_in more self.new) }
         ensures own { is_foreign (item_at next.new fault.new result) ≡ false }
     {
-        self.give_back(&mut next.0);
         if matches!(self.state.get(), State::End) {
             return Progress::Over;
         }
@@ -93,9 +56,8 @@ impl<T: Input> Machine<T> {
     #[inline(always)]
     #[tactic(auto, unfolding(crate::specs::Steps::Expected::event_step))]
     pub(super) fn event<'input>(&mut self, next: &mut (Event<'input>, Span)) -> Result<(), Stopped>
-        requires more { (machine_of self.old).state ≢ End }
-        requires untagged { has_tag next.old.0 ≡ false }
-        ensures { TellsBy spec.event_step self.old result next.new self.new }
+        requires { self.old.state ≢ End }
+        ensures { EmitsBy spec.event_step self.old result next.new self.new }
     {
         let state = self.state.get();
         match state {

@@ -1,6 +1,6 @@
 //! Tags with prefixes in place of their handles (YAML 1.2.2, 6.8.2 and 6.9.1).
 
-ghost use Rattle.std.specs.Prelude.{◌≡◌, OnOk, string_bytes};
+ghost use Rattle.std.specs.Prelude.{◌≡◌, ℕ, List, OnOk, string_bytes};
 ghost use Rattle.saphyr_machine.specs.Steps.Tags as spec;
 
 use crate::machine::Machine;
@@ -29,7 +29,7 @@ fn write_over(text: &mut String, new: &str) -> Result<(), AllocError>
 impl<T: Input> Machine<T> {
     ghost use Rattle.saphyr_scalar.specs.Views.Reader.{Moves};
     ghost use Rattle.saphyr_scanner.specs.Views.Engine.{stopped_by};
-    ghost use Rattle.saphyr_machine.specs.Views.Machines.{machine_of};
+    ghost use Rattle.saphyr_machine.specs.Views.Machines.{machine_in};
 
     // Writes the prefix of the handle of a tag at this place over the handle.
     #[inline(always)]
@@ -38,7 +38,8 @@ impl<T: Input> Machine<T> {
         ensures written { Moves (λ _. string_bytes handle.new)
             (stopped_by result self.new.scanner.stop)
             (spec.declared_prefix self.old.prefixes (string_bytes handle.old) place) }
-        ensures same { OnOk result (machine_of self.new ≡ machine_of self.old) }
+        ensures same { (more : List ℕ)
+            → OnOk result (machine_in more self.new ≡ machine_in more self.old) }
     {
         if handle.is_empty() {
             return Ok(());
@@ -57,7 +58,8 @@ impl<T: Input> Machine<T> {
         ensures written { Moves (λ _. string_bytes handle.new)
             (stopped_by result self.new.scanner.stop)
             (spec.undeclared_prefix (string_bytes handle.old) place) }
-        ensures same { OnOk result (machine_of self.new ≡ machine_of self.old) }
+        ensures same { (more : List ℕ)
+            → OnOk result (machine_in more self.new ≡ machine_in more self.old) }
     {
         if handle.as_str() == "!!" {
             let written = write_over(handle, "tag:yaml.org,2002:");

@@ -91,7 +91,7 @@ impl<'input, T: Input> Parser<'input, T> {
         Parser::with_limit(alloc, src, MOST_CHARACTERS)
     }
 
-    /// The same with your own limit, for texts that you don't trust: a text with more than `limit` characters
+    /// A parser with your own limit, for texts that you don't trust: a text with more than `limit` characters
     /// is refused. The events up to there come first, and then the fault that it is too long, unless another
     /// comes before. That fault names 4,294,967,295 characters, whatever the limit.
     ///
@@ -190,7 +190,8 @@ impl<'input, T: Input> Parser<'input, T> {
         multi: bool,
     ) -> Result<(), Fault>
         ensures ended { spec.IsKept self.old.kept
-            → loading.Tells result self.old.kept × (recv.new ≡ recv.old) × (self.new ≡ self.old) }
+            → loading.ReportsFault result self.old.kept × (recv.new ≡ recv.old)
+            × (self.new ≡ self.old) }
         ensures finished { self.old.kept ≡ None → (span : PlaceSpan) → self.old.finished ≡ Some span
             → loading.SendsOne R.receives result (StreamEnd, span) recv.old recv.new
             × (self.new ≡ self.old) }

@@ -34,7 +34,7 @@ pub fn dump<'input, T: Input, W: Write>(
     dump_each(parser, &mut next, out)
 }
 
-// The same, with one place for all events, since they are large to move.
+// Dumps all events through one place, since they are large to move.
 #[inline(always)]
 #[tactic(auto, using(crate::proofs::Printed::Dumping::prints_none))]
 fn dump_each<'input, T: Input, W: Write>(

@@ -13,7 +13,7 @@ use Rattle.saphyr_machine.specs.declared.progress.Progress.{Progress}
 use Rattle.saphyr_machine.specs.declared.progress.Progress.TheVariants as progress
 use Rattle.saphyr_parser.specs.Answer.{Answer, Ending, Refused, fault_alone, remaining_answer, with_first_event}
 use Rattle.saphyr_parser.specs.Events.{Happening}
-use Rattle.saphyr_parser.specs.Calls.{Advances, FailsFrom, GivesNext, IsToldAs, given_fault, item_at}
+use Rattle.saphyr_parser.specs.Calls.{Advances, FailsFrom, GivesNext, IsReportedAs, given_fault, item_at}
 use Rattle.saphyr_parser.specs.Cursor.{EventCursor, HandsOutNext, Kept, Refuses, ending_of_fault}
 use Rattle.saphyr_pieces.specs.Pieces.{HandsOutOrWaits, at}
 use Rattle.saphyr_parser_c.specs.declared.coming.Coming.{Coming}
@@ -23,10 +23,10 @@ use Rattle.saphyr_parser_c.specs.declared.source.Source.{Source}
 use Rattle.saphyr_parser_c.specs.declared.source.Source.TheVariants as source
 use Rattle.saphyr_parser_c.specs.declared.status.Status.{Status}
 use Rattle.saphyr_parser_c.specs.declared.status.Status.TheVariants as status
-use Rattle.saphyr_parser_c.specs.Coming.{KeepsRest, at_bytes}
-use Rattle.saphyr_parser_c.specs.Inner.{HandsFrom, HandsOfComing, HandsOfPieces, HandsToC, IsAt, IsAtFrom, IsSameItem, ShowsFrom, ShowsOfComing, ShowsOfPieces, ShowsToC, TellsKept, Waits, WaitsForMore, handed}
+use Rattle.saphyr_parser_c.specs.Coming.{KeepsRest, WritesWaiting, at_bytes}
+use Rattle.saphyr_parser_c.specs.Inner.{HandsFrom, HandsOfComing, HandsOfPieces, HandsToC, IsAt, IsAtFrom, IsSameItem, ShowsFrom, ShowsOfComing, ShowsOfPieces, ShowsToC, WritesKept, Waits, WaitsForMore, handed}
 use Rattle.saphyr_parser_c.specs.Same.{IsSameFault}
-use Rattle.saphyr_parser_c.specs.Shown.{TellsC}
+use Rattle.saphyr_parser_c.specs.Shown.{WritesC}
 
 abbrev Item : Type 0
 Item = Option (Result (Event × Span) Fault)
@@ -54,15 +54,15 @@ refuses_same fault.OutOfMemory g a same refuses = subst (λ (h : Fault). Refuses
 refuses_same fault.Receiver g a same refuses = absurd refuses
 refuses_same fault.InsideDocument g a same refuses = absurd refuses
 
-told_same : (kept : Ending) (f g : Fault) → IsSameFault f g → IsToldAs kept f → IsToldAs kept g
-told_same kept (fault.Scan e) (fault.Scan h) same told =
-    told ∙ ending_same (fault.Scan e) (fault.Scan h) same
-told_same kept (fault.Scan e) fault.OutOfMemory same told = absurd same
-told_same kept (fault.Scan e) fault.Receiver same told = absurd same
-told_same kept (fault.Scan e) fault.InsideDocument same told = absurd same
-told_same kept fault.OutOfMemory g same told = subst (IsToldAs kept) (sym same) told
-told_same kept fault.Receiver g same told = absurd told
-told_same kept fault.InsideDocument g same told = absurd told
+reported_same : (kept : Ending) (f g : Fault) → IsSameFault f g → IsReportedAs kept f → IsReportedAs kept g
+reported_same kept (fault.Scan e) (fault.Scan h) same written =
+    written ∙ ending_same (fault.Scan e) (fault.Scan h) same
+reported_same kept (fault.Scan e) fault.OutOfMemory same written = absurd same
+reported_same kept (fault.Scan e) fault.Receiver same written = absurd same
+reported_same kept (fault.Scan e) fault.InsideDocument same written = absurd same
+reported_same kept fault.OutOfMemory g same written = subst (IsReportedAs kept) (sym same) written
+reported_same kept fault.Receiver g same written = absurd written
+reported_same kept fault.InsideDocument g same written = absurd written
 
 given_same : (f g : Fault) → IsSameFault f g → given_fault f ≡ given_fault g
 given_same f g same = ap (λ (e : Ending). Some (record { fault = e; given = true })) (ending_same f g same)
@@ -70,9 +70,9 @@ given_same f g same = ap (λ (e : Ending). Some (record { fault = e; given = tru
 fails_same : (current : Option (Happening × Span)) (kept : Option Kept) (f g : Fault) (old new : EventCursor)
     → IsSameFault f g → FailsFrom current kept f old new → FailsFrom current kept g old new
 fails_same (Some next) kept f g old new same fails = absurd fails
-fails_same None (Some k) f g old new same (given, told, is) = (
+fails_same None (Some k) f g old new same (given, written, is) = (
   given,
-  told_same k.fault f g same told,
+  reported_same k.fault f g same written,
   is ∙ ap (λ (kept : Option Kept). record old { kept = kept }) (given_same f g same),
 )
 fails_same None None f g old new same (refuses, is) = (
@@ -99,14 +99,14 @@ hands_same (Some (Err f)) y old new (g, is, same) hands =
     subst (λ (z : Item). HandsOutNext z old new) (sym is) (refuses_same f g old same hands.0, hands.1)
 
 -- what is told of an item is no want of more
-told_so : (Q : Status → Type 0) → Q status.End → Q status.Event → Q status.Refused → Q status.NoMemory
-    → (item : Item) (s : Status) (c : CEvent) → TellsC item s c → Q s
-told_so Q end event refused memory None s c told = subst Q (sym told.0) end
-told_so Q end event refused memory (Some (Ok e)) s c told = subst Q (sym told.0) event
-told_so Q end event refused memory (Some (Err (fault.Scan e))) s c told = subst Q (sym told.0) refused
-told_so Q end event refused memory (Some (Err fault.OutOfMemory)) s c told = subst Q (sym told.0) memory
-told_so Q end event refused memory (Some (Err fault.Receiver)) s c told = subst Q (sym told.0) memory
-told_so Q end event refused memory (Some (Err fault.InsideDocument)) s c told = subst Q (sym told.0) memory
+written_so : (Q : Status → Type 0) → Q status.End → Q status.Event → Q status.Refused → Q status.NoMemory
+    → (item : Item) (s : Status) (c : CEvent) → WritesC item s c → Q s
+written_so Q end event refused memory None s c written = subst Q (sym written.0) end
+written_so Q end event refused memory (Some (Ok e)) s c written = subst Q (sym written.0) event
+written_so Q end event refused memory (Some (Err (fault.Scan e))) s c written = subst Q (sym written.0) refused
+written_so Q end event refused memory (Some (Err fault.OutOfMemory)) s c written = subst Q (sym written.0) memory
+written_so Q end event refused memory (Some (Err fault.Receiver)) s c written = subst Q (sym written.0) memory
+written_so Q end event refused memory (Some (Err fault.InsideDocument)) s c written = subst Q (sym written.0) memory
 
 -- ## A text that comes in pieces
 
@@ -130,54 +130,67 @@ pub hands_lent : (p : Option Progress) (next : Event × Span) (f : Fault) (lent 
 hands_lent p next f lent old new is hands =
     subst (λ (m : Coming). HandsOutOrWaits p next f m.parser new.parser) is hands
 
-as_hands : (before after : Inner) (s : Status) (c : CEvent) (old new : Coming) → TellsC (handed after) s c
+as_hands : (before after : Inner) (s : Status) (c : CEvent) (old new : Coming) → WritesC (handed after) s c
     → HandsOfPieces old before s c new after → HandsOfComing s c old before new after
-as_hands before after s c old new told =
-    told_so (λ (s : Status). HandsOfPieces old before s c new after → HandsOfComing s c old before new after)
-    (λ h. h) (λ h. h) (λ h. h) (λ h. h) (handed after) s c told
+as_hands before after s c old new written =
+    written_so (λ (s : Status). HandsOfPieces old before s c new after → HandsOfComing s c old before new after)
+    (λ h. h) (λ h. h) (λ h. h) (λ h. h) (handed after) s c written
 
-as_shows : (before after : Inner) (s : Status) (c : CEvent) (old new : Coming) → TellsC (handed after) s c
+as_shows : (before after : Inner) (s : Status) (c : CEvent) (old new : Coming) → WritesC (handed after) s c
     → ShowsOfPieces old before s c new after → ShowsOfComing s c old before new after
-as_shows before after s c old new told =
-    told_so (λ (s : Status). ShowsOfPieces old before s c new after → ShowsOfComing s c old before new after)
-    (λ h. h) (λ h. h) (λ h. h) (λ h. h) (handed after) s c told
+as_shows before after s c old new written =
+    written_so (λ (s : Status). ShowsOfPieces old before s c new after → ShowsOfComing s c old before new after)
+    (λ h. h) (λ h. h) (λ h. h) (λ h. h) (handed after) s c written
+
+-- where nothing comes, nothing is handed out or shown
+waits_to_hand : (why : Status) (old new : Coming) (before after : Inner) (c : CEvent) → WritesWaiting why new
+    → WaitsForMore old before why c new after → HandsOfComing why c old before new after
+waits_to_hand status.More old new before after c written w = w
+waits_to_hand status.TooMuch old new before after c written w = w
+waits_to_hand _ old new before after c written w = absurd written
+
+waits_to_show : (why : Status) (old new : Coming) (before after : Inner) (c : CEvent) → WritesWaiting why new
+    → WaitsForMore old before why c new after → ShowsOfComing why c old before new after
+waits_to_show status.More old new before after c written w = w
+waits_to_show status.TooMuch old new before after c written w = w
+waits_to_show _ old new before after c written w = absurd written
 
 -- what was shown is handed out
 pub hands_shown : (before after : Inner) (s : Status) (c : CEvent) (box : Box Coming Global)
     → before.source ≡ source.Pieces box → before.shown ≡ true
-    → TellsKept (record before { source = source.Pieces box; shown = false }) s c after → HandsToC before s c after
-hands_shown before after s c box from shown told =
+    → WritesKept (record before { source = source.Pieces box; shown = false }) s c after → HandsToC before s c after
+hands_shown before after s c box from shown written =
     let old = box.value in
     subst (λ (x : Source). HandsFrom x before s c after) (sym from) (
       box,
-      told.others.0,
+      written.others.0,
       (refl, λ enough. enough),
-      as_hands before after s c old old told.tells (record {
-        gives = λ later here is. gives_same (handed before) (handed after) here (at_bytes old later) told.same
+      as_hands before after s c old old written.writes (record {
+        gives = λ later here is. gives_same (handed before) (handed after) here (at_bytes old later) written.same
             (subst (λ (b : Bool). IsAtFrom b old before later here) shown is);
-        again = λ was. (told.same, refl);
-        shown = told.others.1;
-        tells = told.tells;
+        again = λ was. (written.same, refl);
+        shown = written.others.1;
+        writes = written.writes;
       }),
     )
 
 -- what was shown is shown again
 pub shows_shown : (before after : Inner) (s : Status) (c : CEvent) (box : Box Coming Global)
     → before.source ≡ source.Pieces box → before.shown ≡ true
-    → TellsKept (record before { source = source.Pieces box }) s c after → ShowsToC before s c after
-shows_shown before after s c box from shown told =
+    → WritesKept (record before { source = source.Pieces box }) s c after → ShowsToC before s c after
+shows_shown before after s c box from shown written =
     let old = box.value in
     subst (λ (x : Source). ShowsFrom x before s c after) (sym from) (
       box,
-      told.others.0,
+      written.others.0,
       (refl, λ enough. enough),
-      as_shows before after s c old old told.tells (record {
-        place = λ later here is. subst (λ (b : Bool). IsAtFrom b old after later here) (sym (told.others.1 ∙ shown))
-            (gives_same (handed before) (handed after) here (at_bytes old later) told.same
+      as_shows before after s c old old written.writes (record {
+        place = λ later here is. subst (λ (b : Bool). IsAtFrom b old after later here) (sym (written.others.1 ∙ shown))
+            (gives_same (handed before) (handed after) here (at_bytes old later) written.same
             (subst (λ (b : Bool). IsAtFrom b old before later here) shown is));
-        again = λ was. (told.same, refl);
-        shown = told.others.1 ∙ shown;
-        tells = told.tells;
+        again = λ was. (written.same, refl);
+        shown = written.others.1 ∙ shown;
+        writes = written.writes;
       }),
     )
 
@@ -194,53 +207,54 @@ module _ (before : Inner) (s : Status) (c : CEvent) (from_box to_box : Box Comin
   read p b = record before { source = source.Pieces to_box; next = next; fault = f; progress = p; shown = b }
 
   behind : (p : Progress) (b : Bool) (after : Inner) → HandsOutOrWaits (Some p) next f old.parser new.parser
-      → TellsKept (read p b) s c after → (later : List ℕ) (here : EventCursor) → IsAt old before later here
+      → WritesKept (read p b) s c after → (later : List ℕ) (here : EventCursor) → IsAt old before later here
       → GivesNext (handed after) here (at_bytes new later)
-  behind p b after hands told later here is =
-      gives_same (item_at next f p) (handed after) here (at_bytes new later) told.same
+  behind p b after hands written later here is =
+      gives_same (item_at next f p) (handed after) here (at_bytes new later) written.same
       (subst (λ (x : EventCursor). GivesNext (item_at next f p) x (at_bytes new later))
       (subst (λ (b : Bool). IsAtFrom b old before later here) shown is)
       (gives_place (item_at next f p) old new same hands later))
 
   -- what is read is handed out
   pub hands_next : (p : Progress) (after : Inner) → HandsOutOrWaits (Some p) next f old.parser new.parser
-      → TellsKept (read p before.shown) s c after → HandsToC before s c after
+      → WritesKept (read p before.shown) s c after → HandsToC before s c after
   hands_next p after hands kept =
-      let told = subst (λ (b : Bool). TellsKept (read p b) s c after) shown kept in
+      let written = subst (λ (b : Bool). WritesKept (read p b) s c after) shown kept in
       subst (λ (x : Source). HandsFrom x before s c after) (sym from) (
         to_box,
-        told.others.0,
+        written.others.0,
         same,
-        as_hands before after s c old new told.tells (record {
-          gives = behind p false after hands told;
+        as_hands before after s c old new written.writes (record {
+          gives = behind p false after hands written;
           again = λ was. absurd (true≢false (sym was ∙ shown));
-          shown = told.others.1;
-          tells = told.tells;
+          shown = written.others.1;
+          writes = written.writes;
         }),
       )
 
   -- what is read is shown
   pub shows_next : (p : Progress) (after : Inner) → HandsOutOrWaits (Some p) next f old.parser new.parser
-      → TellsKept (read p true) s c after → ShowsToC before s c after
-  shows_next p after hands told =
+      → WritesKept (read p true) s c after → ShowsToC before s c after
+  shows_next p after hands written =
       subst (λ (x : Source). ShowsFrom x before s c after) (sym from) (
         to_box,
-        told.others.0,
+        written.others.0,
         same,
-        as_shows before after s c old new told.tells (record {
-          place = λ later here is. subst (λ (b : Bool). IsAtFrom b new after later here) (sym told.others.1)
-              (behind p true after hands told later here is);
+        as_shows before after s c old new written.writes (record {
+          place = λ later here is. subst (λ (b : Bool). IsAtFrom b new after later here) (sym written.others.1)
+              (behind p true after hands written later here is);
           again = λ was. absurd (true≢false (sym was ∙ shown));
-          shown = told.others.1;
-          tells = told.tells;
+          shown = written.others.1;
+          writes = written.writes;
         }),
       )
 
-  waiting : (after : Inner) → HandsOutOrWaits None next f old.parser new.parser
-      → Waits (read before.progress before.shown) s c after
-      → WaitsForMore old before status.More c new (read progress.Over before.shown)
-  waiting after hands waits = record {
-    status = refl;
+  waiting : (why : Status) (after : Inner) → WritesWaiting why new
+      → HandsOutOrWaits None next f old.parser new.parser
+      → Waits (read before.progress before.shown) why s c after
+      → WaitsForMore old before why c new (read progress.Over before.shown)
+  waiting why after written hands waits = record {
+    status = written;
     not_shown = shown;
     blank = waits.1;
     event = (refl, shown);
@@ -252,30 +266,33 @@ module _ (before : Inner) (s : Status) (c : CEvent) (from_box to_box : Box Comin
   }
 
   -- it waits in place of handing out or showing
-  none_comes : (Of : Status → CEvent → Coming → Inner → Coming → Inner → Type 0) (after : Inner)
-      → HandsOutOrWaits None next f old.parser new.parser → Waits (read before.progress before.shown) s c after
-      → (WaitsForMore old before status.More c new (read progress.Over before.shown)
-      → Of status.More c old before new (read progress.Over before.shown))
+  none_comes : (Of : Status → CEvent → Coming → Inner → Coming → Inner → Type 0) (why : Status) (after : Inner)
+      → WritesWaiting why new → HandsOutOrWaits None next f old.parser new.parser
+      → Waits (read before.progress before.shown) why s c after
+      → (WaitsForMore old before why c new (read progress.Over before.shown)
+      → Of why c old before new (read progress.Over before.shown))
       → (n : Box Coming Global) × (after.source ≡ source.Pieces n) × KeepsRest old n.value
       × Of s c old before n.value after
-  none_comes Of after hands waits is =
+  none_comes Of why after written hands waits is =
       subst (λ (a : Inner). (n : Box Coming Global) × (a.source ≡ source.Pieces n) × KeepsRest old n.value
       × Of s c old before n.value a) (sym waits.2) (
         to_box,
         refl,
         same,
         subst (λ (s : Status). Of s c old before new (read progress.Over before.shown)) (sym waits.0)
-            (is (waiting after hands waits)),
+            (is (waiting why after written hands waits)),
       )
 
-  pub hands_none : (after : Inner) → HandsOutOrWaits None next f old.parser new.parser
-      → Waits (read before.progress before.shown) s c after → HandsToC before s c after
-  hands_none after hands waits =
+  pub hands_none : (why : Status) (after : Inner) → WritesWaiting why new
+      → HandsOutOrWaits None next f old.parser new.parser
+      → Waits (read before.progress before.shown) why s c after → HandsToC before s c after
+  hands_none why after written hands waits =
       subst (λ (x : Source). HandsFrom x before s c after) (sym from)
-      (none_comes HandsOfComing after hands waits (λ w. w))
+      (none_comes HandsOfComing why after written hands waits (waits_to_hand why old new before _ c written))
 
-  pub shows_none : (after : Inner) → HandsOutOrWaits None next f old.parser new.parser
-      → Waits (read before.progress before.shown) s c after → ShowsToC before s c after
-  shows_none after hands waits =
+  pub shows_none : (why : Status) (after : Inner) → WritesWaiting why new
+      → HandsOutOrWaits None next f old.parser new.parser
+      → Waits (read before.progress before.shown) why s c after → ShowsToC before s c after
+  shows_none why after written hands waits =
       subst (λ (x : Source). ShowsFrom x before s c after) (sym from)
-      (none_comes ShowsOfComing after hands waits (λ w. w))
+      (none_comes ShowsOfComing why after written hands waits (waits_to_show why old new before _ c written))

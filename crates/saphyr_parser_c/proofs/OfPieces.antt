@@ -13,11 +13,12 @@ use Rattle.saphyr_parser_c.specs.Coming.{IsOfNothing, at_bytes}
 use Rattle.saphyr_parser_c.specs.Coming.{IsCopyOfPieces, KeepsRest}
 use Rattle.saphyr_parser_c.specs.Inner.{IsCopyOfParser, IsFresh, IsOfPieces, IsShownCopy, IsSourceCopy, IsSourceOf, KeepsFrom}
 
-pub made_of_pieces : (keep : Bool) (coming : Coming) (s : Source) (inner : Inner) → IsOfNothing keep coming
-    → IsSourceOf coming s → inner.source ≡ s → IsFresh inner → IsOfPieces keep inner
-made_of_pieces keep coming s inner nothing (box, boxed, holds) is fresh = record {
+pub made_of_pieces : (keep : Bool) (characters bytes : ℕ) (coming : Coming) (s : Source) (inner : Inner)
+    → IsOfNothing keep characters bytes coming → IsSourceOf coming s → inner.source ≡ s → IsFresh inner
+    → IsOfPieces keep characters bytes inner
+made_of_pieces keep characters bytes coming s inner nothing (box, boxed, holds) is fresh = record {
   coming = box;
-  nothing = subst (IsOfNothing keep) (sym holds) nothing;
+  nothing = subst (IsOfNothing keep characters bytes) (sym holds) nothing;
   source = is ∙ boxed;
   event = fresh;
 }

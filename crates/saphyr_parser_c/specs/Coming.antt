@@ -1,10 +1,10 @@
 -- A parser of a text in UTF-8 that comes in pieces, and what the calls that add to it do.
-use Rattle.std.specs.Prelude.{◌≡◌, ◌≤◌, ℕ, Bool, false, List, [], ◌++◌, length}
+use Rattle.std.specs.Prelude.{◌≡◌, ◌≤◌, ◌==◌, ◌-◌, ◌^◌, min, ℕ, Bool, false, List, [], ◌++◌, length, if◌then◌else◌}
 use Rattle.std.specs.Str.{chars}
 use Rattle.saphyr_scanner.specs.Steps.Remaining.{scan}
 use Rattle.saphyr_parser.specs.Cursor.{EventCursor, at_start, keeping_tags}
 use Rattle.saphyr_parser.specs.Limits.{most_characters}
-use Rattle.saphyr_pieces.specs.Pieces.{LosesText, NeedsNoMore, at, wants_more}
+use Rattle.saphyr_pieces.specs.Pieces.{LosesText, NeedsNoMore, at, waiting, wants_more}
 use Rattle.saphyr_parser_c.specs.declared.coming.Coming.{Coming}
 use Rattle.saphyr_parser_c.specs.declared.coming.Extent.{Extent}
 use Rattle.saphyr_parser_c.specs.declared.coming.Extent.TheVariants as extent
@@ -16,11 +16,22 @@ use Rattle.saphyr_parser_c.specs.Encoding.{BeginsAsUtf16, IsCutCharacter, IsUtf8
 abbrev pub at_bytes : Coming → List ℕ → EventCursor
 at_bytes c later = at c.parser (chars (c.waiting.items ++ later))
 
--- nothing came: whatever comes, it is the parser of that
-abbrev pub IsOfNothing : Bool → Coming → Type 0
-IsOfNothing keep c =
-    ((later : List ℕ) → at_bytes c later ≡ keeping_tags keep (at_start (scan most_characters (chars later))))
-    × (c.waiting.items ≡ []) × (c.extent ≡ extent.Nothing)
+-- A limit that a caller sets, up to the most that there may be. 0 sets none.
+abbrev pub bounded : ℕ → ℕ → ℕ
+bounded limit most = if limit == 0 then most else min limit most
+
+-- nothing came: whatever comes, it is the parser of that, with these limits of its characters and of what waits
+abbrev pub IsOfNothing : Bool → ℕ → ℕ → Coming → Type 0
+IsOfNothing keep characters bytes c =
+    ((later : List ℕ) → at_bytes c later
+    ≡ keeping_tags keep (at_start (scan (bounded characters most_characters) (chars later))))
+    × (c.waiting.items ≡ []) × (c.extent ≡ extent.Nothing) × (c.most_waiting ≡ bounded bytes (2 ^ 64 - 1))
+
+-- no event comes: of what may wait no more waits, or more waits
+abbrev pub WritesWaiting : Status → Coming → Type 0
+WritesWaiting status.More c = length (waiting c.parser) ≤ c.most_waiting
+WritesWaiting status.TooMuch c = Unit {0}
+WritesWaiting _ c = ⊥
 
 -- Why bytes are refused that come after those that came. The first of a text may be a mark of UTF-16.
 abbrev pub IsRefusalFrom : Extent → List ℕ → Status → Type 0
@@ -85,3 +96,4 @@ KeepsRest old new = (new ≡ record old { parser = new.parser }) × NeedsNoMore 
 abbrev pub IsCopyOfPieces : Coming → Coming → Type 0
 IsCopyOfPieces old copy =
     (copy.parser ≡ old.parser) × (copy.waiting.items ≡ old.waiting.items) × (copy.extent ≡ old.extent)
+    × (copy.most_waiting ≡ old.most_waiting)

@@ -20,9 +20,9 @@ IsTakenOut (Some b) held = held ≡ some b.value
 
 -- ## An empty handle
 
--- it stays empty, and no event is told
-abbrev pub TellsNone : ℤ → CEvent → Option Inner → Type 0
-TellsNone code c new = (code ≡ code_of status.NoParser) × HasFields no_fields nowhere nowhere c × (new ≡ none)
+-- it stays empty, and no event is written
+abbrev pub WritesNone : ℤ → CEvent → Option Inner → Type 0
+WritesNone code c new = (code ≡ code_of status.NoParser) × HasFields no_fields nowhere nowhere c × (new ≡ none)
 
 -- ## Each call
 
@@ -36,9 +36,9 @@ MakesOrNot code = (code ≡ pos 0) ⊎ ((code ≡ code_of status.NotUtf8)
     ⊎ ((code ≡ code_of status.Utf16) ⊎ (code ≡ code_of status.NoMemory)))
 
 -- a parser of a text of which nothing came was made
-abbrev pub IsMadeOfPieces : Bool → Option Inner → Type 0
-IsMadeOfPieces keep none = ⊥
-IsMadeOfPieces keep (some inner) = IsOfPieces keep inner
+abbrev pub IsMadeOfPieces : Bool → ℕ → ℕ → Option Inner → Type 0
+IsMadeOfPieces keep characters bytes none = ⊥
+IsMadeOfPieces keep characters bytes (some inner) = IsOfPieces keep characters bytes inner
 
 abbrev pub HasMemoryOrNot : ℤ → Type 0
 HasMemoryOrNot code = (code ≡ pos 0) ⊎ (code ≡ code_of status.NoMemory)
@@ -49,12 +49,12 @@ AddsTo bytes (some old) code new =
     (inner : Inner) × (s : Status) × (new ≡ some inner) × (code ≡ code_of s) × AddsToC bytes old s inner
 
 abbrev pub Nexts : Option Inner → ℤ → CEvent → Option Inner → Type 0
-Nexts none code c new = TellsNone code c new
+Nexts none code c new = WritesNone code c new
 Nexts (some old) code c new =
     (inner : Inner) × (s : Status) × (new ≡ some inner) × (code ≡ code_of s) × HandsToC old s c inner
 
 abbrev pub PeeksAt : Option Inner → ℤ → CEvent → Option Inner → Type 0
-PeeksAt none code c new = TellsNone code c new
+PeeksAt none code c new = WritesNone code c new
 PeeksAt (some old) code c new =
     (inner : Inner) × (s : Status) × (new ≡ some inner) × (code ≡ code_of s) × ShowsToC old s c inner
 

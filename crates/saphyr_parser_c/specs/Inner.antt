@@ -9,7 +9,6 @@ use Rattle.saphyr_scalar.specs.declared.scalar.position.Span.{Span}
 use Rattle.saphyr_parser.specs.Limits.{most_characters}
 use Rattle.saphyr_parser.specs.Types.Event.{Event}
 use Rattle.saphyr_parser.specs.Types.Fault.{Fault}
-use Rattle.saphyr_parser.specs.Types.Fault.TheVariants as fault
 use Rattle.saphyr_scanner.specs.Steps.Remaining.{scan}
 use Rattle.saphyr_machine.specs.declared.progress.Progress.TheVariants as progress
 use Rattle.saphyr_parser.specs.Calls.{EndsTheStream, GivesNext, Peeks, item_at}
@@ -24,10 +23,10 @@ use Rattle.saphyr_parser_c.specs.declared.source.Source.TheVariants as source
 use Rattle.saphyr_parser_c.specs.declared.status.Status.{Status}
 use Rattle.saphyr_parser_c.specs.declared.status.Status.TheVariants as status
 use Rattle.saphyr_parser_c.specs.Coming.{Adds, IsOfNothing, at_bytes}
-use Rattle.saphyr_parser_c.specs.Coming.{IsCopyOfPieces, KeepsRest}
+use Rattle.saphyr_parser_c.specs.Coming.{IsCopyOfPieces, KeepsRest, WritesWaiting}
 use Rattle.saphyr_parser_c.specs.Encoding.{BeginsAsUtf16}
 use Rattle.saphyr_parser_c.specs.Same.{IsSameFault}
-use Rattle.saphyr_parser_c.specs.Shown.{HasFields, TellsC, TellsLent, no_fields, nowhere}
+use Rattle.saphyr_parser_c.specs.Shown.{HasFields, WritesC, WritesLent, no_fields, nowhere}
 
 -- what was handed out last, which is in the places for an event and for a fault
 abbrev pub handed : Inner → Option (Result (Event × Span) Fault)
@@ -59,9 +58,9 @@ abbrev pub IsSourceOf : Coming → Source → Type 0
 IsSourceOf coming s = (b : Box Coming Global) × (s ≡ source.Pieces b) × (b.value ≡ coming)
 
 -- a parser of a text that comes in pieces, of which nothing came
-pub record IsOfPieces (keep : Bool) (inner : Inner) : Type 0 where
+pub record IsOfPieces (keep : Bool) (characters bytes : ℕ) (inner : Inner) : Type 0 where
   pub coming : Box Coming Global
-  pub nothing : IsOfNothing keep coming.value
+  pub nothing : IsOfNothing keep characters bytes coming.value
   pub source : inner.source ≡ source.Pieces coming
   pub event : IsFresh inner
 
@@ -74,18 +73,18 @@ RefusesText text _ = ⊥
 
 -- ## The parser of a whole text
 
--- What is handed out is the head of the events to come, and is told; it is kept until the next call.
+-- What is handed out is the head of the events to come, and is written; it is kept until the next call.
 pub record HandsOfWhole (old new : EventCursor) (inner : Inner) (s : Status) (c : CEvent) : Type 0 where
   pub hands : HandsOutNext (handed inner) (to_come old) (to_come new)
   pub gives : GivesNext (handed inner) old new
   pub over : EndsTheStream new
-  pub tells : TellsC (handed inner) s c
+  pub writes : WritesC (handed inner) s c
 
--- What is told is what the parser shows.
+-- What is written is what the parser shows.
 pub record ShowsOfWhole (old new : EventCursor) (s : Status) (c : CEvent) : Type 0 where
   pub shown : Option (Result (Bor (Event × Span)) (Bor Fault))
   pub peeks : Peeks old shown new
-  pub tells : TellsLent shown s c
+  pub writes : WritesLent shown s c
 
 -- ## A text that comes in pieces
 
@@ -98,10 +97,10 @@ IsAtFrom true coming inner later c = GivesNext (handed inner) c (at_bytes coming
 abbrev pub IsAt : Coming → Inner → List ℕ → EventCursor → Type 0
 IsAt coming inner later c = IsAtFrom inner.shown coming inner later c
 
--- It depends on bytes that did not come. No event is told, and the place stays.
+-- It depends on bytes that did not come. No event is written, and the place stays.
 pub record WaitsForMore (old : Coming) (before : Inner) (s : Status) (c : CEvent) (new : Coming) (after : Inner)
     : Type 0 where
-  pub status : s ≡ status.More
+  pub status : WritesWaiting s new
   pub not_shown : before.shown ≡ false
   pub blank : HasFields no_fields nowhere nowhere c
   pub event : IsFresh after
@@ -118,15 +117,15 @@ IsSameItem (Some (Err f)) copy = (g : Fault) × (copy ≡ Some (Err g)) × IsSam
 abbrev pub ShowsAgain : Coming → Inner → Coming → Inner → Type 0
 ShowsAgain old before new after = before.shown ≡ true → IsSameItem (handed before) (handed after) × (new ≡ old)
 
--- Whatever comes later, what is handed out comes next in the whole text, and is told; it is kept until the next call.
--- What was shown is handed out.
+-- Whatever comes later, what is handed out comes next in the whole text, and is written; it is kept until the next
+-- call. What was shown is handed out.
 pub record HandsOfPieces (old : Coming) (before : Inner) (s : Status) (c : CEvent) (new : Coming) (after : Inner)
     : Type 0 where
   pub gives : (later : List ℕ) (at : EventCursor) → IsAt old before later at
       → GivesNext (handed after) at (at_bytes new later)
   pub again : ShowsAgain old before new after
   pub shown : after.shown ≡ false
-  pub tells : TellsC (handed after) s c
+  pub writes : WritesC (handed after) s c
 
 -- The same is shown, also where it was before, and stays to be handed out.
 pub record ShowsOfPieces (old : Coming) (before : Inner) (s : Status) (c : CEvent) (new : Coming) (after : Inner)
@@ -134,14 +133,16 @@ pub record ShowsOfPieces (old : Coming) (before : Inner) (s : Status) (c : CEven
   pub place : (later : List ℕ) (at : EventCursor) → IsAt old before later at → IsAt new after later at
   pub again : ShowsAgain old before new after
   pub shown : after.shown ≡ true
-  pub tells : TellsC (handed after) s c
+  pub writes : WritesC (handed after) s c
 
 abbrev pub HandsOfComing : Status → CEvent → Coming → Inner → Coming → Inner → Type 0
 HandsOfComing status.More c old before new after = WaitsForMore old before status.More c new after
+HandsOfComing status.TooMuch c old before new after = WaitsForMore old before status.TooMuch c new after
 HandsOfComing s c old before new after = HandsOfPieces old before s c new after
 
 abbrev pub ShowsOfComing : Status → CEvent → Coming → Inner → Coming → Inner → Type 0
 ShowsOfComing status.More c old before new after = WaitsForMore old before status.More c new after
+ShowsOfComing status.TooMuch c old before new after = WaitsForMore old before status.TooMuch c new after
 ShowsOfComing s c old before new after = ShowsOfPieces old before s c new after
 
 -- ## Each call
@@ -206,15 +207,15 @@ SetsKeepTags keep before after =
 
 -- ## Inner steps
 
-abbrev pub Waits : Inner → Status → CEvent → Inner → Type 0
-Waits before s c after =
-    (s ≡ status.More) × HasFields no_fields nowhere nowhere c × (after ≡ record before { progress = progress.Over })
+abbrev pub Waits : Inner → Status → Status → CEvent → Inner → Type 0
+Waits before why s c after =
+    (s ≡ why) × HasFields no_fields nowhere nowhere c × (after ≡ record before { progress = progress.Over })
 
--- what is kept is told; its texts may move
-pub record TellsKept (before : Inner) (s : Status) (c : CEvent) (after : Inner) : Type 0 where
+-- what is kept is written; its texts may move
+pub record WritesKept (before : Inner) (s : Status) (c : CEvent) (after : Inner) : Type 0 where
   pub same : IsSameItem (handed before) (handed after)
   pub others : (after.source ≡ before.source) × (after.shown ≡ before.shown)
-  pub tells : TellsC (handed after) s c
+  pub writes : WritesC (handed after) s c
 
 abbrev pub CopiesShown : Inner → Inner → Result Unit AllocError → Inner → Type 0
 CopiesShown inner before (Ok done) after =

@@ -6,3 +6,4 @@ pub mod Inner
 pub mod Same
 pub mod Shown
 pub mod Status
+pub mod Trees

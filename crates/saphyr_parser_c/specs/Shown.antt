@@ -25,10 +25,10 @@ use Rattle.saphyr_parser_c.specs.declared.shown.CEvent.{CEvent}
 use Rattle.saphyr_parser_c.specs.declared.status.Status.{Status}
 use Rattle.saphyr_parser_c.specs.declared.status.Status.TheVariants as status
 
--- ## What is told of an event
+-- ## What is written of an event
 
 -- its fields but for its places, with a text by its bytes
-pub record ToldFields : Type 0 where
+pub record EventFields : Type 0 where
   pub kind : ℤ
   pub style : ℤ
   pub explicit : ℤ
@@ -36,18 +36,18 @@ pub record ToldFields : Type 0 where
   pub value : Option (List ℕ)
   pub tag : Option ResolvedTag
 
-abbrev pub fields_of_kind : ℤ → ToldFields
+abbrev pub fields_of_kind : ℤ → EventFields
 fields_of_kind kind = record { kind = kind; style = pos 0; explicit = pos 0; anchor = 0; value = None; tag = None }
 
-abbrev pub fields_of_node : ℤ → ℕ → Option ResolvedTag → ToldFields
+abbrev pub fields_of_node : ℤ → ℕ → Option ResolvedTag → EventFields
 fields_of_node kind anchor tag = record (fields_of_kind kind) { anchor = anchor; tag = tag }
 
 -- of no event
-abbrev pub no_fields : ToldFields
+abbrev pub no_fields : EventFields
 no_fields = fields_of_kind (pos 0)
 
 -- of a refusal, by its text
-abbrev pub fields_of_refusal : List ℕ → ToldFields
+abbrev pub fields_of_refusal : List ℕ → EventFields
 fields_of_refusal info = record no_fields { value = Some info }
 
 abbrev pub style_code : ScalarStyle → ℤ
@@ -61,19 +61,19 @@ abbrev pub explicit_code : Bool → ℤ
 explicit_code true = pos 1
 explicit_code false = pos 0
 
-abbrev pub told_fields : Happening → ToldFields
-told_fields Nothing = fields_of_kind (pos 0)
-told_fields StreamStart = fields_of_kind (pos 1)
-told_fields StreamEnd = fields_of_kind (pos 2)
-told_fields (DocumentStart explicit) = record (fields_of_kind (pos 3)) { explicit = explicit_code explicit }
-told_fields DocumentEnd = fields_of_kind (pos 4)
-told_fields (Alias id) = record (fields_of_kind (pos 5)) { anchor = id }
-told_fields (Scalar text style id tag) =
+abbrev pub fields_of_event : Happening → EventFields
+fields_of_event Nothing = fields_of_kind (pos 0)
+fields_of_event StreamStart = fields_of_kind (pos 1)
+fields_of_event StreamEnd = fields_of_kind (pos 2)
+fields_of_event (DocumentStart explicit) = record (fields_of_kind (pos 3)) { explicit = explicit_code explicit }
+fields_of_event DocumentEnd = fields_of_kind (pos 4)
+fields_of_event (Alias id) = record (fields_of_kind (pos 5)) { anchor = id }
+fields_of_event (Scalar text style id tag) =
     record (fields_of_node (pos 6) id tag) { style = style_code style; value = Some text }
-told_fields (SequenceStart id tag) = fields_of_node (pos 7) id tag
-told_fields SequenceEnd = fields_of_kind (pos 8)
-told_fields (MappingStart id tag) = fields_of_node (pos 9) id tag
-told_fields MappingEnd = fields_of_kind (pos 10)
+fields_of_event (SequenceStart id tag) = fields_of_node (pos 7) id tag
+fields_of_event SequenceEnd = fields_of_kind (pos 8)
+fields_of_event (MappingStart id tag) = fields_of_node (pos 9) id tag
+fields_of_event MappingEnd = fields_of_kind (pos 10)
 
 -- ## The numbers in C's structure
 
@@ -88,7 +88,7 @@ tag_code None = pos 0
 tag_code (Some tag) = pos 1
 
 -- all fields but the texts
-pub record HasNumbers (t : ToldFields) (from to : Marker) (c : CEvent) : Type 0 where
+pub record HasNumbers (t : EventFields) (from to : Marker) (c : CEvent) : Type 0 where
   pub kind : c.kind ≡ t.kind
   pub style : c.style ≡ t.style
   pub explicit : c.is_explicit ≡ t.explicit
@@ -122,12 +122,12 @@ abbrev pub IsSameButTag : CEvent → CEvent → Type 0
 IsSameButTag old new =
     new ≡ record old { has_tag = new.has_tag; tag_handle = new.tag_handle; tag_suffix = new.tag_suffix }
 
-abbrev pub HasTexts : ToldFields → CEvent → Type 0
-HasTexts t c = HasText t.value c.value × HasTagTexts t.tag c
+abbrev pub HasTextFields : EventFields → CEvent → Type 0
+HasTextFields t c = HasText t.value c.value × HasTagTexts t.tag c
 
 -- each field of the structure
-abbrev pub HasFields : ToldFields → Marker → Marker → CEvent → Type 0
-HasFields t start end c = HasNumbers t start end c × HasTexts t c
+abbrev pub HasFields : EventFields → Marker → Marker → CEvent → Type 0
+HasFields t start end c = HasNumbers t start end c × HasTextFields t c
 
 -- ## Texts that are kept: C is given the very memory in which they are
 
@@ -144,8 +144,8 @@ TagStands (Some tag) c =
     BytesStand (string_vec tag.handle) c.tag_handle × BytesStand (string_vec tag.suffix) c.tag_suffix
 
 -- whether there is a tag, and where its texts are
-abbrev pub TellsTag : Option Tag → CEvent → Type 0
-TellsTag tag c = (c.has_tag ≡ tag_code (option_map resolved_tag tag)) × TagStands tag c
+abbrev pub WritesTag : Option Tag → CEvent → Type 0
+WritesTag tag c = (c.has_tag ≡ tag_code (option_map resolved_tag tag)) × TagStands tag c
 
 abbrev pub value_of : Event → Option (CowStr Global)
 value_of (events.Scalar text style id tag) = Some text
@@ -170,30 +170,31 @@ TextsStand e c = ValueStands e c × TagStands (tag_in e) c
 
 -- ## What a call answers
 
-abbrev pub TellsNumbers : Event × Span → CEvent → Type 0
-TellsNumbers e c = HasNumbers (told_fields (happening e.0)) e.1.start e.1.end c
+abbrev pub WritesNumbers : Event × Span → CEvent → Type 0
+WritesNumbers e c = HasNumbers (fields_of_event (happening e.0)) e.1.start e.1.end c
 
 -- of a fault that is kept; reading gives no other than the first two
-abbrev pub TellsFault : Fault → Status → CEvent → Type 0
-TellsFault (fault.Scan error) s c =
+abbrev pub WritesFault : Fault → Status → CEvent → Type 0
+WritesFault (fault.Scan error) s c =
     (s ≡ status.Refused) × HasNumbers no_fields error.mark error.mark c × BytesStand (string_vec error.info) c.value
     × HasTagTexts None c
-TellsFault _ s c = (s ≡ status.NoMemory) × HasFields no_fields nowhere nowhere c
+WritesFault _ s c = (s ≡ status.NoMemory) × HasFields no_fields nowhere nowhere c
 
 -- of what is kept
-abbrev pub TellsC : Option (Result (Event × Span) Fault) → Status → CEvent → Type 0
-TellsC None s c = (s ≡ status.End) × HasFields no_fields nowhere nowhere c
-TellsC (Some (Ok e)) s c = (s ≡ status.Event) × TellsNumbers e c × TextsStand e.0 c
-TellsC (Some (Err f)) s c = TellsFault f s c
+abbrev pub WritesC : Option (Result (Event × Span) Fault) → Status → CEvent → Type 0
+WritesC None s c = (s ≡ status.End) × HasFields no_fields nowhere nowhere c
+WritesC (Some (Ok e)) s c = (s ≡ status.Event) × WritesNumbers e c × TextsStand e.0 c
+WritesC (Some (Err f)) s c = WritesFault f s c
 
 -- of a fault that is lent
-abbrev pub TellsLentFault : Fault → Status → CEvent → Type 0
-TellsLentFault (fault.Scan error) s c =
+abbrev pub WritesLentFault : Fault → Status → CEvent → Type 0
+WritesLentFault (fault.Scan error) s c =
     (s ≡ status.Refused) × HasFields (fields_of_refusal (string_bytes error.info)) error.mark error.mark c
-TellsLentFault _ s c = (s ≡ status.NoMemory) × HasFields no_fields nowhere nowhere c
+WritesLentFault _ s c = (s ≡ status.NoMemory) × HasFields no_fields nowhere nowhere c
 
 -- of what is lent
-abbrev pub TellsLent : Option (Result (Bor (Event × Span)) (Bor Fault)) → Status → CEvent → Type 0
-TellsLent None s c = (s ≡ status.End) × HasFields no_fields nowhere nowhere c
-TellsLent (Some (Ok e)) s c = (s ≡ status.Event) × TellsNumbers e.now c × HasTexts (told_fields (happening e.now.0)) c
-TellsLent (Some (Err f)) s c = TellsLentFault f.now s c
+abbrev pub WritesLent : Option (Result (Bor (Event × Span)) (Bor Fault)) → Status → CEvent → Type 0
+WritesLent None s c = (s ≡ status.End) × HasFields no_fields nowhere nowhere c
+WritesLent (Some (Ok e)) s c = (s ≡ status.Event) × WritesNumbers e.now c
+    × HasTextFields (fields_of_event (happening e.now.0)) c
+WritesLent (Some (Err f)) s c = WritesLentFault f.now s c

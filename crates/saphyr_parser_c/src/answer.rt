@@ -1,12 +1,12 @@
-//! Tells C the next event, or the fault in its place, with the status of the call.
+//! Writes the next event, or the fault in its place, for C, with the status of the call.
 
 ghost use Rattle.std.specs.Prelude.{◌≡◌};
 ghost use Rattle.saphyr_parser.specs.Cursor.{event_of};
 ghost use Rattle.saphyr_parser.specs.Views.Events.{happening};
 ghost use Rattle.saphyr_parser_c.specs.Same.{IsSameFault};
-ghost use Rattle.saphyr_parser_c.specs.Shown.{HasFields, HasNumbers, HasTexts, TextsStand};
-ghost use Rattle.saphyr_parser_c.specs.Shown.{no_fields, told_fields};
-ghost use Rattle.saphyr_parser_c.specs.Shown.{TellsFault, TellsLent, TellsLentFault, TellsNumbers};
+ghost use Rattle.saphyr_parser_c.specs.Shown.{HasFields, HasNumbers, HasTextFields, TextsStand};
+ghost use Rattle.saphyr_parser_c.specs.Shown.{no_fields, fields_of_event};
+ghost use Rattle.saphyr_parser_c.specs.Shown.{WritesFault, WritesLent, WritesLentFault, WritesNumbers};
 
 use crate::shown::{CEvent, bare, blank, explicit_code, kind_code, style_code};
 use crate::status::Status;
@@ -17,16 +17,16 @@ use std::alloc::Global;
 // A refusal with its place, without its text.
 fn refused(error: &ScanError) -> CEvent
     ensures numbers { HasNumbers no_fields error.now.mark error.now.mark result }
-    ensures texts { HasTexts no_fields result }
+    ensures texts { HasTextFields no_fields result }
 {
     bare(0, error.mark, error.mark)
 }
 
-/// Tells an event that is kept.
+/// Writes an event that is kept.
 #[inline(always)]
-pub fn tell_event(alloc: Global, given: &mut (Event<'static>, Span), out: &mut CEvent)
+pub fn write_event(alloc: Global, given: &mut (Event<'static>, Span), out: &mut CEvent)
     ensures same { event_of given.new ≡ event_of given.old }
-    ensures numbers { TellsNumbers given.new out.new }
+    ensures numbers { WritesNumbers given.new out.new }
     ensures stands { TextsStand given.new.0 out.new }
 {
     *out = bare(kind_code(&given.0), given.1.start, given.1.end);
@@ -57,9 +57,9 @@ pub fn tell_event(alloc: Global, given: &mut (Event<'static>, Span), out: &mut C
     }
 }
 
-// Tells an event that is lent.
-fn tell_lent_event(event: &Event<'static>, span: Span, out: &mut CEvent)
-    ensures { HasFields (told_fields (happening event.now)) span.start span.end out.new }
+// Writes an event that is lent.
+fn write_lent_event(event: &Event<'static>, span: Span, out: &mut CEvent)
+    ensures { HasFields (fields_of_event (happening event.now)) span.start span.end out.new }
 {
     *out = bare(kind_code(event), span.start, span.end);
     match event {
@@ -84,11 +84,11 @@ fn tell_lent_event(event: &Event<'static>, span: Span, out: &mut CEvent)
     }
 }
 
-/// Tells a fault that is kept.
+/// Writes a fault that is kept.
 #[inline(never)]
-pub fn tell_fault(alloc: Global, fault: &mut Fault, out: &mut CEvent) -> Status
+pub fn write_fault(alloc: Global, fault: &mut Fault, out: &mut CEvent) -> Status
     ensures same { IsSameFault fault.old fault.new }
-    ensures tells { TellsFault fault.new result out.new }
+    ensures writes { WritesFault fault.new result out.new }
 {
     match fault {
         Fault::Scan(error) => {
@@ -103,9 +103,9 @@ pub fn tell_fault(alloc: Global, fault: &mut Fault, out: &mut CEvent) -> Status
     }
 }
 
-// Tells a fault that is lent.
-fn tell_lent_fault(fault: &Fault, out: &mut CEvent) -> Status
-    ensures { TellsLentFault fault.now result out.new }
+// Writes a fault that is lent.
+fn write_lent_fault(fault: &Fault, out: &mut CEvent) -> Status
+    ensures { WritesLentFault fault.now result out.new }
 {
     match fault {
         Fault::Scan(error) => {
@@ -120,16 +120,19 @@ fn tell_lent_fault(fault: &Fault, out: &mut CEvent) -> Status
     }
 }
 
-/// Tells what the parser lends.
-pub fn tell_lent(shown: Option<Result<&(Event<'static>, Span), &Fault>>, out: &mut CEvent) -> Status
-    ensures { TellsLent shown.entry result out.new }
+/// Writes what the parser lends.
+pub fn write_lent(
+    shown: Option<Result<&(Event<'static>, Span), &Fault>>,
+    out: &mut CEvent,
+) -> Status
+    ensures { WritesLent shown.entry result out.new }
 {
     match shown {
         Some(Ok((event, span))) => {
-            tell_lent_event(event, *span, out);
+            write_lent_event(event, *span, out);
             Status::Event
         }
-        Some(Err(fault)) => tell_lent_fault(fault, out),
+        Some(Err(fault)) => write_lent_fault(fault, out),
         None => {
             *out = blank();
             Status::End

@@ -19,6 +19,16 @@ pub enum Extent {
     All,
 }
 
+/// How many characters a text may have.
+const MOST_CHARACTERS: usize = 4294967295;
+
+// A limit that a caller sets, up to the most that there may be. 0 sets none.
+fn bounded(limit: usize, most: usize) -> usize
+    ensures { result ≡ spec.bounded limit most }
+{
+    if limit == 0 { most } else { limit.min(most) }
+}
+
 /// A parser of a text that comes in pieces, and the bytes that it can't have yet.
 #[derive(Drop)]
 pub struct Coming {
@@ -26,20 +36,43 @@ pub struct Coming {
     // The bytes at the end of those that came that are no whole character.
     pub(super) waiting: Vec<u8>,
     pub(super) extent: Extent,
+    // How many bytes may wait for an event.
+    pub(super) most_waiting: usize,
 }
 
 impl Coming {
-    /// A parser of a text of which nothing came.
-    pub fn new(alloc: Global, keep_tags: bool) -> Result<Coming, AllocError>
-        ensures { IfOk result (spec.IsOfNothing keep_tags) }
+    /// A parser of a text of which nothing came. The limits are how many characters the text may have, and how many
+    /// bytes may wait for an event; 0 sets none.
+    pub fn new(
+        alloc: Global,
+        keep_tags: bool,
+        most_characters: usize,
+        most_waiting: usize,
+    ) -> Result<Coming, AllocError>
+        ensures { IfOk result (spec.IsOfNothing keep_tags most_characters most_waiting) }
     {
-        let mut parser = PieceParser::new(alloc)?;
+        let most_waiting = bounded(most_waiting, usize::MAX);
+        let limit = bounded(most_characters, MOST_CHARACTERS);
+        let mut parser = PieceParser::with_limit(alloc, limit)?;
+        parser.look_past(most_waiting);
         parser.keep_tags(keep_tags);
         Ok(Coming {
             parser,
             waiting: Vec::new(alloc),
             extent: Extent::Nothing,
+            most_waiting,
         })
+    }
+
+    /// What is told where no event comes: that more of the text is needed, or that more waits than may.
+    pub fn waiting_status(&self) -> Status
+        ensures { spec.WritesWaiting result self.now }
+    {
+        if self.parser.waiting() > self.most_waiting {
+            Status::TooMuch
+        } else {
+            Status::More
+        }
     }
 
     /// Adds the next bytes. No bytes say that no more come.
@@ -148,6 +181,7 @@ impl Coming {
             parser: self.parser.try_clone()?,
             waiting,
             extent: self.extent,
+            most_waiting: self.most_waiting,
         })
     }
 

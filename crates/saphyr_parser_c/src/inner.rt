@@ -3,7 +3,7 @@
 ghost use Rattle.std.specs.Prelude.{◌≡◌, IfOk, IsUtf8, MatchResult};
 ghost use Rattle.saphyr_parser_c.specs.Inner.{RefusesText};
 
-use crate::answer::{tell_event, tell_fault, tell_lent};
+use crate::answer::{write_event, write_fault, write_lent};
 use crate::coming::Coming;
 use crate::encoding::begins_as_utf16;
 use crate::shown::{CEvent, blank};
@@ -12,6 +12,7 @@ use crate::status::Status;
 use saphyr_parser::{Event, Fault, Parser, Progress, Span, no_event};
 use std::alloc::{AllocError, Global};
 use std::mem;
+use yaml_tree::NodeTable;
 
 // Why a text that isn't UTF-8 is refused.
 fn unreadable(text: &[u8]) -> Status
@@ -35,6 +36,8 @@ pub struct Inner {
     pub(super) progress: Progress,
     // Of a text that comes in pieces: whether that was only shown, and is still to be handed out.
     pub(super) shown: bool,
+    // The trees of its text, once they are loaded.
+    pub(super) table: NodeTable,
 }
 
 impl Inner {
@@ -52,6 +55,7 @@ impl Inner {
             fault: Fault::OutOfMemory,
             progress: Progress::Over,
             shown: false,
+            table: NodeTable::new(alloc),
         };
         match Box::new(alloc, inner) {
             Ok(inner) => Ok(inner),
@@ -77,7 +81,7 @@ impl Inner {
         }
     }
 
-    /// The same of bytes that are known to be a text.
+    /// A parser over bytes that are known to be a text.
     pub fn over_text(
         alloc: Global,
         text: &'static str,
@@ -92,10 +96,16 @@ impl Inner {
     }
 
     /// A parser of a text that comes in pieces, of which nothing came, on the heap.
-    pub fn of_pieces(alloc: Global, keep_tags: bool) -> Result<Box<Inner, Global>, AllocError>
-        ensures { IfOk result (λ b. spec.IsOfPieces keep_tags b.value) }
+    pub fn of_pieces(
+        alloc: Global,
+        keep_tags: bool,
+        most_characters: usize,
+        most_waiting: usize,
+    ) -> Result<Box<Inner, Global>, AllocError>
+        ensures { IfOk result
+            (λ b. spec.IsOfPieces keep_tags most_characters most_waiting b.value) }
     {
-        let coming = Coming::new(alloc, keep_tags)?;
+        let coming = Coming::new(alloc, keep_tags, most_characters, most_waiting)?;
         let inner = Inner::fresh(alloc, Source::of_pieces(alloc, coming)?)?;
         Ok(inner)
     }
@@ -117,42 +127,43 @@ impl Inner {
         match &mut self.source {
             Source::Whole(parser) => {
                 self.progress = parser.next_event_into(&mut self.next, &mut self.fault);
-                self.tell(alloc, out)
+                self.write(alloc, out)
             }
             Source::Pieces(_) if self.shown => {
                 self.shown = false;
-                self.tell(alloc, out)
+                self.write(alloc, out)
             }
             Source::Pieces(coming) => {
                 let Some(progress) = coming.next_into(&mut self.next, &mut self.fault) else {
-                    return self.wait(out);
+                    let status = coming.waiting_status();
+                    return self.wait(status, out);
                 };
                 self.progress = progress;
-                self.tell(alloc, out)
+                self.write(alloc, out)
             }
         }
     }
 
-    // Says that it waits for more of the text.
-    fn wait(&mut self, out: &mut CEvent) -> Status
-        ensures { spec.Waits self.old result out.new self.new }
+    // Says that no event comes, and why.
+    fn wait(&mut self, status: Status, out: &mut CEvent) -> Status
+        ensures { spec.Waits self.old status result out.new self.new }
     {
         self.progress = Progress::Over;
         *out = blank();
-        Status::More
+        status
     }
 
-    // Tells what is kept.
+    // Writes what is kept.
     #[inline(always)]
-    fn tell(&mut self, alloc: Global, out: &mut CEvent) -> Status
-        ensures { spec.TellsKept self.old result out.new self.new }
+    fn write(&mut self, alloc: Global, out: &mut CEvent) -> Status
+        ensures { spec.WritesKept self.old result out.new self.new }
     {
         match self.progress {
             Progress::Event => {
-                tell_event(alloc, &mut self.next, out);
+                write_event(alloc, &mut self.next, out);
                 Status::Event
             }
-            Progress::Fault => tell_fault(alloc, &mut self.fault, out),
+            Progress::Fault => write_fault(alloc, &mut self.fault, out),
             Progress::Over => {
                 *out = blank();
                 Status::End
@@ -165,15 +176,16 @@ impl Inner {
         ensures { spec.ShowsToC self.old result out.new self.new }
     {
         match &mut self.source {
-            Source::Whole(parser) => tell_lent(parser.peek(), out),
-            Source::Pieces(_) if self.shown => self.tell(alloc, out),
+            Source::Whole(parser) => write_lent(parser.peek(), out),
+            Source::Pieces(_) if self.shown => self.write(alloc, out),
             Source::Pieces(coming) => {
                 let Some(progress) = coming.next_into(&mut self.next, &mut self.fault) else {
-                    return self.wait(out);
+                    let status = coming.waiting_status();
+                    return self.wait(status, out);
                 };
                 self.progress = progress;
                 self.shown = true;
-                self.tell(alloc, out)
+                self.write(alloc, out)
             }
         }
     }

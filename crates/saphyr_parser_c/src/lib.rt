@@ -12,11 +12,13 @@ mod coming;
 mod encoding;
 mod handle;
 mod inner;
+mod nodes;
 mod parts;
 mod shown;
 mod source;
 mod status;
 mod texts;
+mod trees;
 
 use encoding::utf8_front;
 use handle::Handle;
@@ -38,7 +40,7 @@ fn put(place: &mut Handle, handle: Handle)
 }
 
 // Puts a parser back that was taken. The handle has none, so nothing is tested or freed.
-fn put_back(place: &mut Handle, inner: Box<Inner, Global>)
+pub(crate) fn put_back(place: &mut Handle, inner: Box<Inner, Global>)
     requires { place.old.value ≡ none }
     ensures { place.new.value ≡ some inner.value }
 {
@@ -49,7 +51,7 @@ fn put_back(place: &mut Handle, inner: Box<Inner, Global>)
 }
 
 // Takes what C holds, and leaves an empty handle.
-fn take(alloc: Global, place: &mut Handle) -> Option<Box<Inner, Global>>
+pub(crate) fn take(alloc: Global, place: &mut Handle) -> Option<Box<Inner, Global>>
     ensures taken { spec.IsTakenOut result place.old.value }
     ensures emptied { place.new.value ≡ none }
 {
@@ -114,12 +116,19 @@ pub extern "C" fn saphyr_new_utf8(
 
 /// Makes a parser of a text that comes in pieces, of which nothing came. What `out` held is freed.
 #[unsafe(no_mangle)]
-pub extern "C" fn saphyr_new_pieces(alloc: Global, keep_tags: bool, out: &mut Handle) -> i32
-    ensures made { result ≡ pos 0 → spec.IsMadeOfPieces keep_tags out.new.value }
+pub extern "C" fn saphyr_new_pieces(
+    alloc: Global,
+    keep_tags: bool,
+    most_characters: usize,
+    most_waiting: usize,
+    out: &mut Handle,
+) -> i32
+    ensures made { result ≡ pos 0
+        → spec.IsMadeOfPieces keep_tags most_characters most_waiting out.new.value }
     ensures empty { (result ≡ pos 0 → ⊥) → out.new.value ≡ none }
     ensures others { spec.HasMemoryOrNot result }
 {
-    match Inner::of_pieces(alloc, keep_tags) {
+    match Inner::of_pieces(alloc, keep_tags, most_characters, most_waiting) {
         Ok(inner) => {
             put(out, Handle::of_parts(Parts::of(inner)));
             Status::Done.code()
@@ -242,7 +251,7 @@ pub extern "C" fn saphyr_free(alloc: Global, parser: &mut Handle)
 /// The version of the library, as the header counts it.
 #[unsafe(no_mangle)]
 pub extern "C" fn saphyr_version() -> u32
-    ensures { result ≡ 2000 }
+    ensures { result ≡ 3000 }
 {
-    2000
+    3000
 }

@@ -92,7 +92,7 @@ fn no_text() -> CText
 /// An event of this kind between these places, with all other fields 0.
 pub fn bare(kind: i32, start: Marker, end: Marker) -> CEvent
     ensures numbers { spec.HasNumbers (spec.fields_of_kind kind) start end result }
-    ensures texts { spec.HasTexts (spec.fields_of_kind kind) result }
+    ensures texts { spec.HasTextFields (spec.fields_of_kind kind) result }
 {
     CEvent {
         kind,
@@ -118,7 +118,7 @@ pub fn blank() -> CEvent
 
 /// The number of an event's kind in C.
 pub fn kind_code(event: &Event<'static>) -> i32
-    ensures { result ≡ (spec.told_fields (happening event.now)).kind }
+    ensures { result ≡ (spec.fields_of_event (happening event.now)).kind }
 {
     match event {
         Event::Nothing => 0,

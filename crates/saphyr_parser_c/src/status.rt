@@ -26,6 +26,12 @@ pub enum Status {
     More,
     /// All of the text is there, so nothing can be added.
     Whole,
+    /// More bytes wait for an event than may.
+    TooMuch,
+    /// The trees of the text would pass a limit.
+    TooLarge,
+    /// The parser has handed out events, or its text comes in pieces, so no trees are loaded.
+    Late,
 }
 
 impl Status {
@@ -44,6 +50,9 @@ impl Status {
             Status::Utf16 => -5,
             Status::More => 2,
             Status::Whole => -6,
+            Status::TooMuch => -7,
+            Status::TooLarge => -8,
+            Status::Late => -9,
         }
     }
 }

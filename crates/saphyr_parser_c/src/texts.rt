@@ -55,7 +55,7 @@ pub fn kept(alloc: Global, text: &mut String) -> CText
     CText { at, len }
 }
 
-// The same for a text that may be borrowed.
+// A text that may be borrowed, as C sees it.
 fn kept_any(alloc: Global, text: &mut CowStr<'static>) -> CText
     ensures stands { spec.TextStands text.new result }
     ensures same { cow_str_bytes text.new ≡ cow_str_bytes text.old }
@@ -70,7 +70,7 @@ fn kept_any(alloc: Global, text: &mut CowStr<'static>) -> CText
 fn keep_tag(alloc: Global, tag: &mut Option<Tag>, out: &mut CEvent)
     ensures same { spec.IsSameButTag out.old out.new }
     ensures kept { option_map resolved_tag tag.new ≡ option_map resolved_tag tag.old }
-    ensures tells { spec.HasTag None out.old → spec.TellsTag tag.new out.new }
+    ensures writes { spec.HasTag None out.old → spec.WritesTag tag.new out.new }
 {
     if let Some(tag) = tag {
         out.has_tag = 1;
@@ -96,7 +96,7 @@ pub fn keep_tag_of(alloc: Global, event: &mut Event<'static>, out: &mut CEvent)
     ensures same { spec.IsSameButTag out.old out.new }
     ensures value { spec.value_of event.new ≡ spec.value_of event.old }
     ensures kept { happening event.new ≡ happening event.old }
-    ensures tells { spec.HasTag None out.old → spec.TellsTag (spec.tag_in event.new) out.new }
+    ensures writes { spec.HasTag None out.old → spec.WritesTag (spec.tag_in event.new) out.new }
 {
     match event {
         Event::Scalar(_, _, _, tag) => keep_tag(alloc, tag, out),

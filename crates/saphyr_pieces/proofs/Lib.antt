@@ -1,11 +1,3 @@
-pub mod Markers
-pub mod LastLine
-pub mod Comes
-pub mod ReadPieces
-pub mod TokensRead
+pub mod Behind
+pub mod Places
 pub mod Stepping
-pub mod Known
-pub mod Giving
-pub mod Advancing
-pub mod Keeping
-pub mod Copied

@@ -1,172 +1,228 @@
--- Steps of a reader whose next event is decided: more tokens after those that it has change nothing of it.
-use Rattle.std.proofs.Common.{◌≡◌, ◌≢◌, ◌<◌, ◌⊎◌, inl, inr, List, [], ◌∷◌, ◌++◌, Option, None, Some, Result, Ok, Err, refl, sym, ap, ◌∙◌, subst, arith}
-use Rattle.saphyr_scalar.specs.declared.scalar.position.Span.{Span}
-use Rattle.saphyr_scalar.specs.declared.scalar.fault.Refusal.{Refusal}
+-- What a step of the reader hands out, and what holds of the reader that it leaves.
+use Rattle.std.proofs.Common.{◌≡◌, ◌≢◌, ◌<◌, ◌⊎◌, inl, inr, ℕ, List, [], ◌++◌, true, false, Option, Some, None, Result, Ok, Err, refl, sym, ap, subst, ◌∙◌, arith}
+use Rattle.std.specs.Global.{Global}
+use Rattle.std.specs.Prelude.{String, string_bytes}
+use Rattle.std.specs.Str.{chars}
 use Rattle.saphyr_scalar.specs.declared.scalar.fault.Stop.TheVariants as stop
-use Rattle.saphyr_scanner.specs.Grammar.Tokens as tokens
-use Rattle.saphyr_scanner.specs.Views.Tokens.{Piece, Remaining}
+use Rattle.saphyr_scalar.specs.declared.scalar.position.Span.{Span}
+use Rattle.saphyr_machine.specs.declared.event.Event.{Event}
 use Rattle.saphyr_machine.specs.declared.fault.Fault.{Fault}
 use Rattle.saphyr_machine.specs.declared.fault.Fault.TheVariants as fault
+use Rattle.saphyr_machine.specs.declared.progress.Progress.{Progress}
+use Rattle.saphyr_machine.specs.declared.progress.Progress.TheVariants as progress
+use Rattle.saphyr_machine.specs.declared.reader.EventReader.{EventReader}
+use Rattle.saphyr_machine.specs.declared.state.State.{State}
 use Rattle.saphyr_machine.specs.declared.state.State.TheVariants as state
-use Rattle.saphyr_machine.specs.Events as events
+use Rattle.saphyr_machine.specs.Answer.{Answer}
+use Rattle.saphyr_machine.specs.Calls.{AdvancesFrom, FailsFrom, FailsWith, GivesNext, item_at}
+use Rattle.saphyr_machine.specs.Cursor.{EventCursor, Kept, Refuses, count, event_of}
 use Rattle.saphyr_machine.specs.Events.{Happening}
-use Rattle.saphyr_machine.specs.Steps.Machine.{Machine, Told, told_event, with_pieces, with_state}
-use Rattle.saphyr_machine.specs.Steps.Documents.{stream_start}
-use Rattle.saphyr_machine.specs.Steps.Expected.{event_step, event_step_at}
-use Rattle.saphyr_machine.specs.Answer.{Answer, Ending, answer_of_step, empty_answer, fault_alone, remaining_answer}
-use Rattle.saphyr_machine.specs.Cursor.{EventCursor, Kept, Refuses, count}
-use Rattle.saphyr_machine.specs.Calls.{AdvancesFrom, FailsFrom, GivesNext, IsOverFrom}
-use Rattle.saphyr_machine.proofs.Unroll.{unroll, over}
+use Rattle.saphyr_machine.specs.Steps.Documents.{is_over}
+use Rattle.saphyr_machine.specs.Steps.Machine.{Machine}
+use Rattle.saphyr_machine.specs.Views.Readers.{cursor, cursor_in}
 use Rattle.saphyr_machine.proofs.Turns as turns
-use Rattle.event_laws.specs.Premises.{DocumentMarker, Ends}
-use Rattle.event_laws.proofs.Beside.Documents.{IsBetweenDocuments}
-use Rattle.event_laws.proofs.Longer.{More, AgreesOrEndsEarly, PassesAll, longer, steps_agree}
-use Rattle.event_laws.proofs.Promises.ClosedTokens.{ended_by}
-use Rattle.saphyr_pieces.proofs.Markers.Waiting.{last_too}
-use Rattle.saphyr_pieces.specs.Markers.Waiting.{ArePassed, EndWithMarker, IsOutside, before_others}
-use Rattle.saphyr_pieces.proofs.Markers.Waiting.{refused_waits}
-use Rattle.saphyr_pieces.specs.Pieces.{with_others}
+use Rattle.saphyr_pieces.specs.declared.owned.OwnedText.{OwnedText}
+use Rattle.saphyr_pieces.specs.declared.pieces.PieceReader.{PieceReader}
+use Rattle.saphyr_pieces.specs.declared.pieces.Source.{Source}
+use Rattle.saphyr_pieces.specs.declared.pieces.Source.TheVariants as source
+use Rattle.saphyr_pieces.specs.Pieces.{HandsOutOrWaits, at, cursor_from, wants_more, wants_more_from}
+use Rattle.saphyr_pieces.specs.Views.{AdvancesBy, CountsOne, FailsOrWaits, GoesBack, IsLack, IsReachedFrom, IsSoundFrom, IsSoundReader, failed, pieces_of}
+use Rattle.saphyr_pieces.proofs.Places.{is_text, same_readers, sound_without_copy}
 
--- ## Steps
+-- ## An event
 
--- The machine's step is the same, whatever tokens come after those that it has.
-pub record Decided (m : Machine) : Type 0 where
-  pub told : (others : Remaining) (x : Told) → event_step m ≡ Ok x
-      → event_step (before_others others m) ≡ Ok (record x { machine = before_others others x.machine })
-  pub refused : (others : Remaining) (e : Refusal) → m.state ≢ state.End → event_step m ≡ Err e
-      → event_step (before_others others m) ≡ Err e
-  pub refusal : (x : Told) → event_step m ≡ Ok x → x.machine.tokens.refusal ≡ m.tokens.refusal
+same_behind : (a : Option (Happening × Span)) (k : Option Kept) (e : Happening × Span) (c d : EventCursor) → a ≡ None
+    → AdvancesFrom a k e c d → (d.kept ≡ c.kept) × (d.current ≡ c.current)
+same_behind (Some x) k e c d none h = absurd (cc)
+same_behind None (Some k) e c d none h = absurd h
+same_behind None None e c d none h =
+    (ap (λ (v : EventCursor). v.kept) h.1, ap (λ (v : EventCursor). v.current) h.1)
 
-pub not_ended : (m : Machine) (x : Told) → event_step m ≡ Ok x → m.state ≢ state.End
-unfolding event_step
-not_ended m x is e = absurd (let no = subst (λ s. event_step_at s m ≡ Ok x) e is in cc)
+-- what is known of a reader of a text
+known : (p : PieceReader) → IsSoundReader p → wants_more (pieces_of p) ≡ true
+    → ((cursor p.reader).kept ≡ None) × IsReachedFrom p.copy p.events p.reader
+known p h wants = subst (λ (s : Source). IsSoundFrom s p) (is_text p.source wants) h.source
 
--- nothing is read any more
-pub decided_over : (m : Machine) → m.state ≡ state.End → Decided m
-decided_over m e = record {
-  told = λ others x is. absurd (not_ended m x is e);
-  refused = λ others f on is. absurd (on e);
-  refusal = λ x is. absurd (not_ended m x is e);
+-- the same reader, with another copy
+pub renewed : (p q : PieceReader) → q.reader ≡ p.reader → q.source ≡ p.source → wants_more (pieces_of p) ≡ true
+    → IsReachedFrom q.copy q.events q.reader → IsSoundReader p → IsSoundReader q
+renewed p q same text wants reached h = record {
+  source = subst (λ (s : Source). IsSoundFrom s q) (sym (text ∙ is_text p.source wants))
+      (ap (λ (r : EventReader OwnedText). (cursor r).kept) same ∙ (known p h wants).0, reached);
+  current = ap (λ (r : EventReader OwnedText). (cursor r).current) same ∙ h.current;
 }
 
--- ## Behind a document marker
+-- the reader hands out an event, which is counted
+pub sound_behind_event : (p q : PieceReader) (r : EventReader OwnedText) (next : Event × Span)
+    → wants_more (pieces_of p) ≡ true
+    → ((more : List ℕ) → GivesNext (Some (Ok next)) (cursor_in more p.reader) (cursor_in more r))
+    → CountsOne p.copy p.events q.copy q.events → q.reader ≡ r → q.source ≡ p.source → IsSoundReader p → IsSoundReader q
+sound_behind_event p q r next wants gives counts same text h =
+    let old = known p h wants in
+    let c : EventCursor = cursor p.reader in
+    let stays = same_behind c.current c.kept (event_of next) c (cursor r) h.current (gives []) in
+    record {
+      source = subst (λ (s : Source). IsSoundFrom s q) (sym (text ∙ is_text p.source wants)) (
+        ap (λ (v : EventReader OwnedText). (cursor v).kept) same ∙ stays.0 ∙ old.0,
+        subst (IsReachedFrom q.copy q.events) (sym same)
+            (counts p.reader r old.1 (λ more. (event_of next, gives more))),
+      );
+      current = ap (λ (v : EventReader OwnedText). (cursor v).current) same ∙ stays.1 ∙ h.current;
+    }
 
-abbrev Goes : More → Machine → Told → Result Told Refusal → Type 0
-Goes z m x q =
-    (q ≡ Ok (record x { machine = longer z x.machine })) × (x.machine.tokens.refusal ≡ m.tokens.refusal)
+-- ## A fault
 
-goes_of : (z : More) (m : Machine) (x : Told) (p q : Result Told Refusal) → p ≡ Ok x
-    → AgreesOrEndsEarly z m.tokens.refusal p q → Goes z m x q
-goes_of z m x (Ok y) q is a =
-    let same : y ≡ x = cc in
-    subst (λ (v : Told). Goes z m v q) same (a.2, a.1)
-goes_of z m x (Err f) q is a = absurd (cc)
+-- the same fault, if another text was left behind it
+fails_so : (a : Option (Happening × Span)) (k : Option Kept) (f : Fault) (c d : EventCursor) (m : Machine) → a ≡ None
+    → k ≡ None → FailsFrom a k f c d → FailsFrom a k f c (record d { machine = m })
+fails_so (Some x) k f c d m none kept h = absurd h
+fails_so None (Some l) f c d m none kept h = absurd (cc)
+fails_so None None f c d m none kept h = (h.0, ap (λ (v : EventCursor). record v { machine = m }) h.1)
 
-goes : (z : More) (m : Machine) (x : Told) → event_step_at m.state m ≡ Ok x
-    → AgreesOrEndsEarly z m.tokens.refusal (event_step_at m.state m) (event_step_at m.state (longer z m))
-    ⊎ (IsBetweenDocuments m.state × PassesAll z m (event_step_at m.state))
-    → Goes z m x (event_step_at m.state (longer z m))
-goes z m x is (inl a) = goes_of z m x _ _ is a
-goes z m x is (inr p) = absurd (let no = p.1.1 in cc)
+something : (f : Fault) (a : Answer) → Refuses f a → 0 < count a
+something (fault.Scan e) a h = subst (λ (b : Answer). 0 < count b) (sym h) (omega arith)
+something fault.OutOfMemory a h = h
+something fault.Receiver a h = absurd h
+something fault.InsideDocument a h = absurd h
 
-goes_behind : (w : DocumentMarker) (m : Machine) (others : Remaining) (x : Told) → EndWithMarker w m.tokens.pieces
-    → event_step m ≡ Ok x
-    → Goes (ended_by w others.pieces others.refusal) m x (event_step (before_others others m))
-unfolding event_step
-goes_behind w m others x h is =
-    let z : More = ended_by w others.pieces others.refusal in
-    goes z m x is
-    (steps_agree z m.state m (not_ended m x is) (last_too w others.pieces others.refusal m.tokens.pieces h))
+-- memory ran out in place of that fault
+lacks_so : (a : Option (Happening × Span)) (k : Option Kept) (f : Fault) (c d : EventCursor) (m : Machine) → a ≡ None
+    → k ≡ None → FailsFrom a k f c d → FailsFrom a k fault.OutOfMemory c (failed (record d { machine = m }))
+lacks_so (Some x) k f c d m none kept h = absurd h
+lacks_so None (Some l) f c d m none kept h = absurd (cc)
+lacks_so None None f c d m none kept h =
+    (something f _ h.0, ap (λ (v : EventCursor). failed (record v { machine = m })) h.1)
 
-pub decided_behind : (w : DocumentMarker) (m : Machine) → EndWithMarker w m.tokens.pieces
-    → (w ≡ Ends → IsOutside m → ArePassed m.tokens.pieces → ⊥) → Decided m
-decided_behind w m h kept = record {
-  told = λ others x is. (goes_behind w m others x h is).0;
-  refused = λ others e on is.
-      elim (refused_waits w m e others.pieces others.refusal on h is) [
-        | inl same ↦ same
-        | inr p ↦ absurd (kept p.0 p.1 p.2)
-      ];
-  refusal = λ x is. (goes_behind w m (record { pieces = []; refusal = None }) x h is).1;
-}
+-- memory ran out before an event
+lacks_before : (a : Option (Happening × Span)) (k : Option Kept) (c d : EventCursor) → a ≡ None → k ≡ None
+    → c.machine.state ≢ state.End → d ≡ failed (record c { machine = d.machine }) → FailsFrom a k fault.OutOfMemory c d
+lacks_before (Some x) k c d none kept on is = absurd (cc)
+lacks_before None (Some l) c d none kept on is = absurd (cc)
+lacks_before None None c d none kept on is =
+    (turns.refused c.machine stop.OutOfMemory fault.OutOfMemory on tt tt, is)
 
--- ## At the start of the stream
+fault_leaves : (a : Option (Happening × Span)) (k : Option Kept) (f : Fault) (c d : EventCursor) → FailsFrom a k f c d
+    → d.current ≡ c.current
+fault_leaves (Some x) k f c d h = absurd h
+fault_leaves None (Some l) f c d h = ap (λ (v : EventCursor). v.current) h.2
+fault_leaves None None f c d h = ap (λ (v : EventCursor). v.current) h.1
 
-start_step : (m : Machine) (t : Piece) (us : List Piece) → m.state ≡ state.StreamStart → m.tokens.pieces ≡ t ∷ us
-    → t.kind ≡ tokens.StreamStart
-    → event_step m ≡ told_event events.StreamStart t.span (with_state state.ImplicitDocumentStart (with_pieces us m))
-unfolding event_step stream_start
-start_step m t us s p k = rw (s, p, k) refl
+over_is_end : (s : State) → s ≡ state.End → is_over s ≡ true
+over_is_end s e = subst (λ (t : State). is_over t ≡ true) (sym e) refl
 
-pub decided_at_start : (m : Machine) (t : Piece) → m.state ≡ state.StreamStart → m.tokens.pieces ≡ t ∷ []
-    → t.kind ≡ tokens.StreamStart → Decided m
-decided_at_start m t s p k = record {
-  told = λ others x is.
-      start_step (before_others others m) t others.pieces s (ap (λ (ts : List Piece). ts ++ others.pieces) p) k
-      ∙ ap (λ (v : Told). let y : Result Told Refusal = Ok (record v { machine = before_others others v.machine }) in y)
-      (its_own x is);
-  refused = λ others e on is. absurd (let step = start_step m t [] s p k in cc);
-  refusal = λ x is. ap (λ (v : Told). v.machine.tokens.refusal) (sym (its_own x is));
-}
+-- no more of the text is wanted
+pub sound_given : (p : PieceReader) → p.source ≡ source.Given → (cursor p.reader).current ≡ None → IsSoundReader p
+sound_given p given none = record { source = subst (λ (s : Source). IsSoundFrom s p) (sym given) tt; current = none }
+
+-- a fault is told, after which no more of the text is wanted
+reports : (p q : PieceReader) (next : Event × Span) (f : Fault) (x : Progress) → wants_more (pieces_of p) ≡ true
+    → x ≡ progress.Fault → q.source ≡ source.Given
+    → ((more : List ℕ) → FailsWith f (cursor_in more p.reader) (cursor q.reader))
+    → HandsOutOrWaits (Some x) next f (pieces_of p) (pieces_of q)
+reports p q next f x wants reported given fails later =
+    let from = ap (λ (s : Source). cursor_from s (pieces_of p) later) (is_text p.source wants) in
+    let to = ap (λ (s : Source). cursor_from s (pieces_of q) later) given in
+    subst (λ (y : Progress). GivesNext (item_at next f y) (at (pieces_of p) later) (at (pieces_of q) later))
+    (sym reported)
+    (subst (λ (c : EventCursor). FailsWith f c (at (pieces_of q) later)) (sym from)
+    (subst (λ (d : EventCursor). FailsWith f (cursor_in (chars (string_bytes p.more) ++ later) p.reader) d) (sym to)
+    (fails (chars (string_bytes p.more) ++ later))))
+
+pub lacks : (p q : PieceReader) (next : Event × Span) (f : Fault) (x : Progress) → IsSoundReader p
+    → wants_more (pieces_of p) ≡ true → is_over (cursor p.reader).machine.state ≡ false
+    → cursor q.reader ≡ failed (cursor p.reader) → q.source ≡ source.Given → IsLack x f
+    → HandsOutOrWaits (Some x) next f (pieces_of p) (pieces_of q)
+lacks p q next f x h wants goes_on is given (reported, lack) =
+    reports p q next f x wants reported given (λ more.
+    let c : EventCursor = cursor_in more p.reader in
+    subst (λ (g : Fault). FailsWith g c (cursor q.reader)) (sym lack)
+    (lacks_before c.current c.kept c (cursor q.reader) h.current (known p h wants).0
+    (λ e. let over = over_is_end c.machine.state e in absurd (cc))
+    (is ∙ ap (λ (v : EventCursor). failed (record c { machine = v.machine })) (sym is))))
+
+-- ## A fault, or the reader went back
+
+went_back : (copy : Option (EventReader OwnedText)) (n : ℕ) (a b : EventReader OwnedText) → IsReachedFrom copy n a
+    → GoesBack copy n b → (more : List ℕ) → cursor_in more b ≡ cursor_in more a
+went_back None n a b from to more = absurd to
+went_back (Some copy) n a b from to more = same_readers n copy a b from to more
+
+module _ (p : PieceReader) (r : EventReader OwnedText) (f : Fault) (wants : wants_more (pieces_of p) ≡ true)
+    (gives : (more : List ℕ) → GivesNext (Some (Err f)) (cursor_in more p.reader) (cursor_in more r))
+    (h : IsSoundReader p)
   where
-    its_own : (x : Told) → event_step m ≡ Ok x
-        → record {
-          what = events.StreamStart;
-          span = t.span;
-          machine = with_state state.ImplicitDocumentStart (with_pieces [] m);
-        } ≡ x
-    its_own x is = let step = start_step m t [] s p k in cc
+    fails_as : (g : Fault) (q : PieceReader)
+        → ((g ≡ f) × (q.reader ≡ r)) ⊎ ((g ≡ fault.OutOfMemory) × (cursor q.reader ≡ failed (cursor r)))
+        → (more : List ℕ) → FailsWith g (cursor_in more p.reader) (cursor q.reader)
+    fails_as g q (inl (same, reader)) more =
+        let c : EventCursor = cursor_in more p.reader in
+        subst (λ (e : Fault). FailsWith e c (cursor q.reader)) (sym same)
+        (subst (λ (v : EventReader OwnedText). FailsWith f c (cursor v)) (sym reader)
+        (fails_so c.current c.kept f c (cursor_in more r) (cursor r).machine h.current (known p h wants).0
+        (gives more)))
+    fails_as g q (inr (lack, is)) more =
+        let c : EventCursor = cursor_in more p.reader in
+        subst (λ (e : Fault). FailsWith e c (cursor q.reader)) (sym lack)
+        (subst (FailsWith fault.OutOfMemory c) (sym is)
+        (lacks_so c.current c.kept f c (cursor_in more r) (cursor r).machine h.current (known p h wants).0
+        (gives more)))
 
--- ## What remains
+    pub fails_or_waits : (o : Option Progress) (next : Event × Span) (g : Fault) (q : PieceReader)
+        → FailsOrWaits o f g (record p { reader = r }) q → HandsOutOrWaits o next g (pieces_of p) (pieces_of q)
+    fails_or_waits (Some x) next g q (reported, given, fails) =
+        reports p q next g x wants reported given (fails_as g q fails)
+    fails_or_waits None next g q (back, none, more, text) =
+        let is = is_text p.source wants in (
+          ap wants_more_from text ∙ wants,
+          λ later.
+              ap (λ (s : Source). cursor_from s (pieces_of q) later) (text ∙ is)
+              ∙ ap (λ (m : String Global). cursor_in (chars (string_bytes m) ++ later) q.reader) more
+              ∙ went_back p.copy p.events p.reader q.reader (known p h wants).1 back
+              (chars (string_bytes p.more) ++ later)
+              ∙ sym (ap (λ (s : Source). cursor_from s (pieces_of p) later) is),
+        )
 
--- something is left, so the stream isn't over
-pub is_left : (m : Machine) → 0 < count (remaining_answer m) → m.state ≢ state.End
-is_left m h e =
-    let none : 0 < count empty_answer = subst (λ a. 0 < count a) (over m e) h in
-    absurd (omega (arith, none))
+    current_as : (g : Fault) (q : PieceReader)
+        → ((g ≡ f) × (q.reader ≡ r)) ⊎ ((g ≡ fault.OutOfMemory) × (cursor q.reader ≡ failed (cursor r)))
+        → (cursor q.reader).current ≡ (cursor r).current
+    current_as g q (inl (same, reader)) = ap (λ (v : EventReader OwnedText). (cursor v).current) reader
+    current_as g q (inr (lack, is)) = ap (λ (v : EventCursor). v.current) is
 
-refused_from : (m : Machine) (others : Remaining) (r : Ending) (p : Result Told Refusal) → Decided m
-    → m.state ≢ state.End → event_step m ≡ p → answer_of_step p remaining_answer ≡ fault_alone r
-    → remaining_answer (before_others others m) ≡ fault_alone r
-refused_from m others r (Ok x) d on is h =
-    absurd (let some = ap (λ (a : Answer). a.events) h in cc)
-refused_from m others r (Err e) d on is h =
-    unroll (before_others others m) on
-    ∙ ap (λ (q : Result Told Refusal). answer_of_step q remaining_answer) (d.refused others e on is) ∙ h
+    pub sound_behind_fault : (o : Option Progress) (g : Fault) (q : PieceReader)
+        → FailsOrWaits o f g (record p { reader = r }) q → IsSoundReader q
+    sound_behind_fault (Some x) g q (reported, given, fails) =
+        let c : EventCursor = cursor p.reader in
+        sound_given q given
+        (current_as g q fails ∙ fault_leaves c.current c.kept f c (cursor r) (gives []) ∙ h.current)
+    sound_behind_fault None g q (back, none, more, text) =
+        let same = went_back p.copy p.events p.reader q.reader (known p h wants).1 back [] in
+        sound_without_copy p q none (ap (λ (v : EventCursor). v.kept) same) text
+        (ap (λ (v : EventCursor). v.current) same) h
 
-refuses_so : (m : Machine) (others : Remaining) (f : Fault) → Decided m → Refuses f (remaining_answer m)
-    → Refuses f (remaining_answer (before_others others m))
-refuses_so m others fault.OutOfMemory d h =
-    turns.refused (before_others others m) stop.OutOfMemory fault.OutOfMemory (is_left m h) tt tt
-refuses_so m others (fault.Scan e) d h =
-    let on : m.state ≢ state.End = λ s. absurd
-    (let none = ap (λ (a : Answer). a.fault) (sym (over m s) ∙ h) in cc) in
-    refused_from m others _ (event_step m) d on refl (sym (unroll m on) ∙ h)
-refuses_so m others fault.Receiver d h = absurd h
-refuses_so m others fault.InsideDocument d h = absurd h
+-- ## Where nothing comes
 
--- ## What is handed out
+reached_along : (copy : Option (EventReader OwnedText)) (n : ℕ) (a b : EventReader OwnedText)
+    → ((more : List ℕ) → cursor_in more b ≡ cursor_in more a) → IsReachedFrom copy n a → IsReachedFrom copy n b
+reached_along None n a b same h = tt
+reached_along (Some copy) n a b same h = λ more. subst (AdvancesBy n (cursor_in more copy)) (sym (same more)) (h more)
 
-pub event_so : (a : Option (Happening × Span)) (k : Option Kept) (e : Happening × Span) (c d : EventCursor)
-    (others : Remaining) → a ≡ None → Decided c.machine → AdvancesFrom a k e c d
-    → AdvancesFrom a k e (with_others others c) (with_others others d)
-event_so (Some x) k e c d others none i h = absurd (cc)
-event_so None (Some k) e c d others none i h = absurd h
-event_so None None e c d others none i h =
-    (i.told others _ h.0, ap (with_others others) h.1)
+pub sound_over : (p : PieceReader) (r : EventReader OwnedText) → wants_more (pieces_of p) ≡ true
+    → ((more : List ℕ) → GivesNext None (cursor_in more p.reader) (cursor_in more r)) → IsSoundReader p
+    → IsSoundReader (record p { reader = r })
+sound_over p r wants gives h =
+    let old = known p h wants in
+    record {
+      source = subst (λ (s : Source). IsSoundFrom s (record p { reader = r })) (sym (is_text p.source wants)) (
+        ap (λ (v : EventCursor). v.kept) (gives []).1 ∙ old.0,
+        reached_along p.copy p.events p.reader r (λ more. (gives more).1) old.1,
+      );
+      current = ap (λ (v : EventCursor). v.current) (gives []).1 ∙ h.current;
+    }
 
-pub fault_so : (a : Option (Happening × Span)) (k : Option Kept) (f : Fault) (c d : EventCursor) (others : Remaining)
-    → k ≡ None → Decided c.machine → FailsFrom a k f c d → FailsFrom a k f (with_others others c) d
-fault_so (Some x) k f c d others none i h = absurd h
-fault_so None (Some k) f c d others none i h = absurd (cc)
-fault_so None None f c d others none i h = (refuses_so c.machine others f i h.0, h.1)
+-- ## What is given of a text that came
 
-over_from : (a : Option (Happening × Span)) (k : Option Kept) (m : Machine) (others : Remaining) → IsOverFrom a k m
-    → IsOverFrom a k (before_others others m)
-over_from (Some x) k m others h = absurd h
-over_from None (Some k) m others h = h
-over_from None None m others h = h
-
-pub over_so : (c d : EventCursor) (others : Remaining) → GivesNext None c d
-    → GivesNext None (with_others others c) (with_others others d)
-over_so c d others h = (over_from c.current c.kept c.machine others h.0, ap (with_others others) h.1)
+pub leaves_none : (item : Option (Result (Event × Span) Fault)) (c d : EventCursor) → c.current ≡ None
+    → GivesNext item c d → d.current ≡ None
+leaves_none None c d none h = ap (λ (v : EventCursor). v.current) h.1 ∙ none
+leaves_none (Some (Ok e)) c d none h = (same_behind c.current c.kept (event_of e) c d none h).1 ∙ none
+leaves_none (Some (Err f)) c d none h = fault_leaves c.current c.kept f c d h ∙ none

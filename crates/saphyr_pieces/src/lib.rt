@@ -1,12 +1,8 @@
-//! A parser of a text that comes in pieces: events come as soon as the document markers that came decide them.
+//! A parser of a text that comes in pieces: an event comes as soon as the characters that came decide it.
 #![tactic(auto)]
 
-mod cloning;
-pub mod law;
-mod lines;
+mod owned;
 mod parser;
 mod pieces;
-mod readiness;
-mod scanning;
 
 pub use parser::PieceParser;

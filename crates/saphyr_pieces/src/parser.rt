@@ -1,11 +1,11 @@
 //! The parser of a text that comes in pieces, as its callers see it.
 
-ghost use Rattle.std.specs.Prelude.{◌≡◌, ◌++◌, ℕ, List, [], IfOk, OnErr, true, false};
+ghost use Rattle.std.specs.Prelude.{◌≡◌, ◌≤◌, ◌++◌, length, ℕ, List, [], IfOk, OnErr, true, false};
 ghost use Rattle.std.specs.Str.{chars};
+ghost use Rattle.saphyr_scanner.specs.Limits.{most_characters};
 ghost use Rattle.saphyr_scanner.specs.Steps.Remaining.{scan};
 ghost use Rattle.saphyr_machine.specs.Cursor.{at_start, keeping_tags};
-ghost use Rattle.event_laws.specs.Limits.{most_characters};
-ghost use Rattle.saphyr_pieces.specs.Pieces.{HandsOutOrWaits, LosesText, NeedsNoMore, at, wants_more};
+ghost use Rattle.saphyr_pieces.specs.Pieces.{HandsOutOrWaits, LosesText, NeedsNoMore, at, waiting, wants_more};
 
 use crate::pieces::PieceReader;
 use saphyr_machine::{Event, Fault, Progress};
@@ -13,11 +13,17 @@ use saphyr_scalar::Span;
 use std::alloc::{AllocError, Global};
 use std::marker::Model;
 
+/// How many characters a text may have.
+const MOST_CHARACTERS: usize = 4294967295;
+
 /// A parser of a text that comes in pieces: its caller adds the next characters, and reads the events that they decide.
 ///
 /// Wherever the text is cut, the events are those of all pieces, one behind the other: contracts see the parser of the
-/// whole text, for all characters that may still come. A document's events come once a line of `---` or `...` behind it
-/// has come; what an open bracket leaves undecided comes later.
+/// whole text, for all characters that may still come.
+///
+/// An event comes when what came decides it. Where much waits for its end, as a long scalar does, as much has to come
+/// again before the parser looks. Of a root collection in brackets nothing comes before its last bracket, since what
+/// follows that may make it a key.
 pub struct PieceParser {
     reader: PieceReader,
 }
@@ -47,9 +53,39 @@ impl PieceParser {
             → at p text ≡ at_start (scan most_characters text)) }
         ensures wants { IfOk result (λ p. wants_more p ≡ true) }
     {
+        PieceParser::with_limit(alloc, MOST_CHARACTERS)
+    }
+
+    /// A parser with your own limit: a text with more than `limit` characters is refused, as by `Parser::with_limit`.
+    ///
+    /// What waits for an event, as an endless scalar does, is bounded by its caller: see `waiting`.
+    pub fn with_limit(alloc: Global, limit: usize) -> Result<Self, AllocError>
+        ensures decided { IfOk result (λ p. (text : List ℕ)
+            → at p text ≡ at_start (scan limit text)) }
+        ensures wants { IfOk result (λ p. wants_more p ≡ true) }
+    {
         Ok(PieceParser {
-            reader: PieceReader::new(alloc)?,
+            reader: PieceReader::new(alloc, limit),
         })
+    }
+
+    /// How many bytes wait: those that came, and of which no event was handed out. Where `next_event_into` answered
+    /// `None`, these were looked at, if they are more than the bytes of `look_past`.
+    #[must_use]
+    pub fn waiting(&self) -> usize
+        ensures { length (waiting self.now) ≤ result }
+    {
+        self.reader.waiting()
+    }
+
+    /// Has the parser look for an event as soon as more bytes wait than these, once. Otherwise it looks when as much
+    /// came again as waited.
+    ///
+    /// So a caller that lets no more wait gives up only where no event can be told.
+    pub fn look_past(&mut self, bytes: usize)
+        ensures { self.new ≡ self.old }
+    {
+        self.reader.look_past(bytes);
     }
 
     /// Adds the next characters of the text. Once `wants_more` is false they are not read.

@@ -11,4 +11,4 @@ pub mod Counted
 pub mod PlacedHeaders
 pub mod Placed
 pub mod Refused
-pub mod Told
+pub mod AsRead

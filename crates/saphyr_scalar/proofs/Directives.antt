@@ -1,5 +1,6 @@
 -- Directives: each spelled one is read, and what is read is spelled so.
 pub mod Numbers
+pub mod HandleSteps
 pub mod PartEnds
 pub mod VersionsRead
 pub mod TagPrefixesRead

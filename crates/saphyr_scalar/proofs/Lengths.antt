@@ -1,5 +1,5 @@
 -- What is taken off a text is no longer than the text.
-use Rattle.std.proofs.Common.{◌≡◌, ℕ, ◌+◌, ◌^◌, ◌<◌, ◌≤◌, Bool, true, false, List, [], ◌∷◌, length, drop, slice_index, ap, sym, ◌∙◌, arith}
+use Rattle.std.proofs.Common.{◌≡◌, ℕ, zero, suc, ◌+◌, ◌^◌, ◌<◌, ◌≤◌, Bool, true, false, List, [], ◌∷◌, length, drop, slice_index, ap, sym, ◌∙◌, arith}
 use Rattle.std.specs.Prelude.{◌&&◌, ◌==◌}
 use Rattle.std.specs.List.{prefix_len}
 use Rattle.std.proofs.lemmas.List.{length-drop}
@@ -83,3 +83,15 @@ within_separation tabs xs n is = rw is (separation_within tabs xs)
 -- where a part of a text was taken off, and memory ran out
 pub part_left : (xs now : List ℕ) (at n : ℕ) → at + length xs < 2 ^ 64 → now ≡ drop n xs → at + length now < 2 ^ 64
 part_left xs now at n fits left = rw (left, length-drop) (omega arith)
+
+-- ## What is read of a text is told by what is read of its ends
+
+by_bound : (P : Cursor → Cursor → Type 0)
+    → ((s t : Cursor) → ((x y : Cursor) → length x.rest < length s.rest → P x y) → P s t) → (n : ℕ) (s t : Cursor)
+    → length s.rest ≤ n → P s t
+by_bound P step zero s t h = step s t (λ x y less. absurd (omega arith))
+by_bound P step (suc n) s t h = step s t (λ x y less. by_bound P step n x y (omega (arith, less, h)))
+
+pub by_ends : (P : Cursor → Cursor → Type 0)
+    → ((s t : Cursor) → ((x y : Cursor) → length x.rest < length s.rest → P x y) → P s t) → (s t : Cursor) → P s t
+by_ends P step s t = by_bound P step (length s.rest) s t (omega arith)

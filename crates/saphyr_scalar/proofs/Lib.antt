@@ -24,3 +24,4 @@ pub mod Runs
 pub mod SpaceRuns
 pub mod Steps
 pub mod TakenWords
+pub mod WhatCame

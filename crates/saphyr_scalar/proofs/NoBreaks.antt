@@ -48,9 +48,7 @@ escapes_no_break (byte ∷ bytes) t (escape, more, first, others, text) = subst 
 
 character_no_break : (p : ℕ → Bool) → p 10 ≡ false → p 13 ≡ false → (c : ℕ) (t : List ℕ) → IsCharacter p c t
     → NoBreaks t
-character_no_break p feed return c t (inl (set, other, text)) =
-    subst NoBreaks (sym text) (class_no_break p feed return c set, tt)
-character_no_break p feed return c t (inr (scalar, escaped)) = escapes_no_break (encode_utf8 c) t escaped
+character_no_break p feed return c t u0 = grind (arith, class_no_break, escapes_no_break, encode_utf8)
 
 pub decoded_no_break : (p : ℕ → Bool) → p 10 ≡ false → p 13 ≡ false → (value t : List ℕ) → IsDecoded p value t
     → NoBreaks t
@@ -60,9 +58,7 @@ decoded_no_break p feed return (c ∷ value) t (first, more, is, others, text) =
     (decoded_no_break p feed return value more others))
 
 pub handle_no_break : (t : List ℕ) → IsHandleText t → NoBreaks t
-handle_no_break t (inl text) = subst NoBreaks (sym text) (refl, tt)
-handle_no_break t (inr (word, is, text)) = subst NoBreaks (sym text)
-    (refl, no_breaks_both word (codes "!") (no_breaks_in is_alpha refl refl word is) (refl, tt))
+handle_no_break t u0 = grind (arith, no_breaks_both, no_breaks_in)
 
 prefix_no_break : (value t : List ℕ) → IsPrefix value t → NoBreaks t
 prefix_no_break [] t is = absurd is
@@ -73,20 +69,7 @@ prefix_no_break (c ∷ value) t (first, more, is, others, text) = subst NoBreaks
 -- ## Directives
 
 pub directive_no_break : (d : ReadDirective) (t : List ℕ) → IsReadDirective d t → NoBreaks t
-directive_no_break (version major minor) t (gap, high, low, blanks, first, second, text) =
-    let numbers : NoBreaks (high ++ (46 ∷ low)) = no_breaks_both high (46 ∷ low)
-    (no_breaks_in is_digit refl refl high first.2) (refl, no_breaks_in is_digit refl refl low second.2) in
-    let all = no_breaks_both gap (high ++ (46 ∷ low)) (no_breaks_in is_blank refl refl gap blanks.1) numbers in
-    subst NoBreaks (sym text) (refl, (refl, (refl, (refl, (refl, all)))))
-directive_no_break (tag_prefix handle prefix) t
-    (h, p, (first, second, written, before, between, is_handle, whole, is_prefix, text), _, _) =
-    let parts = no_breaks_both h (second ++ written) (handle_no_break h is_handle) (no_breaks_both second written
-    (no_breaks_in is_blank refl refl second between) (prefix_no_break p written is_prefix)) in
-    let all = no_breaks_both first (h ++ (second ++ written)) (no_breaks_in is_blank refl refl first before.1) parts in
-    subst NoBreaks (sym text) (refl, (refl, (refl, (refl, all))))
-directive_no_break (reserved name) t (n, (more, _, _, _, all, others, _, text), _) =
-    let rest = no_breaks_in is_yaml_non_break refl refl more others in
-    subst NoBreaks (sym text) (refl, no_breaks_both n more (no_breaks_in is_yaml_non_space refl refl n all) rest)
+directive_no_break u0 t u1 = grind (arith, no_breaks_both, no_breaks_in, handle_no_break, prefix_no_break)
 
 pub mark_no_break : (q : Quote) → is_break (flow.mark q) ≡ false
 mark_no_break q = grind arith

@@ -1,5 +1,5 @@
 -- Where neither a blank nor a comment nor a byte order mark is, nothing separates.
-use Rattle.std.proofs.Common.{◌≡◌, ℕ, Bool, false, List, [], ◌∷◌, slice_index, Ok, refl, sym, ap, ◌∙◌}
+use Rattle.std.proofs.Common.{◌≡◌, ℕ, Bool, false, List, [], ◌∷◌, slice_index, Ok, refl, sym, ap, ◌∙◌, arith}
 use Rattle.std.specs.Prelude.{◌+◌, ◌==◌, nat_lt}
 use Rattle.std.specs.List.{prefix_len}
 use Rattle.saphyr_input.specs.Indicators.{number_sign}
@@ -23,8 +23,4 @@ pub nothing_separates : (tabs : SkipTabs) (s t : Cursor) (c : ℕ) → c ≡ sli
     → is_skipped tabs c ≡ false → (c == number_sign) ≡ false → is_bom c ≡ false
     → separation tabs s ≡ Ok (Result false false, t)
 unfolding separation behind_separation
-nothing_separates tabs s t c first same skipped comment mark =
-    let none = no_run (is_skipped tabs) s.rest (ap (is_skipped tabs) (sym first) ∙ skipped) in
-    let hash : (slice_index s.rest 0 == 35) ≡ false = ap (λ x. x == 35) (sym first) ∙ comment in
-    let bom : is_bom (slice_index s.rest 0) ≡ false = ap is_bom (sym first) ∙ mark in
-    rw (none, none_passed s, hash, bom, and_false (nat_lt 0 (s.mark.col + 0)), same) refl
+nothing_separates tabs s t c first same skipped comment mark = grind arith

@@ -51,12 +51,7 @@ one_here m c cs r e p = record {
 
 pub return_here : (m j : Marker) (c : ℕ) (cs : List ℕ) (r : Cursor) → is_cr_lf c cs ≡ true
     → next_line j 1 ≡ next_line m 2 → PassesBreak j cs r → PassesBreak m (c ∷ cs) r
-return_here m j c cs r e same p =
-    let thirteen : c ≡ 13 = eqb-true c 13 (and_true_left (c == 13) (slice_index cs 0 == 10) e) in
-    record {
-      here = rw thirteen (p.behind_return (and_true_right (c == 13) (slice_index cs 0 == 10) e) m same);
-      behind_return = λ f k q. absurd (not_both c 10 13 refl thirteen f);
-    }
+return_here m j c cs r e same p = grind arith
 
 pub feed_here : (m : Marker) (c : ℕ) (cs : List ℕ) (r : Cursor) → is_cr_lf c cs ≡ false → is_break c ≡ true
     → IsPassed (next_line m 1) cs r.mark r.rest → PassesBreak m (c ∷ cs) r

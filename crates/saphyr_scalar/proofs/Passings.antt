@@ -42,23 +42,15 @@ record StaysHere (m : Marker) (s : List ℕ) (n : Marker) (u : List ℕ) : Type 
 
 behind_character : (m : Marker) (s : List ℕ) (n : Marker) (u : List ℕ) → IsPassed m s n u → (c : ℕ) (t : List ℕ)
     → s ≡ c ∷ t → is_break c ≡ false → StaysHere m s n u ⊎ IsPassed (along m 1) t n u
-behind_character _ _ _ _ (nothing m s) c t e h = inl (record { text = refl; place = refl })
-behind_character _ _ _ _ (character m d s n u k p) c t e h = inr (rw (ap (drop 1) e) at p)
-behind_character _ _ _ _ (line_break m s n u k p) c t e h =
-    clash (is_break (slice_index s 0)) k (ap (λ (l : List ℕ). is_break (slice_index l 0)) e ∙ h)
+behind_character u0 u1 u2 u3 u4 c t e h = grind arith
 
 behind_break : (m : Marker) (s : List ℕ) (n : Marker) (u : List ℕ) → IsPassed m s n u
     → is_break (slice_index s 0) ≡ true
     → StaysHere m s n u ⊎ IsPassed (next_line m (break_len s)) (drop (break_len s) s) n u
-behind_break _ _ _ _ (nothing m s) h = inl (record { text = refl; place = refl })
-behind_break _ _ _ _ (character m d s n u k p) h = clash (is_break d) h k
-behind_break _ _ _ _ (line_break m s n u k p) h = inr p
+behind_break u0 u1 u2 u3 u4 h = grind arith
 
 same_as_nothing : (m : Marker) (s : List ℕ) (n : Marker) (u : List ℕ) → IsPassed m s n u → length s ≤ length u → n ≡ m
-same_as_nothing _ _ _ _ (nothing m s) le = refl
-same_as_nothing _ _ _ _ (character m c s n u k p) le = absurd (omega (arith, passed_shorter (along m 1) s n u p))
-same_as_nothing _ _ _ _ (line_break m s n u k p) le =
-    absurd (omega (arith, passed_shorter (next_line m (break_len s)) (drop (break_len s) s) n u p, drop_less s k))
+same_as_nothing u0 u1 u2 u3 u4 le = grind (arith, passed_shorter, drop, drop_less)
 
 pub one_place : (m : Marker) (s : List ℕ) (n : Marker) (u : List ℕ) → IsPassed m s n u → (k : Marker) → IsPassed m s k u
     → k ≡ n

@@ -1,4 +1,5 @@
 -- Anchors, tags and percent escapes: each spelled one is read, and what is read is spelled so.
+pub mod AnchorSteps
 pub mod TagSteps
 pub mod ByteSteps
 pub mod AnchorsRead

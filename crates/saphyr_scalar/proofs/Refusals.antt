@@ -1,5 +1,5 @@
 -- What is known of a refusal, if there is one. Anchors and tags are refused where they begin.
-use Rattle.std.proofs.Common.{◌≡◌, ℕ, zero, suc, ◌-◌, Bool, List, [], ◌∷◌, length, slice_index, Result, Ok, Err, refl, subst, encode_utf8}
+use Rattle.std.proofs.Common.{◌≡◌, ℕ, zero, suc, ◌-◌, Bool, List, [], ◌∷◌, length, slice_index, Result, Ok, Err, refl, subst, encode_utf8, arith}
 use Rattle.std.specs.Prelude.{◌&&◌, ◌||◌, ◌==◌}
 use Rattle.saphyr_input.specs.Classes.{is_alpha, is_anchor_char, is_blank_or_breakz, is_flow}
 use Rattle.saphyr_scalar.specs.declared.scalar.position.Marker.{Marker}
@@ -64,16 +64,11 @@ bytes_refused start (suc n) v s =
 
 leading_refused : (start : Marker) (b : ℕ) (s : Cursor) → RefusedAt start (behind_leading_byte start b s)
 unfolding behind_leading_byte encoded_character
-leading_refused start b s = by_test (utf8_width b == 0) _ _ (RefusedAt start) (λ _. refl)
-    (λ _. refused_bind (λ e. e.mark ≡ start) (trailing_bytes start (utf8_width b - 1) (leading_bits b) s) _
-    (bytes_refused start (utf8_width b - 1) (leading_bits b) s)
-    (λ x e. by_test (is_encoded (utf8_width b) x.0) _ _ (RefusedAt start) (λ _. tt) (λ _. refl)))
+leading_refused start b s = grind (arith, by_test, refused_bind, bytes_refused)
 
 pub character_refused : (start : Marker) (s : Cursor) → RefusedAt start (uri_character start s)
 unfolding uri_character percent_escape
-character_refused start s = by_test (slice_index s.rest 0 == 37) _ _ (RefusedAt start)
-    (λ _. refused_bind (λ e. e.mark ≡ start) (escaped_byte start s) _ (byte_refused start s)
-    (λ b e. leading_refused start b.0 b.1)) (λ _. tt)
+character_refused start s = grind (arith, by_test, slice_index, refused_bind, byte_refused, leading_refused)
 
 pub front_refused : (P : Refusal → Type 0) (front : List ℕ) (r : Result (List ℕ × Cursor) Refusal) → Refused P r
     → Refused P (with_front front r)
@@ -94,28 +89,12 @@ decoded_refused set start (suc k) m (c ∷ cs) = decoded_refused set start k (al
 
 verbatim_refused : (s : Cursor) → RefusedAt s.mark (verbatim_tag s)
 unfolding verbatim_tag verbatim_end
-verbatim_refused s =
-    let t : Cursor = pass 2 s in
-    refused_bind (λ e. e.mark ≡ s.mark) (decoded_at Uri s.mark t) _ (decoded_refused Uri s.mark 0 t.mark t.rest)
-    (λ x e. by_test (slice_index x.1.rest 0 == 62) _ _ (RefusedAt s.mark) (λ _. tt) (λ _. refl))
+verbatim_refused s = grind (arith, refused_bind, decoded_refused, by_test, slice_index)
 
 word_refused : (start : Marker) (w : List ℕ × Cursor) → RefusedAt start (tag_behind_word start w)
 unfolding tag_behind_word named_tail named_tag
-word_refused start w =
-    let P : Refusal → Type 0 = λ e. e.mark ≡ start in
-    let t : Cursor = pass 1 w.1 in
-    by_test (slice_index w.1.rest 0 == 33) _ _ (RefusedAt start)
-    (λ _. refused_bind P (decoded_at Suffix start t) _ (decoded_refused Suffix start 0 t.mark t.rest)
-    (λ x e. by_test (length x.0 == 0) _ _ (RefusedAt start) (λ _. refl) (λ _. tt)))
-    (λ _. refused_bind P (with_front w.0 (decoded_at Suffix start w.1)) _
-    (front_refused P w.0 (decoded_at Suffix start w.1) (decoded_refused Suffix start 0 w.1.mark w.1.rest)) (λ x e. tt))
+word_refused start w = grind (arith, by_test, slice_index, refused_bind, decoded_refused, front_refused)
 
 pub tag_refused : (in_flow : Bool) (s : Cursor) → RefusedAt s.mark (tag in_flow s)
 unfolding tag shorthand_tag tag_end
-tag_refused in_flow s =
-    let end = λ (p : TagRead) (e : _). by_test
-    (is_blank_or_breakz (slice_index p.2.rest 0) || (in_flow && is_flow (slice_index p.2.rest 0))) _ _
-    (RefusedAt s.mark) (λ _. tt) (λ _. refl) in
-    let parts = by_test (slice_index s.rest 1 == 60) _ _ (RefusedAt s.mark) (λ _. verbatim_refused s)
-    (λ _. word_refused s.mark (with_run is_alpha [] (pass 1 s))) in
-    refused_bind (λ e. e.mark ≡ s.mark) _ _ parts end
+tag_refused in_flow s = grind (arith, by_test, slice_index, verbatim_refused, word_refused, refused_bind)

@@ -22,9 +22,7 @@ run_len p (c ∷ w) y (is, are) ends = rw (is, run_len p w y are ends) (omega ar
 
 pub run_read : (p : ℕ → Bool) (m : Marker) (w y : List ℕ) → AreIn p w → p (slice_index y 0) ≡ false
     → with_run p [] (mid_line m (w ++ y)) ≡ (encode_utf8_all w, mid_line (along m (length w)) y)
-run_read p m w y are ends =
-    ap (λ n. together (encode_utf8_all (take n (w ++ y))) (pass n (mid_line m (w ++ y)))) (run_len p w y are ends)
-    ∙ rw (take-append_seam w y, drop-append_seam w y) refl
+run_read p m w y are ends = grind (arith, encode_utf8_all, take, run_len, take-append_seam, drop-append_seam)
 
 -- what is taken as a run is one
 pub run_is_in : (p : ℕ → Bool) (xs : List ℕ) → AreIn p (take (prefix_len p xs) xs)
@@ -36,22 +34,13 @@ run_is_in p (c ∷ cs) =
 -- Where a text is cut again: before what begins with ASCII, such as blanks.
 
 pub cuts_before : (text more : List ℕ) → slice_index more 0 < 128 → IsSplitPoint (text ++ more) (length text)
-cuts_before text more low =
-    let there : slice_index (text ++ more) (length text) ≡ slice_index more 0 =
-    ap (λ (n : ℕ). get_or (text ++ more) n 0) (sym (add-zero (length text))) ∙ get_or-append-add text more 0 0 in
-    (rw length-append (omega arith), λ _ _ high. absurd (omega (arith, low, high, there)))
+cuts_before text more low = grind (arith, slice_index, get_or, add-zero, get_or-append-add, length-append)
 
 first_low : (c : ℕ) (ys : List ℕ) → c < 128 → slice_index (encode_utf8_all (c ∷ ys)) 0 < 128
 first_low c ys low = rw (encode_ascii c low) low
 
 pub blanks_low : (xs : List ℕ) → slice_index (encode_utf8_all (take (prefix_len is_blank xs) xs)) 0 < 128
-blanks_low [] = omega arith
-blanks_low (c ∷ cs) =
-    let one : 1 + prefix_len is_blank cs ≡ suc (prefix_len is_blank cs) = omega arith in
-    by_test (is_blank c) (1 + prefix_len is_blank cs) 0
-    (λ n. slice_index (encode_utf8_all (take n (c ∷ cs))) 0 < 128)
-    (λ h. rw one (first_low c (take (prefix_len is_blank cs) cs) (blank_cases c h (λ x. x < 128) (omega arith)
-    (omega arith)))) (λ _. omega arith)
+blanks_low u0 = grind (arith, by_test, slice_index, encode_utf8_all, take, first_low, blank_cases)
 
 pub cuts_before_blanks : (text xs : List ℕ)
     → IsSplitPoint (text ++ encode_utf8_all (take (prefix_len is_blank xs) xs)) (length text)

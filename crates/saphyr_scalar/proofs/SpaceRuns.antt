@@ -36,9 +36,7 @@ spaces_shorter most s u e = rw (ap (λ (x : Cursor). x.rest) e, length-drop) (om
 -- less is left after a turn that begins with spaces
 pub turn_shorter : (n most : ℕ) (first here there : Cursor) → here ≡ pass_spaces most first → there ≡ here
     → n < length there.rest → n < length first.rest
-turn_shorter n most first here there spaces same less =
-    let left : n < length here.rest = rw same at less in
-    omega (arith, left, spaces_shorter most first here spaces)
+turn_shorter n most first here there spaces same less = grind (arith, spaces_shorter)
 
 -- What takes no notice of a space takes none of a run of them. `read m xs` is what is read at m, and `fits m` says
 -- where a space goes without notice, for so many spaces.
@@ -145,6 +143,4 @@ left_none (Some limit) m xs l = by_test (nat_lt (prefix_len is_space xs) (limit 
 
 pub none_left : (limit : Option ℕ) (left : ℕ) (s u : Cursor) → left ≡ indentation_left limit s.mark.col
     → u ≡ pass_spaces left s → length s.rest < 2 ^ 64 → is_indentation limit u.mark.col (slice_index u.rest 0) ≡ false
-none_left limit left s u room e l =
-    ap (λ (x : Cursor). is_indentation limit x.mark.col (slice_index x.rest 0)) (e ∙ ap (λ n. pass_spaces n s) room)
-    ∙ left_none limit s.mark s.rest l
+none_left limit left s u room e l = grind (arith, slice_index, left_none)

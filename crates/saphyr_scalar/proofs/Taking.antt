@@ -29,13 +29,7 @@ GapWithin n g = length g.behind.rest ≤ n
 reached_within : (n : ℕ) (start : Marker) (tabbed : Bool) (feeds : List ℕ) (s : Cursor) → length s.rest ≤ n
     → Given (GapWithin n) (reached_gap start tabbed feeds s)
 unfolding content_behind_tab
-reached_within n start tabbed feeds s h = given_bind (GapWithin n) (content_behind_tab start tabbed s) _
-    (λ t e. given_of (λ (u : Cursor). length u.rest ≤ n) (content_behind_tab start tabbed s) t stands e)
-  where
-    stands : Given (λ (u : Cursor). length u.rest ≤ n) (content_behind_tab start tabbed s)
-    stands = by_test (tabbed && is_bom (slice_index s.rest 0)) _ _ (Given (λ (u : Cursor). length u.rest ≤ n)) (λ _. tt)
-        (λ _. by_test (tabbed && not ((slice_index s.rest 0 == 35) || is_z (slice_index s.rest 0))) _ _
-        (Given (λ (u : Cursor). length u.rest ≤ n)) (λ _. tt) (λ _. h))
+reached_within n start tabbed feeds s h = grind arith
 
 lines_within : (n indent : ℕ) (start : Marker) (tabbed : Bool) (feeds : List ℕ) (m : Marker) (t : List ℕ) → length t ≤ n
     → Given (GapWithin n) (lines indent start tabbed feeds m t)
@@ -94,24 +88,14 @@ first_taken : (in_flow : Bool) (indent : ℕ) (start m : Marker) (t : List ℕ)
     (x : List ℕ × Marker × Option Marker × Cursor) → is_in_word in_flow t ≡ true → word in_flow indent start m t ≡ Ok x
     → length x.3.rest < length t
 unfolding word is_in_word
-first_taken in_flow indent start m [] x w e = absurd (cc)
-first_taken in_flow indent start m (c ∷ cs) x w e =
-    let others = word_within (length cs) in_flow indent start (along m 1) cs (omega arith) in
-    let within : Given (Within (length cs)) (word in_flow indent start m (c ∷ cs)) =
-    rw w (given_bind (Within (length cs)) (word in_flow indent start (along m 1) cs) _
-    (λ y q. given_of (Within (length cs)) _ y others q)) in
-    let less = given_of (Within (length cs)) _ x within e in omega (arith, less)
+first_taken in_flow indent start m u0 x w e = grind (arith, word_within, given_bind, given_of)
 
 abbrev Starts : Bool → Cursor → Bool × Cursor → Type 0
 Starts in_flow s b = (b.1 ≡ s) × (b.0 ≡ true → is_in_word in_flow s.rest ≡ true)
 
 starts_here : (in_flow : Bool) (s : Cursor) → Given (Starts in_flow s) (word_starts in_flow s)
 unfolding word_starts
-starts_here in_flow s =
-    by_test ((slice_index s.rest 0 == 35) || ((s.mark.col == 0) && is_document_indicator s.rest)) _ _
-    (Given (Starts in_flow s)) (λ _. (refl, λ e. absurd (cc)))
-    (λ _. by_test (in_flow && (slice_index s.rest 0 == 45) && is_flow (slice_index s.rest 1)) _ _
-    (Given (Starts in_flow s)) (λ _. tt) (λ _. (refl, λ e. e)))
+starts_here in_flow s = grind arith
 
 pub plain_takes : (in_flow : Bool) (indent : ℕ) (s t : Cursor) (text : List ℕ) (end : Marker) (comment : Option Marker)
     → plain in_flow indent s ≡ Ok (text, end, comment, t) → length t.rest < length s.rest
@@ -142,8 +126,4 @@ piece_is_longer (c ∷ cs) rest h = let l = length-append cs rest in omega (arit
 
 pub quoted_takes : (quote : Quote) (indent : ℕ) (s t : Cursor) (text : List ℕ) → slice_index s.rest 0 ≡ flow.mark quote
     → quoted quote indent s ≡ Ok (text, t) → length t.rest < length s.rest
-quoted_takes quote indent s t text opening read =
-    let r = quoted_reading quote indent s text t opening read in
-    let less = piece_is_longer r.0 t.rest
-    (λ e. no_value quote r.1 (ap (λ p. flow.quoted_value quote (normalized p)) (sym e) ∙ r.3)) in
-    let is = ap length r.2 in omega (arith, less, is)
+quoted_takes quote indent s t text opening read = grind (arith, quoted_reading, piece_is_longer, no_value)

@@ -43,26 +43,16 @@ chomping_within n s h = grind arith
 
 indicator_within : (n : ℕ) (start : Marker) (s : Cursor) → length s.rest ≤ n → Given (Behind ℕ n) (indicator start s)
 unfolding indicator
-indicator_within n start s h =
-    let k : length (drop 1 s.rest) ≤ n = omega (arith, drop_shorter 1 s.rest, h) in
-    by_test (not (is_digit (slice_index s.rest 0))) _ _ (Given (Behind ℕ n)) (λ _. h)
-    (λ _. by_test (slice_index s.rest 0 == 48) _ _ (Given (Behind ℕ n)) (λ _. tt) (λ _. k))
+indicator_within n start s h = grind arith
 
 break_within : (n : ℕ) (start : Marker) (s : Cursor) → length s.rest ≤ n → Given (Left n) (header_break start s)
 unfolding header_break
-break_within n start s h =
-    let k : length (pass_break s).rest ≤ n = omega (arith, break_shorter s, h) in
-    by_test (not (is_breakz (slice_index s.rest 0))) _ _ (Given (Left n)) (λ _. tt)
-    (λ _. by_test (slice_index (pass_break s).rest 0 == tab) _ _ (Given (Left n)) (λ _. tt) (λ _. k))
+break_within n start s h = grind arith
 
 separation_within : (n : ℕ) (tabs : SkipTabs) (s : Cursor) → length s.rest ≤ n
     → Given (Behind SkipTabs n) (separation tabs s)
 unfolding separation behind_separation
-separation_within n tabs s h =
-    let l = drop_shorter (separation_len tabs s.rest) s.rest in
-    let t : Cursor = pass_blanks (separation_len tabs s.rest) s in
-    by_test (nat_lt 0 t.mark.col && is_bom (slice_index t.rest 0)) _ _ (Given (Behind SkipTabs n)) (λ _. tt)
-    (λ _. by_test (is_bare_comment tabs s.rest) _ _ (Given (Behind SkipTabs n)) (λ _. tt) (λ _. (omega (arith, l, h))))
+separation_within n tabs s h = grind (arith, drop_shorter, by_test)
 
 end_within : (n : ℕ) (start : Marker) (s : Cursor) → length s.rest ≤ n → Given (Left n) (header_end start s)
 unfolding header_end
@@ -83,12 +73,7 @@ behind_within n start i x h = given_bind (Behind BlockHeader n) (header_end star
 
 header_within : (n : ℕ) (s : Cursor) → length (drop 1 s.rest) ≤ n → Given (Behind BlockHeader n) (header s)
 unfolding header
-header_within n s h =
-    let first = chomping (pass 1 s) in
-    let given = indicator_within n s.mark first.1 (chomping_within n (pass 1 s) h) in
-    given_bind (Behind BlockHeader n) (indicator s.mark first.1) _ (λ x e.
-    behind_within n s.mark x.0 (last_chomping first.0 x.1)
-    (last_within n first.0 x.1 (given_of (Behind ℕ n) (indicator s.mark first.1) x given e)))
+header_within n s h = grind (arith, indicator_within, chomping_within, given_bind, behind_within, last_within, given_of)
 
 empty_within : (n : ℕ) (limit : Option ℕ) (before : EmptyLines) (b : Bool) (m : Marker) (t : List ℕ) → length t ≤ n
     → length (pass_empty_lines limit before b m t).1.rest ≤ n
@@ -135,26 +120,18 @@ ScalarWithin n x = length x.2.rest ≤ n
 content_within : (n : ℕ) (style : BlockStyle) (c : Chomping) (indent i lines : ℕ) (s : Cursor) → length s.rest ≤ n
     → Given (ScalarWithin n) (content style c indent i lines s)
 unfolding content chomped_lines
-content_within n style c indent i lines s h =
-    let read = between_within n style i None lines s.blank_so_far s.mark s.rest h in
-    by_test (nat_lt s.mark.col i && nat_le indent s.mark.col) _ _ (Given (ScalarWithin n)) (λ _. tt) (λ _. read)
+content_within n style c indent i lines s h = grind (arith, between_within, by_test)
 
 leading_within : (n : ℕ) (style : BlockStyle) (indent : ℕ) (start : Marker) (c : Chomping) (limit : Option ℕ)
     (x : EmptyLines × Cursor) → length x.1.rest ≤ n
     → Given (ScalarWithin n) (behind_leading_lines style indent start c limit x)
 unfolding behind_leading_lines
-leading_within n style indent start c limit x h =
-    by_test (is_z (slice_index x.1.rest 0)) _ _ (Given (ScalarWithin n)) (λ _. h)
-    (λ _. content_within n style c indent (unwrap_or limit (max x.0.widest indent)) x.0.count x.1 h)
+leading_within n style indent start c limit x h = grind (arith, by_test, content_within)
 
 scalar_within : (n : ℕ) (style : BlockStyle) (indent : ℕ) (start : Marker) (x : BlockHeader × Cursor)
     → length x.1.rest ≤ n → Given (ScalarWithin n) (behind_header style indent start x)
 unfolding behind_header
-scalar_within n style indent start x h =
-    let limit = given_indentation indent x.0.indicator in
-    leading_within n style indent start x.0.chomping limit
-    (pass_empty_lines limit no_lines x.1.blank_so_far x.1.mark x.1.rest)
-    (empty_within n limit no_lines x.1.blank_so_far x.1.mark x.1.rest h)
+scalar_within n style indent start x h = grind (arith, leading_within, empty_within)
 
 block_within : (n : ℕ) (style : BlockStyle) (indent : ℕ) (s : Cursor) → length (drop 1 s.rest) ≤ n
     → Given (ScalarWithin n) (block_scalar style indent s)
@@ -164,42 +141,24 @@ block_within n style indent s h = given_bind (ScalarWithin n) (header s) _ (λ x
 
 pub block_scalar_takes : (style : BlockStyle) (indent : ℕ) (s t : Cursor) (text : List ℕ) (span : Span)
     → 0 < length s.rest → block_scalar style indent s ≡ Ok (text, span, t) → length t.rest < length s.rest
-block_scalar_takes style indent s t text span some e =
-    let n = length (drop 1 s.rest) in
-    let within = given_of (ScalarWithin n) (block_scalar style indent s) (text, span, t)
-    (block_within n style indent s (omega arith)) e in
-    let less = drop_one_shorter s.rest some in omega (arith, within, less)
+block_scalar_takes style indent s t text span some e = grind (arith, drop, given_of, block_within, drop_one_shorter)
 
 -- ## Anchors, tags and directives
 
 pub anchor_takes : (s t : Cursor) (text : List ℕ) → 0 < length s.rest → anchor s ≡ Ok (text, t)
     → length t.rest < length s.rest
-anchor_takes s t text some e =
-    let spelled = spells_anchor s t text some e in
-    let whole = length-append spelled.1 t.rest in omega (arith, ap length spelled.2, whole)
+anchor_takes s t text some e = grind (arith, spells_anchor, length-append)
 
-tag_some : (t handle suffix : List ℕ) → IsTagText t handle suffix → 0 < length t
+pub tag_some : (t handle suffix : List ℕ) → IsTagText t handle suffix → 0 < length t
 tag_some t handle suffix h = grind arith
 
 pub tag_takes : (in_flow : Bool) (s t : Cursor) (handle suffix : List ℕ) → slice_index s.rest 0 ≡ exclamation_mark
     → tag in_flow s ≡ Ok (handle, suffix, t) → length t.rest < length s.rest
-tag_takes in_flow s t handle suffix opening e =
-    let spelled = spells_tag in_flow s t handle suffix opening e in
-    let some = tag_some spelled.0 spelled.1 spelled.2 spelled.4 in
-    let whole = length-append spelled.0 t.rest in omega (arith, some, ap length spelled.3, whole)
+tag_takes in_flow s t handle suffix opening e = grind (arith, spells_tag, tag_some, length-append)
 
 directive_some : (d : ReadDirective) (t : List ℕ) → IsReadDirective d t → 0 < length t
 directive_some d t is = grind arith
 
 pub directive_takes : (s t : Cursor) (d : ReadDirective) (end : Marker) → slice_index s.rest 0 ≡ percent_sign
     → directive s ≡ Ok (d, end, t) → length t.rest < length s.rest
-directive_takes s t d end opening e =
-    let spelled = spells_directive s t d end opening e in
-    let x = spelled.2 in
-    let is : length s.rest ≡ length (spelled.0 ++ (spelled.1 ++ x)) = ap length spelled.3 in
-    let whole = length-append spelled.0 (spelled.1 ++ x) in
-    let back = length-append spelled.1 x in
-    let behind : Cursor = mid_line (along s.mark (length spelled.0 + length spelled.1)) x in
-    let left : length t.rest ≡ length (pass_break behind).rest = ap (λ (u : Cursor). length u.rest) spelled.8 in
-    let less : length (pass_break behind).rest ≤ length x = break_shorter behind in
-    omega (arith, directive_some d spelled.0 spelled.4, is, whole, back, left, less)
+directive_takes s t d end opening e = grind (arith, spells_directive, length-append, break_shorter, directive_some)

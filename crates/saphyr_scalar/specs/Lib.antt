@@ -7,3 +7,4 @@ pub mod Faults
 pub mod Passing
 pub mod RefusedInside
 pub mod Texts
+pub mod Known

@@ -37,10 +37,7 @@ left s = with_core (with_outer_indent s.core.outer_indents s.core) s
 pub others_end : (column : Option ℕ) (m : Marker) (n : ℕ) (s t all : State) → is_right_of column s.core.indent ≡ true
     → t ≡ left s → end_blocks column m s.core.outer_indents (with_ends n m s) ≡ all
     → end_blocks column m t.core.outer_indents (with_ends (n + 1) m t) ≡ all
-others_end column m n s t all right is known =
-    let same : with_ends (n + 1) m t ≡ end_block m (with_ends n m s) = rw (is, next_end n m s.queue) refl in
-    subst (λ (u : State). end_blocks column m u.core.outer_indents u ≡ all) (sym same)
-    (one_less column m s.core.outer_indents (with_ends n m s) right refl ∙ known)
+others_end column m n s t all right is known = grind arith
 
 -- how many end at most
 abbrev pub most_ends : Option ℕ → State → ℕ
@@ -48,10 +45,7 @@ most_ends column s = length s.core.outer_indents + (if is_right_of column s.core
 
 -- they are one more at most than the indentations that are kept
 pub few_ends : (column : Option ℕ) (s : State) → most_ends column s ≤ length s.core.outer_indents + 1
-few_ends column s = at_most (is_right_of column s.core.indent)
-  where
-    at_most : (b : Bool) → length s.core.outer_indents + (if b then 1 else 0) ≤ length s.core.outer_indents + 1
-    at_most b = grind arith
+few_ends column s = grind arith
 
 one_fewer : (column : Option ℕ) (m : Marker) (is : List ℕ) (s : State) → is_right_of column s.core.indent ≡ true
     → s.core.outer_indents ≡ is → most_ends column (end_block m s) < most_ends column s

@@ -26,10 +26,7 @@ pub stays : (s t : Cursor) → t ≡ s → Ahead s t
 stays s t e = rw e (record { later = omega arith; counted = refl })
 
 pub ahead_ahead : (s t u : Cursor) → Ahead s t → Ahead t u → Ahead s u
-ahead_ahead s t u a b = record {
-  later = omega (arith, a.later, b.later);
-  counted = omega (arith, a.counted, b.counted);
-}
+ahead_ahead s t u a b = grind arith
 
 -- n characters that are there are passed
 pub taken_off : (s t : Cursor) (n : ℕ) → t.mark.index ≡ s.mark.index + n → t.rest ≡ drop n s.rest → n ≤ length s.rest
@@ -52,11 +49,7 @@ break_within t e = by_test (next_2_are t 13 10) 2 1 (λ n. n ≤ length t) (two_
 
 -- the break at the front is passed, if there is one
 pub pass_break_counted : (s : Cursor) → Ahead s (pass_break s)
-pass_break_counted s =
-    by_test (next_2_are s.rest 13 10) _ _ (Ahead s) (λ e. taken_off s (pass_line 2 s) 2 refl refl (two_shown s.rest e))
-    (λ _. by_test (is_break (slice_index s.rest 0)) _ _ (Ahead s)
-    (λ e. taken_off s (pass_line 1 s) 1 refl refl (shows_character s.rest is_break true e (λ k. absurd (cc))))
-    (λ _. stays s s refl))
+pass_break_counted s = grind arith
 
 -- ## From a place to another
 

@@ -20,10 +20,7 @@ use Rattle.saphyr_scanner.specs.Views.Ahead.{may_begin_entry}
 -- content is on a later line
 pub fed : (c : Core) → slice_index c.cursor.rest 0 ≡ 10 → pass_dash c ≡ Ok (go_deeper c)
 unfolding pass_dash
-fed c e =
-    let none = nothing_separates tabs.Yes c.cursor c.cursor (slice_index c.cursor.rest 0) refl refl
-    (rw e refl) (rw e refl) (rw e refl) in
-    rw (none, e) refl
+fed c e = grind (arith, nothing_separates)
 
 -- what begins an entry's text
 first_character : (x : ℕ) → may_begin_entry x ≡ true → (is_blank x ≡ false) × (is_break x ≡ false)
@@ -48,21 +45,10 @@ spaced c e begins = go c.cursor.rest e begins
 -- ## From the `-` on, where a sequence may begin at its column
 
 rolled : (column : ℕ) (s : Cursor) (c : Core) → roll column (with_cursor s c) ≡ with_cursor s (roll column c)
-rolled column s c = go (is_further column c)
-  where
-    go : (b : Bool) → (if b then enter_block column (with_cursor s c) else with_cursor s c)
-        ≡ with_cursor s (if b then enter_block column c else c)
-    go true = refl
-    go false = refl
+rolled column s c = grind arith
 
 twice : (s : Cursor) → pass_blanks 1 (pass 1 s) ≡ pass 2 s
-twice s = go s.rest
-  where
-    go : (t : List ℕ) → let r : Cursor = record s { rest = t } in pass_blanks 1 (pass 1 r) ≡ pass 2 r
-    go t =
-        let i : s.mark.index + 1 + 1 ≡ s.mark.index + 2 = omega arith in
-        let k : s.mark.col + 1 + 1 ≡ s.mark.col + 2 = omega arith in
-        let two : drop 1 (drop 1 t) ≡ drop 2 t = drop-drop 1 1 t in rw (i, k, two) refl
+twice s = grind arith
 
 pub entry_fed : (column : ℕ) (c : Core) → slice_index c.cursor.rest 1 ≡ 10
     → pass_dash (roll column (pass_on 1 c)) ≡ Ok (go_deeper (roll column (pass_on 1 c)))
@@ -73,21 +59,10 @@ entry_fed column c e =
 entry_spaced : (column : ℕ) (c : Core) → slice_index c.cursor.rest 1 ≡ 32
     → may_begin_entry (slice_index c.cursor.rest 2) ≡ true
     → pass_dash (roll column (pass_on 1 c)) ≡ Ok (roll column (pass_on 2 c))
-entry_spaced column c e begins =
-    let s : Cursor = pass 1 c.cursor in
-    let second : may_begin_entry (slice_index s.rest 1) ≡ true = rw (get_or_after_one c.cursor.rest 1 0) begins in
-    ap pass_dash (rolled column s c)
-    ∙ spaced (with_cursor s (roll column c)) (get_or_after_one c.cursor.rest 0 0 ∙ e) second
-    ∙ ap (λ (t : Cursor). Ok (with_cursor t (roll column c))) (twice c.cursor)
-    ∙ ap Ok (sym (rolled column (pass 2 c.cursor) c))
+entry_spaced column c e begins = search (get_or_after_one, rolled, spaced, twice)
 
 -- the same on the whole state, where the two characters were passed before
 pub entered_spaced : (column : ℕ) (s t : State) → ((slice_index s.core.cursor.rest 1 == 32)
     && may_begin_entry (slice_index s.core.cursor.rest 2)) ≡ true → t ≡ with_core (pass_on 2 s.core) s
     → on_core (Ok (roll column t.core)) t.queue ≡ on_core (pass_dash (roll column (pass_on 1 s.core))) s.queue
-entered_spaced column s t told passed =
-    let x = slice_index s.core.cursor.rest 1 in
-    let begins = may_begin_entry (slice_index s.core.cursor.rest 2) in
-    let whole = entry_spaced column s.core (eqb-true x 32 (and_true_left (x == 32) begins told))
-    (and_true_right (x == 32) begins told) in
-    rw (passed, whole) refl
+entered_spaced column s t known passed = grind (arith, entry_spaced)

@@ -7,6 +7,7 @@ pub mod Walked
 pub mod Flow
 pub mod Values
 pub mod Blocks
+pub mod QuotedScalars
 pub mod Scalars
 pub mod Properties
 pub mod States

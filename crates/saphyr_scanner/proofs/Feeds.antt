@@ -1,5 +1,5 @@
 -- Behind a line feed and spaces, and behind spaces, the way to the next token goes on.
-use Rattle.std.proofs.Common.{◌≡◌, ℕ, Bool, true, false, List, [], ◌∷◌, slice_index, Result, Ok, Err, None, refl, sym, ap, ◌∙◌}
+use Rattle.std.proofs.Common.{◌≡◌, ℕ, Bool, true, false, List, [], ◌∷◌, slice_index, Result, Ok, Err, None, refl, sym, ap, ◌∙◌, arith}
 use Rattle.std.specs.Prelude.{◌||◌, ◌&&◌, ◌==◌, ◌-◌, ◌^◌, not, if◌then◌else◌}
 use Rattle.saphyr_input.specs.Classes.{is_blank, is_bom, is_break, is_yaml_non_break, is_z}
 use Rattle.saphyr_input.specs.Indicators.{number_sign}
@@ -102,7 +102,4 @@ pub dropped_ahead : (s : State) → may_begin (slice_index s.core.cursor.rest 0)
     → (in_block s.core && is_too_far s.core.level.key s.core.cursor.mark) ≡ true → s.core.required ≡ false
     → fetched (with_core (with_key None s.core) s) ≡ fetched s
 unfolding arrive drop_far_key
-dropped_ahead s begins none far free =
-    let c = s.core in let d = with_key None c in
-    rw (no_gap c begins none, no_gap d begins none, far, free, and_false (in_block c), and_false (not (in_block c)))
-    refl
+dropped_ahead s begins none far free = grind (arith, no_gap)

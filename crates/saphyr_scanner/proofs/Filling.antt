@@ -1,12 +1,11 @@
 -- Tokens are read until the first of the queue can be handed out.
 use Rattle.std.proofs.Common.{◌≡◌, ℕ, zero, suc, ◌<◌, Bool, true, false, Result, Ok, refl, sym, ◌∙◌, arith, subst}
-use Rattle.std.specs.Prelude.{◌&&◌, ◌||◌, not, None}
+use Rattle.std.specs.Prelude.{◌&&◌, not, None}
 use Rattle.saphyr_scalar.specs.declared.scalar.fault.Refusal.{Refusal}
 use Rattle.saphyr_scalar.specs.Views.Cursor.{◌>>=◌}
 use Rattle.saphyr_scanner.specs.Steps.Core.{Core, in_block, is_too_far, drop_far_key, forget_key}
 use Rattle.saphyr_scanner.specs.Steps.State.{State, on_core}
-use Rattle.saphyr_scanner.specs.Steps.Fetch.{size, fetch_within, without_far_key, is_held, needs_token, fill_in, fill}
-use Rattle.saphyr_scanner.specs.Steps.Queue.{is_empty}
+use Rattle.saphyr_scanner.specs.Steps.Fetch.{size, fetch_within, without_far_key, needs_token, fill_in, fill}
 use Rattle.saphyr_scanner.proofs.Effects.Readers.{Readers}
 use Rattle.saphyr_scanner.proofs.Effects.Fetch.{Fetched, read_fetched}
 use Rattle.saphyr_input.proofs.Basics.Booleans.{by_test}
@@ -47,33 +46,19 @@ enough laws limit (suc n) (suc m) s a b =
 -- one token more
 pub fetched_is_one_more : Readers → (limit : ℕ) (s u : State) → needs_token s ≡ true → read limit s ≡ Ok u
     → fill_in (suc (size u.core)) limit u ≡ fill_in (suc (size s.core)) limit s
-fetched_is_one_more laws limit s u needs e =
-    let less = smaller_read laws limit s u needs e in
-    let unfolded : fill_in (suc (size s.core)) limit s ≡ fill_in (size s.core) limit u = rw (needs, e) refl in
-    enough laws limit (suc (size u.core)) (size s.core) u (omega arith) less ∙ sym unfolded
+fetched_is_one_more laws limit s u needs e = grind (arith, smaller_read, enough)
 
 -- ## Where there is no candidate, none is too far
 
 pub no_key_settles : (s : State) → s.core.level.key ≡ None → without_far_key s ≡ Ok s
 unfolding drop_far_key
-no_key_settles s e = go (in_block s.core) refl
-  where
-    go : (b : Bool) → in_block s.core ≡ b → without_far_key s ≡ Ok s
-    go true i = rw (i, e) refl
-    go false i = rw i refl
+no_key_settles s e = grind arith
 
 -- ## A candidate that was dropped stays so
 
 not_twice : (c d : Core) → drop_far_key c ≡ Ok d → drop_far_key d ≡ Ok d
 unfolding drop_far_key
-not_twice c d =
-    by_test (not (in_block c && is_too_far c.level.key c.cursor.mark)) _ _ (λ r. r ≡ Ok d → drop_far_key d ≡ Ok d)
-    (λ near e. let is : c ≡ d = cc in subst (λ x. drop_far_key x ≡ Ok x) is (rw near refl))
-    (λ far. by_test c.required _ _ (λ r. r ≡ Ok d → drop_far_key d ≡ Ok d) (λ _ e. absurd (cc))
-    (λ _ e. let is : forget_key c ≡ d = cc in subst (λ x. drop_far_key x ≡ Ok x) is (forgotten c (in_block c) refl)))
-  where
-    forgotten : (c : Core) (b : Bool) → in_block c ≡ b → drop_far_key (forget_key c) ≡ Ok (forget_key c)
-    forgotten c b e = grind arith
+not_twice c d = grind arith
 
 -- what no candidate is too far in
 abbrev pub IsSettled : State → Type 0
@@ -94,16 +79,6 @@ less_read laws limit s u over e = (given_of (Fetched s) (read limit s) u (read_f
 
 pub still_settled : (s t : State) → without_far_key s ≡ Ok t → without_far_key t ≡ Ok t
 still_settled s t e = rw (settled_once s t e) refl
-
--- tokens are read as before once a candidate that is too far was dropped
-pub filled_from : (limit : ℕ) (s t : State) → without_far_key s ≡ Ok t → fill limit t ≡ fill limit s
-unfolding fill
-filled_from limit s t e = rw (e, still_settled s t e) refl
-
--- nothing is read where the head of the queue can be handed out
-pub filled_at_once : (limit : ℕ) (s t : State) → without_far_key s ≡ Ok t → needs_token t ≡ false → fill limit s ≡ Ok t
-unfolding fill
-filled_at_once limit s t e none = rw (e, none) refl
 
 -- where no candidate is too far
 pub settled_fill : (limit : ℕ) (s : State) → without_far_key s ≡ Ok s

@@ -17,10 +17,7 @@ use Rattle.saphyr_scalar.proofs.Moving.{along_none, along_more}
 use Rattle.saphyr_input.proofs.Basics.Booleans.{either, or_false_left, or_false_right, or_true_swap, and_false}
 
 along-along : (m : Marker) (a b : ℕ) → along (along m a) b ≡ along m (a + b)
-along-along m a b =
-    let i : m.index + a + b ≡ m.index + (a + b) = omega arith in
-    let k : m.col + a + b ≡ m.col + (a + b) = omega arith in
-    rw (i, k) refl
+along-along m a b = grind arith
 
 pub break_is_no_blank : (c : ℕ) → is_yaml_non_break c ≡ false → is_blank c ≡ false
 break_is_no_blank c e = grind (arith, nat_tests)
@@ -66,15 +63,7 @@ behind_sign l (c ∷ cs) m blank broke tabbed =
 
 on_comment : (l : ℕ) (broke tabbed : Bool) (s : Cursor) → get_or s.rest 0 0 ≡ number_sign
     → gap_at l broke tabbed (pass_comment s) ≡ gap_at l broke tabbed s
-on_comment l broke tabbed s h = go s.rest h
-  where
-    go : (t : List ℕ) → get_or t 0 0 ≡ number_sign
-        → end_of_gap l (along s.mark (prefix_len is_yaml_non_break t)) s.blank_so_far broke tabbed
-        (drop (prefix_len is_yaml_non_break t) t) ≡ end_of_gap l s.mark s.blank_so_far broke tabbed t
-    go [] e = absurd (omega arith)
-    go (c ∷ cs) e = rw e (sym
-        (behind_sign l cs (along s.mark 1) s.blank_so_far broke tabbed
-        ∙ one_further l s.mark s.blank_so_far broke tabbed (prefix_len is_yaml_non_break cs) 35 cs))
+on_comment l broke tabbed s h = grind (arith, behind_sign)
 
 -- the comment that is read is passed
 pub comment_passed : (l : ℕ) (broke tabbed : Bool) (before read after : Cursor) (all : Result GapEnd Refusal) (c : ℕ)
@@ -111,10 +100,7 @@ over_spaces l blank broke tabbed m (suc n) (c ∷ cs) few =
 pub spaces_passed : (l most : ℕ) (broke tabbed : Bool) (before read after : Cursor) (all : Result GapEnd Refusal)
     → read ≡ before → after ≡ pass_spaces most read → gap_at l broke tabbed before ≡ all
     → gap_at l broke tabbed after ≡ all
-spaces_passed l most broke tabbed before read after all same passed known =
-    rw (passed, same)
-    (over_spaces l before.blank_so_far broke tabbed before.mark (spaces_within most before.rest) before.rest
-    (omega arith) ∙ known)
+spaces_passed l most broke tabbed before read after all same passed known = grind (arith, over_spaces)
 
 -- ## Breaks, and tabs with the blanks after them, that are passed
 
@@ -153,9 +139,9 @@ behind_tab : (l : ℕ) (blank broke tabbed now : Bool) (m : Marker) (t : List �
     → now ≡ (is_tab_indentation l m blank 9 || tabbed)
     → end_of_gap l (along m (prefix_len is_blank t)) blank broke now (drop (prefix_len is_blank t) t)
     ≡ end_of_gap l m blank broke tabbed t
-behind_tab l blank broke tabbed now m [] e told = absurd (cc)
-behind_tab l blank broke tabbed now m (c ∷ cs) e told =
-    rw (e, told) (sym (one_further l m blank broke _ (prefix_len is_blank cs) 9 cs)
+behind_tab l blank broke tabbed now m [] e given = absurd (cc)
+behind_tab l blank broke tabbed now m (c ∷ cs) e given =
+    rw (e, given) (sym (one_further l m blank broke _ (prefix_len is_blank cs) 9 cs)
     ∙ over_blanks l blank broke _ (along m 1) cs (further (nat_lt m.col l) refl))
   where
     further : (b : Bool) → nat_lt m.col l ≡ b → (is_tab_indentation l m blank 9 || tabbed) ≡ false → blank ≡ true
@@ -167,10 +153,7 @@ pub tab_passed : (l : ℕ) (broke tabbed now : Bool) (before read after : Cursor
     → c ≡ slice_index before.rest 0 → read ≡ before
     → now ≡ (is_tab_indentation l read.mark read.blank_so_far c || tabbed) → after ≡ pass_all_blanks read → c ≡ 9
     → gap_at l broke tabbed before ≡ all → gap_at l broke now after ≡ all
-tab_passed l broke tabbed now before read after all c first same told passed tab known =
-    rw (passed, same)
-    (behind_tab l before.blank_so_far broke tabbed now before.mark before.rest (sym first ∙ tab)
-    (told ∙ rw (same, tab) refl) ∙ known)
+tab_passed l broke tabbed now before read after all c first same given passed tab known = grind (arith, behind_tab)
 
 over_break : (l : ℕ) (blank broke tabbed : Bool) (m : Marker) (t : List ℕ) → is_break (slice_index t 0) ≡ true
     → gap_at l true false (pass_break (record { rest = t; mark = m; blank_so_far = blank }))
@@ -295,16 +278,7 @@ pub line_comment_passed : (space : Bool) (before read after : Cursor) (all : Spa
     → c ≡ get_or before.rest 0 0 → read ≡ before → after ≡ pass_comment read → c ≡ number_sign
     → spaces_at space before ≡ all
     → spaces_at space after ≡ all
-line_comment_passed space before read after all c first same passed sign known =
-    rw (passed, same) (go before.rest (sym first ∙ sign) ∙ known)
-  where
-    go : (t : List ℕ) → get_or t 0 0 ≡ number_sign
-        → end_of_spaces (along before.mark (prefix_len is_yaml_non_break t)) before.blank_so_far space
-        (drop (prefix_len is_yaml_non_break t) t) ≡ end_of_spaces before.mark before.blank_so_far space t
-    go [] e = absurd (omega arith)
-    go (c ∷ cs) e = rw e (sym
-        (behind_line_sign cs (along before.mark 1) before.blank_so_far space
-        ∙ spaces_further before.mark before.blank_so_far space (prefix_len is_yaml_non_break cs) 35 cs))
+line_comment_passed space before read after all c first same passed sign known = grind (arith, behind_line_sign)
 
 gap_of_nothing : (least : ℕ) (m : Marker) (blank : Bool) (text : List ℕ) → is_blank (slice_index text 0) ≡ false
     → is_break (slice_index text 0) ≡ false → (slice_index text 0 == number_sign) ≡ false

@@ -166,16 +166,7 @@ marker_agrees hs kind c q p b k =
 
 end_marker_agrees : (hs : List Place) → AgreesBehind hs document.state_behind_document_end
 unfolding document.state_behind_document_end document.end_line
-end_marker_agrees hs c q p b k = same_then hs (document.state_behind_marker tokens.DocumentEnd (at c q))
-    (document.state_behind_marker tokens.DocumentEnd (at c p)) _ (marker_agrees hs tokens.DocumentEnd c q p b k)
-    (λ d r s e a. line (separate d) d r s e a (effects.separate_goes 0 d.cursor d d (effects.goes_none d)))
-  where
-    line : (x : Result (SkipTabs × Core) Refusal) (d : Core) (r s : Queue) → Behind hs r s → Above (length hs) d
-        → Given (λ y. effects.Goes 0 d.cursor d y.1) x
-        → Same hs (on_core_with x (at d r) >>= document.end_line) (on_core_with x (at d s) >>= document.end_line)
-    line (Ok x) d r s e a g = same_if hs (is_breakz (slice_index x.1.cursor.rest 0)) _ _ _ _
-        (record { core = refl; queue = e; above = g.1.3 (length hs) a }) refl
-    line (Err f) d r s e a g = refl
+end_marker_agrees hs c q p b k = grind (arith, same_then, marker_agrees)
 
 mark_agrees : (hs : List Place) → AgreesBehind hs document.state_behind_byte_order_mark
 unfolding document.state_behind_byte_order_mark
@@ -204,11 +195,11 @@ content_same hs first second c q p some f g deep b k =
     let n : next q ≡ next p = same_next hs q p b in
     let places = ap length b.places in let l = length-append hs p.places in
     let before : length hs ≤ next q = omega (arith, places, l) in
-    let told = after_step_agrees hs (step first second (next q) c) q p b
+    let known = after_step_agrees hs (step first second (next q) c) q p b
     (given_map _ _ (step first second (next q) c) (λ x e. e.keeps (length hs) (before, k))
     (step_effect first second (next q) c some f g deep)) in
     subst (λ (m : ℕ). Same hs (after_step (step first second (next q) c) q) (after_step (step first second m c) p)) n
-    told
+    known
 
 directive_keeps : (h : ℕ) (c : Core) → Above h c → Given (KeepsPlacesAbove h) (document.read_directive c)
 unfolding document.read_directive
@@ -236,10 +227,7 @@ here_agrees hs c q p b k =
 
 arrive_agrees : (hs : List Place) → AgreesBehind hs arrive
 unfolding arrive
-arrive_agrees hs c q p b k =
-    same_then hs (on_core (pass_gap c >>= drop_far_key) q) (on_core (pass_gap c >>= drop_far_key) p) _
-    (on_core_agrees hs c _ q p b k (arrival_goes c))
-    (λ d r s e a. unroll_goes hs (Some d.cursor.mark.col) d.cursor.mark d r s e a)
+arrive_agrees hs c q p b k = search (same_then, on_core_agrees, arrival_goes, unroll_goes)
 
 fetch_agrees : (hs : List Place) → AgreesBehind hs fetch
 unfolding fetch
@@ -258,7 +246,4 @@ settled_agrees hs c q p b k = on_core_agrees hs c (drop_far_key c) q p b k
 -- a token that is fetched, and the candidate of its line dropped where it is too far
 pub read_agrees : (hs : List Place) (limit : ℕ) → AgreesBehind hs (λ s. fetch_within limit s >>= without_far_key)
 unfolding fetch_within
-read_agrees hs limit c q p b k =
-    same_then hs (fetch_within limit (at c q)) (fetch_within limit (at c p)) without_far_key
-    (same_then hs (fetch (at c q)) (fetch (at c p)) (check_limit limit) (fetch_agrees hs c q p b k)
-    (within_agrees hs limit)) (settled_agrees hs)
+read_agrees hs limit c q p b k = search (same_then, fetch_agrees, within_agrees, settled_agrees)

@@ -58,10 +58,7 @@ pub free_end : (c : Core) → c.ended ≡ true → Free c
 free_end c e n = rw e refl
 
 pub free_block : (c : Core) → c.level.key ≡ None → c.outer ≡ [] → Free c
-free_block c k o n = rw (k, o) (never c.ended)
-  where
-    never : (b : Bool) → (not b && false) ≡ false
-    never b = grind arith
+free_block c k o n = grind arith
 
 needs : (over b : Bool) → over ≡ false → (not over && b) ≡ b
 needs over b h = grind arith

@@ -13,11 +13,7 @@ use Rattle.saphyr_scalar.specs.Spelling.LineBreaks.{break_len}
 use Rattle.saphyr_scalar.specs.Spelling.Quoted.{IsText, closed, itself, broken, two_quotes, escaped, numbered, escaped_break}
 
 line_left : (m n : ℕ) (line : List ℕ) → m ≤ n → IsTrue (is_quoted_line n line) → IsTrue (is_quoted_line m line)
-line_left m n line le h =
-    either (nat_le n (indentation line)) (is_break (behind_indentation line)) (is_quoted_line m line ≡ true) h
-    (λ a. or_left (nat_le m (indentation line)) (is_break (behind_indentation line))
-    (le-leb m (indentation line) (omega (arith, leb-true n (indentation line) a, le))))
-    (λ a. or_right (nat_le m (indentation line)) (is_break (behind_indentation line)) a)
+line_left m n line le h = grind arith
 
 line_left_or : (m n : ℕ) (line : List ℕ) (b : Bool) → m ≤ n → IsTrue (is_quoted_line n line || b)
     → IsTrue (is_quoted_line m line || b)

@@ -43,13 +43,7 @@ any_reverse p (x ∷ xs) =
 pub one_holds : (p i : ℕ) (xs : List declared.Level) (x : declared.Level) → i < length xs → x ≡ get_or xs i x
     → holds p (level x) ≡ true → any_holds p (map level (drop i xs)) ≡ any_holds p (map level xs)
     → true ≡ any_holds p (map level (reverse xs))
-one_holds p i xs x h item told others = sym (any_reverse p xs ∙ sym others ∙ head)
-  where
-    front : drop i xs ≡ x ∷ drop (suc i) xs
-    front = drop-cons xs i x h ∙ ap (λ y. y ∷ drop (suc i) xs) (sym item)
-
-    head : any_holds p (map level (drop i xs)) ≡ true
-    head = ap (λ ys. any_holds p (map level ys)) front ∙ ap (λ c. c || any_holds p (map level (drop (suc i) xs))) told
+one_holds p i xs x h item known others = grind (arith, any_reverse, drop-cons)
 
 drop_nothing : {X : Type 0} → (n : ℕ) → drop {A = X} n [] ≡ []
 drop_nothing n = grind arith

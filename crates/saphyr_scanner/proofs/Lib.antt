@@ -1,7 +1,7 @@
 pub mod Queues
 pub mod Parts
-pub mod Given
 pub mod Turns
+pub mod Grown
 pub mod Unroll
 pub mod Filling
 pub mod Blocks
@@ -30,5 +30,6 @@ pub mod RightHere
 pub mod Dashes
 pub mod Feeds
 pub mod GapPlaces
-pub mod Told
+pub mod Refusing
 pub mod Steps
+pub mod WhatCame

@@ -148,16 +148,8 @@ pub record OnLine (s t : Cursor) : Type 0 where
   pub apart : AreApart s t
 
 tail_on_line : (s : Cursor) (n : ℕ) → Tail s.mark s.rest n → OnLine s (pass_blanks n s)
-tail_on_line s n t = record {
-  on_line = (t.tail, t.behind, t.line, t.is, ap (λ i. along s.mark i) (sym t.count));
-  apart = rw t.rest at t.apart;
-}
+tail_on_line s n t = grind arith
 
 pub separation_passes : (s : Cursor) → Given (λ (x : SkipTabs × Cursor). OnLine s x.1) (separation Yes s)
 unfolding separation behind_separation
-separation_passes s =
-    let P : SkipTabs × Cursor → Type 0 = λ x. OnLine s x.1 in
-    let t : Cursor = pass_blanks (separation_len Yes s.rest) s in
-    by_test (nat_lt 0 t.mark.col && is_bom (slice_index t.rest 0)) _ _ (Given P) (λ _. tt)
-    (λ _. by_test (is_bare_comment Yes s.rest) _ _ (Given P) (λ _. tt)
-    (λ _. tail_on_line s (separation_len Yes s.rest) (separation_tail s.mark s.rest)))
+separation_passes s = grind (arith, tail_on_line, separation_tail)

@@ -1,5 +1,5 @@
 -- Texts of one line: names, tags, and blanks with a comment.
-use Rattle.std.proofs.Common.{◌≡◌, ℕ, ◌⊎◌, List, [], refl, sym, subst, inl, inr}
+use Rattle.std.proofs.Common.{◌≡◌, ℕ, ◌⊎◌, List, [], refl, sym, subst, inl, inr, arith}
 use Rattle.std.specs.Prelude.{codes}
 use Rattle.saphyr_input.specs.Classes.{is_blank, is_yaml_non_break, is_anchor_char, is_tag_char, is_uri_char}
 use Rattle.saphyr_scalar.specs.Spelling.Directive.{IsLineTail, IsTailComment}
@@ -17,9 +17,4 @@ tag_no_break t handle suffix (inr (inr h)) = subst NoBreaks (sym h.4)
     (no_breaks_both handle h.0 (handle_no_break handle h.1) (decoded_no_break is_tag_char refl refl suffix h.0 h.3))
 
 pub tail_no_break : (t : List ℕ) → IsLineTail t → NoBreaks t
-tail_no_break t h = subst NoBreaks (sym h.4)
-    (no_breaks_both h.0 h.1 (no_breaks_in is_blank refl refl h.0 h.2) (comment h.3))
-  where
-    comment : ((h.1 ≡ []) ⊎ IsTailComment h.0 h.1) → NoBreaks h.1
-    comment (inl e) = subst NoBreaks (sym e) tt
-    comment (inr w) = subst NoBreaks (sym w.3) (refl, no_breaks_in is_yaml_non_break refl refl w.0 w.2)
+tail_no_break t h = grind (arith, no_breaks_both, no_breaks_in)

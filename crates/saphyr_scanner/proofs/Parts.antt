@@ -1,18 +1,9 @@
 -- The parts of a token, from its texts one after another.
-use Rattle.std.proofs.Common.{◌≡◌, ◌∙◌, ap, List, ◌++◌, length, drop, take, ℕ}
+use Rattle.std.proofs.Common.{◌≡◌, ◌∙◌, ap, List, ◌++◌, length, drop, take, ℕ, arith}
 use Rattle.std.proofs.Math.Seq.{take-length, take-append_seam, drop-append_seam}
 use Rattle.saphyr_scanner.specs.declared.queue.texts.Extent.{Extent}
 use Rattle.saphyr_scanner.specs.Views.Places.{parts_at}
 
 pub all_parts : (e : Extent) (handle text : List ℕ) → e.handle ≡ length handle → e.text ≡ length text
     → parts_at e (handle ++ text) ≡ record { handle = handle; text = text; major = e.major; minor = e.minor }
-all_parts e handle text h k =
-    let front = ap (λ n. take n (handle ++ text)) h ∙ take-append_seam handle text in
-    let back = ap (λ n. drop n (handle ++ text)) h ∙ drop-append_seam handle text in
-    let whole = ap (λ n. take n text) k ∙ take-length text in
-    λ i. record {
-      handle = front i;
-      text = (ap (take e.text) back ∙ whole) i;
-      major = e.major;
-      minor = e.minor;
-    }
+all_parts e handle text h k = grind (arith, take-append_seam, drop-append_seam, take-length)

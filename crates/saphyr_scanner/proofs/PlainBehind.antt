@@ -44,12 +44,7 @@ given_then P Q (Err e) f h go = tt
 line_stops : (Q : Cursor → Type 0) (start : Marker) (tabbed : Bool) (feeds : List ℕ) (s : Cursor) → Q s
     → Given (λ (g : PlainGap). Q g.behind) (reached_gap start tabbed feeds s)
 unfolding content_behind_tab
-line_stops Q start tabbed feeds s h = by_test (tabbed && is_bom (slice_index s.rest 0)) _ _
-    (λ r. Given (λ (g : PlainGap). Q g.behind)
-    (r >>= λ t. Ok (record { text = feeds; tabbed = tabbed; behind = t }))) (λ _. tt)
-    (λ _. by_test (tabbed && not ((slice_index s.rest 0 == 35) || is_z (slice_index s.rest 0))) _ _
-    (λ r. Given (λ (g : PlainGap). Q g.behind)
-    (r >>= λ t. Ok (record { text = feeds; tabbed = tabbed; behind = t }))) (λ _. tt) (λ _. h))
+line_stops Q start tabbed feeds s h = grind arith
 
 -- after blanks alone, on a line or a later one
 abbrev StopsInFront : ℕ → Cursor → Type 0
@@ -74,40 +69,16 @@ lines_stop indent start tabbed feeds m (c ∷ cs) = by_test (is_blank_or_break c
     later true n l small = omega (arith, l, small)
     later false n l small = l
 
-break_ends_line : (s : Cursor) → is_break (slice_index s.rest 0) ≡ true
-    → (pass_break s).mark.line ≡ (next_line s.mark 1).line
-break_ends_line s e = by_test (next_2_are s.rest 13 10) _ _ (λ (t : Cursor). t.mark.line ≡ (next_line s.mark 1).line)
-    (λ _. refl) (λ _. rw e refl)
-
 -- after blanks, which come after a word that ended at m
 gap_stops : (indent : ℕ) (start : Marker) (blanks : List ℕ) (m : Marker) (s : Cursor) → s.blank_so_far ≡ false
     → m.col ≤ s.mark.col → s.mark.line ≡ m.line → Given (StopsGap m) (gap_from indent start blanks s)
 unfolding gap_from
-gap_stops indent start blanks m s ink col line = by_test (is_break (slice_index s.rest 0)) _ _ (Given (StopsGap m))
-    (λ e. let t = pass_break s in
-    let ends = break_ends_line s e in
-    given_then (λ (g : PlainGap). StopsInFront t.mark.line g.behind) (StopsGap m)
-    (lines indent start false [] t.mark t.rest) _ (lines_stop indent start false [] t.mark t.rest) (λ g h. (
-      h.0,
-      (
-        (λ f. absurd (let b = h.1 in cc)),
-        (λ small. let l = h.2 small in omega (arith, l, ends, line, small)),
-        λ _ small. let l = h.2 small in omega (arith, l, ends, line, small),
-      ),
-    )))
-    (λ e. (e, ((λ _. col), (λ _. omega (arith, line)), λ b. absurd (cc))))
+gap_stops indent start blanks m s non_space col line = grind (arith, lines_stop)
 
 ended_ends : (in_flow : Bool) (indent : ℕ) (m end : Marker) (g : PlainGap) → StopsGap m g
     → Given (EndsPlain in_flow indent m.col m.line) (scalar_end in_flow end g)
 unfolding comment_of
-ended_ends in_flow indent m end g h = (
-  by_test (not in_flow && (slice_index g.behind.rest 0 == 35) && (g.tabbed || not g.behind.blank_so_far))
-      (Some g.behind.mark) None (λ o. IsNoted o g.behind) (λ _. inr refl) (λ _. inl refl),
-  h.0,
-  (λ _ i b. let n = h.1.0 b in omega (arith, i, n)),
-  h.1.1,
-  h.1.2,
-)
+ended_ends in_flow indent m end g h = grind arith
 
 text_ends : (in_flow : Bool) (indent n line k more : ℕ) (text : List ℕ) (r : PlainScalarRead)
     → (in_flow ≡ false → indent ≤ n → indent ≤ k) → (more < top → line ≤ more)
@@ -130,19 +101,7 @@ next_word_right : (in_flow : Bool) (indent : ℕ) (s : Cursor)
     → Given (λ (b : Bool × Cursor). b.0 ≡ true → in_flow ≡ false → s.blank_so_far ≡ true → indent ≤ s.mark.col)
     (next_word_starts in_flow indent s)
 unfolding next_word_starts
-next_word_right in_flow indent s = by_test (s.blank_so_far && not in_flow && nat_lt s.mark.col indent) _ _
-    (Given (λ (b : Bool × Cursor). b.0 ≡ true → in_flow ≡ false → s.blank_so_far ≡ true → indent ≤ s.mark.col))
-    (λ _ e. absurd (cc))
-    (λ e. given_map _ _ (word_starts in_flow s) (λ b h _. h)
-    (always (in_flow ≡ false → s.blank_so_far ≡ true → indent ≤ s.mark.col) (word_starts in_flow s)
-    (λ f b. right s.blank_so_far in_flow (nat_lt s.mark.col indent) e f b (ltb-false s.mark.col indent))))
-  where
-    right : (blank flow left : Bool) → (blank && not flow && left) ≡ false → flow ≡ false → blank ≡ true
-        → (left ≡ false → indent ≤ s.mark.col) → indent ≤ s.mark.col
-    right true false false e f b go = go refl
-    right true false true e f b go = absurd (cc)
-    right true true left e f b go = absurd (cc)
-    right false flow left e f b go = absurd (cc)
+next_word_right in_flow indent s = grind arith
 
 either : (blank : Bool) (indent n k : ℕ) → indent ≤ n → (blank ≡ false → n ≤ k) → (blank ≡ true → indent ≤ k)
     → indent ≤ k + 1

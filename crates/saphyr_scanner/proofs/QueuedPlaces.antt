@@ -1,5 +1,5 @@
 -- Places of a queue, over their texts.
-use Rattle.std.proofs.Common.{◌≡◌, ◌+◌, ◌-◌, ◌≤◌, ◌<◌, List, [], ◌∷◌, ◌++◌, length, drop, take, refl, sym, ap, subst, arith, ◌∙◌, ℕ, zero, suc, true, false, Bool, append-nil, append_assoc}
+use Rattle.std.proofs.Common.{◌≡◌, ◌+◌, ◌-◌, ◌≤◌, ◌<◌, List, [], ◌∷◌, ◌++◌, length, drop, take, refl, sym, ap, subst, arith, ◌∙◌, ℕ, zero, suc, true, false, Bool, nat_lt, append-nil, append_assoc}
 use Rattle.std.specs.Prelude.{Option, Some, None, unwrap_or, set, slice_index_or, IsUtf8}
 use Rattle.std.specs.Borrow.{Bor}
 use Rattle.std.specs.List.{HoldsAt}
@@ -20,25 +20,28 @@ use Rattle.saphyr_scanner.specs.declared.token.TokenKind.{TokenKind}
 use Rattle.saphyr_scanner.specs.Grammar.Tokens.{Kind}
 use Rattle.saphyr_scanner.specs.Steps.Queue as seen
 use Rattle.saphyr_scanner.specs.Steps.Queue.{bare_place, is_empty_list, places_with_opening, take_of}
-use Rattle.saphyr_scanner.specs.Views.Texts.{Texts, BeginsWithText, IsTextOf, behind_text, first_extent, nothing, with_last_extent, with_last_text}
-use Rattle.saphyr_scanner.specs.Views.Places.{AddsBehind, Fit, HasTexts, HasTextsOf, extent_at, extent_of, is_apart, near_span, parts_at, place_at, places_at, texts_behind, texts_behind_of, token_with}
+use Rattle.saphyr_scanner.specs.Views.Texts.{Texts, BeginsWithText, BeginsWithTexts, IsTextOf, behind_text, first_extent, nothing, with_last_extent, with_last_text}
+use Rattle.saphyr_scanner.specs.Views.Places.{AddsBehind, Fit, HasTexts, HasTextsOf, extent_at, extent_of, opening_code, handle_length, is_apart, coded_opening, with_opening_of, near_span, parts_at, place_at, places_at, texts_behind, texts_behind_of, token_with}
 use Rattle.saphyr_scanner.specs.Views.Queue.{BeginsWithPlace, behind_first, first_of, queue, queue_places}
-use Rattle.saphyr_scanner.specs.Views.Tokens.{Parts, Piece, kind_with, piece_with, text_alone, text_of, token_kind}
+use Rattle.saphyr_scanner.specs.Views.Tokens.{Parts, Piece, kind_with, piece_with, text_of, texts_alone, token_kind}
 use Rattle.saphyr_scanner.proofs.Queues.{queue_at}
 
 -- ## Kinds and parts
 
-pub kind_told : (k : TokenKind) (x : Parts) → token_kind (kind_with k x) ≡ k
-kind_told k x = grind arith
+pub kind_kept : (k : TokenKind) (x : Parts) → token_kind (kind_with k x) ≡ k
+kind_kept k x = grind arith
 
 pub kind_parts : (kind : Kind) (k : TokenKind) (x : Parts) → kind ≡ kind_with k x
     → kind ≡ kind_with (token_kind kind) x
-kind_parts kind k x e = e ∙ ap (λ j. kind_with j x) (sym (ap token_kind e ∙ kind_told k x))
+kind_parts kind k x e = e ∙ ap (λ j. kind_with j x) (sym (ap token_kind e ∙ kind_kept k x))
 
 -- ## More texts come behind
 
 -- what finds a text among the others
 pub ruleset text_found = (drop-drop, IsUtf8-had)
+
+-- what shows that two texts are among them
+pub ruleset texts_there = (drop-drop, length-drop)
 
 abbrev joined : Texts → Texts → Texts
 joined s t = record { bytes = s.bytes ++ t.bytes; extents = s.extents ++ t.extents }
@@ -53,58 +56,75 @@ text_more k s t h =
     let within = h.0 in
     (omega (arith, count, within), subst (λ bs. ∥ IsUtf8 bs ∥₁) (sym (take-append-le k s.bytes t.bytes h.0)) h.1)
 
-behind_text_more : (k : ℕ) (s t : Texts) → k ≤ length s.bytes
-    → behind_text k (joined s t) ≡ joined (behind_text k s) t
-behind_text_more k s t h =
-    ap (λ bs. record { bytes = bs; extents = s.extents ++ t.extents }) (drop-append-le k s.bytes t.bytes h)
+texts_more : (n m : ℕ) (s t : Texts) → BeginsWithTexts n m s
+    → BeginsWithTexts n m (joined s t)
+    × (behind_text m (behind_text n (joined s t)) ≡ joined (behind_text m (behind_text n s)) t)
+texts_more n m s t h =
+    let first = drop-append-le n s.bytes t.bytes h.0.0 in
+    let second = drop-append-le m (drop n s.bytes) t.bytes h.1.0 in (
+      (
+        text_more n s t h.0,
+        subst (λ bs. BeginsWithText m (record { bytes = bs; extents = s.extents ++ t.extents })) (sym first)
+            (text_more m (behind_text n s) t h.1),
+      ),
+      ap (λ bs. record { bytes = drop m bs; extents = s.extents ++ t.extents }) first
+          ∙ ap (λ bs. record { bytes = bs; extents = s.extents ++ t.extents }) second,
+    )
 
-has_more : (apart : Bool) (count : ℕ) (s t : Texts) → HasTextsOf apart count s → HasTextsOf apart count (joined s t)
-has_more false count s t h = text_more count s t h
-has_more true count s t h =
+has_more : (apart : Bool) (handle count : ℕ) (s t : Texts) → HasTextsOf apart handle count s
+    → HasTextsOf apart handle count (joined s t)
+has_more false handle count s t h = (h.0, (texts_more handle (count - handle) s t h.1).0)
+has_more true handle count s t h =
     let both = length-append s.extents t.extents in
     let some = h.0 in
     let e = first_extent s.extents in
-    rw (first_stays s.extents t.extents h.0) (
-      omega (arith, both, some),
-      text_more e.handle s t h.1,
-      subst (BeginsWithText e.text) (sym (behind_text_more e.handle s t h.1.0))
-          (text_more e.text (behind_text e.handle s) t h.2),
-    )
+    rw (first_stays s.extents t.extents h.0) (omega (arith, both, some), (texts_more e.handle e.text s t h.1).0)
 
-behind_more : (apart : Bool) (count : ℕ) (s t : Texts) → HasTextsOf apart count s
+-- all bytes of both texts
+pub all_within : (handle count : ℕ) (s : Texts) → handle ≤ count → BeginsWithTexts handle (count - handle) s
+    → count ≤ length s.bytes
+all_within handle count s most h =
+    let first = h.0.0 in
+    let second = h.1.0 in
+    let left = length-drop handle s.bytes in omega (arith, most, first, second, left)
+
+behind_more : (apart : Bool) (handle count : ℕ) (s t : Texts) → HasTextsOf apart handle count s
     → texts_behind_of apart count (joined s t) ≡ joined (texts_behind_of apart count s) t
-behind_more false count s t h = behind_text_more count s t h.0
-behind_more true count s t h =
+behind_more false handle count s t h =
+    ap (λ bs. record { bytes = bs; extents = s.extents ++ t.extents })
+    (drop-append-le count s.bytes t.bytes (all_within handle count s h.0 h.1))
+behind_more true handle count s t h =
     let e = first_extent s.extents in
-    let first = drop-append-le e.handle s.bytes t.bytes h.1.0 in
-    let second = drop-append-le e.text (drop e.handle s.bytes) t.bytes h.2.0 in
+    let both = (texts_more e.handle e.text s t h.1).1 in
     let rest = drop-append-le 1 s.extents t.extents h.0 in
-    rw (first_stays s.extents t.extents h.0) (cc (first, second, rest))
+    rw (first_stays s.extents t.extents h.0) (λ i. record { bytes = (both i).bytes; extents = rest i })
 
 -- the texts of a token
-pub has_parts : (apart : Bool) (span : Span) (count : ℕ) (s : Texts) → HasTextsOf apart count s
-    → BeginsWithText (extent_of apart span count s).handle s
-    × BeginsWithText (extent_of apart span count s).text (behind_text (extent_of apart span count s).handle s)
-has_parts true span count s h = (h.1, h.2)
-has_parts false span count s h = ((omega arith, ∣ IsUtf8-nil ∣₁), h)
+pub has_parts : (apart : Bool) (span : Span) (handle count : ℕ) (s : Texts) → HasTextsOf apart handle count s
+    → BeginsWithTexts (extent_of apart span handle count s).handle (extent_of apart span handle count s).text s
+has_parts true span handle count s h = h.1
+has_parts false span handle count s h = h.1
 
-pub has_text : (p : Place) (s : Texts) → (p.count ≡ 255 → ⊥) → HasTexts p s → BeginsWithText p.count s
-has_text p s here h =
-    let is : is_apart p ≡ false = grind (arith, nat_tests) in subst (λ apart. HasTextsOf apart p.count s) is h
+pub has_texts : (p : Place) (s : Texts) → (p.count ≡ 255 → ⊥) → HasTexts p s
+    → (handle_length p.front ≤ p.count) × BeginsWithTexts (handle_length p.front) (p.count - handle_length p.front) s
+has_texts p s here h =
+    let is : is_apart p ≡ false = grind (arith, nat_tests) in
+    subst (λ apart. HasTextsOf apart (handle_length p.front) p.count s) is h
 
-extent_stays : (apart : Bool) (span : Span) (count : ℕ) (s t : Texts) → HasTextsOf apart count s
-    → extent_of apart span count (joined s t) ≡ extent_of apart span count s
-extent_stays true span count s t h = first_stays s.extents t.extents h.0
-extent_stays false span count s t h = refl
+extent_stays : (apart : Bool) (span : Span) (handle count : ℕ) (s t : Texts) → HasTextsOf apart handle count s
+    → extent_of apart span handle count (joined s t) ≡ extent_of apart span handle count s
+extent_stays true span handle count s t h = first_stays s.extents t.extents h.0
+extent_stays false span handle count s t h = refl
 
 token_stays : (p : Place) (s t : Texts) → HasTexts p s → place_at p (joined s t) ≡ place_at p s
 token_stays p s t h =
     let e = extent_at p s in
-    let has = has_parts (is_apart p) (near_span p.start p.length) p.count s h in
+    let has = has_parts (is_apart p) (near_span p.start p.length) (handle_length p.front) p.count s h in
     let handle = take-append-le e.handle s.bytes t.bytes has.0.0 in
     let first = drop-append-le e.handle s.bytes t.bytes has.0.0 in
     let text = take-append-le e.text (drop e.handle s.bytes) t.bytes has.1.0 in
-    rw (extent_stays (is_apart p) (near_span p.start p.length) p.count s t h) (cc (handle, first, text))
+    rw (extent_stays (is_apart p) (near_span p.start p.length) (handle_length p.front) p.count s t h)
+    (cc (handle, first, text))
 
 fit_more : (ps qs : List Place) (s t : Texts) → Fit ps s → Fit qs t
     → Fit (ps ++ qs) (joined s t) × (places_at (ps ++ qs) (joined s t) ≡ places_at ps s ++ places_at qs t)
@@ -112,8 +132,8 @@ fit_more [] qs s t h k =
     subst (λ r. Fit qs (joined r t) × (places_at qs (joined r t) ≡ places_at qs t)) (sym h) (k, refl)
 fit_more (p ∷ ps) qs s t h k =
     let later = fit_more ps qs (texts_behind p s) t h.1 k in
-    let same = behind_more (is_apart p) p.count s t h.0 in (
-      (has_more (is_apart p) p.count s t h.0, subst (Fit (ps ++ qs)) (sym same) later.0),
+    let same = behind_more (is_apart p) (handle_length p.front) p.count s t h.0 in (
+      (has_more (is_apart p) (handle_length p.front) p.count s t h.0, subst (Fit (ps ++ qs)) (sym same) later.0),
       (λ i. token_stays p s t h.0 i ∷ places_at (ps ++ qs) (same i)) ∙ ap (λ rs. place_at p s ∷ rs) later.1,
     )
 
@@ -128,14 +148,18 @@ adds t p old more new alone is =
     let both = fit_more ps (p ∷ []) old more h alone.0 in
     (both.0, both.1 ∙ ap (λ qs. places_at ps old ++ qs) alone.1))
 
-alone : (p : Place) (apart : Bool) (s : Texts) → is_apart p ≡ apart → p.opening ≡ opening.Nothing
-    → HasTextsOf apart p.count s → texts_behind_of apart p.count s ≡ nothing
-    → AddsAlone (token_with (extent_of apart (near_span p.start p.length) p.count s) p.kind s.bytes) p s
+alone : (p : Place) (apart : Bool) (s : Texts) → is_apart p ≡ apart → coded_opening p.front ≡ opening.Nothing
+    → HasTextsOf apart (handle_length p.front) p.count s → texts_behind_of apart p.count s ≡ nothing
+    → AddsAlone (token_with (extent_of apart (near_span p.start p.length) (handle_length p.front) p.count s)
+    p.kind s.bytes) p s
 alone p apart s is bare has left = (
-  (subst (λ w. HasTextsOf w p.count s) (sym is) has, ap (λ w. texts_behind_of w p.count s) is ∙ left),
+  (
+    subst (λ w. HasTextsOf w (handle_length p.front) p.count s) (sym is) has,
+    ap (λ w. texts_behind_of w p.count s) is ∙ left,
+  ),
   λ i. record {
     opening = bare i;
-    piece = token_with (extent_of (is i) (near_span p.start p.length) p.count s) p.kind s.bytes;
+    piece = token_with (extent_of (is i) (near_span p.start p.length) (handle_length p.front) p.count s) p.kind s.bytes;
   } ∷ [],
 )
 
@@ -143,54 +167,83 @@ alone p apart s is bare has left = (
 all_bytes : (k : ℕ) (text : List ℕ) → k ≡ length text → (take k text ≡ text) × (drop k text ≡ [])
 all_bytes k text h = (ap (λ n. take n text) h ∙ take-length text, ap (λ n. drop n text) h ∙ drop-length text)
 
--- the token of a text alone, by its extent
-pub text_piece : (e : Extent) (span : Span) (kind : TokenKind) (count : ℕ) (text : List ℕ)
-    → e ≡ extent_of false span count nothing → count ≡ length text
-    → piece_with e.span kind (parts_at e ([] ++ text)) ≡ piece_with span kind (text_alone text)
-text_piece e span kind count text is h =
-    ap (λ x. piece_with x.span kind (parts_at x text)) is
-    ∙ ap (λ bs. piece_with span kind (text_alone bs)) (all_bytes count text h).0
+-- two texts alone, one behind the other
+record Both (n m : ℕ) (a b : List ℕ) : Type 0 where
+  pub front : take n (a ++ b) ≡ a
+  pub back : drop n (a ++ b) ≡ b
+  pub has : (extents : List Extent) → BeginsWithTexts n m (record { bytes = a ++ b; extents = extents })
+  pub text : take m (drop n (a ++ b)) ≡ b
+  pub left : drop m (drop n (a ++ b)) ≡ []
 
-pub adds_here : (p : Place) (text : List ℕ) (s : Texts) → p.count < 255 → p.opening ≡ opening.Nothing
-    → IsTextOf p.count text
-    → AddsBehind (piece_with (near_span p.start p.length) p.kind (text_alone text)) p s (with_last_text text s)
-adds_here p text s short bare h =
-    let more : Texts = record { bytes = text; extents = [] } in
-    let whole = all_bytes p.count text h.0 in
-    let count = h.0 in
+both_texts : (n m : ℕ) (a b : List ℕ) → IsTextOf n a → IsTextOf m b → Both n m a b
+both_texts n m a b h k =
+    let front : take n (a ++ b) ≡ a = ap (λ i. take i (a ++ b)) h.0 ∙ take-append_seam a b in
+    let back : drop n (a ++ b) ≡ b = ap (λ i. drop i (a ++ b)) h.0 ∙ drop-append_seam a b in
+    let whole = all_bytes m b k.0 in
+    let count = length-append a b in
+    let first = h.0 in
+    let second = k.0 in
+    record {
+      front = front;
+      back = back;
+      has = λ extents. (
+        (omega (arith, count, first), subst (λ bs. ∥ IsUtf8 bs ∥₁) (sym front) h.1),
+        (
+          rw back (omega (arith, second)),
+          subst (λ bs. ∥ IsUtf8 (take m bs) ∥₁) (sym back) (subst (λ bs. ∥ IsUtf8 bs ∥₁) (sym whole.0) k.1),
+        ),
+      );
+      text = ap (take m) back ∙ whole.0;
+      left = ap (drop m) back ∙ whole.1;
+    }
+
+-- the token of this extent, which has no numbers
+pub texts_piece : (e : Extent) (span : Span) (kind : TokenKind) (n m : ℕ) (a b : List ℕ)
+    → e ≡ record { span = span; handle = n; text = m; major = 0; minor = 0 } → IsTextOf n a → IsTextOf m b
+    → piece_with e.span kind (parts_at e (a ++ b)) ≡ piece_with span kind (texts_alone a b)
+texts_piece e span kind n m a b is h k =
+    let both = both_texts n m a b h k in
+    ap (λ (x : Extent). piece_with x.span kind (parts_at x (a ++ b))) is
+    ∙ λ i. piece_with span kind (texts_alone (both.front i) (both.text i))
+
+pub adds_here : (p : Place) (handle text : List ℕ) (s : Texts) → p.count < 255 → p.front < 64 → p.front ≤ p.count
+    → IsTextOf p.front handle → IsTextOf (p.count - p.front) text
+    → AddsBehind (piece_with (near_span p.start p.length) p.kind (texts_alone handle text)) p s
+    (with_last_text text (with_last_text handle s))
+adds_here p handle text s short low most h k =
+    let more : Texts = record { bytes = handle ++ text; extents = [] } in
+    let same : handle_length p.front ≡ p.front = omega (arith, low) in
+    let both = both_texts (handle_length p.front) (p.count - handle_length p.front) handle text
+    (subst (λ n. IsTextOf n handle) (sym same) h) (subst (λ n. IsTextOf (p.count - n) text) (sym same) k) in
     let here : is_apart p ≡ false = grind (arith, nat_tests, short) in
-    adds (piece_with (near_span p.start p.length) p.kind (text_alone text)) p s more (with_last_text text s)
-    (subst (λ bs. AddsAlone (piece_with (near_span p.start p.length) p.kind (text_alone bs)) p more) whole.0
-    (alone p false more here bare (omega (arith, count), subst (λ bs. ∥ IsUtf8 bs ∥₁) (sym whole.0) h.1)
-    (ap (λ bs. record { bytes = bs; extents = [] }) whole.1)))
-    (λ i. record { bytes = s.bytes ++ text; extents = append-nil s.extents i })
+    let bare : coded_opening p.front ≡ opening.Nothing = rw (low_front p.front low) refl in
+    let first = h.0 in
+    let second = k.0 in
+    let whole = length-append handle text in
+    adds (piece_with (near_span p.start p.length) p.kind (texts_alone handle text)) p s more
+    (with_last_text text (with_last_text handle s))
+    (subst (λ x. AddsAlone (piece_with (near_span p.start p.length) p.kind x) p more)
+    (λ i. texts_alone (both.front i) (both.text i))
+    (alone p false more here bare (omega (arith, same, most), both.has [])
+    (ap (λ bs. record { bytes = bs; extents = [] })
+    (all_bytes p.count (handle ++ text) (omega (arith, first, second, whole, most))).1)))
+    (λ i. record { bytes = sym (append_assoc s.bytes handle text) i; extents = append-nil s.extents i })
+  where
+    low_front : (n : ℕ) → n < 64 → nat_lt n 64 ≡ true
+    low_front n h = grind (arith, nat_tests)
 
 pub adds_apart : (p : Place) (e : Extent) (handle text : List ℕ) (s : Texts) → p.count ≡ 255
-    → p.opening ≡ opening.Nothing → IsTextOf e.handle handle → IsTextOf e.text text
+    → p.front ≡ 0 → IsTextOf e.handle handle → IsTextOf e.text text
     → AddsBehind (piece_with e.span p.kind (parts_at e (handle ++ text))) p s
     (with_last_extent e (with_last_text text (with_last_text handle s)))
 adds_apart p e handle text s far bare h k =
     let more : Texts = record { bytes = handle ++ text; extents = e ∷ [] } in
-    let count = length-append handle text in
-    let first = h.0 in
-    let second = k.0 in
-    let front : take e.handle (handle ++ text) ≡ handle =
-    ap (λ n. take n (handle ++ text)) h.0 ∙ take-append_seam handle text in
-    let back : drop e.handle (handle ++ text) ≡ text =
-    ap (λ n. drop n (handle ++ text)) h.0 ∙ drop-append_seam handle text in
-    let whole = all_bytes e.text text k.0 in
+    let both = both_texts e.handle e.text handle text h k in
     let apart : is_apart p ≡ true = grind (arith, nat_tests, far) in
     adds (piece_with e.span p.kind (parts_at e (handle ++ text))) p s more
     (with_last_extent e (with_last_text text (with_last_text handle s)))
-    (alone p true more apart bare (
-      omega arith,
-      (omega (arith, count, first), subst (λ bs. ∥ IsUtf8 bs ∥₁) (sym front) h.1),
-      (
-        rw back (omega (arith, second)),
-        rw back (subst (λ bs. ∥ IsUtf8 bs ∥₁) (sym whole.0) k.1),
-      ),
-    ) (ap (λ bs. record { bytes = drop e.text bs; extents = [] }) back
-    ∙ ap (λ bs. record { bytes = bs; extents = [] }) whole.1))
+    (alone p true more apart (ap coded_opening bare) (omega arith, both.has (e ∷ []))
+    (ap (λ bs. record { bytes = bs; extents = [] }) both.left))
     (λ i. record { bytes = sym (append_assoc s.bytes handle text) i; extents = s.extents ++ e ∷ [] })
 
 -- The token of a place that is put behind the others comes behind theirs.
@@ -263,7 +316,7 @@ unfolding queue_places
 first_queued q p h = ap (λ ps. queue_at (places_at ps q.texts) q.handed) h
 
 -- With nothing in front, its token is handed out next.
-pub first_taken : (q : Queue) (p : Place) → BeginsWithPlace (Some p) q → p.opening ≡ opening.Nothing
+pub first_taken : (q : Queue) (p : Place) → BeginsWithPlace (Some p) q → coded_opening p.front ≡ opening.Nothing
     → seen.take (queue q) ≡ (Some (place_at p q.texts).piece, queue_at (places_behind p q) (q.handed + 1))
 first_taken q p h bare =
     let ps = places_behind p q in
@@ -271,13 +324,13 @@ first_taken q p h bare =
     ∙ ap (λ o. take_of o (place_at p q.texts) ps (queue_at (place_at p q.texts ∷ ps) q.handed)) bare
 
 -- That is the token which is looked at.
-pub first_is : (q : Queue) (p : Place) (t : Piece) → BeginsWithPlace (Some p) q → p.opening ≡ opening.Nothing
-    → first_of (queue q) ≡ Some t → (place_at p q.texts).piece ≡ t
+pub first_is : (q : Queue) (p : Place) (t : Piece) → BeginsWithPlace (Some p) q
+    → coded_opening p.front ≡ opening.Nothing → first_of (queue q) ≡ Some t → (place_at p q.texts).piece ≡ t
 first_is q p t h bare is = ap (λ r. unwrap_or r t) (sym (ap (λ x. x.0) (first_taken q p h bare)) ∙ is)
 
 -- Then those behind it are left.
 pub first_left : (q : Queue) (p : Place) (s : Texts) (new : seen.Queue) → BeginsWithPlace (Some p) q
-    → p.opening ≡ opening.Nothing → s ≡ texts_behind p q.texts
+    → coded_opening p.front ≡ opening.Nothing → s ≡ texts_behind p q.texts
     → new ≡ queue_at (places_at (drop (q.spent + 1) q.places.items) s) (q.handed + 1) → new ≡ behind_first (queue q)
 first_left q p s new h bare left is =
     is ∙ ap (λ r. queue_at (places_at (drop (q.spent + 1) q.places.items) r) (q.handed + 1)) left
@@ -287,19 +340,28 @@ first_left q p s new h bare left is =
 abbrev pub IsFront : Piece → Type 0
 IsFront t = (text_of t.kind ≡ None) × ((x : Parts) → t.kind ≡ kind_with (token_kind t.kind) x)
 
-front_of : (o : Opening) (p : seen.Place) (ps : List seen.Place) (q : seen.Queue) (t : Piece)
+front_token : (o : Opening) (p : seen.Place) (ps : List seen.Place) (q : seen.Queue) (t : Piece)
     → (o ≡ opening.Nothing → ⊥) → (take_of o p ps q).0 ≡ Some t → IsFront t
-front_of opening.Nothing p ps q t some is = absurd (some refl)
-front_of opening.Key p ps q t some is = subst IsFront (ap (λ r. unwrap_or r t) is) (refl, λ x. refl)
-front_of opening.BlockMappingAndKey p ps q t some is = subst IsFront (ap (λ r. unwrap_or r t) is) (refl, λ x. refl)
-front_of opening.FlowMappingAndKey p ps q t some is = subst IsFront (ap (λ r. unwrap_or r t) is) (refl, λ x. refl)
+front_token opening.Nothing p ps q t some is = absurd (some refl)
+front_token opening.Key p ps q t some is = subst IsFront (ap (λ r. unwrap_or r t) is) (refl, λ x. refl)
+front_token opening.BlockMappingAndKey p ps q t some is = subst IsFront (ap (λ r. unwrap_or r t) is) (refl, λ x. refl)
+front_token opening.FlowMappingAndKey p ps q t some is = subst IsFront (ap (λ r. unwrap_or r t) is) (refl, λ x. refl)
 
-pub front_taken : (q : Queue) (p : Place) (t : Piece) → BeginsWithPlace (Some p) q → (p.opening ≡ opening.Nothing → ⊥)
-    → first_of (queue q) ≡ Some t → IsFront t
+pub front_taken : (q : Queue) (p : Place) (t : Piece) → BeginsWithPlace (Some p) q
+    → (coded_opening p.front ≡ opening.Nothing → ⊥) → first_of (queue q) ≡ Some t → IsFront t
 front_taken q p t h some is =
     let ps = places_behind p q in
-    front_of p.opening (place_at p q.texts) ps (queue_at (place_at p q.texts ∷ ps) q.handed) t some
+    front_token (coded_opening p.front) (place_at p q.texts) ps (queue_at (place_at p q.texts ∷ ps) q.handed) t some
     (ap first_of (sym (first_queued q p h)) ∙ is)
+
+-- Behind the start of a mapping comes its first key.
+pub key_behind : (o : Opening) (p : seen.Place) (ps : List seen.Place) (q : seen.Queue)
+    → (o ≡ opening.Nothing → ⊥) → (o ≡ opening.Key → ⊥)
+    → (take_of o p ps q).1 ≡ record q { places = record { opening = opening.Key; piece = p.piece } ∷ ps }
+key_behind opening.Nothing p ps q some more = absurd (some refl)
+key_behind opening.Key p ps q some more = absurd (more refl)
+key_behind opening.BlockMappingAndKey p ps q some more = refl
+key_behind opening.FlowMappingAndKey p ps q some more = refl
 
 -- what tells of the token that is handed out next
 pub ruleset first_token =
@@ -307,17 +369,49 @@ pub ruleset first_token =
 
 -- ## One is opened
 
-abbrev pub with_front : Opening → Place → Place
-with_front o p = record p { opening = o }
+front_opens : (o : Opening) (n : ℕ)
+    → (coded_opening (opening_code o + handle_length n) ≡ o)
+    × (handle_length (opening_code o + handle_length n) ≡ handle_length n)
+front_opens o n = by_opening o (handle_length n) (omega arith)
+  where
+    by_opening : (o : Opening) (k : ℕ) → k < 64 → (coded_opening (opening_code o + k) ≡ o)
+        × (handle_length (opening_code o + k) ≡ k)
+    by_opening opening.Nothing k h =
+        let is : nat_lt (0 + k) 64 ≡ true = grind (arith, nat_tests, h) in (rw is refl, omega (arith, h))
+    by_opening opening.Key k h =
+        let no : nat_lt (64 + k) 64 ≡ false = grind (arith, nat_tests, h) in
+        let is : nat_lt (64 + k) 128 ≡ true = grind (arith, nat_tests, h) in (rw (no, is) refl, omega (arith, h))
+    by_opening opening.BlockMappingAndKey k h =
+        let no : nat_lt (128 + k) 64 ≡ false = grind (arith, nat_tests, h) in
+        let none : nat_lt (128 + k) 128 ≡ false = grind (arith, nat_tests, h) in
+        let is : nat_lt (128 + k) 192 ≡ true = grind (arith, nat_tests, h) in (rw (no, none, is) refl, omega (arith, h))
+    by_opening opening.FlowMappingAndKey k h =
+        let no : nat_lt (192 + k) 64 ≡ false = grind (arith, nat_tests, h) in
+        let none : nat_lt (192 + k) 128 ≡ false = grind (arith, nat_tests, h) in
+        let not_there : nat_lt (192 + k) 192 ≡ false = grind (arith, nat_tests, h) in
+        (rw (no, none, not_there) refl, omega (arith, h))
+
+first_opened : (o : Opening) (p : Place) (ps : List Place) (s : Texts)
+    → (Fit (p ∷ ps) s → Fit (with_opening_of o p ∷ ps) s)
+    × (places_at (with_opening_of o p ∷ ps) s ≡ places_with_opening zero o (places_at (p ∷ ps) s))
+first_opened o p ps s =
+    let opens = (front_opens o p.front).0 in
+    let same = (front_opens o p.front).1 in (
+      subst (λ n. HasTextsOf (is_apart p) n p.count s × Fit ps (texts_behind_of (is_apart p) p.count s)) (sym same),
+      λ i. record {
+        opening = opens i;
+        piece = token_with (extent_of (is_apart p) (near_span p.start p.length) (same i) p.count s) p.kind s.bytes;
+      } ∷ places_at ps (texts_behind p s),
+    )
 
 opened : (k : ℕ) (o : Opening) (ps : List Place) (q : Place) (s : Texts) → q ≡ slice_index_or ps k q
-    → (Fit ps s → Fit (set ps k (with_front o q)) s)
-    × (places_at (set ps k (with_front o q)) s ≡ places_with_opening k o (places_at ps s))
+    → (Fit ps s → Fit (set ps k (with_opening_of o q)) s)
+    × (places_at (set ps k (with_opening_of o q)) s ≡ places_with_opening k o (places_at ps s))
 opened k o [] q s e = (λ h. h, refl)
 opened zero o (p ∷ ps) q s e =
-    subst (λ r. (Fit (p ∷ ps) s → Fit (with_front o r ∷ ps) s)
-    × (places_at (with_front o r ∷ ps) s ≡ places_with_opening zero o (places_at (p ∷ ps) s)))
-    (sym e) (λ h. h, refl)
+    subst (λ r. (Fit (p ∷ ps) s → Fit (with_opening_of o r ∷ ps) s)
+    × (places_at (with_opening_of o r ∷ ps) s ≡ places_with_opening zero o (places_at (p ∷ ps) s)))
+    (sym e) (first_opened o p ps s)
 opened (suc k) o (p ∷ ps) q s e =
     let later = opened k o ps q (texts_behind p s) e in
     (λ h. (h.0, later.0 h.1), ap (λ rs. place_at p s ∷ rs) later.1)
@@ -325,15 +419,30 @@ opened (suc k) o (p ∷ ps) q s e =
 -- the same behind those that were handed out
 pub opened_behind : (q : Queue) (k : ℕ) (o : Opening) (p : Place)
     → p ≡ slice_index_or q.places.items (q.spent + k) p
-    → Fit (drop q.spent (set q.places.items (q.spent + k) (with_front o p))) q.texts
-    × (places_at (drop q.spent (set q.places.items (q.spent + k) (with_front o p))) q.texts
+    → Fit (drop q.spent (set q.places.items (q.spent + k) (with_opening_of o p))) q.texts
+    × (places_at (drop q.spent (set q.places.items (q.spent + k) (with_opening_of o p))) q.texts
     ≡ places_with_opening k o (queue_places q))
 unfolding queue_places
 opened_behind q k o p e =
     let ps = drop q.spent q.places.items in
     let both = opened k o ps p q.texts (e ∙ sym (get_or-drop q.spent q.places.items k p)) in
     subst (λ rs. Fit rs q.texts × (places_at rs q.texts ≡ places_with_opening k o (places_at ps q.texts)))
-    (sym (drop-set-add q.spent q.places.items k (with_front o p))) (both.0 q.fit, both.1)
+    (sym (drop-set-add q.spent q.places.items k (with_opening_of o p))) (both.0 q.fit, both.1)
+
+-- the first of them
+pub opened_first : (q : Queue) (o : Opening) (p r : Place) → r ≡ with_opening_of o p
+    → p ≡ slice_index_or q.places.items q.spent p
+    → Fit (drop q.spent (set q.places.items q.spent r)) q.texts
+    × (places_at (drop q.spent (set q.places.items q.spent r)) q.texts ≡ places_with_opening zero o (queue_places q))
+opened_first q o p r is e =
+    let there : q.spent + 0 ≡ q.spent = omega arith in
+    subst (λ x. Fit (drop q.spent (set q.places.items q.spent x)) q.texts
+    × (places_at (drop q.spent (set q.places.items q.spent x)) q.texts ≡ places_with_opening zero o (queue_places q)))
+    (sym is)
+    (subst (λ n. Fit (drop q.spent (set q.places.items n (with_opening_of o p))) q.texts
+    × (places_at (drop q.spent (set q.places.items n (with_opening_of o p))) q.texts
+    ≡ places_with_opening zero o (queue_places q))) there
+    (opened_behind q 0 o p (subst (λ n. p ≡ slice_index_or q.places.items n p) (sym there) e)))
 
 pub opened_outside : (n : ℕ) (o : Opening) (ps : List seen.Place) → length ps ≤ n → places_with_opening n o ps ≡ ps
 opened_outside n o [] h = refl

@@ -1,23 +1,30 @@
 -- Scalars that are read right where the queue keeps their texts.
-use Rattle.std.proofs.Common.{◌≡◌, ◌-◌, ◌≤◌, ℕ, List, [], ◌∷◌, ◌++◌, Ok, Err, drop, length, sym, ap, subst, arith, ◌∙◌}
-use Rattle.std.specs.Prelude.{Option, Result, IsUtf8}
+use Rattle.std.proofs.Common.{◌≡◌, ◌-◌, ◌<◌, ◌≤◌, append_assoc, ℕ, List, [], ◌∷◌, ◌++◌, Ok, Err, inl, inr, IsTrue, encode_utf8_all, take, refl, drop, length, sym, ap, subst, arith, ◌∙◌}
+use Rattle.std.specs.Prelude.{Option, Result, IsUtf8, codes, slice_index, nat_lt, true, Bool}
 use Rattle.std.proofs.Math.Seq.{drop-append_seam, take-append_seam}
-use Rattle.std.proofs.lemmas.List.{drop-append-le, length-append}
-use Rattle.std.proofs.lemmas.Str.{IsCharBoundary-from_take, IsUtf8-drop}
+use Rattle.std.proofs.lemmas.Bool.Decides.{nat_tests}
+use Rattle.std.proofs.lemmas.List.{drop-append-le, length-append, length-drop, length-take-le, take-append-drop}
+use Rattle.std.proofs.lemmas.Str.{IsCharBoundary-from_take, IsUtf8-append, IsUtf8-drop, IsUtf8-encode, IsUtf8-nil}
+use Rattle.std.specs.Char.{IsScalar}
+use Rattle.saphyr_input.specs.Classes.{is_alpha}
+use Rattle.saphyr_scalar.specs.Spelling.Tag.{AreIn, IsHandleText, IsTagText}
+use Rattle.saphyr_scalar.specs.Steps.Tag.{TagBehind, TagRead, tag, with_tag}
+use Rattle.saphyr_scalar.proofs.Properties.TagsSpelled.{spells_tag}
+use Rattle.saphyr_scalar.proofs.Steps.{ok_same}
+use Rattle.saphyr_input.specs.Indicators.{exclamation_mark}
 use Rattle.saphyr_scalar.specs.declared.scalar.fault.Refusal.{Refusal}
 use Rattle.saphyr_scalar.specs.declared.scalar.position.Marker.{Marker}
-use Rattle.saphyr_scalar.specs.declared.scalar.style.ScalarStyle.{ScalarStyle}
 use Rattle.saphyr_scalar.specs.Steps.Plain.{PlainScalarRead, with_text}
-use Rattle.saphyr_scalar.specs.Steps.Quoted.{TextRead, with_front}
 use Rattle.saphyr_scalar.specs.Views.Cursor.{Cursor}
+use Rattle.saphyr_scanner.specs.Grammar.Tokens.{Kind}
 use Rattle.saphyr_scanner.specs.declared.queue.Queue.{Queue}
 use Rattle.saphyr_scanner.specs.declared.queue.place.Place.{Place}
 use Rattle.saphyr_scanner.specs.Views.Places.{Fit, places_at}
-use Rattle.saphyr_scanner.specs.Views.Reads.{PlacesScalar, ScalarRead, queue_with_scalar, scalar_piece}
+use Rattle.saphyr_scanner.specs.Views.Reads.{PlacesToken, TokenRead, queue_with_token, read_piece}
 use Rattle.saphyr_scanner.specs.Views.Queue.{queue}
 use Rattle.saphyr_scanner.proofs.QueuedPlaces.{put_behind}
 use Rattle.saphyr_scanner.proofs.Queues.{queue_at}
-use Rattle.saphyr_scanner.specs.Views.Texts.{Texts, IsTextOf}
+use Rattle.saphyr_scanner.specs.Views.Texts.{Texts, AreTextsOf, IsTextOf}
 
 abbrev pub value_or : {X : Type 0} → X → Result X Refusal → X
 value_or d (Ok x) = x
@@ -35,22 +42,10 @@ read_behind before grown (Ok x) end comment s is =
       sym (ap (λ y. y.0) parts) ∙ ap (λ t. before ++ t) text,
     )
 
-pub quoted_behind : (before grown : List ℕ) (read : TextRead) (s : Cursor) → with_front before read ≡ Ok (grown, s)
-    → (read ≡ Ok (drop (length before) grown, s)) × (grown ≡ before ++ drop (length before) grown)
-quoted_behind before grown (Err e) s is = absurd (cc)
-quoted_behind before grown (Ok x) s is =
-    let parts = ap (value_or x) is in
-    let text = sym (drop-append_seam before x.0) ∙ ap (λ y. drop (length before) y.0) parts in (
-      (λ i. Ok (text i, (parts i).1)),
-      sym (ap (λ y. y.0) parts) ∙ ap (λ t. before ++ t) text,
-    )
-
 -- the bytes behind others, of which some were handed out
-added_behind : (spent : ℕ) (before text : List ℕ) → spent ≤ length before
-    → drop (length (drop spent before)) (drop spent (before ++ text)) ≡ text
-added_behind spent before text h =
-    ap (drop (length (drop spent before))) (drop-append-le spent before text h)
-    ∙ drop-append_seam (drop spent before) text
+added_is : (spent : ℕ) (before grown : List ℕ) → spent ≤ length before → grown ≡ before ++ drop (length before) grown
+    → drop (length (drop spent before)) (drop spent grown) ≡ drop (length before) grown
+added_is spent before grown within is = grind (arith, drop-append-le, drop-append_seam)
 
 -- What is behind a text in a text is one.
 pub text_behind : (before text : List ℕ) → IsUtf8 before → IsUtf8 (before ++ text) → IsUtf8 text
@@ -68,20 +63,105 @@ pub is_text_added : (n k spent : ℕ) (before grown : List ℕ) → n ≡ length
     → IsTextOf (n - k) (drop (length (drop spent before)) (drop spent grown))
 is_text_added n k spent before grown e d within is old new =
     let text = drop (length before) grown in
-    let same : drop (length (drop spent before)) (drop spent grown) ≡ text =
-    ap (λ g. drop (length (drop spent before)) (drop spent g)) is ∙ added_behind spent before text within in
+    let same = added_is spent before grown within is in
     let count = ap length is ∙ length-append before text in
     let utf8 = text_behind before text old (subst IsUtf8 is new) in
     subst (IsTextOf (n - k)) (sym same) (omega (arith, count, e, d), ∣ utf8 ∣₁)
 
+-- ## Tags
+
+ascii_text : (w more : List ℕ) → AreIn is_alpha w → IsUtf8 (encode_utf8_all more) → IsUtf8 (encode_utf8_all (w ++ more))
+ascii_text [] more are h = h
+ascii_text (c ∷ cs) more (is, are) h =
+    IsUtf8-append _ _ (IsUtf8-encode c (alpha_scalar c is)) (ascii_text cs more are h)
+  where
+    alpha_low : (c : ℕ) → IsTrue (is_alpha c) → c < 128
+    alpha_low c is = grind (arith, nat_tests)
+
+    alpha_scalar : (c : ℕ) → IsTrue (is_alpha c) → IsScalar c
+    alpha_scalar c is =
+        let low = alpha_low c is in
+        let test : nat_lt c 55296 ≡ true = grind (arith, nat_tests, low) in rw test refl
+
+mark_text : (more : List ℕ) → IsUtf8 (encode_utf8_all more) → IsUtf8 (encode_utf8_all (codes "!" ++ more))
+mark_text more h = IsUtf8-append _ _ (IsUtf8-encode 33 refl) h
+
+named_text : (handle : List ℕ) → IsHandleText handle → IsUtf8 (encode_utf8_all handle)
+named_text handle (inl e) = subst (λ t. IsUtf8 (encode_utf8_all t)) (sym e) (mark_text [] IsUtf8-nil)
+named_text handle (inr (word, are, e)) =
+    subst (λ t. IsUtf8 (encode_utf8_all t)) (sym e)
+    (mark_text (word ++ codes "!") (ascii_text word (codes "!") are (mark_text [] IsUtf8-nil)))
+
+handle_text : (t handle suffix : List ℕ) → IsTagText t handle suffix → IsUtf8 (encode_utf8_all handle)
+handle_text t handle suffix (inl h) = subst (λ u. IsUtf8 (encode_utf8_all u)) (sym h.1) IsUtf8-nil
+handle_text t handle suffix (inr (inl h)) = subst (λ u. IsUtf8 (encode_utf8_all u)) (sym h.2) IsUtf8-nil
+handle_text t handle suffix (inr (inr h)) = named_text handle h.1
+
+-- what is read of a tag behind a text, and the text that it was read behind
+pub tag_behind : (before grown : List ℕ) (handle : ℕ) (read : Result TagRead Refusal) (s : Cursor)
+    → with_tag before read ≡ Ok (handle, grown, s)
+    → (read ≡ Ok (take handle (drop (length before) grown), drop handle (drop (length before) grown), s))
+    × (grown ≡ before ++ drop (length before) grown) × (handle ≤ length (drop (length before) grown))
+tag_behind before grown handle (Err e) s is = absurd (cc)
+tag_behind before grown handle (Ok x) s is =
+    let parts = ok_same {A = TagBehind} (length x.0, (before ++ x.0) ++ x.1, x.2) (handle, grown, s) is in
+    let whole : grown ≡ before ++ (x.0 ++ x.1) =
+    sym (ap (λ (y : TagBehind). y.1) parts) ∙ append_assoc before x.0 x.1 in
+    let added : drop (length before) grown ≡ x.0 ++ x.1 =
+    ap (drop (length before)) whole ∙ drop-append_seam before (x.0 ++ x.1) in
+    let count : handle ≡ length x.0 = sym (ap (λ (y : TagBehind). y.0) parts) in
+    let front : take handle (drop (length before) grown) ≡ x.0 =
+    (λ i. take (count i) (added i)) ∙ take-append_seam x.0 x.1 in
+    let back : drop handle (drop (length before) grown) ≡ x.1 =
+    (λ i. drop (count i) (added i)) ∙ drop-append_seam x.0 x.1 in
+    let both = ap length added ∙ length-append x.0 x.1 in (
+      λ i. Ok (sym front i, sym back i, (ap (λ (y : TagBehind). y.2) parts) i),
+      whole ∙ ap (λ t. before ++ t) (sym added),
+      omega (arith, count, both),
+    )
+
+-- Two texts came behind.
+pub are_texts_added : (handle n k spent : ℕ) (before grown : List ℕ) → n ≡ length grown → k ≡ length before
+    → spent ≤ length before → grown ≡ before ++ drop (length before) grown → IsUtf8 before → IsUtf8 grown
+    → handle ≤ length (drop (length before) grown) → IsUtf8 (take handle (drop (length before) grown))
+    → AreTextsOf handle (n - k - handle) (drop (length (drop spent before)) (drop spent grown))
+are_texts_added handle n k spent before grown e d within is old new most front =
+    let text = drop (length before) grown in
+    let same = added_is spent before grown within is in
+    let count = ap length is ∙ length-append before text in
+    let whole = take-append-drop handle text in
+    let utf8 = text_behind before text old (subst IsUtf8 is new) in
+    let first = length-take-le handle text most in
+    let second = length-drop handle text in
+    subst (AreTextsOf handle (n - k - handle)) (sym same) (
+      (sym first, ∣ front ∣₁),
+      (
+        omega (arith, count, e, d, second),
+        ∣ text_behind (take handle text) (drop handle text) front (subst IsUtf8 (sym whole) utf8) ∣₁,
+      ),
+    )
+
+-- The bytes that came behind are all that is new.
+pub kept_added : (spent : ℕ) (before grown : List ℕ) → spent ≤ length before
+    → grown ≡ before ++ drop (length before) grown
+    → drop spent grown ≡ drop spent before ++ drop (length (drop spent before)) (drop spent grown)
+kept_added spent before grown within is = grind (arith, added_is, drop-append-le)
+
+-- the handle of a tag is a text
+pub tag_text : (in_flow : Bool) (s t : Cursor) (handle suffix : List ℕ) → slice_index s.rest 0 ≡ exclamation_mark
+    → tag in_flow s ≡ Ok (handle, suffix, t) → IsUtf8 handle
+tag_text in_flow s t handle suffix begins is =
+    let spelled = spells_tag in_flow s t handle suffix begins is in
+    subst IsUtf8 spelled.7 (handle_text spelled.0 spelled.1 spelled.2 spelled.4)
+
 -- ## The token of what was read is put behind others
 
-pub scalar_put : {X : Type 0} (q : Queue) (qs : List Place) (p : Place) (style : ScalarStyle) (start : Marker)
-    (new : Texts) (s : Cursor) (told : X) (f : ScalarRead X) → qs ≡ q.places.items ++ p ∷ []
-    → PlacesScalar style start q.texts new s (Ok (p, told)) f
+pub token_put : {A X : Type 0} (q : Queue) (qs : List Place) (p : Place) (kind : A → Kind) (start : Marker)
+    (new : Texts) (s : Cursor) (known : X) (f : TokenRead A X) → qs ≡ q.places.items ++ p ∷ []
+    → PlacesToken kind start q.texts new s (Ok (p, known)) f
     → Fit (drop q.spent qs) new
-    × (queue_with_scalar style (queue q) start f ≡ Ok (queue_at (places_at (drop q.spent qs) new) q.handed, told, s))
-scalar_put q qs p style start new s told (Err e) is h = absurd h
-scalar_put q qs p style start new s told (Ok x) is h =
-    let both = put_behind q qs p (scalar_piece style start x) new is h.2 in
+    × (queue_with_token kind (queue q) start f ≡ Ok (queue_at (places_at (drop q.spent qs) new) q.handed, known, s))
+token_put q qs p kind start new s known (Err e) is h = absurd h
+token_put q qs p kind start new s known (Ok x) is h =
+    let both = put_behind q qs p (read_piece kind start x) new is h.2 in
     (both.0, λ i. Ok (sym both.1 i, sym h.0 i, sym h.1 i))

@@ -19,9 +19,9 @@ use Rattle.saphyr_scanner.specs.Grammar.Tokens as tokens
 use Rattle.saphyr_scanner.specs.Steps.Core.{Core, StepResult, completed_step, from_to, in_block, least_column}
 use Rattle.saphyr_scanner.specs.Steps.Passing.{check_comment, pass_gap, with_cursor}
 use Rattle.saphyr_scanner.specs.Steps.Queue.{Queue, with_piece}
-use Rattle.saphyr_scanner.specs.Steps.Scalar.{adjacent_here, behind_quoted_line, behind_quotes, goes_on_behind_quotes}
+use Rattle.saphyr_scanner.specs.Steps.Scalar.{adjacent_here, behind_quoted_line, behind_quotes, goes_on_behind_quotes, quote_style, read_quoted}
 use Rattle.saphyr_scanner.specs.Steps.State.{after_step}
-use Rattle.saphyr_scanner.specs.Views.Reads.{ScalarRead, behind_quoted, is_at_end, is_entry_end, queue_with_scalar, quote_style, quoted_step, quoted_whole, scalar_piece}
+use Rattle.saphyr_scanner.specs.Views.Reads.{TokenRead, behind_quoted, ends_at_indicator, is_entry_end, queue_with_token, quote_kind, quoted_whole, read_piece}
 use Rattle.saphyr_scanner.proofs.Gaps.{nothing_passed}
 use Rattle.saphyr_scanner.proofs.QueuedReads.{value_or}
 
@@ -30,98 +30,74 @@ last_character : (x : ℕ) → is_entry_end x ≡ true → (is_blank x ≡ false
 last_character x e = grind (arith, nat_tests)
 
 -- An indicator ends an entry inside flow.
-entry_end : (b : Bool) (line : ℕ) (s : Cursor) → is_at_end b line s ≡ true
+entry_end : (b : Bool) (line : ℕ) (s : Cursor) → ends_at_indicator b line s ≡ true
     → is_entry_end (slice_index s.rest 0) ≡ true
 entry_end false line s sign = sign
 entry_end true line s sign = grind (arith, nat_tests)
 
 -- where an indicator comes right after the scalar
-pub separated_at_end : (b : Bool) (line : ℕ) (s : Cursor) → is_at_end b line s ≡ true
+pub separated_at_end : (b : Bool) (line : ℕ) (s : Cursor) → ends_at_indicator b line s ≡ true
     → behind_quoted b line s ≡ Ok (true, s)
 unfolding behind_quoted
-separated_at_end b line s sign =
-    let x = slice_index s.rest 0 in
-    let is = last_character x (entry_end b line s sign) in
-    rw (nothing_separates tabs.Yes s s x refl refl is.2 is.3 is.4) (rw sign refl)
+separated_at_end b line s sign = grind (arith, last_character, nothing_separates)
 
 -- Nothing is passed then.
 pub gap_at_indicator : (c : Core) → is_entry_end (slice_index c.cursor.rest 0) ≡ true → pass_gap c ≡ check_comment c
 unfolding pass_gap
-gap_at_indicator c sign =
-    let x = slice_index c.cursor.rest 0 in
-    let is = last_character x sign in
-    rw (nothing_passed (least_column c) c.cursor c.cursor x refl refl is.0 is.1 is.3) refl
+gap_at_indicator c sign = grind (arith, last_character, nothing_passed)
 
 -- ## Scalars that the queue keeps
 
-abbrev told_by : Bool → Bool → Cursor → Result (Bool × Cursor) Refusal
-told_by e b s = if e then Ok (true, s) else if b then Ok (false, s) else refuse fault.ContentAfterQuotes s.mark
+abbrev found_by : Bool → Bool → Cursor → Result (Bool × Cursor) Refusal
+found_by e b s = if e then Ok (true, s) else if b then Ok (false, s) else refuse fault.ContentAfterQuotes s.mark
 
-abbrev told_of : Bool → ℕ → Cursor → Result (Bool × Cursor) Refusal
-told_of b line s = told_by (is_at_end b line s) (is_breakz (slice_index s.rest 0)) s
+abbrev found_of : Bool → ℕ → Cursor → Result (Bool × Cursor) Refusal
+found_of b line s = found_by (ends_at_indicator b line s) (is_breakz (slice_index s.rest 0)) s
 
-abbrev scalar_told : List ℕ → Bool × Cursor → List ℕ × Marker × Bool × Cursor
-scalar_told text d = (text, d.1.mark, d.0, d.1)
+abbrev scalar_found : List ℕ → Bool × Cursor → List ℕ × Marker × Bool × Cursor
+scalar_found text d = (text, d.1.mark, d.0, d.1)
 
 -- Where an indicator was told, it ends an entry.
 abbrev EndsEntry : Bool → Cursor → Type 0
-EndsEntry told t = told ≡ true → is_entry_end (slice_index t.rest 0) ≡ true
+EndsEntry found t = found ≡ true → is_entry_end (slice_index t.rest 0) ≡ true
 
-indicator_told : (a b : Bool) (s : Cursor) (d : Bool × Cursor) → EndsEntry a s → told_by a b s ≡ Ok d
+indicator_found : (a b : Bool) (s : Cursor) (d : Bool × Cursor) → EndsEntry a s → found_by a b s ≡ Ok d
     → EndsEntry d.0 d.1
-indicator_told true b s d ends is = subst (λ (e : Bool × Cursor). EndsEntry e.0 e.1) (ap (value_or (true, s)) is) ends
-indicator_told false true s d ends is =
+indicator_found true b s d ends is = subst (λ (e : Bool × Cursor). EndsEntry e.0 e.1) (ap (value_or (true, s)) is) ends
+indicator_found false true s d ends is =
     subst (λ (e : Bool × Cursor). EndsEntry e.0 e.1) (ap (value_or (false, s)) is) ends
-indicator_told false false s d ends is = absurd (cc)
+indicator_found false false s d ends is = absurd (cc)
 
-separated_told : (b : Bool) (line : ℕ) (f : Result (SkipTabs × Cursor) Refusal) (d : Bool × Cursor)
-    → (f >>= λ x. told_of b line x.1) ≡ Ok d → EndsEntry d.0 d.1
-separated_told b line (Ok x) d is =
-    indicator_told (is_at_end b line x.1) (is_breakz (slice_index x.1.rest 0)) x.1 d (entry_end b line x.1) is
-separated_told b line (Err e) d is = absurd (cc)
+separated_found : (b : Bool) (line : ℕ) (f : Result (SkipTabs × Cursor) Refusal) (d : Bool × Cursor)
+    → (f >>= λ x. found_of b line x.1) ≡ Ok d → EndsEntry d.0 d.1
+separated_found b line (Ok x) d is =
+    indicator_found (ends_at_indicator b line x.1) (is_breakz (slice_index x.1.rest 0)) x.1 d (entry_end b line x.1) is
+separated_found b line (Err e) d is = absurd (cc)
 
 -- An indicator that was told ends an entry.
-pub told_end : (b : Bool) (quote : Quote) (indent : ℕ) (s : Cursor) (q r : Queue) (start : Marker) (told : Bool)
+pub found_end : (b : Bool) (quote : Quote) (indent : ℕ) (s : Cursor) (q r : Queue) (start : Marker) (found : Bool)
     (t : Cursor)
-    → queue_with_scalar (quote_style quote) q start (quoted_whole b quote indent s) ≡ Ok (r, told, t)
-    → told ≡ true → is_entry_end (slice_index t.rest 0) ≡ true
+    → queue_with_token (quote_kind quote) q start (quoted_whole b quote indent s) ≡ Ok (r, found, t)
+    → found ≡ true → is_entry_end (slice_index t.rest 0) ≡ true
 unfolding quoted_whole behind_quoted
-told_end b quote indent s q r start told t is = whole (quoted quote indent s) is
-  where
-    behind : (text : List ℕ) (f : Result (Bool × Cursor) Refusal)
-        → ((d : Bool × Cursor) → f ≡ Ok d → EndsEntry d.0 d.1)
-        → queue_with_scalar (quote_style quote) q start (f >>= λ d. Ok (scalar_told text d)) ≡ Ok (r, told, t)
-        → EndsEntry told t
-    behind text (Err e) each same = absurd (cc)
-    behind text (Ok d) each same =
-        subst (λ (x : Queue × Bool × Cursor). EndsEntry x.1 x.2) (ap (value_or (r, told, t)) same) (each d refl)
-
-    whole : (f : TextRead)
-        → queue_with_scalar (quote_style quote) q start
-        (f >>= λ x. ((separation tabs.Yes x.1 >>= λ y. told_of b s.mark.line y.1) >>= λ d. Ok (scalar_told x.0 d)))
-        ≡ Ok (r, told, t)
-        → EndsEntry told t
-    whole (Err e) same = absurd (cc)
-    whole (Ok x) same =
-        behind x.0 (separation tabs.Yes x.1 >>= λ y. told_of b s.mark.line y.1)
-        (separated_told b s.mark.line (separation tabs.Yes x.1)) same
+found_end b quote indent s q r start found t is = grind arith
 
 -- what is told of a scalar that was read with what separates it
-abbrev told_step : ScalarStyle → Marker → Core → List ℕ × Marker × Bool × Cursor → StepResult
-told_step style start c x =
+abbrev found_step : ScalarStyle → Marker → Core → List ℕ × Marker × Bool × Cursor → StepResult
+found_step style start c x =
     pass_gap (with_cursor x.3 c) >>= λ d.
     completed_step (from_to start x.1 (tokens.Scalar style x.0) ∷ []) (adjacent_here d)
 
-line_told : (e b : Bool) (s : Cursor) (g : Cursor → StepResult)
-    → (if b || e then g s else refuse fault.ContentAfterQuotes s.mark) ≡ (told_by e b s >>= λ d. g d.1)
-line_told e b s g = grind arith
+line_found : (e b : Bool) (s : Cursor) (g : Cursor → StepResult)
+    → (if b || e then g s else refuse fault.ContentAfterQuotes s.mark) ≡ (found_by e b s >>= λ d. g d.1)
+line_found e b s g = grind arith
 
 one_apart : (z a b d e : Bool) → (z || a || b || d || e) ≡ (z || (a || b || d || e))
 one_apart z a b d e = grind arith
 
 goes_on : (b : Bool) (start : Marker) (c : Core) → in_block c ≡ b
     → goes_on_behind_quotes start c
-    ≡ (is_breakz (slice_index c.cursor.rest 0) || is_at_end b start.line c.cursor)
+    ≡ (is_breakz (slice_index c.cursor.rest 0) || ends_at_indicator b start.line c.cursor)
 unfolding goes_on_behind_quotes
 goes_on true start c is = rw is refl
 goes_on false start c is =
@@ -131,33 +107,33 @@ goes_on false start c is =
 abbrev core_behind : Core → SkipTabs × Cursor → SkipTabs × Core
 core_behind c x = (x.0, with_cursor x.1 c)
 
-step_told : (b : Bool) (style : ScalarStyle) (start : Marker) (text : List ℕ) (c : Core) (s : Cursor) → in_block c ≡ b
+step_found : (b : Bool) (style : ScalarStyle) (start : Marker) (text : List ℕ) (c : Core) (s : Cursor) → in_block c ≡ b
     → behind_quotes start style text (with_cursor s c)
-    ≡ ((behind_quoted b start.line s >>= λ d. Ok (scalar_told text d)) >>= told_step style start c)
+    ≡ ((behind_quoted b start.line s >>= λ d. Ok (scalar_found text d)) >>= found_step style start c)
 unfolding behind_quotes behind_quoted
-step_told b style start text c s is = separated (separation tabs.Yes s)
+step_found b style start text c s is = separated (separation tabs.Yes s)
   where
-    told : (f : Result (Bool × Cursor) Refusal)
-        → (f >>= λ d. told_step style start c (scalar_told text d))
-        ≡ ((f >>= λ d. Ok (scalar_told text d)) >>= told_step style start c)
-    told (Ok d) = refl
-    told (Err e) = refl
+    found : (f : Result (Bool × Cursor) Refusal)
+        → (f >>= λ d. found_step style start c (scalar_found text d))
+        ≡ ((f >>= λ d. Ok (scalar_found text d)) >>= found_step style start c)
+    found (Ok d) = refl
+    found (Err e) = refl
 
     separated : (f : Result (SkipTabs × Cursor) Refusal)
         → ((f >>= λ x. Ok (core_behind c x)) >>= λ d. behind_quoted_line start style text d.1)
-        ≡ (((f >>= λ x. told_of b start.line x.1) >>= λ d. Ok (scalar_told text d)) >>= told_step style start c)
+        ≡ (((f >>= λ x. found_of b start.line x.1) >>= λ d. Ok (scalar_found text d)) >>= found_step style start c)
     separated (Err e) = refl
     separated (Ok x) =
-        let step : Cursor → StepResult = λ s. told_step style start c (scalar_told text (true, s)) in
+        let step : Cursor → StepResult = λ s. found_step style start c (scalar_found text (true, s)) in
         ap (λ w. if w then step x.1 else refuse fault.ContentAfterQuotes x.1.mark)
         (goes_on b start (with_cursor x.1 c) is)
-        ∙ line_told (is_at_end b start.line x.1) (is_breakz (slice_index x.1.rest 0)) x.1 step
-        ∙ told (told_of b start.line x.1)
+        ∙ line_found (ends_at_indicator b start.line x.1) (is_breakz (slice_index x.1.rest 0)) x.1 step
+        ∙ found (found_of b start.line x.1)
 
 -- A quoted scalar that the queue keeps is told so.
 pub quoted_read : (b : Bool) (quote : Quote) (c : Core) (q : Queue) → in_block c ≡ b
-    → after_step (quoted_step quote c) q
-    ≡ (queue_with_scalar (quote_style quote) q c.cursor.mark (quoted_whole b quote (least_column c) c.cursor) >>= λ x.
+    → after_step (read_quoted quote c) q
+    ≡ (queue_with_token (quote_kind quote) q c.cursor.mark (quoted_whole b quote (least_column c) c.cursor) >>= λ x.
     (pass_gap (with_cursor x.2 c) >>= λ d. Ok (record { core = adjacent_here d; queue = x.0 })))
 unfolding quoted_whole
 quoted_read b quote c q is =
@@ -167,22 +143,22 @@ quoted_read b quote c q is =
   where
     read : (f : TextRead)
         → (f >>= λ x. behind_quotes c.cursor.mark (quote_style quote) x.0 (with_cursor x.1 c))
-        ≡ ((f >>= λ x. (behind_quoted b c.cursor.mark.line x.1 >>= λ d. Ok (scalar_told x.0 d)))
-        >>= told_step (quote_style quote) c.cursor.mark c)
+        ≡ ((f >>= λ x. (behind_quoted b c.cursor.mark.line x.1 >>= λ d. Ok (scalar_found x.0 d)))
+        >>= found_step (quote_style quote) c.cursor.mark c)
     read (Err e) = refl
-    read (Ok x) = step_told b (quote_style quote) c.cursor.mark x.0 c x.1 is
+    read (Ok x) = step_found b (quote_style quote) c.cursor.mark x.0 c x.1 is
 
     passed : (x : List ℕ × Marker × Bool × Cursor) (f : Result Core Refusal)
         → after_step (f >>= λ d. completed_step (from_to c.cursor.mark x.1 (tokens.Scalar (quote_style quote) x.0) ∷ [])
         (adjacent_here d)) q
         ≡ (f >>= λ d. Ok (record
-        { core = adjacent_here d; queue = with_piece (scalar_piece (quote_style quote) c.cursor.mark x) q }))
+        { core = adjacent_here d; queue = with_piece (read_piece (quote_kind quote) c.cursor.mark x) q }))
     passed x (Err e) = refl
     passed x (Ok d) = refl
 
-    queued : (f : ScalarRead Bool)
-        → after_step (f >>= told_step (quote_style quote) c.cursor.mark c) q
-        ≡ (queue_with_scalar (quote_style quote) q c.cursor.mark f >>= λ x.
+    queued : (f : TokenRead (List ℕ) Bool)
+        → after_step (f >>= found_step (quote_style quote) c.cursor.mark c) q
+        ≡ (queue_with_token (quote_kind quote) q c.cursor.mark f >>= λ x.
         (pass_gap (with_cursor x.2 c) >>= λ d. Ok (record { core = adjacent_here d; queue = x.0 })))
     queued (Err e) = refl
     queued (Ok x) = passed x (pass_gap (with_cursor x.3 c))

@@ -138,10 +138,10 @@ piece_reached m (c ∷ d ∷ cs) u h = by_test (ends_line c (d ∷ cs)) (next_li
         let Q : ℕ → Type 0 = λ z. IsReached m (13 ∷ z ∷ (cs ++ u)) (end_of_text (along m 1) (z ∷ cs)) u in
         subst P (sym e) (subst Q (sym f) (double m (cs ++ u) (end_of_text (next_line (along m 1) 1) cs) u p))
 
-pub uncut_ink : (front : List ℕ) (last : ℕ) (u : List ℕ) → is_break last ≡ false → Uncut (front ++ last ∷ []) u
-uncut_ink [] last u e = inl e
-uncut_ink (c ∷ []) last u e = inl e
-uncut_ink (c ∷ d ∷ cs) last u e = uncut_ink (d ∷ cs) last u e
+pub uncut_no_break : (front : List ℕ) (last : ℕ) (u : List ℕ) → is_break last ≡ false → Uncut (front ++ last ∷ []) u
+uncut_no_break [] last u e = inl e
+uncut_no_break (c ∷ []) last u e = inl e
+uncut_no_break (c ∷ d ∷ cs) last u e = uncut_no_break (d ∷ cs) last u e
 
 pub uncut_behind : (cs u : List ℕ) → is_break (slice_index u 0) ≡ false → Uncut cs u
 uncut_behind [] u e = tt

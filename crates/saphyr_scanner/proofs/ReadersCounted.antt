@@ -33,19 +33,7 @@ use Rattle.saphyr_scanner.proofs.Effects.Readers.{ReadsUpTo, ReadsSpan, ReaderEn
 
 plain_counted : (f : Bool) (s t : Cursor) (text : List ℕ) (end : Marker) → IsPlainReading f s text end t
     → ReadsUpTo s end t
-plain_counted f s t text end r =
-    let a = passed_index s.mark r.piece in
-    let b = passed_index end r.white in
-    let i : (end_of_text s.mark r.piece).index ≡ end.index = ap (λ (m : Marker). m.index) r.ends in
-    let j : (end_of_text end r.white).index ≡ t.mark.index = ap (λ (m : Marker). m.index) r.behind in
-    let l : length s.rest ≡ length (r.piece ++ (r.white ++ t.rest)) = ap length r.is in
-    let x = length-append r.piece (r.white ++ t.rest) in
-    let y = length-append r.white t.rest in
-    record {
-      ahead = record { later = omega (arith, a, b, i, j); counted = omega (arith, a, b, i, j, l, x, y) };
-      begins = omega (arith, a, i);
-      ends = omega (arith, b, j);
-    }
+plain_counted f s t text end r = grind (arith, passed_index, length-append)
 
 -- ## Names and tags
 
@@ -64,29 +52,13 @@ name_counted s t indicator name is e =
 directive_counted : (s u : Cursor) (end : Marker) (t tail x : List ℕ) → s.rest ≡ t ++ (tail ++ x)
     → end ≡ along s.mark (length t) → u ≡ pass_break (mid_line (along s.mark (length t + length tail)) x)
     → ReadsUpTo s end u
-directive_counted s u end t tail x is ends e =
-    let v : Cursor = mid_line (along s.mark (length t + length tail)) x in
-    let l : length s.rest ≡ length (t ++ (tail ++ x)) = ap length is in
-    let a = length-append t (tail ++ x) in
-    let b = length-append tail x in
-    let first : Ahead s v = record { later = omega arith; counted = omega (arith, l, a, b) } in
-    let i : end.index ≡ s.mark.index + length t = ap (λ (m : Marker). m.index) ends in
-    let last : Ahead v u = rw e (pass_break_counted v) in
-    let later : s.mark.index + (length t + length tail) ≤ u.mark.index = last.later in
-    record { ahead = ahead_ahead s v u first last; begins = omega (arith, i); ends = omega (arith, i, later) }
+directive_counted s u end t tail x is ends e = grind (arith, length-append)
 
 -- ## Block scalars
 
 block_counted : (s t : Cursor) (span : Span) → s.mark.index ≤ span.start.index → span.start.index ≤ span.end.index
     → span.end ≡ t.mark → t.mark.index + length t.rest ≡ s.mark.index + length s.rest → ReadsSpan s span t
-block_counted s t span a b e c =
-    let i : span.end.index ≡ t.mark.index = ap (λ (m : Marker). m.index) e in
-    record {
-      ahead = record { later = omega (arith, a, b, i); counted = c };
-      begins = a;
-      inside = b;
-      ends = omega (arith, i);
-    }
+block_counted s t span a b e c = grind arith
 
 -- ## All readers
 
@@ -118,8 +90,7 @@ pub reader_ends : ((in_flow : Bool) (indent : ℕ) (s t : Cursor) (text : List �
     → ReaderEnds
 reader_ends plain quotes block name tag directive = record {
   plain = λ f i s t text end comment e. plain_counted f s t text end (plain f i s t text end comment e);
-  double_quoted = λ i s t text first e. passed_over s t (quotes Double i s t text first e).3;
-  single_quoted = λ i s t text first e. passed_over s t (quotes Single i s t text first e).3;
+  quoted_scalar = λ quote i s t text first e. passed_over s t (quotes quote i s t text first e).3;
   block_scalar = λ style i s t text span some e. let x =
       block style i s t text span some e in block_counted s t span x.0 x.1 x.2 x.3;
   name = λ s t text some e. let x = name s t text some e in name_counted s t x.0 x.1 x.2 x.5;

@@ -21,19 +21,11 @@ first_character x e = grind (arith, nat_tests)
 
 pub no_gap : (c : Core) → may_begin (slice_index c.cursor.rest 0) ≡ true → c.comment ≡ None → pass_gap c ≡ Ok c
 unfolding pass_gap check_comment
-no_gap c begins none =
-    let x = slice_index c.cursor.rest 0 in
-    let is = first_character x begins in
-    let gap = nothing_passed (least_column c) c.cursor c.cursor x refl refl is.0 is.1 is.2 in
-    rw (gap, none) refl
+no_gap c begins none = grind (arith, nothing_passed)
 
 kept_key : (c : Core) → (in_block c && is_too_far c.level.key c.cursor.mark) ≡ false → drop_far_key c ≡ Ok c
 unfolding drop_far_key
 kept_key c near = rw near refl
-
-kept_deeper : (deeper : Bool) (i k : ℕ) → nat_lt k (if deeper then i else i - 1) ≡ false
-    → (deeper && nat_le i k) ≡ deeper
-kept_deeper deeper i k e = grind arith
 
 not_right : (deeper : Bool) (i k : ℕ) → nat_lt k (if deeper then i else i - 1) ≡ false → nat_lt k (i - 1) ≡ false
 not_right deeper i k e = grind arith
@@ -42,11 +34,7 @@ not_right deeper i k e = grind arith
 none_unrolled : (s : State) → nat_lt s.core.cursor.mark.col (least_column s.core) ≡ false
     → unroll (Some s.core.cursor.mark.col) s.core.cursor.mark s ≡ s
 unfolding unroll
-none_unrolled s e =
-    let c = s.core in let m = c.cursor.mark in
-    let deep = ap (λ (b : Bool). with_core (record c { deeper = b }) s) (kept_deeper c.deeper c.indent m.col e) in
-    by_test (in_block c) _ s (λ (t : State). t ≡ s)
-    (λ _. rw deep (none_ends (Some m.col) m c.outer_indents s (not_right c.deeper c.indent m.col e))) (λ _. refl)
+none_unrolled s e = grind (arith, none_ends)
 
 -- nothing is passed, dropped or ended before the next token
 pub arrived : (s : State) → may_begin (slice_index s.core.cursor.rest 0) ≡ true → s.core.comment ≡ None
@@ -75,13 +63,13 @@ no_mark true t e =
     no_dashes a b c d e = grind arith
 
 -- the next token is what the first character begins
-pub told_here : (s : State) → is_z (slice_index s.core.cursor.rest 0) ≡ false
+pub holds_here : (s : State) → is_z (slice_index s.core.cursor.rest 0) ≡ false
     → is_bom (slice_index s.core.cursor.rest 0) ≡ false
     → nat_lt s.core.cursor.mark.col (least_column s.core) ≡ false
     → ((s.core.cursor.mark.col == 0)
     && may_begin_mark (slice_index s.core.cursor.rest 0) (slice_index s.core.cursor.rest 1)) ≡ false
     → fetch_here s ≡ with_content s
 unfolding fetch_here
-told_here s some text right inner =
+holds_here s some text right inner =
     let no = no_mark (s.core.cursor.mark.col == 0) s.core.cursor.rest inner in
     rw (some, text, no.0, no.1, no.2, right) refl

@@ -2,14 +2,17 @@
 pub mod Candidates
 pub mod Separated
 pub mod InPlace
+pub mod KeysInPlace
 pub mod Parts
 pub mod Later
 pub mod OnLine
 pub mod Indented
 pub mod Held
 pub mod Keys
+pub mod OpenedKeys
 pub mod Neutral
 pub mod Cores
+pub mod SavedKeys
 pub mod States
 pub mod Documents
 pub mod Arrivals

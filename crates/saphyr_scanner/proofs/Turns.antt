@@ -1,26 +1,27 @@
 -- A token is handed out, and what remains.
 use Rattle.std.proofs.Common.{◌≡◌, ℕ, suc, ◌+◌, ◌<◌, ◌^◌, Bool, true, false, List, [], ◌∷◌, Result, Ok, Err, refl, sym, ap, subst, ◌∙◌, arith}
-use Rattle.std.specs.Prelude.{◌&&◌, not, IfOk, OnOk, Option, Some, None}
+use Rattle.std.specs.Prelude.{◌&&◌, not, IfOk, OnErr, OnOk, Option, Some, None}
+use Rattle.saphyr_scalar.specs.declared.scalar.fault.Refusal.{Refusal}
 use Rattle.saphyr_scalar.specs.declared.scalar.fault.Stop.{Stop}
 use Rattle.saphyr_scalar.specs.declared.scalar.fault.Stop.TheVariants as stops
-use Rattle.saphyr_scalar.specs.Views.Reader.{Moves}
+use Rattle.saphyr_scalar.specs.Views.Reader.{Fails}
 use Rattle.saphyr_scanner.specs.declared.stopped.Stopped.{Stopped}
 use Rattle.saphyr_scanner.specs.declared.token.TokenKind.{TokenKind}
-use Rattle.saphyr_scanner.specs.Views.Engine.{stopped_by}
 use Rattle.saphyr_scanner.specs.declared.queue.Opening.{Opening}
 use Rattle.saphyr_scanner.specs.declared.queue.Opening.TheVariants as opening
 use Rattle.saphyr_scanner.specs.Grammar.Tokens as tokens
 use Rattle.saphyr_scanner.specs.Grammar.Tokens.{Kind}
 use Rattle.saphyr_scanner.specs.Views.Queue.{first_of, kind_shown}
-use Rattle.saphyr_scanner.specs.Views.Scanning.{Ends, Peeks, Scanning, tokens_of}
-use Rattle.saphyr_scanner.specs.Views.Tokens.{BeginsWith, Parts, Piece, Remaining, none, before, kind_with, no_parts, piece_with, text_alone, token_kind}
+use Rattle.saphyr_scanner.specs.Views.Scanning.{EndsTokens, IsReady, PeeksToken, Readies, Scanning, text_in, tokens_in, tokens_over}
+use Rattle.saphyr_scanner.specs.Views.Tokens.{BeginsWith, Parts, Piece, Remaining, none, before, refusal_alone, kind_with, no_parts, piece_with, text_parts, token_kind}
 use Rattle.saphyr_scanner.specs.Steps.Queue.{Place}
 use Rattle.saphyr_scanner.specs.Steps.Core.{Core, drop_far_key}
-use Rattle.saphyr_scanner.specs.Steps.State.{State}
+use Rattle.saphyr_scanner.specs.Steps.State.{State, with_rest}
 use Rattle.saphyr_scanner.specs.Steps.Fetch.{size, without_far_key, is_ready, needs_token, fill, take_token}
 use Rattle.saphyr_scanner.specs.Steps.Remaining.{before_place, remaining}
 use Rattle.saphyr_scanner.proofs.Effects.Readers.{Readers}
 use Rattle.saphyr_scanner.proofs.Filling.{IsSettled, settled_once}
+use Rattle.saphyr_scanner.proofs.Grown.{FillsOver, FillsAlways, far_dropped, far_refused, far_rest}
 use Rattle.saphyr_scanner.proofs.Unroll.{refused_first, rest, remaining_is, settled_is, filled_in}
 use Rattle.saphyr_scalar.proofs.Given.{bind_ok}
 use Rattle.std.proofs.lemmas.Bool.{cond-true, cond-false}
@@ -115,11 +116,11 @@ none_comes limit s e is =
 abbrev parts_of : Kind → Parts
 parts_of (tokens.VersionDirective major minor) = record { handle = []; text = []; major = major; minor = minor }
 parts_of (tokens.TagDirective handle prefix) = record { handle = handle; text = prefix; major = 0; minor = 0 }
-parts_of (tokens.ReservedDirective name) = text_alone name
-parts_of (tokens.Alias name) = text_alone name
-parts_of (tokens.Anchor name) = text_alone name
+parts_of (tokens.ReservedDirective name) = text_parts name
+parts_of (tokens.Alias name) = text_parts name
+parts_of (tokens.Anchor name) = text_parts name
 parts_of (tokens.Tag handle suffix) = record { handle = handle; text = suffix; major = 0; minor = 0 }
-parts_of (tokens.Scalar style text) = text_alone text
+parts_of (tokens.Scalar style text) = text_parts text
 parts_of _ = no_parts
 
 kind_again : (k : Kind) → kind_with (token_kind k) (parts_of k) ≡ k
@@ -151,7 +152,7 @@ tail [] = []
 tail (u ∷ us) = us
 
 -- There is only one first token.
-pub one_first : (limit : ℕ) (s : State) (t : Piece) (left : Remaining) → is_ready s ≡ true
+one_first : (limit : ℕ) (s : State) (t : Piece) (left : Remaining) → is_ready s ≡ true
     → remaining limit s ≡ before t left
     → (first_of s.queue ≡ Some t) × (remaining limit (take_token s).1 ≡ left)
 one_first limit s t left e is = by (first_of s.queue) refl
@@ -169,20 +170,100 @@ one_first limit s t left e is = by (first_of s.queue) refl
         λ i. record { pieces = tail (both i).pieces; refusal = (both i).refusal } in
         (some ∙ ap Some same, rest)
 
--- What a call shows of the first token, and what it leaves.
-pub peeks : Readers → (old new : Scanning) (r : Result (Option TokenKind) Stopped) → new.limit ≡ old.limit
-    → Moves (λ _. new.state) (stopped_by r new.stop) (fill old.limit old.state)
-    → IfOk r (λ kind. kind ≡ kind_shown (first_of new.state.queue))
-    → OnOk r (new.state.queue.handed + 1 < 2 ^ 64) → Peeks r old new
-peeks laws old new (Ok kind) limit filled shown counted =
-    let read : fill old.limit old.state ≡ Ok new.state = filled in
-    let p = peeked laws old.limit old.state new.state read in
-    let same : tokens_of new ≡ tokens_of old = ap (λ n. remaining n new.state) limit ∙ p.0 in
-    let first = begins new.limit new.state p.1 in
-    (subst (BeginsWith kind) same (subst (λ k. BeginsWith k (tokens_of new)) (sym shown) first), same, (p.1, counted))
-peeks laws old new (Err e) limit failed shown counted = by new.stop failed
+-- What is taken first, whatever comes, of a scanner that a caller sees so.
+pub first_in : {s seen : Scanning} → s ≡ seen → IsReady seen → (more : List ℕ) (t : Piece) (left : Remaining)
+    → tokens_in more seen ≡ before t left
+    → (first_of s.state.queue ≡ Some t)
+    × ((u : State) (end : Stop) → u ≡ (take_token s.state).1
+    → tokens_in more (record s { state = u; stop = end }) ≡ left)
+unfolding tokens_over tokens_in
+first_in {s = s} same are more t left is =
+    let ready = subst IsReady (sym same) are in
+    let first = one_first s.limit (with_rest (text_in s.growth more s.state.core.cursor.rest) s.state) t left ready.0
+    (ap (tokens_in more) same ∙ is) in
+    (first.0, λ u end taken. ap (λ v. tokens_in more (record s { state = v })) taken ∙ first.1)
+
+-- What is read until the first token can be handed out, whatever comes.
+filled_readies : Readers → (old new : Scanning) (r : Result Unit Stopped) → new.limit ≡ old.limit
+    → FillsAlways old new r → Readies r old new
+unfolding tokens_over tokens_in
+filled_readies laws old new (Ok u) limit fills = (
+  λ more. ap (λ n. remaining n (behind more)) limit ∙ (read more).0,
+  (read []).1,
+)
   where
-    by : (end : Stop) → Moves (λ _. new.state) (stopped_by {A = Option TokenKind} (Err e) end) (fill old.limit old.state)
-        → Ends end (tokens_of old)
-    by stops.OutOfMemory f = tt
-    by (stops.Refused d) f = refused_first laws old.limit old.state d f
+    behind : List ℕ → State
+    behind more = with_rest (text_in new.growth more new.state.core.cursor.rest) new.state
+
+    read : (more : List ℕ)
+        → (remaining old.limit (behind more) ≡ tokens_in more old) × (is_ready (behind more) ≡ true)
+    read more = peeked laws old.limit (with_rest (text_in old.growth more old.state.core.cursor.rest) old.state)
+        (behind more) (fills.with_more more)
+filled_readies laws old new (Err e) limit fills = λ more. by more new.stop (fills.with_more more)
+  where
+    by : (more : List ℕ) (end : Stop)
+        → FillsOver (text_in old.growth more old.state.core.cursor.rest)
+        (text_in new.growth more new.state.core.cursor.rest) old new end (Err e)
+        → EndsTokens end (tokens_in more old)
+    by more stops.OutOfMemory f = tt
+    by more (stops.Refused d) f = refused_first laws old.limit
+        (with_rest (text_in old.growth more old.state.core.cursor.rest) old.state) d f
+
+-- so it does for a caller
+pub readies : Readers → {old seen new : Scanning} {r : Result Unit Stopped} → old ≡ seen → new.limit ≡ old.limit
+    → FillsAlways old new r → Readies r seen new
+readies laws {old = old} {new = new} {r = r} same limit fills =
+    subst (λ s. Readies r s new) same (filled_readies laws old new r limit fills)
+
+-- A candidate that is too far is dropped, and the tokens stay.
+pub tokens_stay : (old : Scanning) (t : State) → without_far_key old.state ≡ Ok t → (more : List ℕ)
+    → tokens_in more (record old { state = t }) ≡ tokens_in more old
+unfolding tokens_over tokens_in
+tokens_stay old t e more =
+    let text : List ℕ → List ℕ = λ rest. text_in old.growth more rest in
+    let x : List ℕ = text old.state.core.cursor.rest in
+    let gone = far_dropped x old.state t e in
+    ap (λ rest. remaining old.limit (with_rest (text rest) t)) (far_rest old.state t e)
+    ∙ remaining_of old.limit (with_rest x t) (settled_once (with_rest x old.state) (with_rest x t) gone)
+    ∙ sym (remaining_is old.limit (with_rest x old.state) (with_rest x t) gone)
+
+-- That which must be a key has no colon, whatever comes.
+pub tokens_end : (old : Scanning) (e : Refusal) → without_far_key old.state ≡ Err e → (more : List ℕ)
+    → tokens_in more old ≡ refusal_alone e
+unfolding remaining tokens_over tokens_in
+tokens_end old e h more =
+    rw (far_refused (text_in old.growth more old.state.core.cursor.rest) old.state e h) refl
+
+-- What ends the tokens where a candidate is too far ends them, whatever comes.
+pub refuses_far : (old seen new : Scanning) → old ≡ seen → Fails new.stop (without_far_key old.state)
+    → (more : List ℕ) → EndsTokens new.stop (tokens_in more seen)
+refuses_far old seen new same fails =
+    λ more. subst (λ s. EndsTokens new.stop (tokens_in more s)) same (by new.stop fails
+    more)
+  where
+    by : (end : Stop) → Fails end (without_far_key old.state) → (more : List ℕ) → EndsTokens end (tokens_in more old)
+    by stops.OutOfMemory f more = tt
+    by (stops.Refused d) f more = tokens_end old d f more
+
+-- Where the tokens are the same, what is read on is so from before.
+pub readies_from : (r : Result Unit Stopped) (old seen new : Scanning)
+    → ((more : List ℕ) → tokens_in more seen ≡ tokens_in more old) → Readies r seen new → Readies r old new
+readies_from (Ok u) old seen new same h = (λ more. h.0 more ∙ same more, h.1)
+readies_from (Err e) old seen new same h = λ more. subst (EndsTokens new.stop) (same more) (h more)
+
+-- What is shown of the first token is so, whatever comes.
+pub shows : (r : Result (Option TokenKind) Stopped) (old new : Scanning)
+    → ((more : List ℕ) → tokens_in more new ≡ tokens_in more old) → is_ready new.state ≡ true
+    → IfOk r (λ kind. kind ≡ kind_shown (first_of new.state.queue))
+    → OnOk r (new.state.queue.handed + 1 < 2 ^ 64) → OnErr r (new.stop ≡ stops.OutOfMemory) → PeeksToken r old new
+unfolding tokens_over tokens_in
+shows (Ok kind) old new same ready shown counted failed = (
+  λ more. (
+    subst (BeginsWith kind) (same more) (subst (λ k. BeginsWith k (tokens_in more new)) (sym shown)
+        (begins new.limit (with_rest (text_in new.growth more new.state.core.cursor.rest) new.state) ready)),
+    same more,
+  ),
+  (ready, counted),
+)
+shows (Err e) old new same ready shown counted failed =
+    λ more. subst (λ s. EndsTokens s (tokens_in more old)) (sym failed) tt

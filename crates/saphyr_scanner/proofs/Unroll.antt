@@ -76,7 +76,8 @@ filled_in laws limit (suc n) s t a k e =
     onward u needs q others =
         let less = smaller_read laws limit s u needs q in
         let over = going s.core.ended _ needs in
-        let first : rest limit s ≡ run (size s.core) limit u = hand_nothing s s.queue.places (behind (size s.core) limit)
+        let first : rest limit s ≡ run (size s.core) limit u = hand_nothing s s.queue.places (behind (size s.core)
+        limit)
         needs ∙ cond-false s.core.ended _ _ over ∙ ap (λ r. remaining_after r (run (size s.core) limit)) q in
         record {
           same = first ∙ enough laws limit (size s.core) (suc (size u.core)) u less (omega arith) ∙ others.same;

@@ -8,3 +8,4 @@ pub mod TokensTaken
 pub mod SpansInOrder
 pub mod Ends
 pub mod AtPlaces
+pub mod Longer

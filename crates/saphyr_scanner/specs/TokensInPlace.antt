@@ -100,9 +100,9 @@ awaiting_colon key all = record {
   columns = all.columns;
 }
 
-abbrev pub behind_question : Enclosure → Enclosure
-behind_question Sequence = MarkedEntry
-behind_question e = e
+abbrev pub enclosure_behind_question : Enclosure → Enclosure
+enclosure_behind_question Sequence = MarkedEntry
+enclosure_behind_question e = e
 
 abbrev pub behind_comma : Enclosure → Enclosure
 behind_comma MarkedEntry = Sequence
@@ -129,7 +129,8 @@ enclosures_behind tokens.FlowMappingEnd span all =
     if has_text span then left_for all.outer all.columns else turned_to Sequence all
 enclosures_behind tokens.FlowEntry span all = turned_to (behind_comma all.inner.enclosure) all
 enclosures_behind tokens.Key span all =
-    if has_text span then turned_to (behind_question all.inner.enclosure) all else awaiting_colon span.start all
+    if has_text span then turned_to (enclosure_behind_question all.inner.enclosure) all
+    else awaiting_colon span.start all
 enclosures_behind tokens.Value span all = turned_to (behind_pair_colon all.inner.enclosure) all
 enclosures_behind (tokens.Anchor name) span all = with_begun (Property span.end.line) all
 enclosures_behind (tokens.Tag handle suffix) span all = with_begun (Property span.end.line) all
@@ -253,15 +254,15 @@ is_indented all kind span =
     not (is_of_flow_node kind span) || (is_covered all.inner || nat_le (least_column_in all.columns) span.start.col)
 
 -- This holds of each token and what encloses it.
-abbrev pub AreEach : (Enclosures → Kind → Span → Bool) → Enclosures → List Piece → Type 0
-AreEach holds all [] = Unit {0}
-AreEach holds all (p ∷ ps) =
-    IsTrue (holds all p.kind p.span) × AreEach holds (enclosures_behind p.kind p.span all) ps
+abbrev pub AreEachInside : (Enclosures → Kind → Span → Bool) → Enclosures → List Piece → Type 0
+AreEachInside holds all [] = Unit {0}
+AreEachInside holds all (p ∷ ps) =
+    IsTrue (holds all p.kind p.span) × AreEachInside holds (enclosures_behind p.kind p.span all) ps
 
 -- each token may be where it is
 abbrev pub AreInPlace : Enclosures → List Piece → Type 0
-AreInPlace all ps = AreEach may_stand all ps
+AreInPlace all ps = AreEachInside may_stand all ps
 
 -- and is right of the column of its collection, if it is of a flow node
 abbrev pub AreIndented : Enclosures → List Piece → Type 0
-AreIndented all ps = AreEach is_indented all ps
+AreIndented all ps = AreEachInside is_indented all ps

@@ -226,7 +226,7 @@ pub record Surroundings : Type 0 where
 pub record IsPlainToken (in_flow : Bool) (indent : ℕ) (value : List ℕ) (span : Span) (s t : Cursor) : Type 0 where
   pub start : span.start ≡ s.mark
   pub begins : IsTrue (may_begin_plain (slice_index s.rest 0))
-  pub is_ink : IsFalse (is_blank_or_break (slice_index s.rest 0))
+  pub is_non_space : IsFalse (is_blank_or_break (slice_index s.rest 0))
   pub no_indicator : IsTrue (is_one_of (codes "-?:") (slice_index s.rest 0))
       → IsFalse (is_blank_or_breakz (slice_index s.rest 1))
   pub no_block_scalar : in_flow ≡ false → IsFalse (is_one_of (codes "|>") (slice_index s.rest 0))

@@ -106,12 +106,13 @@ impl<T: Input> Engine<T> {
         }
     }
 
-    /// The same state, before the characters of another input.
+    /// This state, before the characters of another input.
     pub(crate) fn over<U: Input>(self, input: U) -> Engine<U>
     where
         T: Drop,
         requires { (state self).core.cursor.mark.index + length (U.rest input) < 2 ^ 64 }
-        ensures { state result ≡ spec_state.with_rest (U.rest input) (state self) }
+        ensures state { state result ≡ spec_state.with_rest (U.rest input) (state self) }
+        ensures stop { result.stop ≡ self.stop }
     {
         Engine {
             reader: self.reader.over(input),

@@ -14,8 +14,11 @@ ghost use Rattle.saphyr_scanner.specs.TakenOff.{Readers};
 ghost use Rattle.saphyr_scanner.specs.TokensTaken.{AreApart, AreTakenFrom, AreTokens, LiesOnLine, IsPlaceOf, no_collections};
 ghost use Rattle.saphyr_scanner.specs.Views.Tokens.{Piece};
 
+mod came;
+
+pub use came::steps_by_what_came;
 use saphyr_scalar::scalar::{
-    begins_plain_scalars_with_ink, counts_each_block_scalar, indents_plain_lines,
+    begins_plain_scalars_with_non_space, counts_each_block_scalar, indents_plain_lines,
     places_each_block_scalar, reads_block_texts, reads_plain_values, refuses_inside,
     spells_each_anchor, spells_each_directive, spells_each_quoted, spells_each_tag,
     spells_quoted_lines, takes_anchor, takes_block_scalar, takes_directive, takes_plain,
@@ -85,7 +88,7 @@ pub fn takes_all_tokens()
 {
     indents_plain_lines();
     spells_quoted_lines();
-    begins_plain_scalars_with_ink();
+    begins_plain_scalars_with_non_space();
     reads_block_texts();
     places_each_block_scalar();
     spells_each_anchor();

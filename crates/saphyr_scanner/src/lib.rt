@@ -3,13 +3,15 @@
 
 mod engine;
 mod gap;
+mod growth;
 pub mod law;
 mod queue;
 mod scanner;
-mod stepping;
 mod stopped;
 mod token;
 
+pub use growth::Growth;
+pub use queue::Opening;
 pub use scanner::Scanner;
 pub use stopped::Stopped;
-pub use token::{Token, TokenKind, TokenParts};
+pub use token::{TokenKind, TokenParts};

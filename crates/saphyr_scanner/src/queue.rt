@@ -17,15 +17,16 @@ use crate::token::TokenKind;
 use saphyr_scalar::{Marker, Span, Spare};
 use std::alloc::{AllocError, Global};
 
-/// What comes in front of a token: nothing, or the tokens that make it a key.
+/// What comes in front of a token: nothing, or the tokens that make it a key. The definitions of what a queue gives
+/// speak of it, so it is public.
 #[derive(Clone, Copy)]
-pub(crate) enum Opening {
+pub enum Opening {
     Nothing,
     /// The token of a key, if its mapping is open.
     Key,
-    /// The same for the first key of a block mapping, after the mapping's start.
+    /// The start of a block mapping, and the token of its first key.
     BlockMappingAndKey,
-    /// The same for a pair in a flow sequence, as in `[a: b]`, which is a mapping of its own.
+    /// The start of a flow mapping and a key, for a pair in a flow sequence: `[a: b]` has a mapping of its own.
     FlowMappingAndKey,
 }
 
@@ -50,7 +51,7 @@ pub(crate) struct Queue {
 }
 
 impl Queue {
-    ghost use Rattle.saphyr_scanner.specs.Views.Tokens.{no_parts, piece_with, text_alone};
+    ghost use Rattle.saphyr_scanner.specs.Views.Tokens.{no_parts, piece_with, text_parts};
     ghost use Rattle.saphyr_scanner.specs.Views.Queue.{queue, queue_places, with_block_ends};
 
     #[tactic(auto, unfolding(crate::specs::Views::Queue::queue_places))]
@@ -151,7 +152,7 @@ impl Queue {
         spare: &mut Spare,
     ) -> Result<(), AllocError>
         ensures { OnOk result (queue self.new ≡ spec.with_piece
-            (piece_with span.now kind (text_alone (string_bytes text))) (queue self.old)) }
+            (piece_with span.now kind (text_parts (string_bytes text))) (queue self.old)) }
     {
         self.make_room()?;
         match Place::with_text(kind, span, text, &mut self.texts, spare) {
@@ -159,12 +160,7 @@ impl Queue {
                 self.places.push_reserved(place);
                 Ok(())
             }
-            Err(error) => {
-                self.places.clear();
-                self.spent = 0;
-                self.texts.forget();
-                Err(error)
-            }
+            Err(error) => Err(self.texts.forget(&mut self.places, &mut self.spent, error)),
         }
     }
 
@@ -189,12 +185,7 @@ impl Queue {
                 self.places.push_reserved(place);
                 Ok(())
             }
-            Err(error) => {
-                self.places.clear();
-                self.spent = 0;
-                self.texts.forget();
-                Err(error)
-            }
+            Err(error) => Err(self.texts.forget(&mut self.places, &mut self.spent, error)),
         }
     }
 
@@ -220,11 +211,11 @@ impl Queue {
             return;
         }
         if let Some(place) = self.places.get_mut(self.spent + nth) {
-            place.opening = opening;
+            place.open(opening);
         }
     }
 
-    /// The same tokens, with what comes in front of each, unless memory runs out.
+    /// A copy, unless memory runs out.
     pub(crate) fn try_clone(&self) -> Result<Queue, AllocError>
         ensures { IfOk result (λ copy. queue copy ≡ queue self.now) }
     {

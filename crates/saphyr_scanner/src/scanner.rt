@@ -1,19 +1,22 @@
 //! The scanner as its callers see it. It reads as far into the text as the next token needs.
 
-ghost use Rattle.std.specs.Prelude.{◌≡◌, ◌+◌, ◌<◌, ◌^◌, List, ℕ, IfOk, IsErrAnd, OnErr, OnOk, Some, length, string_bytes};
+ghost use Rattle.std.specs.Prelude.{◌≡◌, ◌+◌, ◌<◌, ◌^◌, true, false, List, ℕ, IfOk, OnErr, OnOk, Some, length, string_bytes};
 ghost use Rattle.saphyr_scalar.specs.declared.scalar.fault.Stop.TheVariants.{OutOfMemory};
+ghost use Rattle.saphyr_scanner.specs.Steps.Fetch.{fill, is_at_start, needs_token, without_far_key};
 ghost use Rattle.saphyr_scanner.specs.Steps.Remaining.{scan};
 ghost use Rattle.saphyr_scanner.specs.Steps.State as spec;
+ghost use Rattle.saphyr_scanner.specs.declared.growth.Growth.TheVariants.{Starved, Whole};
 ghost use Rattle.saphyr_scanner.specs.Views.Engine.{Keeps};
-ghost use Rattle.saphyr_scanner.specs.Views.Scanning.{IsReady, Peeks, tokens_of};
-ghost use Rattle.saphyr_scanner.specs.Views.Tokens.{GivesLast, Piece, Remaining, before, kind_with, parts, piece, text_of, token_kind};
+ghost use Rattle.saphyr_scanner.specs.Views.Scanning.{IsReady, IsUndecided, PeeksToken, Readies, is_growing, tokens_in};
+ghost use Rattle.saphyr_scanner.specs.Views.Tokens.{Piece, Remaining, before, kind_with, parts_view, text_of, token_kind};
 ghost use Rattle.saphyr_scanner.specs.SpansInOrder.{AreInOrder};
 ghost use Rattle.saphyr_scanner.specs.TokensTaken.{AreTakenFrom};
 
 use crate::engine::Engine;
+use crate::growth::Growth;
 use crate::law::{orders_spans, takes_all_tokens, takes_characters_off};
 use crate::stopped::{Stopped, keep};
-use crate::token::{Token, TokenKind, TokenParts};
+use crate::token::{TokenKind, TokenParts};
 use saphyr_input::input::{CloneInput, Input};
 use saphyr_scalar::{Span, Stop, TagParts};
 use std::alloc::{AllocError, Global};
@@ -22,13 +25,15 @@ use std::marker::Model;
 /// The tokens of a text, one after the other.
 ///
 /// `peek` shows the kind of the next token, and leaves it. Its span and its text are asked for only where they are
-/// needed, and `skip`, `take_text` and `take_parts` take it.
+/// needed, and `skip_into`, `take_text_into` and `take_parts` take it.
 ///
-/// Contracts see its state, of which `tokens_of` gives the tokens that are still to come, and the refusal after them,
-/// if one ends them; and what ended the reading, once a call has returned `Stopped`.
+/// Contracts see its state, of which `tokens_in` gives the tokens that are still to come if some characters come behind
+/// those of the input, and the refusal after them, if one ends them. They also see what ended the reading, once a call
+/// has returned `Stopped`.
 pub struct Scanner<T: Input> {
     pub(crate) engine: Engine<T>,
     pub(crate) limit: usize,
+    pub(crate) growth: Growth,
 }
 
 // Written out, so that whoever drops a scanner calls it. A derived one, with those of all inner types, would be copied
@@ -38,6 +43,7 @@ impl<T: Input + Drop> Drop for Scanner<T> {
         let Scanner {
             engine: _engine,
             limit: _limit,
+            growth: _growth,
         } = self;
     }
 }
@@ -48,7 +54,8 @@ impl<T: Input> Model for Scanner<T> {
 
     ghost Value = { Scanning };
 
-    ghost view = { λ s. record { state = state s.engine; limit = s.limit; stop = s.engine.stop } };
+    ghost view = { λ s. record
+        { state = state s.engine; limit = s.limit; growth = s.growth; stop = s.engine.stop } };
 }
 
 impl<T: Input> Scanner<T> {
@@ -61,74 +68,138 @@ impl<T: Input> Scanner<T> {
     pub fn new(alloc: Global, input: T, limit: usize) -> Self
         ensures state { result.state ≡ spec.start (T.rest input) }
         ensures limit { result.limit ≡ limit }
-        ensures tokens { tokens_of result ≡ scan limit (T.rest input) }
-        ensures spans { AreInOrder (length (T.rest input)) 0 (tokens_of result).pieces }
-        ensures taken { AreTakenFrom (T.rest input) (tokens_of result) }
+        ensures growth { result.growth ≡ Whole }
+        ensures tokens { (more : List ℕ) → tokens_in more result ≡ scan limit (T.rest input) }
+        ensures spans { AreInOrder (length (T.rest input)) 0 (scan limit (T.rest input)).pieces }
+        ensures taken { AreTakenFrom (T.rest input) (scan limit (T.rest input)) }
     {
         orders_spans();
         takes_all_tokens();
         Scanner {
             engine: Engine::new(alloc, input),
             limit,
+            growth: Growth::Whole,
         }
     }
 
     /// The kind of the next token, which stays, or `None` after the last.
     ///
+    /// What it tells is so whatever comes behind the characters of the input. Where that is not known, the scanner has
+    /// starved: it returns `Stopped`, as if memory had run out, and `growth` tells so.
+    ///
     /// After an error, nothing is known of what a further call gives.
     #[inline(always)]
     pub fn peek(&mut self) -> Result<Option<TokenKind>, Stopped>
-        ensures { Peeks result self.old self.new }
+        ensures { PeeksToken result self.old self.new }
+    {
+        self.fill()?;
+        self.engine.first()
+    }
+
+    // Reads until the next token can be handed out, unless all were. Mostly there is no candidate, and then this looks
+    // at the queue alone.
+    #[inline(always)]
+    fn fill(&mut self) -> Result<(), Stopped>
+        ensures { Readies result self.old self.new }
+    {
+        if !self.engine.has_no_candidate() {
+            return self.fill_past_candidate();
+        }
+        if self.engine.has_none() {
+            return self.read_on();
+        }
+        Ok(())
+    }
+
+    // Reads until the next token can be handed out, where a candidate may be far or hold it.
+    #[inline(never)]
+    fn fill_past_candidate(&mut self) -> Result<(), Stopped>
+        ensures { Readies result self.old self.new }
+    {
+        self.engine.drop_far_key()?;
+        if self.engine.needs_token() {
+            return self.read_on();
+        }
+        Ok(())
+    }
+
+    // Reads until the next token can be handed out. It starves where what came does not tell that token.
+    #[inline(never)]
+    fn read_on(&mut self) -> Result<(), Stopped>
+        requires needed { needs_token self.old.state ≡ true }
+        requires settled { without_far_key self.old.state ≡ Ok self.old.state }
+        ensures read { Readies result self.old self.new }
+        ensures starved { is_growing self.old.growth ≡ true → self.new.growth ≡ Starved
+            → (is_at_start self.old.state.core ≡ false)
+            × IsUndecided (fill self.old.limit self.old.state) }
     {
         // A law. It does nothing when it runs.
         takes_characters_off();
-        self.engine.peek(self.limit)
+        let starts = self.engine.is_at_start();
+        let read = self.engine.read_tokens(self.limit);
+        if starts {
+            return read;
+        }
+        if !matches!(self.growth, Growth::Growing) {
+            return read;
+        }
+        if self.engine.is_decided(read) {
+            return read;
+        }
+        self.growth = Growth::Starved;
+        Err(self.stop_at(Stop::OutOfMemory))
     }
 
-    /// The span of the next token. To be called where it was peeked.
+    /// The span of the next token goes into the place of another. To be called where it was peeked.
     #[inline(always)]
-    pub fn span(&self) -> Span
+    pub fn span_into(&self, span: &mut Span)
         requires { IsReady self.now }
-        ensures { (t : Piece) (left : Remaining) → tokens_of self.now ≡ before t left
-            → result ≡ t.span }
+        ensures { (more : List ℕ) (t : Piece) (left : Remaining)
+            → tokens_in more self.now ≡ before t left
+            → span.new ≡ t.span }
     {
-        self.engine.span()
+        self.engine.span_into(span);
     }
 
-    /// Takes the next token, and returns its span. To be called where it was peeked.
+    /// Takes the next token. Its span goes into the place of another. To be called where it was peeked.
     #[inline(always)]
-    pub fn skip(&mut self) -> Span
+    pub fn skip_into(&mut self, span: &mut Span)
         requires { IsReady self.old }
-        ensures span { (t : Piece) (left : Remaining) → tokens_of self.old ≡ before t left
-            → result ≡ t.span }
-        ensures left { (t : Piece) (left : Remaining) → tokens_of self.old ≡ before t left
-            → tokens_of self.new ≡ left }
+        ensures span { (more : List ℕ) (t : Piece) (left : Remaining)
+            → tokens_in more self.old ≡ before t left
+            → span.new ≡ t.span }
+        ensures left { (more : List ℕ) (t : Piece) (left : Remaining)
+            → tokens_in more self.old ≡ before t left
+            → tokens_in more self.new ≡ left }
     {
-        self.engine.skip()
+        self.engine.skip_into(span);
     }
 
-    /// Takes the next token, and returns its text, which is empty where its kind has none. To be called where it was
-    /// peeked.
+    /// Takes the next token. Its text, which is empty where its kind has none, goes into the place of another. To be
+    /// called where it was peeked.
     #[inline(always)]
-    pub fn take_text(&mut self) -> Result<String, Stopped>
+    pub fn take_text_into(&mut self, into: &mut String) -> Result<(), Stopped>
         requires { IsReady self.old }
-        ensures text { (t : Piece) (left : Remaining) (text : List ℕ)
-            → tokens_of self.old ≡ before t left → text_of t.kind ≡ Some text
-            → IfOk result (λ taken. string_bytes taken ≡ text) }
-        ensures left { (t : Piece) (left : Remaining) → tokens_of self.old ≡ before t left
-            → OnOk result (tokens_of self.new ≡ left) }
+        ensures text { (more : List ℕ) (t : Piece) (left : Remaining) (text : List ℕ)
+            → tokens_in more self.old ≡ before t left → text_of t.kind ≡ Some text
+            → OnOk result (string_bytes into.new ≡ text) }
+        ensures left { (more : List ℕ) (t : Piece) (left : Remaining)
+            → tokens_in more self.old ≡ before t left
+            → OnOk result (tokens_in more self.new ≡ left) }
         ensures failed { OnErr result (self.new.stop ≡ OutOfMemory) }
     {
-        self.engine.take_text()
+        self.engine.take_text_into(into)
     }
 
     /// Takes the next token, and returns all its parts. To be called where it was peeked.
     pub fn take_parts(&mut self) -> Result<TokenParts, Stopped>
         requires { IsReady self.old }
-        ensures parts { (t : Piece) (left : Remaining) → tokens_of self.old ≡ before t left
-            → IfOk result (λ x. t.kind ≡ kind_with (token_kind t.kind) (parts x)) }
-        ensures left { (t : Piece) (left : Remaining) → tokens_of self.old ≡ before t left
-            → OnOk result (tokens_of self.new ≡ left) }
+        ensures parts { (more : List ℕ) (t : Piece) (left : Remaining)
+            → tokens_in more self.old ≡ before t left
+            → IfOk result (λ x. t.kind ≡ kind_with (token_kind t.kind) (parts_view x)) }
+        ensures left { (more : List ℕ) (t : Piece) (left : Remaining)
+            → tokens_in more self.old ≡ before t left
+            → OnOk result (tokens_in more self.new ≡ left) }
         ensures failed { OnErr result (self.new.stop ≡ OutOfMemory) }
     {
         self.engine.take_parts()
@@ -150,21 +221,15 @@ impl<T: Input> Scanner<T> {
 
     /// Passes on what a call returned, and keeps what ended the reading, if something did.
     #[inline(always)]
+    #[tactic(auto, unfolding(crate::specs::Views::Scanning::tokens_over, crate::specs::Views::Scanning::tokens_in))]
     pub fn keep<R, E: Into<Stop>>(&mut self, read: Result<R, E>) -> Result<R, Stopped>
         ensures kept { Keeps E.converts read result self.new.stop }
+        ensures tokens { (more : List ℕ) → tokens_in more self.new ≡ tokens_in more self.old }
         ensures state { self.new.state ≡ self.old.state }
         ensures limit { self.new.limit ≡ self.old.limit }
+        ensures growth { self.new.growth ≡ self.old.growth }
     {
         self.engine.keep(read)
-    }
-
-    /// Puts a token after all that come, where all tokens of the text were read. So a scanner of an empty text, once
-    /// its two tokens were handed out, is a queue of tokens. `false`: there are others, and the token is dropped.
-    pub fn give(&mut self, token: Token) -> Result<bool, Stopped>
-        ensures { IfOk result
-            (λ given. GivesLast given (piece token) (tokens_of self.old) (tokens_of self.new)) }
-    {
-        self.engine.give(token)
     }
 
     /// Takes a text that is no longer needed. The next one may use its memory.
@@ -182,18 +247,44 @@ impl<T: Input> Scanner<T> {
         self.engine.give_back_tag(tag);
     }
 
-    /// The same scanner, before the characters of another input.
-    pub fn over<U: Input>(self, input: U) -> Scanner<U>
+    /// The input, from the place that is reached.
+    pub fn input(&self) -> &T
+        ensures { T.rest result.now ≡ self.now.state.core.cursor.rest }
+    {
+        self.engine.input()
+    }
+
+    /// How many characters are before the place that is reached.
+    pub fn index(&self) -> usize
+        ensures { result ≡ self.now.state.core.cursor.mark.index }
+    {
+        self.engine.index()
+    }
+
+    /// What is known of the text's end.
+    pub fn growth(&self) -> Growth
+        ensures { result ≡ self.now.growth }
+    {
+        self.growth
+    }
+
+    /// This scanner, before the characters of another input, behind which more may come or not.
+    pub fn over<U: Input>(self, input: U, growth: Growth) -> Scanner<U>
     where
         T: Drop,
         requires { self.state.core.cursor.mark.index + length (U.rest input) < 2 ^ 64 }
-        ensures state { result.state ≡ spec.with_rest (U.rest input) self.state }
-        ensures limit { result.limit ≡ self.limit }
+        ensures { result ≡ record self
+            { state = spec.with_rest (U.rest input) self.state; growth = growth } }
     {
-        let Scanner { engine, limit } = self;
+        let Scanner {
+            engine,
+            limit,
+            growth: _growth,
+        } = self;
         Scanner {
             engine: engine.over(input),
             limit,
+            growth,
         }
     }
 }
@@ -208,6 +299,7 @@ impl<T: CloneInput> Scanner<T> {
         Ok(Scanner {
             engine: self.engine.try_clone()?,
             limit: self.limit,
+            growth: self.growth,
         })
     }
 }

@@ -14,7 +14,7 @@ pub(crate) fn keep<R, E: Into<Stop>>(stop: &mut Stop, read: Result<R, E>) -> Res
     ensures { Keeps E.converts read result stop.new }
 {
     match read {
-        Ok(told) => Ok(told),
+        Ok(value) => Ok(value),
         Err(reason) => {
             *stop = reason.into();
             Err(Stopped)

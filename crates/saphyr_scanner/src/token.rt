@@ -2,9 +2,9 @@
 //! the starts and ends of block collections and a key without `?`.
 
 ghost use Rattle.std.specs.Prelude.{◌≡◌};
-ghost use Rattle.saphyr_scanner.specs.Views.Tokens.{no_parts, parts, style_of};
+ghost use Rattle.saphyr_scanner.specs.Views.Tokens.{no_parts, parts_view, style_of_kind};
 
-use saphyr_scalar::{ScalarStyle, Span};
+use saphyr_scalar::ScalarStyle;
 use std::alloc::Global;
 
 /// What a token is.
@@ -53,7 +53,7 @@ impl TokenKind {
     #[must_use]
     #[inline(always)]
     pub fn style(self) -> Option<ScalarStyle>
-        ensures { result ≡ style_of self }
+        ensures { result ≡ style_of_kind self }
     {
         match self {
             TokenKind::Plain => Some(ScalarStyle::Plain),
@@ -82,7 +82,7 @@ impl TokenParts {
     /// Those of most kinds of tokens.
     #[must_use]
     pub fn none(alloc: Global) -> TokenParts
-        ensures { parts result ≡ no_parts }
+        ensures { parts_view result ≡ no_parts }
     {
         TokenParts {
             handle: String::new(alloc),
@@ -91,14 +91,6 @@ impl TokenParts {
             minor: 0,
         }
     }
-}
-
-/// A token and its place.
-#[derive(Debug, Drop)]
-pub struct Token {
-    pub span: Span,
-    pub kind: TokenKind,
-    pub parts: TokenParts,
 }
 
 // Each place of the queue has one.

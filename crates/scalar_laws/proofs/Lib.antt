@@ -1,5 +1,4 @@
 pub mod Beginnings
-pub mod WhatCame
 pub mod Directives
 pub mod Breaks
 pub mod Block

@@ -5,14 +5,12 @@
 #![tactic(auto)]
 
 mod block_scalars;
-mod came;
 mod directive_lines;
 mod flow_scalars;
 mod line_breaks;
 mod properties;
 
 pub use block_scalars::reads_each_block_scalar;
-pub use came::reads_what_came;
 pub use directive_lines::{reads_each_directive, reads_each_reserved_directive};
 pub use flow_scalars::{passes_to_one_place, reads_each_plain_text, reads_each_quoted};
 pub use line_breaks::reads_breaks_alike;

@@ -1,4 +1,4 @@
 mod Dumped
 mod Ends
 mod Loading
-mod TreesTold
+mod TreesRead

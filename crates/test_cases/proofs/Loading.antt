@@ -12,9 +12,9 @@ use Rattle.saphyr_parser.specs.Answer.{Answer, Ending, empty_answer, fault_alone
 use Rattle.saphyr_parser.specs.Types.Event.{Event}
 use Rattle.saphyr_parser.specs.Cursor.{EventCursor, HandsOutNext, Kept, IsKept, count, inside_behind, to_come, with_event_ahead, answer_behind}
 use Rattle.saphyr_parser.specs.Calls.{EndsTheStream}
-use Rattle.saphyr_parser.specs.Loading.{Portion, is_last, portion, portion_to_send, inside_over, Keeps, Tells, Sends, SendsOne, Stopped, Lost, Finished, Loads}
+use Rattle.saphyr_parser.specs.Loading.{Portion, is_last, portion, portion_to_send, inside_over, Keeps, ReportsFault, Sends, SendsOne, Stopped, Lost, Finished, Loads}
 use Rattle.saphyr_machine.proofs.HandedOver.{behind_first}
-use Rattle.test_events.specs.Lines.{Comes, Comparing, IsNext, PassesLine, event_line, line_of_fault, want_line}
+use Rattle.test_events.specs.Lines.{Comes, Comparing, ComesFirst, PassesLine, event_line, line_of_fault, want_line}
 use Rattle.test_events.specs.Listings.{AreLinesOf, ListAll, lines_of_answer, lines_of_events}
 use Rattle.test_events.proofs.Listings.{hands_less, lists_before, lists_more}
 use Rattle.test_events.specs.declared.difference.Difference.{Difference}
@@ -25,7 +25,7 @@ use Rattle.test_cases.specs.Handed.{HasMore, ListAllButOne, LoadsOn, StandsBetwe
 abbrev pub takes : Comparing → Happening × Span → Result (Unit {0}) Refused → Comparing → Type 0
 takes s e r t = PassesLine r e.0 e.1 s t
 
-next_line : (text : List ℕ) (ls : List (String Global)) → IsNext text ls
+next_line : (text : List ℕ) (ls : List (String Global)) → ComesFirst text ls
     → map string_bytes ls ≡ text ∷ map string_bytes (drop 1 ls)
 next_line text [] next = absurd next
 next_line text (l ∷ ls) next = ap (λ x. x ∷ map string_bytes ls) next
@@ -87,7 +87,7 @@ part_rest multi (e ∷ es) f = rest_behind (is_last multi e.0) e es f (portion m
 
 -- Memory ran out after what was sent.
 lost_lines : (multi : Bool) (old new : EventCursor) (first last : Comparing)
-    → Lost takes (portion_to_send multi old) old first last new → IsNext want_line last.left → drop 1 last.left ≡ []
+    → Lost takes (portion_to_send multi old) old first last new → ComesFirst want_line last.left → drop 1 last.left ≡ []
     → ListAll first.left (to_come old)
 lost_lines multi old new first last lost next over =
     let all = to_come old in
@@ -122,17 +122,17 @@ lists_finished multi old new first last f all =
 -- the fault that was answered has the last line
 pub lists_failed : (multi : Bool) (f : Fault) (old new : EventCursor) (first last : Comparing)
     → Loads takes (Err f) (portion_to_send multi old) old first last new → (f ≡ fault.Receiver → ⊥)
-    → IsNext (line_of_fault f) last.left → drop 1 last.left ≡ [] → ListAll first.left (to_come old)
-lists_failed multi (fault.Scan e) old new first last f told next over =
+    → ComesFirst (line_of_fault f) last.left → drop 1 last.left ≡ [] → ListAll first.left (to_come old)
+lists_failed multi (fault.Scan e) old new first last f known next over =
     lists_sent (portion_to_send multi old).sent first.left last.left (to_come old) (to_come new)
     (sent_lines _ first last f.sends) f.passed.events f.passed.fault
     (lists_more (Some (Err (fault.Scan e))) (to_come new) empty_answer last.left [] (keeps_it new _ f.keeps, refl) next
     (sym over)
     (inl refl))
-lists_failed multi fault.OutOfMemory old new first last lost told next over =
+lists_failed multi fault.OutOfMemory old new first last lost known next over =
     lost_lines multi old new first last lost next over
-lists_failed multi fault.Receiver old new first last f told next over = absurd (told refl)
-lists_failed multi fault.InsideDocument old new first last f told next over = absurd f
+lists_failed multi fault.Receiver old new first last f known next over = absurd (known refl)
+lists_failed multi fault.InsideDocument old new first last f known next over = absurd f
 
 finished_less : (multi : Bool) (old new : EventCursor) (first last : Comparing)
     → Finished takes (portion_to_send multi old) old first last new → 0 < count (to_come old)
@@ -159,7 +159,7 @@ kept_none (Some k) is same = cc
 -- A call that was answered by no fault has handed something over, if something was left.
 load_some : (kept : Option Kept) (finished : Option Span) (inside : Bool) (u : Unit {0}) (multi : Bool)
     (old new : EventCursor) (first last : Comparing) → old.kept ≡ kept → old.finished ≡ finished → old.inside ≡ inside
-    → (IsKept old.kept → Tells (Ok u) old.kept × (last ≡ first) × (new ≡ old))
+    → (IsKept old.kept → ReportsFault (Ok u) old.kept × (last ≡ first) × (new ≡ old))
     → (old.kept ≡ None → (span : Span) → old.finished ≡ Some span
     → SendsOne takes (Ok u) (events.StreamEnd, span) first last × (new ≡ old))
     → (old.kept ≡ None → old.finished ≡ None → old.inside ≡ true
@@ -290,7 +290,7 @@ Taken result r sent last = IfOk result (λ more. TakesAnswer r more sent last)
 
 pub documents_less : (result : Result Bool Difference) (r : Result (Unit {0}) Fault) (old new : EventCursor)
     (first sent last : Comparing) → Taken result r sent last
-    → (IsKept old.kept → Tells r old.kept × (sent ≡ first) × (new ≡ old))
+    → (IsKept old.kept → ReportsFault r old.kept × (sent ≡ first) × (new ≡ old))
     → (old.kept ≡ None → (span : Span) → old.finished ≡ Some span
     → SendsOne takes r (events.StreamEnd, span) first sent × (new ≡ old))
     → (old.kept ≡ None → old.finished ≡ None → old.inside ≡ true

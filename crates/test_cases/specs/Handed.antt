@@ -7,7 +7,7 @@ use Rattle.saphyr_parser.specs.Types.Fault.{Fault}
 use Rattle.saphyr_parser.specs.Types.Fault.TheVariants.{Receiver}
 use Rattle.saphyr_parser.specs.Answer.{Answer, empty_answer}
 use Rattle.saphyr_parser.specs.Cursor.{EventCursor, count, to_come}
-use Rattle.test_events.specs.Lines.{Comparing, IsNext, line_of_fault}
+use Rattle.test_events.specs.Lines.{Comparing, ComesFirst, line_of_fault}
 use Rattle.test_events.specs.Listings.{ListAll, lines_of_events}
 
 -- A parser between documents: no fault was met, and the end of the stream was not handed out.
@@ -44,5 +44,5 @@ LoadsOn false first last old new = last.left ≡ [] → ListAll first.left (to_c
 -- What `load` answered is listed: nothing, or a fault that isn't the receiver's. Whether it was nothing.
 abbrev pub TakesAnswer : Result (Unit {0}) Fault → Bool → Comparing → Comparing → Type 0
 TakesAnswer (Ok u) more old new = (more ≡ true) × (new.left ≡ old.left)
-TakesAnswer (Err f) more old new = (more ≡ false) × (f ≡ Receiver → ⊥) × IsNext (line_of_fault f) old.left
+TakesAnswer (Err f) more old new = (more ≡ false) × (f ≡ Receiver → ⊥) × ComesFirst (line_of_fault f) old.left
     × (new.left ≡ drop 1 old.left)

@@ -27,7 +27,7 @@ abbrev pub HasTrees : Answer → Type 0
 HasTrees all = HasDocuments all ⊎ EndsInRefusal all
 
 -- An answer that only the text decides: documents, or its fault.
-abbrev pub IsTold : Result (Vec Document Global) TreeFault → Type 0
-IsTold (Ok documents) = Unit {0}
-IsTold (Err (fault.Parse (parse.Scan e))) = Unit {0}
-IsTold (Err f) = ⊥
+abbrev pub IsReadOrRefused : Result (Vec Document Global) TreeFault → Type 0
+IsReadOrRefused (Ok documents) = Unit {0}
+IsReadOrRefused (Err (fault.Parse (parse.Scan e))) = Unit {0}
+IsReadOrRefused (Err f) = ⊥

@@ -3,7 +3,7 @@ ghost use Rattle.std.specs.Prelude.{OnOk};
 ghost use Rattle.saphyr_parser.specs.Cursor.{to_come};
 ghost use Rattle.test_events.specs.Listings.{ListAll};
 ghost use Rattle.test_cases.specs.Agreement.{TreesAgree};
-ghost use Rattle.test_cases.specs.Trees.{HasTrees, IsTold};
+ghost use Rattle.test_cases.specs.Trees.{HasTrees, IsReadOrRefused};
 
 use crate::inputs::parser_of;
 use crate::limits::{WIDE, Wanted, first_beyond, needed};
@@ -199,7 +199,7 @@ fn is_wanted_fault(alloc: Global, fault: &TreeFault, wanted: Wanted<'_>) -> Resu
         return Ok(());
     }
     let name = wanted.name();
-    Err(Difference::told(format!(in alloc; "{fault} in place of {name}")))
+    Err(Difference::described(format!(in alloc; "{fault} in place of {name}")))
 }
 
 // The answer is all documents or, where a fault ends the events, that fault.
@@ -209,12 +209,12 @@ fn is_loaded<T: CloneInput>(
     fresh: &Parser<'_, T>,
     lines: &[String],
 ) -> Result<(), Difference>
-    ensures { OnOk result (IsTold answer.now) }
+    ensures { OnOk result (IsReadOrRefused answer.now) }
 {
     match answer {
         Ok(documents) => has_loaded(alloc, documents.as_slice(), fresh, lines),
         Err(TreeFault::Parse(Fault::Scan(error))) => is_ended(alloc, error, lines),
-        Err(fault) => Err(Difference::told(format!(in alloc; "{fault}"))),
+        Err(fault) => Err(Difference::described(format!(in alloc; "{fault}"))),
     }
 }
 
@@ -284,7 +284,7 @@ fn is_given(
     if is_same {
         return Ok(());
     }
-    Err(Difference::told(format!(in alloc; "{event:?} in place of another")))
+    Err(Difference::described(format!(in alloc; "{event:?} in place of another")))
 }
 
 /// Whether this event was handed out.

@@ -3,14 +3,14 @@ use Rattle.std.proofs.Common.{◌≡◌, ℕ, ◌+◌, ◌<◌, List, [], ◌∷
 use Rattle.std.proofs.lemmas.List.{append_assoc, append-nil, map-append, take_more}
 use Rattle.saphyr_scanner.specs.Grammar.Forest as forest
 use Rattle.saphyr_parser.specs.Preorder.{Part, entry_parts, node_parts, pair_parts}
-use Rattle.test_events.specs.TreeSeen.{nodes_of, pairs_of, node_view, nodes_view, pairs_view}
+use Rattle.test_events.specs.TreeSeen.{forest_nodes, pairs_of, node_view, nodes_view, pairs_view}
 use Rattle.test_events.specs.declared.forest.tree.Node.{Node}
 
 one_entry : (xs : List forest.Node) (x : forest.Node)
-    → entry_parts (nodes_of (xs ++ x ∷ [])) ≡ entry_parts (nodes_of xs) ++ node_parts x
+    → entry_parts (forest_nodes (xs ++ x ∷ [])) ≡ entry_parts (forest_nodes xs) ++ node_parts x
 one_entry [] x = append-nil (node_parts x)
 one_entry (y ∷ ys) x = ap (λ t. node_parts y ++ t) (one_entry ys x)
-    ∙ sym (append_assoc (node_parts y) (entry_parts (nodes_of ys)) (node_parts x))
+    ∙ sym (append_assoc (node_parts y) (entry_parts (forest_nodes ys)) (node_parts x))
 
 one_pair : (xs : List (forest.Node × forest.Node)) (x : forest.Node × forest.Node)
     → pair_parts (pairs_of (xs ++ x ∷ [])) ≡ pair_parts (pairs_of xs) ++ (node_parts x.0 ++ node_parts x.1)
@@ -29,12 +29,12 @@ pub more_entries : (xs : List Node) (i : ℕ) (x : Node) (start now new : List P
     → new ≡ start ++ entry_parts (nodes_view (take (i + 1) xs))
 more_entries xs i x start now new h at e f =
     let seen : List forest.Node = map node_view (take i xs) in
-    let whole : entry_parts (nodes_view (take (i + 1) xs)) ≡ entry_parts (nodes_of seen) ++ node_parts (node_view x) =
-    ap (λ t. entry_parts (nodes_view t)) (take_more xs i x h ∙ ap (λ y. take i xs ++ y ∷ []) (sym at))
-    ∙ ap (λ t. entry_parts (nodes_of t)) (map-append node_view (take i xs) (x ∷ []))
+    let whole : entry_parts (nodes_view (take (i + 1) xs)) ≡ entry_parts (forest_nodes seen) ++ node_parts
+    (node_view x) = ap (λ t. entry_parts (nodes_view t)) (take_more xs i x h ∙ ap (λ y. take i xs ++ y ∷ []) (sym at))
+    ∙ ap (λ t. entry_parts (forest_nodes t)) (map-append node_view (take i xs) (x ∷ []))
     ∙ one_entry seen (node_view x) in
     f ∙ ap (λ t. t ++ node_parts (node_view x)) e
-    ∙ append_assoc start (entry_parts (nodes_of seen)) (node_parts (node_view x)) ∙ ap (λ t. start ++ t) (sym whole)
+    ∙ append_assoc start (entry_parts (forest_nodes seen)) (node_parts (node_view x)) ∙ ap (λ t. start ++ t) (sym whole)
 
 pub more_pairs : (xs : List (Node × Node)) (i : ℕ) (x : Node × Node) (start now middle new : List Part) → i < length xs
     → x ≡ get_or xs i x → now ≡ start ++ pair_parts (pairs_view (take i xs))

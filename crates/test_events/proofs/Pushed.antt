@@ -33,9 +33,9 @@ pub pushed_scalar : (text : String Global) (style : Style) (id : ℕ) (tag copie
     → new ≡ old ++ events.Scalar shown style id (option_map resolved_tag copied) ∷ []
     → new ≡ old ++ node_events (Scalar text style id tag)
 pushed_scalar text style id tag copied shown old new s t is =
-    let told : node_events (Scalar text style id tag)
+    let known : node_events (Scalar text style id tag)
     ≡ events.Scalar (string_bytes text) style id (option_map resolved_tag tag) ∷ [] = search (rules, the_lemmas) in
-    rw (told, ← t, ← s) is
+    rw (known, ← t, ← s) is
 
 pub pushed_sequence : (id : ℕ) (tag copied : Option Tag) (v : Vec Node Global) (old begun filled new : List Happening)
     → option_map resolved_tag copied ≡ option_map resolved_tag tag
@@ -43,8 +43,8 @@ pub pushed_sequence : (id : ℕ) (tag copied : Option Tag) (v : Vec Node Global)
     → new ≡ filled ++ happening event.SequenceEnd ∷ [] → new ≡ old ++ node_events (Seq id tag v)
 pushed_sequence id tag copied v old begun filled new t b f w =
     let whole = around _ _ (flat_map node_events v.items) old begun filled new b f w in
-    let told = node_events-Seq id tag v in
-    rw (told, ← t) whole
+    let known = node_events-Seq id tag v in
+    rw (known, ← t) whole
 
 pub pushed_mapping : (id : ℕ) (tag copied : Option Tag) (v : Vec (Node × Node) Global)
     (old begun filled new : List Happening)
@@ -53,5 +53,5 @@ pub pushed_mapping : (id : ℕ) (tag copied : Option Tag) (v : Vec (Node × Node
     → new ≡ filled ++ happening event.MappingEnd ∷ [] → new ≡ old ++ node_events (Map id tag v)
 pushed_mapping id tag copied v old begun filled new t b f w =
     let whole = around _ _ (flat_map pair_events v.items) old begun filled new b f w in
-    let told = node_events-Map id tag v in
-    rw (told, ← t) whole
+    let known = node_events-Map id tag v in
+    rw (known, ← t) whole

@@ -102,14 +102,14 @@ text_before_place (c ∷ line) =
     if is_some (text_behind place_mark (c ∷ line)) && not (has_place line) then [] else c ∷ text_before_place line
 
 -- an event without its place and without what begins a document
-abbrev pub shown_text : List ℕ → List ℕ
-shown_text event = if bytes_eq (text_before_place event) (codes "+DOC ---") then codes "+DOC" else text_before_place
-    event
+abbrev pub placeless_event : List ℕ → List ℕ
+placeless_event event = if bytes_eq (text_before_place event) (codes "+DOC ---") then codes "+DOC"
+    else text_before_place event
 
 -- the line that `dump` writes for an event
 abbrev pub dumped_event : Option (List ℕ) → List ℕ
 dumped_event None = []
-dumped_event (Some event) = shown_text event ++ codes "\n"
+dumped_event (Some event) = placeless_event event ++ codes "\n"
 
 -- that for a line of a case, where it is one of an event
 abbrev pub dumped_line : List ℕ → List ℕ

@@ -103,14 +103,14 @@ abbrev pub item_of : Option (Result (Bor (Event × Span)) (Bor Fault)) → Optio
 item_of item = option_map result_copied item
 
 -- what comes first of these lines
-abbrev pub IsNext : List ℕ → List (String Global) → Type 0
-IsNext text [] = ⊥
-IsNext text (line ∷ lines) = string_bytes line ≡ text
+abbrev pub ComesFirst : List ℕ → List (String Global) → Type 0
+ComesFirst text [] = ⊥
+ComesFirst text (line ∷ lines) = string_bytes line ≡ text
 
 -- The line of what is handed out is the first of these lines, or nothing comes where there is none.
 abbrev pub Comes : Option (Result (Event × Span) Fault) → List (String Global) → Type 0
 Comes None lines = lines ≡ []
-Comes (Some r) lines = IsNext (line_of_item r) lines
+Comes (Some r) lines = ComesFirst (line_of_item r) lines
 
 -- A receiver that compares: the lines that are left, whether something else has come, and how many events it takes
 -- before it refuses one.
@@ -121,7 +121,7 @@ pub record Comparing : Type 0 where
 
 -- What comes is the first line, which is passed. What is refused passes none: it is one too many, or differs.
 abbrev pub PassesLine : Result (Unit {0}) Refused → Happening → Span → Comparing → Comparing → Type 0
-PassesLine (Ok u) e s old new = IsNext (event_line e s) old.left
+PassesLine (Ok u) e s old new = ComesFirst (event_line e s) old.left
     × (new ≡ record old { left = drop 1 old.left; before_refusal = old.before_refusal - 1 })
 PassesLine (Err r) e s old new = ((old.before_refusal ≡ 0) × (new ≡ old))
     ⊎ (new ≡ record old { differs = true; before_refusal = old.before_refusal - 1 })

@@ -41,9 +41,9 @@ tag_view (tags.Shorthand handle suffix) = forest.Shorthand (handle_view handle) 
 abbrev pub properties_view : Properties → forest.Properties
 properties_view p = record { anchor = option_map text_view p.anchor; tag = option_map tag_view p.tag }
 
-abbrev pub nodes_of : List forest.Node → forest.Nodes
-nodes_of [] = forest.NoNode
-nodes_of (node ∷ nodes) = forest.MoreNodes node (nodes_of nodes)
+abbrev pub forest_nodes : List forest.Node → forest.Nodes
+forest_nodes [] = forest.NoNode
+forest_nodes (node ∷ nodes) = forest.MoreNodes node (forest_nodes nodes)
 
 abbrev pub pairs_of : List (forest.Node × forest.Node) → forest.Pairs
 pairs_of [] = forest.NoPair
@@ -53,14 +53,14 @@ pairs_of (pair ∷ pairs) = forest.MorePairs pair.0 pair.1 (pairs_of pairs)
 abbrev pub node_step : Node-F forest.Node → forest.Node
 node_step (Node-F.Alias name) = forest.Alias (text_view name)
 node_step (Node-F.Scalar p style text) = forest.Scalar (properties_view p) style (text_view text)
-node_step (Node-F.Seq p nodes) = forest.Seq (properties_view p) (nodes_of nodes.items)
+node_step (Node-F.Seq p nodes) = forest.Seq (properties_view p) (forest_nodes nodes.items)
 node_step (Node-F.Map p pairs) = forest.Map (properties_view p) (pairs_of pairs.items)
 
 abbrev pub node_view : Node → forest.Node
 node_view = fold-Node forest.Node node_step
 
 abbrev pub nodes_view : List Node → forest.Nodes
-nodes_view nodes = nodes_of (map node_view nodes)
+nodes_view nodes = forest_nodes (map node_view nodes)
 
 abbrev pub pairs_view : List (Node × Node) → forest.Pairs
 pairs_view pairs = pairs_of (map (λ pair. (node_view pair.0, node_view pair.1)) pairs)

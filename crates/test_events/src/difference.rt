@@ -28,11 +28,11 @@ impl From<AllocError> for Difference {
 impl Difference {
     /// A difference, or that there is no memory for its text.
     pub fn new(alloc: Global, text: &str) -> Self {
-        Difference::told(String::from_str(alloc, text))
+        Difference::described(String::from_str(alloc, text))
     }
 
     /// A difference with a text, or that there was no memory for it.
-    pub fn told(text: Result<String, AllocError>) -> Self {
+    pub fn described(text: Result<String, AllocError>) -> Self {
         match text {
             Ok(text) => Difference::Found(text),
             Err(error) => Difference::OutOfMemory(error),
@@ -60,7 +60,7 @@ impl Difference {
     /// The difference, with where it was found.
     pub fn within(self, alloc: Global, place: &str) -> Self {
         match self {
-            Difference::Found(text) => Difference::told(format!(in alloc; "{place}: {text}")),
+            Difference::Found(text) => Difference::described(format!(in alloc; "{place}: {text}")),
             Difference::OutOfMemory(error) => Difference::OutOfMemory(error),
         }
     }

@@ -1,6 +1,6 @@
 //! The lines that a parser is to give.
 ghost use Rattle.std.specs.Prelude.{◌≡◌, OnOk, [], drop, is_ok, if◌then◌else◌, string_bytes};
-ghost use Rattle.test_events.specs.Lines.{Comes, IsNext, item_of};
+ghost use Rattle.test_events.specs.Lines.{Comes, ComesFirst, item_of};
 
 use crate::difference::Difference;
 use crate::printing::push_item;
@@ -69,7 +69,7 @@ impl<'a> Expected<'a> {
         is_first(self.alloc, &self.shown, self.lines)
     }
 
-    /// The same, and the next line has come.
+    /// Compares the next line, which has then come.
     pub fn pass(
         &mut self,
         item: Option<Result<&(Event<'_>, Span), &Fault>>,
@@ -84,7 +84,7 @@ impl<'a> Expected<'a> {
         passed
     }
 
-    /// The same of what was handed out.
+    /// Compares the next line with what was handed out.
     pub fn pass_given(
         &mut self,
         item: Option<Result<(Event<'_>, Span), Fault>>,
@@ -97,7 +97,7 @@ impl<'a> Expected<'a> {
         passed
     }
 
-    /// The same of what is kept.
+    /// Compares the next line with what is kept.
     pub fn pass_item(
         &mut self,
         item: &Option<Result<(Event<'_>, Span), Fault>>,
@@ -117,21 +117,23 @@ impl<'a> Expected<'a> {
     {
         match self.lines.first() {
             None => Ok(()),
-            Some(wanted) => Err(Difference::told(format!(in self.alloc; "{wanted:?} is missing"))),
+            Some(wanted) => Err(Difference::described(format!(in self.alloc;
+                "{wanted:?} is missing"
+            ))),
         }
     }
 }
 
 // The line is the first of these.
 fn is_first(alloc: Global, line: &String, lines: &[String]) -> Result<(), Difference>
-    ensures { OnOk result (IsNext (string_bytes line.now) lines.now) }
+    ensures { OnOk result (ComesFirst (string_bytes line.now) lines.now) }
 {
     match lines.first() {
         Some(wanted) if *wanted == *line => Ok(()),
         Some(wanted) => {
             let text = format!(in alloc; "{line:?} in place of {wanted:?}");
-            Err(Difference::told(text))
+            Err(Difference::described(text))
         }
-        None => Err(Difference::told(format!(in alloc; "{line:?} is too much"))),
+        None => Err(Difference::described(format!(in alloc; "{line:?} is too much"))),
     }
 }

@@ -1,7 +1,7 @@
 //! A receiver of events.
 ghost use Rattle.std.specs.Prelude.{◌≡◌, ◌^◌, ◌-◌, OnOk, IfErr, [], drop, false};
 ghost use Rattle.saphyr_parser.specs.Views.Events.{happening};
-ghost use Rattle.test_events.specs.Lines.{IsNext, PassesLine, line_of_fault};
+ghost use Rattle.test_events.specs.Lines.{ComesFirst, PassesLine, line_of_fault};
 
 use crate::difference::Difference;
 use crate::expected::Expected;
@@ -93,7 +93,7 @@ impl<'a> ComparingReceiver<'a> {
     /// What has come is as expected. What differed is told once.
     pub fn check(&mut self) -> Result<(), Difference>
         ensures same { OnOk result (self.old.differs ≡ false) }
-        ensures told { self.new ≡ record self.old { differs = false } }
+        ensures reported { self.new ≡ record self.old { differs = false } }
     {
         match self.found.take() {
             Some(difference) => Err(difference),
@@ -105,7 +105,7 @@ impl<'a> ComparingReceiver<'a> {
     pub fn check_end(&mut self) -> Result<(), Difference>
         ensures ends { OnOk result (self.old.left ≡ []) }
         ensures same { OnOk result (self.old.differs ≡ false) }
-        ensures told { self.new ≡ record self.old { differs = false } }
+        ensures reported { self.new ≡ record self.old { differs = false } }
     {
         self.check()?;
         self.expected.is_next(None)
@@ -116,7 +116,7 @@ impl<'a> ComparingReceiver<'a> {
         ensures same { OnOk result (self.old.differs ≡ false) }
         ensures whole { OnOk answer (self.new.left ≡ self.old.left) }
         ensures fault { IfErr answer (λ f. OnOk result
-            (IsNext (line_of_fault f) self.old.left × (self.new.left ≡ drop 1 self.old.left))) }
+            (ComesFirst (line_of_fault f) self.old.left × (self.new.left ≡ drop 1 self.old.left))) }
     {
         match answer {
             Ok(()) => self.check(),
@@ -131,7 +131,7 @@ impl<'a> ComparingReceiver<'a> {
     // What has come is as expected, and the line of a fault is the next one.
     fn check_fault(&mut self, fault: &Fault) -> Result<(), Difference>
         ensures same { OnOk result (self.old.differs ≡ false) }
-        ensures passes { OnOk result (IsNext (line_of_fault fault.now) self.old.left
+        ensures passes { OnOk result (ComesFirst (line_of_fault fault.now) self.old.left
             × (self.new.left ≡ drop 1 self.old.left)) }
     {
         self.check()?;

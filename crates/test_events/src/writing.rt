@@ -25,7 +25,7 @@ pub fn printed(alloc: Global, lines: &[String]) -> Result<String, AllocError>
 
 // An event without its place.
 fn shown(event: &str) -> &str
-    ensures { result.now ≡ files.shown_text event.now }
+    ensures { result.now ≡ files.placeless_event event.now }
 {
     let (event, _) = event.rsplit_once(" @ ").unwrap_or((event, ""));
     if event == "+DOC ---" { "+DOC" } else { event }

@@ -42,7 +42,7 @@ fn are_dumped<T: Input + Drop>(
     holds
 }
 
-// The same of a text, with a writer that has taken nothing.
+// Whether a text is dumped so by a writer that has taken nothing.
 fn dumps(alloc: Global, text: &str, manner: Manner, answers: &[&str], lines: &str) -> bool {
     let mut out = Keeping::new(alloc, manner);
     let parser = Parser::new_from_str(alloc, text);

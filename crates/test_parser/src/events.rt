@@ -1,6 +1,6 @@
 //! What no clause says: that calls succeed, and which fault a text gets.
-use crate::telling::Call::{LoadPlaceless, Next, Peek};
-use crate::telling::{Calls, Row, expect_each};
+use crate::showing::Call::{LoadPlaceless, Next, Peek};
+use crate::showing::{Calls, Row, expect_each};
 
 const AT_EACH_END: Calls = (&[Next, Peek, Next, Next, Peek], None);
 
@@ -118,6 +118,6 @@ nothing
 ];
 
 #[test]
-fn tells_what_comes_and_each_fault(rt: HostRuntime) {
+fn shows_what_comes_and_each_fault(rt: HostRuntime) {
     expect_each(&rt, rt.alloc(), ROWS);
 }

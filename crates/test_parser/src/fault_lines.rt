@@ -14,7 +14,7 @@ fn has_its_line(alloc: Global, fault: Fault) -> bool {
     has_its_line
 }
 
-// The same of a fault that has a text.
+// Whether the fault of a refused text has its line.
 fn refusal_has_its_line(alloc: Global) -> bool {
     match ScanError::new_str(alloc, Marker::new(3, 1, 2), "a text") {
         Ok(error) => has_its_line(alloc, Fault::Scan(error)),

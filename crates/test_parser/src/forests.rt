@@ -142,7 +142,7 @@ fn printed(alloc: Global, forest: &[Document], keep: bool) -> Result<String, All
 }
 
 // Whether the forest of a table has these events, where prefixes are kept for later documents or aren't.
-fn tells(alloc: Global, entries: &[Entry], keep: bool, events: &str) -> bool {
+fn shows(alloc: Global, entries: &[Entry], keep: bool, events: &str) -> bool {
     match forest(alloc, entries) {
         Ok(forest) => {
             let text = printed(alloc, forest.as_slice(), keep);
@@ -242,9 +242,9 @@ const TOLD: &[(&[Entry], bool, &str)] = &[
 ];
 
 #[test]
-fn tells_forests(rt: HostRuntime) {
+fn shows_forests(rt: HostRuntime) {
     for &(entries, keep, events) in TOLD {
-        assert!(rt; tells(rt.alloc(), entries, keep, events), "{events:?}");
+        assert!(rt; shows(rt.alloc(), entries, keep, events), "{events:?}");
     }
 }
 

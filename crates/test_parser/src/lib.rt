@@ -32,7 +32,7 @@ mod reader;
 #[cfg(test)]
 mod running;
 #[cfg(test)]
-mod telling;
+mod showing;
 #[cfg(test)]
 mod trees;
 #[cfg(test)]

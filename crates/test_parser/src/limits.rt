@@ -1,6 +1,6 @@
 //! Texts with limits on their characters.
 use crate::helpers::{expect, repeated};
-use crate::telling::{Calls, told_by_iter, told_by_list, told_by_str};
+use crate::showing::{Calls, shown_by_iter, shown_by_list, shown_by_str};
 use std::alloc::Global;
 use std::process::Abort;
 
@@ -124,22 +124,22 @@ const THREE_CHARACTERS: &str = "> +STR @ 0,1,0 0,1,0
 const NO_CALLS: Calls = (&[], None);
 
 // These are the lines, and after them the text is too long or isn't.
-fn are_lines(told: String, lines: &str, is_too_long: bool) -> bool {
-    let holds = match before_too_long(told.as_str()) {
+fn are_lines(printed: String, lines: &str, is_too_long: bool) -> bool {
+    let holds = match before_too_long(printed.as_str()) {
         Some(before) => is_too_long && before == lines,
-        None => !is_too_long && told.as_str() == lines,
+        None => !is_too_long && printed.as_str() == lines,
     };
-    drop(told);
+    drop(printed);
     holds
 }
 
 // Three characters of a text may be read, and each input gives these lines.
 fn expect_by_each(rt: &impl Abort, alloc: Global, text: &str, lines: &str, is_too_long: bool) {
-    let by_str = told_by_str(alloc, text, Some(3), NO_CALLS);
+    let by_str = shown_by_str(alloc, text, Some(3), NO_CALLS);
     expect(rt, are_lines(by_str, lines, is_too_long), text);
-    let by_iter = told_by_iter(alloc, text, Some(3), NO_CALLS);
+    let by_iter = shown_by_iter(alloc, text, Some(3), NO_CALLS);
     expect(rt, are_lines(by_iter, lines, is_too_long), text);
-    let by_list = told_by_list(alloc, text, Some(3), NO_CALLS);
+    let by_list = shown_by_list(alloc, text, Some(3), NO_CALLS);
     expect(rt, are_lines(by_list, lines, is_too_long), text);
 }
 
@@ -152,23 +152,23 @@ fn refuses_a_text_past_the_limit(rt: HostRuntime) {
 
 // The lines are all lines of the text, or, where not all of it may be read, a beginning of them and then that the text
 // is too long.
-fn are_within(told: String, all: &str, is_whole: bool) -> bool {
-    let holds = match before_too_long(told.as_str()) {
+fn are_within(printed: String, all: &str, is_whole: bool) -> bool {
+    let holds = match before_too_long(printed.as_str()) {
         Some(before) => !is_whole && all.starts_with(before),
-        None => told.as_str() == all,
+        None => printed.as_str() == all,
     };
-    drop(told);
+    drop(printed);
     holds
 }
 
 // With this limit each input gives all these lines of a text, or a beginning of them.
 fn gives_within(alloc: Global, text: &str, limit: usize, all: &str) -> bool {
     let is_whole = limit == text.len();
-    let by_str = told_by_str(alloc, text, Some(limit), NO_CALLS);
+    let by_str = shown_by_str(alloc, text, Some(limit), NO_CALLS);
     let holds_by_str = are_within(by_str, all, is_whole);
-    let by_iter = told_by_iter(alloc, text, Some(limit), NO_CALLS);
+    let by_iter = shown_by_iter(alloc, text, Some(limit), NO_CALLS);
     let holds_by_iter = are_within(by_iter, all, is_whole);
-    let by_list = told_by_list(alloc, text, Some(limit), NO_CALLS);
+    let by_list = shown_by_list(alloc, text, Some(limit), NO_CALLS);
     holds_by_str && holds_by_iter && are_within(by_list, all, is_whole)
 }
 
@@ -184,7 +184,7 @@ fn gives_beginnings_of(alloc: Global, text: &str, all: &str) -> bool {
 
 // With each limit up to its length a text gives what it gives without, or a beginning of that.
 fn gives_beginnings(alloc: Global, text: &str) -> bool {
-    let all = told_by_str(alloc, text, None, NO_CALLS);
+    let all = shown_by_str(alloc, text, None, NO_CALLS);
     let holds = gives_beginnings_of(alloc, text, all.as_str());
     drop(all);
     holds

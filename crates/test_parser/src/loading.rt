@@ -1,8 +1,8 @@
 //! What `load` hands over and where it stops: at a document's end, at a fault, and where the receiver refuses.
 ghost use Rattle.std.specs.Prelude.{◌≡◌, ◌⊎◌};
 
-use crate::telling::Call::{Load, LoadAll, LoadPlaceless, LoadRefused, Next, Peek};
-use crate::telling::{Row, expect_each, expect_lines, told};
+use crate::showing::Call::{Load, LoadAll, LoadPlaceless, LoadRefused, Next, Peek};
+use crate::showing::{Row, expect_each, expect_lines, shown};
 use saphyr_parser::Parser;
 use std::alloc::Global;
 
@@ -39,11 +39,11 @@ impl Iterator for Stutter {
 }
 
 // The lines of all that it gives from a place on.
-fn told_from(alloc: Global, place: u8) -> String
+fn shown_from(alloc: Global, place: u8) -> String
     requires { (place ≡ 0) ⊎ (place ≡ 3) }
 {
     match Parser::new_from_iter(alloc, Stutter { place }) {
-        Ok(parser) => told(alloc, parser, (&[LoadAll], None)),
+        Ok(parser) => shown(alloc, parser, (&[LoadAll], None)),
         Err(_) => String::new(alloc),
     }
 }
@@ -170,6 +170,6 @@ const ENDS_INSIDE: &str = "> +STR @ 0,1,0 0,1,0
 
 #[test]
 fn loads_an_iterator_up_to_its_first_none(rt: HostRuntime) {
-    expect_lines(&rt, told_from(rt.alloc(), 0), UP_TO_NONE);
-    expect_lines(&rt, told_from(rt.alloc(), 3), ENDS_INSIDE);
+    expect_lines(&rt, shown_from(rt.alloc(), 0), UP_TO_NONE);
+    expect_lines(&rt, shown_from(rt.alloc(), 3), ENDS_INSIDE);
 }

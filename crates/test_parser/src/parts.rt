@@ -55,16 +55,16 @@ const TOLD: &[(Kind, usize, Parts, &str)] = &[
 ];
 
 #[test]
-fn tells_of_each_event(rt: HostRuntime) {
+fn shows_of_each_event(rt: HostRuntime) {
     for &(kind, id, parts, line) in TOLD {
-        expect(&rt, is_told(rt.alloc(), kind, id, parts, line), line);
+        expect(&rt, is_shown(rt.alloc(), kind, id, parts, line), line);
     }
 }
 
 // Whether this is told of the event of a kind, which has an equal copy.
-fn is_told(alloc: Global, kind: Kind, id: usize, parts: Parts, line: &str) -> bool {
+fn is_shown(alloc: Global, kind: Kind, id: usize, parts: Parts, line: &str) -> bool {
     match tag_of(alloc, parts) {
-        Ok(tag) => tells(alloc, event_of(kind, id, tag), line),
+        Ok(tag) => shows(alloc, event_of(kind, id, tag), line),
         Err(_) => false,
     }
 }
@@ -104,12 +104,12 @@ fn event_without_tag(kind: Kind, id: usize) -> Event<'static> {
     }
 }
 
-fn tells(alloc: Global, event: Event<'_>, line: &str) -> bool {
-    let mut told = String::new(alloc);
-    push_told(&mut told, &event);
+fn shows(alloc: Global, event: Event<'_>, line: &str) -> bool {
+    let mut shown = String::new(alloc);
+    push_shown(&mut shown, &event);
     let has_copies = is_copied(&event);
     drop(event);
-    has_copies && told.as_str() == line
+    has_copies && shown.as_str() == line
 }
 
 // Whether an event and its tag have equal copies.
@@ -130,14 +130,14 @@ fn is_made<V: PartialEq + Drop>(made: Result<V, AllocError>, like: &V) -> bool {
 }
 
 // Adds whether something begins or ends, the anchor's id after `&`, and the tag.
-fn push_told(told: &mut String, event: &Event<'_>) {
-    let _ = told.push_str(if event.is_start() { "begins" } else { "" });
-    let _ = told.push_str(if event.is_end() { "ends" } else { "" });
+fn push_shown(shown: &mut String, event: &Event<'_>) {
+    let _ = shown.push_str(if event.is_start() { "begins" } else { "" });
+    let _ = shown.push_str(if event.is_end() { "ends" } else { "" });
     if let Some(id) = event.anchor_id() {
-        let _ = write!(told, "&{id}");
+        let _ = write!(shown, "&{id}");
     }
     if let Some(tag) = event.tag() {
-        let _ = told.push_str(tag.handle.as_str());
-        let _ = told.push_str(tag.suffix.as_str());
+        let _ = shown.push_str(tag.handle.as_str());
+        let _ = shown.push_str(tag.suffix.as_str());
     }
 }

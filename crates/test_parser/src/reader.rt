@@ -4,4 +4,4 @@
 mod input;
 mod scalar;
 mod scanner;
-mod told;
+mod shown;

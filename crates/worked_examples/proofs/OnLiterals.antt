@@ -13,7 +13,7 @@ use Rattle.saphyr_scalar.specs.Views.Cursor.{behind_separation, separation}
 use Rattle.saphyr_scanner.specs.Steps.Property.{read_name, name_steps, read_tag, tag_steps}
 use Rattle.saphyr_scanner.specs.Steps.Flow.{open_collection, opening_steps, close_collection, closing_steps, next_flow_entry, flow_entry_steps}
 use Rattle.saphyr_scanner.specs.Steps.Fetch.{flow_value_steps, step, state_behind_content, fetch_here, arrive, fetch, fetch_within, fill}
-use Rattle.saphyr_scanner.specs.Steps.Scalar.{goes_on_behind_quotes, behind_quotes, read_double_quoted, double_quoted_steps, read_single_quoted, single_quoted_steps, read_plain, plain_steps, read_block, block_scalar_steps}
+use Rattle.saphyr_scanner.specs.Steps.Scalar.{goes_on_behind_quotes, behind_quotes, quoted_steps, read_plain, plain_steps, read_block, block_scalar_steps}
 use Rattle.saphyr_scanner.specs.Steps.Unrolling.{unroll}
 use Rattle.saphyr_scanner.specs.Steps.Remaining.{remaining}
 use Rattle.saphyr_scanner.specs.Steps.Gap.{stop}
@@ -36,9 +36,8 @@ unfolding anchor_name_of anchor escaped_byte utf8_width leading_bits trailing_by
     last_chomping header_behind header pass_empty_lines line_starts is_unfinished tail_alone given_indentation
     chomped_lines content behind_leading_lines behind_header block_scalar between line behind_separation separation
     unroll stop remove_key drop_far_key goes_on_behind check_comment pass_gap read_name name_steps read_tag
-    tag_steps goes_on_behind_quotes behind_quotes read_double_quoted double_quoted_steps read_single_quoted
-    single_quoted_steps read_plain plain_steps read_block block_scalar_steps open_collection opening_steps
-    close_collection closing_steps next_flow_entry flow_entry_steps pass_dash next_entry block_entry_steps
+    tag_steps goes_on_behind_quotes behind_quotes quoted_steps read_plain plain_steps read_block
+    block_scalar_steps open_collection opening_steps close_collection closing_steps next_flow_entry flow_entry_steps pass_dash next_entry block_entry_steps
     behind_mark begin_key key_steps check_tab value_of_key opening_actions value_alone behind_key value_steps
     end_content end_at state_behind_end state_behind_marker end_line state_behind_document_end
     state_behind_byte_order_mark read_directive state_behind_directive flow_value_steps step state_behind_content

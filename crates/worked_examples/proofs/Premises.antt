@@ -119,7 +119,7 @@ line_stands =
       refl,
     )
 
-start_has_events : (keep : Bool) → events forests.start_forest keep ≡ Some forests.start_told
+start_has_events : (keep : Bool) → events forests.start_forest keep ≡ Some forests.start_emitted
 start_has_events true = refl
 start_has_events false = refl
 
@@ -134,9 +134,9 @@ line_closes keep =
       marker = Starts;
       ends = ([], [], ([], [], tt, inl refl, refl), inl (inl refl), refl);
       forest = forests.start_forest;
-      told = forests.start_told;
+      emitted = forests.start_emitted;
       promised = record { stands_for = line_stands; within = omega arith; has_events = start_has_events keep };
       earlier = events.StreamStart ∷ [];
       is_first = refl;
-      are_told = refl;
+      are_emitted = refl;
     }

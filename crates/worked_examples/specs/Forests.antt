@@ -109,6 +109,6 @@ abbrev pub start_events : List Happening
 start_events = events.StreamStart ∷ events.DocumentStart true ∷ []
 
 -- all its events
-abbrev pub start_told : List Happening
-start_told = events.StreamStart ∷ events.DocumentStart true ∷ plain_event [] ∷ events.DocumentEnd ∷ events.StreamEnd
+abbrev pub start_emitted : List Happening
+start_emitted = events.StreamStart ∷ events.DocumentStart true ∷ plain_event [] ∷ events.DocumentEnd ∷ events.StreamEnd
     ∷ []

@@ -57,8 +57,8 @@ pub fn resolves_tags()
 {}
 
 /// Wrong tokens, which are not taken from their texts: `[a]` without the token of its `a`; `-` LF `- a` with the second
-/// `-` in the first entry; `: :` LF `a :` with the `a` in the inner mapping; `!a` as the tag `!` and the scalar `a`; and
-/// `&c a: b` with the anchor at the mapping, on whose first line it is.
+/// `-` in the first entry; `: :` LF `a :` with the `a` in the inner mapping; `!a` as the tag `!` and the scalar `a`;
+/// and `&c a: b` with the anchor at the mapping, on whose first line it is.
 pub fn takes_no_other_tokens()
     ensures dropped_text { ¬ AreTakenFrom (codes "[a]") wrong.dropped_text }
     ensures other_nesting { ¬ AreTakenFrom (codes "-\n- a") wrong.other_nesting }

@@ -20,11 +20,11 @@ use Rattle.yaml_check.specs.declared.arguments.Options.{Options}
 use Rattle.yaml_check.specs.declared.finding.Findings.{Findings}
 use Rattle.yaml_check.specs.declared.run.CheckFault.{CheckFault}
 use Rattle.yaml_check.specs.declared.run.CheckFault.TheVariants as fault
-use Rattle.yaml_check.specs.declared.run.Verdict.{Verdict}
-use Rattle.yaml_check.specs.Checked.{NamesFault, NamesWarnings}
-use Rattle.yaml_check.specs.Reports.{IsReport}
-use Rattle.yaml_check.specs.Shown.{shown_text}
-use Rattle.yaml_check.specs.Checks.{Checks, IsCutShort, Judges, JudgesBytes, WritesLines, WritesTold, events_asked, told_unless_quiet}
+use Rattle.yaml_check.specs.declared.finding.Verdict.{Verdict}
+use Rattle.yaml_check.specs.declared.finding.Verdict.TheVariants as verdict
+use Rattle.yaml_check.specs.Checked.{NamesFault, NamesNotes, NamesWarnings}
+use Rattle.yaml_check.specs.Reports.{IsReport, name_in}
+use Rattle.yaml_check.specs.Checks.{Checks, IsClean, IsCutShort, IsReported, Judges, JudgesBytes, WritesLines, WritesTold, events_asked, told_unless_quiet}
 
 pub judges_text : (r : Result Verdict CheckFault) (name : List ℕ) (options : Options) (text bytes : List ℕ)
     (old new : Option (List ℕ)) → text ≡ bytes → IsUtf8 bytes → Judges r name options text old new
@@ -32,17 +32,12 @@ pub judges_text : (r : Result Verdict CheckFault) (name : List ℕ) (options : O
 judges_text r name options text bytes old new same utf8 h =
     inl (utf8, subst (λ (b : List ℕ). Judges r name options b old new) same h)
 
-never_unread : (r : Result Verdict CheckFault) (name : List ℕ) (options : Options) (bytes : List ℕ)
-    (old new : Option (List ℕ)) → JudgesBytes (Err fault.CantRead) name options bytes old new → ⊥
-never_unread r name options bytes old new (inl h) = h.1
-never_unread r name options bytes old new (inr h) = h.1
-
 pub checks_read : (r : Result Verdict CheckFault) (name : List ℕ) (options : Options) (bytes : List ℕ)
     (unread left old new : Option (List ℕ)) → ReadsAll unread left bytes → JudgesBytes r name options bytes old new
     → Checks r name options unread left old new
 checks_read (Ok v) name options bytes unread left old new read h = (bytes, read, h)
-checks_read (Err fault.CantRead) name options bytes unread left old new read h =
-    absurd (never_unread (Err fault.CantRead) name options bytes old new h)
+checks_read (Err (fault.CantRead e)) name options bytes unread left old new read (inl h) = absurd h.1
+checks_read (Err (fault.CantRead e)) name options bytes unread left old new read (inr h) = absurd h.1
 checks_read (Err fault.CantWrite) name options bytes unread left old new read h = (bytes, read, h)
 checks_read (Err fault.OutOfMemory) name options bytes unread left old new read h = (bytes, read, h)
 
@@ -86,13 +81,14 @@ cut_lines name options bytes old new t =
 -- of what is told not all was written
 pub cut_report : (name : List ℕ) (options : Options) (bytes told : List ℕ) (old middle new : Option (List ℕ))
     (found : Findings) → NamesFault (answer_of_text bytes) found
-    → NamesWarnings options.limits (answer_of_text bytes) found
-    → IsReport (shown_text name) (chars bytes) found told
+    → NamesWarnings options.rules options.limits (answer_of_text bytes) found
+    → NamesNotes (chars bytes) (answer_of_text bytes) found
+    → IsReport options.format options.max_findings (name_in options.format name) (chars bytes) found told
     → Appends old middle (events_asked options (answer_of_text bytes))
     → TakesBeginning middle new (told_unless_quiet options told) → IsCutShort name options bytes old new
-cut_report name options bytes told old middle new found names warns report lines t = record {
+cut_report name options bytes told old middle new found names warns notes report lines t = record {
   told = told;
-  report = inr (found, names, warns, report);
+  report = inr (found, names, warns, notes, report);
   taken = takes_more old middle new _ _ lines t;
 }
 
@@ -170,21 +166,29 @@ write_cut_of options d p q left old new asks same is h =
 pub lines_cut : (f : CheckFault) (name : List ℕ) (options : Options) (bytes : List ℕ) (old new : Option (List ℕ))
     → WritesLines (Err f) (events_asked options (answer_of_text bytes)) old new
     → Judges (Err f) name options bytes old new
-lines_cut fault.CantRead name options bytes old new h = absurd h
+lines_cut (fault.CantRead e) name options bytes old new h = absurd h
 lines_cut fault.CantWrite name options bytes old new h = cut_lines name options bytes old new h
 lines_cut fault.OutOfMemory name options bytes old new h = h
 
 pub told_cut : (f : CheckFault) (name : List ℕ) (options : Options) (bytes told : List ℕ) (old middle new :
     Option (List ℕ))
     (found : Findings) → NamesFault (answer_of_text bytes) found
-    → NamesWarnings options.limits (answer_of_text bytes) found
-    → IsReport (shown_text name) (chars bytes) found told
+    → NamesWarnings options.rules options.limits (answer_of_text bytes) found
+    → NamesNotes (chars bytes) (answer_of_text bytes) found
+    → IsReport options.format options.max_findings (name_in options.format name) (chars bytes) found told
     → Appends old middle (events_asked options (answer_of_text bytes))
     → WritesTold (Err f) (told_unless_quiet options told) middle new → Judges (Err f) name options bytes old new
-told_cut fault.CantRead name options bytes told old middle new found names warns report lines h = absurd h
-told_cut fault.CantWrite name options bytes told old middle new found names warns report lines h =
-    cut_report name options bytes told old middle new found names warns report lines h
-told_cut fault.OutOfMemory name options bytes told old middle new found names warns report lines h = absurd h
+told_cut (fault.CantRead e) name options bytes told old middle new found names warns notes report lines h = absurd h
+told_cut fault.CantWrite name options bytes told old middle new found names warns notes report lines h =
+    cut_report name options bytes told old middle new found names warns notes report lines h
+told_cut fault.OutOfMemory name options bytes told old middle new found names warns notes report lines h = absurd h
+
+-- what is told is told by the verdict, where not nothing was found
+pub told_verdict : (v : Verdict) (name : List ℕ) (options : Options) (bytes : List ℕ) (old new : Option (List ℕ))
+    → (told : IsReported v name options bytes old new) → ¬ IsClean told.found → Judges (Ok v) name options bytes old new
+told_verdict verdict.Right name options bytes old new told some = absurd (some told.verdict)
+told_verdict verdict.Warned name options bytes old new told some = told
+told_verdict verdict.Wrong name options bytes old new told some = told
 
 -- the fault of a call is passed on
 

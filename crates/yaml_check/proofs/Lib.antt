@@ -1,5 +1,6 @@
 pub mod Judging
 pub mod KeyMaps
 pub mod StatusLemmas
+pub mod StepsBack
 pub mod ViewParts
 pub mod Warnings

@@ -15,7 +15,8 @@ cut_length false = lit≤ tt
 -- No more fits in front of what is shown from `start` on, where one more would be too many or too wide.
 pub full_front : (most left start c : ℕ) (cs : List ℕ) → left + shown_columns (drop start cs) ≡ most → start ≤ length cs
     → length cs ≤ 200 + start → (200 ≤ length cs - start) ⊎ (left < columns_of c) → IsFull most (drop start cs) c
-full_front most left start c cs sum within few (inl many) = inl (length-drop start cs ∙ omega (arith, many, few, within))
+full_front most left start c cs sum within few (inl many) =
+    inl (length-drop start cs ∙ omega (arith, many, few, within))
 full_front most left start c cs sum within few (inr wide) = inr (omega (arith, sum, wide))
 
 -- the same behind the first `count` characters

@@ -9,16 +9,28 @@ use Rattle.yaml_check.specs.declared.arguments.Options.{Options}
 use Rattle.yaml_check.specs.declared.finding.Findings.{Findings}
 use Rattle.yaml_check.specs.declared.run.CheckFault.{CheckFault}
 use Rattle.yaml_check.specs.declared.run.CheckFault.TheVariants as fault
-use Rattle.yaml_check.specs.declared.run.Verdict.{Verdict}
-use Rattle.yaml_check.specs.declared.run.Verdict.TheVariants as verdict
-use Rattle.yaml_check.specs.Checked.{NamesFault, NamesWarnings}
+use Rattle.yaml_check.specs.declared.finding.Verdict.{Verdict}
+use Rattle.yaml_check.specs.declared.finding.Verdict.TheVariants as verdict
+use Rattle.yaml_check.specs.Checked.{NamesFault, NamesNotes, NamesWarnings}
 use Rattle.yaml_check.specs.Warned.{nothing_seen, warnings_on}
-use Rattle.yaml_check.specs.Reports.{IsReport}
-use Rattle.yaml_check.specs.Shown.{shown_text}
+use Rattle.yaml_check.specs.Reports.{IsReport, name_in}
 
 -- nothing was found
 abbrev pub IsClean : Findings → Type 0
 IsClean found = (found.warnings.items ≡ []) × (found.fault ≡ None)
+
+-- there are warnings, and no fault
+abbrev pub HasWarningsAlone : Findings → Type 0
+HasWarningsAlone found = (¬ (found.warnings.items ≡ [])) × (found.fault ≡ None)
+
+abbrev pub HasFault : Findings → Type 0
+HasFault found = ¬ (found.fault ≡ None)
+
+-- what a verdict says of what was found
+abbrev pub IsVerdict : Verdict → Findings → Type 0
+IsVerdict verdict.Right found = IsClean found
+IsVerdict verdict.Warned found = HasWarningsAlone found
+IsVerdict verdict.Wrong found = HasFault found
 
 -- the lines of the events, where they are asked for
 abbrev pub events_asked : Options → Answer → List ℕ
@@ -31,18 +43,20 @@ told_unless_quiet options told = if options.quiet then [] else told
 -- A text is right: no fault ends its events, no warning is on one of them, and nothing is told of it.
 pub record IsRight (options : Options) (bytes : List ℕ) (old new : Option (List ℕ)) : Type 0 where
   pub fault : (answer_of_text bytes).fault ≡ None
-  pub warnings : warnings_on (answer_of_text bytes).events (nothing_seen options.limits) ≡ []
+  pub warnings : warnings_on (answer_of_text bytes).events (nothing_seen options.rules options.limits) ≡ []
   pub written : Appends old new (events_asked options (answer_of_text bytes))
 
--- A text has a fault or a warning. What is told of it names the fault of the parser, or none where it has none, and
--- the warnings on its events.
-pub record IsWrong (name : List ℕ) (options : Options) (bytes : List ℕ) (old new : Option (List ℕ)) : Type 0 where
+-- A text has warnings, or a fault, as the verdict says. What is told of it names the fault of the parser, or none where
+-- it has none, the warnings on its events, and the notes.
+pub record IsReported (v : Verdict) (name : List ℕ) (options : Options) (bytes : List ℕ) (old new : Option (List ℕ)) :
+    Type 0 where
   pub found : Findings
-  pub some : ¬ IsClean found
+  pub verdict : IsVerdict v found
   pub names : NamesFault (answer_of_text bytes) found
-  pub warns : NamesWarnings options.limits (answer_of_text bytes) found
+  pub warns : NamesWarnings options.rules options.limits (answer_of_text bytes) found
+  pub notes : NamesNotes (chars bytes) (answer_of_text bytes) found
   pub told : List ℕ
-  pub report : IsReport (shown_text name) (chars bytes) found told
+  pub report : IsReport options.format options.max_findings (name_in options.format name) (chars bytes) found told
   pub middle : Option (List ℕ)
   pub events : Appends old middle (events_asked options (answer_of_text bytes))
   pub written : Appends middle new (told_unless_quiet options told)
@@ -52,36 +66,38 @@ pub record IsWrong (name : List ℕ) (options : Options) (bytes : List ℕ) (old
 pub record IsCutShort (name : List ℕ) (options : Options) (bytes : List ℕ) (old new : Option (List ℕ)) : Type 0 where
   pub told : List ℕ
   pub report : (told ≡ []) ⊎ ((found : Findings) × NamesFault (answer_of_text bytes) found
-      × NamesWarnings options.limits (answer_of_text bytes) found × IsReport (shown_text name) (chars bytes) found told)
+      × NamesWarnings options.rules options.limits (answer_of_text bytes) found
+      × NamesNotes (chars bytes) (answer_of_text bytes) found
+      × IsReport options.format options.max_findings (name_in options.format name) (chars bytes) found told)
   pub taken : TakesBeginning old new (events_asked options (answer_of_text bytes) ++ told_unless_quiet options told)
 
 -- What the verdict on a text says of it.
 abbrev pub Judges : Result Verdict CheckFault → List ℕ → Options → List ℕ → Option (List ℕ) → Option (List ℕ) → Type 0
 Judges (Ok verdict.Right) name options bytes old new = IsRight options bytes old new
-Judges (Ok verdict.Wrong) name options bytes old new = IsWrong name options bytes old new
-Judges (Err fault.CantRead) name options bytes old new = ⊥
+Judges (Ok verdict.Warned) name options bytes old new = IsReported verdict.Warned name options bytes old new
+Judges (Ok verdict.Wrong) name options bytes old new = IsReported verdict.Wrong name options bytes old new
+Judges (Err (fault.CantRead e)) name options bytes old new = ⊥
 Judges (Err fault.CantWrite) name options bytes old new = IsCutShort name options bytes old new
 Judges (Err fault.OutOfMemory) name options bytes old new =
     TakesBeginning old new (events_asked options (answer_of_text bytes))
 
--- bytes that are no text are never right
-abbrev pub IsNeverRight : Result Verdict CheckFault → Type 0
-IsNeverRight (Ok verdict.Right) = ⊥
-IsNeverRight (Ok verdict.Wrong) = Unit {0}
-IsNeverRight (Err fault.CantRead) = ⊥
-IsNeverRight (Err _) = Unit {0}
+-- bytes that are no text are wrong
+abbrev pub IsWrong : Result Verdict CheckFault → Type 0
+IsWrong (Ok v) = v ≡ verdict.Wrong
+IsWrong (Err (fault.CantRead e)) = ⊥
+IsWrong (Err _) = Unit {0}
 
 -- What the verdict says of bytes.
 abbrev pub JudgesBytes : Result Verdict CheckFault → List ℕ → Options → List ℕ → Option (List ℕ) → Option (List ℕ)
     → Type 0
 JudgesBytes r name options bytes old new =
-    (IsUtf8 bytes × Judges r name options bytes old new) ⊎ ((¬ IsUtf8 bytes) × IsNeverRight r)
+    (IsUtf8 bytes × Judges r name options bytes old new) ⊎ ((¬ IsUtf8 bytes) × IsWrong r)
 
 -- What a check of a source answers: the bytes that it has left, and those that the writer holds, before and after.
 -- Where the source can't be read, nothing is written.
 abbrev pub Checks : Result Verdict CheckFault → List ℕ → Options → Option (List ℕ) → Option (List ℕ)
     → Option (List ℕ) → Option (List ℕ) → Type 0
-Checks (Err fault.CantRead) name options unread left old new = new ≡ old
+Checks (Err (fault.CantRead e)) name options unread left old new = new ≡ old
 Checks r name options unread left old new =
     (bytes : List ℕ) × ReadsAll unread left bytes × JudgesBytes r name options bytes old new
 
@@ -90,7 +106,7 @@ Checks r name options unread left old new =
 -- Lines of events were written, or a beginning of them.
 abbrev pub WritesLines : Result (Unit {0}) CheckFault → List ℕ → Option (List ℕ) → Option (List ℕ) → Type 0
 WritesLines (Ok u) lines old new = Appends old new lines
-WritesLines (Err fault.CantRead) lines old new = ⊥
+WritesLines (Err (fault.CantRead e)) lines old new = ⊥
 WritesLines (Err _) lines old new = TakesBeginning old new lines
 
 -- A text was written, or the writer failed and took a beginning of it.

@@ -6,6 +6,7 @@ use Rattle.std.specs.Cmp.Lexicographic.{slice_cmp}
 use Rattle.std.specs.Map.{lookup}
 use Rattle.std.specs.BTreeMap.{insert_entry, is_at}
 use Rattle.saphyr_parser.specs.Words.Marker.{Marker}
+use Rattle.saphyr_parser.specs.Words.Span.{Span}
 use Rattle.saphyr_parser.specs.Events.{ResolvedTag, Happening, Alias, Scalar, SequenceStart, SequenceEnd, MappingStart, MappingEnd}
 use Rattle.yaml_check.specs.declared.keys.Next.{Next}
 use Rattle.yaml_check.specs.declared.keys.Next.TheVariants as next
@@ -62,8 +63,8 @@ abbrev pub first_if : Next → Key → KeyLevel → Option Marker
 first_if next.Key key l = first_place key l
 first_if _ key l = None
 
-abbrev pub first_of : Key → KeyLevel → Option Marker
-first_of key l = first_if l.next key l
+abbrev pub equal_key_place : Key → KeyLevel → Option Marker
+equal_key_place key l = first_if l.next key l
 
 abbrev pub with_key_if : Next → Key → Marker → KeyLevel → KeyLevel
 with_key_if next.Key key place l = with_first_place key place l
@@ -93,17 +94,18 @@ keys_ended_in (l ∷ ls) k = record { here = behind_node l; outer = ls }
 abbrev pub keys_outside : KeysOpen → KeysOpen
 keys_outside k = keys_ended_in k.outer k
 
-abbrev pub keys_behind : Happening → Marker → KeysOpen → KeysOpen
-keys_behind (Alias id) place k = with_here (behind_node k.here) k
-keys_behind (Scalar text style id tag) place k = with_here (behind_scalar (key_of text tag) place k.here) k
-keys_behind (SequenceStart id tag) place k = keys_inside next.Entry k
-keys_behind SequenceEnd place k = keys_outside k
-keys_behind (MappingStart id tag) place k = keys_inside next.Key k
-keys_behind MappingEnd place k = keys_outside k
-keys_behind _ place k = k
+abbrev pub keys_behind : Happening → Span → KeysOpen → KeysOpen
+keys_behind (Alias id) span k = with_here (behind_node k.here) k
+keys_behind (Scalar text style id tag) span k = with_here (behind_scalar (key_of text tag) span.start k.here) k
+keys_behind (SequenceStart id tag) span k = keys_inside next.Entry k
+keys_behind SequenceEnd span k = keys_outside k
+keys_behind (MappingStart id tag) span k = keys_inside next.Key k
+keys_behind MappingEnd span k = keys_outside k
+keys_behind _ span k = k
 
 -- what is told of an event
-abbrev pub key_warning : KeysOpen → Happening → Marker → Option Finding
-key_warning k (Scalar text style id tag) place =
-    option_map (λ first. record { place = place; warning = warning.SameKey first }) (first_of (key_of text tag) k.here)
+abbrev pub key_warning : KeysOpen → Happening → Span → Option Finding
+key_warning k (Scalar text style id tag) span =
+    option_map (λ first. record { span = span; warning = warning.DuplicateKey first })
+    (equal_key_place (key_of text tag) k.here)
 key_warning _ _ _ = None

@@ -3,7 +3,7 @@ use Rattle.std.specs.Prelude.{ℕ, ◌+◌, ◌-◌, ◌^◌, min, nat_eq, nat_l
 use Rattle.std.specs.Ordering.{nat_cmp}
 use Rattle.std.specs.Map.{lookup}
 use Rattle.std.specs.BTreeMap.{insert_entry, is_at}
-use Rattle.saphyr_parser.specs.Words.Marker.{Marker}
+use Rattle.saphyr_parser.specs.Words.Span.{Span}
 use Rattle.saphyr_parser.specs.Events.{Happening, Alias, Scalar, SequenceStart, SequenceEnd, MappingStart, MappingEnd}
 use Rattle.yaml_check.specs.declared.sizes.Size.{Size}
 use Rattle.yaml_check.specs.declared.finding.Finding.{Finding}
@@ -37,9 +37,13 @@ new_size id = record { anchor = id; nodes = 0 }
 abbrev pub no_open_sizes : SizesOpen
 no_open_sizes = record { here = new_size 0; outer = []; known = [] }
 
+-- how many nodes the node of an anchor has, if it has ended
+abbrev pub ended_size : ℕ → SizesOpen → Option ℕ
+ended_size id s = lookup (is_at (nat_cmp id)) s.known
+
 -- how many nodes an alias stands for; one inside its own node has no end
 abbrev pub size_at : ℕ → SizesOpen → ℕ
-size_at id s = unwrap_or (lookup (is_at (nat_cmp id)) s.known) no_end
+size_at id s = unwrap_or (ended_size id s) no_end
 
 -- so many more nodes are in the innermost collection
 abbrev pub more_nodes : ℕ → Size → Size
@@ -75,10 +79,15 @@ sizes_behind (MappingStart id tag) s = sizes_inside id s
 sizes_behind MappingEnd s = sizes_outside s
 sizes_behind _ s = s
 
-abbrev pub wide_if : ℕ → Marker → Option Finding
-wide_if n place = if nat_le n wide then None else Some (record { place = place; warning = warning.WideAlias wide })
+abbrev pub wide_if : ℕ → Span → Option Finding
+wide_if n span = if nat_le n wide then None else Some (record { span = span; warning = warning.WideAlias wide })
+
+-- what is told of an alias, by the size of its node
+abbrev pub size_warning : Option ℕ → Span → Option Finding
+size_warning None span = Some (record { span = span; warning = warning.AliasInItself })
+size_warning (Some n) span = wide_if n span
 
 -- what is told of an event
-abbrev pub alias_warning : SizesOpen → Happening → Marker → Option Finding
-alias_warning s (Alias id) place = wide_if (size_at id s) place
+abbrev pub alias_warning : SizesOpen → Happening → Span → Option Finding
+alias_warning s (Alias id) span = size_warning (ended_size id s) span
 alias_warning _ _ _ = None

@@ -7,8 +7,8 @@ use Rattle.yaml_check.specs.Shown.{shown_columns, cut, line_goes_on, visible, Is
 abbrev pub front_of : List ℕ → ℕ → ℕ → List ℕ
 front_of text at col = slice_range text (at - min col at) at
 
--- What is shown round a place. Of what comes before it on its line the end is shown, in 120 columns at most, and of what
--- comes after it the beginning, up to a break at most. In all that takes 200 columns at most, and on either side 200
+-- What is shown round a place. Of what comes before it on its line the end is shown, in 120 columns at most, and of
+-- what comes after it the beginning, up to a break at most. In all that takes 200 columns at most, and on either side 200
 -- characters at most. Where a side is cut, one more of its characters doesn't fit, with three columns for what is in
 -- place of the others. The caret is under the place.
 pub record IsView (text : List ℕ) (at col : ℕ) (v : View) : Type 0 where

@@ -1,21 +1,32 @@
 //! The words of a call.
 use crate::checking::Limits;
+use crate::rules::{Rule, RuleSet};
+use crate::told::Format;
 use std::alloc::Global;
 use thiserror::Error;
 
 /// What `--help` prints.
 pub const HELP: &str = "\
-usage: check_yaml [--events] [--quiet] [--max-depth N] [--max-nodes N] [FILE..]
+usage: check_yaml [OPTION..] [--] [FILE..]
 
-Checks files of YAML. - stands for standard input, which is checked where no file is named.
+Checks files of YAML. With no FILE, or for -, reads standard input.
 
-  --events       print the events too, a line for each
-  --quiet        print nothing of what is found
-  --max-depth N  warn where more than N collections are open at once
-  --max-nodes N  warn of more than N nodes
+      --disable RULE    leave out the warnings of a rule
+      --events          print the events too, a line for each
+      --format FORMAT   text, in lines as those of gcc, or json, an object a line
+      --max-depth N     warn where more than N collections are open at once
+      --max-findings N  print at most N warnings of a file, and how many more (100)
+      --max-nodes N     warn of more than N nodes
+  -q, --quiet           print nothing; only the status tells
+      --strict          let a warning count as an error
+  -h, --help            print this
+  -V, --version         print the version
 
-The status is 0 where all files are right, 1 where one has a fault or a warning, and 2
-for a wrong call, or where a file can't be read or something can't be written.";
+The rules are alias-in-itself, duplicate-key, empty-document, max-depth, max-nodes and
+wide-alias.
+
+The status is 0 if no file has an error, 1 if one has, and 2 for a wrong call, or if a
+file can't be read or something can't be written.";
 
 /// What a call asks for.
 #[derive(Drop)]
@@ -33,7 +44,29 @@ pub struct Options {
     pub events: bool,
     /// What is found is not printed.
     pub quiet: bool,
+    /// A warning counts as an error.
+    pub strict: bool,
+    pub format: Format,
+    /// So many warnings of a file are printed at most.
+    pub max_findings: usize,
+    pub rules: RuleSet,
     pub limits: Limits,
+}
+
+impl Options {
+    /// Those of a call without options.
+    pub const DEFAULT: Options = Options {
+        events: false,
+        quiet: false,
+        strict: false,
+        format: Format::Text,
+        max_findings: 100,
+        rules: RuleSet::ALL,
+        limits: Limits {
+            depth: usize::MAX,
+            nodes: usize::MAX,
+        },
+    };
 }
 
 /// Why a call is refused.
@@ -41,22 +74,21 @@ pub struct Options {
 pub enum WrongCall<'a> {
     #[error("there is no option {0}")]
     NoSuchOption(&'a str),
+    #[error("{0} takes no value")]
+    NeedlessValue(&'a str),
     #[error("{0} asks for a number")]
     NoNumber(&'a str),
+    #[error("{0} asks for the name of a rule")]
+    NoRule(&'a str),
+    #[error("{0} asks for text or json")]
+    NoFormat(&'a str),
     #[error("out of memory")]
     OutOfMemory,
 }
 
 /// What the words after the program's name ask for. If no file is named, they ask to check standard input.
 pub fn parse_arguments<'a>(alloc: Global, words: &'a [String]) -> Result<Call<'a>, WrongCall<'a>> {
-    let mut options = Options {
-        events: false,
-        quiet: false,
-        limits: Limits {
-            depth: usize::MAX,
-            nodes: usize::MAX,
-        },
-    };
+    let mut options = Options::DEFAULT;
     let mut files = Vec::new(alloc);
     match take_words(words, &mut options, &mut files) {
         Ok(Asked::Check) => Ok(Call::Check(options, files)),
@@ -83,30 +115,64 @@ enum Asked {
     Check,
 }
 
-/// An option, or the name of a file.
+/// What a word is.
 #[derive(Clone, Copy)]
 enum Word {
-    Help,
-    Version,
-    Events,
-    Quiet,
-    MaxDepth,
-    MaxNodes,
+    /// It asks for something else than a check.
+    Instead(Asked),
+    Flag(Flag),
+    Setting(Setting),
+    /// Files alone come after it.
+    EndOfOptions,
     NoOption,
     File,
 }
 
-/// What a word is.
-fn kind_of(word: &str) -> Word {
-    match word {
-        "--help" => Word::Help,
-        "--version" => Word::Version,
-        "--events" => Word::Events,
-        "--quiet" => Word::Quiet,
-        "--max-depth" => Word::MaxDepth,
-        "--max-nodes" => Word::MaxNodes,
-        _ if word.starts_with("-") && word != "-" => Word::NoOption,
+/// An option without a value.
+#[derive(Clone, Copy)]
+enum Flag {
+    Events,
+    Quiet,
+    Strict,
+}
+
+/// An option with a value.
+#[derive(Clone, Copy)]
+enum Setting {
+    Disable,
+    Format,
+    MaxDepth,
+    MaxFindings,
+    MaxNodes,
+}
+
+/// What a word is, by what comes before a `=` in it.
+fn kind_of(name: &str) -> Word {
+    match name {
+        "-h" | "--help" => Word::Instead(Asked::Help),
+        "-V" | "--version" => Word::Instead(Asked::Version),
+        "--events" => Word::Flag(Flag::Events),
+        "-q" | "--quiet" => Word::Flag(Flag::Quiet),
+        "--strict" => Word::Flag(Flag::Strict),
+        "--disable" => Word::Setting(Setting::Disable),
+        "--format" => Word::Setting(Setting::Format),
+        "--max-depth" => Word::Setting(Setting::MaxDepth),
+        "--max-findings" => Word::Setting(Setting::MaxFindings),
+        "--max-nodes" => Word::Setting(Setting::MaxNodes),
+        "--" => Word::EndOfOptions,
+        _ if name.starts_with("-") && name != "-" => Word::NoOption,
         _ => Word::File,
+    }
+}
+
+/// An option's name, and its value where it has one, as in `--max-depth=3`.
+fn cut(word: &str) -> (&str, Option<&str>) {
+    if !word.starts_with("--") {
+        return (word, None);
+    }
+    match word.split_once("=") {
+        Some((name, value)) => (name, Some(value)),
+        None => (word, None),
     }
 }
 
@@ -117,48 +183,87 @@ fn take_words<'a>(
     files: &mut Vec<&'a str>,
 ) -> Result<Asked, WrongCall<'a>> {
     let mut at = 0;
+    let mut files_alone = false;
     while at < words.len() {
         let word = words[at].as_str();
         at += 1;
-        match kind_of(word) {
-            Word::Help => return Ok(Asked::Help),
-            Word::Version => return Ok(Asked::Version),
-            Word::Events => options.events = true,
-            Word::Quiet => options.quiet = true,
-            Word::MaxDepth => {
-                let Some(most) = number(words.get(at)) else {
-                    return Err(WrongCall::NoNumber(word));
-                };
-                options.limits.depth = most;
-                at += 1;
-            }
-            Word::MaxNodes => {
-                let Some(most) = number(words.get(at)) else {
-                    return Err(WrongCall::NoNumber(word));
-                };
-                options.limits.nodes = most;
-                at += 1;
-            }
+        let (name, value) = cut(word);
+        match kind_of(name) {
+            _ if files_alone => add_file(files, word)?,
+            Word::File => add_file(files, word)?,
             Word::NoOption => return Err(WrongCall::NoSuchOption(word)),
-            Word::File => {
-                if files.push(word).is_err() {
-                    return Err(WrongCall::OutOfMemory);
-                }
+            Word::Setting(setting) => {
+                let value = match value {
+                    Some(value) => value,
+                    None => {
+                        at += 1;
+                        words.get(at - 1).map_or("", |word| word.as_str())
+                    }
+                };
+                set(options, setting, name, value)?;
             }
+            _ if value.is_some() => return Err(WrongCall::NeedlessValue(name)),
+            Word::Instead(asked) => return Ok(asked),
+            Word::Flag(flag) => raise(options, flag),
+            Word::EndOfOptions => files_alone = true,
         }
     }
     if files.is_empty() {
-        if files.push("-").is_err() {
-            return Err(WrongCall::OutOfMemory);
-        }
+        add_file(files, "-")?;
     }
     Ok(Asked::Check)
 }
 
-/// The number that an option asks for.
-fn number(word: Option<&String>) -> Option<usize> {
-    match word?.as_str().parse::<usize>() {
-        Ok(number) => Some(number),
-        Err(_) => None,
+/// Adds the name of a file.
+fn add_file<'a>(files: &mut Vec<&'a str>, name: &'a str) -> Result<(), WrongCall<'a>> {
+    match files.push(name) {
+        Ok(()) => Ok(()),
+        Err(_) => Err(WrongCall::OutOfMemory),
+    }
+}
+
+/// Takes an option without a value.
+fn raise(options: &mut Options, flag: Flag) {
+    match flag {
+        Flag::Events => options.events = true,
+        Flag::Quiet => options.quiet = true,
+        Flag::Strict => options.strict = true,
+    }
+}
+
+/// Takes an option of this name, with its value.
+fn set<'a>(
+    options: &mut Options,
+    setting: Setting,
+    name: &'a str,
+    value: &str,
+) -> Result<(), WrongCall<'a>> {
+    match setting {
+        Setting::Disable => {
+            let rule = Rule::named(value).ok_or(WrongCall::NoRule(name))?;
+            options.rules.disable(rule);
+        }
+        Setting::Format => options.format = format(value).ok_or(WrongCall::NoFormat(name))?,
+        Setting::MaxFindings => options.max_findings = number(name, value)?,
+        Setting::MaxDepth => options.limits.depth = number(name, value)?,
+        Setting::MaxNodes => options.limits.nodes = number(name, value)?,
+    }
+    Ok(())
+}
+
+/// The format of this name.
+fn format(name: &str) -> Option<Format> {
+    match name {
+        "text" => Some(Format::Text),
+        "json" => Some(Format::Json),
+        _ => None,
+    }
+}
+
+/// The number that an option of this name asks for.
+fn number<'a>(name: &'a str, value: &str) -> Result<usize, WrongCall<'a>> {
+    match value.parse::<usize>() {
+        Ok(number) => Ok(number),
+        Err(_) => Err(WrongCall::NoNumber(name)),
     }
 }

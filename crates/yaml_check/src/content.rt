@@ -4,13 +4,13 @@ ghost use Rattle.saphyr_parser.specs.Views.Events.{happening};
 ghost use Rattle.yaml_check.specs.Contents as spec;
 
 use crate::finding::{Finding, Warning};
-use saphyr_parser::{Event, Marker, ScalarStyle};
+use saphyr_parser::{Event, ScalarStyle, Span};
 
 /// Looks for documents without content.
 #[derive(Clone, Copy)]
 pub(crate) struct Content {
-    /// Where a document begins, right after its start.
-    begun: Option<Marker>,
+    /// The start of a document, right after it.
+    begun: Option<Span>,
 }
 
 impl Content {
@@ -20,29 +20,29 @@ impl Content {
         Content { begun: None }
     }
 
-    /// Takes an event, whose span starts here, and warns of a root that is left out.
-    pub(crate) fn take(&mut self, event: &Event, place: Marker) -> Option<Finding>
+    /// Takes an event with its span, and warns of a root that is left out.
+    pub(crate) fn take(&mut self, event: &Event, span: Span) -> Option<Finding>
         ensures told { result ≡ spec.content_warning self.old.begun (happening event.now) }
-        ensures behind { self.new.begun ≡ spec.begun_behind (happening event.now) place }
+        ensures behind { self.new.begun ≡ spec.begun_behind (happening event.now) span }
     {
         let begun = self.begun;
         self.begun = match event {
-            Event::DocumentStart(_) => Some(place),
+            Event::DocumentStart(_) => Some(span),
             _ => None,
         };
-        if !is_left_out(event) {
+        if !is_empty_node(event) {
             return None;
         }
-        begun.map(|place| Finding {
-            place,
-            warning: Warning::NoContent,
+        begun.map(|span| Finding {
+            span,
+            warning: Warning::EmptyDocument,
         })
     }
 }
 
 /// Whether a node is left out: it has no text, no anchor and no tag.
-fn is_left_out(event: &Event) -> bool
-    ensures { result ≡ spec.is_left_out (happening event.now) }
+fn is_empty_node(event: &Event) -> bool
+    ensures { result ≡ spec.is_empty_node (happening event.now) }
 {
     match event {
         Event::Scalar(text, ScalarStyle::Plain, 0, None) => text.is_empty(),

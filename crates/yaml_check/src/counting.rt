@@ -4,7 +4,7 @@ ghost use Rattle.saphyr_parser.specs.Views.Events.{happening};
 ghost use Rattle.yaml_check.specs.Counting as spec;
 
 use crate::finding::{Finding, Warning};
-use saphyr_parser::{Event, Marker};
+use saphyr_parser::{Event, Span};
 
 /// Looks for the first node over the limit.
 #[derive(Clone, Copy)]
@@ -26,10 +26,10 @@ impl Count {
         }
     }
 
-    /// Takes an event, whose span starts here, and warns of the first node over the limit.
-    pub(crate) fn take(&mut self, event: &Event, place: Marker) -> Option<Finding>
+    /// Takes an event with its span, and warns of the first node over the limit.
+    pub(crate) fn take(&mut self, event: &Event, span: Span) -> Option<Finding>
         ensures told { result
-            ≡ spec.node_warning self.old.most self.old.left (happening event.now) place }
+            ≡ spec.node_warning self.old.most self.old.left (happening event.now) span }
         ensures behind { self.new.left ≡ spec.left_behind (happening event.now) self.old.left }
         ensures most { self.new.most ≡ self.old.most }
     {
@@ -42,7 +42,7 @@ impl Count {
             return None;
         }
         Some(Finding {
-            place,
+            span,
             warning: Warning::TooManyNodes(self.most),
         })
     }

@@ -4,7 +4,7 @@ ghost use Rattle.saphyr_parser.specs.Views.Events.{happening, resolved_tag};
 ghost use Rattle.yaml_check.specs.Keys as spec;
 
 use crate::finding::{Finding, Warning};
-use saphyr_parser::{Event, Marker, Tag};
+use saphyr_parser::{Event, Marker, Span, Tag};
 use std::alloc::{AllocError, Global};
 use std::collections::BTreeMap;
 use std::mem::replace;
@@ -93,23 +93,19 @@ impl Keys {
         }
     }
 
-    /// Takes an event, whose span starts here, and warns of a key that its mapping had before.
-    pub(crate) fn take(
-        &mut self,
-        event: &Event,
-        place: Marker,
-    ) -> Result<Option<Finding>, AllocError>
+    /// Takes an event with its span, and warns of a key that its mapping had before.
+    pub(crate) fn take(&mut self, event: &Event, span: Span) -> Result<Option<Finding>, AllocError>
         ensures told { IfOk result (λ told.
-            told ≡ spec.key_warning (seen.keys_of self.old) (happening event.now) place) }
+            told ≡ spec.key_warning (seen.keys_of self.old) (happening event.now) span) }
         ensures behind { OnOk result (seen.keys_of self.new
-            ≡ spec.keys_behind (happening event.now) place (seen.keys_of self.old)) }
+            ≡ spec.keys_behind (happening event.now) span (seen.keys_of self.old)) }
     {
         match event {
             Event::Scalar(text, _, _, tag) => {
-                let first = self.take_scalar(text.as_str(), tag, place)?;
+                let first = self.take_scalar(text.as_str(), tag, span.start)?;
                 Ok(first.map(|first| Finding {
-                    place,
-                    warning: Warning::SameKey(first),
+                    span,
+                    warning: Warning::DuplicateKey(first),
                 }))
             }
             Event::Alias(_) => {
@@ -134,7 +130,7 @@ impl Keys {
         place: Marker,
     ) -> Result<Option<Marker>, AllocError>
         ensures first { IfOk result (λ first. first
-            ≡ spec.first_of (spec.key_of text.now (option_map resolved_tag tag.now))
+            ≡ spec.equal_key_place (spec.key_of text.now (option_map resolved_tag tag.now))
             (seen.level_of self.old.here)) }
         ensures behind { OnOk result (seen.keys_of self.new
             ≡ spec.with_here (spec.behind_scalar (spec.key_of text.now (option_map resolved_tag

@@ -2,18 +2,29 @@
 #![tactic(auto)]
 
 mod arguments;
+mod brackets;
 mod checking;
 mod content;
 mod counting;
+mod escapes;
 mod finding;
+mod help;
+mod json;
 mod keys;
+mod lines;
+mod open;
+mod places;
+mod rules;
 mod run;
 mod sizes;
 mod telling;
+mod told;
 mod view;
 
 pub use arguments::{Call, HELP, Options, WrongCall, parse_arguments};
 pub use checking::{Limits, check_text};
-pub use finding::{Finding, Findings, Warning};
-pub use run::{CheckFault, Verdict, check_source, status_of};
+pub use finding::{Finding, Findings, Note, Remark, Verdict, Warning};
+pub use rules::{Rule, RuleSet};
+pub use run::{CheckFault, check_source, status_of};
 pub use telling::{report, visible};
+pub use told::Format;

@@ -1,47 +1,42 @@
 //! The check of one file: reads it, checks it, and writes what is found.
-ghost use Rattle.std.specs.Prelude.{◌≡◌, ◌≤◌, ◌↔◌, IfSome};
+ghost use Rattle.std.specs.Prelude.{◌≡◌, ◌≤◌, ◌↔◌, IfOk};
 ghost use Rattle.saphyr_parser.specs.Runs.{answer_of_text, ReadsAll};
 ghost use Rattle.yaml_check.specs.Statuses as status;
-ghost use Rattle.yaml_check.specs.Statuses.{AreRight, OneUnchecked};
-ghost use Rattle.yaml_check.specs.Checks.{Checks, IsNeverRight, Judges, JudgesBytes, WritesLines, WritesTold, events_asked, told_unless_quiet};
+ghost use Rattle.yaml_check.specs.Statuses.{AllPass, OneUnchecked};
+ghost use Rattle.yaml_check.specs.Checks.{Checks, IsWrong, Judges, JudgesBytes, WritesLines, WritesTold, events_asked, told_unless_quiet};
 
 use crate::arguments::Options;
 use crate::checking::check_text;
+use crate::finding::Verdict;
 use crate::telling::{report, report_not_utf8};
 use saphyr_parser::{DumpFault, Fault, Parser, dump};
 use std::alloc::{AllocError, Global};
+use std::io;
 use std::io::{Read, Write};
 use thiserror::Error;
 
-/// Whether a file is right.
-#[derive(Clone, Copy)]
-pub enum Verdict {
-    Right,
-    /// It has a fault or a warning.
-    Wrong,
-}
-
-/// The status of a program with these results for its files: 0 if all are right, 2 if one was not checked,
-/// otherwise 1.
+/// The status of a program with these results for its files: 2 if one was not checked, 1 if one is wrong, or has
+/// warnings and the call is strict, otherwise 0.
 #[must_use]
-pub fn status_of(answers: &[Result<Verdict, CheckFault>]) -> u8
-    ensures right { (result ≡ 0) ↔ AreRight answers.now }
+pub fn status_of(answers: &[Result<Verdict, CheckFault>], strict: bool) -> u8
+    ensures passed { (result ≡ 0) ↔ AllPass strict answers.now }
     ensures unchecked { (result ≡ 2) ↔ OneUnchecked answers.now }
     ensures else_wrong { result ≤ 2 }
 {
     let mut status = 0;
     for answer in answers {
-        status = status_of_one(*answer).max(status);
+        status = status_of_one(*answer, strict).max(status);
     }
     status
 }
 
 /// The status if only this file is checked.
-fn status_of_one(answer: Result<Verdict, CheckFault>) -> u8
-    ensures { result ≡ status.status_of_one answer }
+fn status_of_one(answer: Result<Verdict, CheckFault>, strict: bool) -> u8
+    ensures { result ≡ status.status_of_one strict answer }
 {
     match answer {
         Ok(Verdict::Right) => 0,
+        Ok(Verdict::Warned) => u8::from(strict),
         Ok(Verdict::Wrong) => 1,
         Err(_) => 2,
     }
@@ -50,8 +45,8 @@ fn status_of_one(answer: Result<Verdict, CheckFault>) -> u8
 /// Why a file was not checked.
 #[derive(Clone, Copy, Debug, Error)]
 pub enum CheckFault {
-    #[error("can't read")]
-    CantRead,
+    #[error("can't read: {0}")]
+    CantRead(io::Error),
     #[error("can't write")]
     CantWrite,
     #[error("out of memory")]
@@ -80,22 +75,22 @@ pub fn check_source<R: Read, W: Write>(
         (W.contents out.old) (W.contents out.new) }
 {
     match read_source(alloc, source) {
-        Some(bytes) => judge_bytes(alloc, name, &bytes, options, out),
-        None => Err(CheckFault::CantRead),
+        Ok(bytes) => judge_bytes(alloc, name, &bytes, options, out),
+        Err(error) => Err(CheckFault::CantRead(error)),
     }
 }
 
-/// All bytes of a source, if it can be read.
-fn read_source<R: Read>(alloc: Global, source: &mut R) -> Option<Vec<u8>>
-    ensures { IfSome result (λ bytes.
+/// All bytes of a source.
+fn read_source<R: Read>(alloc: Global, source: &mut R) -> io::Result<Vec<u8>>
+    ensures { IfOk result (λ bytes.
         ReadsAll (R.remaining source.old) (R.remaining source.new) bytes.items) }
 {
     let mut bytes = Vec::new(alloc);
     match source.read_to_end(&mut bytes) {
-        Ok(_count) => Some(bytes),
+        Ok(_count) => Ok(bytes),
         Err(error) => {
-            drop((error, bytes));
-            None
+            drop(bytes);
+            Err(error)
         }
     }
 }
@@ -115,7 +110,7 @@ fn judge_bytes<W: Write>(
         Ok(text) => judge(alloc, name, text, options, out),
         Err(error) => {
             let front = bytes.get(..error.valid_up_to()).unwrap_or(&[]);
-            tell_not_utf8(alloc, name, front, options, out)
+            tell_not_utf8(alloc, name, front, begins_as_utf16(bytes), options, out)
         }
     }
 }
@@ -125,17 +120,28 @@ fn tell_not_utf8<W: Write>(
     alloc: Global,
     name: &str,
     front: &[u8],
+    is_utf16: bool,
     options: Options,
     out: &mut W,
 ) -> Result<Verdict, CheckFault>
-    ensures { IsNeverRight result }
+    ensures { IsWrong result }
 {
     let front = str::from_utf8(front).unwrap_or("");
-    let told = report_not_utf8(alloc, name, front)?;
+    let message = if is_utf16 {
+        "the text is UTF-16, and not UTF-8"
+    } else {
+        "the text is not UTF-8 from here on"
+    };
+    let told = report_not_utf8(alloc, name, front, message, options.format)?;
     let written = write_unless_quiet(out, told.as_str(), options);
     drop(told);
     written?;
     Ok(Verdict::Wrong)
+}
+
+/// Whether bytes begin with the byte order mark of UTF-16.
+fn begins_as_utf16(bytes: &[u8]) -> bool {
+    matches!(bytes, [0xfe, 0xff, ..] | [0xff, 0xfe, ..])
 }
 
 /// Checks a text. Writes its events, if they are asked for, and what is found.
@@ -148,13 +154,14 @@ fn judge<W: Write>(
 ) -> Result<Verdict, CheckFault>
     ensures { Judges result name.now options text.now (W.contents out.old) (W.contents out.new) }
 {
-    let found = check_text(alloc, text, options.limits)?;
+    let found = check_text(alloc, text, options.rules, options.limits)?;
     if found.is_empty() {
         drop(found);
         write_events(alloc, text, options, out)?;
         return Ok(Verdict::Right);
     }
-    let reported = report(alloc, name, text, &found);
+    let verdict = found.verdict();
+    let reported = report(alloc, name, text, &found, options);
     drop(found);
     let told = reported?;
     match write_events(alloc, text, options, out) {
@@ -162,7 +169,7 @@ fn judge<W: Write>(
             let written = write_unless_quiet(out, told.as_str(), options);
             drop(told);
             written?;
-            Ok(Verdict::Wrong)
+            Ok(verdict)
         }
         Err(fault) => {
             drop(told);

@@ -4,7 +4,7 @@ ghost use Rattle.saphyr_parser.specs.Views.Events.{happening};
 ghost use Rattle.yaml_check.specs.Sizes as spec;
 
 use crate::finding::{Finding, Warning};
-use saphyr_parser::{Event, Marker};
+use saphyr_parser::{Event, Span};
 use std::alloc::{AllocError, Global};
 use std::collections::BTreeMap;
 
@@ -54,19 +54,15 @@ impl Sizes {
         self.outer.len()
     }
 
-    /// Takes an event, whose span starts here, and warns of an alias that stands for many nodes.
-    pub(crate) fn take(
-        &mut self,
-        event: &Event,
-        place: Marker,
-    ) -> Result<Option<Finding>, AllocError>
+    /// Takes an event with its span, and warns of an alias that stands for many nodes.
+    pub(crate) fn take(&mut self, event: &Event, span: Span) -> Result<Option<Finding>, AllocError>
         ensures told { IfOk result (λ told.
-            told ≡ spec.alias_warning (seen.sizes_of self.old) (happening event.now) place) }
+            told ≡ spec.alias_warning (seen.sizes_of self.old) (happening event.now) span) }
         ensures behind { OnOk result (seen.sizes_of self.new
             ≡ spec.sizes_behind (happening event.now) (seen.sizes_of self.old)) }
     {
         match event {
-            Event::Alias(id) => Ok(self.take_alias(*id, place)),
+            Event::Alias(id) => Ok(self.take_alias(*id, span)),
             Event::Scalar(_, _, id, _) => self.end_node(*id, 1),
             Event::SequenceStart(id, _) | Event::MappingStart(id, _) => self.open(*id),
             Event::SequenceEnd | Event::MappingEnd => self.close(),
@@ -74,24 +70,20 @@ impl Sizes {
         }
     }
 
-    /// Passes an alias. An alias inside the node that it stands for is infinite.
-    fn take_alias(&mut self, id: usize, place: Marker) -> Option<Finding>
-        ensures told { result ≡ spec.wide_if (spec.size_at id (seen.sizes_of self.old)) place }
+    /// IsLetPass an alias. An alias inside the node that it stands for is infinite.
+    fn take_alias(&mut self, id: usize, span: Span) -> Option<Finding>
+        ensures told { result
+            ≡ spec.size_warning (spec.ended_size id (seen.sizes_of self.old)) span }
         ensures behind { seen.sizes_of self.new ≡ spec.with_more_nodes
             (spec.size_at id (seen.sizes_of self.old)) (seen.sizes_of self.old) }
     {
-        let nodes = self.known.get(&id).copied().unwrap_or(usize::MAX);
+        let ended = self.known.get(&id).copied();
+        let nodes = ended.unwrap_or(usize::MAX);
         self.here.nodes = self.here.nodes.saturating_add(nodes);
-        if nodes <= WIDE {
-            return None;
-        }
-        Some(Finding {
-            place,
-            warning: Warning::WideAlias(WIDE),
-        })
+        size_warning(ended, span)
     }
 
-    /// Passes a node that has ended and stands for this many.
+    /// IsLetPass a node that has ended and stands for this many.
     fn end_node(&mut self, id: usize, nodes: usize) -> Result<Option<Finding>, AllocError>
         ensures none { IfOk result (λ told. told ≡ None) }
         ensures behind { OnOk result (seen.sizes_of self.new
@@ -128,4 +120,16 @@ impl Sizes {
         self.here = outer;
         self.end_node(ended.anchor, ended.nodes.saturating_add(1))
     }
+}
+
+/// Warns of an alias by the size of its node, which has none before it ends.
+fn size_warning(ended: Option<usize>, span: Span) -> Option<Finding>
+    ensures { result ≡ spec.size_warning ended span }
+{
+    let warning = match ended {
+        None => Warning::AliasInItself,
+        Some(nodes) if nodes > WIDE => Warning::WideAlias(WIDE),
+        Some(_) => return None,
+    };
+    Some(Finding { span, warning })
 }

@@ -1,13 +1,19 @@
-//! The findings as people read them: the place, the message, the line and a caret.
-ghost use Rattle.std.specs.Prelude.{◌≡◌, ◌++◌, [], IfOk, OnOk, string_bytes};
+//! The findings as they are told: for people with the place, the message, the line and a caret, for programs as JSON.
+ghost use Rattle.std.specs.Prelude.{◌≡◌, ◌++◌, [], true, IfOk, OnOk, string_bytes};
 ghost use Rattle.std.specs.Str.{chars};
 ghost use Rattle.yaml_check.specs.Shown.{shown_text};
-ghost use Rattle.yaml_check.specs.Texts.{error_line, name_and_place, warning_line};
-ghost use Rattle.yaml_check.specs.Reports.{AddsFault, AddsReport, AddsWarnings, IsReport};
+ghost use Rattle.yaml_check.specs.Texts.{name_and_place};
+ghost use Rattle.yaml_check.specs.Told.{more_text, told_more, told_warning};
+ghost use Rattle.yaml_check.specs.ToldSeen.{told_of};
+ghost use Rattle.yaml_check.specs.Reports.{AddsFault, AddsNote, AddsMost, AddsTold, AddsWarnings, IsReport, name_in, told_line};
 
-use crate::finding::{Finding, Findings, Warning};
-use crate::view::{View, push_visible};
-use saphyr_parser::{Marker, ScanError};
+use crate::arguments::Options;
+use crate::finding::{Finding, Findings, Note};
+use crate::json::{push_escaped, push_object};
+use crate::places::place_of_index;
+use crate::told::{Format, Severity, Source, Told};
+use crate::view::{View, characters, push_visible};
+use saphyr_parser::{Marker, Span};
 use std::alloc::{AllocError, Global};
 
 /// A text as it is shown, on one line: what breaks a line, steers a terminal or can't be seen is an escape.
@@ -28,29 +34,71 @@ pub fn visible(alloc: Global, text: &str) -> Result<String, AllocError>
 }
 
 /// What is printed for the findings in a text of this name: the warnings, and the fault after them.
-pub fn report(alloc: Global, name: &str, text: &str, found: &Findings) -> Result<String, AllocError>
-    ensures { IfOk result (λ told. IsReport (shown_text name.now) (chars text.now) found.now
-        (string_bytes told)) }
+pub fn report(
+    alloc: Global,
+    name: &str,
+    text: &str,
+    found: &Findings,
+    options: Options,
+) -> Result<String, AllocError>
+    ensures { IfOk result (λ told. IsReport options.format options.max_findings
+        (name_in options.format name.now) (chars text.now) found.now (string_bytes told)) }
 {
-    let shown = visible(alloc, name)?;
-    let told = report_as(alloc, shown.as_str(), text, found);
-    drop(shown);
+    let name = printed_name(alloc, name, options.format)?;
+    let told = report_as(alloc, name.as_str(), text, found, options);
+    drop(name);
     told
 }
 
-/// The same, where the name is as it is shown.
-fn report_as(alloc: Global, name: &str, text: &str, found: &Findings) -> Result<String, AllocError>
-    ensures { IfOk result (λ told. IsReport name.now (chars text.now) found.now
-        (string_bytes told)) }
+/// The name of a file as it is printed.
+fn printed_name(alloc: Global, name: &str, format: Format) -> Result<String, AllocError>
+    ensures { IfOk result (λ printed. string_bytes printed ≡ name_in format name.now) }
+{
+    match format {
+        Format::Text => visible(alloc, name),
+        Format::Json => {
+            let mut out = String::new(alloc);
+            match push_escaped(alloc, &mut out, name) {
+                Ok(()) => Ok(out),
+                Err(fault) => {
+                    drop(out);
+                    Err(fault)
+                }
+            }
+        }
+    }
+}
+
+/// The report of a file whose name is as it is printed.
+fn report_as(
+    alloc: Global,
+    name: &str,
+    text: &str,
+    found: &Findings,
+    options: Options,
+) -> Result<String, AllocError>
+    ensures { IfOk result (λ told. IsReport options.format options.max_findings name.now
+        (chars text.now) found.now (string_bytes told)) }
 {
     let text = characters(alloc, text)?;
     let mut out = String::new(alloc);
-    let warned = tell_warnings(alloc, &mut out, name, &text, &found.warnings);
+    let source = Source {
+        format: options.format,
+        name,
+        text: &text,
+    };
+    let warned = tell_some(
+        alloc,
+        &mut out,
+        &source,
+        &found.warnings,
+        options.max_findings,
+    );
     if let Err(fault) = warned {
         drop((text, out));
         return Err(fault);
     }
-    let told = tell_fault(alloc, &mut out, name, &text, &found.fault);
+    let told = tell_fault(alloc, &mut out, &source, found);
     drop(text);
     match told {
         Ok(()) => Ok(out),
@@ -61,26 +109,38 @@ fn report_as(alloc: Global, name: &str, text: &str, found: &Findings) -> Result<
     }
 }
 
-/// The characters of a text.
-fn characters(alloc: Global, text: &str) -> Result<Vec<char>, AllocError>
-    ensures { IfOk result (λ all. all.items ≡ chars text.now) }
+/// Tells so many warnings at most, and how many more there are.
+fn tell_some(
+    alloc: Global,
+    out: &mut String,
+    source: &Source,
+    warnings: &[Finding],
+    most: usize,
+) -> Result<(), AllocError>
+    ensures { OnOk result (AddsMost source.now.format source.now.name.now source.now.text.now
+        most warnings.now (string_bytes out.old) (string_bytes out.new)) }
 {
-    text.chars().collect(alloc)
+    match warnings.get(most) {
+        None => tell_warnings(alloc, out, source, warnings),
+        Some(next) => {
+            tell_warnings(alloc, out, source, &warnings[..most])?;
+            tell_more(alloc, out, source, *next, warnings.len() - most)
+        }
+    }
 }
 
-/// Tells the warnings, one after the other.
+/// Tells warnings, one after the other.
 fn tell_warnings(
     alloc: Global,
     out: &mut String,
-    name: &str,
-    text: &[char],
+    source: &Source,
     warnings: &[Finding],
 ) -> Result<(), AllocError>
-    ensures { OnOk result (AddsWarnings name.now text.now warnings.now (string_bytes out.old)
-        (string_bytes out.new)) }
+    ensures { OnOk result (AddsWarnings source.now.format source.now.name.now source.now.text.now
+        warnings.now (string_bytes out.old) (string_bytes out.new)) }
 {
     for finding in warnings {
-        tell_warning(alloc, out, name, text, *finding)?;
+        tell_warning(alloc, out, source, *finding)?;
     }
     Ok(())
 }
@@ -89,82 +149,135 @@ fn tell_warnings(
 fn tell_warning(
     alloc: Global,
     out: &mut String,
-    name: &str,
-    text: &[char],
+    source: &Source,
     finding: Finding,
 ) -> Result<(), AllocError>
-    ensures { OnOk result (AddsReport name.now text.now finding.place (warning_line finding.warning)
-        (string_bytes out.old) (string_bytes out.new)) }
+    ensures { OnOk result (AddsTold source.now.format true source.now.name.now
+        source.now.text.now (told_warning finding) (string_bytes out.old) (string_bytes out.new)) }
 {
-    let line = line_of_warning(alloc, finding.warning)?;
-    let told = tell(out, name, text, finding.place, line.as_str());
-    drop(line);
-    told
+    let warning = finding.warning;
+    let message = format!(in alloc; "{warning}")?;
+    let told = Told {
+        span: finding.span,
+        severity: Severity::Warning,
+        rule: warning.rule().name(),
+        message: message.as_str(),
+    };
+    let done = tell(alloc, out, source, &told, true);
+    drop(message);
+    done
 }
 
-/// Tells the fault, if there is one.
+/// Tells that so many more warnings begin with this one.
+fn tell_more(
+    alloc: Global,
+    out: &mut String,
+    source: &Source,
+    next: Finding,
+    count: usize,
+) -> Result<(), AllocError>
+    ensures { OnOk result (AddsTold source.now.format true source.now.name.now
+        source.now.text.now (told_more next count) (string_bytes out.old)
+        (string_bytes out.new)) }
+{
+    let message = text_of_more(alloc, count)?;
+    let told = Told {
+        span: next.span,
+        severity: Severity::Note,
+        rule: "max-findings",
+        message: message.as_str(),
+    };
+    let done = tell(alloc, out, source, &told, true);
+    drop(message);
+    done
+}
+
+/// The message for so many more warnings.
+fn text_of_more(alloc: Global, count: usize) -> Result<String, AllocError>
+    ensures { IfOk result (λ text. string_bytes text ≡ more_text count) }
+{
+    format!(in alloc; "{count} more warnings begin here")
+}
+
+/// Tells the fault and the notes on it, if there is one.
 fn tell_fault(
     alloc: Global,
     out: &mut String,
-    name: &str,
-    text: &[char],
-    fault: &Option<ScanError>,
+    source: &Source,
+    found: &Findings,
 ) -> Result<(), AllocError>
-    ensures { OnOk result (AddsFault name.now text.now fault.now (string_bytes out.old)
+    ensures { OnOk result (AddsFault source.now.format source.now.name.now source.now.text.now
+        found.now.fault found.now.opened found.now.help (string_bytes out.old)
         (string_bytes out.new)) }
 {
-    match fault {
-        Some(error) => tell_error(alloc, out, name, text, error.mark, error.info.as_str()),
-        None => Ok(()),
+    let Some(error) = &found.fault else {
+        return Ok(());
+    };
+    let told = Told {
+        span: Span::empty(error.mark),
+        severity: Severity::Error,
+        rule: "syntax",
+        message: error.info.as_str(),
+    };
+    tell(alloc, out, source, &told, true)?;
+    tell_note(alloc, out, source, error.mark, found.opened)?;
+    tell_note(alloc, out, source, error.mark, found.help)
+}
+
+/// Tells a note on a fault at this place, if there is one.
+fn tell_note(
+    alloc: Global,
+    out: &mut String,
+    source: &Source,
+    fault: Marker,
+    note: Option<Note>,
+) -> Result<(), AllocError>
+    ensures { OnOk result (AddsNote source.now.format source.now.name.now source.now.text.now
+        fault note (string_bytes out.old) (string_bytes out.new)) }
+{
+    let Some(note) = note else {
+        return Ok(());
+    };
+    let told = Told {
+        span: Span::empty(note.place),
+        severity: Severity::Note,
+        rule: "syntax",
+        message: note.remark.text(),
+    };
+    tell(alloc, out, source, &told, note.place.index != fault.index)
+}
+
+/// Tells one thing, where people read it with its line or without.
+fn tell(
+    alloc: Global,
+    out: &mut String,
+    source: &Source,
+    told: &Told,
+    shows: bool,
+) -> Result<(), AllocError>
+    ensures { OnOk result (AddsTold source.now.format shows source.now.name.now
+        source.now.text.now (told_of told.now) (string_bytes out.old) (string_bytes out.new)) }
+{
+    match source.format {
+        Format::Json => push_object(alloc, out, source.name, told),
+        Format::Text => {
+            push_line(out, source.name, told)?;
+            if shows {
+                View::new(source.text, told.span.start).push_to(out)?;
+            }
+            Ok(())
+        }
     }
 }
 
-/// Tells an error with this message.
-fn tell_error(
-    alloc: Global,
-    out: &mut String,
-    name: &str,
-    text: &[char],
-    place: Marker,
-    message: &str,
-) -> Result<(), AllocError>
-    ensures { OnOk result (AddsReport name.now text.now place (error_line message.now)
-        (string_bytes out.old) (string_bytes out.new)) }
+/// Appends the line that tells of a place.
+fn push_line(out: &mut String, name: &str, told: &Told) -> Result<(), AllocError>
+    ensures { OnOk result (string_bytes out.new
+        ≡ string_bytes out.old ++ told_line name.now (told_of told.now)) }
 {
-    let line = line_of_error(alloc, message)?;
-    let told = tell(out, name, text, place, line.as_str());
-    drop(line);
-    told
-}
-
-/// The message of a warning.
-fn line_of_warning(alloc: Global, warning: Warning) -> Result<String, AllocError>
-    ensures { IfOk result (λ line. string_bytes line ≡ warning_line warning) }
-{
-    format!(in alloc; "warning: {warning}\n")
-}
-
-/// The message of a fault.
-fn line_of_error(alloc: Global, text: &str) -> Result<String, AllocError>
-    ensures { IfOk result (λ line. string_bytes line ≡ error_line text.now) }
-{
-    format!(in alloc; "error: {text}\n")
-}
-
-/// Tells one finding: its place in the text of this name, a line that says what it is, and its line with the caret.
-fn tell(
-    out: &mut String,
-    name: &str,
-    text: &[char],
-    place: Marker,
-    line: &str,
-) -> Result<(), AllocError>
-    ensures { OnOk result (AddsReport name.now text.now place line.now (string_bytes out.old)
-        (string_bytes out.new)) }
-{
-    push_place(out, name, place)?;
-    out.push_str(line)?;
-    View::new(text, place).push_to(out)
+    push_place(out, name, told.span.start)?;
+    let (severity, message) = (told.severity.word(), told.message);
+    write!(out, "{severity}: {message}\n")
 }
 
 /// Appends the name of a text and a place in it.
@@ -180,45 +293,43 @@ pub(crate) fn report_not_utf8(
     alloc: Global,
     name: &str,
     front: &str,
+    message: &str,
+    format: Format,
 ) -> Result<String, AllocError> {
-    let shown = visible(alloc, name)?;
-    let told = report_not_utf8_as(alloc, shown.as_str(), front);
-    drop(shown);
+    let name = printed_name(alloc, name, format)?;
+    let told = report_not_utf8_as(alloc, name.as_str(), front, message, format);
+    drop(name);
     told
 }
 
-/// The same, where the name is as it is shown.
-fn report_not_utf8_as(alloc: Global, name: &str, front: &str) -> Result<String, AllocError> {
+/// The report of a file that is not UTF-8, whose name is as it is printed.
+fn report_not_utf8_as(
+    alloc: Global,
+    name: &str,
+    front: &str,
+    message: &str,
+    format: Format,
+) -> Result<String, AllocError> {
     let text = characters(alloc, front)?;
     let mut out = String::new(alloc);
-    let told = tell_error(
-        alloc,
-        &mut out,
+    let source = Source {
+        format,
         name,
-        &text,
-        place_behind(&text),
-        "the text is not UTF-8 from here on",
-    );
+        text: &text,
+    };
+    let told = Told {
+        span: Span::empty(place_of_index(&text, text.len())),
+        severity: Severity::Error,
+        rule: "encoding",
+        message,
+    };
+    let done = tell(alloc, &mut out, &source, &told, true);
     drop(text);
-    match told {
+    match done {
         Ok(()) => Ok(out),
         Err(fault) => {
             drop(out);
             Err(fault)
         }
     }
-}
-
-/// The place after a text. CR LF, CR and LF are one break each.
-fn place_behind(text: &[char]) -> Marker {
-    let mut line = 1usize;
-    let mut start = 0;
-    for (index, c) in text.iter().enumerate() {
-        let is_first_of_two = *c == '\r' && text.get(index + 1).copied() == Some('\n');
-        if (*c == '\n' || *c == '\r') && !is_first_of_two {
-            line = line.saturating_add(1);
-            start = index + 1;
-        }
-    }
-    Marker::new(text.len(), line, text.len().saturating_sub(start))
 }

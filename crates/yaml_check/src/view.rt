@@ -1,10 +1,11 @@
 //! The part of a line that is shown around a place: at most 200 columns, in which each character is visible.
-ghost use Rattle.std.specs.Prelude.{◌≡◌, ◌+◌, ◌-◌, ◌<◌, ◌≤◌, ◌++◌, ◌⊎◌, true, false, length, nat_lt, slice_index, take, drop, replicate, OnOk, IsTrue, string_bytes};
+ghost use Rattle.std.specs.Prelude.{◌≡◌, ◌+◌, ◌-◌, ◌<◌, ◌≤◌, ◌++◌, ◌⊎◌, true, false, length, nat_lt, slice_index, take, drop, replicate, IfOk, OnOk, IsTrue, string_bytes};
+ghost use Rattle.std.specs.Str.{chars};
 ghost use Rattle.std.specs.Char.Escape.{escape_default};
 ghost use Rattle.yaml_check.specs.Shown as shown;
 
 use saphyr_parser::Marker;
-use std::alloc::AllocError;
+use std::alloc::{AllocError, Global};
 use ucd_derived::is_default_ignorable_code_point;
 use unicode_width::UnicodeWidthChar;
 
@@ -26,6 +27,13 @@ pub(crate) struct View<'a> {
     cut_behind: bool,
     /// How many columns are before the place.
     caret: usize,
+}
+
+/// The characters of a text.
+pub(crate) fn characters(alloc: Global, text: &str) -> Result<Vec<char>, AllocError>
+    ensures { IfOk result (λ all. all.items ≡ chars text.now) }
+{
+    text.chars().collect(alloc)
 }
 
 /// Whether a character is shown by an escape: a control character, a separator of lines, or an invisible one, as those
@@ -61,7 +69,7 @@ fn columns_of(c: char) -> usize
 }
 
 /// Whether a character breaks a line.
-fn is_end_of_line(c: char) -> bool
+pub(crate) fn is_end_of_line(c: char) -> bool
     ensures { result ≡ shown.is_end_of_line c }
 {
     c == '\n' || c == '\r'

@@ -11,7 +11,7 @@ pub mod Brackets
 pub mod Values
 pub mod Spaces
 pub mod Questions
-pub mod Inks
+pub mod ContentStarts
 pub mod Pieces
 pub mod Pairs
 pub mod MarkedPairs

@@ -11,8 +11,6 @@ pub mod Questions
 pub mod Colons
 pub mod Lines
 pub mod LineStarts
-pub mod FurtherScalars
-pub mod Further
 pub mod Statements
 pub mod Texts
 pub mod IndicatorLines
@@ -29,10 +27,9 @@ pub mod Mappings
 pub mod Leads
 pub mod Nodes
 pub mod Documents
-pub mod Stops
 pub mod Streams
-pub mod Markers
 pub mod FlowNodes
 pub mod Properties
 pub mod YamlTexts
+pub mod HandedMarkers
 pub mod Closed

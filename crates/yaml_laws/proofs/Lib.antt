@@ -4,4 +4,3 @@ pub mod Flow
 pub mod Documents
 pub mod Breaks
 pub mod Json
-pub mod WhatCame

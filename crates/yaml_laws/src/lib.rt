@@ -4,8 +4,6 @@
 //! The functions are laws: they do nothing, and what matters is their proved clauses.
 #![tactic(auto)]
 
-mod came;
-
 ghost use Rattle.std.specs.Prelude.{◌≡◌, ◌≤◌, ◌<◌, ◌^◌, ◌++◌, ℕ, List, length, false, slice_index, encode_utf8_all};
 ghost use Rattle.saphyr_input.specs.Breaks.{normalized};
 ghost use Rattle.saphyr_input.specs.Classes.{is_break};
@@ -24,7 +22,6 @@ ghost use Rattle.yaml_laws.specs.Grammar.Json.{IsJson};
 ghost use Rattle.yaml_laws.specs.Grammar.Yaml.{IsYamlText};
 ghost use Rattle.yaml_laws.specs.SameKinds.{HaveSameKinds};
 
-pub use came::steps_by_what_came;
 use saphyr_scalar::Marker;
 use saphyr_scalar::scalar::{
     places_each_block_scalar, reads_block_texts, reads_plain_values, spells_each_anchor,

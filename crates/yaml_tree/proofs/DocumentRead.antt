@@ -48,18 +48,18 @@ reads_nothing Hold limits before all l none h = record {
   loader = subst (λ (es : List Happening). HasTaken limits es l) (sym (append-nil before)) h;
 }
 
-pub told_push : (es : List (Happening × Span)) (e : Happening × Span)
+pub given_push : (es : List (Happening × Span)) (e : Happening × Span)
     → happenings (es ++ e ∷ []) ≡ happenings es ++ e.0 ∷ []
-told_push es e = map-append (λ (d : Happening × Span). d.0) es (e ∷ [])
+given_push es e = map-append (λ (d : Happening × Span). d.0) es (e ∷ [])
 
 pub split_more : (all a b : Answer) (es : List (Happening × Span)) (e : Happening × Span) → all.events ≡ es ++ a.events
     → a ≡ with_first_event e b → all.events ≡ es ++ (e ∷ b.events)
 split_more all a b es e s h = s ∙ ap (λ (x : Answer). es ++ x.events) h
 
-pub told_more : (before : List Happening) (es : List (Happening × Span)) (e : Happening × Span)
+pub given_more : (before : List Happening) (es : List (Happening × Span)) (e : Happening × Span)
     → (before ++ happenings es) ++ e.0 ∷ [] ≡ before ++ happenings (es ++ e ∷ [])
-told_more before es e = append_assoc before (happenings es) (e.0 ∷ [])
-    ∙ ap (λ (hs : List Happening). before ++ hs) (sym (told_push es e))
+given_more before es e = append_assoc before (happenings es) (e.0 ∷ [])
+    ∙ ap (λ (hs : List Happening). before ++ hs) (sym (given_push es e))
 
 -- the last event is taken too
 unfoldable pub reads_on : (Hold : List Happening → Type 0) (limits : Limits) (before : List Happening)
@@ -70,8 +70,8 @@ reads_on Hold limits before all a b e old new r h i t = record {
   taken = r.taken ++ e ∷ [];
   split = split_more all a b r.taken e r.split h ∙ sym (append_assoc r.taken (e ∷ []) b.events);
   fault = r.fault ∙ ap (λ (x : Answer). x.fault) h;
-  inside = subst Hold (sym (told_push r.taken e)) i;
-  loader = subst (λ (es : List Happening). HasTaken limits es new) (told_more before r.taken e) t;
+  inside = subst Hold (sym (given_push r.taken e)) i;
+  loader = subst (λ (es : List Happening). HasTaken limits es new) (given_more before r.taken e) t;
 }
 
 -- the last event is taken too, and ends the document
@@ -84,9 +84,9 @@ reads_end limits before all a b e old new r h n t = record {
   inner = happenings r.taken;
   split = split_more all a b r.taken e r.split h ∙ sym (append_assoc r.taken (e ∷ []) b.events);
   fault = r.fault ∙ ap (λ (x : Answer). x.fault) h;
-  ended = told_push r.taken e ∙ ap (λ (x : Happening). happenings r.taken ++ x ∷ []) n;
+  ended = given_push r.taken e ∙ ap (λ (x : Happening). happenings r.taken ++ x ∷ []) n;
   inside = r.inside;
-  loader = subst (λ (es : List Happening). HasTaken limits es new) (told_more before r.taken e) t;
+  loader = subst (λ (es : List Happening). HasTaken limits es new) (given_more before r.taken e) t;
 }
 
 -- the last event can't be taken
@@ -193,13 +193,13 @@ pub read_parts : (limits : Limits) (all left : Answer) (l : Loader) (r : HasRead
     → Parts r.taken all left
 read_parts limits all left l r = record { split = r.split; fault = r.fault }
 
-told_all : (front : List (Happening × Span)) (all mid : Answer) → Parts front all mid
+given_all : (front : List (Happening × Span)) (all mid : Answer) → Parts front all mid
     → happenings front ++ happenings mid.events ≡ happenings all.events
-told_all front all mid p =
+given_all front all mid p =
     sym (ap happenings p.split ∙ map-append (λ (d : Happening × Span). d.0) front mid.events)
 
-pub told_both : (es fs : List (Happening × Span)) → happenings es ++ happenings fs ≡ happenings (es ++ fs)
-told_both es fs = sym (map-append (λ (d : Happening × Span). d.0) es fs)
+pub given_both : (es fs : List (Happening × Span)) → happenings es ++ happenings fs ≡ happenings (es ++ fs)
+given_both es fs = sym (map-append (λ (d : Happening × Span). d.0) es fs)
 
 pub split_both : (front : List (Happening × Span)) (all mid : Answer) (es fs : List (Happening × Span))
     → Parts front all mid → mid.events ≡ es ++ fs → all.events ≡ (front ++ es) ++ fs
@@ -213,14 +213,14 @@ reads_document limits all mid left old new r t = record {
   split = split_both r.taken all mid t.taken left.events (read_parts limits all mid old r) t.split;
   fault = r.fault ∙ t.fault;
   inside = tt;
-  loader = subst (λ (es : List Happening). HasTaken limits es new) (told_both r.taken t.taken) t.loader;
+  loader = subst (λ (es : List Happening). HasTaken limits es new) (given_both r.taken t.taken) t.loader;
 }
 
 pub reads_stream : (Hold : List Happening → Type 0) (limits : Limits) (front : List (Happening × Span))
     (all mid left : Answer) (l : Loader) → Parts front all mid
     → TakesRest Hold limits (happenings front) mid left l → TakesAll limits (Ok tt) all left l
 reads_stream Hold limits front all mid left l p t = (
-  subst (λ (es : List Happening). HasTaken limits es l) (told_all front all mid p) t.loader,
+  subst (λ (es : List Happening). HasTaken limits es l) (given_all front all mid p) t.loader,
   p.fault ∙ t.fault,
   t.nothing,
 )
@@ -242,11 +242,11 @@ stops_from Hold f limits before front all mid left p s within why =
       event = s.event;
       split = split_both front all mid s.taken (s.event ∷ left.events) p s.split;
       fault = p.fault ∙ s.fault;
-      within = subst (λ (es : List Happening). StayWithin limits es no_nodes) (told_both front s.taken)
+      within = subst (λ (es : List Happening). StayWithin limits es no_nodes) (given_both front s.taken)
           (within own s.within);
       why = subst (λ (es : List Happening). Forbids f limits es s.event.1.start)
           (sym (append_assoc (happenings front) own last)
-          ∙ ap (λ (es : List Happening). es ++ last) (told_both front s.taken))
+          ∙ ap (λ (es : List Happening). es ++ last) (given_both front s.taken))
           (why (own ++ last) (subst (λ (es : List Happening). Forbids f limits es s.event.1.start)
           (append_assoc before own last) s.why));
     }
@@ -262,7 +262,7 @@ runs_out_from Hold limits before front all mid p s within = record {
   split = split_both front all mid s.taken s.lost.events p s.split;
   fault = p.fault ∙ s.fault;
   some_lost = s.some_lost;
-  within = subst (λ (es : List Happening). StayWithin limits es no_nodes) (told_both front s.taken)
+  within = subst (λ (es : List Happening). StayWithin limits es no_nodes) (given_both front s.taken)
       (within (happenings s.taken) s.within);
 }
 
@@ -277,7 +277,7 @@ pub fails_in_stream : (Hold : List Happening → Type 0) (f : TreeFault) (limits
     → FailsBehind Hold limits (happenings front) f mid left → FailsToLoad limits f all left
 fails_in_stream Hold (fault.Parse (parse.Scan e)) limits front all mid left p h = (
   p.fault ∙ h.0,
-  subst (λ (es : List Happening). StayWithin limits es no_nodes) (told_all front all mid p) h.2,
+  subst (λ (es : List Happening). StayWithin limits es no_nodes) (given_all front all mid p) h.2,
   h.3,
 )
 fails_in_stream Hold (fault.Parse parse.OutOfMemory) limits front all mid left p h =
@@ -286,7 +286,7 @@ fails_in_stream Hold (fault.Parse parse.Receiver) limits front all mid left p h 
 fails_in_stream Hold (fault.Parse parse.InsideDocument) limits front all mid left p h = h
 fails_in_stream Hold fault.NotFresh limits front all mid left p h = λ (w : IsNested all).
     no_nest all.fault _ (ap (λ (hs : List Happening). nest_behind_all hs nest_before_stream)
-    (sym (told_all front all mid p)) ∙ h) w
+    (sym (given_all front all mid p)) ∙ h) w
 fails_in_stream Hold fault.OutOfMemory limits front all mid left p h =
     stops_in_stream Hold fault.OutOfMemory limits front all mid left p h
 fails_in_stream Hold (fault.TooManyNodes at most) limits front all mid left p h =

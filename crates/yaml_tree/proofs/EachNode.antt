@@ -40,8 +40,8 @@ module _ (R : List Happening → (Sizes → Expanded) → Type 0) (a : Adds R) w
   in_sequence node holds (w ∷ ws) = a.both _ _ (expanded (node w)) (expanded_items (map expanded (map node ws)))
       (holds w) (in_sequence node holds ws)
 
-  abbrev both_told : (Node × Node) → List Happening × List Happening
-  both_told p = (node_events p.0, node_events p.1)
+  abbrev both_given : (Node × Node) → List Happening × List Happening
+  both_given p = (node_events p.0, node_events p.1)
 
   abbrev both_expanded : (Node × Node) → (Sizes → Expanded) × (Sizes → Expanded)
   both_expanded p = (expanded p.0, expanded p.1)
@@ -56,7 +56,7 @@ module _ (R : List Happening → (Sizes → Expanded) → Type 0) (a : Adds R) w
       (a.both _ _ (expanded key) values k (a.both _ _ (expanded value) rest v r))
 
   in_mapping : {W : Type 0} (node : W → Node) (holds : (w : W) → IsAdded (node w)) (ws : List (W × W))
-      → R (flat_map both_events (map both_told (map (λ (p : W × W). (node p.0, node p.1)) ws)))
+      → R (flat_map both_events (map both_given (map (λ (p : W × W). (node p.0, node p.1)) ws)))
       (expanded_pairs (map both_expanded (map (λ (p : W × W). (node p.0, node p.1)) ws)))
   in_mapping node holds [] = a.nothing
   in_mapping {W} node holds (w ∷ ws) = in_pair (node w.0) (node w.1) _

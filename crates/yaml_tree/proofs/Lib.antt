@@ -20,3 +20,9 @@ pub mod AnchorSearch
 pub mod LastItems
 pub mod Counts
 pub mod Leads
+pub mod PartNumbers
+pub mod Tables
+pub mod NumberedEntries
+pub mod NumberedParts
+pub mod Numbers
+pub mod Roots

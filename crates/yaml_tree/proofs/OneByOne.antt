@@ -48,18 +48,18 @@ record Passed (missing : List Happening) (ds : List Document) (before : List Hap
   pub fault : all.fault ≡ left.fault
   pub complete : AreComplete (happenings left.events ++ missing)
 
-told : (limits : Limits) (d : Document) (all left : Answer) (p : PassesDocument limits d all left)
+given : (limits : Limits) (d : Document) (all left : Answer) (p : PassesDocument limits d all left)
     → happenings all.events ≡ p.start ++ (document_events d ++ happenings left.events)
-told limits d all left p = ap happenings p.split
+given limits d all left p = ap happenings p.split
     ∙ map-append (λ (e : Happening × Span). e.0) p.passed left.events
     ∙ ap (λ (hs : List Happening). hs ++ happenings left.events) p.own
     ∙ append_assoc p.start (document_events d) (happenings left.events)
 
 -- the same where it is known which start was passed
-told_behind : (limits : Limits) (d : Document) (all left : Answer) (p : PassesDocument limits d all left)
+given_behind : (limits : Limits) (d : Document) (all left : Answer) (p : PassesDocument limits d all left)
     (start : List Happening) → p.start ≡ start
     → happenings all.events ≡ start ++ (document_events d ++ happenings left.events)
-told_behind limits d all left p start is = told limits d all left p
+given_behind limits d all left p start is = given limits d all left p
     ∙ ap (λ (hs : List Happening). hs ++ (document_events d ++ happenings left.events)) is
 
 passed_one : (missing : List Happening) (d : Document) (all left : Answer) → all.fault ≡ left.fault
@@ -76,11 +76,11 @@ passes_later : (missing : List Happening) (limits : Limits) (d : Document) (all 
     (p : PassesDocument limits d all left) → AtMost StreamStart p.start
     → AreComplete (happenings all.events ++ missing) → Passed missing (d ∷ []) (happenings all.events) all left
 passes_later missing limits d all left p (inl none) w =
-    let is = told_behind limits d all left p [] none in
+    let is = given_behind limits d all left p [] none in
     subst (λ (hs : List Happening). Passed missing (d ∷ []) hs all left) (sym is) (passed_one missing d all left p.fault
     (subst (λ (hs : List Happening). AreComplete (hs ++ missing)) is w))
 passes_later missing limits d all left p (inr one) w =
-    let is = told_behind limits d all left p (StreamStart ∷ []) one in
+    let is = given_behind limits d all left p (StreamStart ∷ []) one in
     absurd (no_start ((document_events d ++ happenings left.events) ++ missing)
     (subst (λ (hs : List Happening). AreComplete (hs ++ missing)) is w))
 
@@ -103,9 +103,9 @@ passes_first : (missing : List Happening) (limits : Limits) (d : Document) (all 
     → nest_behind_all (happenings all.events ++ missing) nest_before_stream ≡ Some nest_behind_stream
     → PassedFirst missing (d ∷ []) all left
 passes_first missing limits d all left p (inl none) b w = absurd (no_document_first all.events all.fault d.explicit
-    ((node_events d.root ++ DocumentEnd ∷ []) ++ happenings left.events) b (told_behind limits d all left p [] none))
+    ((node_events d.root ++ DocumentEnd ∷ []) ++ happenings left.events) b (given_behind limits d all left p [] none))
 passes_first missing limits d all left p (inr one) b w =
-    let is = told_behind limits d all left p (StreamStart ∷ []) one in record {
+    let is = given_behind limits d all left p (StreamStart ∷ []) one in record {
       behind = document_events d ++ happenings left.events;
       start = is;
       passed = passed_one missing d all left p.fault (subst (λ (hs : List Happening).

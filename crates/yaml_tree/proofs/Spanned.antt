@@ -16,14 +16,14 @@ record Split (es : List (Happening × Span)) (a b : List Happening) : Type 0 whe
   pub front : List (Happening × Span)
   pub back : List (Happening × Span)
   pub split : es ≡ front ++ back
-  pub front_told : happenings front ≡ a
-  pub back_told : happenings back ≡ b
+  pub front_given : happenings front ≡ a
+  pub back_given : happenings back ≡ b
 
 record First (es : List (Happening × Span)) (h : Happening) (hs : List Happening) : Type 0 where
   pub span : Span
   pub others : List (Happening × Span)
   pub split : es ≡ (h, span) ∷ others
-  pub others_told : happenings others ≡ hs
+  pub others_given : happenings others ≡ hs
 
 first_event : (es : List (Happening × Span)) (h : Happening) (hs : List Happening) → happenings es ≡ h ∷ hs
     → First es h hs
@@ -35,11 +35,11 @@ first_event (x ∷ es) h hs e =
       span = x.1;
       others = es;
       split = ap (λ (k : Happening). (k, x.1) ∷ es) head;
-      others_told = tail;
+      others_given = tail;
     }
 
 splits : (es : List (Happening × Span)) (a b : List Happening) → happenings es ≡ a ++ b → Split es a b
-splits es [] b e = record { front = []; back = es; split = refl; front_told = refl; back_told = e }
+splits es [] b e = record { front = []; back = es; split = refl; front_given = refl; back_given = e }
 splits [] (y ∷ a) b e = absurd (cc)
 splits (x ∷ es) (y ∷ a) b e =
     let head : x.0 ≡ y = cc in
@@ -49,32 +49,33 @@ splits (x ∷ es) (y ∷ a) b e =
       front = x ∷ inner.front;
       back = inner.back;
       split = ap (λ (l : List (Happening × Span)). x ∷ l) inner.split;
-      front_told = ap (λ (l : List Happening). x.0 ∷ l) inner.front_told ∙ ap (λ (h : Happening). h ∷ a) head;
-      back_told = inner.back_told;
+      front_given = ap (λ (l : List Happening). x.0 ∷ l) inner.front_given ∙ ap (λ (h : Happening). h ∷ a) head;
+      back_given = inner.back_given;
     }
 
-none_told : (es : List (Happening × Span)) → happenings es ≡ [] → es ≡ []
-none_told [] e = refl
-none_told (x ∷ es) e = absurd (cc)
+none_given : (es : List (Happening × Span)) → happenings es ≡ [] → es ≡ []
+none_given [] e = refl
+none_given (x ∷ es) e = absurd (cc)
 
 -- an event, others, and one more
 record Ends (es : List (Happening × Span)) (a : List Happening) (h : Happening) : Type 0 where
   pub front : List (Happening × Span)
   pub span : Span
   pub split : es ≡ front ++ (h, span) ∷ []
-  pub front_told : happenings front ≡ a
+  pub front_given : happenings front ≡ a
 
 last_event : (es : List (Happening × Span)) (a : List Happening) (h : Happening) → happenings es ≡ a ++ h ∷ []
     → Ends es a h
 last_event es a h e =
     let parts = splits es a (h ∷ []) e in
-    let end = first_event parts.back h [] parts.back_told in
+    let end = first_event parts.back h [] parts.back_given in
     record {
       front = parts.front;
       span = end.span;
       split = parts.split ∙ ap (λ (l : List (Happening × Span)). parts.front ++ l)
-          (end.split ∙ ap (λ (l : List (Happening × Span)). (h, end.span) ∷ l) (none_told end.others end.others_told));
-      front_told = parts.front_told;
+          (end.split ∙ ap (λ (l : List (Happening × Span)). (h, end.span) ∷ l)
+          (none_given end.others end.others_given));
+      front_given = parts.front_given;
     }
 
 -- ## Event after event
@@ -142,12 +143,12 @@ keeps_one es front explicit start end k is h none =
 
 keeps_document : (d : Document) (es : List (Happening × Span)) (k : KeptSpans) → happenings es ≡ document_events d
     → k.nodes ≡ [] → KeepsOne es k
-keeps_document d es k told none =
-    let start = first_event es (DocumentStart d.explicit) _ told in
-    let end = last_event start.others (node_events d.root) DocumentEnd start.others_told in
+keeps_document d es k given none =
+    let start = first_event es (DocumentStart d.explicit) _ given in
+    let end = last_event start.others (node_events d.root) DocumentEnd start.others_given in
     keeps_one es end.front d.explicit start.span end.span k
     (start.split ∙ ap (λ (l : List (Happening × Span)). (DocumentStart d.explicit, start.span) ∷ l) end.split)
-    (subst AreNodeEvents (sym end.front_told) (have_node_events d.root)) none
+    (subst AreNodeEvents (sym end.front_given) (have_node_events d.root)) none
 
 -- ## Documents
 
@@ -158,20 +159,20 @@ record KeepsAll (documents : List Document) (es : List (Happening × Span)) (k :
 
 keeps_documents : (documents : List Document) (es : List (Happening × Span)) (k : KeptSpans)
     → happenings es ≡ flat_map document_events documents → k.nodes ≡ [] → KeepsAll documents es k
-keeps_documents [] es k told none =
-    let no_event = none_told es told in
+keeps_documents [] es k given none =
+    let no_event = none_given es given in
     record {
       spans = [];
       spanned = no_event;
       ended = ap (λ l. (kept_behind_all l k).ended) no_event ∙ sym (append-nil k.ended);
     }
-keeps_documents (d ∷ ds) es k told none =
-    let parts = splits es (document_events d) (flat_map document_events ds) told in
-    let one = keeps_document d parts.front k parts.front_told none in
-    let others = keeps_documents ds parts.back (kept_behind_all parts.front k) parts.back_told one.nodes in
+keeps_documents (d ∷ ds) es k given none =
+    let parts = splits es (document_events d) (flat_map document_events ds) given in
+    let one = keeps_document d parts.front k parts.front_given none in
+    let others = keeps_documents ds parts.back (kept_behind_all parts.front k) parts.back_given one.nodes in
     record {
       spans = places_of_events parts.front ∷ others.spans;
-      spanned = (parts.front, parts.back, parts.split, parts.front_told, refl, others.spanned);
+      spanned = (parts.front, parts.back, parts.split, parts.front_given, refl, others.spanned);
       ended = ap (λ l. (kept_behind_all l k).ended) parts.split
           ∙ ap (λ (x : KeptSpans). x.ended) (kept_behind_all-append parts.front parts.back k)
           ∙ others.ended ∙ ap (λ (l : List (List Span)). l ++ others.spans) one.ended
@@ -181,10 +182,10 @@ keeps_documents (d ∷ ds) es k told none =
 pub keeps_stream : (documents : List Document) (es : List (Happening × Span)) (k : KeptSpans)
     (spans : List (List Span)) → unload documents ≡ happenings es → k.ended ≡ [] → k.nodes ≡ []
     → spans ≡ (kept_behind_all es k).ended → IsSpannedStream documents spans es
-keeps_stream documents es k spans told none_ended none_open are =
-    let start = first_event es StreamStart _ (sym told) in
-    let end = last_event start.others (flat_map document_events documents) StreamEnd start.others_told in
-    let all = keeps_documents documents end.front k end.front_told none_open in
+keeps_stream documents es k spans given none_ended none_open are =
+    let start = first_event es StreamStart _ (sym given) in
+    let end = last_event start.others (flat_map document_events documents) StreamEnd start.others_given in
+    let all = keeps_documents documents end.front k end.front_given none_open in
     let split = start.split ∙ ap (λ (l : List (Happening × Span)). (StreamStart, start.span) ∷ l) end.split in
     let kept = ap (λ l. (kept_behind_all l k).ended) split
     ∙ ap (λ (x : KeptSpans). x.ended) (kept_behind_all-append end.front ((StreamEnd, end.span) ∷ []) k)

@@ -53,18 +53,18 @@ keeps_all limits all a first l r e =
 
 -- ## The documents
 
-pub tells_spans : (r : Result SpannedDocuments TreeFault) (limits : Limits) (all mid left : Answer)
+pub gives_spans : (r : Result SpannedDocuments TreeFault) (limits : Limits) (all mid left : Answer)
     (l : SpannedLoader) (first : KeptSpans) → Stays all mid → TakesAll limits (Ok tt) mid left l.loader
     → kept_spans l.keeper ≡ kept_behind_all mid.events first → first.ended ≡ [] → first.nodes ≡ []
     → Finishes (documents_of r) l.loader.builder
     → IfOk r (λ s. map all_spans s.spans.items ≡ (kept_spans l.keeper).ended)
     → IfOk r (λ s. IsSpannedStream s.documents.items (map all_spans s.spans.items) all.events)
-tells_spans (Err f) limits all mid left l first stays t k ended nodes finishes spans = tt
-tells_spans (Ok s) limits all mid left l first (inl same) t k ended nodes finishes spans =
+gives_spans (Err f) limits all mid left l first stays t k ended nodes finishes spans = tt
+gives_spans (Ok s) limits all mid left l first (inl same) t k ended nodes finishes spans =
     subst (λ (a : Answer). IsSpannedStream s.documents.items (map all_spans s.spans.items) a.events) same
     (keeps_stream s.documents.items mid.events first (map all_spans s.spans.items)
     (finishes.0 ∙ t.0.written) ended nodes (spans ∙ ap (λ (x : KeptSpans). x.ended) k))
-tells_spans (Ok s) limits all mid left l first (inr lost) t k ended nodes finishes spans =
+gives_spans (Ok s) limits all mid left l first (inr lost) t k ended nodes finishes spans =
     absurd (some_fault OutOfMemory (sym (ap (λ (x : Answer). x.fault) lost.1) ∙ t.1))
 
 -- an answer leaves the parser as that of its documents does

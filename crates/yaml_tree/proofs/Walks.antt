@@ -42,7 +42,7 @@ Begins node old new = (start : Happening) × (node_events node ++ old ≡ start 
 pub events-Alias : (id : ℕ) → node_events (Alias id) ≡ events.Alias id ∷ []
 events-Alias id = search (rules, the_lemmas)
 
-events-Scalar : (text : String Global) (style : ScalarStyle) (id : ℕ) (tag : Option Tag)
+pub events-Scalar : (text : String Global) (style : ScalarStyle) (id : ℕ) (tag : Option Tag)
     → node_events (Scalar text style id tag)
     ≡ events.Scalar (string_bytes text) style id (option_map resolved_tag tag) ∷ []
 events-Scalar text style id tag = search (rules, the_lemmas)

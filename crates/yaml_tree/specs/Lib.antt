@@ -17,3 +17,6 @@ pub mod Anchoring
 pub mod Expanding
 pub mod CounterSeen
 pub mod Following
+pub mod NodeLayer
+pub mod Numbering
+pub mod NumberingSeen

@@ -133,7 +133,7 @@ impl Node {
 }
 
 // The id, unless it is 0.
-fn anchor_of_id(id: usize) -> Option<usize>
+pub(crate) fn anchor_of_id(id: usize) -> Option<usize>
     ensures { result ≡ some_anchor id }
 {
     if id == 0 { None } else { Some(id) }

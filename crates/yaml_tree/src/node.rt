@@ -1,5 +1,6 @@
 //! Nodes (YAML 1.2.2, 3.2.1.1), and their drop.
 ghost use Rattle.std.specs.Prelude.{◌+◌, ◌<◌, ◌≤◌, ◌↔◌, None, IfSome, IsTrue};
+ghost use Rattle.yaml_tree.specs.NodeLayer.{IsLayerOf};
 ghost use Rattle.yaml_tree.specs.Weight.{node_weight, IsBare, turns};
 
 use saphyr_parser::{ScalarStyle, Tag};
@@ -21,6 +22,15 @@ pub enum Node {
     Map(usize, Option<Tag>, Vec<(Node, Node)>),
 }
 
+/// What a node was, once it is taken apart.
+#[derive(Drop)]
+pub(crate) enum Layer {
+    Alias(usize),
+    Scalar(String, ScalarStyle, usize, Option<Tag>),
+    Seq(usize, Option<Tag>, Vec<Node>),
+    Map(usize, Option<Tag>, Vec<(Node, Node)>),
+}
+
 impl Drop for Node {
     // The collections around a part are chained, each in the first place of the next inner one. So a deep tree
     // needs no more stack than a flat one, and no memory.
@@ -37,6 +47,18 @@ impl Drop for Node {
 }
 
 impl Node {
+    // The node's parts, for code elsewhere.
+    pub(crate) fn into_layer(self) -> Layer
+        ensures { IsLayerOf self result }
+    {
+        match self {
+            Node::Alias(id) => Layer::Alias(id),
+            Node::Scalar(text, style, id, tag) => Layer::Scalar(text, style, id, tag),
+            Node::Seq(id, tag, nodes) => Layer::Seq(id, tag, nodes),
+            Node::Map(id, tag, pairs) => Layer::Map(id, tag, pairs),
+        }
+    }
+
     // What is left of the two after one step. It drops a leaf or an empty collection, or swaps the first part
     // of a collection with what is outer.
     fn turned(self, outer: Node) -> Option<(Node, Node)>

@@ -58,7 +58,7 @@ impl Open {
         }
     }
 
-    // The same with one more document.
+    // What is open, with one more document.
     pub(crate) fn with_document(self, document: Document) -> Result<Open, TreeFault>
         ensures { GrowsBy result (document_events document)
             (nesting.place_behind_document (place_of self)) self }
@@ -78,7 +78,7 @@ impl Open {
         }
     }
 
-    // The same with one more node.
+    // What is open, with one more node.
     pub(crate) fn with_node(self, node: Node) -> Result<Open, TreeFault>
         ensures { GrowsBy result (node_events node)
             (nesting.place_behind_node (place_of self)) self }

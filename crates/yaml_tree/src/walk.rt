@@ -76,8 +76,8 @@ pub(crate) enum Turn<'a> {
 }
 
 /// A walk through a tree, from a node to each node inside: a node before its parts, and a key before its value. It goes
-/// as far as its spans do, and once there was no visit, none comes any more. It needs memory for each level of the tree.
-/// If there is none, a visit is `Err`, and nothing comes after it.
+/// as far as its spans do, and once there was no visit, none comes any more. It needs memory for each level of the
+/// tree. If there is none, a visit is `Err`, and nothing comes after it.
 #[derive(Drop)]
 pub struct Walk<'a> {
     root: Option<&'a Node>,

@@ -2,10 +2,14 @@
 
 use crate::char_traits::is_yaml_non_break;
 use crate::input::Input;
+use crate::parts::{is_behind, is_part};
 use std::collections::VecDeque;
 
 /// How many characters may be loaded, by `bufmaxlen`.
 const WINDOW: usize = 16;
+
+/// How many bytes are taken at a time of what the iterator says it has.
+const MOST_THERE: usize = 1 << 16;
 
 /// The characters that an iterator gives up to its first `None`.
 #[derive(Clone)]
@@ -23,6 +27,22 @@ impl<T: Iterator<Item = char>> BufferedInput<T> {
             source: input,
             has_ended: false,
             loaded: VecDeque::new(),
+        }
+    }
+
+    /// Takes characters as long as the source says that it has more, but not too many at a time. That of a text in
+    /// memory says so, and that of a pipe does not.
+    fn take_what_is_there(&mut self, line: &mut String) {
+        if !self.loaded.is_empty() || self.has_ended {
+            return;
+        }
+        while line.len() < MOST_THERE {
+            let before = line.len();
+            let count = self.source.size_hint().0.min(MOST_THERE - before);
+            push_all(line, self.source.by_ref().take(count));
+            if line.len() == before {
+                break;
+            }
         }
     }
 
@@ -44,6 +64,22 @@ impl<T: Iterator<Item = char>> Input for BufferedInput<T> {
             let c = self.read();
             self.loaded.push_back(c);
         }
+    }
+
+    fn take_line(&mut self, line: &mut String) -> bool {
+        self.take_what_is_there(line);
+        while !is_part(line) {
+            let next = self.loaded.pop_front();
+            match next.unwrap_or_else(|| self.read()) {
+                None => return true,
+                Some(c) if is_behind(c, line) => {
+                    self.loaded.push_front(Some(c));
+                    break;
+                }
+                Some(c) => line.push(c),
+            }
+        }
+        false
     }
 
     fn buflen(&self) -> usize {
@@ -86,4 +122,24 @@ impl<T: Iterator<Item = char>> Input for BufferedInput<T> {
     fn peek_opt(&self) -> Option<char> {
         self.loaded[0]
     }
+}
+
+/// Puts characters behind a text. Those of ASCII are put together first, which takes fewer instructions.
+fn push_all(text: &mut String, characters: impl Iterator<Item = char>) {
+    let (mut ascii, mut len) = ([0; 256], 0);
+    for c in characters {
+        if c.is_ascii() && len < ascii.len() {
+            ascii[len] = c as u8;
+            len += 1;
+        } else {
+            push_ascii(text, &ascii[..len]);
+            text.push(c);
+            len = 0;
+        }
+    }
+    push_ascii(text, &ascii[..len]);
+}
+
+fn push_ascii(text: &mut String, ascii: &[u8]) {
+    text.push_str(std::str::from_utf8(ascii).expect("ASCII is UTF-8"));
 }

@@ -1,5 +1,5 @@
 -- Tokens up to a document marker's give the events up to and including its own, whatever follows.
-use Rattle.std.proofs.Common.{◌≡◌, ◌≢◌, Bool, List, [], ◌∷◌, ◌++◌, Option, None, refl, sym, ap, ◌∙◌, ◌⊎◌, inl, inr}
+use Rattle.std.proofs.Common.{◌≡◌, ◌≢◌, Bool, List, [], ◌∷◌, ◌++◌, Option, None, ap, ◌∙◌, ◌⊎◌, inl, inr, arith}
 use Rattle.std.proofs.lemmas.List.{append_assoc, append_cancel_right, append-nil, map-append}
 use Rattle.saphyr_scalar.specs.declared.scalar.position.Span.{Span}
 use Rattle.saphyr_scalar.specs.declared.scalar.fault.Refusal.{Refusal}
@@ -9,8 +9,8 @@ use Rattle.saphyr_machine.specs.declared.state.State.{State}
 use Rattle.saphyr_machine.specs.declared.state.State.TheVariants as state
 use Rattle.saphyr_machine.specs.Events as events
 use Rattle.saphyr_machine.specs.Events.{Happening, empty_scalar}
-use Rattle.event_laws.specs.Premises.{DocumentMarker, Starts, Ends, events_behind_marker, GivesFirst}
-use Rattle.saphyr_machine.specs.Steps.Machine.{Machine, fresh_machine, told_event, with_state, with_pieces}
+use Rattle.event_laws.specs.Premises.{DocumentMarker, Ends, events_behind_marker, GivesFirst}
+use Rattle.saphyr_machine.specs.Steps.Machine.{Machine, fresh_machine, emit, with_state, with_pieces}
 use Rattle.saphyr_machine.specs.Steps.Documents.{unpassed_token, implicit_start, explicit_start, document_content, document_end, token_behind_document, without_prefixes}
 use Rattle.saphyr_machine.specs.Steps.Expected.{event_step, event_step_at}
 use Rattle.saphyr_machine.specs.Answer.{Answer, remaining_answer}
@@ -19,8 +19,8 @@ use Rattle.event_laws.specs.Exactly.{GivesExactly, answer_of_tokens}
 use Rattle.event_laws.specs.More.{marker_token}
 use Rattle.saphyr_machine.proofs.Unroll.{unroll, over}
 use Rattle.event_laws.proofs.Longer.{More, longer, IsLastOr, End}
-use Rattle.event_laws.proofs.Beside.Documents.{IsBetweenDocuments}
-use Rattle.event_laws.proofs.Beside.Machines.{Awaits}
+use Rattle.saphyr_machine.proofs.Beside.Documents.{IsBetweenDocuments}
+use Rattle.saphyr_machine.proofs.Beside.Machines.{Awaits}
 use Rattle.event_laws.proofs.Promises.CommonBeginnings.{or_last, IsStopped, GoesOn, goes_on}
 use Rattle.event_laws.proofs.Happenings.{happenings_of}
 
@@ -31,38 +31,29 @@ abbrev alone : Span → Machine → Machine
 alone s k = record k { tokens = record { pieces = record { span = s; kind = tokens.StreamEnd } ∷ []; refusal = None } }
 
 start_step : (s : Span) (x : State) (k : Machine) → IsBetweenDocuments x
-    → event_step_at x (alone s k) ≡ told_event events.StreamEnd s (with_state state.End (with_pieces [] (alone s k)))
+    → event_step_at x (alone s k) ≡ emit events.StreamEnd s (with_state state.End (with_pieces [] (alone s k)))
 unfolding implicit_start explicit_start unpassed_token
-start_step s state.ImplicitDocumentStart k i = refl
-start_step s state.DocumentStart k i = refl
-start_step s _ k i = absurd i
+start_step s a k i = grind arith
 
 pub not_over : (x : State) → IsBetweenDocuments x → x ≢ state.End
-not_over state.ImplicitDocumentStart i = λ e. absurd (cc)
-not_over state.DocumentStart i = λ e. absurd (cc)
-not_over _ i = absurd i
+not_over k i = grind arith
 
-start_is_told : (s : Span) (k : Machine) → IsBetweenDocuments k.state
+start_is_emitted : (s : Span) (k : Machine) → IsBetweenDocuments k.state
     → remaining_answer (alone s k) ≡ record { events = (events.StreamEnd, s) ∷ []; fault = None }
 unfolding event_step
-start_is_told s k i =
-    cc (
-      unroll (alone s k) (not_over k.state i),
-      start_step s k.state k i,
-      over (with_state state.End (with_pieces [] (alone s k))) refl,
-    )
+start_is_emitted s k i = grind (arith, unroll, not_over, start_step, over)
 
 abbrev in_document : List State → Machine → Machine
 in_document ss k = record k { state = state.DocumentContent; states = state.DocumentEnd ∷ ss }
 
-content_told : (s : Span) (ss : List State) (k : Machine) → remaining_answer (alone s (in_document ss k))
+content_emitted : (s : Span) (ss : List State) (k : Machine) → remaining_answer (alone s (in_document ss k))
     ≡ record { events = (empty_scalar, s) ∷ (events.DocumentEnd, s) ∷ (events.StreamEnd, s) ∷ []; fault = None }
 unfolding event_step document_content document_end token_behind_document
-content_told s ss k =
+content_emitted s ss k =
     simp (
       unroll (alone s (in_document ss k)) (λ e. absurd (cc)),
       unroll (alone s (record k { state = state.DocumentEnd; states = ss })) (λ e. absurd (cc)),
-      start_is_told s (without_prefixes (record k { state = state.DocumentStart; states = ss })) tt,
+      start_is_emitted s (without_prefixes (record k { state = state.DocumentStart; states = ss })) tt,
     )
 
 -- ## The marker
@@ -70,26 +61,19 @@ content_told s ss k =
 abbrev pub ended_by : DocumentMarker → List Piece → Option Refusal → More
 ended_by w us e = record { Early = ⊥; marker = w; pieces = us; refusal = e }
 
-told_behind : (w : DocumentMarker) (s : Span) (k : Machine) → Awaits w k ⊎ ((w ≡ Ends) × IsBetweenDocuments k.state)
+emitted_behind : (w : DocumentMarker) (s : Span) (k : Machine)
+    → Awaits (marker_token w) k ⊎ ((w ≡ Ends) × IsBetweenDocuments k.state)
     → happenings_of (remaining_answer (alone s k)) ≡ events_behind_marker w
-told_behind Ends s k (inl a) = ap happenings_of (start_is_told s k (rw a tt))
-told_behind Starts s k (inl a) =
-    let ss : List State = a.1.0 in
-    let same : k ≡ in_document ss k = ap (λ v. record k { state = v }) a.0
-    ∙ ap (λ v. record k { state = state.DocumentContent; states = v }) a.1.1 in
-    ap happenings_of (ap (λ v. remaining_answer (alone s v)) same ∙ content_told s ss k)
-told_behind w s k (inr a) = rw a.0 (ap happenings_of (start_is_told s k a.1))
+emitted_behind u0 s k u1 = grind (arith, start_is_emitted, content_emitted)
 
-told_stopped : (w : DocumentMarker) (s : Span) (k : Machine)
+emitted_stopped : (w : DocumentMarker) (s : Span) (k : Machine)
     → IsStopped (ended_by w (record { span = s; kind = tokens.StreamEnd } ∷ []) None) k
     → happenings_of (remaining_answer (longer (ended_by w (record { span = s; kind = tokens.StreamEnd } ∷ []) None) k))
     ≡ events_behind_marker w
-told_stopped w s k (inl h) = absurd h
-told_stopped w s k (inr a) = cc (told_behind w s k a.1)
+emitted_stopped w s k u0 = grind (arith, emitted_behind)
 
 its_own : (w : DocumentMarker) (x : Piece) → x.kind ≡ marker_token w → IsLastOr w ⊥ [] x.kind
-its_own Starts x e = rw e (inl (refl, refl))
-its_own Ends x e = rw e (inl (refl, refl))
+its_own u0 x e = grind arith
 
 pub marker_ends : (w : DocumentMarker) (us : List Piece) (e : Option Refusal) (ts : List Piece) (x : Piece)
     → x.kind ≡ marker_token w → End (ended_by w us e) (ts ++ x ∷ [])
@@ -99,18 +83,10 @@ marker_ends w us e (t ∷ ts) x is = or_last w _ (ts ++ x ∷ []) t.kind (marker
 -- ## Whatever follows
 
 -- what is told before the stream's end, where more tokens follow
-first_told : (w : DocumentMarker) (s : Span) (first : List Happening) (m : Machine) (a b : Answer)
+first_emitted : (w : DocumentMarker) (s : Span) (first : List Happening) (m : Machine) (a b : Answer)
     → GoesOn (ended_by w (record { span = s; kind = tokens.StreamEnd } ∷ []) None) None m a b
     → happenings_of b ≡ first ++ events_behind_marker w → GivesFirst first a
-first_told w s first m a b (inl e) t = (events_behind_marker w, ap happenings_of (sym e) ∙ t)
-first_told w s first m a b (inr g) t =
-    let behind : Answer = remaining_answer
-    (longer (ended_by w (record { span = s; kind = tokens.StreamEnd } ∷ []) None) g.1.0) in
-    let all : happenings_of b ≡ happenings_of a ++ happenings_of behind = ap happenings_of g.1.2
-    ∙ map-append (λ (e : Happening × Span). e.0) a.events behind.events in
-    let these : happenings_of a ++ events_behind_marker w ≡ first ++ events_behind_marker w =
-    cc (told_stopped w s g.1.0 g.1.1) in
-    ([], append_cancel_right (happenings_of a) first (events_behind_marker w) these ∙ sym (append-nil first))
+first_emitted w s first m a b u0 t = grind (arith, map-append, emitted_stopped, append_cancel_right, append-nil)
 
 also_first : (z : More) (r : Option Refusal) (first : List Happening) (m : Machine) (a b : Answer) → GoesOn z r m a b
     → GivesFirst first a → GivesFirst first b
@@ -136,7 +112,7 @@ tokens_close keep w ts us x s e first is t =
     let m : Machine = start keep (ts ++ x ∷ []) None in
     let end : List Piece = record { span = s; kind = tokens.StreamEnd } ∷ [] in
     also_first (ended_by w us e) None first m _ _ (goes_on (ended_by w us e) m (inl (marker_ends w us e ts x is)))
-    (first_told w s first m _ _ (goes_on (ended_by w end None) m (inl (marker_ends w end None ts x is))) t)
+    (first_emitted w s first m _ _ (goes_on (ended_by w end None) m (inl (marker_ends w end None ts x is))) t)
 
 -- Tokens end with a marker's and the end of the stream, and give exactly these events. Where others follow the marker's
 -- token, the events up to and including the marker's come first.

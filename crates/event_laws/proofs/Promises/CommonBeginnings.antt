@@ -8,15 +8,15 @@ use Rattle.saphyr_machine.specs.declared.state.State.{State}
 use Rattle.saphyr_machine.specs.declared.state.State.TheVariants as state
 use Rattle.saphyr_machine.specs.Events.{Happening}
 use Rattle.event_laws.specs.Premises.{DocumentMarker, Starts, Ends, marker_event}
-use Rattle.saphyr_machine.specs.Steps.Machine.{Machine, Told, ending_refusal, with_pieces}
+use Rattle.saphyr_machine.specs.Steps.Machine.{Machine, Emitted, ending_refusal, with_pieces}
 use Rattle.saphyr_machine.specs.Steps.Documents.{unpassed_token, implicit_start, document_content}
 use Rattle.saphyr_machine.specs.Steps.Expected.{event_step, event_step_at}
 use Rattle.saphyr_machine.specs.Answer.{Answer, with_first_event, answer_of_step, fault_alone, ending_of, remaining_answer, machine_size}
-use Rattle.event_laws.specs.More.{with_more, BeginsAs}
+use Rattle.event_laws.specs.More.{with_more, BeginsAs, marker_token}
 use Rattle.saphyr_machine.proofs.Unroll.{unroll, over, shrinks_at}
 use Rattle.event_laws.proofs.Longer.{More, longer, IsLastOr, End, IsLeft, IsLeftBehind, left_behind, AgreesOrEndsEarly, PassesAll, steps_agree}
-use Rattle.event_laws.proofs.Beside.Documents.{IsBetweenDocuments}
-use Rattle.event_laws.proofs.Beside.Machines.{Awaits}
+use Rattle.saphyr_machine.proofs.Beside.Documents.{IsBetweenDocuments}
+use Rattle.saphyr_machine.proofs.Beside.Machines.{Awaits}
 
 -- ## One step
 
@@ -30,10 +30,9 @@ early w us e [] = tt
 early w us e (t ∷ ts) = or_last w _ ts t.kind (early w us e ts)
 
 pub ended : (s : State) → (s ≡ state.End) ⊎ (s ≢ state.End)
-ended state.End = inl refl
-ended _ = inr (λ e. absurd (cc))
+ended u0 = grind arith
 
-step_given : (z : More) (m : Machine) (x : Told) → End z m.tokens.pieces → event_step m ≡ Ok x
+step_given : (z : More) (m : Machine) (x : Emitted) → End z m.tokens.pieces → event_step m ≡ Ok x
     → event_step (longer z m) ≡ Ok (record x { machine = longer z x.machine })
 unfolding event_step
 step_given z m x e is = by (ended m.state)
@@ -52,7 +51,7 @@ step_given z m x e is = by (ended m.state)
     by (inr n) = agreed (steps_agree z m.state m n e)
 
 -- a step gives the same with more tokens after, which are left after those that it leaves
-pub same_step : (m : Machine) (us : List Piece) (e : Option Refusal) (x : Told) → event_step m ≡ Ok x
+pub same_step : (m : Machine) (us : List Piece) (e : Option Refusal) (x : Emitted) → event_step m ≡ Ok x
     → event_step (with_more us e m) ≡ Ok (record x { machine = with_more us e x.machine })
 same_step m us e x is = step_given (record { Early = Unit {0}; marker = Starts; pieces = us; refusal = e }) m x
     (early Starts us e m.tokens.pieces) is
@@ -65,13 +64,13 @@ behind_all es a = record { events = es ++ a.events; fault = a.fault }
 
 -- where a machine wants another token after the marker, unless its tokens ended too early
 abbrev pub IsStopped : More → Machine → Type 0
-IsStopped z k = z.Early ⊎ ((k.tokens.pieces ≡ []) × (Awaits z.marker k ⊎ ((z.marker ≡ Ends) × IsBetweenDocuments
-    k.state)))
+IsStopped z k = z.Early ⊎ ((k.tokens.pieces ≡ [])
+    × (Awaits (marker_token z.marker) k ⊎ ((z.marker ≡ Ends) × IsBetweenDocuments k.state)))
 
 -- The last of the events that a machine m tells, where k wants another token after the marker, is the marker's own;
 -- unless m had told it before, no document was open at `...`, or the tokens ended too early.
-abbrev pub IsLastToldBy : More → Machine → Machine → List (Happening × Span) → Type 0
-IsLastToldBy z m k es = (z.Early ⊎ ((z.marker ≡ Ends) × IsBetweenDocuments k.state))
+abbrev pub IsLastEmittedBy : More → Machine → Machine → List (Happening × Span) → Type 0
+IsLastEmittedBy z m k es = (z.Early ⊎ ((z.marker ≡ Ends) × IsBetweenDocuments k.state))
     ⊎ (((m.tokens.pieces ≡ []) × (es ≡ []))
     ⊎ ((os : List (Happening × Span)) × (s : Span) × (es ≡ os ++ (marker_event z.marker, s) ∷ [])))
 
@@ -80,17 +79,17 @@ IsLastToldBy z m k es = (z.Early ⊎ ((z.marker ≡ Ends) × IsBetweenDocuments 
 abbrev pub GoesOn : More → Option Refusal → Machine → Answer → Answer → Type 0
 GoesOn z r m a b = (b ≡ a) ⊎ ((a.fault ≡ Some (ending_of (ending_refusal r)))
     × ((k : Machine) × IsStopped z k × (b ≡ behind_all a.events (remaining_answer (longer z k)))
-    × IsLastToldBy z m k a.events))
+    × IsLastEmittedBy z m k a.events))
 
-last_behind_event : (z : More) (x : Told) (m k : Machine) (es : List (Happening × Span))
-    → IsLeftBehind z x.what x.machine → IsLastToldBy z x.machine k es → IsLastToldBy z m k ((x.what, x.span) ∷ es)
+last_behind_event : (z : More) (x : Emitted) (m k : Machine) (es : List (Happening × Span))
+    → IsLeftBehind z x.what x.machine → IsLastEmittedBy z x.machine k es → IsLastEmittedBy z m k ((x.what, x.span) ∷ es)
 last_behind_event z x m k es l (inl h) = inl h
 last_behind_event z x m k es (inl l) (inr (inl h)) = inl (inl (rw h.0 at l))
 last_behind_event z x m k es (inr l) (inr (inl h)) = inr (inr ([], x.span, rw h.1 (ap (λ v. (v, x.span) ∷ []) l.2)))
 last_behind_event z x m k es l (inr (inr h)) =
     inr (inr ((x.what, x.span) ∷ h.0, h.1, ap (λ v. (x.what, x.span) ∷ v) h.2))
 
-goes_on_behind_event : (z : More) (r : Option Refusal) (x : Told) (m : Machine) (a b : Answer)
+goes_on_behind_event : (z : More) (r : Option Refusal) (x : Emitted) (m : Machine) (a b : Answer)
     → IsLeftBehind z x.what x.machine → GoesOn z r x.machine a b
     → GoesOn z r m (with_first_event (x.what, x.span) a) (with_first_event (x.what, x.span) b)
 goes_on_behind_event z r x m a b l (inl y) = inl (ap (with_first_event (x.what, x.span)) y)
@@ -104,8 +103,9 @@ as_before : (z : More) (r : Option Refusal) (m : Machine) (a c b d : Answer) →
     → GoesOn z r m a b
 as_before z r m a c b d x y g = rw (x, y) g
 
-delivers_longer : (z : More) (r : Option Refusal) (m : Machine) (p q : Result Told Refusal) → AgreesOrEndsEarly z r p q
-    → answer_of_step q remaining_answer ≡ remaining_answer (longer z m) → ((x : Told) → p ≡ Ok x → IsLeft z x.machine
+delivers_longer : (z : More) (r : Option Refusal) (m : Machine) (p q : Result Emitted Refusal)
+    → AgreesOrEndsEarly z r p q
+    → answer_of_step q remaining_answer ≡ remaining_answer (longer z m) → ((x : Emitted) → p ≡ Ok x → IsLeft z x.machine
     → GoesOn z x.machine.tokens.refusal x.machine (remaining_answer x.machine) (remaining_answer (longer z x.machine)))
     → GoesOn z r m (answer_of_step p remaining_answer) (answer_of_step q remaining_answer)
 delivers_longer z r m (Ok x) q a s h =
@@ -114,13 +114,13 @@ delivers_longer z r m (Err f) q (inl e) s h = inr (rw e.1 refl, (m, inl e.0, s, 
 delivers_longer z r m (Err f) q (inr e) s h = inl (rw e refl)
 
 -- what waits for a token after the marker gets none
-none_awaited : (w : DocumentMarker) (m : Machine) → m.tokens.pieces ≡ [] → Awaits w m
+none_awaited : (w : DocumentMarker) (m : Machine) → m.tokens.pieces ≡ [] → Awaits (marker_token w) m
     → event_step_at m.state m ≡ Err (ending_refusal m.tokens.refusal)
 unfolding implicit_start unpassed_token document_content
 none_awaited w m e a = grind arith
 
 -- a step, and what comes after it
-first_step : (z : More) (m : Machine) → ((x : Told) → event_step m ≡ Ok x → IsLeft z x.machine
+first_step : (z : More) (m : Machine) → ((x : Emitted) → event_step m ≡ Ok x → IsLeft z x.machine
     → GoesOn z x.machine.tokens.refusal x.machine (remaining_answer x.machine) (remaining_answer (longer z x.machine)))
     → IsLeft z m → GoesOn z m.tokens.refusal m (remaining_answer m) (remaining_answer (longer z m))
 unfolding event_step
@@ -166,9 +166,7 @@ goes_on z m i = runs (suc (machine_size m)) z m (omega arith) i
 
 first_ones : (z : More) (r : Option Refusal) (m : Machine) (a b : Answer) → GoesOn z r m a b
     → BeginsAs (ending_refusal r) a b
-first_ones z r m a b (inl e) = inl e
-first_ones z r m a b (inr y) =
-    inr (y.0, ((remaining_answer (longer z y.1.0)).events, ap (λ (v : Answer). v.events) y.1.2))
+first_ones z r m a b u0 = grind arith
 
 -- the events of a machine are the first ones with more tokens after, and all where another fault than the end of its
 -- tokens ends them, or none

@@ -7,25 +7,21 @@ use Rattle.saphyr_scanner.specs.Grammar.TokenGrammar.{YieldsDocument, AreEndsAnd
 use Rattle.saphyr_scanner.specs.Views.Tokens.{Piece, Remaining}
 use Rattle.event_laws.specs.Anchors.{anchors}
 use Rattle.event_laws.specs.EventsTaken.{no_span}
-use Rattle.event_laws.specs.Preorder.{Part, OpenStream, CloseStream, OpenDocument, CloseDocument, node_parts, document_parts, parts}
+use Rattle.event_laws.specs.Preorder.{Part, CloseDocument, node_parts, document_parts, parts}
 use Rattle.saphyr_machine.specs.Events.{Happening}
 use Rattle.event_laws.specs.ForestEvents.{events}
 use Rattle.saphyr_machine.specs.Steps.Machine.{no_anchors}
 use Rattle.saphyr_machine.specs.Cursor.{at_start, keeping_tags, to_come}
 use Rattle.event_laws.specs.Exactly.{GivesExactly, kinds, answer_of_tokens}
-use Rattle.event_laws.proofs.Told.Telling.{SpansByKinds, Memory, dressed, dress}
+use Rattle.event_laws.proofs.Emitted.Emitting.{SpansByKinds, Memory, dressed, dress}
 use Rattle.event_laws.proofs.AddsUp.{IsInNode, of_node}
-use Rattle.event_laws.proofs.Told.Streams.{stream_says}
+use Rattle.event_laws.proofs.Emitted.Streams.{stream_says}
 use Rattle.event_laws.proofs.MemoryFits.{FitsBetween, Within, same_events}
 
 -- ## The parts of a forest are in their places
 
 alone_within : (p : Part) → IsInNode p → (ps : List Part) → Within true ps → Within true (p ∷ ps)
-alone_within OpenStream i ps h = elim i [ ]
-alone_within CloseStream i ps h = elim i [ ]
-alone_within (OpenDocument explicit directives) i ps h = elim i [ ]
-alone_within CloseDocument i ps h = elim i [ ]
-alone_within _ i ps h = (tt, h)
+alone_within k i ps h = grind arith
 
 node_within : (n : Node) (ps : List Part) → Within true ps → Within true (node_parts n ++ ps)
 node_within = of_node (λ qs. (ps : List Part) → Within true ps → Within true (qs ++ ps)) (λ ps h. h)

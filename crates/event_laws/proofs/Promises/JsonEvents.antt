@@ -1,5 +1,5 @@
 -- A text of JSON has events, since its forest has no aliases, anchors and tags.
-use Rattle.std.proofs.Common.{◌≡◌, ℕ, Bool, List, [], ◌∷◌, ◌++◌, Option, Some, None, option_map, encode_utf8_all, refl, ap}
+use Rattle.std.proofs.Common.{◌≡◌, ℕ, Bool, List, [], ◌∷◌, ◌++◌, Option, Some, None, option_map, encode_utf8_all, refl, ap, arith}
 use Rattle.saphyr_scanner.specs.Grammar.Forest.{Plain, SingleQuoted, DoubleQuoted, Literal, Folded, Properties, no_properties, Node, Alias, Nodes, NoNode, MoreNodes, Pairs, NoPair, MorePairs, Forest}
 use Rattle.saphyr_scanner.specs.Grammar.Forest as forest
 use Rattle.yaml_laws.specs.Grammar.Json.{IsMemberName, IsValue, AreElements, AreOtherElements, AreMembers, AreOtherMembers, IsJson}
@@ -46,8 +46,7 @@ joined_are_bare [] qs h k = k
 joined_are_bare (p ∷ ps) qs h k = (h.0, joined_are_bare ps qs h.1 k)
 
 member_name_is_bare : (n : Node) (t : List ℕ) → IsMemberName n t → AreBare (node_parts n)
-member_name_is_bare (forest.Scalar p DoubleQuoted v) t h = (h.0, tt)
-member_name_is_bare _ t h = elim h [ ]
+member_name_is_bare u0 t h = grind arith
 
 mutual
   value : (n : Node) (t : List ℕ) → IsValue n t → AreBare (node_parts n)

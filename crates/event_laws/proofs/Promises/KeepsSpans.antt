@@ -12,15 +12,14 @@ use Rattle.saphyr_scanner.specs.TokensTaken as taken
 use Rattle.saphyr_scanner.specs.TokensTaken.{IsPlaceOf}
 use Rattle.saphyr_machine.specs.declared.fault.Fault.{Fault}
 use Rattle.saphyr_machine.specs.Events.{Happening}
-use Rattle.saphyr_machine.specs.Steps.Machine.{Machine, told_event}
+use Rattle.saphyr_machine.specs.Steps.Machine.{Machine, emit}
 use Rattle.saphyr_machine.specs.Steps.Expected.{event_step}
 use Rattle.saphyr_machine.specs.Answer.{Answer, empty_answer, fault_alone, remaining_answer, machine_size}
 use Rattle.saphyr_machine.specs.Cursor.{EventCursor, Kept, at_start, answer_behind, with_event_ahead}
 use Rattle.saphyr_machine.specs.Calls.{AdvancesFrom, FailsFrom, LooksFrom, ReadsAhead}
 use Rattle.event_laws.specs.Promises.{KeepsSpans}
 use Rattle.event_laws.specs.SpansWithin.{IsIn, HasSpansIn, IsLater, itself, advanced, failed, looked, set}
-use Rattle.saphyr_machine.proofs.Walk.Steps.{Walk, HoldsBetween}
-use Rattle.saphyr_machine.proofs.Walk.All.{Resumes, runs, steps_at}
+use Rattle.saphyr_machine.proofs.Walk.{Walk, HoldsBetween, between, Resumes, step, runs}
 use Rattle.saphyr_machine.proofs.Calls.Handing.{goes_on}
 
 lower_pieces : (n low high : ℕ) (ps : List Piece) → low ≤ high → AreInOrder n high ps → AreInOrder n low ps
@@ -60,46 +59,25 @@ record Stands (text : List ℕ) (c : EventCursor) : Type 0 where
   between : c.kept ≡ None → HoldsBetween (ordered text) c.machine
 
 -- what a step gives
-stepped : (text : List ℕ) (m n : Machine) (e : Happening × Span) → event_step m ≡ told_event e.0 e.1 n
+stepped : (text : List ℕ) (m n : Machine) (e : Happening × Span) → event_step m ≡ emit e.0 e.1 n
     → HoldsBetween (ordered text) m → IsIn text e.1 × HoldsBetween (ordered text) n
-unfolding event_step
-stepped text m n e is h =
-    let alive = goes_on m _ is in
-    let a = resumes text m.state 0 0 m.tokens.refusal m.tokens.pieces alive h.rests in
-    rw is at (steps_at (ordered text) m.state m alive h.place (record { pieces = a.1; places = h.places }))
+stepped text m n e is h = rw is at (step (ordered text) (resumes text) m (goes_on m _ is) h)
 
 advances : (text : List ℕ) (e : Happening × Span) (a : Option (Happening × Span)) (k : Option Kept) (c d : EventCursor)
     → c.current ≡ a → c.kept ≡ k → AdvancesFrom a k e c d → Stands text c → Stands text d
-advances text e (Some next) k c d is kept (same, left) h =
-    rw left (record { ahead = λ f g. absurd (cc); between = h.between })
-advances text e None (Some k) c d is kept moved h = absurd moved
-advances text e None None c d is kept (moved, left) h =
-    let step = stepped text c.machine d.machine e moved (h.between kept) in
-    rw left (record { ahead = λ f g. h.ahead f g; between = λ g. step.1 })
+advances text e u0 k c d is kept u1 h = grind (arith, between, step, stepped)
 
 fails : (text : List ℕ) (f : Fault) (a : Option (Happening × Span)) (k : Option Kept) (c d : EventCursor)
     → c.current ≡ a → c.kept ≡ k → FailsFrom a k f c d → Stands text c → Stands text d
-fails text f (Some next) k c d is kept none h = absurd none
-fails text f None (Some k) c d is kept (untold, told, left) h =
-    rw left (record { ahead = λ e g. h.ahead e g; between = λ g. absurd (cc) })
-fails text f None None c d is kept (refuses, left) h =
-    rw left (record { ahead = λ e g. h.ahead e g; between = λ g. absurd (cc) })
+fails text f u0 k c d is kept none h = grind arith
 
 reads : (text : List ℕ) (a : Option (Happening × Span)) (k : Option Kept) (c d : EventCursor)
     → c.kept ≡ None → ReadsAhead a k c d → Stands text c → Stands text d
-reads text (Some e) (Some k) c d kept read h = absurd read
-reads text (Some e) None c d kept (moved, left) h =
-    let step = stepped text c.machine d.machine e moved (h.between kept) in
-    rw left (record { ahead = λ f g. (let same : e ≡ f = cc in rw same at step.0); between = λ g. step.1 })
-reads text None (Some k) c d kept (untold, ends, left) h =
-    rw left (record { ahead = λ e g. h.ahead e g; between = λ g. absurd (cc) })
-reads text None None c d kept (over, left) h = rw left h
+reads text u0 u1 c d kept read h = grind (arith, step, stepped, between)
 
 looks : (text : List ℕ) (a : Option (Happening × Span)) (k : Option Kept) (c d : EventCursor)
     → c.kept ≡ k → LooksFrom a k c d → Stands text c → Stands text d
-looks text (Some next) k c d kept same h = rw same h
-looks text None (Some k) c d kept same h = rw same h
-looks text None None c d kept read h = reads text d.current d.kept c d kept read h
+looks text u0 k c d kept same h = grind (arith, reads)
 
 later_stands : (text : List ℕ) (start c : EventCursor) → IsLater start c → Stands text start → Stands text c
 later_stands text start c itself h = h
@@ -113,7 +91,8 @@ later_stands text start _ (set keep c l) h =
     let s = later_stands text start c l h in
     record {
       ahead = s.ahead;
-      between = λ k. (let b = s.between k in record { place = b.place; places = b.places; rests = b.rests });
+      between = λ k. (let b = s.between k in
+          between (ordered text) _ b.state b.rest.states b.rest.tokens.0);
     }
 
 -- ## What comes
@@ -142,7 +121,7 @@ pub keeps_spans : (text : List ℕ) (tokens : Remaining) → AreInOrder (length 
     → AreAtPlaces text tokens.pieces → KeepsSpans text (at_start tokens)
 keeps_spans text tokens h a later is =
     let start : Stands text (at_start tokens) =
-    record { ahead = λ e g. absurd (cc); between = λ g. record { place = tt; places = tt; rests = (h, a) } } in
+    record { ahead = λ e g. absurd (cc); between = λ g. between (ordered text) _ refl refl (h, a) } in
     let stands = later_stands text (at_start tokens) later is start in
     ahead_spans text later.current (answer_behind later.kept later.machine) stands.ahead
     (behind_spans text later.kept later.machine stands.between)

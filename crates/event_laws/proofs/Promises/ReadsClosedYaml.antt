@@ -117,16 +117,14 @@ SeesNormalized G = (forest : Forest) (xs ys : List ℕ) → normalized xs ≡ no
 few_anchors : (forest : Forest) (limit : ℕ) (ts earlier more : List Kind) (k end : Kind) → ts ≡ earlier ++ k ∷ more
     → length ts ≤ 5 * limit + 10 → limit ≤ 4294967295 → anchors (parts forest) ≤ length (earlier ++ k ∷ end ∷ [])
     → anchors (parts forest) < 2 ^ 64
-few_anchors forest limit ts earlier more k end e bound most count =
-    let other = length-append earlier (k ∷ end ∷ []) in
-    omega (arith, count, ap length e, length-append earlier (k ∷ more), other, bound, most)
+few_anchors forest limit ts earlier more k end e bound most count = grind (arith, length-append)
 
 -- Were the stream's end the next token, the forest's events would be given exactly.
 gives_first : (limit : ℕ) (keep : Bool) (marker : DocumentMarker) (forest : Forest) (text : List ℕ)
     (first : List Happening) → limit ≤ 4294967295 → BoundsTokens limit → HandsOut marker forest (scan limit text)
     → events forest keep ≡ Some (first ++ events_behind_marker marker)
     → GivesFirst first (to_come (keeping_tags keep (at_start (scan limit text))))
-gives_first limit keep marker forest text first most bounds h told =
+gives_first limit keep marker forest text first most bounds h emitted =
     let all = h.earlier ++ marker_token marker ∷ tokens.StreamEnd ∷ [] in
     let alone = map piece_of all in
     let bound : length (kinds (scan limit text).pieces) ≤ 5 * limit + 10 =
@@ -134,7 +132,7 @@ gives_first limit keep marker forest text first most bounds h told =
     let few = few_anchors forest limit (kinds (scan limit text).pieces) h.earlier h.more (marker_token marker)
     tokens.StreamEnd h.begins bound most (forest_count forest all h.yields) in
     let given = each_parsed forest keep (record { pieces = alone; refusal = None })
-    (first ++ events_behind_marker marker) (rw (kinds_of all) h.yields) refl few told in
+    (first ++ events_behind_marker marker) (rw (kinds_of all) h.yields) refl few emitted in
     closed_kinds keep marker h.earlier h.more alone (scan limit text) first (kinds_of all) h.begins given
 
 pub reads_closed : (G : Grammar) (IsTail : List ℕ → Type 0) (limit : ℕ) → limit ≤ 4294967295 → SeesNormalized G
@@ -148,7 +146,7 @@ reads_closed G IsTail limit most sees bounds hands text keep first c =
     let apart : normalized (p.front ++ p.behind) ≡ normalized p.front ++ normalized p.behind = cc in
     let hands_out = hands c.marker c.forest p.front p.behind yaml (rw p.is_front c.ends) apart all_within in
     rw p.are_all (gives_first limit keep c.marker c.forest (p.front ++ p.behind) first most bounds hands_out
-    (c.promised.has_events ∙ ap Some c.are_told))
+    (c.promised.has_events ∙ ap Some c.are_emitted))
 
 -- the same of YAML's grammar
 pub reads_closed_yaml : (limit : ℕ) → limit ≤ 4294967295 → BoundsTokens limit

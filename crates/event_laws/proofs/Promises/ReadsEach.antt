@@ -1,9 +1,8 @@
 -- A parser gives exactly the events of a text of any grammar whose tokens are those of its forests.
-use Rattle.std.proofs.Common.{◌≡◌, ◌+◌, ◌*◌, ◌≤◌, ◌<◌, ◌^◌, ℕ, List, length, sym, subst, arith}
+use Rattle.std.proofs.Common.{◌≡◌, ◌+◌, ◌*◌, ◌≤◌, ◌<◌, ◌^◌, ℕ, List, length, arith}
 use Rattle.std.proofs.lemmas.List.{length-map}
 use Rattle.saphyr_scanner.specs.Grammar.Forest.{Forest}
 use Rattle.saphyr_scanner.specs.Steps.Remaining.{Scans, scan}
-use Rattle.saphyr_scanner.specs.Views.Tokens.{Piece}
 use Rattle.saphyr_scanner.specs.Grammar.TokenGrammar.{Yields}
 use Rattle.saphyr_scanner.specs.Grammar.Tokens.{Kind}
 use Rattle.event_laws.specs.Anchors.{anchors}
@@ -21,16 +20,9 @@ ScansForests G limit text = (forest : Forest) → G forest text → length text 
 
 few_anchors : (forest : Forest) (limit : ℕ) (text : List ℕ) → Yields forest (kinds (scan limit text).pieces)
     → length (scan limit text).pieces ≤ 5 * limit + 10 → limit ≤ 4294967295 → anchors (parts forest) < 2 ^ 64
-few_anchors forest limit text yields bound most =
-    let same = length-map (scan limit text).pieces (λ (t : Piece). t.kind) in
-    omega (arith, forest_count forest (kinds (scan limit text).pieces) yields, same, bound, most)
+few_anchors forest limit text yields bound most = grind (arith, length-map, forest_count)
 
 pub reads_each : (G : Grammar) (limit : ℕ) (text : List ℕ) → limit ≤ 4294967295
     → length (scan limit text).pieces ≤ 5 * limit + 10 → ScansForests G limit text → (c : EventCursor)
     → c ≡ at_start (scan limit text) → ReadsEach G limit text c
-reads_each G limit text most bound scans c is forest keep told promised =
-    let scanned = scans forest promised.stands_for promised.within in
-    let yields = subst (Yields forest) (sym scanned.2.1) scanned.1 in
-    rw is
-    (each_parsed forest keep (scan limit text) told yields scanned.2.0 (few_anchors forest limit text yields bound most)
-    promised.has_events)
+reads_each u0 limit text most bound scans c is forest keep emitted promised = grind (arith, each_parsed, few_anchors)

@@ -25,10 +25,10 @@ few_anchors forest text json = let none = json_has_no_anchors forest text json i
 
 pub reads_each_json : JsonIsYaml → ScansYaml → (limit : ℕ) (text : List ℕ) → length text < 2 ^ 63
     → (parser : EventCursor) → parser ≡ at_start (scan limit text) → ReadsJson limit text parser
-reads_each_json stands scans limit text small parser is forest keep told p =
+reads_each_json stands scans limit text small parser is forest keep emitted p =
     let json = p.stands_for.0 in
     let yaml = stands most_open forest text json p.stands_for.1 in
     let scanned = scans limit forest text yaml p.within small in
     let yields = subst (Yields forest) (sym scanned.2.1) scanned.1 in
     rw is
-    (each_parsed forest keep (scan limit text) told yields scanned.2.0 (few_anchors forest text json) p.has_events)
+    (each_parsed forest keep (scan limit text) emitted yields scanned.2.0 (few_anchors forest text json) p.has_events)

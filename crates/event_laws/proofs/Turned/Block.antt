@@ -1,20 +1,19 @@
 -- The steps inside block collections are turned.
 use Rattle.event_laws.proofs.OwnTokens.{whole}
 use Rattle.std.proofs.Common.{◌≡◌, List, [], ◌∷◌, ◌++◌, refl, ◌∙◌, inl, inr, append_assoc, arith}
-use Rattle.saphyr_scalar.specs.declared.scalar.position.Span.{Span}
 use Rattle.saphyr_scalar.specs.declared.scalar.style.ScalarStyle.TheVariants.{Plain}
 use Rattle.saphyr_scanner.specs.Grammar.Forest.{Node, NoNode, MoreNodes, NoPair, MorePairs}
 use Rattle.saphyr_scanner.specs.Grammar.Forest as forest
 use Rattle.saphyr_scanner.specs.Grammar.Tokens.{Kind, BlockEnd, BlockEntry, Key, Value}
 use Rattle.saphyr_scanner.specs.Grammar.TokenGrammar.{InBlock, InBlockMapping, BeginsWithValue, YieldsNode, YieldsMarkedPair}
-use Rattle.saphyr_machine.specs.declared.context.NodeContext.TheVariants.{Block, BlockMapping}
 use Rattle.saphyr_machine.specs.declared.state.State.TheVariants as state
 use Rattle.event_laws.specs.Preorder.{Part, Leaf, CloseSequence, CloseMapping, node_parts, pair_parts}
 use Rattle.saphyr_machine.specs.Events.{SequenceEnd, MappingEnd}
-use Rattle.saphyr_machine.specs.Steps.Block.{block_sequence_node_at, block_sequence_node, block_sequence_entry_at, block_sequence_entry, indentless_sequence_node_at, indentless_sequence_node, indentless_sequence_entry_at, indentless_sequence_entry, block_key_node_at, block_key_node, block_mapping_key_at, block_mapping_key, block_value_node_at, block_value_node, block_mapping_value_at, block_mapping_value}
+use Rattle.saphyr_machine.specs.Steps.Block.{block_sequence_entry_at, block_sequence_entry, indentless_sequence_entry_at, indentless_sequence_entry, block_mapping_key_at, block_mapping_key, block_mapping_value_at, block_mapping_value}
+use Rattle.saphyr_machine.specs.Steps.Nodes.{node_behind, node_here}
 use Rattle.event_laws.proofs.Turned.Following.{Claim, Then, Exactly, IsOptionalOf, IsSkipped, IsValueOf, BlockEntries, BlockPairs, InBlockPairs, AtBlockValue, FollowsStates}
 use Rattle.event_laws.proofs.Turned.Turning.{regroup, join_behind, put, both_parts}
-use Rattle.event_laws.proofs.Turned.Entries.{WantedIn, Turns, TurnsAt, by_token, passes, leaves_out, skips, enters_optional, marked_value, collection_ends, closes}
+use Rattle.event_laws.proofs.Turned.Entries.{WantedIn, Turns, TurnsAt, by_token, passes, leaves_out, behind_turned, here_turned, marked_value, collection_ends, closes}
 
 -- ## Entries of sequences
 
@@ -37,20 +36,13 @@ one_entry T ks ps h =
 abbrev AtNode : Claim → Claim
 AtNode R = Then (IsOptionalOf InBlock) (InEntries R)
 
-node_at_turned : (span : Span) → TurnsAt (λ _. AtNode) (λ k. block_sequence_node_at k span)
-node_at_turned span BlockEntry = skips InBlock state.BlockSequenceEntry BlockEntry tt span
-node_at_turned span BlockEnd = skips InBlock state.BlockSequenceEntry BlockEnd tt span
-node_at_turned span k = enters_optional Block state.BlockSequenceEntry k tt tt
-
-node_turned : (span : Span) → Turns (λ _. AtNode) (block_sequence_node span)
-unfolding block_sequence_node
-node_turned span = by_token (λ _. AtNode) (λ k. block_sequence_node_at k span) (node_at_turned span)
-
 sequence_entry_at_turned : TurnsAt (λ _. InEntries) block_sequence_entry_at
 sequence_entry_at_turned BlockEnd sp = closes (λ _. InEntries) BlockEntries BlockEnd SequenceEnd CloseSequence
     (λ e. (refl, refl)) refl (λ t span ts k. inr (t, inr k, refl)) (NoNode, refl, refl) (λ _ R ks ps f. f) sp sp
-sequence_entry_at_turned BlockEntry sp = passes (λ _. AtNode) (λ _. InEntries) BlockEntry (block_sequence_node sp) tt
-    (λ _ R. one_entry (Then (Exactly (BlockEnd ∷ []) (CloseSequence ∷ [])) R)) (node_turned sp) sp
+sequence_entry_at_turned BlockEntry sp = passes (λ _. AtNode) (λ _. InEntries) BlockEntry
+    (node_behind state.BlockSequenceEntry sp)
+    tt (λ _ R. one_entry (Then (Exactly (BlockEnd ∷ []) (CloseSequence ∷ [])) R))
+    (behind_turned state.BlockSequenceEntry tt tt sp) sp
 sequence_entry_at_turned _ sp = λ ts r x s ss e w a. tt
 
 pub sequence_entry_turned : Turns (λ _. InEntries) block_sequence_entry
@@ -62,27 +54,16 @@ sequence_entry_turned = by_token (λ _. InEntries) block_sequence_entry_at seque
 abbrev AtIndentless : Claim → Claim
 AtIndentless R = Then (IsOptionalOf InBlock) (InIndentless R)
 
-indentless_at_turned : (span : Span) → TurnsAt (λ _. AtIndentless) (λ k. indentless_sequence_node_at k span)
-indentless_at_turned span BlockEntry = skips InBlock state.IndentlessSequenceEntry BlockEntry tt span
-indentless_at_turned span Key = skips InBlock state.IndentlessSequenceEntry Key tt span
-indentless_at_turned span Value = skips InBlock state.IndentlessSequenceEntry Value tt span
-indentless_at_turned span BlockEnd = skips InBlock state.IndentlessSequenceEntry BlockEnd tt span
-indentless_at_turned span k = enters_optional Block state.IndentlessSequenceEntry k tt tt
-
-indentless_turned : (span : Span) → Turns (λ _. AtIndentless) (indentless_sequence_node span)
-unfolding indentless_sequence_node
-indentless_turned span =
-    by_token (λ _. AtIndentless) (λ k. indentless_sequence_node_at k span) (indentless_at_turned span)
-
 indentless_entry_at_turned : TurnsAt (WantedIn state.IndentlessSequenceEntry) indentless_sequence_entry_at
 indentless_entry_at_turned BlockEntry sp = passes (λ _. AtIndentless) (WantedIn state.IndentlessSequenceEntry)
-    BlockEntry (indentless_sequence_node sp) tt
-    (λ _ R ks ps h. (one_entry (Then (Exactly [] (CloseSequence ∷ [])) R) ks ps h, λ b. tt)) (indentless_turned sp) sp
+    BlockEntry (node_behind state.IndentlessSequenceEntry sp) tt
+    (λ _ R ks ps h. (one_entry (Then (Exactly [] (CloseSequence ∷ [])) R) ks ps h, λ b. tt))
+    (behind_turned state.IndentlessSequenceEntry tt tt sp) sp
 indentless_entry_at_turned k sp = λ ts r x s ss e w a. record {
   used = [];
   part = CloseSequence;
   taken = refl;
-  tells = refl;
+  emits = refl;
   remembers = refl;
   few = omega arith;
   places = whole [] _ _ (inl refl);
@@ -125,9 +106,7 @@ with_value R ks ps h =
     (regroup (IsOptionalOf InBlockMapping) (IsValueOf InBlockMapping) (InBlockPairs R) IsMarked ks ps marked_join h)
 
 value_more : (t u : List Kind) → BeginsWithValue t → BeginsWithValue (t ++ u)
-value_more [] u h = absurd h
-value_more (Value ∷ t) u h = tt
-value_more (_ ∷ t) u h = elim h [ ]
+value_more k u h = grind arith
 
 without_value : (R : Claim) (front back ks : List Kind) (first second ps : List Part)
     → IsOptionalOf InBlockMapping front first → (BeginsWithValue back → ⊥) → Then IsSkipped (InBlockPairs R) back second
@@ -189,19 +168,10 @@ keyless R ks ps (inl v) b = join_behind (IsValueOf InBlockMapping) BlockPairs
 abbrev AtKey : Claim → Claim
 AtKey R = Then (IsOptionalOf InBlockMapping) (AtBlockValue R)
 
-key_at_turned : TurnsAt (λ _. AtKey) block_key_node_at
-key_at_turned Key sp = skips InBlockMapping state.BlockMappingValue Key tt sp sp
-key_at_turned Value sp = skips InBlockMapping state.BlockMappingValue Value tt sp sp
-key_at_turned BlockEnd sp = skips InBlockMapping state.BlockMappingValue BlockEnd tt sp sp
-key_at_turned k sp = enters_optional BlockMapping state.BlockMappingValue k tt tt sp
-
-key_turned : Turns (λ _. AtKey) block_key_node
-unfolding block_key_node
-key_turned = by_token (λ _. AtKey) block_key_node_at key_at_turned
-
 mapping_key_at_turned : TurnsAt (WantedIn state.BlockMappingKey) block_mapping_key_at
-mapping_key_at_turned Key sp = passes (λ _. AtKey) (WantedIn state.BlockMappingKey) Key block_key_node tt
-    (λ _ R ks ps h. (keyed R ks ps h, λ b. absurd b)) key_turned sp
+mapping_key_at_turned Key sp = passes (λ _. AtKey) (WantedIn state.BlockMappingKey) Key
+    (node_here state.BlockMappingValue) tt (λ _ R ks ps h. (keyed R ks ps h, λ b. absurd b))
+    (here_turned state.BlockMappingValue tt tt) sp
 mapping_key_at_turned Value sp = leaves_out (WantedIn state.BlockMappingKey) state.BlockMappingValue Value tt
     (λ _ R ks ps f b. (keyless R ks ps f (b tt), λ c. tt)) sp sp
 mapping_key_at_turned BlockEnd sp = closes (WantedIn state.BlockMappingKey) BlockPairs BlockEnd MappingEnd CloseMapping
@@ -217,19 +187,11 @@ mapping_key_turned = by_token (WantedIn state.BlockMappingKey) block_mapping_key
 abbrev AtValue : Claim → Claim
 AtValue R = Then (IsOptionalOf InBlockMapping) (InBlockPairs R)
 
-value_at_turned : (span : Span) → TurnsAt (λ _. AtValue) (λ k. block_value_node_at k span)
-value_at_turned span Key = skips InBlockMapping state.BlockMappingKey Key tt span
-value_at_turned span Value = skips InBlockMapping state.BlockMappingKey Value tt span
-value_at_turned span BlockEnd = skips InBlockMapping state.BlockMappingKey BlockEnd tt span
-value_at_turned span k = enters_optional BlockMapping state.BlockMappingKey k tt tt
-
-value_turned : (span : Span) → Turns (λ _. AtValue) (block_value_node span)
-unfolding block_value_node
-value_turned span = by_token (λ _. AtValue) (λ k. block_value_node_at k span) (value_at_turned span)
-
 mapping_value_at_turned : TurnsAt (WantedIn state.BlockMappingValue) block_mapping_value_at
-mapping_value_at_turned Value sp = passes (λ _. AtValue) (WantedIn state.BlockMappingValue) Value (block_value_node sp)
-    tt (λ _ R ks ps h. (inl (marked_value InBlockMapping (InBlockPairs R) ks ps h), λ b. tt)) (value_turned sp) sp
+mapping_value_at_turned Value sp = passes (λ _. AtValue) (WantedIn state.BlockMappingValue) Value
+    (node_behind state.BlockMappingKey sp) tt
+    (λ _ R ks ps h. (inl (marked_value InBlockMapping (InBlockPairs R) ks ps h), λ b. tt))
+    (behind_turned state.BlockMappingKey tt tt sp) sp
 mapping_value_at_turned k sp = leaves_out (WantedIn state.BlockMappingValue) state.BlockMappingKey k tt
     (λ _ R ks ps f b. (
       inr (b, put IsSkipped (InBlockPairs R) [] (node_parts forest.left_out) ks ps (refl, refl) f),

@@ -1,7 +1,7 @@
 -- The content of a node is turned, after its properties.
 use Rattle.event_laws.proofs.OwnTokens.{HasOwn, whole, Shape, StartsAt, content_spans, content_is, alone_is}
 use Rattle.event_laws.specs.EventsTaken.{AreContentTokens, SpansAll, IsOf}
-use Rattle.std.proofs.Common.{◌≡◌, ◌≤◌, ℕ, Bool, true, false, List, [], ◌∷◌, ◌++◌, length, Option, Some, option_map, encode_utf8_all, Ok, Err, refl, sym, ap, ◌∙◌, inr, append_assoc, arith, length-append}
+use Rattle.std.proofs.Common.{◌≡◌, ◌≤◌, ℕ, Bool, true, false, List, [], ◌∷◌, ◌++◌, length, Option, Some, option_map, encode_utf8_all, Ok, Err, refl, sym, ◌∙◌, inr, append_assoc, arith, length-append}
 use Rattle.std.specs.Prelude.{if◌then◌else◌}
 use Rattle.saphyr_scalar.specs.declared.scalar.position.Span.{Span}
 use Rattle.saphyr_scalar.specs.declared.scalar.style.ScalarStyle.{ScalarStyle}
@@ -10,32 +10,27 @@ use Rattle.saphyr_scalar.specs.declared.scalar.fault.Refusal.{Refusal}
 use Rattle.saphyr_scalar.specs.declared.scalar.fault.FaultText.TheVariants as fault
 use Rattle.saphyr_scanner.specs.Grammar.Forest.{HasOne, Tag, Node, Pairs, NoPair, MorePairs}
 use Rattle.saphyr_scanner.specs.Grammar.Forest as forest
-use Rattle.saphyr_scanner.specs.Grammar.Tokens as tokens
 use Rattle.saphyr_scanner.specs.Grammar.Tokens.{Kind}
 use Rattle.saphyr_scanner.specs.Views.Tokens.{Piece}
 use Rattle.saphyr_scanner.specs.Grammar.TokenGrammar as grammar
-use Rattle.saphyr_scanner.specs.Grammar.TokenGrammar.{InFlow, InBlock, InBlockMapping, YieldProperties, YieldsScalar, YieldsBlockPair, YieldBlockPairs}
+use Rattle.saphyr_scanner.specs.Grammar.TokenGrammar.{YieldProperties, YieldsScalar, YieldsBlockPair, YieldBlockPairs}
 use Rattle.saphyr_machine.specs.declared.context.NodeContext.{NodeContext}
-use Rattle.saphyr_machine.specs.declared.context.NodeContext.TheVariants.{Flow, Block, BlockMapping}
+use Rattle.saphyr_machine.specs.declared.context.NodeContext.TheVariants.{BlockMapping}
 use Rattle.saphyr_machine.specs.declared.state.State.{State}
 use Rattle.saphyr_machine.specs.declared.state.State.TheVariants as state
 use Rattle.event_laws.specs.Anchors.{one_more_anchor, anchors}
-use Rattle.event_laws.specs.Preorder.{Part, Leaf, CloseMapping}
+use Rattle.event_laws.specs.Preorder.{Part, Leaf}
 use Rattle.saphyr_machine.specs.Events.{Happening, ResolvedTag, Scalar}
 use Rattle.event_laws.specs.Exactly.{kinds}
 use Rattle.saphyr_machine.specs.Steps.Nodes.{NodeProperties, span_up_to, has_property, node_without_content}
-use Rattle.event_laws.proofs.Told.Telling.{Memory}
+use Rattle.event_laws.proofs.Emitted.Emitting.{Memory}
 use Rattle.event_laws.proofs.Remembering.{after, event_in, noted, with_properties}
-use Rattle.event_laws.proofs.Told.Nodes.{Has}
+use Rattle.event_laws.proofs.Emitted.Nodes.{Has}
+use Rattle.event_laws.proofs.NodeStarts.{place_of}
 use Rattle.event_laws.proofs.Turned.Following.{Then, Exactly, Claim, IsNodeOf, InBlockPairs, AtBlockValue, Behind, FollowsStates, IsInsideDocument, IsAlive, BeginsWithEntry}
 use Rattle.event_laws.proofs.Turned.Turning.{piece_of, machine, Goes, Turned, kinds_append, put, around}
 
 -- ## Where a node is
-
-abbrev pub place_of : NodeContext → grammar.Context
-place_of Flow = InFlow
-place_of Block = InBlock
-place_of BlockMapping = InBlockMapping
 
 abbrev pub IsPairState : State → Type 0
 IsPairState state.BlockMappingKey = Unit {0}
@@ -58,9 +53,9 @@ pub record Fronted (e : Memory) (p : forest.Properties) (q : NodeProperties) (fr
   pub enough : one_more_anchor (option_map encode_utf8_all p.anchor) 0 ≤ length front
   pub shape : Shape front q
 
-pub with_told : (make : ℕ → Option ResolvedTag → Happening) (e : Memory) (p : forest.Properties) (q : NodeProperties)
+pub with_emitted : (make : ℕ → Option ResolvedTag → Happening) (e : Memory) (p : forest.Properties) (q : NodeProperties)
     → Has e p.anchor p.tag q → with_properties make e p ≡ Some (make q.anchor q.tag)
-with_told make e p q h = cc
+with_emitted make e p q h = cc
 
 pub enough_for : (p : forest.Properties) (front own : List Piece)
     → one_more_anchor (option_map encode_utf8_all p.anchor) 0 ≤ length front
@@ -94,7 +89,7 @@ module _ (p : forest.Properties) (q : NodeProperties) (front : List Piece) (r : 
     used = front ++ own;
     part = Leaf p style value;
     taken = sym (append_assoc front own ts);
-    tells = with_told (Scalar (encode_utf8_all value) style) e p q h.has;
+    emits = with_emitted (Scalar (encode_utf8_all value) style) e p q h.has;
     remembers = refl;
     few = enough_for p front own h.enough;
     places = o;
@@ -137,12 +132,12 @@ module _ (p : forest.Properties) (q : NodeProperties) (front : List Piece) (r : 
         span = span_up_to q sp.end;
         machine = machine ts r o (s ∷ ss) (noted p.anchor e);
       })
-  collection_goes A opening closing o part last make sp c ts tells same count i own inside node b =
+  collection_goes A opening closing o part last make sp c ts emits same count i own inside node b =
       let t : Piece = piece_of opening sp in record {
         used = front ++ t ∷ [];
         part = part;
         taken = taken_one front t ts;
-        tells = tells ∙ with_told make e p q h.has;
+        emits = emits ∙ with_emitted make e p q h.has;
         remembers = same;
         few = (let l = enough_for p front (t ∷ []) h.enough in omega (arith, l, count));
         places = whole _ _ _ (own (front ++ t ∷ []) (span_up_to q sp.end) (content_is opening front q t refl h.shape)
@@ -156,21 +151,8 @@ module _ (p : forest.Properties) (q : NodeProperties) (front : List Piece) (r : 
 
 -- ## Sequences at the column of the mapping around them
 
-pair_begins : (key value : Node) (K V : List Kind → Type 0) (others t u : List Kind)
-    → YieldsBlockPair key value K V others t → BeginsWithEntry (t ++ u) → ⊥
-pair_begins key value K V others t u h = grind arith
-
-pairs_begin : (qs : Pairs) (t u : List Kind) → YieldBlockPairs qs t → (BeginsWithEntry u → ⊥) → BeginsWithEntry (t ++ u)
-    → ⊥
-pairs_begin NoPair t u h n = rw h n
-pairs_begin (MorePairs key value qs) t u h n =
-    rw (ap (λ (l : List Kind). l ++ u) h.4 ∙ append_assoc h.0 h.1 u) (pair_begins key value _ _ h.1 h.0 (h.1 ++ u) h.2)
-
 in_pairs_begin : (R : Claim) (ks : List Kind) (ps : List Part) → InBlockPairs R ks ps → BeginsWithEntry ks → ⊥
-in_pairs_begin R ks ps h =
-    let g : Then (Exactly (tokens.BlockEnd ∷ []) (CloseMapping ∷ [])) R h.back h.second = h.goes_on in
-    rw h.kinds_are (pairs_begin h.begins.0 h.front h.back h.begins.1
-    (rw (g.kinds_are ∙ ap (λ (l : List Kind). l ++ g.back) g.begins.0) (λ z. z)))
+in_pairs_begin u0 ks ps h = grind arith
 
 at_value_begins : (R : Claim) (ks : List Kind) (ps : List Part) → AtBlockValue R ks ps → BeginsWithEntry ks → ⊥
 at_value_begins R ks ps h = grind arith

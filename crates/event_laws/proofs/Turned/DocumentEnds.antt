@@ -20,8 +20,8 @@ use Rattle.saphyr_machine.specs.Steps.Machine.{◌>>=◌, Machine, with_pieces}
 use Rattle.saphyr_machine.specs.Steps.Nodes.{node}
 use Rattle.saphyr_machine.specs.Steps.Block.{block_node}
 use Rattle.saphyr_machine.specs.Steps.Documents.{is_mark, unpassed_token_from, unpassed_token, no_content, document_content_at, document_content, token_behind_marks_at, token_behind_marks, token_behind_document_at, token_behind_document, without_prefixes, document_end_at, document_end}
-use Rattle.event_laws.proofs.Told.Telling.{Memory}
-use Rattle.event_laws.proofs.Turned.Following.{Then, IsNodeOf, IsOptionalOf, AreExplicit, Outside, FollowsStates, IsFree, BeginsFreely}
+use Rattle.event_laws.proofs.Emitted.Emitting.{Memory}
+use Rattle.event_laws.proofs.Turned.Following.{Then, IsNodeOf, IsOptionalOf, AreExplicit, Outside, IsFree, BeginsFreely}
 use Rattle.event_laws.proofs.Turned.Turning.{piece_of, machine, Turned, weaker}
 use Rattle.event_laws.proofs.Turned.Content.{split, taken_one}
 use Rattle.event_laws.proofs.Turned.Nodes.{node_turned}
@@ -31,23 +31,13 @@ use Rattle.event_laws.proofs.Turned.Entries.{Turns, TurnsBehind, TurnsAt, by_tok
 
 pub block_node_turned : Turns (λ _. Then (IsNodeOf InBlock)) block_node
 unfolding block_node
-block_node_turned = by_token (λ _. Then (IsNodeOf InBlock)) (λ k. node Block)
-    (λ k sp ts r x s ss e w a. node_turned Block r x s ss e tt a (piece_of k sp) ts w)
+block_node_turned = grind (arith, by_token, node_turned)
 
 left_out : (k : Kind) → TurnsBehind (λ _. Then (IsOptionalOf InBlock)) k no_content
 left_out k sp ts r x s ss e w a = skip_optional InBlock (record { span = sp; kind = k }) sp ts r x s ss e a
 
 content_at_turned : TurnsAt (λ _. Then (IsOptionalOf InBlock)) document_content_at
-content_at_turned (tokens.VersionDirective major minor) = left_out (tokens.VersionDirective major minor)
-content_at_turned (tokens.TagDirective handle prefix) = left_out (tokens.TagDirective handle prefix)
-content_at_turned (tokens.ReservedDirective name) = left_out (tokens.ReservedDirective name)
-content_at_turned tokens.DocumentStart = left_out tokens.DocumentStart
-content_at_turned tokens.DocumentEnd = left_out tokens.DocumentEnd
-content_at_turned tokens.ByteOrderMark = left_out tokens.ByteOrderMark
-content_at_turned tokens.StreamEnd = left_out tokens.StreamEnd
-content_at_turned k = λ sp ts r x s ss e w a.
-    weaker (Then (IsNodeOf InBlock) (FollowsStates s ss)) (Then (IsOptionalOf InBlock) (FollowsStates s ss)) e _ _
-    (some_node InBlock (FollowsStates s ss)) (node_turned Block r x s ss e tt a (piece_of k sp) ts w)
+content_at_turned u0 = grind (arith, left_out, weaker, some_node, node_turned)
 
 pub content_turned : Turns (λ _. Then (IsOptionalOf InBlock)) document_content
 unfolding document_content
@@ -94,18 +84,9 @@ marks_passed (t ∷ ts) m = by (is_mark t.kind) refl (marks_passed ts (with_piec
     by true y h = one_more_mark t ts m _ y h
     by false y h = record { marks = []; rest = ts; are = refl; are_marks = tt; no_mark = y; leaves = refl }
 
-behind_at : (k : Kind) (sp : Span) (place : Marker) (n : Machine) (ts : List Piece) (m : Machine)
-    → Marked ts m (record { span = sp; kind = k }) n
-    → MarkedBy ts m (token_behind_marks_at k place (record { span = sp; kind = k }) n)
-behind_at tokens.DocumentStart sp place n ts m h = h
-behind_at tokens.DocumentEnd sp place n ts m h = h
-behind_at tokens.StreamEnd sp place n ts m h = h
-behind_at _ sp place n ts m h = tt
-
 behind_some : (res : Result (Piece × Machine) Refusal) (place : Marker) (ts : List Piece) (m : Machine)
     → MarkedBy ts m res → MarkedBy ts m (res >>= (λ t. token_behind_marks_at t.0.kind place t.0 t.1))
-behind_some (Err f) place ts m h = tt
-behind_some (Ok y) place ts m h = behind_at y.0.kind y.0.span place y.1 ts m h
+behind_some u0 place ts m h = grind arith
 
 behind_all : (place : Marker) (ts : List Piece) (m : Machine)
     → MarkedBy ts (with_pieces ts m) (token_behind_marks place (with_pieces ts m))
@@ -181,7 +162,7 @@ end_at_turned tokens.DocumentEnd sp n ts r x e h = rw h.leaves (record {
   used = h.marks ++ record { span = sp; kind = tokens.DocumentEnd } ∷ [];
   part = CloseDocument;
   taken = h.are ∙ taken_one h.marks (record { span = sp; kind = tokens.DocumentEnd }) h.rest;
-  tells = refl;
+  emits = refl;
   remembers = refl;
   few = omega arith;
   places = record {
@@ -202,7 +183,7 @@ end_at_turned k sp n ts r x e h = rw h.leaves (record {
   used = h.marks;
   part = CloseDocument;
   taken = h.are;
-  tells = refl;
+  emits = refl;
   remembers = refl;
   few = omega arith;
   places = record {

@@ -1,5 +1,4 @@
 -- The steps at the beginnings of the stream and of documents are turned.
-use Rattle.saphyr_scanner.specs.Grammar.Forest as forest
 use Rattle.event_laws.proofs.OwnTokens.{ArePassed, HasOwn, whole, passed_one, behind_own}
 use Rattle.event_laws.specs.EventsTaken.{BelongsToNone}
 use Rattle.std.proofs.Common.{◌≡◌, ◌≤◌, Bool, true, false, List, [], ◌∷◌, ◌++◌, length, map, Option, Some, Result, Ok, Err, refl, ap, ◌∙◌, ◌⊎◌, inl, inr, append_assoc, arith}
@@ -17,10 +16,10 @@ use Rattle.event_laws.specs.Anchors.{anchors}
 use Rattle.event_laws.specs.Preorder.{Part, OpenStream, CloseStream, OpenDocument, document_parts}
 use Rattle.saphyr_machine.specs.Events as events
 use Rattle.event_laws.specs.Exactly.{kinds}
-use Rattle.saphyr_machine.specs.Steps.Machine.{◌>>=◌, Machine, Told, with_pieces}
+use Rattle.saphyr_machine.specs.Steps.Machine.{◌>>=◌, Machine, Emitted, with_pieces}
 use Rattle.saphyr_machine.specs.Steps.Documents.{is_end_or_mark, unpassed_token_from, unpassed_token, none_declared, directives, stream_start_at, stream_start, explicit_document_at, explicit_document, bare_document, implicit_start_at, implicit_start, explicit_start_at, explicit_start}
 use Rattle.event_laws.specs.WellFormed.{AreWellFormed}
-use Rattle.event_laws.proofs.Told.Telling.{Memory}
+use Rattle.event_laws.proofs.Emitted.Emitting.{Memory}
 use Rattle.event_laws.proofs.Remembering.{event_in}
 use Rattle.event_laws.proofs.Turned.Following.{Claim, Then, IsNodeOf, IsOptionalOf, AreExplicit, Outside, BeginsFreely}
 use Rattle.event_laws.proofs.Turned.Turning.{machine, Goes, Turned, weaker, behind}
@@ -31,30 +30,30 @@ use Rattle.event_laws.proofs.Turned.Directives.{PassesDirectives, PassedBy, dire
 -- ## A step that may be the last
 
 -- the end of the stream, after which no token comes
-pub record Over (F : Claim) (e : Memory) (k : List Piece) (x : Told) : Type 0 where
+pub record Over (F : Claim) (e : Memory) (k : List Piece) (x : Emitted) : Type 0 where
   pub part : Part
   pub is_over : x.machine.state ≡ state.End
-  pub tells : event_in e part ≡ Some x.what
+  pub emits : event_in e part ≡ Some x.what
   pub few : anchors (part ∷ []) ≤ length k
   pub places : HasOwn k x.what x.span []
   pub makes : F (kinds k) (part ∷ [])
 
-abbrev pub MovesOn : Claim → Memory → List Piece → Result Told Refusal → Type 0
+abbrev pub MovesOn : Claim → Memory → List Piece → Result Emitted Refusal → Type 0
 MovesOn F e k (Ok x) = Goes F e k x ⊎ Over F e k x
 MovesOn F e k (Err f) = Unit {0}
 
-pub moves : (F : Claim) (e : Memory) (k : List Piece) (r : Result Told Refusal) → Turned F e k r → MovesOn F e k r
-moves F e k (Ok x) h = inl h
-moves F e k (Err f) h = tt
+pub moves : (F : Claim) (e : Memory) (k : List Piece) (r : Result Emitted Refusal) → Turned F e k r → MovesOn F e k r
+moves u0 e k u1 h = grind arith
 
-behind_moves : (t : Piece) (F G : Claim) (e : Memory) (k : List Piece) (r : Result Told Refusal) → BelongsToNone t.kind
+behind_moves : (t : Piece) (F G : Claim) (e : Memory) (k : List Piece) (r : Result Emitted Refusal)
+    → BelongsToNone t.kind
     → ((ks : List Kind) (ps : List Part) → F ks ps → G (t.kind ∷ ks) ps) → MovesOn F e k r → MovesOn G e (t ∷ k) r
 behind_moves t F G e k (Ok x) b i (inl h) = inl (behind t F G e k (Ok x) b i h)
 behind_moves t F G e k (Ok x) b i (inr h) =
     inr (record {
       part = h.part;
       is_over = h.is_over;
-      tells = h.tells;
+      emits = h.emits;
       few = (let l = h.few in omega (arith, l));
       places = behind_own t k x.what x.span b h.places;
       makes = i _ _ h.makes;
@@ -64,7 +63,7 @@ behind_moves t F G e k (Err f) b i h = tt
 -- ## Tokens that are passed
 
 passing : (p : Kind → Bool) (G : List Kind → Claim) (e : Memory) (ts : List Piece)
-    (m : Machine) (go : Piece × Machine → Result Told Refusal) → AreWellFormed ts
+    (m : Machine) (go : Piece × Machine → Result Emitted Refusal) → AreWellFormed ts
     → ((k : Kind) → p k ≡ true → BelongsToNone k)
     → ((k : Kind) (ahead ks : List Kind) (ps : List Part) → p k ≡ true → G ahead ks ps → G (k ∷ ahead) (k ∷ ks) ps)
     → ((t : Piece) (us : List Piece) → AreWellFormed (t ∷ us)
@@ -83,18 +82,13 @@ passing p G e (t ∷ ts) m go w free join here =
     by false y h = here t ts w
 
 end_or_mark : (k : Kind) → is_end_or_mark k ≡ true → (k ≡ tokens.DocumentEnd) ⊎ (k ≡ tokens.ByteOrderMark)
-end_or_mark tokens.DocumentEnd h = inl refl
-end_or_mark tokens.ByteOrderMark h = inr refl
-end_or_mark _ h = absurd (cc)
+end_or_mark k h = grind arith
 
 is_passed : (k : Kind) → is_end_or_mark k ≡ true → BelongsToNone k
-is_passed tokens.DocumentEnd h = tt
-is_passed tokens.ByteOrderMark h = tt
-is_passed _ h = absurd (cc)
+is_passed k h = grind arith
 
 directive_is_passed : (d : Directive) → BelongsToNone (directive_token d)
-directive_is_passed (forest.Version _ _) = tt
-directive_is_passed _ = tt
+directive_is_passed u0 = grind arith
 
 first_of_all : (a b : Kind) (x y : List Kind) → (a ∷ x) ≡ (b ∷ y) → (a ≡ b) × (x ≡ y)
 first_of_all a b x y e = ((cc), (cc))
@@ -120,8 +114,7 @@ begins_as (v ∷ used) rest u ts ks e b = rw e at b
 explicit_tokens : (ds : List Directive) (used : List Piece) (u : Piece) (front back ks : List Kind)
     → kinds used ≡ map directive_token ds → u.kind ≡ tokens.DocumentStart → ks ≡ front ++ back
     → kinds (used ++ u ∷ []) ++ ks ≡ (map directive_token ds ++ tokens.DocumentStart ∷ front) ++ back
-explicit_tokens ds used u front back ks e k q =
-    cc (split used u ks, append_assoc (map directive_token ds) (tokens.DocumentStart ∷ front) back)
+explicit_tokens ds used u front back ks e k q = grind (arith, split, append_assoc)
 
 explicit_makes : (ts : List Piece) (ds : List Directive) (used rest : List Piece) (u : Piece) (ks : List Kind)
     (ps : List Part) → ts ≡ used ++ u ∷ rest → kinds used ≡ map directive_token ds → u.kind ≡ tokens.DocumentStart
@@ -150,7 +143,7 @@ explicit_at_turned tokens.DocumentStart sp n ts r x e h = rw h.leaves (record {
   used = h.used ++ record { span = sp; kind = tokens.DocumentStart } ∷ [];
   part = OpenDocument true h.directives;
   taken = h.are ∙ taken_one h.used (record { span = sp; kind = tokens.DocumentStart }) h.rest;
-  tells = refl;
+  emits = refl;
   remembers = refl;
   few = omega arith;
   places = record {
@@ -182,12 +175,7 @@ explicit_turned t us r x e w =
 
 stream_makes : (ks : List Kind) (ps : List Part) → Outside state.ImplicitDocumentStart ks ps
     → Outside state.StreamStart (tokens.StreamStart ∷ ks) (OpenStream ∷ ps)
-stream_makes ks ps f = (
-  f.0,
-  (f.1, f.2, f.3, f.4, simp f.5),
-  ap
-      (λ (l : List Part). OpenStream ∷ l) f.6,
-)
+stream_makes ks ps f = grind arith
 
 stream_at_turned : (k : Kind) (sp : Span) (ts : List Piece) (r : Option Refusal) (x : State) (e : Memory)
     → Turned (Wanted state.StreamStart [] (k ∷ kinds ts)) e (record { span = sp; kind = k } ∷ ts)
@@ -197,7 +185,7 @@ stream_at_turned tokens.StreamStart sp ts r x e =
       used = record { span = sp; kind = tokens.StreamStart } ∷ [];
       part = OpenStream;
       taken = refl;
-      tells = refl;
+      emits = refl;
       remembers = refl;
       few = omega arith;
       places = passed_one (record { span = sp; kind = tokens.StreamStart }) _ _ tt refl;
@@ -215,8 +203,7 @@ stream_turned (t ∷ ts) r x e = stream_at_turned t.kind t.span ts r x e
 -- ## A document that may begin without `---`
 
 as_documents : (f : Forest) (t : List Kind) → AreExplicit f t → YieldDocuments f true t
-as_documents [] t h = h
-as_documents (d ∷ ds) t h = (h.0, h.1, inr (inl refl, h.2), h.3, h.4)
+as_documents u0 t h = grind arith
 
 explicit_first : (ahead ks : List Kind) (ps : List Part) → Explicit ahead ks ps
     → Wanted state.ImplicitDocumentStart [] ahead ks ps
@@ -243,7 +230,7 @@ bare_turned t us r x e =
       used = [];
       part = OpenDocument false [];
       taken = refl;
-      tells = refl;
+      emits = refl;
       remembers = refl;
       few = omega arith;
       places = whole [] _ _ refl;
@@ -251,13 +238,13 @@ bare_turned t us r x e =
       makes = λ ks ps f b. (bare_makes ks ps f, tt);
     }
 
-stream_over : (F : Claim) (t : Piece) (us : List Piece) (x : Told) (e : Memory) → us ≡ []
+stream_over : (F : Claim) (t : Piece) (us : List Piece) (x : Emitted) (e : Memory) → us ≡ []
     → t.kind ≡ tokens.StreamEnd → x.what ≡ events.StreamEnd → x.machine.state ≡ state.End
     → F (tokens.StreamEnd ∷ []) (CloseStream ∷ []) → Over F e (t ∷ us) x
 stream_over F t us x e n k w o f = record {
   part = CloseStream;
   is_over = o;
-  tells = simp w;
+  emits = simp w;
   few = omega arith;
   places = record { front = t ∷ []; own = []; are = cc; passed = (rw k tt, tt); is_of = rw w refl };
   makes = rw (ap (λ (l : List Piece). t.kind ∷ kinds l) n ∙ ap (λ (l : Kind). l ∷ []) k) f;

@@ -1,7 +1,7 @@
 -- Entries of collections are turned: nodes, nodes that are left out, and the ends of collections.
 use Rattle.event_laws.proofs.OwnTokens.{whole}
 use Rattle.event_laws.specs.EventsTaken.{BelongsToNone, IsOf}
-use Rattle.std.proofs.Common.{◌≡◌, List, [], ◌∷◌, ◌++◌, Option, Result, refl, sym, inl, inr, arith}
+use Rattle.std.proofs.Common.{◌≡◌, Bool, true, false, List, [], ◌∷◌, ◌++◌, Option, Result, refl, sym, inl, inr, arith}
 use Rattle.saphyr_scalar.specs.declared.scalar.position.Span.{Span}
 use Rattle.saphyr_scalar.specs.declared.scalar.style.ScalarStyle.TheVariants.{Plain}
 use Rattle.saphyr_scalar.specs.declared.scalar.fault.Refusal.{Refusal}
@@ -15,14 +15,15 @@ use Rattle.event_laws.specs.Anchors.{anchors}
 use Rattle.event_laws.specs.Preorder.{Part, Leaf, node_parts}
 use Rattle.event_laws.specs.Exactly.{kinds}
 use Rattle.saphyr_machine.specs.Events.{Happening}
-use Rattle.saphyr_machine.specs.Steps.Machine.{◌>>=◌, Machine, Told, taken_token, told_event, left_out_event, pop}
-use Rattle.saphyr_machine.specs.Steps.Nodes.{node_inside}
+use Rattle.saphyr_machine.specs.Steps.Machine.{◌>>=◌, Machine, Emitted, taken_token, emit, left_out_event, pop}
+use Rattle.saphyr_machine.specs.Steps.Nodes.{context_before, is_left_out, node_behind, node_here, node_inside, node_or_nothing_at}
 use Rattle.event_laws.specs.WellFormed.{AreWellFormed}
-use Rattle.event_laws.proofs.Told.Telling.{Memory}
+use Rattle.event_laws.proofs.Emitted.Emitting.{Memory}
 use Rattle.event_laws.proofs.Remembering.{after, event_in}
 use Rattle.event_laws.proofs.Turned.Following.{Claim, Then, Exactly, IsNodeOf, IsOptionalOf, IsValueOf, IsAnyValueOf, Behind, FollowsStates, IsInsideDocument, IsAlive, Starts}
 use Rattle.event_laws.proofs.Turned.Turning.{piece_of, machine, Turned, weaker, behind, replace, put}
-use Rattle.event_laws.proofs.Turned.Content.{place_of, Suits}
+use Rattle.event_laws.proofs.NodeStarts.{place_of}
+use Rattle.event_laws.proofs.Turned.Content.{Suits}
 use Rattle.event_laws.proofs.Turned.Nodes.{node_turned}
 use Rattle.std.specs.Prelude.{Some}
 
@@ -41,7 +42,7 @@ skipped F t sp ts r x s st e a go =
       used = [];
       part = Leaf forest.no_properties Plain [];
       taken = refl;
-      tells = refl;
+      emits = refl;
       remembers = refl;
       few = omega arith;
       places = whole [] _ _ (inr (inr (refl, refl, refl, refl, refl)));
@@ -73,9 +74,7 @@ any_value c B ks ps h = replace (IsValueOf c) B (IsAnyValueOf c) [] [] ks ps (λ
 -- the end of a collection, without more entries
 pub collection_ends : (A R : Claim) (close : List Kind) (closing : Part) (ks : List Kind)
     (ps : List Part) → A [] [] → R ks ps → Then A (Then (Exactly close (closing ∷ [])) R) (close ++ ks) (closing ∷ ps)
-collection_ends A R close closing ks ps a r =
-    put A (Then (Exactly close (closing ∷ [])) R) [] [] (close ++ ks) (closing ∷ ps) a
-    (put (Exactly close (closing ∷ [])) R close (closing ∷ []) ks ps (refl, refl) r)
+collection_ends u0 u1 close closing ks ps a r = grind arith
 
 -- ## Steps inside a document
 
@@ -84,42 +83,38 @@ abbrev pub WantedIn : State → List Kind → Claim → Claim
 WantedIn s ahead R ks ps = Behind s R ks ps × Starts s ahead ks
 
 -- Inside a document a step turns its tokens: it makes what `F` says of these tokens and of what may follow after.
-abbrev pub Turns : (List Kind → Claim → Claim) → (Machine → Result Told Refusal) → Type 0
+abbrev pub Turns : (List Kind → Claim → Claim) → (Machine → Result Emitted Refusal) → Type 0
 Turns F step = (ts : List Piece) (r : Option Refusal) (x s : State) (ss : List State) (e : Memory) → AreWellFormed ts
     → IsAlive s ss → Turned (F (kinds ts) (FollowsStates s ss)) e ts (step (machine ts r x (s ∷ ss) e))
 
 -- so does a step that has taken a token of this kind
-abbrev pub TurnsBehind : (List Kind → Claim → Claim) → Kind → (Piece → Machine → Result Told Refusal) → Type 0
+abbrev pub TurnsBehind : (List Kind → Claim → Claim) → Kind → (Piece → Machine → Result Emitted Refusal) → Type 0
 TurnsBehind F k step = (sp : Span) (ts : List Piece) (r : Option Refusal) (x s : State) (ss : List State) (e : Memory)
     → AreWellFormed (piece_of k sp ∷ ts) → IsAlive s ss
     → Turned (F (k ∷ kinds ts) (FollowsStates s ss)) e (piece_of k sp ∷ ts)
     (step (piece_of k sp) (machine ts r x (s ∷ ss) e))
 
 -- ... of any kind
-abbrev pub TurnsAt : (List Kind → Claim → Claim) → (Kind → Piece → Machine → Result Told Refusal) → Type 0
+abbrev pub TurnsAt : (List Kind → Claim → Claim) → (Kind → Piece → Machine → Result Emitted Refusal) → Type 0
 TurnsAt F step = (k : Kind) → TurnsBehind F k (step k)
 
-pub by_token : (F : List Kind → Claim → Claim) (step : Kind → Piece → Machine → Result Told Refusal) → TurnsAt F step
+pub by_token : (F : List Kind → Claim → Claim) (step : Kind → Piece → Machine → Result Emitted Refusal) → TurnsAt F step
     → Turns F (λ m. taken_token m >>= (λ t. step t.0.kind t.0 t.1))
 by_token F step h [] r x s ss e w a = tt
 by_token F step h (t ∷ ts) r x s ss e w a = h t.kind t.span ts r x s ss e w a
 
 -- the token belongs to no event
-pub passes : (F G : List Kind → Claim → Claim) (k : Kind) (step : Machine → Result Told Refusal) → BelongsToNone k
+pub passes : (F G : List Kind → Claim → Claim) (k : Kind) (step : Machine → Result Emitted Refusal) → BelongsToNone k
     → ((ahead : List Kind) (R : Claim) (ks : List Kind) (ps : List Part) → F ahead R ks ps
     → G (k ∷ ahead) R (k ∷ ks) ps) → Turns F step → TurnsBehind G k (λ t. step)
-passes F G k step b i h sp ts r x s ss e w a =
-    behind (piece_of k sp) (F (kinds ts) (FollowsStates s ss)) (G (k ∷ kinds ts) (FollowsStates s ss))
-    e ts _ b (i (kinds ts) (FollowsStates s ss)) (h ts r x s ss e w.2 a)
+passes u0 u1 k step b i h sp ts r x s ss e w a = grind (arith, behind)
 
 -- a node is left out before the token
 pub leaves_out : (F : List Kind → Claim → Claim) (o : State) (k : Kind) → IsInsideDocument o
     → ((ahead : List Kind) (R : Claim) (ks : List Kind) (ps : List Part) → Behind o R ks ps → Starts o (k ∷ ahead) ks
     → F (k ∷ ahead) R ks (Leaf forest.no_properties Plain [] ∷ ps)) → (span : Span)
     → TurnsBehind F k (λ t. left_out_event t o span)
-leaves_out F o k i go span sp ts r x s ss e w a =
-    skipped (F (k ∷ kinds ts) (FollowsStates s ss)) (piece_of k sp) span ts r x o (s ∷ ss) e (i, a)
-    (go (kinds ts) (FollowsStates s ss))
+leaves_out u0 o k i go span sp ts r x s ss e w a = grind (arith, skipped)
 
 pub skips : (c : grammar.Context) (o : State) (k : Kind) → IsInsideDocument o → (span : Span)
     → TurnsBehind (λ _ R. Then (IsOptionalOf c) (Behind o R)) k (λ t. left_out_event t o span)
@@ -129,14 +124,32 @@ skips c o k i span sp ts r x s ss e w a = skip_optional c (piece_of k sp) span t
 pub enters : (F : List Kind → Claim → Claim) (c : NodeContext) (o : State) (k : Kind) → Suits c o → IsInsideDocument o
     → ((ahead : List Kind) (R : Claim) (ks : List Kind) (ps : List Part)
     → Then (IsNodeOf (place_of c)) (Behind o R) ks ps → F (k ∷ ahead) R ks ps) → TurnsBehind F k (node_inside o c)
-enters F c o k z i go sp ts r x s ss e w a =
-    weaker (Then (IsNodeOf (place_of c)) (Behind o (FollowsStates s ss))) (F (k ∷ kinds ts) (FollowsStates s ss)) e _ _
-    (go (kinds ts) (FollowsStates s ss)) (node_turned c r x o (s ∷ ss) e z (i, a) (piece_of k sp) ts w)
+enters u0 c o k z i go sp ts r x s ss e w a = grind (arith, weaker, node_turned)
 
 pub enters_optional : (c : NodeContext) (o : State) (k : Kind) → Suits c o → IsInsideDocument o
     → TurnsBehind (λ _ R. Then (IsOptionalOf (place_of c)) (Behind o R)) k (node_inside o c)
 enters_optional c o k z i = enters (λ _ R. Then (IsOptionalOf (place_of c)) (Behind o R)) c o k z i
     (λ _ R. some_node (place_of c) (Behind o R))
+
+-- a node that may be left out, behind which a state is expected
+abbrev pub OptionalBefore : State → List Kind → Claim → Claim
+OptionalBefore o ahead R = Then (IsOptionalOf (place_of (context_before o))) (Behind o R)
+
+pub optional_turned : (b : Bool) (o : State) (k : Kind) → Suits (context_before o) o → IsInsideDocument o
+    → (span : Span) → TurnsBehind (OptionalBefore o) k (node_or_nothing_at b o span)
+optional_turned true o k z i span = skips (place_of (context_before o)) o k i span
+optional_turned false o k z i span = enters_optional (context_before o) o k z i
+
+pub behind_turned : (o : State) → Suits (context_before o) o → IsInsideDocument o → (span : Span)
+    → Turns (OptionalBefore o) (node_behind o span)
+unfolding node_behind
+behind_turned o z i span = by_token (OptionalBefore o) (λ k. node_or_nothing_at (is_left_out o k) o span)
+    (λ k. optional_turned (is_left_out o k) o k z i span)
+
+pub here_turned : (o : State) → Suits (context_before o) o → IsInsideDocument o → Turns (OptionalBefore o) (node_here o)
+unfolding node_here
+here_turned o z i = by_token (OptionalBefore o) (λ k t. node_or_nothing_at (is_left_out o k) o t.span t)
+    (λ k sp. optional_turned (is_left_out o k) o k z i sp sp)
 
 -- a collection of no more entries ends with the token
 pub closes : (F : List Kind → Claim → Claim) (A : Claim) (k : Kind) (what : Happening) (closing : Part)
@@ -144,14 +157,14 @@ pub closes : (F : List Kind → Claim → Claim) (A : Claim) (k : Kind) (what : 
     → ((t : Piece) (span : Span) (ts : List Piece) → t.kind ≡ k → IsOf what span (t ∷ []) ts) → A [] []
     → ((ahead : List Kind) (R : Claim) (ks : List Kind) (ps : List Part)
     → Then A (Then (Exactly (k ∷ []) (closing ∷ [])) R) (k ∷ ks) ps → F (k ∷ ahead) R (k ∷ ks) ps) → (span : Span)
-    → TurnsBehind F k (λ t m. told_event what span (pop m))
-closes F A k what closing tells none own no_more go span sp ts r x s ss e w a =
+    → TurnsBehind F k (λ t m. emit what span (pop m))
+closes F A k what closing emits none own no_more go span sp ts r x s ss e w a =
     record {
       used = piece_of k sp ∷ [];
       part = closing;
       taken = refl;
-      tells = (tells e).0;
-      remembers = sym (tells e).1;
+      emits = (emits e).0;
+      remembers = sym (emits e).1;
       few = omega (arith, none);
       places = whole (piece_of k sp ∷ []) what span (own (piece_of k sp) span ts refl);
       alive = a;

@@ -1,5 +1,5 @@
 -- The steps inside flow mappings are turned.
-use Rattle.std.proofs.Common.{◌≡◌, List, [], ◌∷◌, ◌++◌, refl, ap, ◌∙◌, inl, inr, append_assoc, append-nil}
+use Rattle.std.proofs.Common.{◌≡◌, List, [], ◌∷◌, ◌++◌, refl, ap, ◌∙◌, inl, inr, append_assoc, append-nil, arith}
 use Rattle.saphyr_scalar.specs.declared.scalar.position.Span.{Span}
 use Rattle.saphyr_scalar.specs.declared.scalar.style.ScalarStyle.TheVariants.{Plain}
 use Rattle.saphyr_scanner.specs.Grammar.Forest.{Node, Pairs, NoPair, MorePairs}
@@ -12,10 +12,11 @@ use Rattle.saphyr_machine.specs.declared.state.State.TheVariants as state
 use Rattle.event_laws.specs.Preorder.{Part, Leaf, CloseMapping, node_parts, pair_parts}
 use Rattle.saphyr_machine.specs.Events.{MappingEnd}
 use Rattle.saphyr_machine.specs.Steps.Machine.{left_out_event}
-use Rattle.saphyr_machine.specs.Steps.Flow.{flow_key_node_at, flow_key_node, flow_mapping_pair_at, flow_mapping_first_key, flow_mapping_pair_behind_comma, flow_mapping_key_at, flow_mapping_key, flow_value_node_at, flow_value_node, flow_mapping_value_at, flow_mapping_value, flow_mapping_empty_value}
+use Rattle.saphyr_machine.specs.Steps.Flow.{flow_mapping_pair_at, flow_mapping_first_key, flow_mapping_pair_behind_comma, flow_mapping_key_at, flow_mapping_key, flow_mapping_value_at, flow_mapping_value, flow_mapping_empty_value}
+use Rattle.saphyr_machine.specs.Steps.Nodes.{node_behind, node_here}
 use Rattle.event_laws.proofs.Turned.Following.{Claim, Then, Exactly, IsNodeOf, IsOptionalOf, IsSkipped, IsAnyValueOf, FirstPairs, OtherPairs, InMapping}
 use Rattle.event_laws.proofs.Turned.Turning.{regroup, replace, join_behind, put, both_parts}
-use Rattle.event_laws.proofs.Turned.Entries.{WantedIn, Turns, TurnsAt, by_token, passes, leaves_out, skips, enters, enters_optional, marked_value, any_value, closes}
+use Rattle.event_laws.proofs.Turned.Entries.{WantedIn, Turns, TurnsAt, by_token, passes, leaves_out, enters, behind_turned, here_turned, marked_value, any_value, closes}
 
 -- ## Pairs
 
@@ -34,8 +35,7 @@ pair_join a b p q x y = (
 )
 
 pair_first : (R : Claim) (ks : List Kind) (ps : List Part) → Then IsPairOf (InMapping R) ks ps → AtFirst R ks ps
-pair_first R ks ps h = regroup IsPairOf OtherPairs (Then (Exactly (FlowMappingEnd ∷ []) (CloseMapping ∷ [])) R)
-    FirstPairs ks ps pair_join h
+pair_first u0 ks ps h = grind (arith, regroup, pair_join)
 
 -- a pair with its key marked
 marked_join : (a b : List Kind) (p q : List Part) → IsOptionalOf InFlow a p → IsAnyValueOf InFlow b q
@@ -64,17 +64,8 @@ alone_first : (R : Claim) (ks : List Kind) (ps : List Part)
 alone_first R ks ps h = pair_first R ks ps
     (regroup (IsNodeOf InFlow) IsSkipped (InMapping R) IsPairOf ks ps alone_join h)
 
--- a value alone
-others_begin : (qs : Pairs) (t u : List Kind) → YieldOtherFlowPairs qs t → BeginsWithValue (t ++ FlowMappingEnd ∷ u) → ⊥
-others_begin NoPair t u (inl h) = rw h (λ z. z)
-others_begin NoPair t u (inr h) = rw h (λ z. z)
-others_begin (MorePairs key value qs) t u h = rw h.4 (λ z. z)
-
 no_value : (R : Claim) (ks : List Kind) (ps : List Part) → InMapping R ks ps → BeginsWithValue ks → ⊥
-no_value R ks ps h =
-    let g : Then (Exactly (FlowMappingEnd ∷ []) (CloseMapping ∷ [])) R h.back h.second = h.goes_on in
-    rw (h.kinds_are ∙ ap (λ (l : List Kind). h.front ++ l) (g.kinds_are ∙ ap (λ (l : List Kind). l ++ g.back)
-    g.begins.0)) (others_begin h.begins.0 h.front g.back h.begins.1)
+no_value u0 ks ps h = grind arith
 
 keyless : (R : Claim) (front back ks : List Kind) (first second ps : List Part)
     → IsAnyValueOf InFlow front first → InMapping R back second → ks ≡ front ++ back → ps ≡ first ++ second
@@ -100,13 +91,11 @@ keyless R front back ks first second ps (inr v) h e q b =
 
 keyless_first : (R : Claim) (ks : List Kind) (ps : List Part) → Then (IsAnyValueOf InFlow) (InMapping R) ks ps
     → BeginsWithValue ks → AtFirst R ks (Leaf forest.no_properties Plain [] ∷ ps)
-keyless_first R ks ps h b = pair_first R ks (Leaf forest.no_properties Plain [] ∷ ps)
-    (keyless R h.front h.back ks h.first h.second ps h.begins h.goes_on h.kinds_are h.parts_are b)
+keyless_first u0 ks ps h b = grind (arith, pair_first, keyless)
 
 -- after a comma
 comma_join : (qs : Pairs) (t : List Kind) → YieldFlowPairs qs t → YieldOtherFlowPairs qs (FlowEntry ∷ t)
-comma_join NoPair t h = inr (ap (λ (l : List Kind). FlowEntry ∷ l) h)
-comma_join (MorePairs key value qs) t h = (h.0, h.1, h.2, h.3, ap (λ (l : List Kind). FlowEntry ∷ l) h.4)
+comma_join u0 t h = grind arith
 
 behind_comma : (R : Claim) (ks : List Kind) (ps : List Part) → AtFirst R ks ps → InMapping R (FlowEntry ∷ ks) ps
 behind_comma R ks ps h =
@@ -119,18 +108,9 @@ behind_comma R ks ps h =
 abbrev AtKey : Claim → Claim
 AtKey R = Then (IsOptionalOf InFlow) (Then (IsAnyValueOf InFlow) (InMapping R))
 
-key_at_turned : TurnsAt (λ _. AtKey) flow_key_node_at
-key_at_turned Value sp = skips InFlow state.FlowMappingValue Value tt sp sp
-key_at_turned FlowEntry sp = skips InFlow state.FlowMappingValue FlowEntry tt sp sp
-key_at_turned FlowMappingEnd sp = skips InFlow state.FlowMappingValue FlowMappingEnd tt sp sp
-key_at_turned k sp = enters_optional Flow state.FlowMappingValue k tt tt sp
-
-key_turned : Turns (λ _. AtKey) flow_key_node
-unfolding flow_key_node
-key_turned = by_token (λ _. AtKey) flow_key_node_at key_at_turned
-
 pair_at_turned : (span : Piece → Span) → TurnsAt (λ _. AtFirst) (λ k t. flow_mapping_pair_at k (span t) t)
-pair_at_turned span Key sp = passes (λ _. AtKey) (λ _. AtFirst) Key flow_key_node tt (λ _. marked_first) key_turned sp
+pair_at_turned span Key sp = passes (λ _. AtKey) (λ _. AtFirst) Key (node_here state.FlowMappingValue) tt
+    (λ _. marked_first) (here_turned state.FlowMappingValue tt tt) sp
 pair_at_turned span Value sp = leaves_out (λ _. AtFirst) state.FlowMappingValue Value tt
     (λ _ R ks ps f b. keyless_first R ks ps f (b tt)) sp sp
 pair_at_turned span FlowMappingEnd sp = closes (λ _. AtFirst) FirstPairs FlowMappingEnd MappingEnd CloseMapping
@@ -161,19 +141,11 @@ other_pair_turned = by_token (λ _. InMapping) flow_mapping_key_at other_pair_at
 abbrev AtValue : Claim → Claim
 AtValue R = Then (IsOptionalOf InFlow) (InMapping R)
 
-value_at_turned : (span : Span) → TurnsAt (λ _. AtValue) (λ k. flow_value_node_at k span)
-value_at_turned span FlowEntry = skips InFlow state.FlowMappingKey FlowEntry tt span
-value_at_turned span FlowMappingEnd = skips InFlow state.FlowMappingKey FlowMappingEnd tt span
-value_at_turned span k = enters_optional Flow state.FlowMappingKey k tt tt
-
-value_turned : (span : Span) → Turns (λ _. AtValue) (flow_value_node span)
-unfolding flow_value_node
-value_turned span = by_token (λ _. AtValue) (λ k. flow_value_node_at k span) (value_at_turned span)
-
 mapping_value_at_turned : TurnsAt (WantedIn state.FlowMappingValue) flow_mapping_value_at
-mapping_value_at_turned Value sp = passes (λ _. AtValue) (WantedIn state.FlowMappingValue) Value (flow_value_node sp) tt
+mapping_value_at_turned Value sp = passes (λ _. AtValue) (WantedIn state.FlowMappingValue) Value
+    (node_behind state.FlowMappingKey sp) tt
     (λ _ R ks ps h. (any_value InFlow (InMapping R) _ ps (marked_value InFlow (InMapping R) ks ps h), λ b. tt))
-    (value_turned sp) sp
+    (behind_turned state.FlowMappingKey tt tt sp) sp
 mapping_value_at_turned k sp = leaves_out (WantedIn state.FlowMappingValue) state.FlowMappingKey k tt
     (λ _ R ks ps f b. (
       put (IsAnyValueOf InFlow) (InMapping R) [] (node_parts forest.left_out) ks ps (inr (refl, refl)) f,

@@ -14,24 +14,25 @@ use Rattle.saphyr_scanner.specs.Views.Tokens.{Piece}
 use Rattle.saphyr_scanner.specs.Grammar.TokenGrammar as grammar
 use Rattle.saphyr_scanner.specs.Grammar.TokenGrammar.{InBlockMapping, YieldBlockEntries, HasNode}
 use Rattle.saphyr_machine.specs.declared.context.NodeContext.{NodeContext}
-use Rattle.saphyr_machine.specs.declared.context.NodeContext.TheVariants.{Flow, BlockMapping}
+use Rattle.saphyr_machine.specs.declared.context.NodeContext.TheVariants.{BlockMapping}
 use Rattle.saphyr_machine.specs.declared.state.State.{State}
 use Rattle.saphyr_machine.specs.declared.state.State.TheVariants as state
 use Rattle.event_laws.specs.Preorder.{Part, Reference, OpenSequence, CloseSequence, OpenMapping, CloseMapping, entry_parts}
 use Rattle.saphyr_machine.specs.Events.{ResolvedTag, Alias, SequenceStart, MappingStart}
 use Rattle.event_laws.specs.Exactly.{kinds}
-use Rattle.saphyr_machine.specs.Steps.Machine.{◌>>=◌, Machine, Told, taken_token, meaning, next_id}
+use Rattle.saphyr_machine.specs.Steps.Machine.{◌>>=◌, Machine, Emitted, taken_token, meaning, next_id}
 use Rattle.std.specs.Prelude.{if◌then◌else◌}
 use Rattle.saphyr_machine.specs.Steps.Contexts.{allows_block}
 use Rattle.saphyr_machine.specs.Steps.Tags.{resolved_tag_at}
 use Rattle.saphyr_machine.specs.Steps.Nodes.{NodeProperties, no_node_properties, node_content_at, node_content, next_content, alias_of, alias_node, node_behind_anchor_at, node_behind_anchor, node_behind_tag_at, node_behind_tag, node_at, node}
 use Rattle.event_laws.specs.WellFormed.{IsWellFormed, AreWellFormed}
-use Rattle.event_laws.proofs.Told.Telling.{Memory}
+use Rattle.event_laws.proofs.Emitted.Emitting.{Memory}
 use Rattle.event_laws.proofs.Remembering.{noted, resolve}
 use Rattle.event_laws.proofs.Turned.Following.{Claim, Then, Exactly, IsNodeOf, FirstEntries, FirstPairs, BlockEntries, BlockPairs, FollowsStates, IsAlive, BeginsWithEntry}
 use Rattle.event_laws.proofs.Turned.Turning.{piece_of, machine, Goes, Turned, put}
 use Rattle.event_laws.proofs.Turned.Tags.{ResolvesTo, stands}
-use Rattle.event_laws.proofs.Turned.Content.{place_of, IsPairState, Suits, NodeThen, Fronted, with_told, leaf_goes, alone_turned, collection_goes, no_entry}
+use Rattle.event_laws.proofs.NodeStarts.{place_of}
+use Rattle.event_laws.proofs.Turned.Content.{IsPairState, Suits, NodeThen, Fronted, with_emitted, leaf_goes, alone_turned, collection_goes, no_entry}
 
 -- ## Sequences at the column of the mapping around them
 
@@ -71,7 +72,7 @@ indentless_goes t p q front span ts r s ss e k i h a o = record {
   used = front;
   part = OpenSequence p;
   taken = refl;
-  tells = with_told SequenceStart e p q h.has;
+  emits = with_emitted SequenceStart e p q h.has;
   remembers = refl;
   few = h.enough;
   places = o;
@@ -80,63 +81,35 @@ indentless_goes t p q front span ts r s ss e k i h a o = record {
 }
 
 -- a collection that block style alone allows
-where_block : (c : NodeContext) (F : Claim) (e : Memory) (k : List Piece) (in_block in_flow : Result Told Refusal)
+where_block : (c : NodeContext) (F : Claim) (e : Memory) (k : List Piece) (in_block in_flow : Result Emitted Refusal)
     → (grammar.AllowsBlock (place_of c) → Turned F e k in_block) → Turned F e k in_flow
     → Turned F e k (if allows_block c then in_block else in_flow)
-where_block Flow F e k in_block in_flow y n = n
-where_block _ F e k in_block in_flow y n = y tt
+where_block u0 u1 e k in_block in_flow y n = grind arith
 
 -- ## Properties
 
 anchor_front : (text : List ℕ) (t : Piece) (e : Memory) → t.kind ≡ tokens.Anchor (encode_utf8_all text)
     → Fronted e (record { anchor = Some text; tag = None })
     (record { start = t.span.start; behind = t.span.end; anchor = next_id e.anchors; tag = None }) (t ∷ [])
-anchor_front text t e k =
-    record {
-      are = ap (λ (l : Kind). l ∷ []) k;
-      has = record { anchor_is = refl; tag_is = refl };
-      enough = omega arith;
-      shape = (inl (rw k tt), refl, refl);
-    }
-
-tag_token_is : (g : Tag) → IsTagKind (tag_token g)
-tag_token_is g = grind arith
+anchor_front text t e k = grind arith
 
 tag_is : (e : Memory) (g : Tag) (v : ResolvedTag) (t : Piece) → t.kind ≡ tag_token g → resolve e.prefixes g ≡ Some v
     → Fronted e (record { anchor = None; tag = Some g })
     (record { start = t.span.start; behind = t.span.end; anchor = 0; tag = Some v }) (t ∷ [])
-tag_is e g v t k h = record {
-  are = ap (λ (l : Kind). l ∷ []) k;
-  has = record { anchor_is = refl; tag_is = cc };
-  enough = omega arith;
-  shape = (inr (rw k (tag_token_is g)), refl, refl);
-}
+tag_is e g v t k h = grind arith
 
 both_front : (text : List ℕ) (g : Tag) (v : ResolvedTag) (t u : Piece) (e : Memory)
     → ((t.kind ≡ tokens.Anchor (encode_utf8_all text)) × (u.kind ≡ tag_token g))
     ⊎ ((t.kind ≡ tag_token g) × (u.kind ≡ tokens.Anchor (encode_utf8_all text))) → resolve e.prefixes g ≡ Some v
     → Fronted e (record { anchor = Some text; tag = Some g })
     (record { start = t.span.start; behind = u.span.end; anchor = next_id e.anchors; tag = Some v }) (t ∷ u ∷ [])
-both_front text g v t u e (inl k) h =
-    record {
-      are = inl (cc);
-      has = record { anchor_is = refl; tag_is = cc };
-      enough = omega arith;
-      shape = (inl (rw k.0 tt, rw k.1 (tag_token_is g)), refl, refl);
-    }
-both_front text g v t u e (inr k) h =
-    record {
-      are = inr (cc);
-      has = record { anchor_is = refl; tag_is = cc };
-      enough = omega arith;
-      shape = (inr (rw k.0 (tag_token_is g), rw k.1 tt), refl, refl);
-    }
+both_front text g v t u e u0 h = grind arith
 
 -- ## Nodes
 
 module _ (c : NodeContext) (r : Option Refusal) (x s : State) (ss : List State) (e : Memory) (z : Suits c s)
     (a : IsAlive s ss) where
-  abbrev TurnedNode : List Piece → Result Told Refusal → Type 0
+  abbrev TurnedNode : List Piece → Result Emitted Refusal → Type 0
   TurnedNode = Turned (NodeThen c s ss) e
 
   -- with these tokens ahead
@@ -219,7 +192,7 @@ module _ (c : NodeContext) (r : Option Refusal) (x s : State) (ss : List State) 
     used = t ∷ [];
     part = Reference text;
     taken = refl;
-    tells = ap (option_map Alias) m;
+    emits = ap (option_map Alias) m;
     remembers = refl;
     few = omega arith;
     places = whole (t ∷ []) (Alias id) t.span (t, encode_utf8_all text, k, refl, refl);

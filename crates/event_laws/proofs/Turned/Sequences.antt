@@ -7,13 +7,15 @@ use Rattle.saphyr_scanner.specs.Grammar.Forest as forest
 use Rattle.saphyr_scanner.specs.Grammar.Tokens.{Kind, FlowSequenceEnd, FlowEntry, Key, Value}
 use Rattle.saphyr_scanner.specs.Grammar.TokenGrammar.{InFlow, YieldsNode, YieldsPairEntry, YieldsSinglePair, YieldFlowEntries, YieldOtherFlowEntries}
 use Rattle.saphyr_machine.specs.declared.context.NodeContext.TheVariants.{Flow}
+use Rattle.saphyr_machine.specs.declared.state.State.{State}
 use Rattle.saphyr_machine.specs.declared.state.State.TheVariants as state
 use Rattle.event_laws.specs.Preorder.{Part, CloseSequence, OpenMapping, CloseMapping, node_parts}
 use Rattle.saphyr_machine.specs.Events.{SequenceEnd}
-use Rattle.saphyr_machine.specs.Steps.Flow.{flow_sequence_first_entry_at, flow_sequence_first_entry, flow_sequence_entry_at, flow_sequence_entry, flow_sequence_entry_mapping_key_at, flow_sequence_entry_mapping_key, flow_sequence_entry_mapping_node_at, flow_sequence_entry_mapping_node, flow_sequence_entry_mapping_value_at, flow_sequence_entry_mapping_value, flow_sequence_entry_mapping_end}
+use Rattle.saphyr_machine.specs.Steps.Flow.{flow_sequence_first_entry_at, flow_sequence_first_entry, flow_sequence_entry_at, flow_sequence_entry, flow_sequence_entry_mapping_key, flow_sequence_entry_mapping_node, flow_sequence_entry_mapping_value_at, flow_sequence_entry_mapping_value, flow_sequence_entry_mapping_end}
+use Rattle.saphyr_machine.specs.Steps.Nodes.{is_left_out, node_or_nothing_at}
 use Rattle.event_laws.proofs.Turned.Following.{Claim, Then, Exactly, IsNodeOf, IsOptionalOf, IsAnyValueOf, FirstEntries, OtherEntries, InSequence, AtPairEnd, AtPairValue, FollowsStates}
 use Rattle.event_laws.proofs.Turned.Turning.{regroup, replace, join_behind, put, both_parts}
-use Rattle.event_laws.proofs.Turned.Entries.{Turns, TurnsAt, by_token, passes, leaves_out, skips, enters, enters_optional, marked_value, any_value, closes}
+use Rattle.event_laws.proofs.Turned.Entries.{Turns, TurnsAt, by_token, passes, leaves_out, optional_turned, here_turned, enters, marked_value, any_value, closes}
 
 -- ## Entries
 
@@ -27,17 +29,14 @@ entry_join : (a b : List Kind) (p q : List Part) → IsEntryOf a p → OtherEntr
 entry_join a b p q x y = (MoreNodes x.0 y.0, (a, b, x.1, y.1, refl), both_parts x.2 y.2)
 
 entry_first : (R : Claim) (ks : List Kind) (ps : List Part) → Then IsEntryOf (InSequence R) ks ps → AtFirst R ks ps
-entry_first R ks ps h = regroup IsEntryOf OtherEntries (Then (Exactly (FlowSequenceEnd ∷ []) (CloseSequence ∷ [])) R)
-    FirstEntries ks ps entry_join h
+entry_first u0 ks ps h = grind (arith, regroup, entry_join)
 
 node_first : (R : Claim) (ks : List Kind) (ps : List Part)
     → Then (IsNodeOf InFlow) (InSequence R) ks ps → AtFirst R ks ps
-node_first R ks ps h = entry_first R ks ps
-    (replace (IsNodeOf InFlow) (InSequence R) IsEntryOf [] [] ks ps (λ u q g. (g.0, inl g.1, g.2)) h)
+node_first u0 ks ps h = grind (arith, entry_first, replace)
 
 comma_join : (ns : Nodes) (t : List Kind) → YieldFlowEntries ns t → YieldOtherFlowEntries ns (FlowEntry ∷ t)
-comma_join NoNode t h = inr (ap (λ (l : List Kind). FlowEntry ∷ l) h)
-comma_join (MoreNodes n ns) t h = (h.0, h.1, h.2, h.3, ap (λ (l : List Kind). FlowEntry ∷ l) h.4)
+comma_join u0 t h = grind arith
 
 behind_comma : (R : Claim) (ks : List Kind) (ps : List Part) → AtFirst R ks ps → InSequence R (FlowEntry ∷ ks) ps
 behind_comma R ks ps h =
@@ -92,7 +91,7 @@ first_entry_at_turned Key sp = λ ts r x s ss e w a. record {
   used = record { span = sp; kind = Key } ∷ [];
   part = OpenMapping forest.no_properties;
   taken = refl;
-  tells = refl;
+  emits = refl;
   remembers = refl;
   few = omega arith;
   places = whole (record { span = sp; kind = Key } ∷ []) _ _
@@ -122,28 +121,21 @@ other_entry_turned = by_token (λ _. InSequence) flow_sequence_entry_at other_en
 abbrev AtKey : Claim → Claim
 AtKey R = Then (IsOptionalOf InFlow) (AtPairValue R)
 
-pair_key_at_turned : TurnsAt (λ _. AtKey) flow_sequence_entry_mapping_key_at
-pair_key_at_turned Value sp = skips InFlow state.FlowSequenceEntryMappingValue Value tt sp sp
-pair_key_at_turned FlowEntry sp = skips InFlow state.FlowSequenceEntryMappingValue FlowEntry tt sp sp
-pair_key_at_turned FlowSequenceEnd sp = skips InFlow state.FlowSequenceEntryMappingValue FlowSequenceEnd tt sp sp
-pair_key_at_turned k sp = enters_optional Flow state.FlowSequenceEntryMappingValue k tt tt sp
-
 pub pair_key_turned : Turns (λ _. AtKey) flow_sequence_entry_mapping_key
 unfolding flow_sequence_entry_mapping_key
-pair_key_turned = by_token (λ _. AtKey) flow_sequence_entry_mapping_key_at pair_key_at_turned
+pair_key_turned = here_turned state.FlowSequenceEntryMappingValue tt tt
 
 -- a value after its mark
 abbrev AtValue : Claim → Claim
 AtValue R = Then (IsOptionalOf InFlow) (AtPairEnd R)
 
-value_at_turned : TurnsAt (λ _. AtValue) flow_sequence_entry_mapping_node_at
-value_at_turned FlowEntry sp = skips InFlow (state.FlowSequenceEntryMappingEnd sp.end) FlowEntry tt sp sp
-value_at_turned FlowSequenceEnd sp = skips InFlow (state.FlowSequenceEntryMappingEnd sp.end) FlowSequenceEnd tt sp sp
-value_at_turned k sp = enters_optional Flow (state.FlowSequenceEntryMappingEnd sp.end) k tt tt sp
-
 value_turned : Turns (λ _. AtValue) flow_sequence_entry_mapping_node
 unfolding flow_sequence_entry_mapping_node
-value_turned = by_token (λ _. AtValue) flow_sequence_entry_mapping_node_at value_at_turned
+value_turned = by_token (λ _. AtValue)
+    (λ k t. let end : State = state.FlowSequenceEntryMappingEnd t.span.end in
+    node_or_nothing_at (is_left_out end k) end t.span t)
+    (λ k sp. let end : State = state.FlowSequenceEntryMappingEnd sp.end in
+    optional_turned (is_left_out end k) end k tt tt sp sp)
 
 pair_value_at_turned : TurnsAt (λ _. AtPairValue) flow_sequence_entry_mapping_value_at
 pair_value_at_turned Value sp = passes (λ _. AtValue) (λ _. AtPairValue) Value flow_sequence_entry_mapping_node tt
@@ -162,7 +154,7 @@ pair_end_turned place ts r x s ss e w a = record {
   used = [];
   part = CloseMapping;
   taken = refl;
-  tells = refl;
+  emits = refl;
   remembers = refl;
   few = omega arith;
   places = whole [] _ _ (inl refl);

@@ -19,7 +19,7 @@ use Rattle.saphyr_machine.specs.Events.{ResolvedTag}
 use Rattle.saphyr_machine.specs.Steps.Machine.{◌>>=◌, Names, meaning}
 use Rattle.saphyr_machine.specs.Steps.Tags.{is_named_handle, undeclared_prefix, declared_prefix_or, declared_prefix, resolved_tag_at}
 use Rattle.event_laws.specs.TagResolution.{default_prefix}
-use Rattle.event_laws.proofs.Told.Nodes.{handle_is_some, has_handle}
+use Rattle.event_laws.proofs.Emitted.Nodes.{handle_is_some, has_handle}
 use Rattle.event_laws.proofs.Remembering.{resolve}
 
 -- the token's tag is resolved to this

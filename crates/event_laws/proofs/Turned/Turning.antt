@@ -10,8 +10,8 @@ use Rattle.saphyr_machine.specs.declared.state.State.{State}
 use Rattle.event_laws.specs.Anchors.{anchors}
 use Rattle.event_laws.specs.Preorder.{Part}
 use Rattle.event_laws.specs.Exactly.{kinds}
-use Rattle.saphyr_machine.specs.Steps.Machine.{Machine, Told}
-use Rattle.event_laws.proofs.Told.Telling.{Memory}
+use Rattle.saphyr_machine.specs.Steps.Machine.{Machine, Emitted}
+use Rattle.event_laws.proofs.Emitted.Emitting.{Memory}
 use Rattle.event_laws.proofs.Remembering.{after, event_in}
 use Rattle.event_laws.proofs.Turned.Following.{Claim, Then, Exactly, FollowsStates, IsAlive, Starts}
 
@@ -32,11 +32,11 @@ abbrev pub memory : Machine → Memory
 memory m = record { anchors = m.anchors; prefixes = m.prefixes; keep = m.keep_tags }
 
 -- A step that tells a part. What may follow it makes, after the tokens that it used, what might follow before.
-pub record Goes (F : Claim) (e : Memory) (k : List Piece) (x : Told) : Type 0 where
+pub record Goes (F : Claim) (e : Memory) (k : List Piece) (x : Emitted) : Type 0 where
   pub used : List Piece
   pub part : Part
   pub taken : k ≡ used ++ x.machine.tokens.pieces
-  pub tells : event_in e part ≡ Some x.what
+  pub emits : event_in e part ≡ Some x.what
   pub remembers : memory x.machine ≡ after part e
   pub few : anchors (part ∷ []) ≤ length used
   pub places : HasOwn used x.what x.span x.machine.tokens.pieces
@@ -44,36 +44,24 @@ pub record Goes (F : Claim) (e : Memory) (k : List Piece) (x : Told) : Type 0 wh
   pub makes : (ks : List Kind) (ps : List Part) → FollowsStates x.machine.state x.machine.states ks ps
       → Starts x.machine.state (kinds x.machine.tokens.pieces) ks → F (kinds used ++ ks) (part ∷ ps)
 
-abbrev pub Turned : Claim → Memory → List Piece → Result Told Refusal → Type 0
+abbrev pub Turned : Claim → Memory → List Piece → Result Emitted Refusal → Type 0
 Turned F e k (Ok x) = Goes F e k x
 Turned F e k (Err f) = Unit {0}
 
 -- for more lists
-pub weaker : (F G : Claim) (e : Memory) (k : List Piece) (r : Result Told Refusal)
+pub weaker : (F G : Claim) (e : Memory) (k : List Piece) (r : Result Emitted Refusal)
     → ((ks : List Kind) (ps : List Part) → F ks ps → G ks ps) → Turned F e k r → Turned G e k r
-weaker F G e k (Ok x) i h =
-    record {
-      used = h.used;
-      part = h.part;
-      taken = h.taken;
-      tells = h.tells;
-      remembers = h.remembers;
-      few = h.few;
-      places = h.places;
-      alive = h.alive;
-      makes = λ ks ps f s. i _ _ (h.makes ks ps f s);
-    }
-weaker F G e k (Err f) i h = tt
+weaker u0 u1 e k u2 i h = grind arith
 
 -- after a token that is used too
-pub behind : (t : Piece) (F G : Claim) (e : Memory) (k : List Piece) (r : Result Told Refusal) → BelongsToNone t.kind
+pub behind : (t : Piece) (F G : Claim) (e : Memory) (k : List Piece) (r : Result Emitted Refusal) → BelongsToNone t.kind
     → ((ks : List Kind) (ps : List Part) → F ks ps → G (t.kind ∷ ks) ps) → Turned F e k r → Turned G e (t ∷ k) r
 behind t F G e k (Ok x) b i h =
     record {
       used = t ∷ h.used;
       part = h.part;
       taken = ap (λ (l : List Piece). t ∷ l) h.taken;
-      tells = h.tells;
+      emits = h.emits;
       remembers = h.remembers;
       few = (let l = h.few in omega (arith, l));
       places = behind_own t h.used x.what x.span b h.places;
@@ -108,30 +96,12 @@ regroup A B C D ks ps join h =
 -- other lists in front
 pub replace : (A B D : Claim) (u : List Kind) (w : List Part) (ks : List Kind) (ps : List Part)
     → ((a : List Kind) (p : List Part) → A a p → D (u ++ a) (w ++ p)) → Then A B ks ps → Then D B (u ++ ks) (w ++ ps)
-replace A B D u w ks ps join h = record {
-  front = u ++ h.front;
-  back = h.back;
-  first = w ++ h.first;
-  second = h.second;
-  begins = join h.front h.first h.begins;
-  goes_on = h.goes_on;
-  kinds_are = cc (append_assoc u h.front h.back);
-  parts_are = cc (append_assoc w h.first h.second);
-}
+replace u0 u1 u2 u w ks ps join h = grind (arith, append_assoc)
 
 -- these lists before all
 pub put : (A R : Claim) (u : List Kind) (w : List Part) (ks : List Kind) (ps : List Part)
     → A u w → R ks ps → Then A R (u ++ ks) (w ++ ps)
-put A R u w ks ps a r = record {
-  front = u;
-  back = ks;
-  first = w;
-  second = ps;
-  begins = a;
-  goes_on = r;
-  kinds_are = refl;
-  parts_are = refl;
-}
+put u0 u1 u w ks ps a r = grind arith
 
 -- the first two of three in one, with these lists in front
 pub join_behind : (A B C D : Claim) (u : List Kind) (w : List Part) (ks : List Kind) (ps : List Part)

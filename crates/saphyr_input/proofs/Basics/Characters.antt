@@ -23,11 +23,8 @@ blank_non_break c h = blank_cases c h (λ x. is_yaml_non_break x ≡ true) refl 
 pub blank_no_feed : (c : ℕ) → IsTrue (is_blank c) → IsTrue (not (c == line_feed))
 blank_no_feed c h = grind (arith, nat_tests)
 
-pub ink_no_space : (c : ℕ) → is_blank c ≡ false → (c == 32) ≡ false
-ink_no_space c h = grind (arith, nat_tests)
-
-pub ink_no_tab : (c : ℕ) → is_blank c ≡ false → (c == 9) ≡ false
-ink_no_tab c h = grind (arith, nat_tests)
+pub no_blank_no_tab : (c : ℕ) → is_blank c ≡ false → (c == 9) ≡ false
+no_blank_no_tab c h = grind (arith, nat_tests)
 
 pub non_break_no_break : (c : ℕ) → is_yaml_non_break c ≡ true → is_break c ≡ false
 non_break_no_break c h = grind (arith, nat_tests)

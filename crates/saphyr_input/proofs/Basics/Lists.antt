@@ -39,9 +39,6 @@ second_is xs = get_or_after_one xs 0 0
 pub third_is : (xs : List ℕ) → slice_index (drop 1 (drop 1 xs)) 0 ≡ slice_index xs 2
 third_is xs = get_or_after_one (drop 1 xs) 0 0 ∙ get_or_after_one xs 1 0
 
-pub fourth_is : (xs : List ℕ) → slice_index (drop 1 (drop 1 (drop 1 xs))) 0 ≡ slice_index xs 3
-fourth_is xs = third_is (drop 1 xs) ∙ get_or_after_one xs 2 0
-
 -- after a run is what is not in it
 pub run_ends : (p : ℕ → Bool) (xs : List ℕ) → p 0 ≡ false → p (slice_index (drop (prefix_len p xs) xs) 0) ≡ false
 run_ends p [] z = z

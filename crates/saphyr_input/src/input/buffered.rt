@@ -72,7 +72,7 @@ impl<I: Iterator<Item = char>> BufferedInput<I> {
         BufferedInput::with_limit(alloc, iter, MOST_ITEMS)
     }
 
-    /// The same with your own limit, which is at most 4,294,967,296. The text ends after that many items, as at a
+    /// An input with your own limit, which is at most 4,294,967,296. The text ends after that many items, as at a
     /// `None`.
     pub fn with_limit(alloc: Global, iter: I, limit: u64) -> Result<Self, AllocError>
         requires bounded { limit ≤ 4294967296 }

@@ -1,28 +1,27 @@
 -- What `next_event` hands out is the head of the events that are still to come.
-use Rattle.std.proofs.Common.{◌≡◌, ◌≢◌, ◌<◌, Bool, true, false, List, [], ◌∷◌, ◌++◌, Option, Some, None, Result, Ok, Err, refl, sym, ap, ◌∙◌, subst, arith}
+use Rattle.std.proofs.Common.{◌≡◌, ◌≢◌, ◌<◌, Bool, true, false, List, [], ◌∷◌, ◌++◌, Option, Result, Ok, refl, sym, ap, ◌∙◌, subst, arith}
 use Rattle.std.specs.Prelude.{if◌then◌else◌}
 use Rattle.saphyr_scalar.specs.declared.scalar.position.Span.{Span}
 use Rattle.saphyr_scalar.specs.declared.scalar.fault.Refusal.{Refusal}
 use Rattle.saphyr_machine.specs.declared.event.Event.{Event}
 use Rattle.saphyr_machine.specs.declared.fault.Fault.{Fault}
-use Rattle.saphyr_machine.specs.declared.fault.Fault.TheVariants as fault
 use Rattle.saphyr_machine.specs.declared.state.State.TheVariants as state
 use Rattle.saphyr_machine.specs.Events.{Happening}
-use Rattle.saphyr_machine.specs.Steps.Machine.{Machine, Told, told_event}
+use Rattle.saphyr_machine.specs.Steps.Machine.{Machine, Emitted, emit}
 use Rattle.saphyr_machine.specs.Steps.Expected.{event_step, event_step_at}
 use Rattle.saphyr_machine.specs.Answer.{Answer, Ending, empty_answer, fault_alone, with_first_event, answer_of_step, remaining_answer}
-use Rattle.saphyr_machine.specs.Cursor.{EventCursor, Kept, HandsOutNext, Refuses, count, event_of, finished_behind, inside_behind, to_come}
-use Rattle.saphyr_machine.specs.Calls.{Advances, AdvancesFrom, AdvancesOver, FailsWith, IsOver, IsOverFrom, IsToldAs, GivesNext}
+use Rattle.saphyr_machine.specs.Cursor.{EventCursor, Kept, HandsOutNext, Refuses, count, finished_behind, inside_behind, to_come}
+use Rattle.saphyr_machine.specs.Calls.{Advances, AdvancesFrom, AdvancesOver, FailsWith, IsOver, IsOverFrom, IsReportedAs, GivesNext}
 use Rattle.saphyr_machine.proofs.Unroll.{unroll, over}
 
 -- a machine that makes a step isn't at its end
-pub goes_on : (m : Machine) (x : Told) → event_step m ≡ Ok x → m.state ≢ state.End
+pub goes_on : (m : Machine) (x : Emitted) → event_step m ≡ Ok x → m.state ≢ state.End
 unfolding event_step
 goes_on m x e h = let r : event_step_at state.End m ≡ Ok x = subst (λ s. event_step_at s m ≡ Ok x) h e in absurd (cc)
 
-pub moves : (m n : Machine) (e : Happening × Span) → event_step m ≡ told_event e.0 e.1 n
+pub moves : (m n : Machine) (e : Happening × Span) → event_step m ≡ emit e.0 e.1 n
     → remaining_answer m ≡ with_first_event e (remaining_answer n)
-moves m n e is = unroll m (goes_on m _ is) ∙ ap (λ (r : Result Told Refusal). answer_of_step r remaining_answer) is
+moves m n e is = unroll m (goes_on m _ is) ∙ ap (λ (r : Result Emitted Refusal). answer_of_step r remaining_answer) is
 
 -- ## An event
 
@@ -31,10 +30,7 @@ advanced : (c : Option (Happening × Span)) (k : Option Kept) (m : Machine) (i :
     → Advances e (record { current = c; kept = k; machine = m; inside = i; finished = f }) new
     → to_come (record { current = c; kept = k; machine = m; inside = i; finished = f })
     ≡ with_first_event e (to_come new)
-advanced (Some next) k m i f e new (is, left) = rw (left, is) refl
-advanced None (Some kept) m i f e new h = absurd h
-advanced None None m i f e new (moved, left) =
-    moves m new.machine e moved ∙ ap (with_first_event e) (sym (ap to_come left))
+advanced u0 k m i f e new u1 = grind (arith, moves)
 
 pub advances : (e : Happening × Span) (old new : EventCursor) → Advances e old new
     → to_come old ≡ with_first_event e (to_come new)
@@ -43,11 +39,7 @@ advances e old new h = advanced old.current old.kept old.machine old.inside old.
 remembering : (c : Option (Happening × Span)) (k : Option Kept) (e : Happening × Span) (old new : EventCursor)
     → AdvancesFrom c k e old new
     → (new.inside ≡ inside_behind e.0 old.inside) × (new.finished ≡ finished_behind e.0 e.1 old.finished)
-remembering (Some next) k e old new (is, left) =
-    (ap (λ (c : EventCursor). c.inside) left, ap (λ (c : EventCursor). c.finished) left)
-remembering None (Some kept) e old new h = absurd h
-remembering None None e old new (moved, left) =
-    (ap (λ (c : EventCursor). c.inside) left, ap (λ (c : EventCursor). c.finished) left)
+remembering u0 k e old new u1 = grind arith
 
 pub remembers : (e : Happening × Span) (old new : EventCursor) → Advances e old new
     → (new.inside ≡ inside_behind e.0 old.inside) × (new.finished ≡ finished_behind e.0 e.1 old.finished)
@@ -55,9 +47,7 @@ remembers e old new h = remembering old.current old.kept e old new h
 
 keeping : (c : Option (Happening × Span)) (k : Option Kept) (e : Happening × Span) (old new : EventCursor)
     → AdvancesFrom c k e old new → new.kept ≡ old.kept
-keeping (Some next) k e old new (is, left) = ap (λ (c : EventCursor). c.kept) left
-keeping None (Some kept) e old new h = absurd h
-keeping None None e old new (moved, left) = ap (λ (c : EventCursor). c.kept) left
+keeping u0 k e old new u1 = grind arith
 
 -- what was kept stays so
 pub keeps : (e : Happening × Span) (old new : EventCursor) → Advances e old new → new.kept ≡ old.kept
@@ -89,15 +79,6 @@ over_splits (e ∷ es) old new (middle, first, others) =
 
 -- ## The fault that ends the events
 
-told_as : (kept : Ending) (f : Fault) → IsToldAs kept f → Refuses f (fault_alone kept)
-told_as kept (fault.Scan e) h = ap fault_alone h
-told_as kept fault.OutOfMemory h = omega arith
-told_as kept fault.Receiver h = h
-told_as kept fault.InsideDocument h = h
-
-not_given : (g : Bool) (kept : Ending) → g ≡ false → (if g then empty_answer else fault_alone kept) ≡ fault_alone kept
-not_given g kept e = rw e refl
-
 was_given : (g : Bool) (kept : Ending) → g ≡ true → (if g then empty_answer else fault_alone kept) ≡ empty_answer
 was_given g kept e = rw e refl
 
@@ -106,10 +87,7 @@ failing : (c : Option (Happening × Span)) (k : Option Kept) (m : Machine) (i : 
     → FailsWith f (record { current = c; kept = k; machine = m; inside = i; finished = s }) new
     → Refuses f (to_come (record { current = c; kept = k; machine = m; inside = i; finished = s }))
     × (to_come new ≡ empty_answer)
-failing (Some next) k m i s f new h = absurd h
-failing None (Some kept) m i s f new (fresh, same, left) =
-    (rw (not_given kept.given kept.fault fresh) (told_as kept.fault f same), ap to_come left)
-failing None None m i s f new (refuses, left) = (refuses, ap to_come left)
+failing u0 k m i s f new h = grind arith
 
 pub fails : (f : Fault) (old new : EventCursor) → FailsWith f old new
     → Refuses f (to_come old) × (to_come new ≡ empty_answer)
@@ -120,9 +98,7 @@ fails f old new h = failing old.current old.kept old.machine old.inside old.fini
 over_has_none : (c : Option (Happening × Span)) (k : Option Kept) (m : Machine) (i : Bool) (s : Option Span)
     → IsOverFrom c k m → to_come (record { current = c; kept = k; machine = m; inside = i; finished = s })
     ≡ empty_answer
-over_has_none (Some next) k m i s h = absurd h
-over_has_none None (Some kept) m i s h = was_given kept.given kept.fault h
-over_has_none None None m i s h = over m h
+over_has_none u0 k m i s h = grind (arith, was_given, over)
 
 pub nothing_left : (c : EventCursor) → IsOver c → to_come c ≡ empty_answer
 nothing_left c h = over_has_none c.current c.kept c.machine c.inside c.finished h
@@ -131,6 +107,4 @@ nothing_left c h = over_has_none c.current c.kept c.machine c.inside c.finished 
 
 pub gives_hands : (r : Option (Result (Event × Span) Fault)) (old new : EventCursor) → GivesNext r old new
     → HandsOutNext r (to_come old) (to_come new)
-gives_hands None old new (done, same) = (nothing_left old done, ap to_come same ∙ nothing_left old done)
-gives_hands (Some (Ok e)) old new h = advances (event_of e) old new h
-gives_hands (Some (Err f)) old new h = fails f old new h
+gives_hands u0 old new u1 = grind (arith, nothing_left, advances, fails)

@@ -10,7 +10,7 @@ use Rattle.saphyr_machine.specs.declared.context.NodeContext.TheVariants.{Block}
 use Rattle.saphyr_machine.specs.declared.state.State.{State}
 use Rattle.saphyr_machine.specs.declared.state.State.TheVariants as state
 use Rattle.saphyr_machine.specs.Events as events
-use Rattle.saphyr_machine.specs.Steps.Machine.{◌>>=◌, Machine, Told, told_event, refusal_at, ending_refusal, taken_token, with_pieces, put_back, pop, with_state, push, without_ids, with_meaning, is_listed, with_name}
+use Rattle.saphyr_machine.specs.Steps.Machine.{◌>>=◌, Machine, Emitted, emit, refusal_at, ending_refusal, taken_token, with_pieces, put_back, pop, with_state, push, without_ids, with_meaning, is_listed, with_name}
 use Rattle.saphyr_machine.specs.Events.{empty_scalar}
 use Rattle.saphyr_machine.specs.Steps.Nodes.{node}
 
@@ -92,22 +92,16 @@ directives d m = directives_from m.tokens.pieces d m
 
 -- ## The beginning of the stream and of documents
 
--- whether no document is open, so that one may start or the stream may end
-abbrev pub is_outside : State → Bool
-is_outside state.ImplicitDocumentStart = true
-is_outside state.DocumentStart = true
-is_outside _ = false
-
 -- whether the stream is over, so that no token is read any more
 abbrev pub is_over : State → Bool
 is_over state.End = true
 is_over _ = false
 
-abbrev pub stream_start_at : Kind → Piece → Machine → Result Told Refusal
-stream_start_at tokens.StreamStart t m = told_event events.StreamStart t.span (with_state state.ImplicitDocumentStart m)
+abbrev pub stream_start_at : Kind → Piece → Machine → Result Emitted Refusal
+stream_start_at tokens.StreamStart t m = emit events.StreamStart t.span (with_state state.ImplicitDocumentStart m)
 stream_start_at _ t m = refusal_at fault.DocumentStartExpected t
 
-unfoldable pub stream_start : Machine → Result Told Refusal
+unfoldable pub stream_start : Machine → Result Emitted Refusal
 stream_start m = do
   t ← taken_token m
   stream_start_at t.0.kind t.0 t.1
@@ -116,30 +110,30 @@ stream_start m = do
 abbrev pub without_anchors : Machine → Machine
 without_anchors m = record m { anchors = without_ids m.anchors }
 
-abbrev pub explicit_document_at : Kind → Piece → Machine → Result Told Refusal
+abbrev pub explicit_document_at : Kind → Piece → Machine → Result Emitted Refusal
 explicit_document_at tokens.DocumentStart t m =
-    told_event (events.DocumentStart true) t.span (with_state state.DocumentContent
+    emit (events.DocumentStart true) t.span (with_state state.DocumentContent
     (push state.DocumentEnd (without_anchors m)))
 explicit_document_at tokens.ByteOrderMark t m = refusal_at fault.MisplacedByteOrderMark t
 explicit_document_at _ t m = refusal_at fault.DocumentStartExpected t
 
 -- directives and `---` come next
-abbrev pub next_document : Machine → Result Told Refusal
+abbrev pub next_document : Machine → Result Emitted Refusal
 next_document m = do
   u ← directives none_declared m
   explicit_document_at u.0.kind u.0 u.1
 
 -- directives and `---` begin with the token
-unfoldable pub explicit_document : Piece → Machine → Result Told Refusal
+unfoldable pub explicit_document : Piece → Machine → Result Emitted Refusal
 explicit_document t m = next_document (put_back t m)
 
 -- a document without `---` begins with the token
-unfoldable pub bare_document : Piece → Machine → Result Told Refusal
-bare_document t m = told_event (events.DocumentStart false) t.span
+unfoldable pub bare_document : Piece → Machine → Result Emitted Refusal
+bare_document t m = emit (events.DocumentStart false) t.span
     (with_state state.BlockNode (push state.DocumentEnd (without_anchors (put_back t m))))
 
-abbrev pub implicit_start_at : Kind → Piece → Machine → Result Told Refusal
-implicit_start_at tokens.StreamEnd t m = told_event events.StreamEnd t.span (with_state state.End m)
+abbrev pub implicit_start_at : Kind → Piece → Machine → Result Emitted Refusal
+implicit_start_at tokens.StreamEnd t m = emit events.StreamEnd t.span (with_state state.End m)
 implicit_start_at (tokens.VersionDirective major minor) t m = explicit_document t m
 implicit_start_at (tokens.TagDirective handle prefix) t m = explicit_document t m
 implicit_start_at (tokens.ReservedDirective name) t m = explicit_document t m
@@ -147,16 +141,16 @@ implicit_start_at tokens.DocumentStart t m = explicit_document t m
 implicit_start_at _ t m = bare_document t m
 
 -- a document that may begin without `---`, or the end of the stream
-unfoldable pub implicit_start : Machine → Result Told Refusal
+unfoldable pub implicit_start : Machine → Result Emitted Refusal
 implicit_start m = do
   t ← unpassed_token is_end_or_mark m
   implicit_start_at t.0.kind t.0 t.1
 
-abbrev pub explicit_start_at : Kind → Piece → Machine → Result Told Refusal
-explicit_start_at tokens.StreamEnd t m = told_event events.StreamEnd t.span (with_state state.End m)
+abbrev pub explicit_start_at : Kind → Piece → Machine → Result Emitted Refusal
+explicit_start_at tokens.StreamEnd t m = emit events.StreamEnd t.span (with_state state.End m)
 explicit_start_at _ t m = explicit_document t m
 
-unfoldable pub explicit_start : Machine → Result Told Refusal
+unfoldable pub explicit_start : Machine → Result Emitted Refusal
 explicit_start m = do
   t ← unpassed_token is_end_or_mark m
   explicit_start_at t.0.kind t.0 t.1
@@ -164,10 +158,10 @@ explicit_start m = do
 -- ## The content and the end of documents
 
 -- an empty document, before the token
-abbrev pub no_content : Piece → Machine → Result Told Refusal
-no_content t m = told_event empty_scalar t.span (pop (put_back t m))
+abbrev pub no_content : Piece → Machine → Result Emitted Refusal
+no_content t m = emit empty_scalar t.span (pop (put_back t m))
 
-abbrev pub document_content_at : Kind → Piece → Machine → Result Told Refusal
+abbrev pub document_content_at : Kind → Piece → Machine → Result Emitted Refusal
 document_content_at (tokens.VersionDirective major minor) t m = no_content t m
 document_content_at (tokens.TagDirective handle prefix) t m = no_content t m
 document_content_at (tokens.ReservedDirective name) t m = no_content t m
@@ -177,7 +171,7 @@ document_content_at tokens.ByteOrderMark t m = no_content t m
 document_content_at tokens.StreamEnd t m = no_content t m
 document_content_at _ t m = node Block t m
 
-unfoldable pub document_content : Machine → Result Told Refusal
+unfoldable pub document_content : Machine → Result Emitted Refusal
 document_content m = do
   t ← taken_token m
   document_content_at t.0.kind t.0 t.1
@@ -208,14 +202,14 @@ token_behind_document m = do
 abbrev pub without_prefixes : Machine → Machine
 without_prefixes m = record m { prefixes = if m.keep_tags then m.prefixes else [] }
 
-abbrev pub document_end_at : Kind → Piece → Machine → Result Told Refusal
-document_end_at tokens.DocumentEnd t m = told_event events.DocumentEnd t.span (with_state state.ImplicitDocumentStart m)
+abbrev pub document_end_at : Kind → Piece → Machine → Result Emitted Refusal
+document_end_at tokens.DocumentEnd t m = emit events.DocumentEnd t.span (with_state state.ImplicitDocumentStart m)
 document_end_at (tokens.VersionDirective major minor) t m = refusal_at fault.DocumentEndExpected t
 document_end_at (tokens.TagDirective handle prefix) t m = refusal_at fault.DocumentEndExpected t
 document_end_at (tokens.ReservedDirective name) t m = refusal_at fault.DocumentEndExpected t
-document_end_at _ t m = told_event events.DocumentEnd t.span (with_state state.DocumentStart (put_back t m))
+document_end_at _ t m = emit events.DocumentEnd t.span (with_state state.DocumentStart (put_back t m))
 
-unfoldable pub document_end : Machine → Result Told Refusal
+unfoldable pub document_end : Machine → Result Emitted Refusal
 document_end m = do
   t ← token_behind_document m
   document_end_at t.0.kind t.0 (without_prefixes t.1)

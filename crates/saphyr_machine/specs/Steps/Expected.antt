@@ -3,12 +3,12 @@ use Rattle.std.specs.Prelude.{Result, Err}
 use Rattle.saphyr_scalar.specs.declared.scalar.fault.Refusal.{Refusal}
 use Rattle.saphyr_machine.specs.declared.state.State.{State}
 use Rattle.saphyr_machine.specs.declared.state.State.TheVariants as state
-use Rattle.saphyr_machine.specs.Steps.Machine.{Machine, Told, ending_refusal}
+use Rattle.saphyr_machine.specs.Steps.Machine.{Machine, Emitted, ending_refusal}
 use Rattle.saphyr_machine.specs.Steps.Documents as document
 use Rattle.saphyr_machine.specs.Steps.Block as block
 use Rattle.saphyr_machine.specs.Steps.Flow as flow
 
-abbrev pub event_step_at : State → Machine → Result Told Refusal
+abbrev pub event_step_at : State → Machine → Result Emitted Refusal
 event_step_at state.StreamStart m = document.stream_start m
 event_step_at state.ImplicitDocumentStart m = document.implicit_start m
 event_step_at state.DocumentStart m = document.explicit_start m
@@ -31,5 +31,5 @@ event_step_at state.FlowMappingEmptyValue m = flow.flow_mapping_empty_value m
 event_step_at state.End m = Err (ending_refusal m.tokens.refusal)
 
 -- the next event
-unfoldable pub event_step : Machine → Result Told Refusal
+unfoldable pub event_step : Machine → Result Emitted Refusal
 event_step m = event_step_at m.state m

@@ -9,141 +9,103 @@ use Rattle.saphyr_scanner.specs.Views.Tokens.{Piece}
 use Rattle.saphyr_machine.specs.declared.context.NodeContext.TheVariants.{Flow}
 use Rattle.saphyr_machine.specs.declared.state.State.TheVariants as state
 use Rattle.saphyr_machine.specs.Events.{SequenceEnd, MappingStart, MappingEnd}
-use Rattle.saphyr_machine.specs.Steps.Machine.{◌>>=◌, Machine, Told, told_event, refusal_at, taken_token, pop, with_state, left_out_event}
-use Rattle.saphyr_machine.specs.Steps.Nodes.{node_inside}
+use Rattle.saphyr_machine.specs.Steps.Machine.{◌>>=◌, Machine, Emitted, emit, refusal_at, taken_token, pop, with_state, left_out_event}
+use Rattle.saphyr_machine.specs.Steps.Nodes.{node_behind, node_here, node_inside, node_or_nothing}
 
 -- ## Sequences
 
 -- an entry begins with the token, or the sequence ends
-abbrev pub flow_sequence_first_entry_at : Kind → Piece → Machine → Result Told Refusal
-flow_sequence_first_entry_at FlowSequenceEnd t m = told_event SequenceEnd t.span (pop m)
-flow_sequence_first_entry_at Key t m = told_event (MappingStart 0 None) t.span
+abbrev pub flow_sequence_first_entry_at : Kind → Piece → Machine → Result Emitted Refusal
+flow_sequence_first_entry_at FlowSequenceEnd t m = emit SequenceEnd t.span (pop m)
+flow_sequence_first_entry_at Key t m = emit (MappingStart 0 None) t.span
     (with_state state.FlowSequenceEntryMappingKey m)
 flow_sequence_first_entry_at _ t m = node_inside state.FlowSequenceEntry Flow t m
 
-unfoldable pub flow_sequence_first_entry : Machine → Result Told Refusal
+unfoldable pub flow_sequence_first_entry : Machine → Result Emitted Refusal
 flow_sequence_first_entry m = do
   t ← taken_token m
   flow_sequence_first_entry_at t.0.kind t.0 t.1
 
-abbrev pub flow_sequence_entry_at : Kind → Piece → Machine → Result Told Refusal
-flow_sequence_entry_at FlowSequenceEnd t m = told_event SequenceEnd t.span (pop m)
+abbrev pub flow_sequence_entry_at : Kind → Piece → Machine → Result Emitted Refusal
+flow_sequence_entry_at FlowSequenceEnd t m = emit SequenceEnd t.span (pop m)
 flow_sequence_entry_at FlowEntry t m = flow_sequence_first_entry m
 flow_sequence_entry_at _ t m = refusal_at fault.FlowSequenceEndExpected t
 
-unfoldable pub flow_sequence_entry : Machine → Result Told Refusal
+unfoldable pub flow_sequence_entry : Machine → Result Emitted Refusal
 flow_sequence_entry m = do
   t ← taken_token m
   flow_sequence_entry_at t.0.kind t.0 t.1
 
 -- an entry, which is the first or comes after a comma
-abbrev pub flow_sequence_turn : Bool → Machine → Result Told Refusal
+abbrev pub flow_sequence_turn : Bool → Machine → Result Emitted Refusal
 flow_sequence_turn true m = flow_sequence_first_entry m
 flow_sequence_turn false m = flow_sequence_entry m
 
 -- ## Pairs of a sequence that begin with `?`
 
 -- a key that is left out leaves what follows it
-abbrev pub flow_sequence_entry_mapping_key_at : Kind → Piece → Machine → Result Told Refusal
-flow_sequence_entry_mapping_key_at Value t m = left_out_event t state.FlowSequenceEntryMappingValue t.span m
-flow_sequence_entry_mapping_key_at FlowEntry t m = left_out_event t state.FlowSequenceEntryMappingValue t.span m
-flow_sequence_entry_mapping_key_at FlowSequenceEnd t m = left_out_event t state.FlowSequenceEntryMappingValue t.span m
-flow_sequence_entry_mapping_key_at _ t m = node_inside state.FlowSequenceEntryMappingValue Flow t m
-
-unfoldable pub flow_sequence_entry_mapping_key : Machine → Result Told Refusal
-flow_sequence_entry_mapping_key m = do
-  t ← taken_token m
-  flow_sequence_entry_mapping_key_at t.0.kind t.0 t.1
+unfoldable pub flow_sequence_entry_mapping_key : Machine → Result Emitted Refusal
+flow_sequence_entry_mapping_key m = node_here state.FlowSequenceEntryMappingValue m
 
 -- after the colon of such a pair; the pair ends after the first token of its value
-abbrev pub flow_sequence_entry_mapping_node_at : Kind → Piece → Machine → Result Told Refusal
-flow_sequence_entry_mapping_node_at FlowEntry t m = left_out_event t
-    (state.FlowSequenceEntryMappingEnd t.span.end) t.span m
-flow_sequence_entry_mapping_node_at FlowSequenceEnd t m = left_out_event t
-    (state.FlowSequenceEntryMappingEnd t.span.end) t.span m
-flow_sequence_entry_mapping_node_at _ t m = node_inside (state.FlowSequenceEntryMappingEnd t.span.end) Flow t m
-
-unfoldable pub flow_sequence_entry_mapping_node : Machine → Result Told Refusal
+unfoldable pub flow_sequence_entry_mapping_node : Machine → Result Emitted Refusal
 flow_sequence_entry_mapping_node m = do
   t ← taken_token m
-  flow_sequence_entry_mapping_node_at t.0.kind t.0 t.1
+  node_or_nothing (state.FlowSequenceEntryMappingEnd t.0.span.end) t.0.span t.0 t.1
 
-abbrev pub flow_sequence_entry_mapping_value_at : Kind → Piece → Machine → Result Told Refusal
+abbrev pub flow_sequence_entry_mapping_value_at : Kind → Piece → Machine → Result Emitted Refusal
 flow_sequence_entry_mapping_value_at Value t m = flow_sequence_entry_mapping_node m
 flow_sequence_entry_mapping_value_at _ t m = left_out_event t (state.FlowSequenceEntryMappingEnd t.span.end) t.span m
 
-unfoldable pub flow_sequence_entry_mapping_value : Machine → Result Told Refusal
+unfoldable pub flow_sequence_entry_mapping_value : Machine → Result Emitted Refusal
 flow_sequence_entry_mapping_value m = do
   t ← taken_token m
   flow_sequence_entry_mapping_value_at t.0.kind t.0 t.1
 
-unfoldable pub flow_sequence_entry_mapping_end : Marker → Machine → Result Told Refusal
-flow_sequence_entry_mapping_end place m = told_event MappingEnd (record { start = place; end = place })
+unfoldable pub flow_sequence_entry_mapping_end : Marker → Machine → Result Emitted Refusal
+flow_sequence_entry_mapping_end place m = emit MappingEnd (record { start = place; end = place })
     (with_state state.FlowSequenceEntry m)
 
 -- ## Mappings
 
--- after a key's token
-abbrev pub flow_key_node_at : Kind → Piece → Machine → Result Told Refusal
-flow_key_node_at Value t m = left_out_event t state.FlowMappingValue t.span m
-flow_key_node_at FlowEntry t m = left_out_event t state.FlowMappingValue t.span m
-flow_key_node_at FlowMappingEnd t m = left_out_event t state.FlowMappingValue t.span m
-flow_key_node_at _ t m = node_inside state.FlowMappingValue Flow t m
-
-unfoldable pub flow_key_node : Machine → Result Told Refusal
-flow_key_node m = do
-  t ← taken_token m
-  flow_key_node_at t.0.kind t.0 t.1
-
 -- A pair begins with the token, or the mapping ends, where its end has the span of the comma or brace before it.
-abbrev pub flow_mapping_pair_at : Kind → Span → Piece → Machine → Result Told Refusal
-flow_mapping_pair_at Key s t m = flow_key_node m
+abbrev pub flow_mapping_pair_at : Kind → Span → Piece → Machine → Result Emitted Refusal
+flow_mapping_pair_at Key s t m = node_here state.FlowMappingValue m
 flow_mapping_pair_at Value s t m = left_out_event t state.FlowMappingValue t.span m
-flow_mapping_pair_at FlowMappingEnd s t m = told_event MappingEnd s (pop m)
+flow_mapping_pair_at FlowMappingEnd s t m = emit MappingEnd s (pop m)
 flow_mapping_pair_at _ s t m = node_inside state.FlowMappingEmptyValue Flow t m
 
-unfoldable pub flow_mapping_first_key : Machine → Result Told Refusal
+unfoldable pub flow_mapping_first_key : Machine → Result Emitted Refusal
 flow_mapping_first_key m = do
   t ← taken_token m
   flow_mapping_pair_at t.0.kind t.0.span t.0 t.1
 
-unfoldable pub flow_mapping_pair_behind_comma : Span → Machine → Result Told Refusal
+unfoldable pub flow_mapping_pair_behind_comma : Span → Machine → Result Emitted Refusal
 flow_mapping_pair_behind_comma s m = do
   t ← taken_token m
   flow_mapping_pair_at t.0.kind s t.0 t.1
 
-abbrev pub flow_mapping_key_at : Kind → Piece → Machine → Result Told Refusal
-flow_mapping_key_at FlowMappingEnd t m = told_event MappingEnd t.span (pop m)
+abbrev pub flow_mapping_key_at : Kind → Piece → Machine → Result Emitted Refusal
+flow_mapping_key_at FlowMappingEnd t m = emit MappingEnd t.span (pop m)
 flow_mapping_key_at FlowEntry t m = flow_mapping_pair_behind_comma t.span m
 flow_mapping_key_at _ t m = refusal_at fault.FlowMappingEndExpected t
 
-unfoldable pub flow_mapping_key : Machine → Result Told Refusal
+unfoldable pub flow_mapping_key : Machine → Result Emitted Refusal
 flow_mapping_key m = do
   t ← taken_token m
   flow_mapping_key_at t.0.kind t.0 t.1
 
--- after a value's token with this span
-abbrev pub flow_value_node_at : Kind → Span → Piece → Machine → Result Told Refusal
-flow_value_node_at FlowEntry s t m = left_out_event t state.FlowMappingKey s m
-flow_value_node_at FlowMappingEnd s t m = left_out_event t state.FlowMappingKey s m
-flow_value_node_at _ s t m = node_inside state.FlowMappingKey Flow t m
-
-unfoldable pub flow_value_node : Span → Machine → Result Told Refusal
-flow_value_node s m = do
-  t ← taken_token m
-  flow_value_node_at t.0.kind s t.0 t.1
-
-abbrev pub flow_mapping_value_at : Kind → Piece → Machine → Result Told Refusal
-flow_mapping_value_at Value t m = flow_value_node t.span m
+abbrev pub flow_mapping_value_at : Kind → Piece → Machine → Result Emitted Refusal
+flow_mapping_value_at Value t m = node_behind state.FlowMappingKey t.span m
 flow_mapping_value_at _ t m = left_out_event t state.FlowMappingKey t.span m
 
-unfoldable pub flow_mapping_value : Machine → Result Told Refusal
+unfoldable pub flow_mapping_value : Machine → Result Emitted Refusal
 flow_mapping_value m = do
   t ← taken_token m
   flow_mapping_value_at t.0.kind t.0 t.1
 
 -- the value of a pair that has a key alone
-unfoldable pub flow_mapping_empty_value : Machine → Result Told Refusal
+unfoldable pub flow_mapping_empty_value : Machine → Result Emitted Refusal
 flow_mapping_empty_value m = do
   t ← taken_token m
   left_out_event t.0 state.FlowMappingKey t.0.span t.1

@@ -10,7 +10,7 @@ use Rattle.saphyr_scalar.specs.declared.scalar.position.Span.{Span}
 use Rattle.saphyr_scalar.specs.declared.scalar.fault.Refusal.{Refusal}
 use Rattle.saphyr_scalar.specs.declared.scalar.fault.FaultText.{FaultText}
 use Rattle.saphyr_scalar.specs.declared.scalar.fault.FaultText.TheVariants as fault
-use Rattle.saphyr_scanner.specs.Views.Tokens.{Piece, Remaining, before, with_last}
+use Rattle.saphyr_scanner.specs.Views.Tokens.{Piece, Remaining, before}
 use Rattle.saphyr_machine.specs.declared.state.State.{State}
 use Rattle.saphyr_machine.specs.declared.state.State.TheVariants as state
 use Rattle.saphyr_machine.specs.Events.{Happening, empty_scalar}
@@ -72,13 +72,13 @@ pub record Machine : Type 0 where
   pub keep_tags : Bool
 
 -- an event with its span, and the machine that it leaves
-pub record Told : Type 0 where
+pub record Emitted : Type 0 where
   pub what : Happening
   pub span : Span
   pub machine : Machine
 
-abbrev pub told_event : Happening → Span → Machine → Result Told Refusal
-told_event what span m = Ok (record { what = what; span = span; machine = m })
+abbrev pub emit : Happening → Span → Machine → Result Emitted Refusal
+emit what span m = Ok (record { what = what; span = span; machine = m })
 
 abbrev pub refusal_at : {X : Type 0} → FaultText → Piece → Result X Refusal
 refusal_at text t = Err (record { text = text; mark = t.span.start })
@@ -103,14 +103,6 @@ taken_token m = taken_token_from m.tokens.pieces m
 abbrev pub put_back : Piece → Machine → Machine
 put_back t m = record m { tokens = before t m.tokens }
 
--- one more token, after those that are still to be read
-abbrev pub with_last_token : Piece → Machine → Machine
-with_last_token t m = record m { tokens = with_last t m.tokens }
-
--- this refusal, after the tokens that are still to be read
-abbrev pub ended_with : Refusal → Machine → Machine
-ended_with e m = record m { tokens = record m.tokens { refusal = Some e } }
-
 abbrev pub pop_from : List State → Machine → Machine
 pop_from [] m = record m { state = state.End; states = [] }
 pop_from (s ∷ ss) m = record m { state = s; states = ss }
@@ -126,8 +118,8 @@ abbrev pub push : State → Machine → Machine
 push s m = record m { states = s ∷ m.states }
 
 -- a node is left out before the token
-abbrev pub left_out_event : Piece → State → Span → Machine → Result Told Refusal
-left_out_event t s span m = told_event empty_scalar span (with_state s (put_back t m))
+abbrev pub left_out_event : Piece → State → Span → Machine → Result Emitted Refusal
+left_out_event t s span m = emit empty_scalar span (with_state s (put_back t m))
 
 -- at the start of a stream
 abbrev pub fresh_machine : Remaining → Machine

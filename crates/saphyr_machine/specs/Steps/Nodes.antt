@@ -1,5 +1,5 @@
 -- The steps at a node: its properties and its content (YAML 1.2.2, 6.9 and chapters 7 and 8).
-use Rattle.std.specs.Prelude.{ℕ, Bool, nat_lt, ◌||◌, is_some, if◌then◌else◌, List, [], Option, Some, None, Result, Ok, Err}
+use Rattle.std.specs.Prelude.{ℕ, Bool, true, false, nat_lt, ◌||◌, is_some, if◌then◌else◌, List, [], Option, Some, None, Result, Ok, Err}
 use Rattle.saphyr_scalar.specs.declared.scalar.position.Marker.{Marker}
 use Rattle.saphyr_scalar.specs.declared.scalar.position.Span.{Span}
 use Rattle.saphyr_scalar.specs.declared.scalar.style.ScalarStyle.{ScalarStyle}
@@ -10,11 +10,12 @@ use Rattle.saphyr_scanner.specs.Grammar.Tokens as tokens
 use Rattle.saphyr_scanner.specs.Grammar.Tokens.{Kind}
 use Rattle.saphyr_scanner.specs.Views.Tokens.{Piece}
 use Rattle.saphyr_machine.specs.declared.context.NodeContext.{NodeContext}
+use Rattle.saphyr_machine.specs.declared.context.NodeContext.TheVariants as context
 use Rattle.saphyr_machine.specs.declared.state.State.{State}
 use Rattle.saphyr_machine.specs.declared.state.State.TheVariants as state
 use Rattle.saphyr_machine.specs.Events as events
 use Rattle.saphyr_machine.specs.Events.{ResolvedTag}
-use Rattle.saphyr_machine.specs.Steps.Machine.{◌>>=◌, Machine, Names, Told, told_event, refusal_at, taken_token, put_back, pop, with_state, push, meaning, with_anchor, next_id}
+use Rattle.saphyr_machine.specs.Steps.Machine.{◌>>=◌, Machine, Names, Emitted, emit, refusal_at, taken_token, put_back, pop, with_state, push, left_out_event, meaning, with_anchor, next_id}
 use Rattle.saphyr_machine.specs.Steps.Contexts.{allows_block, allows_indentless}
 use Rattle.saphyr_machine.specs.Steps.Tags.{resolved_tag_at}
 
@@ -36,51 +37,48 @@ abbrev pub span_up_to : NodeProperties → Marker → Span
 span_up_to p place = record { start = p.start; end = place }
 
 -- properties alone stand for an empty scalar
-abbrev pub node_without_content : NodeProperties → Piece → Machine → Result Told Refusal
+abbrev pub node_without_content : NodeProperties → Piece → Machine → Result Emitted Refusal
 node_without_content p t m =
-    if has_property p then told_event (events.Scalar [] Plain p.anchor p.tag) (span_up_to p p.behind)
+    if has_property p then emit (events.Scalar [] Plain p.anchor p.tag) (span_up_to p p.behind)
     (pop (put_back t m))
     else refusal_at fault.NodeContentExpected t
 
-abbrev pub opened_sequence : State → NodeProperties → Marker → Machine → Told
+abbrev pub opened_sequence : State → NodeProperties → Marker → Machine → Emitted
 opened_sequence s p place m =
     record { what = events.SequenceStart p.anchor p.tag; span = span_up_to p place; machine = with_state s m }
 
-abbrev pub opened_mapping : State → NodeProperties → Marker → Machine → Told
+abbrev pub opened_mapping : State → NodeProperties → Marker → Machine → Emitted
 opened_mapping s p place m =
     record { what = events.MappingStart p.anchor p.tag; span = span_up_to p place; machine = with_state s m }
 
-abbrev pub sequence_opening : State → NodeProperties → Piece → Machine → Result Told Refusal
+abbrev pub sequence_opening : State → NodeProperties → Piece → Machine → Result Emitted Refusal
 sequence_opening s p t m = Ok (opened_sequence s p t.span.end m)
 
-abbrev pub mapping_opening : State → NodeProperties → Piece → Machine → Result Told Refusal
+abbrev pub mapping_opening : State → NodeProperties → Piece → Machine → Result Emitted Refusal
 mapping_opening s p t m = Ok (opened_mapping s p t.span.end m)
 
-abbrev pub told_scalar : List ℕ → ScalarStyle → NodeProperties → Marker → Machine → Told
-told_scalar text style p place m =
+abbrev pub emitted_scalar : List ℕ → ScalarStyle → NodeProperties → Marker → Machine → Emitted
+emitted_scalar text style p place m =
     record { what = events.Scalar text style p.anchor p.tag; span = span_up_to p place; machine = pop m }
-
-abbrev pub told_alias : ℕ → Span → Machine → Told
-told_alias id s m = record { what = events.Alias id; span = s; machine = pop m }
 
 -- ## Collections that begin without properties, or end
 
-abbrev pub begun_sequence : State → Span → Machine → Result Told Refusal
-begun_sequence s span m = told_event (events.SequenceStart 0 None) span (with_state s m)
+abbrev pub begun_sequence : State → Span → Machine → Result Emitted Refusal
+begun_sequence s span m = emit (events.SequenceStart 0 None) span (with_state s m)
 
-abbrev pub begun_mapping : State → Span → Machine → Result Told Refusal
-begun_mapping s span m = told_event (events.MappingStart 0 None) span (with_state s m)
+abbrev pub begun_mapping : State → Span → Machine → Result Emitted Refusal
+begun_mapping s span m = emit (events.MappingStart 0 None) span (with_state s m)
 
-abbrev pub ended_sequence : Span → Machine → Result Told Refusal
-ended_sequence span m = told_event events.SequenceEnd span (pop m)
+abbrev pub ended_sequence : Span → Machine → Result Emitted Refusal
+ended_sequence span m = emit events.SequenceEnd span (pop m)
 
-abbrev pub ended_mapping : Span → Machine → Result Told Refusal
-ended_mapping span m = told_event events.MappingEnd span (pop m)
+abbrev pub ended_mapping : Span → Machine → Result Emitted Refusal
+ended_mapping span m = emit events.MappingEnd span (pop m)
 
 -- the content of a node begins with the token
-abbrev pub node_content_at : Kind → NodeProperties → NodeContext → Piece → Machine → Result Told Refusal
+abbrev pub node_content_at : Kind → NodeProperties → NodeContext → Piece → Machine → Result Emitted Refusal
 node_content_at (tokens.Scalar style text) p c t m =
-    told_event (events.Scalar text style p.anchor p.tag) (span_up_to p t.span.end) (pop m)
+    emit (events.Scalar text style p.anchor p.tag) (span_up_to p t.span.end) (pop m)
 node_content_at tokens.FlowSequenceStart p c t m = sequence_opening state.FlowSequenceFirstEntry p t m
 node_content_at tokens.FlowMappingStart p c t m = mapping_opening state.FlowMappingFirstKey p t m
 node_content_at tokens.BlockSequenceStart p c t m =
@@ -92,74 +90,130 @@ node_content_at tokens.BlockEntry p c t m =
     else node_without_content p t m
 node_content_at _ p c t m = node_without_content p t m
 
-unfoldable pub node_content : NodeProperties → NodeContext → Piece → Machine → Result Told Refusal
+unfoldable pub node_content : NodeProperties → NodeContext → Piece → Machine → Result Emitted Refusal
 node_content p c t m = node_content_at t.kind p c t m
 
 -- the content of a node after its properties
-unfoldable pub next_content : NodeProperties → NodeContext → Machine → Result Told Refusal
+unfoldable pub next_content : NodeProperties → NodeContext → Machine → Result Emitted Refusal
 next_content p c m = do
   t ← taken_token m
   node_content p c t.0 t.1
 
-abbrev pub alias_of : Option ℕ → Span → Machine → Result Told Refusal
-alias_of (Some id) s m = told_event (events.Alias id) s (pop m)
+abbrev pub alias_of : Option ℕ → Span → Machine → Result Emitted Refusal
+alias_of (Some id) s m = emit (events.Alias id) s (pop m)
 alias_of None s m = Err (record { text = fault.UnknownAnchor; mark = s.start })
 
-unfoldable pub alias_node : List ℕ → Span → Machine → Result Told Refusal
+unfoldable pub alias_node : List ℕ → Span → Machine → Result Emitted Refusal
 alias_node name s m = alias_of (meaning name m.anchors.ids) s m
 
 abbrev pub register : List ℕ → Machine → Machine
 register name m = record m { anchors = with_anchor name m.anchors }
 
 -- after an anchor that got the id
-abbrev pub node_behind_anchor_at : Kind → ℕ → Span → NodeContext → Piece → Machine → Result Told Refusal
+abbrev pub node_behind_anchor_at : Kind → ℕ → Span → NodeContext → Piece → Machine → Result Emitted Refusal
 node_behind_anchor_at (tokens.Tag handle suffix) id s c t m = do
   tag ← resolved_tag_at m.prefixes handle suffix s.start
   next_content (record { start = s.start; behind = t.span.end; anchor = id; tag = Some tag }) c m
 node_behind_anchor_at _ id s c t m = node_content (record { start = s.start; behind = s.end; anchor = id; tag = None })
     c t m
 
-unfoldable pub node_behind_anchor : List ℕ → Span → NodeContext → Machine → Result Told Refusal
+unfoldable pub node_behind_anchor : List ℕ → Span → NodeContext → Machine → Result Emitted Refusal
 node_behind_anchor name s c m = do
   t ← taken_token (register name m)
   node_behind_anchor_at t.0.kind (next_id m.anchors) s c t.0 t.1
 
 -- after a tag
-abbrev pub node_behind_tag_at : Kind → ResolvedTag → Span → NodeContext → Piece → Machine → Result Told Refusal
+abbrev pub node_behind_tag_at : Kind → ResolvedTag → Span → NodeContext → Piece → Machine → Result Emitted Refusal
 node_behind_tag_at (tokens.Anchor name) tag s c t m =
     next_content (record { start = s.start; behind = t.span.end; anchor = next_id m.anchors; tag = Some tag }) c
     (register name m)
 node_behind_tag_at _ tag s c t m =
     node_content (record { start = s.start; behind = s.end; anchor = 0; tag = Some tag }) c t m
 
-unfoldable pub node_behind_tag : List ℕ → List ℕ → Span → NodeContext → Machine → Result Told Refusal
+unfoldable pub node_behind_tag : List ℕ → List ℕ → Span → NodeContext → Machine → Result Emitted Refusal
 node_behind_tag handle suffix s c m = do
   tag ← resolved_tag_at m.prefixes handle suffix s.start
   t ← taken_token m
   node_behind_tag_at t.0.kind tag s c t.0 t.1
 
 -- a node begins with the token
-abbrev pub node_at : Kind → NodeContext → Piece → Machine → Result Told Refusal
+abbrev pub node_at : Kind → NodeContext → Piece → Machine → Result Emitted Refusal
 node_at (tokens.Alias name) c t m = alias_node name t.span m
 node_at (tokens.Anchor name) c t m = node_behind_anchor name t.span c m
 node_at (tokens.Tag handle suffix) c t m = node_behind_tag handle suffix t.span c m
 node_at _ c t m = node_content (no_node_properties t.span.start) c t m
 
-unfoldable pub node : NodeContext → Piece → Machine → Result Told Refusal
+unfoldable pub node : NodeContext → Piece → Machine → Result Emitted Refusal
 node c t m = node_at t.kind c t m
 
 -- a node inside a collection, which goes on in the state after it
-abbrev pub node_inside : State → NodeContext → Piece → Machine → Result Told Refusal
+abbrev pub node_inside : State → NodeContext → Piece → Machine → Result Emitted Refusal
 node_inside s c t m = node c t (push s m)
 
--- ## The same of the next token
+-- ## A node that may be left out
 
-abbrev pub next_node : NodeContext → Machine → Result Told Refusal
+-- whether a node, behind which the state is expected, is left out before a token
+abbrev pub is_left_out : State → Kind → Bool
+is_left_out state.BlockSequenceEntry tokens.BlockEntry = true
+is_left_out state.BlockSequenceEntry tokens.BlockEnd = true
+is_left_out state.IndentlessSequenceEntry tokens.BlockEntry = true
+is_left_out state.IndentlessSequenceEntry tokens.Key = true
+is_left_out state.IndentlessSequenceEntry tokens.Value = true
+is_left_out state.IndentlessSequenceEntry tokens.BlockEnd = true
+is_left_out state.BlockMappingKey tokens.Key = true
+is_left_out state.BlockMappingKey tokens.Value = true
+is_left_out state.BlockMappingKey tokens.BlockEnd = true
+is_left_out state.BlockMappingValue tokens.Key = true
+is_left_out state.BlockMappingValue tokens.Value = true
+is_left_out state.BlockMappingValue tokens.BlockEnd = true
+is_left_out state.FlowSequenceEntryMappingValue tokens.Value = true
+is_left_out state.FlowSequenceEntryMappingValue tokens.FlowEntry = true
+is_left_out state.FlowSequenceEntryMappingValue tokens.FlowSequenceEnd = true
+is_left_out (state.FlowSequenceEntryMappingEnd place) tokens.FlowEntry = true
+is_left_out (state.FlowSequenceEntryMappingEnd place) tokens.FlowSequenceEnd = true
+is_left_out state.FlowMappingKey tokens.FlowEntry = true
+is_left_out state.FlowMappingKey tokens.FlowMappingEnd = true
+is_left_out state.FlowMappingValue tokens.Value = true
+is_left_out state.FlowMappingValue tokens.FlowEntry = true
+is_left_out state.FlowMappingValue tokens.FlowMappingEnd = true
+is_left_out _ _ = false
+
+-- the context of a node, behind which the state is expected
+abbrev pub context_before : State → NodeContext
+context_before state.BlockSequenceEntry = context.Block
+context_before state.IndentlessSequenceEntry = context.Block
+context_before state.BlockMappingKey = context.BlockMapping
+context_before state.BlockMappingValue = context.BlockMapping
+context_before _ = context.Flow
+
+abbrev pub node_or_nothing_at : Bool → State → Span → Piece → Machine → Result Emitted Refusal
+node_or_nothing_at true s span t m = left_out_event t s span m
+node_or_nothing_at false s span t m = node_inside s (context_before s) t m
+
+-- a node that begins with the token, or, where it is left out before the token, an empty scalar with this span
+abbrev pub node_or_nothing : State → Span → Piece → Machine → Result Emitted Refusal
+node_or_nothing s span t m = node_or_nothing_at (is_left_out s t.kind) s span t m
+
+-- ## Nodes that begin with the next token
+
+-- after the indicator of an entry or of a value, whose span a node has that is left out
+unfoldable pub node_behind : State → Span → Machine → Result Emitted Refusal
+node_behind s span m = do
+  t ← taken_token m
+  node_or_nothing s span t.0 t.1
+
+-- a node that has the span of the next token where it is left out
+unfoldable pub node_here : State → Machine → Result Emitted Refusal
+node_here s m = do
+  t ← taken_token m
+  node_or_nothing s t.0.span t.0 t.1
+
+abbrev pub next_node : NodeContext → Machine → Result Emitted Refusal
 next_node c m = do
   t ← taken_token m
   node c t.0 t.1
 
-abbrev pub next_inside : State → NodeContext → Machine → Result Told Refusal
+abbrev pub next_inside : State → NodeContext → Machine → Result Emitted Refusal
 next_inside s c m = do
   t ← taken_token m
   node_inside s c t.0 t.1

@@ -3,6 +3,7 @@ use Rattle.std.specs.Prelude.{ℕ, Bool, false, is_some, List, ◌++◌, option_
 use Rattle.std.specs.Str.{bytes_eq}
 use Rattle.std.specs.String.{string_bytes}
 use Rattle.std.specs.Cow.{cow_str_bytes}
+use Rattle.saphyr_scalar.specs.declared.scalar.style.ScalarStyle.{ScalarStyle}
 use Rattle.saphyr_machine.specs.declared.tag.Tag.{Tag}
 use Rattle.saphyr_machine.specs.declared.event.Event.{Event}
 use Rattle.saphyr_machine.specs.declared.event.Event.TheVariants as events
@@ -43,3 +44,17 @@ has_tag (events.SequenceStart id tag) = is_some tag
 has_tag events.SequenceEnd = false
 has_tag (events.MappingStart id tag) = is_some tag
 has_tag events.MappingEnd = false
+
+-- a scalar in another style, without an anchor
+abbrev pub restyled : ScalarStyle → Event → Event
+restyled style (events.Scalar text old id tag) = events.Scalar text style 0 tag
+restyled style events.Nothing = events.Nothing
+restyled style events.StreamStart = events.StreamStart
+restyled style events.StreamEnd = events.StreamEnd
+restyled style (events.DocumentStart explicit) = events.DocumentStart explicit
+restyled style events.DocumentEnd = events.DocumentEnd
+restyled style (events.Alias id) = events.Alias id
+restyled style (events.SequenceStart id tag) = events.SequenceStart id tag
+restyled style events.SequenceEnd = events.SequenceEnd
+restyled style (events.MappingStart id tag) = events.MappingStart id tag
+restyled style events.MappingEnd = events.MappingEnd

@@ -12,7 +12,7 @@ use Rattle.saphyr_machine.specs.Steps.Machine.{Machine}
 use Rattle.saphyr_machine.specs.Answer as answer
 use Rattle.saphyr_machine.specs.Answer.{Answer, Ending, empty_answer, remaining_answer}
 use Rattle.saphyr_machine.specs.Cursor.{EventCursor, IsUnmoved, Kept, Refuses, Remembers, event_of, finished_behind}
-use Rattle.saphyr_machine.specs.Calls.{Advances, AdvancesOver, EndsTheStream, Ends, FailsWith, GivesNext, HasFinished, IsShown, IsSound, LeavesEnd, Looks, Peeks, ReadsAhead, given_fault}
+use Rattle.saphyr_machine.specs.Calls.{Advances, AdvancesOver, EndsTheStream, EndsEvents, FailsWith, GivesNext, HasFinished, IsShown, IsSound, LeavesEnd, Looks, Peeks, ReadsAhead, given_fault}
 use Rattle.saphyr_machine.proofs.Unroll.{over}
 use Rattle.saphyr_machine.proofs.Calls.Handing.{goes_on, remembers}
 use Rattle.saphyr_machine.proofs.Calls.Looking.{looks_stays, shows_head}
@@ -144,7 +144,7 @@ gives_remembers (Some (Err f)) old new h =
 
 -- ## After a look
 
-no_end : (f : Ending) → Ends f empty_answer → ⊥
+no_end : (f : Ending) → EndsEvents f empty_answer → ⊥
 no_end (answer.Refused mark text) h =
     let differ : (let o : Option Ending = None in o) ≡ Some _ = ap (λ (a : Answer). a.fault) h in absurd (cc)
 no_end answer.OutOfMemory h = omega (arith, h)
@@ -165,7 +165,7 @@ ahead_sound None (Some k) m i s new (fresh, ends, left) sound =
       ahead = tt;
       finished =
           none_read s None None None (Some k) m new.machine i i s s
-          (λ done. no_end k.fault (subst (Ends k.fault) (over m done) ends)) sound.finished;
+          (λ done. no_end k.fault (subst (EndsEvents k.fault) (over m done) ends)) sound.finished;
     })
 ahead_sound None None m i s new (done, same) sound = subst IsSound (sym same) sound
 

@@ -90,7 +90,7 @@ fn write_few<W: Write>(out: &mut W, front: &[u8], text: &[u8]) -> Result<(), Unw
     write_all(out, &line[..end + 1])
 }
 
-// The same for a line of at most 64 bytes. It is filled with spaces first, so that all of a block can be looked at.
+// Writes a line of at most 64 bytes. It is filled with spaces first, so that all of a block can be looked at.
 #[inline(always)]
 fn write_short<W: Write>(out: &mut W, front: &[u8], text: &[u8]) -> Result<(), Unwritten>
     requires { length front.now + length text.now < 64 }
@@ -124,7 +124,7 @@ fn write_text<W: Write>(out: &mut W, front: &[u8], text: &[u8]) -> Result<(), Un
     }
 }
 
-// The same for a line that is long or has escapes.
+// Writes a line that is long or has escapes.
 #[inline(never)]
 fn write_pieces<W: Write>(out: &mut W, front: &[u8], text: &[u8]) -> Result<(), Unwritten>
     ensures { Takes result (W.contents out.old) (W.contents out.new)

@@ -39,32 +39,20 @@ one_moved low n s h k = counts_moved low n 1 s.mark.index s.rest h.0 h.1 k
 
 chomping_stands : (low n : ℕ) (s : Cursor) → CountsFrom low n s → CountsFrom low n (chomping s).1
 unfolding chomping
-chomping_stands low n s h = by_test (slice_index s.rest 0 == 43) _ _ (Behind (Option Chomping) low n)
-    (λ e. one_moved low n s h (shows_character s.rest (λ c. c == 43) true e (λ k. absurd (cc))))
-    (λ _. by_test (slice_index s.rest 0 == 45) _ _ (Behind (Option Chomping) low n)
-    (λ e. one_moved low n s h (shows_character s.rest (λ c. c == 45) true e (λ k. absurd (cc)))) (λ _. h))
+chomping_stands low n s h = grind arith
 
 indicator_stands : (low n : ℕ) (start : Marker) (s : Cursor) → CountsFrom low n s
     → Given (Behind ℕ low n) (indicator start s)
 unfolding indicator
-indicator_stands low n start s h = by_test (not (is_digit (slice_index s.rest 0))) _ _ (Given (Behind ℕ low n)) (λ _. h)
-    (λ e. by_test (slice_index s.rest 0 == 48) _ _ (Given (Behind ℕ low n)) (λ _. tt)
-    (λ _. one_moved low n s h (shows_character s.rest (λ c. not (is_digit c)) false e (λ k. absurd (cc)))))
+indicator_stands low n start s h = grind arith
 
 break_stands : (low n : ℕ) (s : Cursor) → CountsFrom low n s → CountsFrom low n (pass_break s)
-break_stands low n s h = by_test (next_2_are s.rest 13 10) _ _ (CountsFrom low n)
-    (λ e. counts_moved low n 2 s.mark.index s.rest h.0 h.1 (two_shown s.rest e))
-    (λ _. by_test (is_break (slice_index s.rest 0)) _ _ (CountsFrom low n)
-    (λ e. counts_moved low n 1 s.mark.index s.rest h.0 h.1 (shows_character s.rest is_break true e (λ k. absurd (cc))))
-    (λ _. h))
+break_stands low n s h = grind arith
 
 header_break_stands : (low n : ℕ) (start : Marker) (s : Cursor) → CountsFrom low n s
     → Given (CountsFrom low n) (header_break start s)
 unfolding header_break
-header_break_stands low n start s h =
-    by_test (not (is_breakz (slice_index s.rest 0))) _ _ (Given (CountsFrom low n)) (λ _. tt)
-    (λ _. by_test (slice_index (pass_break s).rest 0 == tab) _ _ (Given (CountsFrom low n)) (λ _. tt)
-    (λ _. break_stands low n s h))
+header_break_stands low n start s h = grind arith
 
 separation_stands : (low n : ℕ) (tabs : SkipTabs) (s : Cursor) → CountsFrom low n s
     → Given (Behind SkipTabs low n) (separation tabs s)
@@ -161,10 +149,7 @@ SpanStands low n x = (low ≤ x.1.start.index) × (x.1.start.index ≤ x.1.end.i
 content_stands : (low n : ℕ) (style : BlockStyle) (c : Chomping) (indent i lines : ℕ) (s : Cursor) → CountsFrom low n s
     → Given (SpanStands low n) (content style c indent i lines s)
 unfolding content chomped_lines
-content_stands low n style c indent i lines s h =
-    let read = between_stands s.mark.index n style i None lines s.blank_so_far s.mark s.rest (omega arith) h.1 in
-    by_test (nat_lt s.mark.col i && nat_le indent s.mark.col) _ _ (Given (SpanStands low n)) (λ _. tt)
-    (λ _. (h.0, read.0, refl, read.1))
+content_stands low n style c indent i lines s h = grind (arith, between_stands, by_test)
 
 leading_stands : (n : ℕ) (style : BlockStyle) (indent : ℕ) (start : Marker) (c : Chomping) (limit : Option ℕ)
     (x : EmptyLines × Cursor) → CountsFrom start.index n x.1
@@ -177,11 +162,7 @@ leading_stands n style indent start c limit x h =
 header_scalar_stands : (n : ℕ) (style : BlockStyle) (indent : ℕ) (start : Marker) (x : BlockHeader × Cursor)
     → CountsFrom start.index n x.1 → Given (SpanStands start.index n) (behind_header style indent start x)
 unfolding behind_header
-header_scalar_stands n style indent start x h =
-    let limit = given_indentation indent x.0.indicator in
-    leading_stands n style indent start x.0.chomping limit
-    (pass_empty_lines limit no_lines x.1.blank_so_far x.1.mark x.1.rest)
-    (empty_stands start.index n limit no_lines x.1.blank_so_far x.1.mark x.1.rest h.0 h.1)
+header_scalar_stands n style indent start x h = grind (arith, leading_stands, empty_stands)
 
 scalar_stands : (n : ℕ) (style : BlockStyle) (indent : ℕ) (s : Cursor) → CountsFrom s.mark.index n (pass 1 s)
     → Given (SpanStands s.mark.index n) (block_scalar style indent s)
@@ -194,7 +175,4 @@ pub block_scalar_counts : (style : BlockStyle) (indent : ℕ) (s t : Cursor) (te
     → 0 < length s.rest → block_scalar style indent s ≡ Ok (text, span, t)
     → (s.mark.index ≤ span.start.index) × (span.start.index ≤ span.end.index) × (span.end ≡ t.mark)
     × (t.mark.index + length t.rest ≡ s.mark.index + length s.rest)
-block_scalar_counts style indent s t text span some e =
-    let n = s.mark.index + length s.rest in
-    given_of (SpanStands s.mark.index n) (block_scalar style indent s) (text, span, t)
-    (scalar_stands n style indent s (one_moved s.mark.index n s (omega arith, refl) (omega arith))) e
+block_scalar_counts style indent s t text span some e = grind (arith, given_of, scalar_stands, one_moved)

@@ -175,14 +175,11 @@ cut_header st c i u z blank =
 
 pub nothing_led : (limit : Option ℕ) (u : Cursor) → is_z (slice_index u.rest 0) ≡ true
     → pass_empty_lines_at limit no_lines u ≡ (with_column no_lines u.mark.col, u)
-nothing_led limit u z =
-    let first = z_is_nul (slice_index u.rest 0) z in
-    stops limit no_lines u (ap (is_indentation limit u.mark.col) first ∙ nul_no_indentation limit u.mark.col)
-    (ap is_break first)
+nothing_led limit u z = grind (arith, z_is_nul, slice_index, stops, nul_no_indentation)
 
-told_behind : (st : BlockStyle) (c : Chomping) (i : ℕ) (u : Cursor) (x y : Read) → gave x ≡ gave y
+as_read_behind : (st : BlockStyle) (c : Chomping) (i : ℕ) (u : Cursor) (x y : Read) → gave x ≡ gave y
     → Behind st c i u x.0 x.2 → Behind st c i u y.0 y.2
-told_behind st c i u x y e b = rw (same_gift x y e) at b
+as_read_behind st c i u x y e b = rw (same_gift x y e) at b
 
 pub behind_begun : (st : BlockStyle) (indent : ℕ) (start : Marker) (c : Chomping) (i k : ℕ) (limit : Option ℕ)
     (u : Cursor) (x : EmptyLines × Cursor) (y : Read) → Led i u x.1 x.0.count
@@ -191,14 +188,14 @@ pub behind_begun : (st : BlockStyle) (indent : ℕ) (start : Marker) (c : Chompi
 unfolding behind_leading_lines content chomped_lines
 behind_begun st indent start c i k limit u x y l same =
     by_test (is_z (slice_index x.1.rest 0)) _ _ (λ r. r ≡ gave y → Behind st c i u y.0 y.2)
-    (λ h e. told_behind st c i u
+    (λ h e. as_read_behind st c i u
     (encode_utf8_all (tail_alone c x.0.count x.1), record { start = start; end = x.1.mark }, x.1)
     y e (alone_read st c i u x.1 x.0.count l h))
     (λ h. by_test (nat_lt x.1.mark.col (unwrap_or limit (max x.0.widest indent)) && nat_le indent x.1.mark.col) _ _
     (λ r. r ≡ gave y → Behind st c i u y.0 y.2) (λ _ e. refused_gave _ y e) (λ _ e.
     let n = unwrap_or limit (max x.0.widest indent) in
     let z = between_at st i None x.0.count x.1 in
-    told_behind st c i u (
+    as_read_behind st c i u (
       encode_utf8_all (z.0 ++ tail c (is_unfinished i z.2) z.1),
       record { start = x.1.mark; end = z.2.mark },
       z.2,
@@ -208,9 +205,7 @@ pub behind_cut : (st : BlockStyle) (indent : ℕ) (start : Marker) (c : Chomping
     (y : Read) → is_z (slice_index u.rest 0) ≡ true → u.blank_so_far ≡ false
     → behind_leading_lines st indent start c limit (with_column no_lines u.mark.col, u) ≡ Ok y → Behind st c i u y.0 y.2
 unfolding behind_leading_lines
-behind_cut st indent start c i limit u y z blank e =
-    told_behind st c i u (encode_utf8_all (tail_alone c 0 u), record { start = start; end = u.mark }, u) y
-    (sym (rw z refl) ∙ e) (cut_header st c i u z blank)
+behind_cut st indent start c i limit u y z blank e = grind (arith, as_read_behind, encode_utf8_all, cut_header)
 
 behind_place : (st : BlockStyle) (indent : ℕ) (start : Marker) (h : BlockHeader) (u : Cursor) (y : Read)
     → IsBehindHeaderLine u

@@ -95,11 +95,7 @@ at_cr_lf (Some limit) lines b m ds = cc (inside_same m)
 -- a break at the end of an empty line
 at_break : (limit : Option ℕ) (lines : EmptyLines) (b : Bool) (m : Marker) (xs : List ℕ)
     → is_break (slice_index xs 0) ≡ true → Taken limit lines b m xs (pass_break (line_cursor b m xs))
-at_break limit lines b m [] h = absurd (cc)
-at_break limit lines b m (c ∷ cs) h =
-    break_cases c h (λ x. Taken limit lines b m (x ∷ cs) (pass_break (line_cursor b m (x ∷ cs))))
-    (at_lf limit lines b m cs) (behind_cr m b cs (Taken limit lines b m (13 ∷ cs))
-    (λ ds e. rw e (at_cr_lf limit lines b m ds)) (at_cr limit lines b m cs))
+at_break limit lines b m u0 h = grind (arith, break_cases, at_lf, behind_cr, at_cr_lf, at_cr)
 
 pub break_taken : (limit : Option ℕ) (lines : EmptyLines) (s : Cursor) → is_break (slice_index s.rest 0) ≡ true
     → pass_empty_lines_at limit lines s ≡ pass_empty_lines_at limit (with_empty_line lines s.mark.col) (pass_break s)
@@ -109,22 +105,14 @@ break_taken limit lines s h = at_break limit lines s.blank_so_far s.mark s.rest 
 pub break_turn : (limit : Option ℕ) (lines : EmptyLines) (s here t : Cursor) (c w : ℕ) → here ≡ s
     → c ≡ slice_index s.rest 0 → is_break c ≡ true → w ≡ max lines.widest here.mark.col → t ≡ pass_break here
     → pass_empty_lines_at limit (record { count = lines.count + 1; widest = w }) t ≡ pass_empty_lines_at limit lines s
-break_turn limit lines s here t c w same read h e passed =
-    rw (e, passed) (sym (break_taken limit lines here (ap (λ (x : Cursor). is_break (slice_index x.rest 0)) same
-    ∙ sym (ap is_break read) ∙ h))) ∙ ap (pass_empty_lines_at limit lines) same
+break_turn limit lines s here t c w same read h e passed = grind (arith, break_taken, slice_index)
 
 pub end_turn : (limit : Option ℕ) (lines : EmptyLines) (s here : Cursor) (c w : ℕ) → here ≡ s → c ≡ slice_index s.rest 0
     → is_break c ≡ false → is_indentation limit here.mark.col c ≡ false
     → w ≡ max lines.widest here.mark.col
     → ◌≡◌ {A = EmptyLines × Cursor} (record { count = lines.count; widest = w }, here)
     (pass_empty_lines_at limit lines s)
-end_turn limit lines s here c w same read h k e =
-    let second : is_indentation limit here.mark.col (slice_index here.rest 0) ≡ false =
-    ap (λ (x : Cursor). is_indentation limit here.mark.col (slice_index x.rest 0)) same
-    ∙ sym (ap (is_indentation limit here.mark.col) read) ∙ k in
-    let stop = stops limit lines here second (ap (λ (x : Cursor). is_break (slice_index x.rest 0)) same
-    ∙ sym (ap is_break read) ∙ h) in
-    rw e (sym stop ∙ ap (pass_empty_lines_at limit lines) same)
+end_turn limit lines s here c w same read h k e = grind (arith, slice_index, stops)
 
 pub break_index : (s here t : Cursor) (c n : ℕ) → here ≡ s → c ≡ slice_index s.rest 0 → is_break c ≡ true
     → t ≡ pass_break here → n ≤ s.mark.index → n + 1 ≤ t.mark.index

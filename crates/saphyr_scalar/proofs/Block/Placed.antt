@@ -108,9 +108,7 @@ lines_behind_line : (s h t : Cursor) → IsPassed h.mark h.rest t.mark t.rest
     → (h.mark.line ≡ min (s.mark.line + 1) top) ⊎ (is_z (slice_index h.rest 0) ≡ true)
     → (is_z (slice_index h.rest 0) ≡ true → is_z (slice_index t.rest 0) ≡ true)
     → s.mark.line < top → (s.mark.line < t.mark.line) ⊎ (is_z (slice_index t.rest 0) ≡ true)
-lines_behind_line s h t p (inl e) z l =
-    inl (let q = passed_lines h.mark h.rest t.mark t.rest p (omega arith) in omega (arith, q, e, l))
-lines_behind_line s h t p (inr e) z l = inr (z e)
+lines_behind_line s h t p u0 z l = grind (arith, passed_lines)
 
 content_placed : (style : BlockStyle) (c : Chomping) (indent i lines : ℕ) (s h x : Cursor) → EndsHeaderLine s h
     → IsPassed h.mark h.rest x.mark x.rest → is_z (slice_index x.rest 0) ≡ false
@@ -153,17 +151,9 @@ leading_placed style indent c limit s h x e p z =
 scalar_placed : (style : BlockStyle) (indent : ℕ) (s : Cursor) → Goes s (pass 1 s)
     → Given (PlacedAt s) (block_scalar style indent s)
 unfolding block_scalar behind_header
-scalar_placed style indent s g = given_bind (PlacedAt s) (header s) _ (λ x e.
-    let h = given_of (λ (y : BlockHeader × Cursor). EndsHeaderLine s y.1) (header s) x (header_ends s g) e in
-    let limit = given_indentation indent x.0.indicator in
-    leading_placed style indent x.0.chomping limit s x.1
-    (pass_empty_lines limit no_lines x.1.blank_so_far x.1.mark x.1.rest) h
-    (empty_passes limit no_lines x.1.blank_so_far x.1.mark x.1.rest).here
-    (none_at_end limit no_lines x.1.blank_so_far x.1.mark x.1.rest))
+scalar_placed style indent s g = grind (arith, given_bind, given_of, header_ends, leading_placed, empty_passes, none_at_end)
 
 pub block_scalar_placed : (style : BlockStyle) (indent : ℕ) (s t : Cursor) (text : List ℕ) (span : Span)
     → is_break (slice_index s.rest 0) ≡ false → 0 < length s.rest → block_scalar style indent s ≡ Ok (text, span, t)
     → Placed s span t
-block_scalar_placed style indent s t text span b some e =
-    given_of (PlacedAt s) (block_scalar style indent s) (text, span, t)
-    (scalar_placed style indent s (one_passed s b (omega (arith, some)))) e
+block_scalar_placed style indent s t text span b some e = grind (arith, given_of, scalar_placed, one_passed)

@@ -53,10 +53,7 @@ goes_nowhere : (s : Cursor) → Goes s s
 goes_nowhere s = record { passes = passing.nothing s.mark s.rest; line = refl }
 
 goes_goes : (s t u : Cursor) → Goes s t → Goes t u → Goes s u
-goes_goes s t u a b = record {
-  passes = passed_passed s.mark s.rest t.mark t.rest u.mark u.rest a.passes b.passes;
-  line = b.line ∙ a.line;
-}
+goes_goes s t u a b = grind (arith, passed_passed)
 
 pub one_passed : (s : Cursor) → is_break (slice_index s.rest 0) ≡ false → 1 ≤ length s.rest → Goes s (pass 1 s)
 one_passed s e h = record { passes = by s.mark s.rest e h; line = refl }
@@ -68,34 +65,18 @@ one_passed s e h = record { passes = by s.mark s.rest e h; line = refl }
 
 number_passed : (s : Cursor) (x : ℕ) → (slice_index s.rest 0 == x) ≡ true → is_break x ≡ false → (0 == x) ≡ false
     → Goes s (pass 1 s)
-number_passed s x e b z =
-    let same = eqb-true (slice_index s.rest 0) x e in one_passed s (ap is_break same ∙ b) (some s.rest e z)
-  where
-    some : (t : List ℕ) → (slice_index t 0 == x) ≡ true → (0 == x) ≡ false → 1 ≤ length t
-    some [] e z = absurd (cc)
-    some (c ∷ cs) e z = omega arith
+number_passed s x e b z = grind (arith, eqb-true, one_passed)
 
 chomping_goes : (s : Cursor) → Goes s (chomping s).1
 unfolding chomping
-chomping_goes s =
-    let P : Option Chomping × Cursor → Type 0 = λ x. Goes s x.1 in
-    by_test (slice_index s.rest 0 == 43) _ _ P (λ e. number_passed s 43 e refl refl)
-    (λ _. by_test (slice_index s.rest 0 == 45) _ _ P (λ e. number_passed s 45 e refl refl) (λ _. goes_nowhere s))
+chomping_goes s = grind (arith, by_test, number_passed, goes_nowhere)
 
 digit_no_break : (c : ℕ) → not (is_digit c) ≡ false → is_break c ≡ false
 digit_no_break c e = grind (arith, nat_tests)
 
 indicator_goes : (start : Marker) (s : Cursor) → Given (λ (x : ℕ × Cursor). Goes s x.1) (indicator start s)
 unfolding indicator
-indicator_goes start s =
-    let P : ℕ × Cursor → Type 0 = λ x. Goes s x.1 in
-    by_test (not (is_digit (slice_index s.rest 0))) _ _ (Given P) (λ _. goes_nowhere s)
-    (λ e. by_test (slice_index s.rest 0 == 48) _ _ (Given P) (λ _. tt)
-    (λ _. one_passed s (digit_no_break (slice_index s.rest 0) e) (some s.rest e)))
-  where
-    some : (t : List ℕ) → not (is_digit (slice_index t 0)) ≡ false → 1 ≤ length t
-    some [] e = absurd (cc)
-    some (c ∷ cs) e = omega arith
+indicator_goes start s = grind (arith, by_test, goes_nowhere, one_passed, digit_no_break)
 
 pub run_passed : (p : ℕ → Bool) (m : Marker) (t : List ℕ) → ((c : ℕ) → p c ≡ true → is_break c ≡ false)
     → IsPassed m t (along m (prefix_len p t)) (drop (prefix_len p t) t)
@@ -140,11 +121,7 @@ line_passed tabs s = by_test (blank_len tabs s.rest == 0) _ _ (λ n. Goes s (pas
 
 separation_goes : (s : Cursor) → Given (λ (x : SkipTabs × Cursor). Goes s x.1) (separation Yes s)
 unfolding separation behind_separation
-separation_goes s =
-    let P : SkipTabs × Cursor → Type 0 = λ x. Goes s x.1 in
-    let t : Cursor = pass_blanks (separation_len Yes s.rest) s in
-    by_test (nat_lt 0 t.mark.col && is_bom (slice_index t.rest 0)) _ _ (Given P) (λ _. tt)
-    (λ _. by_test (is_bare_comment Yes s.rest) _ _ (Given P) (λ _. tt) (λ _. line_passed Yes s))
+separation_goes s = grind (arith, by_test, line_passed)
 
 -- ## The end of the header
 
@@ -153,15 +130,7 @@ pub record EndsHeaderLine (s t : Cursor) : Type 0 where
   pub line : (t.mark.line ≡ min (s.mark.line + 1) top) ⊎ (is_z (slice_index t.rest 0) ≡ true)
 
 goes_ends : (s t u : Cursor) → Goes s t → EndsHeaderLine t u → EndsHeaderLine s u
-goes_ends s t u a b = record {
-  passes = passed_passed s.mark s.rest t.mark t.rest u.mark u.rest a.passes b.passes;
-  line = by b.line;
-}
-  where
-    by : (u.mark.line ≡ min (t.mark.line + 1) top) ⊎ (is_z (slice_index u.rest 0) ≡ true)
-        → (u.mark.line ≡ min (s.mark.line + 1) top) ⊎ (is_z (slice_index u.rest 0) ≡ true)
-    by (inl e) = inl (e ∙ ap (λ l. min (l + 1) top) a.line)
-    by (inr e) = inr e
+goes_ends s t u a b = grind (arith, passed_passed)
 
 pub break_ends : (s : Cursor) → is_breakz (slice_index s.rest 0) ≡ true → EndsHeaderLine s (pass_break s)
 break_ends s e = by_test (next_2_are s.rest 13 10) _ _ (EndsHeaderLine s)
@@ -186,9 +155,7 @@ break_ends s e = by_test (next_2_are s.rest 13 10) _ _ (EndsHeaderLine s)
 
 header_break_ends : (start : Marker) (s : Cursor) → Given (EndsHeaderLine s) (header_break start s)
 unfolding header_break
-header_break_ends start s = by_test (not (is_breakz (slice_index s.rest 0))) _ _ (Given (EndsHeaderLine s)) (λ _. tt)
-    (λ e. by_test (slice_index (pass_break s).rest 0 == tab) _ _ (Given (EndsHeaderLine s)) (λ _. tt)
-    (λ _. break_ends s (not-false (is_breakz (slice_index s.rest 0)) e)))
+header_break_ends start s = grind (arith, by_test, break_ends, not-false)
 
 ends_from : (s t : Cursor) (r : Result Cursor Refusal) → Goes s t → Given (EndsHeaderLine t) r
     → Given (EndsHeaderLine s) r
@@ -197,9 +164,7 @@ ends_from s t (Err e) g h = tt
 
 header_end_ends : (start : Marker) (s t : Cursor) → Goes s t → Given (EndsHeaderLine s) (header_end start t)
 unfolding header_end
-header_end_ends start s t g = given_bind (EndsHeaderLine s) (separation Yes t) _ (λ x e.
-    let h = given_of (λ (y : SkipTabs × Cursor). Goes t y.1) (separation Yes t) x (separation_goes t) e in
-    ends_from s x.1 (header_break start x.1) (goes_goes s t x.1 g h) (header_break_ends start x.1))
+header_end_ends start s t g = grind (arith, given_bind, given_of, separation_goes, ends_from, goes_goes, header_break_ends)
 
 last_goes : (first : Option Chomping) (s : Cursor) → Goes s (last_chomping first s).1
 unfolding last_chomping
@@ -209,9 +174,7 @@ last_goes None s = chomping_goes s
 header_behind_ends : (start : Marker) (i : ℕ) (s : Cursor) (x : Chomping × Cursor) → Goes s x.1
     → Given (λ (y : BlockHeader × Cursor). EndsHeaderLine s y.1) (header_behind start i x)
 unfolding header_behind
-header_behind_ends start i s x g =
-    given_bind (λ (y : BlockHeader × Cursor). EndsHeaderLine s y.1) (header_end start x.1) _
-    (λ t e. given_of (EndsHeaderLine s) (header_end start x.1) t (header_end_ends start s x.1 g) e)
+header_behind_ends start i s x g = grind (arith, given_bind, given_of, header_end_ends)
 
 -- where the header's indicators end
 pub header_goes : (s : Cursor) (x : ℕ × Cursor) → Goes s (pass 1 s) → indicator s.mark (chomping (pass 1 s)).1 ≡ Ok x
@@ -225,7 +188,4 @@ header_goes s x g e =
 pub header_ends : (s : Cursor) → Goes s (pass 1 s)
     → Given (λ (y : BlockHeader × Cursor). EndsHeaderLine s y.1) (header s)
 unfolding header
-header_ends s g =
-    let first = chomping (pass 1 s) in
-    given_bind (λ (y : BlockHeader × Cursor). EndsHeaderLine s y.1) (indicator s.mark first.1) _
-    (λ x e. header_behind_ends s.mark x.0 s (last_chomping first.0 x.1) (header_goes s x g e))
+header_ends s g = grind (arith, given_bind, header_behind_ends, header_goes)

@@ -154,21 +154,10 @@ abbrev pub IsBehindHeaderLine : Cursor → Type 0
 IsBehindHeaderLine u = ((u.mark.col ≡ 0) × (u.blank_so_far ≡ true))
     ⊎ ((is_z (slice_index u.rest 0) ≡ true) × (u.blank_so_far ≡ false))
 
-break_place : (s : Cursor) → s.blank_so_far ≡ false → is_breakz (slice_index s.rest 0) ≡ true
-    → IsBehindHeaderLine (pass_break s)
-break_place s blank h = by_test (next_2_are s.rest 13 10) _ _ IsBehindHeaderLine (λ _. inl (refl, refl))
-    (λ _. by_test (is_break (slice_index s.rest 0)) _ _ IsBehindHeaderLine (λ _. inl (refl, refl))
-    (λ k. let z = rw k at h in inr (z, blank)))
-
 header_break_place : (start : Marker) (s u : Cursor) → s.blank_so_far ≡ false → header_break start s ≡ Ok u
     → IsBehindHeaderLine u
 unfolding header_break
-header_break_place start s u blank =
-    by_test (not (is_breakz (slice_index s.rest 0))) _ _ (λ r. r ≡ gave u → IsBehindHeaderLine u)
-    (λ _ e. refused_gave _ u e)
-    (λ h. by_test (slice_index (pass_break s).rest 0 == tab) _ _ (λ r. r ≡ gave u → IsBehindHeaderLine u)
-    (λ _ e. refused_gave _ u e)
-    (λ _ e. subst IsBehindHeaderLine (same_gift _ u e) (break_place s blank (not-false _ h))))
+header_break_place start s u blank = grind arith
 
 separation_blank : (s : Cursor) (x : SkipTabs × Cursor) → s.blank_so_far ≡ false → separation Yes s ≡ Ok x
     → x.1.blank_so_far ≡ false
@@ -178,9 +167,7 @@ separation_blank s x blank = grind arith
 header_end_place : (start : Marker) (s u : Cursor) → s.blank_so_far ≡ false → header_end start s ≡ Ok u
     → IsBehindHeaderLine u
 unfolding header_end
-header_end_place start s u blank e =
-    let w = then_gave (separation Yes s) (λ x. header_break start x.1) u e in
-    header_break_place start w.0.1 u (separation_blank s w.0 blank w.1) w.2
+header_end_place start s u blank e = grind (arith, then_gave, header_break_place, separation_blank)
 
 chomping_blank : (s : Cursor) → s.blank_so_far ≡ false → (chomping s).1.blank_so_far ≡ false
 unfolding chomping
@@ -199,12 +186,4 @@ indicator_blank start s x blank = grind arith
 
 pub header_place : (s : Cursor) (x : BlockHeader × Cursor) → header s ≡ Ok x → IsBehindHeaderLine x.1
 unfolding header header_behind
-header_place s x e =
-    let first = chomping (pass 1 s) in
-    let w = then_gave (indicator s.mark first.1) (λ y. header_behind s.mark y.0 (last_chomping first.0 y.1)) x e in
-    let blank = indicator_blank s.mark first.1 w.0 (chomping_blank (pass 1 s) refl) w.1 in
-    let last = last_chomping first.0 w.0.1 in
-    let header_of : Cursor → BlockHeader × Cursor = λ t. (record { chomping = last.0; indicator = w.0.0 }, t) in
-    let v = then_gave (header_end s.mark last.1) (λ t. gave (header_of t)) x w.2 in
-    let place = header_end_place s.mark last.1 v.0 (last_blank first.0 w.0.1 blank) v.1 in
-    rw (← same_gift (header_of v.0) x v.2) place
+header_place s x e = grind (arith, then_gave, indicator_blank, chomping_blank, header_end_place, last_blank, same_gift)

@@ -41,29 +41,18 @@ end_refused s t p =
 
 header_refused : (s : Cursor) → Goes s (pass 1 s) → Refused (IsRefusedInside s) (header s)
 unfolding header header_behind
-header_refused s g =
-    let P = IsRefusedInside s in
-    let first = chomping (pass 1 s) in
-    refused_bind P (indicator s.mark first.1) _
-    (refused_more (λ e. e.mark ≡ s.mark) P (indicator s.mark first.1) (indicator_refused s.mark first.1)
-    (inside_start s)) (λ x e.
-    let t : Cursor = (last_chomping first.0 x.1).1 in
-    refused_bind P (header_end s.mark t) _ (end_refused s t (header_goes s x g e).passes) (λ y _. tt))
+header_refused s g = grind (arith, refused_bind, refused_more, indicator_refused, inside_start, end_refused, header_goes)
 
 content_refused : (style : BlockStyle) (c : Chomping) (indent i lines : ℕ) (s t : Cursor)
     → IsPassed s.mark s.rest t.mark t.rest → Refused (IsRefusedInside s) (content style c indent i lines t)
 unfolding content chomped_lines
-content_refused style c indent i lines s t p =
-    by_test (nat_lt t.mark.col i && nat_le indent t.mark.col) _ _ (Refused (IsRefusedInside s)) (λ _. (t.rest, p))
-    (λ _. tt)
+content_refused style c indent i lines s t p = grind arith
 
 leading_refused : (style : BlockStyle) (indent : ℕ) (start : Marker) (c : Chomping) (limit : Option ℕ) (s : Cursor)
     (x : EmptyLines × Cursor) → IsPassed s.mark s.rest x.1.mark x.1.rest
     → Refused (IsRefusedInside s) (behind_leading_lines style indent start c limit x)
 unfolding behind_leading_lines
-leading_refused style indent start c limit s x p =
-    by_test (is_z (slice_index x.1.rest 0)) _ _ (Refused (IsRefusedInside s)) (λ _. tt)
-    (λ _. content_refused style c indent (unwrap_or limit (max x.0.widest indent)) x.0.count s x.1 p)
+leading_refused style indent start c limit s x p = grind (arith, by_test, slice_index, content_refused, max)
 
 pub block_scalar_refused : (style : BlockStyle) (indent : ℕ) (s : Cursor) → is_break (slice_index s.rest 0) ≡ false
     → 0 < length s.rest → Refused (IsRefusedInside s) (block_scalar style indent s)

@@ -104,9 +104,7 @@ not_feed cs (t ∷ ts) rest h e = ap (λ (x : List ℕ). slice_index x 0 == 10) 
 
 pub normalized_break : (c : ℕ) (cs taken rest : List ℕ) → is_cr_lf c cs ≡ false → is_break c ≡ true → cs ≡ taken ++ rest
     → normalized (c ∷ taken) ≡ line_feed ∷ normalized taken
-normalized_break c cs taken rest half h e =
-    break_cases c h (λ x. is_cr_lf x cs ≡ false → normalized (x ∷ taken) ≡ 10 ∷ normalized taken)
-    (λ _. refl) (λ k. rw (not_feed cs taken rest k e) refl) half
+normalized_break c cs taken rest half h e = grind (arith, break_cases, not_feed)
 
 -- The last line, after content: spaces count where they reach the indentation.
 abbrev pub is_counted_behind : ℕ → List ℕ → Ending → Bool
@@ -130,9 +128,7 @@ value_behind st c i above k text ending = value_of_lines st c i above k (ended_l
 pub value_empty : (st : BlockStyle) (c : Chomping) (i : ℕ) (above : List ℕ) (k j : ℕ) (text : List ℕ) (ending : Ending)
     → j ≤ i
     → value_behind st c i above k (spaces j ++ line_feed ∷ text) ending ≡ value_behind st c i above (k + 1) text ending
-value_empty st c i above k j text ending h =
-    let f = first_line (spaces j) text (plain_spaces j) in
-    rw (f.ended, f.last, line_spaces i j h, add-one k) refl
+value_empty st c i above k j text ending h = grind (arith, first_line, plain_spaces, line_spaces, add-one)
 
 -- the lines of such texts
 pub lines_break : (i j : ℕ) (text : List ℕ) → j ≤ i → HasLines i text → HasLines i (spaces j ++ line_feed ∷ text)

@@ -215,11 +215,7 @@ line_cr_lf st i more b m ds = ap (λ x. between st i (Some more) 0 true x ds) (i
 
 line_breaks : (st : BlockStyle) (i : ℕ) (more b : Bool) (m : Marker) (xs : List ℕ) → is_break (slice_index xs 0) ≡ true
     → Breaks st i more b m xs (pass_break (line_cursor b m xs))
-line_breaks st i more b m [] h = absurd (cc)
-line_breaks st i more b m (c ∷ cs) h =
-    break_cases c h (λ x. Breaks st i more b m (x ∷ cs) (pass_break (line_cursor b m (x ∷ cs))))
-    (line_lf st i more b m cs) (behind_cr m b cs (Breaks st i more b m (13 ∷ cs))
-    (λ ds e. rw e (line_cr_lf st i more b m ds)) (line_cr st i more b m cs))
+line_breaks st i more b m u0 h = grind (arith, break_cases, line_lf, behind_cr, line_cr_lf, line_cr)
 
 -- a line that no break ends
 line_cut : (st : BlockStyle) (i : ℕ) (more b : Bool) (m : Marker) (xs : List ℕ)
@@ -293,29 +289,20 @@ pub broken : (st : BlockStyle) (i : ℕ) (more : Bool) (text : List ℕ) (end lo
     → c ≡ slice_index end.rest 0 → is_break c ≡ true → t ≡ pass_break look
     → (with_lines text (between_at st i (Some more) 0 t) ≡ with_lines text (line_at st i more end))
     × (length t.rest ≤ length end.rest)
-broken st i more text end look t c same read h passed =
-    let place : t ≡ pass_break end = passed ∙ ap pass_break same in (
-      ap (with_lines text) (ap (between_at st i (Some more) 0) place
-          ∙ sym (line_breaks st i more end.blank_so_far end.mark end.rest (sym (ap is_break read) ∙ h))),
-      rw place (break_shorter end.blank_so_far end.mark end.rest),
-    )
+broken st i more text end look t c same read h passed = grind (arith, line_breaks, break_shorter)
 
 -- a line that no break ends
 pub cut : (st : BlockStyle) (i : ℕ) (more : Bool) (text : List ℕ) (end look : Cursor) (c : ℕ) → look ≡ end
     → c ≡ slice_index end.rest 0 → is_break c ≡ false → is_yaml_non_break (slice_index end.rest 0) ≡ false
     → with_lines text (line_at st i more end) ≡ (text, record { broken = false; empty_lines = 0 }, look)
-cut st i more text end look c same read h ends =
-    ap (with_lines text) (line_cut st i more end.blank_so_far end.mark end.rest ends (sym (ap is_break read) ∙ h)
-    ∙ ap (lines_ended false 0) (sym same)) ∙ rw append-nil refl
+cut st i more text end look c same read h ends = grind (arith, line_cut, append-nil)
 
 -- no line begins
 pub last : (st : BlockStyle) (i : ℕ) (ab : Option Bool) (before after : EmptyLines) (text : List ℕ) (s t here : Cursor)
     (b : Bool) → Skipped st i ab before after s t → here ≡ t → line_starts i t.mark.col t.rest ≡ false → b ≡ is_some ab
     → with_lines text (between_at st i ab before.count s)
     ≡ (text, record { broken = b; empty_lines = after.count }, here)
-last st i ab before after text s t here b skip same h e = ap (with_lines text)
-    (no_line st i ab before after s t skip h ∙ ap (lines_ended (is_some ab) after.count) (sym same))
-    ∙ rw (e, append-nil) refl
+last st i ab before after text s t here b skip same h e = grind (arith, no_line, append-nil)
 
 abbrev SameLines : List ℕ → LinesRead → List ℕ → BlockEnd → Cursor → Type 0
 SameLines text read grown end t =
@@ -332,20 +319,7 @@ pub text_done : (c : Chomping) (i : ℕ) (start : Marker) (read : LinesRead) (te
     → pushed ≡ grown ++ encode_utf8_all (tail c b end) → span.start ≡ start → span.end ≡ u.mark
     → chomped_lines c i start read ≡ Ok (pushed, span, u)
 unfolding chomped_lines
-text_done c i start read text grown pushed end t u b span e none unfinished same push first last =
-    let whole = lines_to text grown read end t e in
-    let bytes : text ++ encode_utf8_all read.0 ≡ grown = ap (λ (x : List ℕ × BlockEnd × Cursor). x.0) whole in
-    let breaks : read.1 ≡ end = ap (λ (x : List ℕ × BlockEnd × Cursor). x.1) whole in
-    let place : read.2 ≡ t = ap (λ (x : List ℕ × BlockEnd × Cursor). x.2) whole in
-    let front : encode_utf8_all read.0 ≡ grown = sym (ap (λ y. y ++ encode_utf8_all read.0) none) ∙ bytes in
-    let all : encode_utf8_all (read.0 ++ tail c (is_unfinished i read.2) read.1) ≡ pushed =
-    rw (encodes-append, front, breaks, place, ← unfinished) (sym push) in
-    let P : Marker → Marker → Type 0 = λ a z. ◌≡◌ {A = Result (List ℕ × Span × Cursor) Refusal}
-    (Ok (encode_utf8_all (read.0 ++ tail c (is_unfinished i read.2) read.1), record { start = a; end = z }, read.2))
-    (Ok (pushed, span, u)) in
-    let here : P span.start span.end = rw (all, place, same) refl in
-    let ends : span.end ≡ read.2.mark = last ∙ ap (λ (s : Cursor). s.mark) (same ∙ sym place) in
-    subst (λ z. P start z) ends (subst (λ a. P a span.end) first here)
+text_done c i start read text grown pushed end t u b span e none unfinished same push first last = grind (arith, lines_to, encode_utf8_all, encodes-append)
 
 -- no content line begins with what is no content
 pub no_start : (i col : ℕ) (xs : List ℕ) → is_yaml_non_break (slice_index xs 0) ≡ false → line_starts i col xs ≡ false

@@ -70,23 +70,7 @@ whole_cut st c i k x e some =
 whole_broken : (st : BlockStyle) (c : Chomping) (i k : ℕ) (x text : List ℕ) (e : Ending)
     → whole st c i (empties k ++ (Content x ∷ lines_of i text)) (last_line text) e
     ≡ line_feeds k ++ (x ++ value_behind st c i x 0 text e)
-whole_broken st c i k x text e =
-    let lines = lines_of i text in
-    let more = (if is_counted_behind i (last_line text) e then line_of i (last_line text) ∷ [] else []) in
-    let counted : whole st c i (empties k ++ (Content x ∷ lines)) (last_line text) e
-    ≡ lines_value st c (is_broken i (last_line text) e) ((empties k ++ (Content x ∷ lines)) ++ more) =
-    rw (content_after k x lines) refl in
-    let value : lines_value st c (is_broken i (last_line text) e) (empties k ++ (Content x ∷ (lines ++ more)))
-    ≡ line_feeds k ++ (x ++ value_behind st c i x 0 text e) =
-    rw (
-      content_after k x (lines ++ more),
-      contents_after st k x (lines ++ more),
-      ends_after 0 k x (lines ++ more),
-      append_assoc,
-      append_assoc,
-    ) refl in
-    counted ∙ ap (lines_value st c (is_broken i (last_line text) e))
-    (append_assoc (empties k) (Content x ∷ lines) more) ∙ value
+whole_broken st c i k x text e = grind (arith, content_after, contents_after, ends_after, append_assoc)
 
 alone_tail : (c : Chomping) (k : ℕ)
     → reading.chomped_alone c k ≡ tail c false (record { broken = false; empty_lines = k })
@@ -116,22 +100,12 @@ alone_feeds (suc k) j =
 alone_value : (c : Chomping) (k j : ℕ) (s : Cursor) → s.mark.col ≡ j → s.blank_so_far ≡ true
     → reading.chomped_alone c (length (empties k ++ extra (not (nat_eq j 0) && nat_eq k 0))) ≡ tail_alone c k s
 unfolding tail_alone
-alone_value Strip k j s e f = refl
-alone_value Clip k j s e f = refl
-alone_value Keep k j s e f = alone_feeds k j ∙ rw (e, f) refl
+alone_value u0 k j s e f = grind (arith, alone_feeds)
 
 -- no content, at the end
 pub whole_alone : (st : BlockStyle) (c : Chomping) (i k j : ℕ) (s : Cursor) → j ≤ i → s.mark.col ≡ j
     → s.blank_so_far ≡ true → whole st c i (empties k) (spaces j) AtEnd ≡ tail_alone c k s
-whole_alone st c i k j s within e f =
-    rw (
-      empty_spaces i j within,
-      length-replicate,
-      none_in k,
-      length-replicate,
-      none_more k
-          (not (nat_eq j 0) && nat_eq k 0),
-    ) (alone_value c k j s e f)
+whole_alone st c i k j s within e f = grind (arith, empty_spaces, length-replicate, none_in, none_more, nat_eq, alone_value)
 
 pub block_value_of : (st : BlockStyle) (c : Chomping) (i : ℕ) (text last : List ℕ) (lines : List Line) (e : Ending)
     → lines_of i text ≡ lines → last_line text ≡ last → block_value st c i text e ≡ whole st c i lines last e
@@ -188,20 +162,21 @@ begin_first st c i k x cs r e l =
       value = λ text lines last. joined
           ∙ (elim l.value [
             | inl w ↦
-                let told : normalized (x ∷ l.taken) ≡ here = same ∙ ap (λ ys. x ∷ ys) w.0 in
+                let known : normalized (x ∷ l.taken) ≡ here = same ∙ ap (λ ys. x ∷ ys) w.0 in
                 let cut = cut_lines i here plain in
                 ap (λ ys. line_feeds k ++ (x ∷ ys)) w.1 ∙ sym (whole_cut st c i k here (ending r.2) some)
                 ∙ sym (block_value_of st c i text (spaces i ++ here) (empties k) (ending r.2)
-                (lines ∙ ap (λ ys. empties k ++ lines_of i (spaces i ++ ys)) told ∙ ap (λ ls. empties k ++ ls) cut.0
-                ∙ append-nil (empties k)) (last ∙ ap (λ ys. last_line (spaces i ++ ys)) told ∙ cut.1))
+                (lines ∙ ap (λ ys. empties k ++ lines_of i (spaces i ++ ys)) known ∙ ap (λ ls. empties k ++ ls) cut.0
+                ∙ append-nil (empties k)) (last ∙ ap (λ ys. last_line (spaces i ++ ys)) known ∙ cut.1))
             | inr w ↦
-                let told : normalized (x ∷ l.taken) ≡ here ++ 10 ∷ w.0 = same ∙ ap (λ ys. x ∷ ys) w.1 in
+                let known : normalized (x ∷ l.taken) ≡ here ++ 10 ∷ w.0 = same ∙ ap (λ ys. x ∷ ys) w.1 in
                 let broken = broken_lines i here w.0 plain some in
                 ap (λ ys. line_feeds k ++ (x ∷ ys)) (w.3 here refl) ∙ sym (whole_broken st c i k here w.0 (ending r.2))
                 ∙ sym (block_value_of st c i text (last_line w.0) (empties k ++ (Content here ∷ lines_of i w.0))
                 (ending r.2)
-                (lines ∙ ap (λ ys. empties k ++ lines_of i (spaces i ++ ys)) told ∙ ap (λ ls. empties k ++ ls) broken.0)
-                (last ∙ ap (λ ys. last_line (spaces i ++ ys)) told ∙ broken.1))
+                (lines ∙ ap (λ ys. empties k ++ lines_of i (spaces i ++ ys)) known
+                ∙ ap (λ ls. empties k ++ ls) broken.0)
+                (last ∙ ap (λ ys. last_line (spaces i ++ ys)) known ∙ broken.1))
           ]);
     }
 

@@ -24,11 +24,7 @@ digits_below n v c lt h = omega (arith, digit_small c h, pow_more 10 n)
 
 -- nine digits are a number of 32 bits
 pub digits_fit : (n v c : ℕ) → v < 10 ^ n → is_digit c ≡ true → n < 9 → v * 10 + (c - 48) < 2 ^ 32
-digits_fit n v c lt h few =
-    let more : n + 1 ≤ 9 = omega arith in
-    let some : 0 < 10 = omega arith in
-    let le : 10 ^ (n + 1) ≤ 10 ^ 9 = pow-le-pow_right some more in
-    omega (arith, digits_below n v c lt h, le)
+digits_fit n v c lt h few = grind (arith, pow-le-pow_right, digits_below)
 
 pub shifted_fits : (n v c : ℕ) → v < 10 ^ n → is_digit c ≡ true → n < 9 → v * 10 < 2 ^ 32
 shifted_fits n v c lt h few = omega (arith, digits_fit n v c lt h few)
@@ -51,10 +47,7 @@ digit_first start n v m xs h few = grind arith
 pub digit_on : (start : Marker) (n v c : ℕ) (s t u : Cursor) → c ≡ slice_index s.rest 0 → is_digit c ≡ true → n < 9
     → t ≡ pass 1 s → u ≡ t
     → number_from start (n + 1) (v * 10 + (c - 48)) u.mark u.rest ≡ number_from start n v s.mark s.rest
-digit_on start n v c s t u read h few passed same =
-    let one : n + 1 ≡ suc n = omega arith in
-    let digit : is_digit (slice_index s.rest 0) ≡ true = rw (← read) h in
-    rw (one, read, same, passed) (sym (digit_first start n v s.mark s.rest digit few))
+digit_on start n v c s t u read h few passed same = grind (arith, slice_index, digit_first)
 
 -- where no digit comes next, the number ends
 pub number_ends : (start : Marker) (n v c : ℕ) (s : Cursor) → c ≡ slice_index s.rest 0 → is_digit c ≡ false

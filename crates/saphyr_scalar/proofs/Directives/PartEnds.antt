@@ -21,16 +21,10 @@ same_as : (c n : ℕ) → nat_eq c n ≡ true → EndsPart n → EndsPart c
 same_as c n h is = let e : n ≡ c = grind (arith, nat_tests) in subst EndsPart e is
 
 ends_blank : (c : ℕ) → is_blank c ≡ true → EndsPart c
-ends_blank c h = either (nat_eq c 32) (nat_eq c 9) (EndsPart c) h
-    (λ e. same_as c 32 e (record { no_uri = refl; no_digit = refl; no_name = refl }))
-    (λ e. same_as c 9 e (record { no_uri = refl; no_digit = refl; no_name = refl }))
+ends_blank c h = grind (arith, either, nat_eq, same_as)
 
 ends_breakz : (c : ℕ) → is_breakz c ≡ true → EndsPart c
-ends_breakz c h = either (is_break c) (is_z c) (EndsPart c) h
-    (λ b. either (nat_eq c 10) (nat_eq c 13) (EndsPart c) b
-    (λ e. same_as c 10 e (record { no_uri = refl; no_digit = refl; no_name = refl }))
-    (λ e. same_as c 13 e (record { no_uri = refl; no_digit = refl; no_name = refl })))
-    (λ e. same_as c 0 e (record { no_uri = refl; no_digit = refl; no_name = refl }))
+ends_breakz c h = grind (arith, either, nat_eq, same_as)
 
 pub ends_at : (c : ℕ) → is_blank_or_breakz c ≡ true → EndsPart c
 ends_at c h = either (is_blank c) (is_breakz c) (EndsPart c) h (ends_blank c) (ends_breakz c)

@@ -40,10 +40,7 @@ separation_refused tabs s =
 
 name_refused : (s : Cursor) → RefusedAt s.mark (name s)
 unfolding name directive_name_of
-name_refused s =
-    let x = with_run is_yaml_non_space [] s in
-    by_test (length x.0 == 0) _ _ (RefusedAt s.mark) (λ _. refl)
-    (λ _. by_test (is_blank_or_breakz (slice_index x.1.rest 0)) _ _ (RefusedAt s.mark) (λ _. tt) (λ _. refl))
+name_refused s = grind arith
 
 number_ended : (start : Marker) (n v : ℕ) (s : Cursor) → RefusedAt start (number_end start n v s)
 unfolding number_end
@@ -59,21 +56,11 @@ number_refused start n v m (c ∷ cs) = by_test (is_digit c) _ _ (RefusedAt star
 
 version_refused : (start : Marker) (s : Cursor) → RefusedAt start (version_directive start s)
 unfolding version_directive behind_major
-version_refused start s =
-    let P : Refusal → Type 0 = λ e. e.mark ≡ start in
-    let t : Cursor = pass_all_blanks s in
-    refused_bind P (number start t) _ (number_refused start 0 0 t.mark t.rest) (λ x e.
-    let u : Cursor = pass 1 x.1 in
-    by_test (slice_index x.1.rest 0 == 46) _ _ (RefusedAt start)
-    (λ _. refused_bind P (number start u) _ (number_refused start 0 0 u.mark u.rest) (λ y e. tt)) (λ _. refl))
+version_refused start s = grind (arith, refused_bind, number_refused, by_test, slice_index)
 
 handle_refused : (start : Marker) (s : Cursor) → RefusedAt start (handle start s)
 unfolding handle handle_behind_word
-handle_refused start s =
-    let w = with_run is_alpha [] (pass 1 s) in
-    by_test (slice_index s.rest 0 == 33) _ _ (RefusedAt start)
-    (λ _. by_test (slice_index w.1.rest 0 == 33) _ _ (RefusedAt start) (λ _. tt)
-    (λ _. by_test (length w.0 == 0) _ _ (RefusedAt start) (λ _. tt) (λ _. refl))) (λ _. refl)
+handle_refused start s = grind arith
 
 prefix_refused : (start : Marker) (s : Cursor) → RefusedAt start (prefix start s)
 unfolding prefix
@@ -86,11 +73,7 @@ prefix_refused start s =
 
 tag_refused : (start : Marker) (s : Cursor) → RefusedAt start (tag_directive start s)
 unfolding tag_directive behind_prefix
-tag_refused start s =
-    let P : Refusal → Type 0 = λ e. e.mark ≡ start in
-    refused_bind P (handle start (pass_all_blanks s)) _ (handle_refused start (pass_all_blanks s)) (λ h e.
-    refused_bind P (prefix start (pass_all_blanks h.1)) _ (prefix_refused start (pass_all_blanks h.1)) (λ x f.
-    by_test (is_blank_or_breakz (slice_index x.1.rest 0)) _ _ (RefusedAt start) (λ _. tt) (λ _. refl)))
+tag_refused start s = grind (arith, refused_bind, handle_refused, prefix_refused, by_test, slice_index)
 
 value_refused : (start : Marker) (x : List ℕ × Cursor) → RefusedAt start (value start x)
 unfolding value

@@ -160,9 +160,7 @@ prefix_ended : (start : Marker) (h text : List ℕ) (d : ReadDirective) (k u : C
     → behind_prefix start h (text, k) ≡ Ok (d, u)
     → Chosen {A = ReadDirective × Cursor} (is_blank_or_breakz (slice_index k.rest 0)) (tag_prefix h text, k) (d, u)
 unfolding behind_prefix
-prefix_ended start h text d k u e =
-    cond_ok {A = ReadDirective × Cursor} (is_blank_or_breakz (slice_index k.rest 0)) (tag_prefix h text, k) (d, u)
-    (record { text = fault.TagDirectiveEndExpected; mark = start }) e
+prefix_ended start h text d k u e = grind arith
 
 no_mark_first : (c : ℕ) → is_blank_or_breakz c ≡ true → nat_eq c 33 ≡ false
 no_mark_first c h = other_than is_blank_or_breakz 33 c refl h

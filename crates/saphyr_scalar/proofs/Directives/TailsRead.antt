@@ -41,9 +41,7 @@ comment_begins blanks comment x h ends = grind arith
 
 comment_is : (blanks comment x : List ℕ) → Tail blanks comment → is_breakz (slice_index x 0) ≡ true
     → comment_len (comment ++ x) ≡ length comment
-comment_is blanks comment x (inl none) ends = rw (none, other_than is_breakz 35 (slice_index x 0) refl ends) refl
-comment_is blanks comment x (inr (words, some, in_line, is)) ends =
-    rw is (run_len is_yaml_non_break (35 ∷ words) x (refl, in_line) (breakz_no_non_break (slice_index x 0) ends))
+comment_is blanks comment x u0 ends = grind (arith, other_than, slice_index, run_len, breakz_no_non_break)
 
 abbrev separated : ℕ → List ℕ → ℕ
 separated n xs = cond (nat_eq n 0) 0 (n + comment_len (drop n xs))
@@ -65,7 +63,7 @@ separation_is (b ∷ bs) comment x are tail ends =
     ∙ ap (λ u. suc (length bs) + comment_len u) (drop-append_seam (b ∷ bs) (comment ++ x))
     ∙ ap (λ n. suc (length bs) + n) (comment_is (b ∷ bs) comment x tail ends)
 
-nothing_refused : (text : List ℕ) (s : Cursor) → is_bom (slice_index s.rest 0) ≡ false
+pub nothing_refused : (text : List ℕ) (s : Cursor) → is_bom (slice_index s.rest 0) ≡ false
     → is_bare_comment Yes text ≡ false → behind_separation Yes text s ≡ Ok (found_blanks Yes text, s)
 unfolding behind_separation
 nothing_refused text s bom bare = rw (and_right (nat_lt 0 s.mark.col) (is_bom (slice_index s.rest 0)) bom, bare) refl

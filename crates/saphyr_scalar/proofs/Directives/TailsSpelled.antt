@@ -34,10 +34,7 @@ pub record TailOf (m : Marker) (xs : List ℕ) (u : Cursor) : Type 0 where
 
 comment_at : (blanks ws : List ℕ) → blanks ≢ []
     → Tail blanks (take (1 + prefix_len is_yaml_non_break ws) (number_sign ∷ ws))
-comment_at blanks ws some =
-    let q = prefix_len is_yaml_non_break ws in
-    let one : 1 + q ≡ suc q = omega arith in
-    rw one (inr (take q ws, some, run_is_in is_yaml_non_break ws, refl))
+comment_at blanks ws some = grind (arith, take, run_is_in)
 
 comment_in_tail : (blanks zs : List ℕ) → blanks ≢ [] → Tail blanks (take (comment_len zs) zs)
 comment_in_tail blanks zs some =
@@ -46,9 +43,7 @@ comment_in_tail blanks zs some =
     rw more (comment_at blanks (drop 1 zs) some)) (λ _. inl refl)
 
 comment_count : (zs : List ℕ) → length (take (comment_len zs) zs) ≡ comment_len zs
-comment_count zs =
-    by_test (nat_eq (slice_index zs 0) 35) (prefix_len is_yaml_non_break zs) 0 (λ n. length (take n zs) ≡ n)
-    (λ _. run_count is_yaml_non_break zs) (λ _. refl)
+comment_count zs = grind (arith, by_test, nat_eq, slice_index, take, run_count)
 
 separation_spelled : (m : Marker) (xs : List ℕ) (x : SkipTabs × Cursor) → separation Yes (mid_line m xs) ≡ Ok x
     → mid_line (along m (separation_len Yes xs)) (drop (separation_len Yes xs) xs) ≡ x.1

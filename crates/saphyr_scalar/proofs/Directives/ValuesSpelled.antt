@@ -78,17 +78,9 @@ tag_value d k zs u is =
 abbrev Begins : List ℕ → Type 0
 Begins t = (t ≡ []) ⊎ IsTrue (is_blank (slice_index t 0))
 
-blank_begins : (zs : List ℕ) → is_blank (slice_index zs 0) ≡ true → Begins (take (prefix_len is_yaml_non_break zs) zs)
-blank_begins [] h = inl refl
-blank_begins (c ∷ cs) h =
-    let one : 1 + prefix_len is_yaml_non_break cs ≡ suc (prefix_len is_yaml_non_break cs) = omega arith in
-    rw (blank_non_break c h, one) (inr h)
-
 parameters_begin : (zs : List ℕ) → is_blank_or_breakz (slice_index zs 0) ≡ true
     → Begins (take (prefix_len is_yaml_non_break zs) zs)
-parameters_begin zs h = either (is_blank (slice_index zs 0)) (is_breakz (slice_index zs 0))
-    (Begins (take (prefix_len is_yaml_non_break zs) zs)) h (blank_begins zs)
-    (λ e. inl (ap (λ n. take n zs) (run_stops is_yaml_non_break zs (breakz_no_non_break (slice_index zs 0) e))))
+parameters_begin zs h = grind arith
 
 yaml_eq : bytes_eq (encode_utf8_all (codes "YAML")) (codes "YAML") ≡ true
 unfolding encode

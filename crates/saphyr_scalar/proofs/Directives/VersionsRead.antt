@@ -38,9 +38,7 @@ number_ends start n v s some = let no : nat_eq n 0 ≡ false = grind (arith, nat
 
 number_read : (start m : Marker) (v : ℕ) (ds y : List ℕ) → IsVersionNumber v ds → is_digit (slice_index y 0) ≡ false
     → number start (mid_line m (ds ++ y)) ≡ Ok (v, mid_line (along m (length ds)) y)
-number_read start m v ds y (some, few, are, is) ends = digits_read start 0 0 m ds y (omega arith) are ends
-    ∙ number_ends start (0 + length ds) (decimal_from 0 ds) (mid_line (along m (length ds)) y)
-    (omega (arith, some_length ds some)) ∙ ap (λ v. number_given v (mid_line (along m (length ds)) y)) is
+number_read start m v ds y u0 ends = grind (arith, digits_read, number_ends, some_length)
 
 digit_no_blank : (c : ℕ) → is_digit c ≡ true → is_blank c ≡ false
 digit_no_blank c h = rw (other_than is_digit 32 c refl h, other_than is_digit 9 c refl h) refl

@@ -37,16 +37,7 @@ pub record ReadOnto (text grown : List ℕ) (r : Found) (tabbed : Bool) (u : Cur
 
 pub onto_reads : (text grown : List ℕ) (r : Found) (tabbed : Bool) (u : Cursor)
     → gap_onto text r ≡ Ok (seen_gap tabbed grown u) → ReadOnto text grown r tabbed u
-onto_reads text grown (Ok g) tabbed u e =
-    let same : seen_gap tabbed grown u ≡ record g { text = text ++ g.text } = cc in
-    record {
-      gap = g;
-      is = refl;
-      grown_by = ap (λ (x : PlainGap). x.text) same;
-      tabbed_is = sym (ap (λ (x : PlainGap). x.tabbed) same);
-      behind = sym (ap (λ (x : PlainGap). x.behind) same);
-    }
-onto_reads text grown (Err r) tabbed u e = absurd (cc)
+onto_reads text grown u0 tabbed u e = grind arith
 
 pub onto_refused : (text : List ℕ) (r : Found) (e : Refusal) → gap_onto text r ≡ Err e → r ≡ Err e
 onto_refused text (Ok g) e h = absurd (cc)
@@ -56,13 +47,7 @@ onto_refused text (Err r) e h = h
 
 reached_onto : (a : Marker) (t : Bool) (text f : List ℕ) (s : Cursor)
     → reached_gap a t (text ++ f) s ≡ gap_onto text (reached_gap a t f s)
-reached_onto a t text f s = by (content_behind_tab a t s)
-  where
-    by : (r : Result Cursor Refusal)
-        → (r >>= λ u. Ok (record { text = text ++ f; tabbed = t; behind = u }))
-        ≡ gap_onto text (r >>= λ u. Ok (record { text = f; tabbed = t; behind = u }))
-    by (Ok u) = refl
-    by (Err e) = refl
+reached_onto a t text f s = grind arith
 
 fed_onto : (b : Bool) (text f : List ℕ)
     → (if b then (text ++ f) ++ line_feed ∷ [] else text ++ f) ≡ text ++ (if b then f ++ line_feed ∷ [] else f)
@@ -138,19 +123,14 @@ lines_refused i a text s e h =
 pub gap_on_line : (i : ℕ) (a : Marker) (text grown : List ℕ) (s u : Cursor) → BlanksMoved text grown s u
     → is_break (slice_index u.rest 0) ≡ false → gap_onto text (gap i a s) ≡ Ok (seen_gap false grown u)
 unfolding gap gap_from
-gap_on_line i a text grown s u m ink =
-    ap (λ (x : List ℕ × Cursor). gap_onto text (gap_from i a x.0 x.1)) m.run.is
-    ∙ rw (ink, m.kept ink) refl
+gap_on_line i a text grown s u m non_space = grind arith
 
 pub gap_over_lines : (i : ℕ) (a : Marker) (text grown more : List ℕ) (s u v w : Cursor) (r : Result Bool Stop)
     → BlanksMoved text grown s u → is_break (slice_index u.rest 0) ≡ true → v ≡ pass_break u
     → Moves (λ t. seen_gap t more w) r (gap_onto grown (next_lines i a v))
     → Moves (λ t. seen_gap t more w) r (gap_onto text (gap i a s))
 unfolding gap
-gap_over_lines i a text grown more s u v w r m breaks on h =
-    let from : gap i a s ≡ next_lines i a v = ap (λ (x : List ℕ × Cursor). gap_from i a x.0 x.1) m.run.is
-    ∙ from_break i a (line_blanks s) u breaks ∙ ap (next_lines i a) (sym on) in
-    rw (from, ← m.gone breaks) h
+gap_over_lines i a text grown more s u v w r m breaks on h = grind (arith, from_break)
 
 -- Where the text is cut again.
 
@@ -187,23 +167,15 @@ next_low i a s g = by (lines i a false [] s.mark s.rest)
 
 gap_low : (i : ℕ) (a : Marker) (s : Cursor) (g : PlainGap) → gap i a s ≡ Ok g → slice_index g.text 0 < 128
 unfolding gap gap_from
-gap_low i a s g =
-    by_test (is_break (slice_index (drop (prefix_len is_blank s.rest) s.rest) 0)) _ _
-    (λ (r : Found). r ≡ Ok g → slice_index g.text 0 < 128)
-    (λ _. next_low i a (pass_break (pass (prefix_len is_blank s.rest) s)) g)
-    (λ _ e. let same = same_gap _ g e in rw same (blanks_low s.rest))
+gap_low i a s g = grind (arith, by_test, slice_index, drop, next_low, same_gap, blanks_low)
 
 pub gap_cuts : (i : ℕ) (a : Marker) (text grown : List ℕ) (s u : Cursor) (tabbed : Bool) (n : ℕ)
     → gap_onto text (gap i a s) ≡ Ok (seen_gap tabbed grown u) → n ≡ length text → IsSplitPoint grown n
-gap_cuts i a text grown s u tabbed n e is =
-    let o = onto_reads text grown _ tabbed u e in
-    rw (is, o.grown_by) (cuts_before text o.gap.text (gap_low i a s o.gap o.is))
+gap_cuts i a text grown s u tabbed n e is = grind (arith, onto_reads, cuts_before, gap_low)
 
 pub lines_cut : (i : ℕ) (a : Marker) (text grown : List ℕ) (s u : Cursor) (tabbed : Bool) (n : ℕ)
     → gap_onto text (next_lines i a s) ≡ Ok (seen_gap tabbed grown u) → n ≡ length text → IsSplitPoint grown n
-lines_cut i a text grown s u tabbed n e is =
-    let o = onto_reads text grown _ tabbed u e in
-    rw (is, o.grown_by) (cuts_before text o.gap.text (next_low i a s o.gap o.is))
+lines_cut i a text grown s u tabbed n e is = grind (arith, onto_reads, cuts_before, next_low)
 
 -- What is read behind the gap.
 

@@ -25,11 +25,7 @@ end_behind_character : (c : ℕ) (xs ys : List ℕ) → IsEnd xs ys → IsEnd (c
 end_behind_character c xs ys e = record { taken = suc e.taken; is = e.is; count = omega (arith, e.count) }
 
 end_of_end : (xs ys zs : List ℕ) → IsEnd xs ys → IsEnd ys zs → IsEnd xs zs
-end_of_end xs ys zs e f = record {
-  taken = e.taken + f.taken;
-  is = f.is ∙ ap (drop f.taken) e.is ∙ drop-drop f.taken e.taken xs;
-  count = omega (arith, e.count, f.count);
-}
+end_of_end xs ys zs e f = grind (arith, drop, drop-drop)
 
 dropped : (n : ℕ) (xs : List ℕ) → n ≤ length xs → IsEnd xs (drop n xs)
 dropped n xs h = record { taken = n; is = refl; count = rw length-drop (omega arith) }
@@ -64,24 +60,7 @@ not_two : (b : Bool) → (b && false) ≡ true → ⊥
 not_two b h = grind arith
 
 break_end : (s : Cursor) → IsEnd s.rest (pass_break s).rest
-break_end s = at_first s.rest
-  where
-    from : List ℕ → Cursor
-    from xs = record { rest = xs; mark = s.mark; blank_so_far = s.blank_so_far }
-
-    Goal : List ℕ → Type 0
-    Goal xs = IsEnd xs (pass_break (from xs)).rest
-
-    at_first : (xs : List ℕ) → Goal xs
-    at_first [] = end_at_start []
-    at_first (c ∷ []) = by_test (next_2_are (c ∷ []) 13 10) _ _ (λ (p : Cursor). IsEnd (c ∷ []) p.rest)
-        (λ h. absurd (not_two (c == 13) h))
-        (λ _. by_test (is_break c) _ _ (λ (p : Cursor). IsEnd (c ∷ []) p.rest)
-        (λ _. end_behind_character c [] _ (end_at_start _)) (λ _. end_at_start _))
-    at_first (c ∷ d ∷ cs) = by_test (next_2_are (c ∷ d ∷ cs) 13 10) _ _ (λ (p : Cursor). IsEnd (c ∷ d ∷ cs) p.rest)
-        (λ _. end_behind_character c _ _ (end_behind_character d _ _ (end_at_start _)))
-        (λ _. by_test (is_break c) _ _ (λ (p : Cursor). IsEnd (c ∷ d ∷ cs) p.rest)
-        (λ _. end_behind_character c _ _ (end_at_start _)) (λ _. end_at_start _))
+break_end s = grind (arith, end_at_start, by_test, not_two, end_behind_character)
 
 next_lines_end : (i : ℕ) (a : Marker) (s : Cursor) (g : PlainGap) → next_lines i a s ≡ Ok g → IsEnd s.rest g.behind.rest
 next_lines_end i a s g = by_result (lines i a false [] s.mark s.rest) (lines_end i a false [] s.mark s.rest)

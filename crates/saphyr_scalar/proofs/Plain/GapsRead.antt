@@ -22,7 +22,7 @@ use Rattle.saphyr_scalar.proofs.Moving.{along_none, along_more}
 use Rattle.saphyr_scalar.proofs.Quoted.Inside.{break_cases}
 use Rattle.saphyr_scalar.proofs.Plain.Gaps.{no_refusal, same_gap, may_stand_same}
 use Rattle.saphyr_scalar.proofs.Plain.Indented.{IsLine, later_unbroken, line_begins, lines_is_line, break_to_start}
-use Rattle.saphyr_scalar.proofs.Plain.Runs.{Ink, NoFeed, items_of, ink_no_feed, same_ends, line_count, folded_breaks, AreBlank, folded_blanks}
+use Rattle.saphyr_scalar.proofs.Plain.Runs.{IsNonSpace, NoFeed, items_of, non_space_no_feed, same_ends, line_count, folded_breaks, AreBlank, folded_blanks}
 use Rattle.saphyr_input.proofs.Basics.Booleans.{by_test}
 use Rattle.std.proofs.lemmas.List.Sums.{prefix_len-le-length}
 use Rattle.saphyr_input.proofs.Basics.Characters.{blank_no_break}
@@ -56,7 +56,7 @@ more_run P c cs rest m end k white none line r =
     }
 
 other_no_feed : (c : ℕ) → is_blank_or_break c ≡ false → (c == line_feed) ≡ false
-other_no_feed = ink_no_feed
+other_no_feed = non_space_no_feed
 
 -- the lines after a word's line
 
@@ -68,9 +68,7 @@ record LinesRun (i : ℕ) (xs : List ℕ) (m : Marker) (f : List ℕ) (g : Plain
 
 reached_run : (i : ℕ) (a : Marker) (t : Bool) (f : List ℕ) (m : Marker) (xs : List ℕ) (g : PlainGap) → NoFeed xs
     → reached_gap a t f (line_front m xs) ≡ Ok g → LinesRun i xs m f g
-reached_run i a t f m xs g stop e =
-    subst (λ (h : PlainGap). LinesRun i xs m f h) (sym (may_stand_same a t f (line_front m xs) g e))
-    (record { breaks = 0; stop = stop; run = no_run (IsLine i (line_front m xs)) xs m; text = sym (append-nil f) })
+reached_run i a t f m xs g stop e = grind (arith, may_stand_same, no_run, append-nil)
 
 more_text : (b : Bool) (k : ℕ) (f text : List ℕ) → text ≡ (if b then f ++ line_feed ∷ [] else f) ++ line_feeds k
     → text ≡ f ++ line_feeds (if b then suc k else k)
@@ -178,7 +176,7 @@ pub record GapReads (i : ℕ) (xs : List ℕ) (m : Marker) (g : PlainGap) : Type
   pub stop : NoFeed g.behind.rest
   pub value : List ℕ
   pub text : encode_utf8_all value ≡ g.text
-  pub reads : (c : ℕ) (cs : List ℕ) → Ink c
+  pub reads : (c : ℕ) (cs : List ℕ) → IsNonSpace c
       → folded (items_of (white ++ (c ∷ cs))) ≡ value ++ folded (items_of (c ∷ cs))
   pub later : AreLaterLines (IsLine i g.behind) white g.behind.rest
 
@@ -222,7 +220,7 @@ blanks_read i xs m other =
       stop = not_feed (slice_index (drop n xs) 0) other;
       value = v;
       text = refl;
-      reads = λ c cs ink. folded_blanks v c cs blank ink;
+      reads = λ c cs non_space. folded_blanks v c cs blank non_space;
       later = all_on_line (IsLine i (mid_line (along m n) (drop n xs))) v (drop n xs) blank;
     }
   where
@@ -262,24 +260,14 @@ lines_read i xs m g t mark rest breaks line r =
       stop = r.stop;
       value = raw_break r.breaks;
       text = folded_text r.breaks g r.text;
-      reads = λ c cs ink. folded_breaks r.breaks all.white c cs all.are all.count ink;
+      reads = λ c cs non_space. folded_breaks r.breaks all.white c cs all.are all.count non_space;
       later = all.later;
     }
 
 next_lines_read : (i : ℕ) (a : Marker) (xs : List ℕ) (m : Marker) (g : PlainGap) (t : Cursor)
     → along m (prefix_len is_blank xs) ≡ t.mark → drop (prefix_len is_blank xs) xs ≡ t.rest
     → is_break (slice_index t.rest 0) ≡ true → next_lines i a (pass_break t) ≡ Ok g → GapReads i xs m g
-next_lines_read i a xs m g t mark rest breaks = by_result (lines i a false [] (pass_break t).mark (pass_break t).rest)
-    (lines_run i a false [] (pass_break t).mark (pass_break t).rest)
-    (λ h e. lines_is_line i a [] (pass_break t).mark (pass_break t).rest h (break_to_start t breaks) e)
-  where
-    by_result : (r : Result PlainGap Refusal)
-        → ((h : PlainGap) → r ≡ Ok h → LinesRun i (pass_break t).rest (pass_break t).mark [] h)
-        → ((h : PlainGap) → r ≡ Ok h → IsLine i h.behind (pass_break t).rest)
-        → (r >>= λ h. Ok (spec.folded_gap h)) ≡ Ok g → GapReads i xs m g
-    by_result (Ok h) runs line e = subst (λ (x : PlainGap). GapReads i xs m x) (sym (same_gap (spec.folded_gap h) g e))
-        (lines_read i xs m h t mark rest breaks (line h refl) (runs h refl))
-    by_result (Err r) runs line e = absurd (no_refusal r g e)
+next_lines_read i a xs m g t mark rest breaks = grind (arith, lines_run, lines_is_line, break_to_start, same_gap, lines_read, no_refusal)
 
 pub gap_reads : (i : ℕ) (a : Marker) (xs : List ℕ) (m : Marker) (g : PlainGap) → gap i a (mid_line m xs) ≡ Ok g
     → GapReads i xs m g

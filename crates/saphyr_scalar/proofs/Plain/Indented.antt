@@ -16,7 +16,7 @@ use Rattle.saphyr_scalar.proofs.PassedBreaks.{behind_one}
 use Rattle.saphyr_scalar.proofs.Plain.Gaps.{may_stand_same}
 use Rattle.saphyr_scalar.proofs.Plain.Pieces.{not_in_word}
 use Rattle.saphyr_scalar.proofs.Plain.Spelled.{goes_begins}
-use Rattle.saphyr_scalar.proofs.Plain.Runs.{Ink, AreInk}
+use Rattle.saphyr_scalar.proofs.Plain.Runs.{IsNonSpace, AreNonSpace}
 use Rattle.saphyr_input.proofs.Basics.Booleans.{by_test, either, and_true_left}
 use Rattle.saphyr_input.proofs.Basics.Characters.{blank_cases}
 
@@ -37,10 +37,10 @@ pub later_unbroken : (P : List ℕ → Type 0) (c : ℕ) (cs behind : List ℕ) 
     → AreLaterLines P cs behind → AreLaterLines P (c ∷ cs) behind
 later_unbroken P c cs behind unbroken h = (λ e. absurd (no_line_end c (cs ++ behind) unbroken e), h)
 
-pub later_ink : (P : List ℕ → Type 0) (w behind : List ℕ) → AreInk w → AreLaterLines P w behind
-later_ink P [] behind h = tt
-later_ink P (c ∷ w) behind h =
-    later_unbroken P c w behind (or_parts (is_blank c) (is_break c) h.0).1 (later_ink P w behind h.1)
+pub later_non_space : (P : List ℕ → Type 0) (w behind : List ℕ) → AreNonSpace w → AreLaterLines P w behind
+later_non_space P [] behind h = tt
+later_non_space P (c ∷ w) behind h =
+    later_unbroken P c w behind (or_parts (is_blank c) (is_break c) h.0).1 (later_non_space P w behind h.1)
 
 pub later_weaken : (P Q : List ℕ → Type 0) → ((line : List ℕ) → P line → Q line) → (v behind : List ℕ)
     → AreLaterLines P v behind → AreLaterLines Q v behind
@@ -102,23 +102,15 @@ word_no_nul f xs h =
     by_parts a b z e x = grind arith
 
 -- where the line's content begins
-ink_on : (n c : ℕ) (cs : List ℕ) → Ink c → IsOn true n (c ∷ cs)
-ink_on n c cs ink =
-    let parts = or_parts (c == 32) (c == 9) (or_parts (is_blank c) (is_break c) ink).0 in
-    or_right (nat_le n (indentation (c ∷ cs)) || is_blank_line (c ∷ cs)) (not (behind_indentation (c ∷ cs) == 9))
-    (rw (parts.0, parts.1) refl)
+non_space_on : (n c : ℕ) (cs : List ℕ) → IsNonSpace c → IsOn true n (c ∷ cs)
+non_space_on n c cs non_space = grind arith
 
 reached_on : (f : Bool) (i : ℕ) (a : Marker) (t : Bool) (feeds : List ℕ) (m : Marker) (c : ℕ) (cs : List ℕ)
     (g : PlainGap)
-    → Ink c → reached_gap a t feeds (line_front m (c ∷ cs)) ≡ Ok g → GoesOn f i (line_front m (c ∷ cs))
+    → IsNonSpace c → reached_gap a t feeds (line_front m (c ∷ cs)) ≡ Ok g → GoesOn f i (line_front m (c ∷ cs))
     → IsOnLine f t (i - m.col) (c ∷ cs)
-reached_on f i a true feeds m c cs g ink e on = either (c == 35) (is_z c) (is_blank_line (c ∷ cs) ≡ true)
-    (tabbed_content a feeds (line_front m (c ∷ cs)) g e)
-    (λ is. absurd (on.comment (eqb-true c 35 is)))
-    (λ is. absurd (false≢true (sym (word_no_nul f (c ∷ cs) on.word) ∙ is)))
-reached_on true i a false feeds m c cs g ink e on = ink_on (i - m.col) c cs ink
-reached_on false i a false feeds m c cs g ink e on =
-    let right = on.right refl refl in enough false (i - m.col) (c ∷ cs) (omega (arith, right))
+reached_on f i a u0 feeds m c cs g non_space e on =
+    grind (arith, either, tabbed_content, eqb-true, word_no_nul, non_space_on, enough)
 
 same_front : (f : Bool) (i : ℕ) (a : Marker) (t : Bool) (feeds : List ℕ) (m : Marker) (xs : List ℕ) (g : PlainGap)
     → reached_gap a t feeds (line_front m xs) ≡ Ok g → GoesOn f i g.behind → GoesOn f i (line_front m xs)
@@ -150,7 +142,8 @@ lines_on_line f i a t feeds m (c ∷ cs) g = by_test (is_blank_or_break c) _ _
     (λ white e on. white_on_line f i t m c cs white
     (lines_on_line f i a (is_blank c && (t || ((c == tab) && nat_lt m.col i)))
     (if ends_line c cs then feeds ++ line_feed ∷ [] else feeds) (if ends_line c cs then next_line m 1 else along m 1) cs
-    g e on)) (λ ink e on. reached_on f i a t feeds m c cs g ink e (same_front f i a t feeds m (c ∷ cs) g e on))
+    g e on)) (λ non_space e on. reached_on f i a t feeds m c cs g non_space e
+    (same_front f i a t feeds m (c ∷ cs) g e on))
 
 -- a line that begins in them
 pub lines_is_line : (i : ℕ) (a : Marker) (feeds : List ℕ) (m : Marker) (xs : List ℕ) (g : PlainGap) → m.col ≡ 0
@@ -167,12 +160,7 @@ pub line_begins : (i : ℕ) (a : Marker) (t : Bool) (feeds : List ℕ) (m : Mark
     → IsTrue (ends_line c cs)
     → lines i a (is_blank c && (t || ((c == tab) && nat_lt m.col i))) feeds (behind_one m c cs) cs ≡ Ok g
     → IsLine i g.behind cs
-line_begins i a t feeds m c cs g ends e =
-    let breaks : is_break c ≡ true = and_true_left (is_break c) (not ((c == 13) && (slice_index cs 0 == 10))) ends in
-    let no_blank : is_blank c ≡ false = break_cases c breaks (λ x. is_blank x ≡ false) refl refl in
-    let there : Bool → Bool → Type 0 = λ b n.
-    lines i a (b && (t || ((c == 9) && nat_lt m.col i))) feeds (if n then next_line m 1 else along m 1) cs ≡ Ok g in
-    lines_is_line i a feeds (next_line m 1) cs g refl (rw ends at (rw no_blank at e))
+line_begins i a t feeds m c cs g ends e = grind (arith, and_true_left, slice_index, break_cases, lines_is_line)
 
 goes_right : (f : Bool) (i : ℕ) (s t : Cursor) → next_word_starts f i s ≡ Ok (true, t) → f ≡ false
     → s.blank_so_far ≡ true → i ≤ s.mark.col

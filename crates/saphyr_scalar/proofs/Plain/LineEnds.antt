@@ -1,5 +1,5 @@
 -- Where a word of a plain scalar ends its line, and what is left after that.
-use Rattle.std.proofs.Common.{◌≡◌, ℕ, ◌-◌, ◌^◌, Bool, true, false, List, [], ◌∷◌, slice_index, Result, Ok, refl, sym, ap, ◌∙◌}
+use Rattle.std.proofs.Common.{◌≡◌, ℕ, ◌-◌, ◌^◌, Bool, true, false, List, [], ◌∷◌, slice_index, Result, Ok, refl, sym, ap, ◌∙◌, arith}
 use Rattle.std.specs.Prelude.{◌&&◌, ◌==◌, not, nat_lt, None, if◌then◌else◌}
 use Rattle.std.proofs.lemmas.List.{append-nil}
 use Rattle.std.proofs.lemmas.Bool.{not-true}
@@ -9,14 +9,14 @@ use Rattle.saphyr_input.proofs.Basics.Booleans.{and_false, by_test}
 use Rattle.saphyr_scalar.specs.declared.scalar.position.Marker.{Marker}
 use Rattle.saphyr_scalar.specs.declared.scalar.fault.Refusal.{Refusal}
 use Rattle.saphyr_scalar.specs.Views.Cursor.{Cursor, ◌>>=◌, pass_break, pass_spaces}
-use Rattle.saphyr_scalar.specs.Steps.Plain.{is_in_word, PlainGap, seen_gap, line_front, lines, folded_gap, next_lines, gap_from, gap, next_word_starts, comment_of, with_text, scalar_end, word, content_behind_tab}
+use Rattle.saphyr_scalar.specs.Steps.Plain.{is_in_word, plain, word_starts, PlainWordsMoved, PlainGap, seen_gap, line_front, lines, folded_gap, next_lines, gap_from, gap, next_word_starts, comment_of, with_text, scalar_end, word, content_behind_tab}
 use Rattle.saphyr_scalar.specs.Steps.Quoted.{with_run}
 use Rattle.saphyr_scalar.specs.Steps.PlainLines.{scalar_behind_line, is_left_of_scalar, behind_break, ends_at_once}
 use Rattle.saphyr_scalar.proofs.NoSeparation.{no_run}
 use Rattle.saphyr_scalar.proofs.Quoted.Inside.{break_cases}
 use Rattle.saphyr_scalar.proofs.Quoted.Gaps.{by_break_len}
 use Rattle.saphyr_scalar.proofs.SpaceRuns.{lines_over}
-use Rattle.saphyr_scalar.proofs.Plain.Pieces.{plain_behind_gap, moved_behind_word, goes_says}
+use Rattle.saphyr_scalar.proofs.Plain.Pieces.{words_and_rest, plain_behind_gap, moved_behind_word, goes_says}
 use Rattle.saphyr_scalar.proofs.Plain.WordEnds.{none_moved, none_passed, scalar_ends}
 
 no_blanks : (s : Cursor) → s.blank_so_far ≡ false → is_blank (slice_index s.rest 0) ≡ false
@@ -26,9 +26,7 @@ no_blanks s line h = rw (no_run is_blank s.rest h, none_passed s line) refl
 pub from_break : (i : ℕ) (a : Marker) (blanks : List ℕ) (s : Cursor) → is_break (slice_index s.rest 0) ≡ true
     → gap_from i a blanks s ≡ next_lines i a (pass_break s)
 unfolding gap_from
-from_break i a blanks s breaks =
-    by_test (is_break (slice_index s.rest 0)) _ _ (λ (r : Result PlainGap Refusal). r ≡ next_lines i a (pass_break s))
-    (λ _. refl) (λ is. absurd (cc))
+from_break i a blanks s breaks = grind arith
 
 -- a gap that a break begins
 break_gap : (i : ℕ) (a : Marker) (s : Cursor) → s.blank_so_far ≡ false → is_break (slice_index s.rest 0) ≡ true
@@ -52,10 +50,7 @@ pub break_begins : (s : Cursor) → is_break (slice_index s.rest 0) ≡ true →
 break_begins s breaks = rw (by_break_len s breaks) refl
 
 all_three : (a b c : Bool) → (a && b && c) ≡ true → (a ≡ true) × (b ≡ true) × (c ≡ true)
-all_three true true true h = (refl, refl, refl)
-all_three true true false h = absurd (cc)
-all_three true false c h = absurd (cc)
-all_three false b c h = absurd (cc)
+all_three u0 u1 u2 h = grind arith
 
 -- no white space is at a line's first place
 line_there : (i : ℕ) (a m : Marker) (xs : List ℕ) → is_blank_or_break (slice_index xs 0) ≡ false
@@ -80,20 +75,17 @@ no_comment f u blank = rw (blank, and_false (not f && (slice_index u.rest 0 == 3
 pub gap_no_turn : (f : Bool) (i : ℕ) (a end : Marker) (text : List ℕ) (g : PlainGap) (u : Cursor)
     → next_word_starts f i g.behind ≡ Ok (false, u)
     → with_text text (plain_behind_gap f i a end g) ≡ Ok (text, end, comment_of f g.tabbed u, u)
-gap_no_turn f i a end text g u h = ap (λ x. with_text text
-    (x >>= λ b. if b.0 then with_text g.text (word f i a b.1.mark b.1.rest) else scalar_end f end g)) h
-    ∙ ap (λ x. Ok (x, end, comment_of f g.tabbed g.behind, g.behind)) (append-nil text)
-    ∙ ap (λ x. Ok (text, end, comment_of f g.tabbed x, x)) (sym (goes_says f i false g.behind u h).same)
+gap_no_turn f i a end text g u h = grind (arith, append-nil, goes_says)
 
 -- what is left of the indentation ends the scalar
 pub left_ends : (f : Bool) (i : ℕ) (a end : Marker) (text : List ℕ) (u : Cursor) → u.blank_so_far ≡ true
     → is_left_of_scalar f i u ≡ true → with_text text (scalar_behind_line f i a end u) ≡ Ok (text, end, None, u)
 left_ends f i a end text u blank left =
     let all = all_three (not f) (nat_lt u.mark.col i) (not (is_blank_or_break (slice_index u.rest 0))) left in
-    let ink = not-true (is_blank_or_break (slice_index u.rest 0)) all.2 in
+    let non_space = not-true (is_blank_or_break (slice_index u.rest 0)) all.2 in
     let g = folded_gap (seen_gap false [] u) in
     ap (λ (r : Result PlainGap Refusal). with_text text ((r >>= λ g. Ok (folded_gap g)) >>= plain_behind_gap f i a end))
-    (line_there i a u.mark u.rest ink ∙ ap (λ x. Ok (seen_gap false [] x)) (same_line_front u blank))
+    (line_there i a u.mark u.rest non_space ∙ ap (λ x. Ok (seen_gap false [] x)) (same_line_front u blank))
     ∙ gap_no_turn f i a end text g u (not_on f i u blank all.0 all.1)
     ∙ ap (λ x. Ok (text, end, x, u)) (no_comment f u blank)
 
@@ -127,12 +119,28 @@ ended_at_once f i a text s u b ends line is over at = by_break (is_break (slice_
     left : is_break (slice_index s.rest 0) ≡ true → is_left_of_scalar f i (behind_break s) ≡ true
     left e = sym (ap ends_by e) ∙ sym is ∙ over
 
-    ink : is_break (slice_index s.rest 0) ≡ false → is_blank_or_break (slice_index s.rest 0) ≡ false
-    ink e = rw (e, not-true (is_blank (slice_index s.rest 0)) (sym (ap ends_by e) ∙ sym is ∙ over)) refl
+    non_space : is_break (slice_index s.rest 0) ≡ false → is_blank_or_break (slice_index s.rest 0) ≡ false
+    non_space e = rw (e, not-true (is_blank (slice_index s.rest 0)) (sym (ap ends_by e) ∙ sym is ∙ over)) refl
 
     by_break : (d : Bool) → is_break (slice_index s.rest 0) ≡ d
         → with_text text (word f i a s.mark s.rest) ≡ Ok (text, s.mark, None, u)
     by_break true e = sym (word_to_break f i a text s u ends line e at)
         ∙ left_ends f i a s.mark text u (blank_there s u e at) (ap (is_left_of_scalar f i) at ∙ left e)
-    by_break false e = scalar_ends f i a text s ends line (ink e)
+    by_break false e = scalar_ends f i a text s ends line (non_space e)
         ∙ ap (λ x. Ok (text, s.mark, None, x)) (sym (stays_there s u e at))
+
+-- ## Behind the first words of a scalar
+
+-- the lines behind them
+pub lines_and_rest : (f : Bool) (i : ℕ) (s there end here : Cursor) (text grown whole : List ℕ)
+    → word_starts f s ≡ Ok (true, there) → PlainWordsMoved f text grown there end
+    → is_break (slice_index end.rest 0) ≡ true → here ≡ behind_break end → whole ≡ grown
+    → with_text whole (scalar_behind_line f i s.mark end.mark here) ≡ with_text text (plain f i s)
+lines_and_rest f i s there end here text grown whole starts words breaks at same = grind (arith, word_to_break, words_and_rest)
+
+-- what is behind them on their line
+pub gap_and_rest : (f : Bool) (i : ℕ) (s there end here : Cursor) (text grown whole : List ℕ)
+    → word_starts f s ≡ Ok (true, there) → PlainWordsMoved f text grown there end
+    → is_break (slice_index end.rest 0) ≡ false → here ≡ behind_break end → whole ≡ grown
+    → with_text whole (word f i s.mark here.mark here.rest) ≡ with_text text (plain f i s)
+gap_and_rest f i s there end here text grown whole starts words stops at same = grind (arith, words_and_rest, stays_there)

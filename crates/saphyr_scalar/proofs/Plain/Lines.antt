@@ -61,24 +61,12 @@ return_on i a t f m (d ∷ ds) b = test (d == 10) refl
 
 pub lines_break : (i : ℕ) (a : Marker) (t : Bool) (f : List ℕ) (s : Cursor) → is_break (slice_index s.rest 0) ≡ true
     → Behind i a t f s
-lines_break i a t f s h = at_first s.rest h
-  where
-    at_first : (xs : List ℕ) → is_break (slice_index xs 0) ≡ true
-        → Behind i a t f (record { rest = xs; mark = s.mark; blank_so_far = s.blank_so_far })
-    at_first [] e = absurd (cc)
-    at_first (c ∷ cs) e = break_cases c e
-        (λ x. Behind i a t f (record { rest = x ∷ cs; mark = s.mark; blank_so_far = s.blank_so_far }))
-        (lines_feed i a t f s.mark cs) (return_on i a t f s.mark cs s.blank_so_far)
+lines_break i a t f s h = grind (arith, slice_index, break_cases, lines_feed, return_on)
 
 pub lines_on : (i : ℕ) (a : Marker) (t : Bool) (f : List ℕ) (s : Cursor) → is_blank (slice_index s.rest 0) ≡ true
     → lines i a t f s.mark s.rest
     ≡ lines i a (tabbed_by i t s.mark (slice_index s.rest 0)) f (along s.mark 1) (drop 1 s.rest)
-lines_on i a t f s h = at_first s.rest h
-  where
-    at_first : (xs : List ℕ) → is_blank (slice_index xs 0) ≡ true
-        → lines i a t f s.mark xs ≡ lines i a (tabbed_by i t s.mark (slice_index xs 0)) f (along s.mark 1) (drop 1 xs)
-    at_first [] e = absurd (cc)
-    at_first (c ∷ cs) e = lines_blank i a t f s.mark c cs e
+lines_on i a t f s h = grind (arith, slice_index, drop, lines_blank)
 
 pub lines_over : (i : ℕ) (a : Marker) (t : Bool) (f : List ℕ) (m : Marker) (xs : List ℕ)
     → is_blank_or_break (slice_index xs 0) ≡ false → lines i a t f m xs ≡ reached_gap a t f (line_front m xs)
@@ -104,10 +92,7 @@ pub past_on : (i : ℕ) (a : Marker) (t : Bool) (f : List ℕ) (s : Cursor)
     → is_blank_or_break (slice_index s.rest 0) ≡ true
     → let p = pass_white i t f s in lines i a p.0 p.1 p.2.mark p.2.rest ≡ lines i a t f s.mark s.rest
 unfolding pass_white
-past_on i a t f s h = by_test (is_break (slice_index s.rest 0)) _ _
-    (λ (p : Bool × List ℕ × Cursor). lines i a p.0 p.1 p.2.mark p.2.rest ≡ lines i a t f s.mark s.rest)
-    (λ e. sym (lines_break i a t f s e))
-    (λ e. sym (lines_on i a t f s (blank_of (is_blank (slice_index s.rest 0)) _ h e)))
+past_on i a t f s h = grind (arith, by_test, slice_index, lines_break, lines_on, blank_of)
 
 -- what a call that passed one says
 

@@ -1,5 +1,5 @@
 -- A plain scalar, read a piece at a time.
-use Rattle.std.proofs.Common.{◌≡◌, ℕ, zero, suc, ◌+◌, Bool, true, false, List, [], ◌∷◌, ◌++◌, take, drop, slice_index, Result, Ok, Err, refl, sym, ap, ◌∙◌, arith, encode_utf8_all, append_assoc}
+use Rattle.std.proofs.Common.{◌≡◌, ℕ, zero, suc, ◌+◌, ◌<◌, Bool, true, false, List, [], ◌∷◌, ◌++◌, length, take, drop, slice_index, Result, Ok, Err, refl, sym, ap, ◌∙◌, arith, encode_utf8_all, append_assoc}
 use Rattle.std.specs.Prelude.{◌||◌, ◌&&◌, ◌==◌, not, nat_lt, encode_utf8, if◌then◌else◌, pred}
 use Rattle.std.specs.Result.{IsErrAnd}
 use Rattle.std.proofs.lemmas.Bool.Decides.{nat_tests}
@@ -26,9 +26,6 @@ text_twice a b (Err e) = refl
 
 pub no_text : (read : PlainScalarRead) → with_text [] read ≡ read
 no_text read = grind arith
-
-pub behind_no_text : (text : List ℕ) (read : PlainScalarRead) → text ≡ [] → with_text text read ≡ read
-behind_no_text text read empty = ap (λ b. with_text b read) empty ∙ no_text read
 
 pub not_in_word : (f : Bool) → is_in_word f [] ≡ false
 unfolding is_in_word
@@ -66,28 +63,11 @@ pub record KeepsWord (f b : Bool) (s t : Cursor) : Type 0 where
   pub goes : b ≡ true → is_in_word f s.rest ≡ true
 
 says_not : (f b : Bool) (s t : Cursor) → answer false s ≡ answer b t → KeepsWord f b s t
-says_not f b s t e =
-    let pair : ◌≡◌ {A = Bool × Cursor} (false, s) (b, t) = cc in
-    record {
-      same = sym (ap (λ (x : Bool × Cursor). x.1) pair);
-      goes = λ h. absurd (cc (sym (ap (λ (x : Bool × Cursor). x.0) pair)));
-    }
-
-says_it : (f b : Bool) (s t : Cursor) → answer (is_in_word f s.rest) s ≡ answer b t → KeepsWord f b s t
-says_it f b s t e =
-    let pair : ◌≡◌ {A = Bool × Cursor} (is_in_word f s.rest, s) (b, t) = cc in
-    record { same = sym (ap (λ (x : Bool × Cursor). x.1) pair); goes = λ h. ap (λ (x : Bool × Cursor). x.0) pair ∙ h }
-
-not_refused : (r : Refusal) (b : Bool) (t : Cursor) → Err r ≡ answer b t → ⊥
-not_refused r b t e = absurd (cc)
+says_not f b s t e = grind arith
 
 pub starts_says : (f b : Bool) (s t : Cursor) → word_starts f s ≡ Ok (b, t) → KeepsWord f b s t
 unfolding word_starts
-starts_says f b s t = by_test ((slice_index s.rest 0 == 35) || ((s.mark.col == 0) && is_document_indicator s.rest)) _ _
-    (λ r. r ≡ answer b t → KeepsWord f b s t)
-    (λ _ e. says_not f b s t e)
-    (λ _. by_test (f && (slice_index s.rest 0 == 45) && is_flow (slice_index s.rest 1)) _ _
-    (λ r. r ≡ answer b t → KeepsWord f b s t) (λ _ e. absurd (not_refused _ b t e)) (λ _ e. says_it f b s t e))
+starts_says f b s t = grind arith
 
 pub goes_says : (f : Bool) (i : ℕ) (b : Bool) (s t : Cursor) → next_word_starts f i s ≡ Ok (b, t) → KeepsWord f b s t
 unfolding next_word_starts
@@ -113,10 +93,7 @@ no_part f i a m xs = sym (no_text _) ∙ ap (λ x. with_text [] (word f i a x xs
 
 pub more_part : (f : Bool) (i : ℕ) (a m : Marker) (c : ℕ) (cs : List ℕ) (n : ℕ) → is_in_word f (c ∷ cs) ≡ true
     → WordPart f i a (along m 1) cs n → WordPart f i a m (c ∷ cs) (suc n)
-more_part f i a m c cs n h r = word_on f i a m c cs h ∙ ap (with_text (encode_utf8 c)) r
-    ∙ text_twice (encode_utf8 c) (encode_utf8_all (take n cs)) _
-    ∙ ap (λ x. with_text (encode_utf8 c ++ encode_utf8_all (take n cs)) (word f i a x (drop n cs)))
-    (along_more m 1 n (suc n) (omega arith))
+more_part f i a m c cs n h r = grind (arith, word_on, text_twice, encode_utf8_all, take, drop, along_more)
 
 pub all_word : (f : Bool) (i : ℕ) (a m : Marker) (xs : List ℕ) → WordPart f i a m xs (word_len f xs)
 all_word f i a m [] = no_part f i a m []
@@ -133,6 +110,14 @@ word_stops f (c ∷ cs) =
     let one : 1 + word_len f cs ≡ suc (word_len f cs) = omega arith in
     by_test (is_in_word f (c ∷ cs)) (1 + word_len f cs) 0 (λ n. is_in_word f (drop n (c ∷ cs)) ≡ false)
     (λ _. rw one (word_stops f cs)) (λ h. h)
+
+-- another word comes after what ends one
+pub word_behind : (f : Bool) (xs ys : List ℕ) → IsEnd xs ys → is_in_word f xs ≡ false → is_in_word f ys ≡ true
+    → length ys < length xs
+word_behind f xs ys end stops goes = by end.taken refl
+  where
+    by : (n : ℕ) → end.taken ≡ n → length ys < length xs
+    by n e = grind arith
 
 -- after a gap
 abbrev pub plain_behind_gap : Bool → ℕ → Marker → Marker → PlainGap → PlainScalarRead
@@ -168,9 +153,7 @@ word_first : (f : Bool) (i : ℕ) (a : Marker) (g : PlainGap) (c : ℕ) (cs : Li
     → t ≡ g.behind → is_in_word f g.behind.rest ≡ true
     → with_text (g.text ++ encode_utf8 c) (word f i a (along g.behind.mark 1) cs)
     ≡ with_text g.text (word f i a t.mark t.rest)
-word_first f i a g c cs t is same goes = sym (text_twice g.text (encode_utf8 c) _)
-    ∙ ap (with_text g.text) (sym (word_on f i a g.behind.mark c cs (ap (is_in_word f) is ∙ goes)) ∙ ap
-    (word f i a g.behind.mark) is) ∙ ap (λ (x : Cursor). with_text g.text (word f i a x.mark x.rest)) (sym same)
+word_first f i a g c cs t is same goes = grind (arith, text_twice, word_on)
 
 between_there : (f : Bool) (i : ℕ) (a end : Marker) (g : PlainGap) (xs : List ℕ) → xs ≡ g.behind.rest
     → word_behind_gap f i a end g zero xs ≡ plain_behind_gap f i a end g
@@ -281,9 +264,7 @@ plain_starts f i s t h = cc
 pub words_and_rest : (f : Bool) (i : ℕ) (s there end seen : Cursor) (text grown : List ℕ)
     → word_starts f s ≡ Ok (true, there) → PlainWordsMoved f text grown there end → seen ≡ end
     → with_text grown (word f i s.mark seen.mark seen.rest) ≡ with_text text (plain f i s)
-words_and_rest f i s there end seen text grown starts moved same =
-    ap (λ (x : Cursor). with_text grown (word f i s.mark x.mark x.rest)) same ∙ moved.same i s.mark
-    ∙ ap (with_text text) (sym (plain_starts f i s there starts))
+words_and_rest f i s there end seen text grown starts moved same = grind (arith, plain_starts)
 
 -- a refusal that `?` hands on
 pub moves_refused : {X Y : Type 0} (view : X → Y) (r : Result X Stop) (f : Result Y Refusal) (refusal : Refusal)

@@ -1,5 +1,5 @@
 -- A plain scalar is refused where it begins, where a word of it would begin, or after the blanks of a line.
-use Rattle.std.proofs.Common.{◌≡◌, ℕ, zero, suc, Bool, true, false, List, [], ◌∷◌, ◌++◌, drop, slice_index, Result, Ok, Err, refl, sym, ap, ◌∙◌, subst, inl, inr, nat_lt, encode_utf8}
+use Rattle.std.proofs.Common.{◌≡◌, ℕ, zero, suc, Bool, true, false, List, [], ◌∷◌, ◌++◌, drop, slice_index, Result, Ok, Err, refl, sym, ap, ◌∙◌, subst, inl, inr, nat_lt, encode_utf8, arith}
 use Rattle.std.specs.Prelude.{◌⊎◌, ◌&&◌, ◌||◌, ◌==◌, not, pred, if◌then◌else◌}
 use Rattle.std.specs.List.{prefix_len}
 use Rattle.saphyr_input.specs.Classes.{is_blank, is_bom, is_break, is_flow, is_z, tab, line_feed}
@@ -25,63 +25,43 @@ use Rattle.saphyr_input.proofs.Basics.Characters.{blank_no_break}
 -- ## The lines after a word's line
 
 -- passed up to where the gap ends, or refused at the scalar's start or up to where it is refused
-abbrev TellsGap : Marker → Marker → List ℕ → Result PlainGap Refusal → Type 0
-TellsGap start m t (Ok g) = PassesBreak m t g.behind
-TellsGap start m t (Err e) = (e.mark ≡ start) ⊎ ((behind : List ℕ) × PassesBreak m t (mid_line e.mark behind))
+abbrev PassesLines : Marker → Marker → List ℕ → Result PlainGap Refusal → Type 0
+PassesLines start m t (Ok g) = PassesBreak m t g.behind
+PassesLines start m t (Err e) = (e.mark ≡ start) ⊎ ((behind : List ℕ) × PassesBreak m t (mid_line e.mark behind))
 
-told_more : (start m k : Marker) (t u : List ℕ) (r : Result PlainGap Refusal)
-    → ((s : Cursor) → PassesBreak k u s → PassesBreak m t s) → TellsGap start k u r → TellsGap start m t r
-told_more start m k t u (Ok g) more h = more g.behind h
-told_more start m k t u (Err e) more (inl is) = inl is
-told_more start m k t u (Err e) more (inr h) = inr (h.0, more (mid_line e.mark h.0) h.1)
+passes_more : (start m k : Marker) (t u : List ℕ) (r : Result PlainGap Refusal)
+    → ((s : Cursor) → PassesBreak k u s → PassesBreak m t s) → PassesLines start k u r → PassesLines start m t r
+passes_more start m k t u (Ok g) more h = more g.behind h
+passes_more start m k t u (Err e) more (inl is) = inl is
+passes_more start m k t u (Err e) more (inr h) = inr (h.0, more (mid_line e.mark h.0) h.1)
 
-reached_told : (start : Marker) (tabbed : Bool) (feeds : List ℕ) (m : Marker) (t : List ℕ)
+reached_passes : (start : Marker) (tabbed : Bool) (feeds : List ℕ) (m : Marker) (t : List ℕ)
     → ((b : Bool) → PassesBreak m t (record { rest = t; mark = m; blank_so_far = b }))
-    → TellsGap start m t (reached_gap start tabbed feeds (line_front m t))
+    → PassesLines start m t (reached_gap start tabbed feeds (line_front m t))
 unfolding content_behind_tab
-reached_told start tabbed feeds m t here =
+reached_passes start tabbed feeds m t here =
     let P : Result Cursor Refusal → Type 0 =
-    λ r. TellsGap start m t (r >>= λ u. Ok (record { text = feeds; tabbed = tabbed; behind = u })) in
+    λ r. PassesLines start m t (r >>= λ u. Ok (record { text = feeds; tabbed = tabbed; behind = u })) in
     by_test (tabbed && is_bom (slice_index t 0)) _ _ P (λ _. inr (t, here false))
     (λ _. by_test (tabbed && not ((slice_index t 0 == 35) || is_z (slice_index t 0))) _ _ P (λ _. inl refl)
     (λ _. here true))
 
 -- a character, of a break or none, before what is told from the place after it on
-one_told : (start m : Marker) (c : ℕ) (cs : List ℕ) (f : Marker → Result PlainGap Refusal)
-    → ((k : Marker) → TellsGap start k cs (f k)) → TellsGap start m (c ∷ cs) (f (behind_one m c cs))
-one_told start m c cs f others = on (is_cr_lf c cs) refl (is_break c) refl
-  where
-    step : (k : Marker) → behind_one m c cs ≡ k → ((s : Cursor) → PassesBreak k cs s → PassesBreak m (c ∷ cs) s)
-        → TellsGap start m (c ∷ cs) (f (behind_one m c cs))
-    step k is more = subst (λ (j : Marker). TellsGap start m (c ∷ cs) (f j)) (sym is)
-        (told_more start m k (c ∷ cs) cs (f k) more (others k))
+one_passes : (start m : Marker) (c : ℕ) (cs : List ℕ) (f : Marker → Result PlainGap Refusal)
+    → ((k : Marker) → PassesLines start k cs (f k)) → PassesLines start m (c ∷ cs) (f (behind_one m c cs))
+one_passes start m c cs f others = grind (arith, passes_more, return_here, along_same, feed_here, one_here)
 
-    inside : (a b : Bool) → b ≡ true → (a && not b) ≡ false
-    inside true true h = refl
-    inside false b h = refl
-    inside true false h = absurd (cc)
-
-    on : (both : Bool) → is_cr_lf c cs ≡ both → (breaks : Bool) → is_break c ≡ breaks
-        → TellsGap start m (c ∷ cs) (f (behind_one m c cs))
-    on true e breaks g = step (along m 1)
-        (let no : ends_line c cs ≡ false = inside (is_break c) (is_cr_lf c cs) e in rw no refl)
-        (λ s. return_here m (along m 1) c cs s e (along_same m))
-    on false e true g = step (next_line m 1) (let yes : ends_line c cs ≡ true = rw (e, g) refl in rw yes refl)
-        (λ s h. feed_here m c cs s e g h.here)
-    on false e false g = step (along m 1) (let no : ends_line c cs ≡ false = rw g refl in rw no refl)
-        (λ s. one_here m c cs s g)
-
-lines_told : (indent : ℕ) (start : Marker) (tabbed : Bool) (feeds : List ℕ) (m : Marker) (t : List ℕ)
-    → TellsGap start m t (lines indent start tabbed feeds m t)
+lines_pass : (indent : ℕ) (start : Marker) (tabbed : Bool) (feeds : List ℕ) (m : Marker) (t : List ℕ)
+    → PassesLines start m t (lines indent start tabbed feeds m t)
 unfolding lines
-lines_told indent start tabbed feeds m [] = reached_told start tabbed feeds m [] (end_here m)
-lines_told indent start tabbed feeds m (c ∷ cs) =
+lines_pass indent start tabbed feeds m [] = reached_passes start tabbed feeds m [] (end_here m)
+lines_pass indent start tabbed feeds m (c ∷ cs) =
     let tabs : Bool = is_blank c && (tabbed || ((c == tab) && nat_lt m.col indent)) in
     let fed : List ℕ = if ends_line c cs then feeds ++ line_feed ∷ [] else feeds in
-    by_test (is_blank_or_break c) _ _ (TellsGap start m (c ∷ cs))
-    (λ _. one_told start m c cs (λ k. lines indent start tabs fed k cs)
-    (λ k. lines_told indent start tabs fed k cs))
-    (λ e. reached_told start tabbed feeds m (c ∷ cs) (λ b. stop_here m c cs b (no_break (is_blank c) (is_break c) e)))
+    by_test (is_blank_or_break c) _ _ (PassesLines start m (c ∷ cs))
+    (λ _. one_passes start m c cs (λ k. lines indent start tabs fed k cs)
+    (λ k. lines_pass indent start tabs fed k cs))
+    (λ e. reached_passes start tabbed feeds m (c ∷ cs) (λ b. stop_here m c cs b (no_break (is_blank c) (is_break c) e)))
   where
     no_break : (a b : Bool) → (a || b) ≡ false → b ≡ false
     no_break true b e = absurd (cc)
@@ -89,68 +69,50 @@ lines_told indent start tabbed feeds m (c ∷ cs) =
 
 -- ## Gaps
 
-abbrev GapTold : Marker → Cursor → Result PlainGap Refusal → Type 0
-GapTold start s (Ok g) = IsPassed s.mark s.rest g.behind.mark g.behind.rest
-GapTold start s (Err e) = (e.mark ≡ start) ⊎ IsRefusedInside s e
+abbrev GapPasses : Marker → Cursor → Result PlainGap Refusal → Type 0
+GapPasses start s (Ok g) = IsPassed s.mark s.rest g.behind.mark g.behind.rest
+GapPasses start s (Err e) = (e.mark ≡ start) ⊎ IsRefusedInside s e
 
-next_told : (indent : ℕ) (start : Marker) (s t : Cursor) → IsPassed s.mark s.rest t.mark t.rest
-    → GapTold start s (next_lines indent start t)
-next_told indent start s t p =
-    by (lines indent start false [] t.mark t.rest) (lines_told indent start false [] t.mark t.rest)
-  where
-    by : (r : Result PlainGap Refusal) → TellsGap start t.mark t.rest r → GapTold start s (r >>= λ g. Ok (folded_gap g))
-    by (Ok g) h = passed_passed s.mark s.rest t.mark t.rest g.behind.mark g.behind.rest p h.here
-    by (Err e) (inl is) = inl is
-    by (Err e) (inr h) = inr (inside_from s t e p (h.0, h.1.here))
+next_passes : (indent : ℕ) (start : Marker) (s t : Cursor) → IsPassed s.mark s.rest t.mark t.rest
+    → GapPasses start s (next_lines indent start t)
+next_passes indent start s t p = grind (arith, lines_pass, passed_passed, inside_from)
 
-gap_told : (indent : ℕ) (start : Marker) (s : Cursor) → GapTold start s (gap indent start s)
+gap_passes : (indent : ℕ) (start : Marker) (s : Cursor) → GapPasses start s (gap indent start s)
 unfolding gap gap_from
-gap_told indent start s =
+gap_passes indent start s =
     let t : Cursor = pass (prefix_len is_blank s.rest) s in
     let p : IsPassed s.mark s.rest t.mark t.rest = run_passed is_blank s.mark s.rest blank_no_break in
-    by_test (is_break (slice_index t.rest 0)) _ _ (GapTold start s)
-    (λ e. next_told indent start s (pass_break t)
+    by_test (is_break (slice_index t.rest 0)) _ _ (GapPasses start s)
+    (λ e. next_passes indent start s (pass_break t)
     (passed_passed s.mark s.rest t.mark t.rest (pass_break t).mark (pass_break t).rest p
     (break_ends t (or_left (is_break (slice_index t.rest 0)) (is_z (slice_index t.rest 0)) e)).passes)) (λ _. p)
 
 plain_gap_refused : (indent : ℕ) (s t : Cursor) → IsPassed s.mark s.rest t.mark t.rest
     → Refused (IsRefusedInside s) (gap indent s.mark t)
-plain_gap_refused indent s t p = by (gap indent s.mark t) (gap_told indent s.mark t)
+plain_gap_refused indent s t p = by (gap indent s.mark t) (gap_passes indent s.mark t)
   where
-    by : (r : Result PlainGap Refusal) → GapTold s.mark t r → Refused (IsRefusedInside s) r
+    by : (r : Result PlainGap Refusal) → GapPasses s.mark t r → Refused (IsRefusedInside s) r
     by (Ok g) h = tt
     by (Err e) (inl is) = inside_start s e is
     by (Err e) (inr h) = inside_from s t e p h
 
 gap_passed : (indent : ℕ) (start : Marker) (s : Cursor) (g : PlainGap) → gap indent start s ≡ Ok g
     → IsPassed s.mark s.rest g.behind.mark g.behind.rest
-gap_passed indent start s g e = rw e at (gap_told indent start s)
+gap_passed indent start s g e = rw e at (gap_passes indent start s)
 
 -- ## Words
 
 starts_refused : (in_flow : Bool) (s : Cursor) → RefusedAt s.mark (word_starts in_flow s)
 unfolding word_starts
-starts_refused in_flow s =
-    by_test ((slice_index s.rest 0 == 35) || ((s.mark.col == 0) && is_document_indicator s.rest)) _ _ (RefusedAt s.mark)
-    (λ _. tt)
-    (λ _. by_test (in_flow && (slice_index s.rest 0 == 45) && is_flow (slice_index s.rest 1)) _ _ (RefusedAt s.mark)
-    (λ _. refl) (λ _. tt))
+starts_refused in_flow s = grind arith
 
 goes_refused : (in_flow : Bool) (indent : ℕ) (s : Cursor) → RefusedAt s.mark (next_word_starts in_flow indent s)
 unfolding next_word_starts
-goes_refused in_flow indent s =
-    by_test (s.blank_so_far && not in_flow && nat_lt s.mark.col indent) _ _ (RefusedAt s.mark) (λ _. tt)
-    (λ _. starts_refused in_flow s)
+goes_refused in_flow indent s = grind (arith, by_test, nat_lt, starts_refused)
 
 word_no_break : (in_flow : Bool) (t : List ℕ) → is_in_word in_flow t ≡ true → is_break (slice_index t 0) ≡ false
 unfolding is_in_word
-word_no_break in_flow t e =
-    by (is_blank (slice_index t 0)) (is_break (slice_index t 0)) (is_z (slice_index t 0)) (can_be_plain in_flow t) e
-  where
-    by : (a b z p : Bool) → (not (a || (b || z)) && p) ≡ true → b ≡ false
-    by a false z p h = refl
-    by true true z p h = absurd (cc)
-    by false true z p h = absurd (cc)
+word_no_break in_flow t e = grind arith
 
 text_refused : (P : Refusal → Type 0) (text : List ℕ) (r : PlainScalarRead) → Refused P r → Refused P (with_text text r)
 text_refused P text r h = refused_bind P r _ h (λ x _. tt)

@@ -21,12 +21,12 @@ use Rattle.saphyr_input.proofs.Basics.Characters.{blank_cases}
 
 -- Characters of words, and the items of a text.
 
-abbrev pub Ink : ℕ → Type 0
-Ink c = is_blank_or_break c ≡ false
+abbrev pub IsNonSpace : ℕ → Type 0
+IsNonSpace c = is_blank_or_break c ≡ false
 
-abbrev pub AreInk : List ℕ → Type 0
-AreInk [] = Unit {0}
-AreInk (c ∷ cs) = Ink c × AreInk cs
+abbrev pub AreNonSpace : List ℕ → Type 0
+AreNonSpace [] = Unit {0}
+AreNonSpace (c ∷ cs) = IsNonSpace c × AreNonSpace cs
 
 -- no LF comes first
 abbrev pub NoFeed : List ℕ → Type 0
@@ -38,19 +38,19 @@ items_of text = map raw_item (normalized text)
 three_false : (a b d : Bool) → (a || (b || d)) ≡ false → (a ≡ false) × (b ≡ false) × (d ≡ false)
 three_false a b d h = grind arith
 
-pub ink_no_feed : (c : ℕ) → Ink c → (c == line_feed) ≡ false
-ink_no_feed c h = (three_false (is_blank c) (c == 10) (c == 13) h).1
+pub non_space_no_feed : (c : ℕ) → IsNonSpace c → (c == line_feed) ≡ false
+non_space_no_feed c h = (three_false (is_blank c) (c == 10) (c == 13) h).1
 
-items_ink : (c : ℕ) (cs : List ℕ) → Ink c → items_of (c ∷ cs) ≡ Raw c ∷ items_of cs
-items_ink c cs h = grind arith
+items_non_space : (c : ℕ) (cs : List ℕ) → IsNonSpace c → items_of (c ∷ cs) ≡ Raw c ∷ items_of cs
+items_non_space c cs h = grind arith
 
 items_blank : (c : ℕ) (cs : List ℕ) → is_blank c ≡ true → items_of (c ∷ cs) ≡ Blank c ∷ items_of cs
 items_blank c cs h = blank_cases c h (λ x. items_of (x ∷ cs) ≡ Blank x ∷ items_of cs) refl refl
 
 -- a word is read as its characters
-pub folded_word : (w y : List ℕ) → AreInk w → folded (items_of (w ++ y)) ≡ w ++ folded (items_of y)
+pub folded_word : (w y : List ℕ) → AreNonSpace w → folded (items_of (w ++ y)) ≡ w ++ folded (items_of y)
 folded_word [] y h = refl
-folded_word (c ∷ w) y h = ap folded (items_ink c (w ++ y) h.0) ∙ ap (λ (l : List ℕ). c ∷ l) (folded_word w y h.1)
+folded_word (c ∷ w) y h = ap folded (items_non_space c (w ++ y) h.0) ∙ ap (λ (l : List ℕ). c ∷ l) (folded_word w y h.1)
 
 first_same : (v y : List ℕ) → NoFeed y → (slice_index (v ++ y) 0 == line_feed) ≡ (slice_index v 0 == line_feed)
 first_same [] y h = h
@@ -79,7 +79,8 @@ passed_append m (c ∷ v) y h =
     cc (same_ends c v y h, passed_append (if ends_line c v then next_line m 1 else along m 1) v y h)
 
 -- no line ends in a word
-pub passed_word : (m : Marker) (w y : List ℕ) → AreInk w → end_of_text m (w ++ y) ≡ end_of_text (along m (length w)) y
+pub passed_word : (m : Marker) (w y : List ℕ) → AreNonSpace w
+    → end_of_text m (w ++ y) ≡ end_of_text (along m (length w)) y
 passed_word m [] y h = ap (λ x. end_of_text x y) (sym (along_none m))
 passed_word m (c ∷ w) y h =
     let t = three_false (is_blank c) (c == 10) (c == 13) h.0 in
@@ -120,30 +121,27 @@ are_breaks (c ∷ v) h = by_white (is_blank c) refl (are_breaks v h.1)
 
 -- breaks before a word
 pub folded_breaks : (k : ℕ) (v : List ℕ) (c : ℕ) (cs : List ℕ) → AreIn is_blank_or_break v → line_count v ≡ suc k
-    → Ink c → folded (items_of (v ++ (c ∷ cs))) ≡ raw_break k ++ folded (items_of (c ∷ cs))
-folded_breaks k v c cs h count ink =
-    let here = items_ink c cs ink in
-    let breaks : AreBreaks (suc k) (items_of v) = rw count at (are_breaks v h) in
-    ap folded (items_append v (c ∷ cs) (ink_no_feed c ink) ∙ ap (λ (l : List Item). items_of v ++ l) here)
-    ∙ (folds_breaks k (items_of v) c (items_of cs)).0 breaks
-    ∙ ap (λ (l : List ℕ). raw_break k ++ l) (sym (ap folded here))
+    → IsNonSpace c → folded (items_of (v ++ (c ∷ cs))) ≡ raw_break k ++ folded (items_of (c ∷ cs))
+folded_breaks k v c cs h count non_space =
+    grind (arith, items_non_space, are_breaks, items_append, non_space_no_feed, folds_breaks)
 
 -- blanks before a word
 abbrev pub AreBlank : List ℕ → Type 0
 AreBlank [] = Unit {0}
 AreBlank (c ∷ cs) = (is_blank c ≡ true) × AreBlank cs
 
-no_break_next : (v : List ℕ) (c : ℕ) (cs : List ℕ) → AreBlank v → Ink c
+no_break_next : (v : List ℕ) (c : ℕ) (cs : List ℕ) → AreBlank v → IsNonSpace c
     → is_before_break (items_of (v ++ (c ∷ cs))) ≡ false
-no_break_next [] c cs h ink = ap is_before_break (items_ink c cs ink)
-no_break_next (b ∷ v) c cs h ink = ap is_before_break (items_blank b (v ++ (c ∷ cs)) h.0) ∙ no_break_next v c cs h.1 ink
+no_break_next [] c cs h non_space = ap is_before_break (items_non_space c cs non_space)
+no_break_next (b ∷ v) c cs h non_space = ap is_before_break (items_blank b (v ++ (c ∷ cs)) h.0)
+    ∙ no_break_next v c cs h.1 non_space
 
-pub folded_blanks : (v : List ℕ) (c : ℕ) (cs : List ℕ) → AreBlank v → Ink c
+pub folded_blanks : (v : List ℕ) (c : ℕ) (cs : List ℕ) → AreBlank v → IsNonSpace c
     → folded (items_of (v ++ (c ∷ cs))) ≡ v ++ folded (items_of (c ∷ cs))
-folded_blanks [] c cs h ink = refl
-folded_blanks (b ∷ v) c cs h ink = ap folded (items_blank b (v ++ (c ∷ cs)) h.0)
-    ∙ ap (λ (t : Bool). (if t then [] else b ∷ []) ++ folded (items_of (v ++ (c ∷ cs)))) (no_break_next v c cs h.1 ink)
-    ∙ ap (λ (l : List ℕ). b ∷ l) (folded_blanks v c cs h.1 ink)
+folded_blanks [] c cs h non_space = refl
+folded_blanks (b ∷ v) c cs h non_space = ap folded (items_blank b (v ++ (c ∷ cs)) h.0)
+    ∙ ap (λ (t : Bool). (if t then [] else b ∷ []) ++ folded (items_of (v ++ (c ∷ cs))))
+    (no_break_next v c cs h.1 non_space) ∙ ap (λ (l : List ℕ). b ∷ l) (folded_blanks v c cs h.1 non_space)
 
 -- the index counts the characters
 pub passed_index : (m : Marker) (xs : List ℕ) → (end_of_text m xs).index ≡ m.index + length xs

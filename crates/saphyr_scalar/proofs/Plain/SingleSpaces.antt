@@ -18,7 +18,7 @@ use Rattle.saphyr_scalar.specs.Steps.Quoted.{mid_line, WordsMoved}
 use Rattle.saphyr_scalar.specs.Steps.Sets.{in_plain, leads_plain, joins_plain, begins_any_plain}
 use Rattle.saphyr_scalar.proofs.Plain.Pieces.{word_over, word_on, no_text, text_twice}
 use Rattle.saphyr_scalar.proofs.Plain.Words.{word_left}
-use Rattle.saphyr_scalar.proofs.Quoted.Inside.{Moved, IsQuotedInk, content_of}
+use Rattle.saphyr_scalar.proofs.Quoted.Inside.{Moved, IsQuotedContent, content_of}
 use Rattle.saphyr_scalar.proofs.Quoted.Words.{both_true}
 use Rattle.saphyr_scalar.proofs.TakenWords.{words_behind}
 use Rattle.saphyr_input.proofs.Basics.Booleans.{and_false, by_test, clash, either}
@@ -32,7 +32,7 @@ set_in_word f xs h =
     all : (a b d e x : Bool) → (not a && not b && not d && not e) ≡ true → (not b && cond a x (not (d || e))) ≡ true
     all a b d e x h = grind arith
 
-pub set_content : (f : Bool) (c : ℕ) → in_plain f c ≡ true → IsQuotedInk c
+pub set_content : (f : Bool) (c : ℕ) → in_plain f c ≡ true → IsQuotedContent c
 set_content f c h = content_of c (second (c == 58) (is_blank_or_breakz c) (is_bom c) (f && is_flow c) h)
   where
     second : (a b d e : Bool) → (not a && not b && not d && not e) ≡ true → b ≡ false
@@ -45,11 +45,7 @@ pub record LeadsWord (f : Bool) (cs : List ℕ) : Type 0 where
   pub dash : (slice_index cs 0 == hyphen) ≡ false
 
 pub leads : (f : Bool) (cs : List ℕ) → leads_plain f (slice_index cs 0) ≡ true → LeadsWord f cs
-leads f cs h =
-    let two = both_true (in_plain f (slice_index cs 0) && not (slice_index cs 0 == 35)) (not (slice_index cs 0 == 45))
-    h in
-    let one = both_true (in_plain f (slice_index cs 0)) (not (slice_index cs 0 == 35)) two.0 in
-    record { set = one.0; hash = not-true _ one.1; dash = not-true _ two.1 }
+leads f cs h = grind (arith, both_true, slice_index, not-true)
 
 one_blank : (cs : List ℕ) → is_blank (slice_index cs 0) ≡ false → prefix_len is_blank (32 ∷ cs) ≡ 1
 one_blank [] h = refl
@@ -58,9 +54,7 @@ one_blank (d ∷ ds) h = rw h refl
 -- the space alone is moved
 space_moved : (m : Marker) (cs : List ℕ) → is_blank (slice_index cs 0) ≡ false
     → Moved is_blank [] (encode_utf8 32) (mid_line m (32 ∷ cs)) (mid_line (along m 1) cs)
-space_moved m cs h = record {
-  is = cc (one_blank cs h, append-nil (encode_utf8 32));
-}
+space_moved m cs h = grind (arith, one_blank, append-nil)
 
 abbrev space_gap : Marker → List ℕ → PlainGap
 space_gap m cs = seen_gap false (encode_utf8 32) (mid_line (along m 1) cs)

@@ -16,9 +16,9 @@ use Rattle.saphyr_scalar.proofs.Plain.Pieces.{plain_behind_gap, all_word, word_s
 use Rattle.saphyr_scalar.proofs.Plain.Gaps.{gap_end}
 use Rattle.saphyr_scalar.proofs.Plain.Indented.{GoesOn, goes_on}
 use Rattle.saphyr_scalar.proofs.Plain.Spelled.{Begins, starts_begins, goes_begins}
-use Rattle.saphyr_scalar.proofs.Plain.Runs.{Ink}
+use Rattle.saphyr_scalar.proofs.Plain.Runs.{IsNonSpace}
 use Rattle.saphyr_scalar.proofs.Plain.GapsRead.{GapReads, gap_reads}
-use Rattle.saphyr_scalar.proofs.Plain.WordsRead.{in_word_ink, Read, WordReads, front_of, last_word, word_more}
+use Rattle.saphyr_scalar.proofs.Plain.WordsRead.{in_word_non_space, Read, WordReads, front_of, last_word, word_more}
 
 -- what was read, from a word on
 
@@ -119,7 +119,7 @@ plain_lines f i s t text end comment is = by_start (word_starts f s) refl is
         front = r.closes.front;
         last = r.closes.last;
         closes = r.closes.is;
-        is_ink = r.closes.ink;
+        is_non_space = r.closes.non_space;
         follows = r.follows;
         value = r.value;
         ends = r.ends;
@@ -148,14 +148,14 @@ plain_reads f i s t text end comment is = (plain_lines f i s t text end comment 
 
 -- its first character
 
-first_ink : (f : Bool) (xs : List ℕ) → is_in_word f xs ≡ true → Ink (slice_index xs 0)
-first_ink f [] h = let none = word_left f [] h in absurd (omega arith)
-first_ink f (c ∷ cs) h = in_word_ink f c cs h
+first_non_space : (f : Bool) (xs : List ℕ) → is_in_word f xs ≡ true → IsNonSpace (slice_index xs 0)
+first_non_space f [] h = let none = word_left f [] h in absurd (omega arith)
+first_non_space f (c ∷ cs) h = in_word_non_space f c cs h
 
-pub plain_ink : (f : Bool) (i : ℕ) (s t : Cursor) (text : List ℕ) (end : Marker) (comment : Option Marker)
+pub plain_non_space : (f : Bool) (i : ℕ) (s t : Cursor) (text : List ℕ) (end : Marker) (comment : Option Marker)
     → plain f i s ≡ Ok (text, end, comment, t) → is_blank_or_break (slice_index s.rest 0) ≡ false
 unfolding plain
-plain_ink f i s t text end comment is = by_start (word_starts f s) refl is
+plain_non_space f i s t text end comment is = by_start (word_starts f s) refl is
   where
     x : Read
     x = (text, end, comment, t)
@@ -166,7 +166,7 @@ plain_ink f i s t text end comment is = by_start (word_starts f s) refl is
     by_first : (b : Bool) (u : Cursor) → word_starts f s ≡ Ok (b, u)
         → (if b then word f i s.mark u.mark u.rest else refuse fault.PlainEnd s.mark) ≡ Ok x → Goal
     by_first false u q e = absurd (no_reading _ x e)
-    by_first true u q e = first_ink f s.rest ((starts_says f true s u q).goes refl)
+    by_first true u q e = first_non_space f s.rest ((starts_says f true s u q).goes refl)
 
     by_start : (r : Result (Bool × Cursor) Refusal) → word_starts f s ≡ r
         → (r >>= λ b. if b.0 then word f i s.mark b.1.mark b.1.rest else refuse fault.PlainEnd s.mark) ≡ Ok x → Goal

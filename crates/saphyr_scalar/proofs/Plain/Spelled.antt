@@ -15,7 +15,7 @@ use Rattle.saphyr_scalar.proofs.Moving.{along_none, along_more}
 use Rattle.saphyr_scalar.proofs.Quoted.Inside.{break_cases}
 use Rattle.saphyr_scalar.proofs.Quoted.Words.{both_true}
 use Rattle.saphyr_scalar.proofs.Plain.Words.{word_left}
-use Rattle.saphyr_scalar.proofs.Plain.Runs.{Ink, AreInk, NoFeed, same_ends}
+use Rattle.saphyr_scalar.proofs.Plain.Runs.{IsNonSpace, AreNonSpace, NoFeed, same_ends}
 use Rattle.std.proofs.lemmas.Bool.{false≢true, eqb-true}
 use Rattle.saphyr_input.specs.Indicators.{colon, number_sign}
 use Rattle.saphyr_input.proofs.Basics.Booleans.{by_test}
@@ -27,7 +27,7 @@ record WordCharacter (f : Bool) (c : ℕ) (cs : List ℕ) : Type 0 where
   no_nul : c ≢ 0
   no_mark : c ≢ 65279
   colon : c ≡ 58 → IsFalse (is_blank_or_breakz (slice_index cs 0))
-  ink : Ink c
+  non_space : IsNonSpace c
 
 word_character : (f : Bool) (c : ℕ) (cs : List ℕ) → is_in_word f (c ∷ cs) ≡ true → WordCharacter f c cs
 unfolding is_in_word
@@ -38,7 +38,7 @@ word_character f c cs h =
       no_mark = λ e. false≢true (subst (λ x. can_be_plain f (x ∷ cs) ≡ true) e two.1);
       colon = λ e. first_of (is_blank_or_breakz (slice_index cs 0)) (f && is_flow (slice_index cs 0))
           (subst (λ x. can_be_plain f (x ∷ cs) ≡ true) e two.1);
-      ink = by_parts (is_blank c) (is_break c) (is_z c) two.0;
+      non_space = by_parts (is_blank c) (is_break c) (is_z c) two.0;
     }
   where
     first_of : (a b : Bool) → not (a || b) ≡ true → a ≡ false
@@ -47,21 +47,11 @@ word_character f c cs h =
     by_parts : (a b z : Bool) → not (a || (b || z)) ≡ true → (a || b) ≡ false
     by_parts a b z x = grind arith
 
-ink_line : (c : ℕ) (cs : List ℕ) → Ink c → ends_line c cs ≡ false
-ink_line c cs h = grind arith
-
 -- one character more of a word
 one_spelled : (f : Bool) (m : Marker) (apart : Bool) (c : ℕ) (cs behind all : List ℕ) → cs ++ behind ≡ all
     → WordCharacter f c all → (IsTrue apart → c ≢ number_sign) → (m.col ≡ 0 → IsFalse (is_document_indicator (c ∷ all)))
     → IsSpelledPlain (along m 1) false cs behind → IsSpelledPlain m apart (c ∷ cs) behind
-one_spelled f m apart c cs behind all is w comment marker more = (
-  w.no_nul,
-  w.no_mark,
-  comment,
-  λ e. rw is (w.colon e),
-  λ e. rw is (marker e),
-  rw (ink_line c (cs ++ behind) w.ink) (rw w.ink more),
-)
+one_spelled f m apart c cs behind all is w comment marker more = grind arith
 
 taken_and_left : (xs y behind : List ℕ) (n : ℕ) → drop n xs ≡ y ++ behind → (take n xs ++ y) ++ behind ≡ xs
 taken_and_left xs y behind n e = cc (append_assoc (take n xs) y behind, take-append-drop n xs)
@@ -252,13 +242,13 @@ pub record Closes (text : List ℕ) : Type 0 where
   pub front : List ℕ
   pub last : ℕ
   pub is : text ≡ front ++ last ∷ []
-  pub ink : Ink last
+  pub non_space : IsNonSpace last
 
-pub word_closes : (c : ℕ) (cs : List ℕ) → AreInk (c ∷ cs) → Closes (c ∷ cs)
-word_closes c [] h = record { front = []; last = c; is = refl; ink = h.0 }
+pub word_closes : (c : ℕ) (cs : List ℕ) → AreNonSpace (c ∷ cs) → Closes (c ∷ cs)
+word_closes c [] h = record { front = []; last = c; is = refl; non_space = h.0 }
 word_closes c (d ∷ ds) h =
     let more = word_closes d ds h.1 in
-    record { front = c ∷ more.front; last = more.last; is = ap (λ l. c ∷ l) more.is; ink = more.ink }
+    record { front = c ∷ more.front; last = more.last; is = ap (λ l. c ∷ l) more.is; non_space = more.non_space }
 
 -- where a word begins
 pub other_answer : (s t : Cursor) → (let x : Result (Bool × Cursor) Refusal = Ok (false, s) in x ≡ Ok (true, t)) → ⊥
@@ -281,12 +271,8 @@ begins_here s h = record {
 
 pub starts_begins : (f : Bool) (s t : Cursor) → word_starts f s ≡ Ok (true, t) → Begins s.mark s.rest
 unfolding word_starts
-starts_begins f s t = by_test ((slice_index s.rest 0 == 35) || ((s.mark.col == 0) && is_document_indicator s.rest)) _ _
-    (λ (r : Result (Bool × Cursor) Refusal). r ≡ Ok (true, t) → Begins s.mark s.rest)
-    (λ _ e. absurd (other_answer s t e)) (λ h _. begins_here s h)
+starts_begins f s t = grind arith
 
 pub goes_begins : (f : Bool) (i : ℕ) (s t : Cursor) → next_word_starts f i s ≡ Ok (true, t) → Begins s.mark s.rest
 unfolding next_word_starts
-goes_begins f i s t = by_test (s.blank_so_far && not f && nat_lt s.mark.col i) _ _
-    (λ (r : Result (Bool × Cursor) Refusal). r ≡ Ok (true, t) → Begins s.mark s.rest)
-    (λ _ e. absurd (other_answer s t e)) (λ _ e. starts_begins f s t e)
+goes_begins f i s t = grind (arith, by_test, other_answer, starts_begins)

@@ -16,13 +16,7 @@ use Rattle.saphyr_scalar.proofs.Plain.Pieces.{GapMoved, goes_not, no_turn, words
 -- where a word has ended, no more of it is moved
 pub none_moved : (f : Bool) (text : List ℕ) (s : Cursor) → is_in_word f s.rest ≡ false → s.blank_so_far ≡ false
     → PlainWordsMoved f text text s s
-none_moved f text s ends line = record {
-  same = λ i a. refl;
-  on_line = line;
-  stops = ends;
-  shorter = λ goes. absurd (cc);
-  within = omega arith;
-}
+none_moved f text s ends line = grind arith
 
 pub still_moved : (f : Bool) (i : ℕ) (a : Marker) (text : List ℕ) (s : Cursor) (g : PlainGap)
     → is_in_word f s.rest ≡ false → s.blank_so_far ≡ false → gap i a s ≡ Ok g → GapMoved f i a text text s s g
@@ -31,12 +25,10 @@ still_moved f i a text s g ends line is = record { moved = none_moved f text s e
 pub none_passed : (s : Cursor) → s.blank_so_far ≡ false → pass 0 s ≡ s
 none_passed s line = grind arith
 
-gap_before_ink : (i : ℕ) (a : Marker) (s : Cursor) → s.blank_so_far ≡ false
+gap_before_non_space : (i : ℕ) (a : Marker) (s : Cursor) → s.blank_so_far ≡ false
     → is_blank_or_break (slice_index s.rest 0) ≡ false → gap i a s ≡ Ok (seen_gap false [] s)
 unfolding gap gap_from
-gap_before_ink i a s line ink =
-    let two = or_parts (is_blank (slice_index s.rest 0)) (is_break (slice_index s.rest 0)) ink in
-    rw (no_run is_blank s.rest two.0, none_passed s line, two.1) refl
+gap_before_non_space i a s line non_space = grind (arith, or_parts, slice_index, no_run, none_passed)
 
 hash_in_word : (f : Bool) (xs : List ℕ) → slice_index xs 0 ≡ number_sign → is_in_word f xs ≡ true
 unfolding is_in_word
@@ -50,9 +42,10 @@ no_comment f s ends = by_test (slice_index s.rest 0 == 35) true false (λ _. com
 pub scalar_ends : (f : Bool) (i : ℕ) (a : Marker) (text : List ℕ) (s : Cursor) → is_in_word f s.rest ≡ false
     → s.blank_so_far ≡ false → is_blank_or_break (slice_index s.rest 0) ≡ false
     → with_text text (word f i a s.mark s.rest) ≡ Ok (text, s.mark, None, s)
-scalar_ends f i a text s ends line ink =
+scalar_ends f i a text s ends line non_space =
     no_turn f i a text text s s (seen_gap false [] s) s (still_moved f i a text s (seen_gap false [] s) ends line
-    (gap_before_ink i a s line ink)) (goes_not f i s ends) ∙ ap (λ x. Ok (text, s.mark, x, s)) (no_comment f s ends)
+    (gap_before_non_space i a s line non_space)) (goes_not f i s ends)
+    ∙ ap (λ x. Ok (text, s.mark, x, s)) (no_comment f s ends)
 
 -- the same of a whole scalar behind a text, where `seen` looks at the character behind its first words
 pub words_end : (f : Bool) (i : ℕ) (s there end seen : Cursor) (text grown : List ℕ) (c : ℕ)
@@ -60,7 +53,7 @@ pub words_end : (f : Bool) (i : ℕ) (s there end seen : Cursor) (text grown : L
     → c ≡ slice_index end.rest 0 → is_blank c ≡ false → is_break c ≡ false
     → with_text text (plain f i s) ≡ Ok (grown, seen.mark, None, seen)
 words_end f i s there end seen text grown c starts moved same is blank break =
-    let ink : is_blank_or_break (slice_index end.rest 0) ≡ false = rw (← is, blank, break) refl in
+    let non_space : is_blank_or_break (slice_index end.rest 0) ≡ false = rw (← is, blank, break) refl in
     sym (words_and_rest f i s there end end text grown starts moved refl)
-    ∙ scalar_ends f i s.mark grown end moved.stops moved.on_line ink
+    ∙ scalar_ends f i s.mark grown end moved.stops moved.on_line non_space
     ∙ ap (λ (x : Cursor). Ok (grown, x.mark, None, x)) (sym same)

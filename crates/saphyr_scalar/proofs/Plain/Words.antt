@@ -21,8 +21,8 @@ pub colon_in_word : (f : Bool) (xs : List ℕ) (c next : ℕ) (b : Bool) → c �
 unfolding is_in_word
 colon_in_word f xs c next b first is second e = rw (sym first ∙ is, ← second) e
 
-pub ink_in_word : (f : Bool) (xs : List ℕ) (c : ℕ) (b : Bool) → c ≡ slice_index xs 0 → c ≢ colon
+pub plain_in_word : (f : Bool) (xs : List ℕ) (c : ℕ) (b : Bool) → c ≡ slice_index xs 0 → c ≢ colon
     → b ≡ (not (is_blank_or_breakz c) && not (is_bom c || (f && is_flow c))) → b ≡ is_in_word f xs
 unfolding is_in_word
-ink_in_word f xs c b first other e =
+plain_in_word f xs c b first other e =
     let off : (c == 58) ≡ false = grind (arith, nat_tests) in rw (← first) (rw off e)

@@ -14,27 +14,27 @@ use Rattle.saphyr_scalar.specs.Reading.Plain.{end_of_text, IsSpelledPlain, IsSaf
 use Rattle.saphyr_scalar.proofs.Plain.Words.{word_left}
 use Rattle.saphyr_scalar.proofs.Plain.Pieces.{word_stops}
 use Rattle.saphyr_scalar.proofs.Plain.Spelled.{Begins, Closes, word_spelled, white_spelled, word_safe, white_safe, word_follows, word_closes}
-use Rattle.saphyr_scalar.proofs.Plain.Runs.{Ink, AreInk, items_of, ink_no_feed, folded_word, passed_append, passed_word}
+use Rattle.saphyr_scalar.proofs.Plain.Runs.{IsNonSpace, AreNonSpace, items_of, non_space_no_feed, folded_word, passed_append, passed_word}
 use Rattle.saphyr_input.proofs.Basics.Booleans.{by_test}
 use Rattle.saphyr_scalar.proofs.Plain.GapsRead.{GapReads}
-use Rattle.saphyr_scalar.proofs.Plain.Indented.{GoesOn, IsLine, later_append, later_ink, later_weaken}
+use Rattle.saphyr_scalar.proofs.Plain.Indented.{GoesOn, IsLine, later_append, later_non_space, later_weaken}
 use Rattle.saphyr_scalar.specs.Spelling.LaterLines.{IsPlainLine, ArePlainLines}
 
 -- Words and gaps.
 
-pub in_word_ink : (f : Bool) (c : ℕ) (cs : List ℕ) → is_in_word f (c ∷ cs) ≡ true → Ink c
+pub in_word_non_space : (f : Bool) (c : ℕ) (cs : List ℕ) → is_in_word f (c ∷ cs) ≡ true → IsNonSpace c
 unfolding is_in_word
-in_word_ink f c cs h = by_parts (is_blank c) (is_break c) (is_z c) (can_be_plain f (c ∷ cs)) h
+in_word_non_space f c cs h = by_parts (is_blank c) (is_break c) (is_z c) (can_be_plain f (c ∷ cs)) h
   where
     by_parts : (a b z e : Bool) → (not (a || (b || z)) && e) ≡ true → (a || b) ≡ false
     by_parts a b z e x = grind arith
 
-word_ink : (f : Bool) (xs : List ℕ) → AreInk (take (word_len f xs) xs)
-word_ink f [] = tt
-word_ink f (c ∷ cs) =
+word_non_space : (f : Bool) (xs : List ℕ) → AreNonSpace (take (word_len f xs) xs)
+word_non_space f [] = tt
+word_non_space f (c ∷ cs) =
     let one : 1 + word_len f cs ≡ suc (word_len f cs) = omega arith in
-    by_test (is_in_word f (c ∷ cs)) (1 + word_len f cs) 0 (λ n. AreInk (take n (c ∷ cs)))
-    (λ h. rw one (in_word_ink f c cs h, word_ink f cs)) (λ _. tt)
+    by_test (is_in_word f (c ∷ cs)) (1 + word_len f cs) 0 (λ n. AreNonSpace (take n (c ∷ cs)))
+    (λ h. rw one (in_word_non_space f c cs h, word_non_space f cs)) (λ _. tt)
 
 word_within : (f : Bool) (xs : List ℕ) → word_len f xs ≤ length xs
 word_within f [] = omega arith
@@ -48,7 +48,7 @@ Read = List ℕ × Marker × Option Marker × Cursor
 pub record WordReads (f : Bool) (i : ℕ) (m : Marker) (xs : List ℕ) (x : Read) : Type 0 where
   pub first : ℕ
   pub others : List ℕ
-  pub ink : Ink first
+  pub non_space : IsNonSpace first
   pub white : List ℕ
   pub is : xs ≡ (first ∷ others) ++ (white ++ x.3.rest)
   pub spelled : IsSpelledPlain m true (first ∷ others) (white ++ x.3.rest)
@@ -66,7 +66,7 @@ pub record Front (f : Bool) (xs : List ℕ) : Type 0 where
   pub first : ℕ
   pub others : List ℕ
   pub is : take (word_len f xs) xs ≡ first ∷ others
-  pub ink : AreInk (first ∷ others)
+  pub non_space : AreNonSpace (first ∷ others)
 
 pub front_of : (f : Bool) (xs : List ℕ) → is_in_word f xs ≡ true → Front f xs
 front_of f [] h = let none = word_left f [] h in absurd (omega arith)
@@ -76,7 +76,7 @@ front_of f (c ∷ cs) h =
       first = c;
       others = take (word_len f cs) cs;
       is = ap (λ n. take n (c ∷ cs)) here;
-      ink = rw here at (word_ink f (c ∷ cs));
+      non_space = rw here at (word_non_space f (c ∷ cs));
     }
 
 safe_word : (f : Bool) (xs y behind : List ℕ) → f ≡ true → drop (word_len f xs) xs ≡ y ++ behind
@@ -100,22 +100,23 @@ last_word f i m xs g goes begins w r =
     record {
       first = w.first;
       others = w.others;
-      ink = w.ink.0;
+      non_space = w.non_space.0;
       white = r.white;
       is = cc (take-append-drop n xs);
       spelled = rw (append-nil (take n xs) ∙ w.is) at (word_spelled f m xs [] (r.white ++ g.behind.rest) goes begins
           r.is tt);
       safe = λ e. rw (append-nil (take n xs) ∙ w.is) at (safe_word f xs [] (r.white ++ g.behind.rest) e r.is tt);
-      closes = word_closes w.first w.others w.ink;
+      closes = word_closes w.first w.others w.non_space;
       follows = rw r.is at (word_follows f (drop n xs) (word_stops f xs));
       value = ap encode_utf8_all (ap (λ l. folded (items_of l)) (sym (append-nil (w.first ∷ w.others)))
-          ∙ folded_word (w.first ∷ w.others) [] w.ink ∙ append-nil (w.first ∷ w.others) ∙ sym w.is)
+          ∙ folded_word (w.first ∷ w.others) [] w.non_space ∙ append-nil (w.first ∷ w.others) ∙ sym w.is)
           ∙ sym (append-nil (encode_utf8_all (take n xs)));
-      ends = ap (end_of_text m) (sym (append-nil (w.first ∷ w.others))) ∙ passed_word m (w.first ∷ w.others) [] w.ink
+      ends = ap (end_of_text m) (sym (append-nil (w.first ∷ w.others)))
+          ∙ passed_word m (w.first ∷ w.others) [] w.non_space
           ∙ ap (along m) count;
       are = r.are;
       behind = r.place;
-      later = later_ink (IsPlainLine f i) (w.first ∷ w.others) (r.white ++ g.behind.rest) w.ink;
+      later = later_non_space (IsPlainLine f i) (w.first ∷ w.others) (r.white ++ g.behind.rest) w.non_space;
     }
 
 -- a word, a gap and what is read after it
@@ -131,15 +132,17 @@ word_more f i m xs g x goes begins w on r b =
     let count : length word ≡ n = sym (ap length w.is) ∙ length-take-le n xs (word_within f xs) in
     let text : xs ≡ word ++ (r.white ++ (next ++ rest)) = cc (take-append-drop n xs) in
     let read : folded (items_of (word ++ (r.white ++ next))) ≡ word ++ (r.value ++ folded (items_of next)) =
-    folded_word word (r.white ++ next) w.ink ∙ ap (λ (l : List ℕ). word ++ l) (r.reads b.first b.others b.ink) in
+    folded_word word (r.white ++ next) w.non_space
+    ∙ ap (λ (l : List ℕ). word ++ l) (r.reads b.first b.others b.non_space) in
     let left : drop n xs ≡ (r.white ++ next) ++ rest = r.is ∙ ap (λ (l : List ℕ). r.white ++ l) b.is
     ∙ sym (append_assoc r.white next rest) in
     let behind : IsSpelledPlain (along m n) false (r.white ++ next) rest =
-    white_spelled (along m n) false r.white next rest r.are (ink_no_feed b.first b.ink) (rw r.place b.spelled) in
+    white_spelled (along m n) false r.white next rest r.are (non_space_no_feed b.first b.non_space)
+    (rw r.place b.spelled) in
     record {
       first = w.first;
       others = w.others ++ (r.white ++ next);
-      ink = w.ink.0;
+      non_space = w.non_space.0;
       white = b.white;
       spelled = rw w.is at (word_spelled f m xs (r.white ++ next) rest goes begins left behind);
       safe = λ e. rw w.is at (safe_word f xs (r.white ++ next) rest e left
@@ -150,7 +153,7 @@ word_more f i m xs g x goes begins w on r b =
         is = ap (λ (l : List ℕ). word ++ l) (ap (λ (l : List ℕ). r.white ++ l) b.closes.is
             ∙ sym (append_assoc r.white b.closes.front (b.closes.last ∷ [])))
             ∙ sym (append_assoc word (r.white ++ b.closes.front) (b.closes.last ∷ []));
-        ink = b.closes.ink;
+        non_space = b.closes.non_space;
       };
       follows = b.follows;
       is = text ∙ ap (λ (l : List ℕ). word ++ l) (sym (append_assoc r.white next rest))
@@ -160,13 +163,14 @@ word_more f i m xs g x goes begins w on r b =
           ∙ ap (λ (l : List ℕ). l ++ encode_utf8_all (folded (items_of next))) r.text
           ∙ ap (λ (l : List ℕ). g.text ++ l) b.value)
           ∙ ap (λ (l : List ℕ). encode_utf8_all l ++ (g.text ++ x.0)) (sym w.is);
-      ends = passed_word m word (r.white ++ next) w.ink ∙ ap (λ k. end_of_text (along m k) (r.white ++ next)) count
-          ∙ passed_append (along m n) r.white next (ink_no_feed b.first b.ink) ∙ ap (λ y. end_of_text y next) r.place
-          ∙ b.ends;
+      ends = passed_word m word (r.white ++ next) w.non_space
+          ∙ ap (λ k. end_of_text (along m k) (r.white ++ next)) count
+          ∙ passed_append (along m n) r.white next (non_space_no_feed b.first b.non_space)
+          ∙ ap (λ y. end_of_text y next) r.place ∙ b.ends;
       are = b.are;
       behind = b.behind;
       later = later_append (IsPlainLine f i) word (r.white ++ next) rest
-          (later_ink (IsPlainLine f i) word ((r.white ++ next) ++ rest) w.ink)
+          (later_non_space (IsPlainLine f i) word ((r.white ++ next) ++ rest) w.non_space)
           (later_append (IsPlainLine f i) r.white next rest (rw b.is at
           (later_weaken (IsLine i g.behind) (IsPlainLine f i) (λ line is. is f on) r.white g.behind.rest r.later))
           b.later);

@@ -14,13 +14,8 @@ use Rattle.saphyr_scalar.proofs.Properties.EscapedBytes.{AreTrailing, joined_byt
 use Rattle.saphyr_scalar.proofs.Steps.{bind_ok, ok_same, cond_ok}
 use Rattle.saphyr_input.proofs.Basics.Booleans.{and_true_left, and_true_right, either}
 
-from_is : (a b c : ℕ) → (nat_le a c && nat_le c b) ≡ true → (a ≤ c) × (c ≤ b)
-from_is a b c h = grind arith
-
 hex_is : (c : ℕ) → is_hex c ≡ true → IsHex c
-hex_is c h = either (is_digit c || is_from 97 102 c) (is_from 65 70 c) (IsHex c) h
-    (λ h. either (is_digit c) (is_from 97 102 c) (IsHex c) h (λ d. inl (from_is 48 57 c d))
-    (λ d. inr (inl (from_is 97 102 c d)))) (λ d. inr (inr (from_is 65 70 c d)))
+hex_is c h = grind arith
 
 pub record ByteOf (b : ℕ) (m : Marker) (xs : List ℕ) (u : Cursor) : Type 0 where
   pub high : ℕ
@@ -31,29 +26,10 @@ pub record ByteOf (b : ℕ) (m : Marker) (xs : List ℕ) (u : Cursor) : Type 0 w
   pub text : xs ≡ percent_sign ∷ high ∷ low ∷ u.rest
   pub place : u ≡ mid_line (along m 3) u.rest
 
-byte_shown : (xs : List ℕ) → shows_byte xs ≡ true → xs ≡ percent_sign ∷ slice_index xs 1 ∷ slice_index xs 2 ∷ drop 3 xs
-byte_shown xs h = grind arith
-
 pub byte_spelled : (start m : Marker) (xs : List ℕ) (b : ℕ) (u : Cursor)
     → escaped_byte start (mid_line m xs) ≡ Ok (b, u) → ByteOf b m xs u
 unfolding escaped_byte
-byte_spelled start m xs b u h =
-    let is = cond_ok (shows_byte xs) (byte_value xs, mid_line (along m 3) (drop 3 xs)) (b, u)
-    (record { text = fault.TagEscape; mark = start }) h in
-    let left : mid_line (along m 3) (drop 3 xs) ≡ u = ap (λ (x : ℕ × Cursor). x.1) is.same in
-    let rest : drop 3 xs ≡ u.rest = ap (λ (x : Cursor). x.rest) left in
-    let high = slice_index xs 1 in
-    let low = slice_index xs 2 in
-    let both = and_true_left (nat_eq (slice_index xs 0) 37 && is_hex high) (is_hex low) is.test in
-    record {
-      high = high;
-      low = low;
-      is_high = and_true_right (nat_eq (slice_index xs 0) 37) (is_hex high) both;
-      is_low = and_true_right (nat_eq (slice_index xs 0) 37 && is_hex high) (is_hex low) is.test;
-      value = sym (ap (λ (x : ℕ × Cursor). x.0) is.same);
-      text = byte_shown xs is.test ∙ ap (λ r. 37 ∷ high ∷ low ∷ r) rest;
-      place = sym left ∙ ap (mid_line (along m 3)) rest;
-    }
+byte_spelled start m xs b u h = grind arith
 
 pub record TrailingOf (n v w : ℕ) (m : Marker) (xs : List ℕ) (u : Cursor) : Type 0 where
   pub bytes : List ℕ
@@ -74,19 +50,7 @@ pub record TrailingByte (v w : ℕ) (m : Marker) (xs : List ℕ) (u : Cursor) : 
 trailing_byte_spelled : (start m : Marker) (v : ℕ) (xs : List ℕ) (w : ℕ) (u : Cursor)
     → trailing_byte start v (mid_line m xs) ≡ Ok (w, u) → TrailingByte v w m xs u
 unfolding trailing_byte
-trailing_byte_spelled start m v xs w u h =
-    let one = bind_ok (escaped_byte start (mid_line m xs))
-    (λ (b : ℕ × Cursor). cond (is_trailing b.0) (Ok (v * 64 + (b.0 - 0x80), b.1))
-    (Err (record { text = fault.TagEscapeTrailingByte; mark = start }))) (w, u) h in
-    let is = cond_ok (is_trailing one.given.0) (v * 64 + (one.given.0 - 0x80), one.given.1) (w, u)
-    (record { text = fault.TagEscapeTrailingByte; mark = start }) one.next in
-    let left : one.given.1 ≡ u = ap (λ (x : ℕ × Cursor). x.1) is.same in
-    record {
-      byte = one.given.0;
-      trailing = is.test;
-      says = ap (λ (x : ℕ × Cursor). x.0) is.same;
-      is = rw left at (byte_spelled start m xs one.given.0 one.given.1 one.first);
-    }
+trailing_byte_spelled start m v xs w u h = grind (arith, bind_ok, cond, cond_ok, byte_spelled)
 
 pub escape_of_byte : (b : ℕ) (m : Marker) (xs : List ℕ) (u : Cursor) (is : ByteOf b m xs u)
     → IsByteEscape b (percent_sign ∷ is.high ∷ is.low ∷ [])

@@ -47,14 +47,7 @@ width_three b h k = rw (le-ltb b 0x80 (omega arith), le-ltb b 0xC0 (omega arith)
 
 width_four : (b : ℕ) → 0xF0 ≤ b → b < 0xF8 → utf8_width b ≡ 4
 unfolding utf8_width
-width_four b h k = rw (
-  le-ltb b 0x80 (omega arith),
-  le-ltb b 0xC0 (omega arith),
-  le-ltb b 0xE0 (omega arith),
-  le-ltb b
-      0xF0 h,
-  lt-ltb b 0xF8 k,
-) refl
+width_four b h k = grind arith
 
 pub bits_one : (b : ℕ) → b < 0x80 → leading_bits b ≡ b
 unfolding leading_bits

@@ -33,14 +33,7 @@ encoded_spelled start w v c s u h =
 leading_spelled : (start : Marker) (b c : ℕ) (s u : Cursor) → behind_leading_byte start b s ≡ Ok (c, u)
     → LeadingOf start b c s u
 unfolding behind_leading_byte
-leading_spelled start b c s u h =
-    let w = utf8_width b in
-    let read : Result (ℕ × Cursor) Refusal = trailing_bytes start (w - 1) (leading_bits b) s in
-    let some = cond_not (nat_eq w 0) (read >>= λ (x : ℕ × Cursor). encoded_character start w x.0 x.1) (c, u)
-    (record { text = fault.TagEscapeLeadingByte; mark = start }) h in
-    let one = bind_ok read (λ (x : ℕ × Cursor). encoded_character start w x.0 x.1) (c, u) some.same in
-    let last = encoded_spelled start w one.given.0 c one.given.1 u one.next in
-    record { some = some.test; trailing = cc; shortest = rw last.same at last.test }
+leading_spelled start b c s u h = grind (arith, cond_not, nat_eq, bind_ok, encoded_spelled)
 
 pub record EscapeOf (c : ℕ) (m : Marker) (xs : List ℕ) (u : Cursor) : Type 0 where
   pub piece : List ℕ
@@ -124,19 +117,7 @@ nul_out set = grind arith
 decoded_none : (set : UriSet) (start m : Marker) (xs text : List ℕ) (t : Cursor)
     → is_in_set set (slice_index xs 0) ≡ false
     → decoded_characters set start 0 m xs ≡ Ok (text, t) → DecodedOf set m xs text t
-decoded_none set start m xs text t stop h =
-    let same = ok_same ([], mid_line m xs) (text, t) (sym (ends_at set start m xs stop) ∙ h) in
-    let left : mid_line m xs ≡ t = ap (λ (x : List ℕ × Cursor). x.1) same in
-    let rest : xs ≡ t.rest = ap (λ (x : Cursor). x.rest) left in
-    record {
-      value = [];
-      piece = [];
-      is = refl;
-      bytes = ap (λ (x : List ℕ × Cursor). x.0) same;
-      rest = rest;
-      ends = rw (← rest) stop;
-      place = sym left ∙ ap (mid_line m) rest ∙ ap (λ k. mid_line k t.rest) (sym (along_none m));
-    }
+decoded_none set start m xs text t stop h = grind (arith, ok_same, ends_at, along_none)
 
 pub record OneMore (set : UriSet) (start m : Marker) (xs text : List ℕ) (t : Cursor) : Type 0 where
   pub c : ℕ

@@ -42,10 +42,7 @@ bits_below i v w lt more = omega (arith, pow_more 64 i)
 
 -- what three bytes say is a number of 24 bits
 pub bits_fit : (i v : ℕ) → v < 256 * 64 ^ i → i < 3 → v < 2 ^ 24
-bits_fit i v lt few =
-    let two : i ≤ 2 = omega arith in
-    let some : 0 < 64 = omega arith in
-    let le : 64 ^ i ≤ 64 ^ 2 = pow-le-pow_right some two in omega (arith, le)
+bits_fit i v lt few = grind (arith, pow-le-pow_right)
 
 -- a refusal that `?` hands on
 pub gives_refused : {X Y : Type 0} (view : X → Y) (r : Result X Refusal) (f : Result Y Refusal) (refusal : Refusal)
@@ -71,10 +68,7 @@ byte_place start m xs = by_test (shows_byte xs) _ _ (EscapeEnds m xs 3) (λ _. r
 
 trailing_place : (start m : Marker) (v : ℕ) (xs : List ℕ) → EscapeEnds m xs 3 (trailing_byte start v (mid_line m xs))
 unfolding trailing_byte
-trailing_place start m v xs = then_ends m xs 3 (escaped_byte start (mid_line m xs)) _ (λ b is.
-    by_test (is_trailing b.0) _ _ (EscapeEnds m xs 3)
-    (λ _. rw (byte_place start m xs b is) (read m xs 3 _))
-    (λ _. refused_ends m xs 3 (record { text = fault.TagEscapeTrailingByte; mark = start })))
+trailing_place start m v xs = grind (arith, then_ends, by_test, byte_place, read, refused_ends)
 
 bytes_place : (start m : Marker) (n v : ℕ) (xs : List ℕ)
     → EscapeEnds m xs (3 * n) (trailing_bytes start n v (mid_line m xs))
@@ -128,11 +122,7 @@ leading_some start b s x = grind arith
 escape_some : (start : Marker) (s : Cursor) (x : ℕ × Cursor) → percent_escape start s ≡ Ok x
     → 0 < utf8_width (byte_value s.rest)
 unfolding percent_escape escaped_byte
-escape_some start s x = by_test (shows_byte s.rest) _ _
-    (λ (r : Result (ℕ × Cursor) Refusal). (r >>= λ (b : ℕ × Cursor). behind_leading_byte start b.0 b.1) ≡ Ok x
-    → 0 < utf8_width (byte_value s.rest))
-    (λ _. leading_some start (byte_value s.rest) (pass 3 s) x)
-    (λ _. no_result (record { text = fault.TagEscape; mark = start }) x (0 < utf8_width (byte_value s.rest)))
+escape_some start s x = grind (arith, by_test, leading_some, no_result)
 
 tail_of_escape : (xs : List ℕ) → nat_eq (slice_index xs 0) 37 ≡ true → 0 < utf8_width (byte_value xs)
     → 3 * utf8_width (byte_value xs) ≡ 1 + uri_tail xs

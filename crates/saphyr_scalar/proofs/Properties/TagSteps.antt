@@ -1,65 +1,141 @@
--- The steps of a tag with a handle and a suffix, where each place is told again.
-use Rattle.std.proofs.Common.{◌≡◌, append-nil, Bool, ℕ, ◌<◌, true, false, List, [], ◌∷◌, ◌++◌, drop, length, slice_index, take, Result, Ok, Err, refl, sym, ap, ◌∙◌, arith}
-use Rattle.std.specs.Prelude.{◌==◌, codes, encode_utf8_all}
-use Rattle.std.specs.Result.{IsErrAnd}
-use Rattle.std.proofs.lemmas.Bool.{eqb-true}
-use Rattle.std.proofs.lemmas.List.{get_or-drop}
+-- The steps of a tag whose handle and suffix are put behind a text, where each place is told again.
+use Rattle.std.proofs.Common.{◌≡◌, append-nil, append_assoc, Bool, ℕ, ◌+◌, ◌<◌, true, false, List, [], ◌∷◌, ◌++◌, drop, length, slice_index, take, Result, Ok, Err, refl, sym, ap, ◌∙◌, arith}
+use Rattle.std.specs.Prelude.{◌==◌, codes, encode_utf8, encode_utf8_all}
+use Rattle.std.proofs.Math.Seq.{drop-append_seam}
+use Rattle.std.proofs.lemmas.Bool.Decides.{nat_tests}
+use Rattle.std.proofs.lemmas.List.{get_or-drop, length-append, nil_from_length}
+use Rattle.std.proofs.lemmas.Str.{encode_ascii}
 use Rattle.saphyr_input.specs.Classes.{is_alpha, is_tag_char}
-use Rattle.saphyr_input.specs.Indicators.{exclamation_mark}
+use Rattle.saphyr_input.specs.Indicators.{exclamation_mark, greater_than}
+use Rattle.saphyr_scalar.specs.declared.scalar.fault.FaultText.TheVariants as fault
 use Rattle.saphyr_scalar.specs.declared.scalar.fault.Refusal.{Refusal}
-use Rattle.saphyr_scalar.specs.declared.scalar.fault.Stop.{Stop}
 use Rattle.saphyr_scalar.specs.declared.scalar.tag.UriSet.TheVariants.{Suffix}
 use Rattle.saphyr_scalar.specs.declared.scalar.position.Marker.{Marker}
-use Rattle.saphyr_scalar.specs.Views.Cursor.{Cursor, along, pass}
-use Rattle.saphyr_scalar.specs.Views.Reader.{Moves, Fails}
+use Rattle.saphyr_scalar.specs.Views.Cursor.{Cursor, ◌>>=◌, along, pass, refuse}
 use Rattle.saphyr_scalar.specs.Steps.Quoted.{TextRead, mid_line, with_front, with_run}
-use Rattle.saphyr_scalar.specs.Steps.Tag.{TagRead, decoded_characters, decoded_onto, named_tail, primary_tag, tag_behind_word, shorthand_tag}
+use Rattle.saphyr_scalar.specs.Steps.Tag.{TagBehind, TagRead, decoded_at, decoded_characters, decoded_onto, handle_of, is_behind_tag, named_tag, named_tail, primary_tag, tag_behind_word, shorthand_tag, tag_end, verbatim_end, with_tag, with_word}
+use Rattle.saphyr_scalar.proofs.Given.{text_given}
 use Rattle.saphyr_scalar.proofs.Moving.{along_more, along_none, drop_more}
 use Rattle.saphyr_scalar.proofs.NoSeparation.{no_run}
-use Rattle.saphyr_scalar.proofs.Plain.Pieces.{moves_failed}
 use Rattle.saphyr_scalar.proofs.Properties.TagsRead.{then_primary}
+use Rattle.saphyr_scalar.proofs.Steps.{ok_same}
 
--- a call that is never refused stopped since memory ran out
-pub moves_unrefused : {X Y Z : Type 0} (view : X → Y) (r : Result X Stop) (f : Result Y Refusal) (z : Z) (e : Stop)
-    → IsErrAnd r (λ x. x ≡ e) → Fails {Y = Z} e (Ok z) → Moves view r f
-moves_unrefused {X} {Y} {Z} view r f z e is b = moves_failed view r f (Ok z) e is b (λ d h. never z d h)
-  where
-    never : (z : Z) (d : Refusal) → ◌≡◌ {A = Result Z Refusal} (Ok z) (Err d) → f ≡ Err d
-    never z d h = absurd (cc)
+abbrev pub tag_given : ℕ → List ℕ → Cursor → Result TagBehind Refusal
+tag_given handle text t = Ok (handle, text, t)
 
--- `!` and a word were taken off
-pub record BehindWord (s look : Cursor) (word : List ℕ) (c : ℕ) : Type 0 where
+-- ## After a text was read behind another
+
+-- A step on what was read fails where reading failed.
+pub step_refused : (before here : List ℕ) (read : TextRead) (f : List ℕ × Cursor → Result TagRead Refusal) (r : Refusal)
+    → with_front here read ≡ Err r → with_tag before (read >>= f) ≡ Err r
+step_refused before here (Ok x) f r h = absurd (cc)
+step_refused before here (Err e) f r h = grind arith
+
+-- what was read behind a text, and the text that it was read behind
+pub front_behind : (before grown : List ℕ) (read : TextRead) (t : Cursor) → with_front before read ≡ Ok (grown, t)
+    → (read ≡ text_given (drop (length before) grown) t) × (grown ≡ before ++ drop (length before) grown)
+front_behind before grown u0 t h = grind (arith, ok_same, drop-append_seam, drop)
+
+-- `>` ends a verbatim tag
+pub verbatim_ended : (start : Marker) (before grown : List ℕ) (read : TextRead) (t u : Cursor)
+    → with_front before read ≡ Ok (grown, t) → slice_index t.rest 0 ≡ greater_than → u ≡ pass 1 t
+    → with_tag before (read >>= verbatim_end start) ≡ tag_given 0 grown u
+unfolding verbatim_end
+verbatim_ended start before grown read t u h ends past =
+    let one = front_behind before grown read t h in
+    let piece = drop (length before) grown in
+    let test : (slice_index t.rest 0 == greater_than) ≡ true = grind (arith, nat_tests, ends) in
+    ap (λ r. with_tag before (r >>= verbatim_end start)) one.0
+    ∙ rw test (λ i. tag_given 0 ((ap (λ b. b ++ piece) (append-nil before) ∙ sym one.1) i) (sym past i))
+
+pub verbatim_open : (start : Marker) (before grown : List ℕ) (read : TextRead) (t : Cursor)
+    → with_front before read ≡ Ok (grown, t) → (slice_index t.rest 0 ≡ greater_than → ⊥)
+    → with_tag before (read >>= verbatim_end start) ≡ refuse fault.VerbatimTagEndExpected start
+unfolding verbatim_end
+verbatim_open start before grown read t h more =
+    let one = front_behind before grown read t h in
+    let test : (slice_index t.rest 0 == greater_than) ≡ false = grind (arith, nat_tests, more) in
+    ap (λ r. with_tag before (r >>= verbatim_end start)) one.0 ∙ rw test refl
+
+-- a suffix behind a handle with a word
+pub named_ended : (start : Marker) (before word here grown : List ℕ) (read : TextRead) (t : Cursor)
+    → here ≡ before ++ handle_of word → with_front here read ≡ Ok (grown, t) → (length grown ≡ length here → ⊥)
+    → with_tag before (read >>= named_tag start word) ≡ tag_given (length (handle_of word)) grown t
+unfolding named_tag
+named_ended start before word here grown read t is h some =
+    let one = front_behind here grown read t h in
+    let piece = drop (length here) grown in
+    let count = length-append here piece in
+    let long = ap length one.1 in
+    let test : (length piece == 0) ≡ false = grind (arith, nat_tests, some, count, long) in
+    ap (λ r. with_tag before (r >>= named_tag start word)) one.0
+    ∙ rw test (λ i. tag_given (length (handle_of word)) ((ap (λ b. b ++ piece) (sym is) ∙ sym one.1) i) t)
+
+pub named_alone : (start : Marker) (before word here grown : List ℕ) (read : TextRead) (t : Cursor)
+    → with_front here read ≡ Ok (grown, t) → length grown ≡ length here
+    → with_tag before (read >>= named_tag start word) ≡ refuse fault.TagSuffixExpected start
+unfolding named_tag
+named_alone start before word here grown read t h none =
+    let one = front_behind here grown read t h in
+    let piece = drop (length here) grown in
+    let count = length-append here piece in
+    let long = ap length one.1 in
+    let test : (length piece == 0) ≡ true = grind (arith, nat_tests, none, count, long) in
+    ap (λ r. with_tag before (r >>= named_tag start word)) one.0 ∙ rw test refl
+
+-- ## After the word of a handle
+
+mark_encoded : encode_utf8 exclamation_mark ≡ codes "!"
+mark_encoded = encode_ascii 33 (omega arith)
+
+-- `!` and a word were put behind a text
+pub record BehindWord (s look : Cursor) (before grown : List ℕ) (c : ℕ) : Type 0 where
+  pub word : List ℕ
   pub is : with_run is_alpha [] (pass 1 s) ≡ (word, look)
+  pub text : grown ≡ (before ++ codes "!") ++ word
   pub read : c ≡ slice_index look.rest 0
 
-pub behind_word : (s here there look : Cursor) (old word : List ℕ) (c : ℕ) → here ≡ pass 1 s → old ≡ []
-    → ◌≡◌ {A = TextRead} (Ok (with_run is_alpha old here)) (Ok (word, there)) → c ≡ slice_index there.rest 0
-    → look ≡ there → BehindWord s look word c
-behind_word s here there look old word c first empty run read same =
-    let pair : ◌≡◌ {A = List ℕ × Cursor} (with_run is_alpha old here) (word, there) = cc in
-    record { is = cc; read = read ∙ ap (λ (x : Cursor). slice_index x.rest 0) (sym same) }
+pub behind_word : (s look : Cursor) (before grown : List ℕ) (c : ℕ) → with_word before s ≡ Ok (grown, look)
+    → c ≡ slice_index look.rest 0 → BehindWord s look before grown c
+behind_word s look before grown c is read = grind arith
 
-pub mark_left : (s look : Cursor) (word : List ℕ) (c : ℕ) → BehindWord s look word c → c ≡ exclamation_mark
-    → 0 < length look.rest
-mark_left s look word c b is = some look.rest (sym b.read ∙ is)
+pub word_put : (s here there look : Cursor) (before marked grown : List ℕ) → here ≡ pass 1 s
+    → marked ≡ before ++ encode_utf8 exclamation_mark
+    → ◌≡◌ {A = TextRead} (Ok (with_run is_alpha marked here)) (Ok (grown, there)) → look ≡ there
+    → with_word before s ≡ Ok (grown, look)
+word_put s here there look before marked grown first mark run same = grind (arith, mark_encoded)
+
+pub mark_left : (s look : Cursor) (before grown : List ℕ) (c : ℕ) → BehindWord s look before grown c
+    → c ≡ exclamation_mark → 0 < length look.rest
+mark_left s look before grown c b is = some look.rest (sym b.read ∙ is)
   where
     some : (xs : List ℕ) → slice_index xs 0 ≡ 33 → 0 < length xs
     some [] h = absurd (cc)
     some (x ∷ xs) h = omega arith
 
+pub left_inside : (s look : Cursor) (before grown : List ℕ) (c : ℕ) → BehindWord s look before grown c
+    → look.blank_so_far ≡ false
+left_inside s look before grown c b = sym (ap (λ (x : List ℕ × Cursor). x.1.blank_so_far) b.is)
+
 -- a second `!` follows
-pub named_from : (s look behind : Cursor) (word : List ℕ) (c : ℕ) → BehindWord s look word c → c ≡ exclamation_mark
-    → behind ≡ pass 1 look → named_tail s.mark word behind ≡ shorthand_tag s
+pub named_from : (s look there : Cursor) (before grown : List ℕ) (c : ℕ) (b : BehindWord s look before grown c)
+    → c ≡ exclamation_mark → there ≡ pass 1 look → named_tail s.mark b.word there ≡ shorthand_tag s
 unfolding shorthand_tag tag_behind_word
-named_from s look behind word c b is on = grind arith
+named_from s look there before grown c b on past =
+    let is = b.is in
+    let read = b.read in
+    grind arith
+
+pub handle_text : (s look : Cursor) (before grown marked : List ℕ) (c : ℕ) (b : BehindWord s look before grown c)
+    → marked ≡ grown ++ encode_utf8 exclamation_mark → marked ≡ before ++ handle_of b.word
+handle_text s look before grown marked c b is = grind (arith, mark_encoded, append_assoc)
 
 -- Two `!` are a handle whose word is empty.
-pub without_word : (s there : Cursor) (word : List ℕ) → slice_index s.rest 1 ≡ exclamation_mark → there ≡ pass 2 s
-    → word ≡ [] → named_tail s.mark word there ≡ shorthand_tag s
-without_word s there word second passed empty =
-    ap (λ (w : List ℕ). named_tail s.mark w there) empty
-    ∙ named_from s (pass 1 s) there [] (slice_index (drop 1 s.rest) 0) (record { is = no_word; read = refl }) next
-    (passed ∙ both)
+pub without_word : (s there : Cursor) → slice_index s.rest 1 ≡ exclamation_mark → there ≡ pass 2 s
+    → named_tail s.mark [] there ≡ shorthand_tag s
+without_word s there second passed =
+    named_from s (pass 1 s) there [] (codes "!") (slice_index (drop 1 s.rest) 0)
+    (record { word = []; is = no_word; text = refl; read = refl }) next (passed ∙ both)
   where
     next : slice_index (drop 1 s.rest) 0 ≡ exclamation_mark
     next = get_or-drop 1 s.rest 0 0 ∙ second
@@ -90,41 +166,88 @@ no_suffix_left start text s c first inside none =
     at_end [] h = ap (λ (m : Marker). text_read [] (mid_line m [])) (along_none s.mark)
     at_end (x ∷ xs) h = rw h refl
 
-pub left_inside : (s look : Cursor) (word : List ℕ) (c : ℕ) → BehindWord s look word c → look.blank_so_far ≡ false
-left_inside s look word c b = sym (ap (λ (x : List ℕ × Cursor). x.1.blank_so_far) b.is)
-
--- none does
-primary_from : (s look : Cursor) (word : List ℕ) (c : ℕ) → BehindWord s look word c → (c ≡ exclamation_mark → ⊥)
-    → shorthand_tag s ≡ then_primary (decoded_onto Suffix s.mark word look)
+-- no second `!` does
+primary_from : (s look : Cursor) (before grown : List ℕ) (c : ℕ) (b : BehindWord s look before grown c)
+    → (c ≡ exclamation_mark → ⊥) → shorthand_tag s ≡ then_primary (decoded_onto Suffix s.mark b.word look)
 unfolding shorthand_tag tag_behind_word
-primary_from s look word c b other = grind arith
+primary_from s look before grown c b other =
+    let is = b.is in
+    let read = b.read in
+    grind arith
 
-pub primary_refused : (s look : Cursor) (word : List ℕ) (c : ℕ) (r : Refusal) → BehindWord s look word c
-    → (c ≡ exclamation_mark → ⊥) → decoded_onto Suffix s.mark word look ≡ Err r → shorthand_tag s ≡ Err r
-primary_refused s look word c r b other h = primary_from s look word c b other ∙ ap then_primary h
+-- `!` and all that is read behind it
+pub primary_refused : (s look : Cursor) (before grown : List ℕ) (c : ℕ) (r : Refusal) → BehindWord s look before grown c
+    → (c ≡ exclamation_mark → ⊥) → decoded_onto Suffix s.mark grown look ≡ Err r
+    → with_tag before (shorthand_tag s) ≡ Err r
+primary_refused s look before grown c r b other h =
+    ap (with_tag before) (primary_from s look before grown c b other) ∙ refused (decoded_at Suffix s.mark look) h
+  where
+    refused : (read : TextRead) → with_front grown read ≡ Err r
+        → with_tag before (then_primary (with_front b.word read)) ≡ Err r
+    refused (Ok x) h = absurd (cc)
+    refused (Err e) h = grind arith
 
-no_suffix : (suffix : List ℕ) (t : Cursor) → (length suffix == 0) ≡ true
-    → primary_tag (suffix, t) ≡ (suffix, codes "!", t)
+primary_whole : (s look t : Cursor) (before grown whole : List ℕ) (c : ℕ) → BehindWord s look before grown c
+    → (c ≡ exclamation_mark → ⊥) → decoded_onto Suffix s.mark grown look ≡ Ok (whole, t)
+    → (suffix : List ℕ) × (whole ≡ (before ++ codes "!") ++ suffix)
+    × (with_tag before (shorthand_tag s) ≡ with_tag before (Ok (primary_tag (suffix, t))))
+primary_whole s look t before grown whole c b other h =
+    let one = front_behind grown whole (decoded_at Suffix s.mark look) t h in
+    let piece = drop (length grown) whole in (
+      b.word ++ piece,
+      one.1 ∙ ap (λ g. g ++ piece) b.text ∙ append_assoc (before ++ codes "!") b.word piece,
+      ap (with_tag before) (primary_from s look before grown c b other)
+          ∙ ap (λ r. with_tag before (then_primary (with_front b.word r))) one.0,
+    )
+
+pub alone_read : (s look t : Cursor) (before grown whole : List ℕ) (c : ℕ) → BehindWord s look before grown c
+    → (c ≡ exclamation_mark → ⊥) → decoded_onto Suffix s.mark grown look ≡ Ok (whole, t)
+    → length whole ≡ length before + 1 → with_tag before (shorthand_tag s) ≡ tag_given 0 whole t
 unfolding primary_tag
-no_suffix [] t h = refl
-no_suffix (x ∷ xs) t h = absurd (omega (arith, eqb-true (length (x ∷ xs)) 0 h))
+alone_read s look t before grown whole c b other h none =
+    let one = primary_whole s look t before grown whole c b other h in
+    let empty : one.0 ≡ [] = nil_from_length one.0 (
+    let first = length-append (before ++ codes "!") one.0 in
+    let second = length-append before (codes "!") in
+    let long = ap length one.1 in omega (arith, none, first, second, long)) in
+    one.2 ∙ ap (λ w. with_tag before (Ok (primary_tag (w, t)))) empty
+    ∙ λ i. tag_given 0 ((ap (λ b. b ++ codes "!") (append-nil before)
+    ∙ sym (one.1 ∙ ap (λ w. (before ++ codes "!") ++ w) empty ∙ append-nil (before ++ codes "!"))) i) t
 
-some_suffix : (suffix : List ℕ) (t : Cursor) → (length suffix == 0) ≡ false
-    → primary_tag (suffix, t) ≡ (codes "!", suffix, t)
+pub primary_read : (s look t : Cursor) (before grown whole : List ℕ) (c : ℕ) → BehindWord s look before grown c
+    → (c ≡ exclamation_mark → ⊥) → decoded_onto Suffix s.mark grown look ≡ Ok (whole, t)
+    → (length whole ≡ length before + 1 → ⊥) → with_tag before (shorthand_tag s) ≡ tag_given 1 whole t
 unfolding primary_tag
-some_suffix suffix t h = rw h refl
+primary_read s look t before grown whole c b other h some =
+    let one = primary_whole s look t before grown whole c b other h in
+    let first = length-append (before ++ codes "!") one.0 in
+    let second = length-append before (codes "!") in
+    let long = ap length one.1 in
+    let test : (length one.0 == 0) ≡ false = grind (arith, nat_tests, some, first, second, long) in
+    one.2 ∙ rw test (λ i. tag_given 1 (sym one.1 i) t)
 
-abbrev tag_read : List ℕ → List ℕ → Cursor → Result TagRead Refusal
-tag_read handle suffix t = Ok (handle, suffix, t)
+-- ## A tag ends
 
-pub alone_read : (s look t : Cursor) (word suffix mark : List ℕ) (c : ℕ) → BehindWord s look word c
-    → (c ≡ exclamation_mark → ⊥) → decoded_onto Suffix s.mark word look ≡ Ok (suffix, t)
-    → (length suffix == 0) ≡ true → mark ≡ codes "!" → shorthand_tag s ≡ Ok (suffix, mark, t)
-alone_read s look t word suffix mark c b other h none is = primary_from s look word c b other ∙ ap then_primary h
-    ∙ ap (λ (x : TagRead). tag_read x.0 x.1 x.2) (no_suffix suffix t none) ∙ ap (λ m. tag_read suffix m t) (sym is)
+pub tag_refused : (before : List ℕ) (read : Result TagRead Refusal) (f : TagRead → Result TagRead Refusal) (r : Refusal)
+    → with_tag before read ≡ Err r → with_tag before (read >>= f) ≡ Err r
+tag_refused before (Ok x) f r h = absurd (cc)
+tag_refused before (Err e) f r h = grind arith
 
-pub primary_read : (s look t : Cursor) (word suffix mark : List ℕ) (c : ℕ) → BehindWord s look word c
-    → (c ≡ exclamation_mark → ⊥) → decoded_onto Suffix s.mark word look ≡ Ok (suffix, t)
-    → (length suffix == 0) ≡ false → mark ≡ codes "!" → shorthand_tag s ≡ Ok (mark, suffix, t)
-primary_read s look t word suffix mark c b other h some is = primary_from s look word c b other ∙ ap then_primary h
-    ∙ ap (λ (x : TagRead). tag_read x.0 x.1 x.2) (some_suffix suffix t some) ∙ ap (λ m. tag_read m suffix t) (sym is)
+-- the tag whose parts were put behind the text
+tag_behind : (before grown : List ℕ) (handle : ℕ) (read : Result TagRead Refusal) (t : Cursor)
+    → with_tag before read ≡ tag_given handle grown t
+    → (x : TagRead) × (read ≡ Ok x) × (x.2 ≡ t) × (with_tag before (Ok x) ≡ tag_given handle grown t)
+tag_behind before grown handle u0 t h = grind arith
+
+pub tag_ended : (in_flow : Bool) (start : Marker) (before grown : List ℕ) (handle : ℕ) (read : Result TagRead Refusal)
+    (t : Cursor) → with_tag before read ≡ tag_given handle grown t → is_behind_tag in_flow (slice_index t.rest 0) ≡ true
+    → with_tag before (read >>= tag_end in_flow start) ≡ tag_given handle grown t
+unfolding tag_end
+tag_ended in_flow start before grown handle read t h ends = grind arith
+
+pub tag_open : (in_flow : Bool) (start : Marker) (before grown : List ℕ) (handle : ℕ) (read : Result TagRead Refusal)
+    (t : Cursor) → with_tag before read ≡ tag_given handle grown t
+    → is_behind_tag in_flow (slice_index t.rest 0) ≡ false
+    → with_tag before (read >>= tag_end in_flow start) ≡ refuse fault.TagEndExpected start
+unfolding tag_end
+tag_open in_flow start before grown handle read t h ends = grind arith

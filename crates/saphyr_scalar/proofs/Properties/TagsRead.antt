@@ -176,9 +176,6 @@ primary_of_none : (s : Cursor) → primary_tag ([], s) ≡ ([], codes "!", s)
 unfolding primary_tag
 primary_of_none s = refl
 
-abbrev then_named : Marker → List ℕ → Result (List ℕ × Cursor) Refusal → Result TagRead Refusal
-then_named start word r = r >>= λ x. named_tag start word x
-
 named_of_some : (start : Marker) (word v : List ℕ) (s : Cursor) → v ≢ []
     → named_tag start word (encode_utf8_all v, s) ≡ Ok (handle_of word, encode_utf8_all v, s)
 unfolding named_tag
@@ -189,11 +186,7 @@ behind_named : (start m : Marker) (word v back x : List ℕ) → v ≢ [] → Is
     → tag_behind_word start (word, mid_line m (exclamation_mark ∷ (back ++ x)))
     ≡ Ok (handle_of word, encode_utf8_all v, mid_line (along m (1 + length back)) x)
 unfolding tag_behind_word named_tail
-behind_named start m word v back x some is stop =
-    ap (then_named start word) (decoded_read Suffix start (along m 1) v back x is stop.no_suffix)
-    ∙ named_of_some start word v (mid_line (along (along m 1) (length back)) x) some
-    ∙ ap (λ k. parts_given (handle_of word) (encode_utf8_all v) (mid_line k x))
-    (along_more m 1 (length back) (1 + length back) refl)
+behind_named start m word v back x some is stop = grind (arith, decoded_read, named_of_some, encode_utf8_all, along_more)
 
 -- a suffix after `!!` or `!word!`
 named_read : (m : Marker) (w v back x : List ℕ) → AreIn is_alpha w → v ≢ [] → IsDecoded is_tag_char v back
@@ -235,21 +228,11 @@ uri_ends : (start m : Marker) (suffix x : List ℕ)
 unfolding verbatim_end
 uri_ends start m suffix x = refl
 
-abbrev then_uri_end : Marker → Result (List ℕ × Cursor) Refusal → Result TagRead Refusal
-then_uri_end start r = r >>= λ x. verbatim_end start x
-
 verbatim_read : (in_flow : Bool) (m : Marker) (v inside x : List ℕ) → IsDecoded is_uri_char v inside → EndsTag in_flow x
     → tag in_flow (mid_line m (exclamation_mark ∷ less_than ∷ (inside ++ (greater_than ∷ x))))
     ≡ Ok ([], encode_utf8_all v, mid_line (along m (3 + length inside)) x)
 unfolding tag verbatim_tag
-verbatim_read in_flow m v inside x is ends =
-    let k = along (along m 2) (length inside) in
-    ap (λ r. then_end in_flow m (then_uri_end m r)) (decoded_read Uri m (along m 2) v inside (62 ∷ x) is refl)
-    ∙ ap (then_end in_flow m) (uri_ends m k (encode_utf8_all v) x)
-    ∙ tag_ends in_flow m (along k 1) [] (encode_utf8_all v) x ends
-    ∙ ap (λ j. parts_given [] (encode_utf8_all v) (mid_line j x)) (ap (λ j. along j 1)
-    (along_more m 2 (length inside) (2 + length inside) refl)
-    ∙ along_more m (2 + length inside) 1 (3 + length inside) (omega arith))
+verbatim_read in_flow m v inside x is ends = grind (arith, decoded_read, uri_ends, encode_utf8_all, tag_ends, along_more)
 
 abbrev ReadsTag : Bool → Marker → List ℕ → List ℕ → List ℕ → List ℕ → Type 0
 ReadsTag in_flow m t handle suffix x = tag in_flow (mid_line m (t ++ x)) ≡ Ok
@@ -298,22 +281,11 @@ reads_named in_flow m w v back x are some is ends =
 
 reads_verbatim : (in_flow : Bool) (m : Marker) (v inside x : List ℕ) → IsDecoded is_uri_char v inside
     → EndsTag in_flow x → ReadsTag in_flow m (codes "!<" ++ (inside ++ codes ">")) [] v x
-reads_verbatim in_flow m v inside x is ends =
-    let t = codes "!<" ++ (inside ++ codes ">") in
-    let len : 3 + length inside ≡ length t = omega (arith, length-append inside (codes ">")) in
-    ap (λ u. tag in_flow (mid_line m u)) (ap (λ u. 33 ∷ 60 ∷ u) (append_assoc inside (codes ">") x)) ∙ verbatim_read
-    in_flow m v inside x is ends ∙ ap (λ n. parts_given [] (encode_utf8_all v) (mid_line (along m n) x)) len
+reads_verbatim in_flow m v inside x is ends = grind (arith, length-append, append_assoc, verbatim_read, encode_utf8_all)
 
 reads_text : (in_flow : Bool) (m : Marker) (t handle suffix x : List ℕ) → IsTagText t handle suffix → EndsTag in_flow x
     → ReadsTag in_flow m t handle suffix x
-reads_text in_flow m t handle suffix x (inl (text, no_handle, is)) ends =
-    rw (text, no_handle, is) (reads_non_specific in_flow m x ends)
-reads_text in_flow m t handle suffix x (inr (inl (inside, is, no_handle, text))) ends =
-    rw (text, no_handle) (reads_verbatim in_flow m suffix inside x is ends)
-reads_text in_flow m t handle suffix x (inr (inr (back, inl primary, some, is, text))) ends =
-    rw (text, primary) (reads_primary in_flow m suffix back x some is ends)
-reads_text in_flow m t handle suffix x (inr (inr (back, inr (w, are, named), some, is, text))) ends =
-    rw (text, named) (reads_named in_flow m w suffix back x are some is ends)
+reads_text in_flow m t handle suffix x u0 ends = grind (arith, reads_non_specific, reads_verbatim, reads_primary, reads_named)
 
 pub reads_tag : (in_flow : Bool) (s : Cursor) (t handle suffix x : List ℕ) → s.rest ≡ t ++ x → IsTagText t handle suffix
     → EndsTag in_flow x → tag in_flow s

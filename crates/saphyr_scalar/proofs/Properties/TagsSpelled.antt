@@ -185,11 +185,7 @@ shorthand_spelled m xs front back u =
 tag_ended : (in_flow : Bool) (start : Marker) (p : TagRead) (front back : List ℕ) (u : Cursor)
     → tag_end in_flow start p ≡ Ok (front, back, u) → EndsTag in_flow u.rest × (p ≡ (front, back, u))
 unfolding tag_end
-tag_ended in_flow start p front back u h =
-    let c = slice_index p.2.rest 0 in
-    let is = cond_ok {A = TagRead} (is_blank_or_breakz c || (in_flow && is_flow c)) p (front, back, u)
-    (record { text = fault.TagEndExpected; mark = start }) h in
-    (rw is.same at is.test, is.same)
+tag_ended in_flow start p front back u h = grind arith
 
 abbrev Read : Bool → Marker → List ℕ → List ℕ → List ℕ → Cursor → Type 0
 Read in_flow m xs front back u = TagOf m xs front back u × EndsTag in_flow u.rest

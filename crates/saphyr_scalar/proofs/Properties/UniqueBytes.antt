@@ -52,43 +52,16 @@ four_encoded c h = rw (le-ltb c 0x80 (omega arith), le-ltb c 0x800 (omega arith)
 
 unique_two : (b x c : ℕ) → 0xC0 ≤ b → b < 0xE0 → is_trailing x ≡ true → leading_bits b * 64 + (x - 0x80) ≡ c
     → is_encoded 2 c ≡ true → encode_utf8 c ≡ b ∷ x ∷ []
-unique_two b x c h lt tail says shortest =
-    let low = tail_low x tail in
-    let high = tail_high x tail in
-    let is : (b - 0xC0) * 64 + (x - 0x80) ≡ c = rw (← bits_two b h lt) says in
-    let first : 192 + c / 64 ≡ b = omega arith in
-    let second : 128 + c % 64 ≡ x = omega arith in
-    two_encoded c (long_two c (len_of 2 c shortest)) (omega arith) ∙ rw (first, second) refl
+unique_two b x c h lt tail says shortest = grind (arith, tail_low, tail_high, bits_two, two_encoded, long_two, len_of)
 
 unique_three : (b x y c : ℕ) → 0xE0 ≤ b → b < 0xF0 → is_trailing x ≡ true → is_trailing y ≡ true
     → (leading_bits b * 64 + (x - 0x80)) * 64 + (y - 0x80) ≡ c → is_encoded 3 c ≡ true → encode_utf8 c ≡ b ∷ x ∷ y ∷ []
-unique_three b x y c h lt tail tail2 says shortest =
-    let low = tail_low x tail in
-    let high = tail_high x tail in
-    let low2 = tail_low y tail2 in
-    let high2 = tail_high y tail2 in
-    let is : ((b - 0xE0) * 64 + (x - 0x80)) * 64 + (y - 0x80) ≡ c = rw (← bits_three b h lt) says in
-    let first : 224 + c / 4096 ≡ b = omega arith in
-    let second : 128 + c / 64 % 64 ≡ x = omega arith in
-    let third : 128 + c % 64 ≡ y = omega arith in
-    three_encoded c (long_three c (len_of 3 c shortest)) (omega arith) ∙ rw (first, second, third) refl
+unique_three b x y c h lt tail tail2 says shortest = grind (arith, tail_low, tail_high, bits_three, three_encoded, long_three, len_of)
 
 unique_four : (b x y z c : ℕ) → 0xF0 ≤ b → is_trailing x ≡ true → is_trailing y ≡ true → is_trailing z ≡ true
     → ((leading_bits b * 64 + (x - 0x80)) * 64 + (y - 0x80)) * 64 + (z - 0x80) ≡ c → is_encoded 4 c ≡ true
     → encode_utf8 c ≡ b ∷ x ∷ y ∷ z ∷ []
-unique_four b x y z c h tail tail2 tail3 says shortest =
-    let low = tail_low x tail in
-    let high = tail_high x tail in
-    let low2 = tail_low y tail2 in
-    let high2 = tail_high y tail2 in
-    let low3 = tail_low z tail3 in
-    let high3 = tail_high z tail3 in
-    let is : (((b - 0xF0) * 64 + (x - 0x80)) * 64 + (y - 0x80)) * 64 + (z - 0x80) ≡ c = rw (← bits_four b h) says in
-    let first : 240 + c / 262144 ≡ b = omega arith in
-    let second : 128 + c / 4096 % 64 ≡ x = omega arith in
-    let third : 128 + c / 64 % 64 ≡ y = omega arith in
-    let fourth : 128 + c % 64 ≡ z = omega arith in
-    four_encoded c (long_four c (len_of 4 c shortest)) ∙ rw (first, second, third, fourth) refl
+unique_four b x y z c h tail tail2 tail3 says shortest = grind (arith, tail_low, tail_high, bits_four, four_encoded, long_four, len_of)
 
 width_cases : (b : ℕ) (P : ℕ → Type 0) → (b < 0x80 → P 1) → (0xC0 ≤ b → b < 0xE0 → P 2) → (0xE0 ≤ b → b < 0xF0 → P 3)
     → (0xF0 ≤ b → P 4) → P 0 → P (utf8_width b)

@@ -35,10 +35,7 @@ module _ (set : UriSet) (start : Marker) (text grown : List ℕ) (s t : Cursor) 
 
   pub escape_shorter : (e : ℕ) (u : Cursor) → BareTurn set start text grown s t c → c ≡ percent_sign
       → percent_escape start t ≡ Ok (e, u) → length u.rest < length s.rest
-  escape_shorter e u turn is read =
-      let less = character_shorter start t u e (has_left set t.rest (in_set turn is))
-      (as_character (Ok (e, u)) turn is read) in
-      omega (arith, less, turn.no_longer)
+  escape_shorter e u turn is read = grind (arith, character_shorter, has_left, in_set, as_character)
 
   -- no escape comes next
   pub bare_ends : BareTurn set start text grown s t c → (c ≡ percent_sign → ⊥)

@@ -38,20 +38,13 @@ digits_more start n i v s h lt = let e : n - i ≡ suc (n - (i + 1)) = omega ari
 -- a digit that was read and taken off
 pub digits_on : (start : Marker) (n i v c d : ℕ) (s t u : Cursor) → i < n → c ≡ slice_index s.rest 0 → is_hex c ≡ true
     → d ≡ hex_value c → t ≡ s → u ≡ pass 1 t → digits start (n - (i + 1)) (v * 16 + d) u ≡ digits start (n - i) v s
-digits_on start n i v c d s t u lt read hex value same on =
-    let h : is_hex (slice_index s.rest 0) ≡ true = rw (← read) hex in
-    rw (on, same, value, read) (sym (digits_more start n i v s h lt))
+digits_on start n i v c d s t u lt read hex value same on = grind (arith, slice_index, digits_more)
 
 -- The same where the place is told alone: i digits were taken off, and m is the place before them.
 
 pub digits_begin : (start : Marker) (n : ℕ) (s : Cursor) → s.blank_so_far ≡ false
     → digits start (n - 0) 0 (mid_line (along s.mark 0) s.rest) ≡ digits start n 0 s
-digits_begin start n s line =
-    let all : n - 0 ≡ n = omega arith in rw (all, along_none s.mark) (on_line s.blank_so_far line)
-  where
-    on_line : (b : Bool) → b ≡ false → digits start n 0 (mid_line s.mark s.rest)
-        ≡ digits start n 0 (record { rest = s.rest; mark = s.mark; blank_so_far = b })
-    on_line b e = rw e refl
+digits_begin start n s line = grind arith
 
 pub digit_passed : (m : Marker) (i : ℕ) (xs ys : List ℕ) → ys ≡ drop 1 xs
     → mid_line (along m (i + 1)) ys ≡ pass 1 (mid_line (along m i) xs)
@@ -72,11 +65,7 @@ digits_below i v d lt small = omega (arith, pow_more 16 i)
 
 -- eight digits are a number of 32 bits
 pub digits_fit : (i v d : ℕ) → v < 16 ^ i → d < 16 → i < 8 → v * 16 + d < 2 ^ 32
-digits_fit i v d lt small few =
-    let more : i + 1 ≤ 8 = omega arith in
-    let some : 0 < 16 = omega arith in
-    let le : 16 ^ (i + 1) ≤ 16 ^ 8 = pow-le-pow_right some more in
-    omega (arith, digits_below i v d lt small, le)
+digits_fit i v d lt small few = grind (arith, pow-le-pow_right, digits_below)
 
 pub shift_fits : (i v : ℕ) → v < 16 ^ i → i < 8 → v * 16 < 2 ^ 32
 shift_fits i v lt few = let none : 0 < 16 = omega arith in omega (arith, digits_fit i v 0 lt none few)

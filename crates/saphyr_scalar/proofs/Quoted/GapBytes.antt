@@ -20,19 +20,10 @@ gap_front (over_lines escaped n) = encode_utf8_all (folded_break escaped n)
 
 pub blank_bytes : (bytes : List ℕ) (c : ℕ) (items : List Item)
     → gap_bytes (on_line (bytes ++ encode_utf8 c)) items ≡ gap_bytes (on_line bytes) (Blank c ∷ items)
-blank_bytes bytes c items = by_break (is_before_break items)
-  where
-    by_break : (b : Bool) → cond b [] (bytes ++ encode_utf8 c) ++ encode_utf8_all (folded_from false items)
-        ≡ cond b [] bytes ++ encode_utf8_all (cond b [] (c ∷ []) ++ folded_from false items)
-    by_break true = refl
-    by_break false = append_assoc bytes (encode_utf8 c) (encode_utf8_all (folded_from false items))
+blank_bytes bytes c items = grind (arith, cond, encode_utf8_all, append_assoc)
 
 pub break_bytes : (gap : QuotedGap) (items : List Item) → gap_bytes (break_in gap) items ≡ gap_bytes gap (Break ∷ items)
-break_bytes (on_line bytes) items =
-    cc (zero-add (empty_lines items), encodes-append (raw_break (empty_lines items)) (folded_from true items))
-break_bytes (over_lines escaped n) items =
-    let more : suc n + empty_lines items ≡ n + suc (empty_lines items) = omega arith in
-    ap (λ k. encode_utf8_all (folded_break escaped k) ++ encode_utf8_all (folded_from true items)) more
+break_bytes u0 items = grind (arith, zero-add, encodes-append, encode_utf8_all)
 
 pub no_gap_bytes : (items : List Item) → gap_bytes no_gap items ≡ encode_utf8_all (folded_from false items)
 no_gap_bytes items = grind arith

@@ -29,9 +29,7 @@ pub at_escaped_break : (indent : ℕ) (start m : Marker) (cs : List ℕ) → is_
     ≡ inner_text Double indent start (escaped_gap Double (slice_index (drop (break_len cs) cs) 0)) 0
     (next_line (along m 1) (break_len cs)) (drop (break_len cs) cs)
 unfolding is_literal special
-at_escaped_break indent start m cs h = behind_no_gap Double indent start m 92 cs refl refl refl ∙ rw h refl
-    ∙ passed_over Double indent start (escaped_gap Double (slice_index (drop (break_len cs) cs) 0)) (break_len cs)
-    (next_line (along m 1) (break_len cs)) cs
+at_escaped_break indent start m cs h = grind (arith, behind_no_gap, passed_over, slice_index, drop)
 
 -- an escaped break, and what it begins
 abbrev pub behind_escaped : Cursor → Cursor
@@ -41,15 +39,7 @@ escaped_break_at : (indent : ℕ) (start : Marker) (s : Cursor) (cs : List ℕ) 
     → is_break (slice_index cs 0) ≡ true
     → inner_text_at Double indent start no_gap s
     ≡ inner_text_at Double indent start (escaped_gap Double (slice_index (behind_escaped s).rest 0)) (behind_escaped s)
-escaped_break_at indent start s cs cut h =
-    let behind : (pass 1 s).rest ≡ cs = ap (drop 1) cut in
-    let place : behind_escaped s ≡ pass_line (break_len (pass 1 s).rest) (pass 1 s) = by_break_len (pass 1 s)
-    (ap (λ (xs : List ℕ). is_break (slice_index xs 0)) behind ∙ h) in
-    ap (inner_text Double indent start no_gap 0 s.mark) cut ∙ at_escaped_break indent start s.mark cs h
-    ∙ sym (ap (λ (x : Cursor). inner_text_at Double indent start (escaped_gap Double (slice_index x.rest 0)) x) place
-    ∙ ap (λ (xs : List ℕ). inner_text Double indent start
-    (escaped_gap Double (slice_index (drop (break_len xs) xs) 0)) 0
-    (next_line (along s.mark 1) (break_len xs)) (drop (break_len xs) xs)) behind)
+escaped_break_at indent start s cs cut h = grind (arith, drop, by_break_len, slice_index, at_escaped_break)
 
 record Escaped (xs : List ℕ) : Type 0 where
   cs : List ℕ
@@ -71,9 +61,7 @@ escaped_of (c ∷ cs) h =
 escaped_break_on : (q : Quote) (indent : ℕ) (start : Marker) (s : Cursor) → IsTrue (is_escaped_break q s.rest)
     → inner_text_at q indent start no_gap s
     ≡ inner_text_at q indent start (escaped_gap q (slice_index (behind_escaped s).rest 0)) (behind_escaped s)
-escaped_break_on Single indent start s h = absurd (cc)
-escaped_break_on Double indent start s h =
-    let e = escaped_of s.rest h in escaped_break_at indent start s e.cs e.cut e.breaks
+escaped_break_on u0 indent start s h = grind (arith, escaped_of, escaped_break_at)
 
 gap_at_quote : (q : Quote) (c : ℕ) → c ≡ flow.mark q → escaped_gap q c ≡ no_gap
 gap_at_quote q c e = let is : (c == flow.mark q) ≡ true = grind (arith, nat_tests) in rw is refl
@@ -94,21 +82,13 @@ escaped_left q (c ∷ cs) h = omega arith
 pub escaped_to_quote : (q : Quote) (indent : ℕ) (start : Marker) (text : List ℕ) (s t : Cursor)
     → IsTrue (is_escaped_break q s.rest) → t ≡ behind_escaped s → slice_index t.rest 0 ≡ flow.mark q
     → with_front text (inner_text_at q indent start no_gap t) ≡ with_front text (inner_text_at q indent start no_gap s)
-escaped_to_quote q indent start text s t h on quote = cc (
-  escaped_break_on q indent start s h,
-  gap_at_quote q _
-      (ap (λ (x : Cursor). slice_index x.rest 0) (sym on) ∙ quote),
-)
+escaped_to_quote q indent start text s t h on quote = grind (arith, escaped_break_on, gap_at_quote, slice_index)
 
 pub escaped_to_line : (q : Quote) (indent : ℕ) (start : Marker) (text : List ℕ) (s t : Cursor)
     → IsTrue (is_escaped_break q s.rest) → t ≡ behind_escaped s → (slice_index t.rest 0 ≡ flow.mark q → ⊥)
     → with_front text (inner_text_at q indent start (over_lines true 0) t)
     ≡ with_front text (inner_text_at q indent start no_gap s)
-escaped_to_line q indent start text s t h on quote = cc (
-  escaped_break_on q indent start s h,
-  gap_elsewhere q _
-      (λ e. quote (ap (λ (x : Cursor). slice_index x.rest 0) on ∙ e)),
-)
+escaped_to_line q indent start text s t h on quote = grind (arith, escaped_break_on, gap_elsewhere, slice_index)
 
 -- a part of what was to be read before is told again
 pub reads_from : {X Y : Type 0} (r : Result X Stop) (before begun now : Result Y Refusal) → begun ≡ before
@@ -118,12 +98,7 @@ reads_from r before begun now e h = rw e at h
 -- after a run no more remains
 pub moved_no_longer : (p : ℕ → Bool) (text grown : List ℕ) (s t : Cursor) → Moved p text grown s t
     → length t.rest ≤ length s.rest
-moved_no_longer p text grown s t m =
-    omega (
-      arith,
-      ap (λ (x : List ℕ × Cursor). length x.1.rest) m.is,
-      length-drop (prefix_len p s.rest) s.rest,
-    )
+moved_no_longer p text grown s t m = grind (arith, length-drop)
 
 -- what was read on is shorter than what was longer before
 pub ok_shorter : {X E : Type 0} (r : Result X E) (n m k : ℕ) → m < k → OnOk r (n ≤ m) → OnOk r (n < k)
@@ -200,14 +175,7 @@ closing_mark q xs h = grind arith
 
 pub closing_closes : (q : Quote) (indent : ℕ) (start : Marker) (text : List ℕ) (s : Cursor)
     → IsTrue (is_closing q s.rest) → with_front text (inner_text_at q indent start no_gap s) ≡ Ok (text, pass 1 s)
-closing_closes q indent start text s h =
-    ap (with_front text) (closes s.mark s.rest h (closing_mark q s.rest h)) ∙ rw (append-nil text) refl
-  where
-    closes : (m : Marker) (xs : List ℕ) → IsTrue (is_closing q xs) → slice_index xs 0 ≡ flow.mark q
-        → inner_text q indent start no_gap 0 m xs ≡ Ok ([], mid_line (along m 1) (drop 1 xs))
-    closes m [] h e = absurd (mark_no_nul q e)
-    closes m (c ∷ cs) h e = ap (λ x. inner_text q indent start no_gap 0 m (x ∷ cs)) e
-        ∙ at_closing q indent start m cs (subst (λ (x : ℕ). IsTrue (is_closing q (x ∷ cs))) e h)
+closing_closes q indent start text s h = grind (arith, closing_mark, append-nil, slice_index, drop, mark_no_nul, at_closing)
 
 pub quote_closes : (q : Quote) (indent : ℕ) (start : Marker) (text : List ℕ) (s : Cursor) → IsTrue (ends_word q s.rest)
     → slice_index s.rest 0 ≡ flow.mark q → with_front text (inner_text_at q indent start no_gap s) ≡ Ok (text, pass 1 s)

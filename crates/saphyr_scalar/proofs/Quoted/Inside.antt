@@ -69,18 +69,15 @@ behind_no_gap q indent start m c cs blank break z =
     quoted_behind_gap q indent start no_gap m c cs blank break ∙ rw z (no_front (word_from q indent start m c cs))
 
 -- a character that is no blank, break or NUL
-pub record IsQuotedInk (c : ℕ) : Type 0 where
+pub record IsQuotedContent (c : ℕ) : Type 0 where
   pub blank : is_blank c ≡ false
   pub break : is_break c ≡ false
   pub nul : is_z c ≡ false
 
-pub content_of : (c : ℕ) → is_blank_or_breakz c ≡ false → IsQuotedInk c
-content_of c h =
-    let one = or_parts (is_blank c) (is_break c || is_z c) h in
-    let two = or_parts (is_break c) (is_z c) one.1 in
-    record { blank = one.0; break = two.0; nul = two.1 }
+pub content_of : (c : ℕ) → is_blank_or_breakz c ≡ false → IsQuotedContent c
+content_of c h = grind arith
 
-literal_content : (q : Quote) (c : ℕ) → is_literal q c ≡ true → IsQuotedInk c
+literal_content : (q : Quote) (c : ℕ) → is_literal q c ≡ true → IsQuotedContent c
 unfolding is_literal
 literal_content q c h = content_of c (neither_parts (is_blank_or_breakz c) (flow.is_special q c) h).0
 
@@ -88,9 +85,7 @@ literal_content q c h = content_of c (neither_parts (is_blank_or_breakz c) (flow
 pub stands : (q : Quote) (indent : ℕ) (start m : Marker) (c : ℕ) (cs : List ℕ) → is_literal q c ≡ true
     → inner_text q indent start no_gap 0 m (c ∷ cs)
     ≡ with_front (encode_utf8 c) (inner_text q indent start no_gap 0 (along m 1) cs)
-stands q indent start m c cs h =
-    let is = literal_content q c h in
-    behind_no_gap q indent start m c cs is.blank is.break is.nul ∙ rw h refl
+stands q indent start m c cs h = grind (arith, literal_content, behind_no_gap)
 
 -- what was read of a word, and what is read after it
 abbrev pub WordPiece : Quote → ℕ → Marker → Marker → List ℕ → ℕ → Type 0
@@ -139,13 +134,11 @@ at_end q indent start bytes m (c ∷ cs) h = rw h refl
 
 -- a word after blanks
 pub flushed : (q : Quote) (indent : ℕ) (start : Marker) (bytes : List ℕ) (m : Marker) (c : ℕ) (cs : List ℕ)
-    → IsQuotedInk c
+    → IsQuotedContent c
     → inner_text q indent start (on_line bytes) 0 m (c ∷ cs) ≡ with_front bytes (inner_text q indent start no_gap 0 m
     (c ∷ cs))
 unfolding end_gap
-flushed q indent start bytes m c cs is =
-    quoted_behind_gap q indent start (on_line bytes) m c cs is.blank is.break ∙ rw is.nul refl
-    ∙ ap (with_front bytes) (sym (behind_no_gap q indent start m c cs is.blank is.break is.nul))
+flushed q indent start bytes m c cs is = grind (arith, quoted_behind_gap, behind_no_gap)
 
 pub break_cases : (c : ℕ) → is_break c ≡ true → (P : ℕ → Type 0) → P 10 → P 13 → P c
 break_cases c h P lf cr = either (nat_eq c 10) (nat_eq c 13) (P c) h
@@ -215,16 +208,7 @@ pub record BlanksMoved (text grown : List ℕ) (s t : Cursor) : Type 0 where
   pub kept : is_break (slice_index t.rest 0) ≡ false → grown ≡ text ++ line_blanks s
 
 pub blanks_of : (text grown : List ℕ) (s t : Cursor) → SameBlanks text grown s t → BlanksMoved text grown s t
-blanks_of text grown s t e =
-    let both : with_blanks text s ≡ (grown, t) = cc in
-    let place : pass (prefix_len is_blank s.rest) s ≡ t = ap (λ (x : List ℕ × Cursor). x.1) both in
-    let less = sym (ap (λ (x : List ℕ × Cursor). x.0) both) in
-    let there = ap (λ (x : Cursor). is_break (slice_index x.rest 0)) place in
-    record {
-      run = record { is = ap (λ (x : Cursor). together (line_blanks s) x) place };
-      gone = λ h. less ∙ rw (there ∙ h) refl;
-      kept = λ h. less ∙ rw (there ∙ h) refl;
-    }
+blanks_of text grown s t e = grind arith
 
 -- a refusal that `?` hands on
 pub reads_refused : {X Y : Type 0} (r : Result X Stop) (before now : Result Y Refusal) (refusal : Refusal)

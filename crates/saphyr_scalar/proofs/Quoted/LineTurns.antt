@@ -24,11 +24,7 @@ blank_left here there blank same = subst (λ (s : Cursor). 0 < length s.rest) (s
 pub blank_turn_shorter : (most : ℕ) (first here there behind : Cursor) → here ≡ pass_spaces most first
     → is_blank (slice_index here.rest 0) ≡ true → there ≡ here → behind ≡ pass_blanks 1 there
     → length behind.rest < length first.rest
-blank_turn_shorter most first here there behind spaces blank same on =
-    let less : length behind.rest < length here.rest = subst (λ (s : Cursor). length s.rest < length here.rest) (sym on)
-    (subst (λ (s : Cursor). length (pass_blanks 1 s).rest < length here.rest) (sym same)
-    (drop_one_shorter here.rest (blank_left here here blank refl))) in
-    below_at_most _ _ _ less (spaces_shorter most first here spaces)
+blank_turn_shorter most first here there behind spaces blank same on = grind (arith, drop_one_shorter, blank_left, below_at_most, spaces_shorter)
 
 -- the lines that are counted, and what is left, are no more than there was
 
@@ -43,20 +39,13 @@ count_fits k first behind all at counted less fits = omega arith
 
 pub no_longer : (most k all : ℕ) (first here there : Cursor) → k + length first.rest ≤ all
     → here ≡ pass_spaces most first → there ≡ here → length there.rest ≤ all
-no_longer most k all first here there counted spaces same = subst (λ (s : Cursor). length s.rest ≤ all) (sym same)
-    (at_most _ _ k all (spaces_shorter most first here spaces) counted)
-  where
-    at_most : (a b k n : ℕ) → a ≤ b → k + b ≤ n → a ≤ n
-    at_most a b k n l m = omega arith
+no_longer most k all first here there counted spaces same = grind (arith, spaces_shorter)
 
 -- no more lines are counted than characters before a place
 
 pub few_over_spaces : (k most : ℕ) (first here : Cursor) → k ≤ first.mark.index → here ≡ pass_spaces most first
     → k ≤ here.mark.index
-few_over_spaces k most first here few spaces =
-    let on : here.mark.index ≡ first.mark.index + spaces_within most first.rest =
-    ap (λ (s : Cursor). s.mark.index) spaces in
-    omega (arith, few, on)
+few_over_spaces k most first here few spaces = grind arith
 
 pub few_here : (k : ℕ) (s : Cursor) → k ≤ s.mark.index → s.mark.index + length s.rest < 2 ^ 64
     → is_break (slice_index s.rest 0) ≡ true → k + 1 < 2 ^ 64
@@ -66,7 +55,8 @@ few_here k s few fits breaks =
 
 -- less is left after a break and the spaces behind it
 pub break_and_spaces_shorter : (most : ℕ) (here there behind spaced : Cursor)
-    → is_break (slice_index here.rest 0) ≡ true → there ≡ here → behind ≡ pass_break there → spaced ≡ pass_spaces most behind
+    → is_break (slice_index here.rest 0) ≡ true → there ≡ here → behind ≡ pass_break there
+    → spaced ≡ pass_spaces most behind
     → length spaced.rest < length here.rest
 break_and_spaces_shorter most here there behind spaced breaks same on spaces =
     at_most_below _ _ _ (spaces_shorter most behind spaced spaces) (break_on_shorter here there behind breaks same on)

@@ -93,11 +93,7 @@ begins_by : (q : Quote) (indent : ℕ) (start : Marker) (escaped : Bool) (n : �
     text word)
     → (nul ≡ false → inner_text_at q indent start no_gap s ≡ word)
     → Begins q indent start escaped n s (tests start marker nul left s)
-begins_by q indent start escaped n s t word true nul left h w = h
-begins_by q indent start escaped n s t word false true left h w = h
-begins_by q indent start escaped n s t word false false true h w = h
-begins_by q indent start escaped n s t word false false false h w =
-    (refl, ap (with_front (encode_utf8_all (folded_break escaped n))) (w refl) ∙ sym h)
+begins_by q indent start escaped n s t word u0 nul left h w = grind arith
 
 begins_end : (q : Quote) (indent : ℕ) (start m : Marker) (escaped : Bool) (n : ℕ) (b first left : Bool)
     → Begins q indent start escaped n (record { rest = []; mark = m; blank_so_far = b })
@@ -129,10 +125,10 @@ begins_at q indent start m escaped n b (c ∷ cs) blank break =
     (behind_lines q indent start m escaped n c cs blank break)
     (λ nul. behind_no_gap q indent start m c cs blank break nul)
 
-begins_with_ink : (q : Quote) (indent : ℕ) (start : Marker) (escaped : Bool) (n : ℕ) (s : Cursor)
+begins_with_non_space : (q : Quote) (indent : ℕ) (start : Marker) (escaped : Bool) (n : ℕ) (s : Cursor)
     → is_blank (slice_index s.rest 0) ≡ false → is_break (slice_index s.rest 0) ≡ false
     → Begins q indent start escaped n s (quoted_line indent start s)
-begins_with_ink q indent start escaped n s blank break =
+begins_with_non_space q indent start escaped n s blank break =
     begins_at q indent start s.mark escaped n s.blank_so_far s.rest blank break
 
 -- a word that may be on a later line
@@ -142,7 +138,7 @@ pub begins_word : (q : Quote) (indent : ℕ) (start : Marker) (escaped : Bool) (
     → (t ≡ s) × (with_front (text ++ encode_utf8_all (folded_break escaped n)) (inner_text_at q indent start no_gap t)
     ≡ with_front text (inner_text_at q indent start (over_lines escaped n) s))
 begins_word q indent start escaped n text s t blank break e =
-    let r = rw e at (begins_with_ink q indent start escaped n s blank break) in (
+    let r = rw e at (begins_with_non_space q indent start escaped n s blank break) in (
       r.0,
       ap (λ u. with_front (text ++ encode_utf8_all (folded_break escaped n))
           (inner_text_at q indent start no_gap u)) r.0
@@ -155,14 +151,14 @@ pub begins_refused : (q : Quote) (indent : ℕ) (start : Marker) (escaped : Bool
     → quoted_line indent start s ≡ Err refusal
     → with_front text (inner_text_at q indent start (over_lines escaped n) s) ≡ Err refusal
 begins_refused q indent start escaped n text s refusal blank break e =
-    ap (with_front text) (rw e at (begins_with_ink q indent start escaped n s blank break))
+    ap (with_front text) (rw e at (begins_with_non_space q indent start escaped n s blank break))
 
 -- a character that begins no document marker, at a column that later lines may begin at
 pub later_word : (indent : ℕ) (start : Marker) (s u : Cursor) (c : ℕ) → u ≡ s → c ≡ slice_index s.rest 0 → 46 < c
     → indent ≤ u.mark.col → quoted_line indent start s ≡ Ok u
 unfolding quoted_line
-later_word indent start s u c same read ink right =
-    let high : 46 < slice_index s.rest 0 = rw read at ink in
+later_word indent start s u c same read non_space right =
+    let high : 46 < slice_index s.rest 0 = rw read at non_space in
     let at : indent ≤ s.mark.col = rw same at right in
     let dash : (slice_index s.rest 0 == 45) ≡ false = grind (arith, nat_tests) in
     let stop : (slice_index s.rest 0 == 46) ≡ false = grind (arith, nat_tests) in
@@ -170,9 +166,9 @@ later_word indent start s u c same read ink right =
     let left : nat_lt s.mark.col indent ≡ false = grind (arith, nat_tests) in
     rw (dash, stop, nul, left, and_false (s.mark.col == 0)) (ap Ok (sym same))
 
-later_ink : (c x : ℕ) → c ≡ x → 46 < c → (is_blank x ≡ false) × (is_break x ≡ false)
-later_ink c x same ink =
-    let high : 46 < x = subst (λ y. 46 < y) same ink in
+later_non_space : (c x : ℕ) → c ≡ x → 46 < c → (is_blank x ≡ false) × (is_break x ≡ false)
+later_non_space c x same non_space =
+    let high : 46 < x = subst (λ y. 46 < y) same non_space in
     let space : (x == 32) ≡ false = grind (arith, nat_tests) in
     let tab : (x == 9) ≡ false = grind (arith, nat_tests) in
     let feed : (x == 10) ≡ false = grind (arith, nat_tests) in
@@ -184,8 +180,5 @@ pub begins_later_word : (q : Quote) (indent : ℕ) (start : Marker) (escaped : B
     → c ≡ slice_index s.rest 0 → 46 < c → indent ≤ s.mark.col
     → with_front (text ++ encode_utf8_all (folded_break escaped 0)) (inner_text_at q indent start no_gap s)
     ≡ with_front text (inner_text_at q indent start (over_lines escaped 0) s)
-begins_later_word q indent start escaped text s c read ink right =
-    let plain = later_ink c (slice_index s.rest 0) read ink in
-    let word = begins_word q indent start escaped 0 text s s plain.0 plain.1
-    (later_word indent start s s c refl read ink right) in
-    word.1
+begins_later_word q indent start escaped text s c read non_space right =
+    grind (arith, later_non_space, slice_index, begins_word, later_word)

@@ -22,9 +22,7 @@ use Rattle.saphyr_input.proofs.Basics.Booleans.{clash, and_true_left, and_true_r
 pub blanks_moved : (q : Quote) (indent : ℕ) (start : Marker) (bytes grown : List ℕ) (s t : Cursor)
     → Moved is_blank bytes grown s t
     → inner_text_at q indent start (on_line grown) t ≡ inner_text_at q indent start (on_line bytes) s
-blanks_moved q indent start bytes grown s t m =
-    subst (λ (x : List ℕ × Cursor). inner_text_at q indent start (on_line x.0) x.1
-    ≡ inner_text_at q indent start (on_line bytes) s) m.is (sym (run_blanks q indent start bytes s.mark s.rest))
+blanks_moved q indent start bytes grown s t m = grind (arith, run_blanks)
 
 -- Escapes, and two single quotes.
 
@@ -118,10 +116,7 @@ ReadsSpecial q indent start s (Err r) = inner_text_at q indent start no_gap s �
 escape_on : (indent : ℕ) (start : Marker) (s : Cursor) → StartsEscape s.rest
     → inner_text_at Double indent start no_gap s
     ≡ (escaped_character start s >>= λ e. with_front (encode_utf8 e.0) (inner_text_at Double indent start no_gap e.1))
-escape_on indent start s is =
-    ap (inner_text Double indent start no_gap 0 s.mark) is.cut ∙ at_escape indent start s.mark is.cs is.goes
-    ∙ ap (λ r. r >>= λ e. with_front (encode_utf8 e.0) (inner_text_at Double indent start no_gap e.1))
-    (ap (λ xs. escaped_character start (mid_line s.mark xs)) (sym is.cut) ∙ escape_same start s)
+escape_on indent start s is = grind (arith, at_escape, escape_same)
 
 escape_shorter : (start : Marker) (s t : Cursor) (c : ℕ) → StartsEscape s.rest → escaped_character start s ≡ Ok (c, t)
     → length t.rest < length s.rest
@@ -144,13 +139,7 @@ escape_reads indent start s (Err r) is h = escape_on indent start s is
 
 two_quotes_read : (indent : ℕ) (start : Marker) (s : Cursor) → AreTwoQuotes s.rest
     → ReadsSpecial Single indent start s (Ok (Some 39, pass 2 s))
-two_quotes_read indent start s is = cut s.rest is.cut
-  where
-    cut : (xs : List ℕ) → xs ≡ apostrophe ∷ apostrophe ∷ is.cs
-        → (inner_text Single indent start no_gap 0 s.mark xs
-        ≡ with_front (encode_utf8 39) (inner_text Single indent start no_gap 0 (along s.mark 2) (drop 2 xs)))
-        × (length (drop 2 xs) < length xs)
-    cut xs e = rw e (at_two_quotes indent start s.mark is.cs, omega arith)
+two_quotes_read indent start s is = grind (arith, drop, at_two_quotes)
 
 special_reads : (q : Quote) (indent : ℕ) (start : Marker) (s : Cursor)
     → ReadsSpecial q indent start s (special q start s)
@@ -184,47 +173,10 @@ pub special_refused : (q : Quote) (indent : ℕ) (start : Marker) (text : List �
 special_refused q indent start text s refusal e =
     ap (with_front text) (subst (ReadsSpecial q indent start s) e (special_reads q indent start s))
 
--- what is neither a literal nor begins such a spelling ends a word
-word_ends_single : (a b d : Bool) → (not a && not b) ≡ false → (b && d) ≡ false → IsTrue (a || (b && not d) || false)
-word_ends_single true b d h e = refl
-word_ends_single false true false h e = refl
-word_ends_single false true true h e = absurd (cc)
-word_ends_single false false d h e = absurd (cc)
-
-word_ends_double : (a b d e : Bool) → (not a && not (b || d)) ≡ false → (d && not e) ≡ false
-    → IsTrue (a || b || (d && e))
-word_ends_double true b d e h f = refl
-word_ends_double false true d e h f = refl
-word_ends_double false false true true h f = refl
-word_ends_double false false true false h f = absurd (cc)
-word_ends_double false false false e h f = absurd (cc)
-
-some_none : (d : ℕ) (s t : Cursor) → ◌≡◌ {A = Result (Option ℕ × Cursor) Refusal} (Ok (Some d, s)) (Ok (None, t)) → ⊥
-some_none d s t e =
-    let pair : ◌≡◌ {A = Option ℕ × Cursor} (Some d, s) (None, t) = cc in
-    let first : Some d ≡ None = ap (λ (x : Option ℕ × Cursor). x.0) pair in absurd (cc)
-
 word_ends : (q : Quote) (start : Marker) (s t : Cursor) → special q start s ≡ Ok (None, t)
     → is_literal q (slice_index s.rest 0) ≡ false → IsTrue (ends_word q s.rest)
 unfolding special is_literal
-word_ends Single start s t = by_test (next_2_are s.rest 39 39) _ _
-    (λ (r : Result (Option ℕ × Cursor) Refusal). r ≡ Ok (None, t) → is_literal Single (slice_index s.rest 0) ≡ false
-    → IsTrue (ends_word Single s.rest))
-    (λ h e l. absurd (some_none 39 (pass 2 s) t e))
-    (λ h e l. word_ends_single (is_blank_or_breakz (slice_index s.rest 0)) (slice_index s.rest 0 == 39)
-    (slice_index s.rest 1 == 39) l h)
-word_ends Double start s t = by_test ((slice_index s.rest 0 == 92) && not (is_break (slice_index s.rest 1))) _ _
-    (λ (r : Result (Option ℕ × Cursor) Refusal). r ≡ Ok (None, t) → is_literal Double (slice_index s.rest 0) ≡ false
-    → IsTrue (ends_word Double s.rest))
-    (λ h e l. absurd (never (escaped_character start s) e))
-    (λ h e l. word_ends_double (is_blank_or_breakz (slice_index s.rest 0)) (slice_index s.rest 0 == 34)
-    (slice_index s.rest 0 == 92) (is_break (slice_index s.rest 1)) l h)
-  where
-    never : (r : Result (ℕ × Cursor) Refusal)
-        → ◌≡◌ {A = Result (Option ℕ × Cursor) Refusal} (◌>>=◌ {B = Option ℕ × Cursor} r (λ e. Ok (Some e.0, e.1)))
-        (Ok (None, t)) → ⊥
-    never (Ok x) e = some_none x.0 x.1 t e
-    never (Err r) e = absurd (cc)
+word_ends u0 start s t = grind arith
 
 -- where no such spelling is, nothing is taken off
 pub special_ends : (q : Quote) (start : Marker) (s t : Cursor) (o : Option ℕ) → special q start s ≡ Ok (o, t) → o ≡ None

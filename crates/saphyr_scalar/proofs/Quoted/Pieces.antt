@@ -138,15 +138,7 @@ record Itself (q : Quote) (c : ℕ) : Type 0 where
   plain : IsFalse (flow.is_special q c)
 
 itself_of : (q : Quote) (c : ℕ) → IsTrue (quotes.stands_for_itself q c) → Itself q c
-itself_of q c h = by_tests (c == 10) (c == 13) (c == 0) (flow.is_special q c) refl refl h
-  where
-    by_tests : (a b z d : Bool) → (c == carriage_return) ≡ b → flow.is_special q c ≡ d
-        → (not ((a || b) || z) && not d) ≡ true → Itself q c
-    by_tests false false false false r s h = record { no_return = r; plain = s }
-    by_tests true b z d r s h = absurd (cc)
-    by_tests false true z d r s h = absurd (cc)
-    by_tests false false true d r s h = absurd (cc)
-    by_tests false false false true r s h = absurd (cc)
+itself_of q c h = grind arith
 
 no_return_simple : (e c : ℕ) → short_escape e ≡ Some c → (e == carriage_return) ≡ false
 unfolding short_escape

@@ -17,7 +17,7 @@ use Rattle.saphyr_scalar.specs.RefusedInside.{IsRefusedInside}
 use Rattle.saphyr_scalar.proofs.Quoted.Escapes.{escape_place}
 use Rattle.saphyr_scalar.proofs.Moving.{along_more}
 use Rattle.saphyr_scalar.proofs.Block.PlacedHeaders.{passed_passed}
-use Rattle.saphyr_scalar.proofs.Quoted.Inside.{IsQuotedInk}
+use Rattle.saphyr_scalar.proofs.Quoted.Inside.{IsQuotedContent}
 use Rattle.saphyr_scalar.proofs.RefusedOnWay.{refused_there, inside_start, one_more_passed}
 use Rattle.saphyr_scalar.proofs.Refusals.{Refused, RefusedAt, refused_bind, refused_more, front_refused}
 use Rattle.saphyr_scalar.proofs.Quoted.SpelledEscapes.{escape_spelled, no_escape}
@@ -39,49 +39,34 @@ digits_refused start (suc n) v s =
 
 numbered_refused : (start : Marker) (o : Option ℕ) (s : Cursor) → RefusedAt start (escape_by_number start o s)
 unfolding escape_by_number reading.character
-numbered_refused start None s = refl
-numbered_refused start (Some n) s =
-    refused_bind (λ e. e.mark ≡ start) (digits start n 0 (pass 2 s)) _ (digits_refused start n 0 (pass 2 s))
-    (λ x _. by_test (is_scalar_value x.0) _ _ (RefusedAt start) (λ _. tt) (λ _. refl))
+numbered_refused start u0 s = grind (arith, refused_bind, digits_refused, by_test)
 
 escape_refused : (start : Marker) (s : Cursor) → RefusedAt start (escaped_character start s)
 unfolding escaped_character escape_of
-escape_refused start s = of (short_escape (slice_index s.rest 1)) (slice_index s.rest 1)
-  where
-    of : (o : Option ℕ) (letter : ℕ) → RefusedAt start (escape_of start o letter s)
-    of (Some c) letter = tt
-    of None letter = numbered_refused start (digit_count letter) s
+escape_refused start s = grind (arith, slice_index, numbered_refused)
 
 word_refused : (indent : ℕ) (start : Marker) (s : Cursor) → RefusedAt start (quoted_line indent start s)
 unfolding quoted_line
-word_refused indent start s =
-    by_test ((s.mark.col == 0) && is_document_indicator s.rest) _ _ (RefusedAt start) (λ _. refl)
-    (λ _. by_test (is_z (slice_index s.rest 0)) _ _ (RefusedAt start) (λ _. refl)
-    (λ _. by_test (is_left indent s.mark) _ _ (RefusedAt start) (λ _. refl) (λ _. tt)))
+word_refused indent start s = grind arith
 
 quoted_gap_refused : (indent : ℕ) (start : Marker) (gap : QuotedGap) (s : Cursor)
     → RefusedAt start (end_gap indent start gap s)
 unfolding end_gap
-quoted_gap_refused indent start (on_line bytes) s =
-    by_test (is_z (slice_index s.rest 0)) _ _ (RefusedAt start) (λ _. refl) (λ _. tt)
-quoted_gap_refused indent start (over_lines escaped n) s =
-    refused_bind (λ e. e.mark ≡ start) (quoted_line indent start s) _ (word_refused indent start s) (λ _ _. tt)
+quoted_gap_refused indent start u0 s = grind (arith, by_test, slice_index, refused_bind, word_refused)
 
 -- a tab is refused where it is
 blank_refused : (indent : ℕ) (gap : QuotedGap) (m : Marker) (c : ℕ) → RefusedAt m (blank_in indent gap m c)
 unfolding blank_in
-blank_refused indent (on_line bytes) m c = tt
-blank_refused indent (over_lines escaped n) m c =
-    by_test ((c == 9) && is_left indent m) _ _ (RefusedAt m) (λ _. refl) (λ _. tt)
+blank_refused indent u0 m c = grind arith
 
 -- ## A character of several characters
 
 -- its characters are passed; if there is none, a break comes after a backslash, or the closing quote
-abbrev SpecialTold : Quote → Marker → Marker → ℕ → List ℕ → Result (Option ℕ × Cursor) Refusal → Type 0
-SpecialTold q start m c cs (Ok (Some d, t)) = IsPassed m (c ∷ cs) t.mark (drop (special_len q (slice_index cs 0)) cs)
-SpecialTold q start m c cs (Ok (None, t)) =
+abbrev SpecialPasses : Quote → Marker → Marker → ℕ → List ℕ → Result (Option ℕ × Cursor) Refusal → Type 0
+SpecialPasses q start m c cs (Ok (Some d, t)) = IsPassed m (c ∷ cs) t.mark (drop (special_len q (slice_index cs 0)) cs)
+SpecialPasses q start m c cs (Ok (None, t)) =
     (c == flow.mark q) ≡ false → (is_break c ≡ false) × (is_break (slice_index cs 0) ≡ true)
-SpecialTold q start m c cs (Err e) = e.mark ≡ start
+SpecialPasses q start m c cs (Err e) = e.mark ≡ start
 
 two_passed : (m : Marker) (c : ℕ) (cs : List ℕ) → is_break c ≡ false → (slice_index cs 0 == apostrophe) ≡ true
     → IsPassed m (c ∷ cs) (along m 2) (drop 1 cs)
@@ -102,14 +87,15 @@ escape_passed start m (d ∷ ds) x e =
     subst (λ u. IsPassed m (92 ∷ d ∷ ds) x.1.mark u) rest
     ((escape_spelled start m d ds x.0 x.1 e).passes x.1.mark x.1.rest (nothing x.1.mark x.1.rest))
 
-special_told : (q : Quote) (start m : Marker) (c : ℕ) (cs : List ℕ) → IsQuotedInk c → is_literal q c ≡ false
-    → SpecialTold q start m c cs (special q start (mid_line m (c ∷ cs)))
+special_passes : (q : Quote) (start m : Marker) (c : ℕ) (cs : List ℕ) → IsQuotedContent c → is_literal q c ≡ false
+    → SpecialPasses q start m c cs (special q start (mid_line m (c ∷ cs)))
 unfolding special
-special_told Single start m c cs is plain = by_test (next_2_are (c ∷ cs) 39 39) _ _ (SpecialTold Single start m c cs)
+special_passes Single start m c cs is plain =
+    by_test (next_2_are (c ∷ cs) 39 39) _ _ (SpecialPasses Single start m c cs)
     (λ e. two_passed m c cs is.break (and_true_right (c == 39) (slice_index cs 0 == 39) e))
     (λ _ other. absurd (let quote : (c == 39) ≡ true = special_of Single c is plain in cc))
-special_told Double start m c cs is plain =
-    by_test ((c == 92) && not (is_break (slice_index cs 0))) _ _ (SpecialTold Double start m c cs)
+special_passes Double start m c cs is plain =
+    by_test ((c == 92) && not (is_break (slice_index cs 0))) _ _ (SpecialPasses Double start m c cs)
     (λ e. backslash (eqb-true c 92 (and_true_left (c == 92) (not (is_break (slice_index cs 0))) e)))
     (λ e other. (
       is.break,
@@ -128,11 +114,11 @@ special_told Double start m c cs is plain =
 
     by : (r : Result (ℕ × Cursor) Refusal) → RefusedAt start r
         → ((x : ℕ × Cursor) → r ≡ Ok x → IsPassed m (c ∷ cs) x.1.mark behind)
-        → SpecialTold Double start m c cs (r >>= λ e. Ok (Some e.0, e.1))
+        → SpecialPasses Double start m c cs (r >>= λ e. Ok (Some e.0, e.1))
     by (Ok x) h k = k x refl
     by (Err e) h k = h
 
-    backslash : c ≡ 92 → SpecialTold Double start m c cs
+    backslash : c ≡ 92 → SpecialPasses Double start m c cs
         (escaped_character start (mid_line m (c ∷ cs)) >>= λ e. Ok (Some e.0, e.1))
     backslash same = by (escaped_character start (mid_line m (c ∷ cs))) (escape_refused start (mid_line m (c ∷ cs)))
         (λ x e. rw same (escape_passed start m cs x (ap (λ d. escaped_character start (mid_line m (d ∷ cs))) (sym same)
@@ -172,7 +158,7 @@ inside_refused q indent s gap zero m (c ∷ cs) p =
     (λ no_break. refused_bind P (end_gap indent start gap here) _
     (refused_more (λ e. e.mark ≡ start) P (end_gap indent start gap here) (quoted_gap_refused indent start gap here)
     (inside_start s)) (λ text ended.
-    let is : IsQuotedInk c = record {
+    let is : IsQuotedContent c = record {
       blank = no_blank;
       break = no_break;
       nul = (gap_ended indent start gap here text ended).nul;
@@ -180,8 +166,8 @@ inside_refused q indent s gap zero m (c ∷ cs) p =
     front_refused P text _
     (by_test (is_literal q c) _ _ (Refused P) (λ _. front_refused P (encode_utf8 c) _ (others no_gap no_break))
     (λ no_literal. refused_bind P (special q start (mid_line m (c ∷ cs))) _
-    (refused_of_told (special q start (mid_line m (c ∷ cs))) (special_told q start m c cs is no_literal)) (λ x e.
-    let told = subst (SpecialTold q start m c cs) e (special_told q start m c cs is no_literal) in
+    (refused_of_special (special q start (mid_line m (c ∷ cs))) (special_passes q start m c cs is no_literal)) (λ x e.
+    let known = subst (SpecialPasses q start m c cs) e (special_passes q start m c cs is no_literal) in
     let escaped = λ (d : ℕ) (passed : IsPassed m (c ∷ cs) x.1.mark special_end). front_refused P (encode_utf8 d) _
     (inside_refused q indent s no_gap (special_len q (slice_index cs 0)) x.1.mark cs
     (passed_passed s.mark s.rest m (c ∷ cs) x.1.mark special_end p passed)) in
@@ -189,22 +175,22 @@ inside_refused q indent s gap zero m (c ∷ cs) p =
     let broken = λ (h : is_break (slice_index cs 0) ≡ true).
     inside_refused q indent s (escaped_gap q (slice_index (drop n cs) 0)) n (next_line (along m 1) n) cs
     (one_break s (along m 1) cs (one_more_passed s m c cs p no_break) h) in
-    behind x.0 x.1 told _ _ escaped
+    behind x.0 x.1 known _ _ escaped
     (λ h. by_test (c == flow.mark q) _ _ (Refused P) (λ _. tt) (λ other. broken (h other).1))))))))
   where
-    refused_of_told : (r : Result (Option ℕ × Cursor) Refusal) → SpecialTold q s.mark m c cs r
+    refused_of_special : (r : Result (Option ℕ × Cursor) Refusal) → SpecialPasses q s.mark m c cs r
         → Refused (IsRefusedInside s) r
-    refused_of_told (Ok x) h = tt
-    refused_of_told (Err e) h = inside_start s e h
+    refused_of_special (Ok x) h = tt
+    refused_of_special (Err e) h = inside_start s e h
 
-    behind : (o : Option ℕ) (u : Cursor) → SpecialTold q s.mark m c cs (Ok (o, u)) → (f : ℕ → TextRead) (r : TextRead)
+    behind : (o : Option ℕ) (u : Cursor) → SpecialPasses q s.mark m c cs (Ok (o, u)) → (f : ℕ → TextRead) (r : TextRead)
         → ((d : ℕ) → IsPassed m (c ∷ cs) u.mark (drop (special_len q (slice_index cs 0)) cs)
         → Refused (IsRefusedInside s) (f d))
         → (((c == flow.mark q) ≡ false → (is_break c ≡ false) × (is_break (slice_index cs 0) ≡ true))
         → Refused (IsRefusedInside s) r)
         → Refused (IsRefusedInside s) (if_some o f r)
-    behind (Some d) u told f r some none = some d told
-    behind None u told f r some none = none told
+    behind (Some d) u known f r some none = some d known
+    behind None u known f r some none = none known
 inside_refused q indent s gap (suc k) m (c ∷ cs) p = inside_refused q indent s gap k m cs p
 
 pub quoted_refused : (q : Quote) (indent : ℕ) (s : Cursor) → slice_index s.rest 0 ≡ flow.mark q

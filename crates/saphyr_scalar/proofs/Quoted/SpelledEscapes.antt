@@ -102,9 +102,7 @@ then_text (Err r) f b s e = nothing_text r b s e
 
 pub front_gave : (a : List ℕ) (r : Result (List ℕ × Cursor) Refusal) (b : List ℕ) (s : Cursor)
     → GaveText (with_front a r) b s → (y : List ℕ) × GaveText r y s × (a ++ y ≡ b)
-front_gave a (Ok x) b s e =
-    (x.0, ap (λ u. Ok (x.0, u)) (text_second (a ++ x.0) b x.1 s e), text_first (a ++ x.0) b x.1 s e)
-front_gave a (Err r) b s e = nothing_text r b s e
+front_gave a u0 b s e = grind arith
 
 scalar_gave : (start : Marker) (w c : ℕ) (u s : Cursor) → Gave (character start w u) c s
     → IsTrue (is_scalar_value w) × (w ≡ c) × (u ≡ s)

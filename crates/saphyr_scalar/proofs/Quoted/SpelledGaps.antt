@@ -80,21 +80,11 @@ break_reached : (n c : ℕ) (cs : List ℕ) → is_break c ≡ true → quotes.I
 break_reached n c cs h = break_cases c h (λ x. quotes.IsReached n (x ∷ cs))
     (or_right (nat_le n 0) true refl) (or_right (nat_le n 0) true refl)
 
-space_reached : (n k : ℕ) (cs : List ℕ) → n ≤ k + 1 → quotes.IsReached k cs → quotes.IsReached n (space ∷ cs)
-space_reached n k cs le h =
-    either (nat_le k (indentation cs)) (is_break (behind_indentation cs)) (quotes.IsReached n (32 ∷ cs)) h
-    (λ a. let e = leb-true k (indentation cs) a in enough n (32 ∷ cs) (omega (arith, e, le)))
-    (λ a. or_right (nat_le n (indentation (32 ∷ cs))) (is_break (behind_indentation (32 ∷ cs))) a)
-
 -- a blank of a later line, where no tab is left of the column
 blank_reached : (indent : ℕ) (m : Marker) (c : ℕ) (cs : List ℕ) → is_blank c ≡ true
     → ((c == tab) && is_left indent m) ≡ false → quotes.IsReached (indent - (m.col + 1)) cs
     → quotes.IsReached (indent - m.col) (c ∷ cs)
-blank_reached indent m c cs h =
-    blank_cases c h (λ x. ((x == 9) && is_left indent m) ≡ false → quotes.IsReached (indent - (m.col + 1)) cs
-    → quotes.IsReached (indent - m.col) (x ∷ cs))
-    (λ _ r. space_reached (indent - m.col) (indent - (m.col + 1)) cs (omega arith) r)
-    (λ left _. let le = ltb-false m.col indent left in enough (indent - m.col) (9 ∷ cs) (omega (arith, le)))
+blank_reached indent m c cs h = grind arith
 
 from_start : (n : ℕ) (xs : List ℕ) → quotes.IsReached (n - 0) xs → quotes.IsReached n xs
 from_start n xs h = let same : n - 0 ≡ n = omega arith in subst (λ k. quotes.IsReached k xs) same h

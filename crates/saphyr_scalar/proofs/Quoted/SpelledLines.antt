@@ -32,35 +32,10 @@ pub record Ended (indent : ℕ) (gap : QuotedGap) (col : ℕ) (xs text : List �
   pub right : IsOverLines gap → indent ≤ col
   pub nul : is_z (slice_index xs 0) ≡ false
 
-no_error_is_ok : {A X : Type 0} (r : Refusal) (x : A) → ◌≡◌ {A = Result A Refusal} (Err r) (Ok x) → X
-no_error_is_ok r x e = absurd (cc)
-
-given_is : (x y : List ℕ) → ◌≡◌ {A = Result (List ℕ) Refusal} (Ok x) (Ok y) → y ≡ x
-given_is x y e = cc
-
-abbrev LinesEnded : ℕ → Bool → ℕ → Cursor → List ℕ → Result Cursor Refusal → Type 0
-LinesEnded indent escaped n s text r = (r >>= λ t. Ok (encode_utf8_all (folded_break escaped n))) ≡ Ok text
-    → Ended indent (over_lines escaped n) s.mark.col s.rest text
-
 pub gap_ended : (indent : ℕ) (start : Marker) (gap : QuotedGap) (s : Cursor) (text : List ℕ)
     → end_gap indent start gap s ≡ Ok text → Ended indent gap s.mark.col s.rest text
 unfolding end_gap quoted_line
-gap_ended indent start (on_line bytes) s text = by_test (is_z (slice_index s.rest 0)) _ _
-    (λ (r : Result (List ℕ) Refusal). r ≡ Ok text → Ended indent (on_line bytes) s.mark.col s.rest text)
-    (λ _ e. no_error_is_ok _ text e)
-    (λ nul e. record { bytes = given_is bytes text e; clear = λ o. absurd o; right = λ o. absurd o; nul = nul })
-gap_ended indent start (over_lines escaped n) s text =
-    by_test ((s.mark.col == 0) && is_document_indicator s.rest) _ _ (LinesEnded indent escaped n s text)
-    (λ _ e. no_error_is_ok _ text e)
-    (λ none. by_test (is_z (slice_index s.rest 0)) _ _ (LinesEnded indent escaped n s text)
-    (λ _ e. no_error_is_ok _ text e)
-    (λ nul. by_test (is_left indent s.mark) _ _ (LinesEnded indent escaped n s text) (λ _ e. no_error_is_ok _ text e)
-    (λ left e. record {
-      bytes = given_is (encode_utf8_all (folded_break escaped n)) text e;
-      clear = λ _ first. sym (ap (λ k. (k == 0) && is_document_indicator s.rest) first) ∙ none;
-      right = λ _. ltb-false s.mark.col indent left;
-      nul = nul;
-    })))
+gap_ended indent start u0 s text = grind arith
 
 then_front : (r : Result (List ℕ) Refusal) (f : List ℕ → TextRead) (b : List ℕ) (s : Cursor) → GaveText (r >>= f) b s
     → (text : List ℕ) × (r ≡ Ok text) × GaveText (f text) b s

@@ -15,7 +15,7 @@ use Rattle.saphyr_scalar.proofs.Quoted.Clean as quotes
 use Rattle.saphyr_scalar.proofs.Quoted.Clean.{IsClear}
 use Rattle.saphyr_scalar.specs.Passing.{IsPassed, nothing, character, line_break}
 use Rattle.saphyr_scalar.proofs.Moving.{along_more}
-use Rattle.saphyr_scalar.proofs.Quoted.Inside.{IsQuotedInk, stands}
+use Rattle.saphyr_scalar.proofs.Quoted.Inside.{IsQuotedContent, stands}
 use Rattle.saphyr_scalar.proofs.Quoted.Parts.{at_escape, at_two_quotes}
 use Rattle.saphyr_scalar.proofs.Quoted.Gaps.{at_escaped_break, at_closing}
 use Rattle.saphyr_scalar.proofs.Quoted.SpelledEscapes.{GaveText, text_first, text_second, then_text, front_gave, escape_spelled, no_escape}
@@ -55,11 +55,11 @@ literal_itself : (q : Quote) (c : ℕ) → is_literal q c ≡ true → IsTrue (q
 unfolding is_literal
 literal_itself q c h = grind arith
 
-pub content_item : (c : ℕ) → IsQuotedInk c → flow.raw_item c ≡ Raw c
+pub content_item : (c : ℕ) → IsQuotedContent c → flow.raw_item c ≡ Raw c
 content_item c is = rw (or_false_left (c == 10) (c == 13) is.break, is.blank) refl
 
-literal_word : (n : ℕ) (q : Quote) (indent : ℕ) (start m : Marker) (c : ℕ) (cs y : List ℕ) (s : Cursor) → IsQuotedInk c
-    → is_literal q c ≡ true → length cs ≤ n → Known n q indent start
+literal_word : (n : ℕ) (q : Quote) (indent : ℕ) (start m : Marker) (c : ℕ) (cs y : List ℕ) (s : Cursor)
+    → IsQuotedContent c → is_literal q c ≡ true → length cs ≤ n → Known n q indent start
     → GaveText (inner_text q indent start no_gap 0 m (c ∷ cs)) y s → Word indent q m (c ∷ cs) y s
 literal_word n q indent start m c cs y s content h le known g =
     let f = front_gave (encode_utf8 c) (inner_text q indent start no_gap 0 (along m 1) cs) y s
@@ -117,16 +117,7 @@ record Further (indent : ℕ) (m : Marker) (xs y : List ℕ) (s : Cursor) : Type
 
 further : (indent : ℕ) (m : Marker) (xs y : List ℕ) (s : Cursor) → m.col ≡ 0
     → Spelled indent Double (over_lines true 0) m xs y s → Further indent m xs y s
-further indent m xs y s start r = record {
-  items = r.items;
-  is = r.is;
-  bytes = r.bytes;
-  passed = r.passed;
-  clear = r.clear tt start;
-  reached = or_left (is_quoted_line indent xs) (slice_index xs 0 == 34)
-      (let none : indent - m.col ≡ indent = omega (arith, start) in
-      rw none at (r.reached tt));
-}
+further indent m xs y s start r = grind arith
 
 line_word : (n : ℕ) (indent : ℕ) (start m : Marker) (xs y : List ℕ) (s : Cursor) → m.col ≡ 0 → length xs ≤ n
     → Known n Double indent start
@@ -197,12 +188,12 @@ backslash_word n indent start m (e ∷ xs) y s le known g = cases (is_break e) (
       passed = esc.passes s.mark s.rest r.passed;
     })
 
-pub special_of : (q : Quote) (c : ℕ) → IsQuotedInk c → is_literal q c ≡ false → flow.is_special q c ≡ true
+pub special_of : (q : Quote) (c : ℕ) → IsQuotedContent c → is_literal q c ≡ false → flow.is_special q c ≡ true
 unfolding is_literal
 special_of q c is h = grind arith
 
 pub word_spelled : (n : ℕ) (q : Quote) (indent : ℕ) (start m : Marker) (c : ℕ) (cs y : List ℕ) (s : Cursor)
-    → IsQuotedInk c → length cs ≤ n → Known n q indent start
+    → IsQuotedContent c → length cs ≤ n → Known n q indent start
     → GaveText (inner_text q indent start no_gap 0 m (c ∷ cs)) y s → Word indent q m (c ∷ cs) y s
 word_spelled n q indent start m c cs y s is le known g = cases (is_literal q c)
     (λ h. literal_word n q indent start m c cs y s is h le known g) (λ h. by_quote q known g (special_of q c is h))

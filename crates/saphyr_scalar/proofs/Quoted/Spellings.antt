@@ -12,7 +12,7 @@ use Rattle.saphyr_scalar.specs.Steps.Quoted.{digits, character, escape_by_number
 use Rattle.saphyr_scalar.specs.Spelling.OneLine as spelling
 use Rattle.saphyr_scalar.proofs.Moving.{along_none, along_more}
 use Rattle.saphyr_scalar.proofs.Quoted.Escapes.{simple_no_digits}
-use Rattle.saphyr_scalar.proofs.Quoted.Inside.{IsQuotedInk, break_cases}
+use Rattle.saphyr_scalar.proofs.Quoted.Inside.{IsQuotedContent, break_cases}
 
 -- where digits are, they are read
 digits_read : (start m : Marker) (v : ℕ) (ds t : List ℕ) → AreIn is_hex ds
@@ -53,9 +53,7 @@ pub number_read : (start m : Marker) (e c : ℕ) (ds t : List ℕ) → spelling.
     → escaped_character start (mid_line m (backslash ∷ e ∷ (ds ++ t)))
     ≡ Ok (c, mid_line (along (along m 2) (length ds)) t)
 unfolding escaped_character escape_of escape_by_number character
-number_read start m e c ds t h =
-    let none : short_escape e ≡ None = no_letter e (length ds) (short_escape e) refl h.count in
-    rw (none, h.count, digits_read start (along m 2) 0 ds t h.hex, h.value, h.scalar) refl
+number_read start m e c ds t h = grind (arith, no_letter, digits_read)
 
-pub escape_content : IsQuotedInk 92
+pub escape_content : IsQuotedContent 92
 escape_content = record { blank = refl; break = refl; nul = refl }

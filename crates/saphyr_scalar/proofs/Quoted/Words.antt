@@ -49,7 +49,8 @@ words_moved q text grown s t w =
     record {
       same = λ indent start. rw w.place
           (words_behind p joins_quoted with_front (inner_text q indent start no_gap 0)
-          (record { none = no_front; twice = front_twice; passes = word_passed q indent start }) w.count s.mark s.rest left
+          (record { none = no_front; twice = front_twice; passes = word_passed q indent start }) w.count s.mark s.rest
+          left
           text grown w.words);
       stops = or_false_left (p (slice_index left 0)) (joins_quoted (slice_index left 0) (slice_index left 1))
           (rw (w.words.transfers.taken, w.words.count) (words_stop p joins_quoted s.rest (none_at_end q)));

@@ -19,12 +19,7 @@ use Rattle.saphyr_input.proofs.Basics.Numbers.{equal_by_test}
 -- the name of a short escape is not a break
 pub short_escape_no_feed : (name c : ℕ) → short_escape name ≡ Some c → (name == line_feed) ≡ false
 unfolding short_escape
-short_escape_no_feed name c h = at (name == line_feed) refl
-  where
-    at : (b : Bool) → (name == line_feed) ≡ b → b ≡ false
-    at true e = let none : short_escape line_feed ≡ Some c =
-        ap short_escape (sym (equal_by_test name line_feed true e refl)) ∙ h in absurd (cc)
-    at false e = refl
+short_escape_no_feed name c h = grind arith
 
 -- the names of escapes by number are others than those of whole escapes
 abbrev pub IsLongName : ℕ → Type 0
@@ -83,26 +78,11 @@ IsReadFirst quote item back front =
 
 itself_read : (quote : Quote) (item : Item) (front back : List ℕ) → IsItself quote item front
     → IsReadFirst quote item back front
-itself_read quote item front back (c, plain, is, e) =
-    subst (IsReadFirst quote item back) (sym e) (
-      cond-false (is_special quote c) (special_item quote c back) (Some (raw_item c, 1)) plain
-          ∙ ap (λ (i : Item). Some (i, 1)) (sym is),
-      (c, [], refl),
-    )
+itself_read quote item front back u0 = grind arith
 
 spelling_read : (quote : Quote) (item : Item) (front back : List ℕ) → IsSpelling quote item front
     → IsReadFirst quote item back front
-spelling_read Single item front back (inl h) = itself_read Single item front back h
-spelling_read Double item front back (inl h) = itself_read Double item front back h
-spelling_read Single item front back (inr (is, e)) =
-    subst (IsReadFirst Single item back) (sym e)
-    (ap (λ (i : Item). Some (i, 2)) (sym is), (apostrophe, apostrophe ∷ [], refl))
-spelling_read Double item front back (inr (text, h, e)) =
-    subst (IsReadFirst Double item back) (sym e) (
-      ap (option_map (λ x. (x.0, x.1 + 1))) (escape_first item text back h)
-          ∙ ap (λ (n : ℕ). Some (item, n)) (add-one (length text)),
-      (backslash, text, refl),
-    )
+spelling_read u0 item front back u1 = grind (arith, itself_read, escape_first, add-one)
 
 closing_read : (quote : Quote) → items_to_quote quote zero (mark quote ∷ []) ≡ Some []
 closing_read Single = refl

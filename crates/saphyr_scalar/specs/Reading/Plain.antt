@@ -47,7 +47,7 @@ pub record IsPlainReading (in_flow : Bool) (s : Cursor) (text : List ℕ) (end :
   pub front : List ℕ
   pub last : ℕ
   pub closes : piece ≡ front ++ last ∷ []
-  pub is_ink : IsFalse (is_blank_or_break last)
+  pub is_non_space : IsFalse (is_blank_or_break last)
   pub follows : IsTrue (ends_piece (slice_index (white ++ t.rest) 0))
   pub value : encode_utf8_all (plain_value (normalized piece)) ≡ text
   pub ends : end_of_text s.mark piece ≡ end

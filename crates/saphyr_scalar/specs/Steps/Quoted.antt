@@ -157,12 +157,6 @@ inner_text_at quote indent start gap s = inner_text quote indent start gap zero 
 unfoldable pub quoted : Quote → ℕ → Cursor → TextRead
 quoted quote indent s = inner_text_at quote indent s.mark no_gap (pass 1 s)
 
-abbrev pub double_quoted : ℕ → Cursor → TextRead
-double_quoted indent s = quoted Double indent s
-
-abbrev pub single_quoted : ℕ → Cursor → TextRead
-single_quoted indent s = quoted Single indent s
-
 -- What calls that read a part of a scalar leave.
 
 -- the longest run of p is put after a text, and counts as blanks do

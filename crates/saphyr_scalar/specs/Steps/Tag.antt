@@ -1,12 +1,11 @@
 -- Tags (YAML 1.2.2, 6.9.1), their handles (6.8.2.1), and percent escapes (5.6).
-use Rattle.std.specs.Prelude.{ℕ, zero, suc, ◌+◌, ◌-◌, ◌*◌, Bool, ◌||◌, ◌&&◌, ◌==◌, nat_lt, nat_le, List, [], ◌∷◌, ◌++◌, length, slice_index, Result, Ok, if◌then◌else◌, encode_utf8, codes, string_bytes}
+use Rattle.std.specs.Prelude.{ℕ, zero, suc, ◌+◌, ◌-◌, ◌*◌, Bool, ◌||◌, ◌&&◌, ◌==◌, nat_lt, nat_le, List, [], ◌∷◌, ◌++◌, length, slice_index, Result, Ok, if◌then◌else◌, encode_utf8, codes}
 use Rattle.std.specs.Char.{len_utf8}
 use Rattle.saphyr_input.specs.Classes.{is_alpha, is_hex, hex_value, is_blank_or_breakz, is_flow, is_uri_char, is_tag_char}
 use Rattle.saphyr_input.specs.Indicators.{exclamation_mark, greater_than, less_than, percent_sign}
 use Rattle.saphyr_scalar.specs.declared.scalar.position.Marker.{Marker}
 use Rattle.saphyr_scalar.specs.declared.scalar.fault.Refusal.{Refusal}
 use Rattle.saphyr_scalar.specs.declared.scalar.fault.FaultText.TheVariants as fault
-use Rattle.saphyr_scalar.specs.declared.scalar.tag.TagParts.{TagParts}
 use Rattle.saphyr_scalar.specs.declared.scalar.tag.UriSet.{UriSet}
 use Rattle.saphyr_scalar.specs.declared.scalar.tag.UriSet.TheVariants.{Uri, Suffix}
 use Rattle.saphyr_scalar.specs.Views.Cursor.{Cursor, ◌>>=◌, refuse, along, pass}
@@ -109,9 +108,17 @@ decoded_onto set start text s = with_front text (decoded_at set start s)
 abbrev pub TagRead : Type 0
 TagRead = List ℕ × List ℕ × Cursor
 
--- what contracts see of a tag and of the reader after it
-abbrev pub seen_tag : TagParts → Cursor → TagRead
-seen_tag tag s = (string_bytes tag.handle, string_bytes tag.suffix, s)
+-- A tag behind a text, its suffix behind its handle: how many bytes the handle has, the text, and what comes after it.
+abbrev pub TagBehind : Type 0
+TagBehind = ℕ × List ℕ × Cursor
+
+-- what contracts see of a tag that was put there
+abbrev pub seen_tag : ℕ → List ℕ → Cursor → TagBehind
+seen_tag handle text s = (handle, text, s)
+
+-- a tag is put behind a text
+abbrev pub with_tag : List ℕ → Result TagRead Refusal → Result TagBehind Refusal
+with_tag text read = read >>= λ x. Ok (length x.0, (text ++ x.0) ++ x.1, x.2)
 
 -- `!<uri>`: the uri is the suffix
 unfoldable pub verbatim_end : Marker → List ℕ × Cursor → Result TagRead Refusal
@@ -136,6 +143,11 @@ named_tail start word s = decoded_at Suffix start s >>= λ x. named_tag start wo
 unfoldable pub primary_tag : List ℕ × Cursor → TagRead
 primary_tag x = if length x.0 == 0 then ([], codes "!", x.1) else (codes "!", x.0, x.1)
 
+-- `!` and a word are put behind a text
+abbrev pub with_word : List ℕ → Cursor → Result (List ℕ × Cursor) Refusal
+with_word text s =
+    Ok ((text ++ codes "!") ++ (with_run is_alpha [] (pass 1 s)).0, (with_run is_alpha [] (pass 1 s)).1)
+
 -- after `!` and a word
 unfoldable pub tag_behind_word : Marker → List ℕ × Cursor → Result TagRead Refusal
 tag_behind_word start w =
@@ -146,12 +158,16 @@ unfoldable pub shorthand_tag : Cursor → Result TagRead Refusal
 shorthand_tag s = tag_behind_word s.mark (with_run is_alpha [] (pass 1 s))
 
 -- a tag ends before a blank, a break, NUL or the end, and in flow before a flow indicator
+abbrev pub is_behind_tag : Bool → ℕ → Bool
+is_behind_tag in_flow c = is_blank_or_breakz c || (in_flow && is_flow c)
+
 unfoldable pub tag_end : Bool → Marker → TagRead → Result TagRead Refusal
 tag_end in_flow start p =
-    if is_blank_or_breakz (slice_index p.2.rest 0) || (in_flow && is_flow (slice_index p.2.rest 0)) then Ok p
-    else refuse fault.TagEndExpected start
+    if is_behind_tag in_flow (slice_index p.2.rest 0) then Ok p else refuse fault.TagEndExpected start
+
+abbrev pub any_tag : Cursor → Result TagRead Refusal
+any_tag s = if slice_index s.rest 1 == less_than then verbatim_tag s else shorthand_tag s
 
 -- a tag, from its `!` on
 unfoldable pub tag : Bool → Cursor → Result TagRead Refusal
-tag in_flow s =
-    (if slice_index s.rest 1 == less_than then verbatim_tag s else shorthand_tag s) >>= λ p. tag_end in_flow s.mark p
+tag in_flow s = any_tag s >>= λ p. tag_end in_flow s.mark p

@@ -1,15 +1,15 @@
 //! The names of anchors and aliases, taken off a text (YAML 1.2.2, 6.9.2 and 7.1).
 
-ghost use Rattle.std.specs.Prelude.{◌≡◌, ℕ, ◌<◌, List, [], IfOk, length, refl, string_bytes};
+ghost use Rattle.std.specs.Prelude.{◌<◌, length, refl};
 ghost use Rattle.saphyr_input.specs.Classes as class;
 ghost use Rattle.saphyr_scalar.specs.Steps.Anchor as spec;
+ghost use Rattle.saphyr_scalar.specs.Steps.Quoted.{with_front};
 
 use crate::scalar::fault::{FaultText, Refusal, Stop};
 use crate::scalar::reader::Reader;
 use saphyr_input::char_set::CharSet;
 use saphyr_input::char_traits::is_anchor_char;
 use saphyr_input::input::Input;
-use std::alloc::{AllocError, Global};
 
 // The characters of an anchor's name.
 pub(crate) struct AnchorSet;
@@ -29,39 +29,28 @@ impl CharSet for AnchorSet {
 }
 
 impl<T: Input> Reader<T> {
-    ghost use Rattle.saphyr_scalar.specs.Views.Reader.{cursor_of, ReadsTextBy};
+    ghost use Rattle.saphyr_scalar.specs.Views.Reader.{cursor_of, WritesBy, text_alone};
 
-    // An empty text for the name that begins here. The memory of an anchor's name is given back before that of the
-    // scalar after it, so the two have memory of their own.
-    fn begin_name(&mut self, alloc: Global) -> Result<String, AllocError>
-        ensures same { cursor_of self.new ≡ cursor_of self.old }
-        ensures empty { IfOk result (λ name. string_bytes name ≡ []) }
-    {
-        if self.look() == '*' {
-            return self.spare.begin(alloc);
-        }
-        self.spare.begin_name(alloc)
-    }
-
-    /// Takes off an anchor or an alias (YAML 1.2.2, 6.9.2 and 7.1), from its `&` or `*` on, and
-    /// returns its name.
+    /// Takes off an anchor or an alias (YAML 1.2.2, 6.9.2 and 7.1), from its `&` or `*` on, and puts
+    /// its name behind a text.
     ///
-    /// A name without characters is refused at the indicator.
-    #[tactic(auto, unfolding(crate::specs::Steps::Anchor::anchor, crate::specs::Steps::Anchor::anchor_name_of))]
-    pub fn read_anchor(&mut self, alloc: Global) -> Result<String, Stop>
+    /// A name without characters is refused at the indicator. After an error nothing is known of
+    /// what is left of that text.
+    pub fn read_anchor_onto(&mut self, text: &mut String) -> Result<(), Stop>
         requires { 0 < length (cursor_of self.old).rest }
-        ensures { ReadsTextBy spec.anchor self.old result self.new }
+        ensures { WritesBy text_alone (λ before s. with_front before (spec.anchor s)) text.old
+            self.old result text.new self.new }
     {
         let start = self.mark;
-        let mut name = self.begin_name(alloc)?;
+        let before = text.len();
         self.skip_non_blank();
-        self.read_run::<AnchorSet>(&mut name)?;
-        if name.is_empty() {
+        self.read_run::<AnchorSet>(text)?;
+        if text.len() == before {
             return Err(Stop::Refused(Refusal {
                 text: FaultText::AnchorNameExpected,
                 mark: start,
             }));
         }
-        Ok(name)
+        Ok(())
     }
 }

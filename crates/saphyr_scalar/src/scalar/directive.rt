@@ -8,8 +8,8 @@ ghost use Rattle.saphyr_scalar.specs.Steps.Directive as spec;
 use crate::scalar::fault::{FaultText, Refusal, Stop};
 use crate::scalar::position::Marker;
 use crate::scalar::reader::Reader;
-use crate::scalar::tag::{UriSet, named_handle};
-use saphyr_input::char_set::{Alpha, NonSpace};
+use crate::scalar::tag::UriSet;
+use saphyr_input::char_set::NonSpace;
 use saphyr_input::char_traits::{is_blank_or_breakz, is_breakz, is_digit, is_tag_char};
 use saphyr_input::input::{Input, SkipTabs};
 use std::alloc::Global;
@@ -49,7 +49,7 @@ impl<T: Input> Reader<T> {
         ensures { ReadsTextBy spec.name self.old result self.new }
     {
         let start = self.mark;
-        let mut name = String::new(alloc);
+        let mut name = self.spare.begin(alloc)?;
         self.read_run::<NonSpace>(&mut name)?;
         if name.is_empty() {
             return Err(Stop::Refused(Refusal {
@@ -115,30 +115,6 @@ impl<T: Input> Reader<T> {
         Ok(Directive::Version(major, minor))
     }
 
-    // Takes off the `!` behind the word of a handle, and gives the handle: `!` alone where neither stands.
-    #[tactic(auto, unfolding(crate::specs::Steps::Directive::handle_behind_word))]
-    fn end_directive_handle(
-        &mut self,
-        alloc: Global,
-        word: &str,
-        start: Marker,
-    ) -> Result<String, Stop>
-        ensures { ReadsTextBy (λ s. spec.handle_behind_word start (word.now, s)) self.old result
-            self.new }
-    {
-        if self.look() == '!' {
-            self.skip_non_blank();
-            return Ok(named_handle(alloc, word)?);
-        }
-        if !word.is_empty() {
-            return Err(Stop::Refused(Refusal {
-                text: FaultText::TagDirectiveHandleEndExpected,
-                mark: start,
-            }));
-        }
-        Ok(String::from_str(alloc, "!")?)
-    }
-
     // Takes off the handle of a tag directive: `!`, `!!` or `!word!`.
     #[tactic(auto, unfolding(crate::specs::Steps::Directive::handle))]
     fn read_directive_handle(&mut self, alloc: Global, start: Marker) -> Result<String, Stop>
@@ -150,10 +126,20 @@ impl<T: Input> Reader<T> {
                 mark: start,
             }));
         }
-        self.skip_non_blank();
-        let mut word = String::new(alloc);
-        self.read_run::<Alpha>(&mut word)?;
-        self.end_directive_handle(alloc, word.as_str(), start)
+        let mut handle = self.spare.begin_handle(alloc)?;
+        let c = self.read_marked_word(&mut handle)?;
+        if c == '!' {
+            self.skip_non_blank();
+            handle.push('!')?;
+            return Ok(handle);
+        }
+        if handle.len() > 1 {
+            return Err(Stop::Refused(Refusal {
+                text: FaultText::TagDirectiveHandleEndExpected,
+                mark: start,
+            }));
+        }
+        Ok(handle)
     }
 
     // Takes off the prefix of a tag directive, with its escapes resolved.
@@ -168,7 +154,7 @@ impl<T: Input> Reader<T> {
             }));
         }
         let c = self.read_uri_character(start)?;
-        let mut prefix = String::new(alloc);
+        let mut prefix = self.spare.begin_suffix(alloc)?;
         prefix.push(c)?;
         self.read_uri_characters(UriSet::Uri, start, &mut prefix)?;
         Ok(prefix)
@@ -204,9 +190,11 @@ impl<T: Input> Reader<T> {
             self.old result self.new }
     {
         if name.as_str() == "YAML" {
+            self.spare.keep(name);
             return Ok(self.read_version_directive(start)?);
         }
         if name.as_str() == "TAG" {
+            self.spare.keep(name);
             return self.read_tag_directive(alloc, start);
         }
         self.skip_comment();

@@ -67,7 +67,7 @@ pub fn indents_plain_lines()
 {}
 
 /// A plain scalar begins with a character that is neither a blank nor a break.
-pub fn begins_plain_scalars_with_ink()
+pub fn begins_plain_scalars_with_non_space()
     ensures { (in_flow : Bool) (indent : ℕ) (s t : Cursor) (text : List ℕ) (end : Marker)
         (comment : Option Marker) → plain in_flow indent s ≡ Ok (text, end, comment, t)
         → is_blank_or_break (slice_index s.rest 0) ≡ false }

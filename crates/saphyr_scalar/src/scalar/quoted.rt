@@ -13,7 +13,6 @@ ghost use Rattle.saphyr_scalar.specs.declared.values.Quote.TheVariants.{Single, 
 use crate::scalar::fault::Stop;
 use crate::scalar::position::Marker;
 use crate::scalar::reader::Reader;
-use crate::scalar::spare::FIRST_ROOM;
 use crate::values::Quote;
 use saphyr_input::input::Input;
 use std::alloc::Global;
@@ -134,22 +133,7 @@ impl<T: Input> Reader<T> {
         Ok(())
     }
 
-    // Takes off a quoted scalar, from its opening quote to its closing one, and returns its text.
-    #[inline(always)]
-    fn read_quoted(&mut self, alloc: Global, quote: Quote, indent: usize) -> Result<String, Stop>
-        requires { slice_index (cursor_of self.old).rest 0 ≡ flow.mark quote }
-        ensures { ReadsTextBy (spec.quoted quote indent) self.old result self.new }
-    {
-        let start = self.mark;
-        self.skip_non_blank();
-        let is_empty = self.look() == quote.mark();
-        let room = if is_empty { 0 } else { FIRST_ROOM };
-        let mut text = self.spare.begin_with(alloc, room)?;
-        self.read_quoted_inside(alloc, quote, indent, start, &mut text)?;
-        Ok(text)
-    }
-
-    // Takes off a quoted scalar as well, and puts its text behind another.
+    // Takes off a quoted scalar, from its opening quote on, and puts its text behind another.
     #[inline(always)]
     fn read_behind(
         &mut self,
@@ -167,19 +151,6 @@ impl<T: Input> Reader<T> {
         self.skip_non_blank();
         self.read_quoted_inside(alloc, quote, indent, start, text)?;
         Ok(())
-    }
-
-    /// Takes off a double quoted scalar, from its opening quote to its closing one, and returns its
-    /// text: escapes are replaced, and lines are folded (YAML 1.2.2, 7.3.1).
-    ///
-    /// `indent` is the column that later lines must reach. Refused at the opening quote are faults
-    /// in escapes, a later line that begins left of that column or with a document marker, and a
-    /// text that ends before the scalar does. A tab left of the column is refused at its own place.
-    pub fn read_double_quoted(&mut self, alloc: Global, indent: usize) -> Result<String, Stop>
-        requires { slice_index (cursor_of self.old).rest 0 ≡ quotation_mark }
-        ensures { ReadsTextBy (spec.double_quoted indent) self.old result self.new }
-    {
-        self.read_quoted(alloc, Quote::Double, indent)
     }
 
     // Puts the text of a double quoted scalar behind another.
@@ -214,8 +185,14 @@ impl<T: Input> Reader<T> {
         self.read_behind(alloc, Quote::Single, indent, text)
     }
 
-    /// Takes off a quoted scalar, from its opening quote to its closing one, and puts its text behind another. If it
-    /// fails, nothing is known of what is left of that text.
+    /// Takes off a quoted scalar, from its opening quote to its closing one, and puts its text behind
+    /// another. Between double quotes escapes are replaced (YAML 1.2.2, 7.3.1), between single
+    /// quotes `''` is a quote (7.3.2), and lines are folded.
+    ///
+    /// `indent` is the column that later lines must reach. Refused at the opening quote are faults
+    /// in escapes, a later line that begins left of that column or with a document marker, and a
+    /// text that ends before the scalar does. A tab left of the column is refused at its own place.
+    /// After an error nothing is known of what is left of the other text.
     #[inline(always)]
     pub fn read_quoted_onto(
         &mut self,
@@ -233,16 +210,5 @@ impl<T: Input> Reader<T> {
             Quote::Double => self.read_double_behind(alloc, indent, text),
             Quote::Single => self.read_single_behind(alloc, indent, text),
         }
-    }
-
-    /// Takes off a single quoted scalar, from its opening quote to its closing one, and returns its
-    /// text: `''` is a quote, and lines are folded (YAML 1.2.2, 7.3.2).
-    ///
-    /// It is refused like a double quoted one, except that it has no escapes.
-    pub fn read_single_quoted(&mut self, alloc: Global, indent: usize) -> Result<String, Stop>
-        requires { slice_index (cursor_of self.old).rest 0 ≡ apostrophe }
-        ensures { ReadsTextBy (spec.single_quoted indent) self.old result self.new }
-    {
-        self.read_quoted(alloc, Quote::Single, indent)
     }
 }

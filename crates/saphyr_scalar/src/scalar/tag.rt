@@ -1,6 +1,6 @@
 //! Tags, taken off a text, with their percent escapes decoded (YAML 1.2.2, 6.9.1 and 5.6).
 
-ghost use Rattle.std.specs.Prelude.{◌≡◌, false, ℕ, ◌+◌, ◌*◌, ◌<◌, ◌≤◌, ◌^◌, List, [], length, slice_index, string_bytes, Ok, IfOk, codes, refl};
+ghost use Rattle.std.specs.Prelude.{◌≡◌, ◌++◌, false, ℕ, ◌<◌, ◌≤◌, List, [], length, slice_index, string_bytes, Ok, IfOk, codes, refl};
 ghost use Rattle.saphyr_input.specs.Indicators.{exclamation_mark};
 ghost use Rattle.saphyr_input.specs.Classes as class;
 ghost use Rattle.saphyr_scalar.specs.Steps.Quoted as run;
@@ -12,9 +12,7 @@ use crate::scalar::position::Marker;
 use crate::scalar::reader::Reader;
 use crate::scalar::spare::Spare;
 use saphyr_input::char_set::{Alpha, CharSet};
-use saphyr_input::char_traits::{
-    as_hex, is_blank_or_breakz, is_flow, is_hex, is_tag_char, is_uri_char,
-};
+use saphyr_input::char_traits::{is_blank_or_breakz, is_flow, is_tag_char, is_uri_char};
 use saphyr_input::input::Input;
 use std::alloc::{AllocError, Global};
 
@@ -99,153 +97,16 @@ impl CharSet for PlainSuffix {
     }
 }
 
-// How many bytes a character has whose UTF-8 begins with this byte, or 0 if there is none.
-#[tactic(auto, unfolding(crate::specs::Steps::Tag::utf8_width))]
-fn utf8_width(byte: u32) -> usize
-    ensures value { result ≡ spec.utf8_width byte }
-    ensures small { result ≤ 4 }
+// Whether a tag ends before the character.
+#[inline(always)]
+fn ends_tag(c: char, in_flow: bool) -> bool
+    ensures { result ≡ spec.is_behind_tag in_flow c }
 {
-    match byte {
-        0x00..=0x7F => 1,
-        0xC0..=0xDF => 2,
-        0xE0..=0xEF => 3,
-        0xF0..=0xF7 => 4,
-        _ => 0,
-    }
-}
-
-// What the first byte of a character's UTF-8 says of the character.
-#[tactic(auto, unfolding(crate::specs::Steps::Tag::leading_bits))]
-fn leading_bits(byte: u32) -> u32
-    requires { byte < 256 }
-    ensures value { result ≡ spec.leading_bits byte }
-    ensures small { result < 192 }
-{
-    match byte {
-        0xC0..=0xDF => byte - 0xC0,
-        0xE0..=0xEF => byte - 0xE0,
-        0xF0..=0xFF => byte - 0xF0,
-        _ => byte,
-    }
-}
-
-// The handle `!`, in the memory of an empty text.
-fn primary_handle(mut text: String) -> Result<String, AllocError>
-    requires { string_bytes text ≡ [] }
-    ensures ok { IfOk result (λ handle. string_bytes handle ≡ codes "!") }
-{
-    text.push('!')?;
-    Ok(text)
-}
-
-// The handle `!!`, in the memory of an empty text.
-fn secondary_handle(mut text: String) -> Result<String, AllocError>
-    requires { string_bytes text ≡ [] }
-    ensures ok { IfOk result (λ handle. string_bytes handle ≡ codes "!!") }
-{
-    text.push_str("!!")?;
-    Ok(text)
-}
-
-// The handle `!word!`, or `!!` if the word is empty, in the memory of an empty text.
-fn handle_in(mut text: String, word: &str) -> Result<String, AllocError>
-    requires { string_bytes text ≡ [] }
-    ensures { IfOk result (λ handle. string_bytes handle ≡ spec.handle_of word.now) }
-{
-    text.push('!')?;
-    text.push_str(word)?;
-    text.push('!')?;
-    Ok(text)
-}
-
-// The handle `!word!`, or `!!` if the word is empty, in new memory.
-pub(crate) fn named_handle(alloc: Global, word: &str) -> Result<String, AllocError>
-    ensures { IfOk result (λ handle. string_bytes handle ≡ spec.handle_of word.now) }
-{
-    handle_in(String::new(alloc), word)
+    is_blank_or_breakz(c) || in_flow && is_flow(c)
 }
 
 impl<T: Input> Reader<T> {
-    ghost use Rattle.saphyr_scalar.specs.Views.Reader.{cursor_of, GivesBy, ReadsBy, WritesBy, AppendsBy, text_alone};
-
-    // Takes off the escape of one byte.
-    #[tactic(auto, unfolding(crate::specs::Steps::Tag::escaped_byte))]
-    fn read_escaped_byte(&mut self, start: Marker) -> Result<u32, Refusal>
-        ensures value { GivesBy (spec.escaped_byte start) self.old result self.new }
-        ensures small { IfOk result (λ byte. byte < 256) }
-    {
-        self.load(3);
-        let high = self.input.peek_nth(1);
-        let low = self.input.peek_nth(2);
-        if self.input.peek() != '%' || !is_hex(high) || !is_hex(low) {
-            return Err(Refusal {
-                text: FaultText::TagEscape,
-                mark: start,
-            });
-        }
-        self.skip_n_non_blank(3);
-        Ok(as_hex(high) * 16 + as_hex(low))
-    }
-
-    // Takes off the escape of a byte that is not the first of its character. Returns what it and the
-    // bytes before it say.
-    #[tactic(auto, unfolding(crate::specs::Steps::Tag::trailing_byte))]
-    fn read_trailing_byte(&mut self, value: u32, start: Marker) -> Result<u32, Refusal>
-        requires { value < 2 ^ 24 }
-        ensures value { GivesBy (spec.trailing_byte start value) self.old result self.new }
-        ensures small { IfOk result (λ grown. grown < 64 * value + 64) }
-    {
-        let byte = self.read_escaped_byte(start)?;
-        match byte {
-            0x80..=0xBF => Ok(value * 64 + (byte - 0x80)),
-            _ => Err(Refusal {
-                text: FaultText::TagEscapeTrailingByte,
-                mark: start,
-            }),
-        }
-    }
-
-    // Takes off the escapes of this many bytes after the first one of a character.
-    #[tactic(auto, unfolding(crate::specs::Steps::Tag::trailing_bytes))]
-    fn read_trailing_bytes(
-        &mut self,
-        count: usize,
-        bits: u32,
-        start: Marker,
-    ) -> Result<u32, Refusal>
-        requires few { count ≤ 3 }
-        requires small { bits < 256 }
-        ensures { GivesBy (spec.trailing_bytes start count bits) self.old result self.new }
-    {
-        let mut value = bits;
-        for _ in 0..count {
-            value = self.read_trailing_byte(value, start)?;
-        }
-        Ok(value)
-    }
-
-    // Takes off a percent escape, and returns its character (YAML 1.2.2, 5.6).
-    #[tactic(auto, unfolding(crate::specs::Steps::Tag::percent_escape, crate::specs::Steps::Tag::behind_leading_byte, crate::specs::Steps::Tag::encoded_character))]
-    fn read_percent_escape(&mut self, start: Marker) -> Result<char, Refusal>
-        ensures { GivesBy (spec.percent_escape start) self.old result self.new }
-    {
-        let first = self.read_escaped_byte(start)?;
-        let width = utf8_width(first);
-        if width == 0 {
-            return Err(Refusal {
-                text: FaultText::TagEscapeLeadingByte,
-                mark: start,
-            });
-        }
-        let value = self.read_trailing_bytes(width - 1, leading_bits(first), start)?;
-        match char::from_u32(value) {
-            Some(c) if c.len_utf8() == width => Ok(c),
-            _ => Err(Refusal {
-                text: FaultText::TagEscapeCodePoint,
-                mark: start,
-            }),
-        }
-    }
+    ghost use Rattle.saphyr_scalar.specs.Views.Reader.{cursor_of, GivesBy, Moves, WritesBy, AppendsBy, text_alone};
 
     // Takes off a character of a uri, or the escape of one.
     #[tactic(auto, unfolding(crate::specs::Steps::Tag::uri_character))]
@@ -298,16 +159,16 @@ impl<T: Input> Reader<T> {
         Ok(())
     }
 
-    // Takes off `!<uri>`.
-    #[tactic(auto, unfolding(crate::specs::Steps::Tag::verbatim_tag, crate::specs::Steps::Tag::verbatim_end))]
-    fn read_verbatim_tag(&mut self, alloc: Global) -> Result<TagParts, Stop>
+    // Takes off `!<uri>`, and puts the uri behind a text. Returns how many bytes the handle has, which is empty.
+    #[tactic(auto, unfolding(crate::specs::Steps::Tag::verbatim_tag))]
+    fn read_verbatim_tag(&mut self, text: &mut String) -> Result<usize, Stop>
         requires { 2 ≤ length (cursor_of self.old).rest }
-        ensures { ReadsBy spec.seen_tag spec.verbatim_tag self.old result self.new }
+        ensures { WritesBy spec.seen_tag (λ before s. spec.with_tag before (spec.verbatim_tag s))
+            text.old self.old result text.new self.new }
     {
         let start = self.mark;
         self.skip_n_non_blank(2);
-        let mut uri = self.spare.begin_suffix(alloc)?;
-        self.read_uri_characters(UriSet::Uri, start, &mut uri)?;
+        self.read_uri_characters(UriSet::Uri, start, text)?;
         if self.look() != '>' {
             return Err(Stop::Refused(Refusal {
                 text: FaultText::VerbatimTagEndExpected,
@@ -315,50 +176,25 @@ impl<T: Input> Reader<T> {
             }));
         }
         self.skip_non_blank();
-        Ok(TagParts {
-            handle: String::new(alloc),
-            suffix: uri,
-        })
+        Ok(0)
     }
 
-    // Takes off the suffix of a tag after its handle. It begins in the memory of the handle's word.
-    #[inline(always)]
-    #[tactic(auto, unfolding(crate::specs::Steps::Tag::named_tail, crate::specs::Steps::Tag::named_tag))]
-    fn read_suffix_behind(
-        &mut self,
-        handle: String,
-        word: String,
-        start: Marker,
-    ) -> Result<TagParts, Stop>
-        requires { string_bytes handle ≡ spec.handle_of (string_bytes word) }
-        ensures { ReadsBy spec.seen_tag (spec.named_tail start (string_bytes word)) self.old
-            result self.new }
+    // Takes off the suffix of a tag, and puts it behind the handle, `!!` or `!word!`, at the end of a text.
+    fn read_named_suffix(&mut self, start: Marker, text: &mut String) -> Result<(), Stop>
+        ensures { (before word : List ℕ) → string_bytes text.old ≡ before ++ spec.handle_of word
+            → Moves (λ _. spec.seen_tag (length (spec.handle_of word)) (string_bytes text.new)
+            (cursor_of self.new)) result
+            (spec.with_tag before (spec.named_tail start word (cursor_of self.old))) }
     {
-        let mut suffix = word;
-        suffix.clear();
-        self.read_uri_characters(UriSet::Suffix, start, &mut suffix)?;
-        if suffix.is_empty() {
+        let before = text.len();
+        self.read_uri_characters(UriSet::Suffix, start, text)?;
+        if text.len() == before {
             return Err(Stop::Refused(Refusal {
                 text: FaultText::TagSuffixExpected,
                 mark: start,
             }));
         }
-        Ok(TagParts { handle, suffix })
-    }
-
-    // Takes off the suffix of a tag after `!word!`.
-    #[inline(always)]
-    fn read_named_suffix(
-        &mut self,
-        alloc: Global,
-        word: String,
-        start: Marker,
-    ) -> Result<TagParts, Stop>
-        ensures { ReadsBy spec.seen_tag (spec.named_tail start (string_bytes word)) self.old
-            result self.new }
-    {
-        let handle = handle_in(self.spare.begin_handle(alloc)?, word.as_str())?;
-        self.read_suffix_behind(handle, word, start)
+        Ok(())
     }
 
     // Moves what is left of a suffix behind a word to the end of a text. Mostly nothing is.
@@ -375,72 +211,93 @@ impl<T: Input> Reader<T> {
         self.read_uri_characters(UriSet::Suffix, start, text)
     }
 
-    // Takes off a tag of a handle and a suffix.
-    #[tactic(auto, unfolding(crate::specs::Steps::Tag::shorthand_tag, crate::specs::Steps::Tag::tag_behind_word, crate::specs::Steps::Tag::primary_tag))]
-    fn read_shorthand_tag(&mut self, alloc: Global) -> Result<TagParts, Stop>
+    // Takes off `!` and a word, and puts both behind a text. Returns the character behind them.
+    #[inline(always)]
+    pub(crate) fn read_marked_word(&mut self, text: &mut String) -> Result<char, Stop>
         requires { 0 < length (cursor_of self.old).rest }
-        ensures { ReadsBy spec.seen_tag spec.shorthand_tag self.old result self.new }
+        ensures word { WritesBy (λ _ text s. (text, s)) spec.with_word text.old self.old result
+            text.new self.new }
+        ensures next { IfOk result (λ c. c ≡ slice_index (cursor_of self.new).rest 0) }
+    {
+        self.skip_non_blank();
+        text.push('!')?;
+        self.read_run::<Alpha>(text)?;
+        Ok(self.look())
+    }
+
+    // Takes off a tag of a handle and a suffix, and puts both behind a text. Returns how many bytes the handle has.
+    fn read_shorthand_tag(&mut self, text: &mut String) -> Result<usize, Stop>
+        requires { 0 < length (cursor_of self.old).rest }
+        ensures { WritesBy spec.seen_tag (λ before s. spec.with_tag before (spec.shorthand_tag s))
+            text.old self.old result text.new self.new }
     {
         let start = self.mark;
-        self.skip_non_blank();
-        let mut word = self.spare.begin_suffix(alloc)?;
-        self.read_run::<Alpha>(&mut word)?;
-        let c = self.look();
+        let before = text.len();
+        let c = self.read_marked_word(text)?;
         if c == '!' {
             self.skip_non_blank();
-            return self.read_named_suffix(alloc, word, start);
+            text.push('!')?;
+            let handle = text.len() - before;
+            self.read_named_suffix(start, text)?;
+            return Ok(handle);
         }
-        let mut suffix = word;
-        self.read_rest_of_suffix(c, start, &mut suffix)?;
-        let mark = primary_handle(self.spare.begin_handle(alloc)?)?;
-        if suffix.is_empty() {
-            return Ok(TagParts {
-                handle: suffix,
-                suffix: mark,
-            });
+        self.read_rest_of_suffix(c, start, text)?;
+        // A `!` alone is the suffix.
+        if text.len() == before + 1 {
+            return Ok(0);
         }
-        Ok(TagParts {
-            handle: mark,
-            suffix,
-        })
+        Ok(1)
     }
 
     // Takes off a tag whose handle is `!!`, which has no word. Most tags have it.
-    fn read_secondary_tag(&mut self, alloc: Global) -> Result<TagParts, Stop>
+    fn read_secondary_tag(&mut self, text: &mut String) -> Result<usize, Stop>
         requires { slice_index (cursor_of self.old).rest 1 ≡ exclamation_mark }
-        ensures { ReadsBy spec.seen_tag spec.shorthand_tag self.old result self.new }
+        ensures { WritesBy spec.seen_tag (λ before s. spec.with_tag before (spec.shorthand_tag s))
+            text.old self.old result text.new self.new }
     {
         let start = self.mark;
-        let word = self.spare.begin_suffix(alloc)?;
-        let handle = secondary_handle(self.spare.begin_handle(alloc)?)?;
         self.skip_n_non_blank(2);
-        self.read_suffix_behind(handle, word, start)
+        text.push_str("!!")?;
+        self.read_named_suffix(start, text)?;
+        Ok(2)
     }
 
-    /// Takes off a tag (YAML 1.2.2, 6.9.1), from its `!` on, inside flow or outside.
+    // Takes off a tag of any form. What comes after it may be part of no tag.
+    #[inline(always)]
+    fn read_any_tag(&mut self, text: &mut String) -> Result<usize, Stop>
+        requires { slice_index (cursor_of self.old).rest 0 ≡ exclamation_mark }
+        ensures { WritesBy spec.seen_tag (λ before s. spec.with_tag before (spec.any_tag s))
+            text.old self.old result text.new self.new }
+    {
+        self.load(2);
+        match self.input.peek_nth(1) {
+            '<' => self.read_verbatim_tag(text),
+            '!' => self.read_secondary_tag(text),
+            _ => self.read_shorthand_tag(text),
+        }
+    }
+
+    /// Takes off a tag (YAML 1.2.2, 6.9.1), from its `!` on, inside flow or outside. Its handle and its
+    /// suffix are put behind a text, one behind the other. Returns how many bytes the handle has.
     ///
     /// All faults are refused at the `!`: a verbatim tag without its `>`, a handle `!!` or
     /// `!word!` without a suffix, a percent escape that is not UTF-8, and a tag that is not
-    /// followed by a blank, a break or the end, or in flow by a flow indicator.
-    #[tactic(auto, unfolding(crate::specs::Steps::Tag::tag, crate::specs::Steps::Tag::tag_end))]
-    pub fn read_tag(&mut self, alloc: Global, in_flow: bool) -> Result<TagParts, Stop>
+    /// followed by a blank, a break or the end, or in flow by a flow indicator. After an error
+    /// nothing is known of what is left of that text.
+    #[tactic(auto, using(crate::proofs::Properties::TagSteps::tag_refused), unfolding(crate::specs::Steps::Tag::tag))]
+    pub fn read_tag_onto(&mut self, in_flow: bool, text: &mut String) -> Result<usize, Stop>
         requires { slice_index (cursor_of self.old).rest 0 ≡ exclamation_mark }
-        ensures { ReadsBy spec.seen_tag (spec.tag in_flow) self.old result self.new }
+        ensures { WritesBy spec.seen_tag (λ before s. spec.with_tag before (spec.tag in_flow s))
+            text.old self.old result text.new self.new }
     {
         let start = self.mark;
-        self.load(2);
-        let tag = match self.input.peek_nth(1) {
-            '<' => self.read_verbatim_tag(alloc)?,
-            '!' => self.read_secondary_tag(alloc)?,
-            _ => self.read_shorthand_tag(alloc)?,
-        };
-        let c = self.look();
-        if is_blank_or_breakz(c) || in_flow && is_flow(c) {
-            return Ok(tag);
+        let handle = self.read_any_tag(text)?;
+        if !ends_tag(self.look(), in_flow) {
+            return Err(Stop::Refused(Refusal {
+                text: FaultText::TagEndExpected,
+                mark: start,
+            }));
         }
-        Err(Stop::Refused(Refusal {
-            text: FaultText::TagEndExpected,
-            mark: start,
-        }))
+        Ok(handle)
     }
 }

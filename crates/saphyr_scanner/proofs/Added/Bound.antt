@@ -44,10 +44,7 @@ IsWithinLimit limit s = s.core.cursor.mark.index ≤ limit
 
 drop_stays : (limit : ℕ) (s : State) → IsWithinLimit limit s → Given (IsWithinLimit limit) (without_far_key s)
 unfolding drop_far_key
-drop_stays limit s h =
-    let P : Result Core Refusal → Type 0 = λ r. Given (IsWithinLimit limit) (on_core r s.queue) in
-    by_test (not (in_block s.core && is_too_far s.core.level.key s.core.cursor.mark)) _ _ P (λ _. h)
-    (λ _. by_test s.core.required _ _ P (λ _. tt) (λ _. h))
+drop_stays limit s h = grind arith
 
 within_stays : (limit : ℕ) (s : State) → Given (IsWithinLimit limit) (fetch_within limit s)
 unfolding fetch_within

@@ -25,9 +25,10 @@ use Rattle.saphyr_scanner.proofs.Effects.Walked.{Premises, Walked, walked_then, 
 use Rattle.saphyr_scanner.proofs.LineTails.{OnLine}
 use Rattle.saphyr_scanner.proofs.Reached.{apart_reached}
 use Rattle.saphyr_scanner.proofs.Taken.Keys.{IsDeep}
-use Rattle.saphyr_scanner.proofs.Taken.Cores.{by_bool, further_block, further_right, forget_requires}
+use Rattle.saphyr_scanner.proofs.Taken.Cores.{by_bool, forget_requires}
+use Rattle.saphyr_scanner.proofs.Taken.SavedKeys.{further_block, further_right}
 use Rattle.saphyr_scanner.proofs.Taken.Held.{enclosure_of, outside_of, enclosures_of}
-use Rattle.saphyr_scanner.proofs.Taken.InPlace.{Outside, free}
+use Rattle.saphyr_scanner.proofs.Taken.KeysInPlace.{Outside, free}
 use Rattle.saphyr_scanner.proofs.Effects.Flow.{has_some}
 use Rattle.saphyr_scanner.proofs.Taken.Later.{apart_later}
 use Rattle.saphyr_scanner.proofs.Taken.Places.{Reaches, reaches_reaches, at_here}
@@ -134,11 +135,7 @@ pub block_entry_does : (c : Core) → IsDeep c → slice_index c.cursor.rest 0 �
     → is_blank_or_breakz (slice_index c.cursor.rest 1) ≡ true
     → Walked (Premises c) (Doing None c) c.cursor (block.block_entry_steps c)
 unfolding block.block_entry_steps
-block_entry_does c deep first second =
-    let P = Walked (Premises c) (Doing None c) c.cursor in
-    by_test (not (in_block c)) _ _ P (λ _ _. at_here c.cursor)
-    (λ e. by_test (not c.key_allowed) _ _ P (λ _ _. at_here c.cursor)
-    (λ a. next_entry_does c (not-false (in_block c) e) (not-false c.key_allowed a) deep first second))
+block_entry_does c deep first second = grind (arith, by_test, at_here, next_entry_does, not-false)
 
 -- ## `?`
 
@@ -163,7 +160,7 @@ question_walked A c a =
 
 -- what encloses the tokens after a `?`
 question_encloses : (x : Context) (outside : Outside)
-    → free (enclosure_of (behind_question x)) outside ≡ free (place.behind_question (enclosure_of x)) outside
+    → free (enclosure_of (behind_question x)) outside ≡ free (place.enclosure_behind_question (enclosure_of x)) outside
 question_encloses x outside = grind arith
 
 -- From c, which comes before the `?`, outside flow at the column of its mapping, which may have begun. The context
@@ -197,10 +194,10 @@ question g x c d turned none first second column s a allowed follows =
     (further (freed (with_cursor u c)) d s (taken.nothing u.mark u.rest)
     (λ _. allows_right (freed (with_cursor u c)) d (λ _. inl refl) (λ e. allowed ∙ e)))
   where
-    marked : (b : Bool) → b ≡ true → (if b then turned_to (place.behind_question (enclosure_of x))
+    marked : (b : Bool) → b ≡ true → (if b then turned_to (place.enclosure_behind_question (enclosure_of x))
         (free (enclosure_of x) (outside_of c)) else awaiting_colon c.cursor.mark
         (free (enclosure_of x) (outside_of c)))
-        ≡ free (place.behind_question (enclosure_of x)) (outside_of c)
+        ≡ free (place.enclosure_behind_question (enclosure_of x)) (outside_of c)
     marked b e = grind arith
 
 question_block : (x : Context) → is_block (behind_question x) ≡ is_block x

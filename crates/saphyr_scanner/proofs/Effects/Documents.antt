@@ -123,18 +123,7 @@ spelled c d none kind text is i some q b node e unbound s right token =
 
 -- after blanks and a comment the text goes on as far right, or there is no node still
 tail_right : (c d : Core) → Same c d → OnLine c.cursor d.cursor → d.key_allowed ≡ c.key_allowed → IsRight c → IsRight d
-tail_right c d s o allowed h b f small =
-    let line = ap (λ (m : Marker). m.line) o.on_line.4 in
-    let column = ap (λ (m : Marker). m.col) o.on_line.4 in
-    let indent = ap (λ (x : Around). x.indent) s.1 in
-    let before = h (ap (λ (l : Level). is_block l.context) (sym s.0) ∙ b) (sym allowed ∙ f)
-    (omega (arith, line, small)) in by before column indent
-  where
-    by : (c.indent ≤ c.cursor.mark.col) ⊎ BeginsNoNode c.cursor.rest
-        → d.cursor.mark.col ≡ c.cursor.mark.col + length o.on_line.0 → d.indent ≡ c.indent
-        → (d.indent ≤ d.cursor.mark.col) ⊎ BeginsNoNode d.cursor.rest
-    by (inl l) column indent = inl (omega (arith, l, column, indent))
-    by (inr w) column indent = inr (stays_no_node c.cursor d.cursor o.apart w)
+tail_right c d s o allowed h b f small = grind (arith, stays_no_node)
 
 -- ## Markers
 

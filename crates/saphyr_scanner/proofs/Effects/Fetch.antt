@@ -30,7 +30,8 @@ use Rattle.saphyr_scanner.proofs.Effects.Walked.{unsaved_step}
 use Rattle.saphyr_scanner.proofs.Effects.Flow.{open_sequence, open_mapping, close_sequence, close_mapping, sequence_starts, mapping_starts, sequence_opens, mapping_opens, sequence_closes, mapping_closes, sequence_enters, mapping_enters, sequence_leaves, mapping_leaves, pair_may_end, sequence_may_close, mapping_may_close, start_does, end_does, entry_does}
 use Rattle.saphyr_scanner.proofs.Effects.Values.{value_does, flow_value_does}
 use Rattle.saphyr_scanner.proofs.Effects.Blocks.{block_entry_does, key_does}
-use Rattle.saphyr_scanner.proofs.Effects.Scalars.{plain_start, double_quoted_does, single_quoted_does, plain_does, block_does}
+use Rattle.saphyr_scanner.proofs.Effects.Scalars.{plain_start, plain_does, block_does}
+use Rattle.saphyr_scanner.proofs.Effects.QuotedScalars.{quoted_does}
 use Rattle.saphyr_scanner.proofs.Effects.Properties.{an_alias, an_anchor, name_does, tag_does}
 use Rattle.saphyr_scanner.proofs.Taken.Keys.{IsDeep}
 use Rattle.saphyr_scanner.proofs.Taken.Places.{at_here}
@@ -57,11 +58,7 @@ blank_parts x e = rw e refl
 beside_parts : (second : ℕ) (c : Core) → slice_index c.cursor.rest 1 ≡ second
     → (is_flow second || (c.cursor.mark.index == c.adjacent)) ≡ true
     → (c.cursor.mark.index ≡ c.adjacent) ⊎ IsTrue (parts_colon (slice_index c.cursor.rest 1))
-beside_parts second c g e =
-    elim (or_cases (is_flow second) (c.cursor.mark.index == c.adjacent) e) [
-      | inl f ↦ inr (ap parts_colon g ∙ (rw f (or-true (is_blank_or_breakz second))))
-      | inr i ↦ inl (eqb-true c.cursor.mark.index c.adjacent i)
-    ]
+beside_parts second c g e = grind arith
 
 pub step_does : (first second n : ℕ) (c : Core) → 0 < length c.cursor.rest → slice_index c.cursor.rest 0 ≡ first
     → slice_index c.cursor.rest 1 ≡ second → IsDeep c
@@ -92,8 +89,7 @@ step_does first second n c h f g deep =
             (λ i. absurd (let no = w.0 in cc)),
             λ _. beside_parts second c g w.1,
           ));
-      double = λ e. does _ (double_quoted_does n c (f ∙ e));
-      single = λ e. does _ (single_quoted_does n c (f ∙ e));
+      quoted = λ quote e. does _ (quoted_does quote n c (f ∙ e));
       alias = λ e. does _ (name_does tokens.Alias 42 an_alias n c h (f ∙ e));
       anchor = λ e. does _ (name_does tokens.Anchor 38 an_anchor n c h (f ∙ e));
       tag = λ e. does _ (tag_does n c (f ∙ e));
@@ -105,9 +101,7 @@ step_does first second n c h f g deep =
 
 pub step_effect : (first second n : ℕ) (c : Core) → 0 < length c.cursor.rest → slice_index c.cursor.rest 0 ≡ first
     → slice_index c.cursor.rest 1 ≡ second → IsDeep c → Given (EffectAt n c) (step first second n c)
-step_effect first second n c h f g deep =
-    walked_given (Premises c) (Stepped n c) (EffectAt n c) c.cursor (step first second n c) (λ x k. k.effect)
-    (step_does first second n c h f g deep)
+step_effect first second n c h f g deep = grind (arith, walked_given, step_does)
 
 -- a place that shows no NUL is a character
 pub some_character_left : (t : List ℕ) → is_z (slice_index t 0) ≡ false → 0 < length t
@@ -140,27 +134,11 @@ flags b c e = ap flag e
 
 of_advances : (s : State) (r : Result State Refusal) → s.core.ended ≡ false → Given (FetchesTokens 1 s) r
     → Given (Fetched s) r
-of_advances s (Ok t) going a = record {
-  smaller = λ laws. let b = flags t.core.started s.core.started a.started in
-      let e = flags t.core.ended s.core.ended a.ended in omega (arith, a.less laws, b, e);
-  grows = a.grows;
-  stands = λ h. rw (a.ended ∙ going) (a.goes_on h);
-  few = a.few;
-}
-of_advances s (Err f) going a = tt
+of_advances s u0 going a = grind arith
 
 -- the same, from another state
 onward : (s t : State) (r : Result State Refusal) → FetchesTokens 0 s t → Given (Fetched t) r → Given (Fetched s) r
-onward s t (Ok u) a b = record {
-  smaller = λ laws. let x = a.less laws in
-      let y = b.smaller laws in
-      let c = flags t.core.started s.core.started a.started in
-      let e = flags t.core.ended s.core.ended a.ended in omega (arith, x, y, c, e);
-  grows = λ laws. grows_grows s t u (a.grows laws) (b.grows laws);
-  stands = λ h. b.stands (a.goes_on h);
-  few = let x = a.few in let y = b.few in omega (arith, x, y);
-}
-onward s t (Err f) a b = tt
+onward s t u0 a b = grind (arith, flags, grows_grows)
 
 finish_fetched : (m : Marker) (s : State) → s.core.ended ≡ false → m.index ≡ s.core.cursor.mark.index
     → Fetched s (document.finish m s)
@@ -215,11 +193,7 @@ arrival_goes c = given_bind (Goes 0 c.cursor c) (pass_gap c) drop_far_key
 
 pub arrive_advances : (s : State) → Given (FetchesTokens 0 s) (arrive s)
 unfolding arrive
-arrive_advances s =
-    let r = pass_gap s.core >>= drop_far_key in
-    given_bind (FetchesTokens 0 s) (on_core r s.queue) _ (λ t e. advances_advances 0 0 s t _
-    (given_of (FetchesTokens 0 s) (on_core r s.queue) t (on_core_fetches s r (arrival_goes s.core)) e)
-    (unroll_advances (Some t.core.cursor.mark.col) t.core.cursor.mark t refl))
+arrive_advances s = grind (arith, given_bind, advances_advances, given_of, on_core_fetches, arrival_goes, unroll_advances)
 
 begin_fetched : (s : State) → s.core.started ≡ false → s.core.ended ≡ false → Given (Fetched s) (Ok (begin s))
 begin_fetched s first going = record {
@@ -239,9 +213,7 @@ fetch_fetched s going = by_test s.core.started _ _ (Given (Fetched s))
 
 within_fetched : (limit : ℕ) (s : State) → s.core.ended ≡ false → Given (Fetched s) (fetch_within limit s)
 unfolding fetch_within
-within_fetched limit s going = given_bind (Fetched s) (fetch s) (check_limit limit) (λ t e.
-    by_test (nat_le t.core.cursor.mark.index limit) _ _ (Given (Fetched s))
-    (λ _. given_of (Fetched s) (fetch s) t (fetch_fetched s going) e) (λ _. tt))
+within_fetched limit s going = grind (arith, given_bind, by_test, given_of, fetch_fetched)
 
 pub settled_advances : (s : State) → Given (FetchesTokens 0 s) (without_far_key s)
 settled_advances s =

@@ -27,11 +27,13 @@ use Rattle.saphyr_scanner.proofs.Effects.Puts.{freed, Reading, empty_reading, In
 use Rattle.saphyr_scanner.proofs.Effects.Walked.{Premises, Walked, walked_then, at_most, Doing}
 use Rattle.saphyr_scanner.proofs.Effects.Walked.{separate_walked}
 use Rattle.saphyr_scanner.proofs.LineTails.{OnLine}
-use Rattle.saphyr_scanner.proofs.Taken.Cores.{apart_same, by_bool, surroundings, forget_requires}
+use Rattle.saphyr_scanner.proofs.Taken.Cores.{by_bool, surroundings, forget_requires}
+use Rattle.saphyr_scanner.proofs.Taken.SavedKeys.{apart_same}
 use Rattle.saphyr_scanner.proofs.Taken.Indented.{other_than_colon}
 use Rattle.saphyr_scanner.proofs.Taken.Keys.{IsArrival}
 use Rattle.saphyr_scanner.proofs.Taken.Held.{is_unbound, enclosure_of, outside_of, enclosures_of, Adjoins, FitsWithin}
-use Rattle.saphyr_scanner.proofs.Taken.InPlace.{deeper, no_text, Outside, free}
+use Rattle.saphyr_scanner.proofs.Taken.InPlace.{deeper}
+use Rattle.saphyr_scanner.proofs.Taken.KeysInPlace.{no_text, Outside, free}
 use Rattle.saphyr_scanner.proofs.Taken.Later.{apart_later}
 use Rattle.saphyr_scanner.proofs.Taken.Parts.{is_quiet, Begins, pair_ends}
 use Rattle.saphyr_scanner.proofs.Taken.Places.{Reaches, at_here}
@@ -82,14 +84,7 @@ pub sequence_enters : EntersAll tokens.FlowSequenceStart context.FlowSequence
 sequence_enters span l = record { encloses = λ all. refl; depth = λ d. refl; of_node = refl; fits = λ e columns. refl }
 
 pub mapping_enters : EntersAll tokens.FlowMappingStart context.FlowMapping
-mapping_enters span l =
-    let some = has_some span l in
-    record {
-      encloses = λ all. rw some refl;
-      depth = λ d. rw some refl;
-      of_node = some;
-      fits = λ e columns. rw some refl;
-    }
+mapping_enters span l = grind arith
 
 -- what encloses the tokens after one that closes
 pub record Leaves (kind : Kind) (span : Span) : Type 0 where
@@ -106,14 +101,7 @@ sequence_leaves span l =
     record { encloses = λ all. refl; depth = λ d. omega arith; ends_json = λ b. refl; no_node = refl }
 
 pub mapping_leaves : LeavesAll tokens.FlowMappingEnd
-mapping_leaves span l =
-    let some = has_some span l in
-    record {
-      encloses = λ all. rw some refl;
-      depth = λ d. rw some (omega arith);
-      ends_json = λ b. rw some refl;
-      no_node = refl;
-    }
+mapping_leaves span l = grind arith
 
 -- a single pair may have ended before
 abbrev pub ended : Bool → Enclosures → Enclosures
@@ -133,9 +121,7 @@ MayClose kind ends x = (span : Span) → span.start.index < span.end.index → (
     → is_block x ≡ false → FitsWithin (ended ends (free (enclosure_of x) outside)) (record { span = span; kind = kind })
 
 pub pair_may_end : (x : Context) → EndsPair (ends_pair x) x
-pair_may_end context.FlowPair e = refl
-pair_may_end context.MarkedFlowPair e = refl
-pair_may_end _ e = absurd (cc)
+pair_may_end u0 e = grind arith
 
 pub sequence_may_close : (x : Context) → MayClose tokens.FlowSequenceEnd (ends_pair x) x
 sequence_may_close context.Block span l outside e = absurd (cc)
@@ -174,11 +160,7 @@ pub sequence_starts : BeginsPiece tokens.FlowSequenceStart
 sequence_starts span l i s u h = (h.1, ap (λ t. begins_text (slice_index t 0)) h.0.0)
 
 pub mapping_starts : BeginsPiece tokens.FlowMappingStart
-mapping_starts span l i s u h = by h
-  where
-    by : IsToken i tokens.FlowMappingStart span s u
-        → (span.start ≡ s.mark) × IsTrue (begins_text (slice_index s.rest 0))
-    by h = grind arith
+mapping_starts span l i s u h = grind arith
 
 stands : (x : ℕ) (kind : Kind) (s : Cursor) → Bracket x kind → slice_index s.rest 0 ≡ x → IndicatorStands x s
 stands x kind s b f = record { some = b.some; unbroken = b.unbroken; is = f }
@@ -235,30 +217,7 @@ record Respected (x y v w : Core) : Type 0 where
 
 adjacent_respected : (x y : Core) → Same x y → y.cursor ≡ x.cursor
     → Respected x y (flow.allow_adjacent x) (flow.allow_adjacent y)
-adjacent_respected x y s e = by (in_block x) (in_block y) (ap (λ (l : Level). is_block l.context) s.0)
-  where
-    allowed : Bool → Core → Core
-    allowed b c = if b then c else record c { adjacent = c.cursor.mark.index }
-
-    by : (a b : Bool) → b ≡ a → Respected x y (allowed a x) (allowed b y)
-    by true true f =
-        record { same = s; before = refl; behind = refl; silent = λ n. n; allows = refl; allows_behind = refl }
-    by true false f = absurd (cc)
-    by false true f = absurd (cc)
-    by false false f = record {
-      same = (
-        s.0,
-        ap (λ (a : Around). record a { adjacent = y.cursor.mark.index }) s.1
-            ∙ ap (λ (u : Cursor). record (around x) { adjacent = u.mark.index }) e,
-        s.2,
-        s.3,
-      );
-      before = refl;
-      behind = refl;
-      silent = λ n. n;
-      allows = refl;
-      allows_behind = refl;
-    }
+adjacent_respected x y s e = grind arith
 
 -- after a bracket or a comma, which leaves d after c, and before it the end of a pair
 bracket_walked : (x : ℕ) (kind : Kind) → Bracket x kind → (c d : Core) (ends : Bool) → slice_index c.cursor.rest 0 ≡ x

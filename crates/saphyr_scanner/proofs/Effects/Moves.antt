@@ -1,7 +1,7 @@
 -- What a step does, in one statement, and the moves of which each step is put together. From the statement follow what
 -- is taken off the text, the order of the tokens, how many they are, what may be a key, and that each is a token of the
 -- text.
-use Rattle.std.proofs.Common.{◌≡◌, ℕ, ◌+◌, ◌-◌, ◌≤◌, ◌<◌, ◌⊎◌, Bool, true, false, List, [], ◌∷◌, ◌++◌, length, Option, Some, None}
+use Rattle.std.proofs.Common.{◌≡◌, ℕ, ◌+◌, ◌-◌, ◌≤◌, ◌<◌, ◌⊎◌, Bool, true, false, List, [], ◌∷◌, ◌++◌, length, Option, Some, None, arith}
 use Rattle.std.proofs.Common.{refl, sym, ap, ◌∙◌, arith, subst, inl, inr}
 use Rattle.saphyr_scalar.specs.Views.Cursor.{Cursor}
 use Rattle.saphyr_scanner.specs.Steps.Queue.{Queue, is_empty_list, next}
@@ -22,7 +22,7 @@ use Rattle.saphyr_scanner.proofs.Taken.Cores.{HoldsWithin, Lesser, Requires, hol
 use Rattle.saphyr_scanner.proofs.Taken.Indented.{BeginsNoNode, IsRight, root_key}
 use Rattle.saphyr_scanner.proofs.Taken.Held.{enclosure_of, enclosed_by, enclosures_of, Setting, AllowsKey}
 use Rattle.saphyr_scanner.proofs.Taken.Keys.{Keys}
-use Rattle.saphyr_scanner.proofs.Taken.InPlace.{free}
+use Rattle.saphyr_scanner.proofs.Taken.KeysInPlace.{free}
 use Rattle.saphyr_scanner.proofs.Taken.Later.{apart_later}
 
 -- ## The statement
@@ -150,11 +150,7 @@ pub same : (c : Core) → Same c c
 same c = (refl, refl, (λ n. n), refl)
 
 lesser_above : (h : ℕ) (l m : Level) → Lesser l m → KeyAbove h l.key → KeyAbove h m.key
-lesser_above h l m e a = by e.key
-  where
-    by : (m.key ≡ l.key) ⊎ (m.key ≡ None) → KeyAbove h m.key
-    by (inl f) = let P : Option Candidate → Type 0 = λ o. KeyAbove h o in subst P (sym f) a
-    by (inr f) = let P : Option Candidate → Type 0 = λ o. KeyAbove h o in subst P (sym f) tt
+lesser_above h l m e a = grind arith
 
 -- separation is passed, and the key may be forgotten
 pub lesser : {A : Type 0} (within : Enclosures) (c d : Core) → Lesser c.level d.level → around d ≡ around c
@@ -195,11 +191,7 @@ allows_right c d begins free = (begins, λ _ b f. absurd (let e = free b in cc))
 
 -- the text goes on at the same place
 pub same_right : (c d : Core) → Same c d → d.cursor ≡ c.cursor → d.key_allowed ≡ c.key_allowed → IsRight c → IsRight d
-same_right c d s e k h b f l =
-    let P : Cursor → ℕ → Type 0 = λ u i. (i ≤ u.mark.col) ⊎ BeginsNoNode u.rest in
-    subst (λ u. P u d.indent) (sym e) (subst (λ i. P c.cursor i) (sym (ap (λ (x : Around). x.indent) s.1))
-    (h (ap (λ (m : Level). is_block m.context) (sym s.0) ∙ b) (sym k ∙ f)
-    (let line = ap (λ (u : Cursor). u.mark.line) e in omega (arith, line, l))))
+same_right c d s e k h b f l = grind arith
 
 pub same_around : (c d : Core) → Same c d → enclosures_of d ≡ enclosures_of c
 same_around c d s = grind arith
@@ -211,9 +203,7 @@ further c d s p allows = encloses (same_around c d s) (further_within (enclosure
 -- what is known stays, where the text doesn't go on
 pub still_within : {A : Type 0} (within : Enclosures) (c d : Core) → Same c d → d.cursor ≡ c.cursor
     → (A → AllowsKey c d) → DoesWithin A within within None 0 0 c d []
-still_within within c d s e allows =
-    further_within within c d s (let P : Cursor → Type 0 = λ u. AreApart c.cursor u in subst P (sym e)
-    (taken.nothing c.cursor.mark c.cursor.rest)) allows
+still_within within c d s e allows = grind arith
 
 pub still : {A : Type 0} (c d : Core) → Same c d → d.cursor ≡ c.cursor → (A → AllowsKey c d) → Does A None 0 0 c d []
 still c d s e allows = encloses (same_around c d s) (still_within (enclosures_of c) c d s e allows)
@@ -231,26 +221,4 @@ pub record Left (c : Core) (l : Level) (ls : List Level) : Type 0 where
 pub leaving : (c : Core) (P : Core → Type 0)
     → ((l : Level) (ls : List Level) → Left c l ls → P (record c { level = l; outer = ls; key_allowed = false }))
     → P (flow.leave c)
-leaving c P f = by c.outer (λ h a. a) (λ x b q k. k) (λ e. e) refl refl (λ columns. refl)
-  where
-    by : (ls : List Level) → ((h : ℕ) → LevelsAbove h c.outer → LevelsAbove h ls)
-        → ((all : Enclosures) (b : ℕ) (q : Queue) → Keys all b q c.indent c.outer → Keys all b q c.indent ls)
-        → (is_empty_list c.outer ≡ false → is_empty_list ls ≡ false) → root_key ls ≡ root_key c.outer
-        → length c.outer ≡ length ls
-        → ((columns : List ℕ) → left_for (enclosed_by c.outer) columns ≡ left_for (enclosed_by ls) columns)
-        → P (flow.leave_to ls c)
-    by [] above keys some root n e = f at_root [] (record {
-      above = λ h a. (tt, tt);
-      keys = λ x b q k. (refl, tt, tt);
-      root = λ e. absurd (let no = some e in cc);
-      fewer = omega (arith, n);
-      encloses = λ columns. sym (e columns);
-    })
-    by (l ∷ ls) above keys some root n e =
-        f l ls (record {
-          above = above;
-          keys = keys;
-          root = λ _. root;
-          fewer = omega (arith, n);
-          encloses = λ columns. sym (e columns);
-        })
+leaving c u0 f = grind arith

@@ -7,6 +7,7 @@ use Rattle.saphyr_scalar.specs.Spelling.Tag.{IsHandleText, IsTagText, EndsTag}
 use Rattle.saphyr_scalar.specs.Steps.Anchor as anchors
 use Rattle.saphyr_scalar.specs.Steps.Tag as tags
 use Rattle.saphyr_scalar.specs.Views.Cursor.{Cursor, along}
+use Rattle.saphyr_scalar.proofs.TakingMore.{tag_some}
 use Rattle.saphyr_scanner.specs.Grammar.Tokens as tokens
 use Rattle.saphyr_scanner.specs.Grammar.Tokens.{Kind}
 use Rattle.saphyr_scanner.specs.Steps.Core.{Core, in_block}
@@ -20,7 +21,7 @@ use Rattle.saphyr_scanner.proofs.Added.Queue.{IsNoEnd}
 use Rattle.saphyr_scanner.proofs.Counted.{Ahead}
 use Rattle.saphyr_scanner.proofs.Effects.Puts.{saving, saved, same_block, same_flow, Reading}
 use Rattle.saphyr_scanner.proofs.Effects.Walked.{Premises, Walked, walked_then, Doing, read_walked}
-use Rattle.saphyr_scanner.proofs.Effects.Scalars.{Starts}
+use Rattle.saphyr_scanner.proofs.Effects.QuotedScalars.{Starts}
 use Rattle.saphyr_scanner.proofs.Effects.Readers.{Readers, ReaderEnds, Less, TextLaws}
 use Rattle.saphyr_scanner.proofs.Taken.Cores.{surroundings}
 use Rattle.saphyr_scanner.proofs.Taken.Indented.{other_than_colon}
@@ -52,26 +53,10 @@ pub record Named (token_of : List ℕ → Kind) (x : ℕ) : Type 0 where
       → Starts span s
 
 pub an_alias : Named tokens.Alias 42
-an_alias = record {
-  other = refl;
-  no_end = λ n i. absurd (cc);
-  quiet = λ n. refl;
-  keeps = λ n p. neutral _ p refl;
-  of_node = λ n p. refl;
-  is = λ i n p s t h. h;
-  of = λ i n p s t h. (h.3.start, ap (λ l. begins_text (slice_index l 0)) h.3.is);
-}
+an_alias = grind arith
 
 pub an_anchor : Named tokens.Anchor 38
-an_anchor = record {
-  other = refl;
-  no_end = λ n i. absurd (cc);
-  quiet = λ n. refl;
-  keeps = λ n p. neutral _ p refl;
-  of_node = λ n p. refl;
-  is = λ i n p s t h. h;
-  of = λ i n p s t h. (h.3.start, ap (λ l. begins_text (slice_index l 0)) h.3.is);
-}
+an_anchor = grind arith
 
 -- a tag begins with `!`
 tag_begins : (text behind handle suffix : List ℕ) → IsTagText text handle suffix
@@ -82,10 +67,6 @@ tag_begins text behind handle suffix (inr (inr h)) = ap (λ t. slice_index (t ++
   where
     by : IsHandleText handle → slice_index ((handle ++ h.0) ++ behind) 0 ≡ exclamation_mark
     by h = grind arith
-
-tag_has_some : (text handle suffix : List ℕ) → IsTagText text handle suffix → 0 < length text
-tag_has_some [] handle suffix h = absurd (let e = tag_begins [] [] handle suffix h in omega (arith, e))
-tag_has_some (c ∷ cs) handle suffix h = omega arith
 
 pub name_does : (token_of : List ℕ → Kind) (x : ℕ) → Named token_of x → (n : ℕ) (c : Core) → 0 < length c.cursor.rest
     → slice_index c.cursor.rest 0 ≡ x
@@ -136,7 +117,7 @@ tag_does n c first =
     )) refl (other_than_colon 33 here.rest refl first) (λ a laws b _ _.
     let w = laws.tag f here y.2 y.0 y.1 first e in
     let place = ap (λ (u : Cursor). u.mark.col) w.6 in
-    let some = tag_has_some w.0 w.1 w.2 w.4 in
+    let some = tag_some w.0 w.1 w.2 w.4 in
     let deep = a.0 (sym (same_block n c l r s) ∙ b) in inl (omega (arith, place, deep, some)))
     (λ _ _ _ allowed. absurd (cc))
     (token_read c (tokens.Tag y.0 y.1) y.2 (λ laws. laws.tag f here y.2 y.0 y.1 first e)

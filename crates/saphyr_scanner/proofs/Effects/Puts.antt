@@ -1,5 +1,5 @@
 -- The moves that put a token, save a key, or turn a candidate into a key.
-use Rattle.std.proofs.Common.{◌<◌, ◌≡◌, ℕ, ◌+◌, ◌≤◌, Bool, true, false, List, [], ◌∷◌, length, Option, Some, None}
+use Rattle.std.proofs.Common.{◌<◌, ◌≡◌, ℕ, ◌+◌, ◌≤◌, Bool, true, false, List, [], ◌∷◌, length, Option, Some, None, arith}
 use Rattle.std.proofs.Common.{refl, sym, ap, ◌∙◌, arith, subst, inl, inr, IsTrue}
 use Rattle.std.specs.Prelude.{◌-◌, ◌==◌, slice_index, not, suc}
 use Rattle.saphyr_input.specs.Classes.{is_break}
@@ -23,13 +23,17 @@ use Rattle.saphyr_scanner.proofs.Effects.Readers.{Readers, ReaderEnds, ReadsSpan
 use Rattle.saphyr_scanner.proofs.Effects.Moves.{Around, DoesWithin, Does, encloses, IsBeforePlace, IsNextPlace, Left, NoComment, around}
 use Rattle.saphyr_scanner.proofs.PlainBehind.{IsNoted}
 use Rattle.saphyr_scanner.proofs.Taken.Candidates.{KeyAbove, LevelsAbove, Above}
-use Rattle.saphyr_scanner.proofs.Taken.Cores.{HoldsWithin, surroundings, IsTokenThere, outermost, holds_put, next_put, quiet_opens, quiet_put, loud_put, IsSaved, Saved, saved_indented}
+use Rattle.saphyr_scanner.proofs.Taken.Cores.{HoldsWithin, surroundings, IsTokenThere, outermost, holds_put, next_put, quiet_opens, quiet_put, loud_put}
+use Rattle.saphyr_scanner.proofs.Taken.SavedKeys.{IsSaved, Saved, saved_indented}
 use Rattle.saphyr_scanner.proofs.Taken.Indented.{BeginsNoNode, HasNoColon, IsRight, IsPastLine, root_inner, no_node_fits, indented_then, waits_then}
 use Rattle.saphyr_scanner.proofs.Taken.Neutral.{KeepsBrackets, Neutral}
-use Rattle.saphyr_scanner.proofs.Taken.Cores.{saved_keys, open_quiet, open_loud, indicator_is_passed}
+use Rattle.saphyr_scanner.proofs.Taken.Cores.{indicator_is_passed}
+use Rattle.saphyr_scanner.proofs.Taken.SavedKeys.{saved_keys, open_quiet, open_loud}
 use Rattle.saphyr_scanner.proofs.Taken.Held.{enclosure_of, outside_of, enclosures_of, began_at, Setting, FitsWithin, Adjoins, is_property, IsParted, is_unbound, unbound_parted, same_calm, unbound_calm, node_parted}
-use Rattle.saphyr_scanner.proofs.Taken.Keys.{KeepsDepth, IsArrival, keeps_depth, leads_in, leads_out, lower, below_key, keys_put, keys_weaken}
-use Rattle.saphyr_scanner.proofs.Taken.InPlace.{deeper, in_key, awaited, MayOpen, Outside, free, calmed, calm}
+use Rattle.saphyr_scanner.proofs.Taken.Keys.{KeepsDepth, IsArrival, keeps_depth, leads_in, leads_out, lower, keys_put, keys_weaken}
+use Rattle.saphyr_scanner.proofs.Taken.OpenedKeys.{below_key}
+use Rattle.saphyr_scanner.proofs.Taken.InPlace.{deeper}
+use Rattle.saphyr_scanner.proofs.Taken.KeysInPlace.{in_key, awaited, MayOpen, Outside, free, calmed, calm}
 use Rattle.saphyr_scanner.specs.TokensInPlace as place
 use Rattle.saphyr_scanner.specs.TokensInPlace.{Enclosure, Begun, Enclosures, with_begun, begun_at, enclosures_behind, may_begin_key, is_of_flow_node, fits}
 use Rattle.saphyr_scanner.proofs.Taken.Later.{apart_later}
@@ -97,18 +101,7 @@ putting : {A : Type 0} (within behind : Enclosures) (n : Option ℕ) (k v : ℕ)
     → (A → TextLaws → (opened : Setting) (from : Cursor) (q : Queue) → IsNextPlace n c q
     → HoldsWithin within opened from c q → HoldsWithin behind opened from d (with_piece t q))
     → DoesWithin A within behind n k (1 + v) c d (Put t ∷ [])
-putting within behind n k v c d t r e s f m few above holds = record {
-  less = r.less;
-  ahead = λ laws. (r.span laws).ahead;
-  puts = λ laws. let w = r.span laws in (w.begins, w.inside, w.ends);
-  started = s;
-  ended = f;
-  goes_on = (e, tt);
-  few = omega (arith, few);
-  keeps = λ h i x. (above h i x, tt);
-  holds = holds;
-  noted = m;
-}
+putting within behind n k v c d t r e s f m few above holds = grind arith
 
 -- a key may begin here, where no properties are last
 abbrev pub freed : Core → Core

@@ -56,10 +56,8 @@ pub record ReadsSpan (s : Cursor) (span : Span) (t : Cursor) : Type 0 where
 pub record ReaderEnds : Type 0 where
   pub plain : (in_flow : Bool) (indent : ℕ) (s t : Cursor) (text : List ℕ) (end : Marker) (comment : Option Marker)
       → words.plain in_flow indent s ≡ Ok (text, end, comment, t) → ReadsUpTo s end t
-  pub double_quoted : (indent : ℕ) (s t : Cursor) (text : List ℕ) → slice_index s.rest 0 ≡ quotation_mark
-      → quoted.double_quoted indent s ≡ Ok (text, t) → Ahead s t
-  pub single_quoted : (indent : ℕ) (s t : Cursor) (text : List ℕ) → slice_index s.rest 0 ≡ apostrophe
-      → quoted.single_quoted indent s ≡ Ok (text, t) → Ahead s t
+  pub quoted_scalar : (quote : Quote) (indent : ℕ) (s t : Cursor) (text : List ℕ) → slice_index s.rest 0 ≡ mark quote
+      → quoted.quoted quote indent s ≡ Ok (text, t) → Ahead s t
   pub block_scalar : (style : BlockStyle) (indent : ℕ) (s t : Cursor) (text : List ℕ) (span : Span) → 0 < length s.rest
       → blocks.block_scalar style indent s ≡ Ok (text, span, t) → ReadsSpan s span t
   pub name : (s t : Cursor) (text : List ℕ) → 0 < length s.rest → anchors.anchor s ≡ Ok (text, t) → Ahead s t
@@ -86,7 +84,7 @@ pub record TextLaws : Type 0 where
       → (items : List Item) × (is : IsQuotedText quote s.rest items t.rest) × (encode_utf8_all (folded items) ≡ text)
       × IsPassed s.mark s.rest t.mark t.rest × HasNoMarker quote is.0 items t.rest is.2
       × HasIndentedLines indent quote is.0 items t.rest is.2
-  pub ink : (in_flow : Bool) (indent : ℕ) (s t : Cursor) (text : List ℕ) (end : Marker) (comment : Option Marker)
+  pub non_space : (in_flow : Bool) (indent : ℕ) (s t : Cursor) (text : List ℕ) (end : Marker) (comment : Option Marker)
       → words.plain in_flow indent s ≡ Ok (text, end, comment, t) → is_blank_or_break (slice_index s.rest 0) ≡ false
   pub block_text : (style : BlockStyle) (indent : ℕ) (s t : Cursor) (text : List ℕ) (span : Span)
       → slice_index s.rest 0 ≡ taken.block_indicator style → blocks.block_scalar style indent s ≡ Ok (text, span, t)

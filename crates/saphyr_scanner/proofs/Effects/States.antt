@@ -30,14 +30,7 @@ pub record FetchesTokens (k : ℕ) (s t : State) : Type 0 where
 
 pub advances_advances : (k l : ℕ) (s t u : State) → FetchesTokens k s t → FetchesTokens l t u
     → FetchesTokens (k + l) s u
-advances_advances k l s t u a b = record {
-  less = λ laws. let x = a.less laws in let y = b.less laws in omega (arith, x, y);
-  grows = λ laws. grows_grows s t u (a.grows laws) (b.grows laws);
-  started = b.started ∙ a.started;
-  ended = b.ended ∙ a.ended;
-  goes_on = λ h. b.goes_on (a.goes_on h);
-  few = let x = a.few in let y = b.few in omega (arith, x, y);
-}
+advances_advances k l s t u a b = grind arith
 
 -- the queue stays as it is
 pub on_core_fetches : (s : State) (r : Result Core Refusal) → Given (Goes 0 s.core.cursor s.core) r
@@ -57,20 +50,7 @@ advances_none s = on_core_fetches s (Ok s.core) (goes_none s.core)
 
 pub after_step_fetches : (n : ℕ) (s : State) (r : StepResult) → Given (EffectAt n s.core) r
     → Given (FetchesTokens 1 s) (after_step r s.queue)
-after_step_fetches n s (Ok x) h = record {
-  less = λ laws. let l = h.less laws in omega (arith, l);
-  grows = λ laws.
-      record {
-        ahead = h.ahead laws;
-        ordered = λ low k. performed s.core.cursor.mark.index x.core.cursor.mark.index low x.actions s.queue k
-            (h.puts laws);
-      };
-  started = h.started;
-  ended = h.ended;
-  goes_on = λ k. performed_goes_on x.actions s.queue k h.goes_on;
-  few = let y = h.few in let z = tokens_performed x.actions s.queue in omega (arith, y, z);
-}
-after_step_fetches n s (Err e) h = tt
+after_step_fetches n s u0 h = grind (arith, performed, performed_goes_on, tokens_performed)
 
 -- ## Block collections end
 

@@ -53,15 +53,6 @@ Goes n s c d = Ahead s d.cursor × Begins n c d
 pub goes_none : (c : Core) → Goes 0 c.cursor c c
 goes_none c = (stays c.cursor c.cursor refl, begins_none c)
 
-pub separate_goes : (n : ℕ) (s : Cursor) (c d : Core) → Goes n s c d → Given (λ x. Goes n s c x.1) (separate d)
-separate_goes n s c d g =
-    given_bind (λ x. Goes n s c x.1) (separation tabs.Yes d.cursor) _ (λ x e. (
-      ahead_ahead s d.cursor x.1 g.0
-          (given_of (λ (y : SkipTabs × Cursor). Ahead d.cursor y.1) (separation tabs.Yes d.cursor) x
-          (separation_counted tabs.Yes d.cursor) e),
-      g.1,
-    ))
-
 check_comment_of_goes : (n : ℕ) (s : Cursor) (c : Core) (m : Option Marker) (d : Core) → Goes n s c d
     → Given (Goes n s c) (check_comment_of m d)
 check_comment_of_goes n s c None d g = g

@@ -28,11 +28,12 @@ use Rattle.saphyr_scanner.proofs.Effects.Blocks.{allowed_in}
 use Rattle.saphyr_scanner.proofs.Effects.Walked.{Premises, Walked, walked_then, walked_map, at_most, Doing, at_reach}
 use Rattle.saphyr_scanner.proofs.Effects.Walked.{separate_walked}
 use Rattle.saphyr_scanner.proofs.Reached.{apart_reached}
-use Rattle.saphyr_scanner.proofs.Taken.Cores.{by_bool, further_block}
+use Rattle.saphyr_scanner.proofs.Taken.Cores.{by_bool}
+use Rattle.saphyr_scanner.proofs.Taken.SavedKeys.{further_block}
 use Rattle.saphyr_scanner.proofs.Taken.Keys.{IsDeep, IsBehindKey, IsArrival}
 use Rattle.saphyr_scanner.proofs.Taken.Indented.{IsRight}
 use Rattle.saphyr_scanner.proofs.Taken.Held.{enclosure_of, columns_of, outside_of, enclosures_of, FitsWithin}
-use Rattle.saphyr_scanner.proofs.Taken.InPlace.{no_text, Outside, free, in_key}
+use Rattle.saphyr_scanner.proofs.Taken.KeysInPlace.{no_text, Outside, free, in_key}
 use Rattle.saphyr_scanner.proofs.Taken.Later.{apart_later, top}
 use Rattle.saphyr_scanner.proofs.Taken.Parts.{pair_starts}
 use Rattle.saphyr_scanner.proofs.Taken.Places.{Reaches, reaches_reaches, at_here}
@@ -63,27 +64,10 @@ tab_walked b c a =
 -- ## What stays alike
 
 same_forgotten : (c d : Core) → Same c d → Same (forget_key c) (forget_key d)
-same_forgotten c d s = (
-  ap (λ (l : Level). record { context = l.context; key = None }) s.0,
-  s.1,
-  s.2,
-  cc (ap (λ (l : Level). is_block l.context) s.0, s.3),
-)
+same_forgotten c d s = grind arith
 
 same_blocks : (column : ℕ) (c d : Core) → Same c d → Same (enter_block column c) (enter_block column d)
-same_blocks column c d s = (
-  s.0,
-  ap (λ (x : Around). record {
-    outer = x.outer;
-    indent = column + 1;
-    outer_indents = x.indent ∷ x.outer_indents;
-    started = x.started;
-    ended = x.ended;
-    adjacent = x.adjacent;
-  }) s.1,
-  s.2,
-  s.3,
-)
+same_blocks column c d s = grind arith
 
 no_key : (l : Level) → l.key ≡ None → l ≡ record { context = l.context; key = None }
 no_key l e = ap (λ k. let m : Level = record { context = l.context; key = k } in m) e
@@ -121,14 +105,14 @@ colon_does within e d u first parted a s there none right fit =
     let t = empty_piece e.cursor.mark tokens.Value in
     and_then (λ n. n) (quiet_within within 1 e t u refl (λ x. refl) (λ x. refl) refl none fit (λ i. absurd (cc)) refl
     (indicated 58 e u t (record { some = refl; unbroken = refl; is = first }) a
-    (omega arith) (omega arith) (omega (arith, later.index)) (λ t b told. (
+    (omega arith) (omega arith) (omega (arith, later.index)) (λ t b given. (
       t,
       λ f. ap is_blank_or_breakz (second_is e.cursor.rest) ∙ parted.0 (not-false (in_block e) f),
       refl,
       refl,
       λ f. let flows = not-true (in_block e) f in
           elim (parted.1 flows) [
-            | inl at ↦ inl (told at flows)
+            | inl at ↦ inl (given at flows)
             | inr parts ↦ inr (ap parts_colon (second_is e.cursor.rest) ∙ parts)
           ],
     ))))
@@ -271,17 +255,7 @@ innermost_column column i is e = grind arith
 alone_fits : (b : Core) (x : Context) (c d : Core) (e : Enclosure) → Turned b x c d
     → (is_block x ≡ false → IsTrue (is_in_brackets e)) → is_further c.cursor.mark.col d ≡ false → IsDeep c
     → IsTrue (is_in_brackets e || is_at_column c.cursor.mark.col (outside_of c).columns)
-alone_fits b x c d e t bracketed f deep = by (is_block x) refl
-  where
-    by : (y : Bool) → is_block x ≡ y
-        → IsTrue (is_in_brackets e || is_at_column c.cursor.mark.col (outside_of c).columns)
-    by true g =
-        let outside : in_block c ≡ true = ap is_block t.context ∙ colon_block x ∙ g in
-        let left = left_same c.cursor.mark.col c d t.behind.0 f outside in
-        let right = deep outside in
-        or_right (is_in_brackets e) (is_at_column c.cursor.mark.col (outside_of c).columns)
-        (innermost_column c.cursor.mark.col c.indent c.outer_indents (omega (arith, left, right)))
-    by false g = rw (bracketed g) refl
+alone_fits b x c d e t bracketed f deep = grind arith
 
 alone_does : (b c d : Core) (x : Context) → Turned b x c d → d.level.key ≡ None
     → Walked (Premises b) (Valued b x c) c.cursor (value.value_alone (begins_pair x) c.cursor.mark d)

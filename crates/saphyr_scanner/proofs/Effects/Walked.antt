@@ -136,7 +136,7 @@ at_inside s e w = at_reached s e.mark w.0 (passed_reached s.mark s.rest e.mark w
 -- what a reader gives, and where it refuses
 pub read_walked : {X : Type 0} → (A : Type 0) (s : Cursor) (r : Result X Refusal)
     → ((e : Refusal) → r ≡ Err e → A → At s e.mark) → Walked A (λ x. r ≡ Ok x) s r
-read_walked A s r told = grind arith
+read_walked A s r known = grind arith
 
 pub separate_walked : (b : Core) (s : Cursor) (c : Core) → (Premises b → Reaches s c.cursor)
     → Walked (Premises b)

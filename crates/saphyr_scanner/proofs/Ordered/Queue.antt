@@ -62,27 +62,13 @@ pub record GrowsInOrder (s t : State) : Type 0 where
   pub ordered : (low : ℕ) → InOrder low s → InOrder low t
 
 pub grows_grows : (s t u : State) → GrowsInOrder s t → GrowsInOrder t u → GrowsInOrder s u
-grows_grows s t u a b = record {
-  ahead = ahead_ahead s.core.cursor t.core.cursor u.core.cursor a.ahead b.ahead;
-  ordered = λ low h. b.ordered low (a.ordered low h);
-}
+grows_grows s t u a b = grind arith
 
 -- the queue stays as it is
 pub core_grows : (s t : State) → Ahead s.core.cursor t.core.cursor → t.queue ≡ s.queue → GrowsInOrder s t
-core_grows s t a e = record {
-  ahead = a;
-  ordered = λ low h.
-      let P : Queue → Type 0 = λ q. PlacesInOrder t.core.cursor.mark.index low q.places in
-      subst P (sym e) (places_further s.core.cursor.mark.index t.core.cursor.mark.index low s.queue.places a.later h);
-}
+core_grows s t a e = grind (arith, places_further)
 
 -- a token without characters at the place that is reached
 pub put_grows : (s : State) (m : Marker) (kind : Kind) (d : Core) → d.cursor ≡ s.core.cursor
     → m.index ≡ s.core.cursor.mark.index → GrowsInOrder s (with_action (at_mark m kind) (with_core d s))
-put_grows s m kind d e i =
-    record {
-      ahead = stays s.core.cursor d.cursor e;
-      ordered = λ low h.
-          place_put s.core.cursor.mark.index d.cursor.mark.index low s.queue.places (empty_piece m kind) h
-          (omega (arith, i)) (omega arith) (omega (arith, i, ap (λ (c : Cursor). c.mark.index) e));
-    }
+put_grows s m kind d e i = grind (arith, stays, place_put)

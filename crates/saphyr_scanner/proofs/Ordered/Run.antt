@@ -27,12 +27,7 @@ FollowsInOrder n low r = AreInOrder n low r.pieces
 place_first : (n low : ℕ) (o : Opening) (t : Piece) (r : Remaining) → low ≤ t.span.start.index
     → t.span.start.index ≤ t.span.end.index → FollowsInOrder n t.span.end.index r
     → FollowsInOrder n low (before_place o t r)
-place_first n low opening.Nothing t r a b h = (a, b, h)
-place_first n low opening.Key t r a b h = (a, omega arith, (omega arith, b, h))
-place_first n low opening.BlockMappingAndKey t r a b h =
-    (a, omega arith, (omega arith, omega arith, (omega arith, b, h)))
-place_first n low opening.FlowMappingAndKey t r a b h =
-    (a, omega arith, (omega arith, omega arith, (omega arith, b, h)))
+place_first n low u0 t r a b h = grind arith
 
 handed_in_order : (n : ℕ) (go : State → Remaining) (c : Core)
     → ((low k : ℕ) (ps : List Place) → InOrder low (holding c ps k) → FollowsInOrder n low (go (holding c ps k)))
@@ -55,9 +50,7 @@ delivers_in_order : (n low : ℕ) (s : State) (r : Result State Refusal) (go : S
     → InOrder low s → ((t : State) → r ≡ Ok t → GrowsInOrder s t)
     → ((t : State) → IsCounted n t → InOrder low t → FollowsInOrder n low (go t))
     → FollowsInOrder n low (remaining_after r go)
-delivers_in_order n low s (Ok t) go w h g others =
-    let a = g t refl in others t (omega (arith, w, a.ahead.counted)) (a.ordered low h)
-delivers_in_order n low s (Err e) go w h g others = low_within n low s w h
+delivers_in_order n low s u0 go w h g others = grind (arith, low_within)
 
 run_in_order : ReaderEnds → (n limit fuel low : ℕ) (s : State) → IsCounted n s → InOrder low s
     → FollowsInOrder n low (run fuel limit s)

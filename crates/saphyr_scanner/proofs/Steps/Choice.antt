@@ -14,6 +14,9 @@ use Rattle.saphyr_scanner.specs.Steps.Core.{Core, StepResult, in_block}
 use Rattle.saphyr_scanner.specs.Steps.Fetch.{step, is_value_adjacent, flow_value_steps}
 use Rattle.saphyr_scanner.specs.Steps.Flow as flow
 use Rattle.saphyr_scanner.specs.Steps.Property as property
+use Rattle.saphyr_scalar.specs.declared.values.Quote.{Quote}
+use Rattle.saphyr_scalar.specs.declared.values.Quote.TheVariants.{Single, Double}
+use Rattle.saphyr_scalar.specs.Values.Flow.{mark}
 use Rattle.saphyr_scanner.specs.Steps.Scalar as scalar
 use Rattle.saphyr_scanner.specs.Steps.Value as value
 use Rattle.std.proofs.lemmas.Bool.{eqb-true, and_parts}
@@ -55,8 +58,7 @@ pub record Cases (P : StepResult → StepResult → Type 0) (first second other 
   pub question : first ≡ question_mark → is_blank_or_breakz second ≡ true → P (block.key_steps c) (block.key_steps d)
   pub colon : first ≡ 58 → is_blank_or_breakz second ≡ true → P (value.value_steps c) (value.value_steps d)
   pub beside : first ≡ 58 → is_value_adjacent second c ≡ true → P (flow_value_steps second c) (flow_value_steps other d)
-  pub double : first ≡ quotation_mark → P (scalar.double_quoted_steps n c) (scalar.double_quoted_steps n d)
-  pub single : first ≡ apostrophe → P (scalar.single_quoted_steps n c) (scalar.single_quoted_steps n d)
+  pub quoted : (quote : Quote) → first ≡ mark quote → P (scalar.quoted_steps quote n c) (scalar.quoted_steps quote n d)
   pub alias : first ≡ asterisk → P (property.alias_steps n c) (property.alias_steps n d)
   pub anchor : first ≡ ampersand → P (property.anchor_steps n c) (property.anchor_steps n d)
   pub tag : first ≡ exclamation_mark → P (property.tag_steps n c) (property.tag_steps n d)
@@ -91,8 +93,8 @@ both_cases P first second other n c d blank beside same h =
     (λ e _. let w = two 58 _ e in h.colon w.0 w.1)
     (λ e7 _. both_by ((first == 58) && is_value_adjacent second c) _ _ _ _ _ P (and 58 _ _ beside)
     (λ e _. let w = two 58 _ e in h.beside w.0 w.1)
-    (λ e8 _. both_by (first == 34) (first == 34) _ _ _ _ P refl (λ e _. h.double (is 34 e))
-    (λ e9 _. both_by (first == 39) (first == 39) _ _ _ _ P refl (λ e _. h.single (is 39 e))
+    (λ e8 _. both_by (first == 34) (first == 34) _ _ _ _ P refl (λ e _. h.quoted Double (is 34 e))
+    (λ e9 _. both_by (first == 39) (first == 39) _ _ _ _ P refl (λ e _. h.quoted Single (is 39 e))
     (λ e10 _. both_by (first == 42) (first == 42) _ _ _ _ P refl (λ e _. h.alias (is 42 e))
     (λ e11 _. both_by (first == 38) (first == 38) _ _ _ _ P refl (λ e _. h.anchor (is 38 e))
     (λ e12 _. both_by (first == 33) (first == 33) _ _ _ _ P refl (λ e _. h.tag (is 33 e))

@@ -22,9 +22,10 @@ use Rattle.saphyr_scanner.proofs.Taken.Later.{top, Later, LaterThan, later_later
 use Rattle.saphyr_scanner.proofs.Taken.Held.{enclosures_of, Setting, Taken, taken_within, AllowsKey, taken_further}
 use Rattle.saphyr_scanner.proofs.Taken.Indented.{BeginsNoNode, stays_no_node, IsRight, root_key}
 use Rattle.saphyr_scanner.proofs.Taken.Keys.{Keys}
-use Rattle.saphyr_scanner.proofs.Taken.Cores.{line_near, Alike, alike_enclosures, keys_of, keys_lesser, no_keys, outermost_level}
+use Rattle.saphyr_scanner.proofs.Taken.Cores.{Alike, alike_enclosures, keys_of, keys_lesser, no_keys, outermost_level}
+use Rattle.saphyr_scanner.proofs.Taken.SavedKeys.{line_near}
 use Rattle.saphyr_scanner.proofs.Taken.Keys.{IsNear, IsBehindKey}
-use Rattle.saphyr_scanner.proofs.Taken.Cores.{key_known}
+use Rattle.saphyr_scanner.proofs.Taken.SavedKeys.{key_known}
 use Rattle.saphyr_scanner.proofs.Taken.States.{line_small, taken_later, key_stands, Live, TakenState, unroll_taken, blocks_levels}
 use Rattle.saphyr_input.proofs.Basics.Booleans.{by_test, and_false}
 use Rattle.saphyr_scalar.proofs.Given.{Given}
@@ -40,84 +41,30 @@ pub record AllowsBehind (c d : Core) : Type 0 where
       → (c.key_allowed ≡ false) × (d.cursor.mark.line ≡ c.cursor.mark.line)
 
 pub gap_allows : (c : Core) (g : gaps.GapEnd) → Breaks c.cursor.mark false g → AllowsBehind c (behind_gap c g)
-gap_allows c g h = record {
-  begins = λ e. by g.broke (in_block c) c.key_allowed e refl refl;
-  ends = λ b f low.
-      let w = none g.broke (in_block c) c.key_allowed b f in (w.1, (h low).4 w.0);
-}
-  where
-    none : (broke block allowed : Bool) → block ≡ true → ((broke && block) || allowed) ≡ false
-        → (broke ≡ false) × (allowed ≡ false)
-    none broke block allowed b e = grind arith
-
-    by : (broke block allowed : Bool) → ((broke && block) || allowed) ≡ true → broke ≡ g.broke
-        → allowed ≡ c.key_allowed → (c.key_allowed ≡ true)
-        ⊎ (c.cursor.mark.line ≤ top → g.cursor.mark.line < top → c.cursor.mark.line < g.cursor.mark.line)
-    by broke block true e i j = inl (sym j)
-    by true block false e i j = inr (λ low small. elim ((h low).2 (sym i) small) [ inl z ↦ absurd (cc) | inr l ↦ l ])
-    by false block false e i j = absurd (cc)
+gap_allows c g h = grind arith
 
 behind_gap_of : {X : Type 0} → (P : X → Type 0) (c : Core) (f : Core → Result X Refusal)
     → ((d : Core) → Alike c d → AreApart c.cursor d.cursor → IsTrue (begins_text (slice_index d.cursor.rest 0))
     → AllowsBehind c d → Given P (f d)) → Given P (pass_gap c >>= f)
 unfolding pass_gap check_comment
-behind_gap_of P c f go = by (gaps.whole_gap (least_column c) c.cursor)
-    (gap_apart (least_column c) false false c.cursor) (gap_begins (least_column c) false false c.cursor)
-    (gap_breaks (least_column c) false false c.cursor)
-  where
-    checked : (m : Option Marker) (d : Core) → Alike c d → AreApart c.cursor d.cursor
-        → IsTrue (begins_text (slice_index d.cursor.rest 0)) → AllowsBehind c d → Given P (check_comment_of m d >>= f)
-    checked None d a p b k = go d a p b k
-    checked (Some m) d a p b k =
-        let e : Core = record d { comment = None } in
-        by_test (goes_on_behind m e) _ _ (λ r. Given P (r >>= f)) (λ _. tt)
-        (λ _. go e (record {
-          level = a.level;
-          outer = a.outer;
-          indent = a.indent;
-          outer_indents = a.outer_indents;
-          adjacent = a.adjacent;
-          required = a.required;
-        }) p b (record { begins = k.begins; ends = k.ends }))
-
-    by : (r : Result gaps.GapEnd Refusal) → Given (λ (p : gaps.GapEnd). AreApart c.cursor p.cursor) r
-        → Given BeginsText r → Given (Breaks c.cursor.mark false) r
-        → Given P ((r >>= λ g. check_comment_of (behind_gap c g).comment (behind_gap c g)) >>= f)
-    by (Ok g) h b k = checked c.comment (behind_gap c g)
-        (record { level = refl; outer = refl; indent = refl; outer_indents = refl; adjacent = refl; required = refl }) h b
-        (gap_allows c g k)
-    by (Err e) h b k = tt
+behind_gap_of u0 c f go = grind (arith, gap_apart, gap_begins, gap_breaks, by_test, gap_allows)
 
 -- on the line the text goes on as far right, or there is no node still
 pub line_right : (c d : Core) → AreApart c.cursor d.cursor → d.indent ≡ c.indent → c.cursor.mark.line ≤ top
     → d.cursor.mark.line ≡ c.cursor.mark.line → d.cursor.mark.line < top
     → (c.indent ≤ c.cursor.mark.col) ⊎ BeginsNoNode c.cursor.rest
     → (d.indent ≤ d.cursor.mark.col) ⊎ BeginsNoNode d.cursor.rest
-line_right c d p i low same small h = by h
-  where
-    goes : Later c.cursor.mark c.cursor.rest d.cursor.mark d.cursor.rest
-    goes = apart_later c.cursor.mark c.cursor.rest d.cursor.mark d.cursor.rest p
-
-    by : (c.indent ≤ c.cursor.mark.col) ⊎ BeginsNoNode c.cursor.rest
-        → (d.indent ≤ d.cursor.mark.col) ⊎ BeginsNoNode d.cursor.rest
-    by (inl l) = let k = goes.columns low small (omega (arith, same)) in inl (omega (arith, l, k, i))
-    by (inr w) = inr (stays_no_node c.cursor d.cursor p w)
+line_right c d p i low same small h = grind (arith, apart_later, stays_no_node)
 
 behind_right : (c d : Core) → AreApart c.cursor d.cursor → d.indent ≡ c.indent → in_block d ≡ in_block c
     → AllowsBehind c d → c.cursor.mark.line ≤ top → IsRight c → IsRight d
-behind_right c d p i block k low h b f small =
-    let e = k.ends b f low in
-    line_right c d p i low e.1 small (h (sym block ∙ b) e.0 (let s = e.1 in omega (arith, s, small)))
+behind_right c d p i block k low h b f small = grind (arith, line_right)
 
 -- ## To where the next token begins
 
 further_live : (all : Enclosures) (c d : Core) (q : Queue) → Alike c d → AreApart c.cursor d.cursor → Live all c q
     → Live all d q
-further_live all c d q a p h nz = by (is_z (slice_index c.cursor.rest 0)) refl
-  where
-    by : (b : Bool) → is_z (slice_index c.cursor.rest 0) ≡ b → Keys all (next q) q d.indent (d.level ∷ d.outer)
-    by true z = absurd (let e = end_stays c.cursor d.cursor p z in cc)
-    by false z = keys_of all (next q) q c.indent d.indent c.level d.level c.outer d.outer a.indent a.level a.outer (h z)
+further_live all c d q a p h nz = grind arith
 
 record Near (opened : Setting) (from : Cursor) (q : Queue) (c : Core) : Type 0 where
   taken : Taken opened from c q
@@ -132,13 +79,7 @@ forgotten_live all c q h nz =
 
 pub forgotten_taken : (opened : Setting) (from : Cursor) (c : Core) (q : Queue) → c.required ≡ false
     → Taken opened from c q → Taken opened from (forget_key c) q
-forgotten_taken opened from c q free h =
-    taken_further (enclosures_of c) opened from c (forget_key c) q (taken.nothing _ _) refl refl refl refl
-    ((λ a. inl a), λ r. r) (record {
-      required = rw free (and_false (not (in_block c)));
-      root = λ e. absurd (cc);
-      block = refl;
-    }) h
+forgotten_taken opened from c q free h = grind arith
 
 dropped_near : (opened : Setting) (from : Cursor) (q : Queue) (c : Core)
     → IsTrue (begins_text (slice_index c.cursor.rest 0)) → Taken opened from c q
@@ -252,15 +193,7 @@ pub record Arrived (opened : Setting) (from : Cursor) (t : State) : Type 0 where
 unrolled_near : (c : Core) (q : Queue) → IsNear c
     → IsNear (unroll (Some c.cursor.mark.col) c.cursor.mark (record { core = c; queue = q })).core
 unfolding unroll
-unrolled_near c q h =
-    let m = c.cursor.mark in
-    let s : State = record { core = c; queue = q } in
-    let t : State = with_core (go_less_deep (Some m.col) c) s in
-    let same = blocks_cursor (Some m.col) m c.outer_indents t ∙ go_less_deep_cursor (Some m.col) c in
-    let F : Level → Cursor → Bool = λ l u. is_block l.context && is_too_far l.key u.mark in
-    by_test (in_block c) (end_blocks (Some m.col) m c.outer_indents t) s (λ (u : State). IsNear u.core)
-    (λ _. ap (λ l. F l (end_blocks (Some m.col) m c.outer_indents t).core.cursor)
-    (blocks_levels (Some m.col) m c.outer_indents t).level ∙ ap (F c.level) same ∙ h) (λ _. h)
+unrolled_near c q h = grind (arith, blocks_cursor, go_less_deep_cursor, by_test, blocks_levels)
 
 pub arrived : (text : List ℕ) → length text < 2 ^ 63 → (opened : Setting) (from : Cursor) (s : State)
     → LaterThan (start_cursor text) from → TakenState opened from s → Live opened.enclosures s.core s.queue

@@ -38,19 +38,7 @@ HoldsState opened from s = HoldsTaken opened from s.core s.queue
 
 -- a text begins where no content does
 no_content_begins : (xs : List ℕ) → BeginsNoContent xs → IsTrue (begins_text (slice_index xs 0))
-no_content_begins xs (inl e) =
-    elim (or_cases (is_document_start xs) (is_document_end xs) e) [
-      | inl f ↦ marker 45 refl (and_parts (next_3_are xs 45 45 45) (is_blank_or_breakz (slice_index xs 3)) f).0
-      | inr f ↦ marker 46 refl (and_parts (next_3_are xs 46 46 46) (is_blank_or_breakz (slice_index xs 3)) f).0
-    ]
-  where
-    marker : (x : ℕ) → begins_text x ≡ true → next_3_are xs x x x ≡ true → begins_text (slice_index xs 0) ≡ true
-    marker x b f =
-        let two = and_parts ((slice_index xs 0 == x) && (slice_index xs 1 == x)) (slice_index xs 2 == x) f in
-        let one = and_parts (slice_index xs 0 == x) (slice_index xs 1 == x) two.0 in
-        ap begins_text (eqb-true (slice_index xs 0) x one.0) ∙ b
-no_content_begins xs (inr (inl e)) = ap begins_text e
-no_content_begins xs (inr (inr e)) = ap begins_text e
+no_content_begins xs u0 = grind arith
 
 pub content_ends : (s : Cursor) → IsContentEnd s → BlocksEnd None s.mark s
 content_ends s (inl e) = (inl refl, ap (λ l. begins_text (slice_index l 0)) e, inl e)
@@ -119,28 +107,10 @@ pub record Marking (stands : List ℕ → Bool) (text : List ℕ) (kind : Kind) 
   pub unbound : is_unbound kind ≡ true
 
 pub start_marking : Marking is_document_start (codes "---") tokens.DocumentStart
-start_marking = record {
-  quiet = refl;
-  keeps = λ span. neutral _ span refl;
-  is = λ i p s t h. h;
-  three = λ xs e. three_at 45 xs refl (and_parts (next_3_are xs 45 45 45) (is_blank_or_breakz (slice_index xs 3)) e).0;
-  ends = λ xs e. rw e refl;
-  count = refl;
-  no_node = λ span. refl;
-  unbound = refl;
-}
+start_marking = grind arith
 
 pub end_marking : Marking is_document_end (codes "...") tokens.DocumentEnd
-end_marking = record {
-  quiet = refl;
-  keeps = λ span. neutral _ span refl;
-  is = λ i p s t h. h;
-  three = λ xs e. three_at 46 xs refl (and_parts (next_3_are xs 46 46 46) (is_blank_or_breakz (slice_index xs 3)) e).0;
-  ends = λ xs e. rw e (or-true (is_document_start xs));
-  count = refl;
-  no_node = λ span. refl;
-  unbound = refl;
-}
+end_marking = grind arith
 
 -- ## Directives
 
@@ -168,9 +138,7 @@ no_node_directive d span = grind arith
 
 pub directive_keeps : (d : ReadDirective) (span : Span)
     → Neutral (record { span = span; kind = document.directive_kind d })
-directive_keeps (version major minor) span = neutral _ span refl
-directive_keeps (tag_prefix handle prefix) span = neutral _ span refl
-directive_keeps (reserved name) span = neutral _ span refl
+directive_keeps u0 span = grind arith
 
 -- ## The end of the stream
 

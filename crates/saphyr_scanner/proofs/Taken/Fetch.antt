@@ -1,5 +1,5 @@
 -- Each token that is fetched is taken from the text.
-use Rattle.std.proofs.Common.{◌≡◌, ℕ, ◌^◌, ◌<◌, true, false, List, [], ◌∷◌, length, None, Result, Ok, Err, refl, ap, ◌∙◌, subst, inl, inr}
+use Rattle.std.proofs.Common.{◌≡◌, ℕ, ◌^◌, ◌<◌, true, false, List, [], ◌∷◌, length, None, Result, Ok, Err, refl, ap, ◌∙◌, subst, inl, inr, arith}
 use Rattle.std.specs.Prelude.{◌&&◌, ◌==◌, slice_index, not, nat_lt, nat_le, codes}
 use Rattle.saphyr_input.specs.Classes.{is_z, is_bom}
 use Rattle.saphyr_input.specs.Places.{is_document_start, is_document_end}
@@ -42,24 +42,13 @@ OverAt opened from q = (u : Cursor) → AreTokens opened.collections (flat q.pla
 
 over_put : (opened : Setting) (from : Cursor) (m : Marker) (q : Queue)
     → OverAt opened from (with_piece (empty_piece m tokens.StreamEnd) q)
-over_put opened from m q u h =
-    let P : List Piece → Type 0 = λ l. AreTokens opened.collections l from u in
-    let r = tokens_part opened.collections (flat q.places) (empty_piece m tokens.StreamEnd ∷ []) from u
-    (subst P (flat_append q.places (bare_place (empty_piece m tokens.StreamEnd) ∷ [])) h) in
-    ap (λ (c : Cursor). c.rest) (r.back.4 ∙ r.back.3.1.2) ∙ r.back.3.0
+over_put opened from m q u h = grind (arith, tokens_part, flat, flat_append)
 
 end_over : (opened : Setting) (from : Cursor) (s : State)
     → Given (λ (t : State). OverAt opened from t.queue × (t.core.ended ≡ true) × (t.core.required ≡ false))
     (document.state_behind_end s)
 unfolding document.state_behind_end document.end_at
-end_over opened from s =
-    let P : State → Type 0 =
-    λ t. OverAt opened from t.queue × (t.core.ended ≡ true) × (t.core.required ≡ false) in
-    let m : Marker = document.end_mark s.core.cursor.mark in
-    by_test (length s.core.cursor.rest == 0) _ _ (Given P)
-    (λ _. by_test s.core.required _ _ (Given P) (λ _. tt)
-    (λ free. (over_put opened from m (unroll None m s).queue, refl, unrolled_required None m s ∙ free)))
-    (λ _. tt)
+end_over opened from s = grind (arith, by_test, over_put, unrolled_required)
 
 -- ## A token is fetched
 
@@ -76,26 +65,13 @@ pub record Read (opened : Setting) (from : Cursor) (t : State) : Type 0 where
 both_given : (opened : Setting) (from : Cursor) (s : State) (r : Result State Refusal) → s.core.ended ≡ false
     → s.core.started ≡ true → Given (λ (t : State). Fetched opened from t.core t.queue) r
     → Given (FetchesTokens 1 s) r → Given (Read opened from) r
-both_given opened from s (Ok t) going begun a b =
-    record {
-      fetched = a;
-      over = λ e. absurd (let f : t.core.ended ≡ false = b.ended ∙ going in cc);
-      settled = λ e. absurd (let f : t.core.ended ≡ false = b.ended ∙ going in cc);
-      fresh = λ _ e. absurd (let f : t.core.started ≡ true = b.started ∙ begun in cc);
-    }
-both_given opened from s (Err e) going begun a b = tt
+both_given opened from s u0 going begun a b = grind arith
 
 end_given : (opened : Setting) (from : Cursor) (r : Result State Refusal)
     → Given (λ (t : State). Fetched opened from t.core t.queue) r
     → Given (λ (t : State). OverAt opened from t.queue × (t.core.ended ≡ true) × (t.core.required ≡ false)) r
     → Given (Read opened from) r
-end_given opened from (Ok t) a b = record {
-  fetched = a;
-  over = λ _. b.0;
-  settled = λ _. b.2;
-  fresh = λ e. absurd (let f : t.core.ended ≡ true = b.1 in cc);
-}
-end_given opened from (Err e) a b = tt
+end_given opened from u0 a b = grind arith
 
 held : (opened : Setting) (from : Cursor) (r : Result State Refusal) → Given (HoldsState opened from) r
     → Given (λ (t : State). Fetched opened from t.core t.queue) r

@@ -16,7 +16,8 @@ use Rattle.saphyr_scanner.specs.TokensInPlace as place
 use Rattle.saphyr_scanner.specs.TokensInPlace.{Enclosure, Enclosed, Begun, Enclosures, with_begun, begun_at, enclosures_behind, may_stand, AreInPlace, has_text, is_of_flow_node, fits_at, may_follow}
 use Rattle.saphyr_scanner.specs.TokensTaken.{Collections, Surroundings, AreApart, IsToken, AreTokens, open_behind, least_column_in, surroundings_in, ends_json_behind}
 use Rattle.saphyr_scanner.proofs.Leads.{flat}
-use Rattle.saphyr_scanner.proofs.Taken.InPlace.{all_behind, behind_append, each_append, Outside, free, calmed, calm, IsPast, EndsOn, past_later, past_end, begun_by, begun_behind}
+use Rattle.saphyr_scanner.proofs.Taken.InPlace.{all_behind, behind_append, each_append, begun_by, begun_behind}
+use Rattle.saphyr_scanner.proofs.Taken.KeysInPlace.{Outside, free, calmed, calm, IsPast, EndsOn, past_later, past_end}
 use Rattle.saphyr_scanner.proofs.Taken.Indented.{IsRight, Indented, KeepsRequired, indented_further}
 use Rattle.saphyr_scanner.proofs.Taken.Later.{top, apart_later, end_stays}
 use Rattle.saphyr_scanner.proofs.Taken.Separated.{apart_apart}
@@ -53,9 +54,7 @@ stands_in opened c h = cc (stack_indent opened.columns c.indent c.outer_indents 
 -- as many of each are open
 pub stands_same : (opened : Collections) (c d : Core) → d.indent ≡ c.indent → d.outer_indents ≡ c.outer_indents
     → length d.outer ≡ length c.outer → Stands opened c → Stands opened d
-stands_same opened c d i o n h =
-    let Q : List ℕ → Type 0 = λ js. Stack opened.columns c.indent js in
-    (rw i (subst Q (sym o) h.0), h.1 ∙ sym n)
+stands_same opened c d i o n h = grind arith
 
 -- what encloses the tokens of a level, where no key's colon is to come
 abbrev pub enclosure_of : Context → Enclosure
@@ -111,39 +110,7 @@ keeps_put : (i : Surroundings) (c d : Core) (t : Piece) (here behind : Cursor) (
     → i.in_flow ≡ nat_lt 0 (length c.outer) → opened.brackets ≡ length c.outer
     → (open_behind t.kind t.span opened).brackets ≡ length d.outer → Adjoins t c d → KeepsPlace opened.ends_json c
     → KeepsPlace (open_behind t.kind t.span opened).ends_json d
-keeps_put i c d t here behind opened a is b flows before after adjoins k = by adjoins
-  where
-    first : c.cursor.mark.index ≤ here.mark.index
-    first = (apart_later c.cursor.mark c.cursor.rest here.mark here.rest a).index
-
-    own : here.mark.index ≤ behind.mark.index
-    own = (token_later i t.kind t.span here behind is).index
-
-    last : behind.mark.index ≤ d.cursor.mark.index
-    last = (apart_later behind.mark behind.rest d.cursor.mark d.cursor.rest b).index
-
-    stays : d.adjacent ≡ c.adjacent → GoesOn i t.kind t.span here behind
-        → KeepsPlace (open_behind t.kind t.span opened).ends_json d
-    stays e (inl more) = (
-      omega (arith, first, more, last, e, k.0),
-      λ h s. absurd (omega (arith, first, more, last, e, k.0, h)),
-    )
-    stays e (inr (inl json)) = (omega (arith, first, own, last, e, k.0), λ h s. json opened.ends_json)
-    stays e (inr (inr (brackets, inl keeps))) =
-        let same = brackets opened in (
-          omega (arith, first, own, last, e, k.0),
-          λ h s. keeps opened.ends_json
-              ∙ k.1 (omega (arith, first, own, last, e, k.0, h)) (omega (arith, same, before, after, s)),
-        )
-    stays e (inr (inr (brackets, inr out))) =
-        let none = ltb-false 0 (length c.outer) (sym flows ∙ out) in (
-          omega (arith, first, own, last, e, k.0),
-          λ h s. absurd (omega (arith, brackets opened, before, after, s, none)),
-        )
-
-    by : Adjoins t c d → KeepsPlace (open_behind t.kind t.span opened).ends_json d
-    by (inl e) = stays e (token_goes_on i t.kind t.span here behind is)
-    by (inr e) = let at = e.0 in (omega (arith, at), λ h s. e.1 opened.ends_json)
+keeps_put i c d t here behind opened a is b flows before after adjoins k = grind (arith, apart_later, token_later, ltb-false, token_goes_on)
 
 -- ## The tokens
 
@@ -249,12 +216,7 @@ abbrev pub is_unbound : Kind → Bool
 is_unbound kind = not (begins_block kind) && not (is_property kind)
 
 pub unbound_parted : (t : Piece) (c d : Core) → is_unbound t.kind ≡ true → IsParted t c d
-unbound_parted t c d e = by (begins_block t.kind) (is_property t.kind) e
-  where
-    by : (a b : Bool) → (not a && not b) ≡ true
-        → (a ≡ true → (c.key_allowed ≡ true) × (t.span.start.line ≡ c.cursor.mark.line))
-        × (b ≡ true → d.key_allowed ≡ false)
-    by a b e = grind arith
+unbound_parted t c d e = grind arith
 
 pub same_calm : (kind : Kind) (span : Span) (all : Enclosures) → is_property kind ≡ false
     → calm (enclosures_behind kind span all) ≡ enclosures_behind kind span all
@@ -267,13 +229,7 @@ unbound_calm kind span all e = grind arith
 -- a node's token begins no block collection
 pub node_parted : (t : Piece) (c d : Core) → IsTrue (is_of_flow_node t.kind t.span)
     → (is_property t.kind ≡ true → d.key_allowed ≡ false) → IsParted t c d
-node_parted t c d node closes = (λ e. absurd (no t.kind node e), closes)
-  where
-    no : (kind : Kind) → IsTrue (is_of_flow_node kind t.span) → begins_block kind ≡ true → ⊥
-    no tokens.BlockSequenceStart h e = let no : false ≡ true = h in cc
-    no tokens.BlockMappingStart h e = let no : false ≡ true = h in cc
-    no tokens.BlockEntry h e = let no : false ≡ true = h in cc
-    no _ h e = cc
+node_parted t c d node closes = grind arith
 
 calmed_fits : (g : Begun) (kind : Kind) (span : Span) (fit : Bool) → (may_follow (calmed g) kind span && fit) ≡ true
     → (begins_block kind ≡ true → IsPast g span.start.line) → (may_follow g kind span && fit) ≡ true
@@ -287,10 +243,7 @@ behind_begun kind span g all = grind arith
 -- properties end where their token does
 begun_ends : (i : Surroundings) (kind : Kind) (span : Span) (s t : Cursor) → IsToken i kind span s t
     → EndsOn (begun_by kind span) t.mark.line
-begun_ends i (tokens.Anchor name) span s t h = ap (λ (m : Marker). m.line) h.3.end
-begun_ends i (tokens.Tag handle suffix) span s t h = ap (λ (m : Marker). m.line) h.6.end
-begun_ends i tokens.Key span s t h = by_test (has_text span) _ _ (λ g. EndsOn g t.mark.line) (λ _. tt) (λ _. tt)
-begun_ends i _ span s t h = tt
+begun_ends i u0 span s t h = grind arith
 
 begun_past : (kind : Kind) (span : Span) (n : ℕ) (allowed : Bool) → (is_property kind ≡ true → allowed ≡ false)
     → allowed ≡ true → IsPast (begun_by kind span) n
@@ -309,10 +262,10 @@ pub taken_put : (within : Enclosures) (opened : Setting) (from : Cursor) (c d : 
     → AreApart behind d.cursor → Opens t c d → Adjoins t c d → FitsWithin within t → IsParted t c d → IsRight d
     → PutsIndented opened c d q t → TakenWithin within opened from c q
     → TakenWithin (calm (enclosures_behind t.kind t.span within)) opened from d (with_piece t q)
-taken_put within opened from c d q t here behind a told b o adjoins f parted right puts h =
+taken_put within opened from c d q t here behind a known b o adjoins f parted right puts h =
     let open_now = open_all (flat q.places) opened.collections in
     let around = surroundings_of open_now.ends_json c in
-    let is = told open_now.ends_json h.place in
+    let is = known open_now.ends_json h.place in
     let i : surroundings_in open_now ≡ around = stands_in open_now c h.stands in
     let stands_then = o open_now h.stands in
     let apart = apart_apart h.last.mark h.last.rest c.cursor.mark c.cursor.rest here.mark here.rest h.apart a in

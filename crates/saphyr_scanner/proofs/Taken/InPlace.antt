@@ -1,22 +1,17 @@
 -- Tokens that may be where they are, one part after the other, and the same tokens within other enclosures.
-use Rattle.std.proofs.Common.{◌≡◌, ℕ, zero, suc, ◌+◌, ◌-◌, Bool, true, false, List, [], ◌∷◌, ◌++◌, length, Option, Some, None, refl, sym, ap, ◌∙◌, arith, subst, IsTrue, ◌≤◌, ◌<◌}
-use Rattle.std.specs.Prelude.{◌&&◌, nat_lt, not, if◌then◌else◌}
-use Rattle.std.proofs.lemmas.Bool.Decides.{nat_tests}
+use Rattle.std.proofs.Common.{◌≡◌, ℕ, zero, suc, ◌+◌, ◌-◌, Bool, true, false, List, [], ◌∷◌, ◌++◌, length, Option, Some, None, refl, sym, ap, ◌∙◌, arith, subst, IsTrue}
+use Rattle.std.specs.Prelude.{◌&&◌, not, if◌then◌else◌}
 use Rattle.std.proofs.lemmas.Bool.{and_parts}
 use Rattle.std.proofs.Math.Bool.{or-true}
 use Rattle.saphyr_input.proofs.Basics.Booleans.{by_test}
 use Rattle.saphyr_scalar.specs.declared.scalar.position.Marker.{Marker}
 use Rattle.saphyr_scalar.specs.declared.scalar.position.Span.{Span}
 use Rattle.saphyr_scalar.specs.declared.scalar.style.ScalarStyle.TheVariants as style
-use Rattle.saphyr_scanner.specs.declared.queue.Opening.{Opening}
-use Rattle.saphyr_scanner.specs.declared.queue.Opening.TheVariants as opening
 use Rattle.saphyr_scanner.specs.Grammar.Tokens as tokens
 use Rattle.saphyr_scanner.specs.Grammar.Tokens.{Kind}
 use Rattle.saphyr_scanner.specs.Views.Tokens.{Piece}
-use Rattle.saphyr_scanner.specs.Steps.Queue.{empty_piece}
 use Rattle.saphyr_scanner.specs.TokensInPlace as place
-use Rattle.saphyr_scanner.specs.TokensInPlace.{Enclosure, Enclosed, Begun, Enclosures, with_begun, begun_at, turned_to, awaiting_colon, has_text, enclosures_behind, may_begin_pair, may_begin_key, is_in_brackets, is_of_flow_node, fits_at, may_follow, may_stand, is_in_key, is_covered, is_indented, AreEach, AreInPlace, AreIndented}
-use Rattle.saphyr_scanner.proofs.Leads.{place_pieces}
+use Rattle.saphyr_scanner.specs.TokensInPlace.{Enclosure, Enclosed, Begun, Enclosures, with_begun, turned_to, awaiting_colon, has_text, enclosures_behind, is_in_brackets, is_of_flow_node, fits_at, may_follow, may_stand, is_in_key, is_covered, is_indented, AreEachInside, AreInPlace, AreIndented}
 
 -- ## One part after the other
 
@@ -34,13 +29,13 @@ behind_append (p ∷ ps) qs all = behind_append ps qs (enclosures_behind p.kind 
 abbrev pub Holds : Type 0
 Holds = Enclosures → Kind → Span → Bool
 
-pub each_append : (holds : Holds) (ps qs : List Piece) (all : Enclosures) → AreEach holds all ps
-    → AreEach holds (all_behind ps all) qs → AreEach holds all (ps ++ qs)
+pub each_append : (holds : Holds) (ps qs : List Piece) (all : Enclosures) → AreEachInside holds all ps
+    → AreEachInside holds (all_behind ps all) qs → AreEachInside holds all (ps ++ qs)
 each_append holds [] qs all h k = k
 each_append holds (p ∷ ps) qs all h k = (h.0, each_append holds ps qs (enclosures_behind p.kind p.span all) h.1 k)
 
-pub each_parts : (holds : Holds) (ps qs : List Piece) (all : Enclosures) → AreEach holds all (ps ++ qs)
-    → AreEach holds all ps × AreEach holds (all_behind ps all) qs
+pub each_parts : (holds : Holds) (ps qs : List Piece) (all : Enclosures) → AreEachInside holds all (ps ++ qs)
+    → AreEachInside holds all ps × AreEachInside holds (all_behind ps all) qs
 each_parts holds [] qs all h = (tt, h)
 each_parts holds (p ∷ ps) qs all h =
     let r = each_parts holds ps qs (enclosures_behind p.kind p.span all) h.1 in ((h.0, r.0), r.1)
@@ -155,7 +150,7 @@ begins_node _ = true
 node_begins : (kind : Kind) (span : Span) → IsTrue (is_of_flow_node kind span) → begins_node kind ≡ true
 node_begins kind span h = grind arith
 
-node_may_follow : (g : Begun) (kind : Kind) (span : Span) → takes_node g ≡ true → begins_node kind ≡ true
+pub node_may_follow : (g : Begun) (kind : Kind) (span : Span) → takes_node g ≡ true → begins_node kind ≡ true
     → may_follow g kind span ≡ true
 node_may_follow g kind span h b = grind arith
 
@@ -196,7 +191,7 @@ begun_behind tokens.FlowMappingEnd span all =
     (λ _. refl)
 begun_behind tokens.Key span all = by (has_text span)
   where
-    by : (b : Bool) → (if b then turned_to (place.behind_question all.inner.enclosure) all else
+    by : (b : Bool) → (if b then turned_to (place.enclosure_behind_question all.inner.enclosure) all else
         awaiting_colon span.start all).begun ≡ (if b then place.Nothing else place.KeyStart)
     by b = grind arith
 begun_behind _ span all = refl
@@ -246,7 +241,8 @@ changed_top kind span t u ts b d e = record {
   behind = λ g all. e g ((stacked ts all).inner ∷ (stacked ts all).outer) (stacked ts all).columns;
 }
 
-question_stays : (e : Enclosure) → IsTrue (is_in_brackets e) → IsTrue (is_in_brackets (place.behind_question e))
+question_stays : (e : Enclosure) → IsTrue (is_in_brackets e)
+    → IsTrue (is_in_brackets (place.enclosure_behind_question e))
 question_stays e h = grind arith
 
 comma_stays : (e : Enclosure) → IsTrue (is_in_brackets e) → IsTrue (is_in_brackets (place.behind_comma e))
@@ -291,7 +287,7 @@ top_behind tokens.FlowMappingEnd span t ts q b = by (has_text span) refl
 top_behind tokens.Key span t ts q b = by (has_text span) refl
   where
     by : (x : Bool) → has_text span ≡ x → Top tokens.Key span (t ∷ ts)
-    by true e = changed_top _ span t (record { enclosure = place.behind_question t.enclosure; key = None }) ts
+    by true e = changed_top _ span t (record { enclosure = place.enclosure_behind_question t.enclosure; key = None }) ts
         (question_stays t.enclosure b.0, b.1) (λ d. refl) (λ g all columns. rw e refl)
     by false e = changed_top _ span t (record { enclosure = t.enclosure; key = Some span.start }) ts b (λ d. refl)
         (λ g all columns. rw e refl)
@@ -307,7 +303,7 @@ top_behind tokens.BlockEnd span t ts q b = absurd (cc)
 top_behind _ span t ts q b = changed_top _ span t t ts b (λ d. refl) (λ g all columns. refl)
 
 -- the tokens told within `b` and within `c`
-record Retold (ps : List Piece) (ts : List Enclosed) (g : Begun) (e : ℕ) (b c : Enclosures) : Type 0 where
+record Carried (ps : List Piece) (ts : List Enclosed) (g : Begun) (e : ℕ) (b c : Enclosures) : Type 0 where
   top : List Enclosed
   last : Begun
   depth : length top ≡ e
@@ -316,20 +312,20 @@ record Retold (ps : List Piece) (ts : List Enclosed) (g : Begun) (e : ℕ) (b c 
   before : all_behind ps (on_top ts g b) ≡ on_top top last b
   behind : all_behind ps (on_top ts g c) ≡ on_top top last c
 
-retell : (ps : List Piece) (ts : List Enclosed) (g : Begun) (e : ℕ) (b c : Enclosures) → AreBrackets ts → AreQuiet ps
-    → AreInside (length ts) ps e → AreInPlace (on_top ts g b) ps → Retold ps ts g e b c
-retell [] ts g e b c w q h k =
+carry : (ps : List Piece) (ts : List Enclosed) (g : Begun) (e : ℕ) (b c : Enclosures) → AreBrackets ts → AreQuiet ps
+    → AreInside (length ts) ps e → AreInPlace (on_top ts g b) ps → Carried ps ts g e b c
+carry [] ts g e b c w q h k =
     record { top = ts; last = g; depth = h; in_place = tt; indented = λ _. tt; before = refl; behind = refl }
-retell (p ∷ ps) ts g e b c w q h k = by ts w h k (λ us v. retell ps us (begun_by p.kind p.span) e b c v q.1)
+carry (p ∷ ps) ts g e b c w q h k = by ts w h k (λ us v. carry ps us (begun_by p.kind p.span) e b c v q.1)
   where
     Others : Type 0
     Others = (us : List Enclosed) → AreBrackets us → AreInside (length us) ps e
-        → AreInPlace (on_top us (begun_by p.kind p.span) b) ps → Retold ps us (begun_by p.kind p.span) e b c
+        → AreInPlace (on_top us (begun_by p.kind p.span) b) ps → Carried ps us (begun_by p.kind p.span) e b c
 
     further : (ts : List Enclosed) (u : Top p.kind p.span ts) → IsTrue (may_stand (on_top ts g c) p.kind p.span)
         → (IsTrue (is_covered c.inner) → IsTrue (is_indented (on_top ts g c) p.kind p.span))
         → AreInside (deeper p.kind p.span (length ts)) ps e
-        → AreInPlace (enclosures_behind p.kind p.span (on_top ts g b)) ps → Others → Retold (p ∷ ps) ts g e b c
+        → AreInPlace (enclosures_behind p.kind p.span (on_top ts g b)) ps → Others → Carried (p ∷ ps) ts g e b c
     further ts u f i h k go =
         let P : ℕ → Type 0 = λ n. AreInside n ps e in
         let Q : Enclosures → Type 0 = λ all. AreInPlace all ps in
@@ -345,7 +341,7 @@ retell (p ∷ ps) ts g e b c w q h k = by ts w h k (λ us v. retell ps us (begun
         }
 
     by : (ts : List Enclosed) → AreBrackets ts → AreInside (length ts) (p ∷ ps) e
-        → AreInPlace (on_top ts g b) (p ∷ ps) → Others → Retold (p ∷ ps) ts g e b c
+        → AreInPlace (on_top ts g b) (p ∷ ps) → Others → Carried (p ∷ ps) ts g e b c
     by [] w h k go =
         let x = and_parts (may_follow g p.kind p.span)
         (fits_at b.inner.enclosure b.inner.key b.columns p.kind p.span) k.0 in
@@ -364,20 +360,20 @@ no_top (t ∷ ts) g all e = absurd (omega (arith, e))
 
 -- The tokens of a node that may be a key, within other enclosures and with something else right in front: they leave
 -- the enclosures as these are.
-pub record NodeRetold (ps : List Piece) (g f : Begun) (b c : Enclosures) : Type 0 where
+pub record NodeCarried (ps : List Piece) (g f : Begun) (b c : Enclosures) : Type 0 where
   pub last : Begun
   pub in_place : AreInPlace (with_begun f c) ps
   pub indented : IsTrue (is_covered c.inner) → AreIndented (with_begun f c) ps
   pub before : all_behind ps (with_begun g b) ≡ with_begun last b
   pub behind : all_behind ps (with_begun f c) ≡ with_begun last c
 
-pub node_retold : (t : Piece) (ps : List Piece) (g f : Begun) (b c : Enclosures) → takes_node f ≡ true
-    → AreQuiet (t ∷ ps) → AreInside 0 (t ∷ ps) 0 → AreInPlace (with_begun g b) (t ∷ ps) → NodeRetold (t ∷ ps) g f b c
-node_retold t ps g f b c takes q h k =
+pub node_carried : (t : Piece) (ps : List Piece) (g f : Begun) (b c : Enclosures) → takes_node f ≡ true
+    → AreQuiet (t ∷ ps) → AreInside 0 (t ∷ ps) 0 → AreInPlace (with_begun g b) (t ∷ ps) → NodeCarried (t ∷ ps) g f b c
+node_carried t ps g f b c takes q h k =
     let u = top_of_node t.kind t.span h.0 in
     let Q : Enclosures → Type 0 = λ all. AreInPlace all ps in
     let R : Enclosures → Type 0 = λ all. AreIndented all ps in
-    let r = retell ps u.top (begun_by t.kind t.span) 0 b c u.brackets q.1
+    let r = carry ps u.top (begun_by t.kind t.span) 0 b c u.brackets q.1
     (rw u.depth h.1) (subst Q (u.behind g b) k.1) in
     let fit = of_node_fits c.inner.enclosure c.inner.key c.columns t.kind t.span h.0 in
     let follows = node_may_follow f t.kind t.span takes (node_begins t.kind t.span h.0) in record {
@@ -395,118 +391,3 @@ node_retold t ps g f b c takes q h k =
 pub node_taken : (t : Piece) (ps : List Piece) (d : ℕ) (all : Enclosures) → AreInside 0 (t ∷ ps) d
     → AreInPlace all (t ∷ ps) → takes_node all.begun ≡ true
 node_taken t ps d all h k = grind arith
-
--- ## Properties right in front
-
--- what encloses, but for properties that come right before
-abbrev pub calmed : Begun → Begun
-calmed (place.Property line) = place.Nothing
-calmed g = g
-
-abbrev pub calm : Enclosures → Enclosures
-calm all = with_begun (calmed all.begun) all
-
--- properties that come right before end before a line
-abbrev pub IsPast : Begun → ℕ → Type 0
-IsPast (place.Property line) n = line < n
-IsPast _ n = Unit {0}
-
--- they end on a line
-abbrev pub EndsOn : Begun → ℕ → Type 0
-EndsOn (place.Property line) n = line ≡ n
-EndsOn _ n = Unit {0}
-
-pub past_later : (g : Begun) (m n : ℕ) → m ≤ n → IsPast g m → IsPast g n
-past_later g m n l h = grind arith
-
-pub past_end : (g : Begun) (m n : ℕ) → m < n → EndsOn g m → IsPast g n
-past_end g m n l e = grind arith
-
-past_follows : (g : Begun) (span : Span) → takes_node g ≡ true → IsPast g span.start.line
-    → may_follow g tokens.BlockMappingStart span ≡ true
-past_follows g span h l = grind arith
-
--- ## A candidate turns out to be a key
-
-pub no_text : (n : ℕ) → nat_lt n n ≡ false
-no_text n = grind (arith, nat_tests)
-
--- what encloses a key's tokens, the first of which was met
-abbrev pub in_key : Marker → Enclosures → Enclosures
-in_key m all = with_begun place.Nothing (awaiting_colon m all)
-
-abbrev pub awaited : Opening → Marker → Enclosures → Enclosures
-awaited opening.Nothing m all = all
-awaited opening.Key m all = in_key m all
-awaited opening.BlockMappingAndKey m all = in_key m (begun_at place.BlockMapping m.col all)
-awaited opening.FlowMappingAndKey m all = in_key m (turned_to place.PairKey all)
-
-abbrev pub MayOpen : Opening → Enclosure → Type 0
-MayOpen opening.Nothing e = ⊥
-MayOpen opening.FlowMappingAndKey e = IsTrue (may_begin_pair e)
-MayOpen _ e = IsTrue (may_begin_key e)
-
--- what is around a level: what encloses it, and the columns of the open block collections
-pub record Outside : Type 0 where
-  pub enclosed : List Enclosed
-  pub columns : List ℕ
-
--- within e no key waits
-abbrev pub free : Enclosure → Outside → Enclosures
-free e outside = record {
-  inner = record { enclosure = e; key = None };
-  outer = outside.enclosed;
-  begun = place.Nothing;
-  columns = outside.columns;
-}
-
--- the tokens of a candidate, with what has begun right before it
-pub record Opened (o : Opening) (t : Piece) (back : List Piece) (g : Begun) (all : Enclosures) : Type 0 where
-  pub last : Begun
-  pub before : all_behind (t ∷ back) (with_begun g all) ≡ with_begun last all
-  pub in_place : AreInPlace (with_begun g all) (place_pieces o t ++ back)
-  pub indented : AreIndented (with_begun g all) (place_pieces o t ++ back)
-  pub behind : all_behind (place_pieces o t ++ back) (with_begun g all) ≡ with_begun last (awaited o t.span.start all)
-
-pub opened_in_place : (o : Opening) (t : Piece) (back : List Piece) (g : Begun) (e : Enclosure) (outside : Outside)
-    → MayOpen o e → takes_node g ≡ true → IsPast g t.span.start.line → AreQuiet (t ∷ back) → AreInside 0 (t ∷ back) 0
-    → AreInPlace (with_begun g (free e outside)) (t ∷ back) → Opened o t back g (free e outside)
-opened_in_place opening.Nothing t back g e outside m f l q h k = absurd m
-opened_in_place opening.Key t back g e outside m f l q h k =
-    let all = awaiting_colon t.span.start (free e outside) in
-    let r = node_retold t back g all.begun (free e outside) all refl q h k in
-    let no = no_text t.span.start.index in
-    let key = node_may_follow g tokens.Key (empty_piece t.span.start tokens.Key).span f refl in
-    record {
-      last = r.last;
-      before = r.before;
-      in_place = rw (no, m, key) (refl, r.in_place);
-      indented = rw no (refl, r.indented refl);
-      behind = rw no r.behind;
-    }
-opened_in_place opening.BlockMappingAndKey t back g e outside m f l q h k =
-    let all = awaiting_colon t.span.start (begun_at place.BlockMapping t.span.start.col (free e outside)) in
-    let r = node_retold t back g all.begun (free e outside) all refl q h k in
-    let no = no_text t.span.start.index in
-    let start = past_follows g (empty_piece t.span.start tokens.BlockMappingStart).span f l in
-    record {
-      last = r.last;
-      before = r.before;
-      in_place = rw (no, m, start) (refl, (refl, r.in_place));
-      indented = rw no (refl, (refl, r.indented refl));
-      behind = rw no r.behind;
-    }
-opened_in_place opening.FlowMappingAndKey t back g e outside m f l q h k =
-    let all = awaiting_colon t.span.start (turned_to place.PairKey (free e outside)) in
-    let r = node_retold t back g all.begun (free e outside) all refl q h k in
-    let no = no_text t.span.start.index in
-    let start = node_may_follow g tokens.FlowMappingStart (empty_piece t.span.start tokens.FlowMappingStart).span f
-    refl in
-    let key = or-true (nat_lt t.span.start.index t.span.start.index) in
-    record {
-      last = r.last;
-      before = r.before;
-      in_place = rw (no, m, start) (refl, (key, r.in_place));
-      indented = rw no (refl, (refl, r.indented refl));
-      behind = rw no r.behind;
-    }

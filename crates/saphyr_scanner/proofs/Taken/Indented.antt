@@ -25,10 +25,7 @@ BeginsNoNode t = (is_z (slice_index t 0) ≡ true)
 
 -- where none begins nothing is passed
 pub stays_no_node : (s t : Cursor) → AreApart s t → BeginsNoNode s.rest → BeginsNoNode t.rest
-stays_no_node s t p (inl z) = inl (end_stays s t p z)
-stays_no_node s t p (inr w) =
-    let P : List ℕ → Type 0 = λ l. BeginsNoNode l in
-    subst P (sym (text_stays s.mark s.rest t.mark t.rest p (ap begins_text w.0)).1) (inr w)
+stays_no_node s t p u0 = grind (arith, end_stays, text_stays)
 
 -- no colon stands here that is no part of a word
 abbrev pub HasNoColon : List ℕ → Type 0
@@ -89,11 +86,7 @@ pub record Indented (all : Enclosures) (c : Core) (q : Queue) : Type 0 where
 -- where no key can be required all are
 pub never_waits : (all : Enclosures) (c : Core) (q : Queue) → (c.required ≡ true → own_root c ≡ None)
     → Indented all c q → AreIndented all (flat q.places)
-never_waits all c q none h = by c.required refl
-  where
-    by : (b : Bool) → c.required ≡ b → AreIndented all (flat q.places)
-    by false e = h.free e
-    by true e = absurd (let w = (h.waits e).is in let n = none e in cc)
+never_waits all c q none h = grind arith
 
 -- ## What is known changes
 
@@ -108,26 +101,7 @@ pub indented_further : (all : Enclosures) (c d : Core) (q : Queue) → KeepsRequ
     → (d.key_allowed ≡ true → (c.key_allowed ≡ true) ⊎ (c.cursor.mark.line < d.cursor.mark.line))
     → (is_z (slice_index c.cursor.rest 0) ≡ true → is_z (slice_index d.cursor.rest 0) ≡ true)
     → Indented all c q → Indented all d q
-indented_further all c d q k l allows ends h =
-    record { free = λ e. h.free (sym k.required ∙ e); waits = λ e. let f = sym k.required ∙ e in by f (h.waits f) }
-  where
-    by : c.required ≡ true → Waits all c q → Waits all d q
-    by f w = record {
-      key = w.key;
-      is = k.root f ∙ w.is;
-      front = w.front;
-      back = w.back;
-      places = w.places;
-      at = w.at;
-      indented = w.indented;
-      line = omega (arith, l, w.line);
-      past = λ b a s. elim (allows a) [
-        | inl g ↦
-            elim (w.past (sym k.block ∙ b) g (omega (arith, l, s)))
-            [ inl x ↦ inl (omega (arith, l, x)) | inr z ↦ inr (ends z) ]
-        | inr x ↦ inl (omega (arith, w.line, x))
-      ];
-    }
+indented_further all c d q k l allows ends h = grind arith
 
 -- ## A token is put
 
@@ -141,24 +115,12 @@ no_node_fits all q t e = rw e refl
 
 pub indented_then : (all : Enclosures) (q : Queue) (t : Piece) → FitsIndented all q t → AreIndented all (flat q.places)
     → AreIndented all (flat (with_piece t q).places)
-indented_then all q t f h =
-    subst (λ ps. AreIndented all ps) (sym (flat_append q.places (bare_place t ∷ [])))
-    (each_append is_indented (flat q.places) (t ∷ []) all h (f, tt))
+indented_then all q t f h = grind (arith, flat_append, each_append, flat)
 
 pub waits_then : (all : Enclosures) (c d : Core) (q : Queue) (t : Piece) → own_root d ≡ own_root c
     → c.cursor.mark.line ≤ d.cursor.mark.line → (w : Waits all c q) → IsPastLine w.key.mark.line d
     → Waits all d (with_piece t q)
-waits_then all c d q t root l w past = record {
-  key = w.key;
-  is = root ∙ w.is;
-  front = w.front;
-  back = w.back ++ bare_place t ∷ [];
-  places = cc (w.places, append_assoc w.front w.back (bare_place t ∷ []));
-  at = w.at;
-  indented = w.indented;
-  line = omega (arith, l, w.line);
-  past = past;
-}
+waits_then all c d q t root l w past = grind (arith, append_assoc)
 
 -- a token of no flow node
 pub indented_put : (all : Enclosures) (c d : Core) (q : Queue) (t : Piece) → FitsIndented all q t → KeepsRequired c d
@@ -175,10 +137,7 @@ indented_put all c d q t f k past l h = record {
 pub indented_alone : (all : Enclosures) (c d : Core) (q : Queue) (t : Piece) → FitsIndented all q t
     → (c.required ≡ true → own_root c ≡ None) → (d.required ≡ true → c.required ≡ true) → Indented all c q
     → Indented all d (with_piece t q)
-indented_alone all c d q t f none back h = record {
-  free = λ _. indented_then all q t f (never_waits all c q none h);
-  waits = λ e. absurd (let r = back e in let w = (h.waits r).is in let n = none r in cc);
-}
+indented_alone all c d q t f none back h = grind (arith, indented_then, never_waits)
 
 -- ## Places in front
 

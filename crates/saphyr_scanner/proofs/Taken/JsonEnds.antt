@@ -11,7 +11,7 @@ use Rattle.saphyr_scalar.specs.Reading.Plain.{IsPlainReading}
 use Rattle.saphyr_scanner.specs.Grammar.Tokens.{Kind}
 use Rattle.saphyr_scanner.specs.TokensTaken.{Collections, Surroundings, IsSpan, open_behind, ends_json_behind}
 use Rattle.saphyr_scanner.specs.TokensInPlace.{has_text}
-use Rattle.saphyr_scanner.proofs.Taken.InPlace.{no_text}
+use Rattle.saphyr_scanner.proofs.Taken.KeysInPlace.{no_text}
 use Rattle.saphyr_scanner.proofs.Taken.Later.{plain_later}
 
 -- as many brackets are open after it
@@ -43,14 +43,7 @@ plain_goes_on f s t value end r =
 -- a span from s to t has a text, or the place is the same
 pub span_goes_on : (text : List ℕ) (span : Span) (s t : Cursor) → IsSpan span text s t
     → (s.mark.index < t.mark.index) ⊎ (has_text span ≡ false)
-span_goes_on text span s t h = by (has_text span) refl
-  where
-    by : (b : Bool) → has_text span ≡ b → (s.mark.index < t.mark.index) ⊎ (b ≡ false)
-    by true e =
-        let l = ltb-true span.start.index span.end.index e in
-        let x = ap (λ (m : Marker). m.index) h.start in
-        let y = ap (λ (m : Marker). m.index) h.end in inl (omega (arith, l, x, y))
-    by false e = inr refl
+span_goes_on text span s t h = grind arith
 
 pub empty : (span : Span) → span.end ≡ span.start → has_text span ≡ false
 empty span e = ap (λ (m : Marker). nat_lt span.start.index m.index) e ∙ no_text span.start.index

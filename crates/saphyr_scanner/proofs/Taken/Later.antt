@@ -31,68 +31,33 @@ abbrev pub LaterThan : Cursor → Cursor → Type 0
 LaterThan s t = Later s.mark s.rest t.mark t.rest
 
 pub later_here : (m : Marker) (t : List ℕ) → Later m t m t
-later_here m t = record {
-  index = omega arith;
-  counted = refl;
-  lines = λ h. (omega arith, h);
-  slow = omega arith;
-  kept = λ h. omega arith;
-  columns = λ h k l. omega arith;
-}
+later_here m t = grind arith
 
 pub later_later : (m : Marker) (t : List ℕ) (n : Marker) (u : List ℕ) (k : Marker) (v : List ℕ) → Later m t n u
     → Later n u k v → Later m t k v
-later_later m t n u k v a b = record {
-  index = omega (arith, a.index, b.index);
-  counted = omega (arith, a.counted, b.counted);
-  lines = λ h. let x = a.lines h in let y = b.lines x.1 in (omega (arith, x.0, y.0), y.1);
-  slow = omega (arith, a.slow, b.slow);
-  kept = λ h. let y = b.kept h in let x = a.kept (omega (arith, y, h)) in omega (arith, x, y);
-  columns = λ h i l.
-      let x = a.lines h in
-      let y = b.lines x.1 in
-      let p : m.col ≤ n.col = a.columns h (omega (arith, y.0, i)) (omega (arith, y.0, l)) in
-      let q : n.col ≤ k.col = b.columns x.1 i (omega (arith, x.0, l)) in omega (arith, p, q);
-}
+later_later m t n u k v a b = grind arith
 
 -- some characters of a line
 line_goes_on : (m : Marker) (n col : ℕ) (t u : List ℕ) → m.col ≤ col → length t ≡ n + length u
     → Later m t (record { index = m.index + n; line = m.line; col = col }) u
-line_goes_on m n col t u k l = record {
-  index = omega arith;
-  counted = omega (arith, l);
-  lines = λ h. (omega arith, h);
-  slow = omega arith;
-  kept = λ h. omega arith;
-  columns = λ h i j. k;
-}
+line_goes_on m n col t u k l = grind arith
 
 pub along_later : (m : Marker) (n : ℕ) (t u : List ℕ) → length t ≡ n + length u → Later m t (along m n) u
 along_later m n t u l = line_goes_on m n (m.col + n) t u (omega arith) l
 
 -- a break of n characters
 line_later : (m : Marker) (n : ℕ) (t u : List ℕ) → 1 ≤ n → length t ≡ n + length u → Later m t (next_line m n) u
-line_later m n t u k l =
-    record {
-      index = omega arith;
-      counted = omega (arith, l);
-      lines = λ h. (omega arith, omega arith);
-      slow = omega arith;
-      kept = λ h. omega (arith, h);
-      columns = λ h i j. absurd (omega arith);
-    }
+line_later m n t u k l = grind arith
 
 pub break_later : (m : Marker) (t : List ℕ) → is_break (slice_index t 0) ≡ true
     → Later m t (next_line m (break_len t)) (drop (break_len t) t)
-break_later m t e =
-    let w = break_len_within t e in
-    let l = length-drop (break_len t) t in
-    line_later m (break_len t) t (drop (break_len t) t) w.0 (omega (arith, l, w.1))
+break_later m t e = grind arith
 
 pub reached_later : (m : Marker) (t : List ℕ) (n : Marker) (u : List ℕ) → IsReached m t n u → Later m t n u
 reached_later _ _ _ _ (taken.nothing m t) = later_here m t
 reached_later _ _ _ _ (taken.character m c t n u e p) =
-    later_later m (c ∷ t) (along m 1) t n u (along_later m 1 (c ∷ t) t (omega arith)) (reached_later (along m 1) t n u p)
+    later_later m (c ∷ t) (along m 1) t n u (along_later m 1 (c ∷ t) t (omega arith)) (reached_later (along m 1) t n u
+    p)
 reached_later _ _ _ _ (taken.mark m t n u e p) = later_later m (65279 ∷ t) (past_mark m) t n u
     (line_goes_on m 1 m.col (65279 ∷ t) t (omega arith) (omega arith)) (reached_later (past_mark m) t n u p)
 reached_later _ _ _ _ (taken.line_break m t n u e p) =
@@ -122,9 +87,7 @@ text_stays _ _ _ _ (taken.comment m words t n u a e p) b = absurd (let no : fals
 -- Neither is at NUL and at the end.
 pub end_stays : (s t : Cursor) → IsPassedOver s.mark s.rest t.mark t.rest → is_z (slice_index s.rest 0) ≡ true
     → is_z (slice_index t.rest 0) ≡ true
-end_stays s t p z =
-    let e = text_stays s.mark s.rest t.mark t.rest p (ap begins_text (eqb-true (slice_index s.rest 0) 0 z)) in
-    ap (λ l. is_z (slice_index l 0)) e.1 ∙ z
+end_stays s t p z = grind arith
 
 -- a piece of a plain scalar
 pub piece_later : (m : Marker) (cs u : List ℕ) → Later m (cs ++ u) (end_of_text m cs) u

@@ -1,12 +1,12 @@
 -- Tokens that change nothing of what encloses those after, but for properties that come right before.
-use Rattle.std.proofs.Common.{◌≡◌, ℕ, Bool, true, false, List, refl, IsTrue}
+use Rattle.std.proofs.Common.{◌≡◌, ℕ, Bool, true, false, List, refl, IsTrue, arith}
 use Rattle.saphyr_scalar.specs.declared.scalar.position.Span.{Span}
 use Rattle.saphyr_scanner.specs.Grammar.Tokens as tokens
 use Rattle.saphyr_scanner.specs.Grammar.Tokens.{Kind}
 use Rattle.saphyr_scanner.specs.Views.Tokens.{Piece}
 use Rattle.saphyr_scanner.specs.TokensTaken.{Collections, open_behind}
 use Rattle.saphyr_scanner.specs.TokensInPlace.{Enclosure, enclosures_behind, fits}
-use Rattle.saphyr_scanner.proofs.Taken.InPlace.{Outside, free, calm}
+use Rattle.saphyr_scanner.proofs.Taken.KeysInPlace.{Outside, free, calm}
 use Rattle.saphyr_scanner.proofs.Taken.Keys.{KeepsDepth}
 
 -- a token that opens and closes no bracket
@@ -36,14 +36,4 @@ is_neutral tokens.Value = false
 is_neutral _ = true
 
 pub neutral : (kind : Kind) (span : Span) → is_neutral kind ≡ true → Neutral (record { span = span; kind = kind })
-neutral tokens.BlockSequenceStart span e = absurd (cc)
-neutral tokens.BlockMappingStart span e = absurd (cc)
-neutral tokens.BlockEnd span e = absurd (cc)
-neutral tokens.FlowSequenceStart span e = absurd (cc)
-neutral tokens.FlowSequenceEnd span e = absurd (cc)
-neutral tokens.FlowMappingStart span e = absurd (cc)
-neutral tokens.FlowMappingEnd span e = absurd (cc)
-neutral tokens.FlowEntry span e = absurd (cc)
-neutral tokens.Key span e = absurd (cc)
-neutral tokens.Value span e = absurd (cc)
-neutral _ span e = record { brackets = λ x. refl; depth = λ d. refl; encloses = λ x y. refl; fits = λ x y. refl }
+neutral u0 span e = grind arith

@@ -55,7 +55,7 @@ record OnLine (k : ℕ) (q : Quote) (t : List ℕ) (items : List Item) (x : List
   passed : IsPassed m t place x
   lines : place.line ≤ m.line → place.line < top → HasIndentedLines k q t items x is
 
-stands_unbroken : (q : Quote) (c : ℕ) → IsTrue (stands_for_itself q c) → is_break c ≡ false
+pub stands_unbroken : (q : Quote) (c : ℕ) → IsTrue (stands_for_itself q c) → is_break c ≡ false
 stands_unbroken q c h = grind arith
 
 quotes_on_line : (k : ℕ) (q : Quote) (t : List ℕ) (items : List Item) (x : List ℕ) (is : IsText q t items x)

@@ -21,7 +21,8 @@ use Rattle.saphyr_scanner.proofs.Queues.{flat_append, place_with_front}
 use Rattle.saphyr_scanner.proofs.Taken.Later.{top, apart_later}
 use Rattle.saphyr_scanner.proofs.Taken.Places.{token_later, tokens_later}
 use Rattle.saphyr_scanner.proofs.Taken.OnLine.{plain_on_line, quoted_on_line}
-use Rattle.saphyr_scanner.proofs.Taken.InPlace.{no_text, deeper, AreInside, inside_first, inside_rest}
+use Rattle.saphyr_scanner.proofs.Taken.InPlace.{deeper, AreInside, inside_first, inside_rest}
+use Rattle.saphyr_scanner.proofs.Taken.KeysInPlace.{no_text}
 pub use Rattle.saphyr_scanner.proofs.Taken.InPlace.{is_quiet, AreQuiet}
 
 -- what is open after tokens
@@ -74,7 +75,7 @@ quiet_token f b i j tokens.BlockEnd span s t q w le small h = absurd (cc)
 quiet_token f b i j (tokens.Scalar style.Plain value) span s t q w le small h = record {
   start = h.start;
   begins = h.begins;
-  is_ink = h.is_ink;
+  is_non_space = h.is_non_space;
   no_indicator = h.no_indicator;
   no_block_scalar = h.no_block_scalar;
   reading = h.reading;
@@ -307,8 +308,4 @@ pub place_open : (opened : Collections) (o : Opening) (front : List Place) (t : 
     → (opens_block o ≡ true → AreQuiet (t ∷ flat back))
     → open_all (flat (front ++ place_with_front o t ∷ back)) opened
     ≡ column_of o t.span.start.col (open_all (flat (front ++ bare_place t ∷ back)) opened)
-place_open opened o front t back q = ap (λ l. open_all l opened) (flat_append front (place_with_front o t ∷ back))
-    ∙ open_append (flat front) (place_pieces o t ++ flat back) opened
-    ∙ opening_open (open_all (flat front) opened) o t (flat back) q ∙ ap (column_of o t.span.start.col)
-    (sym (ap (λ l. open_all l opened) (flat_append front (bare_place t ∷ back))
-    ∙ open_append (flat front) (t ∷ flat back) opened))
+place_open opened o front t back q = grind (arith, flat_append, open_append, flat, place_pieces, opening_open)

@@ -22,7 +22,7 @@ use Rattle.saphyr_scanner.specs.TokensTaken.{Collections, Surroundings, surround
 use Rattle.saphyr_scanner.proofs.Taken.JsonEnds.{LeavesBrackets, LeavesBoth, GoesOn, plain_goes_on, span_goes_on, empty, bare}
 use Rattle.saphyr_scanner.proofs.Taken.Later.{LaterThan, reached_later}
 use Rattle.saphyr_scanner.proofs.LineTexts.{name_no_break, tag_no_break, tail_no_break}
-use Rattle.saphyr_scanner.proofs.Reached.{reached_reached, reached_counted, along_reached, apart_reached, passed_reached, piece_reached, Uncut, uncut_ink, uncut_behind}
+use Rattle.saphyr_scanner.proofs.Reached.{reached_reached, reached_counted, along_reached, apart_reached, passed_reached, piece_reached, Uncut, uncut_no_break, uncut_behind}
 use Rattle.saphyr_input.proofs.Basics.Booleans.{or_false_right}
 
 abbrev pub Reaches : Cursor → Cursor → Type 0
@@ -46,13 +46,7 @@ pub at_reached : (s : Cursor) (m : Marker) (u : List ℕ) → IsReached s.mark s
 at_reached s m u a = (record { rest = u; mark = m; blank_so_far = true }, a, inl refl)
 
 pub place_of : (text : List ℕ) (m : Marker) → At (start_cursor text) m → IsPlaceOf text m
-place_of text m a = (a.0, a.1, a.2, by a.2)
-  where
-    by : IsPlaceOrEnd a.0 m → m.index ≤ length text
-    by (inl e) = let h = reached_counted (start_cursor text).mark text a.0.mark a.0.rest a.1 in let i =
-        ap (λ (x : Marker). x.index) e in omega (arith, h, i)
-    by (inr e) = let h = reached_counted (start_cursor text).mark text a.0.mark a.0.rest a.1 in let i =
-        ap (λ (x : Marker). x.index) e.1 in omega (arith, h, i)
+place_of text m a = grind (arith, reached_counted)
 
 pub here_at : (s : Cursor) (m : Marker) → m ≡ s.mark → At s m
 here_at s m e = (s, taken.nothing s.mark s.rest, inl e)
@@ -68,13 +62,7 @@ character_reached c s t e h = rw h.1 (rw h.0 (along_reached s.mark (c ∷ []) t.
 -- a plain scalar's span ends before the blanks and breaks after it
 plain_ends : (f : Bool) (s t : Cursor) (text : List ℕ) (end : Marker) (r : IsPlainReading f s text end t)
     → IsReached s.mark s.rest end (r.white ++ t.rest)
-plain_ends f s t text end r =
-    let w = r.white ++ t.rest in
-    let ink : is_break r.last ≡ false = or_false_right (is_blank r.last) (is_break r.last) r.is_ink in
-    let P : List ℕ → Type 0 = λ p. IsReached s.mark (p ++ w) (end_of_text s.mark p) w in
-    let a : IsReached s.mark (r.piece ++ w) (end_of_text s.mark r.piece) w =
-    subst P (sym r.closes) (piece_reached s.mark (r.front ++ r.last ∷ []) w (uncut_ink r.front r.last w ink)) in
-    let b : IsReached s.mark (r.piece ++ w) end w = rw r.ends at a in rw r.is b
+plain_ends f s t text end r = grind (arith, or_false_right, piece_reached, uncut_no_break)
 
 plain_reached : (f : Bool) (s t : Cursor) (text : List ℕ) (end : Marker) (r : IsPlainReading f s text end t)
     → ((r.white ≡ []) ⊎ IsFalse (is_break (slice_index t.rest 0))) → Reaches s t
@@ -128,13 +116,7 @@ mark span s t h =
 
 character : {i : Surroundings} {kind : Kind} (c : ℕ) (span : Span) (s t : Cursor) → is_break c ≡ false
     → TakesCharacter c s t → At s span.start → At s span.end → Takes i kind span s t
-character c span s t e h start end =
-    let k = ap (λ (m : Marker). m.index) h.1 in record {
-      reaches = character_reached c s t e h;
-      start = start;
-      end = end;
-      goes_on = inl (omega (arith, k));
-    }
+character c span s t e h start end = grind (arith, character_reached)
 
 indicator : {i : Surroundings} {kind : Kind} (c : ℕ) (span : Span) (s t : Cursor) → is_break c ≡ false
     → IsFlowIndicator c span s t → Takes i kind span s t

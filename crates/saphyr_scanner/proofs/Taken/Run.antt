@@ -22,13 +22,14 @@ use Rattle.saphyr_scanner.proofs.Taken.Later.{LaterThan, later_here, later_later
 use Rattle.saphyr_scanner.proofs.Taken.Parts.{open_append, tokens_append, tokens_part}
 use Rattle.saphyr_scanner.proofs.Taken.Held.{Setting, setting_behind}
 use Rattle.saphyr_scanner.proofs.Taken.Keys.{Key, KeyOf, lower, KeysFrom, keys_weaken}
-use Rattle.saphyr_scanner.proofs.Taken.InPlace.{all_behind, behind_append, each_append, each_parts, calm, IsPast}
+use Rattle.saphyr_scanner.proofs.Taken.InPlace.{all_behind, behind_append, each_append, each_parts}
+use Rattle.saphyr_scanner.proofs.Taken.KeysInPlace.{calm, IsPast}
 use Rattle.saphyr_scanner.specs.TokensInPlace.{Enclosures, may_stand, is_indented, not_enclosed, AreInPlace, AreIndented}
 use Rattle.saphyr_scanner.proofs.Taken.Indented.{root_key, indented_handed}
 use Rattle.saphyr_scanner.proofs.Taken.Fetch.{Read, Ready, settled_ready, read_ready}
 use Rattle.saphyr_scanner.proofs.Taken.Places.{Reaches, reaches_reaches, place_of, tokens_reached, tokens_later}
-use Rattle.saphyr_scanner.proofs.Told.Documents.{NotedState}
-use Rattle.saphyr_scanner.proofs.Told.Reads.{told_ok, told_err, settled_told, read_told}
+use Rattle.saphyr_scanner.proofs.Refusing.Documents.{NotedState}
+use Rattle.saphyr_scanner.proofs.Refusing.Reads.{holds_ok, holds_err, settled_holds, read_holds}
 use Rattle.saphyr_input.proofs.Basics.Booleans.{by_test}
 use Rattle.saphyr_scalar.proofs.Given.{given_of}
 use Rattle.std.proofs.lemmas.Bool.{or_parts, eq-eqb}
@@ -170,17 +171,7 @@ place_follows : (text : List ℕ) (opened : Setting) (from between : Cursor) (o 
     → AreIndented opened.enclosures (place_pieces o t)
     → FollowsTaken text (setting_behind (place_pieces o t) opened) between r
     → FollowsTaken text opened from (before_place o t r)
-place_follows text opened from between o t r h i j k =
-    by o (tokens_append opened.collections (place_pieces o t) r.pieces from between k.0 h k.1)
-    (each_append may_stand (place_pieces o t) r.pieces opened.enclosures i k.2)
-    (each_append is_indented (place_pieces o t) r.pieces opened.enclosures j k.3)
-  where
-    by : (w : Opening) → AreTokens opened.collections (place_pieces w t ++ r.pieces) from k.0
-        → AreInPlace opened.enclosures (place_pieces w t ++ r.pieces)
-        → AreIndented opened.enclosures (place_pieces w t ++ r.pieces)
-        → FollowsTaken text opened from (before_place w t r)
-    by opening.Nothing x y z = (k.0, x, y, z, k.4, k.5)
-    by _ x y z = (k.0, x, y, z, k.4, k.5)
+place_follows text opened from between o t r h i j k = grind arith
 
 handed_follow : (text : List ℕ) (go : State → Remaining) (c : Core)
     → ((opened : Setting) (from : Cursor) (n : ℕ) (ps : List Place) → From text from → (c.ended ≡ true → ps ≡ [])
@@ -219,13 +210,13 @@ run_follows laws text small limit (suc fuel) opened from s l f h m = handed_foll
     by_test t.core.ended _ _ (FollowsTaken text cs u)
     (λ e. let P : List Place → Type 0 = λ qs. AreTokens cs.collections (flat qs) u u in
     (u, refl, tt, tt, (λ _. w.over e u (subst P (sym (over e)) refl)), (λ f i. absurd (cc))))
-    (λ e. let told = read_told laws.texts laws.refusals text small limit cs u t k.0 k.1 e w m in
+    (λ e. let known = read_holds laws.texts laws.refusals text small limit cs u t k.0 k.1 e w m in
     delivers_taken text cs u r (run fuel limit)
     (λ v q. let less = (given_of (Fetched t) r v (read_fetched limit t e) q).smaller laws.readers in
     run_follows laws text small limit fuel cs u v k (omega (arith, less, f))
     (given_of (Ready cs u) r v (read_ready laws.texts text small limit cs u t k.0 e w) q)
-    (told_ok NotedState (start_cursor text) r v told q))
-    (λ g q. place_of text g.mark (told_err NotedState (start_cursor text) r g told q))))
+    (holds_ok NotedState (start_cursor text) r v known q))
+    (λ g q. place_of text g.mark (holds_err NotedState (start_cursor text) r g known q))))
     opened from s.queue.handed s.queue.places l h
 
 -- where a text begins
@@ -262,14 +253,14 @@ unfolding remaining
 scan_follows laws limit text small =
     let s : State = start text in
     let here : Reaches (start_cursor text) (start_cursor text) = taken.nothing _ _ in
-    let told = settled_told text s here (inl refl) in
+    let known = settled_holds text s here (inl refl) in
     delivers_taken text outset (start_cursor text) (without_far_key s) (λ t. run (suc (size t.core)) limit t)
     (λ t e. run_follows laws text small limit (suc (size t.core)) outset (start_cursor text) t
     (later_here (start_cursor text).mark text, here) (omega arith)
     (given_of (Ready outset (start_cursor text)) (without_far_key s) t
     (settled_ready outset (start_cursor text) s (start_read text)) e)
-    (told_ok NotedState (start_cursor text) (without_far_key s) t told e))
-    (λ g q. place_of text g.mark (told_err NotedState (start_cursor text) (without_far_key s) g told q))
+    (holds_ok NotedState (start_cursor text) (without_far_key s) t known e))
+    (λ g q. place_of text g.mark (holds_err NotedState (start_cursor text) (without_far_key s) g known q))
 
 pub scan_taken : AllLaws → (limit : ℕ) (text : List ℕ) → length text < 2 ^ 63 → AreTakenFrom text (scan limit text)
 scan_taken laws limit text small =

@@ -46,14 +46,7 @@ record Comment (m : Marker) (t : List ℕ) (n : Marker) (u : List ℕ) : Type 0 
 
 comment_here : (m : Marker) (t : List ℕ) (n : Marker) (u : List ℕ) → IsFalse (is_yaml_non_break (slice_index t 0))
     → IsPassedOver m t n u → Comment m t n u
-comment_here m t n u e p = record {
-  words = [];
-  behind = t;
-  is = refl;
-  are = tt;
-  ends = e;
-  goes_on = rw (along_none m) p;
-}
+comment_here m t n u e p = grind arith
 
 comment_more : (m : Marker) (c : ℕ) (t : List ℕ) (n : Marker) (u : List ℕ) → IsTrue (is_yaml_non_break c)
     → Comment (along m 1) t n u → Comment m (c ∷ t) n u
@@ -180,11 +173,11 @@ unfolding stop
 stop_begins m blank broke tabbed t h = by_test (tabbed && is_bom (slice_index t 0)) _ _ (Given BeginsText) (λ _. tt)
     (λ _. by_test (tabbed && not (is_z (slice_index t 0))) _ _ (Given BeginsText) (λ _. tt) (λ _. h))
 
-ink_begins : (c : ℕ) → is_blank c ≡ false → is_break c ≡ false → (c == number_sign) ≡ false → begins_text c ≡ true
-ink_begins c b k s = rw (b, k, s) refl
+content_begins : (c : ℕ) → is_blank c ≡ false → is_break c ≡ false → (c == number_sign) ≡ false → begins_text c ≡ true
+content_begins c b k s = rw (b, k, s) refl
 
 unprintable_begins : (c : ℕ) → is_yaml_non_break c ≡ false → is_break c ≡ false → begins_text c ≡ true
-unprintable_begins c n k = ink_begins c (break_is_no_blank c n) k (break_is_no_sign c n)
+unprintable_begins c n k = content_begins c (break_is_no_blank c n) k (break_is_no_sign c n)
 
 -- between tokens, and in a comment
 record Beginnings (l : ℕ) (t : List ℕ) (m : Marker) (blank broke tabbed : Bool) : Type 0 where
@@ -205,7 +198,7 @@ all_begin l (c ∷ cs) m blank broke tabbed =
           (λ e. by_test (is_break c) _ _ P (λ _. (all_begin l cs (next_line m 1) true true false).between)
           (λ k. by_test (c == 35) _ _ P (λ _. (all_begin l cs (along m 1) blank broke tabbed).inside)
           (λ s. stop_begins m blank broke tabbed (c ∷ cs)
-          (ink_begins c (or_false_left (is_blank c) ((c == 13) && (slice_index cs 0 == 10)) e) k s))));
+          (content_begins c (or_false_left (is_blank c) ((c == 13) && (slice_index cs 0 == 10)) e) k s))));
       inside = by_test (is_yaml_non_break c) _ _ P (λ _. (all_begin l cs (along m 1) blank broke tabbed).inside)
           (λ n. by_test ((c == 13) && (slice_index cs 0 == 10)) _ _ P
           (λ _. (all_begin l cs (along m 1) blank broke tabbed).between)
@@ -228,9 +221,7 @@ Breaks m broke p = m.line ≤ top → (m.line ≤ p.cursor.mark.line) × (p.curs
 stop_breaks : (m : Marker) (blank broke tabbed : Bool) (t : List ℕ)
     → Given (Breaks m broke) (stop m blank broke tabbed t)
 unfolding stop
-stop_breaks m blank broke tabbed t = by_test (tabbed && is_bom (slice_index t 0)) _ _ (Given (Breaks m broke)) (λ _. tt)
-    (λ _. by_test (tabbed && not (is_z (slice_index t 0))) _ _ (Given (Breaks m broke)) (λ _. tt)
-    (λ _ l. (omega arith, l, (λ e s. inl e), (λ e. e), λ _. refl)))
+stop_breaks m blank broke tabbed t = grind arith
 
 -- between tokens, and in a comment
 record Breaking (l : ℕ) (t : List ℕ) (m : Marker) (blank broke tabbed : Bool) : Type 0 where

@@ -27,9 +27,10 @@ use Rattle.saphyr_scanner.proofs.Taken.Parts.{tokens_part}
 use Rattle.saphyr_scanner.proofs.Taken.Held.{Stack, stands_same, enclosures_of, Setting, Taken, taken_within, taken_further, unbound_parted, taken_put}
 use Rattle.saphyr_scanner.proofs.Taken.Indented.{BeginsNoNode, IsRight, IsPastLine, root_key, KeepsRequired, no_node_fits, indented_put}
 use Rattle.saphyr_scanner.proofs.Taken.Keys.{Key, Keys, IsArrival}
-use Rattle.saphyr_scanner.proofs.Taken.Cores.{HoldsTaken, IsSaved, Saved, saved_indented, saved_enclosures, no_keys, outermost}
-use Rattle.saphyr_scanner.proofs.Taken.Cores.{apart_same}
-use Rattle.saphyr_scanner.proofs.Taken.Cores.{key_known}
+use Rattle.saphyr_scanner.proofs.Taken.Cores.{HoldsTaken, no_keys, outermost}
+use Rattle.saphyr_scanner.proofs.Taken.SavedKeys.{IsSaved, Saved, saved_indented, saved_enclosures}
+use Rattle.saphyr_scanner.proofs.Taken.SavedKeys.{apart_same}
+use Rattle.saphyr_scanner.proofs.Taken.SavedKeys.{key_known}
 use Rattle.saphyr_scanner.proofs.Effects.Readers.{TextLaws}
 use Rattle.saphyr_input.proofs.Basics.Booleans.{by_test}
 use Rattle.std.proofs.lemmas.Bool.{lt-ltb, ltb-true}
@@ -50,9 +51,7 @@ pub record CandidateStands (k : Candidate) (c : Core) : Type 0 where
 
 pub taken_later : (opened : Setting) (from : Cursor) (c : Core) (q : Queue) → Taken opened from c q
     → LaterThan from c.cursor
-taken_later opened from c q h = later_later from.mark from.rest h.last.mark h.last.rest c.cursor.mark c.cursor.rest
-    (tokens_later opened.collections (flat q.places) from h.last h.tokens)
-    (apart_later h.last.mark h.last.rest c.cursor.mark c.cursor.rest h.apart)
+taken_later opened from c q h = grind (arith, later_later, tokens_later, flat, apart_later)
 
 pub key_stands : (opened : Setting) (from : Cursor) (c : Core) (q : Queue) (b : ℕ) (block : Bool) (i : ℕ)
     (k : Candidate) → from.mark.line ≤ top → Taken opened from c q → Key opened.enclosures 0 b q block i k
@@ -206,10 +205,7 @@ outer_indent_stays is c = grind arith
 
 outer_indent_stack : (is columns : List ℕ) (c : Core) → Stack columns c.indent is
     → Stack (without_innermost columns) (with_outer_indent is c).indent (with_outer_indent is c).outer_indents
-outer_indent_stack [] [] c h = (refl, refl)
-outer_indent_stack [] (column ∷ columns) c h = absurd h
-outer_indent_stack (j ∷ is) [] c h = absurd (let e = h.1 in cc)
-outer_indent_stack (j ∷ is) (column ∷ columns) c h = h.1
+outer_indent_stack u0 u1 c h = grind arith
 
 -- what encloses the tokens after an end
 ended_enclosures : (column : Option ℕ) (m : Marker) (s : State) → is_right_of column s.core.indent ≡ true
@@ -233,16 +229,10 @@ blocks_end_same column m s t e p = let P : Cursor → Type 0 = λ u. BlocksEnd c
 
 block_end : (column : Option ℕ) (m : Marker) (i : ℕ) (s : Cursor) → is_right_of column i ≡ true
     → BlocksEnd column m s → IsBlockEnd i (record { start = m; end = m }) s s
-block_end None m i s e (p, b, w) = ((refl, p, refl), b, inr (ltb-true 0 i e, w))
-block_end (Some column) m i s e (p, b, w) =
-    let l = ltb-true column (i - 1) e in ((refl, p, refl), b, inl (omega (arith, l, w)))
+block_end u0 m i s e u1 = grind arith
 
 levels_kept : (c d : Core) → Levels c d → KeepsRequired c d
-levels_kept c d l = record {
-  required = l.required;
-  root = λ _. ap (λ m. root_key (m ∷ d.outer)) l.level ∙ ap (λ ls. root_key (c.level ∷ ls)) l.outer;
-  block = ap (λ (m : Level). is_block m.context) l.level;
-}
+levels_kept c d l = grind arith
 
 outer_indent_past : (n : ℕ) (is : List ℕ) (c : Core) → IsPastLine n c → IsPastLine n (with_outer_indent is c)
 outer_indent_past n [] c h = h
@@ -251,21 +241,7 @@ outer_indent_past n (i ∷ is) c h = h
 -- where a block collection ends the text doesn't go on right of its column
 block_ends_right : (column : Option ℕ) (m : Marker) (is : List ℕ) (c : Core) → is_right_of column c.indent ≡ true
     → BlocksEnd column m c.cursor → IsRight c → IsRight (with_outer_indent is c)
-block_ends_right column m is c e (_, _, ends) h = by is
-  where
-    left : (o : Option ℕ) → is_right_of o c.indent ≡ true → EndsBlocks o c.cursor → c.indent ≤ c.cursor.mark.col
-        → BeginsNoNode c.cursor.rest
-    left None e (inl w) i = inl (ap (λ l. is_z (slice_index l 0)) w)
-    left None e (inr w) i = absurd (let l = ltb-true 0 c.indent e in let col = w.0 in omega (arith, l, col, i))
-    left (Some column) e w i = absurd (let l = ltb-true column (c.indent - 1) e in omega (arith, l, w, i))
-
-    right : (c.indent ≤ c.cursor.mark.col) ⊎ BeginsNoNode c.cursor.rest → BeginsNoNode c.cursor.rest
-    right (inl i) = left column e ends i
-    right (inr w) = w
-
-    by : (is : List ℕ) → IsRight (with_outer_indent is c)
-    by [] = λ b a l. inr (right (h b a l))
-    by (i ∷ is) = λ b a l. inr (right (h b a l))
+block_ends_right column m is c e u0 h = grind arith
 
 block_taken : (opened : Setting) (from : Cursor) (column : Option ℕ) (m : Marker) (s : State)
     → is_right_of column s.core.indent ≡ true → BlocksEnd column m s.core.cursor → TakenState opened from s
@@ -334,9 +310,4 @@ blocks_levels column m (i ∷ is) s = by_test (is_right_of column s.core.indent)
 pub unrolled_required : (column : Option ℕ) (m : Marker) (s : State)
     → (unroll column m s).core.required ≡ s.core.required
 unfolding unroll
-unrolled_required column m s = by_test (in_block s.core) _ _ (λ (t : State). t.core.required ≡ s.core.required)
-    (λ _. (blocks_levels column m s.core.outer_indents (with_core (go_less_deep column s.core) s)).required
-    ∙ less_required column s.core) (λ _. refl)
-  where
-    less_required : (column : Option ℕ) (c : Core) → (go_less_deep column c).required ≡ c.required
-    less_required column c = grind arith
+unrolled_required column m s = grind (arith, blocks_levels)

@@ -1,5 +1,5 @@
 -- The next token of a text.
-use Rattle.std.specs.Prelude.{ℕ, zero, suc, ◌+◌, Bool, true, false, ◌||◌, ◌&&◌, ◌==◌, not, nat_lt, nat_le, List, [], ◌∷◌, length, slice_index, Option, Some, Result, Ok, if◌then◌else◌}
+use Rattle.std.specs.Prelude.{ℕ, zero, suc, ◌+◌, Bool, true, false, ◌||◌, ◌&&◌, ◌==◌, not, nat_lt, nat_le, List, [], ◌∷◌, length, slice_index, Option, Some, None, Result, Ok, if◌then◌else◌}
 use Rattle.saphyr_input.specs.Classes.{is_z, is_bom, is_flow, is_blank_or_breakz}
 use Rattle.saphyr_input.specs.Places.{is_document_start, is_document_end}
 use Rattle.saphyr_input.specs.Indicators.{ampersand, apostrophe, asterisk, at_sign, colon, comma, exclamation_mark, grave_accent, greater_than, hyphen, left_brace, left_bracket, percent_sign, question_mark, quotation_mark, right_brace, right_bracket, vertical_bar}
@@ -12,7 +12,7 @@ use Rattle.saphyr_scanner.specs.Views.Tokens.{Piece}
 use Rattle.saphyr_scanner.specs.Steps.Queue as queue
 use Rattle.saphyr_scanner.specs.Steps.Queue.{next}
 use Rattle.saphyr_scanner.specs.Steps.Core.{Core, StepResult, at_mark, in_block, is_too_far, least_column, drop_far_key}
-use Rattle.saphyr_scanner.specs.Steps.Level.{Level, holds}
+use Rattle.saphyr_scanner.specs.Steps.Level.{Candidate, Level, holds}
 use Rattle.saphyr_scanner.specs.Steps.Passing.{pass_gap}
 use Rattle.saphyr_scanner.specs.Steps.State.{State, with_core, with_action, on_core, after_step}
 use Rattle.saphyr_scanner.specs.Steps.Unrolling.{unroll}
@@ -23,6 +23,7 @@ use Rattle.saphyr_scanner.specs.Steps.Value as value
 use Rattle.saphyr_scanner.specs.Steps.Scalar as scalar
 use Rattle.saphyr_scanner.specs.Steps.Property as property
 use Rattle.saphyr_scalar.specs.declared.values.BlockStyle.TheVariants as block_style
+use Rattle.saphyr_scalar.specs.declared.values.Quote.TheVariants.{Single, Double}
 
 -- ## What begins here
 
@@ -49,8 +50,8 @@ step first second n c =
     else if (first == question_mark) && is_blank_or_breakz second then block.key_steps c
     else if (first == colon) && is_blank_or_breakz second then value.value_steps c
     else if (first == colon) && is_value_adjacent second c then flow_value_steps second c
-    else if first == quotation_mark then scalar.double_quoted_steps n c
-    else if first == apostrophe then scalar.single_quoted_steps n c
+    else if first == quotation_mark then scalar.quoted_steps Double n c
+    else if first == apostrophe then scalar.quoted_steps Single n c
     else if first == asterisk then property.alias_steps n c
     else if first == ampersand then property.anchor_steps n c
     else if first == exclamation_mark then property.tag_steps n c
@@ -104,6 +105,18 @@ any_holds place (l ∷ ls) = holds place l || any_holds place ls
 -- the first token of the queue may yet turn out to be a key
 abbrev pub is_held : State → Bool
 is_held s = holds s.queue.handed s.core.level || any_holds s.queue.handed s.core.outer
+
+abbrev pub has_key : Option Candidate → Bool
+has_key None = false
+has_key (Some k) = true
+
+-- nothing that is open has a candidate
+abbrev pub has_no_candidate : Core → Bool
+has_no_candidate c = not (has_key c.level.key) && (length c.outer == 0)
+
+-- the stream's start comes next, and no token that may be a key is there
+abbrev pub is_at_start : Core → Bool
+is_at_start c = not c.started && has_no_candidate c
 
 -- the next token has to be read
 abbrev pub needs_token : State → Bool

@@ -56,9 +56,6 @@ abbrev pub take_first : List Place → Queue → Option Piece × Queue
 take_first [] q = (None, q)
 take_first (p ∷ ps) q = (Some p.piece, record { places = ps; handed = q.handed + 1 })
 
-abbrev pub take_place : Queue → Option Piece × Queue
-take_place q = take_first q.places q
-
 -- a token before the first place's own, and what is left there
 abbrev pub take_front : Kind → Opening → Place → List Place → Queue → Option Piece × Queue
 take_front kind left p ps q =

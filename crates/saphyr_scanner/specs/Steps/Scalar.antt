@@ -10,6 +10,8 @@ use Rattle.saphyr_scalar.specs.Views.Cursor.{Cursor, ◌>>=◌, refuse}
 use Rattle.saphyr_scalar.specs.Steps.Quoted as quoted
 use Rattle.saphyr_scalar.specs.Steps.Plain as words
 use Rattle.saphyr_scalar.specs.Steps.Block as blocks
+use Rattle.saphyr_scalar.specs.declared.values.Quote.{Quote}
+use Rattle.saphyr_scalar.specs.declared.values.Quote.TheVariants.{Single, Double}
 use Rattle.saphyr_scalar.specs.declared.values.BlockStyle.{BlockStyle}
 use Rattle.saphyr_scalar.specs.declared.values.BlockStyle.TheVariants as block_style
 use Rattle.saphyr_scanner.specs.Grammar.Tokens as tokens
@@ -43,21 +45,17 @@ behind_quoted_line start style text c =
 unfoldable pub behind_quotes : Marker → ScalarStyle → List ℕ → Core → StepResult
 behind_quotes start style text c = separate c >>= λ d. behind_quoted_line start style text d.1
 
-unfoldable pub read_double_quoted : Core → StepResult
-read_double_quoted c = quoted.double_quoted (least_column c) c.cursor >>= λ x. behind_quotes c.cursor.mark DoubleQuoted
-    x.0 (with_cursor x.1 c)
+abbrev pub quote_style : Quote → ScalarStyle
+quote_style Single = SingleQuoted
+quote_style Double = DoubleQuoted
 
--- a double quoted scalar
-unfoldable pub double_quoted_steps : ℕ → Core → StepResult
-double_quoted_steps n c = read_double_quoted (disallow_key (save_key n c))
+abbrev pub read_quoted : Quote → Core → StepResult
+read_quoted quote c = quoted.quoted quote (least_column c) c.cursor >>= λ x. behind_quotes c.cursor.mark
+    (quote_style quote) x.0 (with_cursor x.1 c)
 
-unfoldable pub read_single_quoted : Core → StepResult
-read_single_quoted c = quoted.single_quoted (least_column c) c.cursor >>= λ x. behind_quotes c.cursor.mark SingleQuoted
-    x.0 (with_cursor x.1 c)
-
--- a single quoted scalar
-unfoldable pub single_quoted_steps : ℕ → Core → StepResult
-single_quoted_steps n c = read_single_quoted (disallow_key (save_key n c))
+-- a quoted scalar
+unfoldable pub quoted_steps : Quote → ℕ → Core → StepResult
+quoted_steps quote n c = read_quoted quote (disallow_key (save_key n c))
 
 -- after a plain scalar: a key may begin where its line has ended, and a comment may have ended it
 abbrev pub behind_plain : Option Marker → Cursor → Core → Core

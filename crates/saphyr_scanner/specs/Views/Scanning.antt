@@ -1,40 +1,75 @@
 -- What contracts see of a scanner.
-use Rattle.std.specs.Prelude.{◌≡◌, ◌<◌, ◌+◌, ◌^◌, true, ℕ, List, Option, Some, Result, Ok, Err}
+use Rattle.std.specs.Prelude.{◌≡◌, ◌<◌, ◌+◌, ◌++◌, ◌^◌, Bool, true, false, not, ℕ, List, Option, Result, Ok, Err}
+use Rattle.saphyr_scalar.specs.Known.{is_seen, may_be_open}
+use Rattle.saphyr_scalar.specs.declared.scalar.fault.Refusal.{Refusal}
 use Rattle.saphyr_scalar.specs.declared.scalar.fault.Stop.{Stop}
 use Rattle.saphyr_scalar.specs.declared.scalar.fault.Stop.TheVariants as stop
+use Rattle.saphyr_scanner.specs.declared.growth.Growth.{Growth}
+use Rattle.saphyr_scanner.specs.declared.growth.Growth.TheVariants as growth
 use Rattle.saphyr_scanner.specs.declared.stopped.Stopped.{Stopped}
 use Rattle.saphyr_scanner.specs.declared.token.TokenKind.{TokenKind}
-use Rattle.saphyr_scanner.specs.declared.token.TokenParts.{TokenParts}
 use Rattle.saphyr_scanner.specs.Steps.Fetch.{is_ready}
 use Rattle.saphyr_scanner.specs.Steps.Remaining.{remaining}
-use Rattle.saphyr_scanner.specs.Steps.State.{State}
-use Rattle.saphyr_scanner.specs.Views.Tokens.{BeginsWith, Piece, Remaining, before, kind_with, parts, refusal_alone, text_of, token_kind}
+use Rattle.saphyr_scanner.specs.Steps.State.{State, with_rest}
+use Rattle.saphyr_scanner.specs.Views.Tokens.{BeginsWith, Remaining, refusal_alone}
 
--- what a scanner knows, the limit of its text, and what ended the reading once a call has stopped
+-- what a scanner knows, the limit of its text, whether more of the text may come, and what ended the reading once a
+-- call has stopped
 pub record Scanning : Type 0 where
   pub state : State
   pub limit : ℕ
+  pub growth : Growth
   pub stop : Stop
 
--- the tokens that are still to come
-abbrev pub tokens_of : Scanning → Remaining
-tokens_of s = remaining s.limit s.state
+-- more of the text may come
+abbrev pub is_growing : Growth → Bool
+is_growing growth.Growing = true
+is_growing growth.Whole = false
+is_growing growth.Starved = false
+
+-- what is left of a text, if these characters come behind what came
+abbrev pub text_in : Growth → List ℕ → List ℕ → List ℕ
+text_in growth.Growing more rest = rest ++ more
+text_in growth.Whole more rest = rest
+text_in growth.Starved more rest = rest
+
+-- the tokens that are still to come, if this is left of the text
+unfoldable pub tokens_over : List ℕ → Scanning → Remaining
+tokens_over rest s = remaining s.limit (with_rest rest s.state)
+
+-- the tokens that are still to come, if these characters come behind what came
+unfoldable pub tokens_in : List ℕ → Scanning → Remaining
+tokens_in more s = tokens_over (text_in s.growth more s.state.core.cursor.rest) s
 
 -- The first token was read and can be handed out, or there is none.
 abbrev pub IsReady : Scanning → Type 0
 IsReady s = (is_ready s.state ≡ true) × (s.state.queue.handed + 1 < 2 ^ 64)
 
 -- This ends the tokens, of which none is left. Where memory ran out, nothing is known of them.
-abbrev pub Ends : Stop → Remaining → Type 0
-Ends stop.OutOfMemory r = Unit {0}
-Ends (stop.Refused e) r = r ≡ refusal_alone e
+abbrev pub EndsTokens : Stop → Remaining → Type 0
+EndsTokens stop.OutOfMemory r = Unit {0}
+EndsTokens (stop.Refused e) r = r ≡ refusal_alone e
 
--- The first token is shown and stays, or the tokens are over.
-abbrev pub Peeks : Result (Option TokenKind) Stopped → Scanning → Scanning → Type 0
-Peeks (Ok kind) old new = BeginsWith kind (tokens_of old) × (tokens_of new ≡ tokens_of old) × IsReady new
-Peeks (Err e) old new = Ends new.stop (tokens_of old)
+-- what was read, before this rest, is so whatever comes behind what came
+abbrev pub is_decided : Result Unit Stopped → List ℕ → Stop → Bool
+is_decided (Ok u) rest end = not (may_be_open rest)
+is_decided (Err e) rest stop.OutOfMemory = true
+is_decided (Err e) rest (stop.Refused d) = is_seen d.text
 
--- The first token is taken off, which is of this kind, and its text is told, unless memory ran out.
-abbrev pub TakesText : Result (List ℕ) Stopped → Remaining → Scanning → Type 0
-TakesText (Ok text) r new = (t : Piece) (left : Remaining) → r ≡ before t left → text_of t.kind ≡ Some text
-TakesText (Err e) r new = new.stop ≡ stop.OutOfMemory
+-- Reading on, over what came, comes to a rest that may be open, or is refused by what was not seen.
+abbrev pub IsUndecided : Result State Refusal → Type 0
+IsUndecided (Ok s) = may_be_open s.core.cursor.rest ≡ true
+IsUndecided (Err e) = is_seen e.text ≡ false
+
+-- The first token can be handed out, or there is none. The tokens are the same, whatever comes behind what came.
+abbrev pub Readies : Result Unit Stopped → Scanning → Scanning → Type 0
+Readies (Ok u) old new =
+    ((more : List ℕ) → tokens_in more new ≡ tokens_in more old) × (is_ready new.state ≡ true)
+Readies (Err e) old new = (more : List ℕ) → EndsTokens new.stop (tokens_in more old)
+
+-- The first token is shown and stays, or the tokens are over, whatever comes behind what came.
+abbrev pub PeeksToken : Result (Option TokenKind) Stopped → Scanning → Scanning → Type 0
+PeeksToken (Ok kind) old new =
+    ((more : List ℕ) → BeginsWith kind (tokens_in more old) × (tokens_in more new ≡ tokens_in more old))
+    × IsReady new
+PeeksToken (Err e) old new = (more : List ℕ) → EndsTokens new.stop (tokens_in more old)

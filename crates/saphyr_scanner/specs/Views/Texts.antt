@@ -27,9 +27,17 @@ added old new = drop (length old.bytes) new.bytes
 abbrev pub IsTextOf : ℕ → List ℕ → Type 0
 IsTextOf n text = (n ≡ length text) × ∥ IsUtf8 text ∥₁
 
+-- It is two texts, one behind the other, of so many bytes each.
+abbrev pub AreTextsOf : ℕ → ℕ → List ℕ → Type 0
+AreTextsOf n m both = IsTextOf n (take n both) × IsTextOf m (drop n both)
+
 -- The first so many bytes are a text.
 abbrev pub BeginsWithText : ℕ → Texts → Type 0
 BeginsWithText n s = (n ≤ length s.bytes) × ∥ IsUtf8 (take n s.bytes) ∥₁
+
+-- So do those behind them.
+abbrev pub BeginsWithTexts : ℕ → ℕ → Texts → Type 0
+BeginsWithTexts n m s = BeginsWithText n s × BeginsWithText m (behind_text n s)
 
 -- the first of them, or one at the start of a text
 abbrev pub first_extent : List Extent → Extent
@@ -51,5 +59,4 @@ behind_extent s =
 -- The texts of the first extent's token are there.
 abbrev pub HasExtent : Texts → Type 0
 HasExtent s =
-    (1 ≤ length s.extents) × BeginsWithText (first_extent s.extents).handle s
-    × BeginsWithText (first_extent s.extents).text (behind_text (first_extent s.extents).handle s)
+    (1 ≤ length s.extents) × BeginsWithTexts (first_extent s.extents).handle (first_extent s.extents).text s

@@ -1,10 +1,9 @@
 -- What contracts see of tokens, and the tokens that a scanner still has to give.
-use Rattle.std.specs.Prelude.{◌≡◌, Bool, true, false, List, [], ◌∷◌, ◌++◌, ℕ, Option, Some, None, string_bytes}
+use Rattle.std.specs.Prelude.{◌≡◌, List, [], ◌∷◌, ℕ, Option, Some, None, string_bytes}
 use Rattle.saphyr_scalar.specs.declared.scalar.position.Span.{Span}
 use Rattle.saphyr_scalar.specs.declared.scalar.fault.Refusal.{Refusal}
 use Rattle.saphyr_scalar.specs.declared.scalar.style.ScalarStyle.{ScalarStyle}
 use Rattle.saphyr_scalar.specs.declared.scalar.style.ScalarStyle.TheVariants as style
-use Rattle.saphyr_scanner.specs.declared.token.Token.{Token}
 use Rattle.saphyr_scanner.specs.declared.token.TokenKind.{TokenKind}
 use Rattle.saphyr_scanner.specs.declared.token.TokenKind.TheVariants as code
 use Rattle.saphyr_scanner.specs.declared.token.TokenParts.{TokenParts}
@@ -18,14 +17,17 @@ pub record Parts : Type 0 where
   pub major : ℕ
   pub minor : ℕ
 
-abbrev pub text_alone : List ℕ → Parts
-text_alone text = record { handle = []; text = text; major = 0; minor = 0 }
+abbrev pub texts_alone : List ℕ → List ℕ → Parts
+texts_alone handle text = record { handle = handle; text = text; major = 0; minor = 0 }
+
+abbrev pub text_parts : List ℕ → Parts
+text_parts text = texts_alone [] text
 
 abbrev pub no_parts : Parts
-no_parts = text_alone []
+no_parts = text_parts []
 
-abbrev pub parts : TokenParts → Parts
-parts p = record { handle = string_bytes p.handle; text = string_bytes p.text; major = p.major; minor = p.minor }
+abbrev pub parts_view : TokenParts → Parts
+parts_view p = record { handle = string_bytes p.handle; text = string_bytes p.text; major = p.major; minor = p.minor }
 
 -- what a token of a kind is, with its parts
 abbrev pub kind_with : TokenKind → Parts → Kind
@@ -58,13 +60,13 @@ kind_with code.Literal x = tokens.Scalar style.Literal x.text
 kind_with code.Folded x = tokens.Scalar style.Folded x.text
 
 -- the style of a scalar of a kind
-abbrev pub style_of : TokenKind → Option ScalarStyle
-style_of code.Plain = Some style.Plain
-style_of code.SingleQuoted = Some style.SingleQuoted
-style_of code.DoubleQuoted = Some style.DoubleQuoted
-style_of code.Literal = Some style.Literal
-style_of code.Folded = Some style.Folded
-style_of _ = None
+abbrev pub style_of_kind : TokenKind → Option ScalarStyle
+style_of_kind code.Plain = Some style.Plain
+style_of_kind code.SingleQuoted = Some style.SingleQuoted
+style_of_kind code.DoubleQuoted = Some style.DoubleQuoted
+style_of_kind code.Literal = Some style.Literal
+style_of_kind code.Folded = Some style.Folded
+style_of_kind _ = None
 
 -- the kind of a token, without its parts
 abbrev pub token_kind : Kind → TokenKind
@@ -111,9 +113,6 @@ pub record Piece : Type 0 where
 abbrev pub piece_with : Span → TokenKind → Parts → Piece
 piece_with span kind x = record { span = span; kind = kind_with kind x }
 
-abbrev pub piece : Token → Piece
-piece t = piece_with t.span t.kind (parts t.parts)
-
 -- the tokens still to come, and the refusal after them, if one ends them
 pub record Remaining : Type 0 where
   pub pieces : List Piece
@@ -127,15 +126,6 @@ refusal_alone e = record { pieces = []; refusal = Some e }
 
 abbrev pub before : Piece → Remaining → Remaining
 before t r = record { pieces = t ∷ r.pieces; refusal = r.refusal }
-
--- one more token, before the refusal
-abbrev pub with_last : Piece → Remaining → Remaining
-with_last t r = record { pieces = r.pieces ++ t ∷ []; refusal = r.refusal }
-
--- The token is put after all that come, or, where the answer is `false`, it is dropped.
-abbrev pub GivesLast : Bool → Piece → Remaining → Remaining → Type 0
-GivesLast true t old new = new ≡ with_last t old
-GivesLast false t old new = new ≡ old
 
 -- A token of this kind comes first, or, without a kind, there is no token.
 abbrev pub BeginsWith : Option TokenKind → Remaining → Type 0

@@ -125,7 +125,7 @@ impl<T: Input> Engine<T> {
     fn reach_content(&mut self, c: char) -> bool
         requires first { c ≡ slice_index (state self.old).core.cursor.rest 0 }
         requires loaded { 2 ≤ loaded self.old.reader }
-        ensures told { IsTrue result → LeadsOn (Ok true) (fetched (state self.old)) self.new }
+        ensures decides { IsTrue result → LeadsOn (Ok true) (fetched (state self.old)) self.new }
         ensures same { result ≡ false → fetched (state self.new) ≡ fetched (state self.old) }
     {
         if !self.pass_spaces(c) {

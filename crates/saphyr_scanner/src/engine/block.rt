@@ -68,7 +68,8 @@ impl<T: Input> Engine<T> {
     fn passes_spaced_dash(&mut self) -> bool
         requires first { slice_index (state self.old).core.cursor.rest 0 ≡ hyphen }
         requires second { slice_index (state self.old).core.cursor.rest 1 ≡ space }
-        ensures told { result ≡ may_begin_entry (slice_index (state self.old).core.cursor.rest 2) }
+        ensures decides { result ≡ may_begin_entry
+            (slice_index (state self.old).core.cursor.rest 2) }
         ensures passed { IsTrue result → state self.new
             ≡ spec_state.with_core (passing.pass_on 2 (state self.old).core) (state self.old) }
         ensures same { result ≡ false → state self.new ≡ state self.old }
@@ -86,7 +87,7 @@ impl<T: Input> Engine<T> {
     fn passes_dash_and_space(&mut self, next: char) -> bool
         requires first { slice_index (state self.old).core.cursor.rest 0 ≡ hyphen }
         requires second { next ≡ slice_index (state self.old).core.cursor.rest 1 }
-        ensures told { result ≡ ((slice_index (state self.old).core.cursor.rest 1 == space)
+        ensures decides { result ≡ ((slice_index (state self.old).core.cursor.rest 1 == space)
             && may_begin_entry (slice_index (state self.old).core.cursor.rest 2)) }
         ensures passed { IsTrue result → state self.new
             ≡ spec_state.with_core (passing.pass_on 2 (state self.old).core) (state self.old) }

@@ -14,7 +14,7 @@ use crate::stopped::{Stopped, keep};
 use crate::token::TokenKind;
 use saphyr_input::char_traits::is_breakz;
 use saphyr_input::input::Input;
-use saphyr_scalar::{Directive, FaultText, Marker, Span};
+use saphyr_scalar::{Directive, FaultText, Marker, Span, TagParts};
 
 impl<T: Input> Engine<T> {
     ghost use Rattle.saphyr_scanner.specs.Views.Engine.{state, MovesBy, Performs};
@@ -114,11 +114,15 @@ impl<T: Input> Engine<T> {
             Directive::Version(major, minor) => {
                 self.put_parts(span, TokenKind::VersionDirective, "", "", major, minor)
             }
-            Directive::TagPrefix(handle, prefix) => {
-                self.put_parts(span, TokenKind::TagDirective, &handle, &prefix, 0, 0)
+            Directive::TagPrefix(handle, suffix) => {
+                self.put_parts(span, TokenKind::TagDirective, &handle, &suffix, 0, 0)?;
+                self.reader.spare.keep_tag(TagParts { handle, suffix });
+                Ok(())
             }
             Directive::Reserved(name) => {
-                self.put_parts(span, TokenKind::ReservedDirective, "", &name, 0, 0)
+                self.put_parts(span, TokenKind::ReservedDirective, "", &name, 0, 0)?;
+                self.reader.spare.keep(name);
+                Ok(())
             }
         }
     }

@@ -21,7 +21,7 @@ use crate::token::TokenKind;
 use saphyr_input::char_traits::{is_blank_or_breakz, is_bom, is_flow, is_z};
 use saphyr_input::input::Input;
 use saphyr_scalar::FaultText;
-use saphyr_scalar::values::BlockStyle;
+use saphyr_scalar::values::{BlockStyle, Quote};
 
 impl<T: Input> Engine<T> {
     ghost use Rattle.saphyr_scalar.specs.Views.Reader.{loaded};
@@ -146,7 +146,7 @@ impl<T: Input> Engine<T> {
             ',' => self.fetch_flow_entry(),
             '-' => self.fetch_dash(),
             ':' => self.fetch_colon(),
-            '"' => self.fetch_double_quoted(),
+            '"' => self.fetch_flow_scalar(Quote::Double),
             '?' | '\'' | '*' | '&' | '!' | '|' | '>' | '%' | '@' | '`' => {
                 let next = self.second();
                 self.fetch_rare(c, next)
@@ -171,9 +171,9 @@ impl<T: Input> Engine<T> {
     {
         match c {
             '?' if is_blank_or_breakz(next) => self.fetch_key(),
-            '\'' => self.fetch_single_quoted(),
-            '*' => self.fetch_alias(),
-            '&' => self.fetch_anchor(),
+            '\'' => self.fetch_flow_scalar(Quote::Single),
+            '*' => self.fetch_name(TokenKind::Alias),
+            '&' => self.fetch_name(TokenKind::Anchor),
             '!' => self.fetch_tag(),
             '|' if self.in_block() => self.fetch_block_scalar(BlockStyle::Literal),
             '>' if self.in_block() => self.fetch_block_scalar(BlockStyle::Folded),

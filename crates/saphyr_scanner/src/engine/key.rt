@@ -85,7 +85,7 @@ impl<T: Input> Engine<T> {
     // A candidate outside flow is dropped on the next line, and once its colon would be too far away.
     #[inline(always)]
     #[tactic(auto, unfolding(crate::specs::Steps::Core::drop_far_key))]
-    pub(super) fn drop_far_key(&mut self) -> Result<(), Stopped>
+    pub(crate) fn drop_far_key(&mut self) -> Result<(), Stopped>
         ensures { CarriesBy spec.drop_far_key self.old result self.new }
     {
         if !self.has_far_key() {

@@ -1,12 +1,11 @@
 //! Scalars of all styles, and what may follow a quoted one (YAML 1.2.2, 7.3 and 8.1).
 
 ghost use Rattle.std.specs.Prelude.{◌≡◌, List, ℕ, ◌<◌, IsTrue, true, length, slice_index};
-ghost use Rattle.saphyr_input.specs.Indicators.{apostrophe, quotation_mark};
 ghost use Rattle.saphyr_scanner.specs.Steps.Passing as passing;
 ghost use Rattle.saphyr_scanner.specs.Steps.Scalar as scalar;
 ghost use Rattle.saphyr_scanner.specs.Grammar.Tokens as tokens;
-ghost use Rattle.saphyr_scanner.specs.Views.Reads.{is_entry_end, quoted_step};
-ghost use Rattle.saphyr_scanner.specs.Views.Tokens.{kind_with, text_alone};
+ghost use Rattle.saphyr_scanner.specs.Views.Reads.{is_entry_end};
+ghost use Rattle.saphyr_scanner.specs.Views.Tokens.{kind_with, text_parts};
 ghost use Rattle.saphyr_scalar.specs.Values.Flow as flow;
 
 use crate::engine::Engine;
@@ -38,7 +37,7 @@ impl<T: Input> Engine<T> {
     #[inline(always)]
     fn read_quoted(&mut self, quote: Quote) -> Result<(), Stopped>
         requires { slice_index (state self.old).core.cursor.rest 0 ≡ flow.mark quote }
-        ensures { ActsBy (quoted_step quote) self.old result self.new }
+        ensures { ActsBy (scalar.read_quoted quote) self.old result self.new }
     {
         let in_block = self.in_block();
         let least = self.least_column();
@@ -52,29 +51,17 @@ impl<T: Input> Engine<T> {
         Ok(())
     }
 
-    // A double quoted scalar.
+    // A quoted scalar.
     #[inline(always)]
-    #[tactic(auto, unfolding(crate::specs::Steps::Scalar::double_quoted_steps, crate::specs::Steps::Scalar::read_double_quoted))]
-    pub(super) fn fetch_double_quoted(&mut self) -> Result<(), Stopped>
-        requires { slice_index (state self.old).core.cursor.rest 0 ≡ quotation_mark }
-        ensures { ActsBy (scalar.double_quoted_steps (next (state self.old).queue))
-            self.old result self.new }
+    #[tactic(auto, unfolding(crate::specs::Steps::Scalar::quoted_steps))]
+    pub(super) fn fetch_flow_scalar(&mut self, quote: Quote) -> Result<(), Stopped>
+        requires { slice_index (state self.old).core.cursor.rest 0 ≡ flow.mark quote }
+        ensures { ActsBy (scalar.quoted_steps quote (next (state self.old).queue)) self.old result
+            self.new }
     {
         self.save_key()?;
         self.key_allowed = false;
-        self.read_quoted(Quote::Double)
-    }
-
-    // A single quoted scalar.
-    #[tactic(auto, unfolding(crate::specs::Steps::Scalar::single_quoted_steps, crate::specs::Steps::Scalar::read_single_quoted))]
-    pub(super) fn fetch_single_quoted(&mut self) -> Result<(), Stopped>
-        requires { slice_index (state self.old).core.cursor.rest 0 ≡ apostrophe }
-        ensures { ActsBy (scalar.single_quoted_steps (next (state self.old).queue))
-            self.old result self.new }
-    {
-        self.save_key()?;
-        self.key_allowed = false;
-        self.read_quoted(Quote::Single)
+        self.read_quoted(quote)
     }
 
     // A plain scalar.
@@ -125,7 +112,7 @@ impl<T: Input> Engine<T> {
 
 // The kind of a block scalar.
 fn kind_of(style: BlockStyle) -> TokenKind
-    ensures { (text : List ℕ) → kind_with result (text_alone text)
+    ensures { (text : List ℕ) → kind_with result (text_parts text)
         ≡ tokens.Scalar (scalar.style_of style) text }
 {
     match style {

@@ -1,16 +1,20 @@
 //! A token of the queue, and what comes in front of it, in a small form, since the queue may hold all tokens of a text.
 
-ghost use Rattle.std.specs.Prelude.{◌≡◌, ◌++◌, ◌<◌, List, ℕ, IfOk, OnErr, OnOk, Some, length, slice_index, string_bytes};
+ghost use Rattle.std.specs.Prelude.{◌≡◌, ◌++◌, ◌-◌, ◌<◌, ◌≤◌, [], true, false, List, ℕ, IfOk, OnErr, OnOk, Some, length, slice_index, string_bytes};
+ghost use Rattle.saphyr_input.specs.Indicators.{exclamation_mark};
 ghost use Rattle.saphyr_scalar.specs.Values.Flow as flow;
 ghost use Rattle.saphyr_scalar.specs.Steps.Plain.{plain};
 ghost use Rattle.saphyr_scalar.specs.declared.scalar.style.ScalarStyle.TheVariants.{Plain};
 ghost use Rattle.saphyr_scalar.specs.Views.Reader.{GivesBy, cursor_of};
 ghost use Rattle.saphyr_scanner.specs.Grammar.Tokens as tokens;
+ghost use Rattle.saphyr_scanner.specs.declared.queue.Opening.TheVariants.{Nothing};
 ghost use Rattle.saphyr_scanner.specs.Views.Texts.{IsTextOf, with_last_extent, with_last_text};
 ghost use Rattle.saphyr_scanner.specs.Views.Places.{AddsBehind, HasTexts, extent_at, near_span, parts_at, place_at, texts_behind};
+ghost use Rattle.saphyr_scanner.specs.Views.Places as spec_place;
 ghost use Rattle.saphyr_scanner.specs.Views.Reads as spec;
-ghost use Rattle.saphyr_scanner.specs.Views.Reads.{PlacesScalar, quote_style, quoted_whole};
-ghost use Rattle.saphyr_scanner.specs.Views.Tokens.{kind_with, no_parts, parts, piece_with, text_alone, text_of};
+ghost use Rattle.saphyr_scanner.specs.Views.Reads.{PlacesToken, name_kind, name_whole, quote_kind, quoted_whole, tag_kind, tag_whole};
+ghost use Rattle.saphyr_scanner.specs.Steps.Scalar.{quote_style};
+ghost use Rattle.saphyr_scanner.specs.Views.Tokens.{kind_with, no_parts, parts_view, piece_with, text_parts, text_of, texts_alone};
 
 use crate::queue::Opening;
 use crate::queue::near::{NearMarker, near};
@@ -25,26 +29,46 @@ use std::alloc::{AllocError, Global};
 // In place of a count of bytes: the token's extent is apart.
 const APART: u8 = u8::MAX;
 
+// The handle of a token whose place has all but the texts has fewer bytes.
+const HANDLES: u8 = 64;
+
 /// A token, and what is handed out before it.
 ///
-/// Most tokens are on one line and have a short text or none. Their places have all but the text. Of others the place
+/// Most tokens are on one line and have short texts or none. Their places have all but the texts. Of others the place
 /// has the kind, and the extent is beside the texts.
 #[derive(Clone, Copy)]
 pub(super) struct Place {
-    pub(super) opening: Opening,
+    // What comes in front of the token, and how many bytes its handle has, fewer than `HANDLES`. The two share a byte,
+    // since there is no room for another.
+    front: u8,
     pub(super) kind: TokenKind,
-    // How many bytes the text has, or `APART`.
+    // How many bytes the handle and the text have together, or `APART`.
     count: u8,
     // How many characters the token has.
     length: u8,
     start: NearMarker,
 }
 
-// Whether an indicator that may follow a quoted scalar is here. Outside flow that is a colon on the scalar's first line.
+// Where the numbers begin that say what comes in front of a token.
+#[inline(always)]
+fn front_of(opening: Opening) -> u8
+    ensures value { result ≡ spec_place.opening_code opening }
+    ensures small { result ≤ 192 }
+{
+    match opening {
+        Opening::Nothing => 0,
+        Opening::Key => HANDLES,
+        Opening::BlockMappingAndKey => 2 * HANDLES,
+        Opening::FlowMappingAndKey => 3 * HANDLES,
+    }
+}
+
+// Whether an indicator that may follow a quoted scalar is here. Outside flow that is a colon on the scalar's first
+// line.
 #[inline(always)]
 fn is_at_end<T: Input>(reader: &Reader<T>, c: char, in_block: bool, line: usize) -> bool
     requires { c ≡ slice_index (cursor_of reader.now).rest 0 }
-    ensures { result ≡ spec.is_at_end in_block line (cursor_of reader.now) }
+    ensures { result ≡ spec.ends_at_indicator in_block line (cursor_of reader.now) }
 {
     match c {
         ':' => !in_block || reader.mark().line == line,
@@ -85,16 +109,19 @@ fn pass_behind_quotes<T: Input>(
 impl Place {
     ghost use Rattle.saphyr_scanner.specs.Views.Texts.{Texts as Seen};
 
-    // The place of a token on one line, whose text has so many bytes and comes behind the others.
+    // The place of a token on one line, whose handle has so many bytes, and both texts, which come behind the others.
     #[inline(always)]
-    fn here(kind: TokenKind, start: NearMarker, length: u8, count: u8) -> Place
-        requires { count < 255 }
-        ensures { (text : List ℕ) (s : Seen) → IsTextOf count text → AddsBehind
-            (piece_with (near_span start length) kind (text_alone text)) result
-            s (with_last_text text s) }
+    fn here(kind: TokenKind, start: NearMarker, length: u8, handle: u8, count: u8) -> Place
+        requires handle { handle < 64 }
+        requires most { handle ≤ count }
+        requires count { count < 255 }
+        ensures { (front text : List ℕ) (s : Seen) → IsTextOf handle front
+            → IsTextOf (count - handle) text → AddsBehind
+            (piece_with (near_span start length) kind (texts_alone front text)) result
+            s (with_last_text text (with_last_text front s)) }
     {
         Place {
-            opening: Opening::Nothing,
+            front: handle,
             kind,
             count,
             length,
@@ -103,6 +130,7 @@ impl Place {
     }
 
     // The place of a token whose extent is apart.
+    #[inline(always)]
     fn apart(kind: TokenKind) -> Place
         ensures { (e : Extent) (handle text : List ℕ) (s : Seen)
             → IsTextOf e.handle handle → IsTextOf e.text text → AddsBehind
@@ -110,7 +138,7 @@ impl Place {
             s (with_last_extent e (with_last_text text (with_last_text handle s))) }
     {
         Place {
-            opening: Opening::Nothing,
+            front: 0,
             kind,
             count: APART,
             length: 0,
@@ -119,7 +147,7 @@ impl Place {
     }
 
     /// The place of a token of this extent, whose texts were put behind the others.
-    #[inline(never)]
+    #[inline(always)]
     pub(super) fn of_extent(
         kind: TokenKind,
         extent: Extent,
@@ -162,7 +190,7 @@ impl Place {
         spare: &mut Spare,
     ) -> Result<Place, AllocError>
         ensures { IfOk result (λ p. AddsBehind
-            (piece_with span.now kind (text_alone (string_bytes text))) p texts.old texts.new) }
+            (piece_with span.now kind (text_parts (string_bytes text))) p texts.old texts.new) }
     {
         let count = text.len();
         texts.take_over(text, spare)?;
@@ -186,14 +214,9 @@ impl Place {
     {
         texts.push(handle)?;
         texts.push(text)?;
-        if extent.handle == 0 && extent.major == 0 && extent.minor == 0 {
-            return Place::of_text(
-                kind,
-                &extent.span.start,
-                &extent.span.end,
-                extent.text,
-                texts,
-            );
+        if extent.major == 0 && extent.minor == 0 {
+            let (start, end) = (&extent.span.start, &extent.span.end);
+            return Place::of_texts(kind, start, end, extent.handle, extent.text, texts);
         }
         Place::of_extent(kind, extent, texts)
     }
@@ -210,17 +233,40 @@ impl Place {
         ensures place { (text : List ℕ) (s : Seen)
             → texts.old ≡ with_last_text text s → IsTextOf count text
             → IfOk result (λ p. AddsBehind
-            (piece_with (record { start = start.now; end = end.now }) kind (text_alone text)) p
+            (piece_with (record { start = start.now; end = end.now }) kind (text_parts text)) p
             s texts.new) }
         ensures failed { OnErr result (texts.new ≡ texts.old) }
     {
-        if count < usize::from(APART)
+        Place::of_texts(kind, start, end, 0, count, texts)
+    }
+
+    /// The place of a token from one place to another, whose handle and text of so many bytes were put behind the
+    /// others.
+    #[inline(always)]
+    pub(super) fn of_texts(
+        kind: TokenKind,
+        start: &Marker,
+        end: &Marker,
+        handle: usize,
+        count: usize,
+        texts: &mut Texts,
+    ) -> Result<Place, AllocError>
+        ensures place { (front text : List ℕ) (s : Seen)
+            → texts.old ≡ with_last_text text (with_last_text front s)
+            → IsTextOf handle front → IsTextOf count text → IfOk result (λ p. AddsBehind
+            (piece_with (record { start = start.now; end = end.now }) kind (texts_alone front text))
+            p s texts.new) }
+        ensures failed { OnErr result (texts.new ≡ texts.old) }
+    {
+        if handle < usize::from(HANDLES)
+            && count < usize::from(APART) - handle
             && let Some((start, length)) = near(start, end)
         {
-            return Ok(Place::here(kind, start, length, count as u8));
+            let both = (handle + count) as u8;
+            return Ok(Place::here(kind, start, length, handle as u8, both));
         }
         let span = Span::new(*start, *end);
-        Place::of_extent(kind, Extent::of_text(span, count), texts)
+        Place::of_extent(kind, Extent::of_texts(span, handle, count), texts)
     }
 
     /// Reads a plain scalar, whose text is put behind the others. Returns the place of its token, and a comment that
@@ -233,7 +279,7 @@ impl Place {
         indent: usize,
         texts: &mut Texts,
     ) -> Result<(Place, Option<Marker>), Stop>
-        ensures { PlacesScalar Plain (cursor_of reader.old).mark texts.old texts.new
+        ensures { PlacesToken (tokens.Scalar Plain) (cursor_of reader.old).mark texts.old texts.new
             (cursor_of reader.new) result (plain in_flow indent (cursor_of reader.old)) }
     {
         let start = reader.mark();
@@ -255,7 +301,7 @@ impl Place {
         texts: &mut Texts,
     ) -> Result<(Place, bool), Stop>
         requires { slice_index (cursor_of reader.old).rest 0 ≡ flow.mark quote }
-        ensures { PlacesScalar (quote_style quote) (cursor_of reader.old).mark texts.old texts.new
+        ensures { PlacesToken (quote_kind quote) (cursor_of reader.old).mark texts.old texts.new
             (cursor_of reader.new) result
             (quoted_whole in_block quote indent (cursor_of reader.old)) }
     {
@@ -266,12 +312,90 @@ impl Place {
         Ok((place, is_at_end))
     }
 
-    /// The span of the token.
-    #[inline(always)]
-    pub(super) fn span(self, texts: &Texts) -> Span
-        ensures { result ≡ (place_at self texts.now).piece.span }
+    /// Reads the name of an anchor or an alias in the same way. Nothing else is told of it.
+    pub(super) fn read_name<T: Input>(
+        kind: TokenKind,
+        reader: &mut Reader<T>,
+        texts: &mut Texts,
+    ) -> Result<(Place, ()), Stop>
+        requires { 0 < length (cursor_of reader.old).rest }
+        ensures { PlacesToken (name_kind kind) (cursor_of reader.old).mark texts.old texts.new
+            (cursor_of reader.new) result (name_whole (cursor_of reader.old)) }
     {
-        self.extent(texts).span
+        let start = reader.mark();
+        let count = texts.read_name(reader)?;
+        let place = Place::of_text(kind, &start, &reader.mark(), count, texts)?;
+        Ok((place, ()))
+    }
+
+    /// Reads a tag in the same way.
+    pub(super) fn read_tag<T: Input>(
+        reader: &mut Reader<T>,
+        in_flow: bool,
+        texts: &mut Texts,
+    ) -> Result<(Place, ()), Stop>
+        requires { slice_index (cursor_of reader.old).rest 0 ≡ exclamation_mark }
+        ensures { PlacesToken tag_kind (cursor_of reader.old).mark texts.old texts.new
+            (cursor_of reader.new) result (tag_whole in_flow (cursor_of reader.old)) }
+    {
+        let start = reader.mark();
+        let (handle, suffix) = texts.read_tag(reader, in_flow)?;
+        let end = reader.mark();
+        let place = Place::of_texts(TokenKind::Tag, &start, &end, handle, suffix, texts)?;
+        Ok((place, ()))
+    }
+
+    /// Whether something comes in front of the token. For speed that is asked first: mostly nothing does.
+    #[inline(always)]
+    pub(super) fn is_opened(self) -> bool
+        ensures closed { result ≡ false → spec_place.coded_opening self.front ≡ Nothing }
+        ensures opened { result ≡ true → spec_place.coded_opening self.front ≡ Nothing → ⊥ }
+    {
+        self.front >= HANDLES
+    }
+
+    /// What comes in front of the token.
+    #[inline(always)]
+    pub(super) fn opening(self) -> Opening
+        ensures { result ≡ spec_place.coded_opening self.front }
+    {
+        if self.front < HANDLES {
+            Opening::Nothing
+        } else if self.front < 2 * HANDLES {
+            Opening::Key
+        } else if self.front < 3 * HANDLES {
+            Opening::BlockMappingAndKey
+        } else {
+            Opening::FlowMappingAndKey
+        }
+    }
+
+    // How many bytes the handle of the token has, if its extent is not apart.
+    #[inline(always)]
+    fn handle(self) -> usize
+        ensures { result ≡ spec_place.handle_length self.front }
+    {
+        usize::from(self.front % HANDLES)
+    }
+
+    /// Sets what comes in front of the token.
+    #[inline(always)]
+    pub(super) fn open(&mut self, opening: Opening)
+        ensures { self.new ≡ spec_place.with_opening_of opening self.old }
+    {
+        self.front = front_of(opening) + self.front % HANDLES;
+    }
+
+    /// The span of the token goes into the place of another.
+    #[inline(always)]
+    pub(super) fn span_into(self, texts: &Texts, span: &mut Span)
+        ensures { span.new ≡ (place_at self texts.now).piece.span }
+    {
+        if self.count == APART {
+            texts.first_span_into(span);
+            return;
+        }
+        *span = self.start.span(self.length);
     }
 
     /// The extent of the token.
@@ -282,7 +406,12 @@ impl Place {
         if self.count == APART {
             return texts.first_extent();
         }
-        Extent::of_text(self.start.span(self.length), usize::from(self.count))
+        let (handle, count) = (self.handle(), usize::from(self.count));
+        Extent::of_texts(
+            self.start.span(self.length),
+            handle,
+            count.saturating_sub(handle),
+        )
     }
 
     /// Takes off the texts of the token.
@@ -298,24 +427,28 @@ impl Place {
         texts.pass_text(usize::from(self.count));
     }
 
-    /// Takes the text of the token off, which has no other parts.
+    /// Takes the text of the token off, which has no other parts. It goes into an empty text.
     #[inline(always)]
-    pub(super) fn take_text(
+    pub(super) fn take_text_into(
         self,
-        alloc: Global,
         texts: &mut Texts,
-        spare: &mut Spare,
-    ) -> Result<String, AllocError>
-        requires { HasTexts self texts.old }
+        into: &mut String,
+    ) -> Result<(), AllocError>
+        requires there { HasTexts self texts.old }
+        requires empty { string_bytes into.old ≡ [] }
         ensures text { (text : List ℕ) → text_of (place_at self texts.old).piece.kind ≡ Some text
-            → IfOk result (λ taken. string_bytes taken ≡ text) }
+            → OnOk result (string_bytes into.new ≡ text) }
         ensures left { OnOk result (texts.new ≡ texts_behind self texts.old) }
         ensures failed { OnErr result (texts.new ≡ texts.old) }
     {
         if self.count == APART {
-            return texts.take_extent(alloc, spare);
+            return texts.take_extent_into(into);
         }
-        texts.take_text(usize::from(self.count), alloc, spare)
+        let (handle, count) = (self.handle(), usize::from(self.count));
+        if handle > 0 {
+            return texts.take_behind_into(handle, count - handle, into);
+        }
+        texts.take_text_into(0, count, into)
     }
 
     /// Takes all parts of the token off.
@@ -327,7 +460,7 @@ impl Place {
     ) -> Result<TokenParts, AllocError>
         requires { HasTexts self texts.old }
         ensures parts { IfOk result (λ x. (place_at self texts.old).piece.kind
-            ≡ kind_with self.kind (parts x)) }
+            ≡ kind_with self.kind (parts_view x)) }
         ensures left { OnOk result (texts.new ≡ texts_behind self texts.old) }
         ensures failed { OnErr result (texts.new ≡ texts.old) }
     {
@@ -351,7 +484,7 @@ impl Place {
 // The kind of a quoted scalar.
 #[inline(always)]
 fn kind_of(quote: Quote) -> TokenKind
-    ensures { (text : List ℕ) → kind_with result (text_alone text)
+    ensures { (text : List ℕ) → kind_with result (text_parts text)
         ≡ tokens.Scalar (quote_style quote) text }
 {
     match quote {

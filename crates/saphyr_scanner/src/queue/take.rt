@@ -4,7 +4,7 @@
 
 ghost use Rattle.std.specs.Prelude.{◌≡◌, ◌<◌, ◌+◌, ◌^◌, List, ℕ, IfOk, OnErr, OnOk, Some, string_bytes};
 ghost use Rattle.saphyr_scanner.specs.Views.Queue.{BeginsWithPlace, behind_first, first_of, kind_shown, queue};
-ghost use Rattle.saphyr_scanner.specs.Views.Tokens.{Piece, kind_with, parts, text_of, token_kind};
+ghost use Rattle.saphyr_scanner.specs.Views.Tokens.{Piece, kind_with, parts_view, text_of, token_kind};
 
 use crate::queue::place::Place;
 use crate::queue::{Opening, Queue};
@@ -27,7 +27,10 @@ impl Queue {
         ensures { result ≡ kind_shown (first_of (queue self.now)) }
     {
         let place = self.first_place()?;
-        Some(match place.opening {
+        if !place.is_opened() {
+            return Some(place.kind);
+        }
+        Some(match place.opening() {
             Opening::Nothing => place.kind,
             Opening::Key => TokenKind::Key,
             Opening::BlockMappingAndKey => TokenKind::BlockMappingStart,
@@ -35,18 +38,17 @@ impl Queue {
         })
     }
 
-    /// The span of the token that is handed out next.
+    /// The span of the token that is handed out next goes into the place of another.
     #[inline(always)]
-    pub(crate) fn span(&self) -> Span
-        ensures { (t : Piece) → first_of (queue self.now) ≡ Some t → result ≡ t.span }
+    pub(crate) fn span_into(&self, span: &mut Span)
+        ensures { (t : Piece) → first_of (queue self.now) ≡ Some t → span.new ≡ t.span }
     {
         let Some(place) = self.first_place() else {
-            return Span::empty(Marker::new(0, 0, 0));
+            return;
         };
-        let span = place.span(&self.texts);
-        match place.opening {
-            Opening::Nothing => span,
-            _ => Span::empty(span.start),
+        place.span_into(&self.texts, span);
+        if place.is_opened() {
+            span.end = span.start;
         }
     }
 
@@ -62,61 +64,61 @@ impl Queue {
         }
     }
 
-    /// Takes off the token that is handed out next, and returns its span.
+    /// Takes off the token that is handed out next. Its span goes into the place of another.
     #[inline(always)]
-    pub(crate) fn skip(&mut self) -> Span
+    pub(crate) fn skip_into(&mut self, span: &mut Span)
         requires { self.old.handed + 1 < 2 ^ 64 }
-        ensures span { (t : Piece) → first_of (queue self.old) ≡ Some t → result ≡ t.span }
+        ensures span { (t : Piece) → first_of (queue self.old) ≡ Some t → span.new ≡ t.span }
         ensures left { queue self.new ≡ behind_first (queue self.old) }
     {
         let Some(place) = self.places.get_mut(self.spent) else {
-            return Span::empty(Marker::new(0, 0, 0));
+            return;
         };
-        let span = place.span(&self.texts);
-        match place.opening {
-            Opening::Nothing => {
-                place.pass_texts(&mut self.texts);
-                self.spent += 1;
-                self.handed += 1;
-                self.clear_spent();
-                span
-            }
-            Opening::Key => {
-                place.opening = Opening::Nothing;
-                Span::empty(span.start)
-            }
-            Opening::BlockMappingAndKey | Opening::FlowMappingAndKey => {
-                place.opening = Opening::Key;
-                Span::empty(span.start)
-            }
+        // For speed a copy is read: the one in the queue might change where the span is written.
+        let first = *place;
+        first.span_into(&self.texts, span);
+        if !first.is_opened() {
+            first.pass_texts(&mut self.texts);
+            self.spent += 1;
+            self.handed += 1;
+            self.clear_spent();
+            return;
+        }
+        span.end = span.start;
+        match first.opening() {
+            Opening::Key => place.open(Opening::Nothing),
+            // Behind the start of a mapping comes its first key.
+            _ => place.open(Opening::Key),
         }
     }
 
-    /// Takes off the token that is handed out next, and returns its text.
+    /// Takes off the token that is handed out next. Its text goes into the place of another.
     #[inline(always)]
-    pub(crate) fn take_text(
+    pub(crate) fn take_text_into(
         &mut self,
         alloc: Global,
         spare: &mut Spare,
-    ) -> Result<String, AllocError>
+        into: &mut String,
+    ) -> Result<(), AllocError>
         requires { self.old.handed + 1 < 2 ^ 64 }
         ensures text { (t : Piece) (text : List ℕ) → first_of (queue self.old) ≡ Some t
-            → text_of t.kind ≡ Some text → IfOk result (λ taken. string_bytes taken ≡ text) }
+            → text_of t.kind ≡ Some text → OnOk result (string_bytes into.new ≡ text) }
         ensures left { OnOk result (queue self.new ≡ behind_first (queue self.old)) }
         ensures failed { OnErr result (queue self.new ≡ queue self.old) }
     {
+        spare.begin_again(into, alloc)?;
         let Some(place) = self.first_place() else {
-            return Ok(String::new(alloc));
+            return Ok(());
         };
-        let Opening::Nothing = place.opening else {
-            self.skip();
-            return Ok(String::new(alloc));
-        };
-        let text = place.take_text(alloc, &mut self.texts, spare)?;
+        if place.is_opened() {
+            self.skip_into(&mut Span::empty(Marker::new(0, 0, 0)));
+            return Ok(());
+        }
+        place.take_text_into(&mut self.texts, into)?;
         self.spent += 1;
         self.handed += 1;
         self.clear_spent();
-        Ok(text)
+        Ok(())
     }
 
     /// Takes off the token that is handed out next, and returns its parts.
@@ -127,17 +129,17 @@ impl Queue {
     ) -> Result<TokenParts, AllocError>
         requires { self.old.handed + 1 < 2 ^ 64 }
         ensures parts { (t : Piece) → first_of (queue self.old) ≡ Some t
-            → IfOk result (λ x. t.kind ≡ kind_with (token_kind t.kind) (parts x)) }
+            → IfOk result (λ x. t.kind ≡ kind_with (token_kind t.kind) (parts_view x)) }
         ensures left { OnOk result (queue self.new ≡ behind_first (queue self.old)) }
         ensures failed { OnErr result (queue self.new ≡ queue self.old) }
     {
         let Some(place) = self.first_place() else {
             return Ok(TokenParts::none(alloc));
         };
-        let Opening::Nothing = place.opening else {
-            self.skip();
+        if place.is_opened() {
+            self.skip_into(&mut Span::empty(Marker::new(0, 0, 0)));
             return Ok(TokenParts::none(alloc));
-        };
+        }
         let parts = place.take_parts(alloc, &mut self.texts, spare)?;
         self.spent += 1;
         self.handed += 1;

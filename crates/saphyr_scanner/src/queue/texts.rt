@@ -1,19 +1,23 @@
 //! The texts of the tokens in a queue, and the extents of those tokens that don't fit into their places.
 
-ghost use Rattle.std.specs.Prelude.{◌≡◌, ◌≤◌, ◌+◌, [], drop, length, take, IfOk, OnErr, OnOk, IsUtf8, slice_index, string_bytes};
+ghost use Rattle.std.specs.Prelude.{◌≡◌, ◌<◌, ◌≤◌, ◌+◌, [], drop, length, take, IfOk, OnErr, OnOk, IsUtf8, slice_index, string_bytes};
+ghost use Rattle.saphyr_input.specs.Indicators.{exclamation_mark};
+ghost use Rattle.saphyr_scalar.specs.Steps.Anchor.{anchor};
 ghost use Rattle.saphyr_scalar.specs.Steps.Plain.{plain, seen_plain_end};
 ghost use Rattle.saphyr_scalar.specs.Steps.Quoted.{quoted};
+ghost use Rattle.saphyr_scalar.specs.Steps.Tag.{tag};
 ghost use Rattle.saphyr_scalar.specs.Views.Reader.{Moves, cursor_of};
 ghost use Rattle.saphyr_scalar.specs.Values.Flow as flow;
 ghost use Rattle.saphyr_scanner.specs.Views.Texts as spec;
 
+use crate::queue::place::Place;
 use saphyr_input::input::Input;
 use saphyr_scalar::values::Quote;
 use saphyr_scalar::{Marker, PlainEnd, Reader, Span, Spare, Stop};
 use std::alloc::{AllocError, Global};
 use std::collections::VecDeque;
 use std::marker::Model;
-use std::mem::replace;
+use std::mem::{replace, swap};
 use std::str;
 
 // A text that has this many bytes, or whose memory has no more, is handed out in the memory where it is, if no other is
@@ -31,15 +35,15 @@ pub(crate) struct Extent {
 }
 
 impl Extent {
-    /// The extent of a token with a text alone.
-    pub(crate) fn of_text(span: Span, count: usize) -> Extent
+    /// The extent of a token without numbers.
+    pub(crate) fn of_texts(span: Span, handle: usize, text: usize) -> Extent
         ensures { result ≡ record
-            { span = span; handle = 0; text = count; major = 0; minor = 0 } }
+            { span = span; handle = handle; text = text; major = 0; minor = 0 } }
     {
         Extent {
             span,
-            handle: 0,
-            text: count,
+            handle,
+            text,
             major: 0,
             minor: 0,
         }
@@ -65,6 +69,18 @@ impl Model for Texts {
     ghost Value = { Seen };
 
     ghost view = { λ a. record { bytes = drop a.spent (string_bytes a.texts); extents = a.extents.items } };
+}
+
+// Nothing is known of the texts after an error, which is returned.
+#[inline(always)]
+fn lose(texts: &mut String, spent: &mut usize, error: Stop) -> Stop
+    ensures texts { string_bytes texts.new ≡ [] }
+    ensures spent { spent.new ≡ 0 }
+    ensures error { result ≡ error }
+{
+    texts.clear();
+    *spent = 0;
+    error
 }
 
 impl Texts {
@@ -101,6 +117,7 @@ impl Texts {
     }
 
     /// Puts an extent behind the others.
+    #[inline(never)]
     pub(super) fn push_extent(&mut self, extent: Extent) -> Result<(), AllocError>
         ensures kept { OnOk result (self.new ≡ spec.with_last_extent extent self.old) }
         ensures failed { OnErr result (self.new ≡ self.old) }
@@ -129,11 +146,7 @@ impl Texts {
         let before = self.texts.len();
         match reader.read_plain_onto(alloc, in_flow, indent, &mut self.texts) {
             Ok(end) => Ok((end, self.texts.len() - before)),
-            Err(stop) => {
-                self.texts.clear();
-                self.spent = 0;
-                Err(stop)
-            }
+            Err(stop) => Err(lose(&mut self.texts, &mut self.spent, stop)),
         }
     }
 
@@ -157,11 +170,50 @@ impl Texts {
         let before = self.texts.len();
         match reader.read_quoted_onto(alloc, quote, indent, &mut self.texts) {
             Ok(()) => Ok(self.texts.len() - before),
-            Err(stop) => {
-                self.texts.clear();
-                self.spent = 0;
-                Err(stop)
-            }
+            Err(stop) => Err(lose(&mut self.texts, &mut self.spent, stop)),
+        }
+    }
+
+    /// Reads the name of an anchor or an alias in the same way.
+    pub(super) fn read_name<T: Input>(&mut self, reader: &mut Reader<T>) -> Result<usize, Stop>
+        requires { 0 < length (cursor_of reader.old).rest }
+        ensures read { Moves (λ _. (spec.added self.old self.new, cursor_of reader.new)) result
+            (anchor (cursor_of reader.old)) }
+        ensures kept { IfOk result
+            (λ _. self.new ≡ spec.with_last_text (spec.added self.old self.new) self.old) }
+        ensures count { IfOk result
+            (λ count. spec.IsTextOf count (spec.added self.old self.new)) }
+    {
+        let before = self.texts.len();
+        match reader.read_anchor_onto(&mut self.texts) {
+            Ok(()) => Ok(self.texts.len() - before),
+            Err(stop) => Err(lose(&mut self.texts, &mut self.spent, stop)),
+        }
+    }
+
+    /// Reads a tag in the same way: its suffix is behind its handle. Returns how many bytes the two have.
+    pub(super) fn read_tag<T: Input>(
+        &mut self,
+        reader: &mut Reader<T>,
+        in_flow: bool,
+    ) -> Result<(usize, usize), Stop>
+        requires { slice_index (cursor_of reader.old).rest 0 ≡ exclamation_mark }
+        ensures read { Moves (λ read. (
+          take read.0 (spec.added self.old self.new),
+          drop read.0 (spec.added self.old self.new),
+          cursor_of reader.new,
+        )) result
+            (tag in_flow (cursor_of reader.old)) }
+        ensures kept { IfOk result (λ read. self.new ≡ spec.with_last_text
+            (drop read.0 (spec.added self.old self.new))
+            (spec.with_last_text (take read.0 (spec.added self.old self.new)) self.old)) }
+        ensures counts { IfOk result (λ read.
+            spec.AreTextsOf read.0 read.1 (spec.added self.old self.new)) }
+    {
+        let before = self.texts.len();
+        match reader.read_tag_onto(in_flow, &mut self.texts) {
+            Ok(handle) => Ok((handle, self.texts.len() - before - handle)),
+            Err(stop) => Err(lose(&mut self.texts, &mut self.spent, stop)),
         }
     }
 
@@ -179,7 +231,7 @@ impl Texts {
         unsafe { str::from_utf8_unchecked(bytes) }
     }
 
-    /// Takes the first text off, which has so many bytes.
+    /// Takes the first text off, or the first ones, which have so many bytes.
     #[inline(always)]
     pub(super) fn pass_text(&mut self, count: usize)
         requires { count ≤ length self.old.bytes }
@@ -194,26 +246,51 @@ impl Texts {
         count >= LONG || self.texts.capacity() <= LONG
     }
 
-    /// Takes the first text off, which has so many bytes, and returns it.
+    /// Takes the first two texts off, which have so many bytes. The second goes into an empty text.
     #[inline(always)]
-    pub(super) fn take_text(
+    pub(super) fn take_text_into(
         &mut self,
+        handle: usize,
         count: usize,
-        alloc: Global,
-        spare: &mut Spare,
-    ) -> Result<String, AllocError>
-        requires { spec.BeginsWithText count self.old }
-        ensures text { IfOk result (λ text. string_bytes text ≡ take count self.old.bytes) }
-        ensures left { OnOk result (self.new ≡ spec.behind_text count self.old) }
+        into: &mut String,
+    ) -> Result<(), AllocError>
+        requires there { spec.BeginsWithTexts handle count self.old }
+        requires empty { string_bytes into.old ≡ [] }
+        ensures text { OnOk result
+            (string_bytes into.new ≡ take count (drop handle self.old.bytes)) }
+        ensures left { OnOk result
+            (self.new ≡ spec.behind_text count (spec.behind_text handle self.old)) }
         ensures failed { OnErr result (self.new ≡ self.old) }
     {
-        let mut text = spare.begin(alloc)?;
-        if self.spent == 0 && count == self.texts.len() && self.is_handed_over(count) {
-            return Ok(replace(&mut self.texts, text));
+        let is_alone = self.spent + handle == 0 && count == self.texts.len();
+        if is_alone && self.is_handed_over(count) {
+            swap(&mut self.texts, into);
+            return Ok(());
         }
-        text.push_str(self.text_at(0, count))?;
-        self.spent += count;
-        Ok(text)
+        into.push_str(self.text_at(handle, count))?;
+        self.pass_text(handle);
+        self.pass_text(count);
+        Ok(())
+    }
+
+    /// Takes a text off in the same way. It is separate for speed, since a handle is seldom before a text that is taken
+    /// alone.
+    #[inline(never)]
+    pub(super) fn take_behind_into(
+        &mut self,
+        handle: usize,
+        count: usize,
+        into: &mut String,
+    ) -> Result<(), AllocError>
+        requires there { spec.BeginsWithTexts handle count self.old }
+        requires empty { string_bytes into.old ≡ [] }
+        ensures text { OnOk result
+            (string_bytes into.new ≡ take count (drop handle self.old.bytes)) }
+        ensures left { OnOk result
+            (self.new ≡ spec.behind_text count (spec.behind_text handle self.old)) }
+        ensures failed { OnErr result (self.new ≡ self.old) }
+    {
+        self.take_text_into(handle, count, into)
     }
 
     /// The first of the extents, or one at the start of a text if there is none.
@@ -222,8 +299,16 @@ impl Texts {
     {
         match self.extents.front() {
             Some(extent) => *extent,
-            None => Extent::of_text(Span::empty(Marker::new(0, 0, 0)), 0),
+            None => Extent::of_texts(Span::empty(Marker::new(0, 0, 0)), 0, 0),
         }
+    }
+
+    /// The span of the first of the extents goes into the place of another.
+    #[inline(never)]
+    pub(super) fn first_span_into(&self, span: &mut Span)
+        ensures { span.new ≡ (spec.first_extent self.now.extents).span }
+    {
+        *span = self.first_extent().span;
     }
 
     /// Takes the first of the extents off, and the texts of its token.
@@ -232,35 +317,26 @@ impl Texts {
         ensures { self.new ≡ spec.behind_extent self.old }
     {
         let extent = self.first_extent();
-        self.spent += extent.handle + extent.text;
+        self.pass_text(extent.handle);
+        self.pass_text(extent.text);
         drop(self.extents.pop_front());
     }
 
-    /// Takes the first of the extents off, and the texts of its token, of which the last is returned.
+    /// Takes the first of the extents off, and the texts of its token, of which the last goes into an empty text.
     #[inline(never)]
-    pub(super) fn take_extent(
-        &mut self,
-        alloc: Global,
-        spare: &mut Spare,
-    ) -> Result<String, AllocError>
-        requires { spec.HasExtent self.old }
-        ensures text { IfOk result (λ text. string_bytes text
+    pub(super) fn take_extent_into(&mut self, into: &mut String) -> Result<(), AllocError>
+        requires there { spec.HasExtent self.old }
+        requires empty { string_bytes into.old ≡ [] }
+        ensures text { OnOk result (string_bytes into.new
             ≡ take (spec.first_extent self.old.extents).text
             (drop (spec.first_extent self.old.extents).handle self.old.bytes)) }
         ensures left { OnOk result (self.new ≡ spec.behind_extent self.old) }
         ensures failed { OnErr result (self.new ≡ self.old) }
     {
         let extent = self.first_extent();
-        let mut text = spare.begin(alloc)?;
-        let is_alone = self.spent + extent.handle == 0 && extent.text == self.texts.len();
-        if is_alone && self.is_handed_over(extent.text) {
-            let text = replace(&mut self.texts, text);
-            drop(self.extents.pop_front());
-            return Ok(text);
-        }
-        text.push_str(self.text_at(extent.handle, extent.text))?;
-        self.pass_extent();
-        Ok(text)
+        self.take_behind_into(extent.handle, extent.text, into)?;
+        drop(self.extents.pop_front());
+        Ok(())
     }
 
     /// Forgets all texts, where no token has any. Their memory is kept for others.
@@ -273,16 +349,23 @@ impl Texts {
         self.spent = 0;
     }
 
-    /// Forgets all texts and extents.
-    pub(super) fn forget(&mut self)
-        ensures { self.new ≡ spec.nothing }
+    /// Forgets all texts and extents, and the places of their tokens, after an error, which is returned.
+    #[inline(always)]
+    pub(super) fn forget<E>(&mut self, places: &mut Vec<Place>, spent: &mut usize, error: E) -> E
+        ensures texts { self.new ≡ spec.nothing }
+        ensures places { places.new.items ≡ [] }
+        ensures spent { spent.new ≡ 0 }
+        ensures error { result ≡ error }
     {
         self.extents.clear();
         self.texts.clear();
         self.spent = 0;
+        places.clear();
+        *spent = 0;
+        error
     }
 
-    /// The same texts and extents, unless memory runs out.
+    /// A copy, unless memory runs out.
     pub(super) fn try_clone(&self) -> Result<Texts, AllocError>
         ensures { IfOk result (λ copy. copy ≡ self.now) }
     {

@@ -1,6 +1,6 @@
 -- Where a block scalar is spelled, it is read.
 use Rattle.std.proofs.Common.{◌≡◌, ◌≢◌, ℕ, zero, suc, ◌+◌, ◌<◌, ◌≤◌, Bool, true, false, List, [], ◌∷◌, ◌++◌, length, slice_index, max, Ok, refl, sym, ap, inl, inr, ◌∙◌, arith, subst, nat_eq, nat_lt, nat_le, encode_utf8_all}
-use Rattle.std.specs.Prelude.{◌||◌, ◌&&◌, ◌==◌, not, Option, Some, None, unwrap_or, ◌⊎◌}
+use Rattle.std.specs.Prelude.{◌&&◌, ◌==◌, Option, Some, None, unwrap_or, ◌⊎◌}
 use Rattle.std.proofs.lemmas.Bool.Decides.{nat_tests}
 use Rattle.saphyr_input.specs.Classes.{is_break, is_z, is_yaml_non_break}
 use Rattle.saphyr_input.specs.Places.{is_document_indicator}
@@ -35,10 +35,7 @@ unfolding given_indentation
 found_as indent i d w is_given h e = grind arith
 
 no_z : (x : ℕ) → is_yaml_non_break x ≡ true → is_z x ≡ false
-no_z x h = parts (nat_eq x 10) (nat_eq x 13) (nat_eq x 0) _ h
-  where
-    parts : (a b d e : Bool) → (not ((a || b) || d) && e) ≡ true → d ≡ false
-    parts a b d e k = grind arith
+no_z x h = grind arith
 
 -- what was read after the header, with the leading empty lines
 record ScalarRead (st : BlockStyle) (c : Chomping) (indent i n : ℕ) (others : List ℕ) (start : Marker)
@@ -73,14 +70,14 @@ content_read st c indent i n others start limit ls r l same =
     let within : nat_lt r.1.mark.col j ≡ false = grind (arith, nat_tests) in
     let no : (nat_lt r.1.mark.col j && nat_le indent r.1.mark.col) ≡ false = cc in
     let Goal : BlockScalarRead → Type 0 = λ x. x ≡ Ok (text, span, z.2) in
-    let told =
+    let known =
     by_test (is_z (slice_index r.1.rest 0)) _ _ Goal (λ h. clash _ h (no_z (slice_index r.1.rest 0) l.starts))
     (λ _. by_test (nat_lt r.1.mark.col j && nat_le indent r.1.mark.col) _ _ Goal (λ h. clash _ h no) (λ _. refl)) in
     record {
       text = text;
       span = span;
       left = z.2;
-      read = told;
+      read = known;
       rest = left.0;
       column = left.1;
       begins = λ _. l.column;
@@ -160,13 +157,13 @@ left_read st c indent i n x others start limit ls r no_content h p col others_no
     ≡ Ok (encode_utf8_all (z.0 ++ tail c (is_unfinished j z.2) z.1), record { start = r.1.mark; end = z.2.mark }, z.2)
     in
     let count : r.0.count ≡ length ls = omega (arith, p.count) in
-    let told = by_test (is_z (slice_index r.1.rest 0)) _ _ Goal (λ k. clash _ k no_z)
+    let known = by_test (is_z (slice_index r.1.rest 0)) _ _ Goal (λ k. clash _ k no_z)
     (λ _. by_test (nat_lt r.1.mark.col j && nat_le indent r.1.mark.col) _ _ Goal (λ k. clash _ k no) (λ _. refl)) in
     record {
       text = encode_utf8_all (z.0 ++ tail c (is_unfinished j z.2) z.1);
       span = record { start = r.1.mark; end = z.2.mark };
       left = z.2;
-      read = told;
+      read = known;
       rest = cc;
       column = inl (cc);
       begins = λ some. clash _ some no_content;
@@ -287,11 +284,7 @@ lines_read : (st : BlockStyle) (c : Chomping) (indent i n d : ℕ) (is_given : B
     → ScalarRead st c indent i n others start (given_indentation indent d) ls
     (pass_empty_lines (given_indentation indent d) no_lines b m body)
 lines_read st c indent i n d is_given ls start b m x body others ind h (inl is) (inl (col, blank)) =
-    let limit = given_indentation indent d in
-    let r = pass_empty_lines limit no_lines b m body in
-    let l : Led st c i n others no_lines ls r = led_on st c i n is_given limit x others no_lines b m ls body
-    (limit_of indent i d is_given ind) col (omega arith) h is in
-    content_read st c indent i n others start limit ls r l (found_as indent i d r.0.widest is_given ind l.widest)
+    grind (arith, led_on, limit_of, content_read, found_as)
 lines_read st c indent i n d is_given ls start b m x body others ind h (inl is) (inr (e, dark)) =
     absurd (body_some is e)
 lines_read st c indent i n d is_given _ start b m x _ others ind h (inr (empty_lines ls body are cond)) (inl
@@ -348,12 +341,12 @@ each_read st c indent i n ls s body others is =
     subst P (sym h.left) (lines_read st c indent i n is.digit is.is_given ls s.mark u.blank_so_far u.mark is.behind body
     others is.indentation is.ends is.lines h.place) in
     let read : block_scalar st indent s ≡ Ok (w.text, w.span, w.left) = header_then st indent s (mark, u)
-    (w.text, w.span, w.left) h.told (behind_as st indent s.mark mark u ∙ w.read) in
+    (w.text, w.span, w.left) h.known (behind_as st indent s.mark mark u ∙ w.read) in
     let sound = values_of_lines st indent s w.left w.text w.span read in
     let same : ◌≡◌ {A = BlockHeaderRead × Cursor} (sound.header, sound.behind) (mark, u) =
-    same_gift (sound.header, sound.behind) (mark, u) (sym sound.first ∙ h.told) in
+    same_gift (sound.header, sound.behind) (mark, u) (sym sound.first ∙ h.known) in
     let Here : BlockHeaderRead × Cursor → Type 0 = λ x. x.1.rest ≡ sound.lines ++ w.left.rest in
-    let told : u.rest ≡ sound.lines ++ w.left.rest = subst Here same sound.taken in
+    let known : u.rest ≡ sound.lines ++ w.left.rest = subst Here same sound.taken in
     record {
       text = w.text;
       span = w.span;

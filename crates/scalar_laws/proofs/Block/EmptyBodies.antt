@@ -1,10 +1,8 @@
 -- Where a block scalar has no content, its empty lines are taken off, and no more.
-use Rattle.std.proofs.Common.{◌≡◌, ◌≢◌, ℕ, ◌+◌, ◌<◌, ◌≤◌, Bool, true, false, List, [], ◌∷◌, ◌++◌, length, slice_index, refl, sym, ap, ◌∙◌, arith, subst, nat_lt, inl, inr}
+use Rattle.std.proofs.Common.{◌≡◌, ◌≢◌, ℕ, ◌+◌, ◌≤◌, Bool, true, false, List, [], ◌∷◌, ◌++◌, length, slice_index, refl, sym, ◌∙◌, arith, subst, inr}
 use Rattle.std.specs.Prelude.{max, Option, ◌⊎◌}
-use Rattle.std.proofs.lemmas.Bool.Decides.{nat_tests}
 use Rattle.std.proofs.lemmas.List.{append-nil}
-use Rattle.saphyr_input.specs.Classes.{is_break, is_yaml_non_break}
-use Rattle.saphyr_input.specs.Places.{is_document_indicator}
+use Rattle.saphyr_input.specs.Classes.{is_break}
 use Rattle.saphyr_scalar.specs.declared.scalar.position.Marker.{Marker}
 use Rattle.saphyr_scalar.specs.Steps.Block.{EmptyLinesRead, line_cursor, is_indentation, with_column, with_empty_line, pass_empty_lines}
 use Rattle.saphyr_scalar.specs.Views.Cursor.{Cursor, along, next_line}
@@ -26,18 +24,7 @@ pub record Passed (i n : ℕ) (others : List ℕ) (before : EmptyLinesRead) (ls 
 
 -- what comes after n spaces is no space: to the left of the column, or at it where no content begins
 pub no_space_behind : (i n : ℕ) (x others : List ℕ) → IsBehind i n x others → slice_index others 0 ≢ 32
-no_space_behind i n x others h e = by_column (nat_lt n i) refl
-  where
-    no_marker : (xs : List ℕ) → slice_index xs 0 ≡ 32 → is_document_indicator xs ≡ true → ⊥
-    no_marker xs f k = grind arith
-
-    by_content : (is_yaml_non_break (slice_index others 0) ≡ false)
-        ⊎ ((i ≡ 0) × (is_document_indicator others ≡ true)) → ⊥
-    by_content h = grind arith
-
-    by_column : (a : Bool) → nat_lt n i ≡ a → ⊥
-    by_column true k = let less : n < i = grind (arith, nat_tests) in h.no_space less e
-    by_column false k = let at : n ≡ i = let w = h.within in grind (arith, nat_tests) in by_content (h.no_content at)
+no_space_behind i n x others h e = grind arith
 
 pub no_indentation : (limit : Option ℕ) (col c : ℕ) → c ≢ 32 → is_indentation limit col c ≡ false
 no_indentation limit col c h = grind arith
@@ -54,19 +41,7 @@ stopped i n given limit others before b m l within no_space no_break =
 none_passed : (i n : ℕ) (given : Bool) (limit : Option ℕ) (x others : List ℕ) (before : EmptyLinesRead) (b : Bool)
     (m : Marker) → IsLimit i given limit → m.col ≡ 0 → before.widest ≤ i → IsBehind i n x others
     → Passed i n others before [] (pass_empty_lines limit before b m x)
-none_passed i n given limit x others before b m l col wide h =
-    let within = h.within in
-    let same = ap (pass_empty_lines limit before b m) h.is
-    ∙ stopped i n given limit others before b m l (omega (arith, within, col)) (no_space_behind i n x others h)
-    (no_break_at (slice_index others 0) h.no_break h.no_return) in
-    subst (Passed i n others before []) (sym same)
-    (record {
-      rest = refl;
-      count = omega arith;
-      widest = omega (arith, within, col, wide);
-      within = omega arith;
-      column = inl (omega arith);
-    })
+none_passed i n given limit x others before b m l col wide h = grind (arith, stopped, no_break_at)
 
 -- spaces up to the text's end
 pub spaces_passed : (i : ℕ) (given : Bool) (limit : Option ℕ) (before : EmptyLinesRead) (b : Bool) (k : ℕ) (m : Marker)
@@ -77,18 +52,7 @@ spaces_passed i given limit before b k m l col within =
 
 one_more : (i n : ℕ) (others : List ℕ) (before : EmptyLinesRead) (w : ℕ) (ls : List Line) (r : EmptyLinesRead × Cursor)
     → Passed i n others (with_empty_line before w) ls r → Passed i n others before (Empty ∷ ls) r
-one_more i n others before w ls r p = record {
-  rest = p.rest;
-  count = omega (arith, p.count);
-  widest = p.widest;
-  within = p.within;
-  column = by_column p.column;
-}
-  where
-    by_column : (r.1.mark.col ≡ n) ⊎ ((others ≡ []) × (1 ≤ length ls))
-        → (r.1.mark.col ≡ n) ⊎ ((others ≡ []) × (1 ≤ length (Empty ∷ ls)))
-    by_column (inl e) = inl e
-    by_column (inr (e, some)) = inr (e, omega (arith, some))
+one_more i n others before w ls r p = grind arith
 
 pub empty_passed : (i n : ℕ) (given : Bool) (limit : Option ℕ) (x others : List ℕ) (before : EmptyLinesRead) (b : Bool)
     (m : Marker) (ls : List Line) (t : List ℕ) → IsLimit i given limit → m.col ≡ 0 → before.widest ≤ i

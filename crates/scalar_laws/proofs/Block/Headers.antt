@@ -1,71 +1,31 @@
 -- Where the header of a block scalar is, it is taken off.
-use Rattle.std.proofs.Common.{◌≡◌, ◌≢◌, ℕ, suc, ◌+◌, ◌≤◌, true, false, List, [], ◌∷◌, ◌++◌, length, drop, slice_index, Result, Ok, refl, ap, ◌∙◌, arith, subst, add-zero, nat_eq, nat_lt, inl, inr}
-use Rattle.std.specs.Prelude.{◌&&◌, not, ◌⊎◌, Option, Some, None, unwrap_or}
+use Rattle.std.proofs.Common.{◌≡◌, ◌≢◌, ℕ, suc, ◌+◌, ◌≤◌, true, false, List, [], ◌∷◌, ◌++◌, length, drop, slice_index, Ok, refl, ap, arith, add-zero, nat_eq, inl, inr}
+use Rattle.std.specs.Prelude.{◌⊎◌, Option, Some, None, unwrap_or}
 use Rattle.std.specs.List.{prefix_len}
 use Rattle.std.proofs.lemmas.Bool.Decides.{nat_tests}
 use Rattle.std.proofs.Math.Seq.{drop-append_seam, drop-append-add}
 use Rattle.saphyr_input.specs.Indicators.{hyphen, plus_sign}
-use Rattle.saphyr_input.specs.Classes.{is_blank, is_break, is_breakz, is_bom, is_digit, is_yaml_non_break, line_feed}
-use Rattle.saphyr_input.specs.Places.{next_2_are}
-use Rattle.saphyr_input.specs.Separation.{blank_len, comment_len, separation_len, is_bare_comment, found_blanks}
-use Rattle.saphyr_input.specs.declared.input.SkipTabs.{SkipTabs}
+use Rattle.saphyr_input.specs.Classes.{is_blank, is_bom, is_digit, is_yaml_non_break, line_feed}
+use Rattle.saphyr_input.specs.Separation.{blank_len, comment_len, separation_len, is_bare_comment}
 use Rattle.saphyr_input.specs.declared.input.SkipTabs.TheVariants.{Yes}
 use Rattle.saphyr_scalar.specs.declared.values.Chomping.{Chomping}
 use Rattle.saphyr_scalar.specs.declared.values.Chomping.TheVariants.{Strip, Clip, Keep}
 use Rattle.saphyr_scalar.specs.Spelling.Tag.{AreIn}
 use Rattle.saphyr_scalar.specs.declared.scalar.position.Marker.{Marker}
-use Rattle.saphyr_scalar.specs.declared.scalar.fault.Refusal.{Refusal}
-use Rattle.saphyr_scalar.specs.Views.Cursor.{Cursor, pass, pass_blanks, pass_line, pass_break, separation, behind_separation}
+use Rattle.saphyr_scalar.specs.Views.Cursor.{Cursor, pass, pass_blanks, pass_line, separation}
 use Rattle.saphyr_scalar.specs.Steps.Block.{chomping, indicator, header_break, header_end, last_chomping, header_behind, header}
 use Rattle.scalar_laws.specs.Spelling.Block.{IsIndicator, no_digit, digit, IsChomping, strip, clip, keep, IsHeaderEnd, no_comment, comment, no_comment_at_end, comment_at_end, IsHeader, digit_first, chomping_first}
-use Rattle.saphyr_input.proofs.Basics.Booleans.{and_false, clash, by_test, either}
+use Rattle.saphyr_scalar.proofs.Directives.TailsRead.{nothing_refused}
 use Rattle.saphyr_input.proofs.Basics.Numbers.{one_and}
-
--- what is left after white space
-behind_read : (text : List ℕ) (v : Cursor) → is_bom (slice_index v.rest 0) ≡ false → is_bare_comment Yes text ≡ false
-    → behind_separation Yes text v ≡ Ok (found_blanks Yes text, v)
-unfolding behind_separation
-behind_read text v e bare =
-    let no : (nat_lt 0 v.mark.col && is_bom (slice_index v.rest 0)) ≡ false = cc (and_false (nat_lt 0 v.mark.col)) in
-    let Goal : Result (SkipTabs × Cursor) Refusal → Type 0 = λ r. r ≡ Ok (found_blanks Yes text, v) in
-    by_test (nat_lt 0 v.mark.col && is_bom (slice_index v.rest 0)) _ _ Goal (λ h. clash _ h no)
-    (λ _. by_test (is_bare_comment Yes text) _ _ Goal (λ h. clash _ h bare) (λ _. refl))
-
-feed_passed : (v : Cursor) (x : List ℕ) → v.rest ≡ line_feed ∷ x → pass_break v ≡ pass_line 1 v
-feed_passed v x e =
-    let no : next_2_are v.rest 13 10 ≡ false = ap (λ (xs : List ℕ). next_2_are xs 13 10) e in
-    let yes : is_break (slice_index v.rest 0) ≡ true = cc in
-    let Goal : Cursor → Type 0 = λ s. s ≡ pass_line 1 v in
-    by_test (next_2_are v.rest 13 10) _ _ Goal (λ h. clash _ h no)
-    (λ _. by_test (is_break (slice_index v.rest 0)) _ _ Goal (λ _. refl) (λ h. clash _ yes h))
 
 break_read : (start : Marker) (v : Cursor) (x : List ℕ) → v.rest ≡ line_feed ∷ x → slice_index x 0 ≢ 9
     → header_break start v ≡ Ok (pass_line 1 v)
 unfolding header_break
-break_read start v x e tab =
-    let yes : not (is_breakz (slice_index v.rest 0)) ≡ false = cc in
-    let passed = feed_passed v x e in
-    let none : nat_eq (slice_index x 0) 9 ≡ false = grind (arith, nat_tests) in
-    let no : nat_eq (slice_index (pass_break v).rest 0) 9 ≡ false = cc in
-    let Goal : Result Cursor Refusal → Type 0 = λ r. r ≡ Ok (pass_line 1 v) in
-    by_test (not (is_breakz (slice_index v.rest 0))) _ _ Goal (λ h. clash _ h yes)
-    (λ _. by_test (nat_eq (slice_index (pass_break v).rest 0) 9) _ _ Goal (λ h. clash _ h no) (λ _. ap Ok passed))
-
-none_passed : (v : Cursor) → v.rest ≡ [] → pass_break v ≡ v
-none_passed v e =
-    let no : next_2_are v.rest 13 10 ≡ false = ap (λ (xs : List ℕ). next_2_are xs 13 10) e in
-    let Goal : Cursor → Type 0 = λ s. s ≡ v in
-    by_test (next_2_are v.rest 13 10) _ _ Goal (λ h. clash _ h no)
-    (λ _. by_test (is_break (slice_index v.rest 0)) _ _ Goal (λ h. clash _ h cc) (λ _. refl))
+break_read start v x e tab = grind arith
 
 end_passed : (start : Marker) (v : Cursor) → v.rest ≡ [] → header_break start v ≡ Ok v
 unfolding header_break
-end_passed start v e =
-    let passed = none_passed v e in
-    let no : nat_eq (slice_index (pass_break v).rest 0) 9 ≡ false = cc in
-    let Goal : Result Cursor Refusal → Type 0 = λ r. r ≡ Ok v in
-    by_test (not (is_breakz (slice_index v.rest 0))) _ _ Goal (λ h. clash _ h cc)
-    (λ _. by_test (nat_eq (slice_index (pass_break v).rest 0) 9) _ _ Goal (λ h. clash _ h no) (λ _. ap Ok passed))
+end_passed start v e = grind arith
 
 -- after a header's line a line begins, or nothing is left after the header
 abbrev pub IsBehindLine : Cursor → List ℕ → Type 0
@@ -86,7 +46,7 @@ header_end_at start s x e bare tab =
     record {
       end = pass_line 1 v;
       read = cc (
-        behind_read s.rest v (ap (λ (xs : List ℕ). is_bom (slice_index xs 0)) e) bare,
+        nothing_refused s.rest v (ap (λ (xs : List ℕ). is_bom (slice_index xs 0)) e) bare,
         break_read start v x e tab,
       );
       rest = ap (drop 1) e;
@@ -100,7 +60,10 @@ text_end_at start s e bare dark =
     let v = pass_blanks (separation_len Yes s.rest) s in
     record {
       end = v;
-      read = cc (behind_read s.rest v (ap (λ (xs : List ℕ). is_bom (slice_index xs 0)) e) bare, end_passed start v e);
+      read = cc (
+        nothing_refused s.rest v (ap (λ (xs : List ℕ). is_bom (slice_index xs 0)) e) bare,
+        end_passed start v e,
+      );
       rest = e;
       place = inr (refl, dark);
     }
@@ -124,9 +87,9 @@ all_text : (text : List ℕ) → AreIn is_yaml_non_break text → prefix_len is_
 all_text [] h = refl
 all_text (c ∷ cs) h = let more = all_text cs h.1 in rw (h.0, more) (omega arith)
 
-told_sep : (d : List ℕ) (n : ℕ) → blank_len Yes d ≡ n → nat_eq n 0 ≡ false
+separation_is : (d : List ℕ) (n : ℕ) → blank_len Yes d ≡ n → nat_eq n 0 ≡ false
     → separation_len Yes d ≡ n + comment_len (drop n d)
-told_sep d n len some = rw (len, some) refl
+separation_is d n len some = rw (len, some) refl
 
 no_bare : (d : List ℕ) (n : ℕ) → blank_len Yes d ≡ n → nat_eq n 0 ≡ false → is_bare_comment Yes d ≡ false
 no_bare d n len some = rw (len, some) refl
@@ -144,7 +107,7 @@ end_read start s _ x e (no_comment (b ∷ bs) y h) tab dark =
     let len : blank_len Yes d ≡ n = blanks_len (b ∷ bs) (10 ∷ y) h refl in
     let some : nat_eq n 0 ≡ false = grind (arith, nat_tests) in
     let behind : drop n d ≡ 10 ∷ y = drop-append_seam (b ∷ bs) (10 ∷ y) in
-    let sep : separation_len Yes d ≡ n = cc (told_sep d n len some, add-zero n) in
+    let sep : separation_len Yes d ≡ n = cc (separation_is d n len some, add-zero n) in
     header_end_at start s y (cc) (cc (no_bare d n len some)) tab
 end_read start s _ x e (comment b bs text y h k) tab dark =
     let t = 35 ∷ (text ++ (10 ∷ y)) in
@@ -154,7 +117,7 @@ end_read start s _ x e (comment b bs text y h k) tab dark =
     let some : nat_eq n 0 ≡ false = grind (arith, nat_tests) in
     let behind : drop n d ≡ t = drop-append_seam (b ∷ bs) t in
     let own : comment_len t ≡ suc (length text) = cc (text_len text y k, one_and (length text)) in
-    let sep : separation_len Yes d ≡ n + suc (length text) = cc (told_sep d n len some) in
+    let sep : separation_len Yes d ≡ n + suc (length text) = cc (separation_is d n len some) in
     header_end_at start s y (cc (drop-append-add (b ∷ bs) t (suc (length text)), drop-append_seam text (10 ∷ y)))
     (cc (no_bare d n len some)) tab
 end_read start s _ _ e (no_comment_at_end [] h) tab dark = text_end_at start s (cc) (ap (is_bare_comment Yes) e) dark
@@ -164,7 +127,7 @@ end_read start s _ _ e (no_comment_at_end (b ∷ bs) h) tab dark =
     let len : blank_len Yes d ≡ n = all_blank (b ∷ bs) h in
     let some : nat_eq n 0 ≡ false = grind (arith, nat_tests) in
     let behind : drop n d ≡ [] = all_dropped (b ∷ bs) in
-    let sep : separation_len Yes d ≡ n = cc (told_sep d n len some, add-zero n) in
+    let sep : separation_len Yes d ≡ n = cc (separation_is d n len some, add-zero n) in
     text_end_at start s (cc) (cc (no_bare d n len some)) dark
 end_read start s _ _ e (comment_at_end b bs text h k) tab dark =
     let t = 35 ∷ text in
@@ -174,7 +137,7 @@ end_read start s _ _ e (comment_at_end b bs text h k) tab dark =
     let some : nat_eq n 0 ≡ false = grind (arith, nat_tests) in
     let behind : drop n d ≡ t = drop-append_seam (b ∷ bs) t in
     let own : comment_len t ≡ suc (length text) = cc (all_text text k, one_and (length text)) in
-    let sep : separation_len Yes d ≡ n + suc (length text) = cc (told_sep d n len some) in
+    let sep : separation_len Yes d ≡ n + suc (length text) = cc (separation_is d n len some) in
     text_end_at start s (cc (drop-append-add (b ∷ bs) t (suc (length text)), all_dropped text))
     (cc (no_bare d n len some)) dark
 
@@ -182,48 +145,25 @@ end_read start s _ _ e (comment_at_end b bs text h k) tab dark =
 pub chomping_none : (s : Cursor) (x : ℕ) → slice_index s.rest 0 ≡ x → nat_eq x 43 ≡ false → nat_eq x 45 ≡ false
     → chomping s ≡ (None, s)
 unfolding chomping
-chomping_none s x e a b =
-    let no : nat_eq (slice_index s.rest 0) 43 ≡ false = ap (λ y. nat_eq y 43) e ∙ a in
-    let nor : nat_eq (slice_index s.rest 0) 45 ≡ false = ap (λ y. nat_eq y 45) e ∙ b in
-    let Goal : Option Chomping × Cursor → Type 0 = λ r. r ≡ (None, s) in
-    by_test (nat_eq (slice_index s.rest 0) 43) _ _ Goal (λ h. clash _ h no)
-    (λ _. by_test (nat_eq (slice_index s.rest 0) 45) _ _ Goal (λ h. clash _ h nor) (λ _. refl))
+chomping_none s x e a b = search
 
 pub chomping_keep : (s : Cursor) → slice_index s.rest 0 ≡ plus_sign → chomping s ≡ (Some Keep, pass 1 s)
 unfolding chomping
-chomping_keep s e =
-    let yes : nat_eq (slice_index s.rest 0) 43 ≡ true = ap (λ y. nat_eq y 43) e in
-    let Goal : Option Chomping × Cursor → Type 0 = λ r. r ≡ (Some Keep, pass 1 s) in
-    by_test (nat_eq (slice_index s.rest 0) 43) _ _ Goal (λ _. refl) (λ h. clash _ yes h)
+chomping_keep s e = search
 
 pub chomping_strip : (s : Cursor) → slice_index s.rest 0 ≡ hyphen → chomping s ≡ (Some Strip, pass 1 s)
 unfolding chomping
-chomping_strip s e =
-    let yes : nat_eq (slice_index s.rest 0) 45 ≡ true = ap (λ y. nat_eq y 45) e in
-    let Goal : Option Chomping × Cursor → Type 0 = λ r. r ≡ (Some Strip, pass 1 s) in
-    by_test (nat_eq (slice_index s.rest 0) 43) _ _ Goal (λ h. clash _ h (ap (λ y. nat_eq y 43) e))
-    (λ _. by_test (nat_eq (slice_index s.rest 0) 45) _ _ Goal (λ _. refl) (λ h. clash _ yes h))
+chomping_strip s e = search
 
 pub indicator_none : (start : Marker) (s : Cursor) (x : ℕ) → slice_index s.rest 0 ≡ x → is_digit x ≡ false
     → indicator start s ≡ Ok (0, s)
 unfolding indicator
-indicator_none start s x e h =
-    let no : not (is_digit (slice_index s.rest 0)) ≡ true = ap (λ y. not (is_digit y)) e ∙ ap not h in
-    let Goal : Result (ℕ × Cursor) Refusal → Type 0 = λ r. r ≡ Ok (0, s) in
-    by_test (not (is_digit (slice_index s.rest 0))) _ _ Goal (λ _. refl) (λ k. clash _ no k)
+indicator_none start s x e h = search
 
 pub indicator_digit : (start : Marker) (s : Cursor) (d : ℕ) → slice_index s.rest 0 ≡ 48 + d → 1 ≤ d → d ≤ 9
     → indicator start s ≡ Ok (d, pass 1 s)
 unfolding indicator
-indicator_digit start s d e low high =
-    let is : is_digit (48 + d) ≡ true = grind (arith, nat_tests) in
-    let other : nat_eq (48 + d) 48 ≡ false = grind (arith, nat_tests) in
-    let yes : not (is_digit (slice_index s.rest 0)) ≡ false = ap (λ y. not (is_digit y)) e ∙ ap not is in
-    let no : nat_eq (slice_index s.rest 0) 48 ≡ false = ap (λ y. nat_eq y 48) e ∙ other in
-    let Goal : Result (ℕ × Cursor) Refusal → Type 0 = λ r. r ≡ Ok (d, pass 1 s) in
-    by_test (not (is_digit (slice_index s.rest 0))) _ _ Goal (λ h. clash _ h yes)
-    (λ _. by_test (nat_eq (slice_index s.rest 0) 48) _ _ Goal (λ h. clash _ h no)
-    (λ _. ap (λ v. Ok (v, pass 1 s)) (omega arith)))
+indicator_digit start s d e low high = grind arith
 
 -- a header's line ends with no indicator
 pub record NoMark (x : ℕ) : Type 0 where
@@ -232,11 +172,7 @@ pub record NoMark (x : ℕ) : Type 0 where
   pub digit : is_digit x ≡ false
 
 blank_no_mark : (x : ℕ) → is_blank x ≡ true → NoMark x
-blank_no_mark x h = either (nat_eq x 32) (nat_eq x 9) (NoMark x) h
-    (λ is. let e : 32 ≡ x = grind (arith, nat_tests) in
-    subst NoMark e (record { keep = refl; strip = refl; digit = refl }))
-    (λ is. let e : 9 ≡ x = grind (arith, nat_tests) in
-    subst NoMark e (record { keep = refl; strip = refl; digit = refl }))
+blank_no_mark x h = grind arith
 
 pub end_no_mark : (d x : List ℕ) → IsHeaderEnd d x → NoMark (slice_index d 0)
 end_no_mark _ x (no_comment [] y h) = record { keep = refl; strip = refl; digit = refl }
@@ -252,7 +188,7 @@ digit_no_mark d low high = (grind (arith, nat_tests), grind (arith, nat_tests))
 -- a header was taken off
 pub record HeaderRead (n : ℕ) (c : Chomping) (x : List ℕ) (s : Cursor) : Type 0 where
   pub behind : Cursor
-  pub told : header s ≡ Ok (record { chomping = c; indicator = n }, behind)
+  pub known : header s ≡ Ok (record { chomping = c; indicator = n }, behind)
   pub left : behind.rest ≡ x
   pub place : IsBehindLine behind x
 
@@ -269,7 +205,7 @@ header_of n c d x s first t v e1 e2 e3 rest l tab dark =
     let e = end_read s.mark v d x rest l tab dark in
     record {
       behind = e.end;
-      told = header_on s first (n, t) (c, v) e.end e1 e2 e3 e.read;
+      known = header_on s first (n, t) (c, v) e.end e1 e2 e3 e.read;
       left = e.rest;
       place = e.place;
     }

@@ -1,6 +1,6 @@
 -- Where the lines of a block scalar are, what is read has their value, with the breaks at their end.
-use Rattle.std.proofs.Common.{◌≡◌, ℕ, suc, ◌+◌, ◌<◌, ◌≤◌, Bool, true, false, List, [], ◌∷◌, ◌++◌, length, slice_index, refl, sym, ap, ◌∙◌, arith, nat_le, append_assoc, add-one, ◌≢◌, zero, nat_eq, nat_lt, inl, inr}
-use Rattle.std.specs.Prelude.{◌&&◌, max, Option, Some, not, is_some, ◌⊎◌}
+use Rattle.std.proofs.Common.{◌≡◌, ℕ, suc, ◌+◌, ◌<◌, ◌≤◌, Bool, true, false, List, [], ◌∷◌, ◌++◌, length, slice_index, refl, sym, ap, ◌∙◌, arith, append_assoc, ◌≢◌, zero, nat_eq, nat_lt, inl, inr}
+use Rattle.std.specs.Prelude.{◌&&◌, Option, Some, not, is_some, ◌⊎◌}
 use Rattle.std.proofs.lemmas.Bool.Decides.{nat_tests}
 use Rattle.std.proofs.lemmas.List.{append-nil}
 use Rattle.saphyr_input.specs.Classes.{is_blank, line_feed, is_z, is_break, is_yaml_non_break, carriage_return}
@@ -69,23 +69,14 @@ line_end_on st i more b m = refl
 starts_here : (i col c : ℕ) (cs : List ℕ) → col ≡ i → is_yaml_non_break c ≡ true
     → (i ≡ 0 → is_document_indicator (c ∷ cs) ≡ false) → line_starts i col (c ∷ cs) ≡ true
 unfolding line_starts
-starts_here i col c cs e h k =
-    let at : nat_eq col i ≡ true = grind (arith, nat_tests) in
-    rw (at, h) (by_zero (nat_eq i 0) refl)
-  where
-    by_zero : (a : Bool) → nat_eq i 0 ≡ a → not (a && is_document_indicator (c ∷ cs)) ≡ true
-    by_zero true z = let zero_is : i ≡ 0 = grind (arith, nat_tests) in rw (k zero_is) refl
-    by_zero false z = refl
+starts_here i col c cs e h k = grind arith
 
 -- what is left after the lines: the place after n spaces, or the text's end
 abbrev pub Left : ℕ → List ℕ → LinesRead → Type 0
 Left n others r = (r.2.rest ≡ others) × ((r.2.mark.col ≡ n) ⊎ (others ≡ []))
 
 space_off : (i n x : ℕ) → (n < i → x ≢ 32) → is_indentation (Some i) n x ≡ false
-space_off i n x h = by_left (nat_lt n i) refl
-  where
-    by_left : (a : Bool) → nat_lt n i ≡ a → (nat_eq x 32 && nat_lt n i) ≡ false
-    by_left a e = grind arith
+space_off i n x h = grind arith
 
 pub none_starts : (i n : ℕ) (xs : List ℕ)
     → (n ≡ i → (is_yaml_non_break (slice_index xs 0) ≡ false) ⊎ ((i ≡ 0) × (is_document_indicator xs ≡ true)))
@@ -109,16 +100,7 @@ no_break_at x a d = rw (ne_eqb x 10 a, ne_eqb x 13 d) refl
 pub behind_same : (st : BlockStyle) (i : ℕ) (ab : Option Bool) (k : ℕ) (b : Bool) (m : Marker) (n : ℕ)
     (x others : List ℕ) → m.col ≡ 0 → IsBehind i n x others → between st i ab k b m x
     ≡ lines_ended (is_some ab) k (line_cursor b (along m n) others)
-behind_same st i ab k b m n x others col h =
-    let at : m.col + n ≡ n = omega arith in
-    let space : is_indentation (Some i) (m.col + n) (slice_index others 0) ≡ false =
-    cc (space_off i n (slice_index others 0) h.no_space) in
-    let starts : line_starts i (m.col + n) others ≡ false = cc (none_starts i n others h.no_content) in
-    cc (
-      spaces_on st i ab k b n m others (omega (arith, h.within)),
-      no_line_at st i ab k b (along m n) others space
-          (no_break_at (slice_index others 0) h.no_break h.no_return) starts,
-    )
+behind_same st i ab k b m n x others col h = grind (arith, space_off, none_starts, spaces_on, no_line_at, no_break_at)
 
 behind_left : (st : BlockStyle) (i : ℕ) (ab : Option Bool) (k : ℕ) (b : Bool) (m : Marker) (n : ℕ) (x others : List ℕ)
     → m.col ≡ 0 → IsBehind i n x others → Left n others (between st i ab k b m x)
@@ -143,12 +125,7 @@ pub content_left : (st : BlockStyle) (i n : ℕ) (ab : Option Bool) (k : ℕ) (b
     (cs t others : List ℕ) → m.col ≡ i → IsContent i c cs (line_feed ∷ t)
     → ((more : Bool) (p : Marker) → p.col ≡ 0 → Left n others (between st i (Some more) 0 true p t))
     → Left n others (between st i ab k b m (c ∷ (cs ++ (line_feed ∷ t))))
-content_left st i n ab k b m c cs t others col h after =
-    let p = along m (length (c ∷ cs)) in
-    let same = begun_on st i ab k b m c cs (10 ∷ t) col h
-    ∙ ap (λ r. lines_behind_text (break_before st ab k (is_blank c)) (lines_behind_text (c ∷ cs) r))
-    (line_feed_on st i (is_blank c) b p t) in
-    rw same (after (is_blank c) (next_line p 1) refl)
+content_left st i n ab k b m c cs t others col h after = grind (arith, begun_on, line_feed_on)
 
 pub last_left : (st : BlockStyle) (i n : ℕ) (ab : Option Bool) (k : ℕ) (b : Bool) (m : Marker) (c : ℕ)
     (cs others : List ℕ) → m.col ≡ i → IsContent i c cs [] → others ≡ []
@@ -175,9 +152,8 @@ pub lines_left : (st : BlockStyle) (i n : ℕ) (x : List ℕ) (ab : Option Bool)
     → Left n others (between st i ab k b m t)
 lines_left st i n x ab k b m _ _ others col no_lines h = behind_left st i ab k b m n x others col h
 lines_left st i n x ab k b m _ _ others col (empty j ls t within l) h =
-    let at : m.col + j ≤ i = omega arith in
-    let same = spaces_on st i ab k b j m (10 ∷ t) at ∙ feed_on st i ab k b (along m j) t in
-    rw same (lines_left st i n x ab (k + 1) true (next_line (along m j) 1) ls t others refl l h)
+    let more = lines_left st i n x ab (k + 1) true (next_line (along m j) 1) ls t others refl l h in
+    grind (arith, spaces_on, feed_on, more)
 lines_left st i n x ab k b m _ _ others col (content c cs ls t ic l) h =
     let at : m.col + i ≤ i = omega arith in
     rw (spaces_on st i ab k b i m (c ∷ (cs ++ (10 ∷ t))) at) (content_left st i n ab k b (along m i) c cs t others
@@ -202,36 +178,22 @@ ended_tail c k = grind arith
 not_unfinished : (i n : ℕ) (s : Cursor) → s.mark.col ≡ n → (is_z (slice_index s.rest 0) ≡ true → n ≡ 0)
     → is_unfinished i s ≡ false
 unfolding is_unfinished
-not_unfinished i n s e h = by_z (is_z (slice_index s.rest 0)) refl
-  where
-    by_z : (z : Bool) → is_z (slice_index s.rest 0) ≡ z → (z && nat_le (max i 1) s.mark.col) ≡ false
-    by_z true z = let zero_is = h z in grind (arith, nat_tests)
-    by_z false z = refl
+not_unfinished i n s e h = grind arith
 
 unfinished : (i : ℕ) (s : Cursor) → i < s.mark.col → s.rest ≡ [] → is_unfinished i s ≡ true
 unfolding is_unfinished
-unfinished i s h e =
-    let far : nat_le (max i 1) s.mark.col ≡ true = grind (arith, nat_tests) in
-    rw (ap (λ (xs : List ℕ). is_z (slice_index xs 0)) e, far) refl
-
-keeps_more : (c : Chomping) (k : ℕ)
-    → tail c true (record { broken = true; empty_lines = k }) ≡ reading.chomped c true (suc k)
-keeps_more c k = grind arith
+unfinished i s h e = grind arith
 
 -- spaces up to the text's end, at the indentation and left of it
 full_spaces : (st : BlockStyle) (c : Chomping) (i : ℕ) (more : Bool) (k : ℕ) (b : Bool) (m : Marker) → m.col ≡ 0
     → 1 ≤ i → Value c i (between st i (Some more) k b m (spaces i)) ≡ reading.chomped c true (suc k)
 unfolding is_unfinished
-full_spaces st c i more k b m col some =
-    let far : nat_le (max i 1) (m.col + i) ≡ true = grind (arith, nat_tests) in
-    cc (spaces_end st i (Some more) k b i m (omega arith), keeps_more c k)
+full_spaces st c i more k b m col some = grind (arith, spaces_end)
 
 few_spaces : (st : BlockStyle) (c : Chomping) (i : ℕ) (more : Bool) (k : ℕ) (b : Bool) (j : ℕ) (m : Marker)
     → m.col ≡ 0 → j < i → Value c i (between st i (Some more) k b m (spaces j)) ≡ reading.chomped c true k
 unfolding is_unfinished
-few_spaces st c i more k b j m col less =
-    let near : nat_le (max i 1) (m.col + j) ≡ false = grind (arith, nat_tests) in
-    cc (spaces_end st i (Some more) k b j m (omega arith), ended_tail c k)
+few_spaces st c i more k b j m col less = grind (arith, spaces_end)
 
 behind_value : (st : BlockStyle) (c : Chomping) (i : ℕ) (more : Bool) (k : ℕ) (b : Bool) (m : Marker) (n : ℕ)
     (x others : List ℕ) → m.col ≡ 0 → IsBehind i n x others
@@ -278,10 +240,8 @@ pub lines_value_left : (st : BlockStyle) (c : Chomping) (i n : ℕ) (x others : 
 lines_value_left st c i n x others above more k b m _ _ e col no_lines h =
     behind_value st c i more k b m n x others col h
 lines_value_left st c i n x others above more k b m _ _ e col (empty j ls t within l) h =
-    let at : m.col + j ≤ i = omega arith in
-    ap (Value c i) (spaces_on st i (Some more) k b j m (10 ∷ t) at ∙ feed_on st i (Some more) k b (along m j) t)
-    ∙ lines_value_left st c i n x others above more (k + 1) true (next_line (along m j) 1) ls t e refl l h
-    ∙ rw (add-one k) refl
+    let more = lines_value_left st c i n x others above more (k + 1) true (next_line (along m j) 1) ls t e refl l h in
+    grind (arith, spaces_on, feed_on, more)
 lines_value_left st c i n x others above more k b m _ _ e col (content y cs ls t ic l) h =
     let bb = break_before st (Some more) k (is_blank y) in
     let own = contents_behind st (y ∷ cs) 0 ls in

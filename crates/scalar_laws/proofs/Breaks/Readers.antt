@@ -15,14 +15,14 @@ begins_alike text = record { line = refl; col = refl; rest = refl; blank = refl;
 
 pub reads_alike : (text : List ℕ) (s t : Cursor) → AreAlike text s t → ReadsAlike text s t
 reads_alike text s t e = record {
-  separation = λ tabs. separation_alike tabs e;
+  separation = λ tabs. (separation_alike tabs e).are;
   line_break = break_alike e;
   comment = comment_alike e;
-  plain = λ in_flow indent. plain_alike in_flow indent e;
+  plain = λ in_flow indent. (plain_alike in_flow indent e).are;
   byte_order_mark = λ h. mark_alike h e;
-  quoted = λ quote indent h. quoted_alike quote indent h e;
-  block_scalar = λ style indent h. block_alike style indent h e;
-  tag = λ in_flow h. tag_alike in_flow h e;
-  anchor = λ h. anchor_alike h e;
-  directive = λ h. directive_alike h e;
+  quoted = λ quote indent h. (quoted_alike quote indent h e).are;
+  block_scalar = λ style indent h. (block_alike style indent h e).are;
+  tag = λ in_flow h. (tag_alike in_flow h e).are;
+  anchor = λ h. (anchor_alike h e).are;
+  directive = λ h. (directive_alike h e).are;
 }

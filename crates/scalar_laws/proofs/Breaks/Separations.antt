@@ -1,8 +1,6 @@
 -- White space, comments, breaks and byte order marks are passed alike.
-use Rattle.std.proofs.Common.{◌≡◌, ℕ, ◌+◌, Bool, true, false, List, drop, slice_index, refl, sym, ap, ◌∙◌, arith, cond}
+use Rattle.std.proofs.Common.{◌≡◌, ℕ, Bool, true, false, List, drop, slice_index, refl, sym, ap, ◌∙◌, arith}
 use Rattle.std.specs.Prelude.{◌&&◌, ◌==◌, nat_lt}
-use Rattle.std.specs.List.{prefix_len}
-use Rattle.std.proofs.lemmas.List.{drop-drop}
 use Rattle.saphyr_input.specs.Classes.{is_break, is_bom, is_blank_or_breakz, is_blank, is_yaml_non_break, space}
 use Rattle.saphyr_input.specs.Places.{next_3_are, is_document_indicator}
 use Rattle.saphyr_input.specs.Separation.{is_skipped, blank_len, comment_len, is_bare_comment, separation_len, found_blanks}
@@ -10,26 +8,14 @@ use Rattle.saphyr_input.specs.declared.input.SkipTabs.{SkipTabs}
 use Rattle.saphyr_input.specs.declared.input.SkipTabs.TheVariants as skip
 use Rattle.saphyr_scalar.specs.Steps.Block.{line_cursor}
 use Rattle.saphyr_scalar.specs.declared.scalar.position.Marker.{Marker}
-use Rattle.saphyr_scalar.specs.Views.Cursor.{Cursor, pass, pass_blanks, pass_break, pass_comment, pass_byte_order_mark, separation, behind_separation}
+use Rattle.saphyr_scalar.specs.Views.Cursor.{Cursor, pass_break, pass_comment, pass_byte_order_mark, separation, behind_separation}
 use Rattle.saphyr_scalar.proofs.Choices.{both_by}
-use Rattle.scalar_laws.specs.Alike.{AreAlike, GiveAlike, AreSame}
-use Rattle.scalar_laws.proofs.Breaks.Sides.{Normal, nothing, character, feed, return, pair, no_feed, first_in, past_first, behind_first, Run, run_same, Places, places_moved, moved_along, moved_down, alike, normal_of, places_of}
-use Rattle.saphyr_input.proofs.Basics.Lists.{second_is, third_is, fourth_is}
+use Rattle.scalar_laws.specs.Alike.{AreAlike, AreSame}
+use Rattle.scalar_laws.proofs.Breaks.Sides.{Normal, nothing, character, feed, return, pair, no_feed, first_in, past_first, behind_first, Run, run_same, Places, places_moved, moved_down, alike, normal_of, places_of, PartsAlike, no_part, part_of, both_parts, passed_blanks}
+use Rattle.scalar_laws.proofs.Breaks.Results.{Both, gives, refused, choose_same}
 use Rattle.saphyr_input.proofs.Basics.Characters.{no_return}
 
--- a choice by a test of the first character
-pub by_first : {X Y : Type 0} (p : ℕ → Bool) → p 13 ≡ p 10 → {text : List ℕ} {s t : Cursor} → AreAlike text s t
-    → {x y : X} {z w : Y} (P : X → Y → Type 0)
-    → (p (slice_index s.rest 0) ≡ true → P x z) → (p (slice_index s.rest 0) ≡ false → P y w)
-    → P (cond (p (slice_index s.rest 0)) x y) (cond (p (slice_index t.rest 0)) z w)
-by_first p same {s = s} {t = t} e P then else =
-    both_by (p (slice_index s.rest 0)) (p (slice_index t.rest 0)) _ _ _ _ P (first_in p same (normal_of e))
-    (λ h _. then h) (λ h _. else h)
-
 -- ## Document markers
-
-all_four : (a b c d : Bool) → ((a && b && c) && d) ≡ (a && (b && (c && d)))
-all_four a b c d = grind arith
 
 abbrev ends_marker : List ℕ → Bool
 ends_marker r = is_blank_or_breakz (slice_index r 0)
@@ -39,9 +25,7 @@ mark_first c others r = (slice_index r 0 == c) && others (drop 1 r)
 
 marker_is : (c : ℕ) (r : List ℕ) → (next_3_are r c c c && is_blank_or_breakz (slice_index r 3)) ≡ mark_first c
     (mark_first c (mark_first c ends_marker)) r
-marker_is c r =
-    all_four (slice_index r 0 == c) (slice_index r 1 == c) (slice_index r 2 == c) (is_blank_or_breakz (slice_index r 3))
-    ∙ rw (second_is r, third_is r, fourth_is r) refl
+marker_is c r = grind arith
 
 first_more : (c : ℕ) → (13 == c) ≡ false → (10 == c) ≡ false → (others : List ℕ → Bool)
     → ((r q : List ℕ) → Normal r q → others r ≡ others q)
@@ -59,34 +43,6 @@ marker_alike c a b {r = r} {q = q} n =
 pub indicator_alike : {r q : List ℕ} → Normal r q → is_document_indicator r ≡ is_document_indicator q
 indicator_alike n = rw (marker_alike 45 refl refl n, marker_alike 46 refl refl n) refl
 
--- ## So many characters, of which none is a break
-
-pub record PartsAlike (a b : ℕ) (r q : List ℕ) : Type 0 where
-  pub len : a ≡ b
-  pub left : Normal (drop a r) (drop b q)
-
-pub no_part : {r q : List ℕ} → Normal r q → PartsAlike 0 0 r q
-no_part n = record { len = refl; left = n }
-
-pub part_of : {p : ℕ → Bool} {r q : List ℕ} → Run p r q → PartsAlike (prefix_len p r) (prefix_len p q) r q
-part_of x = record { len = x.len; left = x.left }
-
-pub first_part : {r q : List ℕ} → is_break (slice_index r 0) ≡ false → Normal r q → PartsAlike 1 1 r q
-first_part h n = record { len = refl; left = past_first h n }
-
-pub both_parts : (a b c d : ℕ) (r q : List ℕ) → PartsAlike a b r q → PartsAlike c d (drop a r) (drop b q)
-    → PartsAlike (a + c) (b + d) r q
-both_parts a b c d r q x y = record { len = omega arith; left = rw (← drop-drop c a r, ← drop-drop d b q) y.left }
-
-pub passed_blanks : {text : List ℕ} {s t : Cursor} (a b : ℕ) → PartsAlike a b s.rest t.rest → AreAlike text s t
-    → AreAlike text (pass_blanks a s) (pass_blanks b t)
-passed_blanks {s = s} {t = t} a b p e =
-    alike s.blank_so_far t.blank_so_far e.blank p.left (moved_along a b p.len (places_of e))
-
-pub passed_alike : {text : List ℕ} {s t : Cursor} (a b : ℕ) → PartsAlike a b s.rest t.rest → AreAlike text s t
-    → AreAlike text (pass a s) (pass b t)
-passed_alike a b p e = alike false false refl p.left (moved_along a b p.len (places_of e))
-
 -- ## Breaks, comments and byte order marks
 
 break_at : {text r q : List ℕ} (a b : Bool) (m n : Marker) → a ≡ b → Normal r q → Places text r q m n
@@ -101,9 +57,7 @@ pub break_alike : {text : List ℕ} {s t : Cursor} → AreAlike text s t → Are
 break_alike {s = s} {t = t} e = break_at s.blank_so_far t.blank_so_far s.mark t.mark e.blank (normal_of e) (places_of e)
 
 pub comment_alike : {text : List ℕ} {s t : Cursor} → AreAlike text s t → AreAlike text (pass_comment s) (pass_comment t)
-comment_alike {s = s} {t = t} e =
-    passed_blanks (prefix_len is_yaml_non_break s.rest) (prefix_len is_yaml_non_break t.rest)
-    (part_of (run_same is_yaml_non_break refl refl (normal_of e))) e
+comment_alike {s = s} {t = t} e = search (passed_blanks, part_of, run_same, normal_of)
 
 pub mark_alike : {text : List ℕ} {s t : Cursor} → is_break (slice_index s.rest 0) ≡ false → AreAlike text s t
     → AreAlike text (pass_byte_order_mark s) (pass_byte_order_mark t)
@@ -138,18 +92,14 @@ bare_alike : (tabs : SkipTabs) {r q : List ℕ} → Normal r q → is_bare_comme
 bare_alike tabs n = rw ((blanks_run tabs n).len, first_in (λ c. c == 35) refl n) refl
 
 behind_alike : (tabs : SkipTabs) {text r q : List ℕ} {s t : Cursor} → Normal r q → AreAlike text s t
-    → GiveAlike (AreSame text) (behind_separation tabs r s) (behind_separation tabs q t)
+    → Both (AreSame text) (behind_separation tabs r s) (behind_separation tabs q t)
 unfolding behind_separation
-behind_alike tabs {text = text} {r = r} {q = q} {s = s} {t = t} n e =
-    both_by (nat_lt 0 s.mark.col && is_bom (slice_index s.rest 0))
-    (nat_lt 0 t.mark.col && is_bom (slice_index t.rest 0)) _ _ _ _ (GiveAlike (AreSame text))
-    (let first = first_in is_bom refl (normal_of e) in rw (e.col, first) refl) (λ _ _. refl)
-    (λ _ _. both_by (is_bare_comment tabs r) (is_bare_comment tabs q) _ _ _ _ (GiveAlike (AreSame text))
-    (bare_alike tabs n) (λ _ _. refl) (λ _ _. (found_alike tabs n, e)))
+behind_alike tabs {r = r} {q = q} {s = s} {t = t} n e = let first = first_in is_bom refl (normal_of e) in
+    choose_same (nat_lt 0 s.mark.col && is_bom (slice_index s.rest 0)) (nat_lt 0 t.mark.col && is_bom
+    (slice_index t.rest 0)) (rw (e.col, first) refl) (λ _. refused) (λ _. choose_same (is_bare_comment tabs r)
+    (is_bare_comment tabs q) (bare_alike tabs n) (λ _. refused) (λ _. gives (found_alike tabs n, e)))
 
 pub separation_alike : (tabs : SkipTabs) {text : List ℕ} {s t : Cursor} → AreAlike text s t
-    → GiveAlike (AreSame text) (separation tabs s) (separation tabs t)
+    → Both (AreSame text) (separation tabs s) (separation tabs t)
 unfolding separation
-separation_alike tabs {s = s} {t = t} e =
-    behind_alike tabs (normal_of e) (passed_blanks (separation_len tabs s.rest) (separation_len tabs t.rest)
-    (separation_part tabs (normal_of e)) e)
+separation_alike tabs {s = s} {t = t} e = search (behind_alike, normal_of, passed_blanks, separation_part)

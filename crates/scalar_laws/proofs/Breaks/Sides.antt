@@ -1,5 +1,5 @@
 -- A text and its normalized text, side by side: their characters, and the places where they are.
-use Rattle.std.proofs.Common.{◌≡◌, ℕ, suc, ◌+◌, Bool, true, false, List, [], ◌∷◌, take, drop, slice_index, refl, sym, ap, ◌∙◌, arith, subst}
+use Rattle.std.proofs.Common.{◌≡◌, ℕ, ◌+◌, Bool, true, false, List, [], ◌∷◌, take, drop, slice_index, refl, sym, ap, ◌∙◌, arith, subst}
 use Rattle.std.specs.Prelude.{◌&&◌, ◌==◌}
 use Rattle.std.specs.List.{prefix_len}
 use Rattle.std.proofs.lemmas.List.{drop-drop}
@@ -7,11 +7,12 @@ use Rattle.std.proofs.lemmas.Bool.Decides.{nat_tests}
 use Rattle.saphyr_input.specs.Breaks.{normalized}
 use Rattle.saphyr_input.specs.Classes.{is_break, carriage_return, line_feed}
 use Rattle.saphyr_scalar.specs.declared.scalar.position.Marker.{Marker}
-use Rattle.saphyr_scalar.specs.Views.Cursor.{Cursor, along, next_line}
+use Rattle.saphyr_scalar.specs.Views.Cursor.{Cursor, along, next_line, pass, pass_blanks}
 use Rattle.saphyr_scalar.specs.Steps.Block.{line_cursor}
 use Rattle.scalar_laws.specs.Alike.{AreMarksAlike, AreAlike}
 use Rattle.saphyr_input.proofs.Basics.Lists.{second_is}
 use Rattle.saphyr_input.proofs.Basics.Characters.{no_return}
+use Rattle.saphyr_scalar.proofs.NoBreaks.{class_no_break}
 
 -- ## Characters
 
@@ -110,14 +111,7 @@ pub record Run (p : ℕ → Bool) (r q : List ℕ) : Type 0 where
   pub left : Normal (drop (prefix_len p r) r) (drop (prefix_len p q) q)
 
 run_on : (p : ℕ → Bool) (c : ℕ) (r q : List ℕ) → Run p r q → p c ≡ true → Run p (c ∷ r) (c ∷ q)
-run_on p c r q x h =
-    let one : 1 + prefix_len p r ≡ suc (prefix_len p r) = omega arith in
-    let two : 1 + prefix_len p q ≡ suc (prefix_len p q) = omega arith in
-    record {
-      len = rw (h, x.len) refl;
-      text = rw (h, one, two) (ap (λ t. c ∷ t) x.text);
-      left = rw (h, one, two) x.left;
-    }
+run_on p c r q x h = grind arith
 
 run_at : (p : ℕ → Bool) (c : ℕ) {r q : List ℕ} → is_break c ≡ false → Normal r q → Run p r q → (t : Bool) → p c ≡ t
     → Run p (c ∷ r) (c ∷ q)
@@ -148,13 +142,7 @@ dropped_further text r i j a e f = rw f (sym (drop-drop a i text) ∙ ap (drop a
 pub places_moved : {text r q : List ℕ} {m n : Marker} (a b : ℕ) (k l : Marker) → Places text r q m n
     → k.index ≡ m.index + a
     → l.index ≡ n.index + b → k.line ≡ l.line → k.col ≡ l.col → Places text (drop a r) (drop b q) k l
-places_moved {text = text} {r = r} {q = q} {m = m} {n = n} a b k l p e f line col =
-    record {
-      line = line;
-      col = col;
-      here = dropped_further text r m.index k.index a p.here e;
-      there = dropped_further (normalized text) q n.index l.index b p.there f;
-    }
+places_moved {text = text} {r = r} {q = q} {m = m} {n = n} a b k l p e f line col = search (dropped_further)
 
 pub moved_along : {text r q : List ℕ} {m n : Marker} (a b : ℕ) → a ≡ b → Places text r q m n
     → Places text (drop a r) (drop b q) (along m a) (along n b)
@@ -185,3 +173,47 @@ normal_of {s = s} {t = t} a = normal s.rest t.rest a.rest
 
 pub places_of : {text : List ℕ} {s t : Cursor} → AreAlike text s t → Places text s.rest t.rest s.mark t.mark
 places_of a = record { line = a.line; col = a.col; here = a.here; there = a.there }
+
+-- ## So many characters, of which none is a break
+
+-- the first character is no break
+abbrev pub NoBreak : List ℕ → Type 0
+NoBreak r = is_break (slice_index r 0) ≡ false
+
+-- a class without breaks
+pub no_break_in : (p : ℕ → Bool) → p 10 ≡ false → p 13 ≡ false → (r : List ℕ) → p (slice_index r 0) ≡ true → NoBreak r
+no_break_in p a b r h = class_no_break p a b (slice_index r 0) h
+
+pub record PartsAlike (a b : ℕ) (r q : List ℕ) : Type 0 where
+  pub len : a ≡ b
+  pub left : Normal (drop a r) (drop b q)
+
+pub no_part : {r q : List ℕ} → Normal r q → PartsAlike 0 0 r q
+no_part n = record { len = refl; left = n }
+
+pub part_of : {p : ℕ → Bool} {r q : List ℕ} → Run p r q → PartsAlike (prefix_len p r) (prefix_len p q) r q
+part_of x = record { len = x.len; left = x.left }
+
+pub first_part : {r q : List ℕ} → NoBreak r → Normal r q → PartsAlike 1 1 r q
+first_part h n = record { len = refl; left = past_first h n }
+
+pub both_parts : (a b c d : ℕ) (r q : List ℕ) → PartsAlike a b r q → PartsAlike c d (drop a r) (drop b q)
+    → PartsAlike (a + c) (b + d) r q
+both_parts a b c d r q x y = record { len = omega arith; left = rw (← drop-drop c a r, ← drop-drop d b q) y.left }
+
+module _ {text : List ℕ} {s t : Cursor} (a b : ℕ) where
+  pub passed_blanks : PartsAlike a b s.rest t.rest → AreAlike text s t
+      → AreAlike text (pass_blanks a s) (pass_blanks b t)
+  passed_blanks p e = alike s.blank_so_far t.blank_so_far e.blank p.left (moved_along a b p.len (places_of e))
+
+  pub passed_alike : PartsAlike a b s.rest t.rest → AreAlike text s t → AreAlike text (pass a s) (pass b t)
+  passed_alike p e = alike false false refl p.left (moved_along a b p.len (places_of e))
+
+pub one_passed : {text : List ℕ} {s t : Cursor} → NoBreak s.rest → AreAlike text s t
+    → AreAlike text (pass 1 s) (pass 1 t)
+one_passed h e = passed_alike 1 1 (first_part h (normal_of e)) e
+
+pub two_passed : {text : List ℕ} {s t : Cursor} → NoBreak s.rest → NoBreak (drop 1 s.rest) → AreAlike text s t
+    → AreAlike text (pass 2 s) (pass 2 t)
+two_passed {s = s} {t = t} h k e = let n = normal_of e in
+    passed_alike 2 2 (both_parts 1 1 1 1 s.rest t.rest (first_part h n) (first_part k (past_first h n))) e

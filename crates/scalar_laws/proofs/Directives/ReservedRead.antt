@@ -1,5 +1,5 @@
 -- Each spelled reserved directive is read.
-use Rattle.std.proofs.Common.{◌≡◌, ◌≢◌, ℕ, ◌+◌, true, List, [], ◌∷◌, ◌++◌, length, length-append, append_assoc, slice_index, Ok, refl, ap, ◌∙◌, arith, encode_utf8_all, IsTrue, inl, inr, lit<}
+use Rattle.std.proofs.Common.{◌≡◌, ◌≢◌, ℕ, ◌+◌, true, List, [], ◌∷◌, ◌++◌, length, length-append, append_assoc, slice_index, Ok, ap, ◌∙◌, arith, encode_utf8_all, IsTrue, inl, inr}
 use Rattle.std.specs.Prelude.{◌⊎◌, codes}
 use Rattle.std.proofs.Math.Seq.{drop-append_seam}
 use Rattle.std.proofs.lemmas.Bool.{or_left, or_right}
@@ -13,7 +13,7 @@ use Rattle.saphyr_scalar.specs.Spelling.Tag.{AreIn}
 use Rattle.saphyr_scalar.proofs.Runs.{run_len}
 use Rattle.saphyr_scalar.proofs.Places.{along_three}
 use Rattle.saphyr_input.proofs.Basics.Characters.{breakz_no_non_break}
-use Rattle.saphyr_scalar.proofs.Directives.PartEnds.{blanks_passed, said}
+use Rattle.saphyr_scalar.proofs.Directives.PartEnds.{said}
 use Rattle.saphyr_scalar.proofs.Directives.TailsRead.{line_read, no_tail}
 use Rattle.saphyr_scalar.proofs.Directives.Read.{name_read, whole_line, tail_given, line_place, directive_same}
 use Rattle.saphyr_scalar.proofs.Directives.LowBytes.{not_text}
@@ -21,12 +21,7 @@ use Rattle.saphyr_scalar.proofs.Directives.LowBytes.{not_text}
 reserved_value : (start : Marker) (name : List ℕ) (s : Cursor) → name ≢ codes "YAML" → name ≢ codes "TAG"
     → value start (encode_utf8_all name, s) ≡ Ok (reserved (encode_utf8_all name), pass_comment s)
 unfolding value
-reserved_value start name s no_yaml no_tag =
-    rw (
-      not_text name (codes "YAML") (lit< tt, (lit< tt, (lit< tt, (lit< tt, tt)))) no_yaml,
-      not_text name (codes "TAG")
-          (lit< tt, (lit< tt, (lit< tt, tt))) no_tag,
-    ) refl
+reserved_value start name s no_yaml no_tag = grind (arith, not_text)
 
 more_begins : (more x : List ℕ) → (more ≡ []) ⊎ IsTrue (is_blank (slice_index more 0))
     → is_breakz (slice_index x 0) ≡ true → is_blank_or_breakz (slice_index (more ++ x) 0) ≡ true
@@ -36,9 +31,7 @@ more_begins (c ∷ more) x (inr blank) ends = or_left (is_blank c) (is_breakz c)
 
 comment_passed : (k : Marker) (more x : List ℕ) → AreIn is_yaml_non_break more → is_breakz (slice_index x 0) ≡ true
     → pass_comment (mid_line k (more ++ x)) ≡ mid_line (along k (length more)) x
-comment_passed k more x are ends = ap (λ n. blanks_passed n k (more ++ x))
-    (run_len is_yaml_non_break more x are (breakz_no_non_break (slice_index x 0) ends))
-    ∙ rw (drop-append_seam more x) refl
+comment_passed k more x are ends = search (run_len, breakz_no_non_break, drop-append_seam)
 
 reserved_line : (m : Marker) (name t x : List ℕ) → IsReservedDirective name t → is_breakz (slice_index x 0) ≡ true
     → directive (mid_line m (t ++ x))

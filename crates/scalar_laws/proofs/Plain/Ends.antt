@@ -1,28 +1,21 @@
 -- Where a plain scalar ends.
-use Rattle.std.proofs.Common.{◌≡◌, ℕ, ◌<◌, Bool, true, false, List, [], slice_index, Ok, refl, arith, subst, ⊎_elim}
-use Rattle.std.specs.Prelude.{◌||◌, ◌&&◌, ◌==◌, not, nat_lt}
+use Rattle.std.proofs.Common.{◌≡◌, ℕ, ◌<◌, Bool, true, false, List, [], slice_index, Ok, refl, arith}
+use Rattle.std.specs.Prelude.{◌&&◌, not, nat_lt}
 use Rattle.std.proofs.lemmas.Bool.Decides.{nat_tests}
-use Rattle.saphyr_input.specs.Classes.{is_blank, is_break}
-use Rattle.saphyr_input.specs.Places.{is_blank_or_break, is_document_indicator, can_be_plain}
+use Rattle.saphyr_input.specs.Places.{is_blank_or_break, is_document_indicator}
 use Rattle.saphyr_scalar.specs.declared.scalar.position.Marker.{Marker}
 use Rattle.saphyr_scalar.specs.Views.Cursor.{Cursor}
-use Rattle.saphyr_scalar.specs.Steps.Quoted.{mid_line}
 use Rattle.saphyr_scalar.specs.Steps.Plain.{is_in_word, word_starts, next_word_starts, comment_of, word}
 use Rattle.saphyr_scalar.proofs.Plain.Pieces.{word_over, goes_not}
 use Rattle.scalar_laws.specs.Spelling.Plain.{past_white, is_tabbed, StopsPlain, EndsPlain}
 use Rattle.scalar_laws.proofs.Plain.White.{past_stop, gap_past}
-use Rattle.std.proofs.lemmas.Bool.{false≢true}
 use Rattle.saphyr_input.proofs.Basics.Booleans.{by_test}
-use Rattle.std.proofs.Math.Bool.{or-true}
 use Rattle.saphyr_input.specs.Indicators.{number_sign}
 
 -- no word goes on with a blank or a break
 pub white_stops : (f : Bool) (xs : List ℕ) → is_blank_or_break (slice_index xs 0) ≡ true → is_in_word f xs ≡ false
 unfolding is_in_word
-white_stops f xs h = by_white (is_blank (slice_index xs 0)) (is_break (slice_index xs 0)) h
-  where
-    by_white : (a b : Bool) → (a || b) ≡ true → (not (a || (b || (slice_index xs 0 == 0))) && can_be_plain f xs) ≡ false
-    by_white a b h = grind arith
+white_stops f xs h = grind arith
 
 comment_starts_not : (f : Bool) (s : Cursor) → slice_index s.rest 0 ≡ number_sign → word_starts f s ≡ Ok (false, s)
 unfolding word_starts
@@ -37,18 +30,12 @@ comment_stops f i s h = by_test (s.blank_so_far && not f && nat_lt s.mark.col i)
 marker_starts_not : (f : Bool) (s : Cursor) → s.mark.col ≡ 0 → is_document_indicator s.rest ≡ true
     → word_starts f s ≡ Ok (false, s)
 unfolding word_starts
-marker_starts_not f s col is =
-    let first : (s.mark.col == 0) ≡ true = grind (arith, nat_tests) in
-    let there : ((slice_index s.rest 0 == 35) || ((s.mark.col == 0) && is_document_indicator s.rest)) ≡ true =
-    rw (first, is) (or-true (slice_index s.rest 0 == 35)) in
-    rw there refl
+marker_starts_not f s col is = grind arith
 
 marker_stops : (f : Bool) (i : ℕ) (s : Cursor) → s.mark.col ≡ 0 → is_document_indicator s.rest ≡ true
     → next_word_starts f i s ≡ Ok (false, s)
 unfolding next_word_starts
-marker_stops f i s col is =
-    by_test (s.blank_so_far && not f && nat_lt s.mark.col i) _ _ (λ r. r ≡ Ok (false, s)) (λ _. refl)
-    (λ _. marker_starts_not f s col is)
+marker_stops f i s col is = grind (arith, marker_starts_not)
 
 left_stops : (f : Bool) (i : ℕ) (s : Cursor) → f ≡ false → s.blank_so_far ≡ true → s.mark.col < i
     → next_word_starts f i s ≡ Ok (false, s)
@@ -57,20 +44,11 @@ left_stops f i s out blank left =
     let less : nat_lt s.mark.col i ≡ true = grind (arith, nat_tests) in rw (out, blank, less) refl
 
 pub stops_plain : (f : Bool) (i : ℕ) (s : Cursor) → StopsPlain f i s → next_word_starts f i s ≡ Ok (false, s)
-stops_plain f i s h = ⊎_elim (λ e. goes_not f i s e)
-    (λ h. ⊎_elim (λ e. comment_stops f i s e)
-    (λ h. ⊎_elim (λ e. marker_stops f i s e.0 e.1) (λ e. left_stops f i s e.0 e.1 e.2) h) h) h
+stops_plain f i s h = grind (arith, goes_not, comment_stops, marker_stops, left_stops)
 
 -- the character after the word is not of it
 word_stops : (f : Bool) (i : ℕ) (e : Marker) (x : List ℕ) → 0 < e.col → EndsPlain f i e x → is_in_word f x ≡ false
-word_stops f i e x some h = test (is_blank_or_break (slice_index x 0)) refl
-  where
-    test : (b : Bool) → is_blank_or_break (slice_index x 0) ≡ b → is_in_word f x ≡ false
-    test true white = white_stops f x white
-    test false other =
-        let stops : StopsPlain f i (mid_line e x) = subst (StopsPlain f i) (past_stop e false x other) h.stops in
-        ⊎_elim (λ g. g) (λ g. ⊎_elim (λ g. absurd (h.apart g))
-        (λ g. ⊎_elim (λ g. absurd (omega (arith, g.0))) (λ g. absurd (false≢true g.1)) g) g) stops
+word_stops f i e x some h = grind (arith, white_stops, past_stop)
 
 -- the end of the last word, after which blanks and breaks and what ends the scalar are
 pub word_ends : (f : Bool) (i : ℕ) (a e : Marker) (x : List ℕ) → 0 < e.col → EndsPlain f i e x

@@ -1,11 +1,11 @@
 -- A plain scalar of several words and lines is read, without a fault.
-use Rattle.std.proofs.Common.{◌≡◌, ◌≢◌, ℕ, suc, ◌+◌, ◌<◌, ◌≤◌, Bool, true, false, List, [], ◌∷◌, ◌++◌, length, slice_index, Ok, refl, sym, ap, ◌∙◌, arith, subst, encode_utf8_all, append_assoc, IsTrue, ⊎_elim, inl}
+use Rattle.std.proofs.Common.{◌≡◌, ◌≢◌, ℕ, suc, ◌+◌, ◌<◌, Bool, true, false, List, [], ◌∷◌, ◌++◌, length, slice_index, Ok, refl, sym, ap, ◌∙◌, arith, subst, encode_utf8_all, append_assoc, IsTrue, inl}
 use Rattle.std.specs.Prelude.{◌||◌, ◌&&◌, ◌==◌, not, nat_lt, encode_utf8, if◌then◌else◌}
 use Rattle.std.specs.List.{prefix_len}
 use Rattle.std.proofs.lemmas.Bool.Decides.{nat_tests}
 use Rattle.std.proofs.Math.Seq.{take-append_seam}
 use Rattle.saphyr_input.specs.Breaks.{normalized}
-use Rattle.saphyr_input.specs.Classes.{is_blank, is_break, is_blank_or_breakz, is_flow, is_bom}
+use Rattle.saphyr_input.specs.Classes.{is_blank, is_break, is_flow}
 use Rattle.saphyr_input.specs.Places.{is_blank_or_break, is_document_indicator}
 use Rattle.saphyr_scalar.specs.Spelling.Tag.{AreIn}
 use Rattle.saphyr_scalar.specs.declared.scalar.position.Marker.{Marker}
@@ -14,10 +14,10 @@ use Rattle.saphyr_scalar.specs.Values.Flow.{plain_value}
 use Rattle.saphyr_scalar.specs.Steps.Plain.{is_in_word, word_starts, next_word_starts, comment_of, ends_line, with_text, PlainScalarRead, word, plain}
 use Rattle.saphyr_scalar.specs.Reading.Plain.{end_of_text}
 use Rattle.saphyr_scalar.proofs.Moving.{along_none, along_more}
-use Rattle.saphyr_scalar.proofs.Plain.Runs.{AreInk, NoFeed, same_ends, passed_append, passed_word, passed_index}
+use Rattle.saphyr_scalar.proofs.Plain.Runs.{AreNonSpace, NoFeed, same_ends, passed_append, passed_word, passed_index}
 use Rattle.saphyr_scalar.proofs.Plain.Pieces.{no_text, text_twice, word_on, word_over, plain_starts}
 use Rattle.saphyr_scalar.proofs.Plain.Sound.{plain_reads}
-use Rattle.scalar_laws.specs.Spelling.Plain.{behind_blanks, past_white, reaches_tabbed, is_tabbed, EndsPlain, is_word_ink, AreInkBefore, IsWordBefore, has_line_end, IsPlainGap, words_text, IsNoMarker, AreFurtherWords, IsPlainText}
+use Rattle.scalar_laws.specs.Spelling.Plain.{behind_blanks, past_white, reaches_tabbed, is_tabbed, EndsPlain, is_plain_safe, AreSafeBefore, IsWordBefore, has_line_end, IsPlainGap, words_text, IsNoMarker, AreFurtherWords, IsPlainText}
 use Rattle.scalar_laws.proofs.Plain.White.{flag_on, tabbed_on, tabbed_stop, past_on, past_stop, gap_past}
 use Rattle.scalar_laws.proofs.Plain.Ends.{word_ends, white_stops}
 use Rattle.saphyr_input.proofs.Basics.Lists.{some_length}
@@ -28,36 +28,20 @@ use Rattle.saphyr_scalar.proofs.Given.{cursor_at}
 
 -- words
 
-one_in_word : (f : Bool) (c : ℕ) (cs : List ℕ) → IsTrue (is_word_ink f c)
-    → (c ≡ colon → IsTrue (is_word_ink f (slice_index cs 0))) → is_in_word f (c ∷ cs) ≡ true
+one_in_word : (f : Bool) (c : ℕ) (cs : List ℕ) → IsTrue (is_plain_safe f c)
+    → (c ≡ colon → IsTrue (is_plain_safe f (slice_index cs 0))) → is_in_word f (c ∷ cs) ≡ true
 unfolding is_in_word
-one_in_word f c cs h next = test (c == 58) refl
-  where
-    d : ℕ
-    d = slice_index cs 0
+one_in_word f c cs h next = grind (arith, none_of_three, nat_tests)
 
-    parts : (is_blank_or_breakz c ≡ false) × (is_bom c ≡ false) × ((f && is_flow c) ≡ false)
-    parts = none_of_three (is_blank_or_breakz c) (is_bom c) (f && is_flow c) h
+safe_in_word : (f : Bool) (c : ℕ) (cs y : List ℕ) → AreSafeBefore f (c ∷ cs) y → is_in_word f (c ∷ (cs ++ y)) ≡ true
+safe_in_word f c cs y h = one_in_word f c (cs ++ y) h.0 h.1
 
-    test : (b : Bool) → (c == colon) ≡ b → (not (is_blank_or_breakz c)
-        && (if c == colon then not (is_blank_or_breakz d || (f && is_flow d)) else not (is_bom c || (f && is_flow c))))
-        ≡ true
-    test true e =
-        let is : c ≡ 58 = grind (arith, nat_tests) in
-        let n = none_of_three (is_blank_or_breakz d) (is_bom d) (f && is_flow d) (next is) in
-        subst (λ b. (not b && (if c == 58 then not (is_blank_or_breakz d || (f && is_flow d)) else
-        not (is_bom c || (f && is_flow c)))) ≡ true) (sym parts.0) (rw (e, n.0) (ap not n.2))
-    test false e = rw (parts.0, e, parts.1) (ap not parts.2)
-
-ink_in_word : (f : Bool) (c : ℕ) (cs y : List ℕ) → AreInkBefore f (c ∷ cs) y → is_in_word f (c ∷ (cs ++ y)) ≡ true
-ink_in_word f c cs y h = one_in_word f c (cs ++ y) h.0 h.1
-
-read_word : (f : Bool) (i : ℕ) (a m : Marker) (w y : List ℕ) → AreInkBefore f w y
+read_word : (f : Bool) (i : ℕ) (a m : Marker) (w y : List ℕ) → AreSafeBefore f w y
     → word f i a m (w ++ y) ≡ with_text (encode_utf8_all w) (word f i a (along m (length w)) y)
 read_word f i a m [] y h = cc (no_text _, along_none m)
 read_word f i a m (c ∷ w) y h =
     cc (
-      word_on f i a m c (w ++ y) (ink_in_word f c w y h),
+      word_on f i a m c (w ++ y) (safe_in_word f c w y h),
       read_word f i a (along m 1) w y h.2,
       text_twice (encode_utf8 c) (encode_utf8_all w) _,
       along_more m 1 (length w) (suc (length w)) (omega arith),
@@ -70,20 +54,14 @@ starts_so : (f : Bool) (s : Cursor) → (slice_index s.rest 0 == number_sign) �
     → (f && (slice_index s.rest 0 == hyphen) && is_flow (slice_index s.rest 1)) ≡ false
     → is_in_word f s.rest ≡ true → word_starts f s ≡ Ok (true, s)
 unfolding word_starts
-starts_so f s hash marker lone goes =
-    let none : ((slice_index s.rest 0 == 35) || ((s.mark.col == 0) && is_document_indicator s.rest)) ≡ false =
-    rw hash marker in
-    rw (none, lone, goes) refl
+starts_so f s hash marker lone goes = search
 
 no_marker_by_test : (m : Marker) (xs : List ℕ) → IsNoMarker m xs → ((m.col == 0) && is_document_indicator xs) ≡ false
-no_marker_by_test m xs h = test (m.col == 0) refl
-  where
-    test : (b : Bool) → (m.col == 0) ≡ b → ((m.col == 0) && is_document_indicator xs) ≡ false
-    test b e = grind arith
+no_marker_by_test m xs h = grind arith
 
 first_in : (f : Bool) (w y : List ℕ) → IsWordBefore f w y → is_in_word f (w ++ y) ≡ true
 first_in f [] y h = absurd (h.some refl)
-first_in f (c ∷ cs) y h = ink_in_word f c cs y h.ink
+first_in f (c ∷ cs) y h = safe_in_word f c cs y h.safe
 
 first_is : (f : Bool) (w y : List ℕ) → IsWordBefore f w y → slice_index (w ++ y) 0 ≡ slice_index w 0
 first_is f [] y h = absurd (h.some refl)
@@ -106,28 +84,19 @@ word_begins f m b w y h marker =
 abbrev Dark : List ℕ → Type 0
 Dark xs = is_blank_or_break (slice_index xs 0) ≡ false
 
-ink_of : (f : Bool) (w y : List ℕ) → AreInkBefore f w y → AreInk w
-ink_of f [] y h = tt
-ink_of f (c ∷ w) y h = (no_white (is_blank c) (is_break c) (c == 0) (is_bom c) (f && is_flow c) h.0, ink_of f w y h.2)
-  where
-    no_white : (a b z d e : Bool) → (not (a || (b || z)) && not d && not e) ≡ true → (a || b) ≡ false
-    no_white a b z d e h = grind arith
+non_space_of : (f : Bool) (w y : List ℕ) → AreSafeBefore f w y → AreNonSpace w
+non_space_of f [] y h = tt
+non_space_of f (c ∷ w) y h = grind (arith, non_space_of f w y h.2)
 
 word_dark : (f : Bool) (w y z : List ℕ) → IsWordBefore f w z → Dark (w ++ y)
 word_dark f [] y z h = absurd (h.some refl)
-word_dark f (c ∷ cs) y z h = (ink_of f (c ∷ cs) z h.ink).0
+word_dark f (c ∷ cs) y z h = (non_space_of f (c ∷ cs) z h.safe).0
 
 dark_no_feed : (xs : List ℕ) → Dark xs → NoFeed xs
-dark_no_feed xs h = by_parts (is_blank (slice_index xs 0)) (slice_index xs 0 == 10) (slice_index xs 0 == 13) h
-  where
-    by_parts : (a b d : Bool) → (a || (b || d)) ≡ false → b ≡ false
-    by_parts a b d e = grind arith
+dark_no_feed xs h = grind arith
 
 dark_no_blank : (xs : List ℕ) → Dark xs → is_blank (slice_index xs 0) ≡ false
-dark_no_blank xs h = by_parts (is_blank (slice_index xs 0)) (is_break (slice_index xs 0)) h
-  where
-    by_parts : (a b : Bool) → (a || b) ≡ false → a ≡ false
-    by_parts a b e = grind arith
+dark_no_blank xs h = grind arith
 
 past_gap : (m : Marker) (b : Bool) (v y : List ℕ) → AreIn is_blank_or_break v → Dark y
     → past_white m b (v ++ y) ≡ cursor_at y (end_of_text m v) (b || has_line_end v)
@@ -175,25 +144,7 @@ gap_first (c ∷ v) y some are = are.0
 -- a gap's place is not left of the scalar's indentation
 not_left : (f : Bool) (i : ℕ) (m : Marker) (v : List ℕ) → IsPlainGap f i m v
     → (has_line_end v && not f && nat_lt (end_of_text m v).col i) ≡ false
-not_left f i m v h = ⊎_elim (λ e. in_flow f e) (λ r. ⊎_elim (λ e. on_line e) (λ e. indented e) r) h.indented
-  where
-    in_flow : (g : Bool) → g ≡ true → (has_line_end v && not g && nat_lt (end_of_text m v).col i) ≡ false
-    in_flow true e = none_of (has_line_end v) (nat_lt (end_of_text m v).col i)
-      where
-        none_of : (a b : Bool) → (a && false && b) ≡ false
-        none_of a b = grind arith
-    in_flow false e = absurd (cc)
-
-    on_line : has_line_end v ≡ false → (has_line_end v && not f && nat_lt (end_of_text m v).col i) ≡ false
-    on_line e = rw e refl
-
-    last_of : (a b : Bool) → (a && b && false) ≡ false
-    last_of a b = grind arith
-
-    indented : i ≤ (end_of_text m v).col → (has_line_end v && not f && nat_lt (end_of_text m v).col i) ≡ false
-    indented le =
-        let more : nat_lt (end_of_text m v).col i ≡ false = grind (arith, nat_tests) in
-        rw more (last_of (has_line_end v) (not f))
+not_left f i m v h = grind arith
 
 goes_here : (f : Bool) (i : ℕ) (s : Cursor) → (s.blank_so_far && not f && nat_lt s.mark.col i) ≡ false
     → word_starts f s ≡ Ok (true, s) → next_word_starts f i s ≡ Ok (true, s)
@@ -254,17 +205,16 @@ words_read f i a (p ∷ ps) m x some h ends =
     let first : 0 < (along there (length w)).col = omega (arith, some_length w h.1.some) in
     more_text f (is_tabbed i x) passes.text _ _ _ _ (ap (word f i a m)
     (cc (append_assoc v (w ++ words_text ps) x, append_assoc w (words_text ps) x)) ∙ passes.is)
-    (more_text f (is_tabbed i x) (encode_utf8_all w) _ _ _ _ (read_word f i a there w z h.1.ink)
+    (more_text f (is_tabbed i x) (encode_utf8_all w) _ _ _ _ (read_word f i a there w z h.1.safe)
     (words_read f i a ps (along there (length w)) x first h.3 ends))
 
 -- places
 passed_words : (f : Bool) (i : ℕ) (ps : List (List ℕ × List ℕ)) (m : Marker) (x : List ℕ) → AreFurtherWords f i m ps x
     → end_of_text m (words_text ps) ≡ end_of m ps
 passed_words f i [] m x h = refl
-passed_words f i (p ∷ ps) m x h = passed_append m p.0 (p.1 ++ words_text ps)
-    (dark_no_feed (p.1 ++ words_text ps) (word_dark f p.1 (words_text ps) (words_text ps ++ x) h.1))
-    ∙ passed_word (end_of_text m p.0) p.1 (words_text ps) (ink_of f p.1 (words_text ps ++ x) h.1.ink)
-    ∙ passed_words f i ps (along (end_of_text m p.0) (length p.1)) x h.3
+passed_words f i (p ∷ ps) m x h =
+    let more = passed_words f i ps (along (end_of_text m p.0) (length p.1)) x h.3 in
+    search (passed_append, dark_no_feed, word_dark, passed_word, non_space_of, more)
 
 -- two beginnings of one length are the same
 same_piece : (xs ys us vs : List ℕ) → xs ++ us ≡ ys ++ vs → length xs ≡ length ys → xs ≡ ys
@@ -279,14 +229,17 @@ text_ends f i s text x is h =
     let there = along m (length w) in
     let here : s.rest ≡ w ++ z = cc (append_assoc w (words_text h.others) x) in
     let place : end_of_text m text ≡ end_of there h.others =
-    cc (passed_word m w (words_text h.others) (ink_of f w z h.word.ink), passed_words f i h.others there x h.further) in
+    cc (
+      passed_word m w (words_text h.others) (non_space_of f w z h.word.safe),
+      passed_words f i h.others there x h.further,
+    ) in
     let marker : IsNoMarker m (w ++ z) = subst (λ (l : List ℕ). IsNoMarker m l) (sym is ∙ here) h.marker in
     let starts : word_starts f s ≡ Ok (true, s) = rw here (word_begins f m s.blank_so_far w z h.word marker) in
     let long = some_length w h.word.some in
     let ends = rw place at h.ends in
     let read = words_read f i m h.others there x (omega (arith, long)) h.further ends in
     rw place (more_text f (is_tabbed i x) (encode_utf8_all w) _ _ _ _
-    (cc (plain_starts f i s s starts, read_word f i m m w z h.word.ink)) read)
+    (cc (plain_starts f i s s starts, read_word f i m m w z h.word.safe)) read)
 
 pub plain_text_read : (f : Bool) (i : ℕ) (s : Cursor) (text x : List ℕ) → s.rest ≡ text ++ x
     → IsPlainText f i s.mark text x → let end = end_of_text s.mark text in let behind =

@@ -2,7 +2,6 @@
 use Rattle.std.proofs.Common.{◌≡◌, ℕ, suc, ◌+◌, Bool, true, false, List, [], ◌∷◌, ◌++◌, drop, slice_index, Result, Ok, refl, sym, ap, ◌∙◌, arith, subst, ◌⊎◌, inr, cond}
 use Rattle.std.specs.Prelude.{◌||◌, ◌&&◌, ◌==◌, nat_lt, if◌then◌else◌}
 use Rattle.std.specs.List.{prefix_len}
-use Rattle.std.proofs.lemmas.Bool.Decides.{nat_tests}
 use Rattle.saphyr_input.specs.Classes.{is_blank, is_break, tab, line_feed, carriage_return}
 use Rattle.saphyr_input.specs.Places.{is_blank_or_break}
 use Rattle.saphyr_scalar.specs.declared.scalar.position.Marker.{Marker}
@@ -57,11 +56,11 @@ line_past : (i : ℕ) (a : Marker) (t : Bool) (f : List ℕ) (m : Marker) (c : �
 unfolding lines
 line_past i a t f m c cs white = rw white refl
 
-line_ends_with_ink : (i : ℕ) (a : Marker) (t : Bool) (f : List ℕ) (m : Marker) (c : ℕ) (cs : List ℕ)
+line_ends_with_non_space : (i : ℕ) (a : Marker) (t : Bool) (f : List ℕ) (m : Marker) (c : ℕ) (cs : List ℕ)
     → is_blank_or_break c ≡ false → MayStand t (c ∷ cs)
     → lines i a t f m (c ∷ cs) ≡ Ok (seen_gap t f (line_front m (c ∷ cs)))
 unfolding lines
-line_ends_with_ink i a t f m c cs other h = rw other (is_reached a t f (line_front m (c ∷ cs)) h)
+line_ends_with_non_space i a t f m c cs other h = rw other (is_reached a t f (line_front m (c ∷ cs)) h)
 
 lines_at_end : (i : ℕ) (a : Marker) (t : Bool) (f : List ℕ) (m : Marker)
     → lines i a t f m [] ≡ Ok (seen_gap t f (line_front m []))
@@ -110,7 +109,7 @@ lines_past i a t f m (c ∷ cs) h = by_case (is_blank_or_break c) refl
         let place = past_stop m true (c ∷ cs) other in
         leaves_on _ _ _ _ _ _ refl flag place (record {
           text = f;
-          is = line_ends_with_ink i a t f m c cs other (rw (place, flag) at h);
+          is = line_ends_with_non_space i a t f m c cs other (rw (place, flag) at h);
         })
 
 -- blanks are passed
@@ -155,17 +154,9 @@ return_at : (cs : List ℕ) (m : Marker) (b : Bool) → (slice_index cs 0 == lin
     → AtBreak (carriage_return ∷ cs) m b
 return_at cs m b h = rw h (cc (or-true b), λ i k. refl)
 
-two_at : (cs : List ℕ) (m : Marker) (b : Bool) → AtBreak (carriage_return ∷ line_feed ∷ cs) m b
-two_at cs m b =
-    let two : m.index + 1 + 1 ≡ m.index + 2 = omega arith in (cc (or-true b), λ i k. refl)
-
 return_or_two : (cs : List ℕ) (m : Marker) (b : Bool) → AtBreak (carriage_return ∷ cs) m b
 return_or_two [] m b = return_at [] m b refl
-return_or_two (d ∷ ds) m b = test (d == 10) refl
-  where
-    test : (e : Bool) → (d == line_feed) ≡ e → AtBreak (carriage_return ∷ d ∷ ds) m b
-    test true h = let is : 10 ≡ d = grind (arith, nat_tests) in rw (← is) (two_at ds m b)
-    test false h = return_at (d ∷ ds) m b h
+return_or_two (d ∷ ds) m b = grind arith
 
 at_break : (xs : List ℕ) (m : Marker) (b : Bool) → is_break (slice_index xs 0) ≡ true → AtBreak xs m b
 at_break [] m b h = absurd (cc)
@@ -194,6 +185,4 @@ from_past i a blanks m xs clean h = by_test (is_break (slice_index xs 0)) _ _
 pub gap_past : (i : ℕ) (a : Marker) (m : Marker) (xs : List ℕ) → MayStand (is_tabbed i xs) (past_white m false xs).rest
     → LeavesGap (gap i a (mid_line m xs)) (is_tabbed i xs) (past_white m false xs)
 unfolding gap
-gap_past i a m xs h = leaves_on _ _ _ _ _ _ refl refl (past_blanks m false xs)
-    (from_past i a _ (along m (prefix_len is_blank xs)) (behind_blanks xs) (run_ends is_blank xs refl)
-    (rw (past_blanks m false xs) at h))
+gap_past i a m xs h = grind (arith, past_blanks, from_past, run_ends)

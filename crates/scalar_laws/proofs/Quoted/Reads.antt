@@ -26,19 +26,14 @@ inside_read : (indent : ℕ) (start : Marker) (q : Quote) (t : List ℕ) (items 
 inside_read indent start _ _ _ _ (quotes.closed q x h) fit m =
     λ gap fits. with_gap q indent start gap m (flow.mark q ∷ x) [] x fits (closed_read q indent start m x h)
 inside_read indent start _ _ _ _ (quotes.itself q c t items x h r) fit m =
-    λ gap fits. itself_read q indent start gap m c t items x h fits
-    (inside_read indent start q t items x r fit (along m 1))
-inside_read indent start _ _ _ _ (quotes.broken q t items x h r) fit m = λ gap fits.
-    broken_read q indent start gap m t items x h fit.0
-    (inside_read indent start q (drop (break_len t) t) items x r fit.1 (next_line m (break_len t)))
-inside_read indent start _ _ _ _ (quotes.two_quotes t items x r) fit m = λ gap fits.
-    with_gap Single indent start gap m (39 ∷ 39 ∷ t) (Raw 39 ∷ items) x fits (two_quotes_read indent start m t items x
-    (inside_read indent start Single t items x r fit (along m 2) no_gap tt))
-inside_read indent start _ _ _ _ (quotes.escaped e c t items x h r) fit m = λ gap fits.
-    let b = inside_read indent start Double t items x r fit (along m 2) no_gap tt in
-    with_gap Double indent start gap m (92 ∷ e ∷ t) (Escaped c ∷ items) x fits
-    (escape_read indent start m e c t items x t 2 (no_break_simple e c h) (letter_read start m e c t h) b
-    (letter_passed m e t b.mark x (no_break_simple e c h) b.passed))
+    search (itself_read, inside_read indent start q t items x r fit (along m 1))
+inside_read indent start _ _ _ _ (quotes.broken q t items x h r) fit m =
+    search (broken_read, inside_read indent start q (drop (break_len t) t) items x r fit.1 (next_line m (break_len t)))
+inside_read indent start _ _ _ _ (quotes.two_quotes t items x r) fit m =
+    search (with_gap, two_quotes_read, inside_read indent start Single t items x r fit (along m 2) no_gap tt)
+inside_read indent start _ _ _ _ (quotes.escaped e c t items x h r) fit m =
+    let more = inside_read indent start Double t items x r fit (along m 2) no_gap tt in
+    search (with_gap, escape_read, no_break_simple, letter_read, letter_passed, more)
 inside_read indent start _ _ _ _ (quotes.numbered e c ds t items x h r) fit m = λ gap fits.
     let k = 2 + length ds in
     let b = inside_read indent start Double t items x r fit (along m k) no_gap tt in

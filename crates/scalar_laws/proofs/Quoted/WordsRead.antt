@@ -1,10 +1,9 @@
 -- Blanks, breaks and words of a quoted scalar are read, after each gap that fits, and so is its closing quote.
-use Rattle.std.proofs.Common.{◌≡◌, ℕ, ◌≤◌, Bool, true, false, List, [], ◌∷◌, ◌++◌, drop, slice_index, Ok, refl, sym, ◌∙◌, arith, subst, nat_eq, nat_lt, IsTrue, cond}
-use Rattle.std.specs.Prelude.{◌||◌, ◌&&◌, ◌==◌, not, encode_utf8}
+use Rattle.std.proofs.Common.{◌≡◌, ℕ, Bool, true, false, List, [], ◌∷◌, ◌++◌, drop, slice_index, Ok, refl, ◌∙◌, arith, subst, IsTrue}
+use Rattle.std.specs.Prelude.{◌&&◌, ◌==◌, encode_utf8}
 use Rattle.std.proofs.lemmas.Bool.Decides.{nat_tests}
-use Rattle.saphyr_input.specs.Indicators.{apostrophe, backslash, quotation_mark}
-use Rattle.saphyr_input.specs.Classes.{is_blank, is_break, is_breakz, tab}
-use Rattle.saphyr_input.specs.Places.{is_document_indicator}
+use Rattle.saphyr_input.specs.Indicators.{apostrophe, backslash}
+use Rattle.saphyr_input.specs.Classes.{is_blank, is_break, tab}
 use Rattle.saphyr_scalar.specs.declared.scalar.position.Marker.{Marker}
 use Rattle.saphyr_scalar.specs.declared.values.Item.{Item}
 use Rattle.saphyr_scalar.specs.declared.values.Item.TheVariants.{Raw, Escaped, EscapedBreak, Blank, Break}
@@ -16,12 +15,12 @@ use Rattle.saphyr_scalar.specs.Passing.{IsPassed, nothing, character, line_break
 use Rattle.saphyr_scalar.specs.Steps.Quoted.{is_literal, mid_line, QuotedGap, on_line, over_lines, no_gap, is_left, quoted_line, end_gap, escaped_gap, break_len, is_closing, escaped_character, inner_text, blank_in, break_in}
 use Rattle.saphyr_scalar.specs.Spelling.Quoted as quotes
 use Rattle.saphyr_scalar.proofs.Moving.{along_more}
-use Rattle.saphyr_scalar.proofs.Quoted.Inside.{quoted_behind_gap, behind_no_gap, IsQuotedInk, content_of, stands, one_blank, at_break}
+use Rattle.saphyr_scalar.proofs.Quoted.Inside.{quoted_behind_gap, behind_no_gap, IsQuotedContent, stands, one_blank, at_break}
 use Rattle.saphyr_scalar.proofs.Quoted.Parts.{at_escape, at_two_quotes}
 use Rattle.saphyr_scalar.proofs.Quoted.Gaps.{at_escaped_break, at_closing, by_break_len}
 use Rattle.saphyr_scalar.proofs.Quoted.Spellings.{escape_content}
 use Rattle.saphyr_scalar.proofs.Quoted.GapBytes.{gap_bytes, gap_front, closed_bytes, raw_bytes, escaped_bytes, escaped_break_bytes, blank_bytes, break_bytes}
-use Rattle.saphyr_input.proofs.Basics.Characters.{ink_no_space, blank_cases, blank_no_break}
+use Rattle.saphyr_input.proofs.Basics.Characters.{blank_cases, blank_no_break}
 use Rattle.scalar_laws.proofs.Quoted.IndentedLines.{Indented, GapFits, right_of, line_indented, behind_space, behind_tab}
 use Rattle.saphyr_scalar.proofs.Quoted.Lines.{fits_right}
 use Rattle.saphyr_scalar.proofs.Quoted.SpelledWords.{content_item}
@@ -41,50 +40,24 @@ pub record WordRead (q : Quote) (indent : ℕ) (start m : Marker) (t : List ℕ)
   pub first : ℕ
   pub others : List ℕ
   pub cut : t ≡ first ∷ others
-  pub content : IsQuotedInk first
+  pub content : IsQuotedContent first
   pub text : List ℕ
   pub mark : Marker
   pub passed : IsPassed m t mark x
   pub is : inner_text q indent start no_gap 0 m t ≡ Ok (text, mid_line mark x)
   pub bytes : (gap : QuotedGap) → gap_front gap ++ text ≡ gap_bytes gap items
 
-ends_gap : (indent : ℕ) (start : Marker) (gap : QuotedGap) (m : Marker) (c : ℕ) (cs : List ℕ) → IsQuotedInk c
+ends_gap : (indent : ℕ) (start : Marker) (gap : QuotedGap) (m : Marker) (c : ℕ) (cs : List ℕ) → IsQuotedContent c
     → GapFits indent gap m (c ∷ cs) → end_gap indent start gap (mid_line m (c ∷ cs)) ≡ Ok (gap_front gap)
 unfolding end_gap quoted_line
 ends_gap indent start (on_line bytes) m c cs is fits = rw is.nul refl
-ends_gap indent start (over_lines escaped n) m c cs is fits =
-    let right = right_of indent m c cs (ink_no_space c is.blank) is.break fits in
-    let left : is_left indent m ≡ false = not_left m.col right in
-    let marker : ((m.col == 0) && is_document_indicator (c ∷ cs)) ≡ false = no_marker (m.col == 0) refl in
-    rw (marker, is.nul, left) refl
-  where
-    not_left : (col : ℕ) → indent ≤ col → nat_lt col indent ≡ false
-    not_left col h = grind (arith, nat_tests)
-
-    zero_is : (col : ℕ) → nat_eq col 0 ≡ true → col ≡ 0
-    zero_is col h = grind (arith, nat_tests)
-
-    no_marker : (b : Bool) → (m.col == 0) ≡ b → (b && is_document_indicator (c ∷ cs)) ≡ false
-    no_marker true h = fits.marker (zero_is m.col h)
-    no_marker false h = refl
+ends_gap indent start (over_lines escaped n) m c cs is fits = grind arith
 
 pub with_gap : (q : Quote) (indent : ℕ) (start : Marker) (gap : QuotedGap) (m : Marker) (t : List ℕ) (items : List Item)
     (x : List ℕ) → GapFits indent gap m t → WordRead q indent start m t items x → Read q indent start gap m t items x
-with_gap q indent start gap m t items x fits w =
-    let c = w.first in
-    let cs = w.others in
-    record {
-      mark = w.mark;
-      passed = w.passed;
-      is = cc (
-        quoted_behind_gap q indent start gap m c cs w.content.blank w.content.break,
-        ends_gap indent start gap m c cs w.content (rw w.cut at fits),
-        behind_no_gap q indent start m c cs w.content.blank w.content.break w.content.nul,
-        w.bytes gap,
-      );
-    }
+with_gap q indent start gap m t items x fits w = grind (arith, quoted_behind_gap, ends_gap)
 
-pub mark_content : (q : Quote) → IsQuotedInk (flow.mark q)
+pub mark_content : (q : Quote) → IsQuotedContent (flow.mark q)
 mark_content q = grind arith
 
 pub closed_read : (q : Quote) (indent : ℕ) (start m : Marker) (x : List ℕ) → IsTrue (is_closing q (flow.mark q ∷ x))
@@ -101,23 +74,16 @@ closed_read q indent start m x h = record {
   bytes = closed_bytes;
 }
 
-pub record Itself (q : Quote) (c : ℕ) : Type 0 where
-  pub content : is_blank c ≡ false → IsQuotedInk c
+pub record ItselfRead (q : Quote) (c : ℕ) : Type 0 where
+  pub content : is_blank c ≡ false → IsQuotedContent c
   pub literal : is_blank c ≡ false → is_literal q c ≡ true
 
-pub itself_of : (q : Quote) (c : ℕ) → IsTrue (quotes.stands_for_itself q c) → Itself q c
+pub reads_itself : (q : Quote) (c : ℕ) → IsTrue (quotes.stands_for_itself q c) → ItselfRead q c
 unfolding is_literal
-itself_of q c h = record {
-  content = λ b. content_of c (by_cases (is_blank c) (is_breakz c) (flow.is_special q c) h b).0;
-  literal = λ b. (by_cases (is_blank c) (is_breakz c) (flow.is_special q c) h b).1;
-}
-  where
-    by_cases : (a b d : Bool) → (not b && not d) ≡ true → a ≡ false
-        → ((a || b) ≡ false) × ((not (a || b) && not d) ≡ true)
-    by_cases a b d h other = grind arith
+reads_itself q c h = grind arith
 
 pub literal_read : (q : Quote) (indent : ℕ) (start m : Marker) (c : ℕ) (t : List ℕ) (items : List Item) (x : List ℕ)
-    → IsQuotedInk c → is_literal q c ≡ true → Read q indent start no_gap (along m 1) t items x
+    → IsQuotedContent c → is_literal q c ≡ true → Read q indent start no_gap (along m 1) t items x
     → WordRead q indent start m (c ∷ t) (Raw c ∷ items) x
 literal_read q indent start m c t items x content h r = record {
   first = c;
@@ -188,29 +154,8 @@ pub same_at_quote : (indent : ℕ) (start m : Marker) (t : List ℕ) → Indente
     → inner_text Double indent start (escaped_gap Double (slice_index t 0)) 0 m t
     ≡ inner_text Double indent start (over_lines true 0) 0 m t
 same_at_quote indent start m [] fits = refl
-same_at_quote indent start m (c ∷ cs) fits = by_test (c == 34) refl
-  where
-    number : (c : ℕ) → nat_eq c 34 ≡ true → 34 ≡ c
-    number c h = grind (arith, nat_tests)
-
-    quote : Indented indent m (quotation_mark ∷ cs) → inner_text Double indent start no_gap 0 m (quotation_mark ∷ cs)
-        ≡ inner_text Double indent start (over_lines true 0) 0 m
-        (quotation_mark ∷ cs)
-    quote fits = at_closing Double indent start m cs refl
-        ∙ sym (cc (
-          quoted_behind_gap Double indent start (over_lines true 0) m 34 cs refl refl,
-          ends_gap indent start (over_lines true 0) m 34 cs (mark_content Double) fits,
-          behind_no_gap Double indent start m 34 cs refl refl refl,
-          at_closing Double indent start m cs refl,
-        ))
-
-    by_test : (b : Bool) → (c == quotation_mark) ≡ b
-        → inner_text Double indent start (cond b no_gap (over_lines true 0)) 0 m (c ∷ cs)
-        ≡ inner_text Double indent start (over_lines true 0) 0 m (c ∷ cs)
-    by_test true h = subst (λ (k : ℕ). Indented indent m (k ∷ cs)
-        → inner_text Double indent start no_gap 0 m (k ∷ cs) ≡ inner_text Double indent start (over_lines true 0) 0 m
-        (k ∷ cs)) (number c h) quote fits
-    by_test false h = refl
+same_at_quote indent start m (c ∷ cs) fits =
+    grind (arith, nat_tests, at_closing, quoted_behind_gap, ends_gap, mark_content, behind_no_gap)
 
 line_blank : (q : Quote) (indent : ℕ) (start : Marker) (escaped : Bool) (k : ℕ) (m : Marker) (c : ℕ) (cs : List ℕ)
     → is_blank c ≡ true → ((c == tab) && is_left indent m) ≡ false
@@ -269,7 +214,7 @@ itself_read q indent start gap m c t items x h fits r = by_blank (is_blank c) re
     by_blank true b = subst (λ (i : Item). Read q indent start gap m (c ∷ t) (i ∷ items) x) (blank_item b)
         (blank_read q indent start gap m c t items x b fits r)
     by_blank false b =
-        let is = itself_of q c h in
+        let is = reads_itself q c h in
         rw (content_item c (is.content b)) (with_gap q indent start gap m (c ∷ t) (Raw c ∷ items) x fits
         (literal_read q indent start m c t items x (is.content b) (is.literal b) (r no_gap tt)))
 

@@ -12,8 +12,8 @@ use Rattle.saphyr_scalar.specs.Steps.Plain.{is_in_word}
 use Rattle.saphyr_scalar.specs.Reading.Plain.{end_of_text}
 
 -- a character that goes on with a word whatever follows it, inside flow and outside
-abbrev pub is_plain_safe : ℕ → Bool
-is_plain_safe c = not (is_blank_or_breakz c) && not (c == colon) && not (is_bom c) && not (is_flow c)
+abbrev pub is_always_plain : ℕ → Bool
+is_always_plain c = not (is_blank_or_breakz c) && not (c == colon) && not (is_bom c) && not (is_flow c)
 
 -- the characters after the blanks
 abbrev pub behind_blanks : List ℕ → List ℕ
@@ -62,33 +62,33 @@ pub record EndsPlain (in_flow : Bool) (indent : ℕ) (end : Marker) (xs : List �
 -- Plain scalars of several words and lines.
 
 -- a character of a word: no blank, break, NUL or byte order mark, and inside flow no flow indicator
-abbrev pub is_word_ink : Bool → ℕ → Bool
-is_word_ink in_flow c = not (is_blank_or_breakz c) && not (is_bom c) && not (in_flow && is_flow c)
+abbrev pub is_plain_safe : Bool → ℕ → Bool
+is_plain_safe in_flow c = not (is_blank_or_breakz c) && not (is_bom c) && not (in_flow && is_flow c)
 
 -- the characters of a word, of which the last is no colon
-abbrev pub AreWordInk : Bool → List ℕ → Type 0
-AreWordInk in_flow [] = Unit {0}
-AreWordInk in_flow (c ∷ cs) = IsTrue (is_word_ink in_flow c) × (c ≡ colon → cs ≢ []) × AreWordInk in_flow cs
+abbrev pub ArePlainSafe : Bool → List ℕ → Type 0
+ArePlainSafe in_flow [] = Unit {0}
+ArePlainSafe in_flow (c ∷ cs) = IsTrue (is_plain_safe in_flow c) × (c ≡ colon → cs ≢ []) × ArePlainSafe in_flow cs
 
 -- a word begins with no `#`, and inside flow it is no lone `-`
 pub record IsWordIn (in_flow : Bool) (w : List ℕ) : Type 0 where
   pub some : w ≢ []
-  pub ink : AreWordInk in_flow w
+  pub safe : ArePlainSafe in_flow w
   pub no_comment : slice_index w 0 ≢ number_sign
   pub no_lone_dash : in_flow ≡ true → w ≢ hyphen ∷ []
 
 -- the same before what comes after the word: a colon comes before a character of a word
-abbrev pub AreInkBefore : Bool → List ℕ → List ℕ → Type 0
-AreInkBefore in_flow [] behind = Unit {0}
-AreInkBefore in_flow (c ∷ cs) behind =
-    IsTrue (is_word_ink in_flow c) × (c ≡ colon → IsTrue (is_word_ink in_flow (slice_index (cs ++ behind) 0)))
-    × AreInkBefore in_flow cs behind
+abbrev pub AreSafeBefore : Bool → List ℕ → List ℕ → Type 0
+AreSafeBefore in_flow [] behind = Unit {0}
+AreSafeBefore in_flow (c ∷ cs) behind =
+    IsTrue (is_plain_safe in_flow c) × (c ≡ colon → IsTrue (is_plain_safe in_flow (slice_index (cs ++ behind) 0)))
+    × AreSafeBefore in_flow cs behind
 
 -- a word before what comes after it: its last character may be a colon, and inside flow it is no `-` before a flow
 -- indicator
 pub record IsWordBefore (in_flow : Bool) (w behind : List ℕ) : Type 0 where
   pub some : w ≢ []
-  pub ink : AreInkBefore in_flow w behind
+  pub safe : AreSafeBefore in_flow w behind
   pub no_comment : slice_index w 0 ≢ number_sign
   pub no_lone_dash
       : (in_flow && (slice_index (w ++ behind) 0 == hyphen) && is_flow (slice_index (w ++ behind) 1)) ≡ false

@@ -82,12 +82,12 @@ fn load_again<T: Input>(
     match load_next(alloc, parser, left, true)? {
         (Outcome::Refused, behind) if behind.len() == left.len() => give_want(alloc, parser),
         (Outcome::Refused, _) => Err(Difference::new(alloc, "`load` sends more")),
-        (Outcome::Whole, behind) => tell_fault(alloc, parser, left, behind),
+        (Outcome::Whole, behind) => report_fault(alloc, parser, left, behind),
     }
 }
 
 // The only line that was left was answered, a fault, which is still to be given.
-fn tell_fault<T: Input>(
+fn report_fault<T: Input>(
     alloc: Global,
     parser: &mut Parser<'_, T>,
     before: &[String],

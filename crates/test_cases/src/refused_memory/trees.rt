@@ -98,7 +98,7 @@ pub fn judge_fault(
             is_last(alloc, fault, last)?;
             Ok(Loaded::Whole)
         }
-        fault => Err(Difference::told(format!(in alloc; "{fault}"))),
+        fault => Err(Difference::described(format!(in alloc; "{fault}"))),
     }
 }
 

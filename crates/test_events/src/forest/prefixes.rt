@@ -127,7 +127,7 @@ fn resolve(
     }
 }
 
-/// The same of a tag that may be absent: `None` for one whose handle has no prefix.
+/// Resolves a tag that may be absent: `None` for one whose handle has no prefix.
 pub fn resolve_any(
     alloc: Global,
     tag: &Option<WrittenTag>,

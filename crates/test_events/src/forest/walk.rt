@@ -110,7 +110,7 @@ fn scalar(
     }
 }
 
-/// The same of a sequence.
+/// The event with which a sequence begins.
 fn sequence_start(id: usize, tag: Option<Option<Tag>>) -> Option<Event<'static>>
     ensures { option_map happening result ≡ option_map (SequenceStart id) (resolved tag) }
 {
@@ -120,7 +120,7 @@ fn sequence_start(id: usize, tag: Option<Option<Tag>>) -> Option<Event<'static>>
     }
 }
 
-/// The same of a mapping.
+/// The event with which a mapping begins.
 fn mapping_start(id: usize, tag: Option<Option<Tag>>) -> Option<Event<'static>>
     ensures { option_map happening result ≡ option_map (MappingStart id) (resolved tag) }
 {

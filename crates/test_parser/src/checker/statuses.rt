@@ -2,27 +2,31 @@
 
 use crate::helpers::{is_text, owned};
 use std::alloc::{AllocError, Global};
-use yaml_check::{Call, CheckFault, Verdict, parse_arguments, status_of};
+use yaml_check::{Call, CheckFault, Rule, Verdict, parse_arguments, status_of};
 
 type Answer = Result<Verdict, CheckFault>;
 
 const RIGHT: Answer = Ok(Verdict::Right);
 
+const WARNED: Answer = Ok(Verdict::Warned);
+
 const WRONG: Answer = Ok(Verdict::Wrong);
 
-const STATUSES: &[(&[Answer], u8)] = &[
-    (&[], 0),
-    (&[RIGHT, RIGHT], 0),
-    (&[RIGHT, WRONG, RIGHT], 1),
-    (&[Err(CheckFault::CantRead), WRONG, RIGHT], 2),
-    (&[WRONG, Err(CheckFault::CantWrite)], 2),
-    (&[Err(CheckFault::OutOfMemory)], 2),
+// The status of files, also where warnings count as errors.
+const STATUSES: &[(&[Answer], u8, u8)] = &[
+    (&[], 0, 0),
+    (&[RIGHT, RIGHT], 0, 0),
+    (&[RIGHT, WARNED], 0, 1),
+    (&[RIGHT, WRONG, RIGHT], 1, 1),
+    (&[WRONG, Err(CheckFault::CantWrite)], 2, 2),
+    (&[WARNED, Err(CheckFault::OutOfMemory)], 2, 2),
 ];
 
 #[test]
 fn the_worst_file_decides(rt: HostRuntime) {
-    for (answers, status) in STATUSES {
-        assert!(rt; status_of(answers) == *status);
+    for (answers, status, strict) in STATUSES {
+        assert!(rt; status_of(answers, false) == *status);
+        assert!(rt; status_of(answers, true) == *strict);
     }
 }
 
@@ -34,20 +38,25 @@ fn all_owned(alloc: Global, words: &[&str]) -> Result<Vec<String>, AllocError> {
     Ok(all)
 }
 
-// What a call asks for, as a text: whether events are printed and findings are not, the limits, and the files.
+// What a call asks for, as a text: whether events are printed, findings are not, warnings count, and keys that are
+// twice are told, then the form, how many warnings are printed, the limits, and the files.
 fn printed(alloc: Global, call: &Call) -> Result<String, AllocError> {
     match call {
         Call::Help => String::from_str(alloc, "help"),
         Call::Version => String::from_str(alloc, "version"),
         Call::Check(options, files) => {
-            let (events, quiet) = (options.events, options.quiet);
+            let (events, quiet, strict) = (options.events, options.quiet, options.strict);
+            let keys = options.rules.has(Rule::DuplicateKey);
             let (depth, nodes) = (options.limits.depth, options.limits.nodes);
-            format!(in alloc; "{events} {quiet} {depth} {nodes} {files:?}")
+            let (form, most) = (options.format, options.max_findings);
+            format!(in alloc;
+                "{events} {quiet} {strict} {keys} {form:?} {most} {depth} {nodes} {files:?}"
+            )
         }
     }
 }
 
-// The same of words, and the fault of a wrong call.
+// What words ask for, or the fault of a wrong call.
 fn asked(alloc: Global, words: &[String]) -> Result<String, AllocError> {
     match parse_arguments(alloc, words) {
         Ok(call) => {
@@ -82,21 +91,48 @@ const ALL: &[&str] = &[
     "3",
     "--quiet",
     "-",
+    "--format",
+    "json",
+    "--strict",
     "--max-nodes",
     "0",
+];
+
+const SHORT: &[&str] = &[
+    "-q",
+    "--max-depth=4",
+    "--max-findings=7",
+    "--disable=duplicate-key",
+    "--",
+    "-q",
+    "--help",
 ];
 
 const CALLS: &[(&[&str], &str)] = &[
     (
         &[],
-        "false false 18446744073709551615 18446744073709551615 [\"-\"]",
+        "false false false true Text 100 18446744073709551615 18446744073709551615 [\"-\"]",
     ),
-    (ALL, "true true 3 0 [\"a\", \"-\"]"),
+    (ALL, "true true true true Json 100 3 0 [\"a\", \"-\"]"),
+    (
+        SHORT,
+        "false true false false Text 7 4 18446744073709551615 [\"-q\", \"--help\"]",
+    ),
     (&["a", "--help"], "help"),
+    (&["-h"], "help"),
     (&["--version", "--wrong"], "version"),
+    (&["-V"], "version"),
     (&["--wrong"], "there is no option --wrong"),
     (&["--max-depth"], "--max-depth asks for a number"),
     (&["--max-nodes", "-1"], "--max-nodes asks for a number"),
+    (&["--max-depth="], "--max-depth asks for a number"),
+    (&["--quiet=3"], "--quiet takes no value"),
+    (
+        &["--disable=syntax"],
+        "--disable asks for the name of a rule",
+    ),
+    (&["--format=xml"], "--format asks for text or json"),
+    (&["-x=3"], "there is no option -x=3"),
 ];
 
 #[test]

@@ -2,12 +2,11 @@
 
 use crate::helpers::is_text;
 use std::alloc::{AllocError, Global};
-use yaml_check::{CheckFault, Limits, Options, Verdict, check_source};
+use yaml_check::{CheckFault, Format, Limits, Options, RuleSet, Verdict, check_source};
 
 const FEW: Options = Options {
-    events: false,
-    quiet: false,
     limits: Limits { depth: 2, nodes: 9 },
+    ..Options::DEFAULT
 };
 
 // What is printed of bytes that are called `f`, and after it how they are judged.
@@ -22,8 +21,9 @@ fn printed(alloc: Global, bytes: &[u8], options: Options) -> Result<Vec<u8>, All
 fn word_of(judged: Result<Verdict, CheckFault>) -> &'static str {
     match judged {
         Ok(Verdict::Right) => "right",
+        Ok(Verdict::Warned) => "warned",
         Ok(Verdict::Wrong) => "wrong",
-        Err(CheckFault::CantRead) => "unread",
+        Err(CheckFault::CantRead(_)) => "unread",
         Err(CheckFault::CantWrite) => "unwritten",
         Err(CheckFault::OutOfMemory) => "unknown",
     }
@@ -60,59 +60,76 @@ const PRINTED: &[(&str, &str)] = &[
     // Keys that are twice.
     (
         "a: 1\n'a': 2\n",
-        "f:2:1: warning: this key stands in its mapping already, at 1:1\n'a': 2\n^\nwrong",
+        "f:2:1: warning: duplicate key; first at 1:1\n'a': 2\n^\nwarned",
     ),
     (
         "{a: 1, b: {a: 2}, a: 3}",
-        "f:1:19: warning: this key stands in its mapping already, at 1:2\n\
-        {a: 1, b: {a: 2}, a: 3}\n                  ^\nwrong",
+        "f:1:19: warning: duplicate key; first at 1:2\n\
+        {a: 1, b: {a: 2}, a: 3}\n                  ^\nwarned",
     ),
     (
         "!!str a: 1\n!<tag:yaml.org,2002:str> a: 2\n",
-        "f:2:1: warning: this key stands in its mapping already, at 1:1\n\
-        !<tag:yaml.org,2002:str> a: 2\n^\nwrong",
+        "f:2:1: warning: duplicate key; first at 1:1\n\
+        !<tag:yaml.org,2002:str> a: 2\n^\nwarned",
     ),
     // Other warnings.
     (
         "---",
-        "f:1:1: warning: this document has no content\n---\n^\nwrong",
+        "f:1:1: warning: this document has no content\n---\n^\nwarned",
     ),
     (
         "--- a\n--- # nothing\n",
-        "f:2:1: warning: this document has no content\n--- # nothing\n^\nwrong",
+        "f:2:1: warning: this document has no content\n--- # nothing\n^\nwarned",
     ),
     (
         "&a [*a]",
-        "f:1:5: warning: this alias stands for more than 1000000 nodes\n&a [*a]\n    ^\nwrong",
+        "f:1:5: warning: this alias is inside the node that it repeats\n&a [*a]\n    ^\nwarned",
     ),
     (
         "[[[a]], [[]]]",
         "f:1:3: warning: more than 2 collections are open here\n[[[a]], [[]]]\n  ^\n\
-        f:1:10: warning: more than 2 collections are open here\n[[[a]], [[]]]\n         ^\nwrong",
+        f:1:10: warning: more than 2 collections are open here\n[[[a]], [[]]]\n         ^\nwarned",
     ),
     (
         "[1, 2, 3, 4, 5, 6, 7, 8, 9]",
         "f:1:26: warning: the text has more than 9 nodes\n[1, 2, 3, 4, 5, 6, 7, 8, 9]\n\
-        \u{20}                        ^\nwrong",
+        \u{20}                        ^\nwarned",
     ),
     // Faults. What is found before the fault comes first.
     (
         "[a:[]]",
-        "f:1:3: error: ':' may not precede any of `[{` in flow mapping\n[a:[]]\n  ^\nwrong",
+        "f:1:3: error: ':' may not precede any of `[{` in flow mapping\n[a:[]]\n  ^\n\
+        f:1:1: note: the sequence that begins here is not closed yet\n[a:[]]\n^\nwrong",
     ),
     (
         "a: 1\na: *b\n",
-        "f:2:1: warning: this key stands in its mapping already, at 1:1\na: *b\n^\n\
-        f:2:4: error: while parsing node, found unknown anchor\na: *b\n   ^\nwrong",
+        "f:2:1: warning: duplicate key; first at 1:1\na: *b\n^\n\
+        f:2:4: error: while parsing node, found unknown anchor\na: *b\n   ^\n\
+        f:2:4: note: no anchor has this name; a text that begins with * needs quotes\nwrong",
+    ),
+    // A bracket is not closed: an outermost one, and one before a closing brace.
+    (
+        "[1, 2\nhost: y",
+        "f:2:5: error: illegal placement of ':' indicator\nhost: y\n    ^\n\
+        f:1:1: note: the sequence that begins here is not closed yet\n[1, 2\n^\nwrong",
+    ),
+    (
+        "{a: [b,\nc\n}",
+        "f:3:1: error: while parsing a flow sequence, expected ',' or ']'\n}\n^\n\
+        f:1:5: note: the sequence that begins here is not closed yet\n{a: [b,\n    ^\nwrong",
     ),
     // Wide characters take two columns, and a tab the two of its escape.
     (
         "名: [*b]",
-        "f:1:5: error: while parsing node, found unknown anchor\n名: [*b]\n     ^\nwrong",
+        "f:1:5: error: while parsing node, found unknown anchor\n名: [*b]\n     ^\n\
+        f:1:4: note: the sequence that begins here is not closed yet\n名: [*b]\n    ^\n\
+        f:1:5: note: no anchor has this name; a text that begins with * needs quotes\nwrong",
     ),
     (
         "x: [ \t*b]",
-        "f:1:7: error: while parsing node, found unknown anchor\nx: [ \\t*b]\n       ^\nwrong",
+        "f:1:7: error: while parsing node, found unknown anchor\nx: [ \\t*b]\n       ^\n\
+        f:1:4: note: the sequence that begins here is not closed yet\nx: [ \\t*b]\n   ^\n\
+        f:1:7: note: no anchor has this name; a text that begins with * needs quotes\nwrong",
     ),
     // A long line is cut. Here 200 characters are on each side of the alias.
     (
@@ -127,7 +144,11 @@ const PRINTED: &[(&str, &str)] = &[
         ...xxxxxxxxxxxxxxxxxxxxxxxxxxxxxxxxxxxxxxxxxxxxxxxxxxxxxxxxxxxxxxxxxxxxxxxxxxxxxxxxxxxxxxxxxxxxxxxxxxxx\
         xxxxxxxxxxxxxx\", *b, \"xxxxxxxxxxxxxxxxxxxxxxxxxxxxxxxxxxxxxxxxxxxxxxxxxxxxxxxxxxxxxxxxxxxxxxxx...\n\
         \u{20}                                                           \
-        \u{20}                                                           ^\nwrong",
+        \u{20}                                                           ^\n\
+        f:1:1: note: the sequence that begins here is not closed yet\n\
+        [\"xxxxxxxxxxxxxxxxxxxxxxxxxxxxxxxxxxxxxxxxxxxxxxxxxxxxxxxxxxxxxxxxxxxxxxxxxxxxxxxxxxxxxxxxxxxxxxxxx\
+        xxxxxxxxxxxxxxxxxxxxxxxxxxxxxxxxxxxxxxxxxxxxxxxxxxxxxxxxxxxxxxxxxxxxxxxxxxxxxxxxxxxxxxxxxxxxxxxxxx...\n\
+        ^\nf:1:206: note: no anchor has this name; a text that begins with * needs quotes\nwrong",
     ),
 ];
 
@@ -145,6 +166,8 @@ fn what_is_printed(rt: HostRuntime) {
 fn bytes_that_are_no_text(rt: HostRuntime) {
     let wanted = "f:2:4: error: the text is not UTF-8 from here on\nb: \n   ^\nwrong";
     assert!(rt; prints(rt.alloc(), b"a: 1\nb: \xff\n", FEW, wanted));
+    let wanted = "f:1:1: error: the text is UTF-16, and not UTF-8\n\n^\nwrong";
+    assert!(rt; prints(rt.alloc(), b"\xff\xfea\0", FEW, wanted));
 }
 
 #[test]
@@ -159,6 +182,50 @@ fn what_is_asked_for_is_printed(rt: HostRuntime) {
         quiet: true,
         ..events
     };
-    let wrong = "+STR\n+DOC\n=VAL :\n-DOC\n-STR\nwrong";
-    assert!(rt; prints(rt.alloc(), b"---", quiet, wrong));
+    let warned = "+STR\n+DOC\n=VAL :\n-DOC\n-STR\nwarned";
+    assert!(rt; prints(rt.alloc(), b"---", quiet, warned));
+}
+
+#[test]
+fn a_rule_that_is_off_shows_nothing(rt: HostRuntime) {
+    let fewer = Options {
+        rules: RuleSet {
+            duplicate_key: false,
+            ..RuleSet::ALL
+        },
+        ..FEW
+    };
+    assert!(rt; prints(rt.alloc(), b"{a: 1, a: 2}", fewer, "right"));
+}
+
+#[test]
+fn so_many_warnings_are_printed(rt: HostRuntime) {
+    let one = Options {
+        max_findings: 1,
+        ..FEW
+    };
+    let wanted = "f:1:8: warning: duplicate key; first at 1:2\n{a: 1, a: 2, a: 3, a: 4}\n\
+        \u{20}      ^\n\
+        f:1:14: note: 2 more warnings begin here\n{a: 1, a: 2, a: 3, a: 4}\n\
+        \u{20}            ^\nwarned";
+    assert!(rt; prints(rt.alloc(), b"{a: 1, a: 2, a: 3, a: 4}", one, wanted));
+}
+
+#[test]
+fn findings_as_json(rt: HostRuntime) {
+    let json = Options {
+        format: Format::Json,
+        ..FEW
+    };
+    let warned = "{\"file\":\"f\",\"line\":1,\"column\":8,\"end\":{\"line\":1,\"column\":9},\
+        \"rule\":\"duplicate-key\",\"severity\":\"warning\",\
+        \"message\":\"duplicate key; first at 1:2\"}\nwarned";
+    assert!(rt; prints(rt.alloc(), b"{a: 1, a: 2}", json, warned));
+    let wrong = "{\"file\":\"f\",\"line\":1,\"column\":2,\"end\":{\"line\":1,\"column\":2},\
+        \"rule\":\"syntax\",\"severity\":\"error\",\
+        \"message\":\"\\\"-\\\" is only valid inside a block\"}\n\
+        {\"file\":\"f\",\"line\":1,\"column\":1,\"end\":{\"line\":1,\"column\":1},\
+        \"rule\":\"syntax\",\"severity\":\"note\",\
+        \"message\":\"the sequence that begins here is not closed yet\"}\nwrong";
+    assert!(rt; prints(rt.alloc(), b"[- a]", json, wrong));
 }

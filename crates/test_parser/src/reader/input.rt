@@ -165,7 +165,7 @@ const MARKERS: &[Row] = &[
 ];
 
 #[test]
-fn tells_what_comes_next(rt: HostRuntime) {
+fn shows_what_comes_next(rt: HostRuntime) {
     expect_steps(&rt, rt.alloc(), PAST_THE_END);
     expect_steps(&rt, rt.alloc(), CLASSES);
     expect_steps(&rt, rt.alloc(), MARKERS);
@@ -250,7 +250,7 @@ fn takes_characters_off(rt: HostRuntime) {
 }
 
 #[test]
-fn tells_how_much_can_be_loaded(rt: HostRuntime) {
+fn shows_how_much_can_be_loaded(rt: HostRuntime) {
     assert!(rt; StrInput::new("").bufmaxlen() == 128);
     assert!(rt; Characters::new(&[]).bufmaxlen() == 8);
 }

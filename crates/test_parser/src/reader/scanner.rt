@@ -1,9 +1,10 @@
 //! Small texts: where the stream ends, which faults there are and where, and what comes before a key.
 
 use crate::helpers::expect;
-use crate::reader::told::{push_place, push_stop};
+use crate::reader::shown::{push_place, push_stop};
 use saphyr_input::StrInput;
 use saphyr_input::input::Input;
+use saphyr_scalar::{Marker, Span};
 use saphyr_scanner::{Scanner, TokenKind};
 use std::alloc::Global;
 use std::process::Abort;
@@ -20,17 +21,19 @@ fn push_word(line: &mut String, text: &str) {
 }
 
 // Adds what is told of the next token. Whether there is one.
-fn push_next<T: Input>(line: &mut String, scanner: &mut Scanner<T>) -> bool {
+fn push_next<T: Input>(line: &mut String, alloc: Global, scanner: &mut Scanner<T>) -> bool {
     let Ok(next) = scanner.peek() else {
         return push_stop(line, scanner.stop());
     };
     let Some(kind) = next else {
         return false;
     };
-    let span = scanner.span();
-    let Ok(text) = scanner.take_text() else {
+    let mut span = Span::empty(Marker::new(0, 0, 0));
+    scanner.span_into(&mut span);
+    let mut text = String::new(alloc);
+    if scanner.take_text_into(&mut text).is_err() {
         return push_stop(line, scanner.stop());
-    };
+    }
     let _ = write!(line, "{kind:?} ");
     push_word(line, &text);
     if kind == TokenKind::StreamEnd {
@@ -41,9 +44,9 @@ fn push_next<T: Input>(line: &mut String, scanner: &mut Scanner<T>) -> bool {
 }
 
 // Adds what is told of all tokens.
-fn push_tokens<T: Input>(line: &mut String, scanner: &mut Scanner<T>) {
+fn push_tokens<T: Input>(line: &mut String, alloc: Global, scanner: &mut Scanner<T>) {
     for _ in 0..usize::MAX {
-        if !push_next(line, scanner) {
+        if !push_next(line, alloc, scanner) {
             break;
         }
     }
@@ -51,7 +54,7 @@ fn push_tokens<T: Input>(line: &mut String, scanner: &mut Scanner<T>) {
 
 fn push_all<T: Input + Drop>(line: &mut String, alloc: Global, input: T, limit: usize) {
     let mut scanner = Scanner::new(alloc, input, limit);
-    push_tokens(line, &mut scanner);
+    push_tokens(line, alloc, &mut scanner);
     drop(scanner);
 }
 
@@ -96,6 +99,6 @@ const ROWS: &[Row] = &[
 ];
 
 #[test]
-fn tells_tokens(rt: HostRuntime) {
+fn shows_tokens(rt: HostRuntime) {
     expect_tokens(&rt, rt.alloc(), ROWS);
 }

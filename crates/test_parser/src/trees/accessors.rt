@@ -129,7 +129,7 @@ const ASKED: &[Asked] = &[
 ];
 
 #[test]
-fn what_nodes_tell(rt: HostRuntime) {
+fn what_nodes_show(rt: HostRuntime) {
     expect_answers(&rt, rt.alloc(), ASKED);
 }
 
@@ -166,7 +166,7 @@ fn has_scalars<T: Input + Drop>(mut parser: Parser<'_, T>, scalars: Option<usize
     }
 }
 
-// The same of a text.
+// Whether a text has so many scalars, or is refused.
 fn counts(alloc: Global, text: &str, scalars: Option<usize>) -> bool {
     has_scalars(Parser::new_from_str(alloc, text), scalars)
 }

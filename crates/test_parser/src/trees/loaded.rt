@@ -21,7 +21,7 @@ pub(crate) fn load(alloc: Global, text: &str, limits: Limits) -> Result<Vec<Docu
     load_documents(alloc, &mut parser, limits)
 }
 
-/// The same with the spans of nodes.
+/// Loads the documents of a text with the spans of their nodes.
 pub(crate) fn load_with_spans(
     alloc: Global,
     text: &str,

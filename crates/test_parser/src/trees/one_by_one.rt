@@ -36,7 +36,7 @@ fn all_documents<T: Input>(
     }
 }
 
-// The same of the next document.
+// The lines of the next document, or of the fault in its place.
 fn next_document<T: Input>(
     alloc: Global,
     parser: &mut Parser<'_, T>,
@@ -109,7 +109,7 @@ fn are_later_answers<T: Input + Drop>(
     holds
 }
 
-/// The same of a text.
+/// Whether a text gives these answers.
 pub(crate) fn are_answers(
     alloc: Global,
     (text, events): (&str, usize),

@@ -63,7 +63,7 @@ fn is_so(alloc: Global, document: &Document, spans: &[Span], question: Question)
     }
 }
 
-// The same of the document with this index, where there is one.
+// Whether the document with this index, where there is one, answers so.
 fn is_so_at(alloc: Global, loaded: &SpannedDocuments, index: usize, question: Question) -> bool {
     match (loaded.documents.get(index), loaded.spans.get(index)) {
         (Some(document), Some(spans)) => {
@@ -73,7 +73,7 @@ fn is_so_at(alloc: Global, loaded: &SpannedDocuments, index: usize, question: Qu
     }
 }
 
-/// The same of a text.
+/// Whether the document of a text answers so.
 pub(crate) fn ask(
     alloc: Global,
     text: &str,

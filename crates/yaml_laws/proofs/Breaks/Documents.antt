@@ -1,5 +1,5 @@
 -- Document markers, directives, byte order marks and the end of the stream leave both scanners alike.
-use Rattle.std.proofs.Common.{◌≡◌, ℕ, ◌+◌, Bool, true, false, List, [], ◌∷◌, length, None, Result, Ok, Err, refl, sym, ap, ◌∙◌, subst, arith}
+use Rattle.std.proofs.Common.{◌≡◌, ℕ, ◌+◌, Bool, true, false, List, [], ◌∷◌, length, None, Result, Ok, Err, refl, sym, ap, arith}
 use Rattle.std.specs.Prelude.{◌&&◌, ◌||◌, ◌==◌, not, slice_index, nat_lt}
 use Rattle.saphyr_scalar.proofs.Moving.{along_more}
 use Rattle.saphyr_input.specs.Breaks.{normalized}
@@ -9,83 +9,43 @@ use Rattle.saphyr_input.specs.declared.input.SkipTabs.{SkipTabs}
 use Rattle.saphyr_scalar.specs.declared.scalar.position.Marker.{Marker}
 use Rattle.saphyr_scalar.specs.declared.scalar.fault.Refusal.{Refusal}
 use Rattle.saphyr_scalar.specs.Views.Cursor.{Cursor, ◌>>=◌, along, pass, pass_byte_order_mark}
-use Rattle.saphyr_scalar.specs.Steps.Directive as directives
-use Rattle.scalar_laws.specs.Alike.{AreDirectivesAlike, GiveAlike}
-use Rattle.scalar_laws.proofs.Breaks.Results.{both_then}
+use Rattle.scalar_laws.proofs.Breaks.Results.{Both, both_of, gives, refused, choose, choose_same, choose_first}
 use Rattle.saphyr_scanner.specs.Grammar.Tokens as tokens
 use Rattle.saphyr_scanner.specs.Grammar.Tokens.{Kind}
-use Rattle.saphyr_scanner.specs.Steps.Core.{Core, Put, in_block, remove_key, act}
+use Rattle.saphyr_scanner.specs.Steps.Core.{Core, in_block}
 use Rattle.saphyr_scanner.specs.Steps.Document as document
 use Rattle.saphyr_scanner.specs.Steps.Passing.{separate}
-use Rattle.saphyr_scanner.specs.Steps.Queue.{Queue}
-use Rattle.saphyr_scanner.specs.Steps.State.{State, on_core, on_core_with}
-use Rattle.saphyr_scanner.specs.Steps.Unrolling.{unroll}
-use Rattle.yaml_laws.proofs.Breaks.Cores.{Indexes, near_core, Cores, Twin, Laws, Still, Inked, of_cores, remove_still, Separated, separate_alike, still_inked, twin_reads, twin_stands, twin_moves, read_twin, going_to}
-use Rattle.yaml_laws.proofs.Breaks.Normal.{first_is, normal_none}
-use Rattle.yaml_laws.proofs.Breaks.Places.{reindexed, near, Ahead, ahead_ahead, ahead_stands, Stand, one_less, both_choose, character_ahead}
-use Rattle.yaml_laws.proofs.Breaks.Scalars.{Begins, begins_still, begins_near, no_break_here}
-use Rattle.yaml_laws.proofs.Breaks.States.{SameQueues, same_act, States, Ended, SameSteps, holding, unroll_same, after_step_same}
+use Rattle.saphyr_scanner.specs.Steps.State.{State, on_core_with}
+use Rattle.yaml_laws.proofs.Breaks.Cores.{near_core, Anywhere, Laws, BeginsUnbroken, Unbroken, here, of_cores, remove_same, Separated, separate_same, and_read, twin_reads, twin_alike, twin_stands, twin_moves, going_to}
+use Rattle.yaml_laws.proofs.Breaks.Normal.{normal_none}
+use Rattle.yaml_laws.proofs.Breaks.Places.{reindexed, near, Ahead, ahead_ahead, ahead_stands, Stand, one_less, character_ahead}
+use Rattle.yaml_laws.proofs.Breaks.Scalars.{Begins, begins_near, no_break_here}
+use Rattle.yaml_laws.proofs.Breaks.States.{put_same, States, holding, AlikeStates, of_states, and_state, unroll_same, on_core_same, after_step_same}
 use Rattle.saphyr_input.proofs.Basics.Characters.{no_return}
 use Rattle.saphyr_scalar.proofs.Given.{cursor_at}
 use Rattle.std.proofs.lemmas.Bool.{and_parts, eqb-true}
 
 -- ## The content of a document ends
 
-content_ends : (text : List ℕ) (c : Core) (x : Indexes) (q r : Queue) → Twin text c x → SameQueues q r
-    → GiveAlike (Ended text c.cursor) (document.end_content (holding c q))
-    (document.end_content (holding (near_core x c) r))
+content_same : {text : List ℕ} {P : Cursor → Type 0} → AlikeStates text P (States text P) document.end_content
 unfolding document.end_content
-content_ends text c x q r t e =
-    let w = unroll_same text None c.cursor.mark (reindexed x.at c.cursor.mark) c x q r t e in
-    let a = unroll None c.cursor.mark (holding c q) in
-    let b = unroll None (reindexed x.at c.cursor.mark) (holding (near_core x c) r) in
-    let P : Core → Core → Type 0 = λ d k. GiveAlike (Ended text c.cursor) (on_core (remove_key d) a.queue)
-    (on_core (remove_key k) b.queue) in
-    of_cores text P a.core b.core w.0 (λ y u. by (remove_key a.core)
-    (remove_key (near_core y a.core)) a.queue b.queue w.2 a.core.cursor w.1 (remove_still text a.core y u))
-  where
-    by : (u v : Result Core Refusal) (f g : Queue) → SameQueues f g → (s : Cursor) → s ≡ c.cursor
-        → GiveAlike (Still text s) u v → GiveAlike (Ended text c.cursor) (on_core u f) (on_core v g)
-    by (Ok d) (Ok k) f g h s m i = (i.0, i.1 ∙ m, h)
-    by (Ok d) (Err k) f g h s m i = absurd i
-    by (Err d) (Ok k) f g h s m i = absurd i
-    by (Err d) (Err k) f g h s m i = i
-
--- after the end of a document's content
-content_then : (text : List ℕ) (R : State → State → Type 0) (c : Core) (x : Indexes) (q r : Queue)
-    (f g : State → Result State Refusal) → Twin text c x → SameQueues q r
-    → ((d : Core) (y : Indexes) (u v : Queue) → Twin text d y → d.cursor ≡ c.cursor → SameQueues u v → GiveAlike R
-    (f (holding d u)) (g (holding (near_core y d) v)))
-    → GiveAlike R (document.end_content (holding c q) >>= f) (document.end_content (holding (near_core x c) r) >>= g)
-content_then text R c x q r f g t e go = both_then (Ended text c.cursor) R _ _ f g (content_ends text c x q r t e)
-    (λ a b i j h. of_cores text (λ d k. GiveAlike R (f (holding d a.queue))
-    (g (holding k b.queue))) a.core b.core h.0 (λ y u. go a.core y a.queue b.queue u h.1 h.2))
-
-put_same : (m k n o : Marker) (kind : Kind) (q r : Queue) → SameQueues q r
-    → SameQueues (act (Put (record { span = record { start = m; end = k }; kind = kind })) q)
-    (act (Put (record { span = record { start = n; end = o }; kind = kind })) r)
-put_same m k n o kind q r e = same_act (Put (record { span = record { start = m; end = k }; kind = kind }))
-    (Put (record { span = record { start = n; end = o }; kind = kind })) q r refl e
+content_same {text} {P} c x q r t e p =
+    of_states (λ a b. Both (States text P) (document.remove_key_of a) (document.remove_key_of b))
+    (unroll_same None c.cursor.mark (reindexed x.at c.cursor.mark) c x q r t e p)
+    (λ d y u v w f h. on_core_same (remove_same d y w h) f)
 
 -- ## The end of the stream
 
-pub stream_same : (text : List ℕ) (c : Core) (x : Indexes) (q r : Queue) → Twin text c x → SameQueues q r
-    → GiveAlike (States text) (document.state_behind_end (holding c q)) (document.state_behind_end
-    (holding (near_core x c) r))
+pub stream_same : {text : List ℕ} → AlikeStates text Anywhere (States text Anywhere) document.state_behind_end
 unfolding document.state_behind_end document.end_at
-stream_same text c x q r t e =
-    both_choose (States text) (length c.cursor.rest == 0) (length (normalized c.cursor.rest) == 0) _ _ _ _
-    (normal_none c.cursor.rest) (λ _. both_choose (States text) c.required c.required _ _ _ _ refl (λ _. refl) (λ _.
+stream_same {text} c x q r t e _ = choose_same (length c.cursor.rest == 0) (length (normalized c.cursor.rest) == 0)
+    (sym (normal_none c.cursor.rest)) (λ _. choose c.required (λ _. refused) (λ _.
     let m = document.end_mark c.cursor.mark in
     let k = document.end_mark (reindexed x.at c.cursor.mark) in
-    let w = unroll_same text None m k c x q r t e in
-    let a = unroll None m (holding c q) in
-    let b = unroll None k (holding (near_core x c) r) in (
-      of_cores text (λ d f. Cores text (document.core_at_end d) (document.core_at_end f)) a.core b.core w.0
-          (λ y u. (y, refl, u)),
-      put_same m m k k tokens.StreamEnd a.queue b.queue w.2,
-    )))
-    (λ _. refl)
+    gives (of_states (λ s z. States text Anywhere (document.finish m s) (document.finish k z))
+    (unroll_same {P = Anywhere} None m k c x q r t e tt)
+    (λ d y u v w f _. (here (document.core_at_end d) y w tt, put_same _ _ refl f)))))
+    (λ _. refused)
 
 -- ## Document markers
 
@@ -124,124 +84,89 @@ three_ahead text i (c ∷ d ∷ f ∷ t) m b k h =
     ) in
     let q : i + 1 + 1 + 1 ≡ i + 3 = omega arith in rw (p, q) at all
 
-passed_marker : (text : List ℕ) (c : Core) (x : Indexes) → Twin text c x → Three c.cursor.rest
-    → Cores text (document.pass_marker c) (document.pass_marker (near_core x c))
-passed_marker text c x t k = (
-  going_to (x.at + 3) x,
-  cc (three_near x.at c.cursor.rest c.cursor.mark c.cursor.blank_so_far k),
-  twin_moves text c x (pass 3 c.cursor) (x.at + 3) t
-      (three_ahead text x.at c.cursor.rest c.cursor.mark c.cursor.blank_so_far k (twin_stands text c x t)),
-)
+abbrev AtThree : Cursor → Type 0
+AtThree s = Three s.rest
 
-three_still : (s t : Cursor) → t ≡ s → Three s.rest → Three t.rest
-three_still s t e k = rw e k
-
-marker_same : (text : List ℕ) (kind : Kind) (c : Core) (x : Indexes) (q r : Queue) → Twin text c x → SameQueues q r
-    → Three c.cursor.rest
-    → GiveAlike (States text) (document.state_behind_marker kind (holding c q)) (document.state_behind_marker kind
-    (holding (near_core x c) r))
+marker_same : {text : List ℕ} (kind : Kind)
+    → AlikeStates text AtThree (States text Anywhere) (document.state_behind_marker kind)
 unfolding document.state_behind_marker
-marker_same text kind c x q r t e three = content_then text (States text) c x q r _ _ t e
-    (λ d y u v w m f. (
-      passed_marker text d y w (three_still c.cursor d.cursor m three),
-      put_same d.cursor.mark (document.pass_marker d).cursor.mark (reindexed y.at d.cursor.mark)
-          (document.pass_marker (near_core y d)).cursor.mark kind u v f,
+marker_same {text} kind c x q r t e three = and_state {P = AtThree} _ _ (content_same c x q r t e three)
+    (λ d y u v w f k. let s = d.cursor in gives (
+      record {
+        at = going_to (y.at + 3) y;
+        is = cc (three_near y.at s.rest s.mark s.blank_so_far k);
+        twin = twin_moves d y (pass 3 s) (y.at + 3) w
+            (three_ahead text y.at s.rest s.mark s.blank_so_far k (twin_stands d y w));
+        here = tt;
+      },
+      put_same _ _ refl f,
     ))
 
-pub start_marker_same : (text : List ℕ) (c : Core) (x : Indexes) (q r : Queue) → Twin text c x → SameQueues q r
-    → is_document_start c.cursor.rest ≡ true
-    → GiveAlike (States text) (document.state_behind_marker tokens.DocumentStart (holding c q))
-    (document.state_behind_marker tokens.DocumentStart (holding (near_core x c) r))
-start_marker_same text c x q r t e k =
-    marker_same text tokens.DocumentStart c x q r t e (three_marks 45 refl refl c.cursor.rest _ k)
+pub start_marker_same : {text : List ℕ} → AlikeStates text (λ s. is_document_start s.rest ≡ true)
+    (States text Anywhere) (document.state_behind_marker tokens.DocumentStart)
+start_marker_same c x q r t e k = search (marker_same, three_marks)
 
-line_ends : (text : List ℕ) (k : SkipTabs) (c : Core) (x : Indexes) (q r : Queue) → Twin text c x → SameQueues q r
-    → GiveAlike (States text) (document.end_line (k, holding c q)) (document.end_line (k, holding (near_core x c) r))
+behind_marker_same : {text : List ℕ} → Laws text → AlikeStates text Anywhere (States text Anywhere)
+    (λ s. on_core_with (separate s.core) s >>= document.end_line)
 unfolding document.end_line
-line_ends text k c x q r t e = both_choose (States text) (is_breakz (slice_index c.cursor.rest 0))
-    (is_breakz (slice_index (normalized c.cursor.rest) 0)) _ _ _ _ (first_is is_breakz refl c.cursor.rest)
-    (λ _. ((x, refl, t), e)) (λ _. refl)
-
-behind_marker_same : (text : List ℕ) (c : Core) (x : Indexes) (q r : Queue) → Laws text → Twin text c x → SameQueues q r
-    → GiveAlike (States text) (on_core_with (separate c) (holding c q) >>= document.end_line)
-    (on_core_with (separate (near_core x c)) (holding (near_core x c) r) >>= document.end_line)
-behind_marker_same text c x q r laws t e = by (separate c) (separate (near_core x c)) (separate_alike text c x laws t)
+behind_marker_same {text} laws c x q r t e _ =
+    by (separate c) (separate (near_core x c)) (separate_same laws c x t tt)
   where
-    by : (a b : Result (SkipTabs × Core) Refusal) → GiveAlike (Separated text) a b
-        → GiveAlike (States text) (on_core_with a (holding c q) >>= document.end_line)
+    by : (a b : Result (SkipTabs × Core) Refusal) → Both (Separated text) a b
+        → Both (States text Anywhere) (on_core_with a (holding c q) >>= document.end_line)
         (on_core_with b (holding (near_core x c) r) >>= document.end_line)
-    by (Ok a) (Ok b) h =
-        let P : SkipTabs → Core → Type 0 = λ k d. GiveAlike (States text) (document.end_line (a.0, holding a.1 q))
-        (document.end_line (k, holding d r)) in
-        subst (λ k. P k b.1) h.0 (subst (λ d. P a.0 d) (sym h.1.1) (line_ends text a.0 a.1 h.1.0 q r h.1.2 e))
-    by (Ok a) (Err f) h = absurd h
-    by (Err d) (Ok b) h = absurd h
-    by (Err d) (Err f) h = h
+    by (Ok a) (Ok b) h = of_cores (λ d k. Both (States text Anywhere) (document.end_line (a.0, holding d q))
+        (document.end_line (b.0, holding k r))) h.are.1
+        (λ d y u _. choose_first is_breakz refl (twin_alike d y u) (λ _. gives (here d y u tt, e)) (λ _. refused))
+    by (Ok a) (Err f) h = absurd h.are
+    by (Err d) (Ok b) h = absurd h.are
+    by (Err d) (Err f) h = both_of h.are
 
-pub end_marker_same : (text : List ℕ) (c : Core) (x : Indexes) (q r : Queue) → Laws text → Twin text c x
-    → SameQueues q r → is_document_end c.cursor.rest ≡ true
-    → GiveAlike (States text) (document.state_behind_document_end (holding c q)) (document.state_behind_document_end
-    (holding (near_core x c) r))
+pub end_marker_same : {text : List ℕ} → Laws text → AlikeStates text (λ s. is_document_end s.rest ≡ true)
+    (States text Anywhere) document.state_behind_document_end
 unfolding document.state_behind_document_end
-end_marker_same text c x q r laws t e k = both_then (States text) (States text) _ _ _ _
-    (marker_same text tokens.DocumentEnd c x q r t e (three_marks 46 refl refl c.cursor.rest _ k))
-    (λ a b i j h. of_cores text (λ d f. GiveAlike (States text)
-    (on_core_with (separate d) (holding d a.queue) >>= document.end_line)
-    (on_core_with (separate f) (holding f b.queue) >>= document.end_line)) a.core b.core h.0
-    (λ y u. behind_marker_same text a.core y a.queue b.queue laws u h.1))
+end_marker_same laws c x q r t e k =
+    let behind = λ (s : State). on_core_with (separate s.core) s >>= document.end_line in
+    and_state {P = Anywhere} behind behind
+    (marker_same tokens.DocumentEnd c x q r t e (three_marks 46 refl refl c.cursor.rest _ k)) (behind_marker_same laws)
 
 -- ## Byte order marks
 
-bom_near : (i : ℕ) (t : List ℕ) (m : Marker) (b : Bool) → Inked t
+bom_near : (i : ℕ) (t : List ℕ) (m : Marker) (b : Bool) → BeginsUnbroken t
     → pass_byte_order_mark (near i (cursor_at t m b)) ≡ near (i + 1) (pass_byte_order_mark (cursor_at t m b))
 bom_near i t m b k = grind arith
 
-bom_ahead : (text : List ℕ) (i : ℕ) (t : List ℕ) (m : Marker) (b : Bool) → Inked t → Stand text (cursor_at t m b) i
-    → Ahead text (cursor_at t m b) i (pass_byte_order_mark (cursor_at t m b)) (i + 1)
+bom_ahead : (text : List ℕ) (i : ℕ) (t : List ℕ) (m : Marker) (b : Bool) → BeginsUnbroken t
+    → Stand text (cursor_at t m b) i → Ahead text (cursor_at t m b) i (pass_byte_order_mark (cursor_at t m b)) (i + 1)
 bom_ahead text i t m b h k = grind (arith, no_return, one_less)
 
-passed_mark : (text : List ℕ) (c : Core) (x : Indexes) → Twin text c x → Inked c.cursor.rest
-    → Cores text (document.pass_mark c) (document.pass_mark (near_core x c))
-passed_mark text c x t k = (
-  going_to (x.at + 1) x,
-  cc (bom_near x.at c.cursor.rest c.cursor.mark c.cursor.blank_so_far k),
-  twin_moves text c x (pass_byte_order_mark c.cursor) (x.at + 1) t
-      (bom_ahead text x.at c.cursor.rest c.cursor.mark c.cursor.blank_so_far k (twin_stands text c x t)),
-)
-
-pub byte_order_mark_same : (text : List ℕ) (c : Core) (x : Indexes) (q r : Queue) → Twin text c x → SameQueues q r
-    → Inked c.cursor.rest → GiveAlike (States text) (document.state_behind_byte_order_mark (holding c q))
-    (document.state_behind_byte_order_mark (holding (near_core x c) r))
+pub byte_order_mark_same : {text : List ℕ}
+    → AlikeStates text Unbroken (States text Anywhere) document.state_behind_byte_order_mark
 unfolding document.state_behind_byte_order_mark
-byte_order_mark_same text c x q r t e ink = both_choose (States text) (nat_lt 0 c.cursor.mark.col || not (in_block c))
-    (nat_lt 0 c.cursor.mark.col || not (in_block c)) _ _ _ _ refl (λ _. refl)
-    (λ _. content_then text (States text) c x q r _ _ t e
-    (λ d y u v w m f. (
-      passed_mark text d y w (still_inked c.cursor d.cursor m ink),
-      put_same c.cursor.mark (document.pass_mark d).cursor.mark (reindexed x.at c.cursor.mark)
-          (document.pass_mark (near_core y d)).cursor.mark tokens.ByteOrderMark u v f,
+byte_order_mark_same {text} c x q r t e unbroken =
+    choose (nat_lt 0 c.cursor.mark.col || not (in_block c)) (λ _. refused)
+    (λ _. and_state {P = Unbroken} _ _ (content_same c x q r t e unbroken) (λ d y u v w f i. let s = d.cursor in gives (
+      record {
+        at = going_to (y.at + 1) y;
+        is = cc (bom_near y.at s.rest s.mark s.blank_so_far i);
+        twin = twin_moves d y (pass_byte_order_mark s) (y.at + 1) w
+            (bom_ahead text y.at s.rest s.mark s.blank_so_far i (twin_stands d y w));
+        here = tt;
+      },
+      put_same _ _ refl f,
     )))
 
 -- ## Directives
 
-read_directive_same : (text : List ℕ) (c : Core) (x : Indexes) → Laws text → Twin text c x → Begins 37 c.cursor
-    → GiveAlike (SameSteps text) (document.read_directive c) (document.read_directive (near_core x c))
-unfolding document.read_directive
-read_directive_same text c x laws t begins =
-    let s = c.cursor in
-    both_then (AreDirectivesAlike text) (SameSteps text) (directives.directive s)
-    (directives.directive (near x.at s)) _ _ ((twin_reads text c x laws t).directive (no_break_here 37 s refl begins))
-    (λ a b e h w.
-    let v = read_twin text c x a.2 b.2 laws t (laws.forward.directive s a begins e)
-    (laws.forward.directive (near x.at s) b (begins_near 37 x.at s refl begins) h) w.2 in (
-      (going_to b.2.mark.index x, cc, v.1),
-      (ap document.directive_kind w.0, tt),
-    ))
-
-pub directive_same : (text : List ℕ) (c : Core) (x : Indexes) (q r : Queue) → Laws text → Twin text c x
-    → SameQueues q r → Begins 37 c.cursor → GiveAlike (States text) (document.state_behind_directive (holding c q))
-    (document.state_behind_directive (holding (near_core x c) r))
-unfolding document.state_behind_directive
-directive_same text c x q r laws t e begins = content_then text (States text) c x q r _ _ t e
-    (λ d y u v w m f. after_step_same text (document.read_directive d) (document.read_directive (near_core y d)) u v
-    (read_directive_same text d y laws w (begins_still 37 c.cursor d.cursor m begins)) f)
+pub directive_same : {text : List ℕ} → Laws text → AlikeStates text (Begins 37) (States text Anywhere)
+    document.state_behind_directive
+unfolding document.state_behind_directive document.read_directive
+directive_same {text} laws c x q r t e begins = and_state {P = Begins 37} _ _ (content_same c x q r t e begins)
+    (λ d y u v w f b. let s = d.cursor in after_step_same (and_read (λ a. a.2) _ _ laws d y w
+    (both_of ((twin_reads d y laws w).directive (no_break_here 37 s refl b)))
+    (λ a k. laws.forward.directive s a b k)
+    (λ a k. laws.forward.directive (near y.at s) a (begins_near 37 y.at s refl b) k) (λ a o z. z.2)
+    (λ a o z h. gives (
+      grind (arith, of_cores, here),
+      (ap document.directive_kind z.0, tt),
+    ))) f)

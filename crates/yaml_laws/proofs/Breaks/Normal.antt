@@ -1,6 +1,6 @@
 -- A text beside its normalized text: how long both are, and what comes first in them.
-use Rattle.std.proofs.Common.{◌≡◌, ℕ, ◌≤◌, Bool, true, false, List, length, refl, sym, ap, ◌∙◌, arith, cond, Option, None}
-use Rattle.std.specs.Prelude.{◌==◌, ◌&&◌, ◌||◌, not, slice_index, option_map}
+use Rattle.std.proofs.Common.{◌≡◌, ℕ, ◌≤◌, Bool, true, false, List, length, refl, sym, ap, ◌∙◌, arith, cond}
+use Rattle.std.specs.Prelude.{◌==◌, ◌&&◌, ◌||◌, not, slice_index}
 use Rattle.saphyr_input.specs.Breaks.{normalized}
 use Rattle.saphyr_input.specs.Classes.{is_blank_or_breakz, is_break, is_flow, byte_order_mark, carriage_return}
 use Rattle.saphyr_input.specs.Places.{is_document_start, is_document_end, is_document_indicator, can_be_plain}
@@ -8,7 +8,6 @@ use Rattle.scalar_laws.proofs.Breaks.Sides.{Normal, normal, first_in, second_in,
 use Rattle.scalar_laws.proofs.Breaks.Separations.{marker_alike, indicator_alike}
 use Rattle.std.proofs.lemmas.Bool.{eqb-true}
 use Rattle.saphyr_scalar.specs.Spelling.Tag.{AreIn}
-use Rattle.saphyr_scalar.specs.declared.scalar.fault.Refusal.{Refusal}
 use Rattle.saphyr_scanner.specs.Steps.Remaining.{Scans}
 use Rattle.saphyr_scanner.specs.Views.Tokens.{Remaining}
 use Rattle.saphyr_scanner.specs.Grammar.Tokens.{Kind}
@@ -60,8 +59,7 @@ chosen b x y v w h k = grind arith
 pub plain_so : (in_flow : Bool) (t : List ℕ) → can_be_plain in_flow (normalized t) ≡ can_be_plain in_flow t
 plain_so f t =
     let n = normalized t in
-    let inside : (slice_index t 0 == 58) ≡ true → is_break (slice_index t 0) ≡ false = λ e. ap is_break
-    (eqb-true (slice_index t 0) 58 e) in
+    let inside : (slice_index t 0 == 58) ≡ true → is_break (slice_index t 0) ≡ false = grind (arith, eqb-true) in
     let p : ℕ → Bool = λ c. not (is_blank_or_breakz c || (f && is_flow c)) in
     let q : ℕ → Bool = λ c. not ((c == byte_order_mark) || (f && is_flow c)) in
     ap (λ d. cond d (p (slice_index n 1)) (q (slice_index n 0))) (first_is (λ c. c == 58) refl t)
@@ -78,12 +76,5 @@ no_return_left (feed h) = (refl, no_return_left h)
 no_return_left (return e h) = (refl, no_return_left h)
 no_return_left (pair h) = (refl, no_return_left h)
 
-none_if : {X Y : Type 0} → (f : X → Y) (o : Option X) → option_map f o ≡ None → o ≡ None
-none_if f o e = grind arith
-
 pub scans_too : (ts : List Kind) (r q : Remaining) → HaveSameKinds r q → Scans ts q → Scans ts r
-scans_too ts r q h s = (
-  none_if (λ (e : Refusal). e.text) r.refusal
-      (h.refusals ∙ ap (λ o. option_map (λ (e : Refusal). e.text) o) s.0),
-  h.kinds ∙ s.1,
-)
+scans_too ts r q h s = grind arith

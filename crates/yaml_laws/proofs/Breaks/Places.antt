@@ -1,13 +1,12 @@
 -- Places of a text and of its normalized text, and how both go on together.
-use Rattle.std.proofs.Common.{◌≡◌, ℕ, ◌+◌, ◌^◌, ◌≤◌, Bool, true, false, List, ◌∷◌, length, drop, refl, sym, ◌∙◌, arith, Result, cond}
+use Rattle.std.proofs.Common.{◌≡◌, ℕ, ◌+◌, ◌^◌, ◌≤◌, Bool, true, false, List, ◌∷◌, length, drop, refl, arith, cond}
 use Rattle.std.specs.Prelude.{◌==◌, ◌-◌, ◌^◌, min}
 use Rattle.saphyr_input.specs.Breaks.{normalized}
 use Rattle.saphyr_scalar.specs.declared.scalar.position.Marker.{Marker}
 use Rattle.saphyr_scalar.specs.Views.Cursor.{Cursor, along}
 use Rattle.saphyr_scalar.proofs.Moving.{drop_more}
-use Rattle.scalar_laws.specs.Alike.{AreAlike, GiveAlike}
+use Rattle.scalar_laws.specs.Alike.{AreAlike}
 use Rattle.saphyr_input.specs.Classes.{carriage_return, line_feed}
-use Rattle.saphyr_scalar.specs.declared.scalar.fault.Refusal.{Refusal}
 use Rattle.saphyr_scalar.proofs.Choices.{both_by}
 use Rattle.saphyr_scalar.proofs.Given.{cursor_at}
 
@@ -32,14 +31,7 @@ pub even_here : (l a b : ℕ) → Even l a b l a b
 even_here l a b = record { lines = omega arith; slow = omega arith; slow_too = omega arith; even = λ e. omega arith }
 
 pub even_even : (l a b k c d h e f : ℕ) → Even l a b k c d → Even k c d h e f → Even l a b h e f
-even_even l a b k c d h e f x y = record {
-  lines = omega (arith, x.lines, y.lines);
-  slow = omega (arith, x.slow, y.slow);
-  slow_too = omega (arith, x.slow_too, y.slow_too);
-  even = λ q.
-      let u = x.even (omega (arith, q, x.lines, y.lines)) in
-      let v = y.even (omega (arith, q, x.lines, y.lines)) in omega (arith, u, v);
-}
+even_even l a b k c d h e f x y = grind arith
 
 -- where an index is what it was
 pub even_index : (l a b k c d : ℕ) → Even l a b k c d → (d == b) ≡ (c == a)
@@ -57,13 +49,7 @@ pub record Ahead (text : List ℕ) (s : Cursor) (i : ℕ) (t : Cursor) (j : ℕ)
 
 pub ahead_ahead : (text : List ℕ) (s : Cursor) (i : ℕ) (t : Cursor) (j : ℕ) (u : Cursor) (k : ℕ) → Ahead text s i t j
     → Ahead text t j u k → Ahead text s i u k
-ahead_ahead text s i t j u k x y = record {
-  even = even_even s.mark.line s.mark.index i t.mark.line t.mark.index j u.mark.line u.mark.index k x.even y.even;
-  counted = y.counted ∙ x.counted;
-  counted_too = y.counted_too ∙ x.counted_too;
-  here = y.here;
-  there = y.there;
-}
+ahead_ahead text s i t j u k x y = search (even_even)
 
 -- a place of the text and the same of the normalized text
 pub record Stand (text : List ℕ) (s : Cursor) (i : ℕ) : Type 0 where
@@ -94,20 +80,12 @@ Low s = s.mark.line + length s.rest ≤ 2 ^ 63
 pub low_ahead : (text : List ℕ) (s : Cursor) (i : ℕ) (t : Cursor) (j : ℕ) → Ahead text s i t j → Low s → Low t
 low_ahead text s i t j x l = omega (arith, x.even.slow, x.counted, l)
 
--- ## Two results
+-- ## Choices
 
--- a choice by tests that tell the same
-pub choose : {X : Type 0} → (P : X → X → Type 0) (b d : Bool) (x y v w : X) → d ≡ b → (b ≡ true → P x v)
+-- by tests that tell the same
+pub choose_by : {X : Type 0} → (P : X → X → Type 0) (b d : Bool) (x y v w : X) → b ≡ d → (b ≡ true → P x v)
     → (b ≡ false → P y w) → P (cond b x y) (cond d v w)
-choose P b d x y v w e h k = both_by b d x y v w P (sym e) (λ t _. h t) (λ t _. k t)
-
-pub both_choose : {X : Type 0} → (R : X → X → Type 0) (b d : Bool) (x y v w : Result X Refusal) → d ≡ b
-    → (b ≡ true → GiveAlike R x v) → (b ≡ false → GiveAlike R y w) → GiveAlike R (cond b x y) (cond d v w)
-both_choose R b d x y v w e h k = choose (GiveAlike R) b d x y v w e h k
-
-pub both_so : {X : Type 0} → (R S : X → X → Type 0) (r q : Result X Refusal) → ((x y : X) → R x y → S x y)
-    → GiveAlike R r q → GiveAlike S r q
-both_so R S r q h k = grind (arith)
+choose_by P b d x y v w e h k = both_by b d x y v w P e (λ t _. h t) (λ t _. k t)
 
 -- ## What is passed
 

@@ -1,18 +1,17 @@
 -- Two scanners, of a text and of its normalized text, with tokens of the same kinds.
-use Rattle.std.proofs.Common.{◌≡◌, ℕ, zero, suc, List, [], ◌∷◌, ◌++◌, length, Option, Some, None, Result, Ok, Err, refl, ap, ◌∙◌, subst}
-use Rattle.std.specs.Prelude.{◌-◌}
+use Rattle.std.proofs.Common.{◌≡◌, ℕ, zero, suc, List, [], ◌∷◌, ◌++◌, length, Option, Some, None, Result, Ok, Err, refl, ap, arith}
 use Rattle.saphyr_scalar.specs.declared.scalar.position.Marker.{Marker}
 use Rattle.saphyr_scalar.specs.declared.scalar.fault.Refusal.{Refusal}
-use Rattle.saphyr_scalar.specs.Views.Cursor.{Cursor}
-use Rattle.scalar_laws.specs.Alike.{GiveAlike}
+use Rattle.saphyr_scalar.specs.Views.Cursor.{Cursor, ◌>>=◌}
+use Rattle.scalar_laws.proofs.Breaks.Results.{Both, both_of, gives, and_then}
 use Rattle.saphyr_scanner.specs.declared.queue.Opening.{Opening}
 use Rattle.saphyr_scanner.specs.Views.Tokens.{Piece}
 use Rattle.saphyr_scanner.specs.Steps.Queue.{Place, Queue, bare_place, places_with_opening, next}
 use Rattle.saphyr_scanner.specs.Steps.Core.{Core, Action, Put, Open, Step, act, perform, in_block}
 use Rattle.saphyr_scanner.specs.Steps.State.{State, on_core, after_step}
 use Rattle.saphyr_scanner.specs.Steps.Unrolling.{unroll, end_blocks, end_block, is_right_of, with_outer_indent, go_less_deep}
-use Rattle.yaml_laws.proofs.Breaks.Cores.{Indexes, near_core, Cores, Twin}
-use Rattle.yaml_laws.proofs.Breaks.Places.{choose}
+use Rattle.yaml_laws.proofs.Breaks.Cores.{Indexes, near_core, Cores, Anywhere, Twin, here}
+use Rattle.yaml_laws.proofs.Breaks.Places.{choose_by}
 
 -- ## Tokens
 
@@ -55,14 +54,7 @@ same_opened n o (p ∷ ps) [] h = absurd h
 
 pub same_act : (a b : Action) (q r : Queue) → SameAction a b → SameQueues q r → SameQueues (act a q) (act b r)
 same_act (Put t) (Put u) q r e h = record { places = same_put q.places r.places t u h.places e; handed = h.handed }
-same_act (Open n o) (Open m p) q r e h =
-    let P : ℕ → Opening → Type 0 = λ k w. SamePlaces (places_with_opening (n - q.handed) o q.places)
-    (places_with_opening k w r.places) in
-    let at : n - q.handed ≡ m - r.handed = cc in
-    record {
-      places = rw (← e.1) (subst (λ k. P k o) at (same_opened (n - q.handed) o q.places r.places h.places));
-      handed = h.handed;
-    }
+same_act (Open n o) (Open m p) q r e h = grind (arith, same_opened)
 same_act (Put t) (Open m p) q r e h = absurd e
 same_act (Open n o) (Put u) q r e h = absurd e
 
@@ -82,79 +74,77 @@ places_length (p ∷ ps) [] h = absurd h
 pub same_next : (q r : Queue) → SameQueues q r → next q ≡ next r
 same_next q r h = cc (places_length q.places r.places h.places)
 
+pub put_same : (t u : Piece) {q r : Queue} → t.kind ≡ u.kind → SameQueues q r
+    → SameQueues (act (Put t) q) (act (Put u) r)
+put_same t u {q} {r} e h = same_act (Put t) (Put u) q r e h
+
 -- ## Steps and states
 
 abbrev pub SameSteps : List ℕ → Step → Step → Type 0
-SameSteps text a b = Cores text a.core b.core × SameActions a.actions b.actions
+SameSteps text a b = Cores text Anywhere a.core b.core × SameActions a.actions b.actions
 
-abbrev pub States : List ℕ → State → State → Type 0
-States text s t = Cores text s.core t.core × SameQueues s.queue t.queue
-
-pub after_step_same : (text : List ℕ) (r q : Result Step Refusal) (u v : Queue) → GiveAlike (SameSteps text) r q
-    → SameQueues u v → GiveAlike (States text) (after_step r u) (after_step q v)
-after_step_same text (Ok a) (Ok b) u v h e = (h.0, same_perform a.actions b.actions u v h.1 e)
-after_step_same text (Ok a) (Err f) u v h e = absurd h
-after_step_same text (Err d) (Ok b) u v h e = absurd h
-after_step_same text (Err d) (Err f) u v h e = h
-
-pub on_core_same : (text : List ℕ) (r q : Result Core Refusal) (u v : Queue) → GiveAlike (Cores text) r q
-    → SameQueues u v → GiveAlike (States text) (on_core r u) (on_core q v)
-on_core_same text (Ok c) (Ok d) u v h e = (h, e)
-on_core_same text (Ok c) (Err f) u v h e = absurd h
-on_core_same text (Err d) (Ok b) u v h e = absurd h
-on_core_same text (Err d) (Err f) u v h e = h
-
--- ## Block collections end
+abbrev pub States : List ℕ → (Cursor → Type 0) → State → State → Type 0
+States text P s t = Cores text P s.core t.core × SameQueues s.queue t.queue
 
 abbrev pub holding : Core → Queue → State
 holding c q = record { core = c; queue = q }
 
--- the cursor is where it was
-abbrev pub Ended : List ℕ → Cursor → State → State → Type 0
-Ended text s a b = Cores text a.core b.core × (a.core.cursor ≡ s) × SameQueues a.queue b.queue
+-- the same of both states holds where P does
+abbrev pub Holds : List ℕ → (Cursor → Type 0) → (State → State → Type 0) → Type 0
+Holds text P R = (c : Core) (x : Indexes) (q r : Queue) → Twin text c x → SameQueues q r → P c.cursor
+    → R (holding c q) (holding (near_core x c) r)
 
-outer_indent_twin : (text : List ℕ) (is : List ℕ) (c : Core) (x : Indexes) → Twin text c x
-    → (with_outer_indent is (near_core x c) ≡ near_core x (with_outer_indent is c))
-    × Twin text (with_outer_indent is c) x ×
-    ((with_outer_indent is c).cursor ≡ c.cursor)
-outer_indent_twin text [] c x t = (refl, t, refl)
-outer_indent_twin text (i ∷ is) c x t = (refl, t, refl)
+abbrev pub AlikeStates : List ℕ → (Cursor → Type 0) → (State → State → Type 0) → (State → Result State Refusal) → Type 0
+AlikeStates text P R f = Holds text P (λ s t. Both R (f s) (f t))
 
-ends_block : (text : List ℕ) (m k : Marker) (c : Core) (x : Indexes) (q r : Queue) → Twin text c x → SameQueues q r
-    → Ended text c.cursor (end_block m (holding c q)) (end_block k (holding (near_core x c) r))
-ends_block text m k c x q r t e =
-    let o = outer_indent_twin text c.outer_indents c x t in (
-      (x, o.0, o.1),
-      o.2,
-      same_act (Put (record { span = record { start = m; end = m }; kind = _ }))
-          (Put (record { span = record { start = k; end = k }; kind = _ })) q r refl e,
-    )
+module _ {text : List ℕ} {P : Cursor → Type 0} where
+  pub of_states : (R : State → State → Type 0) {s t : State} → States text P s t → Holds text P R → R s t
+  of_states R {s} {t} h go = rw h.0.is (go s.core h.0.at s.queue t.queue h.0.twin h.1 h.0.here)
 
-ends_blocks : (text : List ℕ) (column : Option ℕ) (m k : Marker) (is : List ℕ) (c : Core) (x : Indexes) (q r : Queue)
-    → Twin text c x → SameQueues q r
-    → Ended text c.cursor (end_blocks column m is (holding c q)) (end_blocks column k is (holding (near_core x c) r))
-ends_blocks text column m k [] c x q r t e =
-    choose (Ended text c.cursor) (is_right_of column c.indent) (is_right_of column c.indent) _ _ _ _ refl
-    (λ _. ends_block text m k c x q r t e) (λ _. ((x, refl, t), refl, e))
-ends_blocks text column m k (i ∷ is) c x q r t e =
-    choose (Ended text c.cursor) (is_right_of column c.indent) (is_right_of column c.indent) _ _ _ _ refl (λ _.
-    let w = ends_block text m k c x q r t e in
-    let a = end_block m (holding c q) in
-    let b = end_block k (holding (near_core x c) r) in
-    let h = ends_blocks text column m k is a.core w.0.0 a.queue b.queue w.0.2 w.2 in
-    rw w.0.1 (h.0, h.1 ∙ w.1, h.2)) (λ _. ((x, refl, t), refl, e))
+  pub and_state : {R : State → State → Type 0} (f g : State → Result State Refusal) {r q : Result State Refusal}
+      → Both (States text P) r q → Holds text P (λ s t. Both R (f s) (g t)) → Both R (r >>= f) (q >>= g)
+  and_state {R} f g h go = and_then h (λ a b k. of_states (λ s t. Both R (f s) (g t)) k go)
 
-less_twin : (text : List ℕ) (column : Option ℕ) (c : Core) (x : Indexes) → Twin text c x
-    → (go_less_deep column (near_core x c) ≡ near_core x (go_less_deep column c)) × Twin text (go_less_deep column c) x
-    × ((go_less_deep column c).cursor ≡ c.cursor)
-less_twin text None c x t = (refl, t, refl)
-less_twin text (Some column) c x t = (refl, t, refl)
+  pub on_core_same : {r q : Result Core Refusal} {u v : Queue} → Both (Cores text P) r q → SameQueues u v
+      → Both (States text P) (on_core r u) (on_core q v)
+  on_core_same {r = Ok c} {q = Ok d} h e = gives (h.are, e)
+  on_core_same {r = Ok c} {q = Err f} h e = absurd h.are
+  on_core_same {r = Err d} {q = Ok b} h e = absurd h.are
+  on_core_same {r = Err d} {q = Err f} h e = both_of h.are
 
-pub unroll_same : (text : List ℕ) (column : Option ℕ) (m k : Marker) (c : Core) (x : Indexes) (q r : Queue)
-    → Twin text c x → SameQueues q r
-    → Ended text c.cursor (unroll column m (holding c q)) (unroll column k (holding (near_core x c) r))
-unfolding unroll
-unroll_same text column m k c x q r t e = choose (Ended text c.cursor) (in_block c) (in_block c) _ _ _ _ refl (λ _.
-    let w = less_twin text column c x t in
-    let h = ends_blocks text column m k c.outer_indents (go_less_deep column c) x q r w.1 e in
-    rw w.0 (h.0, h.1 ∙ w.2, h.2)) (λ _. ((x, refl, t), refl, e))
+pub after_step_same : {text : List ℕ} {r q : Result Step Refusal} {u v : Queue} → Both (SameSteps text) r q
+    → SameQueues u v → Both (States text Anywhere) (after_step r u) (after_step q v)
+after_step_same {r = Ok a} {q = Ok b} {u} {v} h e = gives (h.are.0, same_perform a.actions b.actions u v h.are.1 e)
+after_step_same {r = Ok a} {q = Err f} h e = absurd h.are
+after_step_same {r = Err d} {q = Ok b} h e = absurd h.are
+after_step_same {r = Err d} {q = Err f} h e = both_of h.are
+
+-- ## Block collections end
+
+module _ {text : List ℕ} {P : Cursor → Type 0} where
+  outer_same : (is : List ℕ) (c : Core) (x : Indexes) → Twin text c x → P c.cursor
+      → Cores text P (with_outer_indent is c) (with_outer_indent is (near_core x c))
+  outer_same [] c x t p = here (with_outer_indent [] c) x t p
+  outer_same (i ∷ is) c x t p = here (with_outer_indent (i ∷ is) c) x t p
+
+  ends_block : (m k : Marker) → Holds text P (λ s t. States text P (end_block m s) (end_block k t))
+  ends_block m k c x q r t e p = (outer_same c.outer_indents c x t p, put_same _ _ refl e)
+
+  ends_blocks : (column : Option ℕ) (m k : Marker) (is : List ℕ)
+      → Holds text P (λ s t. States text P (end_blocks column m is s) (end_blocks column k is t))
+  ends_blocks column m k [] c x q r t e p =
+      choose_by (States text P) (is_right_of column c.indent) (is_right_of column c.indent) _ _ _ _ refl
+      (λ _. ends_block m k c x q r t e p) (λ _. (here c x t p, e))
+  ends_blocks column m k (i ∷ is) c x q r t e p =
+      choose_by (States text P) (is_right_of column c.indent) (is_right_of column c.indent) _ _ _ _ refl
+      (λ _. of_states (λ s t. States text P (end_blocks column m is s) (end_blocks column k is t))
+      (ends_block m k c x q r t e p) (ends_blocks column m k is)) (λ _. (here c x t p, e))
+
+  pub unroll_same : (column : Option ℕ) (m k : Marker)
+      → Holds text P (λ s t. States text P (unroll column m s) (unroll column k t))
+  unfolding unroll
+  unroll_same None m k c x q r t e p = choose_by (States text P) (in_block c) (in_block c) _ _ _ _ refl
+      (λ _. ends_blocks None m k c.outer_indents (go_less_deep None c) x q r t e p) (λ _. (here c x t p, e))
+  unroll_same (Some column) m k c x q r t e p = choose_by (States text P) (in_block c) (in_block c) _ _ _ _ refl
+      (λ _. ends_blocks (Some column) m k c.outer_indents (go_less_deep (Some column) c) x q r t e p)
+      (λ _. (here c x t p, e))

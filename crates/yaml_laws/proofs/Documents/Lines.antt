@@ -11,7 +11,7 @@ use Rattle.saphyr_scanner.specs.Grammar.Tokens.{Kind}
 use Rattle.yaml_laws.proofs.Flow.States.{moved, past}
 use Rattle.yaml_laws.proofs.Flow.Places.{moved_append, moved_count}
 use Rattle.yaml_laws.proofs.Flow.Fillers.{EndsLine, filler_past}
-use Rattle.yaml_laws.proofs.Documents.Stands.{StandsLined, AtLine, Lined, passes_over}
+use Rattle.yaml_laws.proofs.Documents.Stands.{StandsLined, AtLine}
 use Rattle.yaml_laws.proofs.InBlock.States.{crosses}
 use Rattle.yaml_laws.proofs.InBlock.Lines.{IsLined, one_lined, moved_lined}
 
@@ -117,9 +117,4 @@ filler_at_line m w y h (inr e) = inr (none_behind w y e)
 pub passes_filler : {limit : ℕ} {start : State} {free opened : Bool} {ts : List Kind} (w y : List ℕ) → IsFiller w
     → StandsLined limit start free opened (w ++ y) ts → StandsLined limit start free opened y ts
 passes_filler {limit = limit} {opened = opened} w y h v =
-    passes_over v (Lined opened y) (moved v.mark w) y (filler_past 0 v.mark w y h) (rw (moved_count v.mark w y) v.count)
-    (filler_at_line v.mark w y h v.line.0, λ e. still (v.line.1 e)) (moved_lined v.mark w v.lined)
-  where
-    still : {b : Bool} → (b ≡ true) ⊎ (w ++ y ≡ []) → (b ≡ true) ⊎ (y ≡ [])
-    still (inl k) = inl k
-    still (inr k) = inr (none_behind w y k)
+    grind (arith, filler_past, moved_count, filler_at_line, moved_lined, none_behind)

@@ -165,13 +165,14 @@ reads_end {limit = limit} end o v h =
 
 -- ## The text's end
 
--- From the start the scanner comes to the end of the stream, and has read these tokens and others, of which Told holds.
-pub record FinishesStream (limit : ℕ) (start : State) (Told : List Kind → Type 0) (ts : List Kind) : Type 0 where
+-- From the start the scanner comes to the end of the stream, and has read these tokens and others, of which Follow
+-- holds.
+pub record FinishesStream (limit : ℕ) (start : State) (Follow : List Kind → Type 0) (ts : List Kind) : Type 0 where
   pub last : State
   pub leads : LeadsTo limit last start
   pub over : last.core.ended ≡ true
   pub others : List Kind
-  pub told : Told others
+  pub follow : Follow others
   pub are : place_kinds last.queue.places ≡ ts ++ others
 
 low_index : (i l n limit : ℕ) → i + 0 ≡ n + l → n + l ≤ limit → i ≤ limit
@@ -192,6 +193,6 @@ reads_stream_end {limit = limit} {free = free} {o = o} {ts = ts} v m text =
       leads = comes_to_end v.follows refl r.4 refl;
       over = refl;
       others = tokens.StreamEnd ∷ [];
-      told = refl;
+      follow = refl;
       are = cc (place_kinds_append v.places (stream_end_place m ∷ []));
     }

@@ -13,8 +13,7 @@ use Rattle.saphyr_scanner.specs.Steps.Queue.{Place, bare_place}
 use Rattle.saphyr_scanner.specs.Steps.Core.{Core, drop_far_key}
 use Rattle.saphyr_scanner.specs.Steps.Level.{Candidate}
 use Rattle.saphyr_scanner.specs.Steps.Passing.{goes_on_behind, pass_gap, check_comment, behind_gap}
-use Rattle.saphyr_scanner.specs.Steps.State.{State, on_core}
-use Rattle.saphyr_scanner.specs.Steps.Unrolling.{unroll}
+use Rattle.saphyr_scanner.specs.Steps.State.{State}
 use Rattle.saphyr_scanner.specs.Steps.Fetch.{fetch_here, arrive, fetch}
 use Rattle.saphyr_scanner.proofs.Leads.{LeadsTo}
 use Rattle.yaml_laws.proofs.InFlow.States.{alone, noted}
@@ -23,14 +22,14 @@ use Rattle.yaml_laws.proofs.InBlock.Follows.{goes_on}
 use Rattle.yaml_laws.proofs.InBlock.Lines.{IsLined}
 use Rattle.yaml_laws.proofs.Flow.States.{past, EndsDocument}
 use Rattle.yaml_laws.proofs.InBlock.Untabbed.{gap_past}
-use Rattle.yaml_laws.proofs.InBlock.Gaps.{past_inked}
+use Rattle.yaml_laws.proofs.InBlock.Gaps.{past_no_blank}
 use Rattle.yaml_laws.proofs.Flow.GapSteps.{past_low}
 use Rattle.yaml_laws.proofs.Flow.Tokens.{passes_gap, within_index}
 use Rattle.saphyr_scalar.proofs.Given.{cursor_at}
 use Rattle.std.proofs.lemmas.Bool.{eq-eqb}
 use Rattle.saphyr_scanner.proofs.Queues.{place_kinds, place_kinds_append, queue_of}
 use Rattle.saphyr_scanner.proofs.Root.{core_at, state_at, drops_key, none_unrolls, comes}
-use Rattle.yaml_laws.proofs.Flow.Inks.{mark_no_plain}
+use Rattle.yaml_laws.proofs.Flow.ContentStarts.{mark_no_plain}
 
 -- ## After a comment that ended a plain scalar
 
@@ -64,13 +63,13 @@ passes_noted : (co : Option Marker) (s : Cursor) (k : Option Candidate) (a : Boo
 unfolding pass_gap check_comment stop
 passes_noted None s k a ad m y here h =
     let g = passes_gap (alone 0) s context.Block k [] a ad m y here
-    (ap (λ (p : Marker × List ℕ). is_blank (slice_index p.1 0)) (sym here) ∙ past_inked s.mark s.rest) in
+    (ap (λ (p : Marker × List ℕ). is_blank (slice_index p.1 0)) (sym here) ∙ past_no_blank s.mark s.rest) in
     record { blank = g.blank; allowed = g.allowed; is = g.is false }
 passes_noted (Some comment) s k a ad m y here (inl e) = absurd (cc)
 passes_noted (Some comment) s k a ad m y here (inr h) =
     let g = gap_past 0 s.mark s.blank_so_far s.rest in
     let c : Core = record (core_at false s context.Block k [] a ad) { comment = Some comment } in
-    let there = g.is (past_inked s.mark s.rest) 0 none_less
+    let there = g.is (past_no_blank s.mark s.rest) 0 none_less
     ∙ ap (λ (p : Marker × List ℕ). stop p.0 g.still_blank (crosses s.rest) false p.1) here in
     let b = (crosses s.rest && true) || a in
     let goes : check_comment
@@ -105,9 +104,7 @@ reaches co s k a ad ps m y text h =
       blank = g.blank;
       key = d.left;
       allowed = g.allowed;
-      is = ap (λ r. on_core r (queue_of ps) >>= λ (t : State). Ok
-          (unroll (Some t.core.cursor.mark.col) t.core.cursor.mark t)) reached
-          ∙ ap Ok (none_unrolls m.col m false there context.Block d.left [] g.allowed ad ps);
+      is = grind (arith, queue_of, none_unrolls);
     }
 
 -- What begins at m is read, and the cursor is t after it.
@@ -175,8 +172,7 @@ StandsLined limit start free opened o ts = StandsInStream limit start free (Line
 
 pub lined_so : {limit : ℕ} {start : State} {free opened : Bool} {o y : List ℕ} {ts : List Kind} → o ≡ y
     → StandsLined limit start free opened o ts → StandsLined limit start free opened y ts
-lined_so {limit} {start} {free} {opened} {ts = ts} e v =
-    subst (λ (x : List ℕ). StandsLined limit start free opened x ts) e v
+lined_so {limit} {start} {free} {opened} {ts = ts} e v = grind arith
 
 -- what a place knows of its comment, before what may end a document
 pub passable : (free : Bool) (co : Option Marker) (m : Marker) (y : List ℕ) → (free ≡ true → co ≡ None)
@@ -240,5 +236,4 @@ passes_over {free = free} v Q n y fits count line lined = goes_over v free (λ e
 -- where a document is free one may be that needn't be
 pub unfree : {limit : ℕ} {start : State} {o : List ℕ} {ts : List Kind}
     → StandsLined limit start true true o ts → StandsLined limit start false false o ts
-unfree {o = o} v =
-    goes_over v false (λ _. refl) (Lined false o) v.mark o refl v.count (v.line.0, λ _. v.line.1 refl) v.lined
+unfree {o = o} v = grind arith

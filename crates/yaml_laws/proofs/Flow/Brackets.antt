@@ -24,9 +24,9 @@ use Rattle.saphyr_scanner.specs.Steps.Flow.{close_collection, behind_pair, next_
 use Rattle.saphyr_scanner.specs.Steps.Fetch.{step}
 use Rattle.saphyr_scanner.specs.Limits.{most_open}
 use Rattle.yaml_laws.proofs.InFlow.States.{Around, core_at, state_at, Calm, placed_right, opening_steps_open, open_collection_gives, close_collection_gives, deepened, FlowMoment, moment, moment_with, moment_in}
-use Rattle.yaml_laws.proofs.Flow.States.{IsFresh, Since, moved, past, IsClear, IsInk, IsParted, Known, fresh_key, PassesPiece, FitsAround, StandsBefore, key_behind}
+use Rattle.yaml_laws.proofs.Flow.States.{IsFresh, Since, moved, past, IsClear, IsContentStart, IsParted, Known, fresh_key, PassesPiece, FitsAround, StandsBefore, key_behind}
 use Rattle.yaml_laws.proofs.Flow.Places.{moved_index, right_one, clear_here}
-use Rattle.yaml_laws.proofs.Flow.GapSteps.{past_ink, past_low, less_on}
+use Rattle.yaml_laws.proofs.Flow.GapSteps.{past_content, past_low, less_on}
 use Rattle.yaml_laws.proofs.Flow.Tokens.{BeginsToken, arrives, step_comes, within_index, saved_since}
 use Rattle.yaml_laws.proofs.Flow.Separates.{separates}
 use Rattle.yaml_laws.proofs.Flow.Joins.{step_passes, separation_joins, knowing}
@@ -37,18 +37,18 @@ use Rattle.saphyr_scanner.proofs.Levels.{saved, level_of}
 use Rattle.saphyr_scanner.proofs.Steps.Choice.{comma_begins}
 use Rattle.yaml_laws.specs.Grammar.FlowNodes.{IsComma}
 use Rattle.scalar_laws.proofs.Breaks.Sides.{no_feed}
-use Rattle.yaml_laws.proofs.Flow.Inks.{BeginsInk, is_start, start_ink, start_nul, start_directive, colon_ink}
-use Rattle.yaml_laws.proofs.Flow.Pieces.{fits_front, fits_so, end_ink, parted_by}
+use Rattle.yaml_laws.proofs.Flow.ContentStarts.{StartsContent, is_start, start_content, start_nul, start_directive, colon_content}
+use Rattle.yaml_laws.proofs.Flow.Pieces.{fits_front, fits_so, end_is_content, parted_by}
 
 -- a character that is a token
 pub record IsTokenMark (c : ℕ) : Type 0 where
-  pub ink : IsInk c
+  pub content : IsContentStart c
   pub nul : is_z c ≡ false
   pub directive : (c == percent_sign) ≡ false
   pub feed : (c == line_feed) ≡ false
 
 pub token_mark : (c : ℕ) → is_start c ≡ true → IsTokenMark c
-token_mark c h = grind (arith, start_ink, start_nul, start_directive, no_feed)
+token_mark c h = grind (arith, start_content, start_nul, start_directive, no_feed)
 
 pub mark_begins : (m : Marker) (c : ℕ) (o : List ℕ) → IsTokenMark c → IsClear m (c ∷ []) o → BeginsToken m (c ∷ o)
 mark_begins m c o h clear = search (clear_here)
@@ -81,7 +81,7 @@ pub open_passes : (around : Around) (y : Context) → is_block y ≡ false → (
     now.places (moved m (ch ∷ [])) o (kind ∷ [])
     × ((t : List ℕ) → (key : Option Candidate) → (key ≡ None) ⊎ (key ≡ j) → Since now.key m t key)
 open_passes around y in_flow kind ch mark begins m o fits parted now low calm before text =
-    let v = arrives around now m (ch ∷ o) (text ∙ past_ink around.indent m ch o mark.ink) mark.ink.blank
+    let v = arrives around now m (ch ∷ o) (text ∙ past_content around.indent m ch o mark.content) mark.content.blank
     fits.right fits.calm in
     let key = saved v.allowed (length now.places) m v.key in
     let p = separates around.indent (cursor_at o (along m 1) false) parted.separation parted.first parted.others
@@ -160,7 +160,7 @@ one_place : (indent : ℕ) (s : Cursor) (found : SkipTabs) (there : Cursor) → 
     → (w more : List ℕ) → s.rest ≡ w ++ (58 ∷ more) → IsSeparation indent w → indent ≤ s.mark.col
     → IsTrue (list_all is_blank w) → there.mark ≡ moved s.mark w
 one_place indent s found there is w more text parts right blank =
-    let p = separates indent s w 58 more text parts right colon_ink in
+    let p = separates indent s w 58 more text parts right colon_content in
     ap (reached s.mark) (sym is ∙ p.is) ∙ (p.near (all_blank w blank)).1
 
 either : (b : Bool) (n k bound : ℕ) → n ≤ bound → k ≤ bound → cond b n k ≤ bound
@@ -185,8 +185,8 @@ pub close_passes : (around : Around) (y : Context) → is_block y ≡ false → 
     (pending ends ++ kind ∷ [])
 close_passes around y flows ends kind ch mark begins m o fits found there is lands j x ls now fresh calm before text =
     let inside : FlowMoment = record now { context = y; outer = level_of x j ∷ ls } in
-    let v = arrives around inside m (ch ∷ o) (text ∙ past_ink around.indent m ch o
-    mark.ink) mark.ink.blank fits.right fits.calm in
+    let v = arrives around inside m (ch ∷ o) (text ∙ past_content around.indent m ch o
+    mark.content) mark.content.blank fits.right fits.calm in
     let stepped = λ (d : Bool). begins (slice_index o 0) (length now.places) d (cursor_at (ch ∷ o) m v.blank) v.key
     (level_of x j ∷ ls) v.allowed now.adjacent
     ∙ close_collection_gives ends kind ch o m v.blank around d y v.key j x ls v.allowed now.adjacent found there
@@ -205,9 +205,7 @@ close_passes around y flows ends kind ch mark begins m o fits found there is lan
       near = λ e w more text parts blank.
           rw e (cc (one_place around.indent (cursor_at o (along m 1) false) found there is w more text parts
           (le_next around.indent m.col fits.right) blank));
-      low = either (is_block x) now.adjacent there.mark.index (past around.indent (moved m (ch ∷ [])) o).0.index
-          (one_behind around.indent m ch o now.adjacent before) (rw (lands, mark_moved m ch mark) at
-          (past_low around.indent there.mark there.rest));
+      low = grind (arith, either, past, moved, one_behind, mark_moved, past_low);
     })
 
 in_flow : (y : Context) → is_block y ≡ false → is_block (behind_entry y) ≡ false
@@ -231,12 +229,7 @@ unfolding flow.flow_entry_steps remove_key
 removes around d o m b y k ls a ad e = grind arith
 
 comma_is_mark : IsTokenMark 44
-comma_is_mark = record {
-  ink = record { blank = refl; break = refl; comment = refl; byte_order_mark = refl };
-  nul = refl;
-  directive = refl;
-  feed = refl;
-}
+comma_is_mark = search
 
 -- A comma ends a pair that has no bracket of its own, and after it a key may begin.
 pub comma_passes : (around : Around) (y : Context) → is_block y ≡ false → (m : Marker) (o : List ℕ)
@@ -246,7 +239,8 @@ pub comma_passes : (around : Around) (y : Context) → is_block y ≡ false → 
     now.outer
     now.places (moved m (comma ∷ [])) o (pending (ends_pair y) ++ tokens.FlowEntry ∷ [])
 comma_passes around y flows m o fits parted now before text =
-    let v = arrives around (moment_in y now) m (44 ∷ o) (text ∙ past_ink around.indent m 44 o comma_is_mark.ink) refl
+    let v = arrives around (moment_in y now) m (44 ∷ o)
+    (text ∙ past_content around.indent m 44 o comma_is_mark.content) refl
     fits.right fits.calm in
     let p = separates around.indent (cursor_at o (along m 1) false) parted.separation parted.first parted.others
     parted.is parted.parts (le_next around.indent m.col fits.right) parted.ends in
@@ -269,7 +263,7 @@ comma_passes around y flows m o fits parted now before text =
 
 -- with the separation after it
 pub comma_behind : (around : Around) (y z : Context) → is_block y ≡ false → behind_entry y ≡ z
-    → (m : Marker) (comma o : List ℕ) → IsComma around.indent comma → FitsAround around m comma o → BeginsInk o
+    → (m : Marker) (comma o : List ℕ) → IsComma around.indent comma → FitsAround around m comma o → StartsContent o
     → (now : FlowMoment) → now.adjacent ≤ (past around.indent m (comma ++ o)).0.index
     → StandsBefore around now m (comma ++ o)
     → PassesPiece around (state_at around (moment_in y now)) (fresh_key (moved m comma)) z now.outer now.places
@@ -280,7 +274,7 @@ comma_behind around y z flows back m comma o (separation, parts, e) fits b now b
     let texts : comma ++ o ≡ 44 ∷ (separation ++ o) = ap (λ (t : List ℕ). t ++ o) e in
     let parted = parted_by around.indent separation o parts b in
     let here : past around.indent m (comma ++ o) ≡ (m, 44 ∷ (separation ++ o)) =
-    cc (past_ink around.indent m 44 (separation ++ o) (end_ink 44 (inl refl))) in
+    cc (past_content around.indent m 44 (separation ++ o) (end_is_content 44 (inl refl))) in
     let low : now.adjacent ≤ m.index = rw here at before in
     let p = separation_joins (moved m (44 ∷ [])) separation o parts
     (comma_passes around y flows m (separation ++ o) f parted now low (text ∙ ap (past around.indent m) texts)) in

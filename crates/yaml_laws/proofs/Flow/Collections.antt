@@ -1,6 +1,6 @@
 -- Collections in brackets and braces, given the run over what is inside them.
 pub mod Runs
-use Rattle.std.proofs.Common.{◌≡◌, ℕ, ◌<◌, ◌≤◌, Bool, true, false, List, [], ◌∷◌, ◌++◌, length, Ok, refl, sym, ap, ◌∙◌, subst, append_assoc, inl, inr}
+use Rattle.std.proofs.Common.{◌≡◌, ℕ, ◌<◌, ◌≤◌, Bool, true, false, List, [], ◌∷◌, ◌++◌, length, Ok, refl, sym, ap, ◌∙◌, subst, append_assoc, inl, inr, arith}
 use Rattle.std.specs.Prelude.{Option, None}
 use Rattle.std.specs.List.{list_all}
 use Rattle.saphyr_input.specs.Classes.{is_blank}
@@ -26,7 +26,7 @@ use Rattle.saphyr_scanner.specs.Limits.{most_open}
 use Rattle.yaml_laws.proofs.InFlow.States.{Around, core_at, state_at, Calm, FlowMoment}
 use Rattle.yaml_laws.proofs.Flow.States.{crosses, IsFresh, keeping, moved, past, IsParted, IsBehindRoot, Known, PassesPiece, FitsAround, ended, StandsBefore, after, IsAfterNode, after_node, TextPasses}
 use Rattle.yaml_laws.proofs.Flow.Places.{moved_append}
-use Rattle.yaml_laws.proofs.Flow.GapSteps.{past_ink, less_on}
+use Rattle.yaml_laws.proofs.Flow.GapSteps.{past_content, less_on}
 use Rattle.yaml_laws.proofs.Flow.Fillers.{rest_past}
 use Rattle.yaml_laws.proofs.Flow.Separates.{separates, separates_rest}
 use Rattle.yaml_laws.proofs.Flow.Joins.{join, separation_joins}
@@ -37,7 +37,7 @@ use Rattle.saphyr_input.proofs.Basics.Numbers.{le_next}
 use Rattle.std.proofs.lemmas.Bool.{true≢false}
 use Rattle.saphyr_scanner.proofs.Steps.Choice.{begins_sequence, begins_mapping}
 use Rattle.saphyr_scanner.proofs.Levels.{level_of}
-use Rattle.yaml_laws.proofs.Flow.Inks.{is_start}
+use Rattle.yaml_laws.proofs.Flow.ContentStarts.{is_start}
 
 -- ## After the closing bracket
 
@@ -70,8 +70,7 @@ ends_root around m e o h right =
       found = p.0;
       there = record { rest = h.more; mark = moved (along m 1) h.rest; blank_so_far = false };
       is = p.1;
-      lands = sym (cc (rest_past around.indent (along m 1) h.rest h.more h.line h.break
-          (le_next around.indent m.col right)));
+      lands = grind (arith, rest_past, le_next);
       fresh = λ _ e. line_rest_crosses h.rest h.more h.line h.break (ap crosses (sym h.is) ∙ e);
     }
 
@@ -152,28 +151,10 @@ shuts_curly around context.ExplicitFlowPair e back second i d s k ms a ad = absu
 shuts_curly around context.MarkedFlowPair e back second i d s k ms a ad = absurd (cc)
 
 pub are_square : AreBrackets square
-are_square = record {
-  flows = refl;
-  back = refl;
-  none = refl;
-  ends = inr (inl refl);
-  start = refl;
-  closing_mark = token_mark 93 refl;
-  begins = begins_sequence;
-  shuts = shuts_square;
-}
+are_square = grind (arith, begins_sequence, shuts_square)
 
 pub are_curly : AreBrackets curly
-are_curly = record {
-  flows = refl;
-  back = refl;
-  none = refl;
-  ends = inr (inr refl);
-  start = refl;
-  closing_mark = token_mark 125 refl;
-  begins = begins_mapping;
-  shuts = shuts_curly;
-}
+are_curly = grind (arith, begins_mapping, shuts_curly)
 
 -- the text from the opening bracket to the closing one
 abbrev pub bracket_text : Brackets → List ℕ → List ℕ → List ℕ
@@ -197,9 +178,9 @@ abbrev starts_with : Piece → ℕ → Known
 starts_with piece n key allowed adjacent new = ((others : List Place) × (new ≡ bare_place piece ∷ others))
     × (adjacent ≤ n)
 
-all_told : (opens closes : Kind) (ts ends : List Kind)
+all_kinds : (opens closes : Kind) (ts ends : List Kind)
     → ((opens ∷ []) ++ ts) ++ (ends ++ closes ∷ []) ≡ opens ∷ ((ts ++ ends) ++ closes ∷ [])
-all_told opens closes ts ends = cc (append_assoc ts ends (closes ∷ []))
+all_kinds opens closes ts ends = cc (append_assoc ts ends (closes ∷ []))
 
 pub brackets_pass : (around : Around) (Is : List Kind → Type 0) (b : Brackets) → AreBrackets b
     → (m : Marker) (w inside o : List ℕ) → FitsAround around m (bracket_text b w inside) o
@@ -231,8 +212,7 @@ brackets_pass around Is b are m w inside o fits parts parted now low calm before
     let at_close = ends r.passes.right in
     let piece = p.knows.1.0 in
     let at_end = moved here inside in
-    let first_ended : r.passes.adjacent ≤ at_end.index = subst (λ (z : Marker × List ℕ). r.passes.adjacent ≤ z.0.index)
-    (past_ink around.indent at_end b.closing o are.closing_mark.ink) r.passes.knows in
+    let first_ended : r.passes.adjacent ≤ at_end.index = grind (arith, past_content) in
     let q = join p r.passes (starts_with piece at_end.index)
     ((r.passes.new, ap (λ (z : List Place). z ++ r.passes.new) p.knows.1.1), first_ended) in
     let c = close_passes around r.inside r.flows (ends_pair r.inside) b.closes b.closing are.closing_mark
@@ -266,5 +246,5 @@ brackets_pass around Is b are m w inside o fits parts parted now low calm before
           (subst (λ (ts : List Kind). PassesPiece around start
           (after_node around.indent now.context kept (list_all is_blank) end o)
           now.context now.outer now.places end o ts)
-          (all_told b.opens b.closes r.tokens (pending (ends_pair r.inside))) all);
+          (all_kinds b.opens b.closes r.tokens (pending (ends_pair r.inside))) all);
     }

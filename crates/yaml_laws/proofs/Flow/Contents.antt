@@ -1,5 +1,5 @@
 -- The content of a scalar in flow style is passed, after its properties or without any.
-use Rattle.std.proofs.Common.{◌≡◌, ℕ, ◌≤◌, false, List, [], ◌∷◌, ◌++◌, slice_index, refl, ap, ◌∙◌, arith, IsTrue}
+use Rattle.std.proofs.Common.{◌≡◌, ℕ, ◌≤◌, false, List, [], ◌∷◌, ◌++◌, slice_index, refl, arith, IsTrue}
 use Rattle.std.specs.Prelude.{◌==◌, not, None}
 use Rattle.std.proofs.lemmas.Bool.Decides.{nat_tests}
 use Rattle.saphyr_input.specs.Classes.{is_blank_or_breakz}
@@ -13,16 +13,16 @@ use Rattle.saphyr_scanner.specs.Steps.Level.{is_block}
 use Rattle.saphyr_scanner.specs.Grammar.Forest.{Style, Plain, SingleQuoted, DoubleQuoted, Literal, Folded, Properties, Node, Scalar}
 use Rattle.saphyr_scalar.specs.Values.Flow.{plain_value}
 use Rattle.yaml_laws.specs.Grammar.FlowScalars.{IsPlainKey, IsQuoted, IsFlowScalar}
-use Rattle.scalar_laws.specs.Spelling.Plain.{is_tabbed, past_white, EndsPlain}
+use Rattle.scalar_laws.specs.Spelling.Plain.{EndsPlain}
 use Rattle.saphyr_scanner.specs.declared.engine.level.Context.{Context}
 use Rattle.yaml_laws.specs.Grammar.FlowNodes.{allows_adjacent}
 use Rattle.yaml_laws.proofs.InFlow.States.{Around, FlowMoment}
 use Rattle.yaml_laws.proofs.Flow.States.{moved, past, ReaderPromises, FitsAround, after_node, StandsBefore, keeping, Follows, follows_inside, follows_outside, IsLow, TextPasses}
-use Rattle.yaml_laws.proofs.Flow.GapSteps.{past_ink}
 use Rattle.yaml_laws.proofs.Flow.Fillers.{separation_past}
 use Rattle.yaml_laws.proofs.Flow.Joins.{knowing, token_node}
 use Rattle.yaml_laws.proofs.Flow.Ends.{EndsHere, behind_node_first, root_first}
-use Rattle.yaml_laws.proofs.Flow.Quotes.{EndsQuotes, flow_ends_quotes, root_ends_quotes, style_of_quote, quoted_passes}
+use Rattle.saphyr_scanner.specs.Steps.Scalar.{quote_style}
+use Rattle.yaml_laws.proofs.Flow.Quotes.{EndsQuotes, flow_ends_quotes, root_ends_quotes, quoted_passes}
 use Rattle.yaml_laws.proofs.Flow.PlainEnds.{ParsColon, ends_in_flow, ends_at_root}
 use Rattle.yaml_laws.proofs.Flow.Plains.{PassesPlain, plain_comment, no_comment, plain_passes, plain_key_passes}
 use Rattle.saphyr_scalar.specs.Steps.Quoted.{mid_line}
@@ -40,11 +40,7 @@ node_apart node c h = grind arith
 -- the place of the next token, where that is a colon
 colon_place : (indent : ℕ) (m : Marker) (o separation more : List ℕ) → o ≡ separation ++ (colon ∷ more)
     → IsSeparation indent separation → indent ≤ m.col → (past indent m o).0.index ≡ (moved m separation).index
-colon_place indent m o separation more is parts right =
-    let lands = ap (past indent m) is ∙ separation_past indent m separation (58 ∷ more) parts right
-    ∙ past_ink indent (moved m separation) 58 more
-    (record { blank = refl; break = refl; comment = refl; byte_order_mark = refl }) in
-    cc
+colon_place indent m o separation more is parts right = grind (arith, separation_past)
 
 same_low : (a b : ℕ) → a ≡ b → a ≤ b
 same_low a b e = omega (arith, e)
@@ -82,7 +78,7 @@ PassesContent around node style value t o m now =
 
 quotes_pass : ReaderPromises → (around : Around) (node : Node) (quote : Quote) (value t o : List ℕ) (m : Marker)
     (now : FlowMoment) → IsQuoted quote around.indent value t
-    → PassesContent around node (style_of_quote quote) value t o m now
+    → PassesContent around node (quote_style quote) value t o m now
 quotes_pass reads around node quote value t o m now h fits follows low text =
     let end = moved m t in
     let right = quoted_right around.indent quote m value t o h fits.clear fits.right in
@@ -90,21 +86,11 @@ quotes_pass reads around node quote value t o m now h fits follows low text =
     (follows_apart around now.context node end o follows) now
     (follows_quotes around m now.context node end o follows right) text in
     record {
-      tokens = scalar_token (style_of_quote quote) value ∷ [];
+      tokens = scalar_token (quote_style quote) value ∷ [];
       are = refl;
       comment = None;
       none = λ _. refl;
-      passes = knowing q (after_node around.indent now.context (keeping now m t) (allows_adjacent node) end o)
-          (record {
-            piece = q.knows.piece;
-            others = [];
-            is = q.knows.is;
-            keeps = q.knows.keeps;
-            since = q.knows.since;
-            near = λ _ separation more is parts allows. q.knows.tells
-                ∙ colon_place around.indent end o separation more is parts right;
-            low = same_low q.adjacent (past around.indent end o).0.index q.knows.tells;
-          });
+      passes = grind (arith, knowing, after_node, keeping, colon_place, same_low, past);
     }
 
 -- a plain scalar, or a key before its colon
@@ -116,14 +102,13 @@ plains_pass {around} {p} {value} {t} {o} {m} {now} stands passes reaches fits fo
     let end = moved m t in
     let right = reaches fits in
     let q = passes fits (follows_plain around now.context node end o (λ w. refl) follows right)
-    (follows_quotes around m now.context node end o follows right).inked low.1 text in
+    (follows_quotes around m now.context node end o follows right).past_blanks low.1 text in
     record {
       tokens = scalar_token Plain (plain_value t) ∷ [];
       are = cc;
       comment = plain_comment around now m t o;
-      none = λ e. no_comment (not (is_block now.context)) (is_tabbed around.column o) (past_white end false o)
-          (ap not e);
-      passes = token_node (allows_adjacent node) (λ w. refl) low.0 q q.knows.tells;
+      none = grind (arith, no_comment);
+      passes = token_node (allows_adjacent node) (λ w. refl) low.0 q q.knows.holds;
     }
 
 pub key_content_passes : ReaderPromises → (around : Around) (p : Properties) (value t r : List ℕ) (m : Marker)

@@ -1,11 +1,10 @@
 -- What comes first after a piece of a text in flow style.
-use Rattle.std.proofs.Common.{◌≡◌, ◌≢◌, ℕ, Bool, true, false, List, [], ◌∷◌, ◌++◌, slice_index, refl, sym, arith, subst, append_assoc, IsTrue, ◌⊎◌, inl, inr}
+use Rattle.std.proofs.Common.{◌≡◌, ◌≢◌, ℕ, Bool, true, false, List, [], ◌∷◌, ◌++◌, slice_index, sym, arith, subst, append_assoc, IsTrue, ◌⊎◌, inl, inr}
 use Rattle.std.specs.Prelude.{◌||◌, ◌&&◌, not}
 use Rattle.std.proofs.lemmas.Bool.Decides.{nat_tests}
-use Rattle.saphyr_input.specs.Classes.{is_blank, is_blank_or_breakz, is_flow, is_anchor_char, line_feed}
+use Rattle.saphyr_input.specs.Classes.{is_blank, is_blank_or_breakz, is_flow, is_anchor_char}
 use Rattle.saphyr_input.specs.Places.{is_blank_or_break}
 use Rattle.saphyr_scalar.specs.declared.scalar.position.Marker.{Marker}
-use Rattle.saphyr_scalar.specs.Reading.BlockLines.{spaces}
 use Rattle.saphyr_scalar.specs.Spelling.Tag.{AreIn, EndsTag}
 use Rattle.scalar_laws.specs.Spelling.Spaces.{joined_pieces, AreEach, IsCommentBehind, IsSeparationLine, IsSeparation, IsLineRest}
 use Rattle.saphyr_scanner.specs.Grammar.Forest.{Node}
@@ -40,8 +39,7 @@ two_white [] b h k = k
 two_white (c ∷ cs) b h k = h
 
 separation_line_white : (indent : ℕ) (w : List ℕ) → IsSeparationLine indent w → BeginsWhite w
-separation_line_white indent w h = rw h.6
-    (behind_white h.0 h.1 (10 ∷ (h.2 ++ spaces indent)) (blanks_white h.0 h.3) h.4 refl)
+separation_line_white indent w h = grind (arith, behind_white, blanks_white)
 
 pub separation_white : (indent : ℕ) (w : List ℕ) → IsSeparation indent w → BeginsWhite w
 separation_white indent w h = rw h.4 (two_white h.0 h.1 (rw h.2.2 (pieces h.2.0 h.2.1)) (blanks_white h.1 h.3))
@@ -58,21 +56,10 @@ rest_white rest more h k = rw (h.4, append_assoc h.0 h.1 more) (behind_white h.0
 white_breakz : (c : ℕ) → IsTrue (is_blank_or_break c) → IsTrue (is_blank_or_breakz c)
 white_breakz c h = grind (arith, nat_tests)
 
-pub first_white : (w : List ℕ) → BeginsWhite w → IsTrue (is_blank_or_breakz (slice_index w 0))
-first_white w h = grind arith
-
 -- after a document's node: a blank, a break or the end
 pub root_first : (around : Around) (m : Marker) (o : List ℕ) → IsBehindRoot around m o
     → IsTrue (is_blank_or_breakz (slice_index o 0))
-root_first around m o h = first_white o (rw h.is (rest_white h.rest h.more h.line (ends h.more h.break)))
-  where
-    feed : (c : ℕ) → c ≡ line_feed → IsTrue (is_blank_or_break c)
-    feed c e = rw e refl
-
-    ends : (more : List ℕ) → (more ≡ []) ⊎ (slice_index more 0 ≡ line_feed) → BeginsWhite more
-    ends [] k = tt
-    ends (c ∷ cs) (inl e) = absurd (cc)
-    ends (c ∷ cs) (inr e) = feed c e
+root_first around m o h = grind (arith, rest_white)
 
 -- after separation that is not empty
 pub ends_behind_separation : (indent : ℕ) (w y : List ℕ) → IsSeparation indent w → w ≢ []

@@ -1,5 +1,5 @@
 -- The entries of braces and of brackets inside flow.
-use Rattle.std.proofs.Common.{◌≡◌, ℕ, ◌+◌, ◌<◌, ◌≤◌, Bool, true, false, List, [], ◌∷◌, ◌++◌, length, refl, sym, ap, ◌∙◌, subst, append_assoc, append-nil, ◌⊎◌, inl, inr}
+use Rattle.std.proofs.Common.{◌≡◌, ℕ, ◌+◌, ◌<◌, ◌≤◌, Bool, true, false, List, [], ◌∷◌, ◌++◌, length, refl, sym, ap, ◌∙◌, subst, append_assoc, append-nil, ◌⊎◌, inl, inr, arith}
 use Rattle.std.specs.Prelude.{None}
 use Rattle.saphyr_input.specs.Classes.{is_blank}
 use Rattle.saphyr_scalar.specs.declared.scalar.position.Marker.{Marker}
@@ -23,7 +23,7 @@ use Rattle.yaml_laws.proofs.Flow.Fillers.{separation_past}
 use Rattle.yaml_laws.proofs.Flow.Separates.{blanks_moved}
 use Rattle.yaml_laws.proofs.Flow.Joins.{separation_joins, knowing}
 use Rattle.yaml_laws.proofs.Flow.Pieces.{EndsEntry, fits_front, fits_so, IsBehindEntry, entry_behind, wider_entry}
-use Rattle.yaml_laws.proofs.Flow.Pairs.{TellsPiece, told_so, key_passes, alone_passes}
+use Rattle.yaml_laws.proofs.Flow.Pairs.{PieceTokens, mapped_so, key_passes, alone_passes}
 use Rattle.yaml_laws.proofs.Flow.Collections.{InsidePasses}
 use Rattle.yaml_laws.proofs.Flow.MarkedPairs.{MarkedTokens, IsMarked, explicit_passes, lone_passes}
 
@@ -49,9 +49,7 @@ ended_behind : {around : Around} {start : Bool → State} {x : Context} {ls : Li
     {ts : List Kind} (m : Marker) (w o : List ℕ) → IsSeparation around.indent w
     → PassesPiece around start (ended around.indent m (w ++ o)) x ls ps m (w ++ o) ts
     → PassesPiece around start (ended around.indent (moved m w) o) x ls ps (moved m w) o ts
-ended_behind {around = around} m w o parts p =
-    let q = separation_joins m w o parts p in
-    knowing q (ended around.indent (moved m w) o) (rw (separation_past around.indent m w o parts p.right) at q.knows)
+ended_behind {around = around} m w o parts p = grind (arith, separation_joins, separation_past)
 
 before_separation : {around : Around} {inner : Context} (room : ℕ) {Text : List ℕ → Type 0} {Is : List Kind → Type 0}
     → PassesText around inner room Text Is → PassesEntry around inner room (IsBeforeSeparation Text around.indent) Is
@@ -74,7 +72,7 @@ before_separation {around} {inner} room {Is = Is} passes m t c cs fits ends (pie
 
 -- what is told of a piece in braces
 in_mapping : {around : Around} {start : Bool → State} {Is : List Kind → Type 0} {ls : List Level} {ps : List Place}
-    {m : Marker} {o : List ℕ} → TellsPiece around start Is context.FlowMapping ls ps m o
+    {m : Marker} {o : List ℕ} → PieceTokens around start Is context.FlowMapping ls ps m o
     → InsidePasses around start context.FlowMapping Is ls ps m o
 in_mapping {Is = Is} p = record {
   inside = context.FlowMapping;
@@ -114,7 +112,7 @@ pair_text_passes {around} room key value K V m t o fits ends (inl (none, h)) now
       passes = knowing n.passes (ended around.indent (moved m t) o) n.passes.knows.low;
     })
 pair_text_passes room key value K V m t o fits ends (inr (inl h)) now no_candidate fresh low before text =
-    in_mapping (told_so (λ ts (ks, vs, are, others, is).
+    in_mapping (mapped_so (λ ts (ks, vs, are, others, is).
     inl (tokens.Key ∷ ks, tokens.Value ∷ vs, (ks, inr are, refl), (vs, others, refl), is))
     (key_passes room key value K V context.FlowMapping refl m t o fits ends h (λ e. absurd (none e)) now
     fresh low before text))
@@ -122,10 +120,10 @@ pair_text_passes room key value K V m t o fits ends (inr (inl h)) now no_candida
     none : false ≡ true → ⊥
     none e = cc
 pair_text_passes room key value K V m t o fits ends (inr (inr (inl h))) now no_candidate fresh low before text =
-    in_mapping (told_so (λ ts v. inr (inr (inl (h.0, v))))
+    in_mapping (mapped_so (λ ts v. inr (inr (inl (h.0, v))))
     (alone_passes room key value V context.FlowMapping refl m t o fits ends h now no_candidate low before text))
 pair_text_passes room key value K V m t o fits ends (inr (inr (inr h))) now no_candidate fresh low before text =
-    in_mapping (told_so (marked_in_braces key value)
+    in_mapping (mapped_so (marked_in_braces key value)
     (explicit_passes room key value K V context.FlowMapping context.FlowMapping in_braces m t o fits ends h now low
     before text))
 
@@ -135,11 +133,10 @@ pub pair_passes : {around : Around} (room : ℕ) (key value : Node) → PassesNo
     (IsPair key value (IsFlowNode room key true around.indent) (IsFlowNode room value true around.indent) around.indent)
     (PairInBraces key value)
 pair_passes room key value K V m t c cs fits ends (inl h) now no_candidate fresh low before text =
-    in_mapping (told_so (marked_in_braces key value)
+    in_mapping (mapped_so (marked_in_braces key value)
     (lone_passes key value context.FlowMapping context.FlowMapping in_braces m t c cs fits ends h now before text))
 pair_passes room key value K V m t c cs fits ends (inr h) now no_candidate fresh low before text =
-    before_separation room (pair_text_passes room key value K V) m t c cs fits ends h now no_candidate fresh low
-    before text
+    search (before_separation, pair_text_passes)
 
 -- ## In brackets
 
@@ -194,9 +191,9 @@ single_text_passes {around} room key value K V m t o fits ends (inl (node, blank
     (λ _. same_line m node blanks line are) now fresh low before text in
     let ks = p.are.0 in
     let vs = p.are.1 in
-    let told = inl (tokens.Key ∷ ks, tokens.Value ∷ vs, (ks, inr p.are.2, refl), (vs, p.are.3, refl), refl) in
+    let known = inl (tokens.Key ∷ ks, tokens.Value ∷ vs, (ks, inr p.are.2, refl), (vs, p.are.3, refl), refl) in
     let all = subst (λ (x : List Kind). IsEntry (single key value) (x ++ tokens.FlowMappingEnd ∷ [])) (sym p.are.4)
-    (between key value (tokens.Key ∷ (ks ++ tokens.Value ∷ vs)) told) in
+    (between key value (tokens.Key ∷ (ks ++ tokens.Value ∷ vs)) known) in
     record { inside = context.FlowPair; flows = refl; back = refl; tokens = p.tokens; are = all; passes = p.passes }
 single_text_passes {around} room key value K V m t o fits ends (inr (inl h)) now no_candidate fresh low before text =
     let p = alone_passes room key value V context.FlowSequence refl m t o fits ends h now no_candidate low
@@ -234,5 +231,4 @@ single_passes room key value K V m t c cs fits ends (inl h) now no_candidate fre
       passes = p.passes;
     }
 single_passes room key value K V m t c cs fits ends (inr h) now no_candidate fresh low before text =
-    before_separation room (single_text_passes room key value K V) m t c cs fits ends h now no_candidate fresh low
-    before text
+    search (before_separation, single_text_passes)

@@ -4,14 +4,14 @@ use Rattle.std.specs.Prelude.{◌||◌, ◌&&◌, ◌==◌}
 use Rattle.std.proofs.lemmas.Bool.Decides.{nat_tests}
 use Rattle.saphyr_input.specs.Classes.{is_blank, is_break, is_yaml_non_break, line_feed, carriage_return}
 use Rattle.saphyr_scalar.specs.declared.scalar.position.Marker.{Marker}
-use Rattle.saphyr_scalar.specs.Views.Cursor.{Cursor, along, next_line}
+use Rattle.saphyr_scalar.specs.Views.Cursor.{along, next_line}
 use Rattle.saphyr_scalar.specs.Spelling.Tag.{AreIn}
 use Rattle.saphyr_scalar.specs.Reading.BlockLines.{spaces}
 use Rattle.scalar_laws.specs.Spelling.Plain.{past_white}
 use Rattle.scalar_laws.specs.Spelling.Spaces.{joined_pieces, AreEach, AreMany, IsComment, IsCommentBehind, IsLineRest, IsFillerText, IsFillerLine, IsFiller, IsLastFiller, IsSeparationLine, IsSeparation}
 use Rattle.yaml_laws.proofs.Flow.States.{moved, is_left_tab, is_filler_rest, is_comment_rest, past, past_comment}
 use Rattle.yaml_laws.proofs.Flow.Places.{moved_append}
-use Rattle.yaml_laws.proofs.Flow.Gaps.{stops_tab, stop_blank}
+use Rattle.yaml_laws.proofs.Flow.Gaps.{stops_tab}
 use Rattle.saphyr_input.proofs.Basics.Numbers.{le_next}
 use Rattle.saphyr_input.proofs.Basics.Characters.{blank_no_break, non_break_feed_fails, return_breaks}
 use Rattle.saphyr_input.proofs.Basics.Booleans.{and_false, clash}
@@ -56,18 +56,9 @@ many_right column P each w h = subst (IsPastRight column) (sym h.2) (pieces h.0 
 pub no_feed : (c : ℕ) → is_blank c ≡ true → (c == line_feed) ≡ false
 no_feed c h = grind (arith, nat_tests)
 
-pub right_tab : (column : ℕ) (m : Marker) (c : ℕ) → column ≤ m.col → is_left_tab column m c ≡ false
-right_tab column m c low = grind arith
-
 pub blanks_past : (column : ℕ) (w : List ℕ) → AreIn is_blank w → IsPastRight column w
 blanks_past column [] h m low = record { right = low; is = λ y. refl }
-blanks_past column (c ∷ cs) h m low =
-    let on = blanks_past column cs h.1 (along m 1) (le_next column m.col low) in
-    let same : moved m (c ∷ cs) ≡ moved (along m 1) cs = rw (no_feed c h.0) refl in
-    record {
-      right = subst (λ (k : Marker). column ≤ k.col) (sym same) on.right;
-      is = λ y. rw (right_tab column m c low, h.0, no_feed c h.0) (on.is y);
-    }
+blanks_past column (c ∷ cs) h m low = grind (arith, blanks_past column cs h.1 (along m 1) (le_next column m.col low))
 
 pub spaces_are_blank : (n : ℕ) → AreIn is_blank (spaces n)
 spaces_are_blank zero = tt
@@ -79,10 +70,7 @@ spaces_past column (suc n) m y = spaces_past column n (along m 1) y
 
 pub spaces_column : (m : Marker) (n : ℕ) → (moved m (spaces n)).col ≡ m.col + n
 spaces_column m zero = omega arith
-spaces_column m (suc n) = let on = spaces_column (along m 1) n in further (moved (along m 1) (spaces n)).col m.col n on
-  where
-    further : (a b n : ℕ) → a ≡ b + 1 + n → a ≡ b + suc n
-    further a b n e = omega (arith, e)
+spaces_column m (suc n) = grind (arith, spaces_column (along m 1) n)
 
 -- ## Comments
 
@@ -208,10 +196,7 @@ separation_line_past column w (blanks, comment, filler, h, k, f, is) m low =
     ∙ sym (append_assoc (blanks ++ comment) (10 ∷ []) (filler ++ spaces column)) in
     subst (PassesRight column m) (sym text)
     (record {
-      right = subst (λ (k : Marker). column ≤ k.col)
-          (sym (moved_append m front (filler ++ spaces column) ∙ moved_append (moved m front) filler (spaces column)))
-          (reaches (moved (moved (moved m front) filler) (spaces column)).col (moved (moved m front) filler).col
-          (spaces_column (moved (moved m front) filler) column));
+      right = grind (arith, moved_append, moved, reaches, spaces_column);
       is = λ y. ap (past column m) (append_assoc front (filler ++ spaces column) y
           ∙ append_assoc (blanks ++ comment) (10 ∷ []) ((filler ++ spaces column) ++ y))
           ∙ first_line column blanks comment h k m low ((filler ++ spaces column) ++ y)
@@ -248,25 +233,14 @@ white_kind : (column : ℕ) (m : Marker) (b : Bool) (c : ℕ) (cs : List ℕ) (t
     → ((c == carriage_return) && (slice_index cs 0 == line_feed)) ≡ return
     → is_break c ≡ break → WhitePast column (along m 1) (b || break) cs
     → WhitePast column (next_line m 1) (b || break) cs → WhitePast column m b (c ∷ cs)
-white_kind column m b c cs true q r break t e f g on line h =
-    let still : past column m (c ∷ cs) ≡ (m, c ∷ cs) = rw t refl in
-    absurd (clash (is_blank c) (stop_blank column m c cs t)
-    (ap (λ (z : Marker × List ℕ). is_blank (slice_index z.1 0)) (sym still) ∙ h))
+white_kind column m b c cs true q r break t e f g on line h = grind arith
 white_kind column m b c cs false true r true t e f g on line h = absurd (clash (is_break c) g (blank_no_break c e))
-white_kind column m b c cs false true r false t e f g on line h =
-    let there : past column m (c ∷ cs) ≡ past column (along m 1) cs = rw (t, e) refl in
-    rw (t, e, g) (on (ap (λ (z : Marker × List ℕ). is_blank (slice_index z.1 0)) (sym there) ∙ h))
-white_kind column m b c cs false false true true t e f g on line h =
-    let there : past column m (c ∷ cs) ≡ past column (along m 1) cs = rw (t, e, f) refl in
-    rw (t, e, g, f) (on (ap (λ (z : Marker × List ℕ). is_blank (slice_index z.1 0)) (sym there) ∙ h))
+white_kind column m b c cs false true r false t e f g on line h = grind arith
+white_kind column m b c cs false false true true t e f g on line h = grind arith
 white_kind column m b c cs false false true false t e f g on line h =
     absurd (clash (is_break c) (return_breaks c (slice_index cs 0 == 10) f) g)
-white_kind column m b c cs false false false true t e f g on line h =
-    let there : past column m (c ∷ cs) ≡ past column (next_line m 1) cs = rw (t, e, f, g) refl in
-    rw (t, e, g, f) (line (ap (λ (z : Marker × List ℕ). is_blank (slice_index z.1 0)) (sym there) ∙ h))
-white_kind column m b c cs false false false false t e f g on line h =
-    let still : past_white m b (c ∷ cs) ≡ record { rest = c ∷ cs; mark = m; blank_so_far = b } = rw (e, g) refl in
-    ap (λ (u : Cursor). past column u.mark u.rest) still
+white_kind column m b c cs false false false true t e f g on line h = grind arith
+white_kind column m b c cs false false false false t e f g on line h = grind arith
 
 -- the blanks and breaks that a plain scalar's reader passes
 pub white_past : (column : ℕ) (m : Marker) (b : Bool) (t : List ℕ)

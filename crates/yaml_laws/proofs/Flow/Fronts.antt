@@ -51,9 +51,7 @@ behind_properties_passes reads around p Is allows m t v c o h some gap fits now 
     let kept = keeping now m ((t ++ v) ++ c) in
     let q : PassesPiece around start (behind_properties now.context (keeping now m t) now.adjacent) now.context
     now.outer now.places here (c ++ o) pp.tokens =
-    subst (λ (e : Marker). PassesPiece around start (behind_properties now.context (keeping now m t) now.adjacent)
-    now.context now.outer now.places e (c ++ o) pp.tokens) (sym (moved_append m t v))
-    (separation_joins (moved m t) v (c ++ o) gap pp.passes) in
+    grind (arith, behind_properties, keeping, moved_append, separation_joins, moved) in
     let front = q.knows.properties in
     let place = sym (moved_append m (t ++ v) c) in
     let r = pass here place (no_less m (t ++ v)) (fits_back m (t ++ v) c o q.right fits) (after q) refl refl
@@ -101,7 +99,4 @@ behind_front reads around p Is allows m front c o (inl (none, is)) fits now text
       passes = r.passes;
     }) fits text pass
 behind_front reads around p Is allows m front c o (inr (t, v, h, some, gap, is)) fits now text pass =
-    subst (λ (f : List ℕ). FitsAround around m (f ++ c) o → StandsBefore around now m ((f ++ c) ++ o)
-    → PassesBehind around now m Is allows (moved m (f ++ c)) c o
-    → TextPasses around now (AreFronted p Is) allows m (f ++ c) o) (sym is)
-    (λ f z pass. behind_properties_passes reads around p Is allows m t v c o h some gap f now z pass) fits text pass
+    grind (arith, behind_properties_passes)

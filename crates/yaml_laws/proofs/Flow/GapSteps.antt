@@ -4,7 +4,7 @@ use Rattle.std.proofs.lemmas.Bool.Decides.{nat_tests}
 use Rattle.saphyr_input.specs.Classes.{is_blank, is_break, is_yaml_non_break}
 use Rattle.saphyr_scalar.specs.declared.scalar.position.Marker.{Marker}
 use Rattle.saphyr_scalar.specs.Views.Cursor.{along, next_line}
-use Rattle.yaml_laws.proofs.Flow.States.{moved, is_left_tab, past, past_comment, IsInk}
+use Rattle.yaml_laws.proofs.Flow.States.{moved, is_left_tab, past, past_comment, IsContentStart}
 use Rattle.yaml_laws.proofs.Flow.Places.{moved_index}
 use Rattle.saphyr_input.proofs.Basics.Characters.{no_return}
 use Rattle.yaml_laws.proofs.Flow.GapWalks.{OverGap, over_gap, over_comment}
@@ -53,14 +53,7 @@ past_count column m t = by_steps column (λ m t r. r.0.index + length r.1 ≡ m.
 
 -- what is left is no longer
 no_longer : (column : ℕ) → GapCases column (λ m t r. length r.1 ≤ length t)
-no_longer column = record {
-  stays = λ m t e. omega arith;
-  onward = λ m c cs r p. further (length r.1) (length cs) p;
-  line = λ m c cs r p. further (length r.1) (length cs) p;
-}
-  where
-    further : (n l : ℕ) → n ≤ l → n ≤ suc l
-    further n l e = omega (arith, e)
+no_longer column = grind arith
 
 pub past_shorter : (column : ℕ) (m : Marker) (t : List ℕ) → length (past column m t).1 ≤ length t
 past_shorter column m t = by_steps column (λ m t r. length r.1 ≤ length t) (no_longer column) m t
@@ -79,5 +72,6 @@ pub comment_shorter : (column : ℕ) (m : Marker) (t : List ℕ) → length (pas
 comment_shorter column = over_comment (over_steps column (λ m t r. length r.1 ≤ length t) (no_longer column))
 
 -- a token stops it
-pub past_ink : (column : ℕ) (m : Marker) (c : ℕ) (cs : List ℕ) → IsInk c → past column m (c ∷ cs) ≡ (m, c ∷ cs)
-past_ink column m c cs h = rw (no_left column m c h.blank, h.blank, h.break, h.comment, no_return c h.break) refl
+pub past_content : (column : ℕ) (m : Marker) (c : ℕ) (cs : List ℕ) → IsContentStart c
+    → past column m (c ∷ cs) ≡ (m, c ∷ cs)
+past_content column m c cs h = rw (no_left column m c h.blank, h.blank, h.break, h.comment, no_return c h.break) refl

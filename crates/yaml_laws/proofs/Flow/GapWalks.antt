@@ -1,13 +1,12 @@
 -- A walk over what is between two tokens, character by character.
 use Rattle.std.proofs.Common.{◌≡◌, ℕ, Bool, true, false, List, [], ◌∷◌, refl, arith}
-use Rattle.std.specs.Prelude.{◌==◌, not}
+use Rattle.std.specs.Prelude.{◌==◌}
 use Rattle.saphyr_input.specs.Indicators.{number_sign}
 use Rattle.saphyr_input.specs.Classes.{is_break, is_yaml_non_break}
 use Rattle.saphyr_scalar.specs.declared.scalar.position.Marker.{Marker}
 use Rattle.saphyr_scalar.specs.Views.Cursor.{along, next_line}
 use Rattle.yaml_laws.proofs.Flow.Gaps.{stops_tab, is_return_at, is_white_at}
-use Rattle.yaml_laws.proofs.Flow.States.{is_left_tab, is_filler_rest}
-use Rattle.saphyr_input.proofs.Basics.Booleans.{clash, and_true_left}
+use Rattle.yaml_laws.proofs.Flow.States.{is_left_tab}
 
 -- What holds of a text before a token, at a place (P), and of a text in a comment (Q), character by character. A tab
 -- left of the column ends the walk where a token is on its line.
@@ -62,5 +61,4 @@ pub none_left : (m : Marker) (c : ℕ) → is_left_tab 0 m c ≡ false
 none_left m c = grind arith
 
 pub no_stop : (m : Marker) (c : ℕ) (cs : List ℕ) → stops_tab 0 m c cs ≡ true → ⊥
-no_stop m c cs h = clash (is_left_tab 0 m c) (and_true_left (is_left_tab 0 m c) (not (is_filler_rest cs)) h)
-    (none_left m c)
+no_stop m c cs h = grind arith

@@ -1,7 +1,6 @@
 -- Tabs between two tokens, and the rest of a line without a token.
 use Rattle.std.proofs.Common.{◌≡◌, ℕ, ◌≤◌, Bool, true, false, List, [], ◌∷◌, slice_index, refl, sym, ◌∙◌, arith}
-use Rattle.std.specs.Prelude.{◌||◌, ◌&&◌, ◌==◌, not, nat_lt}
-use Rattle.std.proofs.lemmas.Bool.Decides.{nat_tests}
+use Rattle.std.specs.Prelude.{◌||◌, ◌&&◌, ◌==◌, not}
 use Rattle.saphyr_input.specs.Classes.{is_blank, is_break, is_yaml_non_break, line_feed}
 use Rattle.saphyr_scalar.specs.declared.scalar.position.Marker.{Marker}
 use Rattle.saphyr_scanner.specs.Steps.Gap.{stop, is_tab_indentation}
@@ -20,19 +19,6 @@ is_return_at c cs = (c == 13) && (slice_index cs 0 == 10)
 abbrev pub is_white_at : ℕ → List ℕ → Bool
 is_white_at c cs = is_blank c || is_return_at c cs
 
--- no tab left of a column is none left of a lower one
-pub right_tab : (column low : ℕ) (m : Marker) (blank : Bool) (c : ℕ) → is_left_tab column m c ≡ false → low ≤ column
-    → (is_tab_indentation low m blank c || false) ≡ false
-right_tab column low m true c e h = further c m.col column low e h
-  where
-    further : (c col column low : ℕ) → ((c == 9) && nat_lt col column) ≡ false → low ≤ column
-        → ((((c == 9) && true) && nat_lt col low) || false) ≡ false
-    further c col column low e h = grind (arith, nat_tests)
-right_tab column low m false c e h = none (c == 9)
-  where
-    none : (a : Bool) → (((a && false) && nat_lt m.col low) || false) ≡ false
-    none a = grind arith
-
 pub tab_blank : (column : ℕ) (m : Marker) (c : ℕ) → is_left_tab column m c ≡ true → is_blank c ≡ true
 tab_blank column m c h = grind arith
 
@@ -47,10 +33,7 @@ stop_blank column m c cs h = tab_blank column m c (and_true_left (is_left_tab co
 
 feed_rest : (cs : List ℕ) → (slice_index cs 0 == line_feed) ≡ true → is_filler_rest cs ≡ true
 feed_rest [] e = refl
-feed_rest (c ∷ cs) e = rw (feed c e) refl
-  where
-    feed : (c : ℕ) → (c == line_feed) ≡ true → c ≡ line_feed
-    feed c e = grind (arith, nat_tests)
+feed_rest (c ∷ cs) e = grind arith
 
 -- after a blank, or CR before LF
 pub rest_on : (c : ℕ) (cs : List ℕ) → is_white_at c cs ≡ true
@@ -92,14 +75,7 @@ pub tab_rest : (column low : ℕ) (m : Marker) (blank : Bool) (c : ℕ) (cs : Li
     → (tab ≡ true → is_filler_rest (c ∷ cs) ≡ true) → (is_tab_indentation low m blank c || tab) ≡ true
     → is_filler_rest cs ≡ true
 tab_rest column low m blank c cs true t under e h k = rest_on c cs e (h refl)
-tab_rest column low m blank c cs false t under e h k = by_left (is_left_tab column m c) refl t
-  where
-    falsely : (b : Bool) → not b ≡ false → b ≡ true
-    falsely b e = grind arith
-
-    by_left : (b : Bool) → is_left_tab column m c ≡ b → (b && not (is_filler_rest cs)) ≡ false
-        → is_filler_rest cs ≡ true
-    by_left b f n = grind arith
+tab_rest column low m blank c cs false t under e h k = grind arith
 
 -- at the text's end a tab is no matter
 pub stop_ends : (m : Marker) (blank broke tab : Bool) → stop m blank broke tab [] ≡ stop m blank broke false []

@@ -1,5 +1,5 @@
 -- The entries of brackets and of braces inside flow, one after the other.
-use Rattle.std.proofs.Common.{◌≡◌, ℕ, ◌+◌, ◌<◌, ◌≤◌, Bool, true, false, List, [], ◌∷◌, ◌++◌, length, refl, sym, ap, ◌∙◌, subst, append_assoc, append-nil, ◌⊎◌, inl, inr}
+use Rattle.std.proofs.Common.{◌≡◌, ℕ, ◌+◌, ◌<◌, ◌≤◌, Bool, true, false, List, [], ◌∷◌, ◌++◌, length, refl, sym, ap, ◌∙◌, subst, append_assoc, append-nil, ◌⊎◌, inl, inr, arith}
 use Rattle.std.specs.Prelude.{None}
 use Rattle.saphyr_scalar.specs.declared.scalar.position.Marker.{Marker}
 use Rattle.saphyr_scanner.specs.declared.engine.level.Context.{Context}
@@ -20,8 +20,8 @@ use Rattle.yaml_laws.proofs.Flow.GapSteps.{less_behind}
 use Rattle.yaml_laws.proofs.InBlock.Crossings.{fresh_in_flow}
 use Rattle.yaml_laws.proofs.Flow.Joins.{join, knowing, passes_nothing}
 use Rattle.yaml_laws.proofs.Flow.Brackets.{pending, comma_behind}
-use Rattle.yaml_laws.proofs.Flow.Inks.{BeginsInk, begins_with, ink_front, Begins, starts, begins_front, inked, node_begins, key_text_begins}
-use Rattle.yaml_laws.proofs.Flow.Pieces.{EndsEntry, fits_front, fits_back, fits_so, fits_before, end_ink}
+use Rattle.yaml_laws.proofs.Flow.ContentStarts.{StartsContent, begins_with, content_front, Begins, starts, begins_front, begins_content, node_begins, key_text_begins}
+use Rattle.yaml_laws.proofs.Flow.Pieces.{EndsEntry, fits_front, fits_back, fits_so, fits_before, end_is_content}
 use Rattle.yaml_laws.proofs.Flow.MarkedPairs.{alone_begins, key_begins}
 use Rattle.yaml_laws.proofs.Flow.Collections.{InsidePasses, Brackets, AreBrackets, square, curly}
 use Rattle.yaml_laws.proofs.Flow.Entries.{PassesEntry, PairInBraces, pair_passes, IsEntry, node_item_passes, single_passes}
@@ -35,8 +35,7 @@ record BeginsEnd (t : List ℕ) : Type 0 where
   ends : EndsEntry first
 
 comma_first : (indent : ℕ) (comma t o : List ℕ) → IsComma indent comma → BeginsEnd ((comma ++ t) ++ o)
-comma_first indent comma t o (separation, parts, e) =
-    record { first = 44; others = (separation ++ t) ++ o; is = ap (λ (x : List ℕ). (x ++ t) ++ o) e; ends = inl refl }
+comma_first indent comma t o (separation, parts, e) = grind arith
 
 last_first : (indent : ℕ) (p : List ℕ) (ch : ℕ) (o : List ℕ) → EndsEntry ch → IsLastComma indent p
     → BeginsEnd (p ++ (ch ∷ o))
@@ -104,7 +103,7 @@ pair_begins indent room key value t (inr (piece, separation, h, parts, e)) =
 -- an entry of a text of Text, whose tokens are those of Is
 pub record ReadsEntry (around : Around) (b : Brackets) (room : ℕ) (Text : List ℕ → Type 0) (Is : List Kind → Type 0)
     : Type 0 where
-  ink : (t : List ℕ) → Text t → BeginsInk t
+  content : (t : List ℕ) → Text t → StartsContent t
   passes : PassesEntry around b.context room Text Is
 
 -- a pair that has no bracket of its own is passed
@@ -128,24 +127,19 @@ item_passes room node N P m t c cs fits ends (inr h) now no_candidate fresh low 
 
 pub reads_item : {around : Around} (room : ℕ) (node : Node) → PassesNode around room node
     → PassesPairItem around room node → ReadsEntry around square room (IsItem around.indent room node) (IsEntry node)
-reads_item {around} room node N P =
-    record { ink = λ t h. inked t (item_begins around.indent room node t h); passes = item_passes room node N P }
+reads_item {around} room node N P = search (begins_content, item_begins, item_passes)
 
 pub reads_pair : {around : Around} (room : ℕ) (key value : Node) → PassesNode around room key
     → PassesNode around room value
     → ReadsEntry around curly room (IsPairIn around.indent room key value) (PairInBraces key value)
-reads_pair {around} room key value K V = search (inked, pair_begins, pair_passes)
+reads_pair {around} room key value K V = search (begins_content, pair_begins, pair_passes)
 
 entry_passes : {around : Around} {b : Brackets} {room : ℕ} {Text : List ℕ → Type 0} {Is : List Kind → Type 0}
     → ReadsEntry around b room Text Is → (m : Marker) (t o : List ℕ) → FitsAround around m t o → BeginsEnd o → Text t
     → (now : FlowMoment) → now.key ≡ None → now.allowed ≡ true → room + length now.outer ≤ most_open
     → now.adjacent < m.index → StandsBefore around now m (t ++ o)
     → InsidePasses around (state_at around (moment_in b.context now)) b.context Is now.outer now.places (moved m t) o
-entry_passes {around} {b} {Is = Is} entry m t o fits end h now no_candidate fresh low before text =
-    subst (λ (x : List ℕ). InsidePasses around (state_at around (moment_in b.context now)) b.context Is now.outer
-    now.places (moved m t) x) (sym end.is)
-    (entry.passes m t end.first end.others (fits_before m t o (end.first ∷ end.others) end.is fits) end.ends h now
-    no_candidate fresh low before (text ∙ ap (λ (x : List ℕ). past around.indent m (t ++ x)) end.is))
+entry_passes {around} {b} {Is = Is} entry m t o fits end h now no_candidate fresh low before text = grind arith
 
 -- ## The others
 
@@ -203,7 +197,7 @@ no_others {around} {b} {room} are = record {
     pass m p o (inr comma) fits x flows back now low before text =
         let behind = b.closing ∷ o in
         let c = comma_behind around x b.context flows back m p behind comma fits
-        (begins_with b.closing o behind refl (end_ink b.closing are.ends)) now before text in
+        (begins_with b.closing o behind refl (end_is_content b.closing are.ends)) now before text in
         let ts = pending (ends_pair x) ++ tokens.FlowEntry ∷ [] in
         record {
           inside = b.context;
@@ -240,8 +234,7 @@ pub more_others : {around : Around} {b : Brackets} {room : ℕ} {One Rest : List
     → ReadsOthers around b room (FurtherText around.indent One Rest) (FurtherTokens Is Are)
 more_others {around} {b} {room} {One} {Rest} {Is} {Are} one rest =
     record {
-      first = λ p o (comma, item, others, c, i, h, e). subst (λ (t : List ℕ). BeginsEnd (t ++ (b.closing ∷ o))) (sym e)
-          (comma_first around.indent comma (item ++ others) (b.closing ∷ o) c);
+      first = grind (arith, comma_first);
       passes = pass;
     }
   where
@@ -255,9 +248,10 @@ more_others {around} {b} {room} {One} {Rest} {Is} {Are} one rest =
         (λ (t : List ℕ). comma ++ t) follow in
         let comma_fits = fits_before m comma ((item ++ others) ++ behind_all) (item ++ (others ++ behind_all)) follow
         (fits_front m comma (item ++ others) behind_all whole) in
-        let ink = ink_front item (item ++ (others ++ behind_all)) (others ++ behind_all) refl (one.ink item i) in
+        let content = content_front item (item ++ (others ++ behind_all)) (others ++ behind_all) refl
+        (one.content item i) in
         let q = comma_behind around x b.context flows back m comma (item ++ (others ++ behind_all)) c comma_fits
-        ink now (subst (λ (t : List ℕ). now.adjacent ≤ (past around.indent m t).0.index) texts before)
+        content now (subst (λ (t : List ℕ). now.adjacent ≤ (past around.indent m t).0.index) texts before)
         (text ∙ ap (past around.indent m) texts) in
         let here = moved m comma in
         let inner = fits_back m comma (item ++ others) behind_all q.right whole in
@@ -288,7 +282,7 @@ more_others {around} {b} {room} {One} {Rest} {Is} {Are} one rest =
 -- all that is inside brackets, of a text of Text, whose tokens are those of Are
 pub record ReadsEntries (around : Around) (b : Brackets) (room : ℕ) (Text : List ℕ → Type 0) (Are : List Kind → Type 0)
     : Type 0 where
-  pub ink : (p o : List ℕ) → Text p → BeginsInk (p ++ (b.closing ∷ o))
+  pub content : (p o : List ℕ) → Text p → StartsContent (p ++ (b.closing ∷ o))
   pub passes : (m : Marker) (p o : List ℕ) → Text p → FitsAround around m p (b.closing ∷ o) → (now : FlowMoment)
       → now.key ≡ None → now.allowed ≡ true → room + length now.outer ≤ most_open → now.adjacent < m.index
       → StandsBefore around now m (p ++ (b.closing ∷ o))
@@ -299,8 +293,8 @@ pub no_entries : {around : Around} {b : Brackets} {room : ℕ} → AreBrackets b
     → ReadsEntries around b room (λ t. t ≡ []) (λ t. t ≡ [])
 no_entries {around} {b} are =
     record {
-      ink = λ p o e. begins_with b.closing o (p ++ (b.closing ∷ o)) (ap (λ (t : List ℕ). t ++ (b.closing ∷ o)) e)
-          (end_ink b.closing are.ends);
+      content = λ p o e. begins_with b.closing o (p ++ (b.closing ∷ o)) (ap (λ (t : List ℕ). t ++ (b.closing ∷ o)) e)
+          (end_is_content b.closing are.ends);
       passes = λ m p o e fits now no_candidate fresh low before text. let behind = b.closing ∷ o in
           subst (λ (t : List ℕ). StandsBefore around now m (t ++ behind)
           → InsidePasses around (state_at around (moment_in b.context now)) b.context (λ t. t ≡ []) now.outer now.places
@@ -330,8 +324,7 @@ pub more_entries : {around : Around} {b : Brackets} {room : ℕ} {One Rest : Lis
     → ReadsEntries around b room (AllText One Rest) (AllTokens Is Are)
 more_entries {around} {b} {room} {One} {Rest} {Is} {Are} one rest =
     record {
-      ink = λ p o (item, others, i, h, e). ink_front item (p ++ (b.closing ∷ o)) (others ++ (b.closing ∷ o))
-          (ap (λ (t : List ℕ). t ++ (b.closing ∷ o)) e ∙ append_assoc item others (b.closing ∷ o)) (one.ink item i);
+      content = grind (arith, content_front);
       passes = λ m p o (item, others, i, h, e) fits now no_candidate fresh low before text.
           let behind_all = b.closing ∷ o in
           let start = state_at around (moment_in b.context now) in
@@ -351,14 +344,7 @@ more_entries {around} {b} {room} {One} {Rest} {Is} {Are} one rest =
             flows = r.flows;
             back = r.back;
             tokens = n.tokens ++ r.tokens;
-            are = (
-              n.tokens ++ pending (ends_pair n.inside),
-              r.others,
-              n.are,
-              r.are,
-              first_regrouped n.tokens r.tokens (pending (ends_pair r.inside)) (pending (ends_pair n.inside)) r.others
-                  r.is,
-            );
+            are = grind (arith, pending, first_regrouped);
             passes = join q r.passes (ended around.indent end behind_all) r.passes.knows;
           });
     }

@@ -1,5 +1,5 @@
 -- Runs over pieces of a text in flow style, one after the other.
-use Rattle.std.proofs.Common.{◌≡◌, inl, inr, sym, ℕ, ◌≤◌, Bool, false, IsTrue, List, [], ◌++◌, ◌∙◌, append_assoc, append-nil}
+use Rattle.std.proofs.Common.{◌≡◌, inl, inr, sym, ℕ, ◌≤◌, Bool, false, IsTrue, List, [], ◌++◌, ◌∙◌, append_assoc, append-nil, arith}
 use Rattle.std.specs.Prelude.{Option}
 use Rattle.saphyr_scalar.specs.declared.scalar.position.Marker.{Marker}
 use Rattle.scalar_laws.specs.Spelling.Spaces.{IsSeparation}
@@ -11,9 +11,8 @@ use Rattle.saphyr_scanner.specs.Steps.State.{State}
 use Rattle.saphyr_scanner.proofs.Queues.{place_kinds, place_kinds_append}
 use Rattle.yaml_laws.proofs.InFlow.States.{Around, state_at, runs_to_itself, chains, ComesAround, FlowMoment, moment_with}
 use Rattle.yaml_laws.proofs.Flow.States.{moved, IsFresh, Since, Known, PassesNoting, PassesPiece, after, after_node, keeping, StandsBefore, TextPasses}
-use Rattle.yaml_laws.proofs.Flow.Inks.{behind_low}
+use Rattle.yaml_laws.proofs.Flow.ContentStarts.{behind_low}
 use Rattle.yaml_laws.proofs.Flow.Tokens.{after_token}
-use Rattle.std.proofs.lemmas.Bool.{false≢true}
 use Rattle.yaml_laws.proofs.Flow.Places.{moved_append}
 use Rattle.yaml_laws.proofs.Flow.Fillers.{separation_past, right_behind}
 use Rattle.yaml_laws.proofs.InBlock.Crossings.{separation_crosses}
@@ -85,44 +84,14 @@ pub knowing : {comment : Option Marker} {around : Around} {start : Bool → Stat
     {ls : List Level} {ps : List Place} {m : Marker} {o : List ℕ} {ts : List Kind}
     → (p : PassesNoting comment around start known x ls ps m o ts) → (other : Known)
     → other p.key p.allowed p.adjacent p.new → PassesNoting comment around start other x ls ps m o ts
-knowing p other h =
-    record {
-      there = p.there;
-      key = p.key;
-      allowed = p.allowed;
-      adjacent = p.adjacent;
-      new = p.new;
-      leads = p.leads;
-      right = p.right;
-      fits = p.fits;
-      fresh = p.fresh;
-      are = p.are;
-      knows = h;
-    }
+knowing p other h = search
 
 -- a text, told otherwise
-pub told : {around : Around} {now : FlowMoment} {Is Js : List Kind → Type 0} {allows others : List ℕ → Bool}
+pub mapped : {around : Around} {now : FlowMoment} {Is Js : List Kind → Type 0} {allows others : List ℕ → Bool}
     {m : Marker} {t o : List ℕ} → ((ts : List Kind) → Is ts → Js ts)
     → ((w : List ℕ) → IsTrue (others w) → IsTrue (allows w))
     → TextPasses around now Is allows m t o → TextPasses around now Js others m t o
-told {around} {now} {others = others} {m} {t} {o} f g r =
-    let n = r.passes.knows in
-    record {
-      tokens = r.tokens;
-      are = f r.tokens r.are;
-      comment = r.comment;
-      none = r.none;
-      passes = knowing r.passes (after_node around.indent now.context (keeping now m t) others (moved m t) o)
-          (record {
-            piece = n.piece;
-            others = n.others;
-            is = n.is;
-            keeps = n.keeps;
-            since = n.since;
-            near = λ e w more is parts allows. n.near e w more is parts (g w allows);
-            low = n.low;
-          });
-    }
+mapped {around} {now} {others = others} {m} {t} {o} f g r = grind arith
 
 -- A token after which no colon may come at once, and what is known of it as a node.
 pub token_node : {comment : Option Marker} {around : Around} {now : FlowMoment} {says : Bool → ℕ → Type 0} {m : Marker}
@@ -133,17 +102,7 @@ pub token_node : {comment : Option Marker} {around : Around} {now : FlowMoment} 
     → PassesNoting comment around (state_at around now)
     (after_node around.indent now.context (keeping now m t) allows (moved m t) o) now.context now.outer now.places
     (moved m t) o ts
-token_node {around = around} {now} {m = m} {t} {o} allows never low q still =
-    knowing q (after_node around.indent now.context (keeping now m t) allows (moved m t) o)
-    (record {
-      piece = q.knows.piece;
-      others = [];
-      is = q.knows.is;
-      keeps = q.knows.keeps;
-      since = q.knows.since;
-      near = λ _ w more is parts may. absurd (false≢true (sym (never w) ∙ may));
-      low = rw still (behind_low around.indent now.adjacent m t o low);
-    })
+token_node {around = around} {now} {m = m} {t} {o} allows never low q still = grind (arith, behind_low)
 
 -- one step
 pub step_passes : {comment : Option Marker} {around : Around} {start : Bool → State} (next : FlowMoment)
@@ -152,20 +111,7 @@ pub step_passes : {comment : Option Marker} {around : Around} {start : Bool → 
     → around.indent ≤ m.col → StandsBefore around next m o → IsFresh next.context o next.allowed next.cursor
     → place_kinds new ≡ ts → known c.key next.allowed next.adjacent new
     → PassesNoting comment around start known next.context next.outer next.places m o ts
-step_passes next new m o ts known c right fits fresh are knows =
-    record {
-      there = next.cursor;
-      key = c.key;
-      allowed = next.allowed;
-      adjacent = next.adjacent;
-      new = new;
-      leads = c.leads;
-      right = right;
-      fits = fits;
-      fresh = fresh;
-      are = are;
-      knows = knows;
-    }
+step_passes next new m o ts known c right fits fresh are knows = search
 
 -- no step
 pub passes_nothing : (around : Around) (now : FlowMoment) (m : Marker) (o : List ℕ) (known : Known) → around.indent

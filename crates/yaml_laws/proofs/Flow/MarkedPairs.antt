@@ -12,14 +12,14 @@ use Rattle.saphyr_scanner.specs.Grammar.Forest.{Node, left_out}
 use Rattle.saphyr_scanner.specs.Limits.{most_open}
 use Rattle.yaml_laws.specs.Grammar.FlowNodes.{IsColonAndValue, IsKeyAndValue, IsValueAlone, IsBehindMark, IsExplicitPair, IsLoneMark, IsFlowNode}
 use Rattle.yaml_laws.proofs.InFlow.States.{Around, state_at, FlowMoment, moment_in}
-use Rattle.yaml_laws.proofs.Flow.States.{FitsAround, moved, past, IsInk, PassesPiece, no_key, ended, PassesNode, after, StandsBefore}
+use Rattle.yaml_laws.proofs.Flow.States.{FitsAround, moved, past, IsContentStart, PassesPiece, no_key, ended, PassesNode, after, StandsBefore}
 use Rattle.yaml_laws.proofs.Flow.Places.{moved_append}
 use Rattle.yaml_laws.proofs.Flow.GapSteps.{past_low, less_on}
 use Rattle.yaml_laws.proofs.Flow.Joins.{join, separation_joins, knowing}
 use Rattle.yaml_laws.proofs.Flow.Questions.{mark_passes}
-use Rattle.yaml_laws.proofs.Flow.Inks.{Begins, starts, begins_front, node_begins, key_text_begins, begins_with}
-use Rattle.yaml_laws.proofs.Flow.Pieces.{EndsEntry, fits_front, fits_back, fits_so, IsBehindEntry, end_ink, entry_behind, parted_by}
-use Rattle.yaml_laws.proofs.Flow.Pairs.{TellsPiece, told_at, told_so, alone_passes, marked_key_passes}
+use Rattle.yaml_laws.proofs.Flow.ContentStarts.{Begins, starts, begins_front, node_begins, key_text_begins, begins_with}
+use Rattle.yaml_laws.proofs.Flow.Pieces.{EndsEntry, fits_front, fits_back, fits_so, IsBehindEntry, end_is_content, entry_behind, parted_by}
+use Rattle.yaml_laws.proofs.Flow.Pairs.{PieceTokens, mapped_at, mapped_so, alone_passes, marked_key_passes}
 
 -- the tokens of such a pair
 abbrev pub MarkedTokens : Node → Node → List Kind → Type 0
@@ -38,13 +38,13 @@ pub record IsMarked (y z : Context) : Type 0 where
 -- the `?` and the separation after it
 mark_behind : (around : Around) (y z : Context) → IsMarked y z → (m : Marker) (separation o : List ℕ)
     → FitsAround around m (question_mark ∷ separation) o → IsBehindMark around.indent separation
-    → (first : ℕ) (others : List ℕ) → o ≡ first ∷ others → IsInk first → (now : FlowMoment) → now.adjacent ≤ m.index
-    → StandsBefore around now m (question_mark ∷ (separation ++ o))
+    → (first : ℕ) (others : List ℕ) → o ≡ first ∷ others → IsContentStart first → (now : FlowMoment)
+    → now.adjacent ≤ m.index → StandsBefore around now m (question_mark ∷ (separation ++ o))
     → PassesPiece around (state_at around (moment_in y now)) (no_key (moved m (question_mark ∷ separation))) z now.outer
     now.places
     (moved m (question_mark ∷ separation)) o (tokens.Key ∷ [])
-mark_behind around y z c m separation o fits (some, parts, tabs) first others is ink now before text =
-    let parted = parted_by around.indent separation o parts (begins_with first others o is ink) in
+mark_behind around y z c m separation o fits (some, parts, tabs) first others is content now before text =
+    let parted = parted_by around.indent separation o parts (begins_with first others o is content) in
     let f = fits_front m (63 ∷ []) separation o fits in
     let p = mark_passes around y c.flows m (separation ++ o) f parted some tabs now before text in
     let start = state_at around (moment_in y now) in
@@ -65,7 +65,7 @@ alone_begins indent key value V t h = colon_begins indent false value V t h.1
 pub key_begins : (indent room : ℕ) (key value : Node) (V : List ℕ → Type 0) (t : List ℕ)
     → IsKeyAndValue key value (IsFlowNode room key true indent) V indent t → Begins t
 key_begins indent room key value V t (node, separation, colon, h, parts, apart, c, e) =
-    begins_front node t (separation ++ colon) e (key_text_begins true indent room key node separation h)
+    search (begins_front, key_text_begins)
 
 -- what comes after the separation of a mark
 abbrev Inside : ℕ → ℕ → Node → Node → List ℕ → Type 0
@@ -89,7 +89,7 @@ inside_passes : {around : Around} (room : ℕ) (key value : Node) → PassesNode
     → FitsAround around m t o → IsBehindEntry around.indent o → Inside around.indent room key value t
     → (now : FlowMoment) → now.key ≡ None → now.allowed ≡ false
     → room + length now.outer ≤ most_open → now.adjacent < m.index → StandsBefore around now m (t ++ o)
-    → TellsPiece around (state_at around (moment_in z now)) (InsideTokens key value) z now.outer now.places (moved m t)
+    → PieceTokens around (state_at around (moment_in z now)) (InsideTokens key value) z now.outer now.places (moved m t)
     o
 inside_passes {around} room key value K V y z c m t o fits ends (inl (none, h)) now no_candidate none_allowed
     low before text =
@@ -103,7 +103,7 @@ inside_passes {around} room key value K V y z c m t o fits ends (inr (inl h)) no
     low before text =
     let start = state_at around (moment_in z now) in
     let v = alone_passes room key value V z c.inside m t o fits ends h now no_candidate low before text in
-    told_so (λ ts (vs, are, is). inl (
+    mapped_so (λ ts (vs, are, is). inl (
       tokens.Key ∷ [],
       tokens.Value ∷ vs,
       ([], inl (h.0, refl), refl),
@@ -115,7 +115,7 @@ inside_passes {around} room key value K V y z c m t o fits ends (inr (inr h)) no
     let start = state_at around (moment_in z now) in
     let v = marked_key_passes room key value K V z c.inside c.no_pair m t o fits ends h now no_candidate
     none_allowed low before text in
-    told_so (λ ts (ks, vs, are, others, is).
+    mapped_so (λ ts (ks, vs, are, others, is).
     inl (
       tokens.Key ∷ ks,
       tokens.Value
@@ -132,18 +132,19 @@ pub explicit_passes : {around : Around} (room : ℕ) (key value : Node) → Pass
     → IsExplicitPair key value (IsFlowNode room key true around.indent) (IsFlowNode room value true around.indent)
     around.indent t → (now : FlowMoment) → room + length now.outer ≤ most_open → now.adjacent < m.index
     → StandsBefore around now m (t ++ o)
-    → TellsPiece around (state_at around (moment_in y now)) (MarkedTokens key value) z now.outer now.places (moved m t)
+    → PieceTokens around (state_at around (moment_in y now)) (MarkedTokens key value) z now.outer now.places (moved m t)
     o
 explicit_passes {around} room key value K V y z c m t o fits ends (separation, pair, mark, h, e) now low before text =
     let b = inside_begins around.indent room key value pair h in
     let whole = fits_so m t ((63 ∷ separation) ++ pair) o e fits in
     let texts : t ++ o ≡ 63 ∷ (separation ++ (pair ++ o)) = cc (append_assoc (63 ∷ separation) pair o) in
     let p = mark_behind around y z c m separation (pair ++ o) (fits_front m (63 ∷ separation) pair o whole) mark b.first
-    (b.others ++ o) (ap (λ (x : List ℕ). x ++ o) b.is) b.ink now
+    (b.others ++ o) (ap (λ (x : List ℕ). x ++ o) b.is) b.content now
     (omega (arith, before)) (text ∙ ap (past around.indent m) texts) in
     let q = inside_passes room key value K V y z c (moved m (63 ∷ separation)) pair o
     (fits_back m (63 ∷ separation) pair o p.right whole) ends h (after p) p.knows.0 p.knows.1 low p.knows.2 p.fits in
-    told_at (moved (moved m (63 ∷ separation)) pair) (moved m t) (cc (moved_append m (63 ∷ separation) pair)) (record {
+    mapped_at (moved (moved m (63 ∷ separation)) pair) (moved m t)
+    (cc (moved_append m (63 ∷ separation) pair)) (record {
       tokens = tokens.Key ∷ q.tokens;
       are = q.are;
       passes = join p q.passes (ended around.indent (moved (moved m (63 ∷ separation)) pair) o) q.passes.knows;
@@ -157,17 +158,14 @@ pub lone_passes : {around : Around} (key value : Node) (y z : Context) → IsMar
     → (m : Marker) (t : List ℕ) (c : ℕ) (cs : List ℕ) → FitsAround around m t (c ∷ cs) → EndsEntry c
     → IsLoneMark key value around.indent t → (now : FlowMoment) → now.adjacent < m.index
     → StandsBefore around now m (t ++ (c ∷ cs))
-    → TellsPiece around (state_at around (moment_in y now)) (MarkedTokens key value) z now.outer now.places (moved m t)
+    → PieceTokens around (state_at around (moment_in y now)) (MarkedTokens key value) z now.outer now.places (moved m t)
     (c ∷ cs)
 lone_passes {around} key value y z q m t c cs fits ends (separation, no_key_there, none, mark, e) now before text =
     let p = mark_behind around y z q m separation (c ∷ cs) (fits_so m t (63 ∷ separation) (c ∷ cs) e fits) mark c cs
-    refl (end_ink c ends) now (omega (arith, before)) (cc) in
-    told_at (moved m (63 ∷ separation)) (moved m t) (ap (moved m) (sym e))
+    refl (end_is_content c ends) now (omega (arith, before)) (cc) in
+    mapped_at (moved m (63 ∷ separation)) (moved m t) (ap (moved m) (sym e))
     (record {
       tokens = tokens.Key ∷ [];
       are = inr (none, ([], inl (no_key_there, refl), refl));
-      passes = knowing p (ended around.indent (moved m (63 ∷ separation)) (c ∷ cs))
-          (upto p.adjacent (moved m (63 ∷ separation)).index
-          (past around.indent (moved m (63 ∷ separation)) (c ∷ cs)).0.index p.knows.2
-          (past_low around.indent (moved m (63 ∷ separation)) (c ∷ cs)));
+      passes = grind (arith, knowing, ended, moved, upto, past, past_low);
     })

@@ -1,10 +1,10 @@
 -- The anchors, aliases and tags of a text in flow style are passed.
-use Rattle.std.proofs.Common.{◌≡◌, ℕ, ◌+◌, ◌≤◌, Bool, true, false, List, [], ◌∷◌, ◌++◌, length, slice_index, refl, sym, ap, ◌∙◌, arith, subst, encode_utf8_all, inl, inr}
+use Rattle.std.proofs.Common.{◌≡◌, ℕ, ◌+◌, ◌≤◌, Bool, true, false, List, [], ◌∷◌, ◌++◌, length, slice_index, refl, sym, ap, arith, subst, encode_utf8_all, inl, inr}
 use Rattle.std.specs.Prelude.{◌==◌, not, Option, None}
 use Rattle.saphyr_input.specs.Indicators.{exclamation_mark}
 use Rattle.saphyr_input.specs.Classes.{is_break, is_anchor_char, line_feed}
 use Rattle.saphyr_scalar.specs.declared.scalar.position.Marker.{Marker}
-use Rattle.saphyr_scalar.specs.Views.Cursor.{Cursor, ◌>>=◌, along}
+use Rattle.saphyr_scalar.specs.Views.Cursor.{along}
 use Rattle.saphyr_scalar.specs.Steps.Quoted.{mid_line}
 use Rattle.saphyr_scalar.specs.Spelling.Tag.{AreIn, IsAnchorName, IsTagText, EndsTag, IsHandleText}
 use Rattle.saphyr_scalar.proofs.NoBreaks.{NoBreaks}
@@ -14,10 +14,8 @@ use Rattle.saphyr_scanner.specs.Grammar.Tokens.{Kind, alias_token, anchor_token,
 use Rattle.saphyr_scanner.specs.Grammar.Forest.{Tag, Handle, handle_text, NonSpecific, Verbatim, Shorthand}
 use Rattle.saphyr_scanner.specs.Steps.Core.{Core, from_to, completed_step}
 use Rattle.saphyr_scanner.specs.Steps.Level.{Candidate, Level, is_block}
-use Rattle.saphyr_scanner.specs.Steps.Passing.{with_cursor}
 use Rattle.saphyr_scanner.specs.Steps.Property as property
 use Rattle.saphyr_scanner.specs.Steps.Property.{read_name, read_tag}
-use Rattle.saphyr_scanner.specs.Steps.Scalar.{disallow_key}
 use Rattle.saphyr_scanner.specs.Steps.Fetch.{step}
 use Rattle.saphyr_scanner.proofs.LineTexts.{name_no_break, tag_no_break}
 use Rattle.yaml_laws.specs.Grammar.TagSpelling.{IsTag}
@@ -31,7 +29,7 @@ use Rattle.saphyr_input.proofs.Basics.Characters.{no_break_no_feed}
 use Rattle.saphyr_scanner.proofs.Levels.{saved}
 use lib.Utf8.{encode}
 use Rattle.yaml_laws.specs.Grammar.TagSpelling as spelling
-use Rattle.yaml_laws.proofs.Flow.Inks.{is_start, starts, tag_begins}
+use Rattle.yaml_laws.proofs.Flow.ContentStarts.{is_start, starts, tag_begins}
 
 pub handle_read : (handle : Handle) (t : List ℕ) → spelling.IsHandle handle t
     → IsHandleText t × (t ≡ handle_text handle)
@@ -94,12 +92,7 @@ pub name_step : ReaderPromises → (around : Around) (d : Bool) (token_of : List
     (core_at around d (mid_line (moved m (indicator ∷ name)) o) x (saved a n m k) ls false ad)
 unfolding property.name_steps read_name
 name_step reads around d token_of n m b indicator name o e h ends x k ls a ad placed =
-    let s = cursor_at (indicator ∷ (name ++ o)) m b in
-    let c = core_at around d s x (saved a n m k) ls false ad in
-    let token = λ (y : List ℕ × Cursor). completed_step (from_to m y.1.mark (token_of y.0) ∷ []) (with_cursor y.1 c) in
-    ap (λ (q : Core). read_name token_of (disallow_key q)) (saves_key n around d s x k ls a ad placed)
-    ∙ ap (λ q. q >>= token) (reads.anchor s indicator name o refl h ends)
-    ∙ ap (λ (end : Marker). token (encode_utf8_all name, mid_line end o)) (named_along m indicator name e h)
+    grind (arith, saves_key, named_along)
 
 name_passes : ReaderPromises → (around : Around) (token_of : List ℕ → Kind) (indicator : ℕ) (name t o : List ℕ)
     (m : Marker) → ((second n : ℕ) (c : Core) → step indicator second n c ≡ property.name_steps token_of n c)
@@ -121,13 +114,10 @@ name_passes reads around token_of indicator name t o m begins start break h is e
       allowed = false;
       adjacent = now.adjacent;
       to = λ d. d;
-      is = λ d. begins (slice_index (name ++ o) 0) (length now.places)
-          (core_at around d (cursor_at (indicator ∷ (name ++ o)) m b) now.context j now.outer e now.adjacent)
-          ∙ name_step reads around d token_of (length now.places) m b indicator name o break h ends now.context j
-          now.outer e now.adjacent (placed_right now.context e fits.calm fits.right);
+      is = grind (arith, core_at, cursor_at, name_step, placed_right);
       fits = refl;
       fresh = λ _ e. e;
-      tells = (refl, refl);
+      holds = (refl, refl);
     })) whole stands
 
 pub begins_anchor : (second n : ℕ) (c : Core) → step 38 second n c ≡ property.anchor_steps n c
@@ -191,11 +181,8 @@ tag_passes reads around tag t o m h fits now ends text =
       allowed = false;
       adjacent = now.adjacent;
       to = λ d. d;
-      is = λ d. let c = core_at around d (cursor_at (t ++ o) m b) now.context j now.outer e now.adjacent in
-          ap (λ (i : ℕ). step i second n c) at_first ∙ begins_tag second n c
-          ∙ tag_step reads around d n m b t r.handle r.suffix o r.is now.context j now.outer e now.adjacent ends
-          (placed_right now.context e fits.calm fits.right);
+      is = grind (arith, core_at, cursor_at, begins_tag, tag_step, placed_right);
       fits = refl;
       fresh = λ _ e. e;
-      tells = (refl, refl);
+      holds = (refl, refl);
     }))

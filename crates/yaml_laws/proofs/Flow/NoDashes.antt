@@ -1,5 +1,5 @@
 -- No node in flow style begins with a `-` before white space.
-use Rattle.std.proofs.Common.{◌≡◌, ℕ, Bool, false, List, [], ◌∷◌, ◌++◌, slice_index, refl, append_assoc, inl, inr}
+use Rattle.std.proofs.Common.{◌≡◌, ℕ, Bool, false, List, ◌++◌, slice_index, refl, append_assoc, inl, inr, arith}
 use Rattle.std.specs.Prelude.{◌&&◌, ◌==◌, Option, Some, None}
 use Rattle.saphyr_input.specs.Classes.{is_blank_or_breakz}
 use Rattle.saphyr_input.specs.Indicators.{hyphen}
@@ -8,7 +8,6 @@ use Rattle.yaml_laws.specs.Grammar.FlowScalars.{IsFlowScalar}
 use Rattle.yaml_laws.specs.Grammar.TagSpelling.{IsTag}
 use Rattle.yaml_laws.specs.Grammar.FlowNodes.{IsAnchor, AreProperties, IsBeforeContent, IsFlowNode}
 use Rattle.yaml_laws.proofs.Flow.Plains.{word_begins, lone_test}
-use Rattle.yaml_laws.proofs.Flow.Names.{tag_read, tag_first}
 
 abbrev pub NoDash : List ℕ → Type 0
 NoDash y = ((slice_index y 0 == hyphen) && is_blank_or_breakz (slice_index y 1)) ≡ false
@@ -22,8 +21,7 @@ anchor_no_dash : (name t : List ℕ) → IsAnchor name t → (o : List ℕ) → 
 anchor_no_dash name t h o = rw h.1 refl
 
 tag_no_dash : (tag : Tag) (t : List ℕ) → IsTag tag t → (o : List ℕ) → NoDash (t ++ o)
-tag_no_dash tag t h o =
-    let r = tag_read tag t h in rw (tag_first t r.handle r.suffix r.is).1 refl
+tag_no_dash tag t h o = grind arith
 
 properties_no_dash : (indent : ℕ) (anchor : Option (List ℕ)) (tag : Option Tag) (t : List ℕ)
     → AreProperties anchor tag indent t → (o : List ℕ) → NoDash (t ++ o)
@@ -60,10 +58,6 @@ node_no_dash indent room (Scalar p style value) in_flow t o (inl h) = properties
 node_no_dash indent room (Scalar p style value) in_flow t o (inr (front, content, f, s, e)) =
     before_no_dash p indent front content t f e (scalar_no_dash indent style value in_flow content s) o
 node_no_dash indent room (Seq p nodes) in_flow t o
-    (left, opening, inside, r, (front, separation, f, parts, e), items, is) =
-    no_dash_front opening (inside ++ 93 ∷ []) t is
-    (before_no_dash p indent front (91 ∷ separation) opening f e (λ x. refl)) o
+    (left, opening, inside, r, (front, separation, f, parts, e), items, is) = search (no_dash_front, before_no_dash)
 node_no_dash indent room (Map p pairs) in_flow t o
-    (left, opening, inside, r, (front, separation, f, parts, e), items, is) =
-    no_dash_front opening (inside ++ 125 ∷ []) t is
-    (before_no_dash p indent front (123 ∷ separation) opening f e (λ x. refl)) o
+    (left, opening, inside, r, (front, separation, f, parts, e), items, is) = search (no_dash_front, before_no_dash)

@@ -17,30 +17,29 @@ use Rattle.yaml_laws.specs.Grammar.FlowNodes.{allows_adjacent, IsColonAndValue, 
 use Rattle.yaml_laws.proofs.InFlow.States.{Around, state_at, FlowMoment, moment_in}
 use Rattle.yaml_laws.proofs.Flow.States.{moved, past, FitsAround, IsParted, ends_colon, IsBehindNode, Known, PassesPiece, no_key, ended, keeping, IsNodeOrKey, PassesNode, after, StandsBefore, NodePasses}
 use Rattle.yaml_laws.proofs.Flow.Places.{moved_append, right_one}
-use Rattle.yaml_laws.proofs.Flow.GapSteps.{past_ink, less_on, less_behind}
+use Rattle.yaml_laws.proofs.Flow.GapSteps.{past_content, less_on, less_behind}
 use Rattle.yaml_laws.proofs.Flow.Fillers.{separation_past, right_behind}
 use Rattle.yaml_laws.proofs.Flow.Joins.{join, separation_joins, knowing}
 use Rattle.yaml_laws.proofs.Flow.Values.{key_kinds, colon_flows, colon_passes, alone_kinds, value_passes}
-use Rattle.yaml_laws.proofs.Flow.Inks.{ink_front, node_ink, colon_ink}
+use Rattle.yaml_laws.proofs.Flow.ContentStarts.{content_front, node_content, colon_content}
 use Rattle.yaml_laws.proofs.Flow.Pieces.{fits_front, fits_back, fits_so, fits_before, IsBehindEntry, entry_behind, entry_parted, parted_by, white_ends_colon, entry_ends_colon}
 
 -- The tokens of a piece, of which something is told, and the run over its text.
-pub record TellsPiece (around : Around) (start : Bool → State) (Is : List Kind → Type 0) (x : Context) (ls : List Level)
-    (ps : List Place) (m : Marker) (o : List ℕ) : Type 0 where
+pub record PieceTokens (around : Around) (start : Bool → State) (Is : List Kind → Type 0) (x : Context)
+    (ls : List Level) (ps : List Place) (m : Marker) (o : List ℕ) : Type 0 where
   pub tokens : List Kind
   pub are : Is tokens
   pub passes : PassesPiece around start (ended around.indent m o) x ls ps m o tokens
 
-pub told_at : {around : Around} {start : Bool → State} {Is : List Kind → Type 0} {x : Context} {ls : List Level}
-    {ps : List Place} {o : List ℕ} (m n : Marker) → m ≡ n → TellsPiece around start Is x ls ps m o
-    → TellsPiece around start Is x ls ps n o
-told_at {around} {start} {Is} {x} {ls} {ps} {o} m n e t =
-    subst (λ (k : Marker). TellsPiece around start Is x ls ps k o) e t
+pub mapped_at : {around : Around} {start : Bool → State} {Is : List Kind → Type 0} {x : Context} {ls : List Level}
+    {ps : List Place} {o : List ℕ} (m n : Marker) → m ≡ n → PieceTokens around start Is x ls ps m o
+    → PieceTokens around start Is x ls ps n o
+mapped_at {around} {start} {Is} {x} {ls} {ps} {o} m n e t = grind arith
 
-pub told_so : {around : Around} {start : Bool → State} {Is Are : List Kind → Type 0} {x : Context} {ls : List Level}
+pub mapped_so : {around : Around} {start : Bool → State} {Is Are : List Kind → Type 0} {x : Context} {ls : List Level}
     {ps : List Place} {m : Marker} {o : List ℕ} → ((t : List Kind) → Is t → Are t)
-    → TellsPiece around start Is x ls ps m o → TellsPiece around start Are x ls ps m o
-told_so f t = record { tokens = t.tokens; are = f t.tokens t.are; passes = t.passes }
+    → PieceTokens around start Is x ls ps m o → PieceTokens around start Are x ls ps m o
+mapped_so f t = record { tokens = t.tokens; are = f t.tokens t.are; passes = t.passes }
 
 -- the tokens of a value that may be left out
 abbrev pub ValueTokens : Node → List Kind → Type 0
@@ -59,11 +58,9 @@ pub value_behind : {around : Around} {start : Bool → State} {ls : List Level} 
     → (m : Marker) (rest o : List ℕ)
     → FitsAround around m rest o → IsBehindEntry around.indent o → room + length ls ≤ most_open
     → IsValueText around.indent room value rest → PassesPiece around start (no_key m) y ls ps m (rest ++ o) ts
-    → TellsPiece around start (λ t. (vs : List Kind) × ValueTokens value vs × (t ≡ ts ++ vs)) y ls ps (moved m rest) o
+    → PieceTokens around start (λ t. (vs : List Kind) × ValueTokens value vs × (t ≡ ts ++ vs)) y ls ps (moved m rest) o
 value_behind {around} {start} {ls} {ps} {ts} room value V y flows m rest o fits ends low (inl (none, e)) p =
-    let q : PassesPiece around start (no_key m) y ls ps (moved m rest) o ts = subst
-    (λ (t : List ℕ). PassesPiece around start (no_key m) y ls ps m (t ++ o) ts
-    → PassesPiece around start (no_key m) y ls ps (moved m t) o ts) (sym e) (λ k. k) p in
+    let q : PassesPiece around start (no_key m) y ls ps (moved m rest) o ts = grind (arith, no_key, moved) in
     record {
       tokens = ts;
       are = ([], inl (none, refl), sym (append-nil ts));
@@ -79,7 +76,7 @@ value_behind {around} {start} {ls} {ps} {ts} room value V y flows m rest o fits 
     (subst (λ (t : List ℕ). PassesPiece around start (no_key m) y ls ps m t ts) text p) in
     let n = V (moved m separation) node o (inl h) f (entry_behind around.indent value o ends) (after q)
     (less_on q.adjacent m separation q.knows.2) flows low q.fits in
-    told_at (moved (moved m separation) node) (moved m rest)
+    mapped_at (moved (moved m separation) node) (moved m rest)
     (sym (moved_append m separation node) ∙ ap (moved m) (sym e))
     (record {
       tokens = ts ++ n.tokens;
@@ -111,8 +108,7 @@ is_colon_text indent room adjacent value colon o ends (inr (separation, node, pa
     record {
       rest = separation ++ node;
       is = e;
-      parted = subst (IsParted indent) assoc (parted_by indent separation (node ++ o) parts
-          (ink_front node (node ++ o) o refl (node_ink indent room value true node h)));
+      parted = grind (arith, parted_by, content_front, node_content);
       ends = by_part apart;
       value_text = inr (separation, node, parts, h, refl);
     }
@@ -163,7 +159,7 @@ key_and_value : {around : Around} (room : ℕ) (key value : Node) → PassesNode
     → PassesPiece around (state_at around (moment_in y now)) (no_key (moved (moved (moved m h.0) h.1) (58 ∷ [])))
     (behind_colon y) now.outer now.places (moved (moved (moved m h.0) h.1) (58 ∷ [])) more
     (front ++ (n.tokens ++ tokens.Value ∷ [])))
-    → TellsPiece around (state_at around (moment_in y now)) (PairTokens front key value) (behind_colon y) now.outer
+    → PieceTokens around (state_at around (moment_in y now)) (PairTokens front key value) (behind_colon y) now.outer
     now.places (moved m t) o
 key_and_value {around} room key value K V front y flows m t o fits ends (node, separation, colon, h, parts, apart, c, e)
     now low before text pass =
@@ -190,7 +186,7 @@ key_and_value {around} room key value K V front y flows m t o fits ends (node, s
     let v = value_behind room value V (behind_colon y) (colon_flows y flows) (moved here (58 ∷ [])) rest o
     (fits_back here (58 ∷ []) rest o (right_one around.indent here 58 refl at_colon_right) colon_fits) ends low
     x.value_text (pass (rest ++ o) (fits_front here (58 ∷ []) rest o colon_fits) x.parted x.ends n) in
-    told_at (moved (moved here (58 ∷ [])) rest) (moved m t) (whole_moved m t node separation rest is)
+    mapped_at (moved (moved here (58 ∷ [])) rest) (moved m t) (whole_moved m t node separation rest is)
     (record {
       tokens = v.tokens;
       are = (n.tokens, v.are.0, n.are, v.are.1, v.are.2 ∙ value_regrouped front n.tokens v.are.0);
@@ -205,7 +201,7 @@ pub key_passes : {around : Around} (room : ℕ) (key value : Node) → PassesNod
     around.indent t) → (begins_pair y ≡ true → m.line ≡ (moved (moved m h.0) h.1).line)
     → (now : FlowMoment) → now.allowed ≡ true
     → room + length now.outer ≤ most_open → now.adjacent < m.index → StandsBefore around now m (t ++ o)
-    → TellsPiece around (state_at around (moment_in y now)) (PairTokens (key_kinds (begins_pair y)) key value)
+    → PieceTokens around (state_at around (moment_in y now)) (PairTokens (key_kinds (begins_pair y)) key value)
     (behind_colon y) now.outer now.places (moved m t) o
 key_passes {around} room key value K V y flows m t o fits ends h line now fresh low before text =
     key_and_value room key value K V (key_kinds (begins_pair y)) y flows m t o fits ends h now low before text
@@ -223,7 +219,7 @@ pub alone_passes : {around : Around} (room : ℕ) (key value : Node) → PassesN
     → IsValueAlone key value (IsFlowNode room value true around.indent) around.indent t
     → (now : FlowMoment) → now.key ≡ None
     → room + length now.outer ≤ most_open → now.adjacent < m.index → StandsBefore around now m (t ++ o)
-    → TellsPiece around (state_at around (moment_in y now)) (AloneTokens (alone_kinds (begins_pair y)) value)
+    → PieceTokens around (state_at around (moment_in y now)) (AloneTokens (alone_kinds (begins_pair y)) value)
     (behind_colon y) now.outer now.places (moved m t) o
 alone_passes {around} room key value V y flows m t o fits ends (none, c) now no_candidate low before text =
     let x = is_colon_text around.indent room false value t o ends c in
@@ -235,7 +231,7 @@ alone_passes {around} room key value V y flows m t o fits ends (none, c) now no_
     (text ∙ ap (λ (z : List ℕ). past around.indent m (z ++ o)) x.is) in
     let v = value_behind room value V (behind_colon y) (colon_flows y flows) (moved m (58 ∷ [])) rest o
     (fits_back m (58 ∷ []) rest o (right_one around.indent m 58 refl fits.right) whole) ends low x.value_text p in
-    told_at (moved (moved m (58 ∷ [])) rest) (moved m t) (ap (moved m) (sym x.is))
+    mapped_at (moved (moved m (58 ∷ [])) rest) (moved m t) (ap (moved m) (sym x.is))
     (record {
       tokens = v.tokens;
       are = (v.are.0, v.are.1, v.are.2 ∙ append_assoc (alone_kinds (begins_pair y)) (tokens.Value ∷ []) v.are.0);
@@ -260,7 +256,7 @@ pub marked_key_passes : {around : Around} (room : ℕ) (key value : Node) → Pa
     → IsKeyAndValue key value (IsFlowNode room key true around.indent) (IsFlowNode room value true around.indent)
     around.indent t → (now : FlowMoment) → now.key ≡ None → now.allowed ≡ false
     → room + length now.outer ≤ most_open → now.adjacent < m.index → StandsBefore around now m (t ++ o)
-    → TellsPiece around (state_at around (moment_in y now)) (PairTokens [] key value) (behind_colon y) now.outer
+    → PieceTokens around (state_at around (moment_in y now)) (PairTokens [] key value) (behind_colon y) now.outer
     now.places
     (moved m t) o
 marked_key_passes {around} room key value K V y flows no_pair m t o fits ends h now no_candidate none_allowed low before
@@ -283,13 +279,13 @@ marked_key_passes {around} room key value K V y flows no_pair m t o fits ends h 
         let known = n.passes.knows in
         let second = slice_index more 0 in
         let lands = separation_past around.indent at_end h.1 (58 ∷ more) h.4 n.passes.right
-        ∙ past_ink around.indent here 58 more colon_ink in
-        let told : at_colon here second n.passes.key n.passes.allowed n.passes.adjacent n.passes.new = (
+        ∙ past_content around.indent here 58 more colon_content in
+        let given : at_colon here second n.passes.key n.passes.allowed n.passes.adjacent n.passes.new = (
           known.keeps flows ∙ (rw (none_allowed, no_candidate) refl),
           by_place h.1 second n.passes.adjacent here.index colon_ends (known.near flows h.1 more refl h.4),
           subst (λ (z : Marker × List ℕ). n.passes.adjacent ≤ z.0.index) lands known.low,
         ) in
-        let q = separation_joins at_end h.1 (58 ∷ more) h.4 (knowing n.passes (at_colon here second) told) in
+        let q = separation_joins at_end h.1 (58 ∷ more) h.4 (knowing n.passes (at_colon here second) given) in
         let p = value_passes around y flows here more colon_fits parted (after q) q.knows.0 q.knows.1 q.knows.2 q.fits
         in
         subst (λ (b : Bool). PassesPiece around (state_at around (moment_in y now)) (no_key (moved here (58 ∷ [])))

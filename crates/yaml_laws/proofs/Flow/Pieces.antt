@@ -1,17 +1,15 @@
 -- Pieces of a text in flow style in parts, and what comes after them.
 use Rattle.std.proofs.Common.{◌≡◌, ◌≢◌, ℕ, ◌+◌, ◌≤◌, true, List, [], ◌∷◌, ◌++◌, length, slice_index, refl, ap, arith, append_assoc, IsTrue, ◌⊎◌, inl, inr}
-use Rattle.std.specs.Prelude.{◌||◌, ◌==◌}
-use Rattle.std.proofs.lemmas.Bool.Decides.{nat_tests}
 use Rattle.saphyr_input.specs.Indicators.{comma, right_brace, right_bracket}
-use Rattle.saphyr_input.specs.Classes.{is_blank, is_blank_or_breakz, line_feed}
+use Rattle.saphyr_input.specs.Classes.{is_blank, line_feed}
 use Rattle.saphyr_scalar.specs.declared.scalar.position.Marker.{Marker}
 use Rattle.scalar_laws.specs.Spelling.Spaces.{IsSeparation}
 use Rattle.saphyr_scanner.specs.Grammar.Forest.{Node}
 use Rattle.yaml_laws.proofs.InFlow.States.{Around}
-use Rattle.yaml_laws.proofs.Flow.States.{moved, IsInk, IsBehind, IsParted, EndsNode, ends_colon, IsBehindNode, FitsAround}
+use Rattle.yaml_laws.proofs.Flow.States.{moved, IsContentStart, IsBehind, IsParted, EndsNode, ends_colon, IsBehindNode, FitsAround}
 use Rattle.yaml_laws.proofs.Flow.Places.{moved_count, clear_front, clear_back}
 use Rattle.yaml_laws.proofs.Flow.Spaces.{separation_begins}
-use Rattle.yaml_laws.proofs.Flow.Inks.{BeginsInk}
+use Rattle.yaml_laws.proofs.Flow.ContentStarts.{StartsContent}
 
 -- ## A piece in parts
 
@@ -55,8 +53,8 @@ pub behind_so : {indent : ℕ} {P Q : List ℕ → ℕ → List ℕ → Type 0} 
     → ((w : List ℕ) (c : ℕ) (cs : List ℕ) → P w c cs → Q w c cs) → IsBehind indent P o → IsBehind indent Q o
 behind_so f h = grind (arith)
 
-pub end_ink : (c : ℕ) → EndsEntry c → IsInk c
-end_ink c h = grind arith
+pub end_is_content : (c : ℕ) → EndsEntry c → IsContentStart c
+end_is_content c h = grind arith
 
 pub entry_behind : (indent : ℕ) (node : Node) (o : List ℕ) → IsBehindEntry indent o → IsBehindNode indent node o
 entry_behind indent node o h = behind_so by_end h
@@ -67,16 +65,15 @@ entry_behind indent node o h = behind_so by_end h
     by_end w c cs (inr (inr e)) = inr (inr (inl e))
 
 pub entry_parted : (indent : ℕ) (o : List ℕ) → IsBehindEntry indent o → IsParted indent o
-entry_parted indent o h = behind_so (λ w c cs e. end_ink c e) h
+entry_parted indent o h = behind_so (λ w c cs e. end_is_content c e) h
 
 -- more separation before what ends an entry
 pub wider_entry : (indent : ℕ) (w others : List ℕ) (c : ℕ) → IsSeparation indent w → EndsEntry c
     → IsBehindEntry indent (w ++ (c ∷ others))
-wider_entry indent w others c parts ends =
-    record { separation = w; first = c; others = others; is = refl; parts = parts; ends = ends }
+wider_entry indent w others c parts ends = grind arith
 
--- separation before some ink
-abbrev pub parted_by : (indent : ℕ) (w t : List ℕ) → IsSeparation indent w → BeginsInk t → IsParted indent (w ++ t)
+-- separation before some content
+abbrev pub parted_by : (indent : ℕ) (w t : List ℕ) → IsSeparation indent w → StartsContent t → IsParted indent (w ++ t)
 parted_by indent w t parts b =
     record {
       separation = w;
@@ -84,15 +81,11 @@ parted_by indent w t parts b =
       others = b.others;
       is = ap (λ (x : List ℕ). w ++ x) b.is;
       parts = parts;
-      ends = b.ink;
+      ends = b.content;
     }
 
 white_ends : (c : ℕ) → (is_blank c ≡ true) ⊎ (c ≡ line_feed) → IsTrue (ends_colon c)
-white_ends c (inl h) = blank c h
-  where
-    blank : (c : ℕ) → is_blank c ≡ true
-        → (is_blank_or_breakz c || (c == comma) || (c == right_bracket) || (c == right_brace)) ≡ true
-    blank c h = grind (arith, nat_tests)
+white_ends c (inl h) = search
 white_ends c (inr e) = rw e refl
 
 -- after separation that is not empty

@@ -1,15 +1,14 @@
 -- Places after the pieces of a text, and pieces that no document marker begins a line of.
-use Rattle.std.proofs.Common.{◌≡◌, ℕ, suc, ◌+◌, ◌≤◌, Bool, true, false, List, [], ◌∷◌, ◌++◌, length, refl, sym, ap, ◌∙◌, arith, append_assoc, IsTrue}
+use Rattle.std.proofs.Common.{◌≡◌, ℕ, ◌+◌, ◌≤◌, Bool, false, List, [], ◌∷◌, ◌++◌, length, refl, sym, ap, ◌∙◌, arith, append_assoc}
 use Rattle.std.specs.Prelude.{◌&&◌, ◌==◌, not, if◌then◌else◌}
 use Rattle.std.proofs.lemmas.List.{length-append}
-use Rattle.saphyr_input.specs.Classes.{line_feed, carriage_return}
+use Rattle.saphyr_input.specs.Classes.{line_feed}
 use Rattle.saphyr_input.specs.Places.{is_document_indicator}
 use Rattle.saphyr_scalar.specs.declared.scalar.position.Marker.{Marker}
 use Rattle.saphyr_scalar.specs.Views.Cursor.{along, next_line}
 use Rattle.saphyr_scalar.specs.Spelling.Tag.{AreIn}
 use Rattle.yaml_laws.proofs.Flow.States.{moved, marks_line, IsClear}
-use Rattle.saphyr_scalar.proofs.Moving.{along_none, along_more}
-use Rattle.saphyr_input.proofs.Basics.Booleans.{by_test}
+use Rattle.saphyr_scalar.proofs.Moving.{along_none}
 use Rattle.std.proofs.lemmas.Bool.{or_parts, or_from}
 use Rattle.scalar_laws.proofs.Beginnings.{front_in, back_in}
 
@@ -34,13 +33,7 @@ moved_count m p o = grind (arith, moved_index, length-append)
 -- on one line
 pub moved_along : (m : Marker) (p : List ℕ) → AreIn (λ c. not (c == line_feed)) p → moved m p ≡ along m (length p)
 moved_along m [] h = sym (along_none m)
-moved_along m (c ∷ cs) h =
-    by_test (c == line_feed) (next_line m 1) (along m 1) (λ (k : Marker). moved k cs ≡ along m (suc (length cs)))
-    (λ e. absurd (never (c == line_feed) e h.0))
-    (λ _. moved_along (along m 1) cs h.1 ∙ along_more m 1 (length cs) (length (c ∷ cs)) (omega arith))
-  where
-    never : (b : Bool) → b ≡ true → IsTrue (not b) → ⊥
-    never b e k = grind arith
+moved_along m (c ∷ cs) h = grind (arith, moved_along (along m 1) cs h.1)
 
 -- what is right of a column goes on there
 pub right_along : (column : ℕ) (m : Marker) (p : List ℕ) → AreIn (λ c. not (c == line_feed)) p → column ≤ m.col
@@ -76,16 +69,10 @@ back_unmarked m (c ∷ cs) b o h =
 
 -- A piece of two parts is clear where both are.
 pub clear_front : (m : Marker) (a b o : List ℕ) → IsClear m (a ++ b) o → IsClear m a (b ++ o)
-clear_front m a b o h = record {
-  no_return = front_in (λ c. not (c == carriage_return)) a b h.no_return;
-  no_marker = front_unmarked (m.col == 0) a b o h.no_marker;
-}
+clear_front m a b o h = search (front_in, front_unmarked)
 
 pub clear_back : (m : Marker) (a b o : List ℕ) → IsClear m (a ++ b) o → IsClear (moved m a) b o
-clear_back m a b o h = record {
-  no_return = back_in (λ c. not (c == carriage_return)) a b h.no_return;
-  no_marker = back_unmarked m a b o h.no_marker;
-}
+clear_back m a b o h = search (back_in, back_unmarked)
 
 pub clear_here : (m : Marker) (c : ℕ) (cs o : List ℕ) → IsClear m (c ∷ cs) o
     → ((m.col == 0) && is_document_indicator (c ∷ (cs ++ o))) ≡ false

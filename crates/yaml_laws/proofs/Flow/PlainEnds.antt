@@ -7,20 +7,19 @@ use Rattle.saphyr_input.specs.Indicators.{colon, number_sign}
 use Rattle.saphyr_input.specs.Classes.{is_blank, is_break, is_blank_or_breakz, is_flow, carriage_return, is_bom}
 use Rattle.saphyr_input.specs.Places.{is_blank_or_break}
 use Rattle.saphyr_scalar.specs.declared.scalar.position.Marker.{Marker}
-use Rattle.saphyr_scalar.specs.Views.Cursor.{Cursor, along, next_line}
+use Rattle.saphyr_scalar.specs.Views.Cursor.{along, next_line}
 use Rattle.saphyr_scalar.specs.Steps.Plain.{is_in_word, ends_line}
 use Rattle.scalar_laws.specs.Spelling.Plain.{past_white, StopsPlain, EndsPlain}
 use Rattle.saphyr_scanner.specs.Grammar.Forest.{Node}
 use Rattle.yaml_laws.specs.Grammar.FlowNodes.{allows_adjacent}
-use Rattle.yaml_laws.proofs.Flow.States.{past, moved, IsInk, EndsDocument, IsLeft, ends_colon, EndsNode, IsBehindNode, IsBehindRoot}
-use Rattle.yaml_laws.proofs.Flow.GapSteps.{past_ink, no_left}
+use Rattle.yaml_laws.proofs.Flow.States.{past, moved, IsContentStart, EndsDocument, IsLeft, ends_colon, EndsNode, IsBehindNode, IsBehindRoot}
+use Rattle.yaml_laws.proofs.Flow.GapSteps.{past_content, no_left}
 use Rattle.yaml_laws.proofs.InFlow.States.{Around}
-use Rattle.yaml_laws.proofs.InFlow.Tabs.{lands_on_ink, tabs_behind_low, broke_or_right}
+use Rattle.yaml_laws.proofs.InFlow.Tabs.{lands_on_content, tabs_behind_low, broke_or_right}
 use Rattle.yaml_laws.proofs.Flow.Fillers.{white_past, separation_past}
 use Rattle.yaml_laws.proofs.Flow.Ends.{EndsHere, behind_node_first, root_first}
-use Rattle.yaml_laws.proofs.Flow.Quotes.{ends_node_ink}
-use Rattle.saphyr_input.proofs.Basics.Booleans.{by_test}
-use Rattle.yaml_laws.proofs.Flow.Inks.{bom_is}
+use Rattle.yaml_laws.proofs.Flow.Quotes.{ends_node_content}
+use Rattle.yaml_laws.proofs.Flow.ContentStarts.{bom_is}
 
 -- ## After the blanks and breaks
 
@@ -30,11 +29,8 @@ StopsWhite (c ∷ cs) = is_blank_or_break c ≡ false
 
 white_stops : (m : Marker) (b : Bool) (t : List ℕ) → StopsWhite (past_white m b t).rest
 white_stops m b [] = tt
-white_stops m b (c ∷ cs) = by_test (is_blank_or_break c)
-    (past_white (if ends_line c cs then next_line m 1 else along m 1) (b || is_break c) cs)
-    (record { rest = c ∷ cs; mark = m; blank_so_far = b })
-    (λ (u : Cursor). StopsWhite u.rest)
-    (λ _. white_stops (if ends_line c cs then next_line m 1 else along m 1) (b || is_break c) cs) (λ e. e)
+white_stops m b (c ∷ cs) =
+    grind (arith, white_stops (if ends_line c cs then next_line m 1 else along m 1) (b || is_break c) cs)
 
 -- the end, a comment, or the next token
 abbrev Reaches : ℕ → Marker → List ℕ → Marker → List ℕ → Type 0
@@ -42,8 +38,8 @@ Reaches column m o n r = (r ≡ []) ⊎ ((slice_index r 0 ≡ 35) ⊎ ((n ≡ (p
 
 reaches : (column : ℕ) (m : Marker) (o : List ℕ) → is_blank (slice_index (past column m o).1 0) ≡ false
     → Reaches column m o (past_white m false o).mark (past_white m false o).rest
-reaches column m o inked = by_rest (past_white m false o).mark (past_white m false o).rest (white_stops m false o)
-    (white_past column m false o inked)
+reaches column m o past_blanks = by_rest (past_white m false o).mark (past_white m false o).rest (white_stops m false o)
+    (white_past column m false o past_blanks)
   where
     no_blank : (c : ℕ) → is_blank_or_break c ≡ false → is_blank c ≡ false
     no_blank c h = grind (arith, nat_tests)
@@ -105,23 +101,23 @@ pub ends_in_flow : (around : Around) (node : Node) (m : Marker) (o : List ℕ) �
     → IsBehindNode around.indent node o → around.indent ≤ m.col → EndsPlain true around.column m o
 ends_in_flow around node m o apart h right =
     record {
-      stops = stops (reaches around.indent m o inked);
+      stops = stops (reaches around.indent m o past_blanks);
       apart = ends_no_sign node (slice_index o 0) (behind_node_first around.indent node o h);
-      tabs = tabs_behind_low around.column around.indent around.low m m false o inked;
+      tabs = tabs_behind_low around.column around.indent around.low m m false o past_blanks;
     }
   where
-    ink : IsInk h.first
-    ink = (ends_node_ink node h.separation h.others h.first h.ends).0
+    content : IsContentStart h.first
+    content = (ends_node_content node h.separation h.others h.first h.ends).0
 
     lands : past around.indent m o ≡ (moved m h.separation, h.first ∷ h.others)
     lands =
         cc (
           separation_past around.indent m h.separation (h.first ∷ h.others) h.parts right,
-          past_ink around.indent (moved m h.separation) h.first h.others ink,
+          past_content around.indent (moved m h.separation) h.first h.others content,
         )
 
-    inked : is_blank (slice_index (past around.indent m o).1 0) ≡ false
-    inked = simp (lands, ink.blank)
+    past_blanks : is_blank (slice_index (past around.indent m o).1 0) ≡ false
+    past_blanks = simp (lands, content.blank)
 
     stops : Reaches around.indent m o (past_white m false o).mark (past_white m false o).rest
         → StopsPlain true around.column (past_white m false o)
@@ -134,13 +130,13 @@ pub ends_at_root : (around : Around) (m : Marker) (o : List ℕ) → IsBehindRoo
     → EndsPlain false around.column m o
 ends_at_root around m o h right =
     record {
-      stops = stops (reaches around.indent m o inked) (h.lands right);
+      stops = stops (reaches around.indent m o past_blanks) (h.lands right);
       apart = other (slice_index o 0) (root_first around m o h);
-      tabs = tabs_behind_low around.column around.indent around.low m m false o inked;
+      tabs = tabs_behind_low around.column around.indent around.low m m false o past_blanks;
     }
   where
-    inked : is_blank (slice_index (past around.indent m o).1 0) ≡ false
-    inked = lands_on_ink around.column (past around.indent m o).0 (past around.indent m o).1 (h.lands right)
+    past_blanks : is_blank (slice_index (past around.indent m o).1 0) ≡ false
+    past_blanks = lands_on_content around.column (past around.indent m o).0 (past around.indent m o).1 (h.lands right)
 
     other : (c : ℕ) → IsTrue (is_blank_or_breakz c) → c ≢ number_sign
     other c k e = absurd (false≢true (rw e at k))

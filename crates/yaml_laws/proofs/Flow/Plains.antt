@@ -1,5 +1,5 @@
 -- The plain scalars of a text in flow style are passed.
-use Rattle.std.proofs.Common.{◌≡◌, ◌≢◌, ℕ, ◌<◌, ◌≤◌, Bool, true, false, List, [], ◌∷◌, ◌++◌, length, slice_index, Ok, refl, ap, ◌∙◌, arith, append_assoc, IsTrue, ◌⊎◌, inl, inr, encode_utf8_all}
+use Rattle.std.proofs.Common.{◌≡◌, ◌≢◌, ℕ, ◌<◌, ◌≤◌, Bool, true, false, List, [], ◌∷◌, ◌++◌, slice_index, Ok, refl, ap, ◌∙◌, arith, append_assoc, IsTrue, ◌⊎◌, inl, inr, encode_utf8_all}
 use Rattle.std.specs.Prelude.{◌||◌, ◌&&◌, ◌==◌, not, nat_lt, Option, None}
 use Rattle.std.proofs.lemmas.Bool.Decides.{nat_tests}
 use Rattle.saphyr_input.specs.Breaks.{normalized}
@@ -9,7 +9,7 @@ use Rattle.saphyr_scalar.specs.Views.Cursor.{Cursor, ◌>>=◌}
 use Rattle.saphyr_scalar.specs.Values.Flow.{plain_value}
 use Rattle.saphyr_scalar.specs.Steps.Plain.{PlainScalarRead, comment_of}
 use Rattle.saphyr_scalar.specs.Spelling.Tag.{AreIn}
-use Rattle.scalar_laws.specs.Spelling.Plain.{is_tabbed, past_white, EndsPlain, is_word_ink, AreWordInk, IsPlainText}
+use Rattle.scalar_laws.specs.Spelling.Plain.{is_tabbed, past_white, EndsPlain, is_plain_safe, ArePlainSafe, IsPlainText}
 use Rattle.saphyr_scanner.specs.declared.engine.level.Context.{Context}
 use Rattle.saphyr_scanner.specs.Grammar.Tokens as tokens
 use Rattle.saphyr_scanner.specs.Grammar.Tokens.{Kind, scalar_token}
@@ -25,9 +25,9 @@ use Rattle.yaml_laws.proofs.InFlow.OnLine.{plain_lowers, plain_key_lowers}
 use Rattle.yaml_laws.proofs.Flow.States.{moved, past, IsClear, ReaderPromises, FitsAround, StandsBefore, PassesNoting, keeping}
 use Rattle.yaml_laws.proofs.Flow.Fillers.{white_past}
 use Rattle.yaml_laws.proofs.Flow.Tokens.{adjacent_at, token_passes, after_token}
-use Rattle.yaml_laws.proofs.Flow.Inks.{Begins}
+use Rattle.yaml_laws.proofs.Flow.ContentStarts.{Begins}
 use Rattle.yaml_laws.proofs.Flow.WordGaps.{passed_moved, normalized_same}
-use Rattle.yaml_laws.proofs.Flow.Words.{ink_other, ink_no_break, colon_is_ink, plain_text, key_text, plain_right, key_right}
+use Rattle.yaml_laws.proofs.Flow.Words.{safe_other, no_breakz_no_break, colon_is_safe, plain_text, key_text, plain_right, key_right}
 use Rattle.yaml_laws.proofs.InBlock.Crossings.{white_crosses}
 use Rattle.saphyr_input.proofs.Basics.Booleans.{other_than, and_false}
 use Rattle.saphyr_scalar.proofs.Given.{cursor_at}
@@ -43,62 +43,62 @@ pub record BeginsWord (f : Bool) (t o : List ℕ) : Type 0 where
   pub others : List ℕ
   pub is : t ≡ first ∷ others
   pub begins : IsTrue (begins_plain first)
-  pub ink : IsTrue (is_word_ink f first)
+  pub safe : IsTrue (is_plain_safe f first)
   pub no_comment : first ≢ number_sign
   pub further : (first ≡ hyphen) ⊎ ((first ≡ question_mark) ⊎ (first ≡ 58))
-      → IsTrue (is_word_ink f (slice_index (others ++ o) 0))
+      → IsTrue (is_plain_safe f (slice_index (others ++ o) 0))
 
 pub word_begins : (f : Bool) (indent : ℕ) (t o : List ℕ) → IsPlain f indent t → BeginsWord f t o
 word_begins f indent t o (word, others, (is_word, begins, no_dash, no_mark, no_colon), many, is) =
-    by_word word is_word.some is_word.ink is_word.no_comment begins no_dash no_mark no_colon is
+    by_word word is_word.some is_word.safe is_word.no_comment begins no_dash no_mark no_colon is
   where
     lone : (c d : ℕ) → c ≡ d → (c ∷ []) ≢ (d ∷ []) → ⊥
     lone c d e other = other (ap (λ (z : ℕ). z ∷ []) e)
 
-    by_word : (w : List ℕ) → w ≢ [] → AreWordInk f w → slice_index w 0 ≢ number_sign
+    by_word : (w : List ℕ) → w ≢ [] → ArePlainSafe f w → slice_index w 0 ≢ number_sign
         → IsTrue (begins_plain (slice_index w 0))
         → w ≢ hyphen ∷ [] → w ≢ question_mark ∷ [] → w ≢ 58 ∷ [] → t ≡ w ++ others → BeginsWord f t o
-    by_word [] some ink sign b dash mark colon e = absurd (some refl)
-    by_word (c ∷ []) some ink sign b dash mark colon e =
-        record { first = c; others = others; is = e; begins = b; ink = ink.0; no_comment = sign; further = alone }
+    by_word [] some safe sign b dash mark colon e = absurd (some refl)
+    by_word (c ∷ []) some safe sign b dash mark colon e =
+        record { first = c; others = others; is = e; begins = b; safe = safe.0; no_comment = sign; further = alone }
       where
-        alone : (c ≡ hyphen) ⊎ ((c ≡ question_mark) ⊎ (c ≡ 58)) → IsTrue (is_word_ink f (slice_index (others ++ o) 0))
+        alone : (c ≡ hyphen) ⊎ ((c ≡ question_mark) ⊎ (c ≡ 58)) → IsTrue (is_plain_safe f (slice_index (others ++ o) 0))
         alone h = grind arith
-    by_word (c ∷ d ∷ ds) some ink sign b dash mark colon e =
+    by_word (c ∷ d ∷ ds) some safe sign b dash mark colon e =
         record {
           first = c;
           others = d ∷ (ds ++ others);
           is = e;
           begins = b;
-          ink = ink.0;
+          safe = safe.0;
           no_comment = sign;
-          further = λ _. ink.2.0;
+          further = λ _. safe.2.0;
         }
 
 -- the first word of a key, which comes before the key's colon
 pub key_begins : (f : Bool) (indent : ℕ) (t r : List ℕ) → IsPlainKey f indent t → BeginsWord f t (58 ∷ r)
-key_begins f indent t r (inl ((some, ink, sign), begins)) = by_word t some ink sign begins
+key_begins f indent t r (inl ((some, safe, sign), begins)) = by_word t some safe sign begins
   where
-    by_word : (w : List ℕ) → w ≢ [] → AreIn (is_word_ink f) w → slice_index w 0 ≢ number_sign
+    by_word : (w : List ℕ) → w ≢ [] → AreIn (is_plain_safe f) w → slice_index w 0 ≢ number_sign
         → IsTrue (begins_plain (slice_index w 0)) → BeginsWord f w (58 ∷ r)
-    by_word [] some ink sign b = absurd (some refl)
-    by_word (c ∷ []) some ink sign b = record {
+    by_word [] some safe sign b = absurd (some refl)
+    by_word (c ∷ []) some safe sign b = record {
       first = c;
       others = [];
       is = refl;
       begins = b;
-      ink = ink.0;
+      safe = safe.0;
       no_comment = sign;
-      further = λ _. colon_is_ink f;
+      further = λ _. colon_is_safe f;
     }
-    by_word (c ∷ d ∷ ds) some ink sign b = record {
+    by_word (c ∷ d ∷ ds) some safe sign b = record {
       first = c;
       others = d ∷ ds;
       is = refl;
       begins = b;
-      ink = ink.0;
+      safe = safe.0;
       no_comment = sign;
-      further = λ _. ink.1.0;
+      further = λ _. safe.1.0;
     }
 key_begins f indent t r (inr (plain, dashes, gap, word, h, lone, gapped, last, e)) =
     let end = dashes ++ (gap ++ word) in
@@ -108,7 +108,7 @@ key_begins f indent t r (inr (plain, dashes, gap, word, h, lone, gapped, last, e
       others = b.others ++ end;
       is = e ∙ ap (λ (y : List ℕ). y ++ end) b.is;
       begins = b.begins;
-      ink = b.ink;
+      safe = b.safe;
       no_comment = b.no_comment;
       further = λ k. rw (append_assoc b.others end (58 ∷ r)) (b.further k);
     }
@@ -120,25 +120,19 @@ no_nul : (c : ℕ) → is_blank_or_breakz c ≡ false → is_z c ≡ false
 no_nul c h = grind (arith, nat_tests)
 
 pub token_begins : (f : Bool) (t o : List ℕ) → BeginsWord f t o → Begins t
-token_begins f t o b = grind (arith, ink_other, no_blank, ink_no_break, ne_eqb, no_nul, other_than)
+token_begins f t o b = grind (arith, safe_other, no_blank, no_breakz_no_break, ne_eqb, no_nul, other_than)
 
 -- a character before a word's second one
-pub lone_test : (f : Bool) (first d second : ℕ) → (first ≡ d → IsTrue (is_word_ink f second))
+pub lone_test : (f : Bool) (first d second : ℕ) → (first ≡ d → IsTrue (is_plain_safe f second))
     → ((first == d) && is_blank_or_breakz second) ≡ false
 lone_test f first d second h = grind arith
 
 -- no value is where a colon is part of a word
-value_test : (block : Bool) (first second i ad : ℕ) → (first ≡ 58 → IsTrue (is_word_ink (not block) second))
+value_test : (block : Bool) (first second i ad : ℕ) → (first ≡ 58 → IsTrue (is_plain_safe (not block) second))
     → (block ≡ true) ⊎ (ad < i) → ((first == 58) && (not block && (is_flow second || (i == ad)))) ≡ false
 value_test true first second i ad h low = and_false (first == 58)
 value_test false first second i ad h (inl e) = absurd (cc)
-value_test false first second i ad h (inr low) = by_first (first == 58) refl
-  where
-    further : (i ad : ℕ) → ad < i → (i == ad) ≡ false
-    further i ad h = grind (arith, nat_tests)
-
-    by_first : (b : Bool) → (first == 58) ≡ b → ((first == 58) && (true && (is_flow second || (i == ad)))) ≡ false
-    by_first b e = grind (arith, nat_tests)
+value_test false first second i ad h (inr low) = grind arith
 
 pub plain_begins : (first second n : ℕ) (c : Core) → IsTrue (begins_plain first)
     → ((first == hyphen) && is_blank_or_breakz second) ≡ false
@@ -221,17 +215,17 @@ plain_dispatches around d s n t o x w k ls a ad low =
     let first = slice_index (t ++ o) 0 in
     let second = slice_index (t ++ o) 1 in
     let at_first : first ≡ w.first = cc in
-    let at_second : (first ≡ 45) ⊎ ((first ≡ 63) ⊎ (first ≡ 58)) → IsTrue (is_word_ink f second) =
-    λ e. second_ink f t o w (rw at_first at e) in
+    let at_second : (first ≡ 45) ⊎ ((first ≡ 63) ⊎ (first ≡ 58)) → IsTrue (is_plain_safe f second) =
+    λ e. second_safe f t o w (rw at_first at e) in
     plain_begins first second n (core_at around d s x k ls a ad) (rw at_first w.begins)
     (lone_test f first 45 second (λ e. at_second (inl e))) (lone_test f first 63 second (λ e. at_second (inr (inl e))))
     (lone_test f first 58 second (λ e. at_second (inr (inr e))))
     (value_test (is_block x) first second s.mark.index ad (λ e. at_second (inr (inr e))) low)
   where
-    second_ink : (f : Bool) (t o : List ℕ) (w : BeginsWord f t o)
+    second_safe : (f : Bool) (t o : List ℕ) (w : BeginsWord f t o)
         → (w.first ≡ hyphen) ⊎ ((w.first ≡ question_mark) ⊎ (w.first ≡ 58))
-        → IsTrue (is_word_ink f (slice_index (t ++ o) 1))
-    second_ink f t o w e = rw w.is (w.further e)
+        → IsTrue (is_plain_safe f (slice_index (t ++ o) 1))
+    second_safe f t o w e = rw w.is (w.further e)
 
 -- The premises of a step over a plain scalar: outside flow, or where no colon may come at once.
 pub plain_step : ReaderPromises → (around : Around) (d : Bool) (n : ℕ) (m : Marker) (b : Bool) (t o : List ℕ)
@@ -272,7 +266,7 @@ text_passes : ReaderPromises → (around : Around) (t o : List ℕ) (m : Marker)
     → (FitsAround around m t o → EndsPlain (not (is_block now.context)) around.column (moved m t) o
     → IsPlainText (not (is_block now.context)) around.column m t o × (around.indent ≤ (moved m t).col))
     → PassesPlain around now m t o
-text_passes reads around t o m now begins plain fits ends inked low text =
+text_passes reads around t o m now begins plain fits ends past_blanks low text =
     let f = not (is_block now.context) in
     let u = past_white (moved m t) false o in
     let is = plain fits ends in
@@ -283,11 +277,10 @@ text_passes reads around t o m now begins plain fits ends inked low text =
       allowed = u.blank_so_far;
       adjacent = now.adjacent;
       to = λ d. false;
-      is = λ d. plain_step reads around d (length now.places) m b t o now.context begins is.0 fits.clear j now.outer e
-          now.adjacent low (placed_right now.context e fits.calm fits.right);
-      fits = white_past around.indent (moved m t) false o inked;
+      is = grind (arith, plain_step, placed_right);
+      fits = white_past around.indent (moved m t) false o past_blanks;
       fresh = λ _ e. white_crosses (moved m t) false o e;
-      tells = refl;
+      holds = refl;
     })
 
 pub plain_passes : ReaderPromises → (around : Around) (t o : List ℕ) (m : Marker) (now : FlowMoment)

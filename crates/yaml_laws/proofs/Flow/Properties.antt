@@ -1,8 +1,7 @@
 -- The properties of a node in flow style are passed, and an alias is.
-use Rattle.std.proofs.Common.{◌≡◌, ◌≢◌, ℕ, zero, suc, ◌+◌, ◌-◌, ◌≤◌, Bool, false, List, [], ◌∷◌, ◌++◌, length, slice_index, refl, sym, ap, ◌∙◌, arith, subst, append_assoc, append-nil, IsTrue, inl, inr}
+use Rattle.std.proofs.Common.{◌≡◌, ◌≢◌, ℕ, zero, suc, ◌+◌, ◌-◌, ◌≤◌, Bool, false, List, [], ◌∷◌, ◌++◌, slice_index, refl, sym, ap, ◌∙◌, arith, subst, append_assoc, append-nil, IsTrue, inl, inr}
 use Rattle.std.specs.Prelude.{not, option_map, Option, Some, None}
 use Rattle.saphyr_input.specs.Classes.{is_blank, is_blank_or_breakz}
-use Rattle.std.proofs.lemmas.Bool.Decides.{nat_tests}
 use Rattle.saphyr_scalar.specs.declared.scalar.position.Marker.{Marker}
 use Rattle.saphyr_scalar.specs.Spelling.Tag.{AreIn, EndsTag}
 use Rattle.saphyr_scalar.specs.Reading.BlockLines.{spaces}
@@ -108,25 +107,14 @@ two_properties around start x kept before ls ps ad m a w b o first second h p pa
     rw (sym (moved_append m a (w ++ b) ∙ moved_append (moved m a) w b)) at
     (join p q (behind_properties x (record { kept = kept; before = before; from = m; over = a ++ (w ++ b) }) ad)
     (record {
-      properties = record {
-        piece = p.knows.piece;
-        others = q.new;
-        is = cc;
-        keeps = λ e. q.knows.keeps e
-            ∙ closed_saved p.allowed (length (ps ++ p.new)) (moved (moved m a) w) p.key p.knows.tells.0
-            ∙ p.knows.keeps e;
-        closed = q.knows.tells.0;
-      };
+      properties = grind (arith, closed_saved, moved);
       since = since_join before m a w b p.key q.key p.knows.since q.knows.since;
-      still = q.knows.tells.1 ∙ p.knows.tells.1;
+      still = q.knows.holds.1 ∙ p.knows.holds.1;
     }))
 
 pub blank_first : (w y : List ℕ) → (w ≢ []) × AreIn is_blank w → IsTrue (is_blank_or_breakz (slice_index (w ++ y) 0))
 blank_first [] y h = absurd (h.0 refl)
-blank_first (c ∷ cs) y h = apart c h.1.0
-  where
-    apart : (c : ℕ) → IsTrue (is_blank c) → IsTrue (is_blank_or_breakz c)
-    apart c h = grind (arith, nat_tests)
+blank_first (c ∷ cs) y h = search
 
 -- after a token: a blank or a break
 pub gap_first : (indent : ℕ) (w y : List ℕ) → IsGap indent w → IsTrue (is_blank_or_breakz (slice_index (w ++ y) 0))
@@ -161,8 +149,7 @@ ReadsOne around Is kind =
     → PassesToken around (closes_key now.adjacent) now m t o kind
 
 anchor_one : ReaderPromises → (around : Around) (name : List ℕ) → ReadsOne around (IsAnchor name) (anchor_token name)
-anchor_one reads around name m t o h now ends fits text =
-    anchor_passes reads around name t o m h (tag_ends_name (not (is_block now.context)) o ends) fits now text
+anchor_one reads around name m t o h now ends fits text = search (anchor_passes, tag_ends_name)
 
 tag_one : ReaderPromises → (around : Around) (tag : Tag) → ReadsOne around (IsTag tag) (tag_token tag)
 tag_one reads around tag m t o h now ends fits text = tag_passes reads around tag t o m h fits now ends text
@@ -189,20 +176,8 @@ pub properties_read : ReaderPromises
     → yaml.AreProperties anchor tag around.indent t → (now : FlowMoment) → EndsTag (not (is_block now.context)) o
     → FitsAround around m t o → StandsBefore around now m (t ++ o) → PropertiesRead around now anchor tag m t o
 properties_read reads around None None m t o h now ends fits text = absurd h
-properties_read reads around (Some name) None m t o h now ends fits text =
-    record {
-      tokens = anchor_token name ∷ [];
-      are = refl;
-      passes = one_property now.context (keeping now m t) now.adjacent
-          (anchor_one reads around name m t o h now ends fits text);
-    }
-properties_read reads around None (Some tag) m t o h now ends fits text =
-    record {
-      tokens = tag_token tag ∷ [];
-      are = refl;
-      passes = one_property now.context (keeping now m t) now.adjacent
-          (tag_one reads around tag m t o h now ends fits text);
-    }
+properties_read reads around (Some name) None m t o h now ends fits text = grind (arith, one_property, anchor_one)
+properties_read reads around None (Some tag) m t o h now ends fits text = grind (arith, one_property, tag_one)
 properties_read reads around (Some name) (Some tag) m t o (a, w, b, h, g, spaced, inl is) now ends fits text =
     record {
       tokens = anchor_token name ∷ tag_token tag ∷ [];
@@ -231,5 +206,5 @@ alias_passes reads around name m t o now h fits follows low text =
       are = λ place. refl;
       comment = None;
       none = λ _. refl;
-      passes = token_node (allows_adjacent (Alias name)) (λ w. refl) low.0 q q.knows.tells.1;
+      passes = token_node (allows_adjacent (Alias name)) (λ w. refl) low.0 q q.knows.holds.1;
     }

@@ -18,8 +18,8 @@ use Rattle.saphyr_scanner.specs.Steps.Fetch.{step}
 use Rattle.yaml_laws.specs.Grammar.FlowNodes.{has_tab_outside}
 use Rattle.yaml_laws.proofs.InFlow.States.{Around, core_at, state_at, moment, FlowMoment, moment_in, moment_with}
 use Rattle.yaml_laws.proofs.Flow.Places.{right_one}
-use Rattle.yaml_laws.proofs.Flow.States.{moved, IsInk, IsParted, no_key, PassesPiece, FitsAround, StandsBefore}
-use Rattle.yaml_laws.proofs.Flow.GapSteps.{past_ink}
+use Rattle.yaml_laws.proofs.Flow.States.{moved, IsContentStart, IsParted, no_key, PassesPiece, FitsAround, StandsBefore}
+use Rattle.yaml_laws.proofs.Flow.GapSteps.{past_content}
 use Rattle.yaml_laws.proofs.Flow.Fillers.{separation_past}
 use Rattle.yaml_laws.proofs.Flow.Tokens.{arrives, step_comes, within_index}
 use Rattle.yaml_laws.proofs.Flow.Joins.{step_passes}
@@ -56,12 +56,12 @@ unfolding begin_key remove_key
 begins_key around d s y k ls a ad e = grind arith
 
 passes_mark : (around : Around) (d : Bool) (o : List ℕ) (m : Marker) (b : Bool) (y : Context) (ls : List Level) (ad : ℕ)
-    (n : Marker) (blank : Bool) (c : ℕ) (cs : List ℕ) → IsInk c
+    (n : Marker) (blank : Bool) (c : ℕ) (cs : List ℕ) → IsContentStart c
     → end_of_spaces (along m 1) false false o ≡ spaces_end n blank true (c ∷ cs)
     → pass_question (core_at around d (cursor_at (question_mark ∷ o) m b) y None ls false ad)
     ≡ Ok (core_at around d (cursor_at (c ∷ cs) n blank) y None ls false ad)
 unfolding behind_mark
-passes_mark around d o m b y ls ad n blank c cs ink is = grind arith
+passes_mark around d o m b y ls ad n blank c cs content is = grind arith
 
 question_flows : (y : Context) → is_block y ≡ false → is_block (behind_question y) ≡ false
 question_flows y e = grind arith
@@ -81,7 +81,7 @@ pub mark_passes : (around : Around) (y : Context) → is_block y ≡ false → (
     now.outer
     now.places (moved m (question_mark ∷ [])) o (tokens.Key ∷ [])
 mark_passes around y flows m o fits parted some tabs now before text =
-    let v = arrives around (moment_in y now) m (63 ∷ o) (text ∙ past_ink around.indent m 63 o question.ink) refl
+    let v = arrives around (moment_in y now) m (63 ∷ o) (text ∙ past_content around.indent m 63 o question.content) refl
     fits.right fits.calm in
     let on = le_next around.indent m.col fits.right in
     let w = parted.separation in

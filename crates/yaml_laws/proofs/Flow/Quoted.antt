@@ -69,15 +69,7 @@ unmarked_at_start n b e h = rw e at h
 -- more text after a line takes none of its spaces away
 more_spaces : (u o : List ℕ) → space_count u ≤ space_count (u ++ o)
 more_spaces [] o = omega arith
-more_spaces (c ∷ cs) o = by_space (c == space) refl (more_spaces cs o)
-  where
-    by_space : (b : Bool) → (c == space) ≡ b → space_count cs ≤ space_count (cs ++ o)
-        → space_count (c ∷ cs) ≤ space_count (c ∷ (cs ++ o))
-    by_space true e on = rw e (further (space_count cs) (space_count (cs ++ o)) on)
-      where
-        further : (a b : ℕ) → a ≤ b → 1 + a ≤ 1 + b
-        further a b h = omega (arith, h)
-    by_space false e on = rw e (omega arith)
+more_spaces (c ∷ cs) o = grind (arith, more_spaces cs o)
 
 -- nor a break after them
 still_broken : (u o : List ℕ) → IsTrue (is_break (slice_index (drop (space_count u) u) 0))
@@ -190,8 +182,7 @@ quoted_read reads low indent below quote s value t o is (inside, items, spelled,
     let more = extends low indent below quote inside items [] spelled fit o (moved s.mark (mark quote ∷ []))
     (clear_back s.mark (mark quote ∷ []) inside o (rw text at clear)) ends in
     let got = reads.quoted quote low s items o (inside ++ o, is ∙ ap (λ (y : List ℕ). y ++ o) text, more.0) more.1 in
-    let passed : IsPassed s.mark s.rest (moved s.mark t) o = subst
-    (λ (y : List ℕ). IsPassed s.mark y (moved s.mark t) o) (sym is) (moved_passes s.mark t o clear.no_return) in
+    let passed : IsPassed s.mark s.rest (moved s.mark t) o = grind (arith, moved, moved_passes) in
     let there = reads.place s.mark s.rest (moved s.mark t) o passed got.0 got.1 in cc
 
 -- a quoted scalar ends right of a column that its lines reach

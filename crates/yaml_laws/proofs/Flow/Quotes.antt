@@ -1,5 +1,5 @@
 -- The quoted scalars of a text in flow style are passed.
-use Rattle.std.proofs.Common.{◌≡◌, ℕ, ◌≤◌, Bool, true, false, List, [], ◌∷◌, ◌++◌, length, slice_index, Ok, refl, sym, ap, ◌∙◌, subst, encode_utf8_all, ◌⊎◌, inl, inr}
+use Rattle.std.proofs.Common.{◌≡◌, ℕ, ◌≤◌, Bool, true, false, List, [], ◌∷◌, ◌++◌, length, slice_index, Ok, refl, sym, ap, ◌∙◌, subst, encode_utf8_all, ◌⊎◌, inl, inr, arith}
 use Rattle.std.specs.Prelude.{◌||◌, ◌==◌, Option, None}
 use Rattle.saphyr_input.specs.Classes.{is_blank, is_break, is_breakz}
 use Rattle.saphyr_input.specs.declared.input.SkipTabs.{SkipTabs}
@@ -7,25 +7,24 @@ use Rattle.saphyr_input.specs.declared.input.SkipTabs.TheVariants.{Yes}
 use Rattle.saphyr_scalar.specs.declared.scalar.position.Marker.{Marker}
 use Rattle.saphyr_scalar.specs.declared.values.Quote.{Quote}
 use Rattle.saphyr_scalar.specs.declared.values.Quote.TheVariants.{Single, Double}
-use Rattle.saphyr_scalar.specs.Views.Cursor.{Cursor, ◌>>=◌, separation}
+use Rattle.saphyr_scalar.specs.Views.Cursor.{Cursor, separation}
 use Rattle.saphyr_scalar.specs.Values.Flow.{mark}
 use Rattle.saphyr_scalar.specs.Steps.Quoted.{mid_line}
 use Rattle.saphyr_scanner.specs.declared.engine.level.Context.{Context}
 use Rattle.saphyr_scanner.specs.declared.engine.level.Context.TheVariants as context
 use Rattle.saphyr_scanner.specs.Grammar.Tokens as tokens
 use Rattle.saphyr_scanner.specs.Grammar.Tokens.{scalar_token}
-use Rattle.saphyr_scanner.specs.Grammar.Forest.{Style, SingleQuoted, DoubleQuoted, Node}
-use Rattle.saphyr_scanner.specs.Steps.Core.{Core, from_to, completed_step}
+use Rattle.saphyr_scanner.specs.Grammar.Forest.{Style, Node}
+use Rattle.saphyr_scanner.specs.Steps.Core.{from_to, completed_step}
 use Rattle.saphyr_scanner.specs.Steps.Level.{Candidate, Level, is_block}
-use Rattle.saphyr_scanner.specs.Steps.Passing.{with_cursor}
 use Rattle.saphyr_scanner.specs.Steps.Scalar as scalar
-use Rattle.saphyr_scanner.specs.Steps.Scalar.{read_single_quoted, read_double_quoted, disallow_key, behind_quotes, behind_quoted_line, goes_on_behind_quotes, adjacent_here}
+use Rattle.saphyr_scanner.specs.Steps.Scalar.{quote_style, disallow_key, behind_quotes, behind_quoted_line, goes_on_behind_quotes, adjacent_here}
 use Rattle.saphyr_scanner.specs.Steps.Fetch.{step}
 use Rattle.yaml_laws.specs.Grammar.FlowScalars.{IsQuoted}
 use Rattle.yaml_laws.proofs.InFlow.States.{Around, core_at, reach, reach_low, Placed, placed_right, saves_key, FlowMoment}
-use Rattle.yaml_laws.proofs.InFlow.Tabs.{lands_on_ink}
-use Rattle.yaml_laws.proofs.Flow.States.{moved, past, crosses, IsClear, IsInk, EndsNode, IsBehindNode, IsBehindRoot, ReaderPromises, FitsAround, StandsBefore}
-use Rattle.yaml_laws.proofs.Flow.GapSteps.{past_again, past_ink}
+use Rattle.yaml_laws.proofs.InFlow.Tabs.{lands_on_content}
+use Rattle.yaml_laws.proofs.Flow.States.{moved, past, crosses, IsClear, IsContentStart, EndsNode, IsBehindNode, IsBehindRoot, ReaderPromises, FitsAround, StandsBefore}
+use Rattle.yaml_laws.proofs.Flow.GapSteps.{past_again, past_content}
 use Rattle.yaml_laws.proofs.Flow.Fillers.{EndsLine, rest_past, separation_past}
 use Rattle.yaml_laws.proofs.Flow.Tokens.{PassesGap, passes_gap, adjacent_at, token_passes, PassesToken}
 use Rattle.yaml_laws.proofs.Flow.Separates.{separates, separates_rest}
@@ -36,7 +35,7 @@ use Rattle.saphyr_input.specs.Indicators.{apostrophe}
 use Rattle.saphyr_scalar.proofs.Given.{cursor_at}
 use Rattle.saphyr_input.proofs.Basics.Booleans.{clash}
 use Rattle.saphyr_scanner.proofs.Levels.{saved}
-use Rattle.yaml_laws.proofs.Flow.Inks.{Begins, starts}
+use Rattle.yaml_laws.proofs.Flow.ContentStarts.{Begins, starts}
 
 -- ## After the closing quote
 
@@ -46,7 +45,7 @@ pub record EndsQuotes (around : Around) (start : Marker) (s : Cursor) (x : Conte
   pub there : Cursor
   pub is : separation Yes s ≡ Ok (found, there)
   pub lands : past around.indent there.mark there.rest ≡ past around.indent s.mark s.rest
-  pub inked : is_blank (slice_index (past around.indent s.mark s.rest).1 0) ≡ false
+  pub past_blanks : is_blank (slice_index (past around.indent s.mark s.rest).1 0) ≡ false
   pub stays : is_block x ≡ true → crosses s.rest ≡ true → crosses there.rest ≡ true
   pub goes : (d : Bool) (k : Option Candidate) (ls : List Level) (a : Bool) (ad : ℕ)
       → goes_on_behind_quotes start (core_at around d there x k ls a ad) ≡ true
@@ -69,34 +68,34 @@ goes_at_root : (around : Around) (d : Bool) (start : Marker) (s : Cursor) (k : O
 unfolding goes_on_behind_quotes
 goes_at_root around d start s k ls a ad e = or_left (is_breakz (slice_index s.rest 0)) _ e
 
-pub ends_node_ink : (node : Node) (w others : List ℕ) (c : ℕ) → EndsNode node w c others → IsInk c
+pub ends_node_content : (node : Node) (w others : List ℕ) (c : ℕ) → EndsNode node w c others → IsContentStart c
     × (ends_entry c ≡ true)
-ends_node_ink node w others c (inl e) =
+ends_node_content node w others c (inl e) =
     rw e (record { blank = refl; break = refl; comment = refl; byte_order_mark = refl }, refl)
-ends_node_ink node w others c (inr (inl e)) =
+ends_node_content node w others c (inr (inl e)) =
     rw e (record { blank = refl; break = refl; comment = refl; byte_order_mark = refl }, refl)
-ends_node_ink node w others c (inr (inr (inl e))) =
+ends_node_content node w others c (inr (inr (inl e))) =
     rw e (record { blank = refl; break = refl; comment = refl; byte_order_mark = refl }, refl)
-ends_node_ink node w others c (inr (inr (inr h))) =
+ends_node_content node w others c (inr (inr (inr h))) =
     rw h.0 (record { blank = refl; break = refl; comment = refl; byte_order_mark = refl }, refl)
 
 pub flow_ends_quotes : (around : Around) (node : Node) (start m : Marker) (o : List ℕ) (x : Context)
     → is_block x ≡ false → IsBehindNode around.indent node o → around.indent ≤ m.col
     → EndsQuotes around start (mid_line m o) x
 flow_ends_quotes around node start m o x flow h right =
-    let ink = ends_node_ink node h.separation h.others h.first h.ends in
-    let p = separates around.indent (mid_line m o) h.separation h.first h.others h.is h.parts right ink.0 in
+    let content = ends_node_content node h.separation h.others h.first h.ends in
+    let p = separates around.indent (mid_line m o) h.separation h.first h.others h.is h.parts right content.0 in
     let reached = ap (past around.indent m) h.is
     ∙ separation_past around.indent m h.separation (h.first ∷ h.others) h.parts right
-    ∙ past_ink around.indent (moved m h.separation) h.first h.others ink.0 in
+    ∙ past_content around.indent (moved m h.separation) h.first h.others content.0 in
     record {
       found = p.found;
       there = p.there;
       is = p.is;
       lands = p.lands;
-      inked = simp (reached, ink.0.blank);
+      past_blanks = simp (reached, content.0.blank);
       stays = λ b _. absurd (clash (is_block x) b flow);
-      goes = λ d k ls a ad. goes_in_flow around d start p.there x k ls a ad flow (first p.there.rest ink.1 p.ends);
+      goes = λ d k ls a ad. goes_in_flow around d start p.there x k ls a ad flow (first p.there.rest content.1 p.ends);
     }
   where
     first : (rest : List ℕ) → ends_entry h.first ≡ true
@@ -114,7 +113,8 @@ root_ends_quotes around start m o h right =
       there = there;
       is = p.1;
       lands = sym (cc (rest_past around.indent m h.rest h.more h.line h.break right));
-      inked = lands_on_ink around.column (past around.indent m o).0 (past around.indent m o).1 (h.lands right);
+      past_blanks = lands_on_content around.column (past around.indent m o).0 (past around.indent m o).1
+          (h.lands right);
       stays = λ _ e. line_rest_crosses h.rest h.more h.line h.break (ap crosses (sym h.is) ∙ e);
       goes = λ d k ls a ad. goes_at_root around d start there k ls a ad (first h.more h.break);
     }
@@ -131,28 +131,18 @@ pub behind_step : (around : Around) (d : Bool) (start : Marker) (style : Style) 
     ≡ completed_step (from_to start p.there.mark (tokens.Scalar style text) ∷ [])
     (core_at around d (cursor_at y m g.blank) x k ls g.allowed m.index)
 unfolding behind_quotes
-behind_step around d start style text s x k ls ad m y p g =
-    let c = core_at around d s x k ls false ad in
-    let token = λ (e : Core). completed_step (from_to start p.there.mark (tokens.Scalar style text) ∷ [])
-    (adjacent_here e) in
-    ap (λ q. (q >>= λ (e : SkipTabs × Cursor). Ok (e.0, with_cursor e.1 c))
-    >>= λ (e : SkipTabs × Core). behind_quoted_line start style text e.1) p.is
-    ∙ rw (p.goes d k ls false ad) (ap (λ q. q >>= token) (g.is d))
+behind_step around d start style text s x k ls ad m y p g = grind arith
 
 -- ## The scalar
-
-abbrev pub style_of_quote : Quote → Style
-style_of_quote Single = SingleQuoted
-style_of_quote Double = DoubleQuoted
 
 pub quoted_step : ReaderPromises → (around : Around) (d : Bool) (quote : Quote) (n : ℕ) (m : Marker) (b : Bool)
     (value t o : List ℕ) → IsQuoted quote around.indent value t → IsClear m t o
     → (slice_index o 0 == apostrophe) ≡ false
     → (x : Context) (k : Option Candidate) (ls : List Level) (a : Bool) (ad : ℕ) (c : ℕ) → c ≡ mark quote
     → Placed around x a m → step c (slice_index (t ++ o) 1) n (core_at around d (cursor_at (t ++ o) m b) x k ls a ad)
-    ≡ behind_quotes m (style_of_quote quote) (encode_utf8_all value)
+    ≡ behind_quotes m (quote_style quote) (encode_utf8_all value)
     (core_at around d (mid_line (moved m t) o) x (saved a n m k) ls false ad)
-unfolding step scalar.single_quoted_steps scalar.double_quoted_steps read_single_quoted read_double_quoted
+unfolding step scalar.quoted_steps
 quoted_step reads around d Single n m b value t o h clear ends x k ls a ad c first placed =
     let s = cursor_at (t ++ o) m b in
     let inner = core_at around d s x (saved a n m k) ls false ad in
@@ -178,16 +168,16 @@ pub quoted_passes : ReaderPromises → (around : Around) (quote : Quote) (value 
     → IsQuoted quote around.indent value t → FitsAround around m t o → (slice_index o 0 == apostrophe) ≡ false
     → (now : FlowMoment) → EndsQuotes around m (mid_line (moved m t) o) now.context → StandsBefore around now m (t ++ o)
     → PassesToken around (adjacent_at (past around.indent (moved m t) o).0.index) now m t o
-    (scalar_token (style_of_quote quote) value)
+    (scalar_token (quote_style quote) value)
 quoted_passes reads around quote value t o m h fits apart now p text =
     let first = subst Begins (sym h.5) (quote_first quote h.0) in
     let at_first : slice_index (t ++ o) 0 ≡ mark quote = simp h.5 in
     let behind = past around.indent (moved m t) o in
     let place = length now.places in
-    token_passes around None (adjacent_at behind.0.index) (scalar_token (style_of_quote quote) value) t o m first fits
+    token_passes around None (adjacent_at behind.0.index) (scalar_token (quote_style quote) value) t o m first fits
     (quoted_right around.indent quote m value t o h fits.clear fits.right) now text
     (λ b j e. let g = passes_gap around p.there now.context (saved e place m j) now.outer false now.adjacent behind.0
-    behind.1 p.lands p.inked in
+    behind.1 p.lands p.past_blanks in
     record {
       there = cursor_at behind.1 behind.0 g.blank;
       end = p.there.mark;
@@ -196,9 +186,9 @@ quoted_passes reads around quote value t o m h fits apart now p text =
       to = λ d. d;
       is = λ d. quoted_step reads around d quote place m b value t o h fits.clear apart now.context j now.outer e
           now.adjacent (slice_index (t ++ o) 0) at_first (placed_right now.context e fits.calm fits.right)
-          ∙ behind_step around d m (style_of_quote quote) (encode_utf8_all value) (mid_line (moved m t) o) now.context
+          ∙ behind_step around d m (quote_style quote) (encode_utf8_all value) (mid_line (moved m t) o) now.context
           (saved e place m j) now.outer now.adjacent behind.0 behind.1 p g;
       fits = past_again around.indent (moved m t) o;
       fresh = λ b e. or_left g.allowed (crosses behind.1) (g.fresh b (p.stays b e));
-      tells = refl;
+      holds = refl;
     })

@@ -1,6 +1,6 @@
 -- The scalars of a text in flow style are passed, with their properties.
-use Rattle.std.proofs.Common.{◌≡◌, ◌≢◌, ℕ, ◌≤◌, Bool, List, [], ◌∷◌, ◌++◌, refl, sym, arith, append_assoc, append-nil, inl, inr}
-use Rattle.std.specs.Prelude.{not, Option, None}
+use Rattle.std.proofs.Common.{◌≡◌, ◌≢◌, ℕ, ◌≤◌, Bool, List, [], ◌∷◌, ◌++◌, refl, arith, append_assoc, inl, inr}
+use Rattle.std.specs.Prelude.{not, None}
 use Rattle.std.proofs.lemmas.Bool.{false≢true}
 use Rattle.saphyr_input.specs.Indicators.{colon}
 use Rattle.saphyr_scalar.specs.declared.scalar.position.Marker.{Marker}
@@ -10,13 +10,12 @@ use Rattle.saphyr_scanner.specs.declared.engine.level.Context.{Context}
 use Rattle.saphyr_scanner.specs.Grammar.Tokens.{Kind, scalar_token}
 use Rattle.saphyr_scanner.specs.Grammar.TokenGrammar as grammar
 use Rattle.saphyr_scanner.specs.Steps.Level.{is_block}
-use Rattle.saphyr_scanner.specs.Grammar.Forest.{Style, Plain, Tag, Properties, HasOne, Node, Scalar}
-use Rattle.yaml_laws.specs.Grammar.FlowNodes as yaml
+use Rattle.saphyr_scanner.specs.Grammar.Forest.{Style, Plain, Properties, Node, Scalar}
 use Rattle.yaml_laws.specs.Grammar.FlowNodes.{allows_adjacent, IsProperties, IsBeforeContent, IsScalarNode, IsPlainKeyNode}
 use Rattle.yaml_laws.proofs.InFlow.States.{Around, FlowMoment}
 use Rattle.yaml_laws.proofs.Flow.States.{moved, ReaderPromises, after_node, keeping, Follows, IsLow, ReadsText}
-use Rattle.yaml_laws.proofs.Flow.Joins.{knowing, told}
-use Rattle.yaml_laws.proofs.Flow.Inks.{behind_low}
+use Rattle.yaml_laws.proofs.Flow.Joins.{knowing, mapped}
+use Rattle.yaml_laws.proofs.Flow.ContentStarts.{behind_low}
 use Rattle.yaml_laws.proofs.Flow.Ends.{white_ends_tag, ends_behind_separation, follows_tag}
 use Rattle.yaml_laws.proofs.Flow.Properties.{properties_read}
 use Rattle.yaml_laws.proofs.Flow.Contents.{content_passes, PassesContent, key_content_passes}
@@ -24,14 +23,9 @@ use Rattle.yaml_laws.proofs.Flow.Fronts.{behind_front}
 
 -- ## Tokens
 
-some_property : (anchor : Option (List ℕ)) (tag : Option Tag) (indent : ℕ) (t : List ℕ)
-    → yaml.AreProperties anchor tag indent t → HasOne anchor tag
-some_property anchor tag indent t h = grind arith
-
 pub empty_are : (p : Properties) (indent : ℕ) (t : List ℕ) (tokens : List Kind) (place : grammar.Context)
     → IsProperties p indent t → grammar.YieldProperties p tokens → grammar.YieldsNode (Scalar p Plain []) place tokens
-empty_are p indent t tokens place h are =
-    (tokens, [], are, inr (some_property p.anchor p.tag indent t h, refl, refl, refl), sym (append-nil tokens))
+empty_are p indent t tokens place h are = grind arith
 
 pub separation_ends : (indent : ℕ) (in_flow : Bool) (w b o : List ℕ) → w ≢ [] → IsSeparation indent w
     → EndsTag in_flow ((w ++ b) ++ o)
@@ -53,16 +47,7 @@ empty_passes reads around p m t o now h fits follows low text =
       are = λ place. empty_are p around.indent t r.tokens place h r.are;
       comment = None;
       none = λ _. refl;
-      passes = knowing r.passes (after_node around.indent now.context (keeping now m t) (allows_adjacent node) end o)
-          (record {
-            piece = known.piece;
-            others = known.others;
-            is = known.is;
-            keeps = known.keeps;
-            since = r.passes.knows.since;
-            near = λ e separation more is parts allows. absurd (false≢true allows);
-            low = rw r.passes.knows.still (behind_low around.indent now.adjacent m t o low.0);
-          });
+      passes = grind (arith, knowing, after_node, keeping, false≢true, behind_low);
     }
 
 -- ## Content, after properties or without any
@@ -82,7 +67,7 @@ content_node : ReaderPromises → (around : Around) (p : Properties) (style : St
     → PassesContent around (Scalar p style value) style value content o e next)
     → ReadsText around (Scalar p style value) m (front ++ content) o now
 content_node reads around p style value front content o m now before g fits follows low text =
-    told (λ ts h place. (h.0, h.1, h.2, inl h.3, h.4)) (λ w h. h)
+    mapped (λ ts h place. (h.0, h.1, h.2, inl h.3, h.4)) (λ w h. h)
     (behind_front reads around p (λ ts. ts ≡ scalar_token style value ∷ []) (allows_adjacent (Scalar p style value)) m
     front content o before fits now text (λ e place later inner next same_context same_outer same_adjacent at.
     g e next (cc) inner (follows_content same_context place follows)

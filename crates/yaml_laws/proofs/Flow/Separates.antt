@@ -1,13 +1,12 @@
 -- Blanks and a comment after a token of a text in flow style are passed, up to the end of the line.
 use Rattle.std.proofs.Common.{◌≡◌, ◌≢◌, ℕ, ◌+◌, ◌<◌, ◌≤◌, Bool, true, false, List, [], ◌∷◌, ◌++◌, length, drop, slice_index, Ok, refl, sym, ap, ◌∙◌, arith, subst, append_assoc, append-nil, IsTrue, ◌⊎◌, inl, inr, cond}
 use Rattle.std.specs.Prelude.{◌==◌, not}
-use Rattle.std.specs.List.{prefix_len}
 use Rattle.std.proofs.Math.Seq.{drop-append_seam}
 use Rattle.std.proofs.lemmas.Bool.Decides.{nat_tests}
 use Rattle.std.proofs.lemmas.List.{length-append}
 use Rattle.saphyr_input.specs.Indicators.{number_sign}
 use Rattle.saphyr_input.specs.Classes.{is_blank, is_break, is_bom, is_yaml_non_break, line_feed}
-use Rattle.saphyr_input.specs.Separation.{comment_len, separation_len, found_blanks}
+use Rattle.saphyr_input.specs.Separation.{separation_len, found_blanks}
 use Rattle.saphyr_input.specs.declared.input.SkipTabs.{SkipTabs}
 use Rattle.saphyr_input.specs.declared.input.SkipTabs.TheVariants.{Yes}
 use Rattle.saphyr_scalar.specs.declared.scalar.position.Marker.{Marker}
@@ -16,7 +15,7 @@ use Rattle.saphyr_scalar.specs.Spelling.Tag.{AreIn}
 use Rattle.saphyr_scalar.specs.Reading.BlockLines.{spaces}
 use Rattle.saphyr_scalar.proofs.Runs.{run_len}
 use Rattle.scalar_laws.specs.Spelling.Spaces.{joined_pieces, AreEach, IsComment, IsCommentBehind, IsSeparationLine, IsSeparation, IsLineRest}
-use Rattle.yaml_laws.proofs.Flow.States.{moved, past, IsInk}
+use Rattle.yaml_laws.proofs.Flow.States.{moved, past, IsContentStart}
 use Rattle.yaml_laws.proofs.Flow.Places.{moved_along}
 use Rattle.yaml_laws.proofs.Flow.Fillers.{EndsLine, blanks_past, front_past, behind_is}
 use Rattle.saphyr_input.proofs.Basics.Characters.{blank_no_feed, non_break_no_feed}
@@ -33,24 +32,8 @@ pub record StopsLine (comment more : List ℕ) : Type 0 where
 pub line_stops : (comment more : List ℕ) → EndsLine more → StopsLine comment more
 line_stops comment more h = grind (arith)
 
-pub ink_stops : (c : ℕ) (cs : List ℕ) → IsInk c → StopsLine [] (c ∷ cs)
-ink_stops c cs h = record {
-  mark = h.byte_order_mark;
-  blank = λ _. h.blank;
-  sign = λ _. h.comment;
-  word = λ n. absurd (n refl);
-}
-
-comment_counts : (blanks comment more : List ℕ) → IsCommentBehind blanks comment → StopsLine comment more
-    → comment_len (comment ++ more) ≡ length comment
-comment_counts blanks comment more (inl e) h = rw (e, h.sign e) refl
-comment_counts blanks comment more (inr (some, (words, are, is))) h =
-    let other : comment ≢ [] = λ e. absurd (let f : [] ≡ 35 ∷ words = sym e ∙ is in cc) in
-    let run = run_len is_yaml_non_break words more are (h.word other) in rw is (counted words run)
-  where
-    counted : (words : List ℕ) → prefix_len is_yaml_non_break (words ++ more) ≡ length words
-        → comment_len (number_sign ∷ (words ++ more)) ≡ length (number_sign ∷ words)
-    counted words run = omega (arith, run)
+pub content_stops : (c : ℕ) (cs : List ℕ) → IsContentStart c → StopsLine [] (c ∷ cs)
+content_stops c cs h = grind arith
 
 blank_no_sign : (c : ℕ) → is_blank c ≡ true → (c == number_sign) ≡ false
 blank_no_sign c h = grind (arith, nat_tests)
@@ -61,15 +44,8 @@ starts_white (c ∷ cs) comment more are k h = blank_no_sign c are.0
 starts_white [] comment more are (inl e) h = ap (λ (t : List ℕ). slice_index (t ++ more) 0 == 35) e ∙ h.sign e
 starts_white [] comment more are (inr k) h = absurd (k.0 refl)
 
-pub blank_stops : (blanks comment more : List ℕ) → IsCommentBehind blanks comment → StopsLine comment more
-    → is_blank (slice_index (comment ++ more) 0) ≡ false
-blank_stops blanks comment more h k = grind arith
-
 none_or_some : (n k : ℕ) → (k ≡ 0) ⊎ (0 < n) → cond (n == 0) 0 (n + k) ≡ n + k
-none_or_some n k (inl e) = rw e (by_some n)
-  where
-    by_some : (n : ℕ) → cond (n == 0) 0 (n + 0) ≡ n + 0
-    by_some n = grind (arith, nat_tests)
+none_or_some n k (inl e) = grind arith
 none_or_some n k (inr h) = grind (arith, nat_tests)
 
 parted : (blanks comment : List ℕ) → IsCommentBehind blanks comment → (length comment ≡ 0) ⊎ (0 < length blanks)
@@ -79,14 +55,7 @@ parted (c ∷ cs) comment (inr k) = inr (omega arith)
 
 counts : (blanks comment more : List ℕ) → AreIn is_blank blanks → IsCommentBehind blanks comment
     → StopsLine comment more → separation_len Yes (blanks ++ (comment ++ more)) ≡ length (blanks ++ comment)
-counts blanks comment more are k h =
-    let n = run_len is_blank blanks (comment ++ more) are (blank_stops blanks comment more k h) in
-    rw (
-      n,
-      drop-append_seam blanks (comment ++ more),
-      comment_counts blanks comment more k h,
-    ) (none_or_some (length blanks) (length comment) (parted blanks comment k)
-    ∙ sym (length-append blanks comment))
+counts blanks comment more are k h = grind (arith, run_len, drop-append_seam, none_or_some, parted, length-append)
 
 -- blanks and a comment, or none
 pub line_separated : (s : Cursor) (blanks comment more : List ℕ) → s.rest ≡ blanks ++ (comment ++ more)
@@ -123,8 +92,7 @@ blanks_moved m w h = moved_along m w (within is_blank (λ c. not (c == line_feed
 
 pub front_moved : (m : Marker) (blanks comment : List ℕ) → AreIn is_blank blanks → (comment ≡ []) ⊎ IsComment comment
     → moved m (blanks ++ comment) ≡ along m (length (blanks ++ comment))
-front_moved m blanks comment h k = moved_along m (blanks ++ comment) (both_in (λ c. not (c == line_feed)) blanks comment
-    (within is_blank (λ c. not (c == line_feed)) blank_no_feed blanks h) (comment_on_line comment k))
+front_moved m blanks comment h k = search (moved_along, both_in, within, blank_no_feed, comment_on_line)
 
 -- ## What is passed before the character that begins a token
 
@@ -138,14 +106,14 @@ pub record Separates (column : ℕ) (s : Cursor) (w y : List ℕ) : Type 0 where
   pub near : AreIn is_blank w → (there.rest ≡ y) × (there.mark ≡ moved s.mark w)
 
 separates_on_line : (column : ℕ) (s : Cursor) (blanks : List ℕ) (c : ℕ) (cs : List ℕ) → s.rest ≡ blanks ++ (c ∷ cs)
-    → AreIn is_blank blanks → column ≤ s.mark.col → IsInk c → Separates column s blanks (c ∷ cs)
-separates_on_line column s blanks c cs is are low ink =
+    → AreIn is_blank blanks → column ≤ s.mark.col → IsContentStart c → Separates column s blanks (c ∷ cs)
+separates_on_line column s blanks c cs is are low content =
     let mark : along s.mark (length (blanks ++ [])) ≡ moved s.mark blanks =
     ap (λ (t : List ℕ). along s.mark (length t)) (append-nil blanks) ∙ sym (blanks_moved s.mark blanks are) in
     record {
       found = found_blanks Yes s.rest;
       there = record { rest = c ∷ cs; mark = along s.mark (length (blanks ++ [])); blank_so_far = s.blank_so_far };
-      is = line_separated s blanks [] (c ∷ cs) is are (inl refl) (ink_stops c cs ink);
+      is = line_separated s blanks [] (c ∷ cs) is are (inl refl) (content_stops c cs content);
       lands = ap (λ (m : Marker). past column m (c ∷ cs)) mark
           ∙ sym (ap (past column s.mark) is ∙ (blanks_past column blanks are s.mark low).is (c ∷ cs));
       ends = inr refl;
@@ -159,10 +127,7 @@ pub line_rest : (s : Cursor) (blanks comment more : List ℕ) → s.rest ≡ bla
 line_rest s blanks comment more is are k ends =
     let mark = front_moved s.mark blanks comment are (behind_is blanks comment k) in (
       found_blanks Yes s.rest,
-      line_separated s blanks comment more is are k (line_stops comment more ends) ∙ ap (λ (m : Marker). Ok
-          (let t : SkipTabs × Cursor =
-          (found_blanks Yes s.rest, record { rest = more; mark = m; blank_so_far = s.blank_so_far }) in t))
-          (sym mark),
+      grind (arith, line_separated, line_stops),
     )
 
 pub separates_rest : (s : Cursor) (rest more : List ℕ) → s.rest ≡ rest ++ more → IsLineRest rest → EndsLine more
@@ -172,8 +137,7 @@ separates_rest s rest more is (front, comment, blank, k, e) ends =
     let text : s.rest ≡ front ++ (comment ++ more) = cc (append_assoc front comment more) in
     let r = line_rest s front comment more text blank k ends in (
       r.0,
-      r.1 ∙ ap (λ (t : List ℕ). Ok (let u : SkipTabs × Cursor =
-          (r.0, record { rest = more; mark = moved s.mark t; blank_so_far = s.blank_so_far }) in u)) (sym e),
+      grind (arith, moved),
     )
 
 no_blank_feed : (a b : List ℕ) → AreIn is_blank (a ++ (line_feed ∷ b)) → ⊥
@@ -197,15 +161,16 @@ over_lines column s w blanks comment more c cs is text wide are k low =
     }
 
 pub separates : (column : ℕ) (s : Cursor) (w : List ℕ) (c : ℕ) (cs : List ℕ) → s.rest ≡ w ++ (c ∷ cs)
-    → IsSeparation column w → column ≤ s.mark.col → IsInk c → Separates column s w (c ∷ cs)
-separates column s w c cs is (lines, blanks, (pieces, each, lines_are), are, e) low ink = by_lines pieces each lines_are
+    → IsSeparation column w → column ≤ s.mark.col → IsContentStart c → Separates column s w (c ∷ cs)
+separates column s w c cs is (lines, blanks, (pieces, each, lines_are), are, e) low content =
+    by_lines pieces each lines_are
   where
     by_lines : (pieces : List (List ℕ)) → AreEach (IsSeparationLine column) pieces → lines ≡ joined_pieces pieces
         → Separates column s w (c ∷ cs)
     by_lines [] each lines_are =
         let same : w ≡ blanks = e ∙ ap (λ (t : List ℕ). t ++ blanks) lines_are in
         subst (λ (v : List ℕ). Separates column s v (c ∷ cs)) (sym same)
-        (separates_on_line column s blanks c cs (is ∙ ap (λ (t : List ℕ). t ++ (c ∷ cs)) same) are low ink)
+        (separates_on_line column s blanks c cs (is ∙ ap (λ (t : List ℕ). t ++ (c ∷ cs)) same) are low content)
     by_lines (p ∷ ps) ((first, comment, filler, first_are, k, filler_is, line_is), others) lines_are =
         let more = (filler ++ spaces column) ++ (joined_pieces ps ++ (blanks ++ (c ∷ cs))) in
         let inside : w ≡ first ++ (comment ++ (10 ∷ ((filler ++ spaces column) ++ (joined_pieces ps ++ blanks)))) =

@@ -1,20 +1,19 @@
 -- What comes after a `?` in flow style is passed.
-use Rattle.std.proofs.Common.{suc, ◌≡◌, ◌≢◌, ℕ, ◌≤◌, Bool, true, false, List, [], ◌∷◌, ◌++◌, length, slice_index, refl, sym, ap, ◌∙◌, arith, append_assoc, ◌⊎◌, inl, inr}
+use Rattle.std.proofs.Common.{suc, ◌≡◌, ◌≢◌, ℕ, ◌≤◌, Bool, true, false, List, [], ◌∷◌, ◌++◌, length, refl, sym, ap, ◌∙◌, arith, append_assoc, ◌⊎◌, inl, inr}
 use Rattle.std.specs.Prelude.{◌||◌, ◌&&◌, ◌==◌, not}
 use Rattle.std.proofs.lemmas.Bool.Decides.{nat_tests}
 use Rattle.saphyr_input.specs.Classes.{is_blank, is_break, tab, carriage_return, line_feed}
 use Rattle.saphyr_scalar.specs.declared.scalar.position.Marker.{Marker}
-use Rattle.saphyr_scalar.specs.Views.Cursor.{along, next_line}
 use Rattle.saphyr_scalar.specs.Reading.BlockLines.{spaces as spaces_of}
 use Rattle.saphyr_scalar.specs.Spelling.Tag.{AreIn}
 use Rattle.scalar_laws.specs.Spelling.Spaces.{joined_pieces, AreEach, IsCommentBehind, IsSeparationLine, IsSeparation}
 use Rattle.saphyr_scanner.specs.Steps.Gap.{spaces_end, end_of_spaces}
 use Rattle.yaml_laws.specs.Grammar.FlowNodes.{has_tab_outside}
-use Rattle.yaml_laws.proofs.Flow.States.{moved, past, past_comment, IsInk}
-use Rattle.yaml_laws.proofs.Flow.GapSteps.{past_ink, past_shorter, comment_shorter}
+use Rattle.yaml_laws.proofs.Flow.States.{moved, past, past_comment, IsContentStart}
+use Rattle.yaml_laws.proofs.Flow.GapSteps.{past_content, past_shorter, comment_shorter}
 use Rattle.yaml_laws.proofs.Flow.GapWalks.{OverGap, over_gap, no_stop}
 use Rattle.yaml_laws.proofs.Flow.Fillers.{separation_past}
-use Rattle.yaml_laws.proofs.InBlock.Gaps.{ink_stop}
+use Rattle.yaml_laws.proofs.InBlock.Gaps.{content_stop}
 use Rattle.yaml_laws.proofs.InBlock.Skips.{has_tab, comment_has_tab, spaces_reach}
 use Rattle.yaml_laws.proofs.InBlock.Untabbed.{settles}
 use Rattle.saphyr_input.specs.Indicators.{number_sign}
@@ -53,30 +52,14 @@ over_outside =
     record {
       ends = λ m w is h. refl;
       tab = λ m c cs t. absurd (no_stop m c cs t);
-      white = λ m c cs t e on w is h.
-          let p = passed c cs w (past 0 (along m 1) cs).1 (rw (t, e) at is) (past_shorter 0 (along m 1) cs) in
-          let n = outside c p.0 w false (white_no_sign c (slice_index cs 0 == 10) e) p.1 h in
-          rw (e, n.0) (on p.0 p.2 n.1);
-      break = λ m c cs t e f on w is h.
-          let p = passed c cs w (past 0 (next_line m 1) cs).1 (rw (t, e, f) at is)
-          (past_shorter 0 (next_line m 1) cs) in
-          rw (e, f) (on p.0 p.2 (outside c p.0 w false (break_no_sign c f) p.1 h).1);
-      sign = λ m c cs t e f g on w is h.
-          let p = passed c cs w (past_comment 0 (along m 1) cs).1 (rw (t, e, f, g) at is)
-          (comment_shorter 0 (along m 1) cs) in
-          rw (e, f, g) (on p.0 p.2 (outside c p.0 w true g p.1 h).1);
+      white = grind (arith, passed, past, past_shorter, outside, white_no_sign);
+      break = grind (arith, passed, past, past_shorter, outside, break_no_sign);
+      sign = grind (arith, passed, past_comment, comment_shorter, outside);
       token = λ m c cs t e f g w is h. rw (e, f, g) refl;
       comment_ends = λ m w is h. refl;
-      word = λ m c cs e on w is h.
-          let p = passed c cs w (past_comment 0 (along m 1) cs).1 (rw e at is) (comment_shorter 0 (along m 1) cs) in
-          rw e (on p.0 p.2 (outside_comment c p.0 w false (non_break_no_break c e) p.1 h));
-      return = λ m c cs e f on w is h.
-          let p = passed c cs w (past 0 (along m 1) cs).1 (rw (e, f) at is) (past_shorter 0 (along m 1) cs) in
-          rw (e, f) (on p.0 p.2 (outside_comment c p.0 w true (return_breaks c (slice_index cs 0 == 10) f) p.1 h));
-      line = λ m c cs e f g on w is h.
-          let p = passed c cs w (past 0 (next_line m 1) cs).1 (rw (e, f, g) at is)
-          (past_shorter 0 (next_line m 1) cs) in
-          rw (e, f, g) (on p.0 p.2 (outside_comment c p.0 w true g p.1 h));
+      word = grind (arith, passed, past_comment, comment_shorter, outside_comment, non_break_no_break);
+      return = grind (arith, passed, past, past_shorter, outside_comment, return_breaks);
+      line = grind (arith, passed, past, past_shorter, outside_comment);
       other = λ m c cs e f g w is h. rw (e, f, g) refl;
     }
 
@@ -121,19 +104,18 @@ pub record PassesSpaces (m : Marker) (blank : Bool) (w y : List ℕ) : Type 0 wh
   pub is : end_of_spaces m blank false (w ++ y) ≡ spaces_end (moved m w) still_blank true y
 
 pub spaces_passed : (column : ℕ) (m : Marker) (blank : Bool) (w : List ℕ) (c : ℕ) (cs : List ℕ) → IsSeparation column w
-    → column ≤ m.col → w ≢ [] → has_tab_outside false w ≡ false → IsInk c → PassesSpaces m blank w (c ∷ cs)
-spaces_passed column m blank w c cs parts low some tabs ink =
+    → column ≤ m.col → w ≢ [] → has_tab_outside false w ≡ false → IsContentStart c → PassesSpaces m blank w (c ∷ cs)
+spaces_passed column m blank w c cs parts low some tabs content =
     let b = separation_begins column w parts some in
-    let there = separation_past column m w (c ∷ cs) parts low ∙ past_ink column (moved m w) c cs ink in
-    let same = (settles column m (w ++ (c ∷ cs)) (rw there (ink_stop c cs ink))).0 ∙ there in
+    let there = separation_past column m w (c ∷ cs) parts low ∙ past_content column (moved m w) c cs content in
+    let same = (settles column m (w ++ (c ∷ cs)) (rw there (content_stop c cs content))).0 ∙ there in
     let clean = over_gap over_outside m (w ++ (c ∷ cs)) w (cc) tabs in
     let front = ap (λ (v : List ℕ). v ++ (c ∷ cs)) b.is in
     let reached = spaces_reach m blank b.first (b.others ++ (c ∷ cs)) (by_first b.first b.others b.is b.white)
     (ap has_tab (sym front) ∙ clean) in
     record {
       still_blank = reached.0;
-      is = ap (end_of_spaces m blank false) front ∙ reached.1
-          ∙ ap (λ (p : Marker × List ℕ). spaces_end p.0 reached.0 true p.1) (ap (past 0 m) (sym front) ∙ same);
+      is = grind (arith, past);
     }
   where
     by_first : (d : ℕ) (ds : List ℕ) → w ≡ d ∷ ds → (is_blank d ≡ true) ⊎ (d ≡ line_feed) → (d ≡ 32) ⊎ (d ≡ line_feed)

@@ -114,7 +114,7 @@ pub record IsClear (m : Marker) (piece behind : List ℕ) : Type 0 where
 -- ## What comes after
 
 -- a character that begins neither a blank, a break nor a comment, and is no byte order mark
-pub record IsInk (c : ℕ) : Type 0 where
+pub record IsContentStart (c : ℕ) : Type 0 where
   pub blank : is_blank c ≡ false
   pub break : is_break c ≡ false
   pub comment : (c == number_sign) ≡ false
@@ -131,7 +131,7 @@ pub record IsBehind (indent : ℕ) (Ends : List ℕ → ℕ → List ℕ → Typ
 
 -- separation, and a character after it that begins a token
 abbrev pub IsParted : ℕ → List ℕ → Type 0
-IsParted indent o = IsBehind indent (λ w c cs. IsInk c) o
+IsParted indent o = IsBehind indent (λ w c cs. IsContentStart c) o
 
 -- what may come after a colon that comes right after no quote or bracket
 abbrev pub ends_colon : ℕ → Bool

@@ -1,6 +1,6 @@
 -- The next token of a text in flow style is reached, and read and passed by a step.
 use Rattle.std.proofs.Common.{◌≡◌, ◌⊎◌, inl, inr, ℕ, ◌≤◌, Bool, true, false, List, [], ◌∷◌, ◌++◌, length, slice_index, refl, ap, ◌∙◌, arith, ◌+◌, Ok}
-use Rattle.std.specs.Prelude.{◌==◌, Option, None, ◌||◌, ◌&&◌, Some}
+use Rattle.std.specs.Prelude.{◌==◌, Option, None, ◌||◌, ◌&&◌}
 use Rattle.saphyr_input.specs.Indicators.{percent_sign}
 use Rattle.saphyr_input.specs.Classes.{is_blank, is_z, is_bom}
 use Rattle.saphyr_scalar.specs.declared.scalar.position.Marker.{Marker}
@@ -9,12 +9,12 @@ use Rattle.saphyr_scanner.specs.declared.engine.level.Context.{Context}
 use Rattle.saphyr_scanner.specs.Grammar.Tokens.{Kind}
 use Rattle.saphyr_scanner.specs.Views.Tokens.{Piece}
 use Rattle.saphyr_scanner.specs.Steps.Queue.{Place, bare_place, Queue}
-use Rattle.saphyr_scanner.specs.Steps.Core.{from_to, completed_step, Action, perform, drop_far_key}
+use Rattle.saphyr_scanner.specs.Steps.Core.{from_to, completed_step, Action, perform}
 use Rattle.saphyr_scanner.specs.Steps.Level.{Candidate, Level, is_block}
 use Rattle.saphyr_scanner.specs.Steps.Fetch.{step, state_behind_content, fetch_here, arrive, fetch}
 use Rattle.yaml_laws.proofs.InFlow.States.{Around, core_at, state_at, FlowMoment, moment, noted_core, noted, reach, reach_low, in_column, not_left, drops_far_key, key_left, left_in_flow, left_or_none, none_unrolls, ComesAround, comes}
 use Rattle.yaml_laws.proofs.Flow.States.{moved, past, IsClear, IsFresh, Since, KeptKey, keeping, Known, PassesNoting, PassesPiece, FitsAround, StandsBefore, crosses}
-use Rattle.yaml_laws.proofs.Flow.Inks.{Begins}
+use Rattle.yaml_laws.proofs.Flow.ContentStarts.{Begins}
 use Rattle.yaml_laws.proofs.Flow.Places.{moved_count, clear_here}
 use Rattle.yaml_laws.proofs.Flow.GapSteps.{past_count}
 use Rattle.saphyr_scalar.proofs.Given.{cursor_at}
@@ -22,10 +22,8 @@ use Rattle.saphyr_scanner.proofs.Queues.{token_place, queue_of}
 use Rattle.saphyr_scanner.proofs.Levels.{saved}
 use Rattle.std.proofs.Math.Nat.{zero-add}
 use Rattle.saphyr_input.specs.Places.{is_document_indicator}
-use Rattle.saphyr_scanner.specs.Steps.Gap.{GapEnd, stop}
-use Rattle.saphyr_scanner.specs.Steps.Passing.{pass_gap, check_comment, behind_gap}
-use Rattle.saphyr_scanner.specs.Steps.State.{State, on_core, after_step}
-use Rattle.saphyr_scanner.specs.Steps.Unrolling.{unroll}
+use Rattle.saphyr_scanner.specs.Steps.Passing.{pass_gap, check_comment}
+use Rattle.saphyr_scanner.specs.Steps.State.{State, after_step}
 use Rattle.yaml_laws.proofs.InBlock.Untabbed.{gap_past}
 use Rattle.saphyr_input.proofs.Basics.Booleans.{and_false, and_or_false}
 use Rattle.saphyr_scanner.proofs.Gaps.{stop_here}
@@ -44,16 +42,13 @@ pub passes_gap : (around : Around) (s : Cursor) (x : Context) (k : Option Candid
     (ad : ℕ) (m : Marker) (y : List ℕ) → past around.indent s.mark s.rest ≡ (m, y)
     → is_blank (slice_index y 0) ≡ false → PassesGap around s x k ls a ad m y
 unfolding pass_gap check_comment
-passes_gap around s x k ls a ad m y here inked =
+passes_gap around s x k ls a ad m y here past_blanks =
     let g = gap_past around.indent s.mark s.blank_so_far s.rest in
-    let stands = ap (λ (p : Marker × List ℕ). is_blank (slice_index p.1 0)) here ∙ inked in
+    let stands = ap (λ (p : Marker × List ℕ). is_blank (slice_index p.1 0)) here ∙ past_blanks in
     record {
       blank = g.still_blank;
       allowed = (crosses s.rest && is_block x) || a;
-      is = λ d. let there = g.is stands (reach around d) (reach_low around d)
-          ∙ ap (λ (p : Marker × List ℕ). stop p.0 g.still_blank (crosses s.rest) false p.1) here
-          ∙ stop_here m g.still_blank (crosses s.rest) y in
-          ap (λ r. r >>= λ (p : GapEnd). check_comment (behind_gap (core_at around d s x k ls a ad) p)) there;
+      is = grind (arith, reach, reach_low, crosses, stop_here, core_at);
       same = λ e. rw e (ap (λ (b : Bool). b || a) (and_false (crosses s.rest)));
       fresh = λ e h. rw (h, e) refl;
     }
@@ -74,20 +69,15 @@ pub arrives : (around : Around) (now : FlowMoment) (m : Marker) (y : List ℕ) �
     now.cursor.rest ≡ (m, y) → is_blank (slice_index y 0) ≡ false → around.indent ≤ m.col → around.pending ≡ false
     → Arrives around now m y
 unfolding arrive
-arrives around now m y text inked right calm =
-    let g = passes_gap around now.cursor now.context now.key now.outer now.allowed now.adjacent m y text inked in
+arrives around now m y text past_blanks right calm =
+    let g = passes_gap around now.cursor now.context now.key now.outer now.allowed now.adjacent m y text past_blanks in
     let there = cursor_at y m g.blank in
     let left = key_left now.context now.key m in
     record {
       blank = g.blank;
       key = left;
       allowed = g.allowed;
-      is = λ d. let reached = ap (λ r. r >>= drop_far_key) (g.is d) ∙ drops_far_key around None d there now.context
-          now.key now.outer g.allowed now.adjacent calm in
-          ap (λ r. on_core r (queue_of now.places) >>= λ (t : State). Ok
-          (unroll (Some t.core.cursor.mark.col) t.core.cursor.mark t)) reached
-          ∙ ap Ok (none_unrolls around m.col m there now.context left now.outer g.allowed now.adjacent now.places d
-          right);
+      is = grind (arith, drops_far_key, queue_of, none_unrolls);
       right = right;
       calm = calm;
       same = λ e. (left_in_flow now.context now.key m e, g.same e);
@@ -140,14 +130,14 @@ within_index column limit t m o e h = grind (arith, past_count, past)
 pub begins_past : (column : ℕ) (m : Marker) (p o : List ℕ) → Begins p → past column m (p ++ o) ≡ (m, p ++ o)
 begins_past column m p o b = grind arith
 
-pub begins_inked : (p o : List ℕ) → Begins p → is_blank (slice_index (p ++ o) 0) ≡ false
-begins_inked p o b = ap (λ (t : List ℕ). is_blank (slice_index (t ++ o) 0)) b.is ∙ b.ink.blank
+pub begins_no_blank : (p o : List ℕ) → Begins p → is_blank (slice_index (p ++ o) 0) ≡ false
+begins_no_blank p o b = ap (λ (t : List ℕ). is_blank (slice_index (t ++ o) 0)) b.is ∙ b.content.blank
 
 pub begins_token : (m : Marker) (p o : List ℕ) → Begins p → IsClear m p o → BeginsToken m (p ++ o)
 begins_token m p o b clear =
     let here = clear_here m b.first b.others o (rw b.is at clear) in
     let token : BeginsToken m (b.first ∷ (b.others ++ o)) =
-    record { nul = b.nul; byte_order_mark = b.ink.byte_order_mark; directive = b.directive; marker = here } in
+    record { nul = b.nul; byte_order_mark = b.content.byte_order_mark; directive = b.directive; marker = here } in
     rw (ap (λ (t : List ℕ). t ++ o) b.is) token
 
 -- A step over a token that is at m: y is what is there, and after the token o is at n. A comment may have ended it.
@@ -165,7 +155,7 @@ pub record TokenStep (around : Around) (comment : Option Marker) (says : Bool �
       (noted_core comment (core_at around (to d) there x (saved e place m j) ls allowed adjacent))
   pub fits : past around.indent there.mark there.rest ≡ past around.indent n o
   pub fresh : IsFresh x o allowed there
-  pub tells : says allowed adjacent
+  pub holds : says allowed adjacent
 
 -- what is known after a token
 pub record IsAfterToken (says : Bool → ℕ → Type 0) (x : Context) (kept : KeptKey) (key : Option Candidate)
@@ -175,7 +165,7 @@ pub record IsAfterToken (says : Bool → ℕ → Type 0) (x : Context) (kept : K
   pub is : new ≡ bare_place piece ∷ []
   pub keeps : is_block x ≡ false → key ≡ kept.kept
   pub since : Since kept.before kept.from kept.over key
-  pub tells : says allowed adjacent
+  pub holds : says allowed adjacent
 
 -- a colon may come at once at this place alone
 abbrev pub adjacent_at : ℕ → Bool → ℕ → Type 0
@@ -210,7 +200,7 @@ pub token_passes : (around : Around) (comment : Option Marker) (says : Bool → 
     → PassesNoting comment around (state_at around now) (after_token says now.context (keeping now m p)) now.context
     now.outer now.places (moved m p) o (kind ∷ [])
 token_passes around comment says kind p o m f fits right now text steps =
-    let v = arrives around now m (p ++ o) (text ∙ begins_past around.indent m p o f) (begins_inked p o f)
+    let v = arrives around now m (p ++ o) (text ∙ begins_past around.indent m p o f) (begins_no_blank p o f)
     fits.right fits.calm in
     let w = steps v.blank v.key v.allowed in
     let count = moved_count m p o in
@@ -236,6 +226,6 @@ token_passes around comment says kind p o m f fits right now text steps =
         is = refl;
         keeps = λ e. came.same e ∙ same_saved (length now.places) m now.allowed v.allowed now.key v.key (v.same e);
         since = saved_since v.allowed (length now.places) m now.key v.key p came.key v.kept came.kept;
-        tells = w.tells;
+        holds = w.holds;
       };
     }

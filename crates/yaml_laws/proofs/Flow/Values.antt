@@ -1,6 +1,6 @@
 -- The colons of a text in flow style are read, after a key and without one, and passed as pieces.
 use Rattle.std.proofs.Common.{◌≡◌, ℕ, ◌≤◌, Bool, true, false, List, [], ◌∷◌, ◌++◌, length, slice_index, refl, sym, ap, ◌∙◌, arith, append_assoc, IsTrue, ◌⊎◌, inl, inr, Ok}
-use Rattle.std.specs.Prelude.{Option, Some, None, ◌||◌, ◌==◌, not}
+use Rattle.std.specs.Prelude.{Option, Some, None, ◌==◌}
 use Rattle.saphyr_scalar.specs.declared.scalar.position.Marker.{Marker}
 use Rattle.saphyr_scalar.specs.Views.Cursor.{Cursor, along, ◌>>=◌}
 use Rattle.saphyr_scalar.proofs.Given.{cursor_at}
@@ -9,7 +9,7 @@ use Rattle.saphyr_scanner.specs.declared.engine.level.Context.{Context}
 use Rattle.saphyr_scanner.specs.Grammar.Tokens as tokens
 use Rattle.saphyr_scanner.specs.Grammar.Tokens.{Kind}
 use Rattle.saphyr_scanner.specs.Steps.Queue.{Place, bare_place, empty_piece}
-use Rattle.saphyr_scanner.specs.Steps.Core.{Action, Open, at_mark, completed_step, perform, Core, Put, StepResult}
+use Rattle.saphyr_scanner.specs.Steps.Core.{Action, Open, at_mark, completed_step, perform, Core, Put}
 use Rattle.saphyr_scanner.specs.Steps.Level.{Candidate, Level, is_block, begins_pair, behind_colon}
 use Rattle.saphyr_scanner.specs.Steps.Value as value
 use Rattle.saphyr_scanner.specs.Steps.Value.{value_alone, opening_actions, check_tab, refuse_lone_tab, value_of_key, behind_key}
@@ -19,18 +19,17 @@ use Rattle.yaml_laws.specs.Grammar.FlowNodes.{allows_adjacent}
 use Rattle.yaml_laws.proofs.InFlow.States.{Around, core_at, state_at, chains, moment, FlowMoment, moment_in, moment_with}
 use Rattle.yaml_laws.proofs.Flow.States.{moved, past, IsParted, ends_colon, KeptKey, no_key, after_node, PassesPiece, FitsAround, after, StandsBefore}
 use Rattle.yaml_laws.proofs.Flow.Places.{right_one}
-use Rattle.yaml_laws.proofs.Flow.GapSteps.{past_ink}
+use Rattle.yaml_laws.proofs.Flow.GapSteps.{past_content}
 use Rattle.yaml_laws.proofs.Flow.Fillers.{separation_past}
 use Rattle.yaml_laws.proofs.Flow.Tokens.{arrives, step_comes, within_index}
 use Rattle.yaml_laws.proofs.Flow.Joins.{step_passes}
 use Rattle.yaml_laws.proofs.InBlock.Crossings.{fresh_in_flow}
 use Rattle.yaml_laws.proofs.Flow.Brackets.{mark_begins, mark_moved, one_on, IsTokenMark, token_mark}
 use Rattle.saphyr_input.proofs.Basics.Numbers.{le_next}
-use Rattle.std.proofs.lemmas.Bool.{or_right, eq-eqb}
-use Rattle.saphyr_input.specs.Indicators.{colon, left_brace, left_bracket}
+use Rattle.saphyr_input.specs.Indicators.{colon}
 use Rattle.saphyr_scanner.proofs.Queues.{place_kinds, queue_of, place_kinds_append, with_opening_seam}
 use Rattle.std.proofs.Math.Nat.{sub-zero}
-use Rattle.saphyr_input.specs.Classes.{is_blank_or_breakz, is_flow, tab}
+use Rattle.saphyr_input.specs.Classes.{tab}
 use Rattle.saphyr_input.specs.declared.input.SkipTabs.{SkipTabs}
 use Rattle.saphyr_scanner.specs.declared.queue.Opening.{Opening}
 use Rattle.saphyr_scanner.specs.declared.queue.Opening.TheVariants as opening
@@ -38,28 +37,16 @@ use Rattle.saphyr_scanner.specs.Views.Tokens.{Piece}
 use Rattle.saphyr_scanner.specs.Steps.Passing.{with_cursor}
 use Rattle.saphyr_scanner.specs.Steps.Fetch.{step, flow_value_steps}
 use Rattle.yaml_laws.proofs.Flow.Separates.{separates}
-use Rattle.saphyr_input.proofs.Basics.Booleans.{by_test, and_false}
 
 -- ## A colon is an indicator
-
-is_flow_or_blank : (c : ℕ) → IsTrue (ends_colon c) → is_blank_or_breakz c ≡ false
-    → (is_flow c ≡ true) × (((c == left_bracket) || (c == left_brace)) ≡ false)
-is_flow_or_blank c h e = grind arith
 
 -- where a colon may come at once, or before what ends it
 pub colon_reads_value : (around : Around) (d : Bool) (second i : ℕ) (s : Cursor) (y : Context) (k : Option Candidate)
     (ls : List Level) (a : Bool) (ad : ℕ) → is_block y ≡ false → (s.mark.index ≡ ad) ⊎ IsTrue (ends_colon second)
     → step 58 second i (core_at around d s y k ls a ad) ≡ value.value_steps (core_at around d s y k ls a ad)
 unfolding step flow_value_steps
-colon_reads_value around d second i s y k ls a ad e (inl f) =
-    let c = core_at around d s y k ls a ad in
-    by_test (is_blank_or_breakz second) (value.value_steps c) _ (λ (r : StepResult). r ≡ value.value_steps c)
-    (λ _. refl) (λ _. rw (eq-eqb s.mark.index ad f, or_right (is_flow second) true refl, e) refl)
-colon_reads_value around d second i s y k ls a ad e (inr h) =
-    let c = core_at around d s y k ls a ad in
-    by_test (is_blank_or_breakz second) (value.value_steps c) _ (λ (r : StepResult). r ≡ value.value_steps c)
-    (λ _. refl)
-    (λ b. let f = is_flow_or_blank second h b in rw (f.0, f.1, and_false (not (s.mark.index == ad)), e) refl)
+colon_reads_value around d second i s y k ls a ad e (inl f) = grind arith
+colon_reads_value around d second i s y k ls a ad e (inr h) = grind arith
 
 -- ## After the colon
 
@@ -171,7 +158,8 @@ colon_passes around y flows first e node w o parts fits parted ends same_line st
     let m = moved e w in
     let n = p.knows in
     let lands : past around.indent e (w ++ (58 ∷ o)) ≡ (m, 58 ∷ o) =
-    separation_past around.indent e w (58 ∷ o) parts p.right ∙ past_ink around.indent m 58 o colon_is_mark.ink in
+    separation_past around.indent e w (58 ∷ o) parts p.right
+    ∙ past_content around.indent m 58 o colon_is_mark.content in
     let qs = ps ++ p.new in
     let v = arrives around (after p) m (58 ∷ o) (p.fits ∙ lands) refl fits.right fits.calm in
     let k = key_at first ps in
@@ -237,9 +225,9 @@ alone_puts : (begins : Bool) (ps : List Place) (m : Marker)
     → perform (alone_actions begins m) (queue_of ps) ≡ queue_of (ps ++ alone_places begins m)
 alone_puts begins ps m = grind (arith, queue_of, append_assoc)
 
-alone_told : (begins : Bool) (m : Marker)
+alone_known : (begins : Bool) (m : Marker)
     → place_kinds (alone_places begins m) ≡ alone_kinds begins ++ tokens.Value ∷ []
-alone_told begins m = grind arith
+alone_known begins m = grind arith
 
 -- A colon where no key is kept: a key that is left out, or that a `?` began.
 pub value_passes : (around : Around) (y : Context) → is_block y ≡ false → (m : Marker) (o : List ℕ)
@@ -249,7 +237,8 @@ pub value_passes : (around : Around) (y : Context) → is_block y ≡ false → 
     → PassesPiece around (state_at around (moment_in y now)) (no_key (moved m (colon ∷ []))) (behind_colon y) now.outer
     now.places (moved m (colon ∷ [])) o (alone_kinds (begins_pair y) ++ tokens.Value ∷ [])
 value_passes around y flows m o fits parted now none ends before text =
-    let v = arrives around (moment_in y now) m (58 ∷ o) (text ∙ past_ink around.indent m 58 o colon_is_mark.ink) refl
+    let v = arrives around (moment_in y now) m (58 ∷ o)
+    (text ∙ past_content around.indent m 58 o colon_is_mark.content) refl
     fits.right fits.calm in
     let seen = cursor_at (58 ∷ o) m v.blank in
     let t = tabbed around o (along m 1) (behind_colon y) None now.outer v.allowed now.adjacent (colon_flows y flows)
@@ -269,5 +258,5 @@ value_passes around y flows m o fits parted now none ends before text =
     step_passes next new (moved m (58 ∷ [])) o (alone_kinds (begins_pair y)
     ++ tokens.Value ∷ []) (no_key (moved m (58 ∷ []))) came (right_one around.indent m 58 refl fits.right)
     (t.lands ∙ ap (λ (q : Marker). past around.indent q o) (mark_moved m 58 colon_is_mark))
-    (fresh_in_flow (behind_colon y) o false t.there (colon_flows y flows)) (alone_told (begins_pair y) m)
+    (fresh_in_flow (behind_colon y) o false t.there (colon_flows y flows)) (alone_known (begins_pair y) m)
     (came.same (colon_flows y flows), refl, one_on m 58 now.adjacent before)

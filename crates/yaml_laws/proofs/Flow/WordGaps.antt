@@ -1,10 +1,10 @@
 -- The gaps between the words of a plain scalar in flow style are gaps as they are read.
 use Rattle.std.proofs.Common.{◌≡◌, ◌≢◌, ℕ, zero, suc, ◌+◌, ◌≤◌, Bool, false, List, [], ◌∷◌, ◌++◌, refl, sym, ◌∙◌, arith, subst, append_assoc, append-nil, IsTrue, IsFalse, ◌⊎◌, inl, inr}
-use Rattle.std.specs.Prelude.{◌&&◌, ◌==◌, not, nat_lt, if◌then◌else◌}
+use Rattle.std.specs.Prelude.{◌==◌, not, if◌then◌else◌}
 use Rattle.std.specs.List.{prefix_len}
 use Rattle.std.proofs.lemmas.Bool.Decides.{nat_tests}
 use Rattle.saphyr_input.specs.Breaks.{normalized}
-use Rattle.saphyr_input.specs.Classes.{is_blank, is_break, line_feed, carriage_return, tab}
+use Rattle.saphyr_input.specs.Classes.{is_blank, line_feed, carriage_return}
 use Rattle.saphyr_input.specs.Places.{is_blank_or_break}
 use Rattle.saphyr_scalar.specs.declared.scalar.position.Marker.{Marker}
 use Rattle.saphyr_scalar.specs.Views.Cursor.{along, next_line}
@@ -86,18 +86,12 @@ blanks_before (d ∷ ds) c cs h e =
 
 no_line_end : (t : List ℕ) → AreIn is_blank t → has_line_end t ≡ false
 no_line_end [] h = refl
-no_line_end (c ∷ cs) h = rw (blank_no_break c h.0) (no_line_end cs h.1)
-  where
-    blank_no_break : (c : ℕ) → IsTrue (is_blank c) → is_break c ≡ false
-    blank_no_break c h = grind (arith, nat_tests)
+no_line_end (c ∷ cs) h = grind (arith, no_line_end cs h.1)
 
 -- spaces fit wherever they are
 spaces_fit : (indent n k : ℕ) (y : List ℕ) → IsFalse (reaches_tabbed indent (n + k) false y)
     → IsFalse (reaches_tabbed indent n false (spaces k ++ y))
-spaces_fit indent n zero y h = rw (none n) at h
-  where
-    none : (n : ℕ) → n + 0 ≡ n
-    none n = omega arith
+spaces_fit indent n zero y h = grind arith
 spaces_fit indent n (suc k) y h = spaces_fit indent (n + 1) k y (rw (one n k) at h)
   where
     one : (n k : ℕ) → n + suc k ≡ n + 1 + k
@@ -107,17 +101,8 @@ spaces_fit indent n (suc k) y h = spaces_fit indent (n + 1) k y (rw (one n k) at
 blanks_fit : (indent n : ℕ) (w y : List ℕ) → AreIn is_blank w → indent ≤ n
     → ((i : ℕ) → IsFalse (reaches_tabbed indent i false y)) → IsFalse (reaches_tabbed indent n false (w ++ y))
 blanks_fit indent n [] y h right fits = fits n
-blanks_fit indent n (c ∷ cs) y h right fits = rw (h.0, no_line c h.0, not_left n indent right, and_true (c == tab))
-    (blanks_fit indent (n + 1) cs y h.1 (omega (arith, right)) fits)
-  where
-    no_line : (c : ℕ) → IsTrue (is_blank c) → is_break c ≡ false
-    no_line c h = grind (arith, nat_tests)
-
-    not_left : (a b : ℕ) → b ≤ a → nat_lt a b ≡ false
-    not_left a b h = grind (arith, nat_tests)
-
-    and_true : (b : Bool) → (b && false) ≡ false
-    and_true b = grind arith
+blanks_fit indent n (c ∷ cs) y h right fits =
+    grind (arith, blanks_fit indent (n + 1) cs y h.1 (omega (arith, right)) fits)
 
 prefix_fits : (indent : ℕ) (t y : List ℕ) → IsLinePrefix indent t
     → ((i : ℕ) → IsFalse (reaches_tabbed indent i false y)) → IsFalse (reaches_tabbed indent 0 false (t ++ y))
@@ -174,14 +159,7 @@ folded_gap_passes indent m t (blanks, lines, front, are, (pieces, each, joins), 
     }
 
 pub word_gap : (indent : ℕ) (m : Marker) (t : List ℕ) → IsWordGap indent t → Gapped indent m t
-word_gap indent m t (inl h) =
-    record {
-      some = h.0;
-      white = blanks_white t h.1;
-      tabs = rw (blanks_alone t h.1) refl;
-      indented = inl (no_line_end t h.1);
-      right = λ low. (blanks_past indent t h.1 m low).right;
-    }
+word_gap indent m t (inl h) = grind (arith, blanks_white, blanks_alone, no_line_end, blanks_past)
 word_gap indent m t (inr h) = folded_gap_passes indent m t h
 
 pub plain_gap : (f : Bool) (indent : ℕ) (m : Marker) (t : List ℕ) → IsWordGap indent t → end_of_text m t ≡ moved m t

@@ -1,5 +1,5 @@
 -- The plain scalars of a text in flow style are plain scalars as they are read.
-use Rattle.std.proofs.Common.{◌≡◌, ◌≢◌, ℕ, ◌≤◌, Bool, true, false, List, [], ◌∷◌, ◌++◌, length, slice_index, refl, sym, ap, ◌∙◌, arith, subst, append_assoc, append-nil, IsTrue, IsFalse, inl, inr}
+use Rattle.std.proofs.Common.{◌≡◌, ◌≢◌, ℕ, ◌≤◌, Bool, true, false, List, [], ◌∷◌, ◌++◌, length, slice_index, refl, sym, ap, ◌∙◌, arith, append_assoc, append-nil, IsTrue, IsFalse, inl, inr}
 use Rattle.std.specs.Prelude.{◌&&◌, ◌==◌}
 use Rattle.std.proofs.lemmas.Bool.Decides.{nat_tests}
 use Rattle.saphyr_input.specs.Indicators.{colon, hyphen}
@@ -10,41 +10,39 @@ use Rattle.saphyr_scalar.specs.Views.Cursor.{along}
 use Rattle.saphyr_scalar.specs.Reading.Plain.{end_of_text}
 use Rattle.saphyr_scalar.specs.Spelling.Tag.{AreIn}
 use Rattle.saphyr_scalar.proofs.NoBreaks.{NoBreaks}
-use Rattle.scalar_laws.specs.Spelling.Plain.{EndsPlain, is_word_ink, AreWordInk, IsWordIn, AreInkBefore, IsWordBefore, words_text, IsNoMarker, AreFurtherWords, IsPlainText}
+use Rattle.scalar_laws.specs.Spelling.Plain.{EndsPlain, is_plain_safe, ArePlainSafe, IsWordIn, AreSafeBefore, IsWordBefore, words_text, IsNoMarker, AreFurtherWords, IsPlainText}
 use Rattle.scalar_laws.specs.Spelling.Spaces.{joined_pieces, AreEach, AreMany}
 use Rattle.yaml_laws.specs.Grammar.FlowScalars.{IsWordGap, IsLoneDash, IsFurtherWord, IsPlain, IsLastWord, IsPlainKey}
 use Rattle.yaml_laws.proofs.Flow.States.{moved, IsClear}
 use Rattle.yaml_laws.proofs.Flow.Places.{moved_append, right_along, clear_front, clear_back, clear_here}
 use Rattle.yaml_laws.proofs.Flow.Names.{unbroken_along, unbroken_on_line}
-use Rattle.saphyr_input.proofs.Basics.Booleans.{none_of_three}
 use Rattle.yaml_laws.proofs.Flow.WordGaps.{passed_moved, word_gap, plain_gap}
 
 -- ## Words
 
--- what ink is not
+-- what a safe character is not
 pub record IsOther (f : Bool) (c : ℕ) : Type 0 where
   pub blank_or_breakz : is_blank_or_breakz c ≡ false
   pub byte_order_mark : is_bom c ≡ false
   pub flow : (f && is_flow c) ≡ false
 
-pub ink_other : (f : Bool) (c : ℕ) → IsTrue (is_word_ink f c) → IsOther f c
-ink_other f c h = let p = none_of_three (is_blank_or_breakz c) (is_bom c) (f && is_flow c) h in
-    record { blank_or_breakz = p.0; byte_order_mark = p.1; flow = p.2 }
+pub safe_other : (f : Bool) (c : ℕ) → IsTrue (is_plain_safe f c) → IsOther f c
+safe_other f c h = grind arith
 
-pub ink_no_break : (c : ℕ) → is_blank_or_breakz c ≡ false → is_break c ≡ false
-ink_no_break c h = grind (arith, nat_tests)
+pub no_breakz_no_break : (c : ℕ) → is_blank_or_breakz c ≡ false → is_break c ≡ false
+no_breakz_no_break c h = grind (arith, nat_tests)
 
-word_unbroken : (f : Bool) (w y : List ℕ) → AreInkBefore f w y → NoBreaks w
+word_unbroken : (f : Bool) (w y : List ℕ) → AreSafeBefore f w y → NoBreaks w
 word_unbroken f [] y h = tt
-word_unbroken f (c ∷ cs) y h = (ink_no_break c (ink_other f c h.0).blank_or_breakz, word_unbroken f cs y h.2)
+word_unbroken f (c ∷ cs) y h = (no_breakz_no_break c (safe_other f c h.0).blank_or_breakz, word_unbroken f cs y h.2)
 
 -- ## Words before what follows them
 
-ink_before : (f : Bool) (w y : List ℕ) → AreWordInk f w → AreInkBefore f w y
-ink_before f [] y h = tt
-ink_before f (c ∷ cs) y h = (h.0, λ e. next cs (h.1 e) h.2, ink_before f cs y h.2)
+safe_before : (f : Bool) (w y : List ℕ) → ArePlainSafe f w → AreSafeBefore f w y
+safe_before f [] y h = tt
+safe_before f (c ∷ cs) y h = (h.0, λ e. next cs (h.1 e) h.2, safe_before f cs y h.2)
   where
-    next : (cs : List ℕ) → cs ≢ [] → AreWordInk f cs → IsTrue (is_word_ink f (slice_index (cs ++ y) 0))
+    next : (cs : List ℕ) → cs ≢ [] → ArePlainSafe f cs → IsTrue (is_plain_safe f (slice_index (cs ++ y) 0))
     next [] some k = absurd (some refl)
     next (d ∷ ds) some k = k.0
 
@@ -55,9 +53,9 @@ lone_dash c f second h = grind arith
 pub word_before : (f : Bool) (w y : List ℕ) → IsWordIn f w → IsWordBefore f w y
 word_before f w y h = record {
   some = h.some;
-  ink = ink_before f w y h.ink;
+  safe = safe_before f w y h.safe;
   no_comment = h.no_comment;
-  no_lone_dash = by_word w h.some h.ink h.no_lone_dash;
+  no_lone_dash = by_word w h.some h.safe h.no_lone_dash;
 }
   where
     dash : (c : ℕ) → (c == hyphen) ≡ true → c ≡ hyphen
@@ -70,34 +68,34 @@ word_before f w y h = record {
             → (g && q && b) ≡ false
         by_test g q e k = grind arith
 
-    by_word : (w : List ℕ) → w ≢ [] → AreWordInk f w → (f ≡ true → w ≢ hyphen ∷ [])
+    by_word : (w : List ℕ) → w ≢ [] → ArePlainSafe f w → (f ≡ true → w ≢ hyphen ∷ [])
         → (f && (slice_index (w ++ y) 0 == hyphen) && is_flow (slice_index (w ++ y) 1)) ≡ false
-    by_word [] some ink other = absurd (some refl)
-    by_word (c ∷ []) some ink other = by_first c (is_flow (slice_index y 0)) other
-    by_word (c ∷ d ∷ ds) some ink other = lone_dash c f (is_flow d) (λ e. rw e at (ink_other f d ink.2.0).flow)
+    by_word [] some safe other = absurd (some refl)
+    by_word (c ∷ []) some safe other = by_first c (is_flow (slice_index y 0)) other
+    by_word (c ∷ d ∷ ds) some safe other = lone_dash c f (is_flow d) (λ e. rw e at (safe_other f d safe.2.0).flow)
 
 -- a colon is a character of a word
-pub colon_is_ink : (f : Bool) → IsTrue (is_word_ink f 58)
-colon_is_ink f = grind arith
+pub colon_is_safe : (f : Bool) → IsTrue (is_plain_safe f 58)
+colon_is_safe f = grind arith
 
 -- a key's last word comes before the key's colon
 pub last_before : (f : Bool) (w r : List ℕ) → IsLastWord f w → IsWordBefore f w (colon ∷ r)
-last_before f w r (some, ink, no_comment) =
-    record { some = some; ink = inks w ink; no_comment = no_comment; no_lone_dash = by_word w some ink }
+last_before f w r (some, safe, no_comment) =
+    record { some = some; safe = all_safe w safe; no_comment = no_comment; no_lone_dash = by_word w some safe }
   where
-    next : (cs : List ℕ) → AreIn (is_word_ink f) cs → IsTrue (is_word_ink f (slice_index (cs ++ (colon ∷ r)) 0))
-    next [] k = colon_is_ink f
+    next : (cs : List ℕ) → AreIn (is_plain_safe f) cs → IsTrue (is_plain_safe f (slice_index (cs ++ (colon ∷ r)) 0))
+    next [] k = colon_is_safe f
     next (d ∷ ds) k = k.0
 
-    inks : (cs : List ℕ) → AreIn (is_word_ink f) cs → AreInkBefore f cs (colon ∷ r)
-    inks [] k = tt
-    inks (c ∷ cs) k = (k.0, λ _. next cs k.1, inks cs k.1)
+    all_safe : (cs : List ℕ) → AreIn (is_plain_safe f) cs → AreSafeBefore f cs (colon ∷ r)
+    all_safe [] k = tt
+    all_safe (c ∷ cs) k = (k.0, λ _. next cs k.1, all_safe cs k.1)
 
-    by_word : (w : List ℕ) → w ≢ [] → AreIn (is_word_ink f) w
+    by_word : (w : List ℕ) → w ≢ [] → AreIn (is_plain_safe f) w
         → (f && (slice_index (w ++ (colon ∷ r)) 0 == hyphen) && is_flow (slice_index (w ++ (colon ∷ r)) 1)) ≡ false
-    by_word [] some ink = absurd (some refl)
-    by_word (c ∷ []) some ink = lone_dash c f false (λ _. refl)
-    by_word (c ∷ d ∷ ds) some ink = lone_dash c f (is_flow d) (λ e. rw e at (ink_other f d ink.1.0).flow)
+    by_word [] some safe = absurd (some refl)
+    by_word (c ∷ []) some safe = lone_dash c f false (λ _. refl)
+    by_word (c ∷ d ∷ ds) some safe = lone_dash c f (is_flow d) (λ e. rw e at (safe_other f d safe.1.0).flow)
 
 -- ## No marker begins a line
 
@@ -134,7 +132,7 @@ one_further : (f : Bool) (indent : ℕ) (m : Marker) (gap word more o : List ℕ
     → IsFurther f indent m (gap ++ (word ++ more)) o
 one_further f indent m gap word more o gapped is_word clear rest =
     let there = passed_moved m gap (clear_front m gap (word ++ more) o clear).no_return in
-    let unbroken = word_unbroken f word (more ++ o) is_word.ink in
+    let unbroken = word_unbroken f word (more ++ o) is_word.safe in
     let line = unbroken_along (end_of_text m gap) word unbroken in
     let unmarked : IsNoMarker (end_of_text m gap) (word ++ (words_text rest.words ++ o)) =
     rw rest.is at (no_marker (end_of_text m gap) word (more ++ o) is_word.some
@@ -167,15 +165,7 @@ gap_is_apart indent gap more (inr (blanks, lines, front, are, ls, prefix, is)) =
 
 -- a lone `-` comes before what begins with no flow indicator
 dash_before : (f : Bool) (y : List ℕ) → is_flow (slice_index y 0) ≡ false → IsWordBefore f (hyphen ∷ []) y
-dash_before f y apart = record {
-  some = λ e. cc;
-  ink = (dash_is_ink f, λ e. absurd (omega (arith, e)), tt);
-  no_comment = λ e. absurd (omega (arith, e));
-  no_lone_dash = lone_dash 45 f (is_flow (slice_index y 0)) (λ _. apart);
-}
-  where
-    dash_is_ink : (f : Bool) → IsTrue (is_word_ink f 45)
-    dash_is_ink f = grind arith
+dash_before f y apart = grind arith
 
 -- lone `-` and their gaps, and what comes after them
 dashes_further : (f : Bool) (indent : ℕ) (pieces : List (List ℕ)) → AreEach (IsLoneDash indent) pieces
@@ -189,7 +179,7 @@ dashes_further f indent (p ∷ ps) ((gap, gapped, is), others) last o apart ends
     cc (append_assoc p (joined_pieces ps) last, append_assoc gap (45 ∷ []) more) in
     let all : IsClear m (gap ++ ((45 ∷ []) ++ more)) o = rw text at clear in
     let before = dash_before f (more ++ o) (next ps others) in
-    let behind = behind_word (end_of_text m gap) (45 ∷ []) more o (word_unbroken f (45 ∷ []) (more ++ o) before.ink)
+    let behind = behind_word (end_of_text m gap) (45 ∷ []) more o (word_unbroken f (45 ∷ []) (more ++ o) before.safe)
     (at_word m gap (45 ∷ []) more o all) in
     rw text (one_further f indent m gap (45 ∷ []) more o gapped before all
     (dashes_further f indent ps others last o apart ends (along (end_of_text m gap) 1) behind))
@@ -216,7 +206,7 @@ further_words f indent (p ∷ ps) ((dashes, gap, word, (lone, each, joins), gapp
     rw text (dashes_further f indent lone each (gap ++ (word ++ more)) o (apart gapped more)
     (λ n there. one_further f indent n gap word more o gapped before there
     (further_words f indent ps others last o ends (along (end_of_text n gap) (length word))
-    (behind_word (end_of_text n gap) word more o (word_unbroken f word (more ++ o) before.ink)
+    (behind_word (end_of_text n gap) word more o (word_unbroken f word (more ++ o) before.safe)
     (at_word n gap word more o there)))) m (rw text at clear))
   where
     apart : IsWordGap indent gap → (more : List ℕ) → is_flow (slice_index ((gap ++ (word ++ more)) ++ o) 0) ≡ false
@@ -255,14 +245,7 @@ record HasWords (f : Bool) (indent : ℕ) (m : Marker) (t o : List ℕ) : Type 0
 has_words : (f : Bool) (indent : ℕ) (m : Marker) (t o first behind : List ℕ) → t ≡ first ++ behind
     → IsWordBefore f first (behind ++ o) → IsClear m t o
     → ((n : Marker) → IsClear n behind o → IsFurther f indent n behind o) → HasWords f indent m t o
-has_words f indent m t o first behind is word clear further = record {
-  first = first;
-  behind = behind;
-  is = is;
-  word = word;
-  others = further (along m (length first))
-      (behind_word m first behind o (word_unbroken f first (behind ++ o) word.ink) (rw is at clear));
-}
+has_words f indent m t o first behind is word clear further = grind (arith, behind_word, word_unbroken)
 
 plain_words : (f : Bool) (indent : ℕ) (m : Marker) (t o : List ℕ) → IsPlain f indent t → IsClear m t o
     → HasWords f indent m t o
@@ -297,15 +280,7 @@ key_words f indent m t r (inr (
 
 text_of : (f : Bool) (indent : ℕ) (m : Marker) (t o : List ℕ) → HasWords f indent m t o → IsClear m t o
     → EndsPlain f indent (moved m t) o → IsPlainText f indent m t o
-text_of f indent m t o h clear ends = record {
-  first = h.first;
-  others = h.others.words;
-  is = cc;
-  word = rw h.others.is at h.word;
-  marker = no_marker m t o (λ e. both_some h.first h.behind h.word.some (sym h.is ∙ e)) clear;
-  further = h.others.further;
-  ends = rw (passed_moved m t clear.no_return) ends;
-}
+text_of f indent m t o h clear ends = grind (arith, no_marker, both_some, passed_moved)
 
 pub plain_text : (f : Bool) (indent : ℕ) (m : Marker) (t o : List ℕ) → IsPlain f indent t → IsClear m t o
     → EndsPlain f indent (moved m t) o → IsPlainText f indent m t o
@@ -317,12 +292,7 @@ key_text f indent m t r h clear ends = text_of f indent m t (58 ∷ r) (key_word
 
 right_of : (f : Bool) (indent : ℕ) (m : Marker) (t o : List ℕ) → HasWords f indent m t o → indent ≤ m.col
     → indent ≤ (moved m t).col
-right_of f indent m t o h low =
-    let unbroken = word_unbroken f h.first (h.behind ++ o) h.word.ink in
-    let line : moved m h.first ≡ along m (length h.first) = unbroken_along m h.first unbroken in
-    let here = subst (λ (k : Marker). indent ≤ k.col) line
-    (right_along indent m h.first (unbroken_on_line h.first unbroken) low) in
-    rw (h.is, moved_append m h.first h.behind, line) (h.others.right here)
+right_of f indent m t o h low = grind (arith, word_unbroken, unbroken_along, moved_append)
 
 -- a plain scalar ends right of a column that its lines reach
 pub plain_right : (f : Bool) (indent : ℕ) (m : Marker) (t o : List ℕ) → IsPlain f indent t → IsClear m t o

@@ -1,7 +1,6 @@
 -- The `:` of a block mapping is read (YAML 1.2.2, 8.2.2).
-use Rattle.std.proofs.Common.{◌≡◌, ℕ, suc, ◌+◌, ◌<◌, ◌≤◌, Bool, true, false, List, [], ◌∷◌, ◌++◌, length, slice_index, refl, sym, ap, ◌∙◌, arith, append_assoc, Ok, ◌⊎◌, inl, inr}
+use Rattle.std.proofs.Common.{◌≡◌, ℕ, suc, ◌+◌, ◌<◌, ◌≤◌, Bool, true, false, List, [], ◌∷◌, ◌++◌, length, slice_index, refl, sym, ap, ◌∙◌, arith, append_assoc, Ok, ◌⊎◌, inr}
 use Rattle.std.specs.Prelude.{◌||◌, ◌==◌, nat_le, nat_lt, Option, Some, None, if◌then◌else◌}
-use Rattle.std.proofs.lemmas.Bool.Decides.{nat_tests}
 use Rattle.std.proofs.lemmas.List.{length-append}
 use Rattle.saphyr_input.specs.Classes.{tab}
 use Rattle.saphyr_scalar.specs.declared.scalar.position.Marker.{Marker}
@@ -91,10 +90,7 @@ behind_value n o ad = moment_at n o false None true ad true
 
 some_further : (i k : ℕ) (b : Bool) → nat_le i k ≡ b → nat_lt 0 i ≡ true ⊎ (b ≡ true)
 some_further i k true e = inr refl
-some_further i k false e = inl (positive i k e)
-  where
-    positive : (i k : ℕ) → nat_le i k ≡ false → nat_lt 0 i ≡ true
-    positive i k e = grind (arith, nat_tests)
+some_further i k false e = grind arith
 
 value_step : (f : Frame) (m : Marker) (o : List ℕ) (h : IsBehindIndicator true (suc m.col) o)
     (p : PassesColon (suc m.col) o h (along m 1)) (blank : Bool) (ad : ℕ) (deeper further : Bool)
@@ -151,10 +147,7 @@ reads_value {limit} {start} {ts} f m o further e far h count v none allowed =
     (value_performs f n further m v.places e) in
     let there : state_behind_content 58 (slice_index o 0)
     (state_of f (moment_at m (58 ∷ o) v.blank v.key v.allowed v.adjacent deeper) v.places) ≡ Ok (state_of g t qs) =
-    ap (λ (b : Bool). state_behind_content 58 (slice_index o 0)
-    (state_of f (moment_at m (58 ∷ o) v.blank v.key b v.adjacent deeper) v.places)) allowed
-    ∙ ap (λ (k : Option Candidate). state_behind_content 58 (slice_index o 0)
-    (state_of f (moment_at m (58 ∷ o) v.blank k true v.adjacent deeper) v.places)) none ∙ made in
+    grind (arith, state_of, moment_at) in
     before_next (yaml.BehindMark m.col) g t qs (along m 1) o
     (steps_on f g m (58 ∷ o) v (colon_begins m o) far t qs there refl
     (room m.index p.mark.index (length o) limit p.low count))

@@ -1,5 +1,5 @@
 -- Whether a break is ahead, before what is passed and after it.
-use Rattle.std.proofs.Common.{◌≡◌, ℕ, Bool, true, false, List, [], ◌∷◌, ◌++◌, slice_index, refl, sym, ap, ◌∙◌, append_assoc, inl, inr}
+use Rattle.std.proofs.Common.{◌≡◌, ℕ, Bool, true, false, List, [], ◌∷◌, ◌++◌, slice_index, refl, ap, ◌∙◌, append_assoc, inl, inr}
 use Rattle.std.specs.Prelude.{◌||◌, if◌then◌else◌}
 use Rattle.saphyr_input.specs.Classes.{is_blank, is_break, line_feed}
 use Rattle.saphyr_input.specs.Places.{is_blank_or_break}
@@ -60,10 +60,7 @@ break_ahead : (b : Bool) (c : ℕ) (cs : List ℕ) (blank break : Bool) → is_b
     → (blank || break) ≡ true → (b || crosses (c ∷ cs)) ≡ true → ((b || break) || crosses cs) ≡ true
 break_ahead true c cs blank break e f white h = refl
 break_ahead false c cs blank true e f white h = refl
-break_ahead false c cs true false e f white h = sym (same) ∙ h
-  where
-    same : crosses (c ∷ cs) ≡ crosses cs
-    same = rw e refl
+break_ahead false c cs true false e f white h = search
 break_ahead false c cs false false e f white h = absurd (cc)
 
 -- its reader has met the break, or it is still ahead

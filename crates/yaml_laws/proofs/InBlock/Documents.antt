@@ -1,8 +1,9 @@
 -- A document and what parts it from the next are read (YAML 1.2.2, chapter 9).
+pub mod Comes
 pub mod DirectiveLines
 pub mod Ends
 pub mod Nodes
-use Rattle.std.proofs.Common.{◌≡◌, ℕ, Bool, true, false, List, [], ◌∷◌, ◌++◌, refl, sym, ap, ◌∙◌, subst, append_assoc, append-nil, ◌⊎◌, inl, inr, IsTrue}
+use Rattle.std.proofs.Common.{◌≡◌, ℕ, Bool, true, false, List, [], ◌∷◌, ◌++◌, refl, sym, ap, ◌∙◌, subst, append_assoc, append-nil, ◌⊎◌, inl, inr, IsTrue, arith}
 use Rattle.std.specs.Prelude.{map, ◌||◌}
 use Rattle.saphyr_input.specs.Indicators.{hyphen}
 use Rattle.saphyr_scalar.specs.declared.scalar.position.Marker.{Marker}
@@ -17,14 +18,14 @@ use Rattle.yaml_laws.specs.Grammar.BlockNodes.{BehindMarker, AtStart, IsBlockNod
 use Rattle.yaml_laws.specs.Grammar.Yaml as yaml
 use Rattle.yaml_laws.specs.Grammar.Yaml.{has_marker, AreDirectives}
 use Rattle.yaml_laws.proofs.Flow.States.{ReaderPromises}
-use Rattle.yaml_laws.proofs.Flow.Inks.{BeginsInk}
+use Rattle.yaml_laws.proofs.Flow.ContentStarts.{StartsContent}
 use Rattle.yaml_laws.proofs.Documents.Markers.{reads_start}
 use Rattle.yaml_laws.proofs.Documents.Directives.{reads_directives}
 use Rattle.yaml_laws.proofs.Documents.Stands.{StandsLined, lined_so, AtLine, Lined, BehindStart, StandsInStream, passes_over}
 use Rattle.yaml_laws.proofs.InBlock.States.{crosses}
 use Rattle.yaml_laws.proofs.InBlock.Statements.{AreRead, as_optional, ReadsLeaves}
 use Rattle.yaml_laws.proofs.InBlock.Texts.{node_ends}
-use Rattle.yaml_laws.proofs.InBlock.BehindIndicators.{entries_ink, pairs_ink}
+use Rattle.yaml_laws.proofs.InBlock.BehindIndicators.{entries_content, pairs_content}
 use Rattle.yaml_laws.proofs.InBlock.Documents.Ends.{HasNoReturn, Lands, IsPlainBehind, no_directives, explicit_first}
 use Rattle.yaml_laws.proofs.InBlock.Documents.Nodes.{none_here, bare_clear, explicit_clear, NodeStands, reads_root}
 
@@ -37,7 +38,7 @@ pub record DocumentStands (limit : ℕ) (start : State) (d : Document) (free : B
   pub are : grammar.YieldsDocument d free tokens
   pub stands : StandsLined limit start false false others (ts ++ tokens)
 
-none_inside : (a b c : List ℕ) → BeginsInk b → a ++ (b ++ c) ≡ [] → ⊥
+none_inside : (a b c : List ℕ) → StartsContent b → a ++ (b ++ c) ≡ [] → ⊥
 none_inside [] b c k e =
     absurd (let f : k.first ∷ (k.others ++ c) ≡ [] = ap (λ (x : List ℕ). x ++ c) (sym k.is) ∙ e in cc)
 none_inside (x ∷ a) b c k e = absurd (cc)
@@ -46,21 +47,21 @@ none_inside (x ∷ a) b c k e = absurd (cc)
 node_some : {limit : ℕ} → ReadsLeaves limit → (node : Node) (t o : List ℕ) → IsBlockNode most_open node AtStart t o
     → t ≡ [] → ⊥
 node_some leaves (Alias name) t o (gap, text, end, gap_is, is, apart, end_is, e) none =
-    none_inside gap text end (leaves.flow_ink (Alias name) most_open 0 false text is) (sym e ∙ none)
+    none_inside gap text end (leaves.flow_content (Alias name) most_open 0 false text is) (sym e ∙ none)
 node_some leaves (Scalar p style value) t o (inl h) none = absurd (let k : true ≡ false = h.1 in cc)
 node_some leaves (Scalar p style value) t o (inr (inl (gap, text, end, gap_is, is, apart, end_is, e))) none =
-    none_inside gap text end (leaves.flow_ink (Scalar p style value) most_open 0 false text is) (sym e ∙ none)
+    none_inside gap text end (leaves.flow_content (Scalar p style value) most_open 0 false text is) (sym e ∙ none)
 node_some leaves (Scalar p style value) t o (inr (inr (gap, front, scalar, gap_is, front_is, h, e))) none =
-    none_inside gap (front ++ scalar) [] (leaves.block_ink p style value 0 front scalar o front_is h)
+    none_inside gap (front ++ scalar) [] (leaves.block_content p style value 0 front scalar o front_is h)
     (cc (append-nil (front ++ scalar)))
 node_some leaves (Seq p nodes) t o (inl (gap, text, end, gap_is, is, apart, end_is, e)) none =
-    none_inside gap text end (leaves.flow_ink (Seq p nodes) most_open 0 false text is) (sym e ∙ none)
+    none_inside gap text end (leaves.flow_content (Seq p nodes) most_open 0 false text is) (sym e ∙ none)
 node_some leaves (Seq p nodes) t o (inr (m, lead, entries, lead_is, h, e)) none =
-    none_inside lead entries [] (entries_ink nodes m entries o h) (cc (append-nil entries))
+    none_inside lead entries [] (entries_content nodes m entries o h) (cc (append-nil entries))
 node_some leaves (Map p pairs) t o (inl (gap, text, end, gap_is, is, apart, end_is, e)) none =
-    none_inside gap text end (leaves.flow_ink (Map p pairs) most_open 0 false text is) (sym e ∙ none)
+    none_inside gap text end (leaves.flow_content (Map p pairs) most_open 0 false text is) (sym e ∙ none)
 node_some leaves (Map p pairs) t o (inr (m, lead, entries, lead_is, h, e)) none =
-    none_inside lead entries [] (pairs_ink leaves pairs m entries o h) (cc (append-nil entries))
+    none_inside lead entries [] (pairs_content leaves pairs m entries o h) (cc (append-nil entries))
 
 bare_node : {limit : ℕ} {start : State} → ReadsLeaves limit → (node : Node) (t others : List ℕ) (ts : List Kind)
     → has_marker true t ≡ false → IsBlockNode most_open node AtStart t others
@@ -169,12 +170,7 @@ reads_document {limit = limit} {start = start} readers leaves d free t others ts
       are =
           inl (
             is_free,
-            (
-              ap (λ (x : Document). x.explicit) same,
-              ap (λ (x : Document). x.directives) same,
-              some_node
-                  d.node n.tokens n.are,
-            ),
+            grind (arith, some_node),
           );
       stands = n.stands;
     }

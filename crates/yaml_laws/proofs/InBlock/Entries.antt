@@ -1,25 +1,23 @@
 -- The `-` of an entry of a block sequence is read (YAML 1.2.2, 8.2.1).
-use Rattle.std.proofs.Common.{◌≡◌, ℕ, suc, ◌+◌, ◌≤◌, Bool, true, false, List, [], ◌∷◌, ◌++◌, length, slice_index, refl, sym, ap, ◌∙◌, arith, append_assoc, IsTrue, Ok, ◌⊎◌, inl}
+use Rattle.std.proofs.Common.{◌≡◌, ℕ, suc, ◌+◌, ◌≤◌, Bool, true, false, List, [], ◌∷◌, ◌++◌, length, slice_index, refl, ap, ◌∙◌, arith, append_assoc, IsTrue, Ok, ◌⊎◌, inl}
 use Rattle.std.specs.Prelude.{◌||◌, ◌&&◌, ◌==◌, not, nat_le, nat_lt, Option, None, if◌then◌else◌}
-use Rattle.std.proofs.lemmas.Bool.Decides.{nat_tests}
 use Rattle.std.proofs.lemmas.List.{length-append}
 use Rattle.saphyr_input.specs.Indicators.{hyphen}
 use Rattle.saphyr_input.specs.Classes.{is_blank, is_break, is_flow, is_blank_or_breakz, is_alpha}
 use Rattle.saphyr_input.specs.Places.{is_document_indicator}
 use Rattle.saphyr_input.specs.Separation.{found_blanks, found_tabs, has_valid_yaml_ws}
-use Rattle.saphyr_input.specs.declared.input.SkipTabs.{SkipTabs}
 use Rattle.saphyr_input.specs.declared.input.SkipTabs.TheVariants.{Yes}
 use Rattle.saphyr_scalar.specs.declared.scalar.position.Marker.{Marker}
-use Rattle.saphyr_scalar.specs.Views.Cursor.{Cursor, ◌>>=◌, along, separation}
+use Rattle.saphyr_scalar.specs.Views.Cursor.{◌>>=◌, along, separation}
 use Rattle.saphyr_scalar.specs.Spelling.Tag.{AreIn}
 use Rattle.saphyr_scalar.proofs.Given.{cursor_at}
 use Rattle.scalar_laws.specs.Spelling.Spaces.{IsCommentBehind}
-use Rattle.saphyr_scanner.specs.Steps.Core.{least_column, Core, completed_step, at_mark, from_to, perform, is_further, roll, remove_key}
+use Rattle.saphyr_scanner.specs.Steps.Core.{least_column, completed_step, at_mark, from_to, perform, roll, remove_key}
 use Rattle.saphyr_scanner.specs.Steps.Level.{Candidate}
 use Rattle.saphyr_scanner.specs.Steps.Block.{block_entry_steps, next_entry, pass_dash, deepen, refuse_tab, behind_start}
-use Rattle.saphyr_scanner.specs.Steps.Passing.{pass_on, with_cursor}
-use Rattle.saphyr_scanner.specs.Steps.Queue.{next, Place, Queue, bare_place, empty_piece}
-use Rattle.saphyr_scanner.specs.Steps.State.{State, after_step}
+use Rattle.saphyr_scanner.specs.Steps.Passing.{pass_on}
+use Rattle.saphyr_scanner.specs.Steps.Queue.{next, Place, bare_place, empty_piece}
+use Rattle.saphyr_scanner.specs.Steps.State.{State}
 use Rattle.saphyr_scanner.specs.Grammar.Tokens as tokens
 use Rattle.saphyr_scanner.specs.Grammar.Tokens.{Kind}
 use Rattle.saphyr_scanner.specs.Steps.Fetch.{fetch, state_behind_content, step}
@@ -90,16 +88,7 @@ steps_on f g m y v begins far n qs is none low = search (arrives_at, stays_open,
 dash_is_no_marker : (o : List ℕ) → is_blank_or_breakz (slice_index o 0) ≡ true
     → is_document_indicator (hyphen ∷ o) ≡ false
 dash_is_no_marker [] h = refl
-dash_is_no_marker (c ∷ cs) h = by_dash (c == 45) refl
-  where
-    dash : (c : ℕ) → (c == hyphen) ≡ true → is_blank_or_breakz c ≡ true → ⊥
-    dash c e h = absurd (let k : false ≡ true = sym (no c e) ∙ h in cc)
-      where
-        no : (c : ℕ) → (c == hyphen) ≡ true → is_blank_or_breakz c ≡ false
-        no c e = grind (arith, nat_tests)
-
-    by_dash : (b : Bool) → (c == hyphen) ≡ b → is_document_indicator (hyphen ∷ c ∷ cs) ≡ false
-    by_dash b e = grind (arith, nat_tests)
+dash_is_no_marker (c ∷ cs) h = grind arith
 
 dash_begins : (m : Marker) (o : List ℕ) → is_blank_or_breakz (slice_index o 0) ≡ true → BeginsToken m (hyphen ∷ o)
 dash_begins m o h = begins_with 45 m o (refl, refl, refl) refl refl refl (dash_is_no_marker o h)
@@ -124,8 +113,7 @@ passes_dash g n o h m at =
     let untabbed : refuse_tab (found_blanks Yes o, core_of g (record n { cursor = there }))
     ≡ Ok (deepen (core_of g (record n { cursor = there }))) = rw h.dash refl in (
       d.0,
-      ap (λ r. (r >>= λ (x : SkipTabs × Cursor). Ok (x.0, with_cursor x.1 (core_of g n))) >>= refuse_tab) sep
-          ∙ untabbed ∙ ap Ok d.1,
+      grind (arith, core_of),
     )
 
 -- the frame after a `-`, and what it puts before its token
@@ -167,10 +155,7 @@ dash_step f m o h blank key ad deeper further e i =
     let gone = ap (λ q. q >>= remove_key) all ∙ forgets g there refl in
     let last = record (core_of g (record there { key = None; required = false })) { key_allowed = true } in (
       p.0,
-      rw h.first (ap (λ q. q >>= λ (d : Core). completed_step
-          (behind_start (is_further m.col c) m tokens.BlockSequenceStart (at_mark d.cursor.mark tokens.BlockEntry))
-          (record d { key_allowed = true })) gone ∙ ap (λ (b : Bool). completed_step
-          (behind_start b m tokens.BlockSequenceStart (at_mark last.cursor.mark tokens.BlockEntry)) last) e),
+      grind arith,
     )
 
 -- the places of an indicator at n to e, before which a collection may start at m
@@ -252,14 +237,11 @@ reads_dash {limit} {start} {ts} f m o further e far h count v allowed =
     let made : state_behind_content 45 (slice_index o 0)
     (state_of f (moment_at m (45 ∷ o) v.blank v.key true v.adjacent deeper) v.places)
     ≡ Ok (state_of g t (start_places further m tokens.BlockSequenceStart n n tokens.BlockEntry v.places)) =
-    ap (λ r. after_step r (queue_of v.places)) s.1
-    ∙ ap (λ (q : Queue). Ok (let r : State = record { core = core_of g t; queue = q } in r))
-    (start_performs further m tokens.BlockSequenceStart n n tokens.BlockEntry v.places) in
+    grind (arith, queue_of, core_of, start_performs) in
     let there : state_behind_content 45 (slice_index o 0)
     (state_of f (moment_at m (45 ∷ o) v.blank v.key v.allowed v.adjacent deeper) v.places)
     ≡ Ok (state_of g t (start_places further m tokens.BlockSequenceStart n n tokens.BlockEntry v.places)) =
-    ap (λ (b : Bool). state_behind_content 45 (slice_index o 0)
-    (state_of f (moment_at m (45 ∷ o) v.blank v.key b v.adjacent deeper) v.places)) allowed ∙ made in
+    grind (arith, state_of, moment_at) in
     let size = ap length h.is ∙ length-append h.blanks (h.comment ++ h.more) in
     let inner = length-append h.comment h.more in
     let front = length-append h.blanks h.comment in

@@ -21,9 +21,9 @@ use Rattle.yaml_laws.proofs.InFlow.States.{Around, moment, state_at, not_more, l
 use Rattle.yaml_laws.proofs.Flow.States as flow
 use Rattle.yaml_laws.proofs.Flow.States.{moved, past, crosses, EndsDocument, IsLeft, IsBehindRoot, Since, ReaderPromises}
 use Rattle.yaml_laws.proofs.Flow.Places.{moved_append, moved_count, moved_along}
-use Rattle.yaml_laws.proofs.Flow.GapSteps.{past_ink}
+use Rattle.yaml_laws.proofs.Flow.GapSteps.{past_content}
 use Rattle.yaml_laws.proofs.Flow.Fillers.{rest_past, blanks_past}
-use Rattle.yaml_laws.proofs.Flow.Inks.{node_ink, colon_ink}
+use Rattle.yaml_laws.proofs.Flow.ContentStarts.{node_content, colon_content}
 use Rattle.yaml_laws.proofs.Documents.Lines.{eol}
 use Rattle.yaml_laws.proofs.Flow.NodesPass.{nodes_close}
 use Rattle.yaml_laws.proofs.InBlock.States.{Frame, Moment, core_of, IsStop, IsLeftOf, At, Before, moment_at, state_of, tabbed, GoesOnAs}
@@ -33,7 +33,7 @@ use Rattle.yaml_laws.proofs.InBlock.Lines.{IsLined, FitsOnLines, fits_front, fit
 use Rattle.yaml_laws.proofs.InBlock.Scalars.{gap_reaches, lands_behind}
 use Rattle.yaml_laws.proofs.InBlock.Crossings.{content_crosses}
 use Rattle.yaml_laws.proofs.InBlock.Statements.{context_at, ReadsAt, ReadsKey}
-use Rattle.yaml_laws.proofs.InBlock.BehindIndicators.{further_ink}
+use Rattle.yaml_laws.proofs.InBlock.BehindIndicators.{further_content}
 use Rattle.yaml_laws.proofs.InBlock.Untabbed.{clean_past, settles}
 use Rattle.saphyr_input.proofs.Basics.Booleans.{or_true_swap}
 use Rattle.saphyr_scalar.proofs.Given.{cursor_at}
@@ -41,7 +41,7 @@ use Rattle.saphyr_scanner.proofs.Queues.{place_kinds_append}
 use Rattle.yaml_laws.proofs.InFlow.KeyLines.{IsNear, not_far, deeper_at, is_required}
 use Rattle.yaml_laws.proofs.InFlow.Keys.{key_read, blanks_are_on_line, both_on_line}
 use Rattle.yaml_laws.proofs.InBlock.Skips.{right_untabbed}
-use Rattle.yaml_laws.proofs.InBlock.Texts.{ink_clean}
+use Rattle.yaml_laws.proofs.InBlock.Texts.{content_clean}
 use Rattle.yaml_laws.proofs.Documents.Stands.{none_of, document_ends_by_test}
 
 -- a frame without what is required
@@ -97,10 +97,11 @@ reads_key reads limit node f m t o n far h line apart short white fits start ts 
       quiet = refl;
       lands = ap (past 0 a.there.mark) a.rest
           ∙ (blanks_past 0 a.white a.are_white a.there.mark (none_left a.there.mark.col)).is (58 ∷ o)
-          ∙ past_ink 0 (moved a.there.mark a.white) 58 o colon_ink ∙ ap (λ (p : Marker). (p, 58 ∷ o)) (a.mark ∙ place);
+          ∙ past_content 0 (moved a.there.mark a.white) 58 o colon_content
+          ∙ ap (λ (p : Marker). (p, 58 ∷ o)) (a.mark ∙ place);
       untabbed = ap (tabbed (least f.indent a.deeper) a.there.mark a.there.blank_so_far false) a.rest
           ∙ right_untabbed (least f.indent a.deeper) f.indent (least_low f.indent a.deeper) a.white (58 ∷ o) a.are_white
-          (ink_clean 58 o colon_ink) a.there.mark a.there.blank_so_far right;
+          (content_clean 58 o colon_content) a.there.mark a.there.blank_so_far right;
       near = not_far k (moved m (t ++ n.text))
           (line_near m (length v.places) (t ++ n.text) (both_on_line t n.text line (blanks_are_on_line n.text n.are))
           short);
@@ -201,8 +202,7 @@ behind_root limit f n end o h q is stop left =
       is = e.is;
       line = e.line;
       break = e.break;
-      lands = λ right. subst (λ (z : Marker × List ℕ). EndsDocument z.0 z.1 ⊎ IsLeft f.indent z.0 z.1) (sym (is right))
-          (by_text q.0 q.1 stop left);
+      lands = grind (arith, by_text);
     }
   where
     by_text : (m : Marker) (y : List ℕ) → IsStop y → IsLeftOf f.indent m y → EndsDocument m y ⊎ IsLeft f.indent m y
@@ -264,21 +264,15 @@ reads_flow reads limit short node place f same m t o (gap, text, end, gap_is, no
     let rest = end ++ o in
     let whole : t ++ o ≡ gap ++ (text ++ rest) = cc (append_assoc gap (text ++ end) o, append_assoc text end o) in
     let place_is = ap (moved m) e ∙ moved_append m gap (text ++ end) ∙ moved_append at text end in
-    let is : IsFlowNode most_open node false f.indent text = subst (λ (i : ℕ). IsFlowNode most_open node false i text)
-    (sym same) node_is in
-    let ink = node_ink f.indent most_open node false text is in
-    let l = lands_behind f m gap (text ++ rest) gap_is (further_ink text rest ink)
+    let is : IsFlowNode most_open node false f.indent text = grind arith in
+    let content = node_content f.indent most_open node false text is in
+    let l = lands_behind f m gap (text ++ rest) gap_is (further_content text rest content)
     (subst (λ (x : List ℕ). Before limit start place f m x ts) whole before) in
     let v = l.0 in
     let fits_all = fits_back m gap (text ++ end) o (fits_so m t (gap ++ (text ++ end)) o e fits) in
     let fits_text = fits_front at text end o fits_all in
     let inside : flow.FitsAround around at text rest =
-    record {
-      clear = fits_text.clear;
-      below = fits_text.below;
-      right = subst (λ (i : ℕ). i ≤ at.col) (sym same) (gap_reaches place m gap gap_is before.placed);
-      calm = refl;
-    } in
+    grind (arith, gap_reaches) in
     let q = past 0 (moved m t) o in
     let lands_at : f.indent ≤ n.col → past f.indent n rest ≡ q =
     λ right. eol_moved f.indent n end o end_is right ∙ ap (λ (k : Marker). past f.indent k o) (sym place_is)

@@ -11,7 +11,7 @@ use Rattle.saphyr_scanner.specs.Steps.Level.{Candidate}
 use Rattle.saphyr_scanner.specs.Steps.Gap.{GapEnd}
 use Rattle.saphyr_scanner.specs.Steps.Passing.{pass_gap, check_comment, goes_on_behind, behind_gap, check_comment_of}
 use Rattle.saphyr_scanner.specs.Steps.Queue.{Place}
-use Rattle.saphyr_scanner.specs.Steps.State.{State, on_core}
+use Rattle.saphyr_scanner.specs.Steps.State.{State}
 use Rattle.saphyr_scanner.specs.Steps.Unrolling.{unroll}
 use Rattle.saphyr_scanner.specs.Steps.Fetch.{fetch, fetch_here, arrive, fetch_within, check_limit, without_far_key, state_behind_content}
 use Rattle.saphyr_scanner.proofs.Leads.{LeadsTo, stay, onward, leads_on}
@@ -19,7 +19,7 @@ use Rattle.yaml_laws.proofs.Flow.States.{past}
 use Rattle.yaml_laws.proofs.InBlock.States.{Frame, Moment, moment_at, moment_with, core_of, state_of, crosses, IsUntabbed, IsStop, GoesOnAs}
 use Rattle.yaml_laws.proofs.InBlock.Gaps.{past_stops, gap_still, passes_to}
 use Rattle.saphyr_scalar.proofs.Given.{cursor_at}
-use Rattle.saphyr_input.proofs.Basics.Booleans.{and_false, and_or_false}
+use Rattle.saphyr_input.proofs.Basics.Booleans.{and_or_false}
 use Rattle.std.proofs.lemmas.Bool.{le-leb}
 use Rattle.saphyr_input.specs.Indicators.{percent_sign}
 use Rattle.saphyr_scanner.proofs.Queues.{queue_of}
@@ -124,8 +124,7 @@ lands f n ps m y free here clean quiet =
     (subst (λ (q : Marker × List ℕ). IsStop q.1) here (past_stops n.cursor.mark n.cursor.rest))
     (left_again n.key m) in (
       p.0,
-      ap (λ r. (on_core r (queue_of ps) >>= λ (t : State). Ok
-          (unroll (Some t.core.cursor.mark.col) t.core.cursor.mark t)) >>= fetch_here) (raw ∙ sym there),
+      grind (arith, queue_of),
     )
 
 -- ## The scanner at a token
@@ -170,24 +169,12 @@ pub record BeginsToken (m : Marker) (y : List ℕ) : Type 0 where
 -- by its first character
 pub begins_with : (c : ℕ) (m : Marker) (o : List ℕ) → IsStop (c ∷ o) → is_z c ≡ false → is_bom c ≡ false
     → (c == percent_sign) ≡ false → is_document_indicator (c ∷ o) ≡ false → BeginsToken m (c ∷ o)
-begins_with c m o stop nul mark sign none = record {
-  stop = stop;
-  nul = nul;
-  byte_order_mark = mark;
-  directive = ap (λ (b : Bool). (m.col == 0) && b) sign ∙ and_false (m.col == 0);
-  marker = ap (λ (b : Bool). (m.col == 0) && b) none ∙ and_false (m.col == 0);
-}
+begins_with c m o stop nul mark sign none = grind arith
 
 far_enough : (i col : ℕ) (deeper : Bool) → i ≤ col + 1
     → nat_lt col (if deeper && nat_le i col then i else i - 1) ≡ false
 far_enough i col false h = not_right i col h
-far_enough i col true h = by_test (nat_le i col) refl
-  where
-    right : nat_le i col ≡ true → nat_lt col i ≡ false
-    right e = grind (arith, nat_tests)
-
-    by_test : (b : Bool) → nat_le i col ≡ b → nat_lt col (if nat_le i col then i else i - 1) ≡ false
-    by_test b e = grind arith
+far_enough i col true h = grind arith
 
 -- what the step at a token's first characters gives
 pub begins_here : (f : Frame) (r : Bool) (m : Marker) (y : List ℕ) (blank : Bool) (key : Option Candidate) (a : Bool)
@@ -224,8 +211,5 @@ lands_key f n ps m y here clean quiet near far =
     n.deeper in
     let kept : drop_far_key (core_of f there) ≡ Ok (core_of f there) = rw near refl in (
       p.0,
-      ap (λ r. on_core r (queue_of ps) >>= λ (t : State). Ok
-          (unroll (Some t.core.cursor.mark.col) t.core.cursor.mark t)) (ap (λ r. r >>= drop_far_key) p.1 ∙ kept)
-          ∙ ap Ok (stays_open f n.required m y p.0 n.key (crosses n.cursor.rest || n.allowed) n.adjacent n.deeper ps
-          far),
+      grind (arith, queue_of, stays_open, crosses),
     )

@@ -7,7 +7,7 @@ use Rattle.saphyr_input.specs.Classes.{is_blank, is_break, is_yaml_non_break}
 use Rattle.saphyr_scalar.specs.declared.scalar.position.Marker.{Marker}
 use Rattle.saphyr_scalar.specs.Views.Cursor.{Cursor}
 use Rattle.saphyr_scanner.specs.Steps.Gap.{GapEnd, end_of_gap, end_of_gap_in_comment, stop, is_tab_indentation, whole_gap}
-use Rattle.yaml_laws.proofs.Flow.States.{IsInk, past, past_comment}
+use Rattle.yaml_laws.proofs.Flow.States.{IsContentStart, past, past_comment}
 use Rattle.yaml_laws.proofs.InBlock.States.{IsStop, tabbed, tabbed_comment, IsUntabbed, crosses, crosses_comment}
 use Rattle.saphyr_input.proofs.Basics.Booleans.{or_false_left}
 use Rattle.std.proofs.Math.Bool.{or-false, or-true}
@@ -98,12 +98,12 @@ gap_stops = over_gap over_stops
 pub past_stops : (m : Marker) (t : List ℕ) → IsStop (past 0 m t).1
 past_stops m t = (gap_stops m t false false).stop
 
-pub stop_inked : (y : List ℕ) → IsStop y → is_blank (slice_index y 0) ≡ false
-stop_inked y h = grind arith
+pub stop_no_blank : (y : List ℕ) → IsStop y → is_blank (slice_index y 0) ≡ false
+stop_no_blank y h = grind arith
 
 -- no column is left of the first: blanks and tabs are passed
-pub past_inked : (m : Marker) (t : List ℕ) → is_blank (slice_index (past 0 m t).1 0) ≡ false
-past_inked m t = stop_inked (past 0 m t).1 (past_stops m t)
+pub past_no_blank : (m : Marker) (t : List ℕ) → is_blank (slice_index (past 0 m t).1 0) ≡ false
+past_no_blank m t = stop_no_blank (past 0 m t).1 (past_stops m t)
 
 -- what is between two tokens is passed where no tab indents
 pub record PassesTo (least : ℕ) (s : Cursor) (m : Marker) (y : List ℕ) : Type 0 where
@@ -128,8 +128,8 @@ stop_tabbed least m blank y h = grind arith
 pub stop_past : (m : Marker) (y : List ℕ) → IsStop y → past 0 m y ≡ (m, y)
 stop_past m y h = grind arith
 
-pub ink_stop : (c : ℕ) (cs : List ℕ) → IsInk c → IsStop (c ∷ cs)
-ink_stop c cs h = (h.blank, h.break, h.comment)
+pub content_stop : (c : ℕ) (cs : List ℕ) → IsContentStart c → IsStop (c ∷ cs)
+content_stop c cs h = (h.blank, h.break, h.comment)
 
 gap_stays : (least : ℕ) (m : Marker) (blank : Bool) (y : List ℕ) → IsStop y
     → end_of_gap least m blank false false y ≡ stop m blank false false y

@@ -128,19 +128,7 @@ arrives_behind f left key ad qs ts k o leads are text clean low ends =
     let t = past 0 k o in
     let l = lands f n qs t.0 t.1 refl text (clean (least_column (core_of f n))) (inl refl) in
     record {
-      at = record {
-        blank = l.0;
-        key = left_key key t.0;
-        allowed = crosses left.rest || true;
-        adjacent = ad;
-        deeper = false;
-        places = qs;
-        follows = goes_alike (follows_itself leads) l.1 refl;
-        stop = past_stops k o;
-        near = left_again key t.0;
-        are = are;
-        low = low;
-      };
+      at = grind (arith, left_key, crosses, goes_alike, follows_itself, past_stops, left_again);
       next = by_end ends;
     }
   where

@@ -12,15 +12,15 @@ use Rattle.saphyr_scalar.specs.Reading.BlockLines.{spaces}
 use Rattle.saphyr_scalar.specs.Views.Cursor.{along, next_line}
 use Rattle.saphyr_scalar.specs.Spelling.Tag.{AreIn}
 use Rattle.scalar_laws.specs.Spelling.Spaces.{IsComment, IsCommentBehind, IsLineRest, IsLineEnd, IsEol}
-use Rattle.yaml_laws.proofs.Flow.States.{IsInk, moved}
+use Rattle.yaml_laws.proofs.Flow.States.{IsContentStart, moved}
 use Rattle.yaml_laws.proofs.Documents.Lines.{rest_first}
 use Rattle.yaml_laws.proofs.Flow.Fillers.{spaces_are_blank, blanks_past, behind_is, front_past}
-use Rattle.yaml_laws.proofs.Flow.Separates.{line_stops, ink_stops, front_moved}
+use Rattle.yaml_laws.proofs.Flow.Separates.{line_stops, content_stops, front_moved}
 use Rattle.yaml_laws.proofs.InBlock.States.{tabbed, crosses}
 use Rattle.yaml_laws.proofs.InBlock.Skips.{blanks_cross, rest_crosses, last_crosses, IsCleanIn, blanks_pass, skipped_untabbed, blanks_untabbed, line_end_skipped, rest_ends_clean}
 use Rattle.yaml_laws.proofs.InBlock.Entries.{BeginsWhite, IsBehindIndicator}
 use Rattle.saphyr_input.proofs.Basics.Booleans.{and_false}
-use Rattle.yaml_laws.proofs.InBlock.Texts.{ink_clean}
+use Rattle.yaml_laws.proofs.InBlock.Texts.{content_clean}
 
 -- ## After an indicator
 
@@ -73,12 +73,13 @@ blank_apart : (c : ℕ) → IsTrue (is_blank c) → is_blank_or_breakz c ≡ tru
 blank_apart c h = grind (arith, nat_tests)
 
 -- Blanks and a token. After a tab it is no `-` of a compact sequence and, after a colon and tabs alone, no word.
-pub blanks_behind : {colon : Bool} {indent : ℕ} (w : List ℕ) (c : ℕ) (cs : List ℕ) → AreIn is_blank w → w ≢ [] → IsInk c
+pub blanks_behind : {colon : Bool} {indent : ℕ} (w : List ℕ) (c : ℕ) (cs : List ℕ) → AreIn is_blank w → w ≢ []
+    → IsContentStart c
     → (list_any (λ b. b == tab) w && ((c == hyphen) && is_blank_or_breakz (slice_index cs 0))) ≡ false
     → (colon ≡ true → (list_all (λ b. b == tab) w && is_alpha c) ≡ false)
     → IsBehindIndicator colon indent (w ++ (c ∷ cs))
-blanks_behind [] c cs are some ink dash word = absurd (some refl)
-blanks_behind (b ∷ bs) c cs are some ink dash word =
+blanks_behind [] c cs are some content dash word = absurd (some refl)
+blanks_behind (b ∷ bs) c cs are some content dash word =
     let w = b ∷ bs in
     record {
       blanks = w;
@@ -87,26 +88,22 @@ blanks_behind (b ∷ bs) c cs are some ink dash word =
       is = refl;
       are = are;
       parts = inl refl;
-      stops = ink_stops c cs ink;
-      dash = cc (blanks_found (λ d. d == 9) w c cs are ink.blank);
-      word = λ e. cc (
-        blanks_found (λ d. d == 32) w c cs are ink.blank,
-        dash_is_alpha c,
-        tabs_or_space w (is_alpha c) are (word e),
-      );
+      stops = content_stops c cs content;
+      dash = cc (blanks_found (λ d. d == 9) w c cs are content.blank);
+      word = search (blanks_found, dash_is_alpha, tabs_or_space);
       lands = λ m. cc (along_front m w [] are (inl refl), append-nil w, blanks_pass w are m (c ∷ cs));
       crosses_same = sym (blanks_cross w (c ∷ cs) are);
-      clean = λ least low m. ink_clean c cs ink least m false;
-      clean_all = λ least low m. blanks_untabbed least w (c ∷ cs) are (ink_clean c cs ink) m;
+      clean = λ least low m. content_clean c cs content least m false;
+      clean_all = λ least low m. blanks_untabbed least w (c ∷ cs) are (content_clean c cs content) m;
       white = inr (inl are.0);
       first = blank_apart b are.0;
     }
 
 -- spaces and a token
-pub token_behind : {colon : Bool} {indent : ℕ} (n : ℕ) (c : ℕ) (cs : List ℕ) → 1 ≤ n → IsInk c
+pub token_behind : {colon : Bool} {indent : ℕ} (n : ℕ) (c : ℕ) (cs : List ℕ) → 1 ≤ n → IsContentStart c
     → IsBehindIndicator colon indent (spaces n ++ (c ∷ cs))
-token_behind n c cs some ink =
-    blanks_behind (spaces n) c cs (spaces_are_blank n) (some_spaces n some) ink (rw (no_tab n) refl)
+token_behind n c cs some content =
+    blanks_behind (spaces n) c cs (spaces_are_blank n) (some_spaces n some) content (rw (no_tab n) refl)
     (λ _. rw (some_space n some) refl)
   where
     some_spaces : (n : ℕ) → 1 ≤ n → spaces n ≢ []

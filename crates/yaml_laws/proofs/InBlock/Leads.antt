@@ -1,5 +1,5 @@
 -- What comes before a block collection is passed: its properties, or nothing, and the way to its first entry.
-use Rattle.std.proofs.Common.{◌≡◌, ℕ, ◌≤◌, true, List, [], ◌∷◌, ◌++◌, refl, sym, ap, ◌∙◌, subst, append_assoc, append-nil, inl, inr}
+use Rattle.std.proofs.Common.{◌≡◌, ℕ, ◌≤◌, true, List, [], ◌∷◌, ◌++◌, refl, sym, ap, ◌∙◌, subst, append_assoc, append-nil, inl, inr, arith}
 use Rattle.std.specs.Prelude.{◌||◌, None}
 use Rattle.saphyr_scalar.specs.declared.scalar.position.Marker.{Marker}
 use Rattle.saphyr_scalar.specs.Reading.BlockLines.{spaces}
@@ -12,7 +12,7 @@ use Rattle.yaml_laws.specs.Grammar.BlockNodes.{Position, indent_at, sequence_ind
 use Rattle.yaml_laws.proofs.Flow.States.{moved, past}
 use Rattle.yaml_laws.proofs.Flow.Places.{moved_append}
 use Rattle.yaml_laws.proofs.InBlock.Lines.{FitsOnLines, fits_so}
-use Rattle.yaml_laws.proofs.Flow.Inks.{BeginsInk}
+use Rattle.yaml_laws.proofs.Flow.ContentStarts.{StartsContent}
 use Rattle.yaml_laws.proofs.InBlock.States.{Frame, crosses, is_compact, IsPlaced, At, Before, compact_spaced}
 use Rattle.yaml_laws.proofs.InBlock.Skips.{IsSkipped, skipped_append, filler_skipped, spaces_skipped, line_end_skipped, line_end_crosses}
 use Rattle.yaml_laws.proofs.InBlock.Statements.{ReadsLeaves, IsNextLineText}
@@ -30,11 +30,11 @@ pub record LeadRead (limit : ℕ) (start : State) (p : Properties) (f : Frame) (
 
 -- where there are no properties, and what comes before is skipped
 plain_lead : {limit : ℕ} {start : State} {ts : List Kind} (p : Properties) (place : Position) (f : Frame) (m : Marker)
-    (w y : List ℕ) → p ≡ no_properties → IsSkipped w → BeginsInk y
+    (w y : List ℕ) → p ≡ no_properties → IsSkipped w → StartsContent y
     → (is_compact place || crosses (w ++ y)) ≡ true → Before limit start place f m (w ++ y) ts
     → LeadRead limit start p f (moved m w) y ts
 plain_lead {limit} {start} {ts} p place f m w y none h b opens v =
-    let there : past 0 m (w ++ y) ≡ (moved m w, y) = cc (reaches m w b.first b.others h b.ink) in
+    let there : past 0 m (w ++ y) ≡ (moved m w, y) = cc (reaches m w b.first b.others h b.content) in
     let p_at = subst (λ (q : Marker × List ℕ). (u : At limit start f q.0 q.1 ts) × (u.key ≡ None)
     × (u.allowed ≡ true)) there (v.at, v.none, v.allows opens) in
     let all = subst (λ (us : List Kind). (u : At limit start f (moved m w) y us) × (u.key ≡ None)
@@ -46,7 +46,7 @@ true_crosses place t e = rw e (or-true (is_compact place))
 
 -- up to the first token of a collection, given its lead
 pub reads_lead : {limit : ℕ} → ReadsLeaves limit → (p : Properties) (place : Position) (least column : ℕ) (f : Frame)
-    → f.indent ≡ indent_at place → (m : Marker) (lead y : List ℕ) → IsLead p place least column lead → BeginsInk y
+    → f.indent ≡ indent_at place → (m : Marker) (lead y : List ℕ) → IsLead p place least column lead → StartsContent y
     → FitsOnLines limit m lead y → (start : State) (ts : List Kind) → Before limit start place f m (lead ++ y) ts
     → LeadRead limit start p f (moved m lead) y ts
 reads_lead {limit} leaves p place least column f same m lead y
@@ -69,9 +69,7 @@ reads_lead {limit} leaves p place least column f same m lead y
     (fits_so m lead (white ++ (t ++ w)) y is fits) start ts (rw text at v) in
     rw is (record { tokens = r.tokens; are = r.are; at = r.at; none = r.none; allowed = r.allowed })
 reads_lead {limit} leaves p place least column f same m lead y (inr (none, h)) b fits start ts v =
-    let s = compact_spaced place column lead h in
-    rw s.is (plain_lead p place f m (spaces s.count) y none (spaces_skipped s.count) b (rw s.compact refl)
-    (rw s.is at v))
+    grind (arith, plain_lead, spaces_skipped)
 
 -- ## Columns
 
@@ -91,9 +89,7 @@ pub lead_col : (p : Properties) (place : Position) (least column : ℕ) (m : Mar
     → IsLead p place least column lead → (moved m lead).col ≡ column
 lead_col p place least column m lead at (inl (front, end, filler, low, front_is, end_is, filler_is, e)) =
     cc (next_col m front end filler column end_is filler_is)
-lead_col p place least column m lead at (inr (none, h)) =
-    let s = compact_spaced place column lead h in
-    ap (λ (x : List ℕ). (moved m x).col) s.is ∙ ap (λ (x : Marker). x.col) (spaces_moved m s.count) ∙ s.col m at
+lead_col p place least column m lead at (inr (none, h)) = grind (arith, spaces_moved)
 
 -- a mapping is to the right of what encloses it
 pub mapping_least : (p : Properties) (place : Position) (column : ℕ) (lead : List ℕ)

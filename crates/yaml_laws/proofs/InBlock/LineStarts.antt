@@ -1,17 +1,17 @@
 -- Where lines begin in a text, and pieces of which no document marker begins a line.
 use Rattle.std.proofs.Common.{◌≡◌, ℕ, Bool, true, false, List, [], ◌∷◌, ◌++◌, IsTrue, refl, sym, ap, ◌∙◌, arith, subst, append_assoc, append-nil, ◌⊎◌, inl, inr}
 use Rattle.std.proofs.lemmas.Bool.Decides.{nat_tests}
-use Rattle.std.specs.Prelude.{◌&&◌, ◌==◌, not}
+use Rattle.std.specs.Prelude.{◌&&◌, ◌==◌}
 use Rattle.saphyr_input.specs.Classes.{byte_order_mark, line_feed, is_blank, is_yaml_non_break}
 use Rattle.saphyr_input.specs.Places.{is_document_indicator}
 use Rattle.saphyr_scalar.specs.Spelling.Tag.{AreIn}
+use Rattle.scalar_laws.proofs.Breaks.Sides.{no_feed}
 use Rattle.scalar_laws.specs.Spelling.Spaces.{IsComment, IsFiller, IsLastFiller, IsLineRest, IsEol}
 use Rattle.yaml_laws.proofs.Flow.States.{marks_line}
-use Rattle.yaml_laws.proofs.Flow.Fillers.{behind_is}
 use Rattle.yaml_laws.proofs.InBlock.Skips.{IsSkipped, nothing, one_space, one_break, one_rest, filler_skipped}
 use Rattle.std.proofs.lemmas.Bool.{or_parts, or_from}
 use Rattle.saphyr_input.specs.Indicators.{full_stop, hyphen}
-use Rattle.saphyr_input.proofs.Basics.Characters.{non_break_no_feed}
+use Rattle.saphyr_scalar.proofs.NoBreaks.{NoBreaks, no_breaks_in}
 use Rattle.yaml_laws.specs.Grammar.Yaml.{has_marker}
 
 feed_second : (c : ℕ) (t : List ℕ) → is_document_indicator (c ∷ line_feed ∷ t) ≡ false
@@ -21,7 +21,7 @@ feed_third : (c d : ℕ) (t : List ℕ) → is_document_indicator (c ∷ d ∷ l
 feed_third c d t = grind arith
 
 -- a document marker ends before a line feed
-pub fed_marker : (c : ℕ) (cs behind : List ℕ)
+fed_marker : (c : ℕ) (cs behind : List ℕ)
     → is_document_indicator (c ∷ ((cs ++ (line_feed ∷ [])) ++ behind))
     ≡ is_document_indicator (c ∷ (cs ++ (line_feed ∷ [])))
 fed_marker c [] behind = feed_second c behind ∙ sym (feed_second c [])
@@ -77,27 +77,19 @@ first_unmarked : (c : ℕ) (cs o : List ℕ) → (c == hyphen) ≡ false → (c 
     → marks_line (c == line_feed) cs o ≡ false → (at_start : Bool) → marks_line at_start (c ∷ cs) o ≡ false
 first_unmarked c cs o e f h at_start = grind arith
 
-feed_by_test : (c : ℕ) → IsTrue (not (c == line_feed)) → (c == line_feed) ≡ false
-feed_by_test c h = grind arith
-
-words_unmarked : (w o : List ℕ) → AreIn (λ c. not (c == line_feed)) w → marks_line false w o ≡ false
+words_unmarked : (w o : List ℕ) → NoBreaks w → marks_line false w o ≡ false
 words_unmarked [] o h = refl
-words_unmarked (c ∷ cs) o h = ap (λ (b : Bool). marks_line b cs o) (feed_by_test c h.0) ∙ words_unmarked cs o h.1
+words_unmarked (c ∷ cs) o h = ap (λ (b : Bool). marks_line b cs o) (no_feed c h.0) ∙ words_unmarked cs o h.1
 
 -- a line, or its beginning, whose first character begins no marker
 pub line_unmarked : (c : ℕ) (cs : List ℕ) → (c == hyphen) ≡ false → (c == full_stop) ≡ false
-    → AreIn (λ c. not (c == line_feed)) (c ∷ cs) → IsUnmarked (c ∷ cs)
+    → NoBreaks (c ∷ cs) → IsUnmarked (c ∷ cs)
 line_unmarked c cs e f h at_start o = first_unmarked c cs o e f (words_unmarked (c ∷ cs) o h) at_start
-
-pub set_on_line : (set : ℕ → Bool) → ((c : ℕ) → IsTrue (set c) → IsTrue (not (c == line_feed))) → (w : List ℕ)
-    → AreIn set w → AreIn (λ c. not (c == line_feed)) w
-set_on_line set each [] h = tt
-set_on_line set each (c ∷ cs) h = (each c h.0, set_on_line set each cs h.1)
 
 comment_unmarked : (t : List ℕ) → (t ≡ []) ⊎ IsComment t → IsUnmarked t
 comment_unmarked t (inl e) = subst IsUnmarked (sym e) (λ at_start o. refl)
 comment_unmarked t (inr (words, are, e)) = subst IsUnmarked (sym e)
-    (line_unmarked 35 words refl refl (refl, set_on_line is_yaml_non_break non_break_no_feed words are))
+    (line_unmarked 35 words refl refl (refl, no_breaks_in is_yaml_non_break refl refl words are))
 
 blanks_unmarked : (w : List ℕ) → AreIn is_blank w → IsUnmarked w
 blanks_unmarked [] h at_start o = refl
@@ -126,16 +118,14 @@ last_unmarked t (filler, text, filler_is, (front, comment, are, k, text_is), e) 
     (subst IsUnmarked (sym text_is) last))
 
 rest_unmarked : (t : List ℕ) → IsLineRest t → IsUnmarked t
-rest_unmarked t (blanks, comment, are, k, e) = subst IsUnmarked (sym e)
-    (both_unmarked blanks comment (blanks_unmarked blanks are) (comment_unmarked comment (behind_is blanks comment k)))
+rest_unmarked t (blanks, comment, are, k, e) = grind (arith, both_unmarked, blanks_unmarked, comment_unmarked)
 
 pub end_unmarked : (t o : List ℕ) → IsEol t o → IsUnmarked t
 end_unmarked t o h = grind (arith, both_unmarked, rest_unmarked, skipped_unmarked, one_break, nothing)
 
 -- a byte order mark after filler
 pub mark_unmarked : (filler : List ℕ) → IsFiller filler → IsUnmarked (filler ++ (byte_order_mark ∷ []))
-mark_unmarked filler is = both_unmarked filler (65279 ∷ []) (skipped_unmarked filler (filler_skipped filler is))
-    (line_unmarked 65279 [] refl refl (refl, tt))
+mark_unmarked filler is = search (both_unmarked, skipped_unmarked, filler_skipped, line_unmarked)
 
 -- ## A document marker comes after such a piece
 
@@ -149,13 +139,7 @@ pub behind_piece : (at_start : Bool) (a b front y : List ℕ) → a ++ b ≡ fro
     → opens_line at_start front ≡ true → IsTrue (is_document_indicator y) → HasLine b y
 behind_piece at_start [] b front y e unmarked line marker =
     record { front = front; is = e; line = opens_too at_start front line }
-behind_piece at_start (c ∷ cs) b [] y e unmarked line marker =
-    let n = (or_parts (at_start && is_document_indicator (c ∷ (cs ++ b))) (marks_line (c == line_feed) cs b)
-    unmarked).0 in
-    absurd (clash at_start (is_document_indicator (c ∷ (cs ++ b))) line (ap is_document_indicator e ∙ marker) n)
-  where
-    clash : (a b : Bool) → a ≡ true → b ≡ true → (a && b) ≡ false → ⊥
-    clash a b e f h = cc
+behind_piece at_start (c ∷ cs) b [] y e unmarked line marker = grind arith
 behind_piece at_start (c ∷ cs) b (d ∷ ds) y e unmarked line marker =
     let others : cs ++ b ≡ ds ++ y = cc in
     let n = (or_parts (at_start && is_document_indicator (c ∷ (cs ++ b))) (marks_line (c == line_feed) cs b)

@@ -41,8 +41,7 @@ past_line m t = by_steps 0 (λ m t r. IsLined m → m.index + length t < 2 ^ 63 
     (record {
       stays = λ m t e h low. omega arith;
       onward = λ m c cs r p h low. p (further m.line m.index h) (shorter m.index (length cs) low);
-      line = λ m c cs r p h low. next m.line m.index (length cs) r.0.line h low
-          (p (broken m.line m.index h) (shorter m.index (length cs) low));
+      line = grind (arith, next, broken, shorter);
     }) m t
   where
     further : (l i : ℕ) → l ≤ i + 1 → l ≤ i + 1 + 1

@@ -6,7 +6,7 @@ use Rattle.saphyr_scanner.specs.Limits.{most_open}
 use Rattle.yaml_laws.specs.Grammar.BlockNodes.{IsBlockPair, IsBlockNode, AreOtherPairs}
 use Rattle.yaml_laws.proofs.InBlock.Statements.{ReadsAt, ReadsLeaves}
 use Rattle.yaml_laws.proofs.InBlock.Texts.{node_ends, pair_ends}
-use Rattle.yaml_laws.proofs.InBlock.BehindIndicators.{pair_ink}
+use Rattle.yaml_laws.proofs.InBlock.BehindIndicators.{pair_content}
 use Rattle.yaml_laws.proofs.InBlock.Parts.{IsPart, ReadsOtherParts, no_other_parts, parts_so, more_parts}
 use Rattle.yaml_laws.proofs.InBlock.Pairs.{mapping_start, reads_pair}
 
@@ -16,11 +16,10 @@ pub is_pair : {limit : ℕ} → ReadsLeaves limit → (key value : Node) → Rea
     (grammar.YieldsNode value grammar.InBlockMapping)) mapping_start
     (IsBlockPair most_open key value (IsBlockNode most_open key) (IsBlockNode most_open value))
 is_pair leaves key value K V = record {
-  ink = λ column t z h. pair_ink leaves key value column t z h;
+  content = λ column t z h. pair_content leaves key value column t z h;
   ends = λ column t z h. pair_ends key value (λ place u y i. node_ends leaves key place u y i)
       (λ place u y i. node_ends leaves value place u y i) column t z h;
-  reads = λ f n further e far t z h fits behind start ts v none allowed.
-      reads_pair leaves key value K V f n further e far t z h fits behind start ts v none allowed;
+  reads = search (reads_pair);
   none = refl;
 }
 

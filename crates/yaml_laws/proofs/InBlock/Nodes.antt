@@ -21,7 +21,7 @@ use Rattle.yaml_laws.proofs.InBlock.Skips.{line_end_skipped, line_end_crosses, s
 use Rattle.yaml_laws.proofs.InBlock.Entries.{frame_behind}
 use Rattle.yaml_laws.proofs.InBlock.Statements.{context_at, EndsNodeAt, ArrivedAt, Arrived, NodeRead, ReadsAt, ReadsLeaves, place_allows_block}
 use Rattle.yaml_laws.proofs.InBlock.Texts.{behind_wider}
-use Rattle.yaml_laws.proofs.InBlock.BehindIndicators.{entries_ink, pairs_ink, further_ink}
+use Rattle.yaml_laws.proofs.InBlock.BehindIndicators.{entries_content, pairs_content, further_content}
 use Rattle.yaml_laws.proofs.InBlock.Leads.{reads_lead, lead_col, mapping_least, sequence_least}
 use Rattle.yaml_laws.proofs.InBlock.Parts.{reads_parts}
 use Rattle.yaml_laws.proofs.InBlock.Sequences.{ReadsOtherEntries, no_entries, more_entries, reads_entries, sequence_start}
@@ -161,7 +161,7 @@ reads_sequence {limit} leaves p node nodes reads more place f same m t o (column
         → NodeRead limit start (Seq p (MoreNodes node nodes)) place f (moved m t) o ts
     by_column further k =
         let l = reads_lead leaves p place (sequence_indent_at place) column f same m lead (entries ++ o) lead_is
-        (further_ink entries o (entries_ink (MoreNodes node nodes) column entries o h))
+        (further_content entries o (entries_content (MoreNodes node nodes) column entries o h))
         (fits_front m lead entries o whole) start ts
         (subst (λ (x : List ℕ). Before limit start place f m x ts) text v) in
         let r = reads_entries leaves node nodes reads more f n further k far entries o
@@ -198,7 +198,7 @@ reads_mapping {limit} leaves p key value pairs K V more place f same m t o (colu
     let low : f.indent ≤ n.col = rw (col, same) (mapping_least p place column lead lead_is) in
     let behind_o = subst (λ (x : Marker). EndsNodeAt f.indent x o) end behind in
     let l = reads_lead leaves p place (indent_at place) column f same m lead (entries ++ o) lead_is
-    (further_ink entries o (pairs_ink leaves (MorePairs key value pairs) column entries o h))
+    (further_content entries o (pairs_content leaves (MorePairs key value pairs) column entries o h))
     (fits_front m lead entries o whole) start ts (subst (λ (x : List ℕ). Before limit start place f m x ts) text v) in
     let r = reads_parts (is_pair leaves key value K V) more f n true (yes f.indent n.col low) (one f.indent n.col low)
     entries o (rw col h) (fits_back m lead entries o whole)

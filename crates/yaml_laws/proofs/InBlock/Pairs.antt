@@ -31,7 +31,7 @@ use Rattle.yaml_laws.proofs.InBlock.TabsAhead.{no_tab_ahead}
 use Rattle.saphyr_input.proofs.Basics.Booleans.{clash}
 use Rattle.saphyr_input.proofs.Basics.Numbers.{next_not_within}
 use Rattle.yaml_laws.proofs.InBlock.Parts.{starts_behind, not_empty, some_first, least, frame_indent, suc_is, goes_on, ReadsPart}
-use Rattle.yaml_laws.proofs.Flow.Inks.{colon_ink}
+use Rattle.yaml_laws.proofs.Flow.ContentStarts.{colon_content}
 
 -- the start of a mapping, where one begins
 abbrev pub mapping_start : Bool → List Kind
@@ -186,12 +186,8 @@ reads_keyless {limit} leaves key value V f n further e far t z (v, out, h, is) f
     (ts ++ value_kinds further) b in
     record {
       tokens = tokens.Value ∷ s.tokens;
-      are = λ others unvalued. inr (inr (
-        out,
-        (s.tokens, as_optional value (BehindKey n.col) s.tokens s.are, refl),
-      ));
-      begins = λ others first. ap (is_value_ahead false n.col n.col) text
-          ∙ value_here n.col n.col (v ++ z) refl ahead.first;
+      are = grind (arith, as_optional);
+      begins = grind (arith, value_here);
       arrived = subst (λ (x : Marker). Arrived limit start g x z
           ((ts ++ mapping_start further) ++ (tokens.Value ∷ s.tokens))) (sym end)
           (subst (Arrived limit start g (moved (along n 1) v) z) (keyless_list further ts s.tokens) s.arrived);
@@ -238,7 +234,7 @@ reads_marked {limit} leaves key value K V f n further e far t z
     let indented : IsEntryIndentation n.col w = (filler, filler_is, refl) in
     let col : c.col ≡ n.col = indentation_col k n.col w indented line in
     let behind_k = subst (EndsNodeAt (suc n.col) k) (sym y_is)
-    (behind_indented n.col k w 58 (v ++ z) indented colon_ink line) in
+    (behind_indented n.col k w 58 (v ++ z) indented colon_content line) in
     let ahead_k = node_behind leaves key (BehindMark n.col) node y refl h behind_k.clean in
     let end = ap (moved n) is ∙ moved_append (along n 1) node (colon ++ v) ∙ ap (moved k) colon_v
     ∙ moved_append k w (58 ∷ v) in
@@ -251,7 +247,7 @@ reads_marked {limit} leaves key value K V f n further e far t z
     (subst (λ (i : ℕ). EndsNodeAt i k y) (sym same) behind_k) start (ts ++ key_kinds further) b in
     let us = (ts ++ key_kinds further) ++ r.tokens in
     let there : past 0 k y ≡ (c, 58 ∷ (v ++ z)) = ap (past 0 k) y_is
-    ∙ reaches k w 58 (v ++ z) (indentation_skipped n.col w indented) colon_ink in
+    ∙ reaches k w 58 (v ++ z) (indentation_skipped n.col w indented) colon_content in
     let at_colon = subst (ArrivedAt limit start g us) there r.arrived in
     let ready = goes_on (no_colon_marker c (v ++ z)) at_colon in
     let width = same ∙ sym (suc_is n.col) ∙ ap (λ (i : ℕ). i + 1) (sym col) in

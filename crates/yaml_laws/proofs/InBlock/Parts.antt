@@ -1,7 +1,6 @@
 -- The parts of a block collection are read, the entries of a sequence or the pairs of a mapping (YAML 1.2.2, 8.2).
 use Rattle.std.proofs.Common.{◌≡◌, ℕ, suc, ◌+◌, ◌≤◌, Bool, true, false, List, [], ◌∷◌, ◌++◌, refl, sym, ap, ◌∙◌, arith, subst, append_assoc, append-nil, ◌⊎◌, inl, inr}
 use Rattle.std.specs.Prelude.{◌==◌, ◌&&◌, None, nat_le}
-use Rattle.std.proofs.lemmas.Bool.Decides.{nat_tests}
 use Rattle.saphyr_input.specs.Classes.{is_bom}
 use Rattle.saphyr_input.specs.Places.{is_document_indicator}
 use Rattle.saphyr_scalar.specs.declared.scalar.position.Marker.{Marker}
@@ -9,15 +8,15 @@ use Rattle.saphyr_scanner.specs.Steps.State.{State}
 use Rattle.saphyr_scanner.specs.Grammar.Tokens.{Kind}
 use Rattle.saphyr_scanner.specs.Grammar.TokenGrammar as grammar
 use Rattle.yaml_laws.specs.Grammar.BlockNodes.{is_value_ahead, IsEntryIndentation}
-use Rattle.yaml_laws.proofs.Flow.States.{IsClear, moved, past, IsInk}
-use Rattle.yaml_laws.proofs.Flow.Inks.{BeginsInk}
+use Rattle.yaml_laws.proofs.Flow.States.{IsClear, moved, past, IsContentStart}
+use Rattle.yaml_laws.proofs.Flow.ContentStarts.{StartsContent}
 use Rattle.yaml_laws.proofs.Flow.Places.{moved_append, clear_here}
 use Rattle.yaml_laws.proofs.InBlock.Lines.{FitsOnLines, fits_front, fits_back, fits_so}
 use Rattle.yaml_laws.proofs.InBlock.States.{Frame, EndsDocument, At}
 use Rattle.yaml_laws.proofs.InBlock.Entries.{frame_behind}
 use Rattle.yaml_laws.proofs.InBlock.Statements.{EndsNodeAt, ArrivedAt, Arrived, EndsWithLine}
 use Rattle.yaml_laws.proofs.InBlock.Texts.{behind_indented, indentation_skipped, indentation_col, reaches}
-use Rattle.yaml_laws.proofs.InBlock.BehindIndicators.{further_ink}
+use Rattle.yaml_laws.proofs.InBlock.BehindIndicators.{further_content}
 use Rattle.yaml_laws.proofs.InBlock.ValuesAhead.{skipped_ahead}
 use Rattle.saphyr_input.proofs.Basics.Numbers.{next_not_within}
 use Rattle.saphyr_input.proofs.Basics.Booleans.{clash}
@@ -43,10 +42,7 @@ starts_behind m t o (inr h) = inr h
 pub frame_indent : (further : Bool) (f : Frame) (col : ℕ) → nat_le f.indent col ≡ further → f.indent ≤ col + 1
     → (frame_behind further col f).indent ≡ col + 1
 frame_indent true f col e h = refl
-frame_indent false f col e h = same f.indent col e h
-  where
-    same : (i col : ℕ) → nat_le i col ≡ false → i ≤ col + 1 → i ≡ col + 1
-    same i col e h = grind (arith, nat_tests)
+frame_indent false f col e h = grind arith
 
 pub suc_is : (n : ℕ) → n + 1 ≡ suc n
 suc_is n = omega arith
@@ -60,14 +56,11 @@ pub goes_on : {limit : ℕ} {start : State} {f : Frame} {ts : List Kind} {n : Ma
 goes_on {n = n} {y = y} out v = grind arith
 
 -- a token that is no document marker, where the text has none at its line's start
-not_marker : (m : Marker) (c : ℕ) (cs : List ℕ) → ((m.col == 0) && is_document_indicator (c ∷ cs)) ≡ false → IsInk c
-    → EndsDocument m (c ∷ cs) → ⊥
-not_marker m c cs h ink (inl e) = cc
-not_marker m c cs h ink (inr (col, inr k)) = clash (is_bom c) k ink.byte_order_mark
-not_marker m c cs h ink (inr (col, inl k)) = absurd (let start : (m.col == 0) ≡ true = zero_is m.col col in cc)
-  where
-    zero_is : (n : ℕ) → n ≡ 0 → (n == 0) ≡ true
-    zero_is n e = grind (arith, nat_tests)
+not_marker : (m : Marker) (c : ℕ) (cs : List ℕ) → ((m.col == 0) && is_document_indicator (c ∷ cs)) ≡ false
+    → IsContentStart c → EndsDocument m (c ∷ cs) → ⊥
+not_marker m c cs h content (inl e) = cc
+not_marker m c cs h content (inr (col, inr k)) = clash (is_bom c) k content.byte_order_mark
+not_marker m c cs h content (inr (col, inl k)) = grind arith
 
 -- a `:` ahead, after a line's end
 ahead_of_line : (n : Marker) (z : List ℕ) (column : ℕ) → StartsLine n z → is_value_ahead false column n.col z ≡ true
@@ -108,7 +101,7 @@ ReadsPart limit E opens Is =
 
 pub record IsPart (limit : ℕ) (E : List Kind → List Kind → Type 0) (opens : Bool → List Kind)
     (Is : ℕ → List ℕ → List ℕ → Type 0) : Type 0 where
-  pub ink : (column : ℕ) (t z : List ℕ) → Is column t z → BeginsInk t
+  pub content : (column : ℕ) (t z : List ℕ) → Is column t z → StartsContent t
   pub ends : (column : ℕ) (t z : List ℕ) → Is column t z → EndsWithLine t z
   pub reads : ReadsPart limit E opens Is
   pub none : opens false ≡ []
@@ -142,9 +135,7 @@ part_text front part others o = simp append_assoc
 
 pub no_other_parts : {limit : ℕ} → ReadsOtherParts limit (λ column t o. t ≡ []) (λ ts. ts ≡ [])
 no_other_parts {limit} = record {
-  behind = λ column m t o h starts behind.
-      subst (λ (x : List ℕ). EndsNodeAt (suc column) (moved m x) o → EndsNodeAt (suc column) m (x ++ o)) (sym h)
-      (λ k. k) behind;
+  behind = grind (arith, moved);
   reads = λ g column same m t o h fits behind starts start ts v. record {
     tokens = [];
     are = refl;
@@ -155,10 +146,10 @@ no_other_parts {limit} = record {
   };
 }
 
-pub told_parts : {limit : ℕ} {start : State} {As Bs : List Kind → Type 0} {column : ℕ} {g : Frame} {m : Marker}
+pub mapped_parts : {limit : ℕ} {start : State} {As Bs : List Kind → Type 0} {column : ℕ} {g : Frame} {m : Marker}
     {t o : List ℕ} {ts : List Kind} → ((us : List Kind) → As us → Bs us)
     → PartsRead limit start As column g m t o ts → PartsRead limit start Bs column g m t o ts
-told_parts f r = record { tokens = r.tokens; are = f r.tokens r.are; begins = r.begins; arrived = r.arrived }
+mapped_parts f r = record { tokens = r.tokens; are = f r.tokens r.are; begins = r.begins; arrived = r.arrived }
 
 pub parts_so : {limit : ℕ} {Ps Qs : ℕ → List ℕ → List ℕ → Type 0} {As Bs : List Kind → Type 0}
     → ((column : ℕ) (t o : List ℕ) → Qs column t o → Ps column t o) → ((ts : List Kind) → As ts → Bs ts)
@@ -166,7 +157,7 @@ pub parts_so : {limit : ℕ} {Ps Qs : ℕ → List ℕ → List ℕ → Type 0} 
 parts_so f g r = record {
   behind = λ column m t o h starts behind. r.behind column m t o (f column t o h) starts behind;
   reads = λ k column same m t o h fits behind starts start ts v.
-      told_parts g (r.reads k column same m t o (f column t o h) fits behind starts start ts v);
+      mapped_parts g (r.reads k column same m t o (f column t o h) fits behind starts start ts v);
 }
 
 others_behind : {limit : ℕ} {E : List Kind → List Kind → Type 0} {opens : Bool → List Kind}
@@ -175,12 +166,12 @@ others_behind : {limit : ℕ} {E : List Kind → List Kind → Type 0} {opens : 
     → AreOthers Is Others column t o → StartsLine m (t ++ o) → EndsNodeAt (suc column) m (t ++ o)
 others_behind is_part Others column m t o (front, part, others, front_is, h, k, e) starts =
     let z = others ++ o in
-    let b = further_ink part z (is_part.ink column part z h) in
-    let text : t ++ o ≡ front ++ (b.first ∷ b.others) = ap (λ (x : List ℕ). x ++ o) e ∙ part_text front part others o
-    ∙ ap (λ (x : List ℕ). front ++ x) b.is in
+    let b = further_content part z (is_part.content column part z h) in
+    let text : t ++ o ≡ front ++ (b.first ∷ b.others) = grind (arith, part_text) in
     let first = some_first front b.others b.first in
     let col = not_empty m t o first.0 first.1 starts (text ∙ first.2) in
-    subst (EndsNodeAt (suc column) m) (sym text) (behind_indented column m front b.first b.others front_is b.ink col)
+    subst (EndsNodeAt (suc column) m) (sym text)
+    (behind_indented column m front b.first b.others front_is b.content col)
 
 list_end : (ts us vs opens : List Kind) → opens ≡ [] → ((ts ++ opens) ++ us) ++ vs ≡ ts ++ (us ++ vs)
 list_end ts us vs opens e = rw e (simp (append_assoc, append-nil))
@@ -193,15 +184,15 @@ more_parts {limit} {opens = opens} {Is} {Others} {As} is_part more = record {
   reads = λ g column same m t o (front, part, others, front_is, h, k, e) fits behind starts start ts v.
       let z = others ++ o in
       let n = moved m front in
-      let b = is_part.ink column part z h in
-      let bz = further_ink part z b in
+      let b = is_part.content column part z h in
+      let bz = further_content part z b in
       let text : t ++ o ≡ front ++ (part ++ z) = ap (λ (x : List ℕ). x ++ o) e ∙ part_text front part others o in
-      let inked : t ++ o ≡ front ++ (bz.first ∷ bz.others) = text ∙ ap (λ (x : List ℕ). front ++ x) bz.is in
+      let past_blanks : t ++ o ≡ front ++ (bz.first ∷ bz.others) = text ∙ ap (λ (x : List ℕ). front ++ x) bz.is in
       let first = some_first front bz.others bz.first in
-      let line = not_empty m t o first.0 first.1 starts (inked ∙ first.2) in
+      let line = not_empty m t o first.0 first.1 starts (past_blanks ∙ first.2) in
       let col : n.col ≡ column = indentation_col m column front front_is line in
       let there : past 0 m (t ++ o) ≡ (n, part ++ z) = cc (reaches m front bz.first bz.others
-      (indentation_skipped column front front_is) bz.ink) in
+      (indentation_skipped column front front_is) bz.content) in
       let at_part = subst (ArrivedAt limit start g ts) there v in
       let is_it = subst (λ (c : ℕ). Is c part z) (sym col) h in
       let whole = fits_so m t (front ++ (part ++ others)) o e fits in
@@ -213,8 +204,7 @@ more_parts {limit} {opens = opens} {Is} {Others} {As} is_part more = record {
       let starts_z = starts_behind n part z (is_part.ends n.col part z is_it) in
       let behind_z = more.behind column last others o k starts_z behind_o in
       let clear = clear_here n b.first b.others z (subst (λ (x : List ℕ). IsClear n x z) b.is fits_part.clear) in
-      let unmarked : EndsDocument n (part ++ z) → ⊥ = λ d. not_marker n b.first (b.others ++ z) clear b.ink
-      (subst (λ (x : List ℕ). EndsDocument n (x ++ z)) b.is d) in
+      let unmarked : EndsDocument n (part ++ z) → ⊥ = grind (arith, not_marker) in
       let ready = goes_on unmarked at_part in
       let width = same ∙ ap (λ (c : ℕ). c + 1) (sym col) in
       let r = is_part.reads g n false (next_not_within g.indent n.col width)

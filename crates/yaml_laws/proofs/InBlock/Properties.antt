@@ -18,8 +18,8 @@ use Rattle.yaml_laws.specs.Grammar.BlockNodes.{indent_at}
 use Rattle.saphyr_scanner.specs.declared.engine.level.Context.TheVariants as context
 use Rattle.yaml_laws.proofs.InFlow.States.{moment}
 use Rattle.yaml_laws.proofs.Flow.States.{moved, past, Since, FitsAround, ReaderPromises}
-use Rattle.yaml_laws.proofs.Flow.Inks.{BeginsInk, properties_ink, behind_low}
-use Rattle.yaml_laws.proofs.Flow.GapSteps.{past_ink}
+use Rattle.yaml_laws.proofs.Flow.ContentStarts.{StartsContent, properties_content, behind_low}
+use Rattle.yaml_laws.proofs.Flow.GapSteps.{past_content}
 use Rattle.yaml_laws.proofs.Flow.Fillers.{separation_past}
 use Rattle.yaml_laws.proofs.Flow.Ends.{white_ends_tag}
 use Rattle.yaml_laws.proofs.Flow.Places.{moved_append}
@@ -27,8 +27,8 @@ use Rattle.yaml_laws.proofs.InBlock.States.{Frame, crosses, At}
 use Rattle.yaml_laws.proofs.InBlock.Skips.{IsSkipped, IsClean, Passes, skipped_clean, skipped_append, spaces_skipped, line_end_skipped, line_end_crosses, filler_skipped, skipped_passes, text_gap_passes}
 use Rattle.yaml_laws.proofs.InBlock.Lines.{moved_line, later_line, FitsOnLines, fits_front, fits_back, fits_so}
 use Rattle.yaml_laws.proofs.InBlock.Statements.{IsNextLineText, PropertiesRead, ReadsProperties}
-use Rattle.yaml_laws.proofs.InBlock.Texts.{ink_clean, passes_to}
-use Rattle.yaml_laws.proofs.InBlock.BehindIndicators.{further_ink}
+use Rattle.yaml_laws.proofs.InBlock.Texts.{content_clean, passes_to}
+use Rattle.yaml_laws.proofs.InBlock.BehindIndicators.{further_content}
 use Rattle.yaml_laws.proofs.Documents.Lines.{rest_first}
 use Rattle.yaml_laws.proofs.InBlock.HeaderScalars.{IsOnLineOrBefore}
 use Rattle.yaml_laws.proofs.InBlock.Scalars.{HeadRead, ReadsHead, gap_reaches, text_gap_reaches, lands_behind, none_late}
@@ -40,11 +40,11 @@ use Rattle.yaml_laws.proofs.InBlock.FlowNodes.{around_of, goes_behind}
 use Rattle.saphyr_input.proofs.Basics.Booleans.{or_true_swap}
 use Rattle.saphyr_scalar.proofs.Given.{cursor_at}
 
-lands_on : (m : Marker) (b y : List ℕ) → Passes b → BeginsInk y → past 0 m (b ++ y) ≡ (moved m b, y)
-lands_on m b y h ink = cc (passes_to m b ink.first ink.others h ink.ink)
+lands_on : (m : Marker) (b y : List ℕ) → Passes b → StartsContent y → past 0 m (b ++ y) ≡ (moved m b, y)
+lands_on m b y h content = cc (passes_to m b content.first content.others h content.content)
 
-clean_ink : (y : List ℕ) → BeginsInk y → IsClean y
-clean_ink y ink = rw ink.is (ink_clean ink.first ink.others ink.ink)
+clean_content : (y : List ℕ) → StartsContent y → IsClean y
+clean_content y content = rw content.is (content_clean content.first content.others content.content)
 
 text_line : {limit : ℕ} (m : Marker) (t o : List ℕ) → limit < 2 ^ 63 → FitsOnLines limit m t o
     → m.line ≤ (moved m t).line
@@ -112,11 +112,12 @@ line_first : (end o rest : List ℕ) → IsLineRest rest → end ≡ rest ++ (li
 line_first end o rest h e = cc (append_assoc rest (10 ∷ []) o, rest_first rest (10 ∷ o) h (inr refl))
 
 pub reads_head : ReaderPromises → (limit : ℕ) → limit < 2 ^ 63 → ReadsHead limit
-reads_head reads limit short p place f same m gap t between y gap_is h between_is ink fits start ts before =
+reads_head reads limit short p place f same m gap t between y gap_is h between_is content fits start ts before =
     let n = moved m gap in
     let o = between ++ y in
     let low = subst (λ (i : ℕ). i ≤ n.col) (sym same) (gap_reaches place m gap gap_is before.placed) in
-    let l = lands_behind f m gap (t ++ o) gap_is (further_ink t o (properties_ink p (indent_at place) t h)) before in
+    let l = lands_behind f m gap (t ++ o) gap_is
+    (further_content t o (properties_content p (indent_at place) t h)) before in
     let k = moved n t in
     let q = moved k between in
     let passes = text_gap_passes (indent_at place) between between_is in
@@ -127,13 +128,13 @@ reads_head reads limit short p place f same m gap t between y gap_is h between_i
     (fits_front n t between y fits_t) (λ right. cc (
       separation_past f.indent k between y
           (gap_separates f.indent between spaced) right,
-      past_ink f.indent q ink.first ink.others ink.ink,
-      lands_on k between y passes ink,
+      past_content f.indent q content.first content.others content.content,
+      lands_on k between y passes content,
     )) l.0 (none_late l.0.key n l.1) in
     let line = text_line k between y short (fits_back n t between y fits_t) in
     let Q : Marker × List ℕ → Type 0 = λ x. (u : At limit start f x.0 x.1 (ts ++ r.tokens))
     × IsOnLineOrBefore u.key q in
-    let z = subst Q (lands_on k between y passes ink) (r.at, late_later r.at.key k q line r.late) in
+    let z = subst Q (lands_on k between y passes content) (r.at, late_later r.at.key k q line r.late) in
     let here : HeadRead limit start p f q y ts =
     record {
       tokens = r.tokens;
@@ -160,15 +161,15 @@ record LinesBehind (w y : List ℕ) : Type 0 where
   more : List ℕ
   is : w ≡ rest ++ (line_feed ∷ more)
 
-lines_behind : (w y : List ℕ) → IsNextLineText w → BeginsInk y → LinesBehind w y
-lines_behind w y (end, filler, n, (rest, rest_is, end_is), filler_is, e) ink =
+lines_behind : (w y : List ℕ) → IsNextLineText w → StartsContent y → LinesBehind w y
+lines_behind w y (end, filler, n, (rest, rest_is, end_is), filler_is, e) content =
     let more = filler ++ spaces n in
     let skipped = skipped_append filler (spaces n) (filler_skipped filler filler_is) (spaces_skipped n) in
     let ends = line_end_skipped end (rest, rest_is, end_is) in
     let text : w ++ y ≡ end ++ (more ++ y) = cc (append_assoc end more y) in
     record {
       skipped = rw e (skipped_append end more ends skipped);
-      clean = rw text (skipped_clean end (more ++ y) ends (skipped_clean more y skipped (clean_ink y ink)));
+      clean = rw text (skipped_clean end (more ++ y) ends (skipped_clean more y skipped (clean_content y content)));
       white = rw text (line_first end (more ++ y) rest rest_is end_is);
       crossed = ap crosses text ∙ line_end_crosses end (more ++ y) (rest, rest_is, end_is);
       rest = rest;
@@ -177,12 +178,13 @@ lines_behind w y (end, filler, n, (rest, rest_is, end_is), filler_is, e) ink =
     }
 
 pub reads_properties : ReaderPromises → (limit : ℕ) → limit < 2 ^ 63 → ReadsProperties limit
-reads_properties reads limit short p place f same m front t w y gap_is h next_line ink fits start ts before =
+reads_properties reads limit short p place f same m front t w y gap_is h next_line content fits start ts before =
     let n = moved m front in
     let o = w ++ y in
     let low = subst (λ (i : ℕ). i ≤ n.col) (sym same) (gap_reaches place m front gap_is before.placed) in
-    let l = lands_behind f m front (t ++ o) gap_is (further_ink t o (properties_ink p (indent_at place) t h)) before in
-    let b = lines_behind w y next_line ink in
+    let l = lands_behind f m front (t ++ o) gap_is
+    (further_content t o (properties_content p (indent_at place) t h)) before in
+    let b = lines_behind w y next_line content in
     let fits_t = fits_back m front (t ++ w) y fits in
     let at_frame = subst (λ (i : ℕ). IsProperties p i t) (sym same) h in
     let r = properties_passed reads short f p t at_frame n o low b.white (fits_front n t w y fits_t)
@@ -197,7 +199,7 @@ reads_properties reads limit short p place f same m front t w y gap_is h next_li
     let at_line = ap (λ (x : List ℕ). (moved k x).line) b.is in
     let Q : Marker × List ℕ → Type 0 = λ x. (u : At limit start f x.0 x.1 (ts ++ r.tokens)) × IsOnLineOrBefore u.key k
     × (u.allowed ≡ true) in
-    let z = subst Q (lands_on k w y (skipped_passes w b.skipped) ink) (r.at, r.late, r.allowed b.crossed) in
+    let z = subst Q (lands_on k w y (skipped_passes w b.skipped) content) (r.at, r.late, r.allowed b.crossed) in
     let here : PropertiesRead limit start p f q y ts =
     record {
       tokens = r.tokens;

@@ -1,7 +1,6 @@
 -- The `?` of a block mapping is read (YAML 1.2.2, 8.2.2).
-use Rattle.std.proofs.Common.{◌≡◌, ℕ, suc, ◌+◌, ◌≤◌, Bool, true, false, List, [], ◌∷◌, ◌++◌, length, slice_index, refl, sym, ap, ◌∙◌, arith, IsTrue, Ok, ◌⊎◌, inl, inr}
-use Rattle.std.specs.Prelude.{◌||◌, ◌==◌, nat_le, Option, None}
-use Rattle.std.proofs.lemmas.Bool.Decides.{nat_tests}
+use Rattle.std.proofs.Common.{◌≡◌, ℕ, suc, ◌+◌, ◌≤◌, Bool, true, false, List, [], ◌∷◌, ◌++◌, length, slice_index, refl, ap, ◌∙◌, arith, IsTrue, Ok, ◌⊎◌, inl, inr}
+use Rattle.std.specs.Prelude.{◌==◌, nat_le, Option, None}
 use Rattle.saphyr_input.specs.Classes.{is_blank, is_blank_or_breakz, line_feed, tab}
 use Rattle.saphyr_scalar.specs.declared.scalar.position.Marker.{Marker}
 use Rattle.saphyr_scalar.specs.Views.Cursor.{◌>>=◌, along}
@@ -26,7 +25,6 @@ use Rattle.yaml_laws.proofs.InBlock.Follows.{BeginsToken, begins_with, deeper_at
 use Rattle.yaml_laws.proofs.InBlock.Entries.{BeginsWhite, frame_behind, steps_on, start_places, start_performs, start_kinds, start_are, before_next}
 use Rattle.saphyr_input.proofs.Basics.Numbers.{le_next}
 use Rattle.std.proofs.Math.Bool.{or-true}
-use Rattle.std.proofs.lemmas.Bool.{or_parts}
 use Rattle.saphyr_input.specs.Indicators.{colon, question_mark}
 use Rattle.saphyr_scanner.proofs.Queues.{queue_of}
 
@@ -34,22 +32,13 @@ use Rattle.saphyr_scanner.proofs.Queues.{queue_of}
 
 white_first : (o : List ℕ) → BeginsWhite o → is_blank_or_breakz (slice_index o 0) ≡ true
 white_first [] h = absurd h
-white_first (c ∷ cs) (inl e) = blank_apart c e
-  where
-    blank_apart : (c : ℕ) → is_blank c ≡ true → is_blank_or_breakz c ≡ true
-    blank_apart c e = grind (arith, nat_tests)
+white_first (c ∷ cs) (inl e) = search
 white_first (c ∷ cs) (inr e) = rw e refl
 
 -- a space or a break
 no_tab_first : (c : ℕ) (cs : List ℕ) → IsTrue (is_blank c) ⊎ (c ≡ line_feed) → has_tab (c ∷ cs) ≡ false
     → (c ≡ 32) ⊎ (c ≡ line_feed)
-no_tab_first c cs (inl e) clean = inl (space c e (or_parts (c == 9) (has_tab cs) (sym whole ∙ clean)).0)
-  where
-    whole : has_tab (c ∷ cs) ≡ ((c == tab) || has_tab cs)
-    whole = rw e refl
-
-    space : (c : ℕ) → is_blank c ≡ true → (c == tab) ≡ false → c ≡ 32
-    space c e f = grind (arith, nat_tests)
+no_tab_first c cs (inl e) clean = grind arith
 no_tab_first c cs (inr e) clean = inr e
 
 reach : (m : Marker) (o : List ℕ) → BeginsWhite o → has_tab o ≡ false
@@ -62,10 +51,7 @@ colon_begins m o = begins_with 58 m o (refl, refl, refl) refl refl refl refl
 
 no_tab_here : (y : List ℕ) → IsStop y → (slice_index y 0 == tab) ≡ false
 no_tab_here [] h = refl
-no_tab_here (c ∷ cs) h = no_tab c h.0
-  where
-    no_tab : (c : ℕ) → is_blank c ≡ false → (c == tab) ≡ false
-    no_tab c h = grind (arith, nat_tests)
+no_tab_here (c ∷ cs) h = grind arith
 
 mark_enters : (f : Frame) (m : Marker) (y : List ℕ) (blank : Bool) (key : Option Candidate) (ad : ℕ)
     (deeper further : Bool) → nat_le f.indent m.col ≡ further → (d : Bool) × (remove_key

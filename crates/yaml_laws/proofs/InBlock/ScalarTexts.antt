@@ -22,10 +22,9 @@ use Rattle.yaml_laws.specs.Grammar.BlockNodes.{IsBlockScalarText, IsStyled, IsSc
 use Rattle.yaml_laws.proofs.Flow.States.{moved}
 use Rattle.yaml_laws.proofs.Flow.Places.{moved_append}
 use Rattle.yaml_laws.proofs.Flow.Quoted.{moved_passes}
-use Rattle.yaml_laws.proofs.Flow.Inks.{BeginsInk, properties_ink}
+use Rattle.yaml_laws.proofs.Flow.ContentStarts.{StartsContent, properties_content}
 use Rattle.yaml_laws.proofs.InBlock.Lines.{IsLined, later_line}
 use Rattle.yaml_laws.proofs.InBlock.Statements.{EndsWithLine}
-use Rattle.yaml_laws.proofs.InBlock.BehindIndicators.{further_ink}
 
 -- ## What the readers of block scalars promise
 
@@ -175,12 +174,9 @@ block_taken laws style value indent s first more t o whole begins no_break clean
     let went = laws.passes style indent s k.left (encode_utf8_all value) k.span
     (ap (λ (y : List ℕ). is_break (slice_index y 0)) start ∙ no_break) (some_text first (more ++ o) s.rest start)
     read in
-    let here : IsPassed s.mark s.rest k.left.mark others = subst (λ (y : List ℕ). IsPassed s.mark s.rest k.left.mark y)
-    k.rest went in
+    let here : IsPassed s.mark s.rest k.left.mark others = grind arith in
     let there : IsPassed s.mark s.rest (moved s.mark (t ++ spaces n)) others =
-    subst (λ (y : List ℕ). IsPassed s.mark y (moved s.mark (t ++ spaces n)) others) (sym text)
-    (moved_passes s.mark (t ++ spaces n) others
-    (both_in (λ c. not (c == carriage_return)) t (spaces n) clean (no_returns n))) in
+    grind (arith, moved, moved_passes, both_in, no_returns) in
     let place = laws.place s.mark s.rest (moved s.mark (t ++ spaces n)) others there k.left.mark here in
     let size = ap length (sym whole ∙ text) ∙ length-append (t ++ spaces n) others in
     record {
@@ -239,15 +235,14 @@ scalar_ends DoubleQuoted value indent t o h = absurd h
 
 -- ## How a block scalar begins
 
-pub sign_ink : (style : Style) (value : List ℕ) (indent : ℕ) (t o : List ℕ) → IsStyled style value indent t o
-    → BeginsInk t
-sign_ink style value indent t o h = grind (arith)
+pub sign_content : (style : Style) (value : List ℕ) (indent : ℕ) (t o : List ℕ) → IsStyled style value indent t o
+    → StartsContent t
+sign_content style value indent t o h = grind (arith)
 
 -- a block scalar begins with its properties or with its header
-pub block_ink : (p : Properties) (style : Style) (value : List ℕ) (indent : ℕ) (front t o : List ℕ)
-    → IsScalarFront p indent front → IsStyled style value indent t o → BeginsInk (front ++ t)
-block_ink p style value indent front t o (inl (none, e)) h =
-    subst (λ (y : List ℕ). BeginsInk (y ++ t)) (sym e) (sign_ink style value indent t o h)
-block_ink p style value indent front t o (inr (properties, between, is, spaced, e)) h =
-    subst (λ (y : List ℕ). BeginsInk (y ++ t)) (sym e)
-    (further_ink (properties ++ between) t (further_ink properties between (properties_ink p indent properties is)))
+pub block_content : (p : Properties) (style : Style) (value : List ℕ) (indent : ℕ) (front t o : List ℕ)
+    → IsScalarFront p indent front → IsStyled style value indent t o → StartsContent (front ++ t)
+block_content p style value indent front t o (inl (none, e)) h =
+    subst (λ (y : List ℕ). StartsContent (y ++ t)) (sym e) (sign_content style value indent t o h)
+block_content p style value indent front t o (inr (properties, between, is, spaced, e)) h =
+    grind (arith, properties_content)

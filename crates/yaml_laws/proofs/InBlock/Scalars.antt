@@ -1,8 +1,7 @@
 -- Block scalars at block level, with what comes before them (YAML 1.2.2, 8.1).
-use Rattle.std.proofs.Common.{◌≡◌, ◌≢◌, ℕ, ◌+◌, ◌^◌, ◌<◌, ◌≤◌, false, List, [], ◌∷◌, ◌++◌, length, refl, sym, ap, arith, subst, append_assoc, append-nil, IsTrue, inl, inr}
+use Rattle.std.proofs.Common.{◌≡◌, ℕ, ◌^◌, ◌<◌, ◌≤◌, List, [], ◌∷◌, ◌++◌, refl, sym, arith, subst, append_assoc, append-nil, IsTrue, inl, inr}
 use Rattle.std.specs.Prelude.{Option, None}
-use Rattle.std.proofs.lemmas.Bool.Decides.{nat_tests}
-use Rattle.saphyr_input.specs.Classes.{is_blank, is_break}
+use Rattle.saphyr_input.specs.Classes.{is_blank}
 use Rattle.saphyr_scalar.specs.Spelling.Tag.{AreIn}
 use Rattle.saphyr_scalar.specs.declared.scalar.position.Marker.{Marker}
 use Rattle.saphyr_scalar.proofs.NoBreaks.{NoBreaks}
@@ -15,7 +14,7 @@ use Rattle.saphyr_scanner.specs.Grammar.TokenGrammar as grammar
 use Rattle.yaml_laws.specs.Grammar.FlowNodes.{IsProperties}
 use Rattle.yaml_laws.specs.Grammar.BlockNodes.{Position as Position, indent_at, is_start, IsGapAt, IsStyled, IsScalarFront, IsScalarInBlock}
 use Rattle.yaml_laws.proofs.Flow.States.{moved, past}
-use Rattle.yaml_laws.proofs.Flow.Inks.{BeginsInk}
+use Rattle.yaml_laws.proofs.Flow.ContentStarts.{StartsContent}
 use Rattle.yaml_laws.proofs.Flow.Names.{unbroken_along}
 use Rattle.yaml_laws.proofs.Flow.Places.{moved_append}
 use Rattle.yaml_laws.proofs.Flow.WordGaps.{prefix_reaches}
@@ -24,14 +23,11 @@ use Rattle.yaml_laws.proofs.InBlock.Skips.{gap_passes}
 use Rattle.yaml_laws.proofs.InBlock.Lines.{FitsOnLines, fits_front, fits_so}
 use Rattle.yaml_laws.proofs.InBlock.Statements.{context_at, EndsNodeAt, NodeRead, ReadsAt}
 use Rattle.yaml_laws.proofs.InBlock.Texts.{passes_to}
-use Rattle.yaml_laws.proofs.InBlock.BehindIndicators.{further_ink}
-use Rattle.yaml_laws.proofs.InBlock.ScalarTexts.{ReadsBlocks, sign_ink}
+use Rattle.yaml_laws.proofs.InBlock.BehindIndicators.{further_content}
+use Rattle.yaml_laws.proofs.InBlock.ScalarTexts.{ReadsBlocks, sign_content}
 use Rattle.yaml_laws.proofs.InBlock.HeaderScalars.{IsOnLineOrBefore, reads_behind}
 
 -- ## The gap before it
-
-pub spaces_reach : (place : Position) (m : Marker) (n : ℕ) → 1 ≤ n → IsPlaced place m → indent_at place ≤ m.col + n
-spaces_reach place m n some placed = grind arith
 
 start_reaches : (place : Position) (n : ℕ) → IsTrue (is_start place) → indent_at place ≤ n
 start_reaches place n h = grind arith
@@ -47,21 +43,12 @@ next_line_reaches indent m w (end, filler, front, end_is, filler_is, prefix, e) 
 
 unbroken_blanks : (w : List ℕ) → AreIn is_blank w → NoBreaks w
 unbroken_blanks [] h = tt
-unbroken_blanks (c ∷ cs) h = (unbroken c h.0, unbroken_blanks cs h.1)
-  where
-    unbroken : (c : ℕ) → IsTrue (is_blank c) → is_break c ≡ false
-    unbroken c h = grind (arith, nat_tests)
+unbroken_blanks (c ∷ cs) h = grind (arith, unbroken_blanks cs h.1)
 
 -- after the gap before a node is nothing that is left of it
 pub gap_reaches : (place : Position) (m : Marker) (gap : List ℕ) → IsGapAt place gap → IsPlaced place m
     → indent_at place ≤ (moved m gap).col
-gap_reaches place m gap (inl (some, are)) placed =
-    let there = ap (λ (k : Marker). k.col) (unbroken_along m gap (unbroken_blanks gap are)) in
-    omega (arith, there, spaces_reach place m (length gap) (some_length gap some) placed)
-  where
-    some_length : (w : List ℕ) → w ≢ [] → 1 ≤ length w
-    some_length [] some = absurd (some refl)
-    some_length (c ∷ cs) some = omega arith
+gap_reaches place m gap (inl (some, are)) placed = grind (arith, unbroken_along, unbroken_blanks)
 gap_reaches place m gap (inr (inl h)) placed = next_line_reaches (indent_at place) m gap h
 gap_reaches place m gap (inr (inr (first, e))) placed = start_reaches place (moved m gap).col first
 
@@ -70,11 +57,11 @@ none_late k m e = rw e tt
 
 -- the state before a node is that after the gap
 pub lands_behind : {limit : ℕ} {start : State} {ts : List Kind} {place : Position} (f : Frame) (m : Marker)
-    (gap y : List ℕ) → IsGapAt place gap → BeginsInk y → Before limit start place f m (gap ++ y) ts
+    (gap y : List ℕ) → IsGapAt place gap → StartsContent y → Before limit start place f m (gap ++ y) ts
     → (v : At limit start f (moved m gap) y ts) × (v.key ≡ None)
-lands_behind {limit} {start} {ts} {place} f m gap y h ink b =
+lands_behind {limit} {start} {ts} {place} f m gap y h content b =
     let there : past 0 m (gap ++ y) ≡ (moved m gap, y) =
-    cc (passes_to m gap ink.first ink.others (gap_passes place gap h) ink.ink) in
+    cc (passes_to m gap content.first content.others (gap_passes place gap h) content.content) in
     let P : Marker × List ℕ → Type 0 = λ q. (v : At limit start f q.0 q.1 ts) × (v.key ≡ None) in
     subst P there (b.at, b.none)
 
@@ -93,7 +80,7 @@ pub record HeadRead (limit : ℕ) (start : State) (p : Properties) (f : Frame) (
 abbrev pub ReadsHead : ℕ → Type 0
 ReadsHead limit = (p : Properties) (place : Position) (f : Frame) → f.indent ≡ indent_at place
     → (m : Marker) (gap t between y : List ℕ) → IsGapAt place gap → IsProperties p (indent_at place) t
-    → IsGap (indent_at place) between → BeginsInk y
+    → IsGap (indent_at place) between → StartsContent y
     → FitsOnLines limit m (gap ++ (t ++ between)) y → (start : State) (ts : List Kind)
     → Before limit start place f m (gap ++ (t ++ (between ++ y))) ts
     → HeadRead limit start p f (moved m (gap ++ (t ++ between))) y ts
@@ -122,8 +109,8 @@ reads_block_scalars laws {limit} short heads p style value place f same m t o
     low : f.indent ≤ (moved m gap).col
     low = rw same (gap_reaches place m gap gap_is before.placed)
 
-    ink : BeginsInk (text ++ o)
-    ink = further_ink text o (sign_ink style value f.indent text o is)
+    content : StartsContent (text ++ o)
+    content = further_content text o (sign_content style value f.indent text o is)
 
     -- after a piece of the text, properties were read
     behind_head : (w : List ℕ) (us : List Kind) → t ≡ w ++ text → grammar.YieldProperties p us
@@ -145,7 +132,7 @@ reads_block_scalars laws {limit} short heads p style value place f same m t o
         let whole : t ≡ gap ++ text = cc in
         let b : Before limit start place f m (gap ++ (text ++ o)) ts = rw (whole, append_assoc gap text o) at before in
         let P : List Kind → Type 0 = λ us. (v : At limit start f (moved m gap) (text ++ o) us) × (v.key ≡ None) in
-        let v = subst P (sym (append-nil ts)) (lands_behind f m gap (text ++ o) gap_is ink b) in
+        let v = subst P (sym (append-nil ts)) (lands_behind f m gap (text ++ o) gap_is content b) in
         behind_head gap [] whole (rw none refl) low v.0 (none_late v.0.key (moved m gap) v.1)
     by_front (inr (properties, between, h, spaced, parts)) =
         let w = gap ++ (properties ++ between) in
@@ -158,6 +145,6 @@ reads_block_scalars laws {limit} short heads p style value place f same m t o
         ) in
         let b : Before limit start place f m (gap ++ (properties ++ (between ++ (text ++ o)))) ts =
         rw inner at before in
-        let r = heads p place f same m gap properties between (text ++ o) gap_is h spaced ink
+        let r = heads p place f same m gap properties between (text ++ o) gap_is h spaced content
         (fits_front m w text o (fits_so m t (w ++ text) o whole fits)) start ts b in
         behind_head w r.tokens whole r.are r.right r.at r.late

@@ -1,5 +1,5 @@
 -- The entries of a block sequence are read (YAML 1.2.2, 8.2.1).
-use Rattle.std.proofs.Common.{◌≡◌, ℕ, suc, ◌+◌, ◌≤◌, Bool, true, false, List, [], ◌∷◌, ◌++◌, refl, ap, ◌∙◌, subst, append_assoc, append-nil, inl, inr}
+use Rattle.std.proofs.Common.{◌≡◌, ℕ, suc, ◌+◌, ◌≤◌, Bool, true, false, List, [], ◌∷◌, ◌++◌, refl, ◌∙◌, subst, append_assoc, append-nil, inl, inr, arith}
 use Rattle.std.specs.Prelude.{nat_le, None, if◌then◌else◌}
 use Rattle.saphyr_input.specs.Indicators.{hyphen}
 use Rattle.saphyr_scalar.specs.declared.scalar.position.Marker.{Marker}
@@ -18,8 +18,8 @@ use Rattle.yaml_laws.proofs.InBlock.Entries.{frame_behind, dash_kinds, reads_das
 use Rattle.yaml_laws.proofs.InBlock.Statements.{EndsNodeAt, EndsWithLine, as_optional, NodeRead, ReadsAt, ReadsLeaves}
 use Rattle.yaml_laws.proofs.InBlock.Texts.{node_ends}
 use Rattle.yaml_laws.proofs.InBlock.BehindIndicators.{node_behind}
-use Rattle.yaml_laws.proofs.InBlock.Parts.{frame_indent, suc_is, IsPart, PartRead, ReadsOtherParts, parts_so, no_other_parts, AreParts, more_parts, PartsRead, told_parts, reads_parts}
-use Rattle.yaml_laws.proofs.Flow.Inks.{dash_ink}
+use Rattle.yaml_laws.proofs.InBlock.Parts.{frame_indent, suc_is, IsPart, PartRead, ReadsOtherParts, parts_so, no_other_parts, AreParts, more_parts, PartsRead, mapped_parts, reads_parts}
+use Rattle.yaml_laws.proofs.Flow.ContentStarts.{dash_content}
 
 -- ## An entry
 
@@ -61,7 +61,7 @@ YieldsEntry node others ts =
 is_entry : {limit : ℕ} → ReadsLeaves limit → (node : Node) → ReadsAt limit node (IsBlockNode most_open node)
     → IsPart limit (YieldsEntry node) sequence_start (IsEntry node)
 is_entry {limit} leaves node reads = record {
-  ink = λ column t z (entry, h, e). record { first = 45; others = entry; is = e; ink = dash_ink };
+  content = λ column t z (entry, h, e). record { first = 45; others = entry; is = e; content = dash_content };
   ends = λ column t z (entry, h, e). rw e (behind_dash entry z (node_ends leaves node (BehindDash column) entry z h));
   reads = λ f n further e far t z (entry, h, is) fits behind start ts v none allowed.
       one f n further e far t z entry h is fits behind start ts v allowed;
@@ -101,8 +101,7 @@ no_entries = parts_so (λ column t o h. h) (λ ts h. h) no_other_parts
 entries_are : (node : Node) (nodes : Nodes) (ts : List Kind)
     → AreParts (YieldsEntry node) (grammar.YieldBlockEntries nodes) ts
     → grammar.YieldBlockEntries (MoreNodes node nodes) ts
-entries_are node nodes ts (part, others, (entry, optional, is), are, all) =
-    (entry, others, optional, are, all ∙ ap (λ (x : List Kind). x ++ others) is)
+entries_are node nodes ts (part, others, (entry, optional, is), are, all) = grind arith
 
 pub more_entries : {limit : ℕ} → ReadsLeaves limit → (node : Node) (nodes : Nodes)
     → ReadsAt limit node (IsBlockNode most_open node) → ReadsOtherEntries limit nodes
@@ -121,6 +120,6 @@ pub reads_entries : {limit : ℕ} → ReadsLeaves limit → (node : Node) (nodes
     → PartsRead limit start (grammar.YieldBlockEntries (MoreNodes node nodes)) n.col (frame_behind further n.col f) n t
     o (ts ++ sequence_start further)
 reads_entries leaves node nodes reads more f n further e far t o (entry, others, h, k, is) fits behind start ts v none
-    allowed = told_parts (entries_are node nodes)
+    allowed = mapped_parts (entries_are node nodes)
     (reads_parts (is_entry leaves node reads) more f n further e far t o (45 ∷ entry, others, (entry, h, refl), k, is)
     fits behind start ts v none allowed)

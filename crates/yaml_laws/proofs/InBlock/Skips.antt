@@ -14,12 +14,12 @@ use Rattle.saphyr_scanner.specs.Steps.Gap.{is_tab_indentation}
 use Rattle.yaml_laws.specs.Grammar.BlockNodes.{Position, indent_at, IsGapAt}
 use Rattle.yaml_laws.proofs.Flow.States.{moved, past, past_comment}
 use Rattle.yaml_laws.proofs.Flow.Places.{moved_append}
-use Rattle.yaml_laws.proofs.Flow.Gaps.{is_return_at, right_tab as no_left_tab}
-use Rattle.yaml_laws.proofs.Flow.Fillers.{right_tab, blanks_past, front_past, behind_is, spaces_are_blank}
+use Rattle.yaml_laws.proofs.Flow.Gaps.{is_return_at}
+use Rattle.yaml_laws.proofs.Flow.Fillers.{blanks_past, front_past, behind_is, spaces_are_blank}
 use Rattle.yaml_laws.proofs.Flow.GapWalks.{OverGap, over_gap, no_stop}
 use Rattle.yaml_laws.proofs.InBlock.States.{tabbed, tabbed_comment, crosses, crosses_comment}
 use Rattle.std.proofs.lemmas.Bool.{or_parts}
-use Rattle.saphyr_input.proofs.Basics.Characters.{ink_no_tab}
+use Rattle.saphyr_input.proofs.Basics.Characters.{no_blank_no_tab}
 use Rattle.saphyr_input.proofs.Basics.Numbers.{le_next}
 use Rattle.saphyr_input.proofs.Basics.Booleans.{and_false}
 
@@ -169,10 +169,8 @@ blanks_untabbed least (b ∷ bs) y are k m =
 pub right_untabbed : (least column : ℕ) → least ≤ column → (w y : List ℕ) → AreIn is_blank w → IsClean y
     → (m : Marker) (blank : Bool) → column ≤ m.col → tabbed least m blank false (w ++ y) ≡ false
 right_untabbed least column under [] y are k m blank right = k least m blank
-right_untabbed least column under (x ∷ xs) y are k m blank right = rw are.0
-    (ap (λ (t : Bool). tabbed least (along m 1) blank t (xs ++ y))
-    (no_left_tab column least m blank x (right_tab column m x right) under)
-    ∙ right_untabbed least column under xs y are.1 k (along m 1) blank (le_next column m.col right))
+right_untabbed least column under (x ∷ xs) y are k m blank right =
+    grind (arith, right_untabbed least column under xs y are.1 k (along m 1) blank (le_next column m.col right))
 
 spaces_untabbed : (least n : ℕ) (w y : List ℕ) → AreIn is_blank w → IsClean y → (m : Marker) (blank : Bool)
     → least ≤ m.col + n → tabbed least m blank false (spaces n ++ (w ++ y)) ≡ false
@@ -246,7 +244,7 @@ white_is : (c : ℕ) (r : Bool) → (c == 9) ≡ false → (is_blank c || r) ≡
 white_is c r h = ap (λ (b : Bool). b || r) (space_alone c h)
 
 no_white : (c : ℕ) (r : Bool) → (is_blank c || r) ≡ false → ((c == 32) || r) ≡ false
-no_white c r e = sym (white_is c r (ink_no_tab c (or_parts (is_blank c) r e).0)) ∙ e
+no_white c r e = sym (white_is c r (no_blank_no_tab c (or_parts (is_blank c) r e).0)) ∙ e
 
 over_spaces : OverGap 0
     (λ m t. (blank found : Bool) → has_tab t ≡ false
@@ -257,19 +255,14 @@ over_spaces =
     record {
       ends = λ m blank found clean. none_found m blank found [];
       tab = λ m c cs t. absurd (no_stop m c cs t);
-      white = λ m c cs t e on blank found clean. let n = or_parts (c == 9) (has_tab cs) (rw e at clean) in
-          rw (t, e, sym (white_is c (is_return_at c cs) n.0) ∙ e) (found_here found (on blank true n.1));
-      break = λ m c cs t e f on blank found clean. rw (t, e, f, no_white c (is_return_at c cs) e)
-          (found_here found (on true true (rw (e, f) at clean)));
-      sign = λ m c cs t e f g on blank found clean. rw (t, e, f, g, no_white c (is_return_at c cs) e)
-          (on blank found (rw (e, f, g) at clean));
-      token = λ m c cs t e f g blank found clean. rw (t, e, f, g, no_white c (is_return_at c cs) e)
-          (none_found m blank found (c ∷ cs));
+      white = grind (arith, or_parts, has_tab, white_is, is_return_at, found_here);
+      break = grind (arith, no_white, is_return_at, found_here);
+      sign = grind (arith, no_white, is_return_at);
+      token = grind (arith, no_white, is_return_at, none_found);
       comment_ends = λ m blank found clean. none_found m blank found [];
       word = λ m c cs e on blank found clean. rw e (on blank found (rw e at clean));
       return = λ m c cs e f on blank found clean. rw (e, f) (found_here found (on blank true (rw (e, f) at clean)));
-      line = λ m c cs e f g on blank found clean. rw (e, f, g)
-          (found_here found (on true true (rw (e, f, g) at clean)));
+      line = grind (arith, found_here);
       other = λ m c cs e f g blank found clean. rw (e, f, g) (none_found m blank found (c ∷ cs));
     }
 
@@ -305,15 +298,14 @@ Passes w = (m : Marker) (y : List ℕ) → past 0 m (w ++ y) ≡ past 0 (moved m
 pub skipped_passes : (w : List ℕ) → IsSkipped w → Passes w
 skipped_passes w h m y = skipped_past m w y h
 
-pub both_pass : (a b : List ℕ) → Passes a → Passes b → Passes (a ++ b)
+both_pass : (a b : List ℕ) → Passes a → Passes b → Passes (a ++ b)
 both_pass a b h k m y = cc (append_assoc a b y, h m (b ++ y), k (moved m a) y, moved_append m a b)
 
 pub blanks_pass : (w : List ℕ) → AreIn is_blank w → Passes w
 blanks_pass w are m y = (blanks_past 0 w are m (omega arith)).is y
 
 prefix_blank : (indent : ℕ) (w : List ℕ) → IsLinePrefix indent w → AreIn is_blank w
-prefix_blank indent w (front, blanks, (n, low, spaced), are, is) =
-    rw (is, spaced) (both_in is_blank (spaces n) blanks (spaces_are_blank n) are)
+prefix_blank indent w (front, blanks, (n, low, spaced), are, is) = grind (arith, both_in, spaces_are_blank)
 
 next_line_passes : (indent : ℕ) (w : List ℕ) → IsNextLine indent w → Passes w
 next_line_passes indent w (end, filler, front, end_is, filler_is, prefix, e) =

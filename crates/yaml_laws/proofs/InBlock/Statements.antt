@@ -19,7 +19,7 @@ use Rattle.saphyr_scanner.proofs.Queues.{place_kinds}
 use Rattle.yaml_laws.specs.Grammar.FlowNodes.{IsFlowNode, IsOnLine, IsPlainKeyNode, IsKeyText, IsBeforeColon, IsProperties}
 use Rattle.yaml_laws.specs.Grammar.BlockNodes.{Position, BehindMark, BehindKey, is_start, indent_at, IsGapAt, IsFlowInBlock, IsStyled, IsScalarFront, IsScalarInBlock, BehindDash, BehindMarker, AtStart}
 use Rattle.yaml_laws.proofs.Flow.States.{moved, past}
-use Rattle.yaml_laws.proofs.Flow.Inks.{BeginsInk}
+use Rattle.yaml_laws.proofs.Flow.ContentStarts.{StartsContent}
 use Rattle.yaml_laws.proofs.InBlock.Lines.{FitsOnLines}
 use Rattle.yaml_laws.proofs.InBlock.States.{Frame, Moment, core_of, state_of, IsUntabbed, EndsDocument, IsLeftOf, GoesOnAs, At, Before}
 use Rattle.yaml_laws.proofs.InBlock.Skips.{IsClean}
@@ -129,7 +129,7 @@ IsNextLineText w = (end filler : List ℕ) × (n : ℕ) × IsLineEnd end × IsFi
 abbrev pub ReadsProperties : ℕ → Type 0
 ReadsProperties limit =
     (p : Properties) (place : Position) (f : Frame) → f.indent ≡ indent_at place → (m : Marker) (front t w y : List ℕ)
-    → IsGapAt place front → IsProperties p (indent_at place) t → IsNextLineText w → BeginsInk y
+    → IsGapAt place front → IsProperties p (indent_at place) t → IsNextLineText w → StartsContent y
     → FitsOnLines limit m (front ++ (t ++ w)) y → (start : State) (ts : List Kind)
     → Before limit start place f m (front ++ (t ++ (w ++ y))) ts
     → PropertiesRead limit start p f (moved m (front ++ (t ++ w))) y ts
@@ -141,12 +141,12 @@ pub record ReadsLeaves (limit : ℕ) : Type 0 where
       → ReadsAt limit (Scalar p style value) (IsScalarInBlock p style value)
   pub key : (node : Node) → ReadsKey limit node
   pub properties : ReadsProperties limit
-  pub key_ink : (node : Node) (indent : ℕ) (t : List ℕ) → IsPlainKeyNode node false indent t → BeginsInk t
-  pub flow_ink : (node : Node) (room indent : ℕ) (in_flow : Bool) (t : List ℕ) → IsFlowNode room node in_flow indent t
-      → BeginsInk t
+  pub key_content : (node : Node) (indent : ℕ) (t : List ℕ) → IsPlainKeyNode node false indent t → StartsContent t
+  pub flow_content : (node : Node) (room indent : ℕ) (in_flow : Bool) (t : List ℕ)
+      → IsFlowNode room node in_flow indent t → StartsContent t
   pub flow_dash : (node : Node) (room indent : ℕ) (in_flow : Bool) (t o : List ℕ)
       → IsFlowNode room node in_flow indent t → NoDash (t ++ o)
-  pub block_ink : (p : Properties) (style : Style) (value : List ℕ) (indent : ℕ) (front t o : List ℕ)
-      → IsScalarFront p indent front → IsStyled style value indent t o → BeginsInk (front ++ t)
+  pub block_content : (p : Properties) (style : Style) (value : List ℕ) (indent : ℕ) (front t o : List ℕ)
+      → IsScalarFront p indent front → IsStyled style value indent t o → StartsContent (front ++ t)
   pub scalar_ends : (style : Style) (value : List ℕ) (indent : ℕ) (t o : List ℕ) → IsStyled style value indent t o
       → EndsWithLine t o

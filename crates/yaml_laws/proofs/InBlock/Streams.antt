@@ -24,6 +24,8 @@ use Rattle.yaml_laws.proofs.InBlock.Follows.{follows_itself}
 use Rattle.yaml_laws.proofs.InBlock.Statements.{ReadsLeaves}
 use Rattle.yaml_laws.proofs.InBlock.Documents.Ends.{plain_behind, AreBlockDocuments, HasNoReturn, suffix_text, lands_behind, marks_text}
 use Rattle.yaml_laws.proofs.InBlock.Documents.{reads_document}
+use Rattle.yaml_laws.proofs.InBlock.Documents.Comes.{ComesIn, comes_so, comes_behind_filler, comes_behind_mark, comes_behind_end, document_comes}
+use Rattle.yaml_laws.proofs.InBlock.LineStarts.{no_line, last_unmarked}
 use Rattle.std.proofs.Math.Bool.{or-true}
 use Rattle.scalar_laws.proofs.Beginnings.{front_in, back_in}
 use Rattle.saphyr_scanner.proofs.Queues.{place_kinds}
@@ -32,119 +34,143 @@ use Rattle.scalar_laws.specs.Spelling.Spaces.{AreEach, joined_pieces}
 
 -- ## Between documents
 
--- The scanner has read what may come before a document.
-pub record PrefixStands (limit : ℕ) (start : State) (others : List ℕ) (ts : List Kind) : Type 0 where
+-- The scanner has read what may come before a document. It comes to each document marker on the way, if it comes to
+-- those after it.
+pub record PrefixStands (limit : ℕ) (start : State) (prefix others : List ℕ) (ts : List Kind) : Type 0 where
   pub marks : List Kind
   pub are : AreEndsAndMarks marks
   pub stands : StandsLined limit start true true others (ts ++ marks)
+  pub comes : ComesIn limit start others → ComesIn limit start (prefix ++ others)
 
-with_mark : {limit : ℕ} {start : State} {others : List ℕ} (ts : List Kind) (k : Kind)
-    → (k ≡ tokens.DocumentEnd) ⊎ (k ≡ tokens.ByteOrderMark) → PrefixStands limit start others (ts ++ k ∷ [])
-    → PrefixStands limit start others ts
-with_mark {limit = limit} {start = start} {others = others} ts k is p = record {
+with_mark : {limit : ℕ} {start : State} {prefix front others : List ℕ} (ts : List Kind) (k : Kind)
+    → (k ≡ tokens.DocumentEnd) ⊎ (k ≡ tokens.ByteOrderMark)
+    → (ComesIn limit start (prefix ++ others) → ComesIn limit start (front ++ others))
+    → PrefixStands limit start prefix others (ts ++ k ∷ []) → PrefixStands limit start front others ts
+with_mark {limit = limit} {start = start} {others = others} ts k is further p = record {
   marks = k ∷ p.marks;
   are = (is, p.are);
   stands = rw (append_assoc ts (k ∷ []) p.marks) at p.stands;
+  comes = λ go. further (p.comes go);
 }
 
 pub reads_prefix : {limit : ℕ} {start : State} (prefix others : List ℕ) (ts : List Kind)
     → IsDocumentPrefix prefix others → StandsLined limit start true true (prefix ++ others) ts
-    → PrefixStands limit start others ts
+    → PrefixStands limit start prefix others ts
 reads_prefix {limit = limit} {start = start} _ _ ts (no_prefix others) v =
-    record { marks = []; are = tt; stands = rw (append-nil ts) v }
+    record { marks = []; are = tt; stands = rw (append-nil ts) v; comes = λ go. go }
 reads_prefix {limit = limit} {start = start} _ _ ts (mark_prefix filler more others is h) v =
-    let first = lined_so (append_assoc filler (65279 ∷ more) others) v in
-    with_mark ts tokens.ByteOrderMark (inr refl) (reads_prefix more others (ts ++ tokens.ByteOrderMark ∷ []) h
-    (reads_mark (more ++ others) (passes_filler filler (65279 ∷ (more ++ others)) is first)))
+    let text = append_assoc filler (65279 ∷ more) others in
+    with_mark ts tokens.ByteOrderMark (inr refl)
+    (λ go. comes_so text (comes_behind_mark filler (more ++ others) is go))
+    (reads_prefix more others (ts ++ tokens.ByteOrderMark ∷ []) h
+    (reads_mark (more ++ others) (passes_filler filler (65279 ∷ (more ++ others)) is (lined_so text v))))
 reads_prefix {limit = limit} {start = start} _ _ ts (end_prefix filler end more others is end_is h) v =
-    let first = lined_so (suffix_text filler end more others) v in
-    with_mark ts tokens.DocumentEnd (inl refl) (reads_prefix more others (ts ++ tokens.DocumentEnd ∷ []) h
+    let text = suffix_text filler end more others in
+    let first = lined_so text v in
+    with_mark ts tokens.DocumentEnd (inl refl)
+    (λ go. comes_so text (comes_behind_end filler end (more ++ others) is end_is first go))
+    (reads_prefix more others (ts ++ tokens.DocumentEnd ∷ []) h
     (reads_end end (more ++ others) (passes_filler filler (46 ∷ 46 ∷ 46 ∷ (end ++ (more ++ others))) is first) end_is))
+
+-- From before a text the scanner comes to each document marker of it, and to the end of the stream.
+record Finishes (limit : ℕ) (start : State) (o : List ℕ) (Follow : List Kind → Type 0) (ts : List Kind) : Type 0 where
+  ends : FinishesStream limit start Follow ts
+  comes : ComesIn limit start o
+
+-- told otherwise of the tokens
+mapped_as : {limit : ℕ} {start : State} {Follow Whole : List Kind → Type 0} {ts : List Kind}
+    → ((others : List Kind) → Follow others → Whole others) → FinishesStream limit start Follow ts
+    → FinishesStream limit start Whole ts
+mapped_as each f = search
+
+-- with further tokens in front
+mapped_behind : {limit : ℕ} {start : State} {Follow Whole : List Kind → Type 0} (ts us : List Kind)
+    → ((others : List Kind) → Follow others → Whole (us ++ others)) → FinishesStream limit start Follow (ts ++ us)
+    → FinishesStream limit start Whole ts
+mapped_behind ts us each f = record {
+  last = f.last;
+  leads = f.leads;
+  over = f.over;
+  others = us ++ f.others;
+  follow = each f.others f.follow;
+  are = f.are ∙ append_assoc ts us f.others;
+}
 
 -- the documents are read, wherever they begin
 abbrev ReadsDocuments : ℕ → State → Forest → Type 0
 ReadsDocuments limit start ds =
     (free : Bool) (t : List ℕ) (ts : List Kind) → AreBlockDocuments ds free t → HasNoReturn t
-    → StandsLined limit start free free t ts → FinishesStream limit start (grammar.YieldDocuments ds free) ts
+    → StandsLined limit start free free t ts → Finishes limit start t (grammar.YieldDocuments ds free) ts
 
--- what comes after a document and its byte order marks is read, where documents are
+-- what comes after a document is read
+abbrev BehindDocument : ℕ → State → Forest → List ℕ → List Kind → Type 0
+BehindDocument limit start ds o ts =
+    Finishes limit start o (grammar.YieldsBehindDocument (grammar.YieldDocuments ds)) ts
+
+-- after its byte order marks
 reads_unmarked : {limit : ℕ} {start : State} (ds : Forest) → ReadsDocuments limit start ds
     → (o : List ℕ) (ts : List Kind) → yaml.IsBehindMarks (AreBlockDocuments ds) o → HasNoReturn o
-    → StandsLined limit start false false o ts
-    → FinishesStream limit start (grammar.YieldsBehindDocument (grammar.YieldDocuments ds)) ts
+    → StandsLined limit start false false o ts → BehindDocument limit start ds o ts
 reads_unmarked ds go o ts (inl h) clean v =
     let f = go false o ts h clean v in
-    record {
-      last = f.last;
-      leads = f.leads;
-      over = f.over;
-      others = f.others;
-      told = ([], [], f.others, tt, inl (refl, f.told), refl);
-      are = f.are;
-    }
+    record { ends = mapped_as (λ all follow. ([], [], all, tt, inl (refl, follow), refl)) f.ends; comes = f.comes }
 reads_unmarked {limit = limit} {start = start} ds go o ts
     (inr (suffix, others, (filler, end, prefix, filler_is, end_is, prefix_is, e), h, is)) clean v =
     let text : o ≡ filler ++ (46 ∷ 46 ∷ 46 ∷ (end ++ (prefix ++ others))) = cc (suffix_text filler end prefix others) in
-    let first = passes_filler filler (46 ∷ 46 ∷ 46 ∷ (end ++ (prefix ++ others))) filler_is (lined_so text v) in
+    let here = lined_so text v in
+    let first = passes_filler filler (46 ∷ 46 ∷ 46 ∷ (end ++ (prefix ++ others))) filler_is here in
     let p = reads_prefix prefix others (ts ++ tokens.DocumentEnd ∷ []) prefix_is
     (reads_end end (prefix ++ others) first end_is) in
     let f = go true others ((ts ++ tokens.DocumentEnd ∷ []) ++ p.marks) h
     (back_in _ suffix others (rw is at clean)) p.stands in
     record {
-      last = f.last;
-      leads = f.leads;
-      over = f.over;
-      others = tokens.DocumentEnd ∷ (p.marks ++ f.others);
-      told = ([], tokens.DocumentEnd ∷ p.marks, f.others, tt, inr (p.marks, p.are, refl, f.told), refl);
-      are = f.are ∙ behind_list ts p.marks f.others tokens.DocumentEnd;
+      ends = mapped_behind ts (tokens.DocumentEnd ∷ p.marks)
+          (λ all follow. ([], tokens.DocumentEnd ∷ p.marks, all, tt, inr (p.marks, p.are, refl, follow), refl))
+          (rw (append_assoc ts (tokens.DocumentEnd ∷ []) p.marks) at f.ends);
+      comes = comes_so text (comes_behind_end filler end (prefix ++ others) filler_is end_is here (p.comes f.comes));
     }
-  where
-    behind_list : (ts marks us : List Kind) (k : Kind) → ((ts ++ k ∷ []) ++ marks) ++ us ≡ ts ++ (k ∷ (marks ++ us))
-    behind_list ts marks us k = simp append_assoc
 
 -- a byte order mark, and what comes after a document
-pub mark_told : (Others : Bool → List Kind → Type 0) (ts : List Kind) → grammar.YieldsBehindDocument Others ts
+mark_mapped : (Others : Bool → List Kind → Type 0) (ts : List Kind) → grammar.YieldsBehindDocument Others ts
     → grammar.YieldsBehindDocument Others (tokens.ByteOrderMark ∷ ts)
-mark_told Others ts (marks, end, others, are, h, e) = (tokens.ByteOrderMark ∷ marks, end, others, (refl, are), h, cc)
+mark_mapped Others ts (marks, end, others, are, h, e) = (tokens.ByteOrderMark ∷ marks, end, others, (refl, are), h, cc)
 
 -- from its byte order marks on
 reads_marked : {limit : ℕ} {start : State} (ds : Forest) → ReadsDocuments limit start ds
     → (pieces : List (List ℕ)) (o : List ℕ) (ts : List Kind) → AreEach yaml.IsMarkBehindFiller pieces
     → yaml.IsBehindMarks (AreBlockDocuments ds) o → HasNoReturn o
     → StandsLined limit start false false (joined_pieces pieces ++ o) ts
-    → FinishesStream limit start (grammar.YieldsBehindDocument (grammar.YieldDocuments ds)) ts
+    → BehindDocument limit start ds (joined_pieces pieces ++ o) ts
 reads_marked ds go [] o ts each h clean v = reads_unmarked ds go o ts h clean v
 reads_marked {limit = limit} {start = start} ds go (piece ∷ pieces) o ts ((filler, filler_is, is), each) h clean v =
     let rest = joined_pieces pieces ++ o in
-    let first = passes_filler filler (65279 ∷ rest) filler_is
-    (lined_so (marks_text piece filler (joined_pieces pieces) o is) v) in
+    let text = marks_text piece filler (joined_pieces pieces) o is in
+    let first = passes_filler filler (65279 ∷ rest) filler_is (lined_so text v) in
     let f = reads_marked ds go pieces o (ts ++ tokens.ByteOrderMark ∷ []) each h clean
     (unfree (reads_mark rest first)) in
     record {
-      last = f.last;
-      leads = f.leads;
-      over = f.over;
-      others = tokens.ByteOrderMark ∷ f.others;
-      told = mark_told (grammar.YieldDocuments ds) f.others f.told;
-      are = f.are ∙ append_assoc ts (tokens.ByteOrderMark ∷ []) f.others;
+      ends = mapped_behind ts (tokens.ByteOrderMark ∷ []) (mark_mapped (grammar.YieldDocuments ds)) f.ends;
+      comes = comes_so text (comes_behind_mark filler rest filler_is f.comes);
     }
 
--- what comes after a document is read
 reads_behind : {limit : ℕ} {start : State} (ds : Forest) → ReadsDocuments limit start ds → (o : List ℕ) (ts : List Kind)
     → yaml.IsBehindDocument (AreBlockDocuments ds) o → HasNoReturn o → StandsLined limit start false false o ts
-    → FinishesStream limit start (grammar.YieldsBehindDocument (grammar.YieldDocuments ds)) ts
+    → BehindDocument limit start ds o ts
 reads_behind {limit = limit} {start = start} ds go o ts (marks, others, (pieces, each, joins), h, e) clean v =
-    reads_marked ds go pieces others ts each h (back_in _ marks others (rw e at clean))
-    (lined_so (e ∙ ap (λ (x : List ℕ). x ++ others) joins) v)
+    let text = e ∙ ap (λ (x : List ℕ). x ++ others) joins in
+    let f = reads_marked ds go pieces others ts each h (back_in _ marks others (rw e at clean)) (lined_so text v) in
+    record { ends = f.ends; comes = comes_so text f.comes }
 
 -- ## Documents
 
 reads_documents : {limit : ℕ} {start : State} → ReaderPromises → ReadsLeaves limit
     → (forest : Forest) (free : Bool) (t : List ℕ) (ts : List Kind) → AreBlockDocuments forest free t → HasNoReturn t
-    → StandsLined limit start free free t ts → FinishesStream limit start (grammar.YieldDocuments forest free) ts
+    → StandsLined limit start free free t ts → Finishes limit start t (grammar.YieldDocuments forest free) ts
 reads_documents readers leaves [] free t ts h clean v =
-    let f = reads_stream_end v (moved v.mark t) (last_filler_past 0 v.mark t h) in
-    record { last = f.last; leads = f.leads; over = f.over; others = f.others; told = f.told; are = f.are }
+    record {
+      ends = mapped_as (λ all follow. follow) (reads_stream_end v (moved v.mark t) (last_filler_past 0 v.mark t h));
+      comes = λ y marker line. absurd (no_line t y (last_unmarked t h) line marker);
+    }
 reads_documents {limit = limit} {start = start} readers leaves (d ∷ ds) free t ts
     (filler, document, others, filler_is, is, behind, e) clean v =
     let first = passes_filler filler (document ++ others) filler_is (lined_so e v) in
@@ -154,12 +180,8 @@ reads_documents {limit = limit} {start = start} readers leaves (d ∷ ds) free t
     let f = reads_behind ds (reads_documents readers leaves ds) others (ts ++ n.tokens) behind
     (back_in _ document others left) n.stands in
     record {
-      last = f.last;
-      leads = f.leads;
-      over = f.over;
-      others = n.tokens ++ f.others;
-      told = (n.tokens, f.others, n.are, f.told, refl);
-      are = f.are ∙ append_assoc ts n.tokens f.others;
+      ends = mapped_behind ts n.tokens (λ all follow. (n.tokens, all, n.are, follow, refl)) f.ends;
+      comes = search (comes_so, comes_behind_filler, document_comes);
     }
 
 pub begins : (limit : ℕ) (text : List ℕ) → length text ≤ limit
@@ -185,17 +207,21 @@ begins limit text h =
       lined = omega arith;
     }
 
--- From the start of a text of YAML's grammar the scanner comes to its end, and holds tokens of its forest.
+-- From the start of a text of YAML's grammar the scanner comes to its end, and holds tokens of its forest. It comes to
+-- each document marker on the way.
 pub yaml_leads : ReaderPromises → (limit : ℕ) → ReadsLeaves limit → (forest : Forest) (text : List ℕ)
     → AreIn (λ c. not (c == carriage_return)) text → IsYaml most_open forest text → length text ≤ limit
     → (d : State) × LeadsTo limit d (start text) × (d.core.ended ≡ true)
     × ((tokens : List Kind) × Yields forest tokens × (place_kinds d.queue.places ≡ tokens))
+    × ComesIn limit (start text) text
 yaml_leads readers limit leaves forest text clean (prefix, others, prefix_is, documents, e) short =
     let p = reads_prefix prefix others (tokens.StreamStart ∷ []) prefix_is (lined_so e (begins limit text short)) in
     let f = reads_documents readers leaves forest true others (tokens.StreamStart ∷ p.marks) documents
-    (back_in _ prefix others (rw e at clean)) p.stands in (
-      f.last,
-      f.leads,
-      f.over,
-      (tokens.StreamStart ∷ (p.marks ++ f.others), (p.marks, f.others, p.are, f.told, refl), f.are),
+    (back_in _ prefix others (rw e at clean)) p.stands in
+    let ends = f.ends in (
+      ends.last,
+      ends.leads,
+      ends.over,
+      (tokens.StreamStart ∷ (p.marks ++ ends.others), (p.marks, ends.others, p.are, ends.follow, refl), ends.are),
+      comes_so e (p.comes f.comes),
     )

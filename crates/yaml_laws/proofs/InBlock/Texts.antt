@@ -10,16 +10,16 @@ use Rattle.scalar_laws.specs.Spelling.Spaces.{IsEol}
 use Rattle.saphyr_scanner.specs.Grammar.Forest.{Node, Alias, Scalar, Seq, Map, Nodes, NoNode, MoreNodes, Pairs, NoPair, MorePairs}
 use Rattle.saphyr_scanner.specs.Limits.{most_open}
 use Rattle.yaml_laws.specs.Grammar.BlockNodes.{Position, indent_at, IsLeftOut, IsFlowInBlock, IsBlockPair, IsEntryIndentation, IsBlockNode, AreEntries, AreOtherEntries, ArePairs, AreOtherPairs}
-use Rattle.yaml_laws.proofs.Flow.States.{IsInk, moved, past}
+use Rattle.yaml_laws.proofs.Flow.States.{IsContentStart, moved, past}
 use Rattle.yaml_laws.proofs.Flow.Places.{moved_append, moved_along}
 use Rattle.yaml_laws.proofs.Documents.Lines.{filler_line}
-use Rattle.yaml_laws.proofs.InBlock.Gaps.{ink_stop, stop_tabbed, stop_past}
+use Rattle.yaml_laws.proofs.InBlock.Gaps.{content_stop, stop_tabbed, stop_past}
 use Rattle.yaml_laws.proofs.InBlock.Skips.{IsSkipped, Passes, IsClean, skipped_passes, skipped_clean, skipped_append, spaces_skipped, filler_skipped}
 use Rattle.yaml_laws.proofs.InBlock.Statements.{EndsWithLine, EndsNodeAt, ReadsLeaves}
 
 -- ## Where a node ends
 
-pub ends_back : (a t o : List ℕ) → EndsWithLine t o → EndsWithLine (a ++ t) o
+ends_back : (a t o : List ℕ) → EndsWithLine t o → EndsWithLine (a ++ t) o
 ends_back a t o (inl h) = inl (λ m. cc (moved_append m a t, h (moved m a)))
 ends_back a t o (inr h) = inr h
 
@@ -39,8 +39,7 @@ left_out_ends node place t o h = eol_ends t o h.2
 
 flow_ends : (room : ℕ) (node : Node) (place : Position) (t o : List ℕ) → IsFlowInBlock room node place t o
     → EndsWithLine t o
-flow_ends room node place t o (gap, text, end, gap_is, is, apart, end_is, e) =
-    ends_so t (gap ++ (text ++ end)) o e (ends_back gap (text ++ end) o (ends_back text end o (eol_ends end o end_is)))
+flow_ends room node place t o (gap, text, end, gap_is, is, apart, end_is, e) = search (ends_so, ends_back, eol_ends)
 
 pub pair_ends : (key value : Node)
     → ((place : Position) (t o : List ℕ) → IsBlockNode most_open key place t o → EndsWithLine t o)
@@ -48,15 +47,12 @@ pub pair_ends : (key value : Node)
     → (m : ℕ) (t o : List ℕ)
     → IsBlockPair most_open key value (IsBlockNode most_open key) (IsBlockNode most_open value) m t o → EndsWithLine t o
 pair_ends key value K V m t o (inl (inl (node, between, v, node_is, line, spaced, before, short, h, e))) =
-    ends_so t (node ++ (between ++ ((58 ∷ []) ++ v))) o e
-    (ends_back node (between ++ (58 ∷ v)) o (ends_back between (58 ∷ v) o (ends_back (58 ∷ []) v o (V _ v o h))))
+    search (ends_so, ends_back)
 pair_ends key value K V m t o (inl (inr (v, out, h, e))) =
     ends_so t ((58 ∷ []) ++ v) o e (ends_back (58 ∷ []) v o (V _ v o h))
 pair_ends key value K V m t o (inr (inl (node, out, some, h, unvalued, e))) =
     ends_so t ((63 ∷ []) ++ node) o e (ends_back (63 ∷ []) node o (K _ node o h))
-pair_ends key value K V m t o (inr (inr (node, colon, v, some, h, mark, k, e))) =
-    ends_so t ((63 ∷ []) ++ (node ++ (colon ++ v))) o e
-    (ends_back (63 ∷ []) (node ++ (colon ++ v)) o (ends_back node (colon ++ v) o (ends_back colon v o (V _ v o k))))
+pair_ends key value K V m t o (inr (inr (node, colon, v, some, h, mark, k, e))) = search (ends_so, ends_back)
 
 mutual
   pub node_ends : {limit : ℕ} → ReadsLeaves limit → (node : Node) (place : Position) (t o : List ℕ)
@@ -83,7 +79,7 @@ mutual
       (last_ends entry others o (other_entries_end leaves nodes m others o k)
       (node_ends leaves node _ entry (others ++ o) h)))
 
-  pub other_entries_end : {limit : ℕ} → ReadsLeaves limit → (nodes : Nodes) (m : ℕ) (t o : List ℕ)
+  other_entries_end : {limit : ℕ} → ReadsLeaves limit → (nodes : Nodes) (m : ℕ) (t o : List ℕ)
       → AreOtherEntries most_open nodes m t o → (t ≡ []) ⊎ EndsWithLine t o
   other_entries_end leaves NoNode m t o h = inl h
   other_entries_end leaves (MoreNodes node nodes) m t o (front, entry, others, front_is, h, k, e) =
@@ -99,7 +95,7 @@ mutual
       (pair_ends key value (λ place u z k. node_ends leaves key place u z k)
       (λ place u z k. node_ends leaves value place u z k) m pair (others ++ o) h))
 
-  pub other_pairs_end : {limit : ℕ} → ReadsLeaves limit → (pairs : Pairs) (m : ℕ) (t o : List ℕ)
+  other_pairs_end : {limit : ℕ} → ReadsLeaves limit → (pairs : Pairs) (m : ℕ) (t o : List ℕ)
       → AreOtherPairs most_open pairs m t o → (t ≡ []) ⊎ EndsWithLine t o
   other_pairs_end leaves NoPair m t o h = inl h
   other_pairs_end leaves (MorePairs key value pairs) m t o (front, pair, others, front_is, h, k, e) =
@@ -130,32 +126,31 @@ pub indentation_col : (m : Marker) (column : ℕ) (w : List ℕ) → IsEntryInde
 indentation_col m column w (filler, h, is) e = grind (arith, moved_append, spaces_moved, moved, none_and, filler_line)
 
 pub indentation_skipped : (column : ℕ) (w : List ℕ) → IsEntryIndentation column w → IsSkipped w
-indentation_skipped column w (filler, h, is) =
-    rw is (skipped_append filler (spaces column) (filler_skipped filler h) (spaces_skipped column))
+indentation_skipped column w (filler, h, is) = grind (arith, skipped_append, filler_skipped, spaces_skipped)
 
 -- ## Before a token
 
-pub ink_clean : (c : ℕ) (cs : List ℕ) → IsInk c → IsClean (c ∷ cs)
-ink_clean c cs h least m blank = stop_tabbed least m blank (c ∷ cs) (ink_stop c cs h)
+pub content_clean : (c : ℕ) (cs : List ℕ) → IsContentStart c → IsClean (c ∷ cs)
+content_clean c cs h least m blank = stop_tabbed least m blank (c ∷ cs) (content_stop c cs h)
 
 -- where what is passed leads to a token
-pub passes_to : (m : Marker) (w : List ℕ) (c : ℕ) (cs : List ℕ) → Passes w → IsInk c
+pub passes_to : (m : Marker) (w : List ℕ) (c : ℕ) (cs : List ℕ) → Passes w → IsContentStart c
     → past 0 m (w ++ (c ∷ cs)) ≡ (moved m w, c ∷ cs)
-passes_to m w c cs h ink = h m (c ∷ cs) ∙ stop_past (moved m w) (c ∷ cs) (ink_stop c cs ink)
+passes_to m w c cs h content = h m (c ∷ cs) ∙ stop_past (moved m w) (c ∷ cs) (content_stop c cs content)
 
-pub reaches : (m : Marker) (w : List ℕ) (c : ℕ) (cs : List ℕ) → IsSkipped w → IsInk c
+pub reaches : (m : Marker) (w : List ℕ) (c : ℕ) (cs : List ℕ) → IsSkipped w → IsContentStart c
     → past 0 m (w ++ (c ∷ cs)) ≡ (moved m w, c ∷ cs)
-reaches m w c cs h ink = passes_to m w c cs (skipped_passes w h) ink
+reaches m w c cs h content = passes_to m w c cs (skipped_passes w h) content
 
 -- What is skipped comes after a node that ends a line, before a token at a column.
 pub behind_indented : (column : ℕ) (m : Marker) (w : List ℕ) (c : ℕ) (cs : List ℕ) → IsEntryIndentation column w
-    → IsInk c → m.col ≡ 0 → EndsNodeAt (suc column) m (w ++ (c ∷ cs))
-behind_indented column m w c cs h ink e =
+    → IsContentStart c → m.col ≡ 0 → EndsNodeAt (suc column) m (w ++ (c ∷ cs))
+behind_indented column m w c cs h content e =
     let k = indentation_skipped column w h in
-    let there = reaches m w c cs k ink in
+    let there = reaches m w c cs k content in
     record {
       left = inr (rw there (less (moved m w).col column (indentation_col m column w h e)));
-      clean = skipped_clean w (c ∷ cs) k (ink_clean c cs ink);
+      clean = skipped_clean w (c ∷ cs) k (content_clean c cs content);
     }
   where
     less : (a b : ℕ) → a ≡ b → a < suc b

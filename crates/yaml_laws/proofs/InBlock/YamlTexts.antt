@@ -12,12 +12,12 @@ use Rattle.saphyr_scanner.proofs.Effects.Readers.{Readers}
 use Rattle.yaml_laws.specs.Grammar.Yaml.{IsYamlText}
 use Rattle.yaml_laws.specs.SameKinds.{HaveSameKinds}
 use Rattle.yaml_laws.proofs.Breaks.Normal.{no_return_left, scans_too, beside, normal_shorter}
-use Rattle.yaml_laws.proofs.Flow.Inks.{node_ink, plain_key_node_ink}
+use Rattle.yaml_laws.proofs.Flow.ContentStarts.{node_content, plain_key_node_content}
 use Rattle.yaml_laws.proofs.Flow.NoDashes.{node_no_dash}
 use Rattle.yaml_laws.proofs.Flow.States.{ReaderPromises}
 use Rattle.yaml_laws.proofs.InBlock.FlowNodes.{reads_flow, reads_key}
 use Rattle.yaml_laws.proofs.InBlock.Properties.{reads_head, reads_properties}
-use Rattle.yaml_laws.proofs.InBlock.ScalarTexts.{ReadsBlocks, block_ink, scalar_ends}
+use Rattle.yaml_laws.proofs.InBlock.ScalarTexts.{ReadsBlocks, block_content, scalar_ends}
 use Rattle.yaml_laws.proofs.InBlock.Scalars as scalars
 use Rattle.yaml_laws.proofs.InBlock.Statements.{ReadsLeaves}
 use Rattle.yaml_laws.proofs.InBlock.Streams.{yaml_leads}
@@ -28,10 +28,10 @@ leaves reads blocks limit short = record {
   block_scalar = scalars.reads_block_scalars blocks short (reads_head reads limit short);
   key = reads_key reads limit;
   properties = reads_properties reads limit short;
-  key_ink = λ node indent t. plain_key_node_ink false indent node t;
-  flow_ink = λ node room indent in_flow t. node_ink indent room node in_flow t;
+  key_content = λ node indent t. plain_key_node_content false indent node t;
+  flow_content = λ node room indent in_flow t. node_content indent room node in_flow t;
   flow_dash = λ node room indent in_flow t o. node_no_dash indent room node in_flow t o;
-  block_ink = block_ink;
+  block_content = block_content;
   scalar_ends = scalar_ends;
 }
 

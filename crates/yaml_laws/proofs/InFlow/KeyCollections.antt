@@ -24,7 +24,7 @@ use Rattle.yaml_laws.proofs.InFlow.KeyTokens.{InKey, in_near, in_back, in_right,
 use Rattle.yaml_laws.proofs.InFlow.KeyScalars.{Blanks, colon_text, colon_after, ReadsKey}
 use Rattle.yaml_laws.proofs.Flow.States.{moved, past, IsParted}
 use Rattle.yaml_laws.proofs.Flow.Places.{moved_append, moved_index, clear_front}
-use Rattle.yaml_laws.proofs.Flow.GapSteps.{past_ink}
+use Rattle.yaml_laws.proofs.Flow.GapSteps.{past_content}
 use Rattle.yaml_laws.proofs.Flow.Fillers.{separation_past, right_behind}
 use Rattle.yaml_laws.proofs.Flow.Tokens.{arrives, begins_here, within_index}
 use Rattle.yaml_laws.proofs.Flow.Separates.{separates}
@@ -35,7 +35,7 @@ use Rattle.std.proofs.lemmas.Bool.{le-leb}
 use Rattle.saphyr_input.specs.Indicators.{colon}
 use Rattle.saphyr_scanner.proofs.Queues.{token_place, place_kinds, place_kinds_append, queue_of}
 use Rattle.saphyr_scanner.proofs.Levels.{level_of}
-use Rattle.yaml_laws.proofs.Flow.Inks.{starts, colon_ink}
+use Rattle.yaml_laws.proofs.Flow.ContentStarts.{starts, colon_content}
 
 -- inside a key's brackets nothing is required at block level
 abbrev pub calmed : Around → Around
@@ -99,8 +99,7 @@ bracket_opens around same start b are k qs e o ad parted right below r =
     record {
       deeper = d;
       there = p.there;
-      lands = p.lands
-          ∙ ap (λ (m : Marker). past around.indent m o) (mark_moved e b.opening (token_mark b.opening are.start));
+      lands = grind (arith, past, mark_moved, token_mark);
       leads = onward start st st r.running (ap (λ q. q >>= check_limit around.limit) fetched ∙ fits) kept stay;
     }
 
@@ -129,10 +128,10 @@ bracket_closes around same b are inside flows back k j a ad qs s d e n r text ri
     let ls = level_of context.Block (Some k) ∷ [] in
     let mark = are.closing_mark in
     let v = arrives (calmed around) (moment s inside j ls a ad qs) e (b.closing ∷ o)
-    (at ∙ past_ink around.indent e b.closing o mark.ink) mark.ink.blank right refl in
+    (at ∙ past_content around.indent e b.closing o mark.content) mark.content.blank right refl in
     let seen = cursor_at (b.closing ∷ o) e v.blank in
     let p = separates around.indent (cursor_at o (along e 1) false) n.text 58 r refl
-    (separation_of_blanks around.indent n.text n.are) (le_next around.indent e.col right) colon_ink in
+    (separation_of_blanks around.indent n.text n.are) (le_next around.indent e.col right) colon_content in
     let near = p.near n.are in
     let begins = mark_begins e b.closing o mark (clear_front e (b.closing ∷ []) n.text (58 ∷ r) text.clear) in
     let core = core_at (calmed around) d seen inside v.key ls v.allowed ad in
@@ -172,9 +171,9 @@ bracket_closes around same b are inside flows back k j a ad qs s d e n r text ri
 
 -- ## The collection
 
-all_told : (opens closes : Kind) (ts ends : List Kind)
+all_kinds : (opens closes : Kind) (ts ends : List Kind)
     → (opens ∷ []) ++ (ts ++ (ends ++ closes ∷ [])) ≡ opens ∷ ((ts ++ ends) ++ closes ∷ [])
-all_told opens closes ts ends = ap (λ (x : List Kind). opens ∷ x) (sym (append_assoc ts ends (closes ∷ [])))
+all_kinds opens closes ts ends = ap (λ (x : List Kind). opens ∷ x) (sym (append_assoc ts ends (closes ∷ [])))
 
 pub collection_along : (around : Around) → around.pending ≡ around.required → (Is : List Kind → Type 0) (b : Brackets)
     → AreBrackets b → (w inside : List ℕ) (n : Blanks) (r : List ℕ) → IsSeparation around.indent w
@@ -215,21 +214,19 @@ collection_along around same Is b are w inside n r parts parted runs start k qs 
     let q = in_front.passes in
     let ran = q.leads.run first.deeper in
     let ended = subst (λ (z : Marker × List ℕ). q.adjacent ≤ z.0.index)
-    (past_ink around.indent at_end b.closing o are.closing_mark.ink) q.knows in
+    (past_content around.indent at_end b.closing o are.closing_mark.content) q.knows in
     let last = bracket_closes around same b are in_front.inside in_front.flows in_front.back k q.key q.allowed
     q.adjacent ((qs ++ new1) ++ q.new) q.there ran.deeper at_end n r text3 q.right q.fits in
     let new3 = mark_places (ends_pair in_front.inside) at_end last.there.mark b.closes in
     let led = leads_on first.leads (leads_on ran.leads last.leads) in
-    let end : moved (along at_end 1) n.text ≡ colon_after e body n = ap (λ (m : Marker). moved m n.text)
-    (mark_moved at_end b.closing are.closing_mark
-    ∙ sym (moved_append e (b.opening ∷ w) (inside ++ close) ∙ moved_append here inside close)) in
-    let told : place_kinds (new1 ++ (q.new ++ new3))
+    let end : moved (along at_end 1) n.text ≡ colon_after e body n = grind (arith, moved, mark_moved, moved_append) in
+    let known : place_kinds (new1 ++ (q.new ++ new3))
     ≡ b.opens ∷ ((in_front.tokens ++ pending (ends_pair in_front.inside)) ++ b.closes ∷ []) =
     place_kinds_append new1 (q.new ++ new3) ∙ ap (λ (x : List Kind). (b.opens ∷ []) ++ x)
     (place_kinds_append q.new new3 ∙ ap (λ (x : List Kind). x ++ place_kinds new3) q.are
     ∙ ap (λ (x : List Kind). in_front.tokens ++ x)
     (mark_kinds (ends_pair in_front.inside) at_end last.there.mark b.closes))
-    ∙ all_told b.opens b.closes in_front.tokens (pending (ends_pair in_front.inside)) in
+    ∙ all_kinds b.opens b.closes in_front.tokens (pending (ends_pair in_front.inside)) in
     let inner = in_front.tokens ++ pending (ends_pair in_front.inside) in
     record {
       tokens = b.opens ∷ (inner ++ b.closes ∷ []);
@@ -250,7 +247,7 @@ collection_along around same Is b are w inside n r parts parted runs start k qs 
         leads = subst (λ (ps : List Place). LeadsTo around.limit
             (state_at around (moment last.there context.Block (Some k) [] false q.adjacent ps) ran.deeper) start)
             (append_assoc (qs ++ new1) q.new new3 ∙ append_assoc qs new1 (q.new ++ new3)) led;
-        are = told;
+        are = known;
         low = subst (λ (m : Marker). q.adjacent ≤ m.index) end (later q.adjacent at_end n ended);
       };
     }

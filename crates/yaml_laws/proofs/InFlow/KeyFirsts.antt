@@ -1,15 +1,17 @@
 -- A key on one line at block level begins a token, which keeps the key's place.
-use Rattle.std.proofs.Common.{◌≡◌, ℕ, Bool, true, false, List, [], ◌∷◌, ◌++◌, refl, sym, ap, ◌∙◌, append_assoc, inl, inr}
+use Rattle.std.proofs.Common.{◌≡◌, ℕ, Bool, true, false, List, [], ◌∷◌, ◌++◌, refl, sym, ap, ◌∙◌, append_assoc, inl, inr, arith}
 use Rattle.std.specs.Prelude.{Option, Some, None}
 use Rattle.saphyr_input.specs.Indicators.{colon}
 use Rattle.saphyr_scalar.specs.Views.Cursor.{Cursor}
 use Rattle.saphyr_scanner.specs.declared.engine.level.Context.{Context}
 use Rattle.saphyr_scanner.specs.declared.engine.level.Context.TheVariants as context
-use Rattle.saphyr_scanner.specs.Grammar.Tokens as tokens
 use Rattle.saphyr_scanner.specs.Grammar.Tokens.{Kind}
 use Rattle.saphyr_scanner.specs.Steps.Core.{Core}
 use Rattle.saphyr_scanner.specs.Steps.Level.{Candidate}
 use Rattle.saphyr_scanner.specs.Steps.Property as property
+use Rattle.saphyr_scalar.specs.declared.values.Quote.{Quote}
+use Rattle.saphyr_scalar.specs.declared.values.Quote.TheVariants.{Single, Double}
+use Rattle.saphyr_scalar.specs.Values.Flow.{mark}
 use Rattle.saphyr_scanner.specs.Steps.Scalar as scalar
 use Rattle.saphyr_scanner.specs.Steps.Flow as flow
 use Rattle.saphyr_scanner.specs.Steps.Flow.{open_collection}
@@ -21,7 +23,7 @@ use Rattle.yaml_laws.specs.Grammar.FlowScalars.{IsFlowScalar}
 use Rattle.yaml_laws.specs.Grammar.TagSpelling.{IsTag}
 use Rattle.yaml_laws.proofs.InFlow.States.{Around, core_at}
 use Rattle.yaml_laws.proofs.InFlow.KeyLines.{Fresh, requiring}
-use Rattle.yaml_laws.proofs.Flow.Names.{begins_anchor, begins_alias, tag_read, tag_first}
+use Rattle.yaml_laws.proofs.Flow.Names.{begins_anchor, begins_alias}
 use Rattle.yaml_laws.proofs.Flow.Plains.{BeginsWord, word_begins, key_begins, plain_dispatches}
 use Rattle.yaml_laws.proofs.Flow.Collections.{Brackets, AreBrackets, square, curly, are_square, are_curly}
 use Rattle.yaml_laws.proofs.Flow.Collections.Runs.{whole_text, IsBracketText}
@@ -44,15 +46,12 @@ tag_fresh : (around : Around) (d : Bool) (s : Cursor) (k : Option Candidate) (ad
 unfolding step property.tag_steps
 tag_fresh around d s k ad n second = refl
 
-single_fresh : (around : Around) (d : Bool) (s : Cursor) (k : Option Candidate) (ad n second : ℕ)
-    → step 39 second n (core_at around d s context.Block k [] true ad) ≡ step 39 second n (first_at around d s n ad)
-unfolding step scalar.single_quoted_steps
-single_fresh around d s k ad n second = refl
-
-double_fresh : (around : Around) (d : Bool) (s : Cursor) (k : Option Candidate) (ad n second : ℕ)
-    → step 34 second n (core_at around d s context.Block k [] true ad) ≡ step 34 second n (first_at around d s n ad)
-unfolding step scalar.double_quoted_steps
-double_fresh around d s k ad n second = refl
+quoted_fresh : (quote : Quote) (around : Around) (d : Bool) (s : Cursor) (k : Option Candidate) (ad n second : ℕ)
+    → step (mark quote) second n (core_at around d s context.Block k [] true ad)
+    ≡ step (mark quote) second n (first_at around d s n ad)
+unfolding step scalar.quoted_steps
+quoted_fresh Single around d s k ad n second = refl
+quoted_fresh Double around d s k ad n second = refl
 
 plain_fresh : (around : Around) (d : Bool) (s : Cursor) (k : Option Candidate) (ad n : ℕ)
     → scalar.plain_steps n (core_at around d s context.Block k [] true ad)
@@ -70,21 +69,13 @@ fresh_so : (around : Around) (t u : List ℕ) → t ≡ u → Fresh around u →
 fresh_so around t u e h = rw e h
 
 fresh_alias : (around : Around) (name t o : List ℕ) → yaml.IsAlias name t → Fresh around (t ++ o)
-fresh_alias around name t o h = fresh_so around (t ++ o) (42 ∷ (name ++ o)) (ap (λ (x : List ℕ). x ++ o) h.1)
-    (λ d s k ad n. begins_alias _ n (core_at around d s context.Block k [] true ad)
-    ∙ name_fresh tokens.Alias around d s k ad n ∙ sym (begins_alias _ n (first_at around d s n ad)))
+fresh_alias around name t o h = grind (arith, begins_alias, name_fresh)
 
 fresh_anchor : (around : Around) (name t o : List ℕ) → yaml.IsAnchor name t → Fresh around (t ++ o)
-fresh_anchor around name t o h = fresh_so around (t ++ o) (38 ∷ (name ++ o)) (ap (λ (x : List ℕ). x ++ o) h.1)
-    (λ d s k ad n. begins_anchor _ n (core_at around d s context.Block k [] true ad)
-    ∙ name_fresh tokens.Anchor around d s k ad n ∙ sym (begins_anchor _ n (first_at around d s n ad)))
+fresh_anchor around name t o h = grind (arith, begins_anchor, name_fresh)
 
 fresh_tag : (around : Around) (tag : Tag) (t o : List ℕ) → IsTag tag t → Fresh around (t ++ o)
-fresh_tag around tag t o h =
-    let g = tag_read tag t h in
-    let f = tag_first t g.handle g.suffix g.is in
-    fresh_so around (t ++ o) (33 ∷ (f.0 ++ o)) (ap (λ (x : List ℕ). x ++ o) f.1)
-    (λ d s k ad n. tag_fresh around d s k ad n _)
+fresh_tag around tag t o h = grind (arith, tag_fresh)
 
 fresh_properties : (around : Around) (indent : ℕ) (anchor : Option (List ℕ)) (tag : Option Tag) (t o : List ℕ)
     → yaml.AreProperties anchor tag indent t → Fresh around (t ++ o)
@@ -108,17 +99,15 @@ fresh_content : (around : Around) (indent : ℕ) (style : Style) (value t o : Li
 fresh_content around indent Plain value t o h = fresh_word around t o (word_begins false indent t o h.0)
 fresh_content around indent SingleQuoted value t o h =
     fresh_so around (t ++ o) (39 ∷ (h.0 ++ o)) (ap (λ (x : List ℕ). x ++ o) h.5)
-    (λ d s k ad n. single_fresh around d s k ad n _)
+    (λ d s k ad n. quoted_fresh Single around d s k ad n _)
 fresh_content around indent DoubleQuoted value t o h =
     fresh_so around (t ++ o) (34 ∷ (h.0 ++ o)) (ap (λ (x : List ℕ). x ++ o) h.5)
-    (λ d s k ad n. double_fresh around d s k ad n _)
+    (λ d s k ad n. quoted_fresh Double around d s k ad n _)
 fresh_content around indent Literal value t o h = absurd h
 fresh_content around indent Folded value t o h = absurd h
 
 fresh_bracket : (around : Around) (b : Brackets) → AreBrackets b → (o : List ℕ) → Fresh around (b.opening ∷ o)
-fresh_bracket around b are o d s k ad n =
-    are.begins _ n (core_at around d s context.Block k [] true ad) ∙ start_fresh b.context b.opens around d s k ad n
-    ∙ sym (are.begins _ n (first_at around d s n ad))
+fresh_bracket around b are o d s k ad n = grind (arith, start_fresh)
 
 fresh_front : (around : Around) (indent : ℕ) (p : Properties) (front t : List ℕ) → IsBeforeContent p indent front
     → Fresh around t → Fresh around (front ++ t)

@@ -19,9 +19,8 @@ use Rattle.saphyr_scanner.specs.Steps.Unrolling.{unroll}
 use Rattle.saphyr_scanner.specs.Steps.Fetch.{step, state_behind_content, fetch_here, arrive, fetch, check_limit, fetch_within}
 use Rattle.saphyr_scanner.proofs.Leads.{LeadsTo, stay, onward}
 use Rattle.yaml_laws.proofs.InFlow.States.{Around, core_at, state_at, least, reach, reach_low, drops_far_key, key_left, no_ends, none_unrolls, moment}
-use Rattle.yaml_laws.proofs.Flow.States.{moved, IsInk}
-use Rattle.yaml_laws.proofs.Flow.Gaps.{right_tab as no_left_tab}
-use Rattle.yaml_laws.proofs.Flow.Fillers.{right_tab, no_feed, blanks_past}
+use Rattle.yaml_laws.proofs.Flow.States.{moved, IsContentStart}
+use Rattle.yaml_laws.proofs.Flow.Fillers.{blanks_past}
 use Rattle.yaml_laws.proofs.Flow.Tokens.{BeginsToken}
 use Rattle.saphyr_scalar.proofs.Given.{cursor_at}
 use Rattle.saphyr_input.proofs.Basics.Numbers.{le_next}
@@ -54,34 +53,32 @@ keeps_near_key around d s k ls a ad near = rw (not_far k s.mark near) refl
 
 -- ## Blanks before a token
 
-pub ink_gap : (low : ℕ) (c : ℕ) (cs : List ℕ) → IsInk c → (m : Marker) (blank : Bool)
+pub content_gap : (low : ℕ) (c : ℕ) (cs : List ℕ) → IsContentStart c → (m : Marker) (blank : Bool)
     → end_of_gap low m blank false false (c ∷ cs) ≡ stop m blank false false (c ∷ cs)
-ink_gap low c cs ink m blank = rw (ink.blank, ink.break, ink.comment, no_return c ink.break) refl
+content_gap low c cs content m blank =
+    rw (content.blank, content.break, content.comment, no_return c content.break) refl
 
-blanks_gap : (low column : ℕ) → low ≤ column → (w : List ℕ) (c : ℕ) (cs : List ℕ) → AreIn is_blank w → IsInk c
+blanks_gap : (low column : ℕ) → low ≤ column → (w : List ℕ) (c : ℕ) (cs : List ℕ) → AreIn is_blank w → IsContentStart c
     → (m : Marker) (blank : Bool) → column ≤ m.col
     → end_of_gap low m blank false false (w ++ (c ∷ cs)) ≡ stop (moved m w) blank false false (c ∷ cs)
-blanks_gap low column under [] c cs are ink m blank right = ink_gap low c cs ink m blank
-blanks_gap low column under (x ∷ xs) c cs are ink m blank right =
-    rw are.0 (ap (λ (t : Bool). end_of_gap low (along m 1) blank false t (xs ++ (c ∷ cs)))
-    (no_left_tab column low m blank x (right_tab column m x right) under)
-    ∙ blanks_gap low column under xs c cs are.1 ink (along m 1) blank (le_next column m.col right)
-    ∙ ap (λ (n : Marker). stop n blank false false (c ∷ cs)) (rw (no_feed x are.0) refl))
+blanks_gap low column under [] c cs are content m blank right = content_gap low c cs content m blank
+blanks_gap low column under (x ∷ xs) c cs are content m blank right =
+    grind (arith, blanks_gap low column under xs c cs are.1 content (along m 1) blank (le_next column m.col right))
 
 -- the next token on the line is reached
 line_arrives : (around : Around) (d : Bool) (s : Cursor) (k : Candidate) (ad : ℕ) (ps : List Place) (w : List ℕ) (c : ℕ)
-    (cs : List ℕ) → s.rest ≡ w ++ (c ∷ cs) → AreIn is_blank w → IsInk c
+    (cs : List ℕ) → s.rest ≡ w ++ (c ∷ cs) → AreIn is_blank w → IsContentStart c
     → around.indent ≤ s.mark.col → IsNear k (moved s.mark w)
     → arrive (state_at around (moment s context.Block (Some k) [] false ad ps) d)
     ≡ Ok (state_at around (moment (cursor_at (c ∷ cs) (moved s.mark w) s.blank_so_far) context.Block (Some k) [] false
     ad ps) d)
 unfolding arrive pass_gap check_comment
-line_arrives around d s k ad ps w c cs is are ink right near =
+line_arrives around d s k ad ps w c cs is are content right near =
     let n = moved s.mark w in
     let there = cursor_at (c ∷ cs) n s.blank_so_far in
     let here = core_at around d s context.Block (Some k) [] false ad in
     let gapped = ap (λ (t : List ℕ). end_of_gap (reach around d) s.mark s.blank_so_far false false t) is
-    ∙ blanks_gap (reach around d) around.indent (reach_low around d) w c cs are ink s.mark s.blank_so_far
+    ∙ blanks_gap (reach around d) around.indent (reach_low around d) w c cs are content s.mark s.blank_so_far
     right ∙ stop_here n s.blank_so_far false (c ∷ cs) in
     let passed = ap (λ r. r >>= λ (p : GapEnd). check_comment (behind_gap here p)) gapped in
     let reached = ap (λ r. r >>= drop_far_key) passed ∙ keeps_near_key around d there k [] false ad near in
@@ -114,12 +111,12 @@ reaches_low around d m right = grind arith
 
 -- after another token of the key
 pub later_ready : (around : Around) (d : Bool) (s : Cursor) (k : Candidate) (ad : ℕ) (ps : List Place) (w : List ℕ)
-    (c : ℕ) (cs : List ℕ) → s.rest ≡ w ++ (c ∷ cs) → AreIn is_blank w → IsInk c
+    (c : ℕ) (cs : List ℕ) → s.rest ≡ w ++ (c ∷ cs) → AreIn is_blank w → IsContentStart c
     → around.indent ≤ s.mark.col → IsNear k (moved s.mark w) → BeginsToken (moved s.mark w) (c ∷ cs)
     → Ready around (state_at around (moment s context.Block (Some k) [] false ad ps) d) k (c ∷ cs) (moved s.mark w) ad
     ps
 unfolding fetch state_behind_content
-later_ready around d s k ad ps w c cs is are ink right near token =
+later_ready around d s k ad ps w c cs is are content right near token =
     let n = moved s.mark w in
     let there = cursor_at (c ∷ cs) n s.blank_so_far in
     let core = core_at around d there context.Block (Some k) [] false ad in
@@ -127,10 +124,7 @@ later_ready around d s k ad ps w c cs is are ink right near token =
       deeper = d;
       blank = s.blank_so_far;
       running = refl;
-      fetches = ap (λ r. r >>= fetch_here) (line_arrives around d s k ad ps w c cs is are ink right near)
-          ∙ begins_low around d there (Some k) false ad ps token
-          (reaches_low around d n (blanks_past around.indent w are s.mark right).right)
-          ∙ ap (λ (i : ℕ). after_step (step c (slice_index cs 0) i core) (queue_of ps)) (zero-add (length ps));
+      fetches = grind (arith, line_arrives, begins_low, reaches_low, blanks_past, queue_of, zero-add);
     }
 
 -- whether a key has to be at a column
@@ -173,18 +167,18 @@ Fresh around t = (d : Bool) (s : Cursor) (k : Option Candidate) (ad n : ℕ)
 
 -- the first token of a key
 pub first_ready : (around : Around) → around.pending ≡ false
-    → (d blank : Bool) (k : Option Candidate) (ad : ℕ) (ps : List Place) (m : Marker) (c : ℕ) (cs : List ℕ) → IsInk c
-    → (right : around.column ≤ m.col + 1) → BeginsToken m (c ∷ cs) → Fresh around (c ∷ cs)
+    → (d blank : Bool) (k : Option Candidate) (ad : ℕ) (ps : List Place) (m : Marker) (c : ℕ) (cs : List ℕ)
+    → IsContentStart c → (right : around.column ≤ m.col + 1) → BeginsToken m (c ∷ cs) → Fresh around (c ∷ cs)
     → Ready (keyed around (deeper_at around d m) m right)
     (state_at around (moment (cursor_at (c ∷ cs) m blank) context.Block k [] true ad ps) d)
     (record { mark = m; place = length ps }) (c ∷ cs) m ad ps
 unfolding fetch arrive pass_gap check_comment unroll state_behind_content
-first_ready around calm d blank k ad ps m c cs ink right token fresh =
+first_ready around calm d blank k ad ps m c cs content right token fresh =
     let there = cursor_at (c ∷ cs) m blank in
     let here = core_at around d there context.Block k [] true ad in
     let left = key_left context.Block k m in
     let e = deeper_at around d m in
-    let gapped = ink_gap (least around.column d) c cs ink m blank ∙ stop_here m blank false (c ∷ cs) in
+    let gapped = content_gap (least around.column d) c cs content m blank ∙ stop_here m blank false (c ∷ cs) in
     let passed = ap (λ r. r >>= λ (p : GapEnd). check_comment (behind_gap here p)) gapped in
     let reached = ap (λ r. r >>= drop_far_key) passed ∙ drops_far_key around None d there context.Block k [] true ad
     calm in
@@ -196,11 +190,7 @@ first_ready around calm d blank k ad ps m c cs ink right token fresh =
       deeper = e;
       blank = blank;
       running = refl;
-      fetches = ap (λ r. r >>= fetch_here) arrived
-          ∙ begins_low around e there left true ad ps token (still_least around d m right)
-          ∙ ap (λ (i : ℕ). after_step (step c (slice_index cs 0) i
-          (core_at around e there context.Block left [] true ad)) (queue_of ps)) (zero-add (length ps))
-          ∙ ap (λ q. after_step q (queue_of ps)) (fresh e there left ad (length ps));
+      fetches = grind (arith, begins_low, still_least, core_at, queue_of, zero-add);
     }
   where
     one_less : (a b : ℕ) → a ≤ b + 1 → nat_lt b (a - 1) ≡ false

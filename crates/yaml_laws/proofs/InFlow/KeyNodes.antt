@@ -3,7 +3,6 @@ use Rattle.std.proofs.Common.{◌≡◌, ◌≢◌, ℕ, arith, true, false, Lis
 use Rattle.std.proofs.lemmas.Bool.{false≢true}
 use Rattle.saphyr_input.specs.Indicators.{colon}
 use Rattle.saphyr_input.specs.Classes.{is_blank, is_blank_or_breakz}
-use Rattle.std.proofs.lemmas.Bool.Decides.{nat_tests}
 use Rattle.saphyr_scalar.specs.declared.scalar.position.Marker.{Marker}
 use Rattle.saphyr_scalar.specs.Spelling.Tag.{AreIn, EndsTag}
 use Rattle.saphyr_scanner.specs.Grammar.Tokens.{Kind}
@@ -14,11 +13,10 @@ use Rattle.yaml_laws.specs.Grammar.FlowNodes.{IsProperties, IsBeforeContent, IsS
 use Rattle.yaml_laws.proofs.InFlow.States.{Around}
 use Rattle.yaml_laws.proofs.InFlow.OnLine.{front_on_line, back_on_line, blanks_on_line}
 use Rattle.yaml_laws.proofs.InFlow.KeyLines.{Ready}
-use Rattle.yaml_laws.proofs.InFlow.KeyTokens.{in_back, in_so, tokens_join, along_ready, alias_along, properties_along, TokensAlong, told_along}
+use Rattle.yaml_laws.proofs.InFlow.KeyTokens.{in_back, in_so, tokens_join, along_ready, alias_along, properties_along, TokensAlong, mapped_along}
 use Rattle.yaml_laws.proofs.InFlow.KeyScalars.{Blanks, no_blanks, colon_text, colon_after, ReadsKey, ContentReads, scalar_reads, plain_key_reads, ScalarReads}
 use Rattle.yaml_laws.proofs.Flow.States.{moved, ReaderPromises}
 use Rattle.yaml_laws.proofs.Flow.Places.{moved_append}
-use Rattle.yaml_laws.proofs.Flow.Ends.{white_ends_tag}
 use Rattle.yaml_laws.proofs.Flow.ScalarNodes.{empty_are, separation_ends}
 use Rattle.yaml_laws.proofs.Flow.Fronts.{AreFronted}
 
@@ -31,10 +29,7 @@ KeyReads around node t w r = ReadsKey around (grammar.YieldsNode node grammar.In
 some_blank : (w r : List ℕ) → AreIn is_blank w → (w ≢ []) ⊎ IsTrue false → EndsTag false (w ++ (colon ∷ r))
 some_blank w r are (inr k) = absurd (false≢true k)
 some_blank [] r are (inl some) = absurd (some refl)
-some_blank (c ∷ cs) r are (inl some) = white_ends_tag false (c ∷ (cs ++ (58 ∷ r))) (blank_apart c are.0)
-  where
-    blank_apart : (c : ℕ) → IsTrue (is_blank c) → is_blank_or_breakz c ≡ true
-    blank_apart c h = grind (arith, nat_tests)
+some_blank (c ∷ cs) r are (inl some) = search
 
 pub alias_key : ReaderPromises → (around : Around) (name p : List ℕ) (n : Blanks) (r : List ℕ) → yaml.IsAlias name p
     → IsBeforeColon (Alias name) n.text → KeyReads around (Alias name) p n.text r
@@ -46,7 +41,7 @@ empty_key : ReaderPromises → (around : Around) (p : Properties) (t : List ℕ)
     → IsProperties p around.indent t → IsBeforeColon (Scalar p Plain []) n.text
     → KeyReads around (Scalar p Plain []) t n.text r
 empty_key reads around p t n r h apart start k qs e ad text low ready =
-    told_along (λ ts are. empty_are p around.indent t ts grammar.InBlockMapping h are)
+    mapped_along (λ ts are. empty_are p around.indent t ts grammar.InBlockMapping h are)
     (properties_along reads around k p.anchor p.tag start qs t n.text (58 ∷ r) n.text (58 ∷ r) e ad h
     (some_blank n.text r n.are apart) text refl n.are low ready)
 
@@ -64,7 +59,7 @@ pub front_along : ReaderPromises → (around : Around) (p : Properties) (Is : Li
     → ReadsKey around (AreFronted p Is) (front ++ content) n.text r
 front_along reads around p Is front content n r (inl (none, is)) g =
     subst (λ (f : List ℕ). ReadsKey around (AreFronted p Is) (f ++ content) n.text r) (sym is)
-    (λ start k qs e ad text low ready. told_along
+    (λ start k qs e ad text low ready. mapped_along
     (λ ts are. ([], ts, subst (λ (q : Properties). grammar.YieldProperties q []) (sym none) refl, are, refl))
     (g.along start k qs e ad text low ready))
 front_along reads around p Is front content n r (inr (t, v, h, some, gap, is)) g = λ start k qs e ad text low ready.
@@ -89,7 +84,7 @@ content_key : ReaderPromises → (around : Around) (p : Properties) (style : Sty
     (n : Blanks) (r : List ℕ) → IsBeforeContent p around.indent front → ScalarReads around style value content n r
     → KeyReads around (Scalar p style value) (front ++ content) n.text r
 content_key reads around p style value front content n r before g start k qs e ad text low ready =
-    told_along (λ ts h. (h.0, h.1, h.2, inl h.3, h.4))
+    mapped_along (λ ts h. (h.0, h.1, h.2, inl h.3, h.4))
     (front_along reads around p _ front content n r before g start k qs e ad text low ready)
 
 pub scalar_key : ReaderPromises → (around : Around) (p : Properties) (style : Style) (value t : List ℕ) (n : Blanks)

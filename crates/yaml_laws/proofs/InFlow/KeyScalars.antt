@@ -1,9 +1,7 @@
 -- The content of a key on one line at block level: plain and quoted scalars.
-use Rattle.std.proofs.Common.{◌≡◌, ◌≢◌, ℕ, ◌≤◌, Bool, true, false, List, [], ◌∷◌, ◌++◌, length, slice_index, Ok, refl, sym, ap, ◌∙◌, arith, append-nil, inl, IsTrue, encode_utf8_all}
+use Rattle.std.proofs.Common.{◌≡◌, ◌≢◌, ℕ, ◌≤◌, Bool, true, false, List, [], ◌∷◌, ◌++◌, length, slice_index, Ok, refl, sym, ap, ◌∙◌, arith, append-nil, inl, encode_utf8_all}
 use Rattle.std.specs.Prelude.{◌==◌, Option, Some, None}
-use Rattle.std.proofs.lemmas.Bool.Decides.{nat_tests}
-use Rattle.saphyr_input.specs.Classes.{is_blank, is_break, is_blank_or_breakz}
-use Rattle.saphyr_input.specs.Places.{is_blank_or_break}
+use Rattle.saphyr_input.specs.Classes.{is_blank, is_blank_or_breakz}
 use Rattle.saphyr_scalar.specs.declared.scalar.position.Marker.{Marker}
 use Rattle.saphyr_scalar.specs.declared.values.Quote.{Quote}
 use Rattle.saphyr_scalar.specs.declared.values.Quote.TheVariants.{Single, Double}
@@ -20,30 +18,30 @@ use Rattle.saphyr_scanner.specs.Steps.Queue.{Place}
 use Rattle.saphyr_scanner.specs.Steps.Core.{from_to, completed_step}
 use Rattle.saphyr_scanner.specs.Steps.Level.{Candidate, Level}
 use Rattle.saphyr_scanner.specs.Steps.Passing.{pass_gap, check_comment}
-use Rattle.saphyr_scanner.specs.Steps.Scalar.{goes_on_behind_quotes}
+use Rattle.saphyr_scanner.specs.Steps.Scalar.{goes_on_behind_quotes, quote_style}
 use Rattle.saphyr_scanner.specs.Steps.State.{State}
 use Rattle.saphyr_scanner.specs.Grammar.Forest.{Style, Plain, SingleQuoted, DoubleQuoted, Literal, Folded}
 use Rattle.yaml_laws.specs.Grammar.FlowScalars.{IsPlainKey, IsQuoted, IsFlowScalar}
 use Rattle.yaml_laws.proofs.InFlow.States.{Around, core_at, reach, in_column, behind_key}
 use Rattle.yaml_laws.proofs.InFlow.Tabs.{tabs_behind}
 use Rattle.yaml_laws.proofs.InFlow.OnLine.{separation_of_blanks, plain_lowers, plain_key_lowers}
-use Rattle.yaml_laws.proofs.InFlow.KeyLines.{Ready, token_led, ink_gap}
+use Rattle.yaml_laws.proofs.InFlow.KeyLines.{Ready, token_led, content_gap}
 use Rattle.yaml_laws.proofs.InFlow.KeyTokens.{InKey, in_near, in_back, in_right, in_limit, in_so, TokensAlong}
 use Rattle.yaml_laws.proofs.Flow.States.{moved, past, crosses, ReaderPromises, IsClear}
 use Rattle.yaml_laws.proofs.Flow.Places.{moved_index, clear_front}
-use Rattle.yaml_laws.proofs.Flow.GapSteps.{past_ink}
+use Rattle.yaml_laws.proofs.Flow.GapSteps.{past_content}
 use Rattle.yaml_laws.proofs.InBlock.Skips.{blanks_cross}
 use Rattle.yaml_laws.proofs.Flow.Fillers.{blanks_past}
 use Rattle.yaml_laws.proofs.Flow.Tokens.{PassesGap}
 use Rattle.yaml_laws.proofs.Flow.Separates.{separates}
-use Rattle.yaml_laws.proofs.Flow.Quotes.{EndsQuotes, style_of_quote, behind_step, quoted_step, quote_first}
+use Rattle.yaml_laws.proofs.Flow.Quotes.{EndsQuotes, behind_step, quoted_step, quote_first}
 use Rattle.yaml_laws.proofs.Flow.Plains.{BeginsWord, word_begins, key_begins, token_begins, plain_step}
 use Rattle.yaml_laws.proofs.Flow.Words.{plain_text, key_text}
 use Rattle.std.proofs.lemmas.Bool.{eq-eqb}
 use Rattle.saphyr_input.specs.Indicators.{apostrophe, colon, number_sign}
 use Rattle.saphyr_input.proofs.Basics.Booleans.{clash}
 use Rattle.saphyr_scanner.proofs.Gaps.{stop_here}
-use Rattle.yaml_laws.proofs.Flow.Inks.{Begins, colon_ink}
+use Rattle.yaml_laws.proofs.Flow.ContentStarts.{Begins, colon_content}
 
 -- the blanks between a key and its colon
 pub record Blanks : Type 0 where
@@ -60,24 +58,14 @@ colon_text n r = n.text ++ (58 ∷ r)
 pub colon_lands : (column : ℕ) (m : Marker) (n : Blanks) (r : List ℕ) → column ≤ m.col
     → past column m (colon_text n r) ≡ (moved m n.text, colon ∷ r)
 colon_lands column m n r right =
-    (blanks_past column n.text n.are m right).is (58 ∷ r) ∙ past_ink column (moved m n.text) 58 r colon_ink
+    (blanks_past column n.text n.are m right).is (58 ∷ r) ∙ past_content column (moved m n.text) 58 r colon_content
 
 -- ## Plain scalars
 
 white_blanks : (m : Marker) (w r : List ℕ) → AreIn is_blank w
     → past_white m false (w ++ (colon ∷ r)) ≡ cursor_at (colon ∷ r) (moved m w) false
 white_blanks m [] r are = refl
-white_blanks m (c ∷ cs) r are =
-    rw (blank_white c are.0, blank_unbroken c are.0, blank_feed c are.0) (white_blanks (along m 1) cs r are.1)
-  where
-    blank_white : (c : ℕ) → IsTrue (is_blank c) → is_blank_or_break c ≡ true
-    blank_white c h = grind (arith, nat_tests)
-
-    blank_unbroken : (c : ℕ) → IsTrue (is_blank c) → is_break c ≡ false
-    blank_unbroken c h = grind (arith, nat_tests)
-
-    blank_feed : (c : ℕ) → IsTrue (is_blank c) → (c == 10) ≡ false
-    blank_feed c h = grind (arith, nat_tests)
+white_blanks m (c ∷ cs) r are = grind (arith, white_blanks (along m 1) cs r are.1)
 
 colon_stops : (r : List ℕ) → is_blank_or_breakz (slice_index r 0) ≡ true → is_in_word false (colon ∷ r) ≡ false
 unfolding is_in_word
@@ -89,10 +77,7 @@ no_comment t m r = refl
 
 blanks_apart : (w r : List ℕ) → AreIn is_blank w → slice_index (w ++ (colon ∷ r)) 0 ≢ number_sign
 blanks_apart [] r are e = absurd (omega (arith, e))
-blanks_apart (c ∷ cs) r are e = no_sign c are.0 e
-  where
-    no_sign : (c : ℕ) → IsTrue (is_blank c) → c ≢ number_sign
-    no_sign c h e = absurd (let f : false ≡ true = sym (ap (λ (d : ℕ). is_blank d) e) ∙ h in cc)
+blanks_apart (c ∷ cs) r are e = grind arith
 
 key_ends_plain : (column : ℕ) (m : Marker) (n : Blanks) (r : List ℕ) → column ≤ m.col
     → is_blank_or_breakz (slice_index r 0) ≡ true → EndsPlain false column m (colon_text n r)
@@ -189,7 +174,7 @@ gap_to_colon : (around : Around) (d : Bool) (s : Cursor) (k : Candidate) (ad : �
     → s.rest ≡ colon ∷ r → s.mark ≡ m → pass_gap (core_at around d s context.Block (Some k) [] false ad)
     ≡ Ok (core_at around d (cursor_at (colon ∷ r) m s.blank_so_far) context.Block (Some k) [] false ad)
 unfolding pass_gap check_comment
-gap_to_colon around d s k ad m r is at_colon = grind (arith, reach, ink_gap, colon_ink, stop_here, core_at)
+gap_to_colon around d s k ad m r is at_colon = grind (arith, reach, content_gap, colon_content, stop_here, core_at)
 
 -- what comes after the closing quote, and the colon
 record KeyQuotes (around : Around) (start : Marker) (m : Marker) (n : Blanks) (r : List ℕ) : Type 0 where
@@ -201,38 +186,26 @@ key_quotes : (around : Around) (start m : Marker) (n : Blanks) (r : List ℕ) �
     → start.line ≡ (moved m n.text).line → KeyQuotes around start m n r
 key_quotes around start m n r right line =
     let p = separates around.indent (mid_line m (colon_text n r)) n.text 58 r refl
-    (separation_of_blanks around.indent n.text n.are) right colon_ink in
+    (separation_of_blanks around.indent n.text n.are) right colon_content in
     let near = p.near n.are in
     record {
-      ends = record {
-        found = p.found;
-        there = p.there;
-        is = p.is;
-        lands = p.lands;
-        inked = ap (λ (z : Marker × List ℕ). is_blank (slice_index z.1 0)) (colon_lands around.indent m n r right);
-        stays = λ _ e. absurd (clash (crosses (colon_text n r)) e (blanks_cross n.text (58 ∷ r) n.are));
-        goes = λ d k ls a ad. goes_before_colon around d start p.there r k ls a ad near.0
-            (line ∙ ap (λ (z : Marker). z.line) (sym near.1));
-      };
+      ends = grind (arith, colon_lands, clash, crosses, blanks_cross, goes_before_colon);
       rest = near.0;
       mark = near.1;
     }
 
 no_quote : (w r : List ℕ) → AreIn is_blank w → (slice_index (w ++ (colon ∷ r)) 0 == apostrophe) ≡ false
 no_quote [] r are = refl
-no_quote (c ∷ cs) r are = no_apostrophe c are.0
-  where
-    no_apostrophe : (c : ℕ) → IsTrue (is_blank c) → (c == apostrophe) ≡ false
-    no_apostrophe c h = grind (arith, nat_tests)
+no_quote (c ∷ cs) r are = grind arith
 
 quotes_along : ReaderPromises → (around : Around) (quote : Quote) (value t : List ℕ) (n : Blanks) (r : List ℕ)
-    → IsQuoted quote around.indent value t → ReadsScalar around (style_of_quote quote) value t n r
+    → IsQuoted quote around.indent value t → ReadsScalar around (quote_style quote) value t n r
 quotes_along reads around quote value t n r h start k qs e ad text low ready =
     let o = colon_text n r in
     let clear = clear_front e t n.text (58 ∷ r) text.clear in
     let end = moved e t in
     let m = colon_after e t n in
-    let kind = scalar_token (style_of_quote quote) value in
+    let kind = scalar_token (quote_style quote) value in
     let last = in_last k e t n r text in
     let right = in_right k e t n.text (58 ∷ r) (rw h.5 (quote_first quote h.0)) text in
     let ends = key_quotes around e end n r right (text.line ∙ sym last.line) in
@@ -248,7 +221,7 @@ quotes_along reads around quote value t n r h start k qs e ad text low ready =
     let first : slice_index (t ++ o) 0 ≡ mark quote = ap (λ (y : List ℕ). slice_index (y ++ o) 0) h.5 in
     let stepped = quoted_step reads around ready.deeper quote (length qs) e ready.blank value t o h clear
     (no_quote n.text r n.are) context.Block (Some k) [] false ad (slice_index (t ++ o) 0) first (behind_key refl refl)
-    ∙ behind_step around ready.deeper e (style_of_quote quote) (encode_utf8_all value)
+    ∙ behind_step around ready.deeper e (quote_style quote) (encode_utf8_all value)
     (mid_line end o) context.Block (Some k) [] ad m (58 ∷ r) ends.ends g in
     let led = token_led around start k (t ++ o) e ad qs ready shut.mark kind (cursor_at (58 ∷ r) m shut.blank_so_far)
     m.index (λ d. d) stepped (in_near k m [] (58 ∷ r) last) (in_limit k m [] (58 ∷ r) last) in
@@ -288,7 +261,7 @@ abbrev pub ScalarReads : Around → Style → List ℕ → List ℕ → Blanks �
 ScalarReads around style value content n r = ContentReads around (λ ts. ts ≡ scalar_token style value ∷ []) content n r
 
 quotes_reads : ReaderPromises → (around : Around) (quote : Quote) (value t : List ℕ) (n : Blanks) (r : List ℕ)
-    → IsQuoted quote around.indent value t → ScalarReads around (style_of_quote quote) value t n r
+    → IsQuoted quote around.indent value t → ScalarReads around (quote_style quote) value t n r
 quotes_reads reads around quote value t n r h =
     record { begins = rw h.5 (quote_first quote h.0); along = quotes_along reads around quote value t n r h }
 

@@ -35,7 +35,7 @@ use Rattle.yaml_laws.proofs.Flow.Tokens.{begins_token}
 use Rattle.yaml_laws.proofs.Flow.Names.{name_step, begins_anchor, begins_alias, tag_step, begins_tag, tag_read, tag_first}
 use Rattle.yaml_laws.proofs.Flow.Ends.{tag_ends_name, white_ends_tag}
 use Rattle.yaml_laws.proofs.Flow.Properties.{blank_first}
-use Rattle.yaml_laws.proofs.Flow.Inks.{Begins, is_start, starts, tag_begins, anchor_begins}
+use Rattle.yaml_laws.proofs.Flow.ContentStarts.{Begins, is_start, starts, tag_begins, anchor_begins}
 
 -- ## The rest of a key
 
@@ -66,8 +66,7 @@ in_back {around} k e a b behind h =
       on_line = back_on_line a b (a ++ b) refl h.on_line;
       low = rw there (further (length a) low);
       clear = clear_back e a b behind h.clear;
-      below = rw there (within (length a) (length (b ++ behind)) (length ((a ++ b) ++ behind))
-          (ap length (append_assoc a b behind) ∙ length-append a (b ++ behind)) below);
+      below = grind (arith, within, length-append);
     }
   where
     nearer : (p q n : ℕ) → n ≡ p + q → e.index + n ≤ k.mark.index + 1024 → e.index + p + q ≤ k.mark.index + 1024
@@ -156,7 +155,7 @@ along_ready {around} {k = k} {m = m} p o b behind a begins h same =
     let near = in_near k m (p ++ b) behind h in
     rw front (rw a.mark at
     (later_ready around a.deeper a.there k a.adjacent (places_along a) a.white begins.first (begins.others ++ o)
-    (cc) a.are_white begins.ink a.right (rw a.mark near) (rw a.mark (rw front at token))))
+    (cc) a.are_white begins.content a.right (rw a.mark near) (rw a.mark (rw front at token))))
 
 -- the tokens of a part of a key, and what comes after it
 pub record TokensAlong (around : Around) (start : State) (k : Candidate) (qs : List Place) (Is : List Kind → Type 0)
@@ -165,17 +164,16 @@ pub record TokensAlong (around : Around) (start : State) (k : Candidate) (qs : L
   pub are : Is tokens
   pub along : Along around start k qs m y tokens
 
-pub told_along : {around : Around} {start : State} {k : Candidate} {qs : List Place} {Is Js : List Kind → Type 0}
+pub mapped_along : {around : Around} {start : State} {k : Candidate} {qs : List Place} {Is Js : List Kind → Type 0}
     {m : Marker} {y : List ℕ} → ((ts : List Kind) → Is ts → Js ts) → TokensAlong around start k qs Is m y
     → TokensAlong around start k qs Js m y
-told_along f a = record { tokens = a.tokens; are = f a.tokens a.are; along = a.along }
+mapped_along f a = record { tokens = a.tokens; are = f a.tokens a.are; along = a.along }
 
 pub tokens_join : {around : Around} {start : State} {k : Candidate} {qs : List Place} {Is Js Ks : List Kind → Type 0}
     {m n : Marker} {y z : List ℕ} → ((ts us : List Kind) → Is ts → Js us → Ks (ts ++ us))
     → (a : TokensAlong around start k qs Is m y)
     → TokensAlong around (state_along a.along) k (places_along a.along) Js n z → TokensAlong around start k qs Ks n z
-tokens_join f a b =
-    record { tokens = a.tokens ++ b.tokens; are = f a.tokens b.tokens a.are b.are; along = along_joins a.along b.along }
+tokens_join f a b = search (along_joins)
 
 -- How a text of Is is read in a key, before what ends a tag: its tokens are of Are. After it come blanks w.
 abbrev pub ReadsPart : Around → Candidate → (List ℕ → Type 0) → (List Kind → Type 0) → Type 0
@@ -310,11 +308,11 @@ two_along : ReaderPromises → (around : Around) (k : Candidate) (name : List �
     → ReadsPart around k (yaml.AreProperties (Some name) (Some tag) around.indent)
     (grammar.AreBoth (Some (anchor_token name)) (Some (tag_token tag)))
 two_along reads around k name tag start qs t b behind w y e ad (a, s, c, h, g, gapped, inl t_is) ends text is are low
-    r = told_along (λ ts e. inl e)
+    r = mapped_along (λ ts e. inl e)
     (both_along (anchor_along reads around k name) (tag_along reads around k tag) (tag_begins tag) start qs t b behind w
     y e ad (a, s, c, h, gapped, g, t_is) ends text is are low r)
 two_along reads around k name tag start qs t b behind w y e ad (c, s, a, h, g, gapped, inr t_is) ends text is are low
-    r = told_along (λ ts e. inr e)
+    r = mapped_along (λ ts e. inr e)
     (both_along (tag_along reads around k tag) (anchor_along reads around k name) (anchor_begins name) start qs t b
     behind w y e ad (a, s, c, g, gapped, h, t_is) ends text is are low r)
 

@@ -1,10 +1,9 @@
 -- A node in flow style on one line at block level is read as a key.
-use Rattle.std.proofs.Common.{◌≡◌, ℕ, suc, ◌+◌, ◌≤◌, Bool, true, false, List, [], ◌∷◌, ◌++◌, length, slice_index, refl, ap, arith, inl, inr, IsTrue, append_assoc}
-use Rattle.std.specs.Prelude.{Option, not, ◌==◌}
-use Rattle.std.proofs.lemmas.Bool.Decides.{nat_tests}
+use Rattle.std.proofs.Common.{◌≡◌, ℕ, suc, ◌+◌, ◌≤◌, Bool, true, false, List, [], ◌∷◌, ◌++◌, length, slice_index, refl, ap, arith, inl, inr, append_assoc}
+use Rattle.std.specs.Prelude.{Option}
 use Rattle.saphyr_scalar.specs.Spelling.Tag.{AreIn}
 use Rattle.saphyr_input.specs.Indicators.{colon}
-use Rattle.saphyr_input.specs.Classes.{is_blank, is_blank_or_breakz, line_feed}
+use Rattle.saphyr_input.specs.Classes.{is_blank, is_blank_or_breakz}
 use Rattle.saphyr_scalar.specs.declared.scalar.position.Marker.{Marker}
 use Rattle.saphyr_scanner.specs.declared.engine.level.Context.TheVariants as context
 use Rattle.saphyr_scanner.specs.Steps.Queue.{Place}
@@ -14,7 +13,7 @@ use Rattle.saphyr_scanner.specs.Limits.{most_open}
 use Rattle.yaml_laws.specs.Grammar.FlowNodes.{IsOnLine, IsKeyText, IsBeforeColon, IsFlowNode}
 use Rattle.yaml_laws.proofs.InFlow.States.{Around, state_at, moment}
 use Rattle.yaml_laws.proofs.InFlow.KeyLines.{Ready, Fresh, keyed, deeper_at, first_ready}
-use Rattle.yaml_laws.proofs.InFlow.KeyTokens.{InKey, in_back, in_right, in_so, TokensAlong, told_along}
+use Rattle.yaml_laws.proofs.InFlow.KeyTokens.{InKey, in_back, in_right, in_so, TokensAlong, mapped_along}
 use Rattle.yaml_laws.proofs.InFlow.KeyScalars.{Blanks, colon_text, colon_after, ContentReads}
 use Rattle.yaml_laws.proofs.Flow.States.{moved, IsClear, ReaderPromises, FitsAround}
 use Rattle.yaml_laws.proofs.Flow.Places.{clear_front}
@@ -29,7 +28,7 @@ use Rattle.saphyr_scanner.specs.Grammar.TokenGrammar as grammar
 use Rattle.saphyr_scanner.proofs.Levels.{level_of}
 use Rattle.yaml_laws.proofs.Flow.Collections.{Brackets, bracket_text, AreBracketed}
 use Rattle.yaml_laws.proofs.Flow.Collections.Runs.{whole_text, IsBracketText, ReadsCollection}
-use Rattle.yaml_laws.proofs.Flow.Inks.{key_text_begins, starts, is_start}
+use Rattle.yaml_laws.proofs.Flow.ContentStarts.{key_text_begins, starts, is_start}
 use Rattle.yaml_laws.proofs.Flow.Pieces.{parted_by}
 
 -- ## Collections
@@ -68,13 +67,13 @@ collection_key {node} {p} {b} {Are = Are} reads around same collection t n r
       begins = starts b.opening (w ++ (inside ++ (b.closing ∷ []))) body refl first;
       along = collection_along around same Are b collection.are w inside n r parts
           (parted_by around.indent w (inside ++ (b.closing ∷ colon_text n r)) parts
-          (entries.ink inside (colon_text n r) h))
+          (entries.content inside (colon_text n r) h))
           (λ k m at_key j inner no_candidate fresh on right at. entries.passes (moved m (b.opening ∷ w)) inside
           (colon_text n r) h (inside_fits around k m b.opening w inside b.closing n r first at_key)
           (record inner { outer = level_of context.Block j ∷ [] }) no_candidate fresh (room_inside left room) on at);
     } in
-    rw (whole_text t opening front w inside b.opening b.closing is o) (λ start k qs e ad text low ready. told_along
-    (λ ts (properties, brackets, are, (inner, are_inner, told), all). rw (all, told)
+    rw (whole_text t opening front w inside b.opening b.closing is o) (λ start k qs e ad text low ready. mapped_along
+    (λ ts (properties, brackets, are, (inner, are_inner, known), all). rw (all, known)
     (collection.yields grammar.InBlockMapping properties inner are are_inner))
     (front_along reads around p (AreBracketed b Are) front body n r f content start k qs e ad text low ready))
 
@@ -106,10 +105,7 @@ text_fresh around indent node t s r (inr (h, none)) = rw none (plain_key_fresh a
 
 pub blanks_are_on_line : (w : List ℕ) → AreIn is_blank w → IsOnLine w
 blanks_are_on_line [] are = tt
-blanks_are_on_line (c ∷ cs) are = (no_feed c are.0, blanks_are_on_line cs are.1)
-  where
-    no_feed : (c : ℕ) → IsTrue (is_blank c) → IsTrue (not (c == line_feed))
-    no_feed c h = grind (arith, nat_tests)
+blanks_are_on_line (c ∷ cs) are = grind (arith, blanks_are_on_line cs are.1)
 
 pub both_on_line : (a b : List ℕ) → IsOnLine a → IsOnLine b → IsOnLine (a ++ b)
 both_on_line [] b h k = k
@@ -136,17 +132,10 @@ key_read reads around calm node m p n r h line apart short white right clear bel
     let front : p ++ o ≡ b.first ∷ (b.others ++ o) = ap (λ (t : List ℕ). t ++ o) b.is in
     let token = begins_token m p o b (clear_front m p n.text (58 ∷ r) clear) in
     let text : InKey inner here m (p ++ n.text) (58 ∷ r) =
-    record {
-      line = refl;
-      index = nearer m.index (length (p ++ n.text)) short;
-      on_line = both_on_line p n.text line (blanks_are_on_line n.text n.are);
-      low = next m.col;
-      clear = clear;
-      below = below;
-    } in
+    grind (arith, nearer, both_on_line, blanks_are_on_line, next) in
     let start = λ (t : List ℕ). state_at around (moment (cursor_at t m blank) context.Block k [] true ad ps) d in
     let ready : Ready inner (start (p ++ o)) here (p ++ o) m ad ps =
-    rw front (first_ready around calm d blank k ad ps m b.first (b.others ++ o) b.ink right
+    rw front (first_ready around calm d blank k ad ps m b.first (b.others ++ o) b.content right
     (rw front at token) (rw front at (text_fresh around (suc m.col) node p n.text r h))) in
     text_along reads inner refl node p n r h apart white (start (p ++ o)) here ps m ad text low ready
   where

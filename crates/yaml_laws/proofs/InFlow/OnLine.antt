@@ -46,8 +46,7 @@ gap_of_blanks indent w (inr (end, filler, front, (rest, rest_is, end_is), filler
 -- ## Plain scalars further left
 
 prefix_lowers : (i j : ℕ) → j ≤ i → (t : List ℕ) → IsLinePrefix i t → IsLinePrefix j t
-prefix_lowers i j low t (front, blanks, (n, least, spaced), are, is) =
-    (front, blanks, (n, omega (arith, low, least), spaced), are, is)
+prefix_lowers i j low t (front, blanks, (n, least, spaced), are, is) = grind arith
 
 empty_lines_lower : (i j : ℕ) → j ≤ i → (ts : List (List ℕ)) → AreEach (IsEmptyLine i) ts → AreEach (IsEmptyLine j) ts
 empty_lines_lower i j low [] h = tt
@@ -69,14 +68,11 @@ dashes_lower i j low t (pieces, each, joins) = (pieces, by_pieces pieces each, j
 words_lower : (i j : ℕ) → j ≤ i → (f : Bool) (pieces : List (List ℕ)) → AreEach (IsFurtherWord f i) pieces
     → AreEach (IsFurtherWord f j) pieces
 words_lower i j low f [] h = tt
-words_lower i j low f (p ∷ ps) ((dashes, gap, word, lone, gapped, is_word, is), others) = (
-  (dashes, gap, word, dashes_lower i j low dashes lone, gap_lowers i j low gap gapped, is_word, is),
-  words_lower i j low f ps others,
-)
+words_lower i j low f (p ∷ ps) ((dashes, gap, word, lone, gapped, is_word, is), others) =
+    search (dashes_lower, gap_lowers, words_lower i j low f ps others)
 
 pub plain_lowers : (i j : ℕ) → j ≤ i → (f : Bool) (t : List ℕ) → IsPlain f i t → IsPlain f j t
-plain_lowers i j low f t (first, others, is_first, (pieces, each, joins), is) =
-    (first, others, is_first, (pieces, words_lower i j low f pieces each, joins), is)
+plain_lowers i j low f t (first, others, is_first, (pieces, each, joins), is) = search (words_lower)
 
 pub plain_key_lowers : (i j : ℕ) → j ≤ i → (f : Bool) (t : List ℕ) → IsPlainKey f i t → IsPlainKey f j t
 plain_key_lowers i j low f t (inl h) = inl h

@@ -11,12 +11,13 @@ use Rattle.saphyr_scalar.specs.declared.values.Item.{Item}
 use Rattle.saphyr_scalar.specs.declared.values.Quote.{Quote}
 use Rattle.saphyr_scalar.specs.declared.values.Quote.TheVariants.{Single, Double}
 use Rattle.saphyr_scalar.specs.Views.Cursor.{along, next_line}
-use Rattle.saphyr_scalar.specs.Values.Flow.{mark, backslash, apostrophe}
+use Rattle.saphyr_scalar.specs.Values.Flow.{backslash, apostrophe}
 use Rattle.saphyr_scalar.specs.Spelling.OneLine.{IsNumber}
 use Rattle.saphyr_scalar.specs.Steps.Quoted.{break_len}
-use Rattle.saphyr_scalar.specs.Spelling.Quoted.{stands_for_itself, IsText, closed, itself, broken, two_quotes, escaped, numbered, escaped_break}
+use Rattle.saphyr_scalar.specs.Spelling.Quoted.{IsText, closed, itself, broken, two_quotes, escaped, numbered, escaped_break}
 use Rattle.saphyr_scalar.specs.Spelling.Tag.{AreIn}
 use Rattle.scalar_laws.specs.Spelling.QuotedLines.{space_count, IsLine, LinesFit}
+use Rattle.saphyr_scanner.proofs.Taken.OnLine.{stands_unbroken}
 use Rattle.yaml_laws.proofs.Flow.States.{moved}
 use Rattle.yaml_laws.proofs.Flow.Places.{moved_append, right_along}
 use Rattle.saphyr_input.proofs.Basics.Numbers.{le_next}
@@ -27,23 +28,17 @@ abbrev pub Reaches : ℕ → Marker → List ℕ → Type 0
 Reaches column m t = (column ≤ m.col + space_count t) ⊎ IsTrue (is_break (slice_index (drop (space_count t) t) 0))
 
 -- after a character that is no space and no break
-from_ink : (column : ℕ) (m : Marker) (c : ℕ) (t : List ℕ) → (c == space) ≡ false → is_break c ≡ false
+from_content : (column : ℕ) (m : Marker) (c : ℕ) (t : List ℕ) → (c == space) ≡ false → is_break c ≡ false
     → Reaches column m (c ∷ t) → column ≤ m.col
-from_ink column m c t e f h = grind arith
+from_content column m c t e f h = grind arith
 
 right_reaches : (column : ℕ) (m : Marker) (t : List ℕ) → column ≤ m.col → Reaches column m t
 right_reaches column m t h = inl (let n = space_count t in omega (arith, h))
 
 on_space : (column : ℕ) (m : Marker) (t : List ℕ) → Reaches column m (space ∷ t) → Reaches column (along m 1) t
-on_space column m t (inl h) = inl (further (space_count t) h)
-  where
-    further : (n : ℕ) → column ≤ m.col + (1 + n) → column ≤ m.col + 1 + n
-    further n h = omega (arith, h)
+on_space column m t (inl h) = grind arith
 on_space column m t (inr h) =
     let one : 1 + space_count t ≡ suc (space_count t) = omega arith in inr (rw one at h)
-
-itself_ink : (q : Quote) (c : ℕ) → IsTrue (stands_for_itself q c) → is_break c ≡ false
-itself_ink q c h = grind arith
 
 feed_first : (t : List ℕ) → IsTrue (is_break (slice_index t 0)) → AreIn (λ c. not (c == carriage_return)) t
     → (cs : List ℕ) × (t ≡ line_feed ∷ cs)
@@ -61,15 +56,9 @@ no_feed_letter e ds c h = grind arith
 
 hex_line : (ds : List ℕ) → AreIn is_hex ds → AreIn (λ c. not (c == line_feed)) ds
 hex_line [] h = tt
-hex_line (d ∷ ds) h = (one d h.0, hex_line ds h.1)
-  where
-    one : (d : ℕ) → IsTrue (is_hex d) → IsTrue (not (d == line_feed))
-    one d h = grind (arith, nat_tests)
+hex_line (d ∷ ds) h = grind (arith, hex_line ds h.1)
 
 -- ## To the end of the text
-
-mark_ink : (q : Quote) → ((mark q == space) ≡ false) × (is_break (mark q) ≡ false)
-mark_ink q = grind arith
 
 over_feed : (m : Marker) (t : List ℕ) → (cs : List ℕ) × (t ≡ line_feed ∷ cs) → AreIn (λ c. not (c == carriage_return)) t
     → (moved m t ≡ moved (next_line m 1) (drop (break_len t) t))
@@ -79,12 +68,9 @@ over_feed m t (cs, is) clean = grind arith
 pub text_right : (column : ℕ) (q : Quote) (t : List ℕ) (items : List Item) (x : List ℕ) (spelled : IsText q t items x)
     → LinesFit column q t items x spelled → x ≡ [] → (m : Marker) → Reaches column m t
     → AreIn (λ c. not (c == carriage_return)) t → column ≤ (moved m t).col
-text_right column _ _ _ _ (closed q x h) fit e m reach clean =
-    let ink = mark_ink q in
-    rw e (right_along column m (mark q ∷ []) (ap not (no_feed (mark q) ink.1), tt)
-    (from_ink column m (mark q) x ink.0 ink.1 reach))
+text_right column _ _ _ _ (closed q x h) fit e m reach clean = grind arith
 text_right column _ _ _ _ (itself q c t items x h r) fit e m reach clean =
-    let same : moved m (c ∷ t) ≡ moved (along m 1) t = rw (no_feed c (itself_ink q c h)) refl in
+    let same : moved m (c ∷ t) ≡ moved (along m 1) t = rw (no_feed c (stands_unbroken q c h)) refl in
     rw same (text_right column q t items x r fit e (along m 1) (by_space (c == space) refl) clean.1)
   where
     is_space : (c : ℕ) → (c == space) ≡ true → c ≡ space
@@ -93,22 +79,22 @@ text_right column _ _ _ _ (itself q c t items x h r) fit e m reach clean =
     by_space : (b : Bool) → (c == space) ≡ b → Reaches column (along m 1) t
     by_space true k = on_space column m t (rw (is_space c k) at reach)
     by_space false k = right_reaches column (along m 1) t
-        (le_next column m.col (from_ink column m c t k (itself_ink q c h) reach))
+        (le_next column m.col (from_content column m c t k (stands_unbroken q c h) reach))
 text_right column _ _ _ _ (broken q t items x h r) fit e m reach clean =
     let b = over_feed m t (feed_first t h clean) clean in
     rw b.0 (text_right column q (drop (break_len t) t) items x r fit.1 e (next_line m 1)
     (line_reaches column (next_line m 1) (drop (break_len t) t) refl fit.0) b.1)
 text_right column _ _ _ _ (two_quotes t items x r) fit e m reach clean =
-    let here = from_ink column m apostrophe (apostrophe ∷ t) refl refl reach in
+    let here = from_content column m apostrophe (apostrophe ∷ t) refl refl reach in
     text_right column Single t items x r fit e (along (along m 1) 1)
     (right_reaches column (along (along m 1) 1) t (le_next column (m.col + 1) (le_next column m.col here))) clean.1.1
 text_right column _ _ _ _ (escaped d c t items x h r) fit e m reach clean =
-    let here = from_ink column m backslash (d ∷ t) refl refl reach in
+    let here = from_content column m backslash (d ∷ t) refl refl reach in
     let same : moved m (backslash ∷ d ∷ t) ≡ moved (along (along m 1) 1) t = rw (short_escape_no_feed d c h) refl in
     rw same (text_right column Double t items x r fit e (along (along m 1) 1)
     (right_reaches column (along (along m 1) 1) t (le_next column (m.col + 1) (le_next column m.col here))) clean.1.1)
 text_right column _ _ _ _ (numbered d c ds t items x h r) fit e m reach clean =
-    let here = from_ink column m backslash (d ∷ (ds ++ t)) refl refl reach in
+    let here = from_content column m backslash (d ∷ (ds ++ t)) refl refl reach in
     let front = backslash ∷ d ∷ ds in
     rw (moved_append m front t) (text_right column Double t items x r fit e (moved m front)
     (right_reaches column (moved m front) t (right_along column m front

@@ -1,7 +1,6 @@
 -- States of a scanner that reads a node in flow style, whatever block collections are open around it.
 use Rattle.std.proofs.Common.{◌≡◌, ◌⊎◌, ℕ, ◌<◌, ◌≤◌, Bool, true, false, List, [], ◌∷◌, ◌++◌, length, Ok, refl, ap, ◌∙◌, arith, cond}
-use Rattle.std.specs.Prelude.{◌-◌, ◌||◌, ◌&&◌, not, nat_lt, nat_le, Option, Some, None, if◌then◌else◌}
-use Rattle.std.proofs.lemmas.Bool.Decides.{nat_tests}
+use Rattle.std.specs.Prelude.{◌-◌, ◌||◌, ◌&&◌, not, nat_lt, Option, Some, None, if◌then◌else◌}
 use Rattle.saphyr_input.specs.declared.input.SkipTabs.{SkipTabs}
 use Rattle.saphyr_input.specs.declared.input.SkipTabs.TheVariants.{Yes}
 use Rattle.saphyr_scalar.specs.declared.scalar.position.Marker.{Marker}
@@ -121,10 +120,7 @@ least indent d = if d then indent else indent - 1
 
 pub least_low : (indent : ℕ) (d : Bool) → least indent d ≤ indent
 least_low indent true = omega arith
-least_low indent false = lower indent
-  where
-    lower : (n : ℕ) → n - 1 ≤ n
-    lower n = grind (arith, nat_tests)
+least_low indent false = grind arith
 
 pub not_left : (indent col : ℕ) (d : Bool) → indent ≤ col → nat_lt col (least indent d) ≡ false
 not_left indent col d h = grind arith
@@ -151,10 +147,7 @@ pub runs_to_itself : (around : Around) (s : Bool → State) → RunsTo around s 
 runs_to_itself around s = record { run = λ d. record { deeper = d; leads = stay } }
 
 pub chains : {around : Around} {c b a : Bool → State} → RunsTo around b a → RunsTo around c b → RunsTo around c a
-chains f g = record {
-  run = λ d. let r = f.run d in let q =
-      g.run r.deeper in record { deeper = q.deeper; leads = leads_on r.leads q.leads };
-}
+chains f g = grind (arith, leads_on)
 
 -- ## A key outside flow may be forgotten
 
@@ -167,12 +160,7 @@ pub drops_far_key : (around : Around) (comment : Option Marker) (d : Bool) (s : 
     → drop_far_key (noted_core comment (core_at around d s x k ls a ad))
     ≡ Ok (noted_core comment (core_at around d s x (key_left x k s.mark) ls a ad))
 unfolding drop_far_key
-drops_far_key around comment d s context.Block k ls a ad calm = by_distance (is_too_far k s.mark) refl
-  where
-    by_distance : (far : Bool) → is_too_far k s.mark ≡ far
-        → drop_far_key (noted_core comment (core_at around d s context.Block k ls a ad))
-        ≡ Ok (noted_core comment (core_at around d s context.Block (key_left context.Block k s.mark) ls a ad))
-    by_distance far h = grind arith
+drops_far_key around comment d s context.Block k ls a ad calm = grind arith
 drops_far_key around comment d s context.FlowSequence k ls a ad calm = refl
 drops_far_key around comment d s context.FlowMapping k ls a ad calm = refl
 drops_far_key around comment d s context.FlowPair k ls a ad calm = refl
@@ -187,9 +175,6 @@ left_in_flow x k m e = rw e refl
 
 -- ## No block collection ends right of its indentation
 
-no_right : (indent col : ℕ) → indent ≤ col → nat_lt col (indent - 1) ≡ false
-no_right indent col h = not_left indent col false h
-
 pub no_ends : (col : ℕ) (m : Marker) (is : List ℕ) (s : State) → nat_lt col (s.core.indent - 1) ≡ false
     → end_blocks (Some col) m is s ≡ s
 no_ends col m [] s h = rw h refl
@@ -199,17 +184,7 @@ pub none_unrolls : (around : Around) (col : ℕ) (m : Marker) (s : Cursor) (x : 
     (ls : List Level) (a : Bool) (ad : ℕ) (ps : List Place) (d : Bool) → around.indent ≤ col
     → unroll (Some col) m (state_at around (moment s x k ls a ad ps) d) ≡ state_at around (moment s x k ls a ad ps) d
 unfolding unroll
-none_unrolls around col m s context.Block k ls a ad ps d h =
-    let right = in_column around col h in
-    rw (still d (nat_le around.column col) (reaches around.column col right))
-    (no_ends col m around.outers (state_at around (moment s context.Block k ls a ad ps) d)
-    (no_right around.column col right))
-  where
-    reaches : (a b : ℕ) → a ≤ b → nat_le a b ≡ true
-    reaches a b h = grind (arith, nat_tests)
-
-    still : (a b : Bool) → b ≡ true → (a && b) ≡ a
-    still a b e = grind arith
+none_unrolls around col m s context.Block k ls a ad ps d h = grind (arith, no_ends)
 none_unrolls around col m s context.FlowSequence k ls a ad ps d h = refl
 none_unrolls around col m s context.FlowMapping k ls a ad ps d h = refl
 none_unrolls around col m s context.FlowPair k ls a ad ps d h = refl

@@ -19,9 +19,9 @@ use Rattle.saphyr_input.proofs.Basics.Booleans.{and_true_right, clash}
 
 -- ## What is landed at is no blank
 
-pub lands_on_ink : (column : ℕ) (m : Marker) (y : List ℕ) → EndsDocument m y ⊎ IsLeft column m y
+pub lands_on_content : (column : ℕ) (m : Marker) (y : List ℕ) → EndsDocument m y ⊎ IsLeft column m y
     → is_blank (slice_index y 0) ≡ false
-lands_on_ink column m y h = grind (arith, nat_tests)
+lands_on_content column m y h = grind (arith, nat_tests)
 
 -- ## After a tab in the indentation comes a comment or the text's end
 
@@ -75,18 +75,19 @@ over_tabs column =
           from_on step (past_on n b c cs w.white)
           (on (flag_on column m.col tab c) (rw (t, e) at h) (flag_rest column m c cs tab t e bare)
           (if ends_line c cs then next_line n 1 else along n 1) (b || is_break c));
-      break = λ m c cs t e f on tab h bare n b.
-          let w = line_break_white c cs e f in
-          let step = tabbed_on column m.col tab c cs w.0
-          ∙ ap (λ (p : Bool). reaches_tabbed column (if p then 0 else m.col + 1) (flag_on column m.col tab c) cs) w.1
-          ∙ ap (λ (p : Bool). reaches_tabbed column 0 p cs) (no_flag column m c tab f) in
-          from_on step (past_on n b c cs w.0) (on false (rw (t, e, f) at h) (no_tab_before (is_filler_rest cs))
-          (if ends_line c cs then next_line n 1 else along n 1) (b || is_break c));
-      sign = λ m c cs t e f g on tab h bare n b.
-          let still = past_stop n b (c ∷ cs) (other_white c cs e f) in
-          inr (ap (λ (u : Cursor). stands_behind_tab u.rest) still ∙ rw g refl);
-      token = λ m c cs t e f g tab h bare n b. inl (tabbed_stop column m.col tab (c ∷ cs) (other_white c cs e f)
-          ∙ no_tab_here tab (is_filler_rest (c ∷ cs)) (no_rest c cs e f g) bare);
+      break = grind (
+        arith,
+        line_break_white,
+        tabbed_on,
+        flag_on,
+        no_flag,
+        from_on,
+        past_on,
+        no_tab_before,
+        is_filler_rest,
+      );
+      sign = grind (arith, past_stop, other_white);
+      token = grind (arith, tabbed_stop, other_white, no_tab_here, is_filler_rest, no_rest);
       comment_ends = λ m. tt;
       word = λ m c cs e on. tt;
       return = λ m c cs e f on. tt;
@@ -140,17 +141,8 @@ behind_kind : (column : ℕ) (m : Marker) (c : ℕ) (cs : List ℕ) (is_tab blan
     → (is_blank (slice_index (past column (along m 1) cs).1 0) ≡ false → (is_tabbed column cs ≡ false)
     ⊎ (stands_behind_tab (past_white (if ends_line c cs then next_line n 1 else along n 1) (b || is_break c) cs).rest
     ≡ true)) → (is_tabbed column (c ∷ cs) ≡ false) ⊎ (stands_behind_tab (past_white n b (c ∷ cs)).rest ≡ true)
-behind_kind column m c cs true p t e h n b on =
-    let still : past column m (c ∷ cs) ≡ (m, c ∷ cs) = rw t refl in
-    absurd (clash (is_blank c) (stop_blank column m c cs t)
-    (ap (λ (z : Marker × List ℕ). is_blank (slice_index z.1 0)) (sym still) ∙ h))
-behind_kind column m c cs false true t e h n b on =
-    let there : past column m (c ∷ cs) ≡ past column (along m 1) cs = rw (t, e) refl in
-    from_on (ap (reaches_tabbed column 0 false) (blanks_on c cs e)) (past_on n b c cs white)
-    (on (ap (λ (z : Marker × List ℕ). is_blank (slice_index z.1 0)) (sym there) ∙ h))
-  where
-    white : is_blank_or_break c ≡ true
-    white = rw e refl
+behind_kind column m c cs true p t e h n b on = grind arith
+behind_kind column m c cs false true t e h n b on = grind (arith, blanks_on)
 behind_kind column m c cs false false t e h n b on = from_on {u = past_white n b (c ∷ cs)} {v = past_white n b (c ∷ cs)}
     (ap (λ (k : ℕ). reaches_tabbed column 0 false (drop k (c ∷ cs))) none ∙ any_column column 0 m.col (c ∷ cs) e) refl
     (over_gap (over_tabs column) m (c ∷ cs) false h (no_tab_before (is_filler_rest (c ∷ cs))) n b)
@@ -202,30 +194,11 @@ tabs_behind_low low column under m n b t h = by_tab (tabs_behind column m n b t 
 
 -- ## A break was passed, or the place is not left of the first
 
-one_on : (a b n : ℕ) → n ≡ a + 1 → n ≤ b → a ≤ b
-one_on a b n e h = omega (arith, e, h)
-
 still_blank : (m : Marker) (t : List ℕ) → (past_white m true t).blank_so_far ≡ true
 still_blank m [] = refl
-still_blank m (c ∷ cs) =
-    by_white (is_blank_or_break c) refl (still_blank (if ends_line c cs then next_line m 1 else along m 1) cs)
-  where
-    by_white : (b : Bool) → is_blank_or_break c ≡ b
-        → (past_white (if ends_line c cs then next_line m 1 else along m 1) true cs).blank_so_far ≡ true
-        → (past_white m true (c ∷ cs)).blank_so_far ≡ true
-    by_white b e on = grind arith
+still_blank m (c ∷ cs) = grind (arith, still_blank (if ends_line c cs then next_line m 1 else along m 1) cs)
 
 pub broke_or_right : (m : Marker) (t : List ℕ)
     → ((past_white m false t).blank_so_far ≡ true) ⊎ (m.col ≤ (past_white m false t).mark.col)
 broke_or_right m [] = inr (omega arith)
-broke_or_right m (c ∷ cs) = by_kind (is_blank_or_break c) (is_break c) refl refl (broke_or_right (along m 1) cs)
-  where
-    by_kind : (b line : Bool) → is_blank_or_break c ≡ b → is_break c ≡ line
-        → ((past_white (along m 1) false cs).blank_so_far ≡ true)
-        ⊎ ((along m 1).col ≤ (past_white (along m 1) false cs).mark.col)
-        → ((past_white m false (c ∷ cs)).blank_so_far ≡ true) ⊎ (m.col ≤ (past_white m false (c ∷ cs)).mark.col)
-    by_kind false line e f on = inr (rw e (omega arith))
-    by_kind true true e f on = inl (rw (e, f) (still_blank _ cs))
-    by_kind true false e f (inl k) = inl (rw (e, f) k)
-    by_kind true false e f (inr k) =
-        inr (rw (e, f) (one_on m.col (past_white (along m 1) false cs).mark.col (m.col + 1) refl k))
+broke_or_right m (c ∷ cs) = grind (arith, still_blank, broke_or_right (along m 1) cs)

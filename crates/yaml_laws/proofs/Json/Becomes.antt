@@ -1,9 +1,8 @@
 -- What a piece of a text becomes where the text's breaks are normalized.
-use Rattle.std.proofs.Common.{◌≡◌, ℕ, Bool, true, false, List, [], ◌∷◌, ◌++◌, refl, arith, append_assoc, slice_index, inl, inr}
-use Rattle.std.specs.Prelude.{◌==◌, if◌then◌else◌}
+use Rattle.std.proofs.Common.{◌≡◌, ℕ, true, false, List, [], ◌∷◌, ◌++◌, refl, arith, append_assoc, inl, inr}
+use Rattle.std.specs.Prelude.{◌==◌}
 use Rattle.std.proofs.lemmas.Bool.Decides.{nat_tests}
 use Rattle.saphyr_input.specs.Breaks.{normal_break, normalized}
-use Rattle.saphyr_input.specs.Classes.{line_feed}
 use Rattle.saphyr_scalar.specs.Spelling.Tag.{AreIn}
 use Rattle.yaml_laws.specs.Grammar.Json.{IsWhite, IsWhiteSpace}
 use Rattle.yaml_laws.proofs.Json.White.{is_white}
@@ -48,11 +47,7 @@ white_break : (c : ℕ) (others : List ℕ) → IsWhite c → AreIn is_white (no
 white_break c others (inl e) = rw e (refl, tt)
 white_break c others (inr (inl e)) = rw e (refl, tt)
 white_break c others (inr (inr (inl e))) = rw e (refl, tt)
-white_break c others (inr (inr (inr e))) = rw e (by (slice_index others 0 == 10))
-  where
-    by : (b : Bool) → AreIn is_white (if b then [] else line_feed ∷ [])
-    by true = tt
-    by false = (refl, tt)
+white_break c others (inr (inr (inr e))) = grind arith
 
 pub white_both : (a b : List ℕ) → AreIn is_white a → AreIn is_white b → AreIn is_white (a ++ b)
 white_both [] b h k = k

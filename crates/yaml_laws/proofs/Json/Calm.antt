@@ -1,6 +1,6 @@
 -- No document marker begins a line of a text of JSON. A piece is calm where it brings none, whatever it comes before.
 use Rattle.std.proofs.Common.{◌≡◌, ℕ, Bool, true, false, List, [], ◌∷◌, ◌++◌, refl, arith, append_assoc}
-use Rattle.std.specs.Prelude.{◌||◌, ◌==◌, not}
+use Rattle.std.specs.Prelude.{◌==◌, not}
 use Rattle.std.proofs.lemmas.Bool.Decides.{nat_tests}
 use Rattle.saphyr_input.specs.Classes.{is_break}
 use Rattle.saphyr_input.specs.Places.{is_document_indicator}
@@ -17,19 +17,11 @@ calm_both a b p q rest h = rw (append_assoc a b rest) (p (b ++ rest) (q rest h))
 -- a marker begins no later line where none begins a line
 later_lines : (t : List ℕ) → has_marker true t ≡ false → has_marker false t ≡ false
 later_lines [] h = refl
-later_lines (c ∷ cs) h = second (is_document_indicator (c ∷ cs)) (has_marker (c == 10) cs) h
-  where
-    second : (a b : Bool) → (a || b) ≡ false → b ≡ false
-    second false b h = h
-    second true b h = absurd (cc)
+later_lines (c ∷ cs) h = grind arith
 
 -- a character that begins no marker
 pub calm_character : (c : ℕ) → (c == 45) ≡ false → (c == 46) ≡ false → IsCalm (c ∷ [])
-calm_character c no_dash no_dot rest h = rw (no_dash, no_dot) (by_feed (c == 10))
-  where
-    by_feed : (b : Bool) → has_marker b rest ≡ false
-    by_feed true = h
-    by_feed false = later_lines rest h
+calm_character c no_dash no_dot rest h = grind (arith, later_lines)
 
 white_begins_none : (c : ℕ) → is_white c ≡ true → ((c == 45) ≡ false) × ((c == 46) ≡ false)
 white_begins_none c h = (grind (arith, nat_tests), grind (arith, nat_tests))

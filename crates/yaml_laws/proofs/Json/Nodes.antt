@@ -81,15 +81,7 @@ Marked mark P t = (w v core : List ℕ) × AreIn is_white w × AreIn is_white v 
 
 marked_so : (mark : List ℕ) (P : List ℕ → Type 0) (n : List ℕ)
     → Both (AreIn is_white) (Both (λ m. m ≡ mark) (Both (AreIn is_white) P)) n → Marked mark P n
-marked_so mark P n (w, r, wh, (m, s, m_is, (v, core, vh, holds, e), f), g) = (
-  w,
-  v,
-  core,
-  wh,
-  vh,
-  holds,
-  cc,
-)
+marked_so mark P n (w, r, wh, (m, s, m_is, (v, core, vh, holds, e), f), g) = grind arith
 
 -- the mark is a character
 mark_becomes : {P : List ℕ → Type 0} (c : ℕ) (structural t x : List ℕ) → IsTrue (is_no_break c)
@@ -118,17 +110,8 @@ enclosed_so : (left right : List ℕ) (Q : List ℕ → Type 0) (n : List ℕ)
     → Both (AreIn is_white) (Both (λ m. m ≡ left) (Both (AreIn is_white)
     (Both Q (Both (λ m. m ≡ right) (AreIn is_white))))) n
     → Enclosed left right Q n
-enclosed_so left right Q n (b, r, bh, (o, s, o_is, (a, v, ah, (u, w, uh, (k, d, k_is, dh, e4), e3), e2), e1), e0) = (
-  b,
-  a,
-  u,
-  d,
-  bh,
-  ah,
-  uh,
-  dh,
-  cc,
-)
+enclosed_so left right Q n (b, r, bh, (o, s, o_is, (a, v, ah, (u, w, uh, (k, d, k_is, dh, e4), e3), e2), e1), e0) =
+    grind arith
 
 -- the entries, with white space after them, become so before any text
 abbrev BecomeInside : (List ℕ → Type 0) → List ℕ → Type 0
@@ -188,8 +171,7 @@ IsPairRun room key value pairs t =
 pairs_joined : (room : ℕ) (key value : Node) (pairs : Pairs) (n : List ℕ) → IsPairRun room key value pairs n
     → ArePairAndOthers room key value pairs n
 pairs_joined room key value pairs n (name, rest, named, (w, v, core, wh, vh, (t, u, p, o, e2), e1), e0) =
-    rw (e0, e1, e2)
-    (pair_and_others room key value pairs name w v t u named wh vh p o)
+    grind (arith, pair_and_others)
 
 -- a member and the others
 member_becomes : (room : ℕ) (key value : Node) (pairs : Pairs) (name colon text others : List ℕ)
@@ -206,8 +188,7 @@ member_becomes room key value pairs name colon text others named colon_is first 
 further_pairs : (room : ℕ) (key value : Node) (pairs : Pairs) (n : List ℕ)
     → Marked (codes ",") (ArePairAndOthers room key value pairs) n
     → IsTail (AreOtherFlowPairs room (MorePairs key value pairs) 0) n
-further_pairs room key value pairs n (w, v, core, wh, vh, h, e) =
-    rw e (other_pairs room key value pairs w v core wh vh h)
+further_pairs room key value pairs n (w, v, core, wh, vh, h, e) = grind (arith, other_pairs)
 
 -- a sequence and a mapping
 sequence_becomes : (room left : ℕ) (p : Properties) (nodes : Nodes) (in_flow : Bool) (t x : List ℕ) → room ≡ suc left

@@ -1,6 +1,6 @@
 -- The parts of a text of JSON, joined to items and pairs of YAML's grammar: white space of both sides of a mark comes
 -- together, and that after a value belongs to the value's item.
-use Rattle.std.proofs.Common.{◌≡◌, ℕ, suc, Bool, true, not, List, [], ◌++◌, refl, ap, ◌∙◌, append_assoc, codes, IsTrue, inl, inr}
+use Rattle.std.proofs.Common.{◌≡◌, ℕ, suc, Bool, true, not, List, [], ◌++◌, refl, ap, ◌∙◌, append_assoc, codes, IsTrue, inl, inr, arith}
 use Rattle.saphyr_scalar.specs.Spelling.Tag.{AreIn}
 use Rattle.saphyr_scanner.specs.Grammar.Forest.{Properties, no_properties, Node, Seq, Map, Nodes, MoreNodes, Pairs, MorePairs}
 use Rattle.scalar_laws.specs.Spelling.Spaces.{IsSeparation}
@@ -73,14 +73,7 @@ item_and_others room node nodes t u p o =
 
 pub first_items : (room : ℕ) (node : Node) (nodes : Nodes) (t : List ℕ) → IsTail (AreItemAndOthers room node nodes) t
     → IsTail (AreItems room (MoreNodes node nodes) 0) t
-first_items room node nodes t h = record {
-  before = h.before;
-  core = h.core;
-  is = h.is;
-  white = h.white;
-  holds = (h.holds.item, h.holds.others, inl h.holds.one, h.holds.more, h.holds.is);
-  calm = h.calm;
-}
+first_items room node nodes t h = grind arith
 
 comma : (w : List ℕ) → AreIn is_white w → IsComma 0 (codes "," ++ w)
 comma w h = (w, white_separates w h, refl)
@@ -176,14 +169,7 @@ pair_and_others room key value pairs n w v t u name wh vh p o =
 
 pub first_pairs : (room : ℕ) (key value : Node) (pairs : Pairs) (t : List ℕ) → ArePairAndOthers room key value pairs t
     → IsTail (AreFlowPairs room (MorePairs key value pairs) 0) t
-first_pairs room key value pairs t h = record {
-  before = [];
-  core = t;
-  is = refl;
-  white = tt;
-  holds = (h.pair, h.others, h.one, h.more, h.is);
-  calm = h.calm;
-}
+first_pairs room key value pairs t h = grind arith
 
 pub other_pairs : (room : ℕ) (key value : Node) (pairs : Pairs) (w v t : List ℕ) → AreIn is_white w → AreIn is_white v
     → ArePairAndOthers room key value pairs t
@@ -212,8 +198,7 @@ collection_regrouped : (b o a w c k d : List ℕ)
 collection_regrouped b o a w c k d = simp append_assoc
 
 bracket_calm : (o g c k : List ℕ) → IsCalm o → AreIn is_white g → IsCalm c → IsCalm k → IsCalm ((o ++ g) ++ (c ++ k))
-bracket_calm o g c k p white q r =
-    calm_both (o ++ g) (c ++ k) (calm_both o g p (white_calm g white)) (calm_both c k q r)
+bracket_calm o g c k p white q r = search (calm_both, white_calm)
 
 collection_padded : (room : ℕ) (node : Node) (in_flow : Bool) (Text : List ℕ → Type 0) (o k b a t d : List ℕ)
     → IsCalm o → IsCalm k → AreIn is_white b → AreIn is_white a → IsTail Text t → AreIn is_white d

@@ -1,8 +1,8 @@
 -- The strings of JSON are double quoted scalars of YAML's grammar, on one line.
-use Rattle.std.proofs.Common.{◌≡◌, ℕ, Bool, true, false, List, [], ◌∷◌, ◌++◌, refl, sym, ap, arith, append_assoc, codes, inl, inr}
-use Rattle.std.specs.Prelude.{◌==◌, if◌then◌else◌}
+use Rattle.std.proofs.Common.{◌≡◌, ℕ, true, false, List, [], ◌∷◌, ◌++◌, refl, ap, arith, append_assoc, codes, inl, inr}
+use Rattle.std.specs.Prelude.{◌==◌}
 use Rattle.std.proofs.lemmas.Bool.Decides.{nat_tests}
-use Rattle.saphyr_input.specs.Classes.{IsHex, is_blank}
+use Rattle.saphyr_input.specs.Classes.{IsHex}
 use Rattle.saphyr_scalar.specs.Spelling.Quoted.{stands_for_itself, IsText, closed, itself, escaped, numbered}
 use Rattle.saphyr_scalar.specs.Spelling.Tag.{AreIn}
 use Rattle.saphyr_scalar.specs.declared.values.Quote.TheVariants.{Double}
@@ -40,19 +40,11 @@ before_no_break (EscapedBreak ∷ items) h = refl
 
 -- an item of a character that stands for itself
 raw_line : (c : ℕ) (items : List Item) → (c == 10) ≡ false → AreOnLine items → AreOnLine (raw_item c ∷ items)
-raw_line c items h on = rw h (by (is_blank c))
-  where
-    by : (b : Bool) → AreOnLine ((if b then Blank c else Raw c) ∷ items)
-    by true = on
-    by false = on
+raw_line c items h on = grind arith
 
 raw_folded : (c : ℕ) (items : List Item) → (c == 10) ≡ false → AreOnLine items
     → folded (raw_item c ∷ items) ≡ c ∷ folded items
-raw_folded c items h on = rw h (by (is_blank c))
-  where
-    by : (b : Bool) → folded ((if b then Blank c else Raw c) ∷ items) ≡ c ∷ folded items
-    by true = rw (before_no_break items on) refl
-    by false = refl
+raw_folded c items h on = grind (arith, before_no_break)
 
 one_spells : (c : ℕ) (spelling more value : List ℕ) → IsJsonSpelling c spelling → Spells more value
     → Spells (spelling ++ more) (c ∷ value)
@@ -87,15 +79,7 @@ spells (c ∷ others) t h = rw h.4 (one_spells c h.0 h.1 others h.2 (spells othe
 
 -- A string of JSON is a double quoted scalar, of the same characters.
 pub string_quoted : (indent : ℕ) (value t : List ℕ) → IsString value t → IsQuoted Double indent value t
-string_quoted indent value t h =
-    let s = spells value h.0 h.1 in (
-      h.0 ++ codes "\"",
-      s.items,
-      s.text,
-      line_fits indent Double (h.0 ++ codes "\"") s.items [] s.text s.line,
-      sym s.value_is,
-      h.2,
-    )
+string_quoted indent value t h = grind (arith, spells, line_fits)
 
 -- ## No break and no marker is in it
 
@@ -113,14 +97,10 @@ letter_no_break letter c (inr (inr (inr (inr (inr (inr (inl h))))))) = rw h.0 re
 letter_no_break letter c (inr (inr (inr (inr (inr (inr (inr h))))))) = rw h.0 refl
 
 one_no_break : (c : ℕ) (t : List ℕ) → IsJsonSpelling c t → AreIn is_no_break t
-one_no_break c t (inl h) = rw h.1 (unescaped c h.0, tt)
-  where
-    unescaped : (c : ℕ) → IsUnescaped c → is_no_break c ≡ true
-    unescaped c h = grind (arith, nat_tests)
+one_no_break c t (inl h) = grind arith
 one_no_break c t (inr (inl h)) = rw h.2 (refl, (letter_no_break h.0 c h.1, tt))
 one_no_break c t (inr (inr (code, (d3, d2, d1, d0, h3, h2, h1, h0, is, spelled), other, e))) =
-    rw (e, spelled)
-    (refl, (refl, (hex_no_break d3 h3, (hex_no_break d2 h2, (hex_no_break d1 h1, (hex_no_break d0 h0, tt))))))
+    grind (arith, hex_no_break)
 
 inside_no_break : (value t : List ℕ) → AreSpellings value t → AreIn is_no_break t
 inside_no_break [] t h = rw h tt
@@ -128,8 +108,7 @@ inside_no_break (c ∷ others) t h =
     rw h.4 (both_in is_no_break h.0 h.1 (one_no_break c h.0 h.2) (inside_no_break others h.1 h.3))
 
 pub string_no_break : (value t : List ℕ) → IsString value t → AreIn is_no_break t
-string_no_break value t h =
-    rw h.2 (refl, both_in is_no_break h.0 (codes "\"") (inside_no_break value h.0 h.1) (refl, tt))
+string_no_break value t h = grind (arith, both_in, inside_no_break)
 
 pub string_calm : (value t : List ℕ) → IsString value t → IsCalm t
 string_calm value t h = rw h.2 (calm_line 34 (h.0 ++ codes "\"") (rw h.2 at (string_no_break value t h)) (λ rest. refl))

@@ -1,8 +1,7 @@
 -- Blanks and line feeds are white space of YAML's grammar, wherever they are: separation, filler, what is
 -- before a document's node, and the end of its line with what follows that.
-use Rattle.std.proofs.Common.{◌≡◌, ℕ, Bool, true, false, List, [], ◌∷◌, ◌++◌, refl, sym, ap, ◌∙◌, arith, append_assoc, append-nil, codes, inl, inr}
+use Rattle.std.proofs.Common.{◌≡◌, ℕ, Bool, true, List, [], ◌∷◌, ◌++◌, refl, sym, ap, ◌∙◌, arith, append_assoc, append-nil, codes, inl, inr}
 use Rattle.std.specs.Prelude.{◌||◌, ◌==◌}
-use Rattle.std.proofs.lemmas.Bool.Decides.{nat_tests}
 use Rattle.saphyr_input.specs.Classes.{is_blank, line_feed}
 use Rattle.saphyr_scalar.specs.Spelling.Tag.{AreIn}
 use Rattle.scalar_laws.specs.Spelling.Spaces.{joined_pieces, AreEach, IsLineRest, IsLineEnd, IsEol, IsFillerText, IsFillerLine, IsFiller, IsLastFiller, IsSeparationLine, IsSeparation}
@@ -54,13 +53,7 @@ feed_first w r = record {
 
 lines : (w : List ℕ) → AreIn is_white w → Lines w
 lines [] h = record { pieces = []; each = tt; last = []; blanks = tt; is = refl }
-lines (c ∷ w) h = by_kind (is_blank c) refl h.0 (lines w h.1)
-  where
-    by_kind : (b : Bool) → is_blank c ≡ b → (b || (c == line_feed)) ≡ true → Lines w → Lines (c ∷ w)
-    by_kind true e k r = blank_first c w e r
-    by_kind false e k r =
-        let is : 10 ≡ c = grind (arith, nat_tests) in
-        rw is at (feed_first w r)
+lines (c ∷ w) h = grind (arith, blank_first, feed_first, lines w h.1)
 
 each_piece : (P : List ℕ → Type 0) → ((t : List ℕ) → IsBlankLine t → P t) → (ps : List (List ℕ))
     → AreEach IsBlankLine ps → AreEach P ps

@@ -7,7 +7,7 @@ use Rattle.saphyr_input.specs.Indicators.{colon, hyphen, number_sign}
 use Rattle.saphyr_input.specs.Places.{is_document_indicator}
 use Rattle.saphyr_scalar.specs.Spelling.Tag.{AreIn}
 use Rattle.saphyr_scalar.specs.Values.Flow.{plain_value}
-use Rattle.scalar_laws.specs.Spelling.Plain.{is_plain_safe, is_word_ink, AreWordInk, IsWordIn}
+use Rattle.scalar_laws.specs.Spelling.Plain.{is_always_plain, is_plain_safe, ArePlainSafe, IsWordIn}
 use Rattle.yaml_laws.specs.Grammar.FlowScalars.{begins_plain, IsFirstWord, IsFlowScalar}
 use Rattle.saphyr_scanner.specs.Grammar.Forest.{Plain}
 use Rattle.yaml_laws.specs.Grammar.Json.{IsWord}
@@ -16,8 +16,8 @@ use Rattle.yaml_laws.proofs.Json.Calm.{IsCalm, is_no_break, calm_line}
 
 -- ## Words
 
-safe_ink : (in_flow : Bool) (c : ℕ) → is_plain_safe c ≡ true → is_word_ink in_flow c ≡ true
-safe_ink in_flow c h = by_tests (is_blank_or_breakz c) (c == 58) (is_bom c) (is_flow c) in_flow h
+always_safe : (in_flow : Bool) (c : ℕ) → is_always_plain c ≡ true → is_plain_safe in_flow c ≡ true
+always_safe in_flow c h = by_tests (is_blank_or_breakz c) (c == 58) (is_bom c) (is_flow c) in_flow h
   where
     by_tests : (a b m f d : Bool) → (not a && not b && not m && not f) ≡ true → (not a && not m && not (d && f)) ≡ true
     by_tests true b m f d h = absurd (cc)
@@ -27,26 +27,26 @@ safe_ink in_flow c h = by_tests (is_blank_or_breakz c) (c == 58) (is_bom c) (is_
     by_tests false false false false true h = refl
     by_tests false false false false false h = refl
 
-safe_no_colon : (c : ℕ) → is_plain_safe c ≡ true → c ≢ colon
-safe_no_colon c h e = absurd (let f : is_plain_safe 58 ≡ true = rw e at h in cc)
+safe_no_colon : (c : ℕ) → is_always_plain c ≡ true → c ≢ colon
+safe_no_colon c h e = absurd (let f : is_always_plain 58 ≡ true = rw e at h in cc)
 
-safe_no_break : (c : ℕ) → is_plain_safe c ≡ true → is_no_break c ≡ true
+safe_no_break : (c : ℕ) → is_always_plain c ≡ true → is_no_break c ≡ true
 safe_no_break c h = grind (arith, nat_tests)
 
-safe_raw : (c : ℕ) → is_plain_safe c ≡ true → ((c == 10) ≡ false) × (is_blank c ≡ false)
+safe_raw : (c : ℕ) → is_always_plain c ≡ true → ((c == 10) ≡ false) × (is_blank c ≡ false)
 safe_raw c h = (grind (arith, nat_tests), grind (arith, nat_tests))
 
-words_ink : (in_flow : Bool) (t : List ℕ) → AreIn is_plain_safe t → AreWordInk in_flow t
-words_ink in_flow [] h = tt
-words_ink in_flow (c ∷ cs) h =
-    (safe_ink in_flow c h.0, (λ e. absurd (safe_no_colon c h.0 e)), words_ink in_flow cs h.1)
+words_safe : (in_flow : Bool) (t : List ℕ) → AreIn is_always_plain t → ArePlainSafe in_flow t
+words_safe in_flow [] h = tt
+words_safe in_flow (c ∷ cs) h =
+    (always_safe in_flow c h.0, (λ e. absurd (safe_no_colon c h.0 e)), words_safe in_flow cs h.1)
 
-pub word_no_break : (t : List ℕ) → AreIn is_plain_safe t → AreIn is_no_break t
+pub word_no_break : (t : List ℕ) → AreIn is_always_plain t → AreIn is_no_break t
 word_no_break [] h = tt
 word_no_break (c ∷ cs) h = (safe_no_break c h.0, word_no_break cs h.1)
 
 -- a word stands for itself
-word_value : (t : List ℕ) → AreIn is_plain_safe t → t ≡ plain_value t
+word_value : (t : List ℕ) → AreIn is_always_plain t → t ≡ plain_value t
 word_value [] h = refl
 word_value (c ∷ cs) h =
     let r = safe_raw c h.0 in rw (r.0, r.1) (cc (word_value cs h.1))
@@ -73,16 +73,16 @@ no_lone_dash c cs h e =
     let d = h (first_of c 45 cs [] e) in
     absurd (let f : c ∷ d.0 ∷ d.1 ≡ 45 ∷ [] = ap (λ (x : List ℕ). c ∷ x) (sym d.2) ∙ e in cc)
 
-word_in : (in_flow : Bool) (c : ℕ) (cs : List ℕ) → AreIn is_plain_safe (c ∷ cs) → IsFirst c
+word_in : (in_flow : Bool) (c : ℕ) (cs : List ℕ) → AreIn is_always_plain (c ∷ cs) → IsFirst c
     → (c ≡ hyphen → BeginsWithDigit cs) → IsWordIn in_flow (c ∷ cs)
 word_in in_flow c cs safe first dash = record {
   some = λ e. absurd (cc);
-  ink = words_ink in_flow (c ∷ cs) safe;
+  safe = words_safe in_flow (c ∷ cs) safe;
   no_comment = (first_other c first).0;
   no_lone_dash = λ _. no_lone_dash c cs dash;
 }
 
-first_word : (in_flow : Bool) (c : ℕ) (cs : List ℕ) → AreIn is_plain_safe (c ∷ cs) → IsFirst c
+first_word : (in_flow : Bool) (c : ℕ) (cs : List ℕ) → AreIn is_always_plain (c ∷ cs) → IsFirst c
     → (c ≡ hyphen → BeginsWithDigit cs) → IsFirstWord in_flow (c ∷ cs)
 first_word in_flow c cs safe first dash =
     let n = first_other c first in (

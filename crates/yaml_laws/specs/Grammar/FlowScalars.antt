@@ -10,7 +10,7 @@ use Rattle.saphyr_scalar.specs.Values.Folding.{folded}
 use Rattle.saphyr_scalar.specs.Values.Flow.{mark, plain_value}
 use Rattle.saphyr_scalar.specs.Spelling.Quoted.{IsText}
 use Rattle.saphyr_scalar.specs.Spelling.Tag.{AreIn}
-use Rattle.scalar_laws.specs.Spelling.Plain.{is_word_ink, IsWordIn}
+use Rattle.scalar_laws.specs.Spelling.Plain.{is_plain_safe, IsWordIn}
 use Rattle.scalar_laws.specs.Spelling.QuotedLines.{LinesFit}
 use Rattle.scalar_laws.specs.Spelling.Spaces.{AreMany, AreSpaces, IsLinePrefix}
 use Rattle.saphyr_scanner.specs.Grammar.Forest.{Style, Plain, SingleQuoted, DoubleQuoted}
@@ -59,7 +59,7 @@ IsPlain in_flow indent t =
 
 -- a key's last word, whose last character may be a colon, and which may be a lone `-`, `?` or `:`
 abbrev pub IsLastWord : Bool → List ℕ → Type 0
-IsLastWord in_flow word = (word ≢ []) × AreIn (is_word_ink in_flow) word × (slice_index word 0 ≢ number_sign)
+IsLastWord in_flow word = (word ≢ []) × AreIn (is_plain_safe in_flow) word × (slice_index word 0 ≢ number_sign)
 
 -- A plain scalar that is a key, with the key's colon right after it: words and a last one, or one word, which may be a
 -- lone `-`, `?` or `:` too.

@@ -202,7 +202,7 @@ fn begins_wide(text: &str) -> bool
     text.as_bytes().first().copied().unwrap_or(0) >= 0x80
 }
 
-// The same, for speed without a call if all characters are ASCII.
+// The run at the front of a text, for speed without a call if all its characters are ASCII.
 #[inline(always)]
 pub(super) fn run_here<C: CharSet>(text: &str) -> (usize, &str)
     ensures count { result.0 ≡ prefix_len C.test (chars text.now) }

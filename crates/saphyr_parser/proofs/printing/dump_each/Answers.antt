@@ -15,15 +15,15 @@ loop-out-smaller g c = advances_less (event_of c.next_event_into.new.next) _ _ c
 
 pub returns-in_err-write_line-in-Event-clause-dumps : goal.returns-in_err-write_line-in-Event-clause-dumps
 returns-in_err-write_line-in-Event-clause-dumps g c =
-    let told : c.from_residual.result ≡ Err Write = search rules in
-    rw told (cuts_line _ _ _ _ _ _ (event_of c.next_event_into.new.next) c.loop-out.invariant c.in-Event.ensures.leaves
+    let known : c.from_residual.result ≡ Err Write = search rules in
+    rw known (cuts_line _ _ _ _ _ _ (event_of c.next_event_into.new.next) c.loop-out.invariant c.in-Event.ensures.leaves
     c.in_err-write_line-in-Event.ensures)
 
 pub returns-in_err-write_line-in-Event-clause-leaves : goal.returns-in_err-write_line-in-Event-clause-leaves
 returns-in_err-write_line-in-Event-clause-leaves g c =
-    let told : c.from_residual.result ≡ Err Write = search rules in
-    rw told (leaves_cut _ _ _ _ _ _ (event_of c.next_event_into.new.next) c.loop-out.invariant c.in-Event.ensures.leaves
-    c.in_err-write_line-in-Event.ensures)
+    let known : c.from_residual.result ≡ Err Write = search rules in
+    rw known (leaves_cut _ _ _ _ _ _ (event_of c.next_event_into.new.next) c.loop-out.invariant
+    c.in-Event.ensures.leaves c.in_err-write_line-in-Event.ensures)
 
 pub returns-in-Fault-clause-dumps : goal.returns-in-Fault-clause-dumps
 returns-in-Fault-clause-dumps g c =

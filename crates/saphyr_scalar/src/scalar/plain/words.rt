@@ -129,7 +129,7 @@ impl WordSet for PlainInFlow {
 
 // Whether a word goes on with this character, which is no colon.
 #[inline(always)]
-fn is_ink_in_word(c: char, in_flow: bool) -> bool
+fn is_plain_in_word(c: char, in_flow: bool) -> bool
     ensures { result ≡ (not (class.is_blank_or_breakz c)
         && not (class.is_bom c || (in_flow && class.is_flow c))) }
 {
@@ -176,7 +176,7 @@ impl<T: Input> Reader<T> {
             let next = self.input.peek_nth(1);
             return is_colon_in_word(next, in_flow);
         }
-        is_ink_in_word(c, in_flow)
+        is_plain_in_word(c, in_flow)
     }
 
     // Moves the rest of a word to the end of a text, and the words after it, each with a single space

@@ -121,8 +121,8 @@ impl<T: Input> Reader<T> {
         Ok(self.look())
     }
 
-    // Takes off the lines after a break, which mostly are none: then spaces are all that is taken off, and a look at one
-    // character tells that the scalar goes on.
+    // Takes off the lines after a break, which mostly are none: then spaces are all that is taken off, and a look at
+    // one character shows that the scalar goes on.
     #[inline(always)]
     fn read_quoted_lines(
         &mut self,

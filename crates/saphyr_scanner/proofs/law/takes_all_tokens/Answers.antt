@@ -21,7 +21,7 @@ returns c =
     let laws : TextLaws = record {
       plain = c.indents_plain_lines.ensures;
       quotes = c.spells_quoted_lines.ensures;
-      ink = c.begins_plain_scalars_with_ink.ensures;
+      non_space = c.begins_plain_scalars_with_non_space.ensures;
       block_text = λ style indent s t text span e r. c.reads_block_texts.ensures style indent s t text span
           (ap is_break e ∙ indicator_begins style) (some_indicator style s.rest e) r;
       block_place = λ style indent s t text span e r.

@@ -1,5 +1,5 @@
 use Rattle.test_cases.proofs.Loading.{anyway}
-use Rattle.test_cases.proofs.TreesTold.{has_trees}
+use Rattle.test_cases.proofs.TreesRead.{has_trees}
 use Rattle.test_cases.proofs.trees.load_all.Goals as goal
 
 pub returns : goal.returns

@@ -1,6 +1,6 @@
 use Rattle.std.proofs.Common.{◌≡◌, ◌++◌, take, sym, ap, ◌∙◌, Some, None, codes, string_bytes, lit<}
 use Rattle.std.proofs.lemmas.List.{append-nil, append_assoc}
-use Rattle.test_events.specs.Files.{text_behind, dumped_text, dumped_event, shown_text}
+use Rattle.test_events.specs.Files.{text_behind, dumped_text, dumped_event, placeless_event}
 use Rattle.test_events.proofs.Fronts.{strips_front}
 use Rattle.test_events.proofs.Dumping.{dumps_more}
 use Rattle.test_events.proofs.writing.printed.Goals as goal
@@ -22,7 +22,7 @@ loop-line-preserved c =
           ∙ ap (λ l. string_bytes w.push_str.new.self ++ l) (w.in_ok-push.ensures.ascii (lit< tt))
           ∙ ap (λ l. l ++ codes "\n") (w.in_ok-push_str.ensures.bytes
           ∙ (λ j. c.loop-line.invariant j ++ w.shown.ensures j))
-          ∙ append_assoc before (shown_text w.in-Some.event.now) (codes "\n")
+          ∙ append_assoc before (placeless_event w.in-Some.event.now) (codes "\n")
           ∙ ap (λ o. before ++ dumped_event o) (sym found) ∙ more
       | in_default w ↦
           let found : text_behind (codes "> ") (string_bytes c.line-item.result) ≡ None =

@@ -224,7 +224,7 @@ fn follows<T: CloneInput + Drop>(alloc: Global, mut input: T, steps: &[Step]) ->
     answers_all(&mut input, &mut out, steps)
 }
 
-/// The same of the characters of an iterator.
+/// Whether an input over an iterator follows the steps.
 pub(super) fn iter_follows(alloc: Global, input: BufferedInput<Chars<'_>>, steps: &[Step]) -> bool {
     follows(alloc, input, steps)
 }

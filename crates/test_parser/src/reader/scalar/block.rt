@@ -1,6 +1,6 @@
 //! Block scalars: headers, breaks, ends and faults (YAML 1.2.2, 8.1).
 
-use crate::reader::told::expect_told;
+use crate::reader::shown::expect_shown;
 
 const ROWS: &[&str] = &[
     // Headers, breaks and ends.
@@ -34,5 +34,5 @@ const ROWS: &[&str] = &[
 
 #[test]
 fn reads_block_scalars(rt: HostRuntime) {
-    expect_told(&rt, rt.alloc(), false, ROWS);
+    expect_shown(&rt, rt.alloc(), false, ROWS);
 }

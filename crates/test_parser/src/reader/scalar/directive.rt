@@ -1,6 +1,6 @@
 //! Directives, the places after them, and their faults (YAML 1.2.2, 6.8).
 
-use crate::reader::told::expect_told;
+use crate::reader::shown::expect_shown;
 
 const READ: &[&str] = &[
     // Versions.
@@ -63,6 +63,6 @@ const REFUSED: &[&str] = &[
 
 #[test]
 fn reads_directives(rt: HostRuntime) {
-    expect_told(&rt, rt.alloc(), false, READ);
-    expect_told(&rt, rt.alloc(), false, REFUSED);
+    expect_shown(&rt, rt.alloc(), false, READ);
+    expect_shown(&rt, rt.alloc(), false, REFUSED);
 }

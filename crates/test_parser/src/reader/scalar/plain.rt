@@ -1,6 +1,6 @@
 //! Plain scalars of one line and of several, the comments that end them, and their faults (YAML 1.2.2, 7.3.3).
 
-use crate::reader::told::expect_told;
+use crate::reader::shown::expect_shown;
 
 const IN_BLOCK: &[&str] = &[
     // One line.
@@ -57,6 +57,6 @@ const IN_FLOW: &[&str] = &[
 
 #[test]
 fn reads_plain_scalars(rt: HostRuntime) {
-    expect_told(&rt, rt.alloc(), false, IN_BLOCK);
-    expect_told(&rt, rt.alloc(), true, IN_FLOW);
+    expect_shown(&rt, rt.alloc(), false, IN_BLOCK);
+    expect_shown(&rt, rt.alloc(), true, IN_FLOW);
 }

@@ -1,6 +1,6 @@
 //! Tags, anchors and aliases, their ends and their faults (YAML 1.2.2, 6.9 and 7.1).
 
-use crate::reader::told::expect_told;
+use crate::reader::shown::expect_shown;
 
 const READ: &[&str] = &[
     // Tags.
@@ -80,7 +80,7 @@ const REFUSED: &[&str] = &[
     "0 !<a>[ => ! TagEndExpected @ 0,1,0",
 ];
 
-// The same tags.
+// Tags inside flow, where a flow indicator ends them.
 const READ_IN_FLOW: &[&str] = &[
     "0 !a,b => !|a > 2,1,2",
     "0 !!x] => !!|x > 3,1,3",
@@ -90,7 +90,7 @@ const READ_IN_FLOW: &[&str] = &[
 
 #[test]
 fn reads_tags_and_names(rt: HostRuntime) {
-    expect_told(&rt, rt.alloc(), false, READ);
-    expect_told(&rt, rt.alloc(), false, REFUSED);
-    expect_told(&rt, rt.alloc(), true, READ_IN_FLOW);
+    expect_shown(&rt, rt.alloc(), false, READ);
+    expect_shown(&rt, rt.alloc(), false, REFUSED);
+    expect_shown(&rt, rt.alloc(), true, READ_IN_FLOW);
 }

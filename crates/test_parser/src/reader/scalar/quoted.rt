@@ -1,6 +1,6 @@
 //! Quoted scalars, their ends and their faults (YAML 1.2.2, 7.3.1 and 7.3.2).
 
-use crate::reader::told::expect_told;
+use crate::reader::shown::expect_shown;
 
 const READ: &[&str] = &[
     // In double quotes.
@@ -88,6 +88,6 @@ const REFUSED: &[&str] = &[
 
 #[test]
 fn reads_quoted_scalars(rt: HostRuntime) {
-    expect_told(&rt, rt.alloc(), false, READ);
-    expect_told(&rt, rt.alloc(), false, REFUSED);
+    expect_shown(&rt, rt.alloc(), false, READ);
+    expect_shown(&rt, rt.alloc(), false, REFUSED);
 }

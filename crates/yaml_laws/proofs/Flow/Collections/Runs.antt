@@ -1,5 +1,5 @@
 -- Collections in brackets and braces after their properties, and given how their entries are read.
-use Rattle.std.proofs.Common.{◌≡◌, ℕ, suc, ◌+◌, ◌≤◌, Bool, false, List, [], ◌∷◌, ◌++◌, length, refl, arith, append_assoc, IsTrue, inl}
+use Rattle.std.proofs.Common.{◌≡◌, ℕ, suc, ◌+◌, ◌≤◌, Bool, false, List, [], ◌∷◌, ◌++◌, length, arith, append_assoc, IsTrue}
 use Rattle.std.specs.List.{list_all}
 use Rattle.saphyr_input.specs.Classes.{is_blank}
 use Rattle.saphyr_scalar.specs.declared.scalar.position.Marker.{Marker}
@@ -16,9 +16,9 @@ use Rattle.yaml_laws.proofs.Flow.Pieces.{fits_front, fits_back, fits_so, parted_
 use Rattle.yaml_laws.proofs.Flow.Collections.{EndsAt, Brackets, AreBrackets, square, curly, are_square, are_curly, bracket_text, RunsInside, brackets_pass, ends_inside, ends_root, AreBracketed}
 use Rattle.yaml_laws.proofs.Flow.Items.{ReadsEntries}
 use Rattle.saphyr_scanner.proofs.Levels.{level_of}
-use Rattle.yaml_laws.proofs.Flow.Joins.{told}
+use Rattle.yaml_laws.proofs.Flow.Joins.{mapped}
 use Rattle.yaml_laws.proofs.Flow.Fronts.{behind_front}
-use Rattle.yaml_laws.proofs.Flow.Quotes.{ends_node_ink}
+use Rattle.yaml_laws.proofs.Flow.Quotes.{ends_node_content}
 use Rattle.saphyr_input.proofs.Basics.Booleans.{clash}
 
 -- ## The text of a collection
@@ -51,26 +51,14 @@ pub reads_sequence : (around : Around) (p : Properties) (nodes : Nodes)
     nodes))
     → ReadsCollection around (Seq p nodes) p square (λ left. AreItems left nodes around.indent)
     (grammar.YieldFlowEntries nodes)
-reads_sequence around p nodes entries = record {
-  are = are_square;
-  entries = entries;
-  yields = λ place properties inside h are. (properties, _, h, inl (inside, are, refl), refl);
-  adjacent = λ w h. h;
-  is_node = λ room in_flow t h. h;
-}
+reads_sequence around p nodes entries = grind (arith, are_square)
 
 pub reads_mapping : (around : Around) (p : Properties) (pairs : Pairs)
     → ((left : ℕ) → ReadsEntries around curly left (AreFlowPairs left pairs around.indent) (grammar.YieldFlowPairs
     pairs))
     → ReadsCollection around (Map p pairs) p curly (λ left. AreFlowPairs left pairs around.indent)
     (grammar.YieldFlowPairs pairs)
-reads_mapping around p pairs entries = record {
-  are = are_curly;
-  entries = entries;
-  yields = λ place properties inside h are. (properties, _, h, inl (inside, are, refl), refl);
-  adjacent = λ w h. h;
-  is_node = λ room in_flow t h. h;
-}
+reads_mapping around p pairs entries = grind (arith, are_curly)
 
 pub calm_in_flow : (around : Around) (x : Context) → is_block x ≡ false → Calm around x
 calm_in_flow around x e h = absurd (clash (is_block x) h e)
@@ -78,7 +66,7 @@ calm_in_flow around x e h = absurd (clash (is_block x) h e)
 follows_bracket : {around : Around} {x : Context} {node : Node} {m : Marker} {o : List ℕ} → Follows around x node m o
     → (e : Marker) → around.indent ≤ e.col → EndsAt around.indent x e o
 follows_bracket {around} {x} {node} {m} {o} (follows_inside flow behind) e right =
-    ends_inside around.indent x e o flow (behind_so (λ w c cs k. (ends_node_ink node w cs c k).0) behind) right
+    ends_inside around.indent x e o flow (behind_so (λ w c cs k. (ends_node_content node w cs c k).0) behind) right
 follows_bracket {around} {x} {node} {m} {o} (follows_outside is behind) e right =
     rw is (ends_root around e m o behind right)
 
@@ -103,8 +91,8 @@ collection_passes {around} {node} {p} {b} {Are = Are} reads collection room m t 
     (record start { outer = level_of next.context j ∷ next.outer }) no_candidate fresh (omega (arith, r, next_small)) on
     stands in
     brackets_pass around Are b collection.are n w inside o inner parts
-    (parted_by around.indent w (inside ++ (b.closing ∷ o)) parts (entries.ink inside o h)) next
+    (parted_by around.indent w (inside ++ (b.closing ∷ o)) parts (entries.content inside o h)) next
     (omega (arith, r, next_small)) next_calm (omega (arith, same_adjacent, later, low.0)) at
     (λ right. rw same_context (follows_bracket follows (moved here inside) right)) run) in
-    rw text_is (told (λ ts (properties, content, are, (entries, inner, k), is) place. rw (is, k)
+    rw text_is (mapped (λ ts (properties, content, are, (entries, inner, k), is) place. rw (is, k)
     (collection.yields place properties entries are inner)) collection.adjacent c)

@@ -1,5 +1,5 @@
 -- What comes after a document ends it, or begins with a document marker (YAML 1.2.2, chapter 9).
-use Rattle.std.proofs.Common.{◌≡◌, ℕ, Bool, true, false, List, [], ◌∷◌, ◌++◌, slice_index, refl, append_assoc, ◌⊎◌, inl, inr}
+use Rattle.std.proofs.Common.{◌≡◌, ℕ, Bool, true, List, [], ◌∷◌, ◌++◌, slice_index, refl, append_assoc, ◌⊎◌, inl, inr, arith}
 use Rattle.std.specs.Prelude.{◌==◌, not}
 use Rattle.saphyr_input.specs.Classes.{is_blank_or_breakz, carriage_return, byte_order_mark}
 use Rattle.saphyr_scalar.specs.declared.scalar.position.Marker.{Marker}
@@ -10,7 +10,7 @@ use Rattle.saphyr_scanner.specs.Limits.{most_open}
 use Rattle.yaml_laws.specs.Grammar.BlockNodes.{BehindMarker, IsBlockNode, EndsContent}
 use Rattle.yaml_laws.specs.Grammar.Yaml as yaml
 use Rattle.yaml_laws.specs.Grammar.Yaml.{AreDirectives, AreDocuments}
-use Rattle.yaml_laws.proofs.Flow.States.{EndsDocument, moved, past}
+use Rattle.yaml_laws.proofs.Flow.States.{EndsDocument, past}
 use Rattle.yaml_laws.proofs.Flow.Fillers.{last_filler_past}
 use Rattle.yaml_laws.proofs.Documents.Lines.{eol, eol_first, filler_at_line}
 use Rattle.yaml_laws.proofs.Documents.Markers.{start_ends, end_ends}
@@ -21,7 +21,6 @@ use Rattle.yaml_laws.proofs.InBlock.BehindIndicators.{node_behind}
 use Rattle.std.proofs.lemmas.Bool.{false≢true}
 use Rattle.saphyr_input.specs.Indicators.{full_stop, hyphen}
 use Rattle.yaml_laws.proofs.InBlock.States.{IsStop}
-use Rattle.yaml_laws.proofs.InBlock.Gaps.{stop_tabbed, stop_past}
 
 -- the documents of a text of YAML's grammar
 abbrev pub AreBlockDocuments : Forest → Bool → List ℕ → Type 0
@@ -44,24 +43,13 @@ pub record IsPlainBehind (o : List ℕ) : Type 0 where
 pub no_directives : (d : Document) (t : List ℕ) → d.directives ≡ [] → AreDirectives d.directives t → t ≡ []
 no_directives d t e h = rw e at h
 
-column_at_line : (c : ℕ) (cs : List ℕ) (m : Marker) → AtLine (c ∷ cs) m → m.col ≡ 0
-column_at_line c cs m (inl e) = e
-column_at_line c cs m (inr e) = absurd (cc)
-
-pub plain_marked : (filler : List ℕ) (c : ℕ) (cs o : List ℕ) → IsFiller filler → o ≡ filler ++ (c ∷ cs)
+plain_marked : (filler : List ℕ) (c : ℕ) (cs o : List ℕ) → IsFiller filler → o ≡ filler ++ (c ∷ cs)
     → IsStop (c ∷ cs) → IsPlainBehind o
-plain_marked filler c cs o filler_is e stops = rw e (record {
-  clean = skipped_clean filler (c ∷ cs) (filler_skipped filler filler_is)
-      (λ least m blank. stop_tabbed least m blank (c ∷ cs) stops);
-})
+plain_marked filler c cs o filler_is e stops = grind (arith, skipped_clean, filler_skipped)
 
 last_plain : (o : List ℕ) → IsLastFiller o → IsPlainBehind o
 last_plain o (filler, text, filler_is, (front, comment, are, k, text_is), is) =
-    let whole : o ≡ filler ++ (front ++ comment) = cc in
-    rw whole (record {
-      clean = skipped_clean filler (front ++ comment) (filler_skipped filler filler_is)
-          (λ least m blank. rest_ends_clean front comment are k least m blank false);
-    })
+    grind (arith, skipped_clean, filler_skipped, rest_ends_clean)
 
 -- a `...` line before what comes after it
 pub suffix_text : (filler end prefix others : List ℕ)
@@ -126,26 +114,17 @@ explicit_first leaves node t others h plain =
     let b = node_behind leaves node BehindMarker t others refl h plain.clean in b.first
 
 -- after filler a document marker or a byte order mark begins a line
-pub record OpensMarker (o : List ℕ) : Type 0 where
-  pub filler : List ℕ
-  pub filler_is : IsFiller filler
-  pub first : ℕ
-  pub others : List ℕ
-  pub stops : IsStop (first ∷ others)
-  pub ends : EndsContent (first ∷ others)
-  pub is : o ≡ filler ++ (first ∷ others)
+record OpensMarker (o : List ℕ) : Type 0 where
+  filler : List ℕ
+  filler_is : IsFiller filler
+  first : ℕ
+  others : List ℕ
+  stops : IsStop (first ∷ others)
+  ends : EndsContent (first ∷ others)
+  is : o ≡ filler ++ (first ∷ others)
 
-pub lands_marked : (o : List ℕ) → OpensMarker o → (m : Marker) → AtLine o m → Lands m o
-lands_marked o k m line =
-    let n = moved m k.filler in
-    let there : past 0 m o ≡ (n, k.first ∷ k.others) = cc (
-      skipped_passes k.filler (filler_skipped k.filler k.filler_is)
-          m (k.first ∷ k.others),
-      stop_past n (k.first ∷ k.others) k.stops,
-    ) in
-    let col = column_at_line k.first k.others n
-    (filler_at_line m k.filler (k.first ∷ k.others) k.filler_is (rw k.is at line)) in
-    rw there (inr (col, k.ends))
+lands_marked : (o : List ℕ) → OpensMarker o → (m : Marker) → AtLine o m → Lands m o
+lands_marked o k m line = grind (arith, skipped_passes, filler_skipped, filler_at_line)
 
 opens_unmarked : {limit : ℕ} → ReadsLeaves limit → (ds : Forest) (o : List ℕ)
     → yaml.IsBehindMarks (AreBlockDocuments ds) o → ((ds ≡ []) × IsLastFiller o) ⊎ OpensMarker o
@@ -195,7 +174,7 @@ opens_unmarked leaves ds o (inr (
     })
 
 -- what comes after a document: filler alone, a document marker, or a byte order mark
-pub opens_marker : {limit : ℕ} → ReadsLeaves limit → (ds : Forest) (o : List ℕ)
+opens_marker : {limit : ℕ} → ReadsLeaves limit → (ds : Forest) (o : List ℕ)
     → yaml.IsBehindDocument (AreBlockDocuments ds) o → ((ds ≡ []) × IsLastFiller o) ⊎ OpensMarker o
 opens_marker leaves ds o h = by_first (marks_first (AreBlockDocuments ds) o h)
   where

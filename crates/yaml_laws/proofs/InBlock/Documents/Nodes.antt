@@ -1,10 +1,9 @@
 -- The node of a document is read (YAML 1.2.2, chapter 9).
 use Rattle.std.proofs.Common.{◌≡◌, ℕ, ◌+◌, ◌≤◌, Bool, true, false, List, [], ◌∷◌, ◌++◌, length, refl, sym, ap, ◌∙◌, arith, subst, inl, inr}
-use Rattle.std.specs.Prelude.{◌||◌, ◌&&◌, ◌==◌, nat_le, Option, None}
-use Rattle.std.proofs.lemmas.Bool.Decides.{nat_tests}
+use Rattle.std.specs.Prelude.{◌||◌, ◌&&◌, nat_le, Option, None}
 use Rattle.saphyr_input.specs.Classes.{line_feed}
 use Rattle.saphyr_scalar.specs.declared.scalar.position.Marker.{Marker}
-use Rattle.saphyr_scalar.specs.Views.Cursor.{◌>>=◌, along}
+use Rattle.saphyr_scalar.specs.Views.Cursor.{◌>>=◌}
 use Rattle.saphyr_scanner.specs.Steps.Core.{is_too_far}
 use Rattle.saphyr_scanner.specs.Steps.Level.{Candidate}
 use Rattle.saphyr_scanner.specs.Steps.Queue.{Place}
@@ -40,16 +39,7 @@ use Rattle.yaml_laws.proofs.InBlock.Documents.Ends.{HasNoReturn, Lands, IsPlainB
 -- a text after which a line starts ends with a break
 feed_last : (m : Marker) (c : ℕ) (cs : List ℕ) → (moved m (c ∷ cs)).col ≡ 0
     → (front : List ℕ) × (c ∷ cs ≡ front ++ (line_feed ∷ []))
-feed_last m c [] e = by_feed (c == line_feed) refl e
-  where
-    feed : (c : ℕ) → (c == line_feed) ≡ true → c ≡ line_feed
-    feed c e = grind (arith, nat_tests)
-
-    by_feed : (b : Bool) → (c == line_feed) ≡ b → (moved m (c ∷ [])).col ≡ 0
-        → (front : List ℕ) × (c ∷ [] ≡ front ++ (line_feed ∷ []))
-    by_feed true k e = ([], ap (λ (x : ℕ). x ∷ []) (feed c k))
-    by_feed false k e = absurd (let place : moved m (c ∷ []) ≡ along m 1 =
-        rw (moved, k) refl in omega (arith, sym (ap (λ (n : Marker). n.col) place) ∙ e))
+feed_last m c [] e = grind arith
 feed_last m c (d ∷ ds) e = let r = feed_last (behind_character m c) d ds e in (c ∷ r.0, ap (λ (x : List ℕ). c ∷ x) r.1)
 
 pub node_marks : (at_start : Bool) (t o : List ℕ) → EndsWithLine t o → marks_line at_start t o ≡ has_marker at_start t
@@ -89,13 +79,7 @@ flat_here : (m : Marker) (y : List ℕ) (blank : Bool) (key : Option Candidate) 
 unfolding unroll
 flat_here m y blank key a ad deeper ps (inl e) =
     rw e (stream_ends root m blank key a ad deeper ps ∙ sym (stream_ends root m blank key a ad false ps))
-flat_here m y blank key a ad deeper ps (inr h) =
-    ended_alike root root m y blank key a ad deeper false ps ps h.0 h.1 (flat_ends m y blank key a ad deeper ps)
-  where
-    flat_ends : (m : Marker) (y : List ℕ) (blank : Bool) (key : Option Candidate) (a : Bool) (ad : ℕ) (deeper : Bool)
-        (ps : List Place) → unroll None m (state_of root (moment_at m y blank key a ad deeper) ps)
-        ≡ unroll None m (state_of root (moment_at m y blank key a ad false) ps)
-    flat_ends m y blank key a ad deeper ps = refl
+flat_here m y blank key a ad deeper ps (inr h) = search (ended_alike)
 
 flat : (m : Marker) (y : List ℕ) (blank : Bool) (key : Option Candidate) (a : Bool) (ad : ℕ) (deeper : Bool)
     (ps : List Place) → IsStop y → is_too_far key m ≡ false → EndsDocument m y

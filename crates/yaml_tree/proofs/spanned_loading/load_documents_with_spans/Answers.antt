@@ -3,7 +3,7 @@ use Rattle.saphyr_parser.specs.Cursor.{to_come}
 use Rattle.yaml_tree.specs.KeeperSeen.{kept_spans, documents_of}
 use Rattle.yaml_tree.proofs.Loads.{loads_all, loads_none, loads_behind}
 use Rattle.yaml_tree.proofs.Leaving.{leaves_behind, leaves_looked}
-use Rattle.yaml_tree.proofs.SpansRead.{tells_spans, leaves_alike}
+use Rattle.yaml_tree.proofs.SpansRead.{gives_spans, leaves_alike}
 use Rattle.yaml_tree.proofs.spanned_loading.load_documents_with_spans.Goals as goal
 
 pub returns-in-Err-clause-loads : goal.returns-in-Err-clause-loads
@@ -32,7 +32,7 @@ returns-in-Ok-clause-loads g c =
     c.if-not-is_at_start.ensures.begins.0 loads
 
 pub returns-in-Ok-clause-spans : goal.returns-in-Ok-clause-spans
-returns-in-Ok-clause-spans g c = tells_spans c.finish.result c.args.limits (to_come c.args.parser.now)
+returns-in-Ok-clause-spans g c = gives_spans c.finish.result c.args.limits (to_come c.args.parser.now)
     (to_come c.is_at_start.new.parser) (to_come c.take_all.new.parser) c.take_all.new.self
     (kept_spans c.new-loader.result.keeper) c.if-not-is_at_start.ensures.begins.0
     (c.in-Ok.ensures.takes c.args.limits c.new-loader.ensures.loader)

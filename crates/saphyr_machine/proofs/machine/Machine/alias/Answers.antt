@@ -6,14 +6,14 @@ use Rattle.saphyr_machine.proofs.machine.Machine.alias.Goals as goal
 
 pub returns-in_default : goal.returns-in_default
 unfolding alias_node
-returns-in_default g c t m name is of =
-    let told = c.take_text.ensures.text t m name is (ap text_of of) in
-    let left = c.take_text.ensures.left t m is in
-    search (rules, told, left, is)
+returns-in_default g c more t m name is of =
+    let known = (rw is at (c.take_text.ensures.text more name)) (ap text_of of) in
+    let left = rw is at (c.take_text.ensures.left more) in
+    search (rules, known, left, is)
 
 pub returns : goal.returns
 unfolding alias_node
-returns g c t m name is of =
-    let told = c.take_text.ensures.text t m name is (ap text_of of) in
-    let left = c.take_text.ensures.left t m is in
-    search (rules, told, left, is)
+returns g c more t m name is of =
+    let known = (rw is at (c.take_text.ensures.text more name)) (ap text_of of) in
+    let left = rw is at (c.take_text.ensures.left more) in
+    search (rules, known, left, is)

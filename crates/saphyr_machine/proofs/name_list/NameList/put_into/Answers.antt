@@ -2,7 +2,7 @@ use Rattle.std.proofs.Common.{arith, refl, ◌≡◌, ◌∙◌, ◌<◌, ℕ, L
 use Rattle.std.specs.Prelude.{map}
 use Rattle.std.proofs.Math.Seq.{take-length}
 use Rattle.saphyr_machine.specs.declared.name_list.Name.{Name}
-use Rattle.saphyr_machine.specs.ListedNames.{text_of, with_id}
+use Rattle.saphyr_machine.specs.ListedNames.{bytes_of_name, with_id}
 use Rattle.saphyr_machine.specs.Steps.Machine.{Names, with_meaning}
 use Rattle.saphyr_machine.specs.Names.{ids_of, with_listed}
 use Rattle.saphyr_machine.proofs.Names.{ids_given, next_given}
@@ -30,7 +30,7 @@ loop-next-preserved c =
       ids_given c.loop-next.ids c.insert.new.self c.in_ok-from_str.field-0 e.id c.in_ok-insert.ensures.entries
           ∙ ap (λ (bs : List ℕ). with_meaning bs e.id (ids_of c.loop-next.ids))
           (c.in_ok-from_str.ensures.ok ∙ c.text.ensures)
-          ∙ ap (λ (names : Names ℕ). with_meaning (text_of bytes e) e.id names) c.loop-next.invariant.1
+          ∙ ap (λ (names : Names ℕ). with_meaning (bytes_of_name bytes e) e.id names) c.loop-next.invariant.1
           ∙ sym (next_given bytes ns c.loop-next.next e before inside c.index-name.ensures),
     )
 

@@ -21,16 +21,16 @@ returns-then-last g c =
 
 pub returns-in_err-send : goal.returns-in_err-send
 returns-in_err-send g c =
-    let told : c.from_residual.result ≡ Err c.in_err-send.field-0.0 = search rules in
-    rw told (stops g.R.SpannedEventReceiver.receives c.in_err-send.field-0.0 c.args.multi (cursor c.args.self.now)
+    let known : c.from_residual.result ≡ Err c.in_err-send.field-0.0 = search rules in
+    rw known (stops g.R.SpannedEventReceiver.receives c.in_err-send.field-0.0 c.args.multi (cursor c.args.self.now)
     (cursor c.loop-event.self) (cursor c.pass.new.self) c.args.recv.now c.loop-event.recv c.send.new.recv
     (event_of (c.in-Some.event, c.in-Some.span)) c.loop-event.invariant c.in-Some.ensures c.in_err-send.ensures)
 
 pub returns : goal.returns
 returns g c =
-    over g.R.SpannedEventReceiver.receives c.told_fault.result c.args.multi (cursor c.args.self.now)
+    over g.R.SpannedEventReceiver.receives c.report_fault.result c.args.multi (cursor c.args.self.now)
     (cursor c.loop-event.self) (cursor c.pass.new.self) c.args.recv.now c.loop-event.recv c.loop-event.invariant
-    c.in_default.ensures c.told_fault.ensures
+    c.in_default.ensures c.report_fault.ensures
 
 pub loop-event-smaller : goal.loop-event-smaller
 loop-event-smaller g c =

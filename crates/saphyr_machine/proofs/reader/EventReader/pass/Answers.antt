@@ -1,4 +1,4 @@
-use Rattle.std.proofs.Common.{◌≡◌, ◌∙◌, refl, sym, ap, rules, Option, Some, None, option_map, subst}
+use Rattle.std.proofs.Common.{◌≡◌, ◌∙◌, [], refl, sym, ap, rules, Option, Some, None, option_map, subst}
 use Rattle.saphyr_scalar.specs.declared.scalar.position.Span.{Span}
 use Rattle.saphyr_machine.specs.declared.event.Event.{Event}
 use Rattle.saphyr_machine.specs.Cursor.{event_of, with_event_handed}
@@ -14,7 +14,7 @@ returns g c =
     let gone : c.take.new.self ≡ None = search rules in
     let left = subst (λ (o : Option (Event × Span)). cursor c.remember.new.self
     ≡ with_event_handed (happening c.in_ok-event.event) c.in_ok-event.span
-    (cursor (record c.look.new.self { current = o }))) gone c.remember.ensures in
+    (cursor (record c.look.new.self { current = o }))) gone (c.remember.ensures []) in
     let handed = hands_what_was_read (event_of (c.in_ok-event.event, c.in_ok-event.span)) (cursor c.args.self.now)
     (cursor c.look.new.self) (cursor c.remember.new.self) c.look.ensures (sym (ap (option_map event_of) next))
     left in

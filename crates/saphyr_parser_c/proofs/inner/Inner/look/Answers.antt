@@ -1,5 +1,6 @@
 -- What is read, or was shown, is shown.
-use Rattle.std.proofs.Common.{None, Some}
+use Rattle.std.proofs.Common.{None, Some, subst}
+use Rattle.saphyr_parser_c.specs.Coming.{WritesWaiting}
 use Rattle.saphyr_parser_c.proofs.Handing.{hands_lent, same_lent, shows_next, shows_none, shows_shown}
 use Rattle.saphyr_parser_c.proofs.inner.Inner.look.Goals as goal
 
@@ -11,14 +12,15 @@ returns-in_default c =
     let is = c.deref_mut.ensures.value in
     shows_none c.args.self.now c.wait.result c.wait.new.out c.in-Pieces.field-0 _ c.next_into.new.next
     c.next_into.new.fault c.in-Pieces.is c.if-self.false (same_lent lent old new is c.next_into.ensures.same)
-    c.wait.new.self
+    c.waiting_status-status.result c.wait.new.self
+    (subst (WritesWaiting c.waiting_status-status.result) c.deref.ensures c.waiting_status-status.ensures)
     (hands_lent None c.next_into.new.next c.next_into.new.fault lent old new is c.in_default.ensures.next)
     c.wait.ensures
 
 pub returns-in-Pieces : goal.returns-in-Pieces
 returns-in-Pieces c =
-    shows_shown c.args.self.now c.tell.new.self c.tell.result c.tell.new.out
-    c.in-Pieces.field-0 c.in-Pieces.is c.if-self.true c.tell.ensures
+    shows_shown c.args.self.now c.write.new.self c.write.result c.write.new.out
+    c.in-Pieces.field-0 c.in-Pieces.is c.if-self.true c.write.ensures
 
 pub returns-in-Some : goal.returns-in-Some
 returns-in-Some c =
@@ -27,8 +29,8 @@ returns-in-Some c =
     let new = c.next_into.new.self in
     let is = c.deref_mut.ensures.value in
     let p = c.in-Some.progress in
-    shows_next c.args.self.now c.tell-in-Pieces-2.result c.tell-in-Pieces-2.new.out c.in-Pieces.field-0 _
+    shows_next c.args.self.now c.write-in-Pieces-2.result c.write-in-Pieces-2.new.out c.in-Pieces.field-0 _
     c.next_into.new.next c.next_into.new.fault c.in-Pieces.is c.if-self.false
-    (same_lent lent old new is c.next_into.ensures.same) p c.tell-in-Pieces-2.new.self
+    (same_lent lent old new is c.next_into.ensures.same) p c.write-in-Pieces-2.new.self
     (hands_lent (Some p) c.next_into.new.next c.next_into.new.fault lent old new is c.in-Some.ensures.next)
-    c.tell-in-Pieces-2.ensures
+    c.write-in-Pieces-2.ensures

@@ -1,10 +1,10 @@
--- Whether prefixes of tags are kept is set.
-use Rattle.saphyr_pieces.proofs.Keeping.{keeps_at, keeps_sound}
+use Rattle.std.proofs.Common.{[], ap, refl}
+use Rattle.saphyr_machine.specs.Cursor.{EventCursor}
+use Rattle.saphyr_pieces.proofs.Places.{sound_without_copy}
 use Rattle.saphyr_pieces.proofs.pieces.PieceReader.keep_tags.Goals as goal
-
-pub returns-clause-at : goal.returns-clause-at
-returns-clause-at c = keeps_at c.args.self.now c.keep_tags.new.self c.args.value c.keep_tags.ensures
 
 pub returns-clause-sound : goal.returns-clause-sound
 returns-clause-sound c =
-    keeps_sound c.args.self.now c.keep_tags.new.self c.args.value c.keep_tags.ensures c.requires
+    let same = c.keep_tags.ensures.cursor [] in
+    sound_without_copy c.args.self.now _ c.take.ensures.after (ap (λ (v : EventCursor). v.kept) same) refl
+    (ap (λ (v : EventCursor). v.current) same) c.requires

@@ -1,49 +1,63 @@
--- The next characters come after those that came.
-use Rattle.std.proofs.Common.{IsUtf8, refl, subst, sym, ◌∙◌}
+-- The reader goes on over a text that begins with its own.
+use Rattle.std.proofs.Common.{◌≡◌, ◌++◌, List, [], ℕ, refl, sym, ap, ◌∙◌, arith, length, drop}
 use Rattle.std.specs.Prelude.{string_bytes}
 use Rattle.std.specs.Str.{chars}
-use Rattle.saphyr_scanner.specs.Views.Scanning.{tokens_of}
-use Rattle.saphyr_machine.specs.Views.Readers.{cursor}
-use Rattle.event_laws.specs.Limits.{most_characters}
-use Rattle.saphyr_pieces.proofs.Comes.{came_marker, is_low}
-use Rattle.saphyr_pieces.proofs.ReadPieces.{grown, stays_sound, takes_in}
+use Rattle.std.proofs.lemmas.Str.{IsUtf8-string_bytes, chars-append, chars-nil}
+use Rattle.saphyr_input.proofs.Texts.{length-chars}
+use Rattle.saphyr_scanner.specs.Steps.State.{with_rest}
+use Rattle.saphyr_scanner.specs.Views.Scanning.{text_in}
+use Rattle.saphyr_machine.specs.Cursor.{EventCursor}
+use Rattle.saphyr_machine.specs.declared.reader.EventReader.{EventReader}
+use Rattle.saphyr_machine.specs.Views.Readers.{cursor_in, cursor_over, scanning_of}
+use Rattle.saphyr_pieces.specs.declared.owned.OwnedText.{OwnedText}
+use Rattle.saphyr_pieces.specs.Pieces.{at}
+use Rattle.saphyr_pieces.specs.Views.{pieces_of}
+use Rattle.saphyr_pieces.proofs.Places.{sound_without_copy, takes_in}
 use Rattle.saphyr_pieces.proofs.pieces.PieceReader.take_in.Goals as goal
+use Rattle.saphyr_pieces.proofs.pieces.PieceReader.take_in.Goals.{After-over}
 
-pub returns-in_default-clause-at : goal.returns-in_default-clause-at
-returns-in_default-clause-at c =
-    let grows = grown _ _ _ (subst IsUtf8 c.as_str.ensures.value c.as_str.utf8) c.in_ok-push_str.ensures.bytes in
-    takes_in c.args.self.now.source (chars (string_bytes c.args.self.now.text)) (chars c.args.more.now) _
-    (tokens_of c.args.self.now.tokens) (cursor c.args.self.now.reader) c.requires.wants grows
+pub over-requires : goal.over-requires
+over-requires c =
+    let there : (scanning_of c.replace-reader.result).state.core.cursor.mark.index ≡ c.index.result =
+    ap (λ (r : EventReader OwnedText). (scanning_of r).state.core.cursor.mark.index) c.replace-reader.ensures.value
+    ∙ sym c.index.ensures in
+    let text = c.push_str.new.self in
+    let bytes : length c.as_str-2.result.now ≡ length (string_bytes text) = ap length c.as_str-2.ensures.value in
+    let counted = length-chars (string_bytes text) (IsUtf8-string_bytes text) in
+    rw c.new.ensures (omega (arith, there, bytes, counted, c.in-Some.ensures))
 
-pub returns-in_default-clause-sound : goal.returns-in_default-clause-sound
-returns-in_default-clause-sound c =
-    let grows = grown _ _ _ (subst IsUtf8 c.as_str.ensures.value c.as_str.utf8) c.in_ok-push_str.ensures.bytes in
-    stays_sound c.goes_on_over_pieces.ensures c.args.self.now _ (chars c.args.more.now) c.requires.wants
-    c.requires.sound refl refl refl refl grows c.pass_all.ensures.follows (λ text follows s h. h)
+-- the text that the reader gets
+text_is : (c : After-over) → chars (drop c.new.result.start (string_bytes c.new.result.text))
+    ≡ (scanning_of c.args.self.now.reader).state.core.cursor.rest ++ chars (string_bytes c.args.self.now.more)
+text_is c =
+    c.new.ensures ∙ ap chars c.in_ok-push_str.ensures.bytes
+    ∙ chars-append (string_bytes c.in_ok-text.text) c.deref.result.now (IsUtf8-string_bytes c.in_ok-text.text)
+    ∙ ap (λ (cs : List ℕ). cs ++ chars c.deref.result.now)
+    (ap chars c.in_ok-text.ensures.ok ∙ c.as_str.ensures ∙ c.input.ensures)
+    ∙ ap (λ (bs : List ℕ). (scanning_of c.args.self.now.reader).state.core.cursor.rest ++ chars bs) c.deref.ensures
 
-pub returns-then-not-is_last-clause-at : goal.returns-then-not-is_last-clause-at
-returns-then-not-is_last-clause-at c =
-    let grows = grown _ _ _ (subst IsUtf8 c.as_str.ensures.value c.as_str.utf8) c.in_ok-push_str.ensures.bytes in
-    takes_in c.args.self.now.source (chars (string_bytes c.args.self.now.text)) (chars c.args.more.now) _
-    (tokens_of c.args.self.now.tokens) (cursor c.args.self.now.reader) c.requires.wants grows
-
-pub returns-then-not-is_last-clause-sound : goal.returns-then-not-is_last-clause-sound
-returns-then-not-is_last-clause-sound c =
-    let grows = grown _ _ _ (subst IsUtf8 c.as_str.ensures.value c.as_str.utf8) c.in_ok-push_str.ensures.bytes in
-    stays_sound c.goes_on_over_pieces.ensures c.args.self.now _ (chars c.args.more.now) c.requires.wants
-    c.requires.sound refl refl refl refl grows c.pass_all.ensures.follows (λ text follows s h. h)
+-- where the reader is over it
+there : (c : After-over) (later : List ℕ)
+    → cursor_in later c.over.result ≡ at (pieces_of c.args.self.now) (text_in c.args.growth later [])
+there c later =
+    let rest = chars (drop c.new.result.start (string_bytes c.new.result.text)) in
+    takes_in c.args.self.now c.args.growth c.over.result rest c.requires.wants
+    (sym c.growth.ensures ∙ c.in-Growing.is)
+    (c.over.ensures.scanner
+    ∙ ap (λ (r : EventReader OwnedText). record (scanning_of r)
+    { state = with_rest rest (scanning_of r).state; growth = c.args.growth }) c.replace-reader.ensures.value)
+    (λ rest. c.over.ensures.cursor rest
+    ∙ ap (λ (r : EventReader OwnedText). cursor_over rest r) c.replace-reader.ensures.value) (text_is c) later
 
 pub returns-clause-at : goal.returns-clause-at
-returns-clause-at c =
-    let grows = grown _ _ _ (subst IsUtf8 c.as_str.ensures.value c.as_str.utf8) c.in_ok-push_str.ensures.bytes in
-    takes_in c.args.self.now.source (chars (string_bytes c.args.self.now.text)) (chars c.args.more.now) _
-    (tokens_of c.args.self.now.tokens) (cursor c.args.self.now.reader) c.requires.wants grows
+returns-clause-at c = there (goal.at.returns-clause-at c).After-over
+
+pub returns-clause-more : goal.returns-clause-more
+returns-clause-more c = ap chars c.clear.ensures.bytes ∙ chars-nil
 
 pub returns-clause-sound : goal.returns-clause-sound
 returns-clause-sound c =
-    let grows = grown _ _ _ (subst IsUtf8 c.as_str.ensures.value c.as_str.utf8) c.in_ok-push_str.ensures.bytes in
-    stays_sound c.goes_on_over_pieces.ensures c.args.self.now _ (chars c.args.more.now) c.requires.wants
-    c.requires.sound refl refl refl refl grows c.pass_all.ensures.follows
-    (λ text follows s h. came_marker c.goes_on_over_pieces.ensures most_characters c.args.self.now.marker _ s _ h
-    (c.in-Some.ensures.found text follows)
-    (is_low c.in-Some.marker c.args.self.now.marker (sym c.is_last.ensures ∙ c.if-not-is_last.false)))
+    let same = c.over.ensures.cursor []
+    ∙ ap (λ (r : EventReader OwnedText). cursor_over [] r) c.replace-reader.ensures.value in
+    sound_without_copy c.args.self.now _ c.take.ensures.after (ap (λ (v : EventCursor). v.kept) same) refl
+    (ap (λ (v : EventCursor). v.current) same) c.requires.sound

@@ -8,7 +8,7 @@ pub returns-then-passes_dash_and_space : goal.returns-then-passes_dash_and_space
 returns-then-passes_dash_and_space g c =
     let passes = c.passes_dash_and_space in
     let entered = entered_spaced c.args.column (state c.args.self.now) (state passes.new.self)
-    (sym passes.ensures.told ∙ c.if-passes_dash_and_space.true)
+    (sym passes.ensures.decides ∙ c.if-passes_dash_and_space.true)
     (passes.ensures.passed c.if-passes_dash_and_space.true) in
     rw (← entered) c.roll.ensures
 

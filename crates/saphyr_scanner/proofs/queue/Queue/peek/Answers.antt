@@ -1,6 +1,6 @@
 -- The kind of the first token.
 use Rattle.std.proofs.Common.{rules}
-use Rattle.saphyr_scanner.proofs.QueuedPlaces.{first_queued, kind_told, no_place}
+use Rattle.saphyr_scanner.proofs.QueuedPlaces.{first_queued, kind_kept, no_place}
 use Rattle.saphyr_scanner.proofs.queue.Queue.peek.Goals as goal
 
 pub returns-in_err-place : goal.returns-in_err-place
@@ -11,7 +11,7 @@ returns-in_err-place c =
 pub returns-in-Nothing : goal.returns-in-Nothing
 returns-in-Nothing c =
     let first = first_queued c.args.self.now c.in_ok-place.place c.in_ok-place.ensures in
-    search (rules, first, kind_told)
+    search (rules, first, kind_kept)
 
 pub returns-in-Key : goal.returns-in-Key
 returns-in-Key c =

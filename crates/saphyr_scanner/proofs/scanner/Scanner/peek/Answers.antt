@@ -1,16 +1,22 @@
 -- The first token is shown.
-use Rattle.std.proofs.Common.{refl, subst}
+use Rattle.std.proofs.Common.{◌≡◌, ◌∙◌, true, rules, ap}
+use Rattle.saphyr_scanner.specs.Steps.Fetch.{is_ready}
 use Rattle.saphyr_scanner.specs.Views.Engine.{state}
-use Rattle.saphyr_scanner.specs.Views.Scanning.{Peeks, Scanning}
-use Rattle.saphyr_scanner.proofs.Turns.{peeks}
+use Rattle.saphyr_scanner.specs.Views.Scanning.{Scanning, tokens_in, tokens_over}
+use Rattle.saphyr_scanner.proofs.Turns.{shows}
 use Rattle.saphyr_scanner.proofs.scanner.Scanner.peek.Goals as goal
 
 pub returns : goal.returns
+unfolding tokens_over tokens_in
 returns g c =
-    let old : Scanning = record
-    { state = state c.self.inside.engine; limit = c.self.inside.limit; stop = c.self.inside.engine.stop } in
-    let new : Scanning = record
-    { state = state c.peek.new.self; limit = c.self.inside.limit; stop = c.peek.new.self.stop } in
-    subst (λ s. Peeks c.peek.result s new) c.self.view_is
-    (peeks c.takes_characters_off.ensures old new c.peek.result refl c.peek.ensures.filled c.peek.ensures.kind
-    c.peek.ensures.counted)
+    let read : Scanning = record {
+      state = state c.self.inside.engine;
+      limit = c.self.inside.limit;
+      growth = c.self.inside.growth;
+      stop = c.self.inside.engine.stop;
+    } in
+    let ready : is_ready (state c.first.new.self) ≡ true = search rules in
+    shows c.first.result _ _
+    (λ more. ap (λ s. tokens_in more (record read { state = s })) c.first.ensures.same ∙ ap (tokens_in more)
+    c.self.view_is
+    ∙ c.in_ok-fill.ensures.0 more) ready c.first.ensures.kind c.first.ensures.counted c.first.ensures.failed

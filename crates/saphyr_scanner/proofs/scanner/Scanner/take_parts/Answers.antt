@@ -1,19 +1,15 @@
 -- The parts of the first token are taken.
-use Rattle.std.proofs.Common.{rules, sym, ap, subst, ◌∙◌}
+use Rattle.std.proofs.Common.{rules}
 use Rattle.saphyr_scanner.specs.Views.Engine.{state}
-use Rattle.saphyr_scanner.specs.Views.Scanning.{IsReady, tokens_of}
-use Rattle.saphyr_scanner.proofs.Turns.{one_first}
+use Rattle.saphyr_scanner.proofs.Turns.{first_in}
 use Rattle.saphyr_scanner.proofs.scanner.Scanner.take_parts.Goals as goal
 
 pub returns-clause-parts : goal.returns-clause-parts
-returns-clause-parts g c t left is =
-    let ready = subst IsReady (sym c.self.view_is) c.requires in
-    c.take_parts.ensures.parts t (one_first c.self.inside.limit (state c.self.inside.engine) t left ready.0
-    (ap tokens_of c.self.view_is ∙ is)).0
+returns-clause-parts g c more t left is = c.take_parts.ensures.parts t (first_in c.self.view_is c.requires more t left
+    is).0
 
 pub returns-clause-left : goal.returns-clause-left
-returns-clause-left g c t left is =
-    let ready = subst IsReady (sym c.self.view_is) c.requires in
-    let first = one_first c.self.inside.limit (state c.self.inside.engine) t left ready.0
-    (ap tokens_of c.self.view_is ∙ is) in
-    search (rules, first)
+returns-clause-left g c more t left is =
+    let after = (first_in c.self.view_is c.requires more t left is).1
+    (state c.take_parts.new.self) c.take_parts.new.self.stop in
+    search (rules, after)

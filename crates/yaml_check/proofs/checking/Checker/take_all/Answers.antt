@@ -6,6 +6,7 @@ use Rattle.saphyr_parser.specs.Words.Span.{Span}
 use Rattle.saphyr_parser.specs.Answer.{Answer, with_first_event}
 use Rattle.saphyr_parser.specs.Cursor.{HandsOutNext, event_of}
 use Rattle.yaml_check.specs.declared.finding.Finding.{Finding}
+use Rattle.yaml_check.specs.Opened.{OpenStarts, opened_behind, open_on}
 use Rattle.yaml_check.specs.Warned.{Seen, seen_behind, warnings_at, warnings_on}
 use Rattle.yaml_check.proofs.checking.Checker.take_all.Goals as goal
 
@@ -16,10 +17,14 @@ first_of r e old new is handed =
 
 keeps_told : (e : Event × Span) (old new : Answer) (before after all : List Finding) (s t : Seen)
     → old ≡ with_first_event (event_of e) new → before ++ warnings_on old.events s ≡ all
-    → t ≡ seen_behind (event_of e).0 e.1.start s → after ≡ before ++ warnings_at (event_of e).0 e.1.start s
+    → t ≡ seen_behind (event_of e).0 e.1 s → after ≡ before ++ warnings_at (event_of e).0 e.1 s
     → after ++ warnings_on new.events t ≡ all
 keeps_told e old new before after all s t first told behind more =
     rw (more, behind) (append_assoc before _ _ ∙ (ap (λ a. before ++ warnings_on a.events s) (sym first) ∙ told))
+
+keeps_open : (e : Event × Span) (old new : Answer) (o p all : OpenStarts) → old ≡ with_first_event (event_of e) new
+    → open_on old.events o ≡ all → p ≡ opened_behind (event_of e).0 e.1 o → open_on new.events p ≡ all
+keeps_open e old new o p all first opened behind = rw behind (ap (λ a. open_on a.events o) (sym first) ∙ opened)
 
 pub loop-item-preserved : goal.loop-item-preserved
 loop-item-preserved g c =
@@ -28,4 +33,5 @@ loop-item-preserved g c =
       fault = ap (λ a. a.fault) (sym first) ∙ c.loop-item.invariant.fault;
       warned = keeps_told _ _ _ _ _ _ _ _ first c.loop-item.invariant.warned c.in_ok-taken.ensures.behind
           c.in_ok-taken.ensures.told;
+      opened = keeps_open _ _ _ _ _ _ first c.loop-item.invariant.opened c.in_ok-taken.ensures.open;
     }

@@ -1,6 +1,8 @@
 use Rattle.std.proofs.Common.{◌≡◌, ◌++◌}
 use Rattle.saphyr_parser.specs.Cursor.{to_come}
 use Rattle.yaml_check.specs.CheckerSeen.{seen_of}
+use Rattle.yaml_check.specs.OpenSeen.{open_of}
+use Rattle.yaml_check.specs.Opened.{open_on}
 use Rattle.yaml_check.specs.Warned.{warnings_on}
 use Rattle.yaml_check.proofs.checking.Checker.take_all.Given as goal
 
@@ -9,4 +11,6 @@ invariant-loop-item g l = record {
   fault : (to_come l.item-iterator).fault ≡ (to_come l.fn.parser).fault;
   warned : l.self.warnings.items ++ warnings_on (to_come l.item-iterator).events (seen_of l.self)
       ≡ l.fn.self.warnings.items ++ warnings_on (to_come l.fn.parser).events (seen_of l.fn.self);
+  opened : open_on (to_come l.item-iterator).events (open_of l.self.open)
+      ≡ open_on (to_come l.fn.parser).events (open_of l.fn.self.open);
 }

@@ -2,12 +2,12 @@ use Rattle.std.proofs.Common.{◌≡◌, ℕ, ◌<◌, List, false, length, subs
 use Rattle.std.specs.Prelude.{nat_lt, slice_index}
 use Rattle.std.proofs.lemmas.Bool.Decides.{nat_tests}
 use Rattle.saphyr_input.specs.Fronts.{StandsFor}
-use Rattle.saphyr_input.proofs.WordRuns.{joint_told, no_joint}
+use Rattle.saphyr_input.proofs.WordRuns.{joint_known, no_joint}
 use Rattle.saphyr_input.proofs.input.str.text.begins_joint.Goals as goal
 
 pub returns-then-bytes-gt1-clause-value : goal.returns-then-bytes-gt1-clause-value
 returns-then-bytes-gt1-clause-value g c =
-    joint_told g.C.WordSet.joint c.args.text.now c.joins.result c.utf8.text (grind (arith, nat_tests))
+    joint_known g.C.WordSet.joint c.args.text.now c.joins.result c.utf8.text (grind (arith, nat_tests))
     (subst (λ (bs : List ℕ). (x y : ℕ) → StandsFor (slice_index bs 0) x
     → (slice_index bs 0 < 128 → StandsFor (slice_index bs 1) y) → c.joins.result ≡ g.C.WordSet.joint x y)
     c.as_bytes-bytes.ensures.value c.joins.ensures.value)

@@ -33,14 +33,18 @@ returns-then-not-begins_wide-clause-none g c = λ stops.
       | inr ge ↦ absurd (false≢true (sym c.if-not-begins_wide.true ∙ c.begins_wide.ensures.1 ge))
     ] in
     neither g.C.CharSet.test g.C.WordSet.joint (chars text)
-    (not_in g.C.CharSet.test (slice_index text 0) (slice_index (chars text) 0) (first_stands text c.utf8.text) stops less)
+    (not_in g.C.CharSet.test (slice_index text 0) (slice_index (chars text) 0) (first_stands text c.utf8.text) stops
+    less)
     (sym c.begins_joint.ensures.value ∙ c.if-begins_joint.false)
 
 pub returns-then-count-gt0-clause-part : goal.returns-then-count-gt0-clause-part
 returns-then-count-gt0-clause-part g c =
     let p = g.C.CharSet.test in
     let text = chars c.args.text.now in
-    let none : prefix_len p (chars c.run-count.result.1.now) ≡ 0 = rw (c.run-count.ensures.rest, c.run-count.ensures.count)
+    let none : prefix_len p (chars c.run-count.result.1.now) ≡ 0 = rw (
+      c.run-count.ensures.rest,
+      c.run-count.ensures.count,
+    )
     (run_stops p _ (run_ends p text g.met.C.CharSet.without_nul)) in
     words_past p g.C.WordSet.joint c.run-count.result.0 text _ (omega (arith, none, c.run-count.ensures.count))
     c.run-count.ensures.rest

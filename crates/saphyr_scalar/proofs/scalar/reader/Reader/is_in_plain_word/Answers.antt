@@ -1,7 +1,7 @@
 use Rattle.std.proofs.Common.{slice_index, ap, ◌∙◌}
 use Rattle.saphyr_scalar.specs.Views.Cursor.{Cursor}
 use Rattle.saphyr_scalar.specs.Views.Reader.{cursor_of}
-use Rattle.saphyr_scalar.proofs.Plain.Words.{colon_in_word, ink_in_word}
+use Rattle.saphyr_scalar.proofs.Plain.Words.{colon_in_word, plain_in_word}
 use Rattle.saphyr_scalar.proofs.scalar.reader.Reader.is_in_plain_word.Goals as goal
 
 pub returns-then-c-eq58-clause-value : goal.returns-then-c-eq58-clause-value
@@ -12,5 +12,5 @@ returns-then-c-eq58-clause-value g c =
 
 pub returns-clause-value : goal.returns-clause-value
 returns-clause-value g c =
-    ink_in_word c.args.in_flow (cursor_of c.args.self.now).rest c.args.c _ c.requires.first c.if-c-eq58.false
-    c.is_ink_in_word.ensures
+    plain_in_word c.args.in_flow (cursor_of c.args.self.now).rest c.args.c _ c.requires.first c.if-c-eq58.false
+    c.is_plain_in_word.ensures

@@ -62,7 +62,8 @@ loop-text-preserved g c =
     let goes = started (spec.next_word_starts f i) s there _ _ c.if-not-branch.false
     c.in_ok-next_plain_word_starts.ensures in
     record {
-      same = behind_gap_read f i start behind.mark _ _ (spec.gap i start behind) _ (cursor_of c.read_word_gap.new.self) _
+      same = behind_gap_read f i start behind.mark _ _ (spec.gap i start behind) _ (cursor_of
+          c.read_word_gap.new.self) _
           c.in_ok-tabbed.ensures len
           ∙ sym (behind_words f i start c.loop-text.word_end.mark (string_bytes c.loop-text.text) _
           c.loop-text.word_end.tabbed s there behind c.loop-text.word_end.len goes

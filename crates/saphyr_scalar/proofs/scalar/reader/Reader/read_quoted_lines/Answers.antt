@@ -27,11 +27,11 @@ pub returns-clause-same : goal.returns-clause-same
 returns-clause-same g c = λ quote.
     let a = c.args in
     let here = cursor_of c.look_behind_spaces-c.new.self in
-    let ink = c.is_later_word.ensures c.if-not-is_later_word.false in
+    let non_space = c.is_later_word.ensures c.if-not-is_later_word.false in
     ap (λ b. spec.with_front b (spec.inner_text_at quote a.indent a.start spec.no_gap here))
     c.in_ok-push_folded_break.ensures
     ∙ begins_later_word quote a.indent a.start a.escaped (string_bytes a.text.now) here c.look_behind_spaces-c.result
-    c.look_behind_spaces-c.ensures.value ink.0 ink.1
+    c.look_behind_spaces-c.ensures.value non_space.0 non_space.1
     ∙ ap (spec.with_front (string_bytes a.text.now))
     (inside_over_spaces quote a.indent a.start a.escaped 0 _ (cursor_of a.self.now) here
     c.look_behind_spaces-c.ensures.passed)

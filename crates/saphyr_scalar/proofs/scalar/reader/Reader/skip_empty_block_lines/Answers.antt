@@ -68,7 +68,8 @@ pub overflow_add-lines : goal.overflow_add-lines
 overflow_add-lines g c = record {
   fits =
       few_here c.loop-limit.lines.count (cursor_of c.loop-limit.self) c.loop-limit.invariant.few
-      c.loop-limit.self.fits (ap is_break (sym c.look-c.ensures.value) ∙ sym c.is_break.ensures.test ∙ c.if-not-is_break.false);
+      c.loop-limit.self.fits (ap is_break (sym c.look-c.ensures.value) ∙ sym c.is_break.ensures.test ∙
+      c.if-not-is_break.false);
 }
 
 pub returns-clause-few : goal.returns-clause-few

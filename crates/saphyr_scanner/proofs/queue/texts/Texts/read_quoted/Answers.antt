@@ -4,8 +4,9 @@ use Rattle.std.specs.Prelude.{string_bytes}
 use Rattle.std.proofs.lemmas.Str.{IsUtf8-string_bytes}
 use Rattle.saphyr_scalar.specs.Steps.Quoted.{quoted}
 use Rattle.saphyr_scalar.specs.Views.Reader.{cursor_of}
+use Rattle.saphyr_scalar.proofs.Properties.TagSteps.{front_behind}
 use Rattle.saphyr_scanner.specs.Views.Texts.{Texts, IsTextOf}
-use Rattle.saphyr_scanner.proofs.QueuedReads.{is_text_added, quoted_behind}
+use Rattle.saphyr_scanner.proofs.QueuedReads.{is_text_added}
 use Rattle.saphyr_scanner.proofs.queue.texts.Texts.read_quoted.Goals as goal
 
 pub returns-in-Ok-clause-count : goal.returns-in-Ok-clause-count
@@ -13,7 +14,7 @@ returns-in-Ok-clause-count g c =
     let old = c.self.inside in
     let before = string_bytes old.texts in
     let new = c.read_quoted_onto.new.text in
-    let behind = quoted_behind before (string_bytes new)
+    let behind = front_behind before (string_bytes new)
     (quoted c.args.quote c.args.indent (cursor_of c.args.reader.now))
     (cursor_of c.read_quoted_onto.new.self) c.in-Ok.ensures in
     subst (λ (s : Texts). IsTextOf (c.len.result - c.len-before.result)

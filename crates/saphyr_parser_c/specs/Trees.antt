@@ -1,0 +1,180 @@
+-- What C's calls on trees do and tell.
+use Rattle.std.specs.Prelude.{◌≡◌, ◌⊎◌, ℕ, ℤ, ◌-◌, ◌^◌, List, [], ◌∷◌, ◌++◌, slice_get, Some, None, Result, Ok, Err, option_map, string_bytes, IsUtf8}
+use Rattle.std.specs.Prelude as std
+use mathlib.Core.Option.{Option, none, some}
+use Rattle.saphyr_scalar.specs.declared.scalar.position.Marker.{Marker}
+use Rattle.saphyr_scalar.specs.declared.scalar.position.Span.{Span}
+use Rattle.saphyr_parser.specs.Types.Fault.{Fault}
+use Rattle.saphyr_parser.specs.Cursor.{EventCursor, to_come}
+use Rattle.saphyr_parser.specs.Events.{Happening, Alias, Scalar, SequenceStart, MappingStart}
+use Rattle.saphyr_parser.specs.Views.Events.{resolved_tag}
+use Rattle.yaml_tree.specs.declared.fault.TreeFault.{TreeFault}
+use Rattle.yaml_tree.specs.declared.fault.TreeFault.TheVariants as tree
+use Rattle.yaml_tree.specs.declared.node.Node.{Node, out-Node}
+use Rattle.yaml_tree.specs.declared.node.Node.TheOpen.{Node-F}
+use Rattle.yaml_tree.specs.declared.paths.Step.{Step}
+use Rattle.yaml_tree.specs.declared.tally.Limits.{Limits}
+use Rattle.yaml_tree.specs.declared.table.Content.{Content}
+use Rattle.yaml_tree.specs.declared.table.Content.TheVariants as content
+use Rattle.yaml_tree.specs.declared.table.Entry.{Entry}
+use Rattle.yaml_tree.specs.declared.table.NodeTable.{NodeTable}
+use Rattle.yaml_tree.specs.declared.table.Root.{Root}
+use Rattle.yaml_tree.specs.Accessing.{value_at_key}
+use Rattle.yaml_tree.specs.Following.{at_step}
+use Rattle.yaml_tree.specs.Numbering.{Placed, FindsNumber, HasNodes, IsNodeAt, LoadsTable, count_of_parts, numbered_node}
+use Rattle.saphyr_parser_c.specs.declared.inner.Inner.{Inner}
+use Rattle.saphyr_parser_c.specs.declared.shown.CEvent.{CEvent}
+use Rattle.saphyr_parser_c.specs.declared.source.Source.{Source}
+use Rattle.saphyr_parser_c.specs.declared.source.Source.TheVariants as source
+use Rattle.saphyr_parser_c.specs.declared.status.Status.{Status}
+use Rattle.saphyr_parser_c.specs.declared.status.Status.TheVariants as status
+use Rattle.saphyr_parser_c.specs.Exports.{WritesNone}
+use Rattle.saphyr_parser_c.specs.Same.{IsSameFault}
+use Rattle.saphyr_parser_c.specs.Shown.{HasFields, WritesFault, no_fields, nowhere, fields_of_event}
+use Rattle.saphyr_parser_c.specs.Status.{code_of}
+
+-- ## Numbers of nodes
+
+-- the number of no node
+abbrev pub IsNowhere : ℕ → Type 0
+IsNowhere number = number ≡ 2 ^ 64 - 1
+
+abbrev pub IsNumberOf : std.Option ℕ → ℕ → Type 0
+IsNumberOf (Some node) number = number ≡ node
+IsNumberOf None number = IsNowhere number
+
+-- ## Loading
+
+abbrev pub IsEmptyEvent : CEvent → Type 0
+IsEmptyEvent c = HasFields no_fields nowhere nowhere c
+
+-- a limit is passed at this place
+abbrev pub WritesPlace : Marker → Status → CEvent → Type 0
+WritesPlace place s c = (s ≡ status.TooLarge) × HasFields no_fields place place c
+
+-- why nothing was loaded
+abbrev pub WritesUnloaded : TreeFault → Status → CEvent → Type 0
+WritesUnloaded (tree.Parse f) s c = (g : Fault) × IsSameFault f g × WritesFault g s c
+WritesUnloaded (tree.TooManyNodes place most) s c = WritesPlace place s c
+WritesUnloaded (tree.TooDeep place most) s c = WritesPlace place s c
+WritesUnloaded tree.OutOfMemory s c = (s ≡ status.NoMemory) × IsEmptyEvent c
+WritesUnloaded tree.NotFresh s c = (s ≡ status.Late) × IsEmptyEvent c
+
+-- all but what was handed out last stays
+abbrev pub KeepsButItem : Inner → Inner → Type 0
+KeepsButItem before after =
+    (after.source ≡ before.source) × (after.shown ≡ before.shown) × (after.table ≡ before.table)
+
+abbrev pub IsEmpty : NodeTable → Type 0
+IsEmpty table = (table.entries.items ≡ []) × (table.roots.items ≡ [])
+
+-- the documents are those of `load_table`, or there are none
+abbrev pub WritesLoaded : Result NodeTable TreeFault → Status → CEvent → Inner → Type 0
+WritesLoaded (Ok table) s c after = (s ≡ status.Done) × IsEmptyEvent c × (after.table ≡ table)
+WritesLoaded (Err f) s c after = WritesUnloaded f s c × IsEmpty after.table
+
+abbrev pub LoadsFrom : Limits → Source → Inner → Status → CEvent → Inner → Type 0
+LoadsFrom limits (source.Whole old) before s c after =
+    (new : EventCursor) × (result : Result NodeTable TreeFault) × (after.source ≡ source.Whole new)
+    × LoadsTable limits result (to_come old) (to_come new) × WritesLoaded result s c after
+LoadsFrom limits (source.Pieces old) before s c after =
+    (s ≡ status.Late) × IsEmptyEvent c × (after.source ≡ before.source) × IsEmpty after.table
+
+abbrev pub LoadsToC : Limits → Inner → Status → CEvent → Inner → Type 0
+LoadsToC limits before s c after = LoadsFrom limits before.source before s c after
+
+abbrev pub LoadsTrees : Limits → Option Inner → ℤ → CEvent → Option Inner → Type 0
+LoadsTrees limits none code c new = WritesNone code c new
+LoadsTrees limits (some old) code c new =
+    (inner : Inner) × (s : Status) × (new ≡ some inner) × (code ≡ code_of s) × LoadsToC limits old s c inner
+
+-- ## Questions
+
+-- It is answered by the trees that the parser has, and all stays; without a parser there is no answer.
+abbrev pub Asks : (NodeTable → Type 0) → Type 0 → Option Inner → Option Inner → Type 0
+Asks answers missing none new = missing × (new ≡ none)
+Asks answers missing (some old) new = answers old.table × (new ≡ some old)
+
+abbrev pub number_in : std.Option Root → std.Option ℕ
+number_in root = option_map (λ (r : Root). r.number) root
+
+-- the root of the document with this index
+abbrev pub IsRootAt : ℕ → ℕ → NodeTable → Type 0
+IsRootAt index result table = IsNumberOf (number_in (slice_get table.roots.items index)) result
+
+abbrev pub expanded_in : std.Option Root → ℕ
+expanded_in (Some root) = root.expanded
+expanded_in None = 0
+
+abbrev pub Expands : ℕ → ℕ → NodeTable → Type 0
+Expands index result table = result ≡ expanded_in (slice_get table.roots.items index)
+
+-- how many items or pairs the node has
+abbrev pub CountsParts : ℕ → ℕ → NodeTable → Type 0
+CountsParts number result table = (all : List Placed) (node : Node) → HasNodes all table → IsNodeAt all number node
+    → result ≡ count_of_parts node
+
+-- the part to which a step leads
+abbrev pub LeadsToPart : ℕ → Step → ℕ → NodeTable → Type 0
+LeadsToPart number step result table = (found : std.Option ℕ) × IsNumberOf found result
+    × ((all : List Placed) (node : Node) → HasNodes all table → IsNodeAt all number node
+    → numbered_node all found ≡ at_step step node)
+
+-- the value of a key
+abbrev pub Gets : ℕ → List ℕ → ℕ → NodeTable → Type 0
+Gets number key result table = (found : std.Option ℕ) × IsNumberOf found result
+    × (IsUtf8 key → (all : List Placed) (node : Node) → HasNodes all table → IsNodeAt all number node
+    → numbered_node all found ≡ value_at_key key node)
+
+-- the node of an anchor
+abbrev pub Finds : ℕ → ℕ → NodeTable → Type 0
+Finds id result table = (found : std.Option ℕ) × IsNumberOf found result
+    × ((all : List Placed) → HasNodes all table → FindsNumber id all found)
+
+-- ## What is told of a node
+
+abbrev pub happening_in : Content → Happening
+happening_in (content.Alias id) = Alias id
+happening_in (content.Scalar text style id tag) = Scalar (string_bytes text) style id (option_map resolved_tag tag)
+happening_in (content.Sequence id tag parts) = SequenceStart id (option_map resolved_tag tag)
+happening_in (content.Mapping id tag parts) = MappingStart id (option_map resolved_tag tag)
+
+abbrev pub WritesSome : std.Option Entry → Status → CEvent → Type 0
+WritesSome (Some entry) s c = (s ≡ status.Event)
+    × HasFields (fields_of_event (happening_in entry.content)) entry.start.start entry.end.end c
+WritesSome None s c = (s ≡ status.End) × IsEmptyEvent c
+
+abbrev pub WritesEntry : NodeTable → ℕ → Status → CEvent → Type 0
+WritesEntry table number s c = WritesSome (slice_get table.entries.items number) s c
+
+-- the event with which a node begins
+abbrev pub first_in_layer : Node-F Node → Happening
+first_in_layer (Node-F.Alias id) = Alias id
+first_in_layer (Node-F.Scalar text style id tag) = Scalar (string_bytes text) style id (option_map resolved_tag tag)
+first_in_layer (Node-F.Seq id tag nodes) = SequenceStart id (option_map resolved_tag tag)
+first_in_layer (Node-F.Map id tag pairs) = MappingStart id (option_map resolved_tag tag)
+
+abbrev pub first_event : Node → Happening
+first_event node = first_in_layer (out-Node node)
+
+-- the first of these spans, and the last
+abbrev pub AreEnds : List Span → Span → Span → Type 0
+AreEnds spans start end =
+    ((spans ≡ start ∷ []) × (end ≡ start)) ⊎ ((inner : List Span) × (spans ≡ start ∷ (inner ++ end ∷ [])))
+
+-- its first event, from the start of its first span to the end of its last
+pub record WritesPlaced (p : Placed) (s : Status) (c : CEvent) : Type 0 where
+  pub start : Span
+  pub end : Span
+  pub is_there : s ≡ status.Event
+  pub ends : AreEnds p.1 start end
+  pub fields : HasFields (fields_of_event (first_event p.0)) start.start end.end c
+
+abbrev pub WritesNode : ℕ → Status → CEvent → NodeTable → Type 0
+WritesNode number s c table = (all : List Placed) (p : Placed) → HasNodes all table → slice_get all number ≡ Some p
+    → WritesPlaced p s c
+
+abbrev pub WritesAt : ℕ → Option Inner → ℤ → CEvent → Option Inner → Type 0
+WritesAt number none code c new = WritesNone code c new
+WritesAt number (some old) code c new = (s : Status) × (new ≡ some old) × (code ≡ code_of s)
+    × WritesNode number s c old.table × WritesEntry old.table number s c

@@ -1,0 +1,126 @@
+//! Nodes as C sees them: a number, and what is told of it.
+
+ghost use Rattle.std.specs.Prelude.{◌≡◌};
+ghost use Rattle.saphyr_parser_c.specs.Shown.{HasFields, fields_of_event};
+ghost use Rattle.saphyr_parser_c.specs.Trees as spec;
+
+use crate::answer::write_fault;
+use crate::inner::Inner;
+use crate::shown::{CEvent, bare, blank, style_code};
+use crate::source::Source;
+use crate::status::Status;
+use crate::texts::{lend_tag, lent};
+use saphyr_parser::{Marker, Progress};
+use std::alloc::Global;
+use yaml_tree::{Content, Entry, Limits, NodeTable, TreeFault, load_table};
+
+/// The number of a node, or that of none.
+pub fn number_of(node: Option<usize>) -> usize
+    ensures { spec.IsNumberOf node result }
+{
+    match node {
+        Some(number) => number,
+        None => usize::MAX,
+    }
+}
+
+/// Writes what a node is.
+pub fn write_entry(entry: &Entry, out: &mut CEvent)
+    ensures { HasFields (fields_of_event (spec.happening_in entry.now.content))
+        entry.now.start.start entry.now.end.end out.new }
+{
+    let start = entry.start.start;
+    let end = entry.end.end;
+    match &entry.content {
+        Content::Alias(id) => {
+            *out = bare(5, start, end);
+            out.anchor = *id;
+        }
+        Content::Scalar(text, style, id, tag) => {
+            *out = bare(6, start, end);
+            out.style = style_code(*style);
+            out.anchor = *id;
+            out.value = lent(text.as_str());
+            lend_tag(tag, out);
+        }
+        Content::Sequence(id, tag, _) => {
+            *out = bare(7, start, end);
+            out.anchor = *id;
+            lend_tag(tag, out);
+        }
+        Content::Mapping(id, tag, _) => {
+            *out = bare(9, start, end);
+            out.anchor = *id;
+            lend_tag(tag, out);
+        }
+    }
+}
+
+impl Inner {
+    /// Loads all documents of a whole text. What was loaded before is dropped.
+    pub fn load(&mut self, alloc: Global, limits: Limits, out: &mut CEvent) -> Status
+        ensures { spec.LoadsToC limits self.old result out.new self.new }
+    {
+        self.table = NodeTable::new(alloc);
+        let Source::Whole(parser) = &mut self.source else {
+            *out = blank();
+            return Status::Late;
+        };
+        match load_table(alloc, parser, limits) {
+            Ok(table) => {
+                self.table = table;
+                *out = blank();
+                Status::Done
+            }
+            Err(fault) => self.write_unloaded(alloc, fault, out),
+        }
+    }
+
+    // Tells why nothing was loaded. A fault of the text is kept here until the next call.
+    fn write_unloaded(&mut self, alloc: Global, why: TreeFault, out: &mut CEvent) -> Status
+        ensures same { spec.KeepsButItem self.old self.new }
+        ensures writes { spec.WritesUnloaded why result out.new }
+    {
+        match why {
+            TreeFault::Parse(fault) => {
+                self.fault = fault;
+                self.progress = Progress::Fault;
+                write_fault(alloc, &mut self.fault, out)
+            }
+            TreeFault::TooManyNodes(place, _) => write_place(place, out),
+            TreeFault::TooDeep(place, _) => write_place(place, out),
+            TreeFault::OutOfMemory => {
+                *out = blank();
+                Status::NoMemory
+            }
+            TreeFault::NotFresh => {
+                *out = blank();
+                Status::Late
+            }
+        }
+    }
+
+    /// Writes what a node is, if there is one with this number.
+    pub fn write_node(&self, number: usize, out: &mut CEvent) -> Status
+        ensures { spec.WritesEntry self.now.table number result out.new }
+    {
+        match self.table.entry(number) {
+            Some(entry) => {
+                write_entry(entry, out);
+                Status::Event
+            }
+            None => {
+                *out = blank();
+                Status::End
+            }
+        }
+    }
+}
+
+// A limit is passed at this place.
+fn write_place(place: Marker, out: &mut CEvent) -> Status
+    ensures { spec.WritesPlace place result out.new }
+{
+    *out = bare(0, place, place);
+    Status::TooLarge
+}

@@ -1,0 +1,131 @@
+-- Readers that are at the same place, and where a reader is over a longer text.
+use Rattle.std.proofs.Common.{◌≡◌, ℕ, zero, suc, ◌+◌, List, [], ◌++◌, true, Option, Some, None, refl, sym, ap, subst, ◌∙◌, append_assoc, add-one}
+use Rattle.std.specs.Prelude.{string_bytes}
+use Rattle.std.specs.Str.{chars}
+use Rattle.std.proofs.lemmas.List.{append-nil}
+use Rattle.saphyr_scalar.specs.declared.scalar.position.Span.{Span}
+use Rattle.saphyr_scanner.specs.declared.growth.Growth.{Growth}
+use Rattle.saphyr_scanner.specs.declared.growth.Growth.TheVariants as growth
+use Rattle.saphyr_scanner.specs.Steps.Remaining.{remaining, scan}
+use Rattle.saphyr_scanner.specs.Steps.State.{start, with_rest}
+use Rattle.saphyr_scanner.specs.Views.Scanning.{Scanning, text_in, tokens_in, tokens_over}
+use Rattle.saphyr_machine.specs.declared.reader.EventReader.{EventReader}
+use Rattle.saphyr_machine.specs.Calls.{Advances, AdvancesFrom}
+use Rattle.saphyr_machine.specs.Cursor.{EventCursor, Kept, with_event_handed}
+use Rattle.saphyr_machine.specs.Events.{Happening}
+use Rattle.saphyr_machine.specs.Steps.Machine.{Emitted, emit}
+use Rattle.saphyr_machine.specs.Views.Readers.{cursor, cursor_in, cursor_over, scanning_of}
+use Rattle.saphyr_pieces.specs.declared.owned.OwnedText.{OwnedText}
+use Rattle.saphyr_pieces.specs.declared.pieces.PieceReader.{PieceReader}
+use Rattle.saphyr_pieces.specs.declared.pieces.Source.{Source}
+use Rattle.saphyr_pieces.specs.declared.pieces.Source.TheVariants as source
+use Rattle.saphyr_pieces.specs.Pieces.{Pieces, at, cursor_from, reader_in, wants_more, wants_more_from}
+use Rattle.saphyr_pieces.specs.Views.{AdvancesBy, IsReachedFrom, IsSoundFrom, IsSoundReader, ReadsOnBy, pieces_of}
+
+-- ## The events of a cursor are those of its place
+
+same_event : (a : Option (Happening × Span)) (k : Option Kept) (x y : Happening × Span) (c d e : EventCursor)
+    → AdvancesFrom a k x c d → AdvancesFrom a k y c e → d ≡ e
+same_event (Some next) k x y c d e p q =
+    p.1
+    ∙ ap (λ (z : Happening × Span). with_event_handed z.0 z.1 (record c { current = None })) (sym p.0 ∙ q.0)
+    ∙ sym q.1
+same_event None (Some l) x y c d e p q = absurd p
+same_event None None x y c d e p q =
+    let reported : emit x.0 x.1 d.machine ≡ emit y.0 y.1 e.machine = sym p.0 ∙ q.0 in
+    let same : ◌≡◌ {A = Emitted} (record { what = x.0; span = x.1; machine = d.machine })
+    (record { what = y.0; span = y.1; machine = e.machine }) = cc in
+    p.1
+    ∙ ap (λ (t : Emitted). with_event_handed t.what t.span (record c { machine = t.machine })) same
+    ∙ sym q.1
+
+pub same_place : (n : ℕ) (c d e : EventCursor) → AdvancesBy n c d → AdvancesBy n c e → d ≡ e
+same_place zero c d e p q = p ∙ sym q
+same_place (suc n) c d e (m, before, (x, last)) (o, before', (y, last')) =
+    let middle = same_place n c m o before before' in
+    same_event m.current m.kept x y m d e last (subst (λ (v : EventCursor). Advances y v e) (sym middle) last')
+
+-- a copy that leads to two readers by as many events
+pub same_readers : (n : ℕ) (copy a b : EventReader OwnedText) → ReadsOnBy n copy a → ReadsOnBy n copy b
+    → (more : List ℕ) → cursor_in more b ≡ cursor_in more a
+same_readers n copy a b p q more =
+    same_place n (cursor_in more copy) (cursor_in more b) (cursor_in more a) (q more) (p more)
+
+pub one_more : (copy : Option (EventReader OwnedText)) (n m : ℕ) (from to : EventReader OwnedText) → m ≡ n + 1
+    → IsReachedFrom copy n from
+    → ((more : List ℕ) → (e : Happening × Span) × Advances e (cursor_in more from) (cursor_in more to))
+    → IsReachedFrom copy m to
+one_more None n m from to is reached steps = tt
+one_more (Some copy) n m from to is reached steps = λ more.
+    subst (λ (k : ℕ). AdvancesBy k (cursor_in more copy) (cursor_in more to)) (sym (is ∙ add-one n))
+    (cursor_in more from, reached more, steps more)
+
+-- ## Over another text
+
+-- the tokens of a scanner that has read nothing, if these characters come
+pub begun : (s : Scanning) (rest text : List ℕ) (limit : ℕ) → s.state ≡ with_rest rest (start [])
+    → s.limit ≡ limit → s.growth ≡ growth.Growing → rest ≡ [] → tokens_in text s ≡ scan limit text
+unfolding tokens_in tokens_over
+begun s rest text limit at_start same grows nothing =
+    (λ i. remaining (same i) (with_rest (text_in (grows i) text (at_start i).core.cursor.rest) (at_start i)))
+    ∙ ap (λ (r : List ℕ). remaining limit (with_rest (r ++ text) (with_rest r (start [])))) nothing
+
+-- what is left of a text where more of it is taken in, and what comes behind that
+rest_with : (g : Growth) (rest more later : List ℕ)
+    → text_in g later (rest ++ more) ≡ rest ++ (more ++ text_in g later [])
+rest_with growth.Growing rest more later = append_assoc rest more later
+rest_with growth.Whole rest more later = ap (λ (r : List ℕ). rest ++ r) (sym (append-nil more))
+rest_with growth.Starved rest more later = ap (λ (r : List ℕ). rest ++ r) (sym (append-nil more))
+
+pub is_text : (s : Source) → wants_more_from s ≡ true → s ≡ source.Text
+is_text source.Text e = refl
+is_text _ e = absurd (cc)
+
+-- a reader over its text and what came behind that
+module _ (p : PieceReader) (g : Growth) (r : EventReader OwnedText) (rest : List ℕ)
+    (wants : wants_more (pieces_of p) ≡ true) (grows : (scanning_of p.reader).growth ≡ growth.Growing)
+    (seen : scanning_of r
+    ≡ record (scanning_of p.reader) { state = with_rest rest (scanning_of p.reader).state; growth = g })
+    (over : (rest : List ℕ) → cursor_over rest r ≡ cursor_over rest p.reader)
+    (is : rest ≡ (scanning_of p.reader).state.core.cursor.rest ++ chars (string_bytes p.more))
+  where
+    pub takes_in : (later : List ℕ) → cursor_in later r ≡ at (pieces_of p) (text_in g later [])
+    unfolding tokens_in
+    takes_in later =
+        let before = (scanning_of p.reader).state.core.cursor.rest in
+        let more = chars (string_bytes p.more) in
+        ap (λ (s : Scanning). cursor_over (text_in s.growth later s.state.core.cursor.rest) r) seen
+        ∙ over (text_in g later rest)
+        ∙ ap (λ (t : List ℕ). cursor_over (text_in g later t) p.reader) is
+        ∙ ap (λ (t : List ℕ). cursor_over t p.reader) (rest_with g before more later)
+        ∙ ap (λ (h : Growth). cursor_over (text_in h (more ++ text_in g later []) before) p.reader) (sym grows)
+        ∙ ap (λ (s : Source). cursor_from s (pieces_of p) (text_in g later [])) (sym (is_text p.source wants))
+
+-- a reader that goes on, and has no copy to go back to
+module _ (p q : PieceReader) (none : q.copy ≡ None) (kept : (cursor q.reader).kept ≡ (cursor p.reader).kept)
+  where
+    sound_from : (s : Source) → IsSoundFrom s p → IsSoundFrom s q
+    sound_from source.Text h = (
+      kept ∙ h.0,
+      subst (λ (copy : Option (EventReader OwnedText)). IsReachedFrom copy q.events q.reader) (sym none) tt,
+    )
+    sound_from source.Given h = tt
+    sound_from source.Lost h = tt
+
+    pub sound_without_copy : q.source ≡ p.source → (cursor q.reader).current ≡ (cursor p.reader).current
+        → IsSoundReader p → IsSoundReader q
+    sound_without_copy same current h = record {
+      source = subst (λ (s : Source). IsSoundFrom s q) (sym same) (sound_from p.source h.source);
+      current = current ∙ h.current;
+    }
+
+-- more comes behind what came
+module _ (p : Pieces) (more later : List ℕ) where
+  added_from : (s : Source) → wants_more_from s ≡ true
+      → cursor_from s (record p { more = p.more ++ more }) later ≡ cursor_from s p (more ++ later)
+  added_from source.Text wants = ap (λ (t : List ℕ). reader_in t p) (append_assoc p.more more later)
+  added_from _ wants = absurd (cc)
+
+  pub added : (q : Pieces) → wants_more p ≡ true → q ≡ record p { more = p.more ++ more }
+      → at q later ≡ at p (more ++ later)
+  added q wants is = ap (λ (v : Pieces). at v later) is ∙ added_from p.source wants

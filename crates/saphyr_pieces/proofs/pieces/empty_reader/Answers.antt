@@ -1,0 +1,18 @@
+use Rattle.std.proofs.Common.{ap, ◌∙◌}
+use Rattle.std.proofs.lemmas.Str.{chars-nil}
+use Rattle.std.specs.Str.{chars}
+use Rattle.saphyr_scanner.specs.Steps.State.{with_rest}
+use Rattle.saphyr_scanner.specs.Views.Scanning.{Scanning}
+use Rattle.saphyr_machine.specs.Cursor.{at_start}
+use Rattle.saphyr_pieces.proofs.Places.{begun}
+use Rattle.saphyr_pieces.proofs.pieces.empty_reader.Goals as goal
+
+pub returns : goal.returns
+returns c text =
+    c.new-3.ensures.cursor text
+    ∙ ap at_start
+    (begun c.over.result _ text c.args.limit
+    (ap (λ (s : Scanning). s.state) c.over.ensures ∙ ap (with_rest _) c.new-scanner.ensures.state)
+    (ap (λ (s : Scanning). s.limit) c.over.ensures ∙ c.new-scanner.ensures.limit)
+    (ap (λ (s : Scanning). s.growth) c.over.ensures)
+    (c.new-text-2.ensures ∙ ap chars c.new-2.ensures.bytes ∙ chars-nil))

@@ -1,0 +1,91 @@
+//! The copy of a reader that it goes back to, and the events that it handed out since.
+
+ghost use Rattle.std.specs.Prelude.{◌≡◌, IfOk, OnErr, None};
+ghost use Rattle.saphyr_pieces.specs.Views as spec;
+
+use crate::owned::OwnedText;
+use crate::pieces::PieceReader;
+use crate::pieces::waiting::{is_far, weight_behind};
+use saphyr_machine::{Event, EventReader, Fault, Progress, no_event};
+use std::alloc::AllocError;
+use std::mem::replace;
+
+// Reads so many events again.
+fn read_again(reader: &mut EventReader<'static, OwnedText>, events: usize) -> Result<(), AllocError>
+    ensures { IfOk result (λ _. spec.ReadsOnBy events reader.old reader.new) }
+{
+    let mut next = no_event();
+    let mut fault = Fault::OutOfMemory;
+    for _ in 0..events {
+        match reader.advance(&mut next, &mut fault) {
+            Progress::Event => {}
+            Progress::Fault | Progress::Over => return Err(AllocError),
+        }
+    }
+    Ok(())
+}
+
+impl PieceReader {
+    /// Makes a copy to go back to, if there is none, or if it would be long to read from there.
+    pub(super) fn renew_copy(&mut self)
+        requires { spec.IsReachedFrom self.old.copy self.old.events self.old.reader }
+        ensures copied { spec.IsReachedFrom self.new.copy self.new.events self.new.reader }
+        ensures reader { self.new.reader ≡ self.old.reader }
+        ensures more { self.new.more ≡ self.old.more }
+        ensures source { self.new.source ≡ self.old.source }
+    {
+        let left = self.reader.input().as_str().len();
+        if self.copy.is_none() || is_far(self.copied, left) {
+            self.make_copy(left);
+        }
+    }
+
+    // Makes a copy, whose text has so many bytes. If memory runs out, there is none, or the old one.
+    #[inline(never)]
+    fn make_copy(&mut self, left: usize)
+        requires { spec.IsReachedFrom self.old.copy self.old.events self.old.reader }
+        ensures copied { spec.IsReachedFrom self.new.copy self.new.events self.new.reader }
+        ensures reader { self.new.reader ≡ self.old.reader }
+        ensures more { self.new.more ≡ self.old.more }
+        ensures source { self.new.source ≡ self.old.source }
+    {
+        if let Ok(copy) = self.reader.try_clone() {
+            drop(self.copy.replace(copy));
+            self.events = 0;
+            self.copied = left;
+        }
+    }
+
+    /// Counts an event that was handed out.
+    pub(super) fn count(&mut self, event: &Event<'static>)
+        ensures copied { spec.CountsOne self.old.copy self.old.events self.new.copy
+            self.new.events }
+        ensures reader { self.new.reader ≡ self.old.reader }
+        ensures more { self.new.more ≡ self.old.more }
+        ensures source { self.new.source ≡ self.old.source }
+    {
+        self.weight = weight_behind(event, self.weight);
+        match self.events.checked_add(1) {
+            Some(events) => self.events = events,
+            None => drop(self.copy.take()),
+        }
+    }
+
+    /// Goes back to the copy, and reads its events again. If memory runs out, the reader stays.
+    pub(super) fn go_back(&mut self) -> Result<(), AllocError>
+        ensures back { IfOk result
+            (λ _. spec.GoesBack self.old.copy self.old.events self.new.reader) }
+        ensures copy { self.new.copy ≡ None }
+        ensures more { self.new.more ≡ self.old.more }
+        ensures source { self.new.source ≡ self.old.source }
+        ensures same { OnErr result (self.new.reader ≡ self.old.reader) }
+    {
+        let Some(mut copy) = self.copy.take() else {
+            return Err(AllocError);
+        };
+        read_again(&mut copy, self.events)?;
+        drop(replace(&mut self.reader, copy));
+        self.starved = true;
+        Ok(())
+    }
+}

@@ -1,0 +1,71 @@
+//! What waits for more of the text: how much that is, and when the reader looks at it again.
+
+ghost use Rattle.std.specs.Prelude.{◌≡◌, ◌≤◌, length};
+ghost use Rattle.saphyr_pieces.specs.Pieces.{waiting};
+ghost use Rattle.saphyr_pieces.specs.Views as spec;
+
+use crate::pieces::PieceReader;
+use saphyr_machine::Event;
+
+/// How many bytes are little to read again. If more wait, they wait until as many came.
+const LITTLE: usize = 256;
+
+/// How many bytes of a text take as long to read as an open collection, or an anchor, takes to copy.
+const OPEN_WEIGHT: usize = 1;
+
+const ANCHOR_WEIGHT: usize = 4;
+
+/// How many bytes of a text take as long to read as a reader takes to copy, at least.
+const COPY_WEIGHT: usize = 64;
+
+/// Whether a reader has read so much since a copy that a new one pays: half of the copy's text, and not just a little.
+pub(super) fn is_far(copied: usize, left: usize) -> bool {
+    left < copied / 2 && copied - left >= COPY_WEIGHT
+}
+
+// Whether what came may well decide an event: a line ends, or a bracket closes, or a document begins.
+fn may_decide(came: &str) -> bool {
+    let ends = |b| matches!(b, b'\n' | b'\r' | b']' | b'}');
+    came.len() > 3 && came.starts_with("---") || came.bytes().any(ends)
+}
+
+/// What there is to copy behind an event.
+pub(super) fn weight_behind(event: &Event<'_>, weight: usize) -> usize {
+    match event {
+        Event::SequenceStart(id, _) | Event::MappingStart(id, _) => weight
+            .saturating_add(OPEN_WEIGHT)
+            .saturating_add(if *id > 0 { ANCHOR_WEIGHT } else { 0 }),
+        Event::Scalar(_, _, id, _) if *id > 0 => weight.saturating_add(ANCHOR_WEIGHT),
+        Event::SequenceEnd | Event::MappingEnd => weight.saturating_sub(OPEN_WEIGHT),
+        Event::DocumentEnd => 0,
+        _ => weight,
+    }
+}
+
+impl PieceReader {
+    /// Whether the reader should try again. Nothing depends on it but when an event comes, and how long that takes.
+    pub(super) fn has_enough(&self) -> bool {
+        let left = self.reader.input().as_str().len();
+        let waits = left.saturating_add(self.weight);
+        let came = self.more.len();
+        came >= waits.max(LITTLE)
+            || waits < LITTLE && may_decide(&self.more)
+            || left <= self.look_past && self.look_past - left < came
+    }
+
+    /// Has the reader try again as soon as more bytes wait than these, even if less came than waited before.
+    pub(crate) fn look_past(&mut self, bytes: usize)
+        requires { spec.IsSoundReader self.old }
+        ensures same { spec.pieces_of self.new ≡ spec.pieces_of self.old }
+        ensures sound { spec.IsSoundReader self.new }
+    {
+        self.look_past = bytes;
+    }
+
+    /// How many bytes wait: those that came and of which no event was handed out.
+    pub(crate) fn waiting(&self) -> usize
+        ensures { length (waiting (spec.pieces_of self.now)) ≤ result }
+    {
+        self.reader.input().as_str().len() + self.more.len()
+    }
+}

@@ -1,0 +1,13 @@
+-- The first token is taken.
+use Rattle.saphyr_scanner.specs.Views.Engine.{state}
+use Rattle.saphyr_scanner.proofs.Turns.{first_in}
+use Rattle.saphyr_scanner.proofs.scanner.Scanner.skip_into.Goals as goal
+
+pub returns-clause-span : goal.returns-clause-span
+returns-clause-span g c more t left is =
+    c.skip_into.ensures.span t (first_in c.self.view_is c.requires more t left is).0
+
+pub returns-clause-left : goal.returns-clause-left
+returns-clause-left g c more t left is =
+    (first_in c.self.view_is c.requires more t left is).1 (state c.skip_into.new.self) c.skip_into.new.self.stop
+    c.skip_into.ensures.left

@@ -1,0 +1,15 @@
+-- The text of the first token is taken.
+use Rattle.std.proofs.Common.{rules}
+use Rattle.saphyr_scanner.specs.Views.Engine.{state}
+use Rattle.saphyr_scanner.proofs.Turns.{first_in}
+use Rattle.saphyr_scanner.proofs.scanner.Scanner.take_text_into.Goals as goal
+
+pub returns-clause-text : goal.returns-clause-text
+returns-clause-text g c more t left text is of =
+    c.take_text_into.ensures.text t text (first_in c.self.view_is c.requires more t left is).0 of
+
+pub returns-clause-left : goal.returns-clause-left
+returns-clause-left g c more t left is =
+    let after = (first_in c.self.view_is c.requires more t left is).1 (state c.take_text_into.new.self)
+    c.take_text_into.new.self.stop in
+    search (rules, after)

@@ -1,0 +1,271 @@
+/*
+ * Trees through the C face. Reads framed texts as `cases` does, loads each, and compares its trees with its events: what
+ * is told of each node, its places, its parts by index and by key, and the nodes of anchors. Loads each short text with
+ * every request for memory refused in turn. Misuses the calls. Prints what is wrong, and how many nodes there were, and
+ * how many requests were refused. It is linked with --wrap for malloc, realloc and free.
+ */
+#include "saphyr_parser.h"
+
+#include <stdio.h>
+#include <stdlib.h>
+#include <string.h>
+
+enum { LARGE = 1000000, SHORT = 60 };
+
+void *__real_malloc(size_t count);
+void *__real_realloc(void *block, size_t count);
+void __real_free(void *block);
+
+static int failed = 0;
+static size_t nodes = 0, refused = 0;
+
+/* How many requests are granted before the refused one, -1 where none is refused; and how many blocks aren't freed. */
+static long granted = -1, blocks;
+static bool was_refused;
+
+static bool is_refused(void) {
+    if (granted < 0 || granted-- > 0) {
+        return false;
+    }
+    was_refused = true;
+    return true;
+}
+
+void *__wrap_malloc(size_t count) {
+    void *block = is_refused() ? NULL : __real_malloc(count);
+    blocks += block != NULL;
+    return block;
+}
+
+void *__wrap_realloc(void *block, size_t count) {
+    void *moved = is_refused() ? NULL : __real_realloc(block, count);
+    blocks += moved != NULL && !block;
+    return moved;
+}
+
+void __wrap_free(void *block) {
+    blocks -= block != NULL;
+    __real_free(block);
+}
+
+static void fail(const char *what) {
+    printf("%s\n", what);
+    failed = 1;
+}
+
+static bool is_same_text(saphyr_text a, saphyr_text b) {
+    return (a.at == NULL) == (b.at == NULL) && a.len == b.len && (a.len == 0 || memcmp(a.at, b.at, a.len) == 0);
+}
+
+static bool is_same_place(saphyr_marker a, saphyr_marker b) {
+    return a.index == b.index && a.line == b.line && a.col == b.col;
+}
+
+/* What is told of a node is the event, but for its end. */
+static bool is_same(const saphyr_event *a, const saphyr_event *b) {
+    return a->kind == b->kind && a->style == b->style && a->is_explicit == b->is_explicit && a->has_tag == b->has_tag &&
+           a->anchor == b->anchor && is_same_place(a->start, b->start) && is_same_text(a->value, b->value) &&
+           is_same_text(a->tag_handle, b->tag_handle) && is_same_text(a->tag_suffix, b->tag_suffix);
+}
+
+/* Looks up each key of a mapping. The first of equal keys counts. */
+static void check_keys(saphyr_parser *trees, saphyr_node node) {
+    for (size_t at = 0; at < saphyr_count(trees, node); at++) {
+        saphyr_event key = {0}, other = {0};
+        saphyr_describe(trees, saphyr_key(trees, node, at), &key);
+        if (key.kind != SAPHYR_SCALAR) {
+            continue;
+        }
+        size_t first = 0;
+        while (saphyr_describe(trees, saphyr_key(trees, node, first), &other) == SAPHYR_EVENT &&
+               !(other.kind == SAPHYR_SCALAR && is_same_text(key.value, other.value))) {
+            first++;
+        }
+        saphyr_node found = saphyr_get(trees, node, (const char *)key.value.at, key.value.len);
+        if (found != saphyr_value(trees, node, first)) {
+            fail("a key is looked up wrongly");
+        }
+    }
+}
+
+/* Goes through a node beside the events of its text, of which the first one is the parser's next. */
+static void check_node(saphyr_parser *trees, saphyr_node node, saphyr_parser *parser) {
+    saphyr_event told = {0}, event = {0};
+    nodes++;
+    if (saphyr_describe(trees, node, &told) != SAPHYR_EVENT || saphyr_next(parser, &event) != SAPHYR_EVENT ||
+        !is_same(&told, &event)) {
+        fail("a node is told wrongly");
+        return;
+    }
+    if (event.anchor && event.kind != SAPHYR_ALIAS && saphyr_anchored(trees, event.anchor) != node) {
+        fail("an anchor leads to another node");
+    }
+    if (event.kind == SAPHYR_SEQUENCE_START || event.kind == SAPHYR_MAPPING_START) {
+        bool pairs = event.kind == SAPHYR_MAPPING_START;
+        size_t count = saphyr_count(trees, node);
+        for (size_t at = 0; at < count; at++) {
+            check_node(trees, pairs ? saphyr_key(trees, node, at) : saphyr_item(trees, node, at), parser);
+            if (pairs) {
+                check_node(trees, saphyr_value(trees, node, at), parser);
+            }
+        }
+        if (saphyr_item(trees, node, pairs ? 0 : count) != SAPHYR_NO_NODE ||
+            saphyr_key(trees, node, pairs ? count : 0) != SAPHYR_NO_NODE ||
+            saphyr_value(trees, node, SIZE_MAX) != SAPHYR_NO_NODE) {
+            fail("a part is found that isn't there");
+        }
+        check_keys(trees, node);
+        saphyr_next(parser, &event);
+        if (event.kind != (pairs ? SAPHYR_MAPPING_END : SAPHYR_SEQUENCE_END)) {
+            fail("a collection has other parts");
+        }
+    }
+    if (!is_same_place(told.end, event.end)) {
+        fail("a node ends at another place");
+    }
+}
+
+/* Compares the trees of a text with its events. */
+static void check(const uint8_t *text, size_t len, bool keep_tags) {
+    saphyr_parser trees = {0}, parser = {0};
+    saphyr_event event = {0}, fault = {0};
+    size_t document = 0;
+    int32_t status;
+    if (saphyr_new(text, len, keep_tags, &trees) || saphyr_new(text, len, keep_tags, &parser)) {
+        fail("no parser");
+        return;
+    }
+    int32_t loaded = saphyr_load(&trees, LARGE, LARGE, &fault);
+    if (loaded == SAPHYR_OK) {
+        while ((status = saphyr_next(&parser, &event)) == SAPHYR_EVENT) {
+            if (event.kind == SAPHYR_DOCUMENT_START) {
+                saphyr_node root = saphyr_root(&trees, document);
+                check_node(&trees, root, &parser);
+                if (saphyr_expanded(&trees, document) == 0) {
+                    fail("a document has no nodes");
+                }
+                document++;
+            }
+        }
+    } else {
+        while ((status = saphyr_next(&parser, &event)) == SAPHYR_EVENT) {
+        }
+        if (loaded != status || !is_same(&fault, &event)) {
+            fail("a refusal is told wrongly");
+        }
+    }
+    if (saphyr_root(&trees, document) != SAPHYR_NO_NODE || saphyr_expanded(&trees, document) != 0) {
+        fail("there is a document more");
+    }
+    saphyr_free(&trees);
+    saphyr_free(&parser);
+}
+
+/* Loads a text with each request for memory refused in turn. Then there are no trees, and nothing is left. */
+static void refuse_each(const uint8_t *text, size_t len) {
+    for (long number = 0; failed == 0; number++) {
+        saphyr_parser trees = {0};
+        saphyr_event event = {0};
+        long before = blocks;
+        was_refused = false;
+        granted = number;
+        int32_t status = saphyr_new(text, len, false, &trees);
+        if (status == SAPHYR_OK) {
+            status = saphyr_load(&trees, LARGE, LARGE, &event);
+            if (status != SAPHYR_OK && saphyr_root(&trees, 0) != SAPHYR_NO_NODE) {
+                fail("there are trees without memory");
+            }
+        }
+        granted = -1;
+        saphyr_free(&trees);
+        if (was_refused && status != SAPHYR_NO_MEMORY) {
+            fail("a want of memory is not told");
+        }
+        if (blocks != before) {
+            fail("memory is not freed");
+        }
+        if (!was_refused) {
+            return;
+        }
+        refused++;
+    }
+}
+
+static void expect(int64_t found, int64_t wanted, const char *what) {
+    if (found != wanted) {
+        printf("%s: %lld, and not %lld\n", what, (long long)found, (long long)wanted);
+        failed = 1;
+    }
+}
+
+static int32_t load(const char *text, size_t most, size_t depth, saphyr_parser *trees, saphyr_event *event) {
+    expect(saphyr_new((const uint8_t *)text, strlen(text), false, trees), SAPHYR_OK, "a text");
+    return saphyr_load(trees, most, depth, event);
+}
+
+/* Nothing is found without trees. */
+static void expect_no_trees(saphyr_parser *trees, int32_t status) {
+    saphyr_event event = {0};
+    event.kind = SAPHYR_SCALAR;
+    expect(saphyr_describe(trees, 0, &event), status, "a node of no trees");
+    expect(event.kind, SAPHYR_NOTHING, "an event of no node");
+    expect(saphyr_root(trees, 0) == SAPHYR_NO_NODE, true, "a root of no trees");
+    expect((int64_t)saphyr_expanded(trees, 0), 0, "an expanded document of no trees");
+    expect((int64_t)saphyr_count(trees, 0), 0, "parts of no node");
+    expect(saphyr_item(trees, 0, 0) == SAPHYR_NO_NODE, true, "an item of no node");
+    expect(saphyr_key(trees, 0, 0) == SAPHYR_NO_NODE, true, "a key of no node");
+    expect(saphyr_value(trees, SAPHYR_NO_NODE, 0) == SAPHYR_NO_NODE, true, "a value of no node");
+    expect(saphyr_get(trees, 0, "a", 1) == SAPHYR_NO_NODE, true, "a look-up in no node");
+    expect(saphyr_get(trees, 0, NULL, 0) == SAPHYR_NO_NODE, true, "a look-up of nothing in no node");
+    expect(saphyr_anchored(trees, 1) == SAPHYR_NO_NODE, true, "the node of an anchor in no trees");
+}
+
+static void misuse(void) {
+    saphyr_parser trees = {0}, copy = {0};
+    saphyr_event event = {0};
+    expect(saphyr_load(&trees, 1, 1, &event), SAPHYR_NO_PARSER, "loading without a parser");
+    expect_no_trees(&trees, SAPHYR_NO_PARSER);
+    expect(load("[a, b]", 3, 1, &trees, &event), SAPHYR_OK, "three nodes");
+    expect(saphyr_load(&trees, 3, 1, &event), SAPHYR_LATE, "loading twice");
+    expect_no_trees(&trees, SAPHYR_END);
+    expect(load("[a, b]", 2, 1, &trees, &event), SAPHYR_TOO_LARGE, "a node too many");
+    expect((int64_t)event.start.col, 4, "where a node is too many");
+    expect_no_trees(&trees, SAPHYR_END);
+    expect(load("[[a]]", 3, 1, &trees, &event), SAPHYR_TOO_LARGE, "a collection too deep");
+    expect(load("[a", 9, 9, &trees, &event), SAPHYR_REFUSED, "a text that is refused");
+    expect(event.value.len > 0, true, "why a text is refused");
+    expect(load("a: &x [b]\nc: *x\n", 9, 9, &trees, &event), SAPHYR_OK, "an alias");
+    expect((int64_t)saphyr_expanded(&trees, 0), 7, "a document once it is expanded");
+    expect(saphyr_get(&trees, saphyr_root(&trees, 0), "\xff", 1) == SAPHYR_NO_NODE, true, "a key that is not UTF-8");
+    expect(saphyr_clone(&trees, &copy), SAPHYR_OK, "a clone");
+    expect_no_trees(&copy, SAPHYR_END);
+    expect(saphyr_get(&trees, saphyr_get(&trees, 7, "z", 1), "z", 1) == SAPHYR_NO_NODE, true, "nested look-ups");
+    expect(saphyr_new((const uint8_t *)"a", 1, false, &trees), SAPHYR_OK, "a text after trees");
+    expect_no_trees(&trees, SAPHYR_END);
+    expect(saphyr_next(&trees, &event), SAPHYR_EVENT, "an event");
+    expect(saphyr_load(&trees, 9, 9, &event), SAPHYR_LATE, "loading after an event");
+    expect(saphyr_next(&trees, &event), SAPHYR_EVENT, "an event after that");
+    expect(saphyr_new_pieces(false, 0, 0, &trees), SAPHYR_OK, "pieces");
+    expect(saphyr_load(&trees, 9, 9, &event), SAPHYR_LATE, "loading pieces");
+    saphyr_free(&trees);
+    saphyr_free(&copy);
+}
+
+int main(void) {
+    int keeps_tags;
+    size_t len;
+    misuse();
+    while (scanf("%d %zu", &keeps_tags, &len) == 2 && getchar() == '\n') {
+        uint8_t *text = malloc(len + 1);
+        if (text == NULL || fread(text, 1, len, stdin) != len) {
+            return 2;
+        }
+        check(text, len, keeps_tags);
+        if (len <= SHORT) {
+            refuse_each(text, len);
+        }
+        free(text);
+    }
+    printf("%zu nodes, %zu requests refused\n", nodes, refused);
+    return failed;
+}

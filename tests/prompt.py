@@ -1,0 +1,110 @@
+"""When an event has to be there, if a text is added line by line: the rule of docs/FACES.md, "From a pipe".
+
+1. The line of a `---` or a `...` brings its own event, and all before it.
+2. An event that has characters of its own comes at the latest with the line in which the next such event begins. One
+   that has none, or begins with the next one, comes with that.
+3. A collection in brackets that may be a key counts as one event. It may be one if neither `---` nor a key's colon is
+   before it on its line.
+4. Where 256 bytes or more wait by then, as many may have to come again first.
+
+Behind a NUL, which a text may not have, nothing has to be there.
+"""
+import collections
+import re
+
+LITTLE = 256
+PLACES = re.compile(r"> (.*) @ (\d+),\d+,\d+ (\d+),\d+,\d+")
+BRACKET = re.compile(rb"[][{}]")
+NO_KEY = re.compile(rb"(^---|[^\s,?:[{-]:)[ \t]*$")
+
+Event = collections.namedtuple("Event", "name start end")
+
+
+def events_of(case):
+    """The events of a case, with their places in bytes."""
+    behind = [0]
+    for character in case.text:
+        behind.append(behind[-1] + len(character.encode()))
+    for told in filter(None, map(PLACES.fullmatch, case.block.split("\n"))):
+        yield Event(told[1], *(behind[min(int(it), len(behind) - 1)] for it in told.groups()[1:]))
+
+
+def is_marker(event, text):
+    return event.name in ("+DOC ---", "-DOC") and text[event.start : event.end] in (b"---", b"...")
+
+
+def is_bracket(event, text):
+    return event.name[1:4] in ("SEQ", "MAP") and BRACKET.search(text[event.start : event.end])
+
+
+def has_own(event, text):
+    """Whether an event has characters of its own. Others take their places from what is behind them."""
+    is_scalar = event.name[0] == "=" and not event.name.endswith(" :")
+    return is_scalar or is_bracket(event, text) or is_marker(event, text)
+
+
+def closing(events, at):
+    """The event that ends the collection which begins there."""
+    depth = 0
+    for end in range(at, len(events)):
+        depth += (events[end].name[0] == "+") - (events[end].name[0] == "-")
+        if depth == 0:
+            return end
+    return len(events) - 1
+
+
+def holders(events, text):
+    """For each event the last one that it waits for: itself, or the end of a collection that may be a key."""
+    held = list(range(len(events)))
+    at = 0
+    while at < len(events):
+        event, end = events[at], at
+        bracket = event.name[0] == "+" and is_bracket(event, text)
+        if bracket:
+            line = text[: event.start].rpartition(b"\n")[2]
+            in_line = b"\n" not in text[event.start : event.start + bracket.start()]
+            end = at if in_line and NO_KEY.search(line) else closing(events, at)
+        held[at : end + 1] = [end] * (end + 1 - at)
+        at = end + 1
+    return held
+
+
+def line_end(text, at):
+    """Behind the line of a place, or further than the text."""
+    end = text.find(b"\n", at)
+    return len(text) + 1 if end < 0 else end + 1
+
+
+def due(case):
+    """Yields how many bytes may have come before each event comes. Behind the text its end brings all."""
+    text, events = case.text.encode(), list(events_of(case))
+    held, dues, waits_from = holders(events, text), [len(text) + 1] * len(events), 0
+    for at in reversed(range(len(events))):
+        end = events[held[at]].end
+        later = next((it for it in events[held[at] + 1 :] if it.start >= end and has_own(it, text)), None)
+        if is_marker(events[at], text):
+            dues[at] = line_end(text, events[at].start)
+        elif not has_own(events[at], text):
+            dues[at] = dues[at + 1] if at + 1 < len(events) else dues[at]
+        elif later:
+            dues[at] = line_end(text, later.start)
+        dues[at] = min(dues[at : at + 2])
+    for at, event in enumerate(events):
+        waits = dues[at] - waits_from
+        yield len(text) + 1 if b"\0" in text[: dues[at]] else dues[at] + (waits if waits >= LITTLE else 0)
+        waits_from = max(waits_from, event.end)
+
+
+def late(case, lines):
+    """The first event that was not there when it was due, and how many bytes had come. The lines are what `pieces lines`
+    printed."""
+    dues = list(due(case))
+    given = came = 0
+    for line in lines:
+        if line.startswith("~ "):
+            if given < len(dues) and dues[given] <= came:
+                return given, came
+            came = int(line[2:])
+        elif line.startswith("> "):
+            given += 1
+    return None
