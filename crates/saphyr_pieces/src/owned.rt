@@ -1,23 +1,22 @@
 //! An input that owns its text, so that a reader of it can be kept while more of the text comes.
 
-ghost use Rattle.std.specs.Prelude.{◌≡◌, ℕ, drop, string_bytes};
+ghost use Rattle.std.specs.Prelude.{◌≡◌, ◌≤◌, ℕ, drop, string_bytes};
 ghost use Rattle.std.specs.Str.{chars, IsCharBoundary};
 
 use saphyr_input::input::{CloneInput, Input, SkipTabs};
 use saphyr_input::{CharSet, StrInput, WordSet};
 use std::alloc::{AllocError, Global};
 
-/// How many places are loaded.
-const WINDOW: usize = 128;
-
-/// The rest of a text that the input owns. It is read as by a `StrInput`, and all its places are loaded.
+/// The rest of a text that the input owns. It is read as by a `StrInput`.
 #[derive(Drop)]
 pub struct OwnedText {
     text: String,
     // Where the rest begins.
     start: usize,
+    loaded: usize,
     alloc: Global,
     ghost boundary: { IsCharBoundary (string_bytes text) start },
+    ghost within: { loaded ≤ 128 },
 }
 
 // Where the end of a text begins that was left of what follows `start`.
@@ -32,13 +31,14 @@ fn start_of(text: &str, start: usize, left: &str) -> usize
 }
 
 impl OwnedText {
-    /// The whole of a text.
+    /// The whole of a text, with no place loaded.
     pub fn new(alloc: Global, text: String) -> OwnedText
         ensures { ⟦<OwnedText as Input>⟧.rest result ≡ chars (string_bytes text) }
     {
         OwnedText {
             text,
             start: 0,
+            loaded: 0,
             alloc,
         }
     }
@@ -56,10 +56,11 @@ impl OwnedText {
     fn rest<'a>(&'a self) -> StrInput<'a>
         ensures rest { ⟦<StrInput<'a> as Input>⟧.rest result
             ≡ ⟦<OwnedText as Input>⟧.rest self.now }
-        ensures loaded { ⟦<StrInput<'a> as Input>⟧.loaded result ≡ 128 }
+        ensures loaded { ⟦<StrInput<'a> as Input>⟧.loaded result
+            ≡ ⟦<OwnedText as Input>⟧.loaded self.now }
     {
         let mut rest = StrInput::new(self.as_str());
-        rest.lookahead(WINDOW);
+        rest.lookahead(self.loaded);
         rest
     }
 }
@@ -71,31 +72,43 @@ impl Input for OwnedText {
 
     ghost rest = { λ s. chars (drop s.start (string_bytes s.text)) };
 
-    ghost loaded = { λ _. 128 };
+    ghost loaded = { λ s. s.loaded };
 
     ghost window = { 128 };
 
     ghost wide = { lit≤ tt };
 
-    fn lookahead(&mut self, _count: usize) {
+    #[inline]
+    fn lookahead(&mut self, count: usize) {
         // There are fewer than 2^64 bytes, and no more characters than bytes.
         let _ = self.as_str().as_bytes();
+        if self.loaded < count {
+            self.loaded = count;
+        }
     }
 
+    #[inline]
     fn buflen(&self) -> usize {
-        WINDOW
+        self.loaded
     }
 
+    #[inline]
     fn bufmaxlen(&self) -> usize {
-        WINDOW
+        self.rest().bufmaxlen()
     }
 
     fn raw_read_ch(&mut self) -> char {
-        unreachable!()
+        let mut rest = self.rest();
+        let c = rest.raw_read_ch();
+        self.start = start_of(&self.text, self.start, rest.as_str());
+        c
     }
 
     fn raw_read_non_breakz_ch(&mut self) -> Option<char> {
-        unreachable!()
+        let mut rest = self.rest();
+        let c = rest.raw_read_non_breakz_ch();
+        self.start = start_of(&self.text, self.start, rest.as_str());
+        c
     }
 
     #[inline]
@@ -156,6 +169,7 @@ impl Input for OwnedText {
 
     #[inline(always)]
     fn skip_ws_to_eol(&mut self, skip_tabs: SkipTabs) -> (usize, Result<SkipTabs, &'static str>) {
+        self.lookahead(1);
         let mut rest = self.rest();
         let skipped = rest.skip_ws_to_eol(skip_tabs);
         self.start = start_of(&self.text, self.start, rest.as_str());
@@ -168,6 +182,7 @@ impl Input for OwnedText {
     }
 
     fn skip_while<C: CharSet>(&mut self) -> usize {
+        self.lookahead(1);
         let mut rest = self.rest();
         let count = rest.skip_while::<C>();
         self.start = start_of(&self.text, self.start, rest.as_str());
@@ -175,6 +190,7 @@ impl Input for OwnedText {
     }
 
     fn fetch_while<C: CharSet>(&mut self, out: &mut String) -> Result<usize, AllocError> {
+        self.lookahead(1);
         let mut rest = self.rest();
         let fetched = rest.fetch_while::<C>(out);
         self.start = start_of(&self.text, self.start, rest.as_str());
@@ -183,6 +199,7 @@ impl Input for OwnedText {
 
     #[inline(always)]
     fn fetch_words<C: WordSet>(&mut self, out: &mut String) -> Result<(usize, char), AllocError> {
+        self.lookahead(1);
         let mut rest = self.rest();
         let fetched = rest.fetch_words::<C>(out);
         self.start = start_of(&self.text, self.start, rest.as_str());
@@ -199,16 +216,17 @@ impl Input for OwnedText {
 }
 
 impl Clone for OwnedText {
-    ghost is_clone = { λ s t. ⟦<OwnedText as Input>⟧.rest t ≡ ⟦<OwnedText as Input>⟧.rest s };
+    ghost is_clone = { λ s t. (⟦<OwnedText as Input>⟧.rest t ≡ ⟦<OwnedText as Input>⟧.rest s)
+        × (t.loaded ≡ s.loaded) };
 
     fn clone(&self) -> Result<Self, AllocError> {
         let text = String::from_str(self.alloc, self.as_str())?;
-        Ok(OwnedText::new(self.alloc, text))
+        let mut copy = OwnedText::new(self.alloc, text);
+        copy.loaded = self.loaded;
+        Ok(copy)
     }
 }
 
 impl CloneInput for OwnedText {
-    ghost use Rattle.std.specs.Prelude.{refl};
-
-    ghost faithful = { λ _ _ same. (same, refl) };
+    ghost faithful = { λ _ _ same. same };
 }
