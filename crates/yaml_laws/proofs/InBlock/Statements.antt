@@ -112,7 +112,7 @@ ReadsKey limit node = (f : Frame) (m : Marker) (t o : List ℕ) (n : Blanks) →
     → (start : State) (ts : List Kind) → (v : At limit start f m (t ++ (n.text ++ (58 ∷ o))) ts) → v.allowed ≡ true
     → KeyRead limit start node f m (moved m (t ++ n.text)) o ts
 
--- Properties before a block collection on the next lines were read, up to its first token at m.
+-- What comes before a block collection was read, its properties among it, up to its first token at m.
 pub record PropertiesRead (limit : ℕ) (start : State) (p : Properties) (f : Frame) (m : Marker) (y : List ℕ)
     (ts : List Kind) : Type 0 where
   pub tokens : List Kind

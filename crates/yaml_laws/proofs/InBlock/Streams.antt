@@ -22,7 +22,7 @@ use Rattle.yaml_laws.proofs.Documents.Markers.{reads_mark, reads_end, FinishesSt
 use Rattle.yaml_laws.proofs.InBlock.States.{crosses}
 use Rattle.yaml_laws.proofs.InBlock.Follows.{follows_itself}
 use Rattle.yaml_laws.proofs.InBlock.Statements.{ReadsLeaves}
-use Rattle.yaml_laws.proofs.InBlock.Documents.Ends.{plain_behind, AreBlockDocuments, HasNoReturn, suffix_text, lands_behind, marks_text}
+use Rattle.yaml_laws.proofs.InBlock.Documents.Ends.{AreBlockDocuments, HasNoReturn, suffix_text, follows_document, marks_text}
 use Rattle.yaml_laws.proofs.InBlock.Documents.{reads_document}
 use Rattle.yaml_laws.proofs.InBlock.Documents.Comes.{ComesIn, comes_so, comes_behind_filler, comes_behind_mark, comes_behind_end, document_comes}
 use Rattle.yaml_laws.proofs.InBlock.LineStarts.{no_line, last_unmarked}
@@ -175,8 +175,8 @@ reads_documents {limit = limit} {start = start} readers leaves (d ∷ ds) free t
     (filler, document, others, filler_is, is, behind, e) clean v =
     let first = passes_filler filler (document ++ others) filler_is (lined_so e v) in
     let left = back_in _ filler (document ++ others) (rw e at clean) in
-    let n = reads_document readers leaves d free document others ts is (lands_behind leaves ds others behind)
-    (plain_behind ds others behind) (front_in _ document others left) first in
+    let n = reads_document readers leaves d free document others ts is
+    (follows_document leaves ds others behind) (front_in _ document others left) first in
     let f = reads_behind ds (reads_documents readers leaves ds) others (ts ++ n.tokens) behind
     (back_in _ document others left) n.stands in
     record {

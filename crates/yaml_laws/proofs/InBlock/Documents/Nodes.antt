@@ -32,7 +32,7 @@ use Rattle.yaml_laws.proofs.InBlock.Parts.{StartsLine, starts_behind}
 use Rattle.yaml_laws.proofs.InBlock.Nodes.{reads_node}
 use Rattle.saphyr_scalar.proofs.Given.{cursor_at}
 use Rattle.std.proofs.lemmas.Bool.{eq-eqb}
-use Rattle.yaml_laws.proofs.InBlock.Documents.Ends.{HasNoReturn, Lands, IsPlainBehind}
+use Rattle.yaml_laws.proofs.InBlock.Documents.Ends.{HasNoReturn, FollowsDocument}
 
 -- ## The text of a node is clear
 
@@ -100,12 +100,11 @@ sum_within i l j k limit e h = omega (arith, e, h)
 
 pub reads_root : {limit : ℕ} {start : State} {P : Marker → Bool → Type 0} → ReadsLeaves limit → (place : Position)
     → indent_at place ≡ 0 → (node : Node) (t others : List ℕ) (ts : List Kind)
-    → IsBlockNode most_open node place t others → ((m : Marker) → AtLine others m → Lands m others)
-    → IsPlainBehind others → (v : StandsInStream limit start true P (t ++ others) ts)
+    → IsBlockNode most_open node place t others → FollowsDocument others → (v : StandsInStream limit start true P (t ++ others) ts)
     → FitsOnLines limit v.mark t others → IsPlaced place v.mark
     → ((is_compact place || crosses (t ++ others)) ≡ true → (crosses v.there.rest || v.allowed) ≡ true)
     → NodeStands limit start node place others ts
-reads_root {limit} {start} leaves place flat_place node t others ts h lands plain v fits placed opens =
+reads_root {limit} {start} leaves place flat_place node t others ts h follows v fits placed opens =
     let q = past 0 v.mark (t ++ others) in
     let n : Moment = record {
       cursor = v.there;
@@ -139,7 +138,7 @@ reads_root {limit} {start} leaves place flat_place node t others ts h lands plai
     let ends = node_ends leaves node place t others h in
     let m = moved v.mark t in
     let line = lined m others (starts_behind v.mark t others ends) in
-    let behind : EndsNodeAt 0 m others = record { left = inl (lands m line); clean = plain.clean } in
+    let behind : EndsNodeAt 0 m others = record { left = inl (follows.lands m line); clean = follows.clean } in
     let r = reads_node leaves node place root (sym flat_place) v.mark t others h fits behind start ts before in
     let u = r.arrived.at in
     let p = past 0 m others in
@@ -156,7 +155,7 @@ reads_root {limit} {start} leaves place flat_place node t others ts h lands plai
         mark = m;
         none = λ e. absurd (unopened e);
         follows = goes_alike u.follows
-            (flat p.0 p.1 u.blank u.key u.allowed u.adjacent u.deeper u.places u.stop u.near (lands m line)) refl;
+            (flat p.0 p.1 u.blank u.key u.allowed u.adjacent u.deeper u.places u.stop u.near (follows.lands m line)) refl;
         fits = past_again 0 m others;
         line = (line, λ e. absurd (unopened e));
         count =
