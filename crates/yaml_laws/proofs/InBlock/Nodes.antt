@@ -25,7 +25,7 @@ use Rattle.yaml_laws.proofs.InBlock.BehindIndicators.{entries_content, pairs_con
 use Rattle.yaml_laws.proofs.InBlock.Leads.{reads_lead, lead_col, mapping_least, sequence_least}
 use Rattle.yaml_laws.proofs.InBlock.Parts.{reads_parts}
 use Rattle.yaml_laws.proofs.InBlock.Sequences.{ReadsOtherEntries, no_entries, more_entries, reads_entries, sequence_start}
-use Rattle.yaml_laws.proofs.InBlock.Mappings.{is_pair, ReadsOtherPairs, no_other_pairs, more_pairs}
+use Rattle.yaml_laws.proofs.InBlock.Pairs.{is_pair, ReadsOtherPairs, no_other_pairs, more_pairs}
 use Rattle.std.proofs.Math.Bool.{or-true}
 use Rattle.std.proofs.lemmas.Bool.{leb-true}
 use Rattle.saphyr_input.proofs.Basics.Booleans.{clash}

@@ -12,10 +12,10 @@ use Rattle.saphyr_scanner.specs.Grammar.TokenGrammar as grammar
 use Rattle.saphyr_scalar.specs.Spelling.Tag.{AreIn}
 use Rattle.saphyr_input.specs.Classes.{is_blank}
 use Rattle.yaml_laws.proofs.InFlow.Keys.{blanks_are_on_line}
-use Rattle.saphyr_scanner.specs.Grammar.Forest.{Node}
+use Rattle.saphyr_scanner.specs.Grammar.Forest.{Node, Pairs, NoPair, MorePairs}
 use Rattle.saphyr_scanner.specs.Limits.{most_open}
 use Rattle.yaml_laws.specs.Grammar.FlowNodes.{IsOnLine}
-use Rattle.yaml_laws.specs.Grammar.BlockNodes.{BehindMark, BehindKey, IsEntryIndentation, IsImplicitPair, IsKeylessPair, is_value_ahead, IsKeyAlone, IsMarkedPair, IsBlockPair, IsBlockNode}
+use Rattle.yaml_laws.specs.Grammar.BlockNodes.{BehindMark, BehindKey, IsEntryIndentation, IsImplicitPair, IsKeylessPair, is_value_ahead, IsKeyAlone, IsMarkedPair, IsBlockPair, IsBlockNode, AreOtherPairs}
 use Rattle.yaml_laws.proofs.Flow.States.{moved, past}
 use Rattle.yaml_laws.proofs.Flow.Places.{moved_append, moved_along}
 use Rattle.yaml_laws.proofs.InBlock.Lines.{FitsOnLines, fits_front, fits_back, fits_so}
@@ -23,14 +23,13 @@ use Rattle.yaml_laws.proofs.InBlock.States.{Frame, EndsDocument, At, Before}
 use Rattle.yaml_laws.proofs.InBlock.Entries.{BeginsWhite, IsBehindIndicator, frame_behind}
 use Rattle.yaml_laws.proofs.InBlock.Questions.{key_kinds, reads_question}
 use Rattle.yaml_laws.proofs.InBlock.Colons.{value_kinds, reads_value, reads_colon}
-use Rattle.yaml_laws.proofs.InBlock.ValuesAhead.{value_here}
+use Rattle.yaml_laws.proofs.InBlock.Ahead.{value_here, no_tab_ahead}
 use Rattle.yaml_laws.proofs.InBlock.Statements.{EndsNodeAt, ArrivedAt, Arrived, as_optional, ReadsAt, ReadsLeaves}
-use Rattle.yaml_laws.proofs.InBlock.Texts.{node_ends, behind_indented, indentation_skipped, indentation_col, reaches}
-use Rattle.yaml_laws.proofs.InBlock.BehindIndicators.{node_behind}
-use Rattle.yaml_laws.proofs.InBlock.TabsAhead.{no_tab_ahead}
+use Rattle.yaml_laws.proofs.InBlock.Texts.{node_ends, behind_indented, indentation_skipped, indentation_col, reaches, pair_ends}
+use Rattle.yaml_laws.proofs.InBlock.BehindIndicators.{node_behind, pair_content}
 use Rattle.saphyr_input.proofs.Basics.Booleans.{clash}
 use Rattle.saphyr_input.proofs.Basics.Numbers.{next_not_within}
-use Rattle.yaml_laws.proofs.InBlock.Parts.{starts_behind, not_empty, some_first, least, frame_indent, suc_is, goes_on, ReadsPart}
+use Rattle.yaml_laws.proofs.InBlock.Parts.{starts_behind, not_empty, some_first, least, frame_indent, suc_is, goes_on, ReadsPart, IsPart, ReadsOtherParts, no_other_parts, parts_so, more_parts}
 use Rattle.yaml_laws.proofs.Flow.ContentStarts.{colon_content}
 
 -- the start of a mapping, where one begins
@@ -286,3 +285,31 @@ reads_pair leaves key value K V f n further e far t z (inr (inl h)) fits behind 
     reads_alone leaves key value K f n further e far t z h fits behind start ts v none allowed
 reads_pair leaves key value K V f n further e far t z (inr (inr h)) fits behind start ts v none allowed =
     reads_marked leaves key value K V f n further e far t z h fits behind start ts v none allowed
+
+-- ## All pairs
+
+pub is_pair : {limit : ℕ} → ReadsLeaves limit → (key value : Node) → ReadsAt limit key (IsBlockNode most_open key)
+    → ReadsAt limit value (IsBlockNode most_open value)
+    → IsPart limit (grammar.YieldsBlockPair key value (grammar.YieldsNode key grammar.InBlockMapping)
+    (grammar.YieldsNode value grammar.InBlockMapping)) mapping_start
+    (IsBlockPair most_open key value (IsBlockNode most_open key) (IsBlockNode most_open value))
+is_pair leaves key value K V = record {
+  content = λ column t z h. pair_content leaves key value column t z h;
+  ends = λ column t z h. pair_ends key value (λ place u y i. node_ends leaves key place u y i)
+      (λ place u y i. node_ends leaves value place u y i) column t z h;
+  reads = search (reads_pair);
+  none = refl;
+}
+
+-- what is shown of the pairs after the first
+abbrev pub ReadsOtherPairs : ℕ → Pairs → Type 0
+ReadsOtherPairs limit pairs = ReadsOtherParts limit (AreOtherPairs most_open pairs) (grammar.YieldBlockPairs pairs)
+
+pub no_other_pairs : {limit : ℕ} → ReadsOtherPairs limit NoPair
+no_other_pairs = parts_so (λ column t o h. h) (λ ts h. h) no_other_parts
+
+pub more_pairs : {limit : ℕ} → ReadsLeaves limit → (key value : Node) (pairs : Pairs)
+    → ReadsAt limit key (IsBlockNode most_open key) → ReadsAt limit value (IsBlockNode most_open value)
+    → ReadsOtherPairs limit pairs → ReadsOtherPairs limit (MorePairs key value pairs)
+more_pairs leaves key value pairs K V more =
+    parts_so (λ column t o h. h) (λ ts h. h) (more_parts (is_pair leaves key value K V) more)

@@ -11,13 +11,14 @@ use Rattle.yaml_laws.specs.Grammar.BlockNodes.{is_value_ahead, IsEntryIndentatio
 use Rattle.yaml_laws.proofs.Flow.States.{IsClear, moved, past, IsContentStart}
 use Rattle.yaml_laws.proofs.Flow.ContentStarts.{StartsContent}
 use Rattle.yaml_laws.proofs.Flow.Places.{moved_append, clear_here}
+use Rattle.yaml_laws.proofs.Documents.Stands.{AtLine}
 use Rattle.yaml_laws.proofs.InBlock.Lines.{FitsOnLines, fits_front, fits_back, fits_so}
 use Rattle.yaml_laws.proofs.InBlock.States.{Frame, EndsDocument, At}
 use Rattle.yaml_laws.proofs.InBlock.Entries.{frame_behind}
 use Rattle.yaml_laws.proofs.InBlock.Statements.{EndsNodeAt, ArrivedAt, Arrived, EndsWithLine}
 use Rattle.yaml_laws.proofs.InBlock.Texts.{behind_indented, indentation_skipped, indentation_col, reaches}
 use Rattle.yaml_laws.proofs.InBlock.BehindIndicators.{further_content}
-use Rattle.yaml_laws.proofs.InBlock.ValuesAhead.{skipped_ahead}
+use Rattle.yaml_laws.proofs.InBlock.Ahead.{skipped_ahead}
 use Rattle.saphyr_input.proofs.Basics.Numbers.{next_not_within}
 use Rattle.saphyr_input.proofs.Basics.Booleans.{clash}
 
@@ -31,11 +32,7 @@ pub some_first : (w rest : List ℕ) (d : ℕ) → (c : ℕ) × (cs : List ℕ) 
 some_first [] rest d = (d, rest, refl)
 some_first (c ∷ cs) rest d = (c, cs ++ (d ∷ rest), refl)
 
--- at a line's start, or at the end of all
-abbrev pub StartsLine : Marker → List ℕ → Type 0
-StartsLine m o = (m.col ≡ 0) ⊎ (o ≡ [])
-
-pub starts_behind : (m : Marker) (t o : List ℕ) → EndsWithLine t o → StartsLine (moved m t) o
+pub starts_behind : (m : Marker) (t o : List ℕ) → EndsWithLine t o → AtLine o (moved m t)
 starts_behind m t o (inl h) = inl (h m)
 starts_behind m t o (inr h) = inr h
 
@@ -63,7 +60,7 @@ not_marker m c cs h content (inr (col, inr k)) = clash (is_bom c) k content.byte
 not_marker m c cs h content (inr (col, inl k)) = grind arith
 
 -- a `:` ahead, after a line's end
-ahead_of_line : (n : Marker) (z : List ℕ) (column : ℕ) → StartsLine n z → is_value_ahead false column n.col z ≡ true
+ahead_of_line : (n : Marker) (z : List ℕ) (column : ℕ) → AtLine z n → is_value_ahead false column n.col z ≡ true
     → is_value_ahead false column 0 z ≡ true
 ahead_of_line n z column h k = grind arith
 
@@ -108,10 +105,10 @@ pub record IsPart (limit : ℕ) (E : List Kind → List Kind → Type 0) (opens 
 
 -- what is shown of the parts after the first
 pub record ReadsOtherParts (limit : ℕ) (Others : ℕ → List ℕ → List ℕ → Type 0) (As : List Kind → Type 0) : Type 0 where
-  pub behind : (column : ℕ) (m : Marker) (t o : List ℕ) → Others column t o → StartsLine m (t ++ o)
+  pub behind : (column : ℕ) (m : Marker) (t o : List ℕ) → Others column t o → AtLine (t ++ o) m
       → EndsNodeAt (suc column) (moved m t) o → EndsNodeAt (suc column) m (t ++ o)
   pub reads : (g : Frame) (column : ℕ) → g.indent ≡ column + 1 → (m : Marker) (t o : List ℕ) → Others column t o
-      → FitsOnLines limit m t o → EndsNodeAt (suc column) (moved m t) o → StartsLine m (t ++ o)
+      → FitsOnLines limit m t o → EndsNodeAt (suc column) (moved m t) o → AtLine (t ++ o) m
       → (start : State) (ts : List Kind) → Arrived limit start g m (t ++ o) ts
       → PartsRead limit start As column g m t o ts
 
@@ -163,7 +160,7 @@ parts_so f g r = record {
 others_behind : {limit : ℕ} {E : List Kind → List Kind → Type 0} {opens : Bool → List Kind}
     {Is : ℕ → List ℕ → List ℕ → Type 0} → IsPart limit E opens Is → (Others : ℕ → List ℕ → List ℕ → Type 0)
     (column : ℕ) (m : Marker) (t o : List ℕ)
-    → AreOthers Is Others column t o → StartsLine m (t ++ o) → EndsNodeAt (suc column) m (t ++ o)
+    → AreOthers Is Others column t o → AtLine (t ++ o) m → EndsNodeAt (suc column) m (t ++ o)
 others_behind is_part Others column m t o (front, part, others, front_is, h, k, e) starts =
     let z = others ++ o in
     let b = further_content part z (is_part.content column part z h) in

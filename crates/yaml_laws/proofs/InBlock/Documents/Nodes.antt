@@ -28,7 +28,7 @@ use Rattle.yaml_laws.proofs.InBlock.Closing.{ended_alike, stream_ends}
 use Rattle.yaml_laws.proofs.InBlock.Lines.{FitsOnLines, moved_lined}
 use Rattle.yaml_laws.proofs.InBlock.Statements.{EndsNodeAt, EndsWithLine, AreRead, ReadsLeaves}
 use Rattle.yaml_laws.proofs.InBlock.Texts.{node_ends}
-use Rattle.yaml_laws.proofs.InBlock.Parts.{StartsLine, starts_behind}
+use Rattle.yaml_laws.proofs.InBlock.Parts.{starts_behind}
 use Rattle.yaml_laws.proofs.InBlock.Nodes.{reads_node}
 use Rattle.saphyr_scalar.proofs.Given.{cursor_at}
 use Rattle.std.proofs.lemmas.Bool.{eq-eqb}
@@ -137,7 +137,7 @@ reads_root {limit} {start} leaves place flat_place node t others ts h follows v 
     } in
     let ends = node_ends leaves node place t others h in
     let m = moved v.mark t in
-    let line = lined m others (starts_behind v.mark t others ends) in
+    let line = starts_behind v.mark t others ends in
     let behind : EndsNodeAt 0 m others = record { left = inl (follows.lands m line); clean = follows.clean } in
     let r = reads_node leaves node place root (sym flat_place) v.mark t others h fits behind start ts before in
     let u = r.arrived.at in
@@ -173,7 +173,3 @@ reads_root {limit} {start} leaves place flat_place node t others ts h follows v 
 
     left_none : (k : Option Candidate) → k ≡ None → (m : Marker) → left_key k m ≡ None
     left_none k e m = rw e refl
-
-    lined : (m : Marker) (o : List ℕ) → StartsLine m o → AtLine o m
-    lined m o (inl e) = inl e
-    lined m o (inr e) = inr e
