@@ -1,13 +1,5 @@
 -- Ends of lines, filler and the gaps before a document's node.
-use Rattle.std.proofs.Common.{◌≡◌, ℕ, suc, ◌+◌, Bool, true, List, [], ◌∷◌, ◌++◌, length, slice_index, inl, inr, refl, arith, append_assoc, ◌⊎◌}
-use Rattle.std.proofs.lemmas.Bool.Decides.{nat_tests}
-use Rattle.saphyr_input.specs.Classes.{is_blank, is_blank_or_breakz, is_breakz, line_feed}
-use Rattle.saphyr_scalar.specs.declared.scalar.position.Marker.{Marker}
-use Rattle.saphyr_scalar.specs.Views.Cursor.{next_line}
-use Rattle.saphyr_scalar.specs.Spelling.Tag.{AreIn}
-use Rattle.scalar_laws.specs.Spelling.Spaces.{joined_pieces, AreEach, IsCommentBehind, IsFillerLine, IsFiller, IsLineRest, IsEol}
-use Rattle.saphyr_scanner.specs.Steps.State.{State}
-use Rattle.saphyr_scanner.specs.Grammar.Tokens.{Kind}
+use Rattle.yaml_laws.proofs.Common.{Bool, List, [], append_assoc, arith, inl, inr, length, refl, slice_index, suc, true, ℕ, ◌++◌, ◌+◌, ◌∷◌, ◌≡◌, ◌⊎◌, nat_tests, is_blank, is_blank_or_breakz, is_breakz, line_feed, Marker, next_line, AreIn, AreEach, IsCommentBehind, IsEol, IsFiller, IsFillerLine, IsLineRest, joined_pieces, State, Kind}
 use Rattle.yaml_laws.proofs.Flow.States.{moved, past}
 use Rattle.yaml_laws.proofs.Flow.Places.{moved_append, moved_count}
 use Rattle.yaml_laws.proofs.Flow.Fillers.{EndsLine, filler_past}

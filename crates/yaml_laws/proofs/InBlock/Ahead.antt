@@ -1,15 +1,7 @@
 -- What is ahead after an indicator: no tab among the blanks before the next token, or the `:` of a value.
-use Rattle.std.proofs.Common.{◌≡◌, ℕ, Bool, true, false, List, arith, ◌+◌, [], ◌∷◌, ◌++◌, slice_index, refl, append_assoc, ◌⊎◌, inl, inr}
-use Rattle.std.specs.Prelude.{◌||◌, ◌&&◌, ◌==◌}
-use Rattle.saphyr_input.specs.Classes.{is_break, is_blank, is_blank_or_breakz, is_yaml_non_break, line_feed}
-use Rattle.saphyr_scalar.specs.declared.scalar.position.Marker.{Marker}
-use Rattle.yaml_laws.specs.Grammar.BlockNodes.{has_tab_ahead, is_value_ahead}
+use Rattle.yaml_laws.proofs.Common.{Bool, List, [], append_assoc, arith, false, inl, inr, refl, slice_index, true, ℕ, ◌++◌, ◌+◌, ◌∷◌, ◌≡◌, ◌⊎◌, ◌&&◌, ◌==◌, ◌||◌, is_blank, is_blank_or_breakz, is_break, is_yaml_non_break, line_feed, Marker, has_tab_ahead, is_value_ahead, colon, number_sign, AreIn, along, next_line, IsComment}
 use Rattle.yaml_laws.proofs.InBlock.Skips.{has_tab, comment_has_tab, IsSkipped, nothing, one_space, one_break, one_rest}
-use Rattle.saphyr_input.specs.Indicators.{number_sign, colon}
 use Rattle.yaml_laws.proofs.Flow.GapWalks.{OverGap, over_gap}
-use Rattle.saphyr_scalar.specs.Spelling.Tag.{AreIn}
-use Rattle.saphyr_scalar.specs.Views.Cursor.{along, next_line}
-use Rattle.scalar_laws.specs.Spelling.Spaces.{IsComment}
 use Rattle.yaml_laws.proofs.Flow.States.{moved}
 use Rattle.yaml_laws.proofs.Flow.Places.{moved_append}
 

@@ -1,28 +1,12 @@
 -- A block collection ends before a token to its left, and at the end of its document.
-use Rattle.std.proofs.Common.{◌≡◌, ℕ, ◌+◌, ◌<◌, ◌≤◌, Bool, true, false, List, [], ◌∷◌, ◌++◌, slice_index, refl, sym, ap, ◌∙◌, arith, subst, Ok, ◌⊎◌, inl, inr, IsTrue}
-use Rattle.std.specs.Prelude.{Result, ◌||◌, ◌&&◌, ◌==◌, nat_le, nat_lt, Option, Some, None, if◌then◌else◌}
-use Rattle.std.proofs.lemmas.Bool.Decides.{nat_tests}
-use Rattle.saphyr_input.specs.Classes.{is_z, is_bom, is_blank_or_breakz}
-use Rattle.saphyr_input.specs.Places.{is_document_start, is_document_end, is_document_indicator}
-use Rattle.saphyr_scalar.specs.declared.scalar.position.Marker.{Marker}
-use Rattle.saphyr_scalar.specs.declared.scalar.fault.Refusal.{Refusal}
-use Rattle.saphyr_scalar.specs.Views.Cursor.{◌>>=◌}
-use Rattle.saphyr_scanner.specs.Steps.Level.{Candidate}
+use Rattle.yaml_laws.proofs.Common.{Bool, IsTrue, List, Ok, [], ap, arith, false, inl, inr, refl, slice_index, subst, sym, true, ℕ, ◌++◌, ◌+◌, ◌<◌, ◌∙◌, ◌∷◌, ◌≡◌, ◌≤◌, ◌⊎◌, None, Option, Result, Some, if◌then◌else◌, nat_le, nat_lt, ◌&&◌, ◌==◌, ◌||◌, nat_tests, is_blank_or_breakz, is_bom, is_z, is_document_end, is_document_indicator, is_document_start, Marker, Refusal, ◌>>=◌, Candidate, Place, bare_place, empty_piece, State, Kind, zero_below_next, eq-eqb, eqb-true, ltb-true, full_stop, hyphen, percent_sign, place_kinds, place_kinds_append, EndsContent}
 use Rattle.saphyr_scanner.specs.Steps.Document as document
 use Rattle.saphyr_scanner.specs.Steps.Document.{end_mark}
-use Rattle.saphyr_scanner.specs.Steps.Queue.{Place, bare_place, empty_piece}
-use Rattle.saphyr_scanner.specs.Steps.State.{State}
 use Rattle.saphyr_scanner.specs.Grammar.Tokens as tokens
-use Rattle.saphyr_scanner.specs.Grammar.Tokens.{Kind}
 use Rattle.saphyr_scanner.specs.Steps.Unrolling.{unroll}
 use Rattle.saphyr_scanner.specs.Steps.Fetch.{fetch, fetch_here}
 use Rattle.yaml_laws.proofs.InBlock.States.{Frame, frame_at_column, moment_at, state_of, EndsDocument, At}
 use Rattle.yaml_laws.proofs.InBlock.Follows.{goes_alike, arrives_at, stays_open}
-use Rattle.saphyr_input.proofs.Basics.Numbers.{zero_below_next}
-use Rattle.std.proofs.lemmas.Bool.{ltb-true, eq-eqb, eqb-true}
-use Rattle.saphyr_input.specs.Indicators.{full_stop, hyphen, percent_sign}
-use Rattle.saphyr_scanner.proofs.Queues.{place_kinds, place_kinds_append}
-use Rattle.yaml_laws.specs.Grammar.BlockNodes.{EndsContent}
 
 -- the token that ends a collection
 abbrev pub end_place : Marker → Place

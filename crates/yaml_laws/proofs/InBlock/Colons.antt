@@ -1,22 +1,9 @@
 -- The `:` of a block mapping is read (YAML 1.2.2, 8.2.2).
-use Rattle.std.proofs.Common.{◌≡◌, ℕ, suc, ◌+◌, ◌<◌, ◌≤◌, Bool, true, false, List, [], ◌∷◌, ◌++◌, length, slice_index, refl, sym, ap, ◌∙◌, arith, append_assoc, Ok, ◌⊎◌, inr}
-use Rattle.std.specs.Prelude.{◌||◌, ◌==◌, nat_le, nat_lt, Option, Some, None, if◌then◌else◌}
+use Rattle.yaml_laws.proofs.Common.{Bool, List, Ok, [], ap, append_assoc, arith, false, inr, length, refl, slice_index, suc, sym, true, ℕ, ◌++◌, ◌+◌, ◌<◌, ◌∙◌, ◌∷◌, ◌≡◌, ◌≤◌, ◌⊎◌, None, Option, Some, if◌then◌else◌, nat_le, nat_lt, ◌==◌, ◌||◌, tab, Marker, SkipTabs, Yes, Cursor, along, separation, ◌>>=◌, Core, Open, at_mark, completed_step, is_too_far, least_column, perform, Candidate, with_cursor, Place, Queue, bare_place, empty_piece, next, Piece, State, after_step, Kind, cursor_at, le_next, zero_below_next, or-true, colon, place_kinds, place_kinds_append, queue_of}
 use Rattle.std.proofs.lemmas.List.{length-append}
-use Rattle.saphyr_input.specs.Classes.{tab}
-use Rattle.saphyr_scalar.specs.declared.scalar.position.Marker.{Marker}
-use Rattle.saphyr_input.specs.declared.input.SkipTabs.{SkipTabs}
-use Rattle.saphyr_input.specs.declared.input.SkipTabs.TheVariants.{Yes}
-use Rattle.saphyr_scalar.specs.Views.Cursor.{Cursor, ◌>>=◌, along, separation}
 use Rattle.saphyr_scanner.specs.declared.queue.Opening.{Opening}
 use Rattle.saphyr_scanner.specs.declared.queue.Opening.TheVariants as opening
-use Rattle.saphyr_scanner.specs.Steps.Core.{least_column, Core, Open, completed_step, at_mark, perform, is_too_far}
-use Rattle.saphyr_scanner.specs.Steps.Level.{Candidate}
-use Rattle.saphyr_scanner.specs.Steps.Passing.{with_cursor}
-use Rattle.saphyr_scanner.specs.Steps.Queue.{next, Place, Queue, bare_place, empty_piece}
-use Rattle.saphyr_scanner.specs.Views.Tokens.{Piece}
-use Rattle.saphyr_scanner.specs.Steps.State.{State, after_step}
 use Rattle.saphyr_scanner.specs.Grammar.Tokens as tokens
-use Rattle.saphyr_scanner.specs.Grammar.Tokens.{Kind}
 use Rattle.saphyr_scanner.specs.Steps.Value as value
 use Rattle.saphyr_scanner.specs.Steps.Fetch.{fetch, fetch_here, state_behind_content, step}
 use Rattle.yaml_laws.specs.Grammar.BlockNodes as yaml
@@ -25,11 +12,6 @@ use Rattle.yaml_laws.proofs.Flow.States.{past}
 use Rattle.yaml_laws.proofs.InBlock.States.{Frame, Moment, moment_at, moment_with, core_of, state_of, tabbed, IsUntabbed, crosses, GoesOnAs, At, Before}
 use Rattle.yaml_laws.proofs.InBlock.Follows.{steps_from, begins_here, deeper_at, lands_key}
 use Rattle.yaml_laws.proofs.InBlock.Entries.{IsBehindIndicator, front_end, separates, frame_behind, steps_on, start_places, start_performs, start_kinds, start_are, least_within, before_next}
-use Rattle.saphyr_scalar.proofs.Given.{cursor_at}
-use Rattle.saphyr_input.proofs.Basics.Numbers.{le_next, zero_below_next}
-use Rattle.std.proofs.Math.Bool.{or-true}
-use Rattle.saphyr_input.specs.Indicators.{colon}
-use Rattle.saphyr_scanner.proofs.Queues.{place_kinds, place_kinds_append, queue_of}
 use Rattle.yaml_laws.proofs.InBlock.Questions.{colon_begins, key_kinds}
 
 -- ## After a colon

@@ -3,19 +3,10 @@ pub mod Comes
 pub mod DirectiveLines
 pub mod Ends
 pub mod Nodes
-use Rattle.std.proofs.Common.{◌≡◌, ℕ, Bool, true, false, List, [], ◌∷◌, ◌++◌, refl, sym, ap, ◌∙◌, subst, append_assoc, append-nil, ◌⊎◌, inl, inr, IsTrue, arith}
-use Rattle.std.specs.Prelude.{map, ◌||◌}
-use Rattle.saphyr_input.specs.Indicators.{hyphen}
-use Rattle.scalar_laws.proofs.Beginnings.{back_in}
-use Rattle.saphyr_scanner.specs.Steps.State.{State}
+use Rattle.yaml_laws.proofs.Common.{Bool, IsTrue, List, [], ap, append-nil, append_assoc, arith, false, inl, inr, refl, subst, sym, true, ℕ, ◌++◌, ◌∙◌, ◌∷◌, ◌≡◌, ◌⊎◌, map, ◌||◌, hyphen, back_in, State, Kind, directive_token, Alias, AreCompatible, Document, Map, Node, Scalar, Seq, most_open, AtStart, BehindMarker, IsBlockNode, AreDirectives, has_marker}
 use Rattle.saphyr_scanner.specs.Grammar.Tokens as tokens
-use Rattle.saphyr_scanner.specs.Grammar.Tokens.{Kind, directive_token}
 use Rattle.saphyr_scanner.specs.Grammar.TokenGrammar as grammar
-use Rattle.saphyr_scanner.specs.Grammar.Forest.{Node, Alias, Scalar, Seq, Map, Document, AreCompatible}
-use Rattle.saphyr_scanner.specs.Limits.{most_open}
-use Rattle.yaml_laws.specs.Grammar.BlockNodes.{BehindMarker, AtStart, IsBlockNode}
 use Rattle.yaml_laws.specs.Grammar.Yaml as yaml
-use Rattle.yaml_laws.specs.Grammar.Yaml.{has_marker, AreDirectives}
 use Rattle.yaml_laws.proofs.Flow.States.{ReaderPromises}
 use Rattle.yaml_laws.proofs.Flow.ContentStarts.{StartsContent}
 use Rattle.yaml_laws.proofs.Documents.Markers.{reads_start}

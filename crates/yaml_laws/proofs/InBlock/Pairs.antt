@@ -1,21 +1,8 @@
 -- A pair of a block mapping is read, whatever its form (YAML 1.2.2, 8.2.2).
-use Rattle.std.proofs.Common.{◌≡◌, ℕ, suc, ◌+◌, ◌<◌, ◌≤◌, Bool, true, false, List, [], ◌∷◌, ◌++◌, length, refl, sym, ap, ◌∙◌, arith, subst, append_assoc, append-nil, ◌⊎◌, inl, inr}
-use Rattle.std.specs.Prelude.{◌≢◌, None, nat_le, if◌then◌else◌}
-use Rattle.saphyr_scalar.specs.declared.scalar.position.Marker.{Marker}
-use Rattle.saphyr_scalar.specs.Reading.BlockLines.{spaces}
-use Rattle.saphyr_scalar.specs.Views.Cursor.{along}
-use Rattle.saphyr_scanner.specs.Steps.Queue.{bare_place}
-use Rattle.saphyr_scanner.specs.Steps.State.{State}
+use Rattle.yaml_laws.proofs.Common.{Bool, List, [], ap, append-nil, append_assoc, arith, false, inl, inr, length, refl, subst, suc, sym, true, ℕ, ◌++◌, ◌+◌, ◌<◌, ◌∙◌, ◌∷◌, ◌≡◌, ◌≤◌, ◌⊎◌, None, if◌then◌else◌, nat_le, ◌≢◌, Marker, spaces, along, bare_place, State, Kind, AreIn, is_blank, MorePairs, NoPair, Node, Pairs, most_open, IsOnLine, AreOtherPairs, BehindKey, BehindMark, IsBlockNode, IsBlockPair, IsEntryIndentation, IsImplicitPair, IsKeyAlone, IsKeylessPair, IsMarkedPair, is_value_ahead, clash, next_not_within}
 use Rattle.saphyr_scanner.specs.Grammar.Tokens as tokens
-use Rattle.saphyr_scanner.specs.Grammar.Tokens.{Kind}
 use Rattle.saphyr_scanner.specs.Grammar.TokenGrammar as grammar
-use Rattle.saphyr_scalar.specs.Spelling.Tag.{AreIn}
-use Rattle.saphyr_input.specs.Classes.{is_blank}
 use Rattle.yaml_laws.proofs.InFlow.Keys.{blanks_are_on_line}
-use Rattle.saphyr_scanner.specs.Grammar.Forest.{Node, Pairs, NoPair, MorePairs}
-use Rattle.saphyr_scanner.specs.Limits.{most_open}
-use Rattle.yaml_laws.specs.Grammar.FlowNodes.{IsOnLine}
-use Rattle.yaml_laws.specs.Grammar.BlockNodes.{BehindMark, BehindKey, IsEntryIndentation, IsImplicitPair, IsKeylessPair, is_value_ahead, IsKeyAlone, IsMarkedPair, IsBlockPair, IsBlockNode, AreOtherPairs}
 use Rattle.yaml_laws.proofs.Flow.States.{moved, past}
 use Rattle.yaml_laws.proofs.Flow.Places.{moved_append, moved_along}
 use Rattle.yaml_laws.proofs.InBlock.Lines.{FitsOnLines, fits_front, fits_back, fits_so}
@@ -27,8 +14,6 @@ use Rattle.yaml_laws.proofs.InBlock.Ahead.{value_here, no_tab_ahead}
 use Rattle.yaml_laws.proofs.InBlock.Statements.{EndsNodeAt, ArrivedAt, Arrived, as_optional, ReadsAt, ReadsLeaves}
 use Rattle.yaml_laws.proofs.InBlock.Texts.{node_ends, behind_indented, indentation_skipped, indentation_col, reaches, pair_ends}
 use Rattle.yaml_laws.proofs.InBlock.BehindIndicators.{node_behind, pair_content}
-use Rattle.saphyr_input.proofs.Basics.Booleans.{clash}
-use Rattle.saphyr_input.proofs.Basics.Numbers.{next_not_within}
 use Rattle.yaml_laws.proofs.InBlock.Parts.{starts_behind, not_empty, some_first, least, frame_indent, suc_is, goes_on, ReadsPart, IsPart, ReadsOtherParts, no_other_parts, parts_so, more_parts}
 use Rattle.yaml_laws.proofs.Flow.ContentStarts.{colon_content}
 

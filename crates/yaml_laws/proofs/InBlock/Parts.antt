@@ -1,13 +1,6 @@
 -- The parts of a block collection are read, the entries of a sequence or the pairs of a mapping (YAML 1.2.2, 8.2).
-use Rattle.std.proofs.Common.{◌≡◌, ℕ, suc, ◌+◌, ◌≤◌, Bool, true, false, List, [], ◌∷◌, ◌++◌, refl, sym, ap, ◌∙◌, arith, subst, append_assoc, append-nil, ◌⊎◌, inl, inr}
-use Rattle.std.specs.Prelude.{◌==◌, ◌&&◌, None, nat_le}
-use Rattle.saphyr_input.specs.Classes.{is_bom}
-use Rattle.saphyr_input.specs.Places.{is_document_indicator}
-use Rattle.saphyr_scalar.specs.declared.scalar.position.Marker.{Marker}
-use Rattle.saphyr_scanner.specs.Steps.State.{State}
-use Rattle.saphyr_scanner.specs.Grammar.Tokens.{Kind}
+use Rattle.yaml_laws.proofs.Common.{Bool, List, [], ap, append-nil, append_assoc, arith, false, inl, inr, refl, subst, suc, sym, true, ℕ, ◌++◌, ◌+◌, ◌∙◌, ◌∷◌, ◌≡◌, ◌≤◌, ◌⊎◌, None, nat_le, ◌&&◌, ◌==◌, is_bom, is_document_indicator, Marker, State, Kind, IsEntryIndentation, is_value_ahead, next_not_within, clash}
 use Rattle.saphyr_scanner.specs.Grammar.TokenGrammar as grammar
-use Rattle.yaml_laws.specs.Grammar.BlockNodes.{is_value_ahead, IsEntryIndentation}
 use Rattle.yaml_laws.proofs.Flow.States.{IsClear, moved, past, IsContentStart}
 use Rattle.yaml_laws.proofs.Flow.ContentStarts.{StartsContent}
 use Rattle.yaml_laws.proofs.Flow.Places.{moved_append, clear_here}
@@ -19,8 +12,6 @@ use Rattle.yaml_laws.proofs.InBlock.Statements.{EndsNodeAt, ArrivedAt, Arrived, 
 use Rattle.yaml_laws.proofs.InBlock.Texts.{behind_indented, indentation_skipped, indentation_col, reaches}
 use Rattle.yaml_laws.proofs.InBlock.BehindIndicators.{further_content}
 use Rattle.yaml_laws.proofs.InBlock.Ahead.{skipped_ahead}
-use Rattle.saphyr_input.proofs.Basics.Numbers.{next_not_within}
-use Rattle.saphyr_input.proofs.Basics.Booleans.{clash}
 
 -- ## Places
 

@@ -1,22 +1,7 @@
 -- What is shown of nodes and collections at block level.
-use Rattle.std.proofs.Common.{◌≡◌, ℕ, suc, ◌+◌, ◌≤◌, Bool, true, false, List, [], ◌∷◌, ◌++◌, length, slice_index, IsFalse, ◌⊎◌, inl, inr}
-use Rattle.std.specs.Prelude.{Some, None}
-use Rattle.saphyr_input.specs.Indicators.{colon}
-use Rattle.saphyr_input.specs.Classes.{is_blank_or_breakz}
-use Rattle.saphyr_scalar.specs.declared.scalar.position.Marker.{Marker}
-use Rattle.saphyr_scalar.specs.Reading.BlockLines.{spaces}
-use Rattle.scalar_laws.specs.Spelling.Spaces.{IsLineEnd, IsFiller}
-use Rattle.saphyr_scanner.specs.Steps.Core.{is_too_far, least_column}
+use Rattle.yaml_laws.proofs.Common.{Bool, IsFalse, List, [], false, inl, inr, length, slice_index, suc, true, ℕ, ◌++◌, ◌+◌, ◌∷◌, ◌≡◌, ◌≤◌, ◌⊎◌, None, Some, colon, is_blank_or_breakz, Marker, spaces, IsFiller, IsLineEnd, is_too_far, least_column, bare_place, Piece, State, Kind, Node, Properties, Scalar, Style, left_out, most_open, place_kinds, IsBeforeColon, IsFlowNode, IsKeyText, IsOnLine, IsPlainKeyNode, IsProperties}
 use Rattle.saphyr_scanner.specs.Steps.Queue as queue
-use Rattle.saphyr_scanner.specs.Steps.Queue.{bare_place}
-use Rattle.saphyr_scanner.specs.Views.Tokens.{Piece}
-use Rattle.saphyr_scanner.specs.Steps.State.{State}
-use Rattle.saphyr_scanner.specs.Grammar.Tokens.{Kind}
 use Rattle.saphyr_scanner.specs.Grammar.TokenGrammar as grammar
-use Rattle.saphyr_scanner.specs.Grammar.Forest.{Style, Properties, Node, Scalar, left_out}
-use Rattle.saphyr_scanner.specs.Limits.{most_open}
-use Rattle.saphyr_scanner.proofs.Queues.{place_kinds}
-use Rattle.yaml_laws.specs.Grammar.FlowNodes.{IsFlowNode, IsOnLine, IsPlainKeyNode, IsKeyText, IsBeforeColon, IsProperties}
 use Rattle.yaml_laws.specs.Grammar.BlockNodes.{Position, BehindMark, BehindKey, is_start, indent_at, IsGapAt, IsFlowInBlock, IsStyled, IsScalarFront, IsScalarInBlock, BehindDash, BehindMarker, AtStart}
 use Rattle.yaml_laws.proofs.Flow.States.{moved, past}
 use Rattle.yaml_laws.proofs.Flow.ContentStarts.{StartsContent}

@@ -1,19 +1,9 @@
 -- The scanner takes a text of YAML's grammar and makes tokens of its forest.
-use Rattle.std.proofs.Common.{◌≡◌, ℕ, ◌≤◌, Bool, true, false, List, [], ◌∷◌, ◌++◌, length, ◌⊎◌, inl, inr, refl, ap, ◌∙◌, arith, append_assoc, append-nil}
-use Rattle.std.specs.Prelude.{None, ◌==◌, not}
-use Rattle.saphyr_input.specs.Classes.{carriage_return}
-use Rattle.saphyr_scalar.specs.Views.Cursor.{start_cursor}
-use Rattle.saphyr_scalar.specs.Spelling.Tag.{AreIn}
-use Rattle.saphyr_scanner.specs.Grammar.Forest.{Forest}
-use Rattle.saphyr_scanner.specs.Limits.{most_open}
+use Rattle.yaml_laws.proofs.Common.{Bool, List, [], ap, append-nil, append_assoc, arith, false, inl, inr, length, refl, true, ℕ, ◌++◌, ◌∙◌, ◌∷◌, ◌≡◌, ◌≤◌, ◌⊎◌, None, not, ◌==◌, carriage_return, start_cursor, AreIn, Forest, most_open, Kind, State, start, LeadsTo, IsDocumentPrefix, IsYaml, end_prefix, mark_prefix, no_prefix, or-true, back_in, front_in, place_kinds, AreEach, joined_pieces}
 use Rattle.saphyr_scanner.specs.Grammar.Tokens as tokens
-use Rattle.saphyr_scanner.specs.Grammar.Tokens.{Kind}
 use Rattle.saphyr_scanner.specs.Grammar.TokenGrammar as grammar
 use Rattle.saphyr_scanner.specs.Grammar.TokenGrammar.{AreEndsAndMarks, Yields}
-use Rattle.saphyr_scanner.specs.Steps.State.{State, start}
-use Rattle.saphyr_scanner.proofs.Leads.{LeadsTo}
 use Rattle.yaml_laws.specs.Grammar.Yaml as yaml
-use Rattle.yaml_laws.specs.Grammar.Yaml.{IsDocumentPrefix, no_prefix, mark_prefix, end_prefix, IsYaml}
 use Rattle.yaml_laws.proofs.Flow.States.{moved, ReaderPromises}
 use Rattle.yaml_laws.proofs.Flow.Fillers.{last_filler_past}
 use Rattle.yaml_laws.proofs.Documents.Lines.{passes_filler}
@@ -26,11 +16,7 @@ use Rattle.yaml_laws.proofs.InBlock.Documents.Ends.{AreBlockDocuments, HasNoRetu
 use Rattle.yaml_laws.proofs.InBlock.Documents.{reads_document}
 use Rattle.yaml_laws.proofs.InBlock.Documents.Comes.{ComesIn, comes_so, comes_behind_filler, comes_behind_mark, comes_behind_end, document_comes}
 use Rattle.yaml_laws.proofs.InBlock.LineStarts.{no_line, last_unmarked}
-use Rattle.std.proofs.Math.Bool.{or-true}
-use Rattle.scalar_laws.proofs.Beginnings.{front_in, back_in}
-use Rattle.saphyr_scanner.proofs.Queues.{place_kinds}
 use Rattle.saphyr_scanner.proofs.Root.{stream_start_place, fetches_stream_start}
-use Rattle.scalar_laws.specs.Spelling.Spaces.{AreEach, joined_pieces}
 
 -- ## Between documents
 

@@ -1,15 +1,6 @@
 -- What comes after a document ends it, or begins with a document marker (YAML 1.2.2, chapter 9).
-use Rattle.std.proofs.Common.{◌≡◌, ℕ, Bool, true, List, [], ◌∷◌, ◌++◌, slice_index, refl, append_assoc, ◌⊎◌, inl, inr, arith}
-use Rattle.std.specs.Prelude.{◌==◌, not}
-use Rattle.saphyr_input.specs.Classes.{is_blank_or_breakz, carriage_return, byte_order_mark}
-use Rattle.saphyr_scalar.specs.declared.scalar.position.Marker.{Marker}
-use Rattle.saphyr_scalar.specs.Spelling.Tag.{AreIn}
-use Rattle.scalar_laws.specs.Spelling.Spaces.{IsFiller, IsLastFiller, joined_pieces}
-use Rattle.saphyr_scanner.specs.Grammar.Forest.{Node, Document, Forest}
-use Rattle.saphyr_scanner.specs.Limits.{most_open}
-use Rattle.yaml_laws.specs.Grammar.BlockNodes.{BehindMarker, IsBlockNode, EndsContent}
+use Rattle.yaml_laws.proofs.Common.{Bool, List, [], append_assoc, arith, inl, inr, refl, slice_index, true, ℕ, ◌++◌, ◌∷◌, ◌≡◌, ◌⊎◌, not, ◌==◌, byte_order_mark, carriage_return, is_blank_or_breakz, Marker, AreIn, IsFiller, IsLastFiller, joined_pieces, Document, Forest, Node, most_open, BehindMarker, EndsContent, IsBlockNode, AreDirectives, AreDocuments, false≢true, full_stop}
 use Rattle.yaml_laws.specs.Grammar.Yaml as yaml
-use Rattle.yaml_laws.specs.Grammar.Yaml.{AreDirectives, AreDocuments}
 use Rattle.yaml_laws.proofs.Flow.States.{EndsDocument, past}
 use Rattle.yaml_laws.proofs.Flow.Fillers.{last_filler_past}
 use Rattle.yaml_laws.proofs.Documents.Lines.{eol, eol_first, filler_at_line}
@@ -18,8 +9,6 @@ use Rattle.yaml_laws.proofs.Documents.Stands.{AtLine}
 use Rattle.yaml_laws.proofs.InBlock.Skips.{IsClean, skipped_clean, filler_skipped, rest_ends_clean, skipped_passes}
 use Rattle.yaml_laws.proofs.InBlock.Statements.{ReadsLeaves}
 use Rattle.yaml_laws.proofs.InBlock.BehindIndicators.{node_behind}
-use Rattle.std.proofs.lemmas.Bool.{false≢true}
-use Rattle.saphyr_input.specs.Indicators.{full_stop}
 use Rattle.yaml_laws.proofs.InBlock.States.{IsStop}
 
 -- the documents of a text of YAML's grammar

@@ -1,20 +1,8 @@
 -- The node of a document is read (YAML 1.2.2, chapter 9).
-use Rattle.std.proofs.Common.{◌≡◌, ℕ, ◌+◌, ◌≤◌, Bool, true, false, List, [], ◌∷◌, ◌++◌, length, refl, sym, ap, ◌∙◌, arith, subst, inl, inr}
-use Rattle.std.specs.Prelude.{◌||◌, ◌&&◌, nat_le, Option, None}
-use Rattle.saphyr_input.specs.Classes.{line_feed}
-use Rattle.saphyr_scalar.specs.declared.scalar.position.Marker.{Marker}
-use Rattle.saphyr_scalar.specs.Views.Cursor.{◌>>=◌}
-use Rattle.saphyr_scanner.specs.Steps.Core.{is_too_far}
-use Rattle.saphyr_scanner.specs.Steps.Level.{Candidate}
-use Rattle.saphyr_scanner.specs.Steps.Queue.{Place}
-use Rattle.saphyr_scanner.specs.Steps.State.{State}
+use Rattle.yaml_laws.proofs.Common.{Bool, List, [], ap, arith, false, inl, inr, length, refl, subst, sym, true, ℕ, ◌++◌, ◌+◌, ◌∙◌, ◌∷◌, ◌≡◌, ◌≤◌, None, Option, nat_le, ◌&&◌, ◌||◌, line_feed, Marker, ◌>>=◌, is_too_far, Candidate, Place, State, Kind, Node, most_open, has_marker, cursor_at, eq-eqb}
 use Rattle.saphyr_scanner.specs.Steps.Fetch.{fetch, fetch_here}
 use Rattle.saphyr_scanner.specs.Steps.Unrolling.{unroll}
-use Rattle.saphyr_scanner.specs.Grammar.Tokens.{Kind}
-use Rattle.saphyr_scanner.specs.Grammar.Forest.{Node}
-use Rattle.saphyr_scanner.specs.Limits.{most_open}
 use Rattle.yaml_laws.specs.Grammar.BlockNodes.{Position as Position, indent_at, IsBlockNode}
-use Rattle.yaml_laws.specs.Grammar.Yaml.{has_marker}
 use Rattle.yaml_laws.proofs.Flow.States.{IsClear, EndsDocument, marks_line, moved, past}
 use Rattle.yaml_laws.proofs.Flow.Places.{behind_character, moved_count}
 use Rattle.yaml_laws.proofs.Flow.GapSteps.{past_again}
@@ -30,8 +18,6 @@ use Rattle.yaml_laws.proofs.InBlock.Statements.{EndsNodeAt, EndsWithLine, AreRea
 use Rattle.yaml_laws.proofs.InBlock.Texts.{node_ends}
 use Rattle.yaml_laws.proofs.InBlock.Parts.{starts_behind}
 use Rattle.yaml_laws.proofs.InBlock.Nodes.{reads_node}
-use Rattle.saphyr_scalar.proofs.Given.{cursor_at}
-use Rattle.std.proofs.lemmas.Bool.{eq-eqb}
 use Rattle.yaml_laws.proofs.InBlock.Documents.Ends.{HasNoReturn, FollowsDocument}
 
 -- ## The text of a node is clear
