@@ -98,7 +98,7 @@ filler_line m w h col = rw h.2 (pieces m h.0 h.1 col)
         let line : (moved m v).col ≡ 0 = simp (k.0.2, moved_append m k.0.0 (10 ∷ [])) in
         cc (moved_append m v (joined_pieces vs), pieces (moved m v) vs k.1 line)
 
-none_behind : (w y : List ℕ) → w ++ y ≡ [] → y ≡ []
+pub none_behind : (w y : List ℕ) → w ++ y ≡ [] → y ≡ []
 none_behind [] y e = e
 none_behind (c ∷ w) y e = absurd (cc)
 

@@ -1,5 +1,5 @@
 -- The `:` of a block mapping is read (YAML 1.2.2, 8.2.2).
-use Rattle.yaml_laws.proofs.Common.{Bool, List, Ok, [], ap, append_assoc, arith, false, inr, length, refl, slice_index, suc, sym, true, ℕ, ◌++◌, ◌+◌, ◌<◌, ◌∙◌, ◌∷◌, ◌≡◌, ◌≤◌, ◌⊎◌, None, Option, Some, if◌then◌else◌, nat_le, nat_lt, ◌==◌, ◌||◌, tab, Marker, SkipTabs, Yes, Cursor, along, separation, ◌>>=◌, Core, Open, at_mark, completed_step, is_too_far, least_column, perform, Candidate, with_cursor, Place, Queue, bare_place, empty_piece, next, Piece, State, after_step, Kind, cursor_at, le_next, zero_below_next, or-true, colon, place_kinds, place_kinds_append, queue_of}
+use Rattle.yaml_laws.proofs.Common.{Bool, List, Ok, [], ap, append_assoc, arith, false, inr, length, refl, slice_index, suc, sym, true, ℕ, ◌++◌, ◌+◌, ◌<◌, ◌∙◌, ◌∷◌, ◌≡◌, ◌≤◌, ◌⊎◌, None, Option, Some, if◌then◌else◌, nat_le, nat_lt, ◌==◌, ◌||◌, tab, Marker, SkipTabs, Yes, Cursor, along, separation, ◌>>=◌, Core, Open, at_mark, completed_step, is_too_far, least_column, perform, Candidate, with_cursor, Place, Queue, bare_place, empty_piece, next, Piece, State, after_step, Kind, cursor_at, le_next, zero_below_next, or-true, colon, place_kinds, place_kinds_append, queue_of, or-false}
 use Rattle.std.proofs.lemmas.List.{length-append}
 use Rattle.saphyr_scanner.specs.declared.queue.Opening.{Opening}
 use Rattle.saphyr_scanner.specs.declared.queue.Opening.TheVariants as opening
@@ -107,6 +107,9 @@ value_performs f n false m ps e = rw e (start_performs false m tokens.BlockMappi
 abbrev pub value_kinds : Bool → List Kind
 value_kinds further = start_kinds further tokens.BlockMappingStart tokens.Value
 
+room : (i j l limit : ℕ) → j ≤ i + 1 + l → i + suc l ≤ limit → j ≤ limit
+room i j l limit k h = omega (arith, k, h)
+
 -- the `:` of a value is read, which begins a mapping or goes on with one
 pub reads_value : {limit : ℕ} {start : State} {ts : List Kind} (f : Frame) (m : Marker) (o : List ℕ) (further : Bool)
     → nat_le f.indent m.col ≡ further → f.indent ≤ m.col + 1
@@ -136,9 +139,6 @@ reads_value {limit} {start} {ts} f m o further e far h count v none allowed =
     (start_are further m tokens.BlockMappingStart m m tokens.Value v.places ts v.are) refl refl refl
     (le_next v.adjacent m.index v.low) p.lands
     (p.clean (least_column (core_of g t)) (least_within further m.col f t far)) (or-true (crosses p.rest)) refl
-  where
-    room : (i j l limit : ℕ) → j ≤ i + 1 + l → i + suc l ≤ limit → j ≤ limit
-    room i j l limit k h = omega (arith, k, h)
 
 -- ## `:` after a key
 
@@ -224,14 +224,8 @@ reads_colon {limit} {start} f n ps others new key k m o ts us further e far v is
     further_right : (i k m : ℕ) → i ≤ k + 1 → k ≤ m → i ≤ m + 1
     further_right i k m h l = omega (arith, h, l)
 
-    or_none : (b : Bool) → (b || false) ≡ b
-    or_none b = grind arith
-
     none_same : (a b : Bool) → a ≡ b → (a || false) ≡ (false || b)
-    none_same a b e = or_none a ∙ e
-
-    room : (i j l limit : ℕ) → j ≤ i + 1 + l → i + suc l ≤ limit → j ≤ limit
-    room i j l limit k h = omega (arith, k, h)
+    none_same a b e = or-false a ∙ e
 
     behind : (k m : ℕ) → k ≤ m → k < m + 1
     behind k m h = omega (arith, h)

@@ -40,6 +40,9 @@ comes_to_end f running (onward s t u going is settles l) over = leads_on (first_
 abbrev pub left_key : Option Candidate → Marker → Option Candidate
 left_key k m = if is_too_far k m then None else k
 
+pub left_none : (k : Option Candidate) → k ≡ None → (m : Marker) → left_key k m ≡ None
+left_none k e m = rw e refl
+
 left_by : (k : Option Candidate) (m : Marker) (b : Bool) → is_too_far k m ≡ b → is_too_far (left_key k m) m ≡ false
 left_by k m b e = grind arith
 

@@ -1,5 +1,5 @@
 -- A block scalar at block level is read from its header on (YAML 1.2.2, 8.1).
-use Rattle.yaml_laws.proofs.Common.{Bool, List, Ok, [], ap, arith, encode_utf8_all, false, inl, inr, length, refl, slice_index, subst, suc, sym, true, zero, ℕ, ◌++◌, ◌+◌, ◌<◌, ◌^◌, ◌∙◌, ◌∷◌, ◌≡◌, ◌≤◌, ◌⊎◌, None, Option, Some, ◌||◌, is_break, BlockStyle, Marker, spaces, Cursor, ◌>>=◌, completed_step, from_to, least_column, save_key, Candidate, DoubleQuoted, Folded, Literal, Plain, SingleQuoted, Style, Place, bare_place, next, Piece, State, after_step, on_core, Kind, scalar_token, LeadsTo, IsBlockScalarText, IsStyled, cursor_at, or-true, le-leb, place_kinds, place_kinds_append, queue_of, saved}
+use Rattle.yaml_laws.proofs.Common.{Bool, List, Ok, [], ap, arith, encode_utf8_all, false, inl, inr, length, refl, slice_index, subst, suc, sym, true, zero, ℕ, ◌++◌, ◌+◌, ◌<◌, ◌^◌, ◌∙◌, ◌∷◌, ◌≡◌, ◌≤◌, ◌⊎◌, None, Option, Some, ◌||◌, is_break, BlockStyle, Marker, spaces, Cursor, ◌>>=◌, completed_step, from_to, least_column, save_key, Candidate, DoubleQuoted, Folded, Literal, Plain, SingleQuoted, Style, Place, bare_place, next, Piece, State, after_step, on_core, Kind, scalar_token, LeadsTo, IsBlockScalarText, IsStyled, cursor_at, or-true, le-leb, place_kinds, place_kinds_append, queue_of, saved, le_next}
 use Rattle.std.proofs.lemmas.List.{length-append}
 use Rattle.saphyr_scalar.specs.declared.values.BlockStyle.TheVariants as block_style
 use Rattle.saphyr_scalar.specs.declared.scalar.position.Span.{Span}
@@ -136,7 +136,7 @@ reads_scalar laws {limit} {start} {ts} f style value m more t o short low begins
     let piece : Piece = record { span = b.span; kind = kind.Scalar (style_of style) (encode_utf8_all value) } in
     let qs = v.places ++ bare_place piece ∷ [] in
     let c = core_of f (moment_at m y v.blank v.key v.allowed v.adjacent deeper) in
-    let far = column_far f.indent m.col low in
+    let far = le_next f.indent m.col low in
     let begun : BeginsToken m y = subst (BeginsToken m) (sym start_is) (header_begins style m (more ++ o)) in
     let stepped = ap (λ (x : List ℕ). step (slice_index x 0) (slice_index y 1) i c) start_is
     ∙ style_at_sign f style (moment_at m y v.blank v.key v.allowed v.adjacent deeper) (slice_index y 1) i
@@ -172,9 +172,6 @@ reads_scalar laws {limit} {start} {ts} f style value m more t o short low begins
         → (left_key (saved v.allowed i m v.key) n ≡ None) ⊎ (o ≡ [])
     key_ends i n (inl later) = inl (gone v.allowed i m n v.key late later)
     key_ends i n (inr over) = inr over
-
-    column_far : (i col : ℕ) → i ≤ col → i ≤ col + 1
-    column_far i col h = omega (arith, h)
 
 -- a block scalar of a style
 reads_styled : ReadsBlocks

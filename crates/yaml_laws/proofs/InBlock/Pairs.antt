@@ -11,7 +11,7 @@ use Rattle.yaml_laws.proofs.InBlock.Entries.{BeginsWhite, IsBehindIndicator, fra
 use Rattle.yaml_laws.proofs.InBlock.Questions.{key_kinds, reads_question}
 use Rattle.yaml_laws.proofs.InBlock.Colons.{value_kinds, reads_value, reads_colon}
 use Rattle.yaml_laws.proofs.InBlock.Ahead.{value_here, no_tab_ahead}
-use Rattle.yaml_laws.proofs.InBlock.Statements.{EndsNodeAt, ArrivedAt, Arrived, as_optional, ReadsAt, ReadsLeaves}
+use Rattle.yaml_laws.proofs.InBlock.Statements.{EndsNodeAt, ArrivedAt, as_optional, ReadsAt, ReadsLeaves, arrived_so}
 use Rattle.yaml_laws.proofs.InBlock.Texts.{node_ends, behind_indented, indentation_skipped, indentation_col, reaches, pair_ends}
 use Rattle.yaml_laws.proofs.InBlock.BehindIndicators.{node_behind, pair_content}
 use Rattle.yaml_laws.proofs.InBlock.Parts.{starts_behind, not_empty, some_first, least, frame_indent, suc_is, goes_on, ReadsPart, IsPart, ReadsOtherParts, no_other_parts, parts_so, more_parts}
@@ -76,10 +76,7 @@ reads_implicit {limit} leaves key value V f n further e far t z
         refl,
       );
       begins = λ others no. absurd no;
-      arrived = subst (λ (x : Marker). Arrived limit start g x z
-          ((ts ++ mapping_start further) ++ ((tokens.Key ∷ r.tokens) ++ (tokens.Value ∷ s.tokens)))) (sym end)
-          (subst (Arrived limit start g (moved (along m 1) v) z) (implicit_list further ts r.tokens s.tokens)
-          s.arrived);
+      arrived = arrived_so z end (implicit_list further ts r.tokens s.tokens) s.arrived;
     }
   where
     more : (a b c : ℕ) → a ≤ a + b + c
@@ -128,9 +125,7 @@ reads_alone {limit} leaves key value K f n further e far t z (node, out, some, h
         (r.tokens, as_optional key (BehindMark n.col) r.tokens r.are, refl),
       ));
       begins = λ others no. absurd no;
-      arrived = subst (λ (x : Marker). Arrived limit start g x z
-          ((ts ++ mapping_start further) ++ (tokens.Key ∷ r.tokens))) (sym end)
-          (subst (Arrived limit start g (moved (along n 1) node) z) (alone_list further ts r.tokens) r.arrived);
+      arrived = arrived_so z end (alone_list further ts r.tokens) r.arrived;
     }
 
 -- ## `:` alone
@@ -172,9 +167,7 @@ reads_keyless {limit} leaves key value V f n further e far t z (v, out, h, is) f
       tokens = tokens.Value ∷ s.tokens;
       are = grind (arith, as_optional);
       begins = grind (arith, value_here);
-      arrived = subst (λ (x : Marker). Arrived limit start g x z
-          ((ts ++ mapping_start further) ++ (tokens.Value ∷ s.tokens))) (sym end)
-          (subst (Arrived limit start g (moved (along n 1) v) z) (keyless_list further ts s.tokens) s.arrived);
+      arrived = arrived_so z end (keyless_list further ts s.tokens) s.arrived;
     }
 
 -- ## `?` and `:`
@@ -253,9 +246,7 @@ reads_marked {limit} leaves key value K V f n further e far t z
         refl,
       );
       begins = λ others no. absurd no;
-      arrived = subst (λ (x : Marker). Arrived limit start g x z
-          ((ts ++ mapping_start further) ++ ((tokens.Key ∷ r.tokens) ++ (tokens.Value ∷ s.tokens)))) (sym end)
-          (subst (Arrived limit start g (moved (along c 1) v) z) (marked_list further ts r.tokens s.tokens) s.arrived);
+      arrived = arrived_so z end (marked_list further ts r.tokens s.tokens) s.arrived;
     }
 
 pub reads_pair : {limit : ℕ} → ReadsLeaves limit → (key value : Node) → ReadsAt limit key (IsBlockNode most_open key)
@@ -279,9 +270,8 @@ pub is_pair : {limit : ℕ} → ReadsLeaves limit → (key value : Node) → Rea
     (grammar.YieldsNode value grammar.InBlockMapping)) mapping_start
     (IsBlockPair most_open key value (IsBlockNode most_open key) (IsBlockNode most_open value))
 is_pair leaves key value K V = record {
-  content = λ column t z h. pair_content leaves key value column t z h;
-  ends = λ column t z h. pair_ends key value (λ place u y i. node_ends leaves key place u y i)
-      (λ place u y i. node_ends leaves value place u y i) column t z h;
+  content = pair_content leaves key value;
+  ends = pair_ends key value (node_ends leaves key) (node_ends leaves value);
   reads = search (reads_pair);
   none = refl;
 }

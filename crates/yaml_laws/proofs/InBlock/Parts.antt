@@ -8,7 +8,7 @@ use Rattle.yaml_laws.proofs.Documents.Stands.{AtLine}
 use Rattle.yaml_laws.proofs.InBlock.Lines.{FitsOnLines, fits_front, fits_back, fits_so}
 use Rattle.yaml_laws.proofs.InBlock.States.{Frame, EndsDocument, At}
 use Rattle.yaml_laws.proofs.InBlock.Entries.{frame_behind}
-use Rattle.yaml_laws.proofs.InBlock.Statements.{EndsNodeAt, ArrivedAt, Arrived, EndsWithLine}
+use Rattle.yaml_laws.proofs.InBlock.Statements.{EndsNodeAt, ArrivedAt, Arrived, EndsWithLine, arrived_so}
 use Rattle.yaml_laws.proofs.InBlock.Texts.{behind_indented, indentation_skipped, indentation_col, reaches}
 use Rattle.yaml_laws.proofs.InBlock.BehindIndicators.{further_content}
 use Rattle.yaml_laws.proofs.InBlock.Ahead.{skipped_ahead}
@@ -214,9 +214,7 @@ more_parts {limit} {opens = opens} {Is} {Others} {As} is_part more = record {
         begins = λ first. ap (is_value_ahead false column m.col) text
             ∙ skipped_ahead column m front (part ++ z) (indentation_skipped column front front_is)
             ∙ subst (λ (c : ℕ). is_value_ahead false c n.col (part ++ z) ≡ true) col (r.begins s.tokens first);
-        arrived = subst (λ (x : Marker). Arrived limit start g x o (ts ++ (r.tokens ++ s.tokens))) (sym end)
-            (subst (Arrived limit start g (moved last others) o)
-            (list_end ts r.tokens s.tokens (opens false) is_part.none) s.arrived);
+        arrived = arrived_so o end (list_end ts r.tokens s.tokens (opens false) is_part.none) s.arrived;
       };
 }
 
@@ -254,8 +252,5 @@ reads_parts {limit} {opens = opens} is_part more f n further e far t o (part, ot
         refl,
       );
       begins = λ first. ap (is_value_ahead false n.col n.col) text ∙ r.begins s.tokens first;
-      arrived = subst (λ (x : Marker). Arrived limit start g x o
-          ((ts ++ opens further) ++ (r.tokens ++ s.tokens))) (sym end)
-          (subst (Arrived limit start g (moved last others) o)
-          (append_assoc (ts ++ opens further) r.tokens s.tokens) s.arrived);
+      arrived = arrived_so o end (append_assoc (ts ++ opens further) r.tokens s.tokens) s.arrived;
     }

@@ -38,6 +38,11 @@ pub record ArrivedAt (limit : ℕ) (start : State) (f : Frame) (ts : List Kind) 
 abbrev pub Arrived : ℕ → State → Frame → Marker → List ℕ → List Kind → Type 0
 Arrived limit start f m o ts = ArrivedAt limit start f ts (past 0 m o)
 
+-- told at an equal place and of equal tokens
+pub arrived_so : {limit : ℕ} {start : State} {f : Frame} {m n : Marker} {us ts : List Kind} (o : List ℕ) → m ≡ n
+    → us ≡ ts → Arrived limit start f n o us → Arrived limit start f m o ts
+arrived_so o e g v = rw (e, ← g) v
+
 -- after a text is a line's start, or nothing
 abbrev pub EndsWithLine : List ℕ → List ℕ → Type 0
 EndsWithLine t o = ((m : Marker) → (moved m t).col ≡ 0) ⊎ (o ≡ [])

@@ -83,8 +83,7 @@ mutual
   pairs_end leaves NoPair m t o h = absurd h
   pairs_end leaves (MorePairs key value pairs) m t o (pair, others, h, k, e) = ends_so t (pair ++ others) o e
       (last_ends pair others o (other_pairs_end leaves pairs m others o k)
-      (pair_ends key value (λ place u z k. node_ends leaves key place u z k)
-      (λ place u z k. node_ends leaves value place u z k) m pair (others ++ o) h))
+      (pair_ends key value (node_ends leaves key) (node_ends leaves value) m pair (others ++ o) h))
 
   other_pairs_end : {limit : ℕ} → ReadsLeaves limit → (pairs : Pairs) (m : ℕ) (t o : List ℕ)
       → AreOtherPairs most_open pairs m t o → (t ≡ []) ⊎ EndsWithLine t o
@@ -92,8 +91,7 @@ mutual
   other_pairs_end leaves (MorePairs key value pairs) m t o (front, pair, others, front_is, h, k, e) =
       inr (ends_so t (front ++ (pair ++ others)) o e (ends_back front (pair ++ others) o
       (last_ends pair others o (other_pairs_end leaves pairs m others o k)
-      (pair_ends key value (λ place u z k. node_ends leaves key place u z k)
-      (λ place u z k. node_ends leaves value place u z k) m pair (others ++ o) h))))
+      (pair_ends key value (node_ends leaves key) (node_ends leaves value) m pair (others ++ o) h))))
 
 -- ## Columns
 

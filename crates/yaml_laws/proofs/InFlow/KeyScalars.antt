@@ -4,7 +4,7 @@ use Rattle.saphyr_scalar.specs.Steps.Plain.{is_in_word, comment_of}
 use Rattle.saphyr_scanner.specs.declared.engine.level.Context.TheVariants as context
 use Rattle.saphyr_scanner.specs.Steps.Passing.{pass_gap, check_comment}
 use Rattle.saphyr_scanner.specs.Steps.Scalar.{goes_on_behind_quotes, quote_style}
-use Rattle.yaml_laws.proofs.InFlow.States.{Around, core_at, reach, in_column, behind_key}
+use Rattle.yaml_laws.proofs.InFlow.States.{Around, core_at, reach, in_column, behind_key, not_more}
 use Rattle.yaml_laws.proofs.InFlow.Tabs.{tabs_behind}
 use Rattle.yaml_laws.proofs.InFlow.OnLine.{separation_of_blanks, plain_lowers, plain_key_lowers}
 use Rattle.yaml_laws.proofs.InFlow.KeyLines.{Ready, token_led, content_gap}
@@ -220,12 +220,9 @@ quotes_along reads around quote value t n r h start k qs e ad text low ready =
         others = [];
         leads = led;
         are = refl;
-        low = no_more m.index;
+        low = not_more m.index;
       };
     }
-  where
-    no_more : (n : ℕ) → n ≤ n
-    no_more n = omega arith
 
 -- ## Both
 

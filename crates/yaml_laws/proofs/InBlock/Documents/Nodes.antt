@@ -11,7 +11,7 @@ use Rattle.yaml_laws.proofs.Documents.Stands.{StandsLined, AtLine, OffLine, Stan
 use Rattle.yaml_laws.proofs.InBlock.States.{Moment, root, moment_at, state_of, tabbed, crosses, IsStop, is_compact, IsPlaced, Before}
 use Rattle.yaml_laws.proofs.InBlock.Gaps.{past_stops}
 use Rattle.yaml_laws.proofs.InBlock.Untabbed.{settles}
-use Rattle.yaml_laws.proofs.InBlock.Follows.{goes_alike, left_key, left_again, lands as land, arrives_at, stays_open}
+use Rattle.yaml_laws.proofs.InBlock.Follows.{goes_alike, left_key, left_again, lands as land, arrives_at, stays_open, left_none}
 use Rattle.yaml_laws.proofs.InBlock.Closing.{ended_alike, stream_ends}
 use Rattle.yaml_laws.proofs.InBlock.Lines.{FitsOnLines, moved_lined}
 use Rattle.yaml_laws.proofs.InBlock.Statements.{EndsNodeAt, EndsWithLine, AreRead, ReadsLeaves}
@@ -156,6 +156,3 @@ reads_root {limit} {start} leaves place flat_place node t others ts h follows v 
   where
     unopened : false ≡ true → ⊥
     unopened e = cc
-
-    left_none : (k : Option Candidate) → k ≡ None → (m : Marker) → left_key k m ≡ None
-    left_none k e m = rw e refl
