@@ -21,15 +21,7 @@ use Rattle.yaml_laws.proofs.Flow.ContentStarts.{starts, colon_content}
 
 -- inside a key's brackets nothing is required at block level
 abbrev pub calmed : Around → Around
-calmed around = record {
-  limit = around.limit;
-  column = around.column;
-  indent = around.indent;
-  low = around.low;
-  outers = around.outers;
-  pending = false;
-  required = around.required;
-}
+calmed around = record around { pending = false }
 
 pub same_inside : (around : Around) (d : Bool) (s : Cursor) (x : Context) (k : Option Candidate) (ls : List Level)
     (a : Bool) (ad : ℕ) → is_block x ≡ false → core_at around d s x k ls a ad ≡ core_at (calmed around) d s x k ls a ad

@@ -123,12 +123,9 @@ to_next a n h = omega (arith, h)
 
 -- the same where a key begins at m, which is the column of its block mapping
 abbrev pub keyed : (around : Around) → Bool → (m : Marker) → around.column ≤ m.col + 1 → Around
-keyed around d m low = record {
-  limit = around.limit;
-  column = around.column;
+keyed around d m low = record around {
   indent = suc m.col;
   low = to_next around.column m.col low;
-  outers = around.outers;
   pending = is_required around d m;
   required = is_required around d m;
 }

@@ -12,7 +12,7 @@ use Rattle.yaml_laws.proofs.InBlock.States.{Moment, root, moment_at, state_of, t
 use Rattle.yaml_laws.proofs.InBlock.Gaps.{past_stops}
 use Rattle.yaml_laws.proofs.InBlock.Untabbed.{settles}
 use Rattle.yaml_laws.proofs.InBlock.Follows.{goes_alike, left_key, left_again, lands as land, arrives_at, stays_open, left_none}
-use Rattle.yaml_laws.proofs.InBlock.Closing.{ended_alike, stream_ends}
+use Rattle.yaml_laws.proofs.InBlock.Closing.{ended_alike, stream_ends, with_text}
 use Rattle.yaml_laws.proofs.InBlock.Lines.{FitsOnLines, moved_lined}
 use Rattle.yaml_laws.proofs.InBlock.Statements.{EndsNodeAt, EndsWithLine, AreRead, ReadsLeaves}
 use Rattle.yaml_laws.proofs.InBlock.Texts.{node_ends}
@@ -59,13 +59,14 @@ pub record NodeStands (limit : ℕ) (start : State) (node : Node) (place : Posit
   pub stands : StandsLined limit start false false others (ts ++ tokens)
 
 -- at the end of a document it doesn't matter where content would have to be
-flat_here : (m : Marker) (y : List ℕ) (blank : Bool) (key : Option Candidate) (a : Bool) (ad : ℕ) (deeper : Bool)
-    (ps : List Place) → EndsDocument m y → fetch_here (state_of root (moment_at m y blank key a ad deeper) ps)
-    ≡ fetch_here (state_of root (moment_at m y blank key a ad false) ps)
+flat_here : (n : Moment) (ps : List Place) → n.required ≡ false → EndsDocument n.cursor.mark n.cursor.rest
+    → fetch_here (state_of root n ps) ≡ fetch_here (state_of root (record n { deeper = false }) ps)
 unfolding unroll
-flat_here m y blank key a ad deeper ps (inl e) =
-    rw e (stream_ends root m blank key a ad deeper ps ∙ sym (stream_ends root m blank key a ad false ps))
-flat_here m y blank key a ad deeper ps (inr h) = search (ended_alike)
+flat_here n ps free (inl e) =
+    subst (λ (z : List ℕ). fetch_here (state_of root (with_text n z) ps)
+    ≡ fetch_here (state_of root (record (with_text n z) { deeper = false }) ps)) (sym e)
+    (stream_ends root n ps free ∙ sym (stream_ends root (record n { deeper = false }) ps free))
+flat_here n ps free (inr h) = ended_alike root root n false ps ps h.0 h.1 refl
 
 flat : (m : Marker) (y : List ℕ) (blank : Bool) (key : Option Candidate) (a : Bool) (ad : ℕ) (deeper : Bool)
     (ps : List Place) → IsStop y → is_too_far key m ≡ false → EndsDocument m y
@@ -75,7 +76,7 @@ unfolding fetch
 flat m y blank key a ad deeper ps stop near ends =
     let arrived = λ (d : Bool). ap (λ r. r >>= fetch_here) (arrives_at root m y blank key a ad d ps stop near)
     ∙ ap fetch_here (stays_open root false m y blank key a ad d ps (omega arith)) in
-    arrived deeper ∙ flat_here m y blank key a ad (deeper && nat_le 0 m.col) ps ends ∙ sym (arrived false)
+    arrived deeper ∙ flat_here (moment_at m y blank key a ad (deeper && nat_le 0 m.col)) ps refl ends ∙ sym (arrived false)
 
 -- at the root no tab is left of what is enclosed
 untabbed : (m : Marker) (blank : Bool) (t : List ℕ) → tabbed 0 m blank false t ≡ false
