@@ -1,10 +1,9 @@
 -- Ends of lines, filler and the gaps before a document's node.
 use Rattle.yaml_laws.proofs.Common.{Bool, List, [], append_assoc, arith, inl, inr, length, refl, slice_index, suc, true, ℕ, ◌++◌, ◌+◌, ◌∷◌, ◌≡◌, ◌⊎◌, nat_tests, is_blank, is_blank_or_breakz, is_breakz, line_feed, Marker, next_line, AreIn, AreEach, IsCommentBehind, IsEol, IsFiller, IsFillerLine, IsLineRest, joined_pieces, State, Kind}
-use Rattle.yaml_laws.proofs.Flow.States.{moved, past}
 use Rattle.yaml_laws.proofs.Flow.Places.{moved_append, moved_count}
 use Rattle.yaml_laws.proofs.Flow.Fillers.{EndsLine, filler_past}
 use Rattle.yaml_laws.proofs.Documents.Stands.{StandsLined, AtLine}
-use Rattle.yaml_laws.proofs.InBlock.States.{crosses}
+use Rattle.yaml_laws.proofs.InBlock.States.{crosses, moved, past}
 use Rattle.yaml_laws.proofs.InBlock.Lines.{IsLined, one_lined, moved_lined}
 
 -- ## The end of a line

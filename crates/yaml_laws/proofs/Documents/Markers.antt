@@ -7,12 +7,11 @@ use Rattle.saphyr_scanner.specs.Steps.Core.{remove_key}
 use Rattle.saphyr_scanner.specs.Steps.Unrolling.{unroll}
 use Rattle.saphyr_scanner.specs.Steps.Document.{end_content, state_behind_marker, end_line, state_behind_document_end, state_behind_byte_order_mark}
 use Rattle.saphyr_scanner.specs.Steps.Fetch.{fetch_here}
-use Rattle.yaml_laws.proofs.Flow.States.{moved, past}
 use Rattle.yaml_laws.proofs.Flow.GapSteps.{past_count}
 use Rattle.yaml_laws.proofs.Flow.Separates.{separates_rest}
 use Rattle.yaml_laws.proofs.Documents.Lines.{eol, eol_first, break_ends}
 use Rattle.yaml_laws.proofs.Documents.Stands.{StandsLined, reads_here, AtLine, Lined, BehindStart, StandsInStream, reads_token}
-use Rattle.yaml_laws.proofs.InBlock.States.{crosses}
+use Rattle.yaml_laws.proofs.InBlock.States.{crosses, moved, past}
 use Rattle.yaml_laws.proofs.InBlock.Follows.{comes_to_end}
 use Rattle.saphyr_input.proofs.Basics.Lists.{cons_not_empty}
 use Rattle.saphyr_scanner.proofs.Root.{state_at, fetches_stream_end, stream_end_place}

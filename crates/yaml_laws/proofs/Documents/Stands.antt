@@ -5,10 +5,9 @@ use Rattle.saphyr_scanner.specs.Steps.Gap.{GapEnd, stop}
 use Rattle.saphyr_scanner.specs.Steps.Passing.{goes_on_behind, pass_gap, check_comment, behind_gap}
 use Rattle.saphyr_scanner.specs.Steps.Fetch.{fetch_here, arrive, fetch}
 use Rattle.yaml_laws.proofs.InFlow.States.{alone, noted}
-use Rattle.yaml_laws.proofs.InBlock.States.{crosses, GoesOnAs}
+use Rattle.yaml_laws.proofs.InBlock.States.{crosses, GoesOnAs, past, EndsDocument}
 use Rattle.yaml_laws.proofs.InBlock.Follows.{goes_on}
 use Rattle.yaml_laws.proofs.InBlock.Lines.{IsLined}
-use Rattle.yaml_laws.proofs.Flow.States.{past, EndsDocument}
 use Rattle.yaml_laws.proofs.InBlock.Untabbed.{gap_past}
 use Rattle.yaml_laws.proofs.InBlock.Gaps.{past_no_blank}
 use Rattle.yaml_laws.proofs.Flow.GapSteps.{past_low}

@@ -3,8 +3,7 @@ use Rattle.yaml_laws.proofs.Common.{Bool, IsFalse, List, ap, append_assoc, arith
 use Rattle.std.specs.List.{list_all, list_any}
 use Rattle.yaml_laws.specs.Grammar.TagSpelling.{IsTag}
 use Rattle.yaml_laws.specs.Grammar.BlockNodes.{Position, is_start, is_behind_colon, indent_at, sequence_indent_at, IsGapAt, IsCollectionFront, IsStyled, IsScalarFront, IsLead, IsFlowInBlock, IsBlockPair, IsBlockNode, AreEntries, ArePairs}
-use Rattle.yaml_laws.proofs.Flow.States.{IsContentStart}
-use Rattle.yaml_laws.proofs.InBlock.States.{compact_spaced}
+use Rattle.yaml_laws.proofs.InBlock.States.{compact_spaced, IsContentStart}
 use Rattle.yaml_laws.proofs.Flow.ContentStarts.{StartsContent, content_front, dash_content, question_content, colon_content}
 use Rattle.yaml_laws.proofs.InBlock.Skips.{IsSkipped, IsClean, skipped_clean, lines_clean, skipped_append, spaces_skipped, filler_skipped}
 use Rattle.yaml_laws.proofs.InBlock.Entries.{IsBehindIndicator}

@@ -152,7 +152,9 @@ ended_kinds : (ps : List Place) (m : Marker) (ts : List Kind) → place_kinds ps
     → place_kinds (ps ++ end_place m ∷ []) ≡ ts ++ tokens.BlockEnd ∷ []
 ended_kinds ps m ts e = place_kinds_append ps (end_place m ∷ []) ∙ ap (λ (x : List Kind). x ++ tokens.BlockEnd ∷ []) e
 
--- The block collection at a column ends before the token at m, which is to its left or ends the document.
+-- The block collection at a column ends before the token at m, which is to its left or ends the document. Its
+-- `BlockEnd` comes only when that token is fetched. So the state inside it is compared with the state behind it, at the
+-- unrolling: a token to the left closes it there, and at the document's end all collections close alike.
 pub closes_block : {limit : ℕ} {start : State} {ts : List Kind} (f : Frame) (c : ℕ) (m : Marker) (y : List ℕ)
     → f.indent ≤ c → EndsDocument m y ⊎ (m.col < c) → (v : At limit start (frame_at_column c f) m y ts)
     → (w : At limit start f m y (ts ++ tokens.BlockEnd ∷ [])) × (w.key ≡ v.key) × (w.allowed ≡ v.allowed)

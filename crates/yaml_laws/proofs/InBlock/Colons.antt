@@ -8,8 +8,7 @@ use Rattle.saphyr_scanner.specs.Steps.Value as value
 use Rattle.saphyr_scanner.specs.Steps.Fetch.{fetch, fetch_here, state_behind_content, step}
 use Rattle.yaml_laws.specs.Grammar.BlockNodes as yaml
 use Rattle.yaml_laws.proofs.Flow.Values.{pair_places, performs}
-use Rattle.yaml_laws.proofs.Flow.States.{past}
-use Rattle.yaml_laws.proofs.InBlock.States.{Frame, Moment, moment_at, moment_with, core_of, state_of, tabbed, IsUntabbed, crosses, GoesOnAs, At, Before}
+use Rattle.yaml_laws.proofs.InBlock.States.{Frame, Moment, moment_at, moment_with, core_of, state_of, tabbed, IsUntabbed, crosses, GoesOnAs, At, Before, past}
 use Rattle.yaml_laws.proofs.InBlock.Follows.{steps_from, begins_here, deeper_at, lands_key}
 use Rattle.yaml_laws.proofs.InBlock.Entries.{IsBehindIndicator, front_end, separates, frame_behind, steps_on, start_places, start_performs, start_kinds, start_are, least_within, before_next}
 use Rattle.yaml_laws.proofs.InBlock.Questions.{colon_begins, key_kinds}
@@ -181,7 +180,8 @@ key_are : (further : Bool) (ps others : List Place) (key : Piece) (m : Marker) (
 key_are further ps others key m ts us first are =
     grind (arith, place_kinds_append, pair_places, place_kinds, key_kinds)
 
--- the colon of a key is read, which begins a mapping or goes on with one
+-- The colon of a key is read, which begins a mapping or goes on with one. The scanner is before the blanks in front of
+-- the colon, and lands there with the key still a candidate, whose place the step opens.
 pub reads_colon : {limit : ℕ} {start : State} (f : Frame) (n : Moment) (ps others new : List Place) (key : Piece)
     (k m : Marker) (o : List ℕ) (ts us : List Kind) (further : Bool) → nat_le f.indent k.col ≡ further
     → f.indent ≤ k.col + 1 → GoesOnAs limit start (state_of f n (ps ++ new)) → new ≡ bare_place key ∷ others

@@ -7,12 +7,11 @@ use Rattle.yaml_laws.proofs.Common.{Bool, IsTrue, List, [], ap, append-nil, appe
 use Rattle.saphyr_scanner.specs.Grammar.Tokens as tokens
 use Rattle.saphyr_scanner.specs.Grammar.TokenGrammar as grammar
 use Rattle.yaml_laws.specs.Grammar.Yaml as yaml
-use Rattle.yaml_laws.proofs.Flow.States.{ReaderPromises}
 use Rattle.yaml_laws.proofs.Flow.ContentStarts.{StartsContent}
 use Rattle.yaml_laws.proofs.Documents.Markers.{reads_start}
 use Rattle.yaml_laws.proofs.Documents.Directives.{reads_directives}
 use Rattle.yaml_laws.proofs.Documents.Stands.{StandsLined, lined_so, AtLine, Lined, BehindStart, StandsInStream, passes_over}
-use Rattle.yaml_laws.proofs.InBlock.States.{crosses}
+use Rattle.yaml_laws.proofs.InBlock.States.{crosses, ReaderPromises}
 use Rattle.yaml_laws.proofs.InBlock.Statements.{AreRead, as_optional, ReadsLeaves}
 use Rattle.yaml_laws.proofs.InBlock.Texts.{node_ends}
 use Rattle.yaml_laws.proofs.InBlock.BehindIndicators.{entries_content, pairs_content}

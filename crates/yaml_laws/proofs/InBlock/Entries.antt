@@ -6,12 +6,11 @@ use Rattle.saphyr_scanner.specs.Steps.Core.{least_column, completed_step, at_mar
 use Rattle.saphyr_scanner.specs.Steps.Block.{block_entry_steps, next_entry, pass_dash, deepen, refuse_tab, behind_start}
 use Rattle.saphyr_scanner.specs.Grammar.Tokens as tokens
 use Rattle.saphyr_scanner.specs.Steps.Fetch.{fetch, state_behind_content, step}
-use Rattle.yaml_laws.proofs.Flow.States.{past}
 use Rattle.yaml_laws.proofs.Flow.GapSteps.{past_low}
 use Rattle.yaml_laws.specs.Grammar.BlockNodes as yaml
 use Rattle.yaml_laws.specs.Grammar.BlockNodes.{Position as Position}
 use Rattle.yaml_laws.proofs.Flow.Separates.{StopsLine, line_separated}
-use Rattle.yaml_laws.proofs.InBlock.States.{Frame, Moment, frame_at_column, moment_at, core_of, state_of, IsUntabbed, crosses, is_compact, IsPlaced, At, Before}
+use Rattle.yaml_laws.proofs.InBlock.States.{Frame, Moment, frame_at_column, moment_at, core_of, state_of, IsUntabbed, crosses, is_compact, IsPlaced, At, Before, past}
 use Rattle.yaml_laws.proofs.InBlock.Gaps.{past_stops}
 use Rattle.yaml_laws.proofs.InBlock.Skips.{IsCleanBehind}
 use Rattle.yaml_laws.proofs.InBlock.Follows.{follows_itself, steps_from, goes_alike, left_key, left_again, lands, BeginsToken, begins_with, begins_here, arrives_at, stays_open, deeper_at, left_none}

@@ -7,14 +7,13 @@ use Rattle.saphyr_scalar.proofs.WhatCame.Rests.{known_before}
 use Rattle.saphyr_scanner.specs.declared.engine.level.Context.TheVariants as context
 use Rattle.saphyr_scanner.specs.Grammar.Tokens as tokens
 use Rattle.yaml_laws.specs.Grammar.ClosedTexts.{DocumentMarker, Starts, Ends, marker_text, marker_token}
-use Rattle.yaml_laws.proofs.Flow.States.{EndsDocument, moved, past}
 use Rattle.yaml_laws.proofs.Flow.Fillers.{rest_past}
 use Rattle.yaml_laws.proofs.Flow.Places.{moved_count}
 use Rattle.yaml_laws.proofs.Flow.Separates.{separates_rest}
 use Rattle.yaml_laws.proofs.Documents.Lines.{rest_first}
 use Rattle.yaml_laws.proofs.Documents.Stands.{StandsLined, StandsInStream, lined_so, reads_here}
 use Rattle.yaml_laws.proofs.Documents.Markers.{piece_of, at_line, start_here, start_ends, start_count, end_here, end_ends, end_count, reads_start, reads_end, FinishesStream, reads_stream_end}
-use Rattle.yaml_laws.proofs.InBlock.States.{GoesOnAs}
+use Rattle.yaml_laws.proofs.InBlock.States.{GoesOnAs, EndsDocument, moved, past}
 use Rattle.yaml_laws.proofs.InBlock.Follows.{first_step}
 use Rattle.yaml_laws.proofs.InBlock.Documents.Comes.{Comes}
 use Rattle.saphyr_input.proofs.Basics.Lists.{cons_not_empty}

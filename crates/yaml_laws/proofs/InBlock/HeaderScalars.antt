@@ -8,10 +8,9 @@ use Rattle.saphyr_scanner.specs.Steps.Fetch.{fetch, fetch_here, fetch_within, ch
 use Rattle.saphyr_scanner.specs.Steps.Scalar as scalar
 use Rattle.saphyr_scanner.specs.Steps.Scalar.{style_of}
 use Rattle.saphyr_scanner.specs.Grammar.Tokens as kind
-use Rattle.yaml_laws.proofs.Flow.States.{moved, past}
 use Rattle.yaml_laws.proofs.Flow.GapSteps.{past_low}
 use Rattle.yaml_laws.proofs.Flow.Places.{moved_append, moved_count}
-use Rattle.yaml_laws.proofs.InBlock.States.{Frame, Moment, moment_at, core_of, state_of, tabbed, IsUntabbed, crosses, GoesOnAs, At, EndsDocument}
+use Rattle.yaml_laws.proofs.InBlock.States.{Frame, Moment, moment_at, core_of, state_of, tabbed, IsUntabbed, crosses, GoesOnAs, At, EndsDocument, moved, past}
 use Rattle.yaml_laws.proofs.InBlock.Gaps.{past_stops}
 use Rattle.yaml_laws.proofs.InBlock.Skips.{skipped_past, spaces_skipped}
 use Rattle.yaml_laws.proofs.InBlock.Follows.{follows_itself, goes_alike, first_step, left_key, left_again, drops, lands, BeginsToken, begins_with, begins_here, arrives_at, stays_open, deeper_at}

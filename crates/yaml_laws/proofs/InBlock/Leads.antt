@@ -1,11 +1,10 @@
 -- What comes before a block collection is passed: its properties, or nothing, and the way to its first entry.
 use Rattle.yaml_laws.proofs.Common.{List, [], ap, append-nil, append_assoc, arith, inl, inr, refl, subst, sym, true, ℕ, ◌++◌, ◌∙◌, ◌∷◌, ◌≡◌, ◌≤◌, None, ◌||◌, Marker, spaces, IsFiller, IsLineEnd, State, Kind, Properties, no_properties, or-true}
 use Rattle.yaml_laws.specs.Grammar.BlockNodes.{Position, indent_at, sequence_indent_at, IsLead}
-use Rattle.yaml_laws.proofs.Flow.States.{moved, past}
 use Rattle.yaml_laws.proofs.Flow.Places.{moved_append}
 use Rattle.yaml_laws.proofs.InBlock.Lines.{FitsOnLines, fits_so}
 use Rattle.yaml_laws.proofs.Flow.ContentStarts.{StartsContent}
-use Rattle.yaml_laws.proofs.InBlock.States.{Frame, crosses, is_compact, IsPlaced, At, Before, compact_spaced}
+use Rattle.yaml_laws.proofs.InBlock.States.{Frame, crosses, is_compact, IsPlaced, At, Before, compact_spaced, moved, past}
 use Rattle.yaml_laws.proofs.InBlock.Skips.{IsSkipped, skipped_append, filler_skipped, spaces_skipped, line_end_skipped, line_end_crosses}
 use Rattle.yaml_laws.proofs.InBlock.Statements.{ReadsLeaves, IsNextLineText, PropertiesRead}
 use Rattle.yaml_laws.proofs.InBlock.Texts.{reaches, spaces_moved, indentation_col}

@@ -3,11 +3,10 @@ use Rattle.yaml_laws.proofs.Common.{Bool, List, [], ap, append-nil, append_assoc
 use Rattle.saphyr_scanner.specs.Grammar.Tokens as tokens
 use Rattle.saphyr_scanner.specs.Grammar.TokenGrammar as grammar
 use Rattle.yaml_laws.specs.Grammar.BlockNodes.{Position, indent_at, sequence_indent_at, IsLead, IsLeftOut, IsFlowInBlock, IsBlockNode, AreEntries, ArePairs}
-use Rattle.yaml_laws.proofs.Flow.States.{moved, past}
 use Rattle.yaml_laws.proofs.Flow.Places.{moved_append}
 use Rattle.yaml_laws.proofs.InBlock.Lines.{FitsOnLines, fits_front, fits_back, fits_so}
 use Rattle.yaml_laws.proofs.Flow.Fillers.{rest_past}
-use Rattle.yaml_laws.proofs.InBlock.States.{Frame, is_compact, EndsDocument, At, Before}
+use Rattle.yaml_laws.proofs.InBlock.States.{Frame, is_compact, EndsDocument, At, Before, moved, past}
 use Rattle.yaml_laws.proofs.InBlock.Closing.{closes_block}
 use Rattle.yaml_laws.proofs.InBlock.Skips.{line_end_skipped, line_end_crosses, skipped_past}
 use Rattle.yaml_laws.proofs.InBlock.Entries.{frame_behind}
@@ -90,6 +89,8 @@ abbrev IsBlockSequence : Properties → Nodes → Position → List ℕ → List
 IsBlockSequence p nodes place t o = (m : ℕ) × (lead entries : List ℕ) × IsLead p place (sequence_indent_at place) m lead
     × AreEntries most_open nodes m entries o × (t ≡ lead ++ entries)
 
+-- After its lead a sequence's entries are read in a frame of their own, which closes behind them, or, at the column of
+-- the mapping around it, in that mapping's frame.
 reads_sequence : {limit : ℕ} → ReadsLeaves limit → (p : Properties) (node : Node) (nodes : Nodes)
     → ReadsAt limit node (IsBlockNode most_open node) → ReadsOtherEntries limit nodes
     → ReadsAt limit (Seq p (MoreNodes node nodes)) (IsBlockSequence p (MoreNodes node nodes))

@@ -3,10 +3,9 @@ use Rattle.yaml_laws.proofs.Common.{Bool, List, [], ap, append-nil, append_assoc
 use Rattle.saphyr_scanner.specs.Grammar.Tokens as tokens
 use Rattle.saphyr_scanner.specs.Grammar.TokenGrammar as grammar
 use Rattle.yaml_laws.proofs.InFlow.Keys.{blanks_are_on_line}
-use Rattle.yaml_laws.proofs.Flow.States.{moved, past}
 use Rattle.yaml_laws.proofs.Flow.Places.{moved_append, moved_along}
 use Rattle.yaml_laws.proofs.InBlock.Lines.{FitsOnLines, fits_front, fits_back, fits_so}
-use Rattle.yaml_laws.proofs.InBlock.States.{Frame, EndsDocument, At, Before}
+use Rattle.yaml_laws.proofs.InBlock.States.{Frame, EndsDocument, At, Before, moved, past}
 use Rattle.yaml_laws.proofs.InBlock.Entries.{BeginsWhite, IsBehindIndicator, frame_behind}
 use Rattle.yaml_laws.proofs.InBlock.Questions.{key_kinds, reads_question}
 use Rattle.yaml_laws.proofs.InBlock.Colons.{value_kinds, reads_value, reads_colon}
@@ -41,6 +40,8 @@ implicit_list : (further : Bool) (ts us vs : List Kind)
     ≡ (ts ++ mapping_start further) ++ ((tokens.Key ∷ us) ++ (tokens.Value ∷ vs))
 implicit_list further ts us vs = grind (arith, append_assoc, append-nil)
 
+-- The key is read first, and kept as a candidate. Its colon makes it a key, and begins the mapping where that is not
+-- open. So the tokens before the key's are told only after the colon.
 reads_implicit : {limit : ℕ} → ReadsLeaves limit → (key value : Node)
     → ReadsAt limit value (IsBlockNode most_open value)
     → ReadsPair limit key value (IsImplicitPair most_open key (IsBlockNode most_open value))
@@ -180,6 +181,8 @@ marked_list : (further : Bool) (ts us vs : List Kind)
     ≡ (ts ++ mapping_start further) ++ ((tokens.Key ∷ us) ++ (tokens.Value ∷ vs))
 marked_list further ts us vs = grind (arith, append_assoc, append-nil)
 
+-- The `:` is on a later line, at the mapping's column. So filler and indentation follow the key, which ends its lines,
+-- and the scanner comes to the `:` from a line's start.
 reads_marked : {limit : ℕ} → ReadsLeaves limit → (key value : Node) → ReadsAt limit key (IsBlockNode most_open key)
     → ReadsAt limit value (IsBlockNode most_open value)
     → ReadsPair limit key value (IsMarkedPair (IsBlockNode most_open key) (IsBlockNode most_open value))

@@ -1,12 +1,11 @@
 -- The parts of a block collection are read, the entries of a sequence or the pairs of a mapping (YAML 1.2.2, 8.2).
 use Rattle.yaml_laws.proofs.Common.{Bool, List, [], ap, append-nil, append_assoc, arith, false, inl, inr, refl, subst, suc, sym, true, ℕ, ◌++◌, ◌+◌, ◌∙◌, ◌∷◌, ◌≡◌, ◌≤◌, ◌⊎◌, None, nat_le, ◌&&◌, ◌==◌, is_bom, is_document_indicator, Marker, State, Kind, IsEntryIndentation, is_value_ahead, next_not_within, clash}
 use Rattle.saphyr_scanner.specs.Grammar.TokenGrammar as grammar
-use Rattle.yaml_laws.proofs.Flow.States.{IsClear, moved, past, IsContentStart}
 use Rattle.yaml_laws.proofs.Flow.ContentStarts.{StartsContent}
 use Rattle.yaml_laws.proofs.Flow.Places.{moved_append, clear_here}
 use Rattle.yaml_laws.proofs.Documents.Stands.{AtLine}
 use Rattle.yaml_laws.proofs.InBlock.Lines.{FitsOnLines, fits_front, fits_back, fits_so}
-use Rattle.yaml_laws.proofs.InBlock.States.{Frame, EndsDocument, At}
+use Rattle.yaml_laws.proofs.InBlock.States.{Frame, EndsDocument, At, IsClear, moved, past, IsContentStart}
 use Rattle.yaml_laws.proofs.InBlock.Entries.{frame_behind}
 use Rattle.yaml_laws.proofs.InBlock.Statements.{EndsNodeAt, ArrivedAt, Arrived, EndsWithLine, arrived_so}
 use Rattle.yaml_laws.proofs.InBlock.Texts.{behind_indented, indentation_skipped, indentation_col, reaches}
@@ -164,6 +163,9 @@ others_behind is_part Others column m t o (front, part, others, front_is, h, k, 
 list_end : (ts us vs opens : List Kind) → opens ≡ [] → ((ts ++ opens) ++ us) ++ vs ≡ ts ++ (us ++ vs)
 list_end ts us vs opens e = rw e (simp (append_assoc, append-nil))
 
+-- A further part and those after it are read, if the part is of a kind that is and those after it are. Its indentation
+-- is passed, so it begins at the collection's column, where no document marker is. What comes after it ends it, be that
+-- a further part or what follows the collection.
 pub more_parts : {limit : ℕ} {E : List Kind → List Kind → Type 0} {opens : Bool → List Kind}
     {Is Others : ℕ → List ℕ → List ℕ → Type 0} {As : List Kind → Type 0} → IsPart limit E opens Is
     → ReadsOtherParts limit Others As → ReadsOtherParts limit (AreOthers Is Others) (AreParts E As)

@@ -5,13 +5,12 @@ use Rattle.std.proofs.lemmas.List.{length-append}
 use Rattle.saphyr_scanner.specs.Grammar.TokenGrammar as grammar
 use Rattle.saphyr_scanner.specs.declared.engine.level.Context.TheVariants as context
 use Rattle.yaml_laws.proofs.InFlow.States.{moment}
-use Rattle.yaml_laws.proofs.Flow.States.{moved, past, Since, FitsAround, ReaderPromises}
 use Rattle.yaml_laws.proofs.Flow.ContentStarts.{StartsContent, properties_content, behind_low}
 use Rattle.yaml_laws.proofs.Flow.GapSteps.{past_content}
 use Rattle.yaml_laws.proofs.Flow.Fillers.{separation_past}
 use Rattle.yaml_laws.proofs.Flow.Ends.{white_ends_tag}
 use Rattle.yaml_laws.proofs.Flow.Places.{moved_append}
-use Rattle.yaml_laws.proofs.InBlock.States.{Frame, crosses, At}
+use Rattle.yaml_laws.proofs.InBlock.States.{Frame, crosses, At, moved, past, Since, FitsAround, ReaderPromises}
 use Rattle.yaml_laws.proofs.InBlock.Skips.{IsSkipped, IsClean, Passes, skipped_clean, skipped_append, spaces_skipped, line_end_skipped, line_end_crosses, filler_skipped, skipped_passes, text_gap_passes}
 use Rattle.yaml_laws.proofs.InBlock.Lines.{moved_line, later_line, FitsOnLines, fits_front, fits_back, fits_so}
 use Rattle.yaml_laws.proofs.InBlock.Statements.{IsNextLineText, PropertiesRead, ReadsProperties}

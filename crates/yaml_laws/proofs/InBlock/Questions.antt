@@ -9,8 +9,7 @@ use Rattle.saphyr_scanner.specs.Grammar.Tokens as tokens
 use Rattle.saphyr_scanner.specs.Steps.Fetch.{state_behind_content, step}
 use Rattle.yaml_laws.specs.Grammar.BlockNodes as yaml
 use Rattle.yaml_laws.proofs.Flow.GapSteps.{past_count, past_again}
-use Rattle.yaml_laws.proofs.Flow.States.{past}
-use Rattle.yaml_laws.proofs.InBlock.States.{Frame, Moment, moment_at, core_of, state_of, IsStop, crosses, At, Before}
+use Rattle.yaml_laws.proofs.InBlock.States.{Frame, Moment, moment_at, core_of, state_of, IsStop, crosses, At, Before, past}
 use Rattle.yaml_laws.proofs.InBlock.Gaps.{past_stops, stop_tabbed}
 use Rattle.yaml_laws.proofs.InBlock.Skips.{has_tab, spaces_reach}
 use Rattle.yaml_laws.proofs.InBlock.Follows.{BeginsToken, begins_with, deeper_at}

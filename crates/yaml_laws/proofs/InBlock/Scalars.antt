@@ -3,12 +3,11 @@ use Rattle.yaml_laws.proofs.Common.{IsTrue, List, [], append-nil, append_assoc, 
 use Rattle.saphyr_scalar.proofs.NoBreaks.{NoBreaks}
 use Rattle.saphyr_scanner.specs.Grammar.TokenGrammar as grammar
 use Rattle.yaml_laws.specs.Grammar.BlockNodes.{Position as Position, indent_at, is_start, IsGapAt, IsStyled, IsScalarFront, IsScalarInBlock}
-use Rattle.yaml_laws.proofs.Flow.States.{moved, past}
 use Rattle.yaml_laws.proofs.Flow.ContentStarts.{StartsContent}
 use Rattle.yaml_laws.proofs.Flow.Names.{unbroken_along}
 use Rattle.yaml_laws.proofs.Flow.Places.{moved_append}
 use Rattle.yaml_laws.proofs.Flow.WordGaps.{prefix_reaches}
-use Rattle.yaml_laws.proofs.InBlock.States.{Frame, IsPlaced, At, Before}
+use Rattle.yaml_laws.proofs.InBlock.States.{Frame, IsPlaced, At, Before, moved, past}
 use Rattle.yaml_laws.proofs.InBlock.Skips.{gap_passes}
 use Rattle.yaml_laws.proofs.InBlock.Lines.{FitsOnLines, fits_front, fits_so}
 use Rattle.yaml_laws.proofs.InBlock.Statements.{context_at, EndsNodeAt, NodeRead, ReadsAt}

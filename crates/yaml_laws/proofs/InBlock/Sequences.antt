@@ -2,9 +2,8 @@
 use Rattle.yaml_laws.proofs.Common.{Bool, List, [], append-nil, append_assoc, arith, false, inl, inr, refl, subst, suc, true, ℕ, ◌++◌, ◌+◌, ◌∙◌, ◌∷◌, ◌≡◌, ◌≤◌, None, if◌then◌else◌, nat_le, hyphen, Marker, along, State, Kind, MoreNodes, NoNode, Node, Nodes, most_open, AreEntries, AreOtherEntries, BehindDash, IsBlockNode}
 use Rattle.saphyr_scanner.specs.Grammar.Tokens as tokens
 use Rattle.saphyr_scanner.specs.Grammar.TokenGrammar as grammar
-use Rattle.yaml_laws.proofs.Flow.States.{moved}
 use Rattle.yaml_laws.proofs.InBlock.Lines.{FitsOnLines, fits_back, fits_so}
-use Rattle.yaml_laws.proofs.InBlock.States.{Frame, At}
+use Rattle.yaml_laws.proofs.InBlock.States.{Frame, At, moved}
 use Rattle.yaml_laws.proofs.InBlock.Entries.{frame_behind, dash_kinds, reads_dash}
 use Rattle.yaml_laws.proofs.InBlock.Statements.{EndsNodeAt, EndsWithLine, as_optional, NodeRead, ReadsAt, ReadsLeaves}
 use Rattle.yaml_laws.proofs.InBlock.Texts.{node_ends}

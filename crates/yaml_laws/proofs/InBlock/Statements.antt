@@ -3,10 +3,9 @@ use Rattle.yaml_laws.proofs.Common.{Bool, IsFalse, List, [], false, inl, inr, le
 use Rattle.saphyr_scanner.specs.Steps.Queue as queue
 use Rattle.saphyr_scanner.specs.Grammar.TokenGrammar as grammar
 use Rattle.yaml_laws.specs.Grammar.BlockNodes.{Position, BehindMark, BehindKey, is_start, indent_at, IsGapAt, IsFlowInBlock, IsStyled, IsScalarFront, IsScalarInBlock, BehindDash, BehindMarker, AtStart}
-use Rattle.yaml_laws.proofs.Flow.States.{moved, past}
 use Rattle.yaml_laws.proofs.Flow.ContentStarts.{StartsContent}
 use Rattle.yaml_laws.proofs.InBlock.Lines.{FitsOnLines}
-use Rattle.yaml_laws.proofs.InBlock.States.{Frame, Moment, core_of, state_of, IsUntabbed, EndsDocument, IsLeftOf, GoesOnAs, At, Before}
+use Rattle.yaml_laws.proofs.InBlock.States.{Frame, Moment, core_of, state_of, IsUntabbed, EndsDocument, IsLeftOf, GoesOnAs, At, Before, moved, past}
 use Rattle.yaml_laws.proofs.InBlock.Skips.{IsClean}
 use Rattle.yaml_laws.proofs.InFlow.KeyScalars.{Blanks}
 use Rattle.yaml_laws.proofs.Flow.NoDashes.{NoDash}

@@ -4,8 +4,7 @@ use Rattle.yaml_laws.proofs.Common.{Bool, IsFalse, List, [], arith, false, slice
 use Rattle.saphyr_scanner.specs.declared.engine.level.Context.TheVariants as context
 use Rattle.yaml_laws.specs.Grammar.BlockNodes as yaml
 use Rattle.yaml_laws.specs.Grammar.BlockNodes.{Position as Position}
-use Rattle.yaml_laws.proofs.Flow.States.{past}
-pub use Rattle.yaml_laws.proofs.Flow.States.{EndsDocument, crosses, crosses_comment}
+pub use Rattle.yaml_laws.proofs.Flow.States.{EndsDocument, crosses, crosses_comment, FitsAround, IsBehindRoot, IsClear, IsContentStart, IsLeft, ReaderPromises, Since, marks_line, moved, past}
 
 -- ## The block collections that are open
 

@@ -4,12 +4,11 @@ use Rattle.saphyr_scanner.specs.Grammar.Tokens as tokens
 use Rattle.saphyr_scanner.specs.Grammar.TokenGrammar as grammar
 use Rattle.saphyr_scanner.specs.Grammar.TokenGrammar.{AreEndsAndMarks, Yields}
 use Rattle.yaml_laws.specs.Grammar.Yaml as yaml
-use Rattle.yaml_laws.proofs.Flow.States.{moved, ReaderPromises}
 use Rattle.yaml_laws.proofs.Flow.Fillers.{last_filler_past}
 use Rattle.yaml_laws.proofs.Documents.Lines.{passes_filler}
 use Rattle.yaml_laws.proofs.Documents.Stands.{StandsLined, lined_so, unfree}
 use Rattle.yaml_laws.proofs.Documents.Markers.{reads_mark, reads_end, FinishesStream, reads_stream_end}
-use Rattle.yaml_laws.proofs.InBlock.States.{crosses}
+use Rattle.yaml_laws.proofs.InBlock.States.{crosses, moved, ReaderPromises}
 use Rattle.yaml_laws.proofs.InBlock.Follows.{follows_itself}
 use Rattle.yaml_laws.proofs.InBlock.Statements.{ReadsLeaves}
 use Rattle.yaml_laws.proofs.InBlock.Documents.Ends.{AreBlockDocuments, HasNoReturn, suffix_text, follows_document, marks_text}

@@ -1,7 +1,6 @@
 -- What comes after a document ends it, or begins with a document marker (YAML 1.2.2, chapter 9).
 use Rattle.yaml_laws.proofs.Common.{Bool, List, [], append_assoc, arith, inl, inr, refl, slice_index, true, ℕ, ◌++◌, ◌∷◌, ◌≡◌, ◌⊎◌, not, ◌==◌, byte_order_mark, carriage_return, is_blank_or_breakz, Marker, AreIn, IsFiller, IsLastFiller, joined_pieces, Document, Forest, Node, most_open, BehindMarker, EndsContent, IsBlockNode, AreDirectives, AreDocuments, false≢true, full_stop}
 use Rattle.yaml_laws.specs.Grammar.Yaml as yaml
-use Rattle.yaml_laws.proofs.Flow.States.{EndsDocument, past}
 use Rattle.yaml_laws.proofs.Flow.Fillers.{last_filler_past}
 use Rattle.yaml_laws.proofs.Documents.Lines.{eol, eol_first, filler_at_line}
 use Rattle.yaml_laws.proofs.Documents.Markers.{start_ends, end_ends}
@@ -9,7 +8,7 @@ use Rattle.yaml_laws.proofs.Documents.Stands.{AtLine}
 use Rattle.yaml_laws.proofs.InBlock.Skips.{IsClean, skipped_clean, filler_skipped, rest_ends_clean, skipped_passes}
 use Rattle.yaml_laws.proofs.InBlock.Statements.{ReadsLeaves}
 use Rattle.yaml_laws.proofs.InBlock.BehindIndicators.{node_behind}
-use Rattle.yaml_laws.proofs.InBlock.States.{IsStop}
+use Rattle.yaml_laws.proofs.InBlock.States.{IsStop, EndsDocument, past}
 
 -- the documents of a text of YAML's grammar
 abbrev pub AreBlockDocuments : Forest → Bool → List ℕ → Type 0

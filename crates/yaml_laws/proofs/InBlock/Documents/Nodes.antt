@@ -3,12 +3,11 @@ use Rattle.yaml_laws.proofs.Common.{Bool, List, [], ap, arith, false, inl, inr, 
 use Rattle.saphyr_scanner.specs.Steps.Fetch.{fetch, fetch_here}
 use Rattle.saphyr_scanner.specs.Steps.Unrolling.{unroll}
 use Rattle.yaml_laws.specs.Grammar.BlockNodes.{Position as Position, indent_at, IsBlockNode}
-use Rattle.yaml_laws.proofs.Flow.States.{IsClear, EndsDocument, marks_line, moved, past}
 use Rattle.yaml_laws.proofs.Flow.Places.{behind_character, moved_count}
 use Rattle.yaml_laws.proofs.Flow.GapSteps.{past_again}
 use Rattle.yaml_laws.proofs.InBlock.LineStarts.{fed_marks, last_marks}
 use Rattle.yaml_laws.proofs.Documents.Stands.{StandsLined, AtLine, OffLine, StandsInStream}
-use Rattle.yaml_laws.proofs.InBlock.States.{Moment, root, moment_at, state_of, tabbed, crosses, IsStop, is_compact, IsPlaced, Before}
+use Rattle.yaml_laws.proofs.InBlock.States.{Moment, root, moment_at, state_of, tabbed, crosses, IsStop, is_compact, IsPlaced, Before, IsClear, EndsDocument, marks_line, moved, past}
 use Rattle.yaml_laws.proofs.InBlock.Gaps.{past_stops}
 use Rattle.yaml_laws.proofs.InBlock.Untabbed.{settles}
 use Rattle.yaml_laws.proofs.InBlock.Follows.{goes_alike, left_key, left_again, lands as land, arrives_at, stays_open, left_none}
@@ -85,6 +84,9 @@ untabbed m blank t = (settles 0 m t (past_stops m t)).1 0 (omega arith) blank
 sum_within : (i l j k limit : ℕ) → i + l ≡ j + k → j + k ≤ limit → i + l ≤ limit
 sum_within i l j k limit e h = omega (arith, e, h)
 
+-- A document's node is read where no collection is open. What the stream's statements say of a moment before the node
+-- and after it is put into the words of nodes: before it the next token is reached, and after it the document ends,
+-- where it doesn't matter how far right content would have to be (`flat`).
 pub reads_root : {limit : ℕ} {start : State} {P : Marker → Bool → Type 0} → ReadsLeaves limit → (place : Position)
     → indent_at place ≡ 0 → (node : Node) (t others : List ℕ) (ts : List Kind)
     → IsBlockNode most_open node place t others → FollowsDocument others → (v : StandsInStream limit start true P (t ++ others) ts)
