@@ -15,15 +15,13 @@ pub mod Statements
 pub mod Texts
 pub mod IndicatorLines
 pub mod BehindIndicators
-pub mod TabsAhead
-pub mod ValuesAhead
+pub mod Ahead
 pub mod ScalarTexts
 pub mod HeaderScalars
 pub mod Scalars
 pub mod Parts
 pub mod Sequences
 pub mod Pairs
-pub mod Mappings
 pub mod Leads
 pub mod Nodes
 pub mod Documents

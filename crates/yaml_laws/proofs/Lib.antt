@@ -1,3 +1,4 @@
+pub mod Common
 pub mod InBlock
 pub mod InFlow
 pub mod Flow

@@ -1,20 +1,11 @@
 -- What a scanner knows of a text, and what another knows of its normalized text: the same, but for the indexes.
-use Rattle.std.proofs.Common.{◌≡◌, ℕ, suc, ◌+◌, ◌^◌, ◌<◌, Bool, false, List, [], ◌∷◌, length, Option, Some, None, Result, Ok, refl, ap, arith}
-use Rattle.saphyr_input.specs.Classes.{is_break}
-use Rattle.saphyr_input.specs.declared.input.SkipTabs.{SkipTabs}
+use Rattle.yaml_laws.proofs.Common.{Bool, List, None, Ok, Option, Result, Some, [], ap, arith, false, length, refl, suc, ℕ, ◌+◌, ◌<◌, ◌^◌, ◌∷◌, ◌≡◌, is_break, SkipTabs, Marker, Refusal, Cursor, pass, start_cursor, ◌>>=◌, Candidate, Level, pass_on, separate, with_cursor, no_return, cursor_at}
 use Rattle.saphyr_input.specs.declared.input.SkipTabs.TheVariants as tabs
-use Rattle.saphyr_scalar.specs.declared.scalar.position.Marker.{Marker}
-use Rattle.saphyr_scalar.specs.declared.scalar.fault.Refusal.{Refusal}
-use Rattle.saphyr_scalar.specs.Views.Cursor.{Cursor, ◌>>=◌, start_cursor, pass}
 use Rattle.scalar_laws.specs.Alike.{AreAlike, ReadsAlike}
 use Rattle.scalar_laws.proofs.Breaks.Results.{Both, both_of, gives, refused, choose, choose_same, and_known, and_then}
 use Rattle.saphyr_scanner.specs.Steps.Core.{Core, is_too_far, save_key, remove_key, drop_far_key, enter_block, roll, is_further}
-use Rattle.saphyr_scanner.specs.Steps.Level.{Candidate, Level}
-use Rattle.saphyr_scanner.specs.Steps.Passing.{separate, pass_on, with_cursor}
 use Rattle.yaml_laws.proofs.Breaks.Forward.{Forward, Forwards, both_ahead, separation_forward}
 use Rattle.yaml_laws.proofs.Breaks.Places.{reindexed, near, Even, even_here, even_even, Ahead, Stand, stand_alike, alike_is, Low, choose_by, character_ahead}
-use Rattle.saphyr_input.proofs.Basics.Characters.{no_return}
-use Rattle.saphyr_scalar.proofs.Given.{cursor_at}
 
 -- ## The other scanner
 

@@ -1,29 +1,14 @@
 -- Document markers, directives, byte order marks and the end of the stream leave both scanners alike.
-use Rattle.std.proofs.Common.{◌≡◌, ℕ, ◌+◌, Bool, true, false, List, [], ◌∷◌, length, None, Result, Ok, Err, refl, sym, ap, arith}
-use Rattle.std.specs.Prelude.{◌&&◌, ◌||◌, ◌==◌, not, slice_index, nat_lt}
+use Rattle.yaml_laws.proofs.Common.{Bool, Err, List, None, Ok, Result, [], ap, arith, false, length, refl, sym, true, ℕ, ◌+◌, ◌∷◌, ◌≡◌, nat_lt, not, slice_index, ◌&&◌, ◌==◌, ◌||◌, normalized, carriage_return, is_breakz, is_document_end, is_document_start, SkipTabs, Marker, Refusal, Cursor, along, pass, pass_byte_order_mark, ◌>>=◌, Kind, Core, in_block, separate, State, on_core_with, no_return, cursor_at, and_parts, eqb-true}
 use Rattle.saphyr_scalar.proofs.Moving.{along_more}
-use Rattle.saphyr_input.specs.Breaks.{normalized}
-use Rattle.saphyr_input.specs.Classes.{is_breakz, carriage_return}
-use Rattle.saphyr_input.specs.Places.{is_document_start, is_document_end}
-use Rattle.saphyr_input.specs.declared.input.SkipTabs.{SkipTabs}
-use Rattle.saphyr_scalar.specs.declared.scalar.position.Marker.{Marker}
-use Rattle.saphyr_scalar.specs.declared.scalar.fault.Refusal.{Refusal}
-use Rattle.saphyr_scalar.specs.Views.Cursor.{Cursor, ◌>>=◌, along, pass, pass_byte_order_mark}
 use Rattle.scalar_laws.proofs.Breaks.Results.{Both, both_of, gives, refused, choose, choose_same, choose_first}
 use Rattle.saphyr_scanner.specs.Grammar.Tokens as tokens
-use Rattle.saphyr_scanner.specs.Grammar.Tokens.{Kind}
-use Rattle.saphyr_scanner.specs.Steps.Core.{Core, in_block}
 use Rattle.saphyr_scanner.specs.Steps.Document as document
-use Rattle.saphyr_scanner.specs.Steps.Passing.{separate}
-use Rattle.saphyr_scanner.specs.Steps.State.{State, on_core_with}
 use Rattle.yaml_laws.proofs.Breaks.Cores.{near_core, Anywhere, Laws, BeginsUnbroken, Unbroken, here, of_cores, remove_same, Separated, separate_same, and_read, twin_reads, twin_alike, twin_stands, twin_moves, going_to}
 use Rattle.yaml_laws.proofs.Breaks.Normal.{normal_none}
 use Rattle.yaml_laws.proofs.Breaks.Places.{reindexed, near, Ahead, ahead_ahead, ahead_stands, Stand, one_less, character_ahead}
 use Rattle.yaml_laws.proofs.Breaks.Scalars.{Begins, begins_near, no_break_here}
 use Rattle.yaml_laws.proofs.Breaks.States.{put_same, States, holding, AlikeStates, of_states, and_state, unroll_same, on_core_same, after_step_same}
-use Rattle.saphyr_input.proofs.Basics.Characters.{no_return}
-use Rattle.saphyr_scalar.proofs.Given.{cursor_at}
-use Rattle.std.proofs.lemmas.Bool.{and_parts, eqb-true}
 
 -- ## The content of a document ends
 

@@ -1,35 +1,24 @@
 -- Where the readers of a text go on: on one line the index grows as the column does.
-use Rattle.std.proofs.Common.{◌≡◌, ℕ, ◌+◌, ◌≤◌, ◌<◌, Bool, List, [], ◌∷◌, ◌++◌, length, Option, Ok, arith, subst}
-use Rattle.std.specs.Prelude.{slice_index}
+use Rattle.yaml_laws.proofs.Common.{Bool, List, Ok, Option, [], arith, length, subst, ℕ, ◌++◌, ◌+◌, ◌<◌, ◌∷◌, ◌≡◌, ◌≤◌, slice_index, SkipTabs, BlockStyle, Quote, Marker, Cursor, along, next_line, pass_break, separation, mark, mid_line, by_test, given_of, exclamation_mark, percent_sign}
 use Rattle.std.proofs.lemmas.List.{length-append}
-use Rattle.saphyr_input.specs.declared.input.SkipTabs.{SkipTabs}
 use Rattle.saphyr_input.specs.declared.input.SkipTabs.TheVariants as tabs
-use Rattle.saphyr_scalar.specs.declared.values.BlockStyle.{BlockStyle}
-use Rattle.saphyr_scalar.specs.declared.values.Quote.{Quote}
-use Rattle.saphyr_scalar.specs.declared.scalar.position.Marker.{Marker}
 use Rattle.saphyr_scalar.specs.declared.scalar.position.Span.{Span}
 use Rattle.saphyr_scalar.specs.Steps.Anchor as anchors
 use Rattle.saphyr_scalar.specs.Steps.Block as blocks
-use Rattle.saphyr_scalar.specs.Views.Cursor.{Cursor, along, next_line, pass_break, separation}
 use Rattle.saphyr_scalar.specs.Steps.Directive as directives
 use Rattle.saphyr_scalar.specs.Spelling.Directive.{ReadDirective}
-use Rattle.saphyr_scalar.specs.Values.Flow.{mark}
 use Rattle.saphyr_scalar.specs.Passing as passing
 use Rattle.saphyr_scalar.specs.Passing.{IsPassed}
 use Rattle.saphyr_scalar.specs.Steps.Plain as words
 use Rattle.saphyr_scalar.specs.Steps.Plain.{ends_line}
 use Rattle.saphyr_scalar.specs.Reading.Plain.{end_of_text, IsPlainReading}
 use Rattle.saphyr_scalar.specs.Steps.Quoted as quoted
-use Rattle.saphyr_scalar.specs.Steps.Quoted.{mid_line, break_len}
 use Rattle.saphyr_scalar.specs.Steps.Tag as tags
 use Rattle.scalar_laws.specs.Alike.{AreAlike}
 use Rattle.saphyr_scanner.specs.TokensTaken.{block_indicator}
 use Rattle.saphyr_scanner.proofs.Taken.Later.{top, LaterThan, apart_later, passed_later, piece_later, plain_later}
 use Rattle.saphyr_scanner.proofs.LineTails.{separation_passes}
 use Rattle.yaml_laws.proofs.Breaks.Places.{near, Ahead, Low}
-use Rattle.saphyr_input.proofs.Basics.Booleans.{by_test}
-use Rattle.saphyr_scalar.proofs.Given.{given_of}
-use Rattle.saphyr_input.specs.Indicators.{exclamation_mark, percent_sign}
 
 -- on one line the index grows as the column does
 abbrev pub OnOneLine : Marker → Marker → Type 0

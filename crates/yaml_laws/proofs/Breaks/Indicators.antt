@@ -1,30 +1,17 @@
 -- The indicators of collections leave both scanners alike.
-use Rattle.std.proofs.Common.{◌≡◌, ℕ, ◌+◌, Bool, true, false, List, [], ◌∷◌, length, Option, Some, None, refl, sym, ap, ◌∙◌, subst, arith}
-use Rattle.std.specs.Prelude.{◌&&◌, ◌||◌, ◌==◌, not, slice_index, nat_le}
-use Rattle.saphyr_input.specs.Breaks.{normalized}
-use Rattle.saphyr_input.specs.Classes.{is_alpha, is_blank_or_breakz, is_break, is_flow}
+use Rattle.yaml_laws.proofs.Common.{Bool, List, None, Option, Some, [], ap, arith, false, length, refl, subst, sym, true, ℕ, ◌+◌, ◌∙◌, ◌∷◌, ◌≡◌, nat_le, not, slice_index, ◌&&◌, ◌==◌, ◌||◌, normalized, is_alpha, is_blank_or_breakz, is_break, is_flow, Marker, Cursor, pass, ◌>>=◌, Context, Kind, Action, Core, StepResult, completed_step, go_deeper, in_block, is_further, remove_key, roll, up_to_here, with_context, Candidate, Level, begins_pair, behind_colon, behind_entry, behind_question, ends_pair, pass_on, separate, with_cursor, most_open, eqb-true, hyphen, left_brace, left_bracket}
 use Rattle.saphyr_input.specs.Separation.{found_tabs, has_valid_yaml_ws}
-use Rattle.saphyr_scalar.specs.declared.scalar.position.Marker.{Marker}
-use Rattle.saphyr_scalar.specs.Views.Cursor.{Cursor, ◌>>=◌, pass}
 use Rattle.scalar_laws.proofs.Breaks.Results.{Both, gives, refused, choose, choose_same, choose_first}
-use Rattle.saphyr_scanner.specs.declared.engine.level.Context.{Context}
-use Rattle.saphyr_scanner.specs.Grammar.Tokens.{Kind}
 use Rattle.saphyr_scanner.specs.Steps.Block as block
-use Rattle.saphyr_scanner.specs.Steps.Core.{Core, Action, StepResult, completed_step, up_to_here, in_block, remove_key, go_deeper, roll, is_further, with_context}
-use Rattle.saphyr_scanner.specs.Steps.Level.{Candidate, Level, ends_pair, behind_entry, behind_question, begins_pair, behind_colon}
 use Rattle.saphyr_scanner.specs.Steps.Fetch.{flow_value_steps}
 use Rattle.saphyr_scanner.specs.Steps.Flow as flow
 use Rattle.saphyr_scanner.specs.Steps.Gap as gaps
-use Rattle.saphyr_scanner.specs.Steps.Passing.{pass_on, separate, with_cursor}
 use Rattle.saphyr_scanner.specs.Steps.Value as value
-use Rattle.saphyr_scanner.specs.Limits.{most_open}
 use Rattle.yaml_laws.proofs.Breaks.Cores.{Indexes, near_core, near_key, near_levels, first, others, LevelsEven, Cores, Anywhere, Twin, Laws, Alike, Unbroken, here, of_cores, with_core, and_core, same_length, save_same, roll_same, remove_same, forgotten, and_separate, and_pass, pass_same, pass_near, pass_ahead, twin_low, twin_stands, twin_alike, twin_moves, going_to, here_adjacent}
 use Rattle.yaml_laws.proofs.Breaks.Gaps.{spaces_alike}
 use Rattle.yaml_laws.proofs.Breaks.Normal.{first_is, second_is}
 use Rattle.yaml_laws.proofs.Breaks.Places.{reindexed, even_index, ahead_ahead, ahead_stands, low_ahead, choose_by}
 use Rattle.yaml_laws.proofs.Breaks.States.{SameAction, SameActions, SameSteps}
-use Rattle.std.proofs.lemmas.Bool.{eqb-true}
-use Rattle.saphyr_input.specs.Indicators.{hyphen, left_brace, left_bracket}
 
 -- the start of a collection, or the end of a pair, before a token
 starts_same : (begins : Bool) (m k : Marker) (kind : Kind) (a b : Action) → SameAction a b

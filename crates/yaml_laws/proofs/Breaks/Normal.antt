@@ -1,18 +1,9 @@
 -- A text beside its normalized text: how long both are, and what comes first in them.
-use Rattle.std.proofs.Common.{◌≡◌, ℕ, ◌≤◌, Bool, true, false, List, length, refl, sym, ap, ◌∙◌, arith, cond}
-use Rattle.std.specs.Prelude.{◌==◌, ◌&&◌, ◌||◌, not, slice_index}
-use Rattle.saphyr_input.specs.Breaks.{normalized}
-use Rattle.saphyr_input.specs.Classes.{is_blank_or_breakz, is_break, is_flow, byte_order_mark, carriage_return}
-use Rattle.saphyr_input.specs.Places.{is_document_start, is_document_end, is_document_indicator, can_be_plain}
+use Rattle.yaml_laws.proofs.Common.{Bool, List, ap, arith, cond, false, length, refl, sym, true, ℕ, ◌∙◌, ◌≡◌, ◌≤◌, not, slice_index, ◌&&◌, ◌==◌, ◌||◌, normalized, byte_order_mark, carriage_return, is_blank_or_breakz, is_break, is_flow, can_be_plain, is_document_end, is_document_indicator, is_document_start, eqb-true, AreIn, Remaining, Kind, no_return}
 use Rattle.scalar_laws.proofs.Breaks.Sides.{Normal, normal, first_in, second_in, nothing, character, feed, return, pair}
 use Rattle.scalar_laws.proofs.Breaks.Separations.{marker_alike, indicator_alike}
-use Rattle.std.proofs.lemmas.Bool.{eqb-true}
-use Rattle.saphyr_scalar.specs.Spelling.Tag.{AreIn}
 use Rattle.saphyr_scanner.specs.Steps.Remaining.{Scans}
-use Rattle.saphyr_scanner.specs.Views.Tokens.{Remaining}
-use Rattle.saphyr_scanner.specs.Grammar.Tokens.{Kind}
 use Rattle.yaml_laws.specs.SameKinds.{HaveSameKinds}
-use Rattle.saphyr_input.proofs.Basics.Characters.{no_return}
 
 pub beside : (t : List ℕ) → Normal t (normalized t)
 beside t = normal t (normalized t) refl

@@ -1,14 +1,8 @@
 -- Places of a text and of its normalized text, and how both go on together.
-use Rattle.std.proofs.Common.{◌≡◌, ℕ, ◌+◌, ◌^◌, ◌≤◌, Bool, true, false, List, ◌∷◌, length, drop, refl, arith, cond}
-use Rattle.std.specs.Prelude.{◌==◌, ◌-◌, ◌^◌, min}
-use Rattle.saphyr_input.specs.Breaks.{normalized}
-use Rattle.saphyr_scalar.specs.declared.scalar.position.Marker.{Marker}
-use Rattle.saphyr_scalar.specs.Views.Cursor.{Cursor, along}
+use Rattle.yaml_laws.proofs.Common.{Bool, List, arith, cond, drop, false, length, refl, true, ℕ, ◌+◌, ◌^◌, ◌∷◌, ◌≡◌, ◌≤◌, min, ◌-◌, ◌==◌, ◌^◌, normalized, Marker, Cursor, along, carriage_return, line_feed, cursor_at}
 use Rattle.saphyr_scalar.proofs.Moving.{drop_more}
 use Rattle.scalar_laws.specs.Alike.{AreAlike}
-use Rattle.saphyr_input.specs.Classes.{carriage_return, line_feed}
 use Rattle.saphyr_scalar.proofs.Choices.{both_by}
-use Rattle.saphyr_scalar.proofs.Given.{cursor_at}
 
 -- the same place with another index
 abbrev pub reindexed : ℕ → Marker → Marker

@@ -1,16 +1,7 @@
 -- A text and its normalized text have tokens of the same kinds.
-use Rattle.std.proofs.Common.{◌≡◌, ℕ, zero, suc, ◌+◌, ◌≤◌, ◌<◌, List, [], ◌∷◌, length, map, Some, Result, Ok, Err, true, refl, sym, ap, ◌∙◌, arith, false}
-use Rattle.std.specs.Prelude.{◌&&◌, ◌||◌, ◌==◌, slice_index, nat_lt}
-use Rattle.saphyr_input.specs.Breaks.{normalized}
-use Rattle.saphyr_scalar.specs.declared.scalar.fault.Refusal.{Refusal}
+use Rattle.yaml_laws.proofs.Common.{Err, List, Ok, Result, Some, [], ap, arith, false, length, map, refl, suc, sym, true, zero, ℕ, ◌+◌, ◌<◌, ◌∙◌, ◌∷◌, ◌≡◌, ◌≤◌, nat_lt, slice_index, ◌&&◌, ◌==◌, ◌||◌, normalized, Refusal, Kind, Piece, Remaining, Place, Queue, is_empty_list, next, Core, drop_far_key, least_column, Level, ends_pair, is_place, State, start, is_blank_or_breakz, is_bom, is_break, is_flow, is_z, is_document_end, is_document_start, and_parts, eqb-true, left_brace, left_bracket}
 use Rattle.saphyr_scanner.specs.declared.queue.Opening.{Opening}
 use Rattle.saphyr_scanner.specs.Grammar.Tokens as tokens
-use Rattle.saphyr_scanner.specs.Grammar.Tokens.{Kind}
-use Rattle.saphyr_scanner.specs.Views.Tokens.{Piece, Remaining}
-use Rattle.saphyr_scanner.specs.Steps.Queue.{Place, Queue, is_empty_list, next}
-use Rattle.saphyr_scanner.specs.Steps.Core.{Core, least_column, drop_far_key}
-use Rattle.saphyr_scanner.specs.Steps.Level.{Level, is_place, ends_pair}
-use Rattle.saphyr_scanner.specs.Steps.State.{State, start}
 use Rattle.saphyr_scanner.specs.Steps.Fetch.{size, without_far_key, needs_token, any_holds, step, is_value_adjacent, state_behind_content, fetch_here, arrive, fetch, check_limit, fetch_within}
 use Rattle.saphyr_scanner.specs.Steps.Remaining.{before_place, hand_out, remaining_after, run, remaining, scan}
 use Rattle.saphyr_scanner.proofs.Filling.{read, less_read}
@@ -19,8 +10,6 @@ use Rattle.yaml_laws.specs.SameKinds.{HaveSameKinds}
 use Rattle.yaml_laws.proofs.Breaks.Cores.{Indexes, near_core, near_key, near_levels, first, others, Anywhere, Twin, Laws, BeginsUnbroken, Unbroken, here, of_cores, and_core, drop_same, twin_alike}
 use Rattle.yaml_laws.proofs.Breaks.Places.{reindexed, even_here, choose_by}
 use Rattle.yaml_laws.proofs.Breaks.States.{SamePlaces, SameQueues, States, holding, same_next, put_same, SameSteps, Holds, AlikeStates, and_state, unroll_same, after_step_same, on_core_same}
-use Rattle.saphyr_input.specs.Classes.{is_break, is_z, is_bom, is_flow, is_blank_or_breakz}
-use Rattle.saphyr_input.specs.Places.{is_document_start, is_document_end}
 use Rattle.saphyr_scalar.specs.declared.values.BlockStyle.TheVariants as block_style
 use Rattle.scalar_laws.proofs.Breaks.Results.{Both, gives, refused, choose, choose_same, choose_first}
 use Rattle.saphyr_scanner.specs.declared.engine.level.Context.TheVariants as context
@@ -30,8 +19,6 @@ use Rattle.yaml_laws.proofs.Breaks.Indicators.{start_same, end_same, entry_same,
 use Rattle.yaml_laws.proofs.Breaks.Normal.{second_is, start_so, end_so, normal_shorter}
 use Rattle.yaml_laws.proofs.Breaks.Gaps.{Rested, gap_rests}
 use Rattle.yaml_laws.proofs.Breaks.Scalars.{quoted_same, plain_same, block_same, name_same, tag_same}
-use Rattle.std.proofs.lemmas.Bool.{and_parts, eqb-true}
-use Rattle.saphyr_input.specs.Indicators.{left_brace, left_bracket}
 
 -- ## What begins at a place
 

@@ -1,21 +1,10 @@
 -- Scalars and properties leave both scanners alike.
-use Rattle.std.proofs.Common.{◌≡◌, ℕ, ◌<◌, true, false, List, [], ◌∷◌, length, Option, Some, None, refl, ap, ◌∙◌, arith, cond}
-use Rattle.std.specs.Prelude.{◌&&◌, ◌||◌, ◌==◌, not, slice_index, nat_lt}
-use Rattle.saphyr_input.specs.Breaks.{normalized}
-use Rattle.saphyr_input.specs.Classes.{is_break, is_breakz}
-use Rattle.saphyr_scalar.specs.declared.values.BlockStyle.{BlockStyle}
-use Rattle.saphyr_scalar.specs.declared.values.Quote.{Quote}
-use Rattle.saphyr_scalar.specs.declared.values.Quote.TheVariants.{Single, Double}
-use Rattle.saphyr_scalar.specs.declared.scalar.position.Marker.{Marker}
+use Rattle.yaml_laws.proofs.Common.{List, None, Option, Some, [], ap, arith, cond, false, length, refl, true, ℕ, ◌<◌, ◌∙◌, ◌∷◌, ◌≡◌, nat_lt, not, slice_index, ◌&&◌, ◌==◌, ◌||◌, normalized, is_break, is_breakz, BlockStyle, Quote, Double, Single, Marker, Cursor, mark, Kind, Core, in_block, least_column, no_return}
 use Rattle.saphyr_scalar.specs.declared.scalar.style.ScalarStyle.{ScalarStyle}
 use Rattle.saphyr_scalar.specs.declared.scalar.style.ScalarStyle.TheVariants.{Plain}
-use Rattle.saphyr_scalar.specs.Views.Cursor.{Cursor}
-use Rattle.saphyr_scalar.specs.Values.Flow.{mark}
 use Rattle.scalar_laws.specs.Alike.{AreMarksAlike, AreNoted}
 use Rattle.scalar_laws.proofs.Breaks.Results.{Both, both_of, gives, refused, choose, choose_first}
 use Rattle.saphyr_scanner.specs.Grammar.Tokens as tokens
-use Rattle.saphyr_scanner.specs.Grammar.Tokens.{Kind}
-use Rattle.saphyr_scanner.specs.Steps.Core.{Core, in_block, least_column}
 use Rattle.saphyr_scanner.specs.Steps.Property as property
 use Rattle.saphyr_scanner.specs.Steps.Scalar as scalar
 use Rattle.saphyr_scanner.specs.TokensTaken.{block_indicator}
@@ -23,7 +12,6 @@ use Rattle.yaml_laws.proofs.Breaks.Cores.{Indexes, near_core, near_comment, Core
 use Rattle.yaml_laws.proofs.Breaks.Gaps.{gap_rests}
 use Rattle.yaml_laws.proofs.Breaks.Places.{reindexed, near}
 use Rattle.yaml_laws.proofs.Breaks.States.{SameSteps}
-use Rattle.saphyr_input.proofs.Basics.Characters.{no_return}
 
 -- the first character of a text
 abbrev pub Begins : ℕ → Cursor → Type 0

@@ -1,18 +1,9 @@
 -- Ends of lines, filler and the gaps before a document's node.
-use Rattle.std.proofs.Common.{◌≡◌, ℕ, suc, ◌+◌, Bool, true, List, [], ◌∷◌, ◌++◌, length, slice_index, inl, inr, refl, arith, append_assoc, ◌⊎◌}
-use Rattle.std.proofs.lemmas.Bool.Decides.{nat_tests}
-use Rattle.saphyr_input.specs.Classes.{is_blank, is_blank_or_breakz, is_breakz, line_feed}
-use Rattle.saphyr_scalar.specs.declared.scalar.position.Marker.{Marker}
-use Rattle.saphyr_scalar.specs.Views.Cursor.{next_line}
-use Rattle.saphyr_scalar.specs.Spelling.Tag.{AreIn}
-use Rattle.scalar_laws.specs.Spelling.Spaces.{joined_pieces, AreEach, IsCommentBehind, IsFillerLine, IsFiller, IsLineRest, IsEol}
-use Rattle.saphyr_scanner.specs.Steps.State.{State}
-use Rattle.saphyr_scanner.specs.Grammar.Tokens.{Kind}
-use Rattle.yaml_laws.proofs.Flow.States.{moved, past}
+use Rattle.yaml_laws.proofs.Common.{Bool, List, [], append_assoc, arith, inl, inr, length, refl, slice_index, suc, true, ℕ, ◌++◌, ◌+◌, ◌∷◌, ◌≡◌, ◌⊎◌, nat_tests, is_blank, is_blank_or_breakz, is_breakz, line_feed, Marker, next_line, AreIn, AreEach, IsCommentBehind, IsEol, IsFiller, IsFillerLine, IsLineRest, joined_pieces, State, Kind}
 use Rattle.yaml_laws.proofs.Flow.Places.{moved_append, moved_count}
 use Rattle.yaml_laws.proofs.Flow.Fillers.{EndsLine, filler_past}
 use Rattle.yaml_laws.proofs.Documents.Stands.{StandsLined, AtLine}
-use Rattle.yaml_laws.proofs.InBlock.States.{crosses}
+use Rattle.yaml_laws.proofs.InBlock.States.{crosses, moved, past}
 use Rattle.yaml_laws.proofs.InBlock.Lines.{IsLined, one_lined, moved_lined}
 
 -- ## The end of a line
@@ -106,7 +97,7 @@ filler_line m w h col = rw h.2 (pieces m h.0 h.1 col)
         let line : (moved m v).col ≡ 0 = simp (k.0.2, moved_append m k.0.0 (10 ∷ [])) in
         cc (moved_append m v (joined_pieces vs), pieces (moved m v) vs k.1 line)
 
-none_behind : (w y : List ℕ) → w ++ y ≡ [] → y ≡ []
+pub none_behind : (w y : List ℕ) → w ++ y ≡ [] → y ≡ []
 none_behind [] y e = e
 none_behind (c ∷ w) y e = absurd (cc)
 

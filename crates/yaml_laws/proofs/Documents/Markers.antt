@@ -1,40 +1,19 @@
 -- Document markers, byte order marks and the text's end are read.
-use Rattle.std.proofs.Common.{◌≡◌, ℕ, ◌+◌, ◌≤◌, Bool, true, false, List, [], ◌∷◌, ◌++◌, length, slice_index, Ok, IsTrue, inl, inr, refl, sym, ap, ◌∙◌, arith, ◌⊎◌}
-use Rattle.std.specs.Prelude.{◌==◌, nat_lt, Option, None, ◌||◌}
-use Rattle.std.proofs.lemmas.Bool.Decides.{nat_tests}
+use Rattle.yaml_laws.proofs.Common.{Bool, IsTrue, List, Ok, [], ap, arith, false, inl, inr, length, refl, slice_index, sym, true, ℕ, ◌++◌, ◌+◌, ◌∙◌, ◌∷◌, ◌≡◌, ◌≤◌, ◌⊎◌, None, Option, nat_lt, ◌==◌, ◌||◌, nat_tests, is_blank_or_breakz, is_breakz, is_document_indicator, SkipTabs, Yes, Marker, along, separation, cursor_at, IsEol, Kind, Piece, Place, bare_place, Candidate, State, LeadsTo, or-false, or-true, eq-eqb, full_stop, hyphen, place_kinds, place_kinds_append}
 use Rattle.std.proofs.lemmas.List.{length-append}
-use Rattle.saphyr_input.specs.Classes.{is_blank_or_breakz, is_breakz}
-use Rattle.saphyr_input.specs.Places.{is_document_indicator}
-use Rattle.saphyr_input.specs.declared.input.SkipTabs.{SkipTabs}
-use Rattle.saphyr_input.specs.declared.input.SkipTabs.TheVariants.{Yes}
-use Rattle.saphyr_scalar.specs.declared.scalar.position.Marker.{Marker}
-use Rattle.saphyr_scalar.specs.Views.Cursor.{along, separation}
-use Rattle.saphyr_scalar.proofs.Given.{cursor_at}
-use Rattle.scalar_laws.specs.Spelling.Spaces.{IsEol}
 use Rattle.saphyr_scanner.specs.declared.engine.level.Context.TheVariants as context
 use Rattle.saphyr_scanner.specs.Grammar.Tokens as tokens
-use Rattle.saphyr_scanner.specs.Grammar.Tokens.{Kind}
-use Rattle.saphyr_scanner.specs.Views.Tokens.{Piece}
-use Rattle.saphyr_scanner.specs.Steps.Queue.{Place, bare_place}
 use Rattle.saphyr_scanner.specs.Steps.Core.{remove_key}
-use Rattle.saphyr_scanner.specs.Steps.Level.{Candidate}
-use Rattle.saphyr_scanner.specs.Steps.State.{State}
 use Rattle.saphyr_scanner.specs.Steps.Unrolling.{unroll}
 use Rattle.saphyr_scanner.specs.Steps.Document.{end_content, state_behind_marker, end_line, state_behind_document_end, state_behind_byte_order_mark}
 use Rattle.saphyr_scanner.specs.Steps.Fetch.{fetch_here}
-use Rattle.saphyr_scanner.proofs.Leads.{LeadsTo}
-use Rattle.yaml_laws.proofs.Flow.States.{moved, past}
 use Rattle.yaml_laws.proofs.Flow.GapSteps.{past_count}
 use Rattle.yaml_laws.proofs.Flow.Separates.{separates_rest}
 use Rattle.yaml_laws.proofs.Documents.Lines.{eol, eol_first, break_ends}
 use Rattle.yaml_laws.proofs.Documents.Stands.{StandsLined, reads_here, AtLine, Lined, BehindStart, StandsInStream, reads_token}
-use Rattle.yaml_laws.proofs.InBlock.States.{crosses}
+use Rattle.yaml_laws.proofs.InBlock.States.{crosses, moved, past}
 use Rattle.yaml_laws.proofs.InBlock.Follows.{comes_to_end}
-use Rattle.std.proofs.Math.Bool.{or-false, or-true}
-use Rattle.std.proofs.lemmas.Bool.{eq-eqb}
-use Rattle.saphyr_input.specs.Indicators.{full_stop, hyphen}
 use Rattle.saphyr_input.proofs.Basics.Lists.{cons_not_empty}
-use Rattle.saphyr_scanner.proofs.Queues.{place_kinds, place_kinds_append}
 use Rattle.saphyr_scanner.proofs.Root.{state_at, fetches_stream_end, stream_end_place}
 
 no_greater : (n : ℕ) → n ≡ 0 → nat_lt 0 n ≡ false

@@ -1,33 +1,17 @@
 -- The places between the documents of a text, and a step from one to the next.
-use Rattle.std.proofs.Common.{◌≡◌, ℕ, ◌+◌, ◌≤◌, Bool, true, false, List, [], ◌∷◌, ◌++◌, length, slice_index, Ok, ◌⊎◌, inl, inr, refl, sym, ap, ◌∙◌, arith, subst}
-use Rattle.std.specs.Prelude.{◌||◌, ◌&&◌, ◌==◌, not, Option, Some, None}
-use Rattle.saphyr_input.specs.Classes.{is_blank, is_z}
-use Rattle.saphyr_input.specs.Places.{is_document_indicator, can_be_plain}
-use Rattle.saphyr_scalar.specs.declared.scalar.position.Marker.{Marker}
-use Rattle.saphyr_scalar.specs.Views.Cursor.{Cursor, ◌>>=◌}
+use Rattle.yaml_laws.proofs.Common.{Bool, List, Ok, [], ap, arith, false, inl, inr, length, refl, slice_index, subst, sym, true, ℕ, ◌++◌, ◌+◌, ◌∙◌, ◌∷◌, ◌≡◌, ◌≤◌, ◌⊎◌, None, Option, Some, not, ◌&&◌, ◌==◌, ◌||◌, is_blank, is_z, can_be_plain, is_document_indicator, Marker, Cursor, ◌>>=◌, Kind, Piece, Place, bare_place, Core, drop_far_key, Candidate, State, LeadsTo, cursor_at, eq-eqb, place_kinds, place_kinds_append, queue_of}
 use Rattle.saphyr_scanner.specs.declared.engine.level.Context.TheVariants as context
-use Rattle.saphyr_scanner.specs.Grammar.Tokens.{Kind}
-use Rattle.saphyr_scanner.specs.Views.Tokens.{Piece}
 use Rattle.saphyr_scanner.specs.Steps.Gap.{GapEnd, stop}
-use Rattle.saphyr_scanner.specs.Steps.Queue.{Place, bare_place}
-use Rattle.saphyr_scanner.specs.Steps.Core.{Core, drop_far_key}
-use Rattle.saphyr_scanner.specs.Steps.Level.{Candidate}
 use Rattle.saphyr_scanner.specs.Steps.Passing.{goes_on_behind, pass_gap, check_comment, behind_gap}
-use Rattle.saphyr_scanner.specs.Steps.State.{State}
 use Rattle.saphyr_scanner.specs.Steps.Fetch.{fetch_here, arrive, fetch}
-use Rattle.saphyr_scanner.proofs.Leads.{LeadsTo}
 use Rattle.yaml_laws.proofs.InFlow.States.{alone, noted}
-use Rattle.yaml_laws.proofs.InBlock.States.{crosses, GoesOnAs}
+use Rattle.yaml_laws.proofs.InBlock.States.{crosses, GoesOnAs, past, EndsDocument}
 use Rattle.yaml_laws.proofs.InBlock.Follows.{goes_on}
 use Rattle.yaml_laws.proofs.InBlock.Lines.{IsLined}
-use Rattle.yaml_laws.proofs.Flow.States.{past, EndsDocument}
 use Rattle.yaml_laws.proofs.InBlock.Untabbed.{gap_past}
 use Rattle.yaml_laws.proofs.InBlock.Gaps.{past_no_blank}
 use Rattle.yaml_laws.proofs.Flow.GapSteps.{past_low}
 use Rattle.yaml_laws.proofs.Flow.Tokens.{passes_gap, within_index}
-use Rattle.saphyr_scalar.proofs.Given.{cursor_at}
-use Rattle.std.proofs.lemmas.Bool.{eq-eqb}
-use Rattle.saphyr_scanner.proofs.Queues.{place_kinds, place_kinds_append, queue_of}
 use Rattle.saphyr_scanner.proofs.Root.{core_at, state_at, drops_key, none_unrolls, comes}
 use Rattle.yaml_laws.proofs.Flow.ContentStarts.{mark_no_plain}
 

@@ -1,23 +1,13 @@
 -- What comes after the indicator of a node at block level.
-use Rattle.std.proofs.Common.{◌≡◌, ℕ, suc, Bool, true, false, List, ◌∷◌, ◌++◌, slice_index, refl, sym, ap, ◌∙◌, subst, append_assoc, inl, inr, IsFalse, arith}
-use Rattle.std.specs.Prelude.{◌&&◌, ◌==◌, Option, Some, None}
+use Rattle.yaml_laws.proofs.Common.{Bool, IsFalse, List, ap, append_assoc, arith, false, inl, inr, refl, slice_index, subst, suc, sym, true, ℕ, ◌++◌, ◌∙◌, ◌∷◌, ◌≡◌, None, Option, Some, ◌&&◌, ◌==◌, is_alpha, is_blank_or_breakz, tab, hyphen, spaces, IsNextLine, Alias, Map, MoreNodes, MorePairs, NoNode, NoPair, Node, Nodes, Pairs, Properties, Scalar, Seq, Style, Tag, most_open, AreProperties, IsAnchor, IsFlowNode, IsKeyText, IsProperties, and_false, clash}
 use Rattle.std.specs.List.{list_all, list_any}
-use Rattle.saphyr_input.specs.Classes.{is_alpha, is_blank_or_breakz, tab}
-use Rattle.saphyr_input.specs.Indicators.{hyphen}
-use Rattle.saphyr_scalar.specs.Reading.BlockLines.{spaces}
-use Rattle.scalar_laws.specs.Spelling.Spaces.{IsNextLine}
-use Rattle.saphyr_scanner.specs.Grammar.Forest.{Style, Tag, Properties, Node, Alias, Scalar, Seq, Map, Nodes, NoNode, MoreNodes, Pairs, NoPair, MorePairs}
-use Rattle.saphyr_scanner.specs.Limits.{most_open}
 use Rattle.yaml_laws.specs.Grammar.TagSpelling.{IsTag}
-use Rattle.yaml_laws.specs.Grammar.FlowNodes.{IsAnchor, AreProperties, IsProperties, IsKeyText, IsFlowNode}
 use Rattle.yaml_laws.specs.Grammar.BlockNodes.{Position, is_start, is_behind_colon, indent_at, sequence_indent_at, IsGapAt, IsCollectionFront, IsStyled, IsScalarFront, IsLead, IsFlowInBlock, IsBlockPair, IsBlockNode, AreEntries, ArePairs}
-use Rattle.yaml_laws.proofs.Flow.States.{IsContentStart}
-use Rattle.yaml_laws.proofs.InBlock.States.{compact_spaced}
+use Rattle.yaml_laws.proofs.InBlock.States.{compact_spaced, IsContentStart}
 use Rattle.yaml_laws.proofs.Flow.ContentStarts.{StartsContent, content_front, dash_content, question_content, colon_content}
 use Rattle.yaml_laws.proofs.InBlock.Skips.{IsSkipped, IsClean, skipped_clean, lines_clean, skipped_append, spaces_skipped, filler_skipped}
 use Rattle.yaml_laws.proofs.InBlock.Entries.{IsBehindIndicator}
 use Rattle.yaml_laws.proofs.InBlock.Statements.{ReadsLeaves}
-use Rattle.saphyr_input.proofs.Basics.Booleans.{clash, and_false}
 use Rattle.yaml_laws.proofs.InBlock.Texts.{content_clean}
 use Rattle.yaml_laws.proofs.InBlock.IndicatorLines.{blanks_behind, token_behind, eol_behind, line_end_behind}
 

@@ -1,31 +1,16 @@
 -- A text of YAML's grammar ends with the line of a document marker: whatever follows, the tokens up to and including
 -- the marker's own come first.
 use Rattle.std.proofs.Common.{◌≡◌, ℕ, ◌≤◌, ◌<◌, ◌^◌, true, false, List, [], ◌∷◌, ◌++◌, length, length-append, slice_index, Ok, refl, sym, ap, ◌∙◌, subst, append_assoc, inl, inr, arith, IsTrue}
-use Rattle.std.specs.Prelude.{map}
-use Rattle.saphyr_input.specs.Breaks.{normalized}
-use Rattle.saphyr_input.specs.Classes.{is_blank_or_breakz, line_feed}
-use Rattle.saphyr_input.specs.Places.{is_document_indicator}
-use Rattle.saphyr_scalar.specs.Views.Cursor.{◌>>=◌}
-use Rattle.saphyr_scalar.proofs.Given.{bind_ok}
+use Rattle.yaml_laws.proofs.Common.{map, normalized, is_blank_or_breakz, line_feed, is_document_indicator, ◌>>=◌, bind_ok, AreEach, IsLineRest, joined_pieces, Forest, most_open, fetch_within, without_far_key, Piece, Remaining, State, start, Kind, LeadsTo, flat, onward, stay, holding, IsMarkBehindFiller, IsYaml, IsYamlText}
 use Rattle.saphyr_scalar.specs.Known.{IsRestOfText, is_open}
-use Rattle.scalar_laws.specs.Spelling.Spaces.{AreEach, joined_pieces, IsLineRest}
 use Rattle.saphyr_scalar.proofs.WhatCame.Rests.{later_here, later_than, known_before}
-use Rattle.saphyr_scanner.specs.Grammar.Forest.{Forest}
-use Rattle.saphyr_scanner.specs.Limits.{most_open}
-use Rattle.saphyr_scanner.specs.Steps.Fetch.{fetch_within, without_far_key}
 use Rattle.saphyr_scanner.specs.Steps.Remaining.{scan}
-use Rattle.saphyr_scanner.specs.Views.Tokens.{Piece, Remaining}
-use Rattle.saphyr_scanner.specs.Steps.State.{State, start}
 use Rattle.saphyr_scanner.specs.Grammar.Tokens as tokens
-use Rattle.saphyr_scanner.specs.Grammar.Tokens.{Kind}
 use Rattle.saphyr_scanner.specs.Grammar.TokenGrammar.{Yields}
 use Rattle.saphyr_scanner.proofs.Lazy.{onto, free_block, begins_so}
-use Rattle.saphyr_scanner.proofs.Leads.{LeadsTo, stay, onward, flat}
 use Rattle.saphyr_scanner.proofs.Effects.Readers.{Readers}
-use Rattle.saphyr_scanner.proofs.Queues.{holding}
 use Rattle.saphyr_scanner.proofs.Unroll.{rest}
 use Rattle.yaml_laws.specs.Grammar.ClosedTexts.{DocumentMarker, Starts, Ends, marker_text, marker_token, IsBeforeLine, IsBeforeMarker, EndsWithMarker, HandsOut}
-use Rattle.yaml_laws.specs.Grammar.Yaml.{IsMarkBehindFiller, IsYaml, IsYamlText}
 use Rattle.saphyr_scanner.specs.Longer.{extended_by, state_behind_token}
 use Rattle.yaml_laws.specs.SameKinds.{HaveSameKinds}
 use Rattle.yaml_laws.proofs.Breaks.Normal.{no_return_left, beside, normal_shorter}

@@ -1,28 +1,12 @@
 -- A block collection ends before a token to its left, and at the end of its document.
-use Rattle.std.proofs.Common.{◌≡◌, ℕ, ◌+◌, ◌<◌, ◌≤◌, Bool, true, false, List, [], ◌∷◌, ◌++◌, slice_index, refl, sym, ap, ◌∙◌, arith, subst, Ok, ◌⊎◌, inl, inr, IsTrue}
-use Rattle.std.specs.Prelude.{Result, ◌||◌, ◌&&◌, ◌==◌, nat_le, nat_lt, Option, Some, None, if◌then◌else◌}
-use Rattle.std.proofs.lemmas.Bool.Decides.{nat_tests}
-use Rattle.saphyr_input.specs.Classes.{is_z, is_bom, is_blank_or_breakz}
-use Rattle.saphyr_input.specs.Places.{is_document_start, is_document_end, is_document_indicator}
-use Rattle.saphyr_scalar.specs.declared.scalar.position.Marker.{Marker}
-use Rattle.saphyr_scalar.specs.declared.scalar.fault.Refusal.{Refusal}
-use Rattle.saphyr_scalar.specs.Views.Cursor.{◌>>=◌}
-use Rattle.saphyr_scanner.specs.Steps.Level.{Candidate}
+use Rattle.yaml_laws.proofs.Common.{Bool, IsTrue, List, Ok, [], ap, arith, false, inl, inr, refl, slice_index, subst, sym, true, ℕ, ◌++◌, ◌+◌, ◌<◌, ◌∙◌, ◌∷◌, ◌≡◌, ◌≤◌, ◌⊎◌, None, Result, Some, if◌then◌else◌, nat_le, nat_lt, ◌&&◌, ◌==◌, ◌||◌, nat_tests, is_blank_or_breakz, is_bom, is_z, is_document_end, is_document_indicator, is_document_start, Marker, Refusal, ◌>>=◌, Place, bare_place, empty_piece, State, Kind, zero_below_next, eq-eqb, eqb-true, ltb-true, full_stop, hyphen, percent_sign, place_kinds, place_kinds_append, EndsContent, cursor_at}
 use Rattle.saphyr_scanner.specs.Steps.Document as document
 use Rattle.saphyr_scanner.specs.Steps.Document.{end_mark}
-use Rattle.saphyr_scanner.specs.Steps.Queue.{Place, bare_place, empty_piece}
-use Rattle.saphyr_scanner.specs.Steps.State.{State}
 use Rattle.saphyr_scanner.specs.Grammar.Tokens as tokens
-use Rattle.saphyr_scanner.specs.Grammar.Tokens.{Kind}
 use Rattle.saphyr_scanner.specs.Steps.Unrolling.{unroll}
 use Rattle.saphyr_scanner.specs.Steps.Fetch.{fetch, fetch_here}
-use Rattle.yaml_laws.proofs.InBlock.States.{Frame, frame_at_column, moment_at, state_of, EndsDocument, At}
+use Rattle.yaml_laws.proofs.InBlock.States.{Frame, Moment, frame_at_column, moment_at, state_of, EndsDocument, At}
 use Rattle.yaml_laws.proofs.InBlock.Follows.{goes_alike, arrives_at, stays_open}
-use Rattle.saphyr_input.proofs.Basics.Numbers.{zero_below_next}
-use Rattle.std.proofs.lemmas.Bool.{ltb-true, eq-eqb, eqb-true}
-use Rattle.saphyr_input.specs.Indicators.{full_stop, hyphen, percent_sign}
-use Rattle.saphyr_scanner.proofs.Queues.{place_kinds, place_kinds_append}
-use Rattle.yaml_laws.specs.Grammar.BlockNodes.{EndsContent}
 
 -- the token that ends a collection
 abbrev pub end_place : Marker → Place
@@ -30,22 +14,20 @@ end_place m = bare_place (empty_piece m tokens.BlockEnd)
 
 -- ## Before a token to its left
 
-ends_left : (f : Frame) (c : ℕ) (m : Marker) (y : List ℕ) (blank : Bool) (key : Option Candidate) (a : Bool) (ad : ℕ)
-    (deeper : Bool) (ps : List Place) → m.col < c
-    → unroll (Some m.col) m (state_of (frame_at_column c f) (moment_at m y blank key a ad deeper) ps)
-    ≡ unroll (Some m.col) m (state_of f (moment_at m y blank key a ad false) (ps ++ end_place m ∷ []))
+ends_left : (f : Frame) (c : ℕ) (m : Marker) (n : Moment) (ps : List Place) → m.col < c
+    → unroll (Some m.col) m (state_of (frame_at_column c f) n ps)
+    ≡ unroll (Some m.col) m (state_of f (record n { deeper = false }) (ps ++ end_place m ∷ []))
 unfolding unroll
-ends_left f c m y blank key a ad deeper ps left = grind arith
+ends_left f c m n ps left = grind arith
 
 -- ## At the end of its document
 
 -- the states with and without the collection end alike
-ends_last : (f : Frame) (c : ℕ) (n m : Marker) (y : List ℕ) (blank : Bool) (key : Option Candidate) (a : Bool) (ad : ℕ)
-    (deeper other : Bool) (ps : List Place)
-    → unroll None n (state_of (frame_at_column c f) (moment_at m y blank key a ad deeper) ps)
-    ≡ unroll None n (state_of f (moment_at m y blank key a ad other) (ps ++ end_place n ∷ []))
+ends_last : (f : Frame) (c : ℕ) (m : Marker) (n : Moment) (other : Bool) (ps : List Place)
+    → unroll None m (state_of (frame_at_column c f) n ps)
+    ≡ unroll None m (state_of f (record n { deeper = other }) (ps ++ end_place m ∷ []))
 unfolding unroll
-ends_last f c n m y blank key a ad deeper other ps = rw (zero_below_next c) refl
+ends_last f c m n other ps = rw (zero_below_next c) refl
 
 at_line_start : (m : Marker) → m.col ≡ 0 → end_mark m ≡ m
 at_line_start m e = rw e refl
@@ -80,25 +62,22 @@ abbrev by_marker : Bool → State → Result State Refusal
 by_marker start s =
     if start then document.state_behind_marker tokens.DocumentStart s else document.state_behind_document_end s
 
-marker_here : (f : Frame) (m : Marker) (y : List ℕ) (blank : Bool) (key : Option Candidate) (a : Bool) (ad : ℕ)
-    (deeper : Bool) (ps : List Place) (start : Bool) → is_document_start y ≡ start → m.col ≡ 0
-    → IsTrue (is_document_indicator y)
-    → fetch_here (state_of f (moment_at m y blank key a ad deeper) ps)
-    ≡ by_marker start (state_of f (moment_at m y blank key a ad deeper) ps)
+marker_here : (f : Frame) (n : Moment) (ps : List Place) (start : Bool) → is_document_start n.cursor.rest ≡ start
+    → n.cursor.mark.col ≡ 0 → IsTrue (is_document_indicator n.cursor.rest)
+    → fetch_here (state_of f n ps) ≡ by_marker start (state_of f n ps)
 unfolding fetch_here
-marker_here f m y blank key a ad deeper ps start h k e = grind (arith, marker_sign, eq-eqb)
+marker_here f n ps start h k e = grind (arith, marker_sign, eq-eqb)
 
 -- what a byte order mark at m does
 abbrev by_mark : Marker → State → Result State Refusal
 by_mark m s = document.end_content s >>= λ t. Ok
     (document.put_passed m tokens.ByteOrderMark (document.pass_mark t.core) t)
 
-mark_here : (f : Frame) (m : Marker) (y : List ℕ) (blank : Bool) (key : Option Candidate) (a : Bool) (ad : ℕ)
-    (deeper : Bool) (ps : List Place) → m.col ≡ 0 → IsTrue (is_bom (slice_index y 0))
-    → fetch_here (state_of f (moment_at m y blank key a ad deeper) ps)
-    ≡ by_mark m (state_of f (moment_at m y blank key a ad deeper) ps)
+mark_here : (f : Frame) (n : Moment) (ps : List Place) → n.cursor.mark.col ≡ 0
+    → IsTrue (is_bom (slice_index n.cursor.rest 0))
+    → fetch_here (state_of f n ps) ≡ by_mark n.cursor.mark (state_of f n ps)
 unfolding fetch_here document.state_behind_byte_order_mark
-mark_here f m y blank key a ad deeper ps col h = grind arith
+mark_here f n ps col h = grind arith
 
 -- the content of states whose collections all end alike ends alike
 content_alike : (m : Marker) (s t : State) → s.core.cursor.mark ≡ m → t.core.cursor.mark ≡ m
@@ -113,56 +92,57 @@ unfolding document.state_behind_marker document.state_behind_document_end
 marked_alike start m s t at_s at_t e = grind (arith, content_alike)
 
 -- What ends a document's content is read alike in states whose collections all end alike.
-pub ended_alike : (f g : Frame) (m : Marker) (y : List ℕ) (blank : Bool) (key : Option Candidate) (a : Bool) (ad : ℕ)
-    (deeper other : Bool) (ps qs : List Place) → m.col ≡ 0 → EndsContent y
-    → unroll None m (state_of f (moment_at m y blank key a ad deeper) ps)
-    ≡ unroll None m (state_of g (moment_at m y blank key a ad other) qs)
-    → fetch_here (state_of f (moment_at m y blank key a ad deeper) ps)
-    ≡ fetch_here (state_of g (moment_at m y blank key a ad other) qs)
-ended_alike f g m y blank key a ad deeper other ps qs col (inl h) same =
-    let start = is_document_start y in
-    marker_here f m y blank key a ad deeper ps start refl col h
-    ∙ marked_alike start m (state_of f (moment_at m y blank key a ad deeper) ps)
-    (state_of g (moment_at m y blank key a ad other) qs) refl refl same
-    ∙ sym (marker_here g m y blank key a ad other qs start refl col h)
-ended_alike f g m y blank key a ad deeper other ps qs col (inr h) same = mark_here f m y blank key a ad deeper ps col h
+pub ended_alike : (f g : Frame) (n : Moment) (other : Bool) (ps qs : List Place) → n.cursor.mark.col ≡ 0
+    → EndsContent n.cursor.rest → unroll None n.cursor.mark (state_of f n ps)
+    ≡ unroll None n.cursor.mark (state_of g (record n { deeper = other }) qs)
+    → fetch_here (state_of f n ps) ≡ fetch_here (state_of g (record n { deeper = other }) qs)
+ended_alike f g n other ps qs col (inl h) same =
+    let start = is_document_start n.cursor.rest in
+    marker_here f n ps start refl col h
+    ∙ marked_alike start n.cursor.mark (state_of f n ps) (state_of g (record n { deeper = other }) qs) refl refl same
+    ∙ sym (marker_here g (record n { deeper = other }) qs start refl col h)
+ended_alike f g n other ps qs col (inr h) same =
+    let m = n.cursor.mark in
+    mark_here f n ps col h
     ∙ ap (λ r. r >>= λ (u : State). Ok (document.put_passed m tokens.ByteOrderMark (document.pass_mark u.core) u))
-    (content_alike m (state_of f (moment_at m y blank key a ad deeper) ps)
-    (state_of g (moment_at m y blank key a ad other) qs) refl refl same)
-    ∙ sym (mark_here g m y blank key a ad other qs col h)
+    (content_alike m (state_of f n ps) (state_of g (record n { deeper = other }) qs) refl refl same)
+    ∙ sym (mark_here g (record n { deeper = other }) qs col h)
 
--- what the end of the stream does
-pub stream_ends : (f : Frame) (m : Marker) (blank : Bool) (key : Option Candidate) (a : Bool) (ad : ℕ) (deeper : Bool)
-    (ps : List Place)
-    → fetch_here (state_of f (moment_at m [] blank key a ad deeper) ps)
-    ≡ Ok (document.finish (end_mark m)
-    (unroll None (end_mark m) (state_of f (moment_at m [] blank key a ad deeper) ps)))
+-- the same with another text
+abbrev pub with_text : Moment → List ℕ → Moment
+with_text n y = record n { cursor = cursor_at y n.cursor.mark n.cursor.blank_so_far }
+
+-- what the end of the stream does, where nothing is required
+pub stream_ends : (f : Frame) (n : Moment) (ps : List Place) → n.required ≡ false
+    → fetch_here (state_of f (with_text n []) ps) ≡ Ok (document.finish (end_mark n.cursor.mark)
+    (unroll None (end_mark n.cursor.mark) (state_of f (with_text n []) ps)))
 unfolding fetch_here document.state_behind_end document.end_at
-stream_ends f m blank key a ad deeper ps = refl
+stream_ends f n ps free = rw free refl
 
 -- A collection ends at the end of its document, where the next token is no further left.
-ends_here : (f : Frame) (c : ℕ) (m : Marker) (y : List ℕ) (blank : Bool) (key : Option Candidate) (a : Bool) (ad : ℕ)
-    (deeper other : Bool) (ps : List Place) → EndsDocument m y
-    → fetch_here (state_of (frame_at_column c f) (moment_at m y blank key a ad deeper) ps)
-    ≡ fetch_here (state_of f (moment_at m y blank key a ad other) (ps ++ end_place (end_mark m) ∷ []))
-ends_here f c m y blank key a ad deeper other ps (inl e) =
-    subst (λ (z : List ℕ). fetch_here (state_of (frame_at_column c f) (moment_at m z blank key a ad deeper) ps)
-    ≡ fetch_here (state_of f (moment_at m z blank key a ad other) (ps ++ end_place (end_mark m) ∷ []))) (sym e)
-    (stream_ends (frame_at_column c f) m blank key a ad deeper ps
-    ∙ ap (λ (s : State). Ok (document.finish (end_mark m) s))
-    (ends_last f c (end_mark m) m [] blank key a ad deeper other ps)
-    ∙ sym (stream_ends f m blank key a ad other (ps ++ end_place (end_mark m) ∷ [])))
-ends_here f c m y blank key a ad deeper other ps (inr h) =
-    let same : end_mark m ≡ m = at_line_start m h.0 in
-    subst (λ (n : Marker). fetch_here (state_of (frame_at_column c f) (moment_at m y blank key a ad deeper) ps)
-    ≡ fetch_here (state_of f (moment_at m y blank key a ad other) (ps ++ end_place n ∷ []))) (sym same)
-    (ended_alike (frame_at_column c f) f m y blank key a ad deeper other ps (ps ++ end_place m ∷ []) h.0 h.1
-    (ends_last f c m m y blank key a ad deeper other ps))
+ends_here : (f : Frame) (c : ℕ) (n : Moment) (other : Bool) (ps : List Place) → n.required ≡ false
+    → EndsDocument n.cursor.mark n.cursor.rest → fetch_here (state_of (frame_at_column c f) n ps)
+    ≡ fetch_here (state_of f (record n { deeper = other }) (ps ++ end_place (end_mark n.cursor.mark) ∷ []))
+ends_here f c n other ps free (inl e) =
+    let end = end_mark n.cursor.mark in
+    let qs = ps ++ end_place end ∷ [] in
+    subst (λ (z : List ℕ). fetch_here (state_of (frame_at_column c f) (with_text n z) ps)
+    ≡ fetch_here (state_of f (record (with_text n z) { deeper = other }) qs)) (sym e)
+    (stream_ends (frame_at_column c f) n ps free ∙ ap (λ (s : State). Ok (document.finish end s))
+    (ends_last f c end (with_text n []) other ps) ∙ sym (stream_ends f (record n { deeper = other }) qs free))
+ends_here f c n other ps free (inr h) =
+    let m = n.cursor.mark in
+    subst (λ (k : Marker). fetch_here (state_of (frame_at_column c f) n ps)
+    ≡ fetch_here (state_of f (record n { deeper = other }) (ps ++ end_place k ∷ []))) (sym (at_line_start m h.0))
+    (ended_alike (frame_at_column c f) f n other ps (ps ++ end_place m ∷ []) h.0 h.1 (ends_last f c m n other ps))
 
 -- ## A collection ends
 
 at_least : (c col : ℕ) → nat_lt col c ≡ false → c + 1 ≤ col + 1
 at_least c col h = grind (arith, nat_tests)
+
+not_less : (col c : ℕ) → col < c → nat_lt col c ≡ false → ⊥
+not_less col c h e = grind (arith, nat_tests)
 
 outer_least : (i c col : ℕ) → i ≤ c → c + 1 ≤ col + 1 → i ≤ col + 1
 outer_least i c col h k = omega (arith, h, k)
@@ -172,21 +152,24 @@ ended_kinds : (ps : List Place) (m : Marker) (ts : List Kind) → place_kinds ps
     → place_kinds (ps ++ end_place m ∷ []) ≡ ts ++ tokens.BlockEnd ∷ []
 ended_kinds ps m ts e = place_kinds_append ps (end_place m ∷ []) ∙ ap (λ (x : List Kind). x ++ tokens.BlockEnd ∷ []) e
 
--- The block collection at a column ends before the token at m, which is to its left or ends the document.
+-- The block collection at a column ends before the token at m, which is to its left or ends the document. Its
+-- `BlockEnd` comes only when that token is fetched. So the state inside it is compared with the state behind it, at the
+-- unrolling: a token to the left closes it there, and at the document's end all collections close alike.
 pub closes_block : {limit : ℕ} {start : State} {ts : List Kind} (f : Frame) (c : ℕ) (m : Marker) (y : List ℕ)
     → f.indent ≤ c → EndsDocument m y ⊎ (m.col < c) → (v : At limit start (frame_at_column c f) m y ts)
     → (w : At limit start f m y (ts ++ tokens.BlockEnd ∷ [])) × (w.key ≡ v.key) × (w.allowed ≡ v.allowed)
 unfolding fetch
 closes_block {limit} {start} {ts} f c m y inside ends v = by_column (nat_lt m.col c) refl
   where
-    arrived : (g : Frame) (deeper : Bool) (ps : List Place)
-        → fetch (state_of g (moment_at m y v.blank v.key v.allowed v.adjacent deeper) ps)
-        ≡ fetch_here (unroll (Some m.col) m (state_of g (moment_at m y v.blank v.key v.allowed v.adjacent deeper) ps))
+    seen : Bool → Moment
+    seen deeper = moment_at m y v.blank v.key v.allowed v.adjacent deeper
+
+    arrived : (g : Frame) (deeper : Bool) (ps : List Place) → fetch (state_of g (seen deeper) ps)
+        ≡ fetch_here (unroll (Some m.col) m (state_of g (seen deeper) ps))
     arrived g deeper ps = cc (arrives_at g m y v.blank v.key v.allowed v.adjacent deeper ps v.stop v.near)
 
-    closed_at : (n : Marker)
-        → fetch (state_of (frame_at_column c f) (moment_at m y v.blank v.key v.allowed v.adjacent v.deeper) v.places)
-        ≡ fetch (state_of f (moment_at m y v.blank v.key v.allowed v.adjacent false) (v.places ++ end_place n ∷ []))
+    closed_at : (n : Marker) → fetch (state_of (frame_at_column c f) (seen v.deeper) v.places)
+        ≡ fetch (state_of f (seen false) (v.places ++ end_place n ∷ []))
         → (w : At limit start f m y (ts ++ tokens.BlockEnd ∷ [])) × (w.key ≡ v.key) × (w.allowed ≡ v.allowed)
     closed_at n e = (
       record {
@@ -208,23 +191,20 @@ closes_block {limit} {start} {ts} f c m y inside ends v = by_column (nat_lt m.co
 
     by_end : nat_lt m.col c ≡ false → EndsDocument m y ⊎ (m.col < c)
         → (w : At limit start f m y (ts ++ tokens.BlockEnd ∷ [])) × (w.key ≡ v.key) × (w.allowed ≡ v.allowed)
-    by_end e (inr h) = absurd
-        (let k : m.col < c → nat_lt m.col c ≡ true = λ l. yes m.col l in let no = sym (k h) ∙ e in cc)
-      where
-        yes : (col : ℕ) → col < c → nat_lt col c ≡ true
-        yes col l = grind (arith, nat_tests)
+    by_end e (inr h) = absurd (not_less m.col c h e)
     by_end e (inl h) =
         let far = at_least c m.col e in
-        closed_at (end_mark m) (arrived (frame_at_column c f) v.deeper v.places
+        let end = end_mark m in
+        let qs = v.places ++ end_place end ∷ [] in
+        closed_at end (arrived (frame_at_column c f) v.deeper v.places
         ∙ ap fetch_here (stays_open (frame_at_column c f) false m y v.blank v.key v.allowed v.adjacent v.deeper v.places
-        far) ∙ ends_here f c m y v.blank v.key v.allowed v.adjacent (v.deeper && nat_le (c + 1) m.col) false v.places h
-        ∙ sym (arrived f false (v.places ++ end_place (end_mark m) ∷ [])
-        ∙ ap fetch_here (stays_open f false m y v.blank v.key v.allowed v.adjacent false
-        (v.places ++ end_place (end_mark m) ∷ []) (outer_least f.indent c m.col inside far))))
+        far) ∙ ends_here f c (seen (v.deeper && nat_le (c + 1) m.col)) false v.places refl h ∙ sym (arrived f false qs
+        ∙ ap fetch_here (stays_open f false m y v.blank v.key v.allowed v.adjacent false qs
+        (outer_least f.indent c m.col inside far))))
 
     by_column : (b : Bool) → nat_lt m.col c ≡ b
         → (w : At limit start f m y (ts ++ tokens.BlockEnd ∷ [])) × (w.key ≡ v.key) × (w.allowed ≡ v.allowed)
     by_column true e = closed_at m (arrived (frame_at_column c f) v.deeper v.places
-        ∙ ap fetch_here (ends_left f c m y v.blank v.key v.allowed v.adjacent v.deeper v.places (ltb-true m.col c e))
+        ∙ ap fetch_here (ends_left f c m (seen v.deeper) v.places (ltb-true m.col c e))
         ∙ sym (arrived f false (v.places ++ end_place m ∷ [])))
     by_column false e = by_end e ends

@@ -1,35 +1,16 @@
 -- The `:` of a block mapping is read (YAML 1.2.2, 8.2.2).
-use Rattle.std.proofs.Common.{◌≡◌, ℕ, suc, ◌+◌, ◌<◌, ◌≤◌, Bool, true, false, List, [], ◌∷◌, ◌++◌, length, slice_index, refl, sym, ap, ◌∙◌, arith, append_assoc, Ok, ◌⊎◌, inr}
-use Rattle.std.specs.Prelude.{◌||◌, ◌==◌, nat_le, nat_lt, Option, Some, None, if◌then◌else◌}
+use Rattle.yaml_laws.proofs.Common.{Bool, List, Ok, [], ap, append_assoc, arith, false, inr, length, refl, slice_index, suc, sym, true, ℕ, ◌++◌, ◌+◌, ◌<◌, ◌∙◌, ◌∷◌, ◌≡◌, ◌≤◌, ◌⊎◌, None, Option, Some, if◌then◌else◌, nat_le, nat_lt, ◌==◌, ◌||◌, tab, Marker, SkipTabs, Yes, Cursor, along, separation, ◌>>=◌, Core, Open, at_mark, completed_step, is_too_far, least_column, perform, Candidate, with_cursor, Place, Queue, bare_place, empty_piece, next, Piece, State, after_step, Kind, cursor_at, le_next, zero_below_next, or-true, colon, place_kinds, place_kinds_append, queue_of, or-false}
 use Rattle.std.proofs.lemmas.List.{length-append}
-use Rattle.saphyr_input.specs.Classes.{tab}
-use Rattle.saphyr_scalar.specs.declared.scalar.position.Marker.{Marker}
-use Rattle.saphyr_input.specs.declared.input.SkipTabs.{SkipTabs}
-use Rattle.saphyr_input.specs.declared.input.SkipTabs.TheVariants.{Yes}
-use Rattle.saphyr_scalar.specs.Views.Cursor.{Cursor, ◌>>=◌, along, separation}
 use Rattle.saphyr_scanner.specs.declared.queue.Opening.{Opening}
 use Rattle.saphyr_scanner.specs.declared.queue.Opening.TheVariants as opening
-use Rattle.saphyr_scanner.specs.Steps.Core.{least_column, Core, Open, completed_step, at_mark, perform, is_too_far}
-use Rattle.saphyr_scanner.specs.Steps.Level.{Candidate}
-use Rattle.saphyr_scanner.specs.Steps.Passing.{with_cursor}
-use Rattle.saphyr_scanner.specs.Steps.Queue.{next, Place, Queue, bare_place, empty_piece}
-use Rattle.saphyr_scanner.specs.Views.Tokens.{Piece}
-use Rattle.saphyr_scanner.specs.Steps.State.{State, after_step}
 use Rattle.saphyr_scanner.specs.Grammar.Tokens as tokens
-use Rattle.saphyr_scanner.specs.Grammar.Tokens.{Kind}
 use Rattle.saphyr_scanner.specs.Steps.Value as value
 use Rattle.saphyr_scanner.specs.Steps.Fetch.{fetch, fetch_here, state_behind_content, step}
 use Rattle.yaml_laws.specs.Grammar.BlockNodes as yaml
 use Rattle.yaml_laws.proofs.Flow.Values.{pair_places, performs}
-use Rattle.yaml_laws.proofs.Flow.States.{past}
-use Rattle.yaml_laws.proofs.InBlock.States.{Frame, Moment, moment_at, moment_with, core_of, state_of, tabbed, IsUntabbed, crosses, GoesOnAs, At, Before}
+use Rattle.yaml_laws.proofs.InBlock.States.{Frame, Moment, moment_at, moment_with, core_of, state_of, tabbed, IsUntabbed, crosses, GoesOnAs, At, Before, past}
 use Rattle.yaml_laws.proofs.InBlock.Follows.{steps_from, begins_here, deeper_at, lands_key}
 use Rattle.yaml_laws.proofs.InBlock.Entries.{IsBehindIndicator, front_end, separates, frame_behind, steps_on, start_places, start_performs, start_kinds, start_are, least_within, before_next}
-use Rattle.saphyr_scalar.proofs.Given.{cursor_at}
-use Rattle.saphyr_input.proofs.Basics.Numbers.{le_next, zero_below_next}
-use Rattle.std.proofs.Math.Bool.{or-true}
-use Rattle.saphyr_input.specs.Indicators.{colon}
-use Rattle.saphyr_scanner.proofs.Queues.{place_kinds, place_kinds_append, queue_of}
 use Rattle.yaml_laws.proofs.InBlock.Questions.{colon_begins, key_kinds}
 
 -- ## After a colon
@@ -125,6 +106,9 @@ value_performs f n false m ps e = rw e (start_performs false m tokens.BlockMappi
 abbrev pub value_kinds : Bool → List Kind
 value_kinds further = start_kinds further tokens.BlockMappingStart tokens.Value
 
+room : (i j l limit : ℕ) → j ≤ i + 1 + l → i + suc l ≤ limit → j ≤ limit
+room i j l limit k h = omega (arith, k, h)
+
 -- the `:` of a value is read, which begins a mapping or goes on with one
 pub reads_value : {limit : ℕ} {start : State} {ts : List Kind} (f : Frame) (m : Marker) (o : List ℕ) (further : Bool)
     → nat_le f.indent m.col ≡ further → f.indent ≤ m.col + 1
@@ -154,9 +138,6 @@ reads_value {limit} {start} {ts} f m o further e far h count v none allowed =
     (start_are further m tokens.BlockMappingStart m m tokens.Value v.places ts v.are) refl refl refl
     (le_next v.adjacent m.index v.low) p.lands
     (p.clean (least_column (core_of g t)) (least_within further m.col f t far)) (or-true (crosses p.rest)) refl
-  where
-    room : (i j l limit : ℕ) → j ≤ i + 1 + l → i + suc l ≤ limit → j ≤ limit
-    room i j l limit k h = omega (arith, k, h)
 
 -- ## `:` after a key
 
@@ -199,7 +180,8 @@ key_are : (further : Bool) (ps others : List Place) (key : Piece) (m : Marker) (
 key_are further ps others key m ts us first are =
     grind (arith, place_kinds_append, pair_places, place_kinds, key_kinds)
 
--- the colon of a key is read, which begins a mapping or goes on with one
+-- The colon of a key is read, which begins a mapping or goes on with one. The scanner is before the blanks in front of
+-- the colon, and lands there with the key still a candidate, whose place the step opens.
 pub reads_colon : {limit : ℕ} {start : State} (f : Frame) (n : Moment) (ps others new : List Place) (key : Piece)
     (k m : Marker) (o : List ℕ) (ts us : List Kind) (further : Bool) → nat_le f.indent k.col ≡ further
     → f.indent ≤ k.col + 1 → GoesOnAs limit start (state_of f n (ps ++ new)) → new ≡ bare_place key ∷ others
@@ -242,14 +224,8 @@ reads_colon {limit} {start} f n ps others new key k m o ts us further e far v is
     further_right : (i k m : ℕ) → i ≤ k + 1 → k ≤ m → i ≤ m + 1
     further_right i k m h l = omega (arith, h, l)
 
-    or_none : (b : Bool) → (b || false) ≡ b
-    or_none b = grind arith
-
     none_same : (a b : Bool) → a ≡ b → (a || false) ≡ (false || b)
-    none_same a b e = or_none a ∙ e
-
-    room : (i j l limit : ℕ) → j ≤ i + 1 + l → i + suc l ≤ limit → j ≤ limit
-    room i j l limit k h = omega (arith, k, h)
+    none_same a b e = or-false a ∙ e
 
     behind : (k m : ℕ) → k ≤ m → k < m + 1
     behind k m h = omega (arith, h)

@@ -3,30 +3,19 @@ pub mod Comes
 pub mod DirectiveLines
 pub mod Ends
 pub mod Nodes
-use Rattle.std.proofs.Common.{◌≡◌, ℕ, Bool, true, false, List, [], ◌∷◌, ◌++◌, refl, sym, ap, ◌∙◌, subst, append_assoc, append-nil, ◌⊎◌, inl, inr, IsTrue, arith}
-use Rattle.std.specs.Prelude.{map, ◌||◌}
-use Rattle.saphyr_input.specs.Indicators.{hyphen}
-use Rattle.saphyr_scalar.specs.declared.scalar.position.Marker.{Marker}
-use Rattle.scalar_laws.proofs.Beginnings.{back_in}
-use Rattle.saphyr_scanner.specs.Steps.State.{State}
+use Rattle.yaml_laws.proofs.Common.{Bool, IsTrue, List, [], ap, append-nil, append_assoc, arith, false, inl, inr, refl, subst, sym, true, ℕ, ◌++◌, ◌∙◌, ◌∷◌, ◌≡◌, ◌⊎◌, map, ◌||◌, hyphen, back_in, State, Kind, directive_token, Alias, AreCompatible, Document, Map, Node, Scalar, Seq, most_open, AtStart, BehindMarker, IsBlockNode, AreDirectives, has_marker}
 use Rattle.saphyr_scanner.specs.Grammar.Tokens as tokens
-use Rattle.saphyr_scanner.specs.Grammar.Tokens.{Kind, directive_token}
 use Rattle.saphyr_scanner.specs.Grammar.TokenGrammar as grammar
-use Rattle.saphyr_scanner.specs.Grammar.Forest.{Node, Alias, Scalar, Seq, Map, Document, AreCompatible}
-use Rattle.saphyr_scanner.specs.Limits.{most_open}
-use Rattle.yaml_laws.specs.Grammar.BlockNodes.{BehindMarker, AtStart, IsBlockNode}
 use Rattle.yaml_laws.specs.Grammar.Yaml as yaml
-use Rattle.yaml_laws.specs.Grammar.Yaml.{has_marker, AreDirectives}
-use Rattle.yaml_laws.proofs.Flow.States.{ReaderPromises}
 use Rattle.yaml_laws.proofs.Flow.ContentStarts.{StartsContent}
 use Rattle.yaml_laws.proofs.Documents.Markers.{reads_start}
 use Rattle.yaml_laws.proofs.Documents.Directives.{reads_directives}
 use Rattle.yaml_laws.proofs.Documents.Stands.{StandsLined, lined_so, AtLine, Lined, BehindStart, StandsInStream, passes_over}
-use Rattle.yaml_laws.proofs.InBlock.States.{crosses}
+use Rattle.yaml_laws.proofs.InBlock.States.{crosses, ReaderPromises}
 use Rattle.yaml_laws.proofs.InBlock.Statements.{AreRead, as_optional, ReadsLeaves}
 use Rattle.yaml_laws.proofs.InBlock.Texts.{node_ends}
 use Rattle.yaml_laws.proofs.InBlock.BehindIndicators.{entries_content, pairs_content}
-use Rattle.yaml_laws.proofs.InBlock.Documents.Ends.{HasNoReturn, Lands, IsPlainBehind, no_directives, explicit_first}
+use Rattle.yaml_laws.proofs.InBlock.Documents.Ends.{HasNoReturn, FollowsDocument, no_directives, explicit_first}
 use Rattle.yaml_laws.proofs.InBlock.Documents.Nodes.{none_here, bare_clear, explicit_clear, NodeStands, reads_root}
 
 -- ## A document
@@ -65,12 +54,12 @@ node_some leaves (Map p pairs) t o (inr (m, lead, entries, lead_is, h, e)) none 
 
 bare_node : {limit : ℕ} {start : State} → ReadsLeaves limit → (node : Node) (t others : List ℕ) (ts : List Kind)
     → has_marker true t ≡ false → IsBlockNode most_open node AtStart t others
-    → ((m : Marker) → AtLine others m → Lands m others) → IsPlainBehind others → HasNoReturn t
+    → FollowsDocument others → HasNoReturn t
     → (v : StandsLined limit start true true (t ++ others) ts) → NodeStands limit start node AtStart others ts
-bare_node {limit} {start} leaves node t others ts unmarked h lands plain clean v =
+bare_node {limit} {start} leaves node t others ts unmarked h follows clean v =
     let some : (t ++ others ≡ []) → ⊥ = λ e. node_some leaves node t others h (none_here t others e) in
     let clear = bare_clear v.mark t others v.line.0 clean unmarked (node_ends leaves node AtStart t others h) in
-    reads_root leaves AtStart refl node t others ts h lands plain v
+    reads_root leaves AtStart refl node t others ts h follows v
     (record { clear = clear; below = v.count; lined = v.lined }) (col some v.line.0) (λ _. opened some (v.line.1 refl))
   where
     col : ((t ++ others ≡ []) → ⊥) → AtLine (t ++ others) v.mark → v.mark.col ≡ 0
@@ -84,13 +73,13 @@ bare_node {limit} {start} leaves node t others ts unmarked h lands plain clean v
 
 explicit_node : {limit : ℕ} {start : State} → ReadsLeaves limit → (node : Node) (t others : List ℕ) (ts : List Kind)
     → has_marker false t ≡ false → IsBlockNode most_open node BehindMarker t others
-    → ((m : Marker) → AtLine others m → Lands m others) → IsPlainBehind others → HasNoReturn t
+    → FollowsDocument others → HasNoReturn t
     → (v : StandsInStream limit start true (BehindStart (t ++ others)) (t ++ others) ts)
     → NodeStands limit start node BehindMarker others ts
-explicit_node {limit} {start} leaves node t others ts unmarked h lands plain clean v =
+explicit_node {limit} {start} leaves node t others ts unmarked h follows clean v =
     let clear = explicit_clear v.mark t others v.line.0 clean unmarked
     (node_ends leaves node BehindMarker t others h) in
-    reads_root leaves BehindMarker refl node t others ts h lands plain v
+    reads_root leaves BehindMarker refl node t others ts h follows v
     (record { clear = clear; below = v.count; lined = v.lined }) tt (λ e. v.line.1 ∙ e)
 
 token_list : (ts directives node : List Kind) (k : Kind)
@@ -102,13 +91,13 @@ reads_explicit : {limit : ℕ} {start : State} {now opened : Bool} → ReadsLeav
     → (d : Document) (free : Bool) (t others : List ℕ) (ts : List Kind) → IsTrue free ⊎ (d.directives ≡ [])
     → d.explicit ≡ true → AreCompatible d.directives
     → has_marker false t ≡ false → IsBlockNode most_open d.node BehindMarker t others
-    → ((m : Marker) → AtLine others m → Lands m others) → IsPlainBehind others → HasNoReturn t
+    → FollowsDocument others → HasNoReturn t
     → StandsLined limit start now opened (hyphen ∷ hyphen ∷ hyphen ∷ (t ++ others))
     (ts ++ map directive_token d.directives) → DocumentStands limit start d free others ts
-reads_explicit {limit = limit} {start = start} leaves d free t others ts may explicit compatible unmarked is lands plain
+reads_explicit {limit = limit} {start = start} leaves d free t others ts may explicit compatible unmarked is follows
     clean v =
     let n = explicit_node leaves d.node t others ((ts ++ map directive_token d.directives) ++ tokens.DocumentStart ∷ [])
-    unmarked is lands plain clean (reads_start (t ++ others) v (explicit_first leaves d.node t others is plain)) in
+    unmarked is follows clean (reads_start (t ++ others) v (explicit_first leaves d.node t others is follows)) in
     record {
       tokens = map directive_token d.directives ++ tokens.DocumentStart ∷ n.tokens;
       are = inr (may, (n.tokens, explicit, compatible, as_optional d.node BehindMarker n.tokens n.are, refl));
@@ -160,11 +149,11 @@ some_node node ts (inl h) = absurd (let k : true ≡ false = h.0 in cc)
 pub reads_document : {limit : ℕ} {start : State} → ReaderPromises → ReadsLeaves limit
     → (d : Document) (free : Bool) (t others : List ℕ) (ts : List Kind)
     → yaml.IsDocument (IsBlockNode most_open) d free t others
-    → ((m : Marker) → AtLine others m → Lands m others) → IsPlainBehind others → HasNoReturn t
+    → FollowsDocument others → HasNoReturn t
     → StandsLined limit start free free (t ++ others) ts → DocumentStands limit start d free others ts
 reads_document {limit = limit} {start = start} readers leaves d free t others ts (inl (is_free, (same, unmarked, is)))
-    lands plain clean v =
-    let n = bare_node leaves d.node t others ts unmarked is lands plain clean (rw is_free at v) in
+    follows clean v =
+    let n = bare_node leaves d.node t others ts unmarked is follows clean (rw is_free at v) in
     record {
       tokens = n.tokens;
       are =
@@ -175,8 +164,8 @@ reads_document {limit = limit} {start = start} readers leaves d free t others ts
       stands = n.stands;
     }
 reads_document {limit = limit} {start = start} readers leaves d free t others ts
-    (inr (may, (directives, node, explicit, compatible, are, unmarked, is, e))) lands plain clean v =
+    (inr (may, (directives, node, explicit, compatible, are, unmarked, is, e))) follows clean v =
     let text = ap (λ (x : List ℕ). x ++ others) e ∙ text_of_document directives node others in
     let f = reads_front readers d free directives (node ++ others) ts may are (lined_so text v) in
-    reads_explicit leaves d free node others ts may explicit compatible unmarked is lands plain
+    reads_explicit leaves d free node others ts may explicit compatible unmarked is follows
     (clean_node directives node (rw e at clean)) f.stands

@@ -1,37 +1,19 @@
 -- The `-` of an entry of a block sequence is read (YAML 1.2.2, 8.2.1).
-use Rattle.std.proofs.Common.{◌≡◌, ℕ, suc, ◌+◌, ◌≤◌, Bool, true, false, List, [], ◌∷◌, ◌++◌, length, slice_index, refl, ap, ◌∙◌, arith, append_assoc, IsTrue, Ok, ◌⊎◌, inl}
-use Rattle.std.specs.Prelude.{◌||◌, ◌&&◌, ◌==◌, not, nat_le, nat_lt, Option, None, if◌then◌else◌}
+use Rattle.yaml_laws.proofs.Common.{Bool, IsTrue, List, Ok, [], ap, append_assoc, arith, false, inl, length, refl, slice_index, suc, true, ℕ, ◌++◌, ◌+◌, ◌∙◌, ◌∷◌, ◌≡◌, ◌≤◌, ◌⊎◌, None, Option, if◌then◌else◌, nat_le, nat_lt, not, ◌&&◌, ◌==◌, ◌||◌, hyphen, is_alpha, is_blank, is_blank_or_breakz, is_break, is_flow, is_document_indicator, Yes, Marker, along, separation, ◌>>=◌, AreIn, cursor_at, IsCommentBehind, Candidate, pass_on, Place, bare_place, empty_piece, next, State, Kind, LeadsTo, place_kinds, place_kinds_append, queue_of, token_place, le_next, or-true}
 use Rattle.std.proofs.lemmas.List.{length-append}
-use Rattle.saphyr_input.specs.Indicators.{hyphen}
-use Rattle.saphyr_input.specs.Classes.{is_blank, is_break, is_flow, is_blank_or_breakz, is_alpha}
-use Rattle.saphyr_input.specs.Places.{is_document_indicator}
 use Rattle.saphyr_input.specs.Separation.{found_blanks, found_tabs, has_valid_yaml_ws}
-use Rattle.saphyr_input.specs.declared.input.SkipTabs.TheVariants.{Yes}
-use Rattle.saphyr_scalar.specs.declared.scalar.position.Marker.{Marker}
-use Rattle.saphyr_scalar.specs.Views.Cursor.{◌>>=◌, along, separation}
-use Rattle.saphyr_scalar.specs.Spelling.Tag.{AreIn}
-use Rattle.saphyr_scalar.proofs.Given.{cursor_at}
-use Rattle.scalar_laws.specs.Spelling.Spaces.{IsCommentBehind}
 use Rattle.saphyr_scanner.specs.Steps.Core.{least_column, completed_step, at_mark, from_to, perform, roll, remove_key}
-use Rattle.saphyr_scanner.specs.Steps.Level.{Candidate}
 use Rattle.saphyr_scanner.specs.Steps.Block.{block_entry_steps, next_entry, pass_dash, deepen, refuse_tab, behind_start}
-use Rattle.saphyr_scanner.specs.Steps.Passing.{pass_on}
-use Rattle.saphyr_scanner.specs.Steps.Queue.{next, Place, bare_place, empty_piece}
-use Rattle.saphyr_scanner.specs.Steps.State.{State}
 use Rattle.saphyr_scanner.specs.Grammar.Tokens as tokens
-use Rattle.saphyr_scanner.specs.Grammar.Tokens.{Kind}
 use Rattle.saphyr_scanner.specs.Steps.Fetch.{fetch, state_behind_content, step}
-use Rattle.saphyr_scanner.proofs.Leads.{LeadsTo}
-use Rattle.yaml_laws.proofs.Flow.States.{past}
 use Rattle.yaml_laws.proofs.Flow.GapSteps.{past_low}
 use Rattle.yaml_laws.specs.Grammar.BlockNodes as yaml
 use Rattle.yaml_laws.specs.Grammar.BlockNodes.{Position as Position}
 use Rattle.yaml_laws.proofs.Flow.Separates.{StopsLine, line_separated}
-use Rattle.yaml_laws.proofs.InBlock.States.{Frame, Moment, frame_at_column, moment_at, core_of, state_of, IsUntabbed, crosses, is_compact, IsPlaced, At, Before}
+use Rattle.yaml_laws.proofs.InBlock.States.{Frame, Moment, frame_at_column, moment_at, core_of, state_of, IsUntabbed, crosses, is_compact, IsPlaced, At, Before, past}
 use Rattle.yaml_laws.proofs.InBlock.Gaps.{past_stops}
 use Rattle.yaml_laws.proofs.InBlock.Skips.{IsCleanBehind}
-use Rattle.yaml_laws.proofs.InBlock.Follows.{follows_itself, steps_from, goes_alike, left_key, left_again, lands, BeginsToken, begins_with, begins_here, arrives_at, stays_open, deeper_at}
-use Rattle.saphyr_scanner.proofs.Queues.{token_place, place_kinds, place_kinds_append, queue_of}
+use Rattle.yaml_laws.proofs.InBlock.Follows.{follows_itself, steps_from, goes_alike, left_key, left_again, lands, BeginsToken, begins_with, begins_here, arrives_at, stays_open, deeper_at, left_none}
 
 -- ## What comes after an indicator
 
@@ -216,9 +198,6 @@ before_next {limit} {start} {ts} place g n qs m o leads are none free quiet low 
       allows = λ e. allows ∙ e;
       placed = placed;
     }
-  where
-    left_none : (k : Option Candidate) → k ≡ None → (m : Marker) → left_key k m ≡ None
-    left_none k e m = rw e refl
 
 -- `-` is read, which begins a sequence or goes on with one
 pub reads_dash : {colon : Bool} {limit : ℕ} {start : State} {ts : List Kind} (f : Frame) (m : Marker) (o : List ℕ)
@@ -251,11 +230,5 @@ reads_dash {limit} {start} {ts} f m o further e far h count v allowed =
     (steps_on f g m (45 ∷ o) v (dash_begins m o h.first) far t (start_places further m tokens.BlockSequenceStart n n
     tokens.BlockEntry v.places) there refl low)
     (start_are further m tokens.BlockSequenceStart n n tokens.BlockEntry v.places ts v.are) refl refl refl
-    (later v.adjacent m.index v.low) (h.lands (along m 1))
-    (h.clean (least_column (core_of g t)) (least_within further m.col f t far) n) (or_true (crosses h.more)) refl
-  where
-    later : (a b : ℕ) → a ≤ b → a ≤ b + 1
-    later a b h = omega (arith, h)
-
-    or_true : (b : Bool) → (b || true) ≡ true
-    or_true b = grind arith
+    (le_next v.adjacent m.index v.low) (h.lands (along m 1))
+    (h.clean (least_column (core_of g t)) (least_within further m.col f t far) n) (or-true (crosses h.more)) refl

@@ -1,28 +1,11 @@
 -- Runs at block level, told at the next token.
-use Rattle.std.proofs.Common.{◌≡◌, ℕ, ◌+◌, ◌≤◌, Bool, true, false, List, [], ◌∷◌, slice_index, refl, sym, ap, ◌∙◌, arith, subst, Ok, ◌⊎◌, inl}
-use Rattle.std.specs.Prelude.{◌-◌, ◌||◌, ◌&&◌, ◌==◌, nat_le, nat_lt, Option, Some, None, if◌then◌else◌}
-use Rattle.std.proofs.lemmas.Bool.Decides.{nat_tests}
-use Rattle.saphyr_input.specs.Classes.{is_z, is_bom}
-use Rattle.saphyr_input.specs.Places.{is_document_indicator}
-use Rattle.saphyr_scalar.specs.declared.scalar.position.Marker.{Marker}
-use Rattle.saphyr_scalar.specs.Views.Cursor.{◌>>=◌}
+use Rattle.yaml_laws.proofs.Common.{Bool, List, Ok, [], ap, arith, false, inl, refl, slice_index, subst, sym, true, ℕ, ◌+◌, ◌∙◌, ◌∷◌, ◌≡◌, ◌≤◌, ◌⊎◌, None, Option, Some, if◌then◌else◌, nat_le, nat_lt, ◌&&◌, ◌-◌, ◌==◌, ◌||◌, nat_tests, is_bom, is_z, is_document_indicator, Marker, ◌>>=◌, Candidate, GapEnd, Place, State, LeadsTo, leads_on, onward, stay, cursor_at, and_or_false, le-leb, percent_sign, queue_of}
 use Rattle.saphyr_scanner.specs.Steps.Core.{Core, is_too_far, drop_far_key, least_column}
-use Rattle.saphyr_scanner.specs.Steps.Level.{Candidate}
-use Rattle.saphyr_scanner.specs.Steps.Gap.{GapEnd}
 use Rattle.saphyr_scanner.specs.Steps.Passing.{pass_gap, check_comment, goes_on_behind, behind_gap, check_comment_of}
-use Rattle.saphyr_scanner.specs.Steps.Queue.{Place}
-use Rattle.saphyr_scanner.specs.Steps.State.{State}
 use Rattle.saphyr_scanner.specs.Steps.Unrolling.{unroll}
 use Rattle.saphyr_scanner.specs.Steps.Fetch.{fetch, fetch_here, arrive, fetch_within, check_limit, without_far_key, state_behind_content}
-use Rattle.saphyr_scanner.proofs.Leads.{LeadsTo, stay, onward, leads_on}
-use Rattle.yaml_laws.proofs.Flow.States.{past}
-use Rattle.yaml_laws.proofs.InBlock.States.{Frame, Moment, moment_at, moment_with, core_of, state_of, crosses, IsUntabbed, IsStop, GoesOnAs}
+use Rattle.yaml_laws.proofs.InBlock.States.{Frame, Moment, moment_at, moment_with, core_of, state_of, crosses, IsUntabbed, IsStop, GoesOnAs, past}
 use Rattle.yaml_laws.proofs.InBlock.Gaps.{past_stops, gap_still, passes_to}
-use Rattle.saphyr_scalar.proofs.Given.{cursor_at}
-use Rattle.saphyr_input.proofs.Basics.Booleans.{and_or_false}
-use Rattle.std.proofs.lemmas.Bool.{le-leb}
-use Rattle.saphyr_input.specs.Indicators.{percent_sign}
-use Rattle.saphyr_scanner.proofs.Queues.{queue_of}
 
 -- ## Going on
 
@@ -55,6 +38,9 @@ comes_to_end f running (onward s t u going is settles l) over = leads_on (first_
 -- the candidate that is left at a place
 abbrev pub left_key : Option Candidate → Marker → Option Candidate
 left_key k m = if is_too_far k m then None else k
+
+pub left_none : (k : Option Candidate) → k ≡ None → (m : Marker) → left_key k m ≡ None
+left_none k e m = rw e refl
 
 left_by : (k : Option Candidate) (m : Marker) (b : Bool) → is_too_far k m ≡ b → is_too_far (left_key k m) m ≡ false
 left_by k m b e = grind arith

@@ -1,38 +1,22 @@
 -- After the document marker of the last line nothing that was read may yet be a key, so all tokens up to its own are
 -- handed out.
-use Rattle.std.proofs.Common.{◌≡◌, ℕ, ◌≤◌, Bool, false, List, [], ◌∷◌, ◌++◌, length, Ok, refl, sym, ap, ◌∙◌, arith, append-nil, inl, inr}
+use Rattle.yaml_laws.proofs.Common.{Bool, List, Ok, [], ap, append-nil, arith, false, inl, inr, length, refl, sym, ℕ, ◌++◌, ◌∙◌, ◌∷◌, ◌≡◌, ◌≤◌, None, Option, line_feed, full_stop, hyphen, Marker, Cursor, along, next_line, cursor_at, IsLineRest, Kind, Piece, Place, bare_place, Candidate, State, fetch_here, LeadsTo, leads_on, onward, stay, place_kinds, place_kinds_append}
 use Rattle.std.proofs.lemmas.List.{length-append}
-use Rattle.std.specs.Prelude.{Option, None}
-use Rattle.saphyr_input.specs.Classes.{line_feed}
-use Rattle.saphyr_input.specs.Indicators.{full_stop, hyphen}
-use Rattle.saphyr_scalar.specs.declared.scalar.position.Marker.{Marker}
-use Rattle.saphyr_scalar.specs.Views.Cursor.{Cursor, along, next_line}
-use Rattle.saphyr_scalar.proofs.Given.{cursor_at}
 use Rattle.saphyr_scalar.specs.Known.{is_open}
-use Rattle.scalar_laws.specs.Spelling.Spaces.{IsLineRest}
 use Rattle.saphyr_scalar.proofs.WhatCame.Rests.{known_before}
 use Rattle.saphyr_scanner.specs.declared.engine.level.Context.TheVariants as context
 use Rattle.saphyr_scanner.specs.Grammar.Tokens as tokens
-use Rattle.saphyr_scanner.specs.Grammar.Tokens.{Kind}
-use Rattle.saphyr_scanner.specs.Views.Tokens.{Piece}
-use Rattle.saphyr_scanner.specs.Steps.Queue.{Place, bare_place}
-use Rattle.saphyr_scanner.specs.Steps.Level.{Candidate}
-use Rattle.saphyr_scanner.specs.Steps.State.{State}
-use Rattle.saphyr_scanner.specs.Steps.Fetch.{fetch_here}
-use Rattle.saphyr_scanner.proofs.Leads.{LeadsTo, stay, onward, leads_on}
 use Rattle.yaml_laws.specs.Grammar.ClosedTexts.{DocumentMarker, Starts, Ends, marker_text, marker_token}
-use Rattle.yaml_laws.proofs.Flow.States.{EndsDocument, moved, past}
 use Rattle.yaml_laws.proofs.Flow.Fillers.{rest_past}
 use Rattle.yaml_laws.proofs.Flow.Places.{moved_count}
 use Rattle.yaml_laws.proofs.Flow.Separates.{separates_rest}
 use Rattle.yaml_laws.proofs.Documents.Lines.{rest_first}
 use Rattle.yaml_laws.proofs.Documents.Stands.{StandsLined, StandsInStream, lined_so, reads_here}
 use Rattle.yaml_laws.proofs.Documents.Markers.{piece_of, at_line, start_here, start_ends, start_count, end_here, end_ends, end_count, reads_start, reads_end, FinishesStream, reads_stream_end}
-use Rattle.yaml_laws.proofs.InBlock.States.{GoesOnAs}
+use Rattle.yaml_laws.proofs.InBlock.States.{GoesOnAs, EndsDocument, moved, past}
 use Rattle.yaml_laws.proofs.InBlock.Follows.{first_step}
 use Rattle.yaml_laws.proofs.InBlock.Documents.Comes.{Comes}
 use Rattle.saphyr_input.proofs.Basics.Lists.{cons_not_empty}
-use Rattle.saphyr_scanner.proofs.Queues.{place_kinds, place_kinds_append}
 use Rattle.saphyr_scanner.proofs.Root.{state_at}
 
 -- The scanner has read these tokens, none of which may yet be a key, and left a rest that is not open.

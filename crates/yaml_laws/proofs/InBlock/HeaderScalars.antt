@@ -1,43 +1,22 @@
 -- A block scalar at block level is read from its header on (YAML 1.2.2, 8.1).
-use Rattle.std.proofs.Common.{◌≡◌, ℕ, zero, suc, ◌+◌, ◌^◌, ◌<◌, ◌≤◌, Bool, true, false, List, [], ◌∷◌, ◌++◌, length, slice_index, refl, sym, ap, ◌∙◌, arith, subst, Ok, encode_utf8_all, ◌⊎◌, inl, inr}
-use Rattle.std.specs.Prelude.{◌||◌, Option, Some, None}
+use Rattle.yaml_laws.proofs.Common.{Bool, List, Ok, [], ap, arith, encode_utf8_all, false, inl, inr, length, refl, slice_index, subst, suc, sym, true, zero, ℕ, ◌++◌, ◌+◌, ◌<◌, ◌^◌, ◌∙◌, ◌∷◌, ◌≡◌, ◌≤◌, ◌⊎◌, None, Option, Some, ◌||◌, is_break, BlockStyle, Marker, spaces, Cursor, ◌>>=◌, completed_step, from_to, least_column, save_key, Candidate, DoubleQuoted, Folded, Literal, Plain, SingleQuoted, Style, Place, bare_place, next, Piece, State, after_step, on_core, Kind, scalar_token, LeadsTo, IsBlockScalarText, IsStyled, cursor_at, or-true, le-leb, place_kinds, place_kinds_append, queue_of, saved, le_next}
 use Rattle.std.proofs.lemmas.List.{length-append}
-use Rattle.saphyr_input.specs.Classes.{is_break}
-use Rattle.saphyr_scalar.specs.declared.values.BlockStyle.{BlockStyle}
 use Rattle.saphyr_scalar.specs.declared.values.BlockStyle.TheVariants as block_style
-use Rattle.saphyr_scalar.specs.declared.scalar.position.Marker.{Marker}
 use Rattle.saphyr_scalar.specs.declared.scalar.position.Span.{Span}
-use Rattle.saphyr_scalar.specs.Reading.BlockLines.{spaces}
 use Rattle.saphyr_scalar.specs.Steps.Block as blocks
-use Rattle.saphyr_scalar.specs.Views.Cursor.{Cursor, ◌>>=◌}
-use Rattle.saphyr_scanner.specs.Steps.Core.{completed_step, from_to, least_column, save_key}
-use Rattle.saphyr_scanner.specs.Steps.Level.{Candidate}
 use Rattle.saphyr_scanner.specs.Steps.Fetch.{fetch, fetch_here, fetch_within, check_limit, state_behind_content, step}
-use Rattle.saphyr_scanner.specs.Grammar.Forest.{Style, Plain, SingleQuoted, DoubleQuoted, Literal, Folded}
-use Rattle.saphyr_scanner.specs.Steps.Queue.{next, Place, bare_place}
 use Rattle.saphyr_scanner.specs.Steps.Scalar as scalar
 use Rattle.saphyr_scanner.specs.Steps.Scalar.{style_of}
-use Rattle.saphyr_scanner.specs.Views.Tokens.{Piece}
-use Rattle.saphyr_scanner.specs.Steps.State.{State, after_step, on_core}
 use Rattle.saphyr_scanner.specs.Grammar.Tokens as kind
-use Rattle.saphyr_scanner.specs.Grammar.Tokens.{Kind, scalar_token}
-use Rattle.saphyr_scanner.proofs.Leads.{LeadsTo}
-use Rattle.yaml_laws.specs.Grammar.BlockNodes.{IsBlockScalarText, IsStyled}
-use Rattle.yaml_laws.proofs.Flow.States.{moved, past}
 use Rattle.yaml_laws.proofs.Flow.GapSteps.{past_low}
 use Rattle.yaml_laws.proofs.Flow.Places.{moved_append, moved_count}
-use Rattle.yaml_laws.proofs.InBlock.States.{Frame, Moment, moment_at, core_of, state_of, tabbed, IsUntabbed, crosses, GoesOnAs, At, EndsDocument}
+use Rattle.yaml_laws.proofs.InBlock.States.{Frame, Moment, moment_at, core_of, state_of, tabbed, IsUntabbed, crosses, GoesOnAs, At, EndsDocument, moved, past}
 use Rattle.yaml_laws.proofs.InBlock.Gaps.{past_stops}
 use Rattle.yaml_laws.proofs.InBlock.Skips.{skipped_past, spaces_skipped}
 use Rattle.yaml_laws.proofs.InBlock.Follows.{follows_itself, goes_alike, first_step, left_key, left_again, drops, lands, BeginsToken, begins_with, begins_here, arrives_at, stays_open, deeper_at}
 use Rattle.yaml_laws.proofs.InBlock.Lines.{FitsOnLines, fits_back}
 use Rattle.yaml_laws.proofs.InBlock.Statements.{EndsNodeAt, Arrived}
 use Rattle.yaml_laws.proofs.InBlock.ScalarTexts.{ReadsBlocks, block_taken}
-use Rattle.saphyr_scalar.proofs.Given.{cursor_at}
-use Rattle.std.proofs.Math.Bool.{or-true}
-use Rattle.std.proofs.lemmas.Bool.{le-leb}
-use Rattle.saphyr_scanner.proofs.Queues.{place_kinds, place_kinds_append, queue_of}
-use Rattle.saphyr_scanner.proofs.Levels.{saved}
 
 -- ## The step at a header
 
@@ -156,7 +135,7 @@ reads_scalar laws {limit} {start} {ts} f style value m more t o short low begins
     let piece : Piece = record { span = b.span; kind = kind.Scalar (style_of style) (encode_utf8_all value) } in
     let qs = v.places ++ bare_place piece ∷ [] in
     let c = core_of f (moment_at m y v.blank v.key v.allowed v.adjacent deeper) in
-    let far = column_far f.indent m.col low in
+    let far = le_next f.indent m.col low in
     let begun : BeginsToken m y = subst (BeginsToken m) (sym start_is) (header_begins style m (more ++ o)) in
     let stepped = ap (λ (x : List ℕ). step (slice_index x 0) (slice_index y 1) i c) start_is
     ∙ style_at_sign f style (moment_at m y v.blank v.key v.allowed v.adjacent deeper) (slice_index y 1) i
@@ -192,9 +171,6 @@ reads_scalar laws {limit} {start} {ts} f style value m more t o short low begins
         → (left_key (saved v.allowed i m v.key) n ≡ None) ⊎ (o ≡ [])
     key_ends i n (inl later) = inl (gone v.allowed i m n v.key late later)
     key_ends i n (inr over) = inr over
-
-    column_far : (i col : ℕ) → i ≤ col → i ≤ col + 1
-    column_far i col h = omega (arith, h)
 
 -- a block scalar of a style
 reads_styled : ReadsBlocks

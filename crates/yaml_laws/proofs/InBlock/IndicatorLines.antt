@@ -1,25 +1,13 @@
 -- What comes after an indicator: blanks and a token, or the end of a line.
-use Rattle.std.proofs.Common.{◌≡◌, ◌≢◌, ℕ, zero, suc, ◌+◌, ◌≤◌, Bool, true, false, List, [], ◌∷◌, ◌++◌, length, slice_index, refl, sym, ap, ◌∙◌, arith, append_assoc, append-nil, ◌⊎◌, inl, inr, IsTrue}
-use Rattle.std.specs.Prelude.{◌||◌, ◌&&◌, ◌==◌, not, take}
+use Rattle.yaml_laws.proofs.Common.{Bool, IsTrue, List, [], ap, append-nil, append_assoc, arith, false, inl, inr, length, refl, slice_index, suc, sym, true, zero, ℕ, ◌++◌, ◌+◌, ◌∙◌, ◌∷◌, ◌≡◌, ◌≢◌, ◌≤◌, ◌⊎◌, not, take, ◌&&◌, ◌==◌, ◌||◌, nat_tests, is_alpha, is_blank, is_blank_or_breakz, line_feed, space, tab, hyphen, Yes, Marker, spaces, along, next_line, AreIn, IsComment, IsCommentBehind, IsEol, IsLineEnd, IsLineRest, and_false}
 use Rattle.std.specs.List.{list_all, list_any, prefix_len}
-use Rattle.std.proofs.lemmas.Bool.Decides.{nat_tests}
-use Rattle.saphyr_input.specs.Classes.{is_alpha, is_blank, is_blank_or_breakz, line_feed, space, tab}
-use Rattle.saphyr_input.specs.Indicators.{hyphen}
 use Rattle.saphyr_input.specs.Separation.{found_blanks, found_tabs, has_valid_yaml_ws}
-use Rattle.saphyr_input.specs.declared.input.SkipTabs.TheVariants.{Yes}
-use Rattle.saphyr_scalar.specs.declared.scalar.position.Marker.{Marker}
-use Rattle.saphyr_scalar.specs.Reading.BlockLines.{spaces}
-use Rattle.saphyr_scalar.specs.Views.Cursor.{along, next_line}
-use Rattle.saphyr_scalar.specs.Spelling.Tag.{AreIn}
-use Rattle.scalar_laws.specs.Spelling.Spaces.{IsComment, IsCommentBehind, IsLineRest, IsLineEnd, IsEol}
-use Rattle.yaml_laws.proofs.Flow.States.{IsContentStart, moved}
 use Rattle.yaml_laws.proofs.Documents.Lines.{rest_first}
 use Rattle.yaml_laws.proofs.Flow.Fillers.{spaces_are_blank, blanks_past, behind_is, front_past}
 use Rattle.yaml_laws.proofs.Flow.Separates.{line_stops, content_stops, front_moved}
-use Rattle.yaml_laws.proofs.InBlock.States.{tabbed, crosses}
+use Rattle.yaml_laws.proofs.InBlock.States.{tabbed, crosses, IsContentStart, moved}
 use Rattle.yaml_laws.proofs.InBlock.Skips.{blanks_cross, rest_crosses, last_crosses, IsCleanIn, blanks_pass, skipped_untabbed, blanks_untabbed, line_end_skipped, rest_ends_clean}
 use Rattle.yaml_laws.proofs.InBlock.Entries.{BeginsWhite, IsBehindIndicator}
-use Rattle.saphyr_input.proofs.Basics.Booleans.{and_false}
 use Rattle.yaml_laws.proofs.InBlock.Texts.{content_clean}
 
 -- ## After an indicator

@@ -1,38 +1,19 @@
 -- What comes before a block collection is passed: its properties, or nothing, and the way to its first entry.
-use Rattle.std.proofs.Common.{◌≡◌, ℕ, ◌≤◌, true, List, [], ◌∷◌, ◌++◌, refl, sym, ap, ◌∙◌, subst, append_assoc, append-nil, inl, inr, arith}
-use Rattle.std.specs.Prelude.{◌||◌, None}
-use Rattle.saphyr_scalar.specs.declared.scalar.position.Marker.{Marker}
-use Rattle.saphyr_scalar.specs.Reading.BlockLines.{spaces}
-use Rattle.scalar_laws.specs.Spelling.Spaces.{IsLineEnd, IsFiller}
-use Rattle.saphyr_scanner.specs.Steps.State.{State}
-use Rattle.saphyr_scanner.specs.Grammar.Tokens.{Kind}
-use Rattle.saphyr_scanner.specs.Grammar.TokenGrammar as grammar
-use Rattle.saphyr_scanner.specs.Grammar.Forest.{Properties, no_properties}
+use Rattle.yaml_laws.proofs.Common.{List, [], ap, append-nil, append_assoc, arith, inl, inr, refl, subst, sym, true, ℕ, ◌++◌, ◌∙◌, ◌∷◌, ◌≡◌, ◌≤◌, None, ◌||◌, Marker, spaces, IsFiller, IsLineEnd, State, Kind, Properties, no_properties, or-true}
 use Rattle.yaml_laws.specs.Grammar.BlockNodes.{Position, indent_at, sequence_indent_at, IsLead}
-use Rattle.yaml_laws.proofs.Flow.States.{moved, past}
 use Rattle.yaml_laws.proofs.Flow.Places.{moved_append}
 use Rattle.yaml_laws.proofs.InBlock.Lines.{FitsOnLines, fits_so}
 use Rattle.yaml_laws.proofs.Flow.ContentStarts.{StartsContent}
-use Rattle.yaml_laws.proofs.InBlock.States.{Frame, crosses, is_compact, IsPlaced, At, Before, compact_spaced}
+use Rattle.yaml_laws.proofs.InBlock.States.{Frame, crosses, is_compact, IsPlaced, At, Before, compact_spaced, moved, past}
 use Rattle.yaml_laws.proofs.InBlock.Skips.{IsSkipped, skipped_append, filler_skipped, spaces_skipped, line_end_skipped, line_end_crosses}
-use Rattle.yaml_laws.proofs.InBlock.Statements.{ReadsLeaves, IsNextLineText}
+use Rattle.yaml_laws.proofs.InBlock.Statements.{ReadsLeaves, IsNextLineText, PropertiesRead}
 use Rattle.yaml_laws.proofs.InBlock.Texts.{reaches, spaces_moved, indentation_col}
-use Rattle.std.proofs.Math.Bool.{or-true}
-
--- What comes before a collection at a column was read, up to its first token.
-pub record LeadRead (limit : ℕ) (start : State) (p : Properties) (f : Frame) (m : Marker) (y : List ℕ)
-    (ts : List Kind) : Type 0 where
-  pub tokens : List Kind
-  pub are : grammar.YieldProperties p tokens
-  pub at : At limit start f m y (ts ++ tokens)
-  pub none : at.key ≡ None
-  pub allowed : at.allowed ≡ true
 
 -- where there are no properties, and what comes before is skipped
 plain_lead : {limit : ℕ} {start : State} {ts : List Kind} (p : Properties) (place : Position) (f : Frame) (m : Marker)
     (w y : List ℕ) → p ≡ no_properties → IsSkipped w → StartsContent y
     → (is_compact place || crosses (w ++ y)) ≡ true → Before limit start place f m (w ++ y) ts
-    → LeadRead limit start p f (moved m w) y ts
+    → PropertiesRead limit start p f (moved m w) y ts
 plain_lead {limit} {start} {ts} p place f m w y none h b opens v =
     let there : past 0 m (w ++ y) ≡ (moved m w, y) = cc (reaches m w b.first b.others h b.content) in
     let p_at = subst (λ (q : Marker × List ℕ). (u : At limit start f q.0 q.1 ts) × (u.key ≡ None)
@@ -48,7 +29,7 @@ true_crosses place t e = rw e (or-true (is_compact place))
 pub reads_lead : {limit : ℕ} → ReadsLeaves limit → (p : Properties) (place : Position) (least column : ℕ) (f : Frame)
     → f.indent ≡ indent_at place → (m : Marker) (lead y : List ℕ) → IsLead p place least column lead → StartsContent y
     → FitsOnLines limit m lead y → (start : State) (ts : List Kind) → Before limit start place f m (lead ++ y) ts
-    → LeadRead limit start p f (moved m lead) y ts
+    → PropertiesRead limit start p f (moved m lead) y ts
 reads_lead {limit} leaves p place least column f same m lead y
     (inl (front, end, filler, low, inl none, end_is, filler_is, e)) b fits start ts v =
     let w = end ++ (filler ++ spaces column) in
@@ -67,7 +48,7 @@ reads_lead {limit} leaves p place least column f same m lead y
     let next : IsNextLineText w = (end, filler, column, end_is, filler_is, refl) in
     let r = leaves.properties p place f same m white t w y spaced properties next b
     (fits_so m lead (white ++ (t ++ w)) y is fits) start ts (rw text at v) in
-    rw is (record { tokens = r.tokens; are = r.are; at = r.at; none = r.none; allowed = r.allowed })
+    rw is r
 reads_lead {limit} leaves p place least column f same m lead y (inr (none, h)) b fits start ts v =
     grind (arith, plain_lead, spaces_skipped)
 

@@ -1,18 +1,10 @@
 -- Where lines begin in a text, and pieces of which no document marker begins a line.
-use Rattle.std.proofs.Common.{◌≡◌, ℕ, Bool, true, false, List, [], ◌∷◌, ◌++◌, IsTrue, refl, sym, ap, ◌∙◌, arith, subst, append_assoc, append-nil, ◌⊎◌, inl, inr}
-use Rattle.std.proofs.lemmas.Bool.Decides.{nat_tests}
-use Rattle.std.specs.Prelude.{◌&&◌, ◌==◌}
-use Rattle.saphyr_input.specs.Classes.{byte_order_mark, line_feed, is_blank, is_yaml_non_break}
-use Rattle.saphyr_input.specs.Places.{is_document_indicator}
-use Rattle.saphyr_scalar.specs.Spelling.Tag.{AreIn}
+use Rattle.yaml_laws.proofs.Common.{Bool, IsTrue, List, [], ap, append-nil, append_assoc, arith, false, inl, inr, refl, subst, sym, true, ℕ, ◌++◌, ◌∙◌, ◌∷◌, ◌≡◌, ◌⊎◌, nat_tests, ◌&&◌, ◌==◌, byte_order_mark, is_blank, is_yaml_non_break, line_feed, is_document_indicator, AreIn, IsComment, IsEol, IsFiller, IsLastFiller, IsLineRest, or_from, or_parts, full_stop, hyphen, has_marker, clash}
 use Rattle.scalar_laws.proofs.Breaks.Sides.{no_feed}
-use Rattle.scalar_laws.specs.Spelling.Spaces.{IsComment, IsFiller, IsLastFiller, IsLineRest, IsEol}
 use Rattle.yaml_laws.proofs.Flow.States.{marks_line}
 use Rattle.yaml_laws.proofs.InBlock.Skips.{IsSkipped, nothing, one_space, one_break, one_rest, filler_skipped}
-use Rattle.std.proofs.lemmas.Bool.{or_parts, or_from}
-use Rattle.saphyr_input.specs.Indicators.{full_stop, hyphen}
 use Rattle.saphyr_scalar.proofs.NoBreaks.{NoBreaks, no_breaks_in}
-use Rattle.yaml_laws.specs.Grammar.Yaml.{has_marker}
+use Rattle.yaml_laws.proofs.Documents.Lines.{none_behind}
 
 feed_second : (c : ℕ) (t : List ℕ) → is_document_indicator (c ∷ line_feed ∷ t) ≡ false
 feed_second c t = grind arith
@@ -151,11 +143,4 @@ behind_piece at_start (c ∷ cs) b (d ∷ ds) y e unmarked line marker =
 pub no_line : (t y : List ℕ) → IsUnmarked t → HasLine t y → IsTrue (is_document_indicator y) → ⊥
 no_line t y h l marker =
     let k = behind_piece true t [] l.front y (append-nil t ∙ l.is) (h true []) l.line marker in
-    clash (ap is_document_indicator (none_left k.front y (sym k.is))) marker
-  where
-    none_left : (a b : List ℕ) → a ++ b ≡ [] → b ≡ []
-    none_left [] b e = e
-    none_left (c ∷ cs) b e = absurd (cc)
-
-    clash : {b : Bool} → b ≡ false → b ≡ true → ⊥
-    clash e f = let k = sym e ∙ f in cc
+    clash (is_document_indicator y) marker (ap is_document_indicator (none_behind k.front y (sym k.is)))

@@ -1,9 +1,6 @@
 -- Line numbers grow from line to line, in texts that are not longer than they can tell.
-use Rattle.std.proofs.Common.{◌≡◌, ℕ, suc, ◌+◌, ◌^◌, ◌<◌, ◌≤◌, List, [], ◌∷◌, ◌++◌, length, arith, append_assoc, min}
-use Rattle.std.specs.Prelude.{◌-◌}
+use Rattle.yaml_laws.proofs.Common.{List, [], append_assoc, arith, length, min, suc, ℕ, ◌++◌, ◌+◌, ◌<◌, ◌^◌, ◌∷◌, ◌≡◌, ◌≤◌, ◌-◌, line_feed, Marker}
 use Rattle.std.proofs.lemmas.List.{length-append}
-use Rattle.saphyr_input.specs.Classes.{line_feed}
-use Rattle.saphyr_scalar.specs.declared.scalar.position.Marker.{Marker}
 use Rattle.yaml_laws.proofs.Flow.States.{moved, past, IsClear}
 use Rattle.yaml_laws.proofs.Flow.GapSteps.{by_steps}
 use Rattle.yaml_laws.proofs.Flow.Places.{behind_character, moved_append, moved_index, moved_count, clear_front, clear_back}

@@ -1,34 +1,23 @@
 -- All nodes at block level are read, given the leaves (YAML 1.2.2, chapter 8).
-use Rattle.std.proofs.Common.{◌≡◌, ℕ, suc, ◌+◌, ◌<◌, ◌≤◌, Bool, true, false, List, [], ◌∷◌, ◌++◌, refl, sym, ap, ◌∙◌, arith, subst, append_assoc, append-nil, ◌⊎◌, inl, inr}
-use Rattle.std.specs.Prelude.{◌||◌, nat_le, None}
-use Rattle.std.proofs.lemmas.Bool.Decides.{nat_tests}
-use Rattle.saphyr_scalar.specs.declared.scalar.position.Marker.{Marker}
-use Rattle.scalar_laws.specs.Spelling.Spaces.{IsEol}
-use Rattle.saphyr_scanner.specs.Steps.State.{State}
+use Rattle.yaml_laws.proofs.Common.{Bool, List, [], ap, append-nil, append_assoc, arith, false, inl, inr, refl, subst, suc, sym, true, ℕ, ◌++◌, ◌+◌, ◌<◌, ◌∙◌, ◌∷◌, ◌≡◌, ◌≤◌, ◌⊎◌, None, nat_le, ◌||◌, nat_tests, Marker, IsEol, State, Kind, Alias, Map, MoreNodes, MorePairs, NoNode, NoPair, Node, Nodes, Pairs, Properties, Scalar, Seq, most_open, or-true, leb-true, clash, le_next}
 use Rattle.saphyr_scanner.specs.Grammar.Tokens as tokens
-use Rattle.saphyr_scanner.specs.Grammar.Tokens.{Kind}
 use Rattle.saphyr_scanner.specs.Grammar.TokenGrammar as grammar
-use Rattle.saphyr_scanner.specs.Grammar.Forest.{Properties, Node, Alias, Scalar, Seq, Map, Nodes, NoNode, MoreNodes, Pairs, NoPair, MorePairs}
-use Rattle.saphyr_scanner.specs.Limits.{most_open}
 use Rattle.yaml_laws.specs.Grammar.BlockNodes.{Position, indent_at, sequence_indent_at, IsLead, IsLeftOut, IsFlowInBlock, IsBlockNode, AreEntries, ArePairs}
-use Rattle.yaml_laws.proofs.Flow.States.{moved, past}
 use Rattle.yaml_laws.proofs.Flow.Places.{moved_append}
 use Rattle.yaml_laws.proofs.InBlock.Lines.{FitsOnLines, fits_front, fits_back, fits_so}
 use Rattle.yaml_laws.proofs.Flow.Fillers.{rest_past}
-use Rattle.yaml_laws.proofs.InBlock.States.{Frame, is_compact, EndsDocument, At, Before}
+use Rattle.yaml_laws.proofs.InBlock.States.{Frame, is_compact, EndsDocument, At, Before, moved, past}
 use Rattle.yaml_laws.proofs.InBlock.Closing.{closes_block}
 use Rattle.yaml_laws.proofs.InBlock.Skips.{line_end_skipped, line_end_crosses, skipped_past}
 use Rattle.yaml_laws.proofs.InBlock.Entries.{frame_behind}
-use Rattle.yaml_laws.proofs.InBlock.Statements.{context_at, EndsNodeAt, ArrivedAt, Arrived, NodeRead, ReadsAt, ReadsLeaves, place_allows_block}
+use Rattle.yaml_laws.proofs.InBlock.Statements.{context_at, EndsNodeAt, ArrivedAt, Arrived, NodeRead, ReadsAt, ReadsLeaves, place_allows_block, arrived_so}
 use Rattle.yaml_laws.proofs.InBlock.Texts.{behind_wider}
 use Rattle.yaml_laws.proofs.InBlock.BehindIndicators.{entries_content, pairs_content, further_content}
 use Rattle.yaml_laws.proofs.InBlock.Leads.{reads_lead, lead_col, mapping_least, sequence_least}
 use Rattle.yaml_laws.proofs.InBlock.Parts.{reads_parts}
 use Rattle.yaml_laws.proofs.InBlock.Sequences.{ReadsOtherEntries, no_entries, more_entries, reads_entries, sequence_start}
-use Rattle.yaml_laws.proofs.InBlock.Mappings.{is_pair, ReadsOtherPairs, no_other_pairs, more_pairs}
-use Rattle.std.proofs.Math.Bool.{or-true}
-use Rattle.std.proofs.lemmas.Bool.{leb-true}
-use Rattle.saphyr_input.proofs.Basics.Booleans.{clash}
+use Rattle.yaml_laws.proofs.InBlock.Pairs.{is_pair, ReadsOtherPairs, no_other_pairs, more_pairs}
+use Rattle.yaml_laws.proofs.InFlow.KeyLines.{to_next}
 
 -- ## A node that is left out
 
@@ -100,6 +89,8 @@ abbrev IsBlockSequence : Properties → Nodes → Position → List ℕ → List
 IsBlockSequence p nodes place t o = (m : ℕ) × (lead entries : List ℕ) × IsLead p place (sequence_indent_at place) m lead
     × AreEntries most_open nodes m entries o × (t ≡ lead ++ entries)
 
+-- After its lead a sequence's entries are read in a frame of their own, which closes behind them, or, at the column of
+-- the mapping around it, in that mapping's frame.
 reads_sequence : {limit : ℕ} → ReadsLeaves limit → (p : Properties) (node : Node) (nodes : Nodes)
     → ReadsAt limit node (IsBlockNode most_open node) → ReadsOtherEntries limit nodes
     → ReadsAt limit (Seq p (MoreNodes node nodes)) (IsBlockSequence p (MoreNodes node nodes))
@@ -131,10 +122,7 @@ reads_sequence {limit} leaves p node nodes reads more place f same m t o (column
         near i a s c e h k = omega (arith, e, h, k)
 
     wide : f.indent ≤ suc n.col
-    wide = by_suc f.indent n.col far
-      where
-        by_suc : (i c : ℕ) → i ≤ c + 1 → i ≤ suc c
-        by_suc i c h = omega (arith, h)
+    wide = to_next f.indent n.col far
 
     behind_o : EndsNodeAt f.indent (moved n entries) o
     behind_o = subst (λ (x : Marker). EndsNodeAt f.indent x o) end behind
@@ -173,8 +161,7 @@ reads_sequence {limit} leaves p node nodes reads more place f same m t o (column
         record {
           tokens = l.tokens ++ c.0;
           are = inr (l.tokens, c.0, l.are, c.1, refl);
-          arrived = subst (λ (x : Marker). Arrived limit start f x o (ts ++ (l.tokens ++ c.0))) (sym end)
-              (subst (Arrived limit start f (moved n entries) o) (append_assoc ts l.tokens c.0) c.2);
+          arrived = arrived_so o end (append_assoc ts l.tokens c.0) c.2;
         }
 
 -- ## Block mappings
@@ -196,13 +183,14 @@ reads_mapping {limit} leaves p key value pairs K V more place f same m t o (colu
     let whole = fits_so m t (lead ++ entries) o e fits in
     let end = ap (moved m) e ∙ moved_append m lead entries in
     let low : f.indent ≤ n.col = rw (col, same) (mapping_least p place column lead lead_is) in
+    let far = le_next f.indent n.col low in
     let behind_o = subst (λ (x : Marker). EndsNodeAt f.indent x o) end behind in
     let l = reads_lead leaves p place (indent_at place) column f same m lead (entries ++ o) lead_is
     (further_content entries o (pairs_content leaves (MorePairs key value pairs) column entries o h))
     (fits_front m lead entries o whole) start ts (subst (λ (x : List ℕ). Before limit start place f m x ts) text v) in
-    let r = reads_parts (is_pair leaves key value K V) more f n true (yes f.indent n.col low) (one f.indent n.col low)
+    let r = reads_parts (is_pair leaves key value K V) more f n true (yes f.indent n.col low) far
     entries o (rw col h) (fits_back m lead entries o whole)
-    (behind_wider f.indent (suc n.col) (moved n entries) o (two f.indent n.col low) behind_o) start (ts ++ l.tokens)
+    (behind_wider f.indent (suc n.col) (moved n entries) o (to_next f.indent n.col far) behind_o) start (ts ++ l.tokens)
     l.at l.none l.allowed in
     let c = collection_closes f n.col (past 0 (moved n entries) o) low behind_o.left r.arrived in
     record {
@@ -215,23 +203,12 @@ reads_mapping {limit} leaves p key value pairs K V more place f same m t o (colu
         inr (place_allows_block place, (r.tokens, r.are, refl)),
         refl,
       );
-      arrived = subst (λ (x : Marker). Arrived limit start f x o
-          (ts ++ (l.tokens ++ (tokens.BlockMappingStart ∷ (r.tokens ++ tokens.BlockEnd ∷ []))))) (sym end)
-          (rw (
-            new_list (ts ++ l.tokens) r.tokens tokens.BlockMappingStart,
-            append_assoc ts l.tokens (tokens.BlockMappingStart ∷ (r.tokens ++ tokens.BlockEnd ∷ [])),
-          ) at
-          c);
+      arrived = arrived_so o end (new_list (ts ++ l.tokens) r.tokens tokens.BlockMappingStart
+          ∙ append_assoc ts l.tokens (tokens.BlockMappingStart ∷ (r.tokens ++ tokens.BlockEnd ∷ []))) c;
     }
   where
     yes : (i c : ℕ) → i ≤ c → nat_le i c ≡ true
     yes i c h = grind (arith, nat_tests)
-
-    one : (i c : ℕ) → i ≤ c → i ≤ c + 1
-    one i c h = omega (arith, h)
-
-    two : (i c : ℕ) → i ≤ c → i ≤ suc c
-    two i c h = omega (arith, h)
 
 -- ## All nodes
 

@@ -1,36 +1,19 @@
 -- A pair of a block mapping is read, whatever its form (YAML 1.2.2, 8.2.2).
-use Rattle.std.proofs.Common.{◌≡◌, ℕ, suc, ◌+◌, ◌<◌, ◌≤◌, Bool, true, false, List, [], ◌∷◌, ◌++◌, length, refl, sym, ap, ◌∙◌, arith, subst, append_assoc, append-nil, ◌⊎◌, inl, inr}
-use Rattle.std.specs.Prelude.{◌≢◌, None, nat_le, if◌then◌else◌}
-use Rattle.saphyr_scalar.specs.declared.scalar.position.Marker.{Marker}
-use Rattle.saphyr_scalar.specs.Reading.BlockLines.{spaces}
-use Rattle.saphyr_scalar.specs.Views.Cursor.{along}
-use Rattle.saphyr_scanner.specs.Steps.Queue.{bare_place}
-use Rattle.saphyr_scanner.specs.Steps.State.{State}
+use Rattle.yaml_laws.proofs.Common.{Bool, List, [], ap, append-nil, append_assoc, arith, false, inl, inr, length, refl, subst, suc, sym, true, ℕ, ◌++◌, ◌+◌, ◌<◌, ◌∙◌, ◌∷◌, ◌≡◌, ◌≤◌, ◌⊎◌, None, if◌then◌else◌, nat_le, ◌≢◌, Marker, spaces, along, bare_place, State, Kind, AreIn, is_blank, MorePairs, NoPair, Node, Pairs, most_open, IsOnLine, AreOtherPairs, BehindKey, BehindMark, IsBlockNode, IsBlockPair, IsEntryIndentation, IsImplicitPair, IsKeyAlone, IsKeylessPair, IsMarkedPair, is_value_ahead, clash, next_not_within}
 use Rattle.saphyr_scanner.specs.Grammar.Tokens as tokens
-use Rattle.saphyr_scanner.specs.Grammar.Tokens.{Kind}
 use Rattle.saphyr_scanner.specs.Grammar.TokenGrammar as grammar
-use Rattle.saphyr_scalar.specs.Spelling.Tag.{AreIn}
-use Rattle.saphyr_input.specs.Classes.{is_blank}
 use Rattle.yaml_laws.proofs.InFlow.Keys.{blanks_are_on_line}
-use Rattle.saphyr_scanner.specs.Grammar.Forest.{Node}
-use Rattle.saphyr_scanner.specs.Limits.{most_open}
-use Rattle.yaml_laws.specs.Grammar.FlowNodes.{IsOnLine}
-use Rattle.yaml_laws.specs.Grammar.BlockNodes.{BehindMark, BehindKey, IsEntryIndentation, IsImplicitPair, IsKeylessPair, is_value_ahead, IsKeyAlone, IsMarkedPair, IsBlockPair, IsBlockNode}
-use Rattle.yaml_laws.proofs.Flow.States.{moved, past}
 use Rattle.yaml_laws.proofs.Flow.Places.{moved_append, moved_along}
 use Rattle.yaml_laws.proofs.InBlock.Lines.{FitsOnLines, fits_front, fits_back, fits_so}
-use Rattle.yaml_laws.proofs.InBlock.States.{Frame, EndsDocument, At, Before}
+use Rattle.yaml_laws.proofs.InBlock.States.{Frame, EndsDocument, At, Before, moved, past}
 use Rattle.yaml_laws.proofs.InBlock.Entries.{BeginsWhite, IsBehindIndicator, frame_behind}
 use Rattle.yaml_laws.proofs.InBlock.Questions.{key_kinds, reads_question}
 use Rattle.yaml_laws.proofs.InBlock.Colons.{value_kinds, reads_value, reads_colon}
-use Rattle.yaml_laws.proofs.InBlock.ValuesAhead.{value_here}
-use Rattle.yaml_laws.proofs.InBlock.Statements.{EndsNodeAt, ArrivedAt, Arrived, as_optional, ReadsAt, ReadsLeaves}
-use Rattle.yaml_laws.proofs.InBlock.Texts.{node_ends, behind_indented, indentation_skipped, indentation_col, reaches}
-use Rattle.yaml_laws.proofs.InBlock.BehindIndicators.{node_behind}
-use Rattle.yaml_laws.proofs.InBlock.TabsAhead.{no_tab_ahead}
-use Rattle.saphyr_input.proofs.Basics.Booleans.{clash}
-use Rattle.saphyr_input.proofs.Basics.Numbers.{next_not_within}
-use Rattle.yaml_laws.proofs.InBlock.Parts.{starts_behind, not_empty, some_first, least, frame_indent, suc_is, goes_on, ReadsPart}
+use Rattle.yaml_laws.proofs.InBlock.Ahead.{value_here, no_tab_ahead}
+use Rattle.yaml_laws.proofs.InBlock.Statements.{EndsNodeAt, ArrivedAt, as_optional, ReadsAt, ReadsLeaves, arrived_so}
+use Rattle.yaml_laws.proofs.InBlock.Texts.{node_ends, behind_indented, indentation_skipped, indentation_col, reaches, pair_ends}
+use Rattle.yaml_laws.proofs.InBlock.BehindIndicators.{node_behind, pair_content}
+use Rattle.yaml_laws.proofs.InBlock.Parts.{starts_behind, not_empty, some_first, least, frame_indent, suc_is, goes_on, ReadsPart, IsPart, ReadsOtherParts, no_other_parts, parts_so, more_parts}
 use Rattle.yaml_laws.proofs.Flow.ContentStarts.{colon_content}
 
 -- the start of a mapping, where one begins
@@ -57,6 +40,8 @@ implicit_list : (further : Bool) (ts us vs : List Kind)
     ≡ (ts ++ mapping_start further) ++ ((tokens.Key ∷ us) ++ (tokens.Value ∷ vs))
 implicit_list further ts us vs = grind (arith, append_assoc, append-nil)
 
+-- The key is read first, and kept as a candidate. Its colon makes it a key, and begins the mapping where that is not
+-- open. So the tokens before the key's are told only after the colon.
 reads_implicit : {limit : ℕ} → ReadsLeaves limit → (key value : Node)
     → ReadsAt limit value (IsBlockNode most_open value)
     → ReadsPair limit key value (IsImplicitPair most_open key (IsBlockNode most_open value))
@@ -92,10 +77,7 @@ reads_implicit {limit} leaves key value V f n further e far t z
         refl,
       );
       begins = λ others no. absurd no;
-      arrived = subst (λ (x : Marker). Arrived limit start g x z
-          ((ts ++ mapping_start further) ++ ((tokens.Key ∷ r.tokens) ++ (tokens.Value ∷ s.tokens)))) (sym end)
-          (subst (Arrived limit start g (moved (along m 1) v) z) (implicit_list further ts r.tokens s.tokens)
-          s.arrived);
+      arrived = arrived_so z end (implicit_list further ts r.tokens s.tokens) s.arrived;
     }
   where
     more : (a b c : ℕ) → a ≤ a + b + c
@@ -144,9 +126,7 @@ reads_alone {limit} leaves key value K f n further e far t z (node, out, some, h
         (r.tokens, as_optional key (BehindMark n.col) r.tokens r.are, refl),
       ));
       begins = λ others no. absurd no;
-      arrived = subst (λ (x : Marker). Arrived limit start g x z
-          ((ts ++ mapping_start further) ++ (tokens.Key ∷ r.tokens))) (sym end)
-          (subst (Arrived limit start g (moved (along n 1) node) z) (alone_list further ts r.tokens) r.arrived);
+      arrived = arrived_so z end (alone_list further ts r.tokens) r.arrived;
     }
 
 -- ## `:` alone
@@ -188,9 +168,7 @@ reads_keyless {limit} leaves key value V f n further e far t z (v, out, h, is) f
       tokens = tokens.Value ∷ s.tokens;
       are = grind (arith, as_optional);
       begins = grind (arith, value_here);
-      arrived = subst (λ (x : Marker). Arrived limit start g x z
-          ((ts ++ mapping_start further) ++ (tokens.Value ∷ s.tokens))) (sym end)
-          (subst (Arrived limit start g (moved (along n 1) v) z) (keyless_list further ts s.tokens) s.arrived);
+      arrived = arrived_so z end (keyless_list further ts s.tokens) s.arrived;
     }
 
 -- ## `?` and `:`
@@ -203,6 +181,8 @@ marked_list : (further : Bool) (ts us vs : List Kind)
     ≡ (ts ++ mapping_start further) ++ ((tokens.Key ∷ us) ++ (tokens.Value ∷ vs))
 marked_list further ts us vs = grind (arith, append_assoc, append-nil)
 
+-- The `:` is on a later line, at the mapping's column. So filler and indentation follow the key, which ends its lines,
+-- and the scanner comes to the `:` from a line's start.
 reads_marked : {limit : ℕ} → ReadsLeaves limit → (key value : Node) → ReadsAt limit key (IsBlockNode most_open key)
     → ReadsAt limit value (IsBlockNode most_open value)
     → ReadsPair limit key value (IsMarkedPair (IsBlockNode most_open key) (IsBlockNode most_open value))
@@ -269,9 +249,7 @@ reads_marked {limit} leaves key value K V f n further e far t z
         refl,
       );
       begins = λ others no. absurd no;
-      arrived = subst (λ (x : Marker). Arrived limit start g x z
-          ((ts ++ mapping_start further) ++ ((tokens.Key ∷ r.tokens) ++ (tokens.Value ∷ s.tokens)))) (sym end)
-          (subst (Arrived limit start g (moved (along c 1) v) z) (marked_list further ts r.tokens s.tokens) s.arrived);
+      arrived = arrived_so z end (marked_list further ts r.tokens s.tokens) s.arrived;
     }
 
 pub reads_pair : {limit : ℕ} → ReadsLeaves limit → (key value : Node) → ReadsAt limit key (IsBlockNode most_open key)
@@ -286,3 +264,30 @@ reads_pair leaves key value K V f n further e far t z (inr (inl h)) fits behind 
     reads_alone leaves key value K f n further e far t z h fits behind start ts v none allowed
 reads_pair leaves key value K V f n further e far t z (inr (inr h)) fits behind start ts v none allowed =
     reads_marked leaves key value K V f n further e far t z h fits behind start ts v none allowed
+
+-- ## All pairs
+
+pub is_pair : {limit : ℕ} → ReadsLeaves limit → (key value : Node) → ReadsAt limit key (IsBlockNode most_open key)
+    → ReadsAt limit value (IsBlockNode most_open value)
+    → IsPart limit (grammar.YieldsBlockPair key value (grammar.YieldsNode key grammar.InBlockMapping)
+    (grammar.YieldsNode value grammar.InBlockMapping)) mapping_start
+    (IsBlockPair most_open key value (IsBlockNode most_open key) (IsBlockNode most_open value))
+is_pair leaves key value K V = record {
+  content = pair_content leaves key value;
+  ends = pair_ends key value (node_ends leaves key) (node_ends leaves value);
+  reads = search (reads_pair);
+  none = refl;
+}
+
+-- what is shown of the pairs after the first
+abbrev pub ReadsOtherPairs : ℕ → Pairs → Type 0
+ReadsOtherPairs limit pairs = ReadsOtherParts limit (AreOtherPairs most_open pairs) (grammar.YieldBlockPairs pairs)
+
+pub no_other_pairs : {limit : ℕ} → ReadsOtherPairs limit NoPair
+no_other_pairs = parts_so (λ column t o h. h) (λ ts h. h) no_other_parts
+
+pub more_pairs : {limit : ℕ} → ReadsLeaves limit → (key value : Node) (pairs : Pairs)
+    → ReadsAt limit key (IsBlockNode most_open key) → ReadsAt limit value (IsBlockNode most_open value)
+    → ReadsOtherPairs limit pairs → ReadsOtherPairs limit (MorePairs key value pairs)
+more_pairs leaves key value pairs K V more =
+    parts_so (λ column t o h. h) (λ ts h. h) (more_parts (is_pair leaves key value K V) more)

@@ -1,25 +1,16 @@
 -- The parts of a block collection are read, the entries of a sequence or the pairs of a mapping (YAML 1.2.2, 8.2).
-use Rattle.std.proofs.Common.{◌≡◌, ℕ, suc, ◌+◌, ◌≤◌, Bool, true, false, List, [], ◌∷◌, ◌++◌, refl, sym, ap, ◌∙◌, arith, subst, append_assoc, append-nil, ◌⊎◌, inl, inr}
-use Rattle.std.specs.Prelude.{◌==◌, ◌&&◌, None, nat_le}
-use Rattle.saphyr_input.specs.Classes.{is_bom}
-use Rattle.saphyr_input.specs.Places.{is_document_indicator}
-use Rattle.saphyr_scalar.specs.declared.scalar.position.Marker.{Marker}
-use Rattle.saphyr_scanner.specs.Steps.State.{State}
-use Rattle.saphyr_scanner.specs.Grammar.Tokens.{Kind}
+use Rattle.yaml_laws.proofs.Common.{Bool, List, [], ap, append-nil, append_assoc, arith, false, inl, inr, refl, subst, suc, sym, true, ℕ, ◌++◌, ◌+◌, ◌∙◌, ◌∷◌, ◌≡◌, ◌≤◌, ◌⊎◌, None, nat_le, ◌&&◌, ◌==◌, is_bom, is_document_indicator, Marker, State, Kind, IsEntryIndentation, is_value_ahead, next_not_within, clash}
 use Rattle.saphyr_scanner.specs.Grammar.TokenGrammar as grammar
-use Rattle.yaml_laws.specs.Grammar.BlockNodes.{is_value_ahead, IsEntryIndentation}
-use Rattle.yaml_laws.proofs.Flow.States.{IsClear, moved, past, IsContentStart}
 use Rattle.yaml_laws.proofs.Flow.ContentStarts.{StartsContent}
 use Rattle.yaml_laws.proofs.Flow.Places.{moved_append, clear_here}
+use Rattle.yaml_laws.proofs.Documents.Stands.{AtLine}
 use Rattle.yaml_laws.proofs.InBlock.Lines.{FitsOnLines, fits_front, fits_back, fits_so}
-use Rattle.yaml_laws.proofs.InBlock.States.{Frame, EndsDocument, At}
+use Rattle.yaml_laws.proofs.InBlock.States.{Frame, EndsDocument, At, IsClear, moved, past, IsContentStart}
 use Rattle.yaml_laws.proofs.InBlock.Entries.{frame_behind}
-use Rattle.yaml_laws.proofs.InBlock.Statements.{EndsNodeAt, ArrivedAt, Arrived, EndsWithLine}
+use Rattle.yaml_laws.proofs.InBlock.Statements.{EndsNodeAt, ArrivedAt, Arrived, EndsWithLine, arrived_so}
 use Rattle.yaml_laws.proofs.InBlock.Texts.{behind_indented, indentation_skipped, indentation_col, reaches}
 use Rattle.yaml_laws.proofs.InBlock.BehindIndicators.{further_content}
-use Rattle.yaml_laws.proofs.InBlock.ValuesAhead.{skipped_ahead}
-use Rattle.saphyr_input.proofs.Basics.Numbers.{next_not_within}
-use Rattle.saphyr_input.proofs.Basics.Booleans.{clash}
+use Rattle.yaml_laws.proofs.InBlock.Ahead.{skipped_ahead}
 
 -- ## Places
 
@@ -31,11 +22,7 @@ pub some_first : (w rest : List ℕ) (d : ℕ) → (c : ℕ) × (cs : List ℕ) 
 some_first [] rest d = (d, rest, refl)
 some_first (c ∷ cs) rest d = (c, cs ++ (d ∷ rest), refl)
 
--- at a line's start, or at the end of all
-abbrev pub StartsLine : Marker → List ℕ → Type 0
-StartsLine m o = (m.col ≡ 0) ⊎ (o ≡ [])
-
-pub starts_behind : (m : Marker) (t o : List ℕ) → EndsWithLine t o → StartsLine (moved m t) o
+pub starts_behind : (m : Marker) (t o : List ℕ) → EndsWithLine t o → AtLine o (moved m t)
 starts_behind m t o (inl h) = inl (h m)
 starts_behind m t o (inr h) = inr h
 
@@ -63,7 +50,7 @@ not_marker m c cs h content (inr (col, inr k)) = clash (is_bom c) k content.byte
 not_marker m c cs h content (inr (col, inl k)) = grind arith
 
 -- a `:` ahead, after a line's end
-ahead_of_line : (n : Marker) (z : List ℕ) (column : ℕ) → StartsLine n z → is_value_ahead false column n.col z ≡ true
+ahead_of_line : (n : Marker) (z : List ℕ) (column : ℕ) → AtLine z n → is_value_ahead false column n.col z ≡ true
     → is_value_ahead false column 0 z ≡ true
 ahead_of_line n z column h k = grind arith
 
@@ -108,10 +95,10 @@ pub record IsPart (limit : ℕ) (E : List Kind → List Kind → Type 0) (opens 
 
 -- what is shown of the parts after the first
 pub record ReadsOtherParts (limit : ℕ) (Others : ℕ → List ℕ → List ℕ → Type 0) (As : List Kind → Type 0) : Type 0 where
-  pub behind : (column : ℕ) (m : Marker) (t o : List ℕ) → Others column t o → StartsLine m (t ++ o)
+  pub behind : (column : ℕ) (m : Marker) (t o : List ℕ) → Others column t o → AtLine (t ++ o) m
       → EndsNodeAt (suc column) (moved m t) o → EndsNodeAt (suc column) m (t ++ o)
   pub reads : (g : Frame) (column : ℕ) → g.indent ≡ column + 1 → (m : Marker) (t o : List ℕ) → Others column t o
-      → FitsOnLines limit m t o → EndsNodeAt (suc column) (moved m t) o → StartsLine m (t ++ o)
+      → FitsOnLines limit m t o → EndsNodeAt (suc column) (moved m t) o → AtLine (t ++ o) m
       → (start : State) (ts : List Kind) → Arrived limit start g m (t ++ o) ts
       → PartsRead limit start As column g m t o ts
 
@@ -163,7 +150,7 @@ parts_so f g r = record {
 others_behind : {limit : ℕ} {E : List Kind → List Kind → Type 0} {opens : Bool → List Kind}
     {Is : ℕ → List ℕ → List ℕ → Type 0} → IsPart limit E opens Is → (Others : ℕ → List ℕ → List ℕ → Type 0)
     (column : ℕ) (m : Marker) (t o : List ℕ)
-    → AreOthers Is Others column t o → StartsLine m (t ++ o) → EndsNodeAt (suc column) m (t ++ o)
+    → AreOthers Is Others column t o → AtLine (t ++ o) m → EndsNodeAt (suc column) m (t ++ o)
 others_behind is_part Others column m t o (front, part, others, front_is, h, k, e) starts =
     let z = others ++ o in
     let b = further_content part z (is_part.content column part z h) in
@@ -176,6 +163,9 @@ others_behind is_part Others column m t o (front, part, others, front_is, h, k, 
 list_end : (ts us vs opens : List Kind) → opens ≡ [] → ((ts ++ opens) ++ us) ++ vs ≡ ts ++ (us ++ vs)
 list_end ts us vs opens e = rw e (simp (append_assoc, append-nil))
 
+-- A further part and those after it are read, if the part is of a kind that is and those after it are. Its indentation
+-- is passed, so it begins at the collection's column, where no document marker is. What comes after it ends it, be that
+-- a further part or what follows the collection.
 pub more_parts : {limit : ℕ} {E : List Kind → List Kind → Type 0} {opens : Bool → List Kind}
     {Is Others : ℕ → List ℕ → List ℕ → Type 0} {As : List Kind → Type 0} → IsPart limit E opens Is
     → ReadsOtherParts limit Others As → ReadsOtherParts limit (AreOthers Is Others) (AreParts E As)
@@ -226,9 +216,7 @@ more_parts {limit} {opens = opens} {Is} {Others} {As} is_part more = record {
         begins = λ first. ap (is_value_ahead false column m.col) text
             ∙ skipped_ahead column m front (part ++ z) (indentation_skipped column front front_is)
             ∙ subst (λ (c : ℕ). is_value_ahead false c n.col (part ++ z) ≡ true) col (r.begins s.tokens first);
-        arrived = subst (λ (x : Marker). Arrived limit start g x o (ts ++ (r.tokens ++ s.tokens))) (sym end)
-            (subst (Arrived limit start g (moved last others) o)
-            (list_end ts r.tokens s.tokens (opens false) is_part.none) s.arrived);
+        arrived = arrived_so o end (list_end ts r.tokens s.tokens (opens false) is_part.none) s.arrived;
       };
 }
 
@@ -266,8 +254,5 @@ reads_parts {limit} {opens = opens} is_part more f n further e far t o (part, ot
         refl,
       );
       begins = λ first. ap (is_value_ahead false n.col n.col) text ∙ r.begins s.tokens first;
-      arrived = subst (λ (x : Marker). Arrived limit start g x o
-          ((ts ++ opens further) ++ (r.tokens ++ s.tokens))) (sym end)
-          (subst (Arrived limit start g (moved last others) o)
-          (append_assoc (ts ++ opens further) r.tokens s.tokens) s.arrived);
+      arrived = arrived_so o end (append_assoc (ts ++ opens further) r.tokens s.tokens) s.arrived;
     }

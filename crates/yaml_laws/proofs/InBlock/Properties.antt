@@ -1,29 +1,16 @@
 -- Properties at block level are read: before a block scalar, and before a collection on the next lines
 -- (YAML 1.2.2, 6.9 and 8.2.3).
-use Rattle.std.proofs.Common.{◌≡◌, ℕ, ◌^◌, ◌<◌, ◌≤◌, true, false, List, [], ◌∷◌, ◌++◌, length, slice_index, refl, sym, ap, ◌∙◌, arith, subst, append_assoc, IsTrue, inl, inr}
-use Rattle.std.specs.Prelude.{Option, None}
+use Rattle.yaml_laws.proofs.Common.{IsTrue, List, [], ap, append_assoc, arith, false, inl, inr, length, refl, slice_index, subst, sym, true, ℕ, ◌++◌, ◌<◌, ◌^◌, ◌∙◌, ◌∷◌, ◌≡◌, ◌≤◌, None, Option, is_blank_or_breakz, line_feed, Marker, spaces, IsGap, IsLineRest, is_too_far, Candidate, Properties, State, Kind, IsProperties, indent_at, or_true_swap, cursor_at}
 use Rattle.std.proofs.lemmas.List.{length-append}
-use Rattle.saphyr_input.specs.Classes.{is_blank_or_breakz, line_feed}
-use Rattle.saphyr_scalar.specs.declared.scalar.position.Marker.{Marker}
-use Rattle.saphyr_scalar.specs.Reading.BlockLines.{spaces}
-use Rattle.scalar_laws.specs.Spelling.Spaces.{IsLineRest, IsGap}
-use Rattle.saphyr_scanner.specs.Steps.Core.{is_too_far}
-use Rattle.saphyr_scanner.specs.Steps.Level.{Candidate}
-use Rattle.saphyr_scanner.specs.Grammar.Forest.{Properties}
-use Rattle.saphyr_scanner.specs.Steps.State.{State}
-use Rattle.saphyr_scanner.specs.Grammar.Tokens.{Kind}
 use Rattle.saphyr_scanner.specs.Grammar.TokenGrammar as grammar
-use Rattle.yaml_laws.specs.Grammar.FlowNodes.{IsProperties}
-use Rattle.yaml_laws.specs.Grammar.BlockNodes.{indent_at}
 use Rattle.saphyr_scanner.specs.declared.engine.level.Context.TheVariants as context
 use Rattle.yaml_laws.proofs.InFlow.States.{moment}
-use Rattle.yaml_laws.proofs.Flow.States.{moved, past, Since, FitsAround, ReaderPromises}
 use Rattle.yaml_laws.proofs.Flow.ContentStarts.{StartsContent, properties_content, behind_low}
 use Rattle.yaml_laws.proofs.Flow.GapSteps.{past_content}
 use Rattle.yaml_laws.proofs.Flow.Fillers.{separation_past}
 use Rattle.yaml_laws.proofs.Flow.Ends.{white_ends_tag}
 use Rattle.yaml_laws.proofs.Flow.Places.{moved_append}
-use Rattle.yaml_laws.proofs.InBlock.States.{Frame, crosses, At}
+use Rattle.yaml_laws.proofs.InBlock.States.{Frame, crosses, At, moved, past, Since, FitsAround, ReaderPromises}
 use Rattle.yaml_laws.proofs.InBlock.Skips.{IsSkipped, IsClean, Passes, skipped_clean, skipped_append, spaces_skipped, line_end_skipped, line_end_crosses, filler_skipped, skipped_passes, text_gap_passes}
 use Rattle.yaml_laws.proofs.InBlock.Lines.{moved_line, later_line, FitsOnLines, fits_front, fits_back, fits_so}
 use Rattle.yaml_laws.proofs.InBlock.Statements.{IsNextLineText, PropertiesRead, ReadsProperties}
@@ -37,8 +24,6 @@ use Rattle.yaml_laws.proofs.InBlock.Gaps.{past_stops}
 use Rattle.yaml_laws.proofs.InBlock.Follows.{left_key}
 use Rattle.yaml_laws.proofs.InBlock.Untabbed.{clean_past}
 use Rattle.yaml_laws.proofs.InBlock.FlowNodes.{around_of, goes_behind}
-use Rattle.saphyr_input.proofs.Basics.Booleans.{or_true_swap}
-use Rattle.saphyr_scalar.proofs.Given.{cursor_at}
 
 lands_on : (m : Marker) (b y : List ℕ) → Passes b → StartsContent y → past 0 m (b ++ y) ≡ (moved m b, y)
 lands_on m b y h content = cc (passes_to m b content.first content.others h content.content)

@@ -1,32 +1,19 @@
 -- The `?` of a block mapping is read (YAML 1.2.2, 8.2.2).
-use Rattle.std.proofs.Common.{◌≡◌, ℕ, suc, ◌+◌, ◌≤◌, Bool, true, false, List, [], ◌∷◌, ◌++◌, length, slice_index, refl, ap, ◌∙◌, arith, IsTrue, Ok, ◌⊎◌, inl, inr}
-use Rattle.std.specs.Prelude.{◌==◌, nat_le, Option, None}
-use Rattle.saphyr_input.specs.Classes.{is_blank, is_blank_or_breakz, line_feed, tab}
-use Rattle.saphyr_scalar.specs.declared.scalar.position.Marker.{Marker}
-use Rattle.saphyr_scalar.specs.Views.Cursor.{◌>>=◌, along}
+use Rattle.yaml_laws.proofs.Common.{Bool, IsTrue, List, Ok, [], ap, arith, false, inl, inr, length, refl, slice_index, suc, true, ℕ, ◌++◌, ◌+◌, ◌∙◌, ◌∷◌, ◌≡◌, ◌≤◌, ◌⊎◌, None, Option, nat_le, ◌==◌, is_blank, is_blank_or_breakz, line_feed, tab, Marker, along, ◌>>=◌, Candidate, behind_question, next, State, Kind, le_next, or-true, colon, question_mark, queue_of}
 use Rattle.saphyr_scanner.specs.declared.engine.level.Context.TheVariants as context
 use Rattle.saphyr_scanner.specs.Steps.Core.{least_column, Core, completed_step, from_to, roll, remove_key, with_context, in_block}
-use Rattle.saphyr_scanner.specs.Steps.Level.{Candidate, behind_question}
 use Rattle.saphyr_scanner.specs.Steps.Block as block
 use Rattle.saphyr_scanner.specs.Steps.Block.{behind_start}
 use Rattle.saphyr_scanner.specs.Steps.Gap as gap
-use Rattle.saphyr_scanner.specs.Steps.Queue.{next}
-use Rattle.saphyr_scanner.specs.Steps.State.{State}
 use Rattle.saphyr_scanner.specs.Grammar.Tokens as tokens
-use Rattle.saphyr_scanner.specs.Grammar.Tokens.{Kind}
 use Rattle.saphyr_scanner.specs.Steps.Fetch.{state_behind_content, step}
 use Rattle.yaml_laws.specs.Grammar.BlockNodes as yaml
 use Rattle.yaml_laws.proofs.Flow.GapSteps.{past_count, past_again}
-use Rattle.yaml_laws.proofs.Flow.States.{past}
-use Rattle.yaml_laws.proofs.InBlock.States.{Frame, Moment, moment_at, core_of, state_of, IsStop, crosses, At, Before}
+use Rattle.yaml_laws.proofs.InBlock.States.{Frame, Moment, moment_at, core_of, state_of, IsStop, crosses, At, Before, past}
 use Rattle.yaml_laws.proofs.InBlock.Gaps.{past_stops, stop_tabbed}
 use Rattle.yaml_laws.proofs.InBlock.Skips.{has_tab, spaces_reach}
 use Rattle.yaml_laws.proofs.InBlock.Follows.{BeginsToken, begins_with, deeper_at}
 use Rattle.yaml_laws.proofs.InBlock.Entries.{BeginsWhite, frame_behind, steps_on, start_places, start_performs, start_kinds, start_are, before_next}
-use Rattle.saphyr_input.proofs.Basics.Numbers.{le_next}
-use Rattle.std.proofs.Math.Bool.{or-true}
-use Rattle.saphyr_input.specs.Indicators.{colon, question_mark}
-use Rattle.saphyr_scanner.proofs.Queues.{queue_of}
 
 -- ## `?`
 

@@ -1,24 +1,14 @@
 -- Block scalars are read, from their header on (YAML 1.2.2, 8.1).
-use Rattle.std.proofs.Common.{◌≡◌, ℕ, zero, suc, ◌+◌, ◌^◌, ◌<◌, Bool, false, List, [], ◌∷◌, ◌++◌, length, slice_index, refl, sym, ap, ◌∙◌, arith, subst, append_assoc, append-nil, Ok, encode_utf8_all, ◌⊎◌, inl, inr}
-use Rattle.std.specs.Prelude.{◌==◌, not}
+use Rattle.yaml_laws.proofs.Common.{Bool, List, Ok, [], ap, append-nil, append_assoc, arith, encode_utf8_all, false, inl, inr, length, refl, slice_index, subst, suc, sym, zero, ℕ, ◌++◌, ◌+◌, ◌<◌, ◌^◌, ◌∙◌, ◌∷◌, ◌≡◌, ◌⊎◌, not, ◌==◌, carriage_return, is_break, line_feed, BlockStyle, Marker, spaces, Cursor, AreIn, both_in, DoubleQuoted, Folded, Literal, Plain, Properties, SingleQuoted, Style, IsBlockScalarText, IsScalarFront, IsStyled}
 use Rattle.std.proofs.lemmas.List.{length-append, append_cancel_right}
-use Rattle.saphyr_input.specs.Classes.{is_break, carriage_return, line_feed}
-use Rattle.saphyr_scalar.specs.declared.values.BlockStyle.{BlockStyle}
 use Rattle.saphyr_scalar.specs.declared.values.BlockStyle.TheVariants as block_style
 use Rattle.saphyr_scalar.specs.declared.values.Chomping.{Chomping}
-use Rattle.saphyr_scalar.specs.declared.scalar.position.Marker.{Marker}
 use Rattle.saphyr_scalar.specs.declared.scalar.position.Span.{Span}
-use Rattle.saphyr_scalar.specs.Reading.BlockLines.{spaces}
 use Rattle.saphyr_scalar.specs.Values.Block.{Line}
 use Rattle.saphyr_scalar.specs.Steps.Block.{block_scalar}
-use Rattle.saphyr_scalar.specs.Views.Cursor.{Cursor}
 use Rattle.saphyr_scalar.specs.Passing.{IsPassed}
-use Rattle.saphyr_scalar.specs.Spelling.Tag.{AreIn}
 use Rattle.scalar_laws.specs.Spelling.Block as spelling
 use Rattle.scalar_laws.specs.Spelling.Block.{IsIndicator, IsChomping, IsHeader, IsBlockScalar, IsTaken}
-use Rattle.scalar_laws.proofs.Beginnings.{both_in}
-use Rattle.saphyr_scanner.specs.Grammar.Forest.{Style, Plain, SingleQuoted, DoubleQuoted, Literal, Folded, Properties}
-use Rattle.yaml_laws.specs.Grammar.BlockNodes.{IsBlockScalarText, IsStyled, IsScalarFront}
 use Rattle.yaml_laws.proofs.Flow.States.{moved}
 use Rattle.yaml_laws.proofs.Flow.Places.{moved_append}
 use Rattle.yaml_laws.proofs.Flow.Quoted.{moved_passes}

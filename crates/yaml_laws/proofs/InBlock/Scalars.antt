@@ -1,24 +1,13 @@
 -- Block scalars at block level, with what comes before them (YAML 1.2.2, 8.1).
-use Rattle.std.proofs.Common.{◌≡◌, ℕ, ◌^◌, ◌<◌, ◌≤◌, List, [], ◌∷◌, ◌++◌, refl, sym, arith, subst, append_assoc, append-nil, IsTrue, inl, inr}
-use Rattle.std.specs.Prelude.{Option, None}
-use Rattle.saphyr_input.specs.Classes.{is_blank}
-use Rattle.saphyr_scalar.specs.Spelling.Tag.{AreIn}
-use Rattle.saphyr_scalar.specs.declared.scalar.position.Marker.{Marker}
+use Rattle.yaml_laws.proofs.Common.{IsTrue, List, [], append-nil, append_assoc, arith, inl, inr, refl, subst, sym, ℕ, ◌++◌, ◌<◌, ◌^◌, ◌∷◌, ◌≡◌, ◌≤◌, None, Option, is_blank, AreIn, Marker, IsGap, IsNextLine, Candidate, Properties, Scalar, Style, State, Kind, scalar_token, IsProperties}
 use Rattle.saphyr_scalar.proofs.NoBreaks.{NoBreaks}
-use Rattle.scalar_laws.specs.Spelling.Spaces.{IsNextLine, IsGap}
-use Rattle.saphyr_scanner.specs.Steps.Level.{Candidate}
-use Rattle.saphyr_scanner.specs.Grammar.Forest.{Style, Properties, Scalar}
-use Rattle.saphyr_scanner.specs.Steps.State.{State}
-use Rattle.saphyr_scanner.specs.Grammar.Tokens.{Kind, scalar_token}
 use Rattle.saphyr_scanner.specs.Grammar.TokenGrammar as grammar
-use Rattle.yaml_laws.specs.Grammar.FlowNodes.{IsProperties}
 use Rattle.yaml_laws.specs.Grammar.BlockNodes.{Position as Position, indent_at, is_start, IsGapAt, IsStyled, IsScalarFront, IsScalarInBlock}
-use Rattle.yaml_laws.proofs.Flow.States.{moved, past}
 use Rattle.yaml_laws.proofs.Flow.ContentStarts.{StartsContent}
 use Rattle.yaml_laws.proofs.Flow.Names.{unbroken_along}
 use Rattle.yaml_laws.proofs.Flow.Places.{moved_append}
 use Rattle.yaml_laws.proofs.Flow.WordGaps.{prefix_reaches}
-use Rattle.yaml_laws.proofs.InBlock.States.{Frame, IsPlaced, At, Before}
+use Rattle.yaml_laws.proofs.InBlock.States.{Frame, IsPlaced, At, Before, moved, past}
 use Rattle.yaml_laws.proofs.InBlock.Skips.{gap_passes}
 use Rattle.yaml_laws.proofs.InBlock.Lines.{FitsOnLines, fits_front, fits_so}
 use Rattle.yaml_laws.proofs.InBlock.Statements.{context_at, EndsNodeAt, NodeRead, ReadsAt}

@@ -1,19 +1,9 @@
 -- The entries of a block sequence are read (YAML 1.2.2, 8.2.1).
-use Rattle.std.proofs.Common.{◌≡◌, ℕ, suc, ◌+◌, ◌≤◌, Bool, true, false, List, [], ◌∷◌, ◌++◌, refl, ◌∙◌, subst, append_assoc, append-nil, inl, inr, arith}
-use Rattle.std.specs.Prelude.{nat_le, None, if◌then◌else◌}
-use Rattle.saphyr_input.specs.Indicators.{hyphen}
-use Rattle.saphyr_scalar.specs.declared.scalar.position.Marker.{Marker}
-use Rattle.saphyr_scalar.specs.Views.Cursor.{along}
-use Rattle.saphyr_scanner.specs.Steps.State.{State}
+use Rattle.yaml_laws.proofs.Common.{Bool, List, [], append-nil, append_assoc, arith, false, inl, inr, refl, subst, suc, true, ℕ, ◌++◌, ◌+◌, ◌∙◌, ◌∷◌, ◌≡◌, ◌≤◌, None, if◌then◌else◌, nat_le, hyphen, Marker, along, State, Kind, MoreNodes, NoNode, Node, Nodes, most_open, AreEntries, AreOtherEntries, BehindDash, IsBlockNode}
 use Rattle.saphyr_scanner.specs.Grammar.Tokens as tokens
-use Rattle.saphyr_scanner.specs.Grammar.Tokens.{Kind}
 use Rattle.saphyr_scanner.specs.Grammar.TokenGrammar as grammar
-use Rattle.saphyr_scanner.specs.Grammar.Forest.{Node, Nodes, NoNode, MoreNodes}
-use Rattle.saphyr_scanner.specs.Limits.{most_open}
-use Rattle.yaml_laws.specs.Grammar.BlockNodes.{BehindDash, IsBlockNode, AreOtherEntries, AreEntries}
-use Rattle.yaml_laws.proofs.Flow.States.{moved}
 use Rattle.yaml_laws.proofs.InBlock.Lines.{FitsOnLines, fits_back, fits_so}
-use Rattle.yaml_laws.proofs.InBlock.States.{Frame, At}
+use Rattle.yaml_laws.proofs.InBlock.States.{Frame, At, moved}
 use Rattle.yaml_laws.proofs.InBlock.Entries.{frame_behind, dash_kinds, reads_dash}
 use Rattle.yaml_laws.proofs.InBlock.Statements.{EndsNodeAt, EndsWithLine, as_optional, NodeRead, ReadsAt, ReadsLeaves}
 use Rattle.yaml_laws.proofs.InBlock.Texts.{node_ends}

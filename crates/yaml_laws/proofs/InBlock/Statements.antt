@@ -1,27 +1,11 @@
 -- What is shown of nodes and collections at block level.
-use Rattle.std.proofs.Common.{◌≡◌, ℕ, suc, ◌+◌, ◌≤◌, Bool, true, false, List, [], ◌∷◌, ◌++◌, length, slice_index, IsFalse, ◌⊎◌, inl, inr}
-use Rattle.std.specs.Prelude.{Some, None}
-use Rattle.saphyr_input.specs.Indicators.{colon}
-use Rattle.saphyr_input.specs.Classes.{is_blank_or_breakz}
-use Rattle.saphyr_scalar.specs.declared.scalar.position.Marker.{Marker}
-use Rattle.saphyr_scalar.specs.Reading.BlockLines.{spaces}
-use Rattle.scalar_laws.specs.Spelling.Spaces.{IsLineEnd, IsFiller}
-use Rattle.saphyr_scanner.specs.Steps.Core.{is_too_far, least_column}
+use Rattle.yaml_laws.proofs.Common.{Bool, IsFalse, List, [], false, inl, inr, length, slice_index, suc, true, ℕ, ◌++◌, ◌+◌, ◌∷◌, ◌≡◌, ◌≤◌, ◌⊎◌, None, Some, colon, is_blank_or_breakz, Marker, spaces, IsFiller, IsLineEnd, is_too_far, least_column, bare_place, Piece, State, Kind, Node, Properties, Scalar, Style, left_out, most_open, place_kinds, IsBeforeColon, IsFlowNode, IsKeyText, IsOnLine, IsPlainKeyNode, IsProperties}
 use Rattle.saphyr_scanner.specs.Steps.Queue as queue
-use Rattle.saphyr_scanner.specs.Steps.Queue.{bare_place}
-use Rattle.saphyr_scanner.specs.Views.Tokens.{Piece}
-use Rattle.saphyr_scanner.specs.Steps.State.{State}
-use Rattle.saphyr_scanner.specs.Grammar.Tokens.{Kind}
 use Rattle.saphyr_scanner.specs.Grammar.TokenGrammar as grammar
-use Rattle.saphyr_scanner.specs.Grammar.Forest.{Style, Properties, Node, Scalar, left_out}
-use Rattle.saphyr_scanner.specs.Limits.{most_open}
-use Rattle.saphyr_scanner.proofs.Queues.{place_kinds}
-use Rattle.yaml_laws.specs.Grammar.FlowNodes.{IsFlowNode, IsOnLine, IsPlainKeyNode, IsKeyText, IsBeforeColon, IsProperties}
 use Rattle.yaml_laws.specs.Grammar.BlockNodes.{Position, BehindMark, BehindKey, is_start, indent_at, IsGapAt, IsFlowInBlock, IsStyled, IsScalarFront, IsScalarInBlock, BehindDash, BehindMarker, AtStart}
-use Rattle.yaml_laws.proofs.Flow.States.{moved, past}
 use Rattle.yaml_laws.proofs.Flow.ContentStarts.{StartsContent}
 use Rattle.yaml_laws.proofs.InBlock.Lines.{FitsOnLines}
-use Rattle.yaml_laws.proofs.InBlock.States.{Frame, Moment, core_of, state_of, IsUntabbed, EndsDocument, IsLeftOf, GoesOnAs, At, Before}
+use Rattle.yaml_laws.proofs.InBlock.States.{Frame, Moment, core_of, state_of, IsUntabbed, EndsDocument, IsLeftOf, GoesOnAs, At, Before, moved, past}
 use Rattle.yaml_laws.proofs.InBlock.Skips.{IsClean}
 use Rattle.yaml_laws.proofs.InFlow.KeyScalars.{Blanks}
 use Rattle.yaml_laws.proofs.Flow.NoDashes.{NoDash}
@@ -52,6 +36,11 @@ pub record ArrivedAt (limit : ℕ) (start : State) (f : Frame) (ts : List Kind) 
 
 abbrev pub Arrived : ℕ → State → Frame → Marker → List ℕ → List Kind → Type 0
 Arrived limit start f m o ts = ArrivedAt limit start f ts (past 0 m o)
+
+-- told at an equal place and of equal tokens
+pub arrived_so : {limit : ℕ} {start : State} {f : Frame} {m n : Marker} {us ts : List Kind} (o : List ℕ) → m ≡ n
+    → us ≡ ts → Arrived limit start f n o us → Arrived limit start f m o ts
+arrived_so o e g v = rw (e, ← g) v
 
 -- after a text is a line's start, or nothing
 abbrev pub EndsWithLine : List ℕ → List ℕ → Type 0
@@ -112,7 +101,7 @@ ReadsKey limit node = (f : Frame) (m : Marker) (t o : List ℕ) (n : Blanks) →
     → (start : State) (ts : List Kind) → (v : At limit start f m (t ++ (n.text ++ (58 ∷ o))) ts) → v.allowed ≡ true
     → KeyRead limit start node f m (moved m (t ++ n.text)) o ts
 
--- Properties before a block collection on the next lines were read, up to its first token at m.
+-- What comes before a block collection was read, its properties among it, up to its first token at m.
 pub record PropertiesRead (limit : ℕ) (start : State) (p : Properties) (f : Frame) (m : Marker) (y : List ℕ)
     (ts : List Kind) : Type 0 where
   pub tokens : List Kind

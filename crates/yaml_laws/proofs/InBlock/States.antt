@@ -1,26 +1,10 @@
 -- What is said of a piece of a text at block level, and of the states before it and after it. Block collections may be
 -- open.
-use Rattle.std.proofs.Common.{◌≡◌, ℕ, ◌+◌, ◌<◌, ◌≤◌, Bool, true, false, List, [], ◌∷◌, slice_index, ◌⊎◌, IsFalse, arith}
-use Rattle.saphyr_scalar.specs.Reading.BlockLines.{spaces}
-use Rattle.std.specs.Prelude.{◌||◌, ◌&&◌, ◌==◌, Option, None, if◌then◌else◌}
-use Rattle.saphyr_input.specs.Classes.{is_blank, is_break, is_yaml_non_break}
-use Rattle.saphyr_scalar.specs.declared.scalar.position.Marker.{Marker}
-use Rattle.saphyr_scalar.specs.Views.Cursor.{Cursor, along, next_line}
+use Rattle.yaml_laws.proofs.Common.{Bool, IsFalse, List, [], arith, false, slice_index, true, ℕ, ◌+◌, ◌<◌, ◌∷◌, ◌≡◌, ◌≤◌, ◌⊎◌, spaces, None, Option, if◌then◌else◌, ◌&&◌, ◌==◌, ◌||◌, is_blank, is_break, is_yaml_non_break, Marker, Cursor, along, next_line, Kind, Place, Core, is_too_far, Candidate, State, is_tab_indentation, fetch, LeadsTo, cursor_at, place_kinds, queue_of}
 use Rattle.saphyr_scanner.specs.declared.engine.level.Context.TheVariants as context
-use Rattle.saphyr_scanner.specs.Grammar.Tokens.{Kind}
-use Rattle.saphyr_scanner.specs.Steps.Queue.{Place}
-use Rattle.saphyr_scanner.specs.Steps.Core.{Core, is_too_far}
-use Rattle.saphyr_scanner.specs.Steps.Level.{Candidate}
-use Rattle.saphyr_scanner.specs.Steps.State.{State}
-use Rattle.saphyr_scanner.specs.Steps.Gap.{is_tab_indentation}
-use Rattle.saphyr_scanner.specs.Steps.Fetch.{fetch}
-use Rattle.saphyr_scanner.proofs.Leads.{LeadsTo}
 use Rattle.yaml_laws.specs.Grammar.BlockNodes as yaml
 use Rattle.yaml_laws.specs.Grammar.BlockNodes.{Position as Position}
-use Rattle.yaml_laws.proofs.Flow.States.{past}
-pub use Rattle.yaml_laws.proofs.Flow.States.{EndsDocument, crosses, crosses_comment}
-use Rattle.saphyr_scalar.proofs.Given.{cursor_at}
-use Rattle.saphyr_scanner.proofs.Queues.{place_kinds, queue_of}
+pub use Rattle.yaml_laws.proofs.Flow.States.{EndsDocument, crosses, crosses_comment, FitsAround, IsBehindRoot, IsClear, IsContentStart, IsLeft, ReaderPromises, Since, marks_line, moved, past}
 
 -- ## The block collections that are open
 

@@ -1,36 +1,21 @@
 -- The scanner takes a text of YAML's grammar and makes tokens of its forest.
-use Rattle.std.proofs.Common.{◌≡◌, ℕ, ◌≤◌, Bool, true, false, List, [], ◌∷◌, ◌++◌, length, ◌⊎◌, inl, inr, refl, ap, ◌∙◌, arith, append_assoc, append-nil}
-use Rattle.std.specs.Prelude.{None, ◌==◌, not}
-use Rattle.saphyr_input.specs.Classes.{carriage_return}
-use Rattle.saphyr_scalar.specs.Views.Cursor.{start_cursor}
-use Rattle.saphyr_scalar.specs.Spelling.Tag.{AreIn}
-use Rattle.saphyr_scanner.specs.Grammar.Forest.{Forest}
-use Rattle.saphyr_scanner.specs.Limits.{most_open}
+use Rattle.yaml_laws.proofs.Common.{Bool, List, [], ap, append-nil, append_assoc, arith, false, inl, inr, length, refl, true, ℕ, ◌++◌, ◌∙◌, ◌∷◌, ◌≡◌, ◌≤◌, ◌⊎◌, None, not, ◌==◌, carriage_return, start_cursor, AreIn, Forest, most_open, Kind, State, start, LeadsTo, IsDocumentPrefix, IsYaml, end_prefix, mark_prefix, no_prefix, or-true, back_in, front_in, place_kinds, AreEach, joined_pieces}
 use Rattle.saphyr_scanner.specs.Grammar.Tokens as tokens
-use Rattle.saphyr_scanner.specs.Grammar.Tokens.{Kind}
 use Rattle.saphyr_scanner.specs.Grammar.TokenGrammar as grammar
 use Rattle.saphyr_scanner.specs.Grammar.TokenGrammar.{AreEndsAndMarks, Yields}
-use Rattle.saphyr_scanner.specs.Steps.State.{State, start}
-use Rattle.saphyr_scanner.proofs.Leads.{LeadsTo}
 use Rattle.yaml_laws.specs.Grammar.Yaml as yaml
-use Rattle.yaml_laws.specs.Grammar.Yaml.{IsDocumentPrefix, no_prefix, mark_prefix, end_prefix, IsYaml}
-use Rattle.yaml_laws.proofs.Flow.States.{moved, ReaderPromises}
 use Rattle.yaml_laws.proofs.Flow.Fillers.{last_filler_past}
 use Rattle.yaml_laws.proofs.Documents.Lines.{passes_filler}
 use Rattle.yaml_laws.proofs.Documents.Stands.{StandsLined, lined_so, unfree}
 use Rattle.yaml_laws.proofs.Documents.Markers.{reads_mark, reads_end, FinishesStream, reads_stream_end}
-use Rattle.yaml_laws.proofs.InBlock.States.{crosses}
+use Rattle.yaml_laws.proofs.InBlock.States.{crosses, moved, ReaderPromises}
 use Rattle.yaml_laws.proofs.InBlock.Follows.{follows_itself}
 use Rattle.yaml_laws.proofs.InBlock.Statements.{ReadsLeaves}
-use Rattle.yaml_laws.proofs.InBlock.Documents.Ends.{plain_behind, AreBlockDocuments, HasNoReturn, suffix_text, lands_behind, marks_text}
+use Rattle.yaml_laws.proofs.InBlock.Documents.Ends.{AreBlockDocuments, HasNoReturn, suffix_text, follows_document, marks_text}
 use Rattle.yaml_laws.proofs.InBlock.Documents.{reads_document}
 use Rattle.yaml_laws.proofs.InBlock.Documents.Comes.{ComesIn, comes_so, comes_behind_filler, comes_behind_mark, comes_behind_end, document_comes}
 use Rattle.yaml_laws.proofs.InBlock.LineStarts.{no_line, last_unmarked}
-use Rattle.std.proofs.Math.Bool.{or-true}
-use Rattle.scalar_laws.proofs.Beginnings.{front_in, back_in}
-use Rattle.saphyr_scanner.proofs.Queues.{place_kinds}
 use Rattle.saphyr_scanner.proofs.Root.{stream_start_place, fetches_stream_start}
-use Rattle.scalar_laws.specs.Spelling.Spaces.{AreEach, joined_pieces}
 
 -- ## Between documents
 
@@ -175,8 +160,8 @@ reads_documents {limit = limit} {start = start} readers leaves (d ∷ ds) free t
     (filler, document, others, filler_is, is, behind, e) clean v =
     let first = passes_filler filler (document ++ others) filler_is (lined_so e v) in
     let left = back_in _ filler (document ++ others) (rw e at clean) in
-    let n = reads_document readers leaves d free document others ts is (lands_behind leaves ds others behind)
-    (plain_behind ds others behind) (front_in _ document others left) first in
+    let n = reads_document readers leaves d free document others ts is
+    (follows_document leaves ds others behind) (front_in _ document others left) first in
     let f = reads_behind ds (reads_documents readers leaves ds) others (ts ++ n.tokens) behind
     (back_in _ document others left) n.stands in
     record {

@@ -1,14 +1,5 @@
 -- The texts of nodes at block level: where they end, and the columns and tokens after what is skipped.
-use Rattle.std.proofs.Common.{◌≡◌, ℕ, zero, suc, ◌+◌, ◌<◌, ◌≤◌, List, [], ◌∷◌, ◌++◌, length, refl, ap, ◌∙◌, arith, append-nil, ◌⊎◌, inl, inr}
-use Rattle.std.specs.Prelude.{◌==◌, not}
-use Rattle.saphyr_input.specs.Classes.{line_feed}
-use Rattle.saphyr_scalar.specs.declared.scalar.position.Marker.{Marker}
-use Rattle.saphyr_scalar.specs.Reading.BlockLines.{spaces}
-use Rattle.saphyr_scalar.specs.Views.Cursor.{along}
-use Rattle.saphyr_scalar.specs.Spelling.Tag.{AreIn}
-use Rattle.scalar_laws.specs.Spelling.Spaces.{IsEol}
-use Rattle.saphyr_scanner.specs.Grammar.Forest.{Node, Alias, Scalar, Seq, Map, Nodes, NoNode, MoreNodes, Pairs, NoPair, MorePairs}
-use Rattle.saphyr_scanner.specs.Limits.{most_open}
+use Rattle.yaml_laws.proofs.Common.{List, [], ap, append-nil, arith, inl, inr, length, refl, suc, zero, ℕ, ◌++◌, ◌+◌, ◌<◌, ◌∙◌, ◌∷◌, ◌≡◌, ◌≤◌, ◌⊎◌, not, ◌==◌, line_feed, Marker, spaces, along, AreIn, IsEol, Alias, Map, MoreNodes, MorePairs, NoNode, NoPair, Node, Nodes, Pairs, Scalar, Seq, most_open}
 use Rattle.yaml_laws.specs.Grammar.BlockNodes.{Position, indent_at, IsLeftOut, IsFlowInBlock, IsBlockPair, IsEntryIndentation, IsBlockNode, AreEntries, AreOtherEntries, ArePairs, AreOtherPairs}
 use Rattle.yaml_laws.proofs.Flow.States.{IsContentStart, moved, past}
 use Rattle.yaml_laws.proofs.Flow.Places.{moved_append, moved_along}
@@ -92,8 +83,7 @@ mutual
   pairs_end leaves NoPair m t o h = absurd h
   pairs_end leaves (MorePairs key value pairs) m t o (pair, others, h, k, e) = ends_so t (pair ++ others) o e
       (last_ends pair others o (other_pairs_end leaves pairs m others o k)
-      (pair_ends key value (λ place u z k. node_ends leaves key place u z k)
-      (λ place u z k. node_ends leaves value place u z k) m pair (others ++ o) h))
+      (pair_ends key value (node_ends leaves key) (node_ends leaves value) m pair (others ++ o) h))
 
   other_pairs_end : {limit : ℕ} → ReadsLeaves limit → (pairs : Pairs) (m : ℕ) (t o : List ℕ)
       → AreOtherPairs most_open pairs m t o → (t ≡ []) ⊎ EndsWithLine t o
@@ -101,8 +91,7 @@ mutual
   other_pairs_end leaves (MorePairs key value pairs) m t o (front, pair, others, front_is, h, k, e) =
       inr (ends_so t (front ++ (pair ++ others)) o e (ends_back front (pair ++ others) o
       (last_ends pair others o (other_pairs_end leaves pairs m others o k)
-      (pair_ends key value (λ place u z k. node_ends leaves key place u z k)
-      (λ place u z k. node_ends leaves value place u z k) m pair (others ++ o) h))))
+      (pair_ends key value (node_ends leaves key) (node_ends leaves value) m pair (others ++ o) h))))
 
 -- ## Columns
 

@@ -1,15 +1,9 @@
 -- Each text of YAML's grammar gives tokens of its forest.
-use Rattle.std.proofs.Common.{false, ℕ, ◌<◌, ◌^◌, ◌≤◌, List, length, ap, arith}
-use Rattle.saphyr_input.specs.Breaks.{normalized}
-use Rattle.saphyr_scanner.specs.Grammar.Forest.{Forest}
-use Rattle.saphyr_scanner.specs.Limits.{most_open}
+use Rattle.yaml_laws.proofs.Common.{List, ap, arith, false, length, ℕ, ◌<◌, ◌^◌, ◌≤◌, normalized, Forest, most_open, Remaining, Kind, IsYamlText}
 use Rattle.saphyr_scanner.specs.Steps.Remaining.{Scans, scan}
-use Rattle.saphyr_scanner.specs.Views.Tokens.{Remaining}
 use Rattle.saphyr_scanner.specs.Grammar.TokenGrammar.{Yields}
-use Rattle.saphyr_scanner.specs.Grammar.Tokens.{Kind}
 use Rattle.saphyr_scanner.proofs.Lazy.{handed_out}
 use Rattle.saphyr_scanner.proofs.Effects.Readers.{Readers}
-use Rattle.yaml_laws.specs.Grammar.Yaml.{IsYamlText}
 use Rattle.yaml_laws.specs.SameKinds.{HaveSameKinds}
 use Rattle.yaml_laws.proofs.Breaks.Normal.{no_return_left, scans_too, beside, normal_shorter}
 use Rattle.yaml_laws.proofs.Flow.ContentStarts.{node_content, plain_key_node_content}

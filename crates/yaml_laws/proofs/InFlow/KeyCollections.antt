@@ -1,22 +1,9 @@
 -- A flow collection that is a key on one line at block level.
-use Rattle.std.proofs.Common.{◌≡◌, ℕ, suc, ◌+◌, ◌<◌, ◌≤◌, Bool, true, false, List, [], ◌∷◌, ◌++◌, length, slice_index, Ok, refl, sym, ap, ◌∙◌, arith, subst, append_assoc, append-nil}
+use Rattle.yaml_laws.proofs.Common.{Bool, List, Ok, [], ap, append-nil, append_assoc, arith, false, length, refl, slice_index, subst, suc, sym, true, ℕ, ◌++◌, ◌+◌, ◌<◌, ◌∙◌, ◌∷◌, ◌≡◌, ◌≤◌, None, Option, Some, Marker, Cursor, along, ◌>>=◌, cursor_at, IsSeparation, Context, Kind, Place, Queue, completed_step, from_to, Candidate, Level, behind_entry, ends_pair, is_block, State, after_step, on_core, most_open, LeadsTo, leads_on, onward, stay, le_next, le-leb, colon, place_kinds, place_kinds_append, queue_of, token_place, level_of}
 use Rattle.std.proofs.Math.Nat.{zero-add}
-use Rattle.std.specs.Prelude.{Option, Some, None}
-use Rattle.saphyr_scalar.specs.declared.scalar.position.Marker.{Marker}
-use Rattle.saphyr_scalar.specs.Views.Cursor.{Cursor, ◌>>=◌, along}
-use Rattle.saphyr_scalar.proofs.Given.{cursor_at}
-use Rattle.scalar_laws.specs.Spelling.Spaces.{IsSeparation}
-use Rattle.saphyr_scanner.specs.declared.engine.level.Context.{Context}
 use Rattle.saphyr_scanner.specs.declared.engine.level.Context.TheVariants as context
-use Rattle.saphyr_scanner.specs.Grammar.Tokens.{Kind}
-use Rattle.saphyr_scanner.specs.Steps.Queue.{Place, Queue}
-use Rattle.saphyr_scanner.specs.Steps.Core.{from_to, completed_step}
-use Rattle.saphyr_scanner.specs.Steps.Level.{Candidate, Level, is_block, behind_entry, ends_pair}
 use Rattle.saphyr_scanner.specs.Steps.Flow.{close_collection}
-use Rattle.saphyr_scanner.specs.Steps.State.{State, on_core, after_step}
 use Rattle.saphyr_scanner.specs.Steps.Fetch.{step, state_behind_content, fetch_here, fetch, check_limit, fetch_within}
-use Rattle.saphyr_scanner.specs.Limits.{most_open}
-use Rattle.saphyr_scanner.proofs.Leads.{LeadsTo, stay, onward, leads_on}
 use Rattle.yaml_laws.proofs.InFlow.States.{Around, core_at, state_at, drops_far_key, left_in_flow, behind_key, opening_steps_open, open_collection_gives, close_collection_gives, deepened, moment}
 use Rattle.yaml_laws.proofs.InFlow.OnLine.{separation_of_blanks}
 use Rattle.yaml_laws.proofs.InFlow.KeyLines.{Ready, keeps_near_key}
@@ -30,24 +17,11 @@ use Rattle.yaml_laws.proofs.Flow.Tokens.{arrives, begins_here, within_index}
 use Rattle.yaml_laws.proofs.Flow.Separates.{separates}
 use Rattle.yaml_laws.proofs.Flow.Brackets.{mark_begins, mark_moved, mark_places, mark_puts, mark_kinds, pending, token_mark}
 use Rattle.yaml_laws.proofs.Flow.Collections.{Brackets, AreBrackets, bracket_text, RunsInside, AreBracketed}
-use Rattle.saphyr_input.proofs.Basics.Numbers.{le_next}
-use Rattle.std.proofs.lemmas.Bool.{le-leb}
-use Rattle.saphyr_input.specs.Indicators.{colon}
-use Rattle.saphyr_scanner.proofs.Queues.{token_place, place_kinds, place_kinds_append, queue_of}
-use Rattle.saphyr_scanner.proofs.Levels.{level_of}
 use Rattle.yaml_laws.proofs.Flow.ContentStarts.{starts, colon_content}
 
 -- inside a key's brackets nothing is required at block level
 abbrev pub calmed : Around → Around
-calmed around = record {
-  limit = around.limit;
-  column = around.column;
-  indent = around.indent;
-  low = around.low;
-  outers = around.outers;
-  pending = false;
-  required = around.required;
-}
+calmed around = record around { pending = false }
 
 pub same_inside : (around : Around) (d : Bool) (s : Cursor) (x : Context) (k : Option Candidate) (ls : List Level)
     (a : Bool) (ad : ℕ) → is_block x ≡ false → core_at around d s x k ls a ad ≡ core_at (calmed around) d s x k ls a ad

@@ -1,32 +1,15 @@
 -- Tokens on the line of a key at block level: the scanner keeps the place where the key begins.
-use Rattle.std.proofs.Common.{◌≡◌, ℕ, suc, ◌+◌, ◌≤◌, Bool, true, false, List, [], ◌∷◌, ◌++◌, length, slice_index, Ok, refl, ap, ◌∙◌, arith}
+use Rattle.yaml_laws.proofs.Common.{Bool, List, Ok, [], ap, arith, false, length, refl, slice_index, suc, true, ℕ, ◌++◌, ◌+◌, ◌∙◌, ◌∷◌, ◌≡◌, ◌≤◌, None, Option, Some, nat_le, nat_lt, not, ◌&&◌, ◌-◌, ◌==◌, nat_tests, is_blank, Marker, Cursor, along, ◌>>=◌, AreIn, Kind, GapEnd, end_of_gap, stop, Place, Candidate, Level, State, after_step, on_core, LeadsTo, onward, stay, cursor_at, le_next, no_return, le-leb, queue_of, token_place}
 use Rattle.std.proofs.Math.Nat.{zero-add}
-use Rattle.std.specs.Prelude.{◌-◌, ◌&&◌, ◌==◌, not, nat_lt, nat_le, Option, Some, None}
-use Rattle.std.proofs.lemmas.Bool.Decides.{nat_tests}
-use Rattle.saphyr_input.specs.Classes.{is_blank}
-use Rattle.saphyr_scalar.specs.declared.scalar.position.Marker.{Marker}
-use Rattle.saphyr_scalar.specs.Views.Cursor.{Cursor, ◌>>=◌, along}
-use Rattle.saphyr_scalar.specs.Spelling.Tag.{AreIn}
 use Rattle.saphyr_scanner.specs.declared.engine.level.Context.TheVariants as context
-use Rattle.saphyr_scanner.specs.Grammar.Tokens.{Kind}
-use Rattle.saphyr_scanner.specs.Steps.Gap.{GapEnd, stop, end_of_gap}
-use Rattle.saphyr_scanner.specs.Steps.Queue.{Place}
 use Rattle.saphyr_scanner.specs.Steps.Core.{is_too_far, drop_far_key, from_to, completed_step}
-use Rattle.saphyr_scanner.specs.Steps.Level.{Candidate, Level}
 use Rattle.saphyr_scanner.specs.Steps.Passing.{pass_gap, check_comment, behind_gap}
-use Rattle.saphyr_scanner.specs.Steps.State.{State, on_core, after_step}
 use Rattle.saphyr_scanner.specs.Steps.Unrolling.{unroll}
 use Rattle.saphyr_scanner.specs.Steps.Fetch.{step, state_behind_content, fetch_here, arrive, fetch, check_limit, fetch_within}
-use Rattle.saphyr_scanner.proofs.Leads.{LeadsTo, stay, onward}
 use Rattle.yaml_laws.proofs.InFlow.States.{Around, core_at, state_at, least, reach, reach_low, drops_far_key, key_left, no_ends, none_unrolls, moment}
 use Rattle.yaml_laws.proofs.Flow.States.{moved, IsContentStart}
 use Rattle.yaml_laws.proofs.Flow.Fillers.{blanks_past}
 use Rattle.yaml_laws.proofs.Flow.Tokens.{BeginsToken}
-use Rattle.saphyr_scalar.proofs.Given.{cursor_at}
-use Rattle.saphyr_input.proofs.Basics.Numbers.{le_next}
-use Rattle.saphyr_input.proofs.Basics.Characters.{no_return}
-use Rattle.std.proofs.lemmas.Bool.{le-leb}
-use Rattle.saphyr_scanner.proofs.Queues.{token_place, queue_of}
 use Rattle.saphyr_scanner.proofs.Gaps.{stop_here}
 
 -- ## A key is kept on its line
@@ -140,12 +123,9 @@ to_next a n h = omega (arith, h)
 
 -- the same where a key begins at m, which is the column of its block mapping
 abbrev pub keyed : (around : Around) → Bool → (m : Marker) → around.column ≤ m.col + 1 → Around
-keyed around d m low = record {
-  limit = around.limit;
-  column = around.column;
+keyed around d m low = record around {
   indent = suc m.col;
   low = to_next around.column m.col low;
-  outers = around.outers;
   pending = is_required around d m;
   required = is_required around d m;
 }

@@ -1,15 +1,7 @@
 -- An alias and a scalar on one line at block level are read as keys, with the properties before them.
-use Rattle.std.proofs.Common.{◌≡◌, ◌≢◌, ℕ, arith, true, false, List, [], ◌∷◌, ◌++◌, slice_index, refl, sym, ap, ◌∙◌, subst, append_assoc, IsTrue, ◌⊎◌, inl, inr}
-use Rattle.std.proofs.lemmas.Bool.{false≢true}
-use Rattle.saphyr_input.specs.Indicators.{colon}
-use Rattle.saphyr_input.specs.Classes.{is_blank, is_blank_or_breakz}
-use Rattle.saphyr_scalar.specs.declared.scalar.position.Marker.{Marker}
-use Rattle.saphyr_scalar.specs.Spelling.Tag.{AreIn, EndsTag}
-use Rattle.saphyr_scanner.specs.Grammar.Tokens.{Kind}
+use Rattle.yaml_laws.proofs.Common.{IsTrue, List, [], ap, append_assoc, arith, false, inl, inr, refl, slice_index, subst, sym, true, ℕ, ◌++◌, ◌∙◌, ◌∷◌, ◌≡◌, ◌≢◌, ◌⊎◌, false≢true, colon, is_blank, is_blank_or_breakz, Marker, AreIn, EndsTag, Kind, Alias, Map, Node, Plain, Properties, Scalar, Seq, Style, IsBeforeColon, IsBeforeContent, IsPlainKeyNode, IsProperties, IsScalarNode}
 use Rattle.saphyr_scanner.specs.Grammar.TokenGrammar as grammar
-use Rattle.saphyr_scanner.specs.Grammar.Forest.{Style, Plain, Properties, Node, Alias, Scalar, Seq, Map}
 use Rattle.yaml_laws.specs.Grammar.FlowNodes as yaml
-use Rattle.yaml_laws.specs.Grammar.FlowNodes.{IsProperties, IsBeforeContent, IsScalarNode, IsPlainKeyNode, IsBeforeColon}
 use Rattle.yaml_laws.proofs.InFlow.States.{Around}
 use Rattle.yaml_laws.proofs.InFlow.OnLine.{front_on_line, back_on_line, blanks_on_line}
 use Rattle.yaml_laws.proofs.InFlow.KeyLines.{Ready}

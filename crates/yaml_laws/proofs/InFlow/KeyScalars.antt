@@ -1,28 +1,10 @@
 -- The content of a key on one line at block level: plain and quoted scalars.
-use Rattle.std.proofs.Common.{◌≡◌, ◌≢◌, ℕ, ◌≤◌, Bool, true, false, List, [], ◌∷◌, ◌++◌, length, slice_index, Ok, refl, sym, ap, ◌∙◌, arith, append-nil, inl, encode_utf8_all}
-use Rattle.std.specs.Prelude.{◌==◌, Option, Some, None}
-use Rattle.saphyr_input.specs.Classes.{is_blank, is_blank_or_breakz}
-use Rattle.saphyr_scalar.specs.declared.scalar.position.Marker.{Marker}
-use Rattle.saphyr_scalar.specs.declared.values.Quote.{Quote}
-use Rattle.saphyr_scalar.specs.declared.values.Quote.TheVariants.{Single, Double}
-use Rattle.saphyr_scalar.specs.Views.Cursor.{Cursor, along}
-use Rattle.saphyr_scalar.specs.Values.Flow.{mark, plain_value}
-use Rattle.saphyr_scalar.specs.Steps.Quoted.{mid_line}
+use Rattle.yaml_laws.proofs.Common.{Bool, List, Ok, [], ap, append-nil, arith, encode_utf8_all, false, inl, length, refl, slice_index, sym, true, ℕ, ◌++◌, ◌∙◌, ◌∷◌, ◌≡◌, ◌≢◌, ◌≤◌, None, Option, Some, ◌==◌, is_blank, is_blank_or_breakz, Marker, Quote, Double, Single, Cursor, along, mark, plain_value, mid_line, AreIn, cursor_at, EndsPlain, IsPlainText, is_tabbed, past_white, Kind, scalar_token, Place, completed_step, from_to, Candidate, Level, State, DoubleQuoted, Folded, Literal, Plain, SingleQuoted, Style, IsFlowScalar, IsPlainKey, IsQuoted, eq-eqb, apostrophe, colon, number_sign, clash}
 use Rattle.saphyr_scalar.specs.Steps.Plain.{is_in_word, comment_of}
-use Rattle.saphyr_scalar.specs.Spelling.Tag.{AreIn}
-use Rattle.saphyr_scalar.proofs.Given.{cursor_at}
-use Rattle.scalar_laws.specs.Spelling.Plain.{is_tabbed, past_white, EndsPlain, IsPlainText}
 use Rattle.saphyr_scanner.specs.declared.engine.level.Context.TheVariants as context
-use Rattle.saphyr_scanner.specs.Grammar.Tokens.{scalar_token, Kind}
-use Rattle.saphyr_scanner.specs.Steps.Queue.{Place}
-use Rattle.saphyr_scanner.specs.Steps.Core.{from_to, completed_step}
-use Rattle.saphyr_scanner.specs.Steps.Level.{Candidate, Level}
 use Rattle.saphyr_scanner.specs.Steps.Passing.{pass_gap, check_comment}
 use Rattle.saphyr_scanner.specs.Steps.Scalar.{goes_on_behind_quotes, quote_style}
-use Rattle.saphyr_scanner.specs.Steps.State.{State}
-use Rattle.saphyr_scanner.specs.Grammar.Forest.{Style, Plain, SingleQuoted, DoubleQuoted, Literal, Folded}
-use Rattle.yaml_laws.specs.Grammar.FlowScalars.{IsPlainKey, IsQuoted, IsFlowScalar}
-use Rattle.yaml_laws.proofs.InFlow.States.{Around, core_at, reach, in_column, behind_key}
+use Rattle.yaml_laws.proofs.InFlow.States.{Around, core_at, reach, in_column, behind_key, not_more}
 use Rattle.yaml_laws.proofs.InFlow.Tabs.{tabs_behind}
 use Rattle.yaml_laws.proofs.InFlow.OnLine.{separation_of_blanks, plain_lowers, plain_key_lowers}
 use Rattle.yaml_laws.proofs.InFlow.KeyLines.{Ready, token_led, content_gap}
@@ -37,9 +19,6 @@ use Rattle.yaml_laws.proofs.Flow.Separates.{separates}
 use Rattle.yaml_laws.proofs.Flow.Quotes.{EndsQuotes, behind_step, quoted_step, quote_first}
 use Rattle.yaml_laws.proofs.Flow.Plains.{BeginsWord, word_begins, key_begins, token_begins, plain_step}
 use Rattle.yaml_laws.proofs.Flow.Words.{plain_text, key_text}
-use Rattle.std.proofs.lemmas.Bool.{eq-eqb}
-use Rattle.saphyr_input.specs.Indicators.{apostrophe, colon, number_sign}
-use Rattle.saphyr_input.proofs.Basics.Booleans.{clash}
 use Rattle.saphyr_scanner.proofs.Gaps.{stop_here}
 use Rattle.yaml_laws.proofs.Flow.ContentStarts.{Begins, colon_content}
 
@@ -241,12 +220,9 @@ quotes_along reads around quote value t n r h start k qs e ad text low ready =
         others = [];
         leads = led;
         are = refl;
-        low = no_more m.index;
+        low = not_more m.index;
       };
     }
-  where
-    no_more : (n : ℕ) → n ≤ n
-    no_more n = omega arith
 
 -- ## Both
 

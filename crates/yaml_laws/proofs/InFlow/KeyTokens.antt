@@ -1,31 +1,12 @@
 -- The tokens of a key on one line at block level, one after the other.
-use Rattle.std.proofs.Common.{◌≡◌, ◌≢◌, ℕ, ◌+◌, ◌≤◌, Bool, true, false, List, [], ◌∷◌, ◌++◌, length, slice_index, refl, sym, ap, ◌∙◌, arith, subst, append_assoc, inl, inr, encode_utf8_all}
-use Rattle.std.specs.Prelude.{option_map, Option, Some, None}
+use Rattle.yaml_laws.proofs.Common.{Bool, List, [], ap, append_assoc, arith, encode_utf8_all, false, inl, inr, length, refl, slice_index, subst, sym, true, ℕ, ◌++◌, ◌+◌, ◌∙◌, ◌∷◌, ◌≡◌, ◌≢◌, ◌≤◌, None, Option, Some, option_map, is_blank, is_break, Marker, Cursor, along, mid_line, AreIn, EndsTag, IsAnchorName, cursor_at, IsGap, Kind, alias_token, anchor_token, tag_token, Piece, Place, bare_place, Core, completed_step, from_to, Candidate, State, step, Tag, LeadsTo, leads_on, place_kinds, place_kinds_append, IsAlias, IsAnchor, IsOnLine}
 use Rattle.std.proofs.lemmas.List.{length-append}
-use Rattle.saphyr_input.specs.Classes.{is_blank, is_break}
-use Rattle.saphyr_scalar.specs.declared.scalar.position.Marker.{Marker}
-use Rattle.saphyr_scalar.specs.Views.Cursor.{Cursor, along}
-use Rattle.saphyr_scalar.specs.Steps.Quoted.{mid_line}
-use Rattle.saphyr_scalar.specs.Spelling.Tag.{AreIn, IsAnchorName, EndsTag}
-use Rattle.saphyr_scalar.proofs.Given.{cursor_at}
-use Rattle.scalar_laws.specs.Spelling.Spaces.{IsGap}
 use Rattle.saphyr_scanner.specs.declared.engine.level.Context.TheVariants as context
 use Rattle.saphyr_scanner.specs.Grammar.Tokens as tokens
-use Rattle.saphyr_scanner.specs.Grammar.Tokens.{Kind, alias_token, anchor_token, tag_token}
 use Rattle.saphyr_scanner.specs.Grammar.TokenGrammar as grammar
-use Rattle.saphyr_scanner.specs.Views.Tokens.{Piece}
-use Rattle.saphyr_scanner.specs.Steps.Queue.{Place, bare_place}
-use Rattle.saphyr_scanner.specs.Steps.Core.{Core, from_to, completed_step}
-use Rattle.saphyr_scanner.specs.Steps.Level.{Candidate}
 use Rattle.saphyr_scanner.specs.Steps.Property as property
-use Rattle.saphyr_scanner.specs.Steps.State.{State}
-use Rattle.saphyr_scanner.specs.Steps.Fetch.{step}
-use Rattle.saphyr_scanner.specs.Grammar.Forest.{Tag}
-use Rattle.saphyr_scanner.proofs.Leads.{LeadsTo, leads_on}
-use Rattle.saphyr_scanner.proofs.Queues.{place_kinds, place_kinds_append}
 use Rattle.yaml_laws.specs.Grammar.TagSpelling.{IsTag}
 use Rattle.yaml_laws.specs.Grammar.FlowNodes as yaml
-use Rattle.yaml_laws.specs.Grammar.FlowNodes.{IsOnLine, IsAnchor, IsAlias}
 use Rattle.yaml_laws.proofs.InFlow.States.{Around, core_at, state_at, behind_key, moment}
 use Rattle.yaml_laws.proofs.InFlow.OnLine.{front_on_line, back_on_line, gap_of_blanks}
 use Rattle.yaml_laws.proofs.InFlow.KeyLines.{IsNear, Ready, later_ready, token_led}

@@ -1,16 +1,6 @@
 -- A node in flow style on one line at block level is read as a key.
-use Rattle.std.proofs.Common.{◌≡◌, ℕ, suc, ◌+◌, ◌≤◌, Bool, true, false, List, [], ◌∷◌, ◌++◌, length, slice_index, refl, ap, arith, inl, inr, append_assoc}
-use Rattle.std.specs.Prelude.{Option}
-use Rattle.saphyr_scalar.specs.Spelling.Tag.{AreIn}
-use Rattle.saphyr_input.specs.Indicators.{colon}
-use Rattle.saphyr_input.specs.Classes.{is_blank, is_blank_or_breakz}
-use Rattle.saphyr_scalar.specs.declared.scalar.position.Marker.{Marker}
+use Rattle.yaml_laws.proofs.Common.{Bool, List, [], ap, append_assoc, arith, false, inl, inr, length, refl, slice_index, suc, true, ℕ, ◌++◌, ◌+◌, ◌∷◌, ◌≡◌, ◌≤◌, Option, AreIn, colon, is_blank, is_blank_or_breakz, Marker, Place, Candidate, Alias, Map, Node, Properties, Scalar, Seq, most_open, IsBeforeColon, IsFlowNode, IsKeyText, IsOnLine, cursor_at, Kind, level_of}
 use Rattle.saphyr_scanner.specs.declared.engine.level.Context.TheVariants as context
-use Rattle.saphyr_scanner.specs.Steps.Queue.{Place}
-use Rattle.saphyr_scanner.specs.Steps.Level.{Candidate}
-use Rattle.saphyr_scanner.specs.Grammar.Forest.{Node, Alias, Scalar, Seq, Map, Properties}
-use Rattle.saphyr_scanner.specs.Limits.{most_open}
-use Rattle.yaml_laws.specs.Grammar.FlowNodes.{IsOnLine, IsKeyText, IsBeforeColon, IsFlowNode}
 use Rattle.yaml_laws.proofs.InFlow.States.{Around, state_at, moment}
 use Rattle.yaml_laws.proofs.InFlow.KeyLines.{Ready, Fresh, keyed, deeper_at, first_ready}
 use Rattle.yaml_laws.proofs.InFlow.KeyTokens.{InKey, in_back, in_right, in_so, TokensAlong, mapped_along}
@@ -18,14 +8,11 @@ use Rattle.yaml_laws.proofs.InFlow.KeyScalars.{Blanks, colon_text, colon_after, 
 use Rattle.yaml_laws.proofs.Flow.States.{moved, IsClear, ReaderPromises, FitsAround}
 use Rattle.yaml_laws.proofs.Flow.Places.{clear_front}
 use Rattle.yaml_laws.proofs.Flow.Tokens.{begins_token}
-use Rattle.saphyr_scalar.proofs.Given.{cursor_at}
 use Rattle.yaml_laws.proofs.InFlow.KeyFirsts.{plain_key_fresh, key_node_fresh}
 use Rattle.yaml_laws.proofs.InFlow.KeyNodes.{KeyReads, alias_key, scalar_key, plain_key, front_along}
 use Rattle.yaml_laws.proofs.InFlow.KeyCollections.{calmed, collection_along}
 use Rattle.yaml_laws.proofs.Flow.NodesPass.{sequence_read, mapping_read}
-use Rattle.saphyr_scanner.specs.Grammar.Tokens.{Kind}
 use Rattle.saphyr_scanner.specs.Grammar.TokenGrammar as grammar
-use Rattle.saphyr_scanner.proofs.Levels.{level_of}
 use Rattle.yaml_laws.proofs.Flow.Collections.{Brackets, bracket_text, AreBracketed}
 use Rattle.yaml_laws.proofs.Flow.Collections.Runs.{whole_text, IsBracketText, ReadsCollection}
 use Rattle.yaml_laws.proofs.Flow.ContentStarts.{key_text_begins, starts, is_start}

@@ -1,13 +1,5 @@
 -- Parts of one line, and plain scalars at an indentation that is further left.
-use Rattle.std.proofs.Common.{◌≡◌, ◌≢◌, ℕ, ◌≤◌, Bool, true, false, List, [], ◌∷◌, ◌++◌, refl, sym, ap, ◌∙◌, arith, subst, append_assoc, inl, inr}
-use Rattle.std.specs.Prelude.{◌==◌, not}
-use Rattle.saphyr_input.specs.Classes.{is_blank, line_feed}
-use Rattle.saphyr_scalar.specs.Reading.BlockLines.{spaces}
-use Rattle.saphyr_scalar.specs.Spelling.Tag.{AreIn}
-use Rattle.scalar_laws.specs.Spelling.Spaces.{joined_pieces, AreEach, AreMany, IsLinePrefix, IsGap, IsSeparationLine, IsSeparation}
-use Rattle.scalar_laws.proofs.Beginnings.{front_in, back_in}
-use Rattle.yaml_laws.specs.Grammar.FlowScalars.{IsEmptyLine, IsWordGap, IsLoneDash, IsFurtherWord, IsPlain, IsPlainKey}
-use Rattle.yaml_laws.specs.Grammar.FlowNodes.{IsOnLine}
+use Rattle.yaml_laws.proofs.Common.{Bool, List, [], ap, append_assoc, arith, false, inl, inr, refl, subst, sym, true, ℕ, ◌++◌, ◌∙◌, ◌∷◌, ◌≡◌, ◌≢◌, ◌≤◌, not, ◌==◌, is_blank, line_feed, spaces, AreIn, AreEach, AreMany, IsGap, IsLinePrefix, IsSeparation, IsSeparationLine, joined_pieces, back_in, front_in, IsEmptyLine, IsFurtherWord, IsLoneDash, IsPlain, IsPlainKey, IsWordGap, IsOnLine}
 
 -- ## Parts of a line
 

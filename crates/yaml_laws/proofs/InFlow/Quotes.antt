@@ -1,27 +1,14 @@
 -- A quoted scalar ends right of a column that its lines reach.
-use Rattle.std.proofs.Common.{◌≡◌, ℕ, suc, ◌+◌, ◌≤◌, Bool, true, false, List, [], ◌∷◌, ◌++◌, drop, slice_index, refl, ap, arith, IsTrue, ◌⊎◌, inl, inr}
-use Rattle.std.specs.Prelude.{◌==◌, not}
-use Rattle.std.proofs.lemmas.Bool.{false≢true}
+use Rattle.yaml_laws.proofs.Common.{Bool, IsTrue, List, [], ap, arith, drop, false, inl, inr, refl, slice_index, suc, true, ℕ, ◌++◌, ◌+◌, ◌∷◌, ◌≡◌, ◌≤◌, ◌⊎◌, not, ◌==◌, false≢true, nat_tests, carriage_return, is_break, is_hex, line_feed, space, Marker, Quote, Double, Single, along, next_line, apostrophe, backslash, break_len, AreIn, le_next, back_in}
 use Rattle.scalar_laws.proofs.Breaks.Sides.{no_feed}
-use Rattle.std.proofs.lemmas.Bool.Decides.{nat_tests}
-use Rattle.saphyr_input.specs.Classes.{is_break, is_hex, space, line_feed, carriage_return}
 use Rattle.saphyr_scalar.proofs.Readings.ItemsRead.{short_escape_no_feed}
-use Rattle.saphyr_scalar.specs.declared.scalar.position.Marker.{Marker}
 use Rattle.saphyr_scalar.specs.declared.values.Item.{Item}
-use Rattle.saphyr_scalar.specs.declared.values.Quote.{Quote}
-use Rattle.saphyr_scalar.specs.declared.values.Quote.TheVariants.{Single, Double}
-use Rattle.saphyr_scalar.specs.Views.Cursor.{along, next_line}
-use Rattle.saphyr_scalar.specs.Values.Flow.{backslash, apostrophe}
 use Rattle.saphyr_scalar.specs.Spelling.OneLine.{IsNumber}
-use Rattle.saphyr_scalar.specs.Steps.Quoted.{break_len}
 use Rattle.saphyr_scalar.specs.Spelling.Quoted.{IsText, closed, itself, broken, two_quotes, escaped, numbered, escaped_break}
-use Rattle.saphyr_scalar.specs.Spelling.Tag.{AreIn}
 use Rattle.scalar_laws.specs.Spelling.QuotedLines.{space_count, IsLine, LinesFit}
 use Rattle.saphyr_scanner.proofs.Taken.OnLine.{stands_unbroken}
 use Rattle.yaml_laws.proofs.Flow.States.{moved}
 use Rattle.yaml_laws.proofs.Flow.Places.{moved_append, right_along}
-use Rattle.saphyr_input.proofs.Basics.Numbers.{le_next}
-use Rattle.scalar_laws.proofs.Beginnings.{back_in}
 
 -- What is at a place is right of a column, or is so after spaces, or spaces end the line.
 abbrev pub Reaches : ℕ → Marker → List ℕ → Type 0

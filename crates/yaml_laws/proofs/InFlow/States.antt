@@ -1,27 +1,11 @@
 -- States of a scanner that reads a node in flow style, whatever block collections are open around it.
-use Rattle.std.proofs.Common.{◌≡◌, ◌⊎◌, ℕ, ◌<◌, ◌≤◌, Bool, true, false, List, [], ◌∷◌, ◌++◌, length, Ok, refl, ap, ◌∙◌, arith, cond}
-use Rattle.std.specs.Prelude.{◌-◌, ◌||◌, ◌&&◌, not, nat_lt, Option, Some, None, if◌then◌else◌}
-use Rattle.saphyr_input.specs.declared.input.SkipTabs.{SkipTabs}
-use Rattle.saphyr_input.specs.declared.input.SkipTabs.TheVariants.{Yes}
-use Rattle.saphyr_scalar.specs.declared.scalar.position.Marker.{Marker}
-use Rattle.saphyr_scalar.specs.Views.Cursor.{Cursor, ◌>>=◌, along, separation}
-use Rattle.saphyr_scanner.specs.declared.engine.level.Context.{Context}
+use Rattle.yaml_laws.proofs.Common.{Bool, List, Ok, [], ap, arith, cond, false, length, refl, true, ℕ, ◌++◌, ◌<◌, ◌∙◌, ◌∷◌, ◌≡◌, ◌≤◌, ◌⊎◌, None, Option, Some, if◌then◌else◌, nat_lt, not, ◌&&◌, ◌-◌, ◌||◌, SkipTabs, Yes, Marker, Cursor, along, separation, ◌>>=◌, Context, Kind, Place, Candidate, Level, is_block, State, on_core, most_open, LeadsTo, leads_on, onward, stay, cursor_at, le-leb, level_of, saved, queue_of}
 use Rattle.saphyr_scanner.specs.declared.engine.level.Context.TheVariants as context
-use Rattle.saphyr_scanner.specs.Grammar.Tokens.{Kind}
-use Rattle.saphyr_scanner.specs.Steps.Queue.{Place}
 use Rattle.saphyr_scanner.specs.Steps.Core.{Core, is_too_far, drop_far_key, save_key, from_to, completed_step}
-use Rattle.saphyr_scanner.specs.Steps.Level.{Candidate, Level, is_block}
 use Rattle.saphyr_scanner.specs.Steps.Flow as flow
 use Rattle.saphyr_scanner.specs.Steps.Flow.{open_collection, close_collection, allow_adjacent, behind_pair}
-use Rattle.saphyr_scanner.specs.Steps.State.{State, on_core}
 use Rattle.saphyr_scanner.specs.Steps.Unrolling.{end_blocks, unroll}
 use Rattle.saphyr_scanner.specs.Steps.Fetch.{fetch, check_limit, fetch_within}
-use Rattle.saphyr_scanner.specs.Limits.{most_open}
-use Rattle.saphyr_scanner.proofs.Leads.{LeadsTo, stay, onward, leads_on}
-use Rattle.saphyr_scalar.proofs.Given.{cursor_at}
-use Rattle.std.proofs.lemmas.Bool.{le-leb}
-use Rattle.saphyr_scanner.proofs.Levels.{saved, level_of}
-use Rattle.saphyr_scanner.proofs.Queues.{queue_of}
 
 -- ## What stays as it is
 

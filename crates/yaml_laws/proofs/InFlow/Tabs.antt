@@ -1,21 +1,12 @@
 -- The tabs and breaks that a plain scalar's reader passes after a scalar, where a token or the text's end is reached.
-use Rattle.std.proofs.Common.{◌≡◌, ℕ, ◌+◌, ◌≤◌, Bool, true, false, List, [], ◌∷◌, drop, slice_index, refl, sym, ap, ◌∙◌, arith, ◌⊎◌, inl, inr}
-use Rattle.std.specs.Prelude.{◌||◌, ◌&&◌, ◌==◌, not, nat_lt, if◌then◌else◌}
+use Rattle.yaml_laws.proofs.Common.{Bool, List, [], ap, arith, drop, false, inl, inr, refl, slice_index, sym, true, ℕ, ◌+◌, ◌∙◌, ◌∷◌, ◌≡◌, ◌≤◌, ◌⊎◌, if◌then◌else◌, nat_lt, not, ◌&&◌, ◌==◌, ◌||◌, nat_tests, is_blank, is_break, line_feed, is_blank_or_break, Marker, Cursor, along, next_line, behind_blanks, is_tabbed, past_white, reaches_tabbed, stands_behind_tab, blank_no_break, return_breaks, and_true_right, clash}
 use Rattle.std.specs.List.{prefix_len}
-use Rattle.std.proofs.lemmas.Bool.Decides.{nat_tests}
-use Rattle.saphyr_input.specs.Classes.{is_blank, is_break, line_feed}
-use Rattle.saphyr_input.specs.Places.{is_blank_or_break}
-use Rattle.saphyr_scalar.specs.declared.scalar.position.Marker.{Marker}
-use Rattle.saphyr_scalar.specs.Views.Cursor.{Cursor, along, next_line}
 use Rattle.saphyr_scalar.specs.Steps.Plain.{ends_line}
-use Rattle.scalar_laws.specs.Spelling.Plain.{behind_blanks, reaches_tabbed, is_tabbed, stands_behind_tab, past_white}
 use Rattle.scalar_laws.proofs.Plain.Texts.{blanks_on}
 use Rattle.scalar_laws.proofs.Plain.White.{flag_on, tabbed_on, tabbed_stop, past_on, past_stop}
 use Rattle.yaml_laws.proofs.Flow.States.{is_filler_rest, past, EndsDocument, IsLeft}
 use Rattle.yaml_laws.proofs.Flow.Gaps.{is_return_at, is_white_at, stops_tab, stop_blank, no_rest, no_tab_before, no_tab_here}
 use Rattle.yaml_laws.proofs.Flow.GapWalks.{OverGap, over_gap}
-use Rattle.saphyr_input.proofs.Basics.Characters.{blank_no_break, return_breaks}
-use Rattle.saphyr_input.proofs.Basics.Booleans.{and_true_right, clash}
 
 -- ## What is landed at is no blank
 

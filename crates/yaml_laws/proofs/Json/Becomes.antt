@@ -1,9 +1,5 @@
 -- What a piece of a text becomes where the text's breaks are normalized.
-use Rattle.std.proofs.Common.{◌≡◌, ℕ, true, false, List, [], ◌∷◌, ◌++◌, refl, arith, append_assoc, inl, inr}
-use Rattle.std.specs.Prelude.{◌==◌}
-use Rattle.std.proofs.lemmas.Bool.Decides.{nat_tests}
-use Rattle.saphyr_input.specs.Breaks.{normal_break, normalized}
-use Rattle.saphyr_scalar.specs.Spelling.Tag.{AreIn}
+use Rattle.yaml_laws.proofs.Common.{List, [], append_assoc, arith, false, inl, inr, refl, true, ℕ, ◌++◌, ◌∷◌, ◌≡◌, ◌==◌, nat_tests, normal_break, normalized, AreIn}
 use Rattle.yaml_laws.specs.Grammar.Json.{IsWhite, IsWhiteSpace}
 use Rattle.yaml_laws.proofs.Json.White.{is_white}
 use Rattle.yaml_laws.proofs.Json.Calm.{is_no_break}

@@ -1,11 +1,5 @@
 -- No document marker begins a line of a text of JSON. A piece is calm where it brings none, whatever it comes before.
-use Rattle.std.proofs.Common.{◌≡◌, ℕ, Bool, true, false, List, [], ◌∷◌, ◌++◌, refl, arith, append_assoc}
-use Rattle.std.specs.Prelude.{◌==◌, not}
-use Rattle.std.proofs.lemmas.Bool.Decides.{nat_tests}
-use Rattle.saphyr_input.specs.Classes.{is_break}
-use Rattle.saphyr_input.specs.Places.{is_document_indicator}
-use Rattle.saphyr_scalar.specs.Spelling.Tag.{AreIn}
-use Rattle.yaml_laws.specs.Grammar.Yaml.{has_marker}
+use Rattle.yaml_laws.proofs.Common.{Bool, List, [], append_assoc, arith, false, refl, true, ℕ, ◌++◌, ◌∷◌, ◌≡◌, not, ◌==◌, nat_tests, is_break, is_document_indicator, AreIn, has_marker}
 use Rattle.yaml_laws.proofs.Json.White.{is_white}
 
 abbrev pub IsCalm : List ℕ → Type 0

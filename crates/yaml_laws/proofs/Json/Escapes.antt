@@ -1,8 +1,5 @@
 -- The escapes of JSON's strings are escapes of double quoted scalars.
-use Rattle.std.proofs.Common.{◌≡◌, ℕ, ◌+◌, ◌*◌, ◌<◌, ◌≤◌, List, refl, arith, IsTrue, inl, inr}
-use Rattle.std.specs.Prelude.{Some}
-use Rattle.std.proofs.lemmas.Bool.Decides.{nat_tests}
-use Rattle.saphyr_input.specs.Classes.{IsHex, is_hex, hex_value}
+use Rattle.yaml_laws.proofs.Common.{IsTrue, List, arith, inl, inr, refl, ℕ, ◌*◌, ◌+◌, ◌<◌, ◌≡◌, ◌≤◌, Some, nat_tests, IsHex, hex_value, is_hex}
 use Rattle.saphyr_scalar.specs.Values.Escapes.{is_scalar_value, short_escape}
 use Rattle.saphyr_scalar.specs.Spelling.OneLine as spelling
 use Rattle.saphyr_scanner.specs.Grammar.Characters.{IsSurrogate}

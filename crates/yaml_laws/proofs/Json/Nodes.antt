@@ -1,9 +1,5 @@
 -- Each value of JSON becomes a node in flow style, with white space round it: by one recursion on the tree.
-use Rattle.std.proofs.Common.{◌≡◌, ℕ, suc, ◌+◌, ◌≤◌, Bool, true, List, [], ◌∷◌, ◌++◌, refl, sym, arith, append_assoc, append-nil, codes, IsTrue, inl, inr}
-use Rattle.std.specs.Prelude.{max, zero}
-use Rattle.saphyr_scalar.specs.Spelling.Tag.{AreIn}
-use Rattle.saphyr_scanner.specs.Grammar.Forest.{Plain, SingleQuoted, DoubleQuoted, Literal, Folded, no_properties, Properties, Node, Alias, Scalar, Seq, Map, Nodes, NoNode, MoreNodes, Pairs, NoPair, MorePairs, open_collections, open_in_nodes, open_in_pairs}
-use Rattle.yaml_laws.specs.Grammar.FlowNodes.{IsFlowNode, AreItems, AreOtherItems, AreFlowPairs, AreOtherFlowPairs}
+use Rattle.yaml_laws.proofs.Common.{Bool, IsTrue, List, [], append-nil, append_assoc, arith, codes, inl, inr, refl, suc, sym, true, ℕ, ◌++◌, ◌+◌, ◌∷◌, ◌≡◌, ◌≤◌, max, zero, AreIn, Alias, DoubleQuoted, Folded, Literal, Map, MoreNodes, MorePairs, NoNode, NoPair, Node, Nodes, Pairs, Plain, Properties, Scalar, Seq, SingleQuoted, no_properties, open_collections, open_in_nodes, open_in_pairs, AreFlowPairs, AreItems, AreOtherFlowPairs, AreOtherItems, IsFlowNode}
 use Rattle.yaml_laws.specs.Grammar.Json.{IsWhiteSpace, IsStructural, IsMemberName, IsValue, AreElements, AreOtherElements, AreMembers, AreOtherMembers, IsString, IsWord}
 use Rattle.yaml_laws.proofs.Json.WordCharacters.{word_safe}
 use Rattle.yaml_laws.proofs.Json.White.{is_white}

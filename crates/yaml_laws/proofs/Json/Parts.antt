@@ -1,10 +1,6 @@
 -- The parts of a text of JSON, joined to items and pairs of YAML's grammar: white space of both sides of a mark comes
 -- together, and that after a value belongs to the value's item.
-use Rattle.std.proofs.Common.{◌≡◌, ℕ, suc, Bool, true, not, List, [], ◌++◌, refl, ap, ◌∙◌, append_assoc, codes, IsTrue, inl, inr, arith}
-use Rattle.saphyr_scalar.specs.Spelling.Tag.{AreIn}
-use Rattle.saphyr_scanner.specs.Grammar.Forest.{Properties, no_properties, Node, Seq, Map, Nodes, MoreNodes, Pairs, MorePairs}
-use Rattle.scalar_laws.specs.Spelling.Spaces.{IsSeparation}
-use Rattle.yaml_laws.specs.Grammar.FlowNodes.{needs_separation, allows_adjacent, IsComma, IsPair, IsBeforeSeparation, IsFlowNode, AreItems, AreOtherItems, AreFlowPairs, AreOtherFlowPairs}
+use Rattle.yaml_laws.proofs.Common.{Bool, IsTrue, List, [], ap, append_assoc, arith, codes, inl, inr, not, refl, suc, true, ℕ, ◌++◌, ◌∙◌, ◌≡◌, AreIn, Map, MoreNodes, MorePairs, Node, Nodes, Pairs, Properties, Seq, no_properties, IsSeparation, AreFlowPairs, AreItems, AreOtherFlowPairs, AreOtherItems, IsBeforeSeparation, IsComma, IsFlowNode, IsPair, allows_adjacent, needs_separation}
 use Rattle.yaml_laws.proofs.Json.White.{is_white, white_separates}
 use Rattle.yaml_laws.proofs.Json.Calm.{IsCalm, calm_both, calm_character, white_calm}
 use Rattle.yaml_laws.proofs.Json.Becomes.{white_both}

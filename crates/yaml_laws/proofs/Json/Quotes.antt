@@ -1,19 +1,11 @@
 -- The strings of JSON are double quoted scalars of YAML's grammar, on one line.
-use Rattle.std.proofs.Common.{◌≡◌, ℕ, true, false, List, [], ◌∷◌, ◌++◌, refl, ap, arith, append_assoc, codes, inl, inr}
-use Rattle.std.specs.Prelude.{◌==◌}
-use Rattle.std.proofs.lemmas.Bool.Decides.{nat_tests}
-use Rattle.saphyr_input.specs.Classes.{IsHex}
+use Rattle.yaml_laws.proofs.Common.{List, [], ap, append_assoc, arith, codes, false, inl, inr, refl, true, ℕ, ◌++◌, ◌∷◌, ◌≡◌, ◌==◌, nat_tests, IsHex, AreIn, Double, raw_item, both_in, IsQuoted}
 use Rattle.saphyr_scalar.specs.Spelling.Quoted.{stands_for_itself, IsText, closed, itself, escaped, numbered}
-use Rattle.saphyr_scalar.specs.Spelling.Tag.{AreIn}
-use Rattle.saphyr_scalar.specs.declared.values.Quote.TheVariants.{Double}
 use Rattle.saphyr_scalar.specs.declared.values.Item.{Item}
 use Rattle.saphyr_scalar.specs.declared.values.Item.TheVariants.{Blank, Raw, Escaped, Break, EscapedBreak}
-use Rattle.saphyr_scalar.specs.Values.Flow.{raw_item}
 use Rattle.saphyr_scalar.specs.Values.Folding.{folded, is_before_break}
 use Rattle.scalar_laws.specs.Spelling.QuotedLines.{AreOnLine}
-use Rattle.scalar_laws.proofs.Beginnings.{both_in}
 use Rattle.scalar_laws.proofs.Quoted.Reads.{line_fits}
-use Rattle.yaml_laws.specs.Grammar.FlowScalars.{IsQuoted}
 use Rattle.yaml_laws.specs.Grammar.Json.{IsUnescaped, IsJsonEscape, IsJsonSpelling, AreSpellings, IsString}
 use Rattle.yaml_laws.proofs.Json.Escapes.{short_fits, code_fits}
 use Rattle.yaml_laws.proofs.Json.Calm.{IsCalm, is_no_break, calm_line}

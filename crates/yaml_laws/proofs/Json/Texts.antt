@@ -1,11 +1,5 @@
 -- A text of JSON is a text of YAML's grammar: its value is the node of a bare document, in flow style.
-use Rattle.std.proofs.Common.{◌≡◌, ℕ, ◌≤◌, true, false, List, [], ◌∷◌, ◌++◌, refl, sym, ap, ◌∙◌, append_assoc, append-nil, inl, inr}
-use Rattle.saphyr_input.specs.Breaks.{normalized}
-use Rattle.saphyr_scalar.specs.Spelling.Tag.{AreIn}
-use Rattle.saphyr_scanner.specs.Grammar.Forest.{Node, Alias, Scalar, Seq, Map, bare, Forest, open_collections, open_in_forest}
-use Rattle.yaml_laws.specs.Grammar.BlockNodes.{AtStart, IsFlowInBlock, IsBlockNode}
-use Rattle.yaml_laws.specs.Grammar.FlowNodes.{IsFlowNode}
-use Rattle.yaml_laws.specs.Grammar.Yaml.{has_marker, no_prefix, IsYaml, IsYamlText}
+use Rattle.yaml_laws.proofs.Common.{List, [], ap, append-nil, append_assoc, false, inl, inr, refl, sym, true, ℕ, ◌++◌, ◌∙◌, ◌∷◌, ◌≡◌, ◌≤◌, normalized, AreIn, Alias, Forest, Map, Node, Scalar, Seq, bare, open_collections, open_in_forest, AtStart, IsBlockNode, IsFlowInBlock, IsFlowNode, IsYaml, IsYamlText, has_marker, no_prefix}
 use Rattle.yaml_laws.specs.Grammar.Json.{IsJsonText, IsJson}
 use Rattle.yaml_laws.proofs.Json.White.{is_white, white_gap, white_ends}
 use Rattle.yaml_laws.proofs.Json.Calm.{IsCalm, calm_both, white_calm}

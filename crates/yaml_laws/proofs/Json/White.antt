@@ -1,11 +1,6 @@
 -- Blanks and line feeds are white space of YAML's grammar, wherever they are: separation, filler, what is
 -- before a document's node, and the end of its line with what follows that.
-use Rattle.std.proofs.Common.{◌≡◌, ℕ, Bool, true, List, [], ◌∷◌, ◌++◌, refl, sym, ap, ◌∙◌, arith, append_assoc, append-nil, codes, inl, inr}
-use Rattle.std.specs.Prelude.{◌||◌, ◌==◌}
-use Rattle.saphyr_input.specs.Classes.{is_blank, line_feed}
-use Rattle.saphyr_scalar.specs.Spelling.Tag.{AreIn}
-use Rattle.scalar_laws.specs.Spelling.Spaces.{joined_pieces, AreEach, IsLineRest, IsLineEnd, IsEol, IsFillerText, IsFillerLine, IsFiller, IsLastFiller, IsSeparationLine, IsSeparation}
-use Rattle.yaml_laws.specs.Grammar.BlockNodes.{AtStart, IsGapAt}
+use Rattle.yaml_laws.proofs.Common.{Bool, List, [], ap, append-nil, append_assoc, arith, codes, inl, inr, refl, sym, true, ℕ, ◌++◌, ◌∙◌, ◌∷◌, ◌≡◌, ◌==◌, ◌||◌, is_blank, line_feed, AreIn, AreEach, IsEol, IsFiller, IsFillerLine, IsFillerText, IsLastFiller, IsLineEnd, IsLineRest, IsSeparation, IsSeparationLine, joined_pieces, AtStart, IsGapAt}
 
 -- a blank or a line feed
 abbrev pub is_white : ℕ → Bool

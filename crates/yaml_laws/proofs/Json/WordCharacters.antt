@@ -1,10 +1,5 @@
 -- The characters of a word of JSON: each goes on with a plain scalar, and the first may begin one.
-use Rattle.std.proofs.Common.{◌≡◌, ℕ, List, [], ◌∷◌, ◌++◌, refl, arith, IsTrue, ◌⊎◌, inl, inr, codes}
-use Rattle.std.proofs.lemmas.Bool.Decides.{nat_tests}
-use Rattle.saphyr_input.specs.Indicators.{hyphen}
-use Rattle.saphyr_input.specs.Classes.{IsDigit}
-use Rattle.saphyr_scalar.specs.Spelling.Tag.{AreIn}
-use Rattle.scalar_laws.specs.Spelling.Plain.{is_always_plain}
+use Rattle.yaml_laws.proofs.Common.{IsTrue, List, [], arith, codes, inl, inr, refl, ℕ, ◌++◌, ◌∷◌, ◌≡◌, ◌⊎◌, nat_tests, hyphen, IsDigit, AreIn, is_always_plain}
 use Rattle.saphyr_scanner.specs.Grammar.Characters.{AreAll}
 use Rattle.yaml_laws.specs.Grammar.Json.{IsInteger, IsFraction, IsExponent, IsJsonNumber, IsWord}
 

@@ -1,15 +1,5 @@
 -- The words of JSON are plain scalars of YAML's grammar, of one word.
-use Rattle.std.proofs.Common.{◌≡◌, ◌≢◌, ℕ, Bool, true, false, List, [], ◌∷◌, ◌++◌, refl, sym, ap, ◌∙◌, arith, subst, append-nil, codes, ◌⊎◌, inl, inr, slice_index}
-use Rattle.std.specs.Prelude.{◌&&◌, ◌==◌, not}
-use Rattle.std.proofs.lemmas.Bool.Decides.{nat_tests}
-use Rattle.saphyr_input.specs.Classes.{IsDigit, is_blank, is_blank_or_breakz, is_flow, is_bom}
-use Rattle.saphyr_input.specs.Indicators.{colon, hyphen, number_sign}
-use Rattle.saphyr_input.specs.Places.{is_document_indicator}
-use Rattle.saphyr_scalar.specs.Spelling.Tag.{AreIn}
-use Rattle.saphyr_scalar.specs.Values.Flow.{plain_value}
-use Rattle.scalar_laws.specs.Spelling.Plain.{is_always_plain, is_plain_safe, ArePlainSafe, IsWordIn}
-use Rattle.yaml_laws.specs.Grammar.FlowScalars.{begins_plain, IsFirstWord, IsFlowScalar}
-use Rattle.saphyr_scanner.specs.Grammar.Forest.{Plain}
+use Rattle.yaml_laws.proofs.Common.{Bool, List, [], ap, append-nil, arith, codes, false, inl, inr, refl, slice_index, subst, sym, true, ℕ, ◌++◌, ◌∙◌, ◌∷◌, ◌≡◌, ◌≢◌, ◌⊎◌, not, ◌&&◌, ◌==◌, nat_tests, IsDigit, is_blank, is_blank_or_breakz, is_bom, is_flow, colon, hyphen, number_sign, is_document_indicator, AreIn, plain_value, ArePlainSafe, IsWordIn, is_always_plain, is_plain_safe, IsFirstWord, IsFlowScalar, begins_plain, Plain}
 use Rattle.yaml_laws.specs.Grammar.Json.{IsWord}
 use Rattle.yaml_laws.proofs.Json.WordCharacters.{BeginsWithDigit, word_safe, word_begins}
 use Rattle.yaml_laws.proofs.Json.Calm.{IsCalm, is_no_break, calm_line}

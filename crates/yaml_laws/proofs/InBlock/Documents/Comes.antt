@@ -1,15 +1,5 @@
 -- The scanner comes to each document marker that begins a line of a text.
-use Rattle.std.proofs.Common.{◌≡◌, ℕ, Bool, true, false, List, [], ◌∷◌, ◌++◌, sym, ap, ◌∙◌, append_assoc, inl, inr, IsTrue}
-use Rattle.std.specs.Prelude.{◌==◌}
-use Rattle.saphyr_input.specs.Classes.{line_feed}
-use Rattle.saphyr_input.specs.Indicators.{full_stop}
-use Rattle.saphyr_input.specs.Places.{is_document_indicator}
-use Rattle.scalar_laws.specs.Spelling.Spaces.{IsFiller, IsEol}
-use Rattle.saphyr_scanner.specs.Grammar.Forest.{Document}
-use Rattle.saphyr_scanner.specs.Grammar.Tokens.{Kind}
-use Rattle.saphyr_scanner.specs.Limits.{most_open}
-use Rattle.saphyr_scanner.specs.Steps.State.{State}
-use Rattle.yaml_laws.specs.Grammar.BlockNodes.{BehindMarker, AtStart, IsBlockNode}
+use Rattle.yaml_laws.proofs.Common.{Bool, IsTrue, List, [], ap, append_assoc, false, inl, inr, sym, true, ℕ, ◌++◌, ◌∙◌, ◌∷◌, ◌≡◌, ◌==◌, line_feed, full_stop, is_document_indicator, IsEol, IsFiller, Document, Kind, most_open, State, AtStart, BehindMarker, IsBlockNode}
 use Rattle.yaml_laws.specs.Grammar.Yaml as yaml
 use Rattle.yaml_laws.proofs.Flow.States.{marks_line, ReaderPromises}
 use Rattle.yaml_laws.proofs.Documents.Lines.{passes_filler}

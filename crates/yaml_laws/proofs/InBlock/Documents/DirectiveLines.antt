@@ -1,14 +1,8 @@
 -- No document marker begins a line of directives.
-use Rattle.std.proofs.Common.{◌≡◌, ℕ, ◌||◌, false, List, [], ◌∷◌, ◌++◌, slice_index, encode_utf8_all, refl, sym, arith, subst}
-use Rattle.std.specs.Prelude.{◌==◌}
-use Rattle.std.proofs.lemmas.Bool.Decides.{nat_tests}
-use Rattle.saphyr_input.specs.Classes.{is_alpha}
-use Rattle.saphyr_input.specs.Indicators.{exclamation_mark, percent_sign}
+use Rattle.yaml_laws.proofs.Common.{List, [], arith, encode_utf8_all, false, refl, slice_index, subst, sym, ℕ, ◌++◌, ◌||◌, ◌∷◌, ◌≡◌, ◌==◌, nat_tests, is_alpha, exclamation_mark, percent_sign, Directive, Reserved, TagPrefix, Version, AreDirectives, IsDirective}
 use Rattle.saphyr_scalar.specs.Spelling.Directive.{ReadDirective, version, tag_prefix, reserved, AreSomeBlanks, IsTagDirective, IsReadTagDirective, IsReadDirective, IsLineTail}
 use Rattle.saphyr_scalar.proofs.NoBreaks.{NoBreaks, no_breaks_both, directive_no_break}
 use Rattle.saphyr_scanner.proofs.LineTexts.{tail_no_break}
-use Rattle.saphyr_scanner.specs.Grammar.Forest.{Directive, Version, TagPrefix, Reserved}
-use Rattle.yaml_laws.specs.Grammar.Yaml.{IsDirective, AreDirectives}
 use Rattle.yaml_laws.proofs.InBlock.Skips.{nothing, one_break, filler_skipped}
 use Rattle.yaml_laws.proofs.InBlock.LineStarts.{IsUnmarked, both_unmarked, line_unmarked, skipped_unmarked}
 

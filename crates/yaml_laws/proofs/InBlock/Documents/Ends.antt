@@ -1,16 +1,6 @@
 -- What comes after a document ends it, or begins with a document marker (YAML 1.2.2, chapter 9).
-use Rattle.std.proofs.Common.{◌≡◌, ℕ, Bool, true, List, [], ◌∷◌, ◌++◌, slice_index, refl, append_assoc, ◌⊎◌, inl, inr, arith}
-use Rattle.std.specs.Prelude.{◌==◌, not}
-use Rattle.saphyr_input.specs.Classes.{is_blank_or_breakz, carriage_return, byte_order_mark}
-use Rattle.saphyr_scalar.specs.declared.scalar.position.Marker.{Marker}
-use Rattle.saphyr_scalar.specs.Spelling.Tag.{AreIn}
-use Rattle.scalar_laws.specs.Spelling.Spaces.{IsFiller, IsLastFiller, joined_pieces}
-use Rattle.saphyr_scanner.specs.Grammar.Forest.{Node, Document, Forest}
-use Rattle.saphyr_scanner.specs.Limits.{most_open}
-use Rattle.yaml_laws.specs.Grammar.BlockNodes.{BehindMarker, IsBlockNode, EndsContent}
+use Rattle.yaml_laws.proofs.Common.{Bool, List, [], append_assoc, arith, inl, inr, refl, slice_index, true, ℕ, ◌++◌, ◌∷◌, ◌≡◌, ◌⊎◌, not, ◌==◌, byte_order_mark, carriage_return, is_blank_or_breakz, Marker, AreIn, IsFiller, IsLastFiller, joined_pieces, Document, Forest, Node, most_open, BehindMarker, EndsContent, IsBlockNode, AreDirectives, AreDocuments, false≢true, full_stop}
 use Rattle.yaml_laws.specs.Grammar.Yaml as yaml
-use Rattle.yaml_laws.specs.Grammar.Yaml.{AreDirectives, AreDocuments}
-use Rattle.yaml_laws.proofs.Flow.States.{EndsDocument, past}
 use Rattle.yaml_laws.proofs.Flow.Fillers.{last_filler_past}
 use Rattle.yaml_laws.proofs.Documents.Lines.{eol, eol_first, filler_at_line}
 use Rattle.yaml_laws.proofs.Documents.Markers.{start_ends, end_ends}
@@ -18,9 +8,7 @@ use Rattle.yaml_laws.proofs.Documents.Stands.{AtLine}
 use Rattle.yaml_laws.proofs.InBlock.Skips.{IsClean, skipped_clean, filler_skipped, rest_ends_clean, skipped_passes}
 use Rattle.yaml_laws.proofs.InBlock.Statements.{ReadsLeaves}
 use Rattle.yaml_laws.proofs.InBlock.BehindIndicators.{node_behind}
-use Rattle.std.proofs.lemmas.Bool.{false≢true}
-use Rattle.saphyr_input.specs.Indicators.{full_stop, hyphen}
-use Rattle.yaml_laws.proofs.InBlock.States.{IsStop}
+use Rattle.yaml_laws.proofs.InBlock.States.{IsStop, EndsDocument, past}
 
 -- the documents of a text of YAML's grammar
 abbrev pub AreBlockDocuments : Forest → Bool → List ℕ → Type 0
@@ -34,21 +22,35 @@ HasNoReturn t = AreIn (λ c. not (c == carriage_return)) t
 abbrev pub Lands : Marker → List ℕ → Type 0
 Lands m o = EndsDocument (past 0 m o).0 (past 0 m o).1
 
--- after a document no tab comes before the next token on its line
-pub record IsPlainBehind (o : List ℕ) : Type 0 where
+-- What comes after a document: no tab is before the next token on its line, and that token ends the document.
+pub record FollowsDocument (o : List ℕ) : Type 0 where
   pub clean : IsClean o
+  pub lands : (m : Marker) → AtLine o m → Lands m o
 
 -- ## What comes after a document ends it
 
 pub no_directives : (d : Document) (t : List ℕ) → d.directives ≡ [] → AreDirectives d.directives t → t ≡ []
 no_directives d t e h = rw e at h
 
-plain_marked : (filler : List ℕ) (c : ℕ) (cs o : List ℕ) → IsFiller filler → o ≡ filler ++ (c ∷ cs)
-    → IsStop (c ∷ cs) → IsPlainBehind o
-plain_marked filler c cs o filler_is e stops = grind (arith, skipped_clean, filler_skipped)
+marked_clean : (filler : List ℕ) (c : ℕ) (cs o : List ℕ) → IsFiller filler → o ≡ filler ++ (c ∷ cs)
+    → IsStop (c ∷ cs) → IsClean o
+marked_clean filler c cs o filler_is e stops = grind (arith, skipped_clean, filler_skipped)
 
-last_plain : (o : List ℕ) → IsLastFiller o → IsPlainBehind o
-last_plain o (filler, text, filler_is, (front, comment, are, k, text_is), is) =
+marked_lands : (filler : List ℕ) (c : ℕ) (cs o : List ℕ) → IsFiller filler → o ≡ filler ++ (c ∷ cs)
+    → IsStop (c ∷ cs) → EndsContent (c ∷ cs) → (m : Marker) → AtLine o m → Lands m o
+marked_lands filler c cs o filler_is e stops ends m line =
+    grind (arith, skipped_passes, filler_skipped, filler_at_line)
+
+-- after filler a document marker or a byte order mark begins a line
+marked_follows : (filler : List ℕ) (c : ℕ) (cs o : List ℕ) → IsFiller filler → o ≡ filler ++ (c ∷ cs)
+    → IsStop (c ∷ cs) → EndsContent (c ∷ cs) → FollowsDocument o
+marked_follows filler c cs o filler_is e stops ends = record {
+  clean = marked_clean filler c cs o filler_is e stops;
+  lands = marked_lands filler c cs o filler_is e stops ends;
+}
+
+last_clean : (o : List ℕ) → IsLastFiller o → IsClean o
+last_clean o (filler, text, filler_is, (front, comment, are, k, text_is), is) =
     grind (arith, skipped_clean, filler_skipped, rest_ends_clean)
 
 -- a `...` line before what comes after it
@@ -76,64 +78,24 @@ marks_first Others o (marks, others, (piece ∷ pieces, ((filler, filler_is, is)
       cc (marks_text piece filler (joined_pieces pieces) others is),
     )
 
-plain_unmarked : (ds : Forest) (o : List ℕ) → yaml.IsBehindMarks (AreBlockDocuments ds) o → IsPlainBehind o
-plain_unmarked [] o (inl h) = last_plain o h
-plain_unmarked (d ∷ ds) o (inl (filler, document, others, filler_is, inl h, behind, e)) = absurd (false≢true h.0)
-plain_unmarked (d ∷ ds) o (inl (filler, document, others, filler_is, inr (inl h, is), behind, e)) =
-    absurd (false≢true h)
-plain_unmarked (d ∷ ds) o (inl (
-  filler,
-  document,
-  others,
-  filler_is,
-  inr (inr none, (directives, node, explicit, compatible, directives_are, unmarked, node_is, text)),
-  behind,
-  e,
-)) =
-    let empty = no_directives d directives none directives_are in
-    let begins : document ≡ hyphen ∷ hyphen ∷ hyphen ∷ node = cc in
-    plain_marked filler 45 (hyphen ∷ hyphen ∷ (node ++ others)) o filler_is (cc) (refl, refl, refl)
-plain_unmarked ds o (inr (suffix, others, (filler, end, prefix, filler_is, end_is, prefix_is, text), behind, e)) =
-    let whole : o ≡ filler ++ (46 ∷ 46 ∷ 46 ∷ (end ++ (prefix ++ others))) =
-    cc (suffix_text filler end prefix others) in
-    plain_marked filler 46 (46 ∷ 46 ∷ (end ++ (prefix ++ others))) o filler_is whole (refl, refl, refl)
-
-pub plain_behind : (ds : Forest) (o : List ℕ) → yaml.IsBehindDocument (AreBlockDocuments ds) o → IsPlainBehind o
-plain_behind ds o h = by_first (marks_first (AreBlockDocuments ds) o h)
-  where
-    by_first : yaml.IsBehindMarks (AreBlockDocuments ds) o
-        ⊎ ((filler rest : List ℕ) × IsFiller filler × (o ≡ filler ++ (byte_order_mark ∷ rest))) → IsPlainBehind o
-    by_first (inl k) = plain_unmarked ds o k
-    by_first (inr (filler, rest, filler_is, e)) = plain_marked filler 65279 rest o filler_is e (refl, refl, refl)
-
 -- after `---` is a blank or a break
 pub explicit_first : {limit : ℕ} → ReadsLeaves limit → (node : Node) (t others : List ℕ)
-    → IsBlockNode most_open node BehindMarker t others → IsPlainBehind others
+    → IsBlockNode most_open node BehindMarker t others → FollowsDocument others
     → is_blank_or_breakz (slice_index (t ++ others) 0) ≡ true
-explicit_first leaves node t others h plain =
-    let b = node_behind leaves node BehindMarker t others refl h plain.clean in b.first
+explicit_first leaves node t others h follows = let b = node_behind leaves node BehindMarker t others refl h follows.clean in b.first
 
--- after filler a document marker or a byte order mark begins a line
-record OpensMarker (o : List ℕ) : Type 0 where
-  filler : List ℕ
-  filler_is : IsFiller filler
-  first : ℕ
-  others : List ℕ
-  stops : IsStop (first ∷ others)
-  ends : EndsContent (first ∷ others)
-  is : o ≡ filler ++ (first ∷ others)
-
-lands_marked : (o : List ℕ) → OpensMarker o → (m : Marker) → AtLine o m → Lands m o
-lands_marked o k m line = grind (arith, skipped_passes, filler_skipped, filler_at_line)
-
-opens_unmarked : {limit : ℕ} → ReadsLeaves limit → (ds : Forest) (o : List ℕ)
-    → yaml.IsBehindMarks (AreBlockDocuments ds) o → ((ds ≡ []) × IsLastFiller o) ⊎ OpensMarker o
-opens_unmarked leaves [] o (inl h) = inl (refl, h)
-opens_unmarked leaves (d ∷ ds) o (inl (filler, document, others, filler_is, inl h, behind, e)) = absurd (false≢true h.0)
-opens_unmarked leaves (d ∷ ds) o (inl (filler, document, others, filler_is, inr (inl h, is), behind, e)) =
+-- Filler alone, a document marker or a byte order mark comes after a document. What is known of a `---` needs what is
+-- known after its own document, so this goes by recursion over the documents.
+follows_first : {limit : ℕ} → ReadsLeaves limit → (ds : Forest) (o : List ℕ) → yaml.IsBehindMarks (AreBlockDocuments ds) o
+    ⊎ ((filler rest : List ℕ) × IsFiller filler × (o ≡ filler ++ (byte_order_mark ∷ rest))) → FollowsDocument o
+follows_first leaves [] o (inl (inl h)) =
+    record { clean = last_clean o h; lands = λ m line. inl (cc (last_filler_past 0 m o h)) }
+follows_first leaves (d ∷ ds) o (inl (inl (filler, document, others, filler_is, inl h, behind, e))) =
+    absurd (false≢true h.0)
+follows_first leaves (d ∷ ds) o (inl (inl (filler, document, others, filler_is, inr (inl h, is), behind, e))) =
     absurd (false≢true h)
-opens_unmarked leaves (d ∷ ds) o
-    (inl (
+follows_first leaves (d ∷ ds) o
+    (inl (inl (
       filler,
       document,
       others,
@@ -141,63 +103,21 @@ opens_unmarked leaves (d ∷ ds) o
       inr (inr none, (directives, node, explicit, compatible, directives_are, unmarked, node_is, text)),
       behind,
       e,
-    )) =
+    ))) =
     let empty = no_directives d directives none directives_are in
     let begins : document ≡ 45 ∷ 45 ∷ 45 ∷ node = cc in
-    inr (record {
-      filler = filler;
-      filler_is = filler_is;
-      first = 45;
-      others = 45 ∷ 45 ∷ (node ++ others);
-      stops = (refl, refl, refl);
-      ends = inl (start_ends (node ++ others)
-          (explicit_first leaves d.node node others node_is (plain_behind ds others behind)));
-      is = cc;
-    })
-opens_unmarked leaves ds o (inr (
-  suffix,
-  others,
-  (filler, end, prefix, filler_is, end_is, prefix_is, text),
-  behind,
-  e,
-)) =
+    let next = follows_first leaves ds others (marks_first (AreBlockDocuments ds) others behind) in
+    marked_follows filler 45 (45 ∷ 45 ∷ (node ++ others)) o filler_is (cc) (refl, refl, refl)
+    (inl (start_ends (node ++ others) (explicit_first leaves d.node node others node_is next)))
+follows_first leaves ds o
+    (inl (inr (suffix, others, (filler, end, prefix, filler_is, end_is, prefix_is, text), behind, e))) =
     let m : Marker = record { index = 0; line = 1; col = 0 } in
-    inr (record {
-      filler = filler;
-      filler_is = filler_is;
-      first = 46;
-      others = 46 ∷ 46 ∷ (end ++ (prefix ++ others));
-      stops = (refl, refl, refl);
-      ends = inl (end_ends (end ++ (prefix ++ others))
-          (eol_first m (end ++ (prefix ++ others)) (prefix ++ others) (eol m end (prefix ++ others) end_is)));
-      is = cc (suffix_text filler end prefix others);
-    })
+    marked_follows filler 46 (46 ∷ 46 ∷ (end ++ (prefix ++ others))) o filler_is
+    (cc (suffix_text filler end prefix others)) (refl, refl, refl) (inl (end_ends (end ++ (prefix ++ others))
+    (eol_first m (end ++ (prefix ++ others)) (prefix ++ others) (eol m end (prefix ++ others) end_is))))
+follows_first leaves ds o (inr (filler, rest, filler_is, e)) =
+    marked_follows filler 65279 rest o filler_is e (refl, refl, refl) (inr refl)
 
--- what comes after a document: filler alone, a document marker, or a byte order mark
-opens_marker : {limit : ℕ} → ReadsLeaves limit → (ds : Forest) (o : List ℕ)
-    → yaml.IsBehindDocument (AreBlockDocuments ds) o → ((ds ≡ []) × IsLastFiller o) ⊎ OpensMarker o
-opens_marker leaves ds o h = by_first (marks_first (AreBlockDocuments ds) o h)
-  where
-    by_first : yaml.IsBehindMarks (AreBlockDocuments ds) o
-        ⊎ ((filler rest : List ℕ) × IsFiller filler × (o ≡ filler ++ (byte_order_mark ∷ rest)))
-        → ((ds ≡ []) × IsLastFiller o) ⊎ OpensMarker o
-    by_first (inl k) = opens_unmarked leaves ds o k
-    by_first (inr (filler, rest, filler_is, e)) =
-        inr (record {
-          filler = filler;
-          filler_is = filler_is;
-          first = 65279;
-          others = rest;
-          stops = (refl, refl, refl);
-          ends = inr refl;
-          is = e;
-        })
-
--- so it is the text's end, or ends the document's content
-pub lands_behind : {limit : ℕ} → ReadsLeaves limit → (ds : Forest) (o : List ℕ)
-    → yaml.IsBehindDocument (AreBlockDocuments ds) o → (m : Marker) → AtLine o m → Lands m o
-lands_behind leaves ds o h m line = by_first (opens_marker leaves ds o h)
-  where
-    by_first : ((ds ≡ []) × IsLastFiller o) ⊎ OpensMarker o → Lands m o
-    by_first (inl k) = inl (cc (last_filler_past 0 m o k.1))
-    by_first (inr k) = lands_marked o k m line
+pub follows_document : {limit : ℕ} → ReadsLeaves limit → (ds : Forest) (o : List ℕ)
+    → yaml.IsBehindDocument (AreBlockDocuments ds) o → FollowsDocument o
+follows_document leaves ds o h = follows_first leaves ds o (marks_first (AreBlockDocuments ds) o h)

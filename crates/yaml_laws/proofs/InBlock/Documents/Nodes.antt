@@ -1,38 +1,23 @@
 -- The node of a document is read (YAML 1.2.2, chapter 9).
-use Rattle.std.proofs.Common.{◌≡◌, ℕ, ◌+◌, ◌≤◌, Bool, true, false, List, [], ◌∷◌, ◌++◌, length, refl, sym, ap, ◌∙◌, arith, subst, inl, inr}
-use Rattle.std.specs.Prelude.{◌||◌, ◌&&◌, nat_le, Option, None}
-use Rattle.saphyr_input.specs.Classes.{line_feed}
-use Rattle.saphyr_scalar.specs.declared.scalar.position.Marker.{Marker}
-use Rattle.saphyr_scalar.specs.Views.Cursor.{◌>>=◌}
-use Rattle.saphyr_scanner.specs.Steps.Core.{is_too_far}
-use Rattle.saphyr_scanner.specs.Steps.Level.{Candidate}
-use Rattle.saphyr_scanner.specs.Steps.Queue.{Place}
-use Rattle.saphyr_scanner.specs.Steps.State.{State}
+use Rattle.yaml_laws.proofs.Common.{Bool, List, [], ap, arith, false, inl, inr, length, refl, subst, sym, true, ℕ, ◌++◌, ◌+◌, ◌∙◌, ◌∷◌, ◌≡◌, ◌≤◌, None, Option, nat_le, ◌&&◌, ◌||◌, line_feed, Marker, ◌>>=◌, is_too_far, Candidate, Place, State, Kind, Node, most_open, has_marker, cursor_at, eq-eqb}
 use Rattle.saphyr_scanner.specs.Steps.Fetch.{fetch, fetch_here}
 use Rattle.saphyr_scanner.specs.Steps.Unrolling.{unroll}
-use Rattle.saphyr_scanner.specs.Grammar.Tokens.{Kind}
-use Rattle.saphyr_scanner.specs.Grammar.Forest.{Node}
-use Rattle.saphyr_scanner.specs.Limits.{most_open}
 use Rattle.yaml_laws.specs.Grammar.BlockNodes.{Position as Position, indent_at, IsBlockNode}
-use Rattle.yaml_laws.specs.Grammar.Yaml.{has_marker}
-use Rattle.yaml_laws.proofs.Flow.States.{IsClear, EndsDocument, marks_line, moved, past}
 use Rattle.yaml_laws.proofs.Flow.Places.{behind_character, moved_count}
 use Rattle.yaml_laws.proofs.Flow.GapSteps.{past_again}
 use Rattle.yaml_laws.proofs.InBlock.LineStarts.{fed_marks, last_marks}
 use Rattle.yaml_laws.proofs.Documents.Stands.{StandsLined, AtLine, OffLine, StandsInStream}
-use Rattle.yaml_laws.proofs.InBlock.States.{Moment, root, moment_at, state_of, tabbed, crosses, IsStop, is_compact, IsPlaced, Before}
+use Rattle.yaml_laws.proofs.InBlock.States.{Moment, root, moment_at, state_of, tabbed, crosses, IsStop, is_compact, IsPlaced, Before, IsClear, EndsDocument, marks_line, moved, past}
 use Rattle.yaml_laws.proofs.InBlock.Gaps.{past_stops}
 use Rattle.yaml_laws.proofs.InBlock.Untabbed.{settles}
-use Rattle.yaml_laws.proofs.InBlock.Follows.{goes_alike, left_key, left_again, lands as land, arrives_at, stays_open}
-use Rattle.yaml_laws.proofs.InBlock.Closing.{ended_alike, stream_ends}
+use Rattle.yaml_laws.proofs.InBlock.Follows.{goes_alike, left_key, left_again, lands as land, arrives_at, stays_open, left_none}
+use Rattle.yaml_laws.proofs.InBlock.Closing.{ended_alike, stream_ends, with_text}
 use Rattle.yaml_laws.proofs.InBlock.Lines.{FitsOnLines, moved_lined}
 use Rattle.yaml_laws.proofs.InBlock.Statements.{EndsNodeAt, EndsWithLine, AreRead, ReadsLeaves}
 use Rattle.yaml_laws.proofs.InBlock.Texts.{node_ends}
-use Rattle.yaml_laws.proofs.InBlock.Parts.{StartsLine, starts_behind}
+use Rattle.yaml_laws.proofs.InBlock.Parts.{starts_behind}
 use Rattle.yaml_laws.proofs.InBlock.Nodes.{reads_node}
-use Rattle.saphyr_scalar.proofs.Given.{cursor_at}
-use Rattle.std.proofs.lemmas.Bool.{eq-eqb}
-use Rattle.yaml_laws.proofs.InBlock.Documents.Ends.{HasNoReturn, Lands, IsPlainBehind}
+use Rattle.yaml_laws.proofs.InBlock.Documents.Ends.{HasNoReturn, FollowsDocument}
 
 -- ## The text of a node is clear
 
@@ -73,13 +58,14 @@ pub record NodeStands (limit : ℕ) (start : State) (node : Node) (place : Posit
   pub stands : StandsLined limit start false false others (ts ++ tokens)
 
 -- at the end of a document it doesn't matter where content would have to be
-flat_here : (m : Marker) (y : List ℕ) (blank : Bool) (key : Option Candidate) (a : Bool) (ad : ℕ) (deeper : Bool)
-    (ps : List Place) → EndsDocument m y → fetch_here (state_of root (moment_at m y blank key a ad deeper) ps)
-    ≡ fetch_here (state_of root (moment_at m y blank key a ad false) ps)
+flat_here : (n : Moment) (ps : List Place) → n.required ≡ false → EndsDocument n.cursor.mark n.cursor.rest
+    → fetch_here (state_of root n ps) ≡ fetch_here (state_of root (record n { deeper = false }) ps)
 unfolding unroll
-flat_here m y blank key a ad deeper ps (inl e) =
-    rw e (stream_ends root m blank key a ad deeper ps ∙ sym (stream_ends root m blank key a ad false ps))
-flat_here m y blank key a ad deeper ps (inr h) = search (ended_alike)
+flat_here n ps free (inl e) =
+    subst (λ (z : List ℕ). fetch_here (state_of root (with_text n z) ps)
+    ≡ fetch_here (state_of root (record (with_text n z) { deeper = false }) ps)) (sym e)
+    (stream_ends root n ps free ∙ sym (stream_ends root (record n { deeper = false }) ps free))
+flat_here n ps free (inr h) = ended_alike root root n false ps ps h.0 h.1 refl
 
 flat : (m : Marker) (y : List ℕ) (blank : Bool) (key : Option Candidate) (a : Bool) (ad : ℕ) (deeper : Bool)
     (ps : List Place) → IsStop y → is_too_far key m ≡ false → EndsDocument m y
@@ -89,7 +75,7 @@ unfolding fetch
 flat m y blank key a ad deeper ps stop near ends =
     let arrived = λ (d : Bool). ap (λ r. r >>= fetch_here) (arrives_at root m y blank key a ad d ps stop near)
     ∙ ap fetch_here (stays_open root false m y blank key a ad d ps (omega arith)) in
-    arrived deeper ∙ flat_here m y blank key a ad (deeper && nat_le 0 m.col) ps ends ∙ sym (arrived false)
+    arrived deeper ∙ flat_here (moment_at m y blank key a ad (deeper && nat_le 0 m.col)) ps refl ends ∙ sym (arrived false)
 
 -- at the root no tab is left of what is enclosed
 untabbed : (m : Marker) (blank : Bool) (t : List ℕ) → tabbed 0 m blank false t ≡ false
@@ -98,14 +84,16 @@ untabbed m blank t = (settles 0 m t (past_stops m t)).1 0 (omega arith) blank
 sum_within : (i l j k limit : ℕ) → i + l ≡ j + k → j + k ≤ limit → i + l ≤ limit
 sum_within i l j k limit e h = omega (arith, e, h)
 
+-- A document's node is read where no collection is open. What the stream's statements say of a moment before the node
+-- and after it is put into the words of nodes: before it the next token is reached, and after it the document ends,
+-- where it doesn't matter how far right content would have to be (`flat`).
 pub reads_root : {limit : ℕ} {start : State} {P : Marker → Bool → Type 0} → ReadsLeaves limit → (place : Position)
     → indent_at place ≡ 0 → (node : Node) (t others : List ℕ) (ts : List Kind)
-    → IsBlockNode most_open node place t others → ((m : Marker) → AtLine others m → Lands m others)
-    → IsPlainBehind others → (v : StandsInStream limit start true P (t ++ others) ts)
+    → IsBlockNode most_open node place t others → FollowsDocument others → (v : StandsInStream limit start true P (t ++ others) ts)
     → FitsOnLines limit v.mark t others → IsPlaced place v.mark
     → ((is_compact place || crosses (t ++ others)) ≡ true → (crosses v.there.rest || v.allowed) ≡ true)
     → NodeStands limit start node place others ts
-reads_root {limit} {start} leaves place flat_place node t others ts h lands plain v fits placed opens =
+reads_root {limit} {start} leaves place flat_place node t others ts h follows v fits placed opens =
     let q = past 0 v.mark (t ++ others) in
     let n : Moment = record {
       cursor = v.there;
@@ -138,8 +126,8 @@ reads_root {limit} {start} leaves place flat_place node t others ts h lands plai
     } in
     let ends = node_ends leaves node place t others h in
     let m = moved v.mark t in
-    let line = lined m others (starts_behind v.mark t others ends) in
-    let behind : EndsNodeAt 0 m others = record { left = inl (lands m line); clean = plain.clean } in
+    let line = starts_behind v.mark t others ends in
+    let behind : EndsNodeAt 0 m others = record { left = inl (follows.lands m line); clean = follows.clean } in
     let r = reads_node leaves node place root (sym flat_place) v.mark t others h fits behind start ts before in
     let u = r.arrived.at in
     let p = past 0 m others in
@@ -156,7 +144,7 @@ reads_root {limit} {start} leaves place flat_place node t others ts h lands plai
         mark = m;
         none = λ e. absurd (unopened e);
         follows = goes_alike u.follows
-            (flat p.0 p.1 u.blank u.key u.allowed u.adjacent u.deeper u.places u.stop u.near (lands m line)) refl;
+            (flat p.0 p.1 u.blank u.key u.allowed u.adjacent u.deeper u.places u.stop u.near (follows.lands m line)) refl;
         fits = past_again 0 m others;
         line = (line, λ e. absurd (unopened e));
         count =
@@ -171,10 +159,3 @@ reads_root {limit} {start} leaves place flat_place node t others ts h lands plai
   where
     unopened : false ≡ true → ⊥
     unopened e = cc
-
-    left_none : (k : Option Candidate) → k ≡ None → (m : Marker) → left_key k m ≡ None
-    left_none k e m = rw e refl
-
-    lined : (m : Marker) (o : List ℕ) → StartsLine m o → AtLine o m
-    lined m o (inl e) = inl e
-    lined m o (inr e) = inr e

@@ -1,15 +1,35 @@
--- Whether the `:` of a value is ahead, after what is skipped.
-use Rattle.std.proofs.Common.{◌≡◌, ℕ, ◌+◌, true, false, List, [], ◌∷◌, ◌++◌, slice_index, refl, arith, append_assoc, ◌⊎◌, inl, inr}
-use Rattle.saphyr_input.specs.Classes.{is_blank, is_blank_or_breakz, is_yaml_non_break, line_feed}
-use Rattle.saphyr_input.specs.Indicators.{colon}
-use Rattle.saphyr_scalar.specs.declared.scalar.position.Marker.{Marker}
-use Rattle.saphyr_scalar.specs.Spelling.Tag.{AreIn}
-use Rattle.saphyr_scalar.specs.Views.Cursor.{along, next_line}
-use Rattle.scalar_laws.specs.Spelling.Spaces.{IsComment}
-use Rattle.yaml_laws.specs.Grammar.BlockNodes.{is_value_ahead}
+-- What is ahead after an indicator: no tab among the blanks before the next token, or the `:` of a value.
+use Rattle.yaml_laws.proofs.Common.{Bool, List, [], append_assoc, arith, false, inl, inr, refl, slice_index, true, ℕ, ◌++◌, ◌+◌, ◌∷◌, ◌≡◌, ◌⊎◌, ◌&&◌, ◌==◌, ◌||◌, is_blank, is_blank_or_breakz, is_break, is_yaml_non_break, line_feed, Marker, has_tab_ahead, is_value_ahead, colon, number_sign, AreIn, along, next_line, IsComment}
+use Rattle.yaml_laws.proofs.InBlock.Skips.{has_tab, comment_has_tab, IsSkipped, nothing, one_space, one_break, one_rest}
+use Rattle.yaml_laws.proofs.Flow.GapWalks.{OverGap, over_gap}
 use Rattle.yaml_laws.proofs.Flow.States.{moved}
 use Rattle.yaml_laws.proofs.Flow.Places.{moved_append}
-use Rattle.yaml_laws.proofs.InBlock.Skips.{IsSkipped, nothing, one_space, one_break, one_rest}
+
+-- ## Tabs
+
+abbrev text_start : Marker
+text_start = record { index = 0; line = 1; col = 0 }
+
+-- whether a character leads on to the next token
+abbrev leads_on : ℕ → Bool
+leads_on c = (c == 32) || is_break c || (c == 35)
+
+and_then : (a b : Bool) → a ≡ true → (a && b) ≡ false → b ≡ false
+and_then a b e h = grind arith
+
+-- the rest after a character that leads on
+ahead : (c : ℕ) (cs : List ℕ) (sign : Bool) → (c == number_sign) ≡ sign → leads_on c ≡ true
+    → (leads_on c && has_tab_ahead (c == number_sign) cs) ≡ false → has_tab_ahead sign cs ≡ false
+ahead c cs sign e f h = cc (and_then (leads_on c) (has_tab_ahead (c == 35) cs) f h)
+
+over_ahead : OverGap 0 (λ m t. has_tab_ahead false t ≡ false → has_tab t ≡ false)
+    (λ m t. has_tab_ahead true t ≡ false → comment_has_tab t ≡ false)
+over_ahead = grind arith
+
+pub no_tab_ahead : (t : List ℕ) → has_tab_ahead false t ≡ false → has_tab t ≡ false
+no_tab_ahead = over_gap over_ahead text_start
+
+-- ## The `:` of a value
 
 words_ahead : (m : ℕ) (words o : List ℕ) → AreIn is_yaml_non_break words
     → is_value_ahead true m 0 (words ++ (line_feed ∷ o)) ≡ is_value_ahead false m 0 o
