@@ -8,7 +8,7 @@ use Rattle.saphyr_scalar.specs.Views.Cursor.{Cursor, ◌>>=◌}
 use Rattle.saphyr_scanner.specs.declared.engine.level.Context.TheVariants as context
 use Rattle.saphyr_scanner.specs.Grammar.Tokens.{Kind}
 use Rattle.saphyr_scanner.specs.Views.Tokens.{Piece}
-use Rattle.saphyr_scanner.specs.Steps.Gap.{GapEnd, stop}
+use Rattle.saphyr_scanner.specs.Steps.Gap.{GapEnd, gap_here, stop}
 use Rattle.saphyr_scanner.specs.Steps.Queue.{Place, bare_place}
 use Rattle.saphyr_scanner.specs.Steps.Core.{Core, drop_far_key}
 use Rattle.saphyr_scanner.specs.Steps.Level.{Candidate}
@@ -70,7 +70,7 @@ passes_noted (Some comment) s k a ad m y here (inr h) =
     let g = gap_past 0 s.mark s.blank_so_far s.rest in
     let c : Core = record (core_at false s context.Block k [] a ad) { comment = Some comment } in
     let there = g.is (past_no_blank s.mark s.rest) 0 none_less
-    ∙ ap (λ (p : Marker × List ℕ). stop p.0 g.still_blank (crosses s.rest) false p.1) here in
+    ∙ ap (λ (p : Marker × List ℕ). stop (gap_here p.0 g.still_blank (crosses s.rest) false p.1)) here in
     let b = (crosses s.rest && true) || a in
     let goes : check_comment
     (record (core_at false (cursor_at y m g.still_blank) context.Block k [] b ad) { comment = Some comment })
