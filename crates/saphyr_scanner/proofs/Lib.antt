@@ -29,7 +29,6 @@ pub mod QuotedEnds
 pub mod RightHere
 pub mod Dashes
 pub mod Feeds
-pub mod GapPlaces
 pub mod Refusing
 pub mod Steps
 pub mod WhatCame

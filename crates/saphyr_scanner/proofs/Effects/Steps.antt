@@ -1,18 +1,17 @@
 -- What a step does, in one statement: what it takes off the text, that its tokens are in order between the place
 -- where it begins and the one that is reached, that they are few, that none is the end of the stream, and that what may
 -- be a key after it might be one before, or is its own token.
-use Rattle.std.proofs.Common.{◌≡◌, ℕ, ◌+◌, ◌≤◌, false, refl, arith}
+use Rattle.std.proofs.Common.{◌≡◌, ℕ, ◌+◌, ◌≤◌, refl, arith}
 use Rattle.std.specs.Prelude.{◌&&◌, not, Option, Some, None}
-use Rattle.saphyr_input.specs.declared.input.SkipTabs.{SkipTabs}
-use Rattle.saphyr_input.specs.declared.input.SkipTabs.TheVariants as tabs
 use Rattle.saphyr_scalar.specs.declared.scalar.position.Marker.{Marker}
-use Rattle.saphyr_scalar.specs.Views.Cursor.{Cursor, separation}
+use Rattle.saphyr_scalar.specs.Views.Cursor.{Cursor}
 use Rattle.saphyr_scanner.specs.Steps.Gap as gaps
 use Rattle.saphyr_scanner.specs.Steps.Core.{Core, Step, in_block, remove_key, forget_key, drop_far_key, is_too_far, least_column}
-use Rattle.saphyr_scanner.specs.Steps.Passing.{separate, pass_gap, check_comment, goes_on_behind, behind_gap, check_comment_of}
-use Rattle.saphyr_scanner.proofs.Counted.{Ahead, stays, ahead_ahead, separation_counted, gap_counted}
+use Rattle.saphyr_scanner.specs.Steps.Passing.{pass_gap, check_comment, goes_on_behind, behind_gap, check_comment_of}
+use Rattle.saphyr_scanner.proofs.Counted.{Ahead, stays, ahead_ahead, apart_over}
 use Rattle.saphyr_scanner.proofs.Effects.Readers.{Readers, ReaderEnds, Less}
 use Rattle.saphyr_scanner.proofs.Ordered.Queue.{PutsInOrder}
+use Rattle.saphyr_scanner.proofs.Taken.Separated.{gap_apart}
 use Rattle.saphyr_scanner.proofs.Taken.Candidates.{Above, KeepsPlacesAbove}
 use Rattle.saphyr_scanner.proofs.Added.Queue.{PutsGoOn, added, open_blocks}
 use Rattle.saphyr_input.proofs.Basics.Booleans.{by_test}
@@ -68,8 +67,8 @@ unfolding pass_gap
 gap_goes n s c d g = given_bind (Goes n s c) (gaps.whole_gap (least_column d) d.cursor) _ (λ p e.
     check_goes n s c (behind_gap d p) (
       ahead_ahead s d.cursor p.cursor g.0
-          (given_of (λ (q : gaps.GapEnd). Ahead d.cursor q.cursor) (gaps.whole_gap (least_column d) d.cursor) p
-          (gap_counted (least_column d) false false d.cursor) e),
+          (apart_over d.cursor p.cursor (given_of _ (gaps.whole_gap (least_column d) d.cursor) p
+          (gap_apart (least_column d) d.cursor) e)),
       g.1,
     ))
 

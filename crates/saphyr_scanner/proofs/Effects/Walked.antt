@@ -18,7 +18,6 @@ use Rattle.saphyr_scanner.specs.TokensInPlace.{Enclosures}
 use Rattle.saphyr_scanner.proofs.Effects.Readers.{TextLaws, RefusalLaws}
 use Rattle.saphyr_scanner.proofs.Effects.Steps.{EffectAt}
 use Rattle.saphyr_scanner.proofs.Effects.Moves.{DoesWithin, Does, IsBeforePlace, IsNextPlace, Same, same}
-use Rattle.saphyr_scanner.proofs.GapPlaces.{Refused, gap_refused}
 use Rattle.saphyr_scanner.proofs.LineTails.{OnLine, separation_passes}
 use Rattle.saphyr_scanner.proofs.PlainBehind.{IsNoted}
 use Rattle.saphyr_scanner.proofs.Reached.{passed_reached}
@@ -27,7 +26,7 @@ use Rattle.saphyr_scanner.proofs.Taken.Keys.{IsArrival}
 use Rattle.saphyr_scanner.proofs.Taken.Held.{Setting}
 use Rattle.saphyr_scanner.proofs.Taken.Later.{LaterThan}
 use Rattle.saphyr_scanner.proofs.Taken.Places.{Reaches, At, at_here, at_further, at_reached}
-use Rattle.saphyr_scanner.proofs.Taken.Separated.{gap_apart, BeginsText, gap_begins, Breaks, gap_breaks}
+use Rattle.saphyr_scanner.proofs.Taken.Separated.{Refused, gap_apart, gap_refused, BeginsText, gap_begins, Breaks, gap_breaks}
 use Rattle.saphyr_scanner.proofs.Taken.Arrivals.{AllowsBehind, gap_allows}
 use Rattle.saphyr_scanner.proofs.Taken.States.{FetchedStep, holds_fetched}
 use Rattle.saphyr_input.proofs.Basics.Booleans.{by_test}
@@ -163,9 +162,9 @@ pub gap_walked : (b : Core) (s : Cursor) (c : Core) → (Premises b → Reaches 
     → Walked (Premises b) (Gapped c) s (pass_gap c)
 unfolding pass_gap check_comment
 gap_walked b s c a none =
-    by (gaps.whole_gap (least_column c) c.cursor) (gap_apart (least_column c) false false c.cursor)
-    (gap_begins (least_column c) false false c.cursor) (gap_breaks (least_column c) false false c.cursor)
-    (gap_refused (least_column c) c.cursor.mark c.cursor.blank_so_far false false c.cursor.rest)
+    let l = least_column c in
+    by (gaps.whole_gap l c.cursor) (gap_apart l c.cursor) (gap_begins l c.cursor) (gap_breaks l c.cursor)
+    (gap_refused l c.cursor)
   where
     checked : (o : Option Marker) (d : Core) → Gapped c d → (Premises b → o ≡ None)
         → Walked (Premises b) (Gapped c) s (check_comment_of o d)

@@ -1,21 +1,15 @@
 -- What a step tells: what it gives, or a refusal at a place on the way from where it began.
-use Rattle.std.proofs.Common.{◌≡◌, ℕ, false, Option, Some, None, Result, Ok, Err, refl, sym, ◌∙◌, subst, inl, inr, arith}
-use Rattle.std.specs.Prelude.{◌&&◌, not}
-use Rattle.saphyr_scalar.specs.declared.scalar.position.Marker.{Marker}
+use Rattle.std.proofs.Common.{◌≡◌, ℕ, None, Result, Ok, Err, sym, ◌∙◌, subst, arith}
 use Rattle.saphyr_scalar.specs.declared.scalar.fault.Refusal.{Refusal}
 use Rattle.saphyr_scalar.specs.Views.Cursor.{Cursor, ◌>>=◌}
-use Rattle.saphyr_scanner.specs.Steps.Gap as gaps
-use Rattle.saphyr_scanner.specs.Steps.Core.{Core, Step, StepResult, in_block, is_too_far, drop_far_key, least_column}
-use Rattle.saphyr_scanner.specs.Steps.Passing.{pass_gap, check_comment, goes_on_behind, behind_gap, check_comment_of}
-use Rattle.saphyr_scanner.specs.TokensTaken.{AreApart}
-use Rattle.saphyr_scanner.proofs.GapPlaces.{Refused, gap_refused}
+use Rattle.saphyr_scanner.specs.Steps.Core.{Core, Step, StepResult, drop_far_key}
+use Rattle.saphyr_scanner.specs.Steps.Passing.{pass_gap, check_comment}
 use Rattle.saphyr_scanner.proofs.Effects.Walked.{Premises, Walked, Stepped}
 use Rattle.saphyr_scanner.proofs.PlainBehind.{IsNoted}
 use Rattle.saphyr_scanner.proofs.Reached.{apart_reached}
-use Rattle.saphyr_scanner.proofs.Taken.Separated.{gap_apart}
+use Rattle.saphyr_scanner.proofs.Taken.Separated.{gap_apart, gap_refused}
 use Rattle.saphyr_scanner.proofs.Taken.Places.{Reaches, At, at_here, at_further, at_reached, here_at}
 use Rattle.saphyr_input.proofs.Basics.Booleans.{by_test}
-use Rattle.saphyr_scalar.proofs.Given.{Given}
 
 abbrev pub HoldsOrRefuses : {X : Type 0} → (X → Type 0) → Cursor → Result X Refusal → Type 0
 HoldsOrRefuses P s (Ok x) = P x

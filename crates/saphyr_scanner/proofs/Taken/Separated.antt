@@ -7,15 +7,16 @@ use Rattle.saphyr_scalar.specs.declared.scalar.fault.Refusal.{Refusal}
 use Rattle.saphyr_scalar.specs.Views.Cursor.{Cursor, along, next_line}
 use Rattle.saphyr_scalar.specs.Steps.Quoted.{break_len}
 use Rattle.saphyr_scalar.specs.Spelling.Tag.{AreIn}
-use Rattle.saphyr_scalar.proofs.Moving.{along_none, along_more}
-use Rattle.saphyr_scanner.specs.Steps.Gap.{end_of_gap, end_of_gap_in_comment, stop, GapEnd, is_tab_indentation, SpacesEnd, end_of_spaces, end_of_spaces_in_comment}
+use Rattle.saphyr_scalar.proofs.Moving.{along_more}
+use Rattle.saphyr_scanner.specs.Steps.Gap.{Gap, GapEnd, end_of_gap, end_of_gap_in_comment, gap_here, gap_at, is_gap_blank, stop, whole_gap, spaces_at, is_tab_indentation}
 use Rattle.saphyr_scanner.specs.TokensTaken as taken
-use Rattle.saphyr_scanner.specs.TokensTaken.{IsPassedOver, AreApart, begins_text}
+use Rattle.saphyr_scanner.specs.TokensTaken.{IsPassedOver, IsReached, AreApart, begins_text}
 use Rattle.std.proofs.lemmas.Bool.{eqb-true, and_parts, or_cases}
 use Rattle.saphyr_input.specs.Indicators.{number_sign}
 use Rattle.saphyr_input.proofs.Basics.Booleans.{by_test, or_false_left, or_false_right}
-use Rattle.saphyr_scanner.proofs.Gaps.{break_is_no_blank, break_is_no_sign}
+use Rattle.saphyr_scanner.proofs.Gaps.{break_is_no_gap_blank, break_is_no_sign, gap_blank_is_blank, passes_no_feed}
 use Rattle.saphyr_scalar.proofs.Given.{Given}
+use Rattle.saphyr_scanner.proofs.Reached.{apart_reached}
 use Rattle.saphyr_scanner.proofs.Taken.Later.{top}
 
 pub apart_apart : (m : Marker) (t : List ℕ) (n : Marker) (u : List ℕ) (k : Marker) (v : List ℕ) → IsPassedOver m t n u
@@ -31,26 +32,26 @@ pub given_map : {X : Type 0} → (P Q : X → Type 0) (r : Result X Refusal) →
 given_map P Q (Ok x) f h = f x h
 given_map P Q (Err e) f h = tt
 
--- a separation that ends at a place
-abbrev To : Marker → List ℕ → Marker → List ℕ → Type 0
-To n u m t = IsPassedOver m t n u
+-- a separation that ends where a gap does
+abbrev To : Gap → Marker → List ℕ → Type 0
+To g m t = IsPassedOver m t g.cursor.mark g.cursor.rest
 
 -- inside a comment, from after its first characters on
-record Comment (m : Marker) (t : List ℕ) (n : Marker) (u : List ℕ) : Type 0 where
+record InComment (g : Gap) (m : Marker) (t : List ℕ) : Type 0 where
   words : List ℕ
   behind : List ℕ
   is : t ≡ words ++ behind
   are : AreIn is_yaml_non_break words
   ends : IsFalse (is_yaml_non_break (slice_index behind 0))
-  goes_on : IsPassedOver (along m (length words)) behind n u
+  goes_on : To g (along m (length words)) behind
 
-comment_here : (m : Marker) (t : List ℕ) (n : Marker) (u : List ℕ) → IsFalse (is_yaml_non_break (slice_index t 0))
-    → IsPassedOver m t n u → Comment m t n u
-comment_here m t n u e p = grind arith
+comment_here : (g : Gap) (m : Marker) (t : List ℕ) → IsFalse (is_yaml_non_break (slice_index t 0)) → To g m t
+    → InComment g m t
+comment_here g m t e p = grind arith
 
-comment_more : (m : Marker) (c : ℕ) (t : List ℕ) (n : Marker) (u : List ℕ) → IsTrue (is_yaml_non_break c)
-    → Comment (along m 1) t n u → Comment m (c ∷ t) n u
-comment_more m c t n u e w =
+comment_more : (g : Gap) (m : Marker) (c : ℕ) (t : List ℕ) → IsTrue (is_yaml_non_break c)
+    → InComment g (along m 1) t → InComment g m (c ∷ t)
+comment_more g m c t e w =
     record {
       words = c ∷ w.words;
       behind = w.behind;
@@ -60,157 +61,117 @@ comment_more m c t n u e w =
       goes_on = rw (along_more m 1 (length w.words) (length (c ∷ w.words)) (omega arith)) at w.goes_on;
     }
 
-comment_whole : (m : Marker) (c : ℕ) (t : List ℕ) (n : Marker) (u : List ℕ) → c ≡ number_sign
-    → Comment (along m 1) t n u → IsPassedOver m (c ∷ t) n u
-comment_whole m c t n u e w =
-    let p = taken.comment m w.words w.behind n u w.are w.ends
+comment_whole : (g : Gap) (m : Marker) (c : ℕ) (t : List ℕ) → c ≡ number_sign → InComment g (along m 1) t
+    → To g m (c ∷ t)
+comment_whole g m c t e w =
+    let p = taken.comment m w.words w.behind g.cursor.mark g.cursor.rest w.are w.ends
     (rw (along_more m 1 (length w.words) (1 + length w.words) refl) at w.goes_on) in
     rw (ap (λ l. 35 ∷ l) (sym w.is) ∙ ap (λ d. d ∷ t) (sym e)) at p
 
 -- a break that is no CR before LF
-single_break : (m : Marker) (c : ℕ) (t : List ℕ) (n : Marker) (u : List ℕ) → is_break c ≡ true
-    → ((c == carriage_return) && (slice_index t 0 == line_feed)) ≡ false → IsPassedOver (next_line m 1) t n u
-    → IsPassedOver m (c ∷ t) n u
-single_break m c t n u b e p =
-    let one : break_len (c ∷ t) ≡ 1 = rw e refl in taken.line_break m (c ∷ t) n u b (rw one p)
+single_break : (g : Gap) (m : Marker) (c : ℕ) (t : List ℕ) → is_break c ≡ true
+    → ((c == carriage_return) && (slice_index t 0 == line_feed)) ≡ false → To g (next_line m 1) t → To g m (c ∷ t)
+single_break g m c t b e p =
+    let one : break_len (c ∷ t) ≡ 1 = rw e refl in
+    taken.line_break m (c ∷ t) g.cursor.mark g.cursor.rest b (rw one p)
 
 -- CR LF, whose CR was passed
-crlf_break : (k : Marker) (t : List ℕ) (n : Marker) (u : List ℕ) → IsPassedOver (next_line (along k 1) 1) t n u
-    → IsPassedOver k (carriage_return ∷ line_feed ∷ t) n u
-crlf_break k t n u p =
+crlf_break : (g : Gap) (k : Marker) (t : List ℕ) → To g (next_line (along k 1) 1) t
+    → To g k (carriage_return ∷ line_feed ∷ t)
+crlf_break g k t p =
     let i : k.index + 1 + 1 ≡ k.index + 2 = omega arith in
     let same : next_line (along k 1) 1 ≡ next_line k 2 = rw i refl in
-    taken.line_break k (13 ∷ 10 ∷ t) n u refl (rw same at p)
+    taken.line_break k (13 ∷ 10 ∷ t) g.cursor.mark g.cursor.rest refl (rw same at p)
 
-stop_apart : (m : Marker) (blank broke tabbed : Bool) (t : List ℕ)
-    → Given (λ (p : GapEnd). To p.cursor.mark p.cursor.rest m t) (stop m blank broke tabbed t)
-unfolding stop
-stop_apart m blank broke tabbed t =
-    let P = Given (λ (p : GapEnd). To p.cursor.mark p.cursor.rest m t) in
-    by_test (tabbed && is_bom (slice_index t 0)) _ _ P (λ _. tt)
-    (λ _. by_test (tabbed && not (is_z (slice_index t 0))) _ _ P (λ _. tt) (λ _. taken.nothing m t))
-
--- What is passed from here on: between tokens, in a comment, and after a CR before LF.
-record Gaps (l : ℕ) (t : List ℕ) (m : Marker) (blank broke tabbed : Bool) : Type 0 where
-  between : Given (λ (p : GapEnd). To p.cursor.mark p.cursor.rest m t) (end_of_gap l m blank broke tabbed t)
-  inside : Given (λ (p : GapEnd). Comment m t p.cursor.mark p.cursor.rest)
-      (end_of_gap_in_comment l m blank broke tabbed t)
+-- That a gap passes blanks, breaks and comments alone, whatever it asks of tabs. From this follow that it is counted,
+-- which places it reaches, and that a refusal is at one of them, so the recursion over a gap is walked once. It goes on
+-- character by character, and what is shown takes a comment and CR LF at once. So three things are shown together:
+-- between tokens, in a comment, whose first words were passed, and after the CR of a CR LF.
+record Gaps (tabs : Bool) (l : ℕ) (t : List ℕ) (m : Marker) (blank met tabbed : Bool) : Type 0 where
+  between : To (end_of_gap tabs l m blank met tabbed t) m t
+  inside : InComment (end_of_gap_in_comment tabs l m blank met tabbed t) m t
   behind_return : (slice_index t 0 == line_feed) ≡ true → (k : Marker) → m ≡ along k 1
-      → Given (λ (p : GapEnd). To p.cursor.mark p.cursor.rest k (carriage_return ∷ t))
-      (end_of_gap l m blank broke tabbed t)
+      → To (end_of_gap tabs l m blank met tabbed t) k (carriage_return ∷ t)
 
-all_gaps : (l : ℕ) (t : List ℕ) (m : Marker) (blank broke tabbed : Bool) → Gaps l t m blank broke tabbed
-all_gaps l [] m blank broke tabbed =
+all_gaps : (tabs : Bool) (l : ℕ) (t : List ℕ) (m : Marker) (blank met tabbed : Bool)
+    → Gaps tabs l t m blank met tabbed
+all_gaps tabs l [] m blank met tabbed =
     record {
-      between = stop_apart m blank broke tabbed [];
-      inside = given_map _ _ (stop m blank broke tabbed [])
-          (λ p h. comment_here m [] p.cursor.mark p.cursor.rest refl h) (stop_apart m blank broke tabbed []);
+      between = taken.nothing m [];
+      inside = comment_here (gap_here m blank met tabbed []) m [] refl (taken.nothing m []);
       behind_return = λ e k q. absurd (cc);
     }
-all_gaps l (c ∷ cs) m blank broke tabbed =
-    let P : Result GapEnd Refusal → Type 0 = Given (λ (p : GapEnd). To p.cursor.mark p.cursor.rest m (c ∷ cs)) in
-    let Q : Result GapEnd Refusal → Type 0 = Given (λ (p : GapEnd). Comment m (c ∷ cs) p.cursor.mark p.cursor.rest) in
-    let line : ((c == 13) && (slice_index cs 0 == 10)) ≡ false → is_break c ≡ true
-    → P (end_of_gap l (next_line m 1) true true false cs) =
-    λ e b. given_map _ _ (end_of_gap l (next_line m 1) true true false cs)
-    (λ p h. single_break m c cs p.cursor.mark p.cursor.rest b e h)
-    (all_gaps l cs (next_line m 1) true true false).between in
-    let return : (x : Bool) → ((c == 13) && (slice_index cs 0 == 10)) ≡ true → P
-    (end_of_gap l (along m 1) blank broke x cs) = λ x e.
+all_gaps tabs l (c ∷ cs) m blank met tabbed =
+    let P : Gap → Type 0 = λ g. To g m (c ∷ cs) in
+    let Q : Gap → Type 0 = λ g. InComment g m (c ∷ cs) in
+    let fresh = all_gaps tabs l cs (next_line m 1) true true false in
+    let on = all_gaps tabs l cs (along m 1) blank met tabbed in
+    let further = all_gaps tabs l cs (along m 1) blank (not tabs || met) in
+    let next = end_of_gap tabs l (next_line m 1) true true false cs in
+    let line : ((c == 13) && (slice_index cs 0 == 10)) ≡ false → is_break c ≡ true → P next =
+    λ e b. single_break next m c cs b e fresh.between in
+    let return : (x : Bool) → ((c == 13) && (slice_index cs 0 == 10)) ≡ true
+    → P (end_of_gap tabs l (along m 1) blank (not tabs || met) x cs) = λ x e.
     let f = and_parts (c == 13) (slice_index cs 0 == 10) e in
-    given_map _ _ (end_of_gap l (along m 1) blank broke x cs)
-    (λ p h. rw (eqb-true c 13 f.0) h) ((all_gaps l cs (along m 1) blank broke x).behind_return f.1 m refl) in
-    let further : (x : Bool) → is_blank c ≡ true → P (end_of_gap l (along m 1) blank broke x cs) =
-    λ x b. given_map _ _ (end_of_gap l (along m 1) blank broke x cs)
-    (λ p h. taken.blank m c cs p.cursor.mark p.cursor.rest b h) (all_gaps l cs (along m 1) blank broke x).between in
-    let comments : (c == 35) ≡ true → P (end_of_gap_in_comment l (along m 1) blank broke tabbed cs) =
-    λ e. given_map _ _ (end_of_gap_in_comment l (along m 1) blank broke tabbed cs)
-    (λ p h. comment_whole m c cs p.cursor.mark p.cursor.rest (eqb-true c 35 e) h)
-    (all_gaps l cs (along m 1) blank broke tabbed).inside in
-    let more : is_yaml_non_break c ≡ true → Q (end_of_gap_in_comment l (along m 1) blank broke tabbed cs) =
-    λ e. given_map _ _ (end_of_gap_in_comment l (along m 1) blank broke tabbed cs)
-    (λ p h. comment_more m c cs p.cursor.mark p.cursor.rest e h)
-    (all_gaps l cs (along m 1) blank broke tabbed).inside in
-    let ended : is_yaml_non_break c ≡ false → (r : Result GapEnd Refusal) → P r → Q r =
-    λ e r h. given_map _ _ r (λ p k. comment_here m (c ∷ cs) p.cursor.mark p.cursor.rest e k) h in
+    rw (eqb-true c 13 f.0) ((further x).behind_return f.1 m refl) in
+    let indented = is_tab_indentation l m blank c || tabbed in
+    let here : P (gap_here m blank met tabbed (c ∷ cs)) = taken.nothing m (c ∷ cs) in
     record {
-      between = by_test (is_blank c || ((c == 13) && (slice_index cs 0 == 10))) _ _ P
-          (λ e. elim (or_cases (is_blank c) ((c == 13) && (slice_index cs 0 == 10)) e) [
-            | inl b ↦ further (is_tab_indentation l m blank c || tabbed) b
-            | inr r ↦ return (is_tab_indentation l m blank c || tabbed) r
+      between = by_test (is_gap_blank tabs c || ((c == 13) && (slice_index cs 0 == 10))) _ _ P
+          (λ e. elim (or_cases (is_gap_blank tabs c) ((c == 13) && (slice_index cs 0 == 10)) e) [
+            | inl b ↦ taken.blank m c cs _ _ (gap_blank_is_blank tabs c b) (further indented).between
+            | inr r ↦ return indented r
           ])
           (λ e. by_test (is_break c) _ _ P
-          (λ b. line (or_false_right (is_blank c) ((c == 13) && (slice_index cs 0 == 10)) e) b)
-          (λ _. by_test (c == 35) _ _ P comments (λ _. stop_apart m blank broke tabbed (c ∷ cs))));
-      inside = by_test (is_yaml_non_break c) _ _ Q more
-          (λ n. by_test ((c == 13) && (slice_index cs 0 == 10)) _ _ Q (λ r. ended n _ (return tabbed r))
-          (λ e. by_test (is_break c) _ _ Q (λ b. ended n _ (line e b))
-          (λ _. ended n _ (stop_apart m blank broke tabbed (c ∷ cs)))));
-      behind_return = λ e k q. fed c (eqb-true c 10 e) k q (all_gaps l cs (next_line m 1) true true false).between;
+          (λ b. line (or_false_right (is_gap_blank tabs c) ((c == 13) && (slice_index cs 0 == 10)) e) b)
+          (λ _. by_test (c == 35) _ _ P (λ s. comment_whole _ m c cs (eqb-true c 35 s) on.inside) (λ _. here)));
+      inside = by_test (is_yaml_non_break c) _ _ Q (λ e. comment_more _ m c cs e on.inside)
+          (λ n. by_test ((c == 13) && (slice_index cs 0 == 10)) _ _ Q
+          (λ r. comment_here _ m (c ∷ cs) n (return tabbed r))
+          (λ e. by_test (is_break c) _ _ Q (λ b. comment_here _ m (c ∷ cs) n (line e b))
+          (λ _. comment_here _ m (c ∷ cs) n here)));
+      behind_return = λ e k q. fed c (eqb-true c 10 e) k q fresh.between;
     }
   where
     fed : (d : ℕ) → d ≡ line_feed → (k : Marker) → m ≡ along k 1
-        → Given (λ (p : GapEnd). To p.cursor.mark p.cursor.rest (next_line m 1) cs)
-        (end_of_gap l (next_line m 1) true true false cs)
-        → Given (λ (p : GapEnd). To p.cursor.mark p.cursor.rest k (carriage_return ∷ d ∷ cs))
-        (end_of_gap l m blank broke tabbed
-        (d ∷ cs))
-    fed d e k q h = rw e (given_map _ _ (end_of_gap l (next_line m 1) true true false cs)
-        (λ p s. crlf_break k cs p.cursor.mark p.cursor.rest (rw q at s)) h)
+        → To (end_of_gap tabs l (next_line m 1) true true false cs) (next_line m 1) cs
+        → To (end_of_gap tabs l m blank met tabbed (d ∷ cs)) k (carriage_return ∷ d ∷ cs)
+    fed d e k q h =
+        let g = end_of_gap tabs l (next_line m 1) true true false cs in
+        rw (e, passes_no_feed tabs) (crlf_break g k cs (subst (λ (j : Marker). To g (next_line j 1) cs) q h))
 
-pub gap_apart : (l : ℕ) (broke tabbed : Bool) (s : Cursor)
-    → Given (λ (p : GapEnd). AreApart s p.cursor) (end_of_gap l s.mark s.blank_so_far broke tabbed s.rest)
-gap_apart l broke tabbed s = (all_gaps l s.rest s.mark s.blank_so_far broke tabbed).between
+pub gap_lies : (tabs : Bool) (l : ℕ) (met tabbed : Bool) (s : Cursor) → AreApart s (gap_at tabs l met tabbed s).cursor
+gap_lies tabs l met tabbed s = (all_gaps tabs l s.rest s.mark s.blank_so_far met tabbed).between
 
--- ## Where the text goes on after separation a text begins
+-- ## Where it is refused, and where it is not
 
-abbrev pub BeginsText : GapEnd → Type 0
-BeginsText p = IsTrue (begins_text (slice_index p.cursor.rest 0))
-
-stop_begins : (m : Marker) (blank broke tabbed : Bool) (t : List ℕ) → IsTrue (begins_text (slice_index t 0))
-    → Given BeginsText (stop m blank broke tabbed t)
+pub gap_given : (P : GapEnd → Type 0) (g : Gap) → P (record { cursor = g.cursor; broke = g.met }) → Given P (stop g)
 unfolding stop
-stop_begins m blank broke tabbed t h = by_test (tabbed && is_bom (slice_index t 0)) _ _ (Given BeginsText) (λ _. tt)
-    (λ _. by_test (tabbed && not (is_z (slice_index t 0))) _ _ (Given BeginsText) (λ _. tt) (λ _. h))
+gap_given P g h = by_test (g.tabbed && is_bom (slice_index g.cursor.rest 0)) _ _ (Given P) (λ _. tt)
+    (λ _. by_test (g.tabbed && not (is_z (slice_index g.cursor.rest 0))) _ _ (Given P) (λ _. tt) (λ _. h))
 
-content_begins : (c : ℕ) → is_blank c ≡ false → is_break c ≡ false → (c == number_sign) ≡ false → begins_text c ≡ true
-content_begins c b k s = rw (b, k, s) refl
+pub gap_apart : (l : ℕ) (s : Cursor) → Given (λ (p : GapEnd). AreApart s p.cursor) (whole_gap l s)
+gap_apart l s = gap_given _ (gap_at true l false false s) (gap_lies true l false false s)
 
-unprintable_begins : (c : ℕ) → is_yaml_non_break c ≡ false → is_break c ≡ false → begins_text c ≡ true
-unprintable_begins c n k = content_begins c (break_is_no_blank c n) k (break_is_no_sign c n)
+pub spaces_apart : (space : Bool) (s : Cursor) → AreApart s (spaces_at space s).cursor
+spaces_apart space s = gap_lies false 0 space false s
 
--- between tokens, and in a comment
-record Beginnings (l : ℕ) (t : List ℕ) (m : Marker) (blank broke tabbed : Bool) : Type 0 where
-  between : Given BeginsText (end_of_gap l m blank broke tabbed t)
-  inside : Given BeginsText (end_of_gap_in_comment l m blank broke tabbed t)
+-- a refusal, if there is one, is at a place on the way from m
+abbrev pub Refused : Marker → List ℕ → Result GapEnd Refusal → Type 0
+Refused m t (Ok p) = Unit {0}
+Refused m t (Err e) = (u : List ℕ) × IsReached m t e.mark u
 
-all_begin : (l : ℕ) (t : List ℕ) (m : Marker) (blank broke tabbed : Bool) → Beginnings l t m blank broke tabbed
-all_begin l [] m blank broke tabbed =
-    record {
-      between = stop_begins m blank broke tabbed [] refl;
-      inside = stop_begins m blank broke tabbed [] refl;
-    }
-all_begin l (c ∷ cs) m blank broke tabbed =
-    let P = Given BeginsText in
-    record {
-      between = by_test (is_blank c || ((c == 13) && (slice_index cs 0 == 10))) _ _ P
-          (λ _. (all_begin l cs (along m 1) blank broke (is_tab_indentation l m blank c || tabbed)).between)
-          (λ e. by_test (is_break c) _ _ P (λ _. (all_begin l cs (next_line m 1) true true false).between)
-          (λ k. by_test (c == 35) _ _ P (λ _. (all_begin l cs (along m 1) blank broke tabbed).inside)
-          (λ s. stop_begins m blank broke tabbed (c ∷ cs)
-          (content_begins c (or_false_left (is_blank c) ((c == 13) && (slice_index cs 0 == 10)) e) k s))));
-      inside = by_test (is_yaml_non_break c) _ _ P (λ _. (all_begin l cs (along m 1) blank broke tabbed).inside)
-          (λ n. by_test ((c == 13) && (slice_index cs 0 == 10)) _ _ P
-          (λ _. (all_begin l cs (along m 1) blank broke tabbed).between)
-          (λ _. by_test (is_break c) _ _ P (λ _. (all_begin l cs (next_line m 1) true true false).between)
-          (λ k. stop_begins m blank broke tabbed (c ∷ cs) (unprintable_begins c n k))));
-    }
+pub gap_refused : (l : ℕ) (s : Cursor) → Refused s.mark s.rest (whole_gap l s)
+unfolding stop
+gap_refused l s =
+    let g = gap_at true l false false s in
+    let P = Refused s.mark s.rest in
+    let at : (u : List ℕ) × IsReached s.mark s.rest g.cursor.mark u =
+    (g.cursor.rest, apart_reached s.mark s.rest g.cursor.mark g.cursor.rest (gap_lies true l false false s)) in
+    by_test (g.tabbed && is_bom (slice_index g.cursor.rest 0)) _ _ P (λ _. at)
+    (λ _. by_test (g.tabbed && not (is_z (slice_index g.cursor.rest 0))) _ _ P (λ _. at) (λ _. tt))
 
-pub gap_begins : (l : ℕ) (broke tabbed : Bool) (s : Cursor)
-    → Given BeginsText (end_of_gap l s.mark s.blank_so_far broke tabbed s.rest)
-gap_begins l broke tabbed s = (all_begin l s.rest s.mark s.blank_so_far broke tabbed).between
-
--- ## Where a break is passed the line is a later one, and else the same
+-- ## After it a text begins, on a later line if a break was passed and else on the same
 
 -- of a place that is reached, where not too many lines were counted
 abbrev pub Breaks : Marker → Bool → GapEnd → Type 0
@@ -218,105 +179,57 @@ Breaks m broke p = m.line ≤ top → (m.line ≤ p.cursor.mark.line) × (p.curs
     × (p.broke ≡ true → p.cursor.mark.line < top → (broke ≡ true) ⊎ (m.line < p.cursor.mark.line))
     × (broke ≡ true → p.broke ≡ true) × (p.broke ≡ false → p.cursor.mark.line ≡ m.line)
 
-stop_breaks : (m : Marker) (blank broke tabbed : Bool) (t : List ℕ)
-    → Given (Breaks m broke) (stop m blank broke tabbed t)
-unfolding stop
-stop_breaks m blank broke tabbed t = grind arith
+abbrev Ends : Marker → Bool → Gap → Type 0
+Ends m broke g = IsTrue (begins_text (slice_index g.cursor.rest 0)) × Breaks m broke
+    (record { cursor = g.cursor; broke = g.met })
 
--- between tokens, and in a comment
-record Breaking (l : ℕ) (t : List ℕ) (m : Marker) (blank broke tabbed : Bool) : Type 0 where
-  between : Given (Breaks m broke) (end_of_gap l m blank broke tabbed t)
-  inside : Given (Breaks m broke) (end_of_gap_in_comment l m blank broke tabbed t)
+-- between tokens, and in a comment: both at once, since both are known of the same gap
+record Ended (l : ℕ) (t : List ℕ) (m : Marker) (blank met tabbed : Bool) : Type 0 where
+  between : Ends m met (end_of_gap true l m blank met tabbed t)
+  inside : Ends m met (end_of_gap_in_comment true l m blank met tabbed t)
 
-all_break : (l : ℕ) (t : List ℕ) (m : Marker) (blank broke tabbed : Bool) → Breaking l t m blank broke tabbed
-all_break l [] m blank broke tabbed =
-    record { between = stop_breaks m blank broke tabbed []; inside = stop_breaks m blank broke tabbed [] }
-all_break l (c ∷ cs) m blank broke tabbed =
-    let P = Given (Breaks m broke) in
-    let line = given_map _ _ (end_of_gap l (next_line m 1) true true false cs) (λ p h small.
-    let k = h (omega arith) in (
-      omega (arith, k.0, small),
-      k.1,
-      (λ _ s. inr (omega (arith, k.0, s))),
-      (λ _. k.3 refl),
-      λ f. absurd (let e = k.3 refl in cc),
-    ))
-    (all_break l cs (next_line m 1) true true false).between in
+here_ends : (m : Marker) (blank met tabbed : Bool) (t : List ℕ) → is_blank (slice_index t 0) ≡ false
+    → is_break (slice_index t 0) ≡ false → (slice_index t 0 == number_sign) ≡ false
+    → Ends m met (gap_here m blank met tabbed t)
+here_ends m blank met tabbed t b k s = (rw (b, k, s) refl, grind arith)
+
+line_ends : (m : Marker) (met : Bool) (g : Gap) → Ends (next_line m 1) true g → Ends m met g
+line_ends m met g h = (
+  h.0,
+  λ small. let k = h.1 (omega arith) in (
+    omega (arith, k.0, small),
+    k.1,
+    (λ _ s. inr (omega (arith, k.0, s))),
+    (λ _. k.3 refl),
+    λ f. absurd (let e = k.3 refl in cc),
+  ),
+)
+
+all_end : (l : ℕ) (t : List ℕ) (m : Marker) (blank met tabbed : Bool) → Ended l t m blank met tabbed
+all_end l [] m blank met tabbed =
+    let h = here_ends m blank met tabbed [] refl refl refl in record { between = h; inside = h }
+all_end l (c ∷ cs) m blank met tabbed =
+    let next = end_of_gap true l (next_line m 1) true true false cs in
+    let line = line_ends m met next (all_end l cs (next_line m 1) true true false).between in
+    let on = all_end l cs (along m 1) blank met in
     record {
-      between = by_test (is_blank c || ((c == 13) && (slice_index cs 0 == 10))) _ _ P
-          (λ _. (all_break l cs (along m 1) blank broke (is_tab_indentation l m blank c || tabbed)).between)
-          (λ _. by_test (is_break c) _ _ P (λ _. line)
-          (λ _. by_test (c == 35) _ _ P (λ _. (all_break l cs (along m 1) blank broke tabbed).inside)
-          (λ _. stop_breaks m blank broke tabbed (c ∷ cs))));
-      inside = by_test (is_yaml_non_break c) _ _ P (λ _. (all_break l cs (along m 1) blank broke tabbed).inside)
-          (λ _. by_test ((c == 13) && (slice_index cs 0 == 10)) _ _ P
-          (λ _. (all_break l cs (along m 1) blank broke tabbed).between)
-          (λ _. by_test (is_break c) _ _ P (λ _. line) (λ _. stop_breaks m blank broke tabbed (c ∷ cs))));
+      between = by_test (is_blank c || ((c == 13) && (slice_index cs 0 == 10))) _ _ (Ends m met)
+          (λ _. (on (is_tab_indentation l m blank c || tabbed)).between)
+          (λ e. by_test (is_break c) _ _ (Ends m met) (λ _. line)
+          (λ k. by_test (c == 35) _ _ (Ends m met) (λ _. (on tabbed).inside)
+          (λ s. here_ends m blank met tabbed (c ∷ cs)
+          (or_false_left (is_blank c) ((c == 13) && (slice_index cs 0 == 10)) e) k s)));
+      inside = by_test (is_yaml_non_break c) _ _ (Ends m met) (λ _. (on tabbed).inside)
+          (λ n. by_test ((c == 13) && (slice_index cs 0 == 10)) _ _ (Ends m met) (λ _. (on tabbed).between)
+          (λ _. by_test (is_break c) _ _ (Ends m met) (λ _. line)
+          (λ k. here_ends m blank met tabbed (c ∷ cs) (break_is_no_gap_blank true c n) k (break_is_no_sign c n))));
     }
 
-pub gap_breaks : (l : ℕ) (broke tabbed : Bool) (s : Cursor)
-    → Given (Breaks s.mark broke) (end_of_gap l s.mark s.blank_so_far broke tabbed s.rest)
-gap_breaks l broke tabbed s = (all_break l s.rest s.mark s.blank_so_far broke tabbed).between
+abbrev pub BeginsText : GapEnd → Type 0
+BeginsText p = IsTrue (begins_text (slice_index p.cursor.rest 0))
 
--- ## After `?`
+pub gap_begins : (l : ℕ) (s : Cursor) → Given BeginsText (whole_gap l s)
+gap_begins l s = gap_given _ _ (all_end l s.rest s.mark s.blank_so_far false false).between.0
 
-record Spacing (t : List ℕ) (m : Marker) (blank space : Bool) : Type 0 where
-  between : To (end_of_spaces m blank space t).cursor.mark (end_of_spaces m blank space t).cursor.rest m t
-  inside : Comment m t (end_of_spaces_in_comment m blank space t).cursor.mark
-      (end_of_spaces_in_comment m blank space t).cursor.rest
-  behind_return : (slice_index t 0 == line_feed) ≡ true → (k : Marker) → m ≡ along k 1
-      → To (end_of_spaces m blank space t).cursor.mark (end_of_spaces m blank space t).cursor.rest k
-      (carriage_return ∷ t)
-
-all_spaces : (t : List ℕ) (m : Marker) (blank space : Bool) → Spacing t m blank space
-all_spaces [] m blank space =
-    record {
-      between = taken.nothing m [];
-      inside = comment_here m [] m [] refl (taken.nothing m []);
-      behind_return = λ e k q. absurd (cc);
-    }
-all_spaces (c ∷ cs) m blank space =
-    let P : SpacesEnd → Type 0 = λ r. To r.cursor.mark r.cursor.rest m (c ∷ cs) in
-    let Q : SpacesEnd → Type 0 = λ r. Comment m (c ∷ cs) r.cursor.mark r.cursor.rest in
-    let line : ((c == 13) && (slice_index cs 0 == 10)) ≡ false → is_break c ≡ true
-    → P (end_of_spaces (next_line m 1) true true cs) =
-    λ e b. single_break m c cs _ _ b e (all_spaces cs (next_line m 1) true true).between in
-    let return : ((c == 13) && (slice_index cs 0 == 10)) ≡ true → P (end_of_spaces (along m 1) blank true cs) = λ e.
-    let f = and_parts (c == 13) (slice_index cs 0 == 10) e in
-    let r = end_of_spaces (along m 1) blank true cs in
-    rw (eqb-true c 13 f.0) ((all_spaces cs (along m 1) blank true).behind_return f.1 m refl) in
-    let further : (c == 32) ≡ true → P (end_of_spaces (along m 1) blank true cs) =
-    λ b. taken.blank m c cs _ _ (ap is_blank (eqb-true c 32 b)) (all_spaces cs (along m 1) blank true).between in
-    let comments : (c == 35) ≡ true → P (end_of_spaces_in_comment (along m 1) blank space cs) =
-    λ e. comment_whole m c cs _ _ (eqb-true c 35 e) (all_spaces cs (along m 1) blank space).inside in
-    let more : is_yaml_non_break c ≡ true → Q (end_of_spaces_in_comment (along m 1) blank space cs) =
-    λ e. comment_more m c cs _ _ e (all_spaces cs (along m 1) blank space).inside in
-    record {
-      between = by_test ((c == 32) || ((c == 13) && (slice_index cs 0 == 10))) _ _ P
-          (λ e. elim (or_cases (c == 32) ((c == 13) && (slice_index cs 0 == 10)) e)
-          [ inl b ↦ further b | inr r ↦ return r ])
-          (λ e. by_test (is_break c) _ _ P
-          (λ b. line (or_false_right (c == 32) ((c == 13) && (slice_index cs 0 == 10)) e) b)
-          (λ _. by_test (c == 35) _ _ P comments (λ _. taken.nothing m (c ∷ cs))));
-      inside = by_test (is_yaml_non_break c) _ _ Q more
-          (λ n. by_test ((c == 13) && (slice_index cs 0 == 10)) _ _ Q (λ r. comment_here m (c ∷ cs) _ _ n (return r))
-          (λ e. by_test (is_break c) _ _ Q (λ b. comment_here m (c ∷ cs) _ _ n (line e b))
-          (λ _. comment_here m (c ∷ cs) m (c ∷ cs) n (taken.nothing m (c ∷ cs)))));
-      behind_return = λ e k q. fed c (eqb-true c 10 e) k q (all_spaces cs (next_line m 1) true true).between;
-    }
-  where
-    fed : (d : ℕ) → d ≡ line_feed → (k : Marker) → m ≡ along k 1
-        → To (end_of_spaces (next_line m 1) true true cs).cursor.mark
-        (end_of_spaces (next_line m 1) true true cs).cursor.rest
-        (next_line m 1) cs → To (end_of_spaces m blank space (d ∷ cs)).cursor.mark
-        (end_of_spaces m blank space (d ∷ cs)).cursor.rest
-        k (carriage_return ∷ d ∷ cs)
-    fed d e k q h =
-        let r = end_of_spaces (next_line m 1) true true cs in
-        subst (λ x. To (end_of_spaces m blank space (x ∷ cs)).cursor.mark
-        (end_of_spaces m blank space (x ∷ cs)).cursor.rest k (13 ∷ x ∷ cs)) (sym e)
-        (crlf_break k cs r.cursor.mark r.cursor.rest
-        (subst (λ (j : Marker). IsPassedOver (next_line j 1) cs r.cursor.mark r.cursor.rest) q h))
-
-pub spaces_apart : (space : Bool) (s : Cursor) → AreApart s (end_of_spaces s.mark s.blank_so_far space s.rest).cursor
-spaces_apart space s = (all_spaces s.rest s.mark s.blank_so_far space).between
+pub gap_breaks : (l : ℕ) (s : Cursor) → Given (Breaks s.mark false) (whole_gap l s)
+gap_breaks l s = gap_given _ _ (all_end l s.rest s.mark s.blank_so_far false false).between.1

@@ -1,17 +1,17 @@
 -- What is between two tokens.
-use Rattle.std.proofs.Common.{◌≡◌, ℕ, Bool, true, false, List, [], ◌∷◌, ◌++◌, Option, Some, None, Result, Ok, refl, arith}
+use Rattle.std.proofs.Common.{◌≡◌, ℕ, Bool, true, false, List, [], ◌∷◌, ◌++◌, Option, Result, Ok, refl, arith}
 use Rattle.std.specs.Prelude.{◌&&◌, ◌||◌, ◌==◌, not}
-use Rattle.saphyr_input.specs.Classes.{is_blank, is_bom, is_z, is_yaml_non_break}
+use Rattle.saphyr_input.specs.Classes.{is_bom, is_z, is_yaml_non_break}
 use Rattle.saphyr_input.proofs.Basics.Booleans.{and_true_left, either}
 use Rattle.saphyr_scalar.specs.declared.scalar.position.Marker.{Marker}
 use Rattle.saphyr_scalar.specs.declared.scalar.fault.Refusal.{Refusal}
-use Rattle.saphyr_scalar.specs.Views.Cursor.{along, next_line}
+use Rattle.saphyr_scalar.specs.Views.Cursor.{Cursor, along, next_line}
 use Rattle.saphyr_scanner.specs.Steps.Core.{Core, least_column}
-use Rattle.saphyr_scanner.specs.Steps.Gap.{GapEnd, stop, is_tab_indentation, end_of_gap, end_of_gap_in_comment, SpacesEnd, end_of_spaces, end_of_spaces_in_comment}
+use Rattle.saphyr_scanner.specs.Steps.Gap.{Gap, GapEnd, SpacesEnd, stop, gap_here, is_gap_blank, is_tab_indentation, end_of_gap, end_of_gap_in_comment, spaces_at, spaces_of}
 use Rattle.saphyr_scanner.specs.Steps.Passing.{goes_on_behind, check_comment_of, check_comment, behind_gap, pass_gap}
 use Rattle.saphyr_scalar.specs.Known.{is_open, longer}
 use Rattle.saphyr_scalar.proofs.WhatCame.Rests.{some, InText, later_than, known_before, shown, later_here, later_on, first_known, indicator_known, plain_known}
-use Rattle.saphyr_scalar.proofs.WhatCame.Steps.{Left, Came, Sure, further, refused, stays, given, past, ended, choose, choose_same, choose_given, at_break, at_break_in, reports, and_known}
+use Rattle.saphyr_scalar.proofs.WhatCame.Steps.{Left, CameAs, Came, Sure, further, refused, stays, given, ended, choose, choose_of, choose_same, at_break_in, reports, and_known}
 use Rattle.saphyr_scanner.proofs.WhatCame.Cores.{longer_core, cores}
 
 abbrev gap_ends : Left GapEnd
@@ -20,27 +20,18 @@ gap_ends = record { rest = λ g. g.cursor.rest; with_more = λ more g. record g 
 abbrev pub spaces_ends : Left SpacesEnd
 spaces_ends = record { rest = λ g. g.cursor.rest; with_more = λ more g. record g { cursor = longer more g.cursor } }
 
-module _ (more : List ℕ) where
-  stop_end : (m : Marker) (blank broke tabbed : Bool) (q : Result GapEnd Refusal)
-      → Came gap_ends more [] (stop m blank broke tabbed []) q
-  unfolding stop
-  stop_end m blank broke true q = ended (given (later_here []))
-  stop_end m blank broke false q = ended (given (later_here []))
+-- on the next line
+fresh : (r : List ℕ) → InText r false r
+fresh r = (later_here r, λ e. absurd (cc))
 
-  -- a tab in the indentation is in a text that is not open
-  stop_came : (text : List ℕ) (m : Marker) (blank broke tabbed : Bool) (r : List ℕ) → InText text tabbed r
-      → Came gap_ends more text (stop m blank broke tabbed r) (stop m blank broke tabbed (r ++ more))
-  unfolding stop
-  stop_came text m blank broke tabbed [] h = further h.0 (stop_end m blank broke tabbed _)
-  stop_came text m blank broke tabbed (c ∷ cs) h =
-      choose (tabbed && is_bom c) (λ is. reports (h.1 (and_true_left tabbed _ is)))
-      (λ _. choose (tabbed && not (is_z c)) (λ is. reports (h.1 (and_true_left tabbed _ is))) (λ _. given h.0))
-
-  -- on the next line
-  fresh : (r : List ℕ) → InText r false r
-  fresh r = (later_here r, λ e. absurd (cc))
-
-  module _ (least : ℕ) where
+-- Over a text that is not open where a tab was in the indentation, which is seen by k.
+module _ {X : Type 0} {asks says : Bool} {at : Left X} (more : List ℕ) (k : Gap → Result X Refusal)
+    (nothing : (m : Marker) (blank met tabbed : Bool) (q : Result X Refusal)
+    → CameAs asks says at more [] (k (gap_here m blank met tabbed [])) q)
+    (here : (text : List ℕ) (m : Marker) (blank met tabbed : Bool) (r : List ℕ) → InText text tabbed r
+    → CameAs asks says at more text (k (gap_here m blank met tabbed r)) (k (gap_here m blank met tabbed (r ++ more))))
+    (tabs : Bool) (least : ℕ)
+  where
     tab_in : (text : List ℕ) (m : Marker) (blank tabbed : Bool) (c : ℕ) (cs : List ℕ) → InText text tabbed (c ∷ cs)
         → InText text (is_tab_indentation least m blank c || tabbed) cs
     tab_in text m blank tabbed c cs h = (
@@ -54,43 +45,50 @@ module _ (more : List ℕ) where
     on_line text tabbed c cs h = (later_than (later_on c (later_here cs)) h.0, h.1)
 
     mutual
-      gap_came : (text : List ℕ) (m : Marker) (blank broke tabbed : Bool) (r : List ℕ) → InText text tabbed r
-          → Came gap_ends more text (end_of_gap least m blank broke tabbed r)
-          (end_of_gap least m blank broke tabbed (r ++ more))
-      gap_came text m blank broke tabbed [] h = further h.0 (stop_end m blank broke tabbed _)
-      gap_came text m blank broke tabbed (c ∷ cs) h = at_break_in (λ r. r) (is_blank c) c cs h.0
-          (gap_came text (along m 1) blank broke (is_tab_indentation least m blank c || tabbed) cs
+      gap_came : (text : List ℕ) (m : Marker) (blank met tabbed : Bool) (r : List ℕ) → InText text tabbed r
+          → CameAs asks says at more text (k (end_of_gap tabs least m blank met tabbed r))
+          (k (end_of_gap tabs least m blank met tabbed (r ++ more)))
+      gap_came text m blank met tabbed [] h =
+          further h.0 (ended (nothing m blank met tabbed (k (gap_here m blank met tabbed []))))
+      gap_came text m blank met tabbed (c ∷ cs) h = at_break_in k (is_gap_blank tabs c) c cs h.0
+          (gap_came text (along m 1) blank (not tabs || met) (is_tab_indentation least m blank c || tabbed) cs
           (tab_in text m blank tabbed c cs h))
-          (gap_came cs (next_line m 1) true true false cs (fresh cs)) (choose (c == 35)
-          (λ _. comment_came text (along m 1) blank broke tabbed cs (on_line text tabbed c cs h))
-          (λ _. stop_came text m blank broke tabbed (c ∷ cs) h))
+          (gap_came cs (next_line m 1) true true false cs (fresh cs)) (choose_of k (c == 35) (c == 35) (λ _. refl)
+          (λ _. comment_came text (along m 1) blank met tabbed cs (on_line text tabbed c cs h))
+          (λ _. here text m blank met tabbed (c ∷ cs) h))
 
-      comment_came : (text : List ℕ) (m : Marker) (blank broke tabbed : Bool) (r : List ℕ) → InText text tabbed r
-          → Came gap_ends more text (end_of_gap_in_comment least m blank broke tabbed r)
-          (end_of_gap_in_comment least m blank broke tabbed (r ++ more))
-      comment_came text m blank broke tabbed [] h = further h.0 (stop_end m blank broke tabbed _)
-      comment_came text m blank broke tabbed (c ∷ cs) h = choose (is_yaml_non_break c)
-          (λ _. comment_came text (along m 1) blank broke tabbed cs (on_line text tabbed c cs h))
-          (λ _. at_break_in (λ r. r) false c cs h.0
-          (gap_came text (along m 1) blank broke tabbed cs (on_line text tabbed c cs h))
-          (gap_came cs (next_line m 1) true true false cs (fresh cs)) (stop_came text m blank broke tabbed (c ∷ cs) h))
+      comment_came : (text : List ℕ) (m : Marker) (blank met tabbed : Bool) (r : List ℕ) → InText text tabbed r
+          → CameAs asks says at more text (k (end_of_gap_in_comment tabs least m blank met tabbed r))
+          (k (end_of_gap_in_comment tabs least m blank met tabbed (r ++ more)))
+      comment_came text m blank met tabbed [] h =
+          further h.0 (ended (nothing m blank met tabbed (k (gap_here m blank met tabbed []))))
+      comment_came text m blank met tabbed (c ∷ cs) h = choose_of k (is_yaml_non_break c) (is_yaml_non_break c)
+          (λ _. refl) (λ _. comment_came text (along m 1) blank met tabbed cs (on_line text tabbed c cs h))
+          (λ _. at_break_in k false c cs h.0
+          (gap_came text (along m 1) blank (not tabs || met) tabbed cs (on_line text tabbed c cs h))
+          (gap_came cs (next_line m 1) true true false cs (fresh cs)) (here text m blank met tabbed (c ∷ cs) h))
 
-  mutual
-    pub spaces_came : (m : Marker) (blank found : Bool) (r : List ℕ) → Sure spaces_ends more r
-        (Ok (end_of_spaces m blank found r)) (Ok (end_of_spaces m blank found (r ++ more)))
-    spaces_came m blank found [] = ended (given (later_here []))
-    spaces_came m blank found (c ∷ cs) = at_break (λ x. Ok x) (c == 32) c cs (spaces_came (along m 1) blank true cs)
-        (spaces_came (next_line m 1) true true cs) (choose_given (c == 35)
-        (λ _. past c (spaces_comment_came (along m 1) blank found cs))
-        (λ _. stays))
+module _ (more : List ℕ) where
+  stop_end : (m : Marker) (blank met tabbed : Bool) (q : Result GapEnd Refusal)
+      → Came gap_ends more [] (stop (gap_here m blank met tabbed [])) q
+  unfolding stop
+  stop_end m blank met true q = ended (given (later_here []))
+  stop_end m blank met false q = ended (given (later_here []))
 
-    spaces_comment_came : (m : Marker) (blank found : Bool) (r : List ℕ) → Sure spaces_ends more r
-        (Ok (end_of_spaces_in_comment m blank found r)) (Ok (end_of_spaces_in_comment m blank found (r ++ more)))
-    spaces_comment_came m blank found [] = ended (given (later_here []))
-    spaces_comment_came m blank found (c ∷ cs) = choose_given (is_yaml_non_break c)
-        (λ _. past c (spaces_comment_came (along m 1) blank found cs))
-        (λ _. at_break (λ x. Ok x) false c cs (spaces_came (along m 1) blank true cs)
-        (spaces_came (next_line m 1) true true cs) stays)
+  -- a tab in the indentation is in a text that is not open
+  stop_came : (text : List ℕ) (m : Marker) (blank met tabbed : Bool) (r : List ℕ) → InText text tabbed r
+      → Came gap_ends more text (stop (gap_here m blank met tabbed r)) (stop (gap_here m blank met tabbed (r ++ more)))
+  unfolding stop
+  stop_came text m blank met tabbed [] h = further h.0 (stop_end m blank met tabbed _)
+  stop_came text m blank met tabbed (c ∷ cs) h =
+      choose (tabbed && is_bom c) (λ is. reports (h.1 (and_true_left tabbed _ is)))
+      (λ _. choose (tabbed && not (is_z c)) (λ is. reports (h.1 (and_true_left tabbed _ is))) (λ _. given h.0))
+
+  pub spaces_came : (found : Bool) (s : Cursor)
+      → Sure spaces_ends more s.rest (Ok (spaces_at found s)) (Ok (spaces_at found (longer more s)))
+  spaces_came found s = gap_came {at = spaces_ends} more (λ g. Ok (spaces_of g))
+      (λ m blank met tabbed q. ended (given (later_here []))) (λ text m blank met tabbed r h. given h.0) false 0
+      s.rest s.mark s.blank_so_far found false s.rest (fresh s.rest)
 
   -- ## A comment before a token
 
@@ -107,5 +105,6 @@ module _ (more : List ℕ) where
   pub pass_gap_came : (c : Core) → Came cores more c.cursor.rest (pass_gap c) (pass_gap (longer_core more c))
   unfolding pass_gap check_comment
   pass_gap_came c = let s = c.cursor in
-      and_known _ (gap_came (least_column c) s.rest s.mark s.blank_so_far false false s.rest (fresh s.rest))
+      and_known _ (gap_came more stop stop_end stop_came true (least_column c) s.rest s.mark
+      s.blank_so_far false false s.rest (fresh s.rest))
       (λ g _. check_came c.comment (behind_gap c g))

@@ -4,7 +4,7 @@ use Rattle.std.specs.Prelude.{◌&&◌, ◌||◌, ◌==◌, not, nat_lt, nat_le}
 use Rattle.saphyr_input.proofs.Basics.Booleans.{by_test, and_true_right}
 use Rattle.saphyr_input.specs.Classes.{is_break, is_flow, is_alpha, is_blank_or_breakz}
 use Rattle.saphyr_input.specs.declared.input.SkipTabs.{SkipTabs}
-use Rattle.saphyr_input.specs.Separation.{found_tabs, has_valid_yaml_ws}
+use Rattle.saphyr_input.specs.Separation.{has_valid_yaml_ws}
 use Rattle.saphyr_scalar.specs.declared.scalar.position.Marker.{Marker}
 use Rattle.saphyr_scanner.specs.Limits.{most_open}
 use Rattle.saphyr_scanner.specs.Grammar.Tokens as tokens
@@ -14,13 +14,13 @@ use Rattle.saphyr_scanner.specs.Steps.Core.{Core, StepResult, completed_step, at
 use Rattle.saphyr_scanner.specs.Steps.Core as core
 use Rattle.saphyr_scanner.specs.Steps.Gap.{spaces_at}
 use Rattle.saphyr_scanner.specs.Steps.Passing.{pass_on, with_cursor, separate}
-use Rattle.saphyr_scanner.specs.Steps.Block.{refuse_tab, is_dash_next, deepen, pass_dash, next_entry, block_entry_steps, behind_mark, pass_question, begin_key, key_steps}
+use Rattle.saphyr_scanner.specs.Steps.Block.{refuse_tab, deepen, pass_dash, next_entry, block_entry_steps, behind_mark, pass_question, begin_key, key_steps}
 use Rattle.saphyr_scanner.specs.Steps.Flow.{enter, leave_to, leave, open_collection, opening_steps, allow_adjacent, behind_pair, close_collection, closing_steps, next_flow_entry, flow_entry_steps}
 use Rattle.saphyr_scanner.specs.Steps.Value.{check_tab, opening_of, value_of_key, opening_actions, value_alone, behind_key, value_steps}
 use Rattle.saphyr_scalar.specs.Known.{is_open}
 use Rattle.saphyr_scalar.proofs.WhatCame.Rests.{is_nothing, some, shows, shows_is, later_drop, first_known}
 use Rattle.saphyr_scalar.proofs.WhatCame.Steps.{Came, Sure, Mixed, further, reports, refused, stays, loosely, choose, choose_first, choose_same, choose_given, choose_of, and_then, and_mixed, on}
-use Rattle.saphyr_scanner.proofs.WhatCame.Cores.{longer_core, cores, steps, save_came, roll_came, remove_came, pass_came, separate_came, seen_behind}
+use Rattle.saphyr_scanner.proofs.WhatCame.Cores.{longer_core, cores, steps, save_came, roll_came, remove_came, pass_came, separate_came}
 use Rattle.saphyr_scanner.proofs.WhatCame.Gaps.{spaces_came}
 
 module _ (more : List ℕ) where
@@ -66,7 +66,7 @@ module _ (more : List ℕ) where
       → Sure cores more (drop 1 c.cursor.rest) (pass_question c) (pass_question (longer_core more c))
   question_came c = let s = (pass_on 1 c).cursor in on (λ g. behind_mark g.space (with_cursor g.cursor c))
       (on (λ d. Ok (spaces_at false d.cursor)) (pass_came more 1 c)
-      (spaces_came more s.mark s.blank_so_far false s.rest))
+      (spaces_came more false s))
       (mark_came _ _)
 
   pub key_came : (c : Core) → Sure steps more (drop 1 c.cursor.rest) (key_steps c) (key_steps (longer_core more c))

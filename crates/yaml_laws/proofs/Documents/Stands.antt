@@ -1,7 +1,7 @@
 -- The places between the documents of a text, and a step from one to the next.
 use Rattle.yaml_laws.proofs.Common.{Bool, List, Ok, [], ap, arith, false, inl, inr, length, refl, slice_index, subst, sym, true, ℕ, ◌++◌, ◌+◌, ◌∙◌, ◌∷◌, ◌≡◌, ◌≤◌, ◌⊎◌, None, Option, Some, not, ◌&&◌, ◌==◌, ◌||◌, is_blank, is_z, can_be_plain, is_document_indicator, Marker, Cursor, ◌>>=◌, Kind, Piece, Place, bare_place, Core, drop_far_key, Candidate, State, LeadsTo, cursor_at, eq-eqb, place_kinds, place_kinds_append, queue_of}
 use Rattle.saphyr_scanner.specs.declared.engine.level.Context.TheVariants as context
-use Rattle.saphyr_scanner.specs.Steps.Gap.{GapEnd, stop}
+use Rattle.saphyr_scanner.specs.Steps.Gap.{GapEnd, gap_here, stop}
 use Rattle.saphyr_scanner.specs.Steps.Passing.{goes_on_behind, pass_gap, check_comment, behind_gap}
 use Rattle.saphyr_scanner.specs.Steps.Fetch.{fetch_here, arrive, fetch}
 use Rattle.yaml_laws.proofs.InFlow.States.{alone, noted}
@@ -54,7 +54,7 @@ passes_noted (Some comment) s k a ad m y here (inr h) =
     let g = gap_past 0 s.mark s.blank_so_far s.rest in
     let c : Core = record (core_at false s context.Block k [] a ad) { comment = Some comment } in
     let there = g.is (past_no_blank s.mark s.rest) 0 none_less
-    ∙ ap (λ (p : Marker × List ℕ). stop p.0 g.still_blank (crosses s.rest) false p.1) here in
+    ∙ ap (λ (p : Marker × List ℕ). stop (gap_here p.0 g.still_blank (crosses s.rest) false p.1)) here in
     let b = (crosses s.rest && true) || a in
     let goes : check_comment
     (record (core_at false (cursor_at y m g.still_blank) context.Block k [] b ad) { comment = Some comment })

@@ -2,8 +2,7 @@
 use Rattle.std.proofs.Common.{◌≡◌, ◌≢◌, ℕ, Bool, true, false, List, [], ◌∷◌, ◌++◌, slice_index, sym, arith, subst, append_assoc, IsTrue, ◌⊎◌, inl, inr}
 use Rattle.std.specs.Prelude.{◌||◌, ◌&&◌, not}
 use Rattle.std.proofs.lemmas.Bool.Decides.{nat_tests}
-use Rattle.saphyr_input.specs.Classes.{is_blank, is_blank_or_breakz, is_flow, is_anchor_char}
-use Rattle.saphyr_input.specs.Places.{is_blank_or_break}
+use Rattle.saphyr_input.specs.Classes.{is_blank, is_blank_or_breakz, is_flow, is_anchor_char, line_feed}
 use Rattle.saphyr_scalar.specs.declared.scalar.position.Marker.{Marker}
 use Rattle.saphyr_scalar.specs.Spelling.Tag.{AreIn, EndsTag}
 use Rattle.scalar_laws.specs.Spelling.Spaces.{joined_pieces, AreEach, IsCommentBehind, IsSeparationLine, IsSeparation, IsLineRest}
@@ -17,17 +16,14 @@ use Rattle.std.proofs.lemmas.Bool.{or_left}
 
 -- ## White space first
 
--- nothing, or a blank or a break first
+-- nothing, or a blank or a line feed first
 abbrev pub BeginsWhite : List ℕ → Type 0
 BeginsWhite [] = Unit {0}
-BeginsWhite (c ∷ cs) = IsTrue (is_blank_or_break c)
-
-pub blank_white : (c : ℕ) → IsTrue (is_blank c) → IsTrue (is_blank_or_break c)
-blank_white c h = grind (arith, nat_tests)
+BeginsWhite (c ∷ cs) = IsTrue (is_blank c) ⊎ (c ≡ line_feed)
 
 blanks_white : (w : List ℕ) → AreIn is_blank w → BeginsWhite w
 blanks_white [] h = tt
-blanks_white (c ∷ cs) h = blank_white c h.0
+blanks_white (c ∷ cs) h = inl h.0
 
 -- a comment comes after white space alone
 behind_white : (w comment more : List ℕ) → BeginsWhite w → IsCommentBehind w comment → BeginsWhite more
@@ -53,7 +49,7 @@ rest_white rest more h k = rw (h.4, append_assoc h.0 h.1 more) (behind_white h.0
 
 -- ## The first character after a node
 
-white_breakz : (c : ℕ) → IsTrue (is_blank_or_break c) → IsTrue (is_blank_or_breakz c)
+white_breakz : (c : ℕ) → IsTrue (is_blank c) ⊎ (c ≡ line_feed) → IsTrue (is_blank_or_breakz c)
 white_breakz c h = grind (arith, nat_tests)
 
 -- after a document's node: a blank, a break or the end

@@ -3,7 +3,7 @@ use Rattle.std.proofs.Common.{◌≡◌, ℕ, ◌≤◌, Bool, true, false, List
 use Rattle.std.specs.Prelude.{◌||◌, ◌&&◌, ◌==◌, not}
 use Rattle.saphyr_input.specs.Classes.{is_blank, is_break, is_yaml_non_break, line_feed}
 use Rattle.saphyr_scalar.specs.declared.scalar.position.Marker.{Marker}
-use Rattle.saphyr_scanner.specs.Steps.Gap.{stop, is_tab_indentation}
+use Rattle.saphyr_scanner.specs.Steps.Gap.{gap_here, stop, is_tab_indentation}
 use Rattle.yaml_laws.proofs.Flow.States.{is_left_tab, is_filler_rest, is_comment_rest}
 use Rattle.saphyr_input.proofs.Basics.Booleans.{and_true_left, and_true_right}
 use Rattle.std.proofs.lemmas.Bool.{or_parts}
@@ -78,6 +78,7 @@ tab_rest column low m blank c cs true t under e h k = rest_on c cs e (h refl)
 tab_rest column low m blank c cs false t under e h k = grind arith
 
 -- at the text's end a tab is no matter
-pub stop_ends : (m : Marker) (blank broke tab : Bool) → stop m blank broke tab [] ≡ stop m blank broke false []
+pub stop_ends : (m : Marker) (blank met tab : Bool)
+    → stop (gap_here m blank met tab []) ≡ stop (gap_here m blank met false [])
 unfolding stop
-stop_ends m blank broke tab = grind arith
+stop_ends m blank met tab = grind arith

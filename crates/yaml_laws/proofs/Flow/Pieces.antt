@@ -1,14 +1,13 @@
 -- Pieces of a text in flow style in parts, and what comes after them.
-use Rattle.std.proofs.Common.{◌≡◌, ◌≢◌, ℕ, ◌+◌, ◌≤◌, true, List, [], ◌∷◌, ◌++◌, length, slice_index, refl, ap, arith, append_assoc, IsTrue, ◌⊎◌, inl, inr}
+use Rattle.std.proofs.Common.{◌≡◌, ◌≢◌, ℕ, ◌+◌, ◌≤◌, List, [], ◌∷◌, ◌++◌, length, slice_index, refl, ap, arith, append_assoc, IsTrue, ◌⊎◌, inl, inr}
 use Rattle.saphyr_input.specs.Indicators.{comma, right_brace, right_bracket}
-use Rattle.saphyr_input.specs.Classes.{is_blank, line_feed}
 use Rattle.saphyr_scalar.specs.declared.scalar.position.Marker.{Marker}
 use Rattle.scalar_laws.specs.Spelling.Spaces.{IsSeparation}
 use Rattle.saphyr_scanner.specs.Grammar.Forest.{Node}
 use Rattle.yaml_laws.proofs.InFlow.States.{Around}
 use Rattle.yaml_laws.proofs.Flow.States.{moved, IsContentStart, IsBehind, IsParted, EndsNode, ends_colon, IsBehindNode, FitsAround}
 use Rattle.yaml_laws.proofs.Flow.Places.{moved_count, clear_front, clear_back}
-use Rattle.yaml_laws.proofs.Flow.Spaces.{separation_begins}
+use Rattle.yaml_laws.proofs.Flow.Ends.{ends_behind_separation}
 use Rattle.yaml_laws.proofs.Flow.ContentStarts.{StartsContent}
 
 -- ## A piece in parts
@@ -84,15 +83,10 @@ parted_by indent w t parts b =
       ends = b.content;
     }
 
-white_ends : (c : ℕ) → (is_blank c ≡ true) ⊎ (c ≡ line_feed) → IsTrue (ends_colon c)
-white_ends c (inl h) = search
-white_ends c (inr e) = rw e refl
-
 -- after separation that is not empty
 pub white_ends_colon : (indent : ℕ) (w y : List ℕ) → IsSeparation indent w → w ≢ []
     → IsTrue (ends_colon (slice_index (w ++ y) 0))
-white_ends_colon indent w y parts some =
-    let b = separation_begins indent w parts some in rw b.is (white_ends b.first b.white)
+white_ends_colon indent w y parts some = rw (ends_behind_separation indent w y parts some) refl
 
 -- where nothing comes after a colon
 pub entry_ends_colon : (indent : ℕ) (o : List ℕ) → IsBehindEntry indent o → IsTrue (ends_colon (slice_index o 0))

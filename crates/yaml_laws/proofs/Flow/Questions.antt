@@ -1,14 +1,13 @@
 -- The `?` of a text in flow style is read.
-use Rattle.std.proofs.Common.{◌≡◌, ◌≢◌, ℕ, ◌≤◌, Bool, true, false, List, [], ◌∷◌, ◌++◌, length, slice_index, Ok, refl, sym, ap, ◌∙◌, arith, ◌⊎◌}
+use Rattle.std.proofs.Common.{◌≡◌, ◌≢◌, ℕ, ◌≤◌, Bool, true, false, List, [], ◌∷◌, length, slice_index, Ok, refl, sym, ap, ◌∙◌, arith}
 use Rattle.std.specs.Prelude.{Option, None}
-use Rattle.std.proofs.lemmas.Bool.Decides.{nat_tests}
-use Rattle.saphyr_input.specs.Classes.{is_blank, is_blank_or_breakz, line_feed}
+use Rattle.saphyr_input.specs.Classes.{is_blank_or_breakz}
 use Rattle.saphyr_scalar.specs.declared.scalar.position.Marker.{Marker}
 use Rattle.saphyr_scalar.specs.Views.Cursor.{Cursor, ◌>>=◌, along}
 use Rattle.saphyr_scalar.proofs.Given.{cursor_at}
-use Rattle.scalar_laws.specs.Spelling.Spaces.{IsSeparation}
 use Rattle.saphyr_scanner.specs.declared.engine.level.Context.{Context}
-use Rattle.saphyr_scanner.specs.Steps.Gap.{spaces_end, end_of_spaces}
+use Rattle.saphyr_scanner.specs.Steps.Gap.{spaces_at}
+use Rattle.yaml_laws.proofs.InBlock.Skips.{spaces_end}
 use Rattle.saphyr_scanner.specs.Grammar.Tokens as tokens
 use Rattle.saphyr_scanner.specs.Steps.Core.{Core, from_to, up_to_here, completed_step, remove_key}
 use Rattle.saphyr_scanner.specs.Steps.Level.{Candidate, Level, is_block, behind_question}
@@ -25,24 +24,14 @@ use Rattle.yaml_laws.proofs.Flow.Tokens.{arrives, step_comes, within_index}
 use Rattle.yaml_laws.proofs.Flow.Joins.{step_passes}
 use Rattle.yaml_laws.proofs.InBlock.Crossings.{fresh_in_flow}
 use Rattle.yaml_laws.proofs.Flow.Brackets.{IsTokenMark, mark_begins, mark_moved, one_on, token_mark}
-use Rattle.yaml_laws.proofs.Flow.Spaces.{separation_begins, spaces_passed}
+use Rattle.yaml_laws.proofs.Flow.Ends.{ends_behind_separation}
+use Rattle.yaml_laws.proofs.Flow.Spaces.{spaces_passed}
 use Rattle.saphyr_input.proofs.Basics.Numbers.{le_next}
 use Rattle.saphyr_input.specs.Indicators.{question_mark}
 use Rattle.saphyr_scanner.proofs.Queues.{token_place}
 
 question : IsTokenMark 63
 question = token_mark 63 refl
-
-white_first : (indent : ℕ) (w y : List ℕ) → IsSeparation indent w → w ≢ []
-    → is_blank_or_breakz (slice_index (w ++ y) 0) ≡ true
-white_first indent w y parts some =
-    let b = separation_begins indent w parts some in simp (b.is, by_first b.first b.white)
-  where
-    blank : (c : ℕ) → is_blank c ≡ true → is_blank_or_breakz c ≡ true
-    blank c h = grind (arith, nat_tests)
-
-    by_first : (c : ℕ) → (is_blank c ≡ true) ⊎ (c ≡ line_feed) → is_blank_or_breakz c ≡ true
-    by_first c h = grind arith
 
 question_reads_key : (second i : ℕ) (c : Core) → is_blank_or_breakz second ≡ true
     → step 63 second i c ≡ block.key_steps c
@@ -57,7 +46,7 @@ begins_key around d s y k ls a ad e = grind arith
 
 passes_mark : (around : Around) (d : Bool) (o : List ℕ) (m : Marker) (b : Bool) (y : Context) (ls : List Level) (ad : ℕ)
     (n : Marker) (blank : Bool) (c : ℕ) (cs : List ℕ) → IsContentStart c
-    → end_of_spaces (along m 1) false false o ≡ spaces_end n blank true (c ∷ cs)
+    → spaces_at false (cursor_at o (along m 1) false) ≡ spaces_end n blank (c ∷ cs)
     → pass_question (core_at around d (cursor_at (question_mark ∷ o) m b) y None ls false ad)
     ≡ Ok (core_at around d (cursor_at (c ∷ cs) n blank) y None ls false ad)
 unfolding behind_mark
@@ -91,8 +80,8 @@ mark_passes around y flows m o fits parted some tabs now before text =
     let p = spaces_passed around.indent (along m 1) false w c cs parted.parts on some tabs parted.ends in
     let n = moved (along m 1) w in
     let there = cursor_at (c ∷ cs) n p.still_blank in
-    let white : is_blank_or_breakz (slice_index o 0) ≡ true = cc (white_first around.indent w (c ∷ cs) parted.parts
-    some) in
+    let white : is_blank_or_breakz (slice_index o 0) ≡ true =
+    cc (ends_behind_separation around.indent w (c ∷ cs) parted.parts some) in
     let stepped = λ (d : Bool). question_reads_key (slice_index o 0) (length now.places) (core_at around d seen y v.key
     now.outer v.allowed now.adjacent) white ∙ key_of around d seen y v.key now.outer v.allowed now.adjacent flows
     ∙ ap (λ q. q >>= λ (e : Core). completed_step (up_to_here m tokens.Key e ∷ []) e)

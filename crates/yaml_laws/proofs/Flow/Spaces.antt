@@ -1,20 +1,20 @@
 -- What comes after a `?` in flow style is passed.
-use Rattle.std.proofs.Common.{suc, ◌≡◌, ◌≢◌, ℕ, ◌≤◌, Bool, true, false, List, [], ◌∷◌, ◌++◌, length, refl, sym, ap, ◌∙◌, arith, append_assoc, ◌⊎◌, inl, inr}
+use Rattle.std.proofs.Common.{suc, ◌≡◌, ◌≢◌, ℕ, ◌≤◌, Bool, true, false, List, [], ◌∷◌, ◌++◌, length, refl, ap, ◌∙◌, arith, ◌⊎◌, inl, inr}
 use Rattle.std.specs.Prelude.{◌||◌, ◌&&◌, ◌==◌, not}
 use Rattle.std.proofs.lemmas.Bool.Decides.{nat_tests}
 use Rattle.saphyr_input.specs.Classes.{is_blank, is_break, tab, carriage_return, line_feed}
 use Rattle.saphyr_scalar.specs.declared.scalar.position.Marker.{Marker}
-use Rattle.saphyr_scalar.specs.Reading.BlockLines.{spaces as spaces_of}
-use Rattle.saphyr_scalar.specs.Spelling.Tag.{AreIn}
-use Rattle.scalar_laws.specs.Spelling.Spaces.{joined_pieces, AreEach, IsCommentBehind, IsSeparationLine, IsSeparation}
-use Rattle.saphyr_scanner.specs.Steps.Gap.{spaces_end, end_of_spaces}
+use Rattle.scalar_laws.specs.Spelling.Spaces.{IsSeparation}
+use Rattle.saphyr_scalar.proofs.Given.{cursor_at}
+use Rattle.saphyr_scanner.specs.Steps.Gap.{spaces_at}
 use Rattle.yaml_laws.specs.Grammar.FlowNodes.{has_tab_outside}
 use Rattle.yaml_laws.proofs.Flow.States.{moved, past, past_comment, IsContentStart}
 use Rattle.yaml_laws.proofs.Flow.GapSteps.{past_content, past_shorter, comment_shorter}
 use Rattle.yaml_laws.proofs.Flow.GapWalks.{OverGap, over_gap, no_stop}
+use Rattle.yaml_laws.proofs.Flow.Ends.{separation_white}
 use Rattle.yaml_laws.proofs.Flow.Fillers.{separation_past}
 use Rattle.yaml_laws.proofs.InBlock.Gaps.{content_stop}
-use Rattle.yaml_laws.proofs.InBlock.Skips.{has_tab, comment_has_tab, spaces_reach}
+use Rattle.yaml_laws.proofs.InBlock.Skips.{has_tab, comment_has_tab, spaces_end, spaces_reach}
 use Rattle.yaml_laws.proofs.InBlock.Untabbed.{settles}
 use Rattle.saphyr_input.specs.Indicators.{number_sign}
 use Rattle.saphyr_input.proofs.Basics.Characters.{non_break_no_break, return_breaks}
@@ -65,59 +65,28 @@ over_outside =
 
 -- ## Separation that is not empty
 
--- it begins with a blank or a line feed
-pub record BeginsWhite (w : List ℕ) : Type 0 where
-  pub first : ℕ
-  pub others : List ℕ
-  pub is : w ≡ first ∷ others
-  pub white : (is_blank first ≡ true) ⊎ (first ≡ line_feed)
-
-pub separation_begins : (column : ℕ) (w : List ℕ) → IsSeparation column w → w ≢ [] → BeginsWhite w
-separation_begins column w (lines, blanks, (pieces, each, lines_are), are, e) some = by_lines pieces each lines_are
-  where
-    of_blanks : (t : List ℕ) → AreIn is_blank t → w ≡ t → BeginsWhite w
-    of_blanks [] k same = absurd (some same)
-    of_blanks (c ∷ cs) k same = record { first = c; others = cs; is = same; white = inl k.0 }
-
-    of_line : (front comment more : List ℕ) → AreIn is_blank front → IsCommentBehind front comment
-        → w ≡ front ++ (comment ++ (line_feed ∷ more)) → BeginsWhite w
-    of_line [] comment more k (inl none) same = record { first = 10; others = more; is = cc; white = inr refl }
-    of_line [] comment more k (inr behind) same = absurd (behind.0 refl)
-    of_line (c ∷ cs) comment more k behind same =
-        record { first = c; others = cs ++ (comment ++ (10 ∷ more)); is = same; white = inl k.0 }
-
-    by_lines : (pieces : List (List ℕ)) → AreEach (IsSeparationLine column) pieces → lines ≡ joined_pieces pieces
-        → BeginsWhite w
-    by_lines [] each lines_are = of_blanks blanks are (cc)
-    by_lines (p ∷ ps) ((front, comment, filler, front_are, k, filler_is, line_is), others) lines_are =
-        let inside : w ≡ front ++ (comment ++ (10 ∷ ((filler ++ spaces_of column) ++ (joined_pieces ps ++ blanks)))) =
-        e ∙ ap (λ (t : List ℕ). t ++ blanks) lines_are ∙ ap (λ (t : List ℕ). (t ++ joined_pieces ps) ++ blanks) line_is
-        ∙ simp append_assoc in
-        of_line front comment ((filler ++ spaces_of column) ++ (joined_pieces ps ++ blanks)) front_are k inside
-
 is_space : (c : ℕ) → is_blank c ≡ true → (c == tab) ≡ false → c ≡ 32
 is_space c h k = grind (arith, nat_tests)
 
 -- where separation without a tab outside comments is, and a token after it
 pub record PassesSpaces (m : Marker) (blank : Bool) (w y : List ℕ) : Type 0 where
   pub still_blank : Bool
-  pub is : end_of_spaces m blank false (w ++ y) ≡ spaces_end (moved m w) still_blank true y
+  pub is : spaces_at false (cursor_at (w ++ y) m blank) ≡ spaces_end (moved m w) still_blank y
 
 pub spaces_passed : (column : ℕ) (m : Marker) (blank : Bool) (w : List ℕ) (c : ℕ) (cs : List ℕ) → IsSeparation column w
     → column ≤ m.col → w ≢ [] → has_tab_outside false w ≡ false → IsContentStart c → PassesSpaces m blank w (c ∷ cs)
-spaces_passed column m blank w c cs parts low some tabs content =
-    let b = separation_begins column w parts some in
+spaces_passed column m blank [] c cs parts low some tabs content = absurd (some refl)
+spaces_passed column m blank (d ∷ ds) c cs parts low some tabs content =
+    let w = d ∷ ds in
     let there = separation_past column m w (c ∷ cs) parts low ∙ past_content column (moved m w) c cs content in
     let same = (settles column m (w ++ (c ∷ cs)) (rw there (content_stop c cs content))).0 ∙ there in
     let clean = over_gap over_outside m (w ++ (c ∷ cs)) w (cc) tabs in
-    let front = ap (λ (v : List ℕ). v ++ (c ∷ cs)) b.is in
-    let reached = spaces_reach m blank b.first (b.others ++ (c ∷ cs)) (by_first b.first b.others b.is b.white)
-    (ap has_tab (sym front) ∙ clean) in
+    let reached = spaces_reach m blank d (ds ++ (c ∷ cs)) (by_first (separation_white column w parts)) clean in
     record {
       still_blank = reached.0;
       is = grind (arith, past);
     }
   where
-    by_first : (d : ℕ) (ds : List ℕ) → w ≡ d ∷ ds → (is_blank d ≡ true) ⊎ (d ≡ line_feed) → (d ≡ 32) ⊎ (d ≡ line_feed)
-    by_first d ds same (inl h) = inl (is_space d h (outside d ds w (d == 35) refl same tabs).0)
-    by_first d ds same (inr h) = inr h
+    by_first : (is_blank d ≡ true) ⊎ (d ≡ line_feed) → (d ≡ 32) ⊎ (d ≡ line_feed)
+    by_first (inl h) = inl (is_space d h (outside d ds (d ∷ ds) (d == 35) refl refl tabs).0)
+    by_first (inr h) = inr h

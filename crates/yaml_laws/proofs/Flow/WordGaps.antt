@@ -18,7 +18,6 @@ use Rattle.yaml_laws.specs.Grammar.FlowScalars.{IsEmptyLine, IsFoldedGap, IsWord
 use Rattle.yaml_laws.proofs.Flow.States.{moved}
 use Rattle.yaml_laws.proofs.Flow.Places.{moved_append}
 use Rattle.yaml_laws.proofs.Flow.Fillers.{spaces_are_blank, blanks_past, spaces_column}
-use Rattle.yaml_laws.proofs.Flow.Ends.{blank_white}
 
 -- ## Texts without CR
 
@@ -41,6 +40,9 @@ normalized_same [] h = refl
 normalized_same (c ∷ cs) h = rw (no_return c h.0) (cc (normalized_same cs h.1))
 
 -- ## Gaps
+
+blank_white : (c : ℕ) → IsTrue (is_blank c) → IsTrue (is_blank_or_break c)
+blank_white c h = grind (arith, nat_tests)
 
 blanks_white : (t : List ℕ) → AreIn is_blank t → AreIn is_blank_or_break t
 blanks_white [] h = tt

@@ -1,17 +1,18 @@
 -- What is between two tokens at block level: where it ends, whether a break is in it, and a tab in its last
 -- indentation.
-use Rattle.std.proofs.Common.{◌≡◌, ℕ, Bool, true, false, List, ◌∷◌, slice_index, refl, ◌∙◌, arith, Ok}
+use Rattle.std.proofs.Common.{◌≡◌, ℕ, Bool, true, false, List, ◌∷◌, slice_index, refl, ap, ◌∙◌, arith, Ok}
 use Rattle.std.specs.Prelude.{◌||◌, ◌==◌}
 use Rattle.std.proofs.lemmas.Bool.Decides.{nat_tests}
 use Rattle.saphyr_input.specs.Classes.{is_blank, is_break, is_yaml_non_break}
 use Rattle.saphyr_scalar.specs.declared.scalar.position.Marker.{Marker}
 use Rattle.saphyr_scalar.specs.Views.Cursor.{Cursor}
-use Rattle.saphyr_scanner.specs.Steps.Gap.{GapEnd, end_of_gap, end_of_gap_in_comment, stop, is_tab_indentation, whole_gap}
+use Rattle.saphyr_scanner.specs.Steps.Gap.{GapEnd, gap_here, end_of_gap, end_of_gap_in_comment, stop, is_tab_indentation, whole_gap}
 use Rattle.yaml_laws.proofs.Flow.States.{IsContentStart, past, past_comment}
 use Rattle.yaml_laws.proofs.InBlock.States.{IsStop, tabbed, tabbed_comment, IsUntabbed, crosses, crosses_comment}
 use Rattle.saphyr_input.proofs.Basics.Booleans.{or_false_left}
 use Rattle.std.proofs.Math.Bool.{or-false, or-true}
 use Rattle.saphyr_input.specs.Indicators.{number_sign}
+use Rattle.saphyr_scalar.proofs.Given.{cursor_at}
 use Rattle.saphyr_scanner.proofs.Gaps.{stop_here}
 use Rattle.yaml_laws.proofs.Flow.Gaps.{is_return_at, stop_ends}
 use Rattle.yaml_laws.proofs.Flow.GapWalks.{OverGap, over_gap, no_stop}
@@ -20,15 +21,15 @@ use Rattle.yaml_laws.proofs.Flow.GapWalks.{OverGap, over_gap, no_stop}
 
 pub record GapStops (m : Marker) (blank broke : Bool) (t : List ℕ) : Type 0 where
   pub still_blank : Bool
-  pub is : (least : ℕ) (tab : Bool) → end_of_gap least m blank broke tab t
-      ≡ stop (past 0 m t).0 still_blank (broke || crosses t) (tabbed least m blank tab t) (past 0 m t).1
+  pub is : (least : ℕ) (tab : Bool) → stop (end_of_gap true least m blank broke tab t)
+      ≡ stop (gap_here (past 0 m t).0 still_blank (broke || crosses t) (tabbed least m blank tab t) (past 0 m t).1)
   pub stop : IsStop (past 0 m t).1
 
 record StopsComment (m : Marker) (blank broke : Bool) (t : List ℕ) : Type 0 where
   still_blank : Bool
-  is : (least : ℕ) (tab : Bool) → end_of_gap_in_comment least m blank broke tab t
-      ≡ stop (past_comment 0 m t).0 still_blank (broke || crosses_comment t) (tabbed_comment least m blank tab t)
-      (past_comment 0 m t).1
+  is : (least : ℕ) (tab : Bool) → stop (end_of_gap_in_comment true least m blank broke tab t)
+      ≡ stop (gap_here (past_comment 0 m t).0 still_blank (broke || crosses_comment t)
+      (tabbed_comment least m blank tab t) (past_comment 0 m t).1)
   stop : IsStop (past_comment 0 m t).1
 
 over_stops : OverGap 0 (λ m t. (blank broke : Bool) → GapStops m blank broke t)
@@ -132,11 +133,10 @@ pub content_stop : (c : ℕ) (cs : List ℕ) → IsContentStart c → IsStop (c 
 content_stop c cs h = (h.blank, h.break, h.comment)
 
 gap_stays : (least : ℕ) (m : Marker) (blank : Bool) (y : List ℕ) → IsStop y
-    → end_of_gap least m blank false false y ≡ stop m blank false false y
+    → end_of_gap true least m blank false false y ≡ gap_here m blank false false y
 gap_stays least m blank y h = grind arith
 
 -- nothing is passed right at a token
-pub gap_still : (least : ℕ) (m : Marker) (blank : Bool) (y : List ℕ) → IsStop y → end_of_gap least m blank false false y
-    ≡ Ok (let p : GapEnd = record { cursor = record { rest = y; mark = m; blank_so_far = blank }; broke = false } in
-    p)
-gap_still least m blank y h = gap_stays least m blank y h ∙ stop_here m blank false y
+pub gap_still : (least : ℕ) (m : Marker) (blank : Bool) (y : List ℕ) → IsStop y → whole_gap least (cursor_at y m blank)
+    ≡ Ok (let p : GapEnd = record { cursor = cursor_at y m blank; broke = false } in p)
+gap_still least m blank y h = ap stop (gap_stays least m blank y h) ∙ stop_here m blank false y

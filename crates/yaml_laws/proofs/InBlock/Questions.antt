@@ -4,14 +4,15 @@ use Rattle.saphyr_scanner.specs.declared.engine.level.Context.TheVariants as con
 use Rattle.saphyr_scanner.specs.Steps.Core.{least_column, Core, completed_step, from_to, roll, remove_key, with_context, in_block}
 use Rattle.saphyr_scanner.specs.Steps.Block as block
 use Rattle.saphyr_scanner.specs.Steps.Block.{behind_start}
-use Rattle.saphyr_scanner.specs.Steps.Gap as gap
+use Rattle.saphyr_scalar.proofs.Given.{cursor_at}
+use Rattle.saphyr_scanner.specs.Steps.Gap.{spaces_at}
 use Rattle.saphyr_scanner.specs.Grammar.Tokens as tokens
 use Rattle.saphyr_scanner.specs.Steps.Fetch.{state_behind_content, step}
 use Rattle.yaml_laws.specs.Grammar.BlockNodes as yaml
 use Rattle.yaml_laws.proofs.Flow.GapSteps.{past_count, past_again}
 use Rattle.yaml_laws.proofs.InBlock.States.{Frame, Moment, moment_at, core_of, state_of, IsStop, crosses, At, Before, past}
 use Rattle.yaml_laws.proofs.InBlock.Gaps.{past_stops, stop_tabbed}
-use Rattle.yaml_laws.proofs.InBlock.Skips.{has_tab, spaces_reach}
+use Rattle.yaml_laws.proofs.InBlock.Skips.{has_tab, spaces_end, spaces_reach}
 use Rattle.yaml_laws.proofs.InBlock.Follows.{BeginsToken, begins_with, deeper_at}
 use Rattle.yaml_laws.proofs.InBlock.Entries.{BeginsWhite, frame_behind, steps_on, start_places, start_performs, start_kinds, start_are, before_next}
 
@@ -29,7 +30,7 @@ no_tab_first c cs (inl e) clean = grind arith
 no_tab_first c cs (inr e) clean = inr e
 
 reach : (m : Marker) (o : List ℕ) → BeginsWhite o → has_tab o ≡ false
-    → (b : Bool) × (gap.end_of_spaces m false false o ≡ gap.spaces_end (past 0 m o).0 b true (past 0 m o).1)
+    → (b : Bool) × (spaces_at false (cursor_at o m false) ≡ spaces_end (past 0 m o).0 b (past 0 m o).1)
 reach m [] h clean = absurd h
 reach m (c ∷ cs) h clean = spaces_reach m false c cs (no_tab_first c cs h clean) clean
 

@@ -9,8 +9,8 @@ use Rattle.saphyr_scalar.specs.Views.Cursor.{along, next_line}
 use Rattle.saphyr_scalar.specs.Spelling.Tag.{AreIn}
 use Rattle.scalar_laws.specs.Spelling.Spaces.{AreEach, joined_pieces, IsComment, IsLineRest, IsLineEnd, IsFillerLine, IsFiller, IsLinePrefix, IsNextLine, IsGap}
 use Rattle.scalar_laws.proofs.Beginnings.{both_in}
-use Rattle.saphyr_scanner.specs.Steps.Gap as gap
-use Rattle.saphyr_scanner.specs.Steps.Gap.{is_tab_indentation}
+use Rattle.saphyr_scalar.proofs.Given.{cursor_at}
+use Rattle.saphyr_scanner.specs.Steps.Gap.{Gap, SpacesEnd, end_of_gap, end_of_gap_in_comment, gap_here, is_tab_indentation, spaces_at, spaces_of}
 use Rattle.yaml_laws.specs.Grammar.BlockNodes.{Position, indent_at, IsGapAt}
 use Rattle.yaml_laws.proofs.Flow.States.{moved, past, past_comment}
 use Rattle.yaml_laws.proofs.Flow.Places.{moved_append}
@@ -225,17 +225,20 @@ rest_ends_clean (b ∷ bs) comment are k least m blank tab =
 -- ## After `?`
 
 -- spaces end where what is passed does; some were found, if there were any before
-record SpacesTo (found : Bool) (end : gap.SpacesEnd) (r : Marker × List ℕ) : Type 0 where
+record SpacesTo (found : Bool) (end : Gap) (r : Marker × List ℕ) : Type 0 where
   still_blank : Bool
   some : Bool
-  is : end ≡ gap.spaces_end r.0 still_blank some r.1
+  tab : Bool
+  is : end ≡ gap_here r.0 still_blank some tab r.1
   has : found ≡ true → some ≡ true
 
-found_here : (found : Bool) {end : gap.SpacesEnd} {r : Marker × List ℕ} → SpacesTo true end r → SpacesTo found end r
-found_here found p = record { still_blank = p.still_blank; some = p.some; is = p.is; has = λ _. p.has refl }
+found_here : (found : Bool) {end : Gap} {r : Marker × List ℕ} → SpacesTo true end r → SpacesTo found end r
+found_here found p =
+    record { still_blank = p.still_blank; some = p.some; tab = p.tab; is = p.is; has = λ _. p.has refl }
 
-none_found : (m : Marker) (blank found : Bool) (t : List ℕ) → SpacesTo found (gap.spaces_end m blank found t) (m, t)
-none_found m blank found t = record { still_blank = blank; some = found; is = refl; has = λ h. h }
+none_found : (m : Marker) (blank found tab : Bool) (t : List ℕ)
+    → SpacesTo found (gap_here m blank found tab t) (m, t)
+none_found m blank found tab t = record { still_blank = blank; some = found; tab = tab; is = refl; has = λ h. h }
 
 space_alone : (c : ℕ) → (c == 9) ≡ false → is_blank c ≡ (c == 32)
 space_alone c h = grind (arith, nat_tests)
@@ -247,44 +250,51 @@ no_white : (c : ℕ) (r : Bool) → (is_blank c || r) ≡ false → ((c == 32) |
 no_white c r e = sym (white_is c r (no_blank_no_tab c (or_parts (is_blank c) r e).0)) ∙ e
 
 over_spaces : OverGap 0
-    (λ m t. (blank found : Bool) → has_tab t ≡ false
-    → SpacesTo found (gap.end_of_spaces m blank found t) (past 0 m t))
-    (λ m t. (blank found : Bool) → comment_has_tab t ≡ false
-    → SpacesTo found (gap.end_of_spaces_in_comment m blank found t) (past_comment 0 m t))
+    (λ m t. (blank found tab : Bool) → has_tab t ≡ false
+    → SpacesTo found (end_of_gap false 0 m blank found tab t) (past 0 m t))
+    (λ m t. (blank found tab : Bool) → comment_has_tab t ≡ false
+    → SpacesTo found (end_of_gap_in_comment false 0 m blank found tab t) (past_comment 0 m t))
 over_spaces =
     record {
-      ends = λ m blank found clean. none_found m blank found [];
+      ends = λ m blank found tab clean. none_found m blank found tab [];
       tab = λ m c cs t. absurd (no_stop m c cs t);
       white = grind (arith, or_parts, has_tab, white_is, is_return_at, found_here);
       break = grind (arith, no_white, is_return_at, found_here);
       sign = grind (arith, no_white, is_return_at);
       token = grind (arith, no_white, is_return_at, none_found);
-      comment_ends = λ m blank found clean. none_found m blank found [];
-      word = λ m c cs e on blank found clean. rw e (on blank found (rw e at clean));
-      return = λ m c cs e f on blank found clean. rw (e, f) (found_here found (on blank true (rw (e, f) at clean)));
+      comment_ends = λ m blank found tab clean. none_found m blank found tab [];
+      word = λ m c cs e on blank found tab clean. rw e (on blank found tab (rw e at clean));
+      return = λ m c cs e f on blank found tab clean.
+          rw (e, f) (found_here found (on blank true tab (rw (e, f) at clean)));
       line = grind (arith, found_here);
-      other = λ m c cs e f g blank found clean. rw (e, f, g) (none_found m blank found (c ∷ cs));
+      other = λ m c cs e f g blank found tab clean. rw (e, f, g) (none_found m blank found tab (c ∷ cs));
     }
+
+-- where a `?` has passed something
+abbrev pub spaces_end : Marker → Bool → List ℕ → SpacesEnd
+spaces_end m blank y = record { cursor = cursor_at y m blank; space = true }
 
 -- what a `?` passes: something, up to the next token
 pub spaces_reach : (m : Marker) (blank : Bool) (c : ℕ) (t : List ℕ) → (c ≡ 32) ⊎ (c ≡ line_feed)
     → has_tab (c ∷ t) ≡ false
-    → (b : Bool) × (gap.end_of_spaces m blank false (c ∷ t) ≡ gap.spaces_end (past 0 m (c ∷ t)).0 b true
+    → (b : Bool) × (spaces_at false (cursor_at (c ∷ t) m blank) ≡ spaces_end (past 0 m (c ∷ t)).0 b
     (past 0 m (c ∷ t)).1)
 spaces_reach m blank c t first clean = by_first first
   where
     from : (n : Marker) (b : Bool) → has_tab t ≡ false
-        → (some : Bool) × (gap.end_of_spaces n b true t ≡ gap.spaces_end (past 0 n t).0 some true (past 0 n t).1)
+        → (some : Bool) × (spaces_at true (cursor_at t n b) ≡ spaces_end (past 0 n t).0 some (past 0 n t).1)
     from n b none =
-        let p = over_gap over_spaces n t b true none in (
+        let p = over_gap over_spaces n t b true false none in (
           p.still_blank,
-          p.is ∙ ap (λ (s : Bool). gap.spaces_end (past 0 n t).0 p.still_blank s (past 0 n t).1)
-              (p.has refl),
+          ap spaces_of p.is ∙ ap (λ (s : Bool). let e : SpacesEnd = record {
+            cursor = cursor_at (past 0 n t).1 (past 0 n t).0 p.still_blank;
+            space = s;
+          } in e) (p.has refl),
         )
 
     Reaches : ℕ → Type 0
-    Reaches x = (b : Bool) × (gap.end_of_spaces m blank false (x ∷ t)
-        ≡ gap.spaces_end (past 0 m (x ∷ t)).0 b true (past 0 m (x ∷ t)).1)
+    Reaches x = (b : Bool) × (spaces_at false (cursor_at (x ∷ t) m blank)
+        ≡ spaces_end (past 0 m (x ∷ t)).0 b (past 0 m (x ∷ t)).1)
 
     by_first : (c ≡ 32) ⊎ (c ≡ line_feed) → Reaches c
     by_first (inl e) = subst Reaches (sym e) (from (along m 1) blank (rw e at clean))

@@ -12,7 +12,7 @@ use Rattle.yaml_laws.proofs.InBlock.Gaps.{stop_no_blank, gap_stops}
 use Rattle.yaml_laws.proofs.InBlock.Skips.{IsClean}
 use Rattle.yaml_laws.proofs.InBlock.States.{IsStop, tabbed, tabbed_comment, crosses}
 use Rattle.saphyr_input.proofs.Basics.Booleans.{clash, and_true_left, and_true_right}
-use Rattle.saphyr_scanner.specs.Steps.Gap.{end_of_gap, stop}
+use Rattle.saphyr_scanner.specs.Steps.Gap.{end_of_gap, gap_here, stop}
 
 -- ## No tab on the line of a token
 
@@ -88,8 +88,8 @@ settles i m t h =
 pub record GapPast (column : ℕ) (m : Marker) (blank : Bool) (t : List ℕ) : Type 0 where
   pub still_blank : Bool
   pub is : is_blank (slice_index (past column m t).1 0) ≡ false → (low : ℕ) → low ≤ column
-      → end_of_gap low m blank false false t ≡ stop (past column m t).0 still_blank (crosses t) false
-      (past column m t).1
+      → stop (end_of_gap true low m blank false false t)
+      ≡ stop (gap_here (past column m t).0 still_blank (crosses t) false (past column m t).1)
 
 pub gap_past : (column : ℕ) (m : Marker) (blank : Bool) (t : List ℕ) → GapPast column m blank t
 gap_past column m blank t =

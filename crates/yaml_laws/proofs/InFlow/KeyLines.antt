@@ -2,6 +2,7 @@
 use Rattle.yaml_laws.proofs.Common.{Bool, List, Ok, [], ap, arith, false, length, refl, slice_index, suc, true, ℕ, ◌++◌, ◌+◌, ◌∙◌, ◌∷◌, ◌≡◌, ◌≤◌, None, Option, Some, nat_le, nat_lt, not, ◌&&◌, ◌-◌, ◌==◌, nat_tests, is_blank, Marker, Cursor, along, ◌>>=◌, AreIn, Kind, GapEnd, end_of_gap, stop, Place, Candidate, Level, State, after_step, on_core, LeadsTo, onward, stay, cursor_at, le_next, no_return, le-leb, queue_of, token_place}
 use Rattle.std.proofs.Math.Nat.{zero-add}
 use Rattle.saphyr_scanner.specs.declared.engine.level.Context.TheVariants as context
+use Rattle.saphyr_scanner.specs.Steps.Gap.{gap_here}
 use Rattle.saphyr_scanner.specs.Steps.Core.{is_too_far, drop_far_key, from_to, completed_step}
 use Rattle.saphyr_scanner.specs.Steps.Passing.{pass_gap, check_comment, behind_gap}
 use Rattle.saphyr_scanner.specs.Steps.Unrolling.{unroll}
@@ -37,13 +38,13 @@ keeps_near_key around d s k ls a ad near = rw (not_far k s.mark near) refl
 -- ## Blanks before a token
 
 pub content_gap : (low : ℕ) (c : ℕ) (cs : List ℕ) → IsContentStart c → (m : Marker) (blank : Bool)
-    → end_of_gap low m blank false false (c ∷ cs) ≡ stop m blank false false (c ∷ cs)
+    → end_of_gap true low m blank false false (c ∷ cs) ≡ gap_here m blank false false (c ∷ cs)
 content_gap low c cs content m blank =
     rw (content.blank, content.break, content.comment, no_return c content.break) refl
 
 blanks_gap : (low column : ℕ) → low ≤ column → (w : List ℕ) (c : ℕ) (cs : List ℕ) → AreIn is_blank w → IsContentStart c
     → (m : Marker) (blank : Bool) → column ≤ m.col
-    → end_of_gap low m blank false false (w ++ (c ∷ cs)) ≡ stop (moved m w) blank false false (c ∷ cs)
+    → end_of_gap true low m blank false false (w ++ (c ∷ cs)) ≡ gap_here (moved m w) blank false false (c ∷ cs)
 blanks_gap low column under [] c cs are content m blank right = content_gap low c cs content m blank
 blanks_gap low column under (x ∷ xs) c cs are content m blank right =
     grind (arith, blanks_gap low column under xs c cs are.1 content (along m 1) blank (le_next column m.col right))
@@ -60,9 +61,9 @@ line_arrives around d s k ad ps w c cs is are content right near =
     let n = moved s.mark w in
     let there = cursor_at (c ∷ cs) n s.blank_so_far in
     let here = core_at around d s context.Block (Some k) [] false ad in
-    let gapped = ap (λ (t : List ℕ). end_of_gap (reach around d) s.mark s.blank_so_far false false t) is
+    let gapped = ap stop (ap (end_of_gap true (reach around d) s.mark s.blank_so_far false false) is
     ∙ blanks_gap (reach around d) around.indent (reach_low around d) w c cs are content s.mark s.blank_so_far
-    right ∙ stop_here n s.blank_so_far false (c ∷ cs) in
+    right) ∙ stop_here n s.blank_so_far false (c ∷ cs) in
     let passed = ap (λ r. r >>= λ (p : GapEnd). check_comment (behind_gap here p)) gapped in
     let reached = ap (λ r. r >>= drop_far_key) passed ∙ keeps_near_key around d there k [] false ad near in
     cc (none_unrolls around n.col n there context.Block (Some k) [] false ad ps d
@@ -158,7 +159,8 @@ first_ready around calm d blank k ad ps m c cs content right token fresh =
     let here = core_at around d there context.Block k [] true ad in
     let left = key_left context.Block k m in
     let e = deeper_at around d m in
-    let gapped = content_gap (least around.column d) c cs content m blank ∙ stop_here m blank false (c ∷ cs) in
+    let gapped = ap stop (content_gap (least around.column d) c cs content m blank)
+    ∙ stop_here m blank false (c ∷ cs) in
     let passed = ap (λ r. r >>= λ (p : GapEnd). check_comment (behind_gap here p)) gapped in
     let reached = ap (λ r. r >>= drop_far_key) passed ∙ drops_far_key around None d there context.Block k [] true ad
     calm in

@@ -17,7 +17,7 @@ loop-c-preserved-then-c-eq9 g c =
 
 pub loop-c-preserved-then-is_break : goal.loop-c-preserved-then-is_break
 loop-c-preserved-then-is_break g c =
-    break_passed c.args.least c.loop-c.broke c.loop-c.tabbed _ _ _ _ _ c.look-c.ensures.value c.look-c.ensures.same
+    break_passed true c.args.least c.loop-c.broke c.loop-c.tabbed _ _ _ _ _ c.look-c.ensures.value c.look-c.ensures.same
     c.skip_seen_break.ensures (sym c.is_break.ensures.test ∙ c.if-is_break.true) c.loop-c.invariant
 
 pub loop-c-smaller-then-is_break : goal.loop-c-smaller-then-is_break
@@ -37,5 +37,5 @@ loop-c-preserved-then-skip_comment_line g c =
 pub loop-c-preserved : goal.loop-c-preserved
 loop-c-preserved g c =
     let none = c.if-skip_comment_line.false in
-    comment_passed c.args.least c.loop-c.broke c.loop-c.tabbed _ _ _ _ _ c.look-c.ensures.value c.look-c.ensures.same
-    (rw none at c.skip_comment_line.ensures.passed) c.if-c-eq35.true c.loop-c.invariant
+    comment_passed true c.args.least c.loop-c.broke c.loop-c.tabbed _ _ _ _ _ c.look-c.ensures.value
+    c.look-c.ensures.same (rw none at c.skip_comment_line.ensures.passed) c.if-c-eq35.true c.loop-c.invariant

@@ -9,7 +9,7 @@ use Rattle.saphyr_scalar.proofs.Given.{given_of}
 
 pub returns : goal.returns
 returns c = record {
-  gap = λ least s g e. given_of _ (gaps.whole_gap least s) g (gap_apart least false false s) e;
+  gap = λ least s g e. given_of _ (gaps.whole_gap least s) g (gap_apart least s) e;
   line = λ s x e. let h = given_of _ (separation Yes s) x (separation_passes s) e in (h.apart, h.on_line);
   spaces = λ s. spaces_apart false s;
 }
