@@ -32,9 +32,6 @@ counts_moved : (low n k i : ℕ) (xs : List ℕ) → low ≤ i → i + length xs
     → (low ≤ i + k) × (i + k + length (drop k xs) ≡ n)
 counts_moved low n k i xs a b c = let l = length-drop k xs in (omega arith, omega (arith, l))
 
-one_moved : (low n : ℕ) (s : Cursor) → CountsFrom low n s → 1 ≤ length s.rest → CountsFrom low n (pass 1 s)
-one_moved low n s h k = counts_moved low n 1 s.mark.index s.rest h.0 h.1 k
-
 -- ## The header
 
 chomping_stands : (low n : ℕ) (s : Cursor) → CountsFrom low n s → CountsFrom low n (chomping s).1
@@ -141,38 +138,53 @@ mutual
 
 -- ## The scalar
 
--- the span is between `low` and the place that is reached
+-- the span is between the character before `low` and the place that is reached
 abbrev SpanStands : ℕ → ℕ → List ℕ × Span × Cursor → Type 0
-SpanStands low n x = (low ≤ x.1.start.index) × (x.1.start.index ≤ x.1.end.index) × (x.1.end ≡ x.2.mark)
-    × (x.2.mark.index + length x.2.rest ≡ n)
+SpanStands low n x = (low ≤ x.1.start.index + 1) × (x.1.start.index ≤ x.1.end.index) × (x.1.end ≡ x.2.mark)
+    × CountsFrom low n x.2
 
 content_stands : (low n : ℕ) (style : BlockStyle) (c : Chomping) (indent i lines : ℕ) (s : Cursor) → CountsFrom low n s
     → Given (SpanStands low n) (content style c indent i lines s)
 unfolding content chomped_lines
 content_stands low n style c indent i lines s h = grind (arith, between_stands, by_test)
 
-leading_stands : (n : ℕ) (style : BlockStyle) (indent : ℕ) (start : Marker) (c : Chomping) (limit : Option ℕ)
-    (x : EmptyLines × Cursor) → CountsFrom start.index n x.1
-    → Given (SpanStands start.index n) (behind_leading_lines style indent start c limit x)
+leading_stands : (low n : ℕ) (style : BlockStyle) (indent : ℕ) (start : Marker) (c : Chomping) (limit : Option ℕ)
+    (x : EmptyLines × Cursor) → low ≡ start.index + 1 → CountsFrom low n x.1
+    → Given (SpanStands low n) (behind_leading_lines style indent start c limit x)
 unfolding behind_leading_lines
-leading_stands n style indent start c limit x h =
-    by_test (is_z (slice_index x.1.rest 0)) _ _ (Given (SpanStands start.index n)) (λ _. (omega arith, h.0, refl, h.1))
-    (λ _. content_stands start.index n style c indent (unwrap_or limit (max x.0.widest indent)) x.0.count x.1 h)
+leading_stands low n style indent start c limit x is h =
+    by_test (is_z (slice_index x.1.rest 0)) _ _ (Given (SpanStands low n)) (λ _. (omega arith, omega arith, refl, h))
+    (λ _. content_stands low n style c indent (unwrap_or limit (max x.0.widest indent)) x.0.count x.1 h)
 
-header_scalar_stands : (n : ℕ) (style : BlockStyle) (indent : ℕ) (start : Marker) (x : BlockHeader × Cursor)
-    → CountsFrom start.index n x.1 → Given (SpanStands start.index n) (behind_header style indent start x)
+header_scalar_stands : (low n : ℕ) (style : BlockStyle) (indent : ℕ) (start : Marker) (x : BlockHeader × Cursor)
+    → low ≡ start.index + 1 → CountsFrom low n x.1
+    → Given (SpanStands low n) (behind_header style indent start x)
 unfolding behind_header
-header_scalar_stands n style indent start x h = grind (arith, leading_stands, empty_stands)
+header_scalar_stands low n style indent start x is h = grind (arith, leading_stands, empty_stands)
 
-scalar_stands : (n : ℕ) (style : BlockStyle) (indent : ℕ) (s : Cursor) → CountsFrom s.mark.index n (pass 1 s)
-    → Given (SpanStands s.mark.index n) (block_scalar style indent s)
+scalar_stands : (low n : ℕ) (style : BlockStyle) (indent : ℕ) (s : Cursor) → low ≡ s.mark.index + 1
+    → CountsFrom low n (pass 1 s) → Given (SpanStands low n) (block_scalar style indent s)
 unfolding block_scalar
-scalar_stands n style indent s h = given_bind (SpanStands s.mark.index n) (header s) _ (λ x e.
-    header_scalar_stands n style indent s.mark x
-    (given_of (Behind BlockHeader s.mark.index n) (header s) x (header_stands s.mark.index n s h) e))
+scalar_stands low n style indent s is h = given_bind (SpanStands low n) (header s) _ (λ x e.
+    header_scalar_stands low n style indent s.mark x is
+    (given_of (Behind BlockHeader low n) (header s) x (header_stands low n s h) e))
+
+pub block_scalar_stands : (style : BlockStyle) (indent : ℕ) (s t : Cursor) (text : List ℕ) (span : Span)
+    → 0 < length s.rest → block_scalar style indent s ≡ Ok (text, span, t)
+    → SpanStands (s.mark.index + 1) (s.mark.index + length s.rest) (text, span, t)
+block_scalar_stands style indent s t text span some e =
+    let low : ℕ = s.mark.index + 1 in
+    let n : ℕ = s.mark.index + length s.rest in
+    given_of (SpanStands low n) (block_scalar style indent s) (text, span, t)
+    (scalar_stands low n style indent s refl (omega arith, rw length-drop (omega arith))) e
 
 pub block_scalar_counts : (style : BlockStyle) (indent : ℕ) (s t : Cursor) (text : List ℕ) (span : Span)
     → 0 < length s.rest → block_scalar style indent s ≡ Ok (text, span, t)
     → (s.mark.index ≤ span.start.index) × (span.start.index ≤ span.end.index) × (span.end ≡ t.mark)
     × (t.mark.index + length t.rest ≡ s.mark.index + length s.rest)
-block_scalar_counts style indent s t text span some e = grind (arith, given_of, scalar_stands, one_moved)
+block_scalar_counts style indent s t text span some e = grind (arith, block_scalar_stands)
+
+-- so it takes something off the text
+pub block_scalar_takes : (style : BlockStyle) (indent : ℕ) (s t : Cursor) (text : List ℕ) (span : Span)
+    → 0 < length s.rest → block_scalar style indent s ≡ Ok (text, span, t) → length t.rest < length s.rest
+block_scalar_takes style indent s t text span some e = grind (arith, block_scalar_stands)

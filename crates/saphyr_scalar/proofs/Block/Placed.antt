@@ -94,14 +94,7 @@ none_at_end : (limit : Option ℕ) (before : EmptyLines) (b : Bool) (m : Marker)
 unfolding pass_empty_lines
 none_at_end limit before b m [] e = refl
 none_at_end limit before b m (c ∷ cs) e =
-    let P : EmptyLines × Cursor → Type 0 = λ x. is_z (slice_index x.1.rest 0) ≡ true in
-    let nul : c ≡ 0 = eqb-true c 0 e in
-    by_test (is_indentation limit m.col c) _ _ P
-    (λ f. absurd (let g = indentation_is_space limit m.col c f in let h : 0 ≡ 32 = sym nul ∙ g in omega arith))
-    (λ _. by_test (is_cr_lf c cs) _ _ P
-    (λ f. absurd (let g = eqb-true c 13 (and_true_left (c == 13) (slice_index cs 0 == 10) f) in let h : 0 ≡ 13 =
-    sym nul ∙ g in omega arith))
-    (λ _. by_test (is_break c) _ _ P (λ f. absurd (let g : is_break c ≡ false = ap is_break nul in cc)) (λ _. e)))
+    grind (arith, eqb-true, indentation_is_space, and_true_left, slice_index, by_test)
 
 -- the lines after a place of a later line, or at the end
 lines_behind_line : (s h t : Cursor) → IsPassed h.mark h.rest t.mark t.rest
@@ -151,7 +144,8 @@ leading_placed style indent c limit s h x e p z =
 scalar_placed : (style : BlockStyle) (indent : ℕ) (s : Cursor) → Goes s (pass 1 s)
     → Given (PlacedAt s) (block_scalar style indent s)
 unfolding block_scalar behind_header
-scalar_placed style indent s g = grind (arith, given_bind, given_of, header_ends, leading_placed, empty_passes, none_at_end)
+scalar_placed style indent s g =
+    grind (arith, given_bind, given_of, header_ends, leading_placed, empty_passes, none_at_end)
 
 pub block_scalar_placed : (style : BlockStyle) (indent : ℕ) (s t : Cursor) (text : List ℕ) (span : Span)
     → is_break (slice_index s.rest 0) ≡ false → 0 < length s.rest → block_scalar style indent s ≡ Ok (text, span, t)
