@@ -1,4 +1,4 @@
--- Each reader of plain and quoted scalars takes something off the text. `Block/Counted` has the reader of block scalars.
+-- Each reader of plain and quoted scalars takes something off the text. `Block/Placed` has the reader of block scalars.
 use Rattle.std.proofs.Common.{◌≡◌, ℕ, ◌<◌, Bool, List, [], ◌∷◌, ◌++◌, length, Ok, refl, arith}
 use Rattle.std.specs.Prelude.{slice_index, Option, Some}
 use Rattle.std.proofs.lemmas.List.{length-append}
