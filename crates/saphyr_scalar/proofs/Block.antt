@@ -7,7 +7,6 @@ pub mod Texts
 pub mod Turns
 pub mod Values
 pub mod Wholes
-pub mod Counted
 pub mod PlacedHeaders
 pub mod Placed
 pub mod Refused

@@ -29,14 +29,7 @@ comment_within xs = grind (arith, nat_tests, prefix_len-le-length is_yaml_non_br
 
 -- white space with its comment is no longer than the text
 pub separation_within : (tabs : SkipTabs) (xs : List ℕ) → separation_len tabs xs ≤ length xs
-separation_within tabs xs =
-    grind (
-      arith,
-      nat_tests,
-      prefix_len-le-length (is_skipped tabs) xs,
-      comment_within (drop (blank_len tabs xs) xs),
-      length-drop (blank_len tabs xs) xs,
-    )
+separation_within tabs xs = grind (arith, nat_tests, prefix_len-le-length, comment_within, length-drop)
 
 -- The place after n characters of a text, and what is left of it. These are lemmas on their own since a tactic reads
 -- little here, and much at a goal.

@@ -79,12 +79,7 @@ pub decoded_refused : (set : UriSet) (start : Marker) (k : ℕ) (m : Marker) (t 
 unfolding decoded_characters
 decoded_refused set start k m [] = tt
 decoded_refused set start zero m (c ∷ cs) =
-    let P : Refusal → Type 0 = λ e. e.mark ≡ start in
-    by_test (is_in_set set c) _ _ (RefusedAt start)
-    (λ _. refused_bind P (uri_character start (mid_line m (c ∷ cs))) _
-    (character_refused start (mid_line m (c ∷ cs))) (λ x e.
-    front_refused P (encode_utf8 x.0) (decoded_characters set start (uri_tail (c ∷ cs)) (along m 1) cs)
-    (decoded_refused set start (uri_tail (c ∷ cs)) (along m 1) cs))) (λ _. tt)
+    grind (arith, refused_bind, character_refused, front_refused, by_test, decoded_refused set start (uri_tail (c ∷ cs)) (along m 1) cs)
 decoded_refused set start (suc k) m (c ∷ cs) = decoded_refused set start k (along m 1) cs
 
 verbatim_refused : (s : Cursor) → RefusedAt s.mark (verbatim_tag s)

@@ -158,20 +158,7 @@ nothing_read st c i = grind arith
 cut_header : (st : BlockStyle) (c : Chomping) (i : ℕ) (u : Cursor) → is_z (slice_index u.rest 0) ≡ true
     → u.blank_so_far ≡ false → Behind st c i u (encode_utf8_all (tail_alone c 0 u)) u
 cut_header st c i u z blank =
-    let first = z_is_nul (slice_index u.rest 0) z in
-    let ends : ending u ≡ AtEnd = rw z refl in
-    record {
-      lines = [];
-      taken = refl;
-      indented = lines_spaces i 0 (omega arith);
-      ends = record {
-        no_space = ap (is_indentation (Some i) u.mark.col) first ∙ nul_no_indentation (Some i) u.mark.col;
-        no_break = ap is_break first;
-        no_content = no_start i u.mark.col u.rest (z_is_none _ z);
-        whole_line = λ _. z_is_none _ z;
-      };
-      value = cc (nothing_alone c u blank, nothing_read st c i);
-    }
+    grind (arith, z_is_nul, lines_spaces, no_space, nul_no_indentation, no_start, z_is_none, nothing_alone, nothing_read)
 
 pub nothing_led : (limit : Option ℕ) (u : Cursor) → is_z (slice_index u.rest 0) ≡ true
     → pass_empty_lines_at limit no_lines u ≡ (with_column no_lines u.mark.col, u)
@@ -187,19 +174,7 @@ pub behind_begun : (st : BlockStyle) (indent : ℕ) (start : Marker) (c : Chompi
     → behind_leading_lines st indent start c limit x ≡ Ok y → Behind st c i u y.0 y.2
 unfolding behind_leading_lines content chomped_lines
 behind_begun st indent start c i k limit u x y l same =
-    by_test (is_z (slice_index x.1.rest 0)) _ _ (λ r. r ≡ gave y → Behind st c i u y.0 y.2)
-    (λ h e. as_read_behind st c i u
-    (encode_utf8_all (tail_alone c x.0.count x.1), record { start = start; end = x.1.mark }, x.1)
-    y e (alone_read st c i u x.1 x.0.count l h))
-    (λ h. by_test (nat_lt x.1.mark.col (unwrap_or limit (max x.0.widest indent)) && nat_le indent x.1.mark.col) _ _
-    (λ r. r ≡ gave y → Behind st c i u y.0 y.2) (λ _ e. refused_gave _ y e) (λ _ e.
-    let n = unwrap_or limit (max x.0.widest indent) in
-    let z = between_at st i None x.0.count x.1 in
-    as_read_behind st c i u (
-      encode_utf8_all (z.0 ++ tail c (is_unfinished i z.2) z.1),
-      record { start = x.1.mark; end = z.2.mark },
-      z.2,
-    ) y (rw same at e) (lines_behind st c i u x.1 x.0.count l h)))
+    grind (arith, gave, as_read_behind, alone_read, refused_gave, lines_behind)
 
 pub behind_cut : (st : BlockStyle) (indent : ℕ) (start : Marker) (c : Chomping) (i : ℕ) (limit : Option ℕ) (u : Cursor)
     (y : Read) → is_z (slice_index u.rest 0) ≡ true → u.blank_so_far ≡ false

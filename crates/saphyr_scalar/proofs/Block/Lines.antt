@@ -64,10 +64,7 @@ pub behind_cr : (m : Marker) (b : Bool) (cs : List ℕ) (P : Cursor → Type 0)
     → ((ds : List ℕ) → cs ≡ line_feed ∷ ds → P (line_cursor true (next_line m 2) ds))
     → ((slice_index cs 0 == line_feed) ≡ false → P (line_cursor true (next_line m 1) cs))
     → P (pass_break (line_cursor b m (carriage_return ∷ cs)))
-behind_cr m b [] P two one = one refl
-behind_cr m b (d ∷ ds) P two one =
-    by_test (d == 10) (line_cursor true (next_line m 2) ds) (line_cursor true (next_line m 1) (d ∷ ds)) P
-    (λ h. let e : d ≡ 10 = grind (arith, nat_tests) in two ds (ap (λ (x : ℕ). x ∷ ds) e)) one
+behind_cr m b v2 v3 two one = grind (arith, nat_tests)
 
 abbrev Taken : Option ℕ → EmptyLines → Bool → Marker → List ℕ → Cursor → Type 0
 Taken limit lines b m xs s = pass_empty_lines limit lines b m xs ≡ pass_empty_lines_at limit

@@ -1,6 +1,6 @@
--- Where a block scalar is: its text is passed character by character, and it ends after its first line, or at the
--- end.
-use Rattle.std.proofs.Common.{◌≡◌, ℕ, ◌+◌, ◌<◌, ◌⊎◌, Bool, true, false, List, [], ◌∷◌, length, Ok, refl, sym, ap, ◌∙◌, arith, inl, inr}
+-- Where a block scalar is: its text is passed character by character, so the index moves on by as many as are taken,
+-- and it ends after its first line, or at the end.
+use Rattle.std.proofs.Common.{◌≡◌, ℕ, ◌+◌, ◌<◌, ◌⊎◌, Bool, true, false, List, [], ◌∷◌, length, Ok, refl, sym, ap, ◌∙◌, arith, inl, inr, ◌≤◌, drop}
 use Rattle.std.specs.Prelude.{◌&&◌, slice_index, ◌==◌, nat_lt, nat_le, min, max, Option, Some, None, unwrap_or}
 use Rattle.saphyr_input.specs.Classes.{is_blank, is_break, is_z, is_yaml_non_break}
 use Rattle.saphyr_scalar.specs.declared.values.BlockStyle.{BlockStyle}
@@ -13,8 +13,11 @@ use Rattle.saphyr_scalar.specs.Views.Cursor.{Cursor, along, next_line, pass}
 use Rattle.saphyr_scalar.specs.Passing as passing
 use Rattle.saphyr_scalar.specs.Passing.{IsPassed}
 use Rattle.saphyr_scalar.specs.Steps.Block.{header, is_indentation, is_cr_lf, inside_break, with_empty_line, pass_empty_lines, line_starts, LinesRead, between, line, chomped_lines, content, behind_leading_lines, given_indentation, no_lines, behind_header, block_scalar}
+use Rattle.std.proofs.lemmas.List.{length-drop}
+use Rattle.saphyr_input.specs.Places.{next_2_are}
+use Rattle.saphyr_scalar.specs.Spelling.LineBreaks.{break_len}
 use Rattle.saphyr_scalar.proofs.PassedBreaks.{PassesBreak, inside_same, one_here, return_here, feed_here, stop_here, end_here}
-use Rattle.saphyr_scalar.proofs.Block.PlacedHeaders.{top, passed_passed, passed_lines, Goes, one_passed, EndsHeaderLine, header_ends}
+use Rattle.saphyr_scalar.proofs.Block.PlacedHeaders.{top, passed_passed, passed_lines, Goes, one_passed, EndsHeaderLine, header_ends_from, goes_nowhere}
 use Rattle.saphyr_input.proofs.Basics.Booleans.{and_true_left, by_test}
 use Rattle.std.proofs.lemmas.Bool.{eqb-true}
 use Rattle.saphyr_input.proofs.Basics.Characters.{non_break_no_break}
@@ -77,16 +80,16 @@ mutual
 
 -- ## The scalar
 
-pub record Placed (s : Cursor) (span : Span) (t : Cursor) : Type 0 where
-  pub passes : IsPassed s.mark s.rest t.mark t.rest
-  pub end : span.end ≡ t.mark
-  pub behind : List ℕ
-  pub start : IsPassed s.mark s.rest span.start behind
-  pub inside : IsPassed span.start behind t.mark t.rest
-  pub line : s.mark.line < top → (s.mark.line < t.mark.line) ⊎ (is_z (slice_index t.rest 0) ≡ true)
+-- What is read of a block scalar at s is passed from the place z on, which is s or that after its first character.
+record PlacedFrom (z s : Cursor) (span : Span) (t : Cursor) : Type 0 where
+  passes : IsPassed z.mark z.rest t.mark t.rest
+  end : span.end ≡ t.mark
+  start : (span.start ≡ s.mark) ⊎ ((behind : List ℕ) × IsPassed z.mark z.rest span.start behind
+      × IsPassed span.start behind t.mark t.rest)
+  line : z.mark.line < top → (z.mark.line < t.mark.line) ⊎ (is_z (slice_index t.rest 0) ≡ true)
 
-abbrev PlacedAt : Cursor → List ℕ × Span × Cursor → Type 0
-PlacedAt s x = Placed s x.1 x.2
+abbrev PlacedAt : Cursor → Cursor → List ℕ × Span × Cursor → Type 0
+PlacedAt z s x = PlacedFrom z s x.1 x.2
 
 -- nothing is passed at the end
 none_at_end : (limit : Option ℕ) (before : EmptyLines) (b : Bool) (m : Marker) (t : List ℕ)
@@ -94,14 +97,7 @@ none_at_end : (limit : Option ℕ) (before : EmptyLines) (b : Bool) (m : Marker)
 unfolding pass_empty_lines
 none_at_end limit before b m [] e = refl
 none_at_end limit before b m (c ∷ cs) e =
-    let P : EmptyLines × Cursor → Type 0 = λ x. is_z (slice_index x.1.rest 0) ≡ true in
-    let nul : c ≡ 0 = eqb-true c 0 e in
-    by_test (is_indentation limit m.col c) _ _ P
-    (λ f. absurd (let g = indentation_is_space limit m.col c f in let h : 0 ≡ 32 = sym nul ∙ g in omega arith))
-    (λ _. by_test (is_cr_lf c cs) _ _ P
-    (λ f. absurd (let g = eqb-true c 13 (and_true_left (c == 13) (slice_index cs 0 == 10) f) in let h : 0 ≡ 13 =
-    sym nul ∙ g in omega arith))
-    (λ _. by_test (is_break c) _ _ P (λ f. absurd (let g : is_break c ≡ false = ap is_break nul in cc)) (λ _. e)))
+    grind (arith, eqb-true, indentation_is_space, and_true_left, slice_index, by_test)
 
 -- the lines after a place of a later line, or at the end
 lines_behind_line : (s h t : Cursor) → IsPassed h.mark h.rest t.mark t.rest
@@ -110,50 +106,100 @@ lines_behind_line : (s h t : Cursor) → IsPassed h.mark h.rest t.mark t.rest
     → s.mark.line < top → (s.mark.line < t.mark.line) ⊎ (is_z (slice_index t.rest 0) ≡ true)
 lines_behind_line s h t p u0 z l = grind (arith, passed_lines)
 
-content_placed : (style : BlockStyle) (c : Chomping) (indent i lines : ℕ) (s h x : Cursor) → EndsHeaderLine s h
+content_placed : (style : BlockStyle) (c : Chomping) (indent i lines : ℕ) (z s h x : Cursor) → EndsHeaderLine z h
     → IsPassed h.mark h.rest x.mark x.rest → is_z (slice_index x.rest 0) ≡ false
     → (is_z (slice_index h.rest 0) ≡ true → is_z (slice_index x.rest 0) ≡ true)
-    → Given (PlacedAt s) (content style c indent i lines x)
+    → Given (PlacedAt z s) (content style c indent i lines x)
 unfolding content chomped_lines
-content_placed style c indent i lines s h x e p none z =
+content_placed style c indent i lines z s h x e p none ends =
     let t : Cursor = (between style i None lines x.blank_so_far x.mark x.rest).2 in
     let q = (between_passes style i None lines x.blank_so_far x.mark x.rest).here in
-    let first = passed_passed s.mark s.rest h.mark h.rest x.mark x.rest e.passes p in
-    by_test (nat_lt x.mark.col i && nat_le indent x.mark.col) _ _ (Given (PlacedAt s)) (λ _. tt)
+    let first = passed_passed z.mark z.rest h.mark h.rest x.mark x.rest e.passes p in
+    by_test (nat_lt x.mark.col i && nat_le indent x.mark.col) _ _ (Given (PlacedAt z s)) (λ _. tt)
     (λ _. record {
-      passes = passed_passed s.mark s.rest x.mark x.rest t.mark t.rest first q;
+      passes = passed_passed z.mark z.rest x.mark x.rest t.mark t.rest first q;
       end = refl;
-      behind = x.rest;
-      start = first;
-      inside = q;
-      line = lines_behind_line s h t (passed_passed h.mark h.rest x.mark x.rest t.mark t.rest p q) e.line
-          (λ f. absurd (let g = z f in cc));
+      start = inr (x.rest, first, q);
+      line = lines_behind_line z h t (passed_passed h.mark h.rest x.mark x.rest t.mark t.rest p q) e.line
+          (λ f. absurd (let g = ends f in cc));
     })
 
-leading_placed : (style : BlockStyle) (indent : ℕ) (c : Chomping) (limit : Option ℕ) (s h : Cursor)
-    (x : EmptyLines × Cursor) → EndsHeaderLine s h → IsPassed h.mark h.rest x.1.mark x.1.rest
+leading_placed : (style : BlockStyle) (indent : ℕ) (c : Chomping) (limit : Option ℕ) (z s h : Cursor)
+    (x : EmptyLines × Cursor) → EndsHeaderLine z h → IsPassed h.mark h.rest x.1.mark x.1.rest
     → (is_z (slice_index h.rest 0) ≡ true → is_z (slice_index x.1.rest 0) ≡ true)
-    → Given (PlacedAt s) (behind_leading_lines style indent s.mark c limit x)
+    → Given (PlacedAt z s) (behind_leading_lines style indent s.mark c limit x)
 unfolding behind_leading_lines
-leading_placed style indent c limit s h x e p z =
-    let whole = passed_passed s.mark s.rest h.mark h.rest x.1.mark x.1.rest e.passes p in
-    by_test (is_z (slice_index x.1.rest 0)) _ _ (Given (PlacedAt s))
+leading_placed style indent c limit z s h x e p ends =
+    by_test (is_z (slice_index x.1.rest 0)) _ _ (Given (PlacedAt z s))
     (λ f. record {
-      passes = whole;
+      passes = passed_passed z.mark z.rest h.mark h.rest x.1.mark x.1.rest e.passes p;
       end = refl;
-      behind = s.rest;
-      start = passing.nothing s.mark s.rest;
-      inside = whole;
+      start = inl refl;
       line = λ _. inr f;
     })
-    (λ f. content_placed style c indent (unwrap_or limit (max x.0.widest indent)) x.0.count s h x.1 e p f z)
+    (λ f. content_placed style c indent (unwrap_or limit (max x.0.widest indent)) x.0.count z s h x.1 e p f ends)
 
-scalar_placed : (style : BlockStyle) (indent : ℕ) (s : Cursor) → Goes s (pass 1 s)
-    → Given (PlacedAt s) (block_scalar style indent s)
+scalar_placed : (style : BlockStyle) (indent : ℕ) (z s : Cursor) → Goes z (pass 1 s)
+    → Given (PlacedAt z s) (block_scalar style indent s)
 unfolding block_scalar behind_header
-scalar_placed style indent s g = grind (arith, given_bind, given_of, header_ends, leading_placed, empty_passes, none_at_end)
+scalar_placed style indent z s g = given_bind (PlacedAt z s) (header s) _ (λ h e.
+    let limit = given_indentation indent h.0.indicator in
+    let k = h.1 in
+    leading_placed style indent h.0.chomping limit z s k (pass_empty_lines limit no_lines k.blank_so_far k.mark k.rest)
+    (given_of (λ (y : BlockHeader × Cursor). EndsHeaderLine z y.1) (header s) h (header_ends_from z s g) e)
+    (empty_passes limit no_lines k.blank_so_far k.mark k.rest).here
+    (none_at_end limit no_lines k.blank_so_far k.mark k.rest))
+
+span_placed : (s : Cursor) (span : Span) (t : Cursor) → PlacedFrom s s span t
+    → (behind : List ℕ) × IsPassed s.mark s.rest span.start behind × IsPassed span.start behind t.mark t.rest
+span_placed s span t p = elim p.start [
+  | inl at ↦ (s.rest, rw at (passing.nothing s.mark s.rest), rw at p.passes)
+  | inr w ↦ w
+]
 
 pub block_scalar_placed : (style : BlockStyle) (indent : ℕ) (s t : Cursor) (text : List ℕ) (span : Span)
     → is_break (slice_index s.rest 0) ≡ false → 0 < length s.rest → block_scalar style indent s ≡ Ok (text, span, t)
-    → Placed s span t
-block_scalar_placed style indent s t text span b some e = grind (arith, given_of, scalar_placed, one_passed)
+    → IsPassed s.mark s.rest t.mark t.rest × (span.end ≡ t.mark)
+    × ((behind : List ℕ) × IsPassed s.mark s.rest span.start behind × IsPassed span.start behind t.mark t.rest)
+    × (s.mark.line < top → (s.mark.line < t.mark.line) ⊎ (is_z (slice_index t.rest 0) ≡ true))
+block_scalar_placed style indent s t text span b some e =
+    let p = given_of (PlacedAt s s) (block_scalar style indent s) (text, span, t)
+    (scalar_placed style indent s s (one_passed s b some)) e in
+    (p.passes, p.end, span_placed s span t p, p.line)
+
+-- ## What is taken
+
+-- a passing counts what it passes
+record Counts (m : Marker) (t : List ℕ) (n : Marker) (u : List ℕ) : Type 0 where
+  later : m.index ≤ n.index
+  same : n.index + length u ≡ m.index + length t
+
+break_counts : (m : Marker) (t : List ℕ) → is_break (slice_index t 0) ≡ true
+    → Counts m t (next_line m (break_len t)) (drop (break_len t) t)
+break_counts m t h = grind arith
+
+passed_counts : (m : Marker) (t : List ℕ) (n : Marker) (u : List ℕ) → IsPassed m t n u → Counts m t n u
+passed_counts _ _ _ _ (passing.nothing m t) = record { later = omega arith; same = omega arith }
+passed_counts _ _ _ _ (passing.character m c t n u e p) =
+    let q = passed_counts (along m 1) t n u p in
+    record { later = omega (arith, q.later); same = omega (arith, q.same) }
+passed_counts _ _ _ _ (passing.line_break m t n u e p) =
+    let b = break_counts m t e in
+    let q = passed_counts (next_line m (break_len t)) (drop (break_len t) t) n u p in
+    record { later = omega (arith, b.later, q.later); same = omega (arith, b.same, q.same) }
+
+placed : (style : BlockStyle) (indent : ℕ) (s t : Cursor) (text : List ℕ) (span : Span)
+    → block_scalar style indent s ≡ Ok (text, span, t) → PlacedFrom (pass 1 s) s span t
+placed style indent s t text span e = given_of (PlacedAt (pass 1 s) s) (block_scalar style indent s) (text, span, t)
+    (scalar_placed style indent (pass 1 s) s (goes_nowhere (pass 1 s))) e
+
+pub block_scalar_counts : (style : BlockStyle) (indent : ℕ) (s t : Cursor) (text : List ℕ) (span : Span)
+    → 0 < length s.rest → block_scalar style indent s ≡ Ok (text, span, t)
+    → (s.mark.index ≤ span.start.index) × (span.start.index ≤ span.end.index) × (span.end ≡ t.mark)
+    × (t.mark.index + length t.rest ≡ s.mark.index + length s.rest)
+block_scalar_counts style indent s t text span some e = grind (arith, placed, passed_counts, length-drop)
+
+-- so it takes something off the text
+pub block_scalar_takes : (style : BlockStyle) (indent : ℕ) (s t : Cursor) (text : List ℕ) (span : Span)
+    → 0 < length s.rest → block_scalar style indent s ≡ Ok (text, span, t) → length t.rest < length s.rest
+block_scalar_takes style indent s t text span some e = grind (arith, placed, passed_counts, length-drop)

@@ -49,7 +49,7 @@ pub record Goes (s t : Cursor) : Type 0 where
   pub passes : IsPassed s.mark s.rest t.mark t.rest
   pub line : t.mark.line ≡ s.mark.line
 
-goes_nowhere : (s : Cursor) → Goes s s
+pub goes_nowhere : (s : Cursor) → Goes s s
 goes_nowhere s = record { passes = passing.nothing s.mark s.rest; line = refl }
 
 goes_goes : (s t u : Cursor) → Goes s t → Goes t u → Goes s u
@@ -176,16 +176,27 @@ header_behind_ends : (start : Marker) (i : ℕ) (s : Cursor) (x : Chomping × Cu
 unfolding header_behind
 header_behind_ends start i s x g = grind (arith, given_bind, given_of, header_end_ends)
 
--- where the header's indicators end
+-- where the header's indicators end; z is the place s, or that after the first character
+header_goes_from : (z s : Cursor) (x : ℕ × Cursor) → Goes z (pass 1 s) → indicator s.mark (chomping (pass 1 s)).1 ≡ Ok x
+    → Goes z (last_chomping (chomping (pass 1 s)).0 x.1).1
+header_goes_from z s x g e =
+    let first = chomping (pass 1 s) in
+    let k = goes_goes z first.1 x.1 (goes_goes z (pass 1 s) first.1 g (chomping_goes (pass 1 s)))
+    (given_of (λ (y : ℕ × Cursor). Goes first.1 y.1) (indicator s.mark first.1) x (indicator_goes s.mark first.1) e) in
+    goes_goes z x.1 (last_chomping first.0 x.1).1 k (last_goes first.0 x.1)
+
 pub header_goes : (s : Cursor) (x : ℕ × Cursor) → Goes s (pass 1 s) → indicator s.mark (chomping (pass 1 s)).1 ≡ Ok x
     → Goes s (last_chomping (chomping (pass 1 s)).0 x.1).1
-header_goes s x g e =
+header_goes s = header_goes_from s s
+
+pub header_ends_from : (z s : Cursor) → Goes z (pass 1 s)
+    → Given (λ (y : BlockHeader × Cursor). EndsHeaderLine z y.1) (header s)
+unfolding header
+header_ends_from z s g =
     let first = chomping (pass 1 s) in
-    let k = goes_goes s first.1 x.1 (goes_goes s (pass 1 s) first.1 g (chomping_goes (pass 1 s)))
-    (given_of (λ (y : ℕ × Cursor). Goes first.1 y.1) (indicator s.mark first.1) x (indicator_goes s.mark first.1) e) in
-    goes_goes s x.1 (last_chomping first.0 x.1).1 k (last_goes first.0 x.1)
+    given_bind (λ (y : BlockHeader × Cursor). EndsHeaderLine z y.1) (indicator s.mark first.1) _ (λ x e.
+    header_behind_ends s.mark x.0 z (last_chomping first.0 x.1) (header_goes_from z s x g e))
 
 pub header_ends : (s : Cursor) → Goes s (pass 1 s)
     → Given (λ (y : BlockHeader × Cursor). EndsHeaderLine s y.1) (header s)
-unfolding header
-header_ends s g = grind (arith, given_bind, header_behind_ends, header_goes)
+header_ends s = header_ends_from s s

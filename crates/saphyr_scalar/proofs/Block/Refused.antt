@@ -41,7 +41,8 @@ end_refused s t p =
 
 header_refused : (s : Cursor) → Goes s (pass 1 s) → Refused (IsRefusedInside s) (header s)
 unfolding header header_behind
-header_refused s g = grind (arith, refused_bind, refused_more, indicator_refused, inside_start, end_refused, header_goes)
+header_refused s g =
+    grind (arith, refused_bind, refused_more, indicator_refused, inside_start, end_refused, header_goes)
 
 content_refused : (style : BlockStyle) (c : Chomping) (indent i lines : ℕ) (s t : Cursor)
     → IsPassed s.mark s.rest t.mark t.rest → Refused (IsRefusedInside s) (content style c indent i lines t)
@@ -58,11 +59,4 @@ pub block_scalar_refused : (style : BlockStyle) (indent : ℕ) (s : Cursor) → 
     → 0 < length s.rest → Refused (IsRefusedInside s) (block_scalar style indent s)
 unfolding block_scalar behind_header
 block_scalar_refused style indent s b some =
-    let g = one_passed s b (omega (arith, some)) in
-    refused_bind (IsRefusedInside s) (header s) _ (header_refused s g) (λ x e.
-    let h = given_of (λ (y : BlockHeader × Cursor). EndsHeaderLine s y.1) (header s) x (header_ends s g) e in
-    let limit = given_indentation indent x.0.indicator in
-    let lines = pass_empty_lines limit no_lines x.1.blank_so_far x.1.mark x.1.rest in
-    leading_refused style indent s.mark x.0.chomping limit s lines
-    (passed_passed s.mark s.rest x.1.mark x.1.rest lines.1.mark lines.1.rest h.passes
-    (empty_passes limit no_lines x.1.blank_so_far x.1.mark x.1.rest).here))
+    grind (arith, one_passed, refused_bind, header_refused, given_of, header_ends, leading_refused, passed_passed, empty_passes)

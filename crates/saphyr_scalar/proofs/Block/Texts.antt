@@ -88,14 +88,8 @@ line_content i text h = rw (full_content i text h, content_of i text) refl
 -- of two lists whose first characters are asked about, one goes on after what is taken off the other
 pub normal_half : (c : ℕ) (cs taken rest : List ℕ) → is_cr_lf c cs ≡ true → cs ≡ taken ++ rest
     → is_break (slice_index rest 0) ≡ false → normalized (c ∷ taken) ≡ normalized taken
-normal_half c cs [] rest h e clear =
-    let both = and_parts (nat_eq c 13) (nat_eq (slice_index cs 0) 10) h in
-    let first : slice_index cs 0 ≡ 10 = grind (arith, nat_tests) in
-    let there : is_break (slice_index rest 0) ≡ true = cc in absurd (cc)
-normal_half c cs (t ∷ ts) rest h e clear =
-    let both = and_parts (nat_eq c 13) (nat_eq (slice_index cs 0) 10) h in
-    let same : (t == 10) ≡ true = ap (λ (x : List ℕ). slice_index x 0 == 10) (sym e) ∙ both.1 in
-    rw (both.0, same) refl
+normal_half c cs [] rest h e clear = grind (arith, and_parts, nat_tests, slice_index)
+normal_half c cs (t ∷ ts) rest h e clear = grind (arith, nat_tests, and_parts, slice_index)
 
 not_feed : (cs taken rest : List ℕ) → (slice_index cs 0 == line_feed) ≡ false → cs ≡ taken ++ rest
     → (slice_index taken 0 == line_feed) ≡ false

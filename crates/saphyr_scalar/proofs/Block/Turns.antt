@@ -137,13 +137,7 @@ pub record Starts (i col : ℕ) (xs : List ℕ) : Type 0 where
 
 pub starts : (i col : ℕ) (xs : List ℕ) → line_starts i col xs ≡ true → Starts i col xs
 unfolding line_starts
-starts i col xs = parts (nat_eq col i) (is_yaml_non_break (slice_index xs 0)) _ refl refl
-  where
-    parts : (a d e : Bool) → nat_eq col i ≡ a → is_yaml_non_break (slice_index xs 0) ≡ d → (a && d && e) ≡ true
-        → Starts i col xs
-    parts true true e at content h = record { column = grind (arith, nat_tests); content = content }
-    parts true false e at content h = absurd (cc)
-    parts false d e at content h = absurd (cc)
+starts i col xs = grind (arith, nat_tests)
 
 pub not_left : (i col c : ℕ) → col ≡ i → is_indentation (Some i) col c ≡ false
 not_left i col c e = let no : nat_lt col i ≡ false = grind (arith, nat_tests) in rw no (and_false (nat_eq c 32))
@@ -249,20 +243,7 @@ pub line_read : (st : BlockStyle) (i : ℕ) (ab : Option Bool) (k : ℕ) (text m
     → more ≡ text ++ encode_utf8_all (break_before st ab k below) → SameLine more here grown end
     → LineRead st i ab k text grown here end below
 line_read st i ab k text more grown here end below h e pushed read =
-    let n = prefix_len is_yaml_non_break here.rest in
-    let s = starts i here.mark.col here.rest h in
-    let start = line_begins st i ab k here.blank_so_far here.mark here.rest h in
-    let run = line_run st i below here.blank_so_far here.mark here.rest in
-    subst (λ x. LineRead st i ab k text x.0 here x.1 below) (read_to more grown here end read)
-    (record {
-      same = ap (with_lines text) (rw (← e) at start)
-          ∙ front_text text (break_before st ab k below) (line_at st i below here)
-          ∙ ap (λ b. with_lines b (line_at st i below here)) (sym pushed)
-          ∙ ap (with_lines more) run ∙ front_text more (take n here.rest) (line_at st i below (pass_comment here));
-      ends = run_ends is_yaml_non_break here.rest refl;
-      shorter = rw (length-drop)
-          (omega (arith, some_content here.rest s.content, prefix_len-le-length is_yaml_non_break here.rest));
-    })
+    grind (arith, nat_tests, starts, line_begins, line_run, read_to, front_text, run_ends, shorter, length-drop, some_content, prefix_len-le-length)
 
 -- a turn of the lines, up to the content's end
 pub turn : (st : BlockStyle) (i : ℕ) (ab : Option Bool) (before after : EmptyLines) (text more grown : List ℕ)
@@ -319,7 +300,8 @@ pub text_done : (c : Chomping) (i : ℕ) (start : Marker) (read : LinesRead) (te
     → pushed ≡ grown ++ encode_utf8_all (tail c b end) → span.start ≡ start → span.end ≡ u.mark
     → chomped_lines c i start read ≡ Ok (pushed, span, u)
 unfolding chomped_lines
-text_done c i start read text grown pushed end t u b span e none unfinished same push first last = grind (arith, lines_to, encode_utf8_all, encodes-append)
+text_done c i start read text grown pushed end t u b span e none unfinished same push first last =
+    grind (arith, lines_to, encode_utf8_all, encodes-append)
 
 -- no content line begins with what is no content
 pub no_start : (i col : ℕ) (xs : List ℕ) → is_yaml_non_break (slice_index xs 0) ≡ false → line_starts i col xs ≡ false

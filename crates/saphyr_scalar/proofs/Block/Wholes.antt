@@ -56,15 +56,7 @@ none_in (suc k) = none_in k
 whole_cut : (st : BlockStyle) (c : Chomping) (i k : ℕ) (x : List ℕ) (e : Ending) → 0 < length x
     → whole st c i (empties k) (spaces i ++ x) e ≡ line_feeds k ++ (x ++ reading.chomped c (is_at_end e) 0)
 whole_cut st c i k x e some =
-    rw (
-      full_content i x some,
-      content_of i x,
-      content_after k x [],
-      contents_after st k x [],
-      ends_after 0 k x [],
-      append-nil x,
-      append_assoc,
-    ) refl
+    grind (arith, nat_tests, full_content, content_of, content_after, contents_after, ends_after, append-nil, append_assoc)
 
 -- lines come after the first content line
 whole_broken : (st : BlockStyle) (c : Chomping) (i k : ℕ) (x text : List ℕ) (e : Ending)
@@ -89,13 +81,7 @@ none_more (suc k) w = none_more k w
 
 alone_feeds : (k j : ℕ) → line_feeds (length (empties k ++ extra (not (nat_eq j 0) && nat_eq k 0)))
     ≡ (if (k == 0) && true && nat_lt 0 j then line_feeds 1 else line_feeds k)
-alone_feeds zero zero = refl
-alone_feeds zero (suc j) =
-    let some : nat_eq (suc j) 0 ≡ false = grind (arith, nat_tests) in
-    let more : nat_lt 0 (suc j) ≡ true = grind (arith, nat_tests) in rw (some, more) refl
-alone_feeds (suc k) j =
-    let some : nat_eq (suc k) 0 ≡ false = grind (arith, nat_tests) in
-    rw (some, and_false (not (nat_eq j 0)), append-nil (empties k), length-replicate k Empty) refl
+alone_feeds v0 j = grind (arith, nat_tests, and_false, append-nil, length-replicate)
 
 alone_value : (c : Chomping) (k j : ℕ) (s : Cursor) → s.mark.col ≡ j → s.blank_so_far ≡ true
     → reading.chomped_alone c (length (empties k ++ extra (not (nat_eq j 0) && nat_eq k 0))) ≡ tail_alone c k s
@@ -105,7 +91,8 @@ alone_value u0 k j s e f = grind (arith, alone_feeds)
 -- no content, at the end
 pub whole_alone : (st : BlockStyle) (c : Chomping) (i k j : ℕ) (s : Cursor) → j ≤ i → s.mark.col ≡ j
     → s.blank_so_far ≡ true → whole st c i (empties k) (spaces j) AtEnd ≡ tail_alone c k s
-whole_alone st c i k j s within e f = grind (arith, empty_spaces, length-replicate, none_in, none_more, nat_eq, alone_value)
+whole_alone st c i k j s within e f =
+    grind (arith, empty_spaces, length-replicate, none_in, none_more, nat_eq, alone_value)
 
 pub block_value_of : (st : BlockStyle) (c : Chomping) (i : ℕ) (text last : List ℕ) (lines : List Line) (e : Ending)
     → lines_of i text ≡ lines → last_line text ≡ last → block_value st c i text e ≡ whole st c i lines last e

@@ -49,10 +49,8 @@ number_ended start n v s = by_test (n == 0) _ _ (RefusedAt start) (λ _. refl) (
 number_refused : (start : Marker) (n v : ℕ) (m : Marker) (t : List ℕ) → RefusedAt start (number_from start n v m t)
 unfolding number_from
 number_refused start n v m [] = number_ended start n v (mid_line m [])
-number_refused start n v m (c ∷ cs) = by_test (is_digit c) _ _ (RefusedAt start)
-    (λ _. by_test (nat_lt n 9) _ _ (RefusedAt start)
-    (λ _. number_refused start (suc n) (v * 10 + (c - 48)) (along m 1) cs) (λ _. refl))
-    (λ _. number_ended start n v (mid_line m (c ∷ cs)))
+number_refused start n v m (c ∷ cs) =
+    grind (arith, number_ended, by_test, number_refused start (suc n) (v * 10 + (c - 48)) (along m 1) cs)
 
 version_refused : (start : Marker) (s : Cursor) → RefusedAt start (version_directive start s)
 unfolding version_directive behind_major

@@ -92,12 +92,7 @@ word_spelled start m ys text u =
 handle_spelled : (start m : Marker) (xs text : List ℕ) (u : Cursor) → handle start (mid_line m xs) ≡ Ok (text, u)
     → HandleOf m xs text u
 unfolding handle
-handle_spelled start m xs text u h =
-    let is = cond_then (nat_eq (slice_index xs 0) 33)
-    (handle_behind_word start (with_run is_alpha [] (mid_line (along m 1) (drop 1 xs)))) (text, u)
-    (record { text = fault.TagHandleStartExpected; mark = start }) h in
-    let more : xs ≡ 33 ∷ drop 1 xs = cut_at 33 xs refl (eqb-true (slice_index xs 0) 33 is.test) in
-    rw more (word_spelled start m (drop 1 xs) text u is.same)
+handle_spelled start m xs text u h = grind (arith, cond_then, cut_at, eqb-true, word_spelled)
 
 pub record PrefixOf (m : Marker) (xs text : List ℕ) (u : Cursor) : Type 0 where
   pub value : List ℕ

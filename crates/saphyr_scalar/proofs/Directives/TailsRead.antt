@@ -31,8 +31,7 @@ Tail blanks comment = (comment ≡ []) ⊎ IsTailComment blanks comment
 tail_begins : (blanks comment x : List ℕ) → AreIn is_blank blanks → Tail blanks comment
     → is_breakz (slice_index x 0) ≡ true → is_blank_or_breakz (slice_index (blanks ++ (comment ++ x)) 0) ≡ true
 tail_begins (b ∷ bs) comment x (is, are) tail ends = or_left (is_blank b) (is_breakz b) is
-tail_begins [] comment x are (inl none) ends =
-    rw none (or_right (is_blank (slice_index x 0)) (is_breakz (slice_index x 0)) ends)
+tail_begins [] comment x are (inl none) ends = grind (arith, nat_tests, or_right, slice_index)
 tail_begins [] comment x are (inr (words, some, in_line, is)) ends = absurd (some refl)
 
 comment_begins : (blanks comment x : List ℕ) → Tail blanks comment → is_breakz (slice_index x 0) ≡ true
@@ -82,11 +81,7 @@ separation_read : (m : Marker) (tail x : List ℕ) → IsLineTail tail → is_br
     → separation Yes (mid_line m (tail ++ x)) ≡ Ok (found_blanks Yes (tail ++ x), mid_line (along m (length tail)) x)
 unfolding separation
 separation_read m tail x is ends =
-    ap (λ n. behind_separation Yes (tail ++ x) (blanks_passed n m (tail ++ x))) (tail_len tail x is ends)
-    ∙ ap (λ u. behind_separation Yes (tail ++ x) (mid_line (along m (length tail)) u)) (drop-append_seam tail x)
-    ∙ nothing_refused (tail ++ x) (mid_line (along m (length tail)) x) (no_bom (slice_index x 0) ends)
-    (and_right (nat_eq (blank_len Yes (tail ++ x)) 0) (nat_eq (slice_index (tail ++ x) 0) 35)
-    (other_than is_blank_or_breakz 35 (slice_index (tail ++ x) 0) refl (tail_first tail x is ends)))
+    grind (arith, nat_tests, blanks_passed, tail_len, drop-append_seam, nothing_refused, no_bom, and_right, other_than, tail_first)
 
 pub line_read : (start m : Marker) (tail x : List ℕ) → IsLineTail tail → is_breakz (slice_index x 0) ≡ true
     → line_end start (mid_line m (tail ++ x)) ≡ Ok (pass_break (mid_line (along m (length tail)) x))

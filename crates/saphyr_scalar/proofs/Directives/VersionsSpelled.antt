@@ -35,21 +35,7 @@ pub record DigitsOf (n v w : ℕ) (m : Marker) (xs : List ℕ) (u : Cursor) : Ty
 number_ended : (start : Marker) (n v w : ℕ) (m : Marker) (xs : List ℕ) (u : Cursor) → n ≤ 9
     → number_end start n v (mid_line m xs) ≡ Ok (w, u) → DigitsOf n v w m xs u
 unfolding number_end
-number_ended start n v w m xs u le h =
-    let some = cond_not {A = ℕ × Cursor} (nat_eq n 0) (Ok (v, mid_line m xs)) (w, u)
-    (record { text = fault.VersionNumberExpected; mark = start }) h in
-    let same = ok_same {A = ℕ × Cursor} (v, mid_line m xs) (w, u) some.same in
-    let left : mid_line m xs ≡ u = ap (λ (x : ℕ × Cursor). x.1) same in
-    let rest : xs ≡ u.rest = ap (λ (x : Cursor). x.rest) left in
-    record {
-      digits = [];
-      all = tt;
-      few = omega arith;
-      some = grind (arith, nat_tests);
-      value = ap (λ (x : ℕ × Cursor). x.0) same;
-      text = rest;
-      place = sym left ∙ ap (mid_line m) rest ∙ ap (λ k. mid_line k u.rest) (sym (along_none m));
-    }
+number_ended start n v w m xs u le h = grind (arith, cond_not, ok_same, nat_tests, along_none)
 
 digits_spelled : (start : Marker) (n v : ℕ) (m : Marker) (xs : List ℕ) (w : ℕ) (u : Cursor) → n ≤ 9
     → number_from start n v m xs ≡ Ok (w, u) → DigitsOf n v w m xs u

@@ -63,11 +63,7 @@ break_end : (s : Cursor) → IsEnd s.rest (pass_break s).rest
 break_end s = grind (arith, end_at_start, by_test, not_two, end_behind_character)
 
 next_lines_end : (i : ℕ) (a : Marker) (s : Cursor) (g : PlainGap) → next_lines i a s ≡ Ok g → IsEnd s.rest g.behind.rest
-next_lines_end i a s g = by_result (lines i a false [] s.mark s.rest) (lines_end i a false [] s.mark s.rest)
-  where
-    by_result : (r : Result PlainGap Refusal) → ((h : PlainGap) → r ≡ Ok h → IsEnd s.rest h.behind.rest)
-        → (r >>= λ h. Ok (folded_gap h)) ≡ Ok g → IsEnd s.rest g.behind.rest
-    by_result r ends e = grind arith
+next_lines_end i a s g = grind (arith, lines_end)
 
 pub gap_end : (i : ℕ) (a : Marker) (s : Cursor) (g : PlainGap) → gap i a s ≡ Ok g → IsEnd s.rest g.behind.rest
 unfolding gap gap_from

@@ -236,11 +236,7 @@ feeds_encode zero = refl
 feeds_encode (suc k) = cc (encode_ascii 10 (omega arith), feeds_encode k)
 
 folded_text : (k : ℕ) (g : PlainGap) → g.text ≡ line_feeds k → encode_utf8_all (raw_break k) ≡ (spec.folded_gap g).text
-folded_text zero g e = ap (λ (l : List ℕ). l ++ []) (encode_ascii 32 (omega arith)) ∙ sym (rw e refl)
-folded_text (suc k) g e = feeds_encode (suc k) ∙ sym (rw e (rw (some_length (length (line_feeds k))) refl))
-  where
-    some_length : (n : ℕ) → (suc n == 0) ≡ false
-    some_length n = grind (arith, nat_tests)
+folded_text v0 g e = grind (arith, encode_ascii, feeds_encode, nat_tests)
 
 lines_read : (i : ℕ) (xs : List ℕ) (m : Marker) (g : PlainGap) (t : Cursor) → along m (prefix_len is_blank xs) ≡ t.mark
     → drop (prefix_len is_blank xs) xs ≡ t.rest → is_break (slice_index t.rest 0) ≡ true
@@ -267,7 +263,8 @@ lines_read i xs m g t mark rest breaks line r =
 next_lines_read : (i : ℕ) (a : Marker) (xs : List ℕ) (m : Marker) (g : PlainGap) (t : Cursor)
     → along m (prefix_len is_blank xs) ≡ t.mark → drop (prefix_len is_blank xs) xs ≡ t.rest
     → is_break (slice_index t.rest 0) ≡ true → next_lines i a (pass_break t) ≡ Ok g → GapReads i xs m g
-next_lines_read i a xs m g t mark rest breaks = grind (arith, lines_run, lines_is_line, break_to_start, same_gap, lines_read, no_refusal)
+next_lines_read i a xs m g t mark rest breaks =
+    grind (arith, lines_run, lines_is_line, break_to_start, same_gap, lines_read, no_refusal)
 
 pub gap_reads : (i : ℕ) (a : Marker) (xs : List ℕ) (m : Marker) (g : PlainGap) → gap i a (mid_line m xs) ≡ Ok g
     → GapReads i xs m g

@@ -25,10 +25,7 @@ use Rattle.saphyr_input.proofs.Basics.Characters.{blank_cases}
 pub later_append : (P : List ℕ → Type 0) (v w behind : List ℕ) → AreLaterLines P v (w ++ behind)
     → AreLaterLines P w behind → AreLaterLines P (v ++ w) behind
 later_append P [] w behind h k = k
-later_append P (c ∷ v) w behind h k = (
-  rw (append_assoc v w behind) h.0,
-  later_append P v w behind h.1 k,
-)
+later_append P (c ∷ v) w behind h k = grind (arith, append_assoc, later_append P v w behind h.1 k)
 
 no_line_end : (c : ℕ) (cs : List ℕ) → is_break c ≡ false → IsTrue (ends_line c cs) → ⊥
 no_line_end c cs h e = false≢true (sym (ap (λ b. b && not ((c == 13) && (slice_index cs 0 == 10))) h) ∙ e)
@@ -78,11 +75,7 @@ space_on_line f t n k xs le h = grind arith
 
 tab_on_line : (f t : Bool) (i : ℕ) (m : Marker) (k : ℕ) (xs : List ℕ) → IsOnLine f (t || nat_lt m.col i) k xs
     → IsOnLine f t (i - m.col) (9 ∷ xs)
-tab_on_line f true i m k xs = λ h. h
-tab_on_line f false i m k xs = by_left (nat_lt m.col i) refl
-  where
-    by_left : (b : Bool) → nat_lt m.col i ≡ b → IsOnLine f b k xs → IsOn f (i - m.col) (9 ∷ xs)
-    by_left b e h = grind arith
+tab_on_line f v1 i m k xs = grind arith
 
 break_on_line : (f t : Bool) (n c : ℕ) (cs : List ℕ) → is_break c ≡ true → IsOnLine f t n (c ∷ cs)
 break_on_line f t n c cs h = blank f t n (c ∷ cs) (or_left (is_break c) (is_blank c && is_blank_line cs) h)
@@ -95,11 +88,7 @@ tabbed_content a f s g = grind arith
 
 word_no_nul : (f : Bool) (xs : List ℕ) → is_in_word f xs ≡ true → is_z (slice_index xs 0) ≡ false
 unfolding is_in_word
-word_no_nul f xs h =
-    by_parts (is_blank (slice_index xs 0)) (is_break (slice_index xs 0)) (is_z (slice_index xs 0)) (can_be_plain f xs) h
-  where
-    by_parts : (a b z e : Bool) → (not (a || (b || z)) && e) ≡ true → z ≡ false
-    by_parts a b z e x = grind arith
+word_no_nul f xs h = grind arith
 
 -- where the line's content begins
 non_space_on : (n c : ℕ) (cs : List ℕ) → IsNonSpace c → IsOn true n (c ∷ cs)
@@ -120,15 +109,7 @@ same_front f i a t feeds m xs g e on = rw (may_stand_same a t feeds (line_front 
 white_on_line : (f : Bool) (i : ℕ) (t : Bool) (m : Marker) (c : ℕ) (cs : List ℕ) → is_blank_or_break c ≡ true
     → IsOnLine f (is_blank c && (t || ((c == tab) && nat_lt m.col i))) (i - (behind_one m c cs).col) cs
     → IsOnLine f t (i - m.col) (c ∷ cs)
-white_on_line f i t m c cs white h = either (is_blank c) (is_break c) (IsOnLine f t (i - m.col) (c ∷ cs)) white
-    (λ is. blank_cases c is
-    (λ x. IsOnLine f (is_blank x && (t || ((x == tab) && nat_lt m.col i))) (i - (behind_one m x cs).col) cs
-    → IsOnLine f t (i - m.col) (x ∷ cs))
-    (λ k. space_on_line f t (i - m.col) (i - (m.col + 1)) cs (omega arith) (rw (or_no t) at k))
-    (λ k. tab_on_line f t i m (i - (m.col + 1)) cs k) h) (λ is. break_on_line f t (i - m.col) c cs is)
-  where
-    or_no : (b : Bool) → (b || false) ≡ b
-    or_no b = grind arith
+white_on_line f i t m c cs white h = grind (arith, blank_cases, behind_one, space_on_line, tab_on_line, break_on_line)
 
 -- from any place in the blanks and breaks after a word's line on
 pub lines_on_line : (f : Bool) (i : ℕ) (a : Marker) (t : Bool) (feeds : List ℕ) (m : Marker) (xs : List ℕ)

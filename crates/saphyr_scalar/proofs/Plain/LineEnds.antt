@@ -81,13 +81,7 @@ gap_no_turn f i a end text g u h = grind (arith, append-nil, goes_says)
 pub left_ends : (f : Bool) (i : ℕ) (a end : Marker) (text : List ℕ) (u : Cursor) → u.blank_so_far ≡ true
     → is_left_of_scalar f i u ≡ true → with_text text (scalar_behind_line f i a end u) ≡ Ok (text, end, None, u)
 left_ends f i a end text u blank left =
-    let all = all_three (not f) (nat_lt u.mark.col i) (not (is_blank_or_break (slice_index u.rest 0))) left in
-    let non_space = not-true (is_blank_or_break (slice_index u.rest 0)) all.2 in
-    let g = folded_gap (seen_gap false [] u) in
-    ap (λ (r : Result PlainGap Refusal). with_text text ((r >>= λ g. Ok (folded_gap g)) >>= plain_behind_gap f i a end))
-    (line_there i a u.mark u.rest non_space ∙ ap (λ x. Ok (seen_gap false [] x)) (same_line_front u blank))
-    ∙ gap_no_turn f i a end text g u (not_on f i u blank all.0 all.1)
-    ∙ ap (λ x. Ok (text, end, x, u)) (no_comment f u blank)
+    grind (arith, all_three, not-true, plain_behind_gap, line_there, same_line_front, gap_no_turn, not_on, no_comment)
 
 -- Where a word ended at s, u is behind a break that comes there, and the spaces after it.
 
@@ -136,11 +130,13 @@ pub lines_and_rest : (f : Bool) (i : ℕ) (s there end here : Cursor) (text grow
     → word_starts f s ≡ Ok (true, there) → PlainWordsMoved f text grown there end
     → is_break (slice_index end.rest 0) ≡ true → here ≡ behind_break end → whole ≡ grown
     → with_text whole (scalar_behind_line f i s.mark end.mark here) ≡ with_text text (plain f i s)
-lines_and_rest f i s there end here text grown whole starts words breaks at same = grind (arith, word_to_break, words_and_rest)
+lines_and_rest f i s there end here text grown whole starts words breaks at same =
+    grind (arith, word_to_break, words_and_rest)
 
 -- what is behind them on their line
 pub gap_and_rest : (f : Bool) (i : ℕ) (s there end here : Cursor) (text grown whole : List ℕ)
     → word_starts f s ≡ Ok (true, there) → PlainWordsMoved f text grown there end
     → is_break (slice_index end.rest 0) ≡ false → here ≡ behind_break end → whole ≡ grown
     → with_text whole (word f i s.mark here.mark here.rest) ≡ with_text text (plain f i s)
-gap_and_rest f i s there end here text grown whole starts words stops at same = grind (arith, words_and_rest, stays_there)
+gap_and_rest f i s there end here text grown whole starts words stops at same =
+    grind (arith, words_and_rest, stays_there)

@@ -49,15 +49,7 @@ Behind i a t f s = lines i a t f s.mark s.rest ≡ lines i a false (f ++ 10 ∷ 
 
 return_on : (i : ℕ) (a : Marker) (t : Bool) (f : List ℕ) (m : Marker) (cs : List ℕ) (b : Bool)
     → Behind i a t f (record { rest = carriage_return ∷ cs; mark = m; blank_so_far = b })
-return_on i a t f m [] b = lines_return i a t f m [] refl
-return_on i a t f m (d ∷ ds) b = test (d == 10) refl
-  where
-    Goal : ℕ → Type 0
-    Goal x = Behind i a t f (record { rest = 13 ∷ x ∷ ds; mark = m; blank_so_far = b })
-
-    test : (e : Bool) → (d == line_feed) ≡ e → Goal d
-    test true h = let is : 10 ≡ d = grind (arith, nat_tests) in subst Goal is (lines_two i a t f m ds)
-    test false h = rw h (lines_return i a t f m (d ∷ ds) h)
+return_on i a t f m v5 b = grind (arith, lines_return, nat_tests, lines_two)
 
 pub lines_break : (i : ℕ) (a : Marker) (t : Bool) (f : List ℕ) (s : Cursor) → is_break (slice_index s.rest 0) ≡ true
     → Behind i a t f s

@@ -44,12 +44,7 @@ second_of a b d h = grind arith
 -- where no word goes on, none begins
 pub starts_not : (f : Bool) (s : Cursor) → is_in_word f s.rest ≡ false → word_starts f s ≡ Ok (false, s)
 unfolding word_starts
-starts_not f s h = by_test ((slice_index s.rest 0 == 35) || ((s.mark.col == 0) && is_document_indicator s.rest)) _ _
-    (λ r. r ≡ Ok (false, s)) (λ _. refl)
-    (λ _. by_test (f && (slice_index s.rest 0 == 45) && is_flow (slice_index s.rest 1)) _ _ (λ r. r ≡ Ok (false, s))
-    (λ is.
-    let dash : (slice_index s.rest 0 == 45) ≡ true = second_of f _ _ is in
-    let goes = dash_in_word f s.rest (grind (arith, nat_tests)) in absurd (cc)) (λ _. rw h refl))
+starts_not f s h = grind (arith, second_of, dash_in_word, nat_tests)
 
 abbrev WordAnswer : Type 0
 WordAnswer = Result (Bool × Cursor) Refusal
@@ -114,10 +109,7 @@ word_stops f (c ∷ cs) =
 -- another word comes after what ends one
 pub word_behind : (f : Bool) (xs ys : List ℕ) → IsEnd xs ys → is_in_word f xs ≡ false → is_in_word f ys ≡ true
     → length ys < length xs
-word_behind f xs ys end stops goes = by end.taken refl
-  where
-    by : (n : ℕ) → end.taken ≡ n → length ys < length xs
-    by n e = grind arith
+word_behind f xs ys end stops goes = grind (arith, nat_tests)
 
 -- after a gap
 abbrev pub plain_behind_gap : Bool → ℕ → Marker → Marker → PlainGap → PlainScalarRead
@@ -157,12 +149,8 @@ word_first f i a g c cs t is same goes = grind (arith, text_twice, word_on)
 
 between_there : (f : Bool) (i : ℕ) (a end : Marker) (g : PlainGap) (xs : List ℕ) → xs ≡ g.behind.rest
     → word_behind_gap f i a end g zero xs ≡ plain_behind_gap f i a end g
-between_there f i a end g [] is =
-    between_none f i a end g zero ∙ sym (gap_over f i a end g (ap (is_in_word f) (sym is) ∙ not_in_word f))
-between_there f i a end g (c ∷ cs) is = between_step f i a end g c cs
-    ∙ bind_same (next_word_starts f i g.behind) _ _ (λ b h.
-    let says = goes_says f i b.0 g.behind b.1 h in
-    choice b.0 _ _ (scalar_end f end g) (λ goes. word_first f i a g c cs b.1 is says.same (says.goes goes)))
+between_there f i a end g [] is = grind (arith, nat_tests, between_none, gap_over, not_in_word)
+between_there f i a end g (c ∷ cs) is = grind (arith, nat_tests, between_step, bind_same, goes_says, choice, word_first)
 
 between_all : (f : Bool) (i : ℕ) (a end : Marker) (g : PlainGap) (k : ℕ) (xs : List ℕ) → drop k xs ≡ g.behind.rest
     → word_behind_gap f i a end g k xs ≡ plain_behind_gap f i a end g

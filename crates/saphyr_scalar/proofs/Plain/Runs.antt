@@ -64,9 +64,7 @@ same_normal c v y h = ap (λ (b : Bool). if c == 13 then (if b then [] else 10 �
 
 normalized_append : (v y : List ℕ) → NoFeed y → normalized (v ++ y) ≡ normalized v ++ normalized y
 normalized_append [] y h = refl
-normalized_append (c ∷ v) y h = ap (λ (l : List ℕ). l ++ normalized (v ++ y)) (same_normal c v y h)
-    ∙ ap (λ (l : List ℕ). normal_break c v ++ l) (normalized_append v y h)
-    ∙ sym (append_assoc (normal_break c v) (normalized v) (normalized y))
+normalized_append (c ∷ v) y h = grind (arith, same_normal, append_assoc, normalized_append v y h)
 
 items_append : (v y : List ℕ) → NoFeed y → items_of (v ++ y) ≡ items_of v ++ items_of y
 items_append v y h = ap (map raw_item) (normalized_append v y h) ∙ map-append raw_item (normalized v) (normalized y)
@@ -82,10 +80,7 @@ passed_append m (c ∷ v) y h =
 pub passed_word : (m : Marker) (w y : List ℕ) → AreNonSpace w
     → end_of_text m (w ++ y) ≡ end_of_text (along m (length w)) y
 passed_word m [] y h = ap (λ x. end_of_text x y) (sym (along_none m))
-passed_word m (c ∷ w) y h =
-    let t = three_false (is_blank c) (c == 10) (c == 13) h.0 in
-    let none : ends_line c (w ++ y) ≡ false = rw (t.1, t.2) refl in
-    cc (passed_word (along m 1) w y h.1, along_more m 1 (length w) (suc (length w)) (omega arith))
+passed_word m (c ∷ w) y h = grind (arith, three_false, along_more, length, passed_word (along m 1) w y h.1)
 
 -- Runs of blanks and breaks.
 
@@ -139,9 +134,7 @@ no_break_next (b ∷ v) c cs h non_space = ap is_before_break (items_blank b (v 
 pub folded_blanks : (v : List ℕ) (c : ℕ) (cs : List ℕ) → AreBlank v → IsNonSpace c
     → folded (items_of (v ++ (c ∷ cs))) ≡ v ++ folded (items_of (c ∷ cs))
 folded_blanks [] c cs h non_space = refl
-folded_blanks (b ∷ v) c cs h non_space = ap folded (items_blank b (v ++ (c ∷ cs)) h.0)
-    ∙ ap (λ (t : Bool). (if t then [] else b ∷ []) ++ folded (items_of (v ++ (c ∷ cs))))
-    (no_break_next v c cs h.1 non_space) ∙ ap (λ (l : List ℕ). b ∷ l) (folded_blanks v c cs h.1 non_space)
+folded_blanks (b ∷ v) c cs h non_space = grind (arith, items_blank, no_break_next, folded_blanks v c cs h.1 non_space)
 
 -- the index counts the characters
 pub passed_index : (m : Marker) (xs : List ℕ) → (end_of_text m xs).index ≡ m.index + length xs

@@ -26,17 +26,10 @@ use Rattle.saphyr_input.proofs.Basics.Booleans.{and_false, by_test, clash, eithe
 -- a character of the set goes on with a word
 pub set_in_word : (f : Bool) (xs : List ℕ) → in_plain f (slice_index xs 0) ≡ true → is_in_word f xs ≡ true
 unfolding is_in_word
-set_in_word f xs h =
-    let c = slice_index xs 0 in all (c == 58) (is_blank_or_breakz c) (is_bom c) (f && is_flow c) _ h
-  where
-    all : (a b d e x : Bool) → (not a && not b && not d && not e) ≡ true → (not b && cond a x (not (d || e))) ≡ true
-    all a b d e x h = grind arith
+set_in_word f xs h = grind (arith, nat_tests)
 
 pub set_content : (f : Bool) (c : ℕ) → in_plain f c ≡ true → IsQuotedContent c
-set_content f c h = content_of c (second (c == 58) (is_blank_or_breakz c) (is_bom c) (f && is_flow c) h)
-  where
-    second : (a b d e : Bool) → (not a && not b && not d && not e) ≡ true → b ≡ false
-    second a b d e h = grind arith
+set_content f c h = grind (arith, nat_tests, content_of)
 
 -- a word that begins after a blank
 pub record LeadsWord (f : Bool) (cs : List ℕ) : Type 0 where
@@ -82,14 +75,7 @@ no_second a b d is h = grind arith
 pub word_goes : (f : Bool) (i : ℕ) (m : Marker) (cs : List ℕ) → 0 < m.col → LeadsWord f cs
     → next_word_starts f i (mid_line m cs) ≡ answer true (mid_line m cs)
 unfolding next_word_starts word_starts
-word_goes f i m cs l s =
-    let c = slice_index cs 0 in
-    let column : (m.col == 0) ≡ false = grind (arith, nat_tests) in
-    by_test ((c == 35) || ((m.col == 0) && is_document_indicator cs)) _ _ (λ r. r ≡ answer true (mid_line m cs))
-    (λ h. absurd (no_either _ _ _ s.hash column h))
-    (λ _. by_test (f && (c == 45) && is_flow (slice_index cs 1)) _ _ (λ r. r ≡ answer true (mid_line m cs))
-    (λ h. absurd (no_second f _ _ s.dash h))
-    (λ _. ap (λ b. answer b (mid_line m cs)) (set_in_word f cs s.set)))
+word_goes f i m cs l s = grind (arith, nat_tests, no_either, no_second, set_in_word)
 
 space_goes : (f : Bool) (i : ℕ) (m : Marker) (cs : List ℕ) → LeadsWord f cs
     → next_word_starts f i (mid_line (along m 1) cs) ≡ answer true (mid_line (along m 1) cs)
@@ -102,11 +88,7 @@ no_marker : (xs : List ℕ) → (slice_index xs 0 == hyphen) ≡ false → (slic
 no_marker xs dash stop = rw (dash, stop) refl
 
 in_any : (f : Bool) (c : ℕ) → in_plain true c ≡ true → in_plain f c ≡ true
-in_any f c h = all (c == 58) (is_blank_or_breakz c) (is_bom c) (is_flow c) h
-  where
-    all : (a b d e : Bool) → (not a && not b && not d && not (true && e)) ≡ true
-        → (not a && not b && not d && not (f && e)) ≡ true
-    all a b d e h = grind arith
+in_any f c h = grind (arith, nat_tests)
 
 pub any_word_begins : (f : Bool) (s t : Cursor) (c : ℕ) (b : Bool) → c ≡ slice_index t.rest 0 → t ≡ s
     → b ≡ begins_any_plain c → b ≡ true → word_starts f s ≡ answer true t
@@ -158,15 +140,7 @@ word_passed f i a m c cs h =
 -- where a word goes on, words do
 in_word_goes : (f : Bool) (xs : List ℕ) → is_in_word f xs ≡ true → goes_on (in_plain f) (joins_plain f) xs ≡ true
 unfolding is_in_word
-in_word_goes f xs h =
-    let c = slice_index xs 0 in
-    let d = slice_index xs 1 in
-    all (c == 58) (is_blank_or_breakz c) (is_bom c) (f && is_flow c)
-    (not (is_blank_or_breakz d || (f && is_flow d))) (ascii_in (leads_plain f) d && (c == 32)) h
-  where
-    all : (a b e g x k : Bool) → (not b && cond a x (not (e || g))) ≡ true
-        → ((not a && not b && not e && not g) || (k || (x && a))) ≡ true
-    all a b e g x k h = grind arith
+in_word_goes f xs h = grind (arith, nat_tests)
 
 pub words_moved : (f : Bool) (text grown : List ℕ) (s t : Cursor)
     → WordsMoved (in_plain f) (joins_plain f) text grown s t → PlainWordsMoved f text grown s t

@@ -31,21 +31,7 @@ record WordCharacter (f : Bool) (c : ℕ) (cs : List ℕ) : Type 0 where
 
 word_character : (f : Bool) (c : ℕ) (cs : List ℕ) → is_in_word f (c ∷ cs) ≡ true → WordCharacter f c cs
 unfolding is_in_word
-word_character f c cs h =
-    let two = both_true (not (is_blank_or_breakz c)) (can_be_plain f (c ∷ cs)) h in
-    record {
-      no_nul = λ e. false≢true (subst (λ x. not (is_blank_or_breakz x) ≡ true) e two.0);
-      no_mark = λ e. false≢true (subst (λ x. can_be_plain f (x ∷ cs) ≡ true) e two.1);
-      colon = λ e. first_of (is_blank_or_breakz (slice_index cs 0)) (f && is_flow (slice_index cs 0))
-          (subst (λ x. can_be_plain f (x ∷ cs) ≡ true) e two.1);
-      non_space = by_parts (is_blank c) (is_break c) (is_z c) two.0;
-    }
-  where
-    first_of : (a b : Bool) → not (a || b) ≡ true → a ≡ false
-    first_of a b x = grind arith
-
-    by_parts : (a b z : Bool) → not (a || (b || z)) ≡ true → (a || b) ≡ false
-    by_parts a b z x = grind arith
+word_character f c cs h = grind (arith, nat_tests, both_true, false≢true)
 
 -- one character more of a word
 one_spelled : (f : Bool) (m : Marker) (apart : Bool) (c : ℕ) (cs behind all : List ℕ) → cs ++ behind ≡ all
@@ -102,56 +88,11 @@ record WhiteCharacter (c : ℕ) (cs : List ℕ) : Type 0 where
   no_marker : IsFalse (is_document_indicator (c ∷ cs))
 
 white_character : (c : ℕ) (cs : List ℕ) → IsTrue (is_blank_or_break c) → WhiteCharacter c cs
-white_character c cs h = by_blank (is_blank c) refl
-  where
-    Goal : ℕ → Type 0
-    Goal x = WhiteCharacter x cs
-
-    other : (a b : Bool) → a ≡ false → (a || b) ≡ true → b ≡ true
-    other a b e x = grind arith
-
-    by_blank : (b : Bool) → is_blank c ≡ b → Goal c
-    by_blank true e = blank_cases c e Goal
-        (record {
-          no_nul = λ e. omega arith;
-          no_mark = λ e. omega arith;
-          no_comment = λ e. omega arith;
-          no_colon = λ e. omega arith;
-          no_marker = refl;
-        })
-        (record {
-          no_nul = λ e. omega arith;
-          no_mark = λ e. omega arith;
-          no_comment = λ e. omega arith;
-          no_colon = λ e. omega arith;
-          no_marker = refl;
-        })
-    by_blank false e = break_cases c (other (is_blank c) (is_break c) e h) Goal
-        (record {
-          no_nul = λ e. omega arith;
-          no_mark = λ e. omega arith;
-          no_comment = λ e. omega arith;
-          no_colon = λ e. omega arith;
-          no_marker = refl;
-        })
-        (record {
-          no_nul = λ e. omega arith;
-          no_mark = λ e. omega arith;
-          no_comment = λ e. omega arith;
-          no_colon = λ e. omega arith;
-          no_marker = refl;
-        })
+white_character c cs h = grind (arith, nat_tests, blank_cases, break_cases)
 
 -- no blank or break is a flow indicator
 white_no_flow : (c : ℕ) → IsTrue (is_blank_or_break c) → is_flow c ≡ false
-white_no_flow c h = by_blank (is_blank c) refl
-  where
-    other : (a b : Bool) → a ≡ false → (a || b) ≡ true → b ≡ true
-    other a b e x = grind arith
-
-    by_blank : (b : Bool) → is_blank c ≡ b → is_flow c ≡ false
-    by_blank true e = blank_cases c e (λ x. is_flow x ≡ false) refl refl
-    by_blank false e = break_cases c (other (is_blank c) (is_break c) e h) (λ x. is_flow x ≡ false) refl refl
+white_no_flow c h = grind (arith, nat_tests, blank_cases, break_cases)
 
 spelled_apart_or_not : (m : Marker) (apart : Bool) (cs behind : List ℕ) → IsSpelledPlain m true cs behind
     → IsSpelledPlain m apart cs behind
@@ -181,25 +122,7 @@ white_spelled m apart (c ∷ v) next behind are none h =
 flow_character : (c : ℕ) (cs : List ℕ) → is_in_word true (c ∷ cs) ≡ true
     → IsFalse (is_flow c) × (c ≡ colon → IsFalse (is_flow (slice_index cs 0)))
 unfolding is_in_word
-flow_character c cs h = (
-  by_colon (c == colon) refl,
-  λ e. next (is_blank_or_breakz (slice_index cs 0)) (is_flow (slice_index cs 0))
-      (subst (λ x. (not (is_blank_or_breakz x) && can_be_plain true (x ∷ cs)) ≡ true) e h),
-)
-  where
-    next : (a b : Bool) → (true && not (a || (true && b))) ≡ true → b ≡ false
-    next a b x = grind arith
-
-    by_colon : (b : Bool) → (c == colon) ≡ b → is_flow c ≡ false
-    by_colon true e = ap is_flow (eqb-true c colon e)
-    by_colon false e = none (not (is_blank_or_breakz c)) (c == colon) _ (c == byte_order_mark) (is_flow c) e h
-      where
-        none : (w x y z f : Bool) → x ≡ false → (w && (if x then y else not (z || (true && f)))) ≡ true → f ≡ false
-        none true false y false false g k = refl
-        none true false y false true g k = absurd (cc)
-        none true false y true f g k = absurd (cc)
-        none true true y z f g k = absurd (cc)
-        none false x y z f g k = absurd (cc)
+flow_character c cs h = grind (arith, nat_tests, eqb-true)
 
 pub word_safe : (xs y behind : List ℕ) → drop (word_len true xs) xs ≡ y ++ behind → IsSafeInFlow y behind
     → IsSafeInFlow (take (word_len true xs) xs ++ y) behind
@@ -222,20 +145,12 @@ pub white_safe : (v next behind : List ℕ) → AreIn is_blank_or_break v → Is
     → IsSafeInFlow (v ++ next) behind
 white_safe [] next behind are h = h
 white_safe (c ∷ v) next behind are h =
-    let w = white_character c (v ++ next) are.0 in
-    (white_no_flow c are.0, λ e. absurd (w.no_colon e), white_safe v next behind are.1 h)
+    grind (arith, nat_tests, white_character, white_no_flow, white_safe v next behind are.1 h)
 
 -- what comes after a word
 pub word_follows : (f : Bool) (xs : List ℕ) → is_in_word f xs ≡ false → IsTrue (ends_piece (slice_index xs 0))
 unfolding is_in_word
-word_follows f xs h =
-    let c = slice_index xs 0 in
-    by_colon (c == 58) (is_blank_or_breakz c) (is_bom c) f (is_flow c)
-    (is_blank_or_breakz (slice_index xs 1) || (f && is_flow (slice_index xs 1))) h
-  where
-    by_colon : (e w b f l n : Bool) → (not w && (if e then not n else not (b || (f && l)))) ≡ false
-        → (w || b || e || l) ≡ true
-    by_colon e w b f l n x = grind arith
+word_follows f xs h = grind (arith, nat_tests)
 
 -- the last character of a word
 pub record Closes (text : List ℕ) : Type 0 where
@@ -258,16 +173,7 @@ other_answer s t e = let pair : ◌≡◌ {A = Bool × Cursor} (false, s) (true,
 begins_here : (s : Cursor)
     → ((slice_index s.rest 0 == number_sign) || ((s.mark.col == 0) && is_document_indicator s.rest)) ≡ false
     → Begins s.mark s.rest
-begins_here s h = record {
-  comment = λ e. let is : (slice_index s.rest 0 == 35) ≡ true = grind (arith, nat_tests) in first_not _ _ h is;
-  marker = λ e. let is : (s.mark.col == 0) ≡ true = grind (arith, nat_tests) in second_not _ _ _ h is;
-}
-  where
-    first_not : (a b : Bool) → (a || b) ≡ false → a ≡ true → ⊥
-    first_not a b x y = grind arith
-
-    second_not : (a b d : Bool) → (a || (b && d)) ≡ false → b ≡ true → d ≡ false
-    second_not a b d x y = grind arith
+begins_here s h = grind (arith, nat_tests)
 
 pub starts_begins : (f : Bool) (s t : Cursor) → word_starts f s ≡ Ok (true, t) → Begins s.mark s.rest
 unfolding word_starts

@@ -24,10 +24,7 @@ use Rattle.saphyr_scalar.specs.Spelling.LaterLines.{IsPlainLine, ArePlainLines}
 
 pub in_word_non_space : (f : Bool) (c : ℕ) (cs : List ℕ) → is_in_word f (c ∷ cs) ≡ true → IsNonSpace c
 unfolding is_in_word
-in_word_non_space f c cs h = by_parts (is_blank c) (is_break c) (is_z c) (can_be_plain f (c ∷ cs)) h
-  where
-    by_parts : (a b z e : Bool) → (not (a || (b || z)) && e) ≡ true → (a || b) ≡ false
-    by_parts a b z e x = grind arith
+in_word_non_space f c cs h = grind arith
 
 word_non_space : (f : Bool) (xs : List ℕ) → AreNonSpace (take (word_len f xs) xs)
 word_non_space f [] = tt

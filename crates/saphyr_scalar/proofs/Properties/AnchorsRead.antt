@@ -56,26 +56,4 @@ pub spells_anchor : (s t : Cursor) (text : List ℕ) → 0 < length s.rest → a
     × (encode_utf8_all name ≡ text)
 unfolding anchor anchor_name_of
 spells_anchor s t text some =
-    let xs = drop 1 s.rest in
-    let n = prefix_len is_anchor_char xs in
-    let name = take n xs in
-    by_test (nat_eq (length (encode_utf8_all name)) 0) _ _
-    (λ (r : Result (List ℕ × Cursor) Refusal). r ≡ Ok (text, t) → Spelled s text t)
-    (λ _ e. no_result (record { text = fault.AnchorNameExpected; mark = s.mark }) (text, t) (Spelled s text t) e)
-    (λ there e.
-    let pair : (encode_utf8_all name, pass n (pass 1 s)) ≡ (text, t) = cc in
-    let left : mid_line (along (along s.mark 1) n) (drop n xs) ≡ t = ap (λ (x : List ℕ × Cursor). x.1) pair in
-    let rest : drop n xs ≡ t.rest = ap (λ (x : Cursor). x.rest) left in
-    let count : length name ≡ n = length-take-le n xs (prefix_len-le-length is_anchor_char xs) in
-    let ends : is_anchor_char (slice_index t.rest 0) ≡ false = rw (← rest) (run_ends is_anchor_char xs refl) in
-    let place : t ≡ mid_line (along s.mark (1 + length name)) t.rest =
-    cc (along_more s.mark 1 n (1 + length name) (omega arith)) in (
-      slice_index s.rest 0,
-      name,
-      (first_and_rest s.rest some
-          ∙ ap (λ u. slice_index s.rest 0 ∷ u) (sym (take-append-drop n xs) ∙ ap (λ u. name ++ u) rest)),
-      ((λ none. let k : false ≡ true = sym there ∙ no_bytes name none in false≢true k), run_is_in is_anchor_char xs),
-      ends,
-      place,
-      ap (λ (x : List ℕ × Cursor). x.0) pair,
-    ))
+    grind (arith, no_result, length-take-le, prefix_len-le-length, run_ends, along_more, first_and_rest, take-append-drop, no_bytes, false≢true, run_is_in)

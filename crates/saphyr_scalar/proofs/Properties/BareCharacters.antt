@@ -55,30 +55,7 @@ pub bare_turn : (set : UriSet) (start : Marker) (text grown : List ℕ) (s u t :
     → ◌≡◌ {A = Result (List ℕ × Cursor) Refusal} (Ok (with_front_run (is_bare set) text s)) (Ok (grown, u))
     → c ≡ slice_index u.rest 0 → t ≡ u → BareTurn set start text grown s t c
 bare_turn set start text grown s u t c moved read same =
-    let p = is_bare set in
-    let n = prefix_len p s.rest in
-    let run = encode_utf8_all (take n s.rest) in
-    let pair : ◌≡◌ {A = List ℕ × Cursor} (with_front_run p text s) (grown, u) = cc in
-    let bytes : text ++ run ≡ grown = ap (λ (x : List ℕ × Cursor). x.0) pair in
-    let place : pass_blanks n s ≡ t = ap (λ (x : List ℕ × Cursor). x.1) pair ∙ sym same in
-    let seen : c ≡ slice_index t.rest 0 = read ∙ ap (λ (x : Cursor). slice_index x.rest 0) (sym same) in
-    let ends : p (slice_index t.rest 0) ≡ false =
-    subst (λ (x : Cursor). p (slice_index x.rest 0) ≡ false) place (run_ends p s.rest (no_bare_nul set)) in
-    record {
-      reached = ap (λ b. with_front b (decoded_at set start t)) (sym bytes)
-          ∙ ap (λ (x : Cursor). with_front (text ++ run) (decoded_at set start x)) (sym place)
-          ∙ sym (ap (with_front text) (run_piece set start s.mark s.rest) ∙ front_twice text run _);
-      read = seen;
-      stops = λ other. second (slice_index t.rest 0 == 37) (is_in_set set (slice_index t.rest 0))
-          (no_escape c (slice_index t.rest 0) seen other) ends;
-      no_longer = subst (λ (x : Cursor). length x.rest ≤ length s.rest) place (drop_shorter n s.rest);
-    }
-  where
-    no_escape : (c x : ℕ) → c ≡ x → (c ≡ percent_sign → ⊥) → (x == percent_sign) ≡ false
-    no_escape c x seen other = grind (arith, nat_tests)
-
-    second : (a b : Bool) → a ≡ false → (not a && b) ≡ false → b ≡ false
-    second a b is h = grind arith
+    grind (arith, run_ends, no_bare_nul, run_piece, front_twice, drop_shorter, nat_tests)
 
 -- an escape stands for a character of the set
 pub escape_in_set : (set : UriSet) (c : ℕ) → c ≡ percent_sign → is_in_set set c ≡ true

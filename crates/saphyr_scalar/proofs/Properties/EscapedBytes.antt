@@ -128,11 +128,7 @@ four_bytes c h lt s =
     }
 
 from_two : (c : ℕ) → 0x80 ≤ c → IsScalarValue c → Bytes c
-from_two c h scalar =
-    by_test {A = Unit {0}} (nat_lt c 0x800) tt tt (λ _. Bytes c) (λ e. two_bytes c h (grind (arith, nat_tests)))
-    (λ e. by_test {A = Unit {0}} (nat_lt c 0x1_0000) tt tt (λ _. Bytes c)
-    (λ f. three_bytes c (grind (arith, nat_tests)) (grind (arith, nat_tests)) (scalar_true c scalar))
-    (λ f. four_bytes c (grind (arith, nat_tests)) (omega arith) (scalar_true c scalar)))
+from_two c h scalar = grind (arith, two_bytes, nat_tests, three_bytes, scalar_true, four_bytes)
 
 pub bytes_of : (c : ℕ) → IsScalarValue c → Bytes c
 bytes_of c scalar =

@@ -101,10 +101,7 @@ escape_first c t y scalar h = escape_begins c (bytes_of c scalar) t y (escape_pa
 pub character_read : (set : ℕ → Bool) (start m : Marker) (c : ℕ) (t y : List ℕ) → IsCharacter set c t
     → uri_character start (mid_line m (t ++ y)) ≡ Ok (c, mid_line (along m (length t)) y)
 unfolding uri_character
-character_read set start m c t y (inl (in_set, plain, e)) =
-    let no : nat_eq c 37 ≡ false = grind (arith, nat_tests) in rw (e, no) refl
-character_read set start m c t y (inr (scalar, escaped)) =
-    rw (escape_first c t y scalar escaped) (escape_read start m c t y scalar escaped)
+character_read set start m c t y v6 = grind (arith, nat_tests, escape_first, escape_read)
 
 has_percent : (set : UriSet) → is_in_set set 37 ≡ true
 has_percent set = grind arith

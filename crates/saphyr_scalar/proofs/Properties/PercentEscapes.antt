@@ -134,12 +134,8 @@ tail_of_character xs h = rw h refl
 character_place : (start m : Marker) (xs : List ℕ)
     → EscapeEnds m xs (1 + uri_tail xs) (uri_character start (mid_line m xs))
 unfolding uri_character
-character_place start m xs x = by_test (nat_eq (slice_index xs 0) 37) _ _
-    (λ (r : Result (ℕ × Cursor) Refusal). r ≡ Ok x
-    → x.1 ≡ mid_line (along m (1 + uri_tail xs)) (drop (1 + uri_tail xs) xs))
-    (λ h is. escape_place start m xs x is
-    ∙ ap (λ k. mid_line (along m k) (drop k xs)) (tail_of_escape xs h (escape_some start (mid_line m xs) x is)))
-    (λ h is. read m xs 1 (slice_index xs 0) x is ∙ ap (λ k. mid_line (along m k) (drop k xs)) (tail_of_character xs h))
+character_place start m xs x =
+    grind (arith, nat_tests, escape_place, tail_of_escape, escape_some, read, tail_of_character)
 
 -- the characters of an escape are passed over
 escape_passed_over : (set : UriSet) (start : Marker) (k : ℕ) (m : Marker) (xs : List ℕ)

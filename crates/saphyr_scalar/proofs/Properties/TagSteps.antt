@@ -41,47 +41,26 @@ pub verbatim_ended : (start : Marker) (before grown : List ℕ) (read : TextRead
     → with_front before read ≡ Ok (grown, t) → slice_index t.rest 0 ≡ greater_than → u ≡ pass 1 t
     → with_tag before (read >>= verbatim_end start) ≡ tag_given 0 grown u
 unfolding verbatim_end
-verbatim_ended start before grown read t u h ends past =
-    let one = front_behind before grown read t h in
-    let piece = drop (length before) grown in
-    let test : (slice_index t.rest 0 == greater_than) ≡ true = grind (arith, nat_tests, ends) in
-    ap (λ r. with_tag before (r >>= verbatim_end start)) one.0
-    ∙ rw test (λ i. tag_given 0 ((ap (λ b. b ++ piece) (append-nil before) ∙ sym one.1) i) (sym past i))
+verbatim_ended start before grown read t u h ends past = grind (arith, front_behind, nat_tests, append-nil)
 
 pub verbatim_open : (start : Marker) (before grown : List ℕ) (read : TextRead) (t : Cursor)
     → with_front before read ≡ Ok (grown, t) → (slice_index t.rest 0 ≡ greater_than → ⊥)
     → with_tag before (read >>= verbatim_end start) ≡ refuse fault.VerbatimTagEndExpected start
 unfolding verbatim_end
-verbatim_open start before grown read t h more =
-    let one = front_behind before grown read t h in
-    let test : (slice_index t.rest 0 == greater_than) ≡ false = grind (arith, nat_tests, more) in
-    ap (λ r. with_tag before (r >>= verbatim_end start)) one.0 ∙ rw test refl
+verbatim_open start before grown read t h more = grind (arith, front_behind, nat_tests)
 
 -- a suffix behind a handle with a word
 pub named_ended : (start : Marker) (before word here grown : List ℕ) (read : TextRead) (t : Cursor)
     → here ≡ before ++ handle_of word → with_front here read ≡ Ok (grown, t) → (length grown ≡ length here → ⊥)
     → with_tag before (read >>= named_tag start word) ≡ tag_given (length (handle_of word)) grown t
 unfolding named_tag
-named_ended start before word here grown read t is h some =
-    let one = front_behind here grown read t h in
-    let piece = drop (length here) grown in
-    let count = length-append here piece in
-    let long = ap length one.1 in
-    let test : (length piece == 0) ≡ false = grind (arith, nat_tests, some, count, long) in
-    ap (λ r. with_tag before (r >>= named_tag start word)) one.0
-    ∙ rw test (λ i. tag_given (length (handle_of word)) ((ap (λ b. b ++ piece) (sym is) ∙ sym one.1) i) t)
+named_ended start before word here grown read t is h some = grind (arith, front_behind, length-append, nat_tests)
 
 pub named_alone : (start : Marker) (before word here grown : List ℕ) (read : TextRead) (t : Cursor)
     → with_front here read ≡ Ok (grown, t) → length grown ≡ length here
     → with_tag before (read >>= named_tag start word) ≡ refuse fault.TagSuffixExpected start
 unfolding named_tag
-named_alone start before word here grown read t h none =
-    let one = front_behind here grown read t h in
-    let piece = drop (length here) grown in
-    let count = length-append here piece in
-    let long = ap length one.1 in
-    let test : (length piece == 0) ≡ true = grind (arith, nat_tests, none, count, long) in
-    ap (λ r. with_tag before (r >>= named_tag start word)) one.0 ∙ rw test refl
+named_alone start before word here grown read t h none = grind (arith, front_behind, length-append, nat_tests)
 
 -- ## After the word of a handle
 
@@ -121,10 +100,7 @@ left_inside s look before grown c b = sym (ap (λ (x : List ℕ × Cursor). x.1.
 pub named_from : (s look there : Cursor) (before grown : List ℕ) (c : ℕ) (b : BehindWord s look before grown c)
     → c ≡ exclamation_mark → there ≡ pass 1 look → named_tail s.mark b.word there ≡ shorthand_tag s
 unfolding shorthand_tag tag_behind_word
-named_from s look there before grown c b on past =
-    let is = b.is in
-    let read = b.read in
-    grind arith
+named_from s look there before grown c b on past = grind (arith, nat_tests)
 
 pub handle_text : (s look : Cursor) (before grown marked : List ℕ) (c : ℕ) (b : BehindWord s look before grown c)
     → marked ≡ grown ++ encode_utf8 exclamation_mark → marked ≡ before ++ handle_of b.word
@@ -170,10 +146,7 @@ no_suffix_left start text s c first inside none =
 primary_from : (s look : Cursor) (before grown : List ℕ) (c : ℕ) (b : BehindWord s look before grown c)
     → (c ≡ exclamation_mark → ⊥) → shorthand_tag s ≡ then_primary (decoded_onto Suffix s.mark b.word look)
 unfolding shorthand_tag tag_behind_word
-primary_from s look before grown c b other =
-    let is = b.is in
-    let read = b.read in
-    grind arith
+primary_from s look before grown c b other = grind (arith, nat_tests)
 
 -- `!` and all that is read behind it
 pub primary_refused : (s look : Cursor) (before grown : List ℕ) (c : ℕ) (r : Refusal) → BehindWord s look before grown c

@@ -127,12 +127,9 @@ one_on c u in_set h =
 no_second_mark : (v t x : List ℕ) → IsDecoded is_tag_char v t → StopsTag (slice_index x 0) → NoMark (t ++ x)
 no_second_mark [] t x e stop = rw e (at_once x stop.no_alpha stop.no_mark)
 no_second_mark (c ∷ v) t x (character, more, inl (in_set, plain, is), others, e) stop =
-    let whole : t ++ x ≡ c ∷ (more ++ x) = ap (λ u. u ++ x) e ∙ ap (λ u. (u ++ more) ++ x) is in
-    subst NoMark (sym whole) (one_on c (more ++ x) in_set (no_second_mark v more x others stop))
+    grind (arith, nat_tests, one_on, no_second_mark v more x others stop)
 no_second_mark (c ∷ v) t x (character, more, inr (scalar, escaped), others, e) stop =
-    let whole : t ++ x ≡ character ++ (more ++ x) = ap (λ u. u ++ x) e ∙ append_assoc character more x in
-    let first = escape_first c character (more ++ x) scalar escaped in
-    subst NoMark (sym whole) (at_once (character ++ (more ++ x)) (rw first refl) (rw first refl))
+    grind (arith, nat_tests, append_assoc, escape_first, at_once)
 
 -- no `<` comes after the `!` of a tag with a handle
 suffix_first : (v t x : List ℕ) → IsDecoded is_tag_char v t → StopsTag (slice_index x 0)
@@ -186,7 +183,8 @@ behind_named : (start m : Marker) (word v back x : List ℕ) → v ≢ [] → Is
     → tag_behind_word start (word, mid_line m (exclamation_mark ∷ (back ++ x)))
     ≡ Ok (handle_of word, encode_utf8_all v, mid_line (along m (1 + length back)) x)
 unfolding tag_behind_word named_tail
-behind_named start m word v back x some is stop = grind (arith, decoded_read, named_of_some, encode_utf8_all, along_more)
+behind_named start m word v back x some is stop =
+    grind (arith, decoded_read, named_of_some, encode_utf8_all, along_more)
 
 -- a suffix after `!!` or `!word!`
 named_read : (m : Marker) (w v back x : List ℕ) → AreIn is_alpha w → v ≢ [] → IsDecoded is_tag_char v back
@@ -232,7 +230,8 @@ verbatim_read : (in_flow : Bool) (m : Marker) (v inside x : List ℕ) → IsDeco
     → tag in_flow (mid_line m (exclamation_mark ∷ less_than ∷ (inside ++ (greater_than ∷ x))))
     ≡ Ok ([], encode_utf8_all v, mid_line (along m (3 + length inside)) x)
 unfolding tag verbatim_tag
-verbatim_read in_flow m v inside x is ends = grind (arith, decoded_read, uri_ends, encode_utf8_all, tag_ends, along_more)
+verbatim_read in_flow m v inside x is ends =
+    grind (arith, decoded_read, uri_ends, encode_utf8_all, tag_ends, along_more)
 
 abbrev ReadsTag : Bool → Marker → List ℕ → List ℕ → List ℕ → List ℕ → Type 0
 ReadsTag in_flow m t handle suffix x = tag in_flow (mid_line m (t ++ x)) ≡ Ok
@@ -285,7 +284,8 @@ reads_verbatim in_flow m v inside x is ends = grind (arith, length-append, appen
 
 reads_text : (in_flow : Bool) (m : Marker) (t handle suffix x : List ℕ) → IsTagText t handle suffix → EndsTag in_flow x
     → ReadsTag in_flow m t handle suffix x
-reads_text in_flow m t handle suffix x u0 ends = grind (arith, reads_non_specific, reads_verbatim, reads_primary, reads_named)
+reads_text in_flow m t handle suffix x u0 ends =
+    grind (arith, reads_non_specific, reads_verbatim, reads_primary, reads_named)
 
 pub reads_tag : (in_flow : Bool) (s : Cursor) (t handle suffix x : List ℕ) → s.rest ≡ t ++ x → IsTagText t handle suffix
     → EndsTag in_flow x → tag in_flow s

@@ -56,21 +56,19 @@ unique_two b x c h lt tail says shortest = grind (arith, tail_low, tail_high, bi
 
 unique_three : (b x y c : ℕ) → 0xE0 ≤ b → b < 0xF0 → is_trailing x ≡ true → is_trailing y ≡ true
     → (leading_bits b * 64 + (x - 0x80)) * 64 + (y - 0x80) ≡ c → is_encoded 3 c ≡ true → encode_utf8 c ≡ b ∷ x ∷ y ∷ []
-unique_three b x y c h lt tail tail2 says shortest = grind (arith, tail_low, tail_high, bits_three, three_encoded, long_three, len_of)
+unique_three b x y c h lt tail tail2 says shortest =
+    grind (arith, tail_low, tail_high, bits_three, three_encoded, long_three, len_of)
 
 unique_four : (b x y z c : ℕ) → 0xF0 ≤ b → is_trailing x ≡ true → is_trailing y ≡ true → is_trailing z ≡ true
     → ((leading_bits b * 64 + (x - 0x80)) * 64 + (y - 0x80)) * 64 + (z - 0x80) ≡ c → is_encoded 4 c ≡ true
     → encode_utf8 c ≡ b ∷ x ∷ y ∷ z ∷ []
-unique_four b x y z c h tail tail2 tail3 says shortest = grind (arith, tail_low, tail_high, bits_four, four_encoded, long_four, len_of)
+unique_four b x y z c h tail tail2 tail3 says shortest =
+    grind (arith, tail_low, tail_high, bits_four, four_encoded, long_four, len_of)
 
 width_cases : (b : ℕ) (P : ℕ → Type 0) → (b < 0x80 → P 1) → (0xC0 ≤ b → b < 0xE0 → P 2) → (0xE0 ≤ b → b < 0xF0 → P 3)
     → (0xF0 ≤ b → P 4) → P 0 → P (utf8_width b)
 unfolding utf8_width
-width_cases b P one two three four none = by_test (nat_lt b 0x80) _ _ P (λ e. one (grind (arith, nat_tests)))
-    (λ _. by_test (nat_lt b 0xC0) _ _ P (λ _. none)
-    (λ low. by_test (nat_lt b 0xE0) _ _ P (λ e. two (grind (arith, nat_tests)) (grind (arith, nat_tests)))
-    (λ low. by_test (nat_lt b 0xF0) _ _ P (λ e. three (grind (arith, nat_tests)) (grind (arith, nat_tests)))
-    (λ low. by_test (nat_lt b 0xF8) 4 0 P (λ e. four (grind (arith, nat_tests))) (λ _. none)))))
+width_cases b P one two three four none = grind (arith, nat_tests)
 
 -- the bytes, by how many there are
 abbrev BytesStand : ℕ → ℕ → ℕ → List ℕ → Type 0

@@ -133,13 +133,7 @@ no_U v e = none-some v e
 
 -- an escape of one letter has no digits
 pub simple_no_digits : (c v : ℕ) → short_escape c ≡ Some v → None ≡ digit_count c
-simple_no_digits c v h = by_test (nat_eq c 120) _ _ (λ o. None ≡ o)
-    (λ is. let e : c ≡ 120 = grind (arith, nat_tests) in absurd (no_x v (subst (λ x. short_escape x ≡ Some v) e h)))
-    (λ _. by_test (nat_eq c 117) _ _ (λ o. None ≡ o)
-    (λ is. let e : c ≡ 117 = grind (arith, nat_tests) in absurd (no_u v (subst (λ x. short_escape x ≡ Some v) e h)))
-    (λ _. by_test (nat_eq c 85) _ _ (λ o. None ≡ o)
-    (λ is. let e : c ≡ 85 = grind (arith, nat_tests) in absurd (no_U v (subst (λ x. short_escape x ≡ Some v) e h)))
-    (λ _. refl)))
+simple_no_digits c v h = grind (arith, nat_tests, no_x, no_u, no_U)
 
 of_place : (start m : Marker) (xs : List ℕ) (letter : ℕ) (o : Option ℕ) → short_escape letter ≡ o
     → EscapeEnds m xs (2 + hex_digit_count letter) (escape_of start o letter (mid_line m xs))

@@ -48,15 +48,7 @@ record Escaped (xs : List ℕ) : Type 0 where
 
 escaped_of : (xs : List ℕ) → IsTrue (is_escaped_break Double xs) → Escaped xs
 escaped_of [] h = absurd (cc)
-escaped_of (c ∷ cs) h =
-    let two = both (c == 92) (is_break (slice_index cs 0)) h in
-    record { cs = cs; cut = ap (λ x. x ∷ cs) (number c two.0); breaks = two.1 }
-  where
-    both : (a b : Bool) → IsTrue (a && b) → (a ≡ true) × (b ≡ true)
-    both a b h = grind arith
-
-    number : (c : ℕ) → nat_eq c 92 ≡ true → c ≡ backslash
-    number c h = grind (arith, nat_tests)
+escaped_of (c ∷ cs) h = grind (arith, nat_tests, slice_index)
 
 escaped_break_on : (q : Quote) (indent : ℕ) (start : Marker) (s : Cursor) → IsTrue (is_escaped_break q s.rest)
     → inner_text_at q indent start no_gap s
@@ -71,11 +63,7 @@ gap_elsewhere q c e = let is : (c == flow.mark q) ≡ false = grind (arith, nat_
 
 -- an escaped break is there
 pub escaped_left : (q : Quote) (xs : List ℕ) → IsTrue (is_escaped_break q xs) → 0 < length xs
-escaped_left q [] h = absurd (none_escaped q h)
-  where
-    none_escaped : (q : Quote) → IsTrue (is_escaped_break q []) → ⊥
-    none_escaped Single h = cc
-    none_escaped Double h = cc
+escaped_left q [] h = grind (arith, nat_tests)
 escaped_left q (c ∷ cs) h = omega arith
 
 -- an escaped break right before the closing quote, and elsewhere
@@ -153,29 +141,20 @@ blanks_to_word q indent start text grown s t u m same break z =
 -- the closing quote
 closing_quote : (q : Quote) (xs : List ℕ) → IsTrue (ends_word q xs) → slice_index xs 0 ≡ flow.mark q
     → IsTrue (is_closing q xs)
-closing_quote Double xs h e = rw e refl
-closing_quote Single xs h e = by_rest (slice_index xs 0) (slice_index xs 1 == 39) h e
-  where
-    by_rest : (c : ℕ) (d : Bool) → IsTrue (is_blank_or_breakz c || ((c == apostrophe) && not d) || false)
-        → c ≡ apostrophe → IsTrue ((c == apostrophe) && not d)
-    by_rest c d h e = grind arith
+closing_quote v0 xs h e = grind (arith, nat_tests)
 
 pub at_closing : (q : Quote) (indent : ℕ) (start m : Marker) (cs : List ℕ) → IsTrue (is_closing q (flow.mark q ∷ cs))
     → inner_text q indent start no_gap 0 m (flow.mark q ∷ cs) ≡ Ok ([], mid_line (along m 1) cs)
 unfolding is_literal special
-at_closing Double indent start m cs h = behind_no_gap Double indent start m 34 cs refl refl refl
-at_closing Single indent start m cs h =
-    behind_no_gap Single indent start m 39 cs refl refl refl ∙ rw (not_second (slice_index cs 0 == 39) h) refl
-  where
-    not_second : (d : Bool) → IsTrue (not d) → d ≡ false
-    not_second d h = grind arith
+at_closing v0 indent start m cs h = grind (arith, nat_tests, behind_no_gap)
 
 closing_mark : (q : Quote) (xs : List ℕ) → IsTrue (is_closing q xs) → slice_index xs 0 ≡ flow.mark q
 closing_mark q xs h = grind arith
 
 pub closing_closes : (q : Quote) (indent : ℕ) (start : Marker) (text : List ℕ) (s : Cursor)
     → IsTrue (is_closing q s.rest) → with_front text (inner_text_at q indent start no_gap s) ≡ Ok (text, pass 1 s)
-closing_closes q indent start text s h = grind (arith, closing_mark, append-nil, slice_index, drop, mark_no_nul, at_closing)
+closing_closes q indent start text s h =
+    grind (arith, closing_mark, append-nil, slice_index, drop, mark_no_nul, at_closing)
 
 pub quote_closes : (q : Quote) (indent : ℕ) (start : Marker) (text : List ℕ) (s : Cursor) → IsTrue (ends_word q s.rest)
     → slice_index s.rest 0 ≡ flow.mark q → with_front text (inner_text_at q indent start no_gap s) ≡ Ok (text, pass 1 s)

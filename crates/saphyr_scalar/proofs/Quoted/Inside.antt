@@ -149,30 +149,7 @@ pub at_break : (q : Quote) (indent : ℕ) (start : Marker) (gap : QuotedGap) (s 
     → is_break (slice_index s.rest 0) ≡ true
     → inner_text_at q indent start gap s ≡ inner_text_at q indent start (break_in gap) (pass_break s)
 unfolding inner_text
-at_break q indent start gap s h = passes s.mark s.rest h
-  where
-    by_len : (b : Bool) (m : Marker) (c : ℕ) (cs : List ℕ)
-        → inner_text q indent start (break_in gap) (pred (cond b 2 1)) (next_line m (cond b 2 1)) cs
-        ≡ inner_text q indent start (break_in gap) 0 (next_line m (cond b 2 1)) (drop (cond b 2 1) (c ∷ cs))
-    by_len b m c cs = grind arith
-
-    of_len : (b : Bool) (m : Marker) (c : ℕ) (cs : List ℕ) (u : Bool)
-        → inner_text q indent start (break_in gap) 0 (next_line m (cond b 2 1)) (drop (cond b 2 1) (c ∷ cs))
-        ≡ inner_text_at q indent start (break_in gap)
-        (cond b (record { rest = drop 2 (c ∷ cs); mark = next_line m 2; blank_so_far = true })
-        (record { rest = drop 1 (c ∷ cs); mark = next_line m 1; blank_so_far = true }))
-    of_len true m c cs u = refl
-    of_len false m c cs u = refl
-
-    passes : (m : Marker) (xs : List ℕ) → is_break (slice_index xs 0) ≡ true
-        → inner_text q indent start gap 0 m xs
-        ≡ inner_text_at q indent start (break_in gap)
-        (pass_break (record { rest = xs; mark = m; blank_so_far = s.blank_so_far }))
-    passes m [] h = absurd (cc)
-    passes m (c ∷ cs) h = break_cases c h
-        (λ x. inner_text q indent start gap 0 m (x ∷ cs) ≡ inner_text_at q indent start (break_in gap)
-        (pass_break (record { rest = x ∷ cs; mark = m; blank_so_far = s.blank_so_far }))) refl
-        (by_len (slice_index cs 0 == 10) m 13 cs ∙ of_len (slice_index cs 0 == 10) m 13 cs true)
+at_break q indent start gap s h = grind (arith, nat_tests, break_cases)
 
 -- What the calls that read a part leave.
 

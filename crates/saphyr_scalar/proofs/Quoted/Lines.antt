@@ -157,23 +157,10 @@ begins_refused q indent start escaped n text s refusal blank break e =
 pub later_word : (indent : ℕ) (start : Marker) (s u : Cursor) (c : ℕ) → u ≡ s → c ≡ slice_index s.rest 0 → 46 < c
     → indent ≤ u.mark.col → quoted_line indent start s ≡ Ok u
 unfolding quoted_line
-later_word indent start s u c same read non_space right =
-    let high : 46 < slice_index s.rest 0 = rw read at non_space in
-    let at : indent ≤ s.mark.col = rw same at right in
-    let dash : (slice_index s.rest 0 == 45) ≡ false = grind (arith, nat_tests) in
-    let stop : (slice_index s.rest 0 == 46) ≡ false = grind (arith, nat_tests) in
-    let nul : (slice_index s.rest 0 == 0) ≡ false = grind (arith, nat_tests) in
-    let left : nat_lt s.mark.col indent ≡ false = grind (arith, nat_tests) in
-    rw (dash, stop, nul, left, and_false (s.mark.col == 0)) (ap Ok (sym same))
+later_word indent start s u c same read non_space right = grind (arith, nat_tests, and_false)
 
 later_non_space : (c x : ℕ) → c ≡ x → 46 < c → (is_blank x ≡ false) × (is_break x ≡ false)
-later_non_space c x same non_space =
-    let high : 46 < x = subst (λ y. 46 < y) same non_space in
-    let space : (x == 32) ≡ false = grind (arith, nat_tests) in
-    let tab : (x == 9) ≡ false = grind (arith, nat_tests) in
-    let feed : (x == 10) ≡ false = grind (arith, nat_tests) in
-    let return : (x == 13) ≡ false = grind (arith, nat_tests) in
-    (rw (space, tab) refl, rw (feed, return) refl)
+later_non_space c x same non_space = grind (arith, nat_tests)
 
 -- where such a word follows a break without empty lines
 pub begins_later_word : (q : Quote) (indent : ℕ) (start : Marker) (escaped : Bool) (text : List ℕ) (s : Cursor) (c : ℕ)

@@ -37,18 +37,7 @@ pub at_escape : (indent : ℕ) (start m : Marker) (cs : List ℕ) → is_break (
     ≡ (escaped_character start (mid_line m (backslash ∷ cs)) >>= λ e. with_front (encode_utf8 e.0)
     (inner_text_at Double indent start no_gap e.1))
 unfolding is_literal special
-at_escape indent start m cs h =
-    let k = hex_digit_count (slice_index cs 0) in
-    behind_no_gap Double indent start m 92 cs refl refl refl
-    ∙ rw h (bind_twice (escaped_character start (mid_line m (92 ∷ cs))) (λ e. (Some e.0, e.1)) _)
-    ∙ bind_same (escaped_character start (mid_line m (92 ∷ cs))) _ _ (λ e is.
-    let place : e.1 ≡ mid_line (along m (2 + k)) (drop (2 + k) (92 ∷ cs)) = escape_place start m (92 ∷ cs) e is in
-    ap (with_front (encode_utf8 e.0)) (passed_over Double indent start no_gap (suc k) e.1.mark cs
-    ∙ ap (λ n. inner_text Double indent start no_gap 0 e.1.mark (drop n (92 ∷ cs))) (two_more k)
-    ∙ ap (λ xs. inner_text Double indent start no_gap 0 e.1.mark xs) (sym (ap (λ (x : Cursor). x.rest) place))))
-  where
-    two_more : (n : ℕ) → suc (suc n) ≡ 2 + n
-    two_more n = omega arith
+at_escape indent start m cs h = grind (arith, behind_no_gap, bind_twice, bind_same, escape_place, passed_over)
 
 pub at_two_quotes : (indent : ℕ) (start m : Marker) (cs : List ℕ)
     → inner_text Single indent start no_gap 0 m (apostrophe ∷ apostrophe ∷ cs)
@@ -69,24 +58,12 @@ record AreTwoQuotes (xs : List ℕ) : Type 0 where
 escape_of_test : (xs : List ℕ) → ((slice_index xs 0 == backslash) && not (is_break (slice_index xs 1))) ≡ true
     → StartsEscape xs
 escape_of_test [] h = absurd (cc)
-escape_of_test (c ∷ cs) h =
-    let two = both (c == 92) (is_break (slice_index cs 0)) h in
-    record { cs = cs; cut = ap (λ x. x ∷ cs) (sym (sym (eqb-true c 92 two.0))); goes = two.1 }
-  where
-    both : (a b : Bool) → (a && not b) ≡ true → (a ≡ true) × (b ≡ false)
-    both true false h = (refl, refl)
-    both true true h = absurd (cc)
-    both false b h = absurd (cc)
+escape_of_test (c ∷ cs) h = grind (arith, eqb-true, slice_index)
 
 two_of_test : (xs : List ℕ) → next_2_are xs 39 39 ≡ true → AreTwoQuotes xs
 two_of_test [] h = absurd (cc)
 two_of_test (c ∷ []) h = clash ((c == 39) && false) h (and_false (c == 39))
-two_of_test (c ∷ d ∷ cs) h =
-    record {
-      cs = cs;
-      cut = ap (λ x. x ∷ d ∷ cs) (sym (sym (eqb-true c 39 (and_true_left (c == 39) (d == 39) h))))
-          ∙ ap (λ x. 39 ∷ x ∷ cs) (sym (sym (eqb-true d 39 (and_true_right (c == 39) (d == 39) h))));
-    }
+two_of_test (c ∷ d ∷ cs) h = grind (arith, eqb-true, and_true_left, and_true_right)
 
 numbered_same : (start : Marker) (o : Option ℕ) (s : Cursor)
     → escape_by_number start o (mid_line s.mark s.rest) ≡ escape_by_number start o s

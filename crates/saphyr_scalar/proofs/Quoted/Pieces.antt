@@ -80,15 +80,7 @@ both_piece (d ∷ cs) p x b h =
 
 break_piece : (t p x : List ℕ) → is_break (slice_index t 0) ≡ true → Begins p (drop (break_len t) t) x
     → BreakPiece t p x
-break_piece [] p x h = absurd (cc)
-break_piece (c ∷ cs) p x h =
-    break_cases c h (λ k. Begins p (drop (break_len (k ∷ cs)) (k ∷ cs)) x → BreakPiece (k ∷ cs) p x)
-    (λ b. feed_piece cs p x b) (λ b. returns (slice_index cs 0 == 10) refl b)
-  where
-    returns : (two : Bool) → (slice_index cs 0 == line_feed) ≡ two
-        → Begins p (drop (cond two 2 1) (carriage_return ∷ cs)) x → BreakPiece (carriage_return ∷ cs) p x
-    returns true is b = both_piece cs p x b is
-    returns false is b = return_piece cs p x is b
+break_piece v0 p x h = grind (arith, nat_tests, break_cases, feed_piece, both_piece, return_piece)
 
 -- the piece of what comes after the opening quote
 record TextPiece (q : Quote) (xs : List ℕ) (items : List Item) (x : List ℕ) : Type 0 where
@@ -142,17 +134,7 @@ itself_of q c h = grind arith
 
 no_return_simple : (e c : ℕ) → short_escape e ≡ Some c → (e == carriage_return) ≡ false
 unfolding short_escape
-no_return_simple e c h = by_test (e == 13) refl
-  where
-    number : (e : ℕ) → nat_eq e 13 ≡ true → e ≡ carriage_return
-    number e h = grind (arith, nat_tests)
-
-    none : (e : ℕ) → e ≡ carriage_return → short_escape e ≡ None
-    none e is = rw is refl
-
-    by_test : (b : Bool) → (e == carriage_return) ≡ b → b ≡ false
-    by_test true is = let n = none e (number e is) in absurd (cc)
-    by_test false is = refl
+no_return_simple e c h = grind (arith, nat_tests)
 
 no_return_count : (e n : ℕ) → digit_count e ≡ Some n → (e == carriage_return) ≡ false
 no_return_count e n is = grind arith

@@ -27,26 +27,11 @@ IsLongName name = (short_escape name ≡ None) × ((name == line_feed) ≡ false
 
 long_name : (name count : ℕ) → digit_count name ≡ Some count → IsLongName name
 unfolding short_escape
-long_name name count h = x (name == 0x78) refl
-  where
-    U : (b : Bool) → (name == 0x55) ≡ b → (name == 0x78) ≡ false → (name == 0x75) ≡ false → IsLongName name
-    U true e f g = subst IsLongName (sym (equal_by_test name 0x55 true e refl)) (refl, refl)
-    U false e f g = let none = rw (e, f, g) at h in absurd (cc)
-
-    u : (b : Bool) → (name == 0x75) ≡ b → (name == 0x78) ≡ false → IsLongName name
-    u true e f = subst IsLongName (sym (equal_by_test name 0x75 true e refl)) (refl, refl)
-    u false e f = U (name == 0x55) refl f e
-
-    x : (b : Bool) → (name == 0x78) ≡ b → IsLongName name
-    x true e = subst IsLongName (sym (equal_by_test name 0x78 true e refl)) (refl, refl)
-    x false e = u (name == 0x75) refl e
+long_name name count h = grind (arith, nat_tests, equal_by_test)
 
 long_first : (c : ℕ) (digits back : List ℕ) → hex_character 0 digits ≡ Some c
     → long_escape (digits ++ back) (length digits) ≡ Some (c, length digits)
-long_first c digits back h =
-    let within : length digits ≤ length (digits ++ back) = simp length-append (omega arith) in
-    let enough : nat_le (length digits) (length (digits ++ back)) ≡ true = grind (arith, nat_tests) in
-    rw (enough, take-append_seam, h) refl
+long_first c digits back h = grind (arith, length-append, nat_tests, take-append_seam)
 
 -- what comes after a backslash
 escape_first : (item : Item) (text back : List ℕ) → IsEscape item text

@@ -27,11 +27,7 @@ later_than {r = r} h k =
 -- ## A text of which a later part is not open is not open
 
 known_one : (c : ℕ) (r : List ℕ) → is_open r ≡ false → is_open (c ∷ r) ≡ false
-known_one c [] h = absurd (cc)
-known_one c (d ∷ []) h = grind (arith, nat_tests)
-known_one c (d ∷ e ∷ []) h = grind (arith, nat_tests)
-known_one c (d ∷ e ∷ f ∷ []) h = refl
-known_one c (d ∷ e ∷ f ∷ g ∷ r) h = refl
+known_one c v1 h = grind (arith, nat_tests)
 
 known_behind : (front r : List ℕ) → is_open r ≡ false → is_open (front ++ r) ≡ false
 known_behind [] r h = h
@@ -43,17 +39,7 @@ known_before {r = r} h known = ap is_open h.is ∙ known_behind h.front r known
 -- ## Nor is one that begins with such a text
 
 pub known_longer : (r more : List ℕ) → is_open r ≡ false → is_open (r ++ more) ≡ false
-known_longer [] more h = absurd (cc)
-known_longer (c ∷ []) [] h = h
-known_longer (c ∷ []) (d ∷ []) h = grind arith
-known_longer (c ∷ []) (d ∷ e ∷ []) h = grind arith
-known_longer (c ∷ []) (d ∷ e ∷ f ∷ others) h = refl
-known_longer (c ∷ d ∷ []) [] h = h
-known_longer (c ∷ d ∷ []) (e ∷ []) h = grind arith
-known_longer (c ∷ d ∷ []) (e ∷ f ∷ others) h = refl
-known_longer (c ∷ d ∷ e ∷ []) [] h = h
-known_longer (c ∷ d ∷ e ∷ []) (f ∷ others) h = refl
-known_longer (c ∷ d ∷ e ∷ f ∷ r) more h = refl
+known_longer v0 more h = grind (arith, nat_tests)
 
 -- ## How much has to be there
 
@@ -153,11 +139,7 @@ four_shown u0 left = grind arith
 
 -- by its first four characters
 pub not_open : (r : List ℕ) → may_be_open r ≡ false → is_open r ≡ false
-not_open [] known = absurd (cc)
-not_open (c ∷ []) known = grind (arith, nat_tests)
-not_open (c ∷ d ∷ []) known = grind (arith, nat_tests)
-not_open (c ∷ d ∷ e ∷ []) known = grind (arith, nat_tests)
-not_open (c ∷ d ∷ e ∷ f ∷ cs) known = refl
+not_open v0 known = grind (arith, nat_tests)
 
 -- a later part of a text that is not open where this is true
 abbrev pub InText : List ℕ → Bool → List ℕ → Type 0

@@ -101,10 +101,7 @@ break_ended s h =
 
 break_read : (start : Marker) (s u : Cursor) → header_break start s ≡ Ok u → Ended s.rest u.rest
 unfolding header_break
-break_read start s u = by_test (not (is_breakz (slice_index s.rest 0))) _ _ (λ r. r ≡ gave u → Ended s.rest u.rest)
-    (λ _ e. refused_gave _ u e)
-    (λ h. by_test (slice_index (pass_break s).rest 0 == tab) _ _ (λ r. r ≡ gave u → Ended s.rest u.rest)
-    (λ _ e. refused_gave _ u e) (λ t e. rw (same_gift (pass_break s) u e) at (break_ended s (not-false _ h) t)))
+break_read start s u = grind (arith, nat_tests, gave, refused_gave, same_gift, break_ended, not-false)
 
 separation_left : (s : Cursor) (x : SkipTabs × Cursor) → separation Yes s ≡ Ok x
     → pass_blanks (separation_len Yes s.rest) s ≡ x.1

@@ -67,12 +67,7 @@ a_break A B c cs rest b starts w =
 starts_clear : (i col : ℕ) (xs : List ℕ) → line_starts i col xs ≡ true
     → (is_yaml_non_break (slice_index xs 0) ≡ true) × (col ≡ 0 → is_document_indicator xs ≡ false)
 unfolding line_starts
-starts_clear i col xs = parts (col == i) (is_yaml_non_break (slice_index xs 0)) (i == 0) (is_document_indicator xs) refl
-    refl
-  where
-    parts : (a d z k : Bool) → (col == i) ≡ a → (i == 0) ≡ z → (a && d && not (z && k)) ≡ true
-        → (d ≡ true) × (col ≡ 0 → k ≡ false)
-    parts a d z k e f h = grind arith
+starts_clear i col xs = grind arith
 
 -- ## Lines
 

@@ -39,16 +39,7 @@ use Rattle.saphyr_scalar.proofs.Given.{given_of}
 starts_none : (i col : ℕ) (xs : List ℕ) → line_starts i col xs ≡ false → col ≡ i
     → IsFalse (is_yaml_non_break (slice_index xs 0)) ⊎ ((i ≡ 0) × IsTrue (is_document_indicator xs))
 unfolding line_starts
-starts_none i col xs = parts (col == i) (is_yaml_non_break (slice_index xs 0)) (i == 0) (is_document_indicator xs) refl
-    refl
-  where
-    parts : (a d z k : Bool) → (col == i) ≡ a → (i == 0) ≡ z → (a && d && not (z && k)) ≡ false → col ≡ i
-        → (d ≡ false) ⊎ ((i ≡ 0) × (k ≡ true))
-    parts false d z k e f h c = absurd (grind (arith, nat_tests))
-    parts true false z k e f h c = inl refl
-    parts true true true true e f h c = inr (eqb-true i 0 f, refl)
-    parts true true true false e f h c = absurd (cc)
-    parts true true false k e f h c = absurd (cc)
+starts_none i col xs = grind (arith, nat_tests, eqb-true)
 
 ends_read : (i : ℕ) (t : Cursor) → step.EndsLines i t → IsBehindLines i t
 ends_read i t e = record {
@@ -203,10 +194,7 @@ behind_header_line style indent s h first u y e p col blank is =
 no_lines_at_end : (xs rest : List ℕ) → is_z (slice_index xs 0) ≡ true → (lines : List ℕ) → xs ≡ lines ++ rest
     → AreInside false lines rest → AreInside true lines rest
 no_lines_at_end xs rest z [] e h = tt
-no_lines_at_end xs rest z (c ∷ cs) e h =
-    let nul : c ≡ 0 = eqb-true c 0 (ap (λ t. is_z (slice_index t 0)) (sym e) ∙ z) in
-    let none : (is_break c || is_yaml_non_break c) ≡ false = ap (λ x. is_break x || is_yaml_non_break x) nul in
-    let some = h.0 in absurd (cc)
+no_lines_at_end xs rest z (c ∷ cs) e h = grind (arith, nat_tests, eqb-true, slice_index)
 
 whole_at_end : (style : BlockStyle) (indent : ℕ) (s : Cursor) (h : BlockHeader) (first : List ℕ) (u : Cursor) (y : Read)
     → s.rest ≡ first ++ u.rest → IsPassed s.mark s.rest u.mark u.rest → is_z (slice_index u.rest 0) ≡ true

@@ -1,4 +1,4 @@
-use Rattle.saphyr_scalar.proofs.Block.Counted.{block_scalar_counts}
+use Rattle.saphyr_scalar.proofs.Block.Placed.{block_scalar_counts}
 use Rattle.saphyr_scalar.proofs.scalar.law.counts_each_block_scalar.Goals as goal
 
 pub returns : goal.returns

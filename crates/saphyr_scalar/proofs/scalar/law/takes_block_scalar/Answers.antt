@@ -1,4 +1,4 @@
-use Rattle.saphyr_scalar.proofs.TakingMore.{block_scalar_takes}
+use Rattle.saphyr_scalar.proofs.Block.Placed.{block_scalar_takes}
 use Rattle.saphyr_scalar.proofs.scalar.law.takes_block_scalar.Goals as goal
 
 pub returns : goal.returns
