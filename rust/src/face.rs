@@ -7,6 +7,7 @@
 //! event are UTF-8, and may be read until the next call with the same parser. They are copied here right after the call
 //! that wrote them, so none is left when the next call comes. If the caller's text contains such a text as it is, it is
 //! borrowed from there instead.
+
 pub mod trees;
 
 use crate::encoding::NotUtf8;
