@@ -12,6 +12,9 @@
 A text is a `str`, or bytes in UTF-8, or a file, which is read in pieces. Scalars are not resolved: `80`, `true` and
 `"80"` are texts, whose `style` and `tag` tell how they are written.
 
+The trees are made of the events, and not of those that the library loads, which takes as long: so a file is read in
+pieces, document by document.
+
 The module calls libsaphyr_parser.so. It looks for it in the folder that the variable SAPHYR_PARSER_LIB names, in the
 release that the module is a part of, and where the system looks for libraries. The library is proved. This module is
 tested.

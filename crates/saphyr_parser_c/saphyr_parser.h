@@ -85,8 +85,8 @@ enum saphyr_status {
        follows. */
     SAPHYR_REFUSED = -1,
     /* Out of memory. From saphyr_next and saphyr_peek: no event follows, whatever is added. From saphyr_add: the text
-       is lost, and saphyr_next says so too. From saphyr_new, saphyr_new_pieces and saphyr_clone: no parser is made. From
-       saphyr_load: there are no trees, and no event follows. */
+       is lost, and saphyr_next says so too. From saphyr_new, saphyr_new_pieces and saphyr_clone: no parser is made.
+       From saphyr_load: there are no trees. */
     SAPHYR_NO_MEMORY = -2,
     /* saphyr_new: the text is not UTF-8. saphyr_valid_up_to returns the index of the first wrong byte. saphyr_add: the
        bytes, behind those that came before, are not, whatever follows; or the text ends inside a character. Nothing is
@@ -298,11 +298,12 @@ typedef size_t saphyr_node;
 /*
  * Loads all documents of a parser as trees, which the parser keeps. It must have handed out no event; shown is allowed.
  * The trees may have `nodes` nodes in all, where an alias counts as one, and `depth` collections open at once. Trees
- * that were loaded before are freed, whatever it returns. The parser hands out no event of these documents any more. A
- * clone has no trees.
+ * that were loaded before are freed, whatever it returns. Once the documents are loaded no event is left. A clone has
+ * no trees.
  *
  * Returns SAPHYR_OK; or SAPHYR_REFUSED, SAPHYR_TOO_LARGE, SAPHYR_NO_MEMORY, SAPHYR_LATE or SAPHYR_NO_PARSER, and then
- * there are no trees. `event` says why and where, and its text may be read until the next call with the parser.
+ * there are no trees. `event` says why and where, and its text may be read until the next call with the parser. After
+ * SAPHYR_TOO_LARGE the parser is behind the event that was too many.
  */
 int32_t saphyr_load(saphyr_parser *parser, size_t nodes, size_t depth, saphyr_event *event);
 
@@ -360,7 +361,8 @@ void saphyr_free(saphyr_parser *parser);
 uint32_t saphyr_version(void);
 
 /*
- * Returns what a status means, in words that end in NUL. As SAPHYR_OK and SAPHYR_END are one number, so are their words.
+ * Returns what a status means, in words that end in NUL. As SAPHYR_OK and SAPHYR_END are one number, so are their
+ * words.
  */
 static inline const char *saphyr_status_text(int32_t status) {
     switch (status) {

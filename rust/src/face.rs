@@ -1,11 +1,12 @@
 //! Safe functions over the calls of the static library.
 //!
-//! This file and `face/trees.rs` are the crate's only ones with `unsafe` in them. `saphyr_parser.h`, next to the library's sources, says what a
-//! caller must do: zero a parser and an event first, pass no null pointer, use a parser in one call at a time, keep the
-//! text unchanged where it is until the parser over it is freed, and give `saphyr_new_utf8` only UTF-8. Of a text that
-//! comes in pieces the library has a copy. In return, the texts of an event are UTF-8, and may be read until the next
-//! call with the same parser. They are copied here right after the call that wrote them, so none is left when the next
-//! call comes. If the caller's text contains such a text as it is, it is borrowed from there instead.
+//! This file and `face/trees.rs` are the crate's only ones with `unsafe` in them. `saphyr_parser.h`, next to the
+//! library's sources, says what a caller must do: zero a parser and an event first, pass no null pointer, use a parser
+//! in one call at a time, keep the text unchanged where it is until the parser over it is freed, and give
+//! `saphyr_new_utf8` only UTF-8. Of a text that comes in pieces the library has a copy. In return, the texts of an
+//! event are UTF-8, and may be read until the next call with the same parser. They are copied here right after the call
+//! that wrote them, so none is left when the next call comes. If the caller's text contains such a text as it is, it is
+//! borrowed from there instead.
 
 pub mod trees;
 
