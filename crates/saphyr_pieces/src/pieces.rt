@@ -103,7 +103,9 @@ impl PieceReader {
         let Growth::Growing = self.reader.growth() else {
             return Err(AllocError);
         };
-        let mut text = String::from_str(self.alloc, self.reader.input().as_str())?;
+        let rest = self.reader.input().as_str();
+        let mut text = String::with_capacity(self.alloc, rest.len() + self.more.len())?;
+        text.push_str(rest)?;
         text.push_str(&self.more)?;
         let Some(_) = self.reader.index().checked_add(text.as_str().len()) else {
             return Err(AllocError);
