@@ -1,7 +1,7 @@
 //! The parser of a text that comes in pieces, as its callers see it.
 
 ghost use Rattle.std.specs.Prelude.{◌≡◌, ◌≤◌, ◌++◌, length, ℕ, List, [], IfOk, OnErr, true, false};
-ghost use Rattle.std.specs.Str.{chars};
+ghost use Rattle.std.specs.Str.{chars, encode_utf8_all};
 ghost use Rattle.saphyr_scanner.specs.Limits.{most_characters};
 ghost use Rattle.saphyr_scanner.specs.Steps.Remaining.{scan};
 ghost use Rattle.saphyr_machine.specs.Cursor.{at_start, keeping_tags};
@@ -73,7 +73,8 @@ impl PieceParser {
     /// `None`, these were looked at, if they are more than the bytes of `look_past`.
     #[must_use]
     pub fn waiting(&self) -> usize
-        ensures { length (waiting self.now) ≤ result }
+        ensures bytes { result ≡ length (encode_utf8_all (waiting self.now)) }
+        ensures characters { length (waiting self.now) ≤ result }
     {
         self.reader.waiting()
     }

@@ -65,6 +65,12 @@ fn empty_reader(alloc: Global, limit: usize) -> EventReader<'static, OwnedText>
     EventReader::new(alloc, scanner.over(text, Growth::Growing))
 }
 
+// A reader that stands where another was, until that is put back. No more of its text comes.
+fn no_reader(alloc: Global) -> EventReader<'static, OwnedText> {
+    let text = OwnedText::new(alloc, String::new(alloc));
+    EventReader::new(alloc, Scanner::new(alloc, text, 0))
+}
+
 impl PieceReader {
     /// A reader of a text of which nothing came, and which is refused past so many characters.
     pub(crate) fn new(alloc: Global, limit: usize) -> Self
@@ -103,12 +109,14 @@ impl PieceReader {
         let Growth::Growing = self.reader.growth() else {
             return Err(AllocError);
         };
-        let mut text = String::from_str(self.alloc, self.reader.input().as_str())?;
+        let rest = self.reader.input().as_str();
+        let mut text = String::with_capacity(self.alloc, rest.len() + self.more.len())?;
+        text.push_str(rest)?;
         text.push_str(&self.more)?;
         let Some(_) = self.reader.index().checked_add(text.as_str().len()) else {
             return Err(AllocError);
         };
-        let reader = replace(&mut self.reader, empty_reader(self.alloc, 0));
+        let reader = replace(&mut self.reader, no_reader(self.alloc));
         self.reader = reader.over(OwnedText::new(self.alloc, text), growth);
         self.more.clear();
         self.starved = false;

@@ -11,6 +11,9 @@ const WINDOW: usize = 16;
 /// How many bytes are taken at a time of what the iterator says it has.
 const MOST_THERE: usize = 1 << 16;
 
+/// How many characters are put together before they go to the text.
+const AT_ONCE: usize = 256;
+
 /// The characters that an iterator gives up to its first `None`.
 #[derive(Clone)]
 pub struct BufferedInput<T: Iterator<Item = char>> {
@@ -31,18 +34,21 @@ impl<T: Iterator<Item = char>> BufferedInput<T> {
     }
 
     /// Takes characters as long as the source says that it has more, but not too many at a time. That of a text in
-    /// memory says so, and that of a pipe does not.
-    fn take_what_is_there(&mut self, line: &mut String) {
-        if !self.loaded.is_empty() || self.has_ended {
-            return;
-        }
-        while line.len() < MOST_THERE {
-            let before = line.len();
-            let count = self.source.size_hint().0.min(MOST_THERE - before);
-            push_all(line, self.source.by_ref().take(count));
-            if line.len() == before {
+    /// memory says so, and that of a pipe does not: of that it takes a line.
+    fn take_characters(&mut self, line: &mut String) {
+        let mut ascii = [0; AT_ONCE];
+        while line.len() < MOST_THERE && !self.has_ended {
+            let count = self.source.size_hint().0.min(AT_ONCE);
+            if count == 0 {
                 break;
             }
+            self.has_ended = !push_all(line, &mut self.source, &mut ascii[..count], |_| true);
+        }
+        // A marker is told by the first four characters.
+        let mut count = 4 - line.len().min(3);
+        while !is_part(line) && !line.ends_with('\r') && !self.has_ended {
+            self.has_ended = !push_all(line, &mut self.source, &mut ascii[..count], |c| c > '\r');
+            count = AT_ONCE;
         }
     }
 
@@ -67,7 +73,9 @@ impl<T: Iterator<Item = char>> Input for BufferedInput<T> {
     }
 
     fn take_line(&mut self, line: &mut String) -> bool {
-        self.take_what_is_there(line);
+        if self.loaded.is_empty() && !self.has_ended {
+            self.take_characters(line);
+        }
         while !is_part(line) {
             let next = self.loaded.pop_front();
             match next.unwrap_or_else(|| self.read()) {
@@ -124,20 +132,26 @@ impl<T: Iterator<Item = char>> Input for BufferedInput<T> {
     }
 }
 
-/// Puts characters behind a text. Those of ASCII are put together first, which takes fewer instructions.
-fn push_all(text: &mut String, characters: impl Iterator<Item = char>) {
-    let (mut ascii, mut len) = ([0; 256], 0);
-    for c in characters {
-        if c.is_ascii() && len < ascii.len() {
-            ascii[len] = c as u8;
-            len += 1;
-        } else {
-            push_ascii(text, &ascii[..len]);
-            text.push(c);
-            len = 0;
+/// Puts characters of a source behind a text, as many as there is room for, or up to the first that does not go on.
+/// Those of ASCII are put together first, which takes fewer instructions. Returns whether the source had not ended.
+fn push_all(
+    text: &mut String,
+    source: &mut impl Iterator<Item = char>,
+    ascii: &mut [u8],
+    goes_on: impl Fn(char) -> bool,
+) -> bool {
+    for at in 0..ascii.len() {
+        match source.next() {
+            Some(c) if c.is_ascii() && goes_on(c) => ascii[at] = c as u8,
+            other => {
+                push_ascii(text, &ascii[..at]);
+                text.extend(other);
+                return other.is_some();
+            }
         }
     }
-    push_ascii(text, &ascii[..len]);
+    push_ascii(text, ascii);
+    true
 }
 
 fn push_ascii(text: &mut String, ascii: &[u8]) {

@@ -1,6 +1,7 @@
 //! What waits for more of the text: how much that is, and when the reader looks at it again.
 
 ghost use Rattle.std.specs.Prelude.{◌≡◌, ◌≤◌, length};
+ghost use Rattle.std.specs.Str.{encode_utf8_all};
 ghost use Rattle.saphyr_pieces.specs.Pieces.{waiting};
 ghost use Rattle.saphyr_pieces.specs.Views as spec;
 
@@ -18,9 +19,9 @@ const ANCHOR_WEIGHT: usize = 4;
 /// How many bytes of a text take as long to read as a reader takes to copy, at least.
 const COPY_WEIGHT: usize = 64;
 
-/// Whether a reader has read so much since a copy that a new one pays: half of the copy's text, and not just a little.
+/// Whether a reader has read so much since a copy that a new one pays: most of the copy's text, and not just a little.
 pub(super) fn is_far(copied: usize, left: usize) -> bool {
-    left < copied / 2 && copied - left >= COPY_WEIGHT
+    left < copied / 4 && copied - left >= COPY_WEIGHT
 }
 
 // Whether what came may well decide an event: a line ends, or a bracket closes, or a document begins.
@@ -64,7 +65,8 @@ impl PieceReader {
 
     /// How many bytes wait: those that came and of which no event was handed out.
     pub(crate) fn waiting(&self) -> usize
-        ensures { length (waiting (spec.pieces_of self.now)) ≤ result }
+        ensures bytes { result ≡ length (encode_utf8_all (waiting (spec.pieces_of self.now))) }
+        ensures characters { length (waiting (spec.pieces_of self.now)) ≤ result }
     {
         self.reader.input().as_str().len() + self.more.len()
     }

@@ -21,8 +21,8 @@ over-requires c =
     let there : (scanning_of c.replace-reader.result).state.core.cursor.mark.index ≡ c.index.result =
     ap (λ (r : EventReader OwnedText). (scanning_of r).state.core.cursor.mark.index) c.replace-reader.ensures.value
     ∙ sym c.index.ensures in
-    let text = c.push_str.new.self in
-    let bytes : length c.as_str-2.result.now ≡ length (string_bytes text) = ap length c.as_str-2.ensures.value in
+    let text = c.push_str-2.new.self in
+    let bytes : length c.as_str.result.now ≡ length (string_bytes text) = ap length c.as_str.ensures.value in
     let counted = length-chars (string_bytes text) (IsUtf8-string_bytes text) in
     rw c.new.ensures (omega (arith, there, bytes, counted, c.in-Some.ensures))
 
@@ -30,10 +30,12 @@ over-requires c =
 text_is : (c : After-over) → chars (drop c.new.result.start (string_bytes c.new.result.text))
     ≡ (scanning_of c.args.self.now.reader).state.core.cursor.rest ++ chars (string_bytes c.args.self.now.more)
 text_is c =
-    c.new.ensures ∙ ap chars c.in_ok-push_str.ensures.bytes
-    ∙ chars-append (string_bytes c.in_ok-text.text) c.deref.result.now (IsUtf8-string_bytes c.in_ok-text.text)
-    ∙ ap (λ (cs : List ℕ). cs ++ chars c.deref.result.now)
-    (ap chars c.in_ok-text.ensures.ok ∙ c.as_str.ensures ∙ c.input.ensures)
+    let rest = c.as_str-rest.result.now in
+    let more = c.deref.result.now in
+    let text = c.in_ok-push_str-2.ensures.bytes ∙ ap (λ (bs : List ℕ). bs ++ more)
+    (c.in_ok-push_str.ensures.bytes ∙ ap (λ (bs : List ℕ). bs ++ rest) c.in_ok-text.ensures.bytes) in
+    c.new.ensures ∙ ap chars text ∙ chars-append rest more c.as_str-rest.utf8
+    ∙ ap (λ (cs : List ℕ). cs ++ chars more) (c.as_str-rest.ensures ∙ c.input.ensures)
     ∙ ap (λ (bs : List ℕ). (scanning_of c.args.self.now.reader).state.core.cursor.rest ++ chars bs) c.deref.ensures
 
 -- where the reader is over it
