@@ -1,5 +1,5 @@
 -- A key on one line at block level begins a token, which keeps the key's place.
-use Rattle.yaml_laws.proofs.Common.{Bool, List, [], ap, append_assoc, arith, false, inl, inr, refl, sym, true, ℕ, ◌++◌, ◌∙◌, ◌∷◌, ◌≡◌, None, Option, Some, colon, Cursor, Context, Kind, Core, Candidate, Quote, Double, Single, mark, Alias, DoubleQuoted, Folded, Literal, Map, Node, Plain, Properties, Scalar, Seq, SingleQuoted, Style, Tag, AreFlowPairs, AreItems, IsBeforeContent, IsFlowNode, IsPlainKeyNode, IsScalarNode, IsFlowScalar}
+use Rattle.yaml_laws.proofs.Common.{Bool, List, [], ap, append_assoc, arith, false, inl, inr, refl, sym, true, ℕ, ◌++◌, ◌∙◌, ◌∷◌, ◌≡◌, Option, Some, colon, Cursor, Context, Kind, Core, Candidate, Quote, Double, Single, mark, Alias, DoubleQuoted, Folded, Literal, Map, Node, Plain, Properties, Scalar, Seq, SingleQuoted, Style, Tag, AreFlowPairs, AreItems, IsBeforeContent, IsFlowNode, IsPlainKeyNode, IsScalarNode, IsFlowScalar}
 use Rattle.saphyr_scanner.specs.declared.engine.level.Context.TheVariants as context
 use Rattle.saphyr_scanner.specs.Steps.Property as property
 use Rattle.saphyr_scanner.specs.Steps.Scalar as scalar
@@ -66,15 +66,7 @@ fresh_tag around tag t o h = grind (arith, tag_fresh)
 
 fresh_properties : (around : Around) (indent : ℕ) (anchor : Option (List ℕ)) (tag : Option Tag) (t o : List ℕ)
     → yaml.AreProperties anchor tag indent t → Fresh around (t ++ o)
-fresh_properties around indent None None t o h = absurd h
-fresh_properties around indent (Some name) None t o h = fresh_anchor around name t o h
-fresh_properties around indent None (Some tag) t o h = fresh_tag around tag t o h
-fresh_properties around indent (Some name) (Some tag) t o (a, s, c, h, g, spaced, inl is) =
-    fresh_so around (t ++ o) (a ++ ((s ++ c) ++ o)) (cc (append_assoc a (s ++ c) o))
-    (fresh_anchor around name a ((s ++ c) ++ o) h)
-fresh_properties around indent (Some name) (Some tag) t o (c, s, a, h, g, spaced, inr is) =
-    fresh_so around (t ++ o) (a ++ ((s ++ c) ++ o)) (cc (append_assoc a (s ++ c) o))
-    (fresh_tag around tag a ((s ++ c) ++ o) g)
+fresh_properties around indent anchor tag t o h = grind (arith, fresh_anchor, fresh_tag, fresh_so, append_assoc)
 
 fresh_word : (around : Around) (t o : List ℕ) → BeginsWord false t o → Fresh around (t ++ o)
 fresh_word around t o w = λ d s k ad n. plain_dispatches around d s n t o context.Block w k [] true ad (inl refl)

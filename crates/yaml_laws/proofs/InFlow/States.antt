@@ -3,7 +3,7 @@ use Rattle.yaml_laws.proofs.Common.{Bool, List, Ok, [], ap, arith, cond, false, 
 use Rattle.saphyr_scanner.specs.declared.engine.level.Context.TheVariants as context
 use Rattle.saphyr_scanner.specs.Steps.Core.{Core, is_too_far, drop_far_key, save_key, from_to, completed_step}
 use Rattle.saphyr_scanner.specs.Steps.Flow as flow
-use Rattle.saphyr_scanner.specs.Steps.Flow.{open_collection, close_collection, allow_adjacent, behind_pair}
+use Rattle.saphyr_scanner.specs.Steps.Flow.{open_collection, close_collection, behind_pair}
 use Rattle.saphyr_scanner.specs.Steps.Unrolling.{end_blocks, unroll}
 use Rattle.saphyr_scanner.specs.Steps.Fetch.{fetch, check_limit, fetch_within}
 

@@ -82,11 +82,13 @@ marks_first Others o (marks, others, (piece ∷ pieces, ((filler, filler_is, is)
 pub explicit_first : {limit : ℕ} → ReadsLeaves limit → (node : Node) (t others : List ℕ)
     → IsBlockNode most_open node BehindMarker t others → FollowsDocument others
     → is_blank_or_breakz (slice_index (t ++ others) 0) ≡ true
-explicit_first leaves node t others h follows = let b = node_behind leaves node BehindMarker t others refl h follows.clean in b.first
+explicit_first leaves node t others h follows =
+    let b = node_behind leaves node BehindMarker t others refl h follows.clean in b.first
 
 -- Filler alone, a document marker or a byte order mark comes after a document. What is known of a `---` needs what is
 -- known after its own document, so this goes by recursion over the documents.
-follows_first : {limit : ℕ} → ReadsLeaves limit → (ds : Forest) (o : List ℕ) → yaml.IsBehindMarks (AreBlockDocuments ds) o
+follows_first : {limit : ℕ} → ReadsLeaves limit → (ds : Forest) (o : List ℕ)
+    → yaml.IsBehindMarks (AreBlockDocuments ds) o
     ⊎ ((filler rest : List ℕ) × IsFiller filler × (o ≡ filler ++ (byte_order_mark ∷ rest))) → FollowsDocument o
 follows_first leaves [] o (inl (inl h)) =
     record { clean = last_clean o h; lands = λ m line. inl (cc (last_filler_past 0 m o h)) }
