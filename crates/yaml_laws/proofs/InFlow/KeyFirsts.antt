@@ -1,5 +1,5 @@
 -- A key on one line at block level begins a token, which keeps the key's place.
-use Rattle.yaml_laws.proofs.Common.{List, [], ap, append_assoc, arith, false, inl, inr, refl, sym, true, ℕ, ◌++◌, ◌∙◌, ◌∷◌, ◌≡◌, Option, Some, colon, Context, Kind, Quote, Double, Single, mark, Alias, DoubleQuoted, Folded, Literal, Map, Node, Plain, Properties, Scalar, Seq, SingleQuoted, Style, Tag, AreFlowPairs, AreItems, IsBeforeContent, IsFlowNode, IsPlainKeyNode, IsScalarNode, IsFlowScalar}
+use Rattle.yaml_laws.proofs.Common.{List, [], ap, append_assoc, arith, false, inl, refl, sym, true, ℕ, ◌++◌, ◌∙◌, ◌∷◌, ◌≡◌, Option, Some, colon, Context, Kind, Quote, Double, Single, mark, Alias, DoubleQuoted, Folded, Literal, Map, Node, Plain, Properties, Scalar, Seq, SingleQuoted, Style, Tag, AreFlowPairs, AreItems, IsBeforeContent, IsFlowNode, IsPlainKeyNode, IsScalarNode, IsFlowScalar}
 use Rattle.saphyr_scanner.specs.declared.engine.level.Context.TheVariants as context
 use Rattle.saphyr_scanner.specs.Steps.Property as property
 use Rattle.saphyr_scanner.specs.Steps.Scalar as scalar
@@ -76,19 +76,12 @@ fresh_bracket around b are o d s k ad n = grind (arith, start_fresh)
 
 fresh_front : (around : Around) (indent : ℕ) (p : Properties) (front t : List ℕ) → IsBeforeContent p indent front
     → Fresh around t → Fresh around (front ++ t)
-fresh_front around indent p front t (inl (none, is)) h =
-    fresh_so around (front ++ t) t (ap (λ (x : List ℕ). x ++ t) is) h
-fresh_front around indent p front t (inr (written, separation, g, some, parts, is)) h =
-    fresh_so around (front ++ t) (written ++ (separation ++ t)) (cc (append_assoc written separation t))
-    (fresh_properties around indent p.anchor p.tag written (separation ++ t) g)
+fresh_front around indent p front t k h = grind (arith, fresh_so, append_assoc, fresh_properties)
 
 scalar_fresh : (around : Around) (indent : ℕ) (p : Properties) (style : Style) (value t o : List ℕ)
     → IsScalarNode p style value false indent t → Fresh around (t ++ o)
-scalar_fresh around indent p style value t o (inl (plain, empty, h)) =
-    fresh_properties around indent p.anchor p.tag t o h
-scalar_fresh around indent p style value t o (inr (front, content, before, g, e)) =
-    fresh_so around (t ++ o) (front ++ (content ++ o)) (cc (append_assoc front content o))
-    (fresh_front around indent p front (content ++ o) before (fresh_content around indent style value content o g))
+scalar_fresh around indent p style value t o h =
+    grind (arith, fresh_properties, append_assoc, fresh_front, fresh_content)
 
 pub plain_key_fresh : (around : Around) (indent : ℕ) (node : Node) (t r : List ℕ) → IsPlainKeyNode node false indent t
     → Fresh around (t ++ (colon ∷ r))

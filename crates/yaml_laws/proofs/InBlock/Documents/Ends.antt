@@ -44,10 +44,7 @@ marked_lands filler c cs o filler_is e stops ends m line =
 -- after filler a document marker or a byte order mark begins a line
 marked_follows : (filler : List ℕ) (c : ℕ) (cs o : List ℕ) → IsFiller filler → o ≡ filler ++ (c ∷ cs)
     → IsStop (c ∷ cs) → EndsContent (c ∷ cs) → FollowsDocument o
-marked_follows filler c cs o filler_is e stops ends = record {
-  clean = marked_clean filler c cs o filler_is e stops;
-  lands = marked_lands filler c cs o filler_is e stops ends;
-}
+marked_follows filler c cs o filler_is e stops ends = search (marked_clean, marked_lands)
 
 last_clean : (o : List ℕ) → IsLastFiller o → IsClean o
 last_clean o (filler, text, filler_is, (front, comment, are, k, text_is), is) =
