@@ -46,10 +46,7 @@ same_opened n o [] (q ∷ qs) h = absurd h
 same_opened n o (p ∷ ps) [] h = absurd h
 
 pub same_act : (a b : Action) (q r : Queue) → SameAction a b → SameQueues q r → SameQueues (act a q) (act b r)
-same_act (Put t) (Put u) q r e h = record { places = same_put q.places r.places t u h.places e; handed = h.handed }
-same_act (Open n o) (Open m p) q r e h = grind (arith, same_opened)
-same_act (Put t) (Open m p) q r e h = absurd e
-same_act (Open n o) (Put u) q r e h = absurd e
+same_act a b q r e h = grind (arith, same_put, same_opened)
 
 pub same_perform : (xs ys : List Action) (q r : Queue) → SameActions xs ys → SameQueues q r
     → SameQueues (perform xs q) (perform ys r)

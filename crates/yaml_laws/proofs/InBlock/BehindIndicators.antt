@@ -1,5 +1,5 @@
 -- What comes after the indicator of a node at block level.
-use Rattle.yaml_laws.proofs.Common.{Bool, IsFalse, List, ap, append_assoc, arith, false, inl, inr, refl, slice_index, subst, suc, sym, true, ℕ, ◌++◌, ◌∙◌, ◌∷◌, ◌≡◌, None, Option, Some, ◌&&◌, ◌==◌, is_alpha, is_blank_or_breakz, tab, hyphen, spaces, IsNextLine, Alias, Map, MoreNodes, MorePairs, NoNode, NoPair, Node, Nodes, Pairs, Properties, Scalar, Seq, Style, Tag, most_open, AreProperties, IsAnchor, IsFlowNode, IsKeyText, IsProperties, and_false, clash}
+use Rattle.yaml_laws.proofs.Common.{Bool, IsFalse, List, ap, append_assoc, arith, false, inl, inr, refl, slice_index, subst, suc, sym, true, ℕ, ◌++◌, ◌∙◌, ◌∷◌, ◌≡◌, Option, ◌&&◌, ◌==◌, is_alpha, is_blank_or_breakz, tab, hyphen, spaces, IsNextLine, Alias, Map, MoreNodes, MorePairs, NoNode, NoPair, Node, Nodes, Pairs, Properties, Scalar, Seq, Style, Tag, most_open, AreProperties, IsAnchor, IsFlowNode, IsKeyText, IsProperties, and_false, clash}
 use Rattle.std.specs.List.{list_all, list_any}
 use Rattle.yaml_laws.specs.Grammar.TagSpelling.{IsTag}
 use Rattle.yaml_laws.specs.Grammar.BlockNodes.{Position, is_start, is_behind_colon, indent_at, sequence_indent_at, IsGapAt, IsCollectionFront, IsStyled, IsScalarFront, IsLead, IsFlowInBlock, IsBlockPair, IsBlockNode, AreEntries, ArePairs}
@@ -92,13 +92,7 @@ tag_apart tag t h = grind arith
 
 are_apart : (anchor : Option (List ℕ)) (tag : Option Tag) (indent : ℕ) (t : List ℕ) → AreProperties anchor tag indent t
     → BeginsApart t
-are_apart None None indent t h = absurd h
-are_apart (Some name) None indent t h = anchor_apart name t h
-are_apart None (Some tag) indent t h = tag_apart tag t h
-are_apart (Some name) (Some tag) indent t (a, gap, w, h, k, gap_is, inl e) =
-    rw e (further_apart a (gap ++ w) (anchor_apart name a h))
-are_apart (Some name) (Some tag) indent t (a, gap, w, h, k, gap_is, inr e) =
-    rw e (further_apart w (gap ++ a) (tag_apart tag w k))
+are_apart anchor tag indent t h = grind (arith, anchor_apart, tag_apart, further_apart)
 
 properties_apart : (p : Properties) (indent : ℕ) (t : List ℕ) → IsProperties p indent t → BeginsApart t
 properties_apart p indent t h = are_apart p.anchor p.tag indent t h

@@ -151,24 +151,8 @@ what_comes : (limit : ℕ) → limit < 2 ^ 63 → (m : Marker) (t : List ℕ) (a
     → (allowed : Bool) (left : List ℕ) → (crosses (end ++ o) ≡ true → (allowed || crosses left) ≡ true)
     → EndsDocument (past 0 (moved m t) o).0 (past 0 (moved m t) o).1
     ⊎ ((left_key key (past 0 (moved m t) o).0 ≡ None) × ((crosses left || allowed) ≡ true))
-what_comes limit short m t at text end o place fits (inr (h, none)) k none_before key since allowed left fresh =
-    inl (inl (ap (λ (x : List ℕ). (past 0 (moved m t) x).1) none))
-what_comes limit short m t at text end o place fits (inl (rest, h, is)) k none_before key since allowed left fresh =
-    inr (
-      none_kept k at text key (past 0 (moved m t) o).0 since none_before later,
-      or_true_swap allowed (crosses left)
-          (fresh (ap crosses (ap (λ (x : List ℕ). x ++ o) is ∙ append_assoc rest (10 ∷ []) o)
-          ∙ content_crosses rest o h)),
-    )
-  where
-    later : (front back : List ℕ) → text ≡ front ++ back → (moved at front).line < (past 0 (moved m t) o).0.line
-    later front back parts =
-        let whole = ap (λ (x : List ℕ). x ++ end) parts ∙ append_assoc front back end
-        ∙ ap (λ (x : List ℕ). front ++ (back ++ x)) is in
-        subst (λ (z : Marker). (moved at front).line < (past 0 z o).0.line)
-        (sym (place ∙ sym (moved_append at text end) ∙ ap (moved at) whole))
-        (later_end limit short at front back rest o fits.lined
-        (subst (λ (x : List ℕ). at.index + length (x ++ o) ≤ limit) whole fits.below))
+what_comes limit short m t at text end o place fits h k none_before key since allowed left fresh =
+    grind (arith, none_kept, or_true_swap, append_assoc, content_crosses, moved_append, later_end)
 
 -- ## The node
 

@@ -68,9 +68,7 @@ next_col m front end filler column end_is filler_is =
 -- the first token of a collection is at its column
 pub lead_col : (p : Properties) (place : Position) (least column : ℕ) (m : Marker) (lead : List ℕ) → IsPlaced place m
     → IsLead p place least column lead → (moved m lead).col ≡ column
-lead_col p place least column m lead at (inl (front, end, filler, low, front_is, end_is, filler_is, e)) =
-    cc (next_col m front end filler column end_is filler_is)
-lead_col p place least column m lead at (inr (none, h)) = grind (arith, spaces_moved)
+lead_col p place least column m lead at h = grind (arith, next_col, spaces_moved)
 
 -- a mapping is to the right of what encloses it
 pub mapping_least : (p : Properties) (place : Position) (column : ℕ) (lead : List ℕ)

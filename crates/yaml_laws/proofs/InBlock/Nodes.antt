@@ -4,13 +4,13 @@ use Rattle.saphyr_scanner.specs.Grammar.Tokens as tokens
 use Rattle.saphyr_scanner.specs.Grammar.TokenGrammar as grammar
 use Rattle.yaml_laws.specs.Grammar.BlockNodes.{Position, indent_at, sequence_indent_at, IsLead, IsLeftOut, IsFlowInBlock, IsBlockNode, AreEntries, ArePairs}
 use Rattle.yaml_laws.proofs.Flow.Places.{moved_append}
-use Rattle.yaml_laws.proofs.InBlock.Lines.{FitsOnLines, fits_front, fits_back, fits_so}
+use Rattle.yaml_laws.proofs.InBlock.Lines.{fits_front, fits_back, fits_so}
 use Rattle.yaml_laws.proofs.Flow.Fillers.{rest_past}
-use Rattle.yaml_laws.proofs.InBlock.States.{Frame, is_compact, EndsDocument, At, Before, moved, past}
+use Rattle.yaml_laws.proofs.InBlock.States.{Frame, is_compact, EndsDocument, IsLeftOf, At, Before, moved, past}
 use Rattle.yaml_laws.proofs.InBlock.Closing.{closes_block}
 use Rattle.yaml_laws.proofs.InBlock.Skips.{line_end_skipped, line_end_crosses, skipped_past}
 use Rattle.yaml_laws.proofs.InBlock.Entries.{frame_behind}
-use Rattle.yaml_laws.proofs.InBlock.Statements.{context_at, EndsNodeAt, ArrivedAt, Arrived, NodeRead, ReadsAt, ReadsLeaves, place_allows_block, arrived_so}
+use Rattle.yaml_laws.proofs.InBlock.Statements.{context_at, EndsNodeAt, ArrivedAt, Arrived, ReadsAt, ReadsLeaves, place_allows_block, arrived_so}
 use Rattle.yaml_laws.proofs.InBlock.Texts.{behind_wider}
 use Rattle.yaml_laws.proofs.InBlock.BehindIndicators.{entries_content, pairs_content, further_content}
 use Rattle.yaml_laws.proofs.InBlock.Leads.{reads_lead, lead_col, mapping_least, sequence_least}
@@ -95,74 +95,52 @@ reads_sequence : {limit : ℕ} → ReadsLeaves limit → (p : Properties) (node 
     → ReadsAt limit node (IsBlockNode most_open node) → ReadsOtherEntries limit nodes
     → ReadsAt limit (Seq p (MoreNodes node nodes)) (IsBlockSequence p (MoreNodes node nodes))
 reads_sequence {limit} leaves p node nodes reads more place f same m t o (column, lead, entries, lead_is, h, e) fits
-    behind start ts v = by_column (nat_le f.indent n.col) refl
+    behind start ts v =
+    let n = moved m lead in
+    let col = lead_col p place (sequence_indent_at place) column m lead v.placed lead_is in
+    let text : t ++ o ≡ lead ++ (entries ++ o) = ap (λ (x : List ℕ). x ++ o) e ∙ append_assoc lead entries o in
+    let whole = fits_so m t (lead ++ entries) o e fits in
+    let end = ap (moved m) e ∙ moved_append m lead entries in
+    let low : sequence_indent_at place ≤ n.col = rw col (sequence_least p place column lead lead_is) in
+    let far = near f.indent (indent_at place) (sequence_indent_at place) n.col same (indent_near place) low in
+    let behind_o = subst (λ (x : Marker). EndsNodeAt f.indent x o) end behind in
+    let l = reads_lead leaves p place (sequence_indent_at place) column f same m lead (entries ++ o) lead_is
+    (further_content entries o (entries_content (MoreNodes node nodes) column entries o h))
+    (fits_front m lead entries o whole) start ts (subst (λ (x : List ℕ). Before limit start place f m x ts) text v) in
+    let r = reads_entries leaves node nodes reads more f n (nat_le f.indent n.col) refl far entries o (rw col h)
+    (fits_back m lead entries o whole)
+    (behind_wider f.indent (suc n.col) (moved n entries) o (to_next f.indent n.col far) behind_o) start (ts ++ l.tokens)
+    l.at l.none l.allowed in
+    let c = ended n low (moved n entries) behind_o.left (nat_le f.indent n.col) refl (ts ++ l.tokens) r.tokens r.are
+    r.arrived in
+    record {
+      tokens = l.tokens ++ c.0;
+      are = inr (l.tokens, c.0, l.are, c.1, refl);
+      arrived = arrived_so o end (append_assoc ts l.tokens c.0) c.2;
+    }
   where
-    n : Marker
-    n = moved m lead
+    near : (i a s c : ℕ) → i ≡ a → a ≤ suc s → s ≤ c → i ≤ c + 1
+    near i a s c e h k = omega (arith, e, h, k)
 
-    col : n.col ≡ column
-    col = lead_col p place (sequence_indent_at place) column m lead v.placed lead_is
-
-    text : t ++ o ≡ lead ++ (entries ++ o)
-    text = ap (λ (x : List ℕ). x ++ o) e ∙ append_assoc lead entries o
-
-    whole : FitsOnLines limit m (lead ++ entries) o
-    whole = fits_so m t (lead ++ entries) o e fits
-
-    end : moved m t ≡ moved n entries
-    end = ap (moved m) e ∙ moved_append m lead entries
-
-    low : sequence_indent_at place ≤ n.col
-    low = subst (λ (c : ℕ). sequence_indent_at place ≤ c) (sym col) (sequence_least p place column lead lead_is)
-
-    far : f.indent ≤ n.col + 1
-    far = near f.indent (indent_at place) (sequence_indent_at place) n.col same (indent_near place) low
-      where
-        near : (i a s c : ℕ) → i ≡ a → a ≤ suc s → s ≤ c → i ≤ c + 1
-        near i a s c e h k = omega (arith, e, h, k)
-
-    wide : f.indent ≤ suc n.col
-    wide = to_next f.indent n.col far
-
-    behind_o : EndsNodeAt f.indent (moved n entries) o
-    behind_o = subst (λ (x : Marker). EndsNodeAt f.indent x o) end behind
-
-    ended : (further : Bool) → nat_le f.indent n.col ≡ further → (us vs : List Kind)
-        → grammar.YieldBlockEntries (MoreNodes node nodes) vs
-        → Arrived limit start (frame_behind further n.col f) (moved n entries) o ((us ++ sequence_start further) ++ vs)
+    -- the tokens of the entries, which end at z, as those of the sequence
+    ended : (n : Marker) → sequence_indent_at place ≤ n.col → (z : Marker)
+        → IsLeftOf f.indent (past 0 z o).0 (past 0 z o).1 → (further : Bool) → nat_le f.indent n.col ≡ further
+        → (us vs : List Kind) → grammar.YieldBlockEntries (MoreNodes node nodes) vs
+        → Arrived limit start (frame_behind further n.col f) z o ((us ++ sequence_start further) ++ vs)
         → (content : List Kind) × grammar.YieldsSequence (MoreNodes node nodes) (context_at place)
         (grammar.YieldFlowEntries (MoreNodes node nodes)) (grammar.YieldBlockEntries (MoreNodes node nodes)) content
-        × Arrived limit start f (moved n entries) o (us ++ content)
-    ended true k us vs are v = (
+        × Arrived limit start f z o (us ++ content)
+    ended n low z left true k us vs are v = (
       tokens.BlockSequenceStart ∷ (vs ++ tokens.BlockEnd ∷ []),
       inr (inl (place_allows_block place, (vs, are, refl))),
-      subst (Arrived limit start f (moved n entries) o) (new_list us vs tokens.BlockSequenceStart)
-          (collection_closes f n.col (past 0 (moved n entries) o) (leb-true f.indent n.col k) behind_o.left v),
+      subst (Arrived limit start f z o) (new_list us vs tokens.BlockSequenceStart)
+          (collection_closes f n.col (past 0 z o) (leb-true f.indent n.col k) left v),
     )
-    ended false k us vs are v = (
+    ended n low z left false k us vs are v = (
       vs,
       inr (inr (in_mapping place f.indent n.col same low k, tt, are)),
-      subst (λ (x : List Kind). Arrived limit start f (moved n entries) o (x ++ vs)) (append-nil us) v,
+      subst (λ (x : List Kind). Arrived limit start f z o (x ++ vs)) (append-nil us) v,
     )
-
-    by_column : (further : Bool) → nat_le f.indent n.col ≡ further
-        → NodeRead limit start (Seq p (MoreNodes node nodes)) place f (moved m t) o ts
-    by_column further k =
-        let l = reads_lead leaves p place (sequence_indent_at place) column f same m lead (entries ++ o) lead_is
-        (further_content entries o (entries_content (MoreNodes node nodes) column entries o h))
-        (fits_front m lead entries o whole) start ts
-        (subst (λ (x : List ℕ). Before limit start place f m x ts) text v) in
-        let r = reads_entries leaves node nodes reads more f n further k far entries o
-        (subst (λ (c : ℕ). AreEntries most_open (MoreNodes node nodes) c entries o) (sym col) h)
-        (fits_back m lead entries o whole)
-        (behind_wider f.indent (suc n.col) (moved n entries) o wide behind_o) start (ts ++ l.tokens) l.at l.none
-        l.allowed in
-        let c = ended further k (ts ++ l.tokens) r.tokens r.are r.arrived in
-        record {
-          tokens = l.tokens ++ c.0;
-          are = inr (l.tokens, c.0, l.are, c.1, refl);
-          arrived = arrived_so o end (append_assoc ts l.tokens c.0) c.2;
-        }
 
 -- ## Block mappings
 

@@ -30,6 +30,14 @@ frame_same : (further : Bool) (f : Frame) (col : ℕ) → nat_le f.indent col �
     → (frame_behind further col f).indent ≡ suc col
 frame_same further f col e far = frame_indent further f col e far ∙ suc_is col
 
+-- a key and a value
+paired : (key value : Node) (us vs others : List Kind)
+    → grammar.YieldsOptional key (grammar.YieldsNode key grammar.InBlockMapping) us
+    → grammar.YieldsOptional value (grammar.YieldsNode value grammar.InBlockMapping) vs
+    → grammar.YieldsBlockPair key value (grammar.YieldsNode key grammar.InBlockMapping)
+    (grammar.YieldsNode value grammar.InBlockMapping) others ((tokens.Key ∷ us) ++ (tokens.Value ∷ vs))
+paired key value us vs others k v = inl (tokens.Key ∷ us, tokens.Value ∷ vs, (us, k, refl), (vs, v, refl), refl)
+
 -- ## A key on one line
 
 key_text : (node w v z : List ℕ) → (node ++ (w ++ (58 ∷ v))) ++ z ≡ node ++ (w ++ (58 ∷ (v ++ z)))
@@ -64,18 +72,12 @@ reads_implicit {limit} leaves key value V f n further e far t z
     (further_right n node between line are) ahead fits_colon.below r.low in
     let s = V (BehindKey n.col) g (frame_same further f n.col e far) (along m 1) v z h
     (fits_back m (58 ∷ []) v z fits_colon)
-    (subst (λ (i : ℕ). EndsNodeAt i (moved (along m 1) v) z) (sym (frame_same further f n.col e far)) behind_v) start
+    (rw (frame_same further f n.col e far) behind_v) start
     (ts ++ (key_kinds further ++ (r.tokens ++ tokens.Value ∷ []))) b in
     record {
       tokens = (tokens.Key ∷ r.tokens) ++ (tokens.Value ∷ s.tokens);
-      are = λ others unvalued. inl (
-        tokens.Key ∷ r.tokens,
-        tokens.Value
-            ∷ s.tokens,
-        (r.tokens, inr r.node_are, refl),
-        (s.tokens, as_optional value (BehindKey n.col) s.tokens s.are, refl),
-        refl,
-      );
+      are = λ others unvalued. paired key value r.tokens s.tokens others (inr r.node_are)
+          (as_optional value (BehindKey n.col) s.tokens s.are);
       begins = λ others no. absurd no;
       arrived = arrived_so z end (implicit_list further ts r.tokens s.tokens) s.arrived;
     }
@@ -115,8 +117,7 @@ reads_alone {limit} leaves key value K f n further e far t z (node, out, some, h
     let b = reads_question f n (node ++ z) further e far (some_white node z some.0 ahead.white)
     (no_tab_ahead (node ++ z) some.1) whole.below p.0 p.1 in
     let r = K (BehindMark n.col) g (frame_same further f n.col e far) (along n 1) node z h
-    (fits_back n (63 ∷ []) node z whole)
-    (subst (λ (i : ℕ). EndsNodeAt i (moved (along n 1) node) z) (sym (frame_same further f n.col e far)) behind_k) start
+    (fits_back n (63 ∷ []) node z whole) (rw (frame_same further f n.col e far) behind_k) start
     (ts ++ key_kinds further) b in
     record {
       tokens = tokens.Key ∷ r.tokens;
@@ -162,8 +163,7 @@ reads_keyless {limit} leaves key value V f n further e far t z (v, out, h, is) f
     (at_colon, none, allowed) in
     let b = as_behind_key g n (v ++ z) (reads_value f n (v ++ z) further e far ahead whole.below p.0 p.1 p.2) in
     let s = V (BehindKey n.col) g (frame_same further f n.col e far) (along n 1) v z h (fits_back n (58 ∷ []) v z whole)
-    (subst (λ (i : ℕ). EndsNodeAt i (moved (along n 1) v) z) (sym (frame_same further f n.col e far)) behind_v) start
-    (ts ++ value_kinds further) b in
+    (rw (frame_same further f n.col e far) behind_v) start (ts ++ value_kinds further) b in
     record {
       tokens = tokens.Value ∷ s.tokens;
       are = grind (arith, as_optional);
@@ -223,8 +223,8 @@ reads_marked {limit} leaves key value K V f n further e far t z
     let p = subst (λ (x : List ℕ). (u : At limit start f n x ts) × (u.allowed ≡ true)) text (at_mark, allowed) in
     let b = reads_question f n (node ++ y) further e far (some_white node y some.0 ahead_k.white)
     (no_tab_ahead (node ++ y) some.1) (subst (λ (x : List ℕ). n.index + length x ≤ limit) text fits.below) p.0 p.1 in
-    let r = K (BehindMark n.col) g same (along n 1) node y h fits_key
-    (subst (λ (i : ℕ). EndsNodeAt i k y) (sym same) behind_k) start (ts ++ key_kinds further) b in
+    let r = K (BehindMark n.col) g same (along n 1) node y h fits_key (rw same behind_k) start (ts ++ key_kinds further)
+    b in
     let us = (ts ++ key_kinds further) ++ r.tokens in
     let there : past 0 k y ≡ (c, 58 ∷ (v ++ z)) = ap (past 0 k) y_is
     ∙ reaches k w 58 (v ++ z) (indentation_skipped n.col w indented) colon_content in
@@ -235,19 +235,13 @@ reads_marked {limit} leaves key value K V f n further e far t z
     (subst (λ (i : ℕ). IsBehindIndicator true (suc i) (v ++ z)) (sym col) ahead_v) fits_colon.below at_colon.at
     ready.0 ready.1 in
     let s = V (BehindMark n.col) g same (along c 1) v z j (fits_back c (58 ∷ []) v z fits_colon)
-    (subst (λ (i : ℕ). EndsNodeAt i (moved (along c 1) v) z) (sym same) behind_v) start (us ++ tokens.Value ∷ [])
+    (rw same behind_v) start (us ++ tokens.Value ∷ [])
     (subst (λ (i : ℕ). Before limit start (BehindMark i) g (along c 1) (v ++ z) (us ++ tokens.Value ∷ [])) col
     before_v) in
     record {
       tokens = (tokens.Key ∷ r.tokens) ++ (tokens.Value ∷ s.tokens);
-      are = λ others unvalued. inl (
-        tokens.Key ∷ r.tokens,
-        tokens.Value
-            ∷ s.tokens,
-        (r.tokens, as_optional key (BehindMark n.col) r.tokens r.are, refl),
-        (s.tokens, as_optional value (BehindMark n.col) s.tokens s.are, refl),
-        refl,
-      );
+      are = λ others unvalued. paired key value r.tokens s.tokens others
+          (as_optional key (BehindMark n.col) r.tokens r.are) (as_optional value (BehindMark n.col) s.tokens s.are);
       begins = λ others no. absurd no;
       arrived = arrived_so z end (marked_list further ts r.tokens s.tokens) s.arrived;
     }

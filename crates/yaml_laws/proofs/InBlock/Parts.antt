@@ -1,5 +1,5 @@
 -- The parts of a block collection are read, the entries of a sequence or the pairs of a mapping (YAML 1.2.2, 8.2).
-use Rattle.yaml_laws.proofs.Common.{Bool, List, [], ap, append-nil, append_assoc, arith, false, inl, inr, refl, subst, suc, sym, true, ℕ, ◌++◌, ◌+◌, ◌∙◌, ◌∷◌, ◌≡◌, ◌≤◌, ◌⊎◌, None, nat_le, ◌&&◌, ◌==◌, is_bom, is_document_indicator, Marker, State, Kind, IsEntryIndentation, is_value_ahead, next_not_within, clash}
+use Rattle.yaml_laws.proofs.Common.{Bool, List, [], ap, append-nil, append_assoc, arith, false, inl, inr, refl, subst, suc, sym, true, ℕ, ◌++◌, ◌+◌, ◌∙◌, ◌∷◌, ◌≡◌, ◌≤◌, ◌⊎◌, None, nat_le, ◌&&◌, ◌==◌, is_document_indicator, Marker, State, Kind, IsEntryIndentation, is_value_ahead, next_not_within, clash}
 use Rattle.saphyr_scanner.specs.Grammar.TokenGrammar as grammar
 use Rattle.yaml_laws.proofs.Flow.ContentStarts.{StartsContent}
 use Rattle.yaml_laws.proofs.Flow.Places.{moved_append, clear_here}
@@ -45,9 +45,7 @@ goes_on {n = n} {y = y} out v = grind arith
 -- a token that is no document marker, where the text has none at its line's start
 not_marker : (m : Marker) (c : ℕ) (cs : List ℕ) → ((m.col == 0) && is_document_indicator (c ∷ cs)) ≡ false
     → IsContentStart c → EndsDocument m (c ∷ cs) → ⊥
-not_marker m c cs h content (inl e) = cc
-not_marker m c cs h content (inr (col, inr k)) = clash (is_bom c) k content.byte_order_mark
-not_marker m c cs h content (inr (col, inl k)) = grind arith
+not_marker m c cs h content k = grind (arith, clash)
 
 -- a `:` ahead, after a line's end
 ahead_of_line : (n : Marker) (z : List ℕ) (column : ℕ) → AtLine z n → is_value_ahead false column n.col z ≡ true

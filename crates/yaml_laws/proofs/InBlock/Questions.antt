@@ -19,9 +19,7 @@ use Rattle.yaml_laws.proofs.InBlock.Entries.{BeginsWhite, frame_behind, steps_on
 -- ## `?`
 
 white_first : (o : List ℕ) → BeginsWhite o → is_blank_or_breakz (slice_index o 0) ≡ true
-white_first [] h = absurd h
-white_first (c ∷ cs) (inl e) = search
-white_first (c ∷ cs) (inr e) = rw e refl
+white_first o h = grind arith
 
 -- a space or a break
 no_tab_first : (c : ℕ) (cs : List ℕ) → IsTrue (is_blank c) ⊎ (c ≡ line_feed) → has_tab (c ∷ cs) ≡ false

@@ -232,7 +232,4 @@ sign_content style value indent t o h = grind (arith)
 -- a block scalar begins with its properties or with its header
 pub block_content : (p : Properties) (style : Style) (value : List ℕ) (indent : ℕ) (front t o : List ℕ)
     → IsScalarFront p indent front → IsStyled style value indent t o → StartsContent (front ++ t)
-block_content p style value indent front t o (inl (none, e)) h =
-    subst (λ (y : List ℕ). StartsContent (y ++ t)) (sym e) (sign_content style value indent t o h)
-block_content p style value indent front t o (inr (properties, between, is, spaced, e)) h =
-    grind (arith, properties_content)
+block_content p style value indent front t o k h = grind (arith, sign_content, properties_content)

@@ -37,9 +37,7 @@ unbroken_blanks (c ∷ cs) h = grind (arith, unbroken_blanks cs h.1)
 -- after the gap before a node is nothing that is left of it
 pub gap_reaches : (place : Position) (m : Marker) (gap : List ℕ) → IsGapAt place gap → IsPlaced place m
     → indent_at place ≤ (moved m gap).col
-gap_reaches place m gap (inl (some, are)) placed = grind (arith, unbroken_along, unbroken_blanks)
-gap_reaches place m gap (inr (inl h)) placed = next_line_reaches (indent_at place) m gap h
-gap_reaches place m gap (inr (inr (first, e))) placed = start_reaches place (moved m gap).col first
+gap_reaches place m gap h placed = grind (arith, unbroken_along, unbroken_blanks, next_line_reaches, start_reaches)
 
 pub none_late : (k : Option Candidate) (m : Marker) → k ≡ None → IsOnLineOrBefore k m
 none_late k m e = rw e tt

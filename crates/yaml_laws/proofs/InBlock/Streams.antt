@@ -72,14 +72,7 @@ mapped_as each f = search
 mapped_behind : {limit : ℕ} {start : State} {Follow Whole : List Kind → Type 0} (ts us : List Kind)
     → ((others : List Kind) → Follow others → Whole (us ++ others)) → FinishesStream limit start Follow (ts ++ us)
     → FinishesStream limit start Whole ts
-mapped_behind ts us each f = record {
-  last = f.last;
-  leads = f.leads;
-  over = f.over;
-  others = us ++ f.others;
-  follow = each f.others f.follow;
-  are = f.are ∙ append_assoc ts us f.others;
-}
+mapped_behind ts us each f = grind (arith, append_assoc)
 
 -- the documents are read, wherever they begin
 abbrev ReadsDocuments : ℕ → State → Forest → Type 0

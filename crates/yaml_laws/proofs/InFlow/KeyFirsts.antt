@@ -1,5 +1,5 @@
 -- A key on one line at block level begins a token, which keeps the key's place.
-use Rattle.yaml_laws.proofs.Common.{Bool, List, [], ap, append_assoc, arith, false, inl, inr, refl, sym, true, ℕ, ◌++◌, ◌∙◌, ◌∷◌, ◌≡◌, None, Option, Some, colon, Cursor, Context, Kind, Core, Candidate, Quote, Double, Single, mark, Alias, DoubleQuoted, Folded, Literal, Map, Node, Plain, Properties, Scalar, Seq, SingleQuoted, Style, Tag, AreFlowPairs, AreItems, IsBeforeContent, IsFlowNode, IsPlainKeyNode, IsScalarNode, IsFlowScalar}
+use Rattle.yaml_laws.proofs.Common.{List, [], ap, append_assoc, arith, false, inl, refl, sym, true, ℕ, ◌++◌, ◌∙◌, ◌∷◌, ◌≡◌, Option, Some, colon, Context, Kind, Quote, Double, Single, mark, Alias, DoubleQuoted, Folded, Literal, Map, Node, Plain, Properties, Scalar, Seq, SingleQuoted, Style, Tag, AreFlowPairs, AreItems, IsBeforeContent, IsFlowNode, IsPlainKeyNode, IsScalarNode, IsFlowScalar}
 use Rattle.saphyr_scanner.specs.declared.engine.level.Context.TheVariants as context
 use Rattle.saphyr_scanner.specs.Steps.Property as property
 use Rattle.saphyr_scanner.specs.Steps.Scalar as scalar
@@ -8,8 +8,8 @@ use Rattle.saphyr_scanner.specs.Steps.Flow.{open_collection}
 use Rattle.saphyr_scanner.specs.Steps.Fetch.{step}
 use Rattle.yaml_laws.specs.Grammar.FlowNodes as yaml
 use Rattle.yaml_laws.specs.Grammar.TagSpelling.{IsTag}
-use Rattle.yaml_laws.proofs.InFlow.States.{Around, core_at}
-use Rattle.yaml_laws.proofs.InFlow.KeyLines.{Fresh, requiring}
+use Rattle.yaml_laws.proofs.InFlow.States.{Around}
+use Rattle.yaml_laws.proofs.InFlow.KeyLines.{Fresh, requiring, KeepsPlace}
 use Rattle.yaml_laws.proofs.Flow.Names.{begins_anchor, begins_alias}
 use Rattle.yaml_laws.proofs.Flow.Plains.{BeginsWord, word_begins, key_begins, plain_dispatches}
 use Rattle.yaml_laws.proofs.Flow.Collections.{Brackets, AreBrackets, square, curly, are_square, are_curly}
@@ -17,38 +17,24 @@ use Rattle.yaml_laws.proofs.Flow.Collections.Runs.{whole_text, IsBracketText}
 
 -- ## The first token keeps the key's place
 
--- what a key keeps
-abbrev first_at : Around → Bool → Cursor → ℕ → ℕ → Core
-first_at around d s n ad =
-    core_at (requiring around d s.mark) d s context.Block (Some (record { mark = s.mark; place = n })) [] false ad
-
-name_fresh : (token_of : List ℕ → Kind) (around : Around) (d : Bool) (s : Cursor) (k : Option Candidate) (ad n : ℕ)
-    → property.name_steps token_of n (core_at around d s context.Block k [] true ad)
-    ≡ property.name_steps token_of n (first_at around d s n ad)
+name_fresh : (token_of : List ℕ → Kind) (around : Around) → KeepsPlace around (property.name_steps token_of)
 unfolding property.name_steps
 name_fresh token_of around d s k ad n = refl
 
-tag_fresh : (around : Around) (d : Bool) (s : Cursor) (k : Option Candidate) (ad n second : ℕ)
-    → step 33 second n (core_at around d s context.Block k [] true ad) ≡ step 33 second n (first_at around d s n ad)
+tag_fresh : (around : Around) (second : ℕ) → KeepsPlace around (step 33 second)
 unfolding step property.tag_steps
-tag_fresh around d s k ad n second = refl
+tag_fresh around second d s k ad n = refl
 
-quoted_fresh : (quote : Quote) (around : Around) (d : Bool) (s : Cursor) (k : Option Candidate) (ad n second : ℕ)
-    → step (mark quote) second n (core_at around d s context.Block k [] true ad)
-    ≡ step (mark quote) second n (first_at around d s n ad)
+quoted_fresh : (quote : Quote) (around : Around) (second : ℕ) → KeepsPlace around (step (mark quote) second)
 unfolding step scalar.quoted_steps
-quoted_fresh Single around d s k ad n second = refl
-quoted_fresh Double around d s k ad n second = refl
+quoted_fresh Single around second d s k ad n = refl
+quoted_fresh Double around second d s k ad n = refl
 
-plain_fresh : (around : Around) (d : Bool) (s : Cursor) (k : Option Candidate) (ad n : ℕ)
-    → scalar.plain_steps n (core_at around d s context.Block k [] true ad)
-    ≡ scalar.plain_steps n (first_at around d s n ad)
+plain_fresh : (around : Around) → KeepsPlace around scalar.plain_steps
 unfolding scalar.plain_steps
 plain_fresh around d s k ad n = refl
 
-start_fresh : (y : Context) (kind : Kind) (around : Around) (d : Bool) (s : Cursor) (k : Option Candidate) (ad n : ℕ)
-    → flow.opening_steps y kind n (core_at around d s context.Block k [] true ad)
-    ≡ flow.opening_steps y kind n (first_at around d s n ad)
+start_fresh : (y : Context) (kind : Kind) (around : Around) → KeepsPlace around (flow.opening_steps y kind)
 unfolding flow.opening_steps open_collection
 start_fresh y kind around d s k ad n = refl
 
@@ -66,15 +52,7 @@ fresh_tag around tag t o h = grind (arith, tag_fresh)
 
 fresh_properties : (around : Around) (indent : ℕ) (anchor : Option (List ℕ)) (tag : Option Tag) (t o : List ℕ)
     → yaml.AreProperties anchor tag indent t → Fresh around (t ++ o)
-fresh_properties around indent None None t o h = absurd h
-fresh_properties around indent (Some name) None t o h = fresh_anchor around name t o h
-fresh_properties around indent None (Some tag) t o h = fresh_tag around tag t o h
-fresh_properties around indent (Some name) (Some tag) t o (a, s, c, h, g, spaced, inl is) =
-    fresh_so around (t ++ o) (a ++ ((s ++ c) ++ o)) (cc (append_assoc a (s ++ c) o))
-    (fresh_anchor around name a ((s ++ c) ++ o) h)
-fresh_properties around indent (Some name) (Some tag) t o (c, s, a, h, g, spaced, inr is) =
-    fresh_so around (t ++ o) (a ++ ((s ++ c) ++ o)) (cc (append_assoc a (s ++ c) o))
-    (fresh_tag around tag a ((s ++ c) ++ o) g)
+fresh_properties around indent anchor tag t o h = grind (arith, fresh_anchor, fresh_tag, fresh_so, append_assoc)
 
 fresh_word : (around : Around) (t o : List ℕ) → BeginsWord false t o → Fresh around (t ++ o)
 fresh_word around t o w = λ d s k ad n. plain_dispatches around d s n t o context.Block w k [] true ad (inl refl)
@@ -86,10 +64,10 @@ fresh_content : (around : Around) (indent : ℕ) (style : Style) (value t o : Li
 fresh_content around indent Plain value t o h = fresh_word around t o (word_begins false indent t o h.0)
 fresh_content around indent SingleQuoted value t o h =
     fresh_so around (t ++ o) (39 ∷ (h.0 ++ o)) (ap (λ (x : List ℕ). x ++ o) h.5)
-    (λ d s k ad n. quoted_fresh Single around d s k ad n _)
+    (quoted_fresh Single around _)
 fresh_content around indent DoubleQuoted value t o h =
     fresh_so around (t ++ o) (34 ∷ (h.0 ++ o)) (ap (λ (x : List ℕ). x ++ o) h.5)
-    (λ d s k ad n. quoted_fresh Double around d s k ad n _)
+    (quoted_fresh Double around _)
 fresh_content around indent Literal value t o h = absurd h
 fresh_content around indent Folded value t o h = absurd h
 
@@ -98,19 +76,12 @@ fresh_bracket around b are o d s k ad n = grind (arith, start_fresh)
 
 fresh_front : (around : Around) (indent : ℕ) (p : Properties) (front t : List ℕ) → IsBeforeContent p indent front
     → Fresh around t → Fresh around (front ++ t)
-fresh_front around indent p front t (inl (none, is)) h =
-    fresh_so around (front ++ t) t (ap (λ (x : List ℕ). x ++ t) is) h
-fresh_front around indent p front t (inr (written, separation, g, some, parts, is)) h =
-    fresh_so around (front ++ t) (written ++ (separation ++ t)) (cc (append_assoc written separation t))
-    (fresh_properties around indent p.anchor p.tag written (separation ++ t) g)
+fresh_front around indent p front t k h = grind (arith, fresh_so, append_assoc, fresh_properties)
 
 scalar_fresh : (around : Around) (indent : ℕ) (p : Properties) (style : Style) (value t o : List ℕ)
     → IsScalarNode p style value false indent t → Fresh around (t ++ o)
-scalar_fresh around indent p style value t o (inl (plain, empty, h)) =
-    fresh_properties around indent p.anchor p.tag t o h
-scalar_fresh around indent p style value t o (inr (front, content, before, g, e)) =
-    fresh_so around (t ++ o) (front ++ (content ++ o)) (cc (append_assoc front content o))
-    (fresh_front around indent p front (content ++ o) before (fresh_content around indent style value content o g))
+scalar_fresh around indent p style value t o h =
+    grind (arith, fresh_properties, append_assoc, fresh_front, fresh_content)
 
 pub plain_key_fresh : (around : Around) (indent : ℕ) (node : Node) (t r : List ℕ) → IsPlainKeyNode node false indent t
     → Fresh around (t ++ (colon ∷ r))

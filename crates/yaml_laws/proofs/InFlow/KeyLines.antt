@@ -1,5 +1,5 @@
 -- Tokens on the line of a key at block level: the scanner keeps the place where the key begins.
-use Rattle.yaml_laws.proofs.Common.{Bool, List, Ok, [], ap, arith, false, length, refl, slice_index, suc, true, ℕ, ◌++◌, ◌+◌, ◌∙◌, ◌∷◌, ◌≡◌, ◌≤◌, None, Option, Some, nat_le, nat_lt, not, ◌&&◌, ◌-◌, ◌==◌, nat_tests, is_blank, Marker, Cursor, along, ◌>>=◌, AreIn, Kind, GapEnd, end_of_gap, stop, Place, Candidate, Level, State, after_step, on_core, LeadsTo, onward, stay, cursor_at, le_next, no_return, le-leb, queue_of, token_place}
+use Rattle.yaml_laws.proofs.Common.{Bool, List, Ok, [], ap, arith, false, length, refl, slice_index, suc, true, ℕ, ◌++◌, ◌+◌, ◌∙◌, ◌∷◌, ◌≡◌, ◌≤◌, None, Option, Some, nat_le, nat_lt, not, ◌&&◌, ◌-◌, ◌==◌, nat_tests, is_blank, Marker, Cursor, along, ◌>>=◌, AreIn, Kind, GapEnd, end_of_gap, stop, Place, Candidate, Level, State, after_step, on_core, LeadsTo, onward, stay, cursor_at, le_next, no_return, le-leb, queue_of, token_place, Core, StepResult}
 use Rattle.std.proofs.Math.Nat.{zero-add}
 use Rattle.saphyr_scanner.specs.declared.engine.level.Context.TheVariants as context
 use Rattle.saphyr_scanner.specs.Steps.Gap.{gap_here}
@@ -139,12 +139,15 @@ still_least : (around : Around) (d : Bool) (m : Marker) → around.column ≤ m.
     → nat_lt m.col (least around.column (deeper_at around d m)) ≡ false
 still_least around d m h = grind arith
 
+-- A step gives the same where a key may begin and where that key is kept already.
+abbrev pub KeepsPlace : Around → (ℕ → Core → StepResult) → Type 0
+KeepsPlace around does = (d : Bool) (s : Cursor) (k : Option Candidate) (ad n : ℕ)
+    → does n (core_at around d s context.Block k [] true ad) ≡ does n (core_at (requiring around d s.mark) d s
+    context.Block (Some (record { mark = s.mark; place = n })) [] false ad)
+
 -- the step at the first token of a key keeps the key's place
 abbrev pub Fresh : Around → List ℕ → Type 0
-Fresh around t = (d : Bool) (s : Cursor) (k : Option Candidate) (ad n : ℕ)
-    → step (slice_index t 0) (slice_index t 1) n (core_at around d s context.Block k [] true ad)
-    ≡ step (slice_index t 0) (slice_index t 1) n
-    (core_at (requiring around d s.mark) d s context.Block (Some (record { mark = s.mark; place = n })) [] false ad)
+Fresh around t = KeepsPlace around (step (slice_index t 0) (slice_index t 1))
 
 -- the first token of a key
 pub first_ready : (around : Around) → around.pending ≡ false

@@ -7,8 +7,8 @@ use Rattle.saphyr_scanner.specs.Steps.Scalar.{goes_on_behind_quotes, quote_style
 use Rattle.yaml_laws.proofs.InFlow.States.{Around, core_at, reach, in_column, behind_key, not_more}
 use Rattle.yaml_laws.proofs.InFlow.Tabs.{tabs_behind}
 use Rattle.yaml_laws.proofs.InFlow.OnLine.{separation_of_blanks, plain_lowers, plain_key_lowers}
-use Rattle.yaml_laws.proofs.InFlow.KeyLines.{Ready, token_led, content_gap}
-use Rattle.yaml_laws.proofs.InFlow.KeyTokens.{InKey, in_near, in_back, in_right, in_limit, in_so, TokensAlong}
+use Rattle.yaml_laws.proofs.InFlow.KeyLines.{Ready, content_gap}
+use Rattle.yaml_laws.proofs.InFlow.KeyTokens.{InKey, in_near, in_back, in_right, in_limit, in_so, TokensAlong, token_along, mapped_along}
 use Rattle.yaml_laws.proofs.Flow.States.{moved, past, crosses, ReaderPromises, IsClear}
 use Rattle.yaml_laws.proofs.Flow.Places.{moved_index, clear_front}
 use Rattle.yaml_laws.proofs.Flow.GapSteps.{past_content}
@@ -118,27 +118,10 @@ plain_along reads around value t n r stands begins plain white start k qs e ad t
     ∙ ap (λ (q : Option Marker). completed_step (from_to e end kind ∷ [])
     (record (core_at around false there context.Block (Some k) [] false ad) { comment = q }))
     (no_comment (is_tabbed around.column o) (colon_after e t n) r) in
-    let led = token_led around start k (t ++ o) e ad qs ready end kind there ad (λ d. false) stepped
-    (in_near k (colon_after e t n) [] (58 ∷ r) last) (in_limit k (colon_after e t n) [] (58 ∷ r) last) in
-    record {
-      tokens = kind ∷ [];
-      are = ap (λ (v : List ℕ). scalar_token Plain v ∷ []) (sym stands);
-      along = record {
-        deeper = false;
-        there = there;
-        adjacent = ad;
-        white = [];
-        are_white = tt;
-        rest = refl;
-        mark = refl;
-        right = right_behind_key around.indent end n right;
-        piece = record { span = record { start = e; end = end }; kind = kind };
-        others = [];
-        leads = led;
-        are = refl;
-        low = index_behind e t n ad low;
-      };
-    }
+    mapped_along (λ ts h. h ∙ ap (λ (v : List ℕ). scalar_token Plain v ∷ []) (sym stands)) (token_along (t ++ o) e ad
+    ready end kind there ad (λ d. false) stepped (in_near k (colon_after e t n) [] (58 ∷ r) last)
+    (in_limit k (colon_after e t n) [] (58 ∷ r) last) [] tt refl refl (right_behind_key around.indent end n right)
+    (index_behind e t n ad low))
 
 -- ## Quoted scalars
 
@@ -202,27 +185,9 @@ quotes_along reads around quote value t n r h start k qs e ad text low ready =
     (no_quote n.text r n.are) context.Block (Some k) [] false ad (slice_index (t ++ o) 0) first (behind_key refl refl)
     ∙ behind_step around ready.deeper e (quote_style quote) (encode_utf8_all value)
     (mid_line end o) context.Block (Some k) [] ad m (58 ∷ r) ends.ends g in
-    let led = token_led around start k (t ++ o) e ad qs ready shut.mark kind (cursor_at (58 ∷ r) m shut.blank_so_far)
-    m.index (λ d. d) stepped (in_near k m [] (58 ∷ r) last) (in_limit k m [] (58 ∷ r) last) in
-    record {
-      tokens = kind ∷ [];
-      are = refl;
-      along = record {
-        deeper = ready.deeper;
-        there = cursor_at (58 ∷ r) m shut.blank_so_far;
-        adjacent = m.index;
-        white = [];
-        are_white = tt;
-        rest = refl;
-        mark = refl;
-        right = right_behind_key around.indent end n right;
-        piece = record { span = record { start = e; end = shut.mark }; kind = kind };
-        others = [];
-        leads = led;
-        are = refl;
-        low = not_more m.index;
-      };
-    }
+    token_along (t ++ o) e ad ready shut.mark kind (cursor_at (58 ∷ r) m shut.blank_so_far) m.index (λ d. d) stepped
+    (in_near k m [] (58 ∷ r) last) (in_limit k m [] (58 ∷ r) last) [] tt refl refl
+    (right_behind_key around.indent end n right) (not_more m.index)
 
 -- ## Both
 

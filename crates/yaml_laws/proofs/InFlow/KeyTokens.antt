@@ -169,6 +169,37 @@ ReadsToken around k Is kind = ReadsPart around k Is (λ ts. ts ≡ kind ∷ [])
 
 -- ## Names and tags
 
+-- The scanner has read a token of a key by a step. After it y is at m, behind blanks that are not passed yet.
+pub token_along : {around : Around} {start : State} {k : Candidate} {qs : List Place} {m : Marker} {y : List ℕ}
+    (t : List ℕ) (e : Marker) (ad : ℕ) (r : Ready around start k t e ad qs) (end : Marker) (kind : Kind) (there : Cursor)
+    (adjacent : ℕ) (to : Bool → Bool) → step (slice_index t 0) (slice_index t 1) (length qs)
+    (core_at around r.deeper (cursor_at t e r.blank) context.Block (Some k) [] false ad)
+    ≡ completed_step (from_to e end kind ∷ [])
+    (core_at around (to r.deeper) there context.Block (Some k) [] false adjacent)
+    → IsNear k there.mark → there.mark.index ≤ around.limit → (white : List ℕ) → AreIn is_blank white
+    → there.rest ≡ white ++ y → moved there.mark white ≡ m → around.indent ≤ there.mark.col → adjacent ≤ m.index
+    → TokensAlong around start k qs (λ ts. ts ≡ kind ∷ []) m y
+token_along {around} {start} {k} {qs} t e ad r end kind there adjacent to is near below white are rest mark right low =
+    record {
+      tokens = kind ∷ [];
+      are = refl;
+      along = record {
+        deeper = to r.deeper;
+        there = there;
+        adjacent = adjacent;
+        white = white;
+        are_white = are;
+        rest = rest;
+        mark = mark;
+        right = right;
+        piece = record { span = record { start = e; end = end }; kind = kind };
+        others = [];
+        leads = token_led around start k t e ad qs r end kind there adjacent to is near below;
+        are = refl;
+        low = low;
+      };
+    }
+
 -- a token that ends where its text does
 ends_there : {around : Around} {start : State} {k : Candidate} {qs : List Place} (e : Marker) (p b behind w y : List ℕ)
     (ad : ℕ) (kind : Kind) → Begins p → InKey around k e (p ++ b) behind → b ++ behind ≡ w ++ y
@@ -182,26 +213,9 @@ ends_there {around} {start} {k} {qs} e p b behind w y ad kind begins h is are lo
     let end = moved e p in
     let inside = in_back k e p b behind h in
     let one = moved_index e p in
-    record {
-      tokens = kind ∷ [];
-      are = refl;
-      along = record {
-        deeper = r.deeper;
-        there = mid_line end (b ++ behind);
-        adjacent = ad;
-        white = w;
-        are_white = are;
-        rest = is;
-        mark = refl;
-        right = in_right k e p b behind begins h;
-        piece = record { span = record { start = e; end = end }; kind = kind };
-        others = [];
-        leads = token_led around start k (p ++ (b ++ behind)) e ad qs r end kind (mid_line end (b ++ behind)) ad
-            (λ d. d) stepped (in_near k end b behind inside) (in_limit k end b behind inside);
-        are = refl;
-        low = omega (arith, one, moved_index end w, low);
-      };
-    }
+    token_along (p ++ (b ++ behind)) e ad r end kind (mid_line end (b ++ behind)) ad (λ d. d) stepped
+    (in_near k end b behind inside) (in_limit k end b behind inside) w are is refl (in_right k e p b behind begins h)
+    (omega (arith, one, moved_index end w, low))
 
 name_along : ReaderPromises → (around : Around) (k : Candidate) (token_of : List ℕ → Kind) (indicator : ℕ)
     (name : List ℕ) → ((second n : ℕ) (c : Core) → step indicator second n c ≡ property.name_steps token_of n c)

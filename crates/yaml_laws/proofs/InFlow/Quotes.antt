@@ -1,5 +1,5 @@
 -- A quoted scalar ends right of a column that its lines reach.
-use Rattle.yaml_laws.proofs.Common.{Bool, IsTrue, List, [], ap, arith, drop, false, inl, inr, refl, slice_index, suc, true, ℕ, ◌++◌, ◌+◌, ◌∷◌, ◌≡◌, ◌≤◌, ◌⊎◌, not, ◌==◌, false≢true, nat_tests, carriage_return, is_break, is_hex, line_feed, space, Marker, Quote, Double, Single, along, next_line, apostrophe, backslash, break_len, AreIn, le_next, back_in}
+use Rattle.yaml_laws.proofs.Common.{Bool, IsTrue, List, [], ap, arith, drop, false, inl, refl, slice_index, true, ℕ, ◌++◌, ◌+◌, ◌∷◌, ◌≡◌, ◌≤◌, ◌⊎◌, not, ◌==◌, false≢true, nat_tests, carriage_return, is_break, is_hex, line_feed, space, Marker, Quote, Double, Single, along, next_line, apostrophe, backslash, break_len, AreIn, le_next, back_in}
 use Rattle.scalar_laws.proofs.Breaks.Sides.{no_feed}
 use Rattle.saphyr_scalar.proofs.Readings.ItemsRead.{short_escape_no_feed}
 use Rattle.saphyr_scalar.specs.declared.values.Item.{Item}
@@ -23,9 +23,7 @@ right_reaches : (column : ℕ) (m : Marker) (t : List ℕ) → column ≤ m.col 
 right_reaches column m t h = inl (let n = space_count t in omega (arith, h))
 
 on_space : (column : ℕ) (m : Marker) (t : List ℕ) → Reaches column m (space ∷ t) → Reaches column (along m 1) t
-on_space column m t (inl h) = grind arith
-on_space column m t (inr h) =
-    let one : 1 + space_count t ≡ suc (space_count t) = omega arith in inr (rw one at h)
+on_space column m t h = grind (arith, space_count)
 
 feed_first : (t : List ℕ) → IsTrue (is_break (slice_index t 0)) → AreIn (λ c. not (c == carriage_return)) t
     → (cs : List ℕ) × (t ≡ line_feed ∷ cs)

@@ -1,9 +1,8 @@
 -- States of a scanner that reads a node in flow style, whatever block collections are open around it.
 use Rattle.yaml_laws.proofs.Common.{Bool, List, Ok, [], ap, arith, cond, false, length, refl, true, ℕ, ◌++◌, ◌<◌, ◌∙◌, ◌∷◌, ◌≡◌, ◌≤◌, ◌⊎◌, None, Option, Some, if◌then◌else◌, nat_lt, not, ◌&&◌, ◌-◌, ◌||◌, SkipTabs, Yes, Marker, Cursor, along, separation, ◌>>=◌, Context, Kind, Place, Candidate, Level, is_block, State, on_core, most_open, LeadsTo, leads_on, onward, stay, cursor_at, le-leb, level_of, saved, queue_of}
-use Rattle.saphyr_scanner.specs.declared.engine.level.Context.TheVariants as context
 use Rattle.saphyr_scanner.specs.Steps.Core.{Core, is_too_far, drop_far_key, save_key, from_to, completed_step}
 use Rattle.saphyr_scanner.specs.Steps.Flow as flow
-use Rattle.saphyr_scanner.specs.Steps.Flow.{open_collection, close_collection, allow_adjacent, behind_pair}
+use Rattle.saphyr_scanner.specs.Steps.Flow.{open_collection, close_collection, behind_pair}
 use Rattle.saphyr_scanner.specs.Steps.Unrolling.{end_blocks, unroll}
 use Rattle.saphyr_scanner.specs.Steps.Fetch.{fetch, check_limit, fetch_within}
 
@@ -144,12 +143,7 @@ pub drops_far_key : (around : Around) (comment : Option Marker) (d : Bool) (s : 
     → drop_far_key (noted_core comment (core_at around d s x k ls a ad))
     ≡ Ok (noted_core comment (core_at around d s x (key_left x k s.mark) ls a ad))
 unfolding drop_far_key
-drops_far_key around comment d s context.Block k ls a ad calm = grind arith
-drops_far_key around comment d s context.FlowSequence k ls a ad calm = refl
-drops_far_key around comment d s context.FlowMapping k ls a ad calm = refl
-drops_far_key around comment d s context.FlowPair k ls a ad calm = refl
-drops_far_key around comment d s context.ExplicitFlowPair k ls a ad calm = refl
-drops_far_key around comment d s context.MarkedFlowPair k ls a ad calm = refl
+drops_far_key around comment d s x k ls a ad calm = grind arith
 
 pub left_or_none : (x : Context) (k : Option Candidate) (m : Marker) → (key_left x k m ≡ None) ⊎ (key_left x k m ≡ k)
 left_or_none x k m = grind (arith)
@@ -168,12 +162,7 @@ pub none_unrolls : (around : Around) (col : ℕ) (m : Marker) (s : Cursor) (x : 
     (ls : List Level) (a : Bool) (ad : ℕ) (ps : List Place) (d : Bool) → around.indent ≤ col
     → unroll (Some col) m (state_at around (moment s x k ls a ad ps) d) ≡ state_at around (moment s x k ls a ad ps) d
 unfolding unroll
-none_unrolls around col m s context.Block k ls a ad ps d h = grind (arith, no_ends)
-none_unrolls around col m s context.FlowSequence k ls a ad ps d h = refl
-none_unrolls around col m s context.FlowMapping k ls a ad ps d h = refl
-none_unrolls around col m s context.FlowPair k ls a ad ps d h = refl
-none_unrolls around col m s context.ExplicitFlowPair k ls a ad ps d h = refl
-none_unrolls around col m s context.MarkedFlowPair k ls a ad ps d h = refl
+none_unrolls around col m s x k ls a ad ps d h = grind (arith, no_ends)
 
 -- ## Steps
 

@@ -1,5 +1,5 @@
 -- What a piece of a text becomes where the text's breaks are normalized.
-use Rattle.yaml_laws.proofs.Common.{List, [], append_assoc, arith, false, inl, inr, refl, true, ℕ, ◌++◌, ◌∷◌, ◌≡◌, ◌==◌, nat_tests, normal_break, normalized, AreIn}
+use Rattle.yaml_laws.proofs.Common.{List, [], append_assoc, arith, false, refl, true, ℕ, ◌++◌, ◌∷◌, ◌≡◌, ◌==◌, nat_tests, normal_break, normalized, AreIn}
 use Rattle.yaml_laws.specs.Grammar.Json.{IsWhite, IsWhiteSpace}
 use Rattle.yaml_laws.proofs.Json.White.{is_white}
 use Rattle.yaml_laws.proofs.Json.Calm.{is_no_break}
@@ -40,10 +40,7 @@ stays t x h p = record { text = t; normal = stays_normal t x h; holds = p }
 -- ## White space stays white space
 
 white_break : (c : ℕ) (others : List ℕ) → IsWhite c → AreIn is_white (normal_break c others)
-white_break c others (inl e) = rw e (refl, tt)
-white_break c others (inr (inl e)) = rw e (refl, tt)
-white_break c others (inr (inr (inl e))) = rw e (refl, tt)
-white_break c others (inr (inr (inr e))) = grind arith
+white_break c others h = grind arith
 
 pub white_both : (a b : List ℕ) → AreIn is_white a → AreIn is_white b → AreIn is_white (a ++ b)
 white_both [] b h k = k

@@ -1,5 +1,5 @@
 -- The escapes of JSON's strings are escapes of double quoted scalars.
-use Rattle.yaml_laws.proofs.Common.{IsTrue, List, arith, inl, inr, refl, ℕ, ◌*◌, ◌+◌, ◌<◌, ◌≡◌, ◌≤◌, Some, nat_tests, IsHex, hex_value, is_hex}
+use Rattle.yaml_laws.proofs.Common.{IsTrue, List, arith, refl, ℕ, ◌*◌, ◌+◌, ◌<◌, ◌≡◌, ◌≤◌, Some, nat_tests, IsHex, hex_value, is_hex}
 use Rattle.saphyr_scalar.specs.Values.Escapes.{is_scalar_value, short_escape}
 use Rattle.saphyr_scalar.specs.Spelling.OneLine as spelling
 use Rattle.saphyr_scanner.specs.Grammar.Characters.{IsSurrogate}
@@ -7,14 +7,7 @@ use Rattle.yaml_laws.specs.Grammar.Json.{IsJsonEscape, IsCode}
 
 pub short_fits : (letter c : ℕ) → IsJsonEscape letter c → short_escape letter ≡ Some c
 unfolding short_escape
-short_fits letter c (inl h) = rw (h.0, h.1) refl
-short_fits letter c (inr (inl h)) = rw (h.0, h.1) refl
-short_fits letter c (inr (inr (inl h))) = rw (h.0, h.1) refl
-short_fits letter c (inr (inr (inr (inl h)))) = rw (h.0, h.1) refl
-short_fits letter c (inr (inr (inr (inr (inl h))))) = rw (h.0, h.1) refl
-short_fits letter c (inr (inr (inr (inr (inr (inl h)))))) = rw (h.0, h.1) refl
-short_fits letter c (inr (inr (inr (inr (inr (inr (inl h))))))) = rw (h.0, h.1) refl
-short_fits letter c (inr (inr (inr (inr (inr (inr (inr h))))))) = rw (h.0, h.1) refl
+short_fits letter c h = grind arith
 
 hex_fits : (d : ℕ) → IsHex d → IsTrue (is_hex d)
 hex_fits d h = grind (arith, nat_tests)

@@ -214,16 +214,10 @@ behind_three : (a b c d t : List ℕ) → t ≡ a ++ (b ++ c) → t ++ d ≡ a +
 behind_three a b c d t e = cc (part_text a b c d)
 
 behind_four : (a b c d f t : List ℕ) → t ≡ a ++ (b ++ (c ++ d)) → t ++ f ≡ a ++ (b ++ (c ++ (d ++ f)))
-behind_four a b c d f t e = cc (regrouped a b c d f)
-  where
-    regrouped : (a b c d f : List ℕ) → (a ++ (b ++ (c ++ d))) ++ f ≡ a ++ (b ++ (c ++ (d ++ f)))
-    regrouped a b c d f = simp append_assoc
+behind_four a b c d f t e = grind (arith, append_assoc)
 
 behind_five : (a b c d f g t : List ℕ) → t ≡ a ++ (b ++ (c ++ (d ++ f))) → t ++ g ≡ a ++ (b ++ (c ++ (d ++ (f ++ g))))
-behind_five a b c d f g t e = cc (regrouped a b c d f g)
-  where
-    regrouped : (a b c d f g : List ℕ) → (a ++ (b ++ (c ++ (d ++ f)))) ++ g ≡ a ++ (b ++ (c ++ (d ++ (f ++ g))))
-    regrouped a b c d f g = simp append_assoc
+behind_five a b c d f g t e = grind (arith, append_assoc)
 
 mutual
   pub value_becomes : (room : ℕ) (node : Node) (in_flow : Bool) (t x : List ℕ) → IsValue node t

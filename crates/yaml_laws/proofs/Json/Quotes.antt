@@ -79,14 +79,7 @@ hex_no_break : (d : ℕ) → IsHex d → is_no_break d ≡ true
 hex_no_break d h = grind (arith, nat_tests)
 
 letter_no_break : (letter c : ℕ) → IsJsonEscape letter c → is_no_break letter ≡ true
-letter_no_break letter c (inl h) = rw h.0 refl
-letter_no_break letter c (inr (inl h)) = rw h.0 refl
-letter_no_break letter c (inr (inr (inl h))) = rw h.0 refl
-letter_no_break letter c (inr (inr (inr (inl h)))) = rw h.0 refl
-letter_no_break letter c (inr (inr (inr (inr (inl h))))) = rw h.0 refl
-letter_no_break letter c (inr (inr (inr (inr (inr (inl h)))))) = rw h.0 refl
-letter_no_break letter c (inr (inr (inr (inr (inr (inr (inl h))))))) = rw h.0 refl
-letter_no_break letter c (inr (inr (inr (inr (inr (inr (inr h))))))) = rw h.0 refl
+letter_no_break letter c h = grind arith
 
 one_no_break : (c : ℕ) (t : List ℕ) → IsJsonSpelling c t → AreIn is_no_break t
 one_no_break c t (inl h) = grind arith

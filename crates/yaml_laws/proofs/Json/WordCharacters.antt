@@ -40,10 +40,7 @@ number_safe t h =
 
 -- each character of a word goes on with a plain scalar, whatever follows it
 pub word_safe : (t : List ℕ) → IsWord t → AreIn is_always_plain t
-word_safe t (inl e) = rw e (refl, (refl, (refl, (refl, tt))))
-word_safe t (inr (inl e)) = rw e (refl, (refl, (refl, (refl, (refl, tt)))))
-word_safe t (inr (inr (inl e))) = rw e (refl, (refl, (refl, (refl, tt))))
-word_safe t (inr (inr (inr h))) = number_safe t h
+word_safe t h = grind (arith, number_safe)
 
 -- ## A word's first character
 
@@ -62,7 +59,4 @@ number_begins : (t : List ℕ) → IsJsonNumber t → BeginsWord t
 number_begins t h = grind arith
 
 pub word_begins : (t : List ℕ) → IsWord t → BeginsWord t
-word_begins t (inl e) = grind arith
-word_begins t (inr (inl e)) = grind arith
-word_begins t (inr (inr (inl e))) = grind arith
-word_begins t (inr (inr (inr h))) = number_begins t h
+word_begins t h = grind (arith, number_begins)

@@ -44,10 +44,7 @@ marked_lands filler c cs o filler_is e stops ends m line =
 -- after filler a document marker or a byte order mark begins a line
 marked_follows : (filler : List ℕ) (c : ℕ) (cs o : List ℕ) → IsFiller filler → o ≡ filler ++ (c ∷ cs)
     → IsStop (c ∷ cs) → EndsContent (c ∷ cs) → FollowsDocument o
-marked_follows filler c cs o filler_is e stops ends = record {
-  clean = marked_clean filler c cs o filler_is e stops;
-  lands = marked_lands filler c cs o filler_is e stops ends;
-}
+marked_follows filler c cs o filler_is e stops ends = search (marked_clean, marked_lands)
 
 last_clean : (o : List ℕ) → IsLastFiller o → IsClean o
 last_clean o (filler, text, filler_is, (front, comment, are, k, text_is), is) =
@@ -82,11 +79,13 @@ marks_first Others o (marks, others, (piece ∷ pieces, ((filler, filler_is, is)
 pub explicit_first : {limit : ℕ} → ReadsLeaves limit → (node : Node) (t others : List ℕ)
     → IsBlockNode most_open node BehindMarker t others → FollowsDocument others
     → is_blank_or_breakz (slice_index (t ++ others) 0) ≡ true
-explicit_first leaves node t others h follows = let b = node_behind leaves node BehindMarker t others refl h follows.clean in b.first
+explicit_first leaves node t others h follows =
+    let b = node_behind leaves node BehindMarker t others refl h follows.clean in b.first
 
 -- Filler alone, a document marker or a byte order mark comes after a document. What is known of a `---` needs what is
 -- known after its own document, so this goes by recursion over the documents.
-follows_first : {limit : ℕ} → ReadsLeaves limit → (ds : Forest) (o : List ℕ) → yaml.IsBehindMarks (AreBlockDocuments ds) o
+follows_first : {limit : ℕ} → ReadsLeaves limit → (ds : Forest) (o : List ℕ)
+    → yaml.IsBehindMarks (AreBlockDocuments ds) o
     ⊎ ((filler rest : List ℕ) × IsFiller filler × (o ≡ filler ++ (byte_order_mark ∷ rest))) → FollowsDocument o
 follows_first leaves [] o (inl (inl h)) =
     record { clean = last_clean o h; lands = λ m line. inl (cc (last_filler_past 0 m o h)) }

@@ -75,7 +75,8 @@ unfolding fetch
 flat m y blank key a ad deeper ps stop near ends =
     let arrived = λ (d : Bool). ap (λ r. r >>= fetch_here) (arrives_at root m y blank key a ad d ps stop near)
     ∙ ap fetch_here (stays_open root false m y blank key a ad d ps (omega arith)) in
-    arrived deeper ∙ flat_here (moment_at m y blank key a ad (deeper && nat_le 0 m.col)) ps refl ends ∙ sym (arrived false)
+    arrived deeper ∙ flat_here (moment_at m y blank key a ad (deeper && nat_le 0 m.col)) ps refl ends
+    ∙ sym (arrived false)
 
 -- at the root no tab is left of what is enclosed
 untabbed : (m : Marker) (blank : Bool) (t : List ℕ) → tabbed 0 m blank false t ≡ false
@@ -89,7 +90,8 @@ sum_within i l j k limit e h = omega (arith, e, h)
 -- where it doesn't matter how far right content would have to be (`flat`).
 pub reads_root : {limit : ℕ} {start : State} {P : Marker → Bool → Type 0} → ReadsLeaves limit → (place : Position)
     → indent_at place ≡ 0 → (node : Node) (t others : List ℕ) (ts : List Kind)
-    → IsBlockNode most_open node place t others → FollowsDocument others → (v : StandsInStream limit start true P (t ++ others) ts)
+    → IsBlockNode most_open node place t others → FollowsDocument others
+    → (v : StandsInStream limit start true P (t ++ others) ts)
     → FitsOnLines limit v.mark t others → IsPlaced place v.mark
     → ((is_compact place || crosses (t ++ others)) ≡ true → (crosses v.there.rest || v.allowed) ≡ true)
     → NodeStands limit start node place others ts
@@ -144,7 +146,8 @@ reads_root {limit} {start} leaves place flat_place node t others ts h follows v 
         mark = m;
         none = λ e. absurd (unopened e);
         follows = goes_alike u.follows
-            (flat p.0 p.1 u.blank u.key u.allowed u.adjacent u.deeper u.places u.stop u.near (follows.lands m line)) refl;
+            (flat p.0 p.1 u.blank u.key u.allowed u.adjacent u.deeper u.places u.stop u.near (follows.lands m line))
+            refl;
         fits = past_again 0 m others;
         line = (line, λ e. absurd (unopened e));
         count =
