@@ -1,5 +1,5 @@
 -- Tests: two choices by tests that come out alike, and what a test of a character says of the text that shows it.
-use Rattle.std.proofs.Common.{◌≡◌, ℕ, Bool, true, false, List, slice_index, refl, sym, ap, ◌∙◌, cond, arith}
+use Rattle.std.proofs.Common.{◌≡◌, ℕ, Bool, true, false, List, slice_index, sym, ap, ◌∙◌, cond, arith}
 
 -- a choice by a test that comes out alike on both sides
 pub both_by : {X Y : Type 0} (a b : Bool) (x y : X) (z w : Y) (P : X → Y → Type 0) → a ≡ b

@@ -1,4 +1,4 @@
--- What a step gives, if it is not refused: its value, and where it is.
+-- What a step gives, if it is not refused: its value, and where it is; and what is known of a refusal.
 use Rattle.std.proofs.Common.{◌≡◌, ℕ, Bool, List, Result, Ok, Err, refl, subst}
 use Rattle.saphyr_scalar.specs.declared.scalar.position.Marker.{Marker}
 use Rattle.saphyr_scalar.specs.declared.scalar.fault.Refusal.{Refusal}
@@ -23,6 +23,34 @@ pub bind_ok : {X Y : Type 0} → (r : Result X Refusal) (f : X → Result Y Refu
     → (x : X) × (r ≡ Ok x) × (f x ≡ Ok y)
 bind_ok (Ok x) f y e = (x, refl, e)
 bind_ok (Err d) f y e = absurd (cc)
+
+-- ## Refusals
+
+-- what is refused, if anything is, has this property
+abbrev pub Refused : {X : Type 0} → (Refusal → Type 0) → Result X Refusal → Type 0
+Refused P (Ok x) = Unit {0}
+Refused P (Err e) = P e
+
+pub refused_bind : {X Y : Type 0} → (P : Refusal → Type 0) (r : Result X Refusal) (f : X → Result Y Refusal)
+    → Refused P r → ((x : X) → r ≡ Ok x → Refused P (f x)) → Refused P (r >>= f)
+refused_bind P (Ok x) f h k = k x refl
+refused_bind P (Err e) f h k = h
+
+pub refused_of : {X : Type 0} → (P : Refusal → Type 0) (r : Result X Refusal) (e : Refusal) → Refused P r → r ≡ Err e
+    → P e
+refused_of P (Ok x) e h is = absurd (cc)
+refused_of P (Err d) e h is = let same : d ≡ e = cc in subst P same h
+
+pub refused_more : {X : Type 0} → (P Q : Refusal → Type 0) (r : Result X Refusal) → Refused P r
+    → ((e : Refusal) → P e → Q e) → Refused Q r
+refused_more P Q (Ok x) h k = tt
+refused_more P Q (Err e) h k = k e h
+
+-- refused where it began
+abbrev pub RefusedAt : {X : Type 0} → Marker → Result X Refusal → Type 0
+RefusedAt start r = Refused (λ e. e.mark ≡ start) r
+
+-- ## Results
 
 -- a text and where it is left
 abbrev pub together : List ℕ → Cursor → List ℕ × Cursor

@@ -12,7 +12,6 @@ pub mod Lengths
 pub mod Taking
 pub mod TakingMore
 pub mod PassedBreaks
-pub mod Refusals
 pub mod NoBreaks
 pub mod NoSeparation
 pub mod RefusedOnWay

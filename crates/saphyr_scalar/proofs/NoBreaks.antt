@@ -1,12 +1,12 @@
 -- Texts without line breaks, of which each character is passed on its line.
-use Rattle.std.proofs.Common.{◌≡◌, ℕ, Bool, true, false, List, [], ◌∷◌, ◌++◌, length, refl, sym, arith, subst, inl, inr, codes, encode_utf8}
+use Rattle.std.proofs.Common.{◌≡◌, ℕ, Bool, true, false, List, [], ◌∷◌, ◌++◌, length, refl, sym, arith, subst, encode_utf8}
 use Rattle.std.specs.Prelude.{◌||◌, ◌==◌}
-use Rattle.saphyr_input.specs.Classes.{is_break, is_blank, is_digit, is_alpha, is_tag_char, is_uri_char, is_yaml_non_break, is_yaml_non_space, IsHex}
+use Rattle.saphyr_input.specs.Classes.{is_break, is_tag_char, is_uri_char, IsHex}
 use Rattle.saphyr_scalar.specs.declared.scalar.position.Marker.{Marker}
 use Rattle.saphyr_scalar.specs.Views.Cursor.{along}
 use Rattle.saphyr_scalar.specs.declared.values.Quote.{Quote}
 use Rattle.saphyr_scalar.specs.Values.Flow as flow
-use Rattle.saphyr_scalar.specs.Spelling.Directive.{ReadDirective, version, tag_prefix, reserved, IsReadDirective}
+use Rattle.saphyr_scalar.specs.Spelling.Directive.{ReadDirective, IsReadDirective}
 use Rattle.saphyr_scalar.specs.Passing.{IsPassed, nothing, character}
 use Rattle.saphyr_scalar.specs.Spelling.Tag.{AreIn, IsByteEscape, AreByteEscapes, IsCharacter, IsDecoded, IsHandleText, IsPrefix}
 use Rattle.saphyr_scalar.proofs.Moving.{along_none, along_more}

@@ -1,5 +1,5 @@
 -- What is passed from inside a text, where a break may have begun before it.
-use Rattle.std.proofs.Common.{◌≡◌, ℕ, ◌+◌, Bool, true, false, List, [], ◌∷◌, length, ◌<◌, refl, sym, ap, ◌∙◌, arith}
+use Rattle.std.proofs.Common.{◌≡◌, ℕ, ◌+◌, Bool, true, false, List, [], ◌∷◌, length, ◌<◌, refl, ap, arith}
 use Rattle.std.specs.Prelude.{slice_index, ◌==◌, if◌then◌else◌}
 use Rattle.std.proofs.lemmas.Bool.{eqb-true}
 use Rattle.std.proofs.lemmas.Bool.Decides.{nat_tests}
@@ -12,7 +12,6 @@ use Rattle.saphyr_scalar.specs.Views.Cursor.{Cursor, along, next_line, pass_brea
 use Rattle.saphyr_scalar.specs.Passing as passing
 use Rattle.saphyr_scalar.specs.Passing.{IsPassed}
 use Rattle.saphyr_scalar.specs.Steps.Quoted.{break_len}
-use Rattle.saphyr_input.proofs.Basics.Booleans.{and_true_left, and_true_right}
 
 -- what is passed from here on, and from a CR on that comes before, where an LF comes first
 pub record PassesBreak (m : Marker) (t : List ℕ) (r : Cursor) : Type 0 where

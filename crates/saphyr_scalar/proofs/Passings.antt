@@ -1,5 +1,5 @@
 -- Passing over a text.
-use Rattle.std.proofs.Common.{◌≡◌, ℕ, suc, ◌<◌, ◌≤◌, true, false, List, [], ◌∷◌, ◌++◌, length, drop, slice_index, refl, ap, ◌∙◌, arith, IsTrue, inl, inr, ◌⊎◌}
+use Rattle.std.proofs.Common.{◌≡◌, ℕ, suc, ◌<◌, ◌≤◌, true, false, List, [], ◌∷◌, ◌++◌, length, drop, slice_index, refl, ap, arith, IsTrue, inl, inr, ◌⊎◌}
 use Rattle.saphyr_input.specs.Indicators.{backslash}
 use Rattle.saphyr_input.specs.Classes.{is_break, is_hex}
 use Rattle.saphyr_scalar.specs.Spelling.Tag.{AreIn}
@@ -8,7 +8,6 @@ use Rattle.saphyr_scalar.specs.Views.Cursor.{along, next_line}
 use Rattle.saphyr_scalar.specs.Passing.{IsPassed, nothing, character, line_break}
 use Rattle.saphyr_scalar.specs.Steps.Quoted.{break_len}
 use Rattle.saphyr_scalar.proofs.Moving.{along_more, along_none}
-use Rattle.saphyr_input.proofs.Basics.Booleans.{clash}
 
 pub letter_passed : (m : Marker) (e : ℕ) (t : List ℕ) (n : Marker) (x : List ℕ) → is_break e ≡ false
     → IsPassed (along m 2) t n x → IsPassed m (backslash ∷ e ∷ t) n x

@@ -13,3 +13,4 @@ pub mod TagsSpelled
 pub mod UniqueBytes
 pub mod BareCharacters
 pub mod UriTurns
+pub mod Refused

@@ -1,6 +1,6 @@
 -- What is read as a block scalar is the value of its lines.
-use Rattle.std.proofs.Common.{◌≡◌, ℕ, ◌≤◌, true, false, List, [], ◌∷◌, ◌++◌, slice_index, Ok, refl, sym, ap, ◌∙◌, arith, subst, nat_lt, nat_le, map, encode_utf8_all, inl, inr}
-use Rattle.std.specs.Prelude.{◌&&◌, max, Option, Some, None, unwrap_or}
+use Rattle.std.proofs.Common.{◌≡◌, ℕ, ◌≤◌, true, false, List, [], ◌∷◌, ◌++◌, slice_index, Ok, refl, sym, ap, ◌∙◌, arith, subst, map, encode_utf8_all, inl, inr}
+use Rattle.std.specs.Prelude.{max, Option, Some, None, unwrap_or}
 use Rattle.std.proofs.lemmas.List.{append-nil}
 use Rattle.saphyr_input.specs.Breaks.{normalized}
 use Rattle.saphyr_input.specs.Classes.{is_break, is_z, is_yaml_non_break}

@@ -11,7 +11,7 @@ use Rattle.saphyr_scalar.specs.Views.Cursor.{Cursor, along, next_line, pass_brea
 use Rattle.saphyr_scalar.specs.Values.Folding.{line_feeds}
 use Rattle.saphyr_scalar.specs.Steps.Block.{line_cursor, is_indentation, with_column, with_empty_line, pass_empty_lines, pass_empty_lines_at}
 use Rattle.saphyr_scalar.proofs.Quoted.Inside.{break_cases}
-use Rattle.saphyr_input.proofs.Basics.Booleans.{or_false_left, or_false_right, by_test}
+use Rattle.saphyr_input.proofs.Basics.Booleans.{or_false_left, or_false_right}
 use Rattle.saphyr_scalar.proofs.PassedBreaks.{inside_same}
 
 -- a place that shows no NUL is a character

@@ -1,7 +1,7 @@
 -- Where a block scalar is: its text is passed character by character, so the index moves on by as many as are taken,
 -- and it ends after its first line, or at the end.
-use Rattle.std.proofs.Common.{◌≡◌, ℕ, ◌+◌, ◌<◌, ◌⊎◌, Bool, true, false, List, [], ◌∷◌, length, Ok, refl, sym, ap, ◌∙◌, arith, inl, inr, ◌≤◌, drop}
-use Rattle.std.specs.Prelude.{◌&&◌, slice_index, ◌==◌, nat_lt, nat_le, min, max, Option, Some, None, unwrap_or}
+use Rattle.std.proofs.Common.{◌≡◌, ℕ, ◌+◌, ◌<◌, ◌⊎◌, Bool, true, false, List, [], ◌∷◌, length, Ok, refl, ap, arith, inl, inr, ◌≤◌, drop}
+use Rattle.std.specs.Prelude.{◌&&◌, slice_index, nat_lt, nat_le, min, max, Option, Some, None, unwrap_or}
 use Rattle.saphyr_input.specs.Classes.{is_blank, is_break, is_z, is_yaml_non_break}
 use Rattle.saphyr_scalar.specs.declared.values.BlockStyle.{BlockStyle}
 use Rattle.saphyr_scalar.specs.declared.values.Chomping.{Chomping}
@@ -14,7 +14,6 @@ use Rattle.saphyr_scalar.specs.Passing as passing
 use Rattle.saphyr_scalar.specs.Passing.{IsPassed}
 use Rattle.saphyr_scalar.specs.Steps.Block.{header, is_indentation, is_cr_lf, inside_break, with_empty_line, pass_empty_lines, line_starts, LinesRead, between, line, chomped_lines, content, behind_leading_lines, given_indentation, no_lines, behind_header, block_scalar}
 use Rattle.std.proofs.lemmas.List.{length-drop}
-use Rattle.saphyr_input.specs.Places.{next_2_are}
 use Rattle.saphyr_scalar.specs.Spelling.LineBreaks.{break_len}
 use Rattle.saphyr_scalar.proofs.PassedBreaks.{PassesBreak, inside_same, one_here, return_here, feed_here, stop_here, end_here}
 use Rattle.saphyr_scalar.proofs.Block.PlacedHeaders.{top, passed_passed, passed_lines, Goes, one_passed, EndsHeaderLine, header_ends_from, goes_nowhere}

@@ -1,12 +1,12 @@
 -- Where the header of a block scalar is: its line is passed character by character, and its break, where one ends
 -- it.
-use Rattle.std.proofs.Common.{◌≡◌, ℕ, suc, ◌+◌, ◌≤◌, ◌⊎◌, Bool, true, false, List, [], ◌∷◌, length, drop, Result, Ok, Err, refl, sym, ap, ◌∙◌, arith, subst, inl, inr}
-use Rattle.std.specs.Prelude.{◌&&◌, slice_index, not, ◌==◌, nat_lt, min, Option, Some, None}
+use Rattle.std.proofs.Common.{◌≡◌, ℕ, suc, ◌+◌, ◌≤◌, ◌⊎◌, Bool, true, false, List, [], ◌∷◌, length, drop, Result, Ok, Err, refl, sym, ap, arith, subst, inl, inr}
+use Rattle.std.specs.Prelude.{slice_index, not, ◌==◌, min, Option, Some, None}
 use Rattle.std.specs.List.{prefix_len}
 use Rattle.std.proofs.lemmas.Bool.Decides.{nat_tests}
-use Rattle.saphyr_input.specs.Classes.{is_bom, is_break, is_breakz, is_z, is_digit, is_yaml_non_break, tab}
+use Rattle.saphyr_input.specs.Classes.{is_break, is_breakz, is_z, is_digit, is_yaml_non_break}
 use Rattle.saphyr_input.specs.Places.{next_2_are}
-use Rattle.saphyr_input.specs.Separation.{is_skipped, blank_len, separation_len, is_bare_comment}
+use Rattle.saphyr_input.specs.Separation.{is_skipped, blank_len, separation_len}
 use Rattle.saphyr_input.specs.declared.input.SkipTabs.{SkipTabs}
 use Rattle.saphyr_input.specs.declared.input.SkipTabs.TheVariants.{Yes}
 use Rattle.saphyr_scalar.specs.declared.values.Chomping.{Chomping}
@@ -164,7 +164,8 @@ ends_from s t (Err e) g h = tt
 
 header_end_ends : (start : Marker) (s t : Cursor) → Goes s t → Given (EndsHeaderLine s) (header_end start t)
 unfolding header_end
-header_end_ends start s t g = grind (arith, given_bind, given_of, separation_goes, ends_from, goes_goes, header_break_ends)
+header_end_ends start s t g =
+    grind (arith, given_bind, given_of, separation_goes, ends_from, goes_goes, header_break_ends)
 
 last_goes : (first : Option Chomping) (s : Cursor) → Goes s (last_chomping first s).1
 unfolding last_chomping

@@ -7,7 +7,6 @@ use Rattle.saphyr_input.specs.Breaks.{normalized}
 use Rattle.saphyr_input.specs.Classes.{is_break, is_blank, is_z, is_yaml_non_break, line_feed}
 use Rattle.saphyr_scalar.specs.declared.values.BlockStyle.{BlockStyle}
 use Rattle.saphyr_scalar.specs.declared.values.Chomping.{Chomping}
-use Rattle.saphyr_scalar.specs.declared.values.Chomping.TheVariants.{Strip, Clip, Keep}
 use Rattle.saphyr_scalar.specs.declared.values.Ending.{Ending}
 use Rattle.saphyr_scalar.specs.declared.values.Ending.TheVariants.{AtEnd, AtMark}
 use Rattle.saphyr_scalar.specs.declared.scalar.position.Marker.{Marker}
@@ -20,7 +19,7 @@ use Rattle.saphyr_scalar.specs.Steps.BlockRead.{EndsLines}
 use Rattle.saphyr_scalar.specs.Reading.BlockLines.{ending, HasLines}
 use Rattle.saphyr_scalar.specs.Steps.Block.{line_cursor, is_indentation, line_starts, LinesRead, lines_behind_text, lines_ended, between, line, tail, tail_alone, is_unfinished}
 use Rattle.saphyr_scalar.proofs.Block.Turns.{starts, line_begins, line_on, no_line_at}
-use Rattle.saphyr_scalar.proofs.Block.Texts.{spaces, IsUnbroken, plain_first, plain_both, plain_spaces, first_line, only_line, empty_spaces, full_content, line_content, content_of, is_counted_behind, value_behind, lines_spaces, lines_cut, lines_broken}
+use Rattle.saphyr_scalar.proofs.Block.Texts.{spaces, IsUnbroken, plain_first, plain_both, plain_spaces, first_line, only_line, empty_spaces, full_content, line_content, content_of, value_behind, lines_spaces, lines_cut, lines_broken}
 use Rattle.saphyr_scalar.proofs.Block.Lines.{no_break}
 use Rattle.saphyr_scalar.proofs.Block.Values.{LineRead, line_read, extra}
 use Rattle.saphyr_input.proofs.Basics.Booleans.{and_false}

@@ -2,7 +2,7 @@
 use Rattle.std.proofs.Common.{◌≡◌, ◌≢◌, ℕ, Bool, true, false, List, [], ◌∷◌, ◌++◌, length, slice_index, nat_eq, Result, Ok, refl, ap, ◌∙◌, arith, subst}
 use Rattle.std.proofs.Math.Seq.{drop-append_seam}
 use Rattle.std.proofs.lemmas.Bool.Decides.{nat_tests}
-use Rattle.saphyr_input.specs.Classes.{is_digit, is_uri_char, is_blank, is_break, is_z, is_breakz, is_blank_or_breakz, is_yaml_non_space}
+use Rattle.saphyr_input.specs.Classes.{is_digit, is_uri_char, is_blank, is_breakz, is_blank_or_breakz, is_yaml_non_space}
 use Rattle.saphyr_scalar.specs.declared.scalar.position.Marker.{Marker}
 use Rattle.saphyr_scalar.specs.declared.scalar.fault.Refusal.{Refusal}
 use Rattle.saphyr_scalar.specs.Views.Cursor.{Cursor, along, pass_blanks, pass_all_blanks}

@@ -3,18 +3,18 @@
 use Rattle.std.proofs.Common.{◌≡◌, ℕ, suc, ◌+◌, ◌-◌, ◌*◌, List, [], ◌∷◌, ◌++◌, length, length-append, append_assoc, arith, drop, slice_index, Ok, refl, sym, ap, ◌∙◌, nat_lt, codes, encode_utf8, encode_utf8_all}
 use Rattle.std.specs.Prelude.{◌||◌, ◌&&◌, ◌==◌, bytes_eq}
 use Rattle.saphyr_input.specs.Indicators.{percent_sign}
-use Rattle.saphyr_input.specs.Classes.{is_alpha, is_blank_or_breakz, is_bom, is_breakz, is_digit, is_tag_char, is_yaml_non_space}
+use Rattle.saphyr_input.specs.Classes.{is_bom, is_breakz, is_tag_char}
 use Rattle.saphyr_input.specs.Separation.{separation_len, is_bare_comment}
 use Rattle.saphyr_input.specs.declared.input.SkipTabs.{SkipTabs}
 use Rattle.saphyr_input.specs.declared.input.SkipTabs.TheVariants.{Yes}
 use Rattle.saphyr_scalar.specs.declared.scalar.position.Marker.{Marker}
 use Rattle.saphyr_scalar.specs.declared.scalar.fault.Refusal.{Refusal}
 use Rattle.saphyr_scalar.specs.declared.scalar.tag.UriSet.TheVariants.{Uri}
-use Rattle.saphyr_scalar.specs.Views.Cursor.{Cursor, along, pass, pass_blanks, separation, behind_separation, pass_all_blanks}
-use Rattle.saphyr_scalar.specs.Steps.Directive.{directive_name_of, name, number_end, number_from, number, behind_major, version_directive, handle_behind_word, handle, prefix, behind_prefix, tag_directive, value, line_end, directive}
+use Rattle.saphyr_scalar.specs.Views.Cursor.{Cursor, along, pass_blanks, separation, behind_separation}
+use Rattle.saphyr_scalar.specs.Steps.Directive.{directive_name_of, name, number_end, number_from, behind_major, version_directive, handle_behind_word, handle, prefix, behind_prefix, tag_directive, value, line_end, directive}
 use Rattle.saphyr_scalar.specs.Spelling.Directive.{ReadDirective}
 use Rattle.saphyr_scalar.specs.Passing.{IsPassed, nothing, character}
-use Rattle.saphyr_scalar.specs.Steps.Quoted.{with_run, mid_line}
+use Rattle.saphyr_scalar.specs.Steps.Quoted.{mid_line}
 use Rattle.saphyr_scalar.specs.RefusedInside.{IsRefusedInside}
 use Rattle.saphyr_scalar.specs.Steps.Tag.{uri_character, decoded_at}
 use Rattle.saphyr_scalar.proofs.Directives.NamesSpelled.{name_spelled}
@@ -23,7 +23,8 @@ use Rattle.saphyr_scalar.proofs.NoBreaks.{no_breaks_passed, directive_no_break}
 use Rattle.saphyr_scalar.proofs.Block.PlacedHeaders.{line_passed}
 use Rattle.saphyr_scalar.proofs.Places.{along_three}
 use Rattle.saphyr_scalar.proofs.RefusedOnWay.{inside_from, refused_there, inside_start}
-use Rattle.saphyr_scalar.proofs.Refusals.{Refused, RefusedAt, refused_bind, refused_more, character_refused, front_refused, decoded_refused}
+use Rattle.saphyr_scalar.proofs.Given.{Refused, RefusedAt, refused_bind, refused_more}
+use Rattle.saphyr_scalar.proofs.Properties.Refused.{character_refused, front_refused, decoded_refused}
 use Rattle.saphyr_scalar.proofs.Properties.TagsSpelled.{cut_at}
 use Rattle.saphyr_input.proofs.Basics.Booleans.{by_test}
 

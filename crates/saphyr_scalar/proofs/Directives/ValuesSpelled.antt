@@ -1,5 +1,5 @@
 -- What is read after a directive's name is spelled so.
-use Rattle.std.proofs.Common.{◌≡◌, ◌≢◌, ℕ, suc, ◌+◌, true, false, List, [], ◌∷◌, ◌++◌, length, length-append, append_assoc, take, drop, slice_index, cond, Result, Ok, refl, sym, ap, ◌∙◌, arith, subst, encode_utf8_all, inl, inr, lit<, IsTrue}
+use Rattle.std.proofs.Common.{◌≡◌, ◌≢◌, ℕ, ◌+◌, true, false, List, [], ◌∷◌, ◌++◌, length, length-append, append_assoc, take, drop, slice_index, cond, Result, Ok, refl, sym, ap, ◌∙◌, arith, subst, encode_utf8_all, lit<, IsTrue}
 use Rattle.std.specs.Prelude.{◌⊎◌, codes, bytes_eq}
 use Rattle.std.specs.List.{prefix_len}
 use Rattle.std.proofs.Math.Utf8.{encode}
@@ -7,8 +7,7 @@ use Rattle.std.proofs.lemmas.Bool.{false≢true}
 use Rattle.std.proofs.lemmas.List.{take-append-drop}
 use Rattle.std.proofs.lemmas.Slice.Eq.{bytes_eq-Decides}
 use Rattle.saphyr_input.specs.Indicators.{percent_sign}
-use Rattle.saphyr_input.specs.Classes.{is_blank, is_breakz, is_blank_or_breakz, is_yaml_non_break, is_yaml_non_space}
-use Rattle.saphyr_input.proofs.Runs.{run_stops}
+use Rattle.saphyr_input.specs.Classes.{is_blank, is_blank_or_breakz, is_yaml_non_break, is_yaml_non_space}
 use Rattle.saphyr_scalar.specs.declared.scalar.position.Marker.{Marker}
 use Rattle.saphyr_scalar.specs.declared.scalar.fault.Refusal.{Refusal}
 use Rattle.saphyr_scalar.specs.Views.Cursor.{Cursor, along, pass_comment}
@@ -19,8 +18,7 @@ use Rattle.saphyr_scalar.specs.Spelling.Tag.{AreIn}
 use Rattle.saphyr_scalar.proofs.Runs.{run_is_in}
 use Rattle.saphyr_scalar.proofs.Directives.LowBytes.{low_unique, AreLow}
 use Rattle.saphyr_scalar.proofs.Steps.{ok_same}
-use Rattle.saphyr_input.proofs.Basics.Booleans.{by_test, either}
-use Rattle.saphyr_input.proofs.Basics.Characters.{breakz_no_non_break, blank_non_break}
+use Rattle.saphyr_input.proofs.Basics.Booleans.{by_test}
 use Rattle.saphyr_scalar.proofs.Directives.NamesSpelled.{run_count}
 use Rattle.saphyr_scalar.proofs.Directives.VersionsSpelled.{VersionOf, version_spelled}
 use Rattle.saphyr_scalar.proofs.Directives.TagPrefixesSpelled.{TagOf, tag_spelled}

@@ -15,7 +15,6 @@ use Rattle.saphyr_scalar.proofs.Moving.{along_none, along_more}
 use Rattle.saphyr_scalar.proofs.Places.{along_four}
 use Rattle.saphyr_input.proofs.Basics.Booleans.{other_than}
 use Rattle.saphyr_input.proofs.Basics.Lists.{some_length}
-use Rattle.saphyr_scalar.proofs.Given.{number_given}
 use Rattle.saphyr_scalar.proofs.Directives.PartEnds.{first_of, blanks_read, said}
 
 digits_read : (start : Marker) (n v : ℕ) (m : Marker) (ds y : List ℕ) → n + length ds ≤ 9 → AreIn is_digit ds

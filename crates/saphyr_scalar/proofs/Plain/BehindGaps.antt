@@ -1,7 +1,6 @@
 -- What is read behind a gap of a plain scalar, where the text has what the gap reads as at its end.
 use Rattle.std.proofs.Common.{◌≡◌, ℕ, ◌<◌, ◌≤◌, Bool, true, false, List, [], ◌∷◌, ◌++◌, length, take, drop, slice_index, Result, Ok, Err, refl, sym, ap, ◌∙◌, arith, append_assoc}
 use Rattle.std.specs.Prelude.{◌==◌, ◌||◌, ◌&&◌, nat_lt, encode_utf8, Option, if◌then◌else◌}
-use Rattle.std.specs.List.{prefix_len}
 use Rattle.std.specs.String.Boundary.{IsSplitPoint}
 use Rattle.std.proofs.Math.Seq.{take-append_seam}
 use Rattle.std.proofs.lemmas.List.{append-nil, length-append}
@@ -13,13 +12,13 @@ use Rattle.saphyr_input.proofs.Basics.Booleans.{by_test}
 use Rattle.saphyr_scalar.specs.declared.scalar.position.Marker.{Marker}
 use Rattle.saphyr_scalar.specs.declared.scalar.fault.Refusal.{Refusal}
 use Rattle.saphyr_scalar.specs.declared.scalar.fault.Stop.{Stop}
-use Rattle.saphyr_scalar.specs.Views.Cursor.{Cursor, ◌>>=◌, along, next_line, pass, pass_break}
+use Rattle.saphyr_scalar.specs.Views.Cursor.{Cursor, ◌>>=◌, along, next_line, pass_break}
 use Rattle.saphyr_scalar.specs.Views.Reader.{Moves}
-use Rattle.saphyr_scalar.specs.Steps.Plain.{PlainGap, seen_gap, content_behind_tab, reached_gap, line_front, ends_line, lines, folded_gap, gap_onto, next_lines, gap_from, gap, is_in_word, next_word_starts, comment_of, with_text, scalar_end, word, scalar_behind_gap, PlainWordsMoved}
+use Rattle.saphyr_scalar.specs.Steps.Plain.{PlainGap, seen_gap, reached_gap, line_front, ends_line, lines, folded_gap, gap_onto, next_lines, gap_from, gap, is_in_word, next_word_starts, comment_of, with_text, scalar_end, word, scalar_behind_gap, PlainWordsMoved}
 use Rattle.saphyr_scalar.proofs.Plain.Gaps.{gap_end, same_gap, may_stand_same}
 use Rattle.saphyr_scalar.proofs.Plain.LineEnds.{from_break}
 use Rattle.saphyr_scalar.proofs.Plain.Pieces.{text_twice, plain_behind_gap, moved_behind_word, goes_says}
-use Rattle.saphyr_scalar.proofs.Quoted.Inside.{line_blanks, BlanksMoved}
+use Rattle.saphyr_scalar.proofs.Quoted.Inside.{BlanksMoved}
 use Rattle.saphyr_scalar.proofs.Runs.{cuts_before, blanks_low}
 
 abbrev Found : Type 0

@@ -1,9 +1,9 @@
 -- The later lines of a plain scalar that is read are indented.
 use Rattle.std.proofs.Common.{◌≡◌, ◌≢◌, ℕ, ◌+◌, ◌-◌, ◌≤◌, Bool, true, false, List, [], ◌∷◌, ◌++◌, slice_index, Result, Ok, refl, sym, ap, ◌∙◌, arith, IsTrue, append_assoc}
 use Rattle.std.specs.Prelude.{◌||◌, ◌&&◌, ◌==◌, not, nat_le, nat_lt, if◌then◌else◌}
-use Rattle.std.proofs.lemmas.Bool.{false≢true, eqb-true, le-leb, or_left, or_right, or_parts}
+use Rattle.std.proofs.lemmas.Bool.{false≢true, eqb-true, le-leb, or_left, or_parts}
 use Rattle.saphyr_input.specs.Classes.{is_blank, is_break, is_z, tab, line_feed}
-use Rattle.saphyr_input.specs.Places.{is_blank_or_break, can_be_plain}
+use Rattle.saphyr_input.specs.Places.{is_blank_or_break}
 use Rattle.saphyr_input.specs.Indicators.{number_sign}
 use Rattle.saphyr_scalar.specs.declared.scalar.position.Marker.{Marker}
 use Rattle.saphyr_scalar.specs.declared.scalar.fault.Refusal.{Refusal}

@@ -1,12 +1,12 @@
 -- Words of a plain scalar, and single spaces between them, taken off in one piece.
-use Rattle.std.proofs.Common.{◌≡◌, ℕ, ◌<◌, Bool, true, false, List, [], ◌∷◌, length-drop, slice_index, Result, Ok, refl, sym, ap, ◌∙◌, arith, cond}
+use Rattle.std.proofs.Common.{◌≡◌, ℕ, ◌<◌, Bool, true, false, List, [], ◌∷◌, length-drop, slice_index, Result, Ok, refl, sym, ap, ◌∙◌, arith}
 use Rattle.std.specs.Prelude.{◌&&◌, ◌||◌, ◌==◌, not, nat_lt, encode_utf8}
 use Rattle.std.specs.List.{prefix_len}
 use Rattle.std.proofs.lemmas.Bool.Decides.{nat_tests}
 use Rattle.std.proofs.lemmas.List.{append-nil}
 use Rattle.std.proofs.lemmas.Bool.{not-true, false_from_ne_true}
 use Rattle.saphyr_input.specs.Indicators.{full_stop, hyphen, number_sign}
-use Rattle.saphyr_input.specs.Classes.{is_blank, is_break, is_bom, is_flow, is_blank_or_breakz}
+use Rattle.saphyr_input.specs.Classes.{is_blank, is_break, is_flow, is_blank_or_breakz}
 use Rattle.saphyr_input.specs.Fronts.{ascii_in}
 use Rattle.saphyr_input.specs.Places.{is_document_indicator, goes_on}
 use Rattle.saphyr_input.proofs.WordRuns.{words_some, words_stop}

@@ -1,10 +1,8 @@
 -- A word of a plain scalar, and a gap before more words, are read as a piece of the text.
 use Rattle.std.proofs.Common.{◌≡◌, ℕ, suc, ◌+◌, ◌≤◌, Bool, true, false, List, [], ◌∷◌, ◌++◌, length, take, drop, slice_index, Option, sym, ap, ◌∙◌, arith, IsTrue, append_assoc, encode_utf8_all}
-use Rattle.std.specs.Prelude.{◌||◌, ◌&&◌, not}
 use Rattle.std.proofs.lemmas.List.{append-nil, take-append-drop, length-take-le}
 use Rattle.std.proofs.lemmas.Str.{encodes-append}
-use Rattle.saphyr_input.specs.Classes.{is_blank, is_break, is_z}
-use Rattle.saphyr_input.specs.Places.{can_be_plain, is_blank_or_break}
+use Rattle.saphyr_input.specs.Places.{is_blank_or_break}
 use Rattle.saphyr_scalar.specs.Spelling.Tag.{AreIn}
 use Rattle.saphyr_scalar.specs.declared.scalar.position.Marker.{Marker}
 use Rattle.saphyr_scalar.specs.Views.Cursor.{Cursor, along}

@@ -1,5 +1,5 @@
 -- The name of an anchor or an alias, read behind a text.
-use Rattle.std.proofs.Common.{◌≡◌, ℕ, List, [], ◌∷◌, ◌++◌, length, Ok, refl, sym, ap, ◌∙◌, arith}
+use Rattle.std.proofs.Common.{◌≡◌, ℕ, List, [], ◌∷◌, ◌++◌, length, Ok, refl, ap, arith}
 use Rattle.std.proofs.Math.Dec.{eqb-suc-zero}
 use Rattle.std.proofs.lemmas.List.{append-nil, length-append}
 use Rattle.saphyr_input.specs.Classes.{is_anchor_char}
@@ -8,7 +8,6 @@ use Rattle.saphyr_scalar.specs.declared.scalar.position.Marker.{Marker}
 use Rattle.saphyr_scalar.specs.Views.Cursor.{Cursor, refuse, pass}
 use Rattle.saphyr_scalar.specs.Steps.Anchor.{anchor, anchor_name_of}
 use Rattle.saphyr_scalar.specs.Steps.Quoted.{TextRead, with_front, with_run}
-use Rattle.saphyr_scalar.proofs.Given.{text_given}
 
 -- a name that was put behind a text
 some_name : (m : Marker) (before name : List ℕ) (t : Cursor) → (length (before ++ name) ≡ length before → ⊥)

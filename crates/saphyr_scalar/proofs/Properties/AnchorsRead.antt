@@ -1,14 +1,11 @@
 -- Each spelled anchor is read, and what is read as one is spelled so.
-use Rattle.std.proofs.Common.{◌≡◌, ◌≢◌, ℕ, ◌+◌, ◌<◌, true, false, List, [], ◌∷◌, ◌++◌, length, take, drop, slice_index, nat_eq, Result, Ok, refl, sym, ap, ◌∙◌, arith, encode_utf8_all}
-use Rattle.std.specs.List.{prefix_len}
+use Rattle.std.proofs.Common.{◌≡◌, ◌≢◌, ℕ, ◌+◌, ◌<◌, true, false, List, [], ◌∷◌, ◌++◌, length, slice_index, nat_eq, Ok, refl, ap, ◌∙◌, arith, encode_utf8_all}
 use Rattle.std.proofs.lemmas.Bool.{false≢true}
 use Rattle.std.proofs.lemmas.List.{take-append-drop, length-take-le}
 use Rattle.std.proofs.lemmas.List.Sums.{prefix_len-le-length}
 use Rattle.saphyr_input.specs.Classes.{is_anchor_char}
 use Rattle.saphyr_scalar.specs.declared.scalar.position.Marker.{Marker}
-use Rattle.saphyr_scalar.specs.declared.scalar.fault.FaultText.TheVariants as fault
-use Rattle.saphyr_scalar.specs.declared.scalar.fault.Refusal.{Refusal}
-use Rattle.saphyr_scalar.specs.Views.Cursor.{Cursor, along, pass}
+use Rattle.saphyr_scalar.specs.Views.Cursor.{Cursor, along}
 use Rattle.saphyr_scalar.specs.Steps.Quoted.{mid_line}
 use Rattle.saphyr_scalar.specs.Steps.Anchor.{anchor, anchor_name_of}
 use Rattle.saphyr_scalar.specs.Spelling.Tag.{IsAnchorName}
@@ -17,7 +14,6 @@ use Rattle.saphyr_scalar.proofs.Runs.{run_read, run_is_in}
 use Rattle.saphyr_scalar.proofs.Properties.TagsRead.{some_bytes}
 use Rattle.saphyr_scalar.proofs.Steps.{no_result}
 use Rattle.saphyr_input.proofs.Basics.Lists.{first_and_rest, run_ends}
-use Rattle.saphyr_input.proofs.Basics.Booleans.{by_test}
 use Rattle.saphyr_scalar.proofs.Given.{text_given}
 
 anchor_same : (s : Cursor) → anchor s ≡ anchor (mid_line s.mark s.rest)

@@ -1,6 +1,6 @@
 -- The characters of a URI that begin no escape, taken off in one piece.
-use Rattle.std.proofs.Common.{◌≡◌, ℕ, suc, ◌+◌, ◌≤◌, Bool, true, false, List, [], ◌∷◌, ◌++◌, length, take, drop, slice_index, Result, Ok, refl, sym, ap, ◌∙◌, arith, subst, encode_utf8_all}
-use Rattle.std.specs.Prelude.{◌&&◌, ◌==◌, not, encode_utf8}
+use Rattle.std.proofs.Common.{◌≡◌, ℕ, suc, ◌+◌, ◌≤◌, true, false, List, [], ◌∷◌, ◌++◌, length, take, drop, slice_index, Result, Ok, refl, ap, ◌∙◌, arith, encode_utf8_all}
+use Rattle.std.specs.Prelude.{encode_utf8}
 use Rattle.std.specs.List.{prefix_len}
 use Rattle.std.proofs.lemmas.Bool.Decides.{nat_tests}
 use Rattle.saphyr_input.specs.Indicators.{percent_sign}
@@ -8,7 +8,7 @@ use Rattle.saphyr_input.proofs.WordRuns.{run_ends}
 use Rattle.saphyr_scalar.specs.declared.scalar.position.Marker.{Marker}
 use Rattle.saphyr_scalar.specs.declared.scalar.fault.Refusal.{Refusal}
 use Rattle.saphyr_scalar.specs.declared.scalar.tag.UriSet.{UriSet}
-use Rattle.saphyr_scalar.specs.Views.Cursor.{Cursor, along, pass_blanks}
+use Rattle.saphyr_scalar.specs.Views.Cursor.{Cursor, along}
 use Rattle.saphyr_scalar.specs.Steps.Quoted.{with_front, with_front_run}
 use Rattle.saphyr_scalar.specs.Steps.Sets.{is_bare}
 use Rattle.saphyr_scalar.specs.Steps.Tag.{is_in_set, percent_escape, uri_character, decoded_characters, decoded_at}

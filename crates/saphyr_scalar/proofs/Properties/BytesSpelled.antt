@@ -1,18 +1,15 @@
 -- What is read as escaped bytes is spelled so.
-use Rattle.std.proofs.Common.{◌≡◌, ℕ, zero, suc, ◌+◌, ◌-◌, ◌*◌, ◌≤◌, true, List, [], ◌∷◌, ◌++◌, length, length-append, drop, slice_index, nat_eq, cond, Ok, Err, refl, sym, ap, ◌∙◌, arith, inl, inr}
-use Rattle.std.specs.Prelude.{◌||◌, ◌&&◌, nat_le}
+use Rattle.std.proofs.Common.{◌≡◌, ℕ, zero, suc, ◌+◌, ◌-◌, ◌*◌, true, List, [], ◌∷◌, ◌++◌, length, length-append, cond, Ok, refl, sym, ap, ◌∙◌, arith}
 use Rattle.saphyr_input.specs.Indicators.{percent_sign}
-use Rattle.saphyr_input.specs.Classes.{is_hex, IsHex, is_digit, is_from, hex_value}
+use Rattle.saphyr_input.specs.Classes.{is_hex, IsHex, hex_value}
 use Rattle.saphyr_scalar.specs.declared.scalar.position.Marker.{Marker}
-use Rattle.saphyr_scalar.specs.declared.scalar.fault.FaultText.TheVariants as fault
 use Rattle.saphyr_scalar.specs.Views.Cursor.{Cursor, along}
 use Rattle.saphyr_scalar.specs.Steps.Quoted.{mid_line}
-use Rattle.saphyr_scalar.specs.Steps.Tag.{byte_value, shows_byte, escaped_byte, is_trailing, trailing_byte, trailing_bytes}
+use Rattle.saphyr_scalar.specs.Steps.Tag.{escaped_byte, is_trailing, trailing_byte, trailing_bytes}
 use Rattle.saphyr_scalar.specs.Spelling.Tag.{IsByteEscape, AreByteEscapes}
 use Rattle.saphyr_scalar.proofs.Moving.{along_none, along_more}
 use Rattle.saphyr_scalar.proofs.Properties.EscapedBytes.{AreTrailing, joined_bytes}
 use Rattle.saphyr_scalar.proofs.Steps.{bind_ok, ok_same, cond_ok}
-use Rattle.saphyr_input.proofs.Basics.Booleans.{and_true_left, and_true_right, either}
 
 hex_is : (c : ℕ) → is_hex c ≡ true → IsHex c
 hex_is c h = grind arith

@@ -11,7 +11,7 @@ use Rattle.saphyr_input.specs.Classes.{is_alpha, is_tag_char, is_uri_char, is_bl
 use Rattle.saphyr_input.proofs.Runs.{run_stops}
 use Rattle.saphyr_scalar.specs.declared.scalar.position.Marker.{Marker}
 use Rattle.saphyr_scalar.specs.declared.scalar.fault.Refusal.{Refusal}
-use Rattle.saphyr_scalar.specs.declared.scalar.tag.UriSet.TheVariants.{Uri, Suffix}
+use Rattle.saphyr_scalar.specs.declared.scalar.tag.UriSet.TheVariants.{Suffix}
 use Rattle.saphyr_scalar.specs.Views.Cursor.{Cursor, ◌>>=◌, along}
 use Rattle.saphyr_scalar.specs.Steps.Quoted.{with_front, mid_line}
 use Rattle.saphyr_scalar.specs.Steps.Tag.{uri_character, decoded_characters, TagRead, verbatim_tag, verbatim_end, handle_of, named_tag, named_tail, primary_tag, tag_behind_word, shorthand_tag, tag, tag_end}

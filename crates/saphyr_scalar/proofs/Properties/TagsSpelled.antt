@@ -1,14 +1,13 @@
 -- What is read as a tag is spelled so.
 use Rattle.std.proofs.Common.{◌≡◌, ◌≢◌, ℕ, ◌+◌, Bool, true, false, List, [], ◌∷◌, ◌++◌, length, length-append, append_assoc, take, drop, slice_index, nat_eq, cond, Result, Ok, refl, sym, ap, ◌∙◌, arith, subst, encode_utf8_all, inl, inr}
-use Rattle.std.specs.Prelude.{◌||◌, ◌&&◌, codes}
+use Rattle.std.specs.Prelude.{codes}
 use Rattle.std.specs.List.{prefix_len}
 use Rattle.std.proofs.lemmas.Bool.{false≢true, eqb-true}
 use Rattle.std.proofs.lemmas.List.{take-append-drop, length-take-le}
 use Rattle.std.proofs.lemmas.List.Sums.{prefix_len-le-length}
 use Rattle.saphyr_input.specs.Indicators.{exclamation_mark, greater_than, less_than}
-use Rattle.saphyr_input.specs.Classes.{is_alpha, is_blank_or_breakz, is_flow}
+use Rattle.saphyr_input.specs.Classes.{is_alpha}
 use Rattle.saphyr_scalar.specs.declared.scalar.position.Marker.{Marker}
-use Rattle.saphyr_scalar.specs.declared.scalar.fault.FaultText.TheVariants as fault
 use Rattle.saphyr_scalar.specs.declared.scalar.fault.Refusal.{Refusal}
 use Rattle.saphyr_scalar.specs.declared.scalar.tag.UriSet.TheVariants.{Uri, Suffix}
 use Rattle.saphyr_scalar.specs.Views.Cursor.{Cursor, along, pass}
@@ -19,7 +18,7 @@ use Rattle.saphyr_scalar.proofs.Moving.{along_more}
 use Rattle.saphyr_scalar.proofs.Runs.{run_is_in}
 use Rattle.saphyr_scalar.proofs.Properties.TagsRead.{some_bytes, alpha_on, bytes_of_handle, mark_bytes, then_primary, tag_same}
 use Rattle.saphyr_scalar.proofs.Properties.EscapesSpelled.{decoded_spelled, DecodedOf}
-use Rattle.saphyr_scalar.proofs.Steps.{bind_ok, ok_same, cond_ok}
+use Rattle.saphyr_scalar.proofs.Steps.{bind_ok, ok_same}
 use Rattle.saphyr_scalar.proofs.Places.{along_three, along_four}
 use Rattle.saphyr_input.proofs.Basics.Booleans.{by_test}
 

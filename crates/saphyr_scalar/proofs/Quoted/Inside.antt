@@ -1,6 +1,6 @@
 -- The inside of a quoted scalar, read a piece at a time.
-use Rattle.std.proofs.Common.{◌≡◌, ℕ, zero, suc, ◌+◌, ◌<◌, Bool, true, false, List, [], ◌∷◌, ◌++◌, length, take, drop, slice_index, Result, Ok, Err, refl, sym, ap, ◌∙◌, arith, subst, encode_utf8_all, append_assoc, nat_eq, cond, pred}
-use Rattle.std.specs.Prelude.{◌||◌, ◌==◌, encode_utf8}
+use Rattle.std.proofs.Common.{◌≡◌, ℕ, zero, suc, ◌+◌, ◌<◌, Bool, true, false, List, [], ◌∷◌, ◌++◌, length, take, drop, slice_index, Result, Ok, Err, refl, sym, ap, ◌∙◌, arith, subst, encode_utf8_all, append_assoc, nat_eq, cond}
+use Rattle.std.specs.Prelude.{◌==◌, encode_utf8}
 use Rattle.std.specs.List.{prefix_len}
 use Rattle.std.proofs.lemmas.Bool.Decides.{nat_tests}
 use Rattle.std.proofs.lemmas.List.{append-nil}
@@ -15,12 +15,10 @@ use Rattle.saphyr_scalar.specs.declared.values.Quote.{Quote}
 use Rattle.saphyr_scalar.specs.Views.Reader.{ReadsOn}
 use Rattle.saphyr_scalar.specs.Views.Cursor.{Cursor, ◌>>=◌, refuse, along, pass, pass_break, next_line}
 use Rattle.saphyr_scalar.specs.Values.Flow as flow
-use Rattle.saphyr_scalar.proofs.Given.{together}
 use Rattle.saphyr_scalar.proofs.Moving.{along_none, along_more}
 use Rattle.saphyr_scalar.specs.Steps.Quoted.{TextRead, is_literal, with_front, mid_line, special, special_len, QuotedGap, on_line, no_gap, blank_in, break_in, end_gap, escaped_gap, break_len, if_some, inner_text, inner_text_at, quoted, with_run, with_blanks}
 use Rattle.saphyr_input.proofs.Basics.Lists.{run_ends}
 use Rattle.saphyr_input.proofs.Basics.Booleans.{neither_parts, by_test, either}
-use Rattle.std.proofs.lemmas.Bool.{or_parts}
 use Rattle.saphyr_input.specs.Indicators.{backslash}
 
 pub front_twice : (a b : List ℕ) (read : TextRead) → with_front a (with_front b read) ≡ with_front (a ++ b) read

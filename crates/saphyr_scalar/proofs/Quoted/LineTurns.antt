@@ -1,6 +1,6 @@
 -- A turn over a line after a break inside a quoted scalar: its spaces, and then a blank or a break. Lemmas on their
 -- own, since a tactic reads little here and much at a goal.
-use Rattle.std.proofs.Common.{◌≡◌, ℕ, ◌+◌, ◌^◌, ◌<◌, ◌≤◌, true, length, slice_index, refl, sym, ap, arith, subst}
+use Rattle.std.proofs.Common.{◌≡◌, ℕ, ◌+◌, ◌^◌, ◌<◌, ◌≤◌, true, length, slice_index, sym, arith, subst}
 use Rattle.std.proofs.lemmas.Bool.{false≢true}
 use Rattle.saphyr_input.specs.Classes.{is_blank, is_break}
 use Rattle.saphyr_input.proofs.Basics.Lists.{shows_character, drop_one_shorter}
@@ -8,7 +8,6 @@ use Rattle.saphyr_scalar.specs.Views.Cursor.{Cursor, pass_spaces, pass_blanks, p
 use Rattle.saphyr_scalar.proofs.Lengths.{below_at_most, at_most_below}
 use Rattle.saphyr_scalar.proofs.SpaceRuns.{spaces_shorter}
 use Rattle.saphyr_scalar.proofs.Quoted.Lines.{break_on_shorter}
-use Rattle.saphyr_input.specs.Places.{spaces_within}
 
 pub break_turn_shorter : (most : ℕ) (first here there behind : Cursor) → here ≡ pass_spaces most first
     → is_break (slice_index here.rest 0) ≡ true → there ≡ here → behind ≡ pass_break there
@@ -24,7 +23,8 @@ blank_left here there blank same = subst (λ (s : Cursor). 0 < length s.rest) (s
 pub blank_turn_shorter : (most : ℕ) (first here there behind : Cursor) → here ≡ pass_spaces most first
     → is_blank (slice_index here.rest 0) ≡ true → there ≡ here → behind ≡ pass_blanks 1 there
     → length behind.rest < length first.rest
-blank_turn_shorter most first here there behind spaces blank same on = grind (arith, drop_one_shorter, blank_left, below_at_most, spaces_shorter)
+blank_turn_shorter most first here there behind spaces blank same on =
+    grind (arith, drop_one_shorter, blank_left, below_at_most, spaces_shorter)
 
 -- the lines that are counted, and what is left, are no more than there was
 

@@ -1,7 +1,7 @@
 -- What the calls that read a part of a quoted scalar leave.
-use Rattle.std.proofs.Common.{◌≡◌, ℕ, suc, ◌+◌, ◌<◌, Bool, true, false, List, [], ◌∷◌, ◌++◌, length, drop, length-drop, slice_index, Result, Ok, Err, refl, sym, ap, ◌∙◌, arith, subst, IsTrue}
-use Rattle.std.specs.Prelude.{◌||◌, ◌&&◌, ◌==◌, not, encode_utf8, Option, Some, None}
-use Rattle.saphyr_input.specs.Classes.{is_blank, is_break, is_blank_or_breakz}
+use Rattle.std.proofs.Common.{◌≡◌, ℕ, ◌+◌, ◌<◌, true, false, List, [], ◌∷◌, ◌++◌, length, drop, length-drop, slice_index, Result, Ok, Err, refl, sym, ap, ◌∙◌, arith, subst, IsTrue}
+use Rattle.std.specs.Prelude.{◌&&◌, ◌==◌, not, encode_utf8, Option, Some, None}
+use Rattle.saphyr_input.specs.Classes.{is_blank, is_break}
 use Rattle.saphyr_input.specs.Places.{next_2_are}
 use Rattle.saphyr_scalar.specs.Values.Escapes.{digit_count, short_escape}
 use Rattle.saphyr_scalar.specs.declared.scalar.position.Marker.{Marker}

@@ -1,6 +1,6 @@
 -- The piece of a text that is read as a quoted scalar, and what the standard reads of it.
-use Rattle.std.proofs.Common.{◌≡◌, ℕ, ◌+◌, ◌*◌, Bool, true, false, List, [], ◌∷◌, ◌++◌, length, drop, slice_index, Some, None, refl, sym, ap, ◌∙◌, arith, encode_utf8_all, nat_eq, IsTrue, cond, append_assoc, inl, inr}
-use Rattle.std.specs.Prelude.{◌||◌, ◌&&◌, ◌==◌, not, option_map, IsFalse}
+use Rattle.std.proofs.Common.{◌≡◌, ℕ, ◌+◌, ◌*◌, true, false, List, [], ◌∷◌, ◌++◌, length, drop, slice_index, Some, refl, sym, ap, ◌∙◌, arith, encode_utf8_all, nat_eq, IsTrue, append_assoc, inl, inr}
+use Rattle.std.specs.Prelude.{◌==◌, option_map, IsFalse}
 use Rattle.std.proofs.lemmas.Bool.Decides.{nat_tests}
 use Rattle.saphyr_input.specs.Classes.{is_break, is_hex, hex_value, carriage_return, line_feed}
 use Rattle.saphyr_input.specs.Breaks.{normalized}

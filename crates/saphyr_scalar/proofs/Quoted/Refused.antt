@@ -1,11 +1,10 @@
 -- A quoted scalar is refused where it begins, or at a tab in the indentation of a line.
 use Rattle.std.proofs.Common.{◌≡◌, ℕ, zero, suc, ◌+◌, Bool, true, false, List, [], ◌∷◌, drop, slice_index, Result, Ok, Err, refl, sym, ap, ◌∙◌, arith, subst, encode_utf8}
 use Rattle.std.specs.Prelude.{◌&&◌, ◌||◌, ◌==◌, not, pred, Option, Some, None}
-use Rattle.saphyr_input.specs.Classes.{is_blank, is_break, is_hex, is_z}
-use Rattle.saphyr_input.specs.Places.{next_2_are, is_document_indicator}
+use Rattle.saphyr_input.specs.Classes.{is_blank, is_break, is_hex}
+use Rattle.saphyr_input.specs.Places.{next_2_are}
 use Rattle.saphyr_scalar.specs.declared.values.Quote.{Quote}
 use Rattle.saphyr_scalar.specs.declared.values.Quote.TheVariants.{Single, Double}
-use Rattle.saphyr_scalar.specs.Values.Escapes.{digit_count, is_scalar_value, short_escape}
 use Rattle.saphyr_scalar.specs.declared.scalar.fault.Refusal.{Refusal}
 use Rattle.saphyr_scalar.specs.declared.scalar.position.Marker.{Marker}
 use Rattle.saphyr_scalar.specs.Views.Cursor.{Cursor, ◌>>=◌, along, next_line, pass}
@@ -19,7 +18,8 @@ use Rattle.saphyr_scalar.proofs.Moving.{along_more}
 use Rattle.saphyr_scalar.proofs.Block.PlacedHeaders.{passed_passed}
 use Rattle.saphyr_scalar.proofs.Quoted.Inside.{IsQuotedContent}
 use Rattle.saphyr_scalar.proofs.RefusedOnWay.{refused_there, inside_start, one_more_passed}
-use Rattle.saphyr_scalar.proofs.Refusals.{Refused, RefusedAt, refused_bind, refused_more, front_refused}
+use Rattle.saphyr_scalar.proofs.Given.{Refused, RefusedAt, refused_bind, refused_more}
+use Rattle.saphyr_scalar.proofs.Properties.Refused.{front_refused}
 use Rattle.saphyr_scalar.proofs.Quoted.SpelledEscapes.{escape_spelled, no_escape}
 use Rattle.saphyr_scalar.proofs.Quoted.SpelledWords.{special_of}
 use Rattle.saphyr_scalar.proofs.Quoted.SpelledLines.{gap_ended}

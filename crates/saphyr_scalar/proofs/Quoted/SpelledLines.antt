@@ -1,9 +1,7 @@
 -- What is read as a quoted scalar is spelled so, and its text is the reading of its items.
-use Rattle.std.proofs.Common.{◌≡◌, ℕ, zero, suc, ◌≤◌, Bool, false, List, [], ◌∷◌, ◌++◌, length, drop, slice_index, Result, Ok, Err, refl, sym, ap, ◌∙◌, arith, encode_utf8_all}
-use Rattle.std.specs.Prelude.{◌-◌, ◌&&◌, ◌==◌}
-use Rattle.std.proofs.lemmas.Bool.{ltb-false}
+use Rattle.std.proofs.Common.{◌≡◌, ℕ, zero, suc, ◌≤◌, false, List, [], ◌∷◌, ◌++◌, length, drop, slice_index, Result, Ok, Err, refl, sym, ap, ◌∙◌, arith, encode_utf8_all}
+use Rattle.std.specs.Prelude.{◌-◌}
 use Rattle.saphyr_input.specs.Classes.{is_z, is_blank, is_break}
-use Rattle.saphyr_input.specs.Places.{is_document_indicator}
 use Rattle.saphyr_scalar.specs.declared.scalar.position.Marker.{Marker}
 use Rattle.saphyr_scalar.specs.declared.scalar.fault.Refusal.{Refusal}
 use Rattle.saphyr_scalar.specs.declared.values.Item.{Item}
@@ -11,7 +9,7 @@ use Rattle.saphyr_scalar.specs.declared.values.Quote.{Quote}
 use Rattle.saphyr_scalar.specs.Views.Cursor.{Cursor, ◌>>=◌, along}
 use Rattle.saphyr_scalar.specs.Values.Flow as flow
 use Rattle.saphyr_scalar.specs.Values.Folding.{folded}
-use Rattle.saphyr_scalar.specs.Steps.Quoted.{TextRead, mid_line, QuotedGap, on_line, over_lines, no_gap, is_left, folded_break, quoted_line, end_gap, inner_text, quoted}
+use Rattle.saphyr_scalar.specs.Steps.Quoted.{TextRead, mid_line, QuotedGap, no_gap, quoted_line, end_gap, inner_text, quoted}
 use Rattle.saphyr_scalar.specs.Spelling.IndentedQuotes.{HasIndentedLines}
 use Rattle.saphyr_scalar.specs.Spelling.QuotedMarkers.{HasNoMarker}
 use Rattle.saphyr_scalar.proofs.Quoted.Clean as quotes
@@ -19,7 +17,6 @@ use Rattle.saphyr_scalar.proofs.Quoted.Clean.{IsClear}
 use Rattle.saphyr_scalar.specs.Passing.{IsPassed, character}
 use Rattle.saphyr_scalar.proofs.Quoted.Inside.{quoted_behind_gap, behind_no_gap, word_from}
 use Rattle.saphyr_scalar.proofs.Quoted.SpelledEscapes.{GaveText, nothing_text, front_gave}
-use Rattle.saphyr_input.proofs.Basics.Booleans.{by_test}
 use Rattle.saphyr_scalar.proofs.NoBreaks.{mark_no_break, mark_no_nul}
 use Rattle.saphyr_scalar.proofs.Quoted.GapBytes.{gap_front, no_gap_bytes}
 use Rattle.saphyr_scalar.proofs.Quoted.SpelledGaps.{IsOverLines, Spelled, Known, enough, blank_step, break_step}

@@ -1,5 +1,5 @@
 -- The words of a quoted scalar that is read are spelled so, and its closing quote.
-use Rattle.std.proofs.Common.{◌≡◌, ℕ, ◌-◌, ◌≤◌, Bool, true, false, List, [], ◌∷◌, ◌++◌, length, drop, slice_index, refl, sym, ap, ◌∙◌, arith, subst, IsTrue, cond}
+use Rattle.std.proofs.Common.{◌≡◌, ℕ, ◌≤◌, Bool, true, false, List, [], ◌∷◌, ◌++◌, length, drop, slice_index, refl, sym, ap, ◌∙◌, arith, subst, IsTrue, cond}
 use Rattle.std.specs.Prelude.{◌==◌, encode_utf8}
 use Rattle.saphyr_input.specs.Classes.{is_break}
 use Rattle.saphyr_scalar.specs.declared.scalar.position.Marker.{Marker}
@@ -19,7 +19,7 @@ use Rattle.saphyr_scalar.proofs.Quoted.Inside.{IsQuotedContent, stands}
 use Rattle.saphyr_scalar.proofs.Quoted.Parts.{at_escape, at_two_quotes}
 use Rattle.saphyr_scalar.proofs.Quoted.Gaps.{at_escaped_break, at_closing}
 use Rattle.saphyr_scalar.proofs.Quoted.SpelledEscapes.{GaveText, text_first, text_second, then_text, front_gave, escape_spelled, no_escape}
-use Rattle.std.proofs.lemmas.Bool.{eqb-true, or_left, or_right}
+use Rattle.std.proofs.lemmas.Bool.{eqb-true, or_right}
 use Rattle.saphyr_input.specs.Indicators.{apostrophe, backslash, quotation_mark}
 use Rattle.saphyr_input.proofs.Basics.Booleans.{either, or_false_left}
 use Rattle.saphyr_input.proofs.Basics.Lists.{drop_shorter}

@@ -1,6 +1,6 @@
 -- The items of a quoted scalar, one after another.
-use Rattle.std.proofs.Common.{◌≡◌, ℕ, zero, suc, ◌<◌, false, List, [], ◌∷◌, drop, Option, Some, refl, ◌∙◌, ap, arith, pred}
-use Rattle.std.specs.Prelude.{option_map, option_and_then}
+use Rattle.std.proofs.Common.{◌≡◌, ℕ, zero, suc, ◌<◌, false, List, [], ◌∷◌, drop, Some, refl, arith}
+use Rattle.std.specs.Prelude.{option_map}
 use Rattle.saphyr_scalar.specs.declared.values.Item.{Item}
 use Rattle.saphyr_scalar.specs.declared.values.Quote.{Quote}
 use Rattle.saphyr_scalar.specs.Values.Flow.{is_closing_at_end, first_item, items_to_quote}

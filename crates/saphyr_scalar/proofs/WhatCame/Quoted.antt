@@ -14,7 +14,7 @@ use Rattle.saphyr_scalar.specs.Values.Flow as flow
 use Rattle.saphyr_scalar.specs.Values.Escapes.{short_escape, digit_count, is_scalar_value}
 use Rattle.saphyr_scalar.specs.Steps.Quoted.{TextRead, mid_line, with_front, is_literal, digits, character, escape_by_number, escape_of, escaped_character, special, special_len, QuotedGap, on_line, over_lines, blank_in, break_in, break_len, end_gap, quoted_line, is_left, escaped_gap, if_some, no_gap, inner_text, quoted}
 use Rattle.saphyr_scalar.specs.Known.{is_open, longer, IsRestOfText}
-use Rattle.saphyr_scalar.proofs.WhatCame.Rests.{is_nothing, some, later_than, known_longer, shown, later_here, later_on, later_drop, first_known, indicator_known, blank_shown, drop_known, break_known}
+use Rattle.saphyr_scalar.proofs.WhatCame.Rests.{is_nothing, some, later_than, shown, later_here, later_on, later_drop, first_known, indicator_known, drop_known, break_known}
 use Rattle.saphyr_scalar.proofs.WhatCame.Steps.{Left, Came, Sure, and_known, beside, kept, whole, behind, further, reports, refused, stays, given, past, same_step, ended, choose, choose_same, choose_at, choose_first, on}
 use Rattle.saphyr_scalar.proofs.WhatCame.Runs.{passed}
 

@@ -1,6 +1,6 @@
 -- Inside the lines of a block scalar is no NUL and no byte order mark, and at the start of none a document marker.
 use Rattle.std.proofs.Common.{◌≡◌, ◌⊎◌, ℕ, ◌+◌, Bool, true, false, List, [], ◌∷◌, ◌++◌, slice_index, refl, sym, ap, arith, subst, inl, inr}
-use Rattle.std.specs.Prelude.{◌||◌, ◌&&◌, ◌==◌, not, Option, Some, IsTrue, IsFalse}
+use Rattle.std.specs.Prelude.{◌||◌, ◌==◌, Option, Some, IsTrue, IsFalse}
 use Rattle.saphyr_input.specs.Classes.{is_blank, is_break, is_yaml_non_break, line_feed, space}
 use Rattle.saphyr_input.specs.Places.{is_document_indicator}
 use Rattle.saphyr_scalar.specs.declared.values.BlockStyle.{BlockStyle}

@@ -1,6 +1,6 @@
 -- What is read as a block scalar is one in the standard's words, and its span begins before its content.
 use Rattle.std.proofs.Common.{◌≡◌, ◌⊎◌, ℕ, zero, suc, ◌≤◌, ◌<◌, Bool, true, false, List, [], ◌∷◌, ◌++◌, length, slice_index, Ok, refl, sym, ap, ◌∙◌, arith, subst, inl, inr, append_assoc}
-use Rattle.std.specs.Prelude.{◌||◌, ◌&&◌, ◌==◌, not, max, map, Option, unwrap_or, IsTrue, IsFalse, nat_lt, nat_le}
+use Rattle.std.specs.Prelude.{◌&&◌, ◌==◌, max, map, Option, unwrap_or, IsTrue, IsFalse, nat_lt, nat_le}
 use Rattle.std.proofs.lemmas.Bool.Decides.{nat_tests}
 use Rattle.std.proofs.lemmas.List.{append-nil, append_cancel_right}
 use Rattle.saphyr_input.specs.Breaks.{normalized}
@@ -16,7 +16,7 @@ use Rattle.saphyr_scalar.specs.Steps.BlockRead as step
 use Rattle.saphyr_scalar.specs.Steps.BlockRead.{indentation_of}
 use Rattle.saphyr_scalar.specs.Values.Block.{Line, Empty, has_content, line_of, lines_of}
 use Rattle.saphyr_scalar.specs.Steps.Block.{line_starts, pass_empty_lines_at, no_lines, given_indentation, chomped_lines, content, behind_leading_lines, behind_header, block_scalar, header}
-use Rattle.saphyr_scalar.specs.Reading.BlockText.{AreInside, AreNotWider, HasNoContent, IsIndentationFrom, IsBehindLines, IsBlockText, IsHeaderLine}
+use Rattle.saphyr_scalar.specs.Reading.BlockText.{AreInside, HasNoContent, IsIndentationFrom, IsBehindLines, IsBlockText, IsHeaderLine}
 use Rattle.saphyr_scalar.specs.Views.Cursor.{Cursor}
 use Rattle.saphyr_scalar.specs.Values.Lines.{ended_lines, last_line}
 use Rattle.saphyr_scalar.specs.Passing as passing

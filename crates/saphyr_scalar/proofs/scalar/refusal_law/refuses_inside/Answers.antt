@@ -1,6 +1,7 @@
 use Rattle.std.proofs.Common.{◌≡◌}
 use Rattle.saphyr_scalar.proofs.Directives.Refused.{separation_refused, directive_refused}
-use Rattle.saphyr_scalar.proofs.Refusals.{refused_of, anchor_refused, tag_refused}
+use Rattle.saphyr_scalar.proofs.Given.{refused_of}
+use Rattle.saphyr_scalar.proofs.Properties.Refused.{anchor_refused, tag_refused}
 use Rattle.saphyr_scalar.specs.Steps.Anchor.{anchor}
 use Rattle.saphyr_scalar.proofs.Block.Refused.{block_scalar_refused}
 use Rattle.saphyr_scalar.specs.Steps.Block.{block_scalar}

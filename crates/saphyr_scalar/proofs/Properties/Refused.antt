@@ -1,41 +1,17 @@
--- What is known of a refusal, if there is one. Anchors and tags are refused where they begin.
-use Rattle.std.proofs.Common.{◌≡◌, ℕ, zero, suc, ◌-◌, Bool, List, [], ◌∷◌, length, slice_index, Result, Ok, Err, refl, subst, encode_utf8, arith}
-use Rattle.std.specs.Prelude.{◌&&◌, ◌||◌, ◌==◌}
-use Rattle.saphyr_input.specs.Classes.{is_alpha, is_anchor_char, is_blank_or_breakz, is_flow}
+-- Anchors and tags are refused where they begin.
+use Rattle.std.proofs.Common.{◌≡◌, ℕ, zero, suc, Bool, List, [], ◌∷◌, length, slice_index, Result, refl, arith}
+use Rattle.std.specs.Prelude.{◌==◌}
+use Rattle.saphyr_input.specs.Classes.{is_anchor_char}
 use Rattle.saphyr_scalar.specs.declared.scalar.position.Marker.{Marker}
 use Rattle.saphyr_scalar.specs.declared.scalar.fault.Refusal.{Refusal}
 use Rattle.saphyr_scalar.specs.declared.scalar.tag.UriSet.{UriSet}
-use Rattle.saphyr_scalar.specs.declared.scalar.tag.UriSet.TheVariants.{Uri, Suffix}
-use Rattle.saphyr_scalar.specs.Views.Cursor.{Cursor, ◌>>=◌, along, pass}
-use Rattle.saphyr_scalar.specs.Steps.Quoted.{with_front, with_run, mid_line}
+use Rattle.saphyr_scalar.specs.Views.Cursor.{Cursor, along, pass}
+use Rattle.saphyr_scalar.specs.Steps.Quoted.{with_front, with_run}
 use Rattle.saphyr_scalar.specs.Steps.Anchor as names
 use Rattle.saphyr_scalar.specs.Steps.Anchor.{anchor}
-use Rattle.saphyr_scalar.specs.Steps.Tag.{is_in_set, shows_byte, escaped_byte, utf8_width, leading_bits, is_trailing, is_encoded, trailing_byte, trailing_bytes, encoded_character, behind_leading_byte, percent_escape, uri_character, uri_tail, decoded_characters, decoded_at, TagRead, verbatim_end, verbatim_tag, named_tag, named_tail, tag_behind_word, shorthand_tag, tag_end, tag}
+use Rattle.saphyr_scalar.specs.Steps.Tag.{shows_byte, escaped_byte, is_trailing, trailing_byte, trailing_bytes, encoded_character, behind_leading_byte, percent_escape, uri_character, uri_tail, decoded_characters, verbatim_end, verbatim_tag, named_tag, named_tail, tag_behind_word, shorthand_tag, tag_end, tag}
+use Rattle.saphyr_scalar.proofs.Given.{Refused, RefusedAt, refused_bind}
 use Rattle.saphyr_input.proofs.Basics.Booleans.{by_test}
-
--- what is refused, if anything is, has this property
-abbrev pub Refused : {X : Type 0} → (Refusal → Type 0) → Result X Refusal → Type 0
-Refused P (Ok x) = Unit {0}
-Refused P (Err e) = P e
-
-pub refused_bind : {X Y : Type 0} → (P : Refusal → Type 0) (r : Result X Refusal) (f : X → Result Y Refusal)
-    → Refused P r → ((x : X) → r ≡ Ok x → Refused P (f x)) → Refused P (r >>= f)
-refused_bind P (Ok x) f h k = k x refl
-refused_bind P (Err e) f h k = h
-
-pub refused_of : {X : Type 0} → (P : Refusal → Type 0) (r : Result X Refusal) (e : Refusal) → Refused P r → r ≡ Err e
-    → P e
-refused_of P (Ok x) e h is = absurd (cc)
-refused_of P (Err d) e h is = let same : d ≡ e = cc in subst P same h
-
-pub refused_more : {X : Type 0} → (P Q : Refusal → Type 0) (r : Result X Refusal) → Refused P r
-    → ((e : Refusal) → P e → Q e) → Refused Q r
-refused_more P Q (Ok x) h k = tt
-refused_more P Q (Err e) h k = k e h
-
--- refused where it began
-abbrev pub RefusedAt : {X : Type 0} → Marker → Result X Refusal → Type 0
-RefusedAt start r = Refused (λ e. e.mark ≡ start) r
 
 -- ## Anchors
 
