@@ -2,12 +2,13 @@
 use Rattle.std.proofs.Common.{◌≡◌, ◌+◌, ◌-◌, ◌≤◌, ◌<◌, List, [], ◌∷◌, ◌++◌, length, drop, take, refl, sym, ap, subst, arith, ◌∙◌, ℕ, zero, suc, true, false, Bool, nat_lt, append-nil, append_assoc}
 use Rattle.std.specs.Prelude.{Option, Some, None, unwrap_or, set, slice_index_or, IsUtf8}
 use Rattle.std.specs.Borrow.{Bor}
-use Rattle.std.specs.List.{HoldsAt}
+use Rattle.std.specs.List.{HoldsAt, copy_within}
 use Rattle.std.specs.Option.{MatchOption, option_copied}
 use Rattle.std.proofs.Math.Dec.{eqb, eqb-suc-zero}
 use Rattle.std.proofs.Math.ListN.{drop_of_length-le}
 use Rattle.std.proofs.Math.Seq.{take-length, drop-length, take-append_seam, drop-append_seam}
-use Rattle.std.proofs.lemmas.List.{drop-drop, length-append, length-drop, take-append-le, drop-append-le, drop-set-add, get_or-drop}
+use Rattle.std.proofs.lemmas.List.{drop-drop, length-append, length-drop, take-append-le, drop-append-le, drop-set-add, get_or-drop, take_rest}
+use Rattle.std.proofs.lemmas.List.Edits.{take-paste}
 use Rattle.std.proofs.lemmas.Bool.Decides.{nat_tests}
 use Rattle.std.proofs.lemmas.Str.{IsUtf8-had, IsUtf8-nil}
 use Rattle.saphyr_scalar.specs.declared.scalar.position.Span.{Span}
@@ -25,6 +26,17 @@ use Rattle.saphyr_scanner.specs.Views.Places.{AddsBehind, Fit, HasTexts, HasText
 use Rattle.saphyr_scanner.specs.Views.Queue.{BeginsWithPlace, behind_first, first_of, queue, queue_places}
 use Rattle.saphyr_scanner.specs.Views.Tokens.{Parts, Piece, kind_with, piece_with, text_of, texts_alone, token_kind}
 use Rattle.saphyr_scanner.proofs.Queues.{queue_at}
+
+-- ## Places that are moved to the front
+
+pub moved_down : {X : Type 0} (xs : List X) (i : ℕ) → i ≤ length xs
+    → take (length xs - i) (copy_within xs i (length xs) 0) ≡ drop i xs
+moved_down xs i h =
+    let rest = length-drop i xs in
+    let count : ℕ = length xs - i in
+    let same : count ≡ 0 + count = omega arith in
+    ap (λ n. take n (copy_within xs i (length xs) 0)) same
+    ∙ take-paste xs 0 (drop i xs) count (omega arith) (omega (arith, rest, h)) ∙ take_rest xs i
 
 -- ## Kinds and parts
 

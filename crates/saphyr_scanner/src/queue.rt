@@ -17,6 +17,9 @@ use crate::token::TokenKind;
 use saphyr_scalar::{Marker, Span, Spare};
 use std::alloc::{AllocError, Global};
 
+// How many more places there is room for when more are needed.
+const FEW: usize = 16;
+
 /// What comes in front of a token: nothing, or the tokens that make it a key. The definitions of what a queue gives
 /// speak of it, so it is public.
 #[derive(Clone, Copy)]
@@ -36,7 +39,7 @@ pub enum Opening {
 /// that is known, with all tokens after it: in `[a, b]: c` the bracket and the tokens after it wait for the
 /// colon. The place of a token also says what makes it a key, so no token moves.
 ///
-/// A place that is handed out stays where it is until none is left, or there is no room for another.
+/// A place that is handed out stays where it is until there is no room for another.
 #[derive(Drop)]
 pub(crate) struct Queue {
     places: Vec<Place>,
@@ -107,19 +110,23 @@ impl Queue {
         Ok(())
     }
 
-    // Makes room where there is none: places that were handed out are taken off, if they are most of them.
+    // Makes room where there is none: places that were handed out are taken off, if they are most of them. For speed
+    // that is not done at each token that is handed out.
     #[inline(never)]
-    #[tactic(auto, unfolding(crate::specs::Views::Queue::queue_places))]
+    #[tactic(auto, using(crate::proofs::QueuedPlaces::moved_down), unfolding(crate::specs::Views::Queue::queue_places))]
     fn grow(&mut self) -> Result<(), AllocError>
         ensures same { queue self.new ≡ queue self.old }
         ensures room { OnOk result (vec_len self.new.places < vec_capacity self.new.places) }
     {
+        self.texts.clear_spent();
         if self.spent > self.places.len() / 2 {
-            drop(self.places.drain(..self.spent));
+            let left = self.places.len() - self.spent;
+            self.places.copy_within(self.spent.., 0);
+            self.places.truncate(left);
             self.spent = 0;
             return Ok(());
         }
-        self.places.reserve(1)?;
+        self.places.reserve(FEW)?;
         Ok(())
     }
 

@@ -124,7 +124,7 @@ impl<T: Input> Scanner<T> {
     }
 
     // Reads until the next token can be handed out. It starves where what came does not tell that token.
-    #[inline(never)]
+    #[inline(always)]
     fn read_on(&mut self) -> Result<(), Stopped>
         requires needed { needs_token self.old.state ≡ true }
         requires settled { without_far_key self.old.state ≡ Ok self.old.state }
@@ -133,14 +133,30 @@ impl<T: Input> Scanner<T> {
             → (is_at_start self.old.state.core ≡ false)
             × IsUndecided (fill self.old.limit self.old.state) }
     {
+        if matches!(self.growth, Growth::Growing) {
+            return self.read_growing();
+        }
+        // A law. It does nothing when it runs.
+        takes_characters_off();
+        self.engine.read_tokens(self.limit)
+    }
+
+    // Reads on where more of the text may come. It is separate for speed: a text is mostly whole.
+    #[inline(never)]
+    fn read_growing(&mut self) -> Result<(), Stopped>
+        requires needed { needs_token self.old.state ≡ true }
+        requires settled { without_far_key self.old.state ≡ Ok self.old.state }
+        requires growing { is_growing self.old.growth ≡ true }
+        ensures read { Readies result self.old self.new }
+        ensures starved { self.new.growth ≡ Starved
+            → (is_at_start self.old.state.core ≡ false)
+            × IsUndecided (fill self.old.limit self.old.state) }
+    {
         // A law. It does nothing when it runs.
         takes_characters_off();
         let starts = self.engine.is_at_start();
         let read = self.engine.read_tokens(self.limit);
         if starts {
-            return read;
-        }
-        if !matches!(self.growth, Growth::Growing) {
             return read;
         }
         if self.engine.is_decided(read) {

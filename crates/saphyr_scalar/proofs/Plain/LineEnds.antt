@@ -11,7 +11,7 @@ use Rattle.saphyr_scalar.specs.declared.scalar.fault.Refusal.{Refusal}
 use Rattle.saphyr_scalar.specs.Views.Cursor.{Cursor, ◌>>=◌, pass_break, pass_spaces}
 use Rattle.saphyr_scalar.specs.Steps.Plain.{is_in_word, plain, word_starts, PlainWordsMoved, PlainGap, seen_gap, line_front, lines, folded_gap, next_lines, gap_from, gap, next_word_starts, comment_of, with_text, word, content_behind_tab}
 use Rattle.saphyr_scalar.specs.Steps.Quoted.{with_run}
-use Rattle.saphyr_scalar.specs.Steps.PlainLines.{scalar_behind_line, is_left_of_scalar, behind_break, ends_at_once}
+use Rattle.saphyr_scalar.specs.Steps.PlainLines.{scalar_behind_line, scalar_behind_word, is_left_of_scalar, behind_break, ends_at_once}
 use Rattle.saphyr_scalar.proofs.NoSeparation.{no_run}
 use Rattle.saphyr_scalar.proofs.Quoted.Inside.{break_cases}
 use Rattle.saphyr_scalar.proofs.Quoted.Gaps.{by_break_len}
@@ -126,7 +126,7 @@ ended_at_once f i a text s u b ends line is over at = by_break (is_break (slice_
 -- ## Behind the first words of a scalar
 
 -- the lines behind them
-pub lines_and_rest : (f : Bool) (i : ℕ) (s there end here : Cursor) (text grown whole : List ℕ)
+lines_and_rest : (f : Bool) (i : ℕ) (s there end here : Cursor) (text grown whole : List ℕ)
     → word_starts f s ≡ Ok (true, there) → PlainWordsMoved f text grown there end
     → is_break (slice_index end.rest 0) ≡ true → here ≡ behind_break end → whole ≡ grown
     → with_text whole (scalar_behind_line f i s.mark end.mark here) ≡ with_text text (plain f i s)
@@ -134,9 +134,19 @@ lines_and_rest f i s there end here text grown whole starts words breaks at same
     grind (arith, word_to_break, words_and_rest)
 
 -- what is behind them on their line
-pub gap_and_rest : (f : Bool) (i : ℕ) (s there end here : Cursor) (text grown whole : List ℕ)
+gap_and_rest : (f : Bool) (i : ℕ) (s there end here : Cursor) (text grown whole : List ℕ)
     → word_starts f s ≡ Ok (true, there) → PlainWordsMoved f text grown there end
     → is_break (slice_index end.rest 0) ≡ false → here ≡ behind_break end → whole ≡ grown
     → with_text whole (word f i s.mark here.mark here.rest) ≡ with_text text (plain f i s)
 gap_and_rest f i s there end here text grown whole starts words stops at same =
     grind (arith, words_and_rest, stays_there)
+
+-- either of them
+pub behind_and_rest : (b : Bool) (f : Bool) (i : ℕ) (s there end here : Cursor) (text grown whole : List ℕ)
+    → word_starts f s ≡ Ok (true, there) → PlainWordsMoved f text grown there end
+    → is_break (slice_index end.rest 0) ≡ b → here ≡ behind_break end → whole ≡ grown
+    → with_text whole (scalar_behind_word b f i s.mark end.mark here) ≡ with_text text (plain f i s)
+behind_and_rest true f i s there end here text grown whole starts words breaks at same =
+    lines_and_rest f i s there end here text grown whole starts words breaks at same
+behind_and_rest false f i s there end here text grown whole starts words breaks at same =
+    gap_and_rest f i s there end here text grown whole starts words breaks at same

@@ -5,6 +5,7 @@ mod words;
 
 ghost use Rattle.std.specs.Prelude.{◌≡◌, ◌≤◌, slice_index, string_bytes, false, true};
 ghost use Rattle.std.specs.String.Boundary.{IsSplitPoint};
+ghost use Rattle.saphyr_input.specs.Classes as class;
 ghost use Rattle.saphyr_scalar.specs.Steps.Plain as spec;
 ghost use Rattle.saphyr_scalar.specs.Steps.PlainLines as lines;
 
@@ -173,6 +174,47 @@ impl<T: Input> Reader<T> {
         self.is_left_of_plain(next, in_flow, indent)
     }
 
+    // Moves what is left of a plain scalar behind a word that ended at `end`, before `c`, to the end of its text. A
+    // break that stood there, and the spaces after it, were taken off.
+    //
+    // It is separate for speed: the places for what it reads are cleared here, and not for each scalar.
+    #[inline(never)]
+    fn read_plain_on(
+        &mut self,
+        alloc: Global,
+        c: char,
+        in_flow: bool,
+        indent: usize,
+        start: Marker,
+        end: Marker,
+        text: &mut String,
+    ) -> Result<PlainEnd, Stop>
+        requires lines { class.is_break c ≡ true → (cursor_of self.old).blank_so_far ≡ true }
+        requires ended { class.is_break c ≡ false
+            → spec.is_in_word in_flow (cursor_of self.old).rest ≡ false }
+        requires on_line { class.is_break c ≡ false → (cursor_of self.old).blank_so_far ≡ false }
+        ensures { WritesBy spec.seen_plain_end
+            (λ before s. spec.with_text before
+            (lines.scalar_behind_word (class.is_break c) in_flow indent start end s))
+            text.old self.old result text.new self.new }
+    {
+        let whole = replace(text, String::new(alloc));
+        if is_break(c) {
+            let folded = self.read_plain_lines(in_flow, indent, start, end, whole)?;
+            *text = folded.text;
+            return Ok(PlainEnd {
+                end: folded.end,
+                comment: folded.comment,
+            });
+        }
+        let scalar = self.read_plain_rest(in_flow, indent, start, whole)?;
+        *text = scalar.text;
+        Ok(PlainEnd {
+            end: scalar.end,
+            comment: scalar.comment,
+        })
+    }
+
     /// Takes off a plain scalar, inside flow or outside, and the blanks and breaks after it (YAML
     /// 1.2.2, 7.3.3). Its text has its lines folded (6.5).
     ///
@@ -213,20 +255,9 @@ impl<T: Input> Reader<T> {
             let comment = None;
             return Ok(PlainEnd { end, comment });
         }
-        let whole = replace(text, String::new(alloc));
-        if is_break(c) {
-            let folded = self.read_plain_lines(in_flow, indent, start, end, whole)?;
-            *text = folded.text;
-            return Ok(PlainEnd {
-                end: folded.end,
-                comment: folded.comment,
-            });
-        }
-        let scalar = self.read_plain_rest(in_flow, indent, start, whole)?;
-        *text = scalar.text;
-        Ok(PlainEnd {
-            end: scalar.end,
-            comment: scalar.comment,
-        })
+        // For speed the result is taken apart: otherwise it would be in memory on the frequent way too.
+        let rest = self.read_plain_on(alloc, c, in_flow, indent, start, end, text)?;
+        let (end, comment) = (rest.end, rest.comment);
+        Ok(PlainEnd { end, comment })
     }
 }

@@ -62,26 +62,6 @@ impl<T: Input> Engine<T> {
         self.refuse_tab(found)
     }
 
-    // Passes `-` and the space behind it, if that is followed by what most entries begin with. It is separate for
-    // speed: this way the steps over characters are inlined.
-    #[inline(never)]
-    fn passes_spaced_dash(&mut self) -> bool
-        requires first { slice_index (state self.old).core.cursor.rest 0 ≡ hyphen }
-        requires second { slice_index (state self.old).core.cursor.rest 1 ≡ space }
-        ensures decides { result ≡ may_begin_entry
-            (slice_index (state self.old).core.cursor.rest 2) }
-        ensures passed { IsTrue result → state self.new
-            ≡ spec_state.with_core (passing.pass_on 2 (state self.old).core) (state self.old) }
-        ensures same { result ≡ false → state self.new ≡ state self.old }
-    {
-        self.reader.load(3);
-        if may_begin_entry(self.reader.input().peek_nth(2)) {
-            self.reader.skip_two_ascii();
-            return true;
-        }
-        false
-    }
-
     // Passes `-` and the space behind it, if that is followed by what most entries begin with.
     #[inline(always)]
     fn passes_dash_and_space(&mut self, next: char) -> bool
@@ -93,7 +73,15 @@ impl<T: Input> Engine<T> {
             ≡ spec_state.with_core (passing.pass_on 2 (state self.old).core) (state self.old) }
         ensures same { result ≡ false → state self.new ≡ state self.old }
     {
-        next == ' ' && self.passes_spaced_dash()
+        if next != ' ' {
+            return false;
+        }
+        self.reader.load(3);
+        if may_begin_entry(self.reader.input().peek_nth(2)) {
+            self.reader.skip_two_ascii();
+            return true;
+        }
+        false
     }
 
     // Passes `-` and what follows it on its line, and a block sequence begins at its column, if one does.

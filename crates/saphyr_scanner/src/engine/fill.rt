@@ -93,7 +93,7 @@ impl<T: Input> Engine<T> {
 
     /// Reads tokens until the head of the queue can be handed out, unless all were. To be called where the next token
     /// must be read.
-    #[inline(always)]
+    #[inline(never)]
     pub(crate) fn read_tokens(&mut self, limit: usize) -> Result<(), Stopped>
         requires needed { fetch.needs_token (state self.old) ≡ true }
         requires settled { fetch.without_far_key (state self.old) ≡ Ok (state self.old) }

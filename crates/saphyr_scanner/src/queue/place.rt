@@ -472,6 +472,7 @@ impl Place {
         handle.push_str(texts.text_at(0, extent.handle))?;
         text.push_str(texts.text_at(extent.handle, extent.text))?;
         self.pass_texts(texts);
+        texts.clear_spent();
         Ok(TokenParts {
             handle,
             text,

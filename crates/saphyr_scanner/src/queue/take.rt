@@ -52,18 +52,6 @@ impl Queue {
         }
     }
 
-    // Uses the memory of places and texts again, where all were handed out.
-    #[inline(always)]
-    fn clear_spent(&mut self)
-        ensures { queue self.new ≡ queue self.old }
-    {
-        if self.spent == self.places.len() {
-            self.places.clear();
-            self.spent = 0;
-            self.texts.clear();
-        }
-    }
-
     /// Takes off the token that is handed out next. Its span goes into the place of another.
     #[inline(always)]
     pub(crate) fn skip_into(&mut self, span: &mut Span)
@@ -81,7 +69,6 @@ impl Queue {
             first.pass_texts(&mut self.texts);
             self.spent += 1;
             self.handed += 1;
-            self.clear_spent();
             return;
         }
         span.end = span.start;
@@ -117,7 +104,6 @@ impl Queue {
         place.take_text_into(&mut self.texts, into)?;
         self.spent += 1;
         self.handed += 1;
-        self.clear_spent();
         Ok(())
     }
 
@@ -143,7 +129,6 @@ impl Queue {
         let parts = place.take_parts(alloc, &mut self.texts, spare)?;
         self.spent += 1;
         self.handed += 1;
-        self.clear_spent();
         Ok(parts)
     }
 }

@@ -240,6 +240,17 @@ impl Texts {
         self.spent += count;
     }
 
+    /// Uses the memory of the texts again, where all were handed out.
+    #[inline(always)]
+    pub(super) fn clear_spent(&mut self)
+        ensures { self.new ≡ self.old }
+    {
+        if self.spent == self.texts.len() {
+            self.texts.clear();
+            self.spent = 0;
+        }
+    }
+
     // Whether a text of so many bytes, which is alone, is handed out in the memory where it is.
     #[inline(always)]
     fn is_handed_over(&self, count: usize) -> bool {
@@ -270,6 +281,7 @@ impl Texts {
         into.push_str(self.text_at(handle, count))?;
         self.pass_text(handle);
         self.pass_text(count);
+        self.clear_spent();
         Ok(())
     }
 
@@ -337,16 +349,6 @@ impl Texts {
         self.take_behind_into(extent.handle, extent.text, into)?;
         drop(self.extents.pop_front());
         Ok(())
-    }
-
-    /// Forgets all texts, where no token has any. Their memory is kept for others.
-    #[inline(always)]
-    pub(super) fn clear(&mut self)
-        requires { self.old ≡ spec.nothing }
-        ensures { self.new ≡ spec.nothing }
-    {
-        self.texts.clear();
-        self.spent = 0;
     }
 
     /// Forgets all texts and extents, and the places of their tokens, after an error, which is returned.
