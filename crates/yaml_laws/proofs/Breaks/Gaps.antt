@@ -7,7 +7,7 @@ use Rattle.saphyr_scalar.specs.declared.scalar.position.Marker.{Marker}
 use Rattle.saphyr_scalar.specs.Views.Cursor.{Cursor, along, next_line}
 use Rattle.scalar_laws.proofs.Breaks.Sides.{Normal, normalized_is, nothing, character, feed, return, pair}
 use Rattle.scalar_laws.proofs.Breaks.Results.{Both, gives, refused, choose_same, and_then}
-use Rattle.saphyr_scanner.specs.Steps.Gap.{Gap, GapEnd, stop, end_of_gap, end_of_gap_in_comment, gap_at, gap_here, is_gap_blank, is_tab_indentation, spaces_at, spaces_of}
+use Rattle.saphyr_scanner.specs.Steps.Gap.{Gap, GapEnd, stop, end_of_gap, end_of_gap_in_comment, gap_at, gap_here, is_gap_blank, is_tab_indentation}
 use Rattle.yaml_laws.proofs.Breaks.Normal.{beside, first_is, indicator_so, plain_so}
 use Rattle.yaml_laws.proofs.Breaks.Places.{reindexed, near, Ahead, Stand, Low, ahead_ahead, ahead_stands, stand_here, choose_by, line_from, character_ahead, two_ahead, single_ahead}
 use Rattle.saphyr_input.proofs.Basics.Characters.{no_return}
@@ -18,7 +18,7 @@ use Rattle.saphyr_scanner.specs.Steps.Passing.{pass_gap, check_comment, goes_on_
 use Rattle.yaml_laws.proofs.Breaks.Cores.{Indexes, near_core, near_comment, Cores, Twin, Laws, Alike, Anywhere, here, twin_low, twin_stands, twin_moves, going_to}
 
 -- from s on the same is passed in both texts
-abbrev PassesAlike : List ℕ → Cursor → ℕ → Gap → Gap → Type 0
+abbrev pub PassesAlike : List ℕ → Cursor → ℕ → Gap → Gap → Type 0
 PassesAlike text s i g h =
     (j : ℕ) × (h ≡ record { cursor = near j g.cursor; met = g.met; tabbed = g.tabbed }) × Ahead text s i g.cursor j ×
     (is_break (slice_index g.cursor.rest 0) ≡ false)
@@ -89,18 +89,10 @@ module _ (text : List ℕ) (tabs : Bool) (least : ℕ) where
       (ahead_stands text _ _ _ _ line)).between in
       record { between = rw (e, passes_no_return tabs, passes_no_feed tabs) h; inside = rw e h }
 
-gap_alike : (text : List ℕ) (tabs : Bool) (least : ℕ) (s : Cursor) (i : ℕ) (met : Bool) → Low s → Stand text s i
+pub gap_alike : (text : List ℕ) (tabs : Bool) (least : ℕ) (s : Cursor) (i : ℕ) (met : Bool) → Low s → Stand text s i
     → PassesAlike text s i (gap_at tabs least met false s) (gap_at tabs least met false (near i s))
 gap_alike text tabs least s i met low x =
     (all_gaps text tabs least (beside s.rest) s.mark i s.blank_so_far met false low x).between
-
--- after `?`
-pub spaces_alike : (text : List ℕ) (s : Cursor) (i : ℕ) (space : Bool) → Low s → Stand text s i
-    → (j : ℕ) × (spaces_at space (near i s) ≡ record {
-      cursor = near j (spaces_at space s).cursor;
-      space = (spaces_at space s).space;
-    }) × Ahead text s i (spaces_at space s).cursor j
-spaces_alike text s i space low x = let h = gap_alike text false 0 s i space low x in (h.0, ap spaces_of h.1, h.2)
 
 -- between tokens the same is passed, or refused
 stop_alike : (text : List ℕ) (s : Cursor) (i : ℕ) (g h : Gap) → PassesAlike text s i g h

@@ -8,7 +8,7 @@ use Rattle.saphyr_scanner.specs.Steps.Flow as flow
 use Rattle.saphyr_scanner.specs.Steps.Gap as gaps
 use Rattle.saphyr_scanner.specs.Steps.Value as value
 use Rattle.yaml_laws.proofs.Breaks.Cores.{Indexes, near_core, near_key, near_levels, first, others, LevelsEven, Cores, Anywhere, Twin, Laws, Alike, Unbroken, here, of_cores, with_core, and_core, same_length, save_same, roll_same, remove_same, forgotten, and_separate, and_pass, pass_same, pass_near, pass_ahead, twin_low, twin_stands, twin_alike, twin_moves, going_to, here_adjacent}
-use Rattle.yaml_laws.proofs.Breaks.Gaps.{spaces_alike}
+use Rattle.yaml_laws.proofs.Breaks.Gaps.{gap_alike}
 use Rattle.yaml_laws.proofs.Breaks.Normal.{first_is, second_is}
 use Rattle.yaml_laws.proofs.Breaks.Places.{reindexed, even_index, ahead_ahead, ahead_stands, low_ahead, choose_by}
 use Rattle.yaml_laws.proofs.Breaks.States.{SameAction, SameActions, SameSteps}
@@ -149,7 +149,7 @@ module _ {text : List ℕ} (laws : Laws text) where
       let s = pass 1 c.cursor in
       let on = pass_ahead text x.at c.cursor.rest c.cursor.mark c.cursor.blank_so_far unbroken (twin_stands c x t) in
       let low = low_ahead text c.cursor x.at s (x.at + 1) on (twin_low c x laws t) in
-      let h = spaces_alike text s (x.at + 1) false low (ahead_stands text c.cursor x.at s (x.at + 1) on) in
+      let h = gap_alike text false 0 s (x.at + 1) false low (ahead_stands text c.cursor x.at s (x.at + 1) on) in
       let g = gaps.spaces_at false s in
       let d = with_cursor g.cursor c in
       let there = twin_moves c x g.cursor h.0 t (ahead_ahead text c.cursor x.at s (x.at + 1) g.cursor h.0 on h.2) in

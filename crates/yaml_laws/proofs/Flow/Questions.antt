@@ -6,7 +6,7 @@ use Rattle.saphyr_scalar.specs.declared.scalar.position.Marker.{Marker}
 use Rattle.saphyr_scalar.specs.Views.Cursor.{Cursor, ◌>>=◌, along}
 use Rattle.saphyr_scalar.proofs.Given.{cursor_at}
 use Rattle.saphyr_scanner.specs.declared.engine.level.Context.{Context}
-use Rattle.saphyr_scanner.specs.Steps.Gap.{spaces_at}
+use Rattle.saphyr_scanner.specs.Steps.Gap.{SpacesEnd, spaces_at}
 use Rattle.yaml_laws.proofs.InBlock.Skips.{spaces_end}
 use Rattle.saphyr_scanner.specs.Grammar.Tokens as tokens
 use Rattle.saphyr_scanner.specs.Steps.Core.{Core, from_to, up_to_here, completed_step, remove_key}
@@ -50,7 +50,9 @@ passes_mark : (around : Around) (d : Bool) (o : List ℕ) (m : Marker) (b : Bool
     → pass_question (core_at around d (cursor_at (question_mark ∷ o) m b) y None ls false ad)
     ≡ Ok (core_at around d (cursor_at (c ∷ cs) n blank) y None ls false ad)
 unfolding behind_mark
-passes_mark around d o m b y ls ad n blank c cs content is = grind arith
+passes_mark around d o m b y ls ad n blank c cs content is =
+    let met = ap (λ (x : SpacesEnd). x.space) is in
+    let at = ap (λ (x : SpacesEnd). x.cursor) is in grind (arith, met, at)
 
 question_flows : (y : Context) → is_block y ≡ false → is_block (behind_question y) ≡ false
 question_flows y e = grind arith

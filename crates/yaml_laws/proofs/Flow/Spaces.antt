@@ -84,7 +84,7 @@ spaces_passed column m blank (d ∷ ds) c cs parts low some tabs content =
     let reached = spaces_reach m blank d (ds ++ (c ∷ cs)) (by_first (separation_white column w parts)) clean in
     record {
       still_blank = reached.0;
-      is = grind (arith, past);
+      is = reached.1 ∙ ap (λ (p : Marker × List ℕ). spaces_end p.0 reached.0 p.1) same;
     }
   where
     by_first : (is_blank d ≡ true) ⊎ (d ≡ line_feed) → (d ≡ 32) ⊎ (d ≡ line_feed)

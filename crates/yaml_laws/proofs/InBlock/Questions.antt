@@ -5,7 +5,7 @@ use Rattle.saphyr_scanner.specs.Steps.Core.{least_column, Core, completed_step, 
 use Rattle.saphyr_scanner.specs.Steps.Block as block
 use Rattle.saphyr_scanner.specs.Steps.Block.{behind_start}
 use Rattle.saphyr_scalar.proofs.Given.{cursor_at}
-use Rattle.saphyr_scanner.specs.Steps.Gap.{spaces_at}
+use Rattle.saphyr_scanner.specs.Steps.Gap.{SpacesEnd, spaces_at}
 use Rattle.saphyr_scanner.specs.Grammar.Tokens as tokens
 use Rattle.saphyr_scanner.specs.Steps.Fetch.{state_behind_content, step}
 use Rattle.yaml_laws.specs.Grammar.BlockNodes as yaml
@@ -64,7 +64,8 @@ passes_mark g m o blank ad deeper h clean =
     let there : block.behind_mark true
     (core_of g (question_moment (past 0 (along m 1) o).0 (past 0 (along m 1) o).1 r.0 ad deeper))
     ≡ Ok (core_of g (question_moment (past 0 (along m 1) o).0 (past 0 (along m 1) o).1 r.0 ad deeper)) = rw none refl in
-    (r.0, simp (r.1, there))
+    let met = ap (λ (x : SpacesEnd). x.space) r.1 in
+    let at = ap (λ (x : SpacesEnd). x.cursor) r.1 in (r.0, simp (met, at, there))
 
 question_step : (f : Frame) (m : Marker) (o : List ℕ) (blank : Bool) (key : Option Candidate) (ad : ℕ)
     (deeper further : Bool) → nat_le f.indent m.col ≡ further → BeginsWhite o → has_tab o ≡ false → (i : ℕ)
@@ -81,10 +82,14 @@ question_step f m o blank key ad deeper further e h clean i =
     let p = passes_mark g m o blank ad r.0 h clean in
     let first = white_first o h in
     let last = core_of g (question_moment (past 0 (along m 1) o).0 (past 0 (along m 1) o).1 p.0 ad r.0) in
-    let begun = ap (λ q. q >>= λ (d : Core). block.pass_question (record d { key_allowed = in_block d })) r.1 ∙ p.1 in (
+    let begun = ap (λ q. q >>= λ (d : Core). block.pass_question (record d { key_allowed = in_block d })) r.1 ∙ p.1 in
+    let done = ap (λ q. q >>= λ (d : Core). completed_step
+    (behind_start (nat_le f.indent m.col) m tokens.BlockMappingStart (from_to m d.cursor.mark tokens.Key)) d) begun
+    ∙ ap (λ (x : Bool). completed_step
+    (behind_start x m tokens.BlockMappingStart (from_to m last.cursor.mark tokens.Key)) last) e in (
       p.0,
       r.0,
-      rw first (cc),
+      rw first done,
     )
 
 -- the tokens before a key, where a mapping may start

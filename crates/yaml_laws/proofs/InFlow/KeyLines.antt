@@ -61,7 +61,7 @@ line_arrives around d s k ad ps w c cs is are content right near =
     let n = moved s.mark w in
     let there = cursor_at (c ∷ cs) n s.blank_so_far in
     let here = core_at around d s context.Block (Some k) [] false ad in
-    let gapped = ap stop (ap (end_of_gap true (reach around d) s.mark s.blank_so_far false false) is
+    let gapped = ap stop (ap (λ (t : List ℕ). end_of_gap true (reach around d) s.mark s.blank_so_far false false t) is
     ∙ blanks_gap (reach around d) around.indent (reach_low around d) w c cs are content s.mark s.blank_so_far
     right) ∙ stop_here n s.blank_so_far false (c ∷ cs) in
     let passed = ap (λ r. r >>= λ (p : GapEnd). check_comment (behind_gap here p)) gapped in
