@@ -4,7 +4,8 @@ use Rattle.yaml_laws.proofs.Common.{Bool, IsFalse, List, [], arith, false, slice
 use Rattle.saphyr_scanner.specs.declared.engine.level.Context.TheVariants as context
 use Rattle.yaml_laws.specs.Grammar.BlockNodes as yaml
 use Rattle.yaml_laws.specs.Grammar.BlockNodes.{Position as Position}
-pub use Rattle.yaml_laws.proofs.Flow.States.{EndsDocument, crosses, crosses_comment, FitsAround, IsBehindRoot, IsClear, IsContentStart, IsLeft, ReaderPromises, Since, marks_line, moved, past}
+pub use Rattle.yaml_laws.proofs.Flow.States.{EndsDocument, crosses, crosses_comment, FitsAround, IsBehindRoot, IsClear}
+pub use Rattle.yaml_laws.proofs.Flow.States.{IsContentStart, IsLeft, ReaderPromises, Since, marks_line, moved, past}
 
 -- ## The block collections that are open
 

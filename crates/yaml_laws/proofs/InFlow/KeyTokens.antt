@@ -171,8 +171,8 @@ ReadsToken around k Is kind = ReadsPart around k Is (λ ts. ts ≡ kind ∷ [])
 
 -- The scanner has read a token of a key by a step. After it y is at m, behind blanks that are not passed yet.
 pub token_along : {around : Around} {start : State} {k : Candidate} {qs : List Place} {m : Marker} {y : List ℕ}
-    (t : List ℕ) (e : Marker) (ad : ℕ) (r : Ready around start k t e ad qs) (end : Marker) (kind : Kind) (there : Cursor)
-    (adjacent : ℕ) (to : Bool → Bool) → step (slice_index t 0) (slice_index t 1) (length qs)
+    (t : List ℕ) (e : Marker) (ad : ℕ) (r : Ready around start k t e ad qs) (end : Marker) (kind : Kind)
+    (there : Cursor) (adjacent : ℕ) (to : Bool → Bool) → step (slice_index t 0) (slice_index t 1) (length qs)
     (core_at around r.deeper (cursor_at t e r.blank) context.Block (Some k) [] false ad)
     ≡ completed_step (from_to e end kind ∷ [])
     (core_at around (to r.deeper) there context.Block (Some k) [] false adjacent)
