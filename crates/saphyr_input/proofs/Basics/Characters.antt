@@ -17,9 +17,6 @@ blank_cases c h P space tab = either (nat_eq c 32) (nat_eq c 9) (P c) h
 pub blank_no_break : (c : ℕ) → is_blank c ≡ true → is_break c ≡ false
 blank_no_break c h = blank_cases c h (λ x. is_break x ≡ false) refl refl
 
-pub blank_non_break : (c : ℕ) → is_blank c ≡ true → is_yaml_non_break c ≡ true
-blank_non_break c h = blank_cases c h (λ x. is_yaml_non_break x ≡ true) refl refl
-
 pub blank_no_feed : (c : ℕ) → IsTrue (is_blank c) → IsTrue (not (c == line_feed))
 blank_no_feed c h = grind (arith, nat_tests)
 
