@@ -1,0 +1,8 @@
+//! A validator of YAML 1.2.2, of which the leaves are there: what takes a piece off the front of a text.
+#![tactic(auto)]
+
+mod front;
+mod names;
+mod quoted;
+mod spaces;
+mod words;
