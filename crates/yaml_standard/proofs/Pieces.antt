@@ -25,7 +25,8 @@ pub run_taken : (p : ℕ → Bool) (a b : List ℕ) (n : ℕ) → n ≡ prefix_l
 run_taken p a b n count left = record {
   piece = take (prefix_len p a) a;
   is = run_is_in p a;
-  cut = sym (ap (λ t. take (prefix_len p a) a ++ t) (left ∙ ap (λ k. drop k a) count) ∙ take-append-drop (prefix_len p a) a);
+  cut = sym (ap (λ t. take (prefix_len p a) a ++ t) (left ∙ ap (λ k. drop k a) count)
+      ∙ take-append-drop (prefix_len p a) a);
 }
 
 -- ## Pieces

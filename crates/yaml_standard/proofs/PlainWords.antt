@@ -1,5 +1,5 @@
 -- The characters of words.
-use Rattle.std.proofs.Common.{◌≡◌, ◌≢◌, ℕ, ◌<◌, Bool, true, false, List, [], ◌∷◌, ◌++◌, refl, sym, ap, ◌∙◌, subst, arith, append_assoc, length, length-append}
+use Rattle.std.proofs.Common.{◌≡◌, ◌≢◌, ℕ, ◌<◌, Bool, true, false, List, [], ◌∷◌, ◌++◌, refl, sym, ap, ◌∙◌, subst, arith, length, length-append}
 use Rattle.std.specs.Prelude.{IsTrue, slice_index, ◌==◌}
 use Rattle.saphyr_input.proofs.Basics.Lists.{cons_not_empty}
 use Rattle.saphyr_input.proofs.Sets.{is_char}
@@ -8,7 +8,7 @@ use Rattle.scalar_laws.specs.Spelling.Plain.{is_plain_safe, ArePlainSafe, IsWord
 use Rattle.scalar_laws.proofs.Beginnings.{both_in, heads, tails}
 use Rattle.yaml_standard.specs.Takes.{Takes}
 use Rattle.yaml_standard.specs.Words.{IsSafePart, AreSomeSafe}
-use Rattle.yaml_standard.proofs.Pieces.{nothing_taken, taken_so, then, known_then, then_known}
+use Rattle.yaml_standard.proofs.Pieces.{nothing_taken, then, known_then, then_known}
 
 pub no_colons : (a : List ℕ) → Takes (AreIn (λ x. x == 58)) a a
 no_colons a = nothing_taken _ a tt
@@ -36,7 +36,8 @@ more_end : (t : List ℕ) (c : ℕ) → t ++ c ∷ [] ≢ []
 more_end [] c e = cons_not_empty c [] e
 more_end (x ∷ xs) c e = cons_not_empty x (xs ++ c ∷ []) e
 
-both_safe : (in_flow : Bool) (p q : List ℕ) → ArePlainSafe in_flow p → ArePlainSafe in_flow q → ArePlainSafe in_flow (p ++ q)
+both_safe : (in_flow : Bool) (p q : List ℕ) → ArePlainSafe in_flow p → ArePlainSafe in_flow q
+    → ArePlainSafe in_flow (p ++ q)
 both_safe in_flow [] q h k = k
 both_safe in_flow (c ∷ cs) q h k = (h.0, λ e. more_left cs q (h.1 e), both_safe in_flow cs q h.2 k)
 
@@ -56,8 +57,8 @@ some_part in_flow p h = rw h.5 (more_end h.0 h.1, part_safe in_flow h.0 h.1 h.2 
 pub nothing_safe : (in_flow : Bool) (a : List ℕ) → Takes (ArePlainSafe in_flow) a a
 nothing_safe in_flow a = nothing_taken _ a tt
 
-pub one_more_part : (in_flow : Bool) (a b c : List ℕ) → Takes (ArePlainSafe in_flow) a b → Takes (IsSafePart in_flow) b c
-    → Takes (ArePlainSafe in_flow) a c
+pub one_more_part : (in_flow : Bool) (a b c : List ℕ) → Takes (ArePlainSafe in_flow) a b
+    → Takes (IsSafePart in_flow) b c → Takes (ArePlainSafe in_flow) a c
 one_more_part in_flow a b c s t = then (λ p q h k. both_safe in_flow p q h (some_part in_flow q k).1) s t
 
 pub part_shorter : (in_flow : Bool) (a b : List ℕ) → Takes (IsSafePart in_flow) a b → length b < length a

@@ -1,5 +1,5 @@
 -- The parts of scalars in quotes.
-use Rattle.std.proofs.Common.{◌≡◌, ℕ, zero, suc, ◌+◌, ◌*◌, ◌<◌, ◌≤◌, List, [], ◌∷◌, ◌++◌, refl, sym, ap, ◌∙◌, subst, arith, append_assoc, length, length-append, drop, Some, ◌⊎◌, inl, inr}
+use Rattle.std.proofs.Common.{◌≡◌, ℕ, zero, suc, ◌+◌, ◌*◌, ◌≤◌, List, [], ◌∷◌, ◌++◌, refl, sym, ap, ◌∙◌, subst, arith, append_assoc, length-append, drop, Some, ◌⊎◌, inl, inr}
 use Rattle.std.specs.Prelude.{IsTrue, IsFalse, slice_index, ◌==◌}
 use Rattle.saphyr_input.specs.Classes.{is_break, is_hex, hex_value}
 use Rattle.saphyr_input.specs.Places.{is_document_indicator}
@@ -28,7 +28,8 @@ spaces_counted (suc n) xs = let h = spaces_counted n xs in omega (arith, h)
 pub indented_by : (n : ℕ) (a b : List ℕ) → a ≡ spaces n ++ b → n ≤ space_count a
 indented_by n a b e = rw e (spaces_counted n b)
 
-all_counted : (n : ℕ) (xs : List ℕ) → IsTrue (is_break (slice_index (drop (space_count (spaces n ++ 10 ∷ xs)) (spaces n ++ 10 ∷ xs)) 0))
+all_counted : (n : ℕ) (xs : List ℕ)
+    → IsTrue (is_break (slice_index (drop (space_count (spaces n ++ 10 ∷ xs)) (spaces n ++ 10 ∷ xs)) 0))
 all_counted zero xs = refl
 all_counted (suc n) xs =
     let one : 1 + space_count (spaces n ++ 10 ∷ xs) ≡ suc (space_count (spaces n ++ 10 ∷ xs)) = omega arith in
@@ -150,7 +151,11 @@ passes_escaped_break indent a b c d (e, line) = record {
     piece = 92 ∷ 10 ∷ t;
     is = (
       92 ∷ 10 ∷ r.0,
-      (EscapedBreak ∷ r.1.0, escaped_break (10 ∷ t) r.1.0 [] refl r.1.1, (line_at Double indent c t after line f r, r.1.2)),
+      (
+        EscapedBreak ∷ r.1.0,
+        escaped_break (10 ∷ t) r.1.0 [] refl r.1.1,
+        (line_at Double indent c t after line f r, r.1.2),
+      ),
       ap (λ x. 92 ∷ 10 ∷ x) r.2,
     );
     cut = d ∙ ap (λ x. 92 ∷ x) (e ∙ ap (λ x. 10 ∷ x) f);
@@ -201,7 +206,8 @@ passes_number indent n count a b c g d e many number =
 pub no_digits : (a : List ℕ) → Spells 0 0 a a
 no_digits a = record { digits = []; many = refl; hex = tt; stands_for = refl; cut = refl }
 
-hexadecimal_more : (v d : ℕ) (ds : List ℕ) → hexadecimal_from v (ds ++ d ∷ []) ≡ hexadecimal_from v ds * 16 + hex_value d
+hexadecimal_more : (v d : ℕ) (ds : List ℕ)
+    → hexadecimal_from v (ds ++ d ∷ []) ≡ hexadecimal_from v ds * 16 + hex_value d
 hexadecimal_more v d [] = refl
 hexadecimal_more v d (x ∷ ds) = hexadecimal_more (v * 16 + hex_value x) d ds
 
@@ -225,7 +231,7 @@ pub inside_closed : (q : Quote) (indent m : ℕ) (a b c : List ℕ) → Continue
 inside_closed q indent m a b c passed e is =
     let last = closes q indent b c (e ∙ ap (λ x. x ∷ c) is) in passed last.piece c last.cut last.is
 
-pub quoted_whole : (q : Quote) (indent m : ℕ) (a b c : List ℕ) → a ≡ m ∷ b → m ≡ mark q → Takes (EndsInside q indent) b c
-    → Takes (IsQuotedScalar q indent) a c
+pub quoted_whole : (q : Quote) (indent m : ℕ) (a b c : List ℕ) → a ≡ m ∷ b → m ≡ mark q
+    → Takes (EndsInside q indent) b c → Takes (IsQuotedScalar q indent) a c
 quoted_whole q indent m a b c e is t =
     known_then (mark q ∷ []) (λ inside k. (inside, k.1, refl)) (e ∙ ap (λ x. x ∷ b) is) t

@@ -1,11 +1,11 @@
 -- The pieces of separation.
-use Rattle.std.proofs.Common.{◌≡◌, ◌≢◌, ℕ, ◌+◌, ◌<◌, ◌≤◌, List, [], ◌∷◌, ◌++◌, refl, sym, ap, ◌∙◌, arith, append_assoc, length, length-append, inl, inr}
+use Rattle.std.proofs.Common.{◌≡◌, ℕ, ◌+◌, ◌<◌, ◌≤◌, List, [], ◌∷◌, ◌++◌, refl, sym, ap, ◌∙◌, arith, append_assoc, length, length-append, inl, inr}
 use Rattle.std.proofs.lemmas.List.{append-nil}
 use Rattle.saphyr_input.specs.Classes.{is_blank, is_yaml_non_break}
 use Rattle.saphyr_scalar.specs.Reading.BlockLines.{spaces}
 use Rattle.saphyr_scalar.specs.Spelling.Directive.{AreSomeBlanks}
 use Rattle.saphyr_scalar.specs.Spelling.Tag.{AreIn}
-use Rattle.scalar_laws.specs.Spelling.Spaces.{IsComment, IsCommentBehind, IsLineRest, IsLineEnd, IsEol, IsFillerText, IsFillerLine, IsFiller, IsLastFiller, AreSpaces, IsLinePrefix, IsNextLine, IsGap, IsSeparationLine, IsSeparation, AreMany}
+use Rattle.scalar_laws.specs.Spelling.Spaces.{IsComment, IsLineRest, IsLineEnd, IsEol, IsFillerText, IsFillerLine, IsFiller, IsLastFiller, AreSpaces, IsLinePrefix, IsNextLine, IsGap, IsSeparationLine, IsSeparation, AreMany}
 use Rattle.saphyr_scalar.proofs.Block.Texts.{spaces_more}
 use Rattle.yaml_standard.specs.Takes.{Takes, TakesBefore}
 use Rattle.yaml_standard.proofs.Pieces.{nothing_taken, taken_so, then, known_then, then_known}
@@ -41,8 +41,13 @@ pub filler_line : (a b c : List ℕ) → Takes IsFillerText a b → b ≡ 10 ∷
 filler_line a b c s e = then_known (10 ∷ []) (λ p k. (p, k, refl)) s e
 
 pub last_filler : (a b c : List ℕ) → Takes IsFiller a b → Takes IsFillerText b c → c ≡ [] → IsLastFiller a
-last_filler a b c s t e =
-    (s.piece, t.piece, s.is, t.is, s.cut ∙ ap (λ x. s.piece ++ x) (t.cut ∙ ap (λ x. t.piece ++ x) e ∙ append-nil t.piece))
+last_filler a b c s t e = (
+  s.piece,
+  t.piece,
+  s.is,
+  t.is,
+  s.cut ∙ ap (λ x. s.piece ++ x) (t.cut ∙ ap (λ x. t.piece ++ x) e ∙ append-nil t.piece),
+)
 
 pub space_more : (k : ℕ) (a b c : List ℕ) → a ≡ spaces k ++ b → b ≡ 32 ∷ c → a ≡ spaces (k + 1) ++ c
 space_more k a b c e f = e ∙ ap (λ x. spaces k ++ x) f ∙ sym (spaces_more k c)
@@ -53,7 +58,11 @@ no_spaces a = nothing_taken (AreSpaces 0) a (0, omega arith, refl)
 pub one_more_space : (a b c : List ℕ) → Takes (AreSpaces 0) a b → b ≡ 32 ∷ c → Takes (AreSpaces 0) a c
 one_more_space a b c s e =
     then_known (32 ∷ [])
-    (λ p k. (k.0 + 1, omega arith, ap (λ x. x ++ 32 ∷ []) k.2 ∙ sym (spaces_more k.0 []) ∙ append-nil (spaces (k.0 + 1))))
+    (λ p k. (
+      k.0 + 1,
+      omega arith,
+      ap (λ x. x ++ 32 ∷ []) k.2 ∙ sym (spaces_more k.0 []) ∙ append-nil (spaces (k.0 + 1)),
+    ))
     s e
 
 pub line_prefix : (indent : ℕ) (a b c : List ℕ) → a ≡ spaces indent ++ b → Takes (AreIn is_blank) b c
@@ -74,7 +83,8 @@ blank_gap indent a b t = taken_so (λ p k. inl k) t
 pub line_gap : (indent : ℕ) (a b : List ℕ) → Takes (IsNextLine indent) a b → Takes (IsGap indent) a b
 line_gap indent a b t = taken_so (λ p k. inr k) t
 
-line_parts : (indent : ℕ) (p q : List ℕ) → IsLineEnd p → IsFiller q → IsSeparationLine indent (p ++ (q ++ spaces indent))
+line_parts : (indent : ℕ) (p q : List ℕ) → IsLineEnd p → IsFiller q
+    → IsSeparationLine indent (p ++ (q ++ spaces indent))
 line_parts indent p q end filler =
     let rest = end.1 in (
       rest.0,

@@ -1,6 +1,4 @@
-use Rattle.std.proofs.Common.{rules, sym, ◌∙◌, subst, ap}
-use Rattle.yaml_standard.specs.Takes.{Takes}
-use Rattle.saphyr_scalar.specs.Spelling.Tag.{AreIn}
+use Rattle.std.proofs.Common.{sym}
 use Rattle.yaml_standard.proofs.Pieces.{run_taken}
 use Rattle.yaml_standard.proofs.front.behind_run.Goals as goal
 

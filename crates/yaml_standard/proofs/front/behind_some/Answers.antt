@@ -4,4 +4,5 @@ use Rattle.yaml_standard.proofs.front.behind_some.Goals as goal
 
 pub returns-then-has : goal.returns-then-has
 returns-then-has g c =
-    some_taken g.C.CharSet.test _ _ _ _ c.in_ok-first.ensures.some (sym c.has.ensures ∙ c.if-has.true) c.behind_run.ensures
+    some_taken g.C.CharSet.test _ _ _ _ c.in_ok-first.ensures.some
+    (sym c.has.ensures ∙ c.if-has.true) c.behind_run.ensures

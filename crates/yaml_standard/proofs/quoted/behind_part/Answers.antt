@@ -6,4 +6,5 @@ pub returns-in-Some : goal.returns-in-Some
 returns-in-Some c = passes_break _ _ _ _ c.in-Some.ensures
 
 pub returns-then-stands_for_itself : goal.returns-then-stands_for_itself
-returns-then-stands_for_itself c = passes_itself _ _ _ _ _ c.in_ok-first.ensures.some (sym c.stands_for_itself.ensures ∙ c.if-stands_for_itself.true)
+returns-then-stands_for_itself c =
+    passes_itself _ _ _ _ _ c.in_ok-first.ensures.some (sym c.stands_for_itself.ensures ∙ c.if-stands_for_itself.true)

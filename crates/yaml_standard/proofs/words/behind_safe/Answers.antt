@@ -6,7 +6,8 @@ pub loop-part-init : goal.loop-part-init
 loop-part-init c = record { text = search rules; taken = nothing_safe _ _ }
 
 pub loop-part-preserved : goal.loop-part-preserved
-loop-part-preserved c = record { text = search rules; taken = one_more_part _ _ _ _ c.loop-part.invariant.taken c.in-Some.ensures }
+loop-part-preserved c =
+    record { text = search rules; taken = one_more_part _ _ _ _ c.loop-part.invariant.taken c.in-Some.ensures }
 
 pub loop-part-smaller : goal.loop-part-smaller
 loop-part-smaller c = part_shorter _ _ _ c.in-Some.ensures
