@@ -1,4 +1,6 @@
+pub mod Escapes
 pub mod HandleNames
+pub mod Headers
 pub mod Pieces
 pub mod PlainWords
 pub mod Quotes

@@ -1,3 +1,4 @@
+pub mod Percent
 pub mod Quotes
 pub mod Takes
 pub mod Words

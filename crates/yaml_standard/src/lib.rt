@@ -2,7 +2,9 @@
 #![tactic(auto)]
 
 mod front;
+mod header;
 mod names;
+mod percent;
 mod quoted;
 mod spaces;
 mod words;

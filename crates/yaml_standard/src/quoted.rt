@@ -51,7 +51,7 @@ fn behind_break(text: &str, indent: usize) -> Option<&str>
 }
 
 // Whether a number is that of a character.
-fn is_scalar_value(value: u32) -> bool
+pub(crate) fn is_scalar_value(value: u32) -> bool
     ensures { result ≡ escapes.is_scalar_value value }
 {
     value < 0xD800 || value >= 0xE000 && value <= 0x10FFFF
