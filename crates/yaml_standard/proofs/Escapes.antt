@@ -1,5 +1,5 @@
 -- Percent escapes, one after the other.
-use Rattle.std.proofs.Common.{◌≡◌, ◌≢◌, ℕ, suc, ◌+◌, ◌*◌, ◌<◌, Bool, true, List, [], ◌∷◌, ◌++◌, refl, sym, ap, ◌∙◌, subst, arith, append_assoc, length, take, get_or, add-one, inl, inr}
+use Rattle.std.proofs.Common.{◌≡◌, ◌≢◌, ℕ, ◌+◌, ◌*◌, ◌<◌, Bool, true, List, [], ◌∷◌, ◌++◌, refl, sym, ap, ◌∙◌, subst, append_assoc, length, take, get_or, add-one, inl, inr}
 use Rattle.std.specs.Prelude.{IsTrue, encode_utf8}
 use Rattle.std.proofs.lemmas.List.{append-nil}
 use Rattle.std.proofs.Math.Seq.{take-suc}
@@ -54,7 +54,8 @@ escaped w c xs bs a b is same d e t =
 
 -- ## Characters
 
-pub one_as_it_is : (set : ℕ → Bool) (c : ℕ) (a b : List ℕ) → a ≡ c ∷ b → IsTrue (set c) → c ≢ 37 → Takes (IsOneOf set) a b
+pub one_as_it_is : (set : ℕ → Bool) (c : ℕ) (a b : List ℕ) → a ≡ c ∷ b → IsTrue (set c) → c ≢ 37
+    → Takes (IsOneOf set) a b
 one_as_it_is set c a b e is other = record { piece = c ∷ []; is = (c, inl (is, other, refl)); cut = e }
 
 pub one_escaped : (set : ℕ → Bool) (a b : List ℕ) → Takes IsEscaped a b → Takes (IsOneOf set) a b

@@ -1,10 +1,10 @@
 -- Headers of block scalars.
-use Rattle.std.proofs.Common.{◌≡◌, ◌≢◌, ℕ, ◌+◌, ◌-◌, ◌≤◌, arith, List, [], ◌∷◌, ◌++◌, refl, sym, ap, ◌∙◌, subst, append_assoc, ◌⊎◌, inl, inr}
+use Rattle.std.proofs.Common.{◌≡◌, ℕ, ◌+◌, ◌-◌, ◌≤◌, arith, List, [], ◌∷◌, ◌++◌, refl, sym, ap, ◌∙◌, append_assoc, inl, inr}
 use Rattle.std.proofs.lemmas.List.{append-nil}
-use Rattle.saphyr_input.specs.Classes.{is_blank, is_yaml_non_break}
+use Rattle.saphyr_input.specs.Classes.{is_blank}
 use Rattle.saphyr_scalar.specs.Spelling.Tag.{AreIn}
 use Rattle.scalar_laws.specs.Spelling.Block.{IsIndicator, digit, IsHeaderEnd, no_comment, comment, no_comment_at_end, comment_at_end}
-use Rattle.scalar_laws.specs.Spelling.Spaces.{IsComment, IsCommentBehind, IsLineRest}
+use Rattle.scalar_laws.specs.Spelling.Spaces.{IsCommentBehind, IsLineRest}
 use Rattle.yaml_standard.specs.Takes.{Takes}
 
 pub digit_taken : (c : ℕ) (a b : List ℕ) → a ≡ c ∷ b → 49 ≤ c → c ≤ 57 → IsIndicator (c - 48) a b

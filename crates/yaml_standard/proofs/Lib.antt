@@ -5,3 +5,4 @@ pub mod Pieces
 pub mod PlainWords
 pub mod Quotes
 pub mod Separation
+pub mod TagDirectives

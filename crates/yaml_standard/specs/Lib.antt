@@ -1,3 +1,4 @@
+pub mod Directives
 pub mod Percent
 pub mod Quotes
 pub mod Takes

@@ -75,7 +75,7 @@ fn behind_escapes(text: &str) -> Option<&str>
 }
 
 // What follows a character of a set, as it is or by escapes.
-fn behind_character<C: CharSet>(text: &str) -> Option<&str>
+pub(crate) fn behind_character<C: CharSet>(text: &str) -> Option<&str>
     ensures { IfSome result (λ rest. Takes (spec.IsOneOf C.test) (chars text.now)
         (chars rest.now)) }
 {

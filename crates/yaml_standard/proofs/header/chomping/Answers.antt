@@ -1,5 +1,4 @@
 use Rattle.scalar_laws.specs.Spelling.Block.{strip, clip, keep}
-use Rattle.std.proofs.Common.{◌≡◌}
 use Rattle.yaml_standard.proofs.header.chomping.Goals as goal
 
 pub returns-in-Some : goal.returns-in-Some

@@ -9,4 +9,5 @@ returns-then-first-eq37 g c =
 
 pub returns-then-has : goal.returns-then-has
 returns-then-has g c =
-    one_as_it_is g.C.CharSet.test _ _ _ c.in_ok-first.ensures.some (sym c.has.ensures ∙ c.if-has.true) c.if-first-eq37.false
+    one_as_it_is g.C.CharSet.test _ _ _ c.in_ok-first.ensures.some
+    (sym c.has.ensures ∙ c.if-has.true) c.if-first-eq37.false
