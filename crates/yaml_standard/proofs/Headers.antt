@@ -5,7 +5,7 @@ use Rattle.saphyr_input.specs.Classes.{is_blank}
 use Rattle.saphyr_scalar.specs.Spelling.Tag.{AreIn}
 use Rattle.scalar_laws.specs.Spelling.Block.{IsIndicator, digit, IsHeaderEnd, no_comment, comment, no_comment_at_end, comment_at_end}
 use Rattle.scalar_laws.specs.Spelling.Spaces.{IsCommentBehind, IsLineRest}
-use Rattle.yaml_standard.specs.Takes.{Takes}
+use Rattle.yaml_standard.specs.Takes.{TakesOff}
 
 pub digit_taken : (c : ℕ) (a b : List ℕ) → a ≡ c ∷ b → 49 ≤ c → c ≤ 57 → IsIndicator (c - 48) a b
 digit_taken c a b e low high =
@@ -23,14 +23,14 @@ comment_last blanks t h (inl none) = rw (none, append-nil blanks) (no_comment_at
 comment_last [] t h (inr (some, is)) = absurd (some refl)
 comment_last (b ∷ bs) t h (inr (some, is)) = rw is.2 (comment_at_end b bs is.0 h is.1)
 
-pub header_line : (a b c : List ℕ) → Takes IsLineRest a b → b ≡ 10 ∷ c → IsHeaderEnd a c
+pub header_line : (a b c : List ℕ) → TakesOff IsLineRest a b → b ≡ 10 ∷ c → IsHeaderEnd a c
 header_line a b c t e =
     let rest = t.is in
     let cut : a ≡ rest.0 ++ (rest.1 ++ 10 ∷ c) =
     t.cut ∙ ap (λ x. x ++ b) rest.4 ∙ append_assoc rest.0 rest.1 b ∙ ap (λ x. rest.0 ++ (rest.1 ++ x)) e in
     rw cut (comment_then rest.0 rest.1 c rest.2 rest.3)
 
-pub header_at_end : (a b : List ℕ) → Takes IsLineRest a b → b ≡ [] → IsHeaderEnd a b
+pub header_at_end : (a b : List ℕ) → TakesOff IsLineRest a b → b ≡ [] → IsHeaderEnd a b
 header_at_end a b t e =
     let rest = t.is in
     let cut : a ≡ rest.0 ++ rest.1 =

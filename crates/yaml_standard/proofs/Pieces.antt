@@ -11,7 +11,7 @@ use Rattle.saphyr_input.proofs.Basics.Lists.{cons_not_empty}
 use Rattle.saphyr_scalar.specs.Spelling.Tag.{AreIn}
 use Rattle.saphyr_scalar.proofs.Runs.{run_is_in}
 use Rattle.scalar_laws.specs.Spelling.Spaces.{joined_pieces, AreEach, AreMany}
-use Rattle.yaml_standard.specs.Takes.{Takes}
+use Rattle.yaml_standard.specs.Takes.{TakesOff}
 
 -- ## Characters
 
@@ -21,7 +21,7 @@ first_passed bs s t c u e h =
     let v : IsUtf8 s.rest.now = subst IsUtf8 (sym e) u in
     ap chars (sym e) ∙ chars_past_char s.rest.now t.rest.now c v h.0
 
-pub run_taken : (p : ℕ → Bool) (a b : List ℕ) (n : ℕ) → n ≡ prefix_len p a → b ≡ drop n a → Takes (AreIn p) a b
+pub run_taken : (p : ℕ → Bool) (a b : List ℕ) (n : ℕ) → n ≡ prefix_len p a → b ≡ drop n a → TakesOff (AreIn p) a b
 run_taken p a b n count left = record {
   piece = take (prefix_len p a) a;
   is = run_is_in p a;
@@ -36,15 +36,15 @@ pub found : {A Q : Type 0} {P : A → Type 0} (o : Option A) → ((x : A) → P 
 found None f h e = absurd (cc)
 found (Some x) f h e = f x h
 
-pub nothing_taken : (P : List ℕ → Type 0) (a : List ℕ) → P [] → Takes P a a
+pub nothing_taken : (P : List ℕ → Type 0) (a : List ℕ) → P [] → TakesOff P a a
 nothing_taken P a is = record { piece = []; is = is; cut = refl }
 
-pub taken_so : {P R : List ℕ → Type 0} {a b : List ℕ} → ((p : List ℕ) → P p → R p) → Takes P a b → Takes R a b
+pub taken_so : {P R : List ℕ → Type 0} {a b : List ℕ} → ((p : List ℕ) → P p → R p) → TakesOff P a b → TakesOff R a b
 taken_so f s = record { piece = s.piece; is = f s.piece s.is; cut = s.cut }
 
 -- one piece, and another after it
-pub then : {P Q R : List ℕ → Type 0} {a b c : List ℕ} → ((p q : List ℕ) → P p → Q q → R (p ++ q)) → Takes P a b
-    → Takes Q b c → Takes R a c
+pub then : {P Q R : List ℕ → Type 0} {a b c : List ℕ} → ((p q : List ℕ) → P p → Q q → R (p ++ q)) → TakesOff P a b
+    → TakesOff Q b c → TakesOff R a c
 then {c = c} f s t = record {
   piece = s.piece ++ t.piece;
   is = f s.piece t.piece s.is t.is;
@@ -53,7 +53,7 @@ then {c = c} f s t = record {
 
 -- characters that are known, and a piece after them
 pub known_then : {Q R : List ℕ → Type 0} {a b c : List ℕ} (known : List ℕ) → ((q : List ℕ) → Q q → R (known ++ q))
-    → a ≡ known ++ b → Takes Q b c → Takes R a c
+    → a ≡ known ++ b → TakesOff Q b c → TakesOff R a c
 known_then {c = c} known f e t = record {
   piece = known ++ t.piece;
   is = f t.piece t.is;
@@ -62,7 +62,7 @@ known_then {c = c} known f e t = record {
 
 -- a piece, and known characters after it
 pub then_known : {P R : List ℕ → Type 0} {a b c : List ℕ} (known : List ℕ) → ((p : List ℕ) → P p → R (p ++ known))
-    → Takes P a b → b ≡ known ++ c → Takes R a c
+    → TakesOff P a b → b ≡ known ++ c → TakesOff R a c
 then_known {c = c} known f s e = record {
   piece = s.piece ++ known;
   is = f s.piece s.is;
@@ -70,8 +70,8 @@ then_known {c = c} known f s e = record {
 }
 
 -- some characters of a set
-pub some_taken : (set : ℕ → Bool) (c : ℕ) (a b r : List ℕ) → a ≡ c ∷ b → IsTrue (set c) → Takes (AreIn set) b r
-    → Takes (λ t. (t ≢ []) × AreIn set t) a r
+pub some_taken : (set : ℕ → Bool) (c : ℕ) (a b r : List ℕ) → a ≡ c ∷ b → IsTrue (set c) → TakesOff (AreIn set) b r
+    → TakesOff (λ t. (t ≢ []) × AreIn set t) a r
 some_taken set c a b r e is t = known_then {Q = AreIn set} (c ∷ []) (λ q k. (cons_not_empty c q, (is, k))) e t
 
 -- ## Any number of pieces
@@ -88,8 +88,9 @@ many_more : (P : List ℕ → Type 0) (a b : List ℕ) → AreMany P a → P b �
 many_more P a b m k =
     (m.0 ++ b ∷ [], each_more P m.0 b m.1 k, ap (λ t. t ++ b) m.2 ∙ sym (joined_more m.0 b))
 
-pub none_of_many : (P : List ℕ → Type 0) (a : List ℕ) → Takes (AreMany P) a a
+pub none_of_many : (P : List ℕ → Type 0) (a : List ℕ) → TakesOff (AreMany P) a a
 none_of_many P a = nothing_taken (AreMany P) a ([], tt, refl)
 
-pub one_of_many : (P : List ℕ → Type 0) (a b c : List ℕ) → Takes (AreMany P) a b → Takes P b c → Takes (AreMany P) a c
+pub one_of_many : (P : List ℕ → Type 0) (a b c : List ℕ) → TakesOff (AreMany P) a b → TakesOff P b c
+    → TakesOff (AreMany P) a c
 one_of_many P a b c s t = then (λ p q m k. many_more P p q m k) s t

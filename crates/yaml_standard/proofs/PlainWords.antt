@@ -6,18 +6,19 @@ use Rattle.saphyr_input.proofs.Sets.{is_char}
 use Rattle.saphyr_scalar.specs.Spelling.Tag.{AreIn}
 use Rattle.scalar_laws.specs.Spelling.Plain.{is_plain_safe, ArePlainSafe, IsWordIn}
 use Rattle.scalar_laws.proofs.Beginnings.{both_in, heads, tails}
-use Rattle.yaml_standard.specs.Takes.{Takes}
+use Rattle.yaml_standard.specs.Takes.{TakesOff}
 use Rattle.yaml_standard.specs.Words.{IsSafePart, AreSomeSafe}
 use Rattle.yaml_standard.proofs.Pieces.{nothing_taken, then, known_then, then_known}
 
-pub no_colons : (a : List ℕ) → Takes (AreIn (λ x. x == 58)) a a
+pub no_colons : (a : List ℕ) → TakesOff (AreIn (λ x. x == 58)) a a
 no_colons a = nothing_taken _ a tt
 
-pub one_more_colon : (a b c : List ℕ) → Takes (AreIn (λ x. x == 58)) a b → b ≡ 58 ∷ c → Takes (AreIn (λ x. x == 58)) a c
+pub one_more_colon : (a b c : List ℕ) → TakesOff (AreIn (λ x. x == 58)) a b → b ≡ 58 ∷ c
+    → TakesOff (AreIn (λ x. x == 58)) a c
 one_more_colon a b c s e = then_known (58 ∷ []) (λ p k. both_in (λ x. x == 58) p (58 ∷ []) k (refl, tt)) s e
 
-pub part_taken : (in_flow : Bool) (x : ℕ) (a b c : List ℕ) → Takes (AreIn (λ y. y == 58)) a b → b ≡ x ∷ c
-    → IsTrue (is_plain_safe in_flow x) → x ≢ 58 → Takes (IsSafePart in_flow) a c
+pub part_taken : (in_flow : Bool) (x : ℕ) (a b c : List ℕ) → TakesOff (AreIn (λ y. y == 58)) a b → b ≡ x ∷ c
+    → IsTrue (is_plain_safe in_flow x) → x ≢ 58 → TakesOff (IsSafePart in_flow) a c
 part_taken in_flow x a b c s e safe other = then_known (x ∷ []) (λ p k. (p, x, k, safe, other, refl)) s e
 
 colon_safe : (in_flow : Bool) → IsTrue (is_plain_safe in_flow 58)
@@ -54,21 +55,21 @@ part_safe in_flow (x ∷ xs) c h safe other =
 some_part : (in_flow : Bool) (p : List ℕ) → IsSafePart in_flow p → AreSomeSafe in_flow p
 some_part in_flow p h = rw h.5 (more_end h.0 h.1, part_safe in_flow h.0 h.1 h.2 h.3 h.4)
 
-pub nothing_safe : (in_flow : Bool) (a : List ℕ) → Takes (ArePlainSafe in_flow) a a
+pub nothing_safe : (in_flow : Bool) (a : List ℕ) → TakesOff (ArePlainSafe in_flow) a a
 nothing_safe in_flow a = nothing_taken _ a tt
 
-pub one_more_part : (in_flow : Bool) (a b c : List ℕ) → Takes (ArePlainSafe in_flow) a b
-    → Takes (IsSafePart in_flow) b c → Takes (ArePlainSafe in_flow) a c
+pub one_more_part : (in_flow : Bool) (a b c : List ℕ) → TakesOff (ArePlainSafe in_flow) a b
+    → TakesOff (IsSafePart in_flow) b c → TakesOff (ArePlainSafe in_flow) a c
 one_more_part in_flow a b c s t = then (λ p q h k. both_safe in_flow p q h (some_part in_flow q k).1) s t
 
-pub part_shorter : (in_flow : Bool) (a b : List ℕ) → Takes (IsSafePart in_flow) a b → length b < length a
+pub part_shorter : (in_flow : Bool) (a b : List ℕ) → TakesOff (IsSafePart in_flow) a b → length b < length a
 part_shorter in_flow a b t =
     let l = length-append t.piece b in let k = length-append t.is.0 (t.is.1 ∷ []) in
     let m : length t.piece ≡ length (t.is.0 ++ t.is.1 ∷ []) = ap length t.is.5 in
     rw t.cut (omega (arith, l, k, m))
 
-pub some_safe : (in_flow : Bool) (a b c : List ℕ) → Takes (IsSafePart in_flow) a b → Takes (ArePlainSafe in_flow) b c
-    → Takes (AreSomeSafe in_flow) a c
+pub some_safe : (in_flow : Bool) (a b c : List ℕ) → TakesOff (IsSafePart in_flow) a b
+    → TakesOff (ArePlainSafe in_flow) b c → TakesOff (AreSomeSafe in_flow) a c
 some_safe in_flow a b c s t =
     then (λ p q h k. let some = some_part in_flow p h in (more_left p q some.0, both_safe in_flow p q some.1 k)) s t
 
@@ -77,7 +78,7 @@ first_is [] r b c some e = absurd (some refl)
 first_is (x ∷ p) r b c some e = heads c x b (p ++ r) e
 
 pub word_taken : (in_flow : Bool) (x : ℕ) (a b c : List ℕ) → a ≡ x ∷ b → x ≢ 35 → (in_flow ≡ true → x ≢ 45)
-    → Takes (AreSomeSafe in_flow) a c → Takes (IsWordIn in_flow) a c
+    → TakesOff (AreSomeSafe in_flow) a c → TakesOff (IsWordIn in_flow) a c
 word_taken in_flow x a b c e no_comment no_dash t =
     let first = first_is t.piece c b x t.is.0 (sym e ∙ t.cut) in
     record {
@@ -91,8 +92,8 @@ word_taken in_flow x a b c e no_comment no_dash t =
       cut = t.cut;
     }
 
-pub dashed_word_taken : (in_flow : Bool) (a b c : List ℕ) → a ≡ 45 ∷ b → Takes (AreSomeSafe in_flow) b c
-    → Takes (IsWordIn in_flow) a c
+pub dashed_word_taken : (in_flow : Bool) (a b c : List ℕ) → a ≡ 45 ∷ b → TakesOff (AreSomeSafe in_flow) b c
+    → TakesOff (IsWordIn in_flow) a c
 dashed_word_taken in_flow a b c e t =
     known_then (45 ∷ [])
     (λ q k. record {

@@ -15,8 +15,8 @@ use Rattle.saphyr_scalar.specs.Spelling.Quoted.{closed, itself, broken, two_quot
 use Rattle.scalar_laws.specs.Spelling.QuotedLines.{IsLine, space_count}
 use Rattle.scalar_laws.specs.Spelling.Spaces.{AreSpaces}
 use Rattle.scalar_laws.proofs.Beginnings.{both_in}
-use Rattle.yaml_standard.specs.Quotes.{EndsInside, Continues, Passes, IsBreak, Spells, IsNumberOf, IsQuotedScalar}
-use Rattle.yaml_standard.specs.Takes.{Takes}
+use Rattle.yaml_standard.specs.Quotes.{EndsInside, Continues, PassesPart, BeginsLine, SpellsDigits, AreDigitsOf, IsQuotedScalar}
+use Rattle.yaml_standard.specs.Takes.{TakesOff}
 use Rattle.yaml_standard.proofs.Pieces.{known_then}
 
 -- ## Lines
@@ -35,7 +35,7 @@ all_counted (suc n) xs =
     let one : 1 + space_count (spaces n ++ 10 ∷ xs) ≡ suc (space_count (spaces n ++ 10 ∷ xs)) = omega arith in
     rw one (all_counted n xs)
 
-pub of_spaces : (a b c : List ℕ) → Takes (AreSpaces 0) a b → b ≡ 10 ∷ c
+pub of_spaces : (a b c : List ℕ) → TakesOff (AreSpaces 0) a b → b ≡ 10 ∷ c
     → IsTrue (is_break (slice_index (drop (space_count a) a) 0))
 of_spaces a b c t e =
     let n = t.is.0 in
@@ -101,16 +101,16 @@ line_at q indent b t after line e r =
 pub nothing_passed : (q : Quote) (indent : ℕ) (a : List ℕ) → Continues q indent a a
 nothing_passed q indent a t after e r = record { piece = t; is = r; cut = e }
 
-pub part_passed : (q : Quote) (indent : ℕ) (a b c : List ℕ) → Continues q indent a b → Passes q indent b c
+pub part_passed : (q : Quote) (indent : ℕ) (a b c : List ℕ) → Continues q indent a b → PassesPart q indent b c
     → Continues q indent a c
 part_passed q indent a b c f g t after e r = let s = g.goes_on t after e r in f s.piece after s.cut s.is
 
-pub closes : (q : Quote) (indent : ℕ) (a b : List ℕ) → a ≡ mark q ∷ b → Takes (EndsInside q indent) a b
+pub closes : (q : Quote) (indent : ℕ) (a b : List ℕ) → a ≡ mark q ∷ b → TakesOff (EndsInside q indent) a b
 closes Single indent a b e = record { piece = 39 ∷ []; is = ([], ([], closed Single [] refl, tt), refl); cut = e }
 closes Double indent a b e = record { piece = 34 ∷ []; is = ([], ([], closed Double [] refl, tt), refl); cut = e }
 
 pub passes_itself : (q : Quote) (indent c : ℕ) (a b : List ℕ) → a ≡ c ∷ b → IsTrue (stands_for_itself q c)
-    → Passes q indent a b
+    → PassesPart q indent a b
 passes_itself q indent c a b e h = record {
   goes_on = λ t after f r. record {
     piece = c ∷ t;
@@ -120,7 +120,7 @@ passes_itself q indent c a b e h = record {
   shorter = rw e (omega arith);
 }
 
-pub passes_two : (indent : ℕ) (a b c : List ℕ) → a ≡ 39 ∷ b → b ≡ 39 ∷ c → Passes Single indent a c
+pub passes_two : (indent : ℕ) (a b c : List ℕ) → a ≡ 39 ∷ b → b ≡ 39 ∷ c → PassesPart Single indent a c
 passes_two indent a b c d e = record {
   goes_on = λ t after f r. record {
     piece = 39 ∷ 39 ∷ t;
@@ -130,7 +130,7 @@ passes_two indent a b c d e = record {
   shorter = rw (d, e) (omega arith);
 }
 
-pub passes_break : (q : Quote) (indent : ℕ) (a b : List ℕ) → IsBreak (IsLine indent) a b → Passes q indent a b
+pub passes_break : (q : Quote) (indent : ℕ) (a b : List ℕ) → BeginsLine (IsLine indent) a b → PassesPart q indent a b
 passes_break q indent a b (e, line) = record {
   goes_on = λ t after f r. record {
     piece = 10 ∷ t;
@@ -144,8 +144,8 @@ passes_break q indent a b (e, line) = record {
   shorter = rw e (omega arith);
 }
 
-pub passes_escaped_break : (indent : ℕ) (a b c : List ℕ) → a ≡ 92 ∷ b → IsBreak (IsLine indent) b c
-    → Passes Double indent a c
+pub passes_escaped_break : (indent : ℕ) (a b c : List ℕ) → a ≡ 92 ∷ b → BeginsLine (IsLine indent) b c
+    → PassesPart Double indent a c
 passes_escaped_break indent a b c d (e, line) = record {
   goes_on = λ t after f r. record {
     piece = 92 ∷ 10 ∷ t;
@@ -164,7 +164,7 @@ passes_escaped_break indent a b c d (e, line) = record {
 }
 
 pub passes_escape : (indent n x : ℕ) (a b c : List ℕ) → a ≡ 92 ∷ b → b ≡ n ∷ c → short_escape n ≡ Some x
-    → Passes Double indent a c
+    → PassesPart Double indent a c
 passes_escape indent n x a b c d e h = record {
   goes_on = λ t after f r. record {
     piece = 92 ∷ n ∷ t;
@@ -178,7 +178,7 @@ after_digits : (ds t after c : List ℕ) → c ≡ t ++ after → ds ++ c ≡ (d
 after_digits ds t after c e = ap (λ y. ds ++ y) e ∙ sym (append_assoc ds t after)
 
 pub passes_number : (indent n count : ℕ) (a b c g : List ℕ) → a ≡ 92 ∷ b → b ≡ n ∷ c → digit_count n ≡ Some count
-    → IsNumberOf count c g → Passes Double indent a g
+    → AreDigitsOf count c g → PassesPart Double indent a g
 passes_number indent n count a b c g d e many number =
     let x = number.0 in let s = number.2 in let ds = s.digits in
     let is_number : IsNumber n x ds = record {
@@ -203,7 +203,7 @@ passes_number indent n count a b c g d e many number =
 
 -- ## Digits
 
-pub no_digits : (a : List ℕ) → Spells 0 0 a a
+pub no_digits : (a : List ℕ) → SpellsDigits 0 0 a a
 no_digits a = record { digits = []; many = refl; hex = tt; stands_for = refl; cut = refl }
 
 hexadecimal_more : (v d : ℕ) (ds : List ℕ)
@@ -211,8 +211,8 @@ hexadecimal_more : (v d : ℕ) (ds : List ℕ)
 hexadecimal_more v d [] = refl
 hexadecimal_more v d (x ∷ ds) = hexadecimal_more (v * 16 + hex_value x) d ds
 
-pub digit_more : (k v d w : ℕ) (a b c : List ℕ) → Spells k v a b → b ≡ d ∷ c → IsTrue (is_hex d)
-    → w ≡ v * 16 + hex_value d → Spells (k + 1) w a c
+pub digit_more : (k v d w : ℕ) (a b c : List ℕ) → SpellsDigits k v a b → b ≡ d ∷ c → IsTrue (is_hex d)
+    → w ≡ v * 16 + hex_value d → SpellsDigits (k + 1) w a c
 digit_more k v d w a b c s e is_digit value =
     let long = length-append s.digits (d ∷ []) in
     let many = s.many in
@@ -227,11 +227,11 @@ digit_more k v d w a b c s e is_digit value =
 -- ## The whole
 
 pub inside_closed : (q : Quote) (indent m : ℕ) (a b c : List ℕ) → Continues q indent a b → b ≡ m ∷ c → m ≡ mark q
-    → Takes (EndsInside q indent) a c
+    → TakesOff (EndsInside q indent) a c
 inside_closed q indent m a b c passed e is =
     let last = closes q indent b c (e ∙ ap (λ x. x ∷ c) is) in passed last.piece c last.cut last.is
 
 pub quoted_whole : (q : Quote) (indent m : ℕ) (a b c : List ℕ) → a ≡ m ∷ b → m ≡ mark q
-    → Takes (EndsInside q indent) b c → Takes (IsQuotedScalar q indent) a c
+    → TakesOff (EndsInside q indent) b c → TakesOff (IsQuotedScalar q indent) a c
 quoted_whole q indent m a b c e is t =
     known_then (mark q ∷ []) (λ inside k. (inside, k.1, refl)) (e ∙ ap (λ x. x ∷ b) is) t

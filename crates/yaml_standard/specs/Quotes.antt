@@ -9,7 +9,7 @@ use Rattle.saphyr_scalar.specs.Spelling.Tag.{AreIn}
 use Rattle.saphyr_scalar.specs.Values.Escapes.{is_scalar_value}
 use Rattle.saphyr_scalar.specs.Values.Flow.{mark}
 use Rattle.scalar_laws.specs.Spelling.QuotedLines.{LinesFit}
-use Rattle.yaml_standard.specs.Takes.{Takes}
+use Rattle.yaml_standard.specs.Takes.{TakesOff}
 
 -- what comes after the opening quote, with the closing one, where each later line is indented
 abbrev pub IsInside : Quote → ℕ → List ℕ → Type 0
@@ -23,19 +23,19 @@ EndsInside quote indent t = (front : List ℕ) × IsInside quote indent t × (t 
 -- What ends a scalar from `now` on ends it from `start` on.
 abbrev pub Continues : Quote → ℕ → List ℕ → List ℕ → Type 0
 Continues quote indent start now =
-    (t after : List ℕ) → now ≡ t ++ after → EndsInside quote indent t → Takes (EndsInside quote indent) start after
+    (t after : List ℕ) → now ≡ t ++ after → EndsInside quote indent t → TakesOff (EndsInside quote indent) start after
 
 -- a part of a scalar is passed, and not the last one
-pub record Passes (quote : Quote) (indent : ℕ) (start now : List ℕ) : Type 0 where
+pub record PassesPart (quote : Quote) (indent : ℕ) (start now : List ℕ) : Type 0 where
   pub goes_on : Continues quote indent start now
   pub shorter : length now < length start
 
 -- a line begins behind a break
-abbrev pub IsBreak : (List ℕ → Type 0) → List ℕ → List ℕ → Type 0
-IsBreak Line before after = (before ≡ 10 ∷ after) × Line after
+abbrev pub BeginsLine : (List ℕ → Type 0) → List ℕ → List ℕ → Type 0
+BeginsLine Line before after = (before ≡ 10 ∷ after) × Line after
 
 -- hexadecimal digits, of which there are so many, and what they stand for
-pub record Spells (count value : ℕ) (before after : List ℕ) : Type 0 where
+pub record SpellsDigits (count value : ℕ) (before after : List ℕ) : Type 0 where
   pub digits : List ℕ
   pub many : length digits ≡ count
   pub hex : AreIn is_hex digits
@@ -43,8 +43,8 @@ pub record Spells (count value : ℕ) (before after : List ℕ) : Type 0 where
   pub cut : before ≡ digits ++ after
 
 -- the digits of a character
-abbrev pub IsNumberOf : ℕ → List ℕ → List ℕ → Type 0
-IsNumberOf count before after = (value : ℕ) × IsTrue (is_scalar_value value) × Spells count value before after
+abbrev pub AreDigitsOf : ℕ → List ℕ → List ℕ → Type 0
+AreDigitsOf count before after = (value : ℕ) × IsTrue (is_scalar_value value) × SpellsDigits count value before after
 
 -- a scalar, from its opening quote on
 abbrev pub IsQuotedScalar : Quote → ℕ → List ℕ → Type 0

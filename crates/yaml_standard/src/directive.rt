@@ -5,7 +5,7 @@ ghost use Rattle.saphyr_input.specs.Classes as class;
 ghost use Rattle.saphyr_input.specs.Indicators.{exclamation_mark};
 ghost use Rattle.yaml_standard.specs.Directives as spec;
 ghost use Rattle.yaml_standard.specs.Percent.{AreSomeOf};
-ghost use Rattle.yaml_standard.specs.Takes.{Takes};
+ghost use Rattle.yaml_standard.specs.Takes.{TakesOff};
 
 use crate::front::strip;
 use crate::names::behind_handle;
@@ -67,7 +67,7 @@ impl CharSet for PrefixSet {
 
 /// What follows a uri, which has a character.
 pub(crate) fn behind_uri(text: &str) -> Option<&str>
-    ensures { IfSome result (λ rest. Takes (AreSomeOf class.is_uri_char) (chars text.now)
+    ensures { IfSome result (λ rest. TakesOff (AreSomeOf class.is_uri_char) (chars text.now)
         (chars rest.now)) }
 {
     behind_some_decoded::<UriSet>(text)
@@ -75,7 +75,7 @@ pub(crate) fn behind_uri(text: &str) -> Option<&str>
 
 /// What follows the suffix of a tag, which has a character.
 pub(crate) fn behind_suffix(text: &str) -> Option<&str>
-    ensures { IfSome result (λ rest. Takes (AreSomeOf class.is_tag_char) (chars text.now)
+    ensures { IfSome result (λ rest. TakesOff (AreSomeOf class.is_tag_char) (chars text.now)
         (chars rest.now)) }
 {
     behind_some_decoded::<SuffixSet>(text)
@@ -83,7 +83,7 @@ pub(crate) fn behind_suffix(text: &str) -> Option<&str>
 
 // What follows a prefix.
 fn behind_prefix(text: &str) -> Option<&str>
-    ensures { IfSome result (λ rest. Takes spec.IsSomePrefix (chars text.now) (chars rest.now)) }
+    ensures { IfSome result (λ rest. TakesOff spec.IsSomePrefix (chars text.now) (chars rest.now)) }
 {
     let rest = behind_character::<PrefixSet>(text)?;
     Some(behind_decoded::<UriSet>(rest))
@@ -101,7 +101,7 @@ fn behind_tag_name(text: &str) -> Option<&str>
 
 // What follows a handle, blanks and a prefix.
 fn behind_handle_and_prefix(text: &str) -> Option<&str>
-    ensures { IfSome result (λ rest. Takes spec.IsHandleAndPrefix (chars text.now)
+    ensures { IfSome result (λ rest. TakesOff spec.IsHandleAndPrefix (chars text.now)
         (chars rest.now)) }
 {
     let blanks = behind_handle(text)?;
@@ -111,7 +111,7 @@ fn behind_handle_and_prefix(text: &str) -> Option<&str>
 
 /// What follows a tag directive, with blanks between its handle and its prefix.
 pub(crate) fn behind_tag_directive(text: &str) -> Option<&str>
-    ensures { IfSome result (λ rest. Takes spec.IsSomeTagDirective (chars text.now)
+    ensures { IfSome result (λ rest. TakesOff spec.IsSomeTagDirective (chars text.now)
         (chars rest.now)) }
 {
     let blanks = behind_tag_name(text)?;

@@ -1,9 +1,9 @@
-//! Takes characters off the front of a text.
+//! TakesOff characters off the front of a text.
 ghost use Rattle.std.specs.Prelude.{◌≡◌, ◌≢◌, [], ◌∷◌, IfNone, IfSome, IsTrue};
 ghost use Rattle.std.specs.Str.{chars};
 ghost use Rattle.saphyr_input.specs.Places.{is_document_indicator};
 ghost use Rattle.saphyr_scalar.specs.Spelling.Tag.{AreIn};
-ghost use Rattle.yaml_standard.specs.Takes.{Takes};
+ghost use Rattle.yaml_standard.specs.Takes.{TakesOff};
 
 use saphyr_input::{CharSet, Input, StrInput};
 
@@ -46,7 +46,7 @@ pub(crate) fn is_document_marker(text: &str) -> bool
 
 /// What follows the characters of a set that come first.
 pub(crate) fn behind_run<C: CharSet>(text: &str) -> &str
-    ensures { Takes (AreIn C.test) (chars text.now) (chars result.now) }
+    ensures { TakesOff (AreIn C.test) (chars text.now) (chars result.now) }
 {
     let mut input = StrInput::new(text);
     input.skip_while::<C>();
@@ -55,7 +55,7 @@ pub(crate) fn behind_run<C: CharSet>(text: &str) -> &str
 
 /// The same, if some come first.
 pub(crate) fn behind_some<C: CharSet>(text: &str) -> Option<&str>
-    ensures { IfSome result (λ rest. Takes (λ t. (t ≢ []) × AreIn C.test t) (chars text.now)
+    ensures { IfSome result (λ rest. TakesOff (λ t. (t ≢ []) × AreIn C.test t) (chars text.now)
         (chars rest.now)) }
 {
     let (first, rest) = split(text)?;

@@ -3,7 +3,7 @@ ghost use Rattle.std.specs.Prelude.{IfSome, refl};
 ghost use Rattle.std.specs.Str.{chars};
 ghost use Rattle.saphyr_input.specs.Classes as class;
 ghost use Rattle.saphyr_scalar.specs.Spelling.Tag as spec;
-ghost use Rattle.yaml_standard.specs.Takes.{Takes};
+ghost use Rattle.yaml_standard.specs.Takes.{TakesOff};
 
 use crate::front::{behind_run, behind_some, strip};
 use saphyr_input::CharSet;
@@ -29,14 +29,14 @@ impl CharSet for AnchorSet {
 
 /// What follows the name of an anchor, or of an alias, from behind its indicator on.
 pub(crate) fn behind_anchor_name(text: &str) -> Option<&str>
-    ensures { IfSome result (λ rest. Takes spec.IsAnchorName (chars text.now) (chars rest.now)) }
+    ensures { IfSome result (λ rest. TakesOff spec.IsAnchorName (chars text.now) (chars rest.now)) }
 {
     behind_some::<AnchorSet>(text)
 }
 
 /// What follows a handle: `!`, or the longer one where it is there.
 pub(crate) fn behind_handle(text: &str) -> Option<&str>
-    ensures { IfSome result (λ rest. Takes spec.IsHandleText (chars text.now) (chars rest.now)) }
+    ensures { IfSome result (λ rest. TakesOff spec.IsHandleText (chars text.now) (chars rest.now)) }
 {
     let word = strip(text, '!')?;
     match strip(behind_run::<Alpha>(word), '!') {

@@ -3,7 +3,7 @@ ghost use Rattle.std.specs.Prelude.{IfSome};
 ghost use Rattle.std.specs.Str.{chars};
 ghost use Rattle.saphyr_scalar.specs.Spelling.Tag.{IsByteEscape, AreByteEscapes};
 ghost use Rattle.yaml_standard.specs.Percent as spec;
-ghost use Rattle.yaml_standard.specs.Takes.{Takes};
+ghost use Rattle.yaml_standard.specs.Takes.{TakesOff};
 
 use crate::front::{split, strip};
 use crate::quoted::is_scalar_value;
@@ -12,7 +12,7 @@ use saphyr_input::char_traits::{as_hex, is_hex};
 
 // A byte, and what follows its escape.
 fn escaped_byte(text: &str) -> Option<(u32, &str)>
-    ensures { IfSome result (λ front. Takes (IsByteEscape front.0) (chars text.now)
+    ensures { IfSome result (λ front. TakesOff (IsByteEscape front.0) (chars text.now)
         (chars front.1.now)) }
 {
     let digits = strip(text, '%')?;
@@ -30,7 +30,7 @@ fn escaped_byte(text: &str) -> Option<(u32, &str)>
 // What follows the escapes of these bytes.
 #[tactic(auto, using(crate::proofs::Escapes::no_bytes))]
 fn behind_bytes<'a>(text: &'a str, bytes: &[u8]) -> Option<&'a str>
-    ensures { IfSome result (λ rest. Takes (AreByteEscapes bytes.now) (chars text.now)
+    ensures { IfSome result (λ rest. TakesOff (AreByteEscapes bytes.now) (chars text.now)
         (chars rest.now)) }
 {
     let mut rest = text;
@@ -63,7 +63,7 @@ fn guessed_character(text: &str) -> Option<char> {
 
 // What follows the escapes of a character.
 fn behind_escapes(text: &str) -> Option<&str>
-    ensures { IfSome result (λ rest. Takes spec.IsEscaped (chars text.now) (chars rest.now)) }
+    ensures { IfSome result (λ rest. TakesOff spec.IsEscaped (chars text.now) (chars rest.now)) }
 {
     let c = guessed_character(text)?;
     if !is_scalar_value(u32::from(c)) {
@@ -76,7 +76,7 @@ fn behind_escapes(text: &str) -> Option<&str>
 
 // What follows a character of a set, as it is or by escapes.
 pub(crate) fn behind_character<C: CharSet>(text: &str) -> Option<&str>
-    ensures { IfSome result (λ rest. Takes (spec.IsOneOf C.test) (chars text.now)
+    ensures { IfSome result (λ rest. TakesOff (spec.IsOneOf C.test) (chars text.now)
         (chars rest.now)) }
 {
     let (first, rest) = split(text)?;
@@ -88,7 +88,7 @@ pub(crate) fn behind_character<C: CharSet>(text: &str) -> Option<&str>
 
 /// What follows any number of such characters.
 pub(crate) fn behind_decoded<C: CharSet>(text: &str) -> &str
-    ensures { Takes (spec.AreOf C.test) (chars text.now) (chars result.now) }
+    ensures { TakesOff (spec.AreOf C.test) (chars text.now) (chars result.now) }
 {
     let mut rest = text;
     for _ in 0..text.len() {
@@ -102,7 +102,7 @@ pub(crate) fn behind_decoded<C: CharSet>(text: &str) -> &str
 
 /// What follows such characters, if some come first.
 pub(crate) fn behind_some_decoded<C: CharSet>(text: &str) -> Option<&str>
-    ensures { IfSome result (λ rest. Takes (spec.AreSomeOf C.test) (chars text.now)
+    ensures { IfSome result (λ rest. TakesOff (spec.AreSomeOf C.test) (chars text.now)
         (chars rest.now)) }
 {
     let rest = behind_character::<C>(text)?;

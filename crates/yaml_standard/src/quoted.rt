@@ -7,7 +7,7 @@ ghost use Rattle.saphyr_scalar.specs.Values.Escapes as escapes;
 ghost use Rattle.saphyr_scalar.specs.declared.values.Quote.TheVariants.{Single, Double};
 ghost use Rattle.scalar_laws.specs.Spelling.QuotedLines.{space_count, IsLine};
 ghost use Rattle.yaml_standard.specs.Quotes as spec;
-ghost use Rattle.yaml_standard.specs.Takes.{Takes};
+ghost use Rattle.yaml_standard.specs.Takes.{TakesOff};
 
 use crate::front::{is_document_marker, split, strip};
 use crate::spaces::{behind_all_spaces, behind_spaces};
@@ -39,7 +39,7 @@ fn is_line(text: &str, indent: usize) -> bool
 
 // What follows a break, if it is a later line of a scalar.
 fn behind_break(text: &str, indent: usize) -> Option<&str>
-    ensures { IfSome result (λ rest. spec.IsBreak (IsLine indent) (chars text.now)
+    ensures { IfSome result (λ rest. spec.BeginsLine (IsLine indent) (chars text.now)
         (chars rest.now)) }
 {
     let line = strip(text, '\n')?;
@@ -60,7 +60,7 @@ pub(crate) fn is_scalar_value(value: u32) -> bool
 // What follows hexadecimal digits, of which there are so many, if they stand for a character.
 #[tactic(auto, using(crate::proofs::Quotes::digit_more, crate::proofs::Quotes::no_digits))]
 fn behind_digits(text: &str, count: usize) -> Option<&str>
-    ensures { IfSome result (λ rest. spec.IsNumberOf count (chars text.now) (chars rest.now)) }
+    ensures { IfSome result (λ rest. spec.AreDigitsOf count (chars text.now) (chars rest.now)) }
 {
     let mut rest = text;
     let mut value = 0u32;
@@ -82,7 +82,7 @@ fn behind_digits(text: &str, count: usize) -> Option<&str>
 
 // What follows an escape in double quotes, from its backslash on.
 fn behind_escape(text: &str, indent: usize) -> Option<&str>
-    ensures { IfSome result (λ rest. spec.Passes Double indent (chars text.now)
+    ensures { IfSome result (λ rest. spec.PassesPart Double indent (chars text.now)
         (chars rest.now)) }
 {
     let letter = strip(text, '\\')?;
@@ -99,7 +99,7 @@ fn behind_escape(text: &str, indent: usize) -> Option<&str>
 
 // What follows two single quotes, which stand for one.
 fn behind_two(text: &str, indent: usize) -> Option<&str>
-    ensures { IfSome result (λ rest. spec.Passes Single indent (chars text.now)
+    ensures { IfSome result (λ rest. spec.PassesPart Single indent (chars text.now)
         (chars rest.now)) }
 {
     let second = strip(text, '\'')?;
@@ -118,7 +118,7 @@ fn stands_for_itself(c: char, quote: Quote) -> bool
 
 // What follows a part of a scalar that is not its closing quote.
 fn behind_part(text: &str, quote: Quote, indent: usize) -> Option<&str>
-    ensures { IfSome result (λ rest. spec.Passes quote indent (chars text.now)
+    ensures { IfSome result (λ rest. spec.PassesPart quote indent (chars text.now)
         (chars rest.now)) }
 {
     if let Some(line) = behind_break(text, indent) {
@@ -136,7 +136,7 @@ fn behind_part(text: &str, quote: Quote, indent: usize) -> Option<&str>
 
 // What follows the closing quote of a scalar, from behind its opening one on.
 fn behind_inside(text: &str, quote: Quote, indent: usize) -> Option<&str>
-    ensures { IfSome result (λ rest. Takes (spec.EndsInside quote indent) (chars text.now)
+    ensures { IfSome result (λ rest. TakesOff (spec.EndsInside quote indent) (chars text.now)
         (chars rest.now)) }
 {
     let mut rest = text;
@@ -148,7 +148,7 @@ fn behind_inside(text: &str, quote: Quote, indent: usize) -> Option<&str>
 
 /// What follows a scalar in these quotes, from its opening quote on.
 pub(crate) fn behind_quoted(text: &str, quote: Quote, indent: usize) -> Option<&str>
-    ensures { IfSome result (λ rest. Takes (spec.IsQuotedScalar quote indent) (chars text.now)
+    ensures { IfSome result (λ rest. TakesOff (spec.IsQuotedScalar quote indent) (chars text.now)
         (chars rest.now)) }
 {
     let inside = strip(text, quote.mark())?;

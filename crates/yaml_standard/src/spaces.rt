@@ -7,7 +7,7 @@ ghost use Rattle.saphyr_scalar.specs.Reading.BlockLines as lines;
 ghost use Rattle.saphyr_scalar.specs.Spelling.Directive.{AreSomeBlanks};
 ghost use Rattle.saphyr_scalar.specs.Spelling.Tag.{AreIn};
 ghost use Rattle.scalar_laws.specs.Spelling.Spaces as spec;
-ghost use Rattle.yaml_standard.specs.Takes.{Takes, TakesBefore};
+ghost use Rattle.yaml_standard.specs.Takes.{TakesOff, TakesBefore};
 
 use crate::front::{behind_run, behind_some, is_end, strip};
 use saphyr_input::NonBreak;
@@ -15,21 +15,21 @@ use saphyr_input::char_set::Blank;
 
 /// What follows the blanks that come first.
 pub(crate) fn behind_blanks(text: &str) -> &str
-    ensures { Takes (AreIn is_blank) (chars text.now) (chars result.now) }
+    ensures { TakesOff (AreIn is_blank) (chars text.now) (chars result.now) }
 {
     behind_run::<Blank>(text)
 }
 
 /// What follows blanks, if some come first.
 pub(crate) fn behind_some_blanks(text: &str) -> Option<&str>
-    ensures { IfSome result (λ rest. Takes AreSomeBlanks (chars text.now) (chars rest.now)) }
+    ensures { IfSome result (λ rest. TakesOff AreSomeBlanks (chars text.now) (chars rest.now)) }
 {
     behind_some::<Blank>(text)
 }
 
 /// What follows a comment, which ends with its line.
 pub(crate) fn behind_comment(text: &str) -> Option<&str>
-    ensures { IfSome result (λ rest. Takes spec.IsComment (chars text.now) (chars rest.now)) }
+    ensures { IfSome result (λ rest. TakesOff spec.IsComment (chars text.now) (chars rest.now)) }
 {
     let words = strip(text, '#')?;
     Some(behind_run::<NonBreak>(words))
@@ -37,7 +37,7 @@ pub(crate) fn behind_comment(text: &str) -> Option<&str>
 
 /// What follows blanks and, after some blanks, a comment.
 pub(crate) fn behind_line_rest(text: &str) -> &str
-    ensures { Takes spec.IsLineRest (chars text.now) (chars result.now) }
+    ensures { TakesOff spec.IsLineRest (chars text.now) (chars result.now) }
 {
     match behind_some_blanks(text) {
         None => text,
@@ -50,7 +50,7 @@ pub(crate) fn behind_line_rest(text: &str) -> &str
 
 /// What follows the end of a line, with its break.
 pub(crate) fn behind_line_end(text: &str) -> Option<&str>
-    ensures { IfSome result (λ rest. Takes spec.IsLineEnd (chars text.now) (chars rest.now)) }
+    ensures { IfSome result (λ rest. TakesOff spec.IsLineEnd (chars text.now) (chars rest.now)) }
 {
     let rest = behind_line_rest(text);
     strip(rest, '\n')
@@ -69,7 +69,7 @@ pub(crate) fn behind_eol(text: &str) -> Option<&str>
 
 /// What follows blanks and a comment, or none.
 fn behind_filler_text(text: &str) -> &str
-    ensures { Takes spec.IsFillerText (chars text.now) (chars result.now) }
+    ensures { TakesOff spec.IsFillerText (chars text.now) (chars result.now) }
 {
     let rest = behind_blanks(text);
     match behind_comment(rest) {
@@ -80,7 +80,7 @@ fn behind_filler_text(text: &str) -> &str
 
 /// What follows a line of blanks, or of blanks and a comment.
 fn behind_filler_line(text: &str) -> Option<&str>
-    ensures { IfSome result (λ rest. Takes spec.IsFillerLine (chars text.now) (chars rest.now)) }
+    ensures { IfSome result (λ rest. TakesOff spec.IsFillerLine (chars text.now) (chars rest.now)) }
 {
     let rest = behind_filler_text(text);
     strip(rest, '\n')
@@ -88,7 +88,7 @@ fn behind_filler_line(text: &str) -> Option<&str>
 
 /// What follows all such lines that come first.
 pub(crate) fn behind_filler(text: &str) -> &str
-    ensures { Takes spec.IsFiller (chars text.now) (chars result.now) }
+    ensures { TakesOff spec.IsFiller (chars text.now) (chars result.now) }
 {
     let mut rest = text;
     while let Some(behind) = behind_filler_line(rest) {
@@ -119,7 +119,7 @@ pub(crate) fn behind_spaces(text: &str, count: usize) -> Option<&str>
 
 /// What follows the spaces that come first.
 pub(crate) fn behind_all_spaces(text: &str) -> &str
-    ensures { Takes (spec.AreSpaces 0) (chars text.now) (chars result.now) }
+    ensures { TakesOff (spec.AreSpaces 0) (chars text.now) (chars result.now) }
 {
     let mut rest = text;
     while let Some(behind) = strip(rest, ' ') {
@@ -130,7 +130,7 @@ pub(crate) fn behind_all_spaces(text: &str) -> &str
 
 /// What follows the indentation of a line, and any blanks.
 pub(crate) fn behind_line_prefix(text: &str, indent: usize) -> Option<&str>
-    ensures { IfSome result (λ rest. Takes (spec.IsLinePrefix indent) (chars text.now)
+    ensures { IfSome result (λ rest. TakesOff (spec.IsLinePrefix indent) (chars text.now)
         (chars rest.now)) }
 {
     let rest = behind_spaces(text, indent)?;
@@ -139,7 +139,7 @@ pub(crate) fn behind_line_prefix(text: &str, indent: usize) -> Option<&str>
 
 /// What follows the end of a line, filler, and the indentation of the next line's content with any blanks.
 pub(crate) fn behind_next_line(text: &str, indent: usize) -> Option<&str>
-    ensures { IfSome result (λ rest. Takes (spec.IsNextLine indent) (chars text.now)
+    ensures { IfSome result (λ rest. TakesOff (spec.IsNextLine indent) (chars text.now)
         (chars rest.now)) }
 {
     let line = behind_line_end(text)?;
@@ -149,7 +149,7 @@ pub(crate) fn behind_next_line(text: &str, indent: usize) -> Option<&str>
 
 /// What follows a gap in block style: blanks, or the same as in [`behind_next_line`].
 pub(crate) fn behind_gap(text: &str, indent: usize) -> Option<&str>
-    ensures { IfSome result (λ rest. Takes (spec.IsGap indent) (chars text.now)
+    ensures { IfSome result (λ rest. TakesOff (spec.IsGap indent) (chars text.now)
         (chars rest.now)) }
 {
     match behind_next_line(text, indent) {
@@ -160,7 +160,7 @@ pub(crate) fn behind_gap(text: &str, indent: usize) -> Option<&str>
 
 /// What follows the end of a line in flow style, with filler and the next line's indentation.
 fn behind_separation_line(text: &str, indent: usize) -> Option<&str>
-    ensures { IfSome result (λ rest. Takes (spec.IsSeparationLine indent) (chars text.now)
+    ensures { IfSome result (λ rest. TakesOff (spec.IsSeparationLine indent) (chars text.now)
         (chars rest.now)) }
 {
     let line = behind_line_end(text)?;
@@ -170,7 +170,7 @@ fn behind_separation_line(text: &str, indent: usize) -> Option<&str>
 
 /// What follows separation in flow style, which may be empty.
 pub(crate) fn behind_separation(text: &str, indent: usize) -> &str
-    ensures { Takes (spec.IsSeparation indent) (chars text.now) (chars result.now) }
+    ensures { TakesOff (spec.IsSeparation indent) (chars text.now) (chars result.now) }
 {
     let mut rest = text;
     while let Some(behind) = behind_separation_line(rest, indent) {

@@ -4,7 +4,7 @@ ghost use Rattle.std.specs.Str.{chars};
 ghost use Rattle.saphyr_input.specs.Indicators.{colon};
 ghost use Rattle.saphyr_scalar.specs.Spelling.Tag.{AreIn};
 ghost use Rattle.scalar_laws.specs.Spelling.Plain as plain;
-ghost use Rattle.yaml_standard.specs.Takes.{Takes};
+ghost use Rattle.yaml_standard.specs.Takes.{TakesOff};
 ghost use Rattle.yaml_standard.specs.Words as spec;
 
 use crate::front::{split, strip};
@@ -19,7 +19,7 @@ fn is_plain_safe(c: char, in_flow: bool) -> bool
 
 // What follows the colons that come first.
 fn behind_colons(text: &str) -> &str
-    ensures { Takes (AreIn (λ c. c == colon)) (chars text.now) (chars result.now) }
+    ensures { TakesOff (AreIn (λ c. c == colon)) (chars text.now) (chars result.now) }
 {
     let mut rest = text;
     while let Some(behind) = strip(rest, ':') {
@@ -30,7 +30,7 @@ fn behind_colons(text: &str) -> &str
 
 // What follows colons, or none, and a character of words that is no colon.
 fn behind_safe_part(text: &str, in_flow: bool) -> Option<&str>
-    ensures { IfSome result (λ rest. Takes (spec.IsSafePart in_flow) (chars text.now)
+    ensures { IfSome result (λ rest. TakesOff (spec.IsSafePart in_flow) (chars text.now)
         (chars rest.now)) }
 {
     let rest = behind_colons(text);
@@ -47,7 +47,7 @@ fn behind_safe_part(text: &str, in_flow: bool) -> Option<&str>
 
 // What follows the characters of words that come first, up to the last that is no colon.
 fn behind_safe(text: &str, in_flow: bool) -> &str
-    ensures { Takes (plain.ArePlainSafe in_flow) (chars text.now) (chars result.now) }
+    ensures { TakesOff (plain.ArePlainSafe in_flow) (chars text.now) (chars result.now) }
 {
     let mut rest = text;
     while let Some(part) = behind_safe_part(rest, in_flow) {
@@ -58,7 +58,7 @@ fn behind_safe(text: &str, in_flow: bool) -> &str
 
 // The same of characters, of which there are some.
 fn behind_some_safe(text: &str, in_flow: bool) -> Option<&str>
-    ensures { IfSome result (λ rest. Takes (spec.AreSomeSafe in_flow) (chars text.now)
+    ensures { IfSome result (λ rest. TakesOff (spec.AreSomeSafe in_flow) (chars text.now)
         (chars rest.now)) }
 {
     let rest = behind_safe_part(text, in_flow)?;
@@ -67,7 +67,7 @@ fn behind_some_safe(text: &str, in_flow: bool) -> Option<&str>
 
 // What follows a word outside flow.
 fn behind_word_outside(text: &str) -> Option<&str>
-    ensures { IfSome result (λ rest. Takes (plain.IsWordIn false) (chars text.now)
+    ensures { IfSome result (λ rest. TakesOff (plain.IsWordIn false) (chars text.now)
         (chars rest.now)) }
 {
     let (first, _) = split(text)?;
@@ -79,7 +79,7 @@ fn behind_word_outside(text: &str) -> Option<&str>
 
 // What follows a word inside flow that begins with no `-`.
 fn behind_undashed_word(text: &str) -> Option<&str>
-    ensures { IfSome result (λ rest. Takes (plain.IsWordIn true) (chars text.now)
+    ensures { IfSome result (λ rest. TakesOff (plain.IsWordIn true) (chars text.now)
         (chars rest.now)) }
 {
     let (first, _) = split(text)?;
@@ -94,7 +94,7 @@ fn behind_undashed_word(text: &str) -> Option<&str>
 
 // What follows a word inside flow, which is no lone `-`.
 fn behind_word_in_flow(text: &str) -> Option<&str>
-    ensures { IfSome result (λ rest. Takes (plain.IsWordIn true) (chars text.now)
+    ensures { IfSome result (λ rest. TakesOff (plain.IsWordIn true) (chars text.now)
         (chars rest.now)) }
 {
     match strip(text, '-') {
@@ -105,7 +105,7 @@ fn behind_word_in_flow(text: &str) -> Option<&str>
 
 /// What follows a word, the longest that is there.
 pub(crate) fn behind_word(text: &str, in_flow: bool) -> Option<&str>
-    ensures { IfSome result (λ rest. Takes (plain.IsWordIn in_flow) (chars text.now)
+    ensures { IfSome result (λ rest. TakesOff (plain.IsWordIn in_flow) (chars text.now)
         (chars rest.now)) }
 {
     if in_flow {
