@@ -1,0 +1,96 @@
+-- Pieces at the front of a text, one after the other.
+use Rattle.std.proofs.Common.{◌≡◌, ◌≢◌, ℕ, Bool, true, List, [], ◌∷◌, ◌++◌, take, drop, refl, sym, ap, ◌∙◌, append_assoc, Option, None, Some, IsUtf8, subst}
+use Rattle.std.specs.Prelude.{IfSome, IsTrue, is_some}
+use Rattle.std.specs.List.{prefix_len}
+use Rattle.std.specs.Str.{chars}
+use Rattle.std.specs.Str.Iter.{chars_steps}
+use Rattle.std.specs.declared.str.Chars.{Chars}
+use Rattle.std.proofs.lemmas.Str.{chars_past_char}
+use Rattle.std.proofs.lemmas.List.{append-nil, take-append-drop}
+use Rattle.saphyr_input.proofs.Basics.Lists.{cons_not_empty}
+use Rattle.saphyr_scalar.specs.Spelling.Tag.{AreIn}
+use Rattle.saphyr_scalar.proofs.Runs.{run_is_in}
+use Rattle.scalar_laws.specs.Spelling.Spaces.{joined_pieces, AreEach, AreMany}
+use Rattle.yaml_standard.specs.Takes.{TakesOff}
+
+-- ## Characters
+
+pub first_passed : (bs : List ℕ) (s t : Chars) (c : ℕ) → IsUtf8 bs → s.rest.now ≡ bs → chars_steps s (Some c) t
+    → chars bs ≡ c ∷ chars t.rest.now
+first_passed bs s t c u e h =
+    let v : IsUtf8 s.rest.now = subst IsUtf8 (sym e) u in
+    ap chars (sym e) ∙ chars_past_char s.rest.now t.rest.now c v h.0
+
+pub run_taken : (p : ℕ → Bool) (a b : List ℕ) (n : ℕ) → n ≡ prefix_len p a → b ≡ drop n a → TakesOff (AreIn p) a b
+run_taken p a b n count left = record {
+  piece = take (prefix_len p a) a;
+  is = run_is_in p a;
+  cut = sym (ap (λ t. take (prefix_len p a) a ++ t) (left ∙ ap (λ k. drop k a) count)
+      ∙ take-append-drop (prefix_len p a) a);
+}
+
+-- ## Pieces
+
+-- what a clause says of a value, where there is one
+pub found : {A Q : Type 0} {P : A → Type 0} (o : Option A) → ((x : A) → P x → Q) → IfSome o P → is_some o ≡ true → Q
+found None f h e = absurd (cc)
+found (Some x) f h e = f x h
+
+pub nothing_taken : (P : List ℕ → Type 0) (a : List ℕ) → P [] → TakesOff P a a
+nothing_taken P a is = record { piece = []; is = is; cut = refl }
+
+pub taken_so : {P R : List ℕ → Type 0} {a b : List ℕ} → ((p : List ℕ) → P p → R p) → TakesOff P a b → TakesOff R a b
+taken_so f s = record { piece = s.piece; is = f s.piece s.is; cut = s.cut }
+
+-- one piece, and another after it
+pub then : {P Q R : List ℕ → Type 0} {a b c : List ℕ} → ((p q : List ℕ) → P p → Q q → R (p ++ q)) → TakesOff P a b
+    → TakesOff Q b c → TakesOff R a c
+then {c = c} f s t = record {
+  piece = s.piece ++ t.piece;
+  is = f s.piece t.piece s.is t.is;
+  cut = s.cut ∙ ap (λ x. s.piece ++ x) t.cut ∙ sym (append_assoc s.piece t.piece c);
+}
+
+-- characters that are known, and a piece after them
+pub known_then : {Q R : List ℕ → Type 0} {a b c : List ℕ} (known : List ℕ) → ((q : List ℕ) → Q q → R (known ++ q))
+    → a ≡ known ++ b → TakesOff Q b c → TakesOff R a c
+known_then {c = c} known f e t = record {
+  piece = known ++ t.piece;
+  is = f t.piece t.is;
+  cut = e ∙ ap (λ x. known ++ x) t.cut ∙ sym (append_assoc known t.piece c);
+}
+
+-- a piece, and known characters after it
+pub then_known : {P R : List ℕ → Type 0} {a b c : List ℕ} (known : List ℕ) → ((p : List ℕ) → P p → R (p ++ known))
+    → TakesOff P a b → b ≡ known ++ c → TakesOff R a c
+then_known {c = c} known f s e = record {
+  piece = s.piece ++ known;
+  is = f s.piece s.is;
+  cut = s.cut ∙ ap (λ x. s.piece ++ x) e ∙ sym (append_assoc s.piece known c);
+}
+
+-- some characters of a set
+pub some_taken : (set : ℕ → Bool) (c : ℕ) (a b r : List ℕ) → a ≡ c ∷ b → IsTrue (set c) → TakesOff (AreIn set) b r
+    → TakesOff (λ t. (t ≢ []) × AreIn set t) a r
+some_taken set c a b r e is t = known_then {Q = AreIn set} (c ∷ []) (λ q k. (cons_not_empty c q, (is, k))) e t
+
+-- ## Any number of pieces
+
+each_more : (P : List ℕ → Type 0) (ps : List (List ℕ)) (b : List ℕ) → AreEach P ps → P b → AreEach P (ps ++ b ∷ [])
+each_more P [] b h k = (k, tt)
+each_more P (p ∷ ps) b h k = (h.0, each_more P ps b h.1 k)
+
+joined_more : (ps : List (List ℕ)) (b : List ℕ) → joined_pieces (ps ++ b ∷ []) ≡ joined_pieces ps ++ b
+joined_more [] b = append-nil b
+joined_more (p ∷ ps) b = ap (λ t. p ++ t) (joined_more ps b) ∙ sym (append_assoc p (joined_pieces ps) b)
+
+many_more : (P : List ℕ → Type 0) (a b : List ℕ) → AreMany P a → P b → AreMany P (a ++ b)
+many_more P a b m k =
+    (m.0 ++ b ∷ [], each_more P m.0 b m.1 k, ap (λ t. t ++ b) m.2 ∙ sym (joined_more m.0 b))
+
+pub none_of_many : (P : List ℕ → Type 0) (a : List ℕ) → TakesOff (AreMany P) a a
+none_of_many P a = nothing_taken (AreMany P) a ([], tt, refl)
+
+pub one_of_many : (P : List ℕ → Type 0) (a b c : List ℕ) → TakesOff (AreMany P) a b → TakesOff P b c
+    → TakesOff (AreMany P) a c
+one_of_many P a b c s t = then (λ p q m k. many_more P p q m k) s t

@@ -1,0 +1,15 @@
+use Rattle.std.proofs.Common.{length}
+use Rattle.std.specs.Str.{chars}
+use denote.Shadow.{shadow}
+use denote.Text.{Utf8}
+use Rattle.yaml_standard.specs.Quotes.{Continues}
+use Rattle.yaml_standard.proofs.quoted.behind_inside.Given as goal
+
+abbrev pub invariant-loop-part : goal.invariant-loop-part
+invariant-loop-part l = record {
+  text : shadow (Utf8 l.rest);
+  passed : Continues l.quote l.indent (chars l.fn.text) (chars l.rest);
+}
+
+abbrev pub decreases-loop-part : goal.decreases-loop-part
+decreases-loop-part l = length (chars l.rest)

@@ -1,0 +1,46 @@
+//! Names of anchors, handles of tags, and the numbers of a version (YAML 1.2.2, 6.8 and 6.9).
+ghost use Rattle.std.specs.Prelude.{IfSome, refl};
+ghost use Rattle.std.specs.Str.{chars};
+ghost use Rattle.saphyr_input.specs.Classes as class;
+ghost use Rattle.saphyr_scalar.specs.Spelling.Tag as spec;
+ghost use Rattle.yaml_standard.specs.Takes.{TakesOff};
+
+use crate::front::{behind_run, behind_some, strip};
+use saphyr_input::CharSet;
+use saphyr_input::char_set::Alpha;
+use saphyr_input::char_traits::is_anchor_char;
+
+// The characters of an anchor's name.
+struct AnchorSet;
+
+impl CharSet for AnchorSet {
+    ghost test = { class.is_anchor_char };
+
+    ghost without_nul = { refl };
+
+    fn has(c: char) -> bool {
+        is_anchor_char(c)
+    }
+
+    fn has_ascii(byte: u8) -> bool {
+        byte < 0x80 && is_anchor_char(byte as char)
+    }
+}
+
+/// What follows the name of an anchor, or of an alias, from behind its indicator on.
+pub(crate) fn behind_anchor_name(text: &str) -> Option<&str>
+    ensures { IfSome result (λ rest. TakesOff spec.IsAnchorName (chars text.now) (chars rest.now)) }
+{
+    behind_some::<AnchorSet>(text)
+}
+
+/// What follows a handle: `!`, or the longer one where it is there.
+pub(crate) fn behind_handle(text: &str) -> Option<&str>
+    ensures { IfSome result (λ rest. TakesOff spec.IsHandleText (chars text.now) (chars rest.now)) }
+{
+    let word = strip(text, '!')?;
+    match strip(behind_run::<Alpha>(word), '!') {
+        None => Some(word),
+        Some(rest) => Some(rest),
+    }
+}
