@@ -213,13 +213,7 @@ no_others {around} {b} {room} are = record {
 
 entries_regrouped : (p i q r j o : List Kind) (e : Kind) → q ++ r ≡ j ++ o
     → (((p ++ e ∷ []) ++ i) ++ q) ++ r ≡ p ++ (e ∷ ((i ++ j) ++ o))
-entries_regrouped p i q r j o e is = front ∙ ap (λ (x : List Kind). p ++ (e ∷ (i ++ x))) is ∙ back
-  where
-    front : (((p ++ e ∷ []) ++ i) ++ q) ++ r ≡ p ++ (e ∷ (i ++ (q ++ r)))
-    front = simp append_assoc
-
-    back : p ++ (e ∷ (i ++ (j ++ o))) ≡ p ++ (e ∷ ((i ++ j) ++ o))
-    back = simp append_assoc
+entries_regrouped p i q r j o e is = grind (arith, append_assoc)
 
 -- a comma, an entry and further entries
 abbrev FurtherText : ℕ → (List ℕ → Type 0) → (List ℕ → Type 0) → List ℕ → Type 0

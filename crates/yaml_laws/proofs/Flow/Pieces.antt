@@ -1,11 +1,11 @@
 -- Pieces of a text in flow style in parts, and what comes after them.
-use Rattle.std.proofs.Common.{◌≡◌, ◌≢◌, ℕ, ◌+◌, ◌≤◌, List, [], ◌∷◌, ◌++◌, length, slice_index, refl, ap, arith, append_assoc, IsTrue, ◌⊎◌, inl, inr}
+use Rattle.std.proofs.Common.{◌≡◌, ◌≢◌, ℕ, ◌+◌, ◌≤◌, List, [], ◌∷◌, ◌++◌, length, slice_index, refl, ap, arith, append_assoc, IsTrue, ◌⊎◌}
 use Rattle.saphyr_input.specs.Indicators.{comma, right_brace, right_bracket}
 use Rattle.saphyr_scalar.specs.declared.scalar.position.Marker.{Marker}
 use Rattle.scalar_laws.specs.Spelling.Spaces.{IsSeparation}
 use Rattle.saphyr_scanner.specs.Grammar.Forest.{Node}
 use Rattle.yaml_laws.proofs.InFlow.States.{Around}
-use Rattle.yaml_laws.proofs.Flow.States.{moved, IsContentStart, IsBehind, IsParted, EndsNode, ends_colon, IsBehindNode, FitsAround}
+use Rattle.yaml_laws.proofs.Flow.States.{moved, IsContentStart, IsBehind, IsParted, ends_colon, IsBehindNode, FitsAround}
 use Rattle.yaml_laws.proofs.Flow.Places.{moved_count, clear_front, clear_back}
 use Rattle.yaml_laws.proofs.Flow.Ends.{ends_behind_separation}
 use Rattle.yaml_laws.proofs.Flow.ContentStarts.{StartsContent}
@@ -56,12 +56,7 @@ pub end_is_content : (c : ℕ) → EndsEntry c → IsContentStart c
 end_is_content c h = grind arith
 
 pub entry_behind : (indent : ℕ) (node : Node) (o : List ℕ) → IsBehindEntry indent o → IsBehindNode indent node o
-entry_behind indent node o h = behind_so by_end h
-  where
-    by_end : (w : List ℕ) (c : ℕ) (cs : List ℕ) → EndsEntry c → EndsNode node w c cs
-    by_end w c cs (inl e) = inl e
-    by_end w c cs (inr (inl e)) = inr (inl e)
-    by_end w c cs (inr (inr e)) = inr (inr (inl e))
+entry_behind indent node o h = grind (arith, behind_so)
 
 pub entry_parted : (indent : ℕ) (o : List ℕ) → IsBehindEntry indent o → IsParted indent o
 entry_parted indent o h = behind_so (λ w c cs e. end_is_content c e) h
