@@ -8,7 +8,7 @@ use Rattle.std.proofs.lemmas.Bool.{false≢true}
 use Rattle.std.proofs.lemmas.Bool.Decides.{nat_tests}
 use Rattle.saphyr_input.specs.Classes.{is_yaml_non_break}
 use Rattle.saphyr_input.specs.Places.{next_2_are}
-use Rattle.saphyr_input.specs.Separation.{comment_len, separation_len}
+use Rattle.saphyr_input.specs.Separation.{separation_len}
 use Rattle.saphyr_input.specs.declared.input.SkipTabs.{SkipTabs}
 use Rattle.saphyr_scalar.specs.declared.scalar.position.Marker.{Marker}
 use Rattle.saphyr_scalar.specs.Views.Cursor.{Cursor, along}
@@ -24,12 +24,10 @@ two_shown [] e = absurd (cc)
 two_shown (c ∷ []) e = clash ((c == 13) && false) e (and_false (c == 13))
 two_shown (c ∷ d ∷ cs) e = omega arith
 
-comment_within : (xs : List ℕ) → comment_len xs ≤ length xs
-comment_within xs = grind (arith, nat_tests, prefix_len-le-length is_yaml_non_break xs)
-
 -- white space with its comment is no longer than the text
 pub separation_within : (tabs : SkipTabs) (xs : List ℕ) → separation_len tabs xs ≤ length xs
-separation_within tabs xs = grind (arith, nat_tests, prefix_len-le-length, comment_within, length-drop)
+separation_within tabs xs =
+    grind (arith, nat_tests, prefix_len-le-length, length-drop, prefix_len-le-length is_yaml_non_break xs)
 
 -- The place after n characters of a text, and what is left of it. These are lemmas on their own since a tactic reads
 -- little here, and much at a goal.

@@ -9,7 +9,7 @@ use Rattle.saphyr_scalar.specs.Steps.Anchor.{anchor}
 use Rattle.saphyr_scalar.specs.Steps.Tag.{tag}
 use Rattle.saphyr_scalar.specs.Spelling.Tag.{IsTagText}
 use Rattle.saphyr_scalar.specs.Steps.Directive.{directive}
-use Rattle.saphyr_scalar.specs.Spelling.Directive.{ReadDirective, IsReadDirective}
+use Rattle.saphyr_scalar.specs.Spelling.Directive.{ReadDirective}
 use Rattle.saphyr_scalar.proofs.Properties.AnchorsRead.{spells_anchor}
 use Rattle.saphyr_scalar.proofs.Properties.TagsSpelled.{spells_tag}
 use Rattle.saphyr_scalar.proofs.Directives.Spelled.{spells_directive}
@@ -28,9 +28,6 @@ tag_takes in_flow s t handle suffix opening e = grind (arith, spells_tag, tag_so
 break_shorter : (s : Cursor) → length (pass_break s).rest ≤ length s.rest
 break_shorter s = grind arith
 
-directive_some : (d : ReadDirective) (t : List ℕ) → IsReadDirective d t → 0 < length t
-directive_some d t is = grind arith
-
 pub directive_takes : (s t : Cursor) (d : ReadDirective) (end : Marker) → slice_index s.rest 0 ≡ percent_sign
     → directive s ≡ Ok (d, end, t) → length t.rest < length s.rest
-directive_takes s t d end opening e = grind (arith, spells_directive, length-append, break_shorter, directive_some)
+directive_takes s t d end opening e = grind (arith, spells_directive, length-append, break_shorter)

@@ -155,11 +155,6 @@ nothing_alone c s h = grind arith
 nothing_read : (st : BlockStyle) (c : Chomping) (i : ℕ) → block_value st c i [] AtEnd ≡ []
 nothing_read st c i = grind arith
 
-cut_header : (st : BlockStyle) (c : Chomping) (i : ℕ) (u : Cursor) → is_z (slice_index u.rest 0) ≡ true
-    → u.blank_so_far ≡ false → Behind st c i u (encode_utf8_all (tail_alone c 0 u)) u
-cut_header st c i u z blank =
-    grind (arith, z_is_nul, lines_spaces, no_space, nul_no_indentation, no_start, z_is_none, nothing_alone, nothing_read)
-
 pub nothing_led : (limit : Option ℕ) (u : Cursor) → is_z (slice_index u.rest 0) ≡ true
     → pass_empty_lines_at limit no_lines u ≡ (with_column no_lines u.mark.col, u)
 nothing_led limit u z = grind (arith, z_is_nul, slice_index, stops, nul_no_indentation)
@@ -180,7 +175,8 @@ pub behind_cut : (st : BlockStyle) (indent : ℕ) (start : Marker) (c : Chomping
     (y : Read) → is_z (slice_index u.rest 0) ≡ true → u.blank_so_far ≡ false
     → behind_leading_lines st indent start c limit (with_column no_lines u.mark.col, u) ≡ Ok y → Behind st c i u y.0 y.2
 unfolding behind_leading_lines
-behind_cut st indent start c i limit u y z blank e = grind (arith, as_read_behind, encode_utf8_all, cut_header)
+behind_cut st indent start c i limit u y z blank e =
+    grind (arith, as_read_behind, encode_utf8_all, z_is_nul, lines_spaces, no_space, nul_no_indentation, no_start, z_is_none, nothing_alone, nothing_read)
 
 behind_place : (st : BlockStyle) (indent : ℕ) (start : Marker) (h : BlockHeader) (u : Cursor) (y : Read)
     → IsBehindHeaderLine u

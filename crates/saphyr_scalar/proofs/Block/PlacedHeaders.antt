@@ -1,10 +1,10 @@
 -- Where the header of a block scalar is: its line is passed character by character, and its break, where one ends
 -- it.
 use Rattle.std.proofs.Common.{◌≡◌, ℕ, suc, ◌+◌, ◌≤◌, ◌⊎◌, Bool, true, false, List, [], ◌∷◌, length, drop, Result, Ok, Err, refl, sym, ap, arith, subst, inl, inr}
-use Rattle.std.specs.Prelude.{slice_index, not, ◌==◌, min, Option, Some, None}
+use Rattle.std.specs.Prelude.{slice_index, ◌==◌, min, Option, Some, None}
 use Rattle.std.specs.List.{prefix_len}
 use Rattle.std.proofs.lemmas.Bool.Decides.{nat_tests}
-use Rattle.saphyr_input.specs.Classes.{is_break, is_breakz, is_z, is_digit, is_yaml_non_break}
+use Rattle.saphyr_input.specs.Classes.{is_break, is_breakz, is_z, is_yaml_non_break}
 use Rattle.saphyr_input.specs.Places.{next_2_are}
 use Rattle.saphyr_input.specs.Separation.{is_skipped, blank_len, separation_len}
 use Rattle.saphyr_input.specs.declared.input.SkipTabs.{SkipTabs}
@@ -63,20 +63,13 @@ one_passed s e h = record { passes = by s.mark s.rest e h; line = refl }
     by m [] e h = absurd (omega (arith, h))
     by m (c ∷ cs) e h = passing.character m c cs (along m 1) cs e (passing.nothing (along m 1) cs)
 
-number_passed : (s : Cursor) (x : ℕ) → (slice_index s.rest 0 == x) ≡ true → is_break x ≡ false → (0 == x) ≡ false
-    → Goes s (pass 1 s)
-number_passed s x e b z = grind (arith, eqb-true, one_passed)
-
 chomping_goes : (s : Cursor) → Goes s (chomping s).1
 unfolding chomping
-chomping_goes s = grind (arith, by_test, number_passed, goes_nowhere)
-
-digit_no_break : (c : ℕ) → not (is_digit c) ≡ false → is_break c ≡ false
-digit_no_break c e = grind (arith, nat_tests)
+chomping_goes s = grind (arith, by_test, goes_nowhere, eqb-true, one_passed)
 
 indicator_goes : (start : Marker) (s : Cursor) → Given (λ (x : ℕ × Cursor). Goes s x.1) (indicator start s)
 unfolding indicator
-indicator_goes start s = grind (arith, by_test, goes_nowhere, one_passed, digit_no_break)
+indicator_goes start s = grind (arith, by_test, goes_nowhere, one_passed, nat_tests)
 
 pub run_passed : (p : ℕ → Bool) (m : Marker) (t : List ℕ) → ((c : ℕ) → p c ≡ true → is_break c ≡ false)
     → IsPassed m t (along m (prefix_len p t)) (drop (prefix_len p t) t)
@@ -129,9 +122,6 @@ pub record EndsHeaderLine (s t : Cursor) : Type 0 where
   pub passes : IsPassed s.mark s.rest t.mark t.rest
   pub line : (t.mark.line ≡ min (s.mark.line + 1) top) ⊎ (is_z (slice_index t.rest 0) ≡ true)
 
-goes_ends : (s t u : Cursor) → Goes s t → EndsHeaderLine t u → EndsHeaderLine s u
-goes_ends s t u a b = grind (arith, passed_passed)
-
 pub break_ends : (s : Cursor) → is_breakz (slice_index s.rest 0) ≡ true → EndsHeaderLine s (pass_break s)
 break_ends s e = by_test (next_2_are s.rest 13 10) _ _ (EndsHeaderLine s)
     (λ n. let two : break_len s.rest ≡ 2 = rw n refl in
@@ -153,19 +143,15 @@ break_ends s e = by_test (next_2_are s.rest 13 10) _ _ (EndsHeaderLine s)
           (is_z (slice_index s.rest 0) ≡ true) e (λ k. absurd (cc)) (λ k. k));
     }))
 
-header_break_ends : (start : Marker) (s : Cursor) → Given (EndsHeaderLine s) (header_break start s)
-unfolding header_break
-header_break_ends start s = grind (arith, by_test, break_ends, not-false)
-
 ends_from : (s t : Cursor) (r : Result Cursor Refusal) → Goes s t → Given (EndsHeaderLine t) r
     → Given (EndsHeaderLine s) r
-ends_from s t (Ok u) g h = goes_ends s t u g h
+ends_from s t (Ok u) g h = (grind (arith, passed_passed))
 ends_from s t (Err e) g h = tt
 
 header_end_ends : (start : Marker) (s t : Cursor) → Goes s t → Given (EndsHeaderLine s) (header_end start t)
-unfolding header_end
+unfolding header_end header_break
 header_end_ends start s t g =
-    grind (arith, given_bind, given_of, separation_goes, ends_from, goes_goes, header_break_ends)
+    grind (arith, given_bind, given_of, separation_goes, ends_from, goes_goes, by_test, break_ends, not-false)
 
 last_goes : (first : Option Chomping) (s : Cursor) → Goes s (last_chomping first s).1
 unfolding last_chomping

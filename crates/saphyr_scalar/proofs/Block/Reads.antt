@@ -152,11 +152,6 @@ abbrev pub IsBehindHeaderLine : Cursor → Type 0
 IsBehindHeaderLine u = ((u.mark.col ≡ 0) × (u.blank_so_far ≡ true))
     ⊎ ((is_z (slice_index u.rest 0) ≡ true) × (u.blank_so_far ≡ false))
 
-header_break_place : (start : Marker) (s u : Cursor) → s.blank_so_far ≡ false → header_break start s ≡ Ok u
-    → IsBehindHeaderLine u
-unfolding header_break
-header_break_place start s u blank = grind arith
-
 separation_blank : (s : Cursor) (x : SkipTabs × Cursor) → s.blank_so_far ≡ false → separation Yes s ≡ Ok x
     → x.1.blank_so_far ≡ false
 unfolding separation behind_separation
@@ -164,8 +159,8 @@ separation_blank s x blank = grind arith
 
 header_end_place : (start : Marker) (s u : Cursor) → s.blank_so_far ≡ false → header_end start s ≡ Ok u
     → IsBehindHeaderLine u
-unfolding header_end
-header_end_place start s u blank e = grind (arith, then_gave, header_break_place, separation_blank)
+unfolding header_end header_break
+header_end_place start s u blank e = grind (arith, then_gave, separation_blank)
 
 chomping_blank : (s : Cursor) → s.blank_so_far ≡ false → (chomping s).1.blank_so_far ≡ false
 unfolding chomping
@@ -177,11 +172,6 @@ unfolding last_chomping
 last_blank (Some c) s h = h
 last_blank None s h = chomping_blank s h
 
-indicator_blank : (start : Marker) (s : Cursor) (x : ℕ × Cursor) → s.blank_so_far ≡ false → indicator start s ≡ Ok x
-    → x.1.blank_so_far ≡ false
-unfolding indicator
-indicator_blank start s x blank = grind arith
-
 pub header_place : (s : Cursor) (x : BlockHeader × Cursor) → header s ≡ Ok x → IsBehindHeaderLine x.1
-unfolding header header_behind
-header_place s x e = grind (arith, then_gave, indicator_blank, chomping_blank, header_end_place, last_blank, same_gift)
+unfolding header header_behind indicator
+header_place s x e = grind (arith, then_gave, chomping_blank, header_end_place, last_blank, same_gift)

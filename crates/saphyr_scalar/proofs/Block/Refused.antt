@@ -8,11 +8,11 @@ use Rattle.saphyr_scalar.specs.declared.values.Chomping.{Chomping}
 use Rattle.saphyr_scalar.specs.declared.scalar.block.lines.EmptyLines.{EmptyLines}
 use Rattle.saphyr_scalar.specs.declared.scalar.position.Marker.{Marker}
 use Rattle.saphyr_scalar.specs.Steps.Block.{indicator, header_break, header_end, header_behind, header, chomped_lines, content, behind_leading_lines, behind_header, block_scalar}
-use Rattle.saphyr_scalar.specs.Views.Cursor.{Cursor, pass, pass_break, separation}
+use Rattle.saphyr_scalar.specs.Views.Cursor.{Cursor, pass_break, separation}
 use Rattle.saphyr_scalar.specs.Passing.{IsPassed}
 use Rattle.saphyr_scalar.specs.RefusedInside.{IsRefusedInside}
 use Rattle.saphyr_scalar.proofs.Block.Placed.{empty_passes}
-use Rattle.saphyr_scalar.proofs.Block.PlacedHeaders.{passed_passed, Goes, one_passed, header_goes, header_ends}
+use Rattle.saphyr_scalar.proofs.Block.PlacedHeaders.{passed_passed, one_passed, header_goes, header_ends}
 use Rattle.saphyr_scalar.proofs.Directives.Refused.{separation_refused}
 use Rattle.saphyr_scalar.proofs.RefusedOnWay.{inside_from, inside_start}
 use Rattle.saphyr_input.proofs.Basics.Booleans.{by_test}
@@ -37,24 +37,14 @@ end_refused s t p =
     (λ e h. inside_from s t e p h))
     (λ x _. refused_more (λ e. e.mark ≡ s.mark) P (header_break s.mark x.1) (break_refused s.mark x.1) (inside_start s))
 
-header_refused : (s : Cursor) → Goes s (pass 1 s) → Refused (IsRefusedInside s) (header s)
-unfolding header header_behind
-header_refused s g =
-    grind (arith, refused_bind, refused_more, indicator_refused, inside_start, end_refused, header_goes)
-
-content_refused : (style : BlockStyle) (c : Chomping) (indent i lines : ℕ) (s t : Cursor)
-    → IsPassed s.mark s.rest t.mark t.rest → Refused (IsRefusedInside s) (content style c indent i lines t)
-unfolding content chomped_lines
-content_refused style c indent i lines s t p = grind arith
-
 leading_refused : (style : BlockStyle) (indent : ℕ) (start : Marker) (c : Chomping) (limit : Option ℕ) (s : Cursor)
     (x : EmptyLines × Cursor) → IsPassed s.mark s.rest x.1.mark x.1.rest
     → Refused (IsRefusedInside s) (behind_leading_lines style indent start c limit x)
-unfolding behind_leading_lines
-leading_refused style indent start c limit s x p = grind (arith, by_test, slice_index, content_refused, max)
+unfolding behind_leading_lines content chomped_lines
+leading_refused style indent start c limit s x p = grind (arith, by_test, slice_index, max)
 
 pub block_scalar_refused : (style : BlockStyle) (indent : ℕ) (s : Cursor) → is_break (slice_index s.rest 0) ≡ false
     → 0 < length s.rest → Refused (IsRefusedInside s) (block_scalar style indent s)
-unfolding block_scalar behind_header
+unfolding block_scalar behind_header header header_behind
 block_scalar_refused style indent s b some =
-    grind (arith, one_passed, refused_bind, header_refused, given_of, header_ends, leading_refused, passed_passed, empty_passes)
+    grind (arith, one_passed, refused_bind, given_of, header_ends, leading_refused, passed_passed, empty_passes, refused_more, indicator_refused, inside_start, end_refused, header_goes)

@@ -192,11 +192,6 @@ line_run st i more b m (c ∷ cs) =
 abbrev Breaks : BlockStyle → ℕ → Bool → Bool → Marker → List ℕ → Cursor → Type 0
 Breaks st i more b m xs t = line st i more b m xs ≡ between_at st i (Some more) 0 t
 
-line_lf : (st : BlockStyle) (i : ℕ) (more b : Bool) (m : Marker) (cs : List ℕ)
-    → Breaks st i more b m (line_feed ∷ cs) (line_cursor true (next_line m 1) cs)
-unfolding line
-line_lf st i more b m cs = refl
-
 line_cr : (st : BlockStyle) (i : ℕ) (more b : Bool) (m : Marker) (cs : List ℕ) → (slice_index cs 0 == line_feed) ≡ false
     → Breaks st i more b m (carriage_return ∷ cs) (line_cursor true (next_line m 1) cs)
 unfolding line
@@ -209,7 +204,8 @@ line_cr_lf st i more b m ds = ap (λ x. between st i (Some more) 0 true x ds) (i
 
 line_breaks : (st : BlockStyle) (i : ℕ) (more b : Bool) (m : Marker) (xs : List ℕ) → is_break (slice_index xs 0) ≡ true
     → Breaks st i more b m xs (pass_break (line_cursor b m xs))
-line_breaks st i more b m u0 h = grind (arith, break_cases, line_lf, behind_cr, line_cr_lf, line_cr)
+unfolding line
+line_breaks st i more b m u0 h = grind (arith, break_cases, behind_cr, line_cr_lf, line_cr)
 
 -- a line that no break ends
 line_cut : (st : BlockStyle) (i : ℕ) (more b : Bool) (m : Marker) (xs : List ℕ)
@@ -230,10 +226,6 @@ pub record LineRead (st : BlockStyle) (i : ℕ) (ab : Option Bool) (k : ℕ) (te
 abbrev SameLine : List ℕ → Cursor → List ℕ → Cursor → Type 0
 SameLine text s grown t = let r : Result (List ℕ × Cursor) Refusal = Ok (with_line text s) in r ≡ Ok (grown, t)
 
-read_to : (text grown : List ℕ) (s t : Cursor) → SameLine text s grown t
-    → ◌≡◌ {A = List ℕ × Cursor} (with_line text s) (grown, t)
-read_to text grown s t e = cc
-
 some_content : (xs : List ℕ) → is_yaml_non_break (slice_index xs 0) ≡ true → 0 < prefix_len is_yaml_non_break xs
 some_content [] h = absurd (cc)
 some_content (c ∷ cs) h = rw h (omega arith)
@@ -243,7 +235,7 @@ pub line_read : (st : BlockStyle) (i : ℕ) (ab : Option Bool) (k : ℕ) (text m
     → more ≡ text ++ encode_utf8_all (break_before st ab k below) → SameLine more here grown end
     → LineRead st i ab k text grown here end below
 line_read st i ab k text more grown here end below h e pushed read =
-    grind (arith, nat_tests, starts, line_begins, line_run, read_to, front_text, run_ends, shorter, length-drop, some_content, prefix_len-le-length)
+    grind (arith, nat_tests, starts, line_begins, line_run, front_text, run_ends, shorter, length-drop, some_content, prefix_len-le-length)
 
 -- a turn of the lines, up to the content's end
 pub turn : (st : BlockStyle) (i : ℕ) (ab : Option Bool) (before after : EmptyLines) (text more grown : List ℕ)
@@ -289,10 +281,6 @@ abbrev SameLines : List ℕ → LinesRead → List ℕ → BlockEnd → Cursor �
 SameLines text read grown end t =
     let r : Result (List ℕ × BlockEnd × Cursor) Refusal = Ok (with_lines text read) in r ≡ Ok (grown, end, t)
 
-lines_to : (text grown : List ℕ) (read : LinesRead) (end : BlockEnd) (t : Cursor) → SameLines text read grown end t
-    → ◌≡◌ {A = List ℕ × BlockEnd × Cursor} (with_lines text read) (grown, end, t)
-lines_to text grown read end t e = cc
-
 -- the text is put together
 pub text_done : (c : Chomping) (i : ℕ) (start : Marker) (read : LinesRead) (text grown pushed : List ℕ) (end : BlockEnd)
     (t u : Cursor) (b : Bool) (span : Span)
@@ -301,7 +289,7 @@ pub text_done : (c : Chomping) (i : ℕ) (start : Marker) (read : LinesRead) (te
     → chomped_lines c i start read ≡ Ok (pushed, span, u)
 unfolding chomped_lines
 text_done c i start read text grown pushed end t u b span e none unfinished same push first last =
-    grind (arith, lines_to, encode_utf8_all, encodes-append)
+    grind (arith, encode_utf8_all, encodes-append)
 
 -- no content line begins with what is no content
 pub no_start : (i col : ℕ) (xs : List ℕ) → is_yaml_non_break (slice_index xs 0) ≡ false → line_starts i col xs ≡ false

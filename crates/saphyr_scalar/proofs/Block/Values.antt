@@ -1,6 +1,6 @@
 -- The value of a block scalar's lines, as they are read.
-use Rattle.std.proofs.Common.{◌≡◌, ℕ, ◌+◌, ◌<◌, ◌≤◌, Bool, true, false, List, [], ◌∷◌, ◌++◌, length, slice_index, refl, sym, ap, ◌∙◌, arith, subst, append_assoc, nat_eq, nat_le, nat_lt, inl, inr}
-use Rattle.std.specs.Prelude.{◌&&◌, not, max, if◌then◌else◌, Some, ◌⊎◌}
+use Rattle.std.proofs.Common.{◌≡◌, ℕ, ◌+◌, ◌<◌, ◌≤◌, Bool, true, false, List, [], ◌∷◌, ◌++◌, length, slice_index, refl, sym, ap, ◌∙◌, arith, subst, append_assoc, nat_eq, nat_lt, inl, inr}
+use Rattle.std.specs.Prelude.{if◌then◌else◌, Some, ◌⊎◌}
 use Rattle.std.proofs.lemmas.Bool.Decides.{nat_tests}
 use Rattle.std.proofs.lemmas.List.{append-nil, length-replicate}
 use Rattle.saphyr_input.specs.Breaks.{normalized}
@@ -37,15 +37,11 @@ cut_tail c w = grind arith
 at_end_of : (b : Bool) → is_at_end (if b then AtEnd else AtMark) ≡ b
 at_end_of b = grind arith
 
--- an unfinished line of spaces counts as the readings have it
-counted_spaces : (i j : ℕ) (z : Bool) → j ≤ i → (z && nat_le (max i 1) j) ≡ (z && not (nat_eq j 0) && nat_eq j i)
-counted_spaces i j z h = grind arith
-
 pub unfinished_spaces : (i : ℕ) (s : Cursor) → s.mark.col ≤ i
     → is_unfinished i s ≡ is_counted_behind i (spaces s.mark.col) (ending s)
 unfolding is_unfinished
 unfinished_spaces i s h = rw (empty_spaces i s.mark.col h, length-replicate, at_end_of (is_z (slice_index s.rest 0)))
-    (counted_spaces i s.mark.col (is_z (slice_index s.rest 0)) h)
+    (grind arith)
 
 -- what was read of the lines after content: k empty lines and j spaces come before xs, in its line
 pub record BetweenRead (st : BlockStyle) (c : Chomping) (i : ℕ) (more : Bool) (k j : ℕ) (xs : List ℕ) (r : LinesRead) :

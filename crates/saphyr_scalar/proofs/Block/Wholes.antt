@@ -63,15 +63,11 @@ whole_broken : (st : BlockStyle) (c : Chomping) (i k : ℕ) (x text : List ℕ) 
     ≡ line_feeds k ++ (x ++ value_behind st c i x 0 text e)
 whole_broken st c i k x text e = grind (arith, content_after, contents_after, ends_after, append_assoc)
 
-alone_tail : (c : Chomping) (k : ℕ)
-    → reading.chomped_alone c k ≡ tail c false (record { broken = false; empty_lines = k })
-alone_tail c k = grind arith
-
 -- no content
 whole_empty : (st : BlockStyle) (c : Chomping) (i k j : ℕ) → j ≤ i
     → whole st c i (empties k) (spaces j) AtMark ≡ tail c false (record { broken = false; empty_lines = k })
 whole_empty st c i k j within =
-    rw (empty_spaces i j within, append-nil (empties k), none_in k, length-replicate) (alone_tail c k)
+    rw (empty_spaces i j within, append-nil (empties k), none_in k, length-replicate) (grind arith)
 
 none_more : (k : ℕ) (w : Bool) → has_content (empties k ++ extra w) ≡ false
 none_more zero true = refl
@@ -82,16 +78,12 @@ alone_feeds : (k j : ℕ) → line_feeds (length (empties k ++ extra (not (nat_e
     ≡ (if (k == 0) && true && nat_lt 0 j then line_feeds 1 else line_feeds k)
 alone_feeds v0 j = grind (arith, nat_tests, and_false, append-nil, length-replicate)
 
-alone_value : (c : Chomping) (k j : ℕ) (s : Cursor) → s.mark.col ≡ j → s.blank_so_far ≡ true
-    → reading.chomped_alone c (length (empties k ++ extra (not (nat_eq j 0) && nat_eq k 0))) ≡ tail_alone c k s
-unfolding tail_alone
-alone_value u0 k j s e f = grind (arith, alone_feeds)
-
 -- no content, at the end
 pub whole_alone : (st : BlockStyle) (c : Chomping) (i k j : ℕ) (s : Cursor) → j ≤ i → s.mark.col ≡ j
     → s.blank_so_far ≡ true → whole st c i (empties k) (spaces j) AtEnd ≡ tail_alone c k s
+unfolding tail_alone
 whole_alone st c i k j s within e f =
-    grind (arith, empty_spaces, length-replicate, none_in, none_more, nat_eq, alone_value)
+    grind (arith, empty_spaces, length-replicate, none_in, none_more, nat_eq, alone_feeds)
 
 pub block_value_of : (st : BlockStyle) (c : Chomping) (i : ℕ) (text last : List ℕ) (lines : List Line) (e : Ending)
     → lines_of i text ≡ lines → last_line text ≡ last → block_value st c i text e ≡ whole st c i lines last e

@@ -53,14 +53,6 @@ number_refused start n v m [] = number_ended start n v (mid_line m [])
 number_refused start n v m (c ∷ cs) =
     grind (arith, number_ended, by_test, number_refused start (suc n) (v * 10 + (c - 48)) (along m 1) cs)
 
-version_refused : (start : Marker) (s : Cursor) → RefusedAt start (version_directive start s)
-unfolding version_directive behind_major
-version_refused start s = grind (arith, refused_bind, number_refused, by_test, slice_index)
-
-handle_refused : (start : Marker) (s : Cursor) → RefusedAt start (handle start s)
-unfolding handle handle_behind_word
-handle_refused start s = grind arith
-
 prefix_refused : (start : Marker) (s : Cursor) → RefusedAt start (prefix start s)
 unfolding prefix
 prefix_refused start s =
@@ -71,12 +63,12 @@ prefix_refused start s =
     (λ _. refl)
 
 tag_refused : (start : Marker) (s : Cursor) → RefusedAt start (tag_directive start s)
-unfolding tag_directive behind_prefix
-tag_refused start s = grind (arith, refused_bind, handle_refused, prefix_refused, by_test, slice_index)
+unfolding tag_directive behind_prefix handle handle_behind_word
+tag_refused start s = grind (arith, refused_bind, prefix_refused, by_test, slice_index)
 
 value_refused : (start : Marker) (x : List ℕ × Cursor) → RefusedAt start (value start x)
-unfolding value
-value_refused start x = by_test (bytes_eq x.0 (codes "YAML")) _ _ (RefusedAt start) (λ _. version_refused start x.1)
+unfolding value version_directive behind_major
+value_refused start x = by_test (bytes_eq x.0 (codes "YAML")) _ _ (RefusedAt start) (λ _. (grind (arith, refused_bind, number_refused, by_test, slice_index)))
     (λ _. by_test (bytes_eq x.0 (codes "TAG")) _ _ (RefusedAt start) (λ _. tag_refused start x.1) (λ _. tt))
 
 -- the end of a line that was reached from s

@@ -4,7 +4,6 @@ use Rattle.std.specs.List.{prefix_len}
 use Rattle.std.proofs.lemmas.Bool.{eqb-true}
 use Rattle.std.proofs.lemmas.Bool.Decides.{nat_tests}
 use Rattle.std.proofs.lemmas.List.{take-append-drop}
-use Rattle.saphyr_input.specs.Indicators.{number_sign}
 use Rattle.saphyr_input.specs.Classes.{is_blank, is_breakz, is_yaml_non_break}
 use Rattle.saphyr_input.specs.Separation.{separation_len, blank_len, comment_len}
 use Rattle.saphyr_input.specs.declared.input.SkipTabs.{SkipTabs}
@@ -32,15 +31,11 @@ pub record TailOf (m : Marker) (xs : List ℕ) (u : Cursor) : Type 0 where
   pub ends : is_breakz (slice_index behind 0) ≡ true
   pub place : u ≡ pass_break (mid_line (along m (length tail)) behind)
 
-comment_at : (blanks ws : List ℕ) → blanks ≢ []
-    → Tail blanks (take (1 + prefix_len is_yaml_non_break ws) (number_sign ∷ ws))
-comment_at blanks ws some = grind (arith, take, run_is_in)
-
 comment_in_tail : (blanks zs : List ℕ) → blanks ≢ [] → Tail blanks (take (comment_len zs) zs)
 comment_in_tail blanks zs some =
     by_test (nat_eq (slice_index zs 0) 35) (prefix_len is_yaml_non_break zs) 0 (λ n. Tail blanks (take n zs)) (λ e.
     let more : zs ≡ 35 ∷ drop 1 zs = cut_at 35 zs refl (eqb-true (slice_index zs 0) 35 e) in
-    rw more (comment_at blanks (drop 1 zs) some)) (λ _. inl refl)
+    rw more (grind (arith, take, run_is_in))) (λ _. inl refl)
 
 comment_count : (zs : List ℕ) → length (take (comment_len zs) zs) ≡ comment_len zs
 comment_count zs = grind (arith, by_test, nat_eq, slice_index, take, run_count)

@@ -164,13 +164,11 @@ next_low i a s g = by (lines i a false [] s.mark s.rest)
         let same : folded_gap h ≡ g = cc in rw (← same) (folded_low h (low h refl))
     by (Err x) low e = absurd (cc)
 
-gap_low : (i : ℕ) (a : Marker) (s : Cursor) (g : PlainGap) → gap i a s ≡ Ok g → slice_index g.text 0 < 128
-unfolding gap gap_from
-gap_low i a s g = grind (arith, by_test, slice_index, drop, next_low, same_gap, blanks_low)
-
 pub gap_cuts : (i : ℕ) (a : Marker) (text grown : List ℕ) (s u : Cursor) (tabbed : Bool) (n : ℕ)
     → gap_onto text (gap i a s) ≡ Ok (seen_gap tabbed grown u) → n ≡ length text → IsSplitPoint grown n
-gap_cuts i a text grown s u tabbed n e is = grind (arith, onto_reads, cuts_before, gap_low)
+unfolding gap gap_from
+gap_cuts i a text grown s u tabbed n e is =
+    grind (arith, onto_reads, cuts_before, by_test, slice_index, drop, next_low, same_gap, blanks_low)
 
 pub lines_cut : (i : ℕ) (a : Marker) (text grown : List ℕ) (s u : Cursor) (tabbed : Bool) (n : ℕ)
     → gap_onto text (next_lines i a s) ≡ Ok (seen_gap tabbed grown u) → n ≡ length text → IsSplitPoint grown n

@@ -1,5 +1,5 @@
 -- What comes after a plain scalar's word, and how much of the text it takes.
-use Rattle.std.proofs.Common.{◌≡◌, ℕ, suc, ◌+◌, ◌≤◌, Bool, true, false, List, [], ◌∷◌, ◌++◌, length, drop, length-drop, slice_index, Result, Ok, Err, refl, arith}
+use Rattle.std.proofs.Common.{◌≡◌, ℕ, suc, ◌+◌, ◌≤◌, Bool, List, [], ◌∷◌, ◌++◌, length, drop, length-drop, slice_index, Result, Ok, Err, refl, arith}
 use Rattle.std.specs.Prelude.{◌||◌, ◌&&◌, ◌==◌, nat_lt, if◌then◌else◌}
 use Rattle.std.specs.List.{prefix_len}
 use Rattle.std.proofs.lemmas.List.{drop-drop}
@@ -56,11 +56,8 @@ lines_end i a t f m (c ∷ cs) g =
     (if ends_line c cs then f ++ line_feed ∷ [] else f) (if ends_line c cs then next_line m 1 else along m 1) cs g e))
     (λ _ e. reached_end a t f m (c ∷ cs) g e)
 
-not_two : (b : Bool) → (b && false) ≡ true → ⊥
-not_two b h = grind arith
-
 break_end : (s : Cursor) → IsEnd s.rest (pass_break s).rest
-break_end s = grind (arith, end_at_start, by_test, not_two, end_behind_character)
+break_end s = grind (arith, end_at_start, by_test, end_behind_character)
 
 next_lines_end : (i : ℕ) (a : Marker) (s : Cursor) (g : PlainGap) → next_lines i a s ≡ Ok g → IsEnd s.rest g.behind.rest
 next_lines_end i a s g = grind (arith, lines_end)

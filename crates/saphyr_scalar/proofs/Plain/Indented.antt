@@ -73,18 +73,8 @@ blank f t n xs h = grind arith
 space_on_line : (f t : Bool) (n k : ℕ) (xs : List ℕ) → n ≤ k + 1 → IsOnLine f t k xs → IsOnLine f t n (32 ∷ xs)
 space_on_line f t n k xs le h = grind arith
 
-tab_on_line : (f t : Bool) (i : ℕ) (m : Marker) (k : ℕ) (xs : List ℕ) → IsOnLine f (t || nat_lt m.col i) k xs
-    → IsOnLine f t (i - m.col) (9 ∷ xs)
-tab_on_line f v1 i m k xs = grind arith
-
 break_on_line : (f t : Bool) (n c : ℕ) (cs : List ℕ) → is_break c ≡ true → IsOnLine f t n (c ∷ cs)
 break_on_line f t n c cs h = blank f t n (c ∷ cs) (or_left (is_break c) (is_blank c && is_blank_line cs) h)
-
--- a tab comes before a comment or the end alone
-tabbed_content : (a : Marker) (f : List ℕ) (s : Cursor) (g : PlainGap) → reached_gap a true f s ≡ Ok g
-    → ((slice_index s.rest 0 == number_sign) || is_z (slice_index s.rest 0)) ≡ true
-unfolding content_behind_tab
-tabbed_content a f s g = grind arith
 
 word_no_nul : (f : Bool) (xs : List ℕ) → is_in_word f xs ≡ true → is_z (slice_index xs 0) ≡ false
 unfolding is_in_word
@@ -98,8 +88,9 @@ reached_on : (f : Bool) (i : ℕ) (a : Marker) (t : Bool) (feeds : List ℕ) (m 
     (g : PlainGap)
     → IsNonSpace c → reached_gap a t feeds (line_front m (c ∷ cs)) ≡ Ok g → GoesOn f i (line_front m (c ∷ cs))
     → IsOnLine f t (i - m.col) (c ∷ cs)
+unfolding content_behind_tab
 reached_on f i a u0 feeds m c cs g non_space e on =
-    grind (arith, either, tabbed_content, eqb-true, word_no_nul, non_space_on, enough)
+    grind (arith, either, eqb-true, word_no_nul, non_space_on, enough)
 
 same_front : (f : Bool) (i : ℕ) (a : Marker) (t : Bool) (feeds : List ℕ) (m : Marker) (xs : List ℕ) (g : PlainGap)
     → reached_gap a t feeds (line_front m xs) ≡ Ok g → GoesOn f i g.behind → GoesOn f i (line_front m xs)
@@ -109,7 +100,7 @@ same_front f i a t feeds m xs g e on = rw (may_stand_same a t feeds (line_front 
 white_on_line : (f : Bool) (i : ℕ) (t : Bool) (m : Marker) (c : ℕ) (cs : List ℕ) → is_blank_or_break c ≡ true
     → IsOnLine f (is_blank c && (t || ((c == tab) && nat_lt m.col i))) (i - (behind_one m c cs).col) cs
     → IsOnLine f t (i - m.col) (c ∷ cs)
-white_on_line f i t m c cs white h = grind (arith, blank_cases, behind_one, space_on_line, tab_on_line, break_on_line)
+white_on_line f i t m c cs white h = grind (arith, blank_cases, behind_one, space_on_line, break_on_line)
 
 -- from any place in the blanks and breaks after a word's line on
 pub lines_on_line : (f : Bool) (i : ℕ) (a : Marker) (t : Bool) (feeds : List ℕ) (m : Marker) (xs : List ℕ)

@@ -1,6 +1,6 @@
 -- Where a word of a plain scalar ends its line, and what is left after that.
 use Rattle.std.proofs.Common.{◌≡◌, ℕ, ◌-◌, ◌^◌, Bool, true, false, List, [], ◌∷◌, slice_index, Result, Ok, refl, sym, ap, ◌∙◌, arith}
-use Rattle.std.specs.Prelude.{◌&&◌, ◌==◌, not, nat_lt, None, if◌then◌else◌}
+use Rattle.std.specs.Prelude.{◌&&◌, ◌==◌, not, None, if◌then◌else◌}
 use Rattle.std.proofs.lemmas.List.{append-nil}
 use Rattle.std.proofs.lemmas.Bool.{not-true}
 use Rattle.saphyr_input.specs.Classes.{is_blank, is_break}
@@ -62,11 +62,6 @@ line_there i a m (c ∷ cs) h = rw h refl
 same_line_front : (u : Cursor) → u.blank_so_far ≡ true → line_front u.mark u.rest ≡ u
 same_line_front u blank = ap (λ b. (record { rest = u.rest; mark = u.mark; blank_so_far = b })) (sym blank)
 
-not_on : (f : Bool) (i : ℕ) (u : Cursor) → u.blank_so_far ≡ true → not f ≡ true → nat_lt u.mark.col i ≡ true
-    → next_word_starts f i u ≡ Ok (false, u)
-unfolding next_word_starts
-not_on f i u blank out left = rw (blank, out, left) refl
-
 no_comment : (f : Bool) (u : Cursor) → u.blank_so_far ≡ true → comment_of f false u ≡ None
 unfolding comment_of
 no_comment f u blank = rw (blank, and_false (not f && (slice_index u.rest 0 == 35))) refl
@@ -80,8 +75,9 @@ gap_no_turn f i a end text g u h = grind (arith, append-nil, goes_says)
 -- what is left of the indentation ends the scalar
 pub left_ends : (f : Bool) (i : ℕ) (a end : Marker) (text : List ℕ) (u : Cursor) → u.blank_so_far ≡ true
     → is_left_of_scalar f i u ≡ true → with_text text (scalar_behind_line f i a end u) ≡ Ok (text, end, None, u)
+unfolding next_word_starts
 left_ends f i a end text u blank left =
-    grind (arith, all_three, not-true, plain_behind_gap, line_there, same_line_front, gap_no_turn, not_on, no_comment)
+    grind (arith, all_three, not-true, plain_behind_gap, line_there, same_line_front, gap_no_turn, no_comment)
 
 -- Where a word ended at s, u is behind a break that comes there, and the spaces after it.
 

@@ -27,12 +27,6 @@ lines_feed : (i : ℕ) (a : Marker) (t : Bool) (f : List ℕ) (m : Marker) (cs :
 unfolding lines
 lines_feed i a t f m cs = refl
 
-lines_return : (i : ℕ) (a : Marker) (t : Bool) (f : List ℕ) (m : Marker) (cs : List ℕ)
-    → (slice_index cs 0 == line_feed) ≡ false
-    → lines i a t f m (carriage_return ∷ cs) ≡ lines i a false (f ++ line_feed ∷ []) (next_line m 1) cs
-unfolding lines
-lines_return i a t f m cs h = rw h refl
-
 lines_first_of_two : (i : ℕ) (a : Marker) (t : Bool) (f : List ℕ) (m : Marker) (cs : List ℕ)
     → lines i a t f m (carriage_return ∷ line_feed ∷ cs) ≡ lines i a false f (along m 1) (line_feed ∷ cs)
 unfolding lines
@@ -49,16 +43,12 @@ Behind i a t f s = lines i a t f s.mark s.rest ≡ lines i a false (f ++ 10 ∷ 
 
 return_on : (i : ℕ) (a : Marker) (t : Bool) (f : List ℕ) (m : Marker) (cs : List ℕ) (b : Bool)
     → Behind i a t f (record { rest = carriage_return ∷ cs; mark = m; blank_so_far = b })
-return_on i a t f m v5 b = grind (arith, lines_return, nat_tests, lines_two)
+unfolding lines
+return_on i a t f m v5 b = grind (arith, nat_tests, lines_two)
 
 pub lines_break : (i : ℕ) (a : Marker) (t : Bool) (f : List ℕ) (s : Cursor) → is_break (slice_index s.rest 0) ≡ true
     → Behind i a t f s
 lines_break i a t f s h = grind (arith, slice_index, break_cases, lines_feed, return_on)
-
-pub lines_on : (i : ℕ) (a : Marker) (t : Bool) (f : List ℕ) (s : Cursor) → is_blank (slice_index s.rest 0) ≡ true
-    → lines i a t f s.mark s.rest
-    ≡ lines i a (tabbed_by i t s.mark (slice_index s.rest 0)) f (along s.mark 1) (drop 1 s.rest)
-lines_on i a t f s h = grind (arith, slice_index, drop, lines_blank)
 
 pub lines_over : (i : ℕ) (a : Marker) (t : Bool) (f : List ℕ) (m : Marker) (xs : List ℕ)
     → is_blank_or_break (slice_index xs 0) ≡ false → lines i a t f m xs ≡ reached_gap a t f (line_front m xs)
@@ -84,7 +74,7 @@ pub past_on : (i : ℕ) (a : Marker) (t : Bool) (f : List ℕ) (s : Cursor)
     → is_blank_or_break (slice_index s.rest 0) ≡ true
     → let p = pass_white i t f s in lines i a p.0 p.1 p.2.mark p.2.rest ≡ lines i a t f s.mark s.rest
 unfolding pass_white
-past_on i a t f s h = grind (arith, by_test, slice_index, lines_break, lines_on, blank_of)
+past_on i a t f s h = grind (arith, by_test, slice_index, lines_break, blank_of, drop, lines_blank)
 
 -- what a call that passed one says
 

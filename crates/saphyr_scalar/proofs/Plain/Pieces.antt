@@ -39,11 +39,6 @@ dash_in_word f xs h = grind arith
 second_of : (a b d : Bool) → (a && b && d) ≡ true → b ≡ true
 second_of a b d h = grind arith
 
--- where no word goes on, none begins
-pub starts_not : (f : Bool) (s : Cursor) → is_in_word f s.rest ≡ false → word_starts f s ≡ Ok (false, s)
-unfolding word_starts
-starts_not f s h = grind (arith, second_of, dash_in_word, nat_tests)
-
 abbrev WordAnswer : Type 0
 WordAnswer = Result (Bool × Cursor) Refusal
 
@@ -55,9 +50,6 @@ pub record KeepsWord (f b : Bool) (s t : Cursor) : Type 0 where
   pub same : t ≡ s
   pub goes : b ≡ true → is_in_word f s.rest ≡ true
 
-says_not : (f b : Bool) (s t : Cursor) → answer false s ≡ answer b t → KeepsWord f b s t
-says_not f b s t e = grind arith
-
 pub starts_says : (f b : Bool) (s t : Cursor) → word_starts f s ≡ Ok (b, t) → KeepsWord f b s t
 unfolding word_starts
 starts_says f b s t = grind arith
@@ -65,12 +57,12 @@ starts_says f b s t = grind arith
 pub goes_says : (f : Bool) (i : ℕ) (b : Bool) (s t : Cursor) → next_word_starts f i s ≡ Ok (b, t) → KeepsWord f b s t
 unfolding next_word_starts
 goes_says f i b s t = by_test (s.blank_so_far && not f && nat_lt s.mark.col i) _ _
-    (λ r. r ≡ answer b t → KeepsWord f b s t) (λ _ e. says_not f b s t e) (λ _ e. starts_says f b s t e)
+    (λ r. r ≡ answer b t → KeepsWord f b s t) (λ _ e. (grind arith)) (λ _ e. starts_says f b s t e)
 
 pub goes_not : (f : Bool) (i : ℕ) (s : Cursor) → is_in_word f s.rest ≡ false → next_word_starts f i s ≡ Ok (false, s)
-unfolding next_word_starts
+unfolding next_word_starts word_starts
 goes_not f i s h = by_test (s.blank_so_far && not f && nat_lt s.mark.col i) _ _ (λ r. r ≡ answer false s) (λ _. refl)
-    (λ _. starts_not f s h)
+    (λ _. (grind (arith, second_of, dash_in_word, nat_tests)))
 
 -- in a word
 pub word_on : (f : Bool) (i : ℕ) (a m : Marker) (c : ℕ) (cs : List ℕ) → is_in_word f (c ∷ cs) ≡ true

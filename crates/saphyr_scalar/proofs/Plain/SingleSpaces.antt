@@ -66,16 +66,13 @@ gap_is_space f i a m cs s =
 abbrev pub answer : Bool → Cursor → Result (Bool × Cursor) Refusal
 answer b s = Ok (b, s)
 
-no_either : (a b d : Bool) → a ≡ false → b ≡ false → (a || (b && d)) ≡ true → ⊥
-no_either a b d is_a is_b h = grind arith
-
 no_second : (a b d : Bool) → b ≡ false → (a && b && d) ≡ true → ⊥
 no_second a b d is h = grind arith
 
 pub word_goes : (f : Bool) (i : ℕ) (m : Marker) (cs : List ℕ) → 0 < m.col → LeadsWord f cs
     → next_word_starts f i (mid_line m cs) ≡ answer true (mid_line m cs)
 unfolding next_word_starts word_starts
-word_goes f i m cs l s = grind (arith, nat_tests, no_either, no_second, set_in_word)
+word_goes f i m cs l s = grind (arith, nat_tests, no_second, set_in_word)
 
 space_goes : (f : Bool) (i : ℕ) (m : Marker) (cs : List ℕ) → LeadsWord f cs
     → next_word_starts f i (mid_line (along m 1) cs) ≡ answer true (mid_line (along m 1) cs)

@@ -90,10 +90,6 @@ record WhiteCharacter (c : ℕ) (cs : List ℕ) : Type 0 where
 white_character : (c : ℕ) (cs : List ℕ) → IsTrue (is_blank_or_break c) → WhiteCharacter c cs
 white_character c cs h = grind (arith, nat_tests, blank_cases, break_cases)
 
--- no blank or break is a flow indicator
-white_no_flow : (c : ℕ) → IsTrue (is_blank_or_break c) → is_flow c ≡ false
-white_no_flow c h = grind (arith, nat_tests, blank_cases, break_cases)
-
 spelled_apart_or_not : (m : Marker) (apart : Bool) (cs behind : List ℕ) → IsSpelledPlain m true cs behind
     → IsSpelledPlain m apart cs behind
 spelled_apart_or_not m apart [] behind h = tt
@@ -145,7 +141,7 @@ pub white_safe : (v next behind : List ℕ) → AreIn is_blank_or_break v → Is
     → IsSafeInFlow (v ++ next) behind
 white_safe [] next behind are h = h
 white_safe (c ∷ v) next behind are h =
-    grind (arith, nat_tests, white_character, white_no_flow, white_safe v next behind are.1 h)
+    grind (arith, nat_tests, white_character, white_safe v next behind are.1 h, blank_cases, break_cases)
 
 -- what comes after a word
 pub word_follows : (f : Bool) (xs : List ℕ) → is_in_word f xs ≡ false → IsTrue (ends_piece (slice_index xs 0))

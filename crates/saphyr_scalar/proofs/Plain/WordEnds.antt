@@ -25,11 +25,6 @@ still_moved f i a text s g ends line is = record { moved = none_moved f text s e
 pub none_passed : (s : Cursor) → s.blank_so_far ≡ false → pass 0 s ≡ s
 none_passed s line = grind arith
 
-gap_before_non_space : (i : ℕ) (a : Marker) (s : Cursor) → s.blank_so_far ≡ false
-    → is_blank_or_break (slice_index s.rest 0) ≡ false → gap i a s ≡ Ok (seen_gap false [] s)
-unfolding gap gap_from
-gap_before_non_space i a s line non_space = grind (arith, or_parts, slice_index, no_run, none_passed)
-
 hash_in_word : (f : Bool) (xs : List ℕ) → slice_index xs 0 ≡ number_sign → is_in_word f xs ≡ true
 unfolding is_in_word
 hash_in_word f xs h = grind arith
@@ -42,9 +37,10 @@ no_comment f s ends = by_test (slice_index s.rest 0 == 35) true false (λ _. com
 pub scalar_ends : (f : Bool) (i : ℕ) (a : Marker) (text : List ℕ) (s : Cursor) → is_in_word f s.rest ≡ false
     → s.blank_so_far ≡ false → is_blank_or_break (slice_index s.rest 0) ≡ false
     → with_text text (word f i a s.mark s.rest) ≡ Ok (text, s.mark, None, s)
+unfolding gap gap_from
 scalar_ends f i a text s ends line non_space =
     no_turn f i a text text s s (seen_gap false [] s) s (still_moved f i a text s (seen_gap false [] s) ends line
-    (gap_before_non_space i a s line non_space)) (goes_not f i s ends)
+    (grind (arith, or_parts, slice_index, no_run, none_passed))) (goes_not f i s ends)
     ∙ ap (λ x. Ok (text, s.mark, x, s)) (no_comment f s ends)
 
 -- the same of a whole scalar behind a text, where `seen` looks at the character behind its first words

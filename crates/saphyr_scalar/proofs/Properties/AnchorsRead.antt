@@ -1,5 +1,5 @@
 -- Each spelled anchor is read, and what is read as one is spelled so.
-use Rattle.std.proofs.Common.{◌≡◌, ◌≢◌, ℕ, ◌+◌, ◌<◌, true, false, List, [], ◌∷◌, ◌++◌, length, slice_index, nat_eq, Ok, refl, ap, ◌∙◌, arith, encode_utf8_all}
+use Rattle.std.proofs.Common.{◌≡◌, ◌≢◌, ℕ, ◌+◌, ◌<◌, true, false, List, [], ◌∷◌, ◌++◌, length, slice_index, Ok, refl, ap, ◌∙◌, arith, encode_utf8_all}
 use Rattle.std.proofs.lemmas.Bool.{false≢true}
 use Rattle.std.proofs.lemmas.List.{take-append-drop, length-take-le}
 use Rattle.std.proofs.lemmas.List.Sums.{prefix_len-le-length}
@@ -38,9 +38,6 @@ pub reads_anchor : (s : Cursor) (indicator : ℕ) (name x : List ℕ) → s.rest
     → anchor s ≡ Ok (encode_utf8_all name, mid_line (along s.mark (1 + length name)) x)
 reads_anchor s indicator name x e is ends = cc (anchor_same s, at_name s.mark indicator name x is ends)
 
-no_bytes : (v : List ℕ) → v ≡ [] → nat_eq (length (encode_utf8_all v)) 0 ≡ true
-no_bytes v e = rw e refl
-
 abbrev Spelled : Cursor → List ℕ → Cursor → Type 0
 Spelled s text t = (indicator : ℕ) × (name : List ℕ) × (s.rest ≡ indicator ∷ (name ++ t.rest)) × IsAnchorName name
     × (is_anchor_char (slice_index t.rest 0) ≡ false) × (t ≡ mid_line (along s.mark (1 + length name)) t.rest)
@@ -52,4 +49,4 @@ pub spells_anchor : (s t : Cursor) (text : List ℕ) → 0 < length s.rest → a
     × (encode_utf8_all name ≡ text)
 unfolding anchor anchor_name_of
 spells_anchor s t text some =
-    grind (arith, no_result, length-take-le, prefix_len-le-length, run_ends, along_more, first_and_rest, take-append-drop, no_bytes, false≢true, run_is_in)
+    grind (arith, no_result, length-take-le, prefix_len-le-length, run_ends, along_more, first_and_rest, take-append-drop, false≢true, run_is_in)

@@ -41,9 +41,6 @@ run_piece set start m (c ∷ cs) =
     ∙ ap (λ x. with_front (encode_utf8 c ++ encode_utf8_all (take n cs)) (decoded_characters set start 0 x (drop n cs)))
     (along_more m 1 n (suc n) (omega arith)))) (λ _. no_piece set start m (c ∷ cs))
 
-no_bare_nul : (set : UriSet) → is_bare set 0 ≡ false
-no_bare_nul set = grind arith
-
 -- characters that begin no escape were moved, and c comes next
 pub record BareTurn (set : UriSet) (start : Marker) (text grown : List ℕ) (s t : Cursor) (c : ℕ) : Type 0 where
   pub reached : with_front grown (decoded_at set start t) ≡ with_front text (decoded_at set start s)
@@ -55,7 +52,7 @@ pub bare_turn : (set : UriSet) (start : Marker) (text grown : List ℕ) (s u t :
     → ◌≡◌ {A = Result (List ℕ × Cursor) Refusal} (Ok (with_front_run (is_bare set) text s)) (Ok (grown, u))
     → c ≡ slice_index u.rest 0 → t ≡ u → BareTurn set start text grown s t c
 bare_turn set start text grown s u t c moved read same =
-    grind (arith, run_ends, no_bare_nul, run_piece, front_twice, drop_shorter, nat_tests)
+    grind (arith, run_ends, run_piece, front_twice, drop_shorter, nat_tests)
 
 -- an escape stands for a character of the set
 pub escape_in_set : (set : UriSet) (c : ℕ) → c ≡ percent_sign → is_in_set set c ≡ true

@@ -27,9 +27,6 @@ pub record Bytes (c : ℕ) : Type 0 where
   pub says : joined_bytes (leading_bits first) others ≡ c
   pub shortest : is_encoded (suc (length others)) c ≡ true
 
-scalar_true : (c : ℕ) → IsScalarValue c → is_scalar_value c ≡ true
-scalar_true c h = grind (arith, nat_tests)
-
 trailing_true : (n : ℕ) → is_trailing (128 + n % 64) ≡ true
 trailing_true n = rw (le-leb 128 (128 + n % 64) (omega arith), lt-ltb (128 + n % 64) 192 (omega arith)) refl
 
@@ -128,7 +125,7 @@ four_bytes c h lt s =
     }
 
 from_two : (c : ℕ) → 0x80 ≤ c → IsScalarValue c → Bytes c
-from_two c h scalar = grind (arith, two_bytes, nat_tests, three_bytes, scalar_true, four_bytes)
+from_two c h scalar = grind (arith, two_bytes, nat_tests, three_bytes, four_bytes)
 
 pub bytes_of : (c : ℕ) → IsScalarValue c → Bytes c
 bytes_of c scalar =

@@ -103,13 +103,10 @@ pub character_read : (set : ℕ → Bool) (start m : Marker) (c : ℕ) (t y : Li
 unfolding uri_character
 character_read set start m c t y v6 = grind (arith, nat_tests, escape_first, escape_read)
 
-has_percent : (set : UriSet) → is_in_set set 37 ≡ true
-has_percent set = grind arith
-
 pub character_first : (set : UriSet) (c : ℕ) (t y : List ℕ) → IsCharacter (is_in_set set) c t
     → is_in_set set (slice_index (t ++ y) 0) ≡ true
 character_first set c t y (inl (in_set, plain, e)) = rw e in_set
-character_first set c t y (inr (scalar, escaped)) = rw (escape_first c t y scalar escaped) (has_percent set)
+character_first set c t y (inr (scalar, escaped)) = rw (escape_first c t y scalar escaped) (grind arith)
 
 -- spelled characters are read, up to one that is none of the set
 pub decoded_read : (set : UriSet) (start m : Marker) (v t x : List ℕ) → IsDecoded (is_in_set set) v t

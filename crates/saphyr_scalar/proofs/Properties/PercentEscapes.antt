@@ -128,14 +128,11 @@ tail_of_escape : (xs : List ℕ) → nat_eq (slice_index xs 0) 37 ≡ true → 0
     → 3 * utf8_width (byte_value xs) ≡ 1 + uri_tail xs
 tail_of_escape xs h some = rw h (omega arith)
 
-tail_of_character : (xs : List ℕ) → nat_eq (slice_index xs 0) 37 ≡ false → 1 ≡ 1 + uri_tail xs
-tail_of_character xs h = rw h refl
-
 character_place : (start m : Marker) (xs : List ℕ)
     → EscapeEnds m xs (1 + uri_tail xs) (uri_character start (mid_line m xs))
 unfolding uri_character
 character_place start m xs x =
-    grind (arith, nat_tests, escape_place, tail_of_escape, escape_some, read, tail_of_character)
+    grind (arith, nat_tests, escape_place, tail_of_escape, escape_some, read)
 
 -- the characters of an escape are passed over
 escape_passed_over : (set : UriSet) (start : Marker) (k : ℕ) (m : Marker) (xs : List ℕ)

@@ -6,7 +6,7 @@ use Rattle.std.proofs.Math.Utf8.{encode}
 use Rattle.std.proofs.lemmas.Bool.Decides.{nat_tests}
 use Rattle.std.proofs.lemmas.Bool.{false≢true, false_from_ne_true}
 use Rattle.std.proofs.lemmas.Str.{encodes-append, length-le-encodes}
-use Rattle.saphyr_input.specs.Indicators.{exclamation_mark, greater_than, less_than}
+use Rattle.saphyr_input.specs.Indicators.{exclamation_mark, greater_than}
 use Rattle.saphyr_input.specs.Classes.{is_alpha, is_tag_char, is_uri_char, is_blank, is_break, is_z, is_breakz, is_blank_or_breakz, is_flow, is_one_of}
 use Rattle.saphyr_input.proofs.Runs.{run_stops}
 use Rattle.saphyr_scalar.specs.declared.scalar.position.Marker.{Marker}
@@ -226,13 +226,6 @@ uri_ends : (start m : Marker) (suffix x : List ℕ)
 unfolding verbatim_end
 uri_ends start m suffix x = refl
 
-verbatim_read : (in_flow : Bool) (m : Marker) (v inside x : List ℕ) → IsDecoded is_uri_char v inside → EndsTag in_flow x
-    → tag in_flow (mid_line m (exclamation_mark ∷ less_than ∷ (inside ++ (greater_than ∷ x))))
-    ≡ Ok ([], encode_utf8_all v, mid_line (along m (3 + length inside)) x)
-unfolding tag verbatim_tag
-verbatim_read in_flow m v inside x is ends =
-    grind (arith, decoded_read, uri_ends, encode_utf8_all, tag_ends, along_more)
-
 abbrev ReadsTag : Bool → Marker → List ℕ → List ℕ → List ℕ → List ℕ → Type 0
 ReadsTag in_flow m t handle suffix x = tag in_flow (mid_line m (t ++ x)) ≡ Ok
     (encode_utf8_all handle, encode_utf8_all suffix, mid_line (along m (length t)) x)
@@ -280,7 +273,9 @@ reads_named in_flow m w v back x are some is ends =
 
 reads_verbatim : (in_flow : Bool) (m : Marker) (v inside x : List ℕ) → IsDecoded is_uri_char v inside
     → EndsTag in_flow x → ReadsTag in_flow m (codes "!<" ++ (inside ++ codes ">")) [] v x
-reads_verbatim in_flow m v inside x is ends = grind (arith, length-append, append_assoc, verbatim_read, encode_utf8_all)
+unfolding tag verbatim_tag
+reads_verbatim in_flow m v inside x is ends =
+    grind (arith, length-append, append_assoc, encode_utf8_all, decoded_read, uri_ends, tag_ends, along_more)
 
 reads_text : (in_flow : Bool) (m : Marker) (t handle suffix x : List ℕ) → IsTagText t handle suffix → EndsTag in_flow x
     → ReadsTag in_flow m t handle suffix x

@@ -1,9 +1,8 @@
 -- The bytes that are read for a character are its UTF-8.
-use Rattle.std.proofs.Common.{◌≡◌, ℕ, suc, ◌+◌, ◌-◌, ◌*◌, ◌/◌, ◌%◌, ◌<◌, ◌≤◌, true, List, [], ◌∷◌, length, nat_lt, refl, arith, inl, inr}
+use Rattle.std.proofs.Common.{◌≡◌, ℕ, suc, ◌+◌, ◌-◌, ◌*◌, ◌<◌, ◌≤◌, true, List, [], ◌∷◌, length, nat_lt, arith, inl, inr}
 use Rattle.std.specs.Prelude.{◌&&◌, nat_le, encode_utf8}
 use Rattle.std.specs.Char.{len_utf8}
 use Rattle.std.proofs.Math.Utf8.{encode}
-use Rattle.std.proofs.lemmas.Bool.{lt-ltb, le-ltb}
 use Rattle.std.proofs.lemmas.Bool.Decides.{nat_tests}
 use Rattle.std.proofs.lemmas.Str.{encode_ascii}
 use Rattle.saphyr_scalar.specs.Values.Escapes.{IsScalarValue, is_scalar_value}
@@ -36,34 +35,23 @@ tail_high b h = grind (arith, nat_tests)
 unique_one : (b c : ℕ) → b < 0x80 → leading_bits b ≡ c → encode_utf8 c ≡ b ∷ []
 unique_one b c lt says = rw (← says, bits_one b lt) (encode_ascii b lt)
 
-two_encoded : (c : ℕ) → 0x80 ≤ c → c < 0x800 → encode c ≡ (192 + c / 64) ∷ (128 + c % 64) ∷ []
-unfolding encode
-two_encoded c h lt = rw (le-ltb c 0x80 h, lt-ltb c 0x800 lt) refl
-
-three_encoded : (c : ℕ) → 0x800 ≤ c → c < 0x1_0000
-    → encode c ≡ (224 + c / 4096) ∷ (128 + c / 64 % 64) ∷ (128 + c % 64) ∷ []
-unfolding encode
-three_encoded c h lt = rw (le-ltb c 0x80 (omega arith), le-ltb c 0x800 h, lt-ltb c 0x1_0000 lt) refl
-
-four_encoded : (c : ℕ) → 0x1_0000 ≤ c
-    → encode c ≡ (240 + c / 262144) ∷ (128 + c / 4096 % 64) ∷ (128 + c / 64 % 64) ∷ (128 + c % 64) ∷ []
-unfolding encode
-four_encoded c h = rw (le-ltb c 0x80 (omega arith), le-ltb c 0x800 (omega arith), le-ltb c 0x1_0000 h) refl
-
 unique_two : (b x c : ℕ) → 0xC0 ≤ b → b < 0xE0 → is_trailing x ≡ true → leading_bits b * 64 + (x - 0x80) ≡ c
     → is_encoded 2 c ≡ true → encode_utf8 c ≡ b ∷ x ∷ []
-unique_two b x c h lt tail says shortest = grind (arith, tail_low, tail_high, bits_two, two_encoded, long_two, len_of)
+unfolding encode
+unique_two b x c h lt tail says shortest = grind (arith, tail_low, tail_high, bits_two, long_two, len_of)
 
 unique_three : (b x y c : ℕ) → 0xE0 ≤ b → b < 0xF0 → is_trailing x ≡ true → is_trailing y ≡ true
     → (leading_bits b * 64 + (x - 0x80)) * 64 + (y - 0x80) ≡ c → is_encoded 3 c ≡ true → encode_utf8 c ≡ b ∷ x ∷ y ∷ []
+unfolding encode
 unique_three b x y c h lt tail tail2 says shortest =
-    grind (arith, tail_low, tail_high, bits_three, three_encoded, long_three, len_of)
+    grind (arith, tail_low, tail_high, bits_three, long_three, len_of)
 
 unique_four : (b x y z c : ℕ) → 0xF0 ≤ b → is_trailing x ≡ true → is_trailing y ≡ true → is_trailing z ≡ true
     → ((leading_bits b * 64 + (x - 0x80)) * 64 + (y - 0x80)) * 64 + (z - 0x80) ≡ c → is_encoded 4 c ≡ true
     → encode_utf8 c ≡ b ∷ x ∷ y ∷ z ∷ []
+unfolding encode
 unique_four b x y z c h tail tail2 tail3 says shortest =
-    grind (arith, tail_low, tail_high, bits_four, four_encoded, long_four, len_of)
+    grind (arith, tail_low, tail_high, bits_four, long_four, len_of)
 
 width_cases : (b : ℕ) (P : ℕ → Type 0) → (b < 0x80 → P 1) → (0xC0 ≤ b → b < 0xE0 → P 2) → (0xE0 ≤ b → b < 0xF0 → P 3)
     → (0xF0 ≤ b → P 4) → P 0 → P (utf8_width b)

@@ -34,12 +34,6 @@ at_escaped_break indent start m cs h = grind (arith, behind_no_gap, passed_over,
 abbrev pub behind_escaped : Cursor → Cursor
 behind_escaped s = pass_break (pass 1 s)
 
-escaped_break_at : (indent : ℕ) (start : Marker) (s : Cursor) (cs : List ℕ) → s.rest ≡ backslash ∷ cs
-    → is_break (slice_index cs 0) ≡ true
-    → inner_text_at Double indent start no_gap s
-    ≡ inner_text_at Double indent start (escaped_gap Double (slice_index (behind_escaped s).rest 0)) (behind_escaped s)
-escaped_break_at indent start s cs cut h = grind (arith, drop, by_break_len, slice_index, at_escaped_break)
-
 record Escaped (xs : List ℕ) : Type 0 where
   cs : List ℕ
   cut : xs ≡ backslash ∷ cs
@@ -52,7 +46,7 @@ escaped_of (c ∷ cs) h = grind (arith, nat_tests, slice_index)
 escaped_break_on : (q : Quote) (indent : ℕ) (start : Marker) (s : Cursor) → IsTrue (is_escaped_break q s.rest)
     → inner_text_at q indent start no_gap s
     ≡ inner_text_at q indent start (escaped_gap q (slice_index (behind_escaped s).rest 0)) (behind_escaped s)
-escaped_break_on u0 indent start s h = grind (arith, escaped_of, escaped_break_at)
+escaped_break_on u0 indent start s h = grind (arith, escaped_of, drop, by_break_len, slice_index, at_escaped_break)
 
 gap_at_quote : (q : Quote) (c : ℕ) → c ≡ flow.mark q → escaped_gap q c ≡ no_gap
 gap_at_quote q c e = let is : (c == flow.mark q) ≡ true = grind (arith, nat_tests) in rw is refl
@@ -137,11 +131,6 @@ blanks_to_word q indent start text grown s t u m same break z =
     ap (λ x. with_front (text ++ grown) (inner_text_at q indent start no_gap x)) same
     ∙ sym (front_twice text grown _) ∙ ap (with_front text) (sym word ∙ blanks_moved q indent start [] grown s t m)
 
--- the closing quote
-closing_quote : (q : Quote) (xs : List ℕ) → IsTrue (ends_word q xs) → slice_index xs 0 ≡ flow.mark q
-    → IsTrue (is_closing q xs)
-closing_quote v0 xs h e = grind (arith, nat_tests)
-
 pub at_closing : (q : Quote) (indent : ℕ) (start m : Marker) (cs : List ℕ) → IsTrue (is_closing q (flow.mark q ∷ cs))
     → inner_text q indent start no_gap 0 m (flow.mark q ∷ cs) ≡ Ok ([], mid_line (along m 1) cs)
 unfolding is_literal special
@@ -157,4 +146,4 @@ closing_closes q indent start text s h =
 
 pub quote_closes : (q : Quote) (indent : ℕ) (start : Marker) (text : List ℕ) (s : Cursor) → IsTrue (ends_word q s.rest)
     → slice_index s.rest 0 ≡ flow.mark q → with_front text (inner_text_at q indent start no_gap s) ≡ Ok (text, pass 1 s)
-quote_closes q indent start text s h e = closing_closes q indent start text s (closing_quote q s.rest h e)
+quote_closes q indent start text s h e = closing_closes q indent start text s (grind (arith, nat_tests))

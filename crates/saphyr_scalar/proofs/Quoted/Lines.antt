@@ -153,12 +153,6 @@ pub begins_refused : (q : Quote) (indent : ℕ) (start : Marker) (escaped : Bool
 begins_refused q indent start escaped n text s refusal blank break e =
     ap (with_front text) (rw e at (begins_with_non_space q indent start escaped n s blank break))
 
--- a character that begins no document marker, at a column that later lines may begin at
-pub later_word : (indent : ℕ) (start : Marker) (s u : Cursor) (c : ℕ) → u ≡ s → c ≡ slice_index s.rest 0 → 46 < c
-    → indent ≤ u.mark.col → quoted_line indent start s ≡ Ok u
-unfolding quoted_line
-later_word indent start s u c same read non_space right = grind (arith, nat_tests, and_false)
-
 later_non_space : (c x : ℕ) → c ≡ x → 46 < c → (is_blank x ≡ false) × (is_break x ≡ false)
 later_non_space c x same non_space = grind (arith, nat_tests)
 
@@ -167,5 +161,6 @@ pub begins_later_word : (q : Quote) (indent : ℕ) (start : Marker) (escaped : B
     → c ≡ slice_index s.rest 0 → 46 < c → indent ≤ s.mark.col
     → with_front (text ++ encode_utf8_all (folded_break escaped 0)) (inner_text_at q indent start no_gap s)
     ≡ with_front text (inner_text_at q indent start (over_lines escaped 0) s)
+unfolding quoted_line
 begins_later_word q indent start escaped text s c read non_space right =
-    grind (arith, later_non_space, slice_index, begins_word, later_word)
+    grind (arith, later_non_space, slice_index, begins_word, nat_tests, and_false)

@@ -139,12 +139,9 @@ no_return_simple e c h = grind (arith, nat_tests)
 no_return_count : (e n : ℕ) → digit_count e ≡ Some n → (e == carriage_return) ≡ false
 no_return_count e n is = grind arith
 
-no_return_hex : (d : ℕ) → IsTrue (is_hex d) → (d == carriage_return) ≡ false
-no_return_hex d h = grind arith
-
 digits_same : (ds p : List ℕ) → AreIn is_hex ds → normalized (ds ++ p) ≡ ds ++ normalized p
 digits_same [] p h = refl
-digits_same (d ∷ ds) p h = cc (normalized_other d (ds ++ p) (no_return_hex d h.0), digits_same ds p h.1)
+digits_same (d ∷ ds) p h = cc (normalized_other d (ds ++ p) (grind arith), digits_same ds p h.1)
 
 text_piece : (q : Quote) (xs : List ℕ) (items : List Item) (x : List ℕ) → quotes.IsText q xs items x
     → TextPiece q xs items x

@@ -10,7 +10,7 @@ use Rattle.saphyr_scalar.specs.declared.scalar.position.Marker.{Marker}
 use Rattle.saphyr_scalar.specs.Views.Cursor.{Cursor, ◌>>=◌, along, next_line, pass}
 use Rattle.saphyr_scalar.specs.Values.Flow as flow
 use Rattle.saphyr_scalar.specs.Passing.{IsPassed, nothing, character, line_break}
-use Rattle.saphyr_scalar.specs.Steps.Quoted.{is_literal, hex_digit_count, digits, escape_by_number, escape_of, escaped_character, TextRead, mid_line, special, special_len, QuotedGap, on_line, over_lines, no_gap, is_left, blank_in, break_in, quoted_line, end_gap, escaped_gap, break_len, if_some, inner_text, quoted}
+use Rattle.saphyr_scalar.specs.Steps.Quoted.{is_literal, hex_digit_count, digits, escape_by_number, escape_of, escaped_character, TextRead, mid_line, special, special_len, QuotedGap, no_gap, blank_in, break_in, quoted_line, end_gap, escaped_gap, break_len, if_some, inner_text, quoted}
 use Rattle.saphyr_scalar.specs.Steps.Quoted as reading
 use Rattle.saphyr_scalar.specs.RefusedInside.{IsRefusedInside}
 use Rattle.saphyr_scalar.proofs.Quoted.Escapes.{escape_place}
@@ -37,13 +37,9 @@ digits_refused start zero v s = tt
 digits_refused start (suc n) v s =
     by_test (is_hex (slice_index s.rest 0)) _ _ (RefusedAt start) (λ _. digits_refused start n _ (pass 1 s)) (λ _. refl)
 
-numbered_refused : (start : Marker) (o : Option ℕ) (s : Cursor) → RefusedAt start (escape_by_number start o s)
-unfolding escape_by_number reading.character
-numbered_refused start u0 s = grind (arith, refused_bind, digits_refused, by_test)
-
 escape_refused : (start : Marker) (s : Cursor) → RefusedAt start (escaped_character start s)
-unfolding escaped_character escape_of
-escape_refused start s = grind (arith, slice_index, numbered_refused)
+unfolding escaped_character escape_of escape_by_number reading.character
+escape_refused start s = grind (arith, slice_index, refused_bind, digits_refused, by_test)
 
 word_refused : (indent : ℕ) (start : Marker) (s : Cursor) → RefusedAt start (quoted_line indent start s)
 unfolding quoted_line
