@@ -1,6 +1,6 @@
 -- A parser of a text in UTF-8 that comes in pieces, and what the calls that add to it do.
-use Rattle.std.specs.Prelude.{◌≡◌, ◌≤◌, ◌==◌, ◌-◌, ◌^◌, min, ℕ, Bool, false, List, [], ◌++◌, length, if◌then◌else◌}
-use Rattle.std.specs.Str.{chars}
+use Rattle.std.specs.Prelude.{◌≡◌, ◌≤◌, ◌<◌, ◌==◌, ◌-◌, ◌^◌, min, ℕ, Bool, false, List, [], ◌++◌, length, if◌then◌else◌}
+use Rattle.std.specs.Str.{chars, encode_utf8_all}
 use Rattle.saphyr_scanner.specs.Steps.Remaining.{scan}
 use Rattle.saphyr_parser.specs.Cursor.{EventCursor, at_start, keeping_tags}
 use Rattle.saphyr_parser.specs.Limits.{most_characters}
@@ -27,10 +27,10 @@ IsOfNothing keep characters bytes c =
     ≡ keeping_tags keep (at_start (scan (bounded characters most_characters) (chars later))))
     × (c.waiting.items ≡ []) × (c.extent ≡ extent.Nothing) × (c.most_waiting ≡ bounded bytes (2 ^ 64 - 1))
 
--- no event comes: of what may wait no more waits, or more waits
+-- no event comes: of what may wait no more bytes wait, or more do
 abbrev pub WritesWaiting : Status → Coming → Type 0
-WritesWaiting status.More c = length (waiting c.parser) ≤ c.most_waiting
-WritesWaiting status.TooMuch c = Unit {0}
+WritesWaiting status.More c = length (encode_utf8_all (waiting c.parser)) ≤ c.most_waiting
+WritesWaiting status.TooMuch c = c.most_waiting < length (encode_utf8_all (waiting c.parser))
 WritesWaiting _ c = ⊥
 
 -- Why bytes are refused that come after those that came. The first of a text may be a mark of UTF-16.
