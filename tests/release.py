@@ -28,7 +28,7 @@ TEXT = b"name: &it !!str 'parser'\nports: [80, \"443\", *it]\n"
 SCALARS = b"1:1 name\n1:7 parser\n2:1 ports\n2:9 80\n2:13 443\n"
 FIRST = b"1:1 ports\n1:9 80\n1:13 443\n"  # what the programs of the README print
 CALLS = ["add", "anchored", "clone", "count", "describe", "expanded", "free", "get", "item", "keep_tags", "key", "load",
-         "new", "new_pieces", "new_utf8", "next", "peek", "root", "valid_up_to", "value", "version"]
+         "load_next", "new", "new_pieces", "new_utf8", "next", "peek", "root", "valid_up_to", "value", "version"]
 PATHS = b".name = parser (1:7)\n.ports[0] = 80 (2:9)\n.ports[1] = 443 (2:13)\n"  # what the example `config` prints
 STRICT = ["-Wall", "-Wextra", "-pedantic", "-Werror"]
 # Each call that takes NULL, at -O0 too, and `{}` in C++.
@@ -168,7 +168,7 @@ def check_c(release, tools):
     """The archive alone, in C and in C++."""
     write(f"{release.folder}/nulls.c", NULLS)
     write(f"{release.folder}/first.c", block(release.readme, "c"))
-    programs = {"events": None, "pipe": SCALARS, "config": PATHS, "nulls": b"", "first": FIRST}
+    programs = {"events": None, "pipe": SCALARS, "config": PATHS, "documents": b"1:1 8\n", "nulls": b"", "first": FIRST}
     for compiler, standard in ((tools["cc"], "c99"), (tools["c++"], "c++17")):
         for name, wanted in programs.items() if compiler else ():
             if name == "first" and standard != "c99":

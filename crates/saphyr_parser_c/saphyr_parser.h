@@ -31,6 +31,11 @@
  *             ... event.value is the port, and event.start its place ...
  *     }
  *
+ * Of a text of many documents, one after the other:
+ *
+ *     while ((status = saphyr_load_next(&parser, 100000, 100, &event)) == SAPHYR_LOADED)
+ *         ... saphyr_root(&parser, 0) is the root ...
+ *
  * What the caller must do. Nothing checks these rules, and all that the library promises depends on them:
  *
  *  - Zero a saphyr_parser and a saphyr_event, as by {0}, and in C++ by {}, before you first pass them to a call.
@@ -45,11 +50,11 @@
  *  - malloc, realloc and free belong to one allocator. Make no call from a signal handler, or from the forked
  *    child of a process with threads.
  *
- * What the library does. The texts of an event may be read until the next call with the same parser, and no
- * longer. Those that saphyr_describe gave may be read until saphyr_load or saphyr_free gets the parser, or a call that
- * makes another parser in its handle. For saphyr_next the contract says that the addresses are those of memory that
- * the parser keeps until then. Only the code shows the same of saphyr_peek and saphyr_describe, and that no call in
- * between writes there.
+ * What the library does. The texts of an event may be read until the next call with the same parser, and no longer.
+ * Those that saphyr_describe gave may be read until saphyr_load, saphyr_load_next or saphyr_free gets the parser, or a
+ * call that makes another parser in its handle. For saphyr_next the contract says that the addresses are those of
+ * memory that the parser keeps until then. Only the code shows the same of saphyr_peek and saphyr_describe, and that no
+ * call in between writes there.
  */
 #ifndef SAPHYR_PARSER_H
 #define SAPHYR_PARSER_H
@@ -74,19 +79,21 @@ enum saphyr_status {
     /* saphyr_new, saphyr_new_utf8, saphyr_new_pieces, saphyr_add, saphyr_clone, saphyr_keep_tags, saphyr_load: done. */
     SAPHYR_OK = 0,
     /* saphyr_next, saphyr_peek: no event is left. The end of the stream or a fault was handed out before.
-       saphyr_describe: there is no node with this number. */
+       saphyr_load_next: no document is left. saphyr_describe: there is no node with this number. */
     SAPHYR_END = 0,
     /* saphyr_next, saphyr_peek, saphyr_describe: the event is written. */
     SAPHYR_EVENT = 1,
     /* saphyr_next, saphyr_peek, of a text that comes in pieces: as far as the parser has looked, bytes that did not
        come may change the next event. No event is written. */
     SAPHYR_MORE = 2,
-    /* saphyr_next, saphyr_peek, saphyr_load: the text is refused. `value` says why, and `start` where. No event
-       follows. */
+    /* saphyr_load_next: the next document is loaded. */
+    SAPHYR_LOADED = 3,
+    /* saphyr_next, saphyr_peek, saphyr_load, saphyr_load_next: the text is refused. `value` says why, and `start`
+       where. No event follows. */
     SAPHYR_REFUSED = -1,
     /* Out of memory. From saphyr_next and saphyr_peek: no event follows, whatever is added. From saphyr_add: the text
        is lost, and saphyr_next says so too. From saphyr_new, saphyr_new_pieces and saphyr_clone: no parser is made.
-       From saphyr_load: there are no trees. */
+       From saphyr_load and saphyr_load_next: there are no trees. */
     SAPHYR_NO_MEMORY = -2,
     /* saphyr_new: the text is not UTF-8. saphyr_valid_up_to returns the index of the first wrong byte. saphyr_add: the
        bytes, behind those that came before, are not, whatever follows; or the text ends inside a character. Nothing is
@@ -104,9 +111,10 @@ enum saphyr_status {
     /* saphyr_next, saphyr_peek: as SAPHYR_MORE, but more bytes wait for the next event than saphyr_new_pieces was told
        that may. The parser stays where it was, and gives the rest of the events if the end of the text is told. */
     SAPHYR_TOO_MUCH = -7,
-    /* saphyr_load: the trees would have more nodes than allowed, or be deeper. `start` says where. */
+    /* saphyr_load, saphyr_load_next: the trees would have more nodes than allowed, or be deeper. `start` says where. */
     SAPHYR_TOO_LARGE = -8,
-    /* saphyr_load: the parser has handed out events already, or its text comes in pieces. */
+    /* saphyr_load: the parser has handed out events already. saphyr_load_next: it is inside a document. Both: its text
+       comes in pieces. */
     SAPHYR_LATE = -9
 };
 
@@ -288,8 +296,8 @@ int32_t saphyr_clone(saphyr_parser *parser, saphyr_parser *copy);
  */
 int32_t saphyr_keep_tags(saphyr_parser *parser, bool keep_tags);
 
-/* A node of the trees that a parser loaded, by its number. It is that node's until saphyr_load is called again or the
-   parser is freed. */
+/* A node of the trees that a parser loaded, by its number. It is that node's until saphyr_load or saphyr_load_next is
+   called again or the parser is freed. */
 typedef size_t saphyr_node;
 
 /* The number of no node. */
@@ -300,12 +308,24 @@ typedef size_t saphyr_node;
  * The trees may have `nodes` nodes in all, where an alias counts as one, and `depth` collections open at once. Trees
  * that were loaded before are freed, whatever it returns. Once the documents are loaded no event is left. A clone has
  * no trees.
- *
  * Returns SAPHYR_OK; or SAPHYR_REFUSED, SAPHYR_TOO_LARGE, SAPHYR_NO_MEMORY, SAPHYR_LATE or SAPHYR_NO_PARSER, and then
  * there are no trees. `event` says why and where, and its text may be read until the next call with the parser. After
  * SAPHYR_TOO_LARGE the parser is behind the event that was too many.
  */
 int32_t saphyr_load(saphyr_parser *parser, size_t nodes, size_t depth, saphyr_event *event);
+
+/*
+ * Loads the next document of a parser as a tree, which the parser keeps, so that a text of many documents takes the
+ * memory of one. The parser is before all events, or between documents: where saphyr_next would hand out the start of
+ * the stream, the start of a document or the end of the stream, or nothing is left. The limits are those of
+ * saphyr_load, for this document alone. What was loaded before is freed, whatever it returns. The root is
+ * saphyr_root(parser, 0).
+ *
+ * Returns SAPHYR_LOADED; or SAPHYR_END after the last document; or SAPHYR_REFUSED, SAPHYR_TOO_LARGE, SAPHYR_NO_MEMORY,
+ * SAPHYR_LATE or SAPHYR_NO_PARSER, where `event` says why and where. If it is not SAPHYR_LOADED there are no trees.
+ * After SAPHYR_TOO_LARGE the parser is behind the event that was too many, so inside the document.
+ */
+int32_t saphyr_load_next(saphyr_parser *parser, size_t nodes, size_t depth, saphyr_event *event);
 
 /* Returns the root of the document with this index, from 0, or SAPHYR_NO_NODE if there are fewer documents. */
 saphyr_node saphyr_root(saphyr_parser *parser, size_t index);
@@ -369,6 +389,7 @@ static inline const char *saphyr_status_text(int32_t status) {
     case SAPHYR_OK: return "done, or no event is left";
     case SAPHYR_EVENT: return "an event";
     case SAPHYR_MORE: return "the next event waits for bytes that did not come";
+    case SAPHYR_LOADED: return "the next document is loaded";
     case SAPHYR_REFUSED: return "the text is refused";
     case SAPHYR_NO_MEMORY: return "out of memory";
     case SAPHYR_NOT_UTF8: return "the text is not UTF-8";
@@ -377,7 +398,7 @@ static inline const char *saphyr_status_text(int32_t status) {
     case SAPHYR_WHOLE: return "all of the text is there already";
     case SAPHYR_TOO_MUCH: return "more bytes wait for the next event than may";
     case SAPHYR_TOO_LARGE: return "the trees would be larger than allowed";
-    case SAPHYR_LATE: return "the parser has handed out events, or its text comes in pieces";
+    case SAPHYR_LATE: return "no trees begin where the parser is, or its text comes in pieces";
     default: return "no status";
     }
 }

@@ -40,7 +40,7 @@ mod scanner;
 
 pub use crate::encoding::NotUtf8;
 pub use crate::event::{Event, EventReceiver, SpannedEventReceiver, Tag};
-pub use crate::face::trees::{Limits, LoadError, Node, NodeKind, Trees};
+pub use crate::face::trees::{Documents, Limits, LoadError, Node, NodeKind, Trees};
 pub use crate::input::{str::StrInput, BufferedInput, Input};
 pub use crate::parser::Parser;
 pub use crate::scanner::{Marker, ScalarStyle, ScanError, Span};

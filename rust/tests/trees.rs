@@ -1,6 +1,8 @@
 //! Trees: what their nodes are, beside the events of the same text, and what is refused.
 
-use saphyr_parser::{Event, Limits, LoadError, Marker, Node, NodeKind, Parser, Span, Tag, Trees};
+use saphyr_parser::{
+    Documents, Event, Limits, LoadError, Marker, Node, NodeKind, Parser, Span, Tag, Trees,
+};
 use std::borrow::Cow;
 use std::{fs, thread};
 
@@ -61,6 +63,34 @@ fn says_why_nothing_is_loaded() {
     let place = Marker::new(4, 1, 4);
     let large = Trees::load("[a, b]", Limits { nodes: 2, depth: 1 }).unwrap_err();
     assert_eq!(large, LoadError::TooLarge(place));
+}
+
+#[test]
+fn gives_documents_one_by_one() {
+    let all = load(TEXT);
+    let each: Vec<_> = Documents::new(TEXT, Limits::default())
+        .map(Result::unwrap)
+        .collect();
+    assert_eq!(each.len(), 2);
+    for (index, one) in each.iter().enumerate() {
+        let (mut told, mut wanted) = (Vec::new(), Vec::new());
+        tell(&one[0], &mut told);
+        tell(&all[index], &mut wanted);
+        assert_eq!(told, wanted);
+        assert_eq!(one.expanded_nodes(0), all.expanded_nodes(index));
+        assert!(one.get(1).is_none());
+    }
+    let mut documents = Documents::new("a\n--- [b, c]\n--- d\n", Limits { nodes: 2, depth: 1 });
+    assert_eq!(documents.next().unwrap().unwrap()[0].as_str(), Some("a"));
+    let large = documents.next().unwrap().unwrap_err();
+    assert_eq!(large, LoadError::TooLarge(Marker::new(10, 2, 8)));
+    assert!(documents.next().is_none() && documents.next().is_none());
+    let mut documents = Documents::new("a\n--- [b\n", Limits::default());
+    assert_eq!(documents.next().unwrap().unwrap().iter().count(), 1);
+    let refused = documents.next().unwrap().unwrap_err();
+    assert!(matches!(refused, LoadError::Refused(_)), "{refused}");
+    assert!(documents.next().is_none());
+    assert!(Documents::new("", Limits::default()).next().is_none());
 }
 
 #[test]

@@ -1,8 +1,9 @@
 /*
- * Trees through the C face. Reads framed texts as `cases` does, loads each, and compares its trees with its events: what
- * is told of each node, its places, its parts by index and by key, and the nodes of anchors. Loads each short text with
- * every request for memory refused in turn. Misuses the calls. Prints what is wrong, and how many nodes there were, and
- * how many requests were refused. It is linked with --wrap for malloc, realloc and free.
+ * Trees through the C face. Reads framed texts as `cases` does, loads each, and compares its trees with its events:
+ * what is told of each node, its places, its parts by index and by key, and the nodes of anchors; loaded at once, and
+ * document by document. Loads each short text, in both ways, with every request for memory refused in turn. Misuses the
+ * calls. Prints what is wrong, and how many nodes there were, and how many requests were refused. It is linked with
+ * --wrap for malloc, realloc and free.
  */
 #include "saphyr_parser.h"
 
@@ -161,8 +162,54 @@ static void check(const uint8_t *text, size_t len, bool keep_tags) {
     saphyr_free(&parser);
 }
 
+/* Compares the documents of a text, loaded one by one, with its events. */
+static void check_each(const uint8_t *text, size_t len, bool keep_tags) {
+    saphyr_parser trees = {0}, parser = {0};
+    saphyr_event event = {0}, fault = {0};
+    int32_t loaded, status = SAPHYR_EVENT;
+    if (saphyr_new(text, len, keep_tags, &trees) || saphyr_new(text, len, keep_tags, &parser)) {
+        fail("no parser");
+        return;
+    }
+    while ((loaded = saphyr_load_next(&trees, LARGE, LARGE, &fault)) == SAPHYR_LOADED) {
+        while ((status = saphyr_next(&parser, &event)) == SAPHYR_EVENT && event.kind != SAPHYR_DOCUMENT_START) {
+        }
+        check_node(&trees, saphyr_root(&trees, 0), &parser);
+        if (fault.kind != SAPHYR_NOTHING || saphyr_root(&trees, 1) != SAPHYR_NO_NODE) {
+            fail("a document is loaded with another");
+        }
+    }
+    while ((status = saphyr_next(&parser, &event)) == SAPHYR_EVENT && event.kind != SAPHYR_DOCUMENT_START) {
+    }
+    if (loaded == SAPHYR_END && status != SAPHYR_END) {
+        fail("a document is left out");
+    }
+    while (status == SAPHYR_EVENT) {
+        status = saphyr_next(&parser, &event);
+    }
+    if (loaded != status || (loaded < 0 && !is_same(&fault, &event))) {
+        fail("a refusal of a document is told wrongly");
+    }
+    if (saphyr_root(&trees, 0) != SAPHYR_NO_NODE || saphyr_load_next(&trees, 1, 1, &fault) != SAPHYR_END) {
+        fail("there is a document behind the last");
+    }
+    saphyr_free(&trees);
+    saphyr_free(&parser);
+}
+
+/* Loads all documents, or one after the other. */
+static int32_t load_all(saphyr_parser *trees, bool each, saphyr_event *event) {
+    if (!each) {
+        return saphyr_load(trees, LARGE, LARGE, event);
+    }
+    int32_t status;
+    while ((status = saphyr_load_next(trees, LARGE, LARGE, event)) == SAPHYR_LOADED) {
+    }
+    return status;
+}
+
 /* Loads a text with each request for memory refused in turn. Then there are no trees, and nothing is left. */
-static void refuse_each(const uint8_t *text, size_t len) {
+static void refuse_each(const uint8_t *text, size_t len, bool each) {
     for (long number = 0; failed == 0; number++) {
         saphyr_parser trees = {0};
         saphyr_event event = {0};
@@ -171,7 +218,7 @@ static void refuse_each(const uint8_t *text, size_t len) {
         granted = number;
         int32_t status = saphyr_new(text, len, false, &trees);
         if (status == SAPHYR_OK) {
-            status = saphyr_load(&trees, LARGE, LARGE, &event);
+            status = load_all(&trees, each, &event);
             if (status != SAPHYR_OK && saphyr_root(&trees, 0) != SAPHYR_NO_NODE) {
                 fail("there are trees without memory");
             }
@@ -251,18 +298,48 @@ static void misuse(void) {
     saphyr_free(&copy);
 }
 
+static void misuse_each(void) {
+    const char *text = "a\n--- [b, c]\n--- d\n";
+    saphyr_parser trees = {0};
+    saphyr_event event = {0};
+    expect(saphyr_load_next(&trees, 1, 1, &event), SAPHYR_NO_PARSER, "the next document without a parser");
+    expect(saphyr_new((const uint8_t *)text, strlen(text), false, &trees), SAPHYR_OK, "documents");
+    expect(saphyr_load_next(&trees, 1, 0, &event), SAPHYR_LOADED, "the first document");
+    expect(saphyr_load(&trees, 9, 9, &event), SAPHYR_LATE, "all documents behind the first");
+    expect_no_trees(&trees, SAPHYR_END);
+    expect(saphyr_load_next(&trees, 2, 1, &event), SAPHYR_TOO_LARGE, "a second document that is too large");
+    expect((int64_t)event.start.line, 2, "the line of the node that is too many");
+    expect_no_trees(&trees, SAPHYR_END);
+    expect(saphyr_load_next(&trees, 9, 9, &event), SAPHYR_LATE, "the next document inside another");
+    expect(saphyr_next(&trees, &event), SAPHYR_EVENT, "an event of the document");
+    expect(event.kind, SAPHYR_SEQUENCE_END, "the end of a sequence");
+    expect(saphyr_next(&trees, &event), SAPHYR_EVENT, "the document's last event");
+    expect(saphyr_load_next(&trees, 1, 0, &event), SAPHYR_LOADED, "a document behind events");
+    expect(saphyr_describe(&trees, saphyr_root(&trees, 0), &event), SAPHYR_EVENT, "its root");
+    expect((int64_t)event.start.line, 3, "the place of its root");
+    expect(saphyr_load_next(&trees, 9, 9, &event), SAPHYR_END, "no document more");
+    expect_no_trees(&trees, SAPHYR_END);
+    expect(saphyr_next(&trees, &event), SAPHYR_END, "no event more");
+    expect(saphyr_new_pieces(false, 0, 0, &trees), SAPHYR_OK, "pieces");
+    expect(saphyr_load_next(&trees, 9, 9, &event), SAPHYR_LATE, "the next document of pieces");
+    saphyr_free(&trees);
+}
+
 int main(void) {
     int keeps_tags;
     size_t len;
     misuse();
+    misuse_each();
     while (scanf("%d %zu", &keeps_tags, &len) == 2 && getchar() == '\n') {
         uint8_t *text = malloc(len + 1);
         if (text == NULL || fread(text, 1, len, stdin) != len) {
             return 2;
         }
         check(text, len, keeps_tags);
+        check_each(text, len, keeps_tags);
         if (len <= SHORT) {
-            refuse_each(text, len);
+            refuse_each(text, len, false);
+            refuse_each(text, len, true);
         }
         free(text);
     }

@@ -1,7 +1,7 @@
 -- The numbers of statuses in C.
 use Rattle.std.specs.Prelude.{ℤ, pos, negsuc}
 use Rattle.saphyr_parser_c.specs.declared.status.Status.{Status}
-use Rattle.saphyr_parser_c.specs.declared.status.Status.TheVariants.{Done, End, Event, Refused, NoMemory, NotUtf8, NoParser, Utf16, More, Whole, TooMuch, TooLarge, Late}
+use Rattle.saphyr_parser_c.specs.declared.status.Status.TheVariants.{Done, End, Event, Refused, NoMemory, NotUtf8, NoParser, Utf16, More, Loaded, Whole, TooMuch, TooLarge, Late}
 
 -- `negsuc n` is -(n + 1)
 abbrev pub code_of : Status → ℤ
@@ -14,6 +14,7 @@ code_of NotUtf8 = negsuc 2
 code_of NoParser = negsuc 3
 code_of Utf16 = negsuc 4
 code_of More = pos 2
+code_of Loaded = pos 3
 code_of Whole = negsuc 5
 code_of TooMuch = negsuc 6
 code_of TooLarge = negsuc 7

@@ -21,7 +21,7 @@ use Rattle.yaml_tree.specs.declared.table.NodeTable.{NodeTable}
 use Rattle.yaml_tree.specs.declared.table.Root.{Root}
 use Rattle.yaml_tree.specs.Accessing.{value_at_key}
 use Rattle.yaml_tree.specs.Following.{at_step}
-use Rattle.yaml_tree.specs.Numbering.{Placed, FindsNumber, HasNodes, IsNodeAt, LoadsTable, count_of_parts, numbered_node}
+use Rattle.yaml_tree.specs.Numbering.{Placed, FindsNumber, HasNoNode, HasNodes, HasNumber, IsNodeAt, LoadsNextTable, LoadsTable, count_of_parts}
 use Rattle.saphyr_parser_c.specs.declared.inner.Inner.{Inner}
 use Rattle.saphyr_parser_c.specs.declared.shown.CEvent.{CEvent}
 use Rattle.saphyr_parser_c.specs.declared.source.Source.{Source}
@@ -88,6 +88,27 @@ LoadsTrees limits none code c new = WritesNone code c new
 LoadsTrees limits (some old) code c new =
     (inner : Inner) × (s : Status) × (new ≡ some inner) × (code ≡ code_of s) × LoadsToC limits old s c inner
 
+-- the table is that of the next document by `load_next_table`, or there is none
+abbrev pub WritesNext : Result (std.Option NodeTable) TreeFault → Status → CEvent → Inner → Type 0
+WritesNext (Ok (Some table)) s c after = (s ≡ status.Loaded) × IsEmptyEvent c × (after.table ≡ table)
+WritesNext (Ok None) s c after = (s ≡ status.End) × IsEmptyEvent c × IsEmpty after.table
+WritesNext (Err f) s c after = WritesUnloaded f s c × IsEmpty after.table
+
+abbrev pub LoadsNextFrom : Limits → Source → Inner → Status → CEvent → Inner → Type 0
+LoadsNextFrom limits (source.Whole old) before s c after = (new : EventCursor)
+    × (result : Result (std.Option NodeTable) TreeFault) × (after.source ≡ source.Whole new)
+    × LoadsNextTable limits result (to_come old) (to_come new) × WritesNext result s c after
+LoadsNextFrom limits (source.Pieces old) before s c after =
+    (s ≡ status.Late) × IsEmptyEvent c × (after.source ≡ before.source) × IsEmpty after.table
+
+abbrev pub LoadsNextToC : Limits → Inner → Status → CEvent → Inner → Type 0
+LoadsNextToC limits before s c after = LoadsNextFrom limits before.source before s c after
+
+abbrev pub LoadsNext : Limits → Option Inner → ℤ → CEvent → Option Inner → Type 0
+LoadsNext limits none code c new = WritesNone code c new
+LoadsNext limits (some old) code c new = (inner : Inner) × (s : Status) × (new ≡ some inner) × (code ≡ code_of s)
+    × LoadsNextToC limits old s c inner
+
 -- ## Questions
 
 -- It is answered by the trees that the parser has, and all stays; without a parser there is no answer.
@@ -111,20 +132,23 @@ Expands index result table = result ≡ expanded_in (slice_get table.roots.items
 
 -- how many items or pairs the node has
 abbrev pub CountsParts : ℕ → ℕ → NodeTable → Type 0
-CountsParts number result table = (all : List Placed) (node : Node) → HasNodes all table → IsNodeAt all number node
-    → result ≡ count_of_parts node
+CountsParts number result table = ((all : List Placed) (node : Node) → HasNodes all table → IsNodeAt all number node
+    → result ≡ count_of_parts node) × (HasNoNode number table → result ≡ 0)
+
+-- Of the node with this number it is that part's number. If there is no such part, or no such node, it is none.
+abbrev pub FindsPart : (Node → std.Option Node) → ℕ → std.Option ℕ → NodeTable → Type 0
+FindsPart part number found table = ((all : List Placed) (node : Node) → HasNodes all table
+    → IsNodeAt all number node → HasNumber all (part node) found) × (HasNoNode number table → found ≡ None)
 
 -- the part to which a step leads
 abbrev pub LeadsToPart : ℕ → Step → ℕ → NodeTable → Type 0
-LeadsToPart number step result table = (found : std.Option ℕ) × IsNumberOf found result
-    × ((all : List Placed) (node : Node) → HasNodes all table → IsNodeAt all number node
-    → numbered_node all found ≡ at_step step node)
+LeadsToPart number step result table =
+    (found : std.Option ℕ) × IsNumberOf found result × FindsPart (at_step step) number found table
 
--- the value of a key
+-- the value of a key, which is none if the bytes are no text
 abbrev pub Gets : ℕ → List ℕ → ℕ → NodeTable → Type 0
 Gets number key result table = (found : std.Option ℕ) × IsNumberOf found result
-    × (IsUtf8 key → (all : List Placed) (node : Node) → HasNodes all table → IsNodeAt all number node
-    → numbered_node all found ≡ value_at_key key node)
+    × (IsUtf8 key → FindsPart (value_at_key key) number found table) × ((IsUtf8 key → ⊥) → found ≡ None)
 
 -- the node of an anchor
 abbrev pub Finds : ℕ → ℕ → NodeTable → Type 0

@@ -12,7 +12,7 @@ use crate::status::Status;
 use crate::texts::{lend_tag, lent};
 use saphyr_parser::{Marker, Progress};
 use std::alloc::Global;
-use yaml_tree::{Content, Entry, Limits, NodeTable, TreeFault, load_table};
+use yaml_tree::{Content, Entry, Limits, NodeTable, TreeFault, load_next_table, load_table};
 
 /// The number of a node, or that of none.
 pub fn number_of(node: Option<usize>) -> usize
@@ -68,12 +68,43 @@ impl Inner {
         };
         match load_table(alloc, parser, limits) {
             Ok(table) => {
-                self.table = table;
-                *out = blank();
+                self.keep(table, out);
                 Status::Done
             }
             Err(fault) => self.write_unloaded(alloc, fault, out),
         }
+    }
+
+    /// Loads the next document of a whole text. What was loaded before is dropped.
+    pub fn load_next(&mut self, alloc: Global, limits: Limits, out: &mut CEvent) -> Status
+        ensures { spec.LoadsNextToC limits self.old result out.new self.new }
+    {
+        self.table = NodeTable::new(alloc);
+        let Source::Whole(parser) = &mut self.source else {
+            *out = blank();
+            return Status::Late;
+        };
+        match load_next_table(alloc, parser, limits) {
+            Ok(Some(table)) => {
+                self.keep(table, out);
+                Status::Loaded
+            }
+            Ok(None) => {
+                *out = blank();
+                Status::End
+            }
+            Err(fault) => self.write_unloaded(alloc, fault, out),
+        }
+    }
+
+    // Keeps what was loaded.
+    fn keep(&mut self, table: NodeTable, out: &mut CEvent)
+        ensures source { self.new.source ≡ self.old.source }
+        ensures table { self.new.table ≡ table }
+        ensures empty { spec.IsEmptyEvent out.new }
+    {
+        self.table = table;
+        *out = blank();
     }
 
     // Tells why nothing was loaded. A fault of the text is kept here until the next call.

@@ -28,9 +28,11 @@ pub enum Status {
     Whole,
     /// More bytes wait for an event than may.
     TooMuch,
+    /// The next document is loaded.
+    Loaded,
     /// The trees of the text would pass a limit.
     TooLarge,
-    /// The parser has handed out events, or its text comes in pieces, so no trees are loaded.
+    /// No trees are loaded from where the parser is, or its text comes in pieces.
     Late,
 }
 
@@ -49,6 +51,7 @@ impl Status {
             Status::NoParser => -4,
             Status::Utf16 => -5,
             Status::More => 2,
+            Status::Loaded => 3,
             Status::Whole => -6,
             Status::TooMuch => -7,
             Status::TooLarge => -8,

@@ -39,6 +39,33 @@ pub extern "C" fn saphyr_load(
     }
 }
 
+/// Loads the next document of a parser that is before the stream or between documents, with so many nodes and so many
+/// collections open at once. What was loaded before is freed.
+#[unsafe(no_mangle)]
+pub extern "C" fn saphyr_load_next(
+    alloc: Global,
+    parser: &mut Handle,
+    nodes: usize,
+    depth: usize,
+    event: &mut CEvent,
+) -> i32
+    ensures { spec.LoadsNext (record { nodes = nodes; depth = depth }) parser.old.value result
+        event.new parser.new.value }
+{
+    match take(alloc, parser) {
+        Some(mut inner) => {
+            let limits = Limits { nodes, depth };
+            let code = inner.load_next(alloc, limits, event).code();
+            put_back(parser, inner);
+            code
+        }
+        None => {
+            *event = blank();
+            Status::NoParser.code()
+        }
+    }
+}
+
 /// The root of a document, by its index.
 #[unsafe(no_mangle)]
 pub extern "C" fn saphyr_root(alloc: Global, parser: &mut Handle, index: usize) -> usize

@@ -12,3 +12,4 @@ mod one_by_one;
 mod paths;
 mod places;
 mod questions;
+mod tables;

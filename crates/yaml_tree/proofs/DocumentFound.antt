@@ -240,7 +240,7 @@ fails_in_document (fault.TooDeep place most) limits before all left at on h =
 
 -- ## Lack of memory before the first event
 
-no_events_of : (xs ys : List (Happening × Span)) (d : Document) (start : List Happening) → [] ≡ xs ++ ys
+pub no_events_of : (xs ys : List (Happening × Span)) (d : Document) (start : List Happening) → [] ≡ xs ++ ys
     → happenings xs ≡ start ++ document_events d → ⊥
 no_events_of [] ys d [] e f = absurd (cc)
 no_events_of [] ys d (h ∷ hs) e f = absurd (cc)

@@ -13,6 +13,7 @@ pub mod Access
 pub mod NodeEvents
 pub mod Spanned
 pub mod SpansRead
+pub mod SpannedFound
 pub mod EachNode
 pub mod Balance
 pub mod Walks

@@ -1,10 +1,10 @@
 -- Parts are found by their numbers.
-use Rattle.std.proofs.Common.{arith, ◌≡◌, ◌∙◌, refl, sym, ap, subst, ℕ, zero, suc, ◌+◌, ◌*◌, ◌/◌, ◌<◌, ◌≤◌, List, [], ◌∷◌, ◌++◌, length, slice_get, None, option_map}
+use Rattle.std.proofs.Common.{arith, ◌≡◌, ◌∙◌, refl, sym, ap, subst, ℕ, zero, suc, ◌+◌, ◌*◌, ◌/◌, ◌<◌, ◌≤◌, List, [], ◌∷◌, ◌++◌, length, get_or, slice_get, Some, None, option_map}
 use Rattle.std.proofs.lemmas.List.{map-append, length-map}
 use Rattle.std.proofs.lemmas.Option.{slice_get_past}
 use Rattle.yaml_tree.specs.declared.node.Node.{Node}
 use Rattle.yaml_tree.specs.declared.parts.Parts.{Parts}
-use Rattle.yaml_tree.specs.Numbering.{Placed, HasParts, both_parts, nodes_of}
+use Rattle.yaml_tree.specs.Numbering.{Placed, HasNumber, HasParts, both_parts, nodes_of}
 
 -- ## Lists
 
@@ -18,6 +18,12 @@ pub get_within : {X : Type 0} (xs ys : List X) (i : ℕ) → i < length xs → s
 get_within [] ys i h = absurd (omega arith)
 get_within (x ∷ xs) ys zero h = refl
 get_within (x ∷ xs) ys (suc i) h = get_within xs ys i (omega arith)
+
+pub some_get : {X : Type 0} (xs : List X) (i : ℕ) → i < length xs
+    → (x : X) × (slice_get xs i ≡ Some x) × (get_or xs i x ≡ x)
+some_get [] i h = absurd (omega arith)
+some_get (x ∷ xs) zero h = (x, refl, refl)
+some_get (x ∷ xs) (suc i) h = some_get xs i (omega arith)
 
 -- ## Parts
 
@@ -44,10 +50,17 @@ has_part parts nodes all i (own, s, same) h =
     ∙ ap (λ (ns : List Node). slice_get (ns ++ nodes_of s.behind) i) same
     ∙ get_within nodes (nodes_of s.behind) i short
 
+-- it is the part's number
+pub number_of_part : (parts : Parts) (nodes : List Node) (all : List Placed) (i : ℕ) → HasParts parts nodes all
+    → i < parts.count → HasNumber all (slice_get nodes i) (Some (parts.first + i))
+number_of_part parts nodes all i h less =
+    let there = some_get nodes i (subst (λ (n : ℕ). i < n) (sym (counts_parts parts nodes all h)) less) in
+    (there.0, there.1, has_part parts nodes all i h less ∙ there.1)
+
 pub no_part : (parts : Parts) (nodes : List Node) (all : List Placed) (i : ℕ) → HasParts parts nodes all
-    → parts.count ≤ i → None ≡ slice_get nodes i
+    → parts.count ≤ i → slice_get nodes i ≡ None
 no_part parts nodes all i h more =
-    sym (slice_get_past nodes i (subst (λ (n : ℕ). n ≤ i) (sym (counts_parts parts nodes all h)) more))
+    slice_get_past nodes i (subst (λ (n : ℕ). n ≤ i) (sym (counts_parts parts nodes all h)) more)
 
 -- ## Pairs
 
@@ -79,7 +92,14 @@ counts_pairs parts pairs all h = sym (counts_parts parts (both_parts pairs) all 
 
 pub no_pair : {X : Type 0} (f : Node × Node → X) (parts : Parts) (pairs : List (Node × Node)) (all : List Placed) (i : ℕ)
     → HasParts parts (both_parts pairs) all → (i < parts.count / 2 → ⊥)
-    → None ≡ option_map f (slice_get pairs i)
+    → option_map f (slice_get pairs i) ≡ None
 no_pair f parts pairs all i h past =
-    let count = counts_pairs parts pairs all h in
-    ap (option_map f) (sym (slice_get_past pairs i (omega arith)))
+    let count = counts_pairs parts pairs all h in ap (option_map f) (slice_get_past pairs i (omega arith))
+
+-- it is the number of a pair's key or value
+pub number_in_pair : (f : Node × Node → Node) (parts : Parts) (pairs : List (Node × Node)) (all : List Placed) (i j : ℕ)
+    → HasParts parts (both_parts pairs) all
+    → slice_get (both_parts pairs) j ≡ option_map f (slice_get pairs i) → j < parts.count
+    → HasNumber all (option_map f (slice_get pairs i)) (Some (parts.first + j))
+number_in_pair f parts pairs all i j h is less =
+    let there = number_of_part parts (both_parts pairs) all j h less in (there.0, sym is ∙ there.1, there.2)

@@ -1,8 +1,9 @@
 -- The roots of documents, one after the other.
-use Rattle.std.proofs.Common.{◌≡◌, ◌∙◌, sym, ap, subst, refl, ℕ, List, [], ◌∷◌, ◌++◌, ◌+◌, length, map, zip, slice_get, Some, append_assoc, append-nil, arith}
+use Rattle.std.proofs.Common.{◌≡◌, ◌∙◌, sym, ap, subst, refl, ℕ, List, [], ◌∷◌, ◌++◌, ◌+◌, length, map, zip, slice_get, Some, Result, Ok, Err, IfOk, append_assoc, append-nil, arith}
 use Rattle.std.proofs.lemmas.List.{length-append, length-map}
 use Rattle.std.proofs.lemmas.Option.{slice_get_within}
 use Rattle.std.specs.List.{AllZip}
+use Rattle.std.specs.declared.alloc.AllocError.{AllocError}
 use Rattle.saphyr_scalar.specs.declared.scalar.position.Span.{Span}
 use Rattle.saphyr_parser.specs.Events.{Happening, DocumentStart, DocumentEnd}
 use Rattle.saphyr_parser.specs.Nesting.{happenings}
@@ -13,8 +14,8 @@ use Rattle.yaml_tree.specs.declared.spans.SpannedDocuments.{SpannedDocuments}
 use Rattle.yaml_tree.specs.declared.table.NodeTable.{NodeTable}
 use Rattle.yaml_tree.specs.declared.table.Root.{Root}
 use Rattle.yaml_tree.specs.Expanding.{nodes_once_expanded}
-use Rattle.yaml_tree.specs.Numbering.{Placed, FitDocuments, FitNode, IsRootOf, IsTableOf}
-use Rattle.yaml_tree.specs.Spanning.{AreSpanned, IsSpannedStream, all_spans, places_of_events}
+use Rattle.yaml_tree.specs.Numbering.{Placed, FitDocuments, FitNode, IsRootOf, IsTableOf, IsTableOfOne}
+use Rattle.yaml_tree.specs.Spanning.{AreSpanned, IsSpannedDocument, IsSpannedStream, all_spans, places_of_events}
 use Rattle.yaml_tree.specs.Unloading.{document_events, node_events}
 use Rattle.yaml_tree.specs.NumberingSeen.{HasNumbered}
 use Rattle.yaml_tree.proofs.NumberedEntries.{zip_append}
@@ -113,3 +114,19 @@ fits_each (d ∷ ds) (s ∷ ss) events h = (fits_one d s h.0 h.3 h.4, fits_each 
 pub fits_stream : (s : SpannedDocuments) (events : List (Happening × Span))
     → IsSpannedStream s.documents.items (map all_spans s.spans.items) events → FitDocuments s
 fits_stream s events h = fits_each s.documents.items s.spans.items h.inner h.spanned
+
+-- ## One document
+
+fits_alone : (d : Document) (own : DocumentSpans) (s : SpannedDocuments) → s.documents.items ≡ d ∷ []
+    → s.spans.items ≡ own ∷ [] → Fit d own → FitDocuments s
+fits_alone d own s ds ss fits = rw (ds, ss) (fits, tt)
+
+pub table_of_one : (d : Document) (own : DocumentSpans) (s : SpannedDocuments) (r : Result NodeTable AllocError)
+    → s.documents.items ≡ d ∷ [] → s.spans.items ≡ own ∷ [] → IfOk r (λ t. FitDocuments s → IsTableOf s t)
+    → IfOk r (λ t. Fit d own → IsTableOfOne d own t)
+table_of_one d own s (Ok t) ds ss made = λ fits. (s, ds, ss, made (fits_alone d own s ds ss fits))
+table_of_one d own s (Err f) ds ss made = tt
+
+pub fits_spanned : (d : Document) (own : DocumentSpans) (all left : List (Happening × Span))
+    → IsSpannedDocument d (all_spans own) all left → Fit d own
+fits_spanned d own all left h = fits_one d own h.own h.events h.places

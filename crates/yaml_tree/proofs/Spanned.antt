@@ -1,5 +1,5 @@
 -- The spans that were kept are those of the documents' events.
-use Rattle.std.proofs.Common.{◌≡◌, Bool, List, [], ◌∷◌, ◌++◌, refl, sym, ap, subst, ◌∙◌, append_assoc, append-nil}
+use Rattle.std.proofs.Common.{◌≡◌, Bool, List, [], ◌∷◌, ◌++◌, refl, sym, ap, subst, ◌∙◌, append_assoc, append-nil, inl, inr}
 use Rattle.std.specs.List.{flat_map}
 use Rattle.std.proofs.lemmas.List.{map-append}
 use Rattle.saphyr_scalar.specs.declared.scalar.position.Span.{Span}
@@ -7,7 +7,8 @@ use Rattle.saphyr_parser.specs.Events.{Happening, Nothing, StreamStart, StreamEn
 use Rattle.saphyr_parser.specs.Nesting.{happenings}
 use Rattle.yaml_tree.specs.declared.document.Document.{Document}
 use Rattle.yaml_tree.specs.Unloading.{node_events, document_events, unload}
-use Rattle.yaml_tree.specs.Spanning.{KeptSpans, with_node_span, kept_behind, kept_behind_all, places_of_events, IsNodeEvent, AreNodeEvents, AreSpanned, IsSpannedStream}
+use Rattle.yaml_tree.specs.DocumentLoading.{AtMost}
+use Rattle.yaml_tree.specs.Spanning.{IsSpannedDocument, KeptSpans, with_node_span, kept_behind, kept_behind_all, places_of_events, IsNodeEvent, AreNodeEvents, AreSpanned, IsSpannedStream}
 use Rattle.yaml_tree.proofs.NodeEvents.{have_node_events}
 
 -- ## Events by what they tell
@@ -149,6 +150,36 @@ keeps_document d es k given none =
     keeps_one es end.front d.explicit start.span end.span k
     (start.split ∙ ap (λ (l : List (Happening × Span)). (DocumentStart d.explicit, start.span) ∷ l) end.split)
     (subst AreNodeEvents (sym end.front_given) (have_node_events d.root)) none
+
+-- The spans of the next document, which was passed with at most the stream's start.
+pub record KeepsNext (d : Document) (all left : List (Happening × Span)) (kept : KeptSpans) : Type 0 where
+  pub spans : List Span
+  pub ended : kept.ended ≡ spans ∷ []
+  pub spanned : IsSpannedDocument d spans all left
+
+keeps_behind : (d : Document) (front own all left : List (Happening × Span)) (kept first : KeptSpans)
+    → AtMost StreamStart (happenings front) → happenings own ≡ document_events d → all ≡ front ++ (own ++ left)
+    → kept ≡ kept_behind_all own first → first.ended ≡ [] → first.nodes ≡ [] → KeepsNext d all left kept
+keeps_behind d front own all left kept first at given split is none_ended none_open = record {
+  spans = places_of_events own;
+  ended = ap (λ (k : KeptSpans). k.ended) is ∙ (keeps_document d own first given none_open).ended
+      ∙ ap (λ (l : List (List Span)). l ++ places_of_events own ∷ []) none_ended;
+  spanned = record { front = front; own = own; split = split; first = at; events = given; places = refl };
+}
+
+pub keeps_next : (d : Document) (start : List Happening) (passed all left : List (Happening × Span))
+    (kept first : KeptSpans) → AtMost StreamStart start → happenings passed ≡ start ++ document_events d
+    → all ≡ passed ++ left → kept ≡ kept_behind_all passed first → first.ended ≡ [] → first.nodes ≡ []
+    → KeepsNext d all left kept
+keeps_next d start passed all left kept first (inl none) given split is none_ended none_open =
+    keeps_behind d [] passed all left kept first (inl refl)
+    (given ∙ ap (λ (hs : List Happening). hs ++ document_events d) none) split is none_ended none_open
+keeps_next d start passed all left kept first (inr one) given split is none_ended none_open =
+    let begin = first_event passed StreamStart (document_events d)
+    (given ∙ ap (λ (hs : List Happening). hs ++ document_events d) one) in
+    keeps_behind d ((StreamStart, begin.span) ∷ []) begin.others all left kept first (inr refl) begin.others_given
+    (split ∙ ap (λ (es : List (Happening × Span)). es ++ left) begin.split)
+    (is ∙ ap (λ (es : List (Happening × Span)). kept_behind_all es first) begin.split) none_ended none_open
 
 -- ## Documents
 

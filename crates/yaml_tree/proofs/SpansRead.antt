@@ -1,10 +1,9 @@
 -- A loader keeps the spans of the events that it takes.
-use Rattle.std.proofs.Common.{◌≡◌, ◌++◌, [], ◌∷◌, map, Result, Ok, Err, IfOk, refl, sym, ap, subst, ◌∙◌, append-nil, inl, inr}
+use Rattle.std.proofs.Common.{◌≡◌, ◌++◌, List, [], ◌∷◌, map, Result, Ok, Err, IfOk, refl, sym, ap, subst, ◌∙◌, append_assoc, append-nil, inl, inr}
 use Rattle.saphyr_scalar.specs.declared.scalar.position.Span.{Span}
 use Rattle.saphyr_parser.specs.Events.{Happening}
 use Rattle.saphyr_parser.specs.Answer.{Answer, OutOfMemory, empty_answer, with_first_event}
 use Rattle.saphyr_parser.specs.Cursor.{EventCursor, Stays}
-use Rattle.saphyr_parser.specs.Nesting.{happenings}
 use Rattle.yaml_tree.specs.declared.fault.TreeFault.{TreeFault}
 use Rattle.yaml_tree.specs.declared.fault.TreeFault.TheVariants as fault
 use Rattle.yaml_tree.specs.declared.tally.Limits.{Limits}
@@ -12,43 +11,41 @@ use Rattle.yaml_tree.specs.declared.spans.SpanKeeper.{SpanKeeper}
 use Rattle.yaml_tree.specs.declared.spans.SpannedDocuments.{SpannedDocuments}
 use Rattle.yaml_tree.specs.declared.spanned_loading.SpannedLoader.{SpannedLoader}
 use Rattle.yaml_tree.specs.BuilderSeen.{Finishes}
-use Rattle.yaml_tree.specs.LoaderSeen.{HasTaken}
 use Rattle.yaml_tree.specs.Loading.{TakesAll}
 use Rattle.yaml_tree.specs.Leaving.{LeavesParser}
 use Rattle.yaml_tree.specs.Spanning.{KeptSpans, IsSpannedStream, all_spans, kept_behind, kept_behind_all}
-use Rattle.yaml_tree.specs.KeeperSeen.{kept_spans, documents_of}
+use Rattle.yaml_tree.specs.KeeperSeen.{KeepsTaken, kept_spans, documents_of}
 use Rattle.yaml_tree.proofs.Loads.{some_fault}
-use Rattle.yaml_tree.proofs.DocumentRead.{AnyEvents, HasRead, reads_nothing, reads_on}
 use Rattle.yaml_tree.proofs.Spanned.{kept_behind_all-append, keeps_stream}
 
 -- ## Event after event
 
--- a loader has taken events and kept their spans, and the others are left
-pub record KeepsRead (limits : Limits) (all left : Answer) (first : SpanKeeper) (l : SpannedLoader) : Type 0 where
-  pub read : HasRead limits all left l.loader
-  pub kept : kept_spans l.keeper ≡ kept_behind_all read.taken (kept_spans first)
+pub keeps_none : (all : Answer) (k : SpanKeeper) → KeepsTaken all all k k
+keeps_none all k = record { taken = []; split = refl; kept = refl }
 
-pub keeps_none : (limits : Limits) (all : Answer) (l : SpannedLoader) → HasTaken limits [] l.loader
-    → KeepsRead limits all all l.keeper l
-unfolding reads_nothing
-keeps_none limits all l h = record { read = reads_nothing AnyEvents limits [] all l.loader tt h; kept = refl }
-
-pub keeps_more : (limits : Limits) (all a b : Answer) (e : Happening × Span) (first : SpanKeeper)
-    (old new : SpannedLoader) (r : KeepsRead limits all a first old) → a ≡ with_first_event e b
-    → HasTaken limits (happenings r.read.taken ++ e.0 ∷ []) new.loader
-    → kept_spans new.keeper ≡ kept_behind e.0 e.1 (kept_spans old.keeper) → KeepsRead limits all b first new
-unfolding reads_on
-keeps_more limits all a b e first old new r h t k = record {
-  read = reads_on AnyEvents limits [] all a b e old.loader new.loader r.read h tt t;
-  kept = k ∙ ap (kept_behind e.0 e.1) r.kept
-      ∙ sym (kept_behind_all-append r.read.taken (e ∷ []) (kept_spans first));
+pub keeps_both : (all mid left : Answer) (first old new : SpanKeeper) → KeepsTaken all mid first old
+    → KeepsTaken mid left old new → KeepsTaken all left first new
+keeps_both all mid left first old new r t = record {
+  taken = r.taken ++ t.taken;
+  split = r.split ∙ ap (λ (es : List (Happening × Span)). r.taken ++ es) t.split
+      ∙ sym (append_assoc r.taken t.taken left.events);
+  kept = t.kept ∙ ap (kept_behind_all t.taken) r.kept
+      ∙ sym (kept_behind_all-append r.taken t.taken (kept_spans first));
 }
 
-pub keeps_all : (limits : Limits) (all a : Answer) (first : SpanKeeper) (l : SpannedLoader)
-    → KeepsRead limits all a first l → a ≡ empty_answer
-    → kept_spans l.keeper ≡ kept_behind_all all.events (kept_spans first)
-keeps_all limits all a first l r e =
-    let taken = r.read.split ∙ ap (λ (x : Answer). r.read.taken ++ x.events) e ∙ append-nil r.read.taken in
+pub keeps_more : (all a b : Answer) (e : Happening × Span) (first old new : SpanKeeper) → KeepsTaken all a first old
+    → a ≡ with_first_event e b → kept_spans new ≡ kept_behind e.0 e.1 (kept_spans old) → KeepsTaken all b first new
+keeps_more all a b e first old new r h k = keeps_both all a b first old new r
+    (record { taken = e ∷ []; split = ap (λ (x : Answer). x.events) h; kept = k })
+
+pub keeps_rest : (all a b : Answer) (first k : SpanKeeper) → KeepsTaken all a first k → a ≡ empty_answer
+    → b ≡ empty_answer → KeepsTaken all b first k
+keeps_rest all a b first k r e f = subst (λ (x : Answer). KeepsTaken all x first k) (e ∙ sym f) r
+
+pub keeps_all : (all left : Answer) (first k : SpanKeeper) → KeepsTaken all left first k → left ≡ empty_answer
+    → kept_spans k ≡ kept_behind_all all.events (kept_spans first)
+keeps_all all left first k r e =
+    let taken = r.split ∙ ap (λ (x : Answer). r.taken ++ x.events) e ∙ append-nil r.taken in
     r.kept ∙ ap (λ es. kept_behind_all es (kept_spans first)) (sym taken)
 
 -- ## The documents

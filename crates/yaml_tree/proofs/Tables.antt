@@ -16,8 +16,8 @@ use Rattle.yaml_tree.specs.declared.table.Entry.{Entry}
 use Rattle.yaml_tree.specs.declared.table.NodeTable.{NodeTable}
 use Rattle.yaml_tree.specs.Accessing.{text_of_node, anchor_of_node, first_value, value_at_key}
 use Rattle.yaml_tree.specs.Following.{at_step}
-use Rattle.yaml_tree.specs.Numbering.{Placed, HasNodes, HasParts, IsContentOf, IsEntryOf, IsNodeAt, Leads, anchor_in, both_parts, count_in, count_of_parts, numbered_node, nodes_of, pairs_in, text_of_scalar}
-use Rattle.yaml_tree.proofs.PartNumbers.{counts_parts, counts_pairs, has_part, key_of, value_of}
+use Rattle.yaml_tree.specs.Numbering.{Placed, HasNodes, HasNumber, HasParts, IsContentOf, IsEntryOf, IsNodeAt, Leads, anchor_in, both_parts, count_in, count_of_parts, nodes_of, pairs_in, text_of_scalar}
+use Rattle.yaml_tree.proofs.PartNumbers.{counts_parts, counts_pairs, has_part, key_of, some_get, value_of}
 
 -- ## A node's content
 
@@ -51,57 +51,61 @@ gives_count all (content.Mapping id tag parts) node (v, is, h) =
     let given : count_of_parts (Map id tag v) ≡ length v.items = search (rules, the_lemmas) in
     half parts.count (length v.items) (counts_pairs parts v.items all h) ∙ sym (ap count_of_parts is ∙ given)
 
-none_in_alias : (id : ℕ) (step : Step) → None ≡ at_step step (Alias id)
+none_in_alias : (id : ℕ) (step : Step) → at_step step (Alias id) ≡ None
 none_in_alias id (Index i) = search (rules, the_lemmas)
 none_in_alias id (Key i) = search (rules, the_lemmas)
 none_in_alias id (Value i) = search (rules, the_lemmas)
 
 none_in_scalar : (text : String Global) (style : ScalarStyle) (id : ℕ) (tag : Option Tag) (step : Step)
-    → None ≡ at_step step (Scalar text style id tag)
+    → at_step step (Scalar text style id tag) ≡ None
 none_in_scalar text style id tag (Index i) = search (rules, the_lemmas)
 none_in_scalar text style id tag (Key i) = search (rules, the_lemmas)
 none_in_scalar text style id tag (Value i) = search (rules, the_lemmas)
 
+-- nothing has no number
+pub numbers_none : (all : List Placed) (found : Option Node) (r : Option ℕ) → found ≡ None → r ≡ None
+    → HasNumber all found r
+numbers_none all found r none e = subst (HasNumber all found) (sym e) none
+
 -- the part to which a step leads
 pub leads_there : (all : List Placed) (x : Content) (node : Node) (step : Step) (r : Option ℕ) → IsContentOf all x node
-    → Leads all x step r → numbered_node all r ≡ at_step step node
+    → Leads all x step r → HasNumber all (at_step step node) r
 leads_there all (content.Alias id) node step r is e =
-    ap (numbered_node all) e ∙ none_in_alias id step ∙ ap (at_step step) (sym is)
+    numbers_none all _ r (ap (at_step step) is ∙ none_in_alias id step) e
 leads_there all (content.Scalar text style id tag) node step r is e =
-    ap (numbered_node all) e ∙ none_in_scalar _ _ id tag step ∙ ap (at_step step) (sym is)
+    numbers_none all _ r (ap (at_step step) is ∙ none_in_scalar text style id tag step) e
 leads_there all (content.Sequence id tag parts) node (Index i) r (v, is, h) leads =
     let given : slice_get v.items i ≡ at_step (Index i) (Seq id tag v) = search (rules, the_lemmas) in
-    leads v.items h ∙ given ∙ ap (at_step (Index i)) (sym is)
+    subst (λ (o : Option Node). HasNumber all o r) (given ∙ ap (at_step (Index i)) (sym is)) (leads v.items h)
 leads_there all (content.Sequence id tag parts) node (Key i) r (v, is, h) e =
-    let given : None ≡ at_step (Key i) (Seq id tag v) = search (rules, the_lemmas) in
-    ap (numbered_node all) e ∙ given ∙ ap (at_step (Key i)) (sym is)
+    let given : at_step (Key i) (Seq id tag v) ≡ None = search (rules, the_lemmas) in
+    numbers_none all _ r (ap (at_step (Key i)) is ∙ given) e
 leads_there all (content.Sequence id tag parts) node (Value i) r (v, is, h) e =
-    let given : None ≡ at_step (Value i) (Seq id tag v) = search (rules, the_lemmas) in
-    ap (numbered_node all) e ∙ given ∙ ap (at_step (Value i)) (sym is)
+    let given : at_step (Value i) (Seq id tag v) ≡ None = search (rules, the_lemmas) in
+    numbers_none all _ r (ap (at_step (Value i)) is ∙ given) e
 leads_there all (content.Mapping id tag parts) node (Index i) r (v, is, h) e =
-    let given : None ≡ at_step (Index i) (Map id tag v) = search (rules, the_lemmas) in
-    ap (numbered_node all) e ∙ given ∙ ap (at_step (Index i)) (sym is)
+    let given : at_step (Index i) (Map id tag v) ≡ None = search (rules, the_lemmas) in
+    numbers_none all _ r (ap (at_step (Index i)) is ∙ given) e
 leads_there all (content.Mapping id tag parts) node (Key i) r (v, is, h) leads =
     let given : option_map (λ (pair : Node × Node). pair.0) (slice_get v.items i) ≡ at_step (Key i) (Map id tag v) =
     search (rules, the_lemmas) in
-    leads v.items h ∙ given ∙ ap (at_step (Key i)) (sym is)
+    subst (λ (o : Option Node). HasNumber all o r) (given ∙ ap (at_step (Key i)) (sym is)) (leads v.items h)
 leads_there all (content.Mapping id tag parts) node (Value i) r (v, is, h) leads =
     let given : option_map (λ (pair : Node × Node). pair.1) (slice_get v.items i) ≡ at_step (Value i) (Map id tag v) =
     search (rules, the_lemmas) in
-    leads v.items h ∙ given ∙ ap (at_step (Value i)) (sym is)
+    subst (λ (o : Option Node). HasNumber all o r) (given ∙ ap (at_step (Value i)) (sym is)) (leads v.items h)
 
 -- the value of a key is one of the pairs
 pub no_pairs : (key : List ℕ) (all : List Placed) (x : Content) (node : Node) → IsContentOf all x node
-    → pairs_in x ≡ None → None ≡ value_at_key key node
+    → pairs_in x ≡ None → value_at_key key node ≡ None
 no_pairs key all (content.Alias id) node is e =
-    let given : None ≡ value_at_key key (Alias id) = search (rules, the_lemmas) in given
-    ∙ ap (value_at_key key) (sym is)
+    let given : value_at_key key (Alias id) ≡ None = search (rules, the_lemmas) in ap (value_at_key key) is ∙ given
 no_pairs key all (content.Scalar text style id tag) node is e =
-    let given : None ≡ value_at_key key (Scalar text style id tag) = search (rules, the_lemmas) in
-    given ∙ ap (value_at_key key) (sym is)
+    let given : value_at_key key (Scalar text style id tag) ≡ None = search (rules, the_lemmas) in
+    ap (value_at_key key) is ∙ given
 no_pairs key all (content.Sequence id tag parts) node (v, is, h) e =
-    let given : None ≡ value_at_key key (Seq id tag v) = search (rules, the_lemmas) in
-    given ∙ ap (value_at_key key) (sym is)
+    let given : value_at_key key (Seq id tag v) ≡ None = search (rules, the_lemmas) in
+    ap (value_at_key key) is ∙ given
 no_pairs key all (content.Mapping id tag parts) node (v, is, h) e = cc
 
 pub has_pairs : (key : List ℕ) (all : List Placed) (x : Content) (node : Node) (parts : Parts) → IsContentOf all x node
@@ -160,11 +164,6 @@ pub record PairAt (parts : Parts) (pairs : List (Node × Node)) (all : List Plac
   pub is : pair ≡ get_or pairs i pair
   pub key : IsNodeAt all (parts.first + 2 * i) pair.0
   pub value : IsNodeAt all (parts.first + 2 * i + 1) pair.1
-
-some_get : {X : Type 0} (xs : List X) (i : ℕ) → i < length xs → (x : X) × (slice_get xs i ≡ Some x) × (get_or xs i x ≡ x)
-some_get [] i h = absurd (omega arith)
-some_get (x ∷ xs) zero h = (x, refl, refl)
-some_get (x ∷ xs) (suc i) h = some_get xs i (omega arith)
 
 pub pair_there : (parts : Parts) (pairs : List (Node × Node)) (all : List Placed) (i : ℕ)
     → HasParts parts (both_parts pairs) all → i < parts.count / 2 → PairAt parts pairs all i

@@ -2,7 +2,6 @@
 use Rattle.std.specs.Prelude.{◌≡◌, ◌⊎◌, ℕ, ◌/◌, List, [], ◌∷◌, ◌++◌, length, map, zip, slice_get, Option, Some, None, option_map, Result, Ok, Err, Vec, string_bytes}
 use Rattle.std.specs.Global.{Global}
 use Rattle.std.specs.List.{AllZip, flat_map}
-use Rattle.std.specs.Option.{option_and_then}
 use Rattle.saphyr_scalar.specs.declared.scalar.position.Span.{Span}
 use Rattle.saphyr_parser.specs.Answer.{Answer, empty_answer}
 use Rattle.yaml_tree.specs.declared.node.Node.{Node, out-Node, Alias, Scalar, Seq, Map}
@@ -24,7 +23,8 @@ use Rattle.yaml_tree.specs.declared.paths.Step.TheVariants.{Index, Key, Value}
 use Rattle.yaml_tree.specs.Accessing.{anchor_of_node, some_anchor}
 use Rattle.yaml_tree.specs.Expanding.{nodes_once_expanded}
 use Rattle.yaml_tree.specs.Loading.{LoadsDocuments}
-use Rattle.yaml_tree.specs.Spanning.{IsSpannedStream, all_spans}
+use Rattle.yaml_tree.specs.DocumentLoading.{LoadsDocument}
+use Rattle.yaml_tree.specs.Spanning.{IsSpannedDocument, IsSpannedStream, all_spans}
 use Rattle.yaml_tree.specs.Unloading.{node_events}
 
 -- ## What a table has
@@ -102,9 +102,13 @@ FitDocuments s = AllZip (λ (d : Document) (own : DocumentSpans). FitNode own.no
 
 -- ## What a content tells
 
--- the node with a number, if there is a number
-abbrev pub numbered_node : List Placed → Option ℕ → Option Node
-numbered_node all number = option_and_then (slice_get (nodes_of all)) number
+abbrev pub IsNodeAt : List Placed → ℕ → Node → Type 0
+IsNodeAt all number node = slice_get (nodes_of all) number ≡ Some node
+
+-- the node has this number, or there is neither
+abbrev pub HasNumber : List Placed → Option Node → Option ℕ → Type 0
+HasNumber all found (Some number) = (node : Node) × (found ≡ Some node) × IsNodeAt all number node
+HasNumber all found None = found ≡ None
 
 -- the text of a scalar
 abbrev pub text_of_scalar : Content → Option (List ℕ)
@@ -132,19 +136,20 @@ pairs_in _ = None
 -- this is the number of the part to which a step leads
 abbrev pub Leads : List Placed → Content → Step → Option ℕ → Type 0
 Leads all (content.Sequence id tag parts) (Index n) result =
-    (nodes : List Node) → HasParts parts nodes all → numbered_node all result ≡ slice_get nodes n
+    (nodes : List Node) → HasParts parts nodes all → HasNumber all (slice_get nodes n) result
 Leads all (content.Mapping id tag parts) (Key n) result = (pairs : List (Node × Node))
     → HasParts parts (both_parts pairs) all
-    → numbered_node all result ≡ option_map (λ (pair : Node × Node). pair.0) (slice_get pairs n)
+    → HasNumber all (option_map (λ (pair : Node × Node). pair.0) (slice_get pairs n)) result
 Leads all (content.Mapping id tag parts) (Value n) result = (pairs : List (Node × Node))
     → HasParts parts (both_parts pairs) all
-    → numbered_node all result ≡ option_map (λ (pair : Node × Node). pair.1) (slice_get pairs n)
+    → HasNumber all (option_map (λ (pair : Node × Node). pair.1) (slice_get pairs n)) result
 Leads all _ _ result = result ≡ None
 
 -- ## What a table tells
 
-abbrev pub IsNodeAt : List Placed → ℕ → Node → Type 0
-IsNodeAt all number node = slice_get (nodes_of all) number ≡ Some node
+-- no node has this number
+abbrev pub HasNoNode : ℕ → NodeTable → Type 0
+HasNoNode number table = slice_get table.entries.items number ≡ None
 
 abbrev pub count_in_layer : Node-F Node → ℕ
 count_in_layer (Node-F.Seq id tag nodes) = length nodes.items
@@ -168,3 +173,17 @@ LoadsTable limits (Ok table) all left = (s : SpannedDocuments) × LoadsDocuments
     × IsSpannedStream s.documents.items (map all_spans s.spans.items) all.events × IsTableOf s table
 LoadsTable limits (Err f) all left =
     LoadsDocuments limits (Err f) all left ⊎ ((f ≡ fault.OutOfMemory) × (left ≡ empty_answer))
+
+-- a table of this document alone
+abbrev pub IsTableOfOne : Document → DocumentSpans → NodeTable → Type 0
+IsTableOfOne document spans table = (s : SpannedDocuments) × (s.documents.items ≡ document ∷ [])
+    × (s.spans.items ≡ spans ∷ []) × IsTableOf s table
+
+-- The same of the next document. Where memory runs out for its table, it was passed.
+abbrev pub LoadsNextTable : Limits → Result (Option NodeTable) TreeFault → Answer → Answer → Type 0
+LoadsNextTable limits (Ok (Some table)) all left = (document : Document) × (spans : DocumentSpans)
+    × LoadsDocument limits (Ok (Some document)) all left
+    × IsSpannedDocument document (all_spans spans) all.events left.events × IsTableOfOne document spans table
+LoadsNextTable limits (Ok None) all left = LoadsDocument limits (Ok None) all left
+LoadsNextTable limits (Err f) all left = LoadsDocument limits (Err f) all left
+    ⊎ ((f ≡ fault.OutOfMemory) × (document : Document) × LoadsDocument limits (Ok (Some document)) all left)

@@ -5,6 +5,7 @@ use Rattle.saphyr_parser.specs.Events.{Happening, Nothing, StreamStart, StreamEn
 use Rattle.saphyr_parser.specs.Nesting.{happenings}
 use Rattle.yaml_tree.specs.declared.document.Document.{Document}
 use Rattle.yaml_tree.specs.declared.spans.DocumentSpans.{DocumentSpans}
+use Rattle.yaml_tree.specs.DocumentLoading.{AtMost}
 use Rattle.yaml_tree.specs.Unloading.{document_events}
 
 -- events by their spans alone
@@ -32,6 +33,17 @@ pub record IsSpannedStream (documents : List Document) (spans : List (List Span)
   pub last : Span
   pub split : events ≡ (StreamStart, first) ∷ (inner ++ (StreamEnd, last) ∷ [])
   pub spanned : AreSpanned documents spans inner
+
+-- These are the next events, up to the document's end: at most the stream's start, and the document's, which have these
+-- spans.
+pub record IsSpannedDocument (document : Document) (spans : List Span) (all left : List (Happening × Span))
+    : Type 0 where
+  pub front : List (Happening × Span)
+  pub own : List (Happening × Span)
+  pub split : all ≡ front ++ (own ++ left)
+  pub first : AtMost StreamStart (happenings front)
+  pub events : happenings own ≡ document_events document
+  pub places : places_of_events own ≡ spans
 
 -- ## Spans that are kept
 

@@ -39,7 +39,7 @@ pub fn load_document<'input, T: Input>(
 }
 
 // The place of a parser.
-enum Place {
+pub(crate) enum Place {
     // The stream's start comes next.
     BeforeStream,
     // A document comes next, or the stream's end, or a fault, or nothing.
@@ -48,7 +48,7 @@ enum Place {
     Inside,
 }
 
-fn find_place<'input, T: Input>(parser: &mut Parser<'input, T>) -> Place
+pub(crate) fn find_place<'input, T: Input>(parser: &mut Parser<'input, T>) -> Place
     ensures stands { FindsPlace result (to_come parser.old) (to_come parser.new) }
     ensures looks { Looks parser.old parser.new }
 {

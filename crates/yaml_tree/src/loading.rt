@@ -55,7 +55,7 @@ pub(crate) fn is_at_start<'input, T: Input>(parser: &mut Parser<'input, T>) -> b
 }
 
 // Whether a document ends with the event.
-fn ends_document(event: &Event) -> bool
+pub(crate) fn ends_document(event: &Event) -> bool
     ensures { IsTrue result ↔ happening event.now ≡ DocumentEnd }
 {
     matches!(event, Event::DocumentEnd)

@@ -2,7 +2,7 @@
 ghost use Rattle.std.specs.Prelude.{◌≡◌, ◌++◌, ◌∷◌, [], List, IfOk, OnOk, Some, length, slice_get};
 ghost use Rattle.saphyr_scalar.specs.declared.scalar.position.Span.{Span as Place};
 ghost use Rattle.saphyr_parser.specs.Cursor.{to_come};
-ghost use Rattle.yaml_tree.specs.Numbering.{FitDocuments, FitNode, IsTableOf, LoadsTable};
+ghost use Rattle.yaml_tree.specs.Numbering.{FitDocuments, FitNode, IsTableOf, IsTableOfOne, LoadsNextTable, LoadsTable};
 ghost use Rattle.yaml_tree.specs.Numbering.{Placed, both_parts};
 ghost use Rattle.yaml_tree.specs.declared.numbering.Task.TheVariants as TheTask;
 ghost use Rattle.yaml_tree.specs.NumberingSeen.{FinishesNode, GoesOn, HasNumbered, IsNumbering};
@@ -12,8 +12,9 @@ use crate::document::Document;
 use crate::fault::TreeFault;
 use crate::node::{Layer, Node};
 use crate::parts::Parts;
+use crate::spanned_document::load_document_with_spans;
 use crate::spanned_loading::load_documents_with_spans;
-use crate::spans::SpannedDocuments;
+use crate::spans::{DocumentSpans, SpannedDocuments};
 use crate::table::{Content, Entry, NodeTable, Root};
 use crate::tally::Limits;
 use saphyr_parser::{Input, Parser, Span, Tag};
@@ -33,6 +34,25 @@ pub fn load_table<'input, T: Input>(
             Ok(table) => Ok(table),
             Err(_) => Err(TreeFault::OutOfMemory),
         },
+        Err(fault) => Err(fault),
+    }
+}
+
+/// Loads the next document as `load_document_with_spans` does, as one list of nodes. After the last one it returns
+/// `Ok(None)`.
+pub fn load_next_table<'input, T: Input>(
+    alloc: Global,
+    parser: &mut Parser<'input, T>,
+    limits: Limits,
+) -> Result<Option<NodeTable>, TreeFault>
+    ensures { LoadsNextTable limits result (to_come parser.old) (to_come parser.new) }
+{
+    match load_document_with_spans(alloc, parser, limits) {
+        Ok(Some((document, spans))) => match NodeTable::of_one(alloc, document, spans) {
+            Ok(table) => Ok(Some(table)),
+            Err(_) => Err(TreeFault::OutOfMemory),
+        },
+        Ok(None) => Ok(None),
         Err(fault) => Err(fault),
     }
 }
@@ -66,6 +86,28 @@ impl NodeTable {
             entries: Vec::new(alloc),
             roots: Vec::new(alloc),
         }
+    }
+
+    // A table of this document.
+    fn of_one(
+        alloc: Global,
+        document: Document,
+        spans: DocumentSpans,
+    ) -> Result<NodeTable, AllocError>
+        ensures { IfOk result (λ table. FitNode spans.nodes.items document.root
+            → IsTableOfOne document spans table) }
+    {
+        let mut documents = Vec::new(alloc);
+        documents.push(document)?;
+        let mut own = Vec::new(alloc);
+        own.push(spans)?;
+        NodeTable::of(
+            alloc,
+            SpannedDocuments {
+                documents,
+                spans: own,
+            },
+        )
     }
 
     // A table of these documents.

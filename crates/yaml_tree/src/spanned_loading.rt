@@ -1,16 +1,18 @@
 //! Documents and the spans of their events (YAML 1.2.2, 3.1.2).
 ghost use Rattle.std.specs.Prelude.{◌≡◌, List, [], ◌∷◌, ◌++◌, map, IfOk, OnOk};
-ghost use Rattle.saphyr_parser.specs.Events.{Happening};
+ghost use Rattle.saphyr_parser.specs.Events.{Happening, StreamStart};
 ghost use Rattle.saphyr_parser.specs.Views.Events.{happening};
 ghost use Rattle.saphyr_parser.specs.Cursor.{to_come};
 ghost use Rattle.yaml_tree.specs.Spanning.{IsSpannedStream, all_spans, kept_behind, kept_behind_all};
-ghost use Rattle.yaml_tree.specs.KeeperSeen.{kept_spans, documents_of};
+ghost use Rattle.yaml_tree.specs.DocumentSeen.{LeavesPart, Shrinks, TakesPart};
+ghost use Rattle.yaml_tree.specs.KeeperSeen.{HandsOutLast, HasKeptNone, KeepsTaken, kept_spans, documents_of};
 ghost use Rattle.yaml_tree.specs.Loading.{LoadsDocuments, TakesAll};
 ghost use Rattle.yaml_tree.specs.Leaving.{LeavesParser, LeavesFrom};
 
+use crate::document::Document;
 use crate::fault::TreeFault;
-use crate::loading::{Loader, is_at_start};
-use crate::spans::{SpanKeeper, SpannedDocuments};
+use crate::loading::{Loader, ends_document, is_at_start};
+use crate::spans::{DocumentSpans, SpanKeeper, SpannedDocuments};
 use crate::tally::Limits;
 use saphyr_parser::law::hands_out_what_comes;
 use saphyr_parser::{Event, Input, Parser, Span};
@@ -46,22 +48,32 @@ pub fn load_documents_with_spans<'input, T: Input>(
 
 // A loader, and the spans of what it has taken.
 #[derive(Drop)]
-struct SpannedLoader {
-    loader: Loader,
-    keeper: SpanKeeper,
+pub(crate) struct SpannedLoader {
+    pub(crate) loader: Loader,
+    pub(crate) keeper: SpanKeeper,
 }
 
 impl SpannedLoader {
     ghost use Rattle.yaml_tree.specs.LoaderSeen.{HasTaken, TakesLast};
     ghost use Rattle.yaml_tree.specs.BuilderSeen.{Finishes};
 
-    fn new(alloc: Global, limits: Limits) -> SpannedLoader
+    pub(crate) fn new(alloc: Global, limits: Limits) -> SpannedLoader
         ensures loader { HasTaken limits [] result.loader }
-        ensures ended { (kept_spans result.keeper).ended ≡ [] }
-        ensures nodes { (kept_spans result.keeper).nodes ≡ [] }
+        ensures keeper { HasKeptNone result.keeper }
     {
         SpannedLoader {
             loader: Loader::new(alloc, limits),
+            keeper: SpanKeeper::new(alloc),
+        }
+    }
+
+    // A loader that has taken the stream's start.
+    pub(crate) fn in_stream(alloc: Global, limits: Limits) -> SpannedLoader
+        ensures loader { HasTaken limits (StreamStart ∷ []) result.loader }
+        ensures keeper { HasKeptNone result.keeper }
+    {
+        SpannedLoader {
+            loader: Loader::in_stream(alloc, limits),
             keeper: SpanKeeper::new(alloc),
         }
     }
@@ -80,13 +92,38 @@ impl SpannedLoader {
             → LeavesFrom result parser.old parser.new }
     {
         hands_out_what_comes();
+        while self.take_document(parser)? {}
+        Ok(())
+    }
+
+    // Takes events up to the end of a document. Returns whether a document ended; if not, the stream has.
+    pub(crate) fn take_document<'input, T: Input>(
+        &mut self,
+        parser: &mut Parser<'input, T>,
+    ) -> Result<bool, TreeFault>
+        ensures takes { (limits : Limits) (before : List Happening)
+            → HasTaken limits before self.old.loader → TakesPart limits before result
+            (to_come parser.old) (to_come parser.new) self.new.loader }
+        ensures keeps { OnOk result (KeepsTaken (to_come parser.old) (to_come parser.new)
+            self.old.keeper self.new.keeper) }
+        ensures shrinks { Shrinks result (to_come parser.old) (to_come parser.new) }
+        ensures leaves { (limits : Limits) (before : List Happening)
+            → HasTaken limits before self.old.loader → LeavesPart result parser.old parser.new }
+    {
+        hands_out_what_comes();
         while let Some(read) = parser.next_event() {
             match read {
-                Ok((event, span)) => self.take(event, span)?,
+                Ok((event, span)) => {
+                    let last = ends_document(&event);
+                    self.take(event, span)?;
+                    if last {
+                        return Ok(true);
+                    }
+                }
                 Err(fault) => return Err(TreeFault::Parse(fault)),
             }
         }
-        Ok(())
+        Ok(false)
     }
 
     // Takes an event with its span. Checks the limits first.
@@ -109,6 +146,20 @@ impl SpannedLoader {
                 drop(event);
                 Err(fault)
             }
+        }
+    }
+
+    // The document that has ended last and its spans, or none if the stream has ended.
+    pub(crate) fn last_document(mut self) -> Result<Option<(Document, DocumentSpans)>, TreeFault>
+        ensures { HandsOutLast result self }
+    {
+        match self.loader.builder.last_document() {
+            Ok(Some(document)) => match self.keeper.ended.pop() {
+                Some(spans) => Ok(Some((document, spans))),
+                None => Err(TreeFault::NotFresh),
+            },
+            Ok(None) => Ok(None),
+            Err(fault) => Err(fault),
         }
     }
 

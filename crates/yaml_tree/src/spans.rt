@@ -1,5 +1,5 @@
 //! The spans of documents: those of their events (YAML 1.2.2, 3.1).
-ghost use Rattle.std.specs.Prelude.{◌≡◌, [], OnOk};
+ghost use Rattle.std.specs.Prelude.{◌≡◌, OnOk};
 ghost use Rattle.saphyr_parser.specs.Events.{DocumentEnd};
 ghost use Rattle.saphyr_parser.specs.Views.Events.{happening};
 ghost use Rattle.yaml_tree.specs.Spanning.{kept_behind, with_node_span};
@@ -36,11 +36,10 @@ pub(crate) struct SpanKeeper {
 }
 
 impl SpanKeeper {
-    ghost use Rattle.yaml_tree.specs.KeeperSeen.{kept_spans};
+    ghost use Rattle.yaml_tree.specs.KeeperSeen.{HasKeptNone, kept_spans};
 
     pub(crate) fn new(alloc: Global) -> SpanKeeper
-        ensures ended { (kept_spans result).ended ≡ [] }
-        ensures nodes { (kept_spans result).nodes ≡ [] }
+        ensures { HasKeptNone result }
     {
         SpanKeeper {
             alloc,

@@ -1,10 +1,10 @@
 //! Trees as one list of nodes that are known by their numbers, for callers that can't hold references into a tree.
-ghost use Rattle.std.specs.Prelude.{◌≡◌, ◌↔◌, IsTrue, List, Some, option_copied, slice_get};
+ghost use Rattle.std.specs.Prelude.{◌≡◌, ◌↔◌, IsTrue, List, None as none, Some, option_copied, slice_get};
 ghost use Rattle.yaml_tree.specs.declared.node.Node.{Node as Tree};
 ghost use Rattle.yaml_tree.specs.Accessing.{anchor_of_node, first_value, is_this_text, text_of_node, value_at_key};
 ghost use Rattle.yaml_tree.specs.Following.{at_step};
-ghost use Rattle.yaml_tree.specs.Numbering.{FindsNumber, HasNodes, HasParts, IsNodeAt, Placed};
-ghost use Rattle.yaml_tree.specs.Numbering.{both_parts, count_of_parts, numbered_node};
+ghost use Rattle.yaml_tree.specs.Numbering.{FindsNumber, HasNoNode, HasNodes, HasNumber, HasParts, IsNodeAt};
+ghost use Rattle.yaml_tree.specs.Numbering.{Placed, both_parts, count_of_parts};
 
 use crate::accessors::anchor_of_id;
 use crate::parts::Parts;
@@ -62,8 +62,9 @@ impl NodeTable {
     /// How many items a sequence has, or how many pairs a mapping.
     #[must_use]
     pub fn count(&self, number: usize) -> usize
-        ensures { (all : List Placed) (node : Tree) → HasNodes all self.now
+        ensures counts { (all : List Placed) (node : Tree) → HasNodes all self.now
             → IsNodeAt all number node → result ≡ count_of_parts node }
+        ensures no_node { HasNoNode number self.now → result ≡ 0 }
     {
         match self.entry(number) {
             Some(entry) => entry.content.count(),
@@ -74,8 +75,9 @@ impl NodeTable {
     /// The number of a part.
     #[must_use]
     pub fn part(&self, number: usize, step: Step) -> Option<usize>
-        ensures { (all : List Placed) (node : Tree) → HasNodes all self.now
-            → IsNodeAt all number node → numbered_node all result ≡ at_step step node }
+        ensures leads { (all : List Placed) (node : Tree) → HasNodes all self.now
+            → IsNodeAt all number node → HasNumber all (at_step step node) result }
+        ensures no_node { HasNoNode number self.now → result ≡ none }
     {
         self.entry(number)?.content.part(step)
     }
@@ -83,8 +85,9 @@ impl NodeTable {
     /// The number of the value in a mapping whose key is a scalar with this text. If there are several, the first.
     #[must_use]
     pub fn get(&self, number: usize, key: &str) -> Option<usize>
-        ensures { (all : List Placed) (node : Tree) → HasNodes all self.now
-            → IsNodeAt all number node → numbered_node all result ≡ value_at_key key.now node }
+        ensures finds { (all : List Placed) (node : Tree) → HasNodes all self.now
+            → IsNodeAt all number node → HasNumber all (value_at_key key.now node) result }
+        ensures no_node { HasNoNode number self.now → result ≡ none }
     {
         let parts = self.entry(number)?.content.pairs()?;
         self.value_of(parts, key)
@@ -94,7 +97,7 @@ impl NodeTable {
     fn value_of(&self, parts: Parts, key: &str) -> Option<usize>
         ensures { (all : List Placed) (pairs : List (Tree × Tree)) → HasNodes all self.now
             → HasParts parts (both_parts pairs) all
-            → numbered_node all result ≡ first_value key.now pairs }
+            → HasNumber all (first_value key.now pairs) result }
     {
         for index in 0..parts.count / 2 {
             let number = parts.first + 2 * index;

@@ -4,19 +4,30 @@
 //! be lent: it has its number, and the address of what the library's handle is in, which is on the heap and stays there
 //! until the `Trees` are dropped. No node is handed out by value, so none outlives them.
 
-use super::{check_version, copy_of_tag, expect, marker, style};
+use super::{copy_of_tag, expect, marker, style};
 use super::{Face, Handle, Record, END, EVENT, OK, REFUSED};
 use crate::event::Tag;
 use crate::scanner::{Marker, ScalarStyle, ScanError, Span};
 use std::error::Error;
 use std::fmt;
+use std::iter::FusedIterator;
 use std::ops::Index;
 use std::ptr::NonNull;
 
+const LOADED: i32 = 3;
 const TOO_LARGE: i32 = -8;
+
+/// `saphyr_load` or `saphyr_load_next`.
+type Load = unsafe extern "C" fn(*mut Handle, usize, usize, *mut Record) -> i32;
 
 extern "C" {
     fn saphyr_load(parser: *mut Handle, nodes: usize, depth: usize, event: *mut Record) -> i32;
+    fn saphyr_load_next(
+        parser: *mut Handle,
+        nodes: usize,
+        depth: usize,
+        event: *mut Record,
+    ) -> i32;
     fn saphyr_root(parser: *mut Handle, index: usize) -> usize;
     fn saphyr_expanded(parser: *mut Handle, index: usize) -> u64;
     fn saphyr_describe(parser: *mut Handle, node: usize, event: *mut Record) -> i32;
@@ -96,23 +107,9 @@ unsafe impl Send for Trees<'_> {}
 impl<'input> Trees<'input> {
     /// Loads all documents of a text.
     pub fn load(text: &'input str, limits: Limits) -> Result<Trees<'input>, LoadError> {
-        check_version();
         let mut face = Face::new(text, false);
-        let Limits { nodes, depth } = limits;
-        // SAFETY: the handle has a parser, which no other call uses, and the record was zeroed.
-        let status = unsafe { saphyr_load(face.handle.get_mut(), nodes, depth, &mut face.record) };
-        let start = marker(&face.record.start);
-        match status {
-            // SAFETY: this was the last call with the parser.
-            REFUSED => Err(LoadError::Refused(ScanError::new_str(start, unsafe {
-                face.record.value.text()
-            }))),
-            TOO_LARGE => Err(LoadError::TooLarge(start)),
-            _ => {
-                expect(status, OK);
-                Ok(Trees::of(face))
-            }
-        }
+        expect(face.load(saphyr_load, limits)?, OK);
+        Ok(Trees::of(face))
     }
 
     /// With the nodes of a parser that has loaded its trees.
@@ -168,6 +165,63 @@ impl<'input> Trees<'input> {
     }
 }
 
+/// The documents of a text, each loaded once it is asked for, as `Trees` of one document. So a text of many documents
+/// takes the memory of those that are kept. After an error come no more.
+///
+/// ```
+/// use saphyr_parser::{Documents, Limits, LoadError};
+///
+/// fn names(text: &str) -> Result<Vec<String>, LoadError> {
+///     let mut found = Vec::new();
+///     for document in Documents::new(text, Limits::default()) {
+///         if let Some(name) = document?[0].get("name").and_then(|it| it.as_str()) {
+///             found.push(name.to_owned());
+///         }
+///     }
+///     Ok(found)
+/// }
+///
+/// assert_eq!(names("name: a\n---\n- b\n---\nname: c\n").unwrap(), ["a", "c"]);
+/// ```
+pub struct Documents<'input> {
+    /// The parser that is before the next document, if there may be one.
+    face: Option<Face<'input>>,
+    limits: Limits,
+}
+
+impl<'input> Documents<'input> {
+    /// The documents of a text, with limits on each of them.
+    #[must_use]
+    pub fn new(text: &'input str, limits: Limits) -> Documents<'input> {
+        Documents {
+            face: Some(Face::new(text, false)),
+            limits,
+        }
+    }
+}
+
+impl<'input> Iterator for Documents<'input> {
+    type Item = Result<Trees<'input>, LoadError>;
+
+    fn next(&mut self) -> Option<Self::Item> {
+        let mut face = self.face.take()?;
+        match face.load(saphyr_load_next, self.limits) {
+            Ok(LOADED) => {
+                // The tree stays with its parser. A clone has none, and goes on behind the document.
+                self.face = Some(face.clone());
+                Some(Ok(Trees::of(face)))
+            }
+            Ok(status) => {
+                expect(status, END);
+                None
+            }
+            Err(error) => Some(Err(error)),
+        }
+    }
+}
+
+impl FusedIterator for Documents<'_> {}
+
 impl Drop for Trees<'_> {
     fn drop(&mut self) {
         // SAFETY: `of` made it from a box. No node is lent any more.
@@ -182,6 +236,22 @@ impl Kept<'_> {
 }
 
 impl Face<'_> {
+    /// Loads trees by this call. Returns its status, if that is not why they aren't loaded.
+    fn load(&mut self, call: Load, limits: Limits) -> Result<i32, LoadError> {
+        let Limits { nodes, depth } = limits;
+        // SAFETY: the handle has a parser, which no other call uses, and the record was zeroed.
+        let status = unsafe { call(self.handle.get_mut(), nodes, depth, &mut self.record) };
+        let start = marker(&self.record.start);
+        match status {
+            // SAFETY: this was the last call with the parser.
+            REFUSED => Err(LoadError::Refused(ScanError::new_str(start, unsafe {
+                self.record.value.text()
+            }))),
+            TOO_LARGE => Err(LoadError::TooLarge(start)),
+            _ => Ok(status),
+        }
+    }
+
     /// What the library tells of a node, if there is one with this number. Its texts stay where they are until the
     /// parser is freed.
     fn told(&self, number: usize) -> Option<Record> {

@@ -37,7 +37,7 @@ returns-in-Ok-clause-spans g c = gives_spans c.finish.result c.args.limits (to_c
     (kept_spans c.new-loader.result.keeper) c.if-not-is_at_start.ensures.begins.0
     (c.in-Ok.ensures.takes c.args.limits c.new-loader.ensures.loader)
     (c.in-Ok.ensures.keeps c.args.limits c.new-loader.ensures.loader)
-    c.new-loader.ensures.ended c.new-loader.ensures.nodes c.finish.ensures.finishes c.finish.ensures.spans
+    c.new-loader.ensures.keeper.0 c.new-loader.ensures.keeper.1 c.finish.ensures.finishes c.finish.ensures.spans
 
 pub returns-in-Ok-clause-leaves : goal.returns-in-Ok-clause-leaves
 returns-in-Ok-clause-leaves g c = leaves_alike c.finish.result _ _

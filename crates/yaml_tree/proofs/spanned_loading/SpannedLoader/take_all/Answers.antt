@@ -1,74 +1,60 @@
-use Rattle.std.proofs.Common.{◌≡◌, ◌∷◌, ◌++◌, [], Err, rules}
-use Rattle.saphyr_parser.specs.Cursor.{event_of, to_come}
+use Rattle.std.proofs.Common.{◌≡◌, Bool, [], Err, false, rules}
 use Rattle.saphyr_parser.specs.Nesting.{happenings}
-use Rattle.yaml_tree.specs.declared.fault.TreeFault.TheVariants.{Parse}
-use Rattle.yaml_tree.proofs.DocumentRead.{AnyEvents, all_parts, fails_behind, refuses_behind, reads_rest, reads_stream, fails_in_stream}
-use Rattle.yaml_tree.proofs.Leaving.{hands_none, hands_more, leaves_all, leaves_at}
-use Rattle.yaml_tree.proofs.SpansRead.{keeps_none, keeps_more, keeps_all}
+use Rattle.yaml_tree.proofs.Leaving.{hands_none, hands_both, leaves_rest, leaves_fault}
+use Rattle.yaml_tree.proofs.DocumentRead.{AnyEvents, reads_nothing, read_parts, reads_document, reads_stream, fails_in_stream}
+use Rattle.yaml_tree.proofs.SpansRead.{keeps_none, keeps_both, keeps_all}
+use Rattle.yaml_tree.specs.DocumentLoading.{EndNoDocument}
 use Rattle.yaml_tree.proofs.spanned_loading.SpannedLoader.take_all.Goals as goal
 
-pub loop-read-init : goal.loop-read-init
-loop-read-init g c = (λ limits h. keeps_none limits _ _ h, hands_none _)
+pub loop-init : goal.loop-init
+loop-init g c = (λ limits h. (reads_nothing AnyEvents limits [] _ _ tt h, hands_none _), keeps_none _ _)
 
-pub loop-read-preserved : goal.loop-read-preserved
-loop-read-preserved g c = (
+pub loop-preserved : goal.loop-preserved
+loop-preserved g c = (
   λ limits h.
-      let kept = c.loop-read.invariant.0 limits h in
-      let hands = rw c.in-Ok.is at c.in-Some.ensures.hands in
-      keeps_more limits _ _ _ (event_of (c.in-Ok.event, c.in-Ok.span)) _ _ _ kept hands
-      (c.in_ok-take-in-Ok.ensures.takes limits (happenings kept.read.taken) kept.read.loader)
-      c.in_ok-take-in-Ok.ensures.keeps,
-  hands_more _ _ _ (event_of (c.in-Ok.event, c.in-Ok.span)) c.loop-read.invariant.1
-      (rw c.in-Ok.is at c.in-Some.ensures.leaves),
+      let before = c.loop.invariant.0 limits h in
+      let events = happenings before.0.taken in
+      let takes = rw c.if-branch.true at (c.in_ok-take_document.ensures.takes limits events before.0.loader) in
+      let leaves = rw c.if-branch.true at (c.in_ok-take_document.ensures.leaves limits events before.0.loader) in
+      (reads_document limits _ _ _ _ _ before.0 takes, hands_both _ _ _ before.1 leaves),
+  keeps_both _ _ _ _ _ _ c.loop.invariant.1 c.in_ok-take_document.ensures.keeps,
 )
-
-pub returns-in_err-take-in-Ok-clause-takes : goal.returns-in_err-take-in-Ok-clause-takes
-returns-in_err-take-in-Ok-clause-takes g c = λ limits h.
-    let kept = c.loop-read.invariant.0 limits h in
-    let hands = rw c.in-Ok.is at c.in-Some.ensures.hands in
-    let answer : c.from_residual.result ≡ Err c.in_err-take-in-Ok.field-0.0 = search rules in
-    rw answer (fails_in_stream AnyEvents _ limits [] _ _ _ (all_parts _)
-    (fails_behind AnyEvents _ limits [] _ _ _ (event_of (c.in-Ok.event, c.in-Ok.span)) _ kept.read hands
-    (c.in_err-take-in-Ok.ensures.takes limits (happenings kept.read.taken) kept.read.loader)))
-
-pub returns-in_err-take-in-Ok-clause-keeps : goal.returns-in_err-take-in-Ok-clause-keeps
-returns-in_err-take-in-Ok-clause-keeps g c = λ limits h.
-    let answer : c.from_residual.result ≡ Err c.in_err-take-in-Ok.field-0.0 = search rules in rw answer tt
-
-pub returns-in_err-take-in-Ok-clause-leaves : goal.returns-in_err-take-in-Ok-clause-leaves
-returns-in_err-take-in-Ok-clause-leaves g c = λ limits h.
-    let kept = c.loop-read.invariant.0 limits h in
-    let next = event_of (c.in-Ok.event, c.in-Ok.span) in
-    let leaves = rw c.in-Ok.is at c.in-Some.ensures.leaves in
-    let answer : c.from_residual.result ≡ Err c.in_err-take-in-Ok.field-0.0 = search rules in
-    rw answer (leaves_at (Unit {0}) _ limits (happenings kept.read.taken ++ next.0 ∷ []) next.1.start _ _
-    (c.in_err-take-in-Ok.ensures.takes limits (happenings kept.read.taken) kept.read.loader)
-    (hands_more _ _ _ next c.loop-read.invariant.1 leaves))
-
-pub returns-in-Err-clause-takes : goal.returns-in-Err-clause-takes
-returns-in-Err-clause-takes g c = λ limits h.
-    let hands = rw c.in-Err.is at c.in-Some.ensures.hands in
-    let all = to_come c.args.parser.now in
-    fails_in_stream AnyEvents (Parse c.in-Err.fault) limits [] all all _ (all_parts all)
-    (refuses_behind AnyEvents c.in-Err.fault limits [] _ _ _ _ (c.loop-read.invariant.0 limits h).read hands.0 hands.1)
-
-pub returns-in-Err-clause-leaves : goal.returns-in-Err-clause-leaves
-returns-in-Err-clause-leaves g c = λ limits h.
-    let leaves = rw c.in-Err.is at c.in-Some.ensures.leaves in
-    (_, c.loop-read.invariant.1, leaves)
 
 pub returns-clause-takes : goal.returns-clause-takes
 returns-clause-takes g c = λ limits h.
-    let hands = c.in_default.ensures.hands in
-    reads_stream AnyEvents limits [] _ _ _ _ (all_parts _)
-    (reads_rest AnyEvents limits [] _ _ _ _ (c.loop-read.invariant.0 limits h).read hands.0 hands.1)
-
-pub returns-clause-keeps : goal.returns-clause-keeps
-returns-clause-keeps g c = λ limits h.
-    let hands = c.in_default.ensures.hands in
-    keeps_all limits _ _ _ _ (c.loop-read.invariant.0 limits h) hands.0
+    let before = c.loop.invariant.0 limits h in
+    let events = happenings before.0.taken in
+    let takes = rw c.if-branch.false at (c.in_ok-take_document.ensures.takes limits events before.0.loader) in
+    reads_stream EndNoDocument limits before.0.taken _ _ _ _ (read_parts limits _ _ _ before.0) takes
 
 pub returns-clause-leaves : goal.returns-clause-leaves
 returns-clause-leaves g c = λ limits h.
-    let laws = c.hands_out_what_comes.ensures in
-    leaves_all {X = Unit {0}} tt _ _ _ laws.events laws.over c.loop-read.invariant.1 c.in_default.ensures.leaves
+    let before = c.loop.invariant.0 limits h in
+    let events = happenings before.0.taken in
+    let leaves = rw c.if-branch.false at (c.in_ok-take_document.ensures.leaves limits events before.0.loader) in
+    leaves_rest {X = Bool} {Y = Unit {0}} false tt _ _ _ c.hands_out_what_comes.ensures.events before.1 leaves
+
+pub returns-in_err-take_document-clause-takes : goal.returns-in_err-take_document-clause-takes
+returns-in_err-take_document-clause-takes g c = λ limits h.
+    let before = c.loop.invariant.0 limits h in
+    let answer : c.from_residual.result ≡ Err c.in_err-take_document.field-0.0 = search rules in
+    rw answer (fails_in_stream EndNoDocument _ limits before.0.taken _ _ _ (read_parts limits _ _ _ before.0)
+    (c.in_err-take_document.ensures.takes limits (happenings before.0.taken) before.0.loader))
+
+pub returns-in_err-take_document-clause-leaves : goal.returns-in_err-take_document-clause-leaves
+returns-in_err-take_document-clause-leaves g c = λ limits h.
+    let before = c.loop.invariant.0 limits h in
+    let answer : c.from_residual.result ≡ Err c.in_err-take_document.field-0.0 = search rules in
+    rw answer (leaves_fault Bool (Unit {0}) _ _ _ _ before.1
+    (c.in_err-take_document.ensures.leaves limits (happenings before.0.taken) before.0.loader))
+
+pub returns-clause-keeps : goal.returns-clause-keeps
+returns-clause-keeps g c = λ limits h.
+    let before = c.loop.invariant.0 limits h in
+    let takes = rw c.if-branch.false at
+    (c.in_ok-take_document.ensures.takes limits (happenings before.0.taken) before.0.loader) in
+    keeps_all _ _ _ _ (keeps_both _ _ _ _ _ _ c.loop.invariant.1 c.in_ok-take_document.ensures.keeps) takes.nothing
+
+pub returns-in_err-take_document-clause-keeps : goal.returns-in_err-take_document-clause-keeps
+returns-in_err-take_document-clause-keeps g c = λ limits h.
+    let answer : c.from_residual.result ≡ Err c.in_err-take_document.field-0.0 = search rules in rw answer tt

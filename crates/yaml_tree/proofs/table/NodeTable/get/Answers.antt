@@ -1,20 +1,22 @@
-use Rattle.std.proofs.Common.{◌≡◌, ◌∙◌, None, ap, rules, sym}
-use Rattle.yaml_tree.specs.Numbering.{numbered_node}
-use Rattle.yaml_tree.proofs.Tables.{found, has_pairs, no_pairs, not_found}
+use Rattle.std.proofs.Common.{◌≡◌, Option, None, subst, sym, rules}
+use Rattle.yaml_tree.specs.declared.node.Node.{Node}
+use Rattle.yaml_tree.specs.Accessing.{value_at_key}
+use Rattle.yaml_tree.specs.Numbering.{HasNumber}
+use Rattle.yaml_tree.proofs.Tables.{found, has_pairs, no_pairs, not_found, numbers_none}
 use Rattle.yaml_tree.proofs.table.NodeTable.get.Goals as goal
 
-pub returns-in_err-entry : goal.returns-in_err-entry
-returns-in_err-entry c = λ all node h k.
+pub returns-in_err-entry-clause-finds : goal.returns-in_err-entry-clause-finds
+returns-in_err-entry-clause-finds c = λ all node h k.
     absurd (not_found c.args.self.now all c.args.number node h k c.in_err-entry.ensures)
 
-pub returns-in_err-parts : goal.returns-in_err-parts
-returns-in_err-parts c = λ all node h k.
+pub returns-in_err-parts-clause-finds : goal.returns-in_err-parts-clause-finds
+returns-in_err-parts-clause-finds c = λ all node h k.
     let none : c.from_residual-in_err-parts.result ≡ None = search rules in
-    ap (numbered_node all) none ∙ no_pairs c.args.key.now all _ node
-    (found c.args.self.now all c.args.number node _ h k c.in_ok-entry.ensures) (sym c.in_err-parts.ensures)
+    numbers_none all (value_at_key c.args.key.now node) _ (no_pairs c.args.key.now all _ node
+    (found c.args.self.now all c.args.number node _ h k c.in_ok-entry.ensures) (sym c.in_err-parts.ensures)) none
 
-pub returns : goal.returns
-returns c = λ all node h k.
+pub returns-clause-finds : goal.returns-clause-finds
+returns-clause-finds c = λ all node h k.
     let there = has_pairs c.args.key.now all _ node c.in_ok-parts.parts
     (found c.args.self.now all c.args.number node _ h k c.in_ok-entry.ensures) (sym c.in_ok-parts.ensures) in
-    c.value_of.ensures all there.0 h there.1 ∙ there.2
+    subst (λ (o : Option Node). HasNumber all o c.value_of.result) there.2 (c.value_of.ensures all there.0 h there.1)
