@@ -40,6 +40,7 @@ taken_are_added bytes old new status.NotUtf8 taken = taken
 taken_are_added bytes old new status.NoParser taken = taken
 taken_are_added bytes old new status.Utf16 taken = taken
 taken_are_added bytes old new status.More taken = taken
+taken_are_added bytes old new status.Loaded taken = taken
 taken_are_added bytes old new status.Whole taken = taken
 taken_are_added bytes old new status.TooMuch taken = taken
 taken_are_added bytes old new status.TooLarge taken = taken

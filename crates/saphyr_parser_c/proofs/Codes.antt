@@ -14,6 +14,7 @@ fits status.NotUtf8 = refl
 fits status.NoParser = refl
 fits status.Utf16 = refl
 fits status.More = refl
+fits status.Loaded = refl
 fits status.Whole = refl
 fits status.TooMuch = refl
 fits status.TooLarge = refl
