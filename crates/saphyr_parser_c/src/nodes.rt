@@ -68,7 +68,7 @@ impl Inner {
         };
         match load_table(alloc, parser, limits) {
             Ok(table) => {
-                self.keep(table, out);
+                self.put_table(table, out);
                 Status::Done
             }
             Err(fault) => self.write_unloaded(alloc, fault, out),
@@ -86,7 +86,7 @@ impl Inner {
         };
         match load_next_table(alloc, parser, limits) {
             Ok(Some(table)) => {
-                self.keep(table, out);
+                self.put_table(table, out);
                 Status::Loaded
             }
             Ok(None) => {
@@ -97,8 +97,8 @@ impl Inner {
         }
     }
 
-    // Keeps what was loaded.
-    fn keep(&mut self, table: NodeTable, out: &mut CEvent)
+    // What was loaded becomes the parser's.
+    fn put_table(&mut self, table: NodeTable, out: &mut CEvent)
         ensures source { self.new.source ≡ self.old.source }
         ensures table { self.new.table ≡ table }
         ensures empty { spec.IsEmptyEvent out.new }

@@ -53,7 +53,7 @@ pub(crate) fn behind_run<C: CharSet>(text: &str) -> &str
     input.as_str()
 }
 
-/// The same, if some come first.
+/// What follows the characters of a set, of which one at least comes first.
 pub(crate) fn behind_some<C: CharSet>(text: &str) -> Option<&str>
     ensures { IfSome result (λ rest. TakesOff (λ t. (t ≢ []) × AreIn C.test t) (chars text.now)
         (chars rest.now)) }

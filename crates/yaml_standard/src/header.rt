@@ -34,7 +34,7 @@ fn digit(text: &str) -> Option<(usize, &str)>
     Some((c as usize - 48, rest))
 }
 
-// The same, where no digit gives 0.
+// An indentation indicator or none, which gives 0, and what follows it.
 fn indicator(text: &str) -> (usize, &str)
     ensures { spec.IsIndicator result.0 (chars text.now) (chars result.1.now) }
 {
@@ -69,7 +69,7 @@ fn digit_first(text: &str) -> Option<(usize, Chomping, &str)>
     Some((digit, kind, rest))
 }
 
-// The same in the other order.
+// A header from behind its first character on, what becomes of the last breaks before the digit.
 fn chomping_first(text: &str) -> Option<(usize, Chomping, &str)>
     ensures { IfSome result (λ header. (mark : ℕ) → spec.IsHeader header.0 header.1
         (chars header.2.now) (mark ∷ chars text.now)) }
@@ -80,7 +80,7 @@ fn chomping_first(text: &str) -> Option<(usize, Chomping, &str)>
     Some((digit, kind, rest))
 }
 
-/// The same in either order.
+/// A header from behind its first character on: its digit, what becomes of the last breaks, and what follows its line.
 pub(crate) fn behind_header(text: &str) -> Option<(usize, Chomping, &str)>
     ensures { IfSome result (λ header. (mark : ℕ) → spec.IsHeader header.0 header.1
         (chars header.2.now) (mark ∷ chars text.now)) }

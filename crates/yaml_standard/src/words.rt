@@ -56,7 +56,7 @@ fn behind_safe(text: &str, in_flow: bool) -> &str
     rest
 }
 
-// The same of characters, of which there are some.
+// What follows one such character or more.
 fn behind_some_safe(text: &str, in_flow: bool) -> Option<&str>
     ensures { IfSome result (λ rest. TakesOff (spec.AreSomeSafe in_flow) (chars text.now)
         (chars rest.now)) }
