@@ -70,7 +70,7 @@ impl Sizes {
         }
     }
 
-    /// IsLetPass an alias. An alias inside the node that it stands for is infinite.
+    /// Takes an alias. An alias inside the node that it stands for is infinite.
     fn take_alias(&mut self, id: usize, span: Span) -> Option<Finding>
         ensures told { result
             ≡ spec.size_warning (spec.ended_size id (seen.sizes_of self.old)) span }
@@ -83,7 +83,7 @@ impl Sizes {
         size_warning(ended, span)
     }
 
-    /// IsLetPass a node that has ended and stands for this many.
+    /// Counts a node that has ended and stands for this many.
     fn end_node(&mut self, id: usize, nodes: usize) -> Result<Option<Finding>, AllocError>
         ensures none { IfOk result (λ told. told ≡ None) }
         ensures behind { OnOk result (seen.sizes_of self.new

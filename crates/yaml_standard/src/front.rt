@@ -1,4 +1,4 @@
-//! TakesOff characters off the front of a text.
+//! Takes characters off the front of a text.
 ghost use Rattle.std.specs.Prelude.{◌≡◌, ◌≢◌, [], ◌∷◌, IfNone, IfSome, IsTrue};
 ghost use Rattle.std.specs.Str.{chars};
 ghost use Rattle.saphyr_input.specs.Places.{is_document_indicator};
